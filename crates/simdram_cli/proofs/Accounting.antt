@@ -1,14 +1,12 @@
 -- The facts of `cost` and `list`: their statuses, files, memory, and what one that is done has sent.
 use Rattle.std.proofs.Common.{◌≡◌, ℕ, List, [], ◌∷◌, ◌++◌, Option, Some, None, refl, sym, ◌∙◌, ap, subst}
 use Rattle.std.proofs.Common.{append-nil}
-use Rattle.std.specs.Prelude.{Result, Ok}
 use Rattle.host_edge.specs.Views.{Files, Known}
 use Rattle.uprog_code.specs.Programs.{IsProgram}
 use Rattle.uprog_bin.specs.Spelling.{HasVersion, program_bytes}
 use Rattle.uprog_bin.specs.Opened.{File, IsProgramFile}
-use Rattle.machine_model.specs.Routines.{Program}
 use Rattle.cli_model.specs.World.{World}
-use Rattle.cli_model.specs.Steps.{Put, Refusal, Take}
+use Rattle.cli_model.specs.Steps.{Put, Take}
 use Rattle.cli_model.proofs.Owed.{GoodFor, Gives, NotTen, TakesFirst}
 use Rattle.cli_model.specs.Faultless.{file_in}
 use Rattle.cli_model.specs.Plan.{Answers, Makes, Then}

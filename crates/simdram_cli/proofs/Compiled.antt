@@ -1,5 +1,5 @@
 -- OPS is compiled and PROG stored, by a plan.
-use Rattle.std.proofs.Common.{◌≡◌, ℕ, List, [], ◌∷◌, Option, Some, None, refl, inl, inr}
+use Rattle.std.proofs.Common.{◌≡◌, ℕ, List, [], ◌∷◌, None, refl, inl, inr}
 use Rattle.std.specs.Prelude.{Result, Ok, Err}
 use Rattle.dram_model.specs.View.{ChipView}
 use Rattle.host_edge.specs.Views.{FolderView, SinkView}
@@ -8,7 +8,6 @@ use Rattle.machine_model.specs.Routines.{Program}
 use Rattle.cli_model.specs.World.{World, world}
 use Rattle.cli_model.specs.Steps.{Done, Goes, Load, Reason, Refusal, Stopped, Store, Take, loading}
 use Rattle.cli_model.specs.Plan.{Plan}
-use Rattle.cli_model.specs.Reads.{refusal_of}
 use Rattle.cli_model.specs.Runs.{Runs}
 use Rattle.cli_model.proofs.Running.{runs_made, runs_read, runs_stopped, runs_then, runs_unread}
 use Rattle.simdram_cli.specs.declared.words.TheConstants.{OPS_MAX}

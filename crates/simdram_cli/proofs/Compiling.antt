@@ -1,5 +1,5 @@
 -- The facts of `compile`: its statuses, its files, its memory, and what one that is done leaves.
-use Rattle.std.proofs.Common.{◌≡◌, ℕ, List, [], ◌∷◌, ◌++◌, Option, Some, None, refl, sym, ◌∙◌, ap, subst}
+use Rattle.std.proofs.Common.{◌≡◌, ℕ, List, [], ◌∷◌, ◌++◌, Option, None, refl, ◌∙◌, ap, subst}
 use Rattle.std.proofs.Common.{append-nil, inr}
 use Rattle.host_edge.specs.Views.{Files, Known}
 use Rattle.machine_model.specs.Routines.{Program}

@@ -1,6 +1,6 @@
 -- A command is done where its files are good and nothing failed, or memory was wanting; and what
 -- stands where it was: by the plan of each command.
-use Rattle.std.proofs.Common.{◌≡◌, ℕ, List, [], ◌∷◌, Option, Some, None, refl}
+use Rattle.std.proofs.Common.{◌≡◌, ℕ, List, [], ◌∷◌, Some, None, refl}
 use denote.Ref.{Bor}
 use Rattle.cli_model.specs.World.{World}
 use Rattle.cli_model.proofs.Good.{plan_completes}

@@ -1,7 +1,6 @@
 -- The facts of `exec`: its statuses, its files, its memory, and what one that is done promises.
 use Rattle.std.proofs.Common.{◌≡◌, ℕ, List, [], ◌∷◌, ◌++◌, Option, Some, None, refl, sym, ◌∙◌, ap, subst}
 use Rattle.std.proofs.Common.{append-nil}
-use Rattle.std.specs.Prelude.{◌≢◌}
 use Rattle.std.specs.Result.{result_ok}
 use Rattle.host_edge.specs.Views.{Files, Known}
 use Rattle.machine_model.specs.Report.{lines, total_line}

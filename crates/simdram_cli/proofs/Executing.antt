@@ -1,17 +1,14 @@
 -- How an execution goes and ends, and what it promises.
-use Rattle.std.proofs.Common.{◌≡◌, ℕ, Bool, true, false, List, [], ◌∷◌, ◌++◌, Option, Some}
-use Rattle.std.proofs.Common.{None}
-use Rattle.std.proofs.Common.{refl, sym, ◌∙◌, ap, subst, inl, inr}
-use Rattle.std.specs.Prelude.{Result, Ok, Err, IfOk, IfSome, ◌||◌}
+use Rattle.std.proofs.Common.{◌≡◌, ℕ, Bool, true, false, List, [], ◌∷◌, ◌++◌, Some}
+use Rattle.std.proofs.Common.{refl, sym, ◌∙◌, ap, subst}
+use Rattle.std.specs.Prelude.{Result, Ok, ◌||◌}
 use Rattle.std.specs.List.{AllByRecursion}
-use Rattle.std.specs.Result.{result_ok}
 use Rattle.dram_model.specs.Chip.{Banks, row_in}
 use Rattle.dram_model.specs.View.{ChipView}
-use Rattle.host_edge.specs.Views.{Files, FolderView, SinkView, Known}
+use Rattle.host_edge.specs.Views.{Files, Known}
 use Rattle.uprog_code.specs.Programs.{IsProgram}
 use Rattle.uprog_code.specs.Texts.{TextOp, ImplementsAll}
 use Rattle.uprog_bin.specs.Opened.{IsProgramFile}
-use Rattle.uprog_bin.specs.Reading.{program_in, ProgFault}
 use Rattle.bbop_isa.specs.Forms.{Instruction}
 use Rattle.machine_model.specs.Agrees.{IsPlain}
 use Rattle.machine_model.specs.Routines.{Program, routines_in}
@@ -22,34 +19,19 @@ use Rattle.machine_model.specs.Steps.{is_touched}
 use Rattle.machine_model.proofs.KeptAll.{untouched_stays}
 use Rattle.machine_model.proofs.Parts.{scripts_go_on}
 use Rattle.machine_model.proofs.Tables.{table_stays}
-use Rattle.cli_model.specs.World.{World, world, with_file}
-use Rattle.cli_model.specs.Steps.{Step, Load, Refusal, Refused, loading}
-use Rattle.cli_model.specs.Stands.{files_after, sent_by}
-use Rattle.cli_model.specs.Status.{Tells}
-use Rattle.cli_model.specs.Ends.{Ended, All, At, Stop, EndsSo, IsAllDone, IsForetold, done_steps}
-use Rattle.cli_model.proofs.Ending.{all_ends}
-use Rattle.simdram_cli.specs.declared.words.ExecNames.{ExecNames}
-use Rattle.simdram_cli.specs.declared.words.TheConstants.{PROG_MAX}
-use Rattle.simdram_cli.specs.declared.stop.Stop.{Stop as StopBy}
-use Rattle.simdram_cli.specs.Inputs.{script_in, image_of}
-use Rattle.simdram_cli.specs.Programs.{prog_in, prog_refusal, program_or_refusal}
-use Rattle.cli_model.specs.Reads.{IsText, LoadedAs, NotLoaded, refusal_of}
-use Rattle.simdram_cli.specs.Stops.{end_of, reason_of}
+use Rattle.cli_model.specs.World.{World}
+use Rattle.cli_model.specs.Steps.{Refusal}
+use Rattle.simdram_cli.specs.Programs.{prog_in}
 use Rattle.simdram_cli.specs.Job.{done_status, image_by, refused_by}
 use Rattle.simdram_cli.specs.Job.{said_in, tally_by}
-use Rattle.simdram_cli.specs.Ends.{answer_to}
-use Rattle.simdram_cli.specs.Exec.{ByText, Executed}
-use Rattle.simdram_cli.specs.Exec.{RowsStay, StaysInside, exec_names}
-use Rattle.simdram_cli.specs.Headline.{read_as}
-use Rattle.simdram_cli.proofs.Joins.{loaded_text, loading_goes, loading_stops}
-use Rattle.simdram_cli.proofs.Joins.{known_is_text, known_text}
+use Rattle.simdram_cli.specs.Exec.{ByText}
+use Rattle.simdram_cli.specs.Exec.{RowsStay, StaysInside}
 use Rattle.simdram_cli.proofs.Migrating.{prog_is}
 use Rattle.simdram_cli.proofs.OpenedRows.{opened_rows}
 use Rattle.simdram_cli.proofs.Promised.{RowsDone, is_done}
 use Rattle.simdram_cli.proofs.Promised.{replies_exact}
 use Rattle.simdram_cli.proofs.Promises.{commands_counted, job_of, objects_right, report_is}
 use Rattle.simdram_cli.proofs.Promises.{rows_untouched}
-use Rattle.cli_model.proofs.Files.{at_other, at_own, bytes_differ}
 
 pub rows_stay : (program : Program) (script : List Instruction) (i : Image) (chip : ChipView)
     (refused : ℕ) → IsProgram program → RowsDone script i program chip refused

@@ -1,5 +1,5 @@
 -- The facts of `guard`: its statuses, its files and its memory.
-use Rattle.std.proofs.Common.{◌≡◌, ℕ, Bool, List, [], ◌∷◌, length, Option, Some, None, refl, sym, ◌∙◌, ap, subst}
+use Rattle.std.proofs.Common.{◌≡◌, ℕ, List, [], ◌∷◌, length, Option, Some, None, refl, sym, ◌∙◌, ap, subst}
 use Rattle.std.proofs.Common.{inl, inr, false, ◌⊎◌}
 use Rattle.std.specs.Prelude.{Result, Ok, Err, bytes_eq}
 use Rattle.host_edge.specs.Views.{Files}
@@ -7,15 +7,12 @@ use Rattle.bbop_isa.specs.Forms.{Instruction}
 use Rattle.bbop_isa.specs.Script.{script_of}
 use Rattle.object_alloc.specs.Reading.{image_in}
 use Rattle.uprog_bin.specs.Spelling.{program_bytes}
-use Rattle.guard_model.specs.declared.Flip.{Flip}
 use Rattle.guard_model.specs.FlipText.{flips_of}
 use Rattle.guard_model.specs.Named.{first_long_name}
 use Rattle.guard_model.specs.Triples.{first_stranger}
 use Rattle.machine_model.specs.Opened.{Image}
 use Rattle.machine_model.specs.Routines.{Program}
 use Rattle.cli_model.specs.Steps.{Refusal, Store, Take}
-use Rattle.cli_model.specs.World.{with_file}
-use Rattle.cli_model.proofs.Statuses.{OfSteps}
 use Rattle.cli_model.proofs.Owed.{GoodFor, NotTen, TakesFirst, files_then}
 use Rattle.cli_model.specs.Faultless.{file_in}
 use Rattle.cli_model.specs.Plan.{Loads, Makes, Plan, Then}
@@ -28,7 +25,7 @@ use Rattle.simdram_cli.specs.Ends.{IsCompiled}
 use Rattle.simdram_cli.specs.Flips.{flips_in, guarded_image_of, guarded_script_in, in_triples}
 use Rattle.simdram_cli.specs.Flips.{name_refusal, table_refusal, unless_some, with_short_names}
 use Rattle.simdram_cli.specs.Guard.{guard_image_plan, flips_plan, guard_job, guard_job_plan}
-use Rattle.simdram_cli.specs.Guard.{guard_plan, guard_work_plan, refused_of, work_steps}
+use Rattle.simdram_cli.specs.Guard.{guard_plan, guard_work_plan, refused_of}
 use Rattle.simdram_cli.specs.Inputs.{image_of, ops_in, script_in}
 use Rattle.simdram_cli.proofs.Completes.{IsOneOf}
 use Rattle.simdram_cli.proofs.GuardSteps.{flips_are, opened_are, short_of, triples_of}

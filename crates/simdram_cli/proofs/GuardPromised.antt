@@ -1,8 +1,8 @@
 -- A guarded run that ends with 0 or 8 keeps its promises.
 use Rattle.std.proofs.Common.{◌≡◌, ℕ, ◌+◌, Bool, true, false, List, [], ◌∷◌, ◌++◌, length, map}
-use Rattle.std.proofs.Common.{Option, Some, None, refl, sym, ◌∙◌, ap, subst, inl, inr, append-nil}
+use Rattle.std.proofs.Common.{Option, Some, None, refl, sym, ◌∙◌, ap, subst, append-nil}
 use Rattle.std.proofs.Common.{append_assoc}
-use Rattle.std.specs.Prelude.{Result, Ok, Err, ◌≢◌, IfSome}
+use Rattle.std.specs.Prelude.{Result, Ok, Err, ◌≢◌}
 use Rattle.std.specs.List.{AllByRecursion}
 use Rattle.std.specs.Result.{result_ok}
 use Rattle.dram_model.specs.declared.geometry.Geometry.{Geometry}
@@ -42,16 +42,11 @@ use Rattle.guard_model.proofs.Adding.{accepted_has_names}
 use Rattle.guard_model.proofs.Whole.{guarded_table_is, guarded_text, triples_kept}
 use Rattle.guard_job.specs.Steps.{guarded_steps, line_steps}
 use Rattle.cli_model.specs.World.{World, with_file}
-use Rattle.cli_model.specs.Steps.{Step, Load, Take, Store, Use, Refusal, loading}
-use Rattle.cli_model.specs.Steps.{Done}
+use Rattle.cli_model.specs.Steps.{Step, Use, Refusal}
 use Rattle.cli_model.specs.Stands.{files_after, sent_by}
-use Rattle.cli_model.specs.Foreseen.{foreseen}
-use Rattle.cli_model.specs.Ends.{Ended, All, EndsSo, IsAllDone, IsForetold, Stores, done_steps}
 use Rattle.sim_machine.specs.Machine.{is_print}
 use Rattle.simdram_cli.specs.declared.words.GuardNames.{GuardNames}
-use Rattle.simdram_cli.specs.declared.words.TheConstants.{FLIPS_MAX, IMAGE_MAX, OPS_MAX, SCRIPT_MAX}
-use Rattle.simdram_cli.specs.Ends.{IsCompiled}
-use Rattle.simdram_cli.specs.Flips.{flips_in, guarded_image_of, guarded_script_in, in_triples}
+use Rattle.simdram_cli.specs.Flips.{flips_in, in_triples}
 use Rattle.simdram_cli.specs.Flips.{table_refusal, name_refusal, unless_some, with_short_names}
 use Rattle.simdram_cli.specs.Guard.{GuardDoneOn, GuardJob}
 use Rattle.simdram_cli.specs.Guard.{Guarded, GuardedRows, GuardedWords}
@@ -62,11 +57,9 @@ use Rattle.simdram_cli.specs.Guard.{refused_of, replies_by, replies_of, said_by}
 use Rattle.simdram_cli.specs.Guard.{said_of, state_by, table_at_last, tally_of, votes_of}
 use Rattle.simdram_cli.specs.Guard.{work_steps}
 use Rattle.simdram_cli.specs.Headline.{IsNoBadWalk, read_as}
-use Rattle.simdram_cli.specs.Inputs.{image_of, ops_in, script_in, script_or_refusal}
-use Rattle.simdram_cli.specs.Job.{done_status}
+use Rattle.simdram_cli.specs.Inputs.{image_of, script_in, script_or_refusal}
 use Rattle.cli_model.proofs.Delivering.{IsDelivered, known_delivered}
 use Rattle.simdram_cli.specs.Guard.{guard_plan}
-use Rattle.cli_model.specs.Reads.{IsText}
 use Rattle.simdram_cli.proofs.OpsPlans.{spells_at}
 use Rattle.simdram_cli.proofs.Guarding.{Apart}
 use Rattle.simdram_cli.proofs.NoWalks.{AllEnd, all_end, no_walks}

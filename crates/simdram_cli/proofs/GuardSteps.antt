@@ -1,39 +1,31 @@
 -- The statuses that the steps of a guarded run can give.
-use Rattle.std.proofs.Common.{ℕ, ◌+◌, Bool, true, false, cond, List, [], ◌∷◌, ◌++◌, Option, Some}
-use Rattle.std.proofs.Common.{None, length}
+use Rattle.std.proofs.Common.{ℕ, ◌+◌, Bool, true, false, List, [], ◌∷◌, ◌++◌, Option, Some}
+use Rattle.std.proofs.Common.{None}
 use Rattle.std.specs.Prelude.{Result, Ok, Err, IfErr}
 use Rattle.dram_model.specs.declared.geometry.Geometry.{Geometry}
 use Rattle.dram_model.specs.Chip.{Banks}
 use Rattle.object_alloc.specs.Listed.{Named}
-use Rattle.object_alloc.specs.Reading.{Found, ImageFault, image_in}
-use Rattle.op_text.specs.declared.fault.OpsFault.{OpsFault}
-use Rattle.op_text.specs.Lines.{fault_in}
-use Rattle.uprog_bin.specs.Spelling.{program_bytes}
+use Rattle.object_alloc.specs.Reading.{Found, ImageFault}
 use Rattle.bbop_isa.specs.declared.instr.ScriptFault.{ScriptFault}
 use Rattle.bbop_isa.specs.Forms.{Instruction}
-use Rattle.bbop_isa.specs.Script.{script_of}
 use Rattle.machine_model.specs.Opened.{Image, opened}
-use Rattle.machine_model.specs.Routines.{Program, Routines, routines_in}
+use Rattle.machine_model.specs.Routines.{Routines, routines_in}
 use Rattle.machine_model.specs.Report.{line}
 use Rattle.guard_model.specs.declared.Flip.{Flip}
 use Rattle.guard_model.specs.declared.FlipsFault.{FlipsFault}
-use Rattle.guard_model.specs.FlipText.{flips_of}
 use Rattle.guard_model.specs.Guarded.{guarded_rows, guarded_said_by, guarded_table, mended}
 use Rattle.guard_model.specs.Named.{first_long_name}
 use Rattle.guard_model.specs.Triples.{first_stranger}
 use Rattle.guard_job.specs.Steps.{guarded_steps, line_steps}
 use Rattle.sim_machine.specs.Machine.{is_print}
-use Rattle.cli_model.specs.Steps.{Step, Take, Store, Use, Refusal, loading}
-use Rattle.cli_model.proofs.Statuses.{OfRefusal, OfSteps, of_more}
-use Rattle.simdram_cli.specs.declared.words.GuardNames.{GuardNames}
-use Rattle.simdram_cli.specs.declared.words.TheConstants.{FLIPS_MAX, IMAGE_MAX, OPS_MAX, SCRIPT_MAX}
-use Rattle.simdram_cli.specs.Flips.{flips_in, flips_or_refusal, guarded_image_of}
-use Rattle.simdram_cli.specs.Flips.{guarded_script_in, in_triples, name_refusal, table_refusal}
+use Rattle.cli_model.specs.Steps.{Use}
+use Rattle.cli_model.proofs.Statuses.{OfSteps, of_more}
+use Rattle.simdram_cli.specs.Flips.{flips_or_refusal}
+use Rattle.simdram_cli.specs.Flips.{in_triples, name_refusal, table_refusal}
 use Rattle.simdram_cli.specs.Flips.{unless_some, with_short_names}
 use Rattle.simdram_cli.specs.Guard.{GuardJob}
 use Rattle.simdram_cli.specs.Guard.{last_steps}
-use Rattle.simdram_cli.specs.Inputs.{image_or_refusal, ops_in, script_or_refusal, unless_fault}
-use Rattle.cli_model.specs.Reads.{refusal_of}
+use Rattle.simdram_cli.specs.Inputs.{image_or_refusal, script_or_refusal}
 
 named_of : (P : ℕ → Type 0) (o : Option ℕ) (script : List Instruction) → P 17
     → IfErr (unless_some name_refusal o script) (λ refusal. P refusal.status)

@@ -13,7 +13,7 @@ use Rattle.dram_model.specs.Chip.{Banks, Event, Grew, Log, LogIs}
 use Rattle.dram_model.specs.View.{ChipView, DidRead, with_reads}
 use Rattle.dram_model.proofs.EventLaws.{LogIs-more}
 use Rattle.fault_counts.specs.Counts.{Rose}
-use Rattle.host_edge.specs.Views.{Files, FolderView, SinkView, Known, AppendsPart}
+use Rattle.host_edge.specs.Views.{FolderView, SinkView, Known, AppendsPart}
 use Rattle.object_alloc.specs.declared.fault.ImageNo.{ImageNo}
 use Rattle.object_alloc.specs.declared.fault.ImageNo.TheVariants as no
 use Rattle.object_alloc.specs.Listed.{Named}
@@ -21,7 +21,6 @@ use Rattle.object_alloc.specs.Reading.{Found, IsFault, image_in}
 use Rattle.object_alloc.specs.Spelling.{IsImage, image_bytes}
 use Rattle.object_steps.specs.declared.fault.StepFault.{StepFault}
 use Rattle.object_steps.specs.declared.fault.StepFault.TheVariants as step_fault
-use Rattle.uprog_bin.specs.Spelling.{program_bytes}
 use Rattle.bbop_isa.specs.declared.instr.Instr.{Instr}
 use Rattle.bbop_isa.specs.Forms.{Instruction, view_of}
 use Rattle.bbop_isa.specs.Lines.{lines_of}
@@ -48,10 +47,7 @@ use Rattle.cli_model.specs.World.{World, world}
 use Rattle.cli_model.specs.Steps.{Step, Store, Open, Use, Put, Refusal, Reason}
 use Rattle.cli_model.specs.Steps.{CannotRead, TooLong, Refused, NoMemory, CannotWrite, PutFailed}
 use Rattle.cli_model.specs.Steps.{ChipFailed, End, Done, Stopped, Goes, LoadFails, Stored, Unstored}
-use Rattle.cli_model.specs.Status.{Tells}
-use Rattle.cli_model.specs.Ends.{Ended, All, At, Stop as StopAt}
 use Rattle.cli_model.proofs.Going.{goes_on, stops}
-use Rattle.cli_model.proofs.Ending.{all_ends}
 use Rattle.simdram_cli.specs.declared.words.GuardNames.{GuardNames}
 use Rattle.simdram_cli.specs.declared.words.TheConstants.{FLIPS_MAX, IMAGE_MAX, SCRIPT_MAX}
 use Rattle.simdram_cli.specs.declared.stop.Stop.{Stop}
@@ -72,16 +68,15 @@ use Rattle.cli_model.proofs.Running.{runs_answered, runs_stopped, runs_then}
 use Rattle.simdram_cli.specs.Guard.{GuardDoneOn, guard_work_plan}
 use Rattle.simdram_cli.specs.Plans.{said_of}
 use Rattle.simdram_cli.specs.Job.{done_status, opened_counters}
-use Rattle.cli_model.specs.Reads.{IsText, LoadedAs, NotRead, ReadAs, refusal_of}
+use Rattle.cli_model.specs.Reads.{LoadedAs, NotRead, ReadAs, refusal_of}
 use Rattle.simdram_cli.specs.Stops.{end_of, fault_reason, image_reason, reason_of}
 use Rattle.simdram_cli.specs.Words.{all_differ, guard_apart}
 use Rattle.simdram_cli.specs.Works.{OpenedOn}
-use Rattle.simdram_cli.proofs.Joins.{loaded_text, loading_goes, loading_stops, no_chip}
+use Rattle.simdram_cli.proofs.Joins.{loaded_text, no_chip}
 use Rattle.simdram_cli.proofs.Joins.{no_sink}
-use Rattle.simdram_cli.proofs.Joins.{known_is_text, known_text}
 use Rattle.simdram_cli.proofs.Running.{not_true, other_way}
 use Rattle.simdram_cli.proofs.Scripts.{lines_long}
-use Rattle.simdram_cli.proofs.Stores.{nothing_read, sent, used}
+use Rattle.simdram_cli.proofs.Stores.{sent, used}
 use Rattle.simdram_cli.proofs.Tallies.{both}
 
 -- SCRIPT

@@ -1,26 +1,15 @@
 -- The steps of a run, joined.
-use Rattle.std.proofs.Common.{◌≡◌, ℕ, Bool, true, false, cond, List, [], ◌∷◌, Option, Some, None}
-use Rattle.std.proofs.Common.{refl, subst, inl, inr}
-use Rattle.std.specs.Prelude.{Result, Ok, Err, IfOk, IfSome, bytes_eq}
+use Rattle.std.proofs.Common.{◌≡◌, ℕ, false, List, [], Option, Some, None}
+use Rattle.std.proofs.Common.{refl, inl, inr}
+use Rattle.std.specs.Prelude.{Result, Ok, Err, IfSome, bytes_eq}
 use Rattle.std.specs.Option.{unwrap_or}
 use Rattle.dram_model.specs.View.{ChipView, no_counts}
-use Rattle.host_edge.specs.Views.{Files, FolderView, SinkView, Known}
-use Rattle.uprog_bin.specs.Spelling.{program_bytes}
-use Rattle.bbop_isa.specs.Forms.{Instruction}
-use Rattle.machine_model.specs.Routines.{Program}
-use Rattle.machine_model.specs.Opened.{Image}
-use Rattle.cli_model.specs.World.{World, world, with_file}
-use Rattle.cli_model.specs.Steps.{Step, Load, Take, Store, Refusal, Reason, End, Stopped, Goes}
+use Rattle.host_edge.specs.Views.{Files, SinkView}
+use Rattle.cli_model.specs.World.{World}
+use Rattle.cli_model.specs.Steps.{Step, Refusal, Reason, End, Stopped, Goes}
 use Rattle.cli_model.specs.Steps.{Loaded, LoadFails, loading}
-use Rattle.cli_model.proofs.Going.{goes_on, all_stand}
-use Rattle.simdram_cli.specs.Inputs.{ops_in, script_in, image_of}
 use Rattle.simdram_cli.specs.declared.words.RunNames.{RunNames}
-use Rattle.simdram_cli.specs.declared.words.TheConstants.{OPS_MAX, SCRIPT_MAX}
-use Rattle.simdram_cli.specs.declared.stop.Stop.{Stop}
-use Rattle.simdram_cli.specs.Stops.{end_of, reason_of}
-use Rattle.cli_model.specs.Reads.{refusal_of, IsText, ReadAs, NotRead}
-use Rattle.simdram_cli.specs.declared.job.JobNames.{JobNames}
-use Rattle.simdram_cli.specs.Ends.{ProgramTaken, ProgramStopped}
+use Rattle.cli_model.specs.Reads.{refusal_of, IsText}
 
 -- a sink and a chip that show nothing
 pub no_sink : SinkView

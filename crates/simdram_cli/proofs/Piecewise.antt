@@ -1,8 +1,8 @@
 -- Pieces of a script, one after another.
-use Rattle.std.proofs.Common.{◌≡◌, ℕ, zero, suc, ◌+◌, ◌*◌, ◌<◌, ◌≤◌, Bool, true, false, cond, List}
+use Rattle.std.proofs.Common.{◌≡◌, ℕ, suc, ◌+◌, ◌<◌, ◌≤◌, Bool, true, false, cond, List}
 use Rattle.std.proofs.Common.{[]}
 use Rattle.std.proofs.Common.{◌∷◌, ◌++◌, map, drop, take, length, refl, sym, ◌∙◌, ap, subst, arith}
-use Rattle.std.proofs.Common.{Option, Some, None, append_assoc, append-nil, inl, inr}
+use Rattle.std.proofs.Common.{append-nil, inl, inr}
 use Rattle.std.specs.Prelude.{count_by, flat_map, min}
 use Rattle.std.specs.List.{AllByRecursion, prefix_len}
 use Rattle.std.proofs.lemmas.Bool.{cases_lt}
@@ -32,7 +32,7 @@ use Rattle.machine_model.proofs.Cut.{alone_cut, wave_cut, wave_is_piece}
 use Rattle.machine_model.proofs.Parts.{scripts_go_on, lines_go_on, all_parted}
 use Rattle.machine_model.proofs.Pieces.{pieces_are_script}
 use Rattle.cli_model.specs.World.{World}
-use Rattle.cli_model.specs.Steps.{Step, Load, Take, Store, Open, Use, Put, Print, End, Done}
+use Rattle.cli_model.specs.Steps.{End, Done}
 use Rattle.cli_model.specs.Steps.{Stopped, Reason, Goes}
 use Rattle.cli_model.proofs.Going.{goes_on, stops}
 use Rattle.cli_model.specs.Stands.{sent_by}

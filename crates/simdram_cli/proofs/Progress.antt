@@ -1,5 +1,5 @@
 -- One piece of a script was done, and the others are left.
-use Rattle.std.proofs.Common.{◌≡◌, ℕ, ◌+◌, ◌<◌, ◌≤◌, List, [], ◌∷◌, ◌++◌, drop, length, refl, sym}
+use Rattle.std.proofs.Common.{◌≡◌, ℕ, ◌+◌, ◌<◌, ◌≤◌, List, ◌∷◌, ◌++◌, drop, length, refl, sym}
 use Rattle.std.proofs.Common.{◌∙◌}
 use Rattle.std.proofs.Common.{ap, subst, arith, map}
 use Rattle.std.proofs.lemmas.List.{drop-drop, drop-map}
@@ -8,7 +8,6 @@ use Rattle.std.specs.List.{AllByRecursion}
 use Rattle.host_edge.specs.Views.{FolderView, SinkView}
 use Rattle.dram_model.specs.declared.dram.Counters.{Counters}
 use Rattle.dram_model.specs.declared.geometry.Geometry.{Geometry}
-use Rattle.dram_model.specs.Chip.{Event}
 use Rattle.dram_model.specs.View.{ChipView}
 use Rattle.object_alloc.specs.Listed.{Named}
 use Rattle.bbop_isa.specs.declared.instr.Instr.{Instr}

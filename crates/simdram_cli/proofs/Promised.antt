@@ -1,52 +1,37 @@
 -- A run that ends with 0 or 8 keeps its promises.
-use Rattle.std.proofs.Common.{◌≡◌, ℕ, ◌+◌, Bool, true, false, List, [], ◌∷◌, ◌++◌, length, map}
-use Rattle.std.proofs.Common.{Option, Some, None, refl, sym, ◌∙◌, ap, subst, inl, inr, append-nil}
-use Rattle.std.specs.Prelude.{Result, Ok, Err, bytes_eq, ◌≢◌, IfSome}
+use Rattle.std.proofs.Common.{◌≡◌, ℕ, ◌+◌, Bool, true, false, List, [], ◌∷◌, ◌++◌, length}
+use Rattle.std.proofs.Common.{refl, ◌∙◌, ap, append-nil}
+use Rattle.std.specs.Prelude.{◌≢◌}
 use Rattle.std.specs.List.{AllByRecursion}
-use Rattle.std.specs.Result.{result_ok}
-use Rattle.std.proofs.lemmas.Slice.Eq.{bytes_eq-Decides}
 use Rattle.dram_model.specs.declared.geometry.Geometry.{Geometry}
 use Rattle.dram_model.specs.Chip.{Banks}
 use Rattle.dram_model.specs.View.{ChipView}
-use Rattle.host_edge.specs.Views.{Files, Known}
+use Rattle.host_edge.specs.Views.{Files}
 use Rattle.object_alloc.specs.Listed.{Named}
 use Rattle.object_alloc.specs.Spelling.{IsImage}
 use Rattle.uprog_bin.specs.Spelling.{program_bytes}
-use Rattle.uprog_code.specs.Texts.{TextOp, ImplementsAll, text_op}
+use Rattle.uprog_code.specs.Texts.{TextOp, ImplementsAll}
 use Rattle.bbop_isa.specs.Forms.{Instruction}
 use Rattle.machine_model.specs.Agrees.{IsPlain}
 use Rattle.machine_model.specs.Routines.{Program, Routines, routines_in}
-use Rattle.op_text.specs.Language.{Operation}
-use Rattle.op_text.specs.OpsOf.{IsOpsOf}
 use Rattle.machine_model.specs.Opened.{Image, opened}
 use Rattle.machine_model.specs.Pieces.{Piece, Wave, Alone, instrs_in, pieces}
 use Rattle.machine_model.specs.Report.{Said, line, lines, said_by, said_in_rows, total_line}
 use Rattle.machine_model.specs.Script.{banks_at_end, table_at_end}
-use Rattle.cli_model.specs.World.{World, with_file}
-use Rattle.cli_model.specs.Steps.{Step, Load, Take, Store, Open, Use, Put, Print, Refusal, loading}
-use Rattle.cli_model.specs.Steps.{Done}
+use Rattle.cli_model.specs.World.{with_file}
+use Rattle.cli_model.specs.Steps.{Store, Use, Put}
 use Rattle.cli_model.specs.Stands.{files_after, sent_by}
-use Rattle.cli_model.specs.Foreseen.{foreseen}
-use Rattle.cli_model.specs.Ends.{Ended, All, EndsSo, IsAllDone, IsForetold, Stores}
-use Rattle.cli_model.specs.Ends.{done_steps}
 use Rattle.sim_machine.specs.Machine.{is_print}
-use Rattle.simdram_cli.specs.Inputs.{ops_in, script_in, image_of}
 use Rattle.simdram_cli.specs.declared.words.RunNames.{RunNames}
-use Rattle.simdram_cli.specs.declared.words.TheConstants.{OPS_MAX, SCRIPT_MAX, IMAGE_MAX}
-use Rattle.simdram_cli.specs.declared.job.JobNames.{JobNames}
-use Rattle.cli_model.specs.Reads.{IsText}
 use Rattle.simdram_cli.specs.Job.{done_status, image_by, instr_steps}
 use Rattle.simdram_cli.specs.Job.{piece_steps, pieces_steps, put_lines, refused_by, said_in}
 use Rattle.simdram_cli.specs.Job.{script_steps, tally_by, work_steps}
 use Rattle.simdram_cli.specs.Works.{WorkDone}
-use Rattle.simdram_cli.specs.Ends.{IsCompiled}
-use Rattle.simdram_cli.specs.Headline.{IsRunJob, read_as, Headline, RepliesExact}
-use Rattle.simdram_cli.proofs.OpsPlans.{spells_at}
+use Rattle.simdram_cli.specs.Headline.{RepliesExact}
 use Rattle.simdram_cli.proofs.Piecewise.{sent_script}
-use Rattle.simdram_cli.proofs.Running.{Apart}
 use Rattle.simdram_cli.proofs.Tallies.{some_words}
-use Rattle.simdram_cli.proofs.Promises.{job_of, IsDone, objects_right, rows_untouched}
-use Rattle.simdram_cli.proofs.Promises.{commands_counted, report_is, refusals_are, no_bad_walks}
+use Rattle.simdram_cli.proofs.Promises.{job_of, IsDone}
+use Rattle.simdram_cli.proofs.Promises.{refusals_are, no_bad_walks}
 use Rattle.cli_model.proofs.Files.{at_other, bytes_differ}
 use Rattle.cli_model.proofs.Delivering.{files_append, sent_append}
 

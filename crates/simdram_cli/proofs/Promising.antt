@@ -1,5 +1,5 @@
 -- What the top call promises, from how a command ends.
-use Rattle.std.proofs.Common.{◌≡◌, ◌⊎◌, inl, ℕ, List, Option, Some, None, refl, subst}
+use Rattle.std.proofs.Common.{◌≡◌, inl, ℕ, List, Option, Some, None, refl, subst}
 use Rattle.std.specs.Prelude.{◌↔◌}
 use denote.Ref.{Bor}
 use Rattle.cli_model.specs.World.{World}

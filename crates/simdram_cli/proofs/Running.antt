@@ -1,43 +1,30 @@
 -- The parts of a run.
-use Rattle.std.proofs.Common.{◌≡◌, ℕ, Bool, true, false, List, [], ◌∷◌, map, refl, sym, ◌∙◌, ap}
-use Rattle.std.proofs.Common.{inl, eqb-true}
-use Rattle.std.specs.Prelude.{Result, Ok, Err, IfOk, IfErr, bytes_eq, not, ◌==◌, codes}
-use Rattle.std.specs.List.{AllByRecursion, list_all}
+use Rattle.std.proofs.Common.{◌≡◌, ℕ, Bool, true, false, List, [], ◌∷◌, map, refl, sym, ap}
+use Rattle.std.proofs.Common.{inl}
+use Rattle.std.specs.Prelude.{Result, Ok, Err, IfOk, IfErr, bytes_eq, not}
+use Rattle.std.specs.List.{list_all}
 use Rattle.std.proofs.lemmas.Slice.Eq.{bytes_eq-Decides}
-use Rattle.dram_model.specs.View.{ChipView}
-use Rattle.host_edge.specs.Views.{FolderView, SinkView}
+use Rattle.host_edge.specs.Views.{FolderView}
 use Rattle.uprog_bin.specs.Spelling.{program_bytes}
 use Rattle.uprog_gen.specs.Totals.{AreExact}
-use Rattle.bbop_isa.specs.Forms.{Instruction}
-use Rattle.object_alloc.specs.Spelling.{IsImage}
 use Rattle.machine_model.specs.Routines.{Program}
 use Rattle.op_text.specs.Language.{Operation}
 use Rattle.uprog_code.specs.Programs.{IsProgram}
 use Rattle.uprog_code.specs.Texts.{ImplementsAll, text_op}
-use Rattle.machine_model.specs.Opened.{Image}
-use Rattle.machine_model.specs.Agrees.{IsPlain}
-use Rattle.cli_model.specs.World.{World, world}
-use Rattle.cli_model.specs.Steps.{Take, Store, Refusal, Reason, Refused, NoMemory, Done, Stopped}
-use Rattle.cli_model.specs.Steps.{Goes}
-use Rattle.object_alloc.specs.Reading.{Found, ImageFault, IsFault, Answers, image_in}
+use Rattle.cli_model.specs.World.{world}
+use Rattle.cli_model.specs.Steps.{Take, Store, Reason, Done, Stopped}
+use Rattle.object_alloc.specs.Reading.{Found, image_in}
 use Rattle.simdram_cli.specs.Accepted.{IsTaken}
 use Rattle.simdram_cli.specs.Inputs.{ops_in, image_of, image_found, image_or_refusal}
-use Rattle.simdram_cli.specs.Inputs.{image_refusal}
 use Rattle.simdram_cli.specs.declared.words.RunNames.{RunNames}
-use Rattle.simdram_cli.specs.declared.words.TheConstants.{OPS_MAX, IMAGE_MAX}
+use Rattle.simdram_cli.specs.declared.words.TheConstants.{OPS_MAX}
 use Rattle.simdram_cli.specs.declared.stop.Stop.{Stop}
-use Rattle.object_alloc.specs.declared.fault.ImageNo.{ImageNo}
-use Rattle.object_alloc.specs.declared.fault.ImageNo.TheVariants as no
-use Rattle.object_alloc.specs.Exact.{found_in}
-use Rattle.simdram_cli.specs.Stops.{end_of, image_reason, reason_of}
-use Rattle.cli_model.specs.Reads.{refusal_of, LoadedAs, NotLoaded, NotRead}
+use Rattle.simdram_cli.specs.Stops.{reason_of}
+use Rattle.cli_model.specs.Reads.{NotRead}
 use Rattle.simdram_cli.specs.Reads.{OpsRead}
-use Rattle.simdram_cli.specs.declared.job.JobNames.{JobNames}
-use Rattle.simdram_cli.specs.Job.{work_steps}
-use Rattle.simdram_cli.specs.Works.{WorkDone}
 use Rattle.simdram_cli.specs.Words.{are_apart, all_differ}
 use Rattle.simdram_cli.specs.Ends.{GoesToStore, StopsAtStore, ProgramTaken, ProgramStopped}
-use Rattle.simdram_cli.proofs.Joins.{known_text, known_is_text, loaded_text, loading_goes}
+use Rattle.simdram_cli.proofs.Joins.{loaded_text, loading_goes}
 use Rattle.simdram_cli.proofs.Joins.{loading_stops, AreOthers, no_sink, no_chip}
 use Rattle.simdram_cli.proofs.Reading.{ops_accepted}
 use Rattle.simdram_cli.proofs.Tallies.{both}

@@ -1,12 +1,11 @@
 -- The facts of `scan`: how its parts go, its statuses, its files, its memory, and what one that is
 -- done promises.
-use Rattle.std.proofs.Common.{◌≡◌, ◌⊎◌, ℕ, ◌+◌, ◌*◌, ◌<◌, ◌≤◌, ◌^◌, Bool, true, List, [], ◌∷◌}
+use Rattle.std.proofs.Common.{◌≡◌, ℕ, ◌*◌, ◌≤◌, ◌^◌, Bool, true, List, [], ◌∷◌}
 use Rattle.std.proofs.Common.{◌++◌}
 use Rattle.std.proofs.Common.{Option, Some, None, refl, sym, ◌∙◌, ap, subst, inl, inr, arith}
-use Rattle.std.proofs.Common.{append-nil, map, length, zero-add}
+use Rattle.std.proofs.Common.{append-nil, map, zero-add}
 use Rattle.std.specs.Prelude.{Result, Ok, Err, IfErr, IfSome, count_by, nat_le, ◌&&◌}
-use Rattle.std.specs.List.{range_with_len, list_any}
-use Rattle.std.specs.Option.{option_map}
+use Rattle.std.specs.List.{range_with_len}
 use Rattle.std.specs.Result.{IsOkAnd, result_ok}
 use Rattle.std.proofs.lemmas.Bool.{leb-true}
 use Rattle.std.proofs.lemmas.Nat.{mul-le}
@@ -19,13 +18,10 @@ use Rattle.dram_model.specs.Elements.{segments_of}
 use Rattle.dram_model.specs.Geometry.{is_geometry, is_between, fits_size}
 use Rattle.dram_model.specs.View.{ChipView, Kept, with_reads}
 use Rattle.fault_counts.specs.Counts.{Rose}
-use Rattle.host_edge.specs.Views.{AppendsPart, Files, FolderView, SinkView, Known}
-use Rattle.object_alloc.specs.declared.fault.ImageNo.{ImageNo}
-use Rattle.object_alloc.specs.declared.fault.ImageNo.TheVariants as no
+use Rattle.host_edge.specs.Views.{Files, FolderView, SinkView, Known}
 use Rattle.object_alloc.specs.Listed.{Named}
-use Rattle.object_alloc.specs.Reading.{image_in, IsFault, ImageFault, Found as ImageIs}
+use Rattle.object_alloc.specs.Reading.{image_in, Found as ImageIs}
 use Rattle.op_text.specs.Language.{Operation}
-use Rattle.op_text.specs.Lines.{line_of}
 use Rattle.uprog_code.specs.declared.walker.Counts.{Counts}
 use Rattle.uprog_code.specs.Programs.{IsProgram}
 use Rattle.uprog_code.specs.Texts.{ImplementsAll, text_op}
@@ -35,24 +31,22 @@ use Rattle.machine_model.specs.declared.Why.{Why}
 use Rattle.bbop_isa.specs.Forms.{Instruction}
 use Rattle.wave_model.specs.Schedule.{Turn, Ahead}
 use Rattle.machine_model.specs.Opened.{Image, opened, row_writes, words_of}
-use Rattle.machine_model.specs.Routines.{Program, Routines, routines_in}
+use Rattle.machine_model.specs.Routines.{Program, routines_in}
 use Rattle.machine_model.specs.Pieces.{events_of_pieces, pieces, script_events}
-use Rattle.machine_model.specs.Script.{replies, sum_of, with_counts}
+use Rattle.machine_model.specs.Script.{with_counts}
 use Rattle.machine_model.proofs.Pieces.{events_are_steps}
 use Rattle.sim_machine.specs.Steps.{DidAndRead}
-use Rattle.scan_model.specs.declared.CmpOp.TheVariants as cmp
 use Rattle.scan_model.specs.declared.QueryFault.{QueryFault}
 use Rattle.scan_model.specs.declared.ScanWhy.{ScanWhy}
 use Rattle.scan_model.specs.Answers.{Answer, Found, Refused as NotFound, answer, by_checks, by_run}
-use Rattle.scan_model.specs.Answers.{element_in, found_in, query_count, query_script, room_word}
+use Rattle.scan_model.specs.Answers.{element_in, found_in, query_count, query_script}
 use Rattle.scan_model.specs.Checks.{checked}
 use Rattle.scan_model.specs.Instructions.{count_of, scan_script}
 use Rattle.scan_model.specs.Laws.{element, scan_refused}
-use Rattle.scan_model.specs.Operations.{scan_operations, scan_text}
-use Rattle.scan_model.specs.Queries.{Compare, Node, Query, matches, nodes_of}
-use Rattle.scan_model.specs.Texts.{Breach, fault_in, first_breach, pieces_of}
+use Rattle.scan_model.specs.Operations.{scan_operations}
+use Rattle.scan_model.specs.Queries.{Node, Query, matches, nodes_of}
+use Rattle.scan_model.specs.Texts.{fault_in}
 use Rattle.scan_model.proofs.Answered.{elements}
-use Rattle.scan_model.proofs.Parsed.{accepted}
 use Rattle.scan_query.specs.Answers.{CountersRose, answer_of, is_done}
 use Rattle.scan_query.specs.Parsing.{IsQueryOf}
 use Rattle.scan_query.specs.Queries.{IsNodesOf}
@@ -60,7 +54,7 @@ use Rattle.scan_query.specs.Running.{AreBelow}
 use Rattle.scan_query.specs.declared.query.ScanReply.{ScanReply}
 use Rattle.scan_query.specs.declared.query.ScanReply.TheVariants as reply
 use Rattle.cli_model.specs.World.{World, world}
-use Rattle.cli_model.specs.Steps.{Step, Take, Open, Use, Put, Refusal, Reason}
+use Rattle.cli_model.specs.Steps.{Step, Take, Open, Refusal, Reason}
 use Rattle.cli_model.specs.Steps.{ChipFailed, End, Done, Stopped, Goes}
 use Rattle.cli_model.specs.Stands.{sent_by}
 use Rattle.cli_model.specs.Faultless.{file_in}

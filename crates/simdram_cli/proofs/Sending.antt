@@ -11,7 +11,6 @@ use Rattle.dram_model.specs.Chip.{Banks, Event, all_counted}
 use Rattle.dram_model.specs.View.{ChipView, Did, with_reads}
 use Rattle.object_alloc.specs.Listed.{Named}
 use Rattle.bbop_isa.specs.Forms.{Instruction}
-use Rattle.std.specs.List.{AllByRecursion}
 use Rattle.machine_model.specs.Routines.{Routines}
 use Rattle.machine_model.specs.Pieces.{AreBbops, Wave}
 use Rattle.machine_model.specs.Report.{Said, Answered, line, lines, said_in_rows}

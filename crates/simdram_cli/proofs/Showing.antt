@@ -1,5 +1,5 @@
 -- The facts of `show`: its statuses, its files, its memory, and what one that is done has sent.
-use Rattle.std.proofs.Common.{◌≡◌, ℕ, List, [], ◌++◌, Option, Some, None, sym, ◌∙◌, ap, subst, refl}
+use Rattle.std.proofs.Common.{◌≡◌, ℕ, List, [], ◌++◌, Option, None, ◌∙◌, ap, subst, refl}
 use Rattle.std.proofs.Common.{append-nil, ◌∷◌}
 use Rattle.std.specs.Prelude.{IfSome}
 use denote.Ref.{Bor}

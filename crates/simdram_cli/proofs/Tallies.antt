@@ -1,9 +1,9 @@
 -- What a chip's counters come to.
-use Rattle.std.proofs.Common.{◌≡◌, ℕ, zero, suc, ◌+◌, ◌*◌, List, [], ◌∷◌, ◌++◌, map, Option, Some}
-use Rattle.std.proofs.Common.{None, refl, sym, ◌∙◌, ap, subst, arith, append-nil, add-zero}
+use Rattle.std.proofs.Common.{◌≡◌, ℕ, zero, suc, ◌+◌, ◌*◌, List, [], ◌++◌, map, Option}
+use Rattle.std.proofs.Common.{refl, ◌∙◌, ap, subst, arith, append-nil, add-zero}
 use Rattle.std.proofs.Common.{zero-add}
 use Rattle.std.proofs.Common.{true, ◌<◌}
-use Rattle.std.specs.Prelude.{Bool, false, ◌&&◌, IfSome, flat_map, nat_le}
+use Rattle.std.specs.Prelude.{Bool, false, ◌&&◌, flat_map, nat_le}
 use Rattle.std.proofs.lemmas.Bool.{leb-true}
 use Rattle.std.specs.List.{range_with_len}
 use Rattle.std.proofs.Math.Nat.{suc-mul}
@@ -15,7 +15,7 @@ use Rattle.dram_model.specs.View.{ChipView, DidRead, with_reads}
 use Rattle.dram_model.proofs.EventLaws.{all_counted-append}
 use Rattle.dram_model.specs.declared.geometry.Geometry.{Geometry}
 use Rattle.dram_model.specs.Geometry.{is_geometry, is_between, fits_size}
-use Rattle.object_alloc.specs.Spelling.{IsImage, Rows}
+use Rattle.object_alloc.specs.Spelling.{Rows}
 use Rattle.bbop_isa.specs.Forms.{Instruction}
 use Rattle.wave_model.specs.Schedule.{Ahead}
 use Rattle.machine_model.specs.Routines.{Program, routines_in}
@@ -23,7 +23,6 @@ use Rattle.machine_model.specs.Opened.{Image, row_writes, opened}
 use Rattle.machine_model.specs.Pieces.{script_events}
 use Rattle.machine_model.specs.Script.{replies, rows_printed, sum_done, sum_of}
 use Rattle.machine_model.proofs.Pieces.{counted_by_replies, events_are_steps}
-use Rattle.machine_model.proofs.Tables.{fits_banks}
 use Rattle.sim_machine.specs.Steps.{DidAndRead}
 use Rattle.simdram_cli.specs.Job.{opened_counters, tally_by, refused_by}
 use Rattle.simdram_cli.specs.Works.{OpenedOn, WorkDone}

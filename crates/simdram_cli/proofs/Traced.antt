@@ -1,12 +1,10 @@
 -- What a recorded execution promises.
-use Rattle.std.proofs.Common.{◌≡◌, ◌⊎◌, ℕ, ◌*◌, ◌<◌, ◌≤◌, ◌^◌, Bool, true, false, cond, leb, List}
-use Rattle.std.proofs.Common.{[], ◌∷◌, ◌++◌, Option, Some, None, refl, sym, ◌∙◌, ap, subst, inl}
-use Rattle.std.proofs.Common.{inr}
+use Rattle.std.proofs.Common.{◌≡◌, ℕ, ◌*◌, ◌<◌, ◌≤◌, ◌^◌, Bool, true, false, leb, List}
+use Rattle.std.proofs.Common.{[], ◌∷◌, ◌++◌, Some, refl, sym, ◌∙◌, ap, subst}
 use Rattle.std.proofs.Common.{arith, append-nil, length, length-append}
 use Rattle.std.specs.Prelude.{Result, Ok, Err, ◌≢◌, bytes_eq}
 use Rattle.std.specs.Result.{result_ok}
 use Rattle.dram_model.specs.View.{ChipView}
-use Rattle.std.specs.List.{AllByRecursion}
 use Rattle.std.specs.Int.{to_le_bytes, w32}
 use Rattle.std.proofs.lemmas.Bool.{leb-true}
 use Rattle.std.proofs.lemmas.List.Concat.{flat_map-cons}
@@ -14,7 +12,6 @@ use Rattle.host_edge.specs.Views.{Files, Known}
 use Rattle.dram_model.specs.declared.geometry.Geometry.{Geometry}
 use Rattle.dram_model.specs.Chip.{Banks, Event}
 use Rattle.object_alloc.specs.Spelling.{image_bytes}
-use Rattle.uprog_bin.specs.Opened.{IsProgramFile}
 use Rattle.bbop_isa.specs.declared.instr.ScriptFault.{ScriptFault}
 use Rattle.bbop_isa.specs.Forms.{Instruction}
 use Rattle.bbop_isa.specs.Script.{script_of}
@@ -31,7 +28,6 @@ use Rattle.trace_model.proofs.Files.{files_are_exact, head_length}
 use Rattle.trace_model.proofs.Records.{event_length, fitting_are_few}
 use Rattle.trace_model.proofs.Scripts.{replay_is_script, script_is_trace}
 use Rattle.cmd_trace.specs.declared.sizes.TheConstants.{EVENTS_BYTES_MAX}
-use Rattle.trace_job.specs.Below.{IsLate}
 use Rattle.cli_model.specs.World.{World, with_file}
 use Rattle.cli_model.specs.Steps.{Store, Use}
 use Rattle.cli_model.specs.Stands.{files_after, sent_by}

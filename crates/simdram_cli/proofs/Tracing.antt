@@ -1,25 +1,20 @@
 -- The parts of a recorded execution.
 use Rattle.std.proofs.Common.{◌≡◌, ℕ, ◌+◌, ◌*◌, ◌≤◌, Bool, true, false, List, [], ◌∷◌, ◌++◌}
-use Rattle.std.proofs.Common.{Option, Some, None, refl, sym, ◌∙◌, ap, subst, inl, inr, length}
+use Rattle.std.proofs.Common.{Some, None, refl, sym, ◌∙◌, ap, subst, inl, inr, length}
 use Rattle.std.proofs.Common.{append-nil, append_assoc, add_assoc}
 use Rattle.std.specs.Prelude.{Result, Ok, Err, count_by}
 use Rattle.std.specs.List.{AllByRecursion}
 use Rattle.fault_counts.specs.Counts.{Rose}
-use Rattle.host_edge.specs.Views.{AppendsPart, Files, FolderView, SinkView, Known}
+use Rattle.host_edge.specs.Views.{AppendsPart, FolderView, SinkView, Known}
 use Rattle.dram_model.specs.declared.dram.Counters.{Counters}
 use Rattle.dram_model.specs.declared.geometry.Geometry.{Geometry}
 use Rattle.dram_model.specs.Geometry.{is_geometry}
 use Rattle.dram_model.specs.Chip.{Banks, Event, Grew, after, all_counted}
 use Rattle.dram_model.specs.View.{ChipView, DidRead, HasBegun, Kept, with_reads}
 use Rattle.dram_model.proofs.EventLaws.{Grew-more}
-use Rattle.object_alloc.specs.declared.fault.ImageNo.{ImageNo}
-use Rattle.object_alloc.specs.declared.fault.ImageNo.TheVariants as no
 use Rattle.object_alloc.specs.Listed.{Listing, Named}
-use Rattle.object_alloc.specs.Reading.{IsFault, image_in}
 use Rattle.object_alloc.specs.Spelling.{image_bytes, IsImage}
 use Rattle.uprog_code.specs.Programs.{IsProgram}
-use Rattle.uprog_bin.specs.Opened.{IsProgramFile}
-use Rattle.uprog_bin.specs.Reading.{program_in, ProgFault}
 use Rattle.bbop_isa.specs.Forms.{Instruction}
 use Rattle.wave_model.specs.Schedule.{Ahead}
 use Rattle.machine_model.specs.Agrees.{IsPlain}

@@ -1,5 +1,5 @@
 -- The command `compile`.
-use Rattle.std.specs.Prelude.{◌≡◌, ◌≢◌, ◌⊎◌, map, ℕ, List, [], ◌∷◌, ◌++◌, Some, Result, IfOk}
+use Rattle.std.specs.Prelude.{◌≡◌, ◌≢◌, map, ℕ, List, [], ◌∷◌, ◌++◌, Some}
 use Rattle.std.specs.Prelude.{length, codes, decimal}
 use Rattle.host_edge.specs.Views.{Files, Known}
 use Rattle.op_text.specs.Language.{Operation}

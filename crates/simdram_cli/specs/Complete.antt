@@ -1,15 +1,12 @@
 -- A command is done where its files are there and accepted and nothing fails, or memory is wanting;
 -- and what stands where it is.
-use Rattle.std.specs.Prelude.{◌≡◌, ◌≢◌, ◌≤◌, ◌==◌, ℕ, true, List, [], ◌∷◌, length, codes}
+use Rattle.std.specs.Prelude.{◌≡◌, ◌≤◌, ◌==◌, ℕ, true, List, [], ◌∷◌, length}
 use Rattle.std.specs.Prelude.{Option, Some, None, Result, Ok}
 use Rattle.std.specs.List.{list_any}
-use Rattle.fault_counts.specs.Counts.{Rose}
 use Rattle.dram_model.specs.declared.geometry.Geometry.{Geometry}
-use Rattle.host_edge.specs.Views.{Files, Known}
 use Rattle.cli_model.specs.World.{World}
 use Rattle.cli_model.specs.Faultless.{IsSpared, NothingFailed, file_in}
-use Rattle.cli_model.specs.Steps.{Refusal, Unopened}
-use Rattle.cli_model.specs.Ends.{Sends}
+use Rattle.cli_model.specs.Steps.{Refusal}
 use Rattle.simdram_cli.specs.declared.words.TheConstants.{OPS_MAX, PROG_MAX, SCRIPT_MAX, IMAGE_MAX}
 use Rattle.simdram_cli.specs.declared.words.TheConstants.{QUERY_MAX}
 use Rattle.simdram_cli.specs.declared.words.TheConstants.{TRACE_MAX}

@@ -1,34 +1,25 @@
 -- How a job and a run go and end.
-use Rattle.std.specs.Prelude.{◌≡◌, ◌⊎◌, map, ℕ, List, [], ◌∷◌, Option, None, Result, Ok, Err, IfOk}
-use Rattle.std.specs.List.{AllByRecursion}
+use Rattle.std.specs.Prelude.{◌≡◌, map, ℕ, List, [], ◌∷◌, None, Result, Ok, Err}
 use Rattle.dram_model.specs.View.{ChipView}
-use Rattle.host_edge.specs.Views.{Files, FolderView, SinkView}
-use Rattle.object_alloc.specs.Spelling.{IsImage}
+use Rattle.host_edge.specs.Views.{FolderView, SinkView}
 use Rattle.uprog_bin.specs.Spelling.{program_bytes}
 use Rattle.uprog_gen.specs.Totals.{AreExact}
-use Rattle.bbop_isa.specs.Forms.{Instruction}
 use Rattle.machine_model.specs.Routines.{Program}
 use Rattle.op_text.specs.Language.{Operation}
 use Rattle.op_text.specs.OpsOf.{IsOpsOf}
 use Rattle.uprog_code.specs.Programs.{IsProgram}
 use Rattle.uprog_code.specs.Texts.{ImplementsAll, text_op}
-use Rattle.machine_model.specs.Opened.{Image}
-use Rattle.machine_model.specs.Agrees.{IsPlain}
-use Rattle.cli_model.specs.World.{World, world}
-use Rattle.cli_model.specs.Steps.{Step, Load, Take, Store, Refusal, Reason, End, Done, Stopped}
+use Rattle.cli_model.specs.World.{world}
+use Rattle.cli_model.specs.Steps.{Step, Load, Take, Store, Reason, End, Done, Stopped}
 use Rattle.cli_model.specs.Steps.{Goes, loading}
 use Rattle.cli_model.specs.Status.{reason_status}
-use Rattle.cli_model.specs.Ends.{Ended, All, At, Ends, Stores, done_steps}
-use Rattle.simdram_cli.specs.declared.words.RunNames.{RunNames}
-use Rattle.simdram_cli.specs.declared.job.JobNames.{JobNames}
-use Rattle.simdram_cli.specs.declared.words.TheConstants.{OPS_MAX, IMAGE_MAX}
+use Rattle.simdram_cli.specs.declared.words.TheConstants.{OPS_MAX}
 use Rattle.simdram_cli.specs.declared.stop.Stop.{Stop}
 use Rattle.simdram_cli.specs.Accepted.{IsTaken}
-use Rattle.simdram_cli.specs.Inputs.{ops_in, script_in, image_of}
-use Rattle.simdram_cli.specs.Stops.{end_of, reason_of}
+use Rattle.simdram_cli.specs.Inputs.{ops_in}
+use Rattle.simdram_cli.specs.Stops.{reason_of}
 use Rattle.cli_model.specs.Reads.{IsText}
-use Rattle.simdram_cli.specs.Job.{work_steps, done_status}
-use Rattle.simdram_cli.specs.Works.{WorkDone}
+use Rattle.simdram_cli.specs.Job.{done_status}
 
 -- the program is one that a file can hold, and does the ops that the text has; and each command
 -- that loads a program file takes its file

@@ -1,6 +1,5 @@
 -- The command `exec`.
-use Rattle.std.specs.Prelude.{◌≡◌, ◌≢◌, ◌⊎◌, ℕ, ◌<◌, false, List, [], ◌∷◌, ◌++◌, Option, Some}
-use Rattle.std.specs.Prelude.{Result, Ok, Err, IfOk}
+use Rattle.std.specs.Prelude.{◌≡◌, ◌≢◌, ℕ, ◌<◌, false, List, [], ◌∷◌, ◌++◌, Some}
 use Rattle.host_edge.specs.Views.{Files, Known}
 use Rattle.dram_model.specs.Chip.{row_in}
 use Rattle.dram_model.specs.View.{ChipView}
@@ -14,16 +13,11 @@ use Rattle.machine_model.specs.Script.{banks_at_end, is_touched_by, table_at_end
 use Rattle.machine_model.specs.Steps.{is_touched}
 use Rattle.machine_model.specs.Report.{report}
 use Rattle.cli_model.specs.World.{World}
-use Rattle.cli_model.specs.Steps.{Step, Refusal, Goes, loading}
-use Rattle.cli_model.specs.Ends.{Ended, All, At, Ends, done_steps}
 use Rattle.simdram_cli.specs.declared.words.ExecNames.{ExecNames}
 use Rattle.simdram_cli.specs.declared.words.TheConstants.{PROG_MAX}
 use Rattle.simdram_cli.specs.declared.job.JobNames.{JobNames}
-use Rattle.simdram_cli.specs.declared.stop.Stop.{Stop}
 use Rattle.simdram_cli.specs.Inputs.{script_in, image_of}
 use Rattle.simdram_cli.specs.Programs.{prog_in}
-use Rattle.cli_model.specs.Reads.{IsText}
-use Rattle.simdram_cli.specs.Stops.{end_of}
 use Rattle.simdram_cli.specs.Job.{said_in, replies_by, refused_by, done_status, image_by}
 use Rattle.simdram_cli.specs.Works.{WorkDone}
 use Rattle.cli_model.specs.Plan.{Plan, Loads, Makes}

@@ -1,6 +1,6 @@
 -- The command `guard`.
-use Rattle.std.specs.Prelude.{◌≡◌, ◌≢◌, ◌⊎◌, ℕ, ◌*◌, map, List, [], ◌∷◌, ◌++◌, length, count_by}
-use Rattle.std.specs.Prelude.{Option, Some, None, Result, Ok, Err, IfOk}
+use Rattle.std.specs.Prelude.{◌≡◌, ◌≢◌, ℕ, ◌*◌, map, List, [], ◌∷◌, ◌++◌, length, count_by}
+use Rattle.std.specs.Prelude.{Some, None}
 use Rattle.std.specs.List.{AllByRecursion}
 use Rattle.host_edge.specs.Views.{Files, Known}
 use Rattle.dram_model.specs.declared.dram.Counters.{Counters}
@@ -9,7 +9,6 @@ use Rattle.dram_model.specs.View.{ChipView, with_reads}
 use Rattle.object_alloc.specs.Listed.{Named}
 use Rattle.object_alloc.specs.Spelling.{IsImage, image_bytes}
 use Rattle.uprog_code.specs.Texts.{TextOp, ImplementsAll}
-use Rattle.uprog_bin.specs.Spelling.{program_bytes}
 use Rattle.bbop_isa.specs.Forms.{Instruction}
 use Rattle.wave_model.specs.Schedule.{Ahead}
 use Rattle.machine_model.specs.declared.Reply.{Reply}
@@ -33,19 +32,13 @@ use Rattle.guard_job.specs.Steps.{guarded_steps}
 use Rattle.cli_model.specs.World.{World}
 use Rattle.cli_model.specs.Plan.{Answers, Loads, Plan, Then}
 use Rattle.simdram_cli.specs.Plans.{compiled_plan}
-use Rattle.cli_model.specs.Steps.{Step, Take, Store, Open, Use, Put, Refusal, Goes, loading}
-use Rattle.cli_model.specs.Ends.{Ended, All, At, Ends, Stores, done_steps}
+use Rattle.cli_model.specs.Steps.{Step, Take, Store, Open, Use, Put}
 use Rattle.simdram_cli.specs.declared.words.GuardNames.{GuardNames}
 use Rattle.simdram_cli.specs.declared.words.RunNames.{RunNames}
-use Rattle.simdram_cli.specs.declared.words.TheConstants.{FLIPS_MAX, IMAGE_MAX, OPS_MAX, SCRIPT_MAX}
-use Rattle.simdram_cli.specs.declared.stop.Stop.{Stop}
-use Rattle.simdram_cli.specs.Ends.{IsCompiled}
+use Rattle.simdram_cli.specs.declared.words.TheConstants.{FLIPS_MAX, IMAGE_MAX, SCRIPT_MAX}
 use Rattle.simdram_cli.specs.Flips.{flips_in, guarded_image_of, guarded_script_in}
 use Rattle.simdram_cli.specs.Headline.{IsRunJob, IsNoBadWalk, RunJob, ProgramWritten, read_as}
-use Rattle.simdram_cli.specs.Inputs.{ops_in}
 use Rattle.simdram_cli.specs.Job.{done_status, opened_counters}
-use Rattle.cli_model.specs.Reads.{IsText}
-use Rattle.simdram_cli.specs.Stops.{end_of}
 
 -- a guarded script on an image with a program, and the flips among its instructions
 pub record GuardJob : Type 0 where

@@ -1,6 +1,6 @@
 -- What a run promises when it ends with status 0 or 8.
 use Rattle.std.specs.Prelude.{map, ◌≡◌, ◌≢◌, ℕ, ◌+◌, ◌*◌, ◌<◌, false, List, ◌++◌, Option, Some}
-use Rattle.std.specs.Prelude.{None, Result, IfSome, count_by}
+use Rattle.std.specs.Prelude.{None, Result, count_by}
 use Rattle.std.specs.List.{AllByRecursion}
 use Rattle.std.specs.Result.{result_ok}
 use Rattle.host_edge.specs.Views.{Files, Known}

@@ -1,7 +1,7 @@
 -- A job: SCRIPT is done on IMAGE with a program. What is said of it, what stands after it, and its
 -- steps.
-use Rattle.std.specs.Prelude.{ℕ, ◌+◌, ◌*◌, Bool, true, false, List, [], ◌∷◌, ◌++◌, length, count_by}
-use Rattle.std.specs.Prelude.{nat_lt, if◌then◌else◌, Result, Ok, Err}
+use Rattle.std.specs.Prelude.{ℕ, ◌+◌, ◌*◌, Bool, List, [], ◌∷◌, ◌++◌, length, count_by}
+use Rattle.std.specs.Prelude.{nat_lt, if◌then◌else◌}
 use Rattle.dram_model.specs.declared.dram.Counters.{Counters}
 use Rattle.dram_model.specs.declared.geometry.Geometry.{Geometry}
 use Rattle.dram_model.specs.Chip.{Banks}
@@ -15,11 +15,8 @@ use Rattle.machine_model.specs.Script.{replies, table_at_end, banks_at_end, sum_
 use Rattle.machine_model.specs.Script.{rows_loaded, rows_printed, is_refused}
 use Rattle.machine_model.specs.Pieces.{Piece, Wave, Alone, instrs_in, pieces}
 use Rattle.machine_model.specs.Report.{Said, said_by, said_in_rows, line, total_line}
-use Rattle.cli_model.specs.Steps.{Step, Store, Open, Use, Put, Print, Refusal, loading}
+use Rattle.cli_model.specs.Steps.{Step, Store, Open, Use, Put, Print}
 use Rattle.sim_machine.specs.Machine.{is_print}
-use Rattle.simdram_cli.specs.declared.job.JobNames.{JobNames}
-use Rattle.simdram_cli.specs.declared.words.TheConstants.{SCRIPT_MAX, IMAGE_MAX}
-use Rattle.simdram_cli.specs.Inputs.{script_in, image_of}
 
 -- what is said of a script by a program, and its replies
 abbrev pub said_in : Program → List Instruction → Image → List Said

@@ -1,13 +1,9 @@
 -- How a file is loaded and read, whatever the sink and the chip show meanwhile.
-use Rattle.std.specs.Prelude.{◌≡◌, ℕ, List, [], Option, Some, None, Result, Ok, Err, IfSome}
-use Rattle.dram_model.specs.View.{ChipView}
-use Rattle.host_edge.specs.Views.{Files, FolderView, SinkView}
+use Rattle.std.specs.Prelude.{ℕ, List}
+use Rattle.host_edge.specs.Views.{FolderView}
 use Rattle.op_text.specs.Language.{Operation}
 use Rattle.op_text.specs.OpsOf.{IsOpsOf}
 use Rattle.cli_model.specs.Reads.{LoadedAs}
-use Rattle.cli_model.specs.World.{World, world}
-use Rattle.cli_model.specs.Steps.{Refusal, Reason, Loaded, LoadFails, End, Done, Stopped, Goes}
-use Rattle.cli_model.specs.Steps.{loading}
 use Rattle.simdram_cli.specs.declared.words.TheConstants.{OPS_MAX}
 
 -- OPS was loaded, and its text is one of these ops

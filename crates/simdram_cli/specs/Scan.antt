@@ -1,6 +1,6 @@
 -- The command `scan`.
-use Rattle.std.specs.Prelude.{◌≡◌, ◌⊎◌, ℕ, ◌*◌, List, [], ◌∷◌, ◌++◌, Option, Some, None, Result}
-use Rattle.std.specs.Prelude.{Ok, Err, IfSome, count_by, codes, decimal}
+use Rattle.std.specs.Prelude.{◌≡◌, ℕ, ◌*◌, List, [], ◌∷◌, ◌++◌, Option, Some, None, Result}
+use Rattle.std.specs.Prelude.{Ok, Err, count_by, codes, decimal}
 use Rattle.std.specs.List.{range_with_len}
 use Rattle.host_edge.specs.Views.{Files, FolderView, Known}
 use Rattle.dram_model.specs.declared.dram.Counters.{Counters}

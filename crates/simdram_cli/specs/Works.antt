@@ -1,6 +1,6 @@
 -- What stands when a chip was opened on an image, when a piece of a script was done, and when the
 -- whole of it was.
-use Rattle.std.specs.Prelude.{◌≡◌, ℕ, ◌*◌, List, [], ◌∷◌, ◌++◌, take, Some, IfSome, count_by}
+use Rattle.std.specs.Prelude.{◌≡◌, ℕ, ◌*◌, List, [], ◌∷◌, ◌++◌, take, count_by}
 use Rattle.std.specs.Prelude.{if◌then◌else◌}
 use Rattle.dram_model.specs.Chip.{LogIs}
 use Rattle.dram_model.specs.View.{ChipView, HasBegun}

@@ -1,4 +1,4 @@
-use Rattle.std.proofs.Common.{sym, ◌∙◌, refl, ap}
+use Rattle.std.proofs.Common.{sym, ◌∙◌, ap}
 use Rattle.std.proofs.lemmas.Result.{err_from_is_err_and}
 use Rattle.cli_model.proofs.Doing.{parsed, puts, refused, takes, unloaded, unput, wants}
 use Rattle.cli_model.proofs.Running.{runs_answered, runs_made}

@@ -1,7 +1,6 @@
-use Rattle.std.proofs.Common.{refl, sym, ◌∙◌, ap}
+use Rattle.std.proofs.Common.{sym, ◌∙◌, ap}
 use Rattle.std.proofs.lemmas.Result.{err_from_is_err_and}
 use Rattle.uprog_bin.specs.Opened.{IsProgramFile}
-use Rattle.cli_model.specs.World.{world}
 use Rattle.cli_model.proofs.Doing.{parsed, refused, unloaded}
 use Rattle.cli_model.proofs.Running.{runs_made}
 use Rattle.simdram_cli.specs.declared.words.TheConstants.{PROG_MAX}

@@ -1,9 +1,7 @@
-use Rattle.std.proofs.Common.{map, sym}
+use Rattle.std.proofs.Common.{sym}
 use Rattle.std.proofs.lemmas.Result.{err_from_is_err_and}
 use Rattle.object_alloc.specs.Spelling.{rows_in}
 use Rattle.object_alloc.specs.Exact.{found_in}
-use Rattle.bbop_isa.specs.Forms.{view_of}
-use Rattle.cli_model.specs.World.{world}
 use Rattle.simdram_cli.specs.Flips.{guarded_image_of}
 use Rattle.simdram_cli.specs.Inputs.{image_found}
 use Rattle.simdram_cli.specs.declared.words.TheConstants.{IMAGE_MAX}

@@ -1,6 +1,5 @@
 use Rattle.std.proofs.Common.{arith, map}
 use Rattle.std.proofs.lemmas.Result.{err_from_is_err_and}
-use Rattle.std.proofs.lemmas.List.{length-map}
 use Rattle.object_alloc.specs.Spelling.{rows_in}
 use Rattle.object_alloc.specs.Exact.{found_in}
 use Rattle.bbop_isa.specs.Forms.{view_of}

@@ -1,8 +1,7 @@
-use Rattle.std.proofs.Common.{sym, ◌∙◌, refl}
+use Rattle.std.proofs.Common.{sym, ◌∙◌}
 use Rattle.std.proofs.lemmas.Result.{err_from_is_err_and}
 use Rattle.op_text.specs.Language.{operations}
 use Rattle.op_print.specs.Canonical.{canonical_text}
-use Rattle.cli_model.specs.World.{world}
 use Rattle.cli_model.proofs.Doing.{puts, takes, unput, unread, wants}
 use Rattle.simdram_cli.specs.Inputs.{ops_in}
 use Rattle.simdram_cli.specs.declared.words.TheConstants.{OPS_MAX}

@@ -1,4 +1,4 @@
-use Rattle.std.proofs.Common.{◌≡◌, ◌+◌, ◌*◌, ◌<◌, ◌≤◌, arith, length, sym, ◌∙◌, ap, map, drop}
+use Rattle.std.proofs.Common.{◌+◌, ◌<◌, arith, length, ◌∙◌, map, drop}
 use Rattle.std.proofs.lemmas.Result.{err_from_is_err_and}
 use Rattle.std.proofs.lemmas.List.{drop_all, length-drop, length-map}
 use Rattle.bbop_isa.specs.Forms.{view_of}
