@@ -124,9 +124,12 @@ fn fewest(
     Ok(best)
 }
 
-/// How many other graphs are counted.
+/// How many other graphs are counted. A graph of one node has none that is better.
 fn most_counted(m: &MigOuts) -> u8 {
-    if m.mig.size() > m.mig.inputs() as u32 + FEW_NODES {
+    let nodes = m.mig.size().saturating_sub(m.mig.inputs() as u32 + 1);
+    if nodes < 2 {
+        0
+    } else if nodes > FEW_NODES {
         4
     } else {
         8

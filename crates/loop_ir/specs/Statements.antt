@@ -1,6 +1,7 @@
 -- Where the names of a statement lie.
-use Rattle.std.specs.Prelude.{◌≡◌, ◌⊎◌, ℕ, ◌+◌, ◌<◌, ◌≤◌, Bool, true, false, not, ◌&&◌, ◌||◌, List, []}
-use Rattle.std.specs.Prelude.{◌∷◌, ◌++◌, map, filter, length, Option, Some, None, is_some, bytes_eq}
+use Rattle.std.specs.Prelude.{◌≡◌, ◌⊎◌, ℕ, ◌+◌, ◌<◌, ◌≤◌, Bool, true, false, not, ◌&&◌, ◌||◌}
+use Rattle.std.specs.Prelude.{List, [], ◌∷◌, ◌++◌, map, filter, length, Option, Some, None}
+use Rattle.std.specs.Prelude.{is_some, bytes_eq}
 use Rattle.std.specs.List.{AllByRecursion}
 use Rattle.std.specs.Option.{option_to_list}
 use Rattle.indexmap.specs.IndexMap.{get}
@@ -147,8 +148,8 @@ AreDistinct (name ∷ names) = (is_among names name ≡ false) × AreDistinct na
 abbrev pub is_readable : Slots → List Equation → List ℕ → Bool
 is_readable slots lets name = is_some (slots name) && not (is_among (targets_of lets) name)
 
--- A block meets the rules: its limits, its states with bits and its other targets with words that it
--- does not read
+-- A block meets the rules: its limits, its states with bits and its other targets with words that
+-- it does not read
 pub record BlockMeets (slots : Slots) (b : Block) : Type 0 where
   pub states : length b.states ≤ MAX_STATES
   pub lets : length b.lets ≤ MAX_LETS

@@ -58,8 +58,8 @@ abbrev pub together : List (List Uop) → List Uop
 together [] = []
 together (p ∷ ps) = p ++ together ps
 
--- The code is so many parts of at most 256 instructions each, one after another, and DONE. The first
--- parts, however many, and DONE do the rounds of as many statements
+-- The code is so many parts of at most 256 instructions each, one after another, and DONE. The
+-- first parts, however many, and DONE do the rounds of as many statements
 pub record HasParts (count : ℕ) (head : Shape) (statements : List (List (StepOf Block)))
     (code : List Uop) : Type 0 where
   pub parts : List (List Uop)

@@ -1,0 +1,72 @@
+#!/usr/bin/env python3
+"""Row commands of serial blocks that are written as one would write them, beside what the reduction alone gave.
+
+Run it at the top of the repository, after the program was built once:  python3 bench/blocks.py
+It compiles each text of bench/blocks, asks `cost` at n = 8 and n = 32, and prints the commands that each position takes:
+those of the reduced graph, without the search for other graphs (`known.csv`), those now, and the fewest that are known.
+It ends with 1 where a text takes more than the reduced graph took, or where full adders or subtractors take more than
+8n + 1 or 7n + 1.
+"""
+
+import csv
+import pathlib
+import re
+import subprocess
+import sys
+import tempfile
+
+HERE = pathlib.Path(__file__).resolve().parent
+TEXTS = HERE / "blocks"
+PROGRAM = HERE.parent / "simdram"
+WIDTHS = (8, 32)
+CEILINGS = {"fa_": 8, "sub_": 7}
+ROW = "| {:11} | {:>5} | {:>5} | {:>7} | {:>4} | {:>5} | {:>7} | {:>5} |"
+
+
+def costs(folder, text):
+    """The commands of a text's op at each width."""
+    prog = pathlib.Path(folder) / "prog"
+    subprocess.run([PROGRAM, "compile", text, prog], check=True, capture_output=True)
+    counts = []
+    for width in WIDTHS:
+        said = subprocess.run([PROGRAM, "cost", prog, str(width)], check=True, capture_output=True, text=True).stdout
+        counts.append(sum(int(count) for count in re.findall(r"\b(?:aap|ap)=(\d+)", said)))
+    return counts
+
+
+def a_position(counts):
+    """The commands of one position, from those at both widths."""
+    return (counts[1] - counts[0]) // (WIDTHS[1] - WIDTHS[0])
+
+
+def is_more(name, now, before):
+    """Whether an op takes more than it may."""
+    ceilings = [most for start, most in CEILINGS.items() if name.startswith(start)]
+    return any(a > b for a, b in zip(now, before)) or any(
+        count > most * width + 1 for most in ceilings for count, width in zip(now, WIDTHS)
+    )
+
+
+def main():
+    """Prints the table; the status."""
+    rows = list(csv.DictReader((TEXTS / "known.csv").read_text(encoding="utf-8").splitlines()))
+    sums, status = [0, 0, 0], 0
+    print(ROW.format("block", "nodes", "least", "reduced", "now", "least", "n8 now", "n32"))
+    with tempfile.TemporaryDirectory() as folder:
+        for row in rows:
+            name = row["op"]
+            before = [int(row["n8_reduced"]), int(row["n32_reduced"])]
+            least = [int(row["n8_least"]), int(row["n32_least"])]
+            now = costs(folder, TEXTS / f"{name}.ops")
+            if is_more(name, now, before):
+                status = 1
+                print(f"{name}: more than it may take", file=sys.stderr)
+            sums = [a + b for a, b in zip(sums, (before[0], now[0], least[0]))]
+            shown = [a_position(counts) for counts in (before, now, least)]
+            print(ROW.format(name, row["nodes_reduced"], row["nodes_least"], *shown, *now))
+    print(f"at n = {WIDTHS[0]} all together: {sums[0]} reduced, {sums[1]} now, {sums[2]} the fewest that are known")
+    return status
+
+
+if __name__ == "__main__":
+    sys.exit(main())
