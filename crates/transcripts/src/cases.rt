@@ -16,9 +16,12 @@ pub fn named(line: &str) -> Option<&str> {
     line.strip_prefix("== ")
 }
 
-/// Whether a line says what came: an answer, a line that was sent, or a file that was stored.
+/// Whether a line says what came: an answer, a line that was sent, or a file that was stored. One
+/// that begins with `==` names a case, or is not read.
 pub fn is_came(line: &str) -> bool {
-    line.starts_with('=') && named(line).is_none() || line.starts_with('>') || line.starts_with('+')
+    line.starts_with('=') && !line.starts_with("==")
+        || line.starts_with('>')
+        || line.starts_with('+')
 }
 
 /// Whether a line is for the reader alone.
@@ -26,51 +29,65 @@ pub fn is_comment(line: &str) -> bool {
     line.is_empty() || line.starts_with('#')
 }
 
-/// The lines of a text.
+/// The lines of a text. A carriage return is a character of its line.
 pub fn lines_of(text: &str, alloc: Global) -> Result<Vec<&str>, AllocError> {
     let mut lines = Vec::new(alloc);
-    for line in text.lines() {
-        lines.push(line)?;
+    if !text.is_empty() {
+        for line in text.strip_suffix('\n').unwrap_or(text).split('\n') {
+            lines.push(line)?;
+        }
     }
     Ok(lines)
 }
 
-/// Where cases begin.
-fn starts(lines: &[&str], alloc: Global) -> Result<Vec<usize>, AllocError> {
-    let mut places = Vec::new(alloc);
-    for (place, line) in lines.iter().enumerate() {
+/// The lines from a place up to the next case.
+fn own_lines<'a>(lines: &'a [&'a str], start: usize) -> &'a [&'a str] {
+    let mut end = start.saturating_add(1);
+    for line in lines.get(end..).unwrap_or(&[]) {
         if named(line).is_some() {
-            places.push(place)?;
+            break;
         }
+        end = end.saturating_add(1);
     }
-    Ok(places)
+    lines.get(start..end).unwrap_or(&[])
 }
 
 /// The cases, in order. Lines before the first belong to none.
 pub fn cases_of<'a>(lines: &'a [&'a str], alloc: Global) -> Result<Vec<Case<'a>>, AllocError> {
-    let places = starts(lines, alloc)?;
     let mut cases = Vec::new(alloc);
-    for (k, start) in places.iter().enumerate() {
-        let end = places
-            .get(k.saturating_add(1))
-            .copied()
-            .unwrap_or(lines.len());
-        let own = lines.get(*start..end).unwrap_or(&[]);
-        let name = own.first().and_then(|line| named(line)).unwrap_or("");
-        cases.push(Case {
-            name,
-            first: start.saturating_add(1),
-            lines: own,
-        })?;
+    for (place, line) in lines.iter().enumerate() {
+        if let Some(name) = named(line) {
+            cases.push(Case {
+                name,
+                first: place.saturating_add(1),
+                lines: own_lines(lines, place),
+            })?;
+        }
     }
     Ok(cases)
 }
 
+/// How many of the cases have a name.
+pub fn with_name(cases: &[Case<'_>], name: &str) -> usize {
+    let mut count: usize = 0;
+    for case in cases {
+        if case.name == name {
+            count = count.saturating_add(1);
+        }
+    }
+    count
+}
+
 /// How many lines there are before the first case that are not for the reader alone.
 pub fn strays(lines: &[&str]) -> usize {
-    lines
-        .iter()
-        .take_while(|line| named(line).is_none())
-        .filter(|line| !is_comment(line))
-        .count()
+    let mut count: usize = 0;
+    for line in lines {
+        if named(line).is_some() {
+            break;
+        }
+        if !is_comment(line) {
+            count = count.saturating_add(1);
+        }
+    }
+    count
 }

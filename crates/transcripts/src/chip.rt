@@ -3,40 +3,36 @@
 use crate::sent::Sent;
 use dram_chip::{Addr, BeginNo, ChipFault, Command, Counters, Dram, FailingChip, Geometry};
 use std::alloc::Global;
+use std::mem;
 
-/// The row commands and row writes that were done, in order.
-#[derive(Drop)]
-struct Heard {
-    sent: Vec<Sent>,
-}
-
-impl Heard {
-    /// Keeps it after the others; where there is no memory for it, the list is too short.
-    fn hear(&mut self, sent: Sent) {
-        let _ = self.sent.push(sent);
-    }
+/// Keeps it after the others; where there is no memory for it, the list is too short.
+fn hear(heard: &mut Vec<Sent>, sent: Sent) {
+    let _ = heard.push(sent);
 }
 
 /// It shows what the chip within shows, and so tells no log.
-#[derive(Drop)]
 pub struct ListeningChip {
     chip: FailingChip,
-    heard: Heard,
+    heard: Vec<Sent>,
+}
+
+impl Drop for ListeningChip {
+    fn drop(self) {
+        let ListeningChip { chip: _, heard: _ } = self;
+    }
 }
 
 impl ListeningChip {
     pub fn new(failing: Vec<u64>, alloc: Global) -> ListeningChip {
         ListeningChip {
             chip: FailingChip::new(alloc, failing),
-            heard: Heard {
-                sent: Vec::new(alloc),
-            },
+            heard: Vec::new(alloc),
         }
     }
 
-    /// What was done.
-    pub fn into_sent(self) -> Vec<Sent> {
-        self.heard.sent
+    /// The row commands and row writes that were done, in order; none are left.
+    pub fn take_heard(&mut self, alloc: Global) -> Vec<Sent> {
+        mem::replace(&mut self.heard, Vec::new(alloc))
     }
 }
 
@@ -57,19 +53,19 @@ impl Dram for ListeningChip {
 
     fn aap(&mut self, bank: u16, x: Addr, y: Addr) -> Result<(), ChipFault> {
         self.chip.aap(bank, x, y)?;
-        self.heard.hear(Sent::Command(bank, Command::Aap(x, y)));
+        hear(&mut self.heard, Sent::Command(bank, Command::Aap(x, y)));
         Ok(())
     }
 
     fn ap(&mut self, bank: u16, x: Addr) -> Result<(), ChipFault> {
         self.chip.ap(bank, x)?;
-        self.heard.hear(Sent::Command(bank, Command::Ap(x)));
+        hear(&mut self.heard, Sent::Command(bank, Command::Ap(x)));
         Ok(())
     }
 
     fn write_row(&mut self, bank: u16, row: u16, words: &[u64]) -> Result<(), ChipFault> {
         self.chip.write_row(bank, row, words)?;
-        self.heard.hear(Sent::Write(bank, row));
+        hear(&mut self.heard, Sent::Write(bank, row));
         Ok(())
     }
 

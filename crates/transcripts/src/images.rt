@@ -1,6 +1,7 @@
 //! Image files: their numbers and rows, and images that are made of numbers.
 
-use crate::numbers::{Given, given_of};
+use crate::numbers::decimal;
+use crate::plain::{drawn, next_word, ones};
 use crate::stop::Stop;
 use std::alloc::Global;
 
@@ -20,14 +21,17 @@ struct Shape {
 
 /// An object's first row, its rows, and its elements.
 #[derive(Clone, Copy)]
-struct Object {
+pub struct Object {
     base: usize,
-    width: usize,
-    count: usize,
+    pub width: usize,
+    pub count: usize,
 }
 
 fn byte_at(bytes: &[u8], place: usize) -> usize {
-    bytes.get(place).copied().map(usize::from).unwrap_or(0)
+    match bytes.get(place) {
+        Some(byte) => usize::from(*byte),
+        None => 0,
+    }
 }
 
 /// The number in so many bytes, the low byte first.
@@ -96,12 +100,18 @@ fn has_name(image: &[u8], k: usize, name: &str) -> bool {
 }
 
 /// The object of a name.
-fn find(image: &[u8], name: &str) -> Option<Object> {
-    let at = (0..shape_of(image).objects).find(|k| has_name(image, *k, name))?;
-    Some(object_at(image, at))
+pub fn object_of(image: &[u8], name: &str) -> Result<Object, Stop> {
+    for k in 0..shape_of(image).objects {
+        if has_name(image, k, name) {
+            return Ok(object_at(image, k));
+        }
+    }
+    Err(Stop::Unread)
 }
 
-fn number_of(image: &[u8], shape: Shape, object: Object, e: usize) -> u128 {
+/// The number of an object's element e.
+pub fn number_of(image: &[u8], object: Object, e: usize) -> u128 {
+    let shape = shape_of(image);
     let mut number: u128 = 0;
     for k in (0..object.width).rev() {
         let (place, bit) = shape.bit(object, e, k);
@@ -111,28 +121,25 @@ fn number_of(image: &[u8], shape: Shape, object: Object, e: usize) -> u128 {
     number
 }
 
-/// The width of an object of an image, and its elements' numbers.
-pub fn numbers_in(image: &[u8], name: &str, alloc: Global) -> Result<(usize, Vec<u128>), Stop> {
-    let object = find(image, name).ok_or(Stop::Unread)?;
-    let shape = shape_of(image);
+/// The numbers of an object's elements.
+pub fn numbers_in(image: &[u8], object: Object, alloc: Global) -> Result<Vec<u128>, Stop> {
     let mut numbers = Vec::new(alloc);
     for e in 0..object.count {
-        numbers.push(number_of(image, shape, object, e))?;
+        numbers.push(number_of(image, object, e))?;
     }
-    Ok((object.width, numbers))
+    Ok(numbers)
 }
 
-/// An image of so many banks, rows and words, without objects and with zero rows.
-pub fn empty_image(banks: u16, rows: u16, words: u16, alloc: Global) -> Result<Vec<u8>, Stop> {
-    let mut image = Vec::new(alloc);
-    image.extend_from_slice(b"SDMI\x01\x00")?;
-    image.extend_from_slice(&banks.to_le_bytes())?;
-    image.extend_from_slice(&rows.to_le_bytes())?;
-    image.extend_from_slice(&words.to_le_bytes())?;
-    image.extend_from_slice(&[0, 0])?;
-    let end = shape_of(&image).row(usize::from(banks), 0);
-    image.resize(end, 0)?;
-    Ok(image)
+/// Makes the file an image of so many banks, rows and words, without objects and with zero rows.
+pub fn put_empty_image(file: &mut Vec<u8>, shape: [u16; 3]) -> Result<(), Stop> {
+    file.extend_from_slice(b"SDMI\x01\x00")?;
+    for number in shape {
+        file.extend_from_slice(&number.to_le_bytes())?;
+    }
+    file.extend_from_slice(&[0, 0])?;
+    let end = shape_of(file).row(usize::from(shape[0]), 0);
+    file.resize(end, 0)?;
+    Ok(())
 }
 
 /// The row after those of the last object.
@@ -146,14 +153,63 @@ fn next_base(image: &[u8]) -> usize {
     }
 }
 
+/// An object as a case writes it: its name, its width, how many elements it has, and the numbers of
+/// its first elements, or the seed of numbers for all.
+#[derive(Clone, Copy)]
+struct Given<'a> {
+    name: &'a str,
+    width: u8,
+    count: u32,
+    numbers: &'a str,
+    seed: &'a str,
+}
+
+/// How many numbers stand between commas.
+fn listed(numbers: &str) -> Result<u32, Stop> {
+    let mut count: u32 = 0;
+    if !numbers.is_empty() {
+        for _number in numbers.split(',') {
+            count = count.checked_add(1).ok_or(Stop::Unread)?;
+        }
+    }
+    Ok(count)
+}
+
+/// The object of `NAME:WIDTH=NUMBERS`, `NAME:WIDTH/COUNT`, `NAME:WIDTH/COUNT=NUMBERS`, or
+/// `NAME:WIDTH/COUNT~SEED` of drawn numbers.
+fn given_of(text: &str) -> Result<Given<'_>, Stop> {
+    let (name, rest) = text.split_once(':').ok_or(Stop::Unread)?;
+    let (front, numbers) = rest.split_once('=').unwrap_or((rest, ""));
+    let (size, seed) = front.split_once('~').unwrap_or((front, ""));
+    let (width, count) = size.split_once('/').unwrap_or((size, ""));
+    let width = decimal(width)?;
+    let listed = listed(numbers)?;
+    let count = if count.is_empty() {
+        listed
+    } else {
+        decimal(count)?
+    };
+    let is_fit = 0 < width && width <= 128 && name.len() <= 16 && listed <= count;
+    if !is_fit || !numbers.is_empty() && !seed.is_empty() {
+        return Err(Stop::Unread);
+    }
+    Ok(Given {
+        name,
+        width,
+        count,
+        numbers,
+        seed,
+    })
+}
+
 /// The record of an object.
-fn record_of(name: &str, given: &Given, base: usize) -> [u8; RECORD] {
+fn record_of(given: &Given<'_>, base: usize) -> [u8; RECORD] {
     let mut record = [0u8; RECORD];
-    record[0] = u8::try_from(name.len()).unwrap_or(0);
+    record[0] = u8::try_from(given.name.len()).unwrap_or(0);
     for (place, byte) in record
         .iter_mut()
         .skip(1)
-        .zip(name.as_bytes().iter().take(16))
+        .zip(given.name.as_bytes().iter().take(16))
     {
         *place = *byte;
     }
@@ -180,7 +236,8 @@ fn set_bit(image: &mut [u8], place: usize, bit: usize) {
 }
 
 /// Sets element e, which is 0, to a number.
-fn set_number(image: &mut [u8], shape: Shape, object: Object, e: usize, number: u128) {
+fn set_number(image: &mut [u8], object: Object, e: usize, number: u128) {
+    let shape = shape_of(image);
     for k in 0..object.width {
         if is_one(number, k) {
             let (place, bit) = shape.bit(object, e, k);
@@ -189,13 +246,33 @@ fn set_number(image: &mut [u8], shape: Shape, object: Object, e: usize, number: 
     }
 }
 
-/// Adds an object, given as `NAME:WIDTH/COUNT=NUMBERS`, after the last one's rows.
-pub fn add_object(image: &mut Vec<u8>, text: &str, alloc: Global) -> Result<(), Stop> {
-    let (name, rest) = text.split_once(':').ok_or(Stop::Unread)?;
-    let given = given_of(rest, alloc)?;
-    let record = record_of(name, &given, next_base(image));
+/// Sets the first elements to the numbers between commas, each of which its width can hold.
+fn set_listed(image: &mut [u8], object: Object, given: &Given<'_>) -> Result<(), Stop> {
+    for (e, number) in given.numbers.split(',').enumerate() {
+        let number = decimal(number)?;
+        if ones(given.width) < number {
+            return Err(Stop::Unread);
+        }
+        set_number(image, object, e, number);
+    }
+    Ok(())
+}
+
+/// Sets all elements to numbers drawn with the seed.
+fn set_drawn(image: &mut [u8], object: Object, given: &Given<'_>) -> Result<(), Stop> {
+    let seed: u64 = decimal(given.seed)?;
+    let mut word = seed;
+    for e in 0..object.count {
+        word = next_word(word);
+        set_number(image, object, e, drawn(given.width, seed, e as u64, word));
+    }
+    Ok(())
+}
+
+/// Adds the record after the others, and one to the number of objects.
+fn add_record(image: &mut Vec<u8>, record: [u8; RECORD]) -> Result<(), Stop> {
     let start = shape_of(image).start();
-    if image.len() < start || 16 < name.len() {
+    if image.len() < start {
         return Err(Stop::Unread);
     }
     let rows = image.split_off(start)?;
@@ -205,12 +282,21 @@ pub fn add_object(image: &mut Vec<u8>, text: &str, alloc: Global) -> Result<(), 
     for (place, byte) in image.iter_mut().skip(12).take(2).zip(count) {
         *place = byte;
     }
-    let shape = shape_of(image);
-    let object = object_at(image, shape.objects.saturating_sub(1));
-    for (e, number) in given.numbers.iter().enumerate() {
-        set_number(image, shape, object, e, *number);
-    }
     Ok(())
+}
+
+/// Adds an object after the last one's rows.
+pub fn add_object(image: &mut Vec<u8>, text: &str) -> Result<(), Stop> {
+    let given = given_of(text)?;
+    add_record(image, record_of(&given, next_base(image)))?;
+    let object = object_at(image, shape_of(image).objects.saturating_sub(1));
+    if !given.seed.is_empty() {
+        set_drawn(image, object, &given)
+    } else if !given.numbers.is_empty() {
+        set_listed(image, object, &given)
+    } else {
+        Ok(())
+    }
 }
 
 /// The bytes of a row of a bank.

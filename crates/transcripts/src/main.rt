@@ -11,6 +11,7 @@ mod numbers;
 mod plain;
 mod play;
 mod report;
+mod said;
 mod sent;
 mod stop;
 mod tables;
@@ -42,22 +43,34 @@ fn case_files(rt: &HostRuntime) -> io::Result<Vec<String>> {
     Ok(names)
 }
 
-/// With the words `rewrite FILE` and perhaps the name of a case, prints the file as it would have
-/// to be written; else a line for each case file, and each difference.
-fn main(rt: HostRuntime) -> io::Result<ExitCode> {
-    let words = words_of(&rt)?;
-    let mut texts = words.iter();
-    if let (Some(verb), Some(file)) = (texts.next(), texts.next())
-        && verb.as_str() == "rewrite"
-    {
-        rewrite(&rt, file.as_str(), texts.next().map(|name| name.as_str()))?;
-        return Ok(ExitCode::from(0));
-    }
+/// Goes through the case files, and prints what differs; the status.
+fn compare_files(rt: &HostRuntime) -> io::Result<u8> {
     let mut status = 0;
-    for name in &case_files(&rt)? {
-        if !compare_all(&rt, name.as_str())? {
+    for name in &case_files(rt)? {
+        if !compare_all(rt, name.as_str())? {
             status = 1;
         }
     }
-    Ok(ExitCode::from(status))
+    Ok(status)
+}
+
+/// With the words `rewrite FILE` and perhaps the name of a case, prints the file as it would have
+/// to be written; else a line for each case file, and each difference.
+fn run(rt: &HostRuntime, words: &[String]) -> io::Result<u8> {
+    match words {
+        [verb, file] if verb.as_str() == "rewrite" => {
+            rewrite(rt, file.as_str(), None)?;
+            Ok(0)
+        }
+        [verb, file, name] if verb.as_str() == "rewrite" => {
+            rewrite(rt, file.as_str(), Some(name.as_str()))?;
+            Ok(0)
+        }
+        _ => compare_files(rt),
+    }
+}
+
+fn main(rt: HostRuntime) -> io::Result<ExitCode> {
+    let words = words_of(&rt)?;
+    Ok(ExitCode::from(run(&rt, &words)?))
 }

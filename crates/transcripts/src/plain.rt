@@ -1,10 +1,9 @@
 //! Plain arithmetic: numbers that are drawn, and what the word operations give of them.
 
 use crate::stop::Stop;
-use std::alloc::{AllocError, Global};
 
 /// All ones at width n, from 1 to 128.
-fn ones(n: u8) -> u128 {
+pub fn ones(n: u8) -> u128 {
     u128::MAX
         .checked_shr(128u32.saturating_sub(u32::from(n)))
         .unwrap_or(0)
@@ -22,23 +21,25 @@ fn long(word: u64) -> u128 {
     high.wrapping_add(u128::from(word ^ (word >> 29)))
 }
 
-/// Numbers below 2^n: corners first, then words of a generator. The corners of two seeds meet in
-/// several pairs, a number over 0 and 0 by the seeds 3 and 5 among them.
-pub fn drawn(n: u8, seed: u64, count: u64, alloc: Global) -> Result<Vec<u128>, AllocError> {
+/// The next word of the generator.
+pub fn next_word(word: u64) -> u64 {
+    word.wrapping_mul(6_364_136_223_846_793_005)
+        .wrapping_add(1_442_695_040_888_963_407)
+}
+
+/// Drawn number k below 2^n, where the generator with this seed has given the word: corners first,
+/// then words. The corners of two seeds meet in several pairs, a number over 0 and 0 by the seeds 3
+/// and 5 among them.
+pub fn drawn(n: u8, seed: u64, k: u64, word: u64) -> u128 {
     let all = ones(n);
     let corners = [0, 1, all, half(n), all / 2, all ^ 1, 7, 200];
-    let mut numbers = Vec::new(alloc);
-    let mut word = seed;
-    for k in 0..count {
-        word = word
-            .wrapping_mul(6_364_136_223_846_793_005)
-            .wrapping_add(1_442_695_040_888_963_407);
-        let place = k.wrapping_mul(seed).wrapping_add(k / 8) % 8;
-        let corner = corners.get(place as usize).copied().unwrap_or(0);
-        let number = if k < 24 { corner } else { long(word) };
-        numbers.push(number & all)?;
-    }
-    Ok(numbers)
+    let place = k.wrapping_mul(seed).wrapping_add(k / 8) % 8;
+    let corner = match corners.get(place as usize) {
+        Some(corner) => *corner,
+        None => 0,
+    };
+    let number = if k < 24 { corner } else { long(word) };
+    number & all
 }
 
 /// The value of an operation of one or two words of n bits.

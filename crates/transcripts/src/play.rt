@@ -1,221 +1,265 @@
 //! A case, done line by line: its text as it would have to be written.
 
 use crate::cases::{Case, is_came, is_comment, named};
-use crate::directives::{Rows, do_line, do_row};
+use crate::directives::{Rows, do_line, do_row, rows_after};
+use crate::said::Said;
 use crate::stop::Stop;
-use crate::tables::{Group, emptied, fill, range_of, values_of};
+use crate::tables::{Group, count_of, fill, put_emptied, put_value, range_of};
 use crate::world::World;
 use std::alloc::{AllocError, Global};
 
-/// What came of a case: its lines with what came in the place of what is written, whether each line
-/// was read, and whether it has a command.
-#[derive(Drop)]
-pub struct Came {
-    pub text: String,
+/// A case that is being done: what stands, its lines with what came in the place of what is
+/// written, whether each line was read, and whether it has a command.
+pub struct Play<'a> {
+    world: World,
+    said: Said,
     pub is_read: bool,
     pub has_command: bool,
-}
-
-/// A case that is being done.
-#[derive(Drop)]
-struct Play<'a> {
-    world: World,
-    came: Came,
+    /// What rows are, and the file that they belong to.
     rows: Rows,
-    /// The file that rows belong to.
     file: &'a str,
-    /// Whether the lines are those of a table, and then these.
+    /// Whether the lines are those of a table, then these, and whether it has rows yet.
     in_table: bool,
     table: Vec<&'a str>,
+    has_rows: bool,
     alloc: Global,
 }
 
-/// Does a case.
-pub fn play_case(case: &Case<'_>, alloc: Global) -> Result<Came, AllocError> {
-    let mut play = Play {
-        world: World::new(alloc),
-        came: Came {
-            text: String::new(alloc),
-            is_read: true,
-            has_command: false,
-        },
-        rows: Rows::No,
-        file: "",
-        in_table: false,
-        table: Vec::new(alloc),
-        alloc,
-    };
-    for line in case.lines {
-        play.line(line)?;
+impl Drop for Play<'_> {
+    fn drop(self) {
+        let Play {
+            world: _,
+            said: _,
+            is_read: _,
+            has_command: _,
+            rows: _,
+            file: _,
+            in_table: _,
+            table: _,
+            has_rows: _,
+            alloc: _,
+        } = self;
     }
-    Ok(play.into_came())
 }
 
-/// What is left of a line that could not be done; want of memory ends all.
-fn unread(outcome: Result<(), Stop>) -> Result<bool, AllocError> {
-    match outcome {
-        Ok(()) => Ok(false),
-        Err(Stop::Unread) => Ok(true),
-        Err(Stop::Memory) => Err(AllocError),
+/// Says of a line that could not be done that it is not read; whether it was done.
+fn note(said: &mut Said, done: Result<(), Stop>) -> bool {
+    match done {
+        Ok(()) => true,
+        Err(Stop::Unread) => {
+            said.put("= not read\n");
+            false
+        }
+        Err(Stop::Memory) => {
+            said.lack();
+            false
+        }
     }
+}
+
+/// Does the lines of a table for a value, after which no call is left to fail; whether each was
+/// read.
+fn do_lines(world: &mut World, table: &[&str], value: &str, said: &mut Said) -> bool {
+    let mut filled = Said::new(world.alloc);
+    let mut is_read = true;
+    for line in table {
+        filled.clear();
+        fill(&mut filled, line, value);
+        let done = do_line(world, filled.as_str(), said);
+        is_read &= note(said, done);
+    }
+    is_read && !(world.is_failing() && !note(said, Err(Stop::Unread)))
 }
 
 impl<'a> Play<'a> {
-    fn into_came(self) -> Came {
-        self.came
+    pub fn new(alloc: Global) -> Play<'a> {
+        Play {
+            world: World::new(alloc),
+            said: Said::new(alloc),
+            is_read: true,
+            has_command: false,
+            rows: Rows::No,
+            file: "",
+            in_table: false,
+            table: Vec::new(alloc),
+            has_rows: false,
+            alloc,
+        }
     }
 
-    fn put(&mut self, line: &str) -> Result<(), AllocError> {
-        self.came.text.push_str(line)?;
-        self.came.text.push_str("\n")
+    /// Does a case.
+    pub fn play(&mut self, case: &Case<'a>) {
+        for line in case.lines {
+            self.line(line);
+        }
+        self.end_table();
+        if self.world.is_failing() {
+            self.note(Err(Stop::Unread));
+        }
     }
 
-    /// Does the next line.
-    fn line(&mut self, line: &'a str) -> Result<(), AllocError> {
+    /// Its text.
+    pub fn text(&self) -> Result<&str, AllocError> {
+        self.said.whole()
+    }
+
+    /// Notes whether a line was done.
+    fn note(&mut self, done: Result<(), Stop>) {
+        self.is_read &= note(&mut self.said, done);
+    }
+
+    /// Does the next line. One with a carriage return is not read.
+    fn line(&mut self, line: &'a str) {
         if is_came(line) {
-            return Ok(());
+            return;
         }
-        let row = line
-            .strip_prefix('|')
-            .map(|row| row.strip_prefix(' ').unwrap_or(row));
-        match row {
-            Some(row) if self.in_table => self.table_row(row),
-            Some(row) => {
-                self.put(line)?;
-                self.row(row)
-            }
-            None => {
-                self.put(line)?;
-                self.other(line)
-            }
+        if line.contains('\r') {
+            self.said.put_line(line);
+            self.note(Err(Stop::Unread));
+            return;
+        }
+        match line.strip_prefix('|') {
+            Some(row) => self.row(line, row.strip_prefix(' ').unwrap_or(row)),
+            None => self.other(line),
         }
     }
 
-    /// A row of the line before.
-    fn row(&mut self, row: &str) -> Result<(), AllocError> {
-        let outcome = do_row(&mut self.world, self.rows, self.file, row);
-        self.note(unread(outcome)?)
-    }
-
-    /// Says that a line was not read.
-    fn note(&mut self, is_unread: bool) -> Result<(), AllocError> {
-        if is_unread {
-            self.came.is_read = false;
-            self.put("= not read")?;
+    /// A row: of a table, or of the line before.
+    fn row(&mut self, line: &str, row: &str) {
+        if self.in_table {
+            self.table_row(row);
+        } else {
+            self.said.put_line(line);
+            let done = do_row(&mut self.world, self.rows, self.file, row);
+            self.note(done);
         }
-        Ok(())
     }
 
-    /// A line that is no row: the next of a table's, or one that is done at once.
-    fn other(&mut self, line: &'a str) -> Result<(), AllocError> {
+    /// A line that is no row.
+    fn other(&mut self, line: &'a str) {
         if is_comment(line) || named(line).is_some() {
-            return Ok(());
+            self.said.put_line(line);
+            return;
         }
         if line.starts_with('$') || line.starts_with("  $") {
-            self.came.has_command = true;
-        }
-        if line == "table" {
-            self.in_table = true;
-            self.table.clear();
-            return Ok(());
+            self.has_command = true;
         }
         match line.strip_prefix("  ") {
-            Some(own) if self.in_table => {
-                self.table.push(own)?;
-                Ok(())
-            }
+            Some(own) if self.in_table => self.table_line(line, own),
             _ => self.at_once(line),
         }
     }
 
-    /// Does a line, which ends a table.
-    fn at_once(&mut self, line: &'a str) -> Result<(), AllocError> {
+    /// A line of a table.
+    fn table_line(&mut self, line: &str, own: &'a str) {
+        self.said.put_line(line);
+        if self.has_rows {
+            self.note(Err(Stop::Unread));
+        }
+        if self.table.push(own).is_err() {
+            self.said.lack();
+        }
+    }
+
+    /// Begins a table, or does a line; both end a table before it.
+    fn at_once(&mut self, line: &'a str) {
+        self.end_table();
+        self.said.put_line(line);
+        if line == "table" {
+            self.in_table = true;
+            self.has_rows = false;
+            self.table.clear();
+            return;
+        }
+        let done = do_line(&mut self.world, line, &mut self.said);
+        self.note(done);
+        let (rows, file) = rows_after(line);
+        self.rows = rows;
+        self.file = file;
+    }
+
+    /// Ends a table, which has to have rows.
+    fn end_table(&mut self) {
+        if self.in_table && !self.has_rows {
+            self.note(Err(Stop::Unread));
+        }
         self.in_table = false;
-        let is_unread = match do_line(&mut self.world, line, &mut self.came.text) {
-            Ok((rows, file)) => {
-                self.rows = rows;
-                self.file = file;
-                false
-            }
-            Err(stop) => unread(Err(stop))?,
-        };
-        self.note(is_unread)
+        self.rows = Rows::No;
     }
 
     /// What comes of the table's lines for a value. The world is as before after it.
-    fn answer(&mut self, value: &str) -> Result<String, AllocError> {
-        let mut world = self.world.copy()?;
-        let mut said = String::new(self.alloc);
-        for line in &self.table {
-            let line = fill(line, value, self.alloc)?;
-            let outcome = do_line(&mut world, line.as_str(), &mut said).map(|_| ());
-            if unread(outcome)? {
-                self.came.is_read = false;
-                said.push_str("= not read\n")?;
-            }
+    fn answer(&mut self, value: &str, said: &mut Said) {
+        let mut world = World::new(self.alloc);
+        if self.world.copy_files(&mut world).is_err() {
+            said.lack();
         }
-        Ok(said)
+        self.is_read &= do_lines(&mut world, &self.table, value, said);
     }
 
-    /// A row of a table.
-    fn table_row(&mut self, row: &str) -> Result<(), AllocError> {
-        match range_of(row) {
-            Some((first, last)) => self.range_row(first, last),
-            None => self.value_row(row),
+    /// A row of a table, which has to have lines and to give values.
+    fn table_row(&mut self, row: &str) {
+        self.has_rows = true;
+        if self.table.is_empty() || count_of(row) == 0 {
+            self.put_row(row);
+            self.note(Err(Stop::Unread));
+        } else if let Some((first, last)) = range_of(row) {
+            self.range_row(first, last);
+        } else {
+            self.value_row(row);
         }
     }
 
     /// A row for numbers: one for each group of neighbours for which the same came.
-    fn range_row(&mut self, first: u64, last: u64) -> Result<(), AllocError> {
-        let mut group: Option<Group> = None;
+    fn range_row(&mut self, first: u64, last: u64) {
+        let mut group = Group::new(self.alloc);
+        let mut value = Said::new(self.alloc);
+        let mut plain = Said::new(self.alloc);
+        let mut empty = Said::new(self.alloc);
         for number in first..=last {
-            let value = format!(in self.alloc; "{number}")?;
-            let plain = self.answer(value.as_str())?;
-            let empty = emptied(plain.as_str(), value.as_str(), self.alloc)?;
-            if let Some(group) = &mut group
-                && group.takes(number, plain.as_str(), empty.as_str())
-            {
-                continue;
-            }
-            if let Some(ended) = group.replace(Group::new(number, plain, empty)) {
-                ended.put(&mut self.came.text)?;
+            value.clear();
+            value.put_item(number);
+            plain.clear();
+            self.answer(value.as_str(), &mut plain);
+            empty.clear();
+            put_emptied(&mut empty, plain.as_str(), value.as_str(), self.alloc);
+            if !group.takes(number, plain.as_str(), empty.as_str()) {
+                group.put(&mut self.said);
+                group.begin(number, plain.as_str(), empty.as_str());
             }
         }
-        match &group {
-            Some(last) => last.put(&mut self.came.text),
-            None => self.note(true),
-        }
+        group.put(&mut self.said);
     }
 
     /// A row for a value, or for all that its ranges give: one where the same came of all.
-    fn value_row(&mut self, row: &str) -> Result<(), AllocError> {
-        let mut rows = String::new(self.alloc);
-        let mut common: Option<String> = None;
+    fn value_row(&mut self, row: &str) {
+        let mut value = Said::new(self.alloc);
+        let mut answer = Said::new(self.alloc);
+        let mut common = Said::new(self.alloc);
+        let mut rows = Said::new(self.alloc);
         let mut is_common = true;
-        for value in &values_of(row, self.alloc)? {
-            let said = self.answer(value.as_str())?;
-            rows.push_str("| ")?;
-            rows.push_str(value.as_str())?;
-            rows.push_str("\n")?;
-            rows.push_str(said.as_str())?;
-            is_common &= common
-                .as_ref()
-                .is_none_or(|first| first.as_str() == said.as_str());
-            if common.is_none() {
-                common = Some(said);
+        for place in 0..count_of(row) {
+            value.clear();
+            put_value(&mut value, row, place);
+            answer.clear();
+            self.answer(value.as_str(), &mut answer);
+            rows.put("| ");
+            rows.put_line(value.as_str());
+            rows.put(answer.as_str());
+            if place == 0 {
+                common.put(answer.as_str());
             }
+            is_common &= common.as_str() == answer.as_str();
         }
-        match common {
-            Some(said) if is_common => {
-                self.put_row(row)?;
-                self.came.text.push_str(said.as_str())
-            }
-            _ => self.came.text.push_str(rows.as_str()),
+        if is_common {
+            self.put_row(row);
+            self.said.put(common.as_str());
+        } else {
+            self.said.put(rows.as_str());
         }
     }
 
-    fn put_row(&mut self, row: &str) -> Result<(), AllocError> {
-        self.came.text.push_str("| ")?;
-        self.put(row)
+    fn put_row(&mut self, row: &str) {
+        self.said.put("| ");
+        self.said.put_line(row);
     }
 }

@@ -1,7 +1,7 @@
 //! Rows of a table: the values that stand for `{}` in its lines.
 
-use std::alloc::{AllocError, Global};
-use std::fmt::Write;
+use crate::said::Said;
+use std::alloc::Global;
 
 /// What a piece of a line that follows `{` begins with, where that is a hole, and the rest.
 fn filled<'a>(piece: &'a str, value: &'a str) -> (&'a str, &'a str) {
@@ -17,127 +17,156 @@ fn filled<'a>(piece: &'a str, value: &'a str) -> (&'a str, &'a str) {
     ("{", piece)
 }
 
-/// The line with the value for `{}`, and its words for `{1}`, `{2}` and so on.
-pub fn fill(line: &str, value: &str, alloc: Global) -> Result<String, AllocError> {
-    let mut out = String::new(alloc);
+/// Puts the line with the value for `{}`, and its words for `{1}`, `{2}` and so on.
+pub fn fill(out: &mut Said, line: &str, value: &str) {
     for (k, piece) in line.split('{').enumerate() {
         let (word, rest) = if k == 0 {
             ("", piece)
         } else {
             filled(piece, value)
         };
-        out.push_str(word)?;
-        out.push_str(rest)?;
+        out.put(word);
+        out.put(rest);
     }
-    Ok(out)
 }
 
 /// The ends of `A..B`.
 pub fn range_of(text: &str) -> Option<(u64, u64)> {
     let (first, last) = text.split_once("..")?;
-    Some((first.parse().ok()?, last.parse().ok()?))
-}
-
-/// The texts with a word or each number of a range after them.
-fn extended(
-    texts: &[String],
-    blank: &str,
-    word: &str,
-    alloc: Global,
-) -> Result<Vec<String>, AllocError> {
-    let mut longer = Vec::new(alloc);
-    for text in texts {
-        match range_of(word) {
-            Some((first, last)) => {
-                for number in first..=last {
-                    longer.push(format!(in alloc; "{text}{blank}{number}")?)?;
-                }
-            }
-            None => longer.push(format!(in alloc; "{text}{blank}{word}")?)?,
-        }
+    match (first.parse(), last.parse()) {
+        (Ok(first), Ok(last)) => Some((first, last)),
+        _ => None,
     }
-    Ok(longer)
 }
 
-/// The values of a row: all that its ranges give, the last the fastest.
-pub fn values_of(row: &str, alloc: Global) -> Result<Vec<String>, AllocError> {
-    let mut values = vec![in alloc; String::new(alloc)]?;
+/// How many values a word gives.
+fn size_of(word: &str) -> u64 {
+    match range_of(word) {
+        Some((first, last)) if last < first => 0,
+        Some((first, last)) => last.saturating_sub(first).saturating_add(1),
+        None => 1,
+    }
+}
+
+/// How many values a row gives.
+pub fn count_of(row: &str) -> u64 {
+    let mut count: u64 = 1;
+    for word in row.split(' ') {
+        count = count.saturating_mul(size_of(word));
+    }
+    count
+}
+
+/// Puts a word, or the number of its range that stands so many places after the first.
+fn put_word(out: &mut Said, word: &str, place: u64) {
+    match range_of(word) {
+        Some((first, _)) => out.put_item(first.saturating_add(place)),
+        None => out.put(word),
+    }
+}
+
+/// Puts the value of a row at a place of all that its ranges give, the last the fastest.
+pub fn put_value(out: &mut Said, row: &str, place: u64) {
+    let mut rest = count_of(row);
     for (k, word) in row.split(' ').enumerate() {
-        values = extended(&values, if k == 0 { "" } else { " " }, word, alloc)?;
+        if k > 0 {
+            out.put(" ");
+        }
+        let size = size_of(word);
+        rest = rest.checked_div(size).unwrap_or(0);
+        let own = place.checked_div(rest).unwrap_or(0);
+        put_word(out, word, own.checked_rem(size).unwrap_or(0));
     }
-    Ok(values)
 }
 
-/// The digits, or `{}` where they are the value.
-fn digits_or_hole<'a>(digits: &'a str, value: &str) -> &'a str {
-    if digits == value && !value.is_empty() {
-        "{}"
+/// Puts the digits, or `{}` where they are the value, and leaves none.
+fn put_digits(out: &mut Said, digits: &mut Said, value: &str) {
+    let own = digits.as_str();
+    if own == value && !value.is_empty() {
+        out.put("{}");
     } else {
-        digits
+        out.put(own);
     }
-}
-
-/// Appends the digits, and leaves none.
-fn put_digits(out: &mut String, digits: &mut String, value: &str) -> Result<(), AllocError> {
-    out.push_str(digits_or_hole(digits.as_str(), value))?;
     digits.clear();
-    Ok(())
 }
 
-/// A line that was sent, with `{}` in the place of the value.
-fn emptied_line(
-    out: &mut String,
-    line: &str,
-    value: &str,
-    alloc: Global,
-) -> Result<(), AllocError> {
-    let mut digits = String::new(alloc);
+/// Puts a line that was sent, with `{}` in the place of the value.
+fn put_emptied_line(out: &mut Said, digits: &mut Said, line: &str, value: &str) {
     for c in line.chars() {
         if c.is_ascii_digit() {
-            digits.push(c)?;
+            digits.put_char(c);
         } else {
-            put_digits(out, &mut digits, value)?;
-            out.push(c)?;
+            put_digits(out, digits, value);
+            out.put_char(c);
         }
     }
-    put_digits(out, &mut digits, value)
+    put_digits(out, digits, value);
 }
 
-/// What came, with `{}` in the place of the value where it was sent.
-pub fn emptied(came: &str, value: &str, alloc: Global) -> Result<String, AllocError> {
-    let mut out = String::new(alloc);
+/// Puts what came, with `{}` in the place of the value where it was sent.
+pub fn put_emptied(out: &mut Said, came: &str, value: &str, alloc: Global) {
+    let mut digits = Said::new(alloc);
     for line in came.lines() {
         if line.starts_with('>') {
-            emptied_line(&mut out, line, value, alloc)?;
+            put_emptied_line(out, &mut digits, line, value);
         } else {
-            out.push_str(line)?;
+            out.put(line);
         }
-        out.push_str("\n")?;
+        out.put("\n");
     }
-    Ok(out)
 }
 
 /// Neighbours of a range for which the same came, or the same but for the number itself.
-#[derive(Drop)]
 pub struct Group {
     first: u64,
     last: u64,
-    plain: String,
-    emptied: String,
+    plain: Said,
+    emptied: Said,
     is_plain: bool,
     is_emptied: bool,
 }
 
+impl Drop for Group {
+    fn drop(self) {
+        let Group {
+            first: _,
+            last: _,
+            plain: _,
+            emptied: _,
+            is_plain: _,
+            is_emptied: _,
+        } = self;
+    }
+}
+
 impl Group {
-    pub fn new(number: u64, plain: String, emptied: String) -> Group {
+    /// A group of no numbers.
+    pub fn new(alloc: Global) -> Group {
         Group {
-            first: number,
-            last: number,
-            plain,
-            emptied,
-            is_plain: true,
-            is_emptied: true,
+            first: 0,
+            last: 0,
+            plain: Said::new(alloc),
+            emptied: Said::new(alloc),
+            is_plain: false,
+            is_emptied: false,
         }
+    }
+
+    /// Begins a group with a number and what came of it.
+    pub fn begin(&mut self, number: u64, plain: &str, emptied: &str) {
+        self.first = number;
+        self.last = number;
+        self.plain.clear();
+        self.plain.put(plain);
+        self.emptied.clear();
+        self.emptied.put(emptied);
+        self.is_plain = true;
+        self.is_emptied = true;
+    }
+
+    /// Whether it has a number.
+    pub fn is_begun(&self) -> bool {
+        self.is_plain || self.is_emptied
     }
 
     /// Takes the next number in, where the same came of it.
@@ -152,18 +181,22 @@ impl Group {
         is_plain || is_emptied
     }
 
-    /// Says the row of the group, and what came.
-    pub fn put(&self, said: &mut String) -> Result<(), AllocError> {
-        let (first, last) = (self.first, self.last);
-        if first == last {
-            writeln!(said, "| {first}")?;
-        } else {
-            writeln!(said, "| {first}..{last}")?;
+    /// Says the row of the group, and what came; nothing of a group of no numbers.
+    pub fn put(&self, said: &mut Said) {
+        if !self.is_begun() {
+            return;
         }
-        said.push_str(if self.is_plain {
+        said.put("| ");
+        said.put_item(self.first);
+        if self.first != self.last {
+            said.put("..");
+            said.put_item(self.last);
+        }
+        said.put("\n");
+        said.put(if self.is_plain {
             self.plain.as_str()
         } else {
             self.emptied.as_str()
-        })
+        });
     }
 }
