@@ -1,4 +1,5 @@
-//! What is written and read again, what is worked out by hand, and tests of what is refused.
+//! What is written and read again, what is worked out by hand, and what texts and scripts are read
+//! as.
 #![tactic(auto)]
 
 mod by_hand;
@@ -7,8 +8,6 @@ mod round;
 pub use by_hand::{all_by_hand, ceilings_by_hand, values_by_hand};
 pub use round::reread;
 
-#[cfg(test)]
-mod faults;
 #[cfg(test)]
 mod lexing;
 #[cfg(test)]

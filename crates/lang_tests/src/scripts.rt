@@ -1,6 +1,6 @@
-//! Scripts that are read and refused.
+//! Scripts that are read.
 
-use bbop_isa::{Instr, Order, ScriptFault, ScriptKind, ScriptNo, parse_script};
+use bbop_isa::{Instr, Order, parse_script};
 use std::alloc::AllocError;
 use std::fmt::Write;
 use std::str;
@@ -90,60 +90,8 @@ fn right_scripts_are_read(rt: HostRuntime) {
                     assert!(rt; spell(&mut said, instr).is_ok());
                 }
             }
-            Err(no) => assert!(rt; false, "{text}: {no:?}"),
+            Err(_) => assert!(rt; false),
         }
-        assert_eq!(rt; said.as_str(), want);
-    }
-}
-
-#[test]
-fn the_first_fault_is_answered(rt: HostRuntime) {
-    let faults = [
-        ("print a\nprint $", 2, ScriptKind::Lex),
-        ("load a 5 , , -", 1, ScriptKind::Lex),
-        ("bbop_and a, 4, 8", 1, ScriptKind::Syntax),
-        ("bbop_and a, b, c, d, e, f, g, 4, 8", 1, ScriptKind::Syntax),
-        ("bbop_and a, b, 4, 8, c", 1, ScriptKind::Syntax),
-        ("bbop_trsp_init a, b, 4, 8", 1, ScriptKind::Syntax),
-        ("load a", 1, ScriptKind::Syntax),
-        ("load a, 1, ", 1, ScriptKind::Syntax),
-        ("load a 1", 1, ScriptKind::Syntax),
-        ("fill a, 1, 2", 1, ScriptKind::Syntax),
-        ("print a free a", 1, ScriptKind::Syntax),
-        ("order up", 1, ScriptKind::Syntax),
-        ("order seed", 1, ScriptKind::Syntax),
-        ("order seed, 1", 1, ScriptKind::Syntax),
-        ("a_name_of_no_form a", 1, ScriptKind::Syntax),
-        ("\n\n#\nprint 5\nprint $\n", 4, ScriptKind::Syntax),
-        ("print abcdefghijklmnopq", 1, ScriptKind::BadName),
-        ("bbop_ a, b, 4, 8", 1, ScriptKind::BadName),
-        ("bbop_1x a, b, 4, 8", 1, ScriptKind::BadName),
-        ("bbop_abcdefghijklmnopq a, b, 4, 8", 1, ScriptKind::BadName),
-        (
-            "bbop_and a, b, abcdefghijklmnopq, 0, 0",
-            1,
-            ScriptKind::BadName,
-        ),
-        ("bbop_trsp_init a, 0, 8", 1, ScriptKind::BadNumber),
-        ("bbop_trsp_init a, 4294967296, 8", 1, ScriptKind::BadNumber),
-        ("bbop_and a, b, 4, 0", 1, ScriptKind::BadNumber),
-        ("bbop_and a, b, 4, 129", 1, ScriptKind::BadNumber),
-        (
-            "fill a, 1\nload a, 1, 340282366920938463463374607431768211456",
-            2,
-            ScriptKind::BadNumber,
-        ),
-        (
-            "fill a, 340282366920938463463374607431768211456",
-            1,
-            ScriptKind::BadNumber,
-        ),
-        ("order seed 18446744073709551616", 1, ScriptKind::BadNumber),
-    ];
-    for (text, line, kind) in faults {
-        assert!(rt; text.len() < 100);
-        let answer = parse_script(text.as_bytes(), rt.alloc());
-        let want = ScriptNo::Fault(ScriptFault { line, kind });
-        assert_eq!(rt; answer.err(), Some(want), "{text}");
+        assert!(rt; said.as_str() == want);
     }
 }

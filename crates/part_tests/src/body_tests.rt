@@ -97,45 +97,67 @@ fn full_adder(rt: &impl Abort, alloc: Global) -> Result<(Mig, [OutRow; 2]), NoMe
     Ok((m, outs))
 }
 
+/// The commands on the rows of a chip.
+fn commands_of(cmds: &[BodyCmd], alloc: Global) -> Result<Vec<Command>, Fail> {
+    let mut commands = Vec::new(alloc);
+    for cmd in cmds {
+        commands.push(command_of(*cmd))?;
+    }
+    Ok(commands)
+}
+
 /// Whether the commands add sixty-four columns of bits, drawn by hand, and leave all other rows.
-fn adds(rt: &impl Abort, cmds: &[BodyCmd], alloc: Global) -> Result<(), Fail> {
+fn adds_on<D: Dram>(chip: &mut D, commands: &[Command]) -> Result<bool, Fail> {
     let (a, b, c) = (
         0x9E37_79B9_7F4A_7C15u64,
         0xBF58_476D_1CE4_E5B9u64,
         0x94D0_49BB_1331_11EBu64,
     );
-    let mut commands = Vec::new(alloc);
-    for cmd in cmds {
-        commands.push(command_of(*cmd))?;
+    if commands.len() > 18 {
+        return Err("more commands than the plain body has")?;
     }
-    let mut chip = Chip::new(alloc);
     chip.begin(SMALL)?;
     chip.write_row(0, 0, &[a])?;
     chip.write_row(0, 1, &[b])?;
     chip.write_row(0, 2, &[c])?;
     chip.write_row(0, 9, &[u64::MAX])?;
-    if commands.len() > 18 {
-        return Err("more commands than the plain body has")?;
-    }
-    play(&mut chip, SMALL, 0, &commands)?;
-    assert_eq!(rt; row_of(&mut chip, 0)?, a);
-    assert_eq!(rt; row_of(&mut chip, 1)?, b);
-    assert_eq!(rt; row_of(&mut chip, 2)?, (a & b) | (a & c) | (b & c));
-    assert_eq!(rt; row_of(&mut chip, 8)?, a ^ b ^ c);
-    assert_eq!(rt; row_of(&mut chip, 9)?, u64::MAX);
-    Ok(())
+    play(chip, SMALL, 0, commands)?;
+    let sources = [row_of(chip, 0)?, row_of(chip, 1)?, row_of(chip, 9)?];
+    let carry = row_of(chip, 2)?;
+    let sum = row_of(chip, 8)?;
+    let is_sum = carry == ((a & b) | (a & c) | (b & c)) && sum == (a ^ b ^ c);
+    Ok(is_sum && sources == [a, b, u64::MAX])
+}
+
+fn adds(cmds: &[BodyCmd], alloc: Global) -> Result<bool, Fail> {
+    let commands = commands_of(cmds, alloc)?;
+    let mut chip = Chip::new(alloc);
+    adds_on(&mut chip, &commands)
+}
+
+/// Whether the plain body and the greedy one add, the first with at most so many commands and the
+/// second with as many.
+fn bodies_add(
+    m: &Mig,
+    outs: &[OutRow; 2],
+    most: usize,
+    least: usize,
+    alloc: Global,
+) -> Result<bool, Fail>
+    requires { FitBody m.now outs.now }
+{
+    let plain = plain_body(m, outs, alloc)?;
+    let greedy = greedy_body(m, outs, alloc)?;
+    let is_short = plain.len() <= most && greedy.len() == least;
+    Ok(is_short && adds(&plain, alloc)? && adds(&greedy, alloc)?)
 }
 
 // The plain body has eighteen commands, and the one that keeps values in the bitwise cells nine.
 #[test]
 fn a_body_adds_in_a_chip(rt: HostRuntime) -> Result<(), Fail> {
     let (m, outs) = full_adder(&rt, rt.alloc())?;
-    let plain = plain_body(&m, &outs, rt.alloc())?;
-    assert!(rt; plain.len() <= 18);
-    adds(&rt, &plain, rt.alloc())?;
-    let greedy = greedy_body(&m, &outs, rt.alloc())?;
-    assert_eq!(rt; greedy.len(), 9);
-    adds(&rt, &greedy, rt.alloc())
+    assert!(rt; bodies_add(&m, &outs, 18, 9, rt.alloc())?);
+    Ok(())
 }
 
 // Nine commands add one bit, and eight of them do not.

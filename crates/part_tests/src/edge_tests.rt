@@ -15,16 +15,13 @@ fn what_is_stored_is_loaded(rt: HostRuntime) -> Result<(), AllocError> {
     let mut folder = DiskFolder::new(rt, &words);
     for size in [0, 1, 4096, 5000] {
         let bytes: Vec<u8> = vec![in alloc; 7; size]?;
-        assert_eq!(rt; folder.store(name, &bytes), Ok(()));
+        assert!(rt; folder.store(name, &bytes) == Ok(()));
         let found = folder.load(name, size as u64, alloc);
         assert!(rt; found.is_ok_and(|found| found.as_slice() == bytes.as_slice()));
     }
-    assert_eq!(rt; folder.load(name, 4999, alloc).err(), Some(LoadNo::TooLong));
-    assert_eq!(rt;
-        folder.load("no such file", 9, alloc).err(),
-        Some(LoadNo::Failed)
-    );
-    assert_eq!(rt; folder.store("no/such/folder", b"x"), Err(Failed));
+    assert!(rt; folder.load(name, 4999, alloc).err() == Some(LoadNo::TooLong));
+    assert!(rt; folder.load("no such file", 9, alloc).err() == Some(LoadNo::Failed));
+    assert!(rt; folder.store("no/such/folder", b"x") == Err(Failed));
     assert!(rt; fs::remove_file(&rt, name).is_ok());
     Ok(())
 }
@@ -38,7 +35,7 @@ fn a_stored_file_keeps_its_mode(rt: HostRuntime) {
     assert!(rt; symlink(&rt, name, link).is_ok());
     let mut folder = DiskFolder::new(rt, &words);
     for (to, bytes) in [(name, b"new"), (link, b"by!")] {
-        assert_eq!(rt; folder.store(to, bytes), Ok(()));
+        assert!(rt; folder.store(to, bytes) == Ok(()));
         let found = folder.load(name, 9, alloc);
         assert!(rt; found.is_ok_and(|found| found.as_slice() == bytes.as_slice()));
         let mode = fs::metadata(&rt, name).map(|found| found.permissions().mode() & 0o777);
@@ -47,7 +44,7 @@ fn a_stored_file_keeps_its_mode(rt: HostRuntime) {
     let kept = fs::symlink_metadata(&rt, link).is_ok_and(|found| found.file_type().is_symlink());
     assert!(rt; kept, "a link is written through");
     for device in ["/dev/full", "."] {
-        assert_eq!(rt; folder.store(device, b"x"), Err(Failed), "{device}");
+        assert!(rt; folder.store(device, b"x") == Err(Failed));
     }
     assert!(rt; fs::remove_file(&rt, link).is_ok() && fs::remove_file(&rt, name).is_ok());
 }
@@ -55,9 +52,9 @@ fn a_stored_file_keeps_its_mode(rt: HostRuntime) {
 #[test]
 fn calls_in_turn(rt: HostRuntime) {
     let mut folder = MemFolder::new(rt.alloc());
-    assert_eq!(rt; folder.put_file("a", b"hello"), Ok(()));
-    assert_eq!(rt; folder.fail_at(5), Ok(()));
-    assert_eq!(rt; folder.fail_at(6), Ok(()));
+    assert!(rt; folder.put_file("a", b"hello") == Ok(()));
+    assert!(rt; folder.fail_at(5) == Ok(()));
+    assert!(rt; folder.fail_at(6) == Ok(()));
     let loads = [
         ("a", 5, None),
         ("a", u64::MAX, None),
@@ -68,10 +65,10 @@ fn calls_in_turn(rt: HostRuntime) {
     for (name, limit, want) in loads {
         match folder.load(name, limit, rt.alloc()) {
             Ok(bytes) => {
-                assert_eq!(rt; bytes.as_slice(), b"hello".as_slice());
-                assert_eq!(rt; want, None);
+                assert!(rt; bytes.as_slice() == b"hello".as_slice());
+                assert!(rt; want == None);
             }
-            Err(no) => assert_eq!(rt; want, Some(no), "{name} up to {limit}"),
+            Err(no) => assert!(rt; want == Some(no)),
         }
     }
     for (name, text, want) in [
@@ -79,31 +76,31 @@ fn calls_in_turn(rt: HostRuntime) {
         ("b", "xy", Ok(())),
         ("a", "", Ok(())),
     ] {
-        assert_eq!(rt; folder.store(name, text.as_bytes()), want);
+        assert!(rt; folder.store(name, text.as_bytes()) == want);
         let kept = folder
             .file(name)
             .is_some_and(|bytes| bytes == text.as_bytes());
-        assert_eq!(rt; kept, want.is_ok());
+        assert!(rt; kept == want.is_ok());
     }
 }
 
 #[test]
 fn the_second_put_fails(rt: HostRuntime) {
     let mut sink = MemSink::new(rt.alloc());
-    assert_eq!(rt; sink.fail_at(2), Ok(()));
+    assert!(rt; sink.fail_at(2) == Ok(()));
     for (bytes, want) in [("one ", Ok(())), ("two ", Err(Failed)), ("three", Ok(()))] {
-        assert_eq!(rt; sink.put(bytes.as_bytes()), want);
+        assert!(rt; sink.put(bytes.as_bytes()) == want);
     }
-    assert_eq!(rt; sink.bytes(), b"one three".as_slice());
+    assert!(rt; sink.bytes() == b"one three".as_slice());
 }
 
 #[test]
 fn bytes_come_in_order(rt: HostRuntime) {
     let mut full = [0; 7];
     let mut sink = StdSink::new(full.as_mut_slice());
-    assert_eq!(rt; sink.put(b"one "), Ok(()));
-    assert_eq!(rt; sink.put(b""), Ok(()));
-    assert_eq!(rt; sink.put(b"two"), Ok(()));
-    assert_eq!(rt; sink.put(b"!"), Err(Failed));
-    assert_eq!(rt; full.as_slice(), b"one two".as_slice());
+    assert!(rt; sink.put(b"one ") == Ok(()));
+    assert!(rt; sink.put(b"") == Ok(()));
+    assert!(rt; sink.put(b"two") == Ok(()));
+    assert!(rt; sink.put(b"!") == Err(Failed));
+    assert!(rt; full.as_slice() == b"one two".as_slice());
 }

@@ -1,6 +1,7 @@
 //! Bodies of graphs that are drawn at random, on the rows of a chip.
 
-ghost use Rattle.std.specs.Prelude.{◌<◌, ◌≤◌};
+ghost use Rattle.std.specs.Prelude.{◌≡◌, ◌<◌, ◌≤◌, OnOk};
+ghost use Rattle.dram_model.specs.View.{HasBegun};
 ghost use Rattle.row_alloc.specs.Body.{FitBody};
 
 use crate::body_tests::{SMALL, row_of};
@@ -132,19 +133,24 @@ fn commands_of(cmds: &[BodyCmd], alloc: Global) -> Result<Vec<Command>, Fail> {
     Ok(commands)
 }
 
-/// Whether the commands leave three words in the rows of the outputs, and all other inputs.
-fn leaves(
-    rt: &impl Abort,
-    cmds: &[BodyCmd],
-    words: [u64; 3],
-    seed: u64,
-    alloc: Global,
-) -> Result<(), Fail> {
-    let commands = commands_of(cmds, alloc)?;
-    if commands.len() > 200 {
-        return Err("more commands than any plain body of these graphs has")?;
-    }
-    let mut chip = Chip::new(alloc);
+/// The words of rows 20 to 23, drawn with a seed.
+fn drawn_words(seed: u64) -> [u64; 4] {
+    [
+        word(seed),
+        word(seed.wrapping_add(1)),
+        word(seed.wrapping_add(2)),
+        word(seed.wrapping_add(3)),
+    ]
+}
+
+/// Begins a chip, with the inputs in rows 0 to 5 and other words in rows 20 to 23.
+fn begun<D: Dram>(chip: &mut D, other: [u64; 4]) -> Result<(), Fail>
+    ensures begun { OnOk result (HasBegun (D.view chip.new)) }
+    ensures geometry { OnOk result ((D.view chip.new).geometry ≡ SMALL) }
+    ensures aap { OnOk result ((D.view chip.new).counters.aap ≡ 0) }
+    ensures ap { OnOk result ((D.view chip.new).counters.ap ≡ 0) }
+    ensures reads { OnOk result ((D.view chip.new).counters.reads ≡ 0) }
+{
     chip.begin(SMALL)?;
     chip.write_row(0, 0, &[INPUTS[0]])?;
     chip.write_row(0, 1, &[INPUTS[1]])?;
@@ -152,17 +158,34 @@ fn leaves(
     chip.write_row(0, 3, &[INPUTS[3]])?;
     chip.write_row(0, 4, &[INPUTS[4]])?;
     chip.write_row(0, 5, &[INPUTS[5]])?;
-    chip.write_row(0, 20, &[word(seed)])?;
-    chip.write_row(0, 21, &[word(seed.wrapping_add(1))])?;
-    chip.write_row(0, 22, &[word(seed.wrapping_add(2))])?;
-    chip.write_row(0, 23, &[word(seed.wrapping_add(3))])?;
-    play(&mut chip, SMALL, 0, &commands)?;
-    assert_eq!(rt; row_of(&mut chip, 8)?, words[0]);
-    assert_eq!(rt; row_of(&mut chip, 9)?, words[1]);
-    assert_eq!(rt; row_of(&mut chip, 0)?, words[2]);
-    assert_eq!(rt; row_of(&mut chip, 1)?, INPUTS[1]);
-    assert_eq!(rt; row_of(&mut chip, 5)?, INPUTS[5]);
+    chip.write_row(0, 20, &[other[0]])?;
+    chip.write_row(0, 21, &[other[1]])?;
+    chip.write_row(0, 22, &[other[2]])?;
+    chip.write_row(0, 23, &[other[3]])?;
     Ok(())
+}
+
+/// Whether the commands leave three words in the rows of the outputs, and other inputs.
+fn leaves_on<D: Dram>(
+    chip: &mut D,
+    commands: &[Command],
+    words: [u64; 3],
+    seed: u64,
+) -> Result<bool, Fail> {
+    if commands.len() > 200 {
+        return Err("more commands than any plain body of these graphs has")?;
+    }
+    begun(chip, drawn_words(seed))?;
+    play(chip, SMALL, 0, commands)?;
+    let found = [row_of(chip, 8)?, row_of(chip, 9)?, row_of(chip, 0)?];
+    let inputs = [row_of(chip, 1)?, row_of(chip, 5)?];
+    Ok(found == words && inputs == [INPUTS[1], INPUTS[5]])
+}
+
+fn leaves(cmds: &[BodyCmd], words: [u64; 3], seed: u64, alloc: Global) -> Result<bool, Fail> {
+    let commands = commands_of(cmds, alloc)?;
+    let mut chip = Chip::new(alloc);
+    leaves_on(&mut chip, &commands, words, seed)
 }
 
 /// One graph: its greedy body is no longer than the plain one, and both are right in each column.
@@ -182,8 +205,9 @@ fn one_graph(rt: &impl Abort, seed: u64, nodes: u32, alloc: Global) -> Result<()
         word_of(&words, b.lit),
         word_of(&words, c.lit),
     ];
-    leaves(rt, &plain, expected, seed, alloc)?;
-    leaves(rt, &greedy, expected, seed, alloc)
+    assert!(rt; leaves(&plain, expected, seed, alloc)?);
+    assert!(rt; leaves(&greedy, expected, seed, alloc)?);
+    Ok(())
 }
 
 // Graphs of 4 to 16 nodes, each on all values of six inputs.

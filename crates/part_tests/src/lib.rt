@@ -1,10 +1,8 @@
 //! Tests of public calls: the decode table, folders and sinks, commands on the rows of a chip,
-//! objects in its banks, microprograms from their files to the rows of a bank, walks, and bodies of
-//! row commands.
+//! objects in its banks, microprograms, their files and their runs on the rows of a bank, waves,
+//! and bodies of row commands.
 #![tactic(auto)]
 
-#[cfg(test)]
-mod block_tests;
 #[cfg(test)]
 mod body_tests;
 #[cfg(test)]
@@ -24,8 +22,6 @@ mod program_tests;
 #[cfg(test)]
 mod rows;
 #[cfg(test)]
-mod trace_tests;
-#[cfg(test)]
-mod walk_tests;
+mod table_tests;
 #[cfg(test)]
 mod wave_tests;

@@ -15,8 +15,8 @@ use dram_chip::{Chip, Counters, Dram, Geometry};
 use std::alloc::Global;
 use std::test::Fail;
 use text_lex::Name;
-use uprog_bin::{ProgFault, ProgKind, ProgView, encode};
-use uprog_code::{Binding, EntryCode, Fetch, Head, Kind, Program, RowRef, RowSpace, Uop};
+use uprog_bin::encode;
+use uprog_code::{Binding, EntryCode, Head, Kind, Program, RowRef, RowSpace, Uop};
 use uprog_ctl::run;
 
 /// Banks of 64 columns.
@@ -38,6 +38,17 @@ const XOR_BYTES: [u8; 99] = [
     0x0A, 0x00, 0x0F, 0x00, 0x00, 0x00, 0x00, 0x00, // AP B15
     0x09, 0x01, 0x01, 0x00, 0x00, 0x02, 0x00, 0x00, // AAP C1 B2
     0x09, 0x00, 0x0C, 0x00, 0x02, 0x00, 0x08, 0x00, // AAP B12 y[0]
+    0x00, 0x00, 0x00, 0x00, 0x00, 0x00, 0x00, 0x00, // DONE
+];
+
+/// The program file of `dup`, whose two results are its source, for width 1.
+const DUP_BYTES: [u8; 67] = [
+    0x53, 0x44, 0x4D, 0x50, 0x02, 0x00, 0x01, 0x00, // magic, version 2, one entry
+    0x03, 0x64, 0x75, 0x70, 0, 0, 0, 0, 0, 0, 0, 0, 0, 0, 0, 0, 0, // dup
+    0x01, 0x71, 0x00, 0x00, 0x00, 0x00, 0x00, 0x00, 0x04, 0x00, // a word into two words
+    0x09, 0x03, 0x00, 0x08, 0x00, 0x00, 0x00, 0x00, // AAP s0[0] B0
+    0x09, 0x00, 0x00, 0x00, 0x02, 0x00, 0x08, 0x00, // AAP B0 y[0]
+    0x09, 0x00, 0x00, 0x00, 0x02, 0x01, 0x08, 0x00, // AAP B0 z[0]
     0x00, 0x00, 0x00, 0x00, 0x00, 0x00, 0x00, 0x00, // DONE
 ];
 
@@ -101,15 +112,7 @@ fn xor_program(alloc: Global) -> Result<Program, Fail>
 fn a_program_is_its_file(rt: HostRuntime) -> Result<(), Fail> {
     let program = xor_program(rt.alloc())?;
     let file = encode(&program, rt.alloc()).ok().ok_or("there is memory")?;
-    assert_eq!(rt; file.as_slice(), XOR_BYTES.as_slice());
-    let view = ProgView::open(&XOR_BYTES).ok().ok_or("it is a program")?;
-    assert_eq!(rt; view.entries(), 1);
-    let entry = view.entry(0);
-    assert!(rt; entry.bytes().len() == 64);
-    let code = xor_code();
-    for k in 0..8u16 {
-        assert_eq!(rt; entry.fetch(k), code[k as usize], "instruction {k}");
-    }
+    assert!(rt; file.as_slice() == XOR_BYTES.as_slice());
     Ok(())
 }
 
@@ -155,6 +158,25 @@ fn dup_entry(alloc: Global) -> Result<EntryCode, Fail>
         head,
         code: code.to_vec(alloc)?,
     })
+}
+
+/// The program of `dup`.
+#[tactic(auto, using(crate::proofs::Dup::dup_is_legal))]
+fn dup_program(alloc: Global) -> Result<Program, Fail>
+    ensures { IfOk result (λ p. IsProgram (microprograms_of p)) }
+{
+    let entries = [dup_entry(alloc)?];
+    Ok(Program {
+        entries: Vec::from_array(alloc, entries)?,
+    })
+}
+
+#[test]
+fn a_program_of_two_results_is_its_file(rt: HostRuntime) -> Result<(), Fail> {
+    let program = dup_program(rt.alloc())?;
+    let file = encode(&program, rt.alloc()).ok().ok_or("there is memory")?;
+    assert!(rt; file.as_slice() == DUP_BYTES.as_slice());
+    Ok(())
 }
 
 /// Width 1, the source in row 0, and the results in rows 1 and 2.
@@ -226,8 +248,8 @@ fn xor_is_run(rt: HostRuntime) -> Result<(), Fail> {
                 _ => u64::MAX,
             };
             let (word, tally) = word_after(&entry, &binding, [A, B], bank, row, rt.alloc())?;
-            assert_eq!(rt; word, want, "bank {bank} row {row}");
-            assert_eq!(rt; tally, counters);
+            assert!(rt; word == want);
+            assert!(rt; tally == counters);
         }
     }
     Ok(())
@@ -249,45 +271,9 @@ fn dup_is_run(rt: HostRuntime) -> Result<(), Fail> {
         for row in 0..32u16 {
             let want = if bank == 1 && row < 3 { 0x0C } else { u64::MAX };
             let (word, tally) = word_after(&entry, &binding, [0x0C, B], bank, row, rt.alloc())?;
-            assert_eq!(rt; word, want, "bank {bank} row {row}");
-            assert_eq!(rt; tally, counters);
+            assert!(rt; word == want);
+            assert!(rt; tally == counters);
         }
     }
     Ok(())
-}
-
-/// Why the file of `xor` is refused with these three bytes changed.
-fn fault_with(changes: [(usize, u8); 3]) -> Option<(u32, ProgKind)> {
-    let mut bytes = XOR_BYTES;
-    for (place, byte) in changes {
-        if place < 99 {
-            bytes[place] = byte;
-        }
-    }
-    match ProgView::open(&bytes) {
-        Ok(_) => None,
-        Err(ProgFault { at, kind }) => Some((at, kind)),
-    }
-}
-
-// A place past the end changes nothing.
-#[test]
-fn changed_files_are_refused(rt: HostRuntime) {
-    let none = (99usize, 0u8);
-    let cases = [
-        ([(33, 7), none, none], 83, ProgKind::NoDone),
-        ([(33, 9), none, none], 99, ProgKind::Short),
-        ([(91, 8), none, none], 91, ProgKind::NoDone),
-        ([(91, 8), (93, 8), none], 91, ProgKind::Target),
-        // a source as second address
-        ([(39, 3), (40, 0), (41, 8)], 35, ProgKind::Row),
-        ([(4, 9), none, none], 4, ProgKind::Version),
-        ([(0, 0), none, none], 0, ProgKind::Magic),
-    ];
-    for (changes, at, kind) in cases {
-        assert_eq!(rt; fault_with(changes), Some((at, kind)), "byte {at}");
-    }
-    // scratch of any size is a program's own, and version 1 is read too
-    assert_eq!(rt; fault_with([(27, 255), none, none]), None);
-    assert_eq!(rt; fault_with([(4, 1), none, none]), None);
 }
