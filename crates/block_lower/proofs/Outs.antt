@@ -1,6 +1,6 @@
 -- The rows of a graph's outputs, one after another.
 use Rattle.std.proofs.Common.{◌≡◌, ◌≢◌, ℕ, zero, suc, ◌+◌, ◌<◌, ◌≤◌, List, [], ◌∷◌, ◌++◌, length}
-use Rattle.std.proofs.Common.{Option, Some, None, refl, sym, ap, ◌∙◌, subst, ⊎_elim, arith}
+use Rattle.std.proofs.Common.{Option, Some, None, refl, sym, ◌∙◌, subst, ⊎_elim, arith}
 use Rattle.std.proofs.Common.{length-append, false}
 use Rattle.std.proofs.lemmas.List.{get_or_append_left}
 use Rattle.std.specs.Prelude.{slice_index_or, IfSome, IfNone}
