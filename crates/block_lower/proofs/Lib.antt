@@ -5,6 +5,7 @@ mod Reading
 mod Finding
 mod Making
 mod Rows
+mod Outs
 mod Facts
 mod Folds
 mod Round

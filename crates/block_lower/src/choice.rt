@@ -1,11 +1,12 @@
 //! The graph of a block whose body takes the fewest commands.
 
-ghost use Rattle.std.specs.Prelude.{◌≡◌, ◌≤◌, IfOk, IfSome, length};
+ghost use Rattle.std.specs.Prelude.{◌≡◌, ◌≢◌, ◌<◌, ◌≤◌, ℕ, IfOk, IfSome, IfNone, length};
 ghost use Rattle.mig_graph.specs.Outputs.{AreNamed, KeepsOutputs};
 ghost use Rattle.mig_graph.specs.Reduced.{IsReduced};
-ghost use Rattle.block_lower.specs.Choice.{MayStand};
+ghost use Rattle.loop_ir.specs.Spots.{nth_place};
+ghost use Rattle.block_lower.specs.Choice.{AreRows, HasBody, HasBodyWithin, IsNoDearer, MayStand};
 
-use loop_ir::Place;
+use loop_ir::{Place, Space, Sub};
 use mig_graph::{MigOuts, NoMemory};
 use mig_rewrite::{Sketch, kept, offers, reduce};
 use no_memory::keep;
@@ -39,11 +40,29 @@ impl Choice {
     }
 }
 
+/// A place of the list, or that of the first source's lowest position.
+fn place_at(places: &[Place], k: usize) -> Place
+    ensures { result ≡ nth_place places.now k }
+{
+    if k < places.len() {
+        places[k]
+    } else {
+        Place {
+            space: Space::Source,
+            which: 0,
+            sub: Sub::Zero,
+        }
+    }
+}
+
 /// The input that is read at a place.
-fn row_of(reads: &[Place], place: Place) -> Option<u8> {
-    for (k, other) in reads.iter().enumerate() {
-        if *other == place && k < 80 {
-            return Some(k as u8);
+fn input_at(reads: &[Place], inputs: u8, place: Place) -> Option<u8>
+    ensures found { IfSome result (λ k. (k < inputs) × (nth_place reads.now k ≡ place)) }
+    ensures none { IfNone result ((k : ℕ) → k < inputs → nth_place reads.now k ≢ place) }
+{
+    for k in 0..inputs {
+        if place_at(reads, k as usize) == place {
+            return Some(k);
         }
     }
     None
@@ -55,27 +74,32 @@ fn rows_of(
     reads: &[Place],
     writes: &[Place],
     alloc: Global,
-) -> Result<Vec<OutRow>, NoMemory> {
-    let mut outs = Vec::new(alloc);
-    for (j, lit) in graph.outs.iter().enumerate() {
-        if j < writes.len() {
-            let same = row_of(reads, writes[j]);
-            keep(&mut outs, OutRow { lit: *lit, same })?;
-        }
+) -> Result<Vec<OutRow>, NoMemory>
+    ensures { IfOk result (λ rows. AreRows reads.now writes.now graph.now.mig.inputs
+        graph.now.outs.items (length graph.now.outs.items) rows.items) }
+{
+    let mut rows = Vec::new(alloc);
+    let inputs = graph.mig.inputs();
+    for j in 0..graph.outs.len() {
+        let same = input_at(reads, inputs, place_at(writes, j));
+        let lit = graph.outs[j];
+        keep(&mut rows, OutRow { lit, same })?;
     }
-    Ok(outs)
+    Ok(rows)
 }
 
-/// How many commands the body of the graph takes, or the greatest number where none can be made.
+/// How many commands the body of the graph takes, if one can be made.
 fn count_of(
     graph: &MigOuts,
     reads: &[Place],
     writes: &[Place],
     alloc: Global,
-) -> Result<usize, NoMemory> {
-    let outs = rows_of(graph, reads, writes, alloc)?;
-    let count = commands_of(&graph.mig, &outs, alloc)?;
-    Ok(count.unwrap_or(usize::MAX))
+) -> Result<Option<usize>, NoMemory>
+    ensures { IfOk result (λ o. IfSome o (HasBody reads.now writes.now graph.now.mig
+        graph.now.outs.items)) }
+{
+    let rows = rows_of(graph, reads, writes, alloc)?;
+    commands_of(&graph.mig, &rows, alloc)
 }
 
 /// The same or more, in less time.
@@ -84,10 +108,12 @@ fn quick_count_of(
     reads: &[Place],
     writes: &[Place],
     alloc: Global,
-) -> Result<usize, NoMemory> {
-    let outs = rows_of(graph, reads, writes, alloc)?;
-    let count = quick_commands_of(&graph.mig, &outs, alloc)?;
-    Ok(count.unwrap_or(usize::MAX))
+) -> Result<Option<usize>, NoMemory>
+    ensures { IfOk result (λ o. IfSome o (HasBody reads.now writes.now graph.now.mig
+        graph.now.outs.items)) }
+{
+    let rows = rows_of(graph, reads, writes, alloc)?;
+    quick_commands_of(&graph.mig, &rows, alloc)
 }
 
 /// Of the offers that are right the first with the fewest commands, where these are fewer than the
@@ -103,6 +129,8 @@ fn fewest(
     requires { AreNamed m.now.mig m.now.outs.items }
     ensures stands { IfOk result (λ o. IfSome o (λ r. MayStand m.now.mig m.now.outs.items
         r.graph.mig r.graph.outs.items)) }
+    ensures body { IfOk result (λ o. IfSome o (λ r. HasBody reads.now writes.now r.graph.mig
+        r.graph.outs.items r.commands)) }
     ensures fewest { IfOk result (λ o. IfSome o (λ r. r.commands ≤ commands)) }
 {
     let mut best = None;
@@ -111,13 +139,12 @@ fn fewest(
     for offer in offers {
         if let Some(graph) = kept(m, offer, alloc)? {
             let count = quick_count_of(&graph, reads, writes, alloc)?;
-            if count < least || count == least && graph.mig.size() < size {
-                least = count;
+            if let Some(commands) = count
+                && (commands < least || commands == least && graph.mig.size() < size)
+            {
+                least = commands;
                 size = graph.mig.size();
-                best = Some(Choice {
-                    graph,
-                    commands: count,
-                });
+                best = Some(Choice { graph, commands });
             }
         }
     }
@@ -136,10 +163,37 @@ fn most_counted(m: &MigOuts) -> u8 {
     }
 }
 
-/// The graph reduced, or one of the same outputs and no more nodes whose body takes fewer commands.
+/// A reduced graph, or one of the same outputs and no more nodes whose body takes no more commands
+/// than were counted for the graph's.
 ///
-/// The others are what the search of `mig_rewrite` offers. The reduced graph stays where its body
-/// takes no more commands than theirs.
+/// The others are what the search of `mig_rewrite` offers.
+fn least_of(
+    graph: MigOuts,
+    counted: Option<usize>,
+    reads: &[Place],
+    writes: &[Place],
+    alloc: Global,
+) -> Result<MigOuts, NoMemory>
+    requires named { AreNamed graph.mig graph.outs.items }
+    requires reduced { IsReduced graph.mig graph.outs.items }
+    requires counted { IfSome counted (HasBody reads.now writes.now graph.mig graph.outs.items) }
+    ensures stands { IfOk result (λ r. MayStand graph.mig graph.outs.items r.mig r.outs.items) }
+    ensures fewest { IfOk result (λ r. IfSome counted (λ n. HasBodyWithin reads.now writes.now r.mig
+        r.outs.items n)) }
+{
+    let offers = offers(&graph, most_counted(&graph), alloc)?;
+    let most = counted.unwrap_or(usize::MAX);
+    match fewest(&graph, most, &offers, reads, writes, alloc)? {
+        Some(other) => Ok(other.into_graph()),
+        None => Ok(graph),
+    }
+}
+
+/// The graph reduced, or one of the same outputs and no more nodes that has a body of fewer
+/// commands.
+///
+/// Where the commands of the reduced graph were counted, the graph has a body of at most that many.
+/// That the code that is made of it later takes this body is not said.
 pub(crate) fn least_graph(
     m: MigOuts,
     reads: &[Place],
@@ -151,12 +205,11 @@ pub(crate) fn least_graph(
     ensures named { IfOk result (λ r. AreNamed r.mig r.outs.items) }
     ensures count { IfOk result (λ r. length r.mig.nodes ≤ length m.mig.nodes) }
     ensures reduced { IfOk result (λ r. IsReduced r.mig r.outs.items) }
+    ensures fewest { IfOk result (λ r. IsNoDearer reads.now writes.now m.mig m.outs.items
+        r.mig r.outs.items) }
 {
     let graph = reduce(m, alloc)?;
-    let commands = count_of(&graph, reads, writes, alloc)?;
-    let offers = offers(&graph, most_counted(&graph), alloc)?;
-    match fewest(&graph, commands, &offers, reads, writes, alloc)? {
-        Some(other) => Ok(other.into_graph()),
-        None => Ok(graph),
-    }
+    let counted = count_of(&graph, reads, writes, alloc)?;
+    let least = least_of(graph, counted, reads, writes, alloc)?;
+    Ok(least)
 }
