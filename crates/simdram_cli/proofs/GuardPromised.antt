@@ -403,6 +403,8 @@ guard_promised names old new status apart d =
     (e ∙ f ∙ h ∙ ap (λ w. sent_by (work_steps out job) ++ w) none
     ∙ append-nil (sent_by (work_steps out job)) ∙ work_sent out job) sent in
     let rows : GuardedRows out job after old new status = record {
+      begun = left.done.begun;
+      geometry = left.done.geometry;
       banks = left.done.banks;
       counters = left.done.counters;
       log = left.done.log;

@@ -10,7 +10,7 @@ use Rattle.std.proofs.lemmas.List.{length-map}
 use Rattle.dram_model.specs.declared.dram.Counters.{Counters}
 use Rattle.dram_model.specs.declared.geometry.Geometry.{Geometry}
 use Rattle.dram_model.specs.Chip.{Banks, Event, Grew, Log, LogIs}
-use Rattle.dram_model.specs.View.{ChipView, DidRead, with_reads}
+use Rattle.dram_model.specs.View.{ChipView, DidRead, with_reads, Kept}
 use Rattle.dram_model.proofs.EventLaws.{LogIs-more}
 use Rattle.fault_counts.specs.Counts.{Rose}
 use Rattle.host_edge.specs.Views.{FolderView, SinkView, Known, AppendsPart}
@@ -304,9 +304,11 @@ module _ (job : GuardJob) (shape : Geometry) (table : List Named) (now : ChipVie
       w.refused_is) g
 
   -- what stands when all is done
-  pub all_done : (last : ChipView) → DidRead (shape.banks * shape.rows) now last
-      → GuardDone job last refused
-  all_done last read = record {
+  pub all_done : (start last : ChipView) → OpenedOn job.image start → Kept start last
+      → DidRead (shape.banks * shape.rows) now last → GuardDone job last refused
+  all_done start last opened_on kept read = record {
+    begun = kept.begun ∙ opened_on.begun;
+    geometry = kept.geometry ∙ opened_on.geometry;
     banks = read.banks ∙ w.banks;
     counters = read.counters ∙ own_tally;
     log = subst (λ (all : List Event). LogIs all last.log) (append-nil (events_of job))
@@ -534,7 +536,14 @@ guard_runs out job (Ok refused) old new is plain g d =
     (runs_answered status left new (record {
       image = is;
       plain = plain;
-      done = record { banks = d.banks; counters = d.counters; log = d.log; refused_is = refl };
+      done = record {
+        begun = d.begun;
+        geometry = d.geometry;
+        banks = d.banks;
+        counters = d.counters;
+        log = d.log;
+        refused_is = refl;
+      };
     })))
 guard_runs out job (Err stop) old new is plain g d =
     runs_stopped (work_steps out job) _ (reason_of stop) old new g

@@ -55,6 +55,8 @@ work_runs out program script i (Ok refused) old new is plain g w =
       is,
       plain,
       record {
+        begun = w.begun;
+        geometry = w.geometry;
         banks = w.banks;
         counters = w.counters;
         log = w.log;

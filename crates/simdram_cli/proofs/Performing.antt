@@ -3,7 +3,7 @@ use Rattle.std.proofs.Common.{◌≡◌, ℕ, ◌*◌, List, [], ◌∷◌, ◌+
 use Rattle.dram_model.specs.declared.geometry.Geometry.{Geometry}
 use Rattle.dram_model.specs.declared.dram.Counters.{Counters}
 use Rattle.dram_model.specs.Chip.{Banks, after, all_counted}
-use Rattle.dram_model.specs.View.{ChipView, DidRead, with_reads}
+use Rattle.dram_model.specs.View.{ChipView, DidRead, with_reads, Kept}
 use Rattle.object_alloc.specs.Listed.{Named}
 use Rattle.object_alloc.specs.Spelling.{image_bytes}
 use Rattle.bbop_isa.specs.Forms.{Instruction}
@@ -94,10 +94,11 @@ module _ (program : Program) (script : List Instruction) (i : Image) (shape : Ge
 
   -- what stands when all is done
   pub all_done : (last : ChipView) → DidRead (shape.banks * shape.rows) now last
-      → WorkDone program script i last refused
-  all_done last read =
+      → Kept start last → WorkDone program script i last refused
+  all_done last read kept =
       work_done program script i start now last refused w.holds w.opened_on w.did
-      (subst (λ (s : Geometry). DidRead (s.banks * s.rows) now last) w.shape_is read) w.refused_is
+      (subst (λ (s : Geometry). DidRead (s.banks * s.rows) now last) w.shape_is read) kept
+      w.refused_is
 
 -- the lines are those of the job
 pub lines_are : (program : Program) (script : List Instruction) (i : Image) (shape : Geometry)

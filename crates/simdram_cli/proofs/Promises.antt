@@ -150,6 +150,8 @@ commands_counted t script i program chip refused d =
     let same = sym (same_operations program t d.implements) in
     let all = i.geometry.banks * i.geometry.rows in
     record {
+      begun = d.work.begun;
+      geometry = d.work.geometry;
       aap = ap (λ k. k.aap) d.work.counters ∙ ap
           (λ (o : Routines). (sum_of (replies i.geometry o i.table script)).aap) same;
       ap = ap (λ k. k.ap) d.work.counters ∙ ap

@@ -14,7 +14,7 @@ use Rattle.dram_model.specs.declared.dram.Counters.{Counters}
 use Rattle.dram_model.specs.declared.geometry.Geometry.{Geometry}
 use Rattle.dram_model.specs.Chip.{Banks, Event, after, all_counted, counted}
 use Rattle.dram_model.specs.Chip.Event.{Row, Write}
-use Rattle.dram_model.specs.View.{ChipView, Did, DidRead, with_reads}
+use Rattle.dram_model.specs.View.{ChipView, Did, DidRead, with_reads, Kept}
 use Rattle.object_alloc.specs.declared.fault.ImageNo.{ImageNo}
 use Rattle.object_alloc.specs.declared.fault.ImageNo.TheVariants as no
 use Rattle.object_alloc.specs.Listed.{Named}
@@ -210,8 +210,10 @@ rows_read files sink before a b c g l m =
 
 pub events_done : (t : Trace) (i : Image) (g : Geometry) (a b c : ChipView) → g ≡ i.geometry
     → i.geometry ≡ t.geometry → OpenedOn i a → Did t.events a b → DidRead (g.banks * g.rows) b c
-    → EventsDone t i c
-events_done t i g a b c shape same o did read = record {
+    → Kept a b → Kept b c → EventsDone t i c
+events_done t i g a b c shape same o did read first last = record {
+  begun = last.begun ∙ (first.begun ∙ o.begun);
+  geometry = last.geometry ∙ (first.geometry ∙ (o.geometry ∙ same));
   banks = read.banks ∙ did.banks ∙ ap (after t.events) o.banks;
   counters = read.counters
       ∙ ap (with_reads (g.banks * g.rows)) (did.counters

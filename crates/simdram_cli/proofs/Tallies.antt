@@ -11,7 +11,7 @@ use Rattle.dram_model.specs.declared.dram.Counters.{Counters}
 use Rattle.dram_model.specs.Chip.{Event, Log, LogIs, after, all_counted, Grew}
 use Rattle.dram_model.proofs.EventLaws.{LogIs-more}
 use Rattle.dram_model.specs.Chip.Event.{Write}
-use Rattle.dram_model.specs.View.{ChipView, DidRead, with_reads}
+use Rattle.dram_model.specs.View.{ChipView, DidRead, with_reads, Kept}
 use Rattle.dram_model.proofs.EventLaws.{all_counted-append}
 use Rattle.dram_model.specs.declared.geometry.Geometry.{Geometry}
 use Rattle.dram_model.specs.Geometry.{is_geometry, is_between, fits_size}
@@ -108,13 +108,15 @@ pub work_done : (program : Program) (script : List Instruction) (i : Image) (a b
     (refused : ℕ) → Holds i.geometry i.table → OpenedOn i a
     → DidAndRead (script_events i.geometry (routines_in program) i.table script)
     (sum_done rows_printed i.geometry (routines_in program) i.table script) a b
-    → DidRead (i.geometry.banks * i.geometry.rows) b c → refused ≡ refused_by program script i
-    → WorkDone program script i c refused
-work_done program script i a b c refused holds start did read count =
+    → DidRead (i.geometry.banks * i.geometry.rows) b c → Kept a c
+    → refused ≡ refused_by program script i → WorkDone program script i c refused
+work_done program script i a b c refused holds start did read kept count =
     let o = routines_in program in
     let events = script_events i.geometry o i.table script in
     let printed = sum_done rows_printed i.geometry o i.table script in
     record {
+      begun = kept.begun ∙ start.begun;
+      geometry = kept.geometry ∙ start.geometry;
       banks = read.banks ∙ did.banks ∙ ap (after events) start.banks
           ∙ events_are_steps i.geometry o Ahead i.table script (opened i) holds.words holds.fits;
       counters = read.counters

@@ -35,6 +35,7 @@ use Rattle.trace_model.specs.Replay.{script_trace}
 use Rattle.trace_model.specs.Spelling.{IsEvent, bytes_of_trace, trace_bytes}
 use Rattle.trace_model.proofs.Legal.{events_are_legal}
 use Rattle.cmd_trace.specs.Tape.{NotesView, empty_log, recorded}
+use Rattle.cmd_trace.specs.Widths.{has_begun_below}
 use Rattle.trace_job.specs.Below.{BeginOnChip, IsLate}
 use Rattle.trace_job.specs.Telling.{Saw, Spelled, all_fit}
 use Rattle.trace_job.proofs.Going.{steps_are_below}
@@ -310,9 +311,9 @@ left_by : (program : Program) (script : List Instruction) (i : Image) (m : Machi
     → DidAndRead (events_on m script) (reads_on m script) from last
     → new.banks ≡ last.banks → new.counters ≡ last.counters
     → refused ≡ count_by is_refused (replies (geometry_of m) (routines_in (program_of m))
-    (table_in m) script)
+    (table_in m) script) → HasBegun new → new.geometry ≡ i.geometry
     → WorkDone program script i (unlogged new) refused
-left_by program script i m from last new refused s did banks counters count =
+left_by program script i m from last new refused s did banks counters count begun geometry =
     let o = routines_in program in
     let events = script_events i.geometry o i.table script in
     let printed = sum_done rows_printed i.geometry o i.table script in
@@ -323,6 +324,8 @@ left_by program script i m from last new refused s did banks counters count =
     (subst (λ (n : ℕ). DidAndRead (events_on m script) n from last)
     (own_reads program script i m from s) did) in
     record {
+      begun = begun;
+      geometry = geometry;
       banks = banks ∙ own.banks ∙ ap (after events) s.banks
           ∙ events_are_steps i.geometry o Ahead i.table script (opened i) s.holds.words
           s.holds.fits;
@@ -437,7 +440,7 @@ module _ (names : TraceNames) (script : List Instruction) (m : Machine) (files :
   own_left : WorkDone program script i (unlogged last) refused
   own_left =
       left_by program script i m from (recorded last tape) last refused begun_at d.did refl refl
-      d.count
+      d.count (has_begun_below last tape what_saw.begun) own_shape
 
   -- all steps over the chip, where the store of the trace goes so
   went_all : (end : End) (to : World) → last.faults ≡ to.chip.faults
@@ -656,6 +659,8 @@ own_count : (program : Program) (script : List Instruction) (i : Image) (chip : 
     (refused : ℕ) → WorkDone program script i chip refused
     → WorkDone program script i chip (refused_by program script i)
 own_count program script i chip refused w = record {
+  begun = w.begun;
+  geometry = w.geometry;
   banks = w.banks;
   counters = w.counters;
   log = w.log;

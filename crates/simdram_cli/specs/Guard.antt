@@ -5,7 +5,7 @@ use Rattle.std.specs.List.{AllByRecursion}
 use Rattle.host_edge.specs.Views.{Files, Known}
 use Rattle.dram_model.specs.declared.dram.Counters.{Counters}
 use Rattle.dram_model.specs.Chip.{Banks, Event, LogIs}
-use Rattle.dram_model.specs.View.{ChipView, with_reads}
+use Rattle.dram_model.specs.View.{ChipView, HasBegun, with_reads}
 use Rattle.object_alloc.specs.Listed.{Named}
 use Rattle.object_alloc.specs.Spelling.{IsImage, image_bytes}
 use Rattle.uprog_code.specs.Texts.{TextOp, ImplementsAll}
@@ -108,10 +108,12 @@ work_steps out job =
     (opened job.image) job.script
     ++ last_steps out job
 
--- The job was done, row by row, with so many instructions refused: the banks are what the flips,
--- the votes and the program's commands leave, the counters count them, and a log that is known has
--- the image's writes and then these events
+-- The job was done, row by row, with so many instructions refused: the chip has begun with the
+-- image's geometry; the banks are what the flips, the votes and the program's commands leave, the
+-- counters count them, and a log that is known has the image's writes and then these events
 pub record GuardDone (job : GuardJob) (chip : ChipView) (refused : ℕ) : Type 0 where
+  pub begun : HasBegun chip
+  pub geometry : chip.geometry ≡ job.image.geometry
   pub banks : chip.banks ≡ banks_at_last job
   pub counters : chip.counters ≡ tally_of job
   pub log : LogIs (events_of job) chip.log
@@ -163,10 +165,13 @@ abbrev pub job_by : List TextOp → GuardJob → RunJob
 job_by t job =
     record { text = t; script = job.script; image = job.image; program = job.program }
 
--- Row by row, whatever the flips are: the chip's banks, its counters and its log; OUT, which has
--- the guarded word machine's table and these rows; the report; and the status
+-- Row by row, whatever the flips are: the chip, which has begun with the image's geometry, its
+-- banks, its counters and its log; OUT, which has the guarded word machine's table and these rows;
+-- the report; and the status
 pub record GuardedRows (out : List ℕ) (job : GuardJob) (after : Files) (old new : World)
     (status : ℕ) : Type 0 where
+  pub begun : HasBegun new.chip
+  pub geometry : new.chip.geometry ≡ job.image.geometry
   pub banks : new.chip.banks ≡ banks_at_last job
   pub counters : new.chip.counters ≡ tally_of job
   pub log : LogIs (events_of job) new.chip.log

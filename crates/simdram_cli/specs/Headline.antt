@@ -5,7 +5,7 @@ use Rattle.std.specs.List.{AllByRecursion}
 use Rattle.std.specs.Result.{result_ok}
 use Rattle.host_edge.specs.Views.{Files, Known}
 use Rattle.dram_model.specs.Chip.{LogIs, row_in}
-use Rattle.dram_model.specs.View.{ChipView}
+use Rattle.dram_model.specs.View.{ChipView, HasBegun}
 use Rattle.object_alloc.specs.Spelling.{image_bytes}
 use Rattle.uprog_bin.specs.Spelling.{program_bytes}
 use Rattle.bbop_isa.specs.Forms.{Instruction}
@@ -93,9 +93,11 @@ RowsUntouched job chip =
     → is_touched_by job.image.geometry (operations job) job.image.table job.script bank row ≡ false
     → row_in row (chip.banks bank) ≡ job.image.rows bank row
 
--- The chip received what the replies count, and nothing else; its banks are what the commands of
--- the program written leave
+-- The chip has begun with the image's geometry. It received what the replies count, and nothing
+-- else; its banks are what the commands of the program written leave
 pub record CommandsCounted (job : RunJob) (chip : ChipView) : Type 0 where
+  pub begun : HasBegun chip
+  pub geometry : chip.geometry ≡ job.image.geometry
   pub aap : chip.counters.aap ≡ (sum_of (replies_of job)).aap
   pub ap : chip.counters.ap ≡ (sum_of (replies_of job)).ap
   pub writes : chip.counters.writes ≡ job.image.geometry.banks * job.image.geometry.rows

@@ -5,7 +5,7 @@ use Rattle.dram_model.specs.declared.address.Command.TheVariants.{Ap, Aap}
 use Rattle.dram_model.specs.declared.dram.Counters.{Counters}
 use Rattle.dram_model.specs.Chip.{Event, LogIs}
 use Rattle.dram_model.specs.Chip.Event.{Row, Write}
-use Rattle.dram_model.specs.View.{ChipView}
+use Rattle.dram_model.specs.View.{ChipView, HasBegun}
 use Rattle.host_edge.specs.Views.{Files, Known}
 use Rattle.object_alloc.specs.Spelling.{image_bytes}
 use Rattle.machine_model.specs.Opened.{Image, row_writes, rows_of}
@@ -63,9 +63,12 @@ abbrev pub events_steps : List ℕ → Trace → Image → List Step
 events_steps out t i = Open ∷ Use ∷ Use ∷ Store out (image_replayed t i)
     ∷ Put (replay_line (replay_counters t)) ∷ []
 
--- The trace's events were done on the image, and nothing else: the banks are what they leave, the
--- counters count them, and a log that is known has the image's writes and then the trace's events
+-- The trace's events were done on the image, and nothing else: the chip has begun with the trace's
+-- geometry; the banks are what they leave, the counters count them, and a log that is known has the
+-- image's writes and then the trace's events
 pub record EventsDone (t : Trace) (i : Image) (chip : ChipView) : Type 0 where
+  pub begun : HasBegun chip
+  pub geometry : chip.geometry ≡ t.geometry
   pub banks : chip.banks ≡ replayed t.events i
   pub counters : chip.counters ≡ replay_counters t
   pub log : LogIs (row_writes i ++ t.events) chip.log

@@ -26,11 +26,13 @@ pub record OpenedOn (i : Image) (chip : ChipView) : Type 0 where
   pub counters : chip.counters ≡ opened_counters i.geometry
   pub log : LogIs (row_writes i) chip.log
 
--- The script was done on the image, row by row, with so many instructions refused: the banks are
--- what the program's commands leave, the counters count them, and a log that is known has the
--- image's writes and then the script's events
+-- The script was done on the image, row by row, with so many instructions refused: the chip has
+-- begun with the image's geometry; the banks are what the program's commands leave, the counters
+-- count them, and a log that is known has the image's writes and then the script's events
 pub record WorkDone (program : Program) (script : List Instruction) (i : Image) (chip : ChipView)
     (refused : ℕ) : Type 0 where
+  pub begun : HasBegun chip
+  pub geometry : chip.geometry ≡ i.geometry
   pub banks : chip.banks ≡ banks_at_end i.geometry (routines_in program) i.table (opened i) script
   pub counters : chip.counters ≡ tally_by program script i
   pub log : LogIs (row_writes i

@@ -5,7 +5,7 @@ ghost use Rattle.std.specs.Prelude.{None, IfOk, IfErr, OnOk, false, true};
 ghost use Rattle.std.specs.List.{AllByRecursion};
 ghost use Rattle.host_edge.specs.Views.{FolderView};
 ghost use Rattle.dram_model.specs.Geometry.{is_geometry};
-ghost use Rattle.dram_model.specs.View.{DidRead, HasBegun, with_reads};
+ghost use Rattle.dram_model.specs.View.{DidRead, HasBegun, Kept, with_reads};
 ghost use Rattle.object_alloc.specs.Exact.{found_in};
 ghost use Rattle.object_alloc.specs.Reading.{rows_size};
 ghost use Rattle.object_alloc.specs.Spelling.{IsImage, image_bytes, rows_in};
@@ -163,6 +163,7 @@ fn finish_guarded<'a, F: Folder, S: Sink, D: Dram>(
     requires geometry { (D.view chip.old).geometry ≡ geometry_of (machine_in guard.old) }
     requires reads { (D.view chip.old).counters.reads < 2 ^ 62 }
     ensures borrow { D.borrow chip.new ≡ D.borrow chip.old }
+    ensures kept { Kept (D.view chip.old) (D.view chip.new) }
     ensures did { OnOk result (DidRead ((geometry_of (machine_in guard.old)).banks
         * (geometry_of (machine_in guard.old)).rows) (D.view chip.old) (D.view chip.new)) }
     ensures goes { Goes (Use ∷ Store name.now (image_bytes (geometry_of (machine_in guard.old))

@@ -4,7 +4,7 @@ ghost use Rattle.std.specs.Prelude.{◌≡◌, ◌+◌, ◌*◌, ◌<◌, ◌≤
 ghost use Rattle.std.specs.Prelude.{IfOk, OnOk};
 ghost use Rattle.std.specs.List.{AllByRecursion};
 ghost use Rattle.host_edge.specs.Views.{FolderView, SinkView};
-ghost use Rattle.dram_model.specs.View.{HasBegun, DidRead, with_reads};
+ghost use Rattle.dram_model.specs.View.{HasBegun, DidRead, Kept, with_reads};
 ghost use Rattle.object_alloc.specs.Exact.{found_in};
 ghost use Rattle.object_alloc.specs.Reading.{rows_size};
 ghost use Rattle.object_alloc.specs.Spelling.{image_bytes};
@@ -73,6 +73,7 @@ fn finish<'a, F: Folder, S: Sink, D: Dram>(
     requires geometry { (D.view chip.old).geometry ≡ geometry_of machine.old }
     requires reads { (D.view chip.old).counters.reads < 2 ^ 62 }
     ensures borrow { D.borrow chip.new ≡ D.borrow chip.old }
+    ensures kept { Kept (D.view chip.old) (D.view chip.new) }
     ensures did { OnOk result (DidRead ((geometry_of machine.old).banks
         * (geometry_of machine.old).rows) (D.view chip.old) (D.view chip.new)) }
     ensures goes { Goes (Use ∷ Store name.now (image_bytes (geometry_of machine.old)

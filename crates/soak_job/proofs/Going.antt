@@ -6,7 +6,7 @@ use Rattle.std.specs.Prelude.{Result, Ok, Err, IfOk}
 use Rattle.host_edge.specs.Views.{FolderView, SinkView, Known, AppendsPart}
 use Rattle.fault_counts.specs.Counts.{Rose}
 use Rattle.dram_model.specs.declared.dram.Counters.{Counters}
-use Rattle.dram_model.specs.View.{Began, ChipView, NotBegun}
+use Rattle.dram_model.specs.View.{Began, ChipView, Kept, NotBegun}
 use Rattle.dram_model.proofs.EventLaws.{Did-none, Grew-more, LogIs-more}
 use Rattle.uprog_code.specs.Shape.{Microprogram}
 use Rattle.cli_model.specs.World.{World, world}
@@ -210,16 +210,18 @@ not_known state files s t chip known l rose = record {
 }
 
 left_of : (seed : ℕ) (ms : List Microprogram) (begun last : ChipView)
-    (result : Result Unit SoakNo) → Began soak_chip begun
+    (result : Result Unit SoakNo) → Began soak_chip begun → Kept begun last
     → IfOk result (λ u. CasesDone seed soak_cases ms begun last)
     → IfOk result (λ u. SoakLeft seed ms last)
-left_of seed ms begun last (Err why) began done = tt
-left_of seed ms begun last (Ok u) began done =
+left_of seed ms begun last (Err why) began kept done = tt
+left_of seed ms begun last (Ok u) began kept done =
     let aap_is = ap (λ (k : Counters). k.aap) began.counters in
     let ap_is = ap (λ (k : Counters). k.ap) began.counters in
     let writes_are = ap (λ (k : Counters). k.writes) began.counters in
     let reads_are = ap (λ (k : Counters). k.reads) began.counters in
     record {
+      begun = kept.begun ∙ began.begun;
+      geometry = kept.geometry ∙ began.geometry;
       all = done.all;
       counters = done.counters ∙ counters_same _ _ _ _ _ _ _ _ (omega (arith, aap_is))
           (omega (arith, ap_is)) (omega (arith, writes_are)) (omega (arith, reads_are));
@@ -229,13 +231,13 @@ left_of seed ms begun last (Ok u) began done =
 -- the chip began, and the cases followed
 pub soak_goes : (seed : ℕ) (files : FolderView) (s : SinkView) (a b : ChipView) (last : World)
     (result : Result Unit SoakNo) → Began soak_chip b → a.faults ≤ b.faults
-    → CasesGo seed soak_cases (world files s b) last result
+    → Kept b last.chip → CasesGo seed soak_cases (world files s b) last result
     → SoakGoes seed (world files s a) last result
-soak_goes seed files s a b last result began l go = record {
+soak_goes seed files s a b last result began l kept go = record {
   programs = go.programs;
   are = go.are;
   goes = inl (world files s b, (chip_used files s a b l, go.goes));
-  left = left_of seed go.programs b last.chip result began go.done;
+  left = left_of seed go.programs b last.chip result began kept go.done;
 }
 
 pub soak_unopened : (seed : ℕ) (files : FolderView) (s : SinkView) (a b : ChipView)

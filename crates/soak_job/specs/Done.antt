@@ -2,7 +2,7 @@
 use Rattle.std.specs.Prelude.{◌≡◌, ℕ, ◌+◌, ◌*◌, List, [], ◌∷◌, ◌++◌, Result, Ok, Err}
 use Rattle.std.specs.Prelude.{None, IfOk, length, sum_by}
 use Rattle.dram_model.specs.Chip.{Event, Grew, LogIs}
-use Rattle.dram_model.specs.View.{ChipView}
+use Rattle.dram_model.specs.View.{ChipView, HasBegun}
 use Rattle.op_text.specs.WordOps.{second_kind}
 use Rattle.uprog_code.specs.Shape.{Microprogram}
 use Rattle.cli_model.specs.World.{World}
@@ -13,7 +13,8 @@ use Rattle.soak_job.specs.declared.job.SoakNo.TheVariants as no
 use Rattle.soak_case.specs.declared.cases.Case.{Case}
 use Rattle.soak_case.specs.Cases.{source_kinds, soak_cases}
 use Rattle.soak_case.specs.Words.{after_all}
-use Rattle.soak_case.specs.Layout.{case_events, source_rows, result_rows, FitsChip}
+use Rattle.soak_case.specs.Layout.{case_events, source_rows, result_rows, soak_chip}
+use Rattle.soak_case.specs.Layout.{FitsChip}
 use Rattle.soak_case.specs.Sums.{case_line, in_both_banks}
 use Rattle.soak_case.specs.Done.{CaseDone, IsProgramOf, RisesLittle}
 use Rattle.soak_job.specs.Steps.{AreProgramsOf, cases_steps, soak_steps}
@@ -55,10 +56,13 @@ abbrev pub end_of : {A : Type 0} → Result A SoakNo → End
 end_of (Ok done) = Done
 end_of (Err why) = end_by why
 
--- What a soak leaves on the chip: each case has its program; the counters are the sums of what the
--- lines tell, two writes for each row of a source and two reads for each row of a result, one in
--- each bank; and a log that is known has the events of the cases alone
+-- What a soak leaves on the chip, which has begun with a soak's geometry: each case has its
+-- program; the counters are the sums of what the lines tell, two writes for each row of a source
+-- and two reads for each row of a result, one in each bank; and a log that is known has the events
+-- of the cases alone
 pub record SoakLeft (seed : ℕ) (ms : List Microprogram) (chip : ChipView) : Type 0 where
+  pub begun : HasBegun chip
+  pub geometry : chip.geometry ≡ soak_chip
   pub all : length ms ≡ length soak_cases
   pub counters : chip.counters ≡ record {
     aap = over_cases (λ c m. (in_both_banks c m).aap) soak_cases ms;

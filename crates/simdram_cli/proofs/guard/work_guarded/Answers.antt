@@ -1,5 +1,6 @@
 use Rattle.std.proofs.Common.{map, ◌∙◌, ap}
 use Rattle.std.proofs.lemmas.Result.{err_from_is_err_and}
+use Rattle.dram_model.proofs.EventLaws.{Kept-more}
 use Rattle.object_alloc.specs.Exact.{found_in}
 use Rattle.bbop_isa.specs.Forms.{view_of}
 use Rattle.guard_job.specs.declared.scripts.Outcome.{Outcome}
@@ -161,5 +162,7 @@ returns-clause-done g c =
       votes_is = did.votes;
       refused_is = did.refused;
     }) in
-    all_done job (geometry_of last) (table_in last) now outcome.votes outcome.refused w
-    (g.D.Dram.view c.finish_guarded.new.chip) c.in_ok-finish_guarded.ensures.did
+    let end = g.D.Dram.view c.finish_guarded.new.chip in
+    all_done job (geometry_of last) (table_in last) now outcome.votes outcome.refused w start end
+    opened.opened (Kept-more start now end c.guard_script.ensures.kept c.finish_guarded.ensures.kept)
+    c.in_ok-finish_guarded.ensures.did

@@ -1,5 +1,6 @@
 use Rattle.std.proofs.Common.{◌∙◌, map}
 use Rattle.std.proofs.lemmas.Result.{err_from_is_err_and}
+use Rattle.dram_model.proofs.EventLaws.{Kept-more}
 use Rattle.object_alloc.specs.Exact.{found_in}
 use Rattle.bbop_isa.specs.Forms.{view_of}
 use Rattle.cli_model.specs.World.{world}
@@ -153,3 +154,4 @@ returns-clause-done g c =
     } in
     all_done program script i (geometry_of last) (table_in last) start now c.in_ok-refused.refused
     worked (g.D.Dram.view c.finish.new.chip) c.in_ok-finish.ensures.did
+    (Kept-more start now (g.D.Dram.view c.finish.new.chip) c.work.ensures.kept c.finish.ensures.kept)

@@ -61,6 +61,7 @@ returns-clause-done g c =
     (geometry_of c.in_ok-machine.machine) (g.D.Dram.view c.open.new.chip)
     (g.D.Dram.view c.replay_events.new.dram) (g.D.Dram.view c.image_with.new.dram)
     c.in_ok-machine.ensures.shape c.requires.same c.in_ok-machine.ensures.opened did read
+    c.replay_events.ensures.kept c.image_with.ensures.kept
 
 pub returns-clause-file : goal.returns-clause-file
 returns-clause-file g c =

@@ -24,7 +24,7 @@ returns-clause-goes g c files =
     c.soak_cases.new.chip)
     in
     soak_goes c.args.seed files sink (g.D.Dram.view c.args.chip.now) begun last c.soak_cases.result
-    c.in-Ok.ensures.began c.begin.ensures.faults
+    c.in-Ok.ensures.began c.begin.ensures.faults c.soak_cases.ensures.kept
     (subst (λ (cs : List Case). CasesGo c.args.seed cs (world files sink begun) last
     c.soak_cases.result) same
     (subst (λ s. CasesGo s c.as_slice.result.now (world files sink begun) last c.soak_cases.result)
