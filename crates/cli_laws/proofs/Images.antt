@@ -1,6 +1,6 @@
 -- An accepted image is never too long, and its objects are ones that an image may have.
 use Rattle.std.proofs.Common.{◌≡◌, ℕ, zero, suc, ◌+◌, ◌*◌, ◌≤◌, true, List, [], ◌∷◌, ◌++◌}
-use Rattle.std.proofs.Common.{length, length-append, ◌∙◌, ap, refl, subst, arith}
+use Rattle.std.proofs.Common.{length, length-append, ap, refl, subst, arith}
 use Rattle.std.specs.Prelude.{All, Option, Some, None, Result, Ok, Err, ◌&&◌, nat_le}
 use Rattle.std.specs.Int.{w8, w16, w32}
 use Rattle.std.specs.Result.{result_ok}

@@ -1,6 +1,6 @@
 -- The files at entry decide what a scan tells.
 use Rattle.std.proofs.Common.{◌≡◌, ◌⊎◌, ℕ, ◌<◌, ◌≤◌, Bool, true, false, cond, List, [], ◌∷◌, ◌++◌}
-use Rattle.std.proofs.Common.{length, map, Option, Some, None, refl, sym, ◌∙◌, ap, subst, inl, inr}
+use Rattle.std.proofs.Common.{map, Option, Some, None, refl, sym, ◌∙◌, ap, subst, inl, inr}
 use Rattle.std.proofs.Common.{append-nil, append_assoc, arith}
 use Rattle.std.specs.Prelude.{All as Each, IfSome, IfErr, bytes_eq}
 use Rattle.std.specs.List.{AllByRecursion, list_all}
@@ -35,7 +35,7 @@ use Rattle.scan_model.proofs.Parsed.{once}
 use Rattle.cli_model.specs.World.{World}
 use Rattle.cli_model.specs.Ends.{All, At, AppendsAfter, Ended, EndsSo, IsAllDone, IsForetold, Sends}
 use Rattle.cli_model.specs.Foreseen.{foreseen}
-use Rattle.cli_model.specs.Plan.{AreTexts, Leaves, Plan, Way, last_status, refused_last, steps_of}
+use Rattle.cli_model.specs.Plan.{AreTexts, Leaves, Way, last_status, refused_last, steps_of}
 use Rattle.cli_model.specs.Runs.{EndsBy, LeavesAt, TellsLast}
 use Rattle.cli_model.specs.Stands.{sent_by}
 use Rattle.cli_model.specs.Status.{Says}
@@ -53,7 +53,7 @@ use Rattle.simdram_cli.specs.Scan.{DoesScans, ScanLeft, Scanned, answer_on, answ
 use Rattle.simdram_cli.specs.Scan.{count_line, number_found, scan_counters, scan_counts}
 use Rattle.simdram_cli.specs.Scan.{scan_plan, use_steps}
 use Rattle.simdram_cli.proofs.JobPlans.{image_refuses}
-use Rattle.cli_laws.specs.Unique.{OneAnswered, OneScanned, SameAnswer, Tells}
+use Rattle.cli_laws.specs.Unique.{OneAnswered, OneScanned, Tells}
 use Rattle.cli_laws.proofs.Images.{image_objects}
 use Rattle.cli_laws.proofs.Unique.{one_value}
 
@@ -216,8 +216,13 @@ scan_so : (status : ℕ) (names : ScanNames) (way : Way (scan_plan names)) → N
     → OfSteps (IsOther status) (steps_of (scan_plan names) way)
 scan_so status names (inl cut) n = tt
 scan_so status names (inr (text, inr (refusal, is))) n = (
-  (n.two, n.eleven, n.ten, refused_so (IsOther status) (query_in text) refusal is
-      (broken_so (IsOther status) (fault_in text) n.fifteen)),
+  (
+    n.two,
+    n.eleven,
+    n.ten,
+    refused_so (IsOther status) (query_in text) refusal is
+        (broken_so (IsOther status) (fault_in text) n.fifteen),
+  ),
   tt,
 )
 scan_so status names (inr (text, inl (u, is, inl cut))) n = ((n.two, n.eleven, n.ten, tt), tt)

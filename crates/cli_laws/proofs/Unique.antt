@@ -1,5 +1,5 @@
 -- What the files at entry decide.
-use Rattle.std.proofs.Common.{◌≡◌, ◌≢◌, ℕ, Bool, true, false, List, [], length, map, Option, Some}
+use Rattle.std.proofs.Common.{◌≡◌, ◌≢◌, ℕ, Bool, true, false, List, length, map, Option, Some}
 use Rattle.std.proofs.Common.{None, refl, sym, ◌∙◌, ap, inr}
 use Rattle.std.specs.Prelude.{bytes_eq}
 use mathlib.Core.Path.{fun_ext}
