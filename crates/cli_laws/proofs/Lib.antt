@@ -1,3 +1,4 @@
 pub mod Images
 pub mod Replays
+pub mod Scans
 pub mod Unique

@@ -1,10 +1,9 @@
 -- A replay accepts what a recorded execution stored, and leaves what it left.
-use Rattle.std.proofs.Common.{◌≡◌, ◌≤◌, ℕ, true, cond, List, [], ◌∷◌, Option, Some}
-use Rattle.std.proofs.Common.{None, refl, sym, ◌∙◌, ap, subst, length, inl, inr}
-use Rattle.std.specs.Prelude.{◌==◌, ◌⊎◌, Result, Ok, Err, IfSome}
+use Rattle.std.proofs.Common.{◌≡◌, ◌≤◌, ℕ, true, cond, List, Option, Some}
+use Rattle.std.proofs.Common.{None, refl, sym, ◌∙◌, ap, subst, length, inl}
+use Rattle.std.specs.Prelude.{◌==◌, Result, Ok, Err, IfSome}
 use Rattle.std.specs.List.{list_any}
 use Rattle.std.specs.Result.{result_ok}
-use Rattle.std.proofs.lemmas.Bool.{le-ltb}
 use Rattle.dram_model.specs.declared.geometry.Geometry.{Geometry}
 use Rattle.host_edge.specs.Views.{Files}
 use Rattle.object_alloc.specs.Reading.{Found, ImageFault, image_in}

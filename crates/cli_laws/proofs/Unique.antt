@@ -1,5 +1,5 @@
 -- What the files at entry decide.
-use Rattle.std.proofs.Common.{◌≡◌, ◌≢◌, ℕ, Bool, true, false, List, [], length, map, Option, Some}
+use Rattle.std.proofs.Common.{◌≡◌, ◌≢◌, ℕ, Bool, true, false, List, length, map, Option, Some}
 use Rattle.std.proofs.Common.{None, refl, sym, ◌∙◌, ap, inr}
 use Rattle.std.specs.Prelude.{bytes_eq}
 use mathlib.Core.Path.{fun_ext}
@@ -15,8 +15,6 @@ use Rattle.bbop_isa.specs.Forms.{Instruction}
 use Rattle.machine_model.specs.Opened.{Image, rows_of}
 use Rattle.machine_model.specs.Routines.{Program}
 use Rattle.guard_model.specs.declared.Flip.{Flip}
-use Rattle.scan_model.specs.Queries.{Query}
-use Rattle.scan_model.proofs.Parsed.{once}
 use Rattle.trace_model.specs.Spelling.{Trace, bytes_of_trace}
 use Rattle.trace_model.specs.Replay.{replayed, script_trace}
 use Rattle.trace_model.proofs.Files.{files_are_exact}
@@ -30,15 +28,14 @@ use Rattle.simdram_cli.specs.Guard.{GuardJob, Guarded, guard_job, image_at_last}
 use Rattle.simdram_cli.specs.Guard.{refused_of, table_at_last}
 use Rattle.simdram_cli.specs.Headline.{Spells, read_as}
 use Rattle.simdram_cli.specs.Job.{done_status, image_by, refused_by}
-use Rattle.simdram_cli.specs.Queries.{AsksIn}
 use Rattle.simdram_cli.specs.Replay.{image_replayed}
 use Rattle.simdram_cli.specs.Tracing.{Traced, exec_of, trace_of, unlogged_world}
 use Rattle.cli_laws.proofs.Replays.{same_ok}
-use Rattle.cli_laws.specs.Unique.{OneExecuted, OneGuardedJob, OneRecorded, OneReplayed, OneScanned}
+use Rattle.cli_laws.specs.Unique.{OneExecuted, OneGuardedJob, OneRecorded, OneReplayed}
 use Rattle.cli_laws.specs.Unique.{SameGuarded, SameInputs, SameWork}
 use Rattle.cli_model.proofs.Files.{at_own}
 
-one_value : {A : Type 0} (o : Option A) (x y : A) → o ≡ Some x → o ≡ Some y → x ≡ y
+pub one_value : {A : Type 0} (o : Option A) (x y : A) → o ≡ Some x → o ≡ Some y → x ≡ y
 one_value {A = A} o x y e f = let g : ◌≡◌ {A = Option A} (Some x) (Some y) = sym e ∙ f in cc
 
 -- the same of the same three
@@ -160,18 +157,6 @@ one_replayed names before after later a b c d r s =
       files = same_files names.out.now names.out.now before after later out out
           (λ name m n. r.others name m) (λ name m n. s.others name m);
     }
-
--- Scans
-
-same_query : (file : Option (List ℕ)) (p q : Query) → AsksIn file p → AsksIn file q → p ≡ q
-same_query None p q x y = absurd x
-same_query (Some text) p q x y = (once p q [] [] (sym x.spelling ∙ y.spelling)).0
-
-pub one_scanned : OneScanned
-one_scanned names before a b c d s t = record {
-  query = same_query (before names.query.now) s.query t.query s.query_is t.query_is;
-  image = one_value _ s.image t.image s.image_is t.image_is;
-}
 
 -- Guarded runs
 

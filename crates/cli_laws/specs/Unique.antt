@@ -1,8 +1,13 @@
 -- What the files at entry decide. Two promises of one command that hold of the same names and the
 -- same files at entry speak of the same things.
-use Rattle.std.specs.Prelude.{◌≡◌, ℕ}
-use Rattle.host_edge.specs.Views.{Files}
+use Rattle.std.specs.Prelude.{◌≡◌, ◌⊎◌, ℕ, List, [], ◌++◌, Some}
+use Rattle.host_edge.specs.Views.{Files, Known}
+use Rattle.machine_model.specs.Opened.{Image}
+use Rattle.machine_model.specs.Routines.{Program}
+use Rattle.scan_model.specs.Answers.{Answer, Found, Refused as NotFound, query_count}
+use Rattle.scan_model.specs.Queries.{Query}
 use Rattle.cli_model.specs.World.{World}
+use Rattle.cli_model.specs.Ends.{Sends}
 use Rattle.simdram_cli.specs.declared.words.ExecNames.{ExecNames}
 use Rattle.simdram_cli.specs.declared.words.GuardNames.{GuardNames}
 use Rattle.simdram_cli.specs.declared.words.ReplayNames.{ReplayNames}
@@ -10,8 +15,12 @@ use Rattle.simdram_cli.specs.declared.words.ScanNames.{ScanNames}
 use Rattle.simdram_cli.specs.declared.words.TraceNames.{TraceNames}
 use Rattle.simdram_cli.specs.Exec.{Executed}
 use Rattle.simdram_cli.specs.Guard.{Guarded}
+use Rattle.simdram_cli.specs.Headline.{read_as}
+use Rattle.simdram_cli.specs.Inputs.{image_of}
+use Rattle.simdram_cli.specs.Queries.{AsksIn, scan_refusal}
 use Rattle.simdram_cli.specs.Replay.{Replayed}
-use Rattle.simdram_cli.specs.Scan.{Scanned}
+use Rattle.simdram_cli.specs.Scan.{DoesScans, ScanEnds, Scanned, answer_on, count_line}
+use Rattle.simdram_cli.specs.Scan.{number_found, scan_counts}
 use Rattle.simdram_cli.specs.Tracing.{Traced, trace_of}
 
 -- two executions do one script on one image, with one program
@@ -67,18 +76,59 @@ OneReplayed =
     (names : ReplayNames) (before after later : Files) (a b c d : World)
     (r : Replayed names before after a b) (s : Replayed names before later c d) → SameReplay r s
 
--- two scans ask one query of one image
+-- the line of a scan that is done
+abbrev pub line_of : {names : ScanNames} {before : Files} {a b : World} → Scanned names before a b
+    → List ℕ
+line_of s = count_line (number_found s.query s.image) (query_count s.image.table s.query)
+    (scan_counts s.program s.query s.image)
+
+-- two scans that are done ask one query of one image; what they sent is one line, with the same
+-- counts, and the chip's counters are the same
 pub record SameScan {names : ScanNames} {before : Files} {a b c d : World}
     (s : Scanned names before a b) (t : Scanned names before c d) : Type 0 where
   pub query : s.query ≡ t.query
   pub image : s.image ≡ t.image
+  pub line : line_of s ≡ line_of t
+  pub counters : b.chip.counters ≡ d.chip.counters
 
 -- QUERY and IMAGE decide the query and the image of a scan, and so how many elements are found of
--- how many. They do not decide its program, which is any that does the operations of scans
+-- how many, and by how many row commands: its program is any that does the operations of scans,
+-- and all of these take as many
 abbrev pub OneScanned : Type 0
 OneScanned =
     (names : ScanNames) (before : Files) (a b c d : World) (s : Scanned names before a b)
     (t : Scanned names before c d) → SameScan s t
+
+-- What a scan tells of its answer: it ends with 0, and the line of what was found is what was sent;
+-- or it ends with 16, and what was sent is the line that tells why it is refused and where, or a
+-- part of it where the sink's count of faults rose
+abbrev pub Tells : Answer → World → World → ℕ → Type 0
+Tells (Found found of counts) old new status = (status ≡ 0)
+    × Known (λ x y. y ≡ x ++ count_line found of counts) old.sink.sent new.sink.sent
+Tells (NotFound why k) old new status = (status ≡ 16)
+    × Sends [] (scan_refusal why k).line old new
+
+-- two scans have one answer, that of one query on one image, and each tells it
+pub record SameAnswer (names : ScanNames) (before : Files) (a b c d : World)
+    (status other : ℕ) : Type 0 where
+  pub query : Query
+  pub image : Image
+  pub program : Program
+  pub query_is : AsksIn (before names.query.now) query
+  pub image_is : read_as image_of (before names.image.now) ≡ Some image
+  pub does : DoesScans program
+  pub one : Tells (answer_on program query image) a b status
+  pub two : Tells (answer_on program query image) c d other
+
+-- QUERY and IMAGE decide what a scan tells that ends with 0 or 16: its status and its line, which
+-- has its counts, or why the query is refused and at which comparison or node
+abbrev pub OneAnswered : Type 0
+OneAnswered =
+    (names : ScanNames) (before : Files) (a b c d : World) (status other : ℕ)
+    → a.files.holds ≡ Some before → c.files.holds ≡ Some before
+    → ScanEnds names a b status → ScanEnds names c d other
+    → (status ≡ 0) ⊎ (status ≡ 16) → (other ≡ 0) ⊎ (other ≡ 16)
+    → SameAnswer names before a b c d status other
 
 -- two guarded runs have the ops of one text, one script, one image and one list of flips
 pub record SameInputs {names : GuardNames} {before after later : Files} {a b c d : World}

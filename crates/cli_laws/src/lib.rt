@@ -3,7 +3,7 @@
 
 ghost use Rattle.cli_laws.specs.Replays.{TracesAreAccepted, TracesReplay};
 ghost use Rattle.cli_laws.specs.Unique.{OneExecuted, OneGuardedJob, OneRecorded, OneReplayed};
-ghost use Rattle.cli_laws.specs.Unique.{OneScanned};
+ghost use Rattle.cli_laws.specs.Unique.{OneAnswered, OneScanned};
 
 /// A replay of what an execution recorded, on the image that it read, writes the same image.
 pub fn traces_replay()
@@ -31,9 +31,11 @@ pub fn one_replayed()
     ensures { OneReplayed }
 {}
 
-/// Two scans of the same files ask one query of one image.
+/// Two scans of the same files ask one query of one image, and tell one line: the same counts, or
+/// that the query is refused, why and where.
 pub fn one_scanned()
-    ensures { OneScanned }
+    ensures counted { OneScanned }
+    ensures told { OneAnswered }
 {}
 
 /// Two guarded runs of the same files have the ops of one text, one script, one image and one list

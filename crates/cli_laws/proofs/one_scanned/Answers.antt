@@ -1,5 +1,5 @@
-use Rattle.cli_laws.proofs.Unique as unique
+use Rattle.cli_laws.proofs.Scans.{one_answered, one_scanned}
 use Rattle.cli_laws.proofs.one_scanned.Goals as goal
 
 pub returns : goal.returns
-returns c = unique.one_scanned
+returns c = record { counted = one_scanned; told = one_answered }
