@@ -1,14 +1,12 @@
 -- Events that are done one after another.
 use Rattle.std.proofs.Common.{◌≡◌, ℕ, suc, ◌+◌, ◌-◌, ◌<◌, ◌≤◌, true}
-use Rattle.std.proofs.Common.{List, [], ◌∷◌, ◌++◌, length, take, refl, sym, ◌∙◌, ap, subst, arith}
-use Rattle.std.proofs.Common.{append-nil, length-append}
+use Rattle.std.proofs.Common.{List, [], ◌∷◌, ◌++◌, refl, ◌∙◌, ap, subst, arith}
+use Rattle.std.proofs.Common.{append-nil}
 use Rattle.std.specs.Prelude.{Result, Ok, Err, OnErr}
-use Rattle.std.proofs.lemmas.List.{take_at}
 use Rattle.dram_model.specs.declared.geometry.Geometry.{Geometry}
-use Rattle.dram_model.specs.Chip.{Event, Grew}
-use Rattle.dram_model.specs.View.{ChipView, Did, Kept}
+use Rattle.dram_model.specs.Chip.{Banks, Event, Grew, bank_of}
+use Rattle.dram_model.specs.View.{ChipView, Did, FailedIn, Kept}
 use Rattle.dram_model.proofs.EventLaws.{Grew-more}
-use Rattle.fault_counts.specs.Counts.{Rose}
 use Rattle.cmd_trace.specs.Replaying.{StoppedIn}
 use Rattle.file_fields.specs.Fields.{◌>>=◌, IsBytes}
 use Rattle.trace_model.specs.Spelling.{IsEvent}
@@ -87,20 +85,19 @@ pub event_fits : (g : Geometry) (at : ℕ) (bytes : List ℕ) (event : Event) (n
 event_fits g at bytes event next fits e = (event_takes g at bytes (event, next) fits e).is
 
 -- a call failed after the events so far
-pub stopped : (events front left : List Event) (first mid new : ChipView)
-    → front ++ left ≡ events → 0 < length left → Did front first mid → Kept first mid
-    → Rose mid.faults new.faults → Grew mid.log new.log [] → StoppedIn events first new
-stopped events front left first mid new e some did kept rose grew =
-    let long = length-append front left in
-    record {
-      done = length front;
-      before = subst (λ (es : List Event). length front < length es) e (omega (arith, long, some));
-      known = subst (λ (es : List Event). Grew first.log new.log (take (length front) es)) e
-          (subst (λ (es : List Event). Grew first.log new.log es)
-          (append-nil front ∙ sym (take_at front left (length front) refl))
-          (Grew-more first.log mid.log new.log front [] did.log grew));
-      rose = omega (arith, rose, kept.faults);
-    }
+pub stopped : (done left events : List Event) (event : Event) (first mid new : ChipView)
+    → done ++ event ∷ left ≡ events → Did done first mid → Kept first mid
+    → FailedIn (bank_of event) mid new → Grew mid.log new.log [] → StoppedIn events first new
+stopped done left events event first mid new e did kept failed grew = record {
+  done = done;
+  event = event;
+  left = left;
+  all = e;
+  known = subst (λ (es : List Event). Grew first.log new.log es) (append-nil done)
+      (Grew-more first.log mid.log new.log done [] did.log grew);
+  others = λ bank other. failed.others bank other ∙ ap (λ (banks : Banks). banks bank) did.banks;
+  rose = omega (arith, failed.rose, kept.faults);
+}
 
 pub on_err : {T E P : Type 0} (r : Result T E) → P → OnErr r P
 on_err (Ok x) p = tt

@@ -2,9 +2,8 @@
 
 ghost use Rattle.std.specs.Prelude.{◌≡◌, ℕ, ◌+◌, ◌*◌, ◌<◌, ◌≤◌, ◌^◌, ◌∷◌, [], length, true, OnOk};
 ghost use Rattle.std.specs.Prelude.{OnErr};
-ghost use Rattle.dram_model.specs.Chip.{Grew};
-ghost use Rattle.dram_model.specs.View.{HasBegun, Kept, Did};
-ghost use Rattle.fault_counts.specs.Counts.{Rose};
+ghost use Rattle.dram_model.specs.Chip.{Grew, bank_of};
+ghost use Rattle.dram_model.specs.View.{HasBegun, Kept, Did, FailedIn};
 ghost use Rattle.trace_model.specs.Spelling.{IsEvent};
 ghost use Rattle.trace_model.specs.Reading.{events_at};
 ghost use Rattle.cmd_trace.specs.Tape.{ends_at, events_read};
@@ -30,7 +29,8 @@ fn do_event<D: Dram>(event: Found<'_>, stage: &mut [u64], dram: &mut D) -> Resul
     ensures stage { length stage.new ≡ length stage.old }
     ensures did { OnOk result (Did (event_of event.entry ∷ []) (D.view dram.old)
         (D.view dram.new)) }
-    ensures rose { OnErr result (Rose (D.view dram.old).faults (D.view dram.new).faults) }
+    ensures failed { OnErr result (FailedIn (bank_of (event_of event.entry)) (D.view dram.old)
+        (D.view dram.new)) }
     ensures no_event { OnErr result (Grew (D.view dram.old).log (D.view dram.new).log []) }
 {
     match event {
@@ -91,7 +91,8 @@ pub fn replay_events<D: Dram>(trace: &TraceView<'_>, dram: &mut D) -> Result<(),
     ensures borrow { D.borrow dram.new ≡ D.borrow dram.old }
     ensures kept { Kept (D.view dram.old) (D.view dram.new) }
     ensures did { OnOk result (Did trace.now.events (D.view dram.old) (D.view dram.new)) }
-    // Where a call fails, the log has the events before it.
+    // Where a call fails, the log has the events before it, and all banks but its own are as these
+    // leave them.
     ensures stopped { OnErr result (StoppedIn trace.now.events (D.view dram.old)
         (D.view dram.new)) }
 {

@@ -38,7 +38,7 @@ fn read_row<D: Dram>(
         (row_in row ((D.view dram.old).banks bank))) }
     ensures len { OnOk result (vec_len file.new
         ≡ vec_len file.old + 8 * (D.view dram.old).geometry.words) }
-    ensures capacity { OnOk result (vec_capacity file.old ≤ vec_capacity file.new) }
+    ensures capacity { vec_capacity file.old ≤ vec_capacity file.new }
     ensures rose { OnErr result (Rose (D.view dram.old).faults (D.view dram.new).faults) }
     ensures no_event { Grew (D.view dram.old).log (D.view dram.new).log [] }
 {
@@ -69,7 +69,7 @@ fn read_bank<D: Dram>(
     ensures file { OnOk result (file.new.items
         ≡ file.old.items ++ bank_bytes g (D.view dram.old).banks bank g.rows) }
     ensures len { OnOk result (vec_len file.new ≡ vec_len file.old + g.rows * (8 * g.words)) }
-    ensures capacity { OnOk result (vec_capacity file.old ≤ vec_capacity file.new) }
+    ensures capacity { vec_capacity file.old ≤ vec_capacity file.new }
     ensures rose { OnErr result (Rose (D.view dram.old).faults (D.view dram.new).faults) }
     ensures no_event { Grew (D.view dram.old).log (D.view dram.new).log [] }
 {
@@ -99,7 +99,7 @@ fn read_rows<D: Dram>(
     ensures did { OnOk result (DidRead (g.banks * g.rows) (D.view dram.old) (D.view dram.new)) }
     ensures file { OnOk result (file.new.items
         ≡ file.old.items ++ rows_bytes g (rows_of (D.view dram.old).banks)) }
-    ensures capacity { OnOk result (vec_capacity file.old ≤ vec_capacity file.new) }
+    ensures capacity { vec_capacity file.old ≤ vec_capacity file.new }
     ensures rose { OnErr result (Rose (D.view dram.old).faults (D.view dram.new).faults) }
     ensures no_event { Grew (D.view dram.old).log (D.view dram.new).log [] }
 {
@@ -129,7 +129,7 @@ pub(crate) fn read_image<D: Dram>(
     ensures did { OnOk result (DidRead (g.banks * g.rows) (D.view dram.old) (D.view dram.new)) }
     ensures file { OnOk result (file.new.items
         ≡ file.old.items ++ rows_bytes g (rows_of (D.view dram.old).banks)) }
-    ensures capacity { OnOk result (vec_capacity file.old ≤ vec_capacity file.new) }
+    ensures capacity { vec_capacity file.old ≤ vec_capacity file.new }
     ensures rose { OnErr result (Rose (D.view dram.old).faults (D.view dram.new).faults) }
     ensures no_event { Grew (D.view dram.old).log (D.view dram.new).log [] }
 {

@@ -368,7 +368,7 @@ impl<'a> Machine<'a> {
             * (geometry_of self.old).rows) (D.view dram.old) (D.view dram.new)) }
         ensures file { OnOk result (file_of self.new ≡ image_bytes (geometry_of self.old)
             (table_in self.old) (rows_of (D.view dram.old).banks)) }
-        ensures ready { OnOk result (IsReady self.new) }
+        ensures ready { IsReady self.new }
         ensures program { program_of self.new ≡ program_of self.old }
         ensures shape { geometry_of self.new ≡ geometry_of self.old }
         ensures table { table_in self.new ≡ table_in self.old }
@@ -394,7 +394,7 @@ impl<'a> Machine<'a> {
             * (geometry_of self.old).rows) (D.view dram.old) (D.view dram.new)) }
         ensures file { OnOk result (file_of self.new ≡ image_bytes (geometry_of self.old)
             table.now.pairs (rows_of (D.view dram.old).banks)) }
-        ensures ready { OnOk result (IsReady self.new) }
+        ensures ready { IsReady self.new }
         ensures program { program_of self.new ≡ program_of self.old }
         ensures shape { geometry_of self.new ≡ geometry_of self.old }
         ensures table { table_in self.new ≡ table_in self.old }

@@ -1,8 +1,8 @@
 -- A read, one bit inverted, and a write.
 use Rattle.std.proofs.Common.{◌≡◌, ℕ, List, [], ◌∷◌, Bool, ◌∙◌, ap, subst, Result, Ok, Err}
-use Rattle.std.specs.Prelude.{OnOk}
-use Rattle.dram_model.specs.Chip.{Event, Grew, after}
-use Rattle.dram_model.specs.View.{ChipView, Did, DidRead}
+use Rattle.std.specs.Prelude.{OnOk, OnErr}
+use Rattle.dram_model.specs.Chip.{Event, Grew, SameBut, after}
+use Rattle.dram_model.specs.View.{ChipView, Did, DidRead, FailedIn}
 use Rattle.dram_model.proofs.EventLaws.{Did-more, Grew-more}
 use Rattle.dram_model.specs.Chip.{Banks, happens, row_in}
 use Rattle.dram_model.specs.Chip.Event.{Write}
@@ -32,6 +32,18 @@ log_of (Ok x) bank row bits other a b c read wrote e =
     subst (λ (all : List Bool). Grew a.log c.log (Write bank row all ∷ [])) e
     (Grew-more a.log b.log c.log [] (Write bank row bits ∷ []) read.log wrote.log)
 log_of (Err x) bank row bits other a b c read wrote e = tt
+
+-- where the write failed, the other banks and the log are as before the read
+pub others_of : {T E : Type 0} (r : Result T E) (bank : ℕ) (a b c : ChipView)
+    → b.banks ≡ a.banks → OnErr r (FailedIn bank b c) → OnErr r (SameBut bank a.banks c.banks)
+others_of (Ok x) bank a b c e failed = tt
+others_of (Err x) bank a b c e failed =
+    λ k other. failed.others k other ∙ ap (λ (banks : Banks). banks k) e
+
+pub no_event_of : {T E : Type 0} (r : Result T E) (a b c : ChipView)
+    → Grew a.log b.log [] → OnErr r (Grew b.log c.log []) → OnErr r (Grew a.log c.log [])
+no_event_of (Ok x) a b c read failed = tt
+no_event_of (Err x) a b c read failed = Grew-more a.log b.log c.log [] [] read failed
 
 -- six events, one after another, the last of which may have failed
 pub six_did : {T E : Type 0} (r : Result T E) (e f g h i j : Event)

@@ -2,7 +2,7 @@
 
 ghost use Rattle.std.specs.Prelude.{◌≡◌, ◌+◌, ◌*◌, ◌<◌, ◌≤◌, ◌^◌, length, [], ◌∷◌, OnOk, OnErr};
 ghost use Rattle.bit_rows.specs.Bits.{bits, bits_of_words};
-ghost use Rattle.dram_model.specs.Chip.{Event, Grew, row_in};
+ghost use Rattle.dram_model.specs.Chip.{Event, Grew, SameBut, row_in};
 ghost use Rattle.dram_model.specs.View.{HasBegun, Kept};
 ghost use Rattle.fault_counts.specs.Counts.{Rose};
 ghost use Rattle.guard_model.specs.Flips.{flipped, with_bit_inverted};
@@ -49,6 +49,10 @@ pub fn do_flip<D: Dram>(f: &Flip, dram: &mut D, stage: &mut [u64]) -> Result<(),
         (Event.Write f.now.bank f.now.row (with_bit_inverted f.now.column
         (row_in f.now.row ((D.view dram.old).banks f.now.bank))) ∷ [])) }
     ensures failed { OnErr result (Rose (D.view dram.old).faults (D.view dram.new).faults) }
+    // Where a call fails, the other banks and the log are as they were.
+    ensures others { OnErr result (SameBut f.now.bank (D.view dram.old).banks
+        (D.view dram.new).banks) }
+    ensures no_event { OnErr result (Grew (D.view dram.old).log (D.view dram.new).log []) }
 {
     let words = usize::from(dram.geometry().words);
     let row = &mut stage[..words];

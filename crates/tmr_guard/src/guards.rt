@@ -446,7 +446,7 @@ impl<'a> Guard<'a> {
         ensures file { OnOk result (file_of (machine_in self.new)
             ≡ image_bytes (geometry_of (machine_in self.old)) (table_in (machine_in self.old))
             (rows_of (D.view dram.old).banks)) }
-        ensures ready { OnOk result (IsReady (machine_in self.new)) }
+        ensures ready { IsReady (machine_in self.new) }
         ensures program { program_of (machine_in self.new) ≡ program_of (machine_in self.old) }
         ensures shape { geometry_of (machine_in self.new) ≡ geometry_of (machine_in self.old) }
         ensures table { table_in (machine_in self.new) ≡ table_in (machine_in self.old) }

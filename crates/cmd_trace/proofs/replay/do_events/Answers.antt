@@ -38,9 +38,9 @@ returns-in_err-do_event-clause-stopped g c =
     event c.in-Ok.found.1 c.loop-k-test.true c.in-Ok.ensures.gives k.invariant.whole in
     let is : k.invariant.done ++ event ∷ left ≡ all =
     ap (λ (es : List Event). k.invariant.done ++ es) (sym one) ∙ k.invariant.all in
-    on_err c.from_residual.result (stopped all k.invariant.done (event ∷ left)
-    (D.view c.args.dram.now) (D.view k.dram) (D.view c.do_event.new.dram) is (omega arith)
-    k.invariant.did k.invariant.kept c.in_err-do_event.ensures.rose
+    on_err c.from_residual.result (stopped k.invariant.done left all event
+    (D.view c.args.dram.now) (D.view k.dram) (D.view c.do_event.new.dram) is
+    k.invariant.did k.invariant.kept c.in_err-do_event.ensures.failed
     c.in_err-do_event.ensures.no_event)
 
 pub loop-k-preserved : goal.loop-k-preserved

@@ -22,6 +22,10 @@ pub returns-in_err-read_row-clause-no_event : goal.returns-in_err-read_row-claus
 returns-in_err-read_row-clause-no_event g c =
     Grew-more _ _ _ [] [] c.loop-row.invariant.did.log c.in_err-read_row.ensures.no_event
 
+pub returns-in_err-read_row-clause-capacity : goal.returns-in_err-read_row-clause-capacity
+returns-in_err-read_row-clause-capacity g c =
+    omega (arith, c.loop-row.invariant.capacity, c.in_err-read_row.ensures.capacity)
+
 pub returns-clause-borrow : goal.returns-clause-borrow
 returns-clause-borrow g c = c.loop-row.invariant.borrow
 

@@ -31,6 +31,10 @@ pub returns-in_err-read_bank-clause-no_event : goal.returns-in_err-read_bank-cla
 returns-in_err-read_bank-clause-no_event g c =
     Grew-more _ _ _ [] [] c.loop-bank.invariant.did.log c.in_err-read_bank.ensures.no_event
 
+pub returns-in_err-read_bank-clause-capacity : goal.returns-in_err-read_bank-clause-capacity
+returns-in_err-read_bank-clause-capacity g c =
+    omega (arith, c.loop-bank.invariant.capacity, c.in_err-read_bank.ensures.capacity)
+
 pub returns-clause-borrow : goal.returns-clause-borrow
 returns-clause-borrow g c = c.loop-bank.invariant.borrow
 

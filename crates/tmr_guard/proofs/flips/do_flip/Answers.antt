@@ -1,6 +1,6 @@
 use Rattle.std.proofs.Common.{◌∙◌, ap}
 use Rattle.guard_model.specs.Flips.{with_bit_inverted}
-use Rattle.tmr_guard.proofs.Flipping.{banks_of, flip_done, log_of}
+use Rattle.tmr_guard.proofs.Flipping.{banks_of, flip_done, log_of, no_event_of, others_of}
 use Rattle.tmr_guard.proofs.flips.do_flip.Goals as goal
 
 pub returns-clause-banks : goal.returns-clause-banks
@@ -20,3 +20,16 @@ returns-clause-log g c =
     log_of c.write_row.result f.bank f.row _ _ (V c.args.dram.now) _ (V c.write_row.new.self)
     c.in_ok-read_row.ensures.did c.write_row.ensures.did (c.invert_column.ensures.bits
     ∙ ap (with_bit_inverted f.column) c.in_ok-read_row.ensures.read)
+
+pub returns-clause-others : goal.returns-clause-others
+returns-clause-others g c =
+    let V = g.D.Dram.view in
+    others_of c.write_row.result c.args.f.now.bank (V c.args.dram.now) _ (V c.write_row.new.self)
+    c.in_ok-read_row.ensures.did.banks c.write_row.ensures.failed
+
+pub returns-clause-no_event : goal.returns-clause-no_event
+returns-clause-no_event g c =
+    let V = g.D.Dram.view in
+    no_event_of c.write_row.result (V c.args.dram.now) (V c.read_row.new.self)
+    (V c.write_row.new.self)
+    c.in_ok-read_row.ensures.did.log c.write_row.ensures.no_event
