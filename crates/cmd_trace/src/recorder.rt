@@ -26,7 +26,9 @@ pub struct Room {
 
 impl Room {
     /// Takes all the memory that a recorder ever needs.
-    pub fn new(alloc: Global) -> Result<Room, NoMemory> {
+    pub fn new(alloc: Global) -> Result<Room, NoMemory>
+        ensures no_event { IfOk result (λ room. room.notes.known ≡ false) }
+    {
         let notes = Notes::new(alloc)?;
         Ok(Room { notes })
     }
