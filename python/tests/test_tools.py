@@ -135,8 +135,8 @@ class Steps(Folder):
     def test_a_full_adder_by_name(self):
         entry = self.compiled(SERIAL.read_text()).find("maj_add")
         once, each = all_shown(entry, str(SERIAL))
-        self.assertEqual(once.lines[0], "from instruction 0, once: line 16, serial up (c = 0) { .. }")
-        self.assertIn("at each position, upwards: line 16", each.lines[0])
+        self.assertEqual(once.lines[0], "from instruction 0, once: line 25, serial up (c = 0) { .. }")
+        self.assertIn("at each position, upwards: line 25", each.lines[0])
         last = each.done[-1]
         self.assertEqual((last.rows["c"], last.cells["DCC1"]), ("k", "k"))
         self.assertIn("M(a[i], m, ~k)", last.rows["y[i]"])
