@@ -178,6 +178,7 @@ class Texts(Folder):
         self.assertEqual(ended.returncode, 2)
         self.assertIn("n line 2: '5' are no bytes", ended.stderr)
 
+    @needs_program
     def test_files_of_another_kind_stay(self):
         self.compiled("op f(a: word) -> y: word { y = not(a); }")
         text = (self.folder / "p.ops").read_text()
@@ -192,6 +193,7 @@ class Texts(Folder):
             self.assertEqual(self.call(*words, "made", "--force").returncode, 0)
             (self.folder / "made").unlink()
 
+    @needs_program
     def test_no_program_and_no_report(self):
         self.compiled("op f(a: word) -> y: word { y = not(a); }")
         for words, said in ((["plot", "p.ops", "x.svg"], "p.ops: byte 0 magic: no program file"),
