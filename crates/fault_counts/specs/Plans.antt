@@ -9,6 +9,7 @@ pub record Plan : Type 0 where
   pub calls : ℕ
   pub failing : List ℕ
 
+-- the plan that a value of the program holds, without where its list lies in memory
 abbrev pub plan_of : CallPlan → Plan
 plan_of plan = record { calls = plan.calls; failing = plan.failing.items }
 

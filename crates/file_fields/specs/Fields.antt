@@ -8,12 +8,14 @@ use Rattle.std.specs.List.{list_all}
 use Rattle.text_lex.specs.Spelled.{fits_name}
 use Rattle.file_fields.specs.declared.faults.FileFault.{FileFault}
 
+-- one field after another: the first fault is the answer, and what follows it is not read
 infixl 10 ◌>>=◌
 abbrev pub ◌>>=◌ : {K A B : Type 0} → Result A (FileFault K) → (A → Result B (FileFault K))
     → Result B (FileFault K)
 (Ok x) >>= f = f x
 (Err e) >>= f = Err e
 
+-- the fault that a field is refused with: the place where it begins, and the rule it breaks
 abbrev pub fault_at : {K : Type 0} → ℕ → K → FileFault K
 fault_at at kind = record { at = at; kind = kind }
 
@@ -45,6 +47,7 @@ field_at short w passes kind at bytes = do
   fits ← rule (passes n) at kind
   Ok n
 
+-- a field's number lies in a range, both ends included
 abbrev pub is_between : ℕ → ℕ → ℕ → Bool
 is_between low high n = nat_le low n && nat_le n high
 

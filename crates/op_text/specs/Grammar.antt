@@ -28,16 +28,19 @@ abbrev pub let_or_assign : Spelling → List Wanted
 let_or_assign sp.Let = LetName ∷ Equals ∷ Value ∷ LetEnd ∷ Lets ∷ []
 let_or_assign n = Equals ∷ Value ∷ AssignEnd ∷ Assigns ∷ []
 
+-- what an op asks for after its first word, which is "op"
 abbrev pub op_word : Spelling → Option (List Wanted)
 op_word sp.Op = Some (NewOp ∷ Open ∷ NewParam ∷ Colon ∷ ParamKind ∷ Params ∷ Arrow ∷ NewResult
     ∷ Colon ∷ ResultKind ∷ SecondResult ∷ FirstStmt ∷ Ops ∷ [])
 op_word n = None
 
+-- the word of a kind, "word" or "bit", after which nothing more is asked for
 abbrev pub kind_word : Spelling → Option (List Wanted)
 kind_word sp.Word = Some []
 kind_word sp.Bit = Some []
 kind_word n = None
 
+-- the direction of a block, "up" or "down", after which nothing more is asked for
 abbrev pub direction_word : Spelling → Option (List Wanted)
 direction_word sp.Up = Some []
 direction_word sp.Down = Some []
@@ -96,6 +99,7 @@ follow Arrow t.Arrow o = Some []
 follow Equals t.Equals o = Some []
 follow w u o = None
 
+-- whether an opening parenthesis comes next, which makes the name before it a gate
 abbrev pub opens_terminal : List Terminal → Bool
 opens_terminal [] = false
 opens_terminal (u ∷ ts) = is_opening u

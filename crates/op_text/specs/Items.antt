@@ -42,6 +42,7 @@ terminal_of kinds.Symbol text =
     else (if bytes_eq text (codes ":") then Colon
     else (if bytes_eq text (codes "->") then Arrow else Other))))))))
 
+-- the token that makes a name before it a gate
 abbrev pub is_opening : Terminal → Bool
 is_opening Opens = true
 is_opening t = false
@@ -52,13 +53,15 @@ opens [] = false
 opens (Bad f ∷ items) = false
 opens (Whole t ∷ items) = is_opening (terminal_of t.kind t.text)
 
--- a fault at a token, one at a byte that starts no token, and one at the end of the text
+-- a rule of this kind is broken at a token
 abbrev pub at_token : Lexeme → OpsKind → Breach
 at_token t why = record { at = Some t.start; kind = why }
 
+-- a byte starts no token, and is the fault itself
 abbrev pub at_byte : LexFault → Breach
 at_byte f = record { at = Some f.at; kind = Lex }
 
+-- the text ends where the grammar asks for more
 abbrev pub at_end : Breach
 at_end = record { at = None; kind = Syntax }
 

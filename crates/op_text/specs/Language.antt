@@ -13,6 +13,7 @@ use Rattle.op_text.specs.declared.tree.Expr.{Expr}
 use Rattle.op_text.specs.declared.tree.Expr.TheVariants.{Zero, One, Read, Not', And', Or', Xor'}
 use Rattle.op_text.specs.declared.tree.Expr.TheVariants.{Maj'}
 
+-- the value of a let or of an assignment: constants, bits that are read, and gates on them
 pub data Term : Type 0 where
   Nought : Term
   Unity : Term
@@ -23,6 +24,7 @@ pub data Term : Type 0 where
   Parity : Term → Term → Term
   Majority : Term → Term → Term → Term
 
+-- the value that a parsed expression is, without where its tokens stand
 abbrev pub term : Expr → Term
 term Zero = Nought
 term One = Unity
@@ -38,6 +40,8 @@ pub record Equation : Type 0 where
   pub name : List ℕ
   pub value : Term
 
+-- a serial block: its direction over the positions, its states with their starts, the lets and the
+-- assignments of one position
 pub record Block : Type 0 where
   pub down : Bool
   pub states : List State
@@ -49,6 +53,7 @@ pub data Statement : Type 0 where
   Compute : List ℕ → Option (List ℕ) → WordOp → List (List ℕ) → Statement
   Visit : Block → Statement
 
+-- an op: its name, its one to four sources, its one or two results, and what it does in order
 pub record Operation : Type 0 where
   pub name : List ℕ
   pub params : List Param
@@ -56,9 +61,11 @@ pub record Operation : Type 0 where
   pub second : Option Param
   pub body : List Statement
 
+-- a parsed let or assignment as a name with its value
 abbrev pub equation : Assign → Equation
 equation a = record { name = a.name; value = term a.value }
 
+-- a parsed statement, a word operation or a serial block, without where it lies in memory
 abbrev pub statement : Stmt → Statement
 statement (Word dst second p args) = Compute dst second p args.items
 statement (Serial down states lets assigns) =
@@ -69,6 +76,7 @@ statement (Serial down states lets assigns) =
       assigns = map equation assigns.items;
     })
 
+-- a parsed op, without where it lies in memory
 abbrev pub operation : Op → Operation
 operation p = record {
   name = p.name;
@@ -78,6 +86,7 @@ operation p = record {
   body = map statement p.body.items;
 }
 
+-- the ops of a parsed text, in its order
 abbrev pub operations : Ops → List Operation
 operations all = map operation all.ops.items
 
@@ -85,5 +94,6 @@ operations all = map operation all.ops.items
 abbrev pub results : Operation → List Param
 results op = op.result ∷ option_to_list op.second
 
+-- the names of the results, which a body has to assign
 abbrev pub result_names : Operation → List (List ℕ)
 result_names op = map (λ (p : Param). p.name) (results op)

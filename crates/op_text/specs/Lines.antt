@@ -10,10 +10,12 @@ use Rattle.op_text.specs.Rules.{first_breach}
 abbrev pub line_at : List ℕ → ℕ → ℕ
 line_at text place = 1 + count_by (λ b. b == 10) (take (min place (length text - 1)) text)
 
+-- the line that a fault is told by; a fault at the end of the text has its last line
 abbrev pub line_of : List ℕ → Option ℕ → ℕ
 line_of text (Some place) = line_at text place
 line_of text None = line_at text (length text)
 
+-- the first broken rule as it is printed: the kind of the fault with its line
 abbrev pub fault_of : List ℕ → Breach → OpsFault
 fault_of text b = record { line = line_of text b.at; kind = b.kind }
 

@@ -30,13 +30,16 @@ pub record NameValue : Type 0 where
   pub kind : Kind
   pub bits : List Bool
 
+-- how many bits, and so how many rows of a bank, a value takes at width n
 abbrev pub width : ℕ → Kind → ℕ
 width n Word = n
 width n Bit = 1
 
+-- a number held at width n; a bit holds its lowest bit
 abbrev pub holding : ℕ → Kind → ℕ → NameValue
 holding n k v = record { kind = k; bits = bits v (width n k) }
 
+-- the number that the held bits spell
 abbrev pub number : NameValue → ℕ
 number h = value h.bits
 
@@ -55,6 +58,7 @@ bit_read i h = elim h.kind [
   | Bit ↦ slice_index_or h.bits 0 false
 ]
 
+-- one bit of a word is set, or a bit's only one
 abbrev pub bit_written : ℕ → NameValue → Bool → NameValue
 bit_written i h b = record h { bits = elim h.kind [ Word ↦ slice_set h.bits i b | Bit ↦ b ∷ [] ] }
 
@@ -75,14 +79,17 @@ abbrev pub visited : Block → (List ℕ → NameValue) → ℕ → List ℕ →
 visited block names i = assigned (with_lets (λ n. bit_read i (names n)) block.lets) i names
     block.assigns
 
+-- the positions 0 to n - 1, the lowest first, as a carry goes
 abbrev pub upwards : ℕ → List ℕ
 upwards zero = []
 upwards (suc n) = upwards n ++ n ∷ []
 
+-- the positions n - 1 to 0, the highest first, as a comparison or a division goes
 abbrev pub downwards : ℕ → List ℕ
 downwards zero = []
 downwards (suc n) = n ∷ downwards n
 
+-- the order in which a block visits the bits of its words
 abbrev pub positions : Bool → ℕ → List ℕ
 positions down n = if down then downwards n else upwards n
 
@@ -92,11 +99,13 @@ with_blanks n names [] = names
 with_blanks n names (e ∷ es) =
     with_blanks n (changed names e.name (record { kind = Word; bits = replicate n false })) es
 
+-- each state begins with its start, a bit
 abbrev pub with_states : (List ℕ → NameValue) → List State → List ℕ → NameValue
 with_states names [] = names
 with_states names (s ∷ ss) =
     with_states (changed names s.name (record { kind = Bit; bits = s.start ∷ [] })) ss
 
+-- a block: starts and blank targets first, and then each position in the block's order
 abbrev pub after_block : ℕ → Block → (List ℕ → NameValue) → List ℕ → NameValue
 after_block n block names =
     fold (visited block) (with_states (with_blanks n names block.assigns) block.states)
@@ -107,6 +116,8 @@ abbrev pub args_width : ℕ → List NameValue → ℕ
 args_width n [] = n
 args_width n (h ∷ hs) = width n h.kind
 
+-- what a word statement's target is given: the operation's value, in the kind of the form that the
+-- arguments fill
 abbrev pub computed : ℕ → WordOp → List NameValue → NameValue
 computed n p args =
     holding n (unwrap_or (filled (forms p) (map (λ h. h.kind) args)) Word)
@@ -122,6 +133,7 @@ abbrev pub with_second : (List ℕ → NameValue) → Option (List ℕ) → Name
 with_second names None h = names
 with_second names (Some name) h = changed names name h
 
+-- what the names hold after a word operation or a serial block
 abbrev pub after_statement : ℕ → (List ℕ → NameValue) → Statement → List ℕ → NameValue
 after_statement n names (Compute target second p args) =
     with_second (changed names target (computed n p (map names args))) second

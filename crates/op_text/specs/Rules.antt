@@ -37,24 +37,31 @@ use Rattle.op_text.specs.WordOps.{same_kind, second_kind, second_gives}
 abbrev pub MAX_OPS : ℕ
 MAX_OPS = 32
 
+-- four sources at most: an entry of a program file has a bit for the kind of each
 abbrev pub MAX_SOURCES : ℕ
 MAX_SOURCES = 4
 
+-- so many statements an op may have at most
 abbrev pub MAX_STATEMENTS : ℕ
 MAX_STATEMENTS = 16
 
+-- so many states, and with MAX_ASSIGNS so many targets, a block may have at most
 abbrev pub MAX_STATES : ℕ
 MAX_STATES = 8
 
+-- so many targets a block may have, each once
 abbrev pub MAX_ASSIGNS : ℕ
 MAX_ASSIGNS = 8
 
+-- so many lets a block may have
 abbrev pub MAX_LETS : ℕ
 MAX_LETS = 16
 
+-- a block's gates weigh at most so much in all, an xor as three of the others
 abbrev pub MAX_WEIGHT : ℕ
 MAX_WEIGHT = 24
 
+-- so many gates may stand within one another
 abbrev pub MAX_DEPTH : ℕ
 MAX_DEPTH = 32
 
@@ -93,25 +100,33 @@ pub record Scope : Type 0 where
   pub block : InBlock
   pub naming : Option (List ℕ)
 
+-- where an op begins, no name stands and no statement was read
 abbrev pub new_op : InOp
 new_op = record { stands = []; defined = []; results = []; statements = 0 }
 
+-- where a word statement begins, it has no argument yet. Its operation is read before it is asked
+-- for
 abbrev pub new_word : InWord
 new_word = record { second = None; operation = o.Not; given = [] }
 
+-- where a block begins, nothing of it stands and its gates weigh nothing
 abbrev pub new_block : InBlock
 new_block = record { states = []; readable = []; lets = 0; targets = []; weight = 0; missing = [] }
 
+-- what stands before the first token of a text
 abbrev pub nothing_yet : Scope
 nothing_yet = record { ops = []; op = new_op; word = new_word; block = new_block; naming = None }
 
+-- whether a name is one of these, byte by byte
 abbrev pub is_among : List (List ℕ) → List ℕ → Bool
 is_among names name = list_any (λ n. bytes_eq n name) names
 
+-- the kind under which a name stands, or none where it does not stand
 abbrev pub kind_among : List Param → List ℕ → Option Kind
 kind_among [] name = None
 kind_among (p ∷ ps) name = if bytes_eq p.name name then Some p.kind else kind_among ps name
 
+-- whether a name that was looked up stands
 abbrev pub is_known : Option Kind → Bool
 is_known (Some k) = true
 is_known None = false
@@ -125,23 +140,29 @@ abbrev pub is_plain : Spelling → Bool
 is_plain sp.Plain = true
 is_plain n = false
 
+-- a name that no op may define or use: it is reserved, or has more than 16 bytes
 abbrev pub is_bad : Spelling → List ℕ → Bool
 is_bad n text = not (is_plain n && fits_name text)
 
+-- whether the op has the name already: as a source, result, target, state or let
 abbrev pub stands_already : Scope → List ℕ → Bool
 stands_already s text = is_among s.op.stands text
 
+-- whether it is the name of the first target, which the second may not have
 abbrev pub is_called : Option (List ℕ) → List ℕ → Bool
 is_called None text = false
 is_called (Some name) text = bytes_eq name text
 
+-- whether a name that was looked up stands, and with this kind
 abbrev pub is_of_kind : Option Kind → Kind → Bool
 is_of_kind None k = false
 is_of_kind (Some j) k = same_kind j k
 
+-- whether the op lists it among its results
 abbrev pub is_result : Scope → List ℕ → Bool
 is_result s text = is_known (kind_among s.op.results text)
 
+-- whether it is a result of one bit, which a block assigns only where it is a state
 abbrev pub is_bit_result : Scope → List ℕ → Bool
 is_bit_result s text = is_of_kind (kind_among s.op.results text) Bit
 
@@ -149,6 +170,7 @@ is_bit_result s text = is_of_kind (kind_among s.op.results text) Bit
 abbrev pub is_assigned : Scope → List ℕ → Bool
 is_assigned s text = is_known (kind_among s.op.defined text)
 
+-- whether it is a result that still wants its value
 abbrev pub is_open_result : Scope → List ℕ → Bool
 is_open_result s text = is_result s text && not (is_assigned s text)
 
@@ -180,6 +202,7 @@ source_of_kind s (Some name) k =
       naming = None;
     }
 
+-- the kind of a source is read: it stands from now on, and can be read
 abbrev pub with_source : Scope → Kind → Scope
 with_source s k = source_of_kind s s.naming k
 
@@ -199,6 +222,7 @@ result_of_kind s (Some name) k =
       naming = None;
     }
 
+-- the kind of a result is read: the body has to assign it
 abbrev pub with_result : Scope → Kind → Scope
 with_result s k = result_of_kind s s.naming k
 
@@ -220,6 +244,7 @@ word_rules s n text =
     (unless (nat_le MAX_STATEMENTS s.op.statements) TooMany
     (Ok (record s { op = record s.op { statements = s.op.statements + 1 }; naming = Some text }))))
 
+-- the first token of a statement, which tells a block from a word operation
 abbrev pub statement_rules : Scope → Spelling → List ℕ → Result Scope OpsKind
 statement_rules s sp.Serial text = block_rules s
 statement_rules s n text = word_rules s n text
@@ -237,15 +262,18 @@ has_targets None None = true
 has_targets (Some name) (Some k) = true
 has_targets name k = false
 
+-- the operation of a word statement: it exists, and has as many results as there are targets
 abbrev pub known_op : Scope → Option WordOp → Result Scope OpsKind
 known_op s None = Err Unknown
 known_op s (Some p) =
     unless (not (has_targets s.word.second (second_kind p))) why.Kind
     (Ok (record s { word = record s.word { operation = p } }))
 
+-- the name of the operation, which is a name and one of the table
 abbrev pub word_op_rules : Scope → Spelling → List ℕ → Result Scope OpsKind
 word_op_rules s n text = unless (is_bad n text) BadName (known_op s (op_named text))
 
+-- an argument that stands: a form of the operation goes on with its kind
 abbrev pub argument_of_kind : Scope → Option Kind → Result Scope OpsKind
 argument_of_kind s None = Err Unknown
 argument_of_kind s (Some k) =
@@ -258,12 +286,13 @@ abbrev pub argument_rules : Scope → Spelling → List ℕ → Result Scope Ops
 argument_rules s n text = unless (is_bad n text) BadName
     (argument_of_kind s (kind_among s.op.defined text))
 
--- "," after an argument, and ")"
+-- "," after an argument: a form of the operation takes one more
 abbrev pub another_argument : Scope → Result Scope OpsKind
 another_argument s =
     unless (not (list_any (λ f. is_part (lacks s.word.given f.takes)) (forms s.word.operation)))
     why.Kind (Ok s)
 
+-- ")" after the arguments: a form of the operation has just these
 abbrev pub no_more_arguments : Scope → Result Scope OpsKind
 no_more_arguments s =
     unless (not (list_any (λ f. is_whole (lacks s.word.given f.takes)) (forms s.word.operation)))
@@ -292,6 +321,7 @@ defines_targets s targets =
       naming = None;
     }))
 
+-- the targets of a word statement take the kinds that its arguments settle
 abbrev pub gives_kind : Scope → Option (List ℕ) → Option Kind → Result Scope OpsKind
 gives_kind s target None = Err why.Kind
 gives_kind s None (Some k) = Ok s
@@ -299,6 +329,7 @@ gives_kind s (Some target) (Some k) =
     defines_targets s (record { name = target; kind = k }
     ∷ second_of s.word.second s.word.operation)
 
+-- ";" ends a word statement: its targets can be read from now on
 abbrev pub word_end : Scope → Result Scope OpsKind
 word_end s = gives_kind s s.naming (filled (forms s.word.operation) s.word.given)
 
@@ -308,6 +339,7 @@ is_taken_state s text =
     if is_bit_result s text then is_assigned s text || is_among s.block.states text
     else stands_already s text
 
+-- the name of a state of the block: new, or a result of one bit
 abbrev pub state_rules : Scope → Spelling → List ℕ → Result Scope OpsKind
 state_rules s n text =
     unless (is_bad n text) BadName
@@ -339,6 +371,7 @@ let_ends s (Some name) = record s {
   naming = None;
 }
 
+-- ";" ends a let, whose name can be read from now on
 abbrev pub let_end : Scope → Scope
 let_end s = let_ends s s.naming
 
@@ -349,6 +382,7 @@ is_taken_target s text =
     is_among s.block.targets text || (stands_already s text && not (is_among s.block.states text)
     && not (is_open_result s text))
 
+-- the target of an assignment, which takes a bit at each position; no block assigns one twice
 abbrev pub target_rules : Scope → Spelling → List ℕ → Result Scope OpsKind
 target_rules s n text =
     unless (is_bad n text) BadName
@@ -357,6 +391,7 @@ target_rules s n text =
     (unless (nat_le MAX_ASSIGNS (length s.block.targets)) TooMany
     (Ok (record s { block = record s.block { targets = s.block.targets ++ text ∷ [] } })))))
 
+-- the first token of a line of a block, which tells a let from an assignment
 abbrev pub let_or_target : Scope → Spelling → List ℕ → Result Scope OpsKind
 let_or_target s sp.Let text = let_rules s
 let_or_target s n text = target_rules s n text
@@ -374,6 +409,7 @@ block_end s =
       block = new_block;
     }
 
+-- the gate of a name, as values spell it
 abbrev pub gate_named : List ℕ → Option Gate
 gate_named name =
     if bytes_eq name (codes "not") then Some gates.Not
@@ -382,6 +418,7 @@ gate_named name =
     else (if bytes_eq name (codes "xor") then Some gates.Xor
     else (if bytes_eq name (codes "maj") then Some gates.Maj else None))))
 
+-- how many values a gate takes
 abbrev pub gate_arguments : Gate → ℕ
 gate_arguments gates.Not = 1
 gate_arguments gates.And = 2
@@ -389,6 +426,8 @@ gate_arguments gates.Or = 2
 gate_arguments gates.Xor = 2
 gate_arguments gates.Maj = 3
 
+-- what a gate adds to its block's weight: one for each majority that it costs, and none for a
+-- complement
 abbrev pub gate_weight : Gate → ℕ
 gate_weight gates.Not = 0
 gate_weight gates.And = 1
@@ -396,6 +435,7 @@ gate_weight gates.Or = 1
 gate_weight gates.Xor = 3
 gate_weight gates.Maj = 1
 
+-- a gate: its block stays within its weight, and values within their depth
 abbrev pub gate_rules : Scope → Option Gate → Result Scope OpsKind
 gate_rules s None = Err Unknown
 gate_rules s (Some g) =
@@ -408,6 +448,8 @@ gate_rules s (Some g) =
       };
     }))
 
+-- whether a value may read the name: one of the op that has its value, or a state or let of the
+-- block
 abbrev pub is_readable : Scope → List ℕ → Bool
 is_readable s text = is_known (kind_among s.op.defined text) || is_among s.block.readable text
 
@@ -418,11 +460,13 @@ value_rules s n text opened =
     (if opened then gate_rules s (gate_named text)
     else unless (not (is_readable s text)) Unknown (Ok s))
 
+-- "," within a gate, which still lacks an argument
 abbrev pub comma_rules : Scope → List ℕ → Result Scope OpsKind
 comma_rules s [] = Err why.Kind
 comma_rules s (zero ∷ outer) = Err why.Kind
 comma_rules s (suc n ∷ outer) = Ok (record s { block = record s.block { missing = n ∷ outer } })
 
+-- ")" of a gate, which has all of its arguments
 abbrev pub close_rules : Scope → List ℕ → Result Scope OpsKind
 close_rules s [] = Err why.Kind
 close_rules s (zero ∷ outer) = Ok (record s { block = record s.block { missing = outer } })
@@ -434,6 +478,7 @@ op_end s =
     unless (list_any (λ (p : Param). not (is_assigned s p.name)) s.op.results) NoResult
     (Ok (record s { op = new_op }))
 
+-- the kind that a word of the text stands for
 abbrev pub kind_of_word : Spelling → Kind
 kind_of_word sp.Word = Word
 kind_of_word n = Bit
@@ -470,6 +515,7 @@ rules_at More s t.Comma text o = comma_rules s s.block.missing
 rules_at More s t.Closes text o = close_rules s s.block.missing
 rules_at w s u text o = Ok s
 
+-- the grammar is asked first, and the other rules only where it allows the token
 abbrev pub with_rules : Option (List Wanted) → Result Scope OpsKind
     → Result (List Wanted × Scope) OpsKind
 with_rules None rules = Err Syntax
@@ -486,6 +532,7 @@ ends [] = None
 ends (Ops ∷ wanted) = None
 ends (w ∷ wanted) = Some at_end
 
+-- what follows a token that meets the rules; one that does not is the first breach
 abbrev pub after : Result (List Wanted × Scope) OpsKind → Lexeme
     → (List Wanted → Scope → Option Breach) → Option Breach
 after (Ok r) u go = go r.0 r.1

@@ -60,22 +60,28 @@ abbrev pub kind_of_text : List ℕ → TokenKind
 kind_of_text text = if is_token kinds.Name text then kinds.Name
     else (if is_token kinds.Number text then kinds.Number else kinds.Symbol)
 
+-- a token that stands in no text, for rules that ask for no place
 abbrev pub unplaced : List ℕ → Item
 unplaced text = Whole (record { kind = kind_of_text text; text = text; start = 0 })
 
+-- what the rules read where these are the spellings
 abbrev pub items_spelled : List (List ℕ) → List Item
 items_spelled texts = map unplaced texts
 
+-- the scope of a block whose gates weigh so much more
 abbrev pub heavier : Scope → ℕ → Scope
 heavier s w = record s { block = record s.block { weight = s.block.weight + w } }
 
+-- whether a spelling is the opening parenthesis
 abbrev pub opens_text : List ℕ → Bool
 opens_text text = is_opening (terminal_of (kind_of_text text) text)
 
+-- whether the next spelling is one, which would make the name before it a gate
 abbrev pub opens_next : List (List ℕ) → Bool
 opens_next [] = false
 opens_next (text ∷ rest) = opens_text text
 
+-- An expression that meets the rules breaks none where it is spelled, and adds its weight.
 abbrev pub TermsAreAccepted : Type 0
 TermsAreAccepted = (e : Term) (s : Scope) (depth : ℕ) (wanted : List Wanted) (rest : List (List ℕ))
     → opens_next rest ≡ false → length s.block.missing ≡ depth
@@ -104,6 +110,7 @@ HasNames (Disjunction a b) = HasNames a × HasNames b
 HasNames (Parity a b) = HasNames a × HasNames b
 HasNames (Majority a b c) = HasNames a × HasNames b × HasNames c
 
+-- no opening parenthesis follows, so that a name stands for itself
 abbrev pub IsShut : List (List ℕ) → Type 0
 IsShut x = (y : List (List ℕ)) → x ≡ codes "(" ∷ y → ⊥
 
@@ -112,55 +119,66 @@ abbrev pub SpelledOnce : Type 0
 SpelledOnce = (a b : Term) (x y : List (List ℕ)) → HasNames a → HasNames b → IsShut x → IsShut y
     → term_text a x ≡ term_text b y → (a ≡ b) × (x ≡ y)
 
--- parts with a comma before each, parts with commas between them, a part that may be there, and
--- parts one after the other
+-- parts with a comma before each
 abbrev pub after_commas : {A : Type 0} → (A → List (List ℕ) → List (List ℕ)) → List A
     → List (List ℕ) → List (List ℕ)
 after_commas text [] rest = rest
 after_commas text (a ∷ more) rest = codes "," ∷ text a (after_commas text more rest)
 
+-- parts with commas between them, as parameters, arguments and states stand
 abbrev pub between_commas : {A : Type 0} → (A → List (List ℕ) → List (List ℕ)) → List A
     → List (List ℕ) → List (List ℕ)
 between_commas text [] rest = rest
 between_commas text (a ∷ more) rest = text a (after_commas text more rest)
 
+-- a second result or target with its comma, or nothing
 abbrev pub after_comma : {A : Type 0} → (A → List (List ℕ) → List (List ℕ)) → Option A
     → List (List ℕ) → List (List ℕ)
 after_comma text None rest = rest
 after_comma text (Some a) rest = codes "," ∷ text a rest
 
+-- parts one after the other, as statements, lets and ops stand
 abbrev pub in_turn : {A : Type 0} → (A → List (List ℕ) → List (List ℕ)) → List A → List (List ℕ)
     → List (List ℕ)
 in_turn text [] rest = rest
 in_turn text (a ∷ more) rest = text a (in_turn text more rest)
 
+-- how the kind of a name is spelled
 abbrev pub kind_text : Kind → List ℕ
 kind_text Word = codes "word"
 kind_text Bit = codes "bit"
 
+-- how the direction of a block is spelled
 abbrev pub direction_text : Bool → List ℕ
 direction_text false = codes "up"
 direction_text true = codes "down"
 
+-- how the start of a state is spelled
 abbrev pub start_text : Bool → List ℕ
 start_text false = codes "0"
 start_text true = codes "1"
 
+-- a name in front of other spellings
 abbrev pub name_text : List ℕ → List (List ℕ) → List (List ℕ)
 name_text name rest = name ∷ rest
 
+-- a source or a result with its kind
 abbrev pub param_text : Param → List (List ℕ) → List (List ℕ)
 param_text p rest = p.name ∷ codes ":" ∷ kind_text p.kind ∷ rest
 
+-- a state with its start
 abbrev pub state_text : State → List (List ℕ) → List (List ℕ)
 state_text s rest = s.name ∷ codes "=" ∷ start_text s.start ∷ rest
 
+-- a name, its value and the ";" that ends it
 abbrev pub equation_text : Equation → List (List ℕ) → List (List ℕ)
 equation_text e rest = e.name ∷ codes "=" ∷ term_text e.value (codes ";" ∷ rest)
 
+-- a let of a block
 abbrev pub let_text : Equation → List (List ℕ) → List (List ℕ)
 let_text e rest = codes "let" ∷ equation_text e rest
 
+-- a word statement or a whole block
 abbrev pub statement_text : Statement → List (List ℕ) → List (List ℕ)
 statement_text (Compute target second p args) rest =
     target ∷ after_comma name_text second (codes "=" ∷ op_text p ∷ codes "("
@@ -170,6 +188,7 @@ statement_text (Visit b) rest =
     ∷ between_commas state_text b.states (codes ")" ∷ codes "{"
     ∷ in_turn let_text b.lets (in_turn equation_text b.assigns (codes "}" ∷ rest)))
 
+-- an op from its first word to its "}"
 abbrev pub operation_text : Operation → List (List ℕ) → List (List ℕ)
 operation_text o rest =
     codes "op" ∷ o.name ∷ codes "(" ∷ between_commas param_text o.params (codes ")" ∷ codes "->"
@@ -194,24 +213,30 @@ abbrev pub IfThere : {A : Type 0} → (A → Type 0) → Option A → Type 0
 IfThere ok None = Unit {0}
 IfThere ok (Some a) = ok a
 
+-- a name of at most 16 bytes
 abbrev pub IsName : List ℕ → Type 0
 IsName name = fits_name name ≡ true
 
+-- the name of a source or of a result is one
 abbrev pub HasParam : Param → Type 0
 HasParam p = IsName p.name
 
+-- the name of a state is one
 abbrev pub HasState : State → Type 0
 HasState s = IsName s.name
 
+-- the target and all names that its value reads are names
 abbrev pub HasEquation : Equation → Type 0
 HasEquation e = IsName e.name × HasNames e.value
 
+-- all names in a statement are names
 abbrev pub HasStatement : Statement → Type 0
 HasStatement (Compute target second p args) = IsName target × IfThere IsName second
     × Each IsName args
 HasStatement (Visit b) = Each HasState b.states × Each HasEquation b.lets
     × Each HasEquation b.assigns
 
+-- All names in an op are names, its own among them: so two ops are one where their spellings are.
 pub record HasOperation (op : Operation) : Type 0 where
   pub name : IsName op.name
   pub params : Each HasParam op.params

@@ -31,22 +31,27 @@ mutual
     Last : Trees
     Then : Tree → Trees → Trees
 
+-- a source or a result in a text of the grammar
 pub record ParamTree : Type 0 where
   pub name : Spelling
   pub kind : Kind
 
+-- a state with its start in a text of the grammar
 pub record StateTree : Type 0 where
   pub name : Spelling
   pub start : Bool
 
+-- a let or an assignment in a text of the grammar
 pub record EquationTree : Type 0 where
   pub name : Spelling
   pub value : Tree
 
+-- the word that begins a block
 abbrev pub is_serial : Spelling → Bool
 is_serial sp.Serial = true
 is_serial n = false
 
+-- the word that begins a let
 abbrev pub is_let : Spelling → Bool
 is_let sp.Let = true
 is_let n = false
@@ -60,6 +65,7 @@ pub record WordTree : Type 0 where
   pub operation : Spelling
   pub args : List Spelling
 
+-- a block of the grammar: at least one assignment, the first of which does not begin with "let"
 pub record BlockTree : Type 0 where
   pub down : Bool
   pub states : List StateTree
@@ -68,10 +74,12 @@ pub record BlockTree : Type 0 where
   pub free : is_let first.name ≡ false
   pub more : List EquationTree
 
+-- a statement of the grammar
 pub data StatementTree : Type 0 where
   Compute : WordTree → StatementTree
   Visit : BlockTree → StatementTree
 
+-- an op of the grammar: at least one source and one statement
 pub record OpTree : Type 0 where
   pub name : Spelling
   pub source : ParamTree
@@ -92,12 +100,13 @@ abbrev mutual
   values_text Last rest = t.Closes ∷ rest
   values_text (Then a r) rest = t.Comma ∷ value_text a (values_text r rest)
 
--- parts with a comma before each, and parts with commas between them
+-- parts with a comma before each
 abbrev pub after_commas : {A : Type 0} → (A → List Terminal → List Terminal) → List A
     → List Terminal → List Terminal
 after_commas text [] rest = rest
 after_commas text (a ∷ more) rest = t.Comma ∷ text a (after_commas text more rest)
 
+-- parts with commas between them
 abbrev pub between_commas : {A : Type 0} → (A → List Terminal → List Terminal) → List A
     → List Terminal → List Terminal
 between_commas text [] rest = rest
@@ -115,33 +124,42 @@ abbrev pub in_turn : {A : Type 0} → (A → List Terminal → List Terminal) �
 in_turn text [] rest = rest
 in_turn text (a ∷ more) rest = text a (in_turn text more rest)
 
+-- the word of a kind
 abbrev pub kind_word : Kind → Terminal
 kind_word Word = t.Name sp.Word
 kind_word Bit = t.Name sp.Bit
 
+-- the word of a direction
 abbrev pub direction_word : Bool → Terminal
 direction_word false = t.Name sp.Up
 direction_word true = t.Name sp.Down
 
+-- the digit of a start
 abbrev pub start_word : Bool → Terminal
 start_word false = t.Zero
 start_word true = t.One
 
+-- a name
 abbrev pub name_text : Spelling → List Terminal → List Terminal
 name_text n rest = t.Name n ∷ rest
 
+-- a source or a result with its kind
 abbrev pub param_text : ParamTree → List Terminal → List Terminal
 param_text p rest = t.Name p.name ∷ t.Colon ∷ kind_word p.kind ∷ rest
 
+-- a state with its start
 abbrev pub state_text : StateTree → List Terminal → List Terminal
 state_text s rest = t.Name s.name ∷ t.Equals ∷ start_word s.start ∷ rest
 
+-- a name, its value and the ";" that ends it
 abbrev pub assign_text : EquationTree → List Terminal → List Terminal
 assign_text e rest = t.Name e.name ∷ t.Equals ∷ value_text e.value (t.Semi ∷ rest)
 
+-- a let of a block
 abbrev pub let_text : EquationTree → List Terminal → List Terminal
 let_text e rest = t.Name sp.Let ∷ assign_text e rest
 
+-- a word statement or a whole block
 abbrev pub statement_text : StatementTree → List Terminal → List Terminal
 statement_text (Compute w) rest =
     t.Name w.target ∷ after_comma name_text w.second (t.Equals ∷ t.Name w.operation ∷ t.Opens
@@ -152,6 +170,7 @@ statement_text (Visit b) rest =
     ∷ in_turn let_text b.lets (assign_text b.first
     (in_turn assign_text b.more (t.Finishes ∷ rest))))
 
+-- an op from its first word to its "}"
 abbrev pub op_text : OpTree → List Terminal → List Terminal
 op_text op rest =
     t.Name sp.Op ∷ t.Name op.name ∷ t.Opens ∷ param_text op.source
@@ -163,10 +182,11 @@ op_text op rest =
 abbrev pub text_of : List OpTree → List Terminal
 text_of ops = in_turn op_text ops []
 
--- Terminals are a text of the grammar, or some text of it starts with them.
+-- terminals are a whole text of the grammar
 abbrev pub IsText : List Terminal → Type 0
 IsText ts = (ops : List OpTree) × (ts ≡ text_of ops)
 
+-- some text of the grammar starts with these terminals
 abbrev pub IsViable : List Terminal → Type 0
 IsViable ts = (ops : List OpTree) × (more : List Terminal) × (text_of ops ≡ ts ++ more)
 
@@ -176,15 +196,19 @@ pub record IsTheGrammar : Type 0 where
   pub accepts : (ts : List Terminal) → (allowed (Ops ∷ []) ts ≡ Some (Ops ∷ [])) ↔ IsText ts
   pub allows : (ts : List Terminal) → IsSome (allowed (Ops ∷ []) ts) ↔ IsViable ts
 
+-- the tokens of a text in which every byte belongs to one
 abbrev pub whole : List Lexeme → List Item
 whole ts = map Whole ts
 
+-- tokens as the grammar sees them
 abbrev pub terminals_of : List Lexeme → List Terminal
 terminals_of ts = map (λ u. terminal_of u.kind u.text) ts
 
+-- the tokens are a text of the grammar
 abbrev pub IsGrammatical : List Lexeme → Type 0
 IsGrammatical ts = IsText (terminals_of ts)
 
+-- some text of the grammar begins with these tokens
 abbrev pub BeginsText : List Lexeme → Type 0
 BeginsText ts = IsViable (terminals_of ts)
 

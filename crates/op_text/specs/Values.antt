@@ -20,6 +20,7 @@ unfoldable pub bits : ℕ → ℕ → List Bool
 bits v zero = []
 bits v (suc n) = (v % 2 == 1) ∷ bits (v / 2) n
 
+-- the exclusive or of two bits
 abbrev pub differ : Bool → Bool → Bool
 differ true b = not b
 differ false b = b
@@ -29,6 +30,7 @@ abbrev pub majority : Bool → Bool → Bool → Bool
 majority true b c = b || c
 majority false b c = b && c
 
+-- two lists of bits combined place by place
 abbrev pub both : (Bool → Bool → Bool) → List Bool → List Bool → List Bool
 both f [] bs = []
 both f (a ∷ as') [] = []
@@ -38,6 +40,7 @@ both f (a ∷ as') (b ∷ bs) = f a b ∷ both f as' bs
 abbrev pub bit_by_bit : (Bool → Bool → Bool) → ℕ → ℕ → ℕ → ℕ
 bit_by_bit f n a b = value (both f (bits a n) (bits b n))
 
+-- how many of the lowest n bits are 1
 abbrev pub ones_of : ℕ → ℕ → ℕ
 ones_of n a = count_by (λ b. b) (bits a n)
 
@@ -45,10 +48,12 @@ ones_of n a = count_by (λ b. b) (bits a n)
 abbrev pub half : ℕ → ℕ
 half n = 2 ^ (n - 1)
 
+-- the value of an operation that takes no argument: all zeros or all ones
 abbrev pub of_none : WordOp → ℕ → ℕ
 of_none o.Ones n = 2 ^ n - 1
 of_none p n = 0
 
+-- the value of an operation on one number; a signed one is read in two's complement
 abbrev pub of_one : WordOp → ℕ → ℕ → ℕ
 of_one o.Not n a = 2 ^ n - 1 - a
 of_one o.Copy n a = a
@@ -62,6 +67,8 @@ of_one o.OrRed n a = bit_number (nat_lt 0 a)
 of_one o.XorRed n a = ones_of n a % 2
 of_one p n a = 0
 
+-- the value of an operation on two numbers below 2 ^ n; a division by 0 gives all ones and leaves
+-- the dividend
 abbrev pub of_two : WordOp → ℕ → ℕ → ℕ → ℕ
 of_two o.And n a b = bit_by_bit (λ x y. x && y) n a b
 of_two o.Or n a b = bit_by_bit (λ x y. x || y) n a b

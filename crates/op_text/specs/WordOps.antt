@@ -46,6 +46,7 @@ op_text o.OrRed = codes "or_red"
 op_text o.XorRed = codes "xor_red"
 op_text o.Divmod = codes "divmod"
 
+-- a row of the table of word operations, as the definitions have it
 abbrev pub row : WordOp → Signature → Option Kind → ℕ → ℕ → WordRow
 row op signature second bits words = record {
   op = op;
@@ -120,6 +121,7 @@ number o.Divmod = 26
 abbrev pub word_rows : List (List ℕ × WordRow)
 word_rows = map (λ p. (op_text p, row_of p)) all_ops
 
+-- the operation of the first row with this name
 abbrev pub first_named : List (List ℕ × WordRow) → List ℕ → Option WordOp
 first_named [] text = None
 first_named (r ∷ rows) text = if bytes_eq r.0 text then Some r.1.op else first_named rows text
@@ -133,18 +135,23 @@ pub record Form : Type 0 where
   pub takes : List Kind
   pub gives : Kind
 
+-- a form with these kinds
 abbrev pub form : List Kind → Kind → Form
 form takes gives = record { takes = takes; gives = gives }
 
+-- an argument and a result of one kind, whichever
 abbrev pub of_one : List Form
 of_one = form (Word ∷ []) Word ∷ form (Bit ∷ []) Bit ∷ []
 
+-- two arguments and a result of one kind, whichever
 abbrev pub of_two : List Form
 of_two = form (Word ∷ Word ∷ []) Word ∷ form (Bit ∷ Bit ∷ []) Bit ∷ []
 
+-- a word, of which a value of this kind is made
 abbrev pub word_to : Kind → List Form
 word_to k = form (Word ∷ []) k ∷ []
 
+-- two words, of which a value of this kind is made
 abbrev pub words_to : Kind → List Form
 words_to k = form (Word ∷ Word ∷ []) k ∷ []
 
@@ -170,6 +177,7 @@ second_kind p = (row_of p).second
 abbrev pub second_gives : WordOp → Kind
 second_gives p = unwrap_or (second_kind p) Word
 
+-- whether two kinds are one
 abbrev pub same_kind : Kind → Kind → Bool
 same_kind Word Word = true
 same_kind Bit Bit = true
@@ -181,14 +189,17 @@ lacks [] all = Some all
 lacks (k ∷ ks) [] = None
 lacks (k ∷ ks) (j ∷ js) = if same_kind k j then lacks ks js else None
 
+-- the arguments are all of a form
 abbrev pub is_whole : Option (List Kind) → Bool
 is_whole (Some []) = true
 is_whole o = false
 
+-- the form lacks arguments
 abbrev pub is_part : Option (List Kind) → Bool
 is_part (Some (k ∷ ks)) = true
 is_part o = false
 
+-- the arguments are the beginning of a form, or all of it
 abbrev pub is_begun : Option (List Kind) → Bool
 is_begun (Some ks) = true
 is_begun None = false
@@ -210,6 +221,7 @@ abbrev pub given_first : List Form → Option Kind → Kind
 given_first [] first = Word
 given_first (f ∷ fs) first = if begins f.takes first then f.gives else given_first fs first
 
+-- the kind of the first argument, if there is one
 abbrev pub first_of : List Kind → Option Kind
 first_of [] = None
 first_of (k ∷ ks) = Some k
@@ -219,13 +231,14 @@ abbrev pub FirstSettles : Type 0
 FirstSettles = (p : WordOp) (kinds : List Kind) (k : Kind) → filled (forms p) kinds ≡ Some k
     → given_first (forms p) (first_of kinds) ≡ k
 
--- whether one more argument of a kind may stand, whether another is wanted, and whether all are
--- there
+-- whether one more argument of this kind may stand after these
 abbrev pub may_take : List Form → List Kind → Kind → Bool
 may_take fs given k = list_any (λ f. is_begun (lacks (given ++ k ∷ []) f.takes)) fs
 
+-- whether another argument may stand after these
 abbrev pub wants_more : List Form → List Kind → Bool
 wants_more fs given = list_any (λ f. is_part (lacks given f.takes)) fs
 
+-- whether these are all arguments of a form
 abbrev pub has_all : List Form → List Kind → Bool
 has_all fs given = list_any (λ f. is_whole (lacks given f.takes)) fs
