@@ -21,11 +21,12 @@ is_counted k outcomes p = same_kind p.kind k && not (is_among outcomes p.name)
 abbrev pub MOST : ℕ
 MOST = 65535
 
--- what a statement needs beside the names, and what an operation needs
+-- what a statement needs beside the names
 abbrev pub need_of : Kind → Statement → ℕ
 need_of Bit s = need_inside bits_inside s
 need_of Word s = need_inside words_inside s
 
+-- the scratch of an op by the kind of its rows
 abbrev pub rows_needed : Kind → Operation → ℕ
 rows_needed Bit op = scratch_bits op
 rows_needed Word op = scratch_words op

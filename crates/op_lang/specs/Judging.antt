@@ -25,6 +25,8 @@ pub record IsWrong (wanted : Wanted) (old : Scope) (token : Token) (opened : Boo
   pub breaks : step wanted old (terminal_of token.kind token.text.now) token.text.now opened
       ≡ Err b.kind
 
+-- A token is judged by the rules: it is fine, or breaks the rule that is told, or memory was
+-- wanting.
 abbrev pub JudgesToken : Wanted → Scope → Token → Bool → Result Terminal ReadNo → Scope → Type 0
 JudgesToken wanted old token opened (Ok u) new = IsFine wanted old token opened u new
 JudgesToken wanted old token opened (Err no.Memory) new = Unit {0}

@@ -24,6 +24,7 @@ pub record ParserView : Type 0 where
 abbrev pub breach : List Wanted → ParserView → Option Breach
 breach wanted r = breach_of wanted r.scope r.items
 
+-- a fault that is told is the one that was found; want of memory may come of any text
 abbrev pub Fails : Option Breach → ReadNo → Type 0
 Fails found no.Memory = Unit {0}
 Fails found (no.Breach b) = found ≡ Some b
@@ -42,6 +43,7 @@ MovesTo front old (Err e) following new = (wanted : List Wanted)
 abbrev pub Moves : {A : Type 0} → List Wanted → ParserView → Result A ReadNo → ParserView → Type 0
 Moves front old r new = MovesTo front old r (λ x. []) new
 
+-- the grammar allows the token
 abbrev pub is_allowed : Option (List Wanted) → Bool
 is_allowed (Some front) = true
 is_allowed None = false
@@ -56,6 +58,7 @@ pub record Took (wanted : Wanted) (old : ParserView) (text : List ℕ) (terminal
   pub allowed : is_allowed (follow wanted terminal (opens new.items)) ≡ true
   pub rules : rules_at wanted old.scope terminal text (opens new.items) ≡ Ok new.scope
 
+-- One token was taken, or it is at fault whatever is wanted later.
 abbrev pub Takes : Wanted → ParserView → Result Taken ReadNo → ParserView → Type 0
 Takes wanted old (Ok t) new = Took wanted old t.text.now t.terminal new
 Takes wanted old (Err e) new = (more : List Wanted) → Fails (breach (wanted ∷ more) old) e
@@ -65,6 +68,7 @@ abbrev pub may_end : Wanted → Bool
 may_end w.Ops = true
 may_end wanted = false
 
+-- a token is wanted, or the text may not end here
 abbrev pub is_due : Wanted → ParserView → Bool
 is_due wanted r = not (may_end wanted && is_nil r.items)
 

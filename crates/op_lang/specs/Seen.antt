@@ -9,6 +9,7 @@ use Rattle.op_lang.specs.declared.scope.InBlock as code_block
 use Rattle.op_lang.specs.declared.fault.Refused.{Refused}
 use Rattle.op_lang.specs.declared.fault.Refused.TheVariants as refused
 
+-- what the code keeps of an op, as the rules have it
 abbrev pub seen_op : code_op.InOp → InOp
 seen_op k = record {
   stands = k.stands.items;
@@ -17,9 +18,11 @@ seen_op k = record {
   statements = k.statements;
 }
 
+-- what the code keeps of a word statement, as the rules have it
 abbrev pub seen_word : code_word.InWord → InWord
 seen_word k = record { second = k.second; operation = k.operation; given = k.given.items }
 
+-- what the code keeps of a block, as the rules have it
 abbrev pub seen_block : code_block.InBlock → InBlock
 seen_block k =
     record {
@@ -31,6 +34,7 @@ seen_block k =
       missing = reverse k.missing.items;
     }
 
+-- all that the code keeps of the tokens before, as the rules have it
 abbrev pub seen : code.Scope → Scope
 seen k = record {
   ops = k.ops.items;

@@ -13,6 +13,7 @@ shown (ahead.Token t) rest = Whole (lexeme_of t) ∷ rest
 shown (ahead.Stranger f) rest = Bad f ∷ []
 shown ahead.End rest = []
 
+-- no token is left
 abbrev pub is_nil : List Item → Bool
 is_nil [] = true
 is_nil (i ∷ items) = false

@@ -20,6 +20,7 @@ abbrev pub listed : {A : Type 0} → (A → List ℕ) → List A → List ℕ
 listed part [] = []
 listed part (a ∷ more) = part a ++ flat_map (after_comma part) more
 
+-- a value on one line, with a blank after each comma
 abbrev pub value_text : Term → List ℕ
 value_text Nought = codes "0"
 value_text Unity = codes "1"
@@ -37,26 +38,33 @@ value_text (Majority a b c) = codes "maj(" ++ value_text a ++ codes ", " ++ valu
 abbrev pub spelled : List ℕ → List ℕ
 spelled name = name
 
+-- a source or a result with its kind
 abbrev pub param_text : Param → List ℕ
 param_text p = p.name ++ codes ": " ++ kind_text p.kind
 
+-- a state with its start
 abbrev pub state_text : State → List ℕ
 state_text s = s.name ++ codes " = " ++ start_text s.start
 
+-- a name and its value, which ";" ends
 abbrev pub equation_text : Equation → List ℕ
 equation_text e = e.name ++ codes " = " ++ value_text e.value ++ codes ";"
 
+-- a let of a block
 abbrev pub let_text : Equation → List ℕ
 let_text e = codes "let " ++ equation_text e
 
+-- a word statement on one line
 abbrev pub word_text : List ℕ → Option (List ℕ) → WordOp → List (List ℕ) → List ℕ
 word_text target second p args = listed spelled (target ∷ option_to_list second) ++ codes " = "
     ++ op_text p ++ codes "(" ++ listed spelled args ++ codes ");"
 
+-- the line that begins a block
 abbrev pub block_head : Block → List ℕ
 block_head b = codes "serial " ++ direction_text b.down ++ codes " (" ++ listed state_text b.states
     ++ codes ") {"
 
+-- the line that begins an op
 abbrev pub op_head : Operation → List ℕ
 op_head o = codes "op " ++ o.name ++ codes "(" ++ listed param_text o.params ++ codes ") -> "
     ++ listed param_text (results o) ++ codes " {"
@@ -74,6 +82,7 @@ statement_lines (Visit b) =
     ++ flat_map (λ e. line (codes "    ") (equation_text e)) b.assigns
     ++ line (codes "  ") (codes "}")
 
+-- an op: its first line, its statements, and "}"
 abbrev pub op_lines : Operation → List ℕ
 op_lines o = line [] (op_head o) ++ flat_map statement_lines o.body ++ line [] (codes "}")
 

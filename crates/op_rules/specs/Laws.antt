@@ -20,9 +20,11 @@ use Rattle.op_rules.specs.Meets.{WordMeets, OperationMeets, OpsMeet}
 abbrev pub RulesAreExact : Type 0
 RulesAreExact = (all : List Operation) → (Each HasOperation all × MeetRules all) ↔ OpsMeet all
 
+-- as many names of a kind as an op can define: 16 statements, each of at most eight
 abbrev pub MAX_NAMES : ℕ
 MAX_NAMES = 128
 
+-- as many rows of a kind as an op can need: its names, and two inside a statement
 abbrev pub MAX_SCRATCH : ℕ
 MAX_SCRATCH = 130
 
@@ -32,6 +34,7 @@ pub record NeedsFew (op : Operation) : Type 0 where
   pub bits : scratch_bits op ≤ MAX_SCRATCH
   pub words : scratch_words op ≤ MAX_SCRATCH
 
+-- An op that meets the rules needs few rows of scratch.
 abbrev pub ScratchIsSmall : Type 0
 ScratchIsSmall = (op : Operation) → OperationMeets op → NeedsFew op
 
@@ -44,6 +47,7 @@ pub record NamesAreApart (op : Operation) : Type 0 where
   pub differ : Differ (names_of (all_names op))
   pub found : Each (λ (p : Param). kind_among (all_names op) p.name ≡ Some p.kind) (all_names op)
 
+-- In an op that meets the rules no name stands twice.
 abbrev pub NamesStandOnce : Type 0
 NamesStandOnce = (op : Operation) → OperationMeets op → NamesAreApart op
 
@@ -77,6 +81,7 @@ pub record IsHeld (n : ℕ) (k : Kind) (h : NameValue) : Type 0 where
   pub kind : h.kind ≡ k
   pub size : length h.bits ≡ width n k
 
+-- a name holds bits of its kind at width n
 abbrev pub Holds : ℕ → (List ℕ → NameValue) → Param → Type 0
 Holds n names p = IsHeld n p.kind (names p.name)
 
@@ -96,6 +101,7 @@ pub record HoldsKinds (op : Operation) (n : ℕ) (values : List ℕ) : Type 0 wh
       (context_at op front).known
   pub at_end : Each (Holds n (after_op op n values)) (results op)
 
+-- In an op that meets the rules each name known and each result holds bits of its kind.
 abbrev pub KindsAreHeld : Type 0
 KindsAreHeld = (op : Operation) (n : ℕ) (values : List ℕ) → OperationMeets op
     → length values ≡ length op.params → HoldsKinds op n values

@@ -23,15 +23,19 @@ abbrev pub Differ : List (List ℕ) → Type 0
 Differ [] = Unit {0}
 Differ (name ∷ names) = IsNew names name × Differ names
 
+-- a name that an op may give: not reserved and of at most 16 bytes
 abbrev pub IsGood : List ℕ → Type 0
 IsGood name = is_good name ≡ true
 
+-- names without their kinds
 abbrev pub names_of : List Param → List (List ℕ)
 names_of known = map (λ (p : Param). p.name) known
 
+-- the lets of a block, which only the block can read
 abbrev pub let_names : Block → List (List ℕ)
 let_names block = map (λ (e : Equation). e.name) block.lets
 
+-- the targets of a block's assignments: states and new words
 abbrev pub targets : Block → List (List ℕ)
 targets block = map (λ (e : Equation). e.name) block.assigns
 
@@ -54,6 +58,7 @@ pub record IsNewOf (names : List (List ℕ)) (results : List Param) (kind : Kind
   pub new : IsNew names name
   pub fits : (k : Kind) → kind_among results name ≡ Some k → k ≡ kind
 
+-- a name that can be read, with its kind
 abbrev pub IsKnown : List Param → List ℕ → Type 0
 IsKnown known name = kind_among known name ≡ Some (kind_of known name)
 
@@ -111,10 +116,12 @@ pub record BlockMeets (c : Context) (block : Block) : Type 0 where
   pub values_read : Each (λ (e : Equation). TermMeets
       (can_read c.known (state_names block ++ let_names block)) 0 e.value) block.assigns
 
+-- a statement meets the rules where it stands
 abbrev pub StatementMeets : Context → Statement → Type 0
 StatementMeets c (Compute target second operation args) = WordMeets c target second operation args
 StatementMeets c (Visit block) = BlockMeets c block
 
+-- the lets that a statement uses up the names of
 abbrev pub lets_of : Statement → List (List ℕ)
 lets_of (Compute target second operation args) = []
 lets_of (Visit block) = let_names block
@@ -132,9 +139,12 @@ abbrev pub BodyMeets : Context → List Statement → Type 0
 BodyMeets c [] = Unit {0}
 BodyMeets c (s ∷ body) = StatementMeets c s × BodyMeets (following c s) body
 
+-- what stands before an op's first statement: its sources can be read, its results are to be given
 abbrev pub at_start : Operation → Context
 at_start op = record { known = op.params; lets = []; results = results op }
 
+-- An op meets the rules: its names are good and differ, it has sources and statements and not too
+-- many, and each statement meets them where it stands.
 pub record OperationMeets (op : Operation) : Type 0 where
   pub name : IsGood op.name
   pub not_reserved : bytes_eq op.name (codes "trsp_init") ≡ false
@@ -151,6 +161,7 @@ pub record OperationMeets (op : Operation) : Type 0 where
   pub results_given : Each (λ (r : Param). kind_among (body_defines op.params op.body) r.name
       ≡ Some r.kind) (results op)
 
+-- Ops meet the rules: each does, no two have one name, and there are not too many.
 pub record OpsMeet (all : List Operation) : Type 0 where
   pub few_ops : length all ≤ MAX_OPS
   pub differ : Differ (map (λ (op : Operation). op.name) all)
