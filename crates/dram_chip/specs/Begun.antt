@@ -25,6 +25,7 @@ is_bank g bank = (length bank.all.items == bank.words * (8 + bank.rows)
     && are_constant bank.words bank.all.items)
     && (rows_of bank == g.rows && columns_of bank == 64 * g.words)
 
+-- every bank of a list is one of this geometry
 unfoldable pub are_banks : Geometry → List Bank → Bool
 are_banks g [] = true
 are_banks g (bank ∷ banks) = is_bank g bank && are_banks g banks
@@ -33,5 +34,6 @@ are_banks g (bank ∷ banks) = is_bank g bank && are_banks g banks
 abbrev pub has_banks : Geometry → List Bank → Bool
 has_banks g banks = is_geometry g && (length banks == g.banks && are_banks g banks)
 
+-- what a chip shows of whether it has begun
 abbrev pub has_begun : Chip → Bool
 has_begun chip = chip.begun && has_banks chip.geometry chip.banks.items

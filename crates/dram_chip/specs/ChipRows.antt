@@ -11,6 +11,7 @@ use Rattle.dram_chip.specs.Rows.{column_at, rows_of, columns_of, IsReady}
 abbrev pub columns_in : Bank → List Column
 columns_in bank = map (column_at bank) (range_with_len 0 (columns_of bank))
 
+-- the columns of each bank of a chip, by its number
 abbrev pub banks_in : List Bank → Banks
 banks_in [] b = []
 banks_in (bank ∷ banks) zero = columns_in bank

@@ -56,6 +56,7 @@ all-fit g (bank ∷ banks) h =
     let parts = and_parts (is_bank g bank) (are_banks g banks) h in
     All-cons (Fits g) bank banks (fits g bank parts.0) (all-fit g banks parts.1)
 
+-- A chip that has begun has all banks of its shape.
 pub begun-banks : (flag : Bool) (g : Geometry) (banks : List Bank)
     → (flag && has_banks g banks) ≡ true → HasBanks g banks
 begun-banks flag g banks h =
@@ -64,6 +65,7 @@ begun-banks flag g banks h =
     let parts = and_parts (length banks == g.banks) (are_banks g banks) there.1 in
     record { count = eqb-true _ _ parts.0; each = all-fit g banks parts.1 }
 
+-- A chip that has begun has a shape that a chip may have.
 pub begun-shape : (flag : Bool) (g : Geometry) (banks : List Bank)
     → (flag && has_banks g banks) ≡ true → is_geometry g ≡ true
 begun-shape flag g banks h =
@@ -76,10 +78,12 @@ width-at g (x ∷ xs) zero l h = length-map-range_with_len (column_at x) 0 (colu
     ∙ (All-get_or (Fits g) (x ∷ xs) 0 x l h).columns
 width-at g (x ∷ xs) (suc b) l h = width-at g xs b (omega arith) (All-tail (Fits g) x xs h)
 
+-- Each bank of a chip that has begun has all columns of its shape.
 pub chip_width : (s : Chip) → has_begun s ≡ true → (b : ℕ) → b < s.geometry.banks
     → length (banks_in s.banks.items b) ≡ 64 * s.geometry.words
 chip_width s h b l = let has = begun-banks s.begun s.geometry s.banks.items h in
     width-at s.geometry s.banks.items b (omega (arith, has.count)) has.each
 
+-- The same of the shape, of a chip as a whole.
 pub chip_shape : (s : Chip) → has_begun s ≡ true → is_geometry s.geometry ≡ true
 chip_shape s h = begun-shape s.begun s.geometry s.banks.items h

@@ -26,6 +26,7 @@ is_kept (D k) = true
 abbrev pub rows_of : Bank → ℕ
 rows_of bank = bank.rows
 
+-- how many columns the bank has: 64 to a word
 abbrev pub columns_of : Bank → ℕ
 columns_of bank = 64 * bank.words
 
@@ -37,6 +38,7 @@ row_bit words all p c = word_bit all (words * p + c / 64) (c % 64)
 abbrev pub column_in : ℕ → List ℕ → ℕ → Column
 column_in words all c = λ cell. is_kept cell && row_bit words all (place cell) c
 
+-- the column of a bank with this number
 abbrev pub column_at : Bank → ℕ → Column
 column_at bank c = column_in bank.words bank.all.items c
 

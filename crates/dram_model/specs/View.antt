@@ -21,6 +21,7 @@ pub record ChipView : Type 0 where
 abbrev pub HasBegun : ChipView → Type 0
 HasBegun chip = chip.begun ≡ true
 
+-- the counters of a chip that has just begun
 abbrev pub no_counts : Counters
 no_counts = record { aap = 0; ap = 0; writes = 0; reads = 0 }
 

@@ -9,6 +9,7 @@ use Rattle.uprog_code.specs.Shape.{Shape, Microprogram, need}
 use Rattle.uprog_code.specs.Machine.{trace}
 use Rattle.uprog_code.specs.Count.{walked}
 
+-- the word of `cost` for what makes a walk stuck
 abbrev pub stuck_word : Why3 → List ℕ
 stuck_word Index = codes "index"
 stuck_word Register = codes "register"
@@ -21,6 +22,7 @@ cost_text shape n (Ok counts) = codes " aap=" ++ decimal counts.aap ++ codes " a
 cost_text shape n (Err walk) = codes " bad_walk " ++ decimal walk.at ++ codes " "
     ++ stuck_word walk.why
 
+-- the line of an entry: its name, and its row commands and scratch at width n
 abbrev pub cost_line : ℕ → Microprogram → List ℕ
 cost_line n m = m.name ++ cost_text m.shape n (walked (trace m.shape m.code n)) ++ codes "\n"
 

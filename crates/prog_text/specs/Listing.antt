@@ -36,19 +36,23 @@ position_text ScratchBit i = []
 position_text ScratchWord i = index_text i
 position_text Spill i = []
 
+-- a row of an instruction with its index, if it has one
 abbrev pub row_text : RowRef → List ℕ
 row_text r = value_text r.space r.which ++ position_text r.space r.index
 
--- the operands of an instruction, each after a blank
+-- a register as an operand, after a blank
 abbrev pub register_operand : ℕ → List ℕ
 register_operand r = codes " r" ++ decimal r
 
+-- a number as an operand, after a blank
 abbrev pub number_operand : ℕ → List ℕ
 number_operand k = codes " " ++ decimal k
 
+-- a row as an operand, after a blank
 abbrev pub row_operand : RowRef → List ℕ
 row_operand x = codes " " ++ row_text x
 
+-- an instruction by its name and its operands
 abbrev pub uop_text : Uop → List ℕ
 uop_text Done = codes "DONE"
 uop_text (SetI r k) = codes "SETI" ++ register_operand r ++ number_operand k
@@ -62,6 +66,7 @@ uop_text (Bnez r t) = codes "BNEZ" ++ register_operand r ++ number_operand t
 uop_text (Aap x y) = codes "AAP" ++ row_operand x ++ row_operand y
 uop_text (Ap x) = codes "AP" ++ row_operand x
 
+-- an instruction on its line, after its number, which is what a jump names
 abbrev pub uop_line : ℕ → Uop → List ℕ
 uop_line place uop = decimal place ++ codes " " ++ uop_text uop ++ codes "\n"
 
@@ -70,6 +75,7 @@ abbrev pub code_lines : ℕ → List Uop → List ℕ
 code_lines place [] = []
 code_lines place (uop ∷ uops) = uop_line place uop ++ code_lines (place + 1) uops
 
+-- how many sources an entry takes, and the bits and words of its scratch
 abbrev pub shape_text : Shape → List ℕ
 shape_text shape = codes " sources=" ++ decimal (length shape.sources) ++ codes " bits="
     ++ decimal shape.bits ++ codes " words=" ++ decimal shape.words
@@ -79,10 +85,12 @@ abbrev pub results_text : Option Kind → List ℕ
 results_text None = []
 results_text (Some kind) = codes " results=2"
 
+-- the line that begins an entry
 abbrev pub entry_line : Microprogram → List ℕ
 entry_line m = codes "entry " ++ m.name ++ shape_text m.shape ++ codes " code="
     ++ decimal (length m.code) ++ results_text m.shape.second ++ codes "\n"
 
+-- an entry with all of its instructions
 abbrev pub entry_text : Microprogram → List ℕ
 entry_text m = entry_line m ++ code_lines 0 m.code
 

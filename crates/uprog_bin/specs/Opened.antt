@@ -16,6 +16,7 @@ abbrev pub accepted : Result (ℕ × List Microprogram) ProgFault → ℕ × Lis
 accepted (Ok found) = found
 accepted (Err f) = (0, [])
 
+-- the program of an accepted file
 abbrev pub programs_in : List ℕ → List Microprogram
 programs_in bytes = (accepted (program_in bytes)).1
 
@@ -33,9 +34,11 @@ pub record File : Type 0 where
   pub version : ℕ
   pub programs : List Microprogram
 
+-- the version and the program that a view was opened on
 abbrev pub found_of : File → ℕ × List Microprogram
 found_of f = (f.version, f.programs)
 
+-- what a view of these bytes shows, where they are accepted
 abbrev pub file_of : List ℕ → File
 file_of bytes = record {
   bytes = bytes;
@@ -58,9 +61,11 @@ abbrev pub uops_in : ℕ → List ℕ → List Uop
 uops_in zero bytes = []
 uops_in (suc n) bytes = uop_in (take 8 bytes) ∷ uops_in n (drop 8 bytes)
 
+-- the instructions of an entry, read from its bytes
 abbrev pub code_of : EntryBytes → List Uop
 code_of h = uops_in (length h.bytes / 8) h.bytes
 
+-- the microprogram of an entry, read from its bytes
 abbrev pub program_of : EntryBytes → Microprogram
 program_of h = record { name = h.name; shape = h.shape; code = code_of h }
 

@@ -28,23 +28,25 @@ use Rattle.file_fields.specs.declared.faults.FileFault.{FileFault}
 use Rattle.file_fields.specs.Fields as fields
 use Rattle.file_fields.specs.Fields.{◌>>=◌, rule, fault_at, is_between, is_padded_name}
 
+-- where a program file breaks a rule, and which
 abbrev pub ProgFault : Type 0
 ProgFault = FileFault ProgKind
 
--- So many bytes from a place on, the number of a width there, and a number that has to pass a test.
--- A file that ends before is Short at its length.
+-- so many bytes of a program file. A file that ends before is Short at its length
 abbrev pub bytes_at : ℕ → ℕ → List ℕ → Result (List ℕ) ProgFault
 bytes_at = fields.bytes_at kinds.Short
 
+-- a number of a program file
 abbrev pub number_at : Width → ℕ → List ℕ → Result ℕ ProgFault
 number_at = fields.number_at kinds.Short
 
+-- a number of a program file that has to pass a test
 abbrev pub field_at : Width → (ℕ → Bool) → ProgKind → ℕ → List ℕ → Result ℕ ProgFault
 field_at = fields.field_at kinds.Short
 
 -- ---- an instruction
 
--- the eight bytes of an instruction: its number, two rows, and one more
+-- a row of an instruction in three bytes, from byte k on: its space, which row of it, and its index
 abbrev pub raw_row : List ℕ → ℕ → RawRow
 raw_row field k = record {
   space = slice_index field k;
@@ -52,6 +54,7 @@ raw_row field k = record {
   index = slice_index field (k + 2);
 }
 
+-- the eight bytes of an instruction: its number, two rows, and one that every instruction has 0
 abbrev pub raw_of : List ℕ → Raw
 raw_of field = record {
   number = slice_index field 0;
@@ -60,6 +63,7 @@ raw_of field = record {
   spare = slice_index field 7;
 }
 
+-- three bytes that an instruction without this row has 0
 abbrev pub is_zero : RawRow → Bool
 is_zero x = x.space == 0 && (x.which == 0 && x.index == 0)
 
@@ -67,6 +71,7 @@ is_zero x = x.space == 0 && (x.which == 0 && x.index == 0)
 abbrev pub has_register : RawRow → Bool
 has_register x = nat_lt x.space 8
 
+-- a second register, in the row's second byte
 abbrev pub has_second : RawRow → Bool
 has_second x = nat_lt x.which 8
 
@@ -74,6 +79,7 @@ has_second x = nat_lt x.which 8
 abbrev pub operand : RawRow → ℕ
 operand x = from_le_bytes w16 (x.which ∷ x.index ∷ [])
 
+-- the bytes of the second row and the spare one are 0, as for every instruction but AAP
 abbrev pub ends_at_y : Raw → Bool
 ends_at_y r = is_zero r.y && r.spare == 0
 
@@ -97,6 +103,7 @@ abbrev pub has_target : Opcode → ℕ → Raw → Bool
 has_target Bnez size r = nat_lt (operand r.x) size
 has_target _ size r = true
 
+-- the row that three bytes name, where its space is one
 abbrev pub row_of : RawRow → RowRef
 row_of x = record { space = slice_index_or SPACES x.space Spill; which = x.which; index = x.index }
 
@@ -112,6 +119,7 @@ abbrev pub ends_code : Opcode → Bool → Bool
 ends_code Done last = true
 ends_code _ last = not last
 
+-- the instruction that well-formed bytes spell
 abbrev pub uop_as : Opcode → Raw → Uop
 uop_as Done r = uop.Done
 uop_as SetI r = uop.SetI r.x.space (operand r.x)
@@ -134,10 +142,12 @@ uop_of k shape size last at r = do
   done ← rule (ends_code k last) at kinds.NoDone
   Ok (uop_as k r)
 
+-- an instruction by its number, which has to be one of the table
 abbrev pub numbered : Option Opcode → Shape → ℕ → Bool → ℕ → Raw → Result Uop ProgFault
 numbered None shape size last at r = Err (fault_at at kinds.Instruction)
 numbered (Some k) shape size last at r = uop_of k shape size last at r
 
+-- the instruction at a place of the file, or its first fault
 unfoldable pub uop_at : Shape → ℕ → Bool → ℕ → List ℕ → Result Uop ProgFault
 uop_at shape size last at bytes = do
   field ← bytes_at 8 at bytes
@@ -160,6 +170,7 @@ pub record Listing : Type 0 where
   pub start : ℕ
   pub count : ℕ
 
+-- whether an earlier entry has this name
 abbrev pub has_name : List Listing → List ℕ → Bool
 has_name earlier name = list_any (λ l. bytes_eq l.name name) earlier
 
@@ -167,6 +178,7 @@ has_name earlier name = list_any (λ l. bytes_eq l.name name) earlier
 abbrev pub name_at : List Listing → ℕ → List ℕ → Result (List ℕ) ProgFault
 name_at earlier = fields.name_at kinds.Short kinds.Directory (has_name earlier)
 
+-- the kind that a bit of the kinds byte says
 abbrev pub kind_of_bit : ℕ → Kind
 kind_of_bit b = if b == 1 then Word else Bit
 
@@ -188,6 +200,8 @@ is_results version top = nat_lt top (if version == 1 then 2 else 8) && not (top 
 abbrev pub is_kinds : ℕ → ℕ → ℕ → Bool
 is_kinds version m n = nat_lt (n % 16) (2 ^ m) && is_results version (n / 16)
 
+-- the shape of an entry: how many sources, the kinds, and the bits and words of scratch, a byte
+-- each
 unfoldable pub shape_at : ℕ → ℕ → List ℕ → Result Shape ProgFault
 shape_at version at bytes = do
   sources ← field_at w8 (is_between 1 4) kinds.Directory at bytes
@@ -202,6 +216,7 @@ shape_at version at bytes = do
     words = words;
   })
 
+-- the 27 bytes of an entry in the directory; its code starts where that of the one before it ends
 unfoldable pub listing_at : ℕ → List Listing → ℕ → ℕ → List ℕ → Result Listing ProgFault
 listing_at version earlier start at bytes = do
   name ← name_at earlier at bytes
@@ -220,6 +235,7 @@ directory_at version (suc n) earlier start at bytes = do
 
 -- ---- the file
 
+-- the two versions that there are
 abbrev pub is_version : ℕ → Bool
 is_version n = n == 1 || n == 2
 
@@ -238,6 +254,7 @@ codes_at (l ∷ ls) at bytes = do
   others ← codes_at ls (at + 8 * l.count) bytes
   Ok (record { name = l.name; shape = l.shape; code = code } ∷ others)
 
+-- how many instructions all entries have, of eight bytes each
 abbrev pub total_count : List Listing → ℕ
 total_count [] = 0
 total_count (l ∷ ls) = l.count + total_count ls
@@ -268,9 +285,11 @@ listing_of l = record {
   count = l.count;
 }
 
+-- the directory, as the code keeps it
 abbrev pub listings_of : List Listed → List Listing
 listings_of ls = map listing_of ls
 
+-- whether a kept entry has this name
 abbrev pub is_named : List ℕ → Listed → Bool
 is_named name l = bytes_eq l.head.name name
 

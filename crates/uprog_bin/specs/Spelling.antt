@@ -14,6 +14,7 @@ use Rattle.uprog_code.specs.declared.code.Uop.TheVariants.{SubI, Bnez, Aap, Ap}
 use Rattle.uprog_code.specs.Shape.{Shape, Microprogram}
 use Rattle.file_fields.specs.Fields.{name_bytes}
 
+-- the byte of a space of rows
 abbrev pub space_number : RowSpace → ℕ
 space_number space.B = 0
 space_number space.C = 1
@@ -23,9 +24,11 @@ space_number space.ScratchBit = 4
 space_number space.ScratchWord = 5
 space_number space.Spill = 6
 
+-- a row in three bytes: its space, which row of it, and its index
 abbrev pub row_bytes : RowRef → List ℕ
 row_bytes r = space_number r.space ∷ r.which ∷ r.index ∷ []
 
+-- the bytes that an instruction does not use
 abbrev pub zeros : ℕ → List ℕ
 zeros n = replicate n 0
 
@@ -49,6 +52,7 @@ kind_bits [] = 0
 kind_bits (Word ∷ kinds) = 2 * kind_bits kinds + 1
 kind_bits (Bit ∷ kinds) = 2 * kind_bits kinds
 
+-- bit 4 of the kinds byte: the first result is a word
 abbrev pub result_bit : Kind → ℕ
 result_bit Word = 16
 result_bit Bit = 0
@@ -59,6 +63,8 @@ second_bits None = 0
 second_bits (Some Bit) = 32
 second_bits (Some Word) = 96
 
+-- the kinds of the sources in bits 0 to 3, of the first result in bit 4, of the second in bits 5
+-- and 6
 abbrev pub kinds_byte : Shape → ℕ
 kinds_byte shape = kind_bits shape.sources + (result_bit shape.result + second_bits shape.second)
 
@@ -76,9 +82,11 @@ abbrev pub directory_bytes : ℕ → List Microprogram → List ℕ
 directory_bytes start [] = []
 directory_bytes start (m ∷ ms) = head_bytes start m ++ directory_bytes (start + length m.code) ms
 
+-- the code of an entry, eight bytes for each instruction
 abbrev pub code_bytes : Microprogram → List ℕ
 code_bytes m = flat_map instruction_bytes m.code
 
+-- SDMP, and the version
 abbrev pub opening_bytes : ℕ → List ℕ
 opening_bytes version = codes "SDMP" ++ to_le_bytes w16 version
 

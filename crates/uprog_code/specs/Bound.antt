@@ -18,6 +18,7 @@ pub record Bound : Type 0 where
   pub sources : List ℕ
   pub scratch : ℕ
 
+-- the binding that a value of the program holds: the rows of its results, sources and scratch
 abbrev pub bound_of : Binding → Bound
 bound_of b = record {
   results = b.result ∷ option_to_list b.second;
@@ -37,9 +38,11 @@ address_in rows shape n b space.ScratchWord which i =
     addr.D (b.scratch + shape.bits + which * n + i)
 address_in rows shape n b space.Spill which i = addr.D (rows - 32 + which)
 
+-- the row of the bank that a row of a trace stands for, at width n
 abbrev pub address : ℕ → Shape → ℕ → Bound → RowRef → Addr
 address rows shape n b r = address_in rows shape n b r.space r.which r.index
 
+-- a command of a trace with the rows of the bank that it activates
 abbrev pub bound_command : ℕ → Shape → ℕ → Bound → Issue → Command
 bound_command rows shape n b (IssueAap x y) =
     Aap (address rows shape n b x) (address rows shape n b y)

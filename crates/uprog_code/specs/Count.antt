@@ -7,10 +7,12 @@ use Rattle.uprog_code.specs.declared.registers.Turn.{Turn}
 use Rattle.uprog_code.specs.declared.registers.Turn.TheVariants.{Over, On, To, Issues}
 use Rattle.uprog_code.specs.Machine.{Issue, IssueAap, IssueAp, Trace, Ended, Stuck}
 
+-- the command copies a row onto another, and counts as an AAP
 abbrev pub issues_aap : Issue → Bool
 issues_aap (IssueAap x y) = true
 issues_aap (IssueAp x) = false
 
+-- the command activates a triple of rows alone, and counts as an AP
 abbrev pub issues_ap : Issue → Bool
 issues_ap (IssueAap x y) = false
 issues_ap (IssueAp x) = true

@@ -40,6 +40,7 @@ ArePairwiseApart (r ∷ rs) = AllByRecursion (AreApart r) rs × ArePairwiseApart
 abbrev pub result_ranges : Shape → ℕ → Bound → List Range
 result_ranges shape n b = ranges n (results shape) b.results
 
+-- the rows of the scratch, from its base on
 abbrev pub scratch_range : Shape → ℕ → Bound → Range
 scratch_range shape n b = record { base = b.scratch; size = need shape n }
 
@@ -57,6 +58,7 @@ pub record Fits (rows : ℕ) (shape : Shape) (n : ℕ) (b : Bound) : Type 0 wher
   pub read : AllByRecursion (λ s. AllByRecursion (AreApart s) (written shape n b))
       (ranges n shape.sources b.sources)
 
+-- the row is among those of one of these values
 abbrev pub IsInSome : List Range → ℕ → Type 0
 IsInSome [] row = ⊥
 IsInSome (r ∷ rs) row = IsAmong r row ⊎ IsInSome rs row

@@ -18,6 +18,7 @@ is_issued_in shape n space.ScratchBit which i = nat_lt which shape.bits
 is_issued_in shape n space.ScratchWord which i = nat_lt (which * n + i) (n * shape.words)
 is_issued_in shape n space.Spill which i = nat_lt which 32
 
+-- a row that legal code may name in a trace at width n
 abbrev pub is_issued : Shape → ℕ → RowRef → Bool
 is_issued shape n r = is_issued_in shape n r.space r.which r.index
 
@@ -27,5 +28,6 @@ is_good shape n (IssueAap x y) = (is_issued shape n x && may_be_first x.space x.
     && (is_issued shape n y && may_be_second y.space)
 is_good shape n (IssueAp x) = is_issued shape n x && may_be_first x.space x.which
 
+-- every command of a trace names rows that are legal in their places
 abbrev pub AreGood : Shape → ℕ → List Issue → Type 0
 AreGood shape n issues = AllByRecursion (λ c. is_good shape n c ≡ true) issues

@@ -41,12 +41,15 @@ may_be_second space.ScratchBit = true
 may_be_second space.ScratchWord = true
 may_be_second space.Spill = true
 
+-- a row that code of this shape may name
 abbrev pub is_row : Shape → RowRef → Bool
 is_row shape r = is_place shape r.space r.which r.index
 
+-- a row that may be activated first
 abbrev pub is_first : Shape → RowRef → Bool
 is_first shape r = is_row shape r && may_be_first r.space r.which
 
+-- a row that may be activated second, over the bitlines that the first has set
 abbrev pub is_second : Shape → RowRef → Bool
 is_second shape r = is_row shape r && may_be_second r.space
 
@@ -65,6 +68,8 @@ is_legal shape size (Bnez r t) = nat_lt r 8 && nat_lt t size
 is_legal shape size (Aap x y) = is_first shape x && is_second shape y
 is_legal shape size (Ap x) = is_first shape x
 
+-- Code that a program file may have: fewer than 2 ^ 16 instructions, each legal, and the last ends
+-- it.
 pub record IsLegalCode (shape : Shape) (code : List Uop) : Type 0 where
   pub short : length code < 2 ^ 16
   pub each : AllByRecursion (λ i. is_legal shape (length code) i ≡ true) code

@@ -48,10 +48,12 @@ row_at regs r = record {
   index = position r.space (slice_index regs r.index);
 }
 
+-- the command with the positions that the registers give its rows
 abbrev pub command_at : List ℕ → Issue → Issue
 command_at regs (IssueAap x y) = IssueAap (row_at regs x) (row_at regs y)
 command_at regs (IssueAp x) = IssueAp (row_at regs x)
 
+-- whether a value of this kind, where there is one, has a position i at width n
 abbrev pub in_kind : Option Kind → ℕ → ℕ → Bool
 in_kind None n i = false
 in_kind (Some Word) n i = nat_lt i n
@@ -67,9 +69,11 @@ in_space head n space.ScratchBit which i = true
 in_space head n space.ScratchWord which i = nat_lt (which * n + i) (n * head.words)
 in_space head n space.Spill which i = true
 
+-- the row lies within the value that it belongs to, at width n
 abbrev pub in_range : Shape → ℕ → RowRef → Bool
 in_range head n r = in_space head n r.space r.which r.index
 
+-- both rows of a command do
 abbrev pub all_in_range : Shape → ℕ → Issue → Bool
 all_in_range head n (IssueAap x y) = in_range head n x && in_range head n y
 all_in_range head n (IssueAp x) = in_range head n x
@@ -118,6 +122,7 @@ issue head code n zero pc regs = Stuck pc Budget
 issue head code n (suc left) pc regs = act_at head n (slice_get code pc) (issue head code n left) pc
     regs
 
+-- eight registers with 0, as each walk begins
 abbrev pub start : List ℕ
 start = 0 ∷ 0 ∷ 0 ∷ 0 ∷ 0 ∷ 0 ∷ 0 ∷ 0 ∷ []
 
@@ -130,6 +135,7 @@ abbrev pub issues_of : Trace → List Issue
 issues_of (Ended issues) = issues
 issues_of (Stuck at why) = []
 
+-- the walk came to its end, and is not stuck
 abbrev pub HasEnded : Trace → Type 0
 HasEnded (Ended issues) = Unit {0}
 HasEnded (Stuck at why) = ⊥

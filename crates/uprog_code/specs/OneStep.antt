@@ -13,9 +13,11 @@ use Rattle.uprog_code.specs.declared.registers.Turn.TheVariants.{Over, On, To, I
 use Rattle.uprog_code.specs.declared.walker.Why3.{Why3}
 use Rattle.uprog_code.specs.Machine.{Trace, Ended, Stuck, Issue, IssueAap, IssueAp, Next, onto}
 
+-- the row of a trace that the walker tells
 abbrev pub row_of : RowPosition → RowRef
 row_of p = record { space = p.space; which = p.which; index = p.index }
 
+-- the command of a trace that the walker tells
 abbrev pub issue_of : Issued → Issue
 issue_of (issued.Aap x y) = IssueAap (row_of x) (row_of y)
 issue_of (issued.Ap x) = IssueAp (row_of x)
@@ -35,6 +37,7 @@ issues_by On = []
 issues_by (To t) = []
 issues_by (Issues c) = issue_of c ∷ []
 
+-- where the walk goes on after a step
 abbrev pub next_place : Turn → ℕ → ℕ
 next_place Over pc = pc
 next_place On pc = pc + 1

@@ -16,6 +16,7 @@ pub record Shape : Type 0 where
   pub bits : ℕ
   pub words : ℕ
 
+-- the shape that an entry's head tells
 abbrev pub shape_of : Head → Shape
 shape_of head = record {
   sources = head.sources.items;
@@ -35,9 +36,11 @@ pub record Microprogram : Type 0 where
   pub shape : Shape
   pub code : List Uop
 
+-- the microprogram that an entry of a compiled program holds
 abbrev pub microprogram_of : EntryCode → Microprogram
 microprogram_of e = record { name = e.head.name; shape = shape_of e.head; code = e.code.items }
 
+-- the entries of a compiled program, in order
 abbrev pub microprograms_of : Program → List Microprogram
 microprograms_of p = map microprogram_of p.entries.items
 

@@ -26,6 +26,7 @@ op_shape op = record {
   words = scratch_words op;
 }
 
+-- an op of a text with the ceiling and the meaning that its definitions give
 abbrev pub text_op : Operation → TextOp
 text_op op = record {
   name = op.name;

@@ -32,10 +32,12 @@ StopsInItsQueue =
     → (m : ℕ) × (after (take k (events_of_picks banks picks left)) chip bank
     ≡ map (run (take m (left bank))) (chip bank))
 
+-- the command copies a row, and counts as an AAP
 abbrev pub is_aap : Command → Bool
 is_aap (Ap x) = false
 is_aap (Aap x y) = true
 
+-- the command activates a triple alone, and counts as an AP
 abbrev pub is_ap : Command → Bool
 is_ap (Ap x) = true
 is_ap (Aap x y) = false

@@ -25,6 +25,7 @@ queues jobs bank = flat_map (λ job. if nat_lt bank job.banks then job.commands 
 abbrev pub is_live : Queues → ℕ → Bool
 is_live left bank = not (length (left bank) == 0)
 
+-- the banks that an order can choose among
 abbrev pub live : ℕ → Queues → List ℕ
 live banks left = filter (is_live left) (range_with_len 0 banks)
 
@@ -67,6 +68,7 @@ picks p banks (suc n) s left =
     let pick = p.choice s count in
     pick ∷ picks p banks n (p.next s count) (without_next (picked banks left pick) left)
 
+-- the picker's state after n picks
 abbrev pub state_after : {S : Type 0} → Picker S → ℕ → ℕ → S → Queues → S
 state_after p banks zero s left = s
 state_after p banks (suc n) s left =
@@ -82,6 +84,7 @@ total_left banks left = sum_by (λ bank. length (left bank)) (range_with_len 0 b
 abbrev pub whole_picks : {S : Type 0} → Picker S → ℕ → S → Queues → List ℕ
 whole_picks p banks s left = picks p banks (total_left banks left) s left
 
+-- the picker's state when no bank has a command left
 abbrev pub last_state : {S : Type 0} → Picker S → ℕ → S → Queues → S
 last_state p banks s left = state_after p banks (total_left banks left) s left
 
@@ -92,15 +95,18 @@ pub data Turn : Type 0 where
   Turning : ℕ → Turn
   Drawing : ℕ → Turn
 
+-- which of so many live banks the order in force picks
 abbrev pub turn_choice : Turn → ℕ → ℕ
 turn_choice Ahead count = 0
 turn_choice (Turning t) count = t % count
 turn_choice (Drawing state) count = (mix_u64 state).0 % count
 
+-- the order's state after a pick
 abbrev pub turn_next : Turn → ℕ → Turn
 turn_next Ahead count = Ahead
 turn_next (Turning t) count = Turning ((t + 1) % 2 ^ 16)
 turn_next (Drawing state) count = Drawing (mix_u64 state).1
 
+-- the order in force as a picker
 abbrev pub in_turn : Picker Turn
 in_turn = record { choice = turn_choice; next = turn_next }
