@@ -27,6 +27,7 @@ pub data Instruction : Type 0 where
   Free : List ℕ → Instruction
   Order : Orders → Instruction
 
+-- the instruction that a parsed line holds, with its names as bytes
 abbrev pub view_of : Instr → Instruction
 view_of (instr.Init name count n) = Init name count n
 view_of (instr.Bbop op dst srcs count n) = Bbop op dst srcs.items count n
@@ -46,6 +47,7 @@ abbrev pub with_name : List ℕ → Option Operands → Option Operands
 with_name name None = None
 with_name name (Some o) = Some (record { names = name ∷ o.names; numbers = o.numbers })
 
+-- a number in front of operands, which no name may follow
 abbrev pub before_names : Option ℕ → List (List ℕ) → List (Option ℕ) → Option Operands
 before_names number [] numbers = Some (record { names = []; numbers = number ∷ numbers })
 before_names number (name ∷ names) numbers = None
@@ -78,9 +80,11 @@ abbrev pub is_seed : Option ℕ → Bool
 is_seed None = false
 is_seed (Some seed) = nat_lt seed (2 ^ 64)
 
+-- the number that was read; what is refused before it is asked for counts as 0
 abbrev pub value : Option ℕ → ℕ
 value number = unwrap_or number 0
 
+-- what a line says, turned into something else; its fault stays
 abbrev pub result_map : {A B : Type 0} → (A → B) → Result A ScriptKind → Result B ScriptKind
 result_map f (Ok x) = Ok (f x)
 result_map f (Err kind) = Err kind
@@ -90,6 +94,7 @@ abbrev pub checked : Bool → Bool → Instruction → Result Instruction Script
 checked names numbers i = if not names then Err BadName
     else (if not numbers then Err BadNumber else Ok i)
 
+-- `trsp_init` with the name of an object, its number of elements and its width
 abbrev pub init_of : List (List ℕ) → List (Option ℕ) → Result Instruction ScriptKind
 init_of (name ∷ []) (count ∷ n ∷ []) = checked (fits_name name) (is_count count
     && is_width n) (Init name (value count) (value n))
@@ -103,11 +108,13 @@ bbop_of op (dst ∷ src ∷ srcs) (count ∷ n ∷ []) =
     && is_width n) (Bbop op dst (src ∷ srcs) (value count) (value n))
 bbop_of op names numbers = Err Syntax
 
+-- `load` with a name and one or more values, whose width and number the machine looks at
 abbrev pub load_of : List (List ℕ) → List (Option ℕ) → Result Instruction ScriptKind
 load_of (name ∷ []) (number ∷ numbers) = checked (fits_name name)
     (list_all is_some (number ∷ numbers)) (Load name (map value (number ∷ numbers)))
 load_of names numbers = Err Syntax
 
+-- `fill` with a name and one value, whose width the machine looks at
 abbrev pub fill_of : List (List ℕ) → List (Option ℕ) → Result Instruction ScriptKind
 fill_of (name ∷ []) (number ∷ []) = checked (fits_name name) (is_some number)
     (Fill name (value number))
@@ -118,9 +125,11 @@ abbrev pub lone_name : List (List ℕ) → List (Option ℕ) → Result (List �
 lone_name (name ∷ []) [] = if fits_name name then Ok name else Err BadName
 lone_name names numbers = Err Syntax
 
+-- an order by the words of a generator, begun with this seed
 abbrev pub seed_of : Option ℕ → Result Instruction ScriptKind
 seed_of seed = if is_seed seed then Ok (Order (Seed (value seed))) else Err BadNumber
 
+-- which order in force a line asks for
 abbrev pub order_of : List Word → Result Instruction ScriptKind
 order_of (Name word ∷ []) =
     if bytes_eq word (codes "in") then Ok (Order Forward)
@@ -149,6 +158,7 @@ of_operands head verb.Fill o = fill_of o.names o.numbers
 of_operands head verb.Print o = result_map Print (lone_name o.names o.numbers)
 of_operands head verb.Free o = result_map Free (lone_name o.names o.numbers)
 
+-- what a line says whose first name is no operation's
 abbrev pub of_verb : List ℕ → Option Verb → Option Operands → Result Instruction ScriptKind
 of_verb head (Some v) (Some o) = of_operands head v o
 of_verb head (Some v) None = Err Syntax
@@ -159,6 +169,7 @@ abbrev pub instruction_of : List ℕ → List Word → Result Instruction Script
 instruction_of head words = if bytes_eq head (codes "order") then order_of words
     else of_verb head (verb_of head) (operands_of words)
 
+-- what a line says by its tokens: a line without any says nothing
 abbrev pub of_words : Option (List Word) → Result (Option Instruction) ScriptKind
 of_words None = Err Lex
 of_words (Some []) = Ok None

@@ -47,6 +47,7 @@ IsForm (BbopForm op dst srcs count n) = (op ≢ codes "trsp_init") × (1 ≤ len
 IsForm (LoadForm name values) = 1 ≤ length values
 IsForm f = Unit {0}
 
+-- the words of a line are those of a form, whatever its names and numbers are
 abbrev pub HasForm : List Word → Form → Type 0
 HasForm words f = (words ≡ words_of f) × IsForm f
 

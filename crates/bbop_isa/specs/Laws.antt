@@ -76,6 +76,8 @@ IsRight (Order Forward) = Unit {0}
 IsRight (Order Turns) = Unit {0}
 IsRight (Order (Seed seed)) = seed < 2 ^ 64
 
+-- A line says this instruction: it is spelled by the line's words, and its names and numbers may
+-- stand in a script.
 pub record IsLine (words : Option (List Word)) (i : Instruction) : Type 0 where
   pub spelled : words ≡ Some (Name (first_name i) ∷ other_words i)
   pub right : IsRight i

@@ -30,6 +30,7 @@ WordsOf line (Ok words) = words_in (items_of line) ≡ Some (map word_view words
 WordsOf line (Err (line_no.Bad kind)) = (words_in (items_of line) ≡ None) × (kind ≡ Lex)
 WordsOf line (Err line_no.NoMemory) = Unit {0}
 
+-- the operands that the parser holds, without where its lists lie in memory
 abbrev pub operands_view : KeptOperands → Operands
 operands_view o = record { names = texts o.names.items; numbers = o.numbers.items }
 
@@ -40,6 +41,7 @@ joined names [] more numbers = Some (record { names = names ++ more; numbers = n
 joined names (n ∷ ns) [] numbers = Some (record { names = names; numbers = (n ∷ ns) ++ numbers })
 joined names (n ∷ ns) (m ∷ more) numbers = None
 
+-- the operands of the rest of a line after those read so far
 abbrev pub joined_after : List (List ℕ) → List (Option ℕ) → Option Operands → Option Operands
 joined_after names numbers None = None
 joined_after names numbers (Some o) = joined names numbers o.names o.numbers
@@ -54,6 +56,7 @@ left true names numbers (Name name ∷ words) = None
 left true names numbers (Number number ∷ words) = None
 left true names numbers (Other ∷ words) = None
 
+-- what the parser's operands and the words that are left come to
 abbrev pub left_in : KeptOperands → List Word → Option Operands
 left_in o words = left o.at_comma (texts o.names.items) o.numbers.items words
 
@@ -77,6 +80,7 @@ takes names numbers (Number number) = Some (record {
 takes names numbers Comma = None
 takes names numbers Other = None
 
+-- One word was added to the operands, or it may not stand there.
 abbrev pub Pushes : KeptOperands → Kept → Result Bool LineNo → KeptOperands → Type 0
 Pushes old word (Ok true) new = takes (texts old.names.items) old.numbers.items (word_view word)
     ≡ Some (operands_view new)

@@ -14,6 +14,7 @@ after i (Err fault) = Err fault
 after None (Ok script) = Ok script
 after (Some i) (Ok script) = Ok (i ∷ script)
 
+-- a line and the script after it: the first line at fault is the answer
 abbrev pub go_on : ℕ → Result (Option Instruction) ScriptKind
     → Result (List Instruction) ScriptFault → Result (List Instruction) ScriptFault
 go_on number (Err kind) rest = Err (record { line = number; kind = kind })

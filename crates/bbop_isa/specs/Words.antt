@@ -17,6 +17,7 @@ pub data Word : Type 0 where
   Comma : Word
   Other : Word
 
+-- a token as a script sees it: its symbols are commas or nothing
 abbrev pub word_at : TokenKind → List ℕ → Word
 word_at kind.Name text = Name text
 word_at kind.Number text = Number (number_of text)

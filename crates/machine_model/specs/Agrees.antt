@@ -49,6 +49,7 @@ StepAgrees g operations meaning instr =
 abbrev pub IsWidth : ℕ → Type 0
 IsWidth n = (0 < n) × (n ≤ WIDTH_MAX)
 
+-- an instruction whose sizes are such as every script has
 abbrev pub IsPlain : Instruction → Type 0
 IsPlain (Init name count n) = (0 < count) × IsWidth n
 IsPlain (Bbop op dst srcs count n) = IsWidth n

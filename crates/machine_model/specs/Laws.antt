@@ -88,6 +88,7 @@ pub record IsGranted (g : Geometry) (operations : Routines) (table : List Named)
   pub fits : Fits g.rows o.shape n (binding g table o.shape names n)
   pub banks : (job_of g operations table instr).banks ≤ g.banks
 
+-- A bbop that passes all conditions can be run: what the controller asks for holds
 abbrev pub GrantsFit : Type 0
 GrantsFit =
     (g : Geometry) (operations : Routines) (table : List Named) (o : Routine)
@@ -213,10 +214,12 @@ pub record PiecesGoOn (g : Geometry) (operations : Routines) (turn : Turn) (tabl
       ++ events_of_pieces g operations (turn_at_end g operations turn table ps)
       (table_at_end g operations table (flat_map instrs_in ps)) qs
 
+-- Every script goes on where its first part ends, wherever it is cut
 abbrev pub ScriptsGoOn : Type 0
 ScriptsGoOn = (g : Geometry) (operations : Routines) (table : List Named)
     (xs ys : List Instruction) → GoesOn g operations table xs ys
 
+-- All pieces go on where the first of them end, wherever they are cut
 abbrev pub AllPiecesGoOn : Type 0
 AllPiecesGoOn = (g : Geometry) (operations : Routines) (turn : Turn) (table : List Named)
     (ps qs : List Piece) → PiecesGoOn g operations turn table ps qs
@@ -236,6 +239,7 @@ abbrev pub LinesGoOn : Type 0
 LinesGoOn = (number : ℕ) (xs ys : List Said)
     → lines number (xs ++ ys) ≡ lines number xs ++ lines (number + length xs) ys
 
+-- Every wave is answered bbop by bbop, and leaves the table
 abbrev pub WavesAreAnswered : Type 0
 WavesAreAnswered = (g : Geometry) (operations : Routines) (table : List Named)
     (wave : List Instruction) → AreBbops wave → WaveIsAnswered g operations table wave
@@ -258,6 +262,7 @@ EventsAreSteps =
     → after (events_of_pieces g operations turn table (pieces script)) chip
     ≡ banks_at_end g operations table chip script
 
+-- The events of one piece leave the banks as its instructions one after another do
 abbrev pub PieceIsSteps : Type 0
 PieceIsSteps =
     (g : Geometry) (operations : Routines) (turn : Turn) (table : List Named) (piece : Piece)
@@ -273,6 +278,7 @@ CountedByReplies =
     → all_counted (events_of_pieces g operations turn table (pieces script)) k
     ≡ counters_at_end g operations table script k
 
+-- The events of one piece are counted by its replies and the rows it loads
 abbrev pub PieceIsCounted : Type 0
 PieceIsCounted =
     (g : Geometry) (operations : Routines) (turn : Turn) (table : List Named) (piece : Piece)

@@ -21,10 +21,12 @@ pub data Piece : Type 0 where
   Wave : List Instruction → Piece
   Alone : Instruction → Piece
 
+-- the instructions of a piece
 abbrev pub instrs_in : Piece → List Instruction
 instrs_in (Wave wave) = wave
 instrs_in (Alone instr) = instr ∷ []
 
+-- the instructions that a wave may have
 abbrev pub AreBbops : List Instruction → Type 0
 AreBbops instrs = AllByRecursion (λ instr. is_bbop instr ≡ true) instrs
 
@@ -47,6 +49,7 @@ pieces_from wave (instr ∷ script) =
     else pieces_from (wave ++ instr ∷ []) script)
     else gathered wave ++ Alone instr ∷ pieces_from [] script
 
+-- a script cut into its waves and its other instructions
 abbrev pub pieces : List Instruction → List Piece
 pieces script = pieces_from [] script
 
@@ -63,6 +66,7 @@ abbrev pub jobs_of : Geometry → Routines → List Named → List Instruction �
 jobs_of g operations table wave = map (job_of g operations table)
     (filter (λ instr. is_none (refusal g operations table instr)) wave)
 
+-- what each bank has to do in a wave: the commands of the bbops that are not refused
 abbrev pub wave_queues : Geometry → Routines → List Named → List Instruction → Queues
 wave_queues g operations table wave = queues (jobs_of g operations table wave)
 
@@ -80,6 +84,7 @@ turn_of Forward = Ahead
 turn_of Turns = Turning 0
 turn_of (Seed seed) = Drawing seed
 
+-- the order in force after an instruction, which only an order changes
 abbrev pub turn_by : Turn → Instruction → Turn
 turn_by turn (Order o) = turn_of o
 turn_by turn (Init name count n) = turn

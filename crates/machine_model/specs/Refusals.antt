@@ -25,6 +25,7 @@ first [] = None
 first (None ∷ rest) = first rest
 first (Some reason ∷ rest) = Some reason
 
+-- a condition with the reason that it is told by
 abbrev pub when : Bool → Why → Option Why
 when holds reason = if holds then Some reason else None
 
@@ -37,9 +38,11 @@ at_place reason k (holds ∷ rest) = if holds then Some (reason k) else at_place
 abbrev pub nothing : Object
 nothing = record { base = 0; width = 0; count = 0 }
 
+-- the object of this name, for conditions that come after the one that there is none
 abbrev pub object_named : List Named → List ℕ → Object
 object_named table name = unwrap_or (look_up table name) nothing
 
+-- no object has this name
 abbrev pub is_absent : List Named → List ℕ → Bool
 is_absent table name = not (has_name table name)
 
@@ -47,6 +50,7 @@ is_absent table name = not (has_name table name)
 abbrev pub is_misfit : ℕ → Kind × Object → Bool
 is_misfit n operand = not (operand.1.width == width operand.0 n)
 
+-- the operation's walk is stuck at this width, and where
 abbrev pub walks_badly : Trace → Option Why
 walks_badly (Ended issues) = None
 walks_badly (Stuck at reason) = Some (why.BadWalk (record { at = at; why = reason }))
@@ -55,9 +59,11 @@ walks_badly (Stuck at reason) = Some (why.BadWalk (record { at = at; why = reaso
 abbrev pub dsts_in : Shape → List (List ℕ) → List (List ℕ)
 dsts_in shape names = take (length (results shape)) names
 
+-- the names of a bbop's sources, after those of its destinations
 abbrev pub srcs_in : Shape → List (List ℕ) → List (List ℕ)
 srcs_in shape names = drop (length (results shape)) names
 
+-- the name is one of these
 abbrev pub is_one_of : List (List ℕ) → List ℕ → Bool
 is_one_of names name = list_any (λ other. bytes_eq name other) names
 
@@ -93,6 +99,7 @@ bbop_conditions limit table operation names count n =
     ∷ operand_conditions table operation.shape names count n
     ++ grant_conditions limit table operation n
 
+-- why a bbop is refused, and first that there is no such operation
 abbrev pub bbop_refusal : Geometry → List Named → Option Routine → List (List ℕ) → ℕ → ℕ
     → Option Why
 bbop_refusal g table None names count n = Some why.NoOp

@@ -19,11 +19,13 @@ use Rattle.machine_model.specs.Steps.{Held, table_of, numbers_named, words_after
 use Rattle.machine_model.specs.Steps.{table_after, banks_after}
 use Rattle.machine_model.specs.Script.{is_refused}
 
+-- the word of the report for what makes a walk stuck
 abbrev pub walk_word : Why3 → List ℕ
 walk_word Index = codes "index"
 walk_word Register = codes "register"
 walk_word Budget = codes "budget"
 
+-- a word with the place that it speaks of
 abbrev pub at_number : List ℕ → ℕ → List ℕ
 at_number word place = word ++ codes " " ++ decimal place
 
@@ -49,6 +51,7 @@ pub data Said : Type 0 where
   Printed : (name values : List ℕ) → Said
   Answered : Reply → Said
 
+-- what is said of a done instruction: of a print its values, of others their counts
 abbrev pub said_of : Reply → Instruction → (List ℕ → List ℕ) → Said
 said_of (Done counts) (Print name) values = Printed name (values name)
 said_of (Done counts) (Init name count n) values = Answered (Done counts)
@@ -59,11 +62,13 @@ said_of (Done counts) (Free name) values = Answered (Done counts)
 said_of (Done counts) (Order o) values = Answered (Done counts)
 said_of (Refused reason) instr values = Answered (Refused reason)
 
+-- the counts of a done instruction, or why it was refused
 abbrev pub reply_text : Reply → List ℕ
 reply_text (Done counts) = codes "ok aap=" ++ decimal counts.aap ++ codes " ap="
     ++ decimal counts.ap
 reply_text (Refused reason) = codes "refused " ++ why_text reason
 
+-- a line without its number
 abbrev pub said_text : Said → List ℕ
 said_text (Printed name values) = name ++ codes ":" ++ flat_map (λ v. codes " " ++ decimal v) values
 said_text (Answered reply) = reply_text reply

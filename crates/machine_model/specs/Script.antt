@@ -16,6 +16,7 @@ use Rattle.machine_model.specs.Refusals.{refusal, object_named}
 use Rattle.machine_model.specs.Steps.{Held, words_after, table_after, banks_after, reply_to}
 use Rattle.machine_model.specs.Steps.{events_of, if_done, is_touched}
 
+-- the instruction runs an operation, and may stand in a wave
 abbrev pub is_bbop : Instruction → Bool
 is_bbop (Init name count n) = false
 is_bbop (Bbop op dst srcs count n) = true
@@ -32,6 +33,7 @@ replies g operations table (instr ∷ script) =
     reply_to g operations table instr ∷ replies g operations (table_after g operations table instr)
     script
 
+-- the table of objects after a script
 abbrev pub table_at_end : Geometry → Routines → List Named → List Instruction → List Named
 table_at_end g operations table [] = table
 table_at_end g operations table (instr ∷ script) =
@@ -69,10 +71,12 @@ events_in_order g operations table (instr ∷ script) =
 abbrev pub plus : Counts → Counts → Counts
 plus a b = record { aap = a.aap + b.aap; ap = a.ap + b.ap }
 
+-- the row commands that a reply tells; of a refused instruction none
 abbrev pub counted_in : Reply → Counts
 counted_in (Done counts) = counts
 counted_in (Refused reason) = record { aap = 0; ap = 0 }
 
+-- the row commands that all replies tell
 abbrev pub sum_of : List Reply → Counts
 sum_of [] = record { aap = 0; ap = 0 }
 sum_of (reply ∷ rest) = plus (counted_in reply) (sum_of rest)
@@ -85,6 +89,7 @@ with_counts k counts = record k { aap = k.aap + counts.aap; ap = k.ap + counts.a
 abbrev pub with_writes : ℕ → Counters → Counters
 with_writes n k = record k { writes = k.writes + n }
 
+-- the reply is a refusal: what `run` tells by its status
 abbrev pub is_refused : Reply → Bool
 is_refused (Done counts) = false
 is_refused (Refused reason) = true
@@ -99,6 +104,7 @@ rows_loaded g table (Print name) = 0
 rows_loaded g table (Free name) = 0
 rows_loaded g table (Order o) = 0
 
+-- the data rows that a print reads, in all banks of the object
 abbrev pub rows_printed : Geometry → List Named → Instruction → ℕ
 rows_printed g table (Print name) = let o = object_named table name in o.width * segments g o
 rows_printed g table (Load name values) = 0

@@ -40,9 +40,11 @@ pub record Held : Type 0 where
   pub object : Object
   pub numbers : List ℕ
 
+-- the objects without their numbers
 abbrev pub table_of : List Held → List Named
 table_of state = map (λ h. (h.name, h.object)) state
 
+-- the numbers of the object with this name
 abbrev pub numbers_named : List Held → List ℕ → List ℕ
 numbers_named state name =
     unwrap_or (option_map (λ h. h.numbers) (find (λ h. bytes_eq h.name name) state)) []
@@ -70,6 +72,7 @@ abbrev pub dsts_of : Option Routine → List (List ℕ) → List (List ℕ)
 dsts_of None names = []
 dsts_of (Some operation) names = dsts_in operation.shape names
 
+-- the names of a bbop's sources, where there is the operation
 abbrev pub srcs_of : Option Routine → List (List ℕ) → List (List ℕ)
 srcs_of None names = []
 srcs_of (Some operation) names = srcs_in operation.shape names
@@ -113,6 +116,7 @@ abbrev pub if_done : {S : Type 0} → Option Why → S → S → S
 if_done None done refused = done
 if_done (Some reason) done refused = refused
 
+-- the word machine's step
 abbrev pub words_after : Geometry → Routines → (List ℕ → ℕ → List ℕ → List ℕ) → List Held
     → Instruction → List Held
 words_after g operations meaning state instr =
@@ -129,6 +133,7 @@ tabled g table (Fill name value) = table
 tabled g table (Print name) = table
 tabled g table (Order order) = table
 
+-- the table after an instruction, which a refusal leaves
 abbrev pub table_after : Geometry → Routines → List Named → Instruction → List Named
 table_after g operations table instr = if_done (refusal g operations table instr)
     (tabled g table instr) table
@@ -141,10 +146,12 @@ binding g table shape names n = record {
   scratch = base_for g table (need shape n);
 }
 
+-- the commands of an operation at a width
 abbrev pub issues_at : Option Routine → ℕ → List Issue
 issues_at None n = []
 issues_at (Some operation) n = issues_of (operation.trace n)
 
+-- a bbop's commands on a bank, with the rows of its objects
 abbrev pub bound_at : Geometry → List Named → Option Routine → List (List ℕ) → ℕ → List Command
 bound_at g table None names n = []
 bound_at g table (Some operation) names n = bound g.rows operation.shape n
@@ -168,6 +175,7 @@ abbrev pub fill_events : Geometry → Object → ℕ → List Event
 fill_events g o value = each_row g o (λ bank k.
     Row bank (Aap (addr.C (bit_number (bit_at value k))) (addr.D (o.base + k))))
 
+-- the host writes of a load: a row for each bit of the width in each bank of the object
 abbrev pub load_events : Geometry → Object → List ℕ → List Event
 load_events g o values = each_row g o (λ bank k.
     Write bank (o.base + k) (row_bits g (padded_to (object_size g o) values) bank k))
@@ -201,6 +209,7 @@ abbrev pub rowed : Geometry → Routines → List Named → Banks → Instructio
 rowed g operations table banks instr = after (own_events g table instr)
     (through (job_of g operations table instr) banks)
 
+-- the banks after an instruction, which a refusal leaves
 abbrev pub banks_after : Geometry → Routines → List Named → Banks → Instruction → Banks
 banks_after g operations table banks instr = if_done (refusal g operations table instr)
     (rowed g operations table banks instr) banks
@@ -209,6 +218,7 @@ banks_after g operations table banks instr = if_done (refusal g operations table
 abbrev pub times : ℕ → Counts → Counts
 times k c = record { aap = k * c.aap; ap = k * c.ap }
 
+-- the row commands of an instruction that is done, over all banks that do them
 abbrev pub counts_for : Geometry → Routines → List Named → Instruction → Counts
 counts_for g operations table (Init name count n) =
     record { aap = n * segments g (new_object g table count n); ap = 0 }
@@ -221,6 +231,7 @@ counts_for g operations table (Print name) = record { aap = 0; ap = 0 }
 counts_for g operations table (Free name) = record { aap = 0; ap = 0 }
 counts_for g operations table (Order order) = record { aap = 0; ap = 0 }
 
+-- the reply to an instruction with these counts, or its refusal
 abbrev pub reply_by : Option Why → Counts → Reply
 reply_by None counts = Done counts
 reply_by (Some reason) counts = Refused reason
@@ -234,9 +245,11 @@ reply_to g operations table instr = reply_by (refusal g operations table instr)
 abbrev pub has_row_in : Geometry → Object → ℕ → ℕ → Bool
 has_row_in g o bank row = nat_lt bank (segments g o) && has_row o row
 
+-- the row is one of so many from a base on
 abbrev pub is_among : ℕ → ℕ → ℕ → Bool
 is_among base size row = nat_le base row && nat_lt row (base + size)
 
+-- the scratch that a bbop takes, and the spill group
 abbrev pub is_beside : Geometry → List Named → Option Routine → ℕ → ℕ → Bool
 is_beside g table None n row = false
 is_beside g table (Some operation) n row = is_among (base_for g table (need operation.shape n))
@@ -259,6 +272,7 @@ touches g operations table (Print name) bank row = false
 touches g operations table (Free name) bank row = false
 touches g operations table (Order order) bank row = false
 
+-- an instruction may change the row; a refused one changes none
 abbrev pub is_touched : Geometry → Routines → List Named → Instruction → ℕ → ℕ → Bool
 is_touched g operations table instr bank row =
     if_done (refusal g operations table instr) (touches g operations table instr bank row) false

@@ -16,6 +16,7 @@ pub record Listing : Type 0 where
   pub limit : ℕ
   pub pairs : List Named
 
+-- the objects without their names: which rows are taken
 abbrev pub objects_of : List Named → List Object
 objects_of pairs = map (λ p. p.1) pairs
 
@@ -23,6 +24,7 @@ objects_of pairs = map (λ p. p.1) pairs
 abbrev pub look_up : List Named → List ℕ → Option Object
 look_up pairs name = option_map (λ p. p.1) (find (λ p. bytes_eq p.0 name) pairs)
 
+-- whether an object stands under this name, which is then taken
 abbrev pub has_name : List Named → List ℕ → Bool
 has_name pairs name = list_any (λ p. bytes_eq p.0 name) pairs
 

@@ -18,9 +18,11 @@ use Rattle.file_fields.specs.declared.faults.FileFault.{FileFault}
 use Rattle.file_fields.specs.Fields as fields
 use Rattle.file_fields.specs.Fields.{◌>>=◌, rule}
 
+-- where an image file breaks a rule, and which
 abbrev pub ImageFault : Type 0
 ImageFault = FileFault ImageKind
 
+-- why no image was made of a file: its first fault, or want of memory
 abbrev pub IsFault : {Y : Type 0} → ImageNo → Result Y ImageFault → Type 0
 IsFault (no.Fault f) read = read ≡ Err f
 IsFault no.NoMemory read = Unit {0}
@@ -30,14 +32,15 @@ abbrev pub Answers : {X Y : Type 0} → (X → Y) → Result X ImageNo → Resul
 Answers view (Ok x) read = read ≡ Ok (view x)
 Answers view (Err e) read = IsFault e read
 
--- So many bytes from a place on, the number of a width there, and a number that has to pass a test.
--- A file that ends before is Short at its length.
+-- so many bytes of an image file. A file that ends before is Short at its length
 abbrev pub bytes_at : ℕ → ℕ → List ℕ → Result (List ℕ) ImageFault
 bytes_at = fields.bytes_at kinds.Short
 
+-- a number of an image file
 abbrev pub number_at : Width → ℕ → List ℕ → Result ℕ ImageFault
 number_at = fields.number_at kinds.Short
 
+-- a number of an image file that has to pass a test
 abbrev pub field_at : Width → (ℕ → Bool) → ImageKind → ℕ → List ℕ → Result ℕ ImageFault
 field_at = fields.field_at kinds.Short
 
@@ -53,6 +56,7 @@ place_at g earlier at bytes = do
   apart ← rule (are_free (limit_of g) (objects_of earlier) width base) (at + 1) kinds.Overlap
   Ok (width, base)
 
+-- the number of an object's elements: at least one, and no more than the columns of all banks
 unfoldable pub count_at : Geometry → ℕ → List ℕ → Result ℕ ImageFault
 count_at g at bytes = field_at w32 (is_between 1 (column_count g * g.banks)) kinds.Object at bytes
 
@@ -77,6 +81,8 @@ table_at g at bytes = do
   count ← field_at w16 (λ count. nat_le count 256) kinds.Object at bytes
   objects_at count g [] (at + 2) bytes
 
+-- the shape of the chip: 1 to 16 banks, 64 to 1006 data rows, 1 to 1024 words a row, and no more in
+-- all than a chip may have
 unfoldable pub geometry_at : ℕ → List ℕ → Result Geometry ImageFault
 geometry_at at bytes = do
   banks ← field_at w16 (is_between 1 16) kinds.Geometry at bytes
@@ -86,6 +92,7 @@ geometry_at at bytes = do
       bytes
   Ok (record { banks = banks; rows = rows; words = words })
 
+-- the file begins as an image file of the version that there is
 unfoldable pub opening_in : List ℕ → Result (Unit {0}) ImageFault
 opening_in bytes = do
   magic ← bytes_at 4 0 bytes
@@ -97,6 +104,7 @@ opening_in bytes = do
 abbrev pub rows_size : Geometry → ℕ
 rows_size g = 8 * (g.banks * g.rows * g.words)
 
+-- where the contents of the rows begin: 14 bytes and 24 for each object
 abbrev pub rows_start : List Named → ℕ
 rows_start table = 14 + 24 * length table
 

@@ -22,6 +22,7 @@ object_bytes named = name_bytes named.0 ++ (named.1.width ∷ to_le_bytes w16 na
 abbrev pub table_bytes : List Named → List ℕ
 table_bytes table = to_le_bytes w16 (length table) ++ flat_map object_bytes table
 
+-- the shape in six bytes: banks, data rows of a bank, and words of a row
 abbrev pub geometry_bytes : Geometry → List ℕ
 geometry_bytes g = to_le_bytes w16 g.banks ++ (to_le_bytes w16 g.rows ++ to_le_bytes w16 g.words)
 
