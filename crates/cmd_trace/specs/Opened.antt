@@ -17,6 +17,7 @@ use Rattle.cmd_trace.specs.declared.events.Head.TheVariants as heads
 use Rattle.cmd_trace.specs.declared.events.Found.{Found}
 use Rattle.cmd_trace.specs.declared.events.Found.TheVariants as found
 
+-- why no trace was made of a file: its first fault, or want of memory
 abbrev pub IsFault : {Y : Type 0} → TraceNo → Result Y TraceFault → Type 0
 IsFault (no.Fault f) read = read ≡ Err f
 IsFault no.NoMemory read = Unit {0}
@@ -31,11 +32,12 @@ abbrev pub head_of : Head → EventHead
 head_of (heads.Row bank command) = Commands bank command
 head_of (heads.Write bank row) = Writes bank row
 
--- an event, as it was read, and that a write has a row of so many bytes
+-- an event, as it was read
 abbrev pub event_of : Found → Event
 event_of (found.Row bank command) = Row bank command
 event_of (found.Write bank row bytes) = Write bank row (bits_of_bytes bytes.now)
 
+-- a write that was read has a row of so many bytes, and a row command has none
 abbrev pub IsRowOf : ℕ → Found → Type 0
 IsRowOf size (found.Row bank command) = Unit {0}
 IsRowOf size (found.Write bank row bytes) = length bytes.now ≡ size

@@ -7,6 +7,7 @@ first_of : (a b : Bool) → (a && b) ≡ true → a ≡ true
 first_of true b h = refl
 first_of false b h = h
 
+-- A recorder shows itself as begun only where the chip below it has begun.
 pub has_begun_below : (chip : ChipView) (tape : NotesView) → HasBegun (recorded chip tape)
     → HasBegun chip
 has_begun_below chip tape h = first_of chip.begun (is_whole chip.geometry tape) h

@@ -16,6 +16,7 @@ abbrev pub is_below : ℕ → Option ℕ → Bool
 is_below limit None = false
 is_below limit (Some n) = nat_lt n limit
 
+-- the number that was read; what is refused before it is asked for counts as 0
 abbrev pub value : Option ℕ → ℕ
 value number = unwrap_or number 0
 
@@ -44,6 +45,7 @@ abbrev pub with_number : Option ℕ → Option (List (Option ℕ)) → Option (L
 with_number number None = None
 with_number number (Some numbers) = Some (number ∷ numbers)
 
+-- the numbers of a line of flips, or none where a token is no number
 abbrev pub numbers_of : List Word → Option (List (Option ℕ))
 numbers_of [] = Some []
 numbers_of (Number number ∷ words) = with_number number (numbers_of words)
@@ -51,6 +53,7 @@ numbers_of (Name name ∷ words) = None
 numbers_of (Comma ∷ words) = None
 numbers_of (Other ∷ words) = None
 
+-- the flip that a line's numbers say; a line without tokens says nothing
 abbrev pub flip_by : Geometry → ℕ → ℕ → Option (List (Option ℕ)) → Result (Option Flip) FlipsKind
 flip_by g instrs before None = Err Syntax
 flip_by g instrs before (Some []) = Ok None
@@ -63,6 +66,7 @@ abbrev pub flip_in : Geometry → ℕ → ℕ → Option (List Word) → Result 
 flip_in g instrs before None = Err Lex
 flip_in g instrs before (Some words) = flip_by g instrs before (numbers_of words)
 
+-- a flip, and those of the lines after it, or their first fault
 abbrev pub with_flip : Flip → Result (List Flip) FlipsFault → Result (List Flip) FlipsFault
 with_flip f (Ok flips) = Ok (f ∷ flips)
 with_flip f (Err fault) = Err fault

@@ -34,6 +34,7 @@ with_bit_inverted column [] = []
 with_bit_inverted zero (b ∷ bits) = not b ∷ bits
 with_bit_inverted (suc column) (b ∷ bits) = b ∷ with_bit_inverted column bits
 
+-- the banks after these flips, one after another
 abbrev pub all_flipped : List Flip → Banks → Banks
 all_flipped [] banks = banks
 all_flipped (f ∷ flips) banks = all_flipped flips (flipped f banks)
@@ -46,6 +47,7 @@ due k flips = filter (λ f. f.before == k) flips
 abbrev pub hits : Object → ℕ → ℕ → Flip → Bool
 hits o bank column f = (f.bank == bank) && ((f.column == column) && has_row o f.row)
 
+-- some flip hits a row of the object in this column
 abbrev pub is_hit : List Flip → Object → ℕ → ℕ → Bool
 is_hit flips o bank column = list_any (hits o bank column) flips
 

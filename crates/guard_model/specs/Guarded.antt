@@ -37,6 +37,7 @@ on_copy letter (Print name) = Print (letter ∷ name)
 on_copy letter (Free name) = Free (letter ∷ name)
 on_copy letter (Order order) = Order order
 
+-- the plain instruction on all three copies, in turn
 abbrev pub on_copies : Instruction → List Instruction
 on_copies instr = on_copy x_letter instr ∷ on_copy y_letter instr ∷ on_copy z_letter instr ∷ []
 
@@ -57,6 +58,7 @@ joined counts [] = Done counts
 joined counts (Done more ∷ rest) = joined (plus counts more) rest
 joined counts (Refused reason ∷ rest) = Refused reason
 
+-- the reply to a guarded instruction: the row commands of all its copies, or the first refusal
 abbrev pub guarded_reply : Geometry → Routines → List Named → Instruction → Reply
 guarded_reply g operations table instr =
     joined (record { aap = 0; ap = 0 }) (replies g operations table (plain_ones instr))
@@ -95,29 +97,32 @@ plain_script g operations table instr =
     if is_refused (guarded_reply g operations table instr)
     then done ++ flat_map removal done else done
 
--- the step of the table, of the guarded word machine, and of the rows
+-- the table of objects after a guarded instruction
 abbrev pub guarded_table : Geometry → Routines → List Named → Instruction → List Named
 guarded_table g operations table instr =
     table_at_end g operations table (plain_script g operations table instr)
 
+-- the numbers after a guarded instruction, copies and all
 abbrev pub guarded_words : Geometry → Routines → (List ℕ → ℕ → List ℕ → List ℕ) → List Held
     → Instruction → List Held
 guarded_words g operations meaning state instr =
     words_at_end g operations meaning state (plain_script g operations (table_of state) instr)
 
+-- the banks after a guarded instruction
 abbrev pub guarded_rows : Geometry → Routines → List Named → Banks → Instruction → Banks
 guarded_rows g operations table banks instr =
     banks_at_end g operations table banks (plain_script g operations table instr)
 
--- its pieces are its plain instructions one by one, a bbop as a wave of one; their events under
--- the order in force, and the order after them
+-- its pieces are its plain instructions one by one, a bbop as a wave of one
 abbrev pub guarded_pieces : Geometry → Routines → List Named → Instruction → List Piece
 guarded_pieces g operations table instr = map piece_of (plain_script g operations table instr)
 
+-- the events of a guarded instruction under the order in force
 abbrev pub guarded_events : Geometry → Routines → Turn → List Named → Instruction → List Event
 guarded_events g operations turn table instr =
     events_of_pieces g operations turn table (guarded_pieces g operations table instr)
 
+-- the order in force after a guarded instruction
 abbrev pub guarded_turn : Geometry → Routines → Turn → List Named → Instruction → Turn
 guarded_turn g operations turn table instr =
     turn_at_end g operations turn table (guarded_pieces g operations table instr)
@@ -145,12 +150,14 @@ mended g flips k table banks = voted g table (all_flipped (due k flips) banks)
 
 -- Whole scripts, of which the first instruction has number k
 
+-- the replies to a guarded script: they depend on the table alone
 abbrev pub guarded_replies : Geometry → Routines → List Named → List Instruction → List Reply
 guarded_replies g operations table [] = []
 guarded_replies g operations table (instr ∷ script) =
     guarded_reply g operations table instr
     ∷ guarded_replies g operations (guarded_table g operations table instr) script
 
+-- the table of objects after a guarded script
 abbrev pub guarded_table_at_end : Geometry → Routines → List Named → List Instruction
     → List Named
 guarded_table_at_end g operations table [] = table

@@ -48,6 +48,7 @@ abbrev pub VoteIsEvents : Type 0
 VoteIsEvents = (g : Geometry) (table : List Named) (banks : Banks)
     → after (vote_events g table) banks ≡ voted g table banks
 
+-- a vote is counted as its row commands, all of which are AAP
 abbrev pub VoteIsCounted : Type 0
 VoteIsCounted = (g : Geometry) (table : List Named) (k : Counters)
     → all_counted (vote_events g table) k ≡ record k { aap = k.aap + vote_count g table }
@@ -67,6 +68,7 @@ StepIsEvents =
     → after (guarded_events g operations turn table instr) banks
     ≡ guarded_rows g operations table banks instr
 
+-- a guarded instruction is counted by the replies and the rows of its plain instructions
 abbrev pub StepIsCounted : Type 0
 StepIsCounted =
     (g : Geometry) (operations : Routines) (turn : Turn) (table : List Named)
@@ -146,6 +148,8 @@ pub record IsGuarded (g : Geometry) (operations : Routines)
       ≡ map unplaced (lone_words_at_end g operations meaning (first_copies state)
       (guarded_replies g operations (table_of state) script) script)
 
+-- Where each operation does what it means, a guarded run whose flips hit one copy at most between
+-- two votes ends as the word machine without flips
 abbrev pub GuardedGivesWords : Type 0
 GuardedGivesWords =
     (g : Geometry) (operations : Routines) (meaning : List ℕ → ℕ → List ℕ → List ℕ)

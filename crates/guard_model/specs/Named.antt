@@ -19,6 +19,7 @@ objects_in (Print name) = name ∷ []
 objects_in (Free name) = name ∷ []
 objects_in (Order order) = []
 
+-- it names an object whose name has no room for a letter, so that the script is not taken
 abbrev pub has_long_name : Instruction → Bool
 has_long_name instr = list_any is_long (objects_in instr)
 

@@ -7,13 +7,15 @@ use Rattle.text_lex.specs.Spelled.{fits_name}
 use Rattle.object_alloc.specs.Listed.{Named}
 use Rattle.machine_model.specs.Steps.{Held}
 
--- the bytes before a guarded name: x, y and z
+-- the byte before the name of a first copy: x
 abbrev pub x_letter : ℕ
 x_letter = 120
 
+-- the byte before the name of a second copy: y
 abbrev pub y_letter : ℕ
 y_letter = 121
 
+-- the byte before the name of a third copy: z
 abbrev pub z_letter : ℕ
 z_letter = 122
 
@@ -22,6 +24,7 @@ abbrev pub is_first_name : List ℕ → Bool
 is_first_name [] = false
 is_first_name (letter ∷ name) = (letter == x_letter) && fits_name name
 
+-- an object that can be the first copy of a triple
 abbrev pub is_first : Named → Bool
 is_first p = is_first_name p.0
 
@@ -44,6 +47,8 @@ stranger_from k (x ∷ y ∷ z ∷ rest) =
     else (if not (is_copy z_letter x z) then Some (k + 2)
     else stranger_from (k + 3) rest))
 
+-- where a table stops being triples: at its first stranger, counted from 0, or at its end where it
+-- ends inside a triple
 abbrev pub first_stranger : List Named → Option ℕ
 first_stranger table = stranger_from 0 table
 
@@ -53,6 +58,7 @@ pub record Outline : Type 0 where
   pub width : ℕ
   pub count : ℕ
 
+-- what the three copies of an object have in common, but for the letter
 abbrev pub outline : Named → Outline
 outline p = record { name = p.0; width = p.1.width; count = p.1.count }
 
@@ -66,6 +72,7 @@ in_copies [] = []
 in_copies (o ∷ guarded) =
     lettered x_letter o ∷ lettered y_letter o ∷ lettered z_letter o ∷ in_copies guarded
 
+-- each has a name that a file has room for
 abbrev pub AllNamed : List Outline → Type 0
 AllNamed guarded = AllByRecursion (λ o. fits_name o.name ≡ true) guarded
 

@@ -33,9 +33,11 @@ use Rattle.scan_model.specs.Laws.{scan_refused}
 abbrev pub element_in : Geometry → Banks → List Named → ℕ → List ℕ → ℕ
 element_in g banks table e name = slice_index (columns g banks (object_named table name)) e
 
+-- how many elements a query is asked of: those of the object that it names first
 abbrev pub query_count : List Named → Query → ℕ
 query_count table q = count_of table (nodes_of q)
 
+-- the instructions of a query on this table
 abbrev pub query_script : List Named → Query → List Instruction
 query_script table q = scan_script table (nodes_of q)
 
@@ -50,18 +52,23 @@ pub data Answer : Type 0 where
   Found : (found of : ℕ) → Counts → Answer
   Refused : ScanWhy → ℕ → Answer
 
+-- why a scan has no room, as it is told: there are 256 objects, or no free rows
 abbrev pub room_word : Why → ScanWhy
 room_word why.TableFull = scan.TableFull
 room_word w = scan.NoRows
 
+-- the answer of a query that passes the checks, where no node is refused
 abbrev pub by_run : Option (Why × ℕ) → Answer → Answer
 by_run None found = found
 by_run (Some (w, k)) found = Refused (room_word w) k
 
+-- the answer of a query that passes the checks; else the comparison at fault
 abbrev pub by_checks : Option (ScanWhy × ℕ) → Answer → Answer
 by_checks None run = run
 by_checks (Some (w, k)) run = Refused w k
 
+-- What a scan answers: the comparison at fault, or the node without room, or how many elements the
+-- query holds of, of how many, and by how many row commands.
 unfoldable pub answer : Geometry → Routines → Banks → List Named → Query → Answer
 answer g operations banks table q =
     by_checks (checked table (nodes_of q))

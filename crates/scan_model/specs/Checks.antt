@@ -35,6 +35,7 @@ checked_from table count k (Not a ∷ nodes) = checked_from table count k nodes
 checked_from table count k (And a b ∷ nodes) = checked_from table count k nodes
 checked_from table count k (Or a b ∷ nodes) = checked_from table count k nodes
 
+-- the first comparison of a query that is at fault on this table, and why
 abbrev pub checked : List Named → List Node → Option (ScanWhy × ℕ)
 checked table nodes = checked_from table (count_of table nodes) 0 nodes
 
@@ -43,6 +44,7 @@ abbrev pub or_else : Option Why → Option Why → Option Why
 or_else (Some reason) later = Some reason
 or_else None later = later
 
+-- why some instruction of a script is refused, by the first that is
 abbrev pub refused_in : Geometry → Routines → List Named → List Instruction → Option Why
 refused_in g operations table [] = None
 refused_in g operations table (instr ∷ script) =

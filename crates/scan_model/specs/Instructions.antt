@@ -16,6 +16,7 @@ op_for cmp.Ge = codes "s_ge"
 op_for cmp.Lt = codes "s_gt"
 op_for cmp.Le = codes "s_ge"
 
+-- the sources of a comparison: the object and the constant, turned for less
 abbrev pub sources_for : CmpOp → List ℕ → List ℕ → List (List ℕ)
 sources_for cmp.Eq name c = name ∷ c ∷ []
 sources_for cmp.Gt name c = name ∷ c ∷ []
@@ -29,9 +30,11 @@ compare_with c r name op v count n =
     Init c count n ∷ Fill c v ∷ Init r count 1 ∷ Bbop (op_for op) r (sources_for op name c) count
     n ∷ Free c ∷ []
 
+-- a node of one source: a new object of one bit takes the result, and the source's is freed
 abbrev pub join_one : List ℕ → (r a : List ℕ) → ℕ → List Instruction
 join_one op r a count = Init r count 1 ∷ Bbop op r (a ∷ []) count 1 ∷ Free a ∷ []
 
+-- a node of two sources, whose objects are freed
 abbrev pub join_two : List ℕ → (r a b : List ℕ) → ℕ → List Instruction
 join_two op r a b count = Init r count 1 ∷ Bbop op r (a ∷ b ∷ []) count 1 ∷ Free a ∷ Free b ∷ []
 

@@ -46,6 +46,7 @@ pub record Offers (operations : Routines) (name : List ℕ) (kinds : List Kind) 
   pub one_result : operation.shape.second ≡ None
   pub walks : (n : ℕ) → 0 < n → n ≤ WIDTH_MAX → walks_badly (operation.trace n) ≡ None
 
+-- each of the six operations of scans is there
 pub record OffersScan (operations : Routines) : Type 0 where
   pub equal : Offers operations (codes "s_eq") (Word ∷ Word ∷ [])
   pub greater : Offers operations (codes "s_gt") (Word ∷ Word ∷ [])
@@ -197,6 +198,7 @@ abbrev pub EachIsAlone : Type 0
 EachIsAlone = (table : List Named) (nodes : List Node)
     → pieces (scan_script table nodes) ≡ map piece_of (scan_script table nodes)
 
+-- All laws of scans, as one.
 pub record ScanLaws : Type 0 where
   pub words : ScanInWords
   pub names : NamesAreFree

@@ -28,6 +28,7 @@ of_one_source name op = record {
   body = Compute (codes "y") None op (codes "a" ∷ []) ∷ [];
 }
 
+-- the six ops of which all queries are made
 abbrev pub scan_operations : List Operation
 scan_operations =
     of_two_sources (codes "s_eq") Word o.Eq ∷ of_two_sources (codes "s_gt") Word o.Gt
@@ -35,5 +36,6 @@ scan_operations =
     ∷ of_one_source (codes "s_not") o.Not ∷ of_two_sources (codes "s_and") Bit o.And
     ∷ of_two_sources (codes "s_or") Bit o.Or ∷ []
 
+-- the same ops as a machine knows those of a text
 abbrev pub scan_text : List TextOp
 scan_text = map text_op scan_operations

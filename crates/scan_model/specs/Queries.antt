@@ -11,6 +11,7 @@ pub data Query : Type 0 where
   Both : Query → Query → Query
   Either : Query → Query → Query
 
+-- what a comparison says of an element's number and the number in the query
 abbrev pub compared : CmpOp → ℕ → ℕ → Bool
 compared cmp.Eq a v = a == v
 compared cmp.Gt a v = nat_lt v a
@@ -52,5 +53,6 @@ nodes_from k (Both a b) = nodes_from k a ++ (nodes_from (k + size a) b
 nodes_from k (Either a b) = nodes_from k a ++ (nodes_from (k + size a) b
     ++ Or (last_from k a) (last_from (k + size a) b) ∷ [])
 
+-- the nodes of a query in postorder: each stands after its sources
 abbrev pub nodes_of : Query → List Node
 nodes_of q = nodes_from 0 q

@@ -10,6 +10,7 @@ use Rattle.scan_model.specs.Texts.{Open, Object, Between, Bound, Close, Breach, 
 use Rattle.scan_model.specs.Texts.{Lead, all_leads, lead_among, lead_text, tests_in, breach_of}
 use Rattle.scan_model.specs.Texts.{none_begun, spelled}
 
+-- how many comparisons a query has
 abbrev pub tests : Query → ℕ
 tests (Compare op name v) = 1
 tests (Negate a) = tests a
@@ -29,10 +30,12 @@ pub record IsQuery (q : Query) : Type 0 where
   pub few : tests q ≤ 32
   pub written : IsWritten q
 
+-- The tokens of a text are those of this query, which is within the limits.
 pub record Says (words : List Word) (q : Query) : Type 0 where
   pub spelling : words ≡ spelled q []
   pub query : IsQuery q
 
+-- tokens without their places
 abbrev pub words_of : List Piece → List Word
 words_of pieces = map (λ p. p.1) pieces
 
@@ -46,6 +49,7 @@ follow Bound (Number v) = Some []
 follow Close Closes = Some []
 follow w word = None
 
+-- the grammar goes on with what it asks for, or has refused the token
 abbrev pub and_on : Option (List Wanted) → (List Wanted → Option (List Wanted))
     → Option (List Wanted)
 and_on None go = None
@@ -71,6 +75,7 @@ pub data BreaksSyntax (pieces : List Piece) (at : Option ℕ) : Type 0 where
   at_end : at ≡ None → IsViable (words_of pieces)
       → ((q : Query) → spelled q [] ≡ words_of pieces → ⊥) → BreaksSyntax pieces at
 
+-- A fault of kind Syntax is where the tokens stop being the beginning of a query's.
 abbrev pub SyntaxIsTheGrammars : Type 0
 SyntaxIsTheGrammars = (pieces : List Piece) (b : Breach)
     → breach_of (Start ∷ []) none_begun pieces ≡ Some b → b.kind ≡ Syntax
@@ -103,11 +108,12 @@ pub record BreaksNumber (pieces : List Piece) (at : Option ℕ) : Type 0 where
   pub viable : IsViable (before ++ Number number ∷ [])
   pub large : 2 ^ 128 ≤ number
 
--- each node has one of these, and each comparison one of those
+-- a token that each node has one of
 abbrev pub is_opening : Word → Bool
 is_opening Opens = true
 is_opening word = false
 
+-- a token that each comparison has one of
 abbrev pub is_number : Word → Bool
 is_number (Number v) = true
 is_number word = false
@@ -122,6 +128,8 @@ pub record BreaksCount (pieces : List Piece) (at : Option ℕ) : Type 0 where
   pub full : (count_by is_opening before ≡ 64)
       ⊎ (tests_in lead ≡ 1) × (count_by is_number before ≡ 32)
 
+-- All laws of query texts: accepted are the spellings of queries, each of one alone, and a fault is
+-- of its kind and at its place.
 pub record QueryTextLaws : Type 0 where
   -- no rule is broken exactly where the tokens are the spelling of a query
   pub accepted : (pieces : List Piece) → (breach_of (Start ∷ []) none_begun pieces ≡ None) ↔

@@ -26,11 +26,13 @@ pub data Word : Type 0 where
   Other : Word
   Stranger : Word
 
+-- a symbol as a query sees it
 abbrev pub symbol_of : List ℕ → Word
 symbol_of text = if bytes_eq text (codes "(") then Opens else
     (if bytes_eq text (codes ")") then Closes else
     (if bytes_eq text (codes ",") then Comma else Other))
 
+-- a token as a query sees it
 abbrev pub word_at : TokenKind → List ℕ → Word
 word_at kinds.Name text = Name text
 word_at kinds.Number text = Number (digits_value 10 text)
@@ -40,6 +42,7 @@ word_at kinds.Symbol text = symbol_of text
 abbrev pub Piece : Type 0
 Piece = ℕ × Word
 
+-- a token, or a byte that starts none, with its place
 abbrev pub piece_of : Item → Piece
 piece_of (Whole t) = (t.start, word_at t.kind t.text)
 piece_of (Bad f) = (f.at, Stranger)
@@ -51,6 +54,7 @@ pub data Lead : Type 0 where
   Ands : Lead
   Ors : Lead
 
+-- how the beginning of a query is spelled
 abbrev pub lead_text : Lead → List ℕ
 lead_text (Compares cmp.Eq) = codes "eq"
 lead_text (Compares cmp.Gt) = codes "gt"
@@ -61,10 +65,12 @@ lead_text Negates = codes "not"
 lead_text Ands = codes "and"
 lead_text Ors = codes "or"
 
+-- every word that a query may begin with
 abbrev pub all_leads : List Lead
 all_leads = Compares cmp.Eq ∷ Compares cmp.Gt ∷ Compares cmp.Ge ∷ Compares cmp.Lt
     ∷ Compares cmp.Le ∷ Negates ∷ Ands ∷ Ors ∷ []
 
+-- which of these beginnings a name is
 abbrev pub lead_among : List Lead → List ℕ → Option Lead
 lead_among [] text = None
 lead_among (lead ∷ leads) text = if bytes_eq text (lead_text lead) then Some lead else lead_among
@@ -91,21 +97,26 @@ pub record Begun : Type 0 where
   pub nodes : ℕ
   pub tests : ℕ
 
+-- how many comparisons begin there: one, or none where queries are joined
 abbrev pub tests_in : Lead → ℕ
 tests_in (Compares op) = 1
 tests_in Negates = 0
 tests_in Ands = 0
 tests_in Ors = 0
 
+-- one node more has begun
 abbrev pub with_lead : Begun → Lead → Begun
 with_lead s lead = record { nodes = s.nodes + 1; tests = s.tests + tests_in lead }
 
+-- at most 64 nodes and 32 comparisons have begun
 abbrev pub fits : Begun → Bool
 fits s = nat_le s.nodes 64 && nat_le s.tests 32
 
+-- what one token comes to: what is wanted after it and what has begun, or the rule that it breaks
 abbrev pub Stepped : Type 0
 Stepped = Result (List Wanted × Begun) QueryKind
 
+-- a node begins, unless the name begins none or there are too many
 abbrev pub started : Begun → Option Lead → Stepped
 started s None = Err Syntax
 started s (Some lead) = if fits (with_lead s lead) then Ok (following lead, with_lead s lead) else
@@ -128,14 +139,17 @@ pub record Breach : Type 0 where
   pub at : Option ℕ
   pub kind : QueryKind
 
+-- the end of the text, which is a fault where something is still wanted
 abbrev pub ended : List Wanted → Option Breach
 ended [] = None
 ended (w ∷ wanted) = Some (record { at = None; kind = Syntax })
 
+-- a token after a whole query
 abbrev pub spare : Word → QueryKind
 spare Stranger = Lex
 spare word = Syntax
 
+-- what follows a token that breaks no rule; one that does is the first breach
 abbrev pub after : Stepped → ℕ → (List Wanted → Begun → Option Breach) → Option Breach
 after (Ok r) at go = go r.0 r.1
 after (Err kind) at go = Some (record { at = Some at; kind = kind })
@@ -147,12 +161,15 @@ breach_of [] s (p ∷ pieces) = Some (record { at = Some p.0; kind = spare p.1 }
 breach_of (w ∷ wanted) s (p ∷ pieces) = after (step w s p.1) p.0
     (λ front t. breach_of (front ++ wanted) t pieces)
 
+-- what has begun before the first token
 abbrev pub none_begun : Begun
 none_begun = record { nodes = 0; tests = 0 }
 
+-- the tokens of a text with their places
 abbrev pub pieces_of : List ℕ → List Piece
 pieces_of text = map piece_of (items_of text)
 
+-- the first token of a text that breaks a rule, if any
 abbrev pub first_breach : List ℕ → Option Breach
 first_breach text = breach_of (Start ∷ []) none_begun (pieces_of text)
 

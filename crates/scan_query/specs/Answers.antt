@@ -18,10 +18,12 @@ use Rattle.scan_query.specs.Queries.{IsNodesOf}
 abbrev pub IsScan : List model.Node → Type 0
 IsScan nodes = (t : model.Query) × IsNodesOf t nodes
 
+-- the answer that a machine's reply to a scan is
 abbrev pub answer_of : ScanReply → Answer
 answer_of (reply.Done found of counts) = Found found of counts
 answer_of (reply.Refused why k) = Refused why k
 
+-- the scan was done, and not refused
 abbrev pub is_done : ScanReply → Bool
 is_done (reply.Done found of counts) = true
 is_done (reply.Refused why k) = false

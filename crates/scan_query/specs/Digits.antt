@@ -6,6 +6,7 @@ use Rattle.text_lex.specs.declared.token.TokenKind.{TokenKind}
 use Rattle.text_lex.specs.declared.token.TokenKind.TheVariants as kinds
 use Rattle.text_lex.specs.Lexical.{Item, Whole, Bad}
 
+-- a token that is a number has digits alone, so that it has a value
 abbrev pub is_written : TokenKind → List ℕ → Bool
 is_written kinds.Number text = list_all is_ascii_digit text
 is_written kinds.Name text = true

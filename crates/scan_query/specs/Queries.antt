@@ -9,12 +9,14 @@ use Rattle.scan_query.specs.declared.query.Node.{Node}
 use Rattle.scan_query.specs.declared.query.Node.TheVariants as node
 use Rattle.scan_query.specs.declared.query.Query.{Query}
 
+-- a node of the code as the definitions have it
 abbrev pub node_of : Node → model.Node
 node_of (node.Cmp op name value) = model.Test op name value
 node_of (node.Not a) = model.Not a
 node_of (node.And a b) = model.And a b
 node_of (node.Or a b) = model.Or a b
 
+-- the nodes of a parsed query, in order
 abbrev pub nodes_in : Query → List model.Node
 nodes_in q = map node_of q.nodes.items
 

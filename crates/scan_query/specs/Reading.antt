@@ -18,6 +18,7 @@ use Rattle.scan_query.specs.declared.reading.Taken.{Taken}
 use Rattle.scan_query.specs.declared.reading.Word.{Word}
 use Rattle.scan_query.specs.declared.reading.Word.TheVariants as word
 
+-- a token of the code as the definitions have it
 abbrev pub word_view : Word → model.Word
 word_view (word.Name text) = model.Name text.now
 word_view (word.Number digits) = model.Number (digits_value 10 digits.now)
@@ -26,6 +27,7 @@ word_view word.Closes = model.Closes
 word_view word.Comma = model.Comma
 word_view word.Other = model.Other
 
+-- what a number is read of are digits
 abbrev pub IsNumber : Word → Type 0
 IsNumber (word.Name text) = Unit {0}
 IsNumber (word.Number digits) = AllPass is_ascii_digit digits.now
@@ -34,15 +36,18 @@ IsNumber word.Closes = Unit {0}
 IsNumber word.Comma = Unit {0}
 IsNumber word.Other = Unit {0}
 
+-- the beginning of a query, as the definitions have it
 abbrev pub lead_of : Lead → model.Lead
 lead_of (lead.Compares op) = model.Compares op
 lead_of lead.Negates = model.Negates
 lead_of lead.Ands = model.Ands
 lead_of lead.Ors = model.Ors
 
+-- what is wanted after the beginning of a query
 abbrev pub after_lead : Lead → List model.Wanted
 after_lead l = model.following (lead_of l)
 
+-- which beginning of a query a token is
 abbrev pub lead_at : Word → Option model.Lead
 lead_at (word.Name text) = model.lead_among model.all_leads text.now
 lead_at (word.Number digits) = None
@@ -51,16 +56,19 @@ lead_at word.Closes = None
 lead_at word.Comma = None
 lead_at word.Other = None
 
+-- where the grammar wants this symbol
 abbrev pub wanted_by : Mark → model.Wanted
 wanted_by mark.Opens = model.Open
 wanted_by mark.Closes = model.Close
 wanted_by mark.Comma = model.Between
 
+-- the token that this symbol is
 abbrev pub word_by : Mark → model.Word
 word_by mark.Opens = model.Opens
 word_by mark.Closes = model.Closes
 word_by mark.Comma = model.Comma
 
+-- whether a token is this symbol
 abbrev pub is_it : Mark → Word → Bool
 is_it mark.Opens (word.Name text) = false
 is_it mark.Opens (word.Number digits) = false
@@ -86,12 +94,15 @@ pub record ParserView : Type 0 where
   pub begun : model.Begun
   pub pieces : List model.Piece
 
+-- how many nodes and comparisons a parser has begun
 abbrev pub begun_by : Parser → model.Begun
 begun_by p = record { nodes = p.nodes; tests = p.tests }
 
+-- what a parser has begun, and what is left for it to read
 abbrev pub seen : Parser → ParserView
 seen p = record { begun = begun_by p; pieces = map model.piece_of p.lexer }
 
+-- the tokens that are left, without their places
 abbrev pub left : ParserView → List model.Word
 left r = words_of r.pieces
 
@@ -99,6 +110,7 @@ left r = words_of r.pieces
 abbrev pub breach : List model.Wanted → ParserView → Option model.Breach
 breach wanted r = model.breach_of wanted r.begun r.pieces
 
+-- a fault that is told is the one that was found; want of memory may come of any text
 abbrev pub Fails : Option model.Breach → Stop → Type 0
 Fails found stop.Memory = Unit {0}
 Fails found (stop.Breach at kind) = found ≡ Some (record { at = at; kind = kind })
@@ -132,6 +144,7 @@ pub record Took (word : model.Word) (at : ℕ) (old new : ParserView) : Type 0 w
   pub pieces : old.pieces ≡ (at, word) ∷ new.pieces
   pub begun : new.begun ≡ old.begun
 
+-- One token was taken, or it is at fault whatever is wanted later.
 abbrev pub Takes : ParserView → Result Taken Stop → ParserView → Type 0
 Takes old (Ok t) new = Took (word_view t.word) t.at old new
 Takes old (Err e) new = (want : model.Wanted) (more : List model.Wanted)
@@ -151,6 +164,7 @@ abbrev pub join_node : Bool → ℕ → ℕ → Node
 join_node true a b = And a b
 join_node false a b = Or a b
 
+-- how a join of two queries is spelled
 abbrev pub join_text : Bool → List ℕ
 join_text true = codes "and"
 join_text false = codes "or"

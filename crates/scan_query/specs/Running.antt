@@ -76,6 +76,8 @@ pub record NodesRan (nodes : List Node) (old new : Machine) (chip chip' : ChipVi
   pub allowed : refused_node old nodes ≡ None
   pub ran : Ran (scan_script (table_in old) nodes) old new chip chip'
 
+-- How the instructions of a query's nodes went: all done, or one refused at its node, or the chip
+-- failed.
 abbrev pub NodesRun : List Node → Machine → Machine → ChipView → ChipView
     → Result (Option (Why × ℕ)) ChipFault → Type 0
 NodesRun nodes old new chip chip' (Ok None) = NodesRan nodes old new chip chip'

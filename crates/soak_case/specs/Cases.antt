@@ -11,9 +11,11 @@ use Rattle.op_text.specs.Scratch.{param}
 use Rattle.op_text.specs.WordOps.{Form, form, forms, all_ops, op_text, second_kind}
 use Rattle.soak_case.specs.declared.cases.Case.{Case}
 
+-- the three widths at which a soak tries each operation
 abbrev pub widths : List ℕ
 widths = 1 ∷ 8 ∷ 64 ∷ []
 
+-- the cases of one operation
 abbrev pub at_widths : WordOp → List Case
 at_widths op = map (λ n. record { op = op; n = n }) widths
 
@@ -25,6 +27,7 @@ singles ops = filter (λ op. is_none (second_kind op)) ops
 abbrev pub soak_cases : List Case
 soak_cases = flat_map at_widths (singles all_ops)
 
+-- the first form of a list that has one
 abbrev pub first_form : List Form → Form
 first_form [] = form [] Word
 first_form (f ∷ fs) = f
@@ -33,6 +36,7 @@ first_form (f ∷ fs) = f
 abbrev pub form_of : WordOp → Form
 form_of op = first_form (forms op)
 
+-- what an operation without arguments gets for a source, which each op of a text must have
 abbrev pub or_a_word : List Kind → List Kind
 or_a_word [] = Word ∷ []
 or_a_word (k ∷ ks) = k ∷ ks
@@ -42,6 +46,7 @@ or_a_word (k ∷ ks) = k ∷ ks
 abbrev pub source_kinds : WordOp → List Kind
 source_kinds op = or_a_word (form_of op).takes
 
+-- the kind of the op's result
 abbrev pub result_kind : WordOp → Kind
 result_kind op = (form_of op).gives
 
@@ -49,9 +54,11 @@ result_kind op = (form_of op).gives
 abbrev pub arguments : {A : Type 0} → WordOp → List A → List A
 arguments op sources = take (length (form_of op).takes) sources
 
+-- the names of up to three sources
 abbrev pub source_names : List (List ℕ)
 source_names = codes "a" ∷ codes "b" ∷ codes "c" ∷ []
 
+-- sources of these kinds, with these names
 abbrev pub params_of : List Kind → List (List ℕ) → List Param
 params_of [] names = []
 params_of (k ∷ ks) [] = []

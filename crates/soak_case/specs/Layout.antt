@@ -14,6 +14,7 @@ use Rattle.soak_case.specs.declared.cases.Case.{Case}
 use Rattle.soak_case.specs.Cases.{one_statement, source_kinds, result_kind}
 use Rattle.soak_case.specs.Words.{following, values_of, elements}
 
+-- the chip of a soak: two banks of 512 data rows and 128 columns, so 256 elements
 abbrev pub soak_chip : Geometry
 soak_chip = record { banks = 2; rows = 512; words = 2 }
 
@@ -26,9 +27,11 @@ bases_from row n (k ∷ ks) = row ∷ bases_from (row + width k n) n ks
 abbrev pub rows_of : ℕ → List Kind → ℕ
 rows_of n kinds = sum_by (λ k. width k n) kinds
 
+-- how many rows of each bank the sources take
 abbrev pub source_rows : Case → ℕ
 source_rows c = rows_of c.n (source_kinds c.op)
 
+-- how many rows of each bank the result takes
 abbrev pub result_rows : Case → ℕ
 result_rows c = width (result_kind c.op) c.n
 

@@ -27,11 +27,13 @@ in_both_banks c m = record {
   ap = 2 * (counts_of (issues_at c m)).ap;
 }
 
+-- a line of the report: operation, width, row commands of both banks, and the sum of the values
 abbrev pub line_of : Case → Counts → (sum : ℕ) → List ℕ
 line_of c counts sum = op_text c.op ++ codes " " ++ decimal c.n ++ codes " aap="
     ++ decimal counts.aap ++ codes " ap=" ++ decimal counts.ap ++ codes " sum=" ++ decimal sum
     ++ codes "\n"
 
+-- the line of a case whose program is right
 abbrev pub case_line : (state : ℕ) → Case → Microprogram → List ℕ
 case_line state c m = line_of c (in_both_banks c m) (case_sum state c)
 

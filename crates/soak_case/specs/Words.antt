@@ -22,6 +22,7 @@ elements = 256
 abbrev pub value_at : (state bits i : ℕ) → ℕ
 value_at state bits i = word_at state i % 2 ^ bits
 
+-- the values of one source, an element each
 abbrev pub values_of : (state bits : ℕ) → List ℕ
 values_of state bits = map (value_at state bits) (range_with_len 0 elements)
 

@@ -52,6 +52,7 @@ end_by no.NoMemory = Stopped NoMemory
 end_by no.ChipFailed = Stopped ChipFailed
 end_by no.PutFailed = Stopped PutFailed
 
+-- how a soak ended, as the end of a command
 abbrev pub end_of : {A : Type 0} → Result A SoakNo → End
 end_of (Ok done) = Done
 end_of (Err why) = end_by why

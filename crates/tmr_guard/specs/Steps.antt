@@ -37,6 +37,7 @@ machine_in guard = guard.machine
 abbrev pub unseen : SinkView
 unseen = record { sent = None; faults = 0 }
 
+-- a load, which is done on each copy in place of being copied with its values
 abbrev pub is_load : Instruction → Bool
 is_load (Load name values) = true
 is_load (Init name count n) = false
@@ -46,24 +47,29 @@ is_load (Print name) = false
 is_load (Free name) = false
 is_load (Order order) = false
 
--- a guard's reply to an instruction, its table, order in force and events, and the line
+-- the reply of a guard to an instruction
 abbrev pub reply_by : Machine → Instruction → Reply
 reply_by m instr = guarded_reply (geometry_of m) (operations_by m) (table_in m) instr
 
+-- the table of a guard after an instruction
 abbrev pub table_by : Machine → Instruction → List Named
 table_by m instr = guarded_table (geometry_of m) (operations_by m) (table_in m) instr
 
+-- the order in force after a guarded instruction
 abbrev pub turn_by : Machine → Instruction → Turn
 turn_by m instr =
     guarded_turn (geometry_of m) (operations_by m) (turn_in m) (table_in m) instr
 
+-- the events of a guarded instruction on the chip
 abbrev pub events_by : Machine → Instruction → List Event
 events_by m instr =
     guarded_events (geometry_of m) (operations_by m) (turn_in m) (table_in m) instr
 
+-- how many data rows are read for a guarded instruction
 abbrev pub reads_by : Machine → Instruction → ℕ
 reads_by m instr = guarded_reads (geometry_of m) (operations_by m) (table_in m) instr
 
+-- the line of a guarded instruction in the report
 abbrev pub line_by : Machine → ℕ → Banks → Instruction → List ℕ
 line_by m number banks instr =
     line number (guarded_said_by (geometry_of m) (operations_by m) (table_in m) banks instr)
@@ -91,6 +97,7 @@ pub record One (g : Geometry) (p : Program) (turn turn' : Turn) (table table' : 
   pub ran : Ran g p turn turn' table table' (instr ∷ []) chip chip'
   pub answer : reply ≡ reply_to g (routines_in p) table instr
 
+-- a plain instruction was done on this machine, and this is its reply
 abbrev pub DidOne : Machine → Machine → Instruction → Reply → ChipView → ChipView → Type 0
 DidOne old new instr reply chip chip' = One (geometry_of old) (program_of old) (turn_in old)
     (turn_in new) (table_in old) (table_in new) instr reply chip chip'
@@ -101,6 +108,7 @@ pub record Replied (g : Geometry) (p : Program) (turn turn' : Turn) (table table
   pub ran : Ran g p turn turn' table table' (plain_script g (routines_in p) table instr) chip chip'
   pub answer : reply ≡ guarded_reply g (routines_in p) table instr
 
+-- a guarded instruction was done on this machine, and this is its reply
 abbrev pub RepliedBy : Machine → Machine → Instruction → Reply → ChipView → ChipView → Type 0
 RepliedBy old new instr reply chip chip' = Replied (geometry_of old) (program_of old) (turn_in old)
     (turn_in new) (table_in old) (table_in new) instr reply chip chip'
@@ -129,6 +137,7 @@ pub record Broke (old : Machine) (number : ℕ) (instr : Instruction) (chip chip
   pub unsent : fault ≡ ChipFault → is_print instr ≡ false → sink' ≡ sink
   pub part : Known (AppendsPart (line_by old number chip.banks instr)) sink.sent sink'.sent
 
+-- How a guarded instruction went: it was done and told, or the chip or the sink failed.
 abbrev pub Came : Machine → Machine → ℕ → Instruction → ChipView → ChipView → SinkView → SinkView
     → Result Reply StepFault → Type 0
 Came old new number instr chip chip' sink sink' (Ok reply) =

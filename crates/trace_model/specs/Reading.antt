@@ -26,6 +26,7 @@ use Rattle.trace_model.specs.declared.TraceKind.{TraceKind}
 use Rattle.trace_model.specs.declared.TraceKind.TheVariants as kinds
 use Rattle.trace_model.specs.Spelling.{Head, Commands, Writes, Trace}
 
+-- where a trace file breaks a rule, and which
 abbrev pub TraceFault : Type 0
 TraceFault = FileFault TraceKind
 
@@ -39,13 +40,16 @@ trace_kind image.Object = kinds.Object
 trace_kind image.Overlap = kinds.Overlap
 trace_kind image.Rest = kinds.Rest
 
+-- a fault of the geometry or the table, which stand in a trace file as in an image
 abbrev pub as_trace_fault : ImageFault → TraceFault
 as_trace_fault f = fault_at f.at (trace_kind f.kind)
 
+-- what reading a part of an image gives, as a part of a trace file
 abbrev pub lifted : {A : Type 0} → Result A ImageFault → Result A TraceFault
 lifted (Ok x) = Ok x
 lifted (Err f) = Err (as_trace_fault f)
 
+-- a value where a condition on its bytes holds, and else none
 abbrev pub where_so : {A : Type 0} → Bool → A → Option A
 where_so holds x = if holds then Some x else None
 
@@ -76,10 +80,12 @@ head_in g field =
     (address_at g.rows 5 field) (list_all (λ b. b == 0) (drop 5 field))
     else None
 
+-- what eight bytes spell, or that they spell no event
 abbrev pub needed : {A : Type 0} → Option A → ℕ → TraceKind → Result A TraceFault
 needed (Some x) at kind = Ok x
 needed None at kind = Err (fault_at at kind)
 
+-- a row command of an event is legal on a bank of the trace's geometry
 abbrev pub is_legal_head : Geometry → Head → Bool
 is_legal_head g (Commands bank command) = is_legal g.rows command
 is_legal_head g (Writes bank row) = true
@@ -102,6 +108,7 @@ with_row g (Commands bank command) at bytes = Ok (Row bank command, at + 8)
 with_row g (Writes bank row) at bytes = bytes_at (8 * g.words) (at + 8) bytes >>= λ field.
     Ok (Write bank row (bits_of_bytes field), at + 8 + 8 * g.words)
 
+-- the event at a place, and where the next begins; or its first fault
 unfoldable pub event_at : Geometry → ℕ → List ℕ → Result (Event × ℕ) TraceFault
 event_at g at bytes = do
   head ← head_at g at bytes
@@ -115,6 +122,7 @@ events_at (suc n) g at bytes = do
   events ← events_at n g event.1 bytes
   Ok (event.0 ∷ events.0, events.1)
 
+-- the file begins as a trace file of the version that there is
 unfoldable pub opening_in : List ℕ → Result (Unit {0}) TraceFault
 opening_in bytes = do
   magic ← bytes_at 4 0 bytes

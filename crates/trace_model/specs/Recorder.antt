@@ -6,11 +6,12 @@ use Rattle.dram_model.specs.Chip.{Event}
 use Rattle.dram_model.specs.Chip.Event.{Row, Write}
 use Rattle.trace_model.specs.Spelling.{event_bytes}
 
--- how many bytes an event takes, and how many all of them
+-- how many bytes an event takes in a trace file
 abbrev pub event_size : Geometry → Event → ℕ
 event_size g (Row bank command) = 8
 event_size g (Write bank row bits) = 8 + 8 * g.words
 
+-- how many bytes all events take
 abbrev pub events_size : Geometry → List Event → ℕ
 events_size g [] = 0
 events_size g (event ∷ events) = event_size g event + events_size g events
@@ -20,6 +21,7 @@ pub record Kept : Type 0 where
   pub bytes : List ℕ
   pub size : ℕ
 
+-- a recorder that has just begun
 abbrev pub nothing_kept : Kept
 nothing_kept = record { bytes = []; size = 0 }
 
@@ -31,6 +33,7 @@ kept_more g room k event = record {
   size = k.size + event_size g event;
 }
 
+-- what is kept after these events, where so much was kept before
 abbrev pub kept_from : Geometry → ℕ → Kept → List Event → Kept
 kept_from g room k [] = k
 kept_from g room k (event ∷ events) = kept_from g room (kept_more g room k event) events

@@ -24,11 +24,13 @@ group_of (addr.B k) = 0
 group_of (addr.C k) = 1
 group_of (addr.D k) = 2
 
+-- the number of an address in its group
 abbrev pub index_of : Addr → ℕ
 index_of (addr.B k) = k
 index_of (addr.C k) = k
 index_of (addr.D k) = k
 
+-- an address in three bytes
 abbrev pub address_bytes : Addr → List ℕ
 address_bytes x = group_of x ∷ to_le_bytes w16 (index_of x)
 
@@ -53,6 +55,7 @@ event_bytes g (Row bank command) = event_head_bytes (Commands bank command)
 event_bytes g (Write bank row bits) = event_head_bytes (Writes bank row)
     ++ bytes_of_bits (8 * g.words) bits
 
+-- the events of a trace file, one after another
 abbrev pub events_bytes : Geometry → List Event → List ℕ
 events_bytes g events = flat_map (event_bytes g) events
 
@@ -75,6 +78,7 @@ pub record Trace : Type 0 where
   pub table : List Named
   pub events : List Event
 
+-- the file of a trace, by its three parts
 abbrev pub bytes_of_trace : Trace → List ℕ
 bytes_of_trace t = trace_bytes t.geometry t.table t.events
 
