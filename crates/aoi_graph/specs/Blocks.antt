@@ -30,6 +30,8 @@ parts (Disjunction a b) = parts a + parts b + 1
 parts (Parity a b) = parts a + parts b + 1
 parts (Majority a b c) = parts a + parts b + parts c + 1
 
+-- how many parts all expressions have: each takes five gates at most, and so much room the graph
+-- needs
 abbrev pub all_parts : List Assign → ℕ
 all_parts xs = sum_by (λ (a : Assign). parts (term a.value)) xs
 
@@ -46,6 +48,7 @@ IsHeld inputs (And a b) = Unit {0}
 IsHeld inputs (Or a b) = Unit {0}
 IsHeld inputs (Maj a b c) = Unit {0}
 
+-- every input that the nodes read is one that has a number
 abbrev pub AreHeld : Numbers → List AoiNode → Type 0
 AreHeld inputs nodes = (k : ℕ) → k < length nodes → IsHeld inputs (aoi_at nodes k)
 
@@ -84,6 +87,7 @@ BlockReads known [] assigns = AllByRecursion (λ (a : Assign). ReadsKnown known 
 BlockReads known (l ∷ lets) assigns = ReadsKnown known (term l.value)
     × BlockReads (λ name. bytes_eq name l.name || known name) lets assigns
 
+-- the name is one that the block reads from outside
 abbrev pub is_input : Numbers → List ℕ → Bool
 is_input inputs name = is_some (get bytes_eq inputs name)
 

@@ -31,10 +31,12 @@ abbrev pub kind_sub : Bool → Kind → Sub
 kind_sub down Word = if down then InnerDown else At_inner
 kind_sub down Bit = Zero
 
+-- where a body finds a name: at the position of its word, or in its one row
 abbrev pub place_of : Bool → Option Slot → Place
 place_of down None = record { space = Source; which = 0; sub = Zero }
 place_of down (Some x) = record { space = x.space; which = x.which; sub = kind_sub down x.kind }
 
+-- where a body finds these names, in order
 abbrev pub places_of : Slots → Bool → List (List ℕ) → List Place
 places_of slots down names = map (λ name. place_of down (slots name)) names
 

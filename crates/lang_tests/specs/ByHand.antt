@@ -7,26 +7,32 @@ use Rattle.op_text.specs.Costs.{op_ceiling}
 use Rattle.op_text.specs.Values.{op_value}
 use Rattle.op_text.specs.WordOps.{all_ops}
 
+-- all numbers of one bit
 abbrev pub to_1 : List ℕ
 to_1 = 0 ∷ 1 ∷ []
 
+-- all numbers of three bits
 abbrev pub to_7 : List ℕ
 to_7 = 0 ∷ 1 ∷ 2 ∷ 3 ∷ 4 ∷ 5 ∷ 6 ∷ 7 ∷ []
 
+-- some numbers of 64 bits: the ends of both halves, and two drawn ones
 abbrev pub wide : List ℕ
 wide = 0 ∷ 1 ∷ 9223372036854775807 ∷ 9223372036854775808 ∷ 18446744073709551615
     ∷ 17485029721327973432 ∷ 434439589175 ∷ []
 
--- all lists of none, of one, of two, and of two and a bit, the last changing fastest
+-- the argument list of an operation that takes none
 abbrev pub none : List ℕ → List (List ℕ)
 none xs = [] ∷ []
 
+-- an argument list for each number
 abbrev pub ones : List ℕ → List (List ℕ)
 ones xs = map (λ a. a ∷ []) xs
 
+-- an argument list for each two numbers, the second changing fastest
 abbrev pub pairs : List ℕ → List (List ℕ)
 pairs xs = flat_map (λ a. map (λ b. a ∷ b ∷ []) xs) xs
 
+-- an argument list for each two numbers and a bit, the bit changing fastest
 abbrev pub choices : List ℕ → List (List ℕ)
 choices xs = flat_map (λ a. flat_map (λ b. (a ∷ b ∷ 0 ∷ []) ∷ (a ∷ b ∷ 1 ∷ []) ∷ []) xs) xs
 
@@ -40,6 +46,7 @@ pub record ByHand : Type 0 where
   pub values_3 : List ℕ
   pub values_64 : List ℕ
 
+-- what was worked out of an operation
 abbrev pub hand : WordOp → (List ℕ → List (List ℕ)) → ℕ → ℕ → List ℕ → List ℕ → List ℕ → ByHand
 hand op args at_8 at_32 values_1 values_3 values_64 = record {
   op = op;
@@ -51,14 +58,17 @@ hand op args at_8 at_32 values_1 values_3 values_64 = record {
   values_64 = values_64;
 }
 
+-- quotients of numbers of one bit, all ones where the divisor is 0
 abbrev pub quotients_1 : List ℕ
 quotients_1 = 1 ∷ 0 ∷ 1 ∷ 1 ∷ []
 
+-- quotients of numbers of three bits
 abbrev pub quotients_3 : List ℕ
 quotients_3 = 7 ∷ 0 ∷ 0 ∷ 0 ∷ 0 ∷ 0 ∷ 0 ∷ 0 ∷ 7 ∷ 1 ∷ 0 ∷ 0 ∷ 0 ∷ 0 ∷ 0 ∷ 0 ∷ 7 ∷ 2 ∷ 1 ∷ 0 ∷ 0
     ∷ 0 ∷ 0 ∷ 0 ∷ 7 ∷ 3 ∷ 1 ∷ 1 ∷ 0 ∷ 0 ∷ 0 ∷ 0 ∷ 7 ∷ 4 ∷ 2 ∷ 1 ∷ 1 ∷ 0 ∷ 0 ∷ 0 ∷ 7 ∷ 5 ∷ 2 ∷ 1
     ∷ 1 ∷ 1 ∷ 0 ∷ 0 ∷ 7 ∷ 6 ∷ 3 ∷ 2 ∷ 1 ∷ 1 ∷ 1 ∷ 0 ∷ 7 ∷ 7 ∷ 3 ∷ 2 ∷ 1 ∷ 1 ∷ 1 ∷ 1 ∷ []
 
+-- quotients of the wide numbers
 abbrev pub quotients_64 : List ℕ
 quotients_64 = 18446744073709551615 ∷ 0 ∷ 0 ∷ 0 ∷ 0 ∷ 0 ∷ 0 ∷ 18446744073709551615 ∷ 1 ∷ 0 ∷ 0 ∷ 0
     ∷ 0 ∷ 0 ∷ 18446744073709551615 ∷ 9223372036854775807 ∷ 1 ∷ 0 ∷ 0 ∷ 0 ∷ 21230505
@@ -67,6 +77,7 @@ quotients_64 = 18446744073709551615 ∷ 0 ∷ 0 ∷ 0 ∷ 0 ∷ 0 ∷ 0 ∷ 1844
     ∷ 17485029721327973432 ∷ 1 ∷ 1 ∷ 0 ∷ 1 ∷ 40247321 ∷ 18446744073709551615 ∷ 434439589175 ∷ 0
     ∷ 0 ∷ 0 ∷ 0 ∷ 1 ∷ []
 
+-- all that was worked out, operation by operation
 abbrev pub by_hand : List ByHand
 by_hand =
     hand o.Not ones 16 64
@@ -323,6 +334,7 @@ abbrev pub CeilingsByHand : Type 0
 CeilingsByHand = (map (λ m. op_ceiling m.op 8) by_hand ≡ map (λ m. m.at_8) by_hand)
     × (map (λ m. op_ceiling m.op 32) by_hand ≡ map (λ m. m.at_32) by_hand)
 
+-- the values that the definitions give, on the numbers of a width
 abbrev pub values_at : ℕ → List ℕ → ByHand → List ℕ
 values_at n numbers m = map (op_value m.op n) (m.args numbers)
 

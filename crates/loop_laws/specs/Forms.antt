@@ -52,17 +52,21 @@ has_room b =
     && (nat_le (length b.graph.nodes + length b.outs) 32
     && nat_le (length (used_subs b)) 3))))
 
+-- every body of a nest keeps these bounds
 abbrev pub inners_have_room : List (InnerOf Block) → Bool
 inners_have_room [] = true
 inners_have_room (Alone b ∷ ps) = has_room b && inners_have_room ps
 inners_have_room (Across c b ∷ ps) = has_room b && inners_have_room ps
 
+-- every body of a loop program keeps these bounds
 abbrev pub steps_have_room : List (StepOf Block) → Bool
 steps_have_room [] = true
 steps_have_room (Single b ∷ ss) = has_room b && steps_have_room ss
 steps_have_room (Along b ∷ ss) = has_room b && steps_have_room ss
 steps_have_room (Nest ps ∷ ss) = inners_have_room ps && steps_have_room ss
 
+-- a loop program is small enough that its code is within the limits: the test that a written
+-- program is checked by
 abbrev pub is_short : List (StepOf Block) → Bool
 is_short steps = steps_have_room steps && (list_all step_stands steps
     && (nat_le (code_cost steps) 256 && nat_le (bodies steps) 12))

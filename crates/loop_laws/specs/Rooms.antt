@@ -22,6 +22,7 @@ pub data Extent : Type 0 where
   Full : Extent
   Twice : Extent
 
+-- how many rows an owner has at width n
 abbrev pub extent : ℕ → Extent → ℕ
 extent n One = 1
 extent n Full = n
@@ -34,6 +35,7 @@ pub record Room : Type 0 where
   pub rows : Extent
   pub written : Bool
 
+-- the rows of an owner, by its number
 abbrev pub room_at : List Room → ℕ → Room
 room_at [] k = record { space = Source; which = 0; rows = One; written = false }
 room_at (r ∷ rs) zero = r
@@ -44,6 +46,7 @@ pub record Mark : Type 0 where
   pub owner : ℕ
   pub sub : Sub
 
+-- a place of a body, by its number
 abbrev pub mark_at : List Mark → ℕ → Mark
 mark_at [] k = record { owner = 0; sub = sub.Zero }
 mark_at (m ∷ ms) zero = m
@@ -56,10 +59,12 @@ pub record Marked : Type 0 where
   pub outs : List Lit
   pub writes : List Mark
 
+-- the place that an owner's place is, once it is known where the owner's rows lie
 abbrev pub placed : List Room → Mark → Place
 placed rooms m = let r = room_at rooms m.owner in
     record { space = r.space; which = r.which; sub = m.sub }
 
+-- a body with its places found
 abbrev pub placed_body : List Room → Marked → Block
 placed_body rooms b = record {
   reads = map (placed rooms) b.reads;
@@ -68,6 +73,7 @@ placed_body rooms b = record {
   writes = map (placed rooms) b.writes;
 }
 
+-- a loop program with its places found
 abbrev pub placed_steps : List Room → List (StepOf Marked) → List (StepOf Block)
 placed_steps rooms steps = map (step_map (placed_body rooms)) steps
 
@@ -95,30 +101,36 @@ pub data Reach : Type 0 where
   Whole : Reach
   Left : Reach
 
+-- the inner index is one that the loop reaches
 abbrev pub InnerOk : ℕ → ℕ → ℕ → Reach → Type 0
 InnerOk n i o Nowhere = Unit {0}
 InnerOk n i o Whole = i < n
 InnerOk n i o Left = i < n - o
 
+-- the outer index is one, where the body stands in a nest
 abbrev pub OuterOk : ℕ → ℕ → Bool → Type 0
 OuterOk n o true = o < n
 OuterOk n o false = Unit {0}
 
+-- an owner with a row at each position of a word
 abbrev pub is_long : Extent → Bool
 is_long One = false
 is_long Full = true
 is_long Twice = true
 
+-- an owner with two words
 abbrev pub is_twice : Extent → Bool
 is_twice One = false
 is_twice Full = false
 is_twice Twice = true
 
+-- the body is done at each inner position
 abbrev pub has_inner : Reach → Bool
 has_inner Nowhere = false
 has_inner Whole = true
 has_inner Left = true
 
+-- the inner positions are those that are left of the outer one
 abbrev pub is_left : Reach → Bool
 is_left Nowhere = false
 is_left Whole = false
@@ -158,16 +170,19 @@ pub record BodyFits (r : Reach) (outer : Bool) (rooms : List Room) (reads writes
       → (mark_at writes j).owner ≡ (mark_at reads k).owner
       → (mark_at writes j).owner ≡ (mark_at reads l).owner → k ≡ l
 
+-- how far the positions of a nest's part go
 abbrev pub reach_of : Count → Reach
 reach_of All = Whole
 reach_of Rest = Left
 
+-- so it is in every body of a nest
 abbrev pub InnersFit : List Room → List (InnerOf Marked) → Type 0
 InnersFit rooms [] = Unit {0}
 InnersFit rooms (Alone b ∷ ps) = BodyFits Nowhere true rooms b.reads b.writes × InnersFit rooms ps
 InnersFit rooms (Across c b ∷ ps) = BodyFits (reach_of c) true rooms b.reads b.writes
     × InnersFit rooms ps
 
+-- so it is in every body of a loop program
 abbrev pub StepsFit : List Room → List (StepOf Marked) → Type 0
 StepsFit rooms [] = Unit {0}
 StepsFit rooms (Single b ∷ ss) = BodyFits Nowhere false rooms b.reads b.writes × StepsFit rooms ss
@@ -180,29 +195,35 @@ all_fit r outer rooms [] = true
 all_fit r outer rooms (m ∷ ms) = (nat_lt m.owner (length rooms)
     && fits r outer (room_at rooms m.owner).rows m.sub) && all_fit r outer rooms ms
 
+-- none of these places has this owner
 abbrev pub none_like : ℕ → List Mark → Bool
 none_like owner [] = true
 none_like owner (m ∷ ms) = not (owner == m.owner) && none_like owner ms
 
+-- at most one of these places has the owner of a write, and that one is the very place
 abbrev pub alone_in : Mark → List Mark → Bool
 alone_in p [] = true
 alone_in p (m ∷ ms) = if p.owner == m.owner then (sub_code p.sub == sub_code m.sub)
     && none_like p.owner ms else alone_in p ms
 
+-- what is written may be, each owner once, and is read at most at the very place
 abbrev pub writes_fit : List Room → List Mark → List Mark → Bool
 writes_fit rooms reads [] = true
 writes_fit rooms reads (m ∷ ms) = ((room_at rooms m.owner).written
     && (none_like m.owner ms && alone_in m reads)) && writes_fit rooms reads ms
 
+-- the test of a body
 abbrev pub body_fits : Reach → Bool → List Room → Marked → Bool
 body_fits r outer rooms b = all_fit r outer rooms b.reads
     && (all_fit r outer rooms b.writes && writes_fit rooms b.reads b.writes)
 
+-- the test of a nest's bodies
 abbrev pub inners_fit : List Room → List (InnerOf Marked) → Bool
 inners_fit rooms [] = true
 inners_fit rooms (Alone b ∷ ps) = body_fits Nowhere true rooms b && inners_fit rooms ps
 inners_fit rooms (Across c b ∷ ps) = body_fits (reach_of c) true rooms b && inners_fit rooms ps
 
+-- the test of a loop program's bodies: it is run once on each written program
 abbrev pub steps_fit : List Room → List (StepOf Marked) → Bool
 steps_fit rooms [] = true
 steps_fit rooms (Single b ∷ ss) = body_fits Nowhere false rooms b && steps_fit rooms ss

@@ -11,11 +11,13 @@ pub data Origin : Type 0 where
   Standing : Origin
   Carried : ℕ → Origin
 
+-- where read k comes from
 abbrev pub nth_origin : List Origin → ℕ → Origin
 nth_origin [] k = Standing
 nth_origin (x ∷ xs) zero = x
 nth_origin (x ∷ xs) (suc k) = nth_origin xs k
 
+-- the value that is read, from the bit that stands and from what was given before
 abbrev pub from_origin : Origin → Bool → (ℕ → Bool) → Bool
 from_origin Standing stands given = stands
 from_origin (Carried w) stands given = given w
@@ -33,10 +35,11 @@ turned origins values stands start zero = start
 turned origins values stands start (suc i) = values
     (seen origins (stands i) (turned origins values stands start i))
 
--- the row of read k, and that of write w
+-- the row of read k at a position
 abbrev pub read_spot : ℕ → ℕ → Block → ℕ → ℕ → Spot
 read_spot n o b i k = nth_spot n i o b.reads k
 
+-- the row of write w at a position
 abbrev pub write_spot : ℕ → ℕ → Block → ℕ → ℕ → Spot
 write_spot n o b i w = nth_spot n i o b.writes w
 

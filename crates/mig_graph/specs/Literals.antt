@@ -13,6 +13,7 @@ abbrev pub complement_if : Bool → Lit → Lit
 complement_if true l = complement l
 complement_if false l = l
 
+-- the node that is the majority of these three literals
 abbrev pub node_of : Lit → Lit → Lit → Node
 node_of x y z = record { a = x; b = y; c = z }
 

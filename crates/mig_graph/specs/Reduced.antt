@@ -7,6 +7,7 @@ use Rattle.mig_graph.specs.declared.Node.{Node}
 use Rattle.mig_graph.specs.Literals.{inversions, NamesThree, SameThree}
 use Rattle.mig_graph.specs.Graph.{Graph, node_at}
 
+-- the three literals of a node
 abbrev pub literals : Node → List Lit
 literals n = n.a ∷ n.b ∷ n.c ∷ []
 
@@ -14,6 +15,7 @@ literals n = n.a ∷ n.b ∷ n.c ∷ []
 abbrev pub reads : Graph → List Lit → ℕ → ℕ
 reads g outs k = count_by (λ l. l.node == k) (flat_map literals g.nodes ++ outs)
 
+-- whether a node has just this literal, complement and all
 abbrev pub has_literal : Node → Lit → Bool
 has_literal n l = (((n.a.node == l.node) && beq n.a.inverted l.inverted)
     || ((n.b.node == l.node) && beq n.b.inverted l.inverted))
@@ -38,6 +40,8 @@ pub record CanMerge (g : Graph) (outs : List Lit) (p q : Lit) : Type 0 where
   pub q_once : reads g outs q.node ≡ 1
   pub common : 2 ≤ in_common (node_numbered g p.node) (node_numbered g q.node)
 
+-- No rule makes the graph smaller: each node has three inputs and at most one complement, none
+-- stands twice, and no two that are read once have two literals in common.
 pub record IsReduced (g : Graph) (outs : List Lit) : Type 0 where
   pub three : (k : ℕ) → k < length g.nodes → NamesThree (node_at g.nodes k)
   pub form : (k : ℕ) → k < length g.nodes → inversions (node_at g.nodes k) ≤ 1

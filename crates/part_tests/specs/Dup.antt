@@ -7,6 +7,7 @@ use Rattle.uprog_code.specs.declared.code.Uop.TheVariants.{Done, Aap}
 use Rattle.uprog_code.specs.Shape.{Shape}
 use Rattle.part_tests.specs.Xor.{fixed_row, first_row}
 
+-- a word in, and two words out
 abbrev pub dup_shape : Shape
 dup_shape = record {
   sources = Word ∷ [];

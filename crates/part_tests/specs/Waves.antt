@@ -9,6 +9,7 @@ abbrev pub first_seen : Option ℕ → ℕ → Option ℕ
 first_seen None live = Some live
 first_seen (Some first) live = Some first
 
+-- a picker that always takes the last live bank
 abbrev pub last_live : Picker (Option ℕ)
 last_live = record { choice = λ state live. live - 1; next = first_seen }
 

@@ -8,10 +8,12 @@ use Rattle.loop_ir.specs.declared.names.Slot.{Slot}
 use Rattle.loop_ir.specs.Statements.{Slots}
 use Rattle.loop_laws.specs.Rooms.{Extent, One, Full, Room}
 
+-- a word has a row at each position, and a bit one
 abbrev pub rows_of : Kind → Extent
 rows_of Word = Full
 rows_of Bit = One
 
+-- where the rows of a name lie, and whether a body may write them
 abbrev pub room_of : Bool → Slot → Room
 room_of written s = record {
   space = s.space;
@@ -20,6 +22,7 @@ room_of written s = record {
   written = written;
 }
 
+-- a bit of internal scratch, by its number
 abbrev pub scratch_bit : ℕ → Slot
 scratch_bit k = record { space = ScratchBit; which = k; kind = Bit }
 
@@ -28,6 +31,7 @@ abbrev pub scratch_from : ℕ → ℕ → List Slot
 scratch_from free zero = []
 scratch_from free (suc count) = scratch_bit free ∷ scratch_from (free + 1) count
 
+-- the rows of a word statement: its target's first, then its arguments', then its scratch
 abbrev pub rooms_of : Slot → List Slot → List Slot → List Room
 rooms_of target args scratch = room_of true target
     ∷ (map (room_of false) args ++ map (room_of true) scratch)

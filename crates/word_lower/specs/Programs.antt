@@ -27,32 +27,39 @@ use Rattle.word_lower.specs.declared.table.ProgramRow.{ProgramRow}
 use Rattle.word_lower.specs.declared.table.ProgramRow.TheVariants.{Spread, One, Two, Three, Nested}
 use Rattle.word_lower.specs.declared.table.TheConstants.{PROGRAMS}
 
--- Owners of places: the target, then the arguments, then the bit of scratch
+-- a place of an owner by its number: 0 is the target, then come the arguments, then the scratch
 abbrev pub on : ℕ → Sub → Mark
 on owner s = record { owner = owner; sub = s }
 
+-- a place of the target
 abbrev pub target : Sub → Mark
 target s = on 0 s
 
+-- a place of the first argument
 abbrev pub first : Sub → Mark
 first s = on 1 s
 
+-- a place of the second argument, or of the scratch where there is one argument
 abbrev pub second : Sub → Mark
 second s = on 2 s
 
+-- a place of the third argument, or of the scratch where there are two
 abbrev pub third : Sub → Mark
 third s = on 3 s
 
+-- a node as it is
 abbrev pub plain : ℕ → Lit
 plain k = record { node = k; inverted = false }
 
+-- a node's complement
 abbrev pub complemented : ℕ → Lit
 complemented k = record { node = k; inverted = true }
 
--- the constants
+-- the constant 0
 abbrev pub off : Lit
 off = plain 0
 
+-- the constant 1
 abbrev pub up : Lit
 up = complemented 0
 
@@ -69,9 +76,11 @@ template reads nodes outs writes = record {
 abbrev pub constant : Lit → Mark → Marked
 constant l z = template [] [] (l ∷ []) (z ∷ [])
 
+-- what one row has, into another
 abbrev pub moved : Mark → Mark → Marked
 moved x z = template (x ∷ []) [] (plain 1 ∷ []) (z ∷ [])
 
+-- the complement of what one row has, into another
 abbrev pub inverted : Mark → Mark → Marked
 inverted x z = template (x ∷ []) [] (complemented 1 ∷ []) (z ∷ [])
 
@@ -84,6 +93,7 @@ abbrev pub without : Mark → Mark → Mark → Marked
 without x y z = template (x ∷ y ∷ []) (node_of off (plain 1) (complemented 2) ∷ [])
     (plain 3 ∷ []) (z ∷ [])
 
+-- the exclusive or of x and y
 abbrev pub unlike : Mark → Mark → Mark → Marked
 unlike x y z = template (x ∷ y ∷ [])
     (node_of off (complemented 1) (plain 2) ∷ node_of off (plain 1) (complemented 2)
@@ -141,6 +151,7 @@ number_of First = 1
 number_of Second = 2
 number_of Third = 3
 
+-- a place of the table, by the number of its owner
 abbrev pub mark_of : code.Mark → Mark
 mark_of m = on (number_of m.owner) m.sub
 
@@ -176,10 +187,12 @@ row_steps (Two a b) k = line_step a ∷ line_step b ∷ []
 row_steps (Three a b c) k = line_step a ∷ line_step b ∷ line_step c ∷ []
 row_steps Nested k = []
 
+-- a row of an operation on words or bits, which is done at each position of a word
 abbrev pub is_spread : ProgramRow → Bool
 is_spread (Spread word bit) = true
 is_spread r = false
 
+-- a row of an operation that takes a pass for each position
 abbrev pub is_nest : ProgramRow → Bool
 is_nest Nested = true
 is_nest r = false
@@ -188,6 +201,7 @@ is_nest r = false
 abbrev pub program_at : ℕ → WordOp × ProgramRow
 program_at k = slice_index_or PROGRAMS k (o.Not, Nested)
 
+-- what the table has of an operation
 abbrev pub program_of : WordOp → ProgramRow
 program_of p = (program_at (number p)).1
 

@@ -17,6 +17,7 @@ use Rattle.word_lower.specs.declared.shapes.ProgramLine.{ProgramLine}
 use Rattle.word_lower.specs.Places.{scratch_bit}
 use Rattle.word_lower.specs.Programs.{mark_of, line_step}
 
+-- places of the table, by the numbers of their owners
 abbrev pub marks : List Mark → List rooms.Mark
 marks ms = map mark_of ms
 
@@ -26,12 +27,14 @@ lines_steps [] = []
 lines_steps (None ∷ ls) = lines_steps ls
 lines_steps (Some l ∷ ls) = line_step l ∷ lines_steps ls
 
+-- whose rows an owner's number stands for
 abbrev pub owner_at : Owners → ℕ → Slot
 owner_at o zero = o.target
 owner_at o (suc zero) = o.first
 owner_at o (suc (suc zero)) = o.second
 owner_at o (suc (suc (suc k))) = o.third
 
+-- the place that an owner's place is, where the owners have these rows
 abbrev pub place_on : Owners → rooms.Mark → Place
 place_on o m = let s = owner_at o m.owner in record {
   space = s.space;
@@ -39,6 +42,7 @@ place_on o m = let s = owner_at o m.owner in record {
   sub = m.sub;
 }
 
+-- a body at the places of its owners
 abbrev pub body_on : Owners → Marked → Block
 body_on o b = record {
   reads = map (place_on o) b.reads;
@@ -47,6 +51,7 @@ body_on o b = record {
   writes = map (place_on o) b.writes;
 }
 
+-- a loop program at the places of its owners
 abbrev pub program_on : Owners → List (StepOf Marked) → List (StepOf Block)
 program_on o steps = map (step_map (body_on o)) steps
 
@@ -56,6 +61,7 @@ following [] free k = scratch_bit free
 following (s ∷ ss) free zero = s
 following (s ∷ ss) free (suc k) = following ss free k
 
+-- the rows of a statement: its target, and its arguments with the scratch after them
 abbrev pub owners_of : Slot → List Slot → ℕ → Owners
 owners_of t args free = record {
   target = t;
@@ -74,6 +80,7 @@ abbrev pub are_own : ℕ → List Node → Bool
 are_own k [] = true
 are_own k (n ∷ ns) = is_own k n && (not (list_any (λ m. same_node n m) ns) && are_own (k + 1) ns)
 
+-- each output names a node that there is
 abbrev pub are_below : ℕ → List Lit → Bool
 are_below k [] = true
 are_below k (l ∷ ls) = nat_lt l.node k && are_below k ls

@@ -25,6 +25,7 @@ owners_of m second_bit = record {
   second_target = m.second;
 }
 
+-- whose rows an owner's number stands for
 abbrev pub owner_at : Owners → ℕ → Slot
 owner_at o zero = o.target
 owner_at o (suc zero) = o.first
@@ -34,6 +35,7 @@ owner_at o (suc (suc (suc (suc zero)))) = o.second_bit
 owner_at o (suc (suc (suc (suc (suc zero))))) = o.words
 owner_at o (suc (suc (suc (suc (suc (suc k)))))) = o.second_target
 
+-- the place that an owner's place is, where the owners have these rows
 abbrev pub place_on : Owners → rooms.Mark → Place
 place_on o m = let s = owner_at o m.owner in record {
   space = s.space;
@@ -41,9 +43,11 @@ place_on o m = let s = owner_at o m.owner in record {
   sub = m.sub;
 }
 
+-- places of the table, by the numbers of their owners
 abbrev pub marks : List Mark → List rooms.Mark
 marks ms = map mark_of ms
 
+-- a body at the places of its owners
 abbrev pub body_on : Owners → Marked → Block
 body_on o b = record {
   reads = map (place_on o) b.reads;
@@ -52,9 +56,11 @@ body_on o b = record {
   writes = map (place_on o) b.writes;
 }
 
+-- the parts of a nest at the places of their owners
 abbrev pub parts_on : Owners → List (InnerOf Marked) → List (InnerOf Block)
 parts_on o parts = map (inner_map (body_on o)) parts
 
+-- a loop program at the places of its owners
 abbrev pub steps_on : Owners → List (StepOf Marked) → List (StepOf Block)
 steps_on o steps = map (step_map (body_on o)) steps
 

@@ -19,9 +19,11 @@ use Rattle.word_lower.specs.Shapes.{following}
 use Rattle.word_mul.specs.declared.rows.Rows.{Rows}
 use Rattle.word_mul.specs.Programs.{nested}
 
+-- a word of internal scratch, by its number
 abbrev pub scratch_word : ℕ → Slot
 scratch_word k = record { space = ScratchWord; which = k; kind = Word }
 
+-- the two words of scratch of a division, as one room of twice n rows
 abbrev pub double_words : ℕ → ℕ → List Room
 double_words free zero = []
 double_words free (suc words) = record {
@@ -36,10 +38,12 @@ abbrev pub second_rooms : Option Kind → Slot → List Room
 second_rooms None s = []
 second_rooms (Some k) s = room_of true s ∷ []
 
+-- the rows of such a statement, by the numbers of their owners
 abbrev pub rooms_for : WordOp → Rows → List Room
 rooms_for p m = rooms_of m.target (m.a ∷ m.b ∷ []) (scratch_from m.free_bit (bits_inside p))
     ++ (double_words m.free_word (words_inside p) ++ second_rooms (second_kind p) m.second)
 
+-- the loop program of such a statement, with its places found
 abbrev pub steps_for : WordOp → Rows → List (StepOf Block)
 steps_for p m = placed_steps (rooms_for p m) (nested p)
 

@@ -32,6 +32,7 @@ multiplied_nodes = node_of off (plain 2) (plain 3) ∷ node_of (complemented 1) 
     ∷ node_of (plain 4) (plain 5) (complemented 6) ∷ node_of (plain 1) (plain 6) (complemented 7)
     ∷ []
 
+-- one position of a product: the partial product is added to y
 abbrev pub multiplied : Mark → Mark → Mark → Mark → Marked
 multiplied y a b c = template (y ∷ a ∷ b ∷ c ∷ []) multiplied_nodes (plain 8 ∷ plain 7 ∷ []) (y ∷ c
     ∷ [])
@@ -41,6 +42,7 @@ abbrev pub counted_nodes : List Node
 counted_nodes = node_of up (complemented 1) (plain 2) ∷ node_of off (plain 1) (plain 2)
     ∷ node_of (complemented 2) (plain 3) (plain 4) ∷ []
 
+-- one position of a count: a bit is added to y
 abbrev pub counted : Mark → Mark → Marked
 counted y c = template (y ∷ c ∷ []) counted_nodes (plain 5 ∷ plain 3 ∷ []) (y ∷ c ∷ [])
 
@@ -50,6 +52,7 @@ divided_nodes = node_of off (plain 2) (plain 3) ∷ node_of (complemented 1) (pl
     ∷ node_of (plain 1) (plain 4) (complemented 5) ∷ node_of (complemented 4) (plain 6) (plain 7)
     ∷ []
 
+-- one position of a division: the divisor is taken from the window where it fits
 abbrev pub divided : Mark → Mark → Mark → Mark → Marked
 divided w y g c = template (w ∷ y ∷ g ∷ c ∷ []) divided_nodes (plain 8 ∷ plain 6 ∷ []) (w ∷ c ∷ [])
 
@@ -64,6 +67,7 @@ number_of SecondBit = 4
 number_of Words = 5
 number_of SecondTarget = 6
 
+-- a place of the table, by the number of its owner
 abbrev pub mark_of : code.Mark → Mark
 mark_of m = on (number_of m.owner) m.sub
 
@@ -106,9 +110,11 @@ abbrev pub program_in : List (WordOp × NestedProgram) → WordOp → Option Nes
 program_in [] p = None
 program_in (r ∷ rows) p = if number r.0 == number p then Some r.1 else program_in rows p
 
+-- the row that the table has of an operation, if it has one
 abbrev pub program_of : WordOp → Option NestedProgram
 program_of p = program_in NESTED p
 
+-- the steps of a row, and none where there is no row
 abbrev pub steps_in : Option NestedProgram → List (StepOf Marked)
 steps_in None = []
 steps_in (Some r) = row_steps r
@@ -117,6 +123,7 @@ steps_in (Some r) = row_steps r
 abbrev pub nested : WordOp → List (StepOf Marked)
 nested p = steps_in (program_of p)
 
+-- the table has the operation
 abbrev pub is_there : Option NestedProgram → Bool
 is_there None = false
 is_there (Some r) = true
@@ -139,6 +146,7 @@ nested_total o.Bitcount n = 18 * n ^ 2 + 3 * n
 nested_total o.Divmod n = 29 * n ^ 2 + 10 * n
 nested_total p n = 0
 
+-- the commands of such a statement at width n
 abbrev pub statement_total : Statement → ℕ → ℕ
 statement_total (Compute target second p args) n = nested_total p n
 statement_total (Visit block) n = 0
