@@ -133,6 +133,7 @@ pub record IsStopped (steps : List Step) (stop : Stop) (old new : World) (status
       × IsLast stop.failed stop.reason last × Sends (sent_by stop.before) last old new
   pub files : Known (LeavesFiles stop) old.files.holds new.files.holds
 
+-- How the command ended, by where its steps did.
 abbrev pub EndsSo : List Step → ℕ → Ended → World → World → ℕ → Type 0
 EndsSo steps done All old new status = IsAllDone steps done old new status
 EndsSo steps done (At stop) old new status = IsStopped steps stop old new status

@@ -6,6 +6,7 @@ use Rattle.cli_model.specs.World.{with_file}
 use Rattle.cli_model.specs.Steps.{Step, Load, Take, Store, Open, Use, Put, Print, Refusal}
 use Rattle.cli_model.specs.Steps.{CannotRead, TooLong, Refused, End, Done, Stopped}
 
+-- a refused text ends the command; else the rest does
 abbrev pub refused_or : Option Refusal → End → End
 refused_or None rest = rest
 refused_or (Some refusal) rest = Stopped (Refused refusal)

@@ -8,6 +8,7 @@ use Rattle.host_edge.specs.Views.{Files}
 use Rattle.cli_model.specs.Steps.{Step, Load, Refusal}
 use Rattle.cli_model.specs.Stands.{files_after}
 
+-- A command before its files are known: what it loads, makes and does, in order, down to its ends.
 pub data Plan : Type 1 where
   -- the file of this name, of at most so many bytes, is loaded; its text and what it is read as go
   -- on, and a text that is refused ends the command

@@ -5,6 +5,7 @@ use Rattle.host_edge.specs.Views.{Files, FolderView, SinkView}
 use Rattle.cli_model.specs.World.{world}
 use Rattle.cli_model.specs.Steps.{Refusal, Reason, Loaded, LoadFails}
 
+-- why a text is refused, if it is
 abbrev pub refusal_of : {A : Type 0} → Result A Refusal → Option Refusal
 refusal_of (Ok x) = None
 refusal_of (Err refusal) = Some refusal

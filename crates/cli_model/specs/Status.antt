@@ -6,6 +6,7 @@ use Rattle.cli_model.specs.World.{World}
 use Rattle.cli_model.specs.Steps.{Step, Reason, CannotRead, TooLong, Refused, NoMemory, CannotWrite}
 use Rattle.cli_model.specs.Steps.{PutFailed, ChipFailed, End, Done, Stopped, Goes}
 
+-- the exit status of each reason to stop
 abbrev pub reason_status : Reason → ℕ
 reason_status (CannotRead name) = 2
 reason_status (TooLong name) = 11

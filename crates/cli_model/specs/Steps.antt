@@ -142,10 +142,12 @@ Fails (Print bytes) reason old new = Printed (AppendsPart bytes) old new
     × (((reason ≡ PutFailed) × Rose old.sink.faults new.sink.faults)
     ⊎ ((reason ≡ ChipFailed) × Rose old.chip.faults new.chip.faults))
 
+-- the step failed, and this is the end that tells why
 abbrev pub FailsBy : Step → End → World → World → Type 0
 FailsBy step Done old new = ⊥
 FailsBy step (Stopped reason) old new = Fails step reason old new
 
+-- a command without further steps is done, and changes nothing more
 abbrev pub EndsHere : End → World → World → Type 0
 EndsHere Done old new = new ≡ old
 EndsHere (Stopped reason) old new = ⊥

@@ -9,6 +9,7 @@ pub record World : Type 0 where
   pub sink : SinkView
   pub chip : ChipView
 
+-- all that the outside shows of itself, put together
 abbrev pub world : FolderView → SinkView → ChipView → World
 world files sink chip = record { files = files; sink = sink; chip = chip }
 

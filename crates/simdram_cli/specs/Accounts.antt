@@ -16,6 +16,7 @@ use Rattle.simdram_cli.specs.declared.account.Account.TheVariants.{Listing, Cost
 use Rattle.simdram_cli.specs.declared.words.TheConstants.{PROG_MAX}
 use Rattle.simdram_cli.specs.Programs.{prog_in}
 
+-- what is sent of a program: its listing, or what its entries cost at a width
 abbrev pub account_of : Account → Program → List ℕ
 account_of Listing program = listing program
 account_of (Costs n) program = costs n program

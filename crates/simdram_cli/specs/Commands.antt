@@ -45,6 +45,7 @@ statuses (Replay names) = 0 ∷ 2 ∷ 3 ∷ 7 ∷ 9 ∷ 10 ∷ 11 ∷ 13 ∷ 14 
 statuses (Guard names) =
     0 ∷ 2 ∷ 3 ∷ 4 ∷ 6 ∷ 7 ∷ 8 ∷ 9 ∷ 10 ∷ 11 ∷ 17 ∷ 18 ∷ []
 
+-- the command can end with this status
 abbrev pub CanAnswer : Command → ℕ → Type 0
 CanAnswer command status = list_any (λ s. s == status) (statuses command) ≡ true
 

@@ -33,22 +33,27 @@ pub record IsGood {A : Type 0} (read : List ℕ → Result A Refusal) (limit : �
   pub value : A
   pub accepted : read text ≡ Ok value
 
--- the kinds of files
+-- the file is there, and its text is accepted as ops
 abbrev pub IsOps : Option (List ℕ) → Type 0
 IsOps file = IsGood ops_in OPS_MAX file
 
+-- the file is there, and is accepted as a program file
 abbrev pub IsProg : Option (List ℕ) → Type 0
 IsProg file = IsGood prog_in PROG_MAX file
 
+-- the file is there, and its text is accepted as a script
 abbrev pub IsScript : Option (List ℕ) → Type 0
 IsScript file = IsGood script_in SCRIPT_MAX file
 
+-- the file is there, and is accepted as an image
 abbrev pub IsImageFile : Option (List ℕ) → Type 0
 IsImageFile file = IsGood image_of IMAGE_MAX file
 
+-- the file is there, and its text is accepted as a query
 abbrev pub IsQueryFile : Option (List ℕ) → Type 0
 IsQueryFile file = IsGood query_in QUERY_MAX file
 
+-- the file is there, and is accepted as a trace
 abbrev pub IsTraceFile : Option (List ℕ) → Type 0
 IsTraceFile file = IsGood trace_in TRACE_MAX file
 

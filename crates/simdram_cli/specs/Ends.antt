@@ -37,6 +37,7 @@ GoesToStore name program end old new =
     (sink : SinkView) (chip : ChipView) → Goes (Take ∷ Store name (program_bytes 2 program) ∷ [])
     end (world old sink chip) (world new sink chip)
 
+-- it stopped where memory was to be taken or PROG stored, and why
 abbrev pub StopsAtStore : List ℕ → Reason → FolderView → FolderView → Type 0
 StopsAtStore name reason old new =
     (program : Program) × GoesToStore name program (Stopped reason) old new

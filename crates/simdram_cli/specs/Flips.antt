@@ -47,6 +47,7 @@ abbrev pub unless_some : {A : Type 0} → (ℕ → Refusal) → Option ℕ → A
 unless_some refuse None x = Ok x
 unless_some refuse (Some k) x = Err (refuse k)
 
+-- a script that is accepted goes on only where each name has room for a letter
 abbrev pub with_short_names : Result (List Instruction) Refusal
     → Result (List Instruction) Refusal
 with_short_names (Ok script) = unless_some name_refusal (first_long_name script) script
@@ -56,6 +57,7 @@ with_short_names (Err refusal) = Err refusal
 abbrev pub guarded_script_in : List ℕ → Result (List Instruction) Refusal
 guarded_script_in text = with_short_names (script_in text)
 
+-- an image that is accepted goes on only where its objects stand in three copies
 abbrev pub in_triples : Result Image Refusal → Result Image Refusal
 in_triples (Ok i) = unless_some table_refusal (first_stranger i.table) i
 in_triples (Err refusal) = Err refusal
@@ -64,6 +66,7 @@ in_triples (Err refusal) = Err refusal
 abbrev pub guarded_image_of : List ℕ → Result Image Refusal
 guarded_image_of bytes = in_triples (image_of bytes)
 
+-- the flips of a text, or the line that tells its first fault
 abbrev pub flips_or_refusal : Result (List Flip) FlipsFault → Result (List Flip) Refusal
 flips_or_refusal (Ok flips) = Ok flips
 flips_or_refusal (Err fault) = Err (flips_refusal fault)

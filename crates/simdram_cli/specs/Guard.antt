@@ -47,23 +47,28 @@ pub record GuardJob : Type 0 where
   pub image : Image
   pub flips : List Flip
 
+-- the job of these files
 abbrev pub guard_job : Program → List Instruction → Image → List Flip → GuardJob
 guard_job program script i flips =
     record { program = program; script = script; image = i; flips = flips }
 
 -- What the flips do not change: the replies, the table and how many AAP the votes take
 
+-- the replies to the job's script, which the flips do not change
 abbrev pub replies_of : GuardJob → List Reply
 replies_of job = guarded_replies job.image.geometry (routines_in job.program) job.image.table
     job.script
 
+-- how many instructions are refused
 abbrev pub refused_of : GuardJob → ℕ
 refused_of job = count_by is_refused (replies_of job)
 
+-- the table of objects at the end
 abbrev pub table_at_last : GuardJob → List Named
 table_at_last job = guarded_table_at_end job.image.geometry (routines_in job.program)
     job.image.table job.script
 
+-- how many AAP all votes take
 abbrev pub votes_of : GuardJob → ℕ
 votes_of job = votes_at_end job.image.geometry (routines_in job.program) job.image.table
     job.script
@@ -71,14 +76,17 @@ votes_of job = votes_at_end job.image.geometry (routines_in job.program) job.ima
 -- The banks after the flips, the votes and the instructions; what is said with the values that the
 -- banks hold when they are printed; and the events, after the writes of the image's rows
 
+-- the banks at the end, after the flips, the votes and the instructions
 abbrev pub banks_at_last : GuardJob → Banks
 banks_at_last job = guarded_rows_at_end job.image.geometry (routines_in job.program) job.flips 1
     job.image.table (opened job.image) job.script
 
+-- what the report says, with the values that the banks hold when they are printed
 abbrev pub said_of : GuardJob → List Said
 said_of job = guarded_said_in_rows job.image.geometry (routines_in job.program) job.flips 1
     job.image.table (opened job.image) job.script
 
+-- all events on the chip, the writes of the image's rows first
 abbrev pub events_of : GuardJob → List Event
 events_of job = row_writes job.image
     ++ run_events job.image.geometry (routines_in job.program) job.flips 1 Ahead job.image.table
@@ -151,7 +159,7 @@ abbrev pub guard_plan : GuardNames → Plan
 guard_plan names =
     compiled_plan names.ops.now names.prog.now (λ program. guard_job_plan names program)
 
--- the files of a plain run, and the job of one on the same instructions and image by a text
+-- the files of a plain run
 abbrev pub run_names : GuardNames → RunNames
 run_names names = record {
   ops = names.ops;
@@ -161,6 +169,7 @@ run_names names = record {
   out = names.out;
 }
 
+-- the job of a plain run on the same instructions and image, by a text
 abbrev pub job_by : List TextOp → GuardJob → RunJob
 job_by t job =
     record { text = t; script = job.script; image = job.image; program = job.program }
@@ -181,19 +190,21 @@ pub record GuardedRows (out : List ℕ) (job : GuardJob) (after : Files) (old ne
       new.chip.counters (replies_of job)) old.sink.sent new.sink.sent
   pub answers : status ≡ done_status (refused_of job)
 
--- the guarded word machine by the ops of a text, without flips and votes: its state after the
--- script, what it says, and its replies
+-- the operations of a text, done by the job's program
 abbrev pub operations_by : List TextOp → GuardJob → Routines
 operations_by t job = routines_of t job.program
 
+-- the guarded word machine's state after the script, without flips and votes
 abbrev pub state_by : List TextOp → GuardJob → List Held
 state_by t job = guarded_words_at_end job.image.geometry (operations_by t job) (meaning_in t)
     (words_of job.image) job.script
 
+-- what the guarded word machine says of the script
 abbrev pub said_by : List TextOp → GuardJob → List Said
 said_by t job = guarded_said_in_words job.image.geometry (operations_by t job) (meaning_in t)
     (words_of job.image) job.script
 
+-- its replies to the script
 abbrev pub replies_by : List TextOp → GuardJob → List Reply
 replies_by t job = guarded_replies job.image.geometry (operations_by t job) job.image.table
     job.script

@@ -59,9 +59,11 @@ pub record IsRunJob (names : RunNames) (before : Files) (job : RunJob) : Type 0 
   pub script : read_as script_in (before names.script.now) ≡ Some job.script
   pub image : read_as image_of (before names.image.now) ≡ Some job.image
 
+-- the operations that a bbop of the job can name: those of OPS, done by the program
 abbrev pub operations : RunJob → Routines
 operations job = routines_of job.text job.program
 
+-- the replies to the job's script, in order
 abbrev pub replies_of : RunJob → List Reply
 replies_of job = replies job.image.geometry (operations job) job.image.table job.script
 
@@ -120,6 +122,7 @@ report_of job chip =
 abbrev pub ReportSent : RunJob → ChipView → Option (List ℕ) → Option (List ℕ) → Type 0
 ReportSent job chip old new = Known (λ before after. after ≡ before ++ report_of job chip) old new
 
+-- the reply is no refusal for a walk that is stuck
 abbrev pub IsNoBadWalk : Reply → Type 0
 IsNoBadWalk reply = (walk : _) → reply ≢ Refused (why.BadWalk walk)
 

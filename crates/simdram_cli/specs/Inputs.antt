@@ -35,6 +35,7 @@ ops_refusal fault = record {
       ++ (codes " " ++ kind_word fault.kind ++ codes "\n");
 }
 
+-- a text of operations goes on, unless it has a fault
 abbrev pub unless_fault : Option OpsFault → Result (Unit {0}) Refusal
 unless_fault None = Ok tt
 unless_fault (Some fault) = Err (ops_refusal fault)
@@ -58,6 +59,7 @@ script_refusal fault = record {
       ++ (codes " " ++ script_word fault.kind ++ codes "\n");
 }
 
+-- the instructions of a script, or the line that tells its first fault
 abbrev pub script_or_refusal : Result (List Instruction) ScriptFault
     → Result (List Instruction) Refusal
 script_or_refusal (Ok script) = Ok script
@@ -85,6 +87,7 @@ image_refusal fault = record {
       ++ (codes " " ++ image_word fault.kind ++ codes "\n");
 }
 
+-- the image that was read, with its rows as bits
 abbrev pub image_found : Found → Image
 image_found found = record {
   geometry = found.geometry;
@@ -92,6 +95,7 @@ image_found found = record {
   rows = rows_in found.geometry found.rows;
 }
 
+-- the image of a file, or the line that tells its first fault
 abbrev pub image_or_refusal : Result Found ImageFault → Result Image Refusal
 image_or_refusal (Ok found) = Ok (image_found found)
 image_or_refusal (Err fault) = Err (image_refusal fault)

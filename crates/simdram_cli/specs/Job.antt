@@ -18,10 +18,11 @@ use Rattle.machine_model.specs.Report.{Said, said_by, said_in_rows, line, total_
 use Rattle.cli_model.specs.Steps.{Step, Store, Open, Use, Put, Print}
 use Rattle.sim_machine.specs.Machine.{is_print}
 
--- what is said of a script by a program, and its replies
+-- what is said of a script by a program
 abbrev pub said_in : Program → List Instruction → Image → List Said
 said_in program script i = said_in_rows i.geometry (routines_in program) i.table (opened i) script
 
+-- the replies to a script on an image by a program
 abbrev pub replies_by : Program → List Instruction → Image → List Reply
 replies_by program script i = replies i.geometry (routines_in program) i.table script
 
@@ -40,6 +41,7 @@ tally_by program script i =
       reads = all + sum_done rows_printed i.geometry (routines_in program) i.table script;
     }
 
+-- how many instructions are refused, as the line of the totals tells it
 abbrev pub refused_by : Program → List Instruction → Image → ℕ
 refused_by program script i = count_by is_refused (replies_by program script i)
 

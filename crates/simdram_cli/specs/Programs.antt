@@ -26,6 +26,7 @@ prog_refusal fault = record {
       ++ (codes " " ++ prog_word fault.kind ++ codes "\n");
 }
 
+-- the program of a file, or the line that tells its first fault
 abbrev pub program_or_refusal : Result (ℕ × Program) ProgFault → Result Program Refusal
 program_or_refusal (Ok found) = Ok found.1
 program_or_refusal (Err fault) = Err (prog_refusal fault)

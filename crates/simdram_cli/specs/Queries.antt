@@ -26,6 +26,7 @@ query_refusal fault = record {
       ++ (codes " " ++ query_word fault.kind ++ codes "\n");
 }
 
+-- a query text goes on, unless it breaks a rule
 abbrev pub unless_broken : Option QueryFault → Result (Unit {0}) Refusal
 unless_broken None = Ok tt
 unless_broken (Some fault) = Err (query_refusal fault)

@@ -20,17 +20,19 @@ use Rattle.simdram_cli.specs.Headline.{read_as}
 use Rattle.simdram_cli.specs.Inputs.{image_of}
 use Rattle.simdram_cli.specs.Traces.{image_for, trace_in}
 
--- the kinds of events
+-- the event is a command that copies a row
 abbrev pub is_aap : Event → Bool
 is_aap (Row bank (Aap x y)) = true
 is_aap (Row bank (Ap x)) = false
 is_aap (Write bank row bits) = false
 
+-- the event is a command that activates a triple alone
 abbrev pub is_ap : Event → Bool
 is_ap (Row bank (Aap x y)) = false
 is_ap (Row bank (Ap x)) = true
 is_ap (Write bank row bits) = false
 
+-- the event is a row that the host writes
 abbrev pub is_write : Event → Bool
 is_write (Row bank command) = false
 is_write (Write bank row bits) = true

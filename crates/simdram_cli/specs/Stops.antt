@@ -20,6 +20,7 @@ use Rattle.simdram_cli.specs.declared.stop.Stop.TheVariants as stop
 abbrev pub trace_full : Refusal
 trace_full = record { status = 12; line = codes "trace full\n" }
 
+-- the reason of a stop, as commands tell it
 abbrev pub reason_of : Stop → Reason
 reason_of (stop.CannotRead name) = CannotRead name.now
 reason_of (stop.TooLong name) = TooLong name.now

@@ -30,6 +30,7 @@ trace_refusal fault = record {
       ++ (codes " " ++ trace_word fault.kind ++ codes "\n");
 }
 
+-- the trace of a file, or the line that tells its first fault
 abbrev pub trace_or_refusal : Result Trace TraceFault → Result Trace Refusal
 trace_or_refusal (Ok t) = Ok t
 trace_or_refusal (Err fault) = Err (trace_refusal fault)
@@ -38,6 +39,7 @@ trace_or_refusal (Err fault) = Err (trace_refusal fault)
 abbrev pub trace_in : List ℕ → Result Trace Refusal
 trace_in bytes = trace_or_refusal (trace_read bytes)
 
+-- both chips have one shape
 abbrev pub same_geometry : Geometry → Geometry → Bool
 same_geometry g h = g.banks == h.banks && (g.rows == h.rows && g.words == h.words)
 
@@ -45,6 +47,7 @@ same_geometry g h = g.banks == h.banks && (g.rows == h.rows && g.words == h.word
 abbrev pub geometry_differs : Refusal
 geometry_differs = record { status = 14; line = codes "geometry differs\n" }
 
+-- an image that is accepted goes on only where it has the trace's shape
 abbrev pub if_same : Geometry → Result Image Refusal → Result Image Refusal
 if_same g (Ok i) = if same_geometry i.geometry g then Ok i else Err geometry_differs
 if_same g (Err refusal) = Err refusal

@@ -59,6 +59,7 @@ store_steps true trace program script i =
     Store trace (bytes_of_trace (script_trace program i script)) ∷ []
 store_steps false trace program script i = []
 
+-- the line of the totals is sent, where all events fit
 abbrev pub total_steps : Bool → Program → List Instruction → Image → List Step
 total_steps true program script i =
     Put (total_line (tally_by program script i) (refused_by program script i)) ∷ []
@@ -86,6 +87,7 @@ unless_fits false = Some trace_full
 abbrev pub unlogged : ChipView → ChipView
 unlogged chip = record chip { log = None }
 
+-- all that the outside shows, but for the chip's log
 abbrev pub unlogged_world : World → World
 unlogged_world w = record w { chip = unlogged w.chip }
 
@@ -146,20 +148,23 @@ pub record Traced (names : TraceNames) (before after : Files) (old new : World) 
 
 -- what its parts come to, for its proof
 
--- a script on a machine: its steps, its events, the image after it, and how many rows are read
+-- the steps of a script on a machine
 abbrev pub steps_on : Machine → Banks → List Instruction → List Step
 steps_on m banks script =
     pieces_steps (geometry_of m) (operations_by m) (table_in m) banks 1 (pieces script)
 
+-- the events of a script on a machine
 abbrev pub events_on : Machine → List Instruction → List Event
 events_on m script =
     events_of_pieces (geometry_of m) (operations_by m) (turn_in m) (table_in m) (pieces script)
 
+-- the image after a script on a machine
 abbrev pub image_on : Machine → Banks → List Instruction → List ℕ
 image_on m banks script =
     image_bytes (geometry_of m) (table_at_end (geometry_of m) (operations_by m) (table_in m) script)
     (rows_of (after (events_on m script) banks))
 
+-- how many rows are read: those of the prints, and all for the image
 abbrev pub reads_on : Machine → List Instruction → ℕ
 reads_on m script =
     sum_done rows_printed (geometry_of m) (operations_by m) (table_in m) script

@@ -74,6 +74,7 @@ abbrev pub is_number : List ℕ → Bool
 is_number [] = false
 is_number (digit ∷ digits) = list_all is_ascii_digit (digit ∷ digits)
 
+-- the number that such a word writes, however large
 abbrev pub value_of : List ℕ → ℕ
 value_of word = digits_value 10 word
 
