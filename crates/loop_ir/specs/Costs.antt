@@ -34,12 +34,14 @@ same_lit x y = (x.node == y.node) && beq x.inverted y.inverted
 abbrev pub same_node : Node → Node → Bool
 same_node m n = same_lit m.a n.a && (same_lit m.b n.b && same_lit m.c n.c)
 
+-- both lists have the same literals, place by place
 abbrev pub same_lits : List Lit → List Lit → Bool
 same_lits [] [] = true
 same_lits [] (y ∷ ys) = false
 same_lits (x ∷ xs) [] = false
 same_lits (x ∷ xs) (y ∷ ys) = same_lit x y && same_lits xs ys
 
+-- both lists have the same nodes, place by place
 abbrev pub same_nodes : List Node → List Node → Bool
 same_nodes [] [] = true
 same_nodes [] (n ∷ ns) = false
@@ -51,27 +53,33 @@ abbrev pub is_body : ℕ → List Node → List Lit → Block → Bool
 is_body inputs nodes outs b = (b.graph.inputs == inputs) && (same_nodes b.graph.nodes nodes
     && same_lits b.outs outs)
 
+-- a node as it is
 abbrev pub plain : ℕ → Lit
 plain k = record { node = k; inverted = false }
 
+-- a node's complement
 abbrev pub complemented : ℕ → Lit
 complemented k = record { node = k; inverted = true }
 
--- the complement, the and, the or and the parity of two inputs, and the sum of three with its carry
+-- the body is the complement of its input
 abbrev pub is_not : Block → Bool
 is_not b = is_body 1 [] (complemented 1 ∷ []) b
 
+-- the body is the and of its two inputs
 abbrev pub is_and : Block → Bool
 is_and b = is_body 2 (node_of (plain 0) (plain 1) (plain 2) ∷ []) (plain 3 ∷ []) b
 
+-- the body is the or of its two inputs
 abbrev pub is_or : Block → Bool
 is_or b = is_body 2 (node_of (complemented 0) (plain 1) (plain 2) ∷ []) (plain 3 ∷ []) b
 
+-- the body is the parity of its two inputs
 abbrev pub is_xor : Block → Bool
 is_xor b = is_body 2
     (node_of (plain 0) (complemented 1) (plain 2) ∷ node_of (plain 0) (plain 1) (complemented 2)
     ∷ node_of (complemented 0) (plain 3) (plain 4) ∷ []) (plain 5 ∷ []) b
 
+-- the body is the sum of its three inputs, with its carry
 abbrev pub is_add : Block → Bool
 is_add b = is_body 3
     (node_of (plain 1) (plain 2) (plain 3) ∷ node_of (plain 1) (plain 2) (complemented 3)
@@ -86,12 +94,15 @@ turn_cost b = if is_copy b then 1 else (if is_not b then 2 else (if is_and b the
 abbrev pub plain_cost : Block → ℕ
 plain_cost b = if is_copy b then 1 else body_cost b
 
+-- what all rounds may take where no body has a sequence of its own
 abbrev pub plain_costs : List (RoundOf Block) → ℕ
 plain_costs rs = sum_by (λ r. plain_cost r.part) rs
 
+-- what all rounds may take
 abbrev pub rounds_cost : List (RoundOf Block) → ℕ
 rounds_cost rs = sum_by (λ r. turn_cost r.part) rs
 
+-- a number for each subscript, by which they are compared
 abbrev pub sub_code : Sub → ℕ
 sub_code Zero = 0
 sub_code Top = 1
@@ -104,6 +115,7 @@ sub_code DownSum = 7
 sub_code DownPlusN = 8
 sub_code NPlusInner = 9
 
+-- both are one subscript
 abbrev pub same_sub : Sub → Sub → Bool
 same_sub s t = sub_code s == sub_code t
 
@@ -124,23 +136,27 @@ used_subs b = filter (is_used b) (Top ∷ At_inner ∷ InnerDown ∷ Outer ∷ O
 abbrev pub single_cost : Block → ℕ
 single_cost b = body_cost b + (if is_fixed b then 0 else 15)
 
+-- how many instructions a part of a nest may take
 abbrev pub inner_cost : InnerOf Block → ℕ
 inner_cost (Alone b) = body_cost b + 15
 inner_cost (Across count b) = body_cost b + 15
 
+-- how many instructions a step may take
 abbrev pub step_cost : StepOf Block → ℕ
 step_cost (Single b) = single_cost b
 step_cost (Along b) = body_cost b + 15
 step_cost (Nest parts) = sum_by inner_cost parts
 
+-- how many instructions a loop program may take, its end aside
 abbrev pub code_cost : List (StepOf Block) → ℕ
 code_cost steps = sum_by step_cost steps
 
--- the number of bodies
+-- the number of bodies of a step
 abbrev pub step_bodies : StepOf Block → ℕ
 step_bodies (Single b) = 1
 step_bodies (Along b) = 1
 step_bodies (Nest parts) = length parts
 
+-- the number of bodies of a loop program
 abbrev pub bodies : List (StepOf Block) → ℕ
 bodies steps = sum_by step_bodies steps

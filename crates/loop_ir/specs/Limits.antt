@@ -37,13 +37,16 @@ may_stand inner outer DownSum = inner && outer
 may_stand inner outer DownPlusN = outer
 may_stand inner outer NPlusInner = inner
 
+-- every place of the body has such a subscript
 abbrev pub all_stand : Bool → Bool → Block → Bool
 all_stand inner outer b = list_all (λ p. may_stand inner outer p.sub) (b.reads ++ b.writes)
 
+-- so it is in a part of a nest
 abbrev pub inner_stands : InnerOf Block → Bool
 inner_stands (Alone b) = all_stand false true b
 inner_stands (Across count b) = all_stand true true b
 
+-- so it is in a step, whose loops have the indices that its subscripts use
 abbrev pub step_stands : StepOf Block → Bool
 step_stands (Single b) = all_stand false false b
 step_stands (Along b) = all_stand true false b

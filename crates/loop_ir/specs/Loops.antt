@@ -21,9 +21,11 @@ pub record RoundOf (A : Type 0) : Type 0 where
   pub i : ℕ
   pub o : ℕ
 
+-- a body at these positions
 abbrev pub round_at : {A : Type 0} → A → ℕ → ℕ → RoundOf A
 round_at b i o = record { part = b; i = i; o = o }
 
+-- a body that is done once
 abbrev pub one_round : {A : Type 0} → A → ℕ → ℕ → List (RoundOf A)
 one_round b i o = round_at b i o ∷ []
 
@@ -32,12 +34,14 @@ abbrev pub positions : ℕ → ℕ → Count → ℕ
 positions n o All = n
 positions n o Rest = n - o
 
+-- the rounds of a nest's parts at one outer position
 abbrev pub inner_rounds : {A : Type 0} → ℕ → ℕ → List (InnerOf A) → List (RoundOf A)
 inner_rounds n o [] = []
 inner_rounds n o (Alone b ∷ more) = one_round b 0 o ++ inner_rounds n o more
 inner_rounds n o (Across count b ∷ more) = rounds (λ i. one_round b i o) 0 (positions n o count)
     ++ inner_rounds n o more
 
+-- the rounds of a step at width n
 abbrev pub step_rounds : {A : Type 0} → ℕ → StepOf A → List (RoundOf A)
 step_rounds n (Single b) = one_round b 0 0
 step_rounds n (Along b) = rounds (λ i. one_round b i 0) 0 n
@@ -48,6 +52,7 @@ abbrev pub all_rounds : {A : Type 0} → ℕ → List (StepOf A) → List (Round
 all_rounds n [] = []
 all_rounds n (s ∷ ss) = step_rounds n s ++ all_rounds n ss
 
+-- the row that a subscript means, at width n and these positions
 abbrev pub sub_value : ℕ → ℕ → ℕ → Sub → ℕ
 sub_value n i o Zero = 0
 sub_value n i o Top = n - 1

@@ -35,6 +35,7 @@ abbrev pub HoldsAt : ℕ → Option Slot → NameValue → Spots → Type 0
 HoldsAt n None held bits = ⊥
 HoldsAt n (Some x) held bits = (held.kind ≡ x.kind) × (held.bits ≡ slot_bits n bits x)
 
+-- the rows at the name's place have its bits
 abbrev pub Holds : ℕ → Slots → (List ℕ → NameValue) → Spots → List ℕ → Type 0
 Holds n slots held bits name = HoldsAt n (slots name) (held name) bits
 
@@ -86,7 +87,7 @@ abbrev pub ceiling_of : Slots → Statement → ℕ → ℕ
 ceiling_of slots (Compute target second p args) n = op_ceiling p (args_width slots n args)
 ceiling_of slots (Visit block) n = block_ceiling block n
 
--- and where no body has a sequence of its own
+-- the same of a word operation, where no body has a sequence of its own
 abbrev pub op_plain_ceiling : WordOp → ℕ → ℕ
 op_plain_ceiling o.Not n = 3 * n
 op_plain_ceiling o.And n = 7 * n
@@ -95,6 +96,7 @@ op_plain_ceiling o.Xor n = 15 * n
 op_plain_ceiling o.Add n = 18 * n + 1
 op_plain_ceiling p n = op_ceiling p n
 
+-- the same of a statement, where no body has a sequence of its own
 abbrev pub plain_ceiling : Slots → Statement → ℕ → ℕ
 plain_ceiling slots (Compute target second p args) n = op_plain_ceiling p (args_width slots n args)
 plain_ceiling slots (Visit block) n = block_ceiling block n

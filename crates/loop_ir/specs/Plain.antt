@@ -29,6 +29,7 @@ pub data StepOf (A : Type 0) : Type 0 where
   Along : A → StepOf A
   Nest : List (InnerOf A) → StepOf A
 
+-- the body that the code built, without where it lies in memory
 abbrev pub block_of : Body → Block
 block_of b = record {
   reads = b.reads.items;
@@ -37,39 +38,45 @@ block_of b = record {
   writes = b.writes.items;
 }
 
+-- a part of a nest that the code built
 abbrev pub inner_of : Inner → InnerOf Block
 inner_of (code_inner.Once b) = Alone (block_of b)
 inner_of (code_inner.Each count b) = Across count (block_of b)
 
+-- a step that the code built
 abbrev pub step_of : Step → StepOf Block
 step_of (code_step.Once b) = Single (block_of b)
 step_of (code_step.Each b) = Along (block_of b)
 step_of (code_step.Nest parts) = Nest (map inner_of parts.items)
 
+-- the steps of a loop program that the code built
 abbrev pub steps_of : LoopProgram → List (StepOf Block)
 steps_of p = map step_of p.steps.items
 
--- the same loops over other things
+-- the same loop over another thing
 abbrev pub inner_map : {A B : Type 0} → (A → B) → InnerOf A → InnerOf B
 inner_map f (Alone a) = Alone (f a)
 inner_map f (Across count a) = Across count (f a)
 
+-- the same loops over other things, made of each body
 abbrev pub step_map : {A B : Type 0} → (A → B) → StepOf A → StepOf B
 step_map f (Single a) = Single (f a)
 step_map f (Along a) = Along (f a)
 step_map f (Nest parts) = Nest (map (inner_map f) parts)
 
--- what holds of every body
+-- what holds of every body of a nest
 abbrev pub AllInner : {A : Type 0} → (A → Type 0) → List (InnerOf A) → Type 0
 AllInner P [] = Unit {0}
 AllInner P (Alone a ∷ xs) = P a × AllInner P xs
 AllInner P (Across count a ∷ xs) = P a × AllInner P xs
 
+-- what holds of every body of a step
 abbrev pub AllStep : {A : Type 0} → (A → Type 0) → StepOf A → Type 0
 AllStep P (Single a) = P a
 AllStep P (Along a) = P a
 AllStep P (Nest parts) = AllInner P parts
 
+-- what holds of every body of a loop program
 abbrev pub AllParts : {A : Type 0} → (A → Type 0) → List (StepOf A) → Type 0
 AllParts P [] = Unit {0}
 AllParts P (s ∷ ss) = AllStep P s × AllParts P ss

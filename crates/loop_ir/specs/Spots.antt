@@ -18,6 +18,7 @@ pub record Spot : Type 0 where
   pub which : ℕ
   pub index : ℕ
 
+-- rows of both lie in one space: the results', the sources', or the scratch's bits or words
 abbrev pub same_space : Space → Space → Bool
 same_space Result Result = true
 same_space Source Source = true
@@ -25,6 +26,7 @@ same_space ScratchBit ScratchBit = true
 same_space ScratchWord ScratchWord = true
 same_space a b = false
 
+-- both are one row
 abbrev pub same_spot : Spot → Spot → Bool
 same_spot p q = same_space p.space q.space && (p.which == q.which && p.index == q.index)
 
@@ -32,6 +34,7 @@ same_spot p q = same_space p.space q.space && (p.which == q.which && p.index == 
 abbrev pub Spots : Type 0
 Spots = Spot → Bool
 
+-- the row has this bit now, and all others are as they were
 abbrev pub set_spot : Spots → Spot → Bool → Spots
 set_spot bits p v q = if same_spot q p then v else bits q
 
@@ -43,6 +46,7 @@ spot_in n Source w v = record { space = Source; which = w; index = v }
 spot_in n ScratchBit w v = record { space = ScratchBit; which = w; index = 0 }
 spot_in n ScratchWord w v = record { space = ScratchWord; which = 0; index = w * n + v }
 
+-- the row of a place at these positions of a loop
 abbrev pub spot_at : ℕ → ℕ → ℕ → Place → Spot
 spot_at n i o p = spot_in n p.space p.which (sub_value n i o p.sub)
 
@@ -52,6 +56,7 @@ nth_place [] k = record { space = Source; which = 0; sub = Zero }
 nth_place (p ∷ ps) zero = p
 nth_place (p ∷ ps) (suc k) = nth_place ps k
 
+-- the row of place k at these positions
 abbrev pub nth_spot : ℕ → ℕ → ℕ → List Place → ℕ → Spot
 nth_spot n i o ps k = spot_at n i o (nth_place ps k)
 
@@ -74,6 +79,7 @@ round_env n r bits = values r.part.graph (λ k. bits (nth_spot n r.i r.o r.part.
 abbrev pub after_round : ℕ → RoundOf Block → Spots → Spots
 after_round n r bits = write_all n r.i r.o (round_env n r bits) r.part.writes r.part.outs bits
 
+-- the bits of the rows after rounds, one after another
 abbrev pub after_rounds : ℕ → List (RoundOf Block) → Spots → Spots
 after_rounds n [] bits = bits
 after_rounds n (r ∷ rs) bits = after_rounds n rs (after_round n r bits)

@@ -25,6 +25,7 @@ use Rattle.loop_ir.specs.Spots.{IsOwn}
 abbrev pub Slots : Type 0
 Slots = List ℕ → Option Slot
 
+-- the places that a map of the code gives names
 abbrev pub slots_of : NameMap → Slots
 slots_of m name = get bytes_eq m.slots name
 
@@ -55,10 +56,12 @@ term_names (Disjunction a b) = term_names a ++ term_names b
 term_names (Parity a b) = term_names a ++ term_names b
 term_names (Majority a b c) = term_names a ++ term_names b ++ term_names c
 
+-- the names that the expressions of lets or assignments read
 abbrev pub equation_names : List Equation → List (List ℕ)
 equation_names [] = []
 equation_names (e ∷ es) = term_names e.value ++ equation_names es
 
+-- the names that lets or assignments give values
 abbrev pub targets_of : List Equation → List (List ℕ)
 targets_of es = map (λ (e : Equation). e.name) es
 

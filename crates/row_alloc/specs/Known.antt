@@ -15,6 +15,7 @@ use Rattle.row_alloc.specs.Symbolic.{IsChecked}
 abbrev pub known : List (List BodyCmd)
 known = map (λ r. r.now) KNOWN
 
+-- the sequence with this number in the table
 abbrev pub known_at : ℕ → List BodyCmd
 known_at k = slice_index_or known k []
 
@@ -29,22 +30,27 @@ pub record IsFirst (g : Graph) (outs : List OutRow) (k : ℕ) : Type 0 where
   pub serves : Serves g outs (known_at k)
   pub before : (i : ℕ) → i < k → Serves g outs (known_at i) → ⊥
 
+-- a node as it is
 abbrev pub plain : ℕ → Lit
 plain k = record { node = k; inverted = false }
 
+-- a node's complement
 abbrev pub complemented : ℕ → Lit
 complemented k = record { node = k; inverted = true }
 
--- the graphs of the complement, of and, or and xor of two inputs, and of the sum of three
+-- the graph of the complement of an input
 abbrev pub not_graph : Graph
 not_graph = record { inputs = 1; nodes = [] }
 
+-- the graph of the and of two inputs
 abbrev pub and_graph : Graph
 and_graph = record { inputs = 2; nodes = node_of (plain 0) (plain 1) (plain 2) ∷ [] }
 
+-- the graph of the or of two inputs
 abbrev pub or_graph : Graph
 or_graph = record { inputs = 2; nodes = node_of (complemented 0) (plain 1) (plain 2) ∷ [] }
 
+-- the graph of the exclusive or of two inputs
 abbrev pub xor_graph : Graph
 xor_graph = record {
   inputs = 2;
@@ -53,6 +59,7 @@ xor_graph = record {
       ∷ node_of (complemented 0) (plain 3) (plain 4) ∷ [];
 }
 
+-- the graph of the sum of three inputs and its carry
 abbrev pub add_graph : Graph
 add_graph = record {
   inputs = 3;
@@ -80,6 +87,7 @@ pub data WordBody : Type 0 where
   Counted : WordBody
   Divided : WordBody
 
+-- how many inputs the graph of a body has
 abbrev pub inputs_in : WordBody → ℕ
 inputs_in Inverted = 1
 inputs_in Shifted = 2
@@ -97,6 +105,7 @@ inputs_in Multiplied = 4
 inputs_in Counted = 2
 inputs_in Divided = 4
 
+-- the nodes of a body's graph
 abbrev pub nodes_in : WordBody → List Node
 nodes_in Inverted = []
 nodes_in Shifted = []
@@ -130,6 +139,7 @@ nodes_in Divided = node_of (plain 0) (plain 2) (plain 3)
     ∷ node_of (plain 1) (plain 4) (complemented 5) ∷ node_of (complemented 4) (plain 6) (plain 7)
     ∷ []
 
+-- the graph of a body
 abbrev pub graph_in : WordBody → Graph
 graph_in b = record { inputs = inputs_in b; nodes = nodes_in b }
 

@@ -39,6 +39,7 @@ pub record Part : Type 0 where
   pub outs : List OutRow
   pub cmds : List BodyCmd
 
+-- the space of an entry's rows that a place's space is
 abbrev pub row_space : Space → RowSpace
 row_space Result = row.Result
 row_space Source = row.Source
@@ -61,6 +62,7 @@ round_ref n r (ref.In k) = place_row n r.i r.o (nth_place r.part.block.reads k)
 round_ref n r (ref.Out k) = place_row n r.i r.o (nth_place r.part.block.writes k)
 round_ref n r (ref.Spill k) = record { space = row.Spill; which = k; index = 0 }
 
+-- a body's command in a round, as a command of the trace
 abbrev pub round_command : ℕ → RoundOf Part → BodyCmd → Issue
 round_command n r (cmd.Aap x y) = IssueAap (round_ref n r x) (round_ref n r y)
 round_command n r (cmd.Ap x) = IssueAp (round_ref n r x)
@@ -75,6 +77,7 @@ rounds_commands n (r ∷ rs) = map (round_command n r) r.part.cmds ++ rounds_com
 abbrev pub loop_subs : List Sub
 loop_subs = Top ∷ At_inner ∷ InnerDown ∷ Sum ∷ DownSum ∷ DownPlusN ∷ NPlusInner ∷ []
 
+-- the subscripts of a body that need a register of its own; a plan has room for three
 abbrev pub own_subs : Block → List Sub
 own_subs b = filter (is_used b) loop_subs
 
@@ -82,6 +85,7 @@ own_subs b = filter (is_used b) loop_subs
 abbrev pub sub_in : List Sub → ℕ → Sub
 sub_in subs k = slice_index_or subs k Zero
 
+-- which registers hold a body's subscripts
 abbrev pub plan_of : Block → Plan
 plan_of b = record {
   first = sub_in (own_subs b) 0;
@@ -118,6 +122,7 @@ index_in Source r = r
 index_in ScratchBit r = 0
 index_in ScratchWord r = r
 
+-- a place's row in the code, whose index is a register
 abbrev pub place_ref : Plan → Place → RowRef
 place_ref plan p = record {
   space = row_space p.space;
@@ -133,6 +138,7 @@ code_ref plan b (ref.In k) = place_ref plan (nth_place b.reads k)
 code_ref plan b (ref.Out k) = place_ref plan (nth_place b.writes k)
 code_ref plan b (ref.Spill k) = record { space = row.Spill; which = k; index = 0 }
 
+-- a body's command as an instruction
 abbrev pub code_uop : Plan → Block → BodyCmd → Uop
 code_uop plan b (cmd.Aap x y) = Aap (code_ref plan b x) (code_ref plan b y)
 code_uop plan b (cmd.Ap x) = Ap (code_ref plan b x)
@@ -176,28 +182,36 @@ after Outer r = []
 after OuterDown r = []
 after DownPlusN r = []
 
+-- register 2 gets the number of turns: n, or what is left of it at an outer position
 abbrev pub counter : Count → List Uop
 counter All = SetN 2 ∷ []
 counter Rest = Mov 2 1 ∷ AddI 2 1 ∷ []
 
+-- the body's registers before its first turn
 abbrev pub inits : Plan → List Uop
 inits plan = init plan.first 3 ++ (init plan.second 4 ++ init plan.third 5)
 
+-- the body's registers before each turn
 abbrev pub befores : Plan → List Uop
 befores plan = before plan.first 3 ++ (before plan.second 4 ++ before plan.third 5)
 
+-- the body's registers after each turn
 abbrev pub afters : Plan → List Uop
 afters plan = after plan.first 3 ++ (after plan.second 4 ++ after plan.third 5)
 
+-- the instructions of a body's commands
 abbrev pub body_uops : Part → List Uop
 body_uops p = map (code_uop p.plan p.block) p.cmds
 
+-- the code of a body that is done once
 abbrev pub once_code : Part → List Uop
 once_code p = inits p.plan ++ (befores p.plan ++ body_uops p)
 
+-- one turn of a loop, with its counter
 abbrev pub turn_code : Plan → List Uop → List Uop
 turn_code plan body = befores plan ++ (body ++ (afters plan ++ (SubI 2 1 ∷ [])))
 
+-- what stands before the first turn
 abbrev pub enter_code : Plan → Count → List Uop
 enter_code plan count = counter count ++ inits plan
 
@@ -206,10 +220,12 @@ abbrev pub loop_code : Count → Part → ℕ → List Uop
 loop_code count p pc = enter_code p.plan count
     ++ (turn_code p.plan (body_uops p) ++ (Bnez 2 (pc + length (enter_code p.plan count)) ∷ []))
 
+-- a part of a nest, whose first instruction has this place
 abbrev pub inner_code : InnerOf Part → ℕ → List Uop
 inner_code (Alone p) pc = once_code p
 inner_code (Across count p) pc = loop_code count p pc
 
+-- the parts of a nest, one after another
 abbrev pub inner_list : List (InnerOf Part) → ℕ → List Uop
 inner_list [] pc = []
 inner_list (x ∷ xs) pc = inner_code x pc ++ inner_list xs (pc + length (inner_code x pc))
@@ -223,6 +239,7 @@ nest_code inner pc = SetI 0 0 ∷ SetN 1 ∷ SubI 1 1
 abbrev pub outside : List Uop
 outside = SetI 0 0 ∷ SetT 1 ∷ []
 
+-- the code of a step, whose first instruction has this place
 abbrev pub step_code : StepOf Part → ℕ → List Uop
 step_code (Single p) pc = if is_fixed p.block then body_uops p else outside ++ once_code p
 step_code (Along p) pc = outside ++ loop_code All p (pc + 1 + 1)
@@ -238,5 +255,6 @@ program_code (s ∷ ss) pc = step_code s pc ++ program_code ss (pc + length (ste
 abbrev pub block_of_part : Part → Block
 block_of_part p = p.block
 
+-- the loop program without the commands of its bodies
 abbrev pub blocks : List (StepOf Part) → List (StepOf Block)
 blocks ss = map (step_map block_of_part) ss

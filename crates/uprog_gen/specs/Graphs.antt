@@ -25,6 +25,7 @@ pub record Graphed : Type 0 where
   pub graph : Graph
   pub outs : List Lit
 
+-- a graph that the code built, with its outputs
 abbrev pub graphed_of : MigOuts → Graphed
 graphed_of g = record { graph = g.mig; outs = g.outs.items }
 
@@ -95,6 +96,7 @@ step_graph (Single b) = []
 step_graph (Along b) = let g : Graphed = record { graph = b.graph; outs = b.outs } in g ∷ []
 step_graph (Nest parts) = []
 
+-- the graph of a loop program's last step: of a block, the one that is done at each position
 abbrev pub last_graph : List (StepOf Body) → List Graphed
 last_graph [] = []
 last_graph (s ∷ []) = step_graph s
@@ -105,6 +107,7 @@ abbrev pub statement_graph : Statement → List (StepOf Body) → List Graphed
 statement_graph (Compute target second p args) q = []
 statement_graph (Visit b) q = last_graph q
 
+-- the graphs of all blocks of a body
 abbrev pub graphs_in : List Statement → List (List (StepOf Body)) → List Graphed
 graphs_in [] ps = []
 graphs_in (s ∷ body) [] = []

@@ -34,6 +34,7 @@ pub record LaysSources (k : ℕ) (ps : List Param) (old new : NameMap) : Type 0 
   pub bits : new.free_bit ≡ old.free_bit
   pub words : new.free_word ≡ old.free_word
 
+-- the kind of the value at a place, where there is one
 abbrev pub kind_in : Option Slot → Option Kind
 kind_in None = None
 kind_in (Some x) = Some x.kind
@@ -46,6 +47,7 @@ Knows known m = (name : List ℕ) → kind_in (slots_of m name) ≡ kind_among k
 abbrev pub states_defined : List State → List Param
 states_defined states = map (λ (s : State). param s.name Bit) states
 
+-- the new words of a block: its targets that are no states
 abbrev pub words_defined : List State → List Assign → List Param
 words_defined states assigns = map (λ n. param n Word)
     (filter (λ n. not (is_among (map (λ (s : State). s.name) states) n))

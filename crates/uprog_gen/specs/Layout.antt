@@ -19,6 +19,7 @@ pub record Lay : Type 0 where
   pub name : List ℕ
   pub slot : Slot
 
+-- the place of a value of this kind, by its space and its number there
 abbrev pub slot : Space → ℕ → Kind → Slot
 slot s w k = record { space = s; which = w; kind = k }
 
@@ -37,6 +38,7 @@ place_in (r ∷ rs) name = if bytes_eq r name then 0 else suc (place_in rs name)
 abbrev pub is_scratch : List (List ℕ) → Kind → Param → Bool
 is_scratch results k p = same_kind p.kind k && not (is_among results p.name)
 
+-- the next place in scratch of a kind, where so many bits and words have names
 abbrev pub scratch_slot : ℕ → ℕ → Kind → Slot
 scratch_slot b w Bit = slot ScratchBit b Bit
 scratch_slot b w Word = slot ScratchWord w Word
@@ -60,6 +62,7 @@ abbrev pub lays : Operation → List Lay
 lays op = source_lays 0 op.params ++ defined_lays (result_names op) 0 0
     (body_defines op.params op.body)
 
+-- the place of a name among these
 abbrev pub found : List Lay → List ℕ → Option Slot
 found [] name = None
 found (l ∷ ls) name = if bytes_eq l.name name then Some l.slot else found ls name

@@ -9,6 +9,7 @@ use Rattle.loop_ir.specs.Plain.{Block}
 use Rattle.uprog_gen.specs.declared.part.Made.{Made}
 use Rattle.uprog_gen.specs.Code.{Part}
 
+-- a body with the commands that the code made for it
 abbrev pub part_of : Block → Made → Part
 part_of b made = record {
   block = b;
@@ -21,6 +22,7 @@ part_of b made = record {
 abbrev pub is_ref_of : Block → BodyRef → Bool
 is_ref_of b x = is_ref (length b.reads) (length b.writes) x
 
+-- the rows of a command are the body's
 abbrev pub are_refs_of : Block → BodyCmd → Bool
 are_refs_of b (Aap x y) = is_ref_of b x && is_ref_of b y
 are_refs_of b (Ap x) = is_ref_of b x

@@ -41,6 +41,7 @@ pub record IsAsWritten (slots : Slots) (free_bit free_word : ℕ) (s : Statement
   pub nested : is_nested_statement s ≡ true → IsNestWritten slots free_bit free_word s p
   pub linear : is_nested_statement s ≡ false → IsWritten slots free_bit s p
 
+-- so it is of each statement
 abbrev pub AreWritten : Slots → ℕ → ℕ → List Statement → List (List (StepOf Block)) → Type 0
 AreWritten slots free_bit free_word [] [] = Unit {0}
 AreWritten slots free_bit free_word [] (p ∷ ps) = ⊥
@@ -54,6 +55,7 @@ ceilings known [] = []
 ceilings known (s ∷ body) = (λ n. statement_ceiling op_ceiling known n s)
     ∷ ceilings (known ++ defines known s) body
 
+-- parts of code, one after another
 abbrev pub together : List (List Uop) → List Uop
 together [] = []
 together (p ∷ ps) = p ++ together ps

@@ -14,17 +14,21 @@ use Rattle.loop_ir.specs.Loops.{RoundOf}
 use Rattle.loop_ir.specs.Spots.{nth_place}
 use Rattle.loop_ir.specs.Costs.{is_body, is_copy}
 
+-- the command copies a row, and counts as an AAP
 abbrev pub is_aap : BodyCmd → Bool
 is_aap (Aap x y) = true
 is_aap (Ap x) = false
 
+-- the command activates a triple alone, and counts as an AP
 abbrev pub is_ap : BodyCmd → Bool
 is_ap (Aap x y) = false
 is_ap (Ap x) = true
 
+-- the body is this one of the word operations, node for node
 abbrev pub is_word_body : WordBody → Block → Bool
 is_word_body w b = is_body (inputs_in w) (nodes_in w) (outs_in w) b
 
+-- the first of these that the body is
 abbrev pub word_among : List WordBody → Block → Option WordBody
 word_among [] b = None
 word_among (w ∷ ws) b = if is_word_body w b then Some w else word_among ws b
@@ -34,6 +38,7 @@ abbrev pub word_of : Block → Option WordBody
 word_of b = word_among (Inverted ∷ Shifted ∷ Both ∷ Either ∷ Without ∷ Unlike ∷ Chosen ∷ Compared
     ∷ Agreed ∷ Added ∷ Lessened ∷ NegatedIf ∷ Multiplied ∷ Counted ∷ Divided ∷ []) b
 
+-- the known sequence of a body of the word operations
 abbrev pub word_commands : Option WordBody → List BodyCmd
 word_commands None = []
 word_commands (Some w) = known_at (sequence_for w)
@@ -42,9 +47,11 @@ word_commands (Some w) = known_at (sequence_for w)
 abbrev pub turn_count : (BodyCmd → Bool) → ℕ → Block → ℕ
 turn_count f copy b = if is_copy b then copy else count_by f (word_commands (word_of b))
 
+-- how many AAP a round takes
 abbrev pub turn_aaps : Block → ℕ
 turn_aaps b = turn_count is_aap 1 b
 
+-- how many AP a round takes
 abbrev pub turn_aps : Block → ℕ
 turn_aps b = turn_count is_ap 0 b
 
@@ -54,11 +61,13 @@ KeepsReads Shifted b = nth_place b.reads 0 ≡ nth_place b.writes 0 → ⊥
 KeepsReads Multiplied b = nth_place b.reads 0 ≡ nth_place b.writes 1 → ⊥
 KeepsReads w b = Unit {0}
 
+-- the commands of the body are settled: a copy, or a known sequence that keeps its reads
 abbrev pub IsSettledAs : Bool → Option WordBody → Block → Type 0
 IsSettledAs true o b = Unit {0}
 IsSettledAs false None b = ⊥
 IsSettledAs false (Some w) b = KeepsReads w b
 
+-- so they are, as the body is
 abbrev pub IsSettled : Block → Type 0
 IsSettled b = IsSettledAs (is_copy b) (word_of b) b
 

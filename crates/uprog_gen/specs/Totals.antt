@@ -12,6 +12,7 @@ use Rattle.uprog_code.specs.Machine.{trace, issues_of}
 use Rattle.uprog_code.specs.Count.{counts_of}
 use Rattle.uprog_code.specs.Shape.{Microprogram}
 
+-- the statement is a word operation, and no block
 abbrev pub is_word : Statement → Bool
 is_word (Compute target second p args) = true
 is_word (Visit b) = false

@@ -9,6 +9,7 @@ use Rattle.loop_ir.specs.declared.ir.Space.{Space}
 use Rattle.loop_ir.specs.declared.ir.Space.TheVariants.{Result, Source, ScratchBit, ScratchWord}
 use Rattle.loop_ir.specs.Spots.{Spot, Spots}
 
+-- the data row of an operation's named row, where its values and its scratch begin there
 abbrev pub row_in : Shape → ℕ → Bound → Space → ℕ → ℕ → ℕ
 row_in head n b Result w i = slice_index b.results w + i
 row_in head n b Source w i = slice_index b.sources w + i
@@ -19,10 +20,12 @@ row_in head n b ScratchWord w i = b.scratch + head.bits + i
 abbrev pub spot_row : Shape → ℕ → Bound → Spot → ℕ
 spot_row head n b p = row_in head n b p.space p.which p.index
 
+-- a position of a value of this kind, where there is one
 abbrev pub IsBelow : Option Kind → ℕ → ℕ → Type 0
 IsBelow None n i = ⊥
 IsBelow (Some k) n i = i < width k n
 
+-- the row is one that the operation has in this space
 abbrev pub IsIn : Shape → ℕ → Space → ℕ → ℕ → Type 0
 IsIn head n Result w i = IsBelow (slice_get (results head) w) n i
 IsIn head n Source w i = IsBelow (slice_get head.sources w) n i
