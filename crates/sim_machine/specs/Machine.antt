@@ -24,13 +24,15 @@ use Rattle.object_steps.specs.Lines.{values_of}
 use Rattle.machine_model.specs.Script.{rows_if_done, rows_printed}
 use Rattle.machine_model.specs.Steps.{new_object, reply_to, table_after}
 
--- the program that its bbops run, the shape of its chip, and its objects
+-- the program that its bbops run
 abbrev pub program_of : Machine → List Microprogram
 program_of m = m.prog.programs
 
+-- the shape of its chip
 abbrev pub geometry_of : Machine → Geometry
 geometry_of m = m.geometry
 
+-- its objects
 abbrev pub table_in : Machine → List Named
 table_in m = m.table.pairs
 
@@ -49,23 +51,27 @@ pub record IsReady (m : Machine) : Type 0 where
   pub room : HEAD_BYTES + RECORD_BYTES * OBJECTS_MAX + rows_size m.geometry
       ≤ vec_capacity m.file
 
+-- the operations that its program offers by name
 abbrev pub operations_by : Machine → Routines
 operations_by m = routines_in (program_of m)
 
--- its reply to an instruction, what is said of it in its report, and the table after it
+-- its reply to an instruction
 abbrev pub reply_of : Machine → Instruction → Reply
 reply_of m instr = reply_to (geometry_of m) (operations_by m) (table_in m) instr
 
+-- what is said of an instruction in its report
 abbrev pub said_of_step : Machine → Banks → Instruction → Said
 said_of_step m banks instr = said_by (geometry_of m) (operations_by m) (table_in m) banks instr
 
+-- its table after an instruction
 abbrev pub moved_table : Machine → Instruction → List Named
 moved_table m instr = table_after (geometry_of m) (operations_by m) (table_in m) instr
 
--- the events of a piece of a script on its chip, and the order in force after it
+-- the events of a piece of a script on its chip
 abbrev pub events_by : Machine → Piece → List Event
 events_by m piece = piece_events (geometry_of m) (operations_by m) (turn_in m) (table_in m) piece
 
+-- the order in force after a piece
 abbrev pub turn_by_piece : Machine → Piece → Turn
 turn_by_piece m piece = turn_after (geometry_of m) (operations_by m) (turn_in m) (table_in m) piece
 
@@ -88,6 +94,7 @@ banks_by m (Print name) = segments (geometry_of m) (object_named (table_in m) na
 banks_by m (Free name) = 0
 banks_by m (Order order) = 0
 
+-- the instruction prints an object, so that its line comes while rows are read
 abbrev pub is_print : Instruction → Bool
 is_print (Print name) = true
 is_print (Init name count n) = false
@@ -108,7 +115,7 @@ leaves_table (Bbop op dst srcs count n) = false
 leaves_table (Print name) = false
 leaves_table (Free name) = false
 
--- the line of an instruction, and the lines of a wave of bbops
+-- the line of an instruction
 abbrev pub line_of : Machine → ℕ → Banks → Instruction → List ℕ
 line_of m number banks instr = line number (said_of_step m banks instr)
 
@@ -117,5 +124,6 @@ abbrev pub line_shown : Machine → ℕ → Banks → (name shown : List ℕ) �
 line_shown m number banks name shown =
     line number (Printed shown (values_of (geometry_of m) banks (table_in m) name))
 
+-- the lines of a wave of bbops
 abbrev pub lines_of : Machine → ℕ → List Instruction → List ℕ
 lines_of m number wave = lines number (map Answered (map (reply_of m) wave))

@@ -50,6 +50,7 @@ pub record StoppedBySink (old new : Machine) (number : ℕ) (instr : Instruction
   pub rose : Rose sink.faults sink'.faults
   pub part : Known (AppendsPart (line_of old number chip.banks instr)) sink.sent sink'.sent
 
+-- How an instruction went: it was done and told, or the chip or the sink failed.
 abbrev pub Comes : Machine → Machine → ℕ → Instruction → ChipView → ChipView → SinkView → SinkView
     → Result Reply StepFault → Type 0
 Comes old new number instr chip chip' sink sink' (Ok reply) =

@@ -42,6 +42,7 @@ left_from rows bank (job ∷ jobs) w =
     else [])
     ++ job_queues rows jobs bank
 
+-- the place lies in the first job, if there is any job left
 abbrev pub StandsInFirst : List BoundJob → Walk → Type 0
 StandsInFirst [] w = Unit {0}
 StandsInFirst (job ∷ jobs) w = StandsIn job w
@@ -76,6 +77,7 @@ pub record GoesOn (rows : ℕ) (jobs : List BoundJob) (old : List Cursor) (k : �
   pub at : IsAt rows jobs (left_after rows jobs (slice_index_or old k c)) c
   pub cursors : new ≡ slice_set old k c
 
+-- The bank of the k-th cursor goes on, or its cursor is gone because its queue is empty.
 abbrev pub MovesOn : ℕ → List BoundJob → List Cursor → ℕ → List Cursor → Type 0
 MovesOn rows jobs old k new =
     ((c : Cursor) × GoesOn rows jobs old k c new)

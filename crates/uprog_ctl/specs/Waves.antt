@@ -38,6 +38,7 @@ bound_job shape code job = record {
   banks = job.banks;
 }
 
+-- the jobs of a wave, by what their entries mean
 abbrev pub bound_jobs : {F : Type 0} → (F → Shape) → (F → List Uop) → List (Job F) → List BoundJob
 bound_jobs shape code jobs = map (bound_job shape code) jobs
 
@@ -45,6 +46,7 @@ bound_jobs shape code jobs = map (bound_job shape code) jobs
 abbrev pub issues_in : BoundJob → List Issue
 issues_in job = issues_of (trace job.shape job.code job.binding.n)
 
+-- the row commands of a job, with the rows of a bank that they activate
 abbrev pub commands_of : ℕ → BoundJob → List Command
 commands_of rows job = bound rows job.shape job.binding.n (bound_of job.binding) (issues_in job)
 
@@ -52,6 +54,7 @@ commands_of rows job = bound rows job.shape job.binding.n (bound_of job.binding)
 abbrev pub wave_job : ℕ → BoundJob → WaveJob
 wave_job rows job = record { commands = commands_of rows job; banks = job.banks }
 
+-- what each bank has to do in the whole wave
 abbrev pub job_queues : ℕ → List BoundJob → Queues
 job_queues rows jobs = queues (map (wave_job rows) jobs)
 
