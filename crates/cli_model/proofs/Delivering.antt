@@ -43,12 +43,14 @@ not_long true name limit refusal bytes rest l e = absurd (cc)
 not_long false name limit refusal bytes rest l e =
     not_refused limit refusal bytes rest (ltb-false limit (length bytes) l) e
 
+-- a load that is foreseen to be done has its file, within its limit and accepted
 pub load_there : (name : List ℕ) (limit : ℕ) (refusal : Option Refusal) (file : Option (List ℕ))
     (rest : End) → load_end name limit refusal file rest ≡ Done → IsThere limit refusal file rest
 load_there name limit refusal None rest e = absurd (cc)
 load_there name limit refusal (Some bytes) rest e =
     not_long (nat_lt limit (length bytes)) name limit refusal bytes rest refl e
 
+-- the files after two lists of steps are those after the second, from where the first leaves them
 pub files_append : (xs ys : List Step) (files : Files)
     → files_after (xs ++ ys) files ≡ files_after ys (files_after xs files)
 files_append [] ys files = refl
@@ -60,6 +62,7 @@ files_append (Use ∷ xs) ys files = files_append xs ys files
 files_append (Put bytes ∷ xs) ys files = files_append xs ys files
 files_append (Print bytes ∷ xs) ys files = files_append xs ys files
 
+-- what two lists of steps send is what the one sends and then the other
 pub sent_append : (xs ys : List Step) → sent_by (xs ++ ys) ≡ sent_by xs ++ sent_by ys
 sent_append [] ys = refl
 sent_append (Load name limit text refusal ∷ xs) ys = sent_append xs ys
@@ -184,6 +187,8 @@ plan_delivers F D plan old new status g apart e =
         at_end e.ends.ended a.all a.answered e.ends.so e.ends.foretold e.last e.left
     by_cases (inr f) = absurd (apart f)
 
+-- what each way of delivering tells of the files at entry holds of them, where the folder tells its
+-- files
 pub if_delivered : (plan : Plan) (old new : World) (status : ℕ) (Q : Files → Type 0)
     → IsDelivered plan old new status
     → ((before after : Files) (said : List ℕ)
@@ -199,6 +204,8 @@ if_delivered plan old new status Q d h = by_cases old.files.holds new.files.hold
     by_cases (Some before) None d = absurd d
     by_cases (Some before) (Some after) d = h before after d.0 d.1 d.2
 
+-- what each way of delivering tells of the files before and after holds of them, where the folder
+-- tells its files
 pub known_delivered : (plan : Plan) (old new : World) (status : ℕ) (Q : Files → Files → Type 0)
     → IsDelivered plan old new status
     → ((before after : Files) (said : List ℕ)

@@ -27,9 +27,11 @@ nothing_read w = record {
   chip = refl;
 }
 
+-- memory was wanting where the plan takes it: the plan ends there
 pub wants : (rest : Plan) (w : World) → Runs (Then (Take ∷ []) rest) w w (Err NoMemory)
 wants rest w = runs_stopped (Take ∷ []) rest NoMemory w w (inr (refl, nothing_read w))
 
+-- memory was taken, and the rest of the plan was done
 pub takes : (rest : Plan) (result : Result ℕ Reason) (w new : World) → Runs rest w new result
     → Runs (Then (Take ∷ []) rest) w new result
 takes rest result w new r =
@@ -41,6 +43,7 @@ sent : (R : List ℕ → List ℕ → Type 0) (files : FolderView) (old new : Si
     → Sent R (world files old chip) (world files new chip)
 sent R files old new chip t l = record { files = refl; sent = t; faults = l; chip = refl }
 
+-- the sink took a part of a line or nothing: the plan ends there
 pub unput : (text : List ℕ) (rest : Plan) (files : FolderView) (s t : SinkView) (chip : ChipView)
     → Known (AppendsPart text) s.sent t.sent → s.faults ≤ t.faults → Rose s.faults t.faults
     → Runs (Then (Put text ∷ []) rest) (world files s chip) (world files t chip) (Err PutFailed)
@@ -48,6 +51,7 @@ unput text rest files s t chip p n r =
     runs_stopped (Put text ∷ []) rest PutFailed (world files s chip) (world files t chip)
     (inr (refl, sent (AppendsPart text) files s t chip p n, r))
 
+-- a line was sent, and the rest of the plan was done
 pub puts : (text : List ℕ) (rest : Plan) (result : Result ℕ Reason) (files : FolderView)
     (s t : SinkView) (chip : ChipView) (new : World)
     → Known (λ before after. after ≡ before ++ text) s.sent t.sent → s.faults ≤ t.faults
@@ -63,6 +67,7 @@ puts text rest result files s t chip new p n r =
       ),
     )) r
 
+-- a file could not be stored: the plan ends there
 pub unstored : (name bytes : List ℕ) (rest : Plan) (f g : FolderView) (sink : SinkView)
     (chip : ChipView) → Unstored name (world f sink chip) (world g sink chip)
     → Runs (Then (Store name bytes ∷ []) rest) (world f sink chip) (world g sink chip)
@@ -71,6 +76,7 @@ unstored name bytes rest f g sink chip u =
     runs_stopped (Store name bytes ∷ []) rest (CannotWrite name) (world f sink chip)
     (world g sink chip) (inr (refl, u))
 
+-- a file was stored, and the rest of the plan was done
 pub stores : (name bytes : List ℕ) (rest : Plan) (result : Result ℕ Reason) (f g : FolderView)
     (sink : SinkView) (chip : ChipView) (new : World)
     → Stored name bytes (world f sink chip) (world g sink chip)
@@ -82,6 +88,7 @@ stores name bytes rest result f g sink chip new s r =
 
 -- a file that was read, and one that was not
 
+-- a file was loaded and read, and the rest of the plan was done with its value
 pub reads : {A : Type 0} (name : List ℕ) (limit : ℕ) (read : List ℕ → Result A Refusal)
     (rest : List ℕ → A → Plan) (value : A) (result : Result ℕ Reason) (old mid : FolderView)
     (sink : SinkView) (chip : ChipView) (new : World) → (r : ReadAs read name limit value old mid)
@@ -91,6 +98,7 @@ reads name limit read rest value result old mid sink chip new r more =
     runs_read name limit read rest r.text value result (world old sink chip) (world mid sink chip)
     new r.value_is (r.loaded sink chip) more
 
+-- a file was not loaded, or not accepted: the plan ends there
 pub unread : {A : Type 0} (name : List ℕ) (limit : ℕ) (read : List ℕ → Result A Refusal)
     (rest : List ℕ → A → Plan) (reason : Reason) (old new : FolderView) (sink : SinkView) (chip : ChipView)
     → NotRead read name limit reason old new
@@ -121,6 +129,7 @@ unloaded name limit read rest reason old new sink chip n =
     runs_unread name limit read rest text reason (world old sink chip) (world new sink chip)
     (known_is_text old.holds name) (n text (refusal_of (read text)) sink chip)
 
+-- a file was loaded and its text refused: the plan ends there
 pub refused : {A : Type 0} (name : List ℕ) (limit : ℕ) (read : List ℕ → Result A Refusal)
     (rest : List ℕ → A → Plan) (text : List ℕ) (refusal : Refusal) (old new : FolderView) (sink : SinkView)
     (chip : ChipView) → LoadedAs name limit text old new → read text ≡ Err refusal
@@ -131,6 +140,7 @@ refused name limit read rest text refusal old new sink chip l e =
     (world new sink chip) (loaded_text name limit text (world old sink chip) (world new sink chip)
     (l sink chip)) (ap refusal_of e, l sink chip)
 
+-- a file was loaded, and memory to read it was wanting: the plan ends there
 pub unparsed : {A : Type 0} (name : List ℕ) (limit : ℕ) (read : List ℕ → Result A Refusal)
     (rest : List ℕ → A → Plan) (text : List ℕ) (old new : FolderView) (sink : SinkView)
     (chip : ChipView) → LoadedAs name limit text old new
@@ -140,6 +150,7 @@ unparsed name limit read rest text old new sink chip l =
     (world new sink chip) (loaded_text name limit text (world old sink chip) (world new sink chip)
     (l sink chip)) (l sink chip).reads
 
+-- a file was loaded, its text is accepted, and the rest of the plan was done with its value
 pub parsed : {A : Type 0} (name : List ℕ) (limit : ℕ) (read : List ℕ → Result A Refusal)
     (rest : List ℕ → A → Plan) (text : List ℕ) (value : A) (result : Result ℕ Reason) (old mid : FolderView)
     (sink : SinkView) (chip : ChipView) (new : World) → LoadedAs name limit text old mid

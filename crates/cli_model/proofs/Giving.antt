@@ -12,12 +12,14 @@ use Rattle.cli_model.specs.Runs.{EndsBy, LeavesAt}
 use Rattle.dram_model.specs.View.{ChipView}
 use Rattle.cli_model.proofs.Owed.{Gives}
 
+-- the status of a refusal is one that refusals of this reader have
 pub refused_so : {A : Type 0} (F : ℕ → Type 0) (r : Result A Refusal) (refusal : Refusal)
     → r ≡ Err refusal → IfErr r (λ x. F x.status) → F refusal.status
 refused_so F (Ok value) refusal e h = absurd (cc)
 refused_so F (Err own) refusal e h =
     let same : own ≡ refusal = cc in subst (λ (x : Refusal). F x.status) same h
 
+-- each step of a plan can fail only with a status that the plan gives
 pub steps_give : (F D : ℕ → Type 0) (plan : Plan) → Gives F D plan → (way : Way plan)
     → OfSteps F (steps_of plan way)
 steps_give F D (Loads name limit read rest) g (inl cut) = tt
@@ -79,6 +81,7 @@ plan_gives F D plan old new status g e =
         inr (stop_so F (steps_of plan e.way) stop old e.stood status
         (steps_give F D plan g e.way) so)
 
+-- a command that ends by its plan answers one of the plan's statuses
 pub plan_answers : (F D P : ℕ → Type 0) (plan : Plan) (old new : World) (status : ℕ)
     → Gives F D plan → ((s : ℕ) → F s → P s) → ((s : ℕ) → D s → P s)
     → EndsBy plan old new status → P status

@@ -29,6 +29,7 @@ stops [] ys reason a b g = elim g [ ]
 stops (x ∷ xs) ys reason a b (inl (mid, (d, g))) = inl (mid, (d, stops xs ys reason mid b g))
 stops (x ∷ xs) ys reason a b (inr f) = inr f
 
+-- a count that rose since later has risen since earlier
 pub within : (a b c : ℕ) (n : ℕ) → a ≤ b → RoseBy n b c → RoseBy n a c
 within a b c n l r = omega (arith, r)
 
@@ -149,6 +150,7 @@ known_then f g (Some x) None c p q = absurd p
 known_then f g (Some x) (Some y) None p q = absurd q
 known_then f g (Some x) (Some y) (Some z) p q = q ∙ ap g p
 
+-- what was sent in two parts was sent as one
 pub known_sent : (first rest : List ℕ) (a b c : Option (List ℕ)) → Known (λ x y. y ≡ x ++ first) a b
     → Known (λ x y. y ≡ x ++ rest) b c → Known (λ x y. y ≡ x ++ (first ++ rest)) a c
 known_sent first rest None b c p q = tt

@@ -184,6 +184,7 @@ text_of : (holds : Option Files) (name own text : List ℕ) → file_in holds na
 text_of None name own text e t = absurd (cc)
 text_of (Some files) name own text e t = same_text (files name) own text e t
 
+-- where the files are good, the status at the plan's end is one of those of a command that is done
 pub end_good : (P : ℕ → Type 0) (plan : Plan) (holds : Option Files) (chip : ChipView)
     → GoodFor P plan holds
     → (way : Way plan) → IfSome holds (AreTexts plan way) → Leaves plan way chip
@@ -238,6 +239,7 @@ either_good P plan (Some files) stop a b g way t f place c =
     stopped_good P (foreseen (steps_of plan way) files) stop.reason
     (foreseen_good P plan files g way t) f.1
 
+-- where the files are good and nothing failed, the command is done or answers 10
 pub plan_completes : (P : ℕ → Type 0) (plan : Plan) (old new : World) (status : ℕ)
     → GoodFor P plan old.files.holds → P 10 → NothingFailed old new
     → EndsBy plan old new status → P status

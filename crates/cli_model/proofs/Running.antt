@@ -42,6 +42,7 @@ no_texts (Then steps rest) files = no_texts rest (files_after steps files)
 no_texts (Answers status left) files = tt
 no_texts (Refuses refusal left) files = tt
 
+-- what holds of all files holds of those that the folder tells
 pub if_all : (holds : Option Files) (P : Files → Type 0) → ((files : Files) → P files)
     → IfSome holds P
 if_all None P h = tt

@@ -316,6 +316,8 @@ end_takes but (Then steps rest) h way chip l =
 end_takes but (Answers status left) h way chip l = h
 end_takes but (Refuses refusal left) h way chip l = h
 
+-- a command that takes its memory first leaves all as at entry where memory is wanting, but for one
+-- file
 pub plan_spares : (but : Option (List ℕ)) (plan : Plan) (old new : World) (status : ℕ)
     → TakesFirst but plan → EndsBy plan old new status → status ≡ 10 → IsSpared but old new
 plan_spares but plan old new status first e ten =

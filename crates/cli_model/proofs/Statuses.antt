@@ -28,10 +28,12 @@ OfStep P Use = P 9
 OfStep P (Put bytes) = P 3
 OfStep P (Print bytes) = P 3 × P 9
 
+-- each step can fail only with these statuses
 abbrev pub OfSteps : (ℕ → Type 0) → List Step → Type 0
 OfSteps P [] = Unit {0}
 OfSteps P (step ∷ steps) = OfStep P step × OfSteps P steps
 
+-- so it is of two lists of steps, one after the other
 pub of_more : (P : ℕ → Type 0) (xs ys : List Step) → OfSteps P xs → OfSteps P ys
     → OfSteps P (xs ++ ys)
 of_more P [] ys h k = k

@@ -422,6 +422,7 @@ KeepsInputs Shifted outs = (out_at outs 0).same ≡ Some 0 → ⊥
 KeepsInputs Multiplied outs = (out_at outs 1).same ≡ Some 0 → ⊥
 KeepsInputs b outs = Unit {0}
 
+-- the known sequence of a body writes each output after it has read what stood there
 pub word_late : (b : WordBody) (outs : List OutRow) → KeepsInputs b outs
     → WritesLate outs (known_at (sequence_for b))
 word_late Inverted outs h = never outs (known_at 0) refl

@@ -78,6 +78,7 @@ not_ends None h = refl
 not_ends (Some zero) h = refl
 not_ends (Some (suc k)) h = absurd (omega (arith, h (suc k) refl))
 
+-- the known sequence of the complement does it, wherever its output stands
 pub not_serves : (outs : List OutRow) → FitBody not_graph outs → length outs ≡ 1
     → (out_at outs 0).lit ≡ complemented 1 → Serves not_graph outs NOT
 not_serves = one_serves not_graph (complemented 1) NOT refl (split 1 NOT refl refl refl) not_ends
@@ -90,6 +91,7 @@ and_ends (Some zero) h = refl
 and_ends (Some (suc zero)) h = refl
 and_ends (Some (suc (suc k))) h = absurd (omega (arith, h (suc (suc k)) refl))
 
+-- the known sequence of an and does it, wherever its output stands
 pub and_serves : (outs : List OutRow) → FitBody and_graph outs → length outs ≡ 1
     → (out_at outs 0).lit ≡ plain 3 → Serves and_graph outs AND
 and_serves = one_serves and_graph (plain 3) AND refl (split 3 AND refl refl refl) and_ends
@@ -102,6 +104,7 @@ or_ends (Some zero) h = refl
 or_ends (Some (suc zero)) h = refl
 or_ends (Some (suc (suc k))) h = absurd (omega (arith, h (suc (suc k)) refl))
 
+-- the known sequence of an or does it, wherever its output stands
 pub or_serves : (outs : List OutRow) → FitBody or_graph outs → length outs ≡ 1
     → (out_at outs 0).lit ≡ plain 3 → Serves or_graph outs OR
 or_serves = one_serves or_graph (plain 3) OR refl (split 3 OR refl refl refl) or_ends
@@ -114,6 +117,7 @@ xor_ends (Some zero) h = refl
 xor_ends (Some (suc zero)) h = refl
 xor_ends (Some (suc (suc k))) h = absurd (omega (arith, h (suc (suc k)) refl))
 
+-- the known sequence of an exclusive or does it, wherever its output stands
 pub xor_serves : (outs : List OutRow) → FitBody xor_graph outs → length outs ≡ 1
     → (out_at outs 0).lit ≡ plain 5 → Serves xor_graph outs XOR
 xor_serves = one_serves xor_graph (plain 5) XOR refl (split 6 XOR refl refl refl) xor_ends
@@ -154,6 +158,7 @@ add_ends (Some (suc zero)) (Some (suc (suc (suc k)))) a b c =
 add_ends (Some (suc (suc zero))) (Some (suc (suc (suc k)))) a b c =
     absurd (omega (arith, b (suc (suc (suc k))) refl))
 
+-- the known sequence of a sum does it and its carry, wherever they stand
 pub add_serves : (outs : List OutRow) → FitBody add_graph outs → length outs ≡ 2
     → (out_at outs 0).lit ≡ plain 6 → (out_at outs 1).lit ≡ plain 4 → Serves add_graph outs ADD
 add_serves outs fit n e f =

@@ -55,6 +55,7 @@ piece_rises g p turn table piece k l n lies is plain h e =
     (few_rise g operations table.pairs (instrs_in piece) k n
     (work_is_bounded g p table.pairs (instrs_in piece) lies.geometry fits plain) h)
 
+-- counters that rise by at most so much rise by at most more
 pub rises_less : (a b : ℕ) (k l : Counters) → a ≤ b → RisesAtMost a k l → RisesAtMost b k l
 rises_less a b k l h r = record {
   aap = omega (arith, r.aap);

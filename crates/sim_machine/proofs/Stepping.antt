@@ -85,6 +85,7 @@ did_only events n a b e did = record {
 pub alone : (instr : Instruction) → is_bbop instr ≡ false → piece_of instr ≡ Alone instr
 alone instr e = ap (λ b. cond b (piece.Wave (instr ∷ [])) (Alone instr)) e
 
+-- where nothing was sent, a part of every line was: none of it
 pub no_part : (bytes : List ℕ) (sent : Option (List ℕ)) → Known (AppendsPart bytes) sent sent
 no_part bytes sent = Known-same (AppendsPart bytes) sent (λ x. (
   [],
@@ -172,6 +173,7 @@ same_table m (Print name) e = absurd (cc)
 same_table m (Free name) e = absurd (cc)
 same_table m (Order o) e = refl
 
+-- a print leaves the table
 pub print_table : (m : Machine) (name : List ℕ) → table_in m ≡ moved_table m (Print name)
 print_table m name = sym (if_same _ (table_in m))
 

@@ -104,6 +104,7 @@ image_so : (P : ℕ → Type 0) (r : Result Found ImageFault) → P 7
 image_so P (Ok found) seven = tt
 image_so P (Err fault) seven = seven
 
+-- every refusal of an image has status 7
 pub image_refuses : (P : ℕ → Type 0) → P 7 → (text : List ℕ)
     → IfErr (image_of text) (λ refusal. P refusal.status)
 image_refuses P seven text = image_so P (image_in text) seven

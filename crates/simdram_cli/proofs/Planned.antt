@@ -27,6 +27,7 @@ failing_can command status f =
     (both (list_any (λ s. s == status) (statuses command))
     (not (list_any (λ s. s == status) (0 ∷ 8 ∷ []))) f).0
 
+-- no status of a command that is done is one of a failure
 pub failing_apart : (command : Command) (status : ℕ) → (status ≡ 0) ⊎ (status ≡ 8)
     → IsFailing command status → ⊥
 failing_apart command status (inl e) f =

@@ -66,6 +66,7 @@ use Rattle.simdram_cli.proofs.Tallies.{both, log_is}
 
 -- two geometries with equal fields are one
 
+-- one shape is found the same
 pub geometry_same : (g h : Geometry) → g ≡ h → same_geometry g h ≡ true
 geometry_same g h e =
     subst (λ (x : Geometry). same_geometry g x ≡ true) e
@@ -338,6 +339,7 @@ image_refuses : (P : ℕ → Type 0) (g : Geometry) → P 7 → P 14 → (text :
     → IfErr (image_for g text) (λ refusal. P refusal.status)
 image_refuses P g seven fourteen text = for_so P g (image_in text) seven fourteen
 
+-- the statuses that a replay can answer by its plan
 pub replay_gives : (names : ReplayNames) → GivesOwn (Replay names) (replay_plan names)
 replay_gives names =
     let F = IsFailing (Replay names) in (
