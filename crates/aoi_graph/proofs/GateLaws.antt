@@ -8,9 +8,11 @@ use Rattle.aoi_graph.specs.declared.AoiNode.TheVariants.{Zero, Input, Not, And, 
 use Rattle.aoi_graph.specs.Gates.{with_value, gate_value, ReadsBelow, aoi_at, aoi_from, aoi_values}
 use Rattle.aoi_graph.specs.Gates.{AreLower}
 
+-- a node that is set leaves the value of every other
 pub with-other : (k : ℕ) (b : Bool) (v : ℕ → Bool) (n : ℕ) → n ≢ k → with_value k b v n ≡ v n
 with-other k b v n h = rw (ne_eqb n k h) refl
 
+-- a node that is set has the value it was set to
 pub with-same : (k : ℕ) (b : Bool) (v : ℕ → Bool) → with_value k b v k ≡ b
 with-same k b v = rw (eq-eqb k k refl) refl
 
@@ -21,6 +23,7 @@ aoi-below bits k [] v n l = refl
 aoi-below bits k (m ∷ ns) v n l = aoi-below bits (k + 1) ns (with_value k (gate_value bits v m) v) n
     (omega arith) ∙ with-other k (gate_value bits v m) v n (omega arith)
 
+-- a gate's value rests on the nodes below it alone
 pub gate-below : (bits v w : ℕ → Bool) (k : ℕ) (n : AoiNode) → ((i : ℕ) → i < k → v i ≡ w i)
     → ReadsBelow k n → gate_value bits v n ≡ gate_value bits w n
 gate-below bits v w k Zero h b = refl

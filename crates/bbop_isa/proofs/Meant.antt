@@ -96,6 +96,7 @@ said_is_line (Some (Number n ∷ words)) i is = absurd (cc)
 said_is_line (Some (Comma ∷ words)) i is = absurd (cc)
 said_is_line (Some (Other ∷ words)) i is = absurd (cc)
 
+-- a line says an instruction where its words are the instruction's
 pub lines_are : LinesAreForms
 lines_are line i = (
   said_is_line (words_in (items_of line)) i,

@@ -70,6 +70,7 @@ begun_are b bs (line ∷ []) other some are = record {
 begun_are b bs (line ∷ next ∷ lines) other some are =
     record { whole = ap (λ t. b ∷ t) are.whole; parted = (rw other are.parted.0, are.parted.1) }
 
+-- a text's lines are what its newlines part it into
 pub lines_are : (text : List ℕ) → AreLines text (lines_of text)
 lines_are [] = record { whole = refl; parted = (refl, tt) }
 lines_are (b ∷ bs) = at (b == 10) refl (lines_are bs)

@@ -2,6 +2,7 @@
 use Rattle.std.proofs.Common.{◌≡◌, Bool, true, false, ◌&&◌, ◌||◌, refl}
 use Rattle.bit_rows.specs.Bits.{majority}
 
+-- a majority with 0 is an and
 pub majority-false : (a b : Bool) → majority a b false ≡ (a && b)
 unfolding majority
 majority-false true true = refl
@@ -9,6 +10,7 @@ majority-false true false = refl
 majority-false false true = refl
 majority-false false false = refl
 
+-- a majority with 1 is an or
 pub majority-true : (a b : Bool) → majority a b true ≡ (a || b)
 unfolding majority
 majority-true true true = refl

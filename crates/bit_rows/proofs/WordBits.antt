@@ -19,9 +19,11 @@ least a b l m = grind (arith, nat_tests)
 most : (a b : ℕ) → a < 2 → b < 2 → (max a b == 1) ≡ ((a == 1) || (b == 1))
 most a b l m = grind (arith, nat_tests)
 
+-- the and of two words is that of their bits
 pub and-bit : (a b k : ℕ) → bit_at (bit_and a b) k ≡ (bit_at a k && bit_at b k)
 and-bit a b k = ap (λ n. n == 1) (bit_at_and a b k) ∙ least _ _ (bit_at-lt a k) (bit_at-lt b k)
 
+-- the or of two words is that of their bits
 pub or-bit : (a b k : ℕ) → bit_at (bit_or a b) k ≡ (bit_at a k || bit_at b k)
 or-bit a b k = ap (λ n. n == 1) (bit_at_or a b k) ∙ most _ _ (bit_at-lt a k) (bit_at-lt b k)
 
@@ -48,6 +50,7 @@ majority-bit a b c k =
 not-number : (a : ℕ) → a < 2 → ((1 - a) == 1) ≡ not (a == 1)
 not-number a l = grind (arith, nat_tests)
 
+-- the complement of a word is that of each of its 64 bits
 pub not-bit : (a k : ℕ) → a < 2 ^ 64 → k < 64 → bit_at (bit_not w64 a) k ≡ not (bit_at a k)
 not-bit a k l m = ap (λ n. n == 1) (bit_at_not w64 a k l m) ∙ not-number _ (bit_at-lt a k)
 

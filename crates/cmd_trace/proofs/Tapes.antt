@@ -204,6 +204,7 @@ event_bits_are g at bytes out e =
     let a = bind_ok (head_at g at bytes) (λ head. with_row g head at bytes) out e in
     row_bits_are g a.0 at bytes out a.2
 
+-- the bytes that events were read from are what their log takes
 pub log_bits_are : (n : ℕ) (g : Geometry) (at : ℕ) (bytes : List ℕ) (out : List Event × ℕ)
     → events_at n g at bytes ≡ Ok out → 8 * at + log_bits out.0 ≡ 8 * out.1
 log_bits_are zero g at bytes out e =
@@ -231,6 +232,7 @@ event_bits_of g (Write bank row bits) is =
 
 -- ---- what is whole
 
+-- both parts of a test that holds
 pub both : (a b : Bool) → (a && b) ≡ true → (a ≡ true) × (b ≡ true)
 both true b h = (refl, h)
 both false b h = absurd cc
@@ -277,6 +279,7 @@ whole_case g tape true t h =
     }
 whole_case g tape false t h = absurd cc
 
+-- a recorder that lost nothing tells all events
 pub tells : (g : Geometry) (tape : NotesView) → is_whole g tape ≡ true → tape.known ≡ true
     → Tells g tape
 tells g tape h t = whole_case g tape tape.known t h

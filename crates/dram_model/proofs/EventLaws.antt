@@ -15,11 +15,13 @@ use Rattle.dram_model.specs.Chip.Event.{Row, Write}
 use Rattle.dram_model.specs.Events.{events_of, on_bank_all, row_events}
 use Rattle.dram_model.specs.View.{ChipView, Kept, Did, DidRead, with_reads}
 
+-- events in two parts leave the banks as all of them do
 pub after-append : (es fs : List Event) (banks : Banks)
     → after (es ++ fs) banks ≡ after fs (after es banks)
 after-append [] fs banks = refl
 after-append (e ∷ es) fs banks = after-append es fs (happens e banks)
 
+-- events in two parts are counted as all of them are
 pub all_counted-append : (es fs : List Event) (counters : Counters)
     → all_counted (es ++ fs) counters ≡ all_counted fs (all_counted es counters)
 all_counted-append [] fs counters = refl
@@ -81,6 +83,7 @@ projection (event ∷ events) banks bank = elim (eqb_tells (bank_of event) bank)
   | inr h ↦ projection events (happens event banks) bank ∙ rw h.0 refl
 ]
 
+-- one command in all columns and then the others are all of them in each column
 pub step-then-run : (command : Command) (commands : List Command) (columns : List Column)
     → map (run commands) (map (step command) columns) ≡ map (run (command ∷ commands)) columns
 step-then-run command commands [] = refl
@@ -119,6 +122,7 @@ counted-bound (Write bank row bits ∷ events) counters = let h =
     counted-bound events (counted (Write bank row bits) counters) in
     (omega arith, omega arith, omega arith)
 
+-- a log to which nothing came is as it was
 pub Grew-none : (log : Option Log) → Grew log log []
 Grew-none None = tt
 Grew-none (Some known) = with_events-none known
@@ -141,6 +145,7 @@ Did-more es fs a b c d e = record {
 pub Kept-same : (chip : ChipView) → Kept chip chip
 Kept-same chip = record { begun = refl; geometry = refl; faults = omega arith }
 
+-- what two calls keep, one after the other
 pub Kept-more : (a b c : ChipView) → Kept a b → Kept b c → Kept a c
 Kept-more a b c h k = record {
   begun = k.begun ∙ h.begun;
@@ -151,6 +156,7 @@ Kept-more a b c h k = record {
 more_reads : (m n : ℕ) (c : Counters) → with_reads n (with_reads m c) ≡ with_reads (m + n) c
 more_reads m n c = ap (λ k. let d : Counters = record c { reads = k } in d) (add_assoc c.reads m n)
 
+-- reads of two calls add up
 pub DidRead-more : (m n : ℕ) (a b c : ChipView) → DidRead m a b → DidRead n b c
     → DidRead (m + n) a c
 DidRead-more m n a b c d e = record {

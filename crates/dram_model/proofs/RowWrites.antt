@@ -19,6 +19,7 @@ use Rattle.dram_model.specs.Events.{events_of, on_bank_all}
 use Rattle.dram_model.specs.Elements.{number, padded_to}
 use Rattle.dram_model.proofs.EventLaws.{projection, after-append}
 
+-- two ranges of rows with the same contents give the same list
 pub rows_are : {X : Type 0} (f h : ℕ → X) (b a n : ℕ) → ((k : ℕ) → k < n → f (b + k) ≡ h (a + k))
     → map f (range_with_len b n) ≡ map h (range_with_len a n)
 rows_are f h b a zero e = refl
@@ -73,6 +74,7 @@ abbrev pub taken : ℕ → ℕ → ℕ → ℕ → Column → Column
 taken base v a zero s = s
 taken base v a (suc n) s = taken base v (a + 1) n (drive (plain (D (base + a))) (bit_at v a) s)
 
+-- the rows before those that are written stay
 pub taken_before : (base v a n row : ℕ) (s : Column) → row < base + a
     → taken base v a n s (D row) ≡ s (D row)
 taken_before base v a zero row s h = refl
@@ -80,6 +82,7 @@ taken_before base v a (suc n) row s h = taken_before base v (a + 1) n row
     (drive (plain (D (base + a))) (bit_at v a) s) (omega arith)
     ∙ rw (ne_eqb (base + a) row (λ e. absurd (omega arith))) refl
 
+-- the rows past those that are written stay
 pub taken_past : (base v a n row : ℕ) (s : Column) → base + a + n ≤ row
     → taken base v a n s (D row) ≡ s (D row)
 taken_past base v a zero row s h = refl
@@ -117,6 +120,7 @@ writes_first bank base v a (suc n) vs s columns =
     writes_first bank base v (a + 1) n vs (drive (plain (D (base + a))) (bit_at v a) s)
     (with_row (base + a) (map (λ v. bit_at v a) vs) columns)
 
+-- to write no columns changes none
 pub writes_nothing : (bank base a n : ℕ) (columns : List Column)
     → on_bank_all (writes bank base [] a n) columns ≡ columns
 writes_nothing bank base a zero columns = refl
@@ -159,6 +163,7 @@ each_before E a (suc n) banks bank o l =
     (each_before E (a + 1) n (after (E a) banks) bank o (omega arith)
     ∙ on_another E banks a bank o (λ e. absurd (omega arith)))
 
+-- banks past the last of a loop over banks stay
 pub each_after : (E : ℕ → List Event) (a n : ℕ) (banks : Banks) (bank : ℕ) → OnOwn E → a + n ≤ bank
     → after (flat_map E (range_with_len a n)) banks bank ≡ banks bank
 each_after E a zero banks bank o l = refl
@@ -167,6 +172,7 @@ each_after E a (suc n) banks bank o l =
     (each_after E (a + 1) n (after (E a) banks) bank o (omega arith)
     ∙ on_another E banks a bank o (λ e. absurd (omega arith)))
 
+-- each bank of a loop over banks has had its own events
 pub each_inside : (E : ℕ → List Event) (a n : ℕ) (banks : Banks) (bank : ℕ) → OnOwn E → a ≤ bank
     → bank < a + n → after (flat_map E (range_with_len a n)) banks bank
     ≡ on_bank_all (E bank) (banks bank)
@@ -187,9 +193,11 @@ each_inside E a (suc n) banks bank o l h =
 abbrev pub part : ℕ → List ℕ → ℕ → List ℕ
 part w nums bank = take w (drop (bank * w) nums)
 
+-- the host's writes of one bank, of those that store numbers over all banks
 abbrev pub all_writes : ℕ → ℕ → ℕ → List ℕ → ℕ → List Event
 all_writes w base n nums bank = writes bank base (part w nums bank) 0 n
 
+-- these writes are each on their own bank
 pub all_own : (w base n : ℕ) (nums : List ℕ) → OnOwn (all_writes w base n nums)
 all_own w base n nums = record {
   own = λ bank. writes_own bank base (part w nums bank) 0 n;
@@ -214,6 +222,7 @@ pub whole : (w k : ℕ) (nums : List ℕ) → flat_map (part w nums) (range_with
 whole w k nums = let none : 0 * w ≡ 0 = omega arith in
     parts w nums 0 k ∙ ap (λ j. take (k * w) (drop j nums)) none
 
+-- each bank has as many numbers as it has columns
 pub part_length : (w k : ℕ) (nums : List ℕ) (bank : ℕ) → length nums ≡ w * k → bank < k
     → length (part w nums bank) ≡ w
 part_length w k nums bank e h =
@@ -221,6 +230,7 @@ part_length w k nums bank e h =
     (omega arith) (omega arith) in
     simp (length-take, length-drop) (omega (arith, e, fits))
 
+-- what each bank holds, put together, is what all banks hold
 pub map_parts : (f : Column → ℕ) (new : Banks) (w : ℕ) (nums : List ℕ) (a n : ℕ)
     → ((b : ℕ) → a ≤ b → b < a + n → map f (new b) ≡ part w nums b)
     → map f (flat_map new (range_with_len a n)) ≡ flat_map (part w nums) (range_with_len a n)
@@ -233,27 +243,32 @@ map_parts f new w nums a (suc n) e =
           e b (omega arith) (omega arith)),
     ) refl
 
+-- numbers filled up with 0 are as many as there is room for
 pub padded_length : (size : ℕ) (vs : List ℕ) → length vs ≤ size → length (padded_to size vs) ≡ size
 padded_length size vs h = length-append vs (replicate (size - length vs) 0)
     ∙ omega (arith, h, length-replicate {A = ℕ} (size - length vs) 0)
 
+-- what holds of both lists holds of both together
 pub all_append : (P : ℕ → Type 0) (xs ys : List ℕ) → AllByRecursion P xs → AllByRecursion P ys
     → AllByRecursion P (xs ++ ys)
 all_append P [] ys a b = b
 all_append P (x ∷ xs) ys a b = (a.0, all_append P xs ys a.1 b)
 
+-- what holds of a list holds of its front
 pub all_take : (P : ℕ → Type 0) (n : ℕ) (xs : List ℕ) → AllByRecursion P xs
     → AllByRecursion P (take n xs)
 all_take P zero xs a = tt
 all_take P (suc n) [] a = tt
 all_take P (suc n) (x ∷ xs) a = (a.0, all_take P n xs a.1)
 
+-- what holds of a list holds of its rest
 pub all_drop : (P : ℕ → Type 0) (n : ℕ) (xs : List ℕ) → AllByRecursion P xs
     → AllByRecursion P (drop n xs)
 all_drop P zero xs a = a
 all_drop P (suc n) [] a = tt
 all_drop P (suc n) (x ∷ xs) a = all_drop P n xs a.1
 
+-- what holds of 0 holds of all zeros
 pub all_zero : (P : ℕ → Type 0) (n : ℕ) → P 0 → AllByRecursion P (replicate n 0)
 all_zero P zero p = tt
 all_zero P (suc n) p = (p, all_zero P n p)

@@ -27,6 +27,7 @@ Holds-then bytes at x place y next p q = record {
   within = q.within;
 }
 
+-- a file that holds two parts holds the first
 pub Holds-front : (bytes : List ℕ) (at : ℕ) (x : List ℕ) (place : ℕ) (y : List ℕ) (next : ℕ)
     → Holds bytes at (x ++ y) next → place ≡ at + length x → Holds bytes at x place
 Holds-front bytes at x place y next h e =
@@ -41,6 +42,7 @@ Holds-front bytes at x place y next h e =
       within = omega (arith, h.ends, h.within, length-append x y);
     }
 
+-- a file that holds two parts holds the second, where the first ends
 pub Holds-back : (bytes : List ℕ) (at : ℕ) (x : List ℕ) (place : ℕ) (y : List ℕ) (next : ℕ)
     → Holds bytes at (x ++ y) next → place ≡ at + length x → Holds bytes place y next
 Holds-back bytes at x place y next h e =
@@ -75,6 +77,7 @@ bind_ok (Err d) f y e = absurd cc
 abbrev done : {K A : Type 0} → A → Result A (FileFault K)
 done x = Ok x
 
+-- a reading gives one value
 pub ok_is : {K A : Type 0} (x y : A) → done {K = K} x ≡ done y → x ≡ y
 ok_is x y e = cc
 
@@ -89,6 +92,7 @@ guard_ok : {K A : Type 0} (b : Bool) (d : FileFault K) (x y : A) → cond b (Err
 guard_ok true d x y e = absurd cc
 guard_ok false d x y e = (refl, cc)
 
+-- a field that was read stands there in the file
 pub bytes_takes : {K : Type 0} (short : K) (len at next : ℕ) (bytes field : List ℕ)
     → bytes_at short len at bytes ≡ Ok field
     → next ≡ at + len → Holds bytes at field next × (length field ≡ len)
@@ -108,6 +112,7 @@ bytes_takes short len at next bytes field e n =
     } in
     subst (λ (f : List ℕ). Holds bytes at f next × (length f ≡ len)) g.1 (held, size)
 
+-- a field that stands in the file is read
 pub bytes_again : {K : Type 0} (short : K) (len at next : ℕ) (bytes field : List ℕ)
     → Holds bytes at field next
     → length field ≡ len → bytes_at short len at bytes ≡ Ok field
@@ -131,6 +136,7 @@ one_byte [] e = absurd (omega arith)
 one_byte (b ∷ []) e = refl
 one_byte (b ∷ c ∷ bs) e = absurd (omega arith)
 
+-- a byte spells each number below 256
 pub wide8 : IsWide w8 256 (λ n. n ∷ [])
 wide8 = record {
   len = λ n. refl;
@@ -139,6 +145,7 @@ wide8 = record {
   below = λ bytes fits. fits 0;
 }
 
+-- two bytes spell each number below 2 ^ 16
 pub wide16 : IsWide w16 (2 ^ 16) (to_le_bytes w16)
 wide16 = record {
   len = λ n. refl;
@@ -147,6 +154,7 @@ wide16 = record {
   below = λ bytes fits. omega (arith, fits 0, fits 1);
 }
 
+-- four bytes spell each number below 2 ^ 32
 pub wide32 : IsWide w32 (2 ^ 32) (to_le_bytes w32)
 wide32 = record {
   len = λ n. refl;
@@ -155,6 +163,7 @@ wide32 = record {
   below = λ bytes fits. omega (arith, fits 0, fits 1, fits 2, fits 3);
 }
 
+-- a number that was read stands there in its one spelling
 pub number_takes : {K : Type 0} (short : K) (w : Width) (limit : ℕ) (text : ℕ
     → List ℕ) (wide : IsWide w limit text) (at next : ℕ) (bytes : List ℕ) (n : ℕ) → IsBytes bytes
     → number_at short w at bytes ≡ Ok n → next ≡ at + byte_len w → Holds bytes at (text n) next
@@ -169,6 +178,7 @@ number_takes short w limit text wide at next bytes n fits e nx =
     subst (λ (k : ℕ). Holds bytes at (text k) next
     × (k < limit)) (ok_is (from_le_bytes w a.0) n a.2) (held, wide.below a.0 part)
 
+-- a number that stands there is read
 pub number_again : {K : Type 0} (short : K) (w : Width) (limit : ℕ) (text : ℕ
     → List ℕ) (wide : IsWide w limit text) (at next : ℕ) (bytes : List ℕ) (n : ℕ)
     → Holds bytes at (text n) next → n < limit → number_at short w at bytes ≡ Ok n
@@ -176,6 +186,7 @@ number_again short w limit text wide at next bytes n h lt =
     rw (bytes_again short (byte_len w) at next bytes (text n) h (wide.len n))
     (ap done (wide.again n lt))
 
+-- a number that was read and passes stands there in its one spelling
 pub field_takes : {K : Type 0} (short : K) (w : Width) (limit : ℕ) (text : ℕ
     → List ℕ) (wide : IsWide w limit text) (passes : ℕ
     → Bool) (kind : K) (at next : ℕ) (bytes : List ℕ) (n : ℕ)
@@ -188,6 +199,7 @@ field_takes {K = K} short w limit text wide passes kind at next bytes n fits e n
     subst (λ (k : ℕ). Holds bytes at (text k) next × (k < limit)
     × (passes k ≡ true)) (ok_is a.0 n b.2) (t.0, t.1, rule_ok (passes a.0) at kind b.0 b.1)
 
+-- a number that stands there and passes is read
 pub field_again : {K : Type 0} (short : K) (w : Width) (limit : ℕ) (text : ℕ
     → List ℕ) (wide : IsWide w limit text) (passes : ℕ
     → Bool) (kind : K) (at next : ℕ) (bytes : List ℕ) (n : ℕ)

@@ -16,6 +16,7 @@ is_not : (b : Bool) → not b ≡ true → b ≡ false
 is_not true h = absurd cc
 is_not false h = refl
 
+-- a name that was read stands there with its length and its zeros
 pub name_takes : {K : Type 0} (short kind : K) (taken : List ℕ
     → Bool) (at : ℕ) (bytes name : List ℕ) → IsBytes bytes
     → name_at short kind taken at bytes ≡ Ok name
@@ -53,6 +54,7 @@ name_takes short kind taken at bytes name fits e =
       is_not (taken (take a.0 b.0)) new.1,
     )
 
+-- a name that stands there and is new is read
 pub name_again : {K : Type 0} (short kind : K) (taken : List ℕ
     → Bool) (at : ℕ) (bytes name : List ℕ)
     → Holds bytes at (name_bytes name) (at + 17) → fits_name name ≡ true

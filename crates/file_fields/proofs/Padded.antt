@@ -10,13 +10,16 @@ use Rattle.std.proofs.lemmas.List.{length-drop, length-replicate}
 use Rattle.text_lex.specs.Spelled.{fits_name}
 use Rattle.file_fields.specs.Fields.{is_between, is_padded_name, name_bytes}
 
+-- both parts of a test that holds
 pub both : (a b : Bool) → (a && b) ≡ true → (a ≡ true) × (b ≡ true)
 both true b h = (refl, h)
 both false b h = absurd cc
 
+-- a number that passes the test is between the two
 pub between_is : (low high n : ℕ) → is_between low high n ≡ true → (low ≤ n) × (n ≤ high)
 between_is low high n h = (grind (arith, nat_tests), grind (arith, nat_tests))
 
+-- a number between the two passes the test
 pub is-between : (low high n : ℕ) → low ≤ n → n ≤ high → is_between low high n ≡ true
 is-between low high n l h = grind (arith, nat_tests)
 
@@ -45,11 +48,13 @@ padded_is len field e l z =
     let text : ℕ → List ℕ = λ n. n ∷ (take len field ++ replicate (16 - n) 0) in
     ap (λ (f : List ℕ). len ∷ f) whole ∙ ap text (sym size)
 
+-- a name has 1 to 16 bytes
 pub name_short : (name : List ℕ) → fits_name name ≡ true → (1 ≤ length name) × (length name ≤ 16)
 name_short [] h = absurd cc
 name_short (b ∷ bs) h = let t = both _ (leb (length (b ∷ bs)) 16) h in
     (omega arith, grind (arith, nat_tests))
 
+-- a name takes 17 bytes of a file
 pub name_size : (name : List ℕ) → fits_name name ≡ true → length (name_bytes name) ≡ 17
 name_size name h =
     let short = name_short name h in

@@ -20,5 +20,6 @@ all_have : (script : List Instruction) → AllByRecursion IsRight script
 all_have [] all = tt
 all_have (i ∷ script) all = (right_has_name i all.0, all_have script all.1)
 
+-- what an accepted script adds has a name
 pub accepted_has_names : AcceptedHasNames
 accepted_has_names text script e = all_have script (accepted_is_right text script e)

@@ -16,6 +16,7 @@ use Rattle.guard_model.specs.Laws.{VoteIsEvents, VoteIsCounted}
 job_is_through : (job : WaveJob) (banks : Banks) → after (job_events job) banks ≡ through job banks
 job_is_through job banks = fun_ext (through_bank job.commands job.banks banks)
 
+-- a vote's commands leave the banks voted
 pub vote_is_events : VoteIsEvents
 vote_is_events g [] banks = refl
 vote_is_events g (x ∷ []) banks = refl
@@ -47,6 +48,7 @@ banks_counted x y z w a (suc n) k =
     ∙ banks_counted x y z w (a + 1) n (record k { aap = k.aap + 6 * w })
     ∙ with_more k (k.aap + 6 * w + 6 * (w * n)) (k.aap + 6 * (w * suc n)) (omega arith)
 
+-- a vote is counted as its commands
 pub vote_is_counted : VoteIsCounted
 vote_is_counted g [] k = with_more k k.aap (k.aap + 0) (omega arith)
 vote_is_counted g (x ∷ []) k = with_more k k.aap (k.aap + 0) (omega arith)

@@ -97,6 +97,7 @@ written row zero (s ∷ columns) = ap (λ rest. inverted row s ∷ rest) (rewrit
 written row (suc column) (s ∷ columns) = two_lists _ _ _ _ (refresh s (plain (D row)))
     (written row column columns)
 
+-- a flip is a write of its row with one bit inverted
 pub flip_is_write : FlipIsWrite
 flip_is_write f banks = fun_ext (λ bank. elim (eqb_tells f.bank bank) [
   | inl t ↦ rw t.0 (ap (λ b. with_row f.row (with_bit_inverted f.column (row_in f.row (banks b)))

@@ -26,10 +26,12 @@ pub all_pieces : (script : List Instruction) → AllByRecursion IsPiece (map pie
 all_pieces [] = tt
 all_pieces (instr ∷ script) = (one_piece instr, all_pieces script)
 
+-- instructions one by one as pieces are the instructions
 pub all_instrs : (script : List Instruction) → flat_map instrs_in (map piece_of script) ≡ script
 all_instrs [] = refl
 all_instrs (instr ∷ script) = rw (one_instr instr, all_instrs script) refl
 
+-- a guarded instruction's events leave the banks as its plain instructions do
 pub step_is_events : StepIsEvents
 step_is_events g operations turn table instr banks some f =
     pieces_steps g operations turn table (guarded_pieces g operations table instr) banks some f
@@ -37,6 +39,7 @@ step_is_events g operations turn table instr banks some f =
     ∙ ap (banks_at_end g operations table banks)
     (all_instrs (plain_script g operations table instr))
 
+-- a guarded instruction is counted as its plain instructions
 pub step_is_counted : StepIsCounted
 step_is_counted g operations turn table instr k some f =
     pieces_counted g operations turn table (guarded_pieces g operations table instr) k some f

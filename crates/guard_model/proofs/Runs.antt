@@ -17,10 +17,12 @@ use Rattle.machine_model.specs.Script.{replies, words_at_end, table_at_end, plus
 use Rattle.machine_model.proofs.Scripts.{table_step}
 use Rattle.guard_model.specs.Guarded.{joined, done_ones, removal}
 
+-- an instruction that is not refused is done
 pub if_none : {S : Type 0} (r : Option Why) (x y : S) → r ≡ None → if_done r x y ≡ x
 if_none None x y e = refl
 if_none (Some w) x y e = cc
 
+-- an instruction that is refused leaves all as it was
 pub if_some : {S : Type 0} (r : Option Why) (w : Why) (x y : S) → r ≡ Some w → if_done r x y ≡ y
 if_some None w x y e = cc
 if_some (Some v) w x y e = refl
@@ -74,6 +76,7 @@ reply_more g operations table i rest c e =
     ∙ ap (λ t. joined (plus c (counts_for g operations table i)) (replies g operations t rest))
     (if_none (refusal g operations table i) (tabled g table i) table e)
 
+-- where the first is not refused, it is done and the others go on
 pub done_more : (g : Geometry) (operations : Routines) (table : List Named) (i : Instruction)
     (rest : List Instruction) → refusal g operations table i ≡ None
     → done_ones g operations table (i ∷ rest) ≡ i ∷ done_ones g operations (tabled g table i) rest
@@ -81,17 +84,20 @@ done_more g operations table i rest e =
     if_none (refusal g operations table i) _ _ e ∙ ap (λ t. i ∷ done_ones g operations t rest)
     (if_none (refusal g operations table i) (tabled g table i) table e)
 
+-- where the first is refused, that is the reply to all
 pub reply_first : (g : Geometry) (operations : Routines) (table : List Named) (i : Instruction)
     (rest : List Instruction) (c : Counts) (w : Why) → refusal g operations table i ≡ Some w
     → joined c (replies g operations table (i ∷ rest)) ≡ Refused w
 reply_first g operations table i rest c w e = joined_first (refusal g operations table i) w
     (counts_for g operations table i) c _ e
 
+-- where the first is refused, none is done
 pub done_first : (g : Geometry) (operations : Routines) (table : List Named) (i : Instruction)
     (rest : List Instruction) (w : Why) → refusal g operations table i ≡ Some w
     → done_ones g operations table (i ∷ rest) ≡ []
 done_first g operations table i rest w e = if_some (refusal g operations table i) w _ [] e
 
+-- the counts before the first instruction
 abbrev pub none_yet : Counts
 none_yet = record { aap = 0; ap = 0 }
 
@@ -99,11 +105,13 @@ none_yet = record { aap = 0; ap = 0 }
 abbrev pub script_by : Bool → List Instruction → List Instruction
 script_by refused done = cond refused (done ++ flat_map removal done) done
 
+-- the plain script of some instructions: all of them, or none where one is refused
 abbrev pub script_for : Geometry → Routines → List Named → List Instruction → List Instruction
 script_for g operations table script = script_by
     (is_refused (joined none_yet (replies g operations table script)))
     (done_ones g operations table script)
 
+-- where none is refused, all are done
 pub script_done : (g : Geometry) (operations : Routines) (table : List Named)
     (script : List Instruction) → AllDone g operations table script
     → script_for g operations table script ≡ script
@@ -115,6 +123,7 @@ empty_script : (b : Bool) → script_by b [] ≡ []
 empty_script true = refl
 empty_script false = refl
 
+-- where the first is refused, nothing is done and nothing is taken back
 pub script_refused : (g : Geometry) (operations : Routines) (table : List Named) (i : Instruction)
     (rest : List Instruction) (w : Why) → refusal g operations table i ≡ Some w
     → script_for g operations table (i ∷ rest) ≡ []

@@ -120,6 +120,7 @@ sorted_from : (g : Geometry) (instrs : ℕ) (flips : List Flip) → AllByRecursi
 sorted_from g instrs [] all s = tt
 sorted_from g instrs (f ∷ flips) all s = (all.0.first, s.1)
 
+-- the flips of a text are flips of the chip, in order
 pub flips_are_right : FlipsAreRight
 flips_are_right g instrs text flips h = let r = from_right g instrs 1 (lines_of text) 0 flips h in
     (r.0, sorted_from g instrs flips r.0 r.1)

@@ -98,6 +98,7 @@ pub and_both : (a b : Bool) → (a && b) ≡ true → (a ≡ true) × (b ≡ tru
 and_both true b h = (refl, h)
 and_both false b h = cc
 
+-- a copy has the first one's name but for the letter, its width and its count
 pub copy_is : (letter : ℕ) (first p : Named) → is_copy letter first p ≡ true
     → (p.0 ≡ letter ∷ drop 1 first.0) × (p.1.width ≡ first.1.width) × (p.1.count ≡ first.1.count)
 copy_is letter first p h =

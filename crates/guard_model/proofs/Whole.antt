@@ -304,6 +304,7 @@ all_or_none g operations table instr plain name triples =
     (plain_script g operations t instr ≡ [])) triples
     (λ ts have. (step g operations no_meaning ts instr have name).even plain)
 
+-- a guarded instruction keeps the table one of triples
 pub triples_kept : TriplesKept
 triples_kept g operations table instr name triples = on_table g operations table
     (λ t. first_stranger (guarded_table g operations t instr) ≡ None) triples
@@ -322,6 +323,7 @@ held_table : (i : Image) (table : List Named) → table_of
 held_table i [] = refl
 held_table i (p ∷ table) = ap (λ r. p ∷ r) (held_table i table)
 
+-- a guarded run by a text ends as the word machine without flips
 pub guarded_text : GuardedTextGivesWords
 guarded_text p t i flips script good does plain names triples equal one =
     let table = held_table i i.table in

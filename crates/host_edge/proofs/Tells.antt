@@ -17,6 +17,7 @@ Known-map None b to r = tt
 Known-map (Some x) None to r = absurd r
 Known-map (Some x) (Some y) to r = to x y r
 
+-- what stays is related to itself, if it is known
 pub Known-same : {A : Type 0} (R : A → A → Type 0) (a : Option A) → ((x : A) → R x x) → Known R a a
 Known-same R None same = tt
 Known-same R (Some x) same = same x

@@ -44,6 +44,7 @@ small b made slim = record {
   subs = slim.subs;
 }
 
+-- a loop program of the right form with graphs that `Mig` makes can be compiled
 pub made_compile : (may_have : ℕ → Spot → Type 0) → MadeCompile may_have
 made_compile may_have ss made form = (
   parts_both IsMade IsSlim IsWellFormed well ss made form.slim,

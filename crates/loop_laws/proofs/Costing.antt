@@ -71,12 +71,15 @@ plain-turn false x b l = l
 pub turn-plain : (b : Block) → turn_cost b ≤ plain_cost b
 turn-plain b = plain-turn (is_copy b) _ (body_cost b) (own-most b)
 
+-- a body takes at most four commands a node and three an output
 pub plain-most : (b : Block) → plain_cost b ≤ body_cost b
 plain-most b = at-most (is_copy b) 1 (body_cost b) (body_cost b) (λ e. omega (arith, copy-long b e))
     (omega arith)
 
+-- and no more with its own sequence
 pub turn-most : (b : Block) → turn_cost b ≤ body_cost b
 turn-most b = omega (arith, turn-plain b, plain-most b)
 
+-- no sequence of its own makes a round dearer
 pub rounds-plain : (rs : List (RoundOf Block)) → rounds_cost rs ≤ plain_costs rs
 rounds-plain rs = sum_most turn_cost plain_cost turn-plain rs

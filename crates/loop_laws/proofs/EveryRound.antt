@@ -345,6 +345,7 @@ pub rounds_among : (P Q : Spot → Type 0) → ((q : Spot) → P q → Q q)
 rounds_among P Q h n [] all = tt
 rounds_among P Q h n (r ∷ rs) all = (round_among P Q h n r all.0, rounds_among P Q h n rs all.1)
 
+-- the tests on the marks say of every round at every width what it has to keep
 pub marks_are_enough : (may_have : ℕ → Spot → Type 0) → MarksAreEnough may_have
 marks_are_enough may_have rooms steps are among tested short =
     let ss = placed_steps rooms steps in

@@ -17,6 +17,7 @@ Apart n o count p q = (i j : ℕ) → i < count → j < count → spot_at n i o 
 abbrev pub Same : ℕ → ℕ → ℕ → Place → Place → Type 0
 Same n o count p q = (i j : ℕ) → i < count → j < count → spot_at n i o p ≡ spot_at n j o q
 
+-- the row of a place at a position is none that one of these places had at an earlier position
 abbrev pub AllBefore : ℕ → ℕ → ℕ → Place → List Place → Type 0
 AllBefore n o count p [] = Unit {0}
 AllBefore n o count p (q ∷ qs) = Before n o count p q × AllBefore n o count p qs
@@ -37,6 +38,7 @@ abbrev pub ReadPlace : ℕ → ℕ → ℕ → List Place → Place → Origin �
 ReadPlace n o count ws p Standing = AllBefore n o count p ws
 ReadPlace n o count ws p (Carried w) = (w < length ws) × Same n o count p (nth_place ws w)
 
+-- each read has the origin that is given for it
 abbrev pub ReadPlaces : ℕ → ℕ → ℕ → List Place → List Place → List Origin → Type 0
 ReadPlaces n o count ws [] [] = Unit {0}
 ReadPlaces n o count ws [] (x ∷ xs) = ⊥
@@ -68,6 +70,7 @@ are_apart n o count (p ∷ ps) all i j (suc w) zero li lj lw lx e =
 are_apart n o count (p ∷ ps) all i j (suc w) (suc x) li lj lw lx e =
     ap suc (are_apart n o count ps all.1 i j w x li lj (omega arith) (omega arith) e)
 
+-- rows of two spaces are not one
 pub space_other : (a b : Space) (v w x y : ℕ) → (a ≡ b → ⊥)
     → ◌≡◌ {A = Spot} (record { space = a; which = v; index = w })
     (record { space = b; which = x; index = y }) → ⊥

@@ -53,9 +53,11 @@ spot_same p q e = ap (λ x. same_spot p x) (sym e)
     == p.index) (space_same p.space) (and_from (p.which == p.which) (p.index
     == p.index) (eq-eqb p.which p.which refl) (eq-eqb p.index p.index refl))
 
+-- a row that is set has the bit it was set to
 pub set_same : (bits : Spots) (p : Spot) (v : Bool) (q : Spot) → q ≡ p → set_spot bits p v q ≡ v
 set_same bits p v q e = ap (λ b. cond b v (bits q)) (spot_same q p e)
 
+-- a row that is set leaves every other
 pub set_other : (bits : Spots) (p : Spot) (v : Bool) (q : Spot) → (q ≡ p → ⊥)
     → set_spot bits p v q ≡ bits q
 set_other bits p v q ne =

@@ -19,6 +19,7 @@ rounds_append n (r ∷ rs) ss bits = rounds_append n rs ss (after_round n r bits
 abbrev pub after_steps : ℕ → List (StepOf Block) → Spots → Spots
 after_steps n ss bits = after_rounds n (all_rounds n ss) bits
 
+-- a body at each position, and then the steps after it
 pub steps_each : (n : ℕ) (b : Block) (ss : List (StepOf Block)) (bits : Spots)
     → after_steps n (Along b ∷ ss) bits ≡ after_steps n ss (after_many n 0 b n bits)
 steps_each n b ss bits =
@@ -63,6 +64,7 @@ outer_more n ps o (suc count) bits =
     ∙ outer_more n ps (suc o) count bits
     ∙ ap (λ x. after_outer n ps x bits) f
 
+-- a nest, and then the steps after it
 pub steps_nest : (n : ℕ) (ps : List (InnerOf Block)) (ss : List (StepOf Block)) (bits : Spots)
     → after_steps n (Nest ps ∷ ss) bits ≡ after_steps n ss (after_outer n ps n bits)
 steps_nest n ps ss bits =

@@ -9,6 +9,7 @@ use Rattle.loop_ir.specs.Plain.InnerOf.{Alone, Across}
 use Rattle.loop_ir.specs.Plain.StepOf.{Single, Along, Nest}
 use Rattle.loop_ir.specs.Loops.{RoundOf, round_at, one_round, rounds, inner_rounds, all_rounds}
 
+-- a number of each body, summed over all rounds
 abbrev pub rounds_sum : (Block → ℕ) → List (RoundOf Block) → ℕ
 rounds_sum f rs = sum_by (λ r. f r.part) rs
 

@@ -49,10 +49,12 @@ pub accepted_is_right : (text : List ℕ) (script : List Instruction) → script
     → AllByRecursion IsRight script
 accepted_is_right text script e = lines_right 1 (lines_of text) script e
 
+-- what an accepted script says has sizes as every script has
 pub all_plain : (script : List Instruction) → AllByRecursion IsRight script
     → AllByRecursion IsPlain script
 all_plain [] all = tt
 all_plain (i ∷ script) all = (right_is_plain i all.0, all_plain script all.1)
 
+-- an accepted script has sizes as every script has
 pub accepted_is_plain : AcceptedIsPlain
 accepted_is_plain text script e = all_plain script (accepted_is_right text script e)

@@ -74,6 +74,7 @@ named_apart limit state x y t a b ne =
     (subst (λ (o : Object). AreApart (get_or state a.place no_one).object o) (sym b.object)
     (apart_places limit state a.place b.place t a.within b.within (places_differ state x y a b ne)))
 
+-- a row from the base on, within the width, is the object's
 pub has_from : (o : Object) (row : ℕ) → o.base ≤ row → row < o.base + o.width → has_row o row ≡ true
 has_from o row a b = grind (arith, nat_tests)
 
@@ -128,6 +129,7 @@ named_within limit state name t f = subst (λ (o : Object). end_of o
 names_ne : (x y : List ℕ) → bytes_eq x y ≡ false → x ≡ y → ⊥
 names_ne x y h e = let s = bytes_same x y e in cc
 
+-- neither part of an or that is false holds
 pub or_false : (a b : Bool) → (a || b) ≡ false → (a ≡ false) × (b ≡ false)
 or_false true b h = cc
 or_false false b h = (refl, h)

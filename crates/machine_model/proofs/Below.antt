@@ -103,6 +103,7 @@ and_both : (a b : Bool) → (a && b) ≡ true → (a ≡ true) × (b ≡ true)
 and_both true b h = (refl, h)
 and_both false b h = cc
 
+-- what holds of a range of rows holds of each of them
 pub all_in : (p : ℕ → Bool) (a n c : ℕ) → list_all p (range_with_len a n) ≡ true → a ≤ c → c < a + n
     → p c ≡ true
 all_in p a zero c h l m = absurd (omega arith)
@@ -159,6 +160,7 @@ row_free limit objects row i d h l =
       not_true true h = cc
       not_true false h = refl
 
+-- a free row is one that objects may lie in
 pub row_within : (limit : ℕ) (objects : List Object) (row : ℕ) → is_free limit objects row ≡ true
     → row < limit
 row_within limit objects row h = let both = and_both (ltb row limit)

@@ -284,6 +284,7 @@ script_few g p table (instr ∷ script) some few t plain =
       printed = omega (arith, rows, rest.printed, rows_printed_few g p table some few t instr);
     }
 
+-- a script sends no more commands, and moves no more rows, than its length allows
 pub work_is_bounded : WorkIsBounded
 work_is_bounded g p table script h t plain =
     let parts = geometry_parts g h in

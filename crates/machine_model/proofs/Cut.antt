@@ -12,6 +12,7 @@ use Rattle.machine_model.specs.Pieces.{Piece, Wave, Alone, pieces_from, pieces, 
 use Rattle.machine_model.specs.Laws.{PiecesAreCut}
 use Rattle.machine_model.proofs.Pieces.{pieces_are_script}
 
+-- an instruction that is no bbop is a piece by itself
 pub alone_cut : (instr : Instruction) (script : List Instruction) → is_bbop instr ≡ false
     → pieces (instr ∷ script) ≡ Alone instr ∷ pieces script
 alone_cut instr script h = rw h refl
@@ -105,6 +106,7 @@ first_wave (instr ∷ script) some =
       first_case true some e = e
       first_case false some e = absurd (omega arith)
 
+-- a script that begins with bbops begins with their wave
 pub wave_cut : (script : List Instruction) → 0 < wave_size script → pieces script
     ≡ Wave (take (wave_size script) script) ∷ pieces (drop (wave_size script) script)
 wave_cut script some =

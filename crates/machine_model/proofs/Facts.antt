@@ -19,20 +19,24 @@ use Rattle.machine_model.specs.Refusals.{first, when, at_place, object_named, is
 use Rattle.machine_model.specs.Refusals.{walks_badly, bbop_conditions, dsts_in, srcs_in, is_one_of}
 use Rattle.machine_model.specs.Refusals.{repeats}
 
+-- where no condition holds, neither the first does nor any after it
 pub first_none : (c : Option Why) (rest : List (Option Why)) → first (c ∷ rest) ≡ None
     → (c ≡ None) × (first rest ≡ None)
 first_none None rest h = (refl, h)
 first_none (Some w) rest h = cc
 
+-- a condition that tells no reason does not hold
 pub when_none : (b : Bool) (w : Why) → when b w ≡ None → b ≡ false
 when_none true w h = cc
 when_none false w h = refl
 
+-- where no place is told, neither the first is at fault nor any after it
 pub place_none : (w : ℕ → Why) (k : ℕ) (b : Bool) (bs : List Bool) → at_place w k (b ∷ bs) ≡ None
     → (b ≡ false) × (at_place w (k + 1) bs ≡ None)
 place_none w k true bs h = cc
 place_none w k false bs h = (refl, h)
 
+-- what is not refused for being absent is there
 pub not_false : (b : Bool) → not b ≡ false → b ≡ true
 not_false true h = refl
 not_false false h = cc
@@ -43,6 +47,7 @@ pub record IsOperand (table : List Named) (count n : ℕ) (kind : Kind) (name : 
   pub wide : (object_named table name).width ≡ width kind n
   pub counted : (object_named table name).count ≡ count
 
+-- each name is that of an object that fits its operand, in order
 pub data AreOperands (table : List Named) (count n : ℕ) : List Kind → List (List ℕ) → Type 0 where
   none : AreOperands table count n [] []
   more : (kind : Kind) (kinds : List Kind) (name : List ℕ) (names : List (List ℕ))
@@ -129,6 +134,8 @@ pub record IsGood (g : Geometry) (table : List Named) (o : Routine) (names : Lis
   pub walks : walks_badly (o.trace n) ≡ None
   pub room : is_none (free (limit_of g) (objects_of table) (need o.shape n)) ≡ false
 
+-- a bbop that passes all conditions has operands that fit, a walk that ends, and room for its
+-- scratch
 pub good : (g : Geometry) (table : List Named) (o : Routine) (names : List (List ℕ)) (count n : ℕ)
     → first (bbop_conditions (limit_of g) table o names count n) ≡ None
     → IsGood g table o names count n

@@ -127,6 +127,7 @@ banks_after cs a (suc n) banks bank l =
     (banks_after cs (a + 1) n (after (row_events a cs) banks) bank (omega arith)
     ∙ on-others a cs banks bank (λ e. absurd (omega arith)))
 
+-- commands on the first banks leave each bank as they leave its columns
 pub through_bank : (cs : List Command) (k : ℕ) (banks : Banks) (bank : ℕ)
     → after (on_banks cs 0 k) banks bank ≡ through (record { commands = cs; banks = k }) banks bank
 through_bank cs k banks bank =

@@ -37,6 +37,7 @@ walk_ends : (t : Trace) → walks_badly t ≡ None → HasEnded t
 walk_ends (Ended issues) h = tt
 walk_ends (Stuck at reason) h = cc
 
+-- a bbop that is not refused can be run
 pub grants_fit : GrantsFit
 grants_fit g operations table o op dst srcs count n some t e h =
     let facts = granted g operations table o op dst srcs count n e h in

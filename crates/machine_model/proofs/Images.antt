@@ -51,6 +51,7 @@ names_tabled g table (Fill name value) right all = all
 names_tabled g table (Print name) right all = all
 names_tabled g table (Order o) right all = all
 
+-- after a script each object still has a name that a file has room for
 pub names_stay : (g : Geometry) (operations : Routines) (table : List Named)
     (script : List Instruction) → AllByRecursion IsRight script → HasNames table
     → HasNames (table_at_end g operations table script)

@@ -178,6 +178,7 @@ pub program_keeps : (p : Program) → IsProgram p → KeepsAll (routines_in p)
 program_keeps p good name o is =
     entry_holds KeepsRows p name o (entries_keep p good.entries) is
 
+-- a row that no done instruction touches is as it was, whatever the program does
 pub untouched_stays : UntouchedStays
 untouched_stays g p table script banks bank row good t plain out =
     script_kept g (routines_in p) script (program_keeps p good) plain table t banks bank row out

@@ -101,6 +101,7 @@ sum_append (r ∷ rs) ss =
       regroup : (x a b : ℕ) → x + (a + b) ≡ x + a + b
       regroup x a b = omega arith
 
+-- a script goes on where its first part ends
 pub scripts_go_on : ScriptsGoOn
 scripts_go_on g operations table xs ys = record {
   tables = table_append g operations table xs ys;
@@ -111,6 +112,7 @@ scripts_go_on g operations table xs ys = record {
   touched = touched_append g operations table xs ys;
 }
 
+-- pieces go on where the first of them end
 pub pieces_go_on : AllPiecesGoOn
 pieces_go_on g operations turn table [] qs = record { turns = refl; events = refl }
 pieces_go_on g operations turn table (p ∷ ps) qs =
@@ -206,6 +208,7 @@ wave_rows rows g operations table (instr ∷ wave) none h =
     let rest = wave_rows rows g operations (table_after g operations table instr) wave none h.1 in
     omega (arith, first, rest)
 
+-- a wave is answered bbop by bbop, and leaves the table
 pub waves_are_answered : WavesAreAnswered
 waves_are_answered g operations table wave h = record {
   tables = wave_table g operations table wave h;
@@ -215,6 +218,7 @@ waves_are_answered g operations table wave h = record {
   printed = wave_rows rows_printed g operations table wave (bbop_prints g operations) h;
 }
 
+-- lines go on with the number after the last
 pub lines_go_on : LinesGoOn
 lines_go_on number [] ys =
     let e : number ≡ number + 0 = omega arith in ap (λ k. lines k ys) e

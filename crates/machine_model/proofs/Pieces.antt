@@ -87,6 +87,7 @@ pieces_are wave (instr ∷ script) h l =
     (λ e m. pieces_are (wave ++ instr ∷ []) script (all_more wave instr h e) m)
     (pieces_are [] script tt (omega arith))
 
+-- the pieces of a script are the script
 pub pieces_are_script : PiecesAreScript
 pieces_are_script script = pieces_are [] script tt (omega arith)
 
@@ -174,6 +175,7 @@ wave_alike g operations some turn table wave f h =
     (picks_alike g.banks picks (jobs_of g operations table wave)
     (jobs_fit g operations table _ some f) (turns_whole turn g.banks left))
 
+-- each bank sees the events of its instructions in their order, under every order in force
 pub seen_in_order : SeenInOrder
 seen_in_order g operations turn table script bank some f =
     script_is Alike (λ es bank. refl) Alike-append g operations (wave_alike g operations some)
@@ -191,12 +193,14 @@ pieces_steps g operations turn table ps chip some f h =
     turn table ps f h) chip
     ∙ in_order_steps g operations table (flat_map instrs_in ps) chip
 
+-- a script's events leave the banks as its instructions one after another do
 pub events_are_steps : EventsAreSteps
 events_are_steps g operations turn table script chip some f =
     let p = pieces_are_script script in
     pieces_steps g operations turn table (pieces script) chip some f p.0
     ∙ ap (banks_at_end g operations table chip) p.1
 
+-- a piece's events leave the banks as its instructions one after another do
 pub piece_is_steps : PieceIsSteps
 piece_is_steps g operations turn table piece chip some f h =
     ap (λ es. after es chip) (sym (append-nil (piece_events g operations turn table piece)))
@@ -215,12 +219,14 @@ pieces_counted g operations turn table ps k some f h =
     turn table ps f h) k
     ∙ in_order_counted g operations table (flat_map instrs_in ps) k
 
+-- a script's events are counted by its replies and the rows it loads
 pub counted_by_replies : CountedByReplies
 counted_by_replies g operations turn table script k some f =
     let p = pieces_are_script script in
     pieces_counted g operations turn table (pieces script) k some f p.0
     ∙ ap (λ xs. counters_at_end g operations table xs k) p.1
 
+-- a piece's events are counted by its replies and the rows it loads
 pub piece_counted : PieceIsCounted
 piece_counted g operations turn table piece k some f h =
     ap (λ es. all_counted es k) (sym (append-nil (piece_events g operations turn table piece)))

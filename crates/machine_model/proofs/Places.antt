@@ -14,9 +14,11 @@ use Rattle.object_alloc.specs.Listed.{Named, IsTable, has_name}
 use Rattle.machine_model.specs.Refusals.{object_named, nothing}
 use Rattle.machine_model.specs.Steps.{Held, table_of, numbers_named}
 
+-- names that are found equal are one
 pub same_bytes : (xs ys : List ℕ) → bytes_eq xs ys ≡ true → xs ≡ ys
 same_bytes xs ys h = (bytes_eq-Decides xs ys).0 h
 
+-- one name is found equal to itself
 pub bytes_same : (xs ys : List ℕ) → xs ≡ ys → bytes_eq xs ys ≡ true
 bytes_same xs ys e = (bytes_eq-Decides xs ys).1 e
 
@@ -24,6 +26,7 @@ ne_case : (b : Bool) → (b ≡ true → ⊥) → b ≡ false
 ne_case true f = absurd (f refl)
 ne_case false f = refl
 
+-- names that differ are told apart
 pub bytes_differ : (xs ys : List ℕ) → xs ≢ ys → bytes_eq xs ys ≡ false
 bytes_differ xs ys n = ne_case _ (λ t. n (same_bytes xs ys t))
 
@@ -50,6 +53,7 @@ find_key key (x ∷ xs) (suc k) d a h =
     (find_key key xs k d (λ i j e l m. a (suc i) (suc j) e (omega arith) (omega arith))
     (omega arith))
 
+-- to find in a mapped list is to find what maps to it
 pub find_map : {X Y : Type 0} (f : X → Y) (p : Y → Bool) (xs : List X)
     → find p (map f xs) ≡ option_map f (find (λ x. p (f x)) xs)
 find_map f p [] = refl
@@ -61,9 +65,11 @@ find_map f p (x ∷ xs) = find_map_case f p x xs (p (f x)) (find_map f p xs) whe
   find_map_case f p x xs true go = refl
   find_map_case f p x xs false go = go
 
+-- what is read of a name that no object has, with its numbers
 abbrev pub no_one : Held
 no_one = record { name = []; object = nothing; numbers = [] }
 
+-- a held object as the table has it
 abbrev pub entry_of : Held → Named
 entry_of h = (h.name, h.object)
 

@@ -198,6 +198,7 @@ length_case : (t : Bool) (f : Column → Column) (columns : List Column)
 length_case true f columns = simp length-map
 length_case false f columns = refl
 
+-- commands leave as many columns as there were
 pub through_length : (job : WaveJob) (banks : Banks) (bank : ℕ)
     → length (through job banks bank) ≡ length (banks bank)
 through_length job banks bank = length_case (ltb bank job.banks) (run job.commands) (banks bank)

@@ -30,6 +30,7 @@ pub record IsMade (g : Geometry) (table : List Named) (name : List ℕ) (count n
   pub fits : count ≤ column_count g * g.banks
   pub room : is_none (free (limit_of g) (objects_of table) n) ≡ false
 
+-- an object that is made has a new name and free rows
 pub made : (g : Geometry) (operations : Routines) (table : List Named) (name : List ℕ)
     (count n : ℕ) → refusal g operations table (Init name count n) ≡ None
     → IsMade g table name count n
@@ -110,6 +111,7 @@ objects_after g operations table instr plain all =
     kept_done (AreObjects g) (refusal g operations table instr) (tabled g table instr) table
     (objects_tabled g operations table instr plain all) all
 
+-- after an instruction the table is still one that a machine may have
 pub table_fits_after : (g : Geometry) (operations : Routines) (table : List Named)
     (instr : Instruction) → IsPlain instr → TableFits g table
     → TableFits g (table_after g operations table instr)
@@ -125,5 +127,6 @@ table_stays g operations table (instr ∷ script) plain t =
     table_stays g operations (table_after g operations table instr) script plain.1
     (table_fits_after g operations table instr plain.0 t)
 
+-- a table that a machine may have lies in its banks
 pub fits_banks : (g : Geometry) (table : List Named) → TableFits g table → FitsBanks g table
 fits_banks g table t k d l = (t.objects k d l).fits

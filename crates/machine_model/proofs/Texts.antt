@@ -25,6 +25,7 @@ matched_case : (e : Microprogram) (o : TextOp) (b : Bool) (x : Option Microprogr
 matched_case e o true x y d m = both e o d
 matched_case e o false x y d m = m
 
+-- the entry and the op of a name, where the program does the text
 pub matched : (p : Program) (t : List TextOp) (name : List ℕ) → ImplementsAll p t
     → Matched (entry_named p name) (text_op_named t name)
 matched [] [] name i = neither
@@ -73,6 +74,7 @@ does_case (Some e) (Some o) r n (both _ _ d) h l k =
     d.shape)
     (both_parts d.code n l k))
 
+-- a program that does a text does what its ops mean
 pub does_all : (p : Program) (t : List TextOp) → ImplementsAll p t
     → DoesAll (routines_of t p) (meaning_in t)
 does_all p t i name r h n l k = does_case (entry_named p name) (text_op_named t name) r n

@@ -13,6 +13,7 @@ use Rattle.machine_model.proofs.Loaded.{load_agrees}
 use Rattle.machine_model.proofs.Scripts.{script_agrees}
 use Rattle.machine_model.proofs.Texts.{does_all}
 
+-- each instruction on the rows gives what the word machine gives
 pub every_step : (g : Geometry) (operations : Routines) (meaning : List ℕ → ℕ → List ℕ
     → List ℕ) (instr : Instruction) → 0 < g.words → DoesAll operations meaning → IsPlain instr
     → StepAgrees g operations meaning instr
@@ -38,11 +39,13 @@ every_steps g operations meaning (instr ∷ script) words does plain = (
   every_steps g operations meaning script words does plain.1,
 )
 
+-- after a script the banks hold what the word machine holds
 pub rows_give_words : RowsGiveWords
 rows_give_words g operations meaning script words does plain =
     script_agrees g operations meaning script
     (every_steps g operations meaning script words does plain)
 
+-- so it is with a program that does a text
 pub text_gives_words : TextGivesWords
 text_gives_words g p t script words i plain =
     rows_give_words g (routines_of t p) (meaning_in t) script words (does_all p t i) plain

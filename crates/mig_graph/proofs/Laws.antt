@@ -34,10 +34,12 @@ values-push k (n ∷ ns) m v =
     ∙ ap (λ j. with_value j (node_value (values_from k (n ∷ ns) v) m) (values_from k (n ∷ ns) v))
     (sym e)
 
+-- a literal's value rests on the nodes below it alone
 pub lit-below : (v w : ℕ → Bool) (k : ℕ) (l : Lit) → ((n : ℕ) → n < k → v n ≡ w n) → l.node < k
     → lit_value v l ≡ lit_value w l
 lit-below v w k l h b = ap (flip_if l.inverted) (h l.node b)
 
+-- a node's value rests on the nodes below it alone
 pub node-below : (v w : ℕ → Bool) (k : ℕ) (n : Node) → ((n : ℕ) → n < k → v n ≡ w n) → IsLower k n
     → node_value v n ≡ node_value w n
 node-below v w k n h b = rw (
@@ -64,6 +66,7 @@ values-at k (n ∷ ns) v (suc j) h l =
     rw e (values-at (k + 1) ns (with_value k (node_value v n) v) j (λ i b. let f : k + suc i
     ≡ k + 1 + i = omega arith in rw f at (h (suc i) (omega arith))) (omega arith))
 
+-- a majority does not rest on the order of its first two
 pub majority-swap : (a b c : Bool) → majority a b c ≡ majority b a c
 unfolding majority
 majority-swap true true c = refl
@@ -71,6 +74,7 @@ majority-swap true false c = refl
 majority-swap false true c = refl
 majority-swap false false c = refl
 
+-- nor on that of its last two
 pub majority-tail : (a b c : Bool) → majority a b c ≡ majority a c b
 unfolding majority
 majority-tail true true true = refl
@@ -107,6 +111,7 @@ any-order v n x y z (inr (inr (inr (inr (inr e))))) =
     ∙ majority-tail (lit_value v y) (lit_value v z) (lit_value v x)
     ∙ majority-swap (lit_value v y) (lit_value v x) (lit_value v z))
 
+-- to complement twice is not to complement
 pub flip-not : (i b : Bool) → flip_if (not i) b ≡ not (flip_if i b)
 flip-not true true = refl
 flip-not true false = refl
@@ -258,6 +263,7 @@ value-kept g h bits l e (inr f) b =
 pub value-zero : (g : Graph) (bits : ℕ → Bool) → values g bits 0 ≡ false
 value-zero g bits = values-below (g.inputs + 1) g.nodes (start bits) 0 (omega arith)
 
+-- input k is node k + 1
 pub value-input : (g : Graph) (bits : ℕ → Bool) (k : ℕ) → k < g.inputs
     → values g bits (k + 1) ≡ bits k
 value-input g bits k l = values-below (g.inputs + 1) g.nodes (start bits) (k + 1) (omega arith)

@@ -34,6 +34,7 @@ pub value-complemented : (v : ℕ → Bool) (i : Bool) (l : Lit)
 value-complemented v true l = flip-not l.inverted (v l.node)
 value-complemented v false l = refl
 
+-- a complement names the same node
 pub complemented-node : (i : Bool) (l : Lit) → (complement_if i l).node ≡ l.node
 complemented-node true l = refl
 complemented-node false l = refl

@@ -67,6 +67,7 @@ image_spelled bytes found fits e =
     (ok_is made found d.2)
     (is, text ∙ ap (λ (r : List ℕ). head_bytes b.0 c.0 ++ r) (sym again))
 
+-- the table of an image takes 24 bytes for each object
 pub objects_size : (table : List Named) → All (λ named. fits_name named.0 ≡ true) table
     → length (flat_map object_bytes table) ≡ 24 * length table
 objects_size [] h = refl

@@ -76,6 +76,7 @@ opening_again bytes h =
 
 -- ---- the geometry
 
+-- a shape that was read stands there in its six bytes, and is one that a chip may have
 pub geometry_takes : (at : ℕ) (bytes : List ℕ) (g : Geometry) → IsBytes bytes
     → geometry_at at bytes ≡ Ok g → Holds bytes at (geometry_bytes g) (at + 6)
     × (is_geometry g ≡ true)
@@ -123,6 +124,7 @@ pub record Bounds (g : Geometry) : Type 0 where
   pub words : is_between 1 1024 g.words ≡ true
   pub size : fits_size g ≡ true
 
+-- the bounds of a shape that a chip may have, one by one
 pub bounds_of : (g : Geometry) → is_geometry g ≡ true → Bounds g
 bounds_of g h =
     let t = both (is_between 1 16 g.banks && is_between 64 1006 g.rows && is_between 1 1024 g.words)
@@ -132,6 +134,7 @@ bounds_of g h =
     let v = both (is_between 1 16 g.banks) (is_between 64 1006 g.rows) u.0 in
     record { banks = v.0; rows = v.1; words = u.1; size = t.1 }
 
+-- a shape that stands there is read
 pub geometry_again : (at : ℕ) (bytes : List ℕ) (g : Geometry)
     → Holds bytes at (geometry_bytes g) (at + 6) → is_geometry g ≡ true
     → geometry_at at bytes ≡ Ok g
@@ -246,6 +249,7 @@ no_listed g = record {
   objects = λ k d l. absurd (omega arith);
 }
 
+-- a table that was read stands there, and is one that an image may have
 pub table_takes : (g : Geometry) (at : ℕ) (bytes : List ℕ) (table : List Named) → IsBytes bytes
     → table_at g at bytes ≡ Ok table → Holds bytes at (table_bytes table) (at + 2 + 24
     * length table) × IsListed g table
@@ -368,6 +372,7 @@ objects_again (named ∷ more) g earlier at bytes is t h =
     (subst (IsListed g) (sym grouped) t) back in
     rw first (rest ∙ ap (λ (x : List Named). Ok x) grouped)
 
+-- a table that stands there is read
 pub table_again : (g : Geometry) (at : ℕ) (bytes : List ℕ) (table : List Named)
     → is_geometry g ≡ true → IsListed g table
     → Holds bytes at (table_bytes table) (at + 2 + 24 * length table)
@@ -387,6 +392,7 @@ table_again g at bytes table is t h =
 
 -- ---- the rows
 
+-- the rows of an image are all that is left of the file, and as many as its shape says
 pub rows_take : (g : Geometry) (at : ℕ) (bytes rows : List ℕ) → rows_at g at bytes ≡ Ok rows
     → Holds bytes at rows (length bytes) × (length rows ≡ rows_size g)
 unfolding rows_at

@@ -40,6 +40,7 @@ bits-value (b ∷ bs) =
     ap (λ (v : ℕ). bits v (suc (length bs))) e ∙ bits-cons (value bs) (length bs) b
     ∙ ap (λ (cs : List Bool). b ∷ cs) (bits-value bs)
 
+-- bytes have eight bits each
 pub length-bits_of_bytes : (bytes : List ℕ) → length (bits_of_bytes bytes) ≡ 8 * length bytes
 length-bits_of_bytes [] = refl
 length-bits_of_bytes (b ∷ bytes) = omega (
@@ -95,12 +96,14 @@ bits-bytes_from row a (suc n) l =
     ∙ bits-value (take 8 (drop (8 * a) row)) in
     rw (back, bits-bytes_from row (a + 1) n (omega arith)) refl
 
+-- a row in bytes is that row
 pub bits-bytes : (count : ℕ) (row : List Bool) → length row ≡ 8 * count
     → bits_of_bytes (bytes_of_bits count row) ≡ row
 bits-bytes count row e =
     bits-bytes_from row 0 count (omega arith) ∙ joined_all 8 row count
     ∙ take_all (8 * count) row (omega (arith, e))
 
+-- a row takes so many bytes
 pub length-bytes_of_bits : (count : ℕ) (row : List Bool) → length (bytes_of_bits count row) ≡ count
 length-bytes_of_bits count row = simp length-map (length-range_with_len 0 count)
 

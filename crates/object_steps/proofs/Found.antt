@@ -11,10 +11,12 @@ use Rattle.object_alloc.specs.Listed.{Named, has_name, look_up, without}
 use Rattle.machine_model.specs.Refusals.{is_absent, nothing, object_named}
 use Rattle.machine_model.proofs.First.{look_up-some}
 
+-- an object that is found has its name in the table
 pub has_found : (pairs : List Named) (name : List ℕ) (o : Object) → Some o ≡ look_up pairs name
     → has_name pairs name ≡ true
 has_found pairs name o e = sym (look_up-some pairs name) ∙ ap is_some (sym e)
 
+-- a name that no object is found by is not in the table
 pub has_none : (pairs : List Named) (name : List ℕ) → None ≡ look_up pairs name
     → has_name pairs name ≡ false
 has_none pairs name e = sym (look_up-some pairs name) ∙ ap is_some (sym e)

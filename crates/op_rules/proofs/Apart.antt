@@ -150,6 +150,7 @@ targets_are_apart c target second p args h =
       ),
     )
 
+-- in an op that meets the rules no name stands twice
 pub names_stand_once : NamesStandOnce
 names_stand_once op h =
     let d = body_apart op.body (at_start op) h.params_differ h.body in

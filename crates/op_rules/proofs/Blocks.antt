@@ -85,6 +85,7 @@ names_of-param : (k : Kind) (ns : List (List ℕ)) → names_of (map (λ n. para
 names_of-param k [] = refl
 names_of-param k (n ∷ ns) = ap (λ l. n ∷ l) (names_of-param k ns)
 
+-- the names of a block's states and words are these
 pub block_names : (S W : List (List ℕ)) → names_of (map (λ n. param n Bit) S
     ++ map (λ n. param n Word) W) ≡ S ++ W
 block_names S W =

@@ -106,6 +106,7 @@ few_words : (p : WordOp) → words_inside p ≤ 2
 few_words o.Div = lit≤ tt
 few_words _ = lit≤ tt
 
+-- an op that meets the rules needs few rows of scratch
 pub scratch_is_small : ScratchIsSmall
 scratch_is_small op h =
     let l = h.few_statements in

@@ -7,9 +7,11 @@ use Rattle.op_text.specs.Rules.{is_among}
 use Rattle.op_text.specs.Spelling.{Each}
 use Rattle.op_rules.specs.Meets.{IsNew, Differ}
 
+-- names that are found equal are one
 pub same_name : (m n : List ℕ) → bytes_eq m n ≡ true → m ≡ n
 same_name m n h = (bytes_eq-Decides m n).0 h
 
+-- one name is found equal to itself
 pub is_same : (m n : List ℕ) → m ≡ n → bytes_eq m n ≡ true
 is_same m n h = (bytes_eq-Decides m n).1 h
 
@@ -18,18 +20,22 @@ both_ways true b f g = sym (f refl)
 both_ways false true f g = g refl
 both_ways false false f g = refl
 
+-- whether names are equal does not rest on their order
 pub other_way : (m n : List ℕ) → bytes_eq m n ≡ bytes_eq n m
 other_way m n = both_ways (bytes_eq m n) (bytes_eq n m) (λ h. is_same n m (sym (same_name m n h)))
     (λ h. is_same m n (sym (same_name n m h)))
 
+-- a name among two lists is among one of them
 pub among-append : (xs ys : List (List ℕ)) (n : List ℕ)
     → is_among (xs ++ ys) n ≡ (is_among xs n || is_among ys n)
 among-append xs ys n = list_any-append (λ m. bytes_eq m n) xs ys
 
+-- the first part of an or that is false does not hold
 pub or_first : (a b : Bool) → (a || b) ≡ false → a ≡ false
 or_first true b h = cc
 or_first false b h = refl
 
+-- the second part of an or that is false does not hold
 pub or_second : (a b : Bool) → (a || b) ≡ false → b ≡ false
 or_second true b h = cc
 or_second false b h = h
@@ -43,15 +49,19 @@ abbrev pub AllFresh : List (List ℕ) → List (List ℕ) → Type 0
 AllFresh names [] = Unit {0}
 AllFresh names (n ∷ ns) = IsNew names n × AllFresh (names ++ n ∷ []) ns
 
+-- a name that is new in two lists is new in the first
 pub new-left : (xs ys : List (List ℕ)) (n : List ℕ) → IsNew (xs ++ ys) n → IsNew xs n
 new-left xs ys n h = or_first (is_among xs n) (is_among ys n) (sym (among-append xs ys n) ∙ h)
 
+-- a name that is new in two lists is new in the second
 pub new-right : (xs ys : List (List ℕ)) (n : List ℕ) → IsNew (xs ++ ys) n → IsNew ys n
 new-right xs ys n h = or_second (is_among xs n) (is_among ys n) (sym (among-append xs ys n) ∙ h)
 
+-- a name that is new in each of two lists is new in both together
 pub new-append : (xs ys : List (List ℕ)) (n : List ℕ) → IsNew xs n → IsNew ys n → IsNew (xs ++ ys) n
 new-append xs ys n g h = among-append xs ys n ∙ or_both (is_among xs n) (is_among ys n) g h
 
+-- what follows for each follows for all
 pub each_map : {A : Type 0} (P Q : A → Type 0) → ((a : A) → P a → Q a) → (xs : List A) → Each P xs
     → Each Q xs
 each_map P Q f [] h = tt

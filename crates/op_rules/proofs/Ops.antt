@@ -133,6 +133,7 @@ first_peels (st ∷ body) s wanted rest n h = (
   sym (first_same st s wanted (in_turn statement_text body (codes "}" ∷ rest)) n.0) ∙ h,
 )
 
+-- what holds of both lists holds of both together
 pub each_append : {A : Type 0} (P : A → Type 0) (xs ys : List A) → Each P xs → Each P ys
     → Each P (xs ++ ys)
 each_append P [] ys g h = h

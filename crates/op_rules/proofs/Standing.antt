@@ -38,6 +38,7 @@ mixed false false false true t = refl
 mixed false false false false true = refl
 mixed false false false false false = refl
 
+-- the names of two lists are those of the one and then the other
 pub names-append : (ps qs : List Param) → names_of (ps ++ qs) ≡ names_of ps ++ names_of qs
 names-append ps qs = map-append (λ (p : Param). p.name) ps qs
 

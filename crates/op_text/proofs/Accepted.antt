@@ -136,6 +136,7 @@ opens_same : (rest : List (List ℕ)) → opens (items_spelled rest) ≡ opens_n
 opens_same [] = refl
 opens_same (x ∷ rest) = refl
 
+-- an expression that meets the rules breaks none where it is spelled
 pub accepted : TermsAreAccepted
 unfolding breach_of inside
 accepted Nought s depth wanted rest o e h k =

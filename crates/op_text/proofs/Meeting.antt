@@ -78,6 +78,7 @@ bare_all source (Whole u ∷ items) (w ∷ wanted) s a h =
     (λ front s' g. ap (λ i. i ∷ map bare items) (bare_one u (kind_shows u.kind u.text a.0.1))
     ∙ ap (λ l. unplaced u.text ∷ l) (bare_all source items (front ++ wanted) s' a.1 g)) h
 
+-- ops whose tokens are those of an accepted text meet the rules
 pub meets : (text : List ℕ) (all : List Operation) → first_breach (items_of text) ≡ None
     → texts (items_of text) ≡ operations_text all → MeetRules all
 meets text all h e =
@@ -95,6 +96,7 @@ pub ops_of_a_text_meet : OpsOfATextMeet
 ops_of_a_text_meet text ops h =
     meets text ops (no_breach (fault_of text) (first_breach (items_of text)) h.accepted) h.spelled
 
+-- a text has one list of ops
 pub ops_of_a_text_are_one : OpsOfATextAreOne
 ops_of_a_text_are_one text a b g h =
     ops_spelled_once a b g.named h.named (sym g.spelled ∙ h.spelled)
@@ -108,6 +110,7 @@ texts_spelled : (spells : List (List ℕ)) → texts (items_spelled spells) ≡ 
 texts_spelled [] = refl
 texts_spelled (t ∷ spells) = ap (λ l. t ∷ l) (texts_spelled spells)
 
+-- each list of ops that meets the rules is that of some text
 pub texts_of_ops : TextsOfOps
 texts_of_ops text ops h meets same =
     let items = items_of text in

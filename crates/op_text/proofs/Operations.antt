@@ -330,5 +330,6 @@ settles signs.Choice (Bit ∷ Word ∷ Bit ∷ a ∷ more) k h = cc
 settles signs.Choice (Bit ∷ Bit ∷ Word ∷ a ∷ more) k h = cc
 settles signs.Choice (Bit ∷ Bit ∷ Bit ∷ a ∷ more) k h = cc
 
+-- the first argument settles the kind of the result
 pub first_settles : FirstSettles
 first_settles p kinds k h = settles (row_of p).signature kinds k h

@@ -88,5 +88,6 @@ first_spelled (r ∷ rows) text p a h =
     (left_of (names_its_op r) (list_all names_its_op rows) a)
     (first_spelled rows text p (right_of (names_its_op r) (list_all names_its_op rows) a)) h
 
+-- the operation of a name is spelled by that name
 pub op_spelled : (text : List ℕ) (p : WordOp) → op_named text ≡ Some p → text ≡ op_text p
 op_spelled text p h = first_spelled word_rows text p refl h

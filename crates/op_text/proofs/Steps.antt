@@ -15,6 +15,7 @@ unfolding breach_of
 breach_at w wanted s u items r e =
     ap (λ x. after x u (λ front scope. breach_of (front ++ wanted) scope items)) e
 
+-- a token that breaks no rule is taken, and what is wanted in its place goes on
 pub moved : (w : Wanted) (s : Scope) (old : List Item) (u : Lexeme) (new : List Item)
     (front : List Wanted) (s' : Scope) → old ≡ Whole u ∷ new
     → step w s (terminal_of u.kind u.text) u.text (opens new) ≡ Ok (front, s')
@@ -22,6 +23,7 @@ pub moved : (w : Wanted) (s : Scope) (old : List Item) (u : Lexeme) (new : List 
 moved w s old u new front s' e is wanted = ap (breach_of (w ∷ wanted) s) e
     ∙ breach_at w wanted s u new (Ok (front, s')) is
 
+-- a token that breaks a rule is the first breach
 pub refused : (w : Wanted) (s : Scope) (old : List Item) (u : Lexeme) (new : List Item)
     (kind : OpsKind) → old ≡ Whole u ∷ new
     → step w s (terminal_of u.kind u.text) u.text (opens new) ≡ Err kind → (wanted : List Wanted)

@@ -234,6 +234,7 @@ same_case found of x y None r s same =
     ap (λ (t : Option (Why × ℕ)). by_run t (Found found of x)) both.0
     ∙ ap (λ (k : Counts). by_run s (Found found of k)) both.1
 
+-- programs of the same costs give the same answer
 pub scans_answer_the_same : ScansAnswerTheSame
 unfolding answer
 scans_answer_the_same g p other banks table q i j costs all =

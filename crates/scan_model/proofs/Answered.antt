@@ -127,6 +127,7 @@ leaves g operations banks table q words f =
           (held_in g banks table)) same f.kept);
     }
 
+-- the ones of the last object are the elements that the query holds of
 pub scans_answer : ScansAnswer
 scans_answer g p banks table q words i shaped t all small checks none =
     let same = tables g banks table in
@@ -143,6 +144,7 @@ scans_answer g p banks table q words i shaped t all small checks none =
     ∙ checks) (ap (λ (s : List Named). scan_refused g (routines_of scan_text p) s q) same
     ∙ none))
 
+-- the instructions of a scan have sizes as every script has
 pub scan_is_plain : ScanIsPlain
 scan_is_plain g table q all checks =
     let banks : Banks = λ bank. [] in

@@ -18,6 +18,7 @@ use Rattle.scan_model.specs.Instructions.{node_instructions, script_from, count_
 use Rattle.scan_model.specs.Names.{free_name}
 use Rattle.scan_model.specs.Laws.{NothingIsMoved, EachIsAlone}
 
+-- what holds of both lists holds of both together
 pub all_append : {X : Type 0} (P : X → Type 0) (xs ys : List X) → AllByRecursion P xs
     → AllByRecursion P ys → AllByRecursion P (xs ++ ys)
 all_append P [] ys a b = b
@@ -82,6 +83,7 @@ prints table names count k (node ∷ nodes) = all_append (Moves rows_printed)
     (node_instructions table names count k node) _ (node_prints table names count k node)
     (prints table names count (k + 1) nodes)
 
+-- a scan's instructions load no row and print none
 pub nothing_is_moved : NothingIsMoved
 nothing_is_moved = record {
   loads = λ g operations start table nodes. none_moved rows_loaded g operations table _
@@ -110,5 +112,6 @@ alone table names count k (node ∷ nodes) =
     ∙ sym (map-append piece_of (node_instructions table names count k node)
     (script_from table names count (k + 1) nodes))
 
+-- each bbop of a scan is a wave of its own
 pub each_is_alone : EachIsAlone
 each_is_alone table nodes = alone table (free_name table) (count_of table nodes) 0 nodes

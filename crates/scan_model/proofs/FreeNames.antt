@@ -163,6 +163,7 @@ rises p a (suc n) (suc j) (suc k) i l = by_case (λ j k i l. rises p (a + 1) n j
       by_case go true e = let m = rw e at l in rw e (go j k (omega (arith, i)) (omega (arith, m)))
       by_case go false e = rw e (go (suc j) (suc k) i (rw e at l))
 
+-- there are more free names than a scan needs
 pub many : (table : List Named) (k : ℕ) → length table ≤ 256 → k ≤ 64
     → k < length (free_among table (length table + 65))
 many table k few l = let r = enough table 0 (length table + 65) (omega (arith, few)) in
@@ -223,6 +224,7 @@ digits_fit (c ∷ cs) all = and_true (is_name_byte c) (list_all is_name_byte cs)
 at_most : (a b : ℕ) → a ≤ b → leb a b ≡ true
 at_most a b h = grind (arith, nat_tests)
 
+-- the names of a scan's objects are names
 pub scan_fits : (i : ℕ) → i < 1000 → fits_name (scan_name i) ≡ true
 scan_fits i l =
     let n = decimal_is_IsNumeral i (omega (arith, l)) in

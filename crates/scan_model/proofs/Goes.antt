@@ -29,6 +29,7 @@ or_else_assoc : (a b c : Option Why) → or_else (or_else a b) c ≡ or_else a (
 or_else_assoc None b c = refl
 or_else_assoc (Some w) b c = refl
 
+-- two scripts one after the other are refused by the first refusal
 pub refused-append : (g : Geometry) (operations : Routines) (table : List Named)
     (xs ys : List Instruction)
     → refused_in g operations table (xs ++ ys) ≡ or_else (refused_in g operations table xs)

@@ -85,6 +85,7 @@ or_means true false = refl
 or_means false true = refl
 or_means false false = refl
 
+-- the ops of scans meet the rules of operation texts
 pub text_meets : MeetRules scan_operations
 unfolding breach_of
 text_meets = refl

@@ -566,6 +566,7 @@ op_same op op' e = cc
 tail_same : (w : Word) (xs ys : List Word) → w ∷ xs ≡ w ∷ ys → xs ≡ ys
 tail_same w xs ys e = ap (drop 1) e
 
+-- no two queries are spelled alike, whatever follows them
 pub once : (p q : Query) (xs ys : List Word) → spelled p xs ≡ spelled q ys → (p ≡ q) × (xs ≡ ys)
 once (Compare op n v) (Compare op' n' v') xs ys e =
     same_compare op op' n n' v v' xs ys (op_same op op'

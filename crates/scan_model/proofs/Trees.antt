@@ -21,6 +21,7 @@ use Rattle.scan_model.proofs.States.{lookup, at_append, absent_append, at_object
 use Rattle.scan_model.proofs.Goes.{Meaning, Goes, then}
 use Rattle.scan_model.proofs.Nodes.{IsAsked, marked, compare_goes, not_goes, two_goes}
 
+-- a query has some node
 pub size_some : (q : Query) → 1 ≤ size q
 size_some (Compare op name v) = omega arith
 size_some (Negate a) = omega arith
@@ -32,6 +33,7 @@ two_sizes : (xs ys : List Node) (n : Node) (a b : ℕ) → length xs ≡ a → l
 two_sizes xs ys n a b e f = let u = length-append xs (ys ++ n ∷ []) in let v =
     length-append ys (n ∷ []) in omega (arith, u, v, e, f)
 
+-- a query has as many nodes in postorder as in its tree
 pub size_is : (k : ℕ) (q : Query) → length (nodes_from k q) ≡ size q
 size_is k (Compare op name v) = refl
 size_is k (Negate a) = let u = length-append (nodes_from k a) (Not (last_from k a) ∷ []) in

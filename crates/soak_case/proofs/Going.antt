@@ -87,6 +87,7 @@ values_more values f i x l e h =
     ∙ ap (λ y. map f (range_with_len 0 i) ++ y ∷ []) e
     ∙ sym (map-range_with_len_more f 0 i i (omega arith))
 
+-- the sum over a list is that of its first and of its rest
 pub sum_cons : {X : Type 0} (f : X → ℕ) (x : X) (xs : List X)
     → sum_by f (x ∷ xs) ≡ f x + sum_by f xs
 sum_cons f x xs =

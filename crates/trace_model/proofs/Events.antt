@@ -291,6 +291,7 @@ writes_at g at bytes bank row l m n h = rw (
   writes_again g bank row l m n,
 ) refl
 
+-- an event that stands there is read
 pub event_again : (g : Geometry) (at next : ℕ) (bytes : List ℕ) (event : Event) → g.rows ≤ 2 ^ 16
     → IsEvent g event → Holds bytes at (event_bytes g event) next
     → event_at g at bytes ≡ Ok (event, next)
@@ -344,6 +345,7 @@ row_takes g (Writes bank row) at bytes out fits taken e =
       is = (taken.is.0, taken.is.1, omega (arith, long, t.1));
     })
 
+-- an event that was read stands there in its one spelling
 pub event_takes : (g : Geometry) (at : ℕ) (bytes : List ℕ) (out : Event × ℕ) → IsBytes bytes
     → event_at g at bytes ≡ Ok out → Taken g at bytes out.0 out.1
 unfolding event_at

@@ -69,6 +69,7 @@ opening_again bytes h =
     kinds.Version 4 6 bytes 1 back (omega arith) refl in
     rw (magic, version) refl
 
+-- a chip's rows have numbers of 16 bits
 pub few_rows : (g : Geometry) → is_geometry g ≡ true → g.rows ≤ 2 ^ 16
 few_rows g h = let b = between_is 64 1006 g.rows (bounds_of g h).rows in omega (arith, b.1)
 
@@ -200,5 +201,6 @@ file_read t is =
       eq-eqb end end refl,
     ) refl
 
+-- a trace file is the spelling of the one trace that it is read as
 pub files_are_exact : FilesAreExact
 files_are_exact = record { spelled = file_spelled; read = file_read }

@@ -69,6 +69,7 @@ counted_by g (Write bank row bits ∷ events) k =
     let w = one_write g.words k.writes in
     omega (arith, r, w)
 
+-- an event takes as many bytes as a recorder counts for it
 pub event_length : (g : Geometry) (event : Event)
     → length (event_bytes g event) ≡ event_size g event
 event_length g (Row bank (Ap x)) = refl
@@ -119,6 +120,7 @@ event_some : (g : Geometry) (event : Event) → 8 ≤ event_size g event
 event_some g (Row bank command) = omega arith
 event_some g (Write bank row bits) = omega arith
 
+-- an event takes eight bytes at least
 pub fitting_are_few : FittingAreFew
 fitting_are_few g [] = omega arith
 fitting_are_few g (event ∷ events) =

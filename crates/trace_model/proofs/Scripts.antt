@@ -32,12 +32,14 @@ table_is_written g operations table script right w =
 some_words : (g : Geometry) → is_geometry g ≡ true → 0 < g.words
 some_words g is = let w = between_is 1 1024 g.words (bounds_of g is).words in omega (arith, w.0)
 
+-- the replay of a script's trace leaves the rows that the script leaves
 pub replay_is_script : ReplayIsScript
 replay_is_script image p script is =
     events_are_steps image.geometry (routines_in p) Ahead image.table script (opened image)
     (some_words image.geometry is.geometry)
     (fits_banks image.geometry image.table (record { listed = is.listed; objects = is.objects }))
 
+-- the events of an accepted script are those of a trace
 pub script_is_trace : ScriptIsTrace
 script_is_trace image p text script good said is few = record {
   geometry = is.geometry;

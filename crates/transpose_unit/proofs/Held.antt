@@ -91,6 +91,7 @@ rows_kept bank base row a (suc m) n columns cell l h =
     rows_kept bank base row (a + 1) m n (with_row (base + a) (row a) columns) cell (omega arith) h
     ∙ cell_kept (base + a) (row a) columns cell (outside base n a cell (omega arith) h)
 
+-- rows that a load does not write are as they were
 pub others_hold : (g : Geometry) (base n : ℕ) (values : List ℕ) (banks : Banks) (bank : ℕ)
     (cell : Cell) → is_in_rows base n cell ≡ false
     → map (λ (s : Column). s cell) (after (write_events g base n values) banks bank)
@@ -124,6 +125,7 @@ after_hold g base n values banks bank h = after_first g base n
     (padded_to (size_of g (length values)) values) banks (segments_of g (length values)) bank
     (elim (cases_lt bank (segments_of g (length values))) [ inl lt ↦ absurd (h lt) | inr ge ↦ ge ])
 
+-- a load is counted as a write for each row in each bank
 pub counted_hold : (g : Geometry) (base n : ℕ) (values : List ℕ) (counters : Counters)
     → all_counted (write_events g base n values) counters
     ≡ record counters { writes = counters.writes + n * segments_of g (length values) }

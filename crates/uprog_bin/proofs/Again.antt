@@ -298,6 +298,7 @@ uop_again shape size last at bytes i h a =
     ∙ uop_made a.opcode shape size last at (raw_of (instruction_bytes i)) a.read
     ∙ ap (λ (u : Uop). Ok u) a.is
 
+-- code takes eight bytes for each instruction
 pub length-code : (code : List Uop) → length (flat_map instruction_bytes code) ≡ 8 * length code
 length-code [] = refl
 length-code (i ∷ code) = ap length (flat_map-cons instruction_bytes i code)

@@ -420,6 +420,7 @@ has_one : (v : ℕ) (ms : List Microprogram) → HasVersion v ms → (is_version
 has_one v ms (inl h) = (ap is_version h.0, λ e. h.1)
 has_one v ms (inr two) = (ap is_version two, λ e. absurd (omega arith))
 
+-- a program's file in each version is read as the program
 pub read : (v : ℕ) (ms : List Microprogram) → IsProgram ms → HasVersion v ms
     → program_in (program_bytes v ms) ≡ Ok (v, ms)
 unfolding program_in program_bytes

@@ -58,16 +58,19 @@ at_place P [] k x all e = absurd (cc)
 at_place P (y ∷ ys) zero x all e = let same : y ≡ x = cc in subst P same all.0
 at_place P (y ∷ ys) (suc k) x all e = at_place P ys k x all.1 e
 
+-- the operands of legal code's instructions are in range
 pub legal_operands : (shape : Shape) (code : List Uop) (k : ℕ) (i : Uop) → IsLegalCode shape code
     → slice_get code k ≡ Some i → HasOperands (length code) i
 legal_operands shape code k i legal e = operands shape (length code) i
     (at_place (λ j. is_legal shape (length code) j ≡ true) code k i legal.each e)
 
+-- the trace is what is issued from the first instruction on
 pub trace_is : (shape : Shape) (code : List Uop) (n : ℕ)
     → issue shape code n WALK_MAX 0 start ≡ trace shape code n
 unfolding trace
 trace_is shape code n = refl
 
+-- a walk whose budget is spent is stuck
 pub no_more : (shape : Shape) (code : List Uop) (n left pc : ℕ) (regs : List ℕ) → left ≡ 0
     → issue shape code n left pc regs ≡ Stuck pc Budget
 unfolding issue
@@ -90,6 +93,7 @@ one_step shape code n all left pc regs regs' uop res e at does =
     ∙ ap (λ o. act_at shape n o (issue shape code n left) pc regs) at
     ∙ does (issue shape code n left) pc
 
+-- the registers at the start are eight of at most 1023
 pub start_registers : AreRegisters start
 start_registers = (refl, small)
   where
@@ -131,6 +135,7 @@ not_last code pc uop turn res lt at last over is ne =
     (λ (d : pc ≡ length code - 1 → ⊥). omega arith)
     (cases_eq pc (length code - 1))
 
+-- a step leads to a place in the code
 pub place_in : (size pc : ℕ) (uop : Uop) (turn : Turn) (res : Result Turn Why3) → pc + 1 < size
     → HasOperands size uop → ((size t : ℕ) → HasOperands size uop → res ≡ Ok (To t) → t < size)
     → res ≡ Ok turn → next_place turn pc < size
@@ -198,6 +203,7 @@ few_after (To t) c k h = omega arith
 few_after (Issues (issued.Aap x y)) c k h = omega arith
 few_after (Issues (issued.Ap x)) c k h = omega arith
 
+-- legal code has some instruction
 pub some_first : (shape : Shape) (code : List Uop) → IsLegalCode shape code → 0 < length code
 some_first shape code legal = let h = slice_get_within code (length code - 1) Done legal.last in
     omega arith

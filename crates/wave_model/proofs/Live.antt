@@ -36,6 +36,7 @@ apart_in left a (suc n) i j h k e =
     apart_case left a n i j (filter (is_live left) (range_with_len (a + 1) n)) (is_live left a)
     (live_at left (a + 1) n) (apart_in left (a + 1) n) h k e
 
+-- no bank stands twice among the live ones
 pub live_apart : (banks : ℕ) (left : Queues) (i j : ℕ) → i < length (live banks left)
     → j < length (live banks left) → get_or (live banks left) i 0 ≡ get_or (live banks left) j 0
     → i ≡ j
@@ -45,9 +46,11 @@ live_apart banks left i j h k e = apart_in left 0 banks i j h k e
 pub other_left : (left : Queues) (b x : ℕ) → (b ≡ x → ⊥) → without_next b left x ≡ left x
 other_left left b x ne = rw (ne_eqb b x ne) refl
 
+-- a bank that is picked has done its first command
 pub own_left : (left : Queues) (b : ℕ) → without_next b left b ≡ drop 1 (left b)
 own_left left b = rw (eq-eqb b b refl) refl
 
+-- a queue with some command is a live bank's
 pub alive : (cs : List Command) → 0 < length cs → not (eqb (length cs) 0) ≡ true
 alive cs h = elim (eqb_tells (length cs) 0) [
   | inl z ↦ absurd (omega (arith, z.1))

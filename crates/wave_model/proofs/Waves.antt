@@ -198,6 +198,7 @@ turns_answer Ahead count h = h
 turns_answer (Turning t) count h = omega arith
 turns_answer (Drawing state) count h = omega arith
 
+-- the picks of every order in force are a whole list
 pub turns_whole : PicksAreWhole
 turns_whole turn banks left = picks_whole in_turn banks (total_left banks left) turn left
     turns_answer refl

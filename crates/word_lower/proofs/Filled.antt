@@ -27,6 +27,7 @@ pub filled_none : (ks : List Kind) (k : Kind) → filled (form [] Word ∷ []) k
 filled_none [] k e = (refl, same_kinds Word k e)
 filled_none (x ∷ ks) k e = cc
 
+-- an operation on a word takes just a word
 pub filled_word : (g : Kind) (ks : List Kind) (k : Kind) → filled (word_to g) ks ≡ Some k
     → (ks ≡ Word ∷ []) × (k ≡ g)
 filled_word g [] k e = cc
@@ -35,6 +36,7 @@ filled_word g (Bit ∷ []) k e = cc
 filled_word g (Word ∷ (x ∷ ks)) k e = cc
 filled_word g (Bit ∷ (x ∷ ks)) k e = cc
 
+-- an operation on two words takes just two words
 pub filled_words : (g : Kind) (ks : List Kind) (k : Kind) → filled (words_to g) ks ≡ Some k
     → (ks ≡ Word ∷ Word ∷ []) × (k ≡ g)
 filled_words g [] k e = cc
@@ -103,6 +105,7 @@ rest_kinds : List Kind → List Kind
 rest_kinds [] = []
 rest_kinds (k ∷ ks) = ks
 
+-- without kinds there is no argument
 pub no_slots : (ss : List Slot) → map (λ (s : Slot). s.kind) ss ≡ [] → ss ≡ []
 no_slots [] e = refl
 no_slots (s ∷ ss) e = cc
@@ -114,6 +117,7 @@ pub record More (ss : List Slot) (k : Kind) (ks : List Kind) : Type 0 where
   pub is : ss ≡ slot space which k ∷ more
   pub others : map (λ (s : Slot). s.kind) more ≡ ks
 
+-- with a kind there is an argument of this kind, and those after it
 pub one_slot : (ss : List Slot) (k : Kind) (ks : List Kind) → map (λ (s : Slot). s.kind) ss ≡ k ∷ ks
     → More ss k ks
 unfolding first_kind rest_kinds

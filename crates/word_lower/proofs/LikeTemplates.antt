@@ -20,6 +20,7 @@ use Rattle.word_lower.specs.Shapes.{marks, place_on, body_on, are_below}
 less_is : (a b : ℕ) → nat_lt a b ≡ true → a < b
 less_is a b e = grind arith
 
+-- each output that passes the test names a node that there is
 pub all_below : (k : ℕ) (ls : List Lit) → are_below k ls ≡ true → (j : ℕ) → j < length ls
     → (lit_at ls j).node < k
 all_below k [] e j lt = absurd (omega arith)
@@ -32,6 +33,7 @@ twice_mapped : (o : Owners) (ms : List Mark) → map (λ m. place_on o (mark_of 
 twice_mapped o [] = refl
 twice_mapped o (m ∷ ms) = ap (λ ps. place_on o (mark_of m) ∷ ps) (twice_mapped o ms)
 
+-- a body put together
 abbrev pub block_of_parts : List Place → Graph → List Lit → List Place → Block
 block_of_parts reads g outs writes = record {
   reads = reads;
@@ -40,6 +42,7 @@ block_of_parts reads g outs writes = record {
   writes = writes;
 }
 
+-- bodies of equal parts are one
 pub block_eq : (reads writes rp wp : List Place) (g h : Graph) (outs lits : List Lit) → rp ≡ reads
     → wp ≡ writes → g ≡ h → lits ≡ outs → block_of_parts rp g lits wp ≡ block_of_parts reads h outs
     writes

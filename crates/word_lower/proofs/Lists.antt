@@ -98,6 +98,7 @@ ones_last f a (suc n) =
     let s = ap (λ x. bit (f x)) e in
     omega (arith, p, q, r, s)
 
+-- of no bits none is 1
 pub ones_of_none : (f : ℕ → Bool) → ones_of 0 (number f 0) ≡ 0
 unfolding bits
 ones_of_none f = refl

@@ -83,9 +83,11 @@ differ k (n ∷ ns) h (suc i) (suc j) li lj e =
     let f = differ (k + 1) ns t.1 i j (omega (arith, li)) (omega (arith, lj)) e in
     omega (arith, f)
 
+-- the nodes of a written body are in order
 pub own_sorted : (k : ℕ) (ns : List Node) → are_own k ns ≡ true → AreSorted ns
 own_sorted k ns h = λ j l. (each k ns h j l).sorted
 
+-- the nodes of a written body are a graph as `Mig` makes it
 pub own_graph : (i : ℕ) (ns : List Node) → i + 1 + length ns < 2 ^ 32 → are_own (i + 1) ns ≡ true
     → IsGraph i ns
 own_graph i ns small h = record {

@@ -15,6 +15,7 @@ after_at slots (n ∷ ns) (s ∷ ss) free zero d at lt = at.0
 after_at slots (n ∷ ns) (s ∷ ss) free (suc k) d at lt =
     after_at slots ns ss free k d at.1 (omega arith)
 
+-- an argument lies where its owner's number says
 pub owner_is : (slots : Slots) (names : List (List ℕ)) (ss : List Slot) (free k : ℕ) (x : List ℕ)
     → x ≡ slice_index_or names k x → AreAt slots names ss → k < length names
     → slots x ≡ Some (following ss free k)

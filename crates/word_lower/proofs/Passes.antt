@@ -56,6 +56,7 @@ pub record Meets (n o : ℕ) (u : Sub) (turn_of : ℕ → ℕ) : Type 0 where
   pub turn_below : (v : ℕ) → v < n → turn_of v < n
   pub meets : (v : ℕ) → v < n → sub_value n (turn_of v) o u ≡ v
 
+-- positions upwards meet each row of a word once
 pub upwards : (n o : ℕ) → Meets n o sub.Inner (λ v. v)
 upwards n o = record {
   below = λ i lt. lt;

@@ -15,6 +15,7 @@ use Rattle.loop_laws.specs.Rooms.{Room, room_at, row_in, extent, RoomsApart}
 use Rattle.word_lower.specs.Places.{rows_of, room_of, rooms_of, scratch_bit, scratch_from}
 use Rattle.word_lower.proofs.Setting.{Slots, SlotsApart, IsFree, AreSlots}
 
+-- the place of a value of this kind
 abbrev pub slot : Space → ℕ → Kind → Slot
 slot space which k = record { space = space; which = which; kind = k }
 
@@ -22,6 +23,7 @@ slot space which k = record { space = space; which = which; kind = k }
 abbrev pub no_slot : Slot
 no_slot = slot Source 0 Word
 
+-- the place of an argument, by its number
 abbrev pub slot_at : List Slot → ℕ → Slot
 slot_at [] k = no_slot
 slot_at (s ∷ ss) zero = s
@@ -46,10 +48,12 @@ pub record Pieces (n : ℕ) (t : Slot) (args scratch : List Slot) : Type 0 where
 pub turn_apart : (n : ℕ) (s t : Slot) → AreApart n s t → AreApart n t s
 turn_apart n s t a = record { by = λ u v lu lv e. a.by v u lv lu (sym e) }
 
+-- an owner has as many rows as its value has bits
 pub extent_is : (n : ℕ) (k : Kind) → extent n (rows_of k) ≡ width n k
 extent_is n Word = refl
 extent_is n Bit = refl
 
+-- a room is the target's, an argument's or that of a bit of scratch, by its number
 pub data RoomView (t : Slot) (args scratch : List Slot) (k : ℕ) (r : Room) : Type 0 where
   is_target : k ≡ 0 → r ≡ room_of true t → RoomView t args scratch k r
   is_arg : (i : ℕ) → i < length args → k ≡ suc i → r ≡ room_of false (slot_at args i)
@@ -91,6 +95,7 @@ length_rooms t args scratch = let a = length-append (map (room_of false) args)
     (map (room_of true) scratch) in let b = length-map args (room_of false) in
     let c = length-map scratch (room_of true) in omega (arith, a, b, c)
 
+-- so is each room of a word statement
 pub room_view : (t : Slot) (args scratch : List Slot) (k : ℕ) → k < length (rooms_of t args scratch)
     → RoomView t args scratch k (room_at (rooms_of t args scratch) k)
 room_view t args scratch zero lt = is_target refl refl

@@ -18,6 +18,7 @@ use Rattle.loop_laws.specs.Rooms.{Room, placed_steps}
 use Rattle.word_lower.specs.Places.{scratch_bit, scratch_from, rooms_of}
 use Rattle.word_lower.specs.Programs.{program}
 
+-- a bit as a number
 abbrev pub bit : Bool → ℕ
 bit b = bit_number b
 
@@ -56,6 +57,7 @@ rooms_for p m = rooms_of m.target (args_of p m) (scratch_from m.free_bit (bits_i
 abbrev pub steps_for : WordOp → Kind → Slots → List (StepOf Block)
 steps_for p k m = placed_steps (rooms_for p m) (program p k)
 
+-- a row of a place, by its subscript
 abbrev pub at : Slot → Sub → Place
 at s u = record { space = s.space; which = s.which; sub = u }
 

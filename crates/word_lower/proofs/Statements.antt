@@ -45,6 +45,7 @@ pub record OnePlace (s t : Space) (w x : ℕ) : Type 0 where
   pub space : s ≡ t
   pub which : w ≡ x
 
+-- a row lies in the space of its place
 pub space_is : (n : ℕ) (s : Space) (w v : ℕ) → (spot_in n s w v).space ≡ s
 space_is n Result w v = refl
 space_is n Source w v = refl
@@ -62,6 +63,7 @@ same_which n ScratchWord w x u v Word Word lu lv hj hk e = let f : w * n + u ≡
 same_which n ScratchWord w x u v Bit k lu lv hj hk e = cc
 same_which n ScratchWord w x u v Word Bit lu lv hj hk e = cc
 
+-- places that have a row in common are one
 pub one_place : (n : ℕ) (s t : Slot) (u v : ℕ) → u < width n s.kind → v < width n t.kind
     → holds_kind s.space s.kind ≡ true → holds_kind t.space t.kind ≡ true
     → slot_spot n s u ≡ slot_spot n t v → OnePlace s.space t.space s.which t.which
@@ -76,10 +78,12 @@ one_place n s t u v lu lv hs ht e =
           (sym (ap (λ z. holds_kind z s.kind) f) ∙ hs) ht g;
     }
 
+-- so many bits of scratch are so many
 pub length_scratch : (free count : ℕ) → length (scratch_from free count) ≡ count
 length_scratch free zero = refl
 length_scratch free (suc count) = ap suc (length_scratch (free + 1) count)
 
+-- bit j of the scratch, by its number
 pub scratch_at : (free count j : ℕ) → j < count
     → slot_at (scratch_from free count) j ≡ scratch_bit (free + j)
 scratch_at free zero j lt = absurd (omega arith)
@@ -95,14 +99,17 @@ pub or_right : (a b : Bool) → b ≡ true → (a || b) ≡ true
 or_right true b e = refl
 or_right false b e = e
 
+-- one name is found equal to itself
 pub same_name : (a b : List ℕ) → a ≡ b → bytes_eq a b ≡ true
 same_name a b e = (bytes_eq-Decides a b).1 e
 
+-- the name of an argument, by its number
 pub name_at : List (List ℕ) → ℕ → List ℕ
 name_at [] k = []
 name_at (n ∷ ns) zero = n
 name_at (n ∷ ns) (suc k) = name_at ns k
 
+-- an argument's name is among the names
 pub among_like : (names : List (List ℕ)) (i : ℕ) (name : List ℕ) → i < length names
     → bytes_eq (name_at names i) name ≡ true → is_among names name ≡ true
 unfolding name_at
@@ -116,6 +123,7 @@ pub among_at : (names : List (List ℕ)) (i : ℕ) → i < length names
 among_at names i lt = among_like names i (name_at names i) lt
     (same_name (name_at names i) (name_at names i) refl)
 
+-- an argument by its number has its name and its place
 pub at_place : (slots : Slots) (names : List (List ℕ)) (ss : List Slot) (i : ℕ)
     → AreAt slots names ss → i < length ss → (i < length names)
     × (slots (name_at names i) ≡ Some (slot_at ss i))
@@ -131,6 +139,7 @@ slot_in : Option Slot → Slot
 slot_in None = no_slot
 slot_in (Some x) = x
 
+-- a name has one place
 pub same_slot : (x y : Slot) → Some x ≡ Some y → x ≡ y
 unfolding slot_in
 same_slot x y e = ap slot_in e
@@ -316,6 +325,7 @@ HeldAt n held rows (name ∷ names) [] = ⊥
 HeldAt n held rows (name ∷ names) (s ∷ ss) = ((held name).kind ≡ s.kind)
     × ((held name).bits ≡ slot_bits n rows s) × HeldAt n held rows names ss
 
+-- the arguments' rows hold the arguments' values
 pub held_args : (n : ℕ) (slots : Slots) (held : List ℕ
     → NameValue) (rows : Spots) (names : List (List ℕ)) (ss : List Slot) → AreAt slots names ss
     → ((name : List ℕ) → is_among names name ≡ true → Holds n slots held rows name)
@@ -334,6 +344,7 @@ held_args n slots held rows (name ∷ names) (s ∷ ss) at h =
           h x (or_right (bytes_eq name x) (is_among names x) e)),
     )
 
+-- the values held have the kinds of their places
 pub held_kinds : (n : ℕ) (held : List ℕ → NameValue) (rows : Spots) (names : List (List ℕ))
     (ss : List Slot) → HeldAt n held rows names ss
     → map (λ (h : NameValue). h.kind) (map held names) ≡ map (λ (s : Slot). s.kind) ss
@@ -345,6 +356,7 @@ held_kinds n held rows (name ∷ names) (s ∷ ss) at =
     ap (λ k. k ∷ map (λ (h : NameValue). h.kind) (map held names)) at.0
     ∙ ap (λ ks. s.kind ∷ ks) (held_kinds n held rows names ss at.2)
 
+-- the values held are what their rows spell
 pub held_numbers : (n : ℕ) (held : List ℕ → NameValue) (rows : Spots) (names : List (List ℕ))
     (ss : List Slot) → HeldAt n held rows names ss
     → map number (map held names) ≡ map (λ s. value (slot_bits n rows s)) ss
@@ -356,6 +368,7 @@ held_numbers n held rows (name ∷ names) (s ∷ ss) at =
     ap (λ bs. value bs ∷ map number (map held names)) at.1
     ∙ ap (λ vs. value (slot_bits n rows s) ∷ vs) (held_numbers n held rows names ss at.2)
 
+-- the values held are as wide as their places
 pub held_width : (n : ℕ) (held : List ℕ → NameValue) (rows : Spots) (names : List (List ℕ))
     (ss : List Slot) → HeldAt n held rows names ss
     → args_width n (map held names) ≡ slots_width n ss
@@ -365,6 +378,7 @@ held_width n held rows [] (s ∷ ss) at = absurd at
 held_width n held rows (name ∷ names) [] at = absurd at
 held_width n held rows (name ∷ names) (s ∷ ss) at = ap (width n) at.0
 
+-- the arguments are as wide as their places
 pub named_width : (n : ℕ) (slots : Slots) (names : List (List ℕ)) (ss : List Slot)
     → AreAt slots names ss → l.args_width slots n names ≡ slots_width n ss
 named_width n slots [] [] at = refl
@@ -500,6 +514,7 @@ pub record Places (slots : Slots) (names : List (List ℕ)) : Type 0 where
   pub list : List Slot
   pub at : AreAt slots names list
 
+-- names that have kinds have places
 pub places_of : (slots : Slots) (names : List (List ℕ)) (kinds : List Kind)
     → HaveKinds slots names kinds → Places slots names
 places_of slots [] [] have = record { list = []; at = tt }

@@ -26,12 +26,14 @@ carry_sum x y c (suc n) h =
     rw pow-suc (one_digit (bit (y n)) (bit (c (suc n))) (bit (c n)) (x n) (2 ^ n) (number y n)
     (digits x n) (bit (c 0)) (h n (omega arith)) (carry_sum x y c n (λ i lt. h i (omega arith))))
 
+-- bits that are the same spell the same number
 pub value_same : (f g : ℕ → Bool) (n : ℕ) → ((k : ℕ) → k < n → f k ≡ g k) → number f n ≡ number g n
 value_same f g zero h = refl
 value_same f g (suc n) h = ap (λ x. x + bit (f n) * 2 ^ n)
     (value_same f g n (λ k lt. h k (omega arith)))
     ∙ ap (λ b. number g n + bit b * 2 ^ n) (h n (omega arith))
 
+-- n bits spell a number below 2 ^ n
 pub value_below : (f : ℕ → Bool) (n : ℕ) → number f n < 2 ^ n
 value_below f zero = omega arith
 value_below f (suc n) = rw pow-suc (step_below (f n) (number f n) (2 ^ n) (value_below f n))
@@ -45,6 +47,7 @@ pub digits_two : (f g : ℕ → Bool) (n : ℕ) → digits (λ i. bit (f i) + bi
 digits_two f g zero = refl
 digits_two f g (suc n) = let e = digits_two f g n in omega (arith, e)
 
+-- digits that are bits spell what the bits do
 pub digits_one : (f : ℕ → Bool) (n : ℕ) → digits (λ i. bit (f i)) n ≡ number f n
 digits_one f zero = refl
 digits_one f (suc n) = let e = digits_one f n in omega (arith, e)
@@ -161,6 +164,7 @@ pub value_pick : (g : Bool) (a b : ℕ → Bool) (n : ℕ)
 value_pick true a b n = refl
 value_pick false a b n = refl
 
+-- bits that are all 0 spell 0
 pub value_false : (n : ℕ) → number (λ i. false) n ≡ 0
 value_false zero = refl
 value_false (suc n) = let e = value_false n in omega (arith, e)

@@ -27,6 +27,7 @@ pub record SecondPlace (slots : Slots) (second : Option (List ℕ)) : Type 0 whe
   pub place : Option Slot
   pub at : AreAt slots (option_to_list second) (option_to_list place)
 
+-- a second target has a place, where there is one
 pub second_place : (slots : Slots) (target : List ℕ) (args : List (List ℕ)) (second : Option
     (List ℕ))
     (k : Option Kind) → SecondMeets slots target args second k → SecondPlace slots second
