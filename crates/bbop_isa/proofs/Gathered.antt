@@ -1,14 +1,14 @@
 -- Operands, as they are gathered word by word.
-use Rattle.std.proofs.Common.{◌≡◌, ℕ, ◌+◌, ◌<◌, Bool, true, false, List, [], ◌∷◌, ◌++◌, map, drop}
-use Rattle.std.proofs.Common.{length, get_or, Option, Some, None, Result, Ok, Err, refl, ap, ◌∙◌}
-use Rattle.std.proofs.Common.{append_assoc, append-nil, drop-cons, add-one}
+use Rattle.std.proofs.Common.{◌≡◌, ℕ, ◌+◌, Bool, true, false, List, [], ◌∷◌, ◌++◌}
+use Rattle.std.proofs.Common.{Option, Some, None, Result, Ok, Err, refl, ap, ◌∙◌}
+use Rattle.std.proofs.Common.{append_assoc, append-nil}
 use Rattle.bbop_isa.specs.declared.words.Word.{Word as Kept}
 use Rattle.bbop_isa.specs.declared.operands.Operands.{Operands as KeptOperands}
 use Rattle.bbop_isa.specs.declared.instr.LineNo.{LineNo}
 use Rattle.bbop_isa.specs.declared.instr.LineNo.TheVariants as line_no
 use Rattle.bbop_isa.specs.Words.{Word, Name, Number, Comma, Other, word_view, texts}
 use Rattle.bbop_isa.specs.Forms.{Operands, operands_of, with_name, with_number, before_names}
-use Rattle.bbop_isa.specs.Reading.{operands_view, takes, joined, joined_after, left, left_in, Takes}
+use Rattle.bbop_isa.specs.Reading.{operands_view, takes, joined, joined_after, left, Takes}
 use Rattle.bbop_isa.specs.Reading.{Pushes}
 
 -- one name more
@@ -95,38 +95,6 @@ not_taken names [] (Number number) words is = absurd (cc)
 not_taken names (n ∷ ns) (Number number) words is = absurd (cc)
 not_taken names numbers Comma words is = refl
 not_taken names numbers Other words is = refl
-
--- at the first word nothing is gathered
-pub begins : (words : List Word) → operands_of words ≡ left false [] [] words
-begins words = at (operands_of words)
-  where
-    at : (o : Option Operands) → o ≡ joined_after [] [] o
-    at None = refl
-    at (Some o) = refl
-
-from_place : (words : List Kept) (i : ℕ) (word : Kept) → i < length words
-    → word ≡ get_or words i word
-    → map word_view (drop i words) ≡ word_view word ∷ map word_view (drop (i + 1) words)
-from_place words i word within is = rw (drop-cons words i word, add-one, ← is) refl
-
--- one word is taken
-pub goes_on : (words : List Kept) (i : ℕ) (word : Kept) (old new : KeptOperands)
-    (all : Option Operands) → i < length words → word ≡ get_or words i word
-    → all ≡ left_in old (map word_view (drop i words))
-    → ((others : List Word) → left_in old (word_view word ∷ others) ≡ left_in new others)
-    → all ≡ left_in new (map word_view (drop (i + 1) words))
-goes_on words i word old new all within is so_far step =
-    so_far ∙ ap (left_in old) (from_place words i word within is)
-    ∙ step (map word_view (drop (i + 1) words))
-
--- one word is not taken
-pub stops : (words : List Kept) (i : ℕ) (word : Kept) (old : KeptOperands) (all : Option Operands)
-    → i < length words → word ≡ get_or words i word
-    → all ≡ left_in old (map word_view (drop i words))
-    → ((others : List Word) → left_in old (word_view word ∷ others) ≡ None) → all ≡ None
-stops words i word old all within is so_far step =
-    so_far ∙ ap (left_in old) (from_place words i word within is)
-    ∙ step (map word_view (drop (i + 1) words))
 
 -- a word that was pushed is taken
 pub pushed_is_taken : (old : KeptOperands) (word : Kept) (answer : Result Bool LineNo)

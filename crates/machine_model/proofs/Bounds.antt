@@ -10,7 +10,6 @@ use Rattle.std.proofs.Math.Nat.{mul-le-mul, suc-mul, mul-add}
 use Rattle.std.proofs.lemmas.List.Sums.{sum_by-cons}
 use Rattle.std.proofs.lemmas.List.Elements.{recursion_from_All}
 use Rattle.dram_model.specs.declared.geometry.Geometry.{Geometry}
-use Rattle.dram_model.specs.Geometry.{is_geometry}
 use Rattle.dram_model.specs.Elements.{column_count}
 pub use Rattle.dram_model.proofs.Shapes.{geometry_parts}
 use Rattle.bit_rows.specs.declared.TheConstants.{WIDTH_MAX}
@@ -43,12 +42,7 @@ use Rattle.machine_model.specs.Script.{rows_printed}
 use Rattle.machine_model.specs.Laws.{TableFits, AreFew, WorkIsBounded}
 use Rattle.machine_model.proofs.KeptAll.{entry_holds}
 use Rattle.machine_model.proofs.Makes.{few_banks}
-use Rattle.machine_model.proofs.Tables.{made, table_fits_after, fits_banks}
-use Rattle.machine_model.proofs.Pieces.{piece_counted}
-use Rattle.dram_model.specs.declared.dram.Counters.{Counters}
-use Rattle.dram_model.specs.Chip.{all_counted}
-use Rattle.wave_model.specs.Schedule.{Turn}
-use Rattle.machine_model.specs.Pieces.{Piece, IsPiece, instrs_in, piece_events}
+use Rattle.machine_model.proofs.Tables.{made, table_fits_after}
 
 -- a trace has no more commands than this
 abbrev pub IsShort : ℕ → Trace → Type 0
@@ -289,26 +283,3 @@ pub work_is_bounded : WorkIsBounded
 work_is_bounded g p table script h t plain =
     let parts = geometry_parts g h in
     script_few g p table script parts.0 parts.2 t plain
-
--- how far the events of a piece raise a chip's counters: a bbop by a whole walk in each bank, and a
--- row that is loaded by a write
-pub piece_rises : (g : Geometry) (p : Program) (turn : Turn) (table : List Named) (piece : Piece)
-    (k : Counters) → is_geometry g ≡ true → TableFits g table
-    → AllByRecursion IsPlain (instrs_in piece) → IsPiece piece
-    → let new = all_counted (piece_events g (routines_in p) turn table piece) k in
-    (new.aap ≤ k.aap + length (instrs_in piece) * (16 * WALK_MAX))
-    × (new.ap ≤ k.ap + length (instrs_in piece) * (16 * WALK_MAX))
-    × (new.writes ≤ k.writes + length (instrs_in piece) * (16 * WIDTH_MAX))
-    × (new.reads ≡ k.reads)
-piece_rises g p turn table piece k h t plain is =
-    let few = work_is_bounded g p table (instrs_in piece) h t plain in
-    let counted = piece_counted g (routines_in p) turn table piece k (geometry_parts g h).0
-    (fits_banks g table t) is in
-    let aap = ap (λ (c : Counters). c.aap) counted in
-    let ap' = ap (λ (c : Counters). c.ap) counted in
-    let writes = ap (λ (c : Counters). c.writes) counted in (
-      omega (arith, aap, few.commands),
-      omega (arith, ap', few.commands),
-      omega (arith, writes, few.loaded),
-      ap (λ (c : Counters). c.reads) counted,
-    )

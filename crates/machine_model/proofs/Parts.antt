@@ -1,16 +1,13 @@
 -- A script that goes on where its first part ends.
 use Rattle.std.proofs.Common.{◌≡◌, ℕ, ◌+◌, Bool, true, false, List, [], ◌∷◌, ◌++◌, map, refl, sym}
 use Rattle.std.proofs.Common.{◌∙◌, ap, arith, append_assoc}
-use Rattle.std.specs.Prelude.{◌||◌, flat_map, filter, is_none}
+use Rattle.std.specs.Prelude.{◌||◌, flat_map, is_none}
 use Rattle.std.specs.List.{AllByRecursion}
-use Rattle.std.proofs.lemmas.List.{length-map}
-use Rattle.std.proofs.lemmas.List.Sums.{length-filter, count_by-le-length}
 use Rattle.machine_model.specs.Refusals.{refusal}
 use Rattle.machine_model.specs.Script.{rows_loaded, rows_printed, rows_if_done}
-use Rattle.machine_model.specs.Pieces.{jobs_of}
 use Rattle.machine_model.specs.Report.{line, lines}
 use Rattle.machine_model.specs.Laws.{LinesGoOn}
-use Rattle.std.proofs.Common.{zero, suc, ◌≤◌, cond, length, take, drop}
+use Rattle.std.proofs.Common.{zero, suc, cond, length, take, drop}
 use Rattle.dram_model.specs.declared.geometry.Geometry.{Geometry}
 use Rattle.dram_model.specs.Chip.{Banks}
 use Rattle.object_alloc.specs.Listed.{Named}
@@ -234,13 +231,3 @@ pub all_parted : {X : Type 0} (P : X → Type 0) (k : ℕ) (xs : List X) → All
 all_parted P zero xs h = (tt, h)
 all_parted P (suc k) [] h = (tt, tt)
 all_parted P (suc k) (x ∷ xs) h = let rest = all_parted P k xs h.1 in ((h.0, rest.0), rest.1)
-
-pub few_jobs : (g : Geometry) (operations : Routines) (table : List Named)
-    (wave : List Instruction) → length (jobs_of g operations table wave) ≤ length wave
-few_jobs g operations table wave =
-    let granted : Instruction → Bool = λ instr. is_none (refusal g operations table instr) in
-    let same : length (jobs_of g operations table wave) ≡ length (filter granted wave) =
-    simp length-map refl in
-    let count = length-filter granted wave in
-    let few = count_by-le-length granted wave in
-    omega (arith, same, count, few)
