@@ -9,7 +9,7 @@ use Rattle.op_text.specs.declared.tree.Kind.{Kind}
 use Rattle.uprog_code.specs.Shape.{width, results}
 use Rattle.object_alloc.specs.declared.table.Object.{Object}
 use Rattle.object_alloc.specs.Listed.{Named, limit_of}
-use Rattle.bbop_isa.specs.Forms.{Load, Fill, Print, Free}
+use Rattle.bbop_isa.specs.Forms.{Load, Fill, Free}
 use Rattle.machine_model.specs.declared.Why.{Why}
 use Rattle.machine_model.specs.declared.Why.TheVariants as why
 use Rattle.machine_model.specs.Routines.{Routine, Routines}
@@ -177,12 +177,6 @@ pub fill_like : (g : Geometry) (operations : Routines) (table lone : List Named)
     (Fill (c ∷ name) value) ≡ refusal g operations lone (Fill name value)
 fill_like g operations table lone c like name value = fill_same _ _ _ _ value (like.absent name)
     (like.wide name)
-
-pub print_like : (g : Geometry) (operations : Routines) (table lone : List Named) (c : ℕ)
-    → IsLike table lone c → (name : List ℕ) → refusal g operations table (Print (c ∷ name))
-    ≡ refusal g operations lone (Print name)
-print_like g operations table lone c like name = ap (λ b. when b (why.NoObject 0))
-    (like.absent name)
 
 pub free_like : (g : Geometry) (operations : Routines) (table lone : List Named) (c : ℕ)
     → IsLike table lone c → (name : List ℕ) → refusal g operations table (Free (c ∷ name))

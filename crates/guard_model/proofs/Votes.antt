@@ -58,9 +58,6 @@ Voted t s x y z k = (t (D (x + k)) ≡ most s (x + k) (y + k) (z + k))
     × (t (D (y + k)) ≡ most s (x + k) (y + k) (z + k))
     × (t (D (z + k)) ≡ most s (x + k) (y + k) (z + k))
 
-beyond : (x a k : ℕ) → a + 1 ≤ k → x + k ≢ x + a
-beyond x a k l e = omega arith
-
 pub votes_own : (s : Column) (x y z a n w k : ℕ) → RowsApart x y z w → a + n ≤ w → a ≤ k → k < a + n
     → Voted (run (votes x y z a n) s) s x y z k
 votes_own s x y z a zero w k ap' w' l m = absurd (omega arith)

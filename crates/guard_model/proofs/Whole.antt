@@ -33,7 +33,7 @@ use Rattle.machine_model.proofs.Facts.{not_false}
 use Rattle.machine_model.proofs.Places.{found, no_one}
 use Rattle.guard_model.specs.declared.Flip.{Flip}
 use Rattle.guard_model.specs.Triples.{x_letter, first_stranger, EqualCopies, first_copies, unplaced}
-use Rattle.guard_model.specs.Guarded.{on_copy, plain_ones, plain_script, done_ones, removal, joined}
+use Rattle.guard_model.specs.Guarded.{plain_ones, plain_script, done_ones, removal, joined}
 use Rattle.guard_model.specs.Guarded.{guarded_reply, guarded_table, guarded_words, guarded_rows}
 use Rattle.guard_model.specs.Guarded.{mended, guarded_replies, guarded_rows_at_end}
 use Rattle.guard_model.specs.Guarded.{guarded_words_at_end, guarded_table_at_end, Single}
@@ -46,16 +46,6 @@ use Rattle.guard_model.proofs.Mends.{spread_mends}
 use Rattle.guard_model.proofs.Runs.{table_steps, none_yet, script_by}
 use Rattle.guard_model.proofs.Changes.{step}
 use Rattle.guard_model.proofs.Alone.{same_runs}
-
--- The plain instructions are plain
-copy_plain : (c : ℕ) (instr : Instruction) → IsPlain instr → IsPlain (on_copy c instr)
-copy_plain c (Init name count n) h = h
-copy_plain c (Bbop op dst srcs count n) h = h
-copy_plain c (Load name values) h = tt
-copy_plain c (Fill name value) h = tt
-copy_plain c (Print name) h = tt
-copy_plain c (Free name) h = tt
-copy_plain c (Order o) h = tt
 
 ones_plain : (instr : Instruction) → IsPlain instr → AllByRecursion IsPlain (plain_ones instr)
 ones_plain (Init name count n) h = (h, (h, (h, tt)))

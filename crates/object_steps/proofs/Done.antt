@@ -11,7 +11,7 @@ use Rattle.dram_model.proofs.EventLaws.{Did-none}
 use Rattle.uprog_code.specs.declared.walker.Counts.{Counts}
 use Rattle.object_alloc.specs.declared.table.Object.{Object}
 use Rattle.object_alloc.specs.Free.{are_free, free}
-use Rattle.object_alloc.specs.Listed.{Named, limit_of, objects_of}
+use Rattle.object_alloc.specs.Listed.{Named}
 use Rattle.object_alloc.proofs.Tables.{in_range}
 use Rattle.machine_model.proofs.Below.{base_free, row_within}
 use Rattle.object_alloc.specs.Free.{is_free}
@@ -22,7 +22,7 @@ use Rattle.machine_model.specs.declared.Why.TheVariants as why
 use Rattle.machine_model.specs.declared.Reply.TheVariants.{Done, Refused}
 use Rattle.machine_model.specs.Routines.{Routines}
 use Rattle.machine_model.specs.Refusals.{is_absent, object_named, refusal, at_place, first}
-use Rattle.machine_model.specs.Steps.{if_done, new_object, reply_by}
+use Rattle.machine_model.specs.Steps.{if_done, reply_by}
 use Rattle.machine_model.proofs.First.{at_place-map}
 use Rattle.object_steps.proofs.Refused.{alone}
 use Rattle.std.specs.Option.{option_map}
@@ -90,12 +90,6 @@ found_within limit objects k base some e =
     let last = row_within limit objects (base + k - 1) (in_range (is_free limit objects) base k
     (base + k - 1) (found_free limit objects k base e) (omega arith) (omega arith)) in
     omega (arith, last)
-
-pub is_new : (g : Geometry) (table : List Named) (count n base : ℕ)
-    → free (limit_of g) (objects_of table) n ≡ Some base
-    → (let o : Object = record { base = base; width = n; count = count } in o)
-    ≡ new_object g table count n
-is_new g table count n base e = rw e refl
 
 pub same_after : {X : Type 0} (r : Option Why) (reason : Why) (new old : X) → r ≡ Some reason
     → old ≡ if_done r new old

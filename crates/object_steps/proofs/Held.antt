@@ -5,12 +5,6 @@ use Rattle.host_edge.specs.Views.{Known, AppendsPart}
 use Rattle.host_edge.proofs.Tells.{Known-trans, Known-map}
 use Rattle.host_edge.specs.Sends.{AppendsUpTo}
 
--- all that was held back was put
-pub all_put : (held : List ℕ) (a b : Option (List ℕ)) → Known (λ old new. new ≡ old ++ held) a b
-    → Known (AppendsUpTo [] held) a b
-all_put held a b = Known-map {R = λ old new. new ≡ old ++ held} {S = AppendsUpTo [] held} a b
-    (λ x y e. (held, (append-nil held, e)))
-
 held_more : (held left piece : List ℕ) (x y : List ℕ) → AppendsUpTo left held x y
     → AppendsUpTo (left ++ piece) (held ++ piece) x y
 held_more held left piece x y so_far = (

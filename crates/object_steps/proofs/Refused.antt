@@ -1,5 +1,5 @@
 -- The first condition that holds.
-use Rattle.std.proofs.Common.{◌≡◌, ℕ, ◌+◌, ◌<◌, Bool, true, false, List, [], ◌∷◌}
+use Rattle.std.proofs.Common.{◌≡◌, ℕ, ◌+◌, ◌<◌, false, List, [], ◌∷◌}
 use Rattle.std.proofs.Common.{Option, Some, None, map, position, refl, sym, ◌∙◌, ap, arith}
 use Rattle.std.proofs.Common.{nat_le}
 use Rattle.std.specs.Prelude.{All, ◌^◌}
@@ -9,19 +9,9 @@ use Rattle.std.proofs.lemmas.Bool.Decides.{nat_tests}
 use Rattle.std.proofs.lemmas.List.Elements.{All-from_recursion}
 use Rattle.machine_model.specs.declared.Why.{Why}
 use Rattle.machine_model.specs.declared.Why.TheVariants as why
-use Rattle.machine_model.specs.Refusals.{at_place, first, when}
+use Rattle.machine_model.specs.Refusals.{at_place, first}
 use Rattle.machine_model.proofs.Facts.{place_none}
 use Rattle.machine_model.proofs.First.{at_place-map}
-
-pub holds : (b : Bool) (reason : Why) (rest : List (Option Why)) → b ≡ true
-    → first (when b reason ∷ rest) ≡ Some reason
-holds true reason rest e = refl
-holds false reason rest e = cc
-
-pub passes : (b : Bool) (reason : Why) (rest : List (Option Why)) (found : Option Why) → b ≡ false
-    → first rest ≡ found → first (when b reason ∷ rest) ≡ found
-passes true reason rest found e h = cc
-passes false reason rest found e h = h
 
 pub alone : (found : Option Why) → first (found ∷ []) ≡ found
 alone None = refl

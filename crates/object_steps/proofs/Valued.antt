@@ -19,7 +19,7 @@ use Rattle.std.proofs.lemmas.Grind.{flat_map-append, div_ceil_times}
 use Rattle.std.proofs.Common.{get_or}
 use Rattle.std.proofs.lemmas.List.{take-append-drop, map-append, length-map, take_more, ext_get_or}
 use Rattle.std.proofs.lemmas.List.{get_or-take, get_or-drop, get_or-map, length-take, length-drop}
-use Rattle.std.proofs.lemmas.List.FromFn.{map-range_with_len_more, take-map-range_with_len}
+use Rattle.std.proofs.lemmas.List.FromFn.{take-map-range_with_len}
 use Rattle.std.proofs.lemmas.List.FromFn.{length-range_with_len, get_or-range_with_len}
 use Rattle.dram_model.specs.Column.{Column}
 use Rattle.dram_model.specs.Chip.{Banks}
@@ -29,15 +29,6 @@ use Rattle.object_steps.specs.Lines.{printed_line, values_text}
 
 text_joined : (xs ys : List ℕ) → values_text (xs ++ ys) ≡ values_text xs ++ values_text ys
 text_joined xs ys = flat_map-append (λ v. codes " " ++ decimal v) xs ys
-
--- one more value
-pub values_more : (f : ℕ → ℕ) (k : ℕ) → values_text (map f (range_with_len 0 (k + 1)))
-    ≡ values_text (map f (range_with_len 0 k)) ++ (codes " " ++ decimal (f k))
-values_more f k =
-    ap values_text (map-range_with_len_more f 0 k k (omega arith))
-    ∙ text_joined (map f (range_with_len 0 k)) (f k ∷ [])
-    ∙ ap (λ xs. values_text (map f (range_with_len 0 k)) ++ xs)
-    (append-nil (codes " " ++ decimal (f k)))
 
 -- the first values, and the others
 pub values_split : (f : ℕ → ℕ) (k n : ℕ) → k ≤ n
