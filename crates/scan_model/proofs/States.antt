@@ -115,19 +115,6 @@ at_numbers s name h e = ap (λ (found : Option Held). unwrap_or (option_map (λ 
 abbrev pub renumbered : Held → List ℕ → Held
 renumbered h numbers = record { name = h.name; object = h.object; numbers = numbers }
 
-keep_case : (b : Bool) (h : Held) (s t : List Held) (found : Option Held) (numbers : List ℕ)
-    → (found ≡ None → t ≡ s) → cond b (Some h) found ≡ None
-    → cond b (renumbered h numbers) h ∷ t ≡ h ∷ s
-keep_case true h s t found numbers go e = cc
-keep_case false h s t found numbers go e = ap (λ rest. h ∷ rest) (go e)
-
--- numbers of a name that no object has change nothing
-pub with_none : (s : List Held) (name numbers : List ℕ) → lookup s name ≡ None
-    → with_numbers s name numbers ≡ s
-with_none [] name numbers e = refl
-with_none (h ∷ s) name numbers e = keep_case (bytes_eq h.name name) h s
-    (with_numbers s name numbers) (lookup s name) numbers (with_none s name numbers) e
-
 pub with_last : (s : List Held) (h : Held) (numbers : List ℕ) → lookup s h.name ≡ None
     → with_numbers (s ++ h ∷ []) h.name numbers ≡ s ++ renumbered h numbers ∷ []
 with_last [] h numbers e = rw (bytes_same h.name h.name refl) refl
