@@ -356,8 +356,3 @@ rows_of_kind Word op a b c f g h = h ∙ rw (
     (body_defines op.params.items (map statement op.body.items)))
     (greatest (map (need_inside words_inside) (map statement op.body.items)))
     (small_need words_inside (map statement op.body.items) few_words))
-
--- the names of a word statement
-pub two_counted : (p : Param → Bool) (x : Param) (xs : List Param) (a b : ℕ)
-    → a ≡ count_by p (x ∷ []) → b ≡ count_by p xs → a + b ≡ count_by p (x ∷ xs)
-two_counted p x xs a b e f = let g = count-append p (x ∷ []) xs in omega arith

@@ -1,5 +1,5 @@
 -- A token is taken.
-use Rattle.std.proofs.Common.{◌≡◌, ℕ, Bool, true, false, List, [], ◌∷◌, ◌++◌, Option, Some, Result}
+use Rattle.std.proofs.Common.{◌≡◌, ℕ, Bool, true, List, [], ◌∷◌, ◌++◌, Option, Some, Result}
 use Rattle.std.proofs.Common.{Ok, Err, refl, sym, ap, ◌∙◌, subst}
 use Rattle.std.specs.Result.{IsErrAnd, IfErr, IfOk}
 use Rattle.std.proofs.lemmas.Result.{err_from_is_err_and}
@@ -9,7 +9,6 @@ use Rattle.op_text.specs.declared.fault.Breach.{Breach}
 use Rattle.op_text.specs.declared.grammar.Wanted.{Wanted}
 use Rattle.op_text.specs.declared.grammar.Wanted.TheVariants as w
 use Rattle.op_text.specs.declared.terminal.Terminal.{Terminal}
-use Rattle.op_text.specs.declared.terminal.Terminal.TheVariants as t
 use Rattle.op_text.specs.declared.tree.Expr.{Expr}
 use Rattle.op_text.specs.Language.{Term, term}
 use Rattle.op_text.specs.Spelling.{term_text}
@@ -51,15 +50,6 @@ pub refused_fails : (want : Wanted) (s : Scope) (old : List Item) (token : Token
 refused_fails want s old token new o no.Memory s' e f h more = tt
 refused_fails want s old token new o (no.Breach b) s' e f h more =
     wrong_fails want s old token new o b e f h more
-
--- The terminals that no rule but the grammar's speaks of.
-abbrev pub is_judged : Terminal → Bool
-is_judged (t.Name n) = true
-is_judged t.Comma = true
-is_judged t.Closes = true
-is_judged t.Semi = true
-is_judged t.Finishes = true
-is_judged u = false
 
 -- what comes after a token that was taken
 pub took_moves : (want : Wanted) (old : ParserView) (text : List ℕ) (u : Terminal) (new :

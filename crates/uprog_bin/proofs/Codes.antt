@@ -21,10 +21,6 @@ regroup : {A : Type 0} (front : List A) (x : A) (read : Result (List A) ProgFaul
 regroup front x (Ok xs) = ap (λ (ys : List _). Ok ys) (sym (append_assoc front (x ∷ []) xs))
 regroup front x (Err f) = refl
 
-pub nothing_before : {A : Type 0} (read : Result (List A) ProgFault) → with_front [] read ≡ read
-nothing_before (Ok xs) = refl
-nothing_before (Err f) = refl
-
 -- the last one of so many
 last_is : (count k : ℕ) → k < count → eqb (count - (k + 1)) 0 ≡ eqb (k + 1) count
 last_is count k lt = grind (arith, nat_tests)
