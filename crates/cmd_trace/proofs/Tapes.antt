@@ -35,7 +35,7 @@ use Rattle.trace_model.specs.Reading.{with_row, event_at, events_at}
 use Rattle.trace_model.proofs.Events.{event_again}
 use Rattle.trace_model.proofs.Records.{event_length}
 use Rattle.trace_model.proofs.Files.{few_rows}
-use Rattle.dram_model.proofs.EventLaws.{Grew-none, log_bits-append}
+use Rattle.dram_model.proofs.EventLaws.{log_bits-append}
 use Rattle.cmd_trace.specs.declared.sizes.TheConstants.{EVENTS_BYTES_MAX, HEAD_BYTES_MAX}
 use Rattle.cmd_trace.specs.declared.sizes.TheConstants.{TRACE_BYTES_MAX}
 use Rattle.cmd_trace.specs.Tape.{NotesView, ends_at, events_on, events_read, is_whole, kept_in}
@@ -256,9 +256,6 @@ pub record Tells (g : Geometry) (tape : NotesView) : Type 0 where
 at_most : (a b : ℕ) → leb a b ≡ true → a ≤ b
 at_most a b h = grind (arith, nat_tests)
 
-is-at_most : (a b : ℕ) → a ≤ b → leb a b ≡ true
-is-at_most a b h = grind (arith, nat_tests)
-
 whole_case : (g : Geometry) (tape : NotesView) (known : Bool) → known ≡ true
     → cond known (is_geometry g && leb (length tape.bytes) TRACE_BYTES_MAX
     && ends_at (length tape.bytes) (events_at tape.count g HEAD_BYTES_MAX tape.bytes)
@@ -423,13 +420,6 @@ did_recorded event old new tape after h is kept did e =
             (event ∷ [])) (sym kept.geometry) known.grew;
       };
     })
-
--- a call that keeps the tape
-pub same_log : (old new : ChipView) (tape : NotesView) → Kept old new
-    → Grew (recorded old tape).log (recorded new tape).log []
-same_log old new tape kept =
-    subst (λ (g : Geometry). Grew (log_shown old.geometry tape) (log_shown g tape) [])
-    (sym kept.geometry) (Grew-none (log_shown old.geometry tape))
 
 pub same_kept : (old new : ChipView) (tape : NotesView) → Kept old new
     → Kept (recorded old tape) (recorded new tape)
