@@ -17,6 +17,7 @@ use Rattle.op_text.specs.Rules.{is_among}
 use Rattle.op_text.specs.Scratch.{state_names}
 use Rattle.loop_ir.specs.declared.ir.Space.{Space}
 use Rattle.loop_ir.specs.declared.ir.Space.TheVariants.{Result, Source, ScratchBit, ScratchWord}
+use Rattle.loop_ir.specs.declared.ir.Space.TheVariants.{Cells}
 use Rattle.loop_ir.specs.declared.ir.Sub.{Sub}
 use Rattle.loop_ir.specs.declared.ir.Sub.TheVariants.{Zero, Top, Inner as At_inner, InnerDown}
 use Rattle.loop_ir.specs.declared.ir.Sub.TheVariants.{Outer, OuterDown, Sum, DownSum, DownPlusN}
@@ -26,12 +27,12 @@ use Rattle.loop_ir.specs.declared.names.Slot.{Slot}
 use Rattle.loop_ir.specs.Plain.{Block as Body, AllParts}
 use Rattle.loop_ir.specs.Plain.StepOf.{Single, Along}
 use Rattle.loop_ir.specs.Loops.{RoundOf, round_at, one_round, rounds, all_rounds}
-use Rattle.loop_ir.specs.Spots.{Spot, IsOwn, spot_in, nth_place, nth_spot}
+use Rattle.loop_ir.specs.Spots.{Spot, IsOwn, is_state, spot_in, nth_place, nth_spot}
 use Rattle.loop_ir.specs.WellFormed.{IsOneValue, IsWellFormed, AreWellFormed}
 use Rattle.loop_ir.specs.Costs.{body_cost, same_sub, is_used, used_subs, single_cost, step_cost}
 use Rattle.loop_ir.specs.Costs.{code_cost, step_bodies, bodies}
 use Rattle.loop_ir.specs.Limits.{IsSmall, may_stand, step_stands, IsRound, CanCompile}
-use Rattle.loop_ir.specs.Statements.{Slots, targets_of, statement_names}
+use Rattle.loop_ir.specs.Statements.{Slots, holds_kind, targets_of, statement_names}
 use Rattle.loop_ir.specs.Lowered.{IsRowOf, IsStatementRow}
 use Rattle.block_lower.specs.Inputs.{block_inputs, name_at}
 use Rattle.block_lower.specs.Form.{kind_sub, place_of, places_of, constant, start, IsBlockBody}
@@ -58,6 +59,22 @@ state-sub : {slots : Slots} {fb fw : ℕ} {b : Block} → Given slots fb fw b
     → (place_of down (slots x)).sub ≡ Zero
 state-sub {b = b} g down x e = ap (λ o. (place_of down o).sub)
     (found g x (written-named b x (state-written b x e))) ∙ ap (kind_sub down) (state-kind g x e)
+
+-- a name lies in a space of rows
+space-row : (s : Space) (k : Kind) → holds_kind s k ≡ true → is_state s ≡ false
+space-row Result k h = refl
+space-row Source k h = refl
+space-row ScratchBit k h = refl
+space-row ScratchWord k h = refl
+space-row Cells k h = cc
+
+name-row : {slots : Slots} {fb fw : ℕ} {b : Block} → Given slots fb fw b
+    → (down : Bool) (x : List ℕ) → is_among (statement_names (Visit b)) x ≡ true
+    → is_state (place_of down (slots x)).space ≡ false
+name-row {slots = slots} g down x e =
+    let h = g.placed.there x e in
+    ap (λ (o : Option Slot). is_state (place_of down o).space) h.1
+    ∙ space-row h.0.space h.0.kind h.2
 
 one-value : {slots : Slots} {fb fw : ℕ} {b : Block} → Given slots fb fw b
     → (down : Bool) (x y : List ℕ) → is_among (statement_names (Visit b)) x ≡ true
@@ -215,6 +232,17 @@ body-small {b = b} {body = body} g is most =
     let k = is.nodes in
     record {
       well = body-well g is;
+      written = let l = writes-long is in omega (arith, m, l);
+      read_rows = λ k l.
+          let longer = reads-long is in
+          let kk : k < length (block_inputs b) = omega (arith, l, longer) in
+          ap (λ (p : Place). is_state p.space) (read-place is k kk)
+          ∙ name-row g b.down (name_at (block_inputs b) k) (input-at b k kk);
+      write_rows = λ j l.
+          let long = writes-long is in
+          let kj : j < length b.assigns = omega (arith, l, long) in
+          ap (λ (p : Place). is_state p.space) (write-place is j kj)
+          ∙ name-row g b.down (name_at (targets_of b.assigns) j) (target-named b j kj);
       graph = is.graph;
       inputs = let i = is.inputs in omega (arith, i, most);
       outputs = omega (arith, m, a);
@@ -226,9 +254,18 @@ body-small {b = b} {body = body} g is most =
 constant-subs : (v : Bool) (p : Place) → p.sub ≡ Zero → length (used_subs (constant v p)) ≤ 3
 constant-subs v p e = rw e (omega arith)
 
-constant-small : (v : Bool) (p : Place) → p.sub ≡ Zero → IsSmall (constant v p)
-constant-small v p e = record {
+constant-row : (v : Bool) (p : Place) → is_state p.space ≡ false → (j : ℕ) → j < 1
+    → is_state (nth_place (p ∷ []) j).space ≡ false
+constant-row v p r zero l = r
+constant-row v p r (suc j) l = absurd (omega arith)
+
+constant-small : (v : Bool) (p : Place) → p.sub ≡ Zero → is_state p.space ≡ false
+    → IsSmall (constant v p)
+constant-small v p e r = record {
   well = constant-well v p;
+  written = refl;
+  read_rows = λ k l. absurd (omega arith);
+  write_rows = λ j l. constant-row v p r j l;
   graph = empty-graph;
   inputs = omega arith;
   outputs = omega arith;
@@ -321,6 +358,7 @@ spot-space n Result w v = refl
 spot-space n Source w v = refl
 spot-space n ScratchBit w v = refl
 spot-space n ScratchWord w v = refl
+spot-space n Cells w v = refl
 
 own-spot : (n : ℕ) (s : Space) (w v : ℕ) → IsOwn s → IsOwn (spot_in n s w v).space
 own-spot n s w v own = subst IsOwn (sym (spot-space n s w v)) own
@@ -336,12 +374,12 @@ body-round {slots = slots} {fb = fb} {fw = fw} {b = b} {body = body} g is n i lt
     let long = writes-long is in
     let longer = reads-long is in
     record {
-      reads = λ k l.
+      reads = λ k l row.
           let kk : k < length (block_inputs b) = omega (arith, l, longer) in
           inl (subst (IsRowOf n slots all) (sym (read-row is n i k kk))
           (named-row-is g all n p (name_at (block_inputs b) k) lp (input-at b k kk)
           (input-at b k kk)));
-      writes = λ j l.
+      writes = λ j l row.
           let kj : j < length b.assigns = omega (arith, l, long) in
           inl (subst (IsRowOf n slots all) (sym (write-row is n i j kj))
           (named-row-is g all n p (name_at ts j) lp (target-named b j kj)
@@ -401,8 +439,8 @@ start-round : {slots : Slots} {fb fw : ℕ} {b : Block} → Given slots fb fw b 
     → IsRound (IsStatementRow slots fb fw (Visit b) n) n
     (round_at (constant s.start (place_of b.down (slots s.name))) 0 0)
 start-round g n lt s e = record {
-  reads = λ k l. absurd (omega arith);
-  writes = λ j l. (start-row g n lt s e j l).0;
+  reads = λ k l row. absurd (omega arith);
+  writes = λ j l row. (start-row g n lt s e j l).0;
   own = λ j l. (start-row g n lt s e j l).1;
   apart = λ i j li lj h. one-only i j li lj;
   same = λ j k lj lk h. absurd (omega arith);
@@ -435,7 +473,8 @@ pub can-compile : {slots : Slots} {fb fw : ℕ} {b : Block} {body : Body} → Gi
     ++ Along body ∷ [])
 can-compile {slots = slots} {fb = fb} {fw = fw} {b = b} {body = body} g is most = record {
   small = parts-all IsSmall slots b body b.states (λ x e. e) (λ s e.
-      constant-small s.start (place_of b.down (slots s.name)) (state-sub g b.down s.name e))
+      constant-small s.start (place_of b.down (slots s.name)) (state-sub g b.down s.name e)
+      (name-row g b.down s.name (written-named b s.name (state-written b s.name e))))
       (body-small g is most);
   stand = steps-stand g is b.states (λ x e. e);
   rounds = λ n lt most. steps-all (IsRound (IsStatementRow slots fb fw (Visit b) n) n) slots b body

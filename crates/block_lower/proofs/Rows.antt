@@ -6,6 +6,7 @@ use Rattle.op_text.specs.declared.tree.Kind.TheVariants.{Word, Bit}
 use Rattle.op_text.specs.Meaning.{width}
 use Rattle.loop_ir.specs.declared.ir.Space.{Space}
 use Rattle.loop_ir.specs.declared.ir.Space.TheVariants.{Result, Source, ScratchBit, ScratchWord}
+use Rattle.loop_ir.specs.declared.ir.Space.TheVariants.{Cells}
 use Rattle.loop_ir.specs.declared.names.Slot.{Slot}
 use Rattle.loop_ir.specs.Loops.{sub_value}
 use Rattle.loop_ir.specs.Spots.{Spot, spot_in, spot_at, nth_place}
@@ -144,6 +145,11 @@ spots-once n ScratchWord Source a b k l v w hk hl lv lw e =
     absurd (space_other ScratchWord Source 0 (a * n + v) b w (λ h. cc) e)
 spots-once n ScratchWord ScratchBit a b k l v w hk hl lv lw e =
     absurd (space_other ScratchWord ScratchBit 0 (a * n + v) b 0 (λ h. cc) e)
+spots-once n Cells t a b k l v w hk hl lv lw e = absurd (cc)
+spots-once n Result Cells a b k l v w hk hl lv lw e = absurd (cc)
+spots-once n Source Cells a b k l v w hk hl lv lw e = absurd (cc)
+spots-once n ScratchBit Cells a b k l v w hk hl lv lw e = absurd (cc)
+spots-once n ScratchWord Cells a b k l v w hk hl lv lw e = absurd (cc)
 
 pub slots-once : (n : ℕ) (x y : Slot) (v w : ℕ) → holds_kind x.space x.kind ≡ true
     → holds_kind y.space y.kind ≡ true → v < width n x.kind → w < width n y.kind

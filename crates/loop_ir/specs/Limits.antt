@@ -11,13 +11,16 @@ use Rattle.loop_ir.specs.Plain.{Block, InnerOf, StepOf, AllParts}
 use Rattle.loop_ir.specs.Plain.InnerOf.{Alone, Across}
 use Rattle.loop_ir.specs.Plain.StepOf.{Single, Along, Nest}
 use Rattle.loop_ir.specs.Loops.{RoundOf, all_rounds}
-use Rattle.loop_ir.specs.Spots.{Spot, IsOwn, nth_place, nth_spot}
+use Rattle.loop_ir.specs.Spots.{Spot, IsOwn, is_state, nth_place, nth_spot}
 use Rattle.loop_ir.specs.WellFormed.{IsWellFormed}
 use Rattle.loop_ir.specs.Costs.{used_subs, code_cost, bodies}
 
--- a body of which commands can be made
+-- a body of which commands can be made: each write has its output, and each place has a row
 pub record IsSmall (b : Block) : Type 0 where
   pub well : IsWellFormed b
+  pub written : length b.outs ≡ length b.writes
+  pub read_rows : (k : ℕ) → k < length b.reads → is_state (nth_place b.reads k).space ≡ false
+  pub write_rows : (j : ℕ) → j < length b.writes → is_state (nth_place b.writes j).space ≡ false
   pub graph : IsGraph b.graph.inputs b.graph.nodes
   pub inputs : b.graph.inputs ≤ 80
   pub outputs : length b.outs ≤ 8
@@ -52,12 +55,16 @@ step_stands (Single b) = all_stand false false b
 step_stands (Along b) = all_stand true false b
 step_stands (Nest parts) = list_all inner_stands parts
 
--- In a round the body's places are rows that it may have, and none of its writes is a source's. The
--- row of a write is that of no other write, and that of at most one read, which is a read of the
--- same place
+-- In a round the body's places with rows are rows that it may have, and none of its writes is a
+-- source's. The row of a write is that of no other write, and that of at most one read, which is a
+-- read of the same place
 pub record IsRound (may_have : Spot → Type 0) (n : ℕ) (r : RoundOf Block) : Type 0 where
-  pub reads : (k : ℕ) → k < length r.part.reads → may_have (nth_spot n r.i r.o r.part.reads k)
-  pub writes : (j : ℕ) → j < length r.part.writes → may_have (nth_spot n r.i r.o r.part.writes j)
+  pub reads : (k : ℕ) → k < length r.part.reads
+      → is_state (nth_place r.part.reads k).space ≡ false
+      → may_have (nth_spot n r.i r.o r.part.reads k)
+  pub writes : (j : ℕ) → j < length r.part.writes
+      → is_state (nth_place r.part.writes j).space ≡ false
+      → may_have (nth_spot n r.i r.o r.part.writes j)
   pub own : (j : ℕ) → j < length r.part.writes → IsOwn (nth_spot n r.i r.o r.part.writes j).space
   pub apart : (i j : ℕ) → i < length r.part.writes → j < length r.part.writes
       → nth_spot n r.i r.o r.part.writes i ≡ nth_spot n r.i r.o r.part.writes j → i ≡ j

@@ -7,6 +7,7 @@ use Rattle.mig_graph.specs.Graph.{value, values}
 use Rattle.mig_graph.specs.Outputs.{lit_at}
 use Rattle.loop_ir.specs.declared.ir.Space.{Space}
 use Rattle.loop_ir.specs.declared.ir.Space.TheVariants.{Result, Source, ScratchBit, ScratchWord}
+use Rattle.loop_ir.specs.declared.ir.Space.TheVariants.{Cells}
 use Rattle.loop_ir.specs.declared.ir.Sub.TheVariants.{Zero}
 use Rattle.loop_ir.specs.declared.ir.Place.{Place}
 use Rattle.loop_ir.specs.Plain.{Block}
@@ -24,6 +25,7 @@ same_space Result Result = true
 same_space Source Source = true
 same_space ScratchBit ScratchBit = true
 same_space ScratchWord ScratchWord = true
+same_space Cells Cells = true
 same_space a b = false
 
 -- both are one row
@@ -39,12 +41,13 @@ abbrev pub set_spot : Spots → Spot → Bool → Spots
 set_spot bits p v q = if same_spot q p then v else bits q
 
 -- the row of a place at an index: scratch words lie one after another, so that an index past one is
--- in the next
+-- in the next. What stands in cells has a name like a row's, and no row
 abbrev pub spot_in : ℕ → Space → ℕ → ℕ → Spot
 spot_in n Result w v = record { space = Result; which = w; index = v }
 spot_in n Source w v = record { space = Source; which = w; index = v }
 spot_in n ScratchBit w v = record { space = ScratchBit; which = w; index = 0 }
 spot_in n ScratchWord w v = record { space = ScratchWord; which = 0; index = w * n + v }
+spot_in n Cells w v = record { space = Cells; which = w; index = 0 }
 
 -- the row of a place at these positions of a loop
 abbrev pub spot_at : ℕ → ℕ → ℕ → Place → Spot
@@ -90,3 +93,12 @@ IsOwn Result = Unit {0}
 IsOwn Source = ⊥
 IsOwn ScratchBit = Unit {0}
 IsOwn ScratchWord = Unit {0}
+IsOwn Cells = Unit {0}
+
+-- it stands in cells, and has no row
+abbrev pub is_state : Space → Bool
+is_state Result = false
+is_state Source = false
+is_state ScratchBit = false
+is_state ScratchWord = false
+is_state Cells = true

@@ -17,6 +17,7 @@ use Rattle.op_text.specs.Scratch.{bits_inside, words_inside, need_inside, block_
 use Rattle.op_text.specs.Scratch.{word_names}
 use Rattle.loop_ir.specs.declared.ir.Space.{Space}
 use Rattle.loop_ir.specs.declared.ir.Space.TheVariants.{Result, Source, ScratchBit, ScratchWord}
+use Rattle.loop_ir.specs.declared.ir.Space.TheVariants.{Cells}
 use Rattle.loop_ir.specs.declared.names.Slot.{Slot}
 use Rattle.loop_ir.specs.declared.names.NameMap.{NameMap}
 use Rattle.loop_ir.specs.Spots.{IsOwn}
@@ -37,6 +38,7 @@ holds_kind ScratchBit Bit = true
 holds_kind ScratchBit Word = false
 holds_kind ScratchWord Word = true
 holds_kind ScratchWord Bit = false
+holds_kind Cells k = false
 
 -- the name has a place, for a value of this kind
 pub record HasKind (slots : Slots) (name : List ℕ) (k : Kind) : Type 0 where

@@ -29,16 +29,19 @@ pub enum Sub {
     NPlusInner,
 }
 
-/// What a row belongs to: the result, a source, or a bit or word of scratch.
+/// What a row belongs to: the result, a source, or a bit or word of scratch. A value in cells of the
+/// bitwise group has no row: a body leaves it in them to the next one.
 #[derive(Clone, Copy, PartialEq, Eq)]
 pub enum Space {
     Result,
     Source,
     ScratchBit,
     ScratchWord,
+    Cells,
 }
 
 /// A row by its name: which value of a space, and the position in it. A bit of scratch has one row.
+/// Of cells `which` is the number of the group's cells, and `sub` is `Zero`.
 #[derive(Clone, Copy, PartialEq, Eq)]
 pub struct Place {
     pub space: Space,

@@ -1,5 +1,5 @@
 -- Code can be made of a program of such a form, whose graphs are such as `Mig` makes.
-use Rattle.std.proofs.Common.{ℕ, List, [], ◌∷◌}
+use Rattle.std.proofs.Common.{ℕ, List, [], ◌∷◌, arith}
 use Rattle.loop_ir.specs.Plain.{Block, InnerOf, StepOf, AllInner, AllStep, AllParts}
 use Rattle.loop_ir.specs.Plain.InnerOf.{Alone, Across}
 use Rattle.loop_ir.specs.Plain.StepOf.{Single, Along, Nest}
@@ -29,7 +29,7 @@ well : (b : Block) → IsMade b → IsSlim b → IsWellFormed b
 well b made slim = record {
   named = made.named;
   reads = slim.reads;
-  writes = slim.writes;
+  writes = omega (arith, slim.writes);
   apart = slim.apart;
   same = slim.same;
 }
@@ -37,6 +37,9 @@ well b made slim = record {
 small : (b : Block) → IsMade b → IsSlim b → IsSmall b
 small b made slim = record {
   well = well b made slim;
+  written = slim.writes;
+  read_rows = slim.read_rows;
+  write_rows = slim.write_rows;
   graph = made.graph;
   inputs = slim.inputs;
   outputs = slim.outputs;

@@ -1,12 +1,13 @@
 -- Every round of a loop program by owners keeps the rules.
 use Rattle.std.proofs.Common.{◌≡◌, ℕ, zero, suc, ◌+◌, ◌-◌, ◌*◌, ◌<◌, ◌≤◌, Bool, true, false, List}
 use Rattle.std.proofs.Common.{[], ◌∷◌, ◌++◌, map, length, refl, sym, ap, ◌∙◌, subst, ⊎_elim, arith}
-use Rattle.std.specs.Prelude.{◌&&◌, nat_le}
+use Rattle.std.specs.Prelude.{◌&&◌, ◌==◌, nat_le}
 use Rattle.std.specs.List.{AllByRecursion, list_all}
-use Rattle.std.proofs.lemmas.Bool.{cases_eq, and_parts}
+use Rattle.std.proofs.lemmas.Bool.{cases_eq, and_parts, eqb-true}
 use Rattle.std.proofs.lemmas.List.{length-map}
 use Rattle.loop_ir.specs.declared.ir.Space.{Space}
 use Rattle.loop_ir.specs.declared.ir.Space.TheVariants.{Result, Source, ScratchBit, ScratchWord}
+use Rattle.loop_ir.specs.declared.ir.Space.TheVariants.{Cells}
 use Rattle.loop_ir.specs.declared.ir.Sub.{Sub}
 use Rattle.loop_ir.specs.declared.ir.Sub.TheVariants as sub
 use Rattle.loop_ir.specs.declared.ir.Count.{Count}
@@ -17,7 +18,7 @@ use Rattle.loop_ir.specs.Plain.InnerOf.{Alone, Across}
 use Rattle.loop_ir.specs.Plain.StepOf.{Single, Along, Nest}
 use Rattle.loop_ir.specs.Loops.{RoundOf, round_at, one_round, rounds, positions, sub_value}
 use Rattle.loop_ir.specs.Loops.{inner_rounds, all_rounds}
-use Rattle.loop_ir.specs.Spots.{Spot, spot_at, spot_in, nth_place, nth_spot, IsOwn}
+use Rattle.loop_ir.specs.Spots.{Spot, spot_at, spot_in, nth_place, nth_spot, IsOwn, is_state}
 use Rattle.loop_ir.specs.WellFormed.{IsOneValue}
 use Rattle.loop_ir.specs.Costs.{used_subs, code_cost, bodies}
 use Rattle.loop_ir.specs.Limits.{IsRound, step_stands}
@@ -100,11 +101,23 @@ placed_same rooms p m e f = ap (λ x. placed rooms (record { owner = x; sub = p.
 below_map : {A B : Type 0} (f : A → B) (xs : List A) (k : ℕ) → k < length (map f xs) → k < length xs
 below_map f xs k lt = let e = length-map xs f in omega arith
 
+spot_space : (n : ℕ) (s : Space) (w v : ℕ) → (spot_in n s w v).space ≡ s
+spot_space n Result w v = refl
+spot_space n Source w v = refl
+spot_space n ScratchBit w v = refl
+spot_space n ScratchWord w v = refl
+spot_space n Cells w v = refl
+
 own_spot : (n : ℕ) (s : Space) (w v : ℕ) → IsOwn s → IsOwn (spot_in n s w v).space
 own_spot n Result w v own = own
 own_spot n Source w v own = own
 own_spot n ScratchBit w v own = own
 own_spot n ScratchWord w v own = own
+own_spot n Cells w v own = own
+
+-- no room stands in cells
+abbrev RoomsHaveRows : List Room → Type 0
+RoomsHaveRows rooms = (k : ℕ) → k < length rooms → is_state (room_at rooms k).space ≡ false
 
 module _ (n : ℕ) (rooms : List Room) (some : 0 < n) (are : RoomsApart n rooms) (r : Reach)
     (outer : Bool) (b : Marked) (fit : BodyFits r outer rooms b.reads b.writes) where
@@ -170,14 +183,14 @@ module _ (n : ℕ) (rooms : List Room) (some : 0 < n) (are : RoomsApart n rooms)
         let rd = below_map (placed rooms) b.reads in
         let wr = below_map (placed rooms) b.writes in
         record {
-          reads = λ k lk. (
+          reads = λ k lk row. (
             (mark_at b.reads k).owner,
             sub_value n i o (mark_at b.reads k).sub,
             fit.read_owner k (rd k lk),
             read_below k (rd k lk),
             read_at k (rd k lk),
           );
-          writes = λ j lj. (
+          writes = λ j lj row. (
             (mark_at b.writes j).owner,
             sub_value n i o (mark_at b.writes j).sub,
             fit.write_owner j (wr j lj),
@@ -212,11 +225,12 @@ module _ (n : ℕ) (rooms : List Room) (some : 0 < n) (are : RoomsApart n rooms)
       (ap (λ z. spot_in n z a.which 0) s ∙ ap (λ z. spot_in n b.space z 0) t)))
       (cases_eq x.owner y.owner)
 
-  pub slim_is : has_room (placed_body rooms b) ≡ true → IsSlim (placed_body rooms b)
-  slim_is e =
+  pub slim_is : RoomsHaveRows rooms → has_room (placed_body rooms b) ≡ true
+      → IsSlim (placed_body rooms b)
+  slim_is have e =
       let c = placed_body rooms b in
       let a1 = and_parts (nat_le c.graph.inputs (length c.reads)) _ e in
-      let a2 = and_parts (nat_le (length c.outs) (length c.writes)) _ a1.1 in
+      let a2 = and_parts (length c.outs == length c.writes) _ a1.1 in
       let a3 = and_parts (nat_le c.graph.inputs 80) _ a2.1 in
       let a4 = and_parts (nat_le (length c.outs) 8) _ a3.1 in
       let a5 = and_parts (nat_le (length c.graph.nodes + length c.outs) 32) _ a4.1 in
@@ -224,7 +238,13 @@ module _ (n : ℕ) (rooms : List Room) (some : 0 < n) (are : RoomsApart n rooms)
       let wr = below_map (placed rooms) b.writes in
       record {
         reads = most_is c.graph.inputs (length c.reads) a1.0;
-        writes = most_is (length c.outs) (length c.writes) a2.0;
+        writes = eqb-true (length c.outs) (length c.writes) a2.0;
+        read_rows = λ k lk. ap (λ (p : Place). is_state p.space)
+            (nth_placed rooms b.reads k (rd k lk))
+            ∙ have (mark_at b.reads k).owner (fit.read_owner k (rd k lk));
+        write_rows = λ j lj. ap (λ (p : Place). is_state p.space)
+            (nth_placed rooms b.writes j (wr j lj))
+            ∙ have (mark_at b.writes j).owner (fit.write_owner j (wr j lj));
         apart = λ i j li lj h. fit.differ i j (wr i li) (wr j lj)
             (one_owner (nth_place c.writes i) (nth_place c.writes j) (mark_at b.writes i)
             (mark_at b.writes j) (nth_placed rooms b.writes i (wr i li))
@@ -301,38 +321,38 @@ module _ (n : ℕ) (rooms : List Room) (some : 0 < n) (are : RoomsApart n rooms)
       (λ o lt. inners_are ps o lt fit.0))
       (rounds_are ss fit.1)
 
-  inners_slim : (ps : List (InnerOf Marked)) → InnersFit rooms ps
+  inners_slim : RoomsHaveRows rooms → (ps : List (InnerOf Marked)) → InnersFit rooms ps
       → inners_have_room (map (inner_map (placed_body rooms)) ps) ≡ true
       → AllInner IsSlim (map (inner_map (placed_body rooms)) ps)
-  inners_slim [] fit e = tt
-  inners_slim (Alone b ∷ ps) fit e = let a = and_parts (has_room (placed_body rooms b))
+  inners_slim have [] fit e = tt
+  inners_slim have (Alone b ∷ ps) fit e = let a = and_parts (has_room (placed_body rooms b))
       (inners_have_room (map (inner_map (placed_body rooms)) ps)) e in
-      (slim_is n rooms some are Nowhere true b fit.0 a.0, inners_slim ps fit.1 a.1)
-  inners_slim (Across c b ∷ ps) fit e = let a =
+      (slim_is n rooms some are Nowhere true b fit.0 have a.0, inners_slim have ps fit.1 a.1)
+  inners_slim have (Across c b ∷ ps) fit e = let a =
       and_parts (has_room (placed_body rooms b))
       (inners_have_room (map (inner_map (placed_body rooms)) ps)) e in
-      (slim_is n rooms some are (reach_of c) true b fit.0 a.0, inners_slim ps fit.1 a.1)
+      (slim_is n rooms some are (reach_of c) true b fit.0 have a.0, inners_slim have ps fit.1 a.1)
 
-  pub steps_slim : (ss : List (StepOf Marked)) → StepsFit rooms ss
+  pub steps_slim : RoomsHaveRows rooms → (ss : List (StepOf Marked)) → StepsFit rooms ss
       → steps_have_room (placed_steps rooms ss) ≡ true → AllParts IsSlim (placed_steps rooms ss)
-  steps_slim [] fit e = tt
-  steps_slim (Single b ∷ ss) fit e = let a = and_parts (has_room (placed_body rooms b))
+  steps_slim have [] fit e = tt
+  steps_slim have (Single b ∷ ss) fit e = let a = and_parts (has_room (placed_body rooms b))
       (steps_have_room (placed_steps rooms ss)) e in
-      (slim_is n rooms some are Nowhere false b fit.0 a.0, steps_slim ss fit.1 a.1)
-  steps_slim (Along b ∷ ss) fit e = let a = and_parts (has_room (placed_body rooms b))
+      (slim_is n rooms some are Nowhere false b fit.0 have a.0, steps_slim have ss fit.1 a.1)
+  steps_slim have (Along b ∷ ss) fit e = let a = and_parts (has_room (placed_body rooms b))
       (steps_have_room (placed_steps rooms ss)) e in
-      (slim_is n rooms some are Whole false b fit.0 a.0, steps_slim ss fit.1 a.1)
-  steps_slim (Nest ps ∷ ss) fit e = let a = and_parts
+      (slim_is n rooms some are Whole false b fit.0 have a.0, steps_slim have ss fit.1 a.1)
+  steps_slim have (Nest ps ∷ ss) fit e = let a = and_parts
       (inners_have_room (map (inner_map (placed_body rooms)) ps))
       (steps_have_room (placed_steps rooms ss)) e in
-      (inners_slim ps fit.0 a.0, steps_slim ss fit.1 a.1)
+      (inners_slim have ps fit.0 a.0, steps_slim have ss fit.1 a.1)
 
 -- the rows that it may have are among others
 pub round_among : (P Q : Spot → Type 0) → ((q : Spot) → P q → Q q) → (n : ℕ) (r : RoundOf Block)
     → IsRound P n r → IsRound Q n r
 round_among P Q h n r is = record {
-  reads = λ k lk. h _ (is.reads k lk);
-  writes = λ j lj. h _ (is.writes j lj);
+  reads = λ k lk row. h _ (is.reads k lk row);
+  writes = λ j lj row. h _ (is.writes j lj row);
   own = is.own;
   apart = is.apart;
   same = is.same;
@@ -345,9 +365,18 @@ pub rounds_among : (P Q : Spot → Type 0) → ((q : Spot) → P q → Q q)
 rounds_among P Q h n [] all = tt
 rounds_among P Q h n (r ∷ rs) all = (round_among P Q h n r all.0, rounds_among P Q h n rs all.1)
 
+-- the first row of each room is one that may be had
+rooms_row : (may_have : ℕ → Spot → Type 0) (rooms : List Room)
+    → ((q : Spot) → IsOwned 1 rooms q → may_have 1 q)
+    → ((q : Spot) → may_have 1 q → is_state q.space ≡ false) → RoomsHaveRows rooms
+rooms_row may_have rooms among rows k lk =
+    let r = room_at rooms k in
+    ap is_state (sym (spot_space 1 r.space r.which 0))
+    ∙ rows (row_in 1 r 0) (among (row_in 1 r 0) (k, 0, lk, first 1 r.rows (omega arith), refl))
+
 -- the tests on the marks say of every round at every width what it has to keep
 pub marks_are_enough : (may_have : ℕ → Spot → Type 0) → MarksAreEnough may_have
-marks_are_enough may_have rooms steps are among tested short =
+marks_are_enough may_have rooms steps are among rows tested short =
     let ss = placed_steps rooms steps in
     let fit = steps_are_fit rooms steps tested in
     let a = and_parts (steps_have_room ss) (list_all step_stands ss
@@ -356,7 +385,9 @@ marks_are_enough may_have rooms steps are among tested short =
     a.1 in
     let c = and_parts (nat_le (code_cost ss) 256) (nat_le (bodies ss) 12) b.1 in
     record {
-      slim = steps_slim 1 rooms (omega arith) (are 1 (omega arith) (omega arith)) steps fit a.0;
+      slim = steps_slim 1 rooms (omega arith) (are 1 (omega arith) (omega arith))
+          (λ k lk. rooms_row may_have rooms (among 1 (omega arith) (omega arith)) (rows 1) k lk)
+          steps fit a.0;
       stand = b.0;
       rounds = λ n some most. rounds_among (IsOwned n rooms) (may_have n) (among n some most) n
           (all_rounds n ss) (rounds_are n rooms some (are n some most) steps fit);

@@ -3,6 +3,7 @@ use Rattle.std.proofs.Common.{◌≡◌, ℕ, zero, suc, ◌+◌, ◌*◌, ◌<�
 use Rattle.std.proofs.Common.{ap, arith}
 use Rattle.loop_ir.specs.declared.ir.Space.{Space}
 use Rattle.loop_ir.specs.declared.ir.Space.TheVariants.{Result, Source, ScratchBit, ScratchWord}
+use Rattle.loop_ir.specs.declared.ir.Space.TheVariants.{Cells}
 use Rattle.loop_ir.specs.declared.ir.Place.{Place}
 use Rattle.loop_ir.specs.Plain.{Block}
 use Rattle.loop_ir.specs.Spots.{Spot, spot_in, spot_at, nth_place, IsOwn}
@@ -82,6 +83,7 @@ source_other n w v Result own e = space_other Source Result 0 0 w v (λ h. cc) e
 source_other n w v Source own e = own
 source_other n w v ScratchBit own e = space_other Source ScratchBit 0 0 w 0 (λ h. cc) e
 source_other n w v ScratchWord own e = space_other Source ScratchWord 0 0 0 (w * n + v) (λ h. cc) e
+source_other n w v Cells own e = space_other Source Cells 0 0 w 0 (λ h. cc) e
 
 own_nth : (ws : List Place) → AllOwn ws → (w : ℕ) → w < length ws → IsOwn (nth_place ws w).space
 own_nth [] all w lt = absurd (omega arith)

@@ -8,6 +8,7 @@ use Rattle.mig_graph.specs.Literals.{lit_value}
 use Rattle.mig_graph.specs.Outputs.{lit_at}
 use Rattle.loop_ir.specs.declared.ir.Space.{Space}
 use Rattle.loop_ir.specs.declared.ir.Space.TheVariants.{Result, Source, ScratchBit, ScratchWord}
+use Rattle.loop_ir.specs.declared.ir.Space.TheVariants.{Cells}
 use Rattle.loop_ir.specs.declared.ir.Place.{Place}
 use Rattle.loop_ir.specs.Spots.{Spot, Spots, same_space, same_spot, set_spot, spot_at, nth_place}
 use Rattle.loop_ir.specs.Spots.{write_all}
@@ -17,6 +18,7 @@ space_true Result Result e = refl
 space_true Source Source e = refl
 space_true ScratchBit ScratchBit e = refl
 space_true ScratchWord ScratchWord e = refl
+space_true Cells Cells e = refl
 space_true Result Source e = cc
 space_true Result ScratchBit e = cc
 space_true Result ScratchWord e = cc
@@ -29,12 +31,21 @@ space_true ScratchBit ScratchWord e = cc
 space_true ScratchWord Result e = cc
 space_true ScratchWord Source e = cc
 space_true ScratchWord ScratchBit e = cc
+space_true Result Cells e = cc
+space_true Source Cells e = cc
+space_true ScratchBit Cells e = cc
+space_true ScratchWord Cells e = cc
+space_true Cells Result e = cc
+space_true Cells Source e = cc
+space_true Cells ScratchBit e = cc
+space_true Cells ScratchWord e = cc
 
 space_same : (a : Space) → same_space a a ≡ true
 space_same Result = refl
 space_same Source = refl
 space_same ScratchBit = refl
 space_same ScratchWord = refl
+space_same Cells = refl
 
 pub spot_true : (p q : Spot) → same_spot p q ≡ true → p ≡ q
 spot_true p q e =

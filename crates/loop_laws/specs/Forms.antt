@@ -1,6 +1,6 @@
 -- What a loop program has to keep, so that it can be compiled.
-use Rattle.std.specs.Prelude.{◌≡◌, ℕ, ◌+◌, ◌<◌, ◌≤◌, Bool, true, ◌&&◌, nat_le, List, [], ◌∷◌}
-use Rattle.std.specs.Prelude.{length}
+use Rattle.std.specs.Prelude.{◌≡◌, ℕ, ◌+◌, ◌<◌, ◌≤◌, ◌==◌, Bool, true, false, ◌&&◌, nat_le, List}
+use Rattle.std.specs.Prelude.{[], ◌∷◌, length}
 use Rattle.std.specs.List.{AllByRecursion, list_all}
 use Rattle.bit_rows.specs.declared.TheConstants.{WIDTH_MAX}
 use Rattle.mig_graph.specs.Graph.{IsGraph}
@@ -9,7 +9,7 @@ use Rattle.loop_ir.specs.Plain.{Block, InnerOf, StepOf, AllParts}
 use Rattle.loop_ir.specs.Plain.InnerOf.{Alone, Across}
 use Rattle.loop_ir.specs.Plain.StepOf.{Single, Along, Nest}
 use Rattle.loop_ir.specs.Loops.{all_rounds}
-use Rattle.loop_ir.specs.Spots.{Spot, nth_place}
+use Rattle.loop_ir.specs.Spots.{Spot, is_state, nth_place}
 use Rattle.loop_ir.specs.WellFormed.{IsOneValue}
 use Rattle.loop_ir.specs.Costs.{used_subs, code_cost, bodies}
 use Rattle.loop_ir.specs.Limits.{IsRound, step_stands}
@@ -17,7 +17,9 @@ use Rattle.loop_ir.specs.Limits.{IsRound, step_stands}
 -- a body's places and numbers, but for its nodes
 pub record IsSlim (b : Block) : Type 0 where
   pub reads : b.graph.inputs ≤ length b.reads
-  pub writes : length b.outs ≤ length b.writes
+  pub writes : length b.outs ≡ length b.writes
+  pub read_rows : (k : ℕ) → k < length b.reads → is_state (nth_place b.reads k).space ≡ false
+  pub write_rows : (j : ℕ) → j < length b.writes → is_state (nth_place b.writes j).space ≡ false
   pub apart : (i j : ℕ) → i < length b.writes → j < length b.writes
       → IsOneValue (nth_place b.writes i) (nth_place b.writes j) → i ≡ j
   pub same : (j k : ℕ) → j < length b.writes → k < length b.reads
@@ -46,7 +48,7 @@ pub record HasForm (may_have : ℕ → Spot → Type 0) (steps : List (StepOf Bl
 abbrev pub has_room : Block → Bool
 has_room b =
     nat_le b.graph.inputs (length b.reads)
-    && (nat_le (length b.outs) (length b.writes)
+    && (length b.outs == length b.writes
     && (nat_le b.graph.inputs 80
     && (nat_le (length b.outs) 8
     && (nat_le (length b.graph.nodes + length b.outs) 32

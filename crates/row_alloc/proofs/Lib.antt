@@ -13,3 +13,6 @@ pub mod Checked
 pub mod Chosen
 pub mod Fixed
 pub mod First
+pub mod Values
+pub mod HeldChecked
+pub mod Plainly

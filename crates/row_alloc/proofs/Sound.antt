@@ -203,7 +203,7 @@ complemented-means g bits true (Some l) b h = ap not h
     ∙ sym (flip-not l.inverted (values g bits l.node))
 complemented-means g bits false (Some l) b h = h
 
-read-means : (g : Graph) (bits : ℕ → Bool) (sy : Symbols) (t : Column) (line : Line)
+pub read-means : (g : Graph) (bits : ℕ → Bool) (sy : Symbols) (t : Column) (line : Line)
     → IsSound g bits sy t → Means g bits (sym_read sy line) (read t line)
 read-means g bits sy t line h = complemented-means g bits line.inverted (held sy line.cell)
     (bit t line.cell) (h line.cell)

@@ -9,3 +9,5 @@ pub mod Table
 pub mod Phases
 pub mod Order
 pub mod Known
+pub mod Layouts
+pub mod Held

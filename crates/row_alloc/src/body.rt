@@ -26,3 +26,10 @@ pub struct OutRow {
     pub lit: Lit,
     pub same: Option<u8>,
 }
+
+/// A literal that stands in the cells of a layout, by the layout's number.
+#[derive(Clone, Copy)]
+pub struct Held {
+    pub lit: Lit,
+    pub layout: u8,
+}

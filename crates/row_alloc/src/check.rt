@@ -83,7 +83,7 @@ fn step(m: &Mig, outs: &[OutRow], table: &mut CellLiterals, cmd: BodyCmd)
 }
 
 /// All commands, in order.
-fn follow(m: &Mig, outs: &[OutRow], table: &mut CellLiterals, cmds: &[BodyCmd])
+pub fn follow(m: &Mig, outs: &[OutRow], table: &mut CellLiterals, cmds: &[BodyCmd])
     requires fit { FitBody m.now outs.now }
     requires legal { are_legal m.now.inputs (length outs.now) cmds.now ≡ true }
     ensures { symbols_of table.new ≡ sym_run m.now (map (bound (own_rows outs.now)) cmds.now)
@@ -95,7 +95,7 @@ fn follow(m: &Mig, outs: &[OutRow], table: &mut CellLiterals, cmds: &[BodyCmd])
 }
 
 /// Whether each output's cell holds its literal.
-fn ends_right(outs: &[OutRow], inputs: u8, table: &CellLiterals) -> bool
+pub fn ends_right(outs: &[OutRow], inputs: u8, table: &CellLiterals) -> bool
     requires outs { length outs.now ≤ 8 }
     requires inputs { inputs ≤ 80 }
     requires same { (j k : ℕ) → j < length outs.now → (out_at outs.now j).same ≡ Some k

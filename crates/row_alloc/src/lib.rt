@@ -12,8 +12,10 @@ mod check;
 mod count;
 mod estimate;
 mod greedy;
+mod held;
 mod known;
 mod laws;
+mod layout;
 mod legal;
 mod moves;
 mod order;
@@ -24,10 +26,11 @@ mod sensing;
 mod set;
 mod table;
 
-pub use body::{BodyCmd, BodyRef, OutRow};
+pub use body::{BodyCmd, BodyRef, Held, OutRow};
 pub use check::check_body;
 pub use count::{commands_of, quick_commands_of};
 pub use greedy::greedy_body;
+pub use held::check_held;
 pub use laws::{
     fixed_sequences_serve, legal_bodies_are_legal_on_banks, rows_can_stand_apart,
     word_bodies_have_sequences,

@@ -1,13 +1,17 @@
 //! What each cell holds when a body is followed with literals in place of bits.
 
 ghost use Rattle.std.specs.Prelude.{◌≡◌, ◌≤◌, ◌+◌, ℕ, length, true, false, slice_index_or, nat_lt};
-ghost use Rattle.std.specs.Prelude.{if◌then◌else◌};
+ghost use Rattle.std.specs.Prelude.{if◌then◌else◌, not, ◌&&◌};
 ghost use Rattle.std.specs.List.{list_all};
 ghost use Rattle.row_alloc.specs.Symbolic.{complemented_option, sym_read, sym_drive};
 ghost use Rattle.row_alloc.specs.Symbolic.{sym_settle_lines};
 ghost use Rattle.row_alloc.specs.Symbolic.{held as held_of, at_start};
 ghost use Rattle.row_alloc.specs.Table.{symbols_of, is_kept};
+ghost use Rattle.row_alloc.specs.Held.{have_layouts, is_held as is_held_in, taken, rows_start};
 
+use crate::body::Held;
+use crate::held::is_held;
+use crate::layout::layout;
 use dram_model::{Cell, Line};
 use mig_graph::{Lit, complement};
 
@@ -32,6 +36,33 @@ impl CellLiterals {
             t: [None; 4],
             dcc: [None; 2],
             d,
+        }
+    }
+
+    /// Each input that is not held in its own row, and these literals in the cells of their layouts.
+    pub fn holding(inputs: u8, enter: &[Held]) -> CellLiterals
+        requires inputs { inputs ≤ 80 }
+        requires layouts { have_layouts enter.now ≡ true }
+        ensures { symbols_of result ≡ taken enter.now (rows_start inputs enter.now) }
+    {
+        let mut d = [None; 120];
+        fill_rows(&mut d, inputs, enter);
+        let mut table = CellLiterals {
+            t: [None; 4],
+            dcc: [None; 2],
+            d,
+        };
+        table.take(enter);
+        table
+    }
+
+    /// The cells of each layout take their literal.
+    fn take(&mut self, cells: &[Held])
+        requires { have_layouts cells.now ≡ true }
+        ensures { symbols_of self.new ≡ taken cells.now (symbols_of self.old) }
+    {
+        for h in cells {
+            self.settle(layout(h.layout), Some(h.lit));
         }
     }
 
@@ -104,5 +135,23 @@ fn fill_inputs(d: &mut [Option<Lit>], inputs: u8)
             node: u32::from(k) + 1,
             inverted: false,
         });
+    }
+}
+
+/// The literal of each input that is not held, in its own place.
+fn fill_rows(d: &mut [Option<Lit>], inputs: u8, enter: &[Held])
+    requires long { inputs ≤ length d.old }
+    requires empty { (n : ℕ) → slice_index_or d.old n None ≡ None }
+    ensures { (n : ℕ) → slice_index_or d.new n None
+        ≡ (if nat_lt n inputs && not (is_held_in enter.now n)
+        then Some (record { node = n + 1; inverted = false }) else None) }
+{
+    for k in 0..inputs {
+        if !is_held(enter, k) {
+            d[k as usize] = Some(Lit {
+                node: u32::from(k) + 1,
+                inverted: false,
+            });
+        }
     }
 }

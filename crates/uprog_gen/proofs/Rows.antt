@@ -1,8 +1,13 @@
 -- What commands and rounds do to the rows of a bank.
 pub mod Rounds
+pub mod Alive
+pub mod Chains
+pub mod Chained
+pub mod States
+pub mod Named
+pub mod Rowed
 pub mod Ranges
 pub mod Laid
-pub mod Values
 pub mod Agree
 pub mod Settled
 pub mod Top

@@ -20,6 +20,7 @@ use Rattle.loop_ir.specs.declared.ir.Sub.TheVariants.{Outer, OuterDown, Sum, Dow
 use Rattle.loop_ir.specs.declared.ir.Sub.TheVariants.{NPlusInner}
 use Rattle.loop_ir.specs.declared.ir.Space.{Space}
 use Rattle.loop_ir.specs.declared.ir.Space.TheVariants.{Result, Source, ScratchBit, ScratchWord}
+use Rattle.loop_ir.specs.declared.ir.Space.TheVariants.{Cells}
 use Rattle.loop_ir.specs.declared.ir.Place.{Place}
 use Rattle.loop_ir.specs.declared.ir.Count.{Count}
 use Rattle.loop_ir.specs.declared.ir.Count.TheVariants.{All, Rest}
@@ -39,12 +40,13 @@ pub record Part : Type 0 where
   pub outs : List OutRow
   pub cmds : List BodyCmd
 
--- the space of an entry's rows that a place's space is
+-- the space of a row: what stands in cells has none, and is given a bit's
 abbrev pub row_space : Space → RowSpace
 row_space Result = row.Result
 row_space Source = row.Source
 row_space ScratchBit = row.ScratchBit
 row_space ScratchWord = row.ScratchWord
+row_space Cells = row.ScratchBit
 
 -- a place's row, in a command of the trace
 abbrev pub place_row : ℕ → ℕ → ℕ → Place → RowRef
@@ -115,12 +117,13 @@ pub record IsPlanned (plan : Plan) (b : Block) : Type 0 where
   pub reads : (k : ℕ) → is_planned plan (nth_place b.reads k).sub ≡ true
   pub writes : (k : ℕ) → is_planned plan (nth_place b.writes k).sub ≡ true
 
--- a scratch bit has no index
+-- a scratch bit has no index, nor has what stands in cells
 abbrev pub index_in : Space → ℕ → ℕ
 index_in Result r = r
 index_in Source r = r
 index_in ScratchBit r = 0
 index_in ScratchWord r = r
+index_in Cells r = 0
 
 -- a place's row in the code, whose index is a register
 abbrev pub place_ref : Plan → Place → RowRef

@@ -7,13 +7,15 @@ use Rattle.row_alloc.specs.declared.body.BodyRef.{BodyRef}
 use Rattle.row_alloc.specs.declared.body.BodyCmd.TheVariants.{Aap}
 use Rattle.row_alloc.specs.declared.body.OutRow.{OutRow}
 use Rattle.row_alloc.specs.Rows.{out_at}
-use Rattle.row_alloc.specs.Body.{DoesBody, WritesLate}
+use Rattle.row_alloc.specs.Body.{WritesLate}
+use Rattle.row_alloc.specs.Held.{DoesHeld}
 use Rattle.row_alloc.specs.Known.{WordBody, graph_in, outs_in, sequence_for, known_at}
 use Rattle.loop_ir.specs.Plain.{Block}
 use Rattle.loop_ir.specs.Spots.{nth_place}
 use Rattle.loop_ir.specs.WellFormed.{IsWellFormed}
 use Rattle.loop_ir.specs.Costs.{turn_cost, is_copy}
 use Rattle.uprog_gen.specs.Code.{Part, IsPlanned}
+use Rattle.uprog_gen.specs.States.{StatesFit, row_count, enters, leaves}
 
 -- the first m outputs: each has its literal, and names an input that is read at the place of its
 -- write, if there is one
@@ -25,14 +27,16 @@ pub record IsOuts (b : Block) (m : ℕ) (outs : List OutRow) : Type 0 where
   pub none : (j : ℕ) → j < length outs → (out_at outs j).same ≡ None → (k : ℕ) → k < b.graph.inputs
       → nth_place b.reads k ≢ nth_place b.writes j
 
--- a part whose commands do its body: a copy takes one, and a body of the word operations its own
--- sequence
+-- a part whose commands do its body, from the states that it reads to those that it writes: a copy
+-- takes one, and a body of the word operations its own sequence
 pub record IsPart (p : Part) : Type 0 where
   pub well : IsWellFormed p.block
   pub graph : IsGraph p.block.graph.inputs p.block.graph.nodes
   pub planned : IsPlanned p.plan p.block
-  pub outs : IsOuts p.block (length p.block.outs) p.outs
-  pub does : DoesBody p.block.graph p.outs p.cmds
+  pub states : StatesFit p.block
+  pub outs : IsOuts p.block (row_count p.block.writes) p.outs
+  pub does : DoesHeld p.block.graph p.outs (enters 0 p.block.reads)
+      (leaves p.block.writes p.block.outs) p.cmds
   pub few : length p.cmds ≤ turn_cost p.block
   pub copy : is_copy p.block ≡ true → (x : BodyRef) × (y : BodyRef) × (p.cmds ≡ Aap x y ∷ [])
   pub word : (w : WordBody) → p.block.graph ≡ graph_in w → p.block.outs ≡ outs_in w

@@ -7,6 +7,7 @@ use Rattle.uprog_code.specs.Shape.{Shape, width, results}
 use Rattle.uprog_code.specs.Bound.{Bound}
 use Rattle.loop_ir.specs.declared.ir.Space.{Space}
 use Rattle.loop_ir.specs.declared.ir.Space.TheVariants.{Result, Source, ScratchBit, ScratchWord}
+use Rattle.loop_ir.specs.declared.ir.Space.TheVariants.{Cells}
 use Rattle.loop_ir.specs.Spots.{Spot, Spots}
 
 -- the data row of an operation's named row, where its values and its scratch begin there
@@ -15,6 +16,7 @@ row_in head n b Result w i = slice_index b.results w + i
 row_in head n b Source w i = slice_index b.sources w + i
 row_in head n b ScratchBit w i = b.scratch + w
 row_in head n b ScratchWord w i = b.scratch + head.bits + i
+row_in head n b Cells w i = b.scratch + w
 
 -- the data row of a named row
 abbrev pub spot_row : Shape → ℕ → Bound → Spot → ℕ
@@ -31,8 +33,9 @@ IsIn head n Result w i = IsBelow (slice_get (results head) w) n i
 IsIn head n Source w i = IsBelow (slice_get head.sources w) n i
 IsIn head n ScratchBit w i = (w < head.bits) × (i ≡ 0)
 IsIn head n ScratchWord w i = (w ≡ 0) × (i < n * head.words)
+IsIn head n Cells w i = ⊥
 
--- the named row is one that the operation has
+-- the named row is one that the operation has: what stands in cells has no row
 abbrev pub IsSpot : Shape → ℕ → Spot → Type 0
 IsSpot head n p = IsIn head n p.space p.which p.index
 

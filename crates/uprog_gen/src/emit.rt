@@ -18,6 +18,7 @@ use no_memory::keep;
 use row_alloc::{BodyCmd, BodyRef};
 use uprog_code::{RowRef, RowSpace, Uop};
 
+/// The space of a row; what stands in cells has none, and is given a bit's.
 fn row_space(space: Space) -> RowSpace
     ensures { result ≡ row_space space }
 {
@@ -26,6 +27,7 @@ fn row_space(space: Space) -> RowSpace
         Space::Source => RowSpace::Source,
         Space::ScratchBit => RowSpace::ScratchBit,
         Space::ScratchWord => RowSpace::ScratchWord,
+        Space::Cells => RowSpace::ScratchBit,
     }
 }
 
@@ -37,6 +39,7 @@ fn index_in(space: Space, index: u8) -> u8
         Space::Source => index,
         Space::ScratchBit => 0,
         Space::ScratchWord => index,
+        Space::Cells => 0,
     }
 }
 

@@ -8,6 +8,7 @@ use Rattle.op_text.specs.declared.tree.Kind.TheVariants.{Word, Bit}
 use Rattle.op_text.specs.Meaning.{width}
 use Rattle.loop_ir.specs.declared.ir.Space.{Space}
 use Rattle.loop_ir.specs.declared.ir.Space.TheVariants.{Result, Source, ScratchBit, ScratchWord}
+use Rattle.loop_ir.specs.declared.ir.Space.TheVariants.{Cells}
 use Rattle.loop_ir.specs.declared.names.Slot.{Slot}
 use Rattle.loop_ir.specs.Spots.{Spot, spot_in, IsOwn}
 use Rattle.loop_ir.specs.Statements.{holds_kind}
@@ -166,6 +167,7 @@ moves_in n ScratchBit w Bit h u v lu lv e = omega arith
 moves_in n ScratchBit w Word h u v lu lv e = cc
 moves_in n ScratchWord w k h u v lu lv e = let f : w * n + u ≡ w * n + v =
     ap (λ (q : Spot). q.index) e in omega arith
+moves_in n Cells w k h u v lu lv e = cc
 
 -- a slot of which no row is in a place that may be written
 source_apart : (n : ℕ) (s : Space) (which u v : ℕ) → IsOwn s
@@ -176,6 +178,7 @@ source_apart n ScratchBit w u v own e = let f : Source ≡ ScratchBit =
     ap (λ (q : Spot). q.space) e in cc
 source_apart n ScratchWord w u v own e = let f : Source ≡ ScratchWord =
     ap (λ (q : Spot). q.space) e in cc
+source_apart n Cells w u v own e = let f : Source ≡ Cells = ap (λ (q : Spot). q.space) e in cc
 
 pub some_rows : (n : ℕ) (k : Kind) → 0 < n → 0 < width n k
 some_rows n Word h = h

@@ -13,17 +13,18 @@ use Rattle.op_text.specs.declared.word_ops.WordOp.{WordOp}
 use Rattle.op_text.specs.Values.{bits, value, op_value}
 use Rattle.op_text.specs.declared.word_ops.WordOp.TheVariants as op
 use Rattle.op_text.specs.WordOps.{forms, filled, second_kind}
-use Rattle.op_text.specs.Language.{Compute}
+use Rattle.op_text.specs.Language.{Statement, Compute}
 use Rattle.op_text.specs.Rules.{is_among}
 use Rattle.op_text.specs.Meaning.{NameValue, width, number, args_width, computed, after_statement}
 use Rattle.op_text.specs.Scratch.{bits_inside}
 use Rattle.op_text.specs.Costs.{op_ceiling}
 use Rattle.loop_ir.specs.declared.ir.Space.{Space}
 use Rattle.loop_ir.specs.declared.ir.Space.TheVariants.{Result, Source, ScratchBit, ScratchWord}
+use Rattle.loop_ir.specs.declared.ir.Space.TheVariants.{Cells}
 use Rattle.loop_ir.specs.declared.names.Slot.{Slot}
 use Rattle.loop_ir.specs.Plain.{Block, StepOf, AllParts}
 use Rattle.loop_ir.specs.Loops.{all_rounds}
-use Rattle.loop_ir.specs.Spots.{Spot, Spots, spot_in, after_rounds, IsOwn}
+use Rattle.loop_ir.specs.Spots.{Spot, Spots, spot_in, after_rounds, IsOwn, is_state}
 use Rattle.loop_ir.specs.Statements.{Slots, holds_kind, statement_names, IsPlaced, HaveKinds}
 use Rattle.loop_ir.specs.Statements.{SecondMeets, ComputeMeets}
 use Rattle.loop_ir.specs.Lowered.{slot_spot, slot_bits, HoldsAt, Holds, IsStatementRow}
@@ -51,6 +52,7 @@ space_is n Result w v = refl
 space_is n Source w v = refl
 space_is n ScratchBit w v = refl
 space_is n ScratchWord w v = refl
+space_is n Cells w v = refl
 
 same_which : (n : ℕ) (s : Space) (w x u v : ℕ) (j k : Kind) → u < width n j → v < width n k
     → holds_kind s j ≡ true → holds_kind s k ≡ true → spot_in n s w u ≡ spot_in n s x v → w ≡ x
@@ -62,6 +64,7 @@ same_which n ScratchWord w x u v Word Word lu lv hj hk e = let f : w * n + u ≡
     ∙ div-mul-add x n v lv
 same_which n ScratchWord w x u v Bit k lu lv hj hk e = cc
 same_which n ScratchWord w x u v Word Bit lu lv hj hk e = cc
+same_which n Cells w x u v j k lu lv hj hk e = cc
 
 -- places that have a row in common are one
 pub one_place : (n : ℕ) (s t : Slot) (u v : ℕ) → u < width n s.kind → v < width n t.kind
@@ -143,6 +146,29 @@ slot_in (Some x) = x
 pub same_slot : (x y : Slot) → Some x ≡ Some y → x ≡ y
 unfolding slot_in
 same_slot x y e = ap slot_in e
+
+spot_row : (n : ℕ) (s : Space) (w v : ℕ) (k : Kind) → holds_kind s k ≡ true
+    → is_state (spot_in n s w v).space ≡ false
+spot_row n Result w v k h = refl
+spot_row n Source w v k h = refl
+spot_row n ScratchBit w v k h = refl
+spot_row n ScratchWord w v k h = refl
+spot_row n Cells w v k h = cc
+
+-- nothing of a statement stands in cells
+pub statement_rows : (slots : Slots) (free_bit free_word : ℕ) (s : Statement)
+    → IsPlaced slots free_bit free_word s → (n : ℕ) (q : Spot)
+    → IsStatementRow slots free_bit free_word s n q → is_state q.space ≡ false
+statement_rows slots free_bit free_word s placed n q (inl h) =
+    let t = placed.there h.0 h.3 in
+    let same : t.0 ≡ h.1 = same_slot t.0 h.1 (sym t.1 ∙ h.4) in
+    let holds : holds_kind h.1.space h.1.kind ≡ true =
+    subst (λ (x : Slot). holds_kind x.space x.kind ≡ true) same t.2 in
+    ap (λ (p : Spot). is_state p.space) h.6 ∙ spot_row n h.1.space h.1.which h.2 h.1.kind holds
+statement_rows slots free_bit free_word s placed n q (inr (inl h)) =
+    ap (λ (p : Spot). is_state p.space) h.2
+statement_rows slots free_bit free_word s placed n q (inr (inr h)) =
+    ap (λ (p : Spot). is_state p.space) h.2
 
 pub kinds_at : (slots : Slots) (names : List (List ℕ)) (ss : List Slot) (kinds : List Kind)
     → AreAt slots names ss → HaveKinds slots names kinds → map (λ (s : Slot). s.kind) ss ≡ kinds
@@ -304,7 +330,9 @@ module _ (slots : Slots) (free_bit free_word : ℕ) (target : List ℕ)
       marks_are_enough (IsStatementRow slots free_bit free_word (Compute target second p args))
       (rooms_of t ss (scratch_from free_bit (bits_inside p))) (program p k)
       (λ n some most. rooms_apart n t ss (scratch_from free_bit (bits_inside p)) (pieces n))
-      (λ n some most. row_of n) lowers.fit lowers.short
+      (λ n some most. row_of n)
+      (statement_rows slots free_bit free_word (Compute target second p args) placed) lowers.fit
+      lowers.short
 
   pub arg_kinds : map (λ (s : Slot). s.kind) ss ≡ meets.kinds
   arg_kinds = kinds_at slots args ss meets.kinds at meets.have

@@ -28,6 +28,7 @@ use Rattle.word_lower.proofs.Pieces.{AreApart}
 use Rattle.word_lower.proofs.Filled.{filled_words}
 use Rattle.word_lower.proofs.Statements.{same_slot, same_name, one_place, among_target, written}
 use Rattle.word_lower.proofs.Statements.{holds, pieces, row_of, form_filled, named_width}
+use Rattle.word_lower.proofs.Statements.{statement_rows}
 use Rattle.word_mul.specs.Places.{rooms_for, steps_for, rows_on}
 use Rattle.word_mul.specs.Programs.{nested, nested_total}
 use Rattle.word_mul.specs.Bodies.{StepsBuilt}
@@ -164,7 +165,9 @@ module _ (slots : Slots) (free_bit free_word : ℕ) (target name : List ℕ) (ar
   form : HasForm row (steps_for op.Divmod (rows_on t (Some u) ss free_bit free_word))
   form = marks_are_enough row (rooms_for op.Divmod (rows_on t (Some u) ss free_bit free_word))
       (nested op.Divmod) (λ n some most. lowers.apart n (all_apart n))
-      (λ n some most q o. owner_row n q (lowers.owned n q o)) lowers.fit lowers.short
+      (λ n some most q o. owner_row n q (lowers.owned n q o))
+      (statement_rows slots free_bit free_word (Compute target (Some name) op.Divmod args) placed)
+      lowers.fit lowers.short
 
   abbrev steps : List (StepOf Block)
   steps = steps_for op.Divmod (rows_on t (Some u) ss free_bit free_word)

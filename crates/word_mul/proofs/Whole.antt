@@ -35,6 +35,7 @@ use Rattle.word_lower.proofs.Filled.{filled_word, filled_words, slot_is, one_slo
 use Rattle.word_lower.proofs.Statements.{name_at, at_place, same_name, among_target, among_arg}
 use Rattle.word_lower.proofs.Statements.{written, holds, pieces, row_of, form_filled, held_args}
 use Rattle.word_lower.proofs.Statements.{held_kinds, held_numbers, held_width, named_width}
+use Rattle.word_lower.proofs.Statements.{statement_rows}
 use Rattle.word_mul.specs.Places.{rooms_for, steps_for, rows_on}
 use Rattle.word_mul.specs.Programs.{nested, is_nested, nested_total}
 use Rattle.word_mul.specs.Bodies.{StepsBuilt}
@@ -201,7 +202,9 @@ module _ (slots : Slots) (free_bit free_word : ℕ) (target : List ℕ) (p : Wor
   form = marks_are_enough row (rooms_for p (rows_on t None ss free_bit free_word)) (nested p)
       (λ n some most. lowers.apart n some (pieces slots free_bit free_word target None p args meets
       placed t found ss at n) (cleared n))
-      (λ n some most q o. owner_row n q (lowers.owned n q o)) lowers.fit lowers.short
+      (λ n some most q o. owner_row n q (lowers.owned n q o))
+      (statement_rows slots free_bit free_word (Compute target None p args) placed) lowers.fit
+      lowers.short
 
   abbrev steps : List (StepOf Block)
   steps = steps_for p (rows_on t None ss free_bit free_word)

@@ -30,6 +30,10 @@ use Rattle.uprog_gen.specs.Code.{IsPlanned, plan_of}
 use Rattle.uprog_gen.specs.declared.plan.Plan.{Plan}
 use Rattle.uprog_gen.proofs.Bodies.Planned.{plans}
 use Rattle.loop_ir.specs.Limits.{IsSmall}
+use Rattle.row_alloc.specs.Held.{DoesHeld}
+use Rattle.row_alloc.proofs.Plainly.{plainly}
+use Rattle.uprog_gen.specs.States.{leaves}
+use Rattle.uprog_gen.proofs.Rows.Rowed.{all_count, no_enters, no_leaves, states_fit}
 
 pub nth-at : (places : List Place) (k : ℕ) (d : Place) → k < length places
     → slice_index_or places k d ≡ nth_place places k
@@ -211,8 +215,14 @@ is_part b plan outs cmds small graph e is does few one least copy word = record 
   well = small.well;
   graph = graph;
   planned = subst (λ p. IsPlanned p b) (sym e) (plans b small.subs);
-  outs = is;
-  does = does;
+  states = states_fit b small;
+  outs = subst (λ m. IsOuts b m outs)
+      (small.written ∙ sym (all_count b.writes small.write_rows)) is;
+  does = subst (λ hs. DoesHeld b.graph outs hs (leaves b.writes b.outs) cmds)
+      (sym (no_enters b.reads 0 small.read_rows))
+      (subst (λ hs. DoesHeld b.graph outs [] hs cmds)
+      (sym (no_leaves b.writes b.outs small.write_rows))
+      (plainly b.graph outs cmds graph (fit b outs small is) does));
   few = few_cmds b outs (length cmds) (fit b outs small is) is few one least;
   copy = λ c. let h = copied_one b outs is c in (
     source_of b.graph.inputs (out_at outs 0).lit,

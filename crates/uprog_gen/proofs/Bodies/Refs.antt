@@ -12,6 +12,7 @@ use Rattle.row_alloc.specs.Legal.{is_ref, is_first_ref, is_second_ref, is_legal_
 use Rattle.uprog_gen.specs.Code.{Part}
 use Rattle.uprog_gen.specs.Made.{is_ref_of, are_refs_of}
 use Rattle.uprog_gen.specs.Parts.{IsPart}
+use Rattle.uprog_gen.proofs.Rows.Named.{row_few}
 
 less : (a b : ℕ) → nat_lt a b ≡ true → a < b
 less a b e = grind arith
@@ -28,7 +29,11 @@ refs : (q : Part) (c : BodyCmd) → IsPart q
 refs q (Aap x y) is h =
     let i = q.block.graph.inputs in
     let o = length q.outs in
-    let few : o ≤ length q.block.writes = omega (arith, is.outs.size, is.well.writes) in
+    let few : o ≤ length q.block.writes = omega (
+      arith,
+      is.outs.size,
+      row_few q.block.writes,
+    ) in
     let a = and_parts (is_ref i o x && is_first_ref x) (is_ref i o y && is_second_ref y) h in
     let b = and_parts (is_ref i o x) (is_first_ref x) a.0 in
     let c = and_parts (is_ref i o y) (is_second_ref y) a.1 in
@@ -38,7 +43,11 @@ refs q (Aap x y) is h =
 refs q (Ap x) is h =
     let i = q.block.graph.inputs in
     let o = length q.outs in
-    let few : o ≤ length q.block.writes = omega (arith, is.outs.size, is.well.writes) in
+    let few : o ≤ length q.block.writes = omega (
+      arith,
+      is.outs.size,
+      row_few q.block.writes,
+    ) in
     let b = and_parts (is_ref i o x) (is_first_ref x) h in
     wider i o (length q.block.reads) (length q.block.writes) x is.well.reads few b.0
 

@@ -6,7 +6,7 @@ use Rattle.std.specs.Prelude.{slice_get, nat_lt, nat_le, ◌==◌, ◌&&◌}
 use Rattle.std.specs.List.{AllByRecursion, list_all}
 use Rattle.std.proofs.Math.Seq.{get_or-append_seam}
 use Rattle.std.proofs.lemmas.Option.{slice_get-get_or}
-use Rattle.std.proofs.lemmas.Bool.{and_parts, and_from, ltb-true, lt-ltb}
+use Rattle.std.proofs.lemmas.Bool.{and_parts, and_from, lt-ltb}
 use Rattle.op_text.specs.declared.tree.Kind.{Kind}
 use Rattle.uprog_code.specs.declared.code.Uop.{Uop}
 use Rattle.uprog_code.specs.declared.code.Uop.TheVariants.{Done, SubI, AddI, Bnez}
@@ -19,13 +19,16 @@ use Rattle.row_alloc.specs.declared.body.BodyRef.{BodyRef}
 use Rattle.row_alloc.specs.declared.body.BodyRef.TheVariants as ref
 use Rattle.row_alloc.specs.declared.body.BodyCmd.{BodyCmd}
 use Rattle.row_alloc.specs.declared.body.BodyCmd.TheVariants as cmd
-use Rattle.row_alloc.specs.Legal.{is_ref, is_first_ref, is_second_ref, is_legal_cmd}
+use Rattle.row_alloc.specs.declared.body.Held.{Held}
+use Rattle.row_alloc.specs.Legal.{is_ref, is_first_ref, is_second_ref, is_legal_cmd, are_legal}
+use Rattle.row_alloc.specs.Held.{is_read, reads_rows}
 use Rattle.loop_ir.specs.declared.ir.Sub.{Sub}
 use Rattle.loop_ir.specs.declared.ir.Sub.TheVariants.{Zero, Top, Inner as At_inner, InnerDown}
 use Rattle.loop_ir.specs.declared.ir.Sub.TheVariants.{Outer, OuterDown, Sum, DownSum, DownPlusN}
 use Rattle.loop_ir.specs.declared.ir.Sub.TheVariants.{NPlusInner}
 use Rattle.loop_ir.specs.declared.ir.Space.{Space}
 use Rattle.loop_ir.specs.declared.ir.Space.TheVariants.{Result, Source, ScratchBit, ScratchWord}
+use Rattle.loop_ir.specs.declared.ir.Space.TheVariants.{Cells}
 use Rattle.loop_ir.specs.declared.ir.Count.{Count}
 use Rattle.loop_ir.specs.declared.ir.Count.TheVariants.{All as All_of, Rest}
 use Rattle.loop_ir.specs.Plain.{InnerOf, StepOf, AllInner, AllStep, AllParts}
@@ -42,6 +45,8 @@ use Rattle.loop_ir.specs.Costs.{is_fixed, same_sub}
 use Rattle.loop_ir.specs.Limits.{IsRound}
 use Rattle.uprog_gen.proofs.Rows.Rounds.{block_round}
 use Rattle.uprog_gen.specs.Parts.{IsPart}
+use Rattle.uprog_gen.specs.States.{enters}
+use Rattle.uprog_gen.proofs.Rows.Named.{IsNamed, named_ref}
 use Rattle.uprog_gen.proofs.Running.Program.{front_all, back_all}
 
 both : {X : Type 0} (P : X → Type 0) (xs ys : List X) → AllByRecursion P xs → AllByRecursion P ys
@@ -82,24 +87,28 @@ module _ (head : Shape) where
   place_row_legal ScratchWord w v plan u h = and_from (nat_lt w head.words)
       (nat_le (register plan u) 8) (lt-ltb w head.words (omega (arith, h.1)))
       (register_small plan u)
+  place_row_legal Cells w v plan u h = absurd h
 
   place_first : (s : Space) (w : ℕ) → may_be_first (row_space s) w ≡ true
   place_first Result w = refl
   place_first Source w = refl
   place_first ScratchBit w = refl
   place_first ScratchWord w = refl
+  place_first Cells w = refl
 
   own_second : (s : Space) → IsOwn s → may_be_second (row_space s) ≡ true
   own_second Result h = refl
   own_second Source h = absurd h
   own_second ScratchBit h = refl
   own_second ScratchWord h = refl
+  own_second Cells h = refl
 
   spot_space : (s : Space) (w v : ℕ) → (spot_in 1 s w v).space ≡ s
   spot_space Result w v = refl
   spot_space Source w v = refl
   spot_space ScratchBit w v = refl
   spot_space ScratchWord w v = refl
+  spot_space Cells w v = refl
 
   abbrev pub IsLegalAt : ℕ → Uop → Type 0
   IsLegalAt size i = is_legal head size i ≡ true
@@ -112,21 +121,22 @@ module _ (head : Shape) where
       abbrev M : ℕ
       M = length p.outs
 
-      row_legal : (x : BodyRef) → is_ref N M x ≡ true
+      abbrev enter : List Held
+      enter = enters 0 p.block.reads
+
+      row_legal : (x : BodyRef) → is_ref N M x ≡ true → IsNamed p x
           → is_row head (code_ref p.plan p.block x) ≡ true
-      row_legal (ref.B k) h = and_from (nat_lt k 16) (0 == 0) h refl
-      row_legal (ref.C k) h = and_from (nat_lt k 2) (0 == 0) h refl
-      row_legal (ref.Spill k) h = and_from (nat_lt k 32) (0 == 0) h refl
-      row_legal (ref.In k) h =
-          let lk : k < N = ltb-true k N h in
+      row_legal (ref.B k) h m = and_from (nat_lt k 16) (0 == 0) h refl
+      row_legal (ref.C k) h m = and_from (nat_lt k 2) (0 == 0) h refl
+      row_legal (ref.Spill k) h m = and_from (nat_lt k 32) (0 == 0) h refl
+      row_legal (ref.In k) h m =
           let q = nth_place p.block.reads k in
           place_row_legal q.space q.which (sub_value 1 0 0 q.sub) p.plan q.sub
-          (is.reads k (omega (arith, lk, part.well.reads)))
-      row_legal (ref.Out k) h =
-          let lk : k < M = ltb-true k M h in
+          (is.reads k m.0 m.1)
+      row_legal (ref.Out k) h m =
           let q = nth_place p.block.writes k in
           place_row_legal q.space q.which (sub_value 1 0 0 q.sub) p.plan q.sub
-          (is.writes k (omega (arith, lk, part.outs.size, part.well.writes)))
+          (is.writes k m.0 m.1)
 
       first_of_ref : (x : BodyRef) → is_first_ref x ≡ true
           → may_be_first (code_ref p.plan p.block x).space (code_ref p.plan p.block x).which ≡ true
@@ -136,50 +146,54 @@ module _ (head : Shape) where
       first_of_ref (ref.In k) h = let q = nth_place p.block.reads k in place_first q.space q.which
       first_of_ref (ref.Out k) h = let q = nth_place p.block.writes k in place_first q.space q.which
 
-      second_of_ref : (x : BodyRef) → is_ref N M x ≡ true → is_second_ref x ≡ true
+      second_of_ref : (x : BodyRef) → IsNamed p x → is_second_ref x ≡ true
           → may_be_second (code_ref p.plan p.block x).space ≡ true
-      second_of_ref (ref.B k) r h = refl
-      second_of_ref (ref.C k) r h = absurd (let g : false ≡ true = h in cc)
-      second_of_ref (ref.Spill k) r h = refl
-      second_of_ref (ref.In k) r h = absurd (let g : false ≡ true = h in cc)
-      second_of_ref (ref.Out k) r h =
-          let lk : k < M = ltb-true k M r in
+      second_of_ref (ref.B k) m h = refl
+      second_of_ref (ref.C k) m h = absurd (let g : false ≡ true = h in cc)
+      second_of_ref (ref.Spill k) m h = refl
+      second_of_ref (ref.In k) m h = absurd (let g : false ≡ true = h in cc)
+      second_of_ref (ref.Out k) m h =
           let q = nth_place p.block.writes k in
           own_second q.space (subst IsOwn (spot_space q.space q.which (sub_value 1 0 0 q.sub))
-          (is.own k (omega (arith, lk, part.outs.size, part.well.writes))))
+          (is.own k m.0))
 
-      uop_legal : (size : ℕ) (c : BodyCmd) → is_legal_cmd N M c ≡ true
+      uop_legal : (size : ℕ) (c : BodyCmd) → is_legal_cmd N M c ≡ true → reads_rows enter c ≡ true
           → IsLegalAt size (code_uop p.plan p.block c)
-      uop_legal size (cmd.Aap x y) h =
+      uop_legal size (cmd.Aap x y) h u =
           let a = and_parts (is_ref N M x && is_first_ref x) (is_ref N M y && is_second_ref y) h in
           let b = and_parts (is_ref N M x) (is_first_ref x) a.0 in
           let d = and_parts (is_ref N M y) (is_second_ref y) a.1 in
+          let v = and_parts (is_read enter x) (is_read enter y) u in
+          let mx = named_ref p part x b.0 v.0 in
+          let my = named_ref p part y d.0 v.1 in
           let rx = code_ref p.plan p.block x in
           let ry = code_ref p.plan p.block y in
           and_from (is_first head rx) (is_second head ry)
-          (and_from (is_row head rx) (may_be_first rx.space rx.which) (row_legal x b.0)
+          (and_from (is_row head rx) (may_be_first rx.space rx.which) (row_legal x b.0 mx)
           (first_of_ref x b.1))
-          (and_from (is_row head ry) (may_be_second ry.space) (row_legal y d.0)
-          (second_of_ref y d.0 d.1))
-      uop_legal size (cmd.Ap x) h =
+          (and_from (is_row head ry) (may_be_second ry.space) (row_legal y d.0 my)
+          (second_of_ref y my d.1))
+      uop_legal size (cmd.Ap x) h u =
           let b = and_parts (is_ref N M x) (is_first_ref x) h in
           let rx = code_ref p.plan p.block x in
-          and_from (is_row head rx) (may_be_first rx.space rx.which) (row_legal x b.0)
-          (first_of_ref x b.1)
+          and_from (is_row head rx) (may_be_first rx.space rx.which)
+          (row_legal x b.0 (named_ref p part x b.0 u)) (first_of_ref x b.1)
 
-      uops_legal : (size : ℕ) (cs : List BodyCmd) → list_all (is_legal_cmd N M) cs ≡ true
+      uops_legal : (size : ℕ) (cs : List BodyCmd) → are_legal N M cs ≡ true
+          → list_all (reads_rows enter) cs ≡ true
           → AllByRecursion (IsLegalAt size) (map (code_uop p.plan p.block) cs)
-      uops_legal size [] h = tt
-      uops_legal size (c ∷ cs) h =
-          let a = and_parts (is_legal_cmd N M c) (list_all (is_legal_cmd N M) cs) h in
-          (uop_legal size c a.0, uops_legal size cs a.1)
+      uops_legal size [] h u = tt
+      uops_legal size (c ∷ cs) h u =
+          let a = and_parts (is_legal_cmd N M c) (are_legal N M cs) h in
+          let v = and_parts (reads_rows enter c) (list_all (reads_rows enter) cs) u in
+          (uop_legal size c a.0 v.0, uops_legal size cs a.1 v.1)
 
   -- the part's own commands are legal
   abbrev pub IsFit : Part → Type 0
   IsFit p = (size : ℕ) → AllByRecursion (IsLegalAt size) (body_uops p)
 
   fit_part : (p : Part) → IsPart p → IsRound (IsSpot head 1) 1 (round_at p.block 0 0) → IsFit p
-  fit_part p part is size = uops_legal p part is size p.cmds part.does.legal
+  fit_part p part is size = uops_legal p part is size p.cmds part.does.legal part.does.unread
 
   -- each body has a round at width 1
   fit_inner : (xs : List (InnerOf Part)) → AllInner IsPart xs

@@ -113,8 +113,8 @@ sources_hold n k (p ∷ ps) names bits d name x e =
 round_more : (P Q : Spot → Type 0) → ((q : Spot) → P q → Q q) → (n : ℕ) (r : RoundOf Block)
     → IsRound P n r → IsRound Q n r
 round_more P Q f n r is = record {
-  reads = λ k lt. f _ (is.reads k lt);
-  writes = λ j lt. f _ (is.writes j lt);
+  reads = λ k lt row. f _ (is.reads k lt row);
+  writes = λ j lt row. f _ (is.writes j lt row);
   own = is.own;
   apart = is.apart;
   same = is.same;

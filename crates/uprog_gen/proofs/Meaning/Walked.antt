@@ -18,6 +18,7 @@ use Rattle.op_rules.specs.Meets.{names_of, Context, following, OperationMeets}
 use Rattle.op_rules.proofs.Standing.{names-append}
 use Rattle.loop_ir.specs.declared.ir.Space.{Space}
 use Rattle.loop_ir.specs.declared.ir.Space.TheVariants.{Result, Source, ScratchBit, ScratchWord}
+use Rattle.loop_ir.specs.declared.ir.Space.TheVariants.{Cells}
 use Rattle.loop_ir.specs.declared.names.Slot.{Slot}
 use Rattle.loop_ir.specs.Plain.{StepOf, Block}
 use Rattle.loop_ir.specs.Loops.{all_rounds}
@@ -40,6 +41,7 @@ spot_space n Result w v = refl
 spot_space n Source w v = refl
 spot_space n ScratchBit w v = refl
 spot_space n ScratchWord w v = refl
+spot_space n Cells w v = refl
 
 words_apart : (n w v x u : ℕ) → v < n → u < n → w * n + v ≡ x * n + u → w ≡ x
 words_apart n w v x u f g e = by (cases_order w x)
@@ -63,6 +65,7 @@ spot_which n ScratchBit w v x u k j hk hj lv lu e = ap (λ (p : Spot). p.which) 
 spot_which n ScratchWord w v x u k j hk hj lv lu e =
     words_apart n w v x u (word_below n v k hk lv) (word_below n u j hj lu)
     (ap (λ (p : Spot). p.index) e)
+spot_which n Cells w v x u k j hk hj lv lu e = absurd (cc)
 
 same_spaces : (n : ℕ) (x y : Slot) (v u : ℕ) → slot_spot n x v ≡ slot_spot n y u → x.space ≡ y.space
 same_spaces n x y v u e = sym (spot_space n x.space x.which v) ∙ ap (λ (p : Spot). p.space) e

@@ -1,8 +1,10 @@
 -- The commands of the rounds do to a column what the rounds do to the named rows.
 use Rattle.std.proofs.Common.{◌≡◌, ℕ, zero, suc, ◌+◌, ◌-◌, ◌*◌, ◌<◌, List, [], ◌∷◌, ◌++◌, map}
 use Rattle.std.proofs.Common.{length, refl, sym, ap, ◌∙◌, subst, ⊎_elim, arith, Option, Some, None}
-use Rattle.std.proofs.Common.{◌⊎◌, inl, inr}
-use Rattle.std.proofs.lemmas.Bool.{cases_eq}
+use Rattle.std.proofs.Common.{◌⊎◌, inl, inr, ◌≤◌, Bool, true, false, cond}
+use Rattle.std.specs.Prelude.{◌&&◌}
+use Rattle.std.specs.List.{list_all}
+use Rattle.std.proofs.lemmas.Bool.{cases_eq, cases_lt, and_parts}
 use Rattle.std.proofs.lemmas.List.{map-append}
 use Rattle.dram_model.specs.declared.address.Addr.TheVariants.{D as AddrD}
 use Rattle.dram_model.specs.declared.address.Cell.TheVariants.{D}
@@ -18,12 +20,14 @@ use Rattle.row_alloc.specs.declared.body.BodyRef.TheVariants as ref
 use Rattle.row_alloc.specs.declared.body.BodyCmd.{BodyCmd}
 use Rattle.row_alloc.specs.declared.body.BodyCmd.TheVariants as cmd
 use Rattle.row_alloc.specs.Rows.{Rows, place, bound as placed, run_body, out_at, AreApart}
+use Rattle.loop_ir.specs.declared.ir.Place.{Place}
 use Rattle.loop_ir.specs.declared.ir.Space.{Space}
 use Rattle.loop_ir.specs.declared.ir.Space.TheVariants.{Result, Source, ScratchBit, ScratchWord}
+use Rattle.loop_ir.specs.declared.ir.Space.TheVariants.{Cells}
 use Rattle.loop_ir.specs.Plain.{Block}
 use Rattle.loop_ir.specs.Loops.{RoundOf, sub_value}
 use Rattle.loop_ir.specs.Spots.{Spot, Spots, nth_place, spot_at, spot_in, nth_spot, IsOwn}
-use Rattle.loop_ir.specs.Spots.{round_env, after_round, after_rounds}
+use Rattle.loop_ir.specs.Spots.{round_env, after_round, after_rounds, is_state}
 use Rattle.uprog_gen.specs.Where.{spot_row, IsSpot, Agree}
 use Rattle.uprog_gen.specs.Code.{Part, row_space, round_ref, round_command, rounds_commands}
 use Rattle.loop_ir.specs.Limits.{IsRound}
@@ -31,7 +35,15 @@ use Rattle.uprog_gen.proofs.Rows.Rounds.{IsLaid, round_rows, block_round}
 use Rattle.uprog_gen.specs.Parts.{IsPart}
 use Rattle.mig_graph.specs.Outputs.{lit_at}
 use Rattle.loop_laws.proofs.Same.{write_other, write_at}
-use Rattle.uprog_gen.proofs.Rows.Values.{same_values}
+use Rattle.row_alloc.specs.Legal.{is_ref, is_first_ref, is_second_ref, is_legal_cmd, are_legal}
+use Rattle.row_alloc.specs.Held.{Enters, is_held, is_read, reads_rows}
+use Rattle.row_alloc.specs.Layouts.{StandsIn}
+use Rattle.uprog_gen.specs.States.{row_count, enters}
+use Rattle.row_alloc.specs.declared.body.Held.{Held}
+use Rattle.uprog_gen.proofs.Rows.Named.{few, IsNamed, named_ref}
+use Rattle.uprog_gen.proofs.Rows.Alive.{state_spot, AreStanding, states_in, finds}
+use Rattle.uprog_gen.proofs.Rows.Alive.{left_by, chained}
+use Rattle.uprog_gen.proofs.Rows.States.{are_among, held_is, enter_cells, leave_cells}
 
 -- one of the first places has a number, or none has
 find : (f : ℕ → ℕ) (q count : ℕ) → ((j : ℕ) × (j < count) × (q ≡ f j))
@@ -48,50 +60,94 @@ find f q (suc count) =
     (cases_eq q (f count)))
     (find f q count)
 
+-- a state is no row
+no_row : (n i o : ℕ) (q : Place) → is_state q.space ≡ true → (head : Shape) (p : Spot)
+    → IsSpot head n p → p ≡ spot_at n i o q → ⊥
+no_row n i o q e head p spot same = by q.space e (subst (IsSpot head n) same spot)
+  where
+    by : (x : Space) → is_state x ≡ true → IsSpot head n
+        (spot_in n x q.which (sub_value n i o q.sub)) → ⊥
+    by Cells e h = h
+    by Result e h = absurd (cc)
+    by Source e h = absurd (cc)
+    by ScratchBit e h = absurd (cc)
+    by ScratchWord e h = absurd (cc)
+
 module _ (rows : ℕ) (head : Shape) (n : ℕ) (b : Bound) where
   -- a command of the trace, at its addresses, is the body's command on its rows
-  space_is : (s : Space) (w v : ℕ) → address rows head n b (record {
+  space_is : (s : Space) (w v : ℕ) → is_state s ≡ false → address rows head n b (record {
     space = row_space s;
     which = w;
     index = position (row_space s) v;
   }) ≡ AddrD (spot_row head n b (spot_in n s w v))
-  space_is Result w v = refl
-  space_is Source w v = refl
-  space_is ScratchBit w v = refl
-  space_is ScratchWord w v = let e : b.scratch + head.bits + w * n + v
+  space_is Result w v h = refl
+  space_is Source w v h = refl
+  space_is ScratchBit w v h = refl
+  space_is ScratchWord w v h = let e : b.scratch + head.bits + w * n + v
       ≡ b.scratch + head.bits + (w * n + v) = omega arith in ap AddrD e
+  space_is Cells w v h = absurd (cc)
 
-  ref_place : (r : RoundOf Part) (x : BodyRef)
+  input_row : (r : RoundOf Part) (k : ℕ) → is_state (nth_place r.part.block.reads k).space ≡ false
+      → (round_rows rows head n b r).input k
+      ≡ spot_row head n b (nth_spot n r.i r.o r.part.block.reads k)
+  input_row r k e = ap (λ c. cond c (rows + 32)
+      (spot_row head n b (nth_spot n r.i r.o r.part.block.reads k))) e
+
+  ref_place : (r : RoundOf Part) (x : BodyRef) → IsNamed r.part x
       → address rows head n b (round_ref n r x) ≡ place (round_rows rows head n b r) x
-  ref_place r (ref.B k) = refl
-  ref_place r (ref.C k) = refl
-  ref_place r (ref.Spill k) = refl
-  ref_place r (ref.In k) = let p = nth_place r.part.block.reads k in
-      space_is p.space p.which (sub_value n r.i r.o p.sub)
-  ref_place r (ref.Out k) = let p = nth_place r.part.block.writes k in
-      space_is p.space p.which (sub_value n r.i r.o p.sub)
+  ref_place r (ref.B k) h = refl
+  ref_place r (ref.C k) h = refl
+  ref_place r (ref.Spill k) h = refl
+  ref_place r (ref.In k) h = let p = nth_place r.part.block.reads k in
+      space_is p.space p.which (sub_value n r.i r.o p.sub) h.1 ∙ ap AddrD (sym (input_row r k h.1))
+  ref_place r (ref.Out k) h = let p = nth_place r.part.block.writes k in
+      space_is p.space p.which (sub_value n r.i r.o p.sub) h.1
 
-  command_is : (r : RoundOf Part) (c : BodyCmd)
-      → bound_command rows head n b (round_command n r c) ≡ placed (round_rows rows head n b r) c
-  command_is r (cmd.Aap x y) = ap (λ a. RowAap a (address rows head n b (round_ref n r y)))
-      (ref_place r x) ∙ ap (λ a. RowAap (place (round_rows rows head n b r) x) a) (ref_place r y)
-  command_is r (cmd.Ap x) = ap RowAp (ref_place r x)
+  module _ (r : RoundOf Part) (part : IsPart r.part) where
+    abbrev inputs : ℕ
+    inputs = r.part.block.graph.inputs
 
-  commands_are : (r : RoundOf Part) (cs : List BodyCmd)
-      → bound rows head n b (map (round_command n r) cs)
-      ≡ map (placed (round_rows rows head n b r)) cs
-  commands_are r [] = refl
-  commands_are r (c ∷ cs) = ap (λ x. x ∷ bound rows head n b (map (round_command n r) cs))
-      (command_is r c) ∙ ap (λ l. placed (round_rows rows head n b r) c ∷ l) (commands_are r cs)
+    abbrev outputs : ℕ
+    outputs = length r.part.outs
 
-  pub round_first : (r : RoundOf Part) (rs : List (RoundOf Part)) (s : Column)
+    abbrev enter : List Held
+    enter = enters 0 r.part.block.reads
+
+    command_is : (c : BodyCmd) → is_legal_cmd inputs outputs c ≡ true → reads_rows enter c ≡ true
+        → bound_command rows head n b (round_command n r c)
+        ≡ placed (round_rows rows head n b r) c
+    command_is (cmd.Aap x y) h u =
+        let p = and_parts (is_ref inputs outputs x && is_first_ref x)
+        (is_ref inputs outputs y && is_second_ref y) h in
+        let v = and_parts (is_read enter x) (is_read enter y) u in
+        let hx = named_ref r.part part x
+        (and_parts (is_ref inputs outputs x) (is_first_ref x) p.0).0 v.0 in
+        let hy = named_ref r.part part y
+        (and_parts (is_ref inputs outputs y) (is_second_ref y) p.1).0 v.1 in
+        ap (λ a. RowAap a (address rows head n b (round_ref n r y))) (ref_place r x hx)
+        ∙ ap (λ a. RowAap (place (round_rows rows head n b r) x) a) (ref_place r y hy)
+    command_is (cmd.Ap x) h u = ap RowAp (ref_place r x (named_ref r.part part x
+        (and_parts (is_ref inputs outputs x) (is_first_ref x) h).0 u))
+
+    commands_are : (cs : List BodyCmd) → are_legal inputs outputs cs ≡ true
+        → list_all (reads_rows enter) cs ≡ true → bound rows head n b (map (round_command n r) cs)
+        ≡ map (placed (round_rows rows head n b r)) cs
+    commands_are [] h u = refl
+    commands_are (c ∷ cs) h u =
+        let p = and_parts (is_legal_cmd inputs outputs c) (are_legal inputs outputs cs) h in
+        let v = and_parts (reads_rows enter c) (list_all (reads_rows enter) cs) u in
+        ap (λ x. x ∷ bound rows head n b (map (round_command n r) cs)) (command_is c p.0 v.0)
+        ∙ ap (λ l. placed (round_rows rows head n b r) c ∷ l) (commands_are cs p.1 v.1)
+
+  pub round_first : (r : RoundOf Part) (rs : List (RoundOf Part)) (s : Column) → IsPart r.part
       → run (bound rows head n b (rounds_commands n (r ∷ rs))) s
       ≡ run (bound rows head n b (rounds_commands n rs))
       (run_body (round_rows rows head n b r) r.part.cmds s)
-  round_first r rs s =
+  round_first r rs s part =
       ap (λ l. run l s) (map-append (bound_command rows head n b)
       (map (round_command n r) r.part.cmds) (rounds_commands n rs)
-      ∙ ap (λ l. l ++ bound rows head n b (rounds_commands n rs)) (commands_are r r.part.cmds))
+      ∙ ap (λ l. l ++ bound rows head n b (rounds_commands n rs))
+      (commands_are r part r.part.cmds part.does.legal part.does.unread))
       ∙ run-append (map (placed (round_rows rows head n b r)) r.part.cmds)
       (bound rows head n b (rounds_commands n rs)) s
 
@@ -101,21 +157,37 @@ module _ (rows : ℕ) (head : Shape) (n : ℕ) (b : Bound) (laid : IsLaid rows h
   IsMine q = ((p : Spot) × IsSpot head n p × IsOwn p.space × (q ≡ spot_row head n b p))
       ⊎ ((i : ℕ) × (i < 32) × (q ≡ rows - 32 + i))
 
+  -- the column's rows hold the bits of the operation's named rows, and its cells those of the
+  -- states that are alive
+  pub record AgreeHeld (alive : List ℕ) (bits : Spots) (s : Column) : Type 0 where
+    pub named : Agree head n b bits s
+    pub cells : AreStanding bits s alive
+
+  own_row : (r : RoundOf Part) → IsRound (IsSpot head n) n (block_round r) → IsPart r.part
+      → (j : ℕ) → j < length r.part.outs
+      → IsSpot head n (nth_spot n r.i r.o r.part.block.writes j)
+  own_row r is part j lj = let l = few r.part part j lj in
+      is.writes j l.1 (part.states.first.row j l.0)
+
   -- the rows of a round are apart just where the body's outputs say so
   same_row : (r : RoundOf Part) → IsRound (IsSpot head n) n (block_round r) → IsPart r.part
-      → (j k : ℕ) → j < length r.part.outs → k < r.part.block.graph.inputs
-      → (round_rows rows head n b r).output j ≡ (round_rows rows head n b r).input k
+      → (j k : ℕ) → j < length r.part.outs → k < r.part.block.graph.inputs → (c : Bool)
+      → is_state (nth_place r.part.block.reads k).space ≡ c
+      → (round_rows rows head n b r).output j
+      ≡ cond c (rows + 32) (spot_row head n b (nth_spot n r.i r.o r.part.block.reads k))
       → (out_at r.part.outs j).same ≡ Some k
-  same_row r is part j k lj lk e = decide (out_at r.part.outs j).same refl
+  same_row r is part j k lj lk true st e =
+      absurd (omega (arith, e, laid.low _ (own_row r is part j lj)))
+  same_row r is part j k lj lk false st e = decide (out_at r.part.outs j).same refl
     where
       lw : j < length r.part.block.writes
-      lw = omega (arith, lj, part.outs.size, part.well.writes)
+      lw = (few r.part part j lj).1
 
       lr : k < length r.part.block.reads
       lr = omega (arith, lk, part.well.reads)
 
       spots : nth_spot n r.i r.o r.part.block.writes j ≡ nth_spot n r.i r.o r.part.block.reads k
-      spots = laid.own _ _ (is.writes j lw) (is.reads k lr) (is.own j lw) e
+      spots = laid.own _ _ (own_row r is part j lj) (is.reads k lr st) (is.own j lw) e
 
       decide : (o : Option ℕ) → (out_at r.part.outs j).same ≡ o
           → (out_at r.part.outs j).same ≡ Some k
@@ -126,63 +198,100 @@ module _ (rows : ℕ) (head : Shape) (n : ℕ) (b : Bound) (laid : IsLaid rows h
           let e : l ≡ k = is.once j l k lw ll lr (ap (spot_at n r.i r.o) (sym f.1)) spots in
           h ∙ ap Some e
 
+  away : (r : RoundOf Part) (i k : ℕ) → i < 32 → IsRound (IsSpot head n) n (block_round r)
+      → k < length r.part.block.reads → (c : Bool)
+      → is_state (nth_place r.part.block.reads k).space ≡ c → rows - 32 + i
+      ≡ cond c (rows + 32) (spot_row head n b (nth_spot n r.i r.o r.part.block.reads k)) → ⊥
+  away r i k li is lk true st e = omega (arith, e)
+  away r i k li is lk false st e = omega (arith, e, laid.low _ (is.reads k lk st))
+
   are_apart : (r : RoundOf Part) → IsRound (IsSpot head n) n (block_round r) → IsPart r.part
       → AreApart (round_rows rows head n b r) r.part.block.graph.inputs r.part.outs
   are_apart r is part = record {
     spills = λ i k li lk e. omega (arith, e);
-    spill_input = λ i k li lk e. absurd (omega (
-      arith,
-      e,
-      laid.low _ (is.reads k (omega (arith, lk, part.well.reads))),
-    ));
+    spill_input = λ i k li lk e. away r i k li is (omega (arith, lk, part.well.reads))
+        (is_state (nth_place r.part.block.reads k).space) refl e;
     spill_output = λ i j li lj e. absurd (omega (
       arith,
       e,
-      laid.low _ (is.writes j (omega (arith, lj, part.outs.size, part.well.writes))),
+      laid.low _ (own_row r is part j lj),
     ));
     outputs = λ i j li lj e.
-        let wi : i < length r.part.block.writes =
-        omega (arith, li, part.outs.size, part.well.writes) in
-        let wj : j < length r.part.block.writes =
-        omega (arith, lj, part.outs.size, part.well.writes) in
-        is.apart i j wi wj (laid.own _ _ (is.writes i wi) (is.writes j wj) (is.own i wi) e);
+        let wi = (few r.part part i li).1 in
+        let wj = (few r.part part j lj).1 in
+        is.apart i j wi wj (laid.own _ _ (own_row r is part i li) (own_row r is part j lj)
+        (is.own i wi) e);
     same = λ j k lj lk. (
-      λ e. same_row r is part j k lj lk e,
-      λ h. ap (λ p. spot_row head n b (spot_at n r.i r.o p)) (sym (part.outs.found j k lj h).1),
+      λ e. same_row r is part j k lj lk
+          (is_state (nth_place r.part.block.reads k).space) refl e,
+      λ h. let f = (part.outs.found j k lj h).1 in
+          let st = ap (λ (p : Place). is_state p.space) f
+          ∙ part.states.first.row j (few r.part part j lj).0 in
+          ap (λ p. spot_row head n b (spot_at n r.i r.o p)) (sym f)
+          ∙ sym (input_row rows head n b r k st),
     );
   }
 
+  -- what a body reads, before it
+  entering : (r : RoundOf Part) (alive : List ℕ) (bits : Spots) (s : Column)
+      → IsRound (IsSpot head n) n (block_round r) → IsPart r.part
+      → finds alive r.part.block ≡ true → AgreeHeld alive bits s → Enters r.part.block.graph
+      (λ k. bits (nth_spot n r.i r.o r.part.block.reads k)) (enters 0 r.part.block.reads)
+      (round_rows rows head n b r) s
+  entering r alive bits s is part live agree = record {
+    read = λ k l h.
+        let z : 0 + k ≡ k = omega arith in
+        let lk : k < length r.part.block.reads = omega (arith, l, part.well.reads) in
+        let st = held_is r.part.block.reads 0 k lk
+        ∙ ap (is_held (enters 0 r.part.block.reads)) z ∙ h in
+        ap (λ q. s (D q)) (input_row rows head n b r k st) ∙ agree.named _ (is.reads k lk st);
+    held = enter_cells r.part.block.graph (λ k. bits (nth_spot n r.i r.o r.part.block.reads k)) s
+        n r.i r.o bits r.part.block.reads 0
+        (λ j l e. let m : j < r.part.block.graph.inputs = part.states.read j l e in
+        omega (arith, m))
+        (λ j l. let z : 0 + j ≡ j = omega arith in
+        ap (λ k. bits (nth_spot n r.i r.o r.part.block.reads k)) z)
+        (are_among (λ w. StandsIn s w (bits (state_spot w))) alive
+        (states_in r.part.block.reads) live agree.cells);
+  }
+
+  written : (r : RoundOf Part) (bits : Spots) → IsRound (IsSpot head n) n (block_round r)
+      → IsPart r.part → (j : ℕ) → j < length r.part.block.outs
+      → after_round n (block_round r) bits (nth_spot n r.i r.o r.part.block.writes j)
+      ≡ value r.part.block.graph (λ k. bits (nth_spot n r.i r.o r.part.block.reads k))
+      (lit_at r.part.block.outs j)
+  written r bits is part j lo =
+      let k = r.part.block in
+      write_at n r.i r.o (round_env n (block_round r) bits) k.writes k.outs bits
+      part.well.writes (λ i m li lm e. is.apart i m (omega (arith, li, part.well.writes))
+      (omega (arith, lm, part.well.writes)) e) j lo
+
   -- one round
-  pub round_agrees : (r : RoundOf Part) (bits : Spots) (s : Column)
-      → IsRound (IsSpot head n) n (block_round r) → IsPart r.part → Agree head n b bits s
+  round_rows_agree : (r : RoundOf Part) (alive : List ℕ) (bits : Spots) (s : Column)
+      → IsRound (IsSpot head n) n (block_round r) → IsPart r.part
+      → finds alive r.part.block ≡ true → AgreeHeld alive bits s
       → Agree head n b (after_round n (block_round r) bits)
       (run_body (round_rows rows head n b r) r.part.cmds s)
-  round_agrees r bits s is part agree p spot =
+  round_rows_agree r alive bits s is part live agree p spot =
       ⊎_elim
       (λ (h : (j : ℕ) × (j < length r.part.outs) × (spot_row head n b p ≡ w.output j)).
       let j = h.0 in
-      let lo : j < length k.outs = omega (arith, h.1, part.outs.size) in
-      let lw : j < length k.writes = omega (arith, lo, part.well.writes) in
-      let l = lit_at k.outs j in
+      let lw : j < length k.writes = (few r.part part j h.1).1 in
+      let lo : j < length k.outs = omega (arith, lw, part.states.written) in
       let same : nth_spot n r.i r.o k.writes j ≡ p =
-      laid.own _ p (is.writes j lw) spot (is.own j lw) (sym h.2) in
+      laid.own _ p (own_row r is part j h.1) spot (is.own j lw) (sym h.2) in
       ap (λ q. s' (D q)) h.2
-      ∙ part.does.values w s (are_apart r is part) j h.1
-      ∙ ap (value k.graph (λ i. s (D (w.input i)))) (part.outs.lits j h.1)
-      ∙ same_values k.graph part.graph (λ i. s (D (w.input i))) (λ i.
-      bits (nth_spot n r.i r.o k.reads i))
-      (λ i li. agree _ (is.reads i (omega (arith, li, part.well.reads)))) l
-      (part.well.named j lo)
-      ∙ sym (write_at n r.i r.o (round_env n (block_round r) bits) k.writes k.outs bits
-      part.well.writes (λ i m li lm e. is.apart i m (omega (arith, li, part.well.writes))
-      (omega (arith, lm, part.well.writes)) e) j lo)
+      ∙ part.does.values w s (λ i. bits (nth_spot n r.i r.o k.reads i)) (are_apart r is part)
+      (entering r alive bits s is part live agree) j h.1
+      ∙ ap (value k.graph (λ i. bits (nth_spot n r.i r.o k.reads i))) (part.outs.lits j h.1)
+      ∙ sym (written r bits is part j lo)
       ∙ ap (after_round n (block_round r) bits) same)
       (λ (none : (j : ℕ) → j < length r.part.outs → spot_row head n b p ≡ w.output j → ⊥).
       part.does.others w s (are_apart r is part) (spot_row head n b p) (λ j lt e. none j lt (sym e))
       (λ i li e. absurd (omega (arith, e, laid.low p spot)))
-      ∙ agree p spot
+      ∙ agree.named p spot
       ∙ sym (write_other n r.i r.o (round_env n (block_round r) bits) k.writes k.outs bits p
-      (λ j lt e. none j (omega (arith, lt, part.outs.size)) (ap (spot_row head n b) e))))
+      (λ j lt e. other none j (omega (arith, lt, part.states.written)) e)))
       (find w.output (spot_row head n b p) (length r.part.outs))
     where
       k : Block
@@ -194,21 +303,42 @@ module _ (rows : ℕ) (head : Shape) (n : ℕ) (b : Bound) (laid : IsLaid rows h
       s' : Column
       s' = run_body w r.part.cmds s
 
+      other : ((j : ℕ) → j < length r.part.outs → spot_row head n b p ≡ w.output j → ⊥) → (j : ℕ)
+          → j < length k.writes → p ≡ nth_spot n r.i r.o k.writes j → ⊥
+      other none j lt e = ⊎_elim
+          (λ (l : j < row_count k.writes). none j (omega (arith, l, part.outs.size))
+          (ap (spot_row head n b) e))
+          (λ (l : row_count k.writes ≤ j). no_row n r.i r.o (nth_place k.writes j)
+          (part.states.first.state j l lt) head p spot e)
+          (cases_lt j (row_count k.writes))
+
+  pub round_agrees : (r : RoundOf Part) (alive : List ℕ) (bits : Spots) (s : Column)
+      → IsRound (IsSpot head n) n (block_round r) → IsPart r.part
+      → finds alive r.part.block ≡ true → AgreeHeld alive bits s
+      → AgreeHeld (states_in r.part.block.writes) (after_round n (block_round r) bits)
+      (run_body (round_rows rows head n b r) r.part.cmds s)
+  round_agrees r alive bits s is part live agree = record {
+    named = round_rows_agree r alive bits s is part live agree;
+    cells =
+        let f = λ (k : ℕ). bits (nth_spot n r.i r.o r.part.block.reads k) in
+        let w = round_rows rows head n b r in
+        leave_cells r.part.block.graph f (run_body w r.part.cmds s) n r.i r.o
+        (after_round n (block_round r) bits) r.part.block.writes r.part.block.outs
+        part.states.written (λ j l. written r bits is part j l)
+        (part.does.leaves w s f (are_apart r is part)
+        (entering r alive bits s is part live agree));
+  }
+
   -- and no row but the operation's own and the spill rows
   round_keeps : (r : RoundOf Part) (s : Column) → IsRound (IsSpot head n) n (block_round r)
       → IsPart r.part → (q : ℕ) → (IsMine q → ⊥)
       → run_body (round_rows rows head n b r) r.part.cmds s (D q) ≡ s (D q)
   round_keeps r s is part q other =
       part.does.others (round_rows rows head n b r) s (are_apart r is part) q
-      (λ j lt e. let lw : j < length r.part.block.writes = omega (
-        arith,
-        lt,
-        part.outs.size,
-        part.well.writes,
-      ) in other (inl (
+      (λ j lt e. other (inl (
         nth_spot n r.i r.o r.part.block.writes j,
-        is.writes j lw,
-        is.own j lw,
+        own_row r is part j lt,
+        is.own j (few r.part part j lt).1,
         sym e,
       )))
       (λ i li e. other (inr (i, li, sym e)))
@@ -218,21 +348,25 @@ module _ (rows : ℕ) (head : Shape) (n : ℕ) (b : Bound) (laid : IsLaid rows h
   AreRounds [] = Unit {0}
   AreRounds (r ∷ rs) = IsRound (IsSpot head n) n (block_round r) × IsPart r.part × AreRounds rs
 
-  pub rounds_agree : (rs : List (RoundOf Part)) (bits : Spots) (s : Column) → AreRounds rs
-      → Agree head n b bits s → Agree head n b (after_rounds n (map block_round rs) bits)
+  -- all rounds: from the states that are alive before them
+  pub rounds_agree : (rs : List (RoundOf Part)) (alive : List ℕ) (bits : Spots) (s : Column)
+      → AreRounds rs → chained alive (map block_round rs) ≡ true → AgreeHeld alive bits s
+      → Agree head n b (after_rounds n (map block_round rs) bits)
       (run (bound rows head n b (rounds_commands n rs)) s)
-  rounds_agree [] bits s are agree = agree
-  rounds_agree (r ∷ rs) bits s are agree =
+  rounds_agree [] alive bits s are live agree = agree.named
+  rounds_agree (r ∷ rs) alive bits s are live agree =
+      let l = and_parts (finds alive r.part.block)
+      (chained (left_by r.part.block) (map block_round rs)) live in
       subst (Agree head n b (after_rounds n (map block_round rs)
-      (after_round n (block_round r) bits))) (sym (round_first rows head n b r rs s))
-      (rounds_agree rs (after_round n (block_round r) bits)
-      (run_body (round_rows rows head n b r) r.part.cmds s) are.2
-      (round_agrees r bits s are.0 are.1 agree))
+      (after_round n (block_round r) bits))) (sym (round_first rows head n b r rs s are.1))
+      (rounds_agree rs (states_in r.part.block.writes) (after_round n (block_round r) bits)
+      (run_body (round_rows rows head n b r) r.part.cmds s) are.2 l.1
+      (round_agrees r alive bits s are.0 are.1 l.0 agree))
 
   pub rounds_keep : (rs : List (RoundOf Part)) (s : Column) → AreRounds rs → (q : ℕ)
       → (IsMine q → ⊥) → run (bound rows head n b (rounds_commands n rs)) s (D q) ≡ s (D q)
   rounds_keep [] s are q other = refl
   rounds_keep (r ∷ rs) s are q other =
-      ap (λ (t : Column). t (D q)) (round_first rows head n b r rs s)
+      ap (λ (t : Column). t (D q)) (round_first rows head n b r rs s are.1)
       ∙ rounds_keep rs (run_body (round_rows rows head n b r) r.part.cmds s) are.2 q other
       ∙ round_keeps r s are.0 are.1 q other

@@ -10,6 +10,7 @@ use Rattle.uprog_code.specs.Fits.{Fits, Range, IsAmong, AreApart, ranges, AreBel
 use Rattle.uprog_code.specs.Fits.{ArePairwiseApart, scratch_range, written, IsInSome}
 use Rattle.loop_ir.specs.declared.ir.Space.{Space}
 use Rattle.loop_ir.specs.declared.ir.Space.TheVariants.{Result, Source, ScratchBit, ScratchWord}
+use Rattle.loop_ir.specs.declared.ir.Space.TheVariants.{Cells}
 use Rattle.loop_ir.specs.Spots.{Spot, IsOwn}
 use Rattle.uprog_gen.specs.Where.{row_in, IsIn, IsBelow}
 use Rattle.uprog_gen.proofs.Rows.Rounds.{IsLaid}
@@ -126,6 +127,10 @@ module _ (rows : ℕ) (head : Shape) (n : ℕ) (b : Bound) (fits : Fits rows hea
   own_in ScratchWord ScratchBit w i v j p q own e = absurd (omega (arith, e, q.0))
   own_in ScratchWord ScratchWord w i v j p q own e =
       spot_of ScratchWord w v i j (p.0 ∙ sym q.0) (omega arith)
+  own_in Cells t w i v j p q own e = absurd p
+  own_in Result Cells w i v j p q own e = absurd q
+  own_in ScratchBit Cells w i v j p q own e = absurd q
+  own_in ScratchWord Cells w i v j p q own e = absurd q
 
   low_in : (s : Space) (w i : ℕ) → IsIn head n s w i → row_in head n b s w i < rows - 32
   low_in Result w i p = value_low rows n (results head) b.results fits.results w i p
@@ -134,6 +139,7 @@ module _ (rows : ℕ) (head : Shape) (n : ℕ) (b : Bound) (fits : Fits rows hea
       omega (arith, p.0, fits.scratch (let l : w < head.bits = p.0 in omega (arith, l)))
   low_in ScratchWord w i p =
       omega (arith, p.1, fits.scratch (let l : i < n * head.words = p.1 in omega (arith, l)))
+  low_in Cells w i p = absurd p
 
   pub laid : IsLaid rows head n b
   laid = record {

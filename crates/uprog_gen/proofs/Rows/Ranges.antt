@@ -1,9 +1,9 @@
 -- The commands of a round are in range.
-use Rattle.std.proofs.Common.{◌≡◌, ℕ, ◌+◌, ◌*◌, ◌<◌, true, List, [], ◌∷◌, map, length, refl, arith}
+use Rattle.std.proofs.Common.{◌≡◌, ℕ, ◌+◌, ◌*◌, true, List, [], ◌∷◌, map, length, refl, arith}
 use Rattle.std.proofs.Common.{Option, Some, None}
 use Rattle.std.specs.Prelude.{slice_get, ◌&&◌}
 use Rattle.std.specs.List.{AllByRecursion, list_all}
-use Rattle.std.proofs.lemmas.Bool.{and_parts, and_from, ltb-true, lt-ltb, eq-eqb}
+use Rattle.std.proofs.lemmas.Bool.{and_parts, and_from, lt-ltb, eq-eqb}
 use Rattle.op_text.specs.declared.tree.Kind.{Kind}
 use Rattle.op_text.specs.declared.tree.Kind.TheVariants.{Word, Bit}
 use Rattle.uprog_code.specs.Shape.{Shape, results}
@@ -12,9 +12,12 @@ use Rattle.row_alloc.specs.declared.body.BodyRef.{BodyRef}
 use Rattle.row_alloc.specs.declared.body.BodyRef.TheVariants as ref
 use Rattle.row_alloc.specs.declared.body.BodyCmd.{BodyCmd}
 use Rattle.row_alloc.specs.declared.body.BodyCmd.TheVariants as cmd
-use Rattle.row_alloc.specs.Legal.{is_ref, is_first_ref, is_second_ref, is_legal_cmd}
+use Rattle.row_alloc.specs.declared.body.Held.{Held}
+use Rattle.row_alloc.specs.Legal.{is_ref, is_first_ref, is_second_ref, is_legal_cmd, are_legal}
+use Rattle.row_alloc.specs.Held.{is_read, reads_rows}
 use Rattle.loop_ir.specs.declared.ir.Space.{Space}
 use Rattle.loop_ir.specs.declared.ir.Space.TheVariants.{Result, Source, ScratchBit, ScratchWord}
+use Rattle.loop_ir.specs.declared.ir.Space.TheVariants.{Cells}
 use Rattle.loop_ir.specs.Loops.{RoundOf, sub_value}
 use Rattle.loop_ir.specs.Spots.{nth_place, spot_in}
 use Rattle.uprog_gen.specs.Where.{IsSpot, IsBelow}
@@ -22,6 +25,8 @@ use Rattle.uprog_gen.specs.Code.{Part, row_space, round_ref, round_command}
 use Rattle.loop_ir.specs.Limits.{IsRound}
 use Rattle.uprog_gen.proofs.Rows.Rounds.{block_round}
 use Rattle.uprog_gen.specs.Parts.{IsPart}
+use Rattle.uprog_gen.specs.States.{enters}
+use Rattle.uprog_gen.proofs.Rows.Named.{IsNamed, named_ref}
 
 below_kind : (k : Option Kind) (n i : ℕ) → IsBelow k n i → in_kind k n i ≡ true
 below_kind None n i h = absurd h
@@ -35,42 +40,49 @@ module _ (head : Shape) (n : ℕ) where
   space_range Source w v h = below_kind (slice_get head.sources w) n v h
   space_range ScratchBit w v h = refl
   space_range ScratchWord w v h = lt-ltb (w * n + v) (n * head.words) h.1
+  space_range Cells w v h = absurd h
 
   module _ (r : RoundOf Part) (is : IsRound (IsSpot head n) n (block_round r))
       (part : IsPart r.part) where
-    ref_range : (x : BodyRef) → is_ref r.part.block.graph.inputs (length r.part.outs) x ≡ true
-        → in_range head n (round_ref n r x) ≡ true
+    abbrev inputs : ℕ
+    inputs = r.part.block.graph.inputs
+
+    abbrev outputs : ℕ
+    outputs = length r.part.outs
+
+    abbrev enter : List Held
+    enter = enters 0 r.part.block.reads
+
+    ref_range : (x : BodyRef) → IsNamed r.part x → in_range head n (round_ref n r x) ≡ true
     ref_range (ref.B k) h = refl
     ref_range (ref.C k) h = refl
     ref_range (ref.Spill k) h = refl
     ref_range (ref.In k) h =
-        let lk : k < r.part.block.graph.inputs = ltb-true k r.part.block.graph.inputs h in
         let p = nth_place r.part.block.reads k in
-        space_range p.space p.which (sub_value n r.i r.o p.sub)
-        (is.reads k (omega (arith, lk, part.well.reads)))
+        space_range p.space p.which (sub_value n r.i r.o p.sub) (is.reads k h.0 h.1)
     ref_range (ref.Out k) h =
-        let lk : k < length r.part.outs = ltb-true k (length r.part.outs) h in
         let p = nth_place r.part.block.writes k in
-        space_range p.space p.which (sub_value n r.i r.o p.sub)
-        (is.writes k (omega (arith, lk, part.outs.size, part.well.writes)))
+        space_range p.space p.which (sub_value n r.i r.o p.sub) (is.writes k h.0 h.1)
 
-    command_range : (c : BodyCmd) → is_legal_cmd r.part.block.graph.inputs (length r.part.outs) c
-        ≡ true → all_in_range head n (round_command n r c) ≡ true
-    command_range (cmd.Aap x y) h =
-        let i = r.part.block.graph.inputs in
-        let o = length r.part.outs in
-        let a = and_parts (is_ref i o x && is_first_ref x) (is_ref i o y && is_second_ref y) h in
+    command_range : (c : BodyCmd) → is_legal_cmd inputs outputs c ≡ true
+        → reads_rows enter c ≡ true → all_in_range head n (round_command n r c) ≡ true
+    command_range (cmd.Aap x y) h u =
+        let a = and_parts (is_ref inputs outputs x && is_first_ref x)
+        (is_ref inputs outputs y && is_second_ref y) h in
+        let v = and_parts (is_read enter x) (is_read enter y) u in
         and_from (in_range head n (round_ref n r x)) (in_range head n (round_ref n r y))
-        (ref_range x (and_parts (is_ref i o x) (is_first_ref x) a.0).0)
-        (ref_range y (and_parts (is_ref i o y) (is_second_ref y) a.1).0)
-    command_range (cmd.Ap x) h = let i = r.part.block.graph.inputs in let o = length r.part.outs in
-        ref_range x (and_parts (is_ref i o x) (is_first_ref x) h).0
+        (ref_range x (named_ref r.part part x
+        (and_parts (is_ref inputs outputs x) (is_first_ref x) a.0).0 v.0))
+        (ref_range y (named_ref r.part part y
+        (and_parts (is_ref inputs outputs y) (is_second_ref y) a.1).0 v.1))
+    command_range (cmd.Ap x) h u = ref_range x (named_ref r.part part x
+        (and_parts (is_ref inputs outputs x) (is_first_ref x) h).0 u)
 
-    pub commands_range : (cs : List BodyCmd)
-        → list_all (is_legal_cmd r.part.block.graph.inputs (length r.part.outs)) cs ≡ true
+    pub commands_range : (cs : List BodyCmd) → are_legal inputs outputs cs ≡ true
+        → list_all (reads_rows enter) cs ≡ true
         → AllByRecursion (λ c. all_in_range head n c ≡ true) (map (round_command n r) cs)
-    commands_range [] h = tt
-    commands_range (c ∷ cs) h =
-        let a = and_parts (is_legal_cmd r.part.block.graph.inputs (length r.part.outs) c)
-        (list_all (is_legal_cmd r.part.block.graph.inputs (length r.part.outs)) cs) h in
-        (command_range c a.0, commands_range cs a.1)
+    commands_range [] h u = tt
+    commands_range (c ∷ cs) h u =
+        let a = and_parts (is_legal_cmd inputs outputs c) (are_legal inputs outputs cs) h in
+        let v = and_parts (reads_rows enter c) (list_all (reads_rows enter) cs) u in
+        (command_range c a.0 v.0, commands_range cs a.1 v.1)

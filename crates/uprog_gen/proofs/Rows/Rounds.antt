@@ -1,11 +1,11 @@
 -- The rows of a round in a bank.
-use Rattle.std.specs.Prelude.{◌≡◌, ℕ, ◌+◌, ◌-◌, ◌<◌}
+use Rattle.std.specs.Prelude.{◌≡◌, ℕ, ◌+◌, ◌-◌, ◌<◌, if◌then◌else◌}
 use Rattle.uprog_code.specs.Shape.{Shape}
 use Rattle.uprog_code.specs.Bound.{Bound}
 use Rattle.row_alloc.specs.Rows.{Rows}
 use Rattle.loop_ir.specs.Plain.{Block}
 use Rattle.loop_ir.specs.Loops.{RoundOf}
-use Rattle.loop_ir.specs.Spots.{Spot, nth_spot, IsOwn}
+use Rattle.loop_ir.specs.Spots.{Spot, nth_place, nth_spot, IsOwn, is_state}
 use Rattle.uprog_gen.specs.Where.{spot_row, IsSpot}
 use Rattle.uprog_gen.specs.Code.{Part}
 
@@ -16,10 +16,12 @@ pub record IsLaid (rows : ℕ) (head : Shape) (n : ℕ) (b : Bound) : Type 0 whe
       → spot_row head n b p ≡ spot_row head n b q → p ≡ q
   pub low : (p : Spot) → IsSpot head n p → spot_row head n b p < rows - 32
 
--- the data rows of a round's body, in a bank of so many data rows
+-- the data rows of a round's body, in a bank of so many data rows: what stands in cells is given one
+-- out of the bank
 abbrev pub round_rows : ℕ → Shape → ℕ → Bound → RoundOf Part → Rows
 round_rows rows head n b r = record {
-  input = λ k. spot_row head n b (nth_spot n r.i r.o r.part.block.reads k);
+  input = λ k. if is_state (nth_place r.part.block.reads k).space then rows + 32
+      else spot_row head n b (nth_spot n r.i r.o r.part.block.reads k);
   output = λ j. spot_row head n b (nth_spot n r.i r.o r.part.block.writes j);
   spill = λ i. rows - 32 + i;
 }

@@ -1,5 +1,5 @@
 -- Where bodies are settled, so are the numbers of all commands.
-use Rattle.std.proofs.Common.{◌≡◌, ℕ, ◌+◌, Bool, true, false, cond, List, [], ◌∷◌}
+use Rattle.std.proofs.Common.{◌≡◌, ℕ, zero, suc, ◌+◌, ◌<◌, Bool, true, false, cond, List, [], ◌∷◌}
 use Rattle.std.proofs.Common.{map, length, refl, sym, ap, ◌∙◌, subst, arith, Option, Some}
 use Rattle.std.proofs.Common.{None}
 use Rattle.std.specs.Prelude.{count_by, sum_by}
@@ -11,6 +11,7 @@ use Rattle.row_alloc.specs.declared.body.BodyRef.{BodyRef}
 use Rattle.row_alloc.specs.declared.body.BodyCmd.{BodyCmd}
 use Rattle.row_alloc.specs.declared.body.BodyCmd.TheVariants.{Aap, Ap}
 use Rattle.row_alloc.specs.declared.body.OutRow.{OutRow}
+use Rattle.row_alloc.specs.Rows.{out_at}
 use Rattle.row_alloc.specs.Known.{WordBody, Inverted, Shifted, Both, Either, Without}
 use Rattle.row_alloc.specs.Known.{Unlike, Chosen, Compared, Agreed, Added, Lessened, NegatedIf}
 use Rattle.row_alloc.specs.Known.{Multiplied, Counted, Divided, inputs_in, nodes_in, outs_in}
@@ -23,6 +24,7 @@ use Rattle.loop_ir.specs.Loops.{RoundOf}
 use Rattle.loop_ir.specs.Costs.{is_copy}
 use Rattle.uprog_gen.specs.Code.{Part, block_of_part, blocks, round_command, rounds_commands}
 use Rattle.uprog_gen.specs.Parts.{IsPart, IsOuts}
+use Rattle.uprog_gen.specs.States.{row_count}
 use Rattle.uprog_gen.specs.Settled.{is_aap, is_ap, is_word_body, word_among, word_of, word_commands}
 use Rattle.uprog_gen.specs.Settled.{turn_count, turn_aaps, turn_aps, KeepsReads, IsSettledAs}
 use Rattle.uprog_gen.specs.Settled.{IsSettled}
@@ -40,24 +42,30 @@ found_word (v ∷ ws) b w e = by (is_word_body v b) refl e (found_word ws b w)
     by true t f more = let s : v ≡ w = cc in subst (λ x. is_word_body x b ≡ true) s t
     by false t f more = more f
 
+-- only an output names an input
+some_out : (outs : List OutRow) (j k : ℕ) → (out_at outs j).same ≡ Some k → j < length outs
+some_out [] j k e = absurd (let f : ◌≡◌ {A = Option ℕ} None (Some k) = e in cc)
+some_out (o ∷ outs) zero k e = omega arith
+some_out (o ∷ outs) (suc j) k e = let h = some_out outs j k e in omega (arith, h)
+
 -- outputs that stand where the writes say leave the reads alone
-kept : (b : Block) (outs : List OutRow) (w : WordBody) → IsOuts b (length b.outs) outs
-    → b.outs ≡ outs_in w → KeepsReads w b → KeepsInputs w outs
-kept b outs Shifted is e k = λ s. k (is.found 0 0 (omega (arith, is.size, ap length e)) s).1
-kept b outs Multiplied is e k = λ s. k (is.found 1 0 (omega (arith, is.size, ap length e)) s).1
-kept b outs Inverted is e k = tt
-kept b outs Both is e k = tt
-kept b outs Either is e k = tt
-kept b outs Without is e k = tt
-kept b outs Unlike is e k = tt
-kept b outs Chosen is e k = tt
-kept b outs Compared is e k = tt
-kept b outs Agreed is e k = tt
-kept b outs Added is e k = tt
-kept b outs Lessened is e k = tt
-kept b outs NegatedIf is e k = tt
-kept b outs Counted is e k = tt
-kept b outs Divided is e k = tt
+kept : (b : Block) (m : ℕ) (outs : List OutRow) (w : WordBody) → IsOuts b m outs → KeepsReads w b
+    → KeepsInputs w outs
+kept b m outs Shifted is k = λ s. k (is.found 0 0 (some_out outs 0 0 s) s).1
+kept b m outs Multiplied is k = λ s. k (is.found 1 0 (some_out outs 1 0 s) s).1
+kept b m outs Inverted is k = tt
+kept b m outs Both is k = tt
+kept b m outs Either is k = tt
+kept b m outs Without is k = tt
+kept b m outs Unlike is k = tt
+kept b m outs Chosen is k = tt
+kept b m outs Compared is k = tt
+kept b m outs Agreed is k = tt
+kept b m outs Added is k = tt
+kept b m outs Lessened is k = tt
+kept b m outs NegatedIf is k = tt
+kept b m outs Counted is k = tt
+kept b m outs Divided is k = tt
 
 -- a settled part's commands
 part_count : (f : BodyCmd → Bool) (one : ℕ) → ((x y : BodyRef) → count_by f (Aap x y ∷ []) ≡ one)
@@ -75,7 +83,7 @@ part_count f one copies p is settled = by (is_copy p.block) refl (word_of p.bloc
         ∷ Agreed ∷ Added ∷ Lessened ∷ NegatedIf ∷ Multiplied ∷ Counted ∷ Divided ∷ []) p.block w
         g) in
         ap (count_by f) (is.word w h.0 h.1
-        (word_late w p.outs (kept p.block p.outs w is.outs h.1 s)))
+        (word_late w p.outs (kept p.block (row_count p.block.writes) p.outs w is.outs s)))
 
 -- what holds of the bodies holds of the parts
 inner_parts : (P : Block → Type 0) (xs : List (InnerOf Part))

@@ -1,5 +1,5 @@
 -- The code of a loop program does to every column what its rounds do to the named rows.
-use Rattle.std.proofs.Common.{◌≡◌, ℕ, zero, suc, ◌+◌, ◌-◌, ◌<◌, ◌≤◌, List, [], ◌∷◌, ◌++◌, map}
+use Rattle.std.proofs.Common.{◌≡◌, ℕ, zero, suc, ◌+◌, ◌-◌, ◌<◌, ◌≤◌, true, List, [], ◌∷◌, ◌++◌, map}
 use Rattle.std.proofs.Common.{length, refl, sym, ap, ◌∙◌, subst, ⊎_elim, arith, inl, inr, cond}
 use Rattle.std.proofs.Common.{length-append, append_assoc}
 use Rattle.std.specs.List.{AllByRecursion}
@@ -19,6 +19,7 @@ use Rattle.loop_ir.specs.Loops.{step_rounds, all_rounds}
 use Rattle.uprog_code.specs.Fits.{Fits, IsTouched}
 use Rattle.loop_ir.specs.declared.ir.Space.{Space}
 use Rattle.loop_ir.specs.declared.ir.Space.TheVariants.{Result, Source, ScratchBit, ScratchWord}
+use Rattle.loop_ir.specs.declared.ir.Space.TheVariants.{Cells}
 use Rattle.loop_ir.specs.Plain.{Block, InnerOf, StepOf, inner_map, step_map, AllInner, AllStep}
 use Rattle.loop_ir.specs.Plain.{AllParts}
 use Rattle.loop_ir.specs.Plain.InnerOf.{Alone, Across}
@@ -34,6 +35,9 @@ use Rattle.loop_ir.specs.Costs.{turn_cost, rounds_cost}
 use Rattle.uprog_gen.specs.Settled.{IsSettled, rounds_counts, all_counted}
 use Rattle.uprog_gen.specs.Does.{DoesRounds, IsCheap}
 use Rattle.uprog_gen.proofs.Rows.Settled.{of_blocks, all_aaps, all_aps}
+use Rattle.uprog_gen.proofs.Rows.Alive.{chained}
+use Rattle.uprog_gen.proofs.Rows.Chains.{steps_find}
+use Rattle.uprog_gen.proofs.Rows.Chained.{steps_chained}
 use Rattle.uprog_gen.proofs.Rows.Agree.{AreRounds, IsMine, rounds_agree, rounds_keep}
 use Rattle.uprog_gen.proofs.Rows.Laid.{laid, value_among, bit_among, word_among}
 use Rattle.uprog_gen.proofs.Rows.Ranges.{commands_range}
@@ -126,7 +130,7 @@ module _ (head : Shape) (n : ℕ) where
     record {
       planned = part.0.planned;
       ranges =
-          commands_range head n r is.0 part.0 r.part.cmds part.0.does.legal;
+          commands_range head n r is.0 part.0 r.part.cmds part.0.does.legal part.0.does.unread;
     },
     good rs is.1 part.1,
   )
@@ -161,6 +165,7 @@ module _ (rows : ℕ) (head : Shape) (n : ℕ) (b : Bound) (fits : Fits rows hea
   own_touched Source w i p own = absurd own
   own_touched ScratchBit w i p own = inr (inl (bit_among rows head n b fits w p.0))
   own_touched ScratchWord w i p own = inr (inl (word_among rows head n b fits i p.1))
+  own_touched Cells w i p own = absurd p
 
   mine_touched : (q : ℕ) → IsMine rows head n b (laid rows head n b fits) q
       → IsTouched rows head n b q
@@ -285,8 +290,9 @@ statement_most head n ss most parts (inr h) = omega (
 pub program_does : (head : Shape) (n : ℕ) (ss : List (StepOf Part)) → 0 < n → n ≤ WIDTH_MAX
     → length (program_code ss 0) ≤ 4096 → AllParts IsPart ss
     → AllByRecursion (IsRound (IsSpot head n) n) (all_rounds n (blocks ss))
+    → steps_find [] (blocks ss) ≡ true
     → DoesRounds head n (blocks ss) (program_code ss 0 ++ Done ∷ [])
-program_does head n ss some small short parts is =
+program_does head n ss some small short parts is find =
     let rs = all_rounds n ss in
     let same = all_blocks n ss in
     let is' = subst (AllByRecursion (IsRound (IsSpot head n) n)) same is in
@@ -299,7 +305,10 @@ program_does head n ss some small short parts is =
     (λ rows b s fits. subst (λ (l : List (RoundOf Block)). Agree head n b
     (after_rounds n l (spots_in head n b s))
     (run (bound rows head n b (rounds_commands n rs)) s)) (sym same)
-    (rounds_agree rows head n b (laid rows head n b fits) rs (spots_in head n b s) s
-    (are head n rows b fits rs is' parts') (λ p h. refl)))
+    (rounds_agree rows head n b (laid rows head n b fits) rs [] (spots_in head n b s) s
+    (are head n rows b fits rs is' parts')
+    (subst (λ (l : List (RoundOf Block)). chained [] l ≡ true) same
+    (steps_chained n (blocks ss) [] some find))
+    (record { named = λ p h. refl; cells = tt })))
     (λ rows b s fits q out. rounds_keep rows head n b (laid rows head n b fits) rs s
     (are head n rows b fits rs is' parts') q (λ m. out (mine_touched rows head n b fits q m)))

@@ -21,6 +21,7 @@ use Rattle.loop_ir.specs.declared.ir.Sub.TheVariants.{Outer, OuterDown, Sum, Dow
 use Rattle.loop_ir.specs.declared.ir.Sub.TheVariants.{NPlusInner}
 use Rattle.loop_ir.specs.declared.ir.Space.{Space}
 use Rattle.loop_ir.specs.declared.ir.Space.TheVariants.{Result, Source, ScratchBit, ScratchWord}
+use Rattle.loop_ir.specs.declared.ir.Space.TheVariants.{Cells}
 use Rattle.loop_ir.specs.Plain.{Block}
 use Rattle.loop_ir.specs.Loops.{RoundOf, round_at, sub_value}
 use Rattle.loop_ir.specs.Spots.{nth_place}
@@ -142,6 +143,7 @@ module _ (head : Shape) (code : List Uop) (n : ℕ) where
   row_is ScratchBit w v plan u i o regs e = refl
   row_is ScratchWord w v plan u i o regs e = ap (λ x.
       record { space = row_space ScratchWord; which = w; index = x }) e
+  row_is Cells w v plan u i o regs e = refl
 
   module _ (p : Part) (plan : Plan) (i o : ℕ) where
     ref_is : (x : BodyRef) (regs : List ℕ) → Names n plan p.block i o regs

@@ -1,0 +1,159 @@
+-- Where each body finds its states by the test, it does in every round.
+use Rattle.std.proofs.Common.{◌≡◌, ℕ, zero, suc, ◌+◌, ◌-◌, ◌<◌, ◌≤◌, true, List, [], ◌∷◌}
+use Rattle.std.proofs.Common.{◌++◌}
+use Rattle.std.proofs.Common.{refl, sym, subst, arith}
+use Rattle.std.specs.Prelude.{◌&&◌}
+use Rattle.std.specs.List.{list_all}
+use Rattle.std.proofs.lemmas.Bool.{and_parts, and_from}
+use Rattle.loop_ir.specs.declared.ir.Count.{Count}
+use Rattle.loop_ir.specs.declared.ir.Count.TheVariants.{All, Rest}
+use Rattle.loop_ir.specs.Plain.{Block, InnerOf, StepOf}
+use Rattle.loop_ir.specs.Plain.InnerOf.{Alone, Across}
+use Rattle.loop_ir.specs.Plain.StepOf.{Single, Along, Nest}
+use Rattle.loop_ir.specs.Loops.{RoundOf, one_round, rounds, positions, inner_rounds}
+use Rattle.loop_ir.specs.Loops.{all_rounds}
+use Rattle.uprog_gen.proofs.Rows.Alive.{states_in, is_among, finds, left_by, chained}
+use Rattle.uprog_gen.proofs.Rows.Chains.{loop_finds, inner_left, inner_finds, steps_find}
+
+-- the states that the last of the rounds leaves
+left_after : List ℕ → List (RoundOf Block) → List ℕ
+left_after alive [] = alive
+left_after alive (r ∷ rs) = left_after (left_by r.part) rs
+
+both_chained : (xs ys : List (RoundOf Block)) (alive : List ℕ) → chained alive xs ≡ true
+    → chained (left_after alive xs) ys ≡ true → chained alive (xs ++ ys) ≡ true
+unfolding left_after
+both_chained [] ys alive h k = k
+both_chained (r ∷ rs) ys alive h k =
+    let p = and_parts (finds alive r.part) (chained (left_by r.part) rs) h in
+    and_from (finds alive r.part) (chained (left_by r.part) (rs ++ ys)) p.0
+    (both_chained rs ys (left_by r.part) p.1 k)
+
+left_both : (xs ys : List (RoundOf Block)) (alive : List ℕ)
+    → left_after alive (xs ++ ys) ≡ left_after (left_after alive xs) ys
+unfolding left_after
+left_both [] ys alive = refl
+left_both (r ∷ rs) ys alive = left_both rs ys (left_by r.part)
+
+-- the states of the first are among the second
+abbrev pub Within : List ℕ → List ℕ → Type 0
+Within xs ys = (w : ℕ) → is_among w xs ≡ true → is_among w ys ≡ true
+
+more_find : (ws xs ys : List ℕ) → Within xs ys → list_all (λ w. is_among w xs) ws ≡ true
+    → list_all (λ w. is_among w ys) ws ≡ true
+more_find [] xs ys h e = refl
+more_find (w ∷ ws) xs ys h e =
+    let p = and_parts (is_among w xs) (list_all (λ w. is_among w xs) ws) e in
+    and_from (is_among w ys) (list_all (λ w. is_among w ys) ws) (h w p.0) (more_find ws xs ys h p.1)
+
+-- with more alive all that is needed is found, so statements can stand one after another
+pub more_chained : (rs : List (RoundOf Block)) (xs ys : List ℕ) → Within xs ys
+    → chained xs rs ≡ true → chained ys rs ≡ true
+more_chained [] xs ys h e = refl
+more_chained (r ∷ rs) xs ys h e =
+    let p = and_parts (finds xs r.part) (chained (left_by r.part) rs) e in
+    and_from (finds ys r.part) (chained (left_by r.part) rs)
+    (more_find (states_in r.part.reads) xs ys h p.0) p.1
+
+more_left : (rs : List (RoundOf Block)) (xs ys : List ℕ) → Within xs ys
+    → Within (left_after xs rs) (left_after ys rs)
+unfolding left_after
+more_left [] xs ys h = h
+more_left (r ∷ rs) xs ys h = λ w e. e
+
+-- what rounds need, and states that they leave
+record Chains (alive left : List ℕ) (rs : List (RoundOf Block)) : Type 0 where
+  pub need : chained alive rs ≡ true
+  pub left_in : Within left (left_after alive rs)
+
+join : (alive mid left : List ℕ) (xs ys : List (RoundOf Block)) → Chains alive mid xs
+    → Chains mid left ys → Chains alive left (xs ++ ys)
+join alive mid left xs ys a b = record {
+  need = both_chained xs ys alive a.need
+      (more_chained ys mid (left_after alive xs) a.left_in b.need);
+  left_in = λ w e. subst (λ l. is_among w l ≡ true) (sym (left_both xs ys alive))
+      (more_left ys mid (left_after alive xs) a.left_in w (b.left_in w e));
+}
+
+nothing : (alive : List ℕ) → Chains alive alive []
+unfolding left_after
+nothing alive = record { need = refl; left_in = λ w e. e }
+
+once : (alive : List ℕ) (b : Block) (i o : ℕ) → finds alive b ≡ true
+    → Chains alive (left_by b) (one_round b i o)
+unfolding left_after
+once alive b i o h = record { need = and_from (finds alive b) true h refl; left_in = λ w e. e }
+
+-- at least one round of a list that needs what it leaves
+many : (f : ℕ → List (RoundOf Block)) (top : ℕ) (alive left : List ℕ)
+    → ((i : ℕ) → i < top → Chains alive left (f i)) → ((i : ℕ) → i < top → Chains left left (f i))
+    → (i count : ℕ) → 0 < count → i + count ≤ top → Chains alive left (rounds f i count)
+unfolding left_after
+many f top alive left first again i zero some le = absurd (omega arith)
+many f top alive left first again i (suc zero) some le =
+    join alive left left (f i) [] (first i (omega arith)) (nothing left)
+many f top alive left first again i (suc (suc count)) some le =
+    join alive left left (f i) (rounds f (i + 1) (suc count)) (first i (omega arith))
+    (many f top left left again again (i + 1) (suc count) (omega arith) (omega arith))
+
+across : (alive : List ℕ) (b : Block) (o count : ℕ) → loop_finds alive b ≡ true → 0 < count
+    → Chains alive (left_by b) (rounds (λ i. one_round b i o) 0 count)
+across alive b o count h some =
+    let p = and_parts (finds alive b) (finds (left_by b) b) h in
+    many (λ i. one_round b i o) count alive (left_by b) (λ i l. once alive b i o p.0)
+    (λ i l. once (left_by b) b i o p.1) 0 count some (omega arith)
+
+-- what a nest leaves after a turn it leaves after the next
+left_again : (ps : List (InnerOf Block)) (alive : List ℕ)
+    → inner_left (inner_left alive ps) ps ≡ inner_left alive ps
+left_again [] alive = refl
+left_again (Alone b ∷ ps) alive = refl
+left_again (Across c b ∷ ps) alive = refl
+
+across_count : (n o : ℕ) (c : Count) (alive : List ℕ) (b : Block) → o < n
+    → loop_finds alive b ≡ true
+    → Chains alive (left_by b) (rounds (λ i. one_round b i o) 0 (positions n o c))
+across_count n o All alive b l h = across alive b o n h (omega arith)
+across_count n o Rest alive b l h = across alive b o (n - o) h (omega arith)
+
+inners : (n o : ℕ) (ps : List (InnerOf Block)) (alive : List ℕ) → o < n
+    → inner_finds alive ps ≡ true → Chains alive (inner_left alive ps) (inner_rounds n o ps)
+inners n o [] alive l h = nothing alive
+inners n o (Alone b ∷ ps) alive l h =
+    let p = and_parts (finds alive b) (inner_finds (left_by b) ps) h in
+    join alive (left_by b) (inner_left (left_by b) ps) (one_round b 0 o) (inner_rounds n o ps)
+    (once alive b 0 o p.0) (inners n o ps (left_by b) l p.1)
+inners n o (Across c b ∷ ps) alive l h =
+    let p = and_parts (loop_finds alive b) (inner_finds (left_by b) ps) h in
+    join alive (left_by b) (inner_left (left_by b) ps)
+    (rounds (λ i. one_round b i o) 0 (positions n o c)) (inner_rounds n o ps)
+    (across_count n o c alive b l p.0) (inners n o ps (left_by b) l p.1)
+
+pub steps_chained : (n : ℕ) (ss : List (StepOf Block)) (alive : List ℕ) → 0 < n
+    → steps_find alive ss ≡ true → chained alive (all_rounds n ss) ≡ true
+steps_chained n [] alive some h = refl
+steps_chained n (Single b ∷ ss) alive some h =
+    let p = and_parts (finds alive b) (steps_find (left_by b) ss) h in
+    let c = once alive b 0 0 p.0 in
+    both_chained (one_round b 0 0) (all_rounds n ss) alive c.need
+    (more_chained (all_rounds n ss) (left_by b) (left_after alive (one_round b 0 0)) c.left_in
+    (steps_chained n ss (left_by b) some p.1))
+steps_chained n (Along b ∷ ss) alive some h =
+    let p = and_parts (loop_finds alive b) (steps_find (left_by b) ss) h in
+    let rs = rounds (λ i. one_round b i 0) 0 n in
+    let c = across alive b 0 n p.0 some in
+    both_chained rs (all_rounds n ss) alive c.need
+    (more_chained (all_rounds n ss) (left_by b) (left_after alive rs) c.left_in
+    (steps_chained n ss (left_by b) some p.1))
+steps_chained n (Nest ps ∷ ss) alive some h =
+    let mid = inner_left alive ps in
+    let rs = rounds (λ o. inner_rounds n o ps) 0 n in
+    let p = and_parts (inner_finds alive ps) (inner_finds mid ps
+    && steps_find (inner_left mid ps) ss) h in
+    let q = and_parts (inner_finds mid ps) (steps_find (inner_left mid ps) ss) p.1 in
+    let c = many (λ o. inner_rounds n o ps) n alive mid (λ o l. inners n o ps alive l p.0)
+    (λ o l. subst (λ x. Chains mid x (inner_rounds n o ps)) (left_again ps alive)
+    (inners n o ps mid l q.0)) 0 n some (omega arith) in
+    both_chained rs (all_rounds n ss) alive c.need
+    (more_chained (all_rounds n ss) mid (left_after alive rs) c.left_in
+    (steps_chained n ss mid some (subst (λ x. steps_find x ss ≡ true) (left_again ps alive) q.1)))
