@@ -27,11 +27,11 @@ use Rattle.row_alloc.specs.Known.{outs_in, sequence_for}
 use Rattle.row_alloc.proofs.Booleans.{and-both}
 use Rattle.row_alloc.proofs.Sound.{lit-eq-true}
 
-abbrev out : Lit → Option ℕ → OutRow
+abbrev pub out : Lit → Option ℕ → OutRow
 out l s = record { lit = l; same = s }
 
 -- the symbolic run's answer, as a test
-abbrev is_literal : Option Lit → Lit → Bool
+abbrev pub is_literal : Option Lit → Lit → Bool
 is_literal None l = false
 is_literal (Some m) l = lit_eq m l
 
@@ -55,7 +55,7 @@ all_fail g outs (suc k) = all_fail g outs k && not (passes g outs (known_at k))
 abbrev is_first : Graph → List OutRow → ℕ → Bool
 is_first g outs k = all_fail g outs k && passes g outs (known_at k)
 
-is-literal : (o : Option Lit) (l : Lit) → is_literal o l ≡ true → o ≡ Some l
+pub is-literal : (o : Option Lit) (l : Lit) → is_literal o l ≡ true → o ≡ Some l
 is-literal None l h = absurd cc
 is-literal (Some m) l h = ap Some (lit-eq-true m l h)
 
@@ -63,7 +63,7 @@ beq-self : (i : Bool) → beq i i ≡ true
 beq-self true = refl
 beq-self false = refl
 
-literal-is : (o : Option Lit) (l : Lit) → o ≡ Some l → is_literal o l ≡ true
+pub literal-is : (o : Option Lit) (l : Lit) → o ≡ Some l → is_literal o l ≡ true
 literal-is o l e = rw e (and-both (l.node == l.node) (beq l.inverted l.inverted)
     (eq-eqb l.node l.node refl) (beq-self l.inverted))
 
@@ -124,7 +124,7 @@ first g outs k within h late =
     }
 
 -- wherever an output stands: in a row of its own, or in one of so many inputs' rows
-abbrev in_all : ℕ → (Option ℕ → Bool) → Bool
+abbrev pub in_all : ℕ → (Option ℕ → Bool) → Bool
 in_all zero f = f None
 in_all (suc i) f = in_all i f && f (Some i)
 
@@ -142,12 +142,12 @@ shared_in (suc i) f h k l =
       | inr ne ↦ shared_in i f p.0 k (omega (arith, l, ne))
     ]
 
-in_one : (i : ℕ) (f : Option ℕ → Bool) → in_all i f ≡ true → (s : Option ℕ)
+pub in_one : (i : ℕ) (f : Option ℕ → Bool) → in_all i f ≡ true → (s : Option ℕ)
     → ((k : ℕ) → s ≡ Some k → k < i) → f s ≡ true
 in_one i f h None b = apart_in i f h
 in_one i f h (Some k) b = shared_in i f h k (b k refl)
 
-single : (l : Lit) (outs : List OutRow) → map (λ o. o.lit) outs ≡ l ∷ []
+pub single : (l : Lit) (outs : List OutRow) → map (λ o. o.lit) outs ≡ l ∷ []
     → outs ≡ out l (out_at outs 0).same ∷ []
 single l [] e = absurd cc
 single l (o ∷ []) e = let f : o.lit ≡ l = cc in rw (← f) refl

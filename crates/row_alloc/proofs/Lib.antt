@@ -16,3 +16,4 @@ pub mod First
 pub mod Values
 pub mod HeldChecked
 pub mod Plainly
+pub mod HeldFirst

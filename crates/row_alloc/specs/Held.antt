@@ -1,6 +1,6 @@
 -- Bodies that find inputs in cells, and leave values in cells
-use Rattle.std.specs.Prelude.{◌≡◌, ◌≢◌, ℕ, ◌+◌, ◌<◌, ◌==◌, ◌&&◌, nat_lt, Bool, true, false, not, List}
-use Rattle.std.specs.Prelude.{[], ◌∷◌, length, map, Option, Some, None, if◌then◌else◌}
+use Rattle.std.specs.Prelude.{◌≡◌, ◌≢◌, ℕ, ◌+◌, ◌<◌, ◌==◌, ◌&&◌, nat_lt, Bool, true, false, not}
+use Rattle.std.specs.Prelude.{List, [], ◌∷◌, length, map, Some, None, if◌then◌else◌}
 use Rattle.std.specs.List.{list_any, list_all, AllByRecursion}
 use Rattle.dram_model.specs.declared.address.Cell.TheVariants.{T, Dcc, C, D}
 use Rattle.dram_model.specs.declared.address.Line.{Line}
@@ -51,9 +51,9 @@ pub record Enters (g : Graph) (bits : ℕ → Bool) (enter : List Held) (rows : 
   pub held : CellsHold g bits enter s
 
 -- The commands are legal, and name no row of an input that is held. Wherever the rows stand, and
--- whatever the other cells hold, from a column that has the inputs in rows and cells they leave each
--- output row with its literal's value, and the cells at exit with theirs; and they leave each data
--- row that is neither output nor spill as it was
+-- whatever the other cells hold, from a column that has the inputs in rows and cells they leave
+-- each output row with its literal's value, and the cells at exit with theirs; and they leave each
+-- data row that is neither output nor spill as it was
 pub record DoesHeld (g : Graph) (outs : List OutRow) (enter leave : List Held)
     (cmds : List BodyCmd) : Type 0 where
   pub legal : are_legal g.inputs (length outs) cmds ≡ true

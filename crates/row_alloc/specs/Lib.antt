@@ -11,3 +11,4 @@ pub mod Order
 pub mod Known
 pub mod Layouts
 pub mod Held
+pub mod HeldBodies

@@ -31,7 +31,7 @@ fn serves(m: &Mig, outs: &[OutRow], cmds: &[BodyCmd]) -> bool
 }
 
 /// The sequence of this number.
-fn nth(sequences: &[&'static [BodyCmd]], k: usize) -> &'static [BodyCmd]
+pub fn nth(sequences: &[&'static [BodyCmd]], k: usize) -> &'static [BodyCmd]
     requires { k < length sequences.now }
     ensures { result.now ≡ slice_index_or (map (λ s. s.now) sequences.now) k [] }
 {

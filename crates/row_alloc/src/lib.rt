@@ -13,6 +13,7 @@ mod count;
 mod estimate;
 mod greedy;
 mod held;
+mod held_table;
 mod known;
 mod laws;
 mod layout;
@@ -31,9 +32,10 @@ pub use check::check_body;
 pub use count::{commands_of, quick_commands_of};
 pub use greedy::greedy_body;
 pub use held::check_held;
+pub use held_table::held_body;
 pub use laws::{
-    fixed_sequences_serve, legal_bodies_are_legal_on_banks, rows_can_stand_apart,
-    word_bodies_have_sequences,
+    fixed_sequences_serve, held_bodies_have_sequences, legal_bodies_are_legal_on_banks,
+    rows_can_stand_apart, word_bodies_have_sequences,
 };
 pub use mig_graph::NoMemory;
 pub use plain::plain_body;

@@ -39,7 +39,7 @@ impl CellLiterals {
         }
     }
 
-    /// Each input that is not held in its own row, and these literals in the cells of their layouts.
+    /// Each input that is not held in its own row, and these literals in their layouts.
     pub fn holding(inputs: u8, enter: &[Held]) -> CellLiterals
         requires inputs { inputs ≤ 80 }
         requires layouts { have_layouts enter.now ≡ true }

@@ -1,5 +1,5 @@
-use Rattle.std.proofs.Common.{◌≡◌, ◌<◌, ◌↔◌, IsTrue, ℕ, Bool, true, List, length, ◌∙◌, sym, ap, subst}
-use Rattle.std.proofs.Common.{Some, map}
+use Rattle.std.proofs.Common.{◌≡◌, ◌<◌, ◌↔◌, IsTrue, ℕ, Bool, true, List, length, ◌∙◌, sym, ap}
+use Rattle.std.proofs.Common.{subst, Some, map}
 use Rattle.std.specs.List.{AllByRecursion, list_all}
 use Rattle.dram_model.specs.declared.address.Cell.TheVariants.{D as CellD}
 use Rattle.mig_graph.specs.Graph.{Graph}
@@ -28,7 +28,8 @@ known : (g : Graph) (outs : List OutRow) (enter leave : List Held) (cmds : List 
     × (IsHeldChecked g outs enter leave cmds → IsTrue a × IsTrue b)
 known g outs enter leave cmds a b sy first i legal unread e f h tells cells =
     let after : sy ≡ symbols_held g outs enter cmds =
-    f ∙ ap (sym_run g (map (bound (own_rows outs)) cmds)) (h ∙ ap (λ k. taken enter (rows_start k enter)) e) in
+    f ∙ ap (sym_run g (map (bound (own_rows outs)) cmds)) (h ∙ ap (λ k. taken enter
+    (rows_start k enter)) e) in
     let All = λ (s : Symbols). AllByRecursion (IsLeft s) leave in (
       λ t u. record {
         legal = rw e at legal;
@@ -61,12 +62,14 @@ returns-then-ends_right-clause-does c = λ t. held-does c.args.m.now c.args.outs
 
 ends-known : (g : Graph) (outs : List OutRow) (enter leave : List Held) (cmds : List BodyCmd)
     (a : Bool) (sy first : Symbols) (i : ℕ) → i ≡ g.inputs
-    → sy ≡ sym_run g (map (bound (own_rows outs)) cmds) first → first ≡ taken enter (rows_start i enter)
+    → sy ≡ sym_run g (map (bound (own_rows outs)) cmds) first
+    → first ≡ taken enter (rows_start i enter)
     → (IsTrue a ↔ ((j : ℕ) → j < length outs → sy (CellD ((own_rows outs).output j))
     ≡ Some (out_at outs j).lit)) → IsHeldChecked g outs enter leave cmds → IsTrue a
 ends-known g outs enter leave cmds a sy first i e f h tells checked =
     let after : sy ≡ symbols_held g outs enter cmds =
-    f ∙ ap (sym_run g (map (bound (own_rows outs)) cmds)) (h ∙ ap (λ k. taken enter (rows_start k enter)) e) in
+    f ∙ ap (sym_run g (map (bound (own_rows outs)) cmds)) (h ∙ ap (λ k. taken enter
+    (rows_start k enter)) e) in
     tells.1 (λ j l. ap (λ (s : Symbols). s (CellD ((own_rows outs).output j))) after
     ∙ checked.ends j l)
 
