@@ -5,11 +5,11 @@
 //! estimate go on. Nothing is promised of the commands. They are taken where they are found right.
 
 use crate::body::{BodyCmd, OutRow};
-use crate::cells::lacking;
+use crate::cells::{Short, lacking};
 use crate::estimate::{estimate, is_ready, points_of_nodes};
 use crate::moves::{Commands, LineUp, Way, complemented, writes};
 use crate::outlook::{State, Task, in_place};
-use mig_graph::{Lit, Mig, NoMemory};
+use mig_graph::{Mig, NoMemory};
 use no_memory::keep;
 use std::alloc::Global;
 use std::mem;
@@ -172,8 +172,8 @@ impl Drop for Beam {
 #[derive(Clone, Copy)]
 struct Candidate {
     node: u8,
-    operands: [Lit; 3],
-    sensed: Lit,
+    operands: [Short; 3],
+    sensed: Short,
     missing: u32,
 }
 

@@ -3,99 +3,175 @@
 ghost use Rattle.std.specs.Prelude.{◌<◌};
 
 use crate::set::Set;
-use mig_graph::{Lit, complement};
+use mig_graph::Lit;
 
-/// What T0 to T3, DCC0 and DCC1 hold: a literal, or nothing that is known.
-pub type Cells = [Option<Lit>; 6];
-
-/// Cells by their d-wordlines, and cells by their n-wordlines.
+/// A literal of a body's graph, or none: twice the number of its node, and one more where it is
+/// inverted.
 #[derive(Clone, Copy, PartialEq, Eq)]
-pub struct Lines {
-    pub straight: Set,
-    pub complemented: Set,
-}
+pub struct Short(u8);
 
-const fn raised(straight: u32, complemented: u32) -> Lines {
-    Lines {
-        straight: Set(straight),
-        complemented: Set(complemented),
+/// No literal.
+pub const NONE: Short = Short(255);
+
+impl Short {
+    /// The literal of a node, or none where its number is no body's.
+    pub fn new(node: u32, inverted: bool) -> Short {
+        if node < 127 {
+            Short(node as u8 * 2 + inverted as u8)
+        } else {
+            NONE
+        }
+    }
+
+    pub fn of(l: Lit) -> Short {
+        Short::new(l.node, l.inverted)
+    }
+
+    /// The number of the literal's node.
+    pub fn node(self) -> u8 {
+        self.0 / 2
+    }
+
+    pub fn is_inverted(self) -> bool {
+        self.0 % 2 == 1
+    }
+
+    pub fn is_some(self) -> bool {
+        self.0 < 254
+    }
+
+    /// The literal of the other value.
+    pub fn complement(self) -> Short {
+        Short(self.0 ^ 1)
     }
 }
 
+/// What T0 to T3, DCC0 and DCC1 hold, as far as it is known: byte k is the literal of cell k.
+#[derive(Clone, Copy, PartialEq, Eq)]
+pub struct Cells(u64);
+
+/// The lowest bit of each byte.
+const LOW: u64 = 0x0101010101010101;
+
+/// The highest bit of each byte.
+const HIGH: u64 = 0x8080808080808080;
+
+/// The highest bit of each byte that is not 0.
+fn not_zero(bytes: u64) -> u64 {
+    ((bytes & !HIGH).wrapping_add(!HIGH) | bytes) & HIGH
+}
+
+/// Bit k is the highest bit of byte k.
+fn gathered(high: u64) -> u32 {
+    (((high & HIGH) >> 7).wrapping_mul(0x0102040810204080) >> 56) as u32
+}
+
+/// Byte k is 255 where bit k is set, of six, else 0.
+fn spread(bits: u32) -> u64 {
+    let low = u64::from(bits & 0x3F).wrapping_mul(0x0002040810204081) & LOW;
+    low.wrapping_mul(0xFF)
+}
+
+impl Cells {
+    /// Cells of which nothing is known.
+    pub fn unknown() -> Cells {
+        Cells(u64::MAX)
+    }
+
+    /// Cells that hold these literals.
+    pub fn of([a, b, c, d, e, f]: [Short; 6]) -> Cells {
+        Cells(u64::from_le_bytes([a.0, b.0, c.0, d.0, e.0, f.0, 255, 255]))
+    }
+
+    /// What the cell of this number holds.
+    pub fn get(self, k: u8) -> Short {
+        if k < 8 {
+            Short((self.0 >> (k * 8) & 0xFF) as u8)
+        } else {
+            NONE
+        }
+    }
+
+    /// The cells of a set hold the literal.
+    pub fn with(self, set: Set, l: Short) -> Cells {
+        let mask = spread(set.0);
+        Cells(self.0 & !mask | u64::from(l.0).wrapping_mul(LOW) & mask)
+    }
+
+    /// The cells that hold the literal.
+    fn holding(self, l: Short) -> u32 {
+        let others = self.0 ^ u64::from(l.0).wrapping_mul(LOW);
+        gathered(!not_zero(others))
+    }
+
+    /// The cells of which something is known.
+    pub fn known(self) -> Set {
+        Set(gathered(not_zero(!self.0)))
+    }
+}
+
+/// Cells by their d-wordlines, and from bit 8 on cells by their n-wordlines.
+#[derive(Clone, Copy, PartialEq, Eq)]
+pub struct Lines(u32);
+
 /// The wordlines that B0 to B15 raise.
+static RAISED: [u32; 16] = [
+    0b1,
+    0b10,
+    0b100,
+    0b1000,
+    0b1_0000,
+    0b1_0000 << 8,
+    0b10_0000,
+    0b10_0000 << 8,
+    0b1 | 0b1_0000 << 8,
+    0b10 | 0b10_0000 << 8,
+    0b1100,
+    0b1001,
+    0b111,
+    0b1110,
+    0b1_0110,
+    0b10_1001,
+];
+
 fn lines_of(y: u8) -> Lines {
-    match y {
-        0 => raised(0b1, 0),
-        1 => raised(0b10, 0),
-        2 => raised(0b100, 0),
-        3 => raised(0b1000, 0),
-        4 => raised(0b1_0000, 0),
-        5 => raised(0, 0b1_0000),
-        6 => raised(0b10_0000, 0),
-        7 => raised(0, 0b10_0000),
-        8 => raised(0b1, 0b1_0000),
-        9 => raised(0b10, 0b10_0000),
-        10 => raised(0b1100, 0),
-        11 => raised(0b1001, 0),
-        12 => raised(0b111, 0),
-        13 => raised(0b1110, 0),
-        14 => raised(0b1_0110, 0),
-        _ => raised(0b10_1001, 0),
+    match RAISED.get(y as usize) {
+        Some(lines) => Lines(*lines),
+        None => Lines(0),
+    }
+}
+
+impl Lines {
+    pub fn straight(self) -> Set {
+        Set(self.0 & 0xFF)
+    }
+
+    pub fn complemented(self) -> Set {
+        Set(self.0 >> 8)
     }
 }
 
 /// The cells that hold the literal, and those that hold its complement.
-pub fn holders(cells: &Cells, l: Lit) -> Lines {
-    let mut found = raised(0, 0);
-    for k in 0..6u8 {
-        if let Some(x) = cells[k as usize]
-            && x.node == l.node
-        {
-            if x.inverted == l.inverted {
-                found.straight = found.straight.with(k);
-            } else {
-                found.complemented = found.complemented.with(k);
-            }
-        }
-    }
-    found
+pub fn holders(cells: &Cells, l: Short) -> Lines {
+    Lines(cells.holding(l) | cells.holding(l.complement()) << 8)
 }
 
 /// Whether a cell holds the node or its complement.
-pub fn has_node(cells: &Cells, node: u32) -> bool {
-    for cell in cells {
-        if let Some(l) = cell
-            && l.node == node
-        {
-            return true;
-        }
-    }
-    false
+pub fn has_node(cells: &Cells, node: u8) -> bool {
+    let nodes = cells.0 & !LOW ^ u64::from(node).wrapping_mul(2 * LOW);
+    not_zero(nodes) != HIGH
 }
 
 /// The cells after an address takes a literal.
-pub fn driven(cells: &Cells, y: u8, l: Lit) -> Cells {
+pub fn driven(cells: &Cells, y: u8, l: Short) -> Cells {
     let lines = lines_of(y);
-    let mut after = *cells;
-    for k in 0..6u8 {
-        if lines.straight.has(k) {
-            after[k as usize] = Some(l);
-        } else if lines.complemented.has(k) {
-            after[k as usize] = Some(complement(l));
-        }
-    }
-    after
+    let straight = cells.with(lines.straight(), l);
+    straight.with(lines.complemented(), l.complement())
 }
 
 /// The cells that do not hold what is wanted of them.
 pub fn lacking(want: &Cells, cells: &Cells) -> Set {
-    let mut set = Set(0);
-    for k in 0..6u8 {
-        if want[k as usize] != None && want[k as usize] != cells[k as usize] {
-            set = set.with(k);
-        }
-    }
-    set
+    Set(gathered(not_zero(want.0 ^ cells.0) & not_zero(!want.0)))
 }
 
 /// The address by which a cell alone is read, straight or complemented.
@@ -111,56 +187,58 @@ pub fn address_of(k: u8, inverted: bool) -> Option<u8> {
 }
 
 /// The address by which a cell gives the literal.
-pub fn reader(cells: &Cells, l: Lit) -> Option<u8> {
+pub fn reader(cells: &Cells, l: Short) -> Option<u8> {
     let found = holders(cells, l);
+    let (straight, complemented) = (found.straight(), found.complemented());
     for k in 0..6u8 {
-        if found.straight.has(k) {
+        if straight.has(k) {
             return address_of(k, false);
         }
-        if found.complemented.has(k) && k > 3 {
+        if complemented.has(k) && k > 3 {
             return address_of(k, true);
         }
     }
     None
 }
 
-/// A literal that is to be put into cells: where it stands, and which cells are free to take it.
+/// A literal that is to be put into cells: what each address would change, and the lines of the
+/// cells in use.
 #[derive(Clone, Copy)]
 pub struct Fill {
-    pub there: Lines,
-    pub free: Set,
+    changes: [u32; 16],
+    used: u32,
 }
 
 impl Fill {
-    /// The wordlines by which an address changes a cell.
-    fn changed(&self, y: u8) -> Lines {
-        let lines = lines_of(y);
-        Lines {
-            straight: lines.straight.minus(self.there.straight),
-            complemented: lines.complemented.minus(self.there.complemented),
+    /// Of a literal that stands there, while these cells are free to take it.
+    pub fn new(there: Lines, free: Set) -> Fill {
+        let mut changes = RAISED;
+        for y in 0..16usize {
+            changes[y] &= !there.0;
+        }
+        Fill {
+            changes,
+            used: !(free.0 & 0xFF | (free.0 & 0xFF) << 8),
         }
     }
 
     /// Whether one address changes the same cells in use as the other, and no fewer free ones.
-    fn is_as_good(&self, x: Lines, y: Lines) -> bool {
-        y.straight.minus(x.straight).is_empty()
-            && y.complemented.minus(x.complemented).is_empty()
-            && x.straight.minus(y.straight).minus(self.free).is_empty()
-            && x.complemented
-                .minus(y.complemented)
-                .minus(self.free)
-                .is_empty()
+    fn is_as_good(&self, x: u32, y: u32) -> bool {
+        y & !x == 0 && x & !y & self.used == 0
     }
 
     /// Whether the address changes a cell, and no other does the same and fills more free cells.
     pub fn is_worth(&self, y: u8) -> bool {
-        let mine = self.changed(y);
-        if mine == raised(0, 0) {
+        let mine = match self.changes.get(y as usize) {
+            Some(mine) => *mine,
+            None => 0,
+        };
+        if mine == 0 {
             return false;
         }
         for z in 0..16u8 {
-            let other = self.changed(z);
-            if z != y && self.is_as_good(other, mine) && (other != mine || z < y) {
+            let other = self.changes[z as usize];
+            if self.is_as_good(other, mine) && z != y && (other != mine || z < y) {
                 return false;
             }
         }
@@ -172,8 +250,8 @@ impl Fill {
 pub fn raises(y: u8, k: u8, complemented: bool) -> bool {
     let lines = lines_of(y);
     if complemented {
-        lines.complemented.has(k)
+        lines.complemented().has(k)
     } else {
-        lines.straight.has(k)
+        lines.straight().has(k)
     }
 }

@@ -1,7 +1,7 @@
 //! How many commands a body takes.
 
-ghost use Rattle.std.specs.Prelude.{◌≡◌, ◌≢◌, ◌<◌, ℕ, IsTrue, IfOk, IfSome, length};
-ghost use Rattle.std.specs.Prelude.{Some};
+ghost use Rattle.std.specs.Prelude.{◌≡◌, ◌≢◌, ◌<◌, ◌≤◌, ◌+◌, ◌↔◌, ℕ, IsTrue, IfOk};
+ghost use Rattle.std.specs.Prelude.{IfSome, IfNone, Some, length};
 ghost use Rattle.row_alloc.specs.Rows.{out_at};
 ghost use Rattle.row_alloc.specs.Body.{FitBody, IsLengthOf};
 
@@ -10,17 +10,25 @@ use crate::greedy::{greedy_body, quick_body};
 use mig_graph::{Mig, NoMemory};
 use std::alloc::Global;
 
-/// Whether each literal names one of so many nodes, and each row is one of so many inputs'.
-fn are_within(outs: &[OutRow], nodes: u32, inputs: u8) -> bool
-    ensures named { IsTrue result → (j : ℕ) → j < length outs.now
-        → (out_at outs.now j).lit.node < nodes }
-    ensures same { IsTrue result → (j k : ℕ) → j < length outs.now
-        → (out_at outs.now j).same ≡ Some k → k < inputs }
+/// Whether each literal names one of so many nodes.
+fn are_named(outs: &[OutRow], nodes: u32) -> bool
+    ensures { IsTrue result ↔ ((j : ℕ) → j < length outs.now
+        → (out_at outs.now j).lit.node < nodes) }
 {
     for j in 0..outs.len() {
         if outs[j].lit.node >= nodes {
             return false;
         }
+    }
+    true
+}
+
+/// Whether each row is one of so many inputs'.
+fn are_inputs(outs: &[OutRow], inputs: u8) -> bool
+    ensures { IsTrue result ↔ ((j k : ℕ) → j < length outs.now
+        → (out_at outs.now j).same ≡ Some k → k < inputs) }
+{
+    for j in 0..outs.len() {
         if let Some(k) = outs[j].same
             && k >= inputs
         {
@@ -33,11 +41,13 @@ fn are_within(outs: &[OutRow], nodes: u32, inputs: u8) -> bool
 /// Whether no output before this one stands in its row.
 fn is_alone(outs: &[OutRow], j: usize) -> bool
     requires { j < length outs.now }
-    ensures { IsTrue result → (i k : ℕ) → i < j → (out_at outs.now i).same ≡ Some k
-        → (out_at outs.now j).same ≢ Some k }
+    ensures { IsTrue result ↔ ((i k : ℕ) → i < j → (out_at outs.now i).same ≡ Some k
+        → (out_at outs.now j).same ≢ Some k) }
 {
     for i in 0..j {
-        if outs[i].same.is_some() && outs[i].same == outs[j].same {
+        if let Some(k) = outs[i].same
+            && outs[j].same == Some(k)
+        {
             return false;
         }
     }
@@ -46,8 +56,8 @@ fn is_alone(outs: &[OutRow], j: usize) -> bool
 
 /// Whether no two outputs stand in one row.
 fn are_alone(outs: &[OutRow]) -> bool
-    ensures { IsTrue result → (i j k : ℕ) → i < j → j < length outs.now
-        → (out_at outs.now i).same ≡ Some k → (out_at outs.now j).same ≢ Some k }
+    ensures { IsTrue result ↔ ((i j k : ℕ) → i < j → j < length outs.now
+        → (out_at outs.now i).same ≡ Some k → (out_at outs.now j).same ≢ Some k) }
 {
     for j in 0..outs.len() {
         if !is_alone(outs, j) {
@@ -57,21 +67,29 @@ fn are_alone(outs: &[OutRow]) -> bool
     true
 }
 
-/// Whether commands can be made of the body.
-fn fits(m: &Mig, outs: &[OutRow]) -> bool
-    ensures { IsTrue result → FitBody m.now outs.now }
+/// Whether there are few enough inputs, outputs and nodes.
+fn has_room(m: &Mig, outs: &[OutRow]) -> bool
+    ensures { IsTrue result ↔ ((m.now.inputs ≤ 80) × (length outs.now ≤ 8)
+        × (length m.now.nodes + length outs.now ≤ 32)) }
 {
     let inputs = m.inputs();
-    let size = m.size();
-    if inputs > 80 || outs.len() > 8 || size > inputs as u32 + 33 - outs.len() as u32 {
-        return false;
-    }
-    are_within(outs, size, inputs) && are_alone(outs)
+    inputs <= 80 && outs.len() <= 8 && m.size() <= inputs as u32 + 33 - outs.len() as u32
+}
+
+/// Whether commands can be made of the body.
+fn fits(m: &Mig, outs: &[OutRow]) -> bool
+    ensures { IsTrue result ↔ FitBody m.now outs.now }
+{
+    has_room(m, outs)
+        && are_named(outs, m.size())
+        && are_inputs(outs, m.inputs())
+        && are_alone(outs)
 }
 
 /// How many commands the greedy body takes, if commands can be made of the body.
 pub fn commands_of(m: &Mig, outs: &[OutRow], alloc: Global) -> Result<Option<usize>, NoMemory>
-    ensures { IfOk result (λ o. IfSome o (IsLengthOf m.now outs.now)) }
+    ensures some { IfOk result (λ o. IfSome o (IsLengthOf m.now outs.now)) }
+    ensures none { IfOk result (λ o. IfNone o (FitBody m.now outs.now → ⊥)) }
 {
     if !fits(m, outs) {
         return Ok(None);
@@ -82,7 +100,8 @@ pub fn commands_of(m: &Mig, outs: &[OutRow], alloc: Global) -> Result<Option<usi
 
 /// The same of a body that is found in less time. The greedy body takes no more.
 pub fn quick_commands_of(m: &Mig, outs: &[OutRow], alloc: Global) -> Result<Option<usize>, NoMemory>
-    ensures { IfOk result (λ o. IfSome o (IsLengthOf m.now outs.now)) }
+    ensures some { IfOk result (λ o. IfSome o (IsLengthOf m.now outs.now)) }
+    ensures none { IfOk result (λ o. IfNone o (FitBody m.now outs.now → ⊥)) }
 {
     if !fits(m, outs) {
         return Ok(None);

@@ -1,19 +1,18 @@
 //! How many commands a state may still take, in twentieths of a command.
 
-use crate::cells::holders;
+use crate::cells::{Short, holders};
 use crate::outlook::{State, Task, in_place};
 use crate::set::Set;
-use mig_graph::Lit;
 
 /// Four commands.
 const NODE: u32 = 80;
 
 /// A node, less what it gains by operands that are made before it and then stand in cells.
-fn node_points(task: &Task, s: &State, operands: [Lit; 3]) -> u32 {
+fn node_points(task: &Task, s: &State, operands: [Short; 3]) -> u32 {
     let mut points = NODE;
     for l in operands {
-        if task.is_unmade(s, l.node) {
-            let is_shared = task.readers(l.node).and(s.unmade).len() > 1;
+        if task.is_unmade(s, l.node()) {
+            let is_shared = task.readers(l.node()).and(s.unmade).len() > 1;
             points = points.saturating_sub(if is_shared { 15 } else { 20 });
         }
     }
@@ -23,23 +22,21 @@ fn node_points(task: &Task, s: &State, operands: [Lit; 3]) -> u32 {
 /// The nodes that must still be made, wherever the values stand.
 pub fn points_of_nodes(task: &Task, s: &State) -> u32 {
     let mut points = 0u32;
-    for k in 0..32u8 {
-        if s.unmade.has(k)
-            && let Some(operands) = task.operands(k)
-        {
-            points = points.saturating_add(node_points(task, s, operands));
+    for (k, operands) in task.nodes().iter().enumerate() {
+        if k < 32 && s.unmade.has(k as u8) {
+            points = points.saturating_add(node_points(task, s, *operands));
         }
     }
     points
 }
 
 /// Whether each operand has been made.
-pub fn is_ready(task: &Task, s: &State, [a, b, c]: [Lit; 3]) -> bool {
-    !task.is_unmade(s, a.node) && !task.is_unmade(s, b.node) && !task.is_unmade(s, c.node)
+pub fn is_ready(task: &Task, s: &State, [a, b, c]: [Short; 3]) -> bool {
+    !task.is_unmade(s, a.node()) && !task.is_unmade(s, b.node()) && !task.is_unmade(s, c.node())
 }
 
 /// What a node gains by operands that stand in place.
-fn gain(task: &Task, s: &State, operands: [Lit; 3]) -> u32 {
+fn gain(task: &Task, s: &State, operands: [Short; 3]) -> u32 {
     let [straight, complemented] = in_place(&s.cells, operands);
     let most = u32::max(straight, complemented);
     match (is_ready(task, s, operands), most) {
@@ -56,9 +53,10 @@ fn gain(task: &Task, s: &State, operands: [Lit; 3]) -> u32 {
 /// The nodes that must still be made and read what stands in a cell.
 fn touched(task: &Task, s: &State) -> Set {
     let mut set = Set(0);
-    for cell in s.cells {
-        if let Some(l) = cell {
-            set = set.or(task.readers(l.node));
+    for k in 0..6u8 {
+        let l = s.cells.get(k);
+        if l.is_some() {
+            set = set.or(task.readers(l.node()));
         }
     }
     set.and(s.unmade)
@@ -67,20 +65,18 @@ fn touched(task: &Task, s: &State) -> Set {
 fn gains(task: &Task, s: &State) -> u32 {
     let set = touched(task, s);
     let mut points = 0u32;
-    for k in 0..32u8 {
-        if set.has(k)
-            && let Some(operands) = task.operands(k)
-        {
-            points = points.saturating_add(gain(task, s, operands));
+    for (k, operands) in task.nodes().iter().enumerate() {
+        if k < 32 && set.has(k as u8) {
+            points = points.saturating_add(gain(task, s, *operands));
         }
     }
     points
 }
 
 /// One or two commands for an output that is made, and little for one that is not.
-fn output_points(task: &Task, s: &State, l: Lit) -> u32 {
-    if task.is_unmade(s, l.node) {
-        if l.inverted { 20 } else { 2 }
+fn output_points(task: &Task, s: &State, l: Short) -> u32 {
+    if task.is_unmade(s, l.node()) {
+        if l.is_inverted() { 20 } else { 2 }
     } else if task.source(s, l).is_some() {
         20
     } else {
@@ -90,9 +86,9 @@ fn output_points(task: &Task, s: &State, l: Lit) -> u32 {
 
 fn points_of_outputs(task: &Task, s: &State) -> u32 {
     let mut points = 0u32;
-    for (j, out) in task.outs.iter().enumerate() {
+    for (j, out) in task.outs().iter().enumerate() {
         if j < 8 && s.unwritten.has(j as u8) {
-            points = points.saturating_add(output_points(task, s, out.lit));
+            points = points.saturating_add(output_points(task, s, *out));
         }
     }
     points
@@ -103,15 +99,13 @@ fn points_of_cells(task: &Task, s: &State) -> u32 {
     let mut points = 0u32;
     let mut seen = Set(0);
     for k in 0..6u8 {
-        if let Some(l) = s.cells[k as usize]
-            && !seen.has(k)
-            && task.is_made(l.node)
-        {
+        let l = s.cells.get(k);
+        if l.is_some() && !seen.has(k) && task.is_made(l.node()) {
             let held = holders(&s.cells, l);
-            let copies = held.straight.or(held.complemented);
+            let copies = held.straight().or(held.complemented());
             seen = seen.or(copies);
-            let readers = task.readers(l.node).and(s.unmade).len();
-            if copies.len() < readers && !task.is_in_rows(s, l.node) {
+            let readers = task.readers(l.node()).and(s.unmade).len();
+            if copies.len() < readers && !task.is_in_rows(s, l.node()) {
                 points = points.saturating_add(14);
             }
         }

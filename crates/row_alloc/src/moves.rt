@@ -2,10 +2,10 @@
 
 use crate::body::BodyCmd::{self, Aap, Ap};
 use crate::body::BodyRef::{B, Out, Spill};
-use crate::cells::{Cells, Fill, address_of, driven, holders, lacking, raises};
+use crate::cells::{Cells, Fill, NONE, Short, address_of, driven, holders, lacking, raises};
 use crate::outlook::{State, Task};
 use crate::set::Set;
-use mig_graph::{Lit, NoMemory, complement};
+use mig_graph::NoMemory;
 use no_memory::keep;
 
 /// The most ways that are tried to bring the operands of a node in line.
@@ -84,22 +84,21 @@ pub struct LineUp {
     pub node: u8,
     pub triple: u8,
     pub want: Cells,
-    pub sensed: Lit,
+    pub sensed: Short,
 }
 
 /// The three literals in the cells of B12 to B15.
-fn placed(triple: u8, [a, b, c]: [Lit; 3]) -> Cells {
-    let (a, b, c) = (Some(a), Some(b), Some(c));
-    match triple {
-        12 => [a, b, c, None, None, None],
-        13 => [None, a, b, c, None, None],
-        14 => [None, a, b, None, c, None],
-        _ => [a, None, None, b, None, c],
-    }
+fn placed(triple: u8, [a, b, c]: [Short; 3]) -> Cells {
+    Cells::of(match triple {
+        12 => [a, b, c, NONE, NONE, NONE],
+        13 => [NONE, a, b, c, NONE, NONE],
+        14 => [NONE, a, b, NONE, c, NONE],
+        _ => [a, NONE, NONE, b, NONE, c],
+    })
 }
 
 /// The six orders of three literals.
-fn ordered(order: u8, [a, b, c]: [Lit; 3]) -> [Lit; 3] {
+fn ordered(order: u8, [a, b, c]: [Short; 3]) -> [Short; 3] {
     match order {
         0 => [a, b, c],
         1 => [a, c, b],
@@ -111,13 +110,13 @@ fn ordered(order: u8, [a, b, c]: [Lit; 3]) -> [Lit; 3] {
 }
 
 /// The complements of three literals.
-pub fn complemented([a, b, c]: [Lit; 3]) -> [Lit; 3] {
-    [complement(a), complement(b), complement(c)]
+pub fn complemented([a, b, c]: [Short; 3]) -> [Short; 3] {
+    [a.complement(), b.complement(), c.complement()]
 }
 
 impl LineUp {
     /// The line-up of this number below 24, for the node's literals or their complements.
-    pub fn new(number: u8, node: u8, operands: [Lit; 3], sensed: Lit) -> LineUp {
+    pub fn new(number: u8, node: u8, operands: [Short; 3], sensed: Short) -> LineUp {
         let triple = 12 + number / 6 % 4;
         let want = placed(triple, ordered(number % 6, operands));
         LineUp {
@@ -129,18 +128,15 @@ impl LineUp {
     }
 
     /// What a cell should hold.
-    fn wanted_of(&self, k: u8) -> Option<Lit> {
-        self.want.get(k as usize).copied().flatten()
+    fn wanted_of(&self, k: u8) -> Option<Short> {
+        let l = self.want.get(k);
+        if l.is_some() { Some(l) } else { None }
     }
 
     /// The state after the triple is activated.
     fn activated(&self, s: &State) -> State {
         let mut after = *s;
-        for k in 0..6u8 {
-            if self.want[k as usize] != None {
-                after.cells[k as usize] = Some(self.sensed);
-            }
-        }
+        after.cells = s.cells.with(self.want.known(), self.sensed);
         after.unmade = s.unmade.without(self.node);
         after
     }
@@ -152,10 +148,10 @@ impl LineUp {
             return false;
         }
         for k in 0..6u8 {
+            let l = self.want.get(k);
             if lacks.has(k)
-                && let Some(l) = self.want[k as usize]
                 && task.source(s, l).is_none()
-                && (k < 4 || task.source(s, complement(l)).is_none())
+                && (k < 4 || task.source(s, l.complement()).is_none())
             {
                 return false;
             }
@@ -170,17 +166,15 @@ impl LineUp {
         way: &Way,
         k: u8,
         is_complemented: bool,
-        l: Lit,
+        l: Short,
         ways: &mut Vec<Way>,
     ) -> Result<(), NoMemory> {
         let Some(from) = task.source(&way.state, l) else {
             return Ok(());
         };
         let lacked = lacking(&self.want, &way.state.cells);
-        let fill = Fill {
-            there: holders(&way.state.cells, l),
-            free: task.free_cells(&way.state).or(lacked),
-        };
+        let free = task.free_cells(&way.state).or(lacked);
+        let fill = Fill::new(holders(&way.state.cells, l), free);
         for y in 0..16u8 {
             if raises(y, k, is_complemented) && fill.is_worth(y) {
                 let mut state = way.state;
@@ -200,7 +194,7 @@ impl LineUp {
         };
         self.load(task, way, k, false, l, ways)?;
         if k > 3 {
-            self.load(task, way, k, true, complement(l), ways)?;
+            self.load(task, way, k, true, l.complement(), ways)?;
         }
         Ok(())
     }
@@ -211,13 +205,10 @@ impl LineUp {
         task: &Task,
         way: &Way,
         from: u8,
-        l: Lit,
+        l: Short,
         ways: &mut Vec<Way>,
     ) -> Result<(), NoMemory> {
-        let fill = Fill {
-            there: holders(&way.state.cells, l),
-            free: task.free_cells(&way.state),
-        };
+        let fill = Fill::new(holders(&way.state.cells, l), task.free_cells(&way.state));
         for y in 0..16u8 {
             if fill.is_worth(y) {
                 let mut state = way.state;
@@ -244,7 +235,7 @@ impl LineUp {
         let (Some(l), Some(from)) = (self.wanted_of(k), address_of(k, inverted)) else {
             return Ok(());
         };
-        let l = if inverted { complement(l) } else { l };
+        let l = if inverted { l.complement() } else { l };
         self.save_in_cells(task, way, from, l, ways)?;
         if let Some(spill) = task.spill_of(l) {
             let mut state = way.state;
@@ -260,9 +251,8 @@ impl LineUp {
     fn saves(&self, task: &Task, way: &Way, ways: &mut Vec<Way>) -> Result<(), NoMemory> {
         let after = self.activated(&way.state);
         for k in 0..6u8 {
-            if let Some(l) = self.want[k as usize]
-                && task.is_lost(&after, l.node)
-            {
+            let l = self.want.get(k);
+            if l.is_some() && task.is_lost(&after, l.node()) {
                 self.save(task, way, k, false, ways)?;
                 self.save(task, way, k, true, ways)?;
             }
@@ -297,10 +287,7 @@ impl LineUp {
     fn end_in_cells(&self, task: &Task, way: &Way, ends: &mut Vec<Way>) -> Result<(), NoMemory> {
         let after = self.activated(&way.state);
         keep(ends, way.then(after, Ap(B(self.triple))))?;
-        let fill = Fill {
-            there: holders(&after.cells, self.sensed),
-            free: task.free_cells(&after),
-        };
+        let fill = Fill::new(holders(&after.cells, self.sensed), task.free_cells(&after));
         for y in 0..16u8 {
             if fill.is_worth(y) {
                 let mut state = after;
@@ -344,7 +331,7 @@ fn write_complemented(
     task: &Task,
     s: &State,
     j: u8,
-    l: Lit,
+    l: Short,
     ends: &mut Vec<Way>,
 ) -> Result<(), NoMemory> {
     let Some(from) = task.source(s, l) else {
@@ -365,11 +352,11 @@ pub fn writes(task: &Task, s: &State, j: u8, ends: &mut Vec<Way>) -> Result<(), 
     let Some(l) = task.output(j) else {
         return Ok(());
     };
-    if !s.unwritten.has(j) || task.is_unmade(s, l.node) {
+    if !s.unwritten.has(j) || task.is_unmade(s, l.node()) {
         return Ok(());
     }
     let Some(from) = task.source(s, l) else {
-        return write_complemented(task, s, j, complement(l), ends);
+        return write_complemented(task, s, j, l.complement(), ends);
     };
     let mut state = *s;
     state.unwritten = state.unwritten.without(j);

@@ -3,9 +3,9 @@
 
 use crate::body::BodyRef::{self, B, C, In, Out, Spill};
 use crate::body::OutRow;
-use crate::cells::{Cells, has_node, holders, reader};
+use crate::cells::{Cells, Short, has_node, holders, reader};
 use crate::set::Set;
-use mig_graph::{Lit, Mig, NoMemory, complement};
+use mig_graph::{Mig, NoMemory};
 use no_memory::keep;
 use std::alloc::Global;
 
@@ -21,11 +21,6 @@ pub struct State {
     pub unwritten: Set,
 }
 
-/// The node of an input.
-fn node_of_input(k: u8) -> u32 {
-    u32::from(k) + 1
-}
-
 impl State {
     /// How many steps are left: nodes to be made, and outputs to be written.
     pub fn left(&self) -> u32 {
@@ -33,12 +28,29 @@ impl State {
     }
 }
 
-/// A graph with its outputs, and the nodes and the outputs that read each node.
+/// What reads a node: the majority nodes, the outputs that are it or its complement, and the
+/// outputs that stand in its row, where it is an input.
+#[derive(Clone, Copy)]
+struct Uses {
+    readers: Set,
+    named: Set,
+    taken: Set,
+}
+
+const UNUSED: Uses = Uses {
+    readers: Set(0),
+    named: Set(0),
+    taken: Set(0),
+};
+
+/// A graph with its outputs, and what reads each node.
 pub struct Task {
     inputs: u8,
-    nodes: Vec<[Lit; 3]>,
-    pub outs: Vec<OutRow>,
-    readers: Vec<Set>,
+    nodes: Vec<[Short; 3]>,
+    outs: Vec<Short>,
+    uses: Vec<Uses>,
+    /// The inputs in whose rows outputs stand.
+    taken: Vec<u8>,
 }
 
 impl Drop for Task {
@@ -47,109 +59,162 @@ impl Drop for Task {
             inputs: _,
             nodes: _,
             outs: _,
-            readers: _,
+            uses: _,
+            taken: _,
         } = self;
     }
+}
+
+/// The three literals of each majority node.
+fn nodes_of(m: &Mig, alloc: Global) -> Result<Vec<[Short; 3]>, NoMemory> {
+    let mut nodes = Vec::new(alloc);
+    for k in u32::from(m.inputs()) + 1..m.size() {
+        let [a, b, c] = m.node(k);
+        keep(&mut nodes, [Short::of(a), Short::of(b), Short::of(c)])?;
+    }
+    Ok(nodes)
+}
+
+/// The literal of each output.
+fn literals_of(outs: &[OutRow], alloc: Global) -> Result<Vec<Short>, NoMemory> {
+    let mut literals = Vec::new(alloc);
+    for out in outs {
+        keep(&mut literals, Short::of(out.lit))?;
+    }
+    Ok(literals)
+}
+
+/// The inputs in whose rows outputs stand.
+fn taken_of(outs: &[OutRow], alloc: Global) -> Result<Vec<u8>, NoMemory> {
+    let mut taken = Vec::new(alloc);
+    for out in outs {
+        if let Some(k) = out.same {
+            keep(&mut taken, k)?;
+        }
+    }
+    Ok(taken)
+}
+
+/// The majority nodes that read a node.
+fn readers_of(nodes: &[[Short; 3]], node: u8) -> Set {
+    let mut set = Set(0);
+    for (k, [a, b, c]) in nodes.iter().enumerate() {
+        if k < 32 && (a.node() == node || b.node() == node || c.node() == node) {
+            set = set.with(k as u8);
+        }
+    }
+    set
+}
+
+/// The outputs that are the node or its complement.
+fn named_by(outs: &[Short], node: u8) -> Set {
+    let mut set = Set(0);
+    for (j, out) in outs.iter().enumerate() {
+        if j < 8 && out.node() == node {
+            set = set.with(j as u8);
+        }
+    }
+    set
+}
+
+/// The outputs that stand in the row of the node, where it is an input.
+fn taking(outs: &[OutRow], node: u8) -> Set {
+    let mut set = Set(0);
+    for (j, out) in outs.iter().enumerate() {
+        if j < 8
+            && let Some(k) = out.same
+            && k < 255
+            && k + 1 == node
+        {
+            set = set.with(j as u8);
+        }
+    }
+    set
 }
 
 impl Task {
     /// The graph's nodes and outputs.
     pub fn new(m: &Mig, outs: &[OutRow], alloc: Global) -> Result<Task, NoMemory> {
-        let mut nodes = Vec::new(alloc);
-        for k in u32::from(m.inputs()) + 1..m.size() {
-            keep(&mut nodes, m.node(k))?;
-        }
         let mut task = Task {
             inputs: m.inputs(),
-            nodes,
-            outs: outs.to_vec(alloc)?,
-            readers: Vec::new(alloc),
+            nodes: nodes_of(m, alloc)?,
+            outs: literals_of(outs, alloc)?,
+            uses: Vec::new(alloc),
+            taken: taken_of(outs, alloc)?,
         };
-        for node in 0..m.size() {
-            let set = task.find_readers(node);
-            keep(&mut task.readers, set)?;
+        for node in 0..128u8 {
+            let uses = Uses {
+                readers: readers_of(&task.nodes, node),
+                named: named_by(&task.outs, node),
+                taken: taking(outs, node),
+            };
+            keep(&mut task.uses, uses)?;
         }
         Ok(task)
     }
 
     /// The three literals of a majority node.
-    pub fn operands(&self, k: u8) -> Option<[Lit; 3]> {
+    pub fn operands(&self, k: u8) -> Option<[Short; 3]> {
         self.nodes.get(k as usize).copied()
     }
 
+    /// The three literals of all majority nodes.
+    pub fn nodes(&self) -> &[[Short; 3]] {
+        &self.nodes
+    }
+
+    /// The literal of each output.
+    pub fn outs(&self) -> &[Short] {
+        &self.outs
+    }
+
     /// The literal of an output.
-    pub fn output(&self, j: u8) -> Option<Lit> {
-        let out = self.outs.get(j as usize)?;
-        Some(out.lit)
+    pub fn output(&self, j: u8) -> Option<Short> {
+        self.outs.get(j as usize).copied()
     }
 
     /// The spill row of a majority node that is not complemented.
-    pub fn spill_of(&self, l: Lit) -> Option<u8> {
-        if l.inverted {
+    pub fn spill_of(&self, l: Short) -> Option<u8> {
+        if l.is_inverted() {
             None
         } else {
-            self.majority(l.node)
+            self.majority(l.node())
         }
     }
 
     /// The literal of a majority node, or its complement.
-    pub fn lit_of(&self, k: u8, inverted: bool) -> Lit {
-        let node = u32::from(self.inputs) + 1 + u32::from(k);
-        Lit { node, inverted }
+    pub fn lit_of(&self, k: u8, inverted: bool) -> Short {
+        Short::new(u32::from(self.inputs) + 1 + u32::from(k), inverted)
     }
 
     /// The number of a node among the majority nodes, or none for an input or the constant.
-    fn majority(&self, node: u32) -> Option<u8> {
-        let first = u32::from(self.inputs) + 1;
-        if node >= first && node - first < 32 {
-            Some((node - first) as u8)
+    fn majority(&self, node: u8) -> Option<u8> {
+        if node > self.inputs && node - self.inputs - 1 < 32 {
+            Some(node - self.inputs - 1)
         } else {
             None
         }
     }
 
     /// Whether it is a majority node.
-    pub fn is_made(&self, node: u32) -> bool {
+    pub fn is_made(&self, node: u8) -> bool {
         self.majority(node).is_some()
     }
 
-    /// Whether a majority node reads a node.
-    fn reads(&self, k: u8, node: u32) -> bool {
-        let Some(operands) = self.operands(k) else {
-            return false;
-        };
-        let [a, b, c] = operands;
-        a.node == node || b.node == node || c.node == node
-    }
-
-    fn find_readers(&self, node: u32) -> Set {
-        let mut set = Set(0);
-        for k in 0..32u8 {
-            if self.reads(k, node) {
-                set = set.with(k);
-            }
+    fn uses(&self, node: u8) -> Uses {
+        match self.uses.get(node as usize) {
+            Some(uses) => *uses,
+            None => UNUSED,
         }
-        set
     }
 
     /// The majority nodes that read a node.
-    pub fn readers(&self, node: u32) -> Set {
-        self.readers.get(node as usize).copied().unwrap_or(Set(0))
-    }
-
-    /// The outputs that are the node or its complement.
-    pub fn named_by(&self, node: u32) -> Set {
-        let mut set = Set(0);
-        for (j, out) in self.outs.iter().enumerate() {
-            if j < 8 && out.lit.node == node {
-                set = set.with(j as u8);
-            }
-        }
-        set
+    pub fn readers(&self, node: u8) -> Set {
+        self.uses(node).readers
     }
 
     /// Whether the node has still to be made.
-    pub fn is_unmade(&self, s: &State, node: u32) -> bool {
+    pub fn is_unmade(&self, s: &State, node: u8) -> bool {
         match self.majority(node) {
             Some(k) => s.unmade.has(k),
             None => false,
@@ -157,24 +222,19 @@ impl Task {
     }
 
     /// Whether a node that must be made or an output that must be written reads the node.
-    pub fn is_wanted(&self, s: &State, node: u32) -> bool {
-        self.readers(node).meets(s.unmade) || self.named_by(node).meets(s.unwritten)
-    }
-
-    /// Whether an output that is written has taken the input's row.
-    fn is_taken(&self, s: &State, input: u8) -> bool {
-        for (j, out) in self.outs.iter().enumerate() {
-            if j < 8 && out.same == Some(input) && !s.unwritten.has(j as u8) {
-                return true;
-            }
-        }
-        false
+    pub fn is_wanted(&self, s: &State, node: u8) -> bool {
+        let uses = self.uses(node);
+        uses.readers.meets(s.unmade) || uses.named.meets(s.unwritten)
     }
 
     /// The row of a written output that is this literal.
-    fn written_row(&self, s: &State, l: Lit) -> Option<BodyRef> {
+    fn written_row(&self, s: &State, l: Short) -> Option<BodyRef> {
+        let written = self.uses(l.node()).named.minus(s.unwritten);
+        if written.is_empty() {
+            return None;
+        }
         for (j, out) in self.outs.iter().enumerate() {
-            if j < 8 && out.lit == l && !s.unwritten.has(j as u8) {
+            if j < 8 && *out == l && written.has(j as u8) {
                 return Some(Out(j as u8));
             }
         }
@@ -182,23 +242,23 @@ impl Task {
     }
 
     /// The row that a node has for itself, as an input or by a spill, where its value still stands.
-    fn own_row(&self, s: &State, node: u32) -> Option<BodyRef> {
+    fn own_row(&self, s: &State, node: u8) -> Option<BodyRef> {
         match self.majority(node) {
             Some(k) if s.spilled.has(k) => Some(Spill(k)),
-            None if 0 < node && node < 256 && !self.is_taken(s, (node - 1) as u8) => {
-                Some(In((node - 1) as u8))
+            None if 0 < node && self.uses(node).taken.minus(s.unwritten).is_empty() => {
+                Some(In(node - 1))
             }
             _ => None,
         }
     }
 
     /// A row that holds the literal.
-    pub fn row_of(&self, s: &State, l: Lit) -> Option<BodyRef> {
-        if l.node == 0 {
-            return Some(C(u8::from(l.inverted)));
+    pub fn row_of(&self, s: &State, l: Short) -> Option<BodyRef> {
+        if l.node() == 0 {
+            return Some(C(u8::from(l.is_inverted())));
         }
-        if !l.inverted
-            && let Some(row) = self.own_row(s, l.node)
+        if !l.is_inverted()
+            && let Some(row) = self.own_row(s, l.node())
         {
             return Some(row);
         }
@@ -206,14 +266,13 @@ impl Task {
     }
 
     /// Whether a row holds the node or its complement.
-    pub fn is_in_rows(&self, s: &State, node: u32) -> bool {
-        let inverted = false;
-        let l = Lit { node, inverted };
-        self.row_of(s, l).is_some() || self.row_of(s, complement(l)).is_some()
+    pub fn is_in_rows(&self, s: &State, node: u8) -> bool {
+        let written = self.uses(node).named.minus(s.unwritten);
+        node == 0 || !written.is_empty() || self.own_row(s, node).is_some()
     }
 
     /// A row or a cell that gives the literal.
-    pub fn source(&self, s: &State, l: Lit) -> Option<BodyRef> {
+    pub fn source(&self, s: &State, l: Short) -> Option<BodyRef> {
         if let Some(row) = self.row_of(s, l) {
             return Some(row);
         }
@@ -222,16 +281,15 @@ impl Task {
     }
 
     /// Whether the node is wanted and stands nowhere any more.
-    pub fn is_lost(&self, s: &State, node: u32) -> bool {
+    pub fn is_lost(&self, s: &State, node: u8) -> bool {
         self.is_wanted(s, node) && !has_node(&s.cells, node) && !self.is_in_rows(s, node)
     }
 
     /// Whether a value is lost that stood in the cells.
     fn loses_cell(&self, before: &Cells, s: &State) -> bool {
-        for cell in before {
-            if let Some(l) = cell
-                && self.is_lost(s, l.node)
-            {
+        for k in 0..6u8 {
+            let l = before.get(k);
+            if l.is_some() && self.is_lost(s, l.node()) {
                 return true;
             }
         }
@@ -240,10 +298,8 @@ impl Task {
 
     /// Whether an output has taken the row of an input that is wanted and stands nowhere else.
     fn loses_input(&self, s: &State) -> bool {
-        for out in &self.outs {
-            if let Some(k) = out.same
-                && self.is_lost(s, node_of_input(k))
-            {
+        for k in &self.taken {
+            if self.is_lost(s, k.saturating_add(1)) {
                 return true;
             }
         }
@@ -260,14 +316,14 @@ impl Task {
         let outs = self.outs.len();
         let unwritten = Set::below(if outs < 8 { outs as u8 } else { 8 });
         let mut s = State {
-            cells: [None; 6],
+            cells: Cells::unknown(),
             spilled: Set(0),
             unmade: Set(0),
             unwritten,
         };
         for back in 0..32u8 {
             let k = 31 - back;
-            if self.operands(k).is_some() && self.is_wanted(&s, self.lit_of(k, false).node) {
+            if self.operands(k).is_some() && self.is_wanted(&s, self.lit_of(k, false).node()) {
                 s.unmade = s.unmade.with(k);
             }
         }
@@ -276,30 +332,21 @@ impl Task {
 
     /// Whether each wanted value stands in a row.
     pub fn is_safe(&self, s: &State) -> bool {
-        for cell in &s.cells {
-            if let Some(l) = cell
-                && self.is_wanted(s, l.node)
-                && !self.is_in_rows(s, l.node)
-            {
+        for k in 0..6u8 {
+            let l = s.cells.get(k);
+            if l.is_some() && self.is_wanted(s, l.node()) && !self.is_in_rows(s, l.node()) {
                 return false;
             }
         }
         true
     }
 
-    /// Whether a cell holds what is wanted.
-    fn is_used(&self, s: &State, cell: Option<Lit>) -> bool {
-        match cell {
-            Some(l) => self.is_wanted(s, l.node),
-            None => false,
-        }
-    }
-
     /// The cells whose value nothing wants.
     pub fn free_cells(&self, s: &State) -> Set {
         let mut set = Set(0);
         for k in 0..6u8 {
-            if !self.is_used(s, s.cells[k as usize]) {
+            let l = s.cells.get(k);
+            if !l.is_some() || !self.is_wanted(s, l.node()) {
                 set = set.with(k);
             }
         }
@@ -307,25 +354,42 @@ impl Task {
     }
 }
 
-/// The cells of B12 to B15.
-const TRIPLES: [Set; 4] = [Set(0b111), Set(0b1110), Set(0b1_0110), Set(0b10_1001)];
+/// For each set of cells a digit of four bits for each of B12 to B15: 1 where one of its cells is in
+/// the set.
+static MET: [u16; 64] = [
+    0x0000, 0x1001, 0x0111, 0x1111, 0x0111, 0x1111, 0x0111, 0x1111, 0x1010, 0x1011, 0x1111, 0x1111,
+    0x1111, 0x1111, 0x1111, 0x1111, 0x0100, 0x1101, 0x0111, 0x1111, 0x0111, 0x1111, 0x0111, 0x1111,
+    0x1110, 0x1111, 0x1111, 0x1111, 0x1111, 0x1111, 0x1111, 0x1111, 0x1000, 0x1001, 0x1111, 0x1111,
+    0x1111, 0x1111, 0x1111, 0x1111, 0x1010, 0x1011, 0x1111, 0x1111, 0x1111, 0x1111, 0x1111, 0x1111,
+    0x1100, 0x1101, 0x1111, 0x1111, 0x1111, 0x1111, 0x1111, 0x1111, 0x1110, 0x1111, 0x1111, 0x1111,
+    0x1111, 0x1111, 0x1111, 0x1111,
+];
 
-fn count_in(triple: Set, [a, b, c]: [Set; 3]) -> u32 {
-    u32::from(a.meets(triple)) + u32::from(b.meets(triple)) + u32::from(c.meets(triple))
+fn met(cells: Set) -> u16 {
+    match MET.get(cells.0 as usize) {
+        Some(met) => *met,
+        None => 0,
+    }
+}
+
+/// The greatest of four digits.
+fn most(digits: u16) -> u32 {
+    let a = u16::max(digits & 15, digits >> 4 & 15);
+    let b = u16::max(digits >> 8 & 15, digits >> 12 & 15);
+    u32::from(u16::max(a, b))
+}
+
+/// In how many of three sets the best of the triples has a cell.
+fn best(a: Set, b: Set, c: Set) -> u32 {
+    most(met(a).wrapping_add(met(b)).wrapping_add(met(c)))
 }
 
 /// How many of three literals, and how many of their complements, stand in place in the best of the
 /// triples.
-pub fn in_place(cells: &Cells, [a, b, c]: [Lit; 3]) -> [u32; 2] {
+pub fn in_place(cells: &Cells, [a, b, c]: [Short; 3]) -> [u32; 2] {
     let (a, b, c) = (holders(cells, a), holders(cells, b), holders(cells, c));
-    let straight = [a.straight, b.straight, c.straight];
-    let complemented = [a.complemented, b.complemented, c.complemented];
-    let mut most = [0, 0];
-    for triple in TRIPLES {
-        most = [
-            u32::max(most[0], count_in(triple, straight)),
-            u32::max(most[1], count_in(triple, complemented)),
-        ];
-    }
-    most
+    [
+        best(a.straight(), b.straight(), c.straight()),
+        best(a.complemented(), b.complemented(), c.complemented()),
+    ]
 }
