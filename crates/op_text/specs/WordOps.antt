@@ -219,13 +219,9 @@ abbrev pub FirstSettles : Type 0
 FirstSettles = (p : WordOp) (kinds : List Kind) (k : Kind) → filled (forms p) kinds ≡ Some k
     → given_first (forms p) (first_of kinds) ≡ k
 
--- whether one more argument of a kind may stand, whether another is wanted, and whether all are
--- there
+-- whether one more argument of a kind may stand, and whether another is wanted
 abbrev pub may_take : List Form → List Kind → Kind → Bool
 may_take fs given k = list_any (λ f. is_begun (lacks (given ++ k ∷ []) f.takes)) fs
 
 abbrev pub wants_more : List Form → List Kind → Bool
 wants_more fs given = list_any (λ f. is_part (lacks given f.takes)) fs
-
-abbrev pub has_all : List Form → List Kind → Bool
-has_all fs given = list_any (λ f. is_whole (lacks given f.takes)) fs
