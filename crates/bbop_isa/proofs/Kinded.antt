@@ -371,7 +371,7 @@ form_judged : (words : List Word) (o : Option Form) → 1 ≤ length words → f
 form_judged words o some e = words_judged words some ∙ ap (λ o. result_map Some (judged o)) e
 
 -- the bytes of a line
-none_any : (items : List Item) → words_in items ≡ None → list_any is_stranger items ≡ true
+pub none_any : (items : List Item) → words_in items ≡ None → list_any is_stranger items ≡ true
 none_any [] h = absurd (cc)
 none_any (Bad f ∷ items) h = refl
 none_any (Whole t ∷ items) h = none_any items (at (words_in items) h)
@@ -381,7 +381,7 @@ none_any (Whole t ∷ items) h = none_any items (at (words_in items) h)
     at None h = refl
     at (Some words) h = absurd (cc)
 
-any_none : (items : List Item) → list_any is_stranger items ≡ true → words_in items ≡ None
+pub any_none : (items : List Item) → list_any is_stranger items ≡ true → words_in items ≡ None
 any_none [] h = absurd (cc)
 any_none (Bad f ∷ items) h = refl
 any_none (Whole t ∷ items) h = rw (any_none items h) refl

@@ -9,11 +9,16 @@ use Rattle.dram_model.specs.declared.address.Command.{Command}
 use Rattle.dram_model.specs.declared.address.Command.TheVariants.{Ap, Aap}
 use Rattle.dram_model.specs.declared.dram.Counters.{Counters}
 use Rattle.dram_model.specs.Column.{Column, step, run}
-use Rattle.dram_model.specs.Chip.{Banks, Event, bank_of, happens, after, counted}
+use Rattle.dram_model.specs.Chip.{Banks, Event, bank_of, on_bank, happens, after, counted}
 use Rattle.dram_model.specs.Chip.{Log, LogIs, all_counted, event_bits, log_bits, with_events, Grew}
 use Rattle.dram_model.specs.Chip.Event.{Row, Write}
-use Rattle.dram_model.specs.Events.{events_of, on_bank_all, row_events}
+use Rattle.dram_model.specs.Events.{events_of, row_events}
 use Rattle.dram_model.specs.View.{ChipView, Kept, Did, DidRead, with_reads}
+
+-- what events of one bank leave of its columns
+abbrev pub on_bank_all : List Event → List Column → List Column
+on_bank_all [] columns = columns
+on_bank_all (event ∷ events) columns = on_bank_all events (on_bank event columns)
 
 -- events in two parts leave the banks as all of them do
 pub after-append : (es fs : List Event) (banks : Banks)

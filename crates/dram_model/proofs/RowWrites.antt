@@ -15,9 +15,9 @@ use Rattle.dram_model.specs.declared.address.Cell.TheVariants.{D}
 use Rattle.dram_model.specs.Column.{Column, drive, plain}
 use Rattle.dram_model.specs.Chip.{Banks, Event, after, with_row}
 use Rattle.dram_model.specs.Chip.Event.{Write}
-use Rattle.dram_model.specs.Events.{events_of, on_bank_all}
+use Rattle.dram_model.specs.Events.{events_of}
 use Rattle.dram_model.specs.Elements.{number, padded_to}
-use Rattle.dram_model.proofs.EventLaws.{projection, after-append}
+use Rattle.dram_model.proofs.EventLaws.{on_bank_all, projection, after-append}
 
 -- two ranges of rows with the same contents give the same list
 pub rows_are : {X : Type 0} (f h : ℕ → X) (b a n : ℕ) → ((k : ℕ) → k < n → f (b + k) ≡ h (a + k))

@@ -2,15 +2,15 @@
 use Rattle.std.proofs.Common.{◌≡◌, ℕ, suc, ◌+◌, ◌*◌, ◌<◌, ◌≤◌, Bool, true, false, ◌&&◌, cond}
 use Rattle.std.proofs.Common.{leb, ltb, List, [], ◌∷◌, ◌++◌, length, map, Option, Some, None, refl}
 use Rattle.std.proofs.Common.{sym, ◌∙◌, ap, subst, arith}
-use Rattle.std.specs.Prelude.{Result, Ok, Err, option_map}
-use Rattle.std.specs.List.{flat_map, list_any}
+use Rattle.std.specs.Prelude.{Result, Ok, Err}
+use Rattle.std.specs.List.{flat_map}
 use Rattle.std.specs.Option.{option_to_list}
 use Rattle.std.proofs.lemmas.Bool.Decides.{nat_tests}
-use Rattle.text_lex.specs.Lexical.{Item, Whole, Bad, items_of}
+use Rattle.text_lex.specs.Lexical.{items_of}
 use Rattle.dram_model.specs.declared.geometry.Geometry.{Geometry}
 use Rattle.bbop_isa.specs.Lines.{lines_of}
-use Rattle.bbop_isa.specs.Words.{Word, Name, Number, Comma, Other, words_in, word_at}
-use Rattle.bbop_isa.specs.Kinds.{is_stranger}
+use Rattle.bbop_isa.specs.Words.{Word, Name, Number, Comma, Other, words_in}
+use Rattle.bbop_isa.proofs.Kinded.{none_any, any_none}
 use Rattle.guard_model.specs.declared.Flip.{Flip}
 use Rattle.guard_model.specs.declared.FlipsKind.{FlipsKind}
 use Rattle.guard_model.specs.declared.FlipsKind.TheVariants.{Lex, Syntax, Number as BadNumber}
@@ -194,21 +194,6 @@ says_in g instrs before line (Some f) h =
 
 kind_is : (a b : FlipsKind) → fault a ≡ fault b → a ≡ b
 kind_is a b e = cc
-
-none_any : (items : List Item) → words_in items ≡ None → list_any is_stranger items ≡ true
-none_any [] h = absurd (cc)
-none_any (Bad f ∷ items) h = refl
-none_any (Whole t ∷ items) h = none_any items (at (words_in items) h)
-  where
-    at : (o : Option (List Word))
-        → option_map (λ words. word_at t.kind t.text ∷ words) o ≡ None → o ≡ None
-    at None h = refl
-    at (Some words) h = absurd (cc)
-
-any_none : (items : List Item) → list_any is_stranger items ≡ true → words_in items ≡ None
-any_none [] h = absurd (cc)
-any_none (Bad f ∷ items) h = refl
-any_none (Whole t ∷ items) h = rw (any_none items h) refl
 
 -- words that are no four numbers
 abbrev NoFour : List Word → Type 0

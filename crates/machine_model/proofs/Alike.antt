@@ -8,8 +8,8 @@ use Rattle.dram_model.specs.declared.address.Command.TheVariants.{Ap, Aap}
 use Rattle.dram_model.specs.declared.dram.Counters.{Counters}
 use Rattle.dram_model.specs.Chip.{Banks, Event, bank_of, after, counted, all_counted}
 use Rattle.dram_model.specs.Chip.Event.{Row, Write}
-use Rattle.dram_model.specs.Events.{events_of, on_bank_all}
-use Rattle.dram_model.proofs.EventLaws.{projection}
+use Rattle.dram_model.specs.Events.{events_of}
+use Rattle.dram_model.proofs.EventLaws.{on_bank_all, projection}
 
 abbrev pub Alike : List Event → List Event → Type 0
 Alike es fs = (bank : ℕ) → events_of bank es ≡ events_of bank fs

@@ -16,8 +16,8 @@ use Rattle.dram_model.specs.declared.address.Command.{Command}
 use Rattle.dram_model.specs.Chip.{Banks, Event, after}
 use Rattle.dram_model.specs.Chip.Event.{Row}
 use Rattle.dram_model.specs.Elements.{column_count}
-use Rattle.dram_model.specs.Events.{events_of, row_events, on_bank_all}
-use Rattle.dram_model.proofs.EventLaws.{projection}
+use Rattle.dram_model.specs.Events.{events_of, row_events}
+use Rattle.dram_model.proofs.EventLaws.{on_bank_all, projection}
 use Rattle.object_alloc.specs.Listed.{Named}
 use Rattle.bbop_isa.specs.Forms.{Instruction}
 use Rattle.bbop_isa.specs.Forms.{Init, Bbop, Load, Fill, Print, Free, Order}

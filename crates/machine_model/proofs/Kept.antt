@@ -12,6 +12,7 @@ use Rattle.uprog_code.specs.Shape.{need, results}
 use Rattle.std.specs.List.{list_any}
 use Rattle.op_text.specs.declared.tree.Kind.{Kind}
 use Rattle.uprog_code.specs.Fits.{ranges, IsInSome, IsTouched}
+use Rattle.uprog_code.specs.Implements.{Keeps}
 use Rattle.uprog_code.specs.Machine.{issues_of}
 use Rattle.object_alloc.specs.Free.{has_row}
 use Rattle.object_alloc.specs.Listed.{IsTable}
@@ -23,10 +24,14 @@ use Rattle.object_alloc.specs.Listed.{limit_of}
 use Rattle.machine_model.specs.Refusals.{object_named, bbop_refusal, dsts_in}
 use Rattle.machine_model.specs.Steps.{Held, table_of, base_for, binding, through, job_of, if_done}
 use Rattle.machine_model.specs.Steps.{is_touched, banks_after, is_among, is_beside, dsts_of}
-use Rattle.machine_model.specs.Agrees.{KeepsAll}
 use Rattle.machine_model.proofs.Facts.{AreOperands, none, more, IsGood, good}
 use Rattle.machine_model.proofs.Bbops.{or_false, base_in, binding_fits, has_from}
 use Rattle.machine_model.proofs.Steps.{job_is}
+
+-- what is issued for each operation leaves all rows that are not its own
+abbrev pub KeepsAll : Routines → Type 0
+KeepsAll operations = (name : List ℕ) (o : Routine) → operations name ≡ Some o → (n : ℕ)
+    → 0 < n → n ≤ WIDTH_MAX → Keeps o.shape n (issues_of (o.trace n))
 
 among_from : (base size row : ℕ) → base ≤ row → row < base + size → is_among base size row ≡ true
 among_from base size row a b = grind (arith, nat_tests)

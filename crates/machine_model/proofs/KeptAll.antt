@@ -11,7 +11,7 @@ use Rattle.dram_model.specs.declared.address.Cell.TheVariants.{D}
 use Rattle.bit_rows.specs.Bits.{bit_at}
 use Rattle.dram_model.specs.Column.{Column, run}
 use Rattle.dram_model.specs.Chip.{Banks, row_in, with_row, after}
-use Rattle.dram_model.specs.Events.{on_bank_all}
+use Rattle.dram_model.proofs.EventLaws.{on_bank_all}
 use Rattle.object_alloc.specs.declared.table.Object.{Object}
 use Rattle.object_alloc.specs.Free.{has_row}
 use Rattle.object_alloc.specs.Listed.{Named, IsTable}
@@ -26,7 +26,7 @@ use Rattle.object_alloc.specs.Listed.{limit_of}
 use Rattle.machine_model.specs.Refusals.{object_named, refusal}
 use Rattle.machine_model.specs.Steps.{Held, table_of, new_object, through, is_touched, banks_after}
 use Rattle.machine_model.specs.Steps.{table_after, fill_events, load_events}
-use Rattle.machine_model.specs.Agrees.{DoesAll, KeepsAll, IsPlain}
+use Rattle.machine_model.specs.Agrees.{DoesAll, IsPlain}
 use Rattle.machine_model.specs.Laws.{UntouchedStays}
 use Rattle.uprog_code.specs.Machine.{issues_of}
 use Rattle.uprog_code.specs.Implements.{Keeps}
@@ -34,7 +34,7 @@ use Rattle.uprog_code.specs.Programs.{IsEntry, IsProgram}
 use Rattle.uprog_code.proofs.Kept.{legal_keeps}
 use Rattle.bit_rows.specs.declared.TheConstants.{WIDTH_MAX}
 use Rattle.machine_model.specs.Script.{is_touched_by, banks_at_end}
-use Rattle.machine_model.proofs.Kept.{stay_case, done_kept, bbop_rows_kept}
+use Rattle.machine_model.proofs.Kept.{KeepsAll, stay_case, done_kept, bbop_rows_kept}
 use Rattle.machine_model.proofs.Bbops.{or_false}
 use Rattle.machine_model.proofs.Steps.{idle}
 use Rattle.machine_model.proofs.Fills.{fill_commands, fill_keeps}

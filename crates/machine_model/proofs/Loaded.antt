@@ -12,7 +12,7 @@ use Rattle.std.proofs.lemmas.Nat.{pow_pos}
 use Rattle.dram_model.specs.declared.geometry.Geometry.{Geometry}
 use Rattle.dram_model.specs.Column.{Column}
 use Rattle.dram_model.specs.Chip.{Banks, after}
-use Rattle.dram_model.specs.Events.{on_bank_all}
+use Rattle.dram_model.proofs.EventLaws.{on_bank_all}
 use Rattle.dram_model.specs.Elements.{number}
 use Rattle.dram_model.proofs.RowWrites.{writes_numbers, each_inside, each_after, part, whole}
 use Rattle.dram_model.proofs.RowWrites.{all_writes, all_own, part_length, map_parts, padded_length}
@@ -29,12 +29,12 @@ use Rattle.machine_model.specs.Routines.{Routines}
 use Rattle.object_alloc.specs.Listed.{limit_of}
 use Rattle.machine_model.specs.Refusals.{object_named, is_absent, refusal, when, at_place}
 use Rattle.machine_model.specs.Steps.{table_of, load_events, with_numbers}
-use Rattle.machine_model.specs.Agrees.{Agrees, StepAgrees}
+use Rattle.machine_model.specs.Agrees.{Agrees}
 use Rattle.machine_model.proofs.Facts.{first_none, when_none, place_none, not_false}
 use Rattle.machine_model.proofs.Places.{no_one, found}
 use Rattle.machine_model.proofs.Bbops.{apart_places, has_from}
 use Rattle.machine_model.proofs.Loads.{writes_others, writes_length}
-use Rattle.machine_model.proofs.Steps.{with_numbers_agrees, done_or_not, idle}
+use Rattle.machine_model.proofs.Steps.{StepAgrees, with_numbers_agrees, done_or_not, idle}
 
 -- no value is past the width
 all_small : (limit k : ℕ) (w : ℕ → Why) (vs : List ℕ)

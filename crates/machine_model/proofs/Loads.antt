@@ -3,7 +3,7 @@ use Rattle.std.proofs.Common.{◌≡◌, ℕ, ◌+◌, ◌<◌, ◌≤◌, List,
 use Rattle.std.proofs.Common.{inr}
 use Rattle.std.proofs.lemmas.Bool.{cases_lt}
 use Rattle.dram_model.specs.Column.{Column}
-use Rattle.dram_model.specs.Events.{on_bank_all}
+use Rattle.dram_model.proofs.EventLaws.{on_bank_all}
 use Rattle.dram_model.specs.Elements.{number}
 use Rattle.dram_model.proofs.RowWrites.{writes, taken, taken_before, taken_past, writes_first}
 use Rattle.dram_model.proofs.RowWrites.{writes_nothing}

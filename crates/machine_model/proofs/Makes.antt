@@ -24,7 +24,7 @@ use Rattle.object_alloc.specs.Listed.{limit_of}
 use Rattle.machine_model.specs.Refusals.{object_named, is_absent, refusal, when}
 use Rattle.machine_model.specs.Steps.{Held, table_of, new_object, through, fill_events}
 use Rattle.machine_model.specs.Steps.{with_numbers}
-use Rattle.machine_model.specs.Agrees.{Agrees, StepAgrees}
+use Rattle.machine_model.specs.Agrees.{Agrees}
 use Rattle.machine_model.proofs.Facts.{first_none, when_none, not_false}
 use Rattle.machine_model.proofs.Places.{no_one, entry_of, found}
 use Rattle.machine_model.proofs.Below.{base_free}
@@ -32,7 +32,7 @@ use Rattle.machine_model.proofs.Tables.{made}
 use Rattle.machine_model.proofs.Bbops.{apart_places, not_free, if_not_true}
 use Rattle.machine_model.proofs.Fills.{fill_job, fill_is_job, fill_columns, fill_others}
 use Rattle.machine_model.proofs.Steps.{with_numbers_agrees, through_length, done_or_not, idle}
-use Rattle.machine_model.proofs.Steps.{any_default}
+use Rattle.machine_model.proofs.Steps.{any_default, StepAgrees}
 
 pub filled : (g : Geometry) (o : Object) (v : ℕ) (banks : Banks)
     → after (fill_events g o v) (through (record { commands = []; banks = 0 }) banks)

@@ -22,7 +22,7 @@ use Rattle.object_alloc.specs.Listed.{limit_of}
 use Rattle.machine_model.specs.Refusals.{refusal, object_named, is_absent, when}
 use Rattle.machine_model.specs.Steps.{Held, table_of, numbers_named, reply_by, reply_to}
 use Rattle.machine_model.specs.Steps.{words_after, banks_after}
-use Rattle.machine_model.specs.Agrees.{Agrees, StepAgrees}
+use Rattle.machine_model.specs.Agrees.{Agrees}
 use Rattle.std.specs.List.{AllByRecursion}
 use Rattle.machine_model.specs.Report.{Said, said_of, said_in_words, said_in_rows}
 use Rattle.object_alloc.specs.Spelling.{IsImage}
@@ -30,6 +30,7 @@ use Rattle.machine_model.specs.Opened.{Image, opened, words_of, row_writes}
 use Rattle.machine_model.proofs.Facts.{not_false}
 use Rattle.machine_model.proofs.Places.{no_one, found}
 use Rattle.machine_model.proofs.Makes.{few_banks}
+use Rattle.machine_model.proofs.Steps.{StepAgrees}
 use Rattle.machine_model.proofs.Scripts.{table_step}
 
 with_row_length : (row : ℕ) (bits : List Bool) (columns : List Column)

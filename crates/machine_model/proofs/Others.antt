@@ -15,7 +15,7 @@ use Rattle.machine_model.specs.Routines.{Routine, Routines, routines_in}
 use Rattle.machine_model.specs.Refusals.{bbop_refusal, object_named, is_one_of, dsts_in, srcs_in}
 use Rattle.machine_model.specs.Steps.{Held, table_of, banks_after, if_done, job_of, through}
 use Rattle.machine_model.specs.Steps.{dsts_of, srcs_of}
-use Rattle.machine_model.specs.Agrees.{KeepsAll}
+use Rattle.machine_model.proofs.Kept.{KeepsAll}
 use Rattle.machine_model.specs.Laws.{OthersStay}
 use Rattle.machine_model.proofs.Bbops.{bbop_others}
 use Rattle.machine_model.proofs.Facts.{AreOperands, none, more, AreOthers, good}

@@ -16,10 +16,10 @@ use Rattle.machine_model.specs.Columns.{object_size}
 use Rattle.machine_model.specs.Steps.{Held, table_of, new_numbers, computed, numbers_named, srcs_of}
 use Rattle.machine_model.specs.Steps.{dsts_of, words_after, banks_after, table_after, tabled}
 use Rattle.machine_model.specs.Steps.{worded, if_done}
-use Rattle.machine_model.specs.Agrees.{Agrees, StepAgrees}
+use Rattle.machine_model.specs.Agrees.{Agrees}
 use Rattle.machine_model.specs.Script.{words_at_end, banks_at_end}
 use Rattle.machine_model.proofs.Places.{entry_of}
-use Rattle.machine_model.proofs.Steps.{table_kept, table_with, table_without}
+use Rattle.machine_model.proofs.Steps.{StepAgrees, table_kept, table_with, table_without}
 
 tabled_is : (g : Geometry) (operations : Routines) (meaning : List ℕ → ℕ → List ℕ
     → List ℕ) (state : List Held) (instr : Instruction)

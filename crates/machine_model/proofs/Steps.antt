@@ -17,7 +17,7 @@ use Rattle.dram_model.specs.Chip.{Banks}
 use Rattle.bit_rows.specs.declared.TheConstants.{WIDTH_MAX}
 use Rattle.object_alloc.specs.Listed.{Named, IsTable, without}
 use Rattle.object_alloc.proofs.Tables.{IsTable-without}
-use Rattle.bbop_isa.specs.Forms.{Bbop, Print, Free, Order}
+use Rattle.bbop_isa.specs.Forms.{Instruction, Bbop, Print, Free, Order}
 use Rattle.bbop_isa.specs.declared.instr.Order.{Order as Orders}
 use Rattle.machine_model.specs.declared.Why.{Why}
 use Rattle.dram_model.specs.Elements.{column_count}
@@ -29,11 +29,19 @@ use Rattle.machine_model.specs.Refusals.{is_one_of}
 use Rattle.wave_model.specs.Schedule.{WaveJob}
 use Rattle.machine_model.specs.Steps.{Held, table_of, numbers_named, with_numbers, with_results}
 use Rattle.machine_model.specs.Steps.{new_numbers, dsts_of, srcs_of, computed, through, job_of}
-use Rattle.machine_model.specs.Steps.{worded, rowed, if_done}
-use Rattle.machine_model.specs.Agrees.{Agrees, DoesAll, StepAgrees}
+use Rattle.machine_model.specs.Steps.{worded, rowed, if_done, banks_after, words_after}
+use Rattle.machine_model.specs.Agrees.{Agrees, DoesAll}
 use Rattle.machine_model.proofs.Facts.{good}
 use Rattle.machine_model.proofs.Places.{no_one, entry_of, object_at, same_bytes, bytes_same}
 use Rattle.machine_model.proofs.Bbops.{bbop_job, operand_at, bbop_numbers, bbop_others}
+
+-- The step of the rows gives the word machine's step
+abbrev pub StepAgrees : Geometry → Routines → (List ℕ → ℕ → List ℕ → List ℕ) → Instruction
+    → Type 0
+StepAgrees g operations meaning instr =
+    (banks : Banks) (state : List Held) → Agrees g banks state
+    → Agrees g (banks_after g operations (table_of state) banks instr)
+    (words_after g operations meaning state instr)
 
 -- within a list the default is not read
 pub any_default : {X : Type 0} (xs : List X) (k : ℕ) (d e : X) → k < length xs

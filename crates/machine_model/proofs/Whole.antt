@@ -5,9 +5,10 @@ use Rattle.dram_model.specs.declared.geometry.Geometry.{Geometry}
 use Rattle.bbop_isa.specs.Forms.{Instruction}
 use Rattle.bbop_isa.specs.Forms.{Init, Bbop, Load, Fill, Print, Free, Order}
 use Rattle.machine_model.specs.Routines.{Routines, routines_of, meaning_in}
-use Rattle.machine_model.specs.Agrees.{StepAgrees, DoesAll, IsPlain}
+use Rattle.machine_model.specs.Agrees.{DoesAll, IsPlain}
 use Rattle.machine_model.specs.Laws.{RowsGiveWords, TextGivesWords}
-use Rattle.machine_model.proofs.Steps.{bbop_agrees, print_agrees, free_agrees, order_agrees}
+use Rattle.machine_model.proofs.Steps.{StepAgrees, bbop_agrees, print_agrees, free_agrees}
+use Rattle.machine_model.proofs.Steps.{order_agrees}
 use Rattle.machine_model.proofs.Makes.{init_agrees, fill_agrees}
 use Rattle.machine_model.proofs.Loaded.{load_agrees}
 use Rattle.machine_model.proofs.Scripts.{script_agrees}

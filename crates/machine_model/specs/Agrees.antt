@@ -1,11 +1,10 @@
--- When the banks hold what the word machine holds, and that a step keeps it so.
+-- When the banks hold what the word machine holds.
 use Rattle.std.specs.Prelude.{◌≡◌, ℕ, ◌<◌, ◌≤◌, List, All, length, Some}
 use Rattle.dram_model.specs.declared.geometry.Geometry.{Geometry}
 use Rattle.dram_model.specs.Chip.{Banks}
 use Rattle.bit_rows.specs.declared.TheConstants.{WIDTH_MAX}
 use Rattle.machine_model.specs.Routines.{Performs}
 use Rattle.uprog_code.specs.Machine.{issues_of}
-use Rattle.uprog_code.specs.Implements.{Keeps}
 use Rattle.object_alloc.specs.Listed.{IsTable}
 use Rattle.bbop_isa.specs.Forms.{Instruction}
 use Rattle.bbop_isa.specs.Forms.{Init, Bbop, Load, Fill, Print, Free, Order}
@@ -13,7 +12,7 @@ use Rattle.dram_model.specs.Elements.{column_count}
 use Rattle.machine_model.specs.Columns.{segments, columns}
 use Rattle.machine_model.specs.Routines.{Routine, Routines}
 use Rattle.object_alloc.specs.Listed.{limit_of}
-use Rattle.machine_model.specs.Steps.{Held, table_of, words_after, banks_after}
+use Rattle.machine_model.specs.Steps.{Held, table_of}
 
 -- each object has exactly these numbers in the banks' columns
 abbrev pub HoldsNumbers : Geometry → Banks → List Held → Type 0
@@ -30,19 +29,6 @@ pub record Agrees (g : Geometry) (banks : Banks) (state : List Held) : Type 0 wh
 abbrev pub DoesAll : Routines → (List ℕ → ℕ → List ℕ → List ℕ) → Type 0
 DoesAll operations meaning = (name : List ℕ) (o : Routine) → operations name ≡ Some o → (n : ℕ)
     → 0 < n → n ≤ WIDTH_MAX → Performs o.shape n (issues_of (o.trace n)) (meaning name n)
-
--- what is issued for each operation leaves all rows that are not its own
-abbrev pub KeepsAll : Routines → Type 0
-KeepsAll operations = (name : List ℕ) (o : Routine) → operations name ≡ Some o → (n : ℕ)
-    → 0 < n → n ≤ WIDTH_MAX → Keeps o.shape n (issues_of (o.trace n))
-
--- The step of the rows gives the word machine's step
-abbrev pub StepAgrees : Geometry → Routines → (List ℕ → ℕ → List ℕ → List ℕ) → Instruction
-    → Type 0
-StepAgrees g operations meaning instr =
-    (banks : Banks) (state : List Held) → Agrees g banks state
-    → Agrees g (banks_after g operations (table_of state) banks instr)
-    (words_after g operations meaning state instr)
 
 -- what every script has: an object has some element, and it and a bbop have a width from 1 to the
 -- greatest

@@ -36,10 +36,6 @@ Answers view (Err e) read = IsFault e read
 abbrev pub bytes_at : ℕ → ℕ → List ℕ → Result (List ℕ) ImageFault
 bytes_at = fields.bytes_at kinds.Short
 
--- a number of an image file
-abbrev pub number_at : Width → ℕ → List ℕ → Result ℕ ImageFault
-number_at = fields.number_at kinds.Short
-
 -- a number of an image file that has to pass a test
 abbrev pub field_at : Width → (ℕ → Bool) → ImageKind → ℕ → List ℕ → Result ℕ ImageFault
 field_at = fields.field_at kinds.Short

@@ -24,7 +24,7 @@ use Rattle.op_text.specs.Rules.{comma_rules, close_rules}
 use Rattle.op_text.specs.Spelling.{kind_text, direction_text, start_text}
 use Rattle.op_lang.specs.Reading.{ParserView, breach, is_allowed, Took, left}
 use Rattle.op_lang.proofs.Taking.{took_moves, took_left}
-use Rattle.op_lang.specs.Pieces.{IsSpelled, is_mark, mark_text, is_name, is_name_or_end}
+use Rattle.op_lang.specs.Pieces.{is_mark, mark_text, is_name, is_name_or_end}
 use Rattle.op_lang.specs.Pieces.{is_second, after_second, comma_or_end}
 use Rattle.op_lang.specs.Pieces.{after_name, end_text, is_more, after_comma_or_close}
 use Rattle.op_lang.specs.Pieces.{comma_or_close, is_kind, is_statement, is_named, is_finish}
@@ -34,6 +34,29 @@ use Rattle.op_lang.specs.Pieces.{lacking, bit_leaf}
 use Rattle.op_lang.specs.declared.pieces.Start.TheVariants as start
 use Rattle.op_lang.specs.declared.pieces.Leaf.{Leaf}
 use Rattle.op_lang.specs.declared.pieces.Leaf.TheVariants as leaf
+
+-- a terminal's spelling, if it has only one
+abbrev pub IsSpelled : Terminal → List ℕ → Type 0
+IsSpelled (t.Name sp.Plain) text = Unit {0}
+IsSpelled (t.Name sp.Op) text = text ≡ codes "op"
+IsSpelled (t.Name sp.Word) text = text ≡ codes "word"
+IsSpelled (t.Name sp.Bit) text = text ≡ codes "bit"
+IsSpelled (t.Name sp.Serial) text = text ≡ codes "serial"
+IsSpelled (t.Name sp.Up) text = text ≡ codes "up"
+IsSpelled (t.Name sp.Down) text = text ≡ codes "down"
+IsSpelled (t.Name sp.Let) text = text ≡ codes "let"
+IsSpelled t.Zero text = text ≡ codes "0"
+IsSpelled t.One text = text ≡ codes "1"
+IsSpelled t.Equals text = text ≡ codes "="
+IsSpelled t.Opens text = text ≡ codes "("
+IsSpelled t.Closes text = text ≡ codes ")"
+IsSpelled t.Begins text = text ≡ codes "{"
+IsSpelled t.Finishes text = text ≡ codes "}"
+IsSpelled t.Comma text = text ≡ codes ","
+IsSpelled t.Semi text = text ≡ codes ";"
+IsSpelled t.Colon text = text ≡ codes ":"
+IsSpelled t.Arrow text = text ≡ codes "->"
+IsSpelled t.Other text = Unit {0}
 
 never : {X : Type 0} → false ≡ true → X
 never h = cc

@@ -237,26 +237,3 @@ with_two g a b = Parity a b
 abbrev pub lacking : Leaf → List ℕ → List ℕ
 lacking (leaf.Gate g) missing = (gate_arguments g - 1) ∷ missing
 lacking l missing = missing
-
--- a terminal's spelling, if it has only one
-abbrev pub IsSpelled : Terminal → List ℕ → Type 0
-IsSpelled (t.Name sp.Plain) text = Unit {0}
-IsSpelled (t.Name sp.Op) text = text ≡ codes "op"
-IsSpelled (t.Name sp.Word) text = text ≡ codes "word"
-IsSpelled (t.Name sp.Bit) text = text ≡ codes "bit"
-IsSpelled (t.Name sp.Serial) text = text ≡ codes "serial"
-IsSpelled (t.Name sp.Up) text = text ≡ codes "up"
-IsSpelled (t.Name sp.Down) text = text ≡ codes "down"
-IsSpelled (t.Name sp.Let) text = text ≡ codes "let"
-IsSpelled t.Zero text = text ≡ codes "0"
-IsSpelled t.One text = text ≡ codes "1"
-IsSpelled t.Equals text = text ≡ codes "="
-IsSpelled t.Opens text = text ≡ codes "("
-IsSpelled t.Closes text = text ≡ codes ")"
-IsSpelled t.Begins text = text ≡ codes "{"
-IsSpelled t.Finishes text = text ≡ codes "}"
-IsSpelled t.Comma text = text ≡ codes ","
-IsSpelled t.Semi text = text ≡ codes ";"
-IsSpelled t.Colon text = text ≡ codes ":"
-IsSpelled t.Arrow text = text ≡ codes "->"
-IsSpelled t.Other text = Unit {0}

@@ -238,7 +238,3 @@ may_take fs given k = list_any (λ f. is_begun (lacks (given ++ k ∷ []) f.take
 -- whether another argument may stand after these
 abbrev pub wants_more : List Form → List Kind → Bool
 wants_more fs given = list_any (λ f. is_part (lacks given f.takes)) fs
-
--- whether these are all arguments of a form
-abbrev pub has_all : List Form → List Kind → Bool
-has_all fs given = list_any (λ f. is_whole (lacks given f.takes)) fs

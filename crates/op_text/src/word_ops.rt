@@ -2,7 +2,7 @@
 
 ghost use Rattle.std.specs.Prelude.{◌≡◌, [], ◌∷◌, Some, None, map};
 ghost use Rattle.op_text.specs.WordOps.{op_named, op_text, row_of, first_named, forms};
-ghost use Rattle.op_text.specs.WordOps.{signature_forms, may_take, wants_more, has_all, filled};
+ghost use Rattle.op_text.specs.WordOps.{signature_forms, may_take, wants_more, filled};
 ghost use Rattle.op_text.specs.WordOps.{given_first, same_kind, second_kind};
 ghost use Rattle.op_text.specs.Scratch.{bits_inside, words_inside};
 ghost use Rattle.op_text.specs.declared.tree.Kind.TheVariants.{Word};

@@ -14,10 +14,10 @@ use Rattle.scan_model.specs.Texts.{all_leads, lead_among, Wanted, Start, Open, O
 use Rattle.scan_model.specs.Texts.{Bound, Close, following, Begun, tests_in, with_lead, fits}
 use Rattle.scan_model.specs.Texts.{Stepped, started, step, Breach, spare, after, breach_of}
 use Rattle.scan_model.specs.Texts.{none_begun}
-use Rattle.scan_model.specs.TextLaws.{words_of, follow, and_on, allowed, IsViable, StandsAt}
+use Rattle.scan_model.specs.TextLaws.{words_of, IsViable, StandsAt}
 use Rattle.scan_model.specs.TextLaws.{BreaksName, BreaksNumber, BreaksCount, is_opening, is_number}
 use Rattle.scan_model.proofs.Parsed.{lead_is, among_text}
-use Rattle.scan_model.proofs.Viable.{allowed-append, viable}
+use Rattle.scan_model.proofs.Viable.{follow, and_on, allowed, allowed-append, viable}
 
 -- ---- how many of the tokens that are wanted open a node, and how many are bounds
 

@@ -13,9 +13,31 @@ use Rattle.scan_model.specs.Texts.{all_leads, lead_among, Wanted, Start, Open, O
 use Rattle.scan_model.specs.Texts.{Bound, Close, following, Begun, with_lead, fits, Stepped}
 use Rattle.scan_model.specs.Texts.{started}
 use Rattle.scan_model.specs.Texts.{step, Breach, spare, after, breach_of, none_begun, spelled}
-use Rattle.scan_model.specs.TextLaws.{words_of, follow, and_on, allowed, IsViable, BreaksSyntax}
+use Rattle.scan_model.specs.TextLaws.{words_of, IsViable, BreaksSyntax}
 use Rattle.scan_model.specs.TextLaws.{SyntaxIsTheGrammars}
 use Rattle.scan_model.proofs.Parsed.{lead_is, among_text}
+
+-- what the grammar alone asks for after a token, or none where it does not allow the token
+abbrev pub follow : Wanted → Word → Option (List Wanted)
+follow Start (Name text) = option_map following (lead_among all_leads text)
+follow Open Opens = Some []
+follow Object (Name text) = Some []
+follow Between Comma = Some []
+follow Bound (Number v) = Some []
+follow Close Closes = Some []
+follow w word = None
+
+abbrev pub and_on : Option (List Wanted) → (List Wanted → Option (List Wanted))
+    → Option (List Wanted)
+and_on None go = None
+and_on (Some front) go = go front
+
+-- what the grammar asks for after these tokens, or none where it does not allow them
+abbrev pub allowed : List Wanted → List Word → Option (List Wanted)
+allowed wanted [] = Some wanted
+allowed [] (word ∷ words) = None
+allowed (w ∷ wanted) (word ∷ words) = and_on (follow w word)
+    (λ front. allowed (front ++ wanted) words)
 
 pub allowed-append : (xs ys : List Word) (wanted : List Wanted)
     → allowed wanted (xs ++ ys) ≡ and_on (allowed wanted xs) (λ stack. allowed stack ys)

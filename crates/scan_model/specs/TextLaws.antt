@@ -1,14 +1,12 @@
 -- What the texts of queries come to.
 use Rattle.std.specs.Prelude.{◌≡◌, ℕ, ◌+◌, ◌^◌, ◌<◌, ◌≤◌, Bool, true, false, List, [], ◌∷◌, ◌++◌}
-use Rattle.std.specs.Prelude.{map, count_by, Option, Some, None, option_map, ◌↔◌, ◌⊎◌}
+use Rattle.std.specs.Prelude.{map, count_by, Option, Some, None, ◌↔◌, ◌⊎◌}
 use Rattle.text_lex.specs.Spelled.{fits_name}
 use Rattle.scan_model.specs.Queries.{Query, Compare, Negate, Both, Either, size}
 use Rattle.scan_model.specs.declared.QueryKind.TheVariants.{Syntax, BadName, BadNumber}
 use Rattle.scan_model.specs.declared.QueryKind.TheVariants.{TooMany}
-use Rattle.scan_model.specs.Texts.{Word, Name, Number, Opens, Closes, Comma, Piece, Wanted, Start}
-use Rattle.scan_model.specs.Texts.{Open, Object, Between, Bound, Close, Breach, following}
-use Rattle.scan_model.specs.Texts.{Lead, all_leads, lead_among, lead_text, tests_in, breach_of}
-use Rattle.scan_model.specs.Texts.{none_begun, spelled}
+use Rattle.scan_model.specs.Texts.{Word, Name, Number, Opens, Piece, Start, Breach, Lead, lead_text}
+use Rattle.scan_model.specs.Texts.{tests_in, breach_of, none_begun, spelled}
 
 -- how many comparisons a query has
 abbrev pub tests : Query → ℕ
@@ -38,29 +36,6 @@ pub record Says (words : List Word) (q : Query) : Type 0 where
 -- tokens without their places
 abbrev pub words_of : List Piece → List Word
 words_of pieces = map (λ p. p.1) pieces
-
--- what the grammar alone asks for after a token, or none where it does not allow the token
-abbrev pub follow : Wanted → Word → Option (List Wanted)
-follow Start (Name text) = option_map following (lead_among all_leads text)
-follow Open Opens = Some []
-follow Object (Name text) = Some []
-follow Between Comma = Some []
-follow Bound (Number v) = Some []
-follow Close Closes = Some []
-follow w word = None
-
--- the grammar goes on with what it asks for, or has refused the token
-abbrev pub and_on : Option (List Wanted) → (List Wanted → Option (List Wanted))
-    → Option (List Wanted)
-and_on None go = None
-and_on (Some front) go = go front
-
--- what the grammar asks for after these tokens, or none where it does not allow them
-abbrev pub allowed : List Wanted → List Word → Option (List Wanted)
-allowed wanted [] = Some wanted
-allowed [] (word ∷ words) = None
-allowed (w ∷ wanted) (word ∷ words) = and_on (follow w word)
-    (λ front. allowed (front ++ wanted) words)
 
 -- some query's tokens begin with these
 abbrev pub IsViable : List Word → Type 0

@@ -9,7 +9,8 @@ use Rattle.dram_model.specs.declared.address.Cell.TheVariants.{D}
 use Rattle.dram_model.specs.Column.{Column, blank}
 use Rattle.dram_model.specs.Chip.{Event, row_in, with_row, blank_banks}
 use Rattle.dram_model.specs.Chip.Event.{Write}
-use Rattle.dram_model.specs.Events.{on_bank_all, events_of}
+use Rattle.dram_model.specs.Events.{events_of}
+use Rattle.dram_model.proofs.EventLaws.{on_bank_all}
 use Rattle.object_alloc.specs.Spelling.{Rows, IsImage}
 use Rattle.machine_model.specs.Opened.{Image, opened}
 use Rattle.machine_model.proofs.Loads.{OnOwn, each_inside}

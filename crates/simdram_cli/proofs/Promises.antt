@@ -16,12 +16,13 @@ use Rattle.uprog_code.specs.Texts.{TextOp, ImplementsAll}
 use Rattle.machine_model.specs.Opened.{Image, opened, words_of, rows_of}
 use Rattle.machine_model.specs.Columns.{columns}
 use Rattle.machine_model.specs.Steps.{Held, table_of, words_after}
-use Rattle.machine_model.specs.Agrees.{Agrees, IsPlain, StepAgrees, DoesAll}
+use Rattle.machine_model.specs.Agrees.{Agrees, IsPlain, DoesAll}
 use Rattle.machine_model.specs.Script.{replies, words_at_end, banks_at_end, table_at_end}
 use Rattle.machine_model.specs.Script.{is_touched_by, sum_of, sum_done, rows_loaded, rows_printed}
 use Rattle.machine_model.specs.Script.{is_refused}
 use Rattle.machine_model.specs.Report.{lines, total_line, said_in_words, said_in_rows}
 use Rattle.machine_model.proofs.Texts.{same_operations, does_all}
+use Rattle.machine_model.proofs.Steps.{StepAgrees}
 use Rattle.machine_model.proofs.Scripts.{table_step}
 use Rattle.machine_model.proofs.Whole.{every_step, rows_give_words}
 use Rattle.machine_model.proofs.Opened.{opened_agrees, report_same}

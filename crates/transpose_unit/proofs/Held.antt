@@ -15,7 +15,7 @@ use Rattle.dram_model.specs.declared.dram.Counters.{Counters}
 use Rattle.dram_model.specs.Chip.{Banks, after, with_row, all_counted}
 use Rattle.transpose_unit.proofs.Events.{banks_counted}
 use Rattle.dram_model.specs.Chip.Event.{Write}
-use Rattle.dram_model.specs.Events.{on_bank_all}
+use Rattle.dram_model.proofs.EventLaws.{on_bank_all}
 pub use Rattle.dram_model.proofs.RowWrites.{rows_are}
 use Rattle.dram_model.proofs.RowWrites.{writes_numbers, OnOwn, each_inside, each_after, all_own}
 use Rattle.dram_model.proofs.RowWrites.{whole, map_parts, all_append, all_take, all_drop, all_zero}

@@ -1,7 +1,7 @@
 -- One step of a machine that follows legal code.
 use Rattle.std.proofs.Common.{◌≡◌, ℕ, zero, suc, ◌+◌, ◌-◌, ◌<◌, ◌≤◌, Bool, true, false, ◌&&◌, List}
 use Rattle.std.proofs.Common.{[], ◌∷◌, length, refl, sym, ap, ◌∙◌, subst, ⊎_elim, arith, Some}
-use Rattle.std.proofs.Common.{Result, Ok}
+use Rattle.std.proofs.Common.{Result, Ok, Err}
 use Rattle.std.specs.Prelude.{nat_lt, nat_le, slice_get, slice_index, count_by, cond}
 use Rattle.std.specs.List.{AllByRecursion}
 use Rattle.std.proofs.lemmas.List.Sums.{sum_by-cons}
@@ -25,7 +25,7 @@ use Rattle.uprog_code.specs.Machine.{trace, start}
 use Rattle.uprog_code.specs.Legal.{is_legal, IsLegalCode}
 use Rattle.uprog_code.specs.OneStep.{HasOperands, AreRegisters, turn_trace, next_place, issue_of}
 use Rattle.uprog_code.specs.OneStep.{issues_by}
-use Rattle.uprog_code.specs.Count.{walked, walked_after, counts_after, issues_aap, issues_ap}
+use Rattle.uprog_code.specs.Count.{walked, counts_after, issues_aap, issues_ap}
 
 pub both : (a b : Bool) → (a && b) ≡ true → (a ≡ true) × (b ≡ true)
 both true b h = (refl, h)
@@ -150,6 +150,14 @@ counts a p = Ok (record { aap = a; ap = p })
 
 equal_counts : (a b p q : ℕ) → a ≡ b → p ≡ q → counts a p ≡ counts b q
 equal_counts a b p q e f = ap (λ x. counts x p) e ∙ ap (counts b) f
+
+-- what a walk answers that has counted so many before the trace
+abbrev pub walked_after : Counts → Trace → Result Counts BadWalk
+walked_after c (Ended issues) = Ok (record {
+  aap = c.aap + count_by issues_aap issues;
+  ap = c.ap + count_by issues_ap issues;
+})
+walked_after c (Stuck at why) = Err (record { at = at; why = why })
 
 pub none_left : (k : Counts) → walked_after k (Ended []) ≡ Ok k
 none_left k = equal_counts (k.aap + 0) k.aap (k.ap + 0) k.ap (omega arith) (omega arith)

@@ -33,11 +33,3 @@ counts_after On c = c
 counts_after (To t) c = c
 counts_after (Issues (issued.Aap x y)) c = record { aap = c.aap + 1; ap = c.ap }
 counts_after (Issues (issued.Ap x)) c = record { aap = c.aap; ap = c.ap + 1 }
-
--- what a walk answers that has counted so many before the trace
-abbrev pub walked_after : Counts → Trace → Result Counts BadWalk
-walked_after c (Ended issues) = Ok (record {
-  aap = c.aap + count_by issues_aap issues;
-  ap = c.ap + count_by issues_ap issues;
-})
-walked_after c (Stuck at why) = Err (record { at = at; why = why })

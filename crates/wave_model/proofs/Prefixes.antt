@@ -7,8 +7,8 @@ use Rattle.std.proofs.lemmas.List.{take-map}
 use Rattle.dram_model.specs.declared.address.Command.{Command}
 use Rattle.dram_model.specs.Chip.{Event, bank_of}
 use Rattle.dram_model.specs.Chip.Event.{Row}
-use Rattle.dram_model.specs.Events.{events_of, on_bank_all}
-use Rattle.dram_model.proofs.EventLaws.{projection}
+use Rattle.dram_model.specs.Events.{events_of}
+use Rattle.dram_model.proofs.EventLaws.{on_bank_all, projection}
 use Rattle.wave_model.specs.Schedule.{events_of_picks}
 use Rattle.wave_model.specs.Laws.{StopsInItsQueue}
 use Rattle.wave_model.proofs.Waves.{own_queue, on_own}

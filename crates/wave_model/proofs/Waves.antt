@@ -10,8 +10,8 @@ use Rattle.dram_model.specs.declared.address.Command.{Command}
 use Rattle.dram_model.specs.Column.{Column, run}
 use Rattle.dram_model.specs.Chip.{Event}
 use Rattle.dram_model.specs.Chip.Event.{Row}
-use Rattle.dram_model.specs.Events.{events_of, on_bank_all, row_events}
-use Rattle.dram_model.proofs.EventLaws.{projection, step-then-run}
+use Rattle.dram_model.specs.Events.{events_of, row_events}
+use Rattle.dram_model.proofs.EventLaws.{on_bank_all, projection, step-then-run}
 use Rattle.wave_model.specs.Schedule.{Queues, is_live, live, picked, without_next}
 use Rattle.wave_model.specs.Schedule.{events_of_picks, IsWhole, Picker, PicksLive, picks}
 use Rattle.wave_model.specs.Schedule.{total_left, Ahead, Turning, Drawing, in_turn}

@@ -6,10 +6,10 @@ use Rattle.uprog_code.specs.declared.walker.Counts.{Counts}
 use Rattle.uprog_code.specs.Shape.{Shape, shape_of}
 use Rattle.uprog_code.specs.Machine.{issue, start}
 use Rattle.uprog_code.specs.OneStep.{turn_trace, next_place}
-use Rattle.uprog_code.specs.Count.{walked, walked_after, counts_after}
+use Rattle.uprog_code.specs.Count.{walked, counts_after}
 use Rattle.uprog_code.proofs.Steps.{legal_operands, trace_is, no_more, one_step, start_registers}
 use Rattle.uprog_code.proofs.Steps.{goes_on, not_last, place_in, walked_is, counts_on, few_after}
-use Rattle.uprog_code.proofs.Steps.{some_first, none_left}
+use Rattle.uprog_code.proofs.Steps.{some_first, none_left, walked_after}
 use Rattle.uprog_code.proofs.walker.walk.Goals as goal
 
 pub loop-k-init : goal.loop-k-init

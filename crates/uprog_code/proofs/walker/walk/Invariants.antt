@@ -3,7 +3,8 @@ use Rattle.uprog_code.specs.Shape.{shape_of}
 use Rattle.uprog_code.specs.declared.TheConstants.{WALK_MAX}
 use Rattle.uprog_code.specs.Machine.{issue, trace}
 use Rattle.uprog_code.specs.OneStep.{AreRegisters}
-use Rattle.uprog_code.specs.Count.{walked, walked_after}
+use Rattle.uprog_code.specs.Count.{walked}
+use Rattle.uprog_code.proofs.Steps.{walked_after}
 use Rattle.uprog_code.proofs.walker.walk.Given as goal
 
 -- the counts so far, with what is left to issue, are those of the whole trace
