@@ -14,7 +14,7 @@ use Rattle.loop_ir.specs.declared.ir.Sub.TheVariants.{Outer, OuterDown, Sum, Dow
 use Rattle.loop_ir.specs.declared.ir.Sub.TheVariants.{NPlusInner}
 use Rattle.loop_ir.specs.Plain.{Block, InnerOf, StepOf}
 use Rattle.loop_ir.specs.Plain.InnerOf.{Alone, Across}
-use Rattle.loop_ir.specs.Plain.StepOf.{Single, Along, Nest}
+use Rattle.loop_ir.specs.Plain.StepOf.{Single, Along, Nest, Pairs}
 use Rattle.loop_ir.specs.Loops.{RoundOf}
 
 -- four commands for a node and three for an output
@@ -146,6 +146,7 @@ abbrev pub step_cost : StepOf Block → ℕ
 step_cost (Single b) = single_cost b
 step_cost (Along b) = body_cost b + 15
 step_cost (Nest parts) = sum_by inner_cost parts
+step_cost (Pairs b) = body_cost b + 15
 
 -- how many instructions a loop program may take, its end aside
 abbrev pub code_cost : List (StepOf Block) → ℕ
@@ -156,6 +157,7 @@ abbrev pub step_bodies : StepOf Block → ℕ
 step_bodies (Single b) = 1
 step_bodies (Along b) = 1
 step_bodies (Nest parts) = length parts
+step_bodies (Pairs b) = 1
 
 -- the number of bodies of a loop program
 abbrev pub bodies : List (StepOf Block) → ℕ

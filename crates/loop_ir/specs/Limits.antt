@@ -9,7 +9,7 @@ use Rattle.loop_ir.specs.declared.ir.Sub.TheVariants.{Outer, OuterDown, Sum, Dow
 use Rattle.loop_ir.specs.declared.ir.Sub.TheVariants.{NPlusInner}
 use Rattle.loop_ir.specs.Plain.{Block, InnerOf, StepOf, AllParts}
 use Rattle.loop_ir.specs.Plain.InnerOf.{Alone, Across}
-use Rattle.loop_ir.specs.Plain.StepOf.{Single, Along, Nest}
+use Rattle.loop_ir.specs.Plain.StepOf.{Single, Along, Nest, Pairs}
 use Rattle.loop_ir.specs.Loops.{RoundOf, all_rounds}
 use Rattle.loop_ir.specs.Spots.{Spot, IsOwn, is_state, nth_place, nth_spot}
 use Rattle.loop_ir.specs.WellFormed.{IsWellFormed}
@@ -54,6 +54,7 @@ abbrev pub step_stands : StepOf Block → Bool
 step_stands (Single b) = all_stand false false b
 step_stands (Along b) = all_stand true false b
 step_stands (Nest parts) = list_all inner_stands parts
+step_stands (Pairs b) = all_stand true true b
 
 -- In a round the body's places with rows are rows that it may have, and none of its writes is a
 -- source's. The row of a write is that of no other write, and that of at most one read, which is a

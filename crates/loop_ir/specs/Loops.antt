@@ -8,7 +8,7 @@ use Rattle.loop_ir.specs.declared.ir.Count.{Count}
 use Rattle.loop_ir.specs.declared.ir.Count.TheVariants.{All, Rest}
 use Rattle.loop_ir.specs.Plain.{InnerOf, StepOf}
 use Rattle.loop_ir.specs.Plain.InnerOf.{Alone, Across}
-use Rattle.loop_ir.specs.Plain.StepOf.{Single, Along, Nest}
+use Rattle.loop_ir.specs.Plain.StepOf.{Single, Along, Nest, Pairs}
 
 -- the lists at i, i + 1 and so on, as many as the count
 abbrev pub rounds : {A : Type 0} → (ℕ → List A) → ℕ → ℕ → List A
@@ -46,6 +46,7 @@ abbrev pub step_rounds : {A : Type 0} → ℕ → StepOf A → List (RoundOf A)
 step_rounds n (Single b) = one_round b 0 0
 step_rounds n (Along b) = rounds (λ i. one_round b i 0) 0 n
 step_rounds n (Nest parts) = rounds (λ o. inner_rounds n o parts) 0 n
+step_rounds n (Pairs b) = rounds (λ i. one_round b i 1) 0 (n - 1)
 
 -- every body at every position, in the order in which they come at width n
 abbrev pub all_rounds : {A : Type 0} → ℕ → List (StepOf A) → List (RoundOf A)

@@ -23,11 +23,13 @@ pub data InnerOf (A : Type 0) : Type 0 where
   Alone : A → InnerOf A
   Across : Count → A → InnerOf A
 
--- a body once, a body at each position, or parts at each outer position
+-- a body once, a body at each position, parts at each outer position, or a body at each position
+-- that has one above it
 pub data StepOf (A : Type 0) : Type 0 where
   Single : A → StepOf A
   Along : A → StepOf A
   Nest : List (InnerOf A) → StepOf A
+  Pairs : A → StepOf A
 
 -- the body that the code built, without where it lies in memory
 abbrev pub block_of : Body → Block
@@ -48,6 +50,7 @@ abbrev pub step_of : Step → StepOf Block
 step_of (code_step.Once b) = Single (block_of b)
 step_of (code_step.Each b) = Along (block_of b)
 step_of (code_step.Nest parts) = Nest (map inner_of parts.items)
+step_of (code_step.Pairs b) = Pairs (block_of b)
 
 -- the steps of a loop program that the code built
 abbrev pub steps_of : LoopProgram → List (StepOf Block)
@@ -63,6 +66,7 @@ abbrev pub step_map : {A B : Type 0} → (A → B) → StepOf A → StepOf B
 step_map f (Single a) = Single (f a)
 step_map f (Along a) = Along (f a)
 step_map f (Nest parts) = Nest (map (inner_map f) parts)
+step_map f (Pairs a) = Pairs (f a)
 
 -- what holds of every body of a nest
 abbrev pub AllInner : {A : Type 0} → (A → Type 0) → List (InnerOf A) → Type 0
@@ -75,6 +79,7 @@ abbrev pub AllStep : {A : Type 0} → (A → Type 0) → StepOf A → Type 0
 AllStep P (Single a) = P a
 AllStep P (Along a) = P a
 AllStep P (Nest parts) = AllInner P parts
+AllStep P (Pairs a) = P a
 
 -- what holds of every body of a loop program
 abbrev pub AllParts : {A : Type 0} → (A → Type 0) → List (StepOf A) → Type 0

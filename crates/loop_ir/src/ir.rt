@@ -101,6 +101,9 @@ pub enum Step {
     Once(Body),
     Each(Body),
     Nest(Vec<Inner>),
+    /// A body at each position that has one above it: `Inner` is the position, from 0 to n - 2, and
+    /// `Sum` the one above. The outer index is 1. At width 1 there is no round.
+    Pairs(Body),
 }
 
 /// Steps that are done one after another, the same at every width.

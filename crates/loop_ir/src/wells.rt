@@ -128,6 +128,7 @@ fn step_is_well_formed(step: &Step) -> bool
         Step::Once(body) => is_well_formed(body),
         Step::Each(body) => is_well_formed(body),
         Step::Nest(parts) => parts_are_well_formed(parts),
+        Step::Pairs(body) => is_well_formed(body),
     }
 }
 

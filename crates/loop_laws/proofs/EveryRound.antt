@@ -15,7 +15,7 @@ use Rattle.loop_ir.specs.declared.ir.Count.TheVariants.{All, Rest}
 use Rattle.loop_ir.specs.declared.ir.Place.{Place}
 use Rattle.loop_ir.specs.Plain.{Block, InnerOf, StepOf, AllInner, AllParts, inner_map}
 use Rattle.loop_ir.specs.Plain.InnerOf.{Alone, Across}
-use Rattle.loop_ir.specs.Plain.StepOf.{Single, Along, Nest}
+use Rattle.loop_ir.specs.Plain.StepOf.{Single, Along, Nest, Pairs}
 use Rattle.loop_ir.specs.Loops.{RoundOf, round_at, one_round, rounds, positions, sub_value}
 use Rattle.loop_ir.specs.Loops.{inner_rounds, all_rounds}
 use Rattle.loop_ir.specs.Spots.{Spot, spot_at, spot_in, nth_place, nth_spot, IsOwn, is_state}
@@ -320,6 +320,13 @@ module _ (n : ℕ) (rooms : List Room) (some : 0 < n) (are : RoomsApart n rooms)
       inner_rounds n o (map (inner_map (placed_body rooms)) ps)) 0 n n (omega arith)
       (λ o lt. inners_are ps o lt fit.0))
       (rounds_are ss fit.1)
+  rounds_are (Pairs b ∷ ss) fit = all_append (IsRound (IsOwned n rooms) n)
+      (rounds (λ i. one_round (placed_body rooms b) i 1) 0 (n - 1))
+      (all_rounds n (placed_steps rooms ss))
+      (all_rounds_of (IsRound (IsOwned n rooms) n) (λ i. one_round (placed_body rooms b) i 1) 0
+      (n - 1) (n - 1) (omega arith)
+      (λ i lt. (round_is n rooms some are Left true b fit.0 i 1 lt (omega (arith, lt)), tt)))
+      (rounds_are ss fit.1)
 
   inners_slim : RoomsHaveRows rooms → (ps : List (InnerOf Marked)) → InnersFit rooms ps
       → inners_have_room (map (inner_map (placed_body rooms)) ps) ≡ true
@@ -346,6 +353,9 @@ module _ (n : ℕ) (rooms : List Room) (some : 0 < n) (are : RoomsApart n rooms)
       (inners_have_room (map (inner_map (placed_body rooms)) ps))
       (steps_have_room (placed_steps rooms ss)) e in
       (inners_slim have ps fit.0 a.0, steps_slim have ss fit.1 a.1)
+  steps_slim have (Pairs b ∷ ss) fit e = let a = and_parts (has_room (placed_body rooms b))
+      (steps_have_room (placed_steps rooms ss)) e in
+      (slim_is n rooms some are Left true b fit.0 have a.0, steps_slim have ss fit.1 a.1)
 
 -- the rows that it may have are among others
 pub round_among : (P Q : Spot → Type 0) → ((q : Spot) → P q → Q q) → (n : ℕ) (r : RoundOf Block)

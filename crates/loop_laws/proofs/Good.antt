@@ -7,9 +7,10 @@ use Rattle.loop_ir.specs.declared.ir.Sub.{Sub}
 use Rattle.loop_ir.specs.declared.ir.Sub.TheVariants as sub
 use Rattle.loop_ir.specs.Plain.{InnerOf, StepOf}
 use Rattle.loop_ir.specs.Plain.InnerOf.{Alone, Across}
-use Rattle.loop_ir.specs.Plain.StepOf.{Single, Along, Nest}
+use Rattle.loop_ir.specs.Plain.StepOf.{Single, Along, Nest, Pairs}
 use Rattle.loop_ir.specs.Costs.{sub_code}
-use Rattle.loop_laws.specs.Rooms.{Room, room_at, Mark, mark_at, Marked, Reach, Nowhere, Whole, fits}
+use Rattle.loop_laws.specs.Rooms.{Room, room_at, Mark, mark_at, Marked, Reach, Nowhere, Whole, Left}
+use Rattle.loop_laws.specs.Rooms.{fits}
 use Rattle.loop_laws.specs.Rooms.{BodyFits, reach_of, InnersFit, StepsFit, all_fit, none_like}
 use Rattle.loop_laws.specs.Rooms.{alone_in, writes_fit, body_fits, inners_fit, steps_fit}
 
@@ -207,3 +208,6 @@ steps_are_fit rooms (Along b ∷ ss) e = let a =
 steps_are_fit rooms (Nest ps ∷ ss) e = let a =
     and_parts (inners_fit rooms ps) (steps_fit rooms ss) e in
     (inners_are_fit rooms ps a.0, steps_are_fit rooms ss a.1)
+steps_are_fit rooms (Pairs b ∷ ss) e = let a =
+    and_parts (body_fits Left true rooms b) (steps_fit rooms ss) e in
+    (body_is_fit Left true rooms b a.0, steps_are_fit rooms ss a.1)

@@ -1,9 +1,9 @@
 -- Steps one after another.
-use Rattle.std.proofs.Common.{◌≡◌, ℕ, zero, suc, ◌+◌, List, [], ◌∷◌, ◌++◌, refl, sym, ap, ◌∙◌}
-use Rattle.std.proofs.Common.{arith}
+use Rattle.std.proofs.Common.{◌≡◌, ℕ, zero, suc, ◌+◌, ◌-◌, List, [], ◌∷◌, ◌++◌, refl, sym, ap}
+use Rattle.std.proofs.Common.{◌∙◌, arith}
 use Rattle.loop_ir.specs.Plain.{Block, InnerOf, StepOf}
 use Rattle.loop_ir.specs.Plain.InnerOf.{Alone, Across}
-use Rattle.loop_ir.specs.Plain.StepOf.{Along, Nest}
+use Rattle.loop_ir.specs.Plain.StepOf.{Along, Nest, Pairs}
 use Rattle.loop_ir.specs.Loops.{RoundOf, round_at, one_round, rounds, positions, inner_rounds}
 use Rattle.loop_ir.specs.Loops.{all_rounds}
 use Rattle.loop_ir.specs.Spots.{Spots, after_round, after_rounds}
@@ -25,6 +25,12 @@ pub steps_each : (n : ℕ) (b : Block) (ss : List (StepOf Block)) (bits : Spots)
 steps_each n b ss bits =
     rounds_append n (rounds (λ i. one_round b i 0) 0 n) (all_rounds n ss) bits
     ∙ ap (after_rounds n (all_rounds n ss)) (many_is n 0 b n bits)
+
+pub steps_pairs : (n : ℕ) (b : Block) (ss : List (StepOf Block)) (bits : Spots)
+    → after_steps n (Pairs b ∷ ss) bits ≡ after_steps n ss (after_many n 1 b (n - 1) bits)
+steps_pairs n b ss bits =
+    rounds_append n (rounds (λ i. one_round b i 1) 0 (n - 1)) (all_rounds n ss) bits
+    ∙ ap (after_rounds n (all_rounds n ss)) (many_is n 1 b (n - 1) bits)
 
 -- the parts of a nest at an outer position
 abbrev pub after_parts : ℕ → ℕ → List (InnerOf Block) → Spots → Spots

@@ -6,7 +6,7 @@ use Rattle.std.proofs.lemmas.List.Sums.{sum_by-cons, sum_by-append}
 use Rattle.loop_ir.specs.declared.ir.Count.TheVariants.{All, Rest}
 use Rattle.loop_ir.specs.Plain.{Block, InnerOf, StepOf}
 use Rattle.loop_ir.specs.Plain.InnerOf.{Alone, Across}
-use Rattle.loop_ir.specs.Plain.StepOf.{Single, Along, Nest}
+use Rattle.loop_ir.specs.Plain.StepOf.{Single, Along, Nest, Pairs}
 use Rattle.loop_ir.specs.Loops.{RoundOf, round_at, one_round, rounds, inner_rounds, all_rounds}
 
 -- a number of each body, summed over all rounds
@@ -26,6 +26,7 @@ steps_sum f n [] = 0
 steps_sum f n (Single b ∷ ss) = 2 * f b + steps_sum f n ss
 steps_sum f n (Along b ∷ ss) = 2 * (n * f b) + steps_sum f n ss
 steps_sum f n (Nest ps ∷ ss) = nest_sum f n n ps + steps_sum f n ss
+steps_sum f n (Pairs b ∷ ss) = 2 * ((n - 1) * f b) + steps_sum f n ss
 
 module _ (f : Block → ℕ) where
   more : (r : RoundOf Block) (rs : List (RoundOf Block))
@@ -97,6 +98,9 @@ module _ (f : Block → ℕ) where
   sum_is n (Nest ps ∷ ss) = let e = sum_is n ss in
       let a = sum_append (rounds (λ o. inner_rounds n o ps) 0 n) (all_rounds n ss) in
       let c = nest_is n ps 0 n (omega arith) in omega (arith, e, a, c)
+  sum_is n (Pairs b ∷ ss) = let e = sum_is n ss in
+      let a = sum_append (rounds (λ j. one_round b j 1) 0 (n - 1)) (all_rounds n ss) in
+      let c = sum_each b 1 0 (n - 1) in omega (arith, e, a, c)
 
 -- of two counts of which one is nowhere greater
 pub sum_most : (f g : Block → ℕ) → ((b : Block) → f b ≤ g b) → (rs : List (RoundOf Block))

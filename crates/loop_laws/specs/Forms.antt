@@ -7,7 +7,7 @@ use Rattle.mig_graph.specs.Graph.{IsGraph}
 use Rattle.mig_graph.specs.Outputs.{AreNamed}
 use Rattle.loop_ir.specs.Plain.{Block, InnerOf, StepOf, AllParts}
 use Rattle.loop_ir.specs.Plain.InnerOf.{Alone, Across}
-use Rattle.loop_ir.specs.Plain.StepOf.{Single, Along, Nest}
+use Rattle.loop_ir.specs.Plain.StepOf.{Single, Along, Nest, Pairs}
 use Rattle.loop_ir.specs.Loops.{all_rounds}
 use Rattle.loop_ir.specs.Spots.{Spot, is_state, nth_place}
 use Rattle.loop_ir.specs.WellFormed.{IsOneValue}
@@ -66,6 +66,7 @@ steps_have_room [] = true
 steps_have_room (Single b ∷ ss) = has_room b && steps_have_room ss
 steps_have_room (Along b ∷ ss) = has_room b && steps_have_room ss
 steps_have_room (Nest ps ∷ ss) = inners_have_room ps && steps_have_room ss
+steps_have_room (Pairs b ∷ ss) = has_room b && steps_have_room ss
 
 -- a loop program is small enough that its code is within the limits: the test that a written
 -- program is checked by

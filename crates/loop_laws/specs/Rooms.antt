@@ -12,7 +12,7 @@ use Rattle.loop_ir.specs.declared.ir.Count.TheVariants.{All, Rest}
 use Rattle.loop_ir.specs.declared.ir.Place.{Place}
 use Rattle.loop_ir.specs.Plain.{Block, InnerOf, StepOf, step_map}
 use Rattle.loop_ir.specs.Plain.InnerOf.{Alone, Across}
-use Rattle.loop_ir.specs.Plain.StepOf.{Single, Along, Nest}
+use Rattle.loop_ir.specs.Plain.StepOf.{Single, Along, Nest, Pairs}
 use Rattle.loop_ir.specs.Spots.{Spot, spot_in, IsOwn}
 use Rattle.loop_ir.specs.Costs.{sub_code}
 
@@ -188,6 +188,7 @@ StepsFit rooms [] = Unit {0}
 StepsFit rooms (Single b ∷ ss) = BodyFits Nowhere false rooms b.reads b.writes × StepsFit rooms ss
 StepsFit rooms (Along b ∷ ss) = BodyFits Whole false rooms b.reads b.writes × StepsFit rooms ss
 StepsFit rooms (Nest ps ∷ ss) = InnersFit rooms ps × StepsFit rooms ss
+StepsFit rooms (Pairs b ∷ ss) = BodyFits Left true rooms b.reads b.writes × StepsFit rooms ss
 
 -- the same as a test
 abbrev pub all_fit : Reach → Bool → List Room → List Mark → Bool
@@ -229,3 +230,4 @@ steps_fit rooms [] = true
 steps_fit rooms (Single b ∷ ss) = body_fits Nowhere false rooms b && steps_fit rooms ss
 steps_fit rooms (Along b ∷ ss) = body_fits Whole false rooms b && steps_fit rooms ss
 steps_fit rooms (Nest ps ∷ ss) = inners_fit rooms ps && steps_fit rooms ss
+steps_fit rooms (Pairs b ∷ ss) = body_fits Left true rooms b && steps_fit rooms ss

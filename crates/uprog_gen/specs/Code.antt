@@ -27,7 +27,7 @@ use Rattle.loop_ir.specs.declared.ir.Count.TheVariants.{All, Rest}
 use Rattle.uprog_gen.specs.declared.plan.Plan.{Plan}
 use Rattle.loop_ir.specs.Plain.{Block, InnerOf, StepOf, step_map}
 use Rattle.loop_ir.specs.Plain.InnerOf.{Alone, Across}
-use Rattle.loop_ir.specs.Plain.StepOf.{Single, Along, Nest}
+use Rattle.loop_ir.specs.Plain.StepOf.{Single, Along, Nest, Pairs}
 use Rattle.loop_ir.specs.Loops.{RoundOf, sub_value}
 use Rattle.loop_ir.specs.Spots.{nth_place}
 use Rattle.loop_ir.specs.Costs.{same_sub, is_used, is_fixed}
@@ -242,12 +242,23 @@ nest_code inner pc = SetI 0 0 ∷ SetN 1 ∷ SubI 1 1
 abbrev pub outside : List Uop
 outside = SetI 0 0 ∷ SetT 1 ∷ []
 
+-- before a loop over the positions that have one above them, which ends at this place: o is 1. At
+-- width 1 there is no round, and a jump leads past the loop
+abbrev pub guard_code : ℕ → ℕ → List Uop
+guard_code pc end = SetI 0 1 ∷ SetT 1 ∷ Bnez 1 (pc + 1 + 1 + 1 + 1) ∷ Bnez 0 end ∷ SubI 1 1 ∷ []
+
+-- the code of such a loop
+abbrev pub pairs_code : Part → ℕ → List Uop
+pairs_code p pc = let q = pc + 1 + 1 + 1 + 1 + 1 in
+    guard_code pc (q + length (loop_code Rest p q)) ++ loop_code Rest p q
+
 -- the code of a step, whose first instruction has this place
 abbrev pub step_code : StepOf Part → ℕ → List Uop
 step_code (Single p) pc = if is_fixed p.block then body_uops p else outside ++ once_code p
 step_code (Along p) pc = outside ++ loop_code All p (pc + 1 + 1)
 step_code (Nest []) pc = []
 step_code (Nest (x ∷ xs)) pc = nest_code (inner_list (x ∷ xs)) pc
+step_code (Pairs p) pc = pairs_code p pc
 
 -- the code of the steps, whose first instruction has this place
 abbrev pub program_code : List (StepOf Part) → ℕ → List Uop

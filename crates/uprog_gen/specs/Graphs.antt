@@ -16,7 +16,7 @@ use Rattle.mig_graph.specs.Reduced.{IsReduced}
 use Rattle.uprog_code.specs.Machine.{trace, issues_of}
 use Rattle.uprog_code.specs.Shape.{Microprogram}
 use Rattle.loop_ir.specs.Plain.{Block as Body, StepOf}
-use Rattle.loop_ir.specs.Plain.StepOf.{Single, Along, Nest}
+use Rattle.loop_ir.specs.Plain.StepOf.{Single, Along, Nest, Pairs}
 use Rattle.block_lower.specs.Inputs.{block_inputs, name_at}
 use Rattle.uprog_gen.specs.Totals.{IsExact}
 
@@ -95,6 +95,7 @@ abbrev pub step_graph : StepOf Body → List Graphed
 step_graph (Single b) = []
 step_graph (Along b) = let g : Graphed = record { graph = b.graph; outs = b.outs } in g ∷ []
 step_graph (Nest parts) = []
+step_graph (Pairs b) = []
 
 -- the graph of a loop program's last step: of a block, the one that is done at each position
 abbrev pub last_graph : List (StepOf Body) → List Graphed

@@ -4,9 +4,11 @@ ghost use Rattle.std.specs.Prelude.{◌≡◌, ◌<◌, ◌≤◌, ◌+◌, ◌^
 ghost use Rattle.std.specs.Prelude.{true};
 ghost use Rattle.row_alloc.specs.declared.body.BodyRef.{BodyRef};
 ghost use Rattle.loop_ir.specs.Plain.{block_of};
+ghost use Rattle.loop_ir.specs.Costs.{body_cost};
 ghost use Rattle.uprog_gen.specs.Code.{row_space, index_in, place_ref, code_ref, code_uop, init};
 ghost use Rattle.uprog_gen.specs.Code.{before, after, inits, befores, afters, counter, body_uops};
-ghost use Rattle.uprog_gen.specs.Code.{once_code, turn_code, enter_code, loop_code};
+ghost use Rattle.uprog_gen.specs.Code.{once_code, turn_code, enter_code, loop_code, guard_code};
+ghost use Rattle.uprog_gen.specs.Code.{pairs_code};
 ghost use Rattle.uprog_gen.specs.Made.{part_of, is_ref_of, are_refs_of};
 ghost use Rattle.uprog_gen.specs.Parts.{IsPart};
 
@@ -224,4 +226,34 @@ pub fn push_loop(
     let top = code.len() as u16;
     push_turn(code, body, made)?;
     keep(code, Uop::Bnez(2, top))
+}
+
+/// What stands before a loop over neighbours that ends at this place.
+fn push_guard(code: &mut Vec<Uop>, end: u16) -> Result<(), NoMemory>
+    requires { length code.old.items + 8 < 2 ^ 16 }
+    ensures { OnOk result (code.new.items ≡ code.old.items
+        ++ guard_code (length code.old.items) end) }
+{
+    let first = code.len() as u16 + 4;
+    keep(code, Uop::SetI(0, 1))?;
+    keep(code, Uop::SetT(1))?;
+    keep(code, Uop::Bnez(1, first))?;
+    keep(code, Uop::Bnez(0, end))?;
+    keep(code, Uop::SubI(1, 1))
+}
+
+/// A body at each position that has one above it. The jump past the loop gets its target when the
+/// loop stands.
+pub fn push_pairs(code: &mut Vec<Uop>, body: &Body, made: &Made) -> Result<(), NoMemory>
+    requires part { IsPart (part_of (block_of body.now) made.now) }
+    requires room { length code.old.items + body_cost (block_of body.now) + 16 < 2 ^ 16 }
+    ensures { OnOk result (code.new.items ≡ code.old.items
+        ++ pairs_code (part_of (block_of body.now) made.now) (length code.old.items)) }
+{
+    let past = code.len() + 3;
+    push_guard(code, 0)?;
+    push_loop(code, Count::Rest, body, made)?;
+    let end = code.len() as u16;
+    code[past] = Uop::Bnez(0, end);
+    Ok(())
 }

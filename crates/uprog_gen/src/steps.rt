@@ -7,7 +7,7 @@ ghost use Rattle.loop_ir.specs.Limits.{IsSmall};
 ghost use Rattle.loop_ir.specs.Costs.{inner_cost, step_cost, code_cost};
 ghost use Rattle.uprog_gen.specs.Emits.{EmitsInner, EmitsSteps};
 
-use crate::emit::{push_body, push_loop, push_once};
+use crate::emit::{push_body, push_loop, push_once, push_pairs};
 use crate::part::make_part;
 use crate::plan::is_fixed;
 use loop_ir::{Body, Count, Inner, Step};
@@ -101,6 +101,11 @@ fn emit_step(step: &Step, code: &mut Vec<Uop>, alloc: Global) -> Result<(), NoMe
             keep(code, Uop::SetI(0, 0))?;
             keep(code, Uop::SetT(1))?;
             push_loop(code, Count::All, body, &made)?;
+            Ok(())
+        }
+        Step::Pairs(body) => {
+            let made = make_part(body, alloc)?;
+            push_pairs(code, body, &made)?;
             Ok(())
         }
     }

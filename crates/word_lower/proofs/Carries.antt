@@ -1,4 +1,4 @@
--- add, sub, shl1, shr1 and abs.
+-- add, sub and abs.
 use Rattle.std.proofs.Common.{◌≡◌, ℕ, ◌+◌, ◌-◌, ◌*◌, Bool, true, false}
 use Rattle.std.proofs.Common.{not, List, [], ◌∷◌, refl, arith}
 use Rattle.std.specs.Prelude.{◌&&◌, ◌||◌}

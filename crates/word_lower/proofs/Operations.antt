@@ -15,14 +15,14 @@ use Rattle.op_text.specs.Meaning.{width}
 use Rattle.loop_ir.specs.declared.ir.Sub.TheVariants as sub
 use Rattle.loop_ir.specs.Loops.{all_rounds}
 use Rattle.loop_ir.specs.Spots.{Spots, set_spot, after_rounds}
-use Rattle.loop_laws.specs.Turns.{Origin, Standing, Carried, turn}
+use Rattle.loop_laws.specs.Turns.{Origin, Standing, Carried, turn, after_many}
 use Rattle.loop_laws.specs.Rooms.{placed_body}
 use Rattle.loop_laws.proofs.Same.{set_same}
-use Rattle.loop_laws.proofs.Steps.{steps_each}
+use Rattle.loop_laws.proofs.Steps.{steps_each, steps_pairs}
 use Rattle.word_lower.specs.Places.{scratch_bit}
 use Rattle.word_lower.specs.Programs.{target, first, second, third, plain, complemented, off, up}
 use Rattle.word_lower.specs.Programs.{constant, moved, inverted, joined, without, unlike, chosen}
-use Rattle.word_lower.specs.Programs.{shifted, added, lessened, negated_if, compared, agreed}
+use Rattle.word_lower.specs.Programs.{added, lessened, negated_if, compared, agreed}
 use Rattle.word_lower.specs.Programs.{is_linear, program_at}
 use Rattle.word_lower.proofs.Setting.{bit, number, operation, Slots, rooms_for, steps_for, row}
 use Rattle.word_lower.proofs.Setting.{number_at, AreSlots, Gives, DoesWords, DoesBits}
@@ -31,7 +31,8 @@ use Rattle.word_lower.proofs.Sums.{add_gives, sub_gives, shl1_gives, shr1_gives,
 use Rattle.word_lower.proofs.Bitwise.{value_and, value_or, value_xor, value_inverted, value_true}
 use Rattle.word_lower.proofs.Bitwise.{relu_gives, least, greatest, any_gives, all_gives}
 use Rattle.word_lower.proofs.Bitwise.{parity_gives, at_least}
-use Rattle.word_lower.proofs.Passes.{bit_free, carry_does, upwards, downwards}
+use Rattle.word_lower.proofs.Passes.{bit_free, carry_does, upwards}
+use Rattle.word_lower.proofs.Shifts.{shifts}
 use Rattle.word_lower.proofs.Words.{word_does, unlike_bit, chosen_bit, by_bit, a_read, top_read}
 use Rattle.word_lower.proofs.Words.{b_read, s_read, choice_does, bit_does}
 use Rattle.word_lower.proofs.Carries.{added_digit, lessened_digit, negated_bit, negated_state}
@@ -198,22 +199,6 @@ module _ (n : ℕ) (m : Slots) (are : AreSlots n n n 1 m) where
       p refl))
       (λ i lt. lessened_digit (start (row n m.a i)) (start (row n m.b i)) (c i))))
 
-  shl1_does : DoesWords op.Shl1 Word n n 1 m
-  unfolding values_from
-  shl1_does before =
-      let b = placed_body (rooms_for op.Shl1 m)
-      (shifted (first sub.Inner) (second sub.Zero) (target sub.Inner)) in
-      let xs = after_one 1 in
-      let p = row n (scratch_bit m.free_bit) 0 in
-      let start = set_spot before p false in
-      let c = λ (i : ℕ). turn n 0 b xs start i 1 in
-      subst (Gives op.Shl1 n n n 1 m before) (sym (steps_each n b [] start))
-      (carry_does op.Shl1 n m are sub.Inner (λ v. v) (upwards n 0) b.reads b.graph.inputs
-      b.graph.nodes (plain 2) (plain 1) xs false before
-      (a_by_carry n m are, ((omega arith, λ i j li lj. refl), tt))
-      (shl1_gives (λ i. start (row n m.a i)) (λ i. turn n 0 b xs start (suc i) 0) c n
-      (set_same before p false p refl) (λ i lt. refl) (λ i lt. refl)))
-
   abs_does : 0 < n → DoesWords op.Abs Word n n 1 m
   unfolding values_from
   abs_does some before =
@@ -238,35 +223,39 @@ module _ (n : ℕ) (m : Slots) (are : AreSlots n n n 1 m) where
       (a_by_carry n m are, (top_by_carry n m are, ((omega arith, λ i j li lj. refl), tt)))
       (gives n e refl))
 
-  -- downwards: the state has the bit of the position above
-  shr1_does : 0 < n → DoesWords op.Shr1 Word n n 1 m
+-- one position up or down: the one row that is left is off
+module _ (n : ℕ) (m : Slots) (are : AreSlots n n n 1 m) (some : 0 < n) where
+  shl1_does : DoesWords op.Shl1 Word n n 1 m
   unfolding values_from
-  shr1_does some before =
-      let b = placed_body (rooms_for op.Shr1 m)
-      (shifted (first sub.InnerDown) (second sub.Zero) (target sub.InnerDown)) in
-      let g = bit_free n n n 0 m are in
-      let xs = after_one 1 in
-      let p = row n (scratch_bit m.free_bit) 0 in
-      let start = set_spot before p false in
-      let y = λ (v : ℕ). turn n 0 b xs start (suc (n - 1 - v)) 0 in
-      let a = λ (v : ℕ). start (row n m.a v) in
-      let top : y (n - 1) ≡ false = (let e : n - 1 - (n - 1) ≡ 0 = omega arith in
-      ap (λ i. turn n 0 b xs start i 1) e ∙ set_same before p false p refl) in
-      let inner : (v : ℕ) → v < n - 1 → y v ≡ a (suc v) =
-      λ v lt. (let e : n - 1 - v ≡ suc (n - 1 - suc v) = omega arith in
-      let h : n - 1 - (n - 1 - suc v) ≡ suc v = omega arith in
-      ap (λ i. turn n 0 b xs start i 1) e ∙ ap a h) in
-      let e : n ≡ suc (n - 1) = omega arith in
-      subst (Gives op.Shr1 n n n 1 m before) (sym (steps_each n b [] start))
-      (carry_does op.Shr1 n m are sub.InnerDown (λ v. n - 1 - v) (downwards n 0) b.reads
-      b.graph.inputs b.graph.nodes (plain 2) (plain 1) xs false before (
-        (
-          (λ i j li lj e. are.a.by (n - 1 - i) (n - 1 - j) (omega arith) (omega arith) e),
-          ((λ i j li lj e. g.a.by (n - 1 - i) 0 (omega arith) (omega arith) e), tt),
-        ),
-        ((omega arith, λ i j li lj. refl), tt),
-      )
-      (subst (λ k. number y k ≡ number a k / 2) (sym e) (shr1_gives a y (n - 1) top inner)))
+  shl1_does before =
+      let b = placed_body (rooms_for op.Shl1 m) (moved (first sub.Inner) (target sub.Sum)) in
+      let start = set_spot before (row n m.target 0) false in
+      let y = λ (v : ℕ). after_many n 1 b (n - 1) start (row n m.target v) in
+      let s = shifts n 0 m are sub.Inner sub.Sum some (λ i lt. omega (arith, lt))
+      (λ i lt. omega (arith, lt)) (λ i j e. omega (arith, e)) (λ i lt e. omega (arith, e)) before in
+      subst (Gives op.Shl1 n n n 1 m before) (sym (steps_pairs n b [] start)) record {
+        gives = shl1_gives (λ i. before (row n m.a i)) y n s.off (λ i lt.
+            let e : suc i ≡ 1 + i = omega arith in ap y e ∙ s.word i (omega (arith, lt)));
+        keeps = s.keeps;
+      }
+
+  shr1_does : DoesWords op.Shr1 Word n n 1 m
+  unfolding values_from
+  shr1_does before =
+      let b = placed_body (rooms_for op.Shr1 m) (moved (first sub.Sum) (target sub.Inner)) in
+      let start = set_spot before (row n m.target (n - 1)) false in
+      let y = λ (v : ℕ). after_many n 1 b (n - 1) start (row n m.target v) in
+      let a = λ (v : ℕ). before (row n m.a v) in
+      let s = shifts n (n - 1) m are sub.Sum sub.Inner (omega (arith, some))
+      (λ i lt. omega (arith, lt)) (λ i lt. omega (arith, lt)) (λ i j e. e)
+      (λ i lt e. omega (arith, lt, e)) before in
+      let all : n ≡ suc (n - 1) = omega (arith, some) in
+      subst (Gives op.Shr1 n n n 1 m before) (sym (steps_pairs n b [] start)) record {
+        gives = subst (λ k. number y k ≡ number a k / 2) (sym all)
+            (shr1_gives a y (n - 1) s.off (λ i lt. s.word i lt
+            ∙ (let e : 1 + i ≡ suc i = omega arith in ap a e)));
+        keeps = s.keeps;
+      }
 
 -- a state in the target's row
 module _ (n : ℕ) (m : Slots) (are : AreSlots n 1 n 0 m) where
@@ -471,7 +460,7 @@ op_gives op.IfElse Word l n m some are = if_else_does n m are
 op_gives op.IfElse Bit l n m some are = if_else_bit_does n m
 op_gives op.Zero c l n m some are = zero_does n m are
 op_gives op.Ones c l n m some are = ones_does n m are
-op_gives op.Shl1 c l n m some are = shl1_does n m are
+op_gives op.Shl1 c l n m some are = shl1_does n m are some
 op_gives op.Shr1 c l n m some are = shr1_does n m are some
 op_gives op.Add c l n m some are = add_does n m are
 op_gives op.Sub c l n m some are = sub_does n m are

@@ -1,5 +1,5 @@
 -- Operations of one loop with a carry.
-use Rattle.std.proofs.Common.{◌≡◌, ℕ, zero, suc, ◌-◌, ◌<◌, Bool, List, [], ◌∷◌, refl, sym, ap, ◌∙◌}
+use Rattle.std.proofs.Common.{◌≡◌, ℕ, zero, suc, ◌<◌, Bool, List, [], ◌∷◌, refl, sym, ap, ◌∙◌}
 use Rattle.std.proofs.Common.{arith}
 use Rattle.mig_graph.specs.declared.Lit.{Lit}
 use Rattle.mig_graph.specs.declared.Node.{Node}
@@ -63,14 +63,6 @@ upwards n o = record {
   once = λ i j li lj e. e;
   turn_below = λ v lt. lt;
   meets = λ v lt. refl;
-}
-
-pub downwards : (n o : ℕ) → Meets n o sub.InnerDown (λ v. n - 1 - v)
-downwards n o = record {
-  below = λ i lt. omega arith;
-  once = λ i j li lj e. omega (arith, e);
-  turn_below = λ v lt. omega arith;
-  meets = λ v lt. omega arith;
 }
 
 -- a carry in a scratch bit, and a word

@@ -208,15 +208,25 @@ abs_gives a y d m start hy hd = rw (top_half a m) (by (a m) hd)
     by false k = value_same y a (suc m) (λ i l. hy i l
         ∙ ap (λ b. xor2 b (a i)) (never k i (omega (arith, l))))
 
-pub shl1_gives : (a y c : ℕ → Bool) (n : ℕ) → c 0 ≡ false → ((i : ℕ) → i < n → y i ≡ c i)
-    → ((i : ℕ) → i < n → c (suc i) ≡ a i) → number y n ≡ (2 * number a n) % 2 ^ n
-shl1_gives a y c n start hy hc =
-    let e = carry_sum (λ i. 2 * bit (a i)) y c n (λ i lt. let p = ap bit (hy i lt) in
-    let q = ap bit (hc i lt) in omega (arith, p, q)) in
+-- each bit one position up, and none in the lowest place
+lifted : (ℕ → Bool) → ℕ → Bool
+lifted a zero = false
+lifted a (suc i) = a i
+
+-- upwards: each position but the lowest gets the bit below it
+pub shl1_gives : (a y : ℕ → Bool) (n : ℕ) → y 0 ≡ false
+    → ((i : ℕ) → suc i < n → y (suc i) ≡ a i) → number y n ≡ (2 * number a n) % 2 ^ n
+unfolding lifted
+shl1_gives a y n start h =
+    let e = carry_sum (λ i. 2 * bit (a i)) y (lifted a) n (λ i lt. let p = ap bit (each i lt) in
+    omega (arith, p)) in
     let g = digits_double a n in
-    let s = ap bit start in
-    last_sum (number y n) (bit (c n)) (2 ^ n) (2 * number a n) (value_below y n)
-    (omega (arith, e, s, g))
+    last_sum (number y n) (bit (lifted a n)) (2 ^ n) (2 * number a n) (value_below y n)
+    (omega (arith, e, g))
+  where
+    each : (i : ℕ) → i < n → y i ≡ lifted a i
+    each zero lt = start
+    each (suc i) lt = h i lt
 
 -- the lowest bit, and the others one position down
 pub value_low : (a : ℕ → Bool) (m : ℕ) → number a (suc m)
@@ -224,7 +234,7 @@ pub value_low : (a : ℕ → Bool) (m : ℕ) → number a (suc m)
 value_low a zero = omega arith
 value_low a (suc m) = let e = value_low a m in rw pow-suc (omega (arith, e))
 
--- downwards: each position gets the bit above it, and the top one none
+-- downwards: each position but the top one gets the bit above it
 pub shr1_gives : (a y : ℕ → Bool) (m : ℕ) → y m ≡ false → ((i : ℕ) → i < m → y i ≡ a (suc i))
     → number y (suc m) ≡ number a (suc m) / 2
 shr1_gives a y m top h =

@@ -11,7 +11,7 @@ use Rattle.op_text.specs.WordOps.{number}
 use Rattle.op_text.specs.Language.{Statement, Compute, Visit}
 use Rattle.loop_ir.specs.declared.ir.Sub.{Sub}
 use Rattle.loop_ir.specs.Plain.{StepOf}
-use Rattle.loop_ir.specs.Plain.StepOf.{Single, Along}
+use Rattle.loop_ir.specs.Plain.StepOf.{Single, Along, Pairs}
 use Rattle.loop_laws.specs.Rooms.{Mark, Marked}
 use Rattle.word_lower.specs.declared.shapes.Owner.{Owner}
 use Rattle.word_lower.specs.declared.shapes.Owner.TheVariants.{Target, First, Second, Third}
@@ -19,9 +19,10 @@ use Rattle.word_lower.specs.declared.shapes.Mark as code
 use Rattle.word_lower.specs.declared.shapes.BodyForm.{BodyForm}
 use Rattle.word_lower.specs.declared.shapes.BodyForm.TheVariants.{Off, On, Moved, Inverted, Both}
 use Rattle.word_lower.specs.declared.shapes.BodyForm.TheVariants.{Either, Without, Unlike, Chosen}
-use Rattle.word_lower.specs.declared.shapes.BodyForm.TheVariants.{Shifted, Added, Lessened}
+use Rattle.word_lower.specs.declared.shapes.BodyForm.TheVariants.{Added, Lessened}
 use Rattle.word_lower.specs.declared.shapes.BodyForm.TheVariants.{NegatedIf, Compared, Agreed}
 use Rattle.word_lower.specs.declared.shapes.ProgramLine.{ProgramLine}
+use Rattle.word_lower.specs.declared.shapes.ProgramLine.TheVariants as line
 use Rattle.word_lower.specs.declared.shapes.ProgramLine.TheVariants.{Once, Each}
 use Rattle.word_lower.specs.declared.table.ProgramRow.{ProgramRow}
 use Rattle.word_lower.specs.declared.table.ProgramRow.TheVariants.{Spread, One, Two, Three, Nested}
@@ -107,10 +108,6 @@ chosen x y s z = template (x ∷ y ∷ s ∷ [])
     ∷ node_of up (plain 4) (plain 5) ∷ [])
     (plain 6 ∷ []) (z ∷ [])
 
--- the state's bit is put down, and the word's bit taken up
-abbrev pub shifted : Mark → Mark → Mark → Marked
-shifted x c z = template (x ∷ c ∷ []) [] (plain 2 ∷ plain 1 ∷ []) (z ∷ c ∷ [])
-
 -- x, y and a carry
 abbrev pub added : Mark → Mark → Mark → Mark → Marked
 added x y c z = template (x ∷ y ∷ c ∷ [])
@@ -166,7 +163,6 @@ form_body (Either x y z) = joined up (mark_of x) (mark_of y) (mark_of z)
 form_body (Without x y z) = without (mark_of x) (mark_of y) (mark_of z)
 form_body (Unlike x y z) = unlike (mark_of x) (mark_of y) (mark_of z)
 form_body (Chosen x y s z) = chosen (mark_of x) (mark_of y) (mark_of s) (mark_of z)
-form_body (Shifted x c z) = shifted (mark_of x) (mark_of c) (mark_of z)
 form_body (Added x y c z) = added (mark_of x) (mark_of y) (mark_of c) (mark_of z)
 form_body (Lessened x y c z) = lessened (mark_of x) (mark_of y) (mark_of c) (mark_of z)
 form_body (NegatedIf x t c z) = negated_if (mark_of x) (mark_of t) (mark_of c) (mark_of z)
@@ -177,6 +173,7 @@ form_body (Agreed x y e) = agreed (mark_of x) (mark_of y) (mark_of e)
 abbrev pub line_step : ProgramLine → StepOf Marked
 line_step (Once s) = Single (form_body s)
 line_step (Each s) = Along (form_body s)
+line_step (line.Pairs s) = Pairs (form_body s)
 
 -- the steps of a row of the table. The kind is the target's
 abbrev pub row_steps : ProgramRow → Kind → List (StepOf Marked)

@@ -10,7 +10,7 @@ ghost use Rattle.word_lower.specs.Shapes.{marks, lines_steps};
 ghost use Rattle.word_lower.specs.Shapes.{place_on, body_on, program_on, are_own, are_below};
 
 use crate::graphs::made;
-use crate::literals::{N1, OFF, ON, P1, P2, P3, P4, P5, P6, P7};
+use crate::literals::{N1, OFF, ON, P1, P3, P4, P5, P6, P7};
 use crate::shapes::{BodyForm, Mark, Owner, Owners, ProgramLine};
 use crate::templates::{
     ADDED, AGREED, BOTH, CHOSEN, COMPARED, EITHER, LESSENED, TURNED_BY, UNLIKE, WITHOUT,
@@ -89,7 +89,6 @@ fn body(shape: BodyForm, owners: Owners, alloc: Global) -> Result<Body, NoMemory
         BodyForm::Without(x, y, z) => templated(&[x, y], &WITHOUT, &[P3], &[z], o, a),
         BodyForm::Unlike(x, y, z) => templated(&[x, y], &UNLIKE, &[P5], &[z], o, a),
         BodyForm::Chosen(x, y, s, z) => templated(&[x, y, s], &CHOSEN, &[P6], &[z], o, a),
-        BodyForm::Shifted(x, c, z) => templated(&[x, c], &[], &[P2, P1], &[z, c], o, a),
         BodyForm::Added(x, y, c, z) => templated(&[x, y, c], &ADDED, &[P6, P4], &[z, c], o, a),
         BodyForm::Lessened(x, y, c, z) => templated(
             &[x, y, c],
@@ -121,6 +120,7 @@ fn step(line: ProgramLine, owners: Owners, alloc: Global) -> Result<Step, NoMemo
     match line {
         ProgramLine::Once(shape) => Ok(Step::Once(body(shape, owners, alloc)?)),
         ProgramLine::Each(shape) => Ok(Step::Each(body(shape, owners, alloc)?)),
+        ProgramLine::Pairs(shape) => Ok(Step::Pairs(body(shape, owners, alloc)?)),
     }
 }
 

@@ -41,7 +41,6 @@ pub enum BodyForm {
     Without(Mark, Mark, Mark),
     Unlike(Mark, Mark, Mark),
     Chosen(Mark, Mark, Mark, Mark),
-    Shifted(Mark, Mark, Mark),
     Added(Mark, Mark, Mark, Mark),
     Lessened(Mark, Mark, Mark, Mark),
     NegatedIf(Mark, Mark, Mark, Mark),
@@ -49,9 +48,10 @@ pub enum BodyForm {
     Agreed(Mark, Mark, Mark),
 }
 
-/// A body done once, or at each position.
+/// A body done once, at each position, or at each position that has one above it.
 #[derive(Clone, Copy)]
 pub enum ProgramLine {
     Once(BodyForm),
     Each(BodyForm),
+    Pairs(BodyForm),
 }

@@ -6,9 +6,9 @@ ghost use Rattle.word_lower.specs.Shapes.{lines_steps};
 
 use crate::shapes::BodyForm::{
     Added, Agreed, Both, Chosen, Compared, Either, Inverted, Lessened, Moved, NegatedIf, Off, On,
-    Shifted, Unlike, Without,
+    Unlike, Without,
 };
-use crate::shapes::ProgramLine::{Each, Once};
+use crate::shapes::ProgramLine::{Each, Once, Pairs};
 use crate::shapes::{BodyForm, Mark, Owner, ProgramLine};
 use ProgramRow::{Nested, One, Spread, Three, Two};
 use loop_ir::Sub;
@@ -41,22 +41,27 @@ const Y: Mark = Mark {
     owner: Owner::Second,
     sub: Sub::Inner,
 };
-// the same from the top down, and the top row
-const Z_DOWN: Mark = Mark {
+// the same one above the position, and the top row
+const Z_UP: Mark = Mark {
     owner: Owner::Target,
-    sub: Sub::InnerDown,
+    sub: Sub::Sum,
 };
 
-const X_DOWN: Mark = Mark {
+const X_UP: Mark = Mark {
     owner: Owner::First,
-    sub: Sub::InnerDown,
+    sub: Sub::Sum,
+};
+
+const Z_TOP: Mark = Mark {
+    owner: Owner::Target,
+    sub: Sub::Top,
 };
 
 const X_TOP: Mark = Mark {
     owner: Owner::First,
     sub: Sub::Top,
 };
-// the one row of a bit
+// the lowest row, which is the one of a bit
 const Z_BIT: Mark = Mark {
     owner: Owner::Target,
     sub: Sub::Zero,
@@ -95,14 +100,8 @@ pub static PROGRAMS: [(WordOp, ProgramRow); 27] = [
     (WordOp::Copy, Spread(Moved(X, Z), Moved(X_BIT, Z_BIT))),
     (WordOp::Zero, One(Each(Off(Z)))),
     (WordOp::Ones, One(Each(On(Z)))),
-    (
-        WordOp::Shl1,
-        Two(Once(Off(Y_BIT)), Each(Shifted(X, Y_BIT, Z))),
-    ),
-    (
-        WordOp::Shr1,
-        Two(Once(Off(Y_BIT)), Each(Shifted(X_DOWN, Y_BIT, Z_DOWN))),
-    ),
+    (WordOp::Shl1, Two(Once(Off(Z_BIT)), Pairs(Moved(X, Z_UP)))),
+    (WordOp::Shr1, Two(Once(Off(Z_TOP)), Pairs(Moved(X_UP, Z)))),
     (
         WordOp::Add,
         Two(Once(Off(S_BIT)), Each(Added(X, Y, S_BIT, Z))),

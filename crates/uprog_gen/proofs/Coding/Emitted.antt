@@ -2,22 +2,24 @@
 use Rattle.std.proofs.Common.{◌≡◌, ℕ, zero, suc, ◌+◌, ◌<◌, ◌≤◌, true, false, cond, List, [], ◌∷◌}
 use Rattle.std.proofs.Common.{◌++◌, map, length, refl, sym, ap, ◌∙◌, subst, arith, append-nil}
 use Rattle.std.proofs.Common.{append_assoc, length-append}
-use Rattle.std.specs.Prelude.{slice_index_or, sum_by, take}
+use Rattle.std.specs.Prelude.{slice_index_or, sum_by, take, set}
+use Rattle.std.proofs.Math.Seq.{set-append_seam}
 use Rattle.std.proofs.lemmas.List.{map-append, map_more}
 use Rattle.std.proofs.lemmas.List.Sums.{sum_by-cons}
 use Rattle.std.proofs.lemmas.Grind.{common_steps}
 use Rattle.uprog_code.specs.declared.code.Uop.{Uop}
-use Rattle.uprog_code.specs.declared.code.Uop.TheVariants.{SetI, SetN, SubI, AddI, Bnez}
+use Rattle.uprog_code.specs.declared.code.Uop.TheVariants.{SetI, SetN, SetT, SubI, AddI, Bnez}
 use Rattle.loop_ir.specs.declared.ir.Count.{Count}
-use Rattle.loop_ir.specs.declared.ir.Count.TheVariants.{All as All_of}
+use Rattle.loop_ir.specs.declared.ir.Count.TheVariants.{All as All_of, Rest}
 use Rattle.loop_ir.specs.declared.ir.Inner.{Inner}
 use Rattle.loop_ir.specs.declared.ir.Step.{Step}
 use Rattle.loop_ir.specs.Plain.{Block, InnerOf, StepOf, inner_map, step_map, inner_of, step_of}
 use Rattle.loop_ir.specs.Plain.{AllInner, AllStep, AllParts}
 use Rattle.loop_ir.specs.Plain.InnerOf.{Alone, Across}
-use Rattle.loop_ir.specs.Plain.StepOf.{Single, Along, Nest}
+use Rattle.loop_ir.specs.Plain.StepOf.{Single, Along, Nest, Pairs}
 use Rattle.uprog_gen.specs.Code.{Part, block_of_part, blocks, body_uops, once_code, loop_code}
-use Rattle.uprog_gen.specs.Code.{inner_code, inner_list, outside, step_code, program_code}
+use Rattle.uprog_gen.specs.Code.{inner_code, inner_list, outside, guard_code, pairs_code}
+use Rattle.uprog_gen.specs.Code.{step_code, program_code}
 use Rattle.loop_ir.specs.Costs.{is_fixed, inner_cost, step_cost, code_cost}
 use Rattle.uprog_gen.specs.Parts.{IsPart}
 use Rattle.uprog_gen.proofs.Coding.Sizes.{inner_few, program_few}
@@ -175,6 +177,10 @@ along_emits p old mid new is m e =
     ∙ append_assoc old outside (loop_code All_of p (length mid))
     ∙ ap (λ q. old ++ (outside ++ loop_code All_of p q)) size)
 
+pub pairs_emits : (p : Part) (old new : List Uop) → IsPart p
+    → new ≡ old ++ pairs_code p (length old) → EmitsSteps (Pairs p.block ∷ []) old new
+pairs_emits p old new is e = one_step (Pairs p) old new is e
+
 pub empty_emits : (old : List Uop) → EmitsSteps (Nest [] ∷ []) old old
 empty_emits old = one_step (Nest []) old old tt (sym (append-nil old))
 
@@ -293,6 +299,37 @@ two_pushes old a b x y e f = f ∙ ap (λ l. l ++ y ∷ []) e ∙ append_assoc o
 pub outside_then : (old mid new more : List Uop) → mid ≡ old ++ outside → new ≡ mid ++ more
     → new ≡ old ++ (outside ++ more)
 outside_then old mid new more e f = f ∙ ap (λ l. l ++ more) e ∙ append_assoc old outside more
+
+-- the jump past the loop, once the loop stands
+pub pairs_made : (p : Part) (old mid all : List Uop) (past end : ℕ) → past ≡ length old + 3
+    → mid ≡ old ++ guard_code (length old) 0 → all ≡ mid ++ loop_code Rest p (length mid)
+    → end ≡ length all → set all past (Bnez 0 end) ≡ old ++ pairs_code p (length old)
+pairs_made p old mid all past end ep em ea ee =
+    let q = length old + 1 + 1 + 1 + 1 + 1 in
+    let loop = loop_code Rest p q in
+    let first = SetI 0 1 ∷ SetT 1 ∷ Bnez 1 (length old + 1 + 1 + 1 + 1) ∷ [] in
+    let long : length mid ≡ q = omega (
+      arith,
+      ap length em,
+      length-append old (guard_code (length old) 0),
+    ) in
+    let whole : all ≡ (old ++ first) ++ Bnez 0 0 ∷ (SubI 1 1 ∷ loop) =
+    ea ∙ ap (λ l. mid ++ loop_code Rest p l) long ∙ ap (λ l. l ++ loop) em
+    ∙ append_assoc old (guard_code (length old) 0) loop
+    ∙ sym (append_assoc old first (Bnez 0 0 ∷ (SubI 1 1 ∷ loop))) in
+    let at : past ≡ length (old ++ first) = omega (arith, ep, length-append old first) in
+    let here : end ≡ q + length loop = omega (
+      arith,
+      ee,
+      ap length whole,
+      length-append (old ++ first) (Bnez 0 0 ∷ (SubI 1 1 ∷ loop)),
+      length-append old first,
+    ) in
+    ap (λ l. set l past (Bnez 0 end)) whole
+    ∙ ap (λ k. set ((old ++ first) ++ Bnez 0 0 ∷ (SubI 1 1 ∷ loop)) k (Bnez 0 end)) at
+    ∙ set-append_seam (old ++ first) (Bnez 0 0) (SubI 1 1 ∷ loop) (Bnez 0 end)
+    ∙ append_assoc old first (Bnez 0 end ∷ (SubI 1 1 ∷ loop))
+    ∙ ap (λ t. old ++ (first ++ Bnez 0 t ∷ (SubI 1 1 ∷ loop))) here
 
 -- a nest, instruction by instruction
 pub nest_made : (ps : List Inner) (old a b c d e f : List Uop) (top : ℕ) → 0 < length ps

@@ -231,8 +231,8 @@ is_entry head ps mid code can few emits e = subst (IsEntry head ps)
         let cut = pieces head ps emits.coded 0 emits.same emits.parts can in
         record {
           legal = code_legal head emits.coded short emits.parts
-              (subst (AllByRecursion (IsRound (IsSpot head 1) 1)) (all_blocks 1 emits.coded)
-              (rounds ps emits.coded 1 (omega arith) (omega arith) can emits.same));
+              (subst (AllByRecursion (IsRound (IsSpot head 2) 2)) (all_blocks 2 emits.coded)
+              (rounds ps emits.coded 2 (omega arith) (omega arith) can emits.same));
           parts = record {
             parts = cut.parts;
             many = cut.many;

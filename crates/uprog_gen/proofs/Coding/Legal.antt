@@ -1,7 +1,7 @@
 -- The code is legal.
 use Rattle.std.proofs.Common.{◌≡◌, ℕ, zero, suc, ◌+◌, ◌-◌, ◌<◌, ◌≤◌, Bool, true, false, cond, List}
 use Rattle.std.proofs.Common.{[], ◌∷◌, ◌++◌, map, length, refl, ap, ◌∙◌, subst, arith, Some}
-use Rattle.std.proofs.Common.{append-nil, length-append}
+use Rattle.std.proofs.Common.{length-append}
 use Rattle.std.specs.Prelude.{slice_get, nat_lt, nat_le, ◌==◌, ◌&&◌}
 use Rattle.std.specs.List.{AllByRecursion, list_all}
 use Rattle.std.proofs.Math.Seq.{get_or-append_seam}
@@ -31,9 +31,9 @@ use Rattle.loop_ir.specs.declared.ir.Space.TheVariants.{Result, Source, ScratchB
 use Rattle.loop_ir.specs.declared.ir.Space.TheVariants.{Cells}
 use Rattle.loop_ir.specs.declared.ir.Count.{Count}
 use Rattle.loop_ir.specs.declared.ir.Count.TheVariants.{All as All_of, Rest}
-use Rattle.loop_ir.specs.Plain.{InnerOf, StepOf, AllInner, AllStep, AllParts}
+use Rattle.loop_ir.specs.Plain.{Block, InnerOf, StepOf, AllInner, AllStep, AllParts}
 use Rattle.loop_ir.specs.Plain.InnerOf.{Alone, Across}
-use Rattle.loop_ir.specs.Plain.StepOf.{Single, Along, Nest}
+use Rattle.loop_ir.specs.Plain.StepOf.{Single, Along, Nest, Pairs}
 use Rattle.loop_ir.specs.Spots.{nth_place, spot_in, IsOwn}
 use Rattle.uprog_gen.specs.Where.{IsSpot, IsBelow}
 use Rattle.uprog_gen.specs.declared.plan.Plan.{Plan}
@@ -73,15 +73,20 @@ below_length [] w n v h = absurd h
 below_length (k ∷ ks) zero n v h = omega arith
 below_length (k ∷ ks) (suc w) n v h = let l = below_length ks w n v h in omega (arith, l)
 
+blocks-append : (xs ys : List (RoundOf Part))
+    → map block_round (xs ++ ys) ≡ map block_round xs ++ map block_round ys
+blocks-append [] ys = refl
+blocks-append (x ∷ xs) ys = ap (λ l. block_round x ∷ l) (blocks-append xs ys)
+
 module _ (head : Shape) where
-  place_row_legal : (s : Space) (w v : ℕ) (plan : Plan) (u : Sub) → IsSpot head 1 (spot_in 1 s w v)
+  place_row_legal : (s : Space) (w v : ℕ) (plan : Plan) (u : Sub) → IsSpot head 2 (spot_in 2 s w v)
       → is_row head (place_ref plan (record { space = s; which = w; sub = u })) ≡ true
   place_row_legal Result w v plan u h = and_from (nat_lt w (length (results head)))
       (nat_le (register plan u) 8) (lt-ltb w (length (results head))
-      (below_length (results head) w 1 v h)) (register_small plan u)
+      (below_length (results head) w 2 v h)) (register_small plan u)
   place_row_legal Source w v plan u h = and_from (nat_lt w (length head.sources))
       (nat_le (register plan u) 8) (lt-ltb w (length head.sources)
-      (below_length head.sources w 1 v h)) (register_small plan u)
+      (below_length head.sources w 2 v h)) (register_small plan u)
   place_row_legal ScratchBit w v plan u h = and_from (nat_lt w head.bits) (0
       == 0) (lt-ltb w head.bits h.0) refl
   place_row_legal ScratchWord w v plan u h = and_from (nat_lt w head.words)
@@ -103,7 +108,7 @@ module _ (head : Shape) where
   own_second ScratchWord h = refl
   own_second Cells h = refl
 
-  spot_space : (s : Space) (w v : ℕ) → (spot_in 1 s w v).space ≡ s
+  spot_space : (s : Space) (w v : ℕ) → (spot_in 2 s w v).space ≡ s
   spot_space Result w v = refl
   spot_space Source w v = refl
   spot_space ScratchBit w v = refl
@@ -113,7 +118,11 @@ module _ (head : Shape) where
   abbrev pub IsLegalAt : ℕ → Uop → Type 0
   IsLegalAt size i = is_legal head size i ≡ true
 
-  module _ (p : Part) (part : IsPart p) (is : IsRound (IsSpot head 1) 1 (round_at p.block 0 0))
+  -- a round at width 2
+  abbrev IsRoundAtWidthTwo : RoundOf Block → Type 0
+  IsRoundAtWidthTwo r = IsRound (IsSpot head 2) 2 r
+
+  module _ (p : Part) (part : IsPart p) (o : ℕ) (is : IsRoundAtWidthTwo (round_at p.block 0 o))
     where
       abbrev N : ℕ
       N = p.block.graph.inputs
@@ -131,11 +140,11 @@ module _ (head : Shape) where
       row_legal (ref.Spill k) h m = and_from (nat_lt k 32) (0 == 0) h refl
       row_legal (ref.In k) h m =
           let q = nth_place p.block.reads k in
-          place_row_legal q.space q.which (sub_value 1 0 0 q.sub) p.plan q.sub
+          place_row_legal q.space q.which (sub_value 2 0 o q.sub) p.plan q.sub
           (is.reads k m.0 m.1)
       row_legal (ref.Out k) h m =
           let q = nth_place p.block.writes k in
-          place_row_legal q.space q.which (sub_value 1 0 0 q.sub) p.plan q.sub
+          place_row_legal q.space q.which (sub_value 2 0 o q.sub) p.plan q.sub
           (is.writes k m.0 m.1)
 
       first_of_ref : (x : BodyRef) → is_first_ref x ≡ true
@@ -154,7 +163,7 @@ module _ (head : Shape) where
       second_of_ref (ref.In k) m h = absurd (let g : false ≡ true = h in cc)
       second_of_ref (ref.Out k) m h =
           let q = nth_place p.block.writes k in
-          own_second q.space (subst IsOwn (spot_space q.space q.which (sub_value 1 0 0 q.sub))
+          own_second q.space (subst IsOwn (spot_space q.space q.which (sub_value 2 0 o q.sub))
           (is.own k m.0))
 
       uop_legal : (size : ℕ) (c : BodyCmd) → is_legal_cmd N M c ≡ true → reads_rows enter c ≡ true
@@ -192,44 +201,43 @@ module _ (head : Shape) where
   abbrev pub IsFit : Part → Type 0
   IsFit p = (size : ℕ) → AllByRecursion (IsLegalAt size) (body_uops p)
 
-  fit_part : (p : Part) → IsPart p → IsRound (IsSpot head 1) 1 (round_at p.block 0 0) → IsFit p
-  fit_part p part is size = uops_legal p part is size p.cmds part.does.legal part.does.unread
+  fit_part : (p : Part) → IsPart p → (o : ℕ) → IsRoundAtWidthTwo (round_at p.block 0 o) → IsFit p
+  fit_part p part o is size = uops_legal p part o is size p.cmds part.does.legal part.does.unread
 
-  -- each body has a round at width 1
+  -- each body has a round at width 2
   fit_inner : (xs : List (InnerOf Part)) → AllInner IsPart xs
-      → AllByRecursion (IsRound (IsSpot head 1) 1) (map block_round (inner_rounds 1 0 xs))
+      → AllByRecursion (IsRound (IsSpot head 2) 2) (map block_round (inner_rounds 2 0 xs))
       → AllInner IsFit xs
   fit_inner [] h r = tt
-  fit_inner (Alone p ∷ xs) h r = (fit_part p h.0 r.0, fit_inner xs h.1 r.1)
-  fit_inner (Across All_of p ∷ xs) h r = (fit_part p h.0 r.0, fit_inner xs h.1 r.1)
-  fit_inner (Across Rest p ∷ xs) h r = (fit_part p h.0 r.0, fit_inner xs h.1 r.1)
+  fit_inner (Alone p ∷ xs) h r = (fit_part p h.0 0 r.0, fit_inner xs h.1 r.1)
+  fit_inner (Across All_of p ∷ xs) h r = (fit_part p h.0 0 r.0, fit_inner xs h.1 r.1.1)
+  fit_inner (Across Rest p ∷ xs) h r = (fit_part p h.0 0 r.0, fit_inner xs h.1 r.1.1)
 
   fit_step : (s : StepOf Part) → AllStep IsPart s
-      → AllByRecursion (IsRound (IsSpot head 1) 1) (map block_round (step_rounds 1 s))
+      → AllByRecursion (IsRound (IsSpot head 2) 2) (map block_round (step_rounds 2 s))
       → AllStep IsFit s
-  fit_step (Single p) h r = fit_part p h r.0
-  fit_step (Along p) h r = fit_part p h r.0
-  fit_step (Nest parts) h r = fit_inner parts h
-      (subst (λ (l : List (RoundOf Part)). AllByRecursion (IsRound (IsSpot head 1) 1)
-      (map block_round l)) (append-nil (inner_rounds 1 0 parts)) r)
+  fit_step (Single p) h r = fit_part p h 0 r.0
+  fit_step (Along p) h r = fit_part p h 0 r.0
+  fit_step (Nest parts) h r =
+      let first : List (RoundOf Part) = inner_rounds 2 0 parts in
+      let more : List (RoundOf Part) = inner_rounds 2 1 parts ++ [] in
+      fit_inner parts h (front_all (IsRound (IsSpot head 2) 2) (map block_round first)
+      (map block_round more)
+      (subst (AllByRecursion (IsRound (IsSpot head 2) 2)) (blocks-append first more) r))
+  fit_step (Pairs p) h r = fit_part p h 1 r.0
 
   fit_steps : (ss : List (StepOf Part)) → AllParts IsPart ss
-      → AllByRecursion (IsRound (IsSpot head 1) 1) (map block_round (all_rounds 1 ss))
+      → AllByRecursion (IsRound (IsSpot head 2) 2) (map block_round (all_rounds 2 ss))
       → AllParts IsFit ss
   fit_steps [] h r = tt
   fit_steps (s ∷ ss) h r =
-      let r' = subst (AllByRecursion (IsRound (IsSpot head 1) 1))
-      (map-append' (step_rounds 1 s) (all_rounds 1 ss)) r in (
-        fit_step s h.0 (front_all (IsRound (IsSpot head 1) 1) (map block_round (step_rounds 1 s))
-            (map block_round (all_rounds 1 ss)) r'),
-        fit_steps ss h.1 (back_all (IsRound (IsSpot head 1) 1) (map block_round (step_rounds 1 s))
-            (map block_round (all_rounds 1 ss)) r'),
+      let r' = subst (AllByRecursion (IsRound (IsSpot head 2) 2))
+      (blocks-append (step_rounds 2 s) (all_rounds 2 ss)) r in (
+        fit_step s h.0 (front_all (IsRound (IsSpot head 2) 2) (map block_round (step_rounds 2 s))
+            (map block_round (all_rounds 2 ss)) r'),
+        fit_steps ss h.1 (back_all (IsRound (IsSpot head 2) 2) (map block_round (step_rounds 2 s))
+            (map block_round (all_rounds 2 ss)) r'),
       )
-    where
-      map-append' : (xs ys : List (RoundOf Part))
-          → map block_round (xs ++ ys) ≡ map block_round xs ++ map block_round ys
-      map-append' [] ys = refl
-      map-append' (x ∷ xs) ys = ap (λ l. block_round x ∷ l) (map-append' xs ys)
 
   module _ (size : ℕ) where
     abbrev L : List Uop → Type 0
@@ -332,7 +340,7 @@ module _ (head : Shape) where
     single_legal p true fit = fit size
     single_legal p false fit = (refl, (refl, once_legal p fit))
 
-    step_legal : (s : StepOf Part) (pc : ℕ) → AllStep IsFit s → pc + length (step_code s pc) ≤ size
+    step_legal : (s : StepOf Part) (pc : ℕ) → AllStep IsFit s → pc + length (step_code s pc) < size
         → L (step_code s pc)
     step_legal (Single p) pc h le = single_legal p (is_fixed p.block) h
     step_legal (Along p) pc h le =
@@ -353,9 +361,24 @@ module _ (head : Shape) where
             ),
           ),
         )
+    step_legal (Pairs p) pc h le =
+        let q = pc + 1 + 1 + 1 + 1 + 1 in
+        let a = loop_code Rest p q in
+        let first : pc + 1 + 1 + 1 + 1 < size = omega (arith, le) in
+        let end : q + length a < size = omega (arith, le) in
+        let loop = loop_legal Rest p q h (omega (arith, le)) in (
+          refl,
+          (
+            refl,
+            (
+              lt-ltb (pc + 1 + 1 + 1 + 1) size first,
+              (lt-ltb (q + length a) size end, (refl, loop)),
+            ),
+          ),
+        )
 
     program_legal : (ss : List (StepOf Part)) (pc : ℕ) → AllParts IsFit ss
-        → pc + length (program_code ss pc) ≤ size → L (program_code ss pc)
+        → pc + length (program_code ss pc) < size → L (program_code ss pc)
     program_legal [] pc h le = tt
     program_legal (s ∷ ss) pc h le =
         let a = step_code s pc in
@@ -364,8 +387,8 @@ module _ (head : Shape) where
         (program_legal ss (pc + length a) h.1 (omega (arith, le, length-append a b)))
 
   pub code_legal : (ss : List (StepOf Part)) → length (program_code ss 0) ≤ 4096
-      → AllParts IsPart ss → AllByRecursion (IsRound (IsSpot head 1) 1)
-      (map block_round (all_rounds 1 ss)) → IsLegalCode head (program_code ss 0 ++ Done ∷ [])
+      → AllParts IsPart ss → AllByRecursion (IsRound (IsSpot head 2) 2)
+      (map block_round (all_rounds 2 ss)) → IsLegalCode head (program_code ss 0 ++ Done ∷ [])
   code_legal ss short parts rounds =
       let is = program_code ss 0 in
       let size : length (is ++ Done ∷ []) ≡ length is + 1 = length-append is (Done ∷ []) in

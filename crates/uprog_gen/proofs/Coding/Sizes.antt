@@ -15,7 +15,7 @@ use Rattle.loop_ir.specs.declared.ir.Count.TheVariants.{All as All_of, Rest}
 use Rattle.loop_ir.specs.Plain.{InnerOf, StepOf, inner_map, step_map, AllInner, AllStep}
 use Rattle.loop_ir.specs.Plain.{AllParts}
 use Rattle.loop_ir.specs.Plain.InnerOf.{Alone, Across}
-use Rattle.loop_ir.specs.Plain.StepOf.{Single, Along, Nest}
+use Rattle.loop_ir.specs.Plain.StepOf.{Single, Along, Nest, Pairs}
 use Rattle.uprog_gen.specs.declared.plan.Plan.{Plan}
 use Rattle.uprog_gen.specs.Code.{Part, block_of_part, blocks, code_uop, init, before, after, inits}
 use Rattle.uprog_gen.specs.Code.{befores, afters, counter, body_uops, once_code, turn_code}
@@ -141,6 +141,7 @@ step_few (Nest (x ∷ xs)) pc h =
       length-append (inner_list (x ∷ xs) q) (AddI 0 1 ∷ Bnez 1 (pc + 1 + 1) ∷ []),
       inner_few (x ∷ xs) q h,
     )
+step_few (Pairs p) pc h = omega (arith, loop_few Rest p (pc + 1 + 1 + 1 + 1 + 1) h)
 
 pub program_few : (ss : List (StepOf Part)) (pc : ℕ) → AllParts IsPart ss
     → length (program_code ss pc) ≤ code_cost (blocks ss)

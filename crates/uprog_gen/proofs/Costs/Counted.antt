@@ -1,10 +1,10 @@
 -- The commands of an operation whose statements are all word operations.
 use Rattle.std.proofs.Common.{◌≡◌, ℕ, ◌+◌, ◌<◌, Bool, true, false, List, [], ◌∷◌, ◌++◌}
-use Rattle.std.proofs.Common.{length, Option, Some, refl, sym, ap, ◌∙◌, subst, arith}
+use Rattle.std.proofs.Common.{Option, Some, refl, sym, ap, ◌∙◌, subst}
 use Rattle.std.specs.List.{list_all}
 use Rattle.op_text.specs.declared.tree.Kind.{Kind}
 use Rattle.op_text.specs.declared.word_ops.WordOp.{WordOp}
-use Rattle.op_text.specs.WordOps.{forms, filled, second_kind}
+use Rattle.op_text.specs.WordOps.{second_kind}
 use Rattle.op_text.specs.Language.{Statement, Compute, Visit, Operation}
 use Rattle.op_text.specs.Meaning.{width}
 use Rattle.op_text.specs.Scratch.{names_width}
@@ -16,11 +16,9 @@ use Rattle.loop_ir.specs.Plain.{Block, StepOf, AllParts}
 use Rattle.loop_ir.specs.Loops.{all_rounds}
 use Rattle.loop_ir.specs.Statements.{Slots, IsPlaced, ComputeMeets, HaveKinds}
 use Rattle.loop_ir.specs.Lowered.{kind_at, args_width}
-use Rattle.word_lower.specs.Places.{AreAt}
 use Rattle.word_lower.specs.declared.shapes.Owners.{Owners}
 use Rattle.word_lower.specs.Shapes.{owners_of}
-use Rattle.word_lower.proofs.Statements.{Places, places_of, among_target, among_arg, among_like}
-use Rattle.word_lower.proofs.Statements.{name_at, at_place}
+use Rattle.word_lower.proofs.Statements.{Places, places_of}
 use Rattle.word_mul.specs.Programs.{is_nested}
 use Rattle.word_mul.specs.declared.rows.Rows.{Rows}
 use Rattle.word_mul.specs.Places.{rows_on}
@@ -36,15 +34,15 @@ use Rattle.uprog_gen.proofs.Naming.Stage.{Stage, next_stage}
 use Rattle.uprog_gen.proofs.Meaning.Meant.{args_same}
 use Rattle.uprog_gen.proofs.Naming.Ready.{statement_meets, is_placed}
 use Rattle.loop_laws.proofs.Summed.{rounds_sum, sum_append}
-use Rattle.uprog_gen.proofs.Costs.Exact.{FirstApart, is_shift, needs_first, Written, written_nested}
+use Rattle.uprog_gen.proofs.Costs.Exact.{Written, written_nested}
 use Rattle.uprog_gen.proofs.Costs.Exact.{written_linear, is_settled, aaps_are, aps_are, op_width}
 use Rattle.uprog_gen.proofs.Costs.Exact.{first_width, width_is}
 
 -- what is known of a statement's program
 pub record IsExactly (p : WordOp) (w : ℕ → ℕ) (steps : List (StepOf Block)) : Type 0 where
   pub settled : AllParts IsSettled steps
-  pub aaps : (n : ℕ) → rounds_sum turn_aaps (all_rounds n steps) ≡ op_aaps p (w n)
-  pub aps : (n : ℕ) → rounds_sum turn_aps (all_rounds n steps) ≡ op_aps p (w n)
+  pub aaps : (n : ℕ) → 0 < n → rounds_sum turn_aaps (all_rounds n steps) ≡ op_aaps p (w n)
+  pub aps : (n : ℕ) → 0 < n → rounds_sum turn_aps (all_rounds n steps) ≡ op_aps p (w n)
 
 have_first : (slots : Slots) (n : ℕ) (args : List (List ℕ)) (ks : List Kind)
     → HaveKinds slots args ks → args_width slots n args ≡ first_width n ks
@@ -66,33 +64,6 @@ module _ (slots : Slots) (free_bit free_word : ℕ) (target : List ℕ) (second 
   near : SecondPlace slots second
   near = second_place slots target args second (second_kind p) meets.others
 
-  -- the first argument is not the target
-  first_apart : (ss : List Slot) → AreAt slots args ss → 0 < length ss
-      → FirstApart (owners_of t ss free_bit)
-  first_apart [] at l = absurd (omega (arith, l))
-  first_apart (s ∷ ss) at l = record {
-    apart = λ e f.
-        (let here = at_place slots args (s ∷ ss) 0 at l in
-        let among = among_arg slots free_bit free_word target second p args meets placed t
-        meets.gives.found (s ∷ ss) at 0 here.0 in
-        let same = placed.differ (name_at args 0) target s t among
-        (among_target slots free_bit free_word target second p args meets placed t meets.gives.found
-        (s ∷ ss) at) here.1 meets.gives.found e f in
-        let z : false ≡ true = sym meets.fresh ∙ among_like args 0 target here.0 same in
-        absurd cc);
-  }
-
-  -- a shift has an argument
-  some_given : is_shift p ≡ true → (ks : List Kind) → filled (forms p) ks ≡ Some meets.kind
-      → (names : List (List ℕ)) (ss : List Slot) → HaveKinds slots names ks → AreAt slots names ss
-      → 0 < length ss
-  some_given e [] f [] [] h at = absurd (needs_first p meets.kind e f)
-  some_given e [] f [] (s ∷ ss) h at = absurd at
-  some_given e [] f (n ∷ names) ss h at = absurd h
-  some_given e (k ∷ ks) f [] ss h at = absurd h
-  some_given e (k ∷ ks) f (n ∷ names) [] h at = absurd at
-  some_given e (k ∷ ks) f (n ∷ names) (s ∷ ss) h at = omega arith
-
   abbrev owners : Owners
   owners = owners_of t given.list free_bit
 
@@ -104,10 +75,9 @@ module _ (slots : Slots) (free_bit free_word : ℕ) (target : List ℕ) (second 
       → IsExactly p (λ n. op_width p t.kind n) steps
   exactly steps w =
       subst (IsExactly p (λ n. op_width p t.kind n)) (sym (same (is_nested p) refl)) record {
-        settled = is_settled p t.kind owners rows (λ s. first_apart given.list given.at
-            (some_given s meets.kinds meets.form args given.list meets.have given.at));
+        settled = is_settled p t.kind owners rows;
         aaps = aaps_are p t.kind owners rows;
-        aps = aps_are p t.kind owners rows;
+        aps = λ n some. aps_are p t.kind owners rows n;
       }
     where
       same : (b : Bool) → is_nested p ≡ b → steps ≡ Written p t.kind owners rows
@@ -126,9 +96,9 @@ sum_joined f n q ps = ap (rounds_sum f) (all_rounds-append n q (joined ps))
 pub record AreExactly (known : List Param) (body : List Statement)
     (ps : List (List (StepOf Block))) : Type 0 where
   pub settled : AllParts IsSettled (joined ps)
-  pub aaps : (n : ℕ) → rounds_sum turn_aaps (all_rounds n (joined ps))
+  pub aaps : (n : ℕ) → 0 < n → rounds_sum turn_aaps (all_rounds n (joined ps))
       ≡ words_total op_aaps known n body
-  pub aps : (n : ℕ) → rounds_sum turn_aps (all_rounds n (joined ps))
+  pub aps : (n : ℕ) → 0 < n → rounds_sum turn_aps (all_rounds n (joined ps))
       ≡ words_total op_aps known n body
 
 module _ (o : Operation) (meets : OperationMeets o) (slots : Slots) (free_bit free_word : ℕ)
@@ -149,14 +119,18 @@ module _ (o : Operation) (meets : OperationMeets o) (slots : Slots) (free_bit fr
       ∙ width_is p m.kinds m.gives.slot.kind n (m.form ∙ ap Some (sym m.gives.kind)) in
       record {
         settled = one.settled;
-        aaps = λ n. one.aaps n ∙ ap (op_aaps p) (sym (wide n));
-        aps = λ n. one.aps n ∙ ap (op_aps p) (sym (wide n));
+        aaps = λ n some. one.aaps n some ∙ ap (op_aaps p) (sym (wide n));
+        aps = λ n some. one.aps n some ∙ ap (op_aps p) (sym (wide n));
       }
 
   pub all_exactly : (rest : List Statement) (c : Context) → Stage o c rest
       → (ps : List (List (StepOf Block))) → AreWritten slots free_bit free_word rest ps
       → list_all is_word rest ≡ true → AreExactly c.known rest ps
-  all_exactly [] c st [] w h = record { settled = tt; aaps = λ n. refl; aps = λ n. refl }
+  all_exactly [] c st [] w h = record {
+    settled = tt;
+    aaps = λ n some. refl;
+    aps = λ n some. refl;
+  }
   all_exactly [] c st (q ∷ ps) w h = absurd w
   all_exactly (s ∷ rest) c st [] w h = absurd w
   all_exactly (Visit b ∷ rest) c st (q ∷ ps) w h = absurd (let z : false ≡ true = h in cc)
@@ -166,10 +140,10 @@ module _ (o : Operation) (meets : OperationMeets o) (slots : Slots) (free_bit fr
       let more = all_exactly rest (following c s) (next_stage o c s rest st) ps w.1 h in
       record {
         settled = parts_both IsSettled q (joined ps) one.settled more.settled;
-        aaps = λ n. sum_joined turn_aaps n q ps
-            ∙ ap (λ x. x + rounds_sum turn_aaps (all_rounds n (joined ps))) (one.aaps n)
-            ∙ ap (λ x. op_aaps p (names_width c.known n args) + x) (more.aaps n);
-        aps = λ n. sum_joined turn_aps n q ps
-            ∙ ap (λ x. x + rounds_sum turn_aps (all_rounds n (joined ps))) (one.aps n)
-            ∙ ap (λ x. op_aps p (names_width c.known n args) + x) (more.aps n);
+        aaps = λ n some. sum_joined turn_aaps n q ps
+            ∙ ap (λ x. x + rounds_sum turn_aaps (all_rounds n (joined ps))) (one.aaps n some)
+            ∙ ap (λ x. op_aaps p (names_width c.known n args) + x) (more.aaps n some);
+        aps = λ n some. sum_joined turn_aps n q ps
+            ∙ ap (λ x. x + rounds_sum turn_aps (all_rounds n (joined ps))) (one.aps n some)
+            ∙ ap (λ x. op_aps p (names_width c.known n args) + x) (more.aps n some);
       }

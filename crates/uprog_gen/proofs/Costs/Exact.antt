@@ -1,6 +1,6 @@
 -- Each word operation's loop program has settled bodies, and takes exactly the operation's
 -- commands.
-use Rattle.std.proofs.Common.{◌≡◌, ℕ, zero, suc, ◌+◌, ◌*◌, ◌/◌, ◌^◌, Bool, true, false, cond}
+use Rattle.std.proofs.Common.{◌≡◌, ℕ, zero, suc, ◌+◌, ◌*◌, ◌/◌, ◌^◌, ◌<◌, Bool, true, false, cond}
 use Rattle.std.proofs.Common.{List, [], ◌∷◌, Some, refl, sym, ap, ◌∙◌, arith, rules}
 use Rattle.std.proofs.Math.Nat.{pow-suc, pow-zero, mul-div_cancel_left}
 use Rattle.op_text.specs.declared.tree.Kind.{Kind}
@@ -13,36 +13,18 @@ use Rattle.op_text.specs.WordOps.{row_of, forms, signature_forms, filled, given_
 use Rattle.op_text.specs.Meaning.{width}
 use Rattle.op_text.specs.Costs.{op_aaps, op_aps}
 use Rattle.op_text.proofs.Operations.{first_settles}
-use Rattle.loop_ir.specs.declared.ir.Sub.{Sub}
 use Rattle.loop_ir.specs.declared.ir.Sub.TheVariants as sub
 use Rattle.loop_ir.specs.declared.ir.Place.{Place}
 use Rattle.loop_ir.specs.Plain.{Block, StepOf, AllParts}
 use Rattle.loop_ir.specs.Loops.{all_rounds}
 use Rattle.word_lower.specs.declared.shapes.Owners.{Owners}
-use Rattle.word_lower.specs.Programs.{program, spreads, first, target}
-use Rattle.word_lower.specs.Shapes.{program_on, place_on}
+use Rattle.word_lower.specs.Programs.{program, spreads}
+use Rattle.word_lower.specs.Shapes.{program_on}
 use Rattle.word_mul.specs.declared.rows.Rows.{Rows}
 use Rattle.word_mul.specs.Programs.{is_nested}
 use Rattle.word_mul.specs.Places.{steps_for}
 use Rattle.uprog_gen.specs.Settled.{turn_aaps, turn_aps, IsSettled}
 use Rattle.loop_laws.proofs.Summed.{rounds_sum, sum_is}
-
--- the first argument lies apart from the target
-pub record FirstApart (o : Owners) : Type 0 where
-  pub apart : o.first.space ≡ o.target.space → o.first.which ≡ o.target.which → ⊥
-
-differ_on : (o : Owners) (u : Sub) → FirstApart o → place_on o (first u) ≡ place_on o (target u) → ⊥
-differ_on o u a e = a.apart (ap (λ (p : Place). p.space) e) (ap (λ (p : Place). p.which) e)
-
-abbrev pub is_shift : WordOp → Bool
-is_shift op.Shl1 = true
-is_shift op.Shr1 = true
-is_shift p = false
-
--- a shift has an argument
-pub needs_first : (p : WordOp) (k : Kind) → is_shift p ≡ true → filled (forms p) [] ≡ Some k → ⊥
-needs_first op.Shl1 k e f = cc
-needs_first p k e f = cc
 
 -- the loop program of an operation, in one pass or with a pass for each position
 abbrev pub Written : WordOp → Kind → Owners → Rows → List (StepOf Block)
@@ -59,10 +41,8 @@ written_linear p k o m e =
     ap (λ b. cond b (steps_for p m) (program_on o (program p k))) (sym e)
 
 pub is_settled : (p : WordOp) (k : Kind) (o : Owners) (m : Rows)
-    → (is_shift p ≡ true → FirstApart o) → AllParts IsSettled (Written p k o m)
-is_settled op.Shl1 k o m a = (tt, (differ_on o sub.Inner (a refl), tt))
-is_settled op.Shr1 k o m a = (tt, (differ_on o sub.InnerDown (a refl), tt))
-is_settled op.Mul k o m a = (
+    → AllParts IsSettled (Written p k o m)
+is_settled op.Mul k o m = (
   tt,
   (
     (
@@ -76,8 +56,8 @@ is_settled op.Mul k o m a = (
     tt,
   ),
 )
-is_settled p Word o m a = search rules
-is_settled p Bit o m a = search rules
+is_settled p Word o m = search rules
+is_settled p Bit o m = search rules
 
 square : (n : ℕ) → n ^ 2 ≡ n * n
 square n = let e : n ^ 2 ≡ n ^ 1 * n = pow-suc n 1 in let f : n ^ 1 ≡ n ^ 0 * n = pow-suc n 0 in
@@ -98,14 +78,14 @@ triangle n =
 abbrev pub op_width : WordOp → Kind → ℕ → ℕ
 op_width p k n = cond (spreads p) (width n k) n
 
-pub aaps_are : (p : WordOp) (k : Kind) (o : Owners) (m : Rows) (n : ℕ)
+pub aaps_are : (p : WordOp) (k : Kind) (o : Owners) (m : Rows) (n : ℕ) → 0 < n
     → rounds_sum turn_aaps (all_rounds n (Written p k o m)) ≡ op_aaps p (op_width p k n)
-aaps_are op.Mul k o m n = let h = sum_is turn_aaps n (Written op.Mul k o m) in
+aaps_are op.Mul k o m n some = let h = sum_is turn_aaps n (Written op.Mul k o m) in
     omega (arith, h, square n, triangle n)
-aaps_are p Word o m n = let h = sum_is turn_aaps n (Written p Word o m) in
-    omega (arith, h, square n)
-aaps_are p Bit o m n = let h = sum_is turn_aaps n (Written p Bit o m) in
-    omega (arith, h, square n)
+aaps_are p Word o m n some = let h = sum_is turn_aaps n (Written p Word o m) in
+    omega (arith, h, square n, some)
+aaps_are p Bit o m n some = let h = sum_is turn_aaps n (Written p Bit o m) in
+    omega (arith, h, square n, some)
 
 pub aps_are : (p : WordOp) (k : Kind) (o : Owners) (m : Rows) (n : ℕ)
     → rounds_sum turn_aps (all_rounds n (Written p k o m)) ≡ op_aps p (op_width p k n)

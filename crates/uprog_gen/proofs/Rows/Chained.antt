@@ -9,7 +9,7 @@ use Rattle.loop_ir.specs.declared.ir.Count.{Count}
 use Rattle.loop_ir.specs.declared.ir.Count.TheVariants.{All, Rest}
 use Rattle.loop_ir.specs.Plain.{Block, InnerOf, StepOf}
 use Rattle.loop_ir.specs.Plain.InnerOf.{Alone, Across}
-use Rattle.loop_ir.specs.Plain.StepOf.{Single, Along, Nest}
+use Rattle.loop_ir.specs.Plain.StepOf.{Single, Along, Nest, Pairs}
 use Rattle.loop_ir.specs.Loops.{RoundOf, one_round, rounds, positions, inner_rounds}
 use Rattle.loop_ir.specs.Loops.{all_rounds}
 use Rattle.uprog_gen.proofs.Rows.Alive.{states_in, is_among, finds, left_by, chained}
@@ -79,6 +79,16 @@ nothing : (alive : List ℕ) → Chains alive alive []
 unfolding left_after
 nothing alive = record { need = refl; left_in = λ w e. e }
 
+none_within : (ys : List ℕ) → Within [] ys
+none_within ys w e = absurd (cc)
+
+fewer : (alive left less : List ℕ) (rs : List (RoundOf Block)) → Within less left
+    → Chains alive left rs → Chains alive less rs
+fewer alive left less rs h c = record {
+  need = c.need;
+  left_in = λ w e. c.left_in w (h w e);
+}
+
 once : (alive : List ℕ) (b : Block) (i o : ℕ) → finds alive b ≡ true
     → Chains alive (left_by b) (one_round b i o)
 unfolding left_after
@@ -116,6 +126,13 @@ across_count : (n o : ℕ) (c : Count) (alive : List ℕ) (b : Block) → o < n
 across_count n o All alive b l h = across alive b o n h (omega arith)
 across_count n o Rest alive b l h = across alive b o (n - o) h (omega arith)
 
+-- a loop that may have no round
+maybe : (alive : List ℕ) (b : Block) (o count : ℕ) → loop_finds alive b ≡ true
+    → Chains alive [] (rounds (λ i. one_round b i o) 0 count)
+maybe alive b o zero h = fewer alive alive [] [] (none_within alive) (nothing alive)
+maybe alive b o (suc m) h = fewer alive (left_by b) [] (rounds (λ i. one_round b i o) 0 (suc m))
+    (none_within (left_by b)) (across alive b o (suc m) h (omega arith))
+
 inners : (n o : ℕ) (ps : List (InnerOf Block)) (alive : List ℕ) → o < n
     → inner_finds alive ps ≡ true → Chains alive (inner_left alive ps) (inner_rounds n o ps)
 inners n o [] alive l h = nothing alive
@@ -145,6 +162,13 @@ steps_chained n (Along b ∷ ss) alive some h =
     both_chained rs (all_rounds n ss) alive c.need
     (more_chained (all_rounds n ss) (left_by b) (left_after alive rs) c.left_in
     (steps_chained n ss (left_by b) some p.1))
+steps_chained n (Pairs b ∷ ss) alive some h =
+    let p = and_parts (loop_finds alive b) (steps_find [] ss) h in
+    let rs = rounds (λ i. one_round b i 1) 0 (n - 1) in
+    let c = maybe alive b 1 (n - 1) p.0 in
+    both_chained rs (all_rounds n ss) alive c.need
+    (more_chained (all_rounds n ss) [] (left_after alive rs) c.left_in
+    (steps_chained n ss [] some p.1))
 steps_chained n (Nest ps ∷ ss) alive some h =
     let mid = inner_left alive ps in
     let rs = rounds (λ o. inner_rounds n o ps) 0 n in

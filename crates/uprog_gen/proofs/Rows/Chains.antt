@@ -2,7 +2,7 @@
 use Rattle.std.proofs.Common.{ℕ, ◌&&◌, Bool, true, List, [], ◌∷◌}
 use Rattle.loop_ir.specs.Plain.{Block, InnerOf, StepOf}
 use Rattle.loop_ir.specs.Plain.InnerOf.{Alone, Across}
-use Rattle.loop_ir.specs.Plain.StepOf.{Single, Along, Nest}
+use Rattle.loop_ir.specs.Plain.StepOf.{Single, Along, Nest, Pairs}
 use Rattle.uprog_gen.proofs.Rows.Alive.{finds, left_by}
 
 -- a body in a loop finds them before the first round and after each
@@ -19,9 +19,11 @@ inner_finds alive [] = true
 inner_finds alive (Alone b ∷ ps) = finds alive b && inner_finds (left_by b) ps
 inner_finds alive (Across c b ∷ ps) = loop_finds alive b && inner_finds (left_by b) ps
 
+-- a loop that may have no round leaves nothing that is sure
 abbrev pub steps_find : List ℕ → List (StepOf Block) → Bool
 steps_find alive [] = true
 steps_find alive (Single b ∷ ss) = finds alive b && steps_find (left_by b) ss
 steps_find alive (Along b ∷ ss) = loop_finds alive b && steps_find (left_by b) ss
+steps_find alive (Pairs b ∷ ss) = loop_finds alive b && steps_find [] ss
 steps_find alive (Nest ps ∷ ss) = inner_finds alive ps && (inner_finds (inner_left alive ps) ps
     && steps_find (inner_left (inner_left alive ps) ps) ss)

@@ -8,7 +8,7 @@ use Rattle.mig_graph.specs.declared.Lit.{Lit}
 use Rattle.loop_ir.specs.declared.ir.Place.{Place}
 use Rattle.loop_ir.specs.Plain.{Block, InnerOf, StepOf, AllInner, AllParts}
 use Rattle.loop_ir.specs.Plain.InnerOf.{Alone, Across}
-use Rattle.loop_ir.specs.Plain.StepOf.{Single, Along, Nest}
+use Rattle.loop_ir.specs.Plain.StepOf.{Single, Along, Nest, Pairs}
 use Rattle.loop_ir.specs.Spots.{nth_place, is_state}
 use Rattle.loop_ir.specs.Limits.{IsSmall}
 use Rattle.uprog_gen.specs.States.{row_count, enters, leaves, StatesFit}
@@ -81,6 +81,8 @@ steps_all alive (Single b ∷ ss) h = and_from (finds alive b) (steps_find (left
     (finds_all alive b h.0) (steps_all (left_by b) ss h.1)
 steps_all alive (Along b ∷ ss) h = and_from (loop_finds alive b) (steps_find (left_by b) ss)
     (loop_all alive b h.0) (steps_all (left_by b) ss h.1)
+steps_all alive (Pairs b ∷ ss) h = and_from (loop_finds alive b) (steps_find [] ss)
+    (loop_all alive b h.0) (steps_all [] ss h.1)
 steps_all alive (Nest ps ∷ ss) h =
     let mid = inner_left alive ps in
     and_from (inner_finds alive ps) (inner_finds mid ps && steps_find (inner_left mid ps) ss)

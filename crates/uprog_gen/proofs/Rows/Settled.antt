@@ -19,7 +19,7 @@ use Rattle.row_alloc.proofs.First.{KeepsInputs, word_late}
 use Rattle.loop_ir.specs.Plain.{Block, InnerOf, StepOf, inner_map, step_map, AllInner, AllStep}
 use Rattle.loop_ir.specs.Plain.{AllParts}
 use Rattle.loop_ir.specs.Plain.InnerOf.{Alone, Across}
-use Rattle.loop_ir.specs.Plain.StepOf.{Single, Along, Nest}
+use Rattle.loop_ir.specs.Plain.StepOf.{Single, Along, Nest, Pairs}
 use Rattle.loop_ir.specs.Loops.{RoundOf}
 use Rattle.loop_ir.specs.Costs.{is_copy}
 use Rattle.uprog_gen.specs.Code.{Part, block_of_part, blocks, round_command, rounds_commands}
@@ -97,6 +97,7 @@ step_parts : (P : Block → Type 0) (s : StepOf Part) → AllStep P (step_map bl
 step_parts P (Single p) h = h
 step_parts P (Along p) h = h
 step_parts P (Nest xs) h = inner_parts P xs h
+step_parts P (Pairs p) h = h
 
 pub of_blocks : (P : Block → Type 0) (ss : List (StepOf Part)) → AllParts P (blocks ss)
     → AllParts (λ p. P p.block) ss

@@ -23,7 +23,7 @@ use Rattle.loop_ir.specs.declared.ir.Space.TheVariants.{Cells}
 use Rattle.loop_ir.specs.Plain.{Block, InnerOf, StepOf, inner_map, step_map, AllInner, AllStep}
 use Rattle.loop_ir.specs.Plain.{AllParts}
 use Rattle.loop_ir.specs.Plain.InnerOf.{Alone, Across}
-use Rattle.loop_ir.specs.Plain.StepOf.{Single, Along, Nest}
+use Rattle.loop_ir.specs.Plain.StepOf.{Single, Along, Nest, Pairs}
 use Rattle.loop_ir.specs.Spots.{Spot, IsOwn, after_rounds}
 use Rattle.uprog_gen.specs.Where.{spot_row, row_in, IsSpot, IsIn, Agree, spots_in}
 use Rattle.uprog_gen.specs.Code.{Part, block_of_part, blocks, round_command, rounds_commands}
@@ -75,6 +75,7 @@ step_blocks n (Nest parts) =
     rounds_same (λ o. inner_rounds n o (map (inner_map block_of_part) parts)) (λ o.
     map block_round (inner_rounds n o parts)) (λ o. inner_blocks n o parts) 0 n
     ∙ sym (map_rounds block_round (λ o. inner_rounds n o parts) 0 n)
+step_blocks n (Pairs p) = sym (map_rounds block_round (λ i. one_round p i 1) 0 (n - 1))
 
 pub all_blocks : (n : ℕ) (ss : List (StepOf Part))
     → all_rounds n (blocks ss) ≡ map block_round (all_rounds n ss)
@@ -114,6 +115,7 @@ module _ (P : Part → Type 0) where
   step_parts n (Along p) h = all_rounds_of In (λ i. one_round p i 0) (λ i. (h, tt)) 0 n
   step_parts n (Nest parts) h = all_rounds_of In (λ o. inner_rounds n o parts) (λ o.
       inner_parts n o parts h) 0 n
+  step_parts n (Pairs p) h = all_rounds_of In (λ i. one_round p i 1) (λ i. (h, tt)) 0 (n - 1)
 
   in_rounds : (n : ℕ) (ss : List (StepOf Part)) → AllParts P ss
       → AllByRecursion In (all_rounds n ss)
