@@ -1,24 +1,43 @@
--- The facts of `cost` and `list`: their statuses, files, memory, and what one that is done has sent.
-use Rattle.std.proofs.Common.{◌≡◌, ℕ, List, [], ◌∷◌, ◌++◌, Option, Some, None, refl, sym, ◌∙◌, ap, subst}
+-- The facts of an account: its statuses, files, memory, and what one that is done has sent.
+use Rattle.std.proofs.Common.{◌≡◌, Bool, true, false, cond, ℕ, List, [], ◌∷◌, ◌++◌, Option, Some}
+use Rattle.std.proofs.Common.{None, refl, sym, ◌∙◌, ap, subst}
 use Rattle.std.proofs.Common.{append-nil}
-use Rattle.host_edge.specs.Views.{Files, Known}
+use Rattle.std.specs.Prelude.{Result, Err, IfSome, bytes_eq, codes}
+use denote.Ref.{Bor}
+use Rattle.dram_model.specs.View.{ChipView}
+use Rattle.host_edge.specs.Views.{Files, FolderView, SinkView, Known}
+use Rattle.op_text.specs.Language.{Operation}
+use Rattle.op_text.specs.OpsOf.{IsOpsOf}
+use Rattle.op_print.specs.Canonical.{canonical_text}
 use Rattle.uprog_code.specs.Programs.{IsProgram}
 use Rattle.uprog_bin.specs.Spelling.{HasVersion, program_bytes}
 use Rattle.uprog_bin.specs.Opened.{File, IsProgramFile}
-use Rattle.cli_model.specs.World.{World}
-use Rattle.cli_model.specs.Steps.{Put, Take}
-use Rattle.cli_model.proofs.Owed.{GoodFor, Gives, NotTen, TakesFirst}
+use Rattle.cli_model.specs.World.{World, world}
+use Rattle.cli_model.specs.Steps.{Reason, Refusal, Take}
+use Rattle.cli_model.specs.Runs.{Runs}
+use Rattle.cli_model.proofs.Owed.{GoodFor, NotTen, TakesFirst}
 use Rattle.cli_model.specs.Faultless.{file_in}
-use Rattle.cli_model.specs.Plan.{Answers, Makes, Then}
+use Rattle.cli_model.specs.Plan.{Makes, Plan, Then}
 use Rattle.cli_model.proofs.Delivering.{IsDelivered, known_delivered}
 use Rattle.simdram_cli.specs.declared.account.Account.{Account}
-use Rattle.simdram_cli.specs.declared.words.TheConstants.{PROG_MAX}
-use Rattle.simdram_cli.specs.Accounts.{Accounted, account_of, account_plan}
-use Rattle.simdram_cli.specs.Complete.{IsProg}
+use Rattle.simdram_cli.specs.declared.account.Account.TheVariants.{Canonical, OfProgram}
+use Rattle.simdram_cli.specs.declared.account.ProgramAccount.{ProgramAccount}
+use Rattle.simdram_cli.specs.declared.words.AccountNames.{AccountNames}
+use Rattle.simdram_cli.specs.declared.words.Command.TheVariants.{Account as AccountOf}
+use Rattle.simdram_cli.specs.declared.words.TheConstants.{OPS_MAX, PROG_MAX}
+use Rattle.simdram_cli.specs.declared.account.ProgramAccount.TheVariants.{Listing}
+use Rattle.simdram_cli.specs.Accounts.{HasWidth, account_named}
+use Rattle.simdram_cli.specs.Accounts.{Accounted, ProgramTold, OpsTold, account_plan, program_plan}
+use Rattle.simdram_cli.specs.Accounts.{StopsBefore, program_text, ops_plan, text_plan, told_plan}
+use Rattle.simdram_cli.specs.Commands.{CanAnswer}
+use Rattle.simdram_cli.specs.Complete.{IsAccountFile, IsGood}
+use Rattle.simdram_cli.specs.Inputs.{ops_in}
 use Rattle.simdram_cli.specs.Programs.{prog_in}
 use Rattle.simdram_cli.proofs.Completes.{IsOneOf}
-use Rattle.simdram_cli.proofs.JobPlans.{good_file, prog_refuses}
+use Rattle.simdram_cli.proofs.JobPlans.{good_file, ops_refuses, prog_refuses}
 use Rattle.simdram_cli.proofs.Migrating.{prog_is, same_ok}
+use Rattle.simdram_cli.proofs.OpsPlans.{spells_at}
+use Rattle.simdram_cli.proofs.Planned.{GivesOwn, IsFailing}
 
 -- the file of a program that was opened
 abbrev pub opened_file : (file : File) (text : List ℕ) → file.bytes ≡ text
@@ -32,31 +51,118 @@ opened_file file text same spelled = record {
   spelled = sym same ∙ spelled.2;
 }
 
-pub account_gives : (F D : ℕ → Type 0) (name : List ℕ) (account : Account) → F 2 → F 3 → F 5 → F 10
-    → F 11 → D 0 → Gives F D (account_plan name account)
-account_gives F D name account two three five ten eleven zero =
-    (two, eleven, ten, prog_refuses F five, λ text program u. ((ten, tt), ((three, tt), zero)))
+-- an account that is asked for by its word has a width where it has one
+named_width : (a b : Bool) → IfSome (cond a (Some Canonical)
+    (cond b (Some (OfProgram Listing)) None)) HasWidth
+named_width true b = tt
+named_width false true = tt
+named_width false false = tt
+
+pub named_right : (verb : List ℕ) → IfSome (account_named verb) HasWidth
+named_right verb = named_width (bytes_eq verb (codes "show")) (bytes_eq verb (codes "list"))
+
+own_gives : (file : Bor (List ℕ)) (account : Account)
+    → GivesOwn (AccountOf (record { file = file; account = account })) (account_plan file.now account)
+own_gives file Canonical = (
+  refl,
+  refl,
+  refl,
+  ops_refuses (IsFailing (AccountOf (record { file = file; account = Canonical }))) refl,
+  λ text u ops. ((refl, tt), ((refl, tt), refl)),
+)
+own_gives file (OfProgram account) = (
+  refl,
+  refl,
+  refl,
+  prog_refuses (IsFailing (AccountOf (record { file = file; account = OfProgram account }))) refl,
+  λ text program u. ((refl, tt), ((refl, tt), refl)),
+)
+
+pub account_gives : (names : AccountNames)
+    → GivesOwn (AccountOf names) (account_plan names.file.now names.account)
+account_gives names = own_gives names.file names.account
+
+own_not_one : (file : Bor (List ℕ)) (account : Account)
+    → CanAnswer (AccountOf (record { file = file; account = account })) 1 → ⊥
+own_not_one file Canonical can = cc
+own_not_one file (OfProgram account) can = cc
+
+pub account_not_one : (names : AccountNames) → CanAnswer (AccountOf names) 1 → ⊥
+account_not_one names can = own_not_one names.file names.account can
+
+-- a plan stops before its text is sent
+pub stops_before : (plan : Plan) (reason : Reason) (old new : FolderView)
+    → ((sink : SinkView) (chip : ChipView)
+    → Runs plan (world old sink chip) (world new sink chip) (Err reason))
+    → StopsBefore plan reason old new
+stops_before plan reason old new stops = stops
 
 pub account_takes : (name : List ℕ) (account : Account)
     → TakesFirst None (account_plan name account)
-account_takes name account = (prog_refuses NotTen (λ e. cc), λ text program u. (tt, (λ e. cc)))
+account_takes name Canonical = (ops_refuses NotTen (λ e. cc), λ text u ops. (tt, (λ e. cc)))
+account_takes name (OfProgram account) =
+    (prog_refuses NotTen (λ e. cc), λ text program u. (tt, (λ e. cc)))
+
+-- what is told of a file that is good
+told_good : {A B : Type 0} (name : List ℕ) (limit : ℕ) (read : List ℕ → Result A Refusal)
+    (Is : List ℕ → B → Type 0) (text_of : A → B → List ℕ) (holds : Option Files)
+    → IsGood read limit (file_in holds name)
+    → GoodFor (IsOneOf (10 ∷ 0 ∷ [])) (told_plan name limit read Is text_of) holds
+told_good name limit read Is text_of holds good =
+    good_file (IsOneOf (10 ∷ 0 ∷ [])) name limit read (λ text value.
+    Makes (Is text) (λ made. Then (Take ∷ []) (text_plan (text_of value made)))) holds good
+    (λ made has. (((λ e. cc), tt), (((λ e. cc), tt), refl)))
 
 pub account_good : (name : List ℕ) (account : Account) (holds : Option Files)
-    → IsProg (file_in holds name)
+    → IsAccountFile account (file_in holds name)
     → GoodFor (IsOneOf (10 ∷ 0 ∷ [])) (account_plan name account) holds
-account_good name account holds good =
-    good_file (IsOneOf (10 ∷ 0 ∷ [])) name PROG_MAX prog_in (λ text program.
-    Makes {A = Unit {0}} (λ u. IsProgramFile text) (λ u. Then (Take ∷ [])
-    (Then (Put (account_of account program) ∷ []) (Answers 0 (λ chip. Unit {0}))))) holds good
-    (λ u file. (((λ e. cc), tt), (((λ e. cc), tt), refl)))
+account_good name Canonical holds good =
+    told_good name OPS_MAX ops_in IsOpsOf (λ u ops. canonical_text ops) holds good
+account_good name (OfProgram account) holds good =
+    told_good {B = Unit {0}} name PROG_MAX prog_in (λ text u. IsProgramFile text)
+    (λ program u. program_text account program) holds good
 
-pub accounted : (name : List ℕ) (account : Account) (old new : World) (status : ℕ)
-    → IsDelivered (account_plan name account) old new status
-    → Known (λ before after. Accounted name account before after old new) old.files.holds
+ops_told : (text_of : List Operation → List ℕ) (name : List ℕ) (old new : World) (status : ℕ)
+    → IsDelivered (ops_plan text_of name) old new status
+    → Known (λ before after. OpsTold text_of name before after old new) old.files.holds new.files.holds
+ops_told text_of name old new status d =
+    known_delivered (ops_plan text_of name) old new status
+    (λ before after. OpsTold text_of name before after old new) d
+    (λ before after said sent (
+      text,
+      there,
+      within,
+      u,
+      is,
+      (
+        ops,
+        has,
+        (
+          more,
+          e,
+          (
+            last,
+            f,
+            (same, none, own, left),
+          ),
+        ),
+      ),
+    ). record {
+      ops = ops;
+      is = spells_at (before name) text ops there has;
+      files = same;
+      sent = subst (λ (bytes : List ℕ). Known (λ x y. y ≡ x ++ bytes) old.sink.sent new.sink.sent)
+          (e ∙ f ∙ ap (λ w. (text_of ops ++ []) ++ w) none
+          ∙ append-nil (text_of ops ++ []) ∙ append-nil (text_of ops)) sent;
+    })
+
+program_told : (name : List ℕ) (account : ProgramAccount) (old new : World) (status : ℕ)
+    → IsDelivered (program_plan name account) old new status
+    → Known (λ before after. ProgramTold name account before after old new) old.files.holds
     new.files.holds
-accounted name account old new status d =
-    known_delivered (account_plan name account) old new status
-    (λ before after. Accounted name account before after old new) d
+program_told name account old new status d =
+    known_delivered (program_plan name account) old new status
+    (λ before after. ProgramTold name account before after old new) d
     (λ before after said sent (
       text,
       there,
@@ -86,7 +192,14 @@ accounted name account old new status d =
       is = there ∙ ap (λ x. Some x) (file.spelled ∙ ap (program_bytes file.version) (sym own));
       files = same;
       sent = subst (λ (bytes : List ℕ). Known (λ x y. y ≡ x ++ bytes) old.sink.sent new.sink.sent)
-          (e ∙ f ∙ ap (λ w. (account_of account program ++ []) ++ w) none
-          ∙ append-nil (account_of account program ++ [])
-          ∙ append-nil (account_of account program)) sent;
+          (e ∙ f ∙ ap (λ w. (program_text account program ++ []) ++ w) none
+          ∙ append-nil (program_text account program ++ [])
+          ∙ append-nil (program_text account program)) sent;
     })
+
+pub accounted : (name : List ℕ) (account : Account) (old new : World) (status : ℕ)
+    → IsDelivered (account_plan name account) old new status
+    → Known (λ before after. Accounted name account before after old new) old.files.holds
+    new.files.holds
+accounted name Canonical old new status d = ops_told canonical_text name old new status d
+accounted name (OfProgram account) old new status d = program_told name account old new status d

@@ -8,8 +8,8 @@ use Rattle.bit_rows.specs.declared.TheConstants.{WIDTH_MAX}
 use Rattle.dram_model.specs.Geometry.{is_geometry}
 use Rattle.dram_model.specs.declared.geometry.Geometry.{Geometry}
 use Rattle.simdram_cli.specs.declared.words.Command.{Command}
-use Rattle.simdram_cli.specs.declared.words.Command.TheVariants.{Run, Exec, Compile, Show, Migrate}
-use Rattle.simdram_cli.specs.declared.words.Command.TheVariants.{Cost, List as ListOf, Init, Soak}
+use Rattle.simdram_cli.specs.declared.words.Command.TheVariants.{Run, Exec, Compile, Migrate}
+use Rattle.simdram_cli.specs.declared.words.Command.TheVariants.{Account as AccountOf, Init, Soak}
 use Rattle.simdram_cli.specs.declared.words.Command.TheVariants.{Scan}
 use Rattle.simdram_cli.specs.declared.words.Command.TheVariants.{Trace}
 use Rattle.simdram_cli.specs.declared.words.TraceNames.{TraceNames}
@@ -19,7 +19,12 @@ use Rattle.simdram_cli.specs.declared.words.GuardNames.{GuardNames}
 use Rattle.simdram_cli.specs.Words.{HasNumbers, IsApart, are_apart, command_of, command_on_one}
 use Rattle.simdram_cli.specs.Words.{command_on_four, command_on_two, cost_on, init_on}
 use Rattle.simdram_cli.specs.Words.{inputs_apart, is_number, soak_on, value_of}
-use Rattle.simdram_cli.specs.Words.{traced_apart, trace_on}
+use Rattle.simdram_cli.specs.Words.{or_account, traced_apart, trace_on}
+use Rattle.simdram_cli.specs.declared.account.Account.{Account}
+use Rattle.simdram_cli.specs.declared.account.Account.TheVariants.{OfProgram}
+use Rattle.simdram_cli.specs.declared.account.ProgramAccount.TheVariants.{Costs}
+use Rattle.simdram_cli.proofs.Accounting.{named_right}
+use Rattle.simdram_cli.specs.Accounts.{HasWidth, account_named}
 use Rattle.simdram_cli.specs.Words.{command_on_three, replay_apart}
 use Rattle.simdram_cli.specs.Words.{guard_apart, guard_on}
 
@@ -64,7 +69,8 @@ cost_right : (prog : Bor (List ℕ)) (width : List ℕ) → AreRight (cost_on pr
 cost_right prog width =
     let low = nat_le 1 (value_of width) in
     let high = nat_le (value_of width) WIDTH_MAX in
-    if_so (is_number width && (low && high)) (Cost (record { prog = prog; width = value_of width }))
+    if_so (is_number width && (low && high)) (AccountOf (record
+    { file = prog; account = OfProgram (Costs (value_of width)) }))
     (λ e. record {
       apart = tt;
       numbers = (
@@ -99,14 +105,15 @@ soak_right seed =
       numbers = ltb-true (value_of seed) (2 ^ 64) (second_holds (is_number seed) low e);
     })
 
+or_account_right : (o : Option Account) (file : Bor (List ℕ)) (other : Option Command)
+    → IfSome o HasWidth → AreRight other → AreRight (or_account o file other)
+or_account_right (Some account) file other width right = record { apart = tt; numbers = width }
+or_account_right None file other width right = right
+
 on_one_right : (verb : List ℕ) (word : Bor (List ℕ)) → AreRight (command_on_one verb word)
-on_one_right verb word =
-    either (bytes_eq verb (codes "show")) (Some (Show word)) _
-    (record { apart = tt; numbers = tt }) (λ other.
-    either (bytes_eq verb (codes "list")) (Some (ListOf word)) _
-    (record { apart = tt; numbers = tt }) (λ neither.
-    either (bytes_eq verb (codes "soak")) (soak_on word.now) None (soak_right word.now)
-    (λ none. tt)))
+on_one_right verb word = or_account_right (account_named verb) word _ (named_right verb)
+    (either (bytes_eq verb (codes "soak")) (soak_on word.now) None (soak_right word.now)
+    (λ none. tt))
 
 on_two_right : (verb : List ℕ) (first second : Bor (List ℕ))
     → bytes_eq first.now second.now ≡ false → AreRight (command_on_two verb first second)

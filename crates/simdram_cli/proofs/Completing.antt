@@ -5,10 +5,9 @@ use denote.Ref.{Bor}
 use Rattle.cli_model.specs.World.{World}
 use Rattle.cli_model.proofs.Good.{plan_completes}
 use Rattle.cli_model.proofs.Sparing.{plan_spares}
-use Rattle.simdram_cli.specs.declared.account.Account.TheVariants.{Listing, Costs}
 use Rattle.simdram_cli.specs.declared.words.Command.{Command}
-use Rattle.simdram_cli.specs.declared.words.Command.TheVariants.{Run, Exec, Compile, Show, Migrate}
-use Rattle.simdram_cli.specs.declared.words.Command.TheVariants.{Cost, List as ListOf, Init, Soak}
+use Rattle.simdram_cli.specs.declared.words.Command.TheVariants.{Run, Exec, Compile, Migrate}
+use Rattle.simdram_cli.specs.declared.words.Command.TheVariants.{Account as AccountOf, Init, Soak}
 use Rattle.simdram_cli.specs.declared.words.Command.TheVariants.{Guard, Replay, Scan, Trace}
 use Rattle.simdram_cli.specs.Accounts.{account_plan}
 use Rattle.simdram_cli.specs.Commands.{CommandEnds, OnCommand}
@@ -21,7 +20,6 @@ use Rattle.simdram_cli.specs.Migrate.{migrate_plan}
 use Rattle.simdram_cli.specs.Replay.{replay_plan}
 use Rattle.simdram_cli.specs.Run.{run_plan}
 use Rattle.simdram_cli.specs.Scan.{scan_plan}
-use Rattle.simdram_cli.specs.Show.{show_plan}
 use Rattle.simdram_cli.specs.Soak.{soak_plan}
 use Rattle.simdram_cli.specs.Tracing.{trace_plan}
 use Rattle.simdram_cli.specs.Words.{command_of, IsApart}
@@ -39,7 +37,6 @@ use Rattle.simdram_cli.proofs.Replaying.{replay_good, replay_takes}
 use Rattle.simdram_cli.proofs.RunPlanned.{run_good, run_takes}
 use Rattle.simdram_cli.proofs.Running.{apart}
 use Rattle.simdram_cli.proofs.Scanning.{scan_good, scan_takes}
-use Rattle.simdram_cli.proofs.Showing.{show_good, show_takes}
 use Rattle.simdram_cli.proofs.Soaking.{soak_good}
 use Rattle.simdram_cli.proofs.TracePlanned.{trace_good, trace_takes}
 
@@ -52,22 +49,15 @@ completes (Run names) old new status are e = λ good n.
 completes (Exec names) old new status are e = λ good n.
     plan_completes (IsOneOf (10 ∷ 0 ∷ 8 ∷ [])) (exec_plan names) old new status
     (exec_good names old.files.holds good) refl n e
-completes (Show name) old new status are e = λ good n.
-    plan_completes (IsOneOf (10 ∷ 0 ∷ [])) (show_plan name.now) old new status
-    (show_good name old.files.holds good) refl n e
+completes (AccountOf names) old new status are e = λ good n.
+    plan_completes (IsOneOf (10 ∷ 0 ∷ [])) (account_plan names.file.now names.account) old new
+    status (account_good names.file.now names.account old.files.holds good) refl n e
 completes (Migrate names) old new status are e = λ good n.
     plan_completes (IsOneOf (10 ∷ 0 ∷ [])) (migrate_plan names) old new status
     (migrate_good names old.files.holds good) refl n e
 completes (Compile names) old new status are e = λ good n.
     plan_completes (IsOneOf (10 ∷ 0 ∷ [])) (compile_plan names) old new status
     (compile_good names old.files.holds good) refl n e
-completes (Cost names) old new status are e = λ good n.
-    let account = Costs names.width in
-    plan_completes (IsOneOf (10 ∷ 0 ∷ [])) (account_plan names.prog.now account) old new status
-    (account_good names.prog.now account old.files.holds good) refl n e
-completes (ListOf name) old new status are e = λ good n.
-    plan_completes (IsOneOf (10 ∷ 0 ∷ [])) (account_plan name.now Listing) old new status
-    (account_good name.now Listing old.files.holds good) refl n e
 completes (Init names) old new status are e = λ good n.
     plan_completes (IsOneOf (10 ∷ 0 ∷ [])) (init_plan names) old new status
     (init_good names old.files.holds) refl n e
@@ -94,19 +84,13 @@ spares (Run names) old new status e =
     plan_spares (Some names.prog.now) (run_plan names) old new status (run_takes names) e
 spares (Exec names) old new status e =
     plan_spares None (exec_plan names) old new status (exec_takes names) e
-spares (Show name) old new status e =
-    plan_spares None (show_plan name.now) old new status (show_takes name.now) e
+spares (AccountOf names) old new status e =
+    plan_spares None (account_plan names.file.now names.account) old new status
+    (account_takes names.file.now names.account) e
 spares (Migrate names) old new status e =
     plan_spares None (migrate_plan names) old new status (migrate_takes names) e
 spares (Compile names) old new status e =
     plan_spares None (compile_plan names) old new status (compile_takes names) e
-spares (Cost names) old new status e =
-    let account = Costs names.width in
-    plan_spares None (account_plan names.prog.now account) old new status
-    (account_takes names.prog.now account) e
-spares (ListOf name) old new status e =
-    plan_spares None (account_plan name.now Listing) old new status (account_takes name.now Listing)
-    e
 spares (Init names) old new status e =
     plan_spares None (init_plan names) old new status (init_takes names) e
 spares (Soak seed) old new status e = λ ten. e.1

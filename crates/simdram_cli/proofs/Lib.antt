@@ -44,4 +44,3 @@ pub mod TracePlanned
 pub mod Compiled
 pub mod GuardPlanned
 pub mod RunPlanned
-mod Showing

@@ -3,12 +3,10 @@ use Rattle.std.proofs.Common.{◌≡◌, inl, ℕ, List, Option, Some, None, ref
 use Rattle.std.specs.Prelude.{◌↔◌}
 use denote.Ref.{Bor}
 use Rattle.cli_model.specs.World.{World}
-use Rattle.simdram_cli.specs.declared.account.Account.TheVariants.{Listing, Costs}
 use Rattle.simdram_cli.specs.declared.words.Command.{Command}
-use Rattle.simdram_cli.specs.declared.words.Command.TheVariants.{Run, Exec, Compile, Show, Migrate}
-use Rattle.simdram_cli.specs.declared.words.Command.TheVariants.{Cost, List as ListOf, Init, Soak}
+use Rattle.simdram_cli.specs.declared.words.Command.TheVariants.{Run, Exec, Compile, Migrate}
+use Rattle.simdram_cli.specs.declared.words.Command.TheVariants.{Account as AccountOf, Init, Soak}
 use Rattle.simdram_cli.specs.declared.words.Command.TheVariants.{Guard, Replay, Scan, Trace}
-use Rattle.simdram_cli.specs.declared.words.CostNames.{CostNames}
 use Rattle.simdram_cli.specs.Accounts.{account_plan}
 use Rattle.simdram_cli.specs.Commands.{CanAnswer, CommandEnds, OnCommand, Promises}
 use Rattle.simdram_cli.specs.Compile.{compile_plan}
@@ -19,11 +17,10 @@ use Rattle.simdram_cli.specs.Migrate.{migrate_plan}
 use Rattle.simdram_cli.specs.Replay.{replay_plan}
 use Rattle.simdram_cli.specs.Run.{run_plan}
 use Rattle.simdram_cli.specs.Scan.{scan_plan}
-use Rattle.simdram_cli.specs.Show.{show_plan}
 use Rattle.simdram_cli.specs.Soak.{soak_plan}
 use Rattle.simdram_cli.specs.Tracing.{trace_plan}
 use Rattle.simdram_cli.specs.Words.{command_of, IsApart}
-use Rattle.simdram_cli.proofs.Accounting.{account_gives, accounted}
+use Rattle.simdram_cli.proofs.Accounting.{account_gives, account_not_one, accounted}
 use Rattle.simdram_cli.proofs.Commanding.{command_right}
 use Rattle.simdram_cli.proofs.Compiling.{compile_gives, compiled}
 use Rattle.simdram_cli.proofs.ExecPlanned.{exec_gives, exec_promised}
@@ -37,19 +34,9 @@ use Rattle.simdram_cli.proofs.Replaying.{replay_gives, replayed_by}
 use Rattle.simdram_cli.proofs.RunPlanned.{run_gives, run_promised}
 use Rattle.simdram_cli.proofs.Running.{apart}
 use Rattle.simdram_cli.proofs.Scanning.{scan_gives, scanned}
-use Rattle.simdram_cli.proofs.Showing.{show_gives, show_shown}
 use Rattle.simdram_cli.proofs.Soaking.{soak_gives, soaked}
 use Rattle.simdram_cli.proofs.TracePlanned.{trace_gives}
 use Rattle.simdram_cli.proofs.Traced.{traced}
-
-cost_gives : (names : CostNames)
-    → GivesOwn (Cost names) (account_plan names.prog.now (Costs names.width))
-cost_gives names = account_gives (IsFailing (Cost names)) (CanAnswer (Cost names)) names.prog.now
-    (Costs names.width) refl refl refl refl refl refl
-
-list_gives : (name : Bor (List ℕ)) → GivesOwn (ListOf name) (account_plan name.now Listing)
-list_gives name = account_gives (IsFailing (ListOf name)) (CanAnswer (ListOf name)) name.now Listing
-    refl refl refl refl refl refl
 
 -- a command answers one of its statuses
 pub can_answer : (command : Command) (old new : World) (status : ℕ)
@@ -58,17 +45,13 @@ can_answer (Run names) old new status e =
     plan_can (Run names) (run_plan names) old new status (run_gives names) e
 can_answer (Exec names) old new status e =
     plan_can (Exec names) (exec_plan names) old new status (exec_gives names) e
-can_answer (Show name) old new status e =
-    plan_can (Show name) (show_plan name.now) old new status (show_gives name) e
+can_answer (AccountOf names) old new status e =
+    plan_can (AccountOf names) (account_plan names.file.now names.account) old new status
+    (account_gives names) e
 can_answer (Migrate names) old new status e =
     plan_can (Migrate names) (migrate_plan names) old new status (migrate_gives names) e
 can_answer (Compile names) old new status e =
     plan_can (Compile names) (compile_plan names) old new status (compile_gives names) e
-can_answer (Cost names) old new status e =
-    plan_can (Cost names) (account_plan names.prog.now (Costs names.width)) old new status
-    (cost_gives names) e
-can_answer (ListOf name) old new status e =
-    plan_can (ListOf name) (account_plan name.now Listing) old new status (list_gives name) e
 can_answer (Init names) old new status e =
     plan_can (Init names) (init_plan names) old new status (init_gives names) e
 can_answer (Soak seed) old new status e =
@@ -89,14 +72,10 @@ not_one (Exec names) status can e =
     let one : CanAnswer (Exec names) 1 = subst (CanAnswer (Exec names)) e can in cc
 not_one (Compile names) status can e =
     let one : CanAnswer (Compile names) 1 = subst (CanAnswer (Compile names)) e can in cc
-not_one (Show name) status can e =
-    let one : CanAnswer (Show name) 1 = subst (CanAnswer (Show name)) e can in cc
+not_one (AccountOf names) status can e =
+    account_not_one names (subst (CanAnswer (AccountOf names)) e can)
 not_one (Migrate names) status can e =
     let one : CanAnswer (Migrate names) 1 = subst (CanAnswer (Migrate names)) e can in cc
-not_one (Cost names) status can e =
-    let one : CanAnswer (Cost names) 1 = subst (CanAnswer (Cost names)) e can in cc
-not_one (ListOf name) status can e =
-    let one : CanAnswer (ListOf name) 1 = subst (CanAnswer (ListOf name)) e can in cc
 not_one (Init names) status can e =
     let one : CanAnswer (Init names) 1 = subst (CanAnswer (Init names)) e can in cc
 not_one (Soak seed) status can e =
@@ -131,24 +110,16 @@ promises (Run names) old new status are e = λ is.
 promises (Exec names) old new status are e = λ is.
     exec_promised names old new status
     (plan_done (Exec names) (exec_plan names) old new status (exec_gives names) is e)
-promises (Show name) old new status are e = λ is.
-    show_shown name.now old new status
-    (plan_done (Show name) (show_plan name.now) old new status (show_gives name) (inl is) e)
+promises (AccountOf names) old new status are e = λ is.
+    accounted names.file.now names.account old new status
+    (plan_done (AccountOf names) (account_plan names.file.now names.account) old new status
+    (account_gives names) (inl is) e)
 promises (Migrate names) old new status are e = λ is.
     migrated names old new status
     (plan_done (Migrate names) (migrate_plan names) old new status (migrate_gives names) (inl is) e)
 promises (Compile names) old new status are e = λ is.
     compiled names old new status
     (plan_done (Compile names) (compile_plan names) old new status (compile_gives names) (inl is) e)
-promises (Cost names) old new status are e = λ is.
-    let account = Costs names.width in
-    accounted names.prog.now account old new status
-    (plan_done (Cost names) (account_plan names.prog.now account) old new status (cost_gives names)
-    (inl is) e)
-promises (ListOf name) old new status are e = λ is.
-    accounted name.now Listing old new status
-    (plan_done (ListOf name) (account_plan name.now Listing) old new status (list_gives name)
-    (inl is) e)
 promises (Init names) old new status are e = λ is.
     started names old new status
     (plan_done (Init names) (init_plan names) old new status (init_gives names) (inl is) e)

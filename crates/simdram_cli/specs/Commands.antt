@@ -5,22 +5,20 @@ use denote.Ref.{Bor}
 use Rattle.host_edge.specs.Views.{Known}
 use Rattle.cli_model.specs.World.{World}
 use Rattle.simdram_cli.specs.declared.words.Command.{Command}
-use Rattle.simdram_cli.specs.declared.words.Command.TheVariants.{Run, Exec, Compile, Show, Migrate}
-use Rattle.simdram_cli.specs.declared.words.Command.TheVariants.{Cost, List as ListOf, Init, Soak}
+use Rattle.simdram_cli.specs.declared.words.Command.TheVariants.{Run, Exec, Compile, Migrate}
+use Rattle.simdram_cli.specs.declared.words.Command.TheVariants.{Account as AccountOf, Init, Soak}
 use Rattle.simdram_cli.specs.declared.words.Command.TheVariants.{Scan}
 use Rattle.simdram_cli.specs.declared.words.Command.TheVariants.{Trace}
 use Rattle.simdram_cli.specs.declared.words.Command.TheVariants.{Replay}
 use Rattle.simdram_cli.specs.declared.words.Command.TheVariants.{Guard}
-use Rattle.simdram_cli.specs.declared.account.Account.TheVariants.{Listing, Costs}
 use Rattle.simdram_cli.specs.Words.{command_of}
 use Rattle.simdram_cli.specs.Run.{run_plan}
 use Rattle.simdram_cli.specs.Headline.{Headline}
 use Rattle.cli_model.specs.Runs.{EndsBy}
 use Rattle.simdram_cli.specs.Exec.{exec_plan, Executed}
 use Rattle.simdram_cli.specs.Compile.{compile_plan, Compiled}
-use Rattle.simdram_cli.specs.Show.{show_plan, Shown}
 use Rattle.simdram_cli.specs.Migrate.{migrate_plan, Migrated}
-use Rattle.simdram_cli.specs.Accounts.{account_plan, Accounted}
+use Rattle.simdram_cli.specs.Accounts.{account_plan, refused_status, Accounted}
 use Rattle.simdram_cli.specs.Init.{init_plan, Started}
 use Rattle.simdram_cli.specs.Soak.{SoakEnds, Soaked}
 use Rattle.simdram_cli.specs.Scan.{ScanEnds, Scanned}
@@ -33,10 +31,8 @@ abbrev pub statuses : Command → List ℕ
 statuses (Run names) = 0 ∷ 2 ∷ 3 ∷ 4 ∷ 6 ∷ 7 ∷ 8 ∷ 9 ∷ 10 ∷ 11 ∷ []
 statuses (Exec names) = 0 ∷ 2 ∷ 3 ∷ 5 ∷ 6 ∷ 7 ∷ 8 ∷ 9 ∷ 10 ∷ 11 ∷ []
 statuses (Compile names) = 0 ∷ 2 ∷ 3 ∷ 4 ∷ 10 ∷ 11 ∷ []
-statuses (Show name) = 0 ∷ 2 ∷ 3 ∷ 4 ∷ 10 ∷ 11 ∷ []
+statuses (AccountOf names) = 0 ∷ 2 ∷ 3 ∷ refused_status names.account ∷ 10 ∷ 11 ∷ []
 statuses (Migrate names) = 0 ∷ 2 ∷ 3 ∷ 5 ∷ 10 ∷ 11 ∷ []
-statuses (Cost names) = 0 ∷ 2 ∷ 3 ∷ 5 ∷ 10 ∷ 11 ∷ []
-statuses (ListOf name) = 0 ∷ 2 ∷ 3 ∷ 5 ∷ 10 ∷ 11 ∷ []
 statuses (Init names) = 0 ∷ 3 ∷ 10 ∷ []
 statuses (Soak seed) = 0 ∷ 3 ∷ 9 ∷ 10 ∷ []
 statuses (Scan names) = 0 ∷ 2 ∷ 3 ∷ 7 ∷ 9 ∷ 10 ∷ 11 ∷ 15 ∷ 16 ∷ []
@@ -54,12 +50,9 @@ abbrev pub CommandEnds : Command → World → World → ℕ → Type 0
 CommandEnds (Run names) old new status = EndsBy (run_plan names) old new status
 CommandEnds (Exec names) old new status = EndsBy (exec_plan names) old new status
 CommandEnds (Compile names) old new status = EndsBy (compile_plan names) old new status
-CommandEnds (Show name) old new status = EndsBy (show_plan name.now) old new status
+CommandEnds (AccountOf names) old new status =
+    EndsBy (account_plan names.file.now names.account) old new status
 CommandEnds (Migrate names) old new status = EndsBy (migrate_plan names) old new status
-CommandEnds (Cost names) old new status =
-    EndsBy (account_plan names.prog.now (Costs names.width)) old new status
-CommandEnds (ListOf name) old new status =
-    EndsBy (account_plan name.now Listing) old new status
 CommandEnds (Init names) old new status = EndsBy (init_plan names) old new status
 CommandEnds (Soak seed) old new status = SoakEnds seed old new status
 CommandEnds (Scan names) old new status = ScanEnds names old new status
@@ -78,16 +71,11 @@ Promises (Exec names) old new status = (status ≡ 0) ⊎ (status ≡ 8)
     new.files.holds
 Promises (Compile names) old new status = status ≡ 0
     → Known (λ before after. Compiled names before after old new) old.files.holds new.files.holds
-Promises (Show name) old new status = status ≡ 0
-    → IfSome old.files.holds (λ before. Shown name.now before old new)
+Promises (AccountOf names) old new status = status ≡ 0
+    → Known (λ before after. Accounted names.file.now names.account before after old new)
+    old.files.holds new.files.holds
 Promises (Migrate names) old new status = status ≡ 0
     → Known (λ before after. Migrated names before after old new) old.files.holds new.files.holds
-Promises (Cost names) old new status = status ≡ 0
-    → Known (λ before after. Accounted names.prog.now (Costs names.width) before after old new)
-    old.files.holds new.files.holds
-Promises (ListOf name) old new status = status ≡ 0
-    → Known (λ before after. Accounted name.now Listing before after old new) old.files.holds
-    new.files.holds
 Promises (Init names) old new status = status ≡ 0
     → Known (λ before after. Started names before after old new) old.files.holds new.files.holds
 Promises (Soak seed) old new status = status ≡ 0 → Soaked seed old new

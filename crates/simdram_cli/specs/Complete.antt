@@ -11,9 +11,11 @@ use Rattle.simdram_cli.specs.declared.words.TheConstants.{OPS_MAX, PROG_MAX, SCR
 use Rattle.simdram_cli.specs.declared.words.TheConstants.{QUERY_MAX}
 use Rattle.simdram_cli.specs.declared.words.TheConstants.{TRACE_MAX}
 use Rattle.simdram_cli.specs.declared.words.TheConstants.{FLIPS_MAX}
+use Rattle.simdram_cli.specs.declared.account.Account.{Account}
+use Rattle.simdram_cli.specs.declared.account.Account.TheVariants.{Canonical, OfProgram}
 use Rattle.simdram_cli.specs.declared.words.Command.{Command}
-use Rattle.simdram_cli.specs.declared.words.Command.TheVariants.{Run, Exec, Compile, Show, Migrate}
-use Rattle.simdram_cli.specs.declared.words.Command.TheVariants.{Cost, List as ListOf, Init, Soak}
+use Rattle.simdram_cli.specs.declared.words.Command.TheVariants.{Run, Exec, Compile, Migrate}
+use Rattle.simdram_cli.specs.declared.words.Command.TheVariants.{Account as AccountOf, Init, Soak}
 use Rattle.simdram_cli.specs.declared.words.Command.TheVariants.{Scan}
 use Rattle.simdram_cli.specs.declared.words.Command.TheVariants.{Trace}
 use Rattle.simdram_cli.specs.declared.words.Command.TheVariants.{Replay}
@@ -61,6 +63,11 @@ IsTraceFile file = IsGood trace_in TRACE_MAX file
 abbrev pub IsFlipsFile : Geometry → ℕ → Option (List ℕ) → Type 0
 IsFlipsFile g instrs file = IsGood (flips_in g instrs) FLIPS_MAX file
 
+-- the file of an account is good
+abbrev pub IsAccountFile : Account → Option (List ℕ) → Type 0
+IsAccountFile Canonical file = IsOps file
+IsAccountFile (OfProgram account) file = IsProg file
+
 -- each file that the command loads is good
 abbrev pub AreGood : Command → (List ℕ → Option (List ℕ)) → Type 0
 AreGood (Run names) file = IsOps (file names.ops.now) × IsScript (file names.script.now)
@@ -68,10 +75,8 @@ AreGood (Run names) file = IsOps (file names.ops.now) × IsScript (file names.sc
 AreGood (Exec names) file = IsProg (file names.prog.now) × IsScript (file names.script.now)
     × IsImageFile (file names.image.now)
 AreGood (Compile names) file = IsOps (file names.ops.now)
-AreGood (Show name) file = IsOps (file name.now)
+AreGood (AccountOf names) file = IsAccountFile names.account (file names.file.now)
 AreGood (Migrate names) file = IsProg (file names.old.now)
-AreGood (Cost names) file = IsProg (file names.prog.now)
-AreGood (ListOf name) file = IsProg (file name.now)
 AreGood (Init names) file = Unit {0}
 AreGood (Soak seed) file = Unit {0}
 AreGood (Scan names) file = IsQueryFile (file names.query.now) × IsImageFile (file names.image.now)
@@ -88,10 +93,8 @@ abbrev pub done_statuses : Command → List ℕ
 done_statuses (Run names) = 0 ∷ 8 ∷ []
 done_statuses (Exec names) = 0 ∷ 8 ∷ []
 done_statuses (Compile names) = 0 ∷ []
-done_statuses (Show name) = 0 ∷ []
+done_statuses (AccountOf names) = 0 ∷ []
 done_statuses (Migrate names) = 0 ∷ []
-done_statuses (Cost names) = 0 ∷ []
-done_statuses (ListOf name) = 0 ∷ []
 done_statuses (Init names) = 0 ∷ []
 done_statuses (Soak seed) = 0 ∷ []
 done_statuses (Scan names) = 0 ∷ 16 ∷ []
@@ -112,10 +115,8 @@ abbrev pub Spares : Command → World → World → ℕ → Type 0
 Spares (Run names) old new status = status ≡ 10 → IsSpared (Some names.prog.now) old new
 Spares (Exec names) old new status = status ≡ 10 → IsSpared None old new
 Spares (Compile names) old new status = status ≡ 10 → IsSpared None old new
-Spares (Show name) old new status = status ≡ 10 → IsSpared None old new
+Spares (AccountOf names) old new status = status ≡ 10 → IsSpared None old new
 Spares (Migrate names) old new status = status ≡ 10 → IsSpared None old new
-Spares (Cost names) old new status = status ≡ 10 → IsSpared None old new
-Spares (ListOf name) old new status = status ≡ 10 → IsSpared None old new
 Spares (Init names) old new status = status ≡ 10 → IsSpared None old new
 Spares (Soak seed) old new status = status ≡ 10 → new.files ≡ old.files
 Spares (Scan names) old new status = status ≡ 10 → IsSpared None old new

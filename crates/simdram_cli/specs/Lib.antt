@@ -16,7 +16,6 @@ pub mod Plans
 pub mod Run
 pub mod Exec
 pub mod Compile
-pub mod Show
 pub mod Migrate
 pub mod Accounts
 pub mod Init

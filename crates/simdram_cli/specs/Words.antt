@@ -1,6 +1,6 @@
 -- The words of a command.
 use Rattle.std.specs.Prelude.{◌≡◌, ℕ, Bool, true, false, not, ◌&&◌, List, [], ◌∷◌, Option, Some}
-use Rattle.std.specs.Prelude.{None, ◌<◌, ◌≤◌, ◌^◌, nat_le, nat_lt}
+use Rattle.std.specs.Prelude.{None, ◌<◌, ◌^◌, nat_le, nat_lt}
 use Rattle.std.specs.Prelude.{bytes_eq, codes, if◌then◌else◌}
 use Rattle.std.specs.Char.{is_ascii_digit}
 use Rattle.std.specs.List.{list_all}
@@ -10,14 +10,18 @@ use Rattle.bit_rows.specs.declared.TheConstants.{WIDTH_MAX}
 use Rattle.dram_model.specs.declared.geometry.Geometry.{Geometry}
 use Rattle.dram_model.specs.Geometry.{is_geometry}
 use Rattle.simdram_cli.specs.declared.words.Command.{Command}
-use Rattle.simdram_cli.specs.declared.words.Command.TheVariants.{Run, Exec, Compile, Show, Migrate}
-use Rattle.simdram_cli.specs.declared.words.Command.TheVariants.{Cost, List as ListOf, Init, Soak}
+use Rattle.simdram_cli.specs.declared.words.Command.TheVariants.{Run, Exec, Compile, Migrate}
+use Rattle.simdram_cli.specs.declared.words.Command.TheVariants.{Account as AccountOf, Init, Soak}
 use Rattle.simdram_cli.specs.declared.words.Command.TheVariants.{Scan}
 use Rattle.simdram_cli.specs.declared.words.Command.TheVariants.{Trace}
 use Rattle.simdram_cli.specs.declared.words.TraceNames.{TraceNames}
 use Rattle.simdram_cli.specs.declared.words.Command.TheVariants.{Replay}
 use Rattle.simdram_cli.specs.declared.words.Command.TheVariants.{Guard}
 use Rattle.simdram_cli.specs.declared.words.GuardNames.{GuardNames}
+use Rattle.simdram_cli.specs.declared.account.Account.{Account}
+use Rattle.simdram_cli.specs.declared.account.Account.TheVariants.{OfProgram}
+use Rattle.simdram_cli.specs.declared.account.ProgramAccount.TheVariants.{Costs}
+use Rattle.simdram_cli.specs.Accounts.{HasWidth, account_named}
 
 -- no two are equal
 abbrev pub all_differ : List (List ℕ) → Bool
@@ -82,7 +86,8 @@ value_of word = digits_value 10 word
 abbrev pub cost_on : Bor (List ℕ) → List ℕ → Option Command
 cost_on prog width =
     if is_number width && (nat_le 1 (value_of width) && nat_le (value_of width) WIDTH_MAX)
-    then Some (Cost (record { prog = prog; width = value_of width })) else None
+    then Some (AccountOf (record
+    { file = prog; account = OfProgram (Costs (value_of width)) })) else None
 
 -- `init`, where its numbers are a chip's
 abbrev pub init_on : (banks rows words : List ℕ) → Bor (List ℕ) → Option Command
@@ -100,12 +105,15 @@ abbrev pub soak_on : List ℕ → Option Command
 soak_on seed =
     if is_number seed && nat_lt (value_of seed) (2 ^ 64) then Some (Soak (value_of seed)) else None
 
+-- an account of a file, where one is asked for
+abbrev pub or_account : Option Account → Bor (List ℕ) → Option Command → Option Command
+or_account (Some account) file other = Some (AccountOf (record { file = file; account = account }))
+or_account None file other = other
+
 -- the command of one word after its own
 abbrev pub command_on_one : List ℕ → Bor (List ℕ) → Option Command
-command_on_one verb word =
-    if bytes_eq verb (codes "show") then Some (Show word)
-    else if bytes_eq verb (codes "list") then Some (ListOf word)
-    else if bytes_eq verb (codes "soak") then soak_on word.now else None
+command_on_one verb word = or_account (account_named verb) word
+    (if bytes_eq verb (codes "soak") then soak_on word.now else None)
 
 -- the command of three words after its own
 abbrev pub command_on_three : List ℕ → (first second third : Bor (List ℕ)) → Option Command
@@ -159,10 +167,8 @@ IsApart (Run names) = are_apart names.ops.now names.prog.now names.script.now na
 IsApart (Exec names) = inputs_apart names.prog.now names.script.now names.image.now names.out.now
     ≡ true
 IsApart (Compile names) = bytes_eq names.ops.now names.prog.now ≡ false
-IsApart (Show name) = Unit {0}
+IsApart (AccountOf names) = Unit {0}
 IsApart (Migrate names) = bytes_eq names.old.now names.new.now ≡ false
-IsApart (Cost names) = Unit {0}
-IsApart (ListOf name) = Unit {0}
 IsApart (Init names) = Unit {0}
 IsApart (Soak seed) = Unit {0}
 IsApart (Scan names) = bytes_eq names.query.now names.image.now ≡ false
@@ -172,7 +178,7 @@ IsApart (Guard names) = guard_apart names ≡ true
 
 -- the numbers of a command are a width, a chip's, or a seed
 abbrev pub HasNumbers : Command → Type 0
-HasNumbers (Cost names) = (0 < names.width) × (names.width ≤ WIDTH_MAX)
+HasNumbers (AccountOf names) = HasWidth names.account
 HasNumbers (Init names) = is_geometry names.geometry ≡ true
 HasNumbers (Soak seed) = seed < 2 ^ 64
 HasNumbers _ = Unit {0}

@@ -15,7 +15,6 @@ mod perform;
 mod replay;
 mod run;
 mod scan;
-mod show;
 mod soak;
 mod stop;
 mod top;
@@ -23,10 +22,11 @@ mod trace;
 mod words;
 mod work;
 
+pub use account::{Account, ProgramAccount};
 pub use stop::{Stop, status_of, tell};
 pub use top::{one_job, simdram};
 pub use words::{
-    Command, CompileNames, CostNames, ExecNames, FLIPS_MAX, GuardNames, IMAGE_MAX, InitNames,
+    AccountNames, Command, CompileNames, ExecNames, FLIPS_MAX, GuardNames, IMAGE_MAX, InitNames,
     MigrateNames, OPS_MAX, PROG_MAX, QUERY_MAX, ReplayNames, RunNames, SCRIPT_MAX, ScanNames,
     TRACE_MAX, TraceNames, command_of, limits,
 };

@@ -6,7 +6,7 @@ ghost use Rattle.dram_model.specs.Geometry.{is_geometry};
 ghost use Rattle.host_edge.specs.Views.{FolderView};
 ghost use Rattle.cli_model.specs.World.{world};
 ghost use Rattle.cli_model.specs.Status.{Says, Tells};
-ghost use Rattle.simdram_cli.specs.Accounts.{IsAsked, account_plan};
+ghost use Rattle.simdram_cli.specs.Accounts.{HasWidth, account_plan};
 ghost use Rattle.simdram_cli.specs.Commands.{CanAnswer, CommandEnds, OnCommand, Promises};
 ghost use Rattle.simdram_cli.specs.Compile.{compile_plan};
 ghost use Rattle.simdram_cli.specs.Complete.{Completes, Spares};
@@ -20,13 +20,12 @@ ghost use Rattle.simdram_cli.specs.Migrate.{migrate_plan};
 ghost use Rattle.simdram_cli.specs.Replay.{replay_plan};
 ghost use Rattle.simdram_cli.specs.Run.{run_plan};
 ghost use Rattle.simdram_cli.specs.Scan.{ScanEnds};
-ghost use Rattle.simdram_cli.specs.Show.{show_plan};
 ghost use Rattle.simdram_cli.specs.Soak.{SoakEnds};
 ghost use Rattle.simdram_cli.specs.Stops.{end_of};
 ghost use Rattle.simdram_cli.specs.Tracing.{trace_plan};
 ghost use Rattle.simdram_cli.specs.Words.{HasNumbers, IsApart, command_of};
 
-use crate::account::{Account, give_account};
+use crate::account::give_account;
 use crate::compile::compile;
 use crate::exec::exec;
 use crate::guard::guard;
@@ -35,13 +34,12 @@ use crate::migrate::migrate;
 use crate::replay::replay;
 use crate::run::run;
 use crate::scan::scan;
-use crate::show::show;
 use crate::soak::soak;
 use crate::stop::{Stop, status_of, tell};
 use crate::trace::trace;
 use crate::words::{
-    Command, CompileNames, ExecNames, GuardNames, InitNames, MigrateNames, ReplayNames, RunNames,
-    ScanNames, TraceNames, command_of,
+    AccountNames, Command, CompileNames, ExecNames, GuardNames, InitNames, MigrateNames,
+    ReplayNames, RunNames, ScanNames, TraceNames, command_of,
 };
 use dram_model::Dram;
 use host_edge::{Folder, Sink};
@@ -113,16 +111,6 @@ fn compile_and_answer<F: Folder, S: Sink>(
     answer(ended, out)
 }
 
-/// Shows, and tells why it stopped if it did.
-fn show_and_answer<F: Folder, S: Sink>(name: &str, files: &mut F, out: &mut S, alloc: Global) -> u8
-    ensures { (chip : ChipView) → EndsBy (show_plan name.now)
-        (world (F.view files.old) (S.view out.old) chip)
-        (world (F.view files.new) (S.view out.new) chip) result }
-{
-    let ended = show(name, files, out, alloc);
-    answer(ended, out)
-}
-
 /// Migrates, and tells why it stopped if it did.
 fn migrate_and_answer<F: Folder, S: Sink>(
     names: &MigrateNames<'_>,
@@ -138,20 +126,19 @@ fn migrate_and_answer<F: Folder, S: Sink>(
     answer(ended, out)
 }
 
-/// Gives an account of a program, and tells why it stopped if it did.
+/// Gives an account of a file, and tells why it stopped if it did.
 fn account_and_answer<F: Folder, S: Sink>(
-    name: &str,
-    account: Account,
+    names: &AccountNames<'_>,
     files: &mut F,
     out: &mut S,
     alloc: Global,
 ) -> u8
-    requires { IsAsked account }
-    ensures { (chip : ChipView) → EndsBy (account_plan name.now account)
+    requires { HasWidth names.now.account }
+    ensures { (chip : ChipView) → EndsBy (account_plan names.now.file.now names.now.account)
         (world (F.view files.old) (S.view out.old) chip)
         (world (F.view files.new) (S.view out.new) chip) result }
 {
-    let ended = give_account(name, account, files, out, alloc);
+    let ended = give_account(names.file, names.account, files, out, alloc);
     answer(ended, out)
 }
 
@@ -269,12 +256,8 @@ fn dispatch<F: Folder, S: Sink, D: Dram>(
         Command::Run(names) => run_and_answer(names, files, out, chip, alloc),
         Command::Exec(names) => exec_and_answer(names, files, out, chip, alloc),
         Command::Compile(names) => compile_and_answer(names, files, out, alloc),
-        Command::Show(name) => show_and_answer(*name, files, out, alloc),
+        Command::Account(names) => account_and_answer(names, files, out, alloc),
         Command::Migrate(names) => migrate_and_answer(names, files, out, alloc),
-        Command::Cost(names) => {
-            account_and_answer(names.prog, Account::Costs(names.width), files, out, alloc)
-        }
-        Command::List(name) => account_and_answer(*name, Account::Listing, files, out, alloc),
         Command::Init(names) => init_and_answer(names, files, out, alloc),
         Command::Soak(seed) => soak_and_answer(*seed, out, chip, alloc),
         Command::Scan(names) => scan_and_answer(names, files, out, chip, alloc),

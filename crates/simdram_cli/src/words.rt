@@ -12,6 +12,7 @@ ghost use Rattle.simdram_cli.specs.Words.{traced_apart, trace_on};
 ghost use Rattle.simdram_cli.specs.Words.{command_on_three, replay_apart};
 ghost use Rattle.simdram_cli.specs.Words.{guard_apart, guard_on};
 
+use crate::account::{Account, ProgramAccount, account_named};
 use bit_rows::WIDTH_MAX;
 use cmd_trace::{EVENTS_BYTES_MAX, TRACE_BYTES_MAX};
 use dram_model::Geometry;
@@ -81,11 +82,11 @@ pub struct CompileNames<'a> {
     pub prog: &'a str,
 }
 
-/// The file of `cost`, and the width.
+/// The file of `show`, `list` or `cost`, and what is told of it.
 #[derive(Clone, Copy)]
-pub struct CostNames<'a> {
-    pub prog: &'a str,
-    pub width: u8,
+pub struct AccountNames<'a> {
+    pub file: &'a str,
+    pub account: Account,
 }
 
 /// The shape of the image of `init`, and its file.
@@ -137,10 +138,8 @@ pub enum Command<'a> {
     Run(RunNames<'a>),
     Exec(ExecNames<'a>),
     Compile(CompileNames<'a>),
-    Show(&'a str),
+    Account(AccountNames<'a>),
     Migrate(MigrateNames<'a>),
-    Cost(CostNames<'a>),
-    List(&'a str),
     Init(InitNames<'a>),
     Soak(u64),
     Scan(ScanNames<'a>),
@@ -264,9 +263,9 @@ fn cost_on<'a>(prog: &'a str, width: &str) -> Option<Command<'a>>
     ensures { result ≡ cost_on prog.entry width.now }
 {
     match number_of(width) {
-        Some(n) if 1 <= n && n <= u16::from(WIDTH_MAX) => Some(Command::Cost(CostNames {
-            prog,
-            width: n as u8,
+        Some(n) if 1 <= n && n <= u16::from(WIDTH_MAX) => Some(Command::Account(AccountNames {
+            file: prog,
+            account: Account::OfProgram(ProgramAccount::Costs(n as u8)),
         })),
         _ => None,
     }
@@ -345,10 +344,11 @@ fn command_on_four<'a>(
 fn command_on_one<'a>(verb: &str, word: &'a str) -> Option<Command<'a>>
     ensures { result ≡ command_on_one verb.now word.entry }
 {
-    if verb == "show" {
-        Some(Command::Show(word))
-    } else if verb == "list" {
-        Some(Command::List(word))
+    if let Some(account) = account_named(verb) {
+        Some(Command::Account(AccountNames {
+            file: word,
+            account,
+        }))
     } else if verb == "soak" {
         soak_on(word)
     } else {
