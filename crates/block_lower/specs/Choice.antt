@@ -1,5 +1,6 @@
 -- A graph that may stand for another, and the commands of their bodies
-use Rattle.std.specs.Prelude.{◌≡◌, ◌≢◌, ◌≤◌, ◌<◌, ℕ, List, Option, Some, None, IfSome, IfNone, length}
+use Rattle.std.specs.Prelude.{◌≡◌, ◌≢◌, ◌≤◌, ◌<◌, ℕ, List, Option, Some, None, IfSome, IfNone}
+use Rattle.std.specs.Prelude.{length}
 use Rattle.mig_graph.specs.declared.Lit.{Lit}
 use Rattle.mig_graph.specs.Graph.{Graph}
 use Rattle.mig_graph.specs.Outputs.{lit_at, AreNamed, KeepsOutputs}
