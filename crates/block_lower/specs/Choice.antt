@@ -1,12 +1,13 @@
 -- A graph that may stand for another, and the commands of their bodies
-use Rattle.std.specs.Prelude.{◌≡◌, ◌≢◌, ◌≤◌, ◌<◌, ℕ, List, Option, Some, None, IfSome, length}
+use Rattle.std.specs.Prelude.{◌≡◌, ◌≢◌, ◌≤◌, ◌<◌, ℕ, List, Option, Some, None, IfSome, IfNone}
+use Rattle.std.specs.Prelude.{length}
 use Rattle.mig_graph.specs.declared.Lit.{Lit}
 use Rattle.mig_graph.specs.Graph.{Graph}
 use Rattle.mig_graph.specs.Outputs.{lit_at, AreNamed, KeepsOutputs}
 use Rattle.mig_graph.specs.Reduced.{IsReduced}
 use Rattle.row_alloc.specs.declared.body.OutRow.{OutRow}
 use Rattle.row_alloc.specs.Rows.{out_at}
-use Rattle.row_alloc.specs.Body.{IsLengthOf}
+use Rattle.row_alloc.specs.Body.{FitBody, IsLengthOf}
 use Rattle.loop_ir.specs.declared.ir.Place.{Place}
 use Rattle.loop_ir.specs.Spots.{nth_place}
 
@@ -35,6 +36,13 @@ pub record HasBody (reads writes : List Place) (g : Graph) (outs : List Lit) (n 
   pub are : AreRows reads writes g.inputs outs (length outs) rows
   pub does : IsLengthOf g rows n
 
+-- no body is made of the graph: it has too many inputs, outputs or nodes, names no node, or has two
+-- outputs in one row
+pub record IsUnfit (reads writes : List Place) (g : Graph) (outs : List Lit) : Type 0 where
+  pub rows : List OutRow
+  pub are : AreRows reads writes g.inputs outs (length outs) rows
+  pub unfit : FitBody g rows → ⊥
+
 -- some commands, at most n, do it
 pub record HasBodyWithin (reads writes : List Place) (g : Graph) (outs : List Lit) (n : ℕ)
     : Type 0 where
@@ -42,8 +50,8 @@ pub record HasBodyWithin (reads writes : List Place) (g : Graph) (outs : List Li
   pub few : commands ≤ n
   pub body : HasBody reads writes g outs commands
 
--- The first graph was reduced, and the commands of a body of that were counted or were not. Where
--- they were, the second graph has a body of at most as many
+-- The first graph was reduced, and the commands of a body of that were counted, unless none is made
+-- of it. Where they were, the second graph has a body of at most as many
 pub record IsNoDearer (reads writes : List Place) (g : Graph) (outs : List Lit) (h : Graph)
     (made : List Lit) : Type 0 where
   pub graph : Graph
@@ -51,4 +59,5 @@ pub record IsNoDearer (reads writes : List Place) (g : Graph) (outs : List Lit) 
   pub reduced : MayStand g outs graph outputs
   pub counted : Option ℕ
   pub body : IfSome counted (HasBody reads writes graph outputs)
+  pub uncounted : IfNone counted (IsUnfit reads writes graph outputs)
   pub fewer : IfSome counted (HasBodyWithin reads writes h made)

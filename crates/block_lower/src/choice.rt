@@ -4,7 +4,8 @@ ghost use Rattle.std.specs.Prelude.{◌≡◌, ◌≢◌, ◌<◌, ◌≤◌, �
 ghost use Rattle.mig_graph.specs.Outputs.{AreNamed, KeepsOutputs};
 ghost use Rattle.mig_graph.specs.Reduced.{IsReduced};
 ghost use Rattle.loop_ir.specs.Spots.{nth_place};
-ghost use Rattle.block_lower.specs.Choice.{AreRows, HasBody, HasBodyWithin, IsNoDearer, MayStand};
+ghost use Rattle.block_lower.specs.Choice.{AreRows, HasBody, HasBodyWithin, IsNoDearer, IsUnfit};
+ghost use Rattle.block_lower.specs.Choice.{MayStand};
 
 use loop_ir::{Place, Space, Sub};
 use mig_graph::{MigOuts, NoMemory};
@@ -95,7 +96,9 @@ fn count_of(
     writes: &[Place],
     alloc: Global,
 ) -> Result<Option<usize>, NoMemory>
-    ensures { IfOk result (λ o. IfSome o (HasBody reads.now writes.now graph.now.mig
+    ensures some { IfOk result (λ o. IfSome o (HasBody reads.now writes.now graph.now.mig
+        graph.now.outs.items)) }
+    ensures none { IfOk result (λ o. IfNone o (IsUnfit reads.now writes.now graph.now.mig
         graph.now.outs.items)) }
 {
     let rows = rows_of(graph, reads, writes, alloc)?;
@@ -192,8 +195,8 @@ fn least_of(
 /// The graph reduced, or one of the same outputs and no more nodes that has a body of fewer
 /// commands.
 ///
-/// Where the commands of the reduced graph were counted, the graph has a body of at most that many.
-/// That the code that is made of it later takes this body is not said.
+/// The commands of the reduced graph were counted, unless no body is made of it, and the graph has
+/// a body of at most that many. That the code made later takes this body is not said.
 pub(crate) fn least_graph(
     m: MigOuts,
     reads: &[Place],

@@ -128,9 +128,10 @@ impl Search {
     /// Offers the graph with a node replaced in each way.
     fn offer_all(&mut self, sketch: &Sketch, node: u8) -> Result<(), NoMemory> {
         self.replace(sketch, node)?;
+        let base = sketch.base(node);
         for k in 0..self.forms.len() {
             if k < self.forms.len() {
-                let other = sketch.replaced(node, &self.forms[k]);
+                let other = sketch.replaced(&base, &self.forms[k]);
                 self.offer(&other)?;
             }
         }
@@ -171,7 +172,7 @@ impl Search {
         self.replace(at, node)?;
         let k = below(next(draw), self.forms.len());
         if k < self.forms.len() {
-            Ok(at.replaced(node, &self.forms[k]))
+            Ok(at.replaced(&at.base(node), &self.forms[k]))
         } else {
             Ok(*at)
         }

@@ -98,12 +98,6 @@ impl Cells {
         Cells(self.0 & !mask | u64::from(l.0).wrapping_mul(LOW) & mask)
     }
 
-    /// The cells that hold the literal.
-    fn holding(self, l: Short) -> u32 {
-        let others = self.0 ^ u64::from(l.0).wrapping_mul(LOW);
-        gathered(!not_zero(others))
-    }
-
     /// The cells of which something is known.
     pub fn known(self) -> Set {
         Set(gathered(not_zero(!self.0)))
@@ -153,7 +147,8 @@ impl Lines {
 
 /// The cells that hold the literal, and those that hold its complement.
 pub fn holders(cells: &Cells, l: Short) -> Lines {
-    Lines(cells.holding(l) | cells.holding(l.complement()) << 8)
+    let others = cells.0 ^ u64::from(l.0).wrapping_mul(LOW);
+    Lines(gathered(!not_zero(others)) | gathered(!not_zero(others ^ LOW)) << 8)
 }
 
 /// Whether a cell holds the node or its complement.

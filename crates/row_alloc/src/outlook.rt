@@ -354,8 +354,8 @@ impl Task {
     }
 }
 
-/// For each set of cells a digit of four bits for each of B12 to B15: 1 where one of its cells is in
-/// the set.
+/// For each set of cells a digit of four bits for each of B12 to B15: 1 where one of its cells is
+/// in the set.
 static MET: [u16; 64] = [
     0x0000, 0x1001, 0x0111, 0x1111, 0x0111, 0x1111, 0x0111, 0x1111, 0x1010, 0x1011, 0x1111, 0x1111,
     0x1111, 0x1111, 0x1111, 0x1111, 0x0100, 0x1101, 0x0111, 0x1111, 0x0111, 0x1111, 0x0111, 0x1111,
