@@ -57,18 +57,20 @@ def jobs():
     big, thin = (8, 1006, 1024), (8, 1006, 1)
     values = ", ".join(str(7919 * e % 2**32) for e in range(500_000))
     yield Job("greatest", big, [], MAC, made("abcy", 500_000, 32) + filled(a=3, b=5, c=7)
-              + "bbop_mac y, a, b, c, 500000, 32\n", 1.25, 1.15)
-    yield Job("one word", thin, [], MAC, made("abcy", 512, 32) + filled(a=3, b=5, c=7)
-              + 1000 * "bbop_mac y, a, b, c, 512, 32\n", 2.0, 1.5)
-    for order in ORDERS:
-        yield Job(order, (2, 512, 4), [], ADD, order + "\n" + made("aby", 512, 8) + filled(a=3, b=5)
-                  + 200 * "bbop_add y, a, b, 512, 8\n", 2.0)
-    yield Job("load", big, [], ADD, made("a", 500_000, 32) + f"load a, {values}\n", 2.0)
-    yield Job("print", big, [("a", 32, 500_000)], ADD, "print a\n", 2.0)
-    yield Job("open and store", big, [], ADD, "", 2.0)
-    yield Job("script of 16 MiB", thin, [], ADD, 262_144 * ("# " + 61 * "-" + "\n"), 2.0)
+              + "bbop_mac y, a, b, c, 500000, 32\n", 1.35, 1.15)
+    for order, reach in zip(ORDERS, (1.3, 1.5, 1.5)):
+        yield Job(f"one word, {order[6:]}", thin, [], MAC, order + "\n" + made("abcy", 512, 32) + filled(a=3, b=5, c=7)
+                  + 1000 * "bbop_mac y, a, b, c, 512, 32\n", reach, reach)
+    for times in (200, 4000):
+        for order in ORDERS:
+            yield Job(f"{times} adds, {order[6:]}", (2, 512, 4), [], ADD, order + "\n" + made("aby", 512, 8)
+                      + filled(a=3, b=5) + times * "bbop_add y, a, b, 512, 8\n", 1.3)
+    yield Job("load", big, [], ADD, made("a", 500_000, 32) + f"load a, {values}\n", 1.4)
+    yield Job("print", big, [("a", 32, 500_000)], ADD, "print a\n", 1.5)
+    yield Job("open and store", big, [], ADD, "", 1.5)
+    yield Job("script of 16 MiB", thin, [], ADD, 262_144 * ("# " + 61 * "-" + "\n"), 1.5)
     yield Job("one bank", (1, 1006, 1), [(name, 32, 64) for name in "abcy"], MAC,
-              1000 * "bbop_mac y, a, b, c, 64, 32\n", 2.0)
+              1000 * "bbop_mac y, a, b, c, 64, 32\n", 1.3)
 
 
 def write_image(path, geometry, objects):

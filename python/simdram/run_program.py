@@ -59,12 +59,17 @@ def program(settings: Settings) -> str:
     return found
 
 
+def environment() -> dict[str, str]:
+    """Ours, and large pages for what the program takes, where nothing is said to the C library: an image is touched in fewer faults."""
+    return {"GLIBC_TUNABLES": "glibc.malloc.hugetlb=1", **os.environ}
+
+
 def follow(path: str, words: list[str], ended: typing.Callable[[], None] = lambda: None) -> int:
     """The status of the program on these words; it has our streams, open files and signals, and ends us as it was ended.
 
     What `ended` does comes between the two ends.
     """
-    with subprocess.Popen([path, *words], close_fds=False) as running:
+    with subprocess.Popen([path, *words], close_fds=False, env=environment()) as running:
         def pass_on(number, _frame):
             running.send_signal(number)
 
@@ -93,6 +98,6 @@ def run(words: typing.Sequence, folder=None, settings: Settings | None = None, s
     """How the program ends on the words, in a folder; its standard error is passed on. It may take so many seconds."""
     chosen = settings if settings is not None else taken([])[0]
     ended = subprocess.run([program(chosen), *map(str, words)], cwd=folder, stdin=subprocess.DEVNULL, capture_output=True,
-                           text=True, errors="backslashreplace", check=False, timeout=seconds)
+                           text=True, errors="backslashreplace", check=False, timeout=seconds, env=environment())
     sys.stderr.write(ended.stderr)
     return Ended(ended.returncode, ended.stdout, ended.stderr)

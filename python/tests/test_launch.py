@@ -9,6 +9,7 @@ import sys
 import tempfile
 import time
 import unittest
+import unittest.mock
 
 import support
 from support import needs_program
@@ -78,6 +79,20 @@ class AsTheProgram(Folder):
         time.sleep(1.5)
         running.send_signal(signal.SIGTERM)
         self.assertEqual(running.wait(20), -signal.SIGTERM)
+
+
+class ItsEnvironment(Folder):
+    """The program has the launcher's environment, and large pages where nothing is said to the C library."""
+
+    def test_large_pages(self):
+        program = self.folder / "program"
+        program.write_text('#!/bin/sh\necho "$GLIBC_TUNABLES $OF_OURS"\n')
+        program.chmod(0o755)
+        for given, expected in (({}, "glibc.malloc.hugetlb=1"), ({"GLIBC_TUNABLES": "glibc.malloc.check=0"}, "glibc.malloc.check=0")):
+            with unittest.mock.patch.dict(os.environ):
+                os.environ.pop("GLIBC_TUNABLES", None)
+                ended = self.call("show", "mac.ops", SIMDRAM_PROGRAM=str(program), OF_OURS="here", **given)
+            self.assertEqual((ended.returncode, ended.stdout), (0, f"{expected} here\n"), ended.stderr)
 
 
 @needs_program

@@ -5,11 +5,12 @@ use Rattle.std.proofs.Common.{[], ◌∷◌, ◌++◌, length, map, drop, get_or
 use Rattle.std.proofs.Common.{subst}
 use Rattle.std.proofs.Common.{arith, inl, inr, append-nil}
 use Rattle.std.specs.Prelude.{remove}
+use Rattle.std.specs.List.{refill}
 use Rattle.std.proofs.lemmas.Bool.{cases_eq, cases_lt}
 use Rattle.std.proofs.lemmas.List.{map_push, map-set, set-get_or, get_or-map, get_or_push}
 use Rattle.std.proofs.lemmas.List.{length-map}
 use Rattle.std.proofs.lemmas.List.{get_or_append_left, get_or-set_same, get_or-set_other}
-use Rattle.std.proofs.lemmas.List.{length-set}
+use Rattle.std.proofs.lemmas.List.{length-set, take_at}
 use Rattle.std.proofs.lemmas.List.{length_push, get_or_default}
 use Rattle.std.proofs.lemmas.List.Edits.{length-remove, get_or-remove_below, get_or-remove_above}
 use Rattle.dram_model.specs.declared.address.Command.{Command}
@@ -26,6 +27,24 @@ map-remove f [] zero = refl
 map-remove f [] (suc i) = refl
 map-remove f (x ∷ xs) zero = refl
 map-remove f (x ∷ xs) (suc i) = ap (λ ys. f x ∷ ys) (map-remove f xs i)
+
+remove-set : {X : Type 0} (xs : List X) (k : ℕ) (x : X) → remove (set xs k x) k ≡ remove xs k
+remove-set [] zero x = refl
+remove-set [] (suc k) x = refl
+remove-set (y ∷ ys) zero x = refl
+remove-set (y ∷ ys) (suc k) x = ap (λ zs. y ∷ zs) (remove-set ys k x)
+
+-- a cursor that is changed before it is taken away
+pub taken : (old new cs : List Cursor) (k : ℕ) (c : Cursor) → new ≡ remove cs k → cs ≡ set old k c
+    → new ≡ remove old k
+taken old new cs k c e f = e ∙ ap (λ xs. remove xs k) f ∙ remove-set old k c
+
+-- what a slice of all cursors writes back
+pub refilled : (cs ss : List Cursor) (k : ℕ) (c : Cursor) → ss ≡ cs
+    → refill (length cs) cs (set ss k c) ≡ set cs k c
+refilled cs ss k c e = ap (λ (xs : List Cursor). refill (length cs) cs (set xs k c)) e
+    ∙ take_at (set cs k c) (drop (length (set cs k c)) cs) (length cs)
+    (omega (arith, length-set cs k c))
 
 -- a bank more that has nothing to do
 pub none_more : (n rows : ℕ) (jobs : List BoundJob) (left : Queues) (cs : List Cursor)

@@ -12,18 +12,15 @@ use Rattle.uprog_code.specs.declared.TheConstants.{WALK_MAX}
 use Rattle.uprog_code.specs.declared.code.Uop.{Uop}
 use Rattle.uprog_code.specs.Shape.{Shape, shape_of}
 use Rattle.uprog_code.specs.Machine.{Issue, Trace, issues_of, start, HasEnded}
-use Rattle.uprog_code.specs.OneStep.{issue_of}
 use Rattle.uprog_code.specs.Bound.{bound, bound_command, bound_of}
-use Rattle.uprog_code.proofs.Kept.{command_legal}
 use Rattle.uprog_code.proofs.Steps.{trace_is, some_first, start_registers}
 use Rattle.uprog_ctl.specs.declared.waves.Job.{Job}
 use Rattle.uprog_ctl.specs.declared.cursor.JobHead.{JobHead}
 use Rattle.uprog_ctl.specs.declared.cursor.Walk.{Walk}
-use Rattle.uprog_ctl.specs.declared.cursor.Found.{Found}
 use Rattle.uprog_ctl.specs.declared.cursor.Cursor.{Cursor}
 use Rattle.uprog_ctl.specs.Waves.{BoundJob, bound_job, bound_jobs, CanRun, job_queues}
-use Rattle.uprog_ctl.specs.Cursors.{rest_of, StandsIn, Finds, left_from, StandsInFirst, AreHeads}
-use Rattle.uprog_ctl.specs.Cursors.{IsAt}
+use Rattle.uprog_ctl.specs.Cursors.{rest_of, bank_commands, StandsIn, Finds, left_from}
+use Rattle.uprog_ctl.specs.Cursors.{StandsInFirst, AreHeads, IsAt}
 
 abbrev pub first_walk : Walk
 first_walk = record { pc = 0; regs = start; left = WALK_MAX }
@@ -79,55 +76,54 @@ start_left rows bank (job ∷ jobs) =
     then bound rows job.shape job.binding.n (bound_of job.binding) (issues_of t) else [])
     ++ job_queues rows jobs bank) (trace_is job.shape job.code job.binding.n)
 
--- a job that isn't the bank's, and one that is done
-pub skip_left : (rows bank : ℕ) (job : BoundJob) (jobs : List BoundJob) (w : Walk)
-    → job.banks ≤ bank → left_from rows bank (job ∷ jobs) w ≡ job_queues rows jobs bank
-skip_left rows bank job jobs w h = rw (le-ltb bank job.banks h) refl
+-- a job that isn't the bank's, one that is done, and one of the bank's
+pub not_its : (rows bank : ℕ) (job : BoundJob) (w : Walk) → job.banks ≤ bank
+    → bank_commands rows bank job w ≡ []
+not_its rows bank job w h = rw (le-ltb bank job.banks h) refl
 
-pub done_left : (rows bank : ℕ) (job : BoundJob) (jobs : List BoundJob) (w : Walk)
-    → issues_of (rest_of job w) ≡ [] → left_from rows bank (job ∷ jobs) w
-    ≡ job_queues rows jobs bank
-done_left rows bank job jobs w e = rw e (none (nat_lt bank job.banks))
+pub all_done : (rows bank : ℕ) (job : BoundJob) (w : Walk) → issues_of (rest_of job w) ≡ []
+    → bank_commands rows bank job w ≡ []
+all_done rows bank job w e = rw e (none (nat_lt bank job.banks))
   where
-    none : (t : Bool) → (if t then [] else []) ++ job_queues rows jobs bank
-        ≡ job_queues rows jobs bank
+    nothing : List Command
+    nothing = []
+
+    none : (t : Bool) → (if t then nothing else nothing) ≡ nothing
     none true = refl
     none false = refl
 
--- the command that is found, and what is left after it
-pub found_left : (rows bank : ℕ) (job : BoundJob) (jobs : List BoundJob) (w : Walk) (found : Found)
-    → bank < job.banks → Finds job w found
-    → left_from rows bank (job ∷ jobs) w
-    ≡ bound_command rows job.shape job.binding.n (bound_of job.binding) (issue_of found.issued)
-    ∷ left_from rows bank (job ∷ jobs) found.following
-found_left rows bank job jobs w found lt finds = rw (lt-ltb bank job.banks lt)
-    (ap (λ (is : List Issue). bound rows job.shape job.binding.n (bound_of job.binding) is
-    ++ job_queues rows jobs bank) finds.first)
+own : (rows bank : ℕ) (job : BoundJob) (w : Walk) → bank < job.banks
+    → bank_commands rows bank job w
+    ≡ bound rows job.shape job.binding.n (bound_of job.binding) (issues_of (rest_of job w))
+own rows bank job w lt = rw (lt-ltb bank job.banks lt) refl
 
-pub cursor_at : (g : Geometry) (all jobs : List BoundJob) (job : BoundJob) (i bank : ℕ) (w : Walk)
-    (left : List Command) (found : Found) (c : Cursor) → CanRun g job → i < length all
-    → drop i all ≡ job ∷ jobs → bank < job.banks → Finds job w found
+-- the command that is found, and what is left after it
+pub found_first : (rows bank : ℕ) (job : BoundJob) (w following : Walk) (is : Issue)
+    (next : Command) → bank < job.banks
+    → issues_of (rest_of job w) ≡ is ∷ issues_of (rest_of job following)
+    → next ≡ bound_command rows job.shape job.binding.n (bound_of job.binding) is
+    → bank_commands rows bank job w ≡ next ∷ bank_commands rows bank job following
+found_first rows bank job w following is next lt first e =
+    own rows bank job w lt
+    ∙ ap (λ (all : List Issue). bound rows job.shape job.binding.n (bound_of job.binding) all) first
+    ∙ ap (λ (k : Command). k ∷ bound rows job.shape job.binding.n (bound_of job.binding)
+    (issues_of (rest_of job following))) (sym e)
+    ∙ ap (λ (cs : List Command). next ∷ cs) (sym (own rows bank job following lt))
+
+pub cursor_at : (g : Geometry) (all jobs : List BoundJob) (job : BoundJob) (i bank : ℕ)
+    (w following : Walk) (left : List Command) (next : Command) (c : Cursor) → i < length all
+    → drop i all ≡ job ∷ jobs → Finds g.rows bank job w following next
     → left_from g.rows bank (drop i all) w ≡ left
-    → c ≡ record {
-      bank = bank;
-      next = bound_command g.rows job.shape job.binding.n (bound_of job.binding)
-          (issue_of found.issued);
-      job = i;
-      walk = found.following;
-    } → IsAt g.rows all left c
-cursor_at g all jobs job i bank w left found c can lt here on finds is e =
-    let first = found_left g.rows bank job jobs w found on finds in
-    let what = sym is ∙ ap (λ (js : List BoundJob). left_from g.rows bank js w) here ∙ first
-    ∙ ap (λ (js : List BoundJob). bound_command g.rows job.shape job.binding.n
-    (bound_of job.binding) (issue_of found.issued) ∷ left_from g.rows bank js found.following)
-    (sym here) in
+    → c ≡ record { bank = bank; next = next; job = i; walk = following } → IsAt g.rows all left c
+cursor_at g all jobs job i bank w following left next c lt here finds is e =
+    let what = sym is ∙ ap (λ (js : List BoundJob). left_from g.rows bank js w) here
+    ∙ ap (λ (cs : List Command). cs ++ job_queues g.rows jobs bank) finds.first
+    ∙ ap (λ (js : List BoundJob). next ∷ left_from g.rows bank js following) (sym here) in
     subst (λ (d : Cursor). IsAt g.rows all left d) (sym e) (record {
       left = what;
       job = lt;
-      legal = command_legal g.rows job.shape job.binding.n (bound_of job.binding) can.fits can.some
-          (issue_of found.issued) finds.good;
-      stands = subst (λ (js : List BoundJob). StandsInFirst js found.following) (sym here)
-          finds.stands;
+      legal = finds.legal;
+      stands = subst (λ (js : List BoundJob). StandsInFirst js following) (sym here) finds.stands;
     })
 
 pub jobs_long : {F : Type 0} (shape : F → Shape) (code : F → List Uop) (jobs : List (Job F)) (i : ℕ)

@@ -1,22 +1,25 @@
 -- One step on the way to the next row command.
-use Rattle.std.proofs.Common.{◌≡◌, ℕ, suc, ◌<◌, List, [], ◌∷◌, ◌++◌, length, map, sym}
-use Rattle.std.proofs.Common.{ap}
-use Rattle.std.proofs.Common.{◌∙◌, subst, Ok, Some, Option, Result}
-use Rattle.std.specs.Prelude.{slice_get}
-use Rattle.std.specs.Option.{option_to_list}
+use Rattle.std.proofs.Common.{◌≡◌, ℕ, suc, ◌+◌, ◌<◌, Bool, true, false, List, [], ◌∷◌, ◌++◌}
+use Rattle.std.proofs.Common.{length, refl, sym, ap, ◌∙◌, subst, Ok, Some, Result}
+use Rattle.std.specs.Prelude.{slice_get, slice_index, nat_le, ◌==◌, if◌then◌else◌}
 use Rattle.uprog_code.specs.declared.code.Uop.{Uop}
-use Rattle.uprog_code.specs.declared.code.Uop.TheVariants.{Done}
+use Rattle.uprog_code.specs.declared.code.Uop.TheVariants.{Done, SetI, SetN, SetT, Mov, Add, AddI}
+use Rattle.uprog_code.specs.declared.code.Uop.TheVariants.{SubI, Bnez, Aap, Ap}
 use Rattle.uprog_code.specs.declared.registers.Issued.{Issued}
 use Rattle.uprog_code.specs.declared.registers.Turn.{Turn}
-use Rattle.uprog_code.specs.declared.registers.Turn.TheVariants.{Over, To}
+use Rattle.uprog_code.specs.declared.registers.Turn.TheVariants.{Over, On, To, Issues}
 use Rattle.uprog_code.specs.declared.walker.Why3.{Why3}
+use Rattle.uprog_code.specs.declared.walker.Why3.TheVariants.{Index, Register}
 use Rattle.uprog_code.specs.Shape.{Shape}
-use Rattle.uprog_code.specs.Machine.{Next, Trace, act, issue, issues_of, HasEnded, onto}
+use Rattle.uprog_code.specs.Machine.{Next, Trace, Ended, Stuck, Issue, IssueAap, IssueAp, act}
+use Rattle.uprog_code.specs.Machine.{act_at, issue, issued, issues_of, HasEnded, onto}
+use Rattle.uprog_code.specs.Machine.{all_in_range, command_at}
 use Rattle.uprog_code.specs.OneStep.{turn_trace, issues_by, issue_of, next_place, HasOperands}
 use Rattle.uprog_code.specs.Legal.{IsLegalCode}
 use Rattle.uprog_code.specs.Issued.{AreGood}
 use Rattle.uprog_code.proofs.Kept.{turn_good}
 use Rattle.uprog_code.proofs.Steps.{legal_operands, goes_on, not_last, place_in}
+use Rattle.uprog_ctl.specs.Cursors.{row_commands}
 use Rattle.uprog_ctl.proofs.Left.{step_from, ended-onto, issues-onto}
 
 -- a step that isn't the last: what it issues, and what is left after it
@@ -57,7 +60,102 @@ stepped shape shape' code n all left pc q regs regs' uop turn res legal same e l
       good = turn_good shape n code pc regs regs' uop turn res legal at does' is;
     }
 
--- the only command of a step that issues one, and none of one that doesn't
-pub the_command : (turn : Turn) (r : Option Issued) (issued : Issued) → r ≡ Some issued
-    → map issue_of (option_to_list r) ≡ issues_by turn → issues_by turn ≡ issue_of issued ∷ []
-the_command turn r issued e h = sym h ∙ ap (λ o. map issue_of (option_to_list o)) e
+-- what a row command does where the walk is not stuck at it
+issued_on : (shape : Shape) (n : ℕ) (c d : Issue) (p : ℕ) (t : Trace) → c ∷ [] ≡ d ∷ []
+    → HasEnded (issued shape n c p t) → (q : ℕ) (u : Trace)
+    → issued shape n c q u ≡ onto (d ∷ []) u
+issued_on shape n c d p t e ended q u = ranged (all_in_range shape n c) ended
+    ∙ ap (λ (cs : List Issue). onto cs u) e
+  where
+    ranged : (b : Bool) → HasEnded (if b then onto (c ∷ []) t else Stuck p Index)
+        → (if b then onto (c ∷ []) u else Stuck q Index) ≡ onto (c ∷ []) u
+    ranged true h = refl
+    ranged false h = absurd h
+
+row_does : (shape : Shape) (n : ℕ) (uop : Uop) (is : Issued) (regs : List ℕ) (here : Next) (p : ℕ)
+    → row_commands regs uop ≡ issue_of is ∷ [] → HasEnded (act shape n uop here p regs)
+    → (next : Next) (q : ℕ) → act shape n uop next q regs ≡ turn_trace (Ok (Issues is)) next q regs
+row_does shape n Done is regs here p e ended next q = absurd (cc)
+row_does shape n (SetI r k) is regs here p e ended next q = absurd (cc)
+row_does shape n (SetN r) is regs here p e ended next q = absurd (cc)
+row_does shape n (SetT r) is regs here p e ended next q = absurd (cc)
+row_does shape n (Mov r s) is regs here p e ended next q = absurd (cc)
+row_does shape n (Add r s) is regs here p e ended next q = absurd (cc)
+row_does shape n (AddI r k) is regs here p e ended next q = absurd (cc)
+row_does shape n (SubI r k) is regs here p e ended next q = absurd (cc)
+row_does shape n (Bnez r t) is regs here p e ended next q = absurd (cc)
+row_does shape n (Aap x y) is regs here p e ended next q =
+    issued_on shape n (command_at regs (IssueAap x y)) (issue_of is) p (here (p + 1) regs) e ended q
+    (next (q + 1) regs)
+row_does shape n (Ap x) is regs here p e ended next q =
+    issued_on shape n (command_at regs (IssueAp x)) (issue_of is) p (here (p + 1) regs) e ended q
+    (next (q + 1) regs)
+
+acts : (shape : Shape) (code : List Uop) (n all left pc : ℕ) (regs : List ℕ) (uop : Uop)
+    → all ≡ suc left → slice_get code pc ≡ Some uop
+    → issue shape code n all pc regs ≡ act shape n uop (issue shape code n left) pc regs
+unfolding issue
+acts shape code n all left pc regs uop e at =
+    ap (λ m. issue shape code n m pc regs) e
+    ∙ ap (λ o. act_at shape n o (issue shape code n left) pc regs) at
+
+-- a row command where the trace ends
+pub row_step : (shape : Shape) (code : List Uop) (n all left pc : ℕ) (regs : List ℕ) (uop : Uop)
+    (is : Issued) → IsLegalCode shape code → all ≡ suc left → pc < length code
+    → slice_get code pc ≡ Some uop → row_commands regs uop ≡ issue_of is ∷ []
+    → HasEnded (issue shape code n all pc regs)
+    → Stepped shape code n (issue shape code n all pc regs) left (pc + 1) regs (Issues is)
+row_step shape code n all left pc regs uop is legal e lt at one ended =
+    let does = row_does shape n uop is regs (issue shape code n left) pc one
+    (subst HasEnded (acts shape code n all left pc regs uop e at) ended) in
+    let res : Result Turn Why3 = Ok (Issues is) in
+    let over : uop ≡ Done → res ≡ Ok Over = λ (d : uop ≡ Done).
+    let none : [] ≡ issue_of is ∷ [] =
+    subst (λ (u : Uop). row_commands regs u ≡ issue_of is ∷ []) d one in
+    absurd (cc) in
+    let jumps : (size t : ℕ) → HasOperands size uop → res ≡ Ok (To t) → t < size =
+    λ (size t : ℕ) (h : HasOperands size uop) (f : res ≡ Ok (To t)). absurd (cc) in
+    let ne : Issues is ≡ Over → ⊥ = λ (f : Issues is ≡ Over). absurd (cc) in
+    stepped shape shape code n all left pc (pc + 1) regs regs uop (Issues is) res legal refl e lt at
+    does over jumps refl ne refl ended
+
+-- any other instruction issues nothing
+either : (b : Bool) (t u : Trace) → issues_of t ≡ [] → issues_of u ≡ []
+    → issues_of (if b then t else u) ≡ []
+either true t u e f = e
+either false t u e f = f
+
+silent : (shape : Shape) (n : ℕ) (uop : Uop) (regs : List ℕ) → row_commands regs uop ≡ []
+    → issues_of (act shape n uop (λ q r. Ended []) 0 regs) ≡ []
+silent shape n Done regs e = refl
+silent shape n (SetI r k) regs e = refl
+silent shape n (SetN r) regs e = refl
+silent shape n (SetT r) regs e = refl
+silent shape n (Mov r s) regs e = refl
+silent shape n (Add r s) regs e =
+    either (nat_le (slice_index regs r + slice_index regs s) 1023) (Ended []) (Stuck 0 Register)
+    refl refl
+silent shape n (AddI r k) regs e =
+    either (nat_le (slice_index regs r + k) 1023) (Ended []) (Stuck 0 Register) refl refl
+silent shape n (SubI r k) regs e =
+    either (nat_le k (slice_index regs r)) (Ended []) (Stuck 0 Register) refl refl
+silent shape n (Bnez r t) regs e =
+    either (slice_index regs r == 0) (Ended []) (Ended []) refl refl
+silent shape n (Aap x y) regs e = absurd (cc)
+silent shape n (Ap x) regs e = absurd (cc)
+
+pub quiet : (shape : Shape) (n : ℕ) (uop : Uop) (turn : Turn) (res : Result Turn Why3)
+    (regs regs' : List ℕ) → row_commands regs uop ≡ []
+    → ((next : Next) (q : ℕ) → act shape n uop next q regs ≡ turn_trace res next q regs')
+    → res ≡ Ok turn → issues_by turn ≡ []
+quiet shape n uop turn res regs regs' none does is =
+    let stop : Next = λ q r. Ended [] in
+    alone turn ∙ sym (ap issues_of (does stop 0 ∙ ap (λ r. turn_trace r stop 0 regs') is))
+    ∙ silent shape n uop regs none
+  where
+    alone : (t : Turn)
+        → issues_by t ≡ issues_of (turn_trace (Ok t) (λ q r. Ended []) 0 regs')
+    alone Over = refl
+    alone On = refl
+    alone (To p) = refl
+    alone (Issues c) = refl

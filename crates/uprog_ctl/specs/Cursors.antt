@@ -3,12 +3,14 @@ use Rattle.std.specs.Prelude.{◌≡◌, ℕ, ◌<◌, ◌⊎◌, true, nat_lt, 
 use Rattle.std.specs.Prelude.{length, map, drop, remove, slice_set, slice_index_or}
 use Rattle.dram_model.specs.declared.address.Command.{Command}
 use Rattle.dram_model.specs.Column.{is_legal}
-use Rattle.uprog_code.specs.Machine.{Trace, issue, issues_of, HasEnded}
-use Rattle.uprog_code.specs.OneStep.{AreRegisters, issue_of}
-use Rattle.uprog_code.specs.Issued.{is_good}
+use Rattle.uprog_code.specs.declared.code.Uop.{Uop}
+use Rattle.uprog_code.specs.declared.code.Uop.TheVariants.{Done, SetI, SetN, SetT, Mov, Add, AddI}
+use Rattle.uprog_code.specs.declared.code.Uop.TheVariants.{SubI, Bnez, Aap, Ap}
+use Rattle.uprog_code.specs.Machine.{Trace, issue, issues_of, HasEnded, Issue, IssueAap, IssueAp}
+use Rattle.uprog_code.specs.Machine.{command_at}
+use Rattle.uprog_code.specs.OneStep.{AreRegisters}
 use Rattle.uprog_code.specs.Bound.{bound, bound_of}
 use Rattle.uprog_ctl.specs.declared.cursor.Walk.{Walk}
-use Rattle.uprog_ctl.specs.declared.cursor.Found.{Found}
 use Rattle.uprog_ctl.specs.declared.cursor.Cursor.{Cursor}
 use Rattle.uprog_ctl.specs.declared.cursor.JobHead.{JobHead}
 use Rattle.uprog_code.specs.Shape.{Shape, shape_of}
@@ -16,9 +18,28 @@ use Rattle.uprog_ctl.specs.declared.waves.Job.{Job}
 use Rattle.uprog_ctl.specs.Waves.{BoundJob, job_queues}
 use Rattle.wave_model.specs.Schedule.{Queues, live as live_banks}
 
--- what a job still issues from a place on
+-- the row command of an instruction, where it is one
+abbrev pub row_commands : List ℕ → Uop → List Issue
+row_commands regs Done = []
+row_commands regs (SetI r k) = []
+row_commands regs (SetN r) = []
+row_commands regs (SetT r) = []
+row_commands regs (Mov r s) = []
+row_commands regs (Add r s) = []
+row_commands regs (AddI r k) = []
+row_commands regs (SubI r k) = []
+row_commands regs (Bnez r t) = []
+row_commands regs (Aap x y) = command_at regs (IssueAap x y) ∷ []
+row_commands regs (Ap x) = command_at regs (IssueAp x) ∷ []
+
+-- what a job still issues from a place on, and those commands in a bank, where it runs the job
 abbrev pub rest_of : BoundJob → Walk → Trace
 rest_of job w = issue job.shape job.code job.binding.n w.left w.pc w.regs
+
+abbrev pub bank_commands : ℕ → ℕ → BoundJob → Walk → List Command
+bank_commands rows bank job w = if nat_lt bank job.banks
+    then bound rows job.shape job.binding.n (bound_of job.binding) (issues_of (rest_of job w))
+    else []
 
 -- the place lies in the code, and the trace from it on ends
 pub record StandsIn (job : BoundJob) (w : Walk) : Type 0 where
@@ -26,21 +47,17 @@ pub record StandsIn (job : BoundJob) (w : Walk) : Type 0 where
   pub registers : AreRegisters w.regs
   pub ended : HasEnded (rest_of job w)
 
--- the first command of what is left is found, and the place after it
-pub record Finds (job : BoundJob) (w : Walk) (found : Found) : Type 0 where
-  pub first : issues_of (rest_of job w)
-      ≡ issue_of found.issued ∷ issues_of (rest_of job found.following)
-  pub good : is_good job.shape job.binding.n (issue_of found.issued) ≡ true
-  pub stands : StandsIn job found.following
+-- the first command of what is left in a bank is this one, and the place after it that one
+pub record Finds (rows bank : ℕ) (job : BoundJob) (w following : Walk) (next : Command) : Type 0
+  where
+    pub first : bank_commands rows bank job w ≡ next ∷ bank_commands rows bank job following
+    pub legal : is_legal rows next ≡ true
+    pub stands : StandsIn job following
 
 -- what a bank has still to do of these jobs, where it stands in the first of them
 abbrev pub left_from : ℕ → ℕ → List BoundJob → Walk → List Command
 left_from rows bank [] w = []
-left_from rows bank (job ∷ jobs) w =
-    (if nat_lt bank job.banks
-    then bound rows job.shape job.binding.n (bound_of job.binding) (issues_of (rest_of job w))
-    else [])
-    ++ job_queues rows jobs bank
+left_from rows bank (job ∷ jobs) w = bank_commands rows bank job w ++ job_queues rows jobs bank
 
 -- the place lies in the first job, if there is any job left
 abbrev pub StandsInFirst : List BoundJob → Walk → Type 0

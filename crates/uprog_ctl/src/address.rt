@@ -1,14 +1,57 @@
 //! Where a row of a microprogram lies in a bank.
 
-ghost use Rattle.std.specs.Prelude.{◌≡◌, ◌+◌, ◌<◌, ◌^◌, length, slice_index, true};
+ghost use Rattle.std.specs.Prelude.{◌≡◌, ◌+◌, ◌<◌, ◌^◌, ◌∷◌, [], length, slice_index, true};
+ghost use Rattle.std.specs.Prelude.{MatchOption};
 ghost use Rattle.uprog_code.specs.Shape.{shape_of};
-ghost use Rattle.uprog_code.specs.OneStep.{row_of, issue_of};
+ghost use Rattle.uprog_code.specs.Machine.{row_at};
+ghost use Rattle.uprog_code.specs.OneStep.{AreRegisters, row_of, issue_of};
 ghost use Rattle.uprog_code.specs.Bound.{address, bound_command, bound_of};
 ghost use Rattle.uprog_code.specs.Fits.{Fits};
 ghost use Rattle.uprog_code.specs.Issued.{is_issued, is_good};
+ghost use Rattle.uprog_ctl.specs.Cursors.{row_commands};
 
 use dram_model::{Addr, Command, Geometry};
-use uprog_code::{Binding, Head, Issued, RowPosition, RowSpace};
+use uprog_code::{Binding, Head, Issued, RowPosition, RowRef, RowSpace, Uop};
+
+/// The value of a register; 0 past the last one.
+#[inline(always)]
+fn value(regs: &[u16], r: u8) -> u16
+    requires { AreRegisters regs.now }
+    ensures { result ≡ slice_index regs.now r }
+{
+    if r < 8 { regs[r as usize] } else { 0 }
+}
+
+/// The row at the position that its register gives.
+#[inline(always)]
+fn placed(row: &RowRef, regs: &[u16]) -> RowPosition
+    requires { AreRegisters regs.now }
+    ensures { row_of result ≡ row_at regs.now row.now }
+{
+    let index = match row.space {
+        RowSpace::Result | RowSpace::Source | RowSpace::ScratchWord => value(regs, row.index),
+        _ => 0,
+    };
+    RowPosition {
+        space: row.space,
+        which: row.which,
+        index,
+    }
+}
+
+/// The row command of an instruction, where it is one. Whether its rows are in range is not tested.
+#[inline(always)]
+pub(crate) fn issued_at(uop: &Uop, regs: &[u16]) -> Option<Issued>
+    requires { AreRegisters regs.now }
+    ensures { MatchOption result (row_commands regs.now uop.now ≡ [])
+        (λ issued. row_commands regs.now uop.now ≡ issue_of issued ∷ []) }
+{
+    match uop {
+        Uop::Aap(x, y) => Some(Issued::Aap(placed(x, regs), placed(y, regs))),
+        Uop::Ap(x) => Some(Issued::Ap(placed(x, regs))),
+        _ => None,
+    }
+}
 
 /// The row at a position of a source.
 #[inline(always)]

@@ -1,21 +1,20 @@
 //! Where a bank stands in its queue, and the way to its next command.
 
 ghost use Rattle.std.specs.Prelude.{◌≡◌, ℕ, ◌<◌, ◌≤◌, ◌^◌, [], ◌∷◌, ◌++◌, List, length, map, drop};
-ghost use Rattle.std.specs.Prelude.{true, MatchOption, IfSome, All, slice_index_or};
+ghost use Rattle.std.specs.Prelude.{true, false, MatchOption, All, slice_index_or};
 ghost use Rattle.uprog_code.specs.Shape.{shape_of};
-ghost use Rattle.uprog_code.specs.Machine.{issues_of, start};
-ghost use Rattle.uprog_code.specs.OneStep.{issue_of, issues_by};
-ghost use Rattle.std.specs.Option.{option_to_list};
+ghost use Rattle.uprog_code.specs.Machine.{start};
 ghost use Rattle.uprog_ctl.specs.Waves.{bound_job, bound_jobs, CanRun, job_queues};
-ghost use Rattle.uprog_ctl.specs.Cursors.{rest_of, StandsIn, Finds, left_from, StandsInFirst};
+ghost use Rattle.uprog_ctl.specs.Cursors.{bank_commands, StandsIn, Finds, left_after};
+ghost use Rattle.uprog_ctl.specs.Cursors.{StandsInFirst};
 ghost use Rattle.uprog_ctl.specs.Cursors.{AreHeads, IsAt, AreAt, MovesOn};
 
-use crate::address::command_of;
+use crate::address::{command_of, issued_at};
 use crate::waves::Job;
 use arrayvec::ArrayVec;
 use bit_rows::WIDTH_MAX;
 use dram_model::{Addr, Command, Geometry};
-use uprog_code::{Fetch, Head, Issued, Kind, Name, Turn, WALK_MAX, step};
+use uprog_code::{Fetch, Head, Kind, Name, WALK_MAX, step};
 
 /// A place in a microprogram: the next instruction, the registers, and how many instructions its
 /// walk may still take.
@@ -39,13 +38,6 @@ impl Walk {
     }
 }
 
-/// A row command that is not bound yet, and the place after it.
-#[derive(Clone, Copy, PartialEq, Eq)]
-pub(crate) struct Found {
-    pub issued: Issued,
-    pub following: Walk,
-}
-
 /// A bank that has commands left: the next one, and the job and the place after it.
 #[derive(Clone, Copy, PartialEq, Eq)]
 pub(crate) struct Cursor {
@@ -55,14 +47,25 @@ pub(crate) struct Cursor {
     pub walk: Walk,
 }
 
-impl Default for Cursor {
-    fn default() -> Self {
+impl Cursor {
+    /// A bank before its first job.
+    fn before(bank: u16) -> Cursor
+        ensures bank { result.bank ≡ bank }
+        ensures job { result.job ≡ 0 }
+        ensures walk { result.walk ≡ record { pc = 0; regs = start; left = WALK_MAX } }
+    {
         Cursor {
-            bank: 0,
+            bank,
             next: Command::Ap(Addr::B(0)),
             job: 0,
             walk: Walk::start(),
         }
+    }
+}
+
+impl Default for Cursor {
+    fn default() -> Self {
+        Cursor::before(0)
     }
 }
 
@@ -101,95 +104,76 @@ pub(crate) fn heads_of<F: Fetch>(jobs: &[Job<F>]) -> ArrayVec<JobHead, 16>
     heads
 }
 
-/// The row command of a step, where it is one.
+/// A bank's first row command in a job, from a place on; the place goes past it. None where the
+/// bank does not run the job, or the microprogram ends before one.
 #[inline(always)]
-fn issued_by(turn: Turn) -> Option<Issued>
-    ensures { map issue_of (option_to_list result) ≡ issues_by turn }
-{
-    match turn {
-        Turn::Issues(issued) => Some(issued),
-        _ => None,
-    }
-}
-
-/// The first row command from a place on; None where the microprogram ends before one.
-#[inline(always)]
-fn seek<F: Fetch>(job: &Job<F>, head: &Head, g: Geometry, from: Walk) -> Option<Found>
+fn seek<F: Fetch>(
+    job: &Job<F>,
+    head: &Head,
+    g: Geometry,
+    bank: u16,
+    walk: &mut Walk,
+) -> Option<Command>
     requires run { CanRun g (bound_job F.shape F.code job.now) }
     requires head { shape_of head.now ≡ F.shape job.now.entry }
-    requires stands { StandsIn (bound_job F.shape F.code job.now) from }
+    requires stands { StandsIn (bound_job F.shape F.code job.now) walk.old }
     ensures { MatchOption result
-        (issues_of (rest_of (bound_job F.shape F.code job.now) from) ≡ [])
-        (Finds (bound_job F.shape F.code job.now) from) }
+        (bank_commands g.rows bank (bound_job F.shape F.code job.now) walk.old ≡ [])
+        (Finds g.rows bank (bound_job F.shape F.code job.now) walk.old walk.new) }
 {
-    let mut pc = from.pc;
-    let mut regs = from.regs;
-    for k in 0..from.left {
+    if bank >= job.banks {
+        return None;
+    }
+    let mut pc = walk.pc;
+    let all = walk.left;
+    for k in 0..all {
         let uop = job.entry.fetch(pc);
-        match step(&uop, head, job.binding.n, &mut regs) {
+        // the trace ends, so a row command of it is in range
+        if let Some(issued) = issued_at(&uop, &walk.regs) {
+            walk.pc = pc + 1;
+            walk.left = all - k - 1;
+            return Some(command_of(&issued, head, g.rows, &job.binding));
+        }
+        match step(&uop, head, job.binding.n, &mut walk.regs) {
             Ok(turn) => {
                 if turn.is_over() {
                     return None;
                 }
-                let next = turn.place_after(pc);
-                match issued_by(turn) {
-                    Some(issued) => {
-                        let left = from.left - k - 1;
-                        let following = Walk {
-                            pc: next,
-                            regs,
-                            left,
-                        };
-                        return Some(Found { issued, following });
-                    }
-                    None => pc = next,
-                }
+                pc = turn.place_after(pc);
             }
-            // the trace ends, so no step of it is stuck
+            // and no step of it is stuck
             Err(_) => return None,
         }
     }
     None
 }
 
-/// A bank's next command, and where it stands then; None where it has none left. The bank stands in
-/// the job of the number `at`, at a place of its code.
+/// Moves a bank on to its next command; false where it has none left. The bank stands in one of the
+/// jobs, at a place of its code.
 #[inline(always)]
-fn next_cursor<F: Fetch>(
-    jobs: &[Job<F>],
-    heads: &[JobHead],
-    g: Geometry,
-    bank: u16,
-    at: usize,
-    walk: Walk,
-) -> Option<Cursor>
+fn move_on<F: Fetch>(jobs: &[Job<F>], heads: &[JobHead], g: Geometry, cursor: &mut Cursor) -> bool
     requires jobs { All (CanRun g) (bound_jobs F.shape F.code jobs.now) }
     requires heads { AreHeads F.shape jobs.now heads.now }
-    requires stands { StandsInFirst (drop at (bound_jobs F.shape F.code jobs.now)) walk }
-    ensures bank { IfSome result (λ c. c.bank ≡ bank) }
-    ensures next { MatchOption result
-        (left_from g.rows bank (drop at (bound_jobs F.shape F.code jobs.now)) walk ≡ [])
-        (IsAt g.rows (bound_jobs F.shape F.code jobs.now)
-        (left_from g.rows bank (drop at (bound_jobs F.shape F.code jobs.now)) walk)) }
+    requires stands { StandsInFirst (drop cursor.old.job (bound_jobs F.shape F.code jobs.now))
+        cursor.old.walk }
+    ensures bank { cursor.new.bank ≡ cursor.old.bank }
+    ensures next { result ≡ true → IsAt g.rows (bound_jobs F.shape F.code jobs.now)
+        (left_after g.rows (bound_jobs F.shape F.code jobs.now) cursor.old) cursor.new }
+    ensures none { result ≡ false
+        → left_after g.rows (bound_jobs F.shape F.code jobs.now) cursor.old ≡ [] }
 {
-    let mut walk = walk;
-    for i in at..jobs.len() {
+    let bank = cursor.bank;
+    for i in cursor.job..jobs.len() {
         let job = &jobs[i];
-        if bank < job.banks {
-            let head = &heads[i].head;
-            if let Some(found) = seek(job, head, g, walk) {
-                let next = command_of(&found.issued, head, g.rows, &job.binding);
-                return Some(Cursor {
-                    bank,
-                    next,
-                    job: i,
-                    walk: found.following,
-                });
-            }
+        let head = &heads[i].head;
+        if let Some(next) = seek(job, head, g, bank, &mut cursor.walk) {
+            cursor.next = next;
+            cursor.job = i;
+            return true;
         }
-        walk = Walk::start();
+        cursor.walk = Walk::start();
     }
-    None
+    false
 }
 
 /// The banks that have commands left, upwards, each before its first one.
@@ -206,7 +190,8 @@ pub(crate) fn first_cursors<F: Fetch>(
 {
     let mut cursors = ArrayVec::new();
     for bank in 0..g.banks {
-        if let Some(cursor) = next_cursor(jobs, heads, g, bank, 0, Walk::start()) {
+        let mut cursor = Cursor::before(bank);
+        if move_on(jobs, heads, g, &mut cursor) {
             cursors.push(cursor);
         }
     }
@@ -231,11 +216,8 @@ pub(crate) fn go_on<F: Fetch>(
     ensures { MovesOn g.rows (bound_jobs F.shape F.code jobs.now) cursors.old.items k
         cursors.new.items }
 {
-    let cursor = cursors.as_slice()[k];
-    match next_cursor(jobs, heads, g, cursor.bank, cursor.job, cursor.walk) {
-        Some(next) => cursors.as_mut_slice()[k] = next,
-        None => {
-            cursors.remove(k);
-        }
+    if move_on(jobs, heads, g, &mut cursors.as_mut_slice()[k]) {
+        return;
     }
+    cursors.remove(k);
 }

@@ -9,10 +9,10 @@ use Rattle.uprog_ctl.proofs.cursor.seek.Given as goal
 abbrev pub invariant-loop-k : goal.invariant-loop-k
 invariant-loop-k g l =
     let job = bound_job g.F.Fetch.shape g.F.Fetch.code l.job in
-    let here = issue job.shape job.code job.binding.n (l.from.left - l.k) l.pc l.regs in
+    let here = issue job.shape job.code job.binding.n (l.fn.walk.left - l.k) l.pc l.walk.regs in
     record {
       place : l.pc < length job.code;
-      registers : AreRegisters l.regs;
+      registers : AreRegisters l.walk.regs;
       ended : HasEnded here;
-      rest : issues_of here ≡ issues_of (rest_of job l.from);
+      rest : issues_of here ≡ issues_of (rest_of job l.fn.walk);
     }
