@@ -5,9 +5,8 @@ use Rattle.std.proofs.Common.{append-nil}
 use Rattle.std.specs.Prelude.{Result, Ok, Err, OnErr}
 use Rattle.dram_model.specs.declared.geometry.Geometry.{Geometry}
 use Rattle.dram_model.specs.Chip.{Banks, Event, Grew, bank_of}
-use Rattle.dram_model.specs.View.{ChipView, Did, FailedIn, Kept}
+use Rattle.dram_model.specs.View.{ChipView, Did, FailedIn, Kept, StoppedIn}
 use Rattle.dram_model.proofs.EventLaws.{Grew-more}
-use Rattle.cmd_trace.specs.Replaying.{StoppedIn}
 use Rattle.file_fields.specs.Fields.{◌>>=◌, IsBytes}
 use Rattle.trace_model.specs.Spelling.{IsEvent}
 use Rattle.trace_model.specs.Reading.{TraceFault, event_at, events_at}

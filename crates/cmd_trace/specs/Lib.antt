@@ -3,4 +3,3 @@ pub mod Tape
 pub mod Places
 pub mod Widths
 pub mod Opened
-pub mod Replaying

@@ -3,12 +3,11 @@
 ghost use Rattle.std.specs.Prelude.{◌≡◌, ℕ, ◌+◌, ◌*◌, ◌<◌, ◌≤◌, ◌^◌, ◌∷◌, [], length, true, OnOk};
 ghost use Rattle.std.specs.Prelude.{OnErr};
 ghost use Rattle.dram_model.specs.Chip.{Grew, bank_of};
-ghost use Rattle.dram_model.specs.View.{HasBegun, Kept, Did, FailedIn};
+ghost use Rattle.dram_model.specs.View.{HasBegun, Kept, Did, FailedIn, StoppedIn};
 ghost use Rattle.trace_model.specs.Spelling.{IsEvent};
 ghost use Rattle.trace_model.specs.Reading.{events_at};
 ghost use Rattle.cmd_trace.specs.Tape.{ends_at, events_read};
 ghost use Rattle.cmd_trace.specs.Opened.{event_of, IsRowOf};
-ghost use Rattle.cmd_trace.specs.Replaying.{StoppedIn};
 
 use crate::events::{Found, read_event};
 use crate::view::TraceView;

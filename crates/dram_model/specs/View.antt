@@ -1,11 +1,11 @@
 -- What a chip shows, and what calls on it do.
 use Rattle.std.specs.Prelude.{◌≡◌, ℕ, ◌+◌, ◌≤◌, Bool, true, false, List}
-use Rattle.std.specs.Prelude.{[], Option, None}
+use Rattle.std.specs.Prelude.{[], ◌∷◌, ◌++◌, Option, None}
 use Rattle.dram_model.specs.declared.geometry.Geometry.{Geometry}
 use Rattle.dram_model.specs.declared.dram.Counters.{Counters}
 use Rattle.dram_model.specs.Chip.{Banks, Event, Log, LogIs, after, all_counted, blank_banks, Grew}
 use Rattle.fault_counts.specs.Counts.{Rose}
-use Rattle.dram_model.specs.Chip.{SameBut}
+use Rattle.dram_model.specs.Chip.{SameBut, bank_of}
 
 -- What a chip shows: whether its last `begin` was Ok, its shape, the columns of its banks, its
 -- counters, how many of its calls failed, and its log, where it tells one
@@ -51,6 +51,17 @@ pub record DidRead (n : ℕ) (old new : ChipView) : Type 0 where
 pub record FailedIn (bank : ℕ) (old new : ChipView) : Type 0 where
   pub rose : Rose old.faults new.faults
   pub others : SameBut bank old.banks new.banks
+
+-- the call for one of these events failed, after those before it: all banks but that event's are
+-- as these leave them
+pub record StoppedIn (events : List Event) (old new : ChipView) : Type 0 where
+  pub done : List Event
+  pub event : Event
+  pub left : List Event
+  pub all : done ++ event ∷ left ≡ events
+  pub known : Grew old.log new.log done
+  pub others : SameBut (bank_of event) (after done old.banks) new.banks
+  pub rose : Rose old.faults new.faults
 
 -- the chip has this shape, zeros in every row and no counts; a log that it tells is empty
 pub record Began (g : Geometry) (chip : ChipView) : Type 0 where

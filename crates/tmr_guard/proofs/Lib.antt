@@ -10,3 +10,4 @@ pub mod Shown
 pub mod Came
 pub mod Bounded
 pub mod Loaded
+pub mod Stops

@@ -34,20 +34,22 @@ votes_suc x y z a (suc n) =
     ++ row_vote (x + k) (y + k) (z + k)) e
 
 -- one more row
-pub next_votes : (bank x y z k : ℕ) (a b c : ChipView)
-    → Did (row_events bank (votes x y z 0 k)) a b
-    → Did (row_events bank (row_vote (x + k) (y + k) (z + k))) b c
-    → Did (row_events bank (votes x y z 0 (k + 1))) a c
-next_votes bank x y z k a b c d e =
+pub one_row : (bank x y z k : ℕ) → row_events bank (votes x y z 0 (k + 1))
+    ≡ row_events bank (votes x y z 0 k) ++ row_events bank (row_vote (x + k) (y + k) (z + k))
+one_row bank x y z k =
     let zk : 0 + k ≡ k = omega arith in
     let more : votes x y z 0 (k + 1) ≡ votes x y z 0 k ++ row_vote (x + k) (y + k) (z + k) =
     ap (votes x y z 0) (add-one k) ∙ votes_suc x y z 0 k
     ∙ ap (λ j. votes x y z 0 k ++ row_vote (x + j) (y + j) (z + j)) zk in
-    let events : row_events bank (votes x y z 0 (k + 1)) ≡ row_events bank (votes x y z 0 k)
-    ++ row_events bank (row_vote (x + k) (y + k) (z + k)) =
     ap (row_events bank) more ∙ map-append (λ (command : Command). Event.Row bank command)
-    (votes x y z 0 k) (row_vote (x + k) (y + k) (z + k)) in
-    subst (λ es. Did es a c) (sym events) (Did-more (row_events bank (votes x y z 0 k))
+    (votes x y z 0 k) (row_vote (x + k) (y + k) (z + k))
+
+pub next_votes : (bank x y z k : ℕ) (a b c : ChipView)
+    → Did (row_events bank (votes x y z 0 k)) a b
+    → Did (row_events bank (row_vote (x + k) (y + k) (z + k))) b c
+    → Did (row_events bank (votes x y z 0 (k + 1))) a c
+next_votes bank x y z k a b c d e = subst (λ es. Did es a c) (sym (one_row bank x y z k))
+    (Did-more (row_events bank (votes x y z 0 k))
     (row_events bank (row_vote (x + k) (y + k) (z + k))) a b c d e)
 
 three_more : (j : ℕ) → 3 * suc j ≡ suc (suc (suc (3 * j)))
@@ -59,7 +61,7 @@ and_triple g table d i j k = vote_events g (take i table)
     ++ job_events (vote_job g (get_or table i d).1 (get_or table j d).1 (get_or table k d).1)
 
 -- one more triple
-more_events : (g : Geometry) (table : List Named) (j : ℕ) (d : Named) → 3 * j + 2 < length table
+pub more_events : (g : Geometry) (table : List Named) (j : ℕ) (d : Named) → 3 * j + 2 < length table
     → vote_events g (take (3 * suc j) table) ≡ and_triple g table d (3 * j) (3 * j + 1)
     (3 * j + 2)
 more_events g [] j d l = absurd (omega arith)

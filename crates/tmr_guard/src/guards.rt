@@ -6,7 +6,7 @@ ghost use Rattle.host_edge.specs.Views.{Known, AppendsPart};
 ghost use Rattle.fault_counts.specs.Counts.{Rose};
 ghost use Rattle.text_lex.specs.Spelled.{fits_name};
 ghost use Rattle.dram_model.specs.Chip.{Grew};
-ghost use Rattle.dram_model.specs.View.{HasBegun, Kept, Did, DidRead};
+ghost use Rattle.dram_model.specs.View.{HasBegun, Kept, Did, DidRead, StoppedIn};
 ghost use Rattle.object_alloc.specs.Spelling.{image_bytes};
 ghost use Rattle.bbop_isa.specs.Forms.{view_of, Print};
 ghost use Rattle.machine_model.specs.Agrees.{IsPlain};
@@ -429,6 +429,11 @@ impl<'a> Guard<'a> {
         ensures did { OnOk result (Did (vote_events (geometry_of (machine_in self.old))
             (table_in (machine_in self.old))) (D.view dram.old) (D.view dram.new)) }
         ensures failed { OnErr result (Rose (D.view dram.old).faults (D.view dram.new).faults) }
+        // Where a call fails, the log has the commands before it, and all banks but its own are as
+        // these leave them: there all rows that are no copies stand as before.
+        ensures stopped { OnErr result (StoppedIn (vote_events (geometry_of
+            (machine_in self.old)) (table_in (machine_in self.old))) (D.view dram.old)
+            (D.view dram.new)) }
     {
         vote_all(dram.geometry(), self.machine.table(), dram)
     }

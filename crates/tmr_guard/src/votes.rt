@@ -4,8 +4,7 @@ ghost use Rattle.std.specs.Prelude.{◌≡◌, ◌+◌, ◌*◌, ◌<◌, ◌≤
 ghost use Rattle.std.specs.Prelude.{true};
 ghost use Rattle.dram_model.specs.Events.{row_events};
 ghost use Rattle.dram_model.specs.Geometry.{is_geometry};
-ghost use Rattle.dram_model.specs.View.{HasBegun, Kept, Did};
-ghost use Rattle.fault_counts.specs.Counts.{Rose};
+ghost use Rattle.dram_model.specs.View.{HasBegun, Kept, Did, StoppedIn};
 ghost use Rattle.object_alloc.specs.Listed.{IsTable, limit_of};
 ghost use Rattle.object_alloc.specs.Spelling.{IsObject};
 ghost use Rattle.machine_model.specs.Columns.{segments};
@@ -31,7 +30,8 @@ fn vote_row<D: Dram>(dram: &mut D, bank: u16, x: u16, y: u16, z: u16) -> Result<
         (D.view dram.new)) }
     ensures aap { OnOk result ((D.view dram.new).counters.aap
         ≡ (D.view dram.old).counters.aap + 6) }
-    ensures failed { OnErr result (Rose (D.view dram.old).faults (D.view dram.new).faults) }
+    ensures stopped { OnErr result (StoppedIn (row_events bank (row_vote x y z))
+        (D.view dram.old) (D.view dram.new)) }
 {
     dram.aap(bank, Addr::D(x), Addr::B(0))?;
     dram.aap(bank, Addr::D(y), Addr::B(1))?;
@@ -62,7 +62,8 @@ fn vote_bank<D: Dram>(
         (D.view dram.old) (D.view dram.new)) }
     ensures aap { OnOk result ((D.view dram.new).counters.aap
         ≡ (D.view dram.old).counters.aap + 6 * x.width) }
-    ensures failed { OnErr result (Rose (D.view dram.old).faults (D.view dram.new).faults) }
+    ensures stopped { OnErr result (StoppedIn (row_events bank
+        (votes x.base y.base z.base 0 x.width)) (D.view dram.old) (D.view dram.new)) }
 {
     for k in 0..u16::from(x.width) {
         vote_row(dram, bank, x.base + k, y.base + k, z.base + k)?;
@@ -94,7 +95,8 @@ fn vote_triple<D: Dram>(
         (D.view dram.new)) }
     ensures aap { OnOk result ((D.view dram.new).counters.aap
         ≤ (D.view dram.old).counters.aap + 12288) }
-    ensures failed { OnErr result (Rose (D.view dram.old).faults (D.view dram.new).faults) }
+    ensures stopped { OnErr result (StoppedIn (job_events (vote_job g x y z))
+        (D.view dram.old) (D.view dram.new)) }
 {
     let banks = segments(g, x);
     for bank in 0..banks {
@@ -119,7 +121,8 @@ pub(crate) fn vote_all<D: Dram>(g: Geometry, table: &Table, dram: &mut D) -> Res
     ensures few { IfOk result (λ aap. aap ≤ 2 ^ 30) }
     ensures did { OnOk result (Did (vote_events g table.now.pairs) (D.view dram.old)
         (D.view dram.new)) }
-    ensures failed { OnErr result (Rose (D.view dram.old).faults (D.view dram.new).faults) }
+    ensures stopped { OnErr result (StoppedIn (vote_events g table.now.pairs)
+        (D.view dram.old) (D.view dram.new)) }
 {
     let mut aap = 0;
     for k in 0..table.len() / 3 {

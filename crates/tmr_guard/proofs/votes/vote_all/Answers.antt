@@ -4,8 +4,10 @@ use Rattle.object_alloc.specs.Listed.{Named}
 use Rattle.guard_model.specs.Votes.{vote_count, vote_events}
 use Rattle.dram_model.specs.View.{Did}
 use Rattle.dram_model.proofs.EventLaws.{Did-none, Kept-same, Kept-more}
+use Rattle.object_steps.proofs.Filled.{on_err}
 use Rattle.tmr_guard.proofs.Rounds.{next_triple, next_count, widths, got, below_rows, object_at}
 use Rattle.tmr_guard.proofs.Rounds.{all_taken}
+use Rattle.tmr_guard.proofs.Stops.{triple_stopped}
 use Rattle.tmr_guard.proofs.votes.vote_all.Goals as goal
 
 pub loop-k-init : goal.loop-k-init
@@ -124,3 +126,18 @@ returns-clause-did g c =
     subst (λ t. Did (vote_events c.args.g t) (V c.args.dram.now) (V c.loop-k.dram))
     (all_taken c.args.table.now.pairs c.loop-k.k c.len-k-end.result c.requires.triples
     c.len-k-end.ensures.value c.loop-k-test.false) c.loop-k.invariant.did
+
+pub returns-in_err-aap-clause-stopped : goal.returns-in_err-aap-clause-stopped
+returns-in_err-aap-clause-stopped g c =
+    let V = g.D.Dram.view in
+    let table = c.args.table.now.pairs in
+    let k = c.loop-k.k in
+    let x = c.at.result in
+    let p = got table (3 * k) x x c.at.ensures in
+    let q = got table (3 * k + 1) c.at-in-loop-k.result x c.at-in-loop-k.ensures in
+    let r = got table (3 * k + 2) c.at-in-loop-k-2.result x c.at-in-loop-k-2.ensures in
+    on_err c.from_residual.result (triple_stopped c.args.g table k c.len-k-end.result x
+    c.at-in-loop-k.result c.at-in-loop-k-2.result x (V c.args.dram.now) (V c.loop-k.dram)
+    (V c.vote_triple.new.dram) c.requires.triples c.len-k-end.ensures.value
+    c.loop-k-test.true p q r c.loop-k.invariant.did c.loop-k.invariant.kept
+    c.in_err-aap.ensures.stopped)

@@ -1,6 +1,10 @@
-use Rattle.std.proofs.Common.{◌∙◌, arith}
+use Rattle.std.proofs.Common.{◌≡◌, ℕ, ◌+◌, ◌<◌, ◌++◌, ◌∙◌, arith}
+use Rattle.dram_model.specs.Events.{row_events}
 use Rattle.dram_model.proofs.EventLaws.{Kept-more}
-use Rattle.tmr_guard.proofs.Rounds.{next_votes}
+use Rattle.object_steps.proofs.Filled.{on_err}
+use Rattle.guard_model.specs.Votes.{row_vote, votes}
+use Rattle.tmr_guard.proofs.Rounds.{next_votes, one_row}
+use Rattle.tmr_guard.proofs.Stops.{in_turn}
 use Rattle.tmr_guard.proofs.votes.vote_bank.Goals as goal
 
 pub loop-k-preserved : goal.loop-k-preserved
@@ -16,3 +20,17 @@ loop-k-preserved g c =
       did = next_votes c.args.bank c.args.x.base c.args.y.base c.args.z.base c.loop-k.k first now
           new kept.did c.in_ok-vote_row.ensures.did;
     }
+
+pub returns-in_err-vote_row-clause-stopped : goal.returns-in_err-vote_row-clause-stopped
+returns-in_err-vote_row-clause-stopped g c =
+    let a = c.args in
+    let E = λ (j : ℕ). row_events a.bank (votes a.x.base a.y.base a.z.base 0 j) in
+    let F = λ (j : ℕ). row_events a.bank (row_vote (a.x.base + j) (a.y.base + j)
+    (a.z.base + j)) in
+    let step : (j : ℕ) → j < a.x.width → E (j + 1) ≡ E j ++ F j =
+    λ j _. one_row a.bank a.x.base a.y.base a.z.base j in
+    let l : c.loop-k.k < a.x.width = omega (arith, c.loop-k-test.true, c.from-k-end.ensures) in
+    on_err c.from_residual.result (in_turn E F a.x.width step c.loop-k.k l
+    (g.D.Dram.view a.dram.now) (g.D.Dram.view c.loop-k.dram)
+    (g.D.Dram.view c.vote_row.new.dram) c.loop-k.invariant.did c.loop-k.invariant.kept
+    c.in_err-vote_row.ensures.stopped)

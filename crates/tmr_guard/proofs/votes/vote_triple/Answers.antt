@@ -1,4 +1,4 @@
-use Rattle.std.proofs.Common.{◌≡◌, ◌∙◌, arith, subst}
+use Rattle.std.proofs.Common.{◌≡◌, ◌<◌, ◌∙◌, arith, subst}
 use Rattle.std.specs.Prelude.{flat_map}
 use Rattle.std.specs.List.{range_with_len}
 use Rattle.dram_model.specs.Events.{row_events}
@@ -6,7 +6,8 @@ use Rattle.dram_model.specs.View.{Did}
 use Rattle.dram_model.proofs.EventLaws.{Kept-more}
 use Rattle.machine_model.specs.Columns.{segments}
 use Rattle.guard_model.specs.Votes.{votes}
-use Rattle.object_steps.proofs.Filled.{next_bank}
+use Rattle.object_steps.proofs.Filled.{next_bank, on_err}
+use Rattle.tmr_guard.proofs.Stops.{bank_stopped}
 use Rattle.tmr_guard.proofs.votes.vote_triple.Goals as goal
 
 pub loop-bank-preserved : goal.loop-bank-preserved
@@ -37,3 +38,17 @@ returns-clause-did g c =
     subst (λ n. Did (flat_map (λ bank. row_events bank
     (votes c.args.x.base c.args.y.base c.args.z.base 0 c.args.x.width)) (range_with_len 0 n))
     (V c.args.dram.now) (V c.loop-bank.dram)) e c.loop-bank.invariant.did
+
+pub returns-in_err-vote_bank-clause-stopped : goal.returns-in_err-vote_bank-clause-stopped
+returns-in_err-vote_bank-clause-stopped g c =
+    let V = g.D.Dram.view in
+    let a = c.args in
+    let l : c.loop-bank.bank < segments a.g a.x = omega (
+      arith,
+      c.loop-bank-test.true,
+      c.segments-banks.ensures.value,
+    ) in
+    on_err c.from_residual.result (bank_stopped (λ bank. row_events bank
+    (votes a.x.base a.y.base a.z.base 0 a.x.width)) (segments a.g a.x) c.loop-bank.bank l
+    (V a.dram.now) (V c.loop-bank.dram) (V c.vote_bank.new.dram) c.loop-bank.invariant.did
+    c.loop-bank.invariant.kept c.in_err-vote_bank.ensures.stopped)

@@ -1,9 +1,10 @@
 use Rattle.std.proofs.Common.{◌≡◌, ◌∙◌, subst}
-use Rattle.std.specs.Prelude.{IfOk, OnOk}
-use Rattle.dram_model.specs.View.{Did}
+use Rattle.std.specs.Prelude.{IfOk, OnErr, OnOk}
+use Rattle.dram_model.specs.View.{Did, StoppedIn}
 use Rattle.sim_machine.specs.Machine.{geometry_of, table_in}
 use Rattle.guard_model.specs.Votes.{vote_count, vote_events}
 use Rattle.tmr_guard.specs.Steps.{machine_in}
+use Rattle.tmr_guard.proofs.Stops.{rose_of}
 use Rattle.tmr_guard.proofs.guards.Guard.vote.Goals as goal
 
 pub returns-clause-count : goal.returns-clause-count
@@ -23,3 +24,17 @@ returns-clause-did g c =
     (V c.vote_all.new.dram))) e
     (subst (λ t. OnOk c.vote_all.result (Did (vote_events c.geometry.result t)
     (V c.args.dram.now) (V c.vote_all.new.dram))) c.table.ensures.objects c.vote_all.ensures.did)
+
+pub returns-clause-stopped : goal.returns-clause-stopped
+returns-clause-stopped g c =
+    let m = machine_in c.args.self.now in
+    let V = g.D.Dram.view in
+    let e : c.geometry.result ≡ geometry_of m = c.geometry.ensures ∙ c.requires.geometry in
+    subst (λ x. OnErr c.vote_all.result (StoppedIn (vote_events x (table_in m))
+    (V c.args.dram.now) (V c.vote_all.new.dram))) e
+    (subst (λ t. OnErr c.vote_all.result (StoppedIn (vote_events c.geometry.result t)
+    (V c.args.dram.now) (V c.vote_all.new.dram))) c.table.ensures.objects
+    c.vote_all.ensures.stopped)
+
+pub returns-clause-failed : goal.returns-clause-failed
+returns-clause-failed g c = rose_of c.vote_all.result _ _ _ c.vote_all.ensures.stopped
