@@ -31,18 +31,6 @@ use Rattle.word_lower.specs.declared.table.TheConstants.{PROGRAMS}
 abbrev pub on : ℕ → Sub → Mark
 on owner s = record { owner = owner; sub = s }
 
-abbrev pub target : Sub → Mark
-target s = on 0 s
-
-abbrev pub first : Sub → Mark
-first s = on 1 s
-
-abbrev pub second : Sub → Mark
-second s = on 2 s
-
-abbrev pub third : Sub → Mark
-third s = on 3 s
-
 abbrev pub plain : ℕ → Lit
 plain k = record { node = k; inverted = false }
 
@@ -176,10 +164,6 @@ row_steps (Two a b) k = line_step a ∷ line_step b ∷ []
 row_steps (Three a b c) k = line_step a ∷ line_step b ∷ line_step c ∷ []
 row_steps Nested k = []
 
-abbrev pub is_spread : ProgramRow → Bool
-is_spread (Spread word bit) = true
-is_spread r = false
-
 abbrev pub is_nest : ProgramRow → Bool
 is_nest Nested = true
 is_nest r = false
@@ -194,10 +178,6 @@ program_of p = (program_at (number p)).1
 -- The loop program of an operation
 abbrev pub program : WordOp → Kind → List (StepOf Marked)
 program p k = row_steps (program_of p) k
-
--- the operations that take words or bits
-abbrev pub spreads : WordOp → Bool
-spreads p = is_spread (program_of p)
 
 -- the operations that take one pass over a word
 abbrev pub is_linear : WordOp → Bool
