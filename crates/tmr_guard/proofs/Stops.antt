@@ -8,7 +8,7 @@ use Rattle.fault_counts.specs.Counts.{Rose}
 use Rattle.dram_model.specs.declared.geometry.Geometry.{Geometry}
 use Rattle.dram_model.specs.Chip.{Banks, Event, Grew, after, bank_of}
 use Rattle.dram_model.specs.View.{ChipView, Did, FailedIn, Kept, StoppedIn}
-use Rattle.dram_model.proofs.EventLaws.{Grew-more, Grew-none, after-append}
+use Rattle.dram_model.proofs.EventLaws.{Grew-more, after-append}
 use Rattle.object_alloc.specs.Listed.{Named}
 use Rattle.object_steps.proofs.Valued.{flat_suc}
 use Rattle.machine_model.specs.Steps.{job_events}

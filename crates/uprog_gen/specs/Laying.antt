@@ -1,16 +1,16 @@
 -- How the names of an operation come to their places, one after another.
 -- Private contracts alone speak of this.
-use Rattle.std.specs.Prelude.{take, ◌≡◌, ℕ, ◌+◌, ◌≤◌, List, [], ◌∷◌, ◌++◌, length, map, filter, not}
+use Rattle.std.specs.Prelude.{◌≡◌, ℕ, ◌+◌, ◌≤◌, List, [], ◌∷◌, length, map, filter, not}
 use Rattle.std.specs.Prelude.{Option, Some, None, count_by}
 use Rattle.op_text.specs.declared.tree.Kind.{Kind}
 use Rattle.op_text.specs.declared.tree.Kind.TheVariants.{Word, Bit}
 use Rattle.op_text.specs.declared.tree.Param.{Param}
 use Rattle.op_text.specs.declared.tree.State.{State}
 use Rattle.op_text.specs.declared.tree.Assign.{Assign}
-use Rattle.op_text.specs.Language.{Statement, Compute, Visit, Operation, result_names}
+use Rattle.op_text.specs.Language.{Statement, Compute, Visit}
 use Rattle.op_text.specs.Meaning.{changed}
 use Rattle.op_text.specs.Rules.{is_among, kind_among, MAX_STATES, MAX_ASSIGNS}
-use Rattle.op_text.specs.Scratch.{param, body_defines}
+use Rattle.op_text.specs.Scratch.{param}
 use Rattle.loop_ir.specs.declared.names.Slot.{Slot}
 use Rattle.loop_ir.specs.declared.names.NameMap.{NameMap}
 use Rattle.loop_ir.specs.Statements.{Slots, slots_of}
@@ -57,12 +57,3 @@ words_defined states assigns = map (λ n. param n Word)
 abbrev pub IsShort : Statement → Type 0
 IsShort (Compute target second p args) = Unit {0}
 IsShort (Visit b) = (length b.states ≤ MAX_STATES) × (length b.assigns ≤ MAX_ASSIGNS)
-
--- the names of the first k statements have come to their places, and those of the sources
-pub record IsLaidTo (op : Operation) (k : ℕ) (m : NameMap) : Type 0 where
-  pub at : (name : List ℕ) → slots_of m name ≡ placed (λ n. None) (source_lays 0 op.params
-      ++ defined_lays (result_names op) 0 0 (body_defines op.params (take k op.body))) name
-  pub bits : m.free_bit ≡ count_by (is_scratch (result_names op) Bit)
-      (body_defines op.params (take k op.body))
-  pub words : m.free_word ≡ count_by (is_scratch (result_names op) Word)
-      (body_defines op.params (take k op.body))

@@ -2,10 +2,7 @@
 use Rattle.std.specs.Prelude.{◌≡◌, ◌<◌, ◌≤◌, true, false, length, take, ℕ, List, [], ◌∷◌, ◌++◌}
 use Rattle.std.specs.List.{AllByRecursion}
 use Rattle.bit_rows.specs.declared.TheConstants.{WIDTH_MAX}
-use Rattle.op_text.specs.declared.tree.Param.{Param}
 use Rattle.op_text.specs.Language.{Statement, Operation}
-use Rattle.op_text.specs.Scratch.{defines, statement_ceiling}
-use Rattle.op_text.specs.Costs.{op_ceiling}
 use Rattle.uprog_code.specs.declared.code.Uop.{Uop}
 use Rattle.uprog_code.specs.declared.code.Uop.TheVariants.{Done}
 use Rattle.uprog_code.specs.Shape.{Shape, Microprogram}
@@ -48,12 +45,6 @@ AreWritten slots free_bit free_word [] (p ∷ ps) = ⊥
 AreWritten slots free_bit free_word (s ∷ body) [] = ⊥
 AreWritten slots free_bit free_word (s ∷ body) (p ∷ ps) =
     IsAsWritten slots free_bit free_word s p × AreWritten slots free_bit free_word body ps
-
--- the ceiling of each statement, where these names are known
-abbrev pub ceilings : List Param → List Statement → List (ℕ → ℕ)
-ceilings known [] = []
-ceilings known (s ∷ body) = (λ n. statement_ceiling op_ceiling known n s)
-    ∷ ceilings (known ++ defines known s) body
 
 -- parts of code, one after another
 abbrev pub together : List (List Uop) → List Uop

@@ -1,4 +1,5 @@
 pub mod Setting
+pub mod Marks
 pub mod Sums
 pub mod Lists
 pub mod Bitwise

@@ -20,7 +20,8 @@ use Rattle.loop_laws.specs.Rooms.{placed_body}
 use Rattle.loop_laws.proofs.Same.{set_same}
 use Rattle.loop_laws.proofs.Steps.{steps_each, steps_pairs}
 use Rattle.word_lower.specs.Places.{scratch_bit}
-use Rattle.word_lower.specs.Programs.{target, first, second, third, plain, complemented, off, up}
+use Rattle.word_lower.specs.Programs.{plain, complemented, off, up}
+use Rattle.word_lower.proofs.Marks.{target, first, second, third}
 use Rattle.word_lower.specs.Programs.{constant, moved, inverted, joined, without, unlike, chosen}
 use Rattle.word_lower.specs.Programs.{added, lessened, negated_if, compared, agreed}
 use Rattle.word_lower.specs.Programs.{is_linear, program_at}

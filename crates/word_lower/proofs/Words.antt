@@ -18,7 +18,8 @@ use Rattle.loop_laws.proofs.Same.{set_same, set_other}
 use Rattle.loop_laws.proofs.Steps.{after_steps, steps_each}
 use Rattle.loop_laws.proofs.Placed.{AllBefore, ReadPlaces}
 use Rattle.word_lower.specs.Places.{scratch_bit}
-use Rattle.word_lower.specs.Programs.{target, first, second, third, plain}
+use Rattle.word_lower.specs.Programs.{plain}
+use Rattle.word_lower.proofs.Marks.{target, first, second, third}
 use Rattle.word_lower.specs.Programs.{chosen}
 use Rattle.word_lower.specs.Programs.{compared}
 use Rattle.word_lower.proofs.Setting.{bit, number, operation, Slots, at, row, number_at}

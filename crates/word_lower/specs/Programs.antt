@@ -32,22 +32,6 @@ use Rattle.word_lower.specs.declared.table.TheConstants.{PROGRAMS}
 abbrev pub on : ℕ → Sub → Mark
 on owner s = record { owner = owner; sub = s }
 
--- a place of the target
-abbrev pub target : Sub → Mark
-target s = on 0 s
-
--- a place of the first argument
-abbrev pub first : Sub → Mark
-first s = on 1 s
-
--- a place of the second argument, or of the scratch where there is one argument
-abbrev pub second : Sub → Mark
-second s = on 2 s
-
--- a place of the third argument, or of the scratch where there are two
-abbrev pub third : Sub → Mark
-third s = on 3 s
-
 -- a node as it is
 abbrev pub plain : ℕ → Lit
 plain k = record { node = k; inverted = false }
@@ -184,11 +168,6 @@ row_steps (Two a b) k = line_step a ∷ line_step b ∷ []
 row_steps (Three a b c) k = line_step a ∷ line_step b ∷ line_step c ∷ []
 row_steps Nested k = []
 
--- a row of an operation on words or bits, which is done at each position of a word
-abbrev pub is_spread : ProgramRow → Bool
-is_spread (Spread word bit) = true
-is_spread r = false
-
 -- a row of an operation that takes a pass for each position
 abbrev pub is_nest : ProgramRow → Bool
 is_nest Nested = true
@@ -205,10 +184,6 @@ program_of p = (program_at (number p)).1
 -- The loop program of an operation
 abbrev pub program : WordOp → Kind → List (StepOf Marked)
 program p k = row_steps (program_of p) k
-
--- the operations that take words or bits
-abbrev pub spreads : WordOp → Bool
-spreads p = is_spread (program_of p)
 
 -- the operations that take one pass over a word
 abbrev pub is_linear : WordOp → Bool

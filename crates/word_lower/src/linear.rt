@@ -1,6 +1,6 @@
 //! The lowering of statements that take one pass.
 
-ghost use Rattle.std.specs.Prelude.{◌≡◌, ℕ, List, map, IfOk, Some, true};
+ghost use Rattle.std.specs.Prelude.{◌≡◌, ℕ, List, map, IfOk, Some, None, true};
 ghost use Rattle.op_text.specs.Language.{statement, Compute};
 ghost use Rattle.loop_ir.specs.declared.names.Slot.{Slot};
 ghost use Rattle.loop_ir.specs.Plain.{steps_of};
@@ -23,7 +23,8 @@ use text_lex::Name;
 
 /// The place of a name, or the first free bit of scratch.
 pub fn slot_of(names: &NameMap, name: &Name) -> Slot
-    ensures { (s : Slot) → slots_of names.now name.now ≡ Some s → result ≡ s }
+    ensures place { (s : Slot) → slots_of names.now name.now ≡ Some s → result ≡ s }
+    ensures none { slots_of names.now name.now ≡ None → result ≡ scratch_bit names.now.free_bit }
 {
     match names.slots.get(name).copied() {
         Some(slot) => slot,

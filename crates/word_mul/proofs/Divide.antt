@@ -11,18 +11,20 @@ use Rattle.loop_ir.specs.declared.ir.Sub.TheVariants as sub
 use Rattle.loop_ir.specs.declared.names.Slot.{Slot}
 use Rattle.loop_ir.specs.Plain.{Block, InnerOf, inner_map}
 use Rattle.loop_ir.specs.Spots.{Spot, Spots, set_spot, spot_at, nth_place}
-use Rattle.loop_laws.specs.Rooms.{placed_body}
+use Rattle.loop_laws.specs.Rooms.{Marked, placed_body}
 use Rattle.loop_laws.specs.Turns.{Origin, Standing, Carried, IsLoop, turn, after_many}
 use Rattle.loop_laws.proofs.Same.{set_same, set_other}
 use Rattle.loop_laws.proofs.Loop.{loop_turns, loop_word}
 use Rattle.loop_laws.proofs.Steps.{after_parts}
 use Rattle.loop_laws.proofs.Placed.{loop_of, space_other}
 use Rattle.word_lower.specs.Places.{scratch_bit}
-use Rattle.word_lower.specs.Programs.{second, third, plain, compared}
+use Rattle.word_lower.specs.Programs.{plain, compared}
+use Rattle.word_lower.proofs.Marks.{second, third}
 use Rattle.word_lower.proofs.Setting.{bit, number, row, number_at}
 use Rattle.word_lower.proofs.Passes.{state_loop}
 use Rattle.word_lower.proofs.Sums.{value_same, value_below, compare, less_two}
-use Rattle.word_mul.specs.Programs.{divided, division}
+use Rattle.word_mul.specs.Programs.{divided, parts_of}
+use Rattle.word_mul.specs.declared.table.TheConstants.{DIVISION}
 use Rattle.word_mul.specs.declared.rows.Rows.{Rows}
 use Rattle.word_mul.specs.Places.{rooms_for, scratch_word}
 use Rattle.word_mul.proofs.Setting.{fourth, fifth, IsFree, AreRows}
@@ -48,6 +50,11 @@ divided_digit false true true = refl
 divided_digit false true false = refl
 divided_digit false false true = refl
 divided_digit false false false = refl
+
+-- One step of a long division. The window is the n + 1 rows of the dividend from the outer position
+-- down: the divisor is compared with it, and taken from it where it is not greater
+abbrev pub division : List (InnerOf Marked)
+division = parts_of DIVISION
 
 module _ (n : ℕ) (m : Rows) (are : AreRows n 2 2 m) where
   abbrev pub w : Slot

@@ -21,7 +21,8 @@ use Rattle.loop_laws.proofs.Loop.{loop_turns, loop_word}
 use Rattle.loop_laws.proofs.Steps.{steps_each, steps_nest, after_parts, after_outer}
 use Rattle.loop_laws.proofs.Placed.{loop_of}
 use Rattle.word_lower.specs.Places.{scratch_bit}
-use Rattle.word_lower.specs.Programs.{target, first, second, third, off, constant, inverted}
+use Rattle.word_lower.specs.Programs.{off, constant, inverted}
+use Rattle.word_lower.proofs.Marks.{target, first, second, third}
 use Rattle.word_lower.proofs.Setting.{bit, number, at, row, number_at, SlotsApart}
 use Rattle.word_lower.proofs.Passes.{word_loop, upwards}
 use Rattle.word_lower.proofs.Sums.{value_same, value_below, value_false, sum_two, carry_sum}

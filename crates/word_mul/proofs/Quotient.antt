@@ -22,7 +22,8 @@ use Rattle.loop_laws.proofs.Loop.{loop_turns, loop_word}
 use Rattle.loop_laws.proofs.Placed.{loop_of}
 use Rattle.loop_laws.proofs.Steps.{steps_each, steps_nest, after_parts, after_outer}
 use Rattle.word_lower.specs.Places.{scratch_bit}
-use Rattle.word_lower.specs.Programs.{target, first, third, plain, off, constant, moved}
+use Rattle.word_lower.specs.Programs.{plain, off, constant, moved}
+use Rattle.word_lower.proofs.Marks.{target, first, third}
 use Rattle.word_lower.proofs.Setting.{bit, number, row, number_at}
 use Rattle.word_lower.proofs.Passes.{word_loop, upwards}
 use Rattle.word_lower.proofs.Sums.{value_same, value_below, value_false, value_low}

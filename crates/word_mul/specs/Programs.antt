@@ -24,7 +24,7 @@ use Rattle.word_mul.specs.declared.shapes.BodyForm.TheVariants.{Divided}
 use Rattle.word_mul.specs.declared.shapes.NestPart.{NestPart}
 use Rattle.word_mul.specs.declared.shapes.NestPart.TheVariants.{Once, Each}
 use Rattle.word_mul.specs.declared.shapes.NestedProgram.{NestedProgram}
-use Rattle.word_mul.specs.declared.table.TheConstants.{NESTED, DIVISION}
+use Rattle.word_mul.specs.declared.table.TheConstants.{NESTED}
 
 -- y, the bit of a product and a carry, into y
 abbrev pub multiplied_nodes : List Node
@@ -99,11 +99,6 @@ pass_of (Some f) = Along (form_body f) ∷ []
 abbrev pub row_steps : NestedProgram → List (StepOf Marked)
 row_steps r = Along (form_body r.first) ∷ (pass_of r.second
     ++ Nest (parts_of r.parts ++ parts_of (r.last ∷ [])) ∷ pass_of r.after)
-
--- One step of a long division. The window is the n + 1 rows of the dividend from the outer position
--- down: the divisor is compared with it, and taken from it where it is not greater
-abbrev pub division : List (InnerOf Marked)
-division = parts_of DIVISION
 
 -- an operation's row of the table
 abbrev pub program_in : List (WordOp × NestedProgram) → WordOp → Option NestedProgram

@@ -18,7 +18,9 @@ use Rattle.loop_ir.specs.declared.ir.Place.{Place}
 use Rattle.loop_ir.specs.Plain.{Block, StepOf, AllParts}
 use Rattle.loop_ir.specs.Loops.{all_rounds}
 use Rattle.word_lower.specs.declared.shapes.Owners.{Owners}
-use Rattle.word_lower.specs.Programs.{program, spreads}
+use Rattle.word_lower.specs.declared.table.ProgramRow.{ProgramRow}
+use Rattle.word_lower.specs.declared.table.ProgramRow.TheVariants.{Spread}
+use Rattle.word_lower.specs.Programs.{program, program_of}
 use Rattle.word_lower.specs.Shapes.{program_on}
 use Rattle.word_mul.specs.declared.rows.Rows.{Rows}
 use Rattle.word_mul.specs.Programs.{is_nested}
@@ -73,6 +75,14 @@ triangle n =
     let h = half n in
     let e : n * (n + 1) / 2 ≡ h.0 = ap (λ x. x / 2) h.1 ∙ mul-div_cancel_left h.0 (omega arith) in
     omega (arith, e, h.1)
+
+-- the operations that take words or bits
+abbrev pub is_spread : ProgramRow → Bool
+is_spread (Spread word bit) = true
+is_spread r = false
+
+abbrev pub spreads : WordOp → Bool
+spreads p = is_spread (program_of p)
 
 -- the width on which an operation works, where its target has this kind
 abbrev pub op_width : WordOp → Kind → ℕ → ℕ

@@ -34,9 +34,9 @@ use Rattle.loop_ir.specs.Statements.{Slots}
 use Rattle.uprog_gen.specs.Settled.{IsSettled, rounds_counts}
 use Rattle.uprog_gen.specs.Does.{DoesRounds, Means, joined, total}
 use Rattle.uprog_gen.specs.Layout.{IsLayout}
-use Rattle.uprog_gen.specs.Programs.{AreLowered, ceilings, HasParts, IsCompiled, AreCompiled}
+use Rattle.uprog_gen.specs.Programs.{AreLowered, HasParts, IsCompiled, AreCompiled}
 use Rattle.uprog_gen.proofs.Coding.Joined.{IsWithin}
-use Rattle.uprog_gen.proofs.Meaning.Meant.{lower_ceiling, total_ceilings, statements_mean}
+use Rattle.uprog_gen.proofs.Meaning.Meant.{ceilings, lower_ceiling, total_ceilings, statements_mean}
 
 pub lowered_length : (slots : Slots) (free_bit free_word : ℕ) (body : List Statement)
     (ps : List (List (StepOf Block))) → AreLowered slots free_bit free_word body ps

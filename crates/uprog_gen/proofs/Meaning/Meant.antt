@@ -42,7 +42,7 @@ use Rattle.uprog_gen.specs.Where.{IsSpot}
 use Rattle.uprog_gen.specs.Does.{after_statements, spot_number, numbers_in, AreCheap, total}
 use Rattle.uprog_gen.specs.Does.{Means}
 use Rattle.uprog_gen.specs.Layout.{IsLayout, slot, source_lays, place_in, defined_lays, found}
-use Rattle.uprog_gen.specs.Programs.{AreLowered, ceilings}
+use Rattle.uprog_gen.specs.Programs.{AreLowered}
 use Rattle.uprog_gen.specs.Laying.{kind_in}
 use Rattle.uprog_gen.proofs.Naming.Lays.{lay, by_bool, some_is, found-append, or_else, found_kind}
 use Rattle.uprog_gen.proofs.Naming.Lays.{source_params}
@@ -136,6 +136,12 @@ can_more P Q f steps can = record {
   size = can.size;
   few = can.few;
 }
+
+-- the ceiling of each statement, where these names are known
+abbrev pub ceilings : List Param → List Statement → List (ℕ → ℕ)
+ceilings known [] = []
+ceilings known (s ∷ body) = (λ n. statement_ceiling op_ceiling known n s)
+    ∷ ceilings (known ++ defines known s) body
 
 -- the ceilings together
 pub total_ceilings : (known : List Param) (body : List Statement) (n : ℕ)

@@ -22,11 +22,20 @@ use Rattle.loop_ir.specs.declared.names.Slot.{Slot}
 use Rattle.loop_ir.specs.declared.names.NameMap.{NameMap}
 use Rattle.loop_ir.specs.Statements.{slots_of}
 use Rattle.uprog_gen.specs.Layout.{Lay, is_scratch, source_lays, defined_lays, found, IsLayoutMap}
-use Rattle.uprog_gen.specs.Laying.{placed, Lays, kind_in, Knows, IsShort, IsLaidTo}
+use Rattle.uprog_gen.specs.Laying.{placed, Lays, kind_in, Knows, IsShort}
 use Rattle.uprog_gen.proofs.Naming.Lays.{params_of, or_else, found_kind, source_params}
 use Rattle.uprog_gen.proofs.Naming.Lays.{defined_params}
 use Rattle.uprog_gen.proofs.Naming.Placed.{placed_same, placed-append, placed_found}
 use Rattle.uprog_gen.proofs.Naming.Placed.{defined_lays-append}
+
+-- the names of the first k statements have come to their places, and those of the sources
+pub record IsLaidTo (op : Operation) (k : ℕ) (m : NameMap) : Type 0 where
+  pub at : (name : List ℕ) → slots_of m name ≡ placed (λ n. None) (source_lays 0 op.params
+      ++ defined_lays (result_names op) 0 0 (body_defines op.params (take k op.body))) name
+  pub bits : m.free_bit ≡ count_by (is_scratch (result_names op) Bit)
+      (body_defines op.params (take k op.body))
+  pub words : m.free_word ≡ count_by (is_scratch (result_names op) Word)
+      (body_defines op.params (take k op.body))
 
 pub body_defines-append : (known : List Param) (xs ys : List Statement)
     → body_defines known (xs ++ ys) ≡ body_defines known xs

@@ -1,5 +1,5 @@
 use Rattle.op_text.specs.Language.{operation}
-use Rattle.uprog_gen.specs.Laying.{IsLaidTo}
+use Rattle.uprog_gen.proofs.Naming.LaidOut.{IsLaidTo}
 use Rattle.uprog_gen.proofs.layout.lay_out.Given as goal
 
 abbrev pub invariant-loop-stmt : goal.invariant-loop-stmt

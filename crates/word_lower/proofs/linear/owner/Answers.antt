@@ -5,7 +5,7 @@ use Rattle.word_lower.proofs.Owners.{owner_is, after_past}
 use Rattle.word_lower.proofs.linear.owner.Goals as goal
 
 pub returns-then-k-args : goal.returns-then-k-args
-returns-then-k-args c = λ ss at. c.slot_of.ensures (following ss c.args.names.now.free_bit c.args.k)
+returns-then-k-args c = λ ss at. c.slot_of.ensures.place (following ss c.args.names.now.free_bit c.args.k)
     (owner_is (slots_of c.args.names.now) c.args.args.now ss c.args.names.now.free_bit c.args.k _
     c.index-args-k.is at c.if-k-args.true)
 

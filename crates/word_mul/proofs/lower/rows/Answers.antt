@@ -17,6 +17,6 @@ returns c = λ t u ss found near at.
           (let h = w.if-args-gt1.false in omega (arith, h, many))
     ] in
     rows_are t u ss names.free_bit names.free_word c.slot_of.result c.second_slot.result
-    c.argument.result c.argument-2.result c.if-args-gt1.last (c.slot_of.ensures t found)
+    c.argument.result c.argument-2.result c.if-args-gt1.last (c.slot_of.ensures.place t found)
     (c.second_slot.ensures t u found near) (c.argument.ensures ss at)
     (c.argument-2.ensures ss at) last)
