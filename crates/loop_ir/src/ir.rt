@@ -29,8 +29,8 @@ pub enum Sub {
     NPlusInner,
 }
 
-/// What a row belongs to: the result, a source, or a bit or word of scratch. A value in cells of the
-/// bitwise group has no row: a body leaves it in them to the next one.
+/// What a row belongs to: the result, a source, or a bit or word of scratch. A value in cells of
+/// the bitwise group has no row: a body leaves it in them to the next one.
 #[derive(Clone, Copy, PartialEq, Eq)]
 pub enum Space {
     Result,
