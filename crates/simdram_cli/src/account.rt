@@ -14,8 +14,8 @@ ghost use Rattle.simdram_cli.specs.Accounts.{account_plan, program_plan, program
 use crate::load::{load, load_ops};
 use crate::stop::Stop;
 use crate::words::PROG_MAX;
+use faults::NoMemory;
 use host_edge::{Folder, Sink};
-use no_memory::NoMemory;
 use op_print::print_ops;
 use prog_text::{cost_text, list_text};
 use std::alloc::Global;

@@ -4,7 +4,7 @@ use Rattle.std.proofs.Common.{length, get_or, take, sym, ◌∙◌, ap, subst, a
 use Rattle.std.proofs.Common.{append-nil, add-one}
 use Rattle.std.specs.Prelude.{flat_map, None, Result, Ok, Err, OnErr}
 use Rattle.std.specs.List.{range_with_len}
-use Rattle.fault_counts.specs.Counts.{Rose}
+use Rattle.faults.specs.Counts.{Rose}
 use Rattle.dram_model.specs.declared.geometry.Geometry.{Geometry}
 use Rattle.dram_model.specs.Chip.{Banks, Event, Grew, after, bank_of}
 use Rattle.dram_model.specs.View.{ChipView, Did, FailedIn, Kept, StoppedIn}
