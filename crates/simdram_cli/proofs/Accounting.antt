@@ -1,6 +1,5 @@
 -- The facts of `cost` and `list`: their statuses, files, memory, and what one that is done has sent.
-use Rattle.std.proofs.Common.{◌≡◌, ℕ, List, [], ◌∷◌, ◌++◌, Option, Some, None, refl, sym, ◌∙◌, ap, subst}
-use Rattle.std.proofs.Common.{append-nil}
+use Rattle.std.proofs.Common.{◌≡◌, ℕ, List, [], ◌∷◌, ◌++◌, Option, Some, None, refl, sym, ◌∙◌, subst}
 use Rattle.host_edge.specs.Views.{Files, Known}
 use Rattle.uprog_code.specs.Programs.{IsProgram}
 use Rattle.uprog_bin.specs.Spelling.{HasVersion, program_bytes}
@@ -18,7 +17,7 @@ use Rattle.simdram_cli.specs.Complete.{IsProg}
 use Rattle.simdram_cli.specs.Programs.{prog_in}
 use Rattle.simdram_cli.proofs.Completes.{IsOneOf}
 use Rattle.simdram_cli.proofs.JobPlans.{good_file, prog_refuses}
-use Rattle.simdram_cli.proofs.Migrating.{prog_is, same_ok}
+use Rattle.simdram_cli.proofs.Migrating.{one_sent, read_from}
 
 -- the file of a program that was opened
 abbrev pub opened_file : (file : File) (text : List ℕ) → file.bytes ≡ text
@@ -77,16 +76,14 @@ accounted name account old new status d =
         ),
       ),
     ).
-    let own = same_ok (prog_in text) program file.programs is (prog_is text file) in
+    let own = read_from (before name) text program there is file in
     record {
       program = program;
-      version = file.version;
-      legal = subst IsProgram (sym own) file.is;
-      has = subst (HasVersion file.version) (sym own) file.has;
-      is = there ∙ ap (λ x. Some x) (file.spelled ∙ ap (program_bytes file.version) (sym own));
+      version = own.version;
+      legal = own.legal;
+      has = own.has;
+      is = own.is;
       files = same;
       sent = subst (λ (bytes : List ℕ). Known (λ x y. y ≡ x ++ bytes) old.sink.sent new.sink.sent)
-          (e ∙ f ∙ ap (λ w. (account_of account program ++ []) ++ w) none
-          ∙ append-nil (account_of account program ++ [])
-          ∙ append-nil (account_of account program)) sent;
+          (one_sent said one two (account_of account program) e f none) sent;
     })

@@ -1,6 +1,6 @@
 -- The facts of `show`: its statuses, its files, its memory, and what one that is done has sent.
-use Rattle.std.proofs.Common.{◌≡◌, ℕ, List, [], ◌++◌, Option, None, ◌∙◌, ap, subst, refl}
-use Rattle.std.proofs.Common.{append-nil, ◌∷◌}
+use Rattle.std.proofs.Common.{◌≡◌, ℕ, List, [], ◌++◌, Option, None, ◌∙◌, subst, refl}
+use Rattle.std.proofs.Common.{◌∷◌}
 use Rattle.std.specs.Prelude.{IfSome}
 use denote.Ref.{Bor}
 use Rattle.host_edge.specs.Views.{Files, Known}
@@ -20,6 +20,7 @@ use Rattle.simdram_cli.specs.Show.{show_plan, Shown}
 use Rattle.simdram_cli.proofs.Completes.{IsOneOf}
 use Rattle.simdram_cli.proofs.OpsPlans.{spells_at}
 use Rattle.simdram_cli.proofs.JobPlans.{good_file, ops_refuses}
+use Rattle.simdram_cli.proofs.Migrating.{one_sent}
 use Rattle.simdram_cli.proofs.Planned.{GivesOwn, IsFailing}
 
 pub show_gives : (name : Bor (List ℕ)) → GivesOwn (Show name) (show_plan name.now)
@@ -71,6 +72,5 @@ show_shown name old new status d =
       ops = ops;
       is = spells_at (before name) text ops there has;
       sent = subst (λ (bytes : List ℕ). Known (λ x y. y ≡ x ++ bytes) old.sink.sent new.sink.sent)
-          (e ∙ f ∙ ap (λ w. (canonical_text ops ++ []) ++ w) none
-          ∙ append-nil (canonical_text ops ++ []) ∙ append-nil (canonical_text ops)) sent;
+          (one_sent said more last (canonical_text ops) e f none) sent;
     })

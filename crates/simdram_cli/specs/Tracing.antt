@@ -149,7 +149,7 @@ pub record Traced (names : TraceNames) (before after : Files) (old new : World) 
 -- a script on a machine: its steps, its events, the image after it, and how many rows are read
 abbrev pub steps_on : Machine → Banks → List Instruction → List Step
 steps_on m banks script =
-    pieces_steps (geometry_of m) (operations_by m) (table_in m) banks 1 (pieces script)
+    pieces_steps (geometry_of m) (operations_by m) (turn_in m) (table_in m) banks 1 (pieces script)
 
 abbrev pub events_on : Machine → List Instruction → List Event
 events_on m script =
