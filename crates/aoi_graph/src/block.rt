@@ -14,8 +14,8 @@ ghost use Rattle.aoi_graph.specs.Making.{Grows, AreBelow, IsEnv, name_value};
 
 use crate::gates::{gate, one, xor};
 use crate::{AoiGraph, AoiNode, NoMemory};
+use faults::keep;
 use indexmap::IndexMap;
-use no_memory::keep;
 use op_text::{Assign, Expr};
 use std::alloc::Global;
 use text_lex::Name;

@@ -8,7 +8,7 @@ ghost use Rattle.aoi_graph.specs.Blocks.{Numbers, IsHeld, AreHeld};
 ghost use Rattle.aoi_graph.specs.Making.{Grows};
 
 use crate::{AoiNode, NoMemory};
-use no_memory::keep;
+use faults::keep;
 
 /// One node more.
 fn push(nodes: &mut Vec<AoiNode>, node: AoiNode) -> Result<u32, NoMemory>

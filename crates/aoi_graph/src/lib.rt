@@ -5,7 +5,7 @@ mod block;
 mod gates;
 
 pub use block::build;
-pub use no_memory::NoMemory;
+pub use faults::NoMemory;
 
 /// A gate over lower nodes.
 #[derive(Clone, Copy, PartialEq, Eq)]

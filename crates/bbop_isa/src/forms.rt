@@ -19,7 +19,7 @@ use crate::operands::{Operands, operands_of};
 use crate::words::{Word, words_of};
 use arrayvec::ArrayVec;
 use bit_rows::{Value, WIDTH_MAX};
-use no_memory::keep;
+use faults::keep;
 use std::alloc::Global;
 use text_lex::Name;
 

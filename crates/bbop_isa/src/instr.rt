@@ -5,7 +5,7 @@ ghost use Rattle.bbop_isa.specs.declared.instr.LineNo.TheVariants as line_no;
 
 use arrayvec::ArrayVec;
 use bit_rows::Value;
-use no_memory::NoMemory;
+use faults::NoMemory;
 use text_lex::Name;
 
 /// In which order the banks take turns.

@@ -6,7 +6,7 @@ ghost use Rattle.bbop_isa.specs.Reading.{OperandsOf, Pushes, Takes};
 use crate::digits::Digits;
 use crate::instr::LineNo;
 use crate::words::Word;
-use no_memory::keep;
+use faults::keep;
 use std::alloc::Global;
 
 /// Names, and then numbers.

@@ -8,7 +8,7 @@ ghost use Rattle.bbop_isa.specs.Reading.{AddsLine};
 use crate::forms::line_of;
 use crate::instr::{Instr, LineNo, ScriptFault, ScriptNo};
 use crate::lines::split_line;
-use no_memory::keep;
+use faults::keep;
 use std::alloc::Global;
 
 /// Adds the instruction of a line, if it has one.

@@ -9,7 +9,7 @@ ghost use Rattle.bbop_isa.specs.Reading.{WordsOf};
 
 use crate::digits::Digits;
 use crate::instr::{LineNo, ScriptKind};
-use no_memory::keep;
+use faults::keep;
 use std::alloc::Global;
 use text_lex::{Lexer, Token, TokenKind, items_are_right};
 

@@ -6,8 +6,8 @@ pub mod kernels;
 pub mod row;
 
 pub use bits::{bit_of, bit_of_word, majority};
+pub use faults::NoMemory;
 pub use kernels::{sense3, settle3, store, store_not, turn};
-pub use no_memory::NoMemory;
 pub use row::Row;
 
 /// The greatest width of an element, in bits.

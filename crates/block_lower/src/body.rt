@@ -11,9 +11,9 @@ use crate::choice::least_graph;
 use crate::inputs::inputs_of;
 use crate::places::{places_of, target_places};
 use aoi_graph::build;
+use faults::keep;
 use loop_ir::{Body, NameMap, Place};
 use mig_graph::{Lit, Mig, MigOuts, NoMemory, from_aoi};
-use no_memory::keep;
 use op_text::Assign;
 use std::alloc::Global;
 

@@ -6,10 +6,10 @@ ghost use Rattle.mig_graph.specs.Reduced.{IsReduced};
 ghost use Rattle.loop_ir.specs.Spots.{nth_place};
 ghost use Rattle.block_lower.specs.Choice.{AreRows, HasBody, HasBodyWithin, IsNoDearer, MayStand};
 
+use faults::keep;
 use loop_ir::{Place, Space, Sub};
 use mig_graph::{MigOuts, NoMemory};
 use mig_rewrite::{Sketch, kept, offers, reduce};
-use no_memory::keep;
 use row_alloc::{OutRow, commands_of, quick_commands_of};
 use std::alloc::Global;
 

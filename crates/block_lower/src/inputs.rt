@@ -10,9 +10,9 @@ ghost use Rattle.op_text.specs.Rules.{is_among};
 ghost use Rattle.loop_ir.specs.Statements.{term_names, equation_names, targets_of};
 ghost use Rattle.block_lower.specs.Inputs.{gathered, AreNumbered};
 
+use faults::keep;
 use indexmap::IndexMap;
 use mig_graph::NoMemory;
-use no_memory::keep;
 use op_text::{Assign, Expr};
 use std::alloc::Global;
 use text_lex::Name;

@@ -10,9 +10,9 @@ ghost use Rattle.block_lower.specs.Form.{start, IsBlockProgram};
 
 use crate::body::{block_body, constant};
 use crate::places::place_of;
+use faults::keep;
 use loop_ir::{LoopProgram, NameMap, Step};
 use mig_graph::NoMemory;
-use no_memory::keep;
 use op_text::{Assign, State};
 use std::alloc::Global;
 

@@ -5,9 +5,9 @@ ghost use Rattle.op_text.specs.Language.{equation};
 ghost use Rattle.loop_ir.specs.Statements.{slots_of, targets_of};
 ghost use Rattle.block_lower.specs.Form.{kind_sub, place_of, places_of};
 
+use faults::keep;
 use loop_ir::{NameMap, Place, Space, Sub};
 use mig_graph::NoMemory;
-use no_memory::keep;
 use op_text::{Assign, Kind};
 use std::alloc::Global;
 use text_lex::Name;

@@ -4,7 +4,7 @@ use Rattle.std.proofs.Common.{◌∙◌, ap, subst, inl, inr, arith, append_asso
 use Rattle.std.specs.Prelude.{false}
 use Rattle.std.specs.List.{list_any}
 use Rattle.host_edge.specs.Views.{Files, FolderView, NoCountFalls, Known}
-use Rattle.fault_counts.specs.Counts.{RoseBy}
+use Rattle.faults.specs.Counts.{RoseBy}
 use Rattle.cli_model.specs.World.{World}
 use Rattle.cli_model.specs.Steps.{Step, Load, Take, Store, Open, Use, UseFor, Put, Print, Reason}
 use Rattle.cli_model.specs.Steps.{CannotRead, TooLong, Refused, NoMemory, CannotWrite, PutFailed}

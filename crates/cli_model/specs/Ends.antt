@@ -3,7 +3,7 @@ use Rattle.std.specs.Prelude.{◌≡◌, ◌⊎◌, ℕ, ◌+◌, Bool, true, fa
 use Rattle.std.specs.Prelude.{Some, IfSome}
 use Rattle.std.specs.List.{list_any}
 use Rattle.host_edge.specs.Views.{Files, Known, IsPrefix}
-use Rattle.fault_counts.specs.Counts.{Rose, RoseBy}
+use Rattle.faults.specs.Counts.{Rose, RoseBy}
 use Rattle.cli_model.specs.World.{World}
 use Rattle.cli_model.specs.Waves.{StoppedIn}
 use Rattle.cli_model.specs.Steps.{Step, Load, Take, Store, Open, Use, UseFor, Put, Print, Reason}

@@ -1,6 +1,6 @@
 -- A command in which nothing fails, and one that wants memory.
 use Rattle.std.specs.Prelude.{◌≡◌, ◌≢◌, ℕ, List, [], codes, Option, Some, None}
-use Rattle.fault_counts.specs.Counts.{Rose}
+use Rattle.faults.specs.Counts.{Rose}
 use Rattle.host_edge.specs.Views.{Files, Known}
 use Rattle.cli_model.specs.World.{World}
 use Rattle.cli_model.specs.Steps.{Unopened}

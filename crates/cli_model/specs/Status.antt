@@ -1,7 +1,7 @@
 -- The exit status and the last line of a command.
 use Rattle.std.specs.Prelude.{◌≡◌, ◌⊎◌, ℕ, ◌≤◌, List, [], ◌++◌, codes}
 use Rattle.host_edge.specs.Views.{Known, AppendsPart}
-use Rattle.fault_counts.specs.Counts.{Rose}
+use Rattle.faults.specs.Counts.{Rose}
 use Rattle.cli_model.specs.World.{World}
 use Rattle.cli_model.specs.Steps.{Step, Reason, CannotRead, TooLong, Refused, NoMemory, CannotWrite}
 use Rattle.cli_model.specs.Steps.{PutFailed, ChipFailed, End, Done, Stopped, Goes}

@@ -2,7 +2,7 @@
 use Rattle.std.specs.Prelude.{◌≡◌, ◌⊎◌, ℕ, ◌+◌, ◌≤◌, List, [], ◌∷◌, ◌++◌, length, Option, Some}
 use Rattle.std.specs.Prelude.{None, Result, Ok, Err}
 use Rattle.host_edge.specs.Views.{Known, NoCountFalls, HasBytes, IsLonger, KeepsOthers}
-use Rattle.fault_counts.specs.Counts.{Rose, RoseBy}
+use Rattle.faults.specs.Counts.{Rose, RoseBy}
 use Rattle.host_edge.specs.Views.{AppendsPart}
 use Rattle.dram_model.specs.View.{ChipView, NotBegun}
 use Rattle.cli_model.specs.World.{World, with_file}

@@ -1,6 +1,6 @@
 -- A replay that failed.
 use Rattle.std.specs.Prelude.{◌≡◌, List, ◌∷◌, ◌++◌}
-use Rattle.fault_counts.specs.Counts.{Rose}
+use Rattle.faults.specs.Counts.{Rose}
 use Rattle.dram_model.specs.Chip.{Event, Grew, SameBut, after, bank_of}
 use Rattle.dram_model.specs.View.{ChipView}
 

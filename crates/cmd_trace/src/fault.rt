@@ -3,7 +3,7 @@
 ghost use Rattle.std.specs.Prelude.{◌≡◌};
 ghost use Rattle.trace_model.specs.Reading.{trace_kind as kind_of, as_trace_fault};
 
-use no_memory::NoMemory;
+use faults::NoMemory;
 use object_alloc::{ImageFault, ImageKind};
 use trace_model::{TraceFault, TraceKind};
 

@@ -11,7 +11,7 @@ mod sizes;
 mod view;
 
 pub use fault::TraceNo;
-pub use no_memory::NoMemory;
+pub use faults::NoMemory;
 pub use recorder::{Recorder, Room};
 pub use replay::replay_events;
 pub use sizes::{EVENT_BYTES, EVENTS_BYTES_MAX, HEAD_BYTES_MAX, TRACE_BYTES_MAX};

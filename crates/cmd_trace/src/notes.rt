@@ -13,7 +13,7 @@ use crate::events::{command_bytes, write_bytes};
 use crate::head::put_head;
 use crate::sizes::{EVENT_BYTES, HEAD_BYTES_MAX, TRACE_BYTES_MAX};
 use dram_model::{Command, Counters, Geometry};
-use no_memory::NoMemory;
+use faults::NoMemory;
 use object_alloc::{HEAD_BYTES, RECORD_BYTES, Table, bytes_of_words};
 use std::alloc::Global;
 use std::marker::Model;

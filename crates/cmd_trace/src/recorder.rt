@@ -3,7 +3,7 @@
 ghost use Rattle.std.specs.Prelude.{◌≡◌, ◌+◌, ◌*◌, ◌<◌, ◌≤◌, ◌^◌, [], length, true, false, Some};
 ghost use Rattle.std.specs.Prelude.{◌∷◌, None, IfOk, IfErr, IfSome, OnOk, OnErr, is_some};
 ghost use Rattle.bit_rows.specs.Bits.{bits_of_words};
-ghost use Rattle.fault_counts.specs.Counts.{Rose};
+ghost use Rattle.faults.specs.Counts.{Rose};
 ghost use Rattle.dram_model.specs.declared.address.Command.{Command};
 ghost use Rattle.dram_model.specs.Chip.{Event, Grew, row_in};
 ghost use Rattle.dram_model.specs.Column.{is_legal};
@@ -14,7 +14,7 @@ ghost use Rattle.cmd_trace.specs.Tape.{empty_log, file_on, log_on, recorded, siz
 
 use crate::notes::Notes;
 use dram_model::{Addr, BeginNo, ChipFault, Command, Counters, Dram, Geometry};
-use no_memory::NoMemory;
+use faults::NoMemory;
 use object_alloc::Table;
 use std::alloc::Global;
 

@@ -13,7 +13,7 @@ ghost use Rattle.dram_chip.specs.Rows.{columns_of};
 use crate::b_group::b_lines;
 use crate::rows::{get_row, move_row, set_ones, set_row, settle_rows};
 use dram_model::{Addr, Cell, Line};
-use no_memory::NoMemory;
+use faults::NoMemory;
 use std::alloc::Global;
 
 /// The rows that are no data rows: DCC0 and DCC1, T0 to T3, C0 and C1.

@@ -8,7 +8,7 @@ ghost use Rattle.dram_chip.specs.ChipRows.{HasBanks, banks_in};
 
 use crate::bank::Bank;
 use dram_model::{Addr, BeginNo, ChipFault, Counters, Dram, Geometry};
-use no_memory::{NoMemory, keep};
+use faults::{NoMemory, keep};
 use std::alloc::Global;
 
 /// A chip that never fails: its count of faults is 0. It keeps every shape that passes

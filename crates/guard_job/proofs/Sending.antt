@@ -4,7 +4,7 @@ use Rattle.std.proofs.Common.{inl}
 use Rattle.std.proofs.Common.{inr}
 use Rattle.std.specs.Prelude.{Err}
 use Rattle.host_edge.specs.Views.{FolderView, SinkView, Known, AppendsPart}
-use Rattle.fault_counts.specs.Counts.{Rose}
+use Rattle.faults.specs.Counts.{Rose}
 use Rattle.dram_model.specs.View.{ChipView}
 use Rattle.object_steps.specs.declared.fault.StepFault.{StepFault}
 use Rattle.object_steps.specs.declared.fault.StepFault.TheVariants as step_fault

@@ -4,7 +4,7 @@ ghost use Rattle.std.specs.Prelude.{◌≡◌, ◌<◌, ◌≤◌, ◌^◌, leng
 ghost use Rattle.std.specs.List.{AllByRecursion};
 ghost use Rattle.dram_model.specs.Chip.{Grew};
 ghost use Rattle.dram_model.specs.View.{HasBegun, Kept};
-ghost use Rattle.fault_counts.specs.Counts.{Rose};
+ghost use Rattle.faults.specs.Counts.{Rose};
 ghost use Rattle.guard_model.specs.Flips.{all_flipped, due};
 ghost use Rattle.guard_model.specs.FlipText.{AreSorted};
 ghost use Rattle.guard_job.specs.Events.{flip_events};

@@ -4,7 +4,7 @@ ghost use Rattle.std.specs.Prelude.{◌≡◌, ℕ, ◌+◌, ◌*◌, ◌<◌, �
 ghost use Rattle.std.specs.Prelude.{None, IfOk, OnOk, OnErr, count_by, false};
 ghost use Rattle.std.specs.List.{AllByRecursion};
 ghost use Rattle.host_edge.specs.Views.{FolderView};
-ghost use Rattle.fault_counts.specs.Counts.{Rose};
+ghost use Rattle.faults.specs.Counts.{Rose};
 ghost use Rattle.dram_model.specs.Chip.{Grew};
 ghost use Rattle.dram_model.specs.View.{HasBegun, Kept};
 ghost use Rattle.bbop_isa.specs.Forms.{view_of};

@@ -4,7 +4,7 @@ use Rattle.std.specs.Option.{option_map, option_map_or, is_none}
 use Rattle.std.specs.Str.{bytes_eq}
 use Rattle.std.specs.BTreeMap.{BTreeMap, get_by_text}
 use Rattle.host_edge.specs.Views.{Files, FolderView, SinkView}
-use Rattle.fault_counts.specs.Plans.{Plan, plan_of}
+use Rattle.faults.specs.Plans.{Plan, plan_of}
 use Rattle.host_edge.specs.declared.mem_folder.Kept.{Kept}
 use Rattle.host_edge.specs.declared.mem_folder.MemFolder.{MemFolder}
 use Rattle.host_edge.specs.declared.mem_sink.MemSink.{MemSink}

@@ -1,7 +1,7 @@
 -- What a folder and a sink show at a moment, and how two such moments are related.
 use Rattle.std.specs.Prelude.{◌≡◌, ◌≢◌, ℕ, ◌<◌, ◌≤◌, Bool, if◌then◌else◌, List}
 use Rattle.std.specs.Prelude.{◌++◌, length, Option, Some, None, IfSome}
-use Rattle.fault_counts.specs.Counts.{raised}
+use Rattle.faults.specs.Counts.{raised}
 
 -- the files that there are, by the bytes of their names
 abbrev pub Files : Type 0

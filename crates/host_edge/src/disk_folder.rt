@@ -5,7 +5,7 @@ ghost use Rattle.std.specs.Prelude.{OnErr, IsErrOf, slice_index, take, position,
 ghost use Rattle.std.specs.Str.{bytes_eq};
 ghost use Rattle.host_edge.specs.Disk.{place_of, counts_together, words_of, disk_view};
 ghost use Rattle.host_edge.specs.Views.{FolderView, Known, NoCountFalls};
-ghost use Rattle.fault_counts.specs.Counts.{Rose, RoseBy, raised};
+ghost use Rattle.faults.specs.Counts.{Rose, RoseBy, raised};
 ghost use Rattle.host_edge.specs.Views.{SameLoadFaults, CountsFault, HasBytes, IsLonger};
 ghost use Rattle.host_edge.specs.Views.{KeepsOthers, HasNoFaults};
 
@@ -13,7 +13,7 @@ use crate::answer::{Failed, LoadNo};
 use crate::disk_file::set_file;
 use crate::folder::Folder;
 use crate::stream::read_whole;
-use fault_counts::raised;
+use faults::raised;
 use std::alloc::Global;
 use std::fs;
 

@@ -2,7 +2,7 @@
 
 ghost use Rattle.std.specs.Prelude.{◌≡◌, ◌+◌, ◌≤◌, length, IfOk, OnOk, OnErr, IsErrOf};
 ghost use Rattle.host_edge.specs.Views.{FolderView, Known, NoCountFalls, HasBytes};
-ghost use Rattle.fault_counts.specs.Counts.{Rose, RoseBy};
+ghost use Rattle.faults.specs.Counts.{Rose, RoseBy};
 ghost use Rattle.host_edge.specs.Views.{IsLonger, KeepsOthers};
 
 use crate::answer::{Failed, LoadNo};

@@ -13,9 +13,9 @@ mod stream;
 
 pub use answer::{Failed, LoadNo};
 pub use disk_folder::DiskFolder;
+pub use faults::NoMemory;
 pub use folder::Folder;
 pub use mem_folder::MemFolder;
 pub use mem_sink::MemSink;
-pub use no_memory::NoMemory;
 pub use sink::Sink;
 pub use std_sink::StdSink;

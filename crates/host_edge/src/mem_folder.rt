@@ -6,16 +6,16 @@ ghost use Rattle.std.specs.Prelude.{IsErr};
 ghost use Rattle.std.specs.Option.{option_copied};
 ghost use Rattle.host_edge.specs.Mem.{files_of, faults_of, counts_for, is_absent, folder_view};
 ghost use Rattle.host_edge.specs.Mem.{folder_plan};
-ghost use Rattle.fault_counts.specs.Plans.{is_due, next_call};
+ghost use Rattle.faults.specs.Plans.{is_due, next_call};
 ghost use Rattle.host_edge.specs.Views.{FolderView, Known, NoCountFalls};
-ghost use Rattle.fault_counts.specs.Counts.{Rose, RoseBy, raised};
+ghost use Rattle.faults.specs.Counts.{Rose, RoseBy, raised};
 ghost use Rattle.host_edge.specs.Views.{SameLoadFaults, HasNoFaults, HasBytes, IsLonger};
 ghost use Rattle.host_edge.specs.Views.{KeepsOthers, SameFiles, CountsFault};
 
 use crate::NoMemory;
 use crate::answer::{Failed, LoadNo};
 use crate::folder::Folder;
-use fault_counts::{CallPlan, raised};
+use faults::{CallPlan, raised};
 use std::alloc::Global;
 use std::collections::BTreeMap;
 

@@ -2,14 +2,14 @@
 
 ghost use Rattle.std.specs.Prelude.{◌≡◌, ◌≤◌, ◌++◌, [], ◌∷◌, Some, IsErr, IsTrue, OnOk, OnErr};
 ghost use Rattle.host_edge.specs.Mem.{sink_view, sink_plan};
-ghost use Rattle.fault_counts.specs.Plans.{is_due, next_call};
+ghost use Rattle.faults.specs.Plans.{is_due, next_call};
 ghost use Rattle.host_edge.specs.Views.{SinkView, Known, AppendsPart};
-ghost use Rattle.fault_counts.specs.Counts.{Rose, raised};
+ghost use Rattle.faults.specs.Counts.{Rose, raised};
 
 use crate::NoMemory;
 use crate::answer::Failed;
 use crate::sink::Sink;
-use fault_counts::{CallPlan, raised};
+use faults::{CallPlan, raised};
 use std::alloc::Global;
 
 /// Keeps the bytes that it is sent. A put that is set to fail, or that finds no memory, keeps

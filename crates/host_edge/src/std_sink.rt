@@ -3,12 +3,12 @@
 ghost use Rattle.std.specs.Prelude.{◌≡◌, ◌≤◌, ◌++◌, OnOk, OnErr};
 ghost use Rattle.host_edge.specs.Disk.{std_view};
 ghost use Rattle.host_edge.specs.Views.{SinkView, Known, AppendsPart};
-ghost use Rattle.fault_counts.specs.Counts.{Rose, raised};
+ghost use Rattle.faults.specs.Counts.{Rose, raised};
 
 use crate::answer::Failed;
 use crate::sink::Sink;
 use crate::stream::write_whole;
-use fault_counts::raised;
+use faults::raised;
 use std::io::Write;
 
 /// Puts to a writer. It tells what the writer tells of its bytes, and standard output tells

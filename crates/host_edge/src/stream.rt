@@ -6,7 +6,7 @@ ghost use Rattle.std.specs.Io.KnownBytes.{Appends, Consumes, IsAtEnd};
 ghost use Rattle.host_edge.specs.Views.{Known, AppendsPart};
 
 use crate::answer::LoadNo;
-use fault_counts::raised;
+use faults::raised;
 use std::alloc::Global;
 use std::io::{ErrorKind, Read, Write};
 

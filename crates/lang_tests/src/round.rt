@@ -4,7 +4,7 @@ ghost use Rattle.std.specs.Prelude.{◌≡◌, IfOk};
 ghost use Rattle.op_text.specs.Language.{operations};
 ghost use Rattle.op_text.specs.Spelling.{MeetRules};
 
-use no_memory::NoMemory;
+use faults::NoMemory;
 use op_lang::{Ops, OpsNo, parse_ops};
 use op_print::print_ops;
 use op_text::ops_of_a_text_are_one;

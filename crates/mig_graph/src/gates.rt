@@ -12,7 +12,7 @@ ghost use Rattle.mig_graph.specs.Inputs.{HasInput, IsInputCount};
 
 use crate::{Lit, Mig, MigOuts, NoMemory, complement};
 use aoi_graph::{AoiGraph, AoiNode};
-use no_memory::keep;
+use faults::keep;
 use std::alloc::Global;
 
 const ZERO: Lit = Lit {

@@ -11,8 +11,8 @@ ghost use Rattle.mig_rewrite.specs.Plan.{part_value, EachLit, cost, part_of, sav
 
 use crate::merges::Merge;
 use crate::plan::planned;
+use faults::keep;
 use mig_graph::{Lit, Mig, MigOuts, NoMemory, complement};
-use no_memory::keep;
 use std::alloc::Global;
 
 /// What is made again for a node: nothing, `M(x, y, z)`, or `M(x, y, M(u, v, z))`.

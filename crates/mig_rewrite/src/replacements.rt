@@ -3,8 +3,8 @@
 use crate::forms::{Carries, Carry, Form, MOST_LEAST, least_graph};
 use crate::sketch::{Sketch, has, with, with_operands};
 use crate::tables::{Table, Tables, function_of, table_of, tables_of};
+use faults::keep;
 use mig_graph::NoMemory;
-use no_memory::keep;
 
 /// How many leaf sets of a node are looked at.
 const MOST_SETS: usize = 24;

@@ -6,8 +6,8 @@
 use crate::forms::{Carries, Form, carries};
 use crate::replacements::{Divisor, replacements};
 use crate::sketch::Sketch;
+use faults::keep;
 use mig_graph::{Lit, MigOuts, NoMemory};
-use no_memory::keep;
 use std::alloc::Global;
 
 /// How many graphs are looked at without a smaller one before the walks begin.

@@ -9,8 +9,8 @@ use crate::agree::keeps_outputs;
 use crate::rebuild::{Part, first_literals, make, translated};
 use crate::reduced;
 use crate::sketch::Sketch;
+use faults::keep;
 use mig_graph::{Lit, Mig, MigOuts, NoMemory};
-use no_memory::keep;
 use std::alloc::Global;
 
 /// The literal of a sketch, or the constant where its node is not made yet.

@@ -1,7 +1,7 @@
 //! Where an image file breaks a rule.
 
+use faults::NoMemory;
 use file_fields::FileFault;
-use no_memory::NoMemory;
 
 /// What a field of an image file breaks. A file that ends inside a field is `Short`.
 #[derive(Clone, Copy, Debug, PartialEq, Eq)]

@@ -14,8 +14,8 @@ use crate::sizes::{HEAD_BYTES, RECORD_BYTES};
 use crate::table::{Object, Table};
 use arrayvec::ArrayVec;
 use dram_model::Geometry;
+use faults::NoMemory;
 use file_fields::name_field;
-use no_memory::NoMemory;
 use std::alloc::Global;
 use text_lex::Name;
 

@@ -13,7 +13,7 @@ ghost use Rattle.object_alloc.specs.Listed.{IsTable, objects_of, look_up, has_na
 
 use crate::sizes::OBJECTS_MAX;
 use dram_model::Geometry;
-use no_memory::NoMemory;
+use faults::NoMemory;
 use std::alloc::Global;
 use std::marker::Model;
 use text_lex::Name;

@@ -8,7 +8,7 @@ use crate::fault::Refused;
 use crate::names::{define_all, good_name, is_among, keep_all, others};
 use crate::results::{is_assigned, is_bit_result, is_open_result};
 use crate::scope::{InBlock, Scope};
-use no_memory::keep;
+use faults::keep;
 use op_text::{Kind, OpsKind, Spelling};
 
 fn is_taken_state(scope: &Scope, text: &[u8]) -> bool

@@ -5,7 +5,7 @@ ghost use Rattle.op_lang.specs.declared.fault.ReadNo.TheVariants as no;
 ghost use Rattle.op_lang.specs.declared.fault.ReadNo.TheVariants.{Memory};
 ghost use Rattle.op_lang.specs.declared.fault.Refused.TheVariants as refused;
 
-use no_memory::NoMemory;
+use faults::NoMemory;
 use op_text::{Breach, OpsKind};
 use std::alloc::{AllocError, AllocFailed};
 

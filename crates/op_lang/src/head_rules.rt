@@ -9,7 +9,7 @@ use crate::fault::Refused;
 use crate::names::{define, good_name, is_among};
 use crate::results::is_one_open;
 use crate::scope::{InOp, Scope};
-use no_memory::keep;
+use faults::keep;
 use op_text::{Kind, OpsKind, Spelling};
 
 /// The word `op`.

@@ -6,7 +6,7 @@ ghost use Rattle.op_text.specs.Rules.{is_among, is_bad, is_called, is_of_kind, k
 ghost use Rattle.op_text.specs.Rules.{kind_of_word};
 ghost use Rattle.op_text.specs.WordOps.{same_kind};
 
-use no_memory::{NoMemory, keep};
+use faults::{NoMemory, keep};
 use op_text::{Kind, Param, Spelling};
 use std::alloc::Global;
 use text_lex::Name;

@@ -7,7 +7,7 @@ ghost use Rattle.op_lang.specs.Seen.{seen, Judges};
 use crate::fault::Refused;
 use crate::names::{is_among, is_bad, kind_of};
 use crate::scope::Scope;
-use no_memory::keep;
+use faults::keep;
 use op_text::{Gate, OpsKind, Spelling, gate_of};
 
 fn weight_of(gate: Gate) -> usize

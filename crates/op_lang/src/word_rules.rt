@@ -9,7 +9,7 @@ use crate::fault::Refused;
 use crate::names::{define_params, good_name, is_bad, is_called, keep_names, kind_of};
 use crate::results::{is_one_other, is_taken_name};
 use crate::scope::{InBlock, InWord, Scope};
-use no_memory::keep;
+use faults::keep;
 use op_text::{
     Kind, OpsKind, Param, Spelling, WordOp, filled, may_take, op_of, second_kind, wants_more,
 };

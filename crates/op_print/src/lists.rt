@@ -6,7 +6,7 @@ ghost use Rattle.std.specs.List.{flat_map};
 ghost use Rattle.op_print.specs.Canonical.{listed, after_comma, spelled, param_text, state_text};
 
 use crate::pieces::{kind_name, put, put_comma};
-use no_memory::NoMemory;
+use faults::NoMemory;
 use op_text::{Param, State};
 use text_lex::Name;
 

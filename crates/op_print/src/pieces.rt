@@ -3,7 +3,7 @@
 ghost use Rattle.std.specs.Prelude.{◌≡◌, ◌++◌, codes, OnOk};
 ghost use Rattle.op_text.specs.Spelling.{kind_text};
 
-use no_memory::NoMemory;
+use faults::NoMemory;
 use op_text::Kind;
 
 /// Appends bytes.

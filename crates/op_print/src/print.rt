@@ -10,7 +10,7 @@ ghost use Rattle.op_print.specs.Canonical.{param_text};
 use crate::lists::{put_params, put_results};
 use crate::pieces::put;
 use crate::statements::put_body;
-use no_memory::NoMemory;
+use faults::NoMemory;
 use op_rules::ops_meet;
 use op_text::{Op, Ops};
 use std::alloc::Global;

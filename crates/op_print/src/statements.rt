@@ -10,7 +10,7 @@ ghost use Rattle.op_print.specs.Canonical.{line, statement_lines};
 use crate::lists::{put_arguments, put_states, put_targets};
 use crate::pieces::put;
 use crate::values::put_equation;
-use no_memory::NoMemory;
+use faults::NoMemory;
 use op_text::{Assign, State, Stmt, WordOp, op_name};
 use text_lex::Name;
 

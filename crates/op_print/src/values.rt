@@ -5,7 +5,7 @@ ghost use Rattle.op_text.specs.Language.{term, equation};
 ghost use Rattle.op_print.specs.Canonical.{value_text, equation_text};
 
 use crate::pieces::{put, put_comma};
-use no_memory::NoMemory;
+use faults::NoMemory;
 use op_text::{Assign, Expr};
 
 /// The last two arguments of a gate, with the parenthesis after them.

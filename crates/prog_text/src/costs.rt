@@ -7,7 +7,7 @@ ghost use Rattle.prog_text.specs.Costs.{cost_line, cost_text as text_of, costs, 
 
 use crate::pieces::{put, put_number};
 use bit_rows::WIDTH_MAX;
-use no_memory::NoMemory;
+use faults::NoMemory;
 use std::alloc::Global;
 use uprog_bin::ProgView;
 use uprog_code::{BadWalk, Counts, Fetch, Head, Why3, walk};

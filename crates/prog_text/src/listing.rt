@@ -10,7 +10,7 @@ ghost use Rattle.prog_text.specs.Listing.{register_operand, results_text, row_op
 ghost use Rattle.prog_text.specs.Listing.{uop_line, uop_text, value_text};
 
 use crate::pieces::{put, put_number};
-use no_memory::NoMemory;
+use faults::NoMemory;
 use std::alloc::Global;
 use uprog_bin::ProgView;
 use uprog_code::{Fetch, Head, RowRef, RowSpace, Uop};

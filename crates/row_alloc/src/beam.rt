@@ -9,8 +9,8 @@ use crate::cells::lacking;
 use crate::estimate::{estimate, is_ready, points_of_nodes};
 use crate::moves::{Commands, LineUp, Way, complemented, writes};
 use crate::outlook::{State, Task, in_place};
+use faults::keep;
 use mig_graph::{Lit, Mig, NoMemory};
-use no_memory::keep;
 use std::alloc::Global;
 use std::mem;
 

@@ -5,8 +5,8 @@ use crate::body::BodyRef::{B, Out, Spill};
 use crate::cells::{Cells, Fill, address_of, driven, holders, lacking, raises};
 use crate::outlook::{State, Task};
 use crate::set::Set;
+use faults::keep;
 use mig_graph::{Lit, NoMemory, complement};
-use no_memory::keep;
 
 /// The most ways that are tried to bring the operands of a node in line.
 const MOST_WAYS: usize = 20;

@@ -5,8 +5,8 @@ use crate::body::BodyRef::{self, B, C, In, Out, Spill};
 use crate::body::OutRow;
 use crate::cells::{Cells, has_node, holders, reader};
 use crate::set::Set;
+use faults::keep;
 use mig_graph::{Lit, Mig, NoMemory, complement};
-use no_memory::keep;
 use std::alloc::Global;
 
 /// What the cells hold, the nodes in spill rows, the nodes that must still be made, and the outputs

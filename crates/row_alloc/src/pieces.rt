@@ -7,8 +7,8 @@ ghost use Rattle.mig_graph.specs.Graph.{node_at};
 ghost use Rattle.row_alloc.specs.Phases.{source_of, node_commands, stash_commands};
 
 use crate::body::{BodyCmd, BodyRef};
+use faults::keep;
 use mig_graph::{Lit, Mig, NoMemory, Node, is_complemented};
-use no_memory::keep;
 
 /// The row that holds the literal's node, or the constant.
 pub fn source(l: Lit, inputs: u8) -> BodyRef

@@ -16,8 +16,8 @@ ghost use Rattle.row_alloc.specs.declared.body.OutRow.{OutRow};
 
 use crate::body::{BodyCmd, BodyRef, OutRow};
 use crate::pieces::{arranged, push_node, push_stash, source};
+use faults::keep;
 use mig_graph::{Mig, NoMemory, is_complemented};
-use no_memory::keep;
 use std::alloc::Global;
 
 /// The number of majority nodes.

@@ -11,7 +11,7 @@ use Rattle.std.proofs.lemmas.List.{map-append}
 use Rattle.dram_model.specs.View.{ChipView, Kept, Did, with_reads}
 use Rattle.dram_model.specs.declared.dram.Counters.{Counters}
 use Rattle.dram_model.proofs.EventLaws.{Did-none, Did-more, Kept-same, Kept-more}
-use Rattle.fault_counts.specs.Counts.{Rose}
+use Rattle.faults.specs.Counts.{Rose}
 use Rattle.uprog_code.specs.declared.TheConstants.{WALK_MAX}
 use Rattle.dram_model.specs.Chip.{Event, all_counted}
 use Rattle.dram_model.specs.declared.geometry.Geometry.{Geometry}

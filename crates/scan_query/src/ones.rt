@@ -3,7 +3,7 @@
 ghost use Rattle.std.specs.Prelude.{◌≡◌, ◌<◌, ◌≤◌, ◌-◌, ◌*◌, ◌^◌, ◌==◌, min, length, take, true};
 ghost use Rattle.std.specs.Prelude.{count_by, IfOk, OnOk, OnErr};
 ghost use Rattle.bit_rows.specs.Bits.{bits, bits_of_words};
-ghost use Rattle.fault_counts.specs.Counts.{Rose};
+ghost use Rattle.faults.specs.Counts.{Rose};
 ghost use Rattle.dram_model.specs.View.{DidRead, HasBegun, Kept};
 ghost use Rattle.dram_model.specs.Chip.{row_in};
 ghost use Rattle.dram_model.specs.Geometry.{is_geometry};

@@ -7,7 +7,7 @@ ghost use Rattle.op_text.specs.Spelling.{MeetRules};
 ghost use Rattle.text_lex.specs.Spelled.{fits_name};
 ghost use Rattle.scan_model.specs.Operations.{of_one_source, of_two_sources, scan_operations};
 
-use no_memory::NoMemory;
+use faults::NoMemory;
 use op_text::{Kind, Op, Ops, Param, Stmt, WordOp};
 use std::alloc::Global;
 use text_lex::Name;

@@ -4,7 +4,7 @@ use Rattle.std.proofs.Common.{sym, ◌∙◌, ap, subst, append-nil, arith, map,
 use Rattle.std.specs.Prelude.{Err, is_none}
 use Rattle.std.specs.List.{AllByRecursion}
 use Rattle.host_edge.specs.Views.{SinkView, Known, AppendsPart}
-use Rattle.fault_counts.specs.Counts.{Rose}
+use Rattle.faults.specs.Counts.{Rose}
 use Rattle.dram_model.specs.View.{ChipView, Did}
 use Rattle.wave_model.specs.Schedule.{WaveJob}
 use Rattle.uprog_ctl.specs.Waves.{StoppedAmong}

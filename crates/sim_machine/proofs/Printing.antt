@@ -4,7 +4,7 @@ use Rattle.std.proofs.Common.{arith, cond, None, Some, not, true}
 use Rattle.std.specs.Prelude.{Option, Err, is_none}
 use Rattle.host_edge.specs.Views.{SinkView, Known, AppendsPart}
 use Rattle.host_edge.proofs.Tells.{Known-trans}
-use Rattle.fault_counts.specs.Counts.{Rose}
+use Rattle.faults.specs.Counts.{Rose}
 use Rattle.dram_model.specs.View.{ChipView, DidRead}
 use Rattle.dram_model.specs.Elements.{FailedBelow}
 use Rattle.uprog_code.specs.declared.walker.Counts.{Counts}

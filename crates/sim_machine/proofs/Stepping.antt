@@ -7,7 +7,7 @@ use Rattle.std.specs.Str.{bytes_eq}
 use Rattle.std.proofs.lemmas.Slice.Eq.{bytes_eq-Decides}
 use Rattle.host_edge.specs.Views.{SinkView, Known, AppendsPart}
 use Rattle.host_edge.proofs.Tells.{Known-same}
-use Rattle.fault_counts.specs.Counts.{Rose}
+use Rattle.faults.specs.Counts.{Rose}
 use Rattle.dram_model.specs.declared.dram.Counters.{Counters}
 use Rattle.dram_model.specs.Chip.{Event, all_counted}
 use Rattle.dram_model.proofs.EventLaws.{Grew-none}

@@ -2,7 +2,7 @@
 -- proof.
 use Rattle.std.specs.Prelude.{◌≡◌, ℕ, ◌≤◌, true, false, [], ◌∷◌, ◌++◌, Result, Ok, Err}
 use Rattle.host_edge.specs.Views.{SinkView, Known, AppendsPart}
-use Rattle.fault_counts.specs.Counts.{Rose}
+use Rattle.faults.specs.Counts.{Rose}
 use Rattle.dram_model.specs.View.{ChipView, Kept}
 use Rattle.dram_model.specs.Elements.{FailedBelow}
 use Rattle.bbop_isa.specs.Forms.{Instruction}

@@ -4,7 +4,7 @@ ghost use Rattle.std.specs.Prelude.{◌≡◌, ◌+◌, ◌*◌, ◌<◌, ◌≤
 ghost use Rattle.std.specs.Prelude.{map, OnOk, OnErr, vec_len, vec_capacity};
 ghost use Rattle.std.specs.List.{range_with_len};
 ghost use Rattle.dram_model.specs.Chip.{Grew, row_in};
-ghost use Rattle.fault_counts.specs.Counts.{Rose};
+ghost use Rattle.faults.specs.Counts.{Rose};
 ghost use Rattle.dram_model.specs.View.{HasBegun, Kept, DidRead};
 ghost use Rattle.object_alloc.specs.Bytes.{bytes_of_bits};
 ghost use Rattle.object_alloc.specs.Spelling.{rows_bytes};

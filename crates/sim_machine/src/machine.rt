@@ -4,7 +4,7 @@ ghost use Rattle.std.specs.Prelude.{◌≡◌, ℕ, ◌*◌, ◌<◌, ◌≤◌,
 ghost use Rattle.std.specs.Prelude.{true, false, Ok, OnOk, OnErr, ◌⊎◌, IfOk, IsErrOf};
 ghost use Rattle.std.specs.List.{AllByRecursion};
 ghost use Rattle.host_edge.specs.Views.{Known, AppendsPart};
-ghost use Rattle.fault_counts.specs.Counts.{Rose};
+ghost use Rattle.faults.specs.Counts.{Rose};
 ghost use Rattle.dram_model.specs.Chip.{Grew};
 ghost use Rattle.dram_model.specs.View.{HasBegun, Kept, Did, DidRead, NotBegun};
 ghost use Rattle.dram_model.specs.Elements.{FailedBelow};

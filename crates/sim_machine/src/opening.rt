@@ -4,7 +4,7 @@ ghost use Rattle.std.specs.Prelude.{◌≡◌, ◌+◌, ◌*◌, ◌<◌, ◌≤
 ghost use Rattle.std.specs.Prelude.{IfOk, IsErrOf, true, vec_capacity};
 ghost use Rattle.dram_model.specs.Geometry.{is_geometry};
 ghost use Rattle.dram_model.specs.Chip.{Event};
-ghost use Rattle.fault_counts.specs.Counts.{Rose};
+ghost use Rattle.faults.specs.Counts.{Rose};
 ghost use Rattle.dram_model.specs.View.{HasBegun, Kept, Did, NotBegun};
 ghost use Rattle.object_alloc.specs.Bytes.{bits_of_bytes};
 ghost use Rattle.object_alloc.specs.Reading.{rows_size};

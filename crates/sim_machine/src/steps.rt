@@ -2,7 +2,7 @@
 
 ghost use Rattle.std.specs.Prelude.{◌≡◌, ℕ, ◌≤◌, true, length, IfOk, OnOk, OnErr};
 ghost use Rattle.host_edge.specs.Views.{Known};
-ghost use Rattle.fault_counts.specs.Counts.{Rose};
+ghost use Rattle.faults.specs.Counts.{Rose};
 ghost use Rattle.dram_model.specs.View.{HasBegun, Kept, Did};
 ghost use Rattle.dram_model.specs.Elements.{FailedBelow};
 ghost use Rattle.bbop_isa.specs.Forms.{view_of, Init, Print, Free};

@@ -12,7 +12,7 @@ use Rattle.dram_model.specs.declared.geometry.Geometry.{Geometry}
 use Rattle.dram_model.specs.Chip.{Banks, Event, Grew, Log, LogIs}
 use Rattle.dram_model.specs.View.{ChipView, DidRead, with_reads, Kept}
 use Rattle.dram_model.proofs.EventLaws.{LogIs-more}
-use Rattle.fault_counts.specs.Counts.{Rose}
+use Rattle.faults.specs.Counts.{Rose}
 use Rattle.host_edge.specs.Views.{FolderView, SinkView, Known, AppendsPart}
 use Rattle.object_alloc.specs.declared.fault.ImageNo.{ImageNo}
 use Rattle.object_alloc.specs.declared.fault.ImageNo.TheVariants as no

@@ -7,7 +7,7 @@ use Rattle.std.specs.Prelude.{◌⊎◌, Result, Ok, Err, IfErr, ◌==◌, ◌&&
 use Rattle.std.specs.Result.{result_ok}
 use Rattle.std.proofs.lemmas.Bool.{eqb-true, eq-eqb}
 use Rattle.std.proofs.lemmas.List.Sums.{sum_by-cons}
-use Rattle.fault_counts.specs.Counts.{Rose}
+use Rattle.faults.specs.Counts.{Rose}
 use Rattle.host_edge.specs.Views.{AppendsPart, Files, FolderView, SinkView, Known}
 use Rattle.dram_model.specs.declared.address.Command.TheVariants.{Ap, Aap}
 use Rattle.dram_model.specs.declared.dram.Counters.{Counters}

@@ -17,7 +17,7 @@ use Rattle.dram_model.proofs.EventLaws.{LogIs-more}
 use Rattle.dram_model.specs.Elements.{segments_of}
 use Rattle.dram_model.specs.Geometry.{is_geometry, is_between, fits_size}
 use Rattle.dram_model.specs.View.{ChipView, Kept, with_reads}
-use Rattle.fault_counts.specs.Counts.{Rose}
+use Rattle.faults.specs.Counts.{Rose}
 use Rattle.host_edge.specs.Views.{Files, FolderView, SinkView, Known}
 use Rattle.object_alloc.specs.Listed.{Named}
 use Rattle.object_alloc.specs.Reading.{image_in, Found as ImageIs}

@@ -14,9 +14,9 @@ use Rattle.cli_model.proofs.Giving.{IsAnswered, plan_gives}
 use Rattle.cli_model.proofs.Owed.{GoodFor}
 use Rattle.cli_model.proofs.Running.{runs_answered, runs_made, runs_stopped, runs_then}
 use Rattle.cli_model.proofs.Statuses.{OfSteps}
-use Rattle.soak_case.specs.declared.cases.Case.{Case}
-use Rattle.soak_case.specs.Cases.{soak_cases, source_kinds}
-use Rattle.soak_case.specs.Words.{after_all}
+use Rattle.soak_job.specs.declared.cases.Case.{Case}
+use Rattle.soak_job.specs.Cases.{soak_cases, source_kinds}
+use Rattle.soak_job.specs.Words.{after_all}
 use Rattle.soak_job.specs.Steps.{cases_steps, soak_steps}
 use Rattle.soak_job.specs.Done.{SoakGoes, SoakLeft}
 use Rattle.soak_job.specs.declared.job.SoakNo.{SoakNo}

@@ -6,7 +6,7 @@ use mathlib.Core.Path.{fun_ext}
 use Rattle.std.proofs.lemmas.Slice.Eq.{bytes_eq-Decides}
 use Rattle.dram_model.specs.View.{ChipView}
 use Rattle.host_edge.specs.Views.{Files, FolderView, SinkView, Known, NoCountFalls}
-use Rattle.fault_counts.specs.Counts.{Rose}
+use Rattle.faults.specs.Counts.{Rose}
 use Rattle.host_edge.specs.Views.{KeepsOthers, HasBytes, AppendsPart}
 use Rattle.cli_model.specs.World.{World, world, with_file}
 use Rattle.cli_model.specs.Steps.{Take, Use, Store, Put, ReadsOnly, CannotWrite, PutFailed, Done}

@@ -4,7 +4,7 @@ use Rattle.std.proofs.Common.{Some, None, refl, sym, ◌∙◌, ap, subst, inl, 
 use Rattle.std.proofs.Common.{append-nil, append_assoc, add_assoc}
 use Rattle.std.specs.Prelude.{Result, Ok, Err, count_by}
 use Rattle.std.specs.List.{AllByRecursion}
-use Rattle.fault_counts.specs.Counts.{Rose}
+use Rattle.faults.specs.Counts.{Rose}
 use Rattle.host_edge.specs.Views.{AppendsPart, FolderView, SinkView, Known}
 use Rattle.dram_model.specs.declared.dram.Counters.{Counters}
 use Rattle.dram_model.specs.declared.geometry.Geometry.{Geometry}

@@ -6,7 +6,7 @@ use Rattle.cli_model.specs.World.{World}
 use Rattle.cli_model.specs.Stands.{sent_by}
 use Rattle.cli_model.specs.Plan.{Answers, Makes, Plan, Then}
 use Rattle.cli_model.specs.Runs.{EndsBy}
-use Rattle.soak_case.specs.Cases.{soak_cases}
+use Rattle.soak_job.specs.Cases.{soak_cases}
 use Rattle.soak_job.specs.Steps.{AreProgramsOf, soak_steps}
 use Rattle.soak_job.specs.Done.{SoakLeft}
 

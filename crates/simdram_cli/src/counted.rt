@@ -2,7 +2,7 @@
 
 ghost use Rattle.std.specs.Prelude.{◌≡◌, ◌≤◌, ◌++◌, codes, decimal, OnOk, OnErr};
 ghost use Rattle.host_edge.specs.Views.{Known, AppendsPart};
-ghost use Rattle.fault_counts.specs.Counts.{Rose};
+ghost use Rattle.faults.specs.Counts.{Rose};
 
 use crate::stop::put_three;
 use host_edge::{Failed, Sink};

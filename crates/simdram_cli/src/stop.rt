@@ -2,7 +2,7 @@
 
 ghost use Rattle.std.specs.Prelude.{OnOk, OnErr, ◌≡◌, ◌≤◌, ◌++◌, codes, decimal};
 ghost use Rattle.host_edge.specs.Views.{Known, AppendsPart};
-ghost use Rattle.fault_counts.specs.Counts.{Rose};
+ghost use Rattle.faults.specs.Counts.{Rose};
 ghost use Rattle.cli_model.specs.Status.{reason_status, reason_line};
 ghost use Rattle.simdram_cli.specs.Inputs.{kind_word, ops_refusal, script_word, script_refusal};
 ghost use Rattle.simdram_cli.specs.Inputs.{image_word, image_refusal};

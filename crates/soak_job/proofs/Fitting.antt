@@ -7,9 +7,9 @@ use Rattle.op_text.specs.declared.tree.Kind.{Kind}
 use Rattle.op_text.specs.WordOps.{second_kind}
 use Rattle.uprog_code.specs.Shape.{need}
 use Rattle.uprog_code.specs.Texts.{op_shape}
-use Rattle.soak_case.specs.declared.cases.Case.{Case}
-use Rattle.soak_case.specs.Cases.{one_statement, soak_cases}
-use Rattle.soak_case.specs.Layout.{FitsChip, result_rows, source_rows}
+use Rattle.soak_job.specs.declared.cases.Case.{Case}
+use Rattle.soak_job.specs.Cases.{one_statement, soak_cases}
+use Rattle.soak_job.specs.Layout.{FitsChip, result_rows, source_rows}
 use Rattle.soak_job.specs.Done.{CanBeDone}
 
 abbrev is_fit : Case → Bool

@@ -4,20 +4,20 @@ use Rattle.std.proofs.Common.{◌∙◌}
 use Rattle.std.proofs.Common.{inl, inr, arith}
 use Rattle.std.specs.Prelude.{Result, Ok, Err, IfOk}
 use Rattle.host_edge.specs.Views.{FolderView, SinkView, Known, AppendsPart}
-use Rattle.fault_counts.specs.Counts.{Rose}
+use Rattle.faults.specs.Counts.{Rose}
 use Rattle.dram_model.specs.declared.dram.Counters.{Counters}
 use Rattle.dram_model.specs.View.{Began, ChipView, Kept, NotBegun}
 use Rattle.dram_model.proofs.EventLaws.{Did-none, Grew-more, LogIs-more}
 use Rattle.uprog_code.specs.Shape.{Microprogram}
 use Rattle.cli_model.specs.World.{World, world}
 use Rattle.cli_model.specs.Steps.{ReadsOnly, Used, Sent}
-use Rattle.soak_case.specs.declared.cases.Case.{Case}
-use Rattle.soak_case.specs.Cases.{soak_cases, source_kinds}
-use Rattle.soak_case.specs.Words.{after_all}
-use Rattle.soak_case.specs.Layout.{case_events, result_rows, soak_chip, source_rows}
-use Rattle.soak_case.specs.Sums.{case_line, last_line}
-use Rattle.soak_case.specs.Done.{CaseDone, IsFileOf, IsProgramOf, RisesLittle}
-use Rattle.soak_case.proofs.Going.{sum_cons}
+use Rattle.soak_job.specs.declared.cases.Case.{Case}
+use Rattle.soak_job.specs.Cases.{soak_cases, source_kinds}
+use Rattle.soak_job.specs.Words.{after_all}
+use Rattle.soak_job.specs.Layout.{case_events, result_rows, soak_chip, source_rows}
+use Rattle.soak_job.specs.Sums.{case_line, last_line}
+use Rattle.soak_job.specs.OneCase.{CaseDone, IsFileOf, IsProgramOf, RisesLittle}
+use Rattle.soak_job.proofs.Counting.{sum_cons}
 use Rattle.soak_job.specs.declared.job.SoakNo.{SoakNo}
 use Rattle.soak_job.specs.declared.job.SoakNo.TheVariants as no
 use Rattle.soak_job.specs.Steps.{cases_steps}

@@ -7,8 +7,8 @@ use Rattle.uprog_code.specs.Shape.{Microprogram}
 use Rattle.uprog_code.specs.Programs.{IsProgram}
 use Rattle.uprog_code.specs.Texts.{ImplementsAll, text_op}
 use Rattle.uprog_bin.specs.Spelling.{program_bytes}
-use Rattle.soak_case.specs.Cases.{one_statement}
-use Rattle.soak_case.specs.Done.{IsFileOf}
+use Rattle.soak_job.specs.Cases.{one_statement}
+use Rattle.soak_job.specs.OneCase.{IsFileOf}
 
 pub made : (op : WordOp) (ms : List Microprogram) (bytes : List ℕ)
     → ImplementsAll ms (text_op (one_statement op) ∷ []) → IsProgram ms

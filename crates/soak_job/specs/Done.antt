@@ -10,13 +10,13 @@ use Rattle.cli_model.specs.Steps.{Step, Take, Use, Put, End, Done, Stopped, NoMe
 use Rattle.cli_model.specs.Steps.{PutFailed, Goes}
 use Rattle.soak_job.specs.declared.job.SoakNo.{SoakNo}
 use Rattle.soak_job.specs.declared.job.SoakNo.TheVariants as no
-use Rattle.soak_case.specs.declared.cases.Case.{Case}
-use Rattle.soak_case.specs.Cases.{source_kinds, soak_cases}
-use Rattle.soak_case.specs.Words.{after_all}
-use Rattle.soak_case.specs.Layout.{case_events, source_rows, result_rows, soak_chip}
-use Rattle.soak_case.specs.Layout.{FitsChip}
-use Rattle.soak_case.specs.Sums.{case_line, in_both_banks}
-use Rattle.soak_case.specs.Done.{CaseDone, IsProgramOf, RisesLittle}
+use Rattle.soak_job.specs.declared.cases.Case.{Case}
+use Rattle.soak_job.specs.Cases.{source_kinds, soak_cases}
+use Rattle.soak_job.specs.Words.{after_all}
+use Rattle.soak_job.specs.Layout.{case_events, source_rows, result_rows, soak_chip}
+use Rattle.soak_job.specs.Layout.{FitsChip}
+use Rattle.soak_job.specs.Sums.{case_line, in_both_banks}
+use Rattle.soak_job.specs.OneCase.{CaseDone, IsProgramOf, RisesLittle}
 use Rattle.soak_job.specs.Steps.{AreProgramsOf, cases_steps, soak_steps}
 
 -- a number of each case and its program, over all of them

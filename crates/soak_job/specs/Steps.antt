@@ -2,11 +2,11 @@
 use Rattle.std.specs.Prelude.{ℕ, List, [], ◌∷◌, length}
 use Rattle.uprog_code.specs.Shape.{Microprogram}
 use Rattle.cli_model.specs.Steps.{Step, Take, Open, Use, Put}
-use Rattle.soak_case.specs.declared.cases.Case.{Case}
-use Rattle.soak_case.specs.Cases.{soak_cases, source_kinds}
-use Rattle.soak_case.specs.Done.{IsProgramOf}
-use Rattle.soak_case.specs.Words.{after_all}
-use Rattle.soak_case.specs.Sums.{case_line, last_line}
+use Rattle.soak_job.specs.declared.cases.Case.{Case}
+use Rattle.soak_job.specs.Cases.{soak_cases, source_kinds}
+use Rattle.soak_job.specs.OneCase.{IsProgramOf}
+use Rattle.soak_job.specs.Words.{after_all}
+use Rattle.soak_job.specs.Sums.{case_line, last_line}
 
 -- each is a program of its case; those of the last cases may be missing
 abbrev pub AreProgramsOf : List Case → List Microprogram → Type 0

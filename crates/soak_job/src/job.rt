@@ -5,17 +5,20 @@ ghost use Rattle.std.specs.List.{AllByRecursion};
 ghost use Rattle.host_edge.specs.Views.{FolderView};
 ghost use Rattle.dram_model.specs.View.{HasBegun, Kept};
 ghost use Rattle.cli_model.specs.World.{world};
-ghost use Rattle.soak_case.specs.Cases.{soak_cases, source_kinds};
-ghost use Rattle.soak_case.specs.Words.{after_all};
-ghost use Rattle.soak_case.specs.Layout.{soak_chip};
+ghost use Rattle.soak_job.specs.Cases.{soak_cases, source_kinds};
+ghost use Rattle.soak_job.specs.Words.{after_all};
+ghost use Rattle.soak_job.specs.Layout.{soak_chip};
 ghost use Rattle.soak_job.specs.Done.{CanBeDone, CaseWent, CasesGo, SoakGoes};
 
+use crate::cases::{Case, all_cases};
+use crate::chip::do_case;
+use crate::line::{last_line, line_of};
+use crate::load::CHIP;
 use crate::programs::program_file;
 use dram_model::{BeginNo, Dram};
 use host_edge::Sink;
 use rand_xoshiro::SplitMix64;
 use rand_xoshiro::rand_core::SeedableRng;
-use soak_case::{CHIP, Case, all_cases, do_case, last_line, line_of};
 use std::alloc::Global;
 
 /// Why a soak stopped.

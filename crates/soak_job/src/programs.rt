@@ -2,11 +2,11 @@
 
 ghost use Rattle.std.specs.Prelude.{◌≡◌, None, IfOk};
 ghost use Rattle.op_text.specs.WordOps.{second_kind};
-ghost use Rattle.soak_case.specs.Done.{IsFileOf};
+ghost use Rattle.soak_job.specs.OneCase.{IsFileOf};
 
-use no_memory::NoMemory;
+use crate::ops::{one_statement, one_statements_meet};
+use faults::NoMemory;
 use op_text::WordOp;
-use soak_case::{one_statement, one_statements_meet};
 use std::alloc::Global;
 use uprog_bin::encode;
 use uprog_gen::compile_ops;

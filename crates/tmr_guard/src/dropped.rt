@@ -2,7 +2,7 @@
 
 ghost use Rattle.std.specs.Prelude.{◌≡◌, ◌≤◌, ◌++◌, None, OnOk, OnErr, IsOk};
 ghost use Rattle.host_edge.specs.Views.{SinkView, Known, AppendsPart};
-ghost use Rattle.fault_counts.specs.Counts.{Rose};
+ghost use Rattle.faults.specs.Counts.{Rose};
 ghost use Rattle.tmr_guard.specs.Steps.{unseen};
 
 use host_edge::{Failed, Sink};

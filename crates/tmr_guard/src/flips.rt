@@ -4,7 +4,7 @@ ghost use Rattle.std.specs.Prelude.{◌≡◌, ◌+◌, ◌*◌, ◌<◌, ◌≤
 ghost use Rattle.bit_rows.specs.Bits.{bits, bits_of_words};
 ghost use Rattle.dram_model.specs.Chip.{Event, Grew, SameBut, row_in};
 ghost use Rattle.dram_model.specs.View.{HasBegun, Kept};
-ghost use Rattle.fault_counts.specs.Counts.{Rose};
+ghost use Rattle.faults.specs.Counts.{Rose};
 ghost use Rattle.guard_model.specs.Flips.{flipped, with_bit_inverted};
 
 use dram_model::{ChipFault, Dram};

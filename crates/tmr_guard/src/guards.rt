@@ -3,7 +3,7 @@
 ghost use Rattle.std.specs.Prelude.{◌≡◌, ℕ, ◌+◌, ◌*◌, ◌<◌, ◌≤◌, ◌^◌, ◌∷◌, ◌++◌, [], true, false};
 ghost use Rattle.std.specs.Prelude.{None, IfOk, OnOk, OnErr, IsErrOf};
 ghost use Rattle.host_edge.specs.Views.{Known, AppendsPart};
-ghost use Rattle.fault_counts.specs.Counts.{Rose};
+ghost use Rattle.faults.specs.Counts.{Rose};
 ghost use Rattle.text_lex.specs.Spelled.{fits_name};
 ghost use Rattle.dram_model.specs.Chip.{Grew};
 ghost use Rattle.dram_model.specs.View.{HasBegun, Kept, Did, DidRead};

@@ -12,8 +12,8 @@ ghost use Rattle.tmr_guard.specs.declared.texts.LineNo.TheVariants as line_no;
 use bbop_isa::split_line;
 use bit_rows::Value;
 use dram_model::Geometry;
+use faults::{NoMemory, keep};
 use guard_model::{Flip, FlipsFault, FlipsKind};
-use no_memory::{NoMemory, keep};
 use std::alloc::Global;
 use text_lex::{Lexer, TokenKind, items_are_right, number};
 

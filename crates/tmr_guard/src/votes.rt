@@ -5,7 +5,7 @@ ghost use Rattle.std.specs.Prelude.{true};
 ghost use Rattle.dram_model.specs.Events.{row_events};
 ghost use Rattle.dram_model.specs.Geometry.{is_geometry};
 ghost use Rattle.dram_model.specs.View.{HasBegun, Kept, Did};
-ghost use Rattle.fault_counts.specs.Counts.{Rose};
+ghost use Rattle.faults.specs.Counts.{Rose};
 ghost use Rattle.object_alloc.specs.Listed.{IsTable, limit_of};
 ghost use Rattle.object_alloc.specs.Spelling.{IsObject};
 ghost use Rattle.machine_model.specs.Columns.{segments};

@@ -3,7 +3,7 @@ use Rattle.std.proofs.Common.{◌≡◌, ℕ, List, [], ◌∷◌, refl, sym, �
 use Rattle.std.proofs.Common.{ap, subst, inl, inr}
 use Rattle.std.specs.List.{AllByRecursion}
 use Rattle.dram_model.specs.View.{ChipView}
-use Rattle.fault_counts.specs.Counts.{Rose}
+use Rattle.faults.specs.Counts.{Rose}
 use Rattle.cli_model.specs.World.{World}
 use Rattle.cli_model.specs.Waves.{StoppedIn}
 use Rattle.cli_model.specs.Steps.{Step, Load, Take, Store, Open, Use, UseFor, Put, Print, End, Done}

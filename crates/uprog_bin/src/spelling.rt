@@ -13,8 +13,8 @@ ghost use Rattle.uprog_code.specs.Programs.{IsProgram};
 ghost use Rattle.file_fields.specs.Fields.{name_bytes};
 
 use crate::opcode::number_of;
+use faults::NoMemory;
 use file_fields::name_field;
-use no_memory::NoMemory;
 use std::alloc::Global;
 use uprog_code::{EntryCode, Head, Kind, Program, RowRef, Uop};
 

@@ -6,7 +6,7 @@ use Rattle.dram_model.specs.declared.address.Command.{Command}
 use Rattle.dram_model.specs.declared.geometry.Geometry.{Geometry}
 use Rattle.dram_model.specs.Column.{run}
 use Rattle.dram_model.specs.Chip.{Event, after, Grew, SameBut}
-use Rattle.fault_counts.specs.Counts.{Rose}
+use Rattle.faults.specs.Counts.{Rose}
 use Rattle.dram_model.specs.Chip.Event.{Row}
 use Rattle.dram_model.specs.View.{ChipView}
 use Rattle.uprog_code.specs.declared.binding.Binding.{Binding}

@@ -12,9 +12,9 @@ ghost use Rattle.uprog_gen.specs.Parts.{IsPart};
 
 use crate::part::{Made, place_at};
 use crate::plan::{Plan, register};
+use faults::keep;
 use loop_ir::{Body, Count, Place, Space, Sub};
 use mig_graph::NoMemory;
-use no_memory::keep;
 use row_alloc::{BodyCmd, BodyRef};
 use uprog_code::{RowRef, RowSpace, Uop};
 

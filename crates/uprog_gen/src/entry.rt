@@ -14,9 +14,9 @@ ghost use Rattle.uprog_gen.specs.Does.{DoesRounds, Means, AreCheap, joined, tota
 ghost use Rattle.uprog_gen.specs.Programs.{HasParts};
 
 use crate::steps::emit_steps;
+use faults::keep;
 use loop_ir::LoopProgram;
 use mig_graph::NoMemory;
-use no_memory::keep;
 use std::alloc::Global;
 use uprog_code::{EntryCode, Head, Uop};
 

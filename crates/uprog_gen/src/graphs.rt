@@ -7,9 +7,9 @@ ghost use Rattle.uprog_gen.specs.Graphs.{graphed_of, step_graph, last_graph, sta
 ghost use Rattle.uprog_gen.specs.Graphs.{graphs_in};
 
 use crate::ops::Lowered;
+use faults::keep;
 use loop_ir::{LoopProgram, Step};
 use mig_graph::{MigOuts, NoMemory};
-use no_memory::keep;
 use op_text::{Op, Stmt};
 
 fn step_graph(step: Step) -> Option<MigOuts>

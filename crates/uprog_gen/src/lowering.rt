@@ -13,9 +13,9 @@ ghost use Rattle.uprog_gen.specs.Programs.{AreLowered, HaveForms, IsAsWritten, A
 
 use crate::layout::lay_out;
 use crate::ops::Lowered;
+use faults::keep;
 use loop_ir::{LoopProgram, NameMap};
 use mig_graph::NoMemory;
-use no_memory::keep;
 use op_text::{Op, Stmt, WordOp};
 use std::alloc::Global;
 use word_lower::lower_linear;

@@ -10,9 +10,9 @@ ghost use Rattle.loop_ir.specs.Limits.{IsSmall};
 ghost use Rattle.uprog_gen.specs.Made.{part_of};
 
 use crate::plan::{Plan, plan_of};
+use faults::keep;
 use loop_ir::{Body, Place};
 use mig_graph::NoMemory;
-use no_memory::keep;
 use row_alloc::{BodyCmd, OutRow, greedy_body};
 use std::alloc::Global;
 

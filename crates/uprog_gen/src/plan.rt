@@ -8,9 +8,9 @@ ghost use Rattle.loop_ir.specs.declared.ir.Sub.TheVariants.{Zero};
 ghost use Rattle.loop_ir.specs.Costs.{sub_code, same_sub, is_used, is_fixed};
 ghost use Rattle.uprog_gen.specs.Code.{own_subs, sub_in, plan_of, register};
 
+use faults::keep;
 use loop_ir::{Body, Place, Sub};
 use mig_graph::NoMemory;
-use no_memory::keep;
 use std::alloc::Global;
 
 /// The subscripts that registers 3, 4 and 5 hold; one of `Zero` holds none.

@@ -10,9 +10,9 @@ ghost use Rattle.uprog_gen.specs.Emits.{EmitsInner, EmitsSteps};
 use crate::emit::{push_body, push_loop, push_once};
 use crate::part::make_part;
 use crate::plan::is_fixed;
+use faults::keep;
 use loop_ir::{Body, Count, Inner, Step};
 use mig_graph::NoMemory;
-use no_memory::keep;
 use std::alloc::Global;
 use uprog_code::Uop;
 

@@ -15,9 +15,9 @@ use crate::shapes::{BodyForm, Mark, Owner, Owners, ProgramLine};
 use crate::templates::{
     ADDED, AGREED, BOTH, CHOSEN, COMPARED, EITHER, LESSENED, TURNED_BY, UNLIKE, WITHOUT,
 };
+use faults::keep;
 use loop_ir::{Body, LoopProgram, Place, Step};
 use mig_graph::{Lit, NoMemory, Node};
-use no_memory::keep;
 use std::alloc::Global;
 
 /// The place of a mark.

@@ -10,9 +10,9 @@ ghost use Rattle.word_mul.specs.Bodies.{marks, place_on, body_on};
 
 use crate::shapes::{BodyForm, Mark, Owner, Owners};
 use crate::templates::{COMPARED, COUNTED, DIVIDED, EITHER, MULTIPLIED};
+use faults::keep;
 use loop_ir::{Body, Place};
 use mig_graph::{Lit, NoMemory, Node};
-use no_memory::keep;
 use std::alloc::Global;
 use word_lower::literals::{N1, OFF, ON, P1, P3, P4, P5, P6, P7, P8};
 use word_lower::made;

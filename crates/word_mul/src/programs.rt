@@ -9,9 +9,9 @@ ghost use Rattle.word_mul.specs.Bodies.{parts_on, steps_on};
 
 use crate::bodies::body;
 use crate::shapes::{BodyForm, NestPart, NestedProgram, Owners};
+use faults::keep;
 use loop_ir::{Inner, LoopProgram, Step};
 use mig_graph::NoMemory;
-use no_memory::keep;
 use std::alloc::Global;
 
 /// A part of a nest.

@@ -1,8 +1,8 @@
 use Rattle.std.proofs.Common.{◌≡◌, List, sym, subst, ◌∙◌}
 use Rattle.std.specs.List.{AllByRecursion}
 use Rattle.cli_model.specs.World.{world}
-use Rattle.soak_case.specs.declared.cases.Case.{Case}
-use Rattle.soak_case.specs.Cases.{soak_cases}
+use Rattle.soak_job.specs.declared.cases.Case.{Case}
+use Rattle.soak_job.specs.Cases.{soak_cases}
 use Rattle.soak_job.specs.Done.{CanBeDone, CasesGo}
 use Rattle.soak_job.proofs.Fitting.{all_done}
 use Rattle.soak_job.proofs.Going.{soak_goes}

@@ -1,8 +1,8 @@
 use Rattle.std.proofs.Common.{◌≡◌, ◌++◌, ℕ, List, ap, sym, subst, ◌∙◌}
 use Rattle.host_edge.specs.Views.{AppendsPart, Known}
 use Rattle.uprog_code.specs.declared.walker.Counts.{Counts}
-use Rattle.soak_case.specs.Done.{IsFileOf}
-use Rattle.soak_case.specs.Sums.{case_line, in_both_banks, line_of}
+use Rattle.soak_job.specs.OneCase.{IsFileOf}
+use Rattle.soak_job.specs.Sums.{case_line, in_both_banks, line_of}
 use Rattle.soak_job.proofs.Making.{at_err, at_ok}
 use Rattle.soak_job.proofs.Going.{case_went, program_is, stops_at_put, stops_at_use}
 use Rattle.soak_job.proofs.job.soak_case.Goals as goal

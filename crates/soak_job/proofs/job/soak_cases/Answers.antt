@@ -9,8 +9,8 @@ use Rattle.host_edge.specs.Views.{AppendsPart, FolderView, Known}
 use Rattle.dram_model.proofs.EventLaws.{Kept-more}
 use Rattle.cli_model.specs.World.{world}
 use Rattle.op_text.specs.declared.word_ops.WordOp.TheVariants as o
-use Rattle.soak_case.specs.declared.cases.Case.{Case}
-use Rattle.soak_case.specs.Sums.{last_line}
+use Rattle.soak_job.specs.declared.cases.Case.{Case}
+use Rattle.soak_job.specs.Sums.{last_line}
 use Rattle.soak_job.specs.Done.{CanBeDone, CasesGo}
 use Rattle.soak_job.proofs.Making.{at_err, at_ok}
 use Rattle.soak_job.proofs.Going.{all_known, goes_on, not_known, known_last}

@@ -1,6 +1,0 @@
-use Rattle.std.proofs.Common.{◌≡◌, take}
-use Rattle.soak_case.specs.Cases.{source_names}
-use Rattle.soak_case.proofs.ops.names_of.Given as goal
-
-abbrev pub invariant-loop-k : goal.invariant-loop-k
-invariant-loop-k l = l.names.items ≡ take l.k source_names

@@ -1,0 +1,91 @@
+-- A case's program in both banks.
+use Rattle.std.proofs.Common.{◌≡◌, ℕ, zero, suc, ◌*◌, ◌<◌, ◌≤◌, List, [], ◌∷◌, ◌++◌, ap, ◌∙◌}
+use Rattle.std.proofs.Common.{subst, sym, arith, append-nil}
+use Rattle.std.specs.Prelude.{Result, Ok, Err, OnOk, All}
+use Rattle.std.proofs.lemmas.List.Elements.{All-cons, All-nil}
+use Rattle.bit_rows.specs.declared.TheConstants.{WIDTH_MAX}
+use Rattle.dram_model.specs.declared.geometry.Geometry.{Geometry}
+use Rattle.dram_model.specs.Chip.{Event, Grew}
+use Rattle.dram_model.specs.View.{ChipView, Did, DidRead, with_reads}
+use Rattle.dram_model.proofs.EventLaws.{Grew-more}
+use Rattle.uprog_code.specs.declared.binding.Binding.{Binding}
+use Rattle.uprog_code.specs.Fits.{Fits}
+use Rattle.uprog_code.specs.Shape.{Microprogram, Shape}
+use Rattle.uprog_code.specs.Bound.{Bound, bound, bound_of}
+use Rattle.uprog_code.specs.Machine.{HasEnded, trace, issues_of}
+use Rattle.uprog_ctl.specs.Events.{risen}
+use Rattle.uprog_ctl.specs.Waves.{BoundJob, CanRun, job_queues, wave_events}
+use Rattle.wave_model.specs.Schedule.{Queues, queues, in_turn, Ahead}
+use Rattle.soak_job.specs.declared.cases.Case.{Case}
+use Rattle.soak_job.specs.Layout.{FitsChip, case_queues, issues_at, layout, soak_chip, source_rows}
+use Rattle.soak_job.specs.Layout.{result_rows, source_writes}
+use Rattle.soak_job.specs.Cases.{source_kinds}
+use Rattle.soak_job.specs.Sums.{in_both_banks}
+use Rattle.soak_job.specs.OneCase.{CaseDone, IsProgramOf, WritesMore}
+use Rattle.soak_job.proofs.CaseFits.{case_fits}
+
+abbrev job_of : Microprogram → Binding → BoundJob
+job_of m b = record { shape = m.shape; code = m.code; binding = b; banks = 2 }
+
+abbrev queues_at : Microprogram → ℕ → Bound → Queues
+queues_at m n b = queues (record {
+  commands = bound 512 m.shape n b (issues_of (trace m.shape m.code n));
+  banks = 2;
+} ∷ [])
+
+-- the queues of the one job of a case
+pub queues_are : (m : Microprogram) (b : Binding) (c : Case) → b.n ≡ c.n → bound_of b ≡ layout c
+    → job_queues 512 (job_of m b ∷ []) ≡ case_queues c m
+queues_are m b c e f = ap (λ n. queues_at m n (bound_of b)) e ∙ ap (λ l. queues_at m c.n l) f
+
+-- and a chip of its shape can run that job
+pub case_runs : (m : Microprogram) (b : Binding) (c : Case) (g : Geometry) → g ≡ soak_chip
+    → FitsChip c → IsProgramOf c m → b.n ≡ c.n → bound_of b ≡ layout c
+    → All (CanRun g) (job_of m b ∷ [])
+case_runs m b c g chip f is e l =
+    let narrow : c.n ≤ WIDTH_MAX = omega (arith, f.narrow) in
+    let fits : Fits 512 m.shape c.n (layout c) =
+    subst (λ (s : Shape). Fits 512 s c.n (layout c)) (sym is.does.shape) (case_fits c f) in
+    let ends : HasEnded (trace m.shape m.code c.n) =
+    subst (λ (s : Shape). HasEnded (trace s m.code c.n)) (sym is.does.shape)
+    (is.does.code.ends c.n f.some narrow) in
+    let runs : CanRun soak_chip (job_of m b) = record {
+      legal = is.legal.code;
+      some = subst (λ n. 0 < n) (sym e) f.some;
+      narrow = subst (λ n. n ≤ WIDTH_MAX) (sym e) narrow;
+      fits = subst (λ n. Fits 512 m.shape n (bound_of b)) (sym e)
+          (subst (λ (x : Bound). Fits 512 m.shape c.n x) (sym l) fits);
+      ends = subst (λ n. HasEnded (trace m.shape m.code n)) (sym e) ends;
+      banks = omega arith;
+    } in
+    subst (λ (x : Geometry). All (CanRun x) (job_of m b ∷ [])) (sym chip)
+    (All-cons (CanRun soak_chip) (job_of m b) [] runs (All-nil (CanRun soak_chip)))
+
+-- what one bank of it does
+pub own_queue : (m : Microprogram) (c : Case) (bank : ℕ) → bank < 2
+    → case_queues c m bank ≡ bound 512 m.shape c.n (layout c) (issues_at c m)
+own_queue m c zero l = append-nil (bound 512 m.shape c.n (layout c) (issues_at c m))
+own_queue m c (suc zero) l = append-nil (bound 512 m.shape c.n (layout c) (issues_at c m))
+own_queue m c (suc (suc bank)) l = absurd (omega arith)
+
+-- the parts of a case together
+pub case_done : (state : ℕ) (c : Case) (m : Microprogram) (a b d e : ChipView)
+    → Did (source_writes state 0 c.n (source_kinds c.op)) a b
+    → WritesMore (2 * source_rows c) a.counters b.counters
+    → Did (wave_events in_turn 2 Ahead (case_queues c m)) b d
+    → d.counters ≡ risen (in_both_banks c m) b.counters
+    → DidRead (2 * result_rows c) d e → CaseDone state c m a e
+case_done state c m a b d e wrote writes ran counts read =
+    let writes_are : List Event = source_writes state 0 c.n (source_kinds c.op) in
+    let wave : List Event = wave_events in_turn 2 Ahead (case_queues c m) in
+    record {
+      counters = read.counters ∙ ap (with_reads (2 * result_rows c))
+          (counts ∙ ap (risen (in_both_banks c m)) writes);
+      log = subst (Grew a.log e.log) (append-nil (writes_are ++ wave))
+          (Grew-more a.log d.log e.log (writes_are ++ wave) []
+          (Grew-more a.log b.log d.log writes_are wave wrote.log ran.log) read.log);
+    }
+
+pub on_ok : {T E P Q : Type 0} (r : Result T E) → OnOk r P → (P → Q) → OnOk r Q
+on_ok (Ok x) p f = f p
+on_ok (Err e) p f = tt

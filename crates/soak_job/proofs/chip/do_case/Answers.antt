@@ -1,0 +1,70 @@
+use Rattle.std.proofs.Common.{◌≡◌, ◌*◌, ◌%◌, ◌^◌, List, map, sym, ap, ◌∙◌, subst}
+use Rattle.std.specs.Prelude.{sum_by}
+use Rattle.std.specs.List.{range_with_len}
+use Rattle.dram_model.specs.Elements.{below, number}
+use Rattle.dram_model.specs.View.{Did, DidRead}
+use Rattle.op_text.specs.declared.tree.Kind.{Kind}
+use Rattle.uprog_code.specs.Shape.{Microprogram, width}
+use Rattle.uprog_code.specs.Implements.{numbers}
+use Rattle.uprog_code.specs.Texts.{EntryDoes, text_op}
+use Rattle.uprog_bin.specs.Opened.{program_of}
+use Rattle.soak_job.specs.Cases.{one_statement}
+use Rattle.soak_job.specs.Words.{elements, sources_at}
+use Rattle.soak_job.specs.Layout.{bases_from, result_rows, rows_of, source_rows, source_writes}
+use Rattle.soak_job.specs.OneCase.{CaseDone, IsProgramOf, WritesMore}
+use Rattle.soak_job.proofs.Running.{case_done}
+use Rattle.soak_job.proofs.Summing.{sum_is}
+use Rattle.soak_job.proofs.chip.do_case.Goals as goal
+
+pub run_case-requires-clause-does : goal.run_case-requires-clause-does
+run_case-requires-clause-does g c =
+    let f = c.requires.file in
+    subst (IsProgramOf c.args.case) (sym (c.own_entry-entry.ensures.program f.program f.legal f.is))
+    (record { legal = f.legal.entries.0; does = f.does })
+
+pub returns-clause-sum : goal.returns-clause-sum
+returns-clause-sum g c =
+    let case = c.args.case in
+    let f = c.requires.file in
+    let m = program_of c.own_entry-entry.result in
+    let mid = (g.D.Dram.view c.load_sources.new.chip).banks in
+    let last = (g.D.Dram.view c.run_case.new.chip).banks in
+    let same = c.own_entry-entry.ensures.program f.program f.legal f.is in
+    let does : EntryDoes m (text_op (one_statement case.op)) =
+    subst (λ (x : Microprogram). EntryDoes x (text_op (one_statement case.op))) (sym same) f.does in
+    let kinds = c.sources_of-kinds.ensures.kinds in
+    let loaded = subst (λ (ks : List Kind). map (numbers case.n ks (bases_from 0 case.n ks))
+    (below 2 mid) ≡ map (sources_at c.args.generator.now case.n ks) (range_with_len 0 elements))
+    kinds
+    c.in_ok-load_sources.ensures.numbers in
+    let base : c.bases_of-base.result.1 ≡ source_rows case =
+    c.bases_of-base.ensures.end ∙ ap (rows_of case.n) kinds in
+    let rows : c.rows_of.result ≡ result_rows case =
+    c.rows_of.ensures ∙ ap (λ (k : Kind). width k case.n) c.result_of.ensures in
+    c.in_ok-sum.ensures.sum
+    ∙ ap (λ b. sum_by (number b c.rows_of.result) (below 2 last) % 2 ^ 64) base
+    ∙ ap (λ w. sum_by (number (source_rows case) w) (below 2 last) % 2 ^ 64) rows
+    ∙ sum_is c.args.generator.now case m mid last c.requires.fits does loaded
+    c.in_ok-run_case.ensures.alone
+
+pub returns-clause-done : goal.returns-clause-done
+returns-clause-done g c f =
+    let case = c.args.case in
+    let state = c.args.generator.now in
+    let m = program_of c.own_entry-entry.result in
+    let a = g.D.Dram.view c.args.chip.now in
+    let b = g.D.Dram.view c.load_sources.new.chip in
+    let d = g.D.Dram.view c.run_case.new.chip in
+    let e = g.D.Dram.view c.sum_of.new.chip in
+    let same = c.own_entry-entry.ensures.program f.program f.legal f.is in
+    let kinds = c.sources_of-kinds.ensures.kinds in
+    let rows : c.rows_of.result ≡ result_rows case =
+    c.rows_of.ensures ∙ ap (λ (k : Kind). width k case.n) c.result_of.ensures in
+    subst (λ (x : Microprogram). CaseDone state case x a e) same
+    (case_done state case m a b d e
+    (subst (λ (ks : List Kind). Did (source_writes state 0 case.n ks) a b) kinds
+    c.in_ok-load_sources.ensures.did)
+    (subst (λ (ks : List Kind). WritesMore (2 * rows_of case.n ks) a.counters b.counters) kinds
+    c.in_ok-load_sources.ensures.writes)
+    c.in_ok-run_case.ensures.did c.in_ok-run_case.ensures.counters
+    (subst (λ w. DidRead (2 * w) d e) rows c.in_ok-sum.ensures.did))

@@ -1,0 +1,10 @@
+use Rattle.std.proofs.Common.{◌≡◌, ◌+◌, ◌%◌, ◌^◌, sum_by}
+use Rattle.std.specs.List.{range_with_len}
+use Rattle.transpose_unit.specs.Stage.{stage_number}
+use Rattle.soak_job.proofs.sums.add_numbers.Given as goal
+
+-- the sum so far
+abbrev pub invariant-loop-column : goal.invariant-loop-column
+invariant-loop-column l =
+    l.all ≡ (l.fn.sum + sum_by (stage_number 2 l.fn.n l.fn.stage) (range_with_len 0 l.column)) % 2 ^
+    64
