@@ -5,7 +5,7 @@ use Rattle.std.specs.Prelude.{IfSome}
 use Rattle.std.proofs.lemmas.Bool.{lt-ltb, le-ltb}
 use Rattle.host_edge.specs.Views.{Files, Known}
 use Rattle.cli_model.specs.World.{World, with_file}
-use Rattle.cli_model.specs.Steps.{Step, Load, Take, Store, Open, Use, Put, Print}
+use Rattle.cli_model.specs.Steps.{Step, Load, Take, Store, Open, Use, UseFor, Put, Print}
 use Rattle.cli_model.specs.Steps.{Refusal, Reason}
 use Rattle.cli_model.specs.Steps.{CannotRead, TooLong, Refused, NoMemory, CannotWrite, PutFailed}
 use Rattle.cli_model.specs.Steps.{ChipFailed, End, Done, Stopped, Goes, FailsBy, LoadFails}
@@ -95,6 +95,8 @@ step_fails Open steps (Stopped reason) a b files (inr f) e =
     inr (reason, refl, fault_of reason ChipFailed f.0 tt)
 step_fails Use steps (Stopped reason) a b files f e =
     inr (reason, refl, fault_of reason ChipFailed f.0 tt)
+step_fails (UseFor wave) steps (Stopped reason) a b files f e =
+    inr (reason, refl, fault_of reason ChipFailed f.0 tt)
 step_fails (Put bytes) steps (Stopped reason) a b files f e =
     inr (reason, refl, fault_of reason PutFailed f.0 tt)
 step_fails (Print bytes) steps (Stopped reason) a b files (p, inl f) e =
@@ -134,6 +136,9 @@ files_decide (Open ∷ steps) end a b files (inl (mid, (d, g))) e =
     (files_decide steps end mid b files g (ap (λ f. f.holds) d.files ∙ e))
 files_decide (Use ∷ steps) end a b files (inl (mid, (d, g))) e =
     decided_by (Use ∷ steps) steps end files files refl
+    (files_decide steps end mid b files g (ap (λ f. f.holds) d.files ∙ e))
+files_decide (UseFor wave ∷ steps) end a b files (inl (mid, (d, g))) e =
+    decided_by (UseFor wave ∷ steps) steps end files files refl
     (files_decide steps end mid b files g (ap (λ f. f.holds) d.files ∙ e))
 files_decide (Put bytes ∷ steps) end a b files (inl (mid, (d, g))) e =
     decided_by (Put bytes ∷ steps) steps end files files refl

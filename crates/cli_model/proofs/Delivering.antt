@@ -7,7 +7,7 @@ use Rattle.std.proofs.lemmas.Bool.{ltb-false}
 use Rattle.dram_model.specs.View.{ChipView}
 use Rattle.host_edge.specs.Views.{Files, Known}
 use Rattle.cli_model.specs.World.{World, with_file}
-use Rattle.cli_model.specs.Steps.{Step, Load, Take, Store, Open, Use, Put, Print, Refusal}
+use Rattle.cli_model.specs.Steps.{Step, Load, Take, Store, Open, Use, UseFor, Put, Print, Refusal}
 use Rattle.cli_model.specs.Steps.{TooLong, End, Done, Stopped}
 use Rattle.cli_model.specs.Stands.{files_after, sent_by}
 use Rattle.cli_model.specs.Foreseen.{foreseen, load_end, refused_or}
@@ -59,6 +59,7 @@ files_append (Take ∷ xs) ys files = files_append xs ys files
 files_append (Store name bytes ∷ xs) ys files = files_append xs ys (with_file name bytes files)
 files_append (Open ∷ xs) ys files = files_append xs ys files
 files_append (Use ∷ xs) ys files = files_append xs ys files
+files_append (UseFor wave ∷ xs) ys files = files_append xs ys files
 files_append (Put bytes ∷ xs) ys files = files_append xs ys files
 files_append (Print bytes ∷ xs) ys files = files_append xs ys files
 
@@ -70,6 +71,7 @@ sent_append (Take ∷ xs) ys = sent_append xs ys
 sent_append (Store name bytes ∷ xs) ys = sent_append xs ys
 sent_append (Open ∷ xs) ys = sent_append xs ys
 sent_append (Use ∷ xs) ys = sent_append xs ys
+sent_append (UseFor wave ∷ xs) ys = sent_append xs ys
 sent_append (Put bytes ∷ xs) ys =
     ap (λ z. bytes ++ z) (sent_append xs ys) ∙ sym (append_assoc bytes (sent_by xs) (sent_by ys))
 sent_append (Print bytes ∷ xs) ys =
@@ -86,6 +88,7 @@ foreseen_rest (Store name bytes ∷ xs) ys files e =
     foreseen_rest xs ys (with_file name bytes files) e
 foreseen_rest (Open ∷ xs) ys files e = foreseen_rest xs ys files e
 foreseen_rest (Use ∷ xs) ys files e = foreseen_rest xs ys files e
+foreseen_rest (UseFor wave ∷ xs) ys files e = foreseen_rest xs ys files e
 foreseen_rest (Put bytes ∷ xs) ys files e = foreseen_rest xs ys files e
 foreseen_rest (Print bytes ∷ xs) ys files e = foreseen_rest xs ys files e
 

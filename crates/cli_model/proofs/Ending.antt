@@ -5,7 +5,8 @@ use Rattle.std.specs.Prelude.{IfSome}
 use Rattle.host_edge.specs.Views.{Files, Known, AppendsPart, IsPrefix}
 use Rattle.faults.specs.Counts.{Rose, RoseBy}
 use Rattle.cli_model.specs.World.{World}
-use Rattle.cli_model.specs.Steps.{Step, Load, Take, Store, Open, Use, Put, Print, Reason}
+use Rattle.cli_model.specs.Waves.{StoppedIn}
+use Rattle.cli_model.specs.Steps.{Step, Load, Take, Store, Open, Use, UseFor, Put, Print, Reason}
 use Rattle.cli_model.specs.Steps.{CannotRead, TooLong, Refused, NoMemory, CannotWrite, PutFailed}
 use Rattle.cli_model.specs.Steps.{ChipFailed}
 use Rattle.cli_model.specs.Steps.{End, Done, Stopped, Goes, Fails, Unopened}
@@ -41,6 +42,7 @@ fails_causes (Store name bytes) reason a b f = (f.0, f.1.rose)
 fails_causes Open reason a b (inl f) = inl f.0
 fails_causes Open reason a b (inr f) = inr (f.0, f.2)
 fails_causes Use reason a b f = (f.0, f.2)
+fails_causes (UseFor wave) reason a b f = (f.0, f.2, f.3)
 fails_causes (Put bytes) reason a b f = (f.0, f.2)
 fails_causes (Print bytes) reason a b f = f.1
 
@@ -63,19 +65,24 @@ load_causes_around name limit text refusal PutFailed a b c d p q f = f
 load_causes_around name limit text refusal ChipFailed a b c d p q f = f
 
 causes_around : (step : Step) (reason : Reason) (a b c d : World) → CountsOn a b → CountsOn c d
-    → Causes step reason b c → Causes step reason a d
-causes_around (Load name limit text refusal) reason a b c d p q f =
+    → d.chip ≡ c.chip → Causes step reason b c → Causes step reason a d
+causes_around (Load name limit text refusal) reason a b c d p q e f =
     load_causes_around name limit text refusal reason a b c d p q f
-causes_around Take reason a b c d p q f = f
-causes_around (Store name bytes) reason a b c d p q f =
+causes_around Take reason a b c d p q e f = f
+causes_around (Store name bytes) reason a b c d p q e f =
     (f.0, around _ _ _ _ 1 p.files.store_faults f.1 q.files.store_faults)
-causes_around Open reason a b c d p q (inl f) = inl f
-causes_around Open reason a b c d p q (inr f) = inr (f.0, around _ _ _ _ 1 p.chip f.1 q.chip)
-causes_around Use reason a b c d p q f = (f.0, around _ _ _ _ 1 p.chip f.1 q.chip)
-causes_around (Put bytes) reason a b c d p q f = (f.0, around _ _ _ _ 1 p.sink f.1 q.sink)
-causes_around (Print bytes) reason a b c d p q (inl f) =
+causes_around Open reason a b c d p q e (inl f) = inl f
+causes_around Open reason a b c d p q e (inr f) = inr (f.0, around _ _ _ _ 1 p.chip f.1 q.chip)
+causes_around Use reason a b c d p q e f = (f.0, around _ _ _ _ 1 p.chip f.1 q.chip)
+causes_around (UseFor wave) reason a b c d p q e f = (
+  f.0,
+  around _ _ _ _ 1 p.chip f.1 q.chip,
+  subst (λ (v : ChipView). StoppedIn wave v.banks) (sym e) f.2,
+)
+causes_around (Put bytes) reason a b c d p q e f = (f.0, around _ _ _ _ 1 p.sink f.1 q.sink)
+causes_around (Print bytes) reason a b c d p q e (inl f) =
     inl (f.0, around _ _ _ _ 1 p.sink f.1 q.sink)
-causes_around (Print bytes) reason a b c d p q (inr f) =
+causes_around (Print bytes) reason a b c d p q e (inr f) =
     inr (f.0, around _ _ _ _ 1 p.chip f.1 q.chip)
 
 -- what was sent
@@ -229,6 +236,8 @@ stop_sent certain Open reason a b c d t l (inr f) s =
     (reason_line reason, refl, line_sent certain (reason_line reason) a b c d t l f.1.sink s)
 stop_sent certain Use reason a b c d t l f s =
     (reason_line reason, refl, line_sent certain (reason_line reason) a b c d t l f.1.sink s)
+stop_sent certain (UseFor wave) reason a b c d t l f s =
+    (reason_line reason, refl, line_sent certain (reason_line reason) a b c d t l f.1.sink s)
 stop_sent certain (Put bytes) reason a b c d t l f s =
     (bytes, refl, put_sent certain bytes reason a b c d t l f.2 f.1.sent f.0 s)
 stop_sent certain (Print bytes) reason a b c d t l (p, inl f) s = (
@@ -277,6 +286,8 @@ fails_files (Store name bytes) reason a b f = f.1.others
 fails_files Open reason a b (inl f) = known_kept Open _ _ (ap (λ k. k.holds) f.1.files)
 fails_files Open reason a b (inr f) = known_kept Open _ _ (ap (λ k. k.holds) f.1.files)
 fails_files Use reason a b f = known_kept Use _ _ (ap (λ k. k.holds) f.1.files)
+fails_files (UseFor wave) reason a b f =
+    known_kept (UseFor wave) _ _ (ap (λ k. k.holds) f.1.files)
 fails_files (Put bytes) reason a b f = known_kept (Put bytes) _ _ (ap (λ k. k.holds) f.1.files)
 fails_files (Print bytes) reason a b f =
     known_kept (Print bytes) _ _ (ap (λ k. k.holds) f.0.files)
@@ -348,6 +359,8 @@ fails_unopened Open reason a b (inl f) e = f.2
 fails_unopened Open reason a b (inr f) e = let no : ChipFailed ≡ NoMemory = sym f.0 ∙ e in
     absurd (cc)
 fails_unopened Use reason a b f e = let no : ChipFailed ≡ NoMemory = sym f.0 ∙ e in absurd (cc)
+fails_unopened (UseFor wave) reason a b f e =
+    let no : ChipFailed ≡ NoMemory = sym f.0 ∙ e in absurd (cc)
 fails_unopened (Put bytes) reason a b f e = inl f.1.chip
 fails_unopened (Print bytes) reason a b (p, inl f) e =
     let no : PutFailed ≡ NoMemory = sym f.0 ∙ e in absurd (cc)
@@ -388,7 +401,7 @@ stop_ends steps done reason a b c status g says answers =
         place = s.parts;
         answers = answers;
         causes = causes_around s.at reason a s.failing b c s.stands.counts (says_counts _ b c says)
-            (fails_causes s.at reason s.failing b s.fails);
+            says.chip (fails_causes s.at reason s.failing b s.fails);
         sent = stop_sent (sent_by s.front) s.at reason a s.failing b c s.stands.sent
             s.stands.counts.sink s.fails says;
         files = known_left stop _ _ _ _ s.stands.files

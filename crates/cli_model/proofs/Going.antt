@@ -6,7 +6,7 @@ use Rattle.std.specs.List.{list_any}
 use Rattle.host_edge.specs.Views.{Files, FolderView, NoCountFalls, Known}
 use Rattle.faults.specs.Counts.{RoseBy}
 use Rattle.cli_model.specs.World.{World}
-use Rattle.cli_model.specs.Steps.{Step, Load, Take, Store, Open, Use, Put, Print, Reason}
+use Rattle.cli_model.specs.Steps.{Step, Load, Take, Store, Open, Use, UseFor, Put, Print, Reason}
 use Rattle.cli_model.specs.Steps.{CannotRead, TooLong, Refused, NoMemory, CannotWrite, PutFailed}
 use Rattle.cli_model.specs.Steps.{ChipFailed}
 use Rattle.cli_model.specs.Steps.{End, Done, Stopped, Goes, StepDone, Fails, ReadsOnly, Stored}
@@ -114,6 +114,7 @@ does_count Take a b d = reads_count a b d
 does_count (Store name bytes) a b d = stored_count name bytes a b d
 does_count Open a b d = used_count a b d
 does_count Use a b d = used_count a b d
+does_count (UseFor wave) a b d = used_count a b d
 does_count (Put bytes) a b d = sent_count _ a b d
 does_count (Print bytes) a b d = printed_count _ a b d
 
@@ -136,6 +137,7 @@ fails_count (Store name bytes) reason a b f = unstored_count name a b f.1
 fails_count Open reason a b (inl f) = used_count a b f.1
 fails_count Open reason a b (inr f) = used_count a b f.1
 fails_count Use reason a b f = used_count a b f.1
+fails_count (UseFor wave) reason a b f = used_count a b f.1
 fails_count (Put bytes) reason a b f = sent_count _ a b f.1
 fails_count (Print bytes) reason a b f = printed_count _ a b f.0
 
@@ -193,6 +195,11 @@ one_stands Use a b d = record {
   sent = known_unsent _ _ (ap (λ s. s.sent) d.sink);
   counts = does_count Use a b d;
 }
+one_stands (UseFor wave) a b d = record {
+  files = known_same _ _ (ap (λ f. f.holds) d.files);
+  sent = known_unsent _ _ (ap (λ s. s.sent) d.sink);
+  counts = does_count (UseFor wave) a b d;
+}
 one_stands (Put bytes) a b d = record {
   files = known_same _ _ (ap (λ f. f.holds) d.files);
   sent = rw append-nil d.sent;
@@ -211,6 +218,7 @@ files_after-cons Take steps f = refl
 files_after-cons (Store name bytes) steps f = refl
 files_after-cons Open steps f = refl
 files_after-cons Use steps f = refl
+files_after-cons (UseFor wave) steps f = refl
 files_after-cons (Put bytes) steps f = refl
 files_after-cons (Print bytes) steps f = refl
 
@@ -221,6 +229,7 @@ sent_by-cons Take steps = refl
 sent_by-cons (Store name bytes) steps = refl
 sent_by-cons Open steps = refl
 sent_by-cons Use steps = refl
+sent_by-cons (UseFor wave) steps = refl
 sent_by-cons (Put bytes) steps = rw append-nil refl
 sent_by-cons (Print bytes) steps = rw append-nil refl
 
@@ -265,6 +274,7 @@ does_chip Take a b off d = d.chip
 does_chip (Store name bytes) a b off d = d.chip
 does_chip Open a b off d = absurd (cc)
 does_chip Use a b off d = absurd (cc)
+does_chip (UseFor wave) a b off d = absurd (cc)
 does_chip (Put bytes) a b off d = d.chip
 does_chip (Print bytes) a b off d = absurd (cc)
 
@@ -286,6 +296,7 @@ fails_chip Take reason a b off f = f.1.chip
 fails_chip (Store name bytes) reason a b off f = f.1.chip
 fails_chip Open reason a b off f = absurd (cc)
 fails_chip Use reason a b off f = absurd (cc)
+fails_chip (UseFor wave) reason a b off f = absurd (cc)
 fails_chip (Put bytes) reason a b off f = f.1.chip
 fails_chip (Print bytes) reason a b off f = absurd (cc)
 
@@ -297,6 +308,7 @@ first_off Take steps off = (refl, off)
 first_off (Store name bytes) steps off = (refl, off)
 first_off Open steps off = absurd (cc)
 first_off Use steps off = absurd (cc)
+first_off (UseFor wave) steps off = absurd (cc)
 first_off (Put bytes) steps off = (refl, off)
 first_off (Print bytes) steps off = absurd (cc)
 

@@ -8,7 +8,7 @@ use Rattle.host_edge.specs.Views.{Files, FolderView}
 use Rattle.dram_model.specs.View.{ChipView}
 use Rattle.faults.specs.Counts.{Rose}
 use Rattle.cli_model.specs.World.{World, with_file}
-use Rattle.cli_model.specs.Steps.{Step, Load, Take, Store, Open, Use, Put, Print, Refusal}
+use Rattle.cli_model.specs.Steps.{Step, Load, Take, Store, Open, Use, UseFor, Put, Print, Refusal}
 use Rattle.cli_model.specs.Steps.{Reason, CannotRead, TooLong, Refused, NoMemory, CannotWrite}
 use Rattle.cli_model.specs.Steps.{PutFailed, ChipFailed, End, Done, Stopped}
 use Rattle.cli_model.specs.Status.{reason_status}
@@ -43,6 +43,7 @@ step_wants (Store name bytes) reason a b c f n = absurd (n.stores c.1)
 step_wants Open reason a b (inl c) f n = ap reason_status c
 step_wants Open reason a b (inr c) f n = absurd (n.chip c.1)
 step_wants Use reason a b c f n = absurd (n.chip c.1)
+step_wants (UseFor wave) reason a b c f n = absurd (n.chip c.1)
 step_wants (Put bytes) reason a b c f n = absurd (n.puts c.1)
 step_wants (Print bytes) reason a b (inl c) f n = absurd (n.puts c.1)
 step_wants (Print bytes) reason a b (inr c) f n = absurd (n.chip c.1)
@@ -68,6 +69,7 @@ fault_by (Store name bytes) reason a b h c = is_fault reason (CannotWrite name) 
 fault_by Open reason a b h (inl c) = is_fault reason NoMemory c tt
 fault_by Open reason a b h (inr c) = is_fault reason ChipFailed c.0 tt
 fault_by Use reason a b h c = is_fault reason ChipFailed c.0 tt
+fault_by (UseFor wave) reason a b h c = is_fault reason ChipFailed c.0 tt
 fault_by (Put bytes) reason a b h c = is_fault reason PutFailed c.0 tt
 fault_by (Print bytes) reason a b h (inl c) = is_fault reason PutFailed c.0 tt
 fault_by (Print bytes) reason a b h (inr c) = is_fault reason ChipFailed c.0 tt
@@ -118,6 +120,7 @@ none_loaded (Store name bytes ∷ xs) ys files h =
     none_loaded xs ys (with_file name bytes files) h.1
 none_loaded (Open ∷ xs) ys files h = none_loaded xs ys files h.1
 none_loaded (Use ∷ xs) ys files h = none_loaded xs ys files h.1
+none_loaded (UseFor wave ∷ xs) ys files h = none_loaded xs ys files h.1
 none_loaded (Put bytes ∷ xs) ys files h = none_loaded xs ys files h.1
 none_loaded (Print bytes ∷ xs) ys files h = none_loaded xs ys files h.1
 

@@ -2,7 +2,7 @@
 use Rattle.std.specs.Prelude.{◌≡◌, ◌⊎◌, ◌≤◌, ℕ, List, [], ◌∷◌, length, Option, Some, None}
 use Rattle.std.specs.Prelude.{Ok, Err, IfErr}
 use Rattle.host_edge.specs.Views.{Files}
-use Rattle.cli_model.specs.Steps.{Step, Load, Take, Store, Open, Use, Put, Print, Refusal}
+use Rattle.cli_model.specs.Steps.{Step, Load, Take, Store, Open, Use, UseFor, Put, Print, Refusal}
 use Rattle.cli_model.specs.Stands.{files_after}
 use Rattle.cli_model.specs.Plan.{Plan, Loads, Makes, Then, Answers, Refuses}
 use Rattle.cli_model.specs.Faultless.{file_in}
@@ -55,6 +55,7 @@ FirstThen but (Store name bytes ∷ steps) first none =
     ((but ≡ Some name) × FirstThen but steps first none) ⊎ (OfSteps NotTen steps × none)
 FirstThen but (Open ∷ steps) first none = OfSteps NotTen steps × none
 FirstThen but (Use ∷ steps) first none = OfSteps NotTen steps × none
+FirstThen but (UseFor wave ∷ steps) first none = OfSteps NotTen steps × none
 FirstThen but (Put bytes ∷ steps) first none = OfSteps NotTen steps × none
 FirstThen but (Print bytes ∷ steps) first none = OfSteps NotTen steps × none
 

@@ -5,7 +5,7 @@ use Rattle.std.specs.Prelude.{◌≢◌, codes}
 use Rattle.std.specs.List.{list_any}
 use Rattle.host_edge.specs.Views.{Files, Known}
 use Rattle.cli_model.specs.World.{World, with_file}
-use Rattle.cli_model.specs.Steps.{Step, Load, Take, Store, Open, Use, Put, Print, Refusal}
+use Rattle.cli_model.specs.Steps.{Step, Load, Take, Store, Open, Use, UseFor, Put, Print, Refusal}
 use Rattle.cli_model.specs.Steps.{Reason, CannotRead, TooLong, Refused, NoMemory, CannotWrite}
 use Rattle.cli_model.specs.Steps.{PutFailed, ChipFailed, Unopened}
 use Rattle.cli_model.specs.Status.{reason_status, reason_line}
@@ -38,6 +38,7 @@ StepsTake but (Store name bytes ∷ steps) = ((but ≡ Some name) × StepsTake b
     ⊎ NoneTakes steps
 StepsTake but (Open ∷ steps) = NoneTakes steps
 StepsTake but (Use ∷ steps) = NoneTakes steps
+StepsTake but (UseFor wave ∷ steps) = NoneTakes steps
 StepsTake but (Put bytes ∷ steps) = NoneTakes steps
 StepsTake but (Print bytes ∷ steps) = NoneTakes steps
 
@@ -117,6 +118,8 @@ first_early but Open rest reason a b h (inr c) ten =
     absurd (not_ten reason ChipFailed 9 c.0 refl (λ f. cc) ten)
 first_early but Use rest reason a b h c ten =
     absurd (not_ten reason ChipFailed 9 c.0 refl (λ f. cc) ten)
+first_early but (UseFor wave) rest reason a b h c ten =
+    absurd (not_ten reason ChipFailed 9 c.0 refl (λ f. cc) ten)
 first_early but (Put bytes) rest reason a b h c ten =
     absurd (not_ten reason PutFailed 3 c.0 refl (λ f. cc) ten)
 first_early but (Print bytes) rest reason a b h (inl c) ten =
@@ -146,6 +149,8 @@ step_takes (Store name bytes) reason a b h c ten =
     not_ten reason (CannotWrite name) 3 c.0 refl (λ f. cc) ten
 step_takes Open reason a b h c ten = h.1 refl
 step_takes Use reason a b h c ten = not_ten reason ChipFailed 9 c.0 refl (λ f. cc) ten
+step_takes (UseFor wave) reason a b h c ten =
+    not_ten reason ChipFailed 9 c.0 refl (λ f. cc) ten
 step_takes (Put bytes) reason a b h c ten = not_ten reason PutFailed 3 c.0 refl (λ f. cc) ten
 step_takes (Print bytes) reason a b h (inl c) ten =
     not_ten reason PutFailed 3 c.0 refl (λ f. cc) ten
@@ -198,6 +203,8 @@ early but (Store name bytes ∷ front) at rest reason a b (inr h) c ten =
 early but (Open ∷ front) at rest reason a b h c ten =
     absurd (none_takes front at rest reason a b h c ten)
 early but (Use ∷ front) at rest reason a b h c ten =
+    absurd (none_takes front at rest reason a b h c ten)
+early but (UseFor wave ∷ front) at rest reason a b h c ten =
     absurd (none_takes front at rest reason a b h c ten)
 early but (Put bytes ∷ front) at rest reason a b h c ten =
     absurd (none_takes front at rest reason a b h c ten)
@@ -252,6 +259,7 @@ first_append but (Store name bytes ∷ xs) ys F N (inr h) f n =
     inr (of_more NotTen xs ys h.0 (n h.1))
 first_append but (Open ∷ xs) ys F N h f n = of_more NotTen xs ys h.0 (n h.1)
 first_append but (Use ∷ xs) ys F N h f n = of_more NotTen xs ys h.0 (n h.1)
+first_append but (UseFor wave ∷ xs) ys F N h f n = of_more NotTen xs ys h.0 (n h.1)
 first_append but (Put bytes ∷ xs) ys F N h f n = of_more NotTen xs ys h.0 (n h.1)
 first_append but (Print bytes ∷ xs) ys F N h f n = of_more NotTen xs ys h.0 (n h.1)
 
@@ -280,6 +288,7 @@ first_end but (Store name bytes ∷ xs) F N (inl h) = first_end but xs F N h.1
 first_end but (Store name bytes ∷ xs) F N (inr h) = inr h.1
 first_end but (Open ∷ xs) F N h = inr h.1
 first_end but (Use ∷ xs) F N h = inr h.1
+first_end but (UseFor wave ∷ xs) F N h = inr h.1
 first_end but (Put bytes ∷ xs) F N h = inr h.1
 first_end but (Print bytes ∷ xs) F N h = inr h.1
 

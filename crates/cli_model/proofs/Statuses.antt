@@ -5,7 +5,7 @@ use Rattle.std.specs.Prelude.{IfSome, length, nat_lt}
 use Rattle.std.specs.List.{list_any}
 use Rattle.host_edge.specs.Views.{Files}
 use Rattle.cli_model.specs.World.{World, with_file}
-use Rattle.cli_model.specs.Steps.{Step, Load, Take, Store, Open, Use, Put, Print}
+use Rattle.cli_model.specs.Steps.{Step, Load, Take, Store, Open, Use, UseFor, Put, Print}
 use Rattle.cli_model.specs.Steps.{Refusal, Reason}
 use Rattle.cli_model.specs.Steps.{CannotRead, TooLong, Refused, NoMemory, CannotWrite, PutFailed}
 use Rattle.cli_model.specs.Steps.{ChipFailed, End, Stopped}
@@ -25,6 +25,7 @@ OfStep P Take = P 10
 OfStep P (Store name bytes) = P 3
 OfStep P Open = P 9 × P 10
 OfStep P Use = P 9
+OfStep P (UseFor wave) = P 9
 OfStep P (Put bytes) = P 3
 OfStep P (Print bytes) = P 3 × P 9
 
@@ -69,6 +70,7 @@ step_so P (Store name bytes) reason a b h c = reason_so P reason (CannotWrite na
 step_so P Open reason a b h (inl c) = reason_so P reason NoMemory c h.1
 step_so P Open reason a b h (inr c) = reason_so P reason ChipFailed c.0 h.0
 step_so P Use reason a b h c = reason_so P reason ChipFailed c.0 h
+step_so P (UseFor wave) reason a b h c = reason_so P reason ChipFailed c.0 h
 step_so P (Put bytes) reason a b h c = reason_so P reason PutFailed c.0 h
 step_so P (Print bytes) reason a b h (inl c) = reason_so P reason PutFailed c.0 h.0
 step_so P (Print bytes) reason a b h (inr c) = reason_so P reason ChipFailed c.0 h.1
@@ -133,6 +135,7 @@ foreseen_more (Store name bytes ∷ xs) ys files reason e =
     foreseen_more xs ys (with_file name bytes files) reason e
 foreseen_more (Open ∷ xs) ys files reason e = foreseen_more xs ys files reason e
 foreseen_more (Use ∷ xs) ys files reason e = foreseen_more xs ys files reason e
+foreseen_more (UseFor wave ∷ xs) ys files reason e = foreseen_more xs ys files reason e
 foreseen_more (Put bytes ∷ xs) ys files reason e = foreseen_more xs ys files reason e
 foreseen_more (Print bytes ∷ xs) ys files reason e = foreseen_more xs ys files reason e
 

@@ -5,7 +5,8 @@ use Rattle.std.specs.List.{list_any}
 use Rattle.host_edge.specs.Views.{Files, Known, IsPrefix}
 use Rattle.faults.specs.Counts.{Rose, RoseBy}
 use Rattle.cli_model.specs.World.{World}
-use Rattle.cli_model.specs.Steps.{Step, Load, Take, Store, Open, Use, Put, Print, Reason}
+use Rattle.cli_model.specs.Waves.{StoppedIn}
+use Rattle.cli_model.specs.Steps.{Step, Load, Take, Store, Open, Use, UseFor, Put, Print, Reason}
 use Rattle.cli_model.specs.Steps.{CannotRead, TooLong, Refused, NoMemory, CannotWrite, PutFailed}
 use Rattle.cli_model.specs.Steps.{ChipFailed}
 use Rattle.cli_model.specs.Steps.{Done, Stopped, Unopened}
@@ -27,7 +28,7 @@ pub data Ended : Type 0 where
   At : Stop → Ended
 
 -- Why a step fails: a count rose in this call, the text of its file is refused, or memory was
--- wanting
+-- wanting; and of a wave what then stands in the chip
 abbrev pub Causes : Step → Reason → World → World → Type 0
 Causes (Load name limit text refusal) (CannotRead said) old new =
     (said ≡ name) × Rose (old.files.load_faults name) (new.files.load_faults name)
@@ -42,6 +43,8 @@ Causes (Store name bytes) reason old new =
 Causes Open reason old new =
     (reason ≡ NoMemory) ⊎ ((reason ≡ ChipFailed) × Rose old.chip.faults new.chip.faults)
 Causes Use reason old new = (reason ≡ ChipFailed) × Rose old.chip.faults new.chip.faults
+Causes (UseFor wave) reason old new = (reason ≡ ChipFailed)
+    × Rose old.chip.faults new.chip.faults × StoppedIn wave new.chip.banks
 Causes (Put bytes) reason old new =
     (reason ≡ PutFailed) × Rose old.sink.faults new.sink.faults
 Causes (Print bytes) reason old new =
@@ -62,6 +65,7 @@ IsLast Take reason last = last ≡ reason_line reason
 IsLast (Store name bytes) reason last = last ≡ reason_line reason
 IsLast Open reason last = last ≡ reason_line reason
 IsLast Use reason last = last ≡ reason_line reason
+IsLast (UseFor wave) reason last = last ≡ reason_line reason
 IsLast (Put bytes) reason last = last ≡ bytes
 IsLast (Print bytes) reason last = LastOfPrint bytes reason last
 
@@ -84,6 +88,7 @@ IsStoreOf name (Load other limit text refusal) = ⊥
 IsStoreOf name Take = ⊥
 IsStoreOf name Open = ⊥
 IsStoreOf name Use = ⊥
+IsStoreOf name (UseFor wave) = ⊥
 IsStoreOf name (Put bytes) = ⊥
 IsStoreOf name (Print bytes) = ⊥
 
@@ -104,6 +109,7 @@ is_on_chip Take = false
 is_on_chip (Store name bytes) = false
 is_on_chip Open = true
 is_on_chip Use = true
+is_on_chip (UseFor wave) = true
 is_on_chip (Put bytes) = false
 is_on_chip (Print bytes) = true
 

@@ -3,7 +3,7 @@ use Rattle.std.specs.Prelude.{ℕ, nat_lt, List, [], ◌∷◌, length, Option, 
 use Rattle.std.specs.Prelude.{if◌then◌else◌}
 use Rattle.host_edge.specs.Views.{Files}
 use Rattle.cli_model.specs.World.{with_file}
-use Rattle.cli_model.specs.Steps.{Step, Load, Take, Store, Open, Use, Put, Print, Refusal}
+use Rattle.cli_model.specs.Steps.{Step, Load, Take, Store, Open, Use, UseFor, Put, Print, Refusal}
 use Rattle.cli_model.specs.Steps.{CannotRead, TooLong, Refused, End, Done, Stopped}
 
 -- a refused text ends the command; else the rest does
@@ -27,5 +27,6 @@ foreseen (Take ∷ steps) files = foreseen steps files
 foreseen (Store name bytes ∷ steps) files = foreseen steps (with_file name bytes files)
 foreseen (Open ∷ steps) files = foreseen steps files
 foreseen (Use ∷ steps) files = foreseen steps files
+foreseen (UseFor wave ∷ steps) files = foreseen steps files
 foreseen (Put bytes ∷ steps) files = foreseen steps files
 foreseen (Print bytes ∷ steps) files = foreseen steps files

@@ -1,5 +1,6 @@
 -- How a command goes: its steps, how it may end, and what stands then.
 pub mod World
+pub mod Waves
 pub mod Steps
 pub mod Stands
 pub mod Status

@@ -2,7 +2,7 @@
 use Rattle.std.specs.Prelude.{◌≡◌, ℕ, ◌≤◌, List, [], ◌∷◌, ◌++◌}
 use Rattle.host_edge.specs.Views.{Files, NoCountFalls, Known}
 use Rattle.cli_model.specs.World.{World, with_file}
-use Rattle.cli_model.specs.Steps.{Step, Load, Take, Store, Open, Use, Put, Print}
+use Rattle.cli_model.specs.Steps.{Step, Load, Take, Store, Open, Use, UseFor, Put, Print}
 
 -- the files after the stores of these steps
 abbrev pub files_after : List Step → Files → Files
@@ -12,6 +12,7 @@ files_after (Take ∷ steps) files = files_after steps files
 files_after (Store name bytes ∷ steps) files = files_after steps (with_file name bytes files)
 files_after (Open ∷ steps) files = files_after steps files
 files_after (Use ∷ steps) files = files_after steps files
+files_after (UseFor wave ∷ steps) files = files_after steps files
 files_after (Put bytes ∷ steps) files = files_after steps files
 files_after (Print bytes ∷ steps) files = files_after steps files
 
@@ -23,6 +24,7 @@ sent_by (Take ∷ steps) = sent_by steps
 sent_by (Store name bytes ∷ steps) = sent_by steps
 sent_by (Open ∷ steps) = sent_by steps
 sent_by (Use ∷ steps) = sent_by steps
+sent_by (UseFor wave ∷ steps) = sent_by steps
 sent_by (Put bytes ∷ steps) = bytes ++ sent_by steps
 sent_by (Print bytes ∷ steps) = bytes ++ sent_by steps
 

@@ -6,6 +6,7 @@ use Rattle.faults.specs.Counts.{Rose, RoseBy}
 use Rattle.host_edge.specs.Views.{AppendsPart}
 use Rattle.dram_model.specs.View.{ChipView, NotBegun}
 use Rattle.cli_model.specs.World.{World, with_file}
+use Rattle.cli_model.specs.Waves.{ChipWave, StoppedIn}
 
 -- why a text is not accepted: the status, and the line that tells it
 pub record Refusal : Type 0 where
@@ -25,6 +26,8 @@ pub data Step : Type 0 where
   Open : Step
   -- the chip is used
   Use : Step
+  -- it is used for this wave
+  UseFor : ChipWave → Step
   -- these bytes are sent
   Put : List ℕ → Step
   -- these bytes are sent while the chip is read
@@ -100,6 +103,7 @@ StepDone Take old new = ReadsOnly old new
 StepDone (Store name bytes) old new = Stored name bytes old new
 StepDone Open old new = Used old new
 StepDone Use old new = Used old new
+StepDone (UseFor wave) old new = Used old new
 StepDone (Put bytes) old new = Sent (λ before after. after ≡ before ++ bytes) old new
 StepDone (Print bytes) old new = Printed (λ before after. after ≡ before ++ bytes) old new
 
@@ -136,6 +140,8 @@ Fails Open reason old new = ((reason ≡ NoMemory) × Used old new × Unopened o
     ⊎ ((reason ≡ ChipFailed) × Used old new × Rose old.chip.faults new.chip.faults)
 Fails Use reason old new =
     (reason ≡ ChipFailed) × Used old new × Rose old.chip.faults new.chip.faults
+Fails (UseFor wave) reason old new = (reason ≡ ChipFailed) × Used old new
+    × Rose old.chip.faults new.chip.faults × StoppedIn wave new.chip.banks
 Fails (Put bytes) reason old new = (reason ≡ PutFailed) × Sent (AppendsPart bytes) old new
     × Rose old.sink.faults new.sink.faults
 Fails (Print bytes) reason old new = Printed (AppendsPart bytes) old new

@@ -35,7 +35,7 @@ use Rattle.simdram_cli.specs.Inputs.{ops_in}
 use Rattle.simdram_cli.specs.Programs.{prog_in}
 use Rattle.simdram_cli.proofs.Completes.{IsOneOf}
 use Rattle.simdram_cli.proofs.JobPlans.{good_file, ops_refuses, prog_refuses}
-use Rattle.simdram_cli.proofs.Migrating.{prog_is, same_ok}
+use Rattle.simdram_cli.proofs.Migrating.{one_sent, read_from}
 use Rattle.simdram_cli.proofs.OpsPlans.{spells_at}
 use Rattle.simdram_cli.proofs.Planned.{GivesOwn, IsFailing}
 
@@ -152,8 +152,7 @@ ops_told text_of name old new status d =
       is = spells_at (before name) text ops there has;
       files = same;
       sent = subst (λ (bytes : List ℕ). Known (λ x y. y ≡ x ++ bytes) old.sink.sent new.sink.sent)
-          (e ∙ f ∙ ap (λ w. (text_of ops ++ []) ++ w) none
-          ∙ append-nil (text_of ops ++ []) ∙ append-nil (text_of ops)) sent;
+          (one_sent said more last (text_of ops) e f none) sent;
     })
 
 program_told : (name : List ℕ) (account : ProgramAccount) (old new : World) (status : ℕ)
@@ -183,18 +182,16 @@ program_told name account old new status d =
         ),
       ),
     ).
-    let own = same_ok (prog_in text) program file.programs is (prog_is text file) in
+    let own = read_from (before name) text program there is file in
     record {
       program = program;
-      version = file.version;
-      legal = subst IsProgram (sym own) file.is;
-      has = subst (HasVersion file.version) (sym own) file.has;
-      is = there ∙ ap (λ x. Some x) (file.spelled ∙ ap (program_bytes file.version) (sym own));
+      version = own.version;
+      legal = own.legal;
+      has = own.has;
+      is = own.is;
       files = same;
       sent = subst (λ (bytes : List ℕ). Known (λ x y. y ≡ x ++ bytes) old.sink.sent new.sink.sent)
-          (e ∙ f ∙ ap (λ w. (program_text account program ++ []) ++ w) none
-          ∙ append-nil (program_text account program ++ [])
-          ∙ append-nil (program_text account program)) sent;
+          (one_sent said one two (program_text account program) e f none) sent;
     })
 
 pub accounted : (name : List ℕ) (account : Account) (old new : World) (status : ℕ)

@@ -64,7 +64,8 @@ use Rattle.simdram_cli.proofs.OpsPlans.{spells_at}
 use Rattle.simdram_cli.proofs.Guarding.{Apart}
 use Rattle.simdram_cli.proofs.NoWalks.{AllEnd, all_end, no_walks}
 use Rattle.simdram_cli.proofs.Promises.{table_is}
-use Rattle.cli_model.proofs.Files.{at_other, at_own, bytes_differ}
+use Rattle.simdram_cli.proofs.Promised.{kept_other}
+use Rattle.cli_model.proofs.Files.{at_other, at_own}
 
 -- what the steps send and store
 
@@ -331,17 +332,6 @@ in_words t out job after old new status implements d = record {
   mended = mends t out job after old new status implements d;
 }
 
-kept_other : (names : GuardNames) (program : Program) (bytes : List ℕ) (before after : Files)
-    → after ≡ with_file names.out.now bytes (with_file names.prog.now (program_bytes 2 program)
-    before)
-    → (other : List ℕ) → other ≢ names.prog.now → other ≢ names.out.now → after other ≡ before other
-kept_other names program bytes before after e other p o =
-    ap (λ (f : Files). f other) e ∙ at_other other names.out.now bytes
-    (with_file names.prog.now (program_bytes 2 program) before)
-    (bytes_differ other names.out.now o)
-    ∙ at_other other names.prog.now (program_bytes 2 program) before
-    (bytes_differ other names.prog.now p)
-
 -- A guarded run that was done keeps its promises
 pub guard_promised : (names : GuardNames) (old new : World) (status : ℕ) → Apart names
     → IsDelivered (guard_plan names) old new status
@@ -451,5 +441,5 @@ guard_promised names old new status apart d =
       };
       rows = rows;
       words = λ t implements. in_words t out job after old new status implements done;
-      others = kept_other names program (image_at_last job) before after files;
+      others = kept_other names.prog.now out bytes (image_at_last job) before after files;
     })

@@ -3,7 +3,8 @@ use Rattle.std.proofs.Common.{◌≡◌, ◌∙◌, ℕ, List, [], ◌∷◌, �
 use Rattle.std.specs.Prelude.{Result, Ok, Err}
 use Rattle.host_edge.specs.Views.{FolderView}
 use Rattle.cli_model.specs.World.{World}
-use Rattle.cli_model.specs.Steps.{Step, Load, Take, Store, Open, Use, Put, Print, Refusal, Reason}
+use Rattle.cli_model.specs.Steps.{Step, Load, Take, Store, Open, Use, UseFor, Put, Print, Refusal}
+use Rattle.cli_model.specs.Steps.{Reason}
 use Rattle.cli_model.specs.Steps.{CannotRead, TooLong, Refused, NoMemory, CannotWrite, PutFailed}
 use Rattle.cli_model.specs.Steps.{ChipFailed, End, Done, Stopped, Goes, StepDone, Fails}
 use Rattle.cli_model.specs.Plan.{Answers, Loads, Makes, Plan, Refuses, Then, Way, steps_of}
@@ -16,6 +17,7 @@ IsNoStore (Load name limit text refusal) = Unit {0}
 IsNoStore Take = Unit {0}
 IsNoStore Open = Unit {0}
 IsNoStore Use = Unit {0}
+IsNoStore (UseFor wave) = Unit {0}
 IsNoStore (Put bytes) = Unit {0}
 IsNoStore (Print bytes) = Unit {0}
 
@@ -31,6 +33,7 @@ does_keep Take a b n d = d.files
 does_keep (Store name bytes) a b n d = absurd n
 does_keep Open a b n d = ap (λ (f : FolderView). f.holds) d.files
 does_keep Use a b n d = ap (λ (f : FolderView). f.holds) d.files
+does_keep (UseFor wave) a b n d = ap (λ (f : FolderView). f.holds) d.files
 does_keep (Put bytes) a b n d = ap (λ (f : FolderView). f.holds) d.files
 does_keep (Print bytes) a b n d = ap (λ (f : FolderView). f.holds) d.files
 
@@ -54,6 +57,7 @@ fails_keep (Store name bytes) reason a b n f = absurd n
 fails_keep Open reason a b n (inl f) = ap (λ (w : FolderView). w.holds) f.1.files
 fails_keep Open reason a b n (inr f) = ap (λ (w : FolderView). w.holds) f.1.files
 fails_keep Use reason a b n f = ap (λ (w : FolderView). w.holds) f.1.files
+fails_keep (UseFor wave) reason a b n f = ap (λ (w : FolderView). w.holds) f.1.files
 fails_keep (Put bytes) reason a b n f = ap (λ (w : FolderView). w.holds) f.1.files
 fails_keep (Print bytes) reason a b n f = ap (λ (w : FolderView). w.holds) f.0.files
 

@@ -65,8 +65,32 @@ migrate_good names holds good =
     (Then (Put (migrated_line program) ∷ []) (Answers 0 (λ chip. Unit {0}))))) holds good
     (λ u file. (((λ e. cc), tt), (((λ e. cc), tt), refl)))
 
-pub same_ok : (read : Result Program Refusal) (a b : Program) → read ≡ Ok a → read ≡ Ok b → a ≡ b
+same_ok : (read : Result Program Refusal) (a b : Program) → read ≡ Ok a → read ≡ Ok b → a ≡ b
 same_ok read a b e f = cc
+
+-- a program that was read is legal, and its file spells it in some version
+pub record ReadFrom (file : Option (List ℕ)) (program : Program) : Type 0 where
+  pub version : ℕ
+  pub legal : IsProgram program
+  pub has : HasVersion version program
+  pub is : file ≡ Some (program_bytes version program)
+
+pub read_from : (file : Option (List ℕ)) (text : List ℕ) (program : Program) → file ≡ Some text
+    → prog_in text ≡ Ok program → IsProgramFile text → ReadFrom file program
+read_from file text program there is f =
+    let own = same_ok (prog_in text) program f.programs is (prog_is text f) in
+    record {
+      version = f.version;
+      legal = subst IsProgram (sym own) f.is;
+      has = subst (HasVersion f.version) (sym own) f.has;
+      is = there ∙ ap (λ x. Some x) (f.spelled ∙ ap (program_bytes f.version) (sym own));
+    }
+
+-- one text was sent, before and after nothing
+pub one_sent : (said one two text : List ℕ) → said ≡ one → one ≡ (text ++ []) ++ two → two ≡ []
+    → said ≡ text
+one_sent said one two text e f none =
+    e ∙ f ∙ ap (λ w. (text ++ []) ++ w) none ∙ append-nil (text ++ []) ∙ append-nil text
 
 pub migrated : (names : MigrateNames) (old new : World) (status : ℕ)
     → IsDelivered (migrate_plan names) old new status
@@ -94,19 +118,18 @@ migrated names old new status d =
         ),
       ),
     ).
-    let own = same_ok (prog_in text) program file.programs is (prog_is text file) in
+    let own = read_from (before names.old.now) text program there is file in
     record {
       program = program;
-      version = file.version;
-      legal = subst IsProgram (sym own) file.is;
-      has = subst (HasVersion file.version) (sym own) file.has;
-      was = there ∙ ap (λ x. Some x) (file.spelled ∙ ap (program_bytes file.version) (sym own));
+      version = own.version;
+      legal = own.legal;
+      has = own.has;
+      was = own.is;
       is = ap (λ (x : Files). x names.new.now) same
           ∙ at_own names.new.now (program_bytes 2 program) before;
       others = λ other apart. ap (λ (x : Files). x other) same
           ∙ at_other other names.new.now (program_bytes 2 program) before
           (bytes_differ other names.new.now apart);
       sent = subst (λ (bytes : List ℕ). Known (λ x y. y ≡ x ++ bytes) old.sink.sent new.sink.sent)
-          (e ∙ f ∙ ap (λ w. (migrated_line program ++ []) ++ w) none
-          ∙ append-nil (migrated_line program ++ []) ∙ append-nil (migrated_line program)) sent;
+          (one_sent said one two (migrated_line program) e f none) sent;
     })

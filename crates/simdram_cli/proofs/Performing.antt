@@ -102,11 +102,11 @@ module _ (program : Program) (script : List Instruction) (i : Image) (shape : Ge
 
 -- the lines are those of the job
 pub lines_are : (program : Program) (script : List Instruction) (i : Image) (shape : Geometry)
-    (p : Program) (table : List Named) (banks : Banks) (end : End) (a b : World)
-    → shape ≡ i.geometry → p ≡ program → table ≡ i.table → banks ≡ opened i
-    → Goes (pieces_steps shape (routines_in p) table banks 1 (pieces script)) end a b
+    (p : Program) (turn : Turn) (table : List Named) (banks : Banks) (end : End) (a b : World)
+    → shape ≡ i.geometry → p ≡ program → turn ≡ Ahead → table ≡ i.table → banks ≡ opened i
+    → Goes (pieces_steps shape (routines_in p) turn table banks 1 (pieces script)) end a b
     → Goes (script_steps program script i) end a b
-lines_are program script i shape p table banks end a b e f t s g = rw (e, f, t, s) at g
+lines_are program script i shape p turn table banks end a b e f o t s g = rw (e, f, o, t, s) at g
 
 -- a run that stopped at the opening, in the script, or went on to its end
 pub stopped_open : (name : List ℕ) (program : Program) (script : List Instruction) (i : Image)

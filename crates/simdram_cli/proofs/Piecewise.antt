@@ -25,7 +25,8 @@ use Rattle.machine_model.specs.Agrees.{IsPlain}
 use Rattle.machine_model.specs.Routines.{Routines}
 use Rattle.machine_model.specs.Script.{is_bbop, banks_at_end, table_at_end}
 use Rattle.machine_model.specs.Pieces.{AreBbops, Piece, Wave, Alone, IsPiece, instrs_in, pieces}
-use Rattle.machine_model.specs.Pieces.{wave_size}
+use Rattle.wave_model.specs.Schedule.{Turn}
+use Rattle.machine_model.specs.Pieces.{turn_after, wave_size}
 use Rattle.machine_model.specs.Report.{Said, said_by, said_in_rows, line, lines}
 use Rattle.machine_model.specs.Steps.{banks_after, table_after}
 use Rattle.machine_model.proofs.Cut.{alone_cut, wave_cut, wave_is_piece}
@@ -142,22 +143,27 @@ front_is script some =
     ∙ sym whole ∙ (pieces_are_script script).1
 
 -- one piece's steps, and then the others'
-pub goes_piece : (g : Geometry) (o : Routines) (table next_table : List Named)
-    (banks next : Banks) (number : ℕ) (piece : Piece) (rest : List Piece) (end : End)
-    (a b w : World) → next_table ≡ table_at_end g o table (instrs_in piece)
+pub goes_piece : (g : Geometry) (o : Routines) (turn next_turn : Turn)
+    (table next_table : List Named) (banks next : Banks) (number : ℕ) (piece : Piece)
+    (rest : List Piece) (end : End)
+    (a b w : World) → next_turn ≡ turn_after g o turn table piece
+    → next_table ≡ table_at_end g o table (instrs_in piece)
     → next ≡ banks_at_end g o table banks (instrs_in piece)
-    → Goes (piece_steps g o table banks number piece) Done a b
-    → Goes (pieces_steps g o next_table next (number + length (instrs_in piece)) rest) end b w
-    → Goes (pieces_steps g o table banks number (piece ∷ rest)) end a w
-goes_piece g o table next_table banks next number piece rest end a b w e f one more =
-    goes_on (piece_steps g o table banks number piece) _ end a b w one (rw (← e, ← f) more)
+    → Goes (piece_steps g o turn table banks number piece) Done a b
+    → Goes (pieces_steps g o next_turn next_table next (number + length (instrs_in piece)) rest) end
+    b w
+    → Goes (pieces_steps g o turn table banks number (piece ∷ rest)) end a w
+goes_piece g o turn next_turn table next_table banks next number piece rest end a b w t e f one
+    more =
+    goes_on (piece_steps g o turn table banks number piece) _ end a b w one
+    (rw (← t, ← e, ← f) more)
 
-pub stops_piece : (g : Geometry) (o : Routines) (table : List Named) (banks : Banks)
+pub stops_piece : (g : Geometry) (o : Routines) (turn : Turn) (table : List Named) (banks : Banks)
     (number : ℕ) (piece : Piece) (rest : List Piece) (reason : Reason) (a b : World)
-    → Goes (piece_steps g o table banks number piece) (Stopped reason) a b
-    → Goes (pieces_steps g o table banks number (piece ∷ rest)) (Stopped reason) a b
-stops_piece g o table banks number piece rest reason a b one =
-    stops (piece_steps g o table banks number piece) _ reason a b one
+    → Goes (piece_steps g o turn table banks number piece) (Stopped reason) a b
+    → Goes (pieces_steps g o turn table banks number (piece ∷ rest)) (Stopped reason) a b
+stops_piece g o turn table banks number piece rest reason a b one =
+    stops (piece_steps g o turn table banks number piece) _ reason a b one
 
 -- reads beside events
 
@@ -229,12 +235,12 @@ sent_instr : (prints : Bool) (bytes : List ℕ) → sent_by (instr_steps prints 
 sent_instr true bytes = append-nil bytes
 sent_instr false bytes = append-nil bytes
 
-sent_piece : (g : Geometry) (o : Routines) (table : List Named) (banks : Banks) (number : ℕ)
-    (piece : Piece) → sent_by (piece_steps g o table banks number piece)
+sent_piece : (g : Geometry) (o : Routines) (turn : Turn) (table : List Named) (banks : Banks)
+    (number : ℕ) (piece : Piece) → sent_by (piece_steps g o turn table banks number piece)
     ≡ lines number (said_in_rows g o table banks (instrs_in piece))
-sent_piece g o table banks number (Wave wave) =
+sent_piece g o turn table banks number (Wave wave) =
     sent_lines number (said_in_rows g o table banks wave)
-sent_piece g o table banks number (Alone instr) =
+sent_piece g o turn table banks number (Alone instr) =
     let bytes = line number (said_by g o table banks instr) in
     sent_instr (is_print instr) bytes ∙ sym (append-nil bytes)
 
@@ -244,22 +250,25 @@ said_count g o table banks [] = refl
 said_count g o table banks (instr ∷ script) = ap suc (said_count g o (table_after g o table instr)
     (banks_after g o table banks instr) script)
 
-sent_pieces : (g : Geometry) (o : Routines) (table : List Named) (banks : Banks) (number : ℕ)
-    (pieces : List Piece) → sent_by (pieces_steps g o table banks number pieces)
+sent_pieces : (g : Geometry) (o : Routines) (turn : Turn) (table : List Named) (banks : Banks)
+    (number : ℕ) (pieces : List Piece)
+    → sent_by (pieces_steps g o turn table banks number pieces)
     ≡ lines number (said_in_rows g o table banks (flat_map instrs_in pieces))
-sent_pieces g o table banks number [] = refl
-sent_pieces g o table banks number (piece ∷ rest) =
+sent_pieces g o turn table banks number [] = refl
+sent_pieces g o turn table banks number (piece ∷ rest) =
     let front = instrs_in piece in
     let others = flat_map instrs_in rest in
     let said = said_in_rows g o table banks front in
     let after_table = table_at_end g o table front in
     let after_banks = banks_at_end g o table banks front in
-    sent_append (piece_steps g o table banks number piece)
-    (pieces_steps g o after_table after_banks (number + length front) rest)
-    ∙ ap (λ w. w ++ sent_by (pieces_steps g o after_table after_banks (number + length front) rest))
-    (sent_piece g o table banks number piece)
+    let next = turn_after g o turn table piece in
+    sent_append (piece_steps g o turn table banks number piece)
+    (pieces_steps g o next after_table after_banks (number + length front) rest)
+    ∙ ap (λ w. w
+    ++ sent_by (pieces_steps g o next after_table after_banks (number + length front) rest))
+    (sent_piece g o turn table banks number piece)
     ∙ ap (λ w. lines number said ++ w)
-    (sent_pieces g o after_table after_banks (number + length front) rest)
+    (sent_pieces g o next after_table after_banks (number + length front) rest)
     ∙ ap (λ (n : ℕ). lines number said
     ++ lines (number + n) (said_in_rows g o after_table after_banks others))
     (sym (said_count g o table banks front))
@@ -267,10 +276,10 @@ sent_pieces g o table banks number (piece ∷ rest) =
     ∙ ap (lines number) (sym ((scripts_go_on g o table front others).said banks))
 
 -- the steps of a script send its lines
-pub sent_script : (g : Geometry) (o : Routines) (table : List Named) (banks : Banks)
-    (script : List Instruction) → sent_by (pieces_steps g o table banks 1 (pieces script))
+pub sent_script : (g : Geometry) (o : Routines) (turn : Turn) (table : List Named) (banks : Banks)
+    (script : List Instruction) → sent_by (pieces_steps g o turn table banks 1 (pieces script))
     ≡ lines 1 (said_in_rows g o table banks script)
-sent_script g o table banks script =
-    sent_pieces g o table banks 1 (pieces script)
+sent_script g o turn table banks script =
+    sent_pieces g o turn table banks 1 (pieces script)
     ∙ ap (λ (s : List Instruction). lines 1 (said_in_rows g o table banks s))
     (pieces_are_script script).1

@@ -150,18 +150,19 @@ module _ (g : Geometry) (p : Program) (turn next_turn : Turn) (table next_table 
 
   pub goes_goes : (number taken : ℕ) (files : FolderView) (s t : SinkView) (end : End) (w : World)
       → taken ≡ length (instrs_in (next_piece rest)) → Holds g table
-      → Goes (piece_steps g (routines_in p) table a.banks (number + 1) (next_piece rest)) Done
+      → Goes (piece_steps g (routines_in p) turn table a.banks (number + 1) (next_piece rest)) Done
       (world files s a) (world files t b)
-      → Goes (pieces_steps g (routines_in p) next_table b.banks
+      → Goes (pieces_steps g (routines_in p) next_turn next_table b.banks
       (number + taken + 1) (pieces others)) end (world files t b) w
-      → Goes (pieces_steps g (routines_in p) table a.banks (number + 1) (pieces rest)) end
+      → Goes (pieces_steps g (routines_in p) turn table a.banks (number + 1) (pieces rest)) end
       (world files s a) w
   goes_goes number taken files s t end w size holds one more =
       let place : number + taken + 1 ≡ number + 1 + length (instrs_in (next_piece rest)) =
       omega (arith, size) in
-      rw pieces_are (goes_piece g (routines_in p) table next_table a.banks b.banks (number + 1)
-      (next_piece rest) (pieces others) end (world files s a) (world files t b) w step.table_is
-      (banks_are holds) one (rw place at more))
+      rw pieces_are (goes_piece g (routines_in p) turn next_turn table next_table a.banks b.banks
+      (number + 1)
+      (next_piece rest) (pieces others) end (world files s a) (world files t b) w step.turn_is
+      step.table_is (banks_are holds) one (rw place at more))
 
 -- counters that rise further
 pub rises_more : (n m all : ℕ) (a b c : Counters) → RisesAtMost n a b → RisesAtMost m b c

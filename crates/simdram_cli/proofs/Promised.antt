@@ -9,20 +9,19 @@ use Rattle.dram_model.specs.View.{ChipView}
 use Rattle.host_edge.specs.Views.{Files}
 use Rattle.object_alloc.specs.Listed.{Named}
 use Rattle.object_alloc.specs.Spelling.{IsImage}
-use Rattle.uprog_bin.specs.Spelling.{program_bytes}
 use Rattle.uprog_code.specs.Texts.{TextOp, ImplementsAll}
 use Rattle.bbop_isa.specs.Forms.{Instruction}
 use Rattle.machine_model.specs.Agrees.{IsPlain}
 use Rattle.machine_model.specs.Routines.{Program, Routines, routines_in}
 use Rattle.machine_model.specs.Opened.{Image, opened}
-use Rattle.machine_model.specs.Pieces.{Piece, Wave, Alone, instrs_in, pieces}
+use Rattle.wave_model.specs.Schedule.{Turn, Ahead}
+use Rattle.machine_model.specs.Pieces.{Piece, Wave, Alone, instrs_in, pieces, turn_after}
 use Rattle.machine_model.specs.Report.{Said, line, lines, said_by, said_in_rows, total_line}
 use Rattle.machine_model.specs.Script.{banks_at_end, table_at_end}
 use Rattle.cli_model.specs.World.{with_file}
 use Rattle.cli_model.specs.Steps.{Store, Use, Put}
 use Rattle.cli_model.specs.Stands.{files_after, sent_by}
 use Rattle.sim_machine.specs.Machine.{is_print}
-use Rattle.simdram_cli.specs.declared.words.RunNames.{RunNames}
 use Rattle.simdram_cli.specs.Job.{done_status, image_by, instr_steps}
 use Rattle.simdram_cli.specs.Job.{piece_steps, pieces_steps, put_lines, refused_by, said_in}
 use Rattle.simdram_cli.specs.Job.{script_steps, tally_by, work_steps}
@@ -47,23 +46,25 @@ instr_files : (prints : Bool) (bytes : List ℕ) (f : Files)
 instr_files true bytes f = refl
 instr_files false bytes f = refl
 
-piece_files : (g : Geometry) (o : Routines) (table : List Named) (banks : Banks) (number : ℕ)
-    (piece : Piece) (f : Files) → files_after (piece_steps g o table banks number piece) f ≡ f
-piece_files g o table banks number (Wave wave) f =
+piece_files : (g : Geometry) (o : Routines) (turn : Turn) (table : List Named) (banks : Banks)
+    (number : ℕ) (piece : Piece) (f : Files)
+    → files_after (piece_steps g o turn table banks number piece) f ≡ f
+piece_files g o turn table banks number (Wave wave) f =
     lines_files number (said_in_rows g o table banks wave) f
-piece_files g o table banks number (Alone instr) f =
+piece_files g o turn table banks number (Alone instr) f =
     instr_files (is_print instr) (line number (said_by g o table banks instr)) f
 
-pub pieces_files : (g : Geometry) (o : Routines) (table : List Named) (banks : Banks) (number : ℕ)
-    (pieces : List Piece) (f : Files)
-    → files_after (pieces_steps g o table banks number pieces) f ≡ f
-pieces_files g o table banks number [] f = refl
-pieces_files g o table banks number (piece ∷ rest) f =
-    let others = pieces_steps g o (table_at_end g o table (instrs_in piece))
+pub pieces_files : (g : Geometry) (o : Routines) (turn : Turn) (table : List Named) (banks : Banks)
+    (number : ℕ) (pieces : List Piece) (f : Files)
+    → files_after (pieces_steps g o turn table banks number pieces) f ≡ f
+pieces_files g o turn table banks number [] f = refl
+pieces_files g o turn table banks number (piece ∷ rest) f =
+    let next = turn_after g o turn table piece in
+    let others = pieces_steps g o next (table_at_end g o table (instrs_in piece))
     (banks_at_end g o table banks (instrs_in piece)) (number + length (instrs_in piece)) rest in
-    files_append (piece_steps g o table banks number piece) others f
-    ∙ ap (files_after others) (piece_files g o table banks number piece f)
-    ∙ pieces_files g o (table_at_end g o table (instrs_in piece))
+    files_append (piece_steps g o turn table banks number piece) others f
+    ∙ ap (files_after others) (piece_files g o turn table banks number piece f)
+    ∙ pieces_files g o next (table_at_end g o table (instrs_in piece))
     (banks_at_end g o table banks (instrs_in piece)) (number + length (instrs_in piece)) rest f
 
 pub work_files : (out : List ℕ) (program : Program) (script : List Instruction) (i : Image)
@@ -73,7 +74,7 @@ work_files out program script i f =
     let last = Use ∷ Store out (image_by program script i)
     ∷ Put (total_line (tally_by program script i) (refused_by program script i)) ∷ [] in
     files_append (script_steps program script i) last f
-    ∙ ap (files_after last) (pieces_files i.geometry (routines_in program) i.table (opened i) 1
+    ∙ ap (files_after last) (pieces_files i.geometry (routines_in program) Ahead i.table (opened i) 1
     (pieces script) f)
 
 pub work_sent : (out : List ℕ) (program : Program) (script : List Instruction) (i : Image)
@@ -83,20 +84,18 @@ work_sent out program script i =
     let total = total_line (tally_by program script i) (refused_by program script i) in
     sent_append (script_steps program script i) (Use ∷ Store out (image_by program script i)
     ∷ Put total ∷ [])
-    ∙ ap (λ w. w ++ (total ++ [])) (sent_script i.geometry (routines_in program) i.table
+    ∙ ap (λ w. w ++ (total ++ [])) (sent_script i.geometry (routines_in program) Ahead i.table
     (opened i) script)
     ∙ ap (λ w. lines 1 (said_in program script i) ++ w) (append-nil total)
 
-pub kept_other : (names : RunNames) (program : Program) (bytes : List ℕ) (before after : Files)
-    → after ≡ with_file names.out.now bytes (with_file names.prog.now (program_bytes 2 program)
-    before)
-    → (other : List ℕ) → other ≢ names.prog.now → other ≢ names.out.now → after other ≡ before other
-kept_other names program bytes before after e other p o =
-    ap (λ (f : Files). f other) e ∙ at_other other names.out.now bytes
-    (with_file names.prog.now (program_bytes 2 program) before)
-    (bytes_differ other names.out.now o)
-    ∙ at_other other names.prog.now (program_bytes 2 program) before
-    (bytes_differ other names.prog.now p)
+-- two files were stored, and no other
+pub kept_other : (prog out file bytes : List ℕ) (before after : Files)
+    → after ≡ with_file out bytes (with_file prog file before)
+    → (other : List ℕ) → other ≢ prog → other ≢ out → after other ≡ before other
+kept_other prog out file bytes before after e other p o =
+    ap (λ (f : Files). f other) e
+    ∙ at_other other out bytes (with_file prog file before) (bytes_differ other out o)
+    ∙ at_other other prog file before (bytes_differ other prog p)
 
 -- what stands after a job that is done, whatever its program does
 pub record RowsDone (script : List Instruction) (i : Image) (program : Program) (chip : ChipView)

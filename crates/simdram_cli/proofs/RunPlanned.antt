@@ -165,5 +165,5 @@ run_promised names old new status apart d =
       report_sent = subst (λ (w : List ℕ). Known (λ x y. y ≡ x ++ w) old.sink.sent new.sink.sent)
           (report_is t script i program new.chip refused done) told;
       replies_exact = replies_exact t script i program new.chip refused status done answers;
-      others = kept_other names program (image_by program script i) before after files;
+      others = kept_other names.prog.now out bytes (image_by program script i) before after files;
     })

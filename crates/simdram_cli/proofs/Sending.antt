@@ -11,6 +11,7 @@ use Rattle.dram_model.specs.Chip.{Banks, Event, all_counted}
 use Rattle.dram_model.specs.View.{ChipView, Did, with_reads}
 use Rattle.object_alloc.specs.Listed.{Named}
 use Rattle.bbop_isa.specs.Forms.{Instruction}
+use Rattle.wave_model.specs.Schedule.{Turn}
 use Rattle.machine_model.specs.Routines.{Routines}
 use Rattle.machine_model.specs.Pieces.{AreBbops, Wave}
 use Rattle.machine_model.specs.Report.{Said, Answered, line, lines, said_in_rows}
@@ -21,9 +22,10 @@ use Rattle.object_steps.specs.declared.fault.StepFault.{StepFault}
 use Rattle.object_steps.specs.declared.fault.StepFault.TheVariants as step_fault
 use Rattle.sim_machine.specs.Steps.{DidAndRead}
 use Rattle.cli_model.specs.World.{world}
-use Rattle.cli_model.specs.Steps.{Step, Use, Put, Print, Goes, Printed, PutFailed, ChipFailed, Done}
-use Rattle.cli_model.specs.Steps.{Stopped}
-use Rattle.simdram_cli.specs.Job.{put_lines, instr_steps, piece_steps}
+use Rattle.cli_model.specs.Waves.{ChipWave, StoppedIn}
+use Rattle.cli_model.specs.Steps.{Step, Use, UseFor, Put, Print, Goes, Printed, PutFailed}
+use Rattle.cli_model.specs.Steps.{ChipFailed, Done, Stopped}
+use Rattle.simdram_cli.specs.Job.{put_lines, instr_steps, piece_steps, wave_on}
 use Rattle.simdram_cli.specs.Stops.{fault_reason}
 use Rattle.simdram_cli.proofs.Stores.{used, sent, line_done, line_unput}
 
@@ -173,21 +175,22 @@ print_unread bytes files s t a b known l m rose =
 
 -- a wave
 
-pub wave_done : (number : ℕ) (said : Said) (rest : List Said) (files : FolderView)
+pub wave_done : (wave : ChipWave) (number : ℕ) (said : Said) (rest : List Said) (files : FolderView)
     (s t : SinkView) (a b : ChipView) → a.faults ≤ b.faults
     → Known (λ before after. after ≡ before ++ lines number (said ∷ rest)) s.sent t.sent
     → s.faults ≤ t.faults
-    → Goes (Use ∷ put_lines number (said ∷ rest)) Done (world files s a) (world files t b)
-wave_done number said rest files s t a b m known l =
+    → Goes (UseFor wave ∷ put_lines number (said ∷ rest)) Done (world files s a) (world files t b)
+wave_done wave number said rest files s t a b m known l =
     inl (world files s b, (used files s a b m, lines_sent number said rest files s t b known l))
 
-pub wave_unput : (number : ℕ) (said : Said) (rest : List Said) (files : FolderView)
+pub wave_unput : (wave : ChipWave) (number : ℕ) (said : Said) (rest : List Said)
+    (files : FolderView)
     (s t : SinkView) (a b : ChipView) → a.faults ≤ b.faults
     → Known (AppendsPart (lines number (said ∷ rest))) s.sent t.sent
     → s.faults ≤ t.faults → Rose s.faults t.faults
-    → Goes (Use ∷ put_lines number (said ∷ rest)) (Stopped PutFailed) (world files s a)
+    → Goes (UseFor wave ∷ put_lines number (said ∷ rest)) (Stopped PutFailed) (world files s a)
     (world files t b)
-wave_unput number said rest files s t a b m known l rose =
+wave_unput wave number said rest files s t a b m known l rose =
     inl (world files s b, (used files s a b m, lines_cut number said rest files s t b known l rose))
 
 -- the chip failed, and nothing was sent
@@ -197,6 +200,15 @@ pub unused : (steps : List Step) (files : FolderView) (s t : SinkView) (a b : Ch
 unused steps files s t a b m rose e =
     subst (λ (x : SinkView). Goes (Use ∷ steps) (Stopped ChipFailed) (world files s a)
     (world files x b)) (sym e) (inr (refl, used files s a b m, rose))
+
+-- and of a wave what then stands
+unwaved : (wave : ChipWave) (steps : List Step) (files : FolderView) (s t : SinkView)
+    (a b : ChipView) → a.faults ≤ b.faults → Rose a.faults b.faults → StoppedIn wave b.banks
+    → t ≡ s
+    → Goes (UseFor wave ∷ steps) (Stopped ChipFailed) (world files s a) (world files t b)
+unwaved wave steps files s t a b m rose stopped e =
+    subst (λ (x : SinkView). Goes (UseFor wave ∷ steps) (Stopped ChipFailed) (world files s a)
+    (world files x b)) (sym e) (inr (refl, used files s a b m, rose, stopped))
 
 -- one instruction's line
 pub instr_done : (prints : Bool) (bytes : List ℕ) (files : FolderView) (s t : SinkView)
@@ -241,62 +253,68 @@ wave_said g o table banks wave bbops =
     let w = waves_are_answered g o table wave bbops in
     w.said banks ∙ ap (map Answered) w.answers
 
-answers_sent : (g : Geometry) (o : Routines) (table : List Named) (number : ℕ)
+answers_sent : (on : ChipWave) (g : Geometry) (o : Routines) (table : List Named) (number : ℕ)
     (wave : List Instruction) (files : FolderView) (s t : SinkView) (a b : ChipView)
     → 0 < length wave
     → Known (λ before after. after ≡ before ++ lines number (answers_of g o table wave)) s.sent
     t.sent → s.faults ≤ t.faults → a.faults ≤ b.faults
-    → Goes (Use ∷ put_lines number (answers_of g o table wave)) Done (world files s a)
+    → Goes (UseFor on ∷ put_lines number (answers_of g o table wave)) Done (world files s a)
     (world files t b)
-answers_sent g o table number [] files s t a b some known l m = absurd (omega (arith, some))
-answers_sent g o table number (instr ∷ wave) files s t a b some known l m =
-    wave_done number (Answered (reply_to g o table instr)) (answers_of g o table wave) files s t a b
-    m known l
+answers_sent on g o table number [] files s t a b some known l m = absurd (omega (arith, some))
+answers_sent on g o table number (instr ∷ wave) files s t a b some known l m =
+    wave_done on number (Answered (reply_to g o table instr)) (answers_of g o table wave) files s t
+    a b m known l
 
-pub wave_sent : (g : Geometry) (o : Routines) (table : List Named) (banks : Banks) (number : ℕ)
-    (wave : List Instruction) (files : FolderView) (s t : SinkView) (a b : ChipView)
+pub wave_sent : (g : Geometry) (o : Routines) (turn : Turn) (table : List Named) (banks : Banks)
+    (number : ℕ) (wave : List Instruction) (files : FolderView) (s t : SinkView) (a b : ChipView)
     → AreBbops wave → 0 < length wave
     → Known (λ before after. after ≡ before ++ lines number (answers_of g o table wave)) s.sent
     t.sent → s.faults ≤ t.faults → a.faults ≤ b.faults
-    → Goes (piece_steps g o table banks number (Wave wave)) Done (world files s a)
+    → Goes (piece_steps g o turn table banks number (Wave wave)) Done (world files s a)
     (world files t b)
-wave_sent g o table banks number wave files s t a b bbops some known l m =
+wave_sent g o turn table banks number wave files s t a b bbops some known l m =
     rw (wave_said g o table banks wave bbops)
-    (answers_sent g o table number wave files s t a b some known l m)
+    (answers_sent (wave_on g o turn table banks wave) g o table number wave files s t a b some known
+    l m)
 
 -- what is known where a wave was not done
-pub record WaveFailed (fault : StepFault) (bytes : List ℕ) (s t : SinkView) (a b : ChipView)
-    : Type 0 where
+pub record WaveFailed (fault : StepFault) (wave : ChipWave) (bytes : List ℕ) (s t : SinkView)
+    (a b : ChipView) : Type 0 where
   pub sink : s.faults ≤ t.faults
   pub chip : a.faults ≤ b.faults
   pub chip_rose : fault ≡ step_fault.ChipFault → Rose a.faults b.faults
+  pub stopped : fault ≡ step_fault.ChipFault → StoppedIn wave b.banks
   pub unsent : fault ≡ step_fault.ChipFault → t ≡ s
   pub sink_rose : fault ≡ step_fault.WriteFault → Rose s.faults t.faults
   pub part : fault ≡ step_fault.WriteFault → Known (AppendsPart bytes) s.sent t.sent
 
-answers_cut : (fault : StepFault) (g : Geometry) (o : Routines) (table : List Named) (number : ℕ)
-    (wave : List Instruction) (files : FolderView) (s t : SinkView) (a b : ChipView)
+answers_cut : (fault : StepFault) (on : ChipWave) (g : Geometry) (o : Routines)
+    (table : List Named) (number : ℕ) (wave : List Instruction) (files : FolderView)
+    (s t : SinkView) (a b : ChipView)
     → 0 < length wave
-    → WaveFailed fault (lines number (answers_of g o table wave)) s t a b
-    → Goes (Use ∷ put_lines number (answers_of g o table wave)) (Stopped (fault_reason fault))
+    → WaveFailed fault on (lines number (answers_of g o table wave)) s t a b
+    → Goes (UseFor on ∷ put_lines number (answers_of g o table wave)) (Stopped (fault_reason fault))
     (world files s a) (world files t b)
-answers_cut fault g o table number [] files s t a b some f = absurd (omega (arith, some))
-answers_cut step_fault.ChipFault g o table number (instr ∷ wave) files s t a b some f =
-    unused (put_lines number (answers_of g o table (instr ∷ wave))) files s t a b f.chip
-    (f.chip_rose refl) (f.unsent refl)
-answers_cut step_fault.WriteFault g o table number (instr ∷ wave) files s t a b some f =
-    wave_unput number (Answered (reply_to g o table instr)) (answers_of g o table wave) files s t a
+answers_cut fault on g o table number [] files s t a b some f = absurd (omega (arith, some))
+answers_cut step_fault.ChipFault on g o table number (instr ∷ wave) files s t a b some f =
+    unwaved on (put_lines number (answers_of g o table (instr ∷ wave))) files s t a b f.chip
+    (f.chip_rose refl) (f.stopped refl) (f.unsent refl)
+answers_cut step_fault.WriteFault on g o table number (instr ∷ wave) files s t a b some f =
+    wave_unput on number (Answered (reply_to g o table instr)) (answers_of g o table wave) files s t a
     b f.chip (f.part refl) f.sink (f.sink_rose refl)
 
-pub wave_failed : (fault : StepFault) (g : Geometry) (o : Routines) (table : List Named)
-    (banks : Banks) (number : ℕ) (wave : List Instruction) (files : FolderView) (s t : SinkView)
+pub wave_failed : (fault : StepFault) (g : Geometry) (o : Routines) (turn : Turn)
+    (table : List Named) (banks : Banks) (number : ℕ) (wave : List Instruction)
+    (files : FolderView) (s t : SinkView)
     (a b : ChipView) → AreBbops wave → 0 < length wave
-    → WaveFailed fault (lines number (answers_of g o table wave)) s t a b
-    → Goes (piece_steps g o table banks number (Wave wave)) (Stopped (fault_reason fault))
+    → WaveFailed fault (wave_on g o turn table banks wave)
+    (lines number (answers_of g o table wave)) s t a b
+    → Goes (piece_steps g o turn table banks number (Wave wave)) (Stopped (fault_reason fault))
     (world files s a) (world files t b)
-wave_failed fault g o table banks number wave files s t a b bbops some f =
+wave_failed fault g o turn table banks number wave files s t a b bbops some f =
     rw (wave_said g o table banks wave bbops)
-    (answers_cut fault g o table number wave files s t a b some f)
+    (answers_cut fault (wave_on g o turn table banks wave) g o table number wave files s t a b some
+    f)
 
 -- a wave reads no row
 pub wave_did : (g : Geometry) (o : Routines) (table : List Named) (wave : List Instruction)

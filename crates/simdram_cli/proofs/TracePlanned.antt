@@ -4,6 +4,7 @@ use Rattle.host_edge.specs.Views.{Files}
 use Rattle.bbop_isa.specs.Forms.{Instruction}
 use Rattle.uprog_bin.specs.Opened.{IsProgramFile}
 use Rattle.machine_model.specs.Opened.{Image, opened}
+use Rattle.wave_model.specs.Schedule.{Ahead}
 use Rattle.machine_model.specs.Pieces.{pieces}
 use Rattle.machine_model.specs.Routines.{Program, routines_in}
 use Rattle.cli_model.specs.Faultless.{file_in}
@@ -50,7 +51,8 @@ recorded_of P names program script i three nine =
     (of_more P (script_steps program script i)
     (Use ∷ Store names.out.now (image_by program script i)
     ∷ store_steps (fits program script i) names.trace.now program script i)
-    (pieces_of P i.geometry (routines_in program) i.table (opened i) 1 (pieces script) three nine)
+    (pieces_of P i.geometry (routines_in program) Ahead i.table (opened i) 1 (pieces script) three
+    nine)
     (nine, (three, store_of P (fits program script i) names.trace.now program script i three)))
     (total_of P (fits program script i) program script i three)
 

@@ -17,6 +17,7 @@ use Rattle.bbop_isa.specs.Forms.{Instruction}
 use Rattle.bbop_isa.specs.Script.{script_of}
 use Rattle.machine_model.specs.Opened.{Image, opened, rows_of}
 use Rattle.machine_model.specs.Routines.{Program, routines_in}
+use Rattle.wave_model.specs.Schedule.{Ahead}
 use Rattle.machine_model.specs.Pieces.{pieces}
 use Rattle.machine_model.specs.Report.{lines, total_line}
 use Rattle.machine_model.specs.Script.{table_at_end}
@@ -61,7 +62,7 @@ recorded_files names program script i files all =
     let last = Use ∷ Store names.out.now (image_by program script i)
     ∷ store_steps (fits program script i) names.trace.now program script i in
     files_append (script_steps program script i) last files
-    ∙ ap (files_after last) (pieces_files i.geometry (routines_in program) i.table (opened i) 1
+    ∙ ap (files_after last) (pieces_files i.geometry (routines_in program) Ahead i.table (opened i) 1
     (pieces script) files)
     ∙ ap (λ (b : Bool). files_after (store_steps b names.trace.now program script i)
     (with_file names.out.now (image_by program script i) files)) all
@@ -90,7 +91,7 @@ recorded_sent names program script i =
     let last = Use ∷ Store names.out.now (image_by program script i)
     ∷ store_steps (fits program script i) names.trace.now program script i in
     sent_append (script_steps program script i) last
-    ∙ ap (λ w. w ++ sent_by last) (sent_script i.geometry (routines_in program) i.table
+    ∙ ap (λ w. w ++ sent_by last) (sent_script i.geometry (routines_in program) Ahead i.table
     (opened i) script)
     ∙ ap (λ w. said ++ w) (stores_quiet (fits program script i) names.trace.now program script i)
     ∙ append-nil said

@@ -16,12 +16,13 @@ use Rattle.object_alloc.specs.Listed.{Listing, Named}
 use Rattle.object_alloc.specs.Spelling.{image_bytes, IsImage}
 use Rattle.uprog_code.specs.Programs.{IsProgram}
 use Rattle.bbop_isa.specs.Forms.{Instruction}
-use Rattle.wave_model.specs.Schedule.{Ahead}
+use Rattle.wave_model.specs.Schedule.{Turn, Ahead}
 use Rattle.machine_model.specs.Agrees.{IsPlain}
 use Rattle.machine_model.specs.Laws.{TableFits}
 use Rattle.machine_model.specs.Opened.{Image, opened, rows_of}
 use Rattle.machine_model.specs.Routines.{Program, Routines, routines_in}
 use Rattle.machine_model.specs.Pieces.{Piece, Wave, Alone, instrs_in, pieces, script_events}
+use Rattle.machine_model.specs.Pieces.{turn_after}
 use Rattle.machine_model.specs.Report.{Said, line, said_by, said_in_rows, total_line}
 use Rattle.machine_model.specs.Script.{banks_at_end, is_refused, replies, rows_printed, sum_done}
 use Rattle.machine_model.specs.Script.{table_at_end}
@@ -147,20 +148,22 @@ instr_late : (prints : Bool) (bytes : List ℕ) → AllByRecursion IsLate (instr
 instr_late true bytes = (tt, tt)
 instr_late false bytes = (tt, (tt, tt))
 
-piece_late : (g : Geometry) (o : Routines) (table : List Named) (banks : Banks) (number : ℕ)
-    (piece : Piece) → AllByRecursion IsLate (piece_steps g o table banks number piece)
-piece_late g o table banks number (Wave wave) =
+piece_late : (g : Geometry) (o : Routines) (turn : Turn) (table : List Named) (banks : Banks)
+    (number : ℕ) (piece : Piece)
+    → AllByRecursion IsLate (piece_steps g o turn table banks number piece)
+piece_late g o turn table banks number (Wave wave) =
     (tt, lines_late number (said_in_rows g o table banks wave))
-piece_late g o table banks number (Alone instr) =
+piece_late g o turn table banks number (Alone instr) =
     instr_late (is_print instr) (line number (said_by g o table banks instr))
 
-pub pieces_late : (g : Geometry) (o : Routines) (table : List Named) (banks : Banks) (number : ℕ)
-    (pieces : List Piece) → AllByRecursion IsLate (pieces_steps g o table banks number pieces)
-pieces_late g o table banks number [] = tt
-pieces_late g o table banks number (piece ∷ rest) =
-    late_more (piece_steps g o table banks number piece) _
-    (piece_late g o table banks number piece)
-    (pieces_late g o (table_at_end g o table (instrs_in piece))
+pub pieces_late : (g : Geometry) (o : Routines) (turn : Turn) (table : List Named) (banks : Banks)
+    (number : ℕ) (pieces : List Piece)
+    → AllByRecursion IsLate (pieces_steps g o turn table banks number pieces)
+pieces_late g o turn table banks number [] = tt
+pieces_late g o turn table banks number (piece ∷ rest) =
+    late_more (piece_steps g o turn table banks number piece) _
+    (piece_late g o turn table banks number piece)
+    (pieces_late g o (turn_after g o turn table piece) (table_at_end g o table (instrs_in piece))
     (banks_at_end g o table banks (instrs_in piece)) (number + length (instrs_in piece)) rest)
 
 store_late : (all : Bool) (name : List ℕ) (program : Program) (script : List Instruction)
@@ -172,7 +175,7 @@ all_late : (names : TraceNames) (program : Program) (script : List Instruction) 
     → AllByRecursion IsLate (recorded_steps names program script i)
 all_late names program script i =
     late_more (script_steps program script i) _
-    (pieces_late i.geometry (routines_in program) i.table (opened i) 1 (pieces script))
+    (pieces_late i.geometry (routines_in program) Ahead i.table (opened i) 1 (pieces script))
     (tt, (tt, store_late (fits program script i) names.trace.now program script i))
 
 instr_begins : (prints : Bool) (bytes : List ℕ) (rest : List Step)
@@ -180,24 +183,25 @@ instr_begins : (prints : Bool) (bytes : List ℕ) (rest : List Step)
 instr_begins true bytes rest = refl
 instr_begins false bytes rest = refl
 
-piece_begins : (g : Geometry) (o : Routines) (table : List Named) (banks : Banks) (number : ℕ)
-    (piece : Piece) (rest : List Step)
-    → BeginOnChip (piece_steps g o table banks number piece ++ rest)
-piece_begins g o table banks number (Wave wave) rest = refl
-piece_begins g o table banks number (Alone instr) rest =
+piece_begins : (g : Geometry) (o : Routines) (turn : Turn) (table : List Named) (banks : Banks)
+    (number : ℕ) (piece : Piece) (rest : List Step)
+    → BeginOnChip (piece_steps g o turn table banks number piece ++ rest)
+piece_begins g o turn table banks number (Wave wave) rest = refl
+piece_begins g o turn table banks number (Alone instr) rest =
     instr_begins (is_print instr) (line number (said_by g o table banks instr)) rest
 
 -- the first of them uses the chip: that of a script, or without one the reading of the image
-pieces_begin : (g : Geometry) (o : Routines) (table : List Named) (banks : Banks) (number : ℕ)
-    (pieces : List Piece) (rest : List Step)
-    → BeginOnChip (pieces_steps g o table banks number pieces ++ (Use ∷ rest))
-pieces_begin g o table banks number [] rest = refl
-pieces_begin g o table banks number (piece ∷ pieces) rest =
-    let others = pieces_steps g o (table_at_end g o table (instrs_in piece))
+pieces_begin : (g : Geometry) (o : Routines) (turn : Turn) (table : List Named) (banks : Banks)
+    (number : ℕ) (pieces : List Piece) (rest : List Step)
+    → BeginOnChip (pieces_steps g o turn table banks number pieces ++ (Use ∷ rest))
+pieces_begin g o turn table banks number [] rest = refl
+pieces_begin g o turn table banks number (piece ∷ pieces) rest =
+    let others = pieces_steps g o (turn_after g o turn table piece)
+    (table_at_end g o table (instrs_in piece))
     (banks_at_end g o table banks (instrs_in piece)) (number + length (instrs_in piece)) pieces in
-    subst BeginOnChip (sym (append_assoc (piece_steps g o table banks number piece) others
+    subst BeginOnChip (sym (append_assoc (piece_steps g o turn table banks number piece) others
     (Use ∷ rest)))
-    (piece_begins g o table banks number piece (others ++ (Use ∷ rest)))
+    (piece_begins g o turn table banks number piece (others ++ (Use ∷ rest)))
 
 -- a machine that was opened on an image with a program, and the view of its chip
 pub record Started (program : Program) (i : Image) (m : Machine) (start : ChipView) : Type 0 where
@@ -211,11 +215,11 @@ pub record Started (program : Program) (i : Image) (m : Machine) (start : ChipVi
   pub geometry : start.geometry ≡ i.geometry
 
 own_lines : (program : Program) (script : List Instruction) (i : Image) (shape : Geometry)
-    (p : Program) (table : List Named) (banks : Banks) → shape ≡ i.geometry → p ≡ program
-    → table ≡ i.table → banks ≡ opened i
-    → pieces_steps shape (routines_in p) table banks 1 (pieces script)
+    (p : Program) (turn : Turn) (table : List Named) (banks : Banks) → shape ≡ i.geometry
+    → p ≡ program → turn ≡ Ahead → table ≡ i.table → banks ≡ opened i
+    → pieces_steps shape (routines_in p) turn table banks 1 (pieces script)
     ≡ script_steps program script i
-own_lines program script i shape p table banks e f t s = rw (e, f, t, s) refl
+own_lines program script i shape p turn table banks e f o t s = rw (e, f, o, t, s) refl
 
 own_events : (program : Program) (script : List Instruction) (i : Image) (m : Machine)
     (start : ChipView) → Started program i m start
@@ -261,8 +265,8 @@ first_are : (names : TraceNames) (program : Program) (script : List Instruction)
     ≡ first_steps names program script i
 first_are names program script i m start s =
     ap (λ (xs : List Step). xs ++ (Use ∷ Store names.out.now (image_on m start.banks script) ∷ []))
-    (own_lines program script i (geometry_of m) (program_of m) (table_in m) start.banks s.shape_is
-    s.program_is s.table_is s.banks)
+    (own_lines program script i (geometry_of m) (program_of m) (turn_in m) (table_in m) start.banks
+    s.shape_is s.program_is s.turn_is s.table_is s.banks)
     ∙ ap (λ (bytes : List ℕ). script_steps program script i
     ++ (Use ∷ Store names.out.now bytes ∷ [])) (own_image program script i m start s)
 
@@ -275,30 +279,31 @@ all_are names program script i = append_assoc (script_steps program script i) _ 
 -- what was done over a recorder was done on its chip
 below : (names : TraceNames) (program : Program) (script : List Instruction) (i : Image)
     (end : End) (files : FolderView) (sink : SinkView) (old new from : ChipView) (to : World)
-    → old.faults ≡ from.faults → new.faults ≡ to.chip.faults
+    → old.faults ≡ from.faults → new.faults ≡ to.chip.faults → new.banks ≡ to.chip.banks
     → Goes (recorded_steps names program script i) end (world files sink from) to
     → Goes (recorded_steps names program script i) end (world files sink old)
     (world to.files to.sink new)
-below names program script i end files sink old new from to p q g =
+below names program script i end files sink old new from to p q r g =
     steps_are_below (recorded_steps names program script i) end (world files sink from) to old new
     (all_late names program script i)
-    (pieces_begin i.geometry (routines_in program) i.table (opened i) 1 (pieces script) _) p q g
+    (pieces_begin i.geometry (routines_in program) Ahead i.table (opened i) 1 (pieces script) _) p q
+    r g
 
 -- it stopped before OUT was stored
 pub first_failed : (names : TraceNames) (program : Program) (script : List Instruction) (i : Image)
     (why : Stop) (m : Machine) (files : FolderView) (sink : SinkView) (old new from : ChipView)
     (to : World) → Started program i m from → old.faults ≡ from.faults
-    → new.faults ≡ to.chip.faults
+    → new.faults ≡ to.chip.faults → new.banks ≡ to.chip.banks
     → Goes (steps_on m from.banks script
     ++ (Use ∷ Store names.out.now (image_on m from.banks script) ∷ [])) (Stopped (reason_of why))
     (world files sink from) to
     → ScriptRecorded names program script i (world files sink old) (world to.files to.sink new)
     (Err why)
-first_failed names program script i why m files sink old new from to s p q g =
+first_failed names program script i why m files sink old new from to s p q r g =
     let end = Stopped (reason_of why) in
     let first = subst (λ (xs : List Step). Goes xs end (world files sink from) to)
     (first_are names program script i m from s) g in
-    inl (below names program script i end files sink old new from to p q
+    inl (below names program script i end files sink old new from to p q r
     (subst (λ (xs : List Step). Goes xs end (world files sink from) to)
     (all_are names program script i)
     (stops (first_steps names program script i)
@@ -443,18 +448,18 @@ module _ (names : TraceNames) (script : List Instruction) (m : Machine) (files :
       d.count (has_begun_below last tape what_saw.begun) own_shape
 
   -- all steps over the chip, where the store of the trace goes so
-  went_all : (end : End) (to : World) → last.faults ≡ to.chip.faults
+  went_all : (end : End) (to : World) → last.faults ≡ to.chip.faults → last.banks ≡ to.chip.banks
       → Goes (store_steps (fits program script i) names.trace.now program script i) end
       (world after sent (recorded last tape)) to
       → Goes (recorded_steps names program script i) end (world files sink old)
       (world to.files to.sink last)
-  went_all end to q g =
+  went_all end to q r g =
       let a = world files sink from in
       let mid = world after sent (recorded last tape) in
       let first = subst (λ (xs : List Step). Goes xs Done a mid)
       (first_are names program script i m from begun_at) d.goes in
       below names program script i end files sink old last from to
-      (sym (ap (λ (v : ChipView). v.faults) d.same)) q
+      (sym (ap (λ (v : ChipView). v.faults) d.same)) q r
       (subst (λ (xs : List Step). Goes xs end a to) (all_are names program script i)
       (goes_on (first_steps names program script i)
       (store_steps (fits program script i) names.trace.now program script i) end a mid to first g))
@@ -473,7 +478,7 @@ module _ (names : TraceNames) (script : List Instruction) (m : Machine) (files :
         trace_full,
         ap unless_fits none,
         refl,
-        went_all Done mid refl
+        went_all Done mid refl refl
             (subst (λ (b : Bool). Goes (store_steps b names.trace.now program script i) Done mid
             mid) (sym none) refl),
         (refused, own_left),
@@ -508,7 +513,7 @@ module _ (names : TraceNames) (script : List Instruction) (m : Machine) (files :
       → ScriptRecorded names program script i (world files sink old) (world new sent last) (Err why)
   trace_unstored table file all new why e t spelled is u =
       let s = own_spelled table file all e t spelled in
-      inl (went_all (Stopped (reason_of why)) (world new sent (recorded last tape)) refl
+      inl (went_all (Stopped (reason_of why)) (world new sent (recorded last tape)) refl refl
       (store_goes file (Stopped (reason_of why)) (world after sent (recorded last tape))
       (world new sent (recorded last tape)) s (inr (is, u (recorded last tape)))))
 
@@ -525,7 +530,7 @@ module _ (names : TraceNames) (script : List Instruction) (m : Machine) (files :
       let s = own_spelled table file all e t spelled in
       let end = world new sent (recorded last tape) in (
         ap unless_fits s.all,
-        went_all Done end refl (store_goes file Done (world after sent (recorded last tape)) end s
+        went_all Done end refl refl (store_goes file Done (world after sent (recorded last tape)) end s
             (inl (end, (u (recorded last tape), refl)))),
         own_left,
       )

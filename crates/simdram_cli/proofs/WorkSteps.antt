@@ -6,7 +6,8 @@ use Rattle.machine_model.specs.Opened.{Image, opened}
 use Rattle.dram_model.specs.declared.geometry.Geometry.{Geometry}
 use Rattle.dram_model.specs.Chip.{Banks}
 use Rattle.object_alloc.specs.Listed.{Named}
-use Rattle.machine_model.specs.Pieces.{Piece, Wave, Alone, instrs_in, pieces}
+use Rattle.wave_model.specs.Schedule.{Turn, Ahead}
+use Rattle.machine_model.specs.Pieces.{Piece, Wave, Alone, instrs_in, pieces, turn_after}
 use Rattle.machine_model.specs.Report.{Said, line, said_by, said_in_rows, total_line}
 use Rattle.machine_model.specs.Script.{banks_at_end, table_at_end}
 use Rattle.sim_machine.specs.Machine.{is_print}
@@ -25,21 +26,22 @@ instr_of : (P : ℕ → Type 0) (prints : Bool) (bytes : List ℕ) → P 3 → P
 instr_of P true bytes three nine = ((three, nine), tt)
 instr_of P false bytes three nine = (nine, (three, tt))
 
-piece_of : (P : ℕ → Type 0) (g : Geometry) (o : Routines) (table : List Named) (banks : Banks)
-    (number : ℕ) (piece : Piece) → P 3 → P 9 → OfSteps P (piece_steps g o table banks number piece)
-piece_of P g o table banks number (Wave wave) three nine =
+piece_of : (P : ℕ → Type 0) (g : Geometry) (o : Routines) (turn : Turn) (table : List Named)
+    (banks : Banks) (number : ℕ) (piece : Piece) → P 3 → P 9
+    → OfSteps P (piece_steps g o turn table banks number piece)
+piece_of P g o turn table banks number (Wave wave) three nine =
     (nine, lines_of P number (said_in_rows g o table banks wave) three)
-piece_of P g o table banks number (Alone instr) three nine =
+piece_of P g o turn table banks number (Alone instr) three nine =
     instr_of P (is_print instr) (line number (said_by g o table banks instr)) three nine
 
-pub pieces_of : (P : ℕ → Type 0) (g : Geometry) (o : Routines) (table : List Named) (banks : Banks)
-    (number : ℕ) (pieces : List Piece) → P 3 → P 9
-    → OfSteps P (pieces_steps g o table banks number pieces)
-pieces_of P g o table banks number [] three nine = tt
-pieces_of P g o table banks number (piece ∷ rest) three nine =
-    of_more P (piece_steps g o table banks number piece) _
-    (piece_of P g o table banks number piece three nine)
-    (pieces_of P g o (table_at_end g o table (instrs_in piece))
+pub pieces_of : (P : ℕ → Type 0) (g : Geometry) (o : Routines) (turn : Turn) (table : List Named)
+    (banks : Banks) (number : ℕ) (pieces : List Piece) → P 3 → P 9
+    → OfSteps P (pieces_steps g o turn table banks number pieces)
+pieces_of P g o turn table banks number [] three nine = tt
+pieces_of P g o turn table banks number (piece ∷ rest) three nine =
+    of_more P (piece_steps g o turn table banks number piece) _
+    (piece_of P g o turn table banks number piece three nine)
+    (pieces_of P g o (turn_after g o turn table piece) (table_at_end g o table (instrs_in piece))
     (banks_at_end g o table banks (instrs_in piece)) (number + length (instrs_in piece)) rest three
     nine)
 
@@ -52,7 +54,7 @@ after_open P out program script i three nine =
     of_more P (script_steps program script i)
     (Use ∷ Store out (image_by program script i)
     ∷ Put (total_line (tally_by program script i) (refused_by program script i)) ∷ [])
-    (pieces_of P i.geometry (routines_in program) i.table (opened i) 1 (pieces script) three
+    (pieces_of P i.geometry (routines_in program) Ahead i.table (opened i) 1 (pieces script) three
     nine) (nine, (three, (three, tt)))
 
 pub work_of : (P : ℕ → Type 0) (out : List ℕ) (program : Program) (script : List Instruction)

@@ -13,9 +13,12 @@ use Rattle.machine_model.specs.Routines.{Program, Routines, routines_in}
 use Rattle.machine_model.specs.Opened.{Image, opened, rows_of}
 use Rattle.machine_model.specs.Script.{replies, table_at_end, banks_at_end, sum_of, sum_done}
 use Rattle.machine_model.specs.Script.{rows_loaded, rows_printed, is_refused}
-use Rattle.machine_model.specs.Pieces.{Piece, Wave, Alone, instrs_in, pieces}
+use Rattle.wave_model.specs.Schedule.{Turn, Ahead}
+use Rattle.machine_model.specs.Pieces.{Piece, Wave, Alone, instrs_in, pieces, piece_events}
+use Rattle.machine_model.specs.Pieces.{turn_after, wave_queues}
 use Rattle.machine_model.specs.Report.{Said, said_by, said_in_rows, line, total_line}
-use Rattle.cli_model.specs.Steps.{Step, Store, Open, Use, Put, Print}
+use Rattle.cli_model.specs.Waves.{ChipWave}
+use Rattle.cli_model.specs.Steps.{Step, Store, Open, Use, UseFor, Put, Print}
 use Rattle.sim_machine.specs.Machine.{is_print}
 
 -- what is said of a script by a program
@@ -65,26 +68,38 @@ put_lines number (said ∷ rest) = Put (line number said) ∷ put_lines (number 
 abbrev pub instr_steps : Bool → List ℕ → List Step
 instr_steps prints bytes = if prints then Print bytes ∷ [] else Use ∷ Put bytes ∷ []
 
+-- a wave of bbops under the order in force, on a chip with these banks
+abbrev pub wave_on : Geometry → Routines → Turn → List Named → Banks → List Instruction → ChipWave
+wave_on g operations turn table banks wave = record {
+  count = g.banks;
+  banks = banks;
+  events = piece_events g operations turn table (Wave wave);
+  queue = wave_queues g operations table wave;
+}
+
 -- a wave uses the chip, and then its lines are sent
-abbrev pub piece_steps : Geometry → Routines → List Named → Banks → ℕ → Piece → List Step
-piece_steps g operations table banks number (Wave wave) =
-    Use ∷ put_lines number (said_in_rows g operations table banks wave)
-piece_steps g operations table banks number (Alone instr) =
+abbrev pub piece_steps : Geometry → Routines → Turn → List Named → Banks → ℕ → Piece → List Step
+piece_steps g operations turn table banks number (Wave wave) =
+    UseFor (wave_on g operations turn table banks wave)
+    ∷ put_lines number (said_in_rows g operations table banks wave)
+piece_steps g operations turn table banks number (Alone instr) =
     instr_steps (is_print instr) (line number (said_by g operations table banks instr))
 
 -- the steps of pieces, the first line of which has this number
-abbrev pub pieces_steps : Geometry → Routines → List Named → Banks → ℕ → List Piece → List Step
-pieces_steps g operations table banks number [] = []
-pieces_steps g operations table banks number (piece ∷ rest) =
-    piece_steps g operations table banks number piece
-    ++ pieces_steps g operations (table_at_end g operations table (instrs_in piece))
+abbrev pub pieces_steps : Geometry → Routines → Turn → List Named → Banks → ℕ → List Piece
+    → List Step
+pieces_steps g operations turn table banks number [] = []
+pieces_steps g operations turn table banks number (piece ∷ rest) =
+    piece_steps g operations turn table banks number piece
+    ++ pieces_steps g operations (turn_after g operations turn table piece)
+    (table_at_end g operations table (instrs_in piece))
     (banks_at_end g operations table banks (instrs_in piece)) (number + length (instrs_in piece))
     rest
 
--- a script goes by its pieces
+-- a script goes by its pieces, at first with each pick the first live bank
 abbrev pub script_steps : Program → List Instruction → Image → List Step
 script_steps program script i =
-    pieces_steps i.geometry (routines_in program) i.table (opened i) 1 (pieces script)
+    pieces_steps i.geometry (routines_in program) Ahead i.table (opened i) 1 (pieces script)
 
 -- a script is done on an image, the image after it is stored, and the line of the totals is sent
 abbrev pub work_steps : List ℕ → Program → List Instruction → Image → List Step

@@ -151,7 +151,7 @@ pub record Traced (names : TraceNames) (before after : Files) (old new : World) 
 -- the steps of a script on a machine
 abbrev pub steps_on : Machine → Banks → List Instruction → List Step
 steps_on m banks script =
-    pieces_steps (geometry_of m) (operations_by m) (table_in m) banks 1 (pieces script)
+    pieces_steps (geometry_of m) (operations_by m) (turn_in m) (table_in m) banks 1 (pieces script)
 
 -- the events of a script on a machine
 abbrev pub events_on : Machine → List Instruction → List Event

@@ -92,7 +92,8 @@ fn work_line<'a, D: Dram, S: Sink>(
         (D.view chip.old) (D.view chip.new)) }
     ensures one { IfOk result (λ refused. refused ≤ 1) }
     ensures goes { (files : FolderView) → Goes (piece_steps (geometry_of machine.old)
-        (operations_by machine.old) (table_in machine.old) (D.view chip.old).banks number
+        (operations_by machine.old) (turn_in machine.old) (table_in machine.old)
+        (D.view chip.old).banks number
         (Alone (view_of instr.now))) (end_of result)
         (world files (S.view out.old) (D.view chip.old))
         (world files (S.view out.new) (D.view chip.new)) }
@@ -127,14 +128,15 @@ fn work_wave<'a, D: Dram, S: Sink>(
         (D.view chip.old) (D.view chip.new)) }
     ensures few { IfOk result (λ refused. refused ≤ length wave.now) }
     ensures goes { (files : FolderView) → Goes (piece_steps (geometry_of machine.old)
-        (operations_by machine.old) (table_in machine.old) (D.view chip.old).banks number
+        (operations_by machine.old) (turn_in machine.old) (table_in machine.old)
+        (D.view chip.old).banks number
         (Wave (map view_of wave.now))) (end_of result)
         (world files (S.view out.old) (D.view chip.old))
         (world files (S.view out.new) (D.view chip.new)) }
 {
     match machine.wave(number, wave, chip, out) {
         Ok(replies) => Ok(refusals(replies.as_slice())),
-        Err(fault) => Err(fault_stop(fault)),
+        Err(failed) => Err(fault_stop(failed)),
     }
 }
 
@@ -172,7 +174,8 @@ fn work_piece<'a, D: Dram, S: Sink>(
     ensures done { IfOk result (λ taken. PieceDone (next_piece (map view_of script.now))
         machine.old machine.new (D.view chip.old) (D.view chip.new) taken.refused) }
     ensures goes { (files : FolderView) → Goes (piece_steps (geometry_of machine.old)
-        (operations_by machine.old) (table_in machine.old) (D.view chip.old).banks number
+        (operations_by machine.old) (turn_in machine.old) (table_in machine.old)
+        (D.view chip.old).banks number
         (next_piece (map view_of script.now))) (end_of result)
         (world files (S.view out.old) (D.view chip.old))
         (world files (S.view out.new) (D.view chip.new)) }
@@ -224,7 +227,8 @@ pub(crate) fn work<'a, D: Dram, S: Sink>(
         ≡ count_by is_refused (replies (geometry_of machine.old) (operations_by machine.old)
         (table_in machine.old) (map view_of script.now))) }
     ensures goes { (files : FolderView) → Goes (pieces_steps (geometry_of machine.old)
-        (operations_by machine.old) (table_in machine.old) (D.view chip.old).banks 1
+        (operations_by machine.old) (turn_in machine.old) (table_in machine.old)
+        (D.view chip.old).banks 1
         (pieces (map view_of script.now))) (end_of result)
         (world files (S.view out.old) (D.view chip.old))
         (world files (S.view out.new) (D.view chip.new)) }

@@ -1,11 +1,12 @@
 -- Steps after the opening of a chip, over two views of it.
 use Rattle.std.proofs.Common.{◌≡◌, ℕ, List, [], ◌∷◌, refl, sym, ◌∙◌}
-use Rattle.std.proofs.Common.{ap, inl, inr}
+use Rattle.std.proofs.Common.{ap, subst, inl, inr}
 use Rattle.std.specs.List.{AllByRecursion}
 use Rattle.dram_model.specs.View.{ChipView}
 use Rattle.faults.specs.Counts.{Rose}
 use Rattle.cli_model.specs.World.{World}
-use Rattle.cli_model.specs.Steps.{Step, Load, Take, Store, Open, Use, Put, Print, End, Done}
+use Rattle.cli_model.specs.Waves.{StoppedIn}
+use Rattle.cli_model.specs.Steps.{Step, Load, Take, Store, Open, Use, UseFor, Put, Print, End, Done}
 use Rattle.cli_model.specs.Steps.{Stopped}
 use Rattle.cli_model.specs.Steps.{Goes, Used, Sent, Printed, Stored}
 use Rattle.cli_model.specs.Steps.{Unstored}
@@ -75,111 +76,145 @@ mid_same mid b new q e = counting_same new mid.faults (q ∙ ap (λ (v : ChipVie
 -- steps go on over the other view, which changes where the first one does
 pub goes_below : (steps : List Step) (end : End) (a b : World) (old new : ChipView)
     → AllByRecursion IsLate steps → old.faults ≡ a.chip.faults → new.faults ≡ b.chip.faults
-    → (b.chip ≡ a.chip → new ≡ old)
+    → new.banks ≡ b.chip.banks → (b.chip ≡ a.chip → new ≡ old)
     → Goes steps end a b → Goes steps end (with_chip old a) (with_chip new b)
-goes_below [] Done a b old new late p q same g =
+goes_below [] Done a b old new late p q r same g =
     let e : new ≡ old = same (ap (λ (w : World). w.chip) g) in
     ap (λ (w : World). with_chip new w) g ∙ ap (λ (v : ChipView). with_chip v a) e
-goes_below [] (Stopped reason) a b old new late p q same g = absurd g
-goes_below (Load name limit text refusal ∷ steps) end a b old new late p q same g = absurd late.0
-goes_below (Take ∷ steps) end a b old new late p q same g = absurd late.0
-goes_below (Open ∷ steps) end a b old new late p q same g = absurd late.0
-goes_below (Store name bytes ∷ steps) end a b old new late p q same (inl (mid, (d, g))) =
+goes_below [] (Stopped reason) a b old new late p q r same g = absurd g
+goes_below (Load name limit text refusal ∷ steps) end a b old new late p q r same g = absurd late.0
+goes_below (Take ∷ steps) end a b old new late p q r same g = absurd late.0
+goes_below (Open ∷ steps) end a b old new late p q r same g = absurd late.0
+goes_below (Store name bytes ∷ steps) end a b old new late p q r same (inl (mid, (d, g))) =
     inl (
       with_chip old mid,
       (
         stored_below name bytes a mid old old refl d,
         goes_below steps end mid b old new late.1 (p ∙ ap (λ (v : ChipView). v.faults) (sym d.chip))
-            q (λ e. same (e ∙ d.chip)) g,
+            q r (λ e. same (e ∙ d.chip)) g,
       ),
     )
-goes_below (Store name bytes ∷ steps) Done a b old new late p q same (inr f) = absurd f
-goes_below (Store name bytes ∷ steps) (Stopped reason) a b old new late p q same (inr f) =
+goes_below (Store name bytes ∷ steps) Done a b old new late p q r same (inr f) = absurd f
+goes_below (Store name bytes ∷ steps) (Stopped reason) a b old new late p q r same (inr f) =
     inr (f.0, unstored_below name a b old new (same f.1.chip) f.1)
-goes_below (Put bytes ∷ steps) end a b old new late p q same (inl (mid, (d, g))) =
+goes_below (Put bytes ∷ steps) end a b old new late p q r same (inl (mid, (d, g))) =
     inl (
       with_chip old mid,
       (
         sent_below _ a mid old old refl d,
         goes_below steps end mid b old new late.1 (p ∙ ap (λ (v : ChipView). v.faults) (sym d.chip))
-            q (λ e. same (e ∙ d.chip)) g,
+            q r (λ e. same (e ∙ d.chip)) g,
       ),
     )
-goes_below (Put bytes ∷ steps) Done a b old new late p q same (inr f) = absurd f
-goes_below (Put bytes ∷ steps) (Stopped reason) a b old new late p q same (inr f) =
+goes_below (Put bytes ∷ steps) Done a b old new late p q r same (inr f) = absurd f
+goes_below (Put bytes ∷ steps) (Stopped reason) a b old new late p q r same (inr f) =
     inr (f.0, sent_below _ a b old new (same f.1.chip) f.1, f.2)
-goes_below (Use ∷ steps) end a b old new late p q same (inl (mid, (d, g))) =
+goes_below (Use ∷ steps) end a b old new late p q r same (inl (mid, (d, g))) =
     let own = counting new mid.chip.faults in
     inl (
       with_chip own mid,
       (
         used_below a mid old own p refl d,
-        goes_below steps end mid b own new late.1 refl q (mid_same mid.chip b.chip new q) g,
+        goes_below steps end mid b own new late.1 refl q r (mid_same mid.chip b.chip new q) g,
       ),
     )
-goes_below (Use ∷ steps) Done a b old new late p q same (inr f) = absurd f
-goes_below (Use ∷ steps) (Stopped reason) a b old new late p q same (inr f) =
+goes_below (Use ∷ steps) Done a b old new late p q r same (inr f) = absurd f
+goes_below (Use ∷ steps) (Stopped reason) a b old new late p q r same (inr f) =
     inr (
       f.0,
       used_below a b old new p q f.1,
       rose_below old.faults new.faults a.chip.faults b.chip.faults p q f.2,
     )
-goes_below (Print bytes ∷ steps) end a b old new late p q same (inl (mid, (d, g))) =
+goes_below (UseFor wave ∷ steps) end a b old new late p q r same (inl (mid, (d, g))) =
+    let own = counting new mid.chip.faults in
+    inl (
+      with_chip own mid,
+      (
+        used_below a mid old own p refl d,
+        goes_below steps end mid b own new late.1 refl q r (mid_same mid.chip b.chip new q) g,
+      ),
+    )
+goes_below (UseFor wave ∷ steps) Done a b old new late p q r same (inr f) = absurd f
+goes_below (UseFor wave ∷ steps) (Stopped reason) a b old new late p q r same (inr f) =
+    inr (
+      f.0,
+      used_below a b old new p q f.1,
+      rose_below old.faults new.faults a.chip.faults b.chip.faults p q f.2,
+      subst (StoppedIn wave) (sym r) f.3,
+    )
+goes_below (Print bytes ∷ steps) end a b old new late p q r same (inl (mid, (d, g))) =
     let own = counting new mid.chip.faults in
     inl (
       with_chip own mid,
       (
         printed_below _ a mid old own p refl d,
-        goes_below steps end mid b own new late.1 refl q (mid_same mid.chip b.chip new q) g,
+        goes_below steps end mid b own new late.1 refl q r (mid_same mid.chip b.chip new q) g,
       ),
     )
-goes_below (Print bytes ∷ steps) Done a b old new late p q same (inr f) = absurd f
-goes_below (Print bytes ∷ steps) (Stopped reason) a b old new late p q same (inr (f, inl r)) =
-    inr (printed_below _ a b old new p q f, inl r)
-goes_below (Print bytes ∷ steps) (Stopped reason) a b old new late p q same (inr (f, inr r)) =
+goes_below (Print bytes ∷ steps) Done a b old new late p q r same (inr f) = absurd f
+goes_below (Print bytes ∷ steps) (Stopped reason) a b old new late p q r same (inr (f, inl rose)) =
+    inr (printed_below _ a b old new p q f, inl rose)
+goes_below (Print bytes ∷ steps) (Stopped reason) a b old new late p q r same (inr (f, inr rose)) =
     inr (
       printed_below _ a b old new p q f,
-      inr (r.0, rose_below old.faults new.faults a.chip.faults b.chip.faults p q r.1),
+      inr (rose.0, rose_below old.faults new.faults a.chip.faults b.chip.faults p q rose.1),
     )
 
 -- where the first step uses the chip, nothing of it has to be the same
 pub steps_are_below : StepsAreBelow
-steps_are_below [] end a b old new late on p q g = absurd on
-steps_are_below (Load name limit text refusal ∷ steps) end a b old new late on p q g = absurd late.0
-steps_are_below (Take ∷ steps) end a b old new late on p q g = absurd late.0
-steps_are_below (Open ∷ steps) end a b old new late on p q g = absurd late.0
-steps_are_below (Store name bytes ∷ steps) end a b old new late on p q g = absurd (cc)
-steps_are_below (Put bytes ∷ steps) end a b old new late on p q g = absurd (cc)
-steps_are_below (Use ∷ steps) end a b old new late on p q (inl (mid, (d, g))) =
+steps_are_below [] end a b old new late on p q r g = absurd on
+steps_are_below (Load name limit text refusal ∷ steps) end a b old new late on p q r g = absurd late.0
+steps_are_below (Take ∷ steps) end a b old new late on p q r g = absurd late.0
+steps_are_below (Open ∷ steps) end a b old new late on p q r g = absurd late.0
+steps_are_below (Store name bytes ∷ steps) end a b old new late on p q r g = absurd (cc)
+steps_are_below (Put bytes ∷ steps) end a b old new late on p q r g = absurd (cc)
+steps_are_below (Use ∷ steps) end a b old new late on p q r (inl (mid, (d, g))) =
     let own = counting new mid.chip.faults in
     inl (
       with_chip own mid,
       (
         used_below a mid old own p refl d,
-        goes_below steps end mid b own new late.1 refl q (mid_same mid.chip b.chip new q) g,
+        goes_below steps end mid b own new late.1 refl q r (mid_same mid.chip b.chip new q) g,
       ),
     )
-steps_are_below (Use ∷ steps) Done a b old new late on p q (inr f) = absurd f
-steps_are_below (Use ∷ steps) (Stopped reason) a b old new late on p q (inr f) =
+steps_are_below (Use ∷ steps) Done a b old new late on p q r (inr f) = absurd f
+steps_are_below (Use ∷ steps) (Stopped reason) a b old new late on p q r (inr f) =
     inr (
       f.0,
       used_below a b old new p q f.1,
       rose_below old.faults new.faults a.chip.faults b.chip.faults p q f.2,
     )
-steps_are_below (Print bytes ∷ steps) end a b old new late on p q (inl (mid, (d, g))) =
+steps_are_below (UseFor wave ∷ steps) end a b old new late on p q r (inl (mid, (d, g))) =
+    let own = counting new mid.chip.faults in
+    inl (
+      with_chip own mid,
+      (
+        used_below a mid old own p refl d,
+        goes_below steps end mid b own new late.1 refl q r (mid_same mid.chip b.chip new q) g,
+      ),
+    )
+steps_are_below (UseFor wave ∷ steps) Done a b old new late on p q r (inr f) = absurd f
+steps_are_below (UseFor wave ∷ steps) (Stopped reason) a b old new late on p q r (inr f) =
+    inr (
+      f.0,
+      used_below a b old new p q f.1,
+      rose_below old.faults new.faults a.chip.faults b.chip.faults p q f.2,
+      subst (StoppedIn wave) (sym r) f.3,
+    )
+steps_are_below (Print bytes ∷ steps) end a b old new late on p q r (inl (mid, (d, g))) =
     let own = counting new mid.chip.faults in
     inl (
       with_chip own mid,
       (
         printed_below _ a mid old own p refl d,
-        goes_below steps end mid b own new late.1 refl q (mid_same mid.chip b.chip new q) g,
+        goes_below steps end mid b own new late.1 refl q r (mid_same mid.chip b.chip new q) g,
       ),
     )
-steps_are_below (Print bytes ∷ steps) Done a b old new late on p q (inr f) = absurd f
-steps_are_below (Print bytes ∷ steps) (Stopped reason) a b old new late on p q (inr (f, inl r)) =
-    inr (printed_below _ a b old new p q f, inl r)
-steps_are_below (Print bytes ∷ steps) (Stopped reason) a b old new late on p q (inr (f, inr r)) =
+steps_are_below (Print bytes ∷ steps) Done a b old new late on p q r (inr f) = absurd f
+steps_are_below (Print bytes ∷ steps) (Stopped reason) a b old new late on p q r (inr (f, inl rose)) =
+    inr (printed_below _ a b old new p q f, inl rose)
+steps_are_below (Print bytes ∷ steps) (Stopped reason) a b old new late on p q r (inr (f, inr rose)) =
     inr (
       printed_below _ a b old new p q f,
-      inr (r.0, rose_below old.faults new.faults a.chip.faults b.chip.faults p q r.1),
+      inr (rose.0, rose_below old.faults new.faults a.chip.faults b.chip.faults p q rose.1),
     )

@@ -37,10 +37,11 @@ returns-in_err-refused-clause-goes g c =
     rw (p.1, p.2) (stopped_work c.args.name.now c.args.prog.programs
     (map view_of c.args.script.now) i _ a b d
     (c.in_ok-machine.ensures.goes files (g.S.Sink.view c.args.out.now))
-    (lines_are c.args.prog.programs (map view_of c.args.script.now) i _ _ _
+    (lines_are c.args.prog.programs (map view_of c.args.script.now) i _ _ _ _
     (g.D.Dram.view c.open.new.chip).banks _ b d
-    c.in_ok-machine.ensures.shape c.in_ok-machine.ensures.program c.in_ok-machine.ensures.table
-    c.in_ok-machine.ensures.opened.banks (c.in_err-refused.ensures.goes files)))
+    c.in_ok-machine.ensures.shape c.in_ok-machine.ensures.program c.in_ok-machine.ensures.turn
+    c.in_ok-machine.ensures.table c.in_ok-machine.ensures.opened.banks
+    (c.in_err-refused.ensures.goes files)))
 
 pub returns-in_err-finish-clause-goes : goal.returns-in_err-finish-clause-goes
 returns-in_err-finish-clause-goes g c =
@@ -77,8 +78,8 @@ returns-in_err-finish-clause-goes g c =
     } in
     rw (p.1, p.2) (went_on c.args.name.now program script i _ a b d e
     (opened.goes files (g.S.Sink.view c.args.out.now))
-    (lines_are program script i _ _ _ start.banks Done b d opened.shape opened.program opened.table
-    opened.opened.banks (c.in_ok-refused.ensures.goes files))
+    (lines_are program script i _ _ _ _ start.banks Done b d opened.shape opened.program opened.turn
+    opened.table opened.opened.banks (c.in_ok-refused.ensures.goes files))
     (last_are program script i (geometry_of last) (table_in last) start now
     c.in_ok-refused.refused worked c.args.name.now (Stopped (reason_of c.in_err-finish.field-0.0))
     d e c.in_err-finish.ensures.goes))
@@ -116,8 +117,8 @@ returns-clause-goes g c =
     } in
     went_on c.args.name.now program script i Done a b d e
     (opened.goes files (g.S.Sink.view c.args.out.now))
-    (lines_are program script i _ _ _ start.banks Done b d opened.shape opened.program opened.table
-    opened.opened.banks (c.in_ok-refused.ensures.goes files))
+    (lines_are program script i _ _ _ _ start.banks Done b d opened.shape opened.program opened.turn
+    opened.table opened.opened.banks (c.in_ok-refused.ensures.goes files))
     (last_are program script i (geometry_of last) (table_in last) start now
     c.in_ok-refused.refused worked c.args.name.now Done d e c.in_ok-finish.ensures.goes)
 

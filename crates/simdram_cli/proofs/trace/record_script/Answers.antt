@@ -37,7 +37,7 @@ returns-in_err-refused-clause-recorded g c program i o =
     (search rules) (rw (p.1, p.2) (first_failed names program script i _ machine files out old
     (g.D.Dram.view last.dram.now) from
     (world after sent (recorded (g.D.Dram.view last.dram.now) last.notes.now)) started
-    (sym (ap (λ (v : ChipView). v.faults) same)) refl c.in_err-refused.ensures.goes))
+    (sym (ap (λ (v : ChipView). v.faults) same)) refl refl c.in_err-refused.ensures.goes))
 
 pub returns-then-not-spell_trace-clause-recorded : goal.returns-then-not-spell_trace-clause-recorded
 returns-then-not-spell_trace-clause-recorded g c program i o =

@@ -77,7 +77,8 @@ returns-in_err-taken-clause-goes g c files =
     rw (p.1, p.2) (c.pieces.invariant.goes files _
     (world files (g.S.Sink.view c.work_piece.new.out) (g.D.Dram.view c.work_piece.new.chip))
     (rw (begins rest some) (stops_piece shape (operations_by c.args.machine.now)
-    (table_in c.pieces.machine) (g.D.Dram.view c.pieces.chip).banks (done + 1)
+    (turn_in c.pieces.machine) (table_in c.pieces.machine)
+    (g.D.Dram.view c.pieces.chip).banks (done + 1)
     (next_piece rest) _ _ (world files (g.S.Sink.view c.pieces.out) (g.D.Dram.view c.pieces.chip))
     (world files (g.S.Sink.view c.work_piece.new.out) (g.D.Dram.view c.work_piece.new.chip))
     (rw (

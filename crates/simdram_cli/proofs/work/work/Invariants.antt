@@ -48,9 +48,11 @@ invariant-pieces g l =
       refused_so_far : l.refused + count_by is_refused (replies shape operations table rest)
           ≡ count_by is_refused (replies shape operations first script);
       goes : (files : FolderView) (end : End) (w : World)
-          → Goes (pieces_steps shape operations table now.banks (l.done + 1) (pieces rest)) end
+          → Goes (pieces_steps shape operations (turn_in l.machine) table now.banks (l.done + 1)
+          (pieces rest)) end
           (world files (g.S.Sink.view l.out) now) w
-          → Goes (pieces_steps shape operations first start.banks 1 (pieces script)) end
+          → Goes (pieces_steps shape operations (turn_in l.initial.machine) first start.banks 1
+          (pieces script)) end
           (world files (g.S.Sink.view l.initial.out) start) w;
     }
 

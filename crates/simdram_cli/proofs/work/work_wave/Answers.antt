@@ -4,7 +4,7 @@ use Rattle.std.proofs.lemmas.List.{length-map}
 use Rattle.bbop_isa.specs.Forms.{view_of}
 use Rattle.machine_model.specs.Script.{is_refused}
 use Rattle.machine_model.proofs.Parts.{waves_are_answered}
-use Rattle.sim_machine.specs.Machine.{geometry_of, operations_by, table_in}
+use Rattle.sim_machine.specs.Machine.{geometry_of, operations_by, table_in, turn_in}
 use Rattle.simdram_cli.proofs.Sending.{wave_did, wave_failed, wave_sent}
 use Rattle.simdram_cli.proofs.work.work_wave.Goals as goal
 
@@ -29,7 +29,8 @@ returns-in-Ok-clause-done g c =
 pub returns-in-Ok-clause-goes : goal.returns-in-Ok-clause-goes
 returns-in-Ok-clause-goes g c files =
     let m = c.args.machine.now in
-    wave_sent (geometry_of m) (operations_by m) (table_in m) (g.D.Dram.view c.args.chip.now).banks
+    wave_sent (geometry_of m) (operations_by m) (turn_in m) (table_in m)
+    (g.D.Dram.view c.args.chip.now).banks
     c.args.number (map view_of c.args.wave.now) files (g.S.Sink.view c.args.out.now)
     (g.S.Sink.view c.wave.new.out) (g.D.Dram.view c.args.chip.now) (g.D.Dram.view c.wave.new.dram)
     c.requires.bbops (rw length-map c.requires.some) c.in-Ok.ensures.sent
@@ -38,14 +39,23 @@ returns-in-Ok-clause-goes g c files =
 pub returns-in-Err-clause-goes : goal.returns-in-Err-clause-goes
 returns-in-Err-clause-goes g c files =
     let m = c.args.machine.now in
-    rw c.fault_stop.ensures (wave_failed c.in-Err.fault (geometry_of m) (operations_by m)
-    (table_in m) (g.D.Dram.view c.args.chip.now).banks c.args.number (map view_of c.args.wave.now)
+    rw c.fault_stop.ensures (wave_failed c.in-Err.failed (geometry_of m) (operations_by m)
+    (turn_in m) (table_in m) (g.D.Dram.view c.args.chip.now).banks c.args.number
+    (map view_of c.args.wave.now)
     files (g.S.Sink.view c.args.out.now) (g.S.Sink.view c.wave.new.out)
     (g.D.Dram.view c.args.chip.now) (g.D.Dram.view c.wave.new.dram) c.requires.bbops
     (rw length-map c.requires.some) (record {
       sink = c.wave.ensures.sink_faults;
       chip = c.wave.ensures.kept.faults;
       chip_rose = λ e. c.in-Err.ensures.chip_fault (rw e refl);
+      stopped = λ e. let s = c.in-Err.ensures.stopped (rw e refl) in record {
+        done = s.done;
+        bank = s.bank;
+        command = s.command;
+        failed = s.failed;
+        others = s.others;
+        alone = λ b other below. s.alone b other (rw c.requires.geometry below);
+      };
       unsent = λ e. c.in-Err.ensures.unsent (rw e refl);
       sink_rose = λ e. c.in-Err.ensures.write_fault (rw e refl);
       part = λ e. c.in-Err.ensures.part (rw e refl);
