@@ -1,16 +1,16 @@
 -- How many commands a plain instruction on copies has.
-use Rattle.std.proofs.Common.{◌≡◌, ℕ, ◌+◌, ◌*◌, ◌≤◌, List, [], ◌∷◌, Bool, true, false, cond, refl}
+use Rattle.std.proofs.Common.{◌≡◌, ℕ, ◌+◌, ◌*◌, ◌≤◌, [], ◌∷◌}
 use Rattle.std.proofs.Common.{subst}
 use Rattle.std.proofs.Common.{arith, sym}
 use Rattle.uprog_code.specs.declared.TheConstants.{WALK_MAX}
-use Rattle.object_alloc.specs.Listed.{Listing, Named}
+use Rattle.object_alloc.specs.Listed.{Listing}
 use Rattle.dram_model.specs.declared.geometry.Geometry.{Geometry}
 use Rattle.bbop_isa.specs.Forms.{Instruction, Init, Bbop, Load, Fill, Print, Free, Order}
 use Rattle.machine_model.specs.declared.Reply.{Reply}
 use Rattle.machine_model.specs.Agrees.{IsPlain}
 use Rattle.machine_model.specs.Routines.{Program, routines_in}
 use Rattle.machine_model.specs.Steps.{reply_to}
-use Rattle.machine_model.specs.Script.{counted_in, rows_if_done, rows_printed}
+use Rattle.machine_model.specs.Script.{counted_in}
 use Rattle.machine_model.proofs.Bounds.{work_is_bounded}
 use Rattle.object_steps.specs.Objects.{LiesOn}
 use Rattle.guard_model.specs.Guarded.{on_copy}
@@ -37,12 +37,3 @@ few_commands g p table c instr reply lies plain e =
     + (counted_in (reply_to g (routines_in p) table.pairs i)).ap ≤ 16 * WALK_MAX =
     omega (arith, few.commands) in
     subst (λ (r : Reply). (counted_in r).aap + (counted_in r).ap ≤ 16 * WALK_MAX) (sym e) one
-
--- a load reads no row
-none_read : (b : Bool) → ◌≡◌ {A = ℕ} (cond b 0 0) 0
-none_read true = refl
-none_read false = refl
-
-pub load_reads : (g : Geometry) (p : Program) (table : List Named) (name values : List ℕ)
-    → rows_if_done rows_printed g (routines_in p) table (Load name values) ≡ 0
-load_reads g p table name values = none_read _

@@ -9,5 +9,4 @@ pub mod Placing
 pub mod Shown
 pub mod Came
 pub mod Bounded
-pub mod Loaded
 pub mod Stops

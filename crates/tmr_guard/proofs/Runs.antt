@@ -11,7 +11,7 @@ use Rattle.dram_model.specs.declared.dram.Counters.{Counters}
 use Rattle.dram_model.specs.declared.address.Command.TheVariants.{Ap, Aap}
 use Rattle.dram_model.specs.Chip.{Event, after, all_counted, counted}
 use Rattle.dram_model.specs.Chip.Event.{Row, Write}
-use Rattle.dram_model.specs.View.{ChipView, Did, with_reads}
+use Rattle.dram_model.specs.View.{ChipView, with_reads}
 use Rattle.dram_model.proofs.EventLaws.{after-append, all_counted-append, Grew-more, Grew-none}
 use Rattle.wave_model.specs.Schedule.{Turn, queues, last_state, state_after, events_of_picks}
 use Rattle.wave_model.specs.Schedule.{picks, whole_picks, in_turn}
@@ -62,13 +62,6 @@ no_reads k = let e : k.reads ≡ k.reads + 0 = omega arith in rw (← e) refl
 
 pub did_none : (a : ChipView) → DidAndRead [] 0 a a
 did_none a = record { banks = refl; counters = no_reads a.counters; log = Grew-none a.log }
-
-pub did_and_none : (es : List Event) (a b : ChipView) → Did es a b → DidAndRead es 0 a b
-did_and_none es a b d = record {
-  banks = d.banks;
-  counters = d.counters ∙ no_reads (all_counted es a.counters);
-  log = d.log;
-}
 
 -- none
 pub ran_none : (g : Geometry) (p : Program) (turn : Turn) (table : List Named) (a : ChipView)
