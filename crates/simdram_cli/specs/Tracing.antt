@@ -53,7 +53,7 @@ exec_of names = record {
 abbrev pub fits : Program → List Instruction → Image → Bool
 fits program script i = all_fit i.geometry (script_trace program i script).events
 
--- TRACE is stored, and the line of the totals is sent, where all events fit
+-- TRACE is stored, where all events fit
 abbrev pub store_steps : Bool → List ℕ → Program → List Instruction → Image → List Step
 store_steps true trace program script i =
     Store trace (bytes_of_trace (script_trace program i script)) ∷ []

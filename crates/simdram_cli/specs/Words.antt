@@ -73,7 +73,7 @@ command_on_two verb first second =
     else if bytes_eq verb (codes "scan") then Some (Scan (record { query = first; image = second }))
     else None
 
--- a word that is decimal digits, and the number that they write, however many they are
+-- a word that is decimal digits
 abbrev pub is_number : List ℕ → Bool
 is_number [] = false
 is_number (digit ∷ digits) = list_all is_ascii_digit (digit ∷ digits)

@@ -33,7 +33,7 @@ line_of c counts sum = op_text c.op ++ codes " " ++ decimal c.n ++ codes " aap="
     ++ decimal counts.aap ++ codes " ap=" ++ decimal counts.ap ++ codes " sum=" ++ decimal sum
     ++ codes "\n"
 
--- the line of a case whose program is right
+-- the line of a case: the row commands of its program, and the sum of the operation's values
 abbrev pub case_line : (state : ℕ) → Case → Microprogram → List ℕ
 case_line state c m = line_of c (in_both_banks c m) (case_sum state c)
 
