@@ -1,11 +1,9 @@
 -- How many commands and instructions a loop program may take.
 use Rattle.std.specs.Prelude.{ℕ, ◌+◌, ◌*◌, ◌==◌, ◌&&◌, Bool, true, false, not, if◌then◌else◌}
 use Rattle.std.specs.Prelude.{List, [], ◌∷◌}
-use Rattle.std.specs.Prelude.{◌++◌, length, filter, sum_by}
+use Rattle.std.specs.Prelude.{◌++◌, length, filter, sum_by, nat_lt, Option, Some, None}
 use Rattle.std.specs.List.{list_any, list_all}
-use mathlib.Core.Bool.{beq}
 use Rattle.mig_graph.specs.declared.Lit.{Lit}
-use Rattle.mig_graph.specs.declared.Node.{Node}
 use Rattle.mig_graph.specs.Literals.{is_complemented, node_of}
 use Rattle.mig_graph.specs.Outputs.{lit_at}
 use Rattle.loop_ir.specs.declared.ir.Sub.{Sub}
@@ -15,7 +13,10 @@ use Rattle.loop_ir.specs.declared.ir.Sub.TheVariants.{NPlusInner}
 use Rattle.loop_ir.specs.Plain.{Block, InnerOf, StepOf}
 use Rattle.loop_ir.specs.Plain.InnerOf.{Alone, Across}
 use Rattle.loop_ir.specs.Plain.StepOf.{Single, Along, Nest, Pairs}
+use Rattle.row_alloc.specs.HeldBodies.{HeldBody, held_at, held_sequence_for}
 use Rattle.loop_ir.specs.Loops.{RoundOf}
+use Rattle.loop_ir.specs.Same.{is_body}
+use Rattle.loop_ir.specs.States.{has_states, row_outs, held_of}
 
 -- four commands for a node and three for an output
 abbrev pub body_cost : Block → ℕ
@@ -25,33 +26,6 @@ body_cost b = 4 * length b.graph.nodes + 3 * length b.outs
 abbrev pub is_copy : Block → Bool
 is_copy b = (length b.graph.nodes == 0) && ((length b.outs == 1)
     && not (is_complemented (lit_at b.outs 0)))
-
--- both are one literal
-abbrev pub same_lit : Lit → Lit → Bool
-same_lit x y = (x.node == y.node) && beq x.inverted y.inverted
-
--- both have the same literals in the same order
-abbrev pub same_node : Node → Node → Bool
-same_node m n = same_lit m.a n.a && (same_lit m.b n.b && same_lit m.c n.c)
-
--- both lists have the same literals, place by place
-abbrev pub same_lits : List Lit → List Lit → Bool
-same_lits [] [] = true
-same_lits [] (y ∷ ys) = false
-same_lits (x ∷ xs) [] = false
-same_lits (x ∷ xs) (y ∷ ys) = same_lit x y && same_lits xs ys
-
--- both lists have the same nodes, place by place
-abbrev pub same_nodes : List Node → List Node → Bool
-same_nodes [] [] = true
-same_nodes [] (n ∷ ns) = false
-same_nodes (m ∷ ms) [] = false
-same_nodes (m ∷ ms) (n ∷ ns) = same_node m n && same_nodes ms ns
-
--- the body has so many inputs, these nodes and these outputs
-abbrev pub is_body : ℕ → List Node → List Lit → Block → Bool
-is_body inputs nodes outs b = (b.graph.inputs == inputs) && (same_nodes b.graph.nodes nodes
-    && same_lits b.outs outs)
 
 -- a node as it is
 abbrev pub plain : ℕ → Lit
@@ -85,14 +59,28 @@ is_add b = is_body 3
     (node_of (plain 1) (plain 2) (plain 3) ∷ node_of (plain 1) (plain 2) (complemented 3)
     ∷ node_of (plain 3) (complemented 4) (plain 5) ∷ []) (plain 6 ∷ plain 4 ∷ []) b
 
--- what one round may take: a copy is one command, and the bodies of five operations are fixed
-abbrev pub turn_cost : Block → ℕ
-turn_cost b = if is_copy b then 1 else (if is_not b then 2 else (if is_and b then 4
-    else (if is_or b then 4 else (if is_xor b then 7 else (if is_add b then 9 else body_cost b)))))
+-- what a round takes of a body whose states stand in cells: the length of its sequence
+abbrev pub held_cost : Option HeldBody → ℕ
+held_cost None = 0
+held_cost (Some h) = length (held_at (held_sequence_for h))
 
--- the same where no body has a sequence of its own
+-- what one round may take: a body with states has its sequence, a copy is one command, and the
+-- bodies of five operations are fixed
+abbrev pub turn_cost : Block → ℕ
+turn_cost b = if has_states b then held_cost (held_of b) else (if is_copy b then 1
+    else (if is_not b then 2 else (if is_and b then 4 else (if is_or b then 4
+    else (if is_xor b then 7 else (if is_add b then 9 else body_cost b))))))
+
+-- the body has no node and writes no row: it starts states in cells, with one command
+abbrev pub is_start : Block → Bool
+is_start b = (length b.graph.nodes == 0) && ((length (row_outs b.writes b.outs) == 0)
+    && nat_lt 0 (length b.outs))
+
+-- the same where no body has a sequence of its own: four commands for a node and three for an
+-- output that is a row
 abbrev pub plain_cost : Block → ℕ
-plain_cost b = if is_copy b then 1 else body_cost b
+plain_cost b = if is_copy b then 1 else (if is_start b then 1
+    else 4 * length b.graph.nodes + 3 * length (row_outs b.writes b.outs))
 
 -- what all rounds may take where no body has a sequence of its own
 abbrev pub plain_costs : List (RoundOf Block) → ℕ

@@ -3,6 +3,9 @@ pub mod Plain
 pub mod Loops
 pub mod Spots
 pub mod WellFormed
+pub mod Same
+pub mod States
+pub mod Chains
 pub mod Costs
 pub mod Limits
 pub mod Statements

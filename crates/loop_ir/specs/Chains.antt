@@ -1,0 +1,50 @@
+-- A test after which each body finds the states that it reads, at every width.
+use Rattle.std.specs.Prelude.{ℕ, ◌==◌, ◌&&◌, Bool, true, List, [], ◌∷◌, if◌then◌else◌}
+use Rattle.std.specs.List.{list_any, list_all}
+use Rattle.loop_ir.specs.declared.ir.Place.{Place}
+use Rattle.loop_ir.specs.Plain.{Block, InnerOf, StepOf}
+use Rattle.loop_ir.specs.Plain.InnerOf.{Alone, Across}
+use Rattle.loop_ir.specs.Plain.StepOf.{Single, Along, Nest, Pairs}
+use Rattle.loop_ir.specs.Spots.{is_state}
+
+-- the states among the places, by their layouts
+abbrev pub states_in : List Place → List ℕ
+states_in [] = []
+states_in (p ∷ ps) = if is_state p.space then p.which ∷ states_in ps else states_in ps
+
+-- the state is one of these
+abbrev pub is_left : ℕ → List ℕ → Bool
+is_left w alive = list_any (λ v. v == w) alive
+
+-- the body reads no state but these
+abbrev pub finds : List ℕ → Block → Bool
+finds alive b = list_all (λ w. is_left w alive) (states_in b.reads)
+
+-- the states that a body leaves: all others may be lost
+abbrev pub left_by : Block → List ℕ
+left_by b = states_in b.writes
+
+-- a body in a loop finds them before the first round and after each
+abbrev pub loop_finds : List ℕ → Block → Bool
+loop_finds alive b = finds alive b && finds (left_by b) b
+
+-- what the parts of a nest leave, done once
+abbrev pub inner_left : List ℕ → List (InnerOf Block) → List ℕ
+inner_left alive [] = alive
+inner_left alive (Alone b ∷ ps) = inner_left (left_by b) ps
+inner_left alive (Across c b ∷ ps) = inner_left (left_by b) ps
+
+-- each part of a nest finds its states
+abbrev pub inner_finds : List ℕ → List (InnerOf Block) → Bool
+inner_finds alive [] = true
+inner_finds alive (Alone b ∷ ps) = finds alive b && inner_finds (left_by b) ps
+inner_finds alive (Across c b ∷ ps) = loop_finds alive b && inner_finds (left_by b) ps
+
+-- each step finds its states: a loop that may have no round leaves none that is sure
+abbrev pub steps_find : List ℕ → List (StepOf Block) → Bool
+steps_find alive [] = true
+steps_find alive (Single b ∷ ss) = finds alive b && steps_find (left_by b) ss
+steps_find alive (Along b ∷ ss) = loop_finds alive b && steps_find (left_by b) ss
+steps_find alive (Pairs b ∷ ss) = loop_finds alive b && steps_find [] ss
+steps_find alive (Nest ps ∷ ss) = inner_finds alive ps && (inner_finds (inner_left alive ps) ps
+    && steps_find (inner_left (inner_left alive ps) ps) ss)
