@@ -1,9 +1,9 @@
 -- The text of the flips.
 use Rattle.std.specs.Prelude.{ℕ, ◌+◌, ◌*◌, nat_lt, nat_le, ◌&&◌, ◌≤◌, ◌<◌, Bool, false}
 use Rattle.std.specs.Prelude.{if◌then◌else◌, List, [], ◌∷◌, Option, Some, None, Result, Ok, Err}
-use Rattle.std.specs.Prelude.{unwrap_or}
 use Rattle.text_lex.specs.Lexical.{items_of}
 use Rattle.dram_model.specs.declared.geometry.Geometry.{Geometry}
+use Rattle.bbop_isa.specs.Forms.{number_or_zero}
 use Rattle.bbop_isa.specs.Lines.{lines_of}
 use Rattle.bbop_isa.specs.Words.{Word, Name, Number, Comma, Other, words_in}
 use Rattle.guard_model.specs.declared.Flip.{Flip}
@@ -15,10 +15,6 @@ use Rattle.guard_model.specs.declared.FlipsFault.{FlipsFault}
 abbrev pub is_below : ℕ → Option ℕ → Bool
 is_below limit None = false
 is_below limit (Some n) = nat_lt n limit
-
--- the number that was read; what is refused before it is asked for counts as 0
-abbrev pub value : Option ℕ → ℕ
-value number = unwrap_or number 0
 
 -- K, where the line before has this K or there is none (0): at least 1 and at most the instructions
 -- and one more
@@ -33,11 +29,11 @@ flip_of g instrs before k bank row column =
     if is_next instrs before k && (is_below g.banks bank &&
     (is_below g.rows row && is_below (64 * g.words) column))
     then Ok (Some (record {
-      before = value k;
-      bank = value bank;
-      row = value row;
+      before = number_or_zero k;
+      bank = number_or_zero bank;
+      row = number_or_zero row;
       column =
-          value column;
+          number_or_zero column;
     })) else Err BadNumber
 
 -- the numbers of words that are all numbers

@@ -18,7 +18,7 @@ use Rattle.object_alloc.specs.Spelling.{IsImage}
 use Rattle.uprog_code.specs.Texts.{TextOp, ImplementsAll}
 use Rattle.wave_model.specs.Schedule.{Turn}
 use Rattle.machine_model.specs.Routines.{Program, Routines, routines_of, meaning_in}
-use Rattle.machine_model.specs.Opened.{Image, opened, words_of}
+use Rattle.machine_model.specs.Opened.{Image, opened, objects_held}
 use Rattle.machine_model.specs.Steps.{Held, table_of}
 use Rattle.machine_model.specs.Agrees.{Agrees, DoesAll, IsPlain}
 use Rattle.machine_model.specs.Laws.{FitsBanks}
@@ -167,9 +167,9 @@ GuardedTextGivesWords =
     (p : Program) (t : List TextOp) (i : Image) (flips : List Flip) (script : List Instruction)
     → IsImage i.geometry i.table i.rows → ImplementsAll p t → AllByRecursion IsPlain script
     → AllByRecursion HasName script
-    → first_stranger i.table ≡ None → EqualCopies (words_of i)
+    → first_stranger i.table ≡ None → EqualCopies (objects_held i)
     → Single i.geometry (routines_of t p) flips 1 i.table script
-    → IsGuarded i.geometry (routines_of t p) (meaning_in t) flips 1 (opened i) (words_of i)
+    → IsGuarded i.geometry (routines_of t p) (meaning_in t) flips 1 (opened i) (objects_held i)
     script
 
 -- the flips of a text are flips of the chip, in order

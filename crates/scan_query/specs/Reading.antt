@@ -6,7 +6,7 @@ use Rattle.std.specs.Char.{is_ascii_digit}
 use Rattle.std.specs.List.{AllPass}
 use Rattle.std.specs.Str.Parse.{digits_value}
 use Rattle.scan_model.specs.Texts as model
-use Rattle.scan_model.specs.TextLaws.{words_of}
+use Rattle.scan_model.specs.TextLaws.{bare_words}
 use Rattle.scan_query.specs.declared.reading.Lead.{Lead}
 use Rattle.scan_query.specs.declared.reading.Lead.TheVariants as lead
 use Rattle.scan_query.specs.declared.reading.Mark.{Mark}
@@ -104,7 +104,7 @@ seen p = record { begun = begun_by p; pieces = map model.piece_of p.lexer }
 
 -- the tokens that are left, without their places
 abbrev pub left : ParserView → List model.Word
-left r = words_of r.pieces
+left r = bare_words r.pieces
 
 -- the first token that breaks a rule, where all this is wanted
 abbrev pub breach : List model.Wanted → ParserView → Option model.Breach

@@ -13,7 +13,7 @@ ghost use Rattle.object_alloc.specs.Reading.{rows_size, table_at};
 ghost use Rattle.object_alloc.specs.Spelling.{image_bytes, table_bytes};
 ghost use Rattle.bbop_isa.specs.Forms.{view_of, Load, Print};
 ghost use Rattle.machine_model.specs.Agrees.{IsPlain};
-ghost use Rattle.machine_model.specs.Opened.{rows_of};
+ghost use Rattle.machine_model.specs.Opened.{rows_in_banks};
 ghost use Rattle.machine_model.specs.Pieces.{Alone, AreBbops, Wave, piece_of};
 ghost use Rattle.machine_model.specs.Report.{total_line};
 ghost use Rattle.machine_model.specs.Script.{is_bbop};
@@ -22,7 +22,7 @@ ghost use Rattle.wave_model.specs.Schedule.{Ahead};
 ghost use Rattle.object_steps.specs.Lines.{DidReadAtMost};
 ghost use Rattle.object_steps.specs.Objects.{LiesOn, RisesAtMost};
 ghost use Rattle.sim_machine.specs.Machine.{IsReady, banks_by, events_by, file_of, geometry_of};
-ghost use Rattle.sim_machine.specs.Machine.{is_print, line_of, line_shown, lines_of, program_of};
+ghost use Rattle.sim_machine.specs.Machine.{is_print, reply_line, line_shown, lines_of, program_of};
 ghost use Rattle.sim_machine.specs.Machine.{queues_by};
 ghost use Rattle.sim_machine.specs.Machine.{reads_by, reply_of, moved_table, table_in};
 ghost use Rattle.sim_machine.specs.Machine.{turn_by_piece, turn_in};
@@ -216,7 +216,7 @@ impl<'a> Machine<'a> {
         ensures rises { OnOk result (RisesAtMost (16 * WALK_MAX) (D.view dram.old).counters
             (D.view dram.new).counters) }
         ensures sent { OnOk result (Known (λ before after. after
-            ≡ before ++ line_of self.old number (D.view dram.old).banks (view_of instr.now))
+            ≡ before ++ reply_line self.old number (D.view dram.old).banks (view_of instr.now))
             (S.view out.old).sent (S.view out.new).sent) }
 
         // After a fault the table is as before. Where the chip fails, the banks past those of the
@@ -245,7 +245,7 @@ impl<'a> Machine<'a> {
         ensures write_fault { IsErrOf result StepFault.WriteFault
             → Rose (S.view out.old).faults (S.view out.new).faults }
         ensures part { OnErr result (Known (AppendsPart
-            (line_of self.old number (D.view dram.old).banks (view_of instr.now)))
+            (reply_line self.old number (D.view dram.old).banks (view_of instr.now)))
             (S.view out.old).sent (S.view out.new).sent) }
     {
         self.step_of(number, instr, dram, out)
@@ -367,7 +367,7 @@ impl<'a> Machine<'a> {
         ensures did { OnOk result (DidRead ((geometry_of self.old).banks
             * (geometry_of self.old).rows) (D.view dram.old) (D.view dram.new)) }
         ensures file { OnOk result (file_of self.new ≡ image_bytes (geometry_of self.old)
-            (table_in self.old) (rows_of (D.view dram.old).banks)) }
+            (table_in self.old) (rows_in_banks (D.view dram.old).banks)) }
         ensures ready { IsReady self.new }
         ensures program { program_of self.new ≡ program_of self.old }
         ensures shape { geometry_of self.new ≡ geometry_of self.old }
@@ -393,7 +393,7 @@ impl<'a> Machine<'a> {
         ensures did { OnOk result (DidRead ((geometry_of self.old).banks
             * (geometry_of self.old).rows) (D.view dram.old) (D.view dram.new)) }
         ensures file { OnOk result (file_of self.new ≡ image_bytes (geometry_of self.old)
-            table.now.pairs (rows_of (D.view dram.old).banks)) }
+            table.now.pairs (rows_in_banks (D.view dram.old).banks)) }
         ensures ready { IsReady self.new }
         ensures program { program_of self.new ≡ program_of self.old }
         ensures shape { geometry_of self.new ≡ geometry_of self.old }

@@ -10,7 +10,7 @@ ghost use Rattle.dram_model.specs.View.{HasBegun, Kept, Did, DidRead, StoppedIn}
 ghost use Rattle.object_alloc.specs.Spelling.{image_bytes};
 ghost use Rattle.bbop_isa.specs.Forms.{view_of, Print};
 ghost use Rattle.machine_model.specs.Agrees.{IsPlain};
-ghost use Rattle.machine_model.specs.Opened.{rows_of};
+ghost use Rattle.machine_model.specs.Opened.{rows_in_banks};
 ghost use Rattle.machine_model.specs.Script.{counted_in, plus as sum};
 ghost use Rattle.object_steps.specs.Objects.{RisesAtMost};
 ghost use Rattle.sim_machine.specs.Machine.{IsReady, file_of, geometry_of, is_print, program_of};
@@ -450,7 +450,7 @@ impl<'a> Guard<'a> {
             * (geometry_of (machine_in self.old)).rows) (D.view dram.old) (D.view dram.new)) }
         ensures file { OnOk result (file_of (machine_in self.new)
             ≡ image_bytes (geometry_of (machine_in self.old)) (table_in (machine_in self.old))
-            (rows_of (D.view dram.old).banks)) }
+            (rows_in_banks (D.view dram.old).banks)) }
         ensures ready { IsReady (machine_in self.new) }
         ensures program { program_of (machine_in self.new) ≡ program_of (machine_in self.old) }
         ensures shape { geometry_of (machine_in self.new) ≡ geometry_of (machine_in self.old) }
