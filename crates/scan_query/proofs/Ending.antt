@@ -12,7 +12,7 @@ use Rattle.scan_model.specs.Queries as query
 use Rattle.scan_model.specs.Texts as model
 use Rattle.scan_model.specs.TextLaws.{QueryTextLaws, bare_words}
 use Rattle.op_text.specs.Lines.{line_of}
-use Rattle.scan_query.specs.declared.reading.Stop.{Stop}
+use Rattle.scan_query.specs.declared.reading.ReadError.{ReadError}
 use Rattle.scan_query.specs.Parsing.{IsQueryOf}
 use Rattle.scan_query.specs.Reading.{Fails, Finds, ParserView, Reads, breach, left, start_of}
 
@@ -74,7 +74,7 @@ is_query laws text start new k before nodes empty is reads moves none nothing =
     }
 
 -- the exit of a `?`
-pub exit_finds : {A : Type 0} (found : Option model.Breach) (e : Stop) (r : Result A Stop)
+pub exit_finds : {A : Type 0} (found : Option model.Breach) (e : ReadError) (r : Result A ReadError)
     → IsErrAnd r (λ x. x ≡ e) → Fails found e → Finds found r
 exit_finds found e r is h =
     let p = err_from_is_err_and r is in

@@ -15,19 +15,19 @@ use Rattle.scan_model.specs.declared.QueryKind.TheVariants as kind
 use Rattle.scan_model.specs.Texts as model
 use Rattle.scan_query.specs.declared.reading.Mark.{Mark}
 use Rattle.scan_query.specs.declared.reading.Mark.TheVariants as mark
-use Rattle.scan_query.specs.declared.reading.Stop.{Stop}
+use Rattle.scan_query.specs.declared.reading.ReadError.{ReadError}
 use Rattle.scan_query.specs.declared.reading.Word.{Word}
 use Rattle.scan_query.specs.declared.reading.Word.TheVariants as word
 use Rattle.scan_query.specs.Digits.{are_digits, is_written}
 use Rattle.scan_query.specs.Reading.{Fails, MovesTo, ParserView, Took, breach, is_it}
 use Rattle.scan_query.specs.Reading.{lead_at, wanted_by, word_by, word_view}
 
-pub fails_along : {a b : Option model.Breach} (e : Stop) → a ≡ b → Fails b e → Fails a e
+pub fails_along : {a b : Option model.Breach} (e : ReadError) → a ≡ b → Fails b e → Fails a e
 fails_along e h f = let P : Option model.Breach → Type 0 = λ x. Fails x e in subst P (sym h) f
 
 -- The exit of a `?`.
-pub exits : {A : Type 0} (front : List model.Wanted) (old : ParserView) (e : Stop)
-    (r : Result A Stop) (following : A → List model.Wanted) (new : ParserView)
+pub exits : {A : Type 0} (front : List model.Wanted) (old : ParserView) (e : ReadError)
+    (r : Result A ReadError) (following : A → List model.Wanted) (new : ParserView)
     → IsErrAnd r (λ x. x ≡ e)
     → ((more : List model.Wanted) → Fails (breach (front ++ more) old) e)
     → MovesTo front old r following new

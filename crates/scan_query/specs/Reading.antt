@@ -12,8 +12,8 @@ use Rattle.scan_query.specs.declared.reading.Lead.TheVariants as lead
 use Rattle.scan_query.specs.declared.reading.Mark.{Mark}
 use Rattle.scan_query.specs.declared.reading.Mark.TheVariants as mark
 use Rattle.scan_query.specs.declared.parser.Parser.{Parser}
-use Rattle.scan_query.specs.declared.reading.Stop.{Stop}
-use Rattle.scan_query.specs.declared.reading.Stop.TheVariants as stop
+use Rattle.scan_query.specs.declared.reading.ReadError.{ReadError}
+use Rattle.scan_query.specs.declared.reading.ReadError.TheVariants as stop
 use Rattle.scan_query.specs.declared.reading.Taken.{Taken}
 use Rattle.scan_query.specs.declared.reading.Word.{Word}
 use Rattle.scan_query.specs.declared.reading.Word.TheVariants as word
@@ -111,14 +111,14 @@ abbrev pub breach : List model.Wanted → ParserView → Option model.Breach
 breach wanted r = model.breach_of wanted r.begun r.pieces
 
 -- a fault that is told is the one that was found; want of memory may come of any text
-abbrev pub Fails : Option model.Breach → Stop → Type 0
+abbrev pub Fails : Option model.Breach → ReadError → Type 0
 Fails found stop.Memory = Unit {0}
 Fails found (stop.Breach at kind) = found ≡ Some (record { at = at; kind = kind })
 
 -- Where front is wanted first, and whatever is wanted after it, what was left is as good as what
 -- is left where following x is wanted first; or one of the tokens breaks a rule, which is the
 -- answer.
-abbrev pub MovesTo : {A : Type 0} → List model.Wanted → ParserView → Result A Stop
+abbrev pub MovesTo : {A : Type 0} → List model.Wanted → ParserView → Result A ReadError
     → (A → List model.Wanted) → ParserView → Type 0
 MovesTo front old (Ok x) following new = (wanted : List model.Wanted)
     → breach (front ++ wanted) old ≡ breach (following x ++ wanted) new
@@ -126,12 +126,12 @@ MovesTo front old (Err e) following new = (wanted : List model.Wanted)
     → Fails (breach (front ++ wanted) old) e
 
 -- the same where all of front is read
-abbrev pub Moves : {A : Type 0} → List model.Wanted → ParserView → Result A Stop → ParserView
+abbrev pub Moves : {A : Type 0} → List model.Wanted → ParserView → Result A ReadError → ParserView
     → Type 0
 Moves front old r new = MovesTo front old r (λ x. []) new
 
 -- no rule is broken, or this is the first token that breaks one
-abbrev pub Finds : {A : Type 0} → Option model.Breach → Result A Stop → Type 0
+abbrev pub Finds : {A : Type 0} → Option model.Breach → Result A ReadError → Type 0
 Finds found (Ok x) = found ≡ None
 Finds found (Err e) = Fails found e
 
@@ -145,7 +145,7 @@ pub record Took (word : model.Word) (at : ℕ) (old new : ParserView) : Type 0 w
   pub begun : new.begun ≡ old.begun
 
 -- One token was taken, or it is at fault whatever is wanted later.
-abbrev pub Takes : ParserView → Result Taken Stop → ParserView → Type 0
+abbrev pub Takes : ParserView → Result Taken ReadError → ParserView → Type 0
 Takes old (Ok t) new = Took (word_view t.word) t.at old new
 Takes old (Err e) new = (want : model.Wanted) (more : List model.Wanted)
     → Fails (breach (want ∷ more) old) e
