@@ -190,10 +190,10 @@ fn values_of(numbers: &[Digits<'_>], alloc: Global) -> Result<Vec<Value>, LineEr
 {
     let mut values = Vec::new(alloc);
     for number in numbers {
-        let Some(number_or_zero) = number.value() else {
+        let Some(value) = number.value() else {
             return Err(Bad(BadNumber));
         };
-        keep(&mut values, number_or_zero)?;
+        keep(&mut values, value)?;
     }
     Ok(values)
 }
@@ -227,9 +227,9 @@ fn fill_of(names: &[&[u8]], numbers: &[Digits<'_>]) -> Result<Instr, LineError>
         return Err(Bad(BadName));
     };
     match number.value() {
-        Some(number_or_zero) => Ok(Instr::Fill {
+        Some(value) => Ok(Instr::Fill {
             name,
-            number_or_zero,
+            value,
         }),
         None => Err(Bad(BadNumber)),
     }

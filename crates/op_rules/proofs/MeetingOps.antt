@@ -27,7 +27,7 @@ use Rattle.op_text.specs.Spelling.{statement_text, operation_text, MeetRules, Ea
 use Rattle.op_text.specs.Spelling.{HasNames, HasParam, HasState, HasEquation, HasStatement}
 use Rattle.op_text.specs.Spelling.{HasOperation, TermMeets, IfThere}
 use Rattle.op_rules.specs.Meets.{used, IsGood, IsNew, IsNewOf, IsNewLet, IsKnown, Context, names_of}
-use Rattle.op_rules.specs.Meets.{let_names, context_after, StatementMeets, BodyMeets, LetsRead}
+use Rattle.op_rules.specs.Meets.{let_names, next_context, StatementMeets, BodyMeets, LetsRead}
 use Rattle.op_rules.specs.Meets.{can_read}
 use Rattle.op_rules.specs.Meets.{OperationMeets, OpsMeet, at_start, SecondMeets}
 use Rattle.op_rules.proofs.Names.{AllFresh, among-append, or_both, each_map, differ-fresh}
@@ -111,7 +111,7 @@ body_back (st ∷ body) ops stands c count wanted rest m g s l e h =
     (body_defines (c.known ++ defines c.known st) body))) e in
     let good = good_append c.known (defines c.known st) g (statement_good st c m.0) in
     let go : Goes st ops c count wanted (in_turn statement_text body (codes "}" ∷ rest)) =
-    λ stands' s'. body_back body ops stands' (context_after c st) (count + 1) wanted rest m.1 good s'
+    λ stands' s'. body_back body ops stands' (next_context c st) (count + 1) wanted rest m.1 good s'
     (omega arith) e' h in
     statement_back st ops stands c count wanted
     (in_turn statement_text body (codes "}" ∷ rest)) m.0 g s (omega arith) go
@@ -192,7 +192,7 @@ body_has : (body : List Statement) (c : Context) → BodyMeets c body → Each I
 body_has [] c m g = tt
 body_has (st ∷ body) c m g = (
   statement_has st c m.0 g,
-  body_has body (context_after c st) m.1 (good_append c.known (defines c.known st) g
+  body_has body (next_context c st) m.1 (good_append c.known (defines c.known st) g
       (statement_good st c m.0)),
 )
 
@@ -249,7 +249,7 @@ op_back op ops rest m l f h =
     let head = codes "->" ∷ results_text op.result op.second body in
     let params = between_commas param_text op.params (codes ")" ∷ head) in
     let first = NewResult ∷ Colon ∷ ResultKind ∷ SecondResult ∷ FirstStmt ∷ Ops ∷ [] in
-    let context_after = Open ∷ NewParam ∷ Colon ∷ ParamKind ∷ Params ∷ Arrow ∷ first in
+    let following = Open ∷ NewParam ∷ Colon ∷ ParamKind ∷ Params ∷ Arrow ∷ first in
     let more = ops ++ op.name ∷ [] in
     let stands = names_of op.params ++ result_names op in
     let few = m.few_statements in
@@ -264,12 +264,12 @@ op_back op ops rest m l f h =
     let p = params_back op.params more (Arrow ∷ first) head m.has_params m.few_params m.params
     (differ-fresh [] (names_of op.params) (none_new (names_of op.params)) m.params_differ) q in
     one_pass (nat_le 32 (length ops)) why.TooMany (in_params ops [] []) (NewOp
-    ∷ context_after) (name_lexeme (codes "op")) (goes [] (op.name ∷ codes "(" ∷ params))
+    ∷ following) (name_lexeme (codes "op")) (goes [] (op.name ∷ codes "(" ∷ params))
     (le_passes 32 (length ops) l)
-    ∙ named NewOp context_after (in_params ops [] []) op.name (codes "(" ∷ params) n.name
+    ∙ named NewOp following (in_params ops [] []) op.name (codes "(" ∷ params) n.name
     ∙ two_pass (is_bad (spelling_of op.name) op.name || bytes_eq op.name (codes "trsp_init"))
     (is_among ops op.name) why.BadName why.Twice
-    (in_params more [] []) [] (name_lexeme op.name) (goes context_after (codes "(" ∷ params))
+    (in_params more [] []) [] (name_lexeme op.name) (goes following (codes "(" ∷ params))
     (or_both (is_bad (spelling_of op.name) op.name) (bytes_eq op.name (codes "trsp_init"))
     (good_passes op.name m.name) m.not_reserved) f
     ∙ p

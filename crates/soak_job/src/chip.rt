@@ -21,7 +21,7 @@ ghost use Rattle.soak_job.specs.Layout.{layout, case_queues, issues_at, FitsChip
 ghost use Rattle.soak_job.specs.Sums.{case_sum, in_both_banks};
 ghost use Rattle.soak_job.specs.OneCase.{CaseDone, IsFileOf, IsProgramOf, RisesLittle};
 
-use crate::cases::{Case, result_of, source_row_count, sources_of};
+use crate::cases::{Case, result_of, rows_of, sources_of};
 use crate::load::{CHIP, load_sources};
 use crate::sums::sum_of;
 use arrayvec::ArrayVec;
@@ -43,7 +43,7 @@ fn bases_of(kinds: &[Kind], n: u8) -> (ArrayVec<u16, 4>, u16)
     let mut row = 0;
     for kind in kinds {
         bases.push(row);
-        row += u16::from(source_row_count(*kind, n));
+        row += u16::from(rows_of(*kind, n));
     }
     (bases, row)
 }
@@ -60,7 +60,7 @@ fn bind(case: Case) -> Binding
         result: row,
         second: None,
         sources,
-        scratch: row + u16::from(source_row_count(result_of(case.op), case.n)),
+        scratch: row + u16::from(rows_of(result_of(case.op), case.n)),
     }
 }
 
@@ -160,6 +160,6 @@ pub fn do_case<D: Dram>(
     load_sources(chip, kinds, case.n, generator)?;
     run_case(chip, case, entry)?;
     let (_, base) = bases_of(kinds, case.n);
-    let sum = sum_of(chip, base, source_row_count(result_of(case.op), case.n))?;
+    let sum = sum_of(chip, base, rows_of(result_of(case.op), case.n))?;
     Ok(Outcome { counts, sum })
 }

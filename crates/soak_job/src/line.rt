@@ -34,7 +34,7 @@ fn add_number(text: &mut Line, word: &[u8], number: u64)
 }
 
 /// The line of a case: its operation and width, its row commands, and its sum.
-pub fn case_line(case: Case, counts: Counts, sum: u64) -> Line
+pub fn line_of(case: Case, counts: Counts, sum: u64) -> Line
     ensures { result.items ≡ case_line case counts sum }
 {
     let mut text = ArrayVec::new();

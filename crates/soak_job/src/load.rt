@@ -10,7 +10,7 @@ ghost use Rattle.soak_job.specs.Layout.{bases_from, source_row_count, soak_chip,
 ghost use Rattle.soak_job.specs.Words.{after_all, elements, sources_at};
 ghost use Rattle.soak_job.specs.OneCase.{WritesMore};
 
-use crate::cases::source_row_count;
+use crate::cases::rows_of;
 use crate::words::draw;
 use dram_model::{ChipFault, Dram, Geometry};
 use op_text::Kind;
@@ -56,7 +56,7 @@ pub(crate) fn load_sources<D: Dram>(
 {
     let mut row = 0;
     for kind in kinds {
-        let rows = source_row_count(*kind, n);
+        let rows = rows_of(*kind, n);
         let values = draw(generator, rows);
         let mut stage = [0; STAGE_WORDS];
         write_object(chip, CHIP, row, rows, &values, &mut stage)?;

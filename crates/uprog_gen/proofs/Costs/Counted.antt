@@ -10,7 +10,7 @@ use Rattle.op_text.specs.Meaning.{width}
 use Rattle.op_text.specs.Scratch.{names_width}
 use Rattle.op_text.specs.Costs.{op_aaps, op_aps}
 use Rattle.op_text.specs.declared.tree.Param.{Param}
-use Rattle.op_rules.specs.Meets.{Context, context_after, OperationMeets}
+use Rattle.op_rules.specs.Meets.{Context, next_context, OperationMeets}
 use Rattle.loop_ir.specs.declared.names.Slot.{Slot}
 use Rattle.loop_ir.specs.Plain.{Block, StepOf, AllParts}
 use Rattle.loop_ir.specs.Loops.{all_rounds}
@@ -137,7 +137,7 @@ module _ (o : Operation) (meets : OperationMeets o) (slots : Slots) (free_bit fr
   all_exactly (Compute target second p args ∷ rest) c st (q ∷ ps) w h =
       let s = Compute target second p args in
       let one = one_exactly c target second p args rest st q w.0 in
-      let more = all_exactly rest (context_after c s) (next_stage o c s rest st) ps w.1 h in
+      let more = all_exactly rest (next_context c s) (next_stage o c s rest st) ps w.1 h in
       record {
         settled = parts_both IsSettled q (joined ps) one.settled more.settled;
         aaps = λ n some. sum_joined turn_aaps n q ps
