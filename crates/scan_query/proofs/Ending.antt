@@ -45,9 +45,6 @@ pub at_end : (old : ParserView) → old.pieces ≡ [] → breach [] old ≡ None
 unfolding model.breach_of
 at_end old e = rw e refl
 
-pub left_none : (old : ParserView) → old.pieces ≡ [] → left old ≡ []
-left_none old e = ap bare_words e
-
 -- the query of a text
 pub is_query : (laws : QueryTextLaws) (text : List ℕ) (start new : ParserView) (k : ℕ)
     (before nodes : List query.Node) → before ≡ [] → start ≡ start_of text

@@ -3,13 +3,11 @@ use Rattle.std.proofs.Common.{◌≡◌, ℕ, Bool, true, false, ◌&&◌, List,
 use Rattle.std.proofs.Common.{None}
 use Rattle.std.proofs.Common.{Result, Ok, Err, cond, refl, sym, ap, ◌∙◌, subst}
 use Rattle.std.specs.Result.{IsErrAnd}
-use Rattle.std.specs.Char.{is_ascii_digit}
-use Rattle.std.specs.List.{AllByRecursion, AllPass}
+use Rattle.std.specs.List.{AllByRecursion}
 use Rattle.std.proofs.lemmas.Result.{err_from_is_err_and}
-use Rattle.std.proofs.lemmas.List.Sums.{AllPass-from_list_all}
 use Rattle.text_lex.specs.declared.token.TokenKind.{TokenKind}
 use Rattle.text_lex.specs.declared.token.TokenKind.TheVariants as kinds
-use Rattle.text_lex.specs.Lexical.{Item, Whole, Bad, IsRight, Lexeme, is_token}
+use Rattle.text_lex.specs.Lexical.{Item, Whole, Bad, IsRight, is_token}
 use Rattle.scan_model.specs.declared.QueryKind.{QueryKind}
 use Rattle.scan_model.specs.declared.QueryKind.TheVariants as kind
 use Rattle.scan_model.specs.Texts as model
@@ -20,7 +18,7 @@ use Rattle.scan_query.specs.declared.reading.Word.{Word}
 use Rattle.scan_query.specs.declared.reading.Word.TheVariants as word
 use Rattle.scan_query.specs.Digits.{are_digits, is_written}
 use Rattle.scan_query.specs.Reading.{Fails, MovesTo, ParserView, Took, breach, is_it}
-use Rattle.scan_query.specs.Reading.{lead_at, wanted_by, word_by, word_view}
+use Rattle.scan_query.specs.Reading.{lead_at, wanted_by, word_view}
 
 pub fails_along : {a b : Option model.Breach} (e : ReadError) → a ≡ b → Fails b e → Fails a e
 fails_along e h f = let P : Option model.Breach → Type 0 = λ x. Fails x e in subst P (sym h) f
@@ -105,26 +103,6 @@ mark_wrong mark.Comma word.Closes s e = refl
 mark_wrong mark.Comma word.Comma s e = cc
 mark_wrong mark.Comma word.Other s e = refl
 
-pub mark_word : (m : Mark) (w : Word) → is_it m w ≡ true → word_view w ≡ word_by m
-mark_word mark.Opens (word.Name text) e = cc
-mark_word mark.Opens (word.Number digits) e = cc
-mark_word mark.Opens word.Opens e = refl
-mark_word mark.Opens word.Closes e = cc
-mark_word mark.Opens word.Comma e = cc
-mark_word mark.Opens word.Other e = cc
-mark_word mark.Closes (word.Name text) e = cc
-mark_word mark.Closes (word.Number digits) e = cc
-mark_word mark.Closes word.Opens e = cc
-mark_word mark.Closes word.Closes e = refl
-mark_word mark.Closes word.Comma e = cc
-mark_word mark.Closes word.Other e = cc
-mark_word mark.Comma (word.Name text) e = cc
-mark_word mark.Comma (word.Number digits) e = cc
-mark_word mark.Comma word.Opens e = cc
-mark_word mark.Comma word.Closes e = cc
-mark_word mark.Comma word.Comma e = refl
-mark_word mark.Comma word.Other e = cc
-
 -- the numbers of a text are digits
 written : (k : TokenKind) (t : List ℕ) → is_token k t ≡ true → is_written k t ≡ true
 written kinds.Number [] e = cc
@@ -142,30 +120,6 @@ all_digits text [] all = refl
 all_digits text (Whole t ∷ items) all = both (is_written t.kind t.text) (are_digits items)
     (written t.kind t.text all.0.1) (all_digits text items all.1)
 all_digits text (Bad f ∷ items) all = all_digits text items all.1
-
-first_true : (a b : Bool) → (a && b) ≡ true → a ≡ true
-first_true true b e = refl
-first_true false b e = cc
-
-second_true : (a b : Bool) → (a && b) ≡ true → b ≡ true
-second_true true b e = e
-second_true false b e = cc
-
-number_digits : (k : TokenKind) (t : List ℕ) → is_written k t ≡ true → k ≡ kinds.Number
-    → AllPass is_ascii_digit t
-number_digits kinds.Number t e same = AllPass-from_list_all is_ascii_digit t e
-number_digits kinds.Name t e same = cc
-number_digits kinds.Symbol t e same = cc
-
-pub digits_first : (items rest : List Item) (t : Lexeme) → are_digits items ≡ true
-    → items ≡ Whole t ∷ rest → t.kind ≡ kinds.Number → AllPass is_ascii_digit t.text
-digits_first items rest t all e = number_digits t.kind t.text
-    (first_true (is_written t.kind t.text) (are_digits rest) (sym (ap are_digits e) ∙ all))
-
-pub digits_rest : (items rest : List Item) (t : Lexeme) → are_digits items ≡ true
-    → items ≡ Whole t ∷ rest → are_digits rest ≡ true
-digits_rest items rest t all e = second_true (is_written t.kind t.text) (are_digits rest)
-    (sym (ap are_digits e) ∙ all)
 
 -- what a query begins with
 pub start_is : (w : Word) (s : model.Begun) (found : Option model.Lead) → lead_at w ≡ found

@@ -6,7 +6,7 @@ use Rattle.std.specs.Prelude.{Result, Ok, Err, IfOk}
 use Rattle.host_edge.specs.Views.{FolderView, SinkView, Known, AppendsPart}
 use Rattle.faults.specs.Counts.{Rose}
 use Rattle.dram_model.specs.declared.dram.Counters.{Counters}
-use Rattle.dram_model.specs.View.{Began, ChipView, Kept, NotBegun}
+use Rattle.dram_model.specs.View.{Began, ChipView, Kept}
 use Rattle.dram_model.proofs.EventLaws.{Did-none, Grew-more, LogIs-more}
 use Rattle.uprog_code.specs.Shape.{Microprogram}
 use Rattle.cli_model.specs.World.{World, world}
@@ -79,16 +79,6 @@ case_went state c m files s t a b is l known k done few = record {
   );
   done = done;
   few = few;
-}
-
--- there was no memory for a case
-pub stops_at_take : (state : ℕ) (c : Case) (cs : List Case) (w : World)
-    → CasesGo state (c ∷ cs) w w (Err no.NoMemory)
-stops_at_take state c cs w = record {
-  programs = [];
-  are = tt;
-  goes = inr (refl, nothing_read w);
-  done = tt;
 }
 
 -- the chip failed in a case
@@ -238,24 +228,4 @@ soak_goes seed files s a b last result began l kept go = record {
   are = go.are;
   goes = inl (world files s b, (chip_used files s a b l, go.goes));
   left = left_of seed go.programs b last.chip result began kept go.done;
-}
-
-pub soak_unopened : (seed : ℕ) (files : FolderView) (s : SinkView) (a b : ChipView)
-    → NotBegun b → a.faults ≤ b.faults
-    → SoakGoes seed (world files s a) (world files s b) (Err no.NoMemory)
-soak_unopened seed files s a b not l = record {
-  programs = [];
-  are = tt;
-  goes = inr (inl (refl, chip_used files s a b l, inr not));
-  left = tt;
-}
-
-pub soak_failed : (seed : ℕ) (files : FolderView) (s : SinkView) (a b : ChipView)
-    → a.faults ≤ b.faults → Rose a.faults b.faults
-    → SoakGoes seed (world files s a) (world files s b) (Err no.ChipFailed)
-soak_failed seed files s a b l rose = record {
-  programs = [];
-  are = tt;
-  goes = inr (inr (refl, chip_used files s a b l, rose));
-  left = tt;
 }

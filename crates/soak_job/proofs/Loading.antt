@@ -102,17 +102,6 @@ pub record SoFar (n : ℕ) (kinds rest : List Kind) (first state row : ℕ) (sta
   pub completes : Completes n kinds rest first state row now.banks
   pub after_is : after_all state rest ≡ after_all first kinds
 
-pub at_start : (n : ℕ) (kinds : List Kind) (first : ℕ) (start : ChipView)
-    → SoFar n kinds kinds first first 0 start start
-at_start n kinds first start = let no_more : start.counters.writes
-    ≡ start.counters.writes + 2 * 0 = omega arith in record {
-      rows = omega arith;
-      writes = ap (λ x. record start.counters { writes = x }) no_more;
-      did = λ new d. d;
-      completes = λ banks low e. e;
-      after_is = refl;
-    }
-
 wide : (n : ℕ) (k : Kind) → 0 < n → 0 < width k n
 wide n Word p = p
 wide n Bit p = omega arith
