@@ -133,8 +133,8 @@ start_is word.Other s found e = ap (model.started s) e
 
 fits_case : (s : model.Begun) (l : model.Lead) (b : Bool)
     → model.fits (model.with_lead s l) ≡ b → model.started s (Some l)
-    ≡ cond b (Ok (model.following l, model.with_lead s l)) (Err kind.TooMany)
-fits_case s l b e = ap (λ x. cond x (Ok (model.following l, model.with_lead s l)) (Err
+    ≡ cond b (Ok (model.wanted_after l, model.with_lead s l)) (Err kind.TooMany)
+fits_case s l b e = ap (λ x. cond x (Ok (model.wanted_after l, model.with_lead s l)) (Err
     kind.TooMany)) e
 
 pub start_goes : (w : Word) (old mid new : ParserView) (at : ℕ) (l : model.Lead)
@@ -142,14 +142,14 @@ pub start_goes : (w : Word) (old mid new : ParserView) (at : ℕ) (l : model.Lea
     → model.fits (model.with_lead mid.begun l) ≡ true
     → new.begun ≡ model.with_lead mid.begun l → new.pieces ≡ mid.pieces
     → (more : List model.Wanted)
-    → breach (model.Start ∷ more) old ≡ breach (model.following l ++ more) new
+    → breach (model.Start ∷ more) old ≡ breach (model.wanted_after l ++ more) new
 start_goes w old mid new at l took found fits begun pieces more =
-    goes old new (word_view w) at model.Start (model.following l)
+    goes old new (word_view w) at model.Start (model.wanted_after l)
     (took.pieces ∙ ap (λ (ps : List model.Piece). (at, word_view w) ∷ ps) (sym pieces))
     (start_is w old.begun (Some l) found
     ∙ ap (λ s. model.started s (Some l)) (sym took.begun)
     ∙ fits_case mid.begun l true fits
-    ∙ ap (λ s. Ok (model.following l, s)) (sym begun)) more
+    ∙ ap (λ s. Ok (model.wanted_after l, s)) (sym begun)) more
 
 pub start_full : (w : Word) (old mid : ParserView) (at : ℕ) (l : model.Lead)
     → Took (word_view w) at old mid → lead_at w ≡ Some l

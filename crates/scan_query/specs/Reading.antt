@@ -45,7 +45,7 @@ lead_of lead.Ors = model.Ors
 
 -- what is wanted after the beginning of a query
 abbrev pub after_lead : Lead → List model.Wanted
-after_lead l = model.following (lead_of l)
+after_lead l = model.wanted_after (lead_of l)
 
 -- which beginning of a query a token is
 abbrev pub lead_at : Word → Option model.Lead

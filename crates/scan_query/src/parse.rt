@@ -32,7 +32,7 @@ fn push(nodes: &mut Vec<Node>, node: Node) -> Result<u8, ReadError>
 fn test(parser: &mut Parser<'_>, op: CmpOp, nodes: &mut Vec<Node>) -> Result<u8, ReadError>
     requires few { length nodes.old.items < parser.old.nodes }
     requires limit { parser.old.nodes ≤ 64 }
-    ensures moves { Moves (model.following (model.Compares op)) (seen parser.old) result
+    ensures moves { Moves (model.wanted_after (model.Compares op)) (seen parser.old) result
         (seen parser.new) }
     ensures reads { IfOk result (λ k. Reads (model.Name (model.lead_text (model.Compares op))
         ∷ left (seen parser.old)) k (seen parser.new) (map node_of nodes.old.items)
@@ -66,7 +66,7 @@ fn join_of(both: bool, a: u8, b: u8) -> Node
 fn negation(parser: &mut Parser<'_>, nodes: &mut Vec<Node>) -> Result<u8, ReadError>
     requires few { length nodes.old.items < parser.old.nodes }
     requires limit { parser.old.nodes ≤ 64 }
-    ensures moves { Moves (model.following model.Negates) (seen parser.old) result
+    ensures moves { Moves (model.wanted_after model.Negates) (seen parser.old) result
         (seen parser.new) }
     ensures reads { IfOk result (λ k. Reads (model.Name (codes "not") ∷ left (seen parser.old)) k
         (seen parser.new) (map node_of nodes.old.items) (map node_of nodes.new.items)) }
@@ -87,7 +87,8 @@ fn negation(parser: &mut Parser<'_>, nodes: &mut Vec<Node>) -> Result<u8, ReadEr
 fn join(parser: &mut Parser<'_>, both: bool, nodes: &mut Vec<Node>) -> Result<u8, ReadError>
     requires few { length nodes.old.items < parser.old.nodes }
     requires limit { parser.old.nodes ≤ 64 }
-    ensures moves { Moves (model.following model.Ands) (seen parser.old) result (seen parser.new) }
+    ensures moves { Moves (model.wanted_after model.Ands) (seen parser.old) result
+        (seen parser.new) }
     ensures reads { IfOk result (λ k. Reads (model.Name (join_text both) ∷ left (seen parser.old)) k
         (seen parser.new) (map node_of nodes.old.items) (map node_of nodes.new.items)) }
     ensures grown { OnOk result (parser.new.nodes + length nodes.old.items + 1
