@@ -44,9 +44,9 @@ leaves (p ∷ ps) [] = []
 leaves (p ∷ ps) (l ∷ ls) = if is_state p.space
     then record { lit = l; layout = p.which } ∷ leaves ps ls else leaves ps ls
 
--- the outputs that it writes to rows
+-- the outputs that it leaves in no cells
 abbrev pub row_outs : List Place → List Lit → List Lit
-row_outs [] ls = []
+row_outs [] ls = ls
 row_outs (p ∷ ps) [] = []
 row_outs (p ∷ ps) (l ∷ ls) = if is_state p.space then row_outs ps ls else l ∷ row_outs ps ls
 
