@@ -25,7 +25,7 @@ use Rattle.uprog_gen.specs.Code.{Part, row_space, round_ref, round_command}
 use Rattle.loop_ir.specs.Limits.{IsRound}
 use Rattle.uprog_gen.proofs.Rows.Rounds.{block_round}
 use Rattle.uprog_gen.specs.Parts.{IsPart}
-use Rattle.uprog_gen.specs.States.{enters}
+use Rattle.loop_ir.specs.States.{enters}
 use Rattle.uprog_gen.proofs.Rows.Named.{IsNamed, named_ref}
 
 below_kind : (k : Option Kind) (n i : ℕ) → IsBelow k n i → in_kind k n i ≡ true

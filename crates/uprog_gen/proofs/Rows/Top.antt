@@ -36,7 +36,7 @@ use Rattle.uprog_gen.specs.Settled.{IsSettled, rounds_counts, all_counted}
 use Rattle.uprog_gen.specs.Does.{DoesRounds, IsCheap}
 use Rattle.uprog_gen.proofs.Rows.Settled.{of_blocks, all_aaps, all_aps}
 use Rattle.uprog_gen.proofs.Rows.Alive.{chained}
-use Rattle.uprog_gen.proofs.Rows.Chains.{steps_find}
+use Rattle.loop_ir.specs.Chains.{steps_find}
 use Rattle.uprog_gen.proofs.Rows.Chained.{steps_chained}
 use Rattle.uprog_gen.proofs.Rows.Agree.{AreRounds, IsMine, rounds_agree, rounds_keep}
 use Rattle.uprog_gen.proofs.Rows.Laid.{laid, value_among, bit_among, word_among}
