@@ -1,6 +1,6 @@
 -- What a loop program keeps, so that its code is legal and short.
-use Rattle.std.specs.Prelude.{◌≡◌, ℕ, ◌+◌, ◌<◌, ◌≤◌, Bool, true, false, ◌&&◌, List, [], ◌++◌, length}
-use Rattle.std.specs.Prelude.{not, Option, Some, None}
+use Rattle.std.specs.Prelude.{◌≡◌, ℕ, ◌+◌, ◌<◌, ◌≤◌, Bool, true, false, ◌&&◌, List, [], ◌++◌}
+use Rattle.std.specs.Prelude.{length, not, Option, Some, None}
 use Rattle.std.specs.List.{AllByRecursion, list_all}
 use Rattle.bit_rows.specs.declared.TheConstants.{WIDTH_MAX}
 use Rattle.mig_graph.specs.Graph.{IsGraph}
@@ -91,7 +91,8 @@ pub record IsRound (may_have : Spot → Type 0) (n : ℕ) (r : RoundOf Block) : 
 
 -- At every width code can be made of the loop program: at most 12 bodies, each small, which find the
 -- states that they read, and at most 256 instructions
-pub record CanCompile (may_have : ℕ → Spot → Type 0) (steps : List (StepOf Block)) : Type 0 where
+pub record CanCompile (may_have : ℕ → Spot → Type 0) (steps : List (StepOf Block)) : Type
+    0 where
   pub small : AllParts IsSmall steps
   pub find : steps_find [] steps ≡ true
   pub stand : list_all step_stands steps ≡ true
