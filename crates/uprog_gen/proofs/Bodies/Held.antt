@@ -11,11 +11,7 @@ use Rattle.row_alloc.specs.declared.body.Held.{Held}
 use Rattle.row_alloc.specs.Rows.{out_at}
 use Rattle.row_alloc.specs.Body.{WritesLate}
 use Rattle.row_alloc.specs.Held.{have_layouts}
-use Rattle.row_alloc.specs.HeldBodies.{HeldBody, ZeroInT0, OneInT0, ZeroInT1, OneInT1}
-use Rattle.row_alloc.specs.HeldBodies.{OnesInT2AndT3, ZeroInT2AndDcc0, ZeroInT3AndDcc1}
-use Rattle.row_alloc.specs.HeldBodies.{ZeroInTurnedT3AndDcc1, HeldCompared, HeldBoth, HeldEither}
-use Rattle.row_alloc.specs.HeldBodies.{HeldUnlike, HeldOrdered, HeldLessened, HeldNegatedIf}
-use Rattle.row_alloc.specs.HeldBodies.{HeldMultiplied, HeldDivided, HeldAgreed, held_graph}
+use Rattle.row_alloc.specs.HeldBodies.{HeldBody, ZeroInT0, HeldNegatedIf, held_graph}
 use Rattle.row_alloc.specs.HeldBodies.{held_inputs, held_nodes, held_outs, enter_in, leave_in}
 use Rattle.row_alloc.specs.HeldBodies.{held_at, held_sequence_for}
 use Rattle.row_alloc.proofs.HeldLate.{KeepsHeld, held_late}
@@ -25,6 +21,7 @@ use Rattle.loop_ir.specs.Spots.{nth_place, is_state}
 use Rattle.loop_ir.specs.Same.{same_lit, same_lits, same_nodes}
 use Rattle.loop_ir.specs.States.{has_states, row_count, RowsFirst, StatesFit, enters, leaves}
 use Rattle.loop_ir.specs.States.{row_outs, same_held, same_helds, is_held_body, held_among, held_of}
+use Rattle.loop_ir.specs.States.{held_bodies}
 use Rattle.loop_ir.specs.Costs.{same_sub, turn_cost, held_cost}
 use Rattle.loop_ir.specs.Limits.{IsSmall, is_served}
 use Rattle.uprog_gen.specs.Parts.{IsOuts}
@@ -164,10 +161,7 @@ served b outs small states is = by (held_of b) refl (small.known states)
     by : (o : Option HeldBody) → held_of b ≡ o → is_served o b ≡ true → IsServed b outs
     by None e s = absurd (cc)
     by (Some h) e s =
-        let same = held_body_is h b (found_held (ZeroInT0 ∷ OneInT0 ∷ ZeroInT1 ∷ OneInT1
-        ∷ OnesInT2AndT3 ∷ ZeroInT2AndDcc0 ∷ ZeroInT3AndDcc1 ∷ ZeroInTurnedT3AndDcc1 ∷ HeldCompared
-        ∷ HeldBoth ∷ HeldEither ∷ HeldUnlike ∷ HeldOrdered ∷ HeldLessened ∷ HeldNegatedIf
-        ∷ HeldMultiplied ∷ HeldDivided ∷ HeldAgreed ∷ []) b h e) in
+        let same = held_body_is h b (found_held held_bodies b h e) in
         record {
           body = h;
           is = e;

@@ -1,7 +1,7 @@
 -- The rows of a body's outputs, one after another.
 use Rattle.std.proofs.Common.{◌≡◌, ◌≢◌, ℕ, zero, suc, ◌+◌, ◌<◌, ◌≤◌, List, [], ◌∷◌, ◌++◌, length}
 use Rattle.std.proofs.Common.{Option, Some, None, refl, sym, ap, ◌∙◌, subst, ⊎_elim, arith}
-use Rattle.std.proofs.Common.{length-append, map, Bool, true, false, cond, ◌*◌}
+use Rattle.std.proofs.Common.{length-append, append_assoc, drop, map, Bool, true, false, cond, ◌*◌}
 use Rattle.std.proofs.lemmas.List.{get_or_append_left}
 use Rattle.std.specs.Prelude.{slice_index_or, IfSome, IfNone, not, ◌==◌, ◌&&◌}
 use Rattle.std.proofs.Math.Seq.{get_or-append_seam}
@@ -10,6 +10,7 @@ use Rattle.mig_graph.specs.declared.Lit.{Lit}
 use Rattle.mig_graph.specs.Literals.{is_complemented}
 use Rattle.mig_graph.specs.Graph.{size_of}
 use Rattle.row_alloc.specs.declared.body.OutRow.{OutRow}
+use Rattle.row_alloc.specs.declared.body.Held.{Held}
 use Rattle.row_alloc.specs.Rows.{out_at}
 use Rattle.row_alloc.specs.Body.{FitBody, DoesBody, WritesLate}
 use Rattle.row_alloc.specs.declared.body.BodyRef.TheVariants.{Out}
@@ -19,7 +20,7 @@ use Rattle.row_alloc.specs.Phases.{source_of}
 use Rattle.row_alloc.specs.Known.{WordBody, graph_in, outs_in, sequence_for, known_at}
 use Rattle.loop_ir.specs.declared.ir.Place.{Place}
 use Rattle.loop_ir.specs.Plain.{Block}
-use Rattle.loop_ir.specs.Spots.{nth_place}
+use Rattle.loop_ir.specs.Spots.{nth_place, is_state}
 use Rattle.uprog_gen.specs.Parts.{IsOuts, IsPart}
 use Rattle.mig_graph.specs.Outputs.{lit_at}
 use Rattle.loop_ir.specs.Costs.{is_copy, is_not, is_and, is_or, is_xor, is_add, turn_cost}
@@ -44,6 +45,44 @@ pub nth-at : (places : List Place) (k : ℕ) (d : Place) → k < length places
 nth-at [] k d lt = absurd (omega arith)
 nth-at (p ∷ ps) zero d lt = refl
 nth-at (p ∷ ps) (suc k) d lt = nth-at ps k d (omega arith)
+
+-- a state that is read is an input of the graph
+pub state_input : (b : Block) (k : ℕ) (p : Place) → IsSmall b → k < length b.reads
+    → p ≡ slice_index_or b.reads k p → is_state p.space ≡ true → k < b.graph.inputs
+state_input b k p small lt e st = small.states.read k lt
+    (ap (λ (q : Place). is_state q.space) (sym (e ∙ nth-at b.reads k p lt)) ∙ st)
+
+-- the first of what is left
+front_is : {A : Type 0} (xs : List A) (j : ℕ) (x : A) → j < length xs → x ≡ slice_index_or xs j x
+    → drop j xs ≡ x ∷ drop (j + 1) xs
+front_is [] j x lt e = absurd (omega arith)
+front_is (y ∷ ys) zero x lt e = ap (λ z. z ∷ ys) (sym e)
+front_is (y ∷ ys) (suc j) x lt e =
+    let z : suc (j + 1) ≡ suc j + 1 = omega arith in
+    front_is ys j x (omega arith) e ∙ ap (λ k. x ∷ drop k (y ∷ ys)) z
+
+-- the outputs that are left in cells, one place after another
+module _ (ps : List Place) (ls : List Lit) (j : ℕ) (p : Place) (l : Lit) (hs : List Held)
+    (lt : j < length ps) (size : length ls ≡ length ps) (at : p ≡ slice_index_or ps j p)
+    (out : l ≡ slice_index_or ls j l)
+    (is : hs ++ leaves (drop j ps) (drop j ls) ≡ leaves ps ls) where
+  abbrev rest : List Held
+  rest = leaves (drop (j + 1) ps) (drop (j + 1) ls)
+
+  left_here : leaves (drop j ps) (drop j ls)
+      ≡ cond (is_state p.space) (record { lit = l; layout = p.which } ∷ rest) rest
+  left_here = ap (λ qs. leaves qs (drop j ls)) (front_is ps j p lt at)
+      ∙ ap (λ ms. leaves (p ∷ drop (j + 1) ps) ms) (front_is ls j l (omega (arith, lt, size)) out)
+
+  pub state_left : is_state p.space ≡ true
+      → (hs ++ record { lit = l; layout = p.which } ∷ []) ++ rest ≡ leaves ps ls
+  state_left st = append_assoc hs (record { lit = l; layout = p.which } ∷ []) rest
+      ∙ ap (λ t. hs ++ t) (sym (left_here
+      ∙ ap (λ c. cond c (record { lit = l; layout = p.which } ∷ rest) rest) st)) ∙ is
+
+  pub row_left : is_state p.space ≡ false → hs ++ rest ≡ leaves ps ls
+  row_left st = ap (λ t. hs ++ t) (sym (left_here
+      ∙ ap (λ c. cond c (record { lit = l; layout = p.which } ∷ rest) rest) st)) ∙ is
 
 -- what is found for one output
 pub record IsFound (b : Block) (j : ℕ) (out : OutRow) : Type 0 where
