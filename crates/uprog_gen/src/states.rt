@@ -85,8 +85,8 @@ fn leaves(body: &Body, alloc: Global) -> Result<Vec<Held>, NoMemory>
     let mut leave = Vec::new(alloc);
     for j in 0..body.writes.len() {
         let place = body.writes[j];
+        let lit = body.graph.outs[j];
         if is_state(place) {
-            let lit = body.graph.outs[j];
             let layout = place.which;
             keep(&mut leave, Held { lit, layout })?;
         }

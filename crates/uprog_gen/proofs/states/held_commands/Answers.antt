@@ -1,4 +1,4 @@
-use Rattle.std.proofs.Common.{◌≡◌, ◌∙◌}
+use Rattle.std.proofs.Common.{◌≡◌, ◌∙◌, rules}
 use Rattle.loop_ir.specs.Plain.{block_of}
 use Rattle.uprog_gen.proofs.Bodies.Held.{served, entering_listed, leaving_listed}
 use Rattle.uprog_gen.proofs.Bodies.Outs.{fit}
@@ -37,4 +37,5 @@ returns-clause-held c =
     let w = c.in-Some.ensures.word s.body s.same.graph s.lits
     (c.deref.ensures.value ∙ c.in_ok-enter.ensures ∙ s.same.enter)
     (c.deref-2.ensures.value ∙ c.in_ok-leave.ensures ∙ s.same.leave) s.late in
-    (s.body, (s.is, ?))
+    let e : c.in_ok-to_vec-in-Some.field-0.items ≡ c.in-Some.cmds.now = search rules in
+    (s.body, s.is, e ∙ w)
