@@ -335,25 +335,25 @@ states_after [] k f le lt = absurd (omega arith)
 states_after (p ∷ ps) k f le lt = state_step p ps k (is_state p.space) refl f le (omega (arith, lt))
     (λ j g l m. states_after ps j g l m)
 
-rows_first : (ps : List Place) → are_rows_first ps ≡ true → RowsFirst ps
+pub rows_first : (ps : List Place) → are_rows_first ps ≡ true → RowsFirst ps
 rows_first ps f = record {
   row = rows_before ps;
   state = λ k le lt. states_after ps k f le lt;
 }
 
-or_parts : (a b : Bool) → (a || b) ≡ false → (a ≡ false) × (b ≡ false)
+pub or_parts : (a b : Bool) → (a || b) ≡ false → (a ≡ false) × (b ≡ false)
 or_parts true b e = absurd cc
 or_parts false b e = (refl, e)
 
 -- of places that are no states each is a row
-none_at : (ps qs : List Place) (k : ℕ) → list_any (λ p. is_state p.space) (ps ++ qs) ≡ false
+pub none_at : (ps qs : List Place) (k : ℕ) → list_any (λ p. is_state p.space) (ps ++ qs) ≡ false
     → k < length ps → is_state (nth_place ps k).space ≡ false
 none_at [] qs k none lt = absurd (omega arith)
 none_at (p ∷ ps) qs zero none lt = (or_parts (is_state p.space) _ none).0
 none_at (p ∷ ps) qs (suc k) none lt = none_at ps qs k (or_parts (is_state p.space) _ none).1
     (omega arith)
 
-none_first : (ps qs : List Place) → list_any (λ p. is_state p.space) (ps ++ qs) ≡ false
+pub none_first : (ps qs : List Place) → list_any (λ p. is_state p.space) (ps ++ qs) ≡ false
     → are_rows_first qs ≡ true
 none_first [] [] none = refl
 none_first [] (q ∷ qs) none =

@@ -6,6 +6,7 @@ pub mod Summed
 pub mod Costing
 pub mod Fitting
 pub mod Alike
+pub mod NoStates
 pub mod Good
 pub mod EveryRound
 pub mod Compile
