@@ -1,4 +1,5 @@
 -- What commands and rounds do to the rows of a bank.
+pub mod Issued
 pub mod Rounds
 pub mod Alive
 pub mod Chained

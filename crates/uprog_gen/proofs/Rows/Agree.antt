@@ -29,7 +29,8 @@ use Rattle.loop_ir.specs.Loops.{RoundOf, sub_value}
 use Rattle.loop_ir.specs.Spots.{Spot, Spots, nth_place, spot_at, spot_in, nth_spot, IsOwn}
 use Rattle.loop_ir.specs.Spots.{round_env, after_round, after_rounds, is_state}
 use Rattle.uprog_gen.specs.Where.{spot_row, IsSpot, Agree}
-use Rattle.uprog_gen.specs.Code.{Part, row_space, round_ref, round_command, rounds_commands}
+use Rattle.uprog_gen.specs.Code.{Part, row_space}
+use Rattle.uprog_gen.proofs.Rows.Issued.{round_ref, round_command, rounds_commands}
 use Rattle.loop_ir.specs.Limits.{IsRound}
 use Rattle.uprog_gen.proofs.Rows.Rounds.{IsLaid, round_rows, block_round}
 use Rattle.uprog_gen.specs.Parts.{IsPart}
