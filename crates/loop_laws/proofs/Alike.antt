@@ -123,7 +123,7 @@ module _ (rooms : List Room) (rows : HaveRows rooms) where
       (map (placed rooms) ms ++ map (placed rooms) ns)) (state_like m.owner)
       ∙ ap (λ t. is_state (room_for [] m.owner).space || t) (any_like ms ns)
 
-  has_like : (b : Marked) → has_states (placed_body rooms b) ≡ has_states (placed_body [] b)
+  pub has_like : (b : Marked) → has_states (placed_body rooms b) ≡ has_states (placed_body [] b)
   has_like b = any_like b.reads b.writes
 
   body_like : (h : HeldBody) (b : Marked) → is_held_body h (placed_body rooms b)
@@ -149,7 +149,7 @@ module _ (rooms : List Room) (rows : HaveRows rooms) where
       ap (λ c. cond c (Some h) (held_among hs (placed_body rooms b))) (body_like h b)
       ∙ ap (λ t. cond (is_held_body h (placed_body [] b)) (Some h) t) (among_like hs b)
 
-  held_like : (b : Marked) → held_of (placed_body rooms b) ≡ held_of (placed_body [] b)
+  pub held_like : (b : Marked) → held_of (placed_body rooms b) ≡ held_of (placed_body [] b)
   held_like b = among_like held_bodies b
 
   finds_like : (alive : List ℕ) (b : Marked) → finds alive (placed_body rooms b)
@@ -278,7 +278,7 @@ module _ (f : Block → ℕ) (rooms : List Room)
       ap (λ x. 2 * ((n - 1) * x) + steps_sum f n (placed_steps rooms ss)) (like b)
       ∙ ap (λ x. 2 * ((n - 1) * f (placed_body [] b)) + x) (sum_like n ss)
 
-  rounds_like : (n : ℕ) (ss : List (StepOf Marked))
+  pub rounds_like : (n : ℕ) (ss : List (StepOf Marked))
       → rounds_sum f (all_rounds n (placed_steps rooms ss))
       ≡ rounds_sum f (all_rounds n (placed_steps [] ss))
   rounds_like n ss =
@@ -366,7 +366,7 @@ most_is : (a b : ℕ) → nat_le a b ≡ true → a ≤ b
 most_is a b e = grind arith
 
 -- a place's subscript is its mark's
-sub_like : (rooms : List Room) (ms : List Mark) (k : ℕ)
+pub sub_like : (rooms : List Room) (ms : List Mark) (k : ℕ)
     → (nth_place (map (placed rooms) ms) k).sub ≡ (nth_place (map (placed []) ms) k).sub
 sub_like rooms [] k = refl
 sub_like rooms (m ∷ ms) zero = refl

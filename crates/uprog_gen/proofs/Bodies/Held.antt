@@ -132,7 +132,7 @@ row_lits (p ∷ ps) (l ∷ ls) outs n first m h = by (is_state p.space) refl out
         ∙ ap (λ xs. l ∷ xs) (more (rest e) os (omega (arith, m))
         (λ j lt. h (suc j) (omega (arith, lt))))
 
-not_same : (c : Bool) → not c ≡ true → c ≡ true → ⊥
+pub not_same : (c : Bool) → not c ≡ true → c ≡ true → ⊥
 not_same true h e = cc
 not_same false h e = cc
 
