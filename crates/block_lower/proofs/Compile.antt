@@ -34,6 +34,7 @@ use Rattle.loop_ir.specs.Costs.{code_cost, step_bodies, bodies}
 use Rattle.loop_ir.specs.Limits.{IsSmall, may_stand, step_stands, IsRound, CanCompile}
 use Rattle.loop_ir.specs.Statements.{Slots, holds_kind, targets_of, statement_names}
 use Rattle.loop_ir.specs.Lowered.{IsRowOf, IsStatementRow}
+use Rattle.loop_laws.proofs.NoStates.{HasRows, has_rows, rows_fit, no_state_sought}
 use Rattle.block_lower.specs.Inputs.{block_inputs, name_at}
 use Rattle.block_lower.specs.Form.{kind_sub, place_of, places_of, constant, start, IsBlockBody}
 use Rattle.block_lower.proofs.Names.{among-at}
@@ -223,6 +224,20 @@ few-uses : (down : Bool) → length (filter (uses down) others) ≤ 3
 few-uses true = omega arith
 few-uses false = omega arith
 
+-- its places are rows
+body-rows : {slots : Slots} {fb fw : ℕ} {b : Block} {body : Body} → Given slots fb fw b
+    → IsBlockBody slots b body → HasRows body
+body-rows {b = b} {body = body} g is =
+    has_rows body
+    (λ k l. let longer = reads-long is in
+    let kk : k < length (block_inputs b) = omega (arith, l, longer) in
+    ap (λ (p : Place). is_state p.space) (read-place is k kk)
+    ∙ name-row g b.down (name_at (block_inputs b) k) (input-at b k kk))
+    (λ j l. let long = writes-long is in
+    let kj : j < length b.assigns = omega (arith, l, long) in
+    ap (λ (p : Place). is_state p.space) (write-place is j kj)
+    ∙ name-row g b.down (name_at (targets_of b.assigns) j) (target-named b j kj))
+
 pub body-small : {slots : Slots} {fb fw : ℕ} {b : Block} {body : Body} → Given slots fb fw b
     → IsBlockBody slots b body → length (block_inputs b) ≤ 80 → IsSmall body
 body-small {b = b} {body = body} g is most =
@@ -232,17 +247,8 @@ body-small {b = b} {body = body} g is most =
     let k = is.nodes in
     record {
       well = body-well g is;
-      written = let l = writes-long is in omega (arith, m, l);
-      read_rows = λ k l.
-          let longer = reads-long is in
-          let kk : k < length (block_inputs b) = omega (arith, l, longer) in
-          ap (λ (p : Place). is_state p.space) (read-place is k kk)
-          ∙ name-row g b.down (name_at (block_inputs b) k) (input-at b k kk);
-      write_rows = λ j l.
-          let long = writes-long is in
-          let kj : j < length b.assigns = omega (arith, l, long) in
-          ap (λ (p : Place). is_state p.space) (write-place is j kj)
-          ∙ name-row g b.down (name_at (targets_of b.assigns) j) (target-named b j kj);
+      states = let l = writes-long is in rows_fit body (body-rows g is) (omega (arith, m, l));
+      known = λ has. absurd (let none = body-rows g is in cc);
       graph = is.graph;
       inputs = let i = is.inputs in omega (arith, i, most);
       outputs = omega (arith, m, a);
@@ -259,13 +265,15 @@ constant-row : (v : Bool) (p : Place) → is_state p.space ≡ false → (j : �
 constant-row v p r zero l = r
 constant-row v p r (suc j) l = absurd (omega arith)
 
+constant-rows : (v : Bool) (p : Place) → is_state p.space ≡ false → HasRows (constant v p)
+constant-rows v p r = has_rows (constant v p) (λ k l. absurd (omega arith)) (constant-row v p r)
+
 constant-small : (v : Bool) (p : Place) → p.sub ≡ Zero → is_state p.space ≡ false
     → IsSmall (constant v p)
 constant-small v p e r = record {
   well = constant-well v p;
-  written = refl;
-  read_rows = λ k l. absurd (omega arith);
-  write_rows = λ j l. constant-row v p r j l;
+  states = rows_fit (constant v p) (constant-rows v p r) refl;
+  known = λ has. absurd (let none = constant-rows v p r in cc);
   graph = empty-graph;
   inputs = omega arith;
   outputs = omega arith;
@@ -476,6 +484,11 @@ can-compile {slots = slots} {fb = fb} {fw = fw} {b = b} {body = body} g is most 
       constant-small s.start (place_of b.down (slots s.name)) (state-sub g b.down s.name e)
       (name-row g b.down s.name (written-named b s.name (state-written b s.name e))))
       (body-small g is most);
+  find = no_state_sought [] (map (start slots b.down) b.states ++ Along body ∷ [])
+      (parts-all HasRows slots b body b.states (λ x e. e) (λ s e.
+      constant-rows s.start (place_of b.down (slots s.name))
+      (name-row g b.down s.name (written-named b s.name (state-written b s.name e))))
+      (body-rows g is));
   stand = steps-stand g is b.states (λ x e. e);
   rounds = λ n lt most. steps-all (IsRound (IsStatementRow slots fb fw (Visit b) n) n) slots b body
       n b.states (λ x e. e) (start-round g n lt) (λ j l. body-round g is n j l);

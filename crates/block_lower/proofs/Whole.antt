@@ -68,7 +68,7 @@ lowered {slots = slots} {fb = fb} {fw = fw} {b = b} {steps = steps} g most form 
       can = can-compile g is most;
       does = λ n lt wide. record {
         gives = block-gives g is n lt;
-        keeps = λ bits q out. block-keeps g is n lt bits q (λ r. out (inl r));
+        keeps = λ bits q row out. block-keeps g is n lt bits q (λ r. out (inl r));
       };
       cheap = λ n lt wide. within-ceiling is n
           (rounds_cost (all_rounds n (map (start slots b.down) b.states ++ Along form.body ∷ [])))

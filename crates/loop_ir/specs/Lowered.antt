@@ -1,6 +1,6 @@
 -- When a loop program does a statement.
-use Rattle.std.specs.Prelude.{◌≡◌, ◌⊎◌, ℕ, ◌+◌, ◌*◌, ◌<◌, ◌≤◌, Bool, true, List, [], ◌∷◌, map}
-use Rattle.std.specs.Prelude.{Option, Some, None}
+use Rattle.std.specs.Prelude.{◌≡◌, ◌⊎◌, ℕ, ◌+◌, ◌*◌, ◌<◌, ◌≤◌, Bool, true, false, List, [], ◌∷◌}
+use Rattle.std.specs.Prelude.{map, Option, Some, None}
 use Rattle.std.specs.List.{range_with_len}
 use Rattle.bit_rows.specs.declared.TheConstants.{WIDTH_MAX}
 use Rattle.op_text.specs.declared.tree.Kind.{Kind}
@@ -16,7 +16,7 @@ use Rattle.loop_ir.specs.declared.ir.Space.TheVariants.{ScratchBit, ScratchWord}
 use Rattle.loop_ir.specs.declared.names.Slot.{Slot}
 use Rattle.loop_ir.specs.Plain.{StepOf, Block}
 use Rattle.loop_ir.specs.Loops.{all_rounds}
-use Rattle.loop_ir.specs.Spots.{Spot, Spots, spot_in, after_rounds}
+use Rattle.loop_ir.specs.Spots.{Spot, Spots, spot_in, after_rounds, is_state}
 use Rattle.loop_ir.specs.WellFormed.{AreWellFormed}
 use Rattle.loop_ir.specs.Costs.{rounds_cost, plain_costs}
 use Rattle.loop_ir.specs.Limits.{CanCompile}
@@ -60,8 +60,8 @@ abbrev pub IsStatementRow : Slots → ℕ → ℕ → Statement → ℕ → Spot
 IsStatementRow slots free_bit free_word s n q = IsRowOf n slots (statement_names s) q
     ⊎ IsInside n free_bit free_word s q
 
--- At width n, whatever the rows hold: where the rows of the names that it reads hold their values,
--- the rows of the names that it sets hold theirs after it; and no other row changes but the
+-- At width n, whatever rows and cells hold: where the rows of the names that it reads hold their
+-- values, the rows of the names that it sets hold theirs after it; and no other row changes but the
 -- internal scratch
 pub record Does (slots : Slots) (free_bit free_word : ℕ) (s : Statement) (n : ℕ)
     (steps : List (StepOf Block)) : Type 0 where
@@ -69,7 +69,8 @@ pub record Does (slots : Slots) (free_bit free_word : ℕ) (s : Statement) (n : 
       → ((name : List ℕ) → is_among (read_names s) name ≡ true → Holds n slots held bits name)
       → (name : List ℕ) → is_among (written_names s) name ≡ true
       → Holds n slots (after_statement n held s) (after_rounds n (all_rounds n steps) bits) name
-  pub keeps : (bits : Spots) (q : Spot) → (IsChanged n slots free_bit free_word s q → ⊥)
+  pub keeps : (bits : Spots) (q : Spot) → is_state q.space ≡ false
+      → (IsChanged n slots free_bit free_word s q → ⊥)
       → after_rounds n (all_rounds n steps) bits q ≡ bits q
 
 -- the kind at a place, which is a word where there is none

@@ -44,9 +44,9 @@ leaves (p ∷ ps) [] = []
 leaves (p ∷ ps) (l ∷ ls) = if is_state p.space
     then record { lit = l; layout = p.which } ∷ leaves ps ls else leaves ps ls
 
--- the outputs that it writes to rows
+-- the outputs that it leaves in no cells
 abbrev pub row_outs : List Place → List Lit → List Lit
-row_outs [] ls = []
+row_outs [] ls = ls
 row_outs (p ∷ ps) [] = []
 row_outs (p ∷ ps) (l ∷ ls) = if is_state p.space then row_outs ps ls else l ∷ row_outs ps ls
 
@@ -81,9 +81,12 @@ abbrev pub held_among : List HeldBody → Block → Option HeldBody
 held_among [] b = None
 held_among (h ∷ hs) b = if is_held_body h b then Some h else held_among hs b
 
+-- the bodies that hold states
+abbrev pub held_bodies : List HeldBody
+held_bodies = ZeroInT0 ∷ OneInT0 ∷ ZeroInT1 ∷ OneInT1 ∷ OnesInT2AndT3 ∷ ZeroInT2AndDcc0
+    ∷ ZeroInT3AndDcc1 ∷ ZeroInTurnedT3AndDcc1 ∷ HeldCompared ∷ HeldBoth ∷ HeldEither ∷ HeldUnlike
+    ∷ HeldOrdered ∷ HeldLessened ∷ HeldNegatedIf ∷ HeldMultiplied ∷ HeldDivided ∷ HeldAgreed ∷ []
+
 -- which of the bodies that hold states it is
 abbrev pub held_of : Block → Option HeldBody
-held_of b = held_among (ZeroInT0 ∷ OneInT0 ∷ ZeroInT1 ∷ OneInT1 ∷ OnesInT2AndT3 ∷ ZeroInT2AndDcc0
-    ∷ ZeroInT3AndDcc1 ∷ ZeroInTurnedT3AndDcc1 ∷ HeldCompared ∷ HeldBoth ∷ HeldEither ∷ HeldUnlike
-    ∷ HeldOrdered ∷ HeldLessened ∷ HeldNegatedIf ∷ HeldMultiplied ∷ HeldDivided ∷ HeldAgreed ∷ [])
-    b
+held_of b = held_among held_bodies b

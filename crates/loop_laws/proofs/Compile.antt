@@ -30,7 +30,7 @@ well : (b : Block) → IsMade b → IsSlim b → IsWellFormed b
 well b made slim = record {
   named = made.named;
   reads = slim.reads;
-  writes = omega (arith, slim.writes);
+  writes = omega (arith, slim.states.written);
   apart = slim.apart;
   same = slim.same;
 }
@@ -38,9 +38,8 @@ well b made slim = record {
 small : (b : Block) → IsMade b → IsSlim b → IsSmall b
 small b made slim = record {
   well = well b made slim;
-  written = slim.writes;
-  read_rows = slim.read_rows;
-  write_rows = slim.write_rows;
+  states = slim.states;
+  known = slim.known;
   graph = made.graph;
   inputs = slim.inputs;
   outputs = slim.outputs;
@@ -54,6 +53,7 @@ made_compile may_have ss made form = (
   parts_both IsMade IsSlim IsWellFormed well ss made form.slim,
   record {
     small = parts_both IsMade IsSlim IsSmall small ss made form.slim;
+    find = form.find;
     stand = form.stand;
     rounds = form.rounds;
     size = form.size;

@@ -1,9 +1,10 @@
 -- Every round of a loop program by owners keeps the rules.
 use Rattle.std.proofs.Common.{◌≡◌, ℕ, zero, suc, ◌+◌, ◌-◌, ◌*◌, ◌<◌, ◌≤◌, Bool, true, false, List}
 use Rattle.std.proofs.Common.{[], ◌∷◌, ◌++◌, map, length, refl, sym, ap, ◌∙◌, subst, ⊎_elim, arith}
+use Rattle.std.proofs.Common.{◌⊎◌, inl, inr}
 use Rattle.std.specs.Prelude.{◌&&◌, ◌==◌, nat_le}
 use Rattle.std.specs.List.{AllByRecursion, list_all}
-use Rattle.std.proofs.lemmas.Bool.{cases_eq, and_parts, eqb-true}
+use Rattle.std.proofs.lemmas.Bool.{cases_eq, cases_lt, and_parts, eqb-true}
 use Rattle.std.proofs.lemmas.List.{length-map}
 use Rattle.loop_ir.specs.declared.ir.Space.{Space}
 use Rattle.loop_ir.specs.declared.ir.Space.TheVariants.{Result, Source, ScratchBit, ScratchWord}
@@ -22,13 +23,17 @@ use Rattle.loop_ir.specs.Spots.{Spot, spot_at, spot_in, nth_place, nth_spot, IsO
 use Rattle.loop_ir.specs.WellFormed.{IsOneValue}
 use Rattle.loop_ir.specs.Costs.{used_subs, code_cost, bodies}
 use Rattle.loop_ir.specs.Limits.{IsRound, step_stands}
-use Rattle.loop_laws.specs.Rooms.{Extent, One, Full, Twice, extent, Room, room_at, Mark, mark_at}
-use Rattle.loop_laws.specs.Rooms.{Marked, placed, placed_body, placed_steps, row_in, IsOwned}
-use Rattle.loop_laws.specs.Rooms.{RoomsApart, Reach, Nowhere, Whole, Left, InnerOk, OuterOk}
-use Rattle.loop_laws.specs.Rooms.{is_long, is_twice, has_inner, is_left, fits, BodyFits, reach_of}
-use Rattle.loop_laws.specs.Rooms.{InnersFit, StepsFit}
+use Rattle.loop_ir.specs.Chains.{steps_find}
+use Rattle.loop_laws.specs.Rooms.{Extent, One, Full, Twice, extent, Room, room_at, room_for, Owner}
+use Rattle.loop_laws.specs.Rooms.{InRoom, InCells, Mark, Marked, placed, placed_body, placed_steps}
+use Rattle.loop_laws.specs.Rooms.{row_in, IsOwned, RoomsApart, Reach, Nowhere, Whole, Left}
+use Rattle.loop_laws.specs.Rooms.{is_long, is_twice, has_inner, is_left, fits, reach_of}
 use Rattle.loop_laws.specs.Forms.{IsSlim, has_room, inners_have_room, steps_have_room}
+use Rattle.loop_laws.specs.Forms.{has_known_states, inners_have_known, steps_have_known}
 use Rattle.loop_laws.specs.Laws.{MarksAreEnough}
+use Rattle.loop_laws.proofs.Fitting.{mark_at, IsThere, InnerOk, OuterOk, BodyFits, InnersFit}
+use Rattle.loop_laws.proofs.Fitting.{StepsFit}
+use Rattle.loop_laws.proofs.Alike.{HaveRows, past_row, states_fit, states_known, steps_find_like}
 use Rattle.loop_laws.proofs.Good.{steps_are_fit}
 
 most_is : (a b : ℕ) → nat_le a b ≡ true → a ≤ b
@@ -115,33 +120,81 @@ own_spot n ScratchBit w v own = own
 own_spot n ScratchWord w v own = own
 own_spot n Cells w v own = own
 
--- no room stands in cells
-abbrev RoomsHaveRows : List Room → Type 0
-RoomsHaveRows rooms = (k : ℕ) → k < length rooms → is_state (room_at rooms k).space ≡ false
+abbrev number_of : Owner → ℕ
+number_of (InRoom k) = k
+number_of (InCells w) = w
 
-module _ (n : ℕ) (rooms : List Room) (some : 0 < n) (are : RoomsApart n rooms) (r : Reach)
-    (outer : Bool) (b : Marked) (fit : BodyFits r outer rooms b.reads b.writes) where
+-- two owners are one or they are not
+owner_cases : (a b : Owner) → (a ≡ b) ⊎ (a ≡ b → ⊥)
+owner_cases (InRoom j) (InRoom k) = elim (cases_eq j k) [
+  | inl e ↦ inl (ap InRoom e)
+  | inr ne ↦ inr (λ e. ne (ap number_of e))
+]
+owner_cases (InRoom j) (InCells w) = inr (λ e. cc)
+owner_cases (InCells w) (InRoom k) = inr (λ e. cc)
+owner_cases (InCells v) (InCells w) = elim (cases_eq v w) [
+  | inl e ↦ inl (ap InCells e)
+  | inr ne ↦ inr (λ e. ne (ap number_of e))
+]
+
+-- a row of a room of rows is no state
+not_state : (n : ℕ) (r : Room) (u w v : ℕ) → is_state r.space ≡ false
+    → row_in n r u ≡ spot_in n Cells w v → ⊥
+not_state n r u w v rows e = let f : r.space ≡ Cells =
+    sym (spot_space n r.space r.which u) ∙ ap (λ (q : Spot). q.space) e in
+    let g : is_state r.space ≡ true = ap is_state f in cc
+
+module _ (n : ℕ) (rooms : List Room) (are : RoomsApart n rooms) (rows : HaveRows rooms) where
+  -- rows of two owners of which one may be written are not the same
+  owners_apart : (a b : Owner) (u v : ℕ) → IsThere rooms a → IsThere rooms b
+      → (room_for rooms a).written ≡ true → (a ≡ b → ⊥) → u < extent n (room_for rooms a).rows
+      → v < extent n (room_for rooms b).rows
+      → row_in n (room_for rooms a) u ≡ row_in n (room_for rooms b) v → ⊥
+  owners_apart (InRoom j) (InRoom k) u v ta tb w ne lu lv e =
+      are.apart j k u v ta tb w (λ h. ne (ap InRoom h)) lu lv e
+  owners_apart (InRoom j) (InCells x) u v ta tb w ne lu lv e =
+      not_state n (room_at rooms j) u x v (rows j) e
+  owners_apart (InCells x) (InRoom k) u v ta tb w ne lu lv e =
+      not_state n (room_at rooms k) v x u (rows k) (sym e)
+  owners_apart (InCells x) (InCells y) u v ta tb w ne lu lv e =
+      ne (ap InCells (ap (λ (q : Spot). q.which) e))
+
+  -- a place with a row is an owner's row
+  owned_at : (a : Owner) (u : ℕ) (q : Spot) → IsThere rooms a
+      → is_state (room_for rooms a).space ≡ false → u < extent n (room_for rooms a).rows
+      → q ≡ row_in n (room_for rooms a) u → IsOwned n rooms q
+  owned_at (InRoom k) u q there row lu e = (k, u, there, lu, e)
+  owned_at (InCells w) u q there row lu e = cc
+
+  own_of : (a : Owner) → IsThere rooms a → (room_for rooms a).written ≡ true
+      → IsOwn (room_for rooms a).space
+  own_of (InRoom k) there w = are.own k there w
+  own_of (InCells x) there w = tt
+
+module _ (n : ℕ) (rooms : List Room) (some : 0 < n) (are : RoomsApart n rooms)
+    (rows : HaveRows rooms) (r : Reach) (outer : Bool) (b : Marked)
+    (fit : BodyFits r outer rooms b.reads b.writes) where
   module _ (i o : ℕ) (ik : InnerOk n i o r) (ok : OuterOk n o outer) where
     read_at : (k : ℕ) → k < length b.reads → nth_spot n i o (map (placed rooms) b.reads) k
-        ≡ row_in n (room_at rooms (mark_at b.reads k).owner)
+        ≡ row_in n (room_for rooms (mark_at b.reads k).owner)
         (sub_value n i o (mark_at b.reads k).sub)
     read_at k lk = ap (spot_at n i o) (nth_placed rooms b.reads k lk)
 
     write_at : (j : ℕ) → j < length b.writes → nth_spot n i o (map (placed rooms) b.writes) j
-        ≡ row_in n (room_at rooms (mark_at b.writes j).owner)
+        ≡ row_in n (room_for rooms (mark_at b.writes j).owner)
         (sub_value n i o (mark_at b.writes j).sub)
     write_at j lj = ap (spot_at n i o) (nth_placed rooms b.writes j lj)
 
     read_below : (k : ℕ) → k < length b.reads
         → sub_value n i o (mark_at b.reads k).sub
-        < extent n (room_at rooms (mark_at b.reads k).owner).rows
-    read_below k lk = within n i o r outer (room_at rooms (mark_at b.reads k).owner).rows
+        < extent n (room_for rooms (mark_at b.reads k).owner).rows
+    read_below k lk = within n i o r outer (room_for rooms (mark_at b.reads k).owner).rows
         (mark_at b.reads k).sub some ik ok (fit.read_fits k lk)
 
     write_below : (j : ℕ) → j < length b.writes
         → sub_value n i o (mark_at b.writes j).sub
-        < extent n (room_at rooms (mark_at b.writes j).owner).rows
-    write_below j lj = within n i o r outer (room_at rooms (mark_at b.writes j).owner).rows
+        < extent n (room_for rooms (mark_at b.writes j).owner).rows
+    write_below j lj = within n i o r outer (room_for rooms (mark_at b.writes j).owner).rows
         (mark_at b.writes j).sub some ik ok (fit.write_fits j lj)
 
     -- rows that are one have one owner
@@ -152,11 +205,11 @@ module _ (n : ℕ) (rooms : List Room) (some : 0 < n) (are : RoomsApart n rooms)
     writes_meet i' j li lj e = ⊎_elim
         (λ (c : (mark_at b.writes i').owner ≡ (mark_at b.writes j).owner). c)
         (λ (c : (mark_at b.writes i').owner ≡ (mark_at b.writes j).owner
-        → ⊥). absurd (are.apart (mark_at b.writes i').owner (mark_at b.writes j).owner
+        → ⊥). absurd (owners_apart n rooms are rows (mark_at b.writes i').owner (mark_at b.writes j).owner
         (sub_value n i o (mark_at b.writes i').sub) (sub_value n i o (mark_at b.writes j).sub)
         (fit.write_owner i' li) (fit.write_owner j lj) (fit.written i' li) c (write_below i' li)
         (write_below j lj) (sym (write_at i' li) ∙ e ∙ write_at j lj)))
-        (cases_eq (mark_at b.writes i').owner (mark_at b.writes j).owner)
+        (owner_cases (mark_at b.writes i').owner (mark_at b.writes j).owner)
 
     reads_meet : (j k : ℕ) → j < length b.writes → k < length b.reads
         → nth_spot n i o (map (placed rooms) b.writes) j
@@ -165,38 +218,35 @@ module _ (n : ℕ) (rooms : List Room) (some : 0 < n) (are : RoomsApart n rooms)
     reads_meet j k lj lk e = ⊎_elim
         (λ (c : (mark_at b.writes j).owner ≡ (mark_at b.reads k).owner). c)
         (λ (c : (mark_at b.writes j).owner ≡ (mark_at b.reads k).owner
-        → ⊥). absurd (are.apart (mark_at b.writes j).owner (mark_at b.reads k).owner
+        → ⊥). absurd (owners_apart n rooms are rows (mark_at b.writes j).owner (mark_at b.reads k).owner
         (sub_value n i o (mark_at b.writes j).sub) (sub_value n i o (mark_at b.reads k).sub)
         (fit.write_owner j lj) (fit.read_owner k lk) (fit.written j lj) c (write_below j lj)
         (read_below k lk) (sym (write_at j lj) ∙ e ∙ read_at k lk)))
-        (cases_eq (mark_at b.writes j).owner (mark_at b.reads k).owner)
+        (owner_cases (mark_at b.writes j).owner (mark_at b.reads k).owner)
 
     space_of : (j : ℕ) → j < length b.writes
         → IsOwn (nth_spot n i o (map (placed rooms) b.writes) j).space
-    space_of j lj = let w = (room_at rooms (mark_at b.writes j).owner) in
+    space_of j lj = let w = (room_for rooms (mark_at b.writes j).owner) in
         subst (λ (q : Spot). IsOwn q.space) (sym (write_at j lj))
         (own_spot n w.space w.which (sub_value n i o (mark_at b.writes j).sub)
-        (are.own (mark_at b.writes j).owner (fit.write_owner j lj) (fit.written j lj)))
+        (own_of n rooms are rows (mark_at b.writes j).owner (fit.write_owner j lj)
+        (fit.written j lj)))
 
     round_is : IsRound (IsOwned n rooms) n (round_at (placed_body rooms b) i o)
     round_is =
         let rd = below_map (placed rooms) b.reads in
         let wr = below_map (placed rooms) b.writes in
         record {
-          reads = λ k lk row. (
-            (mark_at b.reads k).owner,
-            sub_value n i o (mark_at b.reads k).sub,
-            fit.read_owner k (rd k lk),
-            read_below k (rd k lk),
-            read_at k (rd k lk),
-          );
-          writes = λ j lj row. (
-            (mark_at b.writes j).owner,
-            sub_value n i o (mark_at b.writes j).sub,
-            fit.write_owner j (wr j lj),
-            write_below j (wr j lj),
-            write_at j (wr j lj),
-          );
+          reads = λ k lk row. owned_at n rooms are rows (mark_at b.reads k).owner
+              (sub_value n i o (mark_at b.reads k).sub)
+              (nth_spot n i o (map (placed rooms) b.reads) k) (fit.read_owner k (rd k lk))
+              (sym (ap (λ (p : Place). is_state p.space) (nth_placed rooms b.reads k (rd k lk)))
+              ∙ row) (read_below k (rd k lk)) (read_at k (rd k lk));
+          writes = λ j lj row. owned_at n rooms are rows (mark_at b.writes j).owner
+              (sub_value n i o (mark_at b.writes j).sub)
+              (nth_spot n i o (map (placed rooms) b.writes) j) (fit.write_owner j (wr j lj))
+              (sym (ap (λ (p : Place). is_state p.space) (nth_placed rooms b.writes j (wr j lj)))
+              ∙ row) (write_below j (wr j lj)) (write_at j (wr j lj));
           own = λ j lj. space_of j (wr j lj);
           apart = λ i' j li lj e. fit.differ i' j (wr i' li) (wr j lj)
               (writes_meet i' j (wr i' li) (wr j lj) e);
@@ -210,24 +260,24 @@ module _ (n : ℕ) (rooms : List Room) (some : 0 < n) (are : RoomsApart n rooms)
 
   -- places of one value have one owner
   one_owner : (p q : Place) (x y : Mark) → p ≡ placed rooms x → q ≡ placed rooms y
-      → x.owner < length rooms → y.owner < length rooms → (room_at rooms x.owner).written ≡ true
+      → IsThere rooms x.owner → IsThere rooms y.owner → (room_for rooms x.owner).written ≡ true
       → IsOneValue p q → x.owner ≡ y.owner
   one_owner p q x y ep eq lx ly w e = ⊎_elim
       (λ (c : x.owner ≡ y.owner). c)
       (λ (c : x.owner ≡ y.owner → ⊥).
-      let a = room_at rooms x.owner in
-      let b = room_at rooms y.owner in
+      let a = room_for rooms x.owner in
+      let b = room_for rooms y.owner in
       let s : a.space ≡ b.space = sym (ap (λ (p : Place). p.space) ep) ∙ e.0
       ∙ ap (λ (p : Place). p.space) eq in
       let t : a.which ≡ b.which = sym (ap (λ (p : Place). p.which) ep) ∙ e.1
       ∙ ap (λ (p : Place). p.which) eq in
-      absurd (are.apart x.owner y.owner 0 0 lx ly w c (first n a.rows some) (first n b.rows some)
+      absurd (owners_apart n rooms are rows x.owner y.owner 0 0 lx ly w c (first n a.rows some) (first n b.rows some)
       (ap (λ z. spot_in n z a.which 0) s ∙ ap (λ z. spot_in n b.space z 0) t)))
-      (cases_eq x.owner y.owner)
+      (owner_cases x.owner y.owner)
 
-  pub slim_is : RoomsHaveRows rooms → has_room (placed_body rooms b) ≡ true
-      → IsSlim (placed_body rooms b)
-  slim_is have e =
+  pub slim_is : has_room (placed_body rooms b) ≡ true
+      → has_known_states (placed_body [] b) ≡ true → IsSlim (placed_body rooms b)
+  slim_is e h =
       let c = placed_body rooms b in
       let a1 = and_parts (nat_le c.graph.inputs (length c.reads)) _ e in
       let a2 = and_parts (length c.outs == length c.writes) _ a1.1 in
@@ -238,13 +288,8 @@ module _ (n : ℕ) (rooms : List Room) (some : 0 < n) (are : RoomsApart n rooms)
       let wr = below_map (placed rooms) b.writes in
       record {
         reads = most_is c.graph.inputs (length c.reads) a1.0;
-        writes = eqb-true (length c.outs) (length c.writes) a2.0;
-        read_rows = λ k lk. ap (λ (p : Place). is_state p.space)
-            (nth_placed rooms b.reads k (rd k lk))
-            ∙ have (mark_at b.reads k).owner (fit.read_owner k (rd k lk));
-        write_rows = λ j lj. ap (λ (p : Place). is_state p.space)
-            (nth_placed rooms b.writes j (wr j lj))
-            ∙ have (mark_at b.writes j).owner (fit.write_owner j (wr j lj));
+        states = states_fit rooms rows b h (eqb-true (length c.outs) (length c.writes) a2.0);
+        known = states_known rooms rows b h;
         apart = λ i j li lj h. fit.differ i j (wr i li) (wr j lj)
             (one_owner (nth_place c.writes i) (nth_place c.writes j) (mark_at b.writes i)
             (mark_at b.writes j) (nth_placed rooms b.writes i (wr i li))
@@ -280,13 +325,14 @@ reach_ok : (n : ℕ) (c : Count) (i o : ℕ) → i < positions n o c → InnerOk
 reach_ok n All i o lt = lt
 reach_ok n Rest i o lt = lt
 
-module _ (n : ℕ) (rooms : List Room) (some : 0 < n) (are : RoomsApart n rooms) where
+module _ (n : ℕ) (rooms : List Room) (some : 0 < n) (are : RoomsApart n rooms)
+    (rows : HaveRows rooms) where
   inners_are : (ps : List (InnerOf Marked)) (o : ℕ) → o < n → InnersFit rooms ps
       → AllByRecursion (IsRound (IsOwned n rooms) n)
       (inner_rounds n o (map (inner_map (placed_body rooms)) ps))
   inners_are [] o lo fit = tt
   inners_are (Alone b ∷ ps) o lo fit = (
-    round_is n rooms some are Nowhere true b fit.0 0 o tt lo,
+    round_is n rooms some are rows Nowhere true b fit.0 0 o tt lo,
     inners_are ps o lo fit.1,
   )
   inners_are (Across c b ∷ ps) o lo fit = all_append (IsRound (IsOwned n rooms) n)
@@ -295,7 +341,7 @@ module _ (n : ℕ) (rooms : List Room) (some : 0 < n) (are : RoomsApart n rooms)
       (all_rounds_of (IsRound (IsOwned n rooms) n) (λ i. one_round (placed_body rooms b) i o) 0
       (positions n o c) (positions n o c) (omega arith)
       (λ i lt. (
-        round_is n rooms some are (reach_of c) true b fit.0 i o (reach_ok n c i o lt)
+        round_is n rooms some are rows (reach_of c) true b fit.0 i o (reach_ok n c i o lt)
             lo,
         tt,
       )))
@@ -305,13 +351,13 @@ module _ (n : ℕ) (rooms : List Room) (some : 0 < n) (are : RoomsApart n rooms)
       → AllByRecursion (IsRound (IsOwned n rooms) n) (all_rounds n (placed_steps rooms ss))
   rounds_are [] fit = tt
   rounds_are (Single b ∷ ss) fit = (
-    round_is n rooms some are Nowhere false b fit.0 0 0 tt tt,
+    round_is n rooms some are rows Nowhere false b fit.0 0 0 tt tt,
     rounds_are ss fit.1,
   )
   rounds_are (Along b ∷ ss) fit = all_append (IsRound (IsOwned n rooms) n)
       (rounds (λ i. one_round (placed_body rooms b) i 0) 0 n) (all_rounds n (placed_steps rooms ss))
       (all_rounds_of (IsRound (IsOwned n rooms) n) (λ i. one_round (placed_body rooms b) i 0) 0 n n
-      (omega arith) (λ i lt. (round_is n rooms some are Whole false b fit.0 i 0 lt tt, tt)))
+      (omega arith) (λ i lt. (round_is n rooms some are rows Whole false b fit.0 i 0 lt tt, tt)))
       (rounds_are ss fit.1)
   rounds_are (Nest ps ∷ ss) fit = all_append (IsRound (IsOwned n rooms) n)
       (rounds (λ o. inner_rounds n o (map (inner_map (placed_body rooms)) ps)) 0 n)
@@ -325,37 +371,46 @@ module _ (n : ℕ) (rooms : List Room) (some : 0 < n) (are : RoomsApart n rooms)
       (all_rounds n (placed_steps rooms ss))
       (all_rounds_of (IsRound (IsOwned n rooms) n) (λ i. one_round (placed_body rooms b) i 1) 0
       (n - 1) (n - 1) (omega arith)
-      (λ i lt. (round_is n rooms some are Left true b fit.0 i 1 lt (omega (arith, lt)), tt)))
+      (λ i lt. (round_is n rooms some are rows Left true b fit.0 i 1 lt (omega (arith, lt)), tt)))
       (rounds_are ss fit.1)
 
-  inners_slim : RoomsHaveRows rooms → (ps : List (InnerOf Marked)) → InnersFit rooms ps
+  inners_slim : (ps : List (InnerOf Marked)) → InnersFit rooms ps
       → inners_have_room (map (inner_map (placed_body rooms)) ps) ≡ true
+      → inners_have_known (map (inner_map (placed_body [])) ps) ≡ true
       → AllInner IsSlim (map (inner_map (placed_body rooms)) ps)
-  inners_slim have [] fit e = tt
-  inners_slim have (Alone b ∷ ps) fit e = let a = and_parts (has_room (placed_body rooms b))
-      (inners_have_room (map (inner_map (placed_body rooms)) ps)) e in
-      (slim_is n rooms some are Nowhere true b fit.0 have a.0, inners_slim have ps fit.1 a.1)
-  inners_slim have (Across c b ∷ ps) fit e = let a =
-      and_parts (has_room (placed_body rooms b))
-      (inners_have_room (map (inner_map (placed_body rooms)) ps)) e in
-      (slim_is n rooms some are (reach_of c) true b fit.0 have a.0, inners_slim have ps fit.1 a.1)
+  inners_slim [] fit e h = tt
+  inners_slim (Alone b ∷ ps) fit e h =
+      let a = and_parts (has_room (placed_body rooms b)) _ e in
+      let k = and_parts (has_known_states (placed_body [] b)) _ h in
+      (slim_is n rooms some are rows Nowhere true b fit.0 a.0 k.0, inners_slim ps fit.1 a.1 k.1)
+  inners_slim (Across c b ∷ ps) fit e h =
+      let a = and_parts (has_room (placed_body rooms b)) _ e in
+      let k = and_parts (has_known_states (placed_body [] b)) _ h in (
+        slim_is n rooms some are rows (reach_of c) true b fit.0 a.0 k.0,
+        inners_slim ps fit.1 a.1
+            k.1,
+      )
 
-  pub steps_slim : RoomsHaveRows rooms → (ss : List (StepOf Marked)) → StepsFit rooms ss
-      → steps_have_room (placed_steps rooms ss) ≡ true → AllParts IsSlim (placed_steps rooms ss)
-  steps_slim have [] fit e = tt
-  steps_slim have (Single b ∷ ss) fit e = let a = and_parts (has_room (placed_body rooms b))
-      (steps_have_room (placed_steps rooms ss)) e in
-      (slim_is n rooms some are Nowhere false b fit.0 have a.0, steps_slim have ss fit.1 a.1)
-  steps_slim have (Along b ∷ ss) fit e = let a = and_parts (has_room (placed_body rooms b))
-      (steps_have_room (placed_steps rooms ss)) e in
-      (slim_is n rooms some are Whole false b fit.0 have a.0, steps_slim have ss fit.1 a.1)
-  steps_slim have (Nest ps ∷ ss) fit e = let a = and_parts
-      (inners_have_room (map (inner_map (placed_body rooms)) ps))
-      (steps_have_room (placed_steps rooms ss)) e in
-      (inners_slim have ps fit.0 a.0, steps_slim have ss fit.1 a.1)
-  steps_slim have (Pairs b ∷ ss) fit e = let a = and_parts (has_room (placed_body rooms b))
-      (steps_have_room (placed_steps rooms ss)) e in
-      (slim_is n rooms some are Left true b fit.0 have a.0, steps_slim have ss fit.1 a.1)
+  pub steps_slim : (ss : List (StepOf Marked)) → StepsFit rooms ss
+      → steps_have_room (placed_steps rooms ss) ≡ true
+      → steps_have_known (placed_steps [] ss) ≡ true → AllParts IsSlim (placed_steps rooms ss)
+  steps_slim [] fit e h = tt
+  steps_slim (Single b ∷ ss) fit e h =
+      let a = and_parts (has_room (placed_body rooms b)) _ e in
+      let k = and_parts (has_known_states (placed_body [] b)) _ h in
+      (slim_is n rooms some are rows Nowhere false b fit.0 a.0 k.0, steps_slim ss fit.1 a.1 k.1)
+  steps_slim (Along b ∷ ss) fit e h =
+      let a = and_parts (has_room (placed_body rooms b)) _ e in
+      let k = and_parts (has_known_states (placed_body [] b)) _ h in
+      (slim_is n rooms some are rows Whole false b fit.0 a.0 k.0, steps_slim ss fit.1 a.1 k.1)
+  steps_slim (Nest ps ∷ ss) fit e h =
+      let a = and_parts (inners_have_room (map (inner_map (placed_body rooms)) ps)) _ e in
+      let k = and_parts (inners_have_known (map (inner_map (placed_body [])) ps)) _ h in
+      (inners_slim ps fit.0 a.0 k.0, steps_slim ss fit.1 a.1 k.1)
+  steps_slim (Pairs b ∷ ss) fit e h =
+      let a = and_parts (has_room (placed_body rooms b)) _ e in
+      let k = and_parts (has_known_states (placed_body [] b)) _ h in
+      (slim_is n rooms some are rows Left true b fit.0 a.0 k.0, steps_slim ss fit.1 a.1 k.1)
 
 -- the rows that it may have are among others
 pub round_among : (P Q : Spot → Type 0) → ((q : Spot) → P q → Q q) → (n : ℕ) (r : RoundOf Block)
@@ -376,31 +431,37 @@ rounds_among P Q h n [] all = tt
 rounds_among P Q h n (r ∷ rs) all = (round_among P Q h n r all.0, rounds_among P Q h n rs all.1)
 
 -- the first row of each room is one that may be had
-rooms_row : (may_have : ℕ → Spot → Type 0) (rooms : List Room)
+pub rooms_row : (may_have : ℕ → Spot → Type 0) (rooms : List Room)
     → ((q : Spot) → IsOwned 1 rooms q → may_have 1 q)
-    → ((q : Spot) → may_have 1 q → is_state q.space ≡ false) → RoomsHaveRows rooms
-rooms_row may_have rooms among rows k lk =
-    let r = room_at rooms k in
-    ap is_state (sym (spot_space 1 r.space r.which 0))
-    ∙ rows (row_in 1 r 0) (among (row_in 1 r 0) (k, 0, lk, first 1 r.rows (omega arith), refl))
+    → ((q : Spot) → may_have 1 q → is_state q.space ≡ false) → HaveRows rooms
+rooms_row may_have rooms among rows k = elim (cases_lt k (length rooms)) [
+  | inl lt ↦
+      let r = room_at rooms k in
+      ap is_state (sym (spot_space 1 r.space r.which 0))
+      ∙ rows (row_in 1 r 0) (among (row_in 1 r 0) (k, 0, lt, first 1 r.rows (omega arith), refl))
+  | inr le ↦ past_row rooms k le
+]
 
 -- the tests on the marks say of every round at every width what it has to keep
 pub marks_are_enough : (may_have : ℕ → Spot → Type 0) → MarksAreEnough may_have
-marks_are_enough may_have rooms steps are among rows tested short =
+marks_are_enough may_have rooms steps are among rows tested short states =
     let ss = placed_steps rooms steps in
     let fit = steps_are_fit rooms steps tested in
+    let have = rooms_row may_have rooms (among 1 (omega arith) (omega arith)) (rows 1) in
     let a = and_parts (steps_have_room ss) (list_all step_stands ss
     && (nat_le (code_cost ss) 256 && nat_le (bodies ss) 12)) short in
     let b = and_parts (list_all step_stands ss) (nat_le (code_cost ss) 256 && nat_le (bodies ss) 12)
     a.1 in
     let c = and_parts (nat_le (code_cost ss) 256) (nat_le (bodies ss) 12) b.1 in
+    let d = and_parts (steps_have_known (placed_steps [] steps))
+    (steps_find [] (placed_steps [] steps)) states in
     record {
-      slim = steps_slim 1 rooms (omega arith) (are 1 (omega arith) (omega arith))
-          (λ k lk. rooms_row may_have rooms (among 1 (omega arith) (omega arith)) (rows 1) k lk)
-          steps fit a.0;
+      slim = steps_slim 1 rooms (omega arith) (are 1 (omega arith) (omega arith)) have steps fit a.0
+          d.0;
+      find = steps_find_like rooms have [] steps ∙ d.1;
       stand = b.0;
       rounds = λ n some most. rounds_among (IsOwned n rooms) (may_have n) (among n some most) n
-          (all_rounds n ss) (rounds_are n rooms some (are n some most) steps fit);
+          (all_rounds n ss) (rounds_are n rooms some (are n some most) have steps fit);
       size = most_is (code_cost ss) 256 c.0;
       few = most_is (bodies ss) 12 c.1;
     }

@@ -1,6 +1,6 @@
 -- The test on owners and subscripts is enough for a body.
 use Rattle.std.proofs.Common.{◌≡◌, ℕ, zero, suc, ◌<◌, Bool, true, false, not, cond, List, [], ◌∷◌}
-use Rattle.std.proofs.Common.{length, refl, sym, ap, ◌∙◌, ⊎_elim, arith, ◌⊎◌, inl, inr}
+use Rattle.std.proofs.Common.{length, refl, sym, ap, subst, ◌∙◌, ⊎_elim, arith, ◌⊎◌, inl, inr}
 use Rattle.std.specs.Prelude.{◌==◌, ◌&&◌, nat_lt}
 use Rattle.std.proofs.lemmas.Bool.{cases_Bool, and_parts, eqb-true, eq-eqb}
 use Rattle.loop_ir.specs.declared.ir.Sub.{Sub}
@@ -9,13 +9,21 @@ use Rattle.loop_ir.specs.Plain.{InnerOf, StepOf}
 use Rattle.loop_ir.specs.Plain.InnerOf.{Alone, Across}
 use Rattle.loop_ir.specs.Plain.StepOf.{Single, Along, Nest, Pairs}
 use Rattle.loop_ir.specs.Costs.{sub_code}
-use Rattle.loop_laws.specs.Rooms.{Room, room_at, Mark, mark_at, Marked, Reach, Nowhere, Whole, Left}
-use Rattle.loop_laws.specs.Rooms.{fits}
-use Rattle.loop_laws.specs.Rooms.{BodyFits, reach_of, InnersFit, StepsFit, all_fit, none_like}
-use Rattle.loop_laws.specs.Rooms.{alone_in, writes_fit, body_fits, inners_fit, steps_fit}
+use Rattle.loop_laws.specs.Rooms.{Room, room_for, Owner, InRoom, InCells, same_owner, Mark, Marked}
+use Rattle.loop_laws.specs.Rooms.{Reach, Nowhere, Whole, Left, fits, reach_of, is_there, all_fit}
+use Rattle.loop_laws.specs.Rooms.{none_like, alone_in, writes_fit, body_fits, inners_fit, steps_fit}
+use Rattle.loop_laws.proofs.Fitting.{mark_at, IsThere, BodyFits, InnersFit, StepsFit}
 
 less_is : (a b : ℕ) → nat_lt a b ≡ true → a < b
 less_is a b e = grind arith
+
+there_is : (rooms : List Room) (o : Owner) → is_there o (length rooms) ≡ true → IsThere rooms o
+there_is rooms (InRoom k) e = less_is k (length rooms) e
+there_is rooms (InCells w) e = tt
+
+owner_same : (a b : Owner) → a ≡ b → same_owner a b ≡ true
+owner_same (InRoom j) b e = subst (λ o. same_owner (InRoom j) o ≡ true) e (eq-eqb j j refl)
+owner_same (InCells w) b e = subst (λ o. same_owner (InCells w) o ≡ true) e (eq-eqb w w refl)
 
 sub_from : ℕ → Sub
 sub_from zero = sub.Zero
@@ -50,32 +58,32 @@ not_true : (b : Bool) → not b ≡ true → b ≡ true → ⊥
 not_true true e f = cc
 not_true false e f = cc
 
-none_at : (owner : ℕ) (ms : List Mark) (k : ℕ) → none_like owner ms ≡ true → k < length ms
+none_at : (owner : Owner) (ms : List Mark) (k : ℕ) → none_like owner ms ≡ true → k < length ms
     → owner ≡ (mark_at ms k).owner → ⊥
 none_at owner [] k e lt h = absurd (omega arith)
-none_at owner (m ∷ ms) zero e lt h = not_true (owner
-    == m.owner) (and_parts (not (owner == m.owner)) (none_like owner ms) e).0
-    (eq-eqb owner m.owner h)
+none_at owner (m ∷ ms) zero e lt h = not_true
+    (same_owner owner m.owner) (and_parts (not (same_owner owner m.owner)) (none_like owner ms) e).0
+    (owner_same owner m.owner h)
 none_at owner (m ∷ ms) (suc k) e lt h = none_at owner ms k
-    (and_parts (not (owner == m.owner)) (none_like owner ms) e).1 (omega arith) h
+    (and_parts (not (same_owner owner m.owner)) (none_like owner ms) e).1 (omega arith) h
 
 -- of a list of reads, the first has the owner and no other, or it has not
 alone_cases : (p m : Mark) (ms : List Mark) → alone_in p (m ∷ ms) ≡ true
     → ((p.sub ≡ m.sub) × (none_like p.owner ms ≡ true))
     ⊎ ((p.owner ≡ m.owner → ⊥) × (alone_in p ms ≡ true))
 alone_cases p m ms e = ⊎_elim
-    (λ (h : (p.owner == m.owner) ≡ true).
+    (λ (h : same_owner p.owner m.owner ≡ true).
     let f : ((sub_code p.sub == sub_code m.sub) && none_like p.owner ms) ≡ true =
     sym (ap (λ b. cond b ((sub_code p.sub == sub_code m.sub) && none_like p.owner ms)
     (alone_in p ms)) h) ∙ e in
     let g = and_parts (sub_code p.sub == sub_code m.sub) (none_like p.owner ms) f in
     inl (subs_same p.sub m.sub (eqb-true (sub_code p.sub) (sub_code m.sub) g.0), g.1))
-    (λ (h : (p.owner == m.owner) ≡ false). inr (
-      (λ g. let f : true ≡ false = sym (eq-eqb p.owner m.owner g) ∙ h in cc),
+    (λ (h : same_owner p.owner m.owner ≡ false). inr (
+      (λ g. let f : true ≡ false = sym (owner_same p.owner m.owner g) ∙ h in cc),
       sym (ap (λ b. cond b ((sub_code p.sub == sub_code m.sub) && none_like p.owner ms)
           (alone_in p ms)) h) ∙ e,
     ))
-    (cases_Bool (p.owner == m.owner))
+    (cases_Bool (same_owner p.owner m.owner))
 
 alone_sub : (p : Mark) (ms : List Mark) (k : ℕ) → alone_in p ms ≡ true → k < length ms
     → p.owner ≡ (mark_at ms k).owner → p.sub ≡ (mark_at ms k).sub
@@ -112,7 +120,7 @@ alone_once p (m ∷ ms) (suc k) (suc l) e lk ll h g = ⊎_elim
     (alone_cases p m ms e)
 
 record WriteAt (rooms : List Room) (reads : List Mark) (p : Mark) : Type 0 where
-  written : (room_at rooms p.owner).written ≡ true
+  written : (room_for rooms p.owner).written ≡ true
   alone : alone_in p reads ≡ true
 
 record FirstAt (rooms : List Room) (reads : List Mark) (p : Mark) (ms : List Mark) : Type 0 where
@@ -123,9 +131,9 @@ record FirstAt (rooms : List Room) (reads : List Mark) (p : Mark) (ms : List Mar
 first_at : (rooms : List Room) (reads : List Mark) (p : Mark) (ms : List Mark)
     → writes_fit rooms reads (p ∷ ms) ≡ true → FirstAt rooms reads p ms
 first_at rooms reads p ms e =
-    let a = and_parts ((room_at rooms p.owner).written
+    let a = and_parts ((room_for rooms p.owner).written
     && (none_like p.owner ms && alone_in p reads)) (writes_fit rooms reads ms) e in
-    let b = and_parts (room_at rooms p.owner).written (none_like p.owner ms && alone_in p reads) a.0
+    let b = and_parts (room_for rooms p.owner).written (none_like p.owner ms && alone_in p reads) a.0
     in
     let c = and_parts (none_like p.owner ms) (alone_in p reads) b.1 in
     record { first = record { written = b.0; alone = c.1 }; none = c.0; more = a.1 }
@@ -151,20 +159,20 @@ writes_once rooms reads (p ∷ ms) (suc i) (suc j) e li lj h =
     (omega arith) h)
 
 record FitAt (r : Reach) (outer : Bool) (rooms : List Room) (p : Mark) : Type 0 where
-  there : p.owner < length rooms
-  fit : fits r outer (room_at rooms p.owner).rows p.sub ≡ true
+  there : IsThere rooms p.owner
+  fit : fits r outer (room_for rooms p.owner).rows p.sub ≡ true
 
 fit_at : (r : Reach) (outer : Bool) (rooms : List Room) (ms : List Mark) (k : ℕ)
     → all_fit r outer rooms ms ≡ true → k < length ms → FitAt r outer rooms (mark_at ms k)
 fit_at r outer rooms [] k e lt = absurd (omega arith)
 fit_at r outer rooms (p ∷ ms) zero e lt =
-    let a = and_parts (nat_lt p.owner (length rooms)
-    && fits r outer (room_at rooms p.owner).rows p.sub) (all_fit r outer rooms ms) e in
-    let b = and_parts (nat_lt p.owner (length rooms))
-    (fits r outer (room_at rooms p.owner).rows p.sub) a.0 in
-    record { there = less_is p.owner (length rooms) b.0; fit = b.1 }
+    let a = and_parts (is_there p.owner (length rooms)
+    && fits r outer (room_for rooms p.owner).rows p.sub) (all_fit r outer rooms ms) e in
+    let b = and_parts (is_there p.owner (length rooms))
+    (fits r outer (room_for rooms p.owner).rows p.sub) a.0 in
+    record { there = there_is rooms p.owner b.0; fit = b.1 }
 fit_at r outer rooms (p ∷ ms) (suc k) e lt = fit_at r outer rooms ms k
-    (and_parts (nat_lt p.owner (length rooms) && fits r outer (room_at rooms p.owner).rows p.sub)
+    (and_parts (is_there p.owner (length rooms) && fits r outer (room_for rooms p.owner).rows p.sub)
     (all_fit r outer rooms ms) e).1 (omega arith)
 
 pub body_is_fit : (r : Reach) (outer : Bool) (rooms : List Room) (b : Marked)

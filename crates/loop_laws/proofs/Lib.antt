@@ -4,6 +4,9 @@ pub mod Steps
 pub mod Placed
 pub mod Summed
 pub mod Costing
+pub mod Fitting
+pub mod Alike
+pub mod NoStates
 pub mod Good
 pub mod EveryRound
 pub mod Compile

@@ -1,6 +1,6 @@
 -- What a loop program has to keep, so that it can be compiled.
-use Rattle.std.specs.Prelude.{◌≡◌, ℕ, ◌+◌, ◌<◌, ◌≤◌, ◌==◌, Bool, true, false, ◌&&◌, nat_le, List}
-use Rattle.std.specs.Prelude.{[], ◌∷◌, length}
+use Rattle.std.specs.Prelude.{◌≡◌, ℕ, ◌+◌, ◌<◌, ◌≤◌, ◌==◌, Bool, true, ◌&&◌, nat_le, List}
+use Rattle.std.specs.Prelude.{[], ◌∷◌, length, if◌then◌else◌}
 use Rattle.std.specs.List.{AllByRecursion, list_all}
 use Rattle.bit_rows.specs.declared.TheConstants.{WIDTH_MAX}
 use Rattle.mig_graph.specs.Graph.{IsGraph}
@@ -9,17 +9,19 @@ use Rattle.loop_ir.specs.Plain.{Block, InnerOf, StepOf, AllParts}
 use Rattle.loop_ir.specs.Plain.InnerOf.{Alone, Across}
 use Rattle.loop_ir.specs.Plain.StepOf.{Single, Along, Nest, Pairs}
 use Rattle.loop_ir.specs.Loops.{all_rounds}
+use Rattle.loop_ir.specs.declared.ir.Place.{Place}
 use Rattle.loop_ir.specs.Spots.{Spot, is_state, nth_place}
 use Rattle.loop_ir.specs.WellFormed.{IsOneValue}
+use Rattle.loop_ir.specs.States.{StatesFit, has_states, held_of}
+use Rattle.loop_ir.specs.Chains.{steps_find}
 use Rattle.loop_ir.specs.Costs.{used_subs, code_cost, bodies}
-use Rattle.loop_ir.specs.Limits.{IsRound, step_stands}
+use Rattle.loop_ir.specs.Limits.{IsRound, is_served, step_stands}
 
 -- a body's places and numbers, but for its nodes
 pub record IsSlim (b : Block) : Type 0 where
   pub reads : b.graph.inputs ≤ length b.reads
-  pub writes : length b.outs ≡ length b.writes
-  pub read_rows : (k : ℕ) → k < length b.reads → is_state (nth_place b.reads k).space ≡ false
-  pub write_rows : (j : ℕ) → j < length b.writes → is_state (nth_place b.writes j).space ≡ false
+  pub states : StatesFit b
+  pub known : has_states b ≡ true → is_served (held_of b) b ≡ true
   pub apart : (i j : ℕ) → i < length b.writes → j < length b.writes
       → IsOneValue (nth_place b.writes i) (nth_place b.writes j) → i ≡ j
   pub same : (j k : ℕ) → j < length b.writes → k < length b.reads
@@ -38,6 +40,7 @@ pub record IsMade (b : Block) : Type 0 where
 -- code can be made of the loop program, if its graphs are such as `Mig` makes
 pub record HasForm (may_have : ℕ → Spot → Type 0) (steps : List (StepOf Block)) : Type 0 where
   pub slim : AllParts IsSlim steps
+  pub find : steps_find [] steps ≡ true
   pub stand : list_all step_stands steps ≡ true
   pub rounds : (n : ℕ) → 0 < n → n ≤ WIDTH_MAX
       → AllByRecursion (IsRound (may_have n) n) (all_rounds n steps)
@@ -73,3 +76,33 @@ steps_have_room (Pairs b ∷ ss) = has_room b && steps_have_room ss
 abbrev pub is_short : List (StepOf Block) → Bool
 is_short steps = steps_have_room steps && (list_all step_stands steps
     && (nat_le (code_cost steps) 256 && nat_le (bodies steps) 12))
+
+-- all places from the first state on are states
+abbrev pub are_rows_first : List Place → Bool
+are_rows_first [] = true
+are_rows_first (p ∷ ps) = if is_state p.space then list_all (λ q. is_state q.space) ps
+    else are_rows_first ps
+
+-- where the body has states, each read is an input, the rows are written first, and the body is one
+-- of those that hold states, with a sequence that does it
+abbrev pub has_known_states : Block → Bool
+has_known_states b = if has_states b then nat_le (length b.reads) b.graph.inputs
+    && (are_rows_first b.writes && is_served (held_of b) b) else true
+
+-- so it is in every body of a nest
+abbrev pub inners_have_known : List (InnerOf Block) → Bool
+inners_have_known [] = true
+inners_have_known (Alone b ∷ ps) = has_known_states b && inners_have_known ps
+inners_have_known (Across c b ∷ ps) = has_known_states b && inners_have_known ps
+
+-- so it is in every body of a loop program
+abbrev pub steps_have_known : List (StepOf Block) → Bool
+steps_have_known [] = true
+steps_have_known (Single b ∷ ss) = has_known_states b && steps_have_known ss
+steps_have_known (Along b ∷ ss) = has_known_states b && steps_have_known ss
+steps_have_known (Nest ps ∷ ss) = inners_have_known ps && steps_have_known ss
+steps_have_known (Pairs b ∷ ss) = has_known_states b && steps_have_known ss
+
+-- each body with states is one of those that hold states, and finds the states that it reads
+abbrev pub keeps_states : List (StepOf Block) → Bool
+keeps_states steps = steps_have_known steps && steps_find [] steps

@@ -1,10 +1,10 @@
--- Places by the numbers of their owners, and a test after which every round keeps the rules.
-use Rattle.std.specs.Prelude.{◌≡◌, ℕ, zero, suc, ◌-◌, ◌*◌, ◌<◌, ◌==◌, Bool, true, false, not, ◌&&◌}
+-- Places by their owners, and a test after which every round keeps the rules.
+use Rattle.std.specs.Prelude.{◌≡◌, ℕ, zero, suc, ◌*◌, ◌<◌, ◌==◌, Bool, true, false, not, ◌&&◌}
 use Rattle.std.specs.Prelude.{nat_lt, if◌then◌else◌, List, [], ◌∷◌, map, length}
 use Rattle.mig_graph.specs.declared.Lit.{Lit}
 use Rattle.mig_graph.specs.Graph.{Graph}
 use Rattle.loop_ir.specs.declared.ir.Space.{Space}
-use Rattle.loop_ir.specs.declared.ir.Space.TheVariants.{Source}
+use Rattle.loop_ir.specs.declared.ir.Space.TheVariants.{Source, Cells}
 use Rattle.loop_ir.specs.declared.ir.Sub.{Sub}
 use Rattle.loop_ir.specs.declared.ir.Sub.TheVariants as sub
 use Rattle.loop_ir.specs.declared.ir.Count.{Count}
@@ -41,16 +41,27 @@ room_at [] k = record { space = Source; which = 0; rows = One; written = false }
 room_at (r ∷ rs) zero = r
 room_at (r ∷ rs) (suc k) = room_at rs k
 
--- a place by the number of its owner
-pub record Mark : Type 0 where
-  pub owner : ℕ
-  pub sub : Sub
+-- whose a place is: an owner's of rows, by its number, or a state's, by its layout of cells
+pub data Owner : Type 0 where
+  InRoom : ℕ → Owner
+  InCells : ℕ → Owner
 
--- a place of a body, by its number
-abbrev pub mark_at : List Mark → ℕ → Mark
-mark_at [] k = record { owner = 0; sub = sub.Zero }
-mark_at (m ∷ ms) zero = m
-mark_at (m ∷ ms) (suc k) = mark_at ms k
+-- the room of an owner: a state may be written, as one row may
+abbrev pub room_for : List Room → Owner → Room
+room_for rooms (InRoom k) = room_at rooms k
+room_for rooms (InCells w) = record { space = Cells; which = w; rows = One; written = true }
+
+-- both are one owner
+abbrev pub same_owner : Owner → Owner → Bool
+same_owner (InRoom j) (InRoom k) = j == k
+same_owner (InRoom j) (InCells w) = false
+same_owner (InCells w) (InRoom k) = false
+same_owner (InCells v) (InCells w) = v == w
+
+-- a place by its owner
+pub record Mark : Type 0 where
+  pub owner : Owner
+  pub sub : Sub
 
 -- a body over such places
 pub record Marked : Type 0 where
@@ -59,9 +70,9 @@ pub record Marked : Type 0 where
   pub outs : List Lit
   pub writes : List Mark
 
--- the place that an owner's place is, once it is known where the owner's rows lie
+-- the place that an owner's place is, once it is known where the owners' rows lie
 abbrev pub placed : List Room → Mark → Place
-placed rooms m = let r = room_at rooms m.owner in
+placed rooms m = let r = room_for rooms m.owner in
     record { space = r.space; which = r.which; sub = m.sub }
 
 -- a body with its places found
@@ -101,17 +112,6 @@ pub data Reach : Type 0 where
   Whole : Reach
   Left : Reach
 
--- the inner index is one that the loop reaches
-abbrev pub InnerOk : ℕ → ℕ → ℕ → Reach → Type 0
-InnerOk n i o Nowhere = Unit {0}
-InnerOk n i o Whole = i < n
-InnerOk n i o Left = i < n - o
-
--- the outer index is one, where the body stands in a nest
-abbrev pub OuterOk : ℕ → ℕ → Bool → Type 0
-OuterOk n o true = o < n
-OuterOk n o false = Unit {0}
-
 -- an owner with a row at each position of a word
 abbrev pub is_long : Extent → Bool
 is_long One = false
@@ -149,68 +149,37 @@ fits r outer w sub.DownSum = is_twice w && (outer && has_inner r)
 fits r outer w sub.DownPlusN = is_twice w && outer
 fits r outer w sub.NPlusInner = is_twice w && has_inner r
 
--- In a body: each place has an owner and stays in its rows; what is written may be, and has owners
--- that differ; and of the reads at most one has a write's owner, with the write's subscript
-pub record BodyFits (r : Reach) (outer : Bool) (rooms : List Room) (reads writes : List Mark) : Type
-    0 where
-  pub read_owner : (k : ℕ) → k < length reads → (mark_at reads k).owner < length rooms
-  pub read_fits : (k : ℕ) → k < length reads
-      → fits r outer (room_at rooms (mark_at reads k).owner).rows (mark_at reads k).sub ≡ true
-  pub write_owner : (j : ℕ) → j < length writes → (mark_at writes j).owner < length rooms
-  pub write_fits : (j : ℕ) → j < length writes
-      → fits r outer (room_at rooms (mark_at writes j).owner).rows (mark_at writes j).sub ≡ true
-  pub written : (j : ℕ) → j < length writes → (room_at rooms (mark_at writes j).owner).written
-      ≡ true
-  pub differ : (i j : ℕ) → i < length writes → j < length writes
-      → (mark_at writes i).owner ≡ (mark_at writes j).owner → i ≡ j
-  pub same : (j k : ℕ) → j < length writes → k < length reads
-      → (mark_at writes j).owner ≡ (mark_at reads k).owner
-      → (mark_at writes j).sub ≡ (mark_at reads k).sub
-  pub once : (j k l : ℕ) → j < length writes → k < length reads → l < length reads
-      → (mark_at writes j).owner ≡ (mark_at reads k).owner
-      → (mark_at writes j).owner ≡ (mark_at reads l).owner → k ≡ l
-
 -- how far the positions of a nest's part go
 abbrev pub reach_of : Count → Reach
 reach_of All = Whole
 reach_of Rest = Left
 
--- so it is in every body of a nest
-abbrev pub InnersFit : List Room → List (InnerOf Marked) → Type 0
-InnersFit rooms [] = Unit {0}
-InnersFit rooms (Alone b ∷ ps) = BodyFits Nowhere true rooms b.reads b.writes × InnersFit rooms ps
-InnersFit rooms (Across c b ∷ ps) = BodyFits (reach_of c) true rooms b.reads b.writes
-    × InnersFit rooms ps
+-- there is such an owner among so many
+abbrev pub is_there : Owner → ℕ → Bool
+is_there (InRoom k) count = nat_lt k count
+is_there (InCells w) count = true
 
--- so it is in every body of a loop program
-abbrev pub StepsFit : List Room → List (StepOf Marked) → Type 0
-StepsFit rooms [] = Unit {0}
-StepsFit rooms (Single b ∷ ss) = BodyFits Nowhere false rooms b.reads b.writes × StepsFit rooms ss
-StepsFit rooms (Along b ∷ ss) = BodyFits Whole false rooms b.reads b.writes × StepsFit rooms ss
-StepsFit rooms (Nest ps ∷ ss) = InnersFit rooms ps × StepsFit rooms ss
-StepsFit rooms (Pairs b ∷ ss) = BodyFits Left true rooms b.reads b.writes × StepsFit rooms ss
-
--- the same as a test
+-- each place has an owner and stays in its rows
 abbrev pub all_fit : Reach → Bool → List Room → List Mark → Bool
 all_fit r outer rooms [] = true
-all_fit r outer rooms (m ∷ ms) = (nat_lt m.owner (length rooms)
-    && fits r outer (room_at rooms m.owner).rows m.sub) && all_fit r outer rooms ms
+all_fit r outer rooms (m ∷ ms) = (is_there m.owner (length rooms)
+    && fits r outer (room_for rooms m.owner).rows m.sub) && all_fit r outer rooms ms
 
 -- none of these places has this owner
-abbrev pub none_like : ℕ → List Mark → Bool
+abbrev pub none_like : Owner → List Mark → Bool
 none_like owner [] = true
-none_like owner (m ∷ ms) = not (owner == m.owner) && none_like owner ms
+none_like owner (m ∷ ms) = not (same_owner owner m.owner) && none_like owner ms
 
 -- at most one of these places has the owner of a write, and that one is the very place
 abbrev pub alone_in : Mark → List Mark → Bool
 alone_in p [] = true
-alone_in p (m ∷ ms) = if p.owner == m.owner then (sub_code p.sub == sub_code m.sub)
+alone_in p (m ∷ ms) = if same_owner p.owner m.owner then (sub_code p.sub == sub_code m.sub)
     && none_like p.owner ms else alone_in p ms
 
 -- what is written may be, each owner once, and is read at most at the very place
 abbrev pub writes_fit : List Room → List Mark → List Mark → Bool
 writes_fit rooms reads [] = true
-writes_fit rooms reads (m ∷ ms) = ((room_at rooms m.owner).written
+writes_fit rooms reads (m ∷ ms) = ((room_for rooms m.owner).written
     && (none_like m.owner ms && alone_in m reads)) && writes_fit rooms reads ms
 
 -- the test of a body
