@@ -35,6 +35,12 @@ use Rattle.loop_laws.proofs.Summed.{nest_sum, steps_sum, rounds_sum, sum_is}
 abbrev pub HaveRows : List Room → Type 0
 HaveRows rooms = (k : ℕ) → is_state (room_at rooms k).space ≡ false
 
+-- a loop program lies in rooms of which none stands in cells
+pub record InRooms (marked : List (StepOf Marked)) (steps : List (StepOf Block)) : Type 0 where
+  pub rooms : List Room
+  pub rows : HaveRows rooms
+  pub same : steps ≡ placed_steps rooms marked
+
 pub past_row : (rooms : List Room) (k : ℕ) → length rooms ≤ k
     → is_state (room_at rooms k).space ≡ false
 past_row [] k le = refl

@@ -32,10 +32,11 @@ use Rattle.loop_ir.specs.Lowered.{Does, IsLowered}
 use Rattle.loop_ir.specs.Lowered as l
 use Rattle.loop_laws.specs.Rooms.{Room, room_at, IsOwned, extent}
 use Rattle.loop_laws.specs.Forms.{IsMade, HasForm}
-use Rattle.loop_laws.proofs.Alike.{HaveRows, rounds_cost_like, plain_costs_like}
+use Rattle.loop_laws.proofs.Alike.{HaveRows, InRooms, rounds_cost_like, plain_costs_like}
 use Rattle.loop_laws.proofs.EveryRound.{marks_are_enough, rooms_row}
 use Rattle.loop_laws.proofs.Compile.{made_compile}
 use Rattle.word_lower.specs.Places.{rooms_of, scratch_bit, scratch_from, AreAt}
+use Rattle.word_lower.specs.Forms.{IsWritten}
 use Rattle.word_lower.specs.Programs.{program, is_linear}
 use Rattle.word_lower.specs.Shapes.{owners_of, program_on}
 use Rattle.word_lower.proofs.Pieces.{no_slot, slot_at, AreApart, Pieces, RoomView, is_target}
@@ -563,3 +564,24 @@ places_of slots [] (k ∷ ks) have = absurd have
 places_of slots (n ∷ ns) [] have = absurd have
 places_of slots (n ∷ ns) (k ∷ ks) have = let more = places_of slots ns ks have.1 in
     record { list = have.0.slot ∷ more.list; at = (have.0.found, more.at) }
+
+-- a written program lies in rooms of rows
+pub written_in_rooms : (slots : Slots) (free_bit free_word : ℕ) (target : List ℕ)
+    (second : Option (List ℕ)) (p : WordOp) (args : List (List ℕ)) (linear : is_linear p ≡ true)
+    (meets : ComputeMeets slots target second p args)
+    (placed : IsPlaced slots free_bit free_word (Compute target second p args))
+    (built : List (StepOf Block)) → IsWritten slots free_bit (Compute target second p args) built
+    → InRooms (program p meets.gives.slot.kind) built
+written_in_rooms slots free_bit free_word target second p args linear meets placed built written =
+    let t = meets.gives.slot in
+    let found = meets.gives.found in
+    let ss = places_of slots args meets.kinds meets.have in
+    let filled_form = form_filled slots free_bit free_word target second p args meets placed t found
+    ss.list ss.at in
+    record {
+      rooms = rooms_of t ss.list (scratch_from free_bit (bits_inside p));
+      rows = have_rows slots free_bit free_word target second p args meets placed t found ss.list
+          ss.at;
+      same = written t ss.list found ss.at
+          ∙ (op_lowers p t.kind t ss.list free_bit linear filled_form refl).same;
+    }
