@@ -26,7 +26,8 @@ use Rattle.loop_ir.specs.Lowered.{slot_bits, HoldsAt, Holds, IsStatementRow, Doe
 use Rattle.loop_ir.specs.Lowered.{op_plain_ceiling}
 use Rattle.loop_laws.specs.Rooms.{IsOwned}
 use Rattle.loop_laws.specs.Forms.{HasForm, IsMade}
-use Rattle.loop_laws.proofs.EveryRound.{marks_are_enough}
+use Rattle.loop_laws.proofs.Alike.{HaveRows}
+use Rattle.loop_laws.proofs.EveryRound.{rooms_row, marks_are_enough}
 use Rattle.loop_laws.proofs.Compile.{made_compile}
 use Rattle.word_lower.specs.Places.{rooms_of, scratch_from, AreAt}
 use Rattle.word_lower.proofs.Pieces.{slot, slot_at}
@@ -39,7 +40,8 @@ use Rattle.word_lower.proofs.Statements.{statement_rows}
 use Rattle.word_mul.specs.Places.{rooms_for, steps_for, rows_on}
 use Rattle.word_mul.specs.Programs.{nested, is_nested, nested_total}
 use Rattle.word_mul.specs.Bodies.{StepsBuilt}
-use Rattle.word_mul.proofs.Clear.{WordsClear, word_clear}
+use Rattle.word_mul.proofs.Clear.{WordsClear, word_clear, kind_rows}
+use Rattle.word_mul.proofs.Totals.{states, total, cheap, plain}
 use Rattle.word_mul.proofs.Nested.{DoesOp, Lowers, on_mul, on_div, on_rem, on_bitcount}
 
 -- where the arguments are words
@@ -113,6 +115,16 @@ module _ (slots : Slots) (free_bit free_word : ℕ) (target : List ℕ) (second 
     (found : slots target ≡ Some t) (ss : List Slot) (at : AreAt slots args ss) where
   pub clear : (n : ℕ) → WordsClear n t ss free_word (words_inside p)
   clear n = record {
+    target_rows = kind_rows t.space t.kind (holds slots free_bit free_word target second p args
+        meets placed t found ss at target t (among_target slots free_bit free_word target second p
+        args meets placed t found ss at) found);
+    given_rows = λ i lt.
+        (let h = at_place slots args ss i at lt in
+        let a = among_arg slots free_bit free_word target second p args meets placed t found ss
+        at i h.0 in
+        kind_rows (slot_at ss i).space (slot_at ss i).kind
+        (holds slots free_bit free_word target second p args meets placed t found ss at
+        (name_at args i) (slot_at ss i) a h.1));
     target =
         (let a = among_target slots free_bit free_word target second p args meets placed t
         found ss at in
@@ -198,13 +210,18 @@ module _ (slots : Slots) (free_bit free_word : ℕ) (target : List ℕ) (p : Wor
       q o
   owner_row n q (inr o) = inr (inr o)
 
+  have_rows : HaveRows (rooms_for p (rows_on t None ss free_bit free_word))
+  have_rows = rooms_row row (rooms_for p (rows_on t None ss free_bit free_word))
+      (λ q o. owner_row 1 q (lowers.owned 1 q o))
+      (statement_rows slots free_bit free_word (Compute target None p args) placed 1)
+
   form : HasForm row (steps_for p (rows_on t None ss free_bit free_word))
   form = marks_are_enough row (rooms_for p (rows_on t None ss free_bit free_word)) (nested p)
       (λ n some most. lowers.apart n some (pieces slots free_bit free_word target None p args meets
       placed t found ss at n) (cleared n))
       (λ n some most q o. owner_row n q (lowers.owned n q o))
       (statement_rows slots free_bit free_word (Compute target None p args) placed) lowers.fit
-      lowers.short
+      lowers.short (states p is)
 
   abbrev steps : List (StepOf Block)
   steps = steps_for p (rows_on t None ss free_bit free_word)
@@ -230,7 +247,7 @@ module _ (slots : Slots) (free_bit free_word : ℕ) (target : List ℕ) (p : Wor
         x) same
         (subst (λ (x : Option Slot). HoldsAt n x
         (after_statement n held (Compute target None p args) target) new) (sym found) one));
-    keeps = λ rows q out. (does_op n some rows).keeps q
+    keeps = λ rows q row out. (does_op n some rows).keeps q row
         (λ v lv e.
         out (inl (
           target,
@@ -254,7 +271,8 @@ module _ (slots : Slots) (free_bit free_word : ℕ) (target : List ℕ) (p : Wor
   module _ (others : List (StepOf Block)) (built : StepsBuilt others steps) where
     pub few : (n : ℕ) → rounds_cost (all_rounds n others) ≤ nested_total p n
     few n = let e = ap (λ ss. rounds_cost (all_rounds n ss)) built.same in
-        let b = lowers.total n in omega (arith, e, b)
+        let b = total p is (rooms_for p (rows_on t None ss free_bit free_word)) have_rows n in
+        omega (arith, e, b)
 
     pub lowered : IsLowered slots free_bit free_word (Compute target None p args) others
     lowered =
@@ -264,9 +282,16 @@ module _ (slots : Slots) (free_bit free_word : ℕ) (target : List ℕ) (p : Wor
           well = c.0;
           can = c.1;
           does = λ n some most. does n some;
-          cheap = λ n some most. (let a = lowers.total n in let b = lowers.cheap n in
-              let w = ap (op_ceiling p) (named_width n slots args ss at) in omega (arith, a, b, w));
-          plain = λ n some most. (let b = lowers.plain n in
-              let w = ap (op_plain_ceiling p) (named_width n slots args ss at) in
+          cheap = λ n some most.
+              (let a = total p is (rooms_for p (rows_on t None ss free_bit free_word)) have_rows n
+              in
+              let b = cheap p is n in
+              let w = ap (op_ceiling p) (named_width n slots args ss at ∙ lowers.wide n) in
+              omega (arith, a, b, w));
+          plain = λ n some most.
+              (let b = plain p is (rooms_for p (rows_on t None ss free_bit free_word)) have_rows n
+              in
+              let w = ap (op_plain_ceiling p)
+              (named_width n slots args ss at ∙ lowers.wide n) in
               omega (arith, b, w));
         }
