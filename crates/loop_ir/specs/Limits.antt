@@ -1,6 +1,6 @@
 -- What a loop program keeps, so that its code is legal and short.
 use Rattle.std.specs.Prelude.{◌≡◌, ℕ, ◌+◌, ◌<◌, ◌≤◌, Bool, true, false, ◌&&◌, List, [], ◌++◌}
-use Rattle.std.specs.Prelude.{length, is_some}
+use Rattle.std.specs.Prelude.{length, not, Option, Some, None}
 use Rattle.std.specs.List.{AllByRecursion, list_all}
 use Rattle.bit_rows.specs.declared.TheConstants.{WIDTH_MAX}
 use Rattle.mig_graph.specs.Graph.{IsGraph}
@@ -14,16 +14,25 @@ use Rattle.loop_ir.specs.Plain.StepOf.{Single, Along, Nest, Pairs}
 use Rattle.loop_ir.specs.Loops.{RoundOf, all_rounds}
 use Rattle.loop_ir.specs.Spots.{Spot, IsOwn, is_state, nth_place, nth_spot}
 use Rattle.loop_ir.specs.WellFormed.{IsWellFormed}
+use Rattle.row_alloc.specs.HeldBodies.{HeldBody, HeldNegatedIf}
 use Rattle.loop_ir.specs.States.{StatesFit, has_states, held_of}
 use Rattle.loop_ir.specs.Chains.{steps_find}
-use Rattle.loop_ir.specs.Costs.{used_subs, code_cost, bodies}
+use Rattle.loop_ir.specs.Costs.{same_sub, used_subs, code_cost, bodies}
+
+-- the body's sequence does it wherever its rows lie: that of abs reads its second input after it
+-- has written, so that the two must be rows of two positions
+abbrev pub is_served : Option HeldBody → Block → Bool
+is_served None b = false
+is_served (Some HeldNegatedIf) b = not (same_sub (nth_place b.reads 1).sub
+    (nth_place b.writes 0).sub)
+is_served (Some h) b = true
 
 -- a body of which commands can be made: its states fit, and where it has any it is one of the
--- bodies that hold states
+-- bodies that hold states, with a sequence that does it
 pub record IsSmall (b : Block) : Type 0 where
   pub well : IsWellFormed b
   pub states : StatesFit b
-  pub known : has_states b ≡ true → is_some (held_of b) ≡ true
+  pub known : has_states b ≡ true → is_served (held_of b) b ≡ true
   pub graph : IsGraph b.graph.inputs b.graph.nodes
   pub inputs : b.graph.inputs ≤ 80
   pub outputs : length b.outs ≤ 8

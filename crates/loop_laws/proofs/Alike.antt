@@ -2,13 +2,13 @@
 use Rattle.std.proofs.Common.{◌≡◌, ℕ, zero, suc, ◌+◌, ◌-◌, ◌*◌, ◌<◌, ◌≤◌, Bool, true, false, not}
 use Rattle.std.proofs.Common.{cond, List, [], ◌∷◌, ◌++◌, map, length, Option, Some, None, refl, sym}
 use Rattle.std.proofs.Common.{ap, ◌∙◌, ⊎_elim, arith}
-use Rattle.std.specs.Prelude.{◌==◌, ◌&&◌, ◌||◌, nat_le, nat_lt, is_some}
+use Rattle.std.specs.Prelude.{◌==◌, ◌&&◌, ◌||◌, nat_le, nat_lt}
 use Rattle.std.specs.List.{list_any, list_all}
 use Rattle.std.proofs.lemmas.Bool.{cases_Bool, and_parts}
 use Rattle.std.proofs.lemmas.List.{length-map}
 use Rattle.mig_graph.specs.declared.Lit.{Lit}
 use Rattle.row_alloc.specs.HeldBodies.{HeldBody, held_inputs, held_nodes, held_outs, enter_in}
-use Rattle.row_alloc.specs.HeldBodies.{leave_in}
+use Rattle.row_alloc.specs.HeldBodies.{leave_in, HeldNegatedIf}
 use Rattle.row_alloc.specs.declared.body.Held.{Held}
 use Rattle.loop_ir.specs.declared.ir.Count.TheVariants.{All, Rest}
 use Rattle.loop_ir.specs.declared.ir.Place.{Place}
@@ -24,7 +24,8 @@ use Rattle.loop_ir.specs.States.{held_of}
 use Rattle.loop_ir.specs.Chains.{states_in, is_left, finds, left_by, loop_finds, inner_left}
 use Rattle.loop_ir.specs.Chains.{inner_finds, steps_find}
 use Rattle.loop_ir.specs.Costs.{is_copy, is_not, is_and, is_or, is_xor, is_add, body_cost, held_cost}
-use Rattle.loop_ir.specs.Costs.{turn_cost, plain_cost, rounds_cost, plain_costs}
+use Rattle.loop_ir.specs.Costs.{turn_cost, plain_cost, rounds_cost, plain_costs, same_sub}
+use Rattle.loop_ir.specs.Limits.{is_served}
 use Rattle.loop_laws.specs.Rooms.{Room, room_at, room_for, Owner, InRoom, InCells, Mark, Marked}
 use Rattle.loop_laws.specs.Rooms.{placed, placed_body, placed_steps}
 use Rattle.loop_laws.specs.Forms.{are_rows_first, has_known_states}
@@ -33,6 +34,12 @@ use Rattle.loop_laws.proofs.Summed.{nest_sum, steps_sum, rounds_sum, sum_is}
 -- no room stands in cells
 abbrev pub HaveRows : List Room → Type 0
 HaveRows rooms = (k : ℕ) → is_state (room_at rooms k).space ≡ false
+
+-- a loop program lies in rooms of which none stands in cells
+pub record InRooms (marked : List (StepOf Marked)) (steps : List (StepOf Block)) : Type 0 where
+  pub rooms : List Room
+  pub rows : HaveRows rooms
+  pub same : steps ≡ placed_steps rooms marked
 
 pub past_row : (rooms : List Room) (k : ℕ) → length rooms ≤ k
     → is_state (room_at rooms k).space ≡ false
@@ -122,7 +129,7 @@ module _ (rooms : List Room) (rows : HaveRows rooms) where
       (map (placed rooms) ms ++ map (placed rooms) ns)) (state_like m.owner)
       ∙ ap (λ t. is_state (room_for [] m.owner).space || t) (any_like ms ns)
 
-  has_like : (b : Marked) → has_states (placed_body rooms b) ≡ has_states (placed_body [] b)
+  pub has_like : (b : Marked) → has_states (placed_body rooms b) ≡ has_states (placed_body [] b)
   has_like b = any_like b.reads b.writes
 
   body_like : (h : HeldBody) (b : Marked) → is_held_body h (placed_body rooms b)
@@ -148,7 +155,7 @@ module _ (rooms : List Room) (rows : HaveRows rooms) where
       ap (λ c. cond c (Some h) (held_among hs (placed_body rooms b))) (body_like h b)
       ∙ ap (λ t. cond (is_held_body h (placed_body [] b)) (Some h) t) (among_like hs b)
 
-  held_like : (b : Marked) → held_of (placed_body rooms b) ≡ held_of (placed_body [] b)
+  pub held_like : (b : Marked) → held_of (placed_body rooms b) ≡ held_of (placed_body [] b)
   held_like b = among_like held_bodies b
 
   finds_like : (alive : List ℕ) (b : Marked) → finds alive (placed_body rooms b)
@@ -277,7 +284,7 @@ module _ (f : Block → ℕ) (rooms : List Room)
       ap (λ x. 2 * ((n - 1) * x) + steps_sum f n (placed_steps rooms ss)) (like b)
       ∙ ap (λ x. 2 * ((n - 1) * f (placed_body [] b)) + x) (sum_like n ss)
 
-  rounds_like : (n : ℕ) (ss : List (StepOf Marked))
+  pub rounds_like : (n : ℕ) (ss : List (StepOf Marked))
       → rounds_sum f (all_rounds n (placed_steps rooms ss))
       ≡ rounds_sum f (all_rounds n (placed_steps [] ss))
   rounds_like n ss =
@@ -364,16 +371,33 @@ none_first (p ∷ ps) qs none = none_first ps qs (or_parts (is_state p.space) _ 
 most_is : (a b : ℕ) → nat_le a b ≡ true → a ≤ b
 most_is a b e = grind arith
 
+-- a place's subscript is its mark's
+pub sub_like : (rooms : List Room) (ms : List Mark) (k : ℕ)
+    → (nth_place (map (placed rooms) ms) k).sub ≡ (nth_place (map (placed []) ms) k).sub
+sub_like rooms [] k = refl
+sub_like rooms (m ∷ ms) zero = refl
+sub_like rooms (m ∷ ms) (suc k) = sub_like rooms ms k
+
+served_like : (rooms : List Room) (b : Marked) (o : Option HeldBody)
+    → is_served o (placed_body rooms b) ≡ is_served o (placed_body [] b)
+served_like rooms b None = refl
+served_like rooms b (Some HeldNegatedIf) =
+    ap (λ s. not (same_sub s (nth_place (map (placed rooms) b.writes) 0).sub))
+    (sub_like rooms b.reads 1)
+    ∙ ap (λ s. not (same_sub (nth_place (map (placed []) b.reads) 1).sub s))
+    (sub_like rooms b.writes 0)
+served_like rooms b (Some h) = refl
+
 -- what the test says of a body with states
 record IsKnown (b : Block) : Type 0 where
   reads : length b.reads ≤ b.graph.inputs
   first : are_rows_first b.writes ≡ true
-  held : is_some (held_of b) ≡ true
+  held : is_served (held_of b) b ≡ true
 
 known_is : (b : Block) → has_states b ≡ true → has_known_states b ≡ true → IsKnown b
 known_is b has h =
     let e = sym (ap (λ c. cond c (nat_le (length b.reads) b.graph.inputs
-    && (are_rows_first b.writes && is_some (held_of b))) true) has) ∙ h in
+    && (are_rows_first b.writes && is_served (held_of b) b)) true) has) ∙ h in
     let x = and_parts (nat_le (length b.reads) b.graph.inputs) _ e in
     let y = and_parts (are_rows_first b.writes) _ x.1 in
     record { reads = most_is (length b.reads) b.graph.inputs x.0; first = y.0; held = y.1 }
@@ -381,8 +405,9 @@ known_is b has h =
 module _ (rooms : List Room) (rows : HaveRows rooms) (b : Marked)
     (h : has_known_states (placed_body [] b) ≡ true) where
   pub states_known : has_states (placed_body rooms b) ≡ true
-      → is_some (held_of (placed_body rooms b)) ≡ true
-  states_known has = ap is_some (held_like rooms rows b)
+      → is_served (held_of (placed_body rooms b)) (placed_body rooms b) ≡ true
+  states_known has = ap (λ o. is_served o (placed_body rooms b)) (held_like rooms rows b)
+      ∙ served_like rooms b (held_of (placed_body [] b))
       ∙ (known_is (placed_body [] b) (sym (has_like rooms rows b) ∙ has) h).held
 
   pub states_fit : length b.outs ≡ length (map (placed rooms) b.writes)

@@ -431,7 +431,7 @@ rounds_among P Q h n [] all = tt
 rounds_among P Q h n (r ∷ rs) all = (round_among P Q h n r all.0, rounds_among P Q h n rs all.1)
 
 -- the first row of each room is one that may be had
-rooms_row : (may_have : ℕ → Spot → Type 0) (rooms : List Room)
+pub rooms_row : (may_have : ℕ → Spot → Type 0) (rooms : List Room)
     → ((q : Spot) → IsOwned 1 rooms q → may_have 1 q)
     → ((q : Spot) → may_have 1 q → is_state q.space ≡ false) → HaveRows rooms
 rooms_row may_have rooms among rows k = elim (cases_lt k (length rooms)) [

@@ -1,6 +1,6 @@
 -- What a loop program has to keep, so that it can be compiled.
 use Rattle.std.specs.Prelude.{◌≡◌, ℕ, ◌+◌, ◌<◌, ◌≤◌, ◌==◌, Bool, true, false, ◌&&◌, nat_le, List}
-use Rattle.std.specs.Prelude.{[], ◌∷◌, length, is_some, if◌then◌else◌}
+use Rattle.std.specs.Prelude.{[], ◌∷◌, length, if◌then◌else◌}
 use Rattle.std.specs.List.{AllByRecursion, list_all}
 use Rattle.bit_rows.specs.declared.TheConstants.{WIDTH_MAX}
 use Rattle.mig_graph.specs.Graph.{IsGraph}
@@ -15,13 +15,13 @@ use Rattle.loop_ir.specs.WellFormed.{IsOneValue}
 use Rattle.loop_ir.specs.States.{StatesFit, has_states, held_of}
 use Rattle.loop_ir.specs.Chains.{steps_find}
 use Rattle.loop_ir.specs.Costs.{used_subs, code_cost, bodies}
-use Rattle.loop_ir.specs.Limits.{IsRound, step_stands}
+use Rattle.loop_ir.specs.Limits.{IsRound, is_served, step_stands}
 
 -- a body's places and numbers, but for its nodes
 pub record IsSlim (b : Block) : Type 0 where
   pub reads : b.graph.inputs ≤ length b.reads
   pub states : StatesFit b
-  pub known : has_states b ≡ true → is_some (held_of b) ≡ true
+  pub known : has_states b ≡ true → is_served (held_of b) b ≡ true
   pub apart : (i j : ℕ) → i < length b.writes → j < length b.writes
       → IsOneValue (nth_place b.writes i) (nth_place b.writes j) → i ≡ j
   pub same : (j k : ℕ) → j < length b.writes → k < length b.reads
@@ -84,10 +84,10 @@ are_rows_first (p ∷ ps) = if is_state p.space then list_all (λ q. is_state q.
     else are_rows_first ps
 
 -- where the body has states, each read is an input, the rows are written first, and the body is one
--- of those that hold states
+-- of those that hold states, with a sequence that does it
 abbrev pub has_known_states : Block → Bool
 has_known_states b = if has_states b then nat_le (length b.reads) b.graph.inputs
-    && (are_rows_first b.writes && is_some (held_of b)) else true
+    && (are_rows_first b.writes && is_served (held_of b) b) else true
 
 -- so it is in every body of a nest
 abbrev pub inners_have_known : List (InnerOf Block) → Bool

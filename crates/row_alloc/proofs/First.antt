@@ -397,7 +397,7 @@ module _ (f : ℕ → ℕ → Bool) (outs : List OutRow) (kept : (j k : ℕ) →
       clear_late cs t.1 p q j k (omega (arith, lp)) (omega (arith, lq)) s w r
 
 -- where no output is written early
-never : (outs : List OutRow) (cs : List BodyCmd) → is_clear (λ j k. false) cs ≡ true
+pub never : (outs : List OutRow) (cs : List BodyCmd) → is_clear (λ j k. false) cs ≡ true
     → WritesLate outs cs
 never outs cs h = record {
   late = clear_late (λ j k. false) outs (λ j k e s. let z : false ≡ true = e in cc) cs h;
@@ -407,7 +407,7 @@ never outs cs h = record {
 abbrev is_pair : ℕ → ℕ → ℕ → ℕ → Bool
 is_pair i l j k = (j == i) && (k == l)
 
-but_one : (i l : ℕ) (outs : List OutRow) (cs : List BodyCmd) → ((out_at outs i).same ≡ Some l → ⊥)
+pub but_one : (i l : ℕ) (outs : List OutRow) (cs : List BodyCmd) → ((out_at outs i).same ≡ Some l → ⊥)
     → is_clear (is_pair i l) cs ≡ true → WritesLate outs cs
 but_one i l outs cs kept h = record {
   late = clear_late (is_pair i l) outs (λ j k e s.

@@ -17,3 +17,4 @@ pub mod Values
 pub mod HeldChecked
 pub mod Plainly
 pub mod HeldFirst
+pub mod HeldLate

@@ -1,3 +1,4 @@
 -- How many commands the word operations take.
+pub mod Placed
 pub mod Exact
 pub mod Counted

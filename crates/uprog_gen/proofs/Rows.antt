@@ -1,7 +1,7 @@
 -- What commands and rounds do to the rows of a bank.
+pub mod Issued
 pub mod Rounds
 pub mod Alive
-pub mod Chains
 pub mod Chained
 pub mod States
 pub mod Named

@@ -8,7 +8,6 @@ use Rattle.uprog_code.specs.declared.code.RowRef.{RowRef}
 use Rattle.uprog_code.specs.declared.code.Uop.{Uop}
 use Rattle.uprog_code.specs.declared.code.Uop.TheVariants.{SetI, SetN, SetT, Mov, Add, SubI, AddI}
 use Rattle.uprog_code.specs.declared.code.Uop.TheVariants.{Bnez, Aap, Ap}
-use Rattle.uprog_code.specs.Machine.{Issue, IssueAap, IssueAp, position}
 use Rattle.row_alloc.specs.declared.body.BodyRef.{BodyRef}
 use Rattle.row_alloc.specs.declared.body.BodyRef.TheVariants as ref
 use Rattle.row_alloc.specs.declared.body.BodyCmd.{BodyCmd}
@@ -28,7 +27,6 @@ use Rattle.uprog_gen.specs.declared.plan.Plan.{Plan}
 use Rattle.loop_ir.specs.Plain.{Block, InnerOf, StepOf, step_map}
 use Rattle.loop_ir.specs.Plain.InnerOf.{Alone, Across}
 use Rattle.loop_ir.specs.Plain.StepOf.{Single, Along, Nest, Pairs}
-use Rattle.loop_ir.specs.Loops.{RoundOf, sub_value}
 use Rattle.loop_ir.specs.Spots.{nth_place}
 use Rattle.loop_ir.specs.Costs.{same_sub, is_used, is_fixed}
 
@@ -47,32 +45,6 @@ row_space Source = row.Source
 row_space ScratchBit = row.ScratchBit
 row_space ScratchWord = row.ScratchWord
 row_space Cells = row.ScratchBit
-
--- a place's row, in a command of the trace
-abbrev pub place_row : ℕ → ℕ → ℕ → Place → RowRef
-place_row n i o p = record {
-  space = row_space p.space;
-  which = p.which;
-  index = position (row_space p.space) (sub_value n i o p.sub);
-}
-
--- a body's row in a round, in a command of the trace
-abbrev pub round_ref : ℕ → RoundOf Part → BodyRef → RowRef
-round_ref n r (ref.B k) = record { space = row.B; which = k; index = 0 }
-round_ref n r (ref.C k) = record { space = row.C; which = k; index = 0 }
-round_ref n r (ref.In k) = place_row n r.i r.o (nth_place r.part.block.reads k)
-round_ref n r (ref.Out k) = place_row n r.i r.o (nth_place r.part.block.writes k)
-round_ref n r (ref.Spill k) = record { space = row.Spill; which = k; index = 0 }
-
--- a body's command in a round, as a command of the trace
-abbrev pub round_command : ℕ → RoundOf Part → BodyCmd → Issue
-round_command n r (cmd.Aap x y) = IssueAap (round_ref n r x) (round_ref n r y)
-round_command n r (cmd.Ap x) = IssueAp (round_ref n r x)
-
--- all commands of the rounds
-abbrev pub rounds_commands : ℕ → List (RoundOf Part) → List Issue
-rounds_commands n [] = []
-rounds_commands n (r ∷ rs) = map (round_command n r) r.part.cmds ++ rounds_commands n rs
 
 -- Registers 0 and 1 hold o and n - 1 - o, and 2 counts an inner loop down. The other subscripts
 -- that a body uses have registers 3 to 5

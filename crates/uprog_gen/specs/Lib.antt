@@ -2,7 +2,6 @@
 -- an operation lie.
 pub mod Where
 pub mod Code
-pub mod States
 pub mod Parts
 pub mod Does
 pub mod Made

@@ -10,6 +10,7 @@ mod lowering;
 mod ops;
 mod part;
 mod plan;
+mod states;
 mod steps;
 
 pub use entry::compile_entry;

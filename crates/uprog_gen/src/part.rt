@@ -2,14 +2,15 @@
 
 ghost use Rattle.std.specs.Prelude.{◌≡◌, ◌≢◌, ℕ, ◌<◌, ◌≤◌, ◌++◌, ◌∷◌, [], length, OnOk, IfOk};
 ghost use Rattle.std.specs.Prelude.{IfSome, IfNone};
-ghost use Rattle.mig_graph.specs.Graph.{IsGraph};
 ghost use Rattle.loop_ir.specs.Plain.{block_of};
+ghost use Rattle.loop_ir.specs.States.{row_count as rows_in};
 ghost use Rattle.loop_ir.specs.Spots.{nth_place};
 ghost use Rattle.uprog_gen.specs.Parts.{IsOuts, IsPart};
 ghost use Rattle.loop_ir.specs.Limits.{IsSmall};
 ghost use Rattle.uprog_gen.specs.Made.{part_of};
 
 use crate::plan::{Plan, plan_of};
+use crate::states::{has_states, held_commands, row_count};
 use faults::keep;
 use loop_ir::{Body, Place};
 use mig_graph::NoMemory;
@@ -55,16 +56,15 @@ fn find_place(reads: &[Place], inputs: u8, place: Place) -> Option<u8>
     None
 }
 
-/// The rows of the body's outputs.
+/// The rows of the body's outputs that have one.
 fn out_rows(body: &Body, alloc: Global) -> Result<Vec<OutRow>, NoMemory>
     requires { IsSmall (block_of body.now) }
-    ensures outs { IfOk result (λ outs. IsOuts (block_of body.now)
-        (length body.now.graph.outs.items) outs.items) }
-    ensures graph { IfOk result (λ _. IsGraph body.now.graph.mig.inputs body.now.graph.mig.nodes) }
+    ensures { IfOk result (λ outs. IsOuts (block_of body.now)
+        (rows_in body.now.writes.items) outs.items) }
 {
     let mut outs = Vec::new(alloc);
     let inputs = body.graph.mig.inputs();
-    for j in 0..body.graph.outs.len() {
+    for j in 0..row_count(&body.writes) {
         let place = place_at(&body.writes, j as u8);
         let same = find_place(&body.reads, inputs, place);
         let lit = body.graph.outs[j];
@@ -80,6 +80,10 @@ pub fn make_part(body: &Body, alloc: Global) -> Result<Made, NoMemory>
 {
     let plan = plan_of(body, alloc)?;
     let outs = out_rows(body, alloc)?;
+    if has_states(body) {
+        let cmds = held_commands(body, &outs, alloc)?;
+        return Ok(Made { plan, outs, cmds });
+    }
     let cmds = greedy_body(&body.graph.mig, &outs, alloc)?;
     Ok(Made { plan, outs, cmds })
 }

@@ -6,9 +6,8 @@ use Rattle.bit_rows.specs.Bits.{majority}
 use Rattle.loop_ir.specs.declared.ir.Sub.TheVariants as sub
 use Rattle.loop_ir.specs.declared.ir.Place.{Place}
 use Rattle.loop_laws.proofs.Placed.{AllBefore}
-use Rattle.word_lower.specs.Places.{scratch_bit}
+use Rattle.loop_ir.specs.declared.names.Slot.{Slot}
 use Rattle.word_lower.proofs.Setting.{bit, Slots, at, IsFree, AreSlots}
-use Rattle.word_lower.proofs.Passes.{bit_free}
 use Rattle.word_lower.proofs.Sums.{xor2}
 
 pub added_digit : (x y c : Bool) → bit (majority c (not (majority x y c)) (majority x y (not c)))
@@ -25,8 +24,9 @@ added_digit false false false = refl
 
 -- a borrow, as the complement of a carry
 pub lessened_digit : (x y c : Bool)
-    → bit (majority (not c) (majority (not x) y c) (majority x (not y) c)) + 2
-    * bit (not (majority (not x) y c)) ≡ bit x + bit (not y) + bit (not c)
+    → (let d = majority (not x) c (majority x y (not c)) in
+    bit (majority (not y) (majority x y (not c)) d) + 2 * bit (not d)
+    ≡ bit x + bit (not y) + bit (not c))
 unfolding majority
 lessened_digit true true true = refl
 lessened_digit true true false = refl
@@ -37,16 +37,16 @@ lessened_digit false true false = refl
 lessened_digit false false true = refl
 lessened_digit false false false = refl
 
-pub negated_bit : (x c : Bool) → majority (not c) (majority false (not x) c)
-    (majority true x (majority false (not x) c)) ≡ xor2 c x
+pub negated_bit : (x c : Bool) → majority false (majority true x c) (not (majority false x c))
+    ≡ xor2 c x
 unfolding majority
 negated_bit true true = refl
 negated_bit true false = refl
 negated_bit false true = refl
 negated_bit false false = refl
 
-pub negated_state : (x t c : Bool) → majority t c (majority true x (majority false (not x) c))
-    ≡ c || (t && x)
+pub negated_state : (x t c : Bool) → majority t (majority false x c)
+    (majority false (majority true x c) (not (majority false x c))) ≡ (t && (c || x))
 unfolding majority
 negated_state true true true = refl
 negated_state true true false = refl
@@ -57,12 +57,9 @@ negated_state false true false = refl
 negated_state false false true = refl
 negated_state false false false = refl
 
-module _ (n : ℕ) (m : Slots) (are : AreSlots n n n 1 m) where
-  f : IsFree n n n m (scratch_bit m.free_bit) 1
-  f = bit_free n n n 0 m are
-
+module _ (n : ℕ) (m : Slots) (are : AreSlots n n n 1 m) (t : Slot) (f : IsFree n n n m t 1) where
   abbrev writes : List Place
-  writes = at m.target sub.Inner ∷ (at (scratch_bit m.free_bit) sub.Zero ∷ [])
+  writes = at m.target sub.Inner ∷ (at t sub.Zero ∷ [])
 
   pub a_by_carry : AllBefore n 0 n (at m.a sub.Inner) writes
   a_by_carry = (

@@ -1,6 +1,7 @@
 -- Where the arguments fill a form of an operation, its loop program does it, keeps its ceiling, and
 -- passes the tests.
-use Rattle.std.proofs.Common.{◌≡◌, ℕ, suc, ◌+◌, ◌*◌, ◌<◌, ◌≤◌, true, List, [], ◌∷◌, map, Some, refl}
+use Rattle.std.proofs.Common.{◌≡◌, ℕ, suc, ◌+◌, ◌*◌, ◌<◌, ◌≤◌, true, false, List, [], ◌∷◌, map}
+use Rattle.std.proofs.Common.{Some, refl}
 use Rattle.std.proofs.Common.{sym, ap, ◌∙◌, subst, arith, ◌⊎◌, inl, inr}
 use Rattle.op_text.specs.declared.tree.Kind.{Kind}
 use Rattle.op_text.specs.declared.tree.Kind.TheVariants.{Word, Bit}
@@ -17,11 +18,11 @@ use Rattle.loop_ir.specs.declared.ir.Space.TheVariants.{ScratchBit}
 use Rattle.loop_ir.specs.declared.names.Slot.{Slot}
 use Rattle.loop_ir.specs.Plain.{Block, StepOf}
 use Rattle.loop_ir.specs.Loops.{all_rounds}
-use Rattle.loop_ir.specs.Spots.{Spot, Spots, spot_in, after_rounds}
+use Rattle.loop_ir.specs.Spots.{Spot, Spots, spot_in, after_rounds, is_state}
 use Rattle.loop_ir.specs.Costs.{turn_cost, rounds_cost, plain_cost, plain_costs}
 use Rattle.loop_ir.specs.Lowered.{slot_spot, slot_bits, op_plain_ceiling}
 use Rattle.loop_laws.specs.Rooms.{steps_fit, placed_steps}
-use Rattle.loop_laws.specs.Forms.{is_short}
+use Rattle.loop_laws.specs.Forms.{is_short, keeps_states}
 use Rattle.loop_laws.proofs.Summed.{steps_sum, sum_is}
 use Rattle.loop_laws.proofs.Costing.{rounds-plain}
 use Rattle.word_lower.specs.Places.{scratch_from, rooms_of}
@@ -48,7 +49,7 @@ pub record DoesOp (p : WordOp) (n : ℕ) (k : Kind) (t : Slot) (args : List Slot
         → slot_bits n (after_rounds n (all_rounds n (steps_on p k t args free)) before) t
         ≡ bits (op_value p (slots_width n args) (map (λ a. value (slot_bits n before a)) args))
         (width n t.kind)
-    pub keeps : (before : Spots) (q : Spot) → ((v : ℕ) → v < width n t.kind → q ≡ slot_spot n t v
+    pub keeps : (before : Spots) (q : Spot) → is_state q.space ≡ false → ((v : ℕ) → v < width n t.kind → q ≡ slot_spot n t v
         → ⊥)
         → ((j : ℕ) → j < bits_inside p → q ≡ spot_in n ScratchBit (free + j) 0 → ⊥)
         → after_rounds n (all_rounds n (steps_on p k t args free)) before q ≡ before q
@@ -59,9 +60,10 @@ pub record Lowers (p : WordOp) (k : Kind) (t : Slot) (args : List Slot) (free : 
   pub short : is_short (steps_on p k t args free) ≡ true
   pub does : (n : ℕ) → 0 < n → Pieces n t args (scratch_from free (bits_inside p))
       → DoesOp p n k t args free
-  pub cheap : (n : ℕ) → rounds_cost (all_rounds n (steps_on p k t args free))
+  pub states : keeps_states (placed_steps [] (program p k)) ≡ true
+  pub cheap : (n : ℕ) → 0 < n → rounds_cost (all_rounds n (placed_steps [] (program p k)))
       ≤ op_ceiling p (slots_width n args)
-  pub plain : (n : ℕ) → plain_costs (all_rounds n (steps_on p k t args free))
+  pub plain : (n : ℕ) → 0 < n → plain_costs (all_rounds n (placed_steps [] (program p k)))
       ≤ op_plain_ceiling p (slots_width n args)
 
 -- a place with another kind, and places of these kinds
@@ -138,11 +140,12 @@ number_answer p n l bound t m before after x e g h =
     ∙ ap (λ y. bits y (width n t.kind)) (sym (ap
     (λ (z : Slot). number_at n after z (width n t.kind)) e) ∙ g.gives ∙ h)
 
-elsewhere : (n bound : ℕ) (m : Slots) (q : Spot)
+elsewhere : (n bound : ℕ) (m : Slots) (q : Spot) → is_state q.space ≡ false
     → ((v : ℕ) → v < width n m.target.kind → q ≡ slot_spot n m.target v → ⊥)
     → ((j : ℕ) → j < bound → q ≡ spot_in n ScratchBit (m.free_bit + j) 0 → ⊥)
     → IsElsewhere n (width n m.target.kind) bound m q
-elsewhere n bound m q out free = record {
+elsewhere n bound m q row out free = record {
+  no_state = row;
   target = out;
   bit = λ h e. free 0 h (let f : m.free_bit ≡ m.free_bit + 0 = omega arith in
       e ∙ ap (λ z. spot_in n ScratchBit z 0) f);
@@ -153,9 +156,10 @@ record Computes (p : WordOp) (k : Kind) (t : Slot) (args : List Slot) (free : �
   fit : steps_fit (rooms_of t args (scratch_from free (bits_inside p))) (program p k) ≡ true
   same : program_on (owners_of t args free) (program p k) ≡ steps_on p k t args free
   short : is_short (steps_on p k t args free) ≡ true
-  cheap : (n : ℕ) → rounds_cost (all_rounds n (steps_on p k t args free))
+  states : keeps_states (placed_steps [] (program p k)) ≡ true
+  cheap : (n : ℕ) → 0 < n → rounds_cost (all_rounds n (placed_steps [] (program p k)))
       ≤ op_ceiling p (slots_width n args)
-  plain : (n : ℕ) → plain_costs (all_rounds n (steps_on p k t args free))
+  plain : (n : ℕ) → 0 < n → plain_costs (all_rounds n (placed_steps [] (program p k)))
       ≤ op_plain_ceiling p (slots_width n args)
 
 abbrev ComputesIn : WordOp → Kind → Slot → (ℕ → Slot) → ℕ → Type 0
@@ -165,60 +169,65 @@ ComputesIn p c t f free = let sh = (row_of p).signature in
 -- it keeps the ceiling, or has no other one where no body has a sequence of its own
 abbrev IsCheap : WordOp → List (StepOf Block) → List Slot → Type 0
 IsCheap p steps args =
-    ((n : ℕ) → steps_sum turn_cost n steps ≤ 2 * op_ceiling p (slots_width n args))
+    ((n : ℕ) → 0 < n → steps_sum turn_cost n steps ≤ 2 * op_ceiling p (slots_width n args))
     ⊎ ((m : ℕ) → op_plain_ceiling p m ≡ op_ceiling p m)
 
 computed : (p : WordOp) (k : Kind) (t : Slot) (args : List Slot) (free : ℕ)
     → steps_fit (rooms_of t args (scratch_from free (bits_inside p))) (program p k) ≡ true
     → program_on (owners_of t args free) (program p k) ≡ steps_on p k t args free
     → is_short (steps_on p k t args free) ≡ true
-    → ((n : ℕ) → steps_sum plain_cost n (steps_on p k t args free)
-    ≤ 2 * op_plain_ceiling p (slots_width n args)) → IsCheap p (steps_on p k t args free) args
+    → keeps_states (placed_steps [] (program p k)) ≡ true
+    → ((n : ℕ) → 0 < n → steps_sum plain_cost n (placed_steps [] (program p k))
+    ≤ 2 * op_plain_ceiling p (slots_width n args)) → IsCheap p (placed_steps [] (program p k)) args
     → Computes p k t args free
-computed p k t args free fit same short plain cheap =
-    let steps = steps_on p k t args free in
-    let few : (n : ℕ) → plain_costs (all_rounds n steps) ≤ op_plain_ceiling p (slots_width n args) =
-    λ n. let e = sum_is plain_cost n steps in let h = plain n in omega (arith, e, h) in
+computed p k t args free fit same short states plain cheap =
+    let steps = placed_steps [] (program p k) in
+    let few : (n : ℕ) → 0 < n → plain_costs (all_rounds n steps)
+    ≤ op_plain_ceiling p (slots_width n args) =
+    λ n some. let e = sum_is plain_cost n steps in let h = plain n some in omega (arith, e, h) in
     record {
       fit = fit;
       same = same;
       short = short;
-      cheap = λ n. kept n few cheap;
+      states = states;
+      cheap = λ n some. kept n some (few n some) cheap;
       plain = few;
     }
   where
-    kept : (n : ℕ) → ((n : ℕ) → plain_costs (all_rounds n (steps_on p k t args free))
-        ≤ op_plain_ceiling p (slots_width n args)) → IsCheap p (steps_on p k t args free) args
-        → rounds_cost (all_rounds n (steps_on p k t args free)) ≤ op_ceiling p (slots_width n args)
-    kept n few (inl h) =
-        let e = sum_is turn_cost n (steps_on p k t args free) in let c = h n in omega (arith, e, c)
-    kept n few (inr same) =
-        let r = rounds-plain (all_rounds n (steps_on p k t args free)) in
-        let f = few n in let s = same (slots_width n args) in omega (arith, r, f, s)
+    kept : (n : ℕ) → 0 < n → plain_costs (all_rounds n (placed_steps [] (program p k)))
+        ≤ op_plain_ceiling p (slots_width n args) → IsCheap p (placed_steps [] (program p k)) args
+        → rounds_cost (all_rounds n (placed_steps [] (program p k)))
+        ≤ op_ceiling p (slots_width n args)
+    kept n some f (inl h) =
+        let e = sum_is turn_cost n (placed_steps [] (program p k)) in let c = h n some in
+        omega (arith, e, c)
+    kept n some f (inr same) =
+        let r = rounds-plain (all_rounds n (placed_steps [] (program p k))) in
+        let s = same (slots_width n args) in omega (arith, r, f, s)
 
 computes : (c : Kind) (p : WordOp) (t : Slot) (f : ℕ → Slot) (free : ℕ) → ComputesIn p c t f free
-computes Word op.Not t f free = computed _ _ _ _ _ refl refl refl (λ n. omega arith)
-    (inl (λ n. omega arith))
-computes Word op.And t f free = computed _ _ _ _ _ refl refl refl (λ n. omega arith)
-    (inl (λ n. omega arith))
-computes Word op.Or t f free = computed _ _ _ _ _ refl refl refl (λ n. omega arith)
-    (inl (λ n. omega arith))
-computes Word op.Xor t f free = computed _ _ _ _ _ refl refl refl (λ n. omega arith)
-    (inl (λ n. omega arith))
-computes Word op.Add t f free = computed _ _ _ _ _ refl refl refl (λ n. omega arith)
-    (inl (λ n. omega arith))
-computes Bit op.Not t f free = computed _ _ _ _ _ refl refl refl (λ n. omega arith)
-    (inl (λ n. omega arith))
-computes Bit op.And t f free = computed _ _ _ _ _ refl refl refl (λ n. omega arith)
-    (inl (λ n. omega arith))
-computes Bit op.Or t f free = computed _ _ _ _ _ refl refl refl (λ n. omega arith)
-    (inl (λ n. omega arith))
-computes Bit op.Xor t f free = computed _ _ _ _ _ refl refl refl (λ n. omega arith)
-    (inl (λ n. omega arith))
-computes Bit op.Add t f free = computed _ _ _ _ _ refl refl refl (λ n. omega arith)
-    (inl (λ n. omega arith))
-computes Word p t f free = computed _ _ _ _ _ refl refl refl (λ n. omega arith) (inr (λ m. refl))
-computes Bit p t f free = computed _ _ _ _ _ refl refl refl (λ n. omega arith) (inr (λ m. refl))
+computes Word op.Not t f free = computed _ _ _ _ _ refl refl refl refl (λ n some. omega (arith, some))
+    (inl (λ n some. omega (arith, some)))
+computes Word op.And t f free = computed _ _ _ _ _ refl refl refl refl (λ n some. omega (arith, some))
+    (inl (λ n some. omega (arith, some)))
+computes Word op.Or t f free = computed _ _ _ _ _ refl refl refl refl (λ n some. omega (arith, some))
+    (inl (λ n some. omega (arith, some)))
+computes Word op.Xor t f free = computed _ _ _ _ _ refl refl refl refl (λ n some. omega (arith, some))
+    (inl (λ n some. omega (arith, some)))
+computes Word op.Add t f free = computed _ _ _ _ _ refl refl refl refl (λ n some. omega (arith, some))
+    (inl (λ n some. omega (arith, some)))
+computes Bit op.Not t f free = computed _ _ _ _ _ refl refl refl refl (λ n some. omega (arith, some))
+    (inl (λ n some. omega (arith, some)))
+computes Bit op.And t f free = computed _ _ _ _ _ refl refl refl refl (λ n some. omega (arith, some))
+    (inl (λ n some. omega (arith, some)))
+computes Bit op.Or t f free = computed _ _ _ _ _ refl refl refl refl (λ n some. omega (arith, some))
+    (inl (λ n some. omega (arith, some)))
+computes Bit op.Xor t f free = computed _ _ _ _ _ refl refl refl refl (λ n some. omega (arith, some))
+    (inl (λ n some. omega (arith, some)))
+computes Bit op.Add t f free = computed _ _ _ _ _ refl refl refl refl (λ n some. omega (arith, some))
+    (inl (λ n some. omega (arith, some)))
+computes Word p t f free = computed _ _ _ _ _ refl refl refl refl (λ n some. omega (arith, some)) (inr (λ m. refl))
+computes Bit p t f free = computed _ _ _ _ _ refl refl refl refl (λ n some. omega (arith, some)) (inr (λ m. refl))
 
 -- in each form the program does the operation
 module _ (p : WordOp) (c : Kind) (t : Slot) (f : ℕ → Slot) (free : ℕ) (linear : is_linear p ≡ true)
@@ -262,14 +271,22 @@ module _ (p : WordOp) (c : Kind) (t : Slot) (f : ℕ → Slot) (free : ℕ) (lin
           (sym (numbers_are n before args ∙ numbers_taken sh c f n before))
           ∙ ap (λ l. op_value p l (map (λ s. value (slot_bits n before s)) args))
           (sym (width_is sh c f n)));
-      keeps = λ before q out free_out. (gives n some are before).keeps q
-          (elsewhere n (bits_inside p) m q out free_out);
+      keeps = λ before q row out free_out. (gives n some are before).keeps q
+          (elsewhere n (bits_inside p) m q row out free_out);
     }
 
     lowers_in : Lowers p k target args free
     lowers_in =
         let is = computes c p t f free in
-        record { fit = is.fit; same = is.same; short = is.short; does = does; cheap = is.cheap; plain = is.plain }
+        record {
+          fit = is.fit;
+          same = is.same;
+          short = is.short;
+          states = is.states;
+          does = does;
+          cheap = is.cheap;
+          plain = is.plain;
+        }
 
 -- where the arguments fill a form of a linear operation, its program does it
 pub op_lowers : (p : WordOp) (k : Kind) (t : Slot) (args : List Slot) (free : ℕ)

@@ -1,7 +1,7 @@
 -- Each operation's loop program gives its value.
 use Rattle.std.proofs.Common.{◌≡◌, ℕ, suc, ◌+◌, ◌-◌, ◌^◌, ◌%◌, ◌/◌, ◌<◌, Bool, true, false}
 use Rattle.std.proofs.Common.{not, cond, List, [], ◌∷◌, refl, sym, ap, ◌∙◌, subst, arith}
-use Rattle.std.specs.Prelude.{nat_lt}
+use Rattle.std.specs.Prelude.{nat_lt, ◌==◌}
 use Rattle.bit_rows.specs.Bits.{majority}
 use Rattle.mig_graph.specs.Graph.{values_from}
 use Rattle.op_text.specs.declared.tree.Kind.{Kind}
@@ -14,31 +14,35 @@ use Rattle.op_text.specs.WordOps.{number as place_of, row_of}
 use Rattle.op_text.specs.Meaning.{width}
 use Rattle.loop_ir.specs.declared.ir.Sub.TheVariants as sub
 use Rattle.loop_ir.specs.Loops.{all_rounds}
-use Rattle.loop_ir.specs.Spots.{Spots, set_spot, after_rounds}
+use Rattle.loop_ir.specs.Plain.StepOf.{Single}
+use Rattle.loop_ir.specs.Spots.{Spot, Spots, set_spot, after_rounds}
 use Rattle.loop_laws.specs.Turns.{Origin, Standing, Carried, turn, after_many}
 use Rattle.loop_laws.specs.Rooms.{placed_body}
-use Rattle.loop_laws.proofs.Same.{set_same}
+use Rattle.loop_laws.proofs.Same.{set_same, set_other}
 use Rattle.loop_laws.proofs.Steps.{steps_each, steps_pairs}
-use Rattle.word_lower.specs.Places.{scratch_bit}
+use Rattle.word_lower.specs.Places.{scratch_bit, cells}
 use Rattle.word_lower.specs.Programs.{plain, complemented, off, up}
-use Rattle.word_lower.proofs.Marks.{target, first, second, third}
+use Rattle.word_lower.proofs.Marks.{target, first, second, third, state}
 use Rattle.word_lower.specs.Programs.{constant, moved, inverted, joined, without, unlike, chosen}
-use Rattle.word_lower.specs.Programs.{added, lessened, negated_if, compared, agreed}
+use Rattle.word_lower.specs.Programs.{added, lessened, negated_if, compared, gathered, odd}
+use Rattle.word_lower.specs.Programs.{ordered}
 use Rattle.word_lower.specs.Programs.{is_linear, program_at}
 use Rattle.word_lower.proofs.Setting.{bit, number, operation, Slots, rooms_for, steps_for, row}
 use Rattle.word_lower.proofs.Setting.{number_at, AreSlots, Gives, DoesWords, DoesBits}
-use Rattle.word_lower.proofs.Sums.{value_same, value_false, value_pick, compare, same_gives}
+use Rattle.word_lower.proofs.Sums.{value_same, value_false, value_pick, compare}
 use Rattle.word_lower.proofs.Sums.{add_gives, sub_gives, shl1_gives, shr1_gives, abs_gives}
 use Rattle.word_lower.proofs.Bitwise.{value_and, value_or, value_xor, value_inverted, value_true}
 use Rattle.word_lower.proofs.Bitwise.{relu_gives, least, greatest, any_gives, all_gives}
 use Rattle.word_lower.proofs.Bitwise.{parity_gives, at_least}
-use Rattle.word_lower.proofs.Passes.{bit_free, carry_does, upwards}
+use Rattle.word_lower.proofs.Passes.{bit_free, bit_else, cell_else, carry_does, pair_loop, upwards}
+use Rattle.word_lower.proofs.Passes.{set_number}
 use Rattle.word_lower.proofs.Shifts.{shifts}
 use Rattle.word_lower.proofs.Words.{word_does, unlike_bit, chosen_bit, by_bit, a_read, top_read}
 use Rattle.word_lower.proofs.Words.{b_read, s_read, choice_does, bit_does}
 use Rattle.word_lower.proofs.Carries.{added_digit, lessened_digit, negated_bit, negated_state}
 use Rattle.word_lower.proofs.Carries.{a_by_carry, top_by_carry, b_by_carry}
-use Rattle.word_lower.proofs.States.{state_does, agreed_bit, a_by_state, b_by_state}
+use Rattle.word_lower.proofs.States.{one_bit, held_does, turned_bit, both_least, odd_bit}
+use Rattle.word_lower.proofs.States.{a_by_held, b_by_held}
 use Rattle.word_lower.proofs.Filled.{arg_kind, gives_kind}
 
 -- one or two reads that no turn changes, and then what the turn before wrote in this place
@@ -151,18 +155,20 @@ module _ (n : ℕ) (m : Slots) (are : AreSlots n n n 0 m) where
       (value_same _ _ n (λ i lt. chosen_bit (a i) (c i) s) ∙ value_pick s a c n
       ∙ by_bit s (number a n) (number c n)))
 
-min_does : (n : ℕ) (m : Slots) → AreSlots n n n 1 m → DoesWords op.Min Word n n 1 m
+min_does : (n : ℕ) → 0 < n → (m : Slots) → AreSlots n n n 1 m → DoesWords op.Min Word n n 1 m
 unfolding values_from
-min_does n m are before =
+min_does n some m are before =
     let f = bit_free n n n 0 m are in
-    choice_does op.Min n m are m.b m.a are.b are.a f.b f.a before
+    let h = are.cells 0 in
+    choice_does op.Min n some m are m.b m.a are.b are.a f.b f.a h.b h.a before
     (least (number_at n before m.a n) (number_at n before m.b n))
 
-max_does : (n : ℕ) (m : Slots) → AreSlots n n n 1 m → DoesWords op.Max Word n n 1 m
+max_does : (n : ℕ) → 0 < n → (m : Slots) → AreSlots n n n 1 m → DoesWords op.Max Word n n 1 m
 unfolding values_from
-max_does n m are before =
+max_does n some m are before =
     let f = bit_free n n n 0 m are in
-    choice_does op.Max n m are m.a m.b are.a are.b f.a f.b before
+    let h = are.cells 0 in
+    choice_does op.Max n some m are m.a m.b are.a are.b f.a f.b h.a h.b before
     (greatest (number_at n before m.a n) (number_at n before m.b n))
 
 -- with a carry
@@ -170,15 +176,30 @@ module _ (n : ℕ) (m : Slots) (are : AreSlots n n n 1 m) where
   add_does : DoesWords op.Add Word n n 1 m
   unfolding values_from
   add_does before =
+      let bit_of = scratch_bit m.free_bit in
+      let free = bit_free n n n 0 m are in
       let b = placed_body (rooms_for op.Add m)
       (added (first sub.Inner) (second sub.Inner) (third sub.Zero) (target sub.Inner)) in
       let p = row n (scratch_bit m.free_bit) 0 in
       let start = set_spot before p false in
       let c = λ (i : ℕ). turn n 0 b (after_two 1) start i 1 in
       subst (Gives op.Add n n n 1 m before) (sym (steps_each n b [] start))
-      (carry_does op.Add n m are sub.Inner (λ v. v) (upwards n 0) b.reads b.graph.inputs
-      b.graph.nodes (plain 6) (plain 4) (after_two 1) false before
-      (a_by_carry n m are, (b_by_carry n m are, ((omega arith, λ i j li lj. refl), tt)))
+      (carry_does op.Add n m are (scratch_bit m.free_bit) tt free (bit_else n n 0 m) sub.Inner
+      (λ v. v) (upwards n 0) b.reads b.graph.inputs b.graph.nodes (plain 6) (plain 4) (after_two 1)
+      false before (
+        a_by_carry n m are bit_of free,
+        (
+          b_by_carry n m are bit_of free,
+          (
+            (
+              omega arith,
+              λ i j li lj.
+                  refl,
+            ),
+            tt,
+          ),
+        ),
+      )
       (add_gives (λ i. start (row n m.a i)) (λ i. start (row n m.b i)) (λ i.
       turn n 0 b (after_two 1) start (suc i) 0) c n (set_same before p false p refl)
       (λ i lt. added_digit (start (row n m.a i)) (start (row n m.b i)) (c i))))
@@ -186,15 +207,28 @@ module _ (n : ℕ) (m : Slots) (are : AreSlots n n n 1 m) where
   sub_does : DoesWords op.Sub Word n n 1 m
   unfolding values_from
   sub_does before =
+      let free = are.cells 4 in
       let b = placed_body (rooms_for op.Sub m)
-      (lessened (first sub.Inner) (second sub.Inner) (third sub.Zero) (target sub.Inner)) in
-      let p = row n (scratch_bit m.free_bit) 0 in
+      (lessened (first sub.Inner) (second sub.Inner) (state 4) (target sub.Inner)) in
+      let p = row n (cells 4) 0 in
       let start = set_spot before p false in
       let c = λ (i : ℕ). turn n 0 b (after_two 1) start i 1 in
       subst (Gives op.Sub n n n 1 m before) (sym (steps_each n b [] start))
-      (carry_does op.Sub n m are sub.Inner (λ v. v) (upwards n 0) b.reads b.graph.inputs
-      b.graph.nodes (plain 6) (plain 4) (after_two 1) false before
-      (a_by_carry n m are, (b_by_carry n m are, ((omega arith, λ i j li lj. refl), tt)))
+      (carry_does op.Sub n m are (cells 4) tt free (cell_else n n 1 m 4) sub.Inner (λ v. v)
+      (upwards n 0) b.reads b.graph.inputs b.graph.nodes (plain 6) (plain 5) (after_two 1) false
+      before (
+        a_by_carry n m are (cells 4) free,
+        (
+          b_by_carry n m are (cells 4) free,
+          (
+            (
+              omega arith,
+              λ i j li lj. refl,
+            ),
+            tt,
+          ),
+        ),
+      )
       (sub_gives (λ i. start (row n m.a i)) (λ i. start (row n m.b i)) (λ i.
       turn n 0 b (after_two 1) start (suc i) 0) (λ i. not (c i)) n (ap not (set_same before p false
       p refl))
@@ -203,9 +237,10 @@ module _ (n : ℕ) (m : Slots) (are : AreSlots n n n 1 m) where
   abs_does : 0 < n → DoesWords op.Abs Word n n 1 m
   unfolding values_from
   abs_does some before =
+      let free = are.cells 4 in
       let b = placed_body (rooms_for op.Abs m)
-      (negated_if (first sub.Inner) (first sub.Top) (second sub.Zero) (target sub.Inner)) in
-      let p = row n (scratch_bit m.free_bit) 0 in
+      (negated_if (first sub.Inner) (first sub.Top) (state 4) (target sub.Inner)) in
+      let p = row n (cells 4) 0 in
       let start = set_spot before p false in
       let c = λ (i : ℕ). turn n 0 b (after_two 1) start i 1 in
       let y = λ (i : ℕ). turn n 0 b (after_two 1) start (suc i) 0 in
@@ -219,9 +254,21 @@ module _ (n : ℕ) (m : Slots) (are : AreSlots n n n 1 m) where
       (abs_gives a y c (n - 1) (set_same before p false p refl) (λ i lt. negated_bit (a i) (c i))
       (λ i lt. negated_state (a i) (a (n - 1)) (c i))) in
       subst (Gives op.Abs n n n 1 m before) (sym (steps_each n b [] start))
-      (carry_does op.Abs n m are sub.Inner (λ v. v) (upwards n 0) b.reads b.graph.inputs
-      b.graph.nodes (plain 7) (plain 6) (after_two 1) false before
-      (a_by_carry n m are, (top_by_carry n m are, ((omega arith, λ i j li lj. refl), tt)))
+      (carry_does op.Abs n m are (cells 4) tt free (cell_else n n 1 m 4) sub.Inner (λ v. v)
+      (upwards n 0) b.reads b.graph.inputs b.graph.nodes (plain 6) (plain 7) (after_two 1) false
+      before (
+        a_by_carry n m are (cells 4) free,
+        (
+          top_by_carry n m are (cells 4) free,
+          (
+            (
+              omega arith,
+              λ i j li lj. refl,
+            ),
+            tt,
+          ),
+        ),
+      )
       (gives n e refl))
 
 -- one position up or down: the one row that is left is off
@@ -258,57 +305,104 @@ module _ (n : ℕ) (m : Slots) (are : AreSlots n n n 1 m) (some : 0 < n) where
         keeps = s.keeps;
       }
 
--- a state in the target's row
-module _ (n : ℕ) (m : Slots) (are : AreSlots n 1 n 0 m) where
+-- a state in cells, written to the target's row
+module _ (n : ℕ) (m : Slots) (are : AreSlots n 1 n 0 m) (some : 0 < n) where
   eq_does : DoesWords op.Eq Bit n 1 0 m
   unfolding values_from
   eq_does before =
       let b = placed_body (rooms_for op.Eq m)
-      (agreed (first sub.Inner) (second sub.Inner) (target sub.Zero)) in
+      (ordered (first sub.Inner) (second sub.Inner) (state 2) (state 3)) in
+      let last = placed_body (rooms_for op.Eq m) (joined off (state 2) (state 3) (target sub.Zero))
+      in
+      let g = row n (cells 2) 0 in
+      let h = row n (cells 3) 0 in
       let p = row n m.target 0 in
-      let start = set_spot before p true in
-      let e = λ (i : ℕ). turn n 0 b (after_two 0) start i 0 in
+      let f2 = are.cells 2 in
+      let f3 = are.cells 3 in
+      let one = set_spot before g true in
+      let start = set_spot one h true in
+      let xs : List Origin = Standing ∷ (Standing ∷ (Carried 0 ∷ (Carried 1 ∷ []))) in
+      let mid = after_many n 0 b n start in
+      let l = pair_loop n 0 2 3 (λ e. absurd (omega (arith, e))) b.reads b.graph.inputs
+      b.graph.nodes (plain 5) (plain 6) xs start (
+        (
+          (λ i j li lj e. f2.a.by i 0 li (omega arith) e),
+          ((λ i j li lj e. f3.a.by i 0 li (omega arith) e), tt),
+        ),
+        (
+          (
+            (λ i j li lj e. f2.b.by i 0 li (omega arith) e),
+            ((λ i j li lj e. f3.b.by i 0 li (omega arith) e), tt),
+          ),
+          ((omega arith, λ i j li lj. refl), ((omega arith, λ i j li lj. refl), tt)),
+        ),
+      ) in
       let a = λ (i : ℕ). start (row n m.a i) in
       let c = λ (i : ℕ). start (row n m.b i) in
-      subst (Gives op.Eq n 1 n 0 m before) (sym (steps_each n b [] start))
-      (state_does op.Eq n m are b.reads b.graph.inputs b.graph.nodes (plain 6) (after_two 0) true
-      before
-      (a_by_state n m are, (b_by_state n m are, ((omega arith, λ i j li lj. refl), tt)))
-      (ap bit (same_gives a c e n (set_same before p true p refl)
-      (λ i lt. agreed_bit (a i) (c i) (e i)))))
+      let eg = λ (i : ℕ). turn n 0 b xs start i 0 in
+      let eh = λ (i : ℕ). turn n 0 b xs start i 1 in
+      let sg : start g ≡ true =
+      set_other one h true g (λ e. (let z : 2 ≡ 3 = ap (λ (q : Spot). q.which) e in absurd
+      (omega (arith, z)))) ∙ set_same before g true g refl in
+      let sh : start h ≡ true = set_same one h true h refl in
+      let va : number a n ≡ number_at n before m.a n = set_number n n one m.a (cells 3) true f3.a
+      ∙ set_number n n before m.a (cells 2) true f2.a in
+      let vb : number c n ≡ number_at n before m.b n = set_number n n one m.b (cells 3) true f3.b
+      ∙ set_number n n before m.b (cells 2) true f2.b in
+      let mg : mid g ≡ nat_lt (number c n) (number a n + 1) = l.first
+      ∙ compare a c eg n (λ i lt. refl) ∙ ap (λ x. nat_lt (number c n) (number a n + bit x)) sg in
+      let mh : mid h ≡ nat_lt (number a n) (number c n + 1) = l.second
+      ∙ compare c a eh n (λ i lt. turned_bit (a i) (c i) (eh i))
+      ∙ ap (λ x. nat_lt (number a n) (number c n + bit x)) sh in
+      let v = majority false (mid g) (mid h) in
+      subst (Gives op.Eq n 1 n 0 m before) (sym (steps_each n b (Single last ∷ []) start)) record {
+        gives =
+            one_bit (λ j. set_spot mid p v (row n m.target j))
+            ∙ ap bit (set_same mid p v p refl)
+            ∙ ap (λ x. bit (majority false x (mid h))) mg
+            ∙ ap (λ x. bit (majority false (nat_lt (number c n) (number a n + 1)) x)) mh
+            ∙ ap bit (both_least (number a n) (number c n))
+            ∙ ap (λ x. bit (x == number c n)) va
+            ∙ ap (λ x. bit (number_at n before m.a n == x)) vb;
+        keeps = λ q out.
+            set_other mid p v q (λ e. out.target 0 (omega arith) e)
+            ∙ l.rest q (cell_else n 1 0 m 2 q out) (cell_else n 1 0 m 3 q out)
+            ∙ set_other one h true q (cell_else n 1 0 m 3 q out)
+            ∙ set_other before g true q (cell_else n 1 0 m 2 q out);
+      }
 
   gt_does : DoesWords op.Gt Bit n 1 0 m
   unfolding values_from
   gt_does before =
       let b = placed_body (rooms_for op.Gt m)
-      (compared (first sub.Inner) (second sub.Inner) (target sub.Zero)) in
-      let p = row n m.target 0 in
+      (compared (first sub.Inner) (second sub.Inner) (state 0) (target sub.Zero)) in
+      let p = row n (cells 0) 0 in
       let start = set_spot before p false in
-      let e = λ (i : ℕ). turn n 0 b (after_two 0) start i 0 in
+      let e = λ (i : ℕ). turn n 0 b (after_two 1) start i 1 in
       let a = λ (i : ℕ). start (row n m.a i) in
       let c = λ (i : ℕ). start (row n m.b i) in
       let none : number a n + bit (e 0) ≡ number a n =
       (let z = ap bit (set_same before p false p refl) in omega (arith, z)) in
       subst (Gives op.Gt n 1 n 0 m before) (sym (steps_each n b [] start))
-      (state_does op.Gt n m are b.reads b.graph.inputs b.graph.nodes (plain 4) (after_two 0) false
-      before
-      (a_by_state n m are, (b_by_state n m are, ((omega arith, λ i j li lj. refl), tt)))
+      (held_does op.Gt n some m are 0 b.reads b.graph.inputs b.graph.nodes (plain 4) (after_two 1)
+      false before
+      (a_by_held n m are 0, (b_by_held n m are 0, ((omega arith, λ i j li lj. refl), tt)))
       (ap bit (compare a c e n (λ i lt. refl) ∙ ap (nat_lt (number c n)) none)))
 
   ge_does : DoesWords op.Ge Bit n 1 0 m
   unfolding values_from
   ge_does before =
       let b = placed_body (rooms_for op.Ge m)
-      (compared (first sub.Inner) (second sub.Inner) (target sub.Zero)) in
-      let p = row n m.target 0 in
+      (compared (first sub.Inner) (second sub.Inner) (state 0) (target sub.Zero)) in
+      let p = row n (cells 0) 0 in
       let start = set_spot before p true in
-      let e = λ (i : ℕ). turn n 0 b (after_two 0) start i 0 in
+      let e = λ (i : ℕ). turn n 0 b (after_two 1) start i 1 in
       let a = λ (i : ℕ). start (row n m.a i) in
       let c = λ (i : ℕ). start (row n m.b i) in
       subst (Gives op.Ge n 1 n 0 m before) (sym (steps_each n b [] start))
-      (state_does op.Ge n m are b.reads b.graph.inputs b.graph.nodes (plain 4) (after_two 0) true
-      before
-      (a_by_state n m are, (b_by_state n m are, ((omega arith, λ i j li lj. refl), tt)))
+      (held_does op.Ge n some m are 0 b.reads b.graph.inputs b.graph.nodes (plain 4) (after_two 1)
+      true before
+      (a_by_held n m are 0, (b_by_held n m are 0, ((omega arith, λ i j li lj. refl), tt)))
       (ap bit (compare a c e n (λ i lt. refl)
       ∙ ap (λ x. nat_lt (number c n) (number a n + bit x)) (set_same before p true p refl)
       ∙ at_least (number a n) (number c n))))
@@ -316,47 +410,44 @@ module _ (n : ℕ) (m : Slots) (are : AreSlots n 1 n 0 m) where
   and_red_does : DoesWords op.AndRed Bit n 1 0 m
   unfolding values_from
   and_red_does before =
-      let b = placed_body (rooms_for op.AndRed m)
-      (joined off (first sub.Inner) (target sub.Zero) (target sub.Zero)) in
-      let p = row n m.target 0 in
+      let b = placed_body (rooms_for op.AndRed m) (gathered off (first sub.Inner) (state 1) (target sub.Zero)) in
+      let p = row n (cells 1) 0 in
       let start = set_spot before p true in
-      let e = λ (i : ℕ). turn n 0 b (after_one 0) start i 0 in
+      let e = λ (i : ℕ). turn n 0 b (after_one 1) start i 1 in
       let a = λ (i : ℕ). start (row n m.a i) in
       subst (Gives op.AndRed n 1 n 0 m before) (sym (steps_each n b [] start))
-      (state_does op.AndRed n m are b.reads b.graph.inputs b.graph.nodes (plain 3) (after_one 0)
+      (held_does op.AndRed n some m are 1 b.reads b.graph.inputs b.graph.nodes (plain 3) (after_one 1)
       true before
-      (a_by_state n m are, ((omega arith, λ i j li lj. refl), tt))
+      (a_by_held n m are 1, ((omega arith, λ i j li lj. refl), tt))
       (ap bit (all_gives a e n (set_same before p true p refl) (λ i lt. refl))))
 
   or_red_does : DoesWords op.OrRed Bit n 1 0 m
   unfolding values_from
   or_red_does before =
-      let b = placed_body (rooms_for op.OrRed m)
-      (joined up (first sub.Inner) (target sub.Zero) (target sub.Zero)) in
-      let p = row n m.target 0 in
+      let b = placed_body (rooms_for op.OrRed m) (gathered up (first sub.Inner) (state 1) (target sub.Zero)) in
+      let p = row n (cells 1) 0 in
       let start = set_spot before p false in
-      let e = λ (i : ℕ). turn n 0 b (after_one 0) start i 0 in
+      let e = λ (i : ℕ). turn n 0 b (after_one 1) start i 1 in
       let a = λ (i : ℕ). start (row n m.a i) in
       subst (Gives op.OrRed n 1 n 0 m before) (sym (steps_each n b [] start))
-      (state_does op.OrRed n m are b.reads b.graph.inputs b.graph.nodes (plain 3) (after_one 0)
+      (held_does op.OrRed n some m are 1 b.reads b.graph.inputs b.graph.nodes (plain 3) (after_one 1)
       false before
-      (a_by_state n m are, ((omega arith, λ i j li lj. refl), tt))
+      (a_by_held n m are 1, ((omega arith, λ i j li lj. refl), tt))
       (ap bit (any_gives a e n (set_same before p false p refl) (λ i lt. refl))))
 
   xor_red_does : DoesWords op.XorRed Bit n 1 0 m
   unfolding values_from
   xor_red_does before =
-      let b = placed_body (rooms_for op.XorRed m)
-      (unlike (first sub.Inner) (target sub.Zero) (target sub.Zero)) in
-      let p = row n m.target 0 in
+      let b = placed_body (rooms_for op.XorRed m) (odd (first sub.Inner) (state 9) (target sub.Zero)) in
+      let p = row n (cells 9) 0 in
       let start = set_spot before p false in
-      let e = λ (i : ℕ). turn n 0 b (after_one 0) start i 0 in
+      let e = λ (i : ℕ). turn n 0 b (after_one 1) start i 1 in
       let a = λ (i : ℕ). start (row n m.a i) in
       subst (Gives op.XorRed n 1 n 0 m before) (sym (steps_each n b [] start))
-      (state_does op.XorRed n m are b.reads b.graph.inputs b.graph.nodes (plain 5) (after_one 0)
+      (held_does op.XorRed n some m are 9 b.reads b.graph.inputs b.graph.nodes (plain 5) (after_one 1)
       false before
-      (a_by_state n m are, ((omega arith, λ i j li lj. refl), tt))
-      (parity_gives a e n (set_same before p false p refl) (λ i lt. unlike_bit (a i) (e i))))
+      (a_by_held n m are 9, ((omega arith, λ i j li lj. refl), tt))
+      (parity_gives a e n (set_same before p false p refl) (λ i lt. odd_bit (a i) (e i))))
 
 -- on bits
 not_bit_does : (n : ℕ) (m : Slots) → DoesBits op.Not n m
@@ -467,12 +558,12 @@ op_gives op.Add c l n m some are = add_does n m are
 op_gives op.Sub c l n m some are = sub_does n m are
 op_gives op.Abs c l n m some are = abs_does n m are some
 op_gives op.Relu c l n m some are = relu_does n m are some
-op_gives op.Min c l n m some are = min_does n m are
-op_gives op.Max c l n m some are = max_does n m are
-op_gives op.Eq c l n m some are = eq_does n m are
-op_gives op.Gt c l n m some are = gt_does n m are
-op_gives op.Ge c l n m some are = ge_does n m are
-op_gives op.AndRed c l n m some are = and_red_does n m are
-op_gives op.OrRed c l n m some are = or_red_does n m are
-op_gives op.XorRed c l n m some are = xor_red_does n m are
+op_gives op.Min c l n m some are = min_does n some m are
+op_gives op.Max c l n m some are = max_does n some m are
+op_gives op.Eq c l n m some are = eq_does n m are some
+op_gives op.Gt c l n m some are = gt_does n m are some
+op_gives op.Ge c l n m some are = ge_does n m are some
+op_gives op.AndRed c l n m some are = and_red_does n m are some
+op_gives op.OrRed c l n m some are = or_red_does n m are some
+op_gives op.XorRed c l n m some are = xor_red_does n m are some
 op_gives p c l n m some are = cc

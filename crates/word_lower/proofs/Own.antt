@@ -13,7 +13,7 @@ use Rattle.mig_graph.specs.declared.Node.{Node}
 use Rattle.mig_graph.specs.Literals.{SameThree, inversions}
 use Rattle.mig_graph.specs.Graph.{Graph, IsGraph, IsSorted, AreSorted, IsFresh, node_at, no_node}
 use Rattle.mig_graph.proofs.InOrder.{sorted-same, sorted-three}
-use Rattle.loop_ir.specs.Costs.{same_lit, same_node}
+use Rattle.loop_ir.specs.Same.{same_lit, same_node}
 use Rattle.word_lower.specs.Shapes.{is_own, are_own}
 
 less : (a b : ℕ) → nat_lt a b ≡ true → a < b

@@ -10,10 +10,10 @@ use Rattle.loop_ir.specs.declared.ir.Space.{Space}
 use Rattle.loop_ir.specs.declared.ir.Space.TheVariants.{Result, Source, ScratchBit, ScratchWord}
 use Rattle.loop_ir.specs.declared.ir.Space.TheVariants.{Cells}
 use Rattle.loop_ir.specs.declared.names.Slot.{Slot}
-use Rattle.loop_ir.specs.Spots.{Spot, spot_in, IsOwn}
+use Rattle.loop_ir.specs.Spots.{Spot, spot_in, IsOwn, is_state}
 use Rattle.loop_ir.specs.Statements.{holds_kind}
 use Rattle.loop_laws.specs.Rooms.{Room, room_at, row_in, extent, RoomsApart}
-use Rattle.word_lower.specs.Places.{rows_of, room_of, rooms_of, scratch_bit, scratch_from}
+use Rattle.word_lower.specs.Places.{rows_of, room_of, rooms_of, scratch_bit, cells, scratch_from}
 use Rattle.word_lower.proofs.Setting.{Slots, SlotsApart, IsFree, AreSlots}
 
 -- the place of a value of this kind
@@ -39,6 +39,7 @@ pub record Pieces (n : ℕ) (t : Slot) (args scratch : List Slot) : Type 0 where
   pub own : IsOwn t.space
   pub holds : holds_kind t.space t.kind ≡ true
   pub given : (i : ℕ) → i < length args → AreApart n (slot_at args i) t
+  pub rows : (i : ℕ) → i < length args → is_state (slot_at args i).space ≡ false
   pub owned : (j : ℕ) → j < length scratch → IsOwn (slot_at scratch j).space
   pub free : (j : ℕ) → j < length scratch → AreApart n (slot_at scratch j) t
   pub others : (i j : ℕ) → i < length args → j < length scratch
@@ -180,6 +181,36 @@ source_apart n ScratchWord w u v own e = let f : Source ≡ ScratchWord =
     ap (λ (q : Spot). q.space) e in cc
 source_apart n Cells w u v own e = let f : Source ≡ Cells = ap (λ (q : Spot). q.space) e in cc
 
+-- a place of a name is of rows
+pub kind_row : (s : Space) (k : Kind) → holds_kind s k ≡ true → is_state s ≡ false
+kind_row Result k h = refl
+kind_row Source k h = refl
+kind_row ScratchBit k h = refl
+kind_row ScratchWord k h = refl
+kind_row Cells k h = cc
+
+spot_lies : (n : ℕ) (s : Space) (w v : ℕ) → (spot_in n s w v).space ≡ s
+spot_lies n Result w v = refl
+spot_lies n Source w v = refl
+spot_lies n ScratchBit w v = refl
+spot_lies n ScratchWord w v = refl
+spot_lies n Cells w v = refl
+
+-- no row is a state's cells
+row_no_state : (n : ℕ) (s : Slot) (v w : ℕ) → is_state s.space ≡ false
+    → spot_in n s.space s.which v ≡ spot_in n Cells w 0 → ⊥
+row_no_state n s v w row e =
+    let f : s.space ≡ Cells = sym (spot_lies n s.space s.which v) ∙ ap (λ (q : Spot). q.space) e in
+    let g : is_state s.space ≡ true = ap is_state f in cc
+
+rows_cells : (n : ℕ) (s : Slot) (k w : ℕ) → is_state s.space ≡ false
+    → SlotsApart n s k (cells w) 1
+rows_cells n s k w row = record { by = λ u v lu lv e. row_no_state n s u w row e }
+
+cells_rows : (n : ℕ) (s : Slot) (k w : ℕ) → is_state s.space ≡ false
+    → SlotsApart n (cells w) 1 s k
+cells_rows n s k w row = record { by = λ u v lu lv e. row_no_state n s v w row (sym e) }
+
 pub some_rows : (n : ℕ) (k : Kind) → 0 < n → 0 < width n k
 some_rows n Word h = h
 some_rows n Bit h = omega arith
@@ -214,6 +245,12 @@ module _ (n : ℕ) (t : Slot) (args scratch : List Slot) (are : Pieces n t args 
   arg_apart i = elim (there_or_not args i) [
     | inl lt ↦ are.given i lt
     | inr e ↦ subst (λ s. AreApart n s t) (sym e) (no_apart n t are.own)
+  ]
+
+  arg_row : (i : ℕ) → is_state (slot_at args i).space ≡ false
+  arg_row i = elim (there_or_not args i) [
+    | inl lt ↦ are.rows i lt
+    | inr e ↦ ap (λ (s : Slot). is_state s.space) e
   ]
 
   arg_free : (i j : ℕ) → j < length scratch → AreApart n (slot_at args i) (slot_at scratch j)
@@ -255,4 +292,11 @@ module _ (n l : ℕ) (t : Slot) (args : List Slot) (free : ℕ) (some : 0 < n)
         s = first_rows n (slot_at args 2) t 1 (width n t.kind) (omega (arith, one)) (omega arith)
             (apart 2);
         bit = bit_is_free bits are;
+        cells = λ w.
+            (let row = arg_row n t args (scratch_from free bits) are in record {
+              target = cells_rows n t (width n t.kind) w (kind_row t.space t.kind are.holds);
+              a = rows_cells n (slot_at args 0) l w (row 0);
+              b = rows_cells n (slot_at args 1) l w (row 1);
+              s = rows_cells n (slot_at args 2) 1 w (row 2);
+            });
       }

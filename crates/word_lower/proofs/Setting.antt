@@ -1,5 +1,5 @@
 -- When a loop program does a word operation: the places of its names, and what it leaves.
-use Rattle.std.specs.Prelude.{◌≡◌, ℕ, zero, suc, ◌+◌, ◌*◌, ◌^◌, ◌<◌, Bool, List, [], ◌∷◌}
+use Rattle.std.specs.Prelude.{◌≡◌, ℕ, zero, suc, ◌+◌, ◌*◌, ◌^◌, ◌<◌, Bool, false, List, [], ◌∷◌}
 use Rattle.op_text.specs.declared.tree.Kind.{Kind}
 use Rattle.op_text.specs.declared.tree.Kind.TheVariants.{Bit}
 use Rattle.op_text.specs.declared.word_ops.WordOp.{WordOp}
@@ -13,9 +13,9 @@ use Rattle.loop_ir.specs.declared.ir.Place.{Place}
 use Rattle.loop_ir.specs.declared.names.Slot.{Slot}
 use Rattle.loop_ir.specs.Plain.{StepOf, Block}
 use Rattle.loop_ir.specs.Loops.{all_rounds}
-use Rattle.loop_ir.specs.Spots.{Spot, Spots, spot_in, after_rounds, IsOwn}
+use Rattle.loop_ir.specs.Spots.{Spot, Spots, spot_in, after_rounds, IsOwn, is_state}
 use Rattle.loop_laws.specs.Rooms.{Room, placed_steps}
-use Rattle.word_lower.specs.Places.{scratch_bit, scratch_from, rooms_of}
+use Rattle.word_lower.specs.Places.{scratch_bit, cells, scratch_from, rooms_of}
 use Rattle.word_lower.specs.Programs.{program}
 
 -- a bit as a number
@@ -84,8 +84,8 @@ pub record IsFree (n k l : ℕ) (m : Slots) (t : Slot) (j : ℕ) : Type 0 where
   pub b : SlotsApart n m.b l t j
   pub s : SlotsApart n m.s 1 t j
 
--- a target of k rows, arguments of l rows, and so many bits of internal scratch lie apart;
--- arguments may be the same
+-- a target of k rows, arguments of l rows, and so many bits of internal scratch lie apart, and no
+-- row of theirs stands in cells; arguments may be the same
 pub record AreSlots (n k l bits : ℕ) (m : Slots) : Type 0 where
   pub own : IsOwn m.target.space
   pub moves : Moves n m.target k
@@ -93,9 +93,11 @@ pub record AreSlots (n k l bits : ℕ) (m : Slots) : Type 0 where
   pub b : SlotsApart n m.b l m.target k
   pub s : SlotsApart n m.s 1 m.target k
   pub bit : 0 < bits → IsFree n k l m (scratch_bit m.free_bit) 1
+  pub cells : (layout : ℕ) → IsFree n k l m (cells layout) 1
 
--- the row is none of the target or of the internal scratch
+-- it is a row, and none of the target or of the internal scratch
 pub record IsElsewhere (n k bits : ℕ) (m : Slots) (q : Spot) : Type 0 where
+  pub no_state : is_state q.space ≡ false
   pub target : (v : ℕ) → v < k → q ≡ row n m.target v → ⊥
   pub bit : 0 < bits → q ≡ row n (scratch_bit m.free_bit) 0 → ⊥
 

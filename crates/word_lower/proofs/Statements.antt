@@ -32,13 +32,15 @@ use Rattle.loop_ir.specs.Lowered.{Does, IsLowered}
 use Rattle.loop_ir.specs.Lowered as l
 use Rattle.loop_laws.specs.Rooms.{Room, room_at, IsOwned, extent}
 use Rattle.loop_laws.specs.Forms.{IsMade, HasForm}
-use Rattle.loop_laws.proofs.EveryRound.{marks_are_enough}
+use Rattle.loop_laws.proofs.Alike.{HaveRows, InRooms, rounds_cost_like, plain_costs_like}
+use Rattle.loop_laws.proofs.EveryRound.{marks_are_enough, rooms_row}
 use Rattle.loop_laws.proofs.Compile.{made_compile}
 use Rattle.word_lower.specs.Places.{rooms_of, scratch_bit, scratch_from, AreAt}
+use Rattle.word_lower.specs.Forms.{IsWritten}
 use Rattle.word_lower.specs.Programs.{program, is_linear}
 use Rattle.word_lower.specs.Shapes.{owners_of, program_on}
 use Rattle.word_lower.proofs.Pieces.{no_slot, slot_at, AreApart, Pieces, RoomView, is_target}
-use Rattle.word_lower.proofs.Pieces.{is_arg, is_scratch, room_view, rooms_apart, extent_is}
+use Rattle.word_lower.proofs.Pieces.{is_arg, is_scratch, room_view, rooms_apart, extent_is, kind_row}
 use Rattle.word_lower.proofs.Lowering.{slots_width, steps_on, DoesOp, Lowers, op_lowers}
 
 -- rows that are one belong to one place
@@ -149,11 +151,7 @@ same_slot x y e = ap slot_in e
 
 spot_row : (n : ℕ) (s : Space) (w v : ℕ) (k : Kind) → holds_kind s k ≡ true
     → is_state (spot_in n s w v).space ≡ false
-spot_row n Result w v k h = refl
-spot_row n Source w v k h = refl
-spot_row n ScratchBit w v k h = refl
-spot_row n ScratchWord w v k h = refl
-spot_row n Cells w v k h = cc
+spot_row n s w v k h = ap is_state (space_is n s w v) ∙ kind_row s k h
 
 -- nothing of a statement stands in cells
 pub statement_rows : (slots : Slots) (free_bit free_word : ℕ) (s : Statement)
@@ -259,6 +257,10 @@ module _ (slots : Slots) (free_bit free_word : ℕ) (target : List ℕ)
         own = placed.own target t written found;
         holds = holds target t among_target found;
         given = λ i lt. arg_apart n i lt;
+        rows = λ i lt.
+            (let h = at_place slots args ss i at lt in
+            kind_row (slot_at ss i).space (slot_at ss i).kind
+            (holds (name_at args i) (slot_at ss i) (among_arg i h.0) h.1));
         owned = λ j lt. subst (λ (s : Slot). IsOwn s.space) (sym (is j lt)) tt;
         free = λ j lt. subst (λ (s : Slot). AreApart n s t) (sym (is j lt))
             (complemented n t (scratch_bit (free_bit + j))
@@ -332,7 +334,14 @@ module _ (slots : Slots) (free_bit free_word : ℕ) (target : List ℕ)
       (λ n some most. rooms_apart n t ss (scratch_from free_bit (bits_inside p)) (pieces n))
       (λ n some most. row_of n)
       (statement_rows slots free_bit free_word (Compute target second p args) placed) lowers.fit
-      lowers.short
+      lowers.short lowers.states
+
+  -- none of the rooms stands in cells
+  pub have_rows : HaveRows (rooms_of t ss (scratch_from free_bit (bits_inside p)))
+  have_rows =
+      rooms_row (IsStatementRow slots free_bit free_word (Compute target second p args))
+      (rooms_of t ss (scratch_from free_bit (bits_inside p))) (row_of 1)
+      (statement_rows slots free_bit free_word (Compute target second p args) placed 1)
 
   pub arg_kinds : map (λ (s : Slot). s.kind) ss ≡ meets.kinds
   arg_kinds = kinds_at slots args ss meets.kinds at meets.have
@@ -472,8 +481,8 @@ module _ (slots : Slots) (free_bit free_word : ℕ) (target : List ℕ) (p : Wor
         x) same
         (subst (λ (x : Option Slot). HoldsAt n x
         (after_statement n held (Compute target None p args) target) new) (sym found) one));
-    keeps = λ rows q out.
-        (does_op n some).keeps rows q (λ v lv e.
+    keeps = λ rows q row out.
+        (does_op n some).keeps rows q row (λ v lv e.
         out (inl (
           target,
           t,
@@ -498,15 +507,20 @@ module _ (slots : Slots) (free_bit free_word : ℕ) (target : List ℕ) (p : Wor
       steps made
       (form slots free_bit free_word target None p args meets placed t found ss at t.kind linear
       lowers) in
+      let rooms = rooms_of t ss (scratch_from free_bit (bits_inside p)) in
+      let have = have_rows slots free_bit free_word target None p args meets placed t found ss at in
       record {
         well = c.0;
         can = c.1;
         does = λ n some most. does n some;
-        cheap = λ n some most. (let b = lowers.cheap n in
-            let w = ap (op_ceiling p) (named_width n slots args ss at) in omega (arith, b, w));
-        plain = λ n some most. (let b = lowers.plain n in
+        cheap = λ n some most. (let b = lowers.cheap n some in
+            let w = ap (op_ceiling p) (named_width n slots args ss at) in
+            let like = rounds_cost_like rooms have n (program p t.kind) in
+            omega (arith, b, w, like));
+        plain = λ n some most. (let b = lowers.plain n some in
             let w = ap (l.op_plain_ceiling p) (named_width n slots args ss at) in
-            omega (arith, b, w));
+            let like = plain_costs_like rooms have n (program p t.kind) in
+            omega (arith, b, w, like));
       }
 
 -- an operation that takes one pass has no second target
@@ -550,3 +564,24 @@ places_of slots [] (k ∷ ks) have = absurd have
 places_of slots (n ∷ ns) [] have = absurd have
 places_of slots (n ∷ ns) (k ∷ ks) have = let more = places_of slots ns ks have.1 in
     record { list = have.0.slot ∷ more.list; at = (have.0.found, more.at) }
+
+-- a written program lies in rooms of rows
+pub written_in_rooms : (slots : Slots) (free_bit free_word : ℕ) (target : List ℕ)
+    (second : Option (List ℕ)) (p : WordOp) (args : List (List ℕ)) (linear : is_linear p ≡ true)
+    (meets : ComputeMeets slots target second p args)
+    (placed : IsPlaced slots free_bit free_word (Compute target second p args))
+    (built : List (StepOf Block)) → IsWritten slots free_bit (Compute target second p args) built
+    → InRooms (program p meets.gives.slot.kind) built
+written_in_rooms slots free_bit free_word target second p args linear meets placed built written =
+    let t = meets.gives.slot in
+    let found = meets.gives.found in
+    let ss = places_of slots args meets.kinds meets.have in
+    let filled_form = form_filled slots free_bit free_word target second p args meets placed t found
+    ss.list ss.at in
+    record {
+      rooms = rooms_of t ss.list (scratch_from free_bit (bits_inside p));
+      rows = have_rows slots free_bit free_word target second p args meets placed t found ss.list
+          ss.at;
+      same = written t ss.list found ss.at
+          ∙ (op_lowers p t.kind t ss.list free_bit linear filled_form refl).same;
+    }

@@ -177,24 +177,24 @@ xor2 false b = b
 -- inverted, and the state is whether there was one
 pub abs_gives : (a y d : ℕ → Bool) (m : ℕ) → d 0 ≡ false
     → ((i : ℕ) → i < suc m → y i ≡ xor2 (d i) (a i))
-    → ((i : ℕ) → i < suc m → d (suc i) ≡ d i || (a m && a i))
+    → ((i : ℕ) → i < suc m → d (suc i) ≡ (a m && (d i || a i)))
     → number y (suc m) ≡ cond (nat_lt (number a (suc m)) (2 ^ m)) (number a (suc m))
     ((2 ^ suc m - number a (suc m)) % 2 ^ suc m)
 abs_gives a y d m start hy hd = rw (top_half a m) (by (a m) hd)
   where
-    digit : (x d w e : Bool) → w ≡ xor2 d x → e ≡ d || (true && x)
+    digit : (x d w e : Bool) → w ≡ xor2 d x → e ≡ (true && (d || x))
         → bit w + 2 * bit (not e) ≡ bit (not x) + bit (not d)
     digit true true w e p q = rw (p, q) refl
     digit true false w e p q = rw (p, q) refl
     digit false true w e p q = rw (p, q) refl
     digit false false w e p q = rw (p, q) refl
 
-    never : ((i : ℕ) → i < suc m → d (suc i) ≡ d i || (false && a i)) → (i : ℕ) → i ≤ suc m
+    never : ((i : ℕ) → i < suc m → d (suc i) ≡ (false && (d i || a i))) → (i : ℕ) → i ≤ suc m
         → d i ≡ false
     never k zero l = start
-    never k (suc i) l = k i (omega (arith, l)) ∙ rw (never k i (omega (arith, l))) refl
+    never k (suc i) l = k i (omega (arith, l))
 
-    by : (t : Bool) → ((i : ℕ) → i < suc m → d (suc i) ≡ d i || (t && a i))
+    by : (t : Bool) → ((i : ℕ) → i < suc m → d (suc i) ≡ (t && (d i || a i)))
         → number y (suc m) ≡ cond (not t) (number a (suc m))
         ((2 ^ suc m - number a (suc m)) % 2 ^ suc m)
     by true k =

@@ -1,5 +1,5 @@
 -- Operations that write each bit of a word without a carry, and the lesser and the greater.
-use Rattle.std.proofs.Common.{◌≡◌, ℕ, suc, ◌+◌, ◌-◌, ◌*◌, ◌^◌, Bool, true, false, not, cond}
+use Rattle.std.proofs.Common.{◌≡◌, ℕ, suc, ◌+◌, ◌-◌, ◌*◌, ◌^◌, ◌<◌, Bool, true, false, not, cond}
 use Rattle.std.proofs.Common.{List, [], ◌∷◌, refl, sym, ap, ◌∙◌, subst, arith}
 use Rattle.std.specs.Prelude.{nat_lt, ◌==◌}
 use Rattle.bit_rows.specs.Bits.{majority}
@@ -17,15 +17,17 @@ use Rattle.loop_laws.specs.Turns.{Origin, Standing, Carried, turn, after_many}
 use Rattle.loop_laws.proofs.Same.{set_same, set_other}
 use Rattle.loop_laws.proofs.Steps.{after_steps, steps_each}
 use Rattle.loop_laws.proofs.Placed.{AllBefore, ReadPlaces}
-use Rattle.word_lower.specs.Places.{scratch_bit}
+use Rattle.loop_ir.specs.declared.ir.Space.{Space}
+use Rattle.loop_ir.specs.declared.ir.Space.TheVariants.{ScratchBit, Cells}
+use Rattle.word_lower.specs.Places.{scratch_bit, cells}
 use Rattle.word_lower.specs.Programs.{plain}
-use Rattle.word_lower.proofs.Marks.{target, first, second, third}
+use Rattle.word_lower.proofs.Marks.{target, first, second, third, state}
 use Rattle.word_lower.specs.Programs.{chosen}
 use Rattle.word_lower.specs.Programs.{compared}
 use Rattle.word_lower.proofs.Setting.{bit, number, operation, Slots, at, row, number_at}
 use Rattle.word_lower.proofs.Setting.{SlotsApart, IsFree, AreSlots, Gives}
-use Rattle.word_lower.proofs.Passes.{bit_free, bit_else, state_body, state_loop, word_body}
-use Rattle.word_lower.proofs.Passes.{word_loop, upwards, set_number}
+use Rattle.word_lower.proofs.Passes.{bit_free, bit_else, cell_else, held_body, held_loop}
+use Rattle.word_lower.proofs.Passes.{word_body, word_loop, upwards, set_number}
 use Rattle.word_lower.proofs.Sums.{value_same, value_pick, compare, xor2, pick}
 
 module _ (o : WordOp) (n : ℕ) (m : Slots) (are : AreSlots n n n 0 m) (reads : List Place)
@@ -78,23 +80,34 @@ module _ (n : ℕ) (m : Slots) (are : AreSlots n n n 0 m) where
   pub s_read : AllBefore n 0 n (at m.s sub.Zero) (at m.target sub.Inner ∷ [])
   s_read = ((λ i j li lj e. are.s.by 0 j (omega arith) (omega arith) e), tt)
 
--- the comparison of the arguments in a bit, and the choice by it
+-- the comparison of the arguments, with its state in a bit too, and the choice by it
 abbrev pub compare_block : Slots → Slot → Block
-compare_block m t = state_body t (at m.a sub.Inner ∷ at m.b sub.Inner ∷ at t sub.Zero
-    ∷ []) 3 (compared (first sub.Zero) (second sub.Zero) (third sub.Zero)).graph.nodes (plain 4)
+compare_block m t = held_body t 0 (at m.a sub.Inner ∷ at m.b sub.Inner ∷ at (cells 0) sub.Zero
+    ∷ []) 3 (compared (first sub.Zero) (second sub.Zero) (state 0)
+    (third sub.Zero)).graph.nodes (plain 4)
 
 abbrev pub choice_block : Slots → Slot → Slot → Slot → Block
 choice_block m x y t = word_body m.target sub.Inner (at x sub.Inner ∷ at y sub.Inner ∷ at t sub.Zero
     ∷ []) 3 (chosen (first sub.Zero) (second sub.Zero) (third sub.Zero)
     (target sub.Zero)).graph.nodes (plain 6)
 
--- first the comparison in a scratch bit, and then the choice by it
-module _ (o : WordOp) (n : ℕ) (m : Slots) (are : AreSlots n n n 1 m) (x y : Slot)
+-- first the comparison, to a scratch bit, and then the choice by it
+module _ (o : WordOp) (n : ℕ) (some : 0 < n) (m : Slots) (are : AreSlots n n n 1 m) (x y : Slot)
     (x_target : SlotsApart n x n m.target n) (y_target : SlotsApart n y n m.target n)
     (x_bit : SlotsApart n x n (scratch_bit m.free_bit) 1)
-    (y_bit : SlotsApart n y n (scratch_bit m.free_bit) 1) (before : Spots) where
+    (y_bit : SlotsApart n y n (scratch_bit m.free_bit) 1)
+    (x_cells : SlotsApart n x n (cells 0) 1) (y_cells : SlotsApart n y n (cells 0) 1)
+    (before : Spots) where
   f : IsFree n n n m (scratch_bit m.free_bit) 1
   f = bit_free n n n 0 m are
+
+  h : IsFree n n n m (cells 0) 1
+  h = are.cells 0
+
+  cells_apart : SlotsApart n (cells 0) 1 (scratch_bit m.free_bit) 1
+  cells_apart = record {
+    by = λ u v lu lv e. (let z : Cells ≡ ScratchBit = ap (λ (q : Spot). q.space) e in cc);
+  }
 
   pub choice_does : cond (nat_lt (number_at n before m.b n) (number_at n before m.a n))
       (number_at n before x n) (number_at n before y n)
@@ -102,21 +115,29 @@ module _ (o : WordOp) (n : ℕ) (m : Slots) (are : AreSlots n n n 1 m) (x y : Sl
       (number_at n before m.s 1)
       → Gives o n n n 1 m before (after_steps n (Along (compare_block m (scratch_bit m.free_bit))
       ∷ (Along (choice_block m x y (scratch_bit m.free_bit)) ∷ []))
-      (set_spot before (row n (scratch_bit m.free_bit) 0) false))
+      (set_spot before (row n (cells 0) 0) false))
   unfolding values_from
   choice_does gives =
       let t = scratch_bit m.free_bit in
       let p = row n t 0 in
-      let start = set_spot before p false in
+      let held = row n (cells 0) 0 in
+      let start = set_spot before held false in
       let b1 = compare_block m t in
       let b2 = choice_block m x y t in
       let mid = after_many n 0 b1 n start in
       let new = after_many n 0 b2 n mid in
-      let xs : List Origin = Standing ∷ (Standing ∷ (Carried 0 ∷ [])) in
-      let l1 = state_loop n 0 t tt b1.reads b1.graph.inputs b1.graph.nodes (plain 4) xs start (
-        ((λ i j li lj e. f.a.by i 0 li (omega arith) e), tt),
+      let xs : List Origin = Standing ∷ (Standing ∷ (Carried 1 ∷ [])) in
+      let l1 = held_loop n 0 some t tt 0 cells_apart b1.reads b1.graph.inputs b1.graph.nodes
+      (plain 4) xs start (
         (
-          ((λ i j li lj e. f.b.by i 0 li (omega arith) e), tt),
+          (λ i j li lj e. f.a.by i 0 li (omega arith) e),
+          ((λ i j li lj e. h.a.by i 0 li (omega arith) e), tt),
+        ),
+        (
+          (
+            (λ i j li lj e. f.b.by i 0 li (omega arith) e),
+            ((λ i j li lj e. h.b.by i 0 li (omega arith) e), tt),
+          ),
           ((omega arith, λ i j li lj. refl), tt),
         ),
       ) in
@@ -128,21 +149,26 @@ module _ (o : WordOp) (n : ℕ) (m : Slots) (are : AreSlots n n n 1 m) (x y : Sl
           (((λ i j li lj e. f.target.by 0 j (omega arith) (omega arith) e), tt), tt),
         ),
       ) in
-      let e = λ (i : ℕ). turn n 0 b1 xs start i 0 in
+      let e = λ (i : ℕ). turn n 0 b1 xs start i 1 in
       let a = λ (i : ℕ). start (row n m.a i) in
       let c = λ (i : ℕ). start (row n m.b i) in
-      let va : number a n ≡ number_at n before m.a n = set_number n n before m.a t false f.a in
-      let vb : number c n ≡ number_at n before m.b n = set_number n n before m.b t false f.b in
+      let va : number a n ≡ number_at n before m.a n = set_number n n before m.a (cells 0) false
+      h.a in
+      let vb : number c n ≡ number_at n before m.b n = set_number n n before m.b (cells 0) false
+      h.b in
       let none : number a n + bit (e 0) ≡ number_at n before m.a n =
-      (let z = ap bit (set_same before p false p refl) in omega (arith, z, va)) in
+      (let z = ap bit (set_same before held false held refl) in omega (arith, z, va)) in
       let g : mid p ≡ nat_lt (number_at n before m.b n) (number_at n before m.a n) =
       l1.state ∙ compare a c e n (λ i lt. refl) ∙ ap (nat_lt (number c n)) none
       ∙ ap (λ z. nat_lt z (number_at n before m.a n)) vb in
-      let stays = λ (q : Spot) (out : q ≡ p → ⊥). l1.rest q out ∙ set_other before p false q out in
+      let stays = λ (q : Spot) (out : q ≡ p → ⊥) (free : q ≡ held → ⊥). l1.rest q out free
+      ∙ set_other before held false q free in
       let vx : number (λ i. mid (row n x i)) n ≡ number_at n before x n =
-      value_same _ _ n (λ i li. stays (row n x i) (λ h. x_bit.by i 0 li (omega arith) h)) in
+      value_same _ _ n (λ i li. stays (row n x i) (λ e. x_bit.by i 0 li (omega arith) e)
+      (λ e. x_cells.by i 0 li (omega arith) e)) in
       let vy : number (λ i. mid (row n y i)) n ≡ number_at n before y n =
-      value_same _ _ n (λ i li. stays (row n y i) (λ h. y_bit.by i 0 li (omega arith) h)) in
+      value_same _ _ n (λ i li. stays (row n y i) (λ e. y_bit.by i 0 li (omega arith) e)
+      (λ e. y_cells.by i 0 li (omega arith) e)) in
       subst (Gives o n n n 1 m before) (sym (steps_each n b1 (Along b2 ∷ []) start
       ∙ steps_each n b2 [] mid))
       record {
@@ -156,7 +182,8 @@ module _ (o : WordOp) (n : ℕ) (m : Slots) (are : AreSlots n n n 1 m) (x y : Sl
             ∙ ap (λ z. cond (nat_lt (number_at n before m.b n) (number_at n before m.a n))
             (number_at n before x n) z) vy
             ∙ gives;
-        keeps = λ q out. l2.rest q out.target ∙ stays q (bit_else n n 0 m q out);
+        keeps = λ q out. l2.rest q out.target ∙ stays q (bit_else n n 0 m q out)
+            (cell_else n n 1 m 0 q out);
       }
 
 -- on bits

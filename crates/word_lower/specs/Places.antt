@@ -3,7 +3,7 @@ use Rattle.std.specs.Prelude.{◌≡◌, ℕ, zero, suc, ◌+◌, Bool, true, fa
 use Rattle.std.specs.Prelude.{Some}
 use Rattle.op_text.specs.declared.tree.Kind.{Kind}
 use Rattle.op_text.specs.declared.tree.Kind.TheVariants.{Word, Bit}
-use Rattle.loop_ir.specs.declared.ir.Space.TheVariants.{ScratchBit}
+use Rattle.loop_ir.specs.declared.ir.Space.TheVariants.{ScratchBit, Cells}
 use Rattle.loop_ir.specs.declared.names.Slot.{Slot}
 use Rattle.loop_ir.specs.Statements.{Slots}
 use Rattle.loop_laws.specs.Rooms.{Extent, One, Full, Room}
@@ -25,6 +25,10 @@ room_of written s = record {
 -- a bit of internal scratch, by its number
 abbrev pub scratch_bit : ℕ → Slot
 scratch_bit k = record { space = ScratchBit; which = k; kind = Bit }
+
+-- the cells of a layout, in which a state stands
+abbrev pub cells : ℕ → Slot
+cells layout = record { space = Cells; which = layout; kind = Bit }
 
 -- so many bits of scratch from this one on
 abbrev pub scratch_from : ℕ → ℕ → List Slot

@@ -12,15 +12,17 @@ use Rattle.op_text.specs.Language.{Statement, Compute, Visit}
 use Rattle.loop_ir.specs.declared.ir.Sub.{Sub}
 use Rattle.loop_ir.specs.Plain.{StepOf}
 use Rattle.loop_ir.specs.Plain.StepOf.{Single, Along, Pairs}
-use Rattle.loop_laws.specs.Rooms.{Mark, Marked}
+use Rattle.loop_laws.specs.Rooms as rooms
+use Rattle.loop_laws.specs.Rooms.{InRoom, InCells, Mark, Marked}
 use Rattle.word_lower.specs.declared.shapes.Owner.{Owner}
-use Rattle.word_lower.specs.declared.shapes.Owner.TheVariants.{Target, First, Second, Third}
+use Rattle.word_lower.specs.declared.shapes.Owner.TheVariants.{Target, First, Second, Third, Cells}
 use Rattle.word_lower.specs.declared.shapes.Mark as code
 use Rattle.word_lower.specs.declared.shapes.BodyForm.{BodyForm}
 use Rattle.word_lower.specs.declared.shapes.BodyForm.TheVariants.{Off, On, Moved, Inverted, Both}
 use Rattle.word_lower.specs.declared.shapes.BodyForm.TheVariants.{Either, Without, Unlike, Chosen}
 use Rattle.word_lower.specs.declared.shapes.BodyForm.TheVariants.{Added, Lessened}
-use Rattle.word_lower.specs.declared.shapes.BodyForm.TheVariants.{NegatedIf, Compared, Agreed}
+use Rattle.word_lower.specs.declared.shapes.BodyForm.TheVariants.{NegatedIf, Compared, AllSet}
+use Rattle.word_lower.specs.declared.shapes.BodyForm.TheVariants.{AnySet, Odd, OnBoth, Ordered}
 use Rattle.word_lower.specs.declared.shapes.ProgramLine.{ProgramLine}
 use Rattle.word_lower.specs.declared.shapes.ProgramLine.TheVariants as line
 use Rattle.word_lower.specs.declared.shapes.ProgramLine.TheVariants.{Once, Each}
@@ -30,7 +32,7 @@ use Rattle.word_lower.specs.declared.table.TheConstants.{PROGRAMS}
 
 -- a place of an owner by its number: 0 is the target, then come the arguments, then the scratch
 abbrev pub on : ℕ → Sub → Mark
-on owner s = record { owner = owner; sub = s }
+on owner s = record { owner = InRoom owner; sub = s }
 
 -- a node as it is
 abbrev pub plain : ℕ → Lit
@@ -102,39 +104,56 @@ added x y c z = template (x ∷ y ∷ c ∷ [])
 -- x less y, with a borrow
 abbrev pub lessened : Mark → Mark → Mark → Mark → Marked
 lessened x y c z = template (x ∷ y ∷ c ∷ [])
-    (node_of (complemented 1) (plain 2) (plain 3) ∷ node_of (plain 1) (complemented 2) (plain 3)
-    ∷ node_of (complemented 3) (plain 4) (plain 5) ∷ [])
-    (plain 6 ∷ plain 4 ∷ []) (z ∷ c ∷ [])
+    (node_of (plain 1) (plain 2) (complemented 3) ∷ node_of (complemented 1) (plain 3) (plain 4)
+    ∷ node_of (complemented 2) (plain 4) (plain 5) ∷ [])
+    (plain 6 ∷ plain 5 ∷ []) (z ∷ c ∷ [])
 
 -- x, inverted above the lowest bit that is set under t: the state is whether there was one
 abbrev pub negated_if : Mark → Mark → Mark → Mark → Marked
 negated_if x t c z = template (x ∷ t ∷ c ∷ [])
-    (node_of off (complemented 1) (plain 3) ∷ node_of up (plain 1) (plain 4)
-    ∷ node_of (plain 2) (plain 3) (plain 5) ∷ node_of (complemented 3) (plain 4) (plain 5) ∷ [])
-    (plain 7 ∷ plain 6 ∷ []) (z ∷ c ∷ [])
+    (node_of up (plain 1) (plain 3) ∷ node_of off (plain 1) (plain 3)
+    ∷ node_of off (plain 4) (complemented 5) ∷ node_of (plain 2) (plain 5) (plain 6) ∷ [])
+    (plain 6 ∷ plain 7 ∷ []) (z ∷ c ∷ [])
 
--- the state is whether what was read of x is over what was read of y
-abbrev pub compared : Mark → Mark → Mark → Marked
-compared x y g = template (x ∷ y ∷ g ∷ []) (node_of (plain 1) (complemented 2) (plain 3) ∷ [])
-    (plain 4 ∷ []) (g ∷ [])
+-- the state is whether what was read of x is over what was read of y; it is written to z too
+abbrev pub compared : Mark → Mark → Mark → Mark → Marked
+compared x y g z = template (x ∷ y ∷ g ∷ []) (node_of (plain 1) (complemented 2) (plain 3) ∷ [])
+    (plain 4 ∷ plain 4 ∷ []) (z ∷ g ∷ [])
 
--- the state is whether all that was read agrees
-abbrev pub agreed : Mark → Mark → Mark → Marked
-agreed x y e = template (x ∷ y ∷ e ∷ [])
-    (node_of up (plain 1) (plain 2) ∷ node_of (plain 1) (plain 2) (complemented 3)
-    ∷ node_of (plain 3) (complemented 4) (plain 5) ∷ [])
-    (plain 6 ∷ []) (e ∷ [])
+-- the state is whether all that was read of x is set, or any of it; it is written to z too
+abbrev pub gathered : Lit → Mark → Mark → Mark → Marked
+gathered l x c z = template (x ∷ c ∷ []) (node_of l (plain 1) (plain 2) ∷ [])
+    (plain 3 ∷ plain 3 ∷ []) (z ∷ c ∷ [])
 
--- whose rows a place of the table has, by its number
-abbrev pub number_of : Owner → ℕ
-number_of Target = 0
-number_of First = 1
-number_of Second = 2
-number_of Third = 3
+-- the state is whether an odd number of what was read of x is set; it is written to z too
+abbrev pub odd : Mark → Mark → Mark → Marked
+odd x c z = template (x ∷ c ∷ [])
+    (node_of up (plain 1) (plain 2) ∷ node_of off (complemented 2) (plain 3)
+    ∷ node_of (complemented 1) (plain 3) (plain 4) ∷ [])
+    (plain 5 ∷ plain 5 ∷ []) (z ∷ c ∷ [])
 
--- a place of the table, by the number of its owner
+-- two states get the constant 1
+abbrev pub on_both : Mark → Mark → Marked
+on_both g h = template [] [] (up ∷ up ∷ []) (g ∷ h ∷ [])
+
+-- two states: whether what was read of x is at least what was read of y, and the other way round
+abbrev pub ordered : Mark → Mark → Mark → Mark → Marked
+ordered x y g h = template (x ∷ y ∷ g ∷ h ∷ [])
+    (node_of (plain 1) (complemented 2) (plain 3) ∷ node_of (complemented 1) (plain 2) (plain 4)
+    ∷ [])
+    (plain 5 ∷ plain 6 ∷ []) (g ∷ h ∷ [])
+
+-- whose a place of the table is: rows by a number, or cells
+abbrev pub owner_of : Owner → rooms.Owner
+owner_of Target = InRoom 0
+owner_of First = InRoom 1
+owner_of Second = InRoom 2
+owner_of Third = InRoom 3
+owner_of (Cells layout) = InCells layout
+
+-- a place of the table, by its owner
 abbrev pub mark_of : code.Mark → Mark
-mark_of m = on (number_of m.owner) m.sub
+mark_of m = record { owner = owner_of m.owner; sub = m.sub }
 
 -- the body that a shape of the table stands for
 abbrev pub form_body : BodyForm → Marked
@@ -150,8 +169,12 @@ form_body (Chosen x y s z) = chosen (mark_of x) (mark_of y) (mark_of s) (mark_of
 form_body (Added x y c z) = added (mark_of x) (mark_of y) (mark_of c) (mark_of z)
 form_body (Lessened x y c z) = lessened (mark_of x) (mark_of y) (mark_of c) (mark_of z)
 form_body (NegatedIf x t c z) = negated_if (mark_of x) (mark_of t) (mark_of c) (mark_of z)
-form_body (Compared x y g) = compared (mark_of x) (mark_of y) (mark_of g)
-form_body (Agreed x y e) = agreed (mark_of x) (mark_of y) (mark_of e)
+form_body (Compared x y g z) = compared (mark_of x) (mark_of y) (mark_of g) (mark_of z)
+form_body (AllSet x c z) = gathered off (mark_of x) (mark_of c) (mark_of z)
+form_body (AnySet x c z) = gathered up (mark_of x) (mark_of c) (mark_of z)
+form_body (Odd x c z) = odd (mark_of x) (mark_of c) (mark_of z)
+form_body (OnBoth g h) = on_both (mark_of g) (mark_of h)
+form_body (Ordered x y g h) = ordered (mark_of x) (mark_of y) (mark_of g) (mark_of h)
 
 -- and the step that a line does
 abbrev pub line_step : ProgramLine → StepOf Marked

@@ -8,16 +8,16 @@ use Rattle.mig_graph.specs.Literals.{inversions}
 use Rattle.loop_ir.specs.declared.ir.Place.{Place}
 use Rattle.loop_ir.specs.declared.names.Slot.{Slot}
 use Rattle.loop_ir.specs.Plain.{Block, StepOf, step_map}
-use Rattle.loop_ir.specs.Costs.{same_node}
+use Rattle.loop_ir.specs.Same.{same_node}
 use Rattle.loop_laws.specs.Rooms as rooms
-use Rattle.loop_laws.specs.Rooms.{Marked}
+use Rattle.loop_laws.specs.Rooms.{InRoom, InCells, Marked}
 use Rattle.word_lower.specs.declared.shapes.Mark.{Mark}
 use Rattle.word_lower.specs.declared.shapes.Owners.{Owners}
 use Rattle.word_lower.specs.declared.shapes.ProgramLine.{ProgramLine}
-use Rattle.word_lower.specs.Places.{scratch_bit}
+use Rattle.word_lower.specs.Places.{scratch_bit, cells}
 use Rattle.word_lower.specs.Programs.{mark_of, line_step}
 
--- places of the table, by the numbers of their owners
+-- places of the table, by their owners
 abbrev pub marks : List Mark → List rooms.Mark
 marks ms = map mark_of ms
 
@@ -28,11 +28,16 @@ lines_steps (None ∷ ls) = lines_steps ls
 lines_steps (Some l ∷ ls) = line_step l ∷ lines_steps ls
 
 -- whose rows an owner's number stands for
-abbrev pub owner_at : Owners → ℕ → Slot
-owner_at o zero = o.target
-owner_at o (suc zero) = o.first
-owner_at o (suc (suc zero)) = o.second
-owner_at o (suc (suc (suc k))) = o.third
+abbrev pub rows_at : Owners → ℕ → Slot
+rows_at o zero = o.target
+rows_at o (suc zero) = o.first
+rows_at o (suc (suc zero)) = o.second
+rows_at o (suc (suc (suc k))) = o.third
+
+-- an owner's rows, or the cells of a state
+abbrev pub owner_at : Owners → rooms.Owner → Slot
+owner_at o (InRoom k) = rows_at o k
+owner_at o (InCells layout) = cells layout
 
 -- the place that an owner's place is, where the owners have these rows
 abbrev pub place_on : Owners → rooms.Mark → Place

@@ -5,6 +5,7 @@ ghost use Rattle.std.specs.Prelude.{OnOk, Some, None, true};
 ghost use Rattle.loop_ir.specs.Plain.{block_of, step_of, steps_of};
 ghost use Rattle.loop_ir.specs.Plain.{Block, StepOf, AllParts, AllStep, step_map};
 ghost use Rattle.loop_laws.specs.Forms.{IsMade};
+ghost use Rattle.word_lower.specs.Places.{cells};
 ghost use Rattle.word_lower.specs.Programs.{template, mark_of, form_body, line_step};
 ghost use Rattle.word_lower.specs.Shapes.{marks, lines_steps};
 ghost use Rattle.word_lower.specs.Shapes.{place_on, body_on, program_on, are_own, are_below};
@@ -13,12 +14,24 @@ use crate::graphs::made;
 use crate::literals::{N1, OFF, ON, P1, P3, P4, P5, P6, P7};
 use crate::shapes::{BodyForm, Mark, Owner, Owners, ProgramLine};
 use crate::templates::{
-    ADDED, AGREED, BOTH, CHOSEN, COMPARED, EITHER, LESSENED, TURNED_BY, UNLIKE, WITHOUT,
+    ADDED, BOTH, CHOSEN, COMPARED, EITHER, LESSENED, ODD, ORDERED, TURNED_BY, UNLIKE, WITHOUT,
 };
 use faults::keep;
-use loop_ir::{Body, LoopProgram, Place, Step};
+use loop_ir::{Body, LoopProgram, Place, Slot, Space, Step};
 use mig_graph::{Lit, NoMemory, Node};
+use op_text::Kind;
 use std::alloc::Global;
+
+/// The cells of a layout.
+fn cells(layout: u8) -> Slot
+    ensures { result ≡ cells layout }
+{
+    Slot {
+        space: Space::Cells,
+        which: layout,
+        kind: Kind::Bit,
+    }
+}
 
 /// The place of a mark.
 fn place(mark: Mark, owners: Owners) -> Place
@@ -29,6 +42,7 @@ fn place(mark: Mark, owners: Owners) -> Place
         Owner::First => owners.first,
         Owner::Second => owners.second,
         Owner::Third => owners.third,
+        Owner::Cells(layout) => cells(layout),
     };
     Place {
         space: slot.space,
@@ -57,7 +71,7 @@ fn templated(
     owners: Owners,
     alloc: Global,
 ) -> Result<Body, NoMemory>
-    requires reads { length reads.now ≤ 3 }
+    requires reads { length reads.now ≤ 4 }
     requires nodes { length nodes.now ≤ 6 }
     requires outs { 0 < length outs.now }
     requires own { are_own (length reads.now + 1) nodes.now ≡ true }
@@ -93,7 +107,7 @@ fn body(shape: BodyForm, owners: Owners, alloc: Global) -> Result<Body, NoMemory
         BodyForm::Lessened(x, y, c, z) => templated(
             &[x, y, c],
             &LESSENED,
-            &[P6, P4],
+            &[P6, P5],
             &[z, c],
             o,
             a,
@@ -101,13 +115,31 @@ fn body(shape: BodyForm, owners: Owners, alloc: Global) -> Result<Body, NoMemory
         BodyForm::NegatedIf(x, t, c, z) => templated(
             &[x, t, c],
             &TURNED_BY,
-            &[P7, P6],
+            &[P6, P7],
             &[z, c],
             o,
             a,
         ),
-        BodyForm::Compared(x, y, g) => templated(&[x, y, g], &COMPARED, &[P4], &[g], o, a),
-        BodyForm::Agreed(x, y, e) => templated(&[x, y, e], &AGREED, &[P6], &[e], o, a),
+        BodyForm::Compared(x, y, g, z) => templated(
+            &[x, y, g],
+            &COMPARED,
+            &[P4, P4],
+            &[z, g],
+            o,
+            a,
+        ),
+        BodyForm::AllSet(x, c, z) => templated(&[x, c], &BOTH, &[P3, P3], &[z, c], o, a),
+        BodyForm::AnySet(x, c, z) => templated(&[x, c], &EITHER, &[P3, P3], &[z, c], o, a),
+        BodyForm::Odd(x, c, z) => templated(&[x, c], &ODD, &[P5, P5], &[z, c], o, a),
+        BodyForm::OnBoth(g, h) => templated(&[], &[], &[ON, ON], &[g, h], o, a),
+        BodyForm::Ordered(x, y, g, h) => templated(
+            &[x, y, g, h],
+            &ORDERED,
+            &[P5, P6],
+            &[g, h],
+            o,
+            a,
+        ),
     }
 }
 

@@ -7,7 +7,7 @@ mod linear;
 pub mod literals;
 mod shapes;
 mod table;
-mod templates;
+pub mod templates;
 
 pub use graphs::made;
 pub use linear::{lower_linear, slot_of};

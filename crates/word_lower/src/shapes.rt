@@ -3,13 +3,14 @@
 use loop_ir::{Slot, Sub};
 
 /// Whose rows a place has: the target's, an argument's, or after the arguments those of the bit of
-/// scratch.
+/// scratch; or in which cells a state stands, by the number of their layout.
 #[derive(Clone, Copy)]
 pub enum Owner {
     Target,
     First,
     Second,
     Third,
+    Cells(u8),
 }
 
 /// A place by its owner.
@@ -28,8 +29,8 @@ pub struct Owners {
     pub third: Slot,
 }
 
-/// What a body computes: from its reads, of which a state is the last, into its writes, of which it
-/// is the last too.
+/// What a body computes: from its reads, of which states are the last, into its writes, of which
+/// they are the last too. A mark of what is written comes after those of what is read.
 #[derive(Clone, Copy)]
 pub enum BodyForm {
     Off(Mark),
@@ -44,8 +45,14 @@ pub enum BodyForm {
     Added(Mark, Mark, Mark, Mark),
     Lessened(Mark, Mark, Mark, Mark),
     NegatedIf(Mark, Mark, Mark, Mark),
-    Compared(Mark, Mark, Mark),
-    Agreed(Mark, Mark, Mark),
+    Compared(Mark, Mark, Mark, Mark),
+    AllSet(Mark, Mark, Mark),
+    AnySet(Mark, Mark, Mark),
+    Odd(Mark, Mark, Mark),
+    /// Two states, of which each is set.
+    OnBoth(Mark, Mark),
+    /// Two states: of either word, whether it is at least the other.
+    Ordered(Mark, Mark, Mark, Mark),
 }
 
 /// A body done once, at each position, or at each position that has one above it.

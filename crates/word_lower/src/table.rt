@@ -5,8 +5,8 @@ ghost use Rattle.word_lower.specs.Programs.{program, program_of, row_steps};
 ghost use Rattle.word_lower.specs.Shapes.{lines_steps};
 
 use crate::shapes::BodyForm::{
-    Added, Agreed, Both, Chosen, Compared, Either, Inverted, Lessened, Moved, NegatedIf, Off, On,
-    Unlike, Without,
+    Added, AllSet, AnySet, Both, Chosen, Compared, Either, Inverted, Lessened, Moved, NegatedIf,
+    Odd, Off, On, OnBoth, Ordered, Unlike, Without,
 };
 use crate::shapes::ProgramLine::{Each, Once, Pairs};
 use crate::shapes::{BodyForm, Mark, Owner, ProgramLine};
@@ -82,6 +82,37 @@ const S_BIT: Mark = Mark {
     sub: Sub::Zero,
 };
 
+// states, by the cells in which they stand
+const T0: Mark = Mark {
+    owner: Owner::Cells(0),
+    sub: Sub::Zero,
+};
+
+const T1: Mark = Mark {
+    owner: Owner::Cells(1),
+    sub: Sub::Zero,
+};
+
+const T2: Mark = Mark {
+    owner: Owner::Cells(2),
+    sub: Sub::Zero,
+};
+
+const T3: Mark = Mark {
+    owner: Owner::Cells(3),
+    sub: Sub::Zero,
+};
+
+const T3_DCC1: Mark = Mark {
+    owner: Owner::Cells(4),
+    sub: Sub::Zero,
+};
+
+const T2_DCC0: Mark = Mark {
+    owner: Owner::Cells(9),
+    sub: Sub::Zero,
+};
+
 /// The loop programs of the word operations, in the order of the variants.
 pub static PROGRAMS: [(WordOp, ProgramRow); 27] = [
     (WordOp::Not, Spread(Inverted(X, Z), Inverted(X_BIT, Z_BIT))),
@@ -108,40 +139,47 @@ pub static PROGRAMS: [(WordOp, ProgramRow); 27] = [
     ),
     (
         WordOp::Sub,
-        Two(Once(Off(S_BIT)), Each(Lessened(X, Y, S_BIT, Z))),
+        Two(Once(Off(T3_DCC1)), Each(Lessened(X, Y, T3_DCC1, Z))),
     ),
     (WordOp::Mul, Nested),
     (WordOp::Div, Nested),
     (WordOp::Rem, Nested),
     (
         WordOp::Abs,
-        Two(Once(Off(Y_BIT)), Each(NegatedIf(X, X_TOP, Y_BIT, Z))),
+        Two(Once(Off(T3_DCC1)), Each(NegatedIf(X, X_TOP, T3_DCC1, Z))),
     ),
     (WordOp::Relu, One(Each(Without(X, X_TOP, Z)))),
     (
         WordOp::Min,
         Three(
-            Once(Off(S_BIT)),
-            Each(Compared(X, Y, S_BIT)),
+            Once(Off(T0)),
+            Each(Compared(X, Y, T0, S_BIT)),
             Each(Chosen(Y, X, S_BIT, Z)),
         ),
     ),
     (
         WordOp::Max,
         Three(
-            Once(Off(S_BIT)),
-            Each(Compared(X, Y, S_BIT)),
+            Once(Off(T0)),
+            Each(Compared(X, Y, T0, S_BIT)),
             Each(Chosen(X, Y, S_BIT, Z)),
         ),
     ),
-    (WordOp::Eq, Two(Once(On(Z_BIT)), Each(Agreed(X, Y, Z_BIT)))),
+    (
+        WordOp::Eq,
+        Three(
+            Once(OnBoth(T2, T3)),
+            Each(Ordered(X, Y, T2, T3)),
+            Once(Both(T2, T3, Z_BIT)),
+        ),
+    ),
     (
         WordOp::Gt,
-        Two(Once(Off(Z_BIT)), Each(Compared(X, Y, Z_BIT))),
+        Two(Once(Off(T0)), Each(Compared(X, Y, T0, Z_BIT))),
     ),
     (
         WordOp::Ge,
-        Two(Once(On(Z_BIT)), Each(Compared(X, Y, Z_BIT))),
+        Two(Once(On(T0)), Each(Compared(X, Y, T0, Z_BIT))),
     ),
     (
         WordOp::IfElse,
@@ -150,15 +188,15 @@ pub static PROGRAMS: [(WordOp, ProgramRow); 27] = [
     (WordOp::Bitcount, Nested),
     (
         WordOp::AndRed,
-        Two(Once(On(Z_BIT)), Each(Both(X, Z_BIT, Z_BIT))),
+        Two(Once(On(T1)), Each(AllSet(X, T1, Z_BIT))),
     ),
     (
         WordOp::OrRed,
-        Two(Once(Off(Z_BIT)), Each(Either(X, Z_BIT, Z_BIT))),
+        Two(Once(Off(T1)), Each(AnySet(X, T1, Z_BIT))),
     ),
     (
         WordOp::XorRed,
-        Two(Once(Off(Z_BIT)), Each(Unlike(X, Z_BIT, Z_BIT))),
+        Two(Once(Off(T2_DCC0)), Each(Odd(X, T2_DCC0, Z_BIT))),
     ),
     (WordOp::Divmod, Nested),
 ];

@@ -1,6 +1,6 @@
 //! The nodes of the templates, over the constant, the inputs and lower nodes.
 
-use crate::literals::{N1, N2, N3, N4, OFF, ON, P1, P2, P3, P4, P5};
+use crate::literals::{N1, N2, N3, N4, N5, OFF, ON, P1, P2, P3, P4, P5, P6};
 use mig_graph::Node;
 
 pub const BOTH: [Node; 1] = [Node {
@@ -77,17 +77,17 @@ pub const ADDED: [Node; 3] = [
 
 pub const LESSENED: [Node; 3] = [
     Node {
-        a: N1,
-        b: P2,
-        c: P3,
-    },
-    Node {
         a: P1,
-        b: N2,
-        c: P3,
+        b: P2,
+        c: N3,
     },
     Node {
-        a: N3,
+        a: N1,
+        b: P3,
+        c: P4,
+    },
+    Node {
+        a: N2,
         b: P4,
         c: P5,
     },
@@ -95,24 +95,24 @@ pub const LESSENED: [Node; 3] = [
 
 pub const TURNED_BY: [Node; 4] = [
     Node {
-        a: OFF,
-        b: N1,
+        a: ON,
+        b: P1,
         c: P3,
     },
     Node {
-        a: ON,
+        a: OFF,
         b: P1,
-        c: P4,
+        c: P3,
+    },
+    Node {
+        a: OFF,
+        b: P4,
+        c: N5,
     },
     Node {
         a: P2,
-        b: P3,
-        c: P5,
-    },
-    Node {
-        a: N3,
-        b: P4,
-        c: P5,
+        b: P5,
+        c: P6,
     },
 ];
 
@@ -122,20 +122,33 @@ pub const COMPARED: [Node; 1] = [Node {
     c: P3,
 }];
 
-pub const AGREED: [Node; 3] = [
+pub const ODD: [Node; 3] = [
     Node {
         a: ON,
         b: P1,
         c: P2,
     },
     Node {
-        a: P1,
-        b: P2,
-        c: N3,
+        a: OFF,
+        b: N2,
+        c: P3,
     },
     Node {
-        a: P3,
-        b: N4,
-        c: P5,
+        a: N1,
+        b: P3,
+        c: P4,
+    },
+];
+
+pub const ORDERED: [Node; 2] = [
+    Node {
+        a: P1,
+        b: N2,
+        c: P3,
+    },
+    Node {
+        a: N1,
+        b: P2,
+        c: P4,
     },
 ];

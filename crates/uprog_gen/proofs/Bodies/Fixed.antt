@@ -15,7 +15,7 @@ use Rattle.row_alloc.specs.Known.{Serves, known, known_at, not_graph, and_graph,
 use Rattle.row_alloc.specs.Known.{xor_graph, add_graph, plain, complemented}
 use Rattle.row_alloc.proofs.Fixed.{not_serves, and_serves, or_serves, xor_serves, add_serves}
 use Rattle.loop_ir.specs.Plain.{Block}
-use Rattle.loop_ir.specs.Costs.{same_lit, same_lits, same_node, same_nodes, is_body}
+use Rattle.loop_ir.specs.Same.{same_lit, same_lits, same_node, same_nodes, is_body}
 
 -- no known sequence that serves is shorter
 abbrev pub IsLeast : Graph → List OutRow → ℕ → Type 0
@@ -35,7 +35,7 @@ bits-eq false false h = refl
 lit-made : (x y : Lit) → x.node ≡ y.node → x.inverted ≡ y.inverted → x ≡ y
 lit-made x y e f = rw (e, f) refl
 
-lits-eq : (x y : Lit) → same_lit x y ≡ true → x ≡ y
+pub lits-eq : (x y : Lit) → same_lit x y ≡ true → x ≡ y
 lits-eq x y h =
     let p = and_parts (x.node == y.node) (beq x.inverted y.inverted) h in
     lit-made x y (eqb-true x.node y.node p.0) (bits-eq x.inverted y.inverted p.1)
@@ -49,7 +49,7 @@ nodes-eq m n h =
     let q = and_parts (same_lit m.b n.b) (same_lit m.c n.c) p.1 in
     node-made m n (lits-eq m.a n.a p.0) (lits-eq m.b n.b q.0) (lits-eq m.c n.c q.1)
 
-all-lits : (xs ys : List Lit) → same_lits xs ys ≡ true → xs ≡ ys
+pub all-lits : (xs ys : List Lit) → same_lits xs ys ≡ true → xs ≡ ys
 all-lits [] [] h = refl
 all-lits [] (y ∷ ys) h = absurd cc
 all-lits (x ∷ xs) [] h = absurd cc
@@ -57,7 +57,7 @@ all-lits (x ∷ xs) (y ∷ ys) h =
     let p = and_parts (same_lit x y) (same_lits xs ys) h in
     ap (λ z. z ∷ xs) (lits-eq x y p.0) ∙ ap (λ zs. y ∷ zs) (all-lits xs ys p.1)
 
-all-nodes : (ms ns : List Node) → same_nodes ms ns ≡ true → ms ≡ ns
+pub all-nodes : (ms ns : List Node) → same_nodes ms ns ≡ true → ms ≡ ns
 all-nodes [] [] h = refl
 all-nodes [] (n ∷ ns) h = absurd cc
 all-nodes (m ∷ ms) [] h = absurd cc
@@ -65,7 +65,7 @@ all-nodes (m ∷ ms) (n ∷ ns) h =
     let p = and_parts (same_node m n) (same_nodes ms ns) h in
     ap (λ z. z ∷ ms) (nodes-eq m n p.0) ∙ ap (λ zs. n ∷ zs) (all-nodes ms ns p.1)
 
-graph-made : (g : Graph) (i : ℕ) (ns : List Node) → g.inputs ≡ i → g.nodes ≡ ns
+pub graph-made : (g : Graph) (i : ℕ) (ns : List Node) → g.inputs ≡ i → g.nodes ≡ ns
     → g ≡ record { inputs = i; nodes = ns }
 graph-made g i ns e f = rw (← e, ← f) refl
 

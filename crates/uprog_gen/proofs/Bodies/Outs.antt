@@ -1,15 +1,16 @@
 -- The rows of a body's outputs, one after another.
 use Rattle.std.proofs.Common.{◌≡◌, ◌≢◌, ℕ, zero, suc, ◌+◌, ◌<◌, ◌≤◌, List, [], ◌∷◌, ◌++◌, length}
 use Rattle.std.proofs.Common.{Option, Some, None, refl, sym, ap, ◌∙◌, subst, ⊎_elim, arith}
-use Rattle.std.proofs.Common.{length-append, map, Bool, true, false, ◌*◌}
+use Rattle.std.proofs.Common.{length-append, append_assoc, drop, map, Bool, true, false, cond, ◌*◌}
 use Rattle.std.proofs.lemmas.List.{get_or_append_left}
 use Rattle.std.specs.Prelude.{slice_index_or, IfSome, IfNone, not, ◌==◌, ◌&&◌}
 use Rattle.std.proofs.Math.Seq.{get_or-append_seam}
 use Rattle.std.proofs.lemmas.Bool.{cases_eq, and_parts, eqb-true}
 use Rattle.mig_graph.specs.declared.Lit.{Lit}
 use Rattle.mig_graph.specs.Literals.{is_complemented}
-use Rattle.mig_graph.specs.Graph.{size_of, IsGraph}
+use Rattle.mig_graph.specs.Graph.{size_of}
 use Rattle.row_alloc.specs.declared.body.OutRow.{OutRow}
+use Rattle.row_alloc.specs.declared.body.Held.{Held}
 use Rattle.row_alloc.specs.Rows.{out_at}
 use Rattle.row_alloc.specs.Body.{FitBody, DoesBody, WritesLate}
 use Rattle.row_alloc.specs.declared.body.BodyRef.TheVariants.{Out}
@@ -19,10 +20,11 @@ use Rattle.row_alloc.specs.Phases.{source_of}
 use Rattle.row_alloc.specs.Known.{WordBody, graph_in, outs_in, sequence_for, known_at}
 use Rattle.loop_ir.specs.declared.ir.Place.{Place}
 use Rattle.loop_ir.specs.Plain.{Block}
-use Rattle.loop_ir.specs.Spots.{nth_place}
+use Rattle.loop_ir.specs.Spots.{nth_place, is_state}
 use Rattle.uprog_gen.specs.Parts.{IsOuts, IsPart}
 use Rattle.mig_graph.specs.Outputs.{lit_at}
 use Rattle.loop_ir.specs.Costs.{is_copy, is_not, is_and, is_or, is_xor, is_add, turn_cost}
+use Rattle.loop_ir.specs.Costs.{held_cost}
 use Rattle.uprog_gen.proofs.Bodies.Fixed.{IsLeast, by_cases, body_is, not_few, and_few, or_few}
 use Rattle.uprog_gen.proofs.Bodies.Fixed.{xor_few}
 use Rattle.uprog_gen.proofs.Bodies.Fixed.{add_few}
@@ -32,14 +34,55 @@ use Rattle.uprog_gen.proofs.Bodies.Planned.{plans}
 use Rattle.loop_ir.specs.Limits.{IsSmall}
 use Rattle.row_alloc.specs.Held.{DoesHeld}
 use Rattle.row_alloc.proofs.Plainly.{plainly}
-use Rattle.uprog_gen.specs.States.{leaves}
-use Rattle.uprog_gen.proofs.Rows.Rowed.{all_count, no_enters, no_leaves, states_fit}
+use Rattle.row_alloc.specs.HeldBodies.{HeldBody, held_at, held_sequence_for}
+use Rattle.loop_ir.specs.States.{has_states, held_of, row_count, enters, leaves}
+use Rattle.uprog_gen.proofs.Bodies.Held.{held_few}
+use Rattle.uprog_gen.proofs.Rows.Named.{row_few}
+use Rattle.uprog_gen.proofs.Rows.Rowed.{have_rows, all_count, no_enters, no_leaves}
 
 pub nth-at : (places : List Place) (k : ℕ) (d : Place) → k < length places
     → slice_index_or places k d ≡ nth_place places k
 nth-at [] k d lt = absurd (omega arith)
 nth-at (p ∷ ps) zero d lt = refl
 nth-at (p ∷ ps) (suc k) d lt = nth-at ps k d (omega arith)
+
+-- a state that is read is an input of the graph
+pub state_input : (b : Block) (k : ℕ) (p : Place) → IsSmall b → k < length b.reads
+    → p ≡ slice_index_or b.reads k p → is_state p.space ≡ true → k < b.graph.inputs
+state_input b k p small lt e st = small.states.read k lt
+    (ap (λ (q : Place). is_state q.space) (sym (e ∙ nth-at b.reads k p lt)) ∙ st)
+
+-- the first of what is left
+front_is : {A : Type 0} (xs : List A) (j : ℕ) (x : A) → j < length xs → x ≡ slice_index_or xs j x
+    → drop j xs ≡ x ∷ drop (j + 1) xs
+front_is [] j x lt e = absurd (omega arith)
+front_is (y ∷ ys) zero x lt e = ap (λ z. z ∷ ys) (sym e)
+front_is (y ∷ ys) (suc j) x lt e =
+    let z : suc (j + 1) ≡ suc j + 1 = omega arith in
+    front_is ys j x (omega arith) e ∙ ap (λ k. x ∷ drop k (y ∷ ys)) z
+
+-- the outputs that are left in cells, one place after another
+module _ (ps : List Place) (ls : List Lit) (j : ℕ) (p : Place) (l : Lit) (hs : List Held)
+    (lt : j < length ps) (size : length ls ≡ length ps) (at : p ≡ slice_index_or ps j p)
+    (out : l ≡ slice_index_or ls j l)
+    (is : hs ++ leaves (drop j ps) (drop j ls) ≡ leaves ps ls) where
+  abbrev rest : List Held
+  rest = leaves (drop (j + 1) ps) (drop (j + 1) ls)
+
+  left_here : leaves (drop j ps) (drop j ls)
+      ≡ cond (is_state p.space) (record { lit = l; layout = p.which } ∷ rest) rest
+  left_here = ap (λ qs. leaves qs (drop j ls)) (front_is ps j p lt at)
+      ∙ ap (λ ms. leaves (p ∷ drop (j + 1) ps) ms) (front_is ls j l (omega (arith, lt, size)) out)
+
+  pub state_left : is_state p.space ≡ true
+      → (hs ++ record { lit = l; layout = p.which } ∷ []) ++ rest ≡ leaves ps ls
+  state_left st = append_assoc hs (record { lit = l; layout = p.which } ∷ []) rest
+      ∙ ap (λ t. hs ++ t) (sym (left_here
+      ∙ ap (λ c. cond c (record { lit = l; layout = p.which } ∷ rest) rest) st)) ∙ is
+
+  pub row_left : is_state p.space ≡ false → hs ++ rest ≡ leaves ps ls
+  row_left st = ap (λ t. hs ++ t) (sym (left_here
+      ∙ ap (λ c. cond c (record { lit = l; layout = p.which } ∷ rest) rest) st)) ∙ is
 
 -- what is found for one output
 pub record IsFound (b : Block) (j : ℕ) (out : OutRow) : Type 0 where
@@ -121,21 +164,27 @@ outs-more b m outs more o eq h f =
         ) in subst P (sym (out-old outs o j l)) (old l))
         (cases_eq j m)
 
--- the plain body's conditions
-pub fit : (b : Block) (outs : List OutRow) → IsSmall b → IsOuts b (length b.outs) outs
+-- the conditions on a body
+pub fit : (b : Block) (outs : List OutRow) → IsSmall b → IsOuts b (row_count b.writes) outs
     → FitBody b.graph outs
 fit b outs small is = record {
   inputs = small.inputs;
-  outputs = omega (arith, small.outputs, is.size);
-  rows = omega (arith, small.rows, is.size);
+  outputs = omega (arith, small.outputs, is.size, row_few b.writes, small.states.written);
+  rows = omega (arith, small.rows, is.size, row_few b.writes, small.states.written);
   named = λ j lt. subst (λ (l : Lit). l.node < size_of b.graph) (sym (is.lits j lt))
-      (small.well.named j (omega (arith, lt, is.size)));
+      (small.well.named j (omega (
+        arith,
+        lt,
+        is.size,
+        row_few b.writes,
+        small.states.written,
+      )));
   same = λ j k lt e. (is.found j k lt e).0;
   once = λ i j k li lj e f.
       let p : nth_place b.writes i ≡ nth_place b.writes j = sym (is.found i k li e).1
       ∙ (is.found j k lj f).1 in
-      small.well.apart i j (omega (arith, li, is.size, small.well.writes))
-      (omega (arith, lj, is.size, small.well.writes)) (
+      small.well.apart i j (omega (arith, li, is.size, row_few b.writes))
+      (omega (arith, lj, is.size, row_few b.writes)) (
         ap (λ (x : Place). x.space) p,
         ap (λ (x : Place). x.which) p,
       );
@@ -169,13 +218,18 @@ lits_of (l ∷ ls) (o ∷ outs) n h =
     ap (λ x. x ∷ map (λ (o : OutRow). o.lit) outs) (h 0 (omega arith))
     ∙ ap (λ xs. l ∷ xs) (lits_of ls outs (omega (arith, n)) (λ j lt. h (suc j) (omega (arith, lt))))
 
-few_cmds : (b : Block) (outs : List OutRow) (k : ℕ) → FitBody b.graph outs
+at_false : (c : Bool) (x y k : ℕ) → c ≡ false → k ≤ y → k ≤ cond c x y
+at_false true x y k h l = absurd (cc)
+at_false false x y k h l = l
+
+few_cmds : (b : Block) (outs : List OutRow) (k : ℕ) → has_states b ≡ false → FitBody b.graph outs
     → IsOuts b (length b.outs) outs → k ≤ 4 * length b.graph.nodes + 3 * length outs
     → (length b.graph.nodes ≡ 0 → length outs ≡ 1 → is_complemented (out_at outs 0).lit ≡ false
     → k ≤ 1)
     → IsLeast b.graph outs k → k ≤ turn_cost b
-few_cmds b outs k fits is few one least =
-    by_cases (is_copy b) 1 _ k copied
+few_cmds b outs k none fits is few one least =
+    at_false (has_states b) (held_cost (held_of b)) _ k none
+    (by_cases (is_copy b) 1 _ k copied
     (by_cases (is_not b) 2 _ k (λ e. let h = body_is 1 _ _ b e in
     not_few b.graph b.outs outs k h.0 h.1 fits is.size is.lits least)
     (by_cases (is_and b) 4 _ k (λ e. let h = body_is 2 _ _ b e in
@@ -186,7 +240,7 @@ few_cmds b outs k fits is few one least =
     xor_few b.graph b.outs outs k h.0 h.1 fits is.size is.lits least)
     (by_cases (is_add b) 9 _ k (λ e. let h = body_is 3 _ _ b e in
     add_few b.graph b.outs outs k h.0 h.1 fits is.size is.lits least)
-    (omega (arith, few, is.size)))))))
+    (omega (arith, few, is.size))))))))
   where
     copied : is_copy b ≡ true → k ≤ 1
     copied e =
@@ -200,9 +254,9 @@ few_cmds b outs k fits is few one least =
         )))
         ∙ not_true (is_complemented (lit_at b.outs 0)) g.1)
 
--- a body's plan, outputs and commands make a part
+-- a plan, outputs and commands make a part of a body without states
 pub is_part : (b : Block) (plan : Plan) (outs : List OutRow) (cmds : List BodyCmd) → IsSmall b
-    → IsGraph b.graph.inputs b.graph.nodes → plan ≡ plan_of b → IsOuts b (length b.outs) outs
+    → has_states b ≡ false → plan ≡ plan_of b → IsOuts b (row_count b.writes) outs
     → DoesBody b.graph outs cmds → length cmds ≤ 4 * length b.graph.nodes + 3 * length outs
     → (length b.graph.nodes ≡ 0 → length outs ≡ 1 → is_complemented (out_at outs 0).lit ≡ false
     → length cmds ≤ 1) → IsLeast b.graph outs (length cmds)
@@ -211,23 +265,46 @@ pub is_part : (b : Block) (plan : Plan) (outs : List OutRow) (cmds : List BodyCm
     → ((w : WordBody) → b.graph ≡ graph_in w → map (λ o. o.lit) outs ≡ outs_in w
     → WritesLate outs (known_at (sequence_for w)) → cmds ≡ known_at (sequence_for w))
     → IsPart (record { block = b; plan = plan; outs = outs; cmds = cmds })
-is_part b plan outs cmds small graph e is does few one least copy word = record {
+is_part b plan outs cmds small none e is does few one least copy word =
+    let rows = have_rows b none in
+    let all : IsOuts b (length b.outs) outs = subst (λ m. IsOuts b m outs)
+        (all_count b.writes rows.1 ∙ sym small.states.written) is in
+    record {
+      well = small.well;
+      graph = small.graph;
+      planned = subst (λ p. IsPlanned p b) (sym e) (plans b small.subs);
+      states = small.states;
+      outs = is;
+      does = subst (λ hs. DoesHeld b.graph outs hs (leaves b.writes b.outs) cmds)
+          (sym (no_enters b.reads 0 rows.0))
+          (subst (λ hs. DoesHeld b.graph outs [] hs cmds)
+          (sym (no_leaves b.writes b.outs rows.1))
+          (plainly b.graph outs cmds small.graph (fit b outs small is) does));
+      few = few_cmds b outs (length cmds) none (fit b outs small is) all few one least;
+      held = λ states. absurd (let f : true ≡ false = sym states ∙ none in cc);
+      copy = λ n c. let h = copied_one b outs all c in (
+        source_of b.graph.inputs (out_at outs 0).lit,
+        Out 0,
+        copy h.0 h.1 h.2,
+      );
+      word = λ n w g o late. word w g (lits_of b.outs outs all.size all.lits ∙ o) late;
+    }
+
+-- and of one with states
+pub is_held_part : (b : Block) (plan : Plan) (outs : List OutRow) (cmds : List BodyCmd)
+    → IsSmall b → has_states b ≡ true → plan ≡ plan_of b → IsOuts b (row_count b.writes) outs
+    → DoesHeld b.graph outs (enters 0 b.reads) (leaves b.writes b.outs) cmds
+    → (h : HeldBody) × (held_of b ≡ Some h) × (cmds ≡ held_at (held_sequence_for h))
+    → IsPart (record { block = b; plan = plan; outs = outs; cmds = cmds })
+is_held_part b plan outs cmds small states e is does own = record {
   well = small.well;
-  graph = graph;
+  graph = small.graph;
   planned = subst (λ p. IsPlanned p b) (sym e) (plans b small.subs);
-  states = states_fit b small;
-  outs = subst (λ m. IsOuts b m outs)
-      (small.written ∙ sym (all_count b.writes small.write_rows)) is;
-  does = subst (λ hs. DoesHeld b.graph outs hs (leaves b.writes b.outs) cmds)
-      (sym (no_enters b.reads 0 small.read_rows))
-      (subst (λ hs. DoesHeld b.graph outs [] hs cmds)
-      (sym (no_leaves b.writes b.outs small.write_rows))
-      (plainly b.graph outs cmds graph (fit b outs small is) does));
-  few = few_cmds b outs (length cmds) (fit b outs small is) is few one least;
-  copy = λ c. let h = copied_one b outs is c in (
-    source_of b.graph.inputs (out_at outs 0).lit,
-    Out 0,
-    copy h.0 h.1 h.2,
-  );
-  word = λ w g o late. word w g (lits_of b.outs outs is.size is.lits ∙ o) late;
+  states = small.states;
+  outs = is;
+  does = does;
+  few = held_few b own.0 (length cmds) states own.1 (ap length own.2);
+  held = λ s. own;
+  copy = λ none c. absurd (let f : true ≡ false = sym states ∙ none in cc);
+  word = λ none w g o late. absurd (let f : true ≡ false = sym states ∙ none in cc);
 }

@@ -106,7 +106,7 @@ planned_sub b DownSum few used = in_loop b DownSum few used refl
 planned_sub b DownPlusN few used = in_loop b DownPlusN few used refl
 planned_sub b NPlusInner few used = in_loop b NPlusInner few used refl
 
-same_self : (s : Sub) → same_sub s s ≡ true
+pub same_self : (s : Sub) → same_sub s s ≡ true
 same_self s = eq-eqb (sub_code s) (sub_code s) refl
 
 any_back : (q : Place → Bool) (xs ys : List Place) → list_any q ys ≡ true

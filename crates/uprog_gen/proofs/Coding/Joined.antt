@@ -29,7 +29,7 @@ use Rattle.loop_ir.specs.Spots.{Spots, after_round, after_rounds}
 use Rattle.uprog_gen.specs.Where.{Agree, spots_in, IsSpot, IsBelow}
 use Rattle.uprog_gen.specs.Code.{Part, blocks, program_code}
 use Rattle.uprog_gen.specs.Parts.{IsPart}
-use Rattle.loop_ir.specs.Limits.{IsRound, IsSmall, CanCompile}
+use Rattle.loop_ir.specs.Limits.{IsRound, CanCompile}
 use Rattle.loop_ir.specs.Costs.{step_cost, code_cost}
 use Rattle.uprog_gen.specs.Emits.{EmitsSteps}
 use Rattle.uprog_gen.specs.Does.{DoesRounds, Means, AreCheap, joined, total, after_statements}
@@ -37,9 +37,9 @@ use Rattle.uprog_gen.specs.Does.{numbers_in}
 use Rattle.uprog_gen.specs.Programs.{HasParts}
 use Rattle.uprog_gen.proofs.Coding.Sizes.{program_few}
 use Rattle.uprog_gen.proofs.Coding.Pieces.{pieces, cheap_pieces}
-use Rattle.uprog_gen.proofs.Coding.Emitted.{more_steps, parts_both}
-use Rattle.uprog_gen.proofs.Rows.Chains.{steps_find}
-use Rattle.uprog_gen.proofs.Rows.Rowed.{steps_all}
+use Rattle.uprog_gen.proofs.Coding.Emitted.{more_steps}
+use Rattle.loop_ir.specs.Chains.{steps_find}
+use Rattle.uprog_gen.proofs.Rows.Chained.{find_both}
 use Rattle.uprog_gen.proofs.Rows.Top.{program_does, program_issues, all_blocks, all_rounds-append}
 use Rattle.uprog_gen.proofs.Coding.Legal.{code_legal}
 use Rattle.bit_rows.specs.declared.TheConstants.{WIDTH_MAX}
@@ -80,11 +80,10 @@ rounds_joined head n (p ∷ ps) some small h =
     (both (IsRound (IsSpot head n) n) (all_rounds n p) (all_rounds n (joined ps))
     (h.0.rounds n some small) (rounds_joined head n ps some small h.1))
 
-small_joined : (head : Shape) (ps : List Statement) → AllByRecursion (CanCompile (IsSpot head)) ps
-    → AllParts IsSmall (joined ps)
-small_joined head [] h = tt
-small_joined head (p ∷ ps) h = parts_both IsSmall p (joined ps) h.0.small
-    (small_joined head ps h.1)
+find_joined : (head : Shape) (ps : List Statement) → AllByRecursion (CanCompile (IsSpot head)) ps
+    → steps_find [] (joined ps) ≡ true
+find_joined head [] h = refl
+find_joined head (p ∷ ps) h = find_both p (joined ps) [] h.0.find (find_joined head ps h.1)
 
 cost_joined : (head : Shape) (ps : List Statement) → AllByRecursion (CanCompile (IsSpot head)) ps
     → code_cost (joined ps) ≤ 256 * length ps
@@ -223,7 +222,7 @@ is_entry head ps mid code can few emits e = subst (IsEntry head ps)
         same (program_does head n coded some small (few_instructions qs coded can few same parts)
         parts (rounds qs coded n some small can same)
         (subst (λ (l : Statement). steps_find [] l ≡ true) (sym same)
-        (steps_all [] (joined qs) (small_joined head qs can))))
+        (find_joined head qs can)))
 
     entry : IsEntry head ps (is ++ Done ∷ [])
     entry =

@@ -45,7 +45,7 @@ use Rattle.loop_ir.specs.Costs.{is_fixed, same_sub}
 use Rattle.loop_ir.specs.Limits.{IsRound}
 use Rattle.uprog_gen.proofs.Rows.Rounds.{block_round}
 use Rattle.uprog_gen.specs.Parts.{IsPart}
-use Rattle.uprog_gen.specs.States.{enters}
+use Rattle.loop_ir.specs.States.{enters}
 use Rattle.uprog_gen.proofs.Rows.Named.{IsNamed, named_ref}
 use Rattle.uprog_gen.proofs.Running.Program.{front_all, back_all}
 

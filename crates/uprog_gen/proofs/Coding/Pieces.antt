@@ -12,7 +12,8 @@ use Rattle.loop_ir.specs.Limits.{CanCompile}
 use Rattle.loop_ir.specs.Costs.{code_cost}
 use Rattle.uprog_gen.specs.Where.{IsSpot}
 use Rattle.loop_ir.specs.Loops.{all_rounds}
-use Rattle.uprog_gen.specs.Code.{Part, block_of_part, blocks, program_code, rounds_commands}
+use Rattle.uprog_gen.specs.Code.{Part, block_of_part, blocks, program_code}
+use Rattle.uprog_gen.proofs.Rows.Issued.{rounds_commands}
 use Rattle.uprog_gen.specs.Parts.{IsPart}
 use Rattle.uprog_gen.specs.Does.{joined, total, IsCheap, AreCheap}
 use Rattle.uprog_gen.specs.Programs.{together}

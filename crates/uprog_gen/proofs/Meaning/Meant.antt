@@ -130,6 +130,7 @@ can_more : (P Q : ℕ → Spot → Type 0) → ((n : ℕ) (q : Spot) → P n q �
     → (steps : List (StepOf Block)) → CanCompile P steps → CanCompile Q steps
 can_more P Q f steps can = record {
   small = can.small;
+  find = can.find;
   stand = can.stand;
   rounds = λ n some small. rounds_more (P n) (Q n) (f n) n (all_rounds n steps)
       (can.rounds n some small);

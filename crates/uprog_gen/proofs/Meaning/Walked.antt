@@ -22,7 +22,7 @@ use Rattle.loop_ir.specs.declared.ir.Space.TheVariants.{Cells}
 use Rattle.loop_ir.specs.declared.names.Slot.{Slot}
 use Rattle.loop_ir.specs.Plain.{StepOf, Block}
 use Rattle.loop_ir.specs.Loops.{all_rounds}
-use Rattle.loop_ir.specs.Spots.{Spot, Spots, spot_in, after_rounds}
+use Rattle.loop_ir.specs.Spots.{Spot, Spots, spot_in, after_rounds, is_state}
 use Rattle.loop_ir.specs.Statements.{Slots, holds_kind, written_names}
 use Rattle.loop_ir.specs.Lowered.{slot_spot, slot_bits, HoldsAt, Holds, IsRowOf, IsInside}
 use Rattle.loop_ir.specs.Lowered.{IsChanged, Does}
@@ -79,6 +79,14 @@ same_places n x y v u hx hy lv lu e =
     spot_which n x.space x.which v y.which u x.kind y.kind hx
     (subst (λ (t : Space). holds_kind t y.kind ≡ true) (sym s) hy) lv lu (e
     ∙ ap (λ (t : Space). spot_in n t y.which u) (sym s))
+
+-- a name lies in rows
+pub no_state : (s : Space) (k : Kind) → holds_kind s k ≡ true → is_state s ≡ false
+no_state Result k h = refl
+no_state Source k h = refl
+no_state ScratchBit k h = refl
+no_state ScratchWord k h = refl
+no_state Cells k h = absurd (cc)
 
 -- the names' rows hold their values
 abbrev pub HoldsAll : ℕ → Slots → (List ℕ → NameValue) → Spots → List (List ℕ) → Type 0
@@ -153,7 +161,9 @@ module _ (op : Operation) (meets : OperationMeets op) (slots : Slots) (free_bit 
       same_bits (λ v. bits (slot_spot n x v)) (λ v. new (slot_spot n x v)) 0 0 (width n x.kind)
       (λ v lt. let z : 0 + v ≡ v = omega arith in
       ap (λ u. bits (slot_spot n x u)) z ∙ sym
-      (does.keeps bits (slot_spot n x v) (unchanged n s name x v out e lt))
+      (does.keeps bits (slot_spot n x v)
+      (ap is_state (spot_space n x.space x.which v) ∙ no_state x.space x.kind (holds name x e))
+      (unchanged n s name x v out e lt))
       ∙ ap (λ u. new (slot_spot n x u)) (sym z))
 
   kept_holds : (n : ℕ) (s : Statement) (steps : List (StepOf Block)) (held : List ℕ

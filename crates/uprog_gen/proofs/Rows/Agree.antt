@@ -29,7 +29,8 @@ use Rattle.loop_ir.specs.Loops.{RoundOf, sub_value}
 use Rattle.loop_ir.specs.Spots.{Spot, Spots, nth_place, spot_at, spot_in, nth_spot, IsOwn}
 use Rattle.loop_ir.specs.Spots.{round_env, after_round, after_rounds, is_state}
 use Rattle.uprog_gen.specs.Where.{spot_row, IsSpot, Agree}
-use Rattle.uprog_gen.specs.Code.{Part, row_space, round_ref, round_command, rounds_commands}
+use Rattle.uprog_gen.specs.Code.{Part, row_space}
+use Rattle.uprog_gen.proofs.Rows.Issued.{round_ref, round_command, rounds_commands}
 use Rattle.loop_ir.specs.Limits.{IsRound}
 use Rattle.uprog_gen.proofs.Rows.Rounds.{IsLaid, round_rows, block_round}
 use Rattle.uprog_gen.specs.Parts.{IsPart}
@@ -38,11 +39,11 @@ use Rattle.loop_laws.proofs.Same.{write_other, write_at}
 use Rattle.row_alloc.specs.Legal.{is_ref, is_first_ref, is_second_ref, is_legal_cmd, are_legal}
 use Rattle.row_alloc.specs.Held.{Enters, is_held, is_read, reads_rows}
 use Rattle.row_alloc.specs.Layouts.{StandsIn}
-use Rattle.uprog_gen.specs.States.{row_count, enters}
+use Rattle.loop_ir.specs.States.{row_count, enters}
+use Rattle.loop_ir.specs.Chains.{states_in, finds, left_by}
 use Rattle.row_alloc.specs.declared.body.Held.{Held}
 use Rattle.uprog_gen.proofs.Rows.Named.{few, IsNamed, named_ref}
-use Rattle.uprog_gen.proofs.Rows.Alive.{state_spot, AreStanding, states_in, finds}
-use Rattle.uprog_gen.proofs.Rows.Alive.{left_by, chained}
+use Rattle.uprog_gen.proofs.Rows.Alive.{state_spot, AreStanding, chained}
 use Rattle.uprog_gen.proofs.Rows.States.{are_among, held_is, enter_cells, leave_cells}
 
 -- one of the first places has a number, or none has

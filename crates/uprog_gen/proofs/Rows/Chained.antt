@@ -12,8 +12,9 @@ use Rattle.loop_ir.specs.Plain.InnerOf.{Alone, Across}
 use Rattle.loop_ir.specs.Plain.StepOf.{Single, Along, Nest, Pairs}
 use Rattle.loop_ir.specs.Loops.{RoundOf, one_round, rounds, positions, inner_rounds}
 use Rattle.loop_ir.specs.Loops.{all_rounds}
-use Rattle.uprog_gen.proofs.Rows.Alive.{states_in, is_among, finds, left_by, chained}
-use Rattle.uprog_gen.proofs.Rows.Chains.{loop_finds, inner_left, inner_finds, steps_find}
+use Rattle.loop_ir.specs.Chains.{states_in, is_left, finds, left_by, loop_finds, inner_left}
+use Rattle.loop_ir.specs.Chains.{inner_finds, steps_find}
+use Rattle.uprog_gen.proofs.Rows.Alive.{chained}
 
 -- the states that the last of the rounds leaves
 left_after : List ℕ → List (RoundOf Block) → List ℕ
@@ -37,14 +38,14 @@ left_both (r ∷ rs) ys alive = left_both rs ys (left_by r.part)
 
 -- the states of the first are among the second
 abbrev pub Within : List ℕ → List ℕ → Type 0
-Within xs ys = (w : ℕ) → is_among w xs ≡ true → is_among w ys ≡ true
+Within xs ys = (w : ℕ) → is_left w xs ≡ true → is_left w ys ≡ true
 
-more_find : (ws xs ys : List ℕ) → Within xs ys → list_all (λ w. is_among w xs) ws ≡ true
-    → list_all (λ w. is_among w ys) ws ≡ true
+more_find : (ws xs ys : List ℕ) → Within xs ys → list_all (λ w. is_left w xs) ws ≡ true
+    → list_all (λ w. is_left w ys) ws ≡ true
 more_find [] xs ys h e = refl
 more_find (w ∷ ws) xs ys h e =
-    let p = and_parts (is_among w xs) (list_all (λ w. is_among w xs) ws) e in
-    and_from (is_among w ys) (list_all (λ w. is_among w ys) ws) (h w p.0) (more_find ws xs ys h p.1)
+    let p = and_parts (is_left w xs) (list_all (λ w. is_left w xs) ws) e in
+    and_from (is_left w ys) (list_all (λ w. is_left w ys) ws) (h w p.0) (more_find ws xs ys h p.1)
 
 -- with more alive all that is needed is found, so statements can stand one after another
 pub more_chained : (rs : List (RoundOf Block)) (xs ys : List ℕ) → Within xs ys
@@ -71,7 +72,7 @@ join : (alive mid left : List ℕ) (xs ys : List (RoundOf Block)) → Chains ali
 join alive mid left xs ys a b = record {
   need = both_chained xs ys alive a.need
       (more_chained ys mid (left_after alive xs) a.left_in b.need);
-  left_in = λ w e. subst (λ l. is_among w l ≡ true) (sym (left_both xs ys alive))
+  left_in = λ w e. subst (λ l. is_left w l ≡ true) (sym (left_both xs ys alive))
       (more_left ys mid (left_after alive xs) a.left_in w (b.left_in w e));
 }
 
@@ -181,3 +182,77 @@ steps_chained n (Nest ps ∷ ss) alive some h =
     both_chained rs (all_rounds n ss) alive c.need
     (more_chained (all_rounds n ss) mid (left_after alive rs) c.left_in
     (steps_chained n ss mid some (subst (λ x. steps_find x ss ≡ true) (left_again ps alive) q.1)))
+
+-- with more alive each step still finds its states
+loop_still : (b : Block) (xs ys : List ℕ) → Within xs ys → loop_finds xs b ≡ true
+    → loop_finds ys b ≡ true
+loop_still b xs ys w h =
+    let p = and_parts (finds xs b) (finds (left_by b) b) h in
+    and_from (finds ys b) (finds (left_by b) b) (more_find (states_in b.reads) xs ys w p.0) p.1
+
+inner_still : (ps : List (InnerOf Block)) (xs ys : List ℕ) → Within xs ys
+    → inner_finds xs ps ≡ true → inner_finds ys ps ≡ true
+inner_still [] xs ys w h = refl
+inner_still (Alone b ∷ ps) xs ys w h =
+    let p = and_parts (finds xs b) (inner_finds (left_by b) ps) h in
+    and_from (finds ys b) (inner_finds (left_by b) ps)
+    (more_find (states_in b.reads) xs ys w p.0) p.1
+inner_still (Across c b ∷ ps) xs ys w h =
+    let p = and_parts (loop_finds xs b) (inner_finds (left_by b) ps) h in
+    and_from (loop_finds ys b) (inner_finds (left_by b) ps) (loop_still b xs ys w p.0) p.1
+
+inner_within : (ps : List (InnerOf Block)) (xs ys : List ℕ) → Within xs ys
+    → Within (inner_left xs ps) (inner_left ys ps)
+inner_within [] xs ys w = w
+inner_within (Alone b ∷ ps) xs ys w = λ v e. e
+inner_within (Across c b ∷ ps) xs ys w = λ v e. e
+
+still_find : (ss : List (StepOf Block)) (xs ys : List ℕ) → Within xs ys
+    → steps_find xs ss ≡ true → steps_find ys ss ≡ true
+still_find [] xs ys w h = refl
+still_find (Single b ∷ ss) xs ys w h =
+    let p = and_parts (finds xs b) (steps_find (left_by b) ss) h in
+    and_from (finds ys b) (steps_find (left_by b) ss)
+    (more_find (states_in b.reads) xs ys w p.0) p.1
+still_find (Along b ∷ ss) xs ys w h =
+    let p = and_parts (loop_finds xs b) (steps_find (left_by b) ss) h in
+    and_from (loop_finds ys b) (steps_find (left_by b) ss) (loop_still b xs ys w p.0) p.1
+still_find (Pairs b ∷ ss) xs ys w h =
+    let p = and_parts (loop_finds xs b) (steps_find [] ss) h in
+    and_from (loop_finds ys b) (steps_find [] ss) (loop_still b xs ys w p.0) p.1
+still_find (Nest ps ∷ ss) xs ys w h =
+    let m = inner_left xs ps in
+    let k = inner_left ys ps in
+    let v = inner_within ps xs ys w in
+    let p = and_parts (inner_finds xs ps) (inner_finds m ps
+    && steps_find (inner_left m ps) ss) h in
+    let q = and_parts (inner_finds m ps) (steps_find (inner_left m ps) ss) p.1 in
+    and_from (inner_finds ys ps) (inner_finds k ps && steps_find (inner_left k ps) ss)
+    (inner_still ps xs ys w p.0)
+    (and_from (inner_finds k ps) (steps_find (inner_left k ps) ss) (inner_still ps m k v q.0)
+    (still_find ss (inner_left m ps) (inner_left k ps) (inner_within ps m k v) q.1))
+
+-- steps that need no state from before may stand after any
+pub find_both : (xs ys : List (StepOf Block)) (alive : List ℕ) → steps_find alive xs ≡ true
+    → steps_find [] ys ≡ true → steps_find alive (xs ++ ys) ≡ true
+find_both [] ys alive h k = still_find ys [] alive (none_within alive) k
+find_both (Single b ∷ ss) ys alive h k =
+    let p = and_parts (finds alive b) (steps_find (left_by b) ss) h in
+    and_from (finds alive b) (steps_find (left_by b) (ss ++ ys)) p.0
+    (find_both ss ys (left_by b) p.1 k)
+find_both (Along b ∷ ss) ys alive h k =
+    let p = and_parts (loop_finds alive b) (steps_find (left_by b) ss) h in
+    and_from (loop_finds alive b) (steps_find (left_by b) (ss ++ ys)) p.0
+    (find_both ss ys (left_by b) p.1 k)
+find_both (Pairs b ∷ ss) ys alive h k =
+    let p = and_parts (loop_finds alive b) (steps_find [] ss) h in
+    and_from (loop_finds alive b) (steps_find [] (ss ++ ys)) p.0 (find_both ss ys [] p.1 k)
+find_both (Nest ps ∷ ss) ys alive h k =
+    let m = inner_left alive ps in
+    let p = and_parts (inner_finds alive ps) (inner_finds m ps
+    && steps_find (inner_left m ps) ss) h in
+    let q = and_parts (inner_finds m ps) (steps_find (inner_left m ps) ss) p.1 in
+    and_from (inner_finds alive ps) (inner_finds m ps && steps_find (inner_left m ps) (ss ++ ys))
+    p.0
+    (and_from (inner_finds m ps) (steps_find (inner_left m ps) (ss ++ ys)) q.0
+    (find_both ss ys (inner_left m ps) q.1 k))

@@ -11,7 +11,7 @@ use Rattle.loop_ir.specs.declared.ir.Place.{Place}
 use Rattle.loop_ir.specs.Spots.{nth_place, is_state}
 use Rattle.uprog_gen.specs.Code.{Part}
 use Rattle.uprog_gen.specs.Parts.{IsPart}
-use Rattle.uprog_gen.specs.States.{row_count, enters}
+use Rattle.loop_ir.specs.States.{row_count, enters}
 use Rattle.uprog_gen.proofs.Rows.States.{held_is}
 
 pub row_few : (ps : List Place) → row_count ps ≤ length ps

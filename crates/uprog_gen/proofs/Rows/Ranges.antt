@@ -21,11 +21,12 @@ use Rattle.loop_ir.specs.declared.ir.Space.TheVariants.{Cells}
 use Rattle.loop_ir.specs.Loops.{RoundOf, sub_value}
 use Rattle.loop_ir.specs.Spots.{nth_place, spot_in}
 use Rattle.uprog_gen.specs.Where.{IsSpot, IsBelow}
-use Rattle.uprog_gen.specs.Code.{Part, row_space, round_ref, round_command}
+use Rattle.uprog_gen.specs.Code.{Part, row_space}
+use Rattle.uprog_gen.proofs.Rows.Issued.{round_ref, round_command}
 use Rattle.loop_ir.specs.Limits.{IsRound}
 use Rattle.uprog_gen.proofs.Rows.Rounds.{block_round}
 use Rattle.uprog_gen.specs.Parts.{IsPart}
-use Rattle.uprog_gen.specs.States.{enters}
+use Rattle.loop_ir.specs.States.{enters}
 use Rattle.uprog_gen.proofs.Rows.Named.{IsNamed, named_ref}
 
 below_kind : (k : Option Kind) (n i : ℕ) → IsBelow k n i → in_kind k n i ≡ true

@@ -1,19 +1,13 @@
 -- Bodies whose places all have rows.
-use Rattle.std.proofs.Common.{◌≡◌, ℕ, suc, ◌+◌, ◌<◌, true, false, cond, List, []}
-use Rattle.std.proofs.Common.{◌∷◌, length, refl, sym, ap, ◌∙◌, arith}
-use Rattle.std.specs.Prelude.{◌&&◌}
-use Rattle.std.specs.List.{list_all}
-use Rattle.std.proofs.lemmas.Bool.{and_from}
+use Rattle.std.proofs.Common.{◌≡◌, ℕ, zero, suc, ◌+◌, ◌<◌, Bool, true, false, cond, List, [], ◌∷◌}
+use Rattle.std.proofs.Common.{◌++◌, length, refl, ap, ◌∙◌, arith}
+use Rattle.std.specs.Prelude.{◌||◌}
+use Rattle.std.specs.List.{list_any}
 use Rattle.mig_graph.specs.declared.Lit.{Lit}
 use Rattle.loop_ir.specs.declared.ir.Place.{Place}
-use Rattle.loop_ir.specs.Plain.{Block, InnerOf, StepOf, AllInner, AllParts}
-use Rattle.loop_ir.specs.Plain.InnerOf.{Alone, Across}
-use Rattle.loop_ir.specs.Plain.StepOf.{Single, Along, Nest, Pairs}
+use Rattle.loop_ir.specs.Plain.{Block}
 use Rattle.loop_ir.specs.Spots.{nth_place, is_state}
-use Rattle.loop_ir.specs.Limits.{IsSmall}
-use Rattle.uprog_gen.specs.States.{row_count, enters, leaves, StatesFit}
-use Rattle.uprog_gen.proofs.Rows.Alive.{states_in, is_among, finds, left_by}
-use Rattle.uprog_gen.proofs.Rows.Chains.{loop_finds, inner_left, inner_finds, steps_find}
+use Rattle.loop_ir.specs.States.{has_states, row_count, enters, leaves}
 
 abbrev pub HaveRows : List Place → Type 0
 HaveRows ps = (k : ℕ) → k < length ps → is_state (nth_place ps k).space ≡ false
@@ -40,52 +34,32 @@ no_leaves (p ∷ ps) (l ∷ ls) h =
     ap (λ c. cond c (record { lit = l; layout = p.which } ∷ leaves ps ls) (leaves ps ls))
     (h 0 (omega arith)) ∙ no_leaves ps ls (later p ps h)
 
-no_states : (ps : List Place) → HaveRows ps → states_in ps ≡ []
-no_states [] h = refl
-no_states (p ∷ ps) h = ap (λ c. cond c (p.which ∷ states_in ps) (states_in ps)) (h 0 (omega arith))
-    ∙ no_states ps (later p ps h)
+neither : (c d : Bool) → (c || d) ≡ false → (c ≡ false) × (d ≡ false)
+neither true d h = absurd (cc)
+neither false d h = (refl, h)
 
-pub states_fit : (b : Block) → IsSmall b → StatesFit b
-states_fit b small = record {
-  first = record {
-    row = λ k l. (let e = all_count b.writes small.write_rows in
-        small.write_rows k (omega (arith, l, e)));
-    state = λ k f l. (let e = all_count b.writes small.write_rows in
-        absurd (omega (arith, f, l, e)));
-  };
-  written = small.written;
-  read = λ k l e. (let f = small.read_rows k l in absurd (let z : true ≡ false = sym e ∙ f in cc));
-}
+abbrev any_state : List Place → Bool
+any_state ps = list_any (λ p. is_state p.space) ps
 
--- such a body reads no state, so that nothing has to be left for it
-finds_all : (alive : List ℕ) (b : Block) → IsSmall b → finds alive b ≡ true
-finds_all alive b small = ap (list_all (λ w. is_among w alive))
-    (no_states b.reads small.read_rows)
+none_state : (ps : List Place) → any_state ps ≡ false → HaveRows ps
+none_state [] h k l = absurd (omega arith)
+none_state (p ∷ ps) h zero l = (neither (is_state p.space) (any_state ps) h).0
+none_state (p ∷ ps) h (suc k) l = none_state ps (neither (is_state p.space) (any_state ps) h).1 k
+    (omega arith)
 
-loop_all : (alive : List ℕ) (b : Block) → IsSmall b → loop_finds alive b ≡ true
-loop_all alive b small = and_from (finds alive b) (finds (left_by b) b) (finds_all alive b small)
-    (finds_all (left_by b) b small)
+front_none : (ps qs : List Place) → any_state (ps ++ qs) ≡ false → any_state ps ≡ false
+front_none [] qs h = refl
+front_none (p ∷ ps) qs h =
+    let t = neither (is_state p.space) (any_state (ps ++ qs)) h in
+    ap (λ c. c || any_state ps) t.0 ∙ front_none ps qs t.1
 
-inner_all : (alive : List ℕ) (ps : List (InnerOf Block)) → AllInner IsSmall ps
-    → inner_finds alive ps ≡ true
-inner_all alive [] h = refl
-inner_all alive (Alone b ∷ ps) h = and_from (finds alive b) (inner_finds (left_by b) ps)
-    (finds_all alive b h.0) (inner_all (left_by b) ps h.1)
-inner_all alive (Across c b ∷ ps) h = and_from (loop_finds alive b) (inner_finds (left_by b) ps)
-    (loop_all alive b h.0) (inner_all (left_by b) ps h.1)
+back_none : (ps qs : List Place) → any_state (ps ++ qs) ≡ false → any_state qs ≡ false
+back_none [] qs h = h
+back_none (p ∷ ps) qs h = back_none ps qs (neither (is_state p.space) (any_state (ps ++ qs)) h).1
 
-pub steps_all : (alive : List ℕ) (ss : List (StepOf Block)) → AllParts IsSmall ss
-    → steps_find alive ss ≡ true
-steps_all alive [] h = refl
-steps_all alive (Single b ∷ ss) h = and_from (finds alive b) (steps_find (left_by b) ss)
-    (finds_all alive b h.0) (steps_all (left_by b) ss h.1)
-steps_all alive (Along b ∷ ss) h = and_from (loop_finds alive b) (steps_find (left_by b) ss)
-    (loop_all alive b h.0) (steps_all (left_by b) ss h.1)
-steps_all alive (Pairs b ∷ ss) h = and_from (loop_finds alive b) (steps_find [] ss)
-    (loop_all alive b h.0) (steps_all [] ss h.1)
-steps_all alive (Nest ps ∷ ss) h =
-    let mid = inner_left alive ps in
-    and_from (inner_finds alive ps) (inner_finds mid ps && steps_find (inner_left mid ps) ss)
-    (inner_all alive ps h.0)
-    (and_from (inner_finds mid ps) (steps_find (inner_left mid ps) ss) (inner_all mid ps h.0)
-    (steps_all (inner_left mid ps) ss h.1))
+-- a body without states
+pub have_rows : (b : Block) → has_states b ≡ false → HaveRows b.reads × HaveRows b.writes
+have_rows b h = (
+  none_state b.reads (front_none b.reads b.writes h),
+  none_state b.writes (back_none b.reads b.writes h),
+)

@@ -26,7 +26,8 @@ use Rattle.loop_ir.specs.Plain.InnerOf.{Alone, Across}
 use Rattle.loop_ir.specs.Plain.StepOf.{Single, Along, Nest, Pairs}
 use Rattle.loop_ir.specs.Spots.{Spot, IsOwn, after_rounds}
 use Rattle.uprog_gen.specs.Where.{spot_row, row_in, IsSpot, IsIn, Agree, spots_in}
-use Rattle.uprog_gen.specs.Code.{Part, block_of_part, blocks, round_command, rounds_commands}
+use Rattle.uprog_gen.specs.Code.{Part, block_of_part, blocks}
+use Rattle.uprog_gen.proofs.Rows.Issued.{round_command, rounds_commands}
 use Rattle.uprog_gen.specs.Code.{program_code}
 use Rattle.loop_ir.specs.Limits.{IsRound}
 use Rattle.uprog_gen.proofs.Rows.Rounds.{block_round}
@@ -36,7 +37,7 @@ use Rattle.uprog_gen.specs.Settled.{IsSettled, rounds_counts, all_counted}
 use Rattle.uprog_gen.specs.Does.{DoesRounds, IsCheap}
 use Rattle.uprog_gen.proofs.Rows.Settled.{of_blocks, all_aaps, all_aps}
 use Rattle.uprog_gen.proofs.Rows.Alive.{chained}
-use Rattle.uprog_gen.proofs.Rows.Chains.{steps_find}
+use Rattle.loop_ir.specs.Chains.{steps_find}
 use Rattle.uprog_gen.proofs.Rows.Chained.{steps_chained}
 use Rattle.uprog_gen.proofs.Rows.Agree.{AreRounds, IsMine, rounds_agree, rounds_keep}
 use Rattle.uprog_gen.proofs.Rows.Laid.{laid, value_among, bit_among, word_among}

@@ -26,7 +26,8 @@ use Rattle.loop_ir.specs.Plain.{Block}
 use Rattle.loop_ir.specs.Loops.{RoundOf, round_at, sub_value}
 use Rattle.loop_ir.specs.Spots.{nth_place}
 use Rattle.uprog_gen.specs.declared.plan.Plan.{Plan}
-use Rattle.uprog_gen.specs.Code.{Part, row_space, place_row, round_ref, round_command, register}
+use Rattle.uprog_gen.specs.Code.{Part, row_space, register}
+use Rattle.uprog_gen.proofs.Rows.Issued.{place_row, round_ref, round_command}
 use Rattle.uprog_gen.specs.Code.{is_planned, IsPlanned, place_ref, code_ref, code_uop}
 use Rattle.loop_ir.specs.Costs.{sub_code, same_sub}
 use Rattle.uprog_gen.proofs.Running.Runs.{Runs, run_then, run_none, run_at, IsAt}

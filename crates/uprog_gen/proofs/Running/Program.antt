@@ -23,8 +23,9 @@ use Rattle.loop_ir.specs.Plain.StepOf.{Single, Along, Nest, Pairs}
 use Rattle.loop_ir.specs.Spots.{nth_place}
 use Rattle.uprog_gen.specs.Code.{Part, IsPlanned, inits, befores, enter_code, turn_code, body_uops}
 use Rattle.uprog_gen.specs.Code.{once_code, loop_code, inner_code, inner_list, nest_code, outside}
-use Rattle.uprog_gen.specs.Code.{pairs_code, step_code, program_code, round_command}
-use Rattle.uprog_gen.specs.Code.{rounds_commands}
+use Rattle.uprog_gen.specs.Code.{pairs_code, step_code, program_code}
+use Rattle.uprog_gen.proofs.Rows.Issued.{round_command}
+use Rattle.uprog_gen.proofs.Rows.Issued.{rounds_commands}
 use Rattle.loop_ir.specs.Costs.{is_fixed, same_sub}
 use Rattle.uprog_gen.proofs.Running.Runs.{Runs, run_then, run_none, run_weaken, run_at, run_set}
 use Rattle.uprog_gen.proofs.Running.Runs.{run_parts, run_sub}

@@ -1,0 +1,191 @@
+-- Bodies with states are of the table, and their sequences serve them.
+use Rattle.std.proofs.Common.{◌≡◌, ◌≢◌, ℕ, zero, suc, ◌+◌, ◌<◌, ◌≤◌, Bool, true, false, cond, not}
+use Rattle.std.proofs.Common.{List, [], ◌∷◌, map, length, refl, sym, ap, ◌∙◌, subst, arith}
+use Rattle.std.proofs.Common.{Option, Some, None}
+use Rattle.std.specs.Prelude.{◌==◌, ◌&&◌}
+use Rattle.std.proofs.lemmas.Bool.{and_parts, eqb-true}
+use Rattle.mig_graph.specs.declared.Lit.{Lit}
+use Rattle.mig_graph.specs.Outputs.{lit_at}
+use Rattle.row_alloc.specs.declared.body.OutRow.{OutRow}
+use Rattle.row_alloc.specs.declared.body.Held.{Held}
+use Rattle.row_alloc.specs.Rows.{out_at}
+use Rattle.row_alloc.specs.Body.{WritesLate}
+use Rattle.row_alloc.specs.Held.{have_layouts}
+use Rattle.row_alloc.specs.HeldBodies.{HeldBody, ZeroInT0, HeldNegatedIf, held_graph}
+use Rattle.row_alloc.specs.HeldBodies.{held_inputs, held_nodes, held_outs, enter_in, leave_in}
+use Rattle.row_alloc.specs.HeldBodies.{held_at, held_sequence_for}
+use Rattle.row_alloc.proofs.HeldLate.{KeepsHeld, held_late}
+use Rattle.loop_ir.specs.declared.ir.Place.{Place}
+use Rattle.loop_ir.specs.Plain.{Block}
+use Rattle.loop_ir.specs.Spots.{nth_place, is_state}
+use Rattle.loop_ir.specs.Same.{same_lit, same_lits, same_nodes}
+use Rattle.loop_ir.specs.States.{has_states, row_count, RowsFirst, StatesFit, enters, leaves}
+use Rattle.loop_ir.specs.States.{row_outs, same_held, same_helds, is_held_body, held_among, held_of}
+use Rattle.loop_ir.specs.States.{held_bodies}
+use Rattle.loop_ir.specs.Costs.{same_sub, turn_cost, held_cost}
+use Rattle.loop_ir.specs.Limits.{IsSmall, is_served}
+use Rattle.uprog_gen.specs.Parts.{IsOuts}
+use Rattle.uprog_gen.proofs.Bodies.Fixed.{lits-eq, all-lits, all-nodes, graph-made}
+use Rattle.uprog_gen.proofs.Bodies.Planned.{same_self}
+use Rattle.uprog_gen.proofs.Rows.Settled.{some_out}
+
+helds-eq : (x y : Held) → same_held x y ≡ true → x ≡ y
+helds-eq x y h =
+    let p = and_parts (same_lit x.lit y.lit) (x.layout == y.layout) h in
+    rw (lits-eq x.lit y.lit p.0, eqb-true x.layout y.layout p.1) refl
+
+all-helds : (xs ys : List Held) → same_helds xs ys ≡ true → xs ≡ ys
+all-helds [] [] h = refl
+all-helds [] (y ∷ ys) h = absurd cc
+all-helds (x ∷ xs) [] h = absurd cc
+all-helds (x ∷ xs) (y ∷ ys) h =
+    let p = and_parts (same_held x y) (same_helds xs ys) h in
+    ap (λ z. z ∷ xs) (helds-eq x y p.0) ∙ ap (λ zs. y ∷ zs) (all-helds xs ys p.1)
+
+-- the body is this one of the table
+pub record IsHeldBody (h : HeldBody) (b : Block) : Type 0 where
+  pub graph : b.graph ≡ held_graph h
+  pub outs : row_outs b.writes b.outs ≡ held_outs h
+  pub enter : enters 0 b.reads ≡ enter_in h
+  pub leave : leaves b.writes b.outs ≡ leave_in h
+
+held_body_is : (h : HeldBody) (b : Block) → is_held_body h b ≡ true → IsHeldBody h b
+held_body_is h b e =
+    let n = same_nodes b.graph.nodes (held_nodes h) in
+    let o = same_lits (row_outs b.writes b.outs) (held_outs h) in
+    let i = same_helds (enters 0 b.reads) (enter_in h) in
+    let l = same_helds (leaves b.writes b.outs) (leave_in h) in
+    let p = and_parts (b.graph.inputs == held_inputs h) (n && (o && (i && l))) e in
+    let q = and_parts n (o && (i && l)) p.1 in
+    let r = and_parts o (i && l) q.1 in
+    let s = and_parts i l r.1 in
+    record {
+      graph = graph-made b.graph (held_inputs h) (held_nodes h)
+          (eqb-true b.graph.inputs (held_inputs h) p.0)
+          (all-nodes b.graph.nodes (held_nodes h) q.0);
+      outs = all-lits (row_outs b.writes b.outs) (held_outs h) r.0;
+      enter = all-helds (enters 0 b.reads) (enter_in h) s.0;
+      leave = all-helds (leaves b.writes b.outs) (leave_in h) s.1;
+    }
+
+-- the body that is found is the body
+found_held : (hs : List HeldBody) (b : Block) (h : HeldBody) → held_among hs b ≡ Some h
+    → is_held_body h b ≡ true
+found_held [] b h e = absurd cc
+found_held (v ∷ hs) b h e = by (is_held_body v b) refl e (found_held hs b h)
+  where
+    by : (c : Bool) → is_held_body v b ≡ c → cond c (Some v) (held_among hs b) ≡ Some h
+        → (held_among hs b ≡ Some h → is_held_body h b ≡ true) → is_held_body h b ≡ true
+    by true t f more = let s : v ≡ h = cc in subst (λ x. is_held_body x b ≡ true) s t
+    by false t f more = more f
+
+-- the layouts of the table are of the list
+pub layouts_listed : (h : HeldBody) → (have_layouts (enter_in h) ≡ true)
+    × (have_layouts (leave_in h) ≡ true)
+layouts_listed ZeroInT0 = (refl, refl)
+layouts_listed h = (refl, refl)
+
+-- the writes that are states have no output in a row
+all_states : (ps : List Place) (ls : List Lit) → length ls ≡ length ps → ((k : ℕ) → k < length ps
+    → is_state (nth_place ps k).space ≡ true) → row_outs ps ls ≡ []
+all_states [] [] n h = refl
+all_states [] (l ∷ ls) n h = absurd (omega (arith, n))
+all_states (p ∷ ps) [] n h = refl
+all_states (p ∷ ps) (l ∷ ls) n h =
+    ap (λ c. cond c (row_outs ps ls) (l ∷ row_outs ps ls)) (h 0 (omega arith))
+    ∙ all_states ps ls (omega (arith, n)) (λ k lt. h (suc k) (omega arith))
+
+-- the literals of the outputs in rows, in order
+pub row_lits : (ps : List Place) (ls : List Lit) (outs : List OutRow) → length ls ≡ length ps
+    → RowsFirst ps → length outs ≡ row_count ps
+    → ((j : ℕ) → j < length outs → (out_at outs j).lit ≡ lit_at ls j)
+    → map (λ o. o.lit) outs ≡ row_outs ps ls
+row_lits [] [] [] n first m h = refl
+row_lits [] [] (o ∷ outs) n first m h = absurd (omega (arith, m))
+row_lits [] (l ∷ ls) outs n first m h = absurd (omega (arith, n))
+row_lits (p ∷ ps) [] outs n first m h = absurd (omega (arith, n))
+row_lits (p ∷ ps) (l ∷ ls) outs n first m h = by (is_state p.space) refl outs m h (λ r os.
+    row_lits ps ls os (omega (arith, n)) r)
+  where
+    rest : is_state p.space ≡ false → RowsFirst ps
+    rest e = let c : row_count (p ∷ ps) ≡ suc (row_count ps) =
+        ap (λ c. cond c 0 (suc (row_count ps))) e in record {
+          row = λ k lt. first.row (suc k) (omega (arith, lt, c));
+          state = λ k le lt. first.state (suc k) (omega (arith, le, c)) (omega (arith, lt));
+        }
+
+    by : (c : Bool) → is_state p.space ≡ c → (os : List OutRow)
+        → length os ≡ cond c 0 (suc (row_count ps))
+        → ((j : ℕ) → j < length os → (out_at os j).lit ≡ lit_at (l ∷ ls) j)
+        → (RowsFirst ps → (os : List OutRow) → length os ≡ row_count ps
+        → ((j : ℕ) → j < length os → (out_at os j).lit ≡ lit_at ls j)
+        → map (λ o. o.lit) os ≡ row_outs ps ls)
+        → map (λ o. o.lit) os ≡ cond c (row_outs ps ls) (l ∷ row_outs ps ls)
+    by true e [] m h more = let c : row_count (p ∷ ps) ≡ 0 =
+        ap (λ c. cond c 0 (suc (row_count ps))) e in
+        sym (all_states ps ls (omega (arith, n)) (λ k lt. first.state (suc k)
+        (omega (arith, c)) (omega (arith, lt))))
+    by true e (o ∷ os) m h more = absurd (omega (arith, m))
+    by false e [] m h more = absurd (omega (arith, m))
+    by false e (o ∷ os) m h more =
+        ap (λ x. x ∷ map (λ (o : OutRow). o.lit) os) (h 0 (omega arith))
+        ∙ ap (λ xs. l ∷ xs) (more (rest e) os (omega (arith, m))
+        (λ j lt. h (suc j) (omega (arith, lt))))
+
+pub not_same : (c : Bool) → not c ≡ true → c ≡ true → ⊥
+not_same true h e = cc
+not_same false h e = cc
+
+-- its sequence keeps what it has still to read
+kept_held : (b : Block) (m : ℕ) (outs : List OutRow) (h : HeldBody) → IsOuts b m outs
+    → is_served (Some h) b ≡ true → KeepsHeld h outs
+kept_held b m outs HeldNegatedIf is s = λ e.
+    let f = (is.found 0 1 (some_out outs 0 1 e) e).1 in
+    not_same (same_sub (nth_place b.reads 1).sub (nth_place b.writes 0).sub) s
+    (ap (λ (p : Place). same_sub p.sub (nth_place b.writes 0).sub) f
+    ∙ same_self (nth_place b.writes 0).sub)
+kept_held b m outs h is s = tt
+
+-- what is known of a body with states
+pub record IsServed (b : Block) (outs : List OutRow) : Type 0 where
+  pub body : HeldBody
+  pub is : held_of b ≡ Some body
+  pub same : IsHeldBody body b
+  pub lits : map (λ o. o.lit) outs ≡ held_outs body
+  pub late : WritesLate outs (held_at (held_sequence_for body))
+
+pub served : (b : Block) (outs : List OutRow) → IsSmall b → has_states b ≡ true
+    → IsOuts b (row_count b.writes) outs → IsServed b outs
+served b outs small states is = by (held_of b) refl (small.known states)
+  where
+    by : (o : Option HeldBody) → held_of b ≡ o → is_served o b ≡ true → IsServed b outs
+    by None e s = absurd (cc)
+    by (Some h) e s =
+        let same = held_body_is h b (found_held held_bodies b h e) in
+        record {
+          body = h;
+          is = e;
+          same = same;
+          lits = row_lits b.writes b.outs outs small.states.written small.states.first is.size
+              is.lits ∙ same.outs;
+          late = held_late h outs (kept_held b (row_count b.writes) outs h is s);
+        }
+
+-- the layouts of its states are of the list
+pub entering_listed : (b : Block) (h : HeldBody) (hs : List Held) → IsHeldBody h b
+    → hs ≡ enters 0 b.reads → have_layouts hs ≡ true
+entering_listed b h hs is e = ap have_layouts (e ∙ is.enter) ∙ (layouts_listed h).0
+
+pub leaving_listed : (b : Block) (h : HeldBody) (hs : List Held) → IsHeldBody h b
+    → hs ≡ leaves b.writes b.outs → have_layouts hs ≡ true
+leaving_listed b h hs is e = ap have_layouts (e ∙ is.leave) ∙ (layouts_listed h).1
+
+at_true : (c : Bool) (x y k : ℕ) → c ≡ true → k ≤ x → k ≤ cond c x y
+at_true true x y k h l = l
+at_true false x y k h l = absurd (cc)
+
+-- its sequence has the length that is counted for a round
+pub held_few : (b : Block) (h : HeldBody) (k : ℕ) → has_states b ≡ true → held_of b ≡ Some h
+    → k ≡ length (held_at (held_sequence_for h)) → k ≤ turn_cost b
+held_few b h k states e n = at_true (has_states b) (held_cost (held_of b)) _ k states
+    (omega (arith, n, ap held_cost e))

@@ -1,0 +1,39 @@
+-- The commands of rounds, as commands of the trace.
+use Rattle.std.specs.Prelude.{ℕ, List, [], ◌∷◌, ◌++◌, map}
+use Rattle.uprog_code.specs.declared.code.RowSpace.TheVariants as row
+use Rattle.uprog_code.specs.declared.code.RowRef.{RowRef}
+use Rattle.uprog_code.specs.Machine.{Issue, IssueAap, IssueAp, position}
+use Rattle.row_alloc.specs.declared.body.BodyRef.{BodyRef}
+use Rattle.row_alloc.specs.declared.body.BodyRef.TheVariants as ref
+use Rattle.row_alloc.specs.declared.body.BodyCmd.{BodyCmd}
+use Rattle.row_alloc.specs.declared.body.BodyCmd.TheVariants as cmd
+use Rattle.loop_ir.specs.declared.ir.Place.{Place}
+use Rattle.loop_ir.specs.Loops.{RoundOf, sub_value}
+use Rattle.loop_ir.specs.Spots.{nth_place}
+use Rattle.uprog_gen.specs.Code.{Part, row_space}
+
+-- a place's row, in a command of the trace
+abbrev pub place_row : ℕ → ℕ → ℕ → Place → RowRef
+place_row n i o p = record {
+  space = row_space p.space;
+  which = p.which;
+  index = position (row_space p.space) (sub_value n i o p.sub);
+}
+
+-- a body's row in a round, in a command of the trace
+abbrev pub round_ref : ℕ → RoundOf Part → BodyRef → RowRef
+round_ref n r (ref.B k) = record { space = row.B; which = k; index = 0 }
+round_ref n r (ref.C k) = record { space = row.C; which = k; index = 0 }
+round_ref n r (ref.In k) = place_row n r.i r.o (nth_place r.part.block.reads k)
+round_ref n r (ref.Out k) = place_row n r.i r.o (nth_place r.part.block.writes k)
+round_ref n r (ref.Spill k) = record { space = row.Spill; which = k; index = 0 }
+
+-- a body's command in a round, as a command of the trace
+abbrev pub round_command : ℕ → RoundOf Part → BodyCmd → Issue
+round_command n r (cmd.Aap x y) = IssueAap (round_ref n r x) (round_ref n r y)
+round_command n r (cmd.Ap x) = IssueAp (round_ref n r x)
+
+-- all commands of the rounds
+abbrev pub rounds_commands : ℕ → List (RoundOf Part) → List Issue
+rounds_commands n [] = []
+rounds_commands n (r ∷ rs) = map (round_command n r) r.part.cmds ++ rounds_commands n rs
