@@ -1,15 +1,13 @@
 -- The words of internal scratch lie apart from a statement's names, and from its other rooms.
-use Rattle.std.proofs.Common.{◌≡◌, ◌⊎◌, inl, inr, ℕ, zero, suc, ◌+◌, ◌*◌, ◌<◌, ◌≤◌, true, false}
-use Rattle.std.proofs.Common.{List, [], ◌∷◌, ◌++◌, length, refl, sym, ap, ◌∙◌, subst, ⊎_elim, arith}
+use Rattle.std.proofs.Common.{◌≡◌, ◌⊎◌, inl, inr, ℕ, zero, suc, ◌+◌, ◌*◌, ◌<◌, ◌≤◌, true, List, []}
+use Rattle.std.proofs.Common.{◌∷◌, ◌++◌, length, refl, sym, ap, ◌∙◌, subst, ⊎_elim, arith}
 use Rattle.op_text.specs.declared.tree.Kind.{Kind}
 use Rattle.op_text.specs.declared.tree.Kind.TheVariants.{Word, Bit}
 use Rattle.op_text.specs.Meaning.{width}
-use Rattle.loop_ir.specs.declared.ir.Space.TheVariants.{Result, Source, ScratchBit, ScratchWord}
-use Rattle.loop_ir.specs.declared.ir.Space.TheVariants.{Cells}
+use Rattle.loop_ir.specs.declared.ir.Space.TheVariants.{ScratchBit, ScratchWord}
 use Rattle.loop_ir.specs.declared.names.Slot.{Slot}
-use Rattle.loop_ir.specs.Spots.{Spot, spot_in, IsOwn, is_state}
+use Rattle.loop_ir.specs.Spots.{Spot, spot_in, IsOwn}
 use Rattle.loop_ir.specs.Statements.{holds_kind}
-use Rattle.loop_ir.specs.declared.ir.Space.{Space}
 use Rattle.loop_laws.specs.Rooms.{Room, room_at, row_in, extent, RoomsApart, IsOwned}
 use Rattle.loop_laws.proofs.Placed.{space_other}
 use Rattle.word_lower.specs.Places.{room_of, rooms_of, scratch_bit, scratch_from}
@@ -18,7 +16,6 @@ use Rattle.word_lower.proofs.Pieces.{slot_at, RoomView, is_target, is_arg, is_sc
 use Rattle.word_lower.proofs.Pieces.{extent_is}
 use Rattle.word_lower.proofs.Statements.{space_is, length_scratch, scratch_at}
 use Rattle.word_mul.specs.Places.{scratch_word}
-use Rattle.word_mul.proofs.Setting.{HasRows}
 
 times : (a b n : ℕ) → a ≤ b → a * n ≤ b * n
 times a b n h = grind arith
@@ -49,18 +46,8 @@ word_clear n s free words holds h = record {
       far n s.which free words u v (omega (arith, lu, w)) lv (h f) (ap (λ (q : Spot). q.index) g));
 }
 
--- what has a value of a kind has rows
-pub kind_rows : (s : Space) (k : Kind) → holds_kind s k ≡ true → is_state s ≡ false
-kind_rows Result k e = refl
-kind_rows Source k e = refl
-kind_rows ScratchBit k e = refl
-kind_rows ScratchWord k e = refl
-kind_rows Cells k e = cc
-
--- a target and arguments have rows, and lie apart from the words
+-- a target and arguments lie apart from the words
 pub record WordsClear (n : ℕ) (t : Slot) (args : List Slot) (free words : ℕ) : Type 0 where
-  pub target_rows : HasRows t
-  pub given_rows : (i : ℕ) → i < length args → HasRows (slot_at args i)
   pub target : SlotsApart n t (width n t.kind) (scratch_word free) (n * words)
   pub given : (i : ℕ) → i < length args → SlotsApart n (slot_at args i)
       (width n (slot_at args i).kind) (scratch_word free) (n * words)

@@ -14,19 +14,20 @@ use Rattle.loop_ir.specs.Spots.{Spot, Spots, set_spot, spot_at, nth_place, is_st
 use Rattle.loop_laws.specs.Rooms.{Marked, placed_body}
 use Rattle.loop_laws.specs.Turns.{Origin, Standing, Carried, IsLoop, turn, after_many}
 use Rattle.loop_laws.proofs.Same.{set_same, set_other}
-use Rattle.loop_laws.proofs.Loop.{loop_turns, loop_word, loop_state}
+use Rattle.loop_laws.proofs.Loop.{loop_turns, loop_word}
 use Rattle.loop_laws.proofs.Steps.{after_parts}
 use Rattle.loop_laws.proofs.Placed.{loop_of, space_other}
 use Rattle.word_lower.specs.Places.{scratch_bit}
-use Rattle.word_lower.proofs.Marks.{second, third}
+use Rattle.word_lower.proofs.Marks.{second, third, state}
 use Rattle.word_lower.proofs.Setting.{bit, number, row, number_at}
+use Rattle.word_lower.proofs.Passes.{held_loop}
 use Rattle.word_lower.proofs.Sums.{value_same, value_below, compare, less_two}
-use Rattle.word_lower.specs.Programs.{compared}
+use Rattle.word_lower.specs.Programs.{plain, compared}
 use Rattle.word_mul.specs.Programs.{divided, parts_of}
 use Rattle.word_mul.specs.declared.table.TheConstants.{DIVISION}
 use Rattle.word_mul.specs.declared.rows.Rows.{Rows}
 use Rattle.word_mul.specs.Places.{rooms_for, scratch_word}
-use Rattle.word_mul.proofs.Setting.{fifth, held, cell, row_stands, cell_other, row_other, IsFree}
+use Rattle.word_mul.proofs.Setting.{fifth, cell, row_stands, cell_other, row_other, IsFree}
 use Rattle.word_mul.proofs.Setting.{AreRows}
 use Rattle.word_mul.proofs.Product.{value_gated}
 
@@ -72,11 +73,11 @@ module _ (n : ℕ) (m : Rows) (are : AreRows n 2 2 m) where
 
   abbrev compare_body : Block
   compare_body = placed_body (rooms_for op.Div m)
-      (compared (fifth sub.DownSum) (second sub.Inner) (held 0) (third sub.Zero))
+      (compared (fifth sub.DownSum) (second sub.Inner) (state 0) (third sub.Zero))
 
   abbrev divide_body : Block
   divide_body = placed_body (rooms_for op.Div m)
-      (divided (fifth sub.DownSum) (second sub.Inner) (third sub.Zero) (held 4))
+      (divided (fifth sub.DownSum) (second sub.Inner) (third sub.Zero) (state 4))
 
   abbrev pub core : List (InnerOf Block)
   core = map (inner_map (placed_body (rooms_for op.Div m))) division
@@ -144,14 +145,15 @@ module _ (n : ℕ) (m : Rows) (are : AreRows n 2 2 m) where
         ),
       )
 
-  xs : List Origin
-  xs = Standing ∷ (Standing ∷ (Carried 1 ∷ []))
-
-  compares_in : (o : ℕ) → o < n → IsLoop n o n compare_body xs
-  unfolding xs
-  compares_in o lo =
-      loop_of n o n compare_body xs refl (tt, (tt, tt))
-      (((λ i j li lj e. g_cell 0 e), tt), (tt, tt)) (
+  pub step : (o : ℕ) (old : Spots) → o < n → Stepped (n - 1 - o) old (after_parts n o core old)
+  unfolding zs values_from majority
+  step o old lo =
+      let s1 = set_spot old hp true in
+      let xs : List Origin = Standing ∷ (Standing ∷ (Carried 1 ∷ [])) in
+      let s2 = after_many n o compare_body n s1 in
+      let l = held_loop n o (omega (arith, lo)) (scratch_bit m.free_bit) tt 0
+      (record { by = λ u v lu lv e. g_cell 0 (sym e) }) compare_body.reads
+      compare_body.graph.inputs compare_body.graph.nodes (plain 4) xs s1 (
         (
           (λ i j li lj e. w_bit (n - 1 - o + i) m.free_bit e),
           ((λ i j li lj e. w_cell (n - 1 - o + i) 0 e), tt),
@@ -163,43 +165,7 @@ module _ (n : ℕ) (m : Rows) (are : AreRows n 2 2 m) where
           ),
           ((omega arith, λ i j li lj. refl), tt),
         ),
-      )
-
-  -- the row gets what the state is
-  both_same : (o : ℕ) (bits : Spots) (k : ℕ) → 0 < k
-      → turn n o compare_body xs bits k 0 ≡ turn n o compare_body xs bits k 1
-  both_same o bits zero lt = absurd (omega arith)
-  both_same o bits (suc k) lt = refl
-
-  -- what the comparison leaves
-  record Compares (o : ℕ) (old new : Spots) : Type 0 where
-    at_g : new gp ≡ turn n o compare_body xs (set_spot old hp true) n 1
-    rest : (q : Spot) → is_state q.space ≡ false → (q ≡ gp → ⊥) → new q ≡ old q
-
-  comparison : (o : ℕ) (old : Spots) → o < n
-      → Compares o old (after_many n o compare_body n (set_spot old hp true))
-  comparison o old lo =
-      let s1 = set_spot old hp true in
-      let is = compares_in o lo in
-      record {
-        at_g = loop_state n o n compare_body xs is s1 0 (omega arith) (λ i j. refl)
-            ∙ both_same o s1 n (omega (arith, lo));
-        rest = λ q rows ng. (loop_turns n o n compare_body xs is s1).rest q (λ j k lj lk e.
-            none q rows ng j k lk e) ∙ set_other old hp true q (cell_other n q 0 rows);
-      }
-    where
-      none : (q : Spot) → is_state q.space ≡ false → (q ≡ gp → ⊥) → (j k : ℕ) → k < 2
-          → q ≡ spot_at n j o (nth_place compare_body.writes k) → ⊥
-      none q rows ng j zero lk e = ng e
-      none q rows ng j (suc zero) lk e = cell_other n q 0 rows e
-      none q rows ng j (suc (suc k)) lk e = absurd (omega arith)
-
-  pub step : (o : ℕ) (old : Spots) → o < n → Stepped (n - 1 - o) old (after_parts n o core old)
-  unfolding xs zs values_from majority
-  step o old lo =
-      let s1 = set_spot old hp true in
-      let s2 = after_many n o compare_body n s1 in
-      let l = comparison o old lo in
+      ) in
       let top = s2 (row n w (2 * n - 1 - o)) in
       let v = majority true top (s2 gp) in
       let s3 = set_spot s2 gp v in
@@ -207,8 +173,10 @@ module _ (n : ℕ) (m : Rows) (are : AreRows n 2 2 m) where
       let new = after_many n o divide_body n s4 in
       let is = is_loop o lo in
       let t = loop_turns n o n divide_body zs is s4 in
+      let at2 = λ (q : Spot) (rows : is_state q.space ≡ false) (ng : q ≡ gp → ⊥).
+      l.rest q ng (cell_other n q 0 rows) ∙ set_other old hp true q (cell_other n q 0 rows) in
       let at4 = λ (q : Spot) (rows : is_state q.space ≡ false) (ng : q ≡ gp → ⊥).
-      set_other s3 cp false q (cell_other n q 4 rows) ∙ set_other s2 gp v q ng ∙ l.rest q rows ng in
+      set_other s3 cp false q (cell_other n q 4 rows) ∙ set_other s2 gp v q ng ∙ at2 q rows ng in
       let g4 : s4 gp ≡ v = set_other s3 cp false gp (g_cell 4) ∙ set_same s2 gp v gp refl in
       let x1 = λ (i : ℕ). s1 (row n w (n - 1 - o + i)) in
       let b1 = λ (i : ℕ). s1 (row n m.b i) in
@@ -220,14 +188,14 @@ module _ (n : ℕ) (m : Rows) (are : AreRows n 2 2 m) where
       (λ i li. set_other old hp true (row n w (n - 1 - o + i)) (λ e.
       w_cell (n - 1 - o + i) 0 e)) in
       let e1 : s2 gp ≡ nat_lt (number b1 n) (number x1 n + bit (s1 hp)) =
-      l.at_g ∙ compare x1 b1 (λ i. turn n o compare_body xs s1 i 1) n (λ i lt. refl) in
+      l.state ∙ compare x1 b1 (λ i. turn n o compare_body xs s1 i 1) n (λ i lt. refl) in
       let e2 : s2 gp ≡ nat_lt (number_at n old m.b n) (number x n + 1) =
       e1 ∙ ap (λ z. nat_lt (number b1 n) (number x1 n + bit z)) (set_same old hp true hp refl)
       ∙ ap (λ z. nat_lt z (number x1 n + 1)) vb
       ∙ ap (λ z. nat_lt (number_at n old m.b n) (z + 1)) vx in
       let high : 2 * n - 1 - o ≡ n - 1 - o + n = omega arith in
       let top_old : top ≡ x n = ap (λ k. s2 (row n w k)) high
-      ∙ l.rest (row n w (n - 1 - o + n)) refl (λ e. w_bit (n - 1 - o + n) m.free_bit e) in
+      ∙ at2 (row n w (n - 1 - o + n)) refl (λ e. w_bit (n - 1 - o + n) m.free_bit e) in
       let all : v ≡ nat_lt (number_at n old m.b n) (number x (suc n) + 1) =
       ap (majority true top) e2
       ∙ ap (λ z. majority true z (nat_lt (number_at n old m.b n) (number x n + 1))) top_old

@@ -21,7 +21,7 @@ use Rattle.loop_laws.proofs.Steps.{steps_each, steps_nest, after_parts, after_ou
 use Rattle.loop_laws.proofs.Placed.{loop_of}
 use Rattle.word_lower.specs.Places.{scratch_bit}
 use Rattle.word_lower.specs.Programs.{off, constant, inverted}
-use Rattle.word_lower.proofs.Marks.{target, first, second, third}
+use Rattle.word_lower.proofs.Marks.{target, first, second, third, state}
 use Rattle.word_lower.proofs.Setting.{bit, number, row, number_at, SlotsApart}
 use Rattle.word_lower.proofs.Passes.{word_loop, upwards}
 use Rattle.word_lower.proofs.Sums.{value_same, value_below, value_false, sum_two, carry_sum}
@@ -30,7 +30,7 @@ use Rattle.word_lower.proofs.Lists.{ones_of_none, ones_of_more}
 use Rattle.word_mul.specs.Programs.{multiplied, counted}
 use Rattle.word_mul.specs.declared.rows.Rows.{Rows}
 use Rattle.word_mul.specs.Places.{rooms_for}
-use Rattle.word_mul.proofs.Setting.{held, cell, HasRows, row_stands, cell_other, row_other, IsFree}
+use Rattle.word_mul.proofs.Setting.{cell, HasRows, row_stands, cell_other, row_other, IsFree}
 use Rattle.word_mul.proofs.Setting.{AreRows, IsElsewhere, Gives, DoesNested, bit_free, bit_else}
 use Rattle.word_mul.proofs.Product.{value_split, value_kept, product_step, below_pow, few_ones}
 
@@ -73,11 +73,11 @@ module _ (n : ℕ) (m : Rows) (are : AreRows n 1 0 m) (bits : Spots) where
 
   abbrev body : Block
   body = placed_body (rooms_for op.Mul m) (multiplied (target sub.Sum) (first sub.Inner)
-      (third sub.Zero) (held 5))
+      (third sub.Zero) (state 5))
 
   abbrev parts : List (InnerOf Block)
   parts = Alone (placed_body (rooms_for op.Mul m) (inverted (second sub.Outer) (third sub.Zero)))
-      ∷ (Alone (placed_body (rooms_for op.Mul m) (constant off (held 5))) ∷ (Across Rest body
+      ∷ (Alone (placed_body (rooms_for op.Mul m) (constant off (state 5))) ∷ (Across Rest body
       ∷ []))
 
   abbrev xs : List Origin

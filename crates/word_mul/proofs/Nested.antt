@@ -19,7 +19,8 @@ use Rattle.loop_laws.specs.Forms.{is_short}
 use Rattle.word_lower.specs.Places.{scratch_bit, scratch_from, rooms_of}
 use Rattle.word_lower.proofs.Setting.{row, number_at, SlotsApart}
 use Rattle.word_lower.proofs.Lists.{bits_of_number, value_of_list}
-use Rattle.word_lower.proofs.Pieces.{slot, slot_at, AreApart, Pieces, moves_in, rooms_apart}
+use Rattle.word_lower.proofs.Pieces.{slot, slot_at, AreApart, Pieces, kind_row, moves_in}
+use Rattle.word_lower.proofs.Pieces.{rooms_apart}
 use Rattle.word_lower.proofs.Lowering.{slots_width}
 use Rattle.word_lower.proofs.Statements.{length_scratch, scratch_at}
 use Rattle.word_mul.specs.declared.rows.Rows.{Rows}
@@ -110,6 +111,8 @@ module _ (n : ℕ) (t a : Slot) (scratch : List Slot) where
     holds = are.holds;
     given = λ i li. subst (λ s. AreApart n s t) (sym (twice_given i li))
         (are.given 0 (omega arith));
+    rows = λ i li. subst (λ (s : Slot). is_state s.space ≡ false) (sym (twice_given i li))
+        (are.rows 0 (omega arith));
     owned = are.owned;
     free = are.free;
     others = λ i j li lj. subst (λ s. AreApart n s (slot_at scratch j)) (sym (twice_given i li))
@@ -173,9 +176,9 @@ module _ (x0 : Space) (y0 : ℕ) (x1 : Space) (y1 : ℕ) (x2 : Space) (y2 : ℕ)
       moves = record { by = moves_in n x0 y0 Word are.holds };
       a = are.given 0 (omega arith);
       b = are.given 1 (omega arith);
-      target_rows = clear.target_rows;
-      a_rows = clear.given_rows 0 (omega arith);
-      b_rows = clear.given_rows 1 (omega arith);
+      target_rows = kind_row x0 Word are.holds;
+      a_rows = are.rows 0 (omega arith);
+      b_rows = are.rows 1 (omega arith);
       bit = λ j lj. bit_is_free n t (unwrap_or second t) a b (a ∷ b ∷ []) free_bit free_word
           bits_free j refl refl refl 0
           1
@@ -194,9 +197,9 @@ module _ (x0 : Space) (y0 : ℕ) (x1 : Space) (y1 : ℕ) (x2 : Space) (y2 : ℕ)
       moves = record { by = moves_in n x0 y0 Word are.holds };
       a = are.given 0 (omega arith);
       b = are.given 0 (omega arith);
-      target_rows = clear.target_rows;
-      a_rows = clear.given_rows 0 (omega arith);
-      b_rows = clear.given_rows 0 (omega arith);
+      target_rows = kind_row x0 Word are.holds;
+      a_rows = are.rows 0 (omega arith);
+      b_rows = are.rows 0 (omega arith);
       bit = λ j lj. bit_is_free n t t a a (a ∷ []) free_bit free_word bits_free j refl refl refl 0 0
           (omega arith) (omega arith) refl refl lj are;
       word = record {

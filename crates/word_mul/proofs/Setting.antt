@@ -4,11 +4,10 @@ use Rattle.op_text.specs.declared.word_ops.WordOp.{WordOp}
 use Rattle.op_text.specs.declared.word_ops.WordOp.TheVariants as o
 use Rattle.op_text.specs.Values.{of_one, of_two}
 use Rattle.loop_ir.specs.declared.ir.Sub.{Sub}
-use Rattle.loop_ir.specs.declared.ir.Sub.TheVariants as sub
 use Rattle.loop_ir.specs.declared.names.Slot.{Slot}
 use Rattle.loop_ir.specs.Loops.{all_rounds}
 use Rattle.loop_ir.specs.Spots.{Spot, Spots, after_rounds, IsOwn, is_state}
-use Rattle.loop_laws.specs.Rooms.{Mark, InCells}
+use Rattle.loop_laws.specs.Rooms.{Mark}
 use Rattle.word_lower.specs.Places.{scratch_bit, cells}
 use Rattle.word_lower.specs.Programs.{on}
 use Rattle.word_lower.proofs.Setting.{row, number_at, SlotsApart, Moves}
@@ -23,11 +22,7 @@ fifth s = on 5 s
 abbrev pub sixth : Sub → Mark
 sixth s = on 6 s
 
--- a state, by its layout
-abbrev pub held : ℕ → Mark
-held layout = record { owner = InCells layout; sub = sub.Zero }
-
--- where it stands
+-- where a state stands
 abbrev pub cell : ℕ → ℕ → Spot
 cell n layout = row n (cells layout) 0
 

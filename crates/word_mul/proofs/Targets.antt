@@ -164,7 +164,8 @@ module _ (slots : Slots) (free_bit free_word : ℕ) (target name : List ℕ) (ar
   owner_row n q (inl (inr o)) = inr (inr o)
   owner_row n q (inr o) = inl (name, u, o.0, among_other, near, o.1, o.2)
 
-  have_rows : HaveRows (rooms_for op.Divmod (rows_on t (Some u) ss free_bit free_word))
+  -- none of the rooms stands in cells
+  pub have_rows : HaveRows (rooms_for op.Divmod (rows_on t (Some u) ss free_bit free_word))
   have_rows = rooms_row row (rooms_for op.Divmod (rows_on t (Some u) ss free_bit free_word))
       (λ q o. owner_row 1 q (lowers.owned 1 q o))
       (statement_rows slots free_bit free_word (Compute target (Some name) op.Divmod args) placed 1)

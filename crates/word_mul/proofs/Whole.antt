@@ -40,7 +40,7 @@ use Rattle.word_lower.proofs.Statements.{statement_rows}
 use Rattle.word_mul.specs.Places.{rooms_for, steps_for, rows_on}
 use Rattle.word_mul.specs.Programs.{nested, is_nested, nested_total}
 use Rattle.word_mul.specs.Bodies.{StepsBuilt}
-use Rattle.word_mul.proofs.Clear.{WordsClear, word_clear, kind_rows}
+use Rattle.word_mul.proofs.Clear.{WordsClear, word_clear}
 use Rattle.word_mul.proofs.Totals.{states, total, cheap, plain}
 use Rattle.word_mul.proofs.Nested.{DoesOp, Lowers, on_mul, on_div, on_rem, on_bitcount}
 
@@ -115,16 +115,6 @@ module _ (slots : Slots) (free_bit free_word : ℕ) (target : List ℕ) (second 
     (found : slots target ≡ Some t) (ss : List Slot) (at : AreAt slots args ss) where
   pub clear : (n : ℕ) → WordsClear n t ss free_word (words_inside p)
   clear n = record {
-    target_rows = kind_rows t.space t.kind (holds slots free_bit free_word target second p args
-        meets placed t found ss at target t (among_target slots free_bit free_word target second p
-        args meets placed t found ss at) found);
-    given_rows = λ i lt.
-        (let h = at_place slots args ss i at lt in
-        let a = among_arg slots free_bit free_word target second p args meets placed t found ss
-        at i h.0 in
-        kind_rows (slot_at ss i).space (slot_at ss i).kind
-        (holds slots free_bit free_word target second p args meets placed t found ss at
-        (name_at args i) (slot_at ss i) a h.1));
     target =
         (let a = among_target slots free_bit free_word target second p args meets placed t
         found ss at in
@@ -210,7 +200,8 @@ module _ (slots : Slots) (free_bit free_word : ℕ) (target : List ℕ) (p : Wor
       q o
   owner_row n q (inr o) = inr (inr o)
 
-  have_rows : HaveRows (rooms_for p (rows_on t None ss free_bit free_word))
+  -- none of the rooms stands in cells
+  pub have_rows : HaveRows (rooms_for p (rows_on t None ss free_bit free_word))
   have_rows = rooms_row row (rooms_for p (rows_on t None ss free_bit free_word))
       (λ q o. owner_row 1 q (lowers.owned 1 q o))
       (statement_rows slots free_bit free_word (Compute target None p args) placed 1)

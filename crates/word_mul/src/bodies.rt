@@ -10,13 +10,14 @@ ghost use Rattle.word_mul.specs.Bodies.{marks, place_on, body_on};
 
 use crate::rows::cells;
 use crate::shapes::{BodyForm, Mark, Owner, Owners};
-use crate::templates::{COMPARED, COUNTED, DIVIDED, EITHER, MULTIPLIED};
+use crate::templates::{COUNTED, DIVIDED, MULTIPLIED};
 use faults::keep;
 use loop_ir::{Body, Place};
 use mig_graph::{Lit, NoMemory, Node};
 use std::alloc::Global;
 use word_lower::literals::{N1, N8, OFF, ON, P1, P3, P4, P5, P7, P8};
 use word_lower::made;
+use word_lower::templates::{COMPARED, EITHER};
 
 /// The place of a mark.
 fn place(mark: Mark, owners: Owners) -> Place

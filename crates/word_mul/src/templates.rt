@@ -3,18 +3,6 @@
 use mig_graph::Node;
 use word_lower::literals::{N1, N2, N4, N5, N6, OFF, ON, P1, P2, P3, P4, P5, P6, P7};
 
-pub const EITHER: [Node; 1] = [Node {
-    a: ON,
-    b: P1,
-    c: P2,
-}];
-
-pub const COMPARED: [Node; 1] = [Node {
-    a: P1,
-    b: N2,
-    c: P3,
-}];
-
 pub const MULTIPLIED: [Node; 4] = [
     Node {
         a: ON,
