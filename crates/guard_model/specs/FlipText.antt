@@ -22,7 +22,7 @@ abbrev pub is_next : ℕ → ℕ → Option ℕ → Bool
 is_next instrs before None = false
 is_next instrs before (Some k) = nat_le 1 k && (nat_le before k && nat_le k (instrs + 1))
 
--- four numbers
+-- the flip that four numbers say, or that one of them is out of its range
 abbrev pub flip_of : Geometry → ℕ → ℕ → Option ℕ → Option ℕ → Option ℕ → Option ℕ → Result
     (Option Flip) FlipsKind
 flip_of g instrs before k bank row column =
@@ -85,7 +85,7 @@ flips_from g instrs number (line ∷ lines) before = and_rest before number
 abbrev pub flips_of : Geometry → ℕ → List ℕ → Result (List Flip) FlipsFault
 flips_of g instrs text = flips_from g instrs 1 (lines_of text) 0
 
--- it names a cell of the chip, and comes before an instruction or after the last
+-- the flip names a cell of the chip, and comes before an instruction or after the last
 pub record IsFlip (g : Geometry) (instrs : ℕ) (f : Flip) : Type 0 where
   pub first : 1 ≤ f.before
   pub last : f.before ≤ instrs + 1
@@ -93,7 +93,7 @@ pub record IsFlip (g : Geometry) (instrs : ℕ) (f : Flip) : Type 0 where
   pub row : f.row < g.rows
   pub column : f.column < 64 * g.words
 
--- none comes before an earlier one, nor before instruction k
+-- no flip comes before an earlier one, nor before instruction k
 abbrev pub AreSorted : ℕ → List Flip → Type 0
 AreSorted k [] = Unit {0}
 AreSorted k (f ∷ flips) = (k ≤ f.before) × AreSorted f.before flips

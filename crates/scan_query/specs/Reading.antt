@@ -125,7 +125,7 @@ MovesTo front old (Ok x) following new = (wanted : List model.Wanted)
 MovesTo front old (Err e) following new = (wanted : List model.Wanted)
     → Fails (breach (front ++ wanted) old) e
 
--- the same where all of front is read
+-- all of front is read, or one of the tokens breaks a rule, which is the answer
 abbrev pub Moves : {A : Type 0} → List model.Wanted → ParserView → Result A ReadError → ParserView
     → Type 0
 Moves front old r new = MovesTo front old r (λ x. []) new

@@ -74,7 +74,7 @@ abbrev pub line_by : Machine → ℕ → Banks → Instruction → List ℕ
 line_by m number banks instr =
     line number (guarded_said_by (geometry_of m) (operations_by m) (table_in m) banks instr)
 
--- the plain script that it comes to
+-- the plain script that a guarded instruction comes to
 abbrev pub script_by : Machine → Instruction → List Instruction
 script_by m instr = plain_script (geometry_of m) (operations_by m) (table_in m) instr
 
@@ -86,12 +86,12 @@ pub record Ran (g : Geometry) (p : Program) (turn turn' : Turn) (table table' : 
   pub did : DidAndRead (events_of_pieces g (routines_in p) turn table (map piece_of script))
       (sum_done rows_printed g (routines_in p) table script) chip chip'
 
--- so it was on a machine
+-- these plain instructions were done on a machine, one after another
 abbrev pub RanBy : Machine → Machine → List Instruction → ChipView → ChipView → Type 0
 RanBy old new script chip chip' = Ran (geometry_of old) (program_of old) (turn_in old)
     (turn_in new) (table_in old) (table_in new) script chip chip'
 
--- one of them was done, and this is its reply
+-- a plain instruction of a program was done, and this is its reply
 pub record One (g : Geometry) (p : Program) (turn turn' : Turn) (table table' : List Named)
     (instr : Instruction) (reply : Reply) (chip chip' : ChipView) : Type 0 where
   pub ran : Ran g p turn turn' table table' (instr ∷ []) chip chip'
