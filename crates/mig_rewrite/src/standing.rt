@@ -1,6 +1,6 @@
 //! Other graphs in the place of a graph: what the search offers is taken where it is right.
 
-ghost use Rattle.std.specs.Prelude.{◌≡◌, ◌<◌, ◌≤◌, ◌+◌, ℕ, IfOk, IfSome, length, true};
+ghost use Rattle.std.specs.Prelude.{◌≡◌, ◌<◌, ◌≤◌, ◌+◌, ◌↔◌, ℕ, IsTrue, IfOk, IfSome, length};
 ghost use Rattle.mig_graph.specs.Graph.{Graph, size_of};
 ghost use Rattle.mig_graph.specs.Outputs.{lit_at, AreNamed, KeepsOutputs};
 ghost use Rattle.mig_graph.specs.Reduced.{IsReduced};
@@ -64,9 +64,9 @@ fn built(offer: &Sketch, alloc: Global) -> Result<MigOuts, NoMemory>
 fn may_stand(m: &MigOuts, r: &MigOuts, alloc: Global) -> Result<bool, NoMemory>
     requires named { AreNamed m.now.mig m.now.outs.items }
     requires named_others { AreNamed r.now.mig r.now.outs.items }
-    ensures { IfOk result (λ yes. yes ≡ true
-        → KeepsOutputs m.now.mig m.now.outs.items r.now.mig r.now.outs.items
-        × (length r.now.mig.nodes ≤ length m.now.mig.nodes)) }
+    ensures { IfOk result (λ yes. IsTrue yes ↔ ((m.now.mig.inputs ≤ 12)
+        × KeepsOutputs m.now.mig m.now.outs.items r.now.mig r.now.outs.items
+        × (length r.now.mig.nodes ≤ length m.now.mig.nodes))) }
 {
     if r.mig.size() > m.mig.size() {
         return Ok(false);
