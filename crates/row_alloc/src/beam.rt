@@ -38,6 +38,9 @@ pub const NARROW: Breadth = Breadth {
 /// A step of fewer states than this for each that goes on lets fewer go on.
 const FEW_STATES: usize = 30;
 
+/// Each step takes two commands or more, but for a few of the last ones.
+const LAST_STEPS: u32 = 3;
+
 /// A state of the beam, with its commands so far, its estimate and the step that led to it.
 #[derive(Clone, Copy)]
 struct Entry {
@@ -108,6 +111,19 @@ impl Bucket {
             }
         }
         self.safe
+    }
+
+    /// Whether no entry may come to so many commands or fewer. A guess: it stands on what bodies
+    /// took.
+    fn is_over(&self, most: usize) -> bool {
+        match self.best() {
+            Some(best) => {
+                let steps = best.state.left().saturating_sub(LAST_STEPS);
+                let least = best.spent.saturating_add(steps.saturating_mul(2));
+                least as usize > most
+            }
+            None => true,
+        }
     }
 
     /// The entry of the fewest commands.
@@ -406,17 +422,22 @@ fn push_back(cmds: &mut Vec<BodyCmd>, step: &Commands) -> Result<(), NoMemory> {
     Ok(())
 }
 
-/// Commands for the body, or none where the search finds none.
+/// Commands for the body, or none where the search finds none. It ends early where so many commands
+/// or fewer are not to be hoped for.
 pub fn beam_body(
     m: &Mig,
     outs: &[OutRow],
     breadth: Breadth,
+    most: usize,
     alloc: Global,
 ) -> Result<Vec<BodyCmd>, NoMemory> {
     let task = Task::new(m, outs, alloc)?;
     let mut beam = Beam::new(&task, breadth, alloc)?;
     let steps = task.start().left();
     for done in 0..steps {
+        if beam.now.is_over(most) {
+            return Ok(Vec::new(alloc));
+        }
         beam.step(&task, (steps - done) as usize, alloc)?;
     }
     match beam.now.best() {

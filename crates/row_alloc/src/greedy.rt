@@ -69,12 +69,14 @@ fn copied(cmds: &[BodyCmd], alloc: Global) -> Result<Vec<BodyCmd>, NoMemory>
     Ok(cmds.to_vec(alloc)?)
 }
 
-/// The commands of a beam, where they are right and no more than these.
+/// The commands of a beam, where they are right and no more than these. More than `most` are not
+/// looked for.
 fn shorter_of(
     m: &Mig,
     outs: &[OutRow],
     plain: Vec<BodyCmd>,
     breadth: Breadth,
+    most: usize,
     alloc: Global,
 ) -> Result<Vec<BodyCmd>, NoMemory>
     requires fit { FitBody m.now outs.now }
@@ -84,7 +86,8 @@ fn shorter_of(
     ensures late { IfOk result (λ cmds. WritesLate outs.now cmds.items) }
     ensures few { IfOk result (λ cmds. length cmds.items ≤ length plain.items) }
 {
-    let cmds = beam_body(m, outs, breadth, alloc)?;
+    let most = usize::min(most, plain.len());
+    let cmds = beam_body(m, outs, breadth, most, alloc)?;
     if cmds.len() <= plain.len() && serves(m, outs, &cmds) {
         Ok(cmds)
     } else {
@@ -106,19 +109,26 @@ fn shorter(
     ensures late { IfOk result (λ cmds. WritesLate outs.now cmds.items) }
     ensures few { IfOk result (λ cmds. length cmds.items ≤ length plain.items) }
 {
-    let few = shorter_of(m, outs, plain, NARROW, alloc)?;
-    shorter_of(m, outs, few, WIDE, alloc)
+    let few = shorter_of(m, outs, plain, NARROW, usize::MAX, alloc)?;
+    shorter_of(m, outs, few, WIDE, usize::MAX, alloc)
 }
 
-/// The commands of the greedy body, or more, in less time: the wide beam is left out.
-pub(crate) fn quick_body(m: &Mig, outs: &[OutRow], alloc: Global) -> Result<Vec<BodyCmd>, NoMemory>
+/// The commands of the greedy body, or more, in less time: one beam alone looks for them, and for no
+/// more than `most`.
+pub(crate) fn quick_body(
+    m: &Mig,
+    outs: &[OutRow],
+    breadth: Breadth,
+    most: usize,
+    alloc: Global,
+) -> Result<Vec<BodyCmd>, NoMemory>
     requires fit { FitBody m.now outs.now }
     ensures does { IfOk result (λ cmds. DoesBody m.now outs.now cmds.items) }
 {
     let plain = plain_body(m, outs, alloc)?;
     match first_known(m, outs) {
         Some(k) if sequence(k).len() <= plain.len() => copied(sequence(k), alloc),
-        _ => shorter_of(m, outs, plain, NARROW, alloc),
+        _ => shorter_of(m, outs, plain, breadth, most, alloc),
     }
 }
 
