@@ -35,6 +35,12 @@ pub const NARROW: Breadth = Breadth {
     most_states: 2_000,
 };
 
+/// Comes to the end of some bodies of the most nodes and outputs, for which both have too few.
+pub const DEEP: Breadth = Breadth {
+    width: 2,
+    most_states: 7_000,
+};
+
 /// A step of fewer states than this for each that goes on lets fewer go on.
 const FEW_STATES: usize = 30;
 
