@@ -12,7 +12,7 @@ ghost use Rattle.row_alloc.specs.declared.body.BodyCmd.TheVariants.{Aap};
 ghost use Rattle.row_alloc.specs.Known.{Serves, IsFirst, known, known_at, WordBody, graph_in};
 ghost use Rattle.row_alloc.specs.Known.{outs_in, sequence_for};
 
-use crate::beam::{Breadth, NARROW, WIDE, beam_body};
+use crate::beam::{Breadth, DEEP, NARROW, WIDE, beam_body};
 use crate::body::{BodyCmd, OutRow};
 use crate::check::check_body;
 use crate::known::KNOWN;
@@ -95,7 +95,8 @@ fn shorter_of(
     }
 }
 
-/// The commands of the beam that finds fewer, where they are right and no more than these.
+/// The commands of the beam that finds the fewest, where they are right and no more than these. The
+/// third is asked only where the others find none that are fewer.
 fn shorter(
     m: &Mig,
     outs: &[OutRow],
@@ -109,8 +110,13 @@ fn shorter(
     ensures late { IfOk result (λ cmds. WritesLate outs.now cmds.items) }
     ensures few { IfOk result (λ cmds. length cmds.items ≤ length plain.items) }
 {
+    let most = plain.len();
     let few = shorter_of(m, outs, plain, NARROW, usize::MAX, alloc)?;
-    shorter_of(m, outs, few, WIDE, usize::MAX, alloc)
+    let fewer = shorter_of(m, outs, few, WIDE, usize::MAX, alloc)?;
+    if fewer.len() < most {
+        return Ok(fewer);
+    }
+    shorter_of(m, outs, fewer, DEEP, usize::MAX, alloc)
 }
 
 /// The commands of the greedy body, or more, in less time: one beam alone looks for them, and for no
@@ -137,7 +143,7 @@ pub(crate) fn quick_body(
 ///
 /// A copy stays one. Else the first sequence of the table that the symbolic run finds right stands
 /// for the body. Where there is none, the commands that two beams find are tried, the fewer taken,
-/// and else the plain body stands.
+/// then those of a third, and else the plain body stands.
 ///
 /// The row of an input that is an output too is written after the last command that reads it. The
 /// B cells and the spill rows may hold anything at entry, and are left with anything. Only want of
