@@ -221,6 +221,34 @@ step_tells Bound s Other = tt
 step_tells Close s Other = tt
 step_tells w s word = tt
 
+-- ---- the first fault decides
+
+same_breach : (b c : Breach) → Some b ≡ Some c → b ≡ c
+same_breach b c e = cc
+
+abbrev place_in : Breach → Option ℕ
+place_in b = b.at
+
+stays_after : (r : Stepped) (at : ℕ) (go goes : List Wanted → Begun → Option Breach) (b : Breach)
+    → ((front : List Wanted) (t : Begun) → go front t ≡ Some b → goes front t ≡ Some b)
+    → after_token r at go ≡ Some b → after_token r at goes ≡ Some b
+stays_after (Ok r) at go goes b on h = on r.0 r.1 h
+stays_after (Err k) at go goes b on h = h
+
+pub stays : (pieces more : List Piece) (wanted : List Wanted) (s : Begun) (b : Breach) (place : ℕ)
+    → breach_of wanted s pieces ≡ Some b → b.at ≡ Some place
+    → breach_of wanted s (pieces ++ more) ≡ Some b
+unfolding breach_of
+stays [] more [] s b place h k = absurd (cc)
+stays [] more (w ∷ wanted) s b place h k =
+    let e = same_breach (record { at = None; kind = kind.Syntax }) b h in
+    absurd (let f : None ≡ Some place = ap place_in e ∙ k in cc)
+stays (p ∷ pieces) more [] s b place h k = h
+stays (p ∷ pieces) more (w ∷ wanted) s b place h k =
+    stays_after (step w s p.1) p.0 (λ front t. breach_of (front ++ wanted) t pieces)
+    (λ front t. breach_of (front ++ wanted) t (pieces ++ more)) b
+    (λ front t e. stays pieces more (front ++ wanted) t b place e k) h
+
 -- ---- the token at fault
 
 -- the kinds that are told of a token that the grammar allows
@@ -259,9 +287,6 @@ stop_later w wanted front s t p pieces b one stop = record {
       (bare_words stop.before) one stop.walk;
   wrong = stop.wrong;
 }
-
-same_breach : (b c : Breach) → Some b ≡ Some c → b ≡ c
-same_breach b c e = cc
 
 stop_here : (w : Wanted) (wanted : List Wanted) (s : Begun) (p : Piece) (pieces : List Piece)
     (k : QueryKind) → Fault w s p.1 k

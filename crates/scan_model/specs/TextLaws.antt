@@ -103,6 +103,12 @@ pub record BreaksCount (pieces : List Piece) (at : Option ℕ) : Type 0 where
   pub full : (count_by is_opening before ≡ 64)
       ⊎ (tests_in lead ≡ 1) × (count_by is_number before ≡ 32)
 
+-- A fault at a token is that of each text which goes on from these tokens: the first one decides.
+abbrev pub FirstDecides : Type 0
+FirstDecides = (pieces more : List Piece) (b : Breach) (place : ℕ)
+    → breach_of (Start ∷ []) none_begun pieces ≡ Some b → b.at ≡ Some place
+    → breach_of (Start ∷ []) none_begun (pieces ++ more) ≡ Some b
+
 -- All laws of query texts: accepted are the spellings of queries, each of one alone, and a fault is
 -- of its kind and at its place.
 pub record QueryTextLaws : Type 0 where
@@ -111,6 +117,8 @@ pub record QueryTextLaws : Type 0 where
       ((q : Query) × Says (bare_words pieces) q)
   -- and of one alone
   pub once : (p q : Query) → spelled p [] ≡ spelled q [] → p ≡ q
+  -- the first fault decides, whatever follows
+  pub first : FirstDecides
   -- a Syntax fault is the grammar's
   pub syntax_faults : SyntaxIsTheGrammars
   -- and one of another kind but Lex is at a token that the grammar allows

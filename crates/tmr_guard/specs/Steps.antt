@@ -15,6 +15,7 @@ use Rattle.machine_model.specs.declared.Reply.{Reply}
 use Rattle.uprog_code.specs.declared.TheConstants.{WALK_MAX}
 use Rattle.machine_model.specs.Routines.{Program, routines_in}
 use Rattle.machine_model.specs.Steps.{reply_to}
+use Rattle.object_steps.specs.Lines.{DidReadAtMost}
 use Rattle.object_steps.specs.Objects.{RisesAtMost}
 use Rattle.object_steps.specs.declared.fault.StepFault.{StepFault}
 use Rattle.object_steps.specs.declared.fault.StepFault.TheVariants.{ChipFault, WriteFault}
@@ -129,12 +130,17 @@ pub record Guarded (old new : Machine) (number : ℕ) (instr : Instruction) (chi
   pub sent : Known (λ before after. after ≡ before ++ line_by old number chip.banks instr)
       sink.sent sink'.sent
 
--- a count of faults rose, and of no line but a print's a part was put where that is the chip's
+-- A count of faults rose. Where that is the chip's, of no line but a print's a part was put. Where
+-- it is the sink's, all was done, but of a print perhaps not each row was read.
 pub record Broke (old : Machine) (number : ℕ) (instr : Instruction) (chip chip' : ChipView)
     (sink sink' : SinkView) (fault : StepFault) : Type 0 where
   pub chip_rose : fault ≡ ChipFault → Rose chip.faults chip'.faults
   pub sink_rose : fault ≡ WriteFault → Rose sink.faults sink'.faults
   pub unsent : fault ≡ ChipFault → is_print instr ≡ false → sink' ≡ sink
+  pub done : fault ≡ WriteFault → is_print instr ≡ false
+      → DidAndRead (events_by old instr) (reads_by old instr) chip chip'
+  pub read : fault ≡ WriteFault → is_print instr ≡ true
+      → DidReadAtMost (reads_by old instr) chip chip'
   pub part : Known (AppendsPart (line_by old number chip.banks instr)) sink.sent sink'.sent
 
 -- How a guarded instruction went: it was done and told, or the chip or the sink failed.
