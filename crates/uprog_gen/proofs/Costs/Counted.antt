@@ -8,7 +8,6 @@ use Rattle.op_text.specs.declared.word_ops.WordOp.TheVariants as op
 use Rattle.op_text.specs.Language.{Statement, Compute, Visit, Operation}
 use Rattle.op_text.specs.Meaning.{width}
 use Rattle.op_text.specs.Scratch.{names_width}
-use Rattle.op_text.specs.Costs.{op_aaps, op_aps}
 use Rattle.op_text.specs.declared.tree.Param.{Param}
 use Rattle.op_rules.specs.Meets.{Context, next_context, OperationMeets}
 use Rattle.loop_ir.specs.Plain.{Block, StepOf, AllParts}
@@ -20,6 +19,7 @@ use Rattle.word_lower.specs.Programs.{program, is_linear}
 use Rattle.word_lower.proofs.Statements.{written_in_rooms}
 use Rattle.word_mul.specs.Programs.{is_nested, nested}
 use Rattle.word_mul.proofs.Statements.{nest_in_rooms}
+use Rattle.uprog_gen.specs.Costs.{op_aaps, op_aps}
 use Rattle.uprog_gen.specs.Does.{joined}
 use Rattle.uprog_gen.specs.Layout.{IsLayout}
 use Rattle.uprog_gen.specs.Programs.{IsAsWritten, AreWritten}

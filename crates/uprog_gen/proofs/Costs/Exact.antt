@@ -11,7 +11,6 @@ use Rattle.op_text.specs.declared.word_ops.Signature.{Signature}
 use Rattle.op_text.specs.declared.word_ops.Signature.TheVariants as shape
 use Rattle.op_text.specs.WordOps.{row_of, forms, signature_forms, filled, given_first, first_of}
 use Rattle.op_text.specs.Meaning.{width}
-use Rattle.op_text.specs.Costs.{op_aaps, op_aps}
 use Rattle.op_text.proofs.Operations.{first_settles}
 use Rattle.loop_ir.specs.Plain.{Block, StepOf, AllParts}
 use Rattle.loop_ir.specs.Loops.{all_rounds}
@@ -22,6 +21,7 @@ use Rattle.word_lower.specs.declared.table.ProgramRow.{ProgramRow}
 use Rattle.word_lower.specs.declared.table.ProgramRow.TheVariants.{Spread}
 use Rattle.word_lower.specs.Programs.{program, program_of}
 use Rattle.word_mul.specs.Programs.{is_nested, nested}
+use Rattle.uprog_gen.specs.Costs.{op_aaps, op_aps}
 use Rattle.uprog_gen.specs.Settled.{turn_aaps, turn_aps, IsSettled}
 use Rattle.uprog_gen.proofs.Costs.Placed.{steps_settle, settled_steps, aaps_like, aps_like}
 
