@@ -22,7 +22,7 @@ use Rattle.loop_ir.specs.declared.ir.Space.TheVariants.{Result, Source, ScratchB
 use Rattle.loop_ir.specs.declared.ir.Space.TheVariants.{Cells}
 use Rattle.loop_ir.specs.declared.ir.Place.{Place}
 use Rattle.loop_ir.specs.declared.ir.Count.{Count}
-use Rattle.loop_ir.specs.declared.ir.Count.TheVariants.{All, Rest}
+use Rattle.loop_ir.specs.declared.ir.Count.TheVariants.{All, Rest, UpTo}
 use Rattle.uprog_gen.specs.declared.plan.Plan.{Plan}
 use Rattle.loop_ir.specs.Plain.{Block, InnerOf, StepOf, step_map}
 use Rattle.loop_ir.specs.Plain.InnerOf.{Alone, Across}
@@ -157,10 +157,12 @@ after Outer r = []
 after OuterDown r = []
 after DownPlusN r = []
 
--- register 2 gets the number of turns: n, or what is left of it at an outer position
+-- register 2 gets the number of turns: n, what is left of it at an outer position, or the positions
+-- up to the outer one
 abbrev pub counter : Count → List Uop
 counter All = SetN 2 ∷ []
 counter Rest = Mov 2 1 ∷ AddI 2 1 ∷ []
+counter UpTo = Mov 2 0 ∷ AddI 2 1 ∷ []
 
 -- the body's registers before its first turn
 abbrev pub inits : Plan → List Uop

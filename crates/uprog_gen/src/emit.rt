@@ -176,6 +176,10 @@ fn push_counter(code: &mut Vec<Uop>, count: Count) -> Result<(), NoMemory>
             keep(code, Uop::Mov(2, 1))?;
             keep(code, Uop::AddI(2, 1))
         }
+        Count::UpTo => {
+            keep(code, Uop::Mov(2, 0))?;
+            keep(code, Uop::AddI(2, 1))
+        }
     }
 }
 

@@ -30,7 +30,7 @@ use Rattle.loop_ir.specs.declared.ir.Space.{Space}
 use Rattle.loop_ir.specs.declared.ir.Space.TheVariants.{Result, Source, ScratchBit, ScratchWord}
 use Rattle.loop_ir.specs.declared.ir.Space.TheVariants.{Cells}
 use Rattle.loop_ir.specs.declared.ir.Count.{Count}
-use Rattle.loop_ir.specs.declared.ir.Count.TheVariants.{All as All_of, Rest}
+use Rattle.loop_ir.specs.declared.ir.Count.TheVariants.{All as All_of, Rest, UpTo}
 use Rattle.loop_ir.specs.Plain.{Block, InnerOf, StepOf, AllInner, AllStep, AllParts}
 use Rattle.loop_ir.specs.Plain.InnerOf.{Alone, Across}
 use Rattle.loop_ir.specs.Plain.StepOf.{Single, Along, Nest, Pairs}
@@ -212,6 +212,7 @@ module _ (head : Shape) where
   fit_inner (Alone p ∷ xs) h r = (fit_part p h.0 0 r.0, fit_inner xs h.1 r.1)
   fit_inner (Across All_of p ∷ xs) h r = (fit_part p h.0 0 r.0, fit_inner xs h.1 r.1.1)
   fit_inner (Across Rest p ∷ xs) h r = (fit_part p h.0 0 r.0, fit_inner xs h.1 r.1.1)
+  fit_inner (Across UpTo p ∷ xs) h r = (fit_part p h.0 0 r.0, fit_inner xs h.1 r.1)
 
   fit_step : (s : StepOf Part) → AllStep IsPart s
       → AllByRecursion (IsRound (IsSpot head 2) 2) (map block_round (step_rounds 2 s))
@@ -300,6 +301,7 @@ module _ (head : Shape) where
     counter_legal : (count : Count) → L (counter count)
     counter_legal All_of = (refl, tt)
     counter_legal Rest = (refl, (refl, tt))
+    counter_legal UpTo = (refl, (refl, tt))
 
     once_legal : (p : Part) → IsFit p → L (once_code p)
     once_legal p fit = join (inits p.plan) (befores p.plan ++ body_uops p) (inits_legal p.plan)

@@ -11,7 +11,7 @@ use Rattle.loop_ir.specs.declared.ir.Sub.TheVariants.{Zero, Top, Inner as At_inn
 use Rattle.loop_ir.specs.declared.ir.Sub.TheVariants.{Outer, OuterDown, Sum, DownSum, DownPlusN}
 use Rattle.loop_ir.specs.declared.ir.Sub.TheVariants.{NPlusInner}
 use Rattle.loop_ir.specs.declared.ir.Count.{Count}
-use Rattle.loop_ir.specs.declared.ir.Count.TheVariants.{All as All_of, Rest}
+use Rattle.loop_ir.specs.declared.ir.Count.TheVariants.{All as All_of, Rest, UpTo}
 use Rattle.loop_ir.specs.Plain.{InnerOf, StepOf, inner_map, step_map, AllInner, AllStep}
 use Rattle.loop_ir.specs.Plain.{AllParts}
 use Rattle.loop_ir.specs.Plain.InnerOf.{Alone, Across}
@@ -57,6 +57,7 @@ plan_few plan =
 counter_few : (count : Count) → length (counter count) ≤ 2
 counter_few All_of = omega arith
 counter_few Rest = omega arith
+counter_few UpTo = omega arith
 
 pub enter_few : (plan : Plan) (count : Count) → length (enter_code plan count) ≤ 8
 enter_few plan count = omega (

@@ -6,7 +6,7 @@ use Rattle.std.specs.Prelude.{◌&&◌}
 use Rattle.std.specs.List.{list_all}
 use Rattle.std.proofs.lemmas.Bool.{and_parts, and_from}
 use Rattle.loop_ir.specs.declared.ir.Count.{Count}
-use Rattle.loop_ir.specs.declared.ir.Count.TheVariants.{All, Rest}
+use Rattle.loop_ir.specs.declared.ir.Count.TheVariants.{All, Rest, UpTo}
 use Rattle.loop_ir.specs.Plain.{Block, InnerOf, StepOf}
 use Rattle.loop_ir.specs.Plain.InnerOf.{Alone, Across}
 use Rattle.loop_ir.specs.Plain.StepOf.{Single, Along, Nest, Pairs}
@@ -126,6 +126,7 @@ across_count : (n o : ℕ) (c : Count) (alive : List ℕ) (b : Block) → o < n
     → Chains alive (left_by b) (rounds (λ i. one_round b i o) 0 (positions n o c))
 across_count n o All alive b l h = across alive b o n h (omega arith)
 across_count n o Rest alive b l h = across alive b o (n - o) h (omega arith)
+across_count n o UpTo alive b l h = across alive b o (o + 1) h (omega arith)
 
 -- a loop that may have no round
 maybe : (alive : List ℕ) (b : Block) (o count : ℕ) → loop_finds alive b ≡ true

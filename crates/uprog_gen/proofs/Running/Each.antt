@@ -11,7 +11,7 @@ use Rattle.uprog_code.specs.Shape.{Shape}
 use Rattle.loop_ir.specs.Loops.{rounds, positions}
 use Rattle.uprog_gen.proofs.Running.Goes.{HasAt, has_front, has_back, moves}
 use Rattle.loop_ir.specs.declared.ir.Count.{Count}
-use Rattle.loop_ir.specs.declared.ir.Count.TheVariants.{All as All_of, Rest}
+use Rattle.loop_ir.specs.declared.ir.Count.TheVariants.{All as All_of, Rest, UpTo}
 use Rattle.uprog_gen.specs.declared.plan.Plan.{Plan}
 use Rattle.uprog_gen.specs.Code.{init, before, after, inits, befores, afters, counter, enter_code}
 use Rattle.uprog_gen.specs.Code.{turn_code}
@@ -179,24 +179,33 @@ module _ (head : Shape) (code : List Uop) (n : ℕ) where
         known = h;
       }
 
+  -- register 2 gets one more than another register
+  run_one_more : (r v m pc : ℕ) (regs : List ℕ) → length regs ≡ 8 → slice_index regs r ≡ v
+      → v + 1 ≡ m → m ≤ WIDTH_MAX → HasAt code pc (Mov 2 r ∷ AddI 2 1 ∷ [])
+      → Runs head code n pc regs 2 [] (pc + 2) (Changed head code n 2 (λ w. w ≡ m) regs)
+  run_one_more r v m pc regs size is more small has =
+      let first = run_set head code n pc 2 (slice_index regs r) (λ w. w ≡ v) regs (Mov 2 r) has.0
+      (λ left. refl) (omega (arith, size)) is in
+      let two : pc + 1 + 1 ≡ pc + 2 = omega arith in
+      run_at head code n pc (pc + 1 + 1) (pc + 2) regs 2 [] _ two
+      (run_then head code n pc (pc + 1) (pc + 1 + 1) 1 1 2 regs [] [] _
+      (Changed head code n 2 (λ w. w ≡ m) regs) refl first
+      (λ q c. run_weaken head code n (pc + 1) (pc + 1 + 1) q 1 []
+      (Changed head code n 2 (λ w. w ≡ m) q) _ (λ x d.
+      changed_again head code n 2 _ _ regs q x c d)
+      (run_add head code n (pc + 1) 2 1 (λ w. w ≡ m) q has.1.0 (omega (arith, c.this, more, small))
+      (omega (arith, c.size, size)) (omega (arith, c.this, more)))))
+
   run_counter : (count : Count) (pc o : ℕ) (regs : List ℕ) → n ≤ WIDTH_MAX → o < n
       → IsOuter n o regs → HasAt code pc (counter count)
       → Runs head code n pc regs (length (counter count)) [] (pc + length (counter count))
       (Changed head code n 2 (λ v. v ≡ positions n o count) regs)
   run_counter All_of pc o regs small lo g has =
       run_set head code n pc 2 n _ regs (SetN 2) has.0 (λ left. refl) (omega (arith, g.size)) refl
-  run_counter Rest pc o regs small lo g has =
-      let first = run_set head code n pc 2 (slice_index regs 1) (λ v. v
-      ≡ n - 1 - o) regs (Mov 2 1) has.0 (λ left. refl) (omega (arith, g.size)) g.down in
-      let two : pc + 1 + 1 ≡ pc + 2 = omega arith in
-      run_at head code n pc (pc + 1 + 1) (pc + 2) regs 2 [] _ two
-      (run_then head code n pc (pc + 1) (pc + 1 + 1) 1 1 2 regs [] [] _
-      (Changed head code n 2 (λ v. v ≡ n - o) regs) refl first
-      (λ q c. run_weaken head code n (pc + 1) (pc + 1 + 1) q 1 []
-      (Changed head code n 2 (λ v. v ≡ n - o) q) _ (λ x d.
-      changed_again head code n 2 _ _ regs q x c d)
-      (run_add head code n (pc + 1) 2 1 (λ v. v ≡ n - o) q has.1.0 (omega (arith, c.this))
-      (omega (arith, c.size, g.size)) (omega (arith, c.this)))))
+  run_counter Rest pc o regs small lo g has = run_one_more 1 (n - 1 - o) (n - o) pc regs g.size
+      g.down (omega (arith, lo)) (omega (arith, small)) has
+  run_counter UpTo pc o regs small lo g has = run_one_more 0 o (o + 1) pc regs g.size g.outer
+      (omega arith) (omega (arith, small, lo)) has
 
   pub run_enter : (plan : Plan) (count : Count) (pc o : ℕ) (regs : List ℕ) → n ≤ WIDTH_MAX → o < n
       → IsOuter n o regs → HasAt code pc (enter_code plan count)
@@ -278,7 +287,9 @@ module _ (head : Shape) (code : List Uop) (n : ℕ) where
       positive : (c : Count) → 0 < positions n o c
       positive All_of = omega arith
       positive Rest = omega arith
+      positive UpTo = omega arith
 
       at_most : (c : Count) → positions n o c ≤ n
       at_most All_of = omega arith
       at_most Rest = omega arith
+      at_most UpTo = omega arith

@@ -16,7 +16,7 @@ use Rattle.uprog_gen.proofs.Running.Goes.{HasAt, has_front, has_back, has_all, G
 use Rattle.loop_ir.specs.declared.ir.Sub.TheVariants.{Zero}
 use Rattle.loop_ir.specs.declared.ir.Place.{Place}
 use Rattle.loop_ir.specs.declared.ir.Count.{Count}
-use Rattle.loop_ir.specs.declared.ir.Count.TheVariants.{All as All_of, Rest}
+use Rattle.loop_ir.specs.declared.ir.Count.TheVariants.{All as All_of, Rest, UpTo}
 use Rattle.loop_ir.specs.Plain.{InnerOf, StepOf}
 use Rattle.loop_ir.specs.Plain.InnerOf.{Alone, Across}
 use Rattle.loop_ir.specs.Plain.StepOf.{Single, Along, Nest, Pairs}
@@ -172,6 +172,7 @@ module _ (head : Shape) (code : List Uop) (n : ℕ) (some : 0 < n) (small : n �
       at_most : (c : Count) → positions n o c ≤ n
       at_most All_of = omega arith
       at_most Rest = omega arith
+      at_most UpTo = omega arith
 
       few : (n a t x size : ℕ) → 0 < n → x ≤ n * t → size ≡ a + t → a + x ≤ n * size
       few n a t x size h le e = rw e (let k : a ≤ n * a = grind arith in omega (arith, k))
