@@ -119,8 +119,8 @@ fn shorter(
     shorter_of(m, outs, fewer, DEEP, usize::MAX, alloc)
 }
 
-/// The commands of the greedy body, or more, in less time: one beam alone looks for them, and for no
-/// more than `most`.
+/// The commands of the greedy body, or more, in less time: one beam alone looks for them, and for
+/// no more than `most`.
 pub(crate) fn quick_body(
     m: &Mig,
     outs: &[OutRow],
