@@ -81,11 +81,12 @@ impl Drop for Body {
     }
 }
 
-/// How far an inner loop runs: from 0 to n - 1, or to n - 1 - o.
+/// How far an inner loop runs: from 0 to n - 1, to n - 1 - o, or to o. It is never without a round.
 #[derive(Clone, Copy, PartialEq, Eq)]
 pub enum Count {
     All,
     Rest,
+    UpTo,
 }
 
 /// A part of a nest: a body at each outer position, once or in a loop of its own.

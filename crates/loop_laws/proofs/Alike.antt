@@ -10,7 +10,7 @@ use Rattle.mig_graph.specs.declared.Lit.{Lit}
 use Rattle.row_alloc.specs.HeldBodies.{HeldBody, held_inputs, held_nodes, held_outs, enter_in}
 use Rattle.row_alloc.specs.HeldBodies.{leave_in, HeldNegatedIf}
 use Rattle.row_alloc.specs.declared.body.Held.{Held}
-use Rattle.loop_ir.specs.declared.ir.Count.TheVariants.{All, Rest}
+use Rattle.loop_ir.specs.declared.ir.Count.TheVariants.{All, Rest, UpTo}
 use Rattle.loop_ir.specs.declared.ir.Place.{Place}
 use Rattle.loop_ir.specs.Plain.{Block, InnerOf, StepOf, inner_map}
 use Rattle.loop_ir.specs.Plain.InnerOf.{Alone, Across}
@@ -251,22 +251,28 @@ module _ (rooms : List Room) (rows : HaveRows rooms) where
 -- a count of each body that is the same wherever the rows lie is the same of all steps
 module _ (f : Block → ℕ) (rooms : List Room)
     (like : (b : Marked) → f (placed_body rooms b) ≡ f (placed_body [] b)) where
-  nest_like : (n count : ℕ) (ps : List (InnerOf Marked))
-      → nest_sum f n count (map (inner_map (placed_body rooms)) ps)
-      ≡ nest_sum f n count (map (inner_map (placed_body [])) ps)
-  nest_like n count [] = refl
-  nest_like n count (Alone b ∷ ps) =
-      let e = nest_like n count ps in
-      ap (λ x. 2 * (count * x) + nest_sum f n count (map (inner_map (placed_body rooms)) ps)) (like
-      b) ∙ ap (λ x. 2 * (count * f (placed_body [] b)) + x) e
-  nest_like n count (Across All b ∷ ps) =
-      let e = nest_like n count ps in
-      ap (λ x. 2 * (count * (n * x)) + nest_sum f n count (map (inner_map (placed_body rooms)) ps))
-      (like b) ∙ ap (λ x. 2 * (count * (n * f (placed_body [] b))) + x) e
-  nest_like n count (Across Rest b ∷ ps) =
-      let e = nest_like n count ps in
-      ap (λ x. (count * count + count) * x + nest_sum f n count (map (inner_map (placed_body rooms))
-      ps)) (like b) ∙ ap (λ x. (count * count + count) * f (placed_body [] b) + x) e
+  nest_like : (n o count : ℕ) (ps : List (InnerOf Marked))
+      → nest_sum f n o count (map (inner_map (placed_body rooms)) ps)
+      ≡ nest_sum f n o count (map (inner_map (placed_body [])) ps)
+  nest_like n o count [] = refl
+  nest_like n o count (Alone b ∷ ps) =
+      let e = nest_like n o count ps in
+      ap (λ x. 2 * (count * x) + nest_sum f n o count (map (inner_map (placed_body rooms)) ps))
+      (like b) ∙ ap (λ x. 2 * (count * f (placed_body [] b)) + x) e
+  nest_like n o count (Across All b ∷ ps) =
+      let e = nest_like n o count ps in
+      ap (λ x. 2 * (count * (n * x)) + nest_sum f n o count (map (inner_map (placed_body rooms))
+      ps)) (like b) ∙ ap (λ x. 2 * (count * (n * f (placed_body [] b))) + x) e
+  nest_like n o count (Across Rest b ∷ ps) =
+      let e = nest_like n o count ps in
+      ap (λ x. (count * count + count) * x + nest_sum f n o count
+      (map (inner_map (placed_body rooms)) ps)) (like b)
+      ∙ ap (λ x. (count * count + count) * f (placed_body [] b) + x) e
+  nest_like n o count (Across UpTo b ∷ ps) =
+      let e = nest_like n o count ps in
+      let times = 2 * (o * count) + (count * count + count) in
+      ap (λ x. times * x + nest_sum f n o count (map (inner_map (placed_body rooms)) ps)) (like b)
+      ∙ ap (λ x. times * f (placed_body [] b) + x) e
 
   sum_like : (n : ℕ) (ss : List (StepOf Marked)) → steps_sum f n (placed_steps rooms ss)
       ≡ steps_sum f n (placed_steps [] ss)
@@ -278,8 +284,8 @@ module _ (f : Block → ℕ) (rooms : List Room)
       ap (λ x. 2 * (n * x) + steps_sum f n (placed_steps rooms ss)) (like b)
       ∙ ap (λ x. 2 * (n * f (placed_body [] b)) + x) (sum_like n ss)
   sum_like n (Nest ps ∷ ss) =
-      ap (λ x. x + steps_sum f n (placed_steps rooms ss)) (nest_like n n ps)
-      ∙ ap (λ x. nest_sum f n n (map (inner_map (placed_body [])) ps) + x) (sum_like n ss)
+      ap (λ x. x + steps_sum f n (placed_steps rooms ss)) (nest_like n 0 n ps)
+      ∙ ap (λ x. nest_sum f n 0 n (map (inner_map (placed_body [])) ps) + x) (sum_like n ss)
   sum_like n (Pairs b ∷ ss) =
       ap (λ x. 2 * ((n - 1) * x) + steps_sum f n (placed_steps rooms ss)) (like b)
       ∙ ap (λ x. 2 * ((n - 1) * f (placed_body [] b)) + x) (sum_like n ss)

@@ -2,7 +2,7 @@
 use Rattle.std.proofs.Common.{◌≡◌, ℕ, zero, suc, ◌+◌, ◌-◌, ◌*◌, ◌<◌, ◌≤◌, Bool, true, false, List}
 use Rattle.std.proofs.Common.{[], ◌∷◌, ◌++◌, map, length, refl, sym, ap, ◌∙◌, subst, ⊎_elim, arith}
 use Rattle.std.proofs.Common.{◌⊎◌, inl, inr}
-use Rattle.std.specs.Prelude.{◌&&◌, ◌==◌, nat_le}
+use Rattle.std.specs.Prelude.{◌&&◌, ◌||◌, ◌==◌, nat_le}
 use Rattle.std.specs.List.{AllByRecursion, list_all}
 use Rattle.std.proofs.lemmas.Bool.{cases_eq, cases_lt, and_parts, eqb-true}
 use Rattle.std.proofs.lemmas.List.{length-map}
@@ -12,7 +12,7 @@ use Rattle.loop_ir.specs.declared.ir.Space.TheVariants.{Cells}
 use Rattle.loop_ir.specs.declared.ir.Sub.{Sub}
 use Rattle.loop_ir.specs.declared.ir.Sub.TheVariants as sub
 use Rattle.loop_ir.specs.declared.ir.Count.{Count}
-use Rattle.loop_ir.specs.declared.ir.Count.TheVariants.{All, Rest}
+use Rattle.loop_ir.specs.declared.ir.Count.TheVariants.{All, Rest, UpTo}
 use Rattle.loop_ir.specs.declared.ir.Place.{Place}
 use Rattle.loop_ir.specs.Plain.{Block, InnerOf, StepOf, AllInner, AllParts, inner_map}
 use Rattle.loop_ir.specs.Plain.InnerOf.{Alone, Across}
@@ -26,8 +26,8 @@ use Rattle.loop_ir.specs.Limits.{IsRound, step_stands}
 use Rattle.loop_ir.specs.Chains.{steps_find}
 use Rattle.loop_laws.specs.Rooms.{Extent, One, Full, Twice, extent, Room, room_at, room_for, Owner}
 use Rattle.loop_laws.specs.Rooms.{InRoom, InCells, Mark, Marked, placed, placed_body, placed_steps}
-use Rattle.loop_laws.specs.Rooms.{row_in, IsOwned, RoomsApart, Reach, Nowhere, Whole, Left}
-use Rattle.loop_laws.specs.Rooms.{is_long, is_twice, has_inner, is_left, fits, reach_of}
+use Rattle.loop_laws.specs.Rooms.{row_in, IsOwned, RoomsApart, Reach, Nowhere, Whole, Left, Below}
+use Rattle.loop_laws.specs.Rooms.{is_long, is_twice, has_inner, is_left, is_below, fits, reach_of}
 use Rattle.loop_laws.specs.Forms.{IsSlim, has_room, inners_have_room, steps_have_room}
 use Rattle.loop_laws.specs.Forms.{has_known_states, inners_have_known, steps_have_known}
 use Rattle.loop_laws.specs.Laws.{MarksAreEnough}
@@ -58,11 +58,23 @@ inner_below : (n i o : ℕ) (r : Reach) → InnerOk n i o r → has_inner r ≡ 
 inner_below n i o Nowhere ok e = cc
 inner_below n i o Whole ok e = ok
 inner_below n i o Left ok e = omega (arith, ok)
+inner_below n i o Below ok e = omega (arith, ok.0, ok.1)
 
 left_below : (n i o : ℕ) (r : Reach) → InnerOk n i o r → is_left r ≡ true → i < n - o
 left_below n i o Nowhere ok e = cc
 left_below n i o Whole ok e = cc
 left_below n i o Left ok e = ok
+left_below n i o Below ok e = cc
+
+-- the place that is as far from an outer position as the inner one is from the start
+down_below : (n i o : ℕ) (r : Reach) (w : Extent) → InnerOk n i o r → has_inner r ≡ true → o < n
+    → (is_twice w || (is_long w && is_below r)) ≡ true → n - 1 - o + i < extent n w
+down_below n i o r One ok e lo f = cc
+down_below n i o r Twice ok e lo f = let b = inner_below n i o r ok e in omega arith
+down_below n i o Nowhere Full ok e lo f = cc
+down_below n i o Whole Full ok e lo f = cc
+down_below n i o Left Full ok e lo f = cc
+down_below n i o Below Full ok e lo f = omega (arith, ok.0, ok.1)
 
 outer_below : (n o : ℕ) (b : Bool) → OuterOk n o b → b ≡ true → o < n
 outer_below n o true ok e = ok
@@ -85,8 +97,9 @@ within n i o r outer w sub.Sum h ik ok e = let p = and_parts (is_long w) (outer 
     let q = and_parts outer (is_left r) p.1 in let a = long n w p.0 in
     let b = left_below n i o r ik q.1 in omega arith
 within n i o r outer w sub.DownSum h ik ok e = let p =
-    and_parts (is_twice w) (outer && has_inner r) e in let q = and_parts outer (has_inner r) p.1 in
-    let a = twice n w p.0 in let b = inner_below n i o r ik q.1 in omega arith
+    and_parts (is_twice w || (is_long w && is_below r)) (outer && has_inner r) e in
+    let q = and_parts outer (has_inner r) p.1 in
+    down_below n i o r w ik q.1 (outer_below n o outer ok q.0) p.0
 within n i o r outer w sub.DownPlusN h ik ok e = let p = and_parts (is_twice w) outer e in
     let a = twice n w p.0 in omega arith
 within n i o r outer w sub.NPlusInner h ik ok e = let p = and_parts (is_twice w) (has_inner r) e in
@@ -321,9 +334,11 @@ all_rounds_of P f i zero limit e h = tt
 all_rounds_of P f i (suc count) limit e h = all_append P (f i) (rounds f (i + 1) count)
     (h i (omega arith)) (all_rounds_of P f (i + 1) count limit (omega arith) h)
 
-reach_ok : (n : ℕ) (c : Count) (i o : ℕ) → i < positions n o c → InnerOk n i o (reach_of c)
-reach_ok n All i o lt = lt
-reach_ok n Rest i o lt = lt
+reach_ok : (n : ℕ) (c : Count) (i o : ℕ) → o < n → i < positions n o c
+    → InnerOk n i o (reach_of c)
+reach_ok n All i o lo lt = lt
+reach_ok n Rest i o lo lt = lt
+reach_ok n UpTo i o lo lt = (omega (arith, lt), lo)
 
 module _ (n : ℕ) (rooms : List Room) (some : 0 < n) (are : RoomsApart n rooms)
     (rows : HaveRows rooms) where
@@ -341,7 +356,7 @@ module _ (n : ℕ) (rooms : List Room) (some : 0 < n) (are : RoomsApart n rooms)
       (all_rounds_of (IsRound (IsOwned n rooms) n) (λ i. one_round (placed_body rooms b) i o) 0
       (positions n o c) (positions n o c) (omega arith)
       (λ i lt. (
-        round_is n rooms some are rows (reach_of c) true b fit.0 i o (reach_ok n c i o lt)
+        round_is n rooms some are rows (reach_of c) true b fit.0 i o (reach_ok n c i o lo lt)
             lo,
         tt,
       )))

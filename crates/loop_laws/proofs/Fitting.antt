@@ -1,11 +1,11 @@
 -- What a body's places keep where the test on owners and subscripts passes.
-use Rattle.std.proofs.Common.{◌≡◌, ℕ, zero, suc, ◌-◌, ◌<◌, Bool, true, false, List, [], ◌∷◌, length}
+use Rattle.std.proofs.Common.{◌≡◌, ℕ, zero, suc, ◌-◌, ◌<◌, ◌≤◌, Bool, true, false, List, [], ◌∷◌, length}
 use Rattle.loop_ir.specs.declared.ir.Sub.TheVariants as sub
 use Rattle.loop_ir.specs.Plain.{InnerOf, StepOf}
 use Rattle.loop_ir.specs.Plain.InnerOf.{Alone, Across}
 use Rattle.loop_ir.specs.Plain.StepOf.{Single, Along, Nest, Pairs}
 use Rattle.loop_laws.specs.Rooms.{Room, room_for, Owner, InRoom, InCells, Mark, Marked}
-use Rattle.loop_laws.specs.Rooms.{Reach, Nowhere, Whole, Left, fits, reach_of}
+use Rattle.loop_laws.specs.Rooms.{Reach, Nowhere, Whole, Left, Below, fits, reach_of}
 
 -- a place of a body, by its number
 abbrev pub mark_at : List Mark → ℕ → Mark
@@ -23,6 +23,7 @@ abbrev pub InnerOk : ℕ → ℕ → ℕ → Reach → Type 0
 InnerOk n i o Nowhere = Unit {0}
 InnerOk n i o Whole = i < n
 InnerOk n i o Left = i < n - o
+InnerOk n i o Below = (i ≤ o) × (o < n)
 
 -- the outer index is one, where the body stands in a nest
 abbrev pub OuterOk : ℕ → ℕ → Bool → Type 0

@@ -3,7 +3,7 @@ use Rattle.std.proofs.Common.{◌≡◌, ℕ, zero, suc, ◌+◌, ◌-◌, ◌*�
 use Rattle.std.proofs.Common.{ap, ◌∙◌, arith}
 use Rattle.std.specs.Prelude.{sum_by}
 use Rattle.std.proofs.lemmas.List.Sums.{sum_by-cons, sum_by-append}
-use Rattle.loop_ir.specs.declared.ir.Count.TheVariants.{All, Rest}
+use Rattle.loop_ir.specs.declared.ir.Count.TheVariants.{All, Rest, UpTo}
 use Rattle.loop_ir.specs.Plain.{Block, InnerOf, StepOf}
 use Rattle.loop_ir.specs.Plain.InnerOf.{Alone, Across}
 use Rattle.loop_ir.specs.Plain.StepOf.{Single, Along, Nest, Pairs}
@@ -13,19 +13,21 @@ use Rattle.loop_ir.specs.Loops.{RoundOf, round_at, one_round, rounds, inner_roun
 abbrev pub rounds_sum : (Block → ℕ) → List (RoundOf Block) → ℕ
 rounds_sum f rs = sum_by (λ r. f r.part) rs
 
--- twice the sum over the last outer positions of a nest
-abbrev pub nest_sum : (Block → ℕ) → ℕ → ℕ → List (InnerOf Block) → ℕ
-nest_sum f n count [] = 0
-nest_sum f n count (Alone b ∷ ps) = 2 * (count * f b) + nest_sum f n count ps
-nest_sum f n count (Across All b ∷ ps) = 2 * (count * (n * f b)) + nest_sum f n count ps
-nest_sum f n count (Across Rest b ∷ ps) = (count * count + count) * f b + nest_sum f n count ps
+-- twice the sum over the last outer positions of a nest, from o on
+abbrev pub nest_sum : (Block → ℕ) → ℕ → ℕ → ℕ → List (InnerOf Block) → ℕ
+nest_sum f n o count [] = 0
+nest_sum f n o count (Alone b ∷ ps) = 2 * (count * f b) + nest_sum f n o count ps
+nest_sum f n o count (Across All b ∷ ps) = 2 * (count * (n * f b)) + nest_sum f n o count ps
+nest_sum f n o count (Across Rest b ∷ ps) = (count * count + count) * f b + nest_sum f n o count ps
+nest_sum f n o count (Across UpTo b ∷ ps) = (2 * (o * count) + (count * count + count)) * f b
+    + nest_sum f n o count ps
 
 -- twice the sum of all steps
 abbrev pub steps_sum : (Block → ℕ) → ℕ → List (StepOf Block) → ℕ
 steps_sum f n [] = 0
 steps_sum f n (Single b ∷ ss) = 2 * f b + steps_sum f n ss
 steps_sum f n (Along b ∷ ss) = 2 * (n * f b) + steps_sum f n ss
-steps_sum f n (Nest ps ∷ ss) = nest_sum f n n ps + steps_sum f n ss
+steps_sum f n (Nest ps ∷ ss) = nest_sum f n 0 n ps + steps_sum f n ss
 steps_sum f n (Pairs b ∷ ss) = 2 * ((n - 1) * f b) + steps_sum f n ss
 
 module _ (f : Block → ℕ) where
@@ -45,14 +47,15 @@ module _ (f : Block → ℕ) where
       let a = more (round_at b i o) (rounds (λ j. one_round b j o) (i + 1) count) in
       omega (arith, a, e)
 
-  abbrev inner_sum : ℕ → ℕ → List (InnerOf Block) → ℕ
-  inner_sum n left [] = 0
-  inner_sum n left (Alone b ∷ ps) = f b + inner_sum n left ps
-  inner_sum n left (Across All b ∷ ps) = n * f b + inner_sum n left ps
-  inner_sum n left (Across Rest b ∷ ps) = left * f b + inner_sum n left ps
+  abbrev inner_sum : ℕ → ℕ → ℕ → List (InnerOf Block) → ℕ
+  inner_sum n o left [] = 0
+  inner_sum n o left (Alone b ∷ ps) = f b + inner_sum n o left ps
+  inner_sum n o left (Across All b ∷ ps) = n * f b + inner_sum n o left ps
+  inner_sum n o left (Across Rest b ∷ ps) = left * f b + inner_sum n o left ps
+  inner_sum n o left (Across UpTo b ∷ ps) = (o + 1) * f b + inner_sum n o left ps
 
   inner_is : (n o left : ℕ) (ps : List (InnerOf Block)) → n - o ≡ left
-      → rounds_sum f (inner_rounds n o ps) ≡ inner_sum n left ps
+      → rounds_sum f (inner_rounds n o ps) ≡ inner_sum n o left ps
   inner_is n o left [] e = refl
   inner_is n o left (Alone b ∷ ps) e = more (round_at b 0 o) (inner_rounds n o ps)
       ∙ ap (λ x. f b + x) (inner_is n o left ps e)
@@ -63,29 +66,34 @@ module _ (f : Block → ℕ) where
       (inner_rounds n o ps) ∙ ap (λ x. x + rounds_sum f (inner_rounds n o ps))
       (sum_each b o 0 (n - o)) ∙ ap (λ x. x * f b + rounds_sum f (inner_rounds n o ps)) e
       ∙ ap (λ x. left * f b + x) (inner_is n o left ps e)
+  inner_is n o left (Across UpTo b ∷ ps) e = sum_append (rounds (λ i. one_round b i o) 0 (o + 1))
+      (inner_rounds n o ps) ∙ ap (λ x. x + rounds_sum f (inner_rounds n o ps))
+      (sum_each b o 0 (o + 1)) ∙ ap (λ x. (o + 1) * f b + x) (inner_is n o left ps e)
 
-  one_more : (n count : ℕ) (ps : List (InnerOf Block))
-      → nest_sum f n (suc count) ps ≡ 2 * inner_sum n (suc count) ps + nest_sum f n count ps
-  one_more n count [] = refl
-  one_more n count (Alone b ∷ ps) = let e = one_more n count ps in omega (arith, e)
-  one_more n count (Across All b ∷ ps) = let e = one_more n count ps in omega (arith, e)
-  one_more n count (Across Rest b ∷ ps) = let e = one_more n count ps in omega (arith, e)
+  one_more : (n o count : ℕ) (ps : List (InnerOf Block)) → nest_sum f n o (suc count) ps
+      ≡ 2 * inner_sum n o (suc count) ps + nest_sum f n (o + 1) count ps
+  one_more n o count [] = refl
+  one_more n o count (Alone b ∷ ps) = let e = one_more n o count ps in omega (arith, e)
+  one_more n o count (Across All b ∷ ps) = let e = one_more n o count ps in omega (arith, e)
+  one_more n o count (Across Rest b ∷ ps) = let e = one_more n o count ps in omega (arith, e)
+  one_more n o count (Across UpTo b ∷ ps) = let e = one_more n o count ps in omega (arith, e)
 
-  none : (n : ℕ) (ps : List (InnerOf Block)) → nest_sum f n 0 ps ≡ 0
-  none n [] = refl
-  none n (Alone b ∷ ps) = let e = none n ps in omega (arith, e)
-  none n (Across All b ∷ ps) = let e = none n ps in omega (arith, e)
-  none n (Across Rest b ∷ ps) = let e = none n ps in omega (arith, e)
+  none : (n o : ℕ) (ps : List (InnerOf Block)) → nest_sum f n o 0 ps ≡ 0
+  none n o [] = refl
+  none n o (Alone b ∷ ps) = let e = none n o ps in omega (arith, e)
+  none n o (Across All b ∷ ps) = let e = none n o ps in omega (arith, e)
+  none n o (Across Rest b ∷ ps) = let e = none n o ps in omega (arith, e)
+  none n o (Across UpTo b ∷ ps) = let e = none n o ps in omega (arith, e)
 
   nest_is : (n : ℕ) (ps : List (InnerOf Block)) (o count : ℕ) → n ≡ o + count
-      → 2 * rounds_sum f (rounds (λ o. inner_rounds n o ps) o count) ≡ nest_sum f n count ps
-  nest_is n ps o zero e = sym (none n ps)
+      → 2 * rounds_sum f (rounds (λ o. inner_rounds n o ps) o count) ≡ nest_sum f n o count ps
+  nest_is n ps o zero e = sym (none n o ps)
   nest_is n ps o (suc count) e =
       let g = λ (o : ℕ). inner_rounds n o ps in
       let h = nest_is n ps (o + 1) count (omega (arith, e)) in
       let one = inner_is n o (suc count) ps (omega (arith, e)) in
       let all = sum_append (g o) (rounds g (o + 1) count) in
-      omega (arith, all, one, h, one_more n count ps)
+      omega (arith, all, one, h, one_more n o count ps)
 
   pub sum_is : (n : ℕ) (ss : List (StepOf Block))
       → 2 * rounds_sum f (all_rounds n ss) ≡ steps_sum f n ss

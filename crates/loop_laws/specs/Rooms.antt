@@ -1,5 +1,5 @@
 -- Places by their owners, and a test after which every round keeps the rules.
-use Rattle.std.specs.Prelude.{◌≡◌, ℕ, zero, suc, ◌*◌, ◌<◌, ◌==◌, Bool, true, false, not, ◌&&◌}
+use Rattle.std.specs.Prelude.{◌≡◌, ℕ, zero, suc, ◌*◌, ◌<◌, ◌==◌, Bool, true, false, not, ◌&&◌, ◌||◌}
 use Rattle.std.specs.Prelude.{nat_lt, if◌then◌else◌, List, [], ◌∷◌, map, length}
 use Rattle.mig_graph.specs.declared.Lit.{Lit}
 use Rattle.mig_graph.specs.Graph.{Graph}
@@ -8,7 +8,7 @@ use Rattle.loop_ir.specs.declared.ir.Space.TheVariants.{Source, Cells}
 use Rattle.loop_ir.specs.declared.ir.Sub.{Sub}
 use Rattle.loop_ir.specs.declared.ir.Sub.TheVariants as sub
 use Rattle.loop_ir.specs.declared.ir.Count.{Count}
-use Rattle.loop_ir.specs.declared.ir.Count.TheVariants.{All, Rest}
+use Rattle.loop_ir.specs.declared.ir.Count.TheVariants.{All, Rest, UpTo}
 use Rattle.loop_ir.specs.declared.ir.Place.{Place}
 use Rattle.loop_ir.specs.Plain.{Block, InnerOf, StepOf, step_map}
 use Rattle.loop_ir.specs.Plain.InnerOf.{Alone, Across}
@@ -106,11 +106,13 @@ pub record RoomsApart (n : ℕ) (rooms : List Room) : Type 0 where
   pub own : (k : ℕ) → k < length rooms → (room_at rooms k).written ≡ true
       → IsOwn (room_at rooms k).space
 
--- how far the inner index goes: there is none, up to n, or up to what is left of the outer index
+-- how far the inner index goes: there is none, up to n, up to what is left of the outer index, or
+-- up to the outer index itself
 pub data Reach : Type 0 where
   Nowhere : Reach
   Whole : Reach
   Left : Reach
+  Below : Reach
 
 -- an owner with a row at each position of a word
 abbrev pub is_long : Extent → Bool
@@ -129,12 +131,21 @@ abbrev pub has_inner : Reach → Bool
 has_inner Nowhere = false
 has_inner Whole = true
 has_inner Left = true
+has_inner Below = true
 
 -- the inner positions are those that are left of the outer one
 abbrev pub is_left : Reach → Bool
 is_left Nowhere = false
 is_left Whole = false
 is_left Left = true
+is_left Below = false
+
+-- no inner position is above the outer one
+abbrev pub is_below : Reach → Bool
+is_below Nowhere = false
+is_below Whole = false
+is_below Left = false
+is_below Below = true
 
 -- the subscript stays within so many rows
 abbrev pub fits : Reach → Bool → Extent → Sub → Bool
@@ -145,7 +156,7 @@ fits r outer w sub.InnerDown = is_long w && has_inner r
 fits r outer w sub.Outer = is_long w && outer
 fits r outer w sub.OuterDown = is_long w && outer
 fits r outer w sub.Sum = is_long w && (outer && is_left r)
-fits r outer w sub.DownSum = is_twice w && (outer && has_inner r)
+fits r outer w sub.DownSum = (is_twice w || (is_long w && is_below r)) && (outer && has_inner r)
 fits r outer w sub.DownPlusN = is_twice w && outer
 fits r outer w sub.NPlusInner = is_twice w && has_inner r
 
@@ -153,6 +164,7 @@ fits r outer w sub.NPlusInner = is_twice w && has_inner r
 abbrev pub reach_of : Count → Reach
 reach_of All = Whole
 reach_of Rest = Left
+reach_of UpTo = Below
 
 -- there is such an owner among so many
 abbrev pub is_there : Owner → ℕ → Bool

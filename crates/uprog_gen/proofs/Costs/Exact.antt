@@ -23,7 +23,7 @@ use Rattle.loop_ir.specs.Loops.{all_rounds}
 use Rattle.loop_ir.specs.Spots.{is_state}
 use Rattle.loop_laws.specs.Rooms.{Room, Marked, placed_steps}
 use Rattle.loop_laws.proofs.Alike.{HaveRows}
-use Rattle.word_lower.specs.Places.{room_of, scratch_from}
+use Rattle.word_lower.specs.Places.{room_of, rooms_of, scratch_from}
 use Rattle.word_lower.specs.declared.shapes.Owners.{Owners}
 use Rattle.word_lower.specs.declared.table.ProgramRow.{ProgramRow}
 use Rattle.word_lower.specs.declared.table.ProgramRow.TheVariants.{Spread}
@@ -112,26 +112,24 @@ other_rows : (k : Option Kind) (s : Slot) → IsRow s → AllRows (second_rooms 
 other_rows None s r = tt
 other_rows (Some k) s r = (r, tt)
 
+all_append : (xs ys : List Room) → AllRows xs → AllRows ys → AllRows (xs ++ ys)
+all_append xs ys h k = both (λ (x : Room). is_state x.space ≡ false) xs ys h k
+
 nested_rows : (p : WordOp) (o : Owners) (m : Rows) → AreRows o m → AllRows (rooms_for p m)
-nested_rows p o m r = (
-  r.result,
-  r.a,
-  r.b,
-  both (λ (x : Room). is_state x.space ≡ false)
-      (map (room_of true) (scratch_from m.free_bit (bits_inside p)))
-      (double_words m.free_word (words_inside p) ++ second_rooms (second_kind p) m.second)
-      (scratch_rows m.free_bit (bits_inside p))
-      (both (λ (x : Room). is_state x.space ≡ false)
-      (double_words m.free_word (words_inside p)) (second_rooms (second_kind p) m.second)
-      (word_rows m.free_word (words_inside p)) (other_rows (second_kind p) m.second r.other)),
-)
+nested_rows p o m r =
+    let words = double_words m.free_word (words_inside p) in
+    let others = second_rooms (second_kind p) m.second in
+    all_append (rooms_of m.target (m.a ∷ m.b ∷ []) (scratch_from m.free_bit (bits_inside p)))
+    (words ++ others) (r.result, (r.a, (r.b, scratch_rows m.free_bit (bits_inside p))))
+    (all_append words others (word_rows m.free_word (words_inside p))
+    (other_rows (second_kind p) m.second r.other))
 
 rows_in : (p : WordOp) (o : Owners) (m : Rows) → AreRows o m → HaveRows (Rooms p o m)
 rows_in p o m r = each_row (Rooms p o m) (by (is_nested p))
   where
     by : (b : Bool) → AllRows (cond b (rooms_for p m) (rooms_by o))
     by true = nested_rows p o m r
-    by false = (r.target, r.first, r.second, r.third, tt)
+    by false = (r.target, (r.first, (r.second, (r.third, tt))))
 
 all_settle : (p : WordOp) (k : Kind) → steps_settle (placed_steps [] (Numbered p k)) ≡ true
 all_settle op.Not Word = refl
