@@ -203,6 +203,9 @@ words_owned n rooms free_word q o =
         | inl y ↦ inl y
         | inr y ↦ inr (y.0, (let l = y.1 in omega (arith, l)), y.2)
       ]
-      | inr y ↦ inr (n + y.0, (let l = y.1 in omega (arith, l)),
-          y.2 ∙ word_after n free_word y.0)
+      | inr y ↦ inr (
+        n + y.0,
+        (let l = y.1 in omega (arith, l)),
+        y.2 ∙ word_after n free_word y.0,
+      )
     ]
