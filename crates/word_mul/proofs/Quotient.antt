@@ -6,7 +6,6 @@ use Rattle.std.specs.Prelude.{nat_lt, ◌==◌}
 use Rattle.std.proofs.lemmas.Bool.{cases_lt, cases_eq, lt-ltb, eq-eqb, ne_eqb}
 use Rattle.std.proofs.lemmas.Nat.{mod-mul-add, div-mul-add}
 use Rattle.std.proofs.Math.Nat.{pow-suc}
-use Rattle.std.proofs.Math.Pow.{pow_mono}
 use Rattle.mig_graph.specs.Graph.{values_from}
 use Rattle.op_text.specs.declared.word_ops.WordOp.TheVariants as op
 use Rattle.loop_ir.specs.declared.ir.Sub.TheVariants as sub
@@ -14,25 +13,23 @@ use Rattle.loop_ir.specs.Plain.{Block, InnerOf}
 use Rattle.loop_ir.specs.Plain.InnerOf.{Alone}
 use Rattle.loop_ir.specs.Plain.StepOf.{Single, Along, Nest}
 use Rattle.loop_ir.specs.Loops.{all_rounds}
-use Rattle.loop_ir.specs.Spots.{Spot, Spots, after_rounds, set_spot, spot_at, nth_place}
+use Rattle.loop_ir.specs.Spots.{Spot, Spots, after_rounds, set_spot}
 use Rattle.loop_laws.specs.Rooms.{placed_body}
-use Rattle.loop_laws.specs.Turns.{Standing, IsLoop, after_many}
+use Rattle.loop_laws.specs.Turns.{Standing, after_many}
 use Rattle.loop_laws.proofs.Same.{set_same, set_other}
-use Rattle.loop_laws.proofs.Loop.{loop_turns, loop_word}
-use Rattle.loop_laws.proofs.Placed.{loop_of}
 use Rattle.loop_laws.proofs.Steps.{steps_each, steps_nest, after_parts, after_outer}
 use Rattle.word_lower.specs.Places.{scratch_bit}
-use Rattle.word_lower.specs.Programs.{plain, off, constant, moved}
-use Rattle.word_lower.proofs.Marks.{target, first, third}
+use Rattle.word_lower.specs.Programs.{plain, moved}
+use Rattle.word_lower.proofs.Marks.{target, third}
 use Rattle.word_lower.proofs.Setting.{bit, number, row, number_at}
 use Rattle.word_lower.proofs.Passes.{word_loop, upwards}
-use Rattle.word_lower.proofs.Sums.{value_same, value_below, value_false, value_low}
+use Rattle.word_lower.proofs.Sums.{value_same, value_below, value_low}
 use Rattle.word_mul.specs.declared.rows.Rows.{Rows}
 use Rattle.word_mul.specs.Places.{rooms_for, steps_for, scratch_word}
 use Rattle.word_mul.proofs.Setting.{fifth, seventh, row_stands, AreRows, IsSecond, IsElsewhere}
 use Rattle.word_mul.proofs.Setting.{Gives, Divided, DoesNested}
 use Rattle.word_mul.proofs.Divide.{w, gp, gf, core, IsOther, Stepped, step, above, above_is, higher}
-use Rattle.word_mul.proofs.Gather.{one_lower, copy_body, start_body, gather_parts, copied, started}
+use Rattle.word_mul.proofs.Gather.{one_lower, copy_body, start_body, gather_parts, started}
 use Rattle.word_mul.proofs.Gather.{b_else, all_gathers}
 
 record Next (y g b x hi quot : ℕ) : Type 0 where
