@@ -37,6 +37,14 @@ pub record IsRight (g : Graph) (outs : List Lit) (s : Sketch) : Type 0 where
   pub values : (bits : ℕ → Bool) (j : ℕ) → j < length outs
       → output_value s bits j ≡ value g bits (lit_at outs j)
 
+-- the graph has the sketch's inputs, its outputs with their values on every input, and no more nodes
+pub record IsOffered (s : Sketch) (g : Graph) (outs : List Lit) : Type 0 where
+  pub inputs : g.inputs ≡ s.inputs
+  pub long : length outs ≡ s.outputs
+  pub count : length g.nodes ≤ s.count
+  pub values : (bits : ℕ → Bool) (j : ℕ) → j < length outs
+      → value g bits (lit_at outs j) ≡ output_value s bits j
+
 -- the literals have the values of the constant, the inputs and the first k nodes
 pub record Stands (g : Graph) (bits : ℕ → Bool) (lits : List Lit) (s : Sketch) (k : ℕ) : Type 0
   where

@@ -4,6 +4,7 @@ ghost use Rattle.std.specs.Prelude.{◌≡◌, ◌≢◌, ◌<◌, ◌≤◌, �
 ghost use Rattle.std.specs.Prelude.{IfSome, IfNone, Some, length};
 ghost use Rattle.row_alloc.specs.Rows.{out_at};
 ghost use Rattle.row_alloc.specs.Body.{FitBody, IsLengthOf};
+ghost use Rattle.row_alloc.specs.Length.{plain_length};
 
 use crate::beam::{Breadth, NARROW, WIDE};
 use crate::body::OutRow;
@@ -97,6 +98,7 @@ fn count(
 ) -> Result<Option<usize>, NoMemory>
     ensures some { IfOk result (λ o. IfSome o (IsLengthOf m.now outs.now)) }
     ensures none { IfOk result (λ o. IfNone o (FitBody m.now outs.now → ⊥)) }
+    ensures few { IfOk result (λ o. IfSome o (λ n. n ≤ plain_length m.now outs.now)) }
 {
     if !fits(m, outs) {
         return Ok(None);
@@ -116,6 +118,7 @@ pub fn commands_of(
 ) -> Result<Option<usize>, NoMemory>
     ensures some { IfOk result (λ o. IfSome o (IsLengthOf m.now outs.now)) }
     ensures none { IfOk result (λ o. IfNone o (FitBody m.now outs.now → ⊥)) }
+    ensures few { IfOk result (λ o. IfSome o (λ n. n ≤ plain_length m.now outs.now)) }
 {
     count(m, outs, WIDE, most, alloc)
 }
@@ -129,6 +132,7 @@ pub fn quick_commands_of(
 ) -> Result<Option<usize>, NoMemory>
     ensures some { IfOk result (λ o. IfSome o (IsLengthOf m.now outs.now)) }
     ensures none { IfOk result (λ o. IfNone o (FitBody m.now outs.now → ⊥)) }
+    ensures few { IfOk result (λ o. IfSome o (λ n. n ≤ plain_length m.now outs.now)) }
 {
     count(m, outs, NARROW, most, alloc)
 }

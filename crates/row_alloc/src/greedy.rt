@@ -130,6 +130,7 @@ pub(crate) fn quick_body(
 ) -> Result<Vec<BodyCmd>, NoMemory>
     requires fit { FitBody m.now outs.now }
     ensures does { IfOk result (λ cmds. DoesBody m.now outs.now cmds.items) }
+    ensures few { IfOk result (λ cmds. length cmds.items ≤ plain_length m.now outs.now) }
 {
     let plain = plain_body(m, outs, alloc)?;
     match first_known(m, outs) {

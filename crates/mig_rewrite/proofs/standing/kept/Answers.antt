@@ -20,3 +20,15 @@ returns-clause-dropped c = λ right.
     let few : length new.mig.nodes ≤ length m.mig.nodes =
     omega (arith, c.in_ok-new.ensures.count, c.in_ok-made.ensures.count, right.count) in
     false≢true (sym c.if-branch.false ∙ c.in_ok-may_stand.ensures.1 (right.few, keeps, few))
+
+pub returns-then-branch-clause-offered : goal.returns-then-branch-clause-offered
+returns-then-branch-clause-offered c =
+    let made = c.in_ok-made.ensures in
+    let new = c.in_ok-new.ensures in
+    record {
+      inputs = new.keeps.inputs ∙ made.inputs;
+      long = new.keeps.long ∙ made.long;
+      count = omega (arith, new.count, made.count);
+      values = λ bits j b. new.keeps.values bits j (omega (arith, b, new.keeps.long))
+          ∙ made.values bits j (omega (arith, b, new.keeps.long, made.long));
+    }
