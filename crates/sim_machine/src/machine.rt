@@ -33,6 +33,7 @@ use crate::bbop::Setting;
 use crate::image::read_image;
 use crate::opening::{begin, make_file, make_stage};
 use crate::report::{put_lines, total};
+use crate::walks::WalkedProgram;
 use crate::waves::do_wave;
 use arrayvec::ArrayVec;
 use bbop_isa::Instr;
@@ -51,7 +52,7 @@ use uprog_ctl::{Forward, Order};
 /// A table of objects over a chip, the program that bbops run, the order in which banks take turns,
 /// and all memory that a script takes.
 pub struct Machine<'a> {
-    pub(crate) prog: ProgView<'a>,
+    pub(crate) prog: WalkedProgram<'a>,
     pub(crate) geometry: Geometry,
     pub(crate) table: Table,
     pub(crate) order: Order,
@@ -106,6 +107,7 @@ impl<'a> Machine<'a> {
     {
         let mut stage = make_stage(image.geometry.words, alloc)?;
         let file = make_file(image.geometry, alloc)?;
+        let prog = WalkedProgram::new(prog, alloc)?;
         let row = &mut stage[..usize::from(image.geometry.words)];
         begin(image.geometry, image.rows, row, dram)?;
         Ok(Machine {
@@ -172,6 +174,7 @@ impl<'a> Machine<'a> {
             → Known (AppendsPart (lines_of self.old number (map view_of instrs.now)))
             (S.view out.old).sent (S.view out.new).sent }
     {
+        self.prog.learn_all(instrs);
         let setting = Setting {
             geometry: self.geometry,
             table: &self.table,
