@@ -165,6 +165,8 @@ impl<'a> Machine<'a> {
             → StoppedAmong (events_by self.old (Wave (map view_of instrs.now)))
             (queues_by self.old (map view_of instrs.now)) (D.view dram.old) (D.view dram.new) }
         ensures unsent { IsErrOf result StepFault.ChipFault → S.view out.new ≡ S.view out.old }
+        ensures turn_unsent { IsErrOf result StepFault.WriteFault
+            → turn_in self.new ≡ turn_by_piece self.old (Wave (map view_of instrs.now)) }
         ensures done { IsErrOf result StepFault.WriteFault
             → Did (events_by self.old (Wave (map view_of instrs.now))) (D.view dram.old)
             (D.view dram.new) }
@@ -236,7 +238,11 @@ impl<'a> Machine<'a> {
             (queues_by self.old (view_of instr.now ∷ [])) (D.view dram.old) (D.view dram.new) }
         ensures unsent { IsErrOf result StepFault.ChipFault
             → is_print (view_of instr.now) ≡ false → S.view out.new ≡ S.view out.old }
+        ensures same_turn { IsErrOf result StepFault.ChipFault
+            → is_bbop (view_of instr.now) ≡ false → turn_in self.new ≡ turn_in self.old }
         // Where the sink fails, all was done, but of a print perhaps not each row was read.
+        ensures turn_unsent { IsErrOf result StepFault.WriteFault
+            → turn_in self.new ≡ turn_by_piece self.old (piece_of (view_of instr.now)) }
         ensures done { IsErrOf result StepFault.WriteFault
             → is_print (view_of instr.now) ≡ false
             → DidAndRead (events_by self.old (piece_of (view_of instr.now)))
