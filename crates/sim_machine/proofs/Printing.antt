@@ -120,15 +120,17 @@ module _ (old new : Machine) (number : ℕ) (name : List ℕ) (chip chip' : Chip
     }
 
     pub print_unsent : (reply : Reply) (w : Why) (between : SinkView)
-        → table_in new ≡ table_in old → reply ≡ reply_of old (Print name) → reply ≡ Refused w
+        → table_in new ≡ table_in old → turn_in new ≡ turn_in old
+        → reply ≡ reply_of old (Print name) → reply ≡ Refused w
         → DidRead (reads_by old (Print name)) chip chip'
         → sink.faults ≤ between.faults
         → Known (λ x y. y ≡ x ++ shown_line) sink.sent between.sent
         → Rose between.faults sink'.faults
         → Known (AppendsPart (line number (Answered reply))) between.sent sink'.sent
         → StoppedBySink old new number (Print name) chip chip' sink sink'
-    print_unsent reply w between table e h did before first rose sent = record {
+    print_unsent reply w between table turn e h did before first rose sent = record {
       table = table;
+      turn = turn;
       did = λ p. absurd (cc);
       read = λ p. record {
         rows = reads_by old (Print name);
@@ -146,6 +148,7 @@ module _ (old new : Machine) (number : ℕ) (name : List ℕ) (chip chip' : Chip
     }
 
     pub print_failed : (fault : StepFault) → table_in new ≡ table_in old
+        → turn_in new ≡ turn_in old
         → refusal (geometry_of old) (operations_by old) (table_in old) (Print name) ≡ None
         → Known (AppendsPart shown_line) sink.sent sink'.sent
         → (fault ≡ ChipFault → FailedBelow (banks_by old (Print name)) chip chip')
@@ -153,15 +156,17 @@ module _ (old new : Machine) (number : ℕ) (name : List ℕ) (chip chip' : Chip
         → (fault ≡ WriteFault
         → DidReadAtMost (rows_printed (geometry_of old) (table_in old) (Print name)) chip chip')
         → Comes old new number (Print name) chip chip' sink sink' (Err fault)
-    print_failed ChipFault table allowed part failed rose read = record {
+    print_failed ChipFault table turn allowed part failed rose read = record {
       table = table;
+      turn = λ e. turn;
       failed = failed refl;
       stopped = λ p. absurd (cc);
       unsent = λ p. absurd (cc);
       part = subst (λ t. Known (AppendsPart t) sink.sent sink'.sent) (whole_line allowed) part;
     }
-    print_failed WriteFault table allowed part failed rose read = record {
+    print_failed WriteFault table turn allowed part failed rose read = record {
       table = table;
+      turn = turn;
       did = λ p. absurd (cc);
       read = λ p. subst (λ n. DidReadAtMost n chip chip') (sym (all_rows _ _ allowed)) (read refl);
       rose = rose refl;

@@ -120,11 +120,12 @@ module _ (old new : Machine) (number : ℕ) (instr : Instruction) (chip chip' : 
           sent;
     }
 
-    pub failed_alone : table_in new ≡ table_in old
+    pub failed_alone : table_in new ≡ table_in old → turn_in new ≡ turn_in old
         → FailedBelow (banks_by old instr) chip chip' → sink' ≡ sink
         → StoppedByChip old new number instr chip chip' sink sink'
-    failed_alone table failed same = record {
+    failed_alone table turn failed same = record {
       table = table;
+      turn = λ e. turn;
       failed = failed;
       stopped = λ e. absurd (cc (e, bbop));
       unsent = λ e. same;
@@ -133,13 +134,15 @@ module _ (old new : Machine) (number : ℕ) (instr : Instruction) (chip chip' : 
     }
 
     pub unsent_alone : (reply : Reply) → reply ≡ reply_of old instr → table_in new ≡ table_in old
+        → turn_in new ≡ turn_by_piece old (Alone instr)
         → Did (events_alone (geometry_of old) (operations_by old) (table_in old) instr) chip chip'
         → Rose sink.faults sink'.faults
         → Known (AppendsPart (line number (Answered reply))) sink.sent sink'.sent
         → StoppedBySink old new number instr chip chip' sink sink'
-    unsent_alone reply e table did rose sent =
+    unsent_alone reply e table turn did rose sent =
         let all = did_piece did in record {
           table = table;
+          turn = turn ∙ ap (turn_by_piece old) (sym (alone instr bbop));
           did = λ p. all;
           read = λ e. absurd (cc (e, print));
           rose = rose;

@@ -31,10 +31,12 @@ pub record Stepped (old new : Machine) (number : ℕ) (instr : Instruction) (chi
       sink.sent sink'.sent
 
 -- the chip failed: the banks past the destination's are as before, each bank of a bbop but the one
--- that failed has done the first of its commands, and of no line but a print's a part was put
+-- that failed has done the first of its commands, only in a bbop's wave did banks take turns, and of
+-- no line but a print's a part was put
 pub record StoppedByChip (old new : Machine) (number : ℕ) (instr : Instruction)
     (chip chip' : ChipView) (sink sink' : SinkView) : Type 0 where
   pub table : table_in new ≡ table_in old
+  pub turn : is_bbop instr ≡ false → turn_in new ≡ turn_in old
   pub failed : FailedBelow (banks_by old instr) chip chip'
   pub stopped : is_bbop instr ≡ true
       → StoppedAmong (events_by old (piece_of instr)) (queues_by old (instr ∷ [])) chip chip'
@@ -45,6 +47,7 @@ pub record StoppedByChip (old new : Machine) (number : ℕ) (instr : Instruction
 pub record StoppedBySink (old new : Machine) (number : ℕ) (instr : Instruction)
     (chip chip' : ChipView) (sink sink' : SinkView) : Type 0 where
   pub table : table_in new ≡ table_in old
+  pub turn : turn_in new ≡ turn_by_piece old (piece_of instr)
   pub did : is_print instr ≡ false
       → DidAndRead (events_by old (piece_of instr)) (reads_by old instr) chip chip'
   pub read : is_print instr ≡ true → DidReadAtMost (reads_by old instr) chip chip'

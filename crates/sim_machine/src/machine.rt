@@ -33,6 +33,7 @@ use crate::bbop::Setting;
 use crate::image::read_image;
 use crate::opening::{begin, make_file, make_stage};
 use crate::report::{put_lines, total};
+use crate::walks::WalkedProgram;
 use crate::waves::do_wave;
 use arrayvec::ArrayVec;
 use bbop_isa::Instr;
@@ -51,7 +52,7 @@ use uprog_ctl::{Forward, Order};
 /// A table of objects over a chip, the program that bbops run, the order in which banks take turns,
 /// and all memory that a script takes.
 pub struct Machine<'a> {
-    pub(crate) prog: ProgView<'a>,
+    pub(crate) prog: WalkedProgram<'a>,
     pub(crate) geometry: Geometry,
     pub(crate) table: Table,
     pub(crate) order: Order,
@@ -106,6 +107,7 @@ impl<'a> Machine<'a> {
     {
         let mut stage = make_stage(image.geometry.words, alloc)?;
         let file = make_file(image.geometry, alloc)?;
+        let prog = WalkedProgram::new(prog, alloc)?;
         let row = &mut stage[..usize::from(image.geometry.words)];
         begin(image.geometry, image.rows, row, dram)?;
         Ok(Machine {
@@ -163,6 +165,8 @@ impl<'a> Machine<'a> {
             → StoppedAmong (events_by self.old (Wave (map view_of instrs.now)))
             (queues_by self.old (map view_of instrs.now)) (D.view dram.old) (D.view dram.new) }
         ensures unsent { IsErrOf result StepFault.ChipFault → S.view out.new ≡ S.view out.old }
+        ensures turn_unsent { IsErrOf result StepFault.WriteFault
+            → turn_in self.new ≡ turn_by_piece self.old (Wave (map view_of instrs.now)) }
         ensures done { IsErrOf result StepFault.WriteFault
             → Did (events_by self.old (Wave (map view_of instrs.now))) (D.view dram.old)
             (D.view dram.new) }
@@ -172,6 +176,7 @@ impl<'a> Machine<'a> {
             → Known (AppendsPart (lines_of self.old number (map view_of instrs.now)))
             (S.view out.old).sent (S.view out.new).sent }
     {
+        self.prog.learn_all(instrs);
         let setting = Setting {
             geometry: self.geometry,
             table: &self.table,
@@ -233,7 +238,11 @@ impl<'a> Machine<'a> {
             (queues_by self.old (view_of instr.now ∷ [])) (D.view dram.old) (D.view dram.new) }
         ensures unsent { IsErrOf result StepFault.ChipFault
             → is_print (view_of instr.now) ≡ false → S.view out.new ≡ S.view out.old }
+        ensures same_turn { IsErrOf result StepFault.ChipFault
+            → is_bbop (view_of instr.now) ≡ false → turn_in self.new ≡ turn_in self.old }
         // Where the sink fails, all was done, but of a print perhaps not each row was read.
+        ensures turn_unsent { IsErrOf result StepFault.WriteFault
+            → turn_in self.new ≡ turn_by_piece self.old (piece_of (view_of instr.now)) }
         ensures done { IsErrOf result StepFault.WriteFault
             → is_print (view_of instr.now) ≡ false
             → DidAndRead (events_by self.old (piece_of (view_of instr.now)))
