@@ -37,7 +37,7 @@ pub record IsRight (g : Graph) (outs : List Lit) (s : Sketch) : Type 0 where
   pub values : (bits : ℕ → Bool) (j : ℕ) → j < length outs
       → output_value s bits j ≡ value g bits (lit_at outs j)
 
--- the graph has the sketch's inputs, its outputs with their values on every input, and no more nodes
+-- the graph has the sketch's inputs, its outputs with their values on every input, and no node more
 pub record IsOffered (s : Sketch) (g : Graph) (outs : List Lit) : Type 0 where
   pub inputs : g.inputs ≡ s.inputs
   pub long : length outs ≡ s.outputs

@@ -31,8 +31,8 @@ pub record Stepped (old new : Machine) (number : ℕ) (instr : Instruction) (chi
       sink.sent sink'.sent
 
 -- the chip failed: the banks past the destination's are as before, each bank of a bbop but the one
--- that failed has done the first of its commands, only in a bbop's wave did banks take turns, and of
--- no line but a print's a part was put
+-- that failed has done the first of its commands, only in a bbop's wave did banks take turns, and
+-- of no line but a print's a part was put
 pub record StoppedByChip (old new : Machine) (number : ℕ) (instr : Instruction)
     (chip chip' : ChipView) (sink sink' : SinkView) : Type 0 where
   pub table : table_in new ≡ table_in old

@@ -1,8 +1,8 @@
 -- Each word operation's loop program has settled bodies, and takes exactly the operation's
 -- commands.
-use Rattle.std.proofs.Common.{◌≡◌, ℕ, zero, suc, ◌+◌, ◌*◌, ◌/◌, ◌^◌, ◌<◌, Bool, true, false, cond}
+use Rattle.std.proofs.Common.{◌≡◌, ℕ, zero, suc, ◌+◌, ◌*◌, ◌/◌, ◌<◌, Bool, true, false, cond}
 use Rattle.std.proofs.Common.{List, [], ◌∷◌, Some, refl, sym, ap, ◌∙◌, subst, arith}
-use Rattle.std.proofs.Math.Nat.{pow-suc, pow-zero, mul-div_cancel_left}
+use Rattle.std.proofs.Math.Nat.{mul-div_cancel_left}
 use Rattle.op_text.specs.declared.tree.Kind.{Kind}
 use Rattle.op_text.specs.declared.tree.Kind.TheVariants.{Word, Bit}
 use Rattle.op_text.specs.declared.word_ops.WordOp.{WordOp}
@@ -36,10 +36,6 @@ all_settle p Word = refl
 all_settle op.Not Bit = refl
 all_settle p Bit = refl
 
-square : (n : ℕ) → n ^ 2 ≡ n * n
-square n = let e : n ^ 2 ≡ n ^ 1 * n = pow-suc n 1 in let f : n ^ 1 ≡ n ^ 0 * n = pow-suc n 0 in
-    let z : n ^ 0 ≡ 1 = pow-zero n in e ∙ ap (λ x. x * n) (f ∙ ap (λ x. x * n) z ∙ omega arith)
-
 -- one of two numbers in a row is even
 half : (n : ℕ) → (h : ℕ) × (n * (n + 1) ≡ 2 * h)
 half zero = (0, refl)
@@ -66,22 +62,18 @@ op_width p k n = cond (spreads p) (width n k) n
 numbered_aaps : (p : WordOp) (k : Kind) (n : ℕ) → 0 < n
     → rounds_sum turn_aaps (all_rounds n (placed_steps [] (Numbered p k)))
     ≡ op_aaps p (op_width p k n)
-numbered_aaps op.Mul k n some = let h = sum_is turn_aaps n (placed_steps [] (Numbered op.Mul k)) in
-    omega (arith, h, square n, triangle n)
 numbered_aaps p Word n some = let h = sum_is turn_aaps n (placed_steps [] (Numbered p Word)) in
-    omega (arith, h, square n, some)
+    omega (arith, h, triangle n, some)
 numbered_aaps p Bit n some = let h = sum_is turn_aaps n (placed_steps [] (Numbered p Bit)) in
-    omega (arith, h, square n, some)
+    omega (arith, h, triangle n, some)
 
 numbered_aps : (p : WordOp) (k : Kind) (n : ℕ) → 0 < n
     → rounds_sum turn_aps (all_rounds n (placed_steps [] (Numbered p k)))
     ≡ op_aps p (op_width p k n)
-numbered_aps op.Mul k n some = let h = sum_is turn_aps n (placed_steps [] (Numbered op.Mul k)) in
-    omega (arith, h, square n, triangle n)
 numbered_aps p Word n some = let h = sum_is turn_aps n (placed_steps [] (Numbered p Word)) in
-    omega (arith, h, square n, some)
+    omega (arith, h, triangle n, some)
 numbered_aps p Bit n some = let h = sum_is turn_aps n (placed_steps [] (Numbered p Bit)) in
-    omega (arith, h, square n, some)
+    omega (arith, h, triangle n, some)
 
 -- what is known of a statement's program
 pub record IsExactly (p : WordOp) (w : ℕ → ℕ) (steps : List (StepOf Block)) : Type 0 where
