@@ -18,6 +18,10 @@ square : (n : ℕ) → n ^ 2 ≡ n * n
 square n = let e : n ^ 2 ≡ n ^ 1 * n = pow-suc n 1 in let f : n ^ 1 ≡ n ^ 0 * n = pow-suc n 0 in
     let z : n ^ 0 ≡ 1 = pow-zero n in e ∙ ap (λ x. x * n) (f ∙ ap (λ x. x * n) z ∙ omega arith)
 
+below_square : (n : ℕ) → n ≤ n * n
+below_square zero = omega arith
+below_square (suc n) = omega arith
+
 -- a sum of the first numbers, twice
 record Half (n : ℕ) : Type 0 where
   half : ℕ
@@ -41,7 +45,7 @@ costs op.Div is n = let e = sum_is turn_cost n (placed_steps [] (nested op.Div))
 costs op.Rem is n = let e = sum_is turn_cost n (placed_steps [] (nested op.Rem)) in
     let s = square n in omega (arith, e, s)
 costs op.Bitcount is n = let e = sum_is turn_cost n (placed_steps [] (nested op.Bitcount)) in
-    let s = square n in omega (arith, e, s)
+    let s = triangle n in omega (arith, e, s)
 costs op.Divmod is n = let e = sum_is turn_cost n (placed_steps [] (nested op.Divmod)) in
     let s = square n in omega (arith, e, s)
 costs p is n = cc
@@ -55,7 +59,7 @@ plains op.Div is n = let e = sum_is plain_cost n (placed_steps [] (nested op.Div
 plains op.Rem is n = let e = sum_is plain_cost n (placed_steps [] (nested op.Rem)) in
     let s = square n in omega (arith, e, s)
 plains op.Bitcount is n = let e = sum_is plain_cost n (placed_steps [] (nested op.Bitcount)) in
-    let s = square n in omega (arith, e, s)
+    let s = square n in let l = below_square n in omega (arith, e, s, l)
 plains op.Divmod is n = let e = sum_is plain_cost n (placed_steps [] (nested op.Divmod)) in
     let s = square n in omega (arith, e, s)
 plains p is n = cc
@@ -65,7 +69,8 @@ pub cheap : (p : WordOp) → is_nested p ≡ true → (n : ℕ) → nested_total
 cheap op.Mul is n = let t = triangle n in let s = square n in omega (arith, t, s)
 cheap op.Div is n = omega arith
 cheap op.Rem is n = omega arith
-cheap op.Bitcount is n = omega arith
+cheap op.Bitcount is n = let t = triangle n in let s = square n in let l = below_square n in
+    omega (arith, t, s, l)
 cheap op.Divmod is n = omega arith
 cheap p is n = cc
 

@@ -139,7 +139,7 @@ abbrev pub nested_total : WordOp → ℕ → ℕ
 nested_total o.Mul n = 9 * (n * (n + 1) / 2) + 4 * n
 nested_total o.Div n = 12 * n ^ 2 + 9 * n
 nested_total o.Rem n = 12 * n ^ 2 + 9 * n
-nested_total o.Bitcount n = 18 * n ^ 2 + 3 * n
+nested_total o.Bitcount n = 18 * (n * (n + 1) / 2) + 3 * n
 nested_total o.Divmod n = 12 * n ^ 2 + 10 * n
 nested_total p n = 0
 
