@@ -7,7 +7,7 @@ use Rattle.mig_graph.specs.Graph.{values_from}
 use Rattle.op_text.specs.declared.word_ops.WordOp.TheVariants as op
 use Rattle.op_text.specs.Values.{ones_of}
 use Rattle.loop_ir.specs.declared.ir.Sub.TheVariants as sub
-use Rattle.loop_ir.specs.declared.ir.Count.TheVariants.{All, Rest}
+use Rattle.loop_ir.specs.declared.ir.Count.TheVariants.{Rest, UpTo}
 use Rattle.loop_ir.specs.declared.names.Slot.{Slot}
 use Rattle.loop_ir.specs.Plain.{Block, InnerOf}
 use Rattle.loop_ir.specs.Plain.InnerOf.{Alone, Across}
@@ -256,10 +256,14 @@ twice : (b : Bool) → not (not b) ≡ b
 twice true = refl
 twice false = refl
 
--- a sum that is small has no carry
-no_carry : (c : Bool) (y p s : ℕ) → s < p → y + bit c * p ≡ s → y ≡ s
-no_carry true y p s lt e = absurd (omega (arith, e))
-no_carry false y p s lt e = omega (arith, e)
+-- where sums are below the weight of the rows above, a bit that is added leaves these at 0
+count_step : (low high y c p s b t : ℕ) → low + p * high ≡ s → s < p → y + c * p ≡ low + b
+    → s + b ≡ t → t < p → y + p * high ≡ t
+count_step low zero y zero p s b t before small digit more few = omega (arith, before, digit, more)
+count_step low zero y (suc c) p s b t before small digit more few =
+    absurd (omega (arith, before, digit, more, few))
+count_step low (suc high) y c p s b t before small digit more few =
+    absurd (omega (arith, before, small))
 
 module _ (n : ℕ) (m : Rows) (are : AreRows n 1 0 m) (bits : Spots) where
   cf : IsFree n m (scratch_bit m.free_bit) 1
@@ -274,14 +278,14 @@ module _ (n : ℕ) (m : Rows) (are : AreRows n 1 0 m) (bits : Spots) where
   abbrev count_parts : List (InnerOf Block)
   count_parts =
       Alone (placed_body (rooms_for op.Bitcount m) (inverted (first sub.Outer) (third sub.Zero)))
-      ∷ (Across All count_body ∷ [])
+      ∷ (Across UpTo count_body ∷ [])
 
   abbrev ys : List Origin
   ys = Standing ∷ (Carried 1 ∷ [])
 
-  count_loop : (o : ℕ) → IsLoop n o n count_body ys
-  count_loop o =
-      loop_of n o n count_body ys refl (are.own, (tt, tt))
+  count_loop : (o : ℕ) → o < n → IsLoop n o (o + 1) count_body ys
+  count_loop o lo =
+      loop_of n o (o + 1) count_body ys refl (are.own, (tt, tt))
       (((λ i j li lj e. cf.target.by 0 i (omega arith) (omega arith) (sym e)), tt), (tt, tt)) (
         (
           (λ i j li lj e. let z : i ≡ j = are.moves.by i j (omega arith) (omega arith) e in
@@ -300,48 +304,74 @@ module _ (n : ℕ) (m : Rows) (are : AreRows n 1 0 m) (bits : Spots) where
       → Counted (suc o) (after_parts n o count_parts old)
   unfolding values_from majority
   one_count o old lo i =
+      let w = o + 1 in
+      let r = n - w in
       let v = old (row n m.a o) in
       let start = set_spot old cp (not v) in
-      let new = after_many n o count_body n start in
-      let is = count_loop o in
-      let t = loop_turns n o n count_body ys is start in
+      let new = after_many n o count_body w start in
+      let is = count_loop o lo in
+      let t = loop_turns n o w count_body ys is start in
       let y = λ (j : ℕ). turn n o count_body ys start (suc j) 0 in
       let held = λ (j : ℕ). turn n o count_body ys start j 1 in
       let carry = λ (j : ℕ). not (held j) in
       let ta = λ (j : ℕ). start (row n m.target j) in
-      let sums : number y n + bit (carry n) * 2 ^ n ≡ number ta n + bit (carry 0) =
-      carry_sum (λ j. bit (ta j)) y carry n (λ j lj. counted_digit (ta j) (held j))
-      ∙ ap (λ x. x + bit (carry 0)) (digits_one ta n) in
+      let sums : number y w + bit (carry w) * 2 ^ w ≡ number ta w + bit (carry 0) =
+      carry_sum (λ j. bit (ta j)) y carry w (λ j lj. counted_digit (ta j) (held j))
+      ∙ ap (λ x. x + bit (carry 0)) (digits_one ta w) in
       let first : bit (carry 0) ≡ bit (bits (row n m.a o)) =
       ap bit (ap not (set_same old cp (not v) cp refl) ∙ twice v ∙ i.rest (row n m.a o)
       (args_else n m m.a are.a_rows are.a cf.a o lo)) in
-      let word = value_same (λ j. new (row n m.target j)) y n
-      (λ j lj. loop_word n o n count_body ys is start 0 (omega arith) (λ u w lu lw e.
-      are.moves.by u w (omega arith) (omega arith) e) j lj) in
       let stays : (q : Spot) → (q ≡ cp → ⊥) → start q ≡ old q =
       λ q ne. set_other old cp (not v) q ne in
-      let was = value_same ta (λ j. old (row n m.target j)) n
-      (λ j lj. stays (row n m.target j) (λ e. cf.target.by 0 j (omega arith) lj (sym e))) in
-      let total : number y n + bit (carry n) * 2 ^ n
-      ≡ ones_of (suc o) (number_at n bits m.a (suc o)) =
-      sums ∙ ap (λ x. x + bit (carry 0)) (was ∙ i.ones)
-      ∙ ap (λ x. ones_of o (number_at n bits m.a o) + x) first
-      ∙ sym (ones_of_more (λ j. bits (row n m.a j)) o) in
-      let few : ones_of (suc o) (number_at n bits m.a (suc o)) < 2 ^ n =
-      (let a = few_ones (λ j. bits (row n m.a j)) (suc o) in let b = below_pow n in
-      omega (arith, a, b)) in
+      let same : (k : ℕ) → k < n → start (row n m.target k) ≡ old (row n m.target k) =
+      λ k lk. stays (row n m.target k) (λ e. cf.target.by 0 k (omega arith) lk (sym e)) in
+      let low_old = value_same ta (λ j. old (row n m.target j)) w (λ j lj. same j (omega arith)) in
+      let low_new = value_same (λ j. new (row n m.target j)) y w
+      (λ j lj. loop_word n o w count_body ys is start 0 (omega arith) (λ u x lu lx e.
+      are.moves.by u x (omega arith) (omega arith) e) j lj) in
+      let high = number (λ j. old (row n m.target (w + j))) r in
+      let high_new = value_same (λ j. new (row n m.target (w + j)))
+      (λ j. old (row n m.target (w + j))) r
+      (λ j lj. t.rest (row n m.target (w + j)) (λ k x lk lx e.
+      above o (w + j) (omega arith) (omega arith) k x lk lx e) ∙ same (w + j) (omega arith)) in
+      let split : n ≡ w + r = omega arith in
+      let old_split : number_at n old m.target n ≡ number_at n old m.target w + 2 ^ w * high =
+      ap (number_at n old m.target) split ∙ value_split (λ j. old (row n m.target j)) w r in
+      let new_split : number_at n new m.target n ≡ number_at n new m.target w + 2 ^ w
+      * number (λ j. new (row n m.target (w + j))) r =
+      ap (number_at n new m.target) split ∙ value_split (λ j. new (row n m.target j)) w r in
+      let digit : number y w + bit (carry w) * 2 ^ w
+      ≡ number_at n old m.target w + bit (bits (row n m.a o)) =
+      sums ∙ ap (λ x. x + bit (carry 0)) low_old
+      ∙ ap (λ x. number_at n old m.target w + x) first in
+      let a = λ (j : ℕ). bits (row n m.a j) in
+      let most = few_ones a o in
+      let most_new = few_ones a (suc o) in
+      let p = below_pow w in
+      let step = count_step (number_at n old m.target w) high (number y w) (bit (carry w)) (2 ^ w)
+      (ones_of o (number a o)) (bit (a o)) (ones_of (suc o) (number a (suc o)))
+      (sym old_split ∙ i.ones) (omega (arith, most, p)) digit (sym (ones_of_more a o))
+      (omega (arith, most_new, p)) in
       record {
-        ones = word ∙ no_carry (carry n) (number y n) (2 ^ n)
-            (ones_of (suc o) (number_at n bits m.a (suc o))) few total;
-        rest = λ q out. t.rest q (λ j w lj lw e. elsewhere o q out j w lj lw e)
+        ones = new_split
+            ∙ ap (λ x. x + 2 ^ w * number (λ j. new (row n m.target (w + j))) r) low_new
+            ∙ ap (λ x. number y w + 2 ^ w * x) high_new ∙ step;
+        rest = λ q out. t.rest q (λ j x lj lx e. elsewhere o lo q out j x lj lx e)
             ∙ stays q (bit_else n 0 0 m q out) ∙ i.rest q out;
       }
     where
-      elsewhere : (o : ℕ) → (q : Spot) → IsElsewhere n 1 0 m q → (j w : ℕ) → j < n → w < 2
-          → q ≡ spot_at n j o (nth_place count_body.writes w) → ⊥
-      elsewhere o q out j zero lj lw e = out.target j (omega arith) e
-      elsewhere o q out j (suc zero) lj lw e = bit_else n 0 0 m q out e
-      elsewhere o q out j (suc (suc w)) lj lw e = absurd (omega arith)
+      above : (o v : ℕ) → o < v → v < n → (j w : ℕ) → j < o + 1 → w < 2
+          → row n m.target v ≡ spot_at n j o (nth_place count_body.writes w) → ⊥
+      above o v lo lv j zero lj lw e = let z : v ≡ j =
+          are.moves.by v j (omega arith) (omega arith) e in absurd (omega arith)
+      above o v lo lv j (suc zero) lj lw e = cf.target.by 0 v (omega arith) (omega arith) (sym e)
+      above o v lo lv j (suc (suc w)) lj lw e = absurd (omega arith)
+
+      elsewhere : (o : ℕ) → o < n → (q : Spot) → IsElsewhere n 1 0 m q → (j w : ℕ) → j < o + 1
+          → w < 2 → q ≡ spot_at n j o (nth_place count_body.writes w) → ⊥
+      elsewhere o lo q out j zero lj lw e = out.target j (omega arith) e
+      elsewhere o lo q out j (suc zero) lj lw e = bit_else n 0 0 m q out e
+      elsewhere o lo q out j (suc (suc w)) lj lw e = absurd (omega arith)
 
   all_counts : (o : ℕ) (zeroed : Spots) → o ≤ n → Counted 0 zeroed
       → Counted o (after_outer n count_parts o zeroed)

@@ -18,7 +18,7 @@ square : (n : ℕ) → n ^ 2 ≡ n * n
 square n = let e : n ^ 2 ≡ n ^ 1 * n = pow-suc n 1 in let f : n ^ 1 ≡ n ^ 0 * n = pow-suc n 0 in
     let z : n ^ 0 ≡ 1 = pow-zero n in e ∙ ap (λ x. x * n) (f ∙ ap (λ x. x * n) z ∙ omega arith)
 
--- a sum of the first numbers, twice
+-- one of two numbers in a row is even
 record Half (n : ℕ) : Type 0 where
   half : ℕ
   is : n * (n + 1) ≡ 2 * half
@@ -28,7 +28,8 @@ half_of zero = record { half = 0; is = refl }
 half_of (suc n) = let h = half_of n in
     record { half = h.half + n + 1; is = (let e = h.is in omega (arith, e)) }
 
-triangle : (n : ℕ) → 2 * (n * (n + 1) / 2) ≡ n * n + n
+-- the sum of the numbers up to n, twice
+pub triangle : (n : ℕ) → 2 * (n * (n + 1) / 2) ≡ n * n + n
 triangle n = let h = half_of n in let e = h.is in
     let f : n * (n + 1) / 2 ≡ h.half = ap (λ x. x / 2) e ∙ omega arith in omega (arith, e, f)
 
@@ -41,7 +42,7 @@ costs op.Div is n = let e = sum_is turn_cost n (placed_steps [] (nested op.Div))
 costs op.Rem is n = let e = sum_is turn_cost n (placed_steps [] (nested op.Rem)) in
     let s = triangle n in omega (arith, e, s)
 costs op.Bitcount is n = let e = sum_is turn_cost n (placed_steps [] (nested op.Bitcount)) in
-    let s = square n in omega (arith, e, s)
+    let s = triangle n in omega (arith, e, s)
 costs op.Divmod is n = let e = sum_is turn_cost n (placed_steps [] (nested op.Divmod)) in
     let s = triangle n in omega (arith, e, s)
 costs p is n = cc
@@ -75,7 +76,8 @@ cheap op.Div is (suc k) some = let t = triangle (suc k) in let s = square (suc k
     omega (arith, t, s)
 cheap op.Rem is (suc k) some = let t = triangle (suc k) in let s = square (suc k) in
     omega (arith, t, s)
-cheap op.Bitcount is (suc k) some = omega arith
+cheap op.Bitcount is (suc k) some = let t = triangle (suc k) in let s = square (suc k) in
+    omega (arith, t, s)
 cheap op.Divmod is (suc k) some = let t = triangle (suc k) in let s = square (suc k) in
     omega (arith, t, s)
 cheap p is n some = cc

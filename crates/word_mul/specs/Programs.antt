@@ -1,5 +1,5 @@
 -- The loop programs of the word operations that take a pass over a word for each position.
-use Rattle.std.specs.Prelude.{ℕ, ◌+◌, ◌*◌, ◌/◌, ◌^◌, ◌==◌, Bool, true, false, if◌then◌else◌}
+use Rattle.std.specs.Prelude.{ℕ, ◌+◌, ◌*◌, ◌/◌, ◌==◌, Bool, true, false, if◌then◌else◌}
 use Rattle.std.specs.Prelude.{List, [], ◌∷◌, ◌++◌, Option, Some, None}
 use Rattle.mig_graph.specs.declared.Node.{Node}
 use Rattle.mig_graph.specs.Literals.{node_of}
@@ -149,7 +149,7 @@ abbrev pub nested_total : WordOp → ℕ → ℕ
 nested_total o.Mul n = 9 * (n * (n + 1) / 2) + 4 * n
 nested_total o.Div n = 12 * (n * (n + 1) / 2) + 16 * n + 1
 nested_total o.Rem n = 12 * (n * (n + 1) / 2) + 16 * n + 1
-nested_total o.Bitcount n = 18 * n ^ 2 + 3 * n
+nested_total o.Bitcount n = 18 * (n * (n + 1) / 2) + 3 * n
 nested_total o.Divmod n = 12 * (n * (n + 1) / 2) + 17 * n + 1
 nested_total p n = 0
 

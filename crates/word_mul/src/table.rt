@@ -169,7 +169,7 @@ pub static NESTED: [(WordOp, NestedProgram); 5] = [
             after: Some(Moved(REST, Z)),
         },
     ),
-    // each bit is added
+    // each bit is added, where the count so far may have ones
     (
         WordOp::Bitcount,
         NestedProgram {
@@ -177,7 +177,7 @@ pub static NESTED: [(WordOp, NestedProgram); 5] = [
             gathering: None,
             parts: [
                 Some(Once(Inverted(X_OUTER, BIT))),
-                Some(Each(Count::All, Counted(Z, BIT))),
+                Some(Each(Count::UpTo, Counted(Z, BIT))),
                 None,
                 None,
                 None,

@@ -1,8 +1,7 @@
 -- Each word operation's loop program has settled bodies, and takes exactly the operation's
 -- commands.
-use Rattle.std.proofs.Common.{◌≡◌, ℕ, zero, suc, ◌+◌, ◌*◌, ◌/◌, ◌<◌, Bool, true, false, cond}
+use Rattle.std.proofs.Common.{◌≡◌, ℕ, ◌<◌, Bool, true, false, cond}
 use Rattle.std.proofs.Common.{List, [], ◌∷◌, Some, refl, sym, ap, ◌∙◌, subst, arith}
-use Rattle.std.proofs.Math.Nat.{mul-div_cancel_left}
 use Rattle.op_text.specs.declared.tree.Kind.{Kind}
 use Rattle.op_text.specs.declared.tree.Kind.TheVariants.{Word, Bit}
 use Rattle.op_text.specs.declared.word_ops.WordOp.{WordOp}
@@ -21,6 +20,7 @@ use Rattle.word_lower.specs.declared.table.ProgramRow.{ProgramRow}
 use Rattle.word_lower.specs.declared.table.ProgramRow.TheVariants.{Spread}
 use Rattle.word_lower.specs.Programs.{program, program_of}
 use Rattle.word_mul.specs.Programs.{is_nested, nested}
+use Rattle.word_mul.proofs.Totals.{triangle}
 use Rattle.uprog_gen.specs.Costs.{op_aaps, op_aps}
 use Rattle.uprog_gen.specs.Settled.{turn_aaps, turn_aps, IsSettled}
 use Rattle.uprog_gen.proofs.Costs.Placed.{steps_settle, settled_steps, aaps_like, aps_like}
@@ -35,17 +35,6 @@ all_settle op.Not Word = refl
 all_settle p Word = refl
 all_settle op.Not Bit = refl
 all_settle p Bit = refl
-
--- one of two numbers in a row is even
-half : (n : ℕ) → (h : ℕ) × (n * (n + 1) ≡ 2 * h)
-half zero = (0, refl)
-half (suc n) = let h = half n in (h.0 + n + 1, omega (arith, h.1))
-
-pub triangle : (n : ℕ) → 2 * (n * (n + 1) / 2) ≡ n * n + n
-triangle n =
-    let h = half n in
-    let e : n * (n + 1) / 2 ≡ h.0 = ap (λ x. x / 2) h.1 ∙ mul-div_cancel_left h.0 (omega arith) in
-    omega (arith, e, h.1)
 
 -- the operations that take words or bits
 abbrev pub is_spread : ProgramRow → Bool
