@@ -1,6 +1,6 @@
 //! Who chooses the bank that does the next command of a wave.
 
-ghost use Rattle.std.specs.Prelude.{◌≡◌, ℕ, ◌<◌};
+ghost use Rattle.std.specs.Prelude.{◌≡◌, ℕ, ◌%◌, ◌<◌};
 ghost use Rattle.wave_model.specs.Schedule.{Picker as Rule, PicksLive, Ahead, Turning, Drawing};
 ghost use Rattle.uprog_ctl.specs.Orders.{turn_of};
 
@@ -25,6 +25,24 @@ pub trait Picker {
 
     /// Its choice is one of the live banks.
     ghost picks_live: { PicksLive rule };
+}
+
+/// Which of so many live banks a number chooses: its remainder. The numbers of banks that are powers
+/// of two stand by themselves, since a division takes as long as a command on a row of one word.
+#[inline(always)]
+fn choice_of(number: u64, live: u16) -> u16
+    requires { 0 < live }
+    ensures { result ≡ number % live }
+{
+    let choice = match live {
+        1 => 0,
+        2 => number % 2,
+        4 => number % 4,
+        8 => number % 8,
+        16 => number % 16,
+        _ => number % u64::from(live),
+    };
+    choice as u16
 }
 
 /// Always chooses the first live bank. Its state is nothing.
@@ -90,7 +108,7 @@ impl Picker for Turns {
     ghost rule = { in_turn };
 
     fn pick(&mut self, live: u16) -> u16 {
-        let choice = self.count % live;
+        let choice = choice_of(u64::from(self.count), live);
         self.count = self.count.wrapping_add(1);
         choice
     }
@@ -132,7 +150,7 @@ impl Picker for Seeded {
     ghost rule = { in_turn };
 
     fn pick(&mut self, live: u16) -> u16 {
-        (self.words.next_word() % u64::from(live)) as u16
+        choice_of(self.words.next_word(), live)
     }
 
     ghost picks_live = { elim [
