@@ -3,7 +3,7 @@
 
 Run it at the top of the repository, after the program was built once:  python3 bench/commands.py
 It compiles one op of each operation, asks `cost` for every width from 1 to 128, and ends with 1 where the AAP or the AP
-are not those that `crates/op_text/specs/Costs.antt` says, which the compiler's contract proves.
+are not those that `crates/uprog_gen/specs/Costs.antt` says, which the compiler's contract proves.
 """
 
 import pathlib

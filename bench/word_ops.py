@@ -1,4 +1,4 @@
-"""The word operations, read from the sources: their table in `op_text`, and the numbers of its `Costs`.
+"""The word operations, read from the sources: their table in `op_text`, and the numbers of `Costs`, there and in `uprog_gen`.
 
 A name, row or formula that is not of the form known here ends the caller with a line that says so.
 """
@@ -10,7 +10,8 @@ import typing
 
 OP_TEXT = pathlib.Path(__file__).resolve().parent.parent / "crates" / "op_text"
 TABLE = OP_TEXT / "src" / "word_ops.rt"
-COSTS = OP_TEXT / "specs" / "Costs.antt"
+CEILINGS = OP_TEXT / "specs" / "Costs.antt"
+COSTS = OP_TEXT.parent / "uprog_gen" / "specs" / "Costs.antt"
 
 KINDS = {"Word": "w", "Bit": "b"}
 # of each signature, its first form: the kinds of the arguments, and the result's, or None where the row names it
@@ -73,30 +74,31 @@ def rows():
     return found
 
 
-def formula(text):
+def formula(text, path):
     """A formula of n, such as `14 * n ^ 2 + 9 * n`, as a function."""
     if not re.fullmatch(r"[n\d +*/^()]+", text):
-        fail(COSTS, f"no formula of n: {text}")
+        fail(path, f"no formula of n: {text}")
     return eval("lambda n: " + text.replace("^", "**").replace("/", "//"), {"__builtins__": {}})
 
 
-def formulas(definition):
+def formulas(definition, path):
     """The formula of each variant, and the one for the others, which is None where there is no such clause."""
     found, others = {}, None
-    for pattern, text in re.findall(rf"^{definition} (\S+) n = (.*)$", COSTS.read_text(), re.MULTILINE):
+    for pattern, text in re.findall(rf"^{definition} (\S+) n = (.*)$", path.read_text(), re.MULTILINE):
         if pattern.startswith("o."):
-            found[pattern.removeprefix("o.")] = formula(text)
+            found[pattern.removeprefix("o.")] = formula(text, path)
         else:
-            others = formula(text)
+            others = formula(text, path)
     return found, others
 
 
 def word_ops():
     """The word operations, in the order of the table."""
-    numbers = [(definition, *formulas(definition)) for definition in ("op_aaps", "op_aps", "op_ceiling")]
+    places = (("op_aaps", COSTS), ("op_aps", COSTS), ("op_ceiling", CEILINGS))
+    numbers = [(definition, path, *formulas(definition, path)) for definition, path in places]
 
     def of(variant):
-        for definition, found, others in numbers:
-            yield found.get(variant, others) or fail(COSTS, f"{definition} has no clause for {variant}")
+        for definition, path, found, others in numbers:
+            yield found.get(variant, others) or fail(path, f"{definition} has no clause for {variant}")
 
     return [WordOp(name, takes, gives, *of(variant)) for name, variant, takes, gives in rows()]

@@ -6,7 +6,7 @@ use Rattle.std.specs.Option.{is_some}
 use Rattle.std.specs.List.{list_all}
 use Rattle.text_lex.specs.Spelled.{fits_name}
 use Rattle.bbop_isa.specs.Words.{texts}
-use Rattle.bbop_isa.specs.Forms.{value}
+use Rattle.bbop_isa.specs.Forms.{number_or_zero}
 
 -- the names so far are right, and stand before those that are left
 pub record NamesSoFar (all : List (Bor (List ℕ))) (names : List (List ℕ)) (i : ℕ) : Type 0 where
@@ -17,7 +17,7 @@ pub record NamesSoFar (all : List (Bor (List ℕ))) (names : List (List ℕ)) (i
 -- the values so far are right, and stand before those that are left
 pub record ValuesSoFar (all : List (Option ℕ)) (values : List ℕ) (i : ℕ) : Type 0 where
   pub right : list_all is_some all ≡ list_all is_some (drop i all)
-  pub items : map value all ≡ values ++ map value (drop i all)
+  pub items : map number_or_zero all ≡ values ++ map number_or_zero (drop i all)
 
 named : (text name : List ℕ) → (if fits_name text then Some text else None) ≡ Some name
     → (fits_name text ≡ true) × (text ≡ name)

@@ -7,11 +7,11 @@ use Rattle.bbop_isa.specs.declared.instr.ScriptKind.{ScriptKind}
 use Rattle.bbop_isa.specs.Lines.{lines_of}
 use Rattle.bbop_isa.specs.Forms.{view_of, line_of}
 use Rattle.bbop_isa.specs.Script.{script_of, script_from}
-use Rattle.bbop_isa.specs.Reading.{following}
+use Rattle.bbop_isa.specs.Reading.{script_after}
 
 -- the script so far, and what is left of the text, whose first line has this number
 pub record SoFar (text : List ℕ) (script : List Instr) (rest : List ℕ) (number : ℕ) : Type 0 where
-  pub said : script_of text ≡ following (map view_of script) (script_from number (lines_of rest))
+  pub said : script_of text ≡ script_after (map view_of script) (script_from number (lines_of rest))
   pub place : number + length rest ≤ length text + 1
 
 -- a line that is refused has a byte

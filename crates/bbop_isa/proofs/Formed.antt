@@ -18,7 +18,7 @@ use Rattle.bbop_isa.specs.declared.instr.ScriptKind.{ScriptKind}
 use Rattle.bbop_isa.specs.declared.instr.ScriptKind.TheVariants.{Syntax, BadName, BadNumber}
 use Rattle.bbop_isa.specs.Words.{Word, Name, Number, Comma, Other}
 use Rattle.bbop_isa.specs.Forms.{Instruction, Init, Bbop, Load, Fill, Print, Free, Order, Operands}
-use Rattle.bbop_isa.specs.Forms.{operands_of, is_count, is_width, is_seed, value, result_map}
+use Rattle.bbop_isa.specs.Forms.{operands_of, is_count, is_width, is_seed, number_or_zero, result_map}
 use Rattle.bbop_isa.specs.Forms.{checked, init_of, bbop_of, load_of, fill_of, lone_name}
 use Rattle.bbop_isa.specs.Forms.{order_of, verb_of, of_verb, instruction_of}
 use Rattle.bbop_isa.specs.Laws.{with_commas, first_name, other_words, AreSizes, IsRight}
@@ -92,7 +92,7 @@ init_written head words (name ∷ []) (Some count ∷ None ∷ []) i h w is =
     (Init name count 0) i is in
     let clash : false ≡ true = (both (is_count (Some count)) false ok.numbers).1 in absurd (cc)
 init_written head words (name ∷ []) (None ∷ n ∷ []) i h w is =
-    let ok = checked_ok (fits_name name) false (Init name 0 (value n)) i is in
+    let ok = checked_ok (fits_name name) false (Init name 0 (number_or_zero n)) i is in
     let clash : false ≡ true = ok.numbers in absurd (cc)
 init_written head words (name ∷ []) [] i h w is = absurd (cc)
 init_written head words (name ∷ []) (count ∷ []) i h w is = absurd (cc)
@@ -131,10 +131,10 @@ bbop_written head op words (dst ∷ src ∷ srcs) (Some count ∷ None ∷ []) i
 bbop_written head op words (dst ∷ src ∷ srcs) (None ∷ n ∷ []) i h apart w is =
     let few = unless_ok (nat_lt 4 (length srcs)) Syntax
     (checked (list_all fits_name (op ∷ dst ∷ src ∷ srcs)) false
-    (Bbop op dst (src ∷ srcs) 0 (value n))) i is in
+    (Bbop op dst (src ∷ srcs) 0 (number_or_zero n))) i is in
     let clash : false ≡ true =
     (checked_ok (list_all fits_name (op ∷ dst ∷ src ∷ srcs)) false
-    (Bbop op dst (src ∷ srcs) 0 (value n)) i few.1).numbers in absurd (cc)
+    (Bbop op dst (src ∷ srcs) 0 (number_or_zero n)) i few.1).numbers in absurd (cc)
 bbop_written head op words (dst ∷ src ∷ srcs) [] i h apart w is = absurd (cc)
 bbop_written head op words (dst ∷ src ∷ srcs) (count ∷ []) i h apart w is = absurd (cc)
 bbop_written head op words (dst ∷ src ∷ srcs) (count ∷ n ∷ m ∷ numbers) i h apart w is = absurd (cc)
@@ -142,7 +142,7 @@ bbop_written head op words [] numbers i h apart w is = absurd (cc)
 bbop_written head op words (dst ∷ []) numbers i h apart w is = absurd (cc)
 
 values_are : (numbers : List (Option ℕ)) → list_all is_some numbers ≡ true
-    → map Number numbers ≡ map (λ v. Number (Some v)) (map value numbers)
+    → map Number numbers ≡ map (λ v. Number (Some v)) (map number_or_zero numbers)
 values_are [] is = refl
 values_are (Some v ∷ numbers) is = ap (λ ws. Number (Some v) ∷ ws) (values_are numbers is)
 values_are (None ∷ numbers) is = absurd (cc)
@@ -153,7 +153,7 @@ load_written : (head : List ℕ) (words : List Word) (names : List (List ℕ))
     → load_of names numbers ≡ says i → IsWritten head words i
 load_written head words (name ∷ []) (number ∷ numbers) i h w is =
     let ok = checked_ok (fits_name name) (list_all is_some (number ∷ numbers))
-    (Load name (map value (number ∷ numbers))) i is in
+    (Load name (map number_or_zero (number ∷ numbers))) i is in
     subst (IsWritten head words) ok.same (record {
       first = h;
       others = w ∙ ap (λ ws. with_commas (Name name ∷ ws))
@@ -263,7 +263,7 @@ order_written head (Name word ∷ Number seed ∷ []) i h is =
     at (bytes_eq word (codes "seed")) seed (is_seed seed) refl refl is
   where
     at : (a : Bool) (s : Option ℕ) (b : Bool) → bytes_eq word (codes "seed") ≡ a → is_seed s ≡ b
-        → (if a then (if b then says (Order (Seed (value s))) else Err BadNumber) else Err Syntax)
+        → (if a then (if b then says (Order (Seed (number_or_zero s))) else Err BadNumber) else Err Syntax)
         ≡ says i → IsWritten head (Name word ∷ Number s ∷ []) i
     at true (Some s) true e b is =
         subst (IsWritten head (Name word ∷ Number (Some s) ∷ [])) (ok_is (Order (Seed s)) i is)

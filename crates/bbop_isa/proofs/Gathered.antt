@@ -4,8 +4,8 @@ use Rattle.std.proofs.Common.{Option, Some, None, Result, Ok, Err, refl, ap, ◌
 use Rattle.std.proofs.Common.{append_assoc, append-nil}
 use Rattle.bbop_isa.specs.declared.words.Word.{Word as Kept}
 use Rattle.bbop_isa.specs.declared.operands.Operands.{Operands as KeptOperands}
-use Rattle.bbop_isa.specs.declared.instr.LineNo.{LineNo}
-use Rattle.bbop_isa.specs.declared.instr.LineNo.TheVariants as line_no
+use Rattle.bbop_isa.specs.declared.instr.LineError.{LineError}
+use Rattle.bbop_isa.specs.declared.instr.LineError.TheVariants as line_no
 use Rattle.bbop_isa.specs.Words.{Word, Name, Number, Comma, Other, word_view, texts}
 use Rattle.bbop_isa.specs.Forms.{Operands, operands_of, with_name, with_number, before_names}
 use Rattle.bbop_isa.specs.Reading.{operands_view, takes, joined, joined_after, left, Takes}
@@ -97,7 +97,7 @@ not_taken names numbers Comma words is = refl
 not_taken names numbers Other words is = refl
 
 -- a word that was pushed is taken
-pub pushed_is_taken : (old : KeptOperands) (word : Kept) (answer : Result Bool LineNo)
+pub pushed_is_taken : (old : KeptOperands) (word : Kept) (answer : Result Bool LineError)
     (new : KeptOperands) → old.at_comma ≡ false → Pushes old word answer new → new.at_comma ≡ true
     → Takes old word answer new
 pushed_is_taken old word (Ok true) new was pushed is =

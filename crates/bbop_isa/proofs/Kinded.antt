@@ -18,10 +18,10 @@ use Rattle.bbop_isa.specs.declared.instr.ScriptKind.{ScriptKind}
 use Rattle.bbop_isa.specs.declared.instr.ScriptKind.TheVariants.{Lex, Syntax, BadName, BadNumber}
 use Rattle.bbop_isa.specs.Words.{Word, Name, Number, Comma, Other, words_in, word_at}
 use Rattle.bbop_isa.specs.Forms.{Instruction, Init, Bbop, Load, Fill, Print, Free, Order, Operands}
-use Rattle.bbop_isa.specs.Forms.{operands_of, is_seed, value, result_map, checked, order_of}
+use Rattle.bbop_isa.specs.Forms.{operands_of, is_seed, number_or_zero, result_map, checked, order_of}
 use Rattle.bbop_isa.specs.Forms.{verb_of, of_operands, of_verb, instruction_of, of_words, line_of}
 use Rattle.bbop_isa.specs.Kinds.{Form, InitForm, BbopForm, LoadForm, FillForm, PrintForm, FreeForm}
-use Rattle.bbop_isa.specs.Kinds.{InOrder, TurnsOrder, SeedOrder, words_of, IsForm, HasForm}
+use Rattle.bbop_isa.specs.Kinds.{InOrder, TurnsOrder, SeedOrder, form_words, IsForm, HasForm}
 use Rattle.bbop_isa.specs.Kinds.{names_fit, numbers_fit, is_stranger, Reads, IsWrong, LinesAreWrong}
 use Rattle.bbop_isa.proofs.Spelling.{read_is_spelled, spelled_is_read}
 use Rattle.bbop_isa.proofs.Formed.{Said, Spelled, is_text, is_other}
@@ -59,15 +59,15 @@ form_of head words = if bytes_eq head (codes "order") then order_form words
 
 -- the instruction of a form
 abbrev meant : Form → Instruction
-meant (InitForm name count n) = Init name (value count) (value n)
-meant (BbopForm op dst srcs count n) = Bbop op dst srcs (value count) (value n)
-meant (LoadForm name values) = Load name (map value values)
-meant (FillForm name v) = Fill name (value v)
+meant (InitForm name count n) = Init name (number_or_zero count) (number_or_zero n)
+meant (BbopForm op dst srcs count n) = Bbop op dst srcs (number_or_zero count) (number_or_zero n)
+meant (LoadForm name values) = Load name (map number_or_zero values)
+meant (FillForm name v) = Fill name (number_or_zero v)
 meant (PrintForm name) = Print name
 meant (FreeForm name) = Free name
 meant InOrder = Order Forward
 meant TurnsOrder = Order Turns
-meant (SeedOrder seed) = Order (Seed (value seed))
+meant (SeedOrder seed) = Order (Seed (number_or_zero seed))
 
 abbrev judged : Option Form → Said
 judged None = Err Syntax
@@ -143,7 +143,7 @@ order_judged (Name word ∷ Other ∷ words) = refl
 order_judged (Name word ∷ Number seed ∷ []) = at (bytes_eq word (codes "seed")) (is_seed seed) refl
   where
     at : (a b : Bool) → is_seed seed ≡ b
-        → (if a then (if b then Ok (Order (Seed (value seed))) else Err BadNumber) else Err Syntax)
+        → (if a then (if b then Ok (Order (Seed (number_or_zero seed))) else Err BadNumber) else Err Syntax)
         ≡ judged (if a then Some (SeedOrder seed) else None)
     at true true e = rw e refl
     at true false e = rw e refl
@@ -318,7 +318,7 @@ abbrev form_in : List Word → Option Form
 form_in (Name head ∷ words) = form_of head words
 form_in words = None
 
-has_found : (f : Form) → IsForm f → form_in (words_of f) ≡ Some f
+has_found : (f : Form) → IsForm f → form_in (form_words f) ≡ Some f
 has_found (InitForm name count n) h = refl
 has_found (BbopForm op dst [] count n) h = absurd (omega (arith, h.1))
 has_found (BbopForm op dst (src ∷ srcs) count n) h =

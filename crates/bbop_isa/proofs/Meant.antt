@@ -12,7 +12,7 @@ use Rattle.bit_rows.specs.declared.TheConstants.{WIDTH_MAX}
 use Rattle.bbop_isa.specs.declared.instr.Order.TheVariants.{Forward, Turns, Seed}
 use Rattle.bbop_isa.specs.Words.{Word, Name, Number, Comma, Other, words_in}
 use Rattle.bbop_isa.specs.Forms.{Instruction, Init, Bbop, Load, Fill, Print, Free, Order, is_count}
-use Rattle.bbop_isa.specs.Forms.{is_width, value, result_map, instruction_of, of_words}
+use Rattle.bbop_isa.specs.Forms.{is_width, number_or_zero, result_map, instruction_of, of_words}
 use Rattle.bbop_isa.specs.Laws.{first_name, other_words, AreSizes, IsRight, IsLine, LinesAreForms}
 use Rattle.bbop_isa.proofs.Spelling.{spelled_is_read}
 use Rattle.bbop_isa.proofs.Formed.{Said, says, IsWritten, said_is_written}
@@ -33,7 +33,7 @@ values_are_right : (values : List ℕ) → list_all is_some (map Some values) �
 values_are_right [] = refl
 values_are_right (v ∷ values) = values_are_right values
 
-values_stay : (values : List ℕ) → map value (map Some values) ≡ values
+values_stay : (values : List ℕ) → map number_or_zero (map Some values) ≡ values
 values_stay [] = refl
 values_stay (v ∷ values) = ap (λ vs. v ∷ vs) (values_stay values)
 

@@ -32,7 +32,7 @@ abbrev pub view_of : Instr → Instruction
 view_of (instr.Init name count n) = Init name count n
 view_of (instr.Bbop op dst srcs count n) = Bbop op dst srcs.items count n
 view_of (instr.Load name values) = Load name values.items
-view_of (instr.Fill name value) = Fill name value
+view_of (instr.Fill name number_or_zero) = Fill name number_or_zero
 view_of (instr.Print name) = Print name
 view_of (instr.Free name) = Free name
 view_of (instr.Order order) = Order order
@@ -81,8 +81,8 @@ is_seed None = false
 is_seed (Some seed) = nat_lt seed (2 ^ 64)
 
 -- the number that was read; what is refused before it is asked for counts as 0
-abbrev pub value : Option ℕ → ℕ
-value number = unwrap_or number 0
+abbrev pub number_or_zero : Option ℕ → ℕ
+number_or_zero number = unwrap_or number 0
 
 -- what a line says, turned into something else; its fault stays
 abbrev pub result_map : {A B : Type 0} → (A → B) → Result A ScriptKind → Result B ScriptKind
@@ -97,7 +97,7 @@ checked names numbers i = if not names then Err BadName
 -- `trsp_init` with the name of an object, its number of elements and its width
 abbrev pub init_of : List (List ℕ) → List (Option ℕ) → Result Instruction ScriptKind
 init_of (name ∷ []) (count ∷ n ∷ []) = checked (fits_name name) (is_count count
-    && is_width n) (Init name (value count) (value n))
+    && is_width n) (Init name (number_or_zero count) (number_or_zero n))
 init_of names numbers = Err Syntax
 
 -- one to five names after the first
@@ -105,19 +105,19 @@ abbrev pub bbop_of : List ℕ → List (List ℕ) → List (Option ℕ) → Resu
 bbop_of op (dst ∷ src ∷ srcs) (count ∷ n ∷ []) =
     if nat_lt 4 (length srcs) then Err Syntax
     else checked (list_all fits_name (op ∷ dst ∷ src ∷ srcs)) (is_count count
-    && is_width n) (Bbop op dst (src ∷ srcs) (value count) (value n))
+    && is_width n) (Bbop op dst (src ∷ srcs) (number_or_zero count) (number_or_zero n))
 bbop_of op names numbers = Err Syntax
 
 -- `load` with a name and one or more values, whose width and number the machine looks at
 abbrev pub load_of : List (List ℕ) → List (Option ℕ) → Result Instruction ScriptKind
 load_of (name ∷ []) (number ∷ numbers) = checked (fits_name name)
-    (list_all is_some (number ∷ numbers)) (Load name (map value (number ∷ numbers)))
+    (list_all is_some (number ∷ numbers)) (Load name (map number_or_zero (number ∷ numbers)))
 load_of names numbers = Err Syntax
 
 -- `fill` with a name and one value, whose width the machine looks at
 abbrev pub fill_of : List (List ℕ) → List (Option ℕ) → Result Instruction ScriptKind
 fill_of (name ∷ []) (number ∷ []) = checked (fits_name name) (is_some number)
-    (Fill name (value number))
+    (Fill name (number_or_zero number))
 fill_of names numbers = Err Syntax
 
 -- one name and nothing else
@@ -127,7 +127,7 @@ lone_name names numbers = Err Syntax
 
 -- an order by the words of a generator, begun with this seed
 abbrev pub seed_of : Option ℕ → Result Instruction ScriptKind
-seed_of seed = if is_seed seed then Ok (Order (Seed (value seed))) else Err BadNumber
+seed_of seed = if is_seed seed then Ok (Order (Seed (number_or_zero seed))) else Err BadNumber
 
 -- which order in force a line asks for
 abbrev pub order_of : List Word → Result Instruction ScriptKind

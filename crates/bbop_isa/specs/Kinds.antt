@@ -25,19 +25,19 @@ pub data Form : Type 0 where
   SeedOrder : Option ℕ → Form
 
 -- the words of the form
-abbrev pub words_of : Form → List Word
-words_of (InitForm name count n) = Name (codes "bbop_trsp_init")
+abbrev pub form_words : Form → List Word
+form_words (InitForm name count n) = Name (codes "bbop_trsp_init")
     ∷ with_commas (Name name ∷ Number count ∷ Number n ∷ [])
-words_of (BbopForm op dst srcs count n) = Name (codes "bbop_" ++ op)
+form_words (BbopForm op dst srcs count n) = Name (codes "bbop_" ++ op)
     ∷ with_commas (map Name (dst ∷ srcs) ++ Number count ∷ Number n ∷ [])
-words_of (LoadForm name values) = Name (codes "load")
+form_words (LoadForm name values) = Name (codes "load")
     ∷ with_commas (Name name ∷ map Number values)
-words_of (FillForm name v) = Name (codes "fill") ∷ with_commas (Name name ∷ Number v ∷ [])
-words_of (PrintForm name) = Name (codes "print") ∷ Name name ∷ []
-words_of (FreeForm name) = Name (codes "free") ∷ Name name ∷ []
-words_of InOrder = Name (codes "order") ∷ Name (codes "in") ∷ []
-words_of TurnsOrder = Name (codes "order") ∷ Name (codes "turns") ∷ []
-words_of (SeedOrder seed) = Name (codes "order") ∷ Name (codes "seed") ∷ Number seed ∷ []
+form_words (FillForm name v) = Name (codes "fill") ∷ with_commas (Name name ∷ Number v ∷ [])
+form_words (PrintForm name) = Name (codes "print") ∷ Name name ∷ []
+form_words (FreeForm name) = Name (codes "free") ∷ Name name ∷ []
+form_words InOrder = Name (codes "order") ∷ Name (codes "in") ∷ []
+form_words TurnsOrder = Name (codes "order") ∷ Name (codes "turns") ∷ []
+form_words (SeedOrder seed) = Name (codes "order") ∷ Name (codes "seed") ∷ Number seed ∷ []
 
 -- An operation has one to five names after the first, and its own name is another than that of
 -- the first form; a load has a value.
@@ -49,7 +49,7 @@ IsForm f = Unit {0}
 
 -- the words of a line are those of a form, whatever its names and numbers are
 abbrev pub HasForm : List Word → Form → Type 0
-HasForm words f = (words ≡ words_of f) × IsForm f
+HasForm words f = (words ≡ form_words f) × IsForm f
 
 -- whether each name has 1 to 16 bytes
 abbrev pub names_fit : Form → Bool

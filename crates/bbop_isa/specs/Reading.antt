@@ -12,20 +12,21 @@ use Rattle.bbop_isa.specs.declared.instr.Instr.{Instr}
 use Rattle.bbop_isa.specs.declared.instr.ScriptFault.{ScriptFault}
 use Rattle.bbop_isa.specs.declared.instr.ScriptKind.{ScriptKind}
 use Rattle.bbop_isa.specs.declared.instr.ScriptKind.TheVariants.{Lex, BadNumber}
-use Rattle.bbop_isa.specs.declared.instr.LineNo.{LineNo}
-use Rattle.bbop_isa.specs.declared.instr.LineNo.TheVariants as line_no
+use Rattle.bbop_isa.specs.declared.instr.LineError.{LineError}
+use Rattle.bbop_isa.specs.declared.instr.LineError.TheVariants as line_no
 use Rattle.bbop_isa.specs.Words.{Word, Name, Number, Comma, Other, words_in, word_view, texts}
-use Rattle.bbop_isa.specs.Forms.{Operands, Instruction, operands_of, value, view_of, line_of}
+use Rattle.bbop_isa.specs.Forms.{Operands, Instruction, operands_of, number_or_zero, view_of}
+use Rattle.bbop_isa.specs.Forms.{line_of}
 use Rattle.bbop_isa.specs.Script.{go_on}
 
 -- The answer on a line is what was meant.
-abbrev pub Gives : {A B : Type 0} → (B → A) → Result A ScriptKind → Result B LineNo → Type 0
+abbrev pub Gives : {A B : Type 0} → (B → A) → Result A ScriptKind → Result B LineError → Type 0
 Gives view meant (Ok b) = meant ≡ Ok (view b)
 Gives view meant (Err (line_no.Bad kind)) = meant ≡ Err kind
 Gives view meant (Err line_no.NoMemory) = Unit {0}
 
 -- The words are those of the line, or a byte of it starts no token.
-abbrev pub WordsOf : List ℕ → Result (Vec Kept Global) LineNo → Type 0
+abbrev pub WordsOf : List ℕ → Result (Vec Kept Global) LineError → Type 0
 WordsOf line (Ok words) = words_in (items_of line) ≡ Some (map word_view words.items)
 WordsOf line (Err (line_no.Bad kind)) = (words_in (items_of line) ≡ None) × (kind ≡ Lex)
 WordsOf line (Err line_no.NoMemory) = Unit {0}
@@ -61,7 +62,7 @@ abbrev pub left_in : KeptOperands → List Word → Option Operands
 left_in o words = left o.at_comma (texts o.names.items) o.numbers.items words
 
 -- One word was taken: what the words come to is as before. Or it was not: they come to nothing.
-abbrev pub Takes : KeptOperands → Kept → Result Bool LineNo → KeptOperands → Type 0
+abbrev pub Takes : KeptOperands → Kept → Result Bool LineError → KeptOperands → Type 0
 Takes old word (Ok true) new = (words : List Word)
     → left_in old (word_view word ∷ words) ≡ left_in new words
 Takes old word (Ok false) new = (words : List Word) → left_in old (word_view word ∷ words) ≡ None
@@ -81,7 +82,7 @@ takes names numbers Comma = None
 takes names numbers Other = None
 
 -- One word was added to the operands, or it may not stand there.
-abbrev pub Pushes : KeptOperands → Kept → Result Bool LineNo → KeptOperands → Type 0
+abbrev pub Pushes : KeptOperands → Kept → Result Bool LineError → KeptOperands → Type 0
 Pushes old word (Ok true) new = takes (texts old.names.items) old.numbers.items (word_view word)
     ≡ Some (operands_view new)
 Pushes old word (Ok false) new = takes (texts old.names.items) old.numbers.items (word_view word)
@@ -90,15 +91,15 @@ Pushes old word (Err (line_no.Bad kind)) new = ⊥
 Pushes old word (Err line_no.NoMemory) new = Unit {0}
 
 -- The operands are those that the words are, if they are some.
-abbrev pub OperandsOf : List Kept → Result (Option KeptOperands) LineNo → Type 0
+abbrev pub OperandsOf : List Kept → Result (Option KeptOperands) LineError → Type 0
 OperandsOf words (Ok o) = operands_of (map word_view words) ≡ option_map operands_view o
 OperandsOf words (Err (line_no.Bad kind)) = ⊥
 OperandsOf words (Err line_no.NoMemory) = Unit {0}
 
 -- the values, where all are below 2^128
-abbrev pub ValuesOf : List (Option ℕ) → Result (Vec ℕ Global) LineNo → Type 0
+abbrev pub ValuesOf : List (Option ℕ) → Result (Vec ℕ Global) LineError → Type 0
 ValuesOf numbers (Ok values) = (list_all is_some numbers ≡ true)
-    × (map value numbers ≡ values.items)
+    × (map number_or_zero numbers ≡ values.items)
 ValuesOf numbers (Err (line_no.Bad kind)) = (list_all is_some numbers ≡ false) × (kind ≡ BadNumber)
 ValuesOf numbers (Err line_no.NoMemory) = Unit {0}
 
@@ -109,16 +110,16 @@ IsNoTarget (dst ∷ []) = Unit {0}
 IsNoTarget (dst ∷ src ∷ srcs) = 4 < length srcs
 
 -- the script, after these instructions
-abbrev pub following : List Instruction → Result (List Instruction) ScriptFault
+abbrev pub script_after : List Instruction → Result (List Instruction) ScriptFault
     → Result (List Instruction) ScriptFault
-following before (Ok script) = Ok (before ++ script)
-following before (Err fault) = Err fault
+script_after before (Ok script) = Ok (before ++ script)
+script_after before (Err fault) = Err fault
 
 -- The instruction of the line was added, if it has one, so that the script of this line and others
 -- comes to the same. Or the line is refused.
-abbrev pub AddsLine : List ℕ → List Instr → Result (Unit {0}) LineNo → List Instr → Type 0
+abbrev pub AddsLine : List ℕ → List Instr → Result (Unit {0}) LineError → List Instr → Type 0
 AddsLine line old (Ok u) new = (number : ℕ) (rest : Result (List Instruction) ScriptFault)
-    → following (map view_of old) (go_on number (line_of line) rest)
-    ≡ following (map view_of new) rest
+    → script_after (map view_of old) (go_on number (line_of line) rest)
+    ≡ script_after (map view_of new) rest
 AddsLine line old (Err (line_no.Bad kind)) new = line_of line ≡ Err kind
 AddsLine line old (Err line_no.NoMemory) new = Unit {0}

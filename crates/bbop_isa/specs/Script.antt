@@ -8,17 +8,17 @@ use Rattle.bbop_isa.specs.Lines.{lines_of}
 use Rattle.bbop_isa.specs.Forms.{Instruction, line_of}
 
 -- the script, with what stands before it
-abbrev pub after : Option Instruction → Result (List Instruction) ScriptFault
+abbrev pub script_with : Option Instruction → Result (List Instruction) ScriptFault
     → Result (List Instruction) ScriptFault
-after i (Err fault) = Err fault
-after None (Ok script) = Ok script
-after (Some i) (Ok script) = Ok (i ∷ script)
+script_with i (Err fault) = Err fault
+script_with None (Ok script) = Ok script
+script_with (Some i) (Ok script) = Ok (i ∷ script)
 
 -- a line and the script after it: the first line at fault is the answer
 abbrev pub go_on : ℕ → Result (Option Instruction) ScriptKind
     → Result (List Instruction) ScriptFault → Result (List Instruction) ScriptFault
 go_on number (Err kind) rest = Err (record { line = number; kind = kind })
-go_on number (Ok i) rest = after i rest
+go_on number (Ok i) rest = script_with i rest
 
 -- what these lines say, the first of which has this number
 abbrev pub script_from : ℕ → List (List ℕ) → Result (List Instruction) ScriptFault

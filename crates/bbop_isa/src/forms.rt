@@ -6,13 +6,14 @@ ghost use Rattle.std.specs.List.{list_all};
 ghost use Rattle.std.specs.Option.{option_map};
 ghost use Rattle.text_lex.specs.Spelled.{fits_name};
 ghost use Rattle.bbop_isa.specs.Words.{word_view, texts as texts_in};
-ghost use Rattle.bbop_isa.specs.Forms.{view_of, is_count, is_width, is_seed, value, init_of};
+ghost use Rattle.bbop_isa.specs.Forms.{view_of, is_count, is_width, is_seed, number_or_zero};
+ghost use Rattle.bbop_isa.specs.Forms.{init_of};
 ghost use Rattle.bbop_isa.specs.Forms.{bbop_of, load_of, fill_of, lone_name, order_of, verb_of};
 ghost use Rattle.bbop_isa.specs.Forms.{of_operands, instruction_of, line_of};
 ghost use Rattle.bbop_isa.specs.Reading.{Gives, ValuesOf, IsNoTarget, operands_view};
 
 use crate::digits::Digits;
-use crate::instr::LineNo::{self, Bad};
+use crate::instr::LineError::{self, Bad};
 use crate::instr::ScriptKind::{BadName, BadNumber, Syntax};
 use crate::instr::{Instr, Order};
 use crate::operands::{Operands, operands_of};
@@ -35,7 +36,7 @@ enum Verb {
 }
 
 fn verb_of(head: &[u8]) -> Option<Verb>
-    ensures value { result ≡ verb_of head.now }
+    ensures number_or_zero { result ≡ verb_of head.now }
     ensures prefix { IfSome result (λ v. v ≡ Verb.Bbop → 5 ≤ length head.now) }
 {
     if head == b"bbop_trsp_init".as_slice() {
@@ -78,7 +79,7 @@ fn pair<T>(items: &[T]) -> Option<(&T, &T)>
 /// A number of elements.
 fn count_of(number: Option<Value>) -> Option<u32>
     ensures { MatchOption result (is_count number ≡ false) (λ count. (is_count number ≡ true)
-        × (count ≡ value number)) }
+        × (count ≡ number_or_zero number)) }
 {
     match number {
         Some(count) if 1 <= count && count <= Value::from(u32::MAX) => Some(count as u32),
@@ -89,7 +90,7 @@ fn count_of(number: Option<Value>) -> Option<u32>
 /// A width in bits.
 fn width_of(number: Option<Value>) -> Option<u8>
     ensures { MatchOption result (is_width number ≡ false) (λ n. (is_width number ≡ true)
-        × (n ≡ value number)) }
+        × (n ≡ number_or_zero number)) }
 {
     match number {
         Some(n) if 1 <= n && n <= Value::from(WIDTH_MAX) => Some(n as u8),
@@ -100,13 +101,13 @@ fn width_of(number: Option<Value>) -> Option<u8>
 /// A number of elements, and a width in bits.
 fn sizes_of(count: &Digits<'_>, n: &Digits<'_>) -> Option<(u32, u8)>
     ensures { MatchOption result ((is_count count.now && is_width n.now)
-        ≡ false) (λ p. ((is_count count.now && is_width n.now) ≡ true) × (p.0 ≡ value count.now)
-        × (p.1 ≡ value n.now)) }
+        ≡ false) (λ p. ((is_count count.now && is_width n.now) ≡ true)
+        × (p.0 ≡ number_or_zero count.now) × (p.1 ≡ number_or_zero n.now)) }
 {
     Some((count_of(count.value())?, width_of(n.value())?))
 }
 
-fn init_of(names: &[&[u8]], numbers: &[Digits<'_>]) -> Result<Instr, LineNo>
+fn init_of(names: &[&[u8]], numbers: &[Digits<'_>]) -> Result<Instr, LineError>
     ensures { Gives view_of (init_of (texts_in names.now) numbers.now) result }
 {
     let Some(name) = only(names) else {
@@ -159,7 +160,7 @@ fn targets<'a, 'b>(names: &'b [&'a [u8]]) -> Option<(&'a [u8], &'b [&'a [u8]])>
     }
 }
 
-fn bbop_of(op: &[u8], names: &[&[u8]], numbers: &[Digits<'_>]) -> Result<Instr, LineNo>
+fn bbop_of(op: &[u8], names: &[&[u8]], numbers: &[Digits<'_>]) -> Result<Instr, LineError>
     ensures { Gives view_of (bbop_of op.now (texts_in names.now) numbers.now) result }
 {
     let Some((dst, srcs)) = targets(names) else {
@@ -184,7 +185,7 @@ fn bbop_of(op: &[u8], names: &[&[u8]], numbers: &[Digits<'_>]) -> Result<Instr, 
 }
 
 /// The values, where all are right.
-fn values_of(numbers: &[Digits<'_>], alloc: Global) -> Result<Vec<Value>, LineNo>
+fn values_of(numbers: &[Digits<'_>], alloc: Global) -> Result<Vec<Value>, LineError>
     ensures { ValuesOf numbers.now result }
 {
     let mut values = Vec::new(alloc);
@@ -197,7 +198,7 @@ fn values_of(numbers: &[Digits<'_>], alloc: Global) -> Result<Vec<Value>, LineNo
     Ok(values)
 }
 
-fn load_of(names: &[&[u8]], numbers: &[Digits<'_>], alloc: Global) -> Result<Instr, LineNo>
+fn load_of(names: &[&[u8]], numbers: &[Digits<'_>], alloc: Global) -> Result<Instr, LineError>
     ensures { Gives view_of (load_of (texts_in names.now) numbers.now) result }
 {
     let Some(name) = only(names) else {
@@ -213,7 +214,7 @@ fn load_of(names: &[&[u8]], numbers: &[Digits<'_>], alloc: Global) -> Result<Ins
     Ok(Instr::Load { name, values })
 }
 
-fn fill_of(names: &[&[u8]], numbers: &[Digits<'_>]) -> Result<Instr, LineNo>
+fn fill_of(names: &[&[u8]], numbers: &[Digits<'_>]) -> Result<Instr, LineError>
     ensures { Gives view_of (fill_of (texts_in names.now) numbers.now) result }
 {
     let Some(name) = only(names) else {
@@ -226,13 +227,16 @@ fn fill_of(names: &[&[u8]], numbers: &[Digits<'_>]) -> Result<Instr, LineNo>
         return Err(Bad(BadName));
     };
     match number.value() {
-        Some(value) => Ok(Instr::Fill { name, value }),
+        Some(value) => Ok(Instr::Fill {
+            name,
+            value,
+        }),
         None => Err(Bad(BadNumber)),
     }
 }
 
 /// The one name that stands alone.
-fn lone_name(names: &[&[u8]], numbers: &[Digits<'_>]) -> Result<Name, LineNo>
+fn lone_name(names: &[&[u8]], numbers: &[Digits<'_>]) -> Result<Name, LineError>
     ensures { Gives (λ name. name) (lone_name (texts_in names.now) numbers.now) result }
 {
     let Some(name) = only(names) else {
@@ -250,7 +254,7 @@ fn lone_name(names: &[&[u8]], numbers: &[Digits<'_>]) -> Result<Name, LineNo>
 /// A seed.
 fn seed_of(number: Option<Value>) -> Option<u64>
     ensures { MatchOption result (is_seed number ≡ false) (λ seed. (is_seed number ≡ true)
-        × (seed ≡ value number)) }
+        × (seed ≡ number_or_zero number)) }
 {
     match number {
         Some(seed) if seed <= Value::from(u64::MAX) => Some(seed as u64),
@@ -258,7 +262,7 @@ fn seed_of(number: Option<Value>) -> Option<u64>
     }
 }
 
-fn order_of(words: &[Word<'_>]) -> Result<Instr, LineNo>
+fn order_of(words: &[Word<'_>]) -> Result<Instr, LineError>
     ensures { Gives view_of (order_of (map word_view words.now)) result }
 {
     match words {
@@ -286,7 +290,7 @@ fn of_operands(
     verb: Verb,
     operands: &Operands<'_>,
     alloc: Global,
-) -> Result<Instr, LineNo>
+) -> Result<Instr, LineError>
     requires { verb ≡ Verb.Bbop → 5 ≤ length head.now }
     ensures { Gives view_of (of_operands head.now verb (operands_view operands.now)) result }
 {
@@ -307,7 +311,7 @@ fn of_operands(
 }
 
 /// What a line says whose first token is this name.
-fn instruction_of(head: &[u8], words: &[Word<'_>], alloc: Global) -> Result<Instr, LineNo>
+fn instruction_of(head: &[u8], words: &[Word<'_>], alloc: Global) -> Result<Instr, LineError>
     ensures { Gives view_of (instruction_of head.now (map word_view words.now)) result }
 {
     if head == b"order".as_slice() {
@@ -323,7 +327,7 @@ fn instruction_of(head: &[u8], words: &[Word<'_>], alloc: Global) -> Result<Inst
 }
 
 /// What a line says: an instruction, or nothing where it has no token.
-pub fn line_of(line: &[u8], alloc: Global) -> Result<Option<Instr>, LineNo>
+pub fn line_of(line: &[u8], alloc: Global) -> Result<Option<Instr>, LineError>
     ensures { Gives (option_map view_of) (line_of line.now) result }
 {
     let words = words_of(line, alloc)?;

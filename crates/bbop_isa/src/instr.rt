@@ -1,7 +1,7 @@
 //! What a script says, and why it is refused.
 
 ghost use Rattle.std.specs.Prelude.{◌≡◌};
-ghost use Rattle.bbop_isa.specs.declared.instr.LineNo.TheVariants as line_no;
+ghost use Rattle.bbop_isa.specs.declared.instr.LineError.TheVariants as line_no;
 
 use arrayvec::ArrayVec;
 use bit_rows::Value;
@@ -87,15 +87,15 @@ pub enum ScriptNo {
 
 /// Why a line was not read.
 #[derive(Clone, Copy, PartialEq, Eq)]
-pub enum LineNo {
+pub enum LineError {
     Bad(ScriptKind),
     NoMemory,
 }
 
-impl From<NoMemory> for LineNo {
+impl From<NoMemory> for LineError {
     ghost from_gives = { λ _ e. e ≡ line_no.NoMemory };
 
-    fn from(_no: NoMemory) -> LineNo {
-        LineNo::NoMemory
+    fn from(_no: NoMemory) -> LineError {
+        LineError::NoMemory
     }
 }

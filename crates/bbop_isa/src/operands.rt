@@ -4,7 +4,7 @@ ghost use Rattle.std.specs.Prelude.{◌≡◌};
 ghost use Rattle.bbop_isa.specs.Reading.{OperandsOf, Pushes, Takes};
 
 use crate::digits::Digits;
-use crate::instr::LineNo;
+use crate::instr::LineError;
 use crate::words::Word;
 use faults::keep;
 use std::alloc::Global;
@@ -20,7 +20,7 @@ pub(crate) struct Operands<'a> {
 
 impl<'a> Operands<'a> {
     /// Whether the word is a name, or a number; with no name after a number.
-    fn push(&mut self, word: &Word<'a>) -> Result<bool, LineNo>
+    fn push(&mut self, word: &Word<'a>) -> Result<bool, LineError>
         ensures pushed { Pushes self.old word.now result self.new }
         ensures comma { self.new.at_comma ≡ self.old.at_comma }
     {
@@ -33,7 +33,7 @@ impl<'a> Operands<'a> {
     }
 
     /// Whether the word may come next.
-    fn take(&mut self, word: &Word<'a>) -> Result<bool, LineNo>
+    fn take(&mut self, word: &Word<'a>) -> Result<bool, LineError>
         ensures { Takes self.old word.now result self.new }
     {
         if self.at_comma {
@@ -50,7 +50,7 @@ impl<'a> Operands<'a> {
 pub(crate) fn operands_of<'a>(
     words: &[Word<'a>],
     alloc: Global,
-) -> Result<Option<Operands<'a>>, LineNo>
+) -> Result<Option<Operands<'a>>, LineError>
     ensures { OperandsOf words.now result }
 {
     let mut operands = Operands {

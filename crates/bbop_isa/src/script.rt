@@ -6,13 +6,13 @@ ghost use Rattle.bbop_isa.specs.Script.{script_of, Refused};
 ghost use Rattle.bbop_isa.specs.Reading.{AddsLine};
 
 use crate::forms::line_of;
-use crate::instr::{Instr, LineNo, ScriptFault, ScriptNo};
+use crate::instr::{Instr, LineError, ScriptFault, ScriptNo};
 use crate::lines::split_line;
 use faults::keep;
 use std::alloc::Global;
 
 /// Adds the instruction of a line, if it has one.
-fn add_line(script: &mut Vec<Instr>, line: &[u8], alloc: Global) -> Result<(), LineNo>
+fn add_line(script: &mut Vec<Instr>, line: &[u8], alloc: Global) -> Result<(), LineError>
     ensures { AddsLine line.now script.old.items result script.new.items }
 {
     if let Some(instr) = line_of(line, alloc)? {
@@ -35,11 +35,11 @@ pub fn parse_script(text: &[u8], alloc: Global) -> Result<Vec<Instr>, ScriptNo>
         let (line, others) = split_line(rest);
         match add_line(&mut script, line, alloc) {
             Ok(()) => {}
-            Err(LineNo::Bad(kind)) => {
+            Err(LineError::Bad(kind)) => {
                 let line = number as u32;
                 return Err(ScriptNo::Fault(ScriptFault { line, kind }));
             }
-            Err(LineNo::NoMemory) => return Err(ScriptNo::NoMemory),
+            Err(LineError::NoMemory) => return Err(ScriptNo::NoMemory),
         }
         let Some(more) = others else {
             return Ok(script);

@@ -8,7 +8,7 @@ ghost use Rattle.bbop_isa.specs.Words.{word_at, word_view};
 ghost use Rattle.bbop_isa.specs.Reading.{WordsOf};
 
 use crate::digits::Digits;
-use crate::instr::{LineNo, ScriptKind};
+use crate::instr::{LineError, ScriptKind};
 use faults::keep;
 use std::alloc::Global;
 use text_lex::{Lexer, Token, TokenKind, items_are_right};
@@ -40,7 +40,7 @@ fn word_of(token: Token<'_>) -> Word<'_>
 }
 
 /// The words of a line, unless one of its bytes starts none.
-pub(crate) fn words_of<'a>(line: &'a [u8], alloc: Global) -> Result<Vec<Word<'a>>, LineNo>
+pub(crate) fn words_of<'a>(line: &'a [u8], alloc: Global) -> Result<Vec<Word<'a>>, LineError>
     ensures { WordsOf line.now result }
 {
     items_are_right();
@@ -50,7 +50,7 @@ pub(crate) fn words_of<'a>(line: &'a [u8], alloc: Global) -> Result<Vec<Word<'a>
         match lexer.next() {
             Ok(Some(token)) => keep(&mut words, word_of(token))?,
             Ok(None) => return Ok(words),
-            Err(_) => return Err(LineNo::Bad(ScriptKind::Lex)),
+            Err(_) => return Err(LineError::Bad(ScriptKind::Lex)),
         }
     }
 }

@@ -89,11 +89,13 @@ fn rows_of(
     Ok(rows)
 }
 
-/// How many commands the body of the graph takes, if one can be made.
+/// How many commands a body of the graph takes, if one can be made. More than `most` are counted in
+/// less time, and may be more than need be.
 fn count_of(
     graph: &MigOuts,
     reads: &[Place],
     writes: &[Place],
+    most: usize,
     alloc: Global,
 ) -> Result<Option<usize>, NoMemory>
     ensures some { IfOk result (λ o. IfSome o (HasBody reads.now writes.now graph.now.mig
@@ -102,7 +104,7 @@ fn count_of(
         graph.now.outs.items)) }
 {
     let rows = rows_of(graph, reads, writes, alloc)?;
-    commands_of(&graph.mig, &rows, alloc)
+    commands_of(&graph.mig, &rows, most, alloc)
 }
 
 /// The same or more, in less time.
@@ -110,13 +112,16 @@ fn quick_count_of(
     graph: &MigOuts,
     reads: &[Place],
     writes: &[Place],
+    most: usize,
     alloc: Global,
 ) -> Result<Option<usize>, NoMemory>
-    ensures { IfOk result (λ o. IfSome o (HasBody reads.now writes.now graph.now.mig
+    ensures some { IfOk result (λ o. IfSome o (HasBody reads.now writes.now graph.now.mig
+        graph.now.outs.items)) }
+    ensures none { IfOk result (λ o. IfNone o (IsUnfit reads.now writes.now graph.now.mig
         graph.now.outs.items)) }
 {
     let rows = rows_of(graph, reads, writes, alloc)?;
-    quick_commands_of(&graph.mig, &rows, alloc)
+    quick_commands_of(&graph.mig, &rows, most, alloc)
 }
 
 /// Of the offers that are right the first with the fewest commands, where these are fewer than the
@@ -141,7 +146,7 @@ fn fewest(
     let mut size = m.mig.size();
     for offer in offers {
         if let Some(graph) = kept(m, offer, alloc)? {
-            let count = quick_count_of(&graph, reads, writes, alloc)?;
+            let count = quick_count_of(&graph, reads, writes, least, alloc)?;
             if let Some(commands) = count
                 && (commands < least || commands == least && graph.mig.size() < size)
             {
@@ -166,6 +171,32 @@ fn most_counted(m: &MigOuts) -> u8 {
     }
 }
 
+/// Whether so many commands for the graph are fewer than the other's body takes, or as many where
+/// the other has no fewer nodes.
+fn is_fewer(count: Option<usize>, graph: &MigOuts, other: &Choice) -> bool {
+    match count {
+        Some(count) if count == other.commands => graph.mig.size() == other.graph.mig.size(),
+        Some(count) => count < other.commands,
+        None => false,
+    }
+}
+
+/// Whether one of the beams finds fewer commands for the graph.
+fn is_better(
+    graph: &MigOuts,
+    other: &Choice,
+    reads: &[Place],
+    writes: &[Place],
+    alloc: Global,
+) -> Result<bool, NoMemory> {
+    let few = quick_count_of(graph, reads, writes, other.commands, alloc)?;
+    if is_fewer(few, graph, other) {
+        return Ok(true);
+    }
+    let few = count_of(graph, reads, writes, other.commands, alloc)?;
+    Ok(is_fewer(few, graph, other))
+}
+
 /// A reduced graph, or one of the same outputs and no more nodes whose body takes no more commands
 /// than were counted for the graph's.
 ///
@@ -186,9 +217,13 @@ fn least_of(
 {
     let offers = offers(&graph, most_counted(&graph), alloc)?;
     let most = counted.unwrap_or(usize::MAX);
-    match fewest(&graph, most, &offers, reads, writes, alloc)? {
-        Some(other) => Ok(other.into_graph()),
-        None => Ok(graph),
+    let Some(other) = fewest(&graph, most, &offers, reads, writes, alloc)? else {
+        return Ok(graph);
+    };
+    if is_better(&graph, &other, reads, writes, alloc)? {
+        Ok(graph)
+    } else {
+        Ok(other.into_graph())
     }
 }
 
@@ -212,7 +247,7 @@ pub(crate) fn least_graph(
         r.mig r.outs.items) }
 {
     let graph = reduce(m, alloc)?;
-    let counted = count_of(&graph, reads, writes, alloc)?;
+    let counted = quick_count_of(&graph, reads, writes, 0, alloc)?;
     let least = least_of(graph, counted, reads, writes, alloc)?;
     Ok(least)
 }

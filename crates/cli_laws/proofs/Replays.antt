@@ -8,7 +8,7 @@ use Rattle.dram_model.specs.declared.geometry.Geometry.{Geometry}
 use Rattle.host_edge.specs.Views.{Files}
 use Rattle.object_alloc.specs.Reading.{Found, ImageFault, image_in}
 use Rattle.object_alloc.specs.Spelling.{image_bytes}
-use Rattle.machine_model.specs.Opened.{Image, rows_of}
+use Rattle.machine_model.specs.Opened.{Image, rows_in_banks}
 use Rattle.trace_model.specs.Spelling.{Trace, bytes_of_trace}
 use Rattle.trace_model.specs.Reading.{trace_in}
 use Rattle.trace_model.specs.Replay.{replayed}
@@ -70,11 +70,11 @@ traces_replay recorded again before after then later a b c d status t r trace_sa
     sym r.same ∙ ap (λ (i : Image). i.geometry) images in
     r.file
     ∙ ap (λ (g : Geometry). Some (image_bytes g r.trace.table
-    (rows_of (replayed r.trace.events r.image)))) shapes
+    (rows_in_banks (replayed r.trace.events r.image)))) shapes
     ∙ ap (λ (x : Trace). Some (image_bytes t.executed.image.geometry x.table
-    (rows_of (replayed x.events r.image)))) traces
+    (rows_in_banks (replayed x.events r.image)))) traces
     ∙ ap (λ (i : Image). Some (image_bytes t.executed.image.geometry own.table
-    (rows_of (replayed own.events i)))) images
+    (rows_in_banks (replayed own.events i)))) images
     ∙ sym t.replays
 
 -- what is accepted

@@ -12,7 +12,7 @@ use Rattle.op_text.proofs.Meeting.{ops_of_a_text_are_one}
 use Rattle.uprog_code.specs.Texts.{text_op}
 use Rattle.uprog_bin.proofs.Versions.{file_is_one}
 use Rattle.bbop_isa.specs.Forms.{Instruction}
-use Rattle.machine_model.specs.Opened.{Image, rows_of}
+use Rattle.machine_model.specs.Opened.{Image, rows_in_banks}
 use Rattle.machine_model.specs.Routines.{Program}
 use Rattle.guard_model.specs.declared.Flip.{Flip}
 use Rattle.trace_model.specs.Spelling.{Trace, bytes_of_trace}
@@ -116,7 +116,7 @@ kept_trace names before after a b status t =
     ∙ at_own names.trace.now (bytes_of_trace (trace_of t.executed)) t.between
 
 abbrev left_by : Trace → Image → Option (List ℕ)
-left_by x i = Some (image_bytes i.geometry x.table (rows_of (replayed x.events i)))
+left_by x i = Some (image_bytes i.geometry x.table (rows_in_banks (replayed x.events i)))
 
 pub one_recorded : OneRecorded
 one_recorded names before after later a b c d status other t u =
@@ -207,7 +207,7 @@ out_is : (names : GuardNames) (before after : Files) (a b : World) (status : ℕ
     (g : Guarded names before after a b status) → after names.out.now ≡ Some (image_at_last g.job)
 out_is names before after a b status g =
     g.rows.file
-    ∙ ap (λ (x : Banks). Some (image_bytes g.job.image.geometry (table_at_last g.job) (rows_of x)))
+    ∙ ap (λ (x : Banks). Some (image_bytes g.job.image.geometry (table_at_last g.job) (rows_in_banks x)))
     g.rows.banks
 
 same_guarded : (names : GuardNames) (before after later : Files) (a b c d : World)

@@ -77,9 +77,9 @@ OneReplayed =
     (r : Replayed names before after a b) (s : Replayed names before later c d) → SameReplay r s
 
 -- the line of a scan that is done
-abbrev pub line_of : {names : ScanNames} {before : Files} {a b : World} → Scanned names before a b
+abbrev pub scan_line : {names : ScanNames} {before : Files} {a b : World} → Scanned names before a b
     → List ℕ
-line_of s = count_line (number_found s.query s.image) (query_count s.image.table s.query)
+scan_line s = count_line (number_found s.query s.image) (query_count s.image.table s.query)
     (scan_counts s.program s.query s.image)
 
 -- two scans that are done ask one query of one image; what they sent is one line, with the same
@@ -88,7 +88,7 @@ pub record SameScan {names : ScanNames} {before : Files} {a b c d : World}
     (s : Scanned names before a b) (t : Scanned names before c d) : Type 0 where
   pub query : s.query ≡ t.query
   pub image : s.image ≡ t.image
-  pub line : line_of s ≡ line_of t
+  pub line : scan_line s ≡ scan_line t
   pub counters : b.chip.counters ≡ d.chip.counters
 
 -- QUERY and IMAGE decide the query and the image of a scan, and so how many elements are found of

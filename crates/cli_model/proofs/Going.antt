@@ -33,9 +33,6 @@ stops (x ∷ xs) ys reason a b (inr f) = inr f
 pub within : (a b c : ℕ) (n : ℕ) → a ≤ b → RoseBy n b c → RoseBy n a c
 within a b c n l r = omega (arith, r)
 
-pub rises : (a b c : ℕ) (n : ℕ) → RoseBy n a b → b ≤ c → RoseBy n a c
-rises a b c n r l = omega (arith, r)
-
 same_counts : (a : World) → CountsOn a a
 same_counts a = record {
   files = record {
@@ -144,13 +141,6 @@ fails_count (Print bytes) reason a b f = printed_count _ a b f.0
 pub known_same : {A : Type 0} (a b : Option A) → b ≡ a → Known (λ x y. y ≡ x) a b
 known_same None b e = tt
 known_same (Some x) b e = subst (λ o. Known (λ x y. y ≡ x) (Some x) o) (sym e) refl
-
-known_then : {A : Type 0} (f g : A → A) (a b c : Option A) → Known (λ x y. y ≡ f x) a b
-    → Known (λ x y. y ≡ g x) b c → Known (λ x y. y ≡ g (f x)) a c
-known_then f g None b c p q = tt
-known_then f g (Some x) None c p q = absurd p
-known_then f g (Some x) (Some y) None p q = absurd q
-known_then f g (Some x) (Some y) (Some z) p q = q ∙ ap g p
 
 -- what was sent in two parts was sent as one
 pub known_sent : (first rest : List ℕ) (a b c : Option (List ℕ)) → Known (λ x y. y ≡ x ++ first) a b

@@ -234,16 +234,6 @@ stop_spares but steps stop old new status first s ten unopened =
       chip = unopened e.off e.wants;
     }
 
-end_spares : (but : Option (List ℕ)) (steps : List Step) (done : ℕ) (ended : Ended)
-    (old new : World) (status : ℕ) → StepsTake but steps → (done ≡ 10 → ⊥)
-    → EndsSo steps done ended old new status → status ≡ 10
-    → (list_any is_on_chip (done_steps steps ended) ≡ false → Wants ended
-    → Unopened old.chip new.chip) → IsSpared but old new
-end_spares but steps done All old new status first apart s ten unopened =
-    absurd (apart (sym s.answers ∙ ten))
-end_spares but steps done (At stop) old new status first apart s ten unopened =
-    stop_spares but steps stop old new status first s ten unopened
-
 -- a plan that takes memory first
 
 first_append : (but : Option (List ℕ)) (xs ys : List Step) (F N : Type 0)

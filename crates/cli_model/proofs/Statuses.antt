@@ -1,8 +1,7 @@
 -- Which statuses a command can answer, and steps that would come after its end.
 use Rattle.std.proofs.Common.{◌≡◌, ℕ, Bool, true, false, cond, List, [], ◌∷◌, ◌++◌, Option}
-use Rattle.std.proofs.Common.{Some, None, refl, sym, ◌∙◌, ap, subst, inl, inr, append_assoc}
-use Rattle.std.specs.Prelude.{IfSome, length, nat_lt}
-use Rattle.std.specs.List.{list_any}
+use Rattle.std.proofs.Common.{Some, None, refl, sym, subst, inl, inr}
+use Rattle.std.specs.Prelude.{length, nat_lt}
 use Rattle.host_edge.specs.Views.{Files}
 use Rattle.cli_model.specs.World.{World, with_file}
 use Rattle.cli_model.specs.Steps.{Step, Load, Take, Store, Open, Use, UseFor, Put, Print}
@@ -10,8 +9,7 @@ use Rattle.cli_model.specs.Steps.{Refusal, Reason}
 use Rattle.cli_model.specs.Steps.{CannotRead, TooLong, Refused, NoMemory, CannotWrite, PutFailed}
 use Rattle.cli_model.specs.Steps.{ChipFailed, End, Stopped}
 use Rattle.cli_model.specs.Status.{reason_status}
-use Rattle.cli_model.specs.Ends.{Stop, Ended, All, At, Causes, IsStopped, EndsSo, Ends}
-use Rattle.cli_model.specs.Ends.{IsForetold, is_on_chip, begun_steps, done_steps, Wants}
+use Rattle.cli_model.specs.Ends.{Stop, Ended, All, At, Causes, IsStopped, EndsSo}
 use Rattle.cli_model.specs.Foreseen.{foreseen, load_end, refused_or}
 
 -- the statuses that a step that fails can give have the property
@@ -88,15 +86,6 @@ stop_so P steps stop a b status h s =
     (of_middle P stop.before stop.failed stop.following (subst (OfSteps P) (sym s.place) h))
     s.causes)
 
-end_so : (P : ℕ → Type 0) (steps : List Step) (done : ℕ) (ended : Ended) (a b : World)
-    (status : ℕ) → P done → OfSteps P steps → EndsSo steps done ended a b status → P status
-end_so P steps done All a b status d h s = subst P (sym s.answers) d
-end_so P steps done (At stop) a b status d h s = stop_so P steps stop a b status h s
-
-pub ends_so : (P : ℕ → Type 0) (steps : List Step) (done : ℕ) (a b : World) (status : ℕ) → P done
-    → OfSteps P steps → Ends steps done a b status → P status
-ends_so P steps done a b status d h e = end_so P steps done e.ended a b status d h e.so
-
 -- where the status is none that a step that fails can give, all was done
 pub all_done : (steps : List Step) (done : ℕ) (ended : Ended) (a b : World) (status : ℕ)
     → OfSteps (λ s. s ≡ status → ⊥) steps → EndsSo steps done ended a b status → ended ≡ All
@@ -138,45 +127,3 @@ foreseen_more (Use ∷ xs) ys files reason e = foreseen_more xs ys files reason 
 foreseen_more (UseFor wave ∷ xs) ys files reason e = foreseen_more xs ys files reason e
 foreseen_more (Put bytes ∷ xs) ys files reason e = foreseen_more xs ys files reason e
 foreseen_more (Print bytes ∷ xs) ys files reason e = foreseen_more xs ys files reason e
-
-foretold_more : (xs ys : List Step) (stop : Stop) (holds : Option Files)
-    → IfSome holds (IsForetold xs (At stop)) → IfSome holds (IsForetold (xs ++ ys) (At stop))
-foretold_more xs ys stop None h = tt
-foretold_more xs ys stop (Some files) (before, inl e) =
-    (before, inl (foreseen_more xs ys files stop.reason e))
-foretold_more xs ys stop (Some files) (before, inr f) = (before, inr f)
-
-pub stopped_more : (xs ys : List Step) (stop : Stop) (a b : World) (status : ℕ)
-    → IsStopped xs stop a b status
-    → IsStopped (xs ++ ys) (record stop { following = stop.following ++ ys }) a b status
-stopped_more xs ys stop a b status s = record {
-  place = sym (append_assoc stop.before (stop.failed ∷ stop.following) ys)
-      ∙ ap (λ zs. zs ++ ys) s.place;
-  answers = s.answers;
-  causes = s.causes;
-  sent = s.sent;
-  files = s.files;
-}
-
--- the whole end, with the steps that would come after it
-pub end_more : (xs ys : List Step) (done other : ℕ) (stop : Stop) (a b : World) (status : ℕ)
-    → (e : Ends xs done a b status) → e.ended ≡ At stop
-    → (f : Ends (xs ++ ys) other a b status) × (f.ended
-    ≡ At (record stop { following = stop.following ++ ys }))
-end_more xs ys done other stop a b status e is =
-    let so : IsStopped xs stop a b status =
-    subst (λ (x : Ended). EndsSo xs done x a b status) is e.so in
-    let said : IfSome a.files.holds (IsForetold xs (At stop)) =
-    subst (λ (x : Ended). IfSome a.files.holds (IsForetold xs x)) is e.foretold in
-    let more : Stop = record stop { following = stop.following ++ ys } in
-    let whole : Ends (xs ++ ys) other a b status = record {
-      ended = At more;
-      so = stopped_more xs ys stop a b status so;
-      foretold = foretold_more xs ys stop a.files.holds said;
-      counts = e.counts;
-      chip = λ off. e.chip (subst (λ (x : Ended). list_any is_on_chip (begun_steps xs x)
-          ≡ false) (sym is) off);
-      unopened = λ off w. e.unopened (subst (λ (x : Ended). list_any is_on_chip (done_steps xs x)
-          ≡ false) (sym is) off) (subst Wants (sym is) w);
-    } in
-    (whole, refl)

@@ -47,12 +47,12 @@ marked since tape = record tape {
   bytes = take HEAD_BYTES_MAX tape.bytes;
 }
 
--- what was read
+-- the events that were read
 abbrev pub events_read : Result (List Event × ℕ) TraceFault → List Event
 events_read (Ok events) = events.0
 events_read (Err f) = []
 
--- and whether that is all
+-- the events that were read end where the bytes end
 abbrev pub ends_at : ℕ → Result (List Event × ℕ) TraceFault → Bool
 ends_at size (Ok events) = events.1 == size
 ends_at size (Err f) = false

@@ -92,6 +92,8 @@ pub struct TraceView<'a> {
 }
 
 impl<'a> Model for TraceView<'a> {
+    ghost use Rattle.std.specs.Prelude.{◌≡◌};
+    ghost use Rattle.object_alloc.specs.Listed.{limit_of};
     ghost use Rattle.trace_model.specs.Spelling.{Trace};
     ghost use Rattle.cmd_trace.specs.Opened.{IsOpen, trace_of};
 
@@ -99,7 +101,8 @@ impl<'a> Model for TraceView<'a> {
 
     ghost view = { λ v. trace_of v.geometry v.table.pairs v.count v.start v.bytes.now };
 
-    ghost invariant = { λ v. IsOpen v.geometry v.count v.start v.bytes.now };
+    ghost invariant = { λ v. IsOpen v.geometry v.count v.start v.bytes.now
+        × (v.table.limit ≡ limit_of v.geometry) };
 }
 
 /// What the file holds, or its first fault.
@@ -149,7 +152,8 @@ impl<'a> TraceView<'a> {
 
     /// The objects after the events.
     pub fn table(&self) -> &Table
-        ensures { result.now.pairs ≡ self.now.table }
+        ensures objects { result.now.pairs ≡ self.now.table }
+        ensures limit { result.now.limit ≡ limit_of self.now.geometry }
     {
         &self.table
     }

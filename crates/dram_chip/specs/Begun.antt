@@ -7,7 +7,7 @@ use Rattle.dram_chip.specs.declared.bank.Bank.{Bank}
 use Rattle.dram_chip.specs.declared.chip.Chip.{Chip}
 use Rattle.dram_model.specs.declared.geometry.Geometry.{Geometry}
 use Rattle.dram_model.specs.Geometry.{is_geometry}
-use Rattle.dram_chip.specs.Rows.{row_bit, rows_of, columns_of}
+use Rattle.dram_chip.specs.Rows.{row_bit, data_row_count, columns_of}
 
 -- every number below n passes the test
 unfoldable pub all_below : (ℕ → Bool) → ℕ → Bool
@@ -23,7 +23,7 @@ are_constant words all = all_below (λ k. all_below (λ c.
 abbrev pub is_bank : Geometry → Bank → Bool
 is_bank g bank = (length bank.all.items == bank.words * (8 + bank.rows)
     && are_constant bank.words bank.all.items)
-    && (rows_of bank == g.rows && columns_of bank == 64 * g.words)
+    && (data_row_count bank == g.rows && columns_of bank == 64 * g.words)
 
 -- every bank of a list is one of this geometry
 unfoldable pub are_banks : Geometry → List Bank → Bool

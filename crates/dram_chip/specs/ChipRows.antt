@@ -5,7 +5,7 @@ use Rattle.dram_chip.specs.declared.bank.Bank.{Bank}
 use Rattle.dram_model.specs.declared.geometry.Geometry.{Geometry}
 use Rattle.dram_model.specs.Column.{Column}
 use Rattle.dram_model.specs.Chip.{Banks}
-use Rattle.dram_chip.specs.Rows.{column_at, rows_of, columns_of, IsReady}
+use Rattle.dram_chip.specs.Rows.{column_at, data_row_count, columns_of, IsReady}
 
 -- the columns of a bank, in order
 abbrev pub columns_in : Bank → List Column
@@ -20,7 +20,7 @@ banks_in (bank ∷ banks) (suc b) = banks_in banks b
 -- a bank of this geometry
 pub record Fits (g : Geometry) (bank : Bank) : Type 0 where
   pub ready : IsReady bank
-  pub rows : rows_of bank ≡ g.rows
+  pub rows : data_row_count bank ≡ g.rows
   pub columns : columns_of bank ≡ 64 * g.words
 
 -- every bank of this geometry is there

@@ -12,7 +12,7 @@ use Rattle.dram_chip.specs.declared.bank.Bank.{Bank}
 use Rattle.dram_chip.specs.declared.chip.Chip.{Chip}
 use Rattle.dram_model.specs.declared.geometry.Geometry.{Geometry}
 use Rattle.dram_model.specs.Geometry.{is_geometry}
-use Rattle.dram_chip.specs.Rows.{column_at, columns_of, rows_of, row_bit, HasConstants}
+use Rattle.dram_chip.specs.Rows.{column_at, columns_of, data_row_count, row_bit, HasConstants}
 use Rattle.dram_chip.specs.ChipRows.{Fits, HasBanks, banks_in}
 use Rattle.dram_chip.specs.Begun.{all_below, are_constant, is_bank}
 use Rattle.dram_chip.specs.Begun.{are_banks, has_banks, has_begun}
@@ -39,7 +39,7 @@ fits g bank h =
     let both = and_parts (length bank.all.items == bank.words * (8 + bank.rows)
     && are_constant bank.words bank.all.items) _ h in
     let shape = and_parts (length bank.all.items == bank.words * (8 + bank.rows)) _ both.0 in
-    let ends = and_parts (rows_of bank == g.rows) (columns_of bank == 64 * g.words) both.1 in
+    let ends = and_parts (data_row_count bank == g.rows) (columns_of bank == 64 * g.words) both.1 in
     record {
       ready = record {
         size = eqb-true _ _ shape.0;

@@ -23,8 +23,8 @@ is_kept (C k) = false
 is_kept (D k) = true
 
 -- how many data rows the bank has, and how many columns
-abbrev pub rows_of : Bank → ℕ
-rows_of bank = bank.rows
+abbrev pub data_row_count : Bank → ℕ
+data_row_count bank = bank.rows
 
 -- how many columns the bank has: 64 to a word
 abbrev pub columns_of : Bank → ℕ

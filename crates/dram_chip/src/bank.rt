@@ -7,7 +7,8 @@ ghost use Rattle.dram_model.specs.Column.{read as read_of, sense as sense_of, se
 ghost use Rattle.dram_model.specs.Column.{step, blank, drive, plain};
 ghost use Rattle.dram_model.specs.declared.address.Cell.{Cell};
 ghost use Rattle.dram_model.specs.declared.address.Command.{Command};
-ghost use Rattle.dram_chip.specs.Rows.{place as place_of, is_kept, column_at, IsReady, rows_of};
+ghost use Rattle.dram_chip.specs.Rows.{place as place_of, is_kept, column_at, IsReady};
+ghost use Rattle.dram_chip.specs.Rows.{data_row_count};
 ghost use Rattle.dram_chip.specs.Rows.{columns_of};
 
 use crate::b_group::b_lines;
@@ -56,7 +57,7 @@ impl Bank {
     /// A bank of zeros, with this many data rows, and words in each.
     pub fn new(rows: u16, words: u16, alloc: Global) -> Result<Bank, NoMemory>
         ensures ready { IfOk result IsReady }
-        ensures rows { IfOk result (λ bank. rows_of bank ≡ rows) }
+        ensures rows { IfOk result (λ bank. data_row_count bank ≡ rows) }
         ensures columns { IfOk result (λ bank. columns_of bank ≡ 64 * words) }
         ensures zeros { IfOk result (λ bank. (c : ℕ) → c < 64 * words → column_at bank c ≡ blank) }
     {
@@ -70,7 +71,7 @@ impl Bank {
     #[inline(always)]
     fn start(&self, cell: Cell) -> usize
         requires ready { IsReady self.now }
-        requires cell { is_cell (rows_of self.now) cell ≡ true }
+        requires cell { is_cell (data_row_count self.now) cell ≡ true }
         ensures start { result ≡ self.now.words * place_of cell }
         ensures room { result + self.now.words ≤ length self.now.all.items }
     {
@@ -81,11 +82,11 @@ impl Bank {
     #[inline(always)]
     fn drive(&mut self, line: Line, src: Line)
         requires ready { IsReady self.old }
-        requires line { is_cell (rows_of self.old) line.cell ≡ true }
+        requires line { is_cell (data_row_count self.old) line.cell ≡ true }
         requires kept { is_kept line.cell ≡ true }
-        requires src { is_cell (rows_of self.old) src.cell ≡ true }
+        requires src { is_cell (data_row_count self.old) src.cell ≡ true }
         ensures ready { IsReady self.new }
-        ensures rows { rows_of self.new ≡ rows_of self.old }
+        ensures rows { data_row_count self.new ≡ data_row_count self.old }
         ensures columns { columns_of self.new ≡ columns_of self.old }
         ensures driven { (c : ℕ) → c < columns_of self.old
             → column_at self.new c ≡ drive line (read_of (column_at self.old c) src)
@@ -106,12 +107,12 @@ impl Bank {
     #[inline(always)]
     fn activate(&mut self, x: Addr) -> Line
         requires ready { IsReady self.old }
-        requires range { is_in_range (rows_of self.old) x ≡ true }
+        requires range { is_in_range (data_row_count self.old) x ≡ true }
         requires first { is_first x ≡ true }
         ensures ready { IsReady self.new }
-        ensures rows { rows_of self.new ≡ rows_of self.old }
+        ensures rows { data_row_count self.new ≡ data_row_count self.old }
         ensures columns { columns_of self.new ≡ columns_of self.old }
-        ensures cell { is_cell (rows_of self.old) result.cell ≡ true }
+        ensures cell { is_cell (data_row_count self.old) result.cell ≡ true }
         ensures stepped { (c : ℕ) → c < columns_of self.old
             → column_at self.new c ≡ step (Command.Ap x) (column_at self.old c) }
         ensures sensed { (c : ℕ) → c < columns_of self.old → read_of (column_at self.new c) result
@@ -137,10 +138,10 @@ impl Bank {
     #[inline(always)]
     fn settle(&mut self, y: Addr, src: Line)
         requires ready { IsReady self.old }
-        requires range { is_in_range (rows_of self.old) y ≡ true }
-        requires src { is_cell (rows_of self.old) src.cell ≡ true }
+        requires range { is_in_range (data_row_count self.old) y ≡ true }
+        requires src { is_cell (data_row_count self.old) src.cell ≡ true }
         ensures ready { IsReady self.new }
-        ensures rows { rows_of self.new ≡ rows_of self.old }
+        ensures rows { data_row_count self.new ≡ data_row_count self.old }
         ensures columns { columns_of self.new ≡ columns_of self.old }
         ensures settled { (c : ℕ) → c < columns_of self.old
             → column_at self.new c ≡ settle_of y (read_of (column_at self.old c) src)
@@ -165,10 +166,10 @@ impl Bank {
     #[inline(always)]
     pub fn ap(&mut self, x: Addr)
         requires ready { IsReady self.old }
-        requires range { is_in_range (rows_of self.old) x ≡ true }
+        requires range { is_in_range (data_row_count self.old) x ≡ true }
         requires first { is_first x ≡ true }
         ensures ready { IsReady self.new }
-        ensures rows { rows_of self.new ≡ rows_of self.old }
+        ensures rows { data_row_count self.new ≡ data_row_count self.old }
         ensures columns { columns_of self.new ≡ columns_of self.old }
         ensures stepped { (c : ℕ) → c < columns_of self.old
             → column_at self.new c ≡ step (Command.Ap x) (column_at self.old c) }
@@ -180,11 +181,11 @@ impl Bank {
     #[inline(always)]
     pub fn aap(&mut self, x: Addr, y: Addr)
         requires ready { IsReady self.old }
-        requires range { is_in_range (rows_of self.old) x ≡ true }
+        requires range { is_in_range (data_row_count self.old) x ≡ true }
         requires first { is_first x ≡ true }
-        requires second_range { is_in_range (rows_of self.old) y ≡ true }
+        requires second_range { is_in_range (data_row_count self.old) y ≡ true }
         ensures ready { IsReady self.new }
-        ensures rows { rows_of self.new ≡ rows_of self.old }
+        ensures rows { data_row_count self.new ≡ data_row_count self.old }
         ensures columns { columns_of self.new ≡ columns_of self.old }
         ensures stepped { (c : ℕ) → c < columns_of self.old
             → column_at self.new c ≡ step (Command.Aap x y) (column_at self.old c) }
@@ -196,10 +197,10 @@ impl Bank {
     /// Sets a data row to these words.
     pub fn write(&mut self, row: u16, words: &[u64])
         requires ready { IsReady self.old }
-        requires row { row < rows_of self.old }
+        requires row { row < data_row_count self.old }
         requires fits { columns_of self.old ≡ 64 * length words.now }
         ensures ready { IsReady self.new }
-        ensures rows { rows_of self.new ≡ rows_of self.old }
+        ensures rows { data_row_count self.new ≡ data_row_count self.old }
         ensures columns { columns_of self.new ≡ columns_of self.old }
         ensures written { (c : ℕ) → c < columns_of self.old
             → column_at self.new c ≡ drive (plain (Cell.D row)) (bit_in (bits_of_words words.now) c)
@@ -212,7 +213,7 @@ impl Bank {
     /// Gives a data row as words.
     pub fn read(&self, row: u16, words: &mut [u64])
         requires ready { IsReady self.now }
-        requires row { row < rows_of self.now }
+        requires row { row < data_row_count self.now }
         requires fits { columns_of self.now ≡ 64 * length words.old }
         ensures length { length words.new ≡ length words.old }
         ensures read { (c : ℕ) → c < columns_of self.now → column_at self.now c (Cell.D row)

@@ -43,11 +43,6 @@ pub others_of : (P : Instruction → Type 0) (i : Instruction) (left others : Li
 others_of P i left others e all =
     let both : AllByRecursion P (i ∷ others) = subst (AllByRecursion P) e all in both.1
 
-pub first_of : (P : Instruction → Type 0) (i : Instruction) (left others : List Instruction)
-    → left ≡ i ∷ others → AllByRecursion P left → P i
-first_of P i left others e all =
-    let both : AllByRecursion P (i ∷ others) = subst (AllByRecursion P) e all in both.0
-
 -- what holds of all flips that are left
 pub flips_after : (P : Flip → Type 0) (n at : ℕ) (flips : List Flip)
     → AllByRecursion P (drop at flips) → AllByRecursion P (drop (at + n) flips)

@@ -27,8 +27,8 @@ instr_events g operations now turn table banks instr =
     flip_events now banks
     ++ (vote_events g table ++ guarded_events g operations turn table instr)
 
--- so it goes for each instruction, of which the first has number k; and after the last the flips
--- and votes once more
+-- the events of a guarded script, of which the first instruction has number k; after the last come
+-- flips and votes once more
 abbrev pub run_events : Geometry → Routines → List Flip → ℕ → Turn → List Named → Banks
     → List Instruction → List Event
 run_events g operations flips k turn table banks [] =

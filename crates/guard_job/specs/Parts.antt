@@ -16,7 +16,7 @@ use Rattle.guard_model.specs.Guarded.{guarded_reads, guarded_reply, guarded_rows
 use Rattle.guard_model.specs.Guarded.{guarded_turn, plain_script}
 use Rattle.guard_job.specs.Events.{flip_events, instr_events}
 
--- it names a cell of a chip of this shape
+-- the flip names a cell of a chip of this shape
 pub record IsCell (g : Geometry) (f : Flip) : Type 0 where
   pub bank : f.bank < g.banks
   pub row : f.row < g.rows
@@ -26,12 +26,12 @@ pub record IsCell (g : Geometry) (f : Flip) : Type 0 where
 abbrev pub after_flips : ℕ → Counters → Counters
 after_flips n k = record k { writes = k.writes + n; reads = k.reads + n }
 
--- and then a vote of so many commands
+-- a chip's counters after so many flips and a vote of so many commands
 abbrev pub mended_tally : ℕ → ℕ → Counters → Counters
 mended_tally n votes k =
     record { aap = k.aap + votes; ap = k.ap; writes = k.writes + n; reads = k.reads + n }
 
--- and then an instruction
+-- a chip's counters after so many flips, a vote and an instruction
 abbrev pub instr_tally : Geometry → Routines → List Named → ℕ → Instruction → Counters → Counters
 instr_tally g operations table n instr k =
     with_reads (guarded_reads g operations table instr)
@@ -45,7 +45,7 @@ pub record Mended (g : Geometry) (now : List Flip) (table : List Named) (a b : C
     pub counters : b.counters ≡ mended_tally (length now) (vote_count g table) a.counters
     pub log : Grew a.log b.log (flip_events now a.banks ++ vote_events g table)
 
--- and then an instruction was done
+-- flips were done, the triples were voted, and then an instruction was done
 pub record InstrDone (g : Geometry) (operations : Routines) (now : List Flip)
     (instr : Instruction) (turn turn' : Turn) (table table' : List Named) (a b : ChipView)
     (votes refused : ℕ) : Type 0

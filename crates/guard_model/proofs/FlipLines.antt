@@ -15,7 +15,8 @@ use Rattle.guard_model.specs.declared.Flip.{Flip}
 use Rattle.guard_model.specs.declared.FlipsKind.{FlipsKind}
 use Rattle.guard_model.specs.declared.FlipsKind.TheVariants.{Lex, Syntax, Number as BadNumber}
 use Rattle.guard_model.specs.declared.FlipsFault.{FlipsFault}
-use Rattle.guard_model.specs.FlipText.{is_below, value, is_next, flip_of, with_number, numbers_of}
+use Rattle.bbop_isa.specs.Forms.{number_or_zero}
+use Rattle.guard_model.specs.FlipText.{is_below, is_next, flip_of, with_number, numbers_of}
 use Rattle.guard_model.specs.FlipText.{flip_by, flip_in, with_flip, and_rest, flips_from, IsFlip}
 use Rattle.guard_model.specs.FlipText.{AreSorted}
 use Rattle.guard_model.specs.FlipLaws.{four_numbers, flip_words, SaysFlip, EachSays, SayFlips}
@@ -56,20 +57,20 @@ numbers_are (Other ∷ words) numbers h = absurd (cc)
 
 -- ---- the flip of four numbers
 
-below_some : (limit : ℕ) (n : Option ℕ) → is_below limit n ≡ true → n ≡ Some (value n)
+below_some : (limit : ℕ) (n : Option ℕ) → is_below limit n ≡ true → n ≡ Some (number_or_zero n)
 below_some limit None h = cc
 below_some limit (Some n) h = refl
 
-next_some : (instrs k : ℕ) (n : Option ℕ) → is_next instrs k n ≡ true → n ≡ Some (value n)
+next_some : (instrs k : ℕ) (n : Option ℕ) → is_next instrs k n ≡ true → n ≡ Some (number_or_zero n)
 next_some instrs k None h = cc
 next_some instrs k (Some n) h = refl
 
 abbrev flip_with : (k bank row column : Option ℕ) → Flip
 flip_with k bank row column = record {
-  before = value k;
-  bank = value bank;
-  row = value row;
-  column = value column;
+  before = number_or_zero k;
+  bank = number_or_zero bank;
+  row = number_or_zero row;
+  column = number_or_zero column;
 }
 
 -- the flip that four numbers are
@@ -99,8 +100,8 @@ four_case g instrs before k bank row column s true true true true a b c d h =
     record {
       flip = flip;
       said = said_is (Some flip) s h;
-      words = four_words k bank row column (Some (value k)) (Some (value bank))
-          (Some (value row)) (Some (value column)) (next_some instrs before k a)
+      words = four_words k bank row column (Some (number_or_zero k)) (Some (number_or_zero bank))
+          (Some (number_or_zero row)) (Some (number_or_zero column)) (next_some instrs before k a)
           (below_some g.banks bank b) (below_some g.rows row c)
           (below_some (64 * g.words) column d);
       right = of_is g instrs before k bank row column flip whole;

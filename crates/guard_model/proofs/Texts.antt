@@ -13,17 +13,18 @@ use Rattle.guard_model.specs.declared.Flip.{Flip}
 use Rattle.guard_model.specs.declared.FlipsKind.{FlipsKind}
 use Rattle.guard_model.specs.declared.FlipsFault.{FlipsFault}
 use Rattle.guard_model.specs.Flips.{due}
-use Rattle.guard_model.specs.FlipText.{is_below, value, is_next, flip_of, numbers_of, flip_by}
+use Rattle.bbop_isa.specs.Forms.{number_or_zero}
+use Rattle.guard_model.specs.FlipText.{is_below, is_next, flip_of, numbers_of, flip_by}
 use Rattle.guard_model.specs.FlipText.{flip_in, with_flip, and_rest, flips_from, IsFlip, AreSorted}
 use Rattle.guard_model.specs.Laws.{FlipsAreRight, DueFirst}
 use Rattle.guard_model.proofs.Trios.{and_both}
 
-below_is : (limit : ℕ) (n : Option ℕ) → is_below limit n ≡ true → value n < limit
+below_is : (limit : ℕ) (n : Option ℕ) → is_below limit n ≡ true → number_or_zero n < limit
 below_is limit None h = cc
 below_is limit (Some n) h = grind (arith, nat_tests)
 
-next_is : (instrs before : ℕ) (k : Option ℕ) → is_next instrs before k ≡ true → (1 ≤ value k)
-    × (before ≤ value k) × (value k ≤ instrs + 1)
+next_is : (instrs before : ℕ) (k : Option ℕ) → is_next instrs before k ≡ true → (1 ≤ number_or_zero k)
+    × (before ≤ number_or_zero k) × (number_or_zero k ≤ instrs + 1)
 next_is instrs before None h = cc
 next_is instrs before (Some k) h =
     let a = and_both (leb 1 k) (leb before k && leb k (instrs + 1)) h in

@@ -21,7 +21,7 @@ use Rattle.machine_model.specs.Script.{is_refused}
 use Rattle.machine_model.specs.Agrees.{Agrees, DoesAll, IsPlain}
 use Rattle.machine_model.specs.Report.{Said, said_of}
 use Rattle.machine_model.proofs.Whole.{rows_give_words}
-use Rattle.machine_model.specs.Opened.{Image, opened, words_of}
+use Rattle.machine_model.specs.Opened.{Image, opened, objects_held}
 use Rattle.machine_model.specs.Routines.{routines_of, meaning_in}
 use Rattle.machine_model.proofs.Opened.{opened_agrees}
 use Rattle.machine_model.proofs.Texts.{does_all}
@@ -318,7 +318,7 @@ pub guarded_text : GuardedTextGivesWords
 guarded_text p t i flips script good does plain names triples equal one =
     let table = held_table i i.table in
     guarded_gives_words i.geometry (routines_of t p) (meaning_in t) flips 1 script
-    (words_pos i.geometry good.geometry) (does_all p t does) plain names (opened i) (words_of i)
+    (words_pos i.geometry good.geometry) (does_all p t does) plain names (opened i) (objects_held i)
     (opened_agrees i (words_pos i.geometry good.geometry) good)
     (ap first_stranger table ∙ triples) equal
     (subst (λ st. Single i.geometry (routines_of t p) flips 1 st script) (sym table) one)

@@ -28,7 +28,7 @@ SaysFlip g instrs line None = words_in (items_of line) ≡ Some []
 SaysFlip g instrs line (Some f) = (words_in (items_of line) ≡ Some (flip_words f))
     × IsFlip g instrs f
 
--- line by line
+-- each line says a flip or nothing, in this order
 abbrev pub EachSays : Geometry → ℕ → List (List ℕ) → List (Option Flip) → Type 0
 EachSays g instrs [] [] = Unit {0}
 EachSays g instrs [] (s ∷ said) = ⊥

@@ -1,9 +1,9 @@
 -- The text of the flips.
 use Rattle.std.specs.Prelude.{ℕ, ◌+◌, ◌*◌, nat_lt, nat_le, ◌&&◌, ◌≤◌, ◌<◌, Bool, false}
 use Rattle.std.specs.Prelude.{if◌then◌else◌, List, [], ◌∷◌, Option, Some, None, Result, Ok, Err}
-use Rattle.std.specs.Prelude.{unwrap_or}
 use Rattle.text_lex.specs.Lexical.{items_of}
 use Rattle.dram_model.specs.declared.geometry.Geometry.{Geometry}
+use Rattle.bbop_isa.specs.Forms.{number_or_zero}
 use Rattle.bbop_isa.specs.Lines.{lines_of}
 use Rattle.bbop_isa.specs.Words.{Word, Name, Number, Comma, Other, words_in}
 use Rattle.guard_model.specs.declared.Flip.{Flip}
@@ -16,28 +16,24 @@ abbrev pub is_below : ℕ → Option ℕ → Bool
 is_below limit None = false
 is_below limit (Some n) = nat_lt n limit
 
--- the number that was read; what is refused before it is asked for counts as 0
-abbrev pub value : Option ℕ → ℕ
-value number = unwrap_or number 0
-
 -- K, where the line before has this K or there is none (0): at least 1 and at most the instructions
 -- and one more
 abbrev pub is_next : ℕ → ℕ → Option ℕ → Bool
 is_next instrs before None = false
 is_next instrs before (Some k) = nat_le 1 k && (nat_le before k && nat_le k (instrs + 1))
 
--- four numbers
+-- the flip that four numbers say, or that one of them is out of its range
 abbrev pub flip_of : Geometry → ℕ → ℕ → Option ℕ → Option ℕ → Option ℕ → Option ℕ → Result
     (Option Flip) FlipsKind
 flip_of g instrs before k bank row column =
     if is_next instrs before k && (is_below g.banks bank &&
     (is_below g.rows row && is_below (64 * g.words) column))
     then Ok (Some (record {
-      before = value k;
-      bank = value bank;
-      row = value row;
+      before = number_or_zero k;
+      bank = number_or_zero bank;
+      row = number_or_zero row;
       column =
-          value column;
+          number_or_zero column;
     })) else Err BadNumber
 
 -- the numbers of words that are all numbers
@@ -89,7 +85,7 @@ flips_from g instrs number (line ∷ lines) before = and_rest before number
 abbrev pub flips_of : Geometry → ℕ → List ℕ → Result (List Flip) FlipsFault
 flips_of g instrs text = flips_from g instrs 1 (lines_of text) 0
 
--- it names a cell of the chip, and comes before an instruction or after the last
+-- the flip names a cell of the chip, and comes before an instruction or after the last
 pub record IsFlip (g : Geometry) (instrs : ℕ) (f : Flip) : Type 0 where
   pub first : 1 ≤ f.before
   pub last : f.before ≤ instrs + 1
@@ -97,7 +93,7 @@ pub record IsFlip (g : Geometry) (instrs : ℕ) (f : Flip) : Type 0 where
   pub row : f.row < g.rows
   pub column : f.column < 64 * g.words
 
--- none comes before an earlier one, nor before instruction k
+-- no flip comes before an earlier one, nor before instruction k
 abbrev pub AreSorted : ℕ → List Flip → Type 0
 AreSorted k [] = Unit {0}
 AreSorted k (f ∷ flips) = (k ≤ f.before) × AreSorted f.before flips

@@ -17,7 +17,7 @@ use Rattle.guard_model.specs.declared.Flip.{Flip}
 abbrev pub inverted : ℕ → Column → Column
 inverted row s = drive (plain (D row)) (not (s (D row))) s
 
--- so it is in the column with this number
+-- the columns after the data row's cell of the column with this number is inverted
 abbrev pub inverted_at : ℕ → ℕ → List Column → List Column
 inverted_at column row [] = []
 inverted_at zero row (s ∷ columns) = inverted row s ∷ columns

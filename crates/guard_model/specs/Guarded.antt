@@ -63,13 +63,13 @@ abbrev pub guarded_reply : Geometry → Routines → List Named → Instruction 
 guarded_reply g operations table instr =
     joined (record { aap = 0; ap = 0 }) (replies g operations table (plain_ones instr))
 
--- those before the first that is refused
+-- the plain instructions before the first that is refused
 abbrev pub done_ones : Geometry → Routines → List Named → List Instruction → List Instruction
 done_ones g operations table [] = []
 done_ones g operations table (instr ∷ rest) = if_done (refusal g operations table instr)
     (instr ∷ done_ones g operations (table_after g operations table instr) rest) []
 
--- it adds an object
+-- the instruction adds an object
 abbrev pub adds : Instruction → Bool
 adds (Init name count n) = true
 adds (Bbop op dst srcs count n) = false
@@ -113,7 +113,7 @@ abbrev pub guarded_rows : Geometry → Routines → List Named → Banks → Ins
 guarded_rows g operations table banks instr =
     banks_at_end g operations table banks (plain_script g operations table instr)
 
--- its pieces are its plain instructions one by one, a bbop as a wave of one
+-- the pieces of a guarded instruction are its plain ones one by one, a bbop as a wave of one
 abbrev pub guarded_pieces : Geometry → Routines → List Named → Instruction → List Piece
 guarded_pieces g operations table instr = map piece_of (plain_script g operations table instr)
 
@@ -127,19 +127,19 @@ abbrev pub guarded_turn : Geometry → Routines → Turn → List Named → Inst
 guarded_turn g operations turn table instr =
     turn_at_end g operations turn table (guarded_pieces g operations table instr)
 
--- the rows that it reads
+-- how many data rows a guarded instruction reads
 abbrev pub guarded_reads : Geometry → Routines → List Named → Instruction → ℕ
 guarded_reads g operations table instr =
     sum_done rows_printed g operations table (plain_script g operations table instr)
 
--- what is said of it, where the values of its first copies are these
+-- what is said of a guarded instruction, where the values of the first copies are these
 abbrev pub guarded_said : Geometry → Routines → List Named → (List ℕ → List ℕ) → Instruction
     → Said
 guarded_said g operations table values instr =
     said_of (guarded_reply g operations table instr) instr
     (λ name. take (object_named table (x_letter ∷ name)).count (values (x_letter ∷ name)))
 
--- where they are read from the banks' columns
+-- what is said of a guarded instruction, where the values are read from the banks' columns
 abbrev pub guarded_said_by : Geometry → Routines → List Named → Banks → Instruction → Said
 guarded_said_by g operations table banks instr =
     guarded_said g operations table (λ name. columns g banks (object_named table name)) instr
@@ -188,7 +188,7 @@ guarded_tally g operations table script flips k =
     with_reads (sum_done rows_printed g operations table plain + length flips)
     (with_writes (length flips) (with_counts (counters_at_end g operations table plain k) votes))
 
--- without flips and votes
+-- the numbers after a guarded script, without flips and votes
 abbrev pub guarded_words_at_end : Geometry → Routines → (List ℕ → ℕ → List ℕ → List ℕ)
     → List Held → List Instruction → List Held
 guarded_words_at_end g operations meaning state [] = state
@@ -196,8 +196,8 @@ guarded_words_at_end g operations meaning state (instr ∷ script) =
     guarded_words_at_end g operations meaning (guarded_words g operations meaning state instr)
     script
 
--- for each instruction the flips, the votes and its own commands; and after the last the flips and
--- votes once more
+-- the banks after a guarded script: for each instruction the flips, the votes and its own commands,
+-- and after the last the flips and votes once more
 abbrev pub guarded_rows_at_end : Geometry → Routines → List Flip → ℕ → List Named → Banks
     → List Instruction → Banks
 guarded_rows_at_end g operations flips k table banks [] = mended g flips k table banks
@@ -222,7 +222,7 @@ guarded_said_in_words g operations meaning state (instr ∷ script) =
     ∷ guarded_said_in_words g operations meaning (guarded_words g operations meaning state instr)
     script
 
--- the same, where the values are read from the banks' columns
+-- what is said of a guarded script, where the values are read from the banks' columns
 abbrev pub guarded_said_in_rows : Geometry → Routines → List Flip → ℕ → List Named → Banks
     → List Instruction → List Said
 guarded_said_in_rows g operations flips k table banks [] = []

@@ -18,7 +18,7 @@ use Rattle.object_alloc.specs.Spelling.{IsImage}
 use Rattle.uprog_code.specs.Texts.{TextOp, ImplementsAll}
 use Rattle.wave_model.specs.Schedule.{Turn}
 use Rattle.machine_model.specs.Routines.{Program, Routines, routines_of, meaning_in}
-use Rattle.machine_model.specs.Opened.{Image, opened, words_of}
+use Rattle.machine_model.specs.Opened.{Image, opened, objects_held}
 use Rattle.machine_model.specs.Steps.{Held, table_of}
 use Rattle.machine_model.specs.Agrees.{Agrees, DoesAll, IsPlain}
 use Rattle.machine_model.specs.Laws.{FitsBanks}
@@ -76,7 +76,7 @@ StepIsCounted =
     → all_counted (guarded_events g operations turn table instr) k
     ≡ counters_at_end g operations table (plain_script g operations table instr) k
 
--- what is added has a name
+-- an object that the instruction adds has a name
 abbrev pub HasName : Instruction → Type 0
 HasName (Init name count n) = fits_name name ≡ true
 HasName (Bbop op dst srcs count n) = Unit {0}
@@ -86,7 +86,7 @@ HasName (Print name) = Unit {0}
 HasName (Free name) = Unit {0}
 HasName (Order order) = Unit {0}
 
--- and so has what an accepted script adds
+-- each object that an accepted script adds has a name
 abbrev pub AcceptedHasNames : Type 0
 AcceptedHasNames = (text : List ℕ) (script : List Instruction) → script_of text ≡ Ok script
     → AllByRecursion HasName script
@@ -105,7 +105,7 @@ TriplesKept =
     → HasName instr → first_stranger table ≡ None
     → first_stranger (guarded_table g operations table instr) ≡ None
 
--- one that is refused leaves the table
+-- a guarded instruction that is refused leaves the table
 abbrev pub RefusedStays : Type 0
 RefusedStays =
     (g : Geometry) (operations : Routines) (table : List Named) (instr : Instruction)
@@ -113,7 +113,7 @@ RefusedStays =
     → is_refused (guarded_reply g operations table instr) ≡ true
     → guarded_table g operations table instr ≡ table
 
--- and one that adds no object does all of its plain instructions or none
+-- a guarded instruction that adds no object does all of its plain instructions or none
 abbrev pub AllOrNone : Type 0
 AllOrNone =
     (g : Geometry) (operations : Routines) (table : List Named) (instr : Instruction)
@@ -161,15 +161,16 @@ GuardedGivesWords =
     → Single g operations flips k (table_of state) script
     → IsGuarded g operations meaning flips k banks state script
 
--- so it is with a program that does a text, on the image that a chip was opened on
+-- a guarded run of a program that does a text, on a chip that was opened on an image, ends as the
+-- word machine without flips, where they hit one copy at most between two votes
 abbrev pub GuardedTextGivesWords : Type 0
 GuardedTextGivesWords =
     (p : Program) (t : List TextOp) (i : Image) (flips : List Flip) (script : List Instruction)
     → IsImage i.geometry i.table i.rows → ImplementsAll p t → AllByRecursion IsPlain script
     → AllByRecursion HasName script
-    → first_stranger i.table ≡ None → EqualCopies (words_of i)
+    → first_stranger i.table ≡ None → EqualCopies (objects_held i)
     → Single i.geometry (routines_of t p) flips 1 i.table script
-    → IsGuarded i.geometry (routines_of t p) (meaning_in t) flips 1 (opened i) (words_of i)
+    → IsGuarded i.geometry (routines_of t p) (meaning_in t) flips 1 (opened i) (objects_held i)
     script
 
 -- the flips of a text are flips of the chip, in order

@@ -62,17 +62,17 @@ pub record Outline : Type 0 where
 abbrev pub outline : Named → Outline
 outline p = record { name = p.0; width = p.1.width; count = p.1.count }
 
--- under a letter
+-- the copy under this letter
 abbrev pub lettered : ℕ → Outline → Outline
 lettered letter o = record { name = letter ∷ o.name; width = o.width; count = o.count }
 
--- the three copies of each, one object after another
+-- the three copies of each of these objects, one object after another
 abbrev pub in_copies : List Outline → List Outline
 in_copies [] = []
 in_copies (o ∷ guarded) =
     lettered x_letter o ∷ lettered y_letter o ∷ lettered z_letter o ∷ in_copies guarded
 
--- each has a name that a file has room for
+-- each of these objects has a name that a file has room for
 abbrev pub AllNamed : List Outline → Type 0
 AllNamed guarded = AllByRecursion (λ o. fits_name o.name ≡ true) guarded
 
@@ -82,7 +82,7 @@ pub record IsTripled (table : List Named) : Type 0 where
   pub names : AllNamed guarded
   pub parts : map outline table ≡ in_copies guarded
 
--- with more objects after it, it is
+-- with more objects after it, the table is the three copies of each of these
 pub record BeginsTripled (table : List Named) : Type 0 where
   pub guarded : List Outline
   pub names : AllNamed guarded

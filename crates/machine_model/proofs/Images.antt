@@ -21,7 +21,7 @@ use Rattle.machine_model.specs.Routines.{Routines}
 use Rattle.machine_model.specs.Refusals.{refusal}
 use Rattle.machine_model.specs.Steps.{new_object, tabled, table_after}
 use Rattle.machine_model.specs.Script.{table_at_end, banks_at_end, events_in_order}
-use Rattle.machine_model.specs.Opened.{Image, opened, rows_of, row_writes}
+use Rattle.machine_model.specs.Opened.{Image, opened, rows_in_banks, row_writes}
 use Rattle.machine_model.specs.Laws.{TableFits, ImageStays}
 use Rattle.machine_model.proofs.Events.{in_order_steps}
 use Rattle.machine_model.proofs.Opened.{after_length}
@@ -75,7 +75,7 @@ opened_length i bank l = after_length (row_writes i) (blank_banks i.geometry) ba
     ∙ rw (lt-ltb bank i.geometry.banks l) (length-replicate {A = Column} (64 * i.geometry.words)
     blank)
 
-row_length : (banks : Banks) (bank row : ℕ) → length (rows_of banks bank row) ≡ length (banks bank)
+row_length : (banks : Banks) (bank row : ℕ) → length (rows_in_banks banks bank row) ≡ length (banks bank)
 row_length banks bank row = simp length-map
 
 pub image_stays : ImageStays

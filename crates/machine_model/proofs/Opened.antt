@@ -26,7 +26,7 @@ use Rattle.machine_model.specs.Agrees.{Agrees}
 use Rattle.std.specs.List.{AllByRecursion}
 use Rattle.machine_model.specs.Report.{Said, said_of, said_in_words, said_in_rows}
 use Rattle.object_alloc.specs.Spelling.{IsImage}
-use Rattle.machine_model.specs.Opened.{Image, opened, words_of, row_writes}
+use Rattle.machine_model.specs.Opened.{Image, opened, objects_held, row_writes}
 use Rattle.machine_model.proofs.Facts.{not_false}
 use Rattle.machine_model.proofs.Places.{no_one, found}
 use Rattle.machine_model.proofs.Makes.{few_banks}
@@ -68,7 +68,7 @@ tables g banks (p ∷ table) = ap (λ rest. p ∷ rest) (tables g banks table)
 
 -- An image that is opened holds its objects' numbers
 pub opened_agrees : (i : Image) → 0 < i.geometry.words → IsImage i.geometry i.table i.rows
-    → Agrees i.geometry (opened i) (words_of i)
+    → Agrees i.geometry (opened i) (objects_held i)
 opened_agrees i words good = record {
   shaped = λ bank l. after_length (row_writes i) (blank_banks i.geometry) bank
       ∙ rw (lt-ltb bank i.geometry.banks l) (length-replicate {A = Column} (64 * i.geometry.words)

@@ -34,7 +34,7 @@ use Rattle.machine_model.specs.Pieces.{Piece, Wave, Alone, AreBbops, IsPiece, in
 use Rattle.machine_model.specs.Pieces.{wave_size, wave_queues, piece_events, events_of_pieces}
 use Rattle.machine_model.specs.Pieces.{turn_at_end}
 use Rattle.machine_model.specs.Report.{Said, Answered, said_in_rows, lines}
-use Rattle.machine_model.specs.Opened.{Image, opened, rows_of}
+use Rattle.machine_model.specs.Opened.{Image, opened, rows_in_banks}
 
 -- Where what is issued for each operation does what it means, the banks after a script hold what
 -- the word machine holds
@@ -79,7 +79,7 @@ ImageStays =
     (i : Image) (operations : Routines) (text : List ℕ) (script : List Instruction)
     → script_of text ≡ Ok script → IsImage i.geometry i.table i.rows
     → IsImage i.geometry (table_at_end i.geometry operations i.table script)
-    (rows_of (banks_at_end i.geometry operations i.table (opened i) script))
+    (rows_in_banks (banks_at_end i.geometry operations i.table (opened i) script))
 
 -- A bbop that is not refused: its walk ends, its binding fits in a bank, and there are its banks
 pub record IsGranted (g : Geometry) (operations : Routines) (table : List Named) (o : Routine)

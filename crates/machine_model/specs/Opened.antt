@@ -26,12 +26,12 @@ abbrev pub opened : Image → Banks
 opened i = after (row_writes i) (blank_banks i.geometry)
 
 -- the rows that banks hold
-abbrev pub rows_of : Banks → Rows
-rows_of banks bank row = row_in row (banks bank)
+abbrev pub rows_in_banks : Banks → Rows
+rows_in_banks banks bank row = row_in row (banks bank)
 
 -- an image's objects with the numbers in their columns
-abbrev pub words_of : Image → List Held
-words_of i = map (λ p. record {
+abbrev pub objects_held : Image → List Held
+objects_held i = map (λ p. record {
   name = p.0;
   object = p.1;
   numbers = columns i.geometry (opened i) p.1;

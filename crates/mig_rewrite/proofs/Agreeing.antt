@@ -1,5 +1,5 @@
 -- The values of all nodes, computed one after another, and graphs whose outputs agree
-use Rattle.std.proofs.Common.{◌≡◌, ◌≢◌, ℕ, ◌+◌, ◌-◌, ◌<◌, ◌≤◌, Bool, true, false, List, length}
+use Rattle.std.proofs.Common.{◌≡◌, ◌≢◌, ℕ, ◌+◌, ◌-◌, ◌<◌, Bool, true, false, List, length}
 use Rattle.std.proofs.Common.{refl, sym, ◌∙◌, ap, subst, arith, inl, inr}
 use Rattle.std.proofs.lemmas.Bool.{cases_eq}
 use Rattle.bit_rows.specs.Bits.{flip_if}
@@ -62,6 +62,29 @@ agree-values g h outs made bits listed others has has-others named named-others 
     sym (ap (flip_if (lit_at made j).inverted)
     (has-others v fits (lit_at made j).node (named-others j c))) ∙ same j b
     ∙ ap (flip_if (lit_at outs j).inverted) (has v fits (lit_at outs j).node (named j b))
+
+-- the same, where the outputs agree on each assignment that gives the inputs these values
+pub values-agree : (g h : Graph) (outs made : List Lit) (bits listed others : List Bool)
+    → HasValues g bits listed (size_of g) → HasValues h bits others (size_of h) → AreNamed g outs
+    → AreNamed h made → length made ≡ length outs
+    → ((v : ℕ → Bool) → FitsFrom 0 bits v → Agree g outs h made v)
+    → (k : ℕ) → k < length outs → lit_value (is_marked others) (lit_at made k)
+    ≡ lit_value (is_marked listed) (lit_at outs k)
+values-agree g h outs made bits listed others has has-others named named-others long all k b =
+    let v = is_marked bits in
+    let fits : FitsFrom 0 bits v = λ j low c. refl in
+    let c : k < length made = omega (arith, b, long) in
+    ap (flip_if (lit_at made k).inverted)
+    (has-others v fits (lit_at made k).node (named-others k c)) ∙ all v fits k b
+    ∙ sym (ap (flip_if (lit_at outs k).inverted) (has v fits (lit_at outs k).node (named k b)))
+
+-- an assignment that fits the list from one place on fits the old list after it
+pub fits-after : (free last : ℕ) (old new : List Bool) (v : ℕ → Bool) → length new ≡ length old
+    → free ≡ last + 1 → FitsFrom last new v
+    → ((j : ℕ) → last < j → is_marked new j ≡ is_marked old j) → FitsFrom free old v
+fits-after free last old new v long e fits others = λ j low b.
+    sym (others j (omega (arith, low, e)))
+    ∙ fits j (omega (arith, low, e)) (omega (arith, b, long))
 
 -- an assignment fits the list with its own value put before those that it fits
 pub fits-before : (free last : ℕ) (old new : List Bool) (v : ℕ → Bool) → length new ≡ length old

@@ -6,3 +6,4 @@ pub mod Marks
 pub mod Counting
 pub mod Keeping
 mod Agreeing
+mod Offering

@@ -1,7 +1,7 @@
 -- The values of all nodes on an assignment of the inputs
 use Rattle.std.specs.Prelude.{◌≡◌, ℕ, ◌<◌, ◌≤◌, Bool, List, length}
 use Rattle.mig_graph.specs.declared.Lit.{Lit}
-use Rattle.mig_graph.specs.Graph.{Graph, size_of, value, values}
+use Rattle.mig_graph.specs.Graph.{Graph, value, values}
 use Rattle.mig_graph.specs.Outputs.{lit_at}
 use Rattle.mig_rewrite.specs.Plan.{is_marked}
 

@@ -1,7 +1,7 @@
 //! Whether two graphs' outputs are equal on every assignment of the inputs.
 
-ghost use Rattle.std.specs.Prelude.{◌≡◌, ◌≢◌, ◌<◌, ◌≤◌, ◌-◌, ℕ, Bool, IsTrue, IfOk, length, true};
-ghost use Rattle.std.specs.Prelude.{◌+◌};
+ghost use Rattle.std.specs.Prelude.{◌≡◌, ◌≢◌, ◌<◌, ◌≤◌, ◌-◌, ◌+◌, ◌↔◌, ℕ, Bool, IsTrue, IfOk};
+ghost use Rattle.std.specs.Prelude.{length};
 ghost use Rattle.bit_rows.specs.Bits.{majority};
 ghost use Rattle.mig_graph.specs.Literals.{lit_value, node_value};
 ghost use Rattle.mig_graph.specs.Graph.{size_of, values};
@@ -95,9 +95,9 @@ fn same_outputs(outs: &[Lit], values: &[bool], made: &[Lit], others: &[bool]) ->
         → (lit_at outs.now k).node < length values.now }
     requires named_others { (k : ℕ) → k < length made.now
         → (lit_at made.now k).node < length others.now }
-    ensures { IsTrue result → (k : ℕ) → k < length outs.now
+    ensures { IsTrue result ↔ ((k : ℕ) → k < length outs.now
         → lit_value (is_marked others.now) (lit_at made.now k)
-        ≡ lit_value (is_marked values.now) (lit_at outs.now k) }
+        ≡ lit_value (is_marked values.now) (lit_at outs.now k)) }
 {
     for k in 0..outs.len() {
         if value_of(others, made[k]) != value_of(values, outs[k]) {
@@ -124,8 +124,8 @@ fn agree_at(
     requires long_others { length others.old ≡ size_of r.now.mig }
     ensures long { length values.new ≡ length values.old }
     ensures long_others { length others.new ≡ length others.old }
-    ensures agree { IsTrue result → (v : ℕ → Bool) → FitsFrom 0 bits.now v
-        → Agree m.now.mig m.now.outs.items r.now.mig r.now.outs.items v }
+    ensures agree { IsTrue result ↔ ((v : ℕ → Bool) → FitsFrom 0 bits.now v
+        → Agree m.now.mig m.now.outs.items r.now.mig r.now.outs.items v) }
 {
     evaluate(&m.mig, bits, values);
     evaluate(&r.mig, bits, others);
@@ -154,8 +154,8 @@ fn agree(
     ensures long { length values.new ≡ length values.old }
     ensures long_others { length others.new ≡ length others.old }
     ensures kept { (j : ℕ) → free ≤ j → is_marked bits.new j ≡ is_marked bits.old j }
-    ensures agree { IsTrue result → (v : ℕ → Bool) → FitsFrom free bits.old v
-        → Agree m.now.mig m.now.outs.items r.now.mig r.now.outs.items v }
+    ensures agree { IsTrue result ↔ ((v : ℕ → Bool) → FitsFrom free bits.old v
+        → Agree m.now.mig m.now.outs.items r.now.mig r.now.outs.items v) }
 {
     if free == 0 {
         return agree_at(m, r, bits, values, others);
@@ -169,13 +169,13 @@ fn agree(
     agree(m, r, bits, values, others, last)
 }
 
-/// Whether the second graph keeps the outputs of the first. Graphs of more than 12 inputs are not
-/// compared.
+/// Whether the second graph keeps the outputs of the first, which has at most 12 inputs: graphs of
+/// more are not compared.
 pub(crate) fn keeps_outputs(m: &MigOuts, r: &MigOuts, alloc: Global) -> Result<bool, NoMemory>
     requires named { AreNamed m.now.mig m.now.outs.items }
     requires named_others { AreNamed r.now.mig r.now.outs.items }
-    ensures { IfOk result (λ yes. yes ≡ true
-        → KeepsOutputs m.now.mig m.now.outs.items r.now.mig r.now.outs.items) }
+    ensures { IfOk result (λ yes. IsTrue yes ↔ ((m.now.mig.inputs ≤ 12)
+        × KeepsOutputs m.now.mig m.now.outs.items r.now.mig r.now.outs.items)) }
 {
     let inputs = m.mig.inputs();
     if inputs > MOST_INPUTS || r.mig.inputs() != inputs || r.outs.len() != m.outs.len() {

@@ -46,6 +46,8 @@ impl Least {
 #[derive(Clone, Copy)]
 pub struct Carry {
     class: u8,
+    /// The number of the class's first least graph.
+    pub row: usize,
     order: [u8; 3],
     inverted: u8,
     flip: u8,
@@ -65,6 +67,7 @@ const ORDERS: [[u8; 3]; 6] = [
 
 const UNCARRIED: Carry = Carry {
     class: 0,
+    row: 0,
     order: [0, 1, 2],
     inverted: 0,
     flip: 2,
@@ -96,8 +99,8 @@ fn note(carries: &mut Carries, function: u8, carry: Carry) {
 /// How many least graphs are looked for.
 pub const MOST_LEAST: usize = 100;
 
-/// Notes all functions of a class, if they are not noted yet.
-fn note_class(carries: &mut Carries, class: u8) {
+/// Notes all functions of the class whose least graphs begin at a row, if they are not noted yet.
+fn note_class(carries: &mut Carries, class: u8, row: usize) {
     if carries[class as usize].flip < 2 {
         return;
     }
@@ -107,6 +110,7 @@ fn note_class(carries: &mut Carries, class: u8) {
             for flip in 0..2u8 {
                 let carry = Carry {
                     class,
+                    row,
                     order,
                     inverted,
                     flip,
@@ -122,7 +126,7 @@ pub fn carries() -> Carries {
     let mut carries = [UNCARRIED; 256];
     for number in 0..MOST_LEAST {
         if let Some(least) = least_graph(number) {
-            note_class(&mut carries, least.function());
+            note_class(&mut carries, least.function(), number);
         }
     }
     carries

@@ -79,11 +79,14 @@ fn leaves_of(set: u64) -> [u8; 3] {
 
 /// The least graphs of a function's class, over these leaves.
 fn offer_class(carry: &Carry, leaves: [u8; 3], forms: &mut Vec<Form>) -> Result<(), NoMemory> {
-    for number in 0..MOST_LEAST {
-        if let Some(least) = least_graph(number)
-            && let Some(form) = carry.form_of(least, leaves)
-        {
-            keep(forms, form)?;
+    for number in carry.row..MOST_LEAST {
+        let form = match least_graph(number) {
+            Some(least) => carry.form_of(least, leaves),
+            None => None,
+        };
+        match form {
+            Some(form) => keep(forms, form)?,
+            None => break,
         }
     }
     Ok(())
@@ -111,6 +114,9 @@ fn offer_least(
 pub struct Divisor {
     literal: u8,
     errors: Table,
+    /// The places in the list of the later literals of other nodes that are wrong on no assignment
+    /// on which this one is.
+    apart: u128,
 }
 
 /// The literals that are not above the node.
@@ -125,16 +131,39 @@ fn divisors(
     for literal in 0..sketch.size().saturating_mul(2) {
         if !has(above, literal / 2) {
             let errors = table_of(tables, literal).xor(&own);
-            keep(list, Divisor { literal, errors })?;
+            let apart = 0;
+            keep(
+                list,
+                Divisor {
+                    literal,
+                    errors,
+                    apart,
+                },
+            )?;
         }
     }
     Ok(())
 }
 
-/// Whether the second literal may follow the first: its node comes later, and no assignment is
-/// wrong in both.
-fn may_follow(a: &Divisor, b: &Divisor) -> bool {
-    a.literal / 2 < b.literal / 2 && a.errors.is_apart(&b.errors)
+/// The places of the literals that may follow this one.
+fn apart_of(list: &[Divisor], a: &Divisor) -> u128 {
+    let mut apart = 0u128;
+    for (k, b) in list.iter().enumerate() {
+        if k < 128 && a.literal / 2 < b.literal / 2 && a.errors.is_apart(&b.errors) {
+            apart |= 1 << k;
+        }
+    }
+    apart
+}
+
+/// Finds which literals may follow each one.
+fn set_apart(list: &mut [Divisor]) {
+    for k in 0..list.len() {
+        if k < list.len() {
+            let a = list[k];
+            list[k].apart = apart_of(list, &a);
+        }
+    }
 }
 
 /// Nodes of these two literals and a third one, where no assignment is wrong in two.
@@ -144,20 +173,26 @@ fn offer_thirds(
     b: &Divisor,
     forms: &mut Vec<Form>,
 ) -> Result<(), NoMemory> {
-    for c in list {
-        if may_follow(b, c) && may_follow(a, c) && forms.len() < MOST_FORMS {
+    let mut left = a.apart & b.apart;
+    for _ in 0..left.count_ones() {
+        if let Some(c) = list.get(left.trailing_zeros() as usize)
+            && forms.len() < MOST_FORMS
+        {
             keep(forms, Form::node([a.literal, b.literal, c.literal]))?;
         }
+        left &= left.wrapping_sub(1);
     }
     Ok(())
 }
 
 /// Nodes of this literal and two later ones.
 fn offer_triples(list: &[Divisor], a: &Divisor, forms: &mut Vec<Form>) -> Result<(), NoMemory> {
-    for b in list {
-        if may_follow(a, b) {
+    let mut left = a.apart;
+    for _ in 0..left.count_ones() {
+        if let Some(b) = list.get(left.trailing_zeros() as usize) {
             offer_thirds(list, a, b, forms)?;
         }
+        left &= left.wrapping_sub(1);
     }
     Ok(())
 }
@@ -190,6 +225,7 @@ pub fn replacements(
         return keep(forms, Form::literal(literal));
     }
     offer_least(sketch, node, carries, forms)?;
+    set_apart(list);
     for a in list.iter() {
         offer_triples(list, a, forms)?;
     }

@@ -183,6 +183,10 @@ impl Search {
         let mut at = *first;
         let mut draw = seed;
         for _ in 0..STEPS {
+            // One node is the only one of its function.
+            if at.count < 2 {
+                break;
+            }
             let other = self.drawn(&at, draw)?;
             draw = next(next(draw));
             if other.count <= at.count {

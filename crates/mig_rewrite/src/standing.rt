@@ -1,9 +1,12 @@
 //! Other graphs in the place of a graph: what the search offers is taken where it is right.
 
-ghost use Rattle.std.specs.Prelude.{◌≡◌, ◌<◌, ◌≤◌, ◌+◌, ℕ, IfOk, IfSome, length, true};
-ghost use Rattle.mig_graph.specs.Graph.{Graph, size_of};
+ghost use Rattle.std.specs.Prelude.{◌≡◌, ◌<◌, ◌≤◌, ◌+◌, ◌/◌, ◌%◌, ◌==◌, ◌↔◌, ℕ, Bool, IsTrue};
+ghost use Rattle.std.specs.Prelude.{IfOk, IfSome, IfNone, length, slice_index_or, nat_lt};
+ghost use Rattle.std.specs.Prelude.{if◌then◌else◌};
+ghost use Rattle.mig_graph.specs.Graph.{Graph, size_of, value};
 ghost use Rattle.mig_graph.specs.Outputs.{lit_at, AreNamed, KeepsOutputs};
 ghost use Rattle.mig_graph.specs.Reduced.{IsReduced};
+ghost use Rattle.mig_rewrite.specs.Offers.{operand, output_value, Stands, IsRight, IsOffered};
 
 use crate::agree::keeps_outputs;
 use crate::rebuild::{Part, first_literals, make, translated};
@@ -16,7 +19,9 @@ use std::alloc::Global;
 /// The literal of a sketch, or the constant where its node is not made yet.
 fn literal(short: u8, count: usize) -> Lit
     requires { 0 < count }
-    ensures { result.node < count }
+    ensures named { result.node < count }
+    ensures node { result.node ≡ (if nat_lt (short / 2) count then short / 2 else 0) }
+    ensures inverted { result.inverted ≡ (short % 2 == 1) }
 {
     let node = short / 2;
     Lit {
@@ -29,14 +34,38 @@ fn literal(short: u8, count: usize) -> Lit
     }
 }
 
+/// The literals of a node by its place among the nodes.
+fn operands(offer: &Sketch, k: u8) -> [u8; 3]
+    ensures { (i : ℕ) → slice_index_or result i 0 ≡ operand offer.now k i }
+{
+    match offer.nodes.get(k as usize) {
+        Some(operands) => *operands,
+        None => [0; 3],
+    }
+}
+
+/// The literal of an output.
+fn output(offer: &Sketch, j: u8) -> u8
+    ensures { result ≡ slice_index_or offer.now.outs j 0 }
+{
+    match offer.outs.get(j as usize) {
+        Some(literal) => *literal,
+        None => 0,
+    }
+}
+
 /// The outputs of a sketch, in a graph that has these literals for its nodes.
 fn outputs(offer: &Sketch, lits: &[Lit], alloc: Global) -> Result<Vec<Lit>, NoMemory>
     requires { 0 < length lits.now }
-    ensures { IfOk result (λ v. (g : Graph) → AreNamed g lits.now → AreNamed g v.items) }
+    ensures named { IfOk result (λ v. (g : Graph) → AreNamed g lits.now → AreNamed g v.items) }
+    ensures long { IfOk result (λ v. length v.items ≡ offer.now.outputs) }
+    ensures values { IfOk result (λ v. (g : Graph) (bits : ℕ → Bool)
+        → Stands g bits lits.now offer.now offer.now.count → (j : ℕ) → j < offer.now.outputs
+        → value g bits (lit_at v.items j) ≡ output_value offer.now bits j) }
 {
     let mut outs = Vec::new(alloc);
-    for k in 0..offer.outputs {
-        let l = translated(lits, literal(offer.output(k), lits.len()));
+    for j in 0..offer.outputs {
+        let l = translated(lits, literal(output(offer, j), lits.len()));
         keep(&mut outs, l)?;
     }
     Ok(outs)
@@ -44,13 +73,18 @@ fn outputs(offer: &Sketch, lits: &[Lit], alloc: Global) -> Result<Vec<Lit>, NoMe
 
 /// The graph of a sketch.
 fn built(offer: &Sketch, alloc: Global) -> Result<MigOuts, NoMemory>
-    ensures { IfOk result (λ r. AreNamed r.mig r.outs.items) }
+    ensures named { IfOk result (λ r. AreNamed r.mig r.outs.items) }
+    ensures inputs { IfOk result (λ r. r.mig.inputs ≡ offer.now.inputs) }
+    ensures long { IfOk result (λ r. length r.outs.items ≡ offer.now.outputs) }
+    ensures count { IfOk result (λ r. length r.mig.nodes ≤ offer.now.count) }
+    ensures values { IfOk result (λ r. (bits : ℕ → Bool) (j : ℕ) → j < offer.now.outputs
+        → value r.mig bits (lit_at r.outs.items j) ≡ output_value offer.now bits j) }
 {
     let inputs = offer.inputs;
     let mut mig = Mig::new(inputs, alloc)?;
     let mut lits = first_literals(inputs, alloc)?;
     for k in 0..offer.count {
-        let [a, b, c] = offer.operands(offer.first().saturating_add(k));
+        let [a, b, c] = operands(offer, k);
         let count = lits.len();
         let part = Part::One(literal(a, count), literal(b, count), literal(c, count));
         let l = make(&mut mig, &lits, part)?;
@@ -64,9 +98,9 @@ fn built(offer: &Sketch, alloc: Global) -> Result<MigOuts, NoMemory>
 fn may_stand(m: &MigOuts, r: &MigOuts, alloc: Global) -> Result<bool, NoMemory>
     requires named { AreNamed m.now.mig m.now.outs.items }
     requires named_others { AreNamed r.now.mig r.now.outs.items }
-    ensures { IfOk result (λ yes. yes ≡ true
-        → KeepsOutputs m.now.mig m.now.outs.items r.now.mig r.now.outs.items
-        × (length r.now.mig.nodes ≤ length m.now.mig.nodes)) }
+    ensures { IfOk result (λ yes. IsTrue yes ↔ ((m.now.mig.inputs ≤ 12)
+        × KeepsOutputs m.now.mig m.now.outs.items r.now.mig r.now.outs.items
+        × (length r.now.mig.nodes ≤ length m.now.mig.nodes))) }
 {
     if r.mig.size() > m.mig.size() {
         return Ok(false);
@@ -76,6 +110,7 @@ fn may_stand(m: &MigOuts, r: &MigOuts, alloc: Global) -> Result<bool, NoMemory>
 
 /// The graph that a sketch stands for, reduced, where each output keeps its value on every input
 /// and there are no more nodes. Graphs of more than 12 inputs are not compared, and none is taken.
+/// A sketch that has more nodes than the graph is taken where its reduced graph has no more.
 pub fn kept(m: &MigOuts, offer: &Sketch, alloc: Global) -> Result<Option<MigOuts>, NoMemory>
     requires { AreNamed m.now.mig m.now.outs.items }
     ensures keeps { IfOk result (λ o. IfSome o (λ r. KeepsOutputs m.now.mig m.now.outs.items r.mig
@@ -83,6 +118,9 @@ pub fn kept(m: &MigOuts, offer: &Sketch, alloc: Global) -> Result<Option<MigOuts
     ensures named { IfOk result (λ o. IfSome o (λ r. AreNamed r.mig r.outs.items)) }
     ensures count { IfOk result (λ o. IfSome o (λ r. length r.mig.nodes ≤ length m.now.mig.nodes)) }
     ensures reduced { IfOk result (λ o. IfSome o (λ r. IsReduced r.mig r.outs.items)) }
+    ensures offered { IfOk result (λ o. IfSome o (λ r. IsOffered offer.now r.mig r.outs.items)) }
+    ensures dropped { IfOk result (λ o. IfNone o (IsRight m.now.mig m.now.outs.items offer.now
+        → ⊥)) }
 {
     let made = built(offer, alloc)?;
     let new = reduced(&made, alloc)?;

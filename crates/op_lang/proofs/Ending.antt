@@ -9,14 +9,14 @@ use Rattle.op_text.specs.Items.{texts}
 use Rattle.op_text.specs.Language.{operation}
 use Rattle.op_text.specs.Rules.{Scope, breach_of}
 use Rattle.op_text.specs.Spelling.{in_turn, operation_text}
-use Rattle.op_lang.specs.declared.fault.ReadNo.{ReadNo}
+use Rattle.op_lang.specs.declared.fault.ReadError.{ReadError}
 use Rattle.op_lang.specs.Tokens.{is_nil}
 use Rattle.op_lang.specs.Reading.{ParserView, breach, Fails, left}
 use Rattle.op_lang.specs.Parsing.{ReadsOps}
 use Rattle.op_lang.proofs.Loops.{HasTurns}
 
-pub ops_exit : {V : Type 0} (list : V → List Op) (old : ParserView) (e : ReadNo) (r : Result V
-    ReadNo)
+pub ops_exit : {V : Type 0} (list : V → List Op) (old : ParserView) (e : ReadError) (r : Result V
+    ReadError)
     → IsErrAnd r (λ x. x ≡ e) → Fails (breach (w.Ops ∷ []) old) e → ReadsOps list old r
 ops_exit list old e r is h =
     let p = err_from_is_err_and r is in

@@ -16,8 +16,8 @@ use Rattle.op_text.specs.Items.{opens, no_token, texts}
 use Rattle.op_text.specs.Grammar.{follow}
 use Rattle.op_text.specs.Rules.{Scope, breach_of}
 use Rattle.op_text.proofs.Steps.{moved, refused}
-use Rattle.op_lang.specs.declared.fault.ReadNo.{ReadNo}
-use Rattle.op_lang.specs.declared.fault.ReadNo.TheVariants as no
+use Rattle.op_lang.specs.declared.fault.ReadError.{ReadError}
+use Rattle.op_lang.specs.declared.fault.ReadError.TheVariants as no
 use Rattle.op_lang.specs.declared.parser.Taken.{Taken}
 use Rattle.op_lang.specs.Reading.{ParserView, breach, Fails, Moves, MovesTo, Took, Takes, is_due}
 use Rattle.op_lang.specs.Reading.{left}
@@ -44,7 +44,7 @@ wrong_fails want s old token new o b e f h more =
     ∙ ap Some (same_breach b token.start h.place)
 
 pub refused_fails : (want : Wanted) (s : Scope) (old : List Item) (token : Token) (new : List Item)
-    (o : Bool) (e : ReadNo) (s' : Scope) → old ≡ Whole (lexeme_of token) ∷ new → o ≡ opens new
+    (o : Bool) (e : ReadError) (s' : Scope) → old ≡ Whole (lexeme_of token) ∷ new → o ≡ opens new
     → JudgesToken want s token o (Err e) s' → (more : List Wanted)
     → Fails (breach_of (want ∷ more) s old) e
 refused_fails want s old token new o no.Memory s' e f h more = tt
@@ -65,11 +65,11 @@ pub took_left : (want : Wanted) (old : ParserView) (text : List ℕ) (u : Termin
     → Took want old text u new → left old ≡ text ∷ left new
 took_left want old text u new h = ap texts h.items
 
-pub fails_along : {a b : Option Breach} (e : ReadNo) → a ≡ b → Fails b e → Fails a e
+pub fails_along : {a b : Option Breach} (e : ReadError) → a ≡ b → Fails b e → Fails a e
 fails_along e h f = let P : Option Breach → Type 0 = λ x. Fails x e in subst P (sym h) f
 
 -- The exit of a `?`.
-pub exits : {A : Type 0} (front : List Wanted) (old : ParserView) (e : ReadNo) (r : Result A ReadNo)
+pub exits : {A : Type 0} (front : List Wanted) (old : ParserView) (e : ReadError) (r : Result A ReadError)
     (following : A → List Wanted) (new : ParserView)
     → IsErrAnd r (λ x. x ≡ e) → ((more : List Wanted) → Fails (breach (front ++ more) old) e)
     → MovesTo front old r following new
@@ -77,7 +77,7 @@ exits front old e r following new is h =
     let p = err_from_is_err_and r is in
     rw (p.1, p.2) h
 
-pub take_exits : (want : Wanted) (old : ParserView) (e : ReadNo) (r : Result Taken ReadNo)
+pub take_exits : (want : Wanted) (old : ParserView) (e : ReadError) (r : Result Taken ReadError)
     (new : ParserView)
     → IsErrAnd r (λ x. x ≡ e) → ((more : List Wanted) → Fails (breach (want ∷ more) old) e)
     → Takes want old r new
@@ -86,7 +86,7 @@ take_exits want old e r new is h =
     rw (p.1, p.2) h
 
 -- where only memory can be lacking
-pub then_memory : {A : Type 0} (front : List Wanted) (old : ParserView) (r : Result A ReadNo)
+pub then_memory : {A : Type 0} (front : List Wanted) (old : ParserView) (r : Result A ReadError)
     (following : A → List Wanted) (new : ParserView)
     → IfErr r (λ e. e ≡ no.Memory) → ((x : A) (more : List Wanted)
     → breach (front ++ more) old ≡ breach (following x ++ more) new)
@@ -96,14 +96,14 @@ then_memory front old (Err e) following new h k = λ more. rw h tt
 
 -- The rest is read after what is read already.
 pub continues : {A : Type 0} (front mid back : List Wanted) (old there : ParserView)
-    (r : Result A ReadNo) (new : ParserView)
+    (r : Result A ReadError) (new : ParserView)
     → ((more : List Wanted) → breach (front ++ more) old ≡ breach (mid ++ (back ++ more)) there)
     → Moves mid there r new → MovesTo front old r (λ x. back) new
 continues front mid back old there (Ok x) new h k = λ more. h more ∙ k (back ++ more)
 continues front mid back old there (Err e) new h k =
     λ more. fails_along e (h more) (k (back ++ more))
 
-pub spells_by : (r : Result Expr ReadNo) (t : Term) (x rest : List (List ℕ))
+pub spells_by : (r : Result Expr ReadError) (t : Term) (x rest : List (List ℕ))
     → IfOk r (λ e. term e ≡ t) → x ≡ term_text t rest → IfOk r (λ e. x ≡ term_text (term e) rest)
 spells_by (Ok e) t x rest h k = rw h k
 spells_by (Err e) t x rest h k = tt

@@ -7,8 +7,8 @@ use Rattle.op_text.specs.declared.fault.Breach.{Breach}
 use Rattle.op_text.specs.Items.{terminal_of}
 use Rattle.op_text.specs.Grammar.{follow}
 use Rattle.op_text.specs.Rules.{Scope, rules_at, step}
-use Rattle.op_lang.specs.declared.fault.ReadNo.{ReadNo}
-use Rattle.op_lang.specs.declared.fault.ReadNo.TheVariants as no
+use Rattle.op_lang.specs.declared.fault.ReadError.{ReadError}
+use Rattle.op_lang.specs.declared.fault.ReadError.TheVariants as no
 use Rattle.op_lang.specs.Reading.{is_allowed}
 
 -- a token that breaks no rule, whose terminal is the answer
@@ -27,7 +27,7 @@ pub record IsWrong (wanted : Wanted) (old : Scope) (token : Token) (opened : Boo
 
 -- A token is judged by the rules: it is fine, or breaks the rule that is told, or memory was
 -- wanting.
-abbrev pub JudgesToken : Wanted → Scope → Token → Bool → Result Terminal ReadNo → Scope → Type 0
+abbrev pub JudgesToken : Wanted → Scope → Token → Bool → Result Terminal ReadError → Scope → Type 0
 JudgesToken wanted old token opened (Ok u) new = IsFine wanted old token opened u new
 JudgesToken wanted old token opened (Err no.Memory) new = Unit {0}
 JudgesToken wanted old token opened (Err (no.Breach b)) new = IsWrong wanted old token opened b

@@ -9,11 +9,11 @@ use Rattle.op_text.specs.Language.{operation, operations}
 use Rattle.op_text.specs.Lines.{fault_in}
 use Rattle.op_text.specs.Spelling.{operations_text}
 use Rattle.op_text.specs.OpsOf.{IsOpsOf}
-use Rattle.op_lang.specs.declared.fault.ReadNo.{ReadNo}
+use Rattle.op_lang.specs.declared.fault.ReadError.{ReadError}
 use Rattle.op_lang.specs.Reading.{ParserView, breach, Fails, left}
 
 -- all ops of a text
-abbrev pub ReadsOps : {V : Type 0} → (V → List Op) → ParserView → Result V ReadNo → Type 0
+abbrev pub ReadsOps : {V : Type 0} → (V → List Op) → ParserView → Result V ReadError → Type 0
 ReadsOps list old (Ok all) = (breach (w.Ops ∷ []) old ≡ None)
     × (left old ≡ operations_text (map operation (list all)))
 ReadsOps list old (Err e) = Fails (breach (w.Ops ∷ []) old) e

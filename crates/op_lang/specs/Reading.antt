@@ -10,8 +10,8 @@ use Rattle.op_text.specs.declared.terminal.Terminal.{Terminal}
 use Rattle.op_text.specs.Items.{opens, terminal_of, texts}
 use Rattle.op_text.specs.Grammar.{follow}
 use Rattle.op_text.specs.Rules.{Scope, rules_at, breach_of}
-use Rattle.op_lang.specs.declared.fault.ReadNo.{ReadNo}
-use Rattle.op_lang.specs.declared.fault.ReadNo.TheVariants as no
+use Rattle.op_lang.specs.declared.fault.ReadError.{ReadError}
+use Rattle.op_lang.specs.declared.fault.ReadError.TheVariants as no
 use Rattle.op_lang.specs.declared.parser.Taken.{Taken}
 use Rattle.op_lang.specs.Tokens.{is_nil}
 
@@ -25,22 +25,23 @@ abbrev pub breach : List Wanted → ParserView → Option Breach
 breach wanted r = breach_of wanted r.scope r.items
 
 -- a fault that is told is the one that was found; want of memory may come of any text
-abbrev pub Fails : Option Breach → ReadNo → Type 0
+abbrev pub Fails : Option Breach → ReadError → Type 0
 Fails found no.Memory = Unit {0}
 Fails found (no.Breach b) = found ≡ Some b
 
 -- Where front is wanted first, and whatever is wanted after it, what was left is as good as what
 -- is left where following x is wanted first; or one of the tokens breaks a rule, which is the
 -- answer.
-abbrev pub MovesTo : {A : Type 0} → List Wanted → ParserView → Result A ReadNo → (A → List Wanted)
-    → ParserView → Type 0
+abbrev pub MovesTo : {A : Type 0} → List Wanted → ParserView → Result A ReadError
+    → (A → List Wanted) → ParserView → Type 0
 MovesTo front old (Ok x) following new = (wanted : List Wanted)
     → breach (front ++ wanted) old ≡ breach (following x ++ wanted) new
 MovesTo front old (Err e) following new = (wanted : List Wanted)
     → Fails (breach (front ++ wanted) old) e
 
 -- the same where all of front is read
-abbrev pub Moves : {A : Type 0} → List Wanted → ParserView → Result A ReadNo → ParserView → Type 0
+abbrev pub Moves : {A : Type 0} → List Wanted → ParserView → Result A ReadError → ParserView
+    → Type 0
 Moves front old r new = MovesTo front old r (λ x. []) new
 
 -- the grammar allows the token
@@ -59,7 +60,7 @@ pub record Took (wanted : Wanted) (old : ParserView) (text : List ℕ) (terminal
   pub rules : rules_at wanted old.scope terminal text (opens new.items) ≡ Ok new.scope
 
 -- One token was taken, or it is at fault whatever is wanted later.
-abbrev pub Takes : Wanted → ParserView → Result Taken ReadNo → ParserView → Type 0
+abbrev pub Takes : Wanted → ParserView → Result Taken ReadError → ParserView → Type 0
 Takes wanted old (Ok t) new = Took wanted old t.text.now t.terminal new
 Takes wanted old (Err e) new = (more : List Wanted) → Fails (breach (wanted ∷ more) old) e
 

@@ -6,8 +6,8 @@ use Rattle.op_lang.specs.declared.scope.Scope as code
 use Rattle.op_lang.specs.declared.scope.InOp as code_op
 use Rattle.op_lang.specs.declared.scope.InWord as code_word
 use Rattle.op_lang.specs.declared.scope.InBlock as code_block
-use Rattle.op_lang.specs.declared.fault.Refused.{Refused}
-use Rattle.op_lang.specs.declared.fault.Refused.TheVariants as refused
+use Rattle.op_lang.specs.declared.fault.RuleError.{RuleError}
+use Rattle.op_lang.specs.declared.fault.RuleError.TheVariants as refused
 
 -- what the code keeps of an op, as the rules have it
 abbrev pub seen_op : code_op.InOp → InOp
@@ -46,7 +46,7 @@ seen k = record {
 
 -- A function that judges a token by these rules: it goes on to the new scope, or tells the rule
 -- that breaks.
-abbrev pub Judges : {A : Type 0} → Result Scope OpsKind → Result A Refused → Scope → Type 0
+abbrev pub Judges : {A : Type 0} → Result Scope OpsKind → Result A RuleError → Scope → Type 0
 Judges rules (Ok x) new = rules ≡ Ok new
 Judges rules (Err (refused.Rule kind)) new = rules ≡ Err kind
 Judges rules (Err refused.Memory) new = Unit {0}

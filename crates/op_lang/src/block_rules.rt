@@ -4,7 +4,7 @@ ghost use Rattle.std.specs.Prelude.{◌≡◌, ◌++◌, [], ◌∷◌, length, 
 ghost use Rattle.op_text.specs.Rules as rules;
 ghost use Rattle.op_lang.specs.Seen.{seen, Judges};
 
-use crate::fault::Refused;
+use crate::fault::RuleError;
 use crate::names::{define_all, good_name, is_among, keep_all, others};
 use crate::results::{is_assigned, is_bit_result, is_open_result};
 use crate::scope::{InBlock, Scope};
@@ -22,18 +22,18 @@ fn is_taken_state(scope: &Scope, text: &[u8]) -> bool
 }
 
 /// The name of a state.
-pub(crate) fn state(scope: &mut Scope, spelling: Spelling, text: &[u8]) -> Result<(), Refused>
+pub(crate) fn state(scope: &mut Scope, spelling: Spelling, text: &[u8]) -> Result<(), RuleError>
     ensures { Judges (rules.state_rules (seen scope.old) spelling text.now) result
         (seen scope.new) }
 {
     let Some(name) = good_name(spelling, text) else {
-        return Err(Refused::Rule(OpsKind::BadName));
+        return Err(RuleError::Rule(OpsKind::BadName));
     };
     if is_taken_state(scope, text) {
-        return Err(Refused::Rule(OpsKind::Twice));
+        return Err(RuleError::Rule(OpsKind::Twice));
     }
     if scope.block.states.len() >= 8 {
-        return Err(Refused::Rule(OpsKind::TooMany));
+        return Err(RuleError::Rule(OpsKind::TooMany));
     }
     keep(&mut scope.op.stands, name.copied())?;
     keep(&mut scope.block.states, name.copied())?;
@@ -42,18 +42,18 @@ pub(crate) fn state(scope: &mut Scope, spelling: Spelling, text: &[u8]) -> Resul
 }
 
 /// The word `let`.
-pub(crate) fn another_let(scope: &mut Scope) -> Result<(), Refused>
+pub(crate) fn another_let(scope: &mut Scope) -> Result<(), RuleError>
     ensures { Judges (rules.let_rules (seen scope.old)) result (seen scope.new) }
 {
     if scope.block.lets >= 16 {
-        return Err(Refused::Rule(OpsKind::TooMany));
+        return Err(RuleError::Rule(OpsKind::TooMany));
     }
     scope.block.lets += 1;
     Ok(())
 }
 
 /// The `;` of a let.
-pub(crate) fn let_end(scope: &mut Scope) -> Result<(), Refused>
+pub(crate) fn let_end(scope: &mut Scope) -> Result<(), RuleError>
     ensures { Judges (Ok (rules.let_end (seen scope.old))) result (seen scope.new) }
 {
     let Some(name) = &scope.naming else {
@@ -74,21 +74,21 @@ fn is_taken_target(scope: &Scope, text: &[u8]) -> bool
 }
 
 /// The target of an assignment.
-pub(crate) fn target(scope: &mut Scope, spelling: Spelling, text: &[u8]) -> Result<(), Refused>
+pub(crate) fn target(scope: &mut Scope, spelling: Spelling, text: &[u8]) -> Result<(), RuleError>
     ensures { Judges (rules.target_rules (seen scope.old) spelling text.now) result
         (seen scope.new) }
 {
     let Some(name) = good_name(spelling, text) else {
-        return Err(Refused::Rule(OpsKind::BadName));
+        return Err(RuleError::Rule(OpsKind::BadName));
     };
     if is_taken_target(scope, text) {
-        return Err(Refused::Rule(OpsKind::Twice));
+        return Err(RuleError::Rule(OpsKind::Twice));
     }
     if is_bit_result(scope, text) && !is_among(&scope.block.states, text) {
-        return Err(Refused::Rule(OpsKind::Kind));
+        return Err(RuleError::Rule(OpsKind::Kind));
     }
     if scope.block.targets.len() >= 8 {
-        return Err(Refused::Rule(OpsKind::TooMany));
+        return Err(RuleError::Rule(OpsKind::TooMany));
     }
     keep(&mut scope.block.targets, name)?;
     Ok(())
@@ -99,7 +99,7 @@ pub(crate) fn let_or_target(
     scope: &mut Scope,
     spelling: Spelling,
     text: &[u8],
-) -> Result<(), Refused>
+) -> Result<(), RuleError>
     ensures { Judges (rules.let_or_target (seen scope.old) spelling text.now) result
         (seen scope.new) }
 {
@@ -110,7 +110,7 @@ pub(crate) fn let_or_target(
 }
 
 /// The `}` of a block.
-pub(crate) fn block_end(scope: &mut Scope) -> Result<(), Refused>
+pub(crate) fn block_end(scope: &mut Scope) -> Result<(), RuleError>
     ensures { Judges (Ok (rules.block_end (seen scope.old))) result (seen scope.new) }
 {
     let words = others(&scope.block.targets, &scope.block.states, scope.alloc)?;

@@ -1,9 +1,9 @@
 //! Why reading ends early.
 
 ghost use Rattle.std.specs.Prelude.{◌≡◌};
-ghost use Rattle.op_lang.specs.declared.fault.ReadNo.TheVariants as no;
-ghost use Rattle.op_lang.specs.declared.fault.ReadNo.TheVariants.{Memory};
-ghost use Rattle.op_lang.specs.declared.fault.Refused.TheVariants as refused;
+ghost use Rattle.op_lang.specs.declared.fault.ReadError.TheVariants as no;
+ghost use Rattle.op_lang.specs.declared.fault.ReadError.TheVariants.{Memory};
+ghost use Rattle.op_lang.specs.declared.fault.RuleError.TheVariants as refused;
 
 use faults::NoMemory;
 use op_text::{Breach, OpsKind};
@@ -11,46 +11,46 @@ use std::alloc::{AllocError, AllocFailed};
 
 /// Why a part of a text is not read.
 #[derive(Drop)]
-pub(crate) enum ReadNo {
+pub(crate) enum ReadError {
     Memory,
     Breach(Breach),
 }
 
 /// Why a token is refused that the grammar allows.
 #[derive(Clone, Copy)]
-pub(crate) enum Refused {
+pub(crate) enum RuleError {
     Memory,
     Rule(OpsKind),
 }
 
-impl From<NoMemory> for Refused {
+impl From<NoMemory> for RuleError {
     ghost from_gives = { λ _ e. e ≡ refused.Memory };
 
-    fn from(_no: NoMemory) -> Refused {
-        Refused::Memory
+    fn from(_no: NoMemory) -> RuleError {
+        RuleError::Memory
     }
 }
 
-impl From<AllocError> for ReadNo {
+impl From<AllocError> for ReadError {
     ghost from_gives = { λ _ e. e ≡ Memory };
 
-    fn from(_e: AllocError) -> ReadNo {
-        ReadNo::Memory
+    fn from(_e: AllocError) -> ReadError {
+        ReadError::Memory
     }
 }
 
-impl<T: Drop> From<AllocFailed<T>> for ReadNo {
+impl<T: Drop> From<AllocFailed<T>> for ReadError {
     ghost from_gives = { λ _ e. e ≡ Memory };
 
-    fn from(_e: AllocFailed<T>) -> ReadNo {
-        ReadNo::Memory
+    fn from(_e: AllocFailed<T>) -> ReadError {
+        ReadError::Memory
     }
 }
 
-impl From<Breach> for ReadNo {
+impl From<Breach> for ReadError {
     ghost from_gives = { λ b e. e ≡ no.Breach b };
 
-    fn from(b: Breach) -> ReadNo {
-        ReadNo::Breach(b)
+    fn from(b: Breach) -> ReadError {
+        ReadError::Breach(b)
     }
 }

@@ -8,7 +8,7 @@ ghost use Rattle.op_lang.specs.Seen.{seen, Judges};
 ghost use Rattle.op_lang.specs.Reading.{is_allowed};
 
 use crate::block_rules::{block_end, let_end, let_or_target, state, target};
-use crate::fault::Refused;
+use crate::fault::RuleError;
 use crate::head_rules::{
     another_op, new_name, op_end, op_name, result_kind, source_kind, source_name,
 };
@@ -103,7 +103,7 @@ fn judge_name(
     spelling: Spelling,
     text: &[u8],
     opened: bool,
-) -> Result<(), Refused>
+) -> Result<(), RuleError>
     ensures { Judges (rules_at wanted (seen scope.old) (t.Name spelling) text.now opened) result
         (seen scope.new) }
 {
@@ -130,7 +130,7 @@ fn judge_name(
     }
 }
 
-fn judge_close(scope: &mut Scope, wanted: Wanted) -> Result<(), Refused>
+fn judge_close(scope: &mut Scope, wanted: Wanted) -> Result<(), RuleError>
     ensures { (text : List ℕ) (o : Bool) → Judges (rules_at wanted (seen scope.old) t.Closes text o)
         result (seen scope.new) }
 {
@@ -142,7 +142,7 @@ fn judge_close(scope: &mut Scope, wanted: Wanted) -> Result<(), Refused>
     }
 }
 
-fn judge_comma(scope: &mut Scope, wanted: Wanted) -> Result<(), Refused>
+fn judge_comma(scope: &mut Scope, wanted: Wanted) -> Result<(), RuleError>
     ensures { (text : List ℕ) (o : Bool) → Judges (rules_at wanted (seen scope.old) t.Comma text o)
         result (seen scope.new) }
 {
@@ -153,7 +153,7 @@ fn judge_comma(scope: &mut Scope, wanted: Wanted) -> Result<(), Refused>
     }
 }
 
-fn judge_semi(scope: &mut Scope, wanted: Wanted) -> Result<(), Refused>
+fn judge_semi(scope: &mut Scope, wanted: Wanted) -> Result<(), RuleError>
     ensures { (text : List ℕ) (o : Bool) → Judges (rules_at wanted (seen scope.old) t.Semi text o)
         result (seen scope.new) }
 {
@@ -164,7 +164,7 @@ fn judge_semi(scope: &mut Scope, wanted: Wanted) -> Result<(), Refused>
     }
 }
 
-fn judge_finish(scope: &mut Scope, wanted: Wanted) -> Result<(), Refused>
+fn judge_finish(scope: &mut Scope, wanted: Wanted) -> Result<(), RuleError>
     ensures { (text : List ℕ) (o : Bool)
         → Judges (rules_at wanted (seen scope.old) t.Finishes text o) result (seen scope.new) }
 {
@@ -182,7 +182,7 @@ pub(crate) fn judge(
     terminal: Terminal,
     text: &[u8],
     opened: bool,
-) -> Result<(), Refused>
+) -> Result<(), RuleError>
     ensures { Judges (rules_at wanted (seen scope.old) terminal text.now opened) result
         (seen scope.new) }
 {

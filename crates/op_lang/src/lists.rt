@@ -6,7 +6,7 @@ ghost use Rattle.op_text.specs.Spelling.{between_commas, param_text, state_text,
 ghost use Rattle.op_lang.specs.Reading.{Moves, left};
 ghost use Rattle.op_lang.specs.Pieces.{is_name, is_kind};
 
-use crate::fault::ReadNo;
+use crate::fault::ReadError;
 use crate::parser::Parser;
 use crate::pieces::{kind, mark, more, name, name_or_end, state_start};
 use op_text::{Param, State, Wanted};
@@ -18,7 +18,7 @@ pub(crate) fn param(
     parser: &mut Parser<'_>,
     naming: Wanted,
     kinding: Wanted,
-) -> Result<Param, ReadNo>
+) -> Result<Param, ReadError>
     requires named { is_name naming ≡ true }
     requires of_kind { is_kind kinding ≡ true }
     ensures moves { Moves (naming ∷ w.Colon ∷ kinding ∷ []) parser.old result parser.new }
@@ -31,7 +31,11 @@ pub(crate) fn param(
 }
 
 /// The sources after the first, with the parenthesis after them.
-fn sources_after(parser: &mut Parser<'_>, first: Param, alloc: Global) -> Result<Vec<Param>, ReadNo>
+fn sources_after(
+    parser: &mut Parser<'_>,
+    first: Param,
+    alloc: Global,
+) -> Result<Vec<Param>, ReadError>
     ensures moves { Moves (w.Params ∷ []) parser.old result parser.new }
     ensures spells { IfOk result (λ v. param_text first (left parser.old)
         ≡ between_commas param_text v.items (codes ")" ∷ left parser.new)) }
@@ -46,7 +50,7 @@ fn sources_after(parser: &mut Parser<'_>, first: Param, alloc: Global) -> Result
 }
 
 /// The sources of an op, with the parenthesis after them.
-pub(crate) fn sources(parser: &mut Parser<'_>, alloc: Global) -> Result<Vec<Param>, ReadNo>
+pub(crate) fn sources(parser: &mut Parser<'_>, alloc: Global) -> Result<Vec<Param>, ReadError>
     ensures moves { Moves (w.NewParam ∷ w.Colon ∷ w.ParamKind ∷ w.Params ∷ []) parser.old result
         parser.new }
     ensures spells { IfOk result (λ v. left parser.old
@@ -57,7 +61,11 @@ pub(crate) fn sources(parser: &mut Parser<'_>, alloc: Global) -> Result<Vec<Para
 }
 
 /// The arguments after the first, with the parenthesis after them.
-fn arguments_after(parser: &mut Parser<'_>, first: Name, alloc: Global) -> Result<Vec<Name>, ReadNo>
+fn arguments_after(
+    parser: &mut Parser<'_>,
+    first: Name,
+    alloc: Global,
+) -> Result<Vec<Name>, ReadError>
     ensures moves { Moves (w.MoreArgs ∷ []) parser.old result parser.new }
     ensures spells { IfOk result (λ v. name_text first (left parser.old)
         ≡ between_commas name_text v.items (codes ")" ∷ left parser.new)) }
@@ -72,7 +80,7 @@ fn arguments_after(parser: &mut Parser<'_>, first: Name, alloc: Global) -> Resul
 }
 
 /// The arguments of a word statement, with the parenthesis after them.
-pub(crate) fn arguments(parser: &mut Parser<'_>, alloc: Global) -> Result<Vec<Name>, ReadNo>
+pub(crate) fn arguments(parser: &mut Parser<'_>, alloc: Global) -> Result<Vec<Name>, ReadError>
     ensures moves { Moves (w.Args ∷ []) parser.old result parser.new }
     ensures spells { IfOk result (λ v. left parser.old
         ≡ between_commas name_text v.items (codes ")" ∷ left parser.new)) }
@@ -84,7 +92,7 @@ pub(crate) fn arguments(parser: &mut Parser<'_>, alloc: Global) -> Result<Vec<Na
 }
 
 /// A state after its name.
-fn state(parser: &mut Parser<'_>, name: Name) -> Result<State, ReadNo>
+fn state(parser: &mut Parser<'_>, name: Name) -> Result<State, ReadError>
     ensures moves { Moves (w.Equals ∷ w.Start ∷ []) parser.old result parser.new }
     ensures spells { IfOk result (λ s. name ∷ left parser.old ≡ state_text s (left parser.new)) }
 {
@@ -94,7 +102,11 @@ fn state(parser: &mut Parser<'_>, name: Name) -> Result<State, ReadNo>
 }
 
 /// The states after the first, with the parenthesis after them.
-fn states_after(parser: &mut Parser<'_>, first: State, alloc: Global) -> Result<Vec<State>, ReadNo>
+fn states_after(
+    parser: &mut Parser<'_>,
+    first: State,
+    alloc: Global,
+) -> Result<Vec<State>, ReadError>
     ensures moves { Moves (w.MoreStates ∷ []) parser.old result parser.new }
     ensures spells { IfOk result (λ v. state_text first (left parser.old)
         ≡ between_commas state_text v.items (codes ")" ∷ left parser.new)) }
@@ -110,7 +122,7 @@ fn states_after(parser: &mut Parser<'_>, first: State, alloc: Global) -> Result<
 }
 
 /// The states of a block, with the parenthesis after them.
-pub(crate) fn states(parser: &mut Parser<'_>, alloc: Global) -> Result<Vec<State>, ReadNo>
+pub(crate) fn states(parser: &mut Parser<'_>, alloc: Global) -> Result<Vec<State>, ReadError>
     ensures moves { Moves (w.States ∷ []) parser.old result parser.new }
     ensures spells { IfOk result (λ v. left parser.old
         ≡ between_commas state_text v.items (codes ")" ∷ left parser.new)) }

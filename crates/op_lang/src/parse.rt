@@ -11,7 +11,7 @@ ghost use Rattle.op_lang.specs.Tokens.{is_nil};
 ghost use Rattle.op_lang.specs.Reading.{Moves, MovesTo, left};
 ghost use Rattle.op_lang.specs.Parsing.{ReadsOps, Parses};
 
-use crate::fault::ReadNo;
+use crate::fault::ReadError;
 use crate::lists::{param, sources};
 use crate::parser::Parser;
 use crate::pieces::{mark, name, op_word, second};
@@ -20,7 +20,7 @@ use op_text::{Op, Ops, OpsFault, OpsNo, Param, Wanted, names_are_names};
 use std::alloc::Global;
 
 /// The sources of an op, with their parentheses.
-fn inputs(parser: &mut Parser<'_>, alloc: Global) -> Result<Vec<Param>, ReadNo>
+fn inputs(parser: &mut Parser<'_>, alloc: Global) -> Result<Vec<Param>, ReadError>
     ensures moves { Moves (w.Open ∷ w.NewParam ∷ w.Colon ∷ w.ParamKind ∷ w.Params
         ∷ []) parser.old result parser.new }
     ensures spells { IfOk result (λ v. left parser.old
@@ -31,7 +31,7 @@ fn inputs(parser: &mut Parser<'_>, alloc: Global) -> Result<Vec<Param>, ReadNo>
 }
 
 /// The second result of an op, if there is one, with the brace after it.
-fn second_outcome(parser: &mut Parser<'_>) -> Result<Option<Param>, ReadNo>
+fn second_outcome(parser: &mut Parser<'_>) -> Result<Option<Param>, ReadError>
     ensures moves { Moves (w.SecondResult ∷ []) parser.old result parser.new }
     ensures spells { IfOk result (λ p. left parser.old
         ≡ after_comma param_text p (codes "{" ∷ left parser.new)) }
@@ -46,7 +46,7 @@ fn second_outcome(parser: &mut Parser<'_>) -> Result<Option<Param>, ReadNo>
 }
 
 /// The first result of an op, after its mark.
-fn outcome(parser: &mut Parser<'_>) -> Result<Param, ReadNo>
+fn outcome(parser: &mut Parser<'_>) -> Result<Param, ReadError>
     ensures moves { Moves (w.Arrow ∷ w.NewResult ∷ w.Colon ∷ w.ResultKind ∷ []) parser.old result
         parser.new }
     ensures spells { IfOk result (λ p. left parser.old
@@ -57,7 +57,7 @@ fn outcome(parser: &mut Parser<'_>) -> Result<Param, ReadNo>
 }
 
 /// An op after its word.
-fn op_after(parser: &mut Parser<'_>, alloc: Global) -> Result<Op, ReadNo>
+fn op_after(parser: &mut Parser<'_>, alloc: Global) -> Result<Op, ReadError>
     ensures moves { Moves (w.NewOp ∷ w.Open ∷ w.NewParam ∷ w.Colon ∷ w.ParamKind ∷ w.Params
         ∷ w.Arrow ∷ w.NewResult ∷ w.Colon ∷ w.ResultKind ∷ w.SecondResult ∷ w.FirstStmt
         ∷ []) parser.old result parser.new }
@@ -78,7 +78,7 @@ fn op_after(parser: &mut Parser<'_>, alloc: Global) -> Result<Op, ReadNo>
     })
 }
 
-fn one_op(parser: &mut Parser<'_>, alloc: Global) -> Result<Op, ReadNo>
+fn one_op(parser: &mut Parser<'_>, alloc: Global) -> Result<Op, ReadError>
     requires { is_nil parser.old.items ≡ false }
     ensures moves { MovesTo (w.Ops ∷ []) parser.old result (λ o. w.Ops ∷ []) parser.new }
     ensures spells { IfOk result (λ o. left parser.old
@@ -88,7 +88,7 @@ fn one_op(parser: &mut Parser<'_>, alloc: Global) -> Result<Op, ReadNo>
     op_after(parser, alloc)
 }
 
-fn all_ops(parser: &mut Parser<'_>, alloc: Global) -> Result<Vec<Op>, ReadNo>
+fn all_ops(parser: &mut Parser<'_>, alloc: Global) -> Result<Vec<Op>, ReadError>
     ensures { ReadsOps (λ v. v.items) parser.old result }
 {
     let mut all = Vec::new(alloc);
@@ -142,8 +142,8 @@ pub fn parse_ops(text: &[u8], alloc: Global) -> Result<Ops, OpsNo>
             names_are_names(&ops);
             Ok(ops)
         }
-        Err(ReadNo::Memory) => Err(OpsNo::NoMemory),
-        Err(ReadNo::Breach(breach)) => Err(OpsNo::Fault(OpsFault {
+        Err(ReadError::Memory) => Err(OpsNo::NoMemory),
+        Err(ReadError::Breach(breach)) => Err(OpsNo::Fault(OpsFault {
             line: line_of(text, breach.at),
             kind: breach.kind,
         })),

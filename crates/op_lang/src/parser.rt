@@ -1,7 +1,7 @@
 //! A text, read token by token.
 
 ghost use Rattle.std.specs.Prelude.{◌≡◌, true, not, Some};
-ghost use Rattle.op_lang.specs.declared.fault.ReadNo.TheVariants as no;
+ghost use Rattle.op_lang.specs.declared.fault.ReadError.TheVariants as no;
 ghost use Rattle.text_lex.specs.Lexical.{items_of};
 ghost use Rattle.op_text.specs.Items.{opens};
 ghost use Rattle.op_text.specs.Rules.{nothing_yet};
@@ -10,7 +10,7 @@ ghost use Rattle.op_lang.specs.Seen.{seen};
 ghost use Rattle.op_lang.specs.Reading.{ParserView, Takes, is_due};
 ghost use Rattle.op_lang.specs.Judging.{JudgesToken};
 
-use crate::fault::{ReadNo, Refused};
+use crate::fault::{ReadError, RuleError};
 use crate::judge::{allows, judge};
 use crate::scope::Scope;
 use crate::tokens::Tokens;
@@ -50,10 +50,10 @@ impl<'a> Model for Parser<'a> {
     ghost view = { λ p. record { scope = seen p.scope; items = p.tokens } };
 }
 
-fn breaks(token: &Token<'_>, kind: OpsKind) -> ReadNo
+fn breaks(token: &Token<'_>, kind: OpsKind) -> ReadError
     ensures { result ≡ no.Breach (record { at = Some token.now.start; kind = kind }) }
 {
-    ReadNo::Breach(Breach {
+    ReadError::Breach(Breach {
         at: Some(token.start),
         kind,
     })
@@ -65,7 +65,7 @@ fn judge_token(
     wanted: Wanted,
     token: &Token<'_>,
     opened: bool,
-) -> Result<Terminal, ReadNo>
+) -> Result<Terminal, ReadError>
     ensures { JudgesToken wanted (seen scope.old) token.now opened result (seen scope.new) }
 {
     let terminal = terminal_of(token.kind, token.text);
@@ -74,8 +74,8 @@ fn judge_token(
     }
     match judge(scope, wanted, terminal, token.text, opened) {
         Ok(()) => Ok(terminal),
-        Err(Refused::Memory) => Err(ReadNo::Memory),
-        Err(Refused::Rule(kind)) => Err(breaks(token, kind)),
+        Err(RuleError::Memory) => Err(ReadError::Memory),
+        Err(RuleError::Rule(kind)) => Err(breaks(token, kind)),
     }
 }
 
@@ -84,14 +84,14 @@ fn take_from<'a>(
     tokens: &mut Tokens<'a>,
     scope: &mut Scope,
     wanted: Wanted,
-) -> Result<Taken<'a>, ReadNo>
+) -> Result<Taken<'a>, ReadError>
     requires { is_due wanted (record { scope = seen scope.old; items = tokens.old }) ≡ true }
     ensures { Takes wanted (record { scope = seen scope.old; items = tokens.old }) result
         (record { scope = seen scope.new; items = tokens.new }) }
 {
     let token = match tokens.take() {
         Ok(token) => token,
-        Err(breach) => return Err(ReadNo::Breach(breach)),
+        Err(breach) => return Err(ReadError::Breach(breach)),
     };
     let opened = tokens.opens();
     let terminal = judge_token(scope, wanted, &token, opened)?;
@@ -125,7 +125,7 @@ impl<'a> Parser<'a> {
     }
 
     /// The next token, where this is wanted.
-    pub fn take(&mut self, wanted: Wanted) -> Result<Taken<'a>, ReadNo>
+    pub fn take(&mut self, wanted: Wanted) -> Result<Taken<'a>, ReadError>
         requires { is_due wanted self.old ≡ true }
         ensures { Takes wanted self.old result self.new }
     {

@@ -14,7 +14,7 @@ ghost use Rattle.op_lang.specs.Pieces.{is_let_word, is_down, is_one, is_comma, a
 ghost use Rattle.op_lang.specs.Pieces.{start_spelled, after_line, line_spelled, is_second};
 ghost use Rattle.op_lang.specs.Pieces.{after_second, comma_or_end};
 
-use crate::fault::ReadNo;
+use crate::fault::ReadError;
 use crate::parser::Parser;
 use op_text::{Gate, Kind, Spelling, Terminal, Wanted, WordOp, op_of};
 use text_lex::Name;
@@ -37,7 +37,7 @@ pub(crate) enum Leaf {
 }
 
 /// The word `op`.
-pub(crate) fn op_word(parser: &mut Parser<'_>) -> Result<(), ReadNo>
+pub(crate) fn op_word(parser: &mut Parser<'_>) -> Result<(), ReadError>
     requires { is_nil parser.old.items ≡ false }
     ensures moves { MovesTo (w.Ops ∷ []) parser.old result (λ x. w.NewOp ∷ w.Open ∷ w.NewParam
         ∷ w.Colon ∷ w.ParamKind ∷ w.Params ∷ w.Arrow ∷ w.NewResult ∷ w.Colon ∷ w.ResultKind
@@ -49,7 +49,7 @@ pub(crate) fn op_word(parser: &mut Parser<'_>) -> Result<(), ReadNo>
 }
 
 /// A symbol that one spelling fits.
-pub(crate) fn mark(parser: &mut Parser<'_>, wanted: Wanted) -> Result<(), ReadNo>
+pub(crate) fn mark(parser: &mut Parser<'_>, wanted: Wanted) -> Result<(), ReadError>
     requires { is_mark wanted ≡ true }
     ensures moves { Moves (wanted ∷ []) parser.old result parser.new }
     ensures spells { OnOk result (left parser.old ≡ mark_text wanted ∷ left parser.new) }
@@ -59,7 +59,7 @@ pub(crate) fn mark(parser: &mut Parser<'_>, wanted: Wanted) -> Result<(), ReadNo
 }
 
 /// A name, where nothing else fits.
-pub(crate) fn name(parser: &mut Parser<'_>, wanted: Wanted) -> Result<Name, ReadNo>
+pub(crate) fn name(parser: &mut Parser<'_>, wanted: Wanted) -> Result<Name, ReadError>
     requires { is_name wanted ≡ true }
     ensures moves { Moves (wanted ∷ []) parser.old result parser.new }
     ensures spells { IfOk result (λ n. left parser.old ≡ n ∷ left parser.new) }
@@ -72,7 +72,10 @@ pub(crate) fn name(parser: &mut Parser<'_>, wanted: Wanted) -> Result<Name, Read
 }
 
 /// A name, or none at the end of a list.
-pub(crate) fn name_or_end(parser: &mut Parser<'_>, wanted: Wanted) -> Result<Option<Name>, ReadNo>
+pub(crate) fn name_or_end(
+    parser: &mut Parser<'_>,
+    wanted: Wanted,
+) -> Result<Option<Name>, ReadError>
     requires { is_name_or_end wanted ≡ true }
     ensures moves { MovesTo (wanted ∷ []) parser.old result (after_name_or_end wanted) parser.new }
     ensures spells { IfOk result (λ n. left parser.old ≡ name_or_end wanted n ∷ left parser.new) }
@@ -88,7 +91,7 @@ pub(crate) fn name_or_end(parser: &mut Parser<'_>, wanted: Wanted) -> Result<Opt
 }
 
 /// Whether a list goes on.
-pub(crate) fn more(parser: &mut Parser<'_>, wanted: Wanted) -> Result<bool, ReadNo>
+pub(crate) fn more(parser: &mut Parser<'_>, wanted: Wanted) -> Result<bool, ReadError>
     requires { is_more wanted ≡ true }
     ensures moves { MovesTo (wanted ∷ []) parser.old result (after_comma_or_close wanted)
         parser.new }
@@ -99,7 +102,7 @@ pub(crate) fn more(parser: &mut Parser<'_>, wanted: Wanted) -> Result<bool, Read
 }
 
 /// Whether a second result or a second target stands there.
-pub(crate) fn second(parser: &mut Parser<'_>, wanted: Wanted) -> Result<bool, ReadNo>
+pub(crate) fn second(parser: &mut Parser<'_>, wanted: Wanted) -> Result<bool, ReadError>
     requires { is_second wanted ≡ true }
     ensures moves { MovesTo (wanted ∷ []) parser.old result (after_second wanted) parser.new }
     ensures spells { IfOk result (λ b. left parser.old ≡ comma_or_end wanted b ∷ left parser.new) }
@@ -159,7 +162,7 @@ pub(crate) fn is_one(terminal: Terminal) -> bool
     matches!(terminal, Terminal::One)
 }
 
-pub(crate) fn kind(parser: &mut Parser<'_>, wanted: Wanted) -> Result<Kind, ReadNo>
+pub(crate) fn kind(parser: &mut Parser<'_>, wanted: Wanted) -> Result<Kind, ReadError>
     requires { is_kind wanted ≡ true }
     ensures moves { Moves (wanted ∷ []) parser.old result parser.new }
     ensures spells { IfOk result (λ k. left parser.old ≡ kind_text k ∷ left parser.new) }
@@ -169,7 +172,7 @@ pub(crate) fn kind(parser: &mut Parser<'_>, wanted: Wanted) -> Result<Kind, Read
 }
 
 /// Whether a block goes down.
-pub(crate) fn direction(parser: &mut Parser<'_>) -> Result<bool, ReadNo>
+pub(crate) fn direction(parser: &mut Parser<'_>) -> Result<bool, ReadError>
     ensures moves { Moves (w.Direction ∷ []) parser.old result parser.new }
     ensures spells { IfOk result (λ down. left parser.old ≡ direction_text down ∷ left parser.new) }
 {
@@ -178,7 +181,7 @@ pub(crate) fn direction(parser: &mut Parser<'_>) -> Result<bool, ReadNo>
 }
 
 /// A state's start.
-pub(crate) fn state_start(parser: &mut Parser<'_>) -> Result<bool, ReadNo>
+pub(crate) fn state_start(parser: &mut Parser<'_>) -> Result<bool, ReadError>
     ensures moves { Moves (w.Start ∷ []) parser.old result parser.new }
     ensures spells { IfOk result (λ one. left parser.old ≡ start_text one ∷ left parser.new) }
 {
@@ -186,7 +189,7 @@ pub(crate) fn state_start(parser: &mut Parser<'_>) -> Result<bool, ReadNo>
     Ok(is_one(token.terminal))
 }
 
-pub(crate) fn word_op(parser: &mut Parser<'_>) -> Result<WordOp, ReadNo>
+pub(crate) fn word_op(parser: &mut Parser<'_>) -> Result<WordOp, ReadError>
     ensures moves { Moves (w.WordOpName ∷ []) parser.old result parser.new }
     ensures spells { IfOk result (λ op. left parser.old ≡ op_text op ∷ left parser.new) }
 {
@@ -198,7 +201,7 @@ pub(crate) fn word_op(parser: &mut Parser<'_>) -> Result<WordOp, ReadNo>
 }
 
 /// The first token of a statement, or the `}` after the last.
-pub(crate) fn statement_start(parser: &mut Parser<'_>, wanted: Wanted) -> Result<Start, ReadNo>
+pub(crate) fn statement_start(parser: &mut Parser<'_>, wanted: Wanted) -> Result<Start, ReadError>
     requires { is_statement wanted ≡ true }
     ensures moves { MovesTo (wanted ∷ []) parser.old result after_start parser.new }
     ensures spells { IfOk result (λ s. left parser.old ≡ start_spelled s ∷ left parser.new) }
@@ -217,7 +220,7 @@ pub(crate) fn statement_start(parser: &mut Parser<'_>, wanted: Wanted) -> Result
 }
 
 /// The target of a block's first assignment, or none at the word `let`.
-pub(crate) fn line_start(parser: &mut Parser<'_>) -> Result<Option<Name>, ReadNo>
+pub(crate) fn line_start(parser: &mut Parser<'_>) -> Result<Option<Name>, ReadError>
     ensures moves { MovesTo (w.Lets ∷ []) parser.old result after_line parser.new }
     ensures spells { IfOk result (λ n. left parser.old ≡ line_spelled n ∷ left parser.new) }
 {

@@ -12,7 +12,7 @@ ghost use Rattle.op_lang.specs.Reading.{Moves, MovesTo, left};
 ghost use Rattle.op_lang.specs.Pieces.{is_statement, is_mark, mark_text};
 ghost use Rattle.op_lang.specs.Parts.{after_statement, statement_or_end};
 
-use crate::fault::ReadNo;
+use crate::fault::ReadError;
 use crate::lists::{arguments, states};
 use crate::parser::Parser;
 use crate::pieces::{
@@ -29,7 +29,7 @@ fn assignment(
     name: Name,
     end: Wanted,
     alloc: Global,
-) -> Result<Assign, ReadNo>
+) -> Result<Assign, ReadError>
     requires marked { is_mark end ≡ true }
     requires semi { mark_text end ≡ codes ";" }
     ensures moves { Moves (w.Equals ∷ w.Value ∷ end ∷ []) parser.old result parser.new }
@@ -43,7 +43,7 @@ fn assignment(
 }
 
 /// A let after its word.
-fn let_line(parser: &mut Parser<'_>, alloc: Global) -> Result<Assign, ReadNo>
+fn let_line(parser: &mut Parser<'_>, alloc: Global) -> Result<Assign, ReadError>
     ensures moves { Moves (w.LetName ∷ w.Equals ∷ w.Value ∷ w.LetEnd ∷ []) parser.old result
         parser.new }
     ensures spells { IfOk result (λ a. left parser.old
@@ -54,7 +54,7 @@ fn let_line(parser: &mut Parser<'_>, alloc: Global) -> Result<Assign, ReadNo>
 }
 
 /// The lets of a block, with the target after them.
-fn lets(parser: &mut Parser<'_>, all: &mut Vec<Assign>, alloc: Global) -> Result<Name, ReadNo>
+fn lets(parser: &mut Parser<'_>, all: &mut Vec<Assign>, alloc: Global) -> Result<Name, ReadError>
     requires { all.old.items ≡ [] }
     ensures moves { MovesTo (w.Lets ∷ []) parser.old result (λ n. w.Equals ∷ w.Value ∷ w.AssignEnd
         ∷ w.Assigns ∷ []) parser.new }
@@ -73,7 +73,11 @@ fn lets(parser: &mut Parser<'_>, all: &mut Vec<Assign>, alloc: Global) -> Result
 }
 
 /// The assignments of a block after the first target, with the brace after them.
-fn assignments(parser: &mut Parser<'_>, target: Name, alloc: Global) -> Result<Vec<Assign>, ReadNo>
+fn assignments(
+    parser: &mut Parser<'_>,
+    target: Name,
+    alloc: Global,
+) -> Result<Vec<Assign>, ReadError>
     ensures moves { Moves (w.Equals ∷ w.Value ∷ w.AssignEnd ∷ w.Assigns ∷ []) parser.old result
         parser.new }
     ensures spells { IfOk result (λ v. target ∷ left parser.old
@@ -90,7 +94,7 @@ fn assignments(parser: &mut Parser<'_>, target: Name, alloc: Global) -> Result<V
 }
 
 /// The head of a block after its word: whether it goes down, and its states.
-fn block_head(parser: &mut Parser<'_>, alloc: Global) -> Result<(bool, Vec<State>), ReadNo>
+fn block_head(parser: &mut Parser<'_>, alloc: Global) -> Result<(bool, Vec<State>), ReadError>
     ensures moves { Moves (w.Direction ∷ w.Open ∷ w.States ∷ w.Begin ∷ []) parser.old result
         parser.new }
     ensures spells { IfOk result (λ h. left parser.old ≡ direction_text h.0 ∷ codes "("
@@ -104,7 +108,7 @@ fn block_head(parser: &mut Parser<'_>, alloc: Global) -> Result<(bool, Vec<State
 }
 
 /// A serial block after its word.
-fn serial_block(parser: &mut Parser<'_>, alloc: Global) -> Result<Stmt, ReadNo>
+fn serial_block(parser: &mut Parser<'_>, alloc: Global) -> Result<Stmt, ReadError>
     ensures moves { Moves (w.Direction ∷ w.Open ∷ w.States ∷ w.Begin ∷ w.Lets
         ∷ []) parser.old result parser.new }
     ensures spells { IfOk result (λ s. codes "serial" ∷ left parser.old
@@ -123,7 +127,7 @@ fn serial_block(parser: &mut Parser<'_>, alloc: Global) -> Result<Stmt, ReadNo>
 }
 
 /// The second target of a word statement, if there is one, with the sign after the targets.
-fn second_target(parser: &mut Parser<'_>) -> Result<Option<Name>, ReadNo>
+fn second_target(parser: &mut Parser<'_>) -> Result<Option<Name>, ReadError>
     ensures moves { Moves (w.SecondTarget ∷ []) parser.old result parser.new }
     ensures spells { IfOk result (λ n. left parser.old
         ≡ after_comma name_text n (codes "=" ∷ left parser.new)) }
@@ -138,7 +142,7 @@ fn second_target(parser: &mut Parser<'_>) -> Result<Option<Name>, ReadNo>
 }
 
 /// The operation of a word statement, with the parenthesis after it.
-fn operation(parser: &mut Parser<'_>) -> Result<WordOp, ReadNo>
+fn operation(parser: &mut Parser<'_>) -> Result<WordOp, ReadError>
     ensures moves { Moves (w.WordOpName ∷ w.Open ∷ []) parser.old result parser.new }
     ensures spells { IfOk result (λ op. left parser.old ≡ op_text op ∷ codes "("
         ∷ left parser.new) }
@@ -149,7 +153,7 @@ fn operation(parser: &mut Parser<'_>) -> Result<WordOp, ReadNo>
 }
 
 /// A word statement after its first target.
-fn word_statement(parser: &mut Parser<'_>, dst: Name, alloc: Global) -> Result<Stmt, ReadNo>
+fn word_statement(parser: &mut Parser<'_>, dst: Name, alloc: Global) -> Result<Stmt, ReadError>
     ensures moves { Moves (w.SecondTarget ∷ w.WordOpName ∷ w.Open ∷ w.Args ∷ w.WordEnd
         ∷ []) parser.old result parser.new }
     ensures spells { IfOk result (λ s. dst ∷ left parser.old
@@ -172,7 +176,7 @@ fn one_statement(
     parser: &mut Parser<'_>,
     wanted: Wanted,
     alloc: Global,
-) -> Result<Option<Stmt>, ReadNo>
+) -> Result<Option<Stmt>, ReadError>
     requires { is_statement wanted ≡ true }
     ensures moves { MovesTo (wanted ∷ []) parser.old result after_statement parser.new }
     ensures spells { IfOk result (λ s. left parser.old ≡ statement_or_end s (left parser.new)) }
@@ -191,7 +195,7 @@ fn one_statement(
 }
 
 /// The statements of an op, with the brace after them.
-pub(crate) fn body(parser: &mut Parser<'_>, alloc: Global) -> Result<Vec<Stmt>, ReadNo>
+pub(crate) fn body(parser: &mut Parser<'_>, alloc: Global) -> Result<Vec<Stmt>, ReadError>
     ensures moves { Moves (w.FirstStmt ∷ []) parser.old result parser.new }
     ensures spells { IfOk result (λ v. left parser.old
         ≡ in_turn statement_text (map statement v.items) (codes "}" ∷ left parser.new)) }

@@ -4,7 +4,7 @@ ghost use Rattle.std.specs.Prelude.{◌≡◌, Some, ◌-◌};
 ghost use Rattle.op_text.specs.Rules as rules;
 ghost use Rattle.op_lang.specs.Seen.{seen, Judges};
 
-use crate::fault::Refused;
+use crate::fault::RuleError;
 use crate::names::{is_among, is_bad, kind_of};
 use crate::scope::Scope;
 use faults::keep;
@@ -31,12 +31,12 @@ fn others_of(gate: Gate) -> usize
     }
 }
 
-fn gate(scope: &mut Scope, gate: Gate) -> Result<(), Refused>
+fn gate(scope: &mut Scope, gate: Gate) -> Result<(), RuleError>
     ensures { Judges (rules.gate_rules (seen scope.old) (Some gate)) result (seen scope.new) }
 {
     let weight = weight_of(gate);
     if scope.block.weight > 24 - weight || scope.block.missing.len() >= 32 {
-        return Err(Refused::Rule(OpsKind::TooMany));
+        return Err(RuleError::Rule(OpsKind::TooMany));
     }
     scope.block.weight += weight;
     keep(&mut scope.block.missing, others_of(gate))?;
@@ -55,47 +55,47 @@ pub(crate) fn name(
     spelling: Spelling,
     text: &[u8],
     opened: bool,
-) -> Result<(), Refused>
+) -> Result<(), RuleError>
     ensures { Judges (rules.value_rules (seen scope.old) spelling text.now opened) result
         (seen scope.new) }
 {
     if is_bad(spelling, text) {
-        return Err(Refused::Rule(OpsKind::BadName));
+        return Err(RuleError::Rule(OpsKind::BadName));
     }
     if opened {
         match gate_of(text) {
             Some(named) => gate(scope, named),
-            None => Err(Refused::Rule(OpsKind::Unknown)),
+            None => Err(RuleError::Rule(OpsKind::Unknown)),
         }
     } else if is_readable(scope, text) {
         Ok(())
     } else {
-        Err(Refused::Rule(OpsKind::Unknown))
+        Err(RuleError::Rule(OpsKind::Unknown))
     }
 }
 
 /// The `,` after a gate's argument.
-pub(crate) fn comma(scope: &mut Scope) -> Result<(), Refused>
+pub(crate) fn comma(scope: &mut Scope) -> Result<(), RuleError>
     ensures { Judges (rules.comma_rules (seen scope.old) (seen scope.old).block.missing) result
         (seen scope.new) }
 {
     let Some(lacking) = scope.block.missing.pop() else {
-        return Err(Refused::Rule(OpsKind::Kind));
+        return Err(RuleError::Rule(OpsKind::Kind));
     };
     if lacking == 0 {
-        return Err(Refused::Rule(OpsKind::Kind));
+        return Err(RuleError::Rule(OpsKind::Kind));
     }
     keep(&mut scope.block.missing, lacking - 1)?;
     Ok(())
 }
 
 /// The `)` after a gate's argument.
-pub(crate) fn close(scope: &mut Scope) -> Result<(), Refused>
+pub(crate) fn close(scope: &mut Scope) -> Result<(), RuleError>
     ensures { Judges (rules.close_rules (seen scope.old) (seen scope.old).block.missing) result
         (seen scope.new) }
 {
     match scope.block.missing.pop() {
         Some(0) => Ok(()),
-        _ => Err(Refused::Rule(OpsKind::Kind)),
+        _ => Err(RuleError::Rule(OpsKind::Kind)),
     }
 }

@@ -2,7 +2,7 @@
 
 ghost use Rattle.std.specs.Prelude.{◌≡◌, ◌<◌, ◌-◌, ℕ, suc, zero, length, List, [], ◌∷◌, OnOk, IfOk};
 ghost use Rattle.std.specs.Prelude.{IfErr, codes};
-ghost use Rattle.op_lang.specs.declared.fault.ReadNo.TheVariants.{Memory};
+ghost use Rattle.op_lang.specs.declared.fault.ReadError.TheVariants.{Memory};
 ghost use Rattle.op_text.specs.declared.grammar.Wanted.TheVariants as w;
 ghost use Rattle.op_text.specs.Rules.{gate_arguments};
 ghost use Rattle.op_text.specs.Language.{term, Negation, Majority};
@@ -11,7 +11,7 @@ ghost use Rattle.op_lang.specs.Reading.{Moves, MovesTo, left};
 ghost use Rattle.op_lang.specs.Pieces.{after_leaf, leaf_spelled, lacking, bit_leaf, gate_text};
 ghost use Rattle.op_lang.specs.Pieces.{with_two};
 
-use crate::fault::ReadNo;
+use crate::fault::ReadError;
 use crate::parser::Parser;
 use crate::pieces::{Leaf, is_named, is_one};
 use op_text::{Expr, Gate, Terminal, Wanted, gate_of};
@@ -29,7 +29,7 @@ fn bit_leaf(terminal: Terminal) -> Leaf
 }
 
 /// The first token of a value.
-fn leaf(parser: &mut Parser<'_>) -> Result<Leaf, ReadNo>
+fn leaf(parser: &mut Parser<'_>) -> Result<Leaf, ReadError>
     ensures moves { MovesTo (w.Value ∷ []) parser.old result after_leaf parser.new }
     ensures spells { IfOk result (λ l. left parser.old ≡ leaf_spelled l ∷ left parser.new) }
     ensures missing { IfOk result (λ l. parser.new.scope.block.missing
@@ -53,7 +53,7 @@ fn leaf(parser: &mut Parser<'_>) -> Result<Leaf, ReadNo>
 }
 
 /// The parenthesis after a gate's name.
-fn gate_open(parser: &mut Parser<'_>) -> Result<(), ReadNo>
+fn gate_open(parser: &mut Parser<'_>) -> Result<(), ReadError>
     ensures moves { Moves (w.GateOpen ∷ []) parser.old result parser.new }
     ensures spells { OnOk result (left parser.old ≡ codes "(" ∷ left parser.new) }
     ensures missing { OnOk result (parser.new.scope.block.missing
@@ -64,7 +64,7 @@ fn gate_open(parser: &mut Parser<'_>) -> Result<(), ReadNo>
 }
 
 /// The comma after an argument, where another is lacking.
-fn comma(parser: &mut Parser<'_>) -> Result<(), ReadNo>
+fn comma(parser: &mut Parser<'_>) -> Result<(), ReadError>
     ensures moves { (n : ℕ) (outer : List ℕ) → parser.old.scope.block.missing ≡ suc n ∷ outer
         → MovesTo (w.More ∷ []) parser.old result (λ x. w.Value ∷ w.More ∷ []) parser.new }
     ensures spells { (n : ℕ) (outer : List ℕ) → parser.old.scope.block.missing ≡ suc n ∷ outer
@@ -78,7 +78,7 @@ fn comma(parser: &mut Parser<'_>) -> Result<(), ReadNo>
 }
 
 /// The parenthesis after the last argument.
-fn close(parser: &mut Parser<'_>) -> Result<(), ReadNo>
+fn close(parser: &mut Parser<'_>) -> Result<(), ReadError>
     ensures moves { (outer : List ℕ) → parser.old.scope.block.missing ≡ zero ∷ outer
         → Moves (w.More ∷ []) parser.old result parser.new }
     ensures spells { (outer : List ℕ) → parser.old.scope.block.missing ≡ zero ∷ outer
@@ -91,14 +91,14 @@ fn close(parser: &mut Parser<'_>) -> Result<(), ReadNo>
     Ok(())
 }
 
-fn not_of(a: Expr, alloc: Global) -> Result<Expr, ReadNo>
+fn not_of(a: Expr, alloc: Global) -> Result<Expr, ReadError>
     ensures value { IfOk result (λ e. term e ≡ Negation (term a)) }
     ensures memory { IfErr result (λ e. e ≡ Memory) }
 {
     Ok(Expr::Not(Box::new(alloc, a)?))
 }
 
-fn two_of(gate: Gate, a: Expr, b: Expr, alloc: Global) -> Result<Expr, ReadNo>
+fn two_of(gate: Gate, a: Expr, b: Expr, alloc: Global) -> Result<Expr, ReadError>
     ensures value { IfOk result (λ e. term e ≡ with_two gate (term a) (term b)) }
     ensures memory { IfErr result (λ e. e ≡ Memory) }
 {
@@ -111,7 +111,7 @@ fn two_of(gate: Gate, a: Expr, b: Expr, alloc: Global) -> Result<Expr, ReadNo>
     }
 }
 
-fn maj_of(a: Expr, b: Expr, c: Expr, alloc: Global) -> Result<Expr, ReadNo>
+fn maj_of(a: Expr, b: Expr, c: Expr, alloc: Global) -> Result<Expr, ReadError>
     ensures value { IfOk result (λ e. term e ≡ Majority (term a) (term b) (term c)) }
     ensures memory { IfErr result (λ e. e ≡ Memory) }
 {
@@ -123,7 +123,7 @@ fn maj_of(a: Expr, b: Expr, c: Expr, alloc: Global) -> Result<Expr, ReadNo>
 
 /// A value.
 #[cycle(values)]
-pub(crate) fn value(parser: &mut Parser<'_>, alloc: Global) -> Result<Expr, ReadNo>
+pub(crate) fn value(parser: &mut Parser<'_>, alloc: Global) -> Result<Expr, ReadError>
     ensures moves { Moves (w.Value ∷ []) parser.old result parser.new }
     ensures spells { IfOk result (λ e. left parser.old ≡ term_text (term e) (left parser.new)) }
     ensures missing { OnOk result (parser.new.scope.block.missing
@@ -140,7 +140,7 @@ pub(crate) fn value(parser: &mut Parser<'_>, alloc: Global) -> Result<Expr, Read
 
 /// A gate's arguments, with their parentheses.
 #[cycle(values)]
-fn arguments(parser: &mut Parser<'_>, gate: Gate, alloc: Global) -> Result<Expr, ReadNo>
+fn arguments(parser: &mut Parser<'_>, gate: Gate, alloc: Global) -> Result<Expr, ReadError>
     ensures moves { (outer : List ℕ) → parser.old.scope.block.missing ≡ (gate_arguments gate - 1)
         ∷ outer → Moves (w.GateOpen ∷ w.Value ∷ w.More ∷ []) parser.old result parser.new }
     ensures spells { (outer : List ℕ) → parser.old.scope.block.missing ≡ (gate_arguments gate - 1)
@@ -161,7 +161,7 @@ fn arguments(parser: &mut Parser<'_>, gate: Gate, alloc: Global) -> Result<Expr,
 }
 
 #[cycle(values)]
-fn one_argument(parser: &mut Parser<'_>, alloc: Global) -> Result<Expr, ReadNo>
+fn one_argument(parser: &mut Parser<'_>, alloc: Global) -> Result<Expr, ReadError>
     ensures moves { (outer : List ℕ) → parser.old.scope.block.missing ≡ 0 ∷ outer
         → Moves (w.Value ∷ w.More ∷ []) parser.old result parser.new }
     ensures spells { (outer : List ℕ) → parser.old.scope.block.missing ≡ 0 ∷ outer
@@ -178,7 +178,7 @@ fn one_argument(parser: &mut Parser<'_>, alloc: Global) -> Result<Expr, ReadNo>
 
 /// The last two arguments of a gate.
 #[cycle(values)]
-fn pair(parser: &mut Parser<'_>, alloc: Global) -> Result<(Expr, Expr), ReadNo>
+fn pair(parser: &mut Parser<'_>, alloc: Global) -> Result<(Expr, Expr), ReadError>
     ensures moves { (outer : List ℕ) → parser.old.scope.block.missing ≡ 1 ∷ outer
         → Moves (w.Value ∷ w.More ∷ []) parser.old result parser.new }
     ensures spells { (outer : List ℕ) → parser.old.scope.block.missing ≡ 1 ∷ outer
@@ -196,7 +196,7 @@ fn pair(parser: &mut Parser<'_>, alloc: Global) -> Result<(Expr, Expr), ReadNo>
 }
 
 #[cycle(values)]
-fn two_arguments(parser: &mut Parser<'_>, gate: Gate, alloc: Global) -> Result<Expr, ReadNo>
+fn two_arguments(parser: &mut Parser<'_>, gate: Gate, alloc: Global) -> Result<Expr, ReadError>
     requires { gate_arguments gate ≡ 2 }
     ensures moves { (outer : List ℕ) → parser.old.scope.block.missing ≡ 1 ∷ outer
         → Moves (w.Value ∷ w.More ∷ []) parser.old result parser.new }
@@ -212,7 +212,7 @@ fn two_arguments(parser: &mut Parser<'_>, gate: Gate, alloc: Global) -> Result<E
 }
 
 #[cycle(values)]
-fn three_arguments(parser: &mut Parser<'_>, alloc: Global) -> Result<Expr, ReadNo>
+fn three_arguments(parser: &mut Parser<'_>, alloc: Global) -> Result<Expr, ReadError>
     ensures moves { (outer : List ℕ) → parser.old.scope.block.missing ≡ 2 ∷ outer
         → Moves (w.Value ∷ w.More ∷ []) parser.old result parser.new }
     ensures spells { (outer : List ℕ) → parser.old.scope.block.missing ≡ 2 ∷ outer

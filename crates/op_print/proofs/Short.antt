@@ -32,7 +32,7 @@ use Rattle.std.proofs.Common.{Option, Some, None}
 use Rattle.op_text.specs.Spelling.{IsName, HasParam, HasState, HasEquation, HasStatement}
 use Rattle.op_text.specs.Spelling.{HasOperation}
 use Rattle.op_rules.specs.Meets.{Context, LetsRead, WordMeets, BlockMeets, StatementMeets}
-use Rattle.op_rules.specs.Meets.{BodyMeets, OperationMeets, OpsMeet, following}
+use Rattle.op_rules.specs.Meets.{BodyMeets, OperationMeets, OpsMeet, next_context}
 use Rattle.op_print.specs.Canonical.{after_comma, listed, spelled, value_text, param_text}
 use Rattle.op_print.specs.Canonical.{state_text, equation_text, let_text}
 use Rattle.op_print.specs.Canonical.{line, statement_lines, op_lines, canonical_text}
@@ -352,7 +352,7 @@ body_short : (c : Context) (body : List Statement) → Each HasStatement body �
     → Each (Short statement_lines 20500) body
 body_short c [] h m = tt
 body_short c (s ∷ body) h m =
-    (statement_short c s h.0 m.0, body_short (following c s) body h.1 m.1)
+    (statement_short c s h.0 m.0, body_short (next_context c s) body h.1 m.1)
 
 op_is_short : (op : Operation) → HasOperation op → OperationMeets op → Short op_lines 330000 op
 op_is_short op h m =

@@ -13,7 +13,7 @@ use Rattle.op_text.specs.Language.{Statement, Compute, Visit}
 use Rattle.op_text.specs.Scratch.{kind_of, defines, body_defines, state_names, word_names}
 use Rattle.op_text.specs.Spelling.{Each}
 use Rattle.op_rules.specs.Meets.{IsNew, IsNewOf, Differ, Context, used, names_of, let_names}
-use Rattle.op_rules.specs.Meets.{targets, following, at_start, StatementMeets, BodyMeets, IsKnown}
+use Rattle.op_rules.specs.Meets.{targets, next_context, at_start, StatementMeets, BodyMeets, IsKnown}
 use Rattle.op_rules.specs.Laws.{NamesStandOnce, TargetsAreApart}
 use Rattle.op_rules.proofs.Names.{same_name, other_way, new-left, new-append, each_map}
 use Rattle.op_rules.proofs.Names.{others_new, or_first, or_second, or_both}
@@ -118,7 +118,7 @@ body_apart (st ∷ body) c d h =
     subst (λ (l : List Param). Differ (names_of l))
     (append_assoc c.known (defines c.known st)
     (body_defines (c.known ++ defines c.known st) body))
-    (body_apart body (following c st) more h.1)
+    (body_apart body (next_context c st) more h.1)
 
 -- a name that is known is among the names
 pub is_named : (known : List Param) (n : List ℕ) (k : Kind) → kind_among known n ≡ Some k

@@ -17,7 +17,7 @@ use Rattle.op_text.specs.Rules.{is_among}
 use Rattle.op_text.specs.Language.{Statement, Compute, Visit, Equation, result_names}
 use Rattle.op_text.specs.Scratch.{param, defines, body_defines, state_names, word_names}
 use Rattle.op_text.specs.Scratch.{bits_inside, words_inside, need_inside, greatest, scratch_names}
-use Rattle.op_rules.specs.Meets.{Context, following, at_start, targets, StatementMeets, BodyMeets}
+use Rattle.op_rules.specs.Meets.{Context, next_context, at_start, targets, StatementMeets, BodyMeets}
 use Rattle.op_rules.specs.Laws.{ScratchIsSmall}
 
 -- a name of a kind, other than these
@@ -88,7 +88,7 @@ body_few k r (st ∷ body) c h =
     let e = count-append (is_counted k r) (defines c.known st)
     (body_defines (c.known ++ defines c.known st) body) in
     let a = statement_few k r st c h.0 in
-    let b = body_few k r body (following c st) h.1 in
+    let b = body_few k r body (next_context c st) h.1 in
     omega arith
 
 need_small : (f : WordOp → ℕ) (body : List Statement) → ((p : WordOp) → f p ≤ 2)

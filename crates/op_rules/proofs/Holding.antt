@@ -22,7 +22,7 @@ use Rattle.op_text.specs.Meaning.{with_sources, after_body}
 use Rattle.op_text.specs.Scratch.{param, kind_of, result_kind, defines, body_defines, state_names}
 use Rattle.op_text.specs.Scratch.{word_names}
 use Rattle.op_text.specs.Spelling.{Each}
-use Rattle.op_rules.specs.Meets.{IsNew, IsKnown, Differ, Context, names_of, targets, following}
+use Rattle.op_rules.specs.Meets.{IsNew, IsKnown, Differ, Context, names_of, targets, next_context}
 use Rattle.op_rules.specs.Meets.{at_start, lets_of, StatementMeets, WordMeets, BodyMeets}
 use Rattle.op_rules.specs.Meets.{OperationMeets}
 use Rattle.op_rules.specs.Laws.{OthersStay, IsHeld, Holds, KindsAreKept, KindsAreHeld}
@@ -365,7 +365,7 @@ body_hold (st ∷ body) c n names m h =
     subst (λ (l : List Param). Each (Holds n (after_body n body (after_statement n names st))) l)
     (append_assoc c.known (defines c.known st)
     (body_defines (c.known ++ defines c.known st) body))
-    (body_hold body (following c st) n (after_statement n names st) m.1
+    (body_hold body (next_context c st) n (after_statement n names st) m.1
     (kinds_are_kept c st n names m.0 h))
 
 -- the sources
@@ -412,8 +412,8 @@ split [] rest c m = (
       m,
 )
 split (st ∷ front) rest c m =
-    let p = split front rest (following c st) m.1 in
-    let e : context_after (following c st) front ≡ context_after c (st ∷ front) =
+    let p = split front rest (next_context c st) m.1 in
+    let e : context_after (next_context c st) front ≡ context_after c (st ∷ front) =
     rw (
       append_assoc c.known (defines c.known st)
           (body_defines (c.known ++ defines c.known st) front),

@@ -27,7 +27,7 @@ use Rattle.op_text.specs.Spelling.{statement_text, operation_text, MeetRules, Ea
 use Rattle.op_text.specs.Spelling.{HasNames, HasParam, HasState, HasEquation, HasStatement}
 use Rattle.op_text.specs.Spelling.{HasOperation, TermMeets, IfThere}
 use Rattle.op_rules.specs.Meets.{used, IsGood, IsNew, IsNewOf, IsNewLet, IsKnown, Context, names_of}
-use Rattle.op_rules.specs.Meets.{let_names, following, StatementMeets, BodyMeets, LetsRead}
+use Rattle.op_rules.specs.Meets.{let_names, next_context, StatementMeets, BodyMeets, LetsRead}
 use Rattle.op_rules.specs.Meets.{can_read}
 use Rattle.op_rules.specs.Meets.{OperationMeets, OpsMeet, at_start, SecondMeets}
 use Rattle.op_rules.proofs.Names.{AllFresh, among-append, or_both, each_map, differ-fresh}
@@ -111,7 +111,7 @@ body_back (st ∷ body) ops stands c count wanted rest m g s l e h =
     (body_defines (c.known ++ defines c.known st) body))) e in
     let good = good_append c.known (defines c.known st) g (statement_good st c m.0) in
     let go : Goes st ops c count wanted (in_turn statement_text body (codes "}" ∷ rest)) =
-    λ stands' s'. body_back body ops stands' (following c st) (count + 1) wanted rest m.1 good s'
+    λ stands' s'. body_back body ops stands' (next_context c st) (count + 1) wanted rest m.1 good s'
     (omega arith) e' h in
     statement_back st ops stands c count wanted
     (in_turn statement_text body (codes "}" ∷ rest)) m.0 g s (omega arith) go
@@ -192,7 +192,7 @@ body_has : (body : List Statement) (c : Context) → BodyMeets c body → Each I
 body_has [] c m g = tt
 body_has (st ∷ body) c m g = (
   statement_has st c m.0 g,
-  body_has body (following c st) m.1 (good_append c.known (defines c.known st) g
+  body_has body (next_context c st) m.1 (good_append c.known (defines c.known st) g
       (statement_good st c m.0)),
 )
 

@@ -27,7 +27,7 @@ use Rattle.op_text.specs.Scratch.{kind_of, result_kind, param, defines}
 use Rattle.op_text.specs.Spelling.{items_spelled, between_commas, after_commas, name_text}
 use Rattle.op_text.specs.Spelling.{statement_text, Each}
 use Rattle.op_rules.specs.Meets.{Context, IsGood, IsKnown, IsNew, WordMeets, SecondMeets, used}
-use Rattle.op_rules.specs.Meets.{following, names_of}
+use Rattle.op_rules.specs.Meets.{next_context, names_of}
 use Rattle.op_rules.proofs.Names.{or_both}
 use Rattle.op_rules.proofs.Fitting.{fits_same}
 use Rattle.op_rules.proofs.Ops.{second_facts}
@@ -240,8 +240,8 @@ operation_back p s second wanted rest t h =
 -- Where what stands after a statement breaks no rule, neither does the statement.
 abbrev pub Goes : Statement → List (List ℕ) → Context → ℕ → List Wanted → List (List ℕ) → Type 0
 Goes st ops c count wanted rest =
-    (stands : List (List ℕ)) → Standing stands (following c st)
-    → breach_of (Stmts ∷ wanted) (at_statement ops stands (following c st) (count + 1))
+    (stands : List (List ℕ)) → Standing stands (next_context c st)
+    → breach_of (Stmts ∷ wanted) (at_statement ops stands (next_context c st) (count + 1))
     (items_spelled rest) ≡ None
 
 pub word_back : (target : List ℕ) (second : Option (List ℕ)) (p : WordOp) (args : List (List ℕ))

@@ -24,7 +24,7 @@ use Rattle.op_text.specs.WordOps.{op_text, second_kind}
 use Rattle.op_text.specs.Spelling.{items_spelled, between_commas, in_turn, name_text, param_text}
 use Rattle.op_text.specs.Spelling.{statement_text, operation_text, MeetRules, Each, HasStatement}
 use Rattle.op_text.specs.Spelling.{HasOperation}
-use Rattle.op_rules.specs.Meets.{IsNew, IsNewOf, Context, names_of, following, StatementMeets}
+use Rattle.op_rules.specs.Meets.{IsNew, IsNewOf, Context, names_of, next_context, StatementMeets}
 use Rattle.op_rules.specs.Meets.{BodyMeets, OperationMeets, OpsMeet, at_start, SecondMeets}
 use Rattle.op_rules.specs.Meets.{IsSecondTarget}
 use Rattle.op_rules.proofs.Names.{AllFresh, same_name, among-append, or_first, or_second}
@@ -96,7 +96,7 @@ body_peels [] ops stands c count wanted rest n s l h =
 body_peels (st ∷ body) ops stands c count wanted rest n s l h =
     let p = statement_peels st ops stands c count wanted
     (in_turn statement_text body (codes "}" ∷ rest)) n.0 s h in
-    let q = body_peels body ops p.stands (following c st) (count + 1) wanted rest n.1
+    let q = body_peels body ops p.stands (next_context c st) (count + 1) wanted rest n.1
     p.standing (let i = p.few in omega arith) p.then in
     record {
       meets = (p.meets, q.meets);
@@ -171,7 +171,7 @@ body_fits : (body : List Statement) (c : Context) → BodyMeets c body
     → Each (FitsResults c.results) (body_defines c.known body)
 body_fits [] c h = tt
 body_fits (st ∷ body) c h = each_append (FitsResults c.results) (defines c.known st) _
-    (statement_fits st c h.0) (body_fits body (following c st) h.1)
+    (statement_fits st c h.0) (body_fits body (next_context c st) h.1)
 
 found : (ps rs : List Param) (r : Param) → Each (FitsResults rs) ps
     → kind_among rs r.name ≡ Some r.kind

@@ -31,7 +31,7 @@ use Rattle.op_text.specs.Scratch.{kind_of, result_kind, param, defines}
 use Rattle.op_text.specs.Spelling.{items_spelled, after_comma, between_commas, after_commas}
 use Rattle.op_text.specs.Spelling.{name_text, statement_text, Each, IfThere, IsName, HasStatement}
 use Rattle.op_text.proofs.Operations.{first_settles}
-use Rattle.op_rules.specs.Meets.{Context, IsKnown, IsNew, SecondMeets, StatementMeets, following}
+use Rattle.op_rules.specs.Meets.{Context, IsKnown, IsNew, SecondMeets, StatementMeets, next_context}
 use Rattle.op_rules.specs.Meets.{used}
 use Rattle.op_rules.specs.Meets.{names_of}
 use Rattle.op_rules.proofs.Names.{among-append, or_first, or_second}
@@ -265,8 +265,8 @@ pub record AfterStatement (st : Statement) (ops : List (List ℕ)) (c : Context)
   pub meets : StatementMeets c st
   pub few : count < 16
   pub stands : List (List ℕ)
-  pub standing : Standing stands (following c st)
-  pub then : breach_of (Stmts ∷ wanted) (at_statement ops stands (following c st) (count + 1))
+  pub standing : Standing stands (next_context c st)
+  pub then : breach_of (Stmts ∷ wanted) (at_statement ops stands (next_context c st) (count + 1))
       (items_spelled rest) ≡ None
 
 or_nothing : (a b : Bool) → (a || b) ≡ (a || (b || false))

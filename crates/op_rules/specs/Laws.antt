@@ -11,7 +11,7 @@ use Rattle.op_text.specs.Meaning.{after_body, after_op}
 use Rattle.op_text.specs.Rules.{kind_among}
 use Rattle.op_text.specs.Scratch.{defines, body_defines, scratch_names, scratch_bits, scratch_words}
 use Rattle.op_text.specs.Spelling.{Each, HasOperation, MeetRules}
-use Rattle.op_rules.specs.Meets.{IsNew, Differ, names_of, Context, lets_of, following}
+use Rattle.op_rules.specs.Meets.{IsNew, Differ, names_of, Context, lets_of, next_context}
 use Rattle.op_rules.specs.Meets.{StatementMeets}
 use Rattle.op_rules.specs.Meets.{WordMeets, OperationMeets, OpsMeet}
 
@@ -90,7 +90,7 @@ Holds n names p = IsHeld n p.kind (names p.name)
 abbrev pub KindsAreKept : Type 0
 KindsAreKept = (c : Context) (s : Statement) (n : ℕ) (names : List ℕ → NameValue)
     → StatementMeets c s
-    → Each (Holds n names) c.known → Each (Holds n (after_statement n names s)) (following c
+    → Each (Holds n names) c.known → Each (Holds n (after_statement n names s)) (next_context c
     s).known
 
 -- After the first statements of an op the names that are then known hold bits of their kinds, and

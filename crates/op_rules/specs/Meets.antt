@@ -127,8 +127,8 @@ lets_of (Compute target second operation args) = []
 lets_of (Visit block) = let_names block
 
 -- what stands after a statement
-abbrev pub following : Context → Statement → Context
-following c s = record {
+abbrev pub next_context : Context → Statement → Context
+next_context c s = record {
   known = c.known ++ defines c.known s;
   lets = c.lets ++ lets_of s;
   results = c.results;
@@ -137,7 +137,7 @@ following c s = record {
 -- each statement meets the rules where it stands
 abbrev pub BodyMeets : Context → List Statement → Type 0
 BodyMeets c [] = Unit {0}
-BodyMeets c (s ∷ body) = StatementMeets c s × BodyMeets (following c s) body
+BodyMeets c (s ∷ body) = StatementMeets c s × BodyMeets (next_context c s) body
 
 -- what stands before an op's first statement: its sources can be read, its results are to be given
 abbrev pub at_start : Operation → Context

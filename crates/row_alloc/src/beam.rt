@@ -35,8 +35,17 @@ pub const NARROW: Breadth = Breadth {
     most_states: 2_000,
 };
 
+/// Comes to the end of some bodies of the most nodes and outputs, for which both have too few.
+pub const DEEP: Breadth = Breadth {
+    width: 2,
+    most_states: 7_000,
+};
+
 /// A step of fewer states than this for each that goes on lets fewer go on.
 const FEW_STATES: usize = 30;
+
+/// Each step takes two commands or more, but for a few of the last ones.
+const LAST_STEPS: u32 = 3;
 
 /// A state of the beam, with its commands so far, its estimate and the step that led to it.
 #[derive(Clone, Copy)]
@@ -100,6 +109,18 @@ impl Bucket {
         }
     }
 
+    /// Keeps the entry beside the best ones, where its state is one of theirs.
+    fn offer_again(&mut self, task: &Task, new: Entry) {
+        for k in 0..self.kept.len() {
+            if k < self.kept.len() && self.kept[k].state == new.state {
+                let more = new.spent.saturating_sub(self.kept[k].spent);
+                let mut again = new;
+                again.rank = self.kept[k].rank.saturating_add(more.saturating_mul(20));
+                self.offer_safe(task, again);
+            }
+        }
+    }
+
     /// The safe entry, where no other is safe.
     fn only_safe(&self, task: &Task) -> Option<Entry> {
         for entry in &self.kept {
@@ -108,6 +129,19 @@ impl Bucket {
             }
         }
         self.safe
+    }
+
+    /// Whether no entry may come to so many commands or fewer. A guess: it stands on what bodies
+    /// took.
+    fn is_over(&self, most: usize) -> bool {
+        match self.best() {
+            Some(best) => {
+                let steps = best.state.left().saturating_sub(LAST_STEPS);
+                let least = best.spent.saturating_add(steps.saturating_mul(2));
+                least as usize > most
+            }
+            None => true,
+        }
     }
 
     /// The entry of the fewest commands.
@@ -139,6 +173,16 @@ impl Bucket {
     }
 }
 
+/// How many states are remembered.
+const MOST_SEEN: usize = 256;
+
+/// A state that a step has led to, and after how many commands.
+#[derive(Clone, Copy, PartialEq, Eq)]
+struct Seen {
+    state: State,
+    spent: u32,
+}
+
 /// The search: the entries that have gone on, the states after this step and the two next ones.
 struct Beam {
     done: Vec<Entry>,
@@ -147,6 +191,8 @@ struct Beam {
     after: Bucket,
     ways: Vec<Way>,
     ends: Vec<Way>,
+    /// States of this step, each at the place that its hash gives.
+    seen: Vec<Option<Seen>>,
     breadth: Breadth,
     width: usize,
     tried: usize,
@@ -161,6 +207,7 @@ impl Drop for Beam {
             after: _,
             ways: _,
             ends: _,
+            seen: _,
             breadth: _,
             width: _,
             tried: _,
@@ -217,6 +264,7 @@ impl Beam {
             after: Bucket::new(alloc),
             ways: Vec::new(alloc),
             ends: Vec::new(alloc),
+            seen: vec![in alloc; None; MOST_SEEN]?,
             breadth,
             width: breadth.width,
             tried: 0,
@@ -232,6 +280,25 @@ impl Beam {
         Ok(beam)
     }
 
+    /// Whether the state was met in this step after as many commands or fewer. It is remembered.
+    fn was_seen(&mut self, state: &State, spent: u32) -> bool {
+        let place = state.hash() as usize % MOST_SEEN;
+        let Some(seen) = self.seen.get_mut(place) else {
+            return false;
+        };
+        let was_seen = match seen {
+            Some(old) => old.state == *state && old.spent <= spent,
+            None => false,
+        };
+        if !was_seen {
+            *seen = Some(Seen {
+                state: *state,
+                spent,
+            });
+        }
+        was_seen
+    }
+
     /// Keeps a state that a step has led to, where it is among the best and loses no value.
     fn consider(
         &mut self,
@@ -242,19 +309,29 @@ impl Beam {
         way: &Way,
     ) -> Result<(), NoMemory> {
         self.tried = self.tried.saturating_add(1);
-        if task.loses(&parent.state.cells, &way.state) {
-            return Ok(());
-        }
         let spent = parent.spent.saturating_add(way.cmds.len());
-        let points = estimate(task, &way.state, nodes);
-        let entry = Entry {
+        let mut entry = Entry {
             state: way.state,
             spent,
-            rank: spent.saturating_mul(20).saturating_add(points),
+            rank: 0,
             from: Some(at),
             cmds: way.cmds,
         };
-        if way.state.left().saturating_add(1) == parent.state.left() {
+        let is_next = way.state.left().saturating_add(1) == parent.state.left();
+        if self.was_seen(&way.state, spent) {
+            if is_next {
+                self.next.offer_again(task, entry);
+            } else {
+                self.after.offer_again(task, entry);
+            }
+            return Ok(());
+        }
+        if task.loses(&parent.state.cells, &way.state) {
+            return Ok(());
+        }
+        let points = estimate(task, &way.state, nodes);
+        entry.rank = spent.saturating_mul(20).saturating_add(points);
+        if is_next {
             self.next.offer(task, entry, self.width)
         } else {
             self.after.offer(task, entry, self.width)
@@ -370,6 +447,7 @@ impl Beam {
         let states = self.breadth.most_states.saturating_sub(self.tried) / usize::max(left, 1);
         self.width = usize::min(states / FEW_STATES, self.breadth.width);
         let share = states / usize::max(now.kept.len(), 1);
+        self.seen.fill(None);
         for entry in &now.kept {
             self.go_on(task, entry, share, alloc)?;
         }
@@ -406,17 +484,22 @@ fn push_back(cmds: &mut Vec<BodyCmd>, step: &Commands) -> Result<(), NoMemory> {
     Ok(())
 }
 
-/// Commands for the body, or none where the search finds none.
+/// Commands for the body, or none where the search finds none. It ends early where so many commands
+/// or fewer are not to be hoped for.
 pub fn beam_body(
     m: &Mig,
     outs: &[OutRow],
     breadth: Breadth,
+    most: usize,
     alloc: Global,
 ) -> Result<Vec<BodyCmd>, NoMemory> {
     let task = Task::new(m, outs, alloc)?;
     let mut beam = Beam::new(&task, breadth, alloc)?;
     let steps = task.start().left();
     for done in 0..steps {
+        if beam.now.is_over(most) {
+            return Ok(Vec::new(alloc));
+        }
         beam.step(&task, (steps - done) as usize, alloc)?;
     }
     match beam.now.best() {

@@ -83,6 +83,12 @@ impl Cells {
         Cells(u64::from_le_bytes([a.0, b.0, c.0, d.0, e.0, f.0, 255, 255]))
     }
 
+    /// A number that hangs on what the cells hold and on another number.
+    pub fn hash(self, other: u64) -> u64 {
+        let x = self.0.wrapping_mul(0x9E3779B97F4A7C15) ^ other;
+        (x ^ x >> 32).wrapping_mul(0xBF58476D1CE4E5B9)
+    }
+
     /// What the cell of this number holds.
     pub fn get(self, k: u8) -> Short {
         if k < 8 {

@@ -4,9 +4,11 @@ ghost use Rattle.std.specs.Prelude.{◌≡◌, ◌≢◌, ◌<◌, ◌≤◌, �
 ghost use Rattle.std.specs.Prelude.{IfSome, IfNone, Some, length};
 ghost use Rattle.row_alloc.specs.Rows.{out_at};
 ghost use Rattle.row_alloc.specs.Body.{FitBody, IsLengthOf};
+ghost use Rattle.row_alloc.specs.Length.{plain_length};
 
+use crate::beam::{Breadth, NARROW, WIDE};
 use crate::body::OutRow;
-use crate::greedy::{greedy_body, quick_body};
+use crate::greedy::quick_body;
 use mig_graph::{Mig, NoMemory};
 use std::alloc::Global;
 
@@ -86,26 +88,51 @@ fn fits(m: &Mig, outs: &[OutRow]) -> bool
         && are_alone(outs)
 }
 
-/// How many commands the greedy body takes, if commands can be made of the body.
-pub fn commands_of(m: &Mig, outs: &[OutRow], alloc: Global) -> Result<Option<usize>, NoMemory>
+/// How many commands the body takes that a beam finds.
+fn count(
+    m: &Mig,
+    outs: &[OutRow],
+    breadth: Breadth,
+    most: usize,
+    alloc: Global,
+) -> Result<Option<usize>, NoMemory>
     ensures some { IfOk result (λ o. IfSome o (IsLengthOf m.now outs.now)) }
     ensures none { IfOk result (λ o. IfNone o (FitBody m.now outs.now → ⊥)) }
+    ensures few { IfOk result (λ o. IfSome o (λ n. n ≤ plain_length m.now outs.now)) }
 {
     if !fits(m, outs) {
         return Ok(None);
     }
-    let cmds = greedy_body(m, outs, alloc)?;
+    let cmds = quick_body(m, outs, breadth, most, alloc)?;
     Ok(Some(cmds.len()))
 }
 
-/// The same of a body that is found in less time. The greedy body takes no more.
-pub fn quick_commands_of(m: &Mig, outs: &[OutRow], alloc: Global) -> Result<Option<usize>, NoMemory>
+/// How many commands a body takes that the wide beam finds, if commands can be made of the body.
+///
+/// Where these are more than `most`, a body of more commands is counted, in less time.
+pub fn commands_of(
+    m: &Mig,
+    outs: &[OutRow],
+    most: usize,
+    alloc: Global,
+) -> Result<Option<usize>, NoMemory>
     ensures some { IfOk result (λ o. IfSome o (IsLengthOf m.now outs.now)) }
     ensures none { IfOk result (λ o. IfNone o (FitBody m.now outs.now → ⊥)) }
+    ensures few { IfOk result (λ o. IfSome o (λ n. n ≤ plain_length m.now outs.now)) }
 {
-    if !fits(m, outs) {
-        return Ok(None);
-    }
-    let cmds = quick_body(m, outs, alloc)?;
-    Ok(Some(cmds.len()))
+    count(m, outs, WIDE, most, alloc)
+}
+
+/// The same by the narrow beam, in less time. The greedy body takes no more than by either.
+pub fn quick_commands_of(
+    m: &Mig,
+    outs: &[OutRow],
+    most: usize,
+    alloc: Global,
+) -> Result<Option<usize>, NoMemory>
+    ensures some { IfOk result (λ o. IfSome o (IsLengthOf m.now outs.now)) }
+    ensures none { IfOk result (λ o. IfNone o (FitBody m.now outs.now → ⊥)) }
+    ensures few { IfOk result (λ o. IfSome o (λ n. n ≤ plain_length m.now outs.now)) }
+{
+    count(m, outs, NARROW, most, alloc)
 }

@@ -12,7 +12,7 @@ ghost use Rattle.row_alloc.specs.declared.body.BodyCmd.TheVariants.{Aap};
 ghost use Rattle.row_alloc.specs.Known.{Serves, IsFirst, known, known_at, WordBody, graph_in};
 ghost use Rattle.row_alloc.specs.Known.{outs_in, sequence_for};
 
-use crate::beam::{Breadth, NARROW, WIDE, beam_body};
+use crate::beam::{Breadth, DEEP, NARROW, WIDE, beam_body};
 use crate::body::{BodyCmd, OutRow};
 use crate::check::check_body;
 use crate::known::KNOWN;
@@ -69,12 +69,14 @@ fn copied(cmds: &[BodyCmd], alloc: Global) -> Result<Vec<BodyCmd>, NoMemory>
     Ok(cmds.to_vec(alloc)?)
 }
 
-/// The commands of a beam, where they are right and no more than these.
+/// The commands of a beam, where they are right and no more than these. More than `most` are not
+/// looked for.
 fn shorter_of(
     m: &Mig,
     outs: &[OutRow],
     plain: Vec<BodyCmd>,
     breadth: Breadth,
+    most: usize,
     alloc: Global,
 ) -> Result<Vec<BodyCmd>, NoMemory>
     requires fit { FitBody m.now outs.now }
@@ -84,7 +86,8 @@ fn shorter_of(
     ensures late { IfOk result (λ cmds. WritesLate outs.now cmds.items) }
     ensures few { IfOk result (λ cmds. length cmds.items ≤ length plain.items) }
 {
-    let cmds = beam_body(m, outs, breadth, alloc)?;
+    let most = usize::min(most, plain.len());
+    let cmds = beam_body(m, outs, breadth, most, alloc)?;
     if cmds.len() <= plain.len() && serves(m, outs, &cmds) {
         Ok(cmds)
     } else {
@@ -92,7 +95,8 @@ fn shorter_of(
     }
 }
 
-/// The commands of the beam that finds fewer, where they are right and no more than these.
+/// The commands of the beam that finds the fewest, where they are right and no more than these. The
+/// third is asked only where the others find none that are fewer.
 fn shorter(
     m: &Mig,
     outs: &[OutRow],
@@ -106,19 +110,32 @@ fn shorter(
     ensures late { IfOk result (λ cmds. WritesLate outs.now cmds.items) }
     ensures few { IfOk result (λ cmds. length cmds.items ≤ length plain.items) }
 {
-    let few = shorter_of(m, outs, plain, NARROW, alloc)?;
-    shorter_of(m, outs, few, WIDE, alloc)
+    let most = plain.len();
+    let few = shorter_of(m, outs, plain, NARROW, usize::MAX, alloc)?;
+    let fewer = shorter_of(m, outs, few, WIDE, usize::MAX, alloc)?;
+    if fewer.len() < most {
+        return Ok(fewer);
+    }
+    shorter_of(m, outs, fewer, DEEP, usize::MAX, alloc)
 }
 
-/// The commands of the greedy body, or more, in less time: the wide beam is left out.
-pub(crate) fn quick_body(m: &Mig, outs: &[OutRow], alloc: Global) -> Result<Vec<BodyCmd>, NoMemory>
+/// The commands of the greedy body, or more, in less time: one beam alone looks for them, and for
+/// no more than `most`.
+pub(crate) fn quick_body(
+    m: &Mig,
+    outs: &[OutRow],
+    breadth: Breadth,
+    most: usize,
+    alloc: Global,
+) -> Result<Vec<BodyCmd>, NoMemory>
     requires fit { FitBody m.now outs.now }
     ensures does { IfOk result (λ cmds. DoesBody m.now outs.now cmds.items) }
+    ensures few { IfOk result (λ cmds. length cmds.items ≤ plain_length m.now outs.now) }
 {
     let plain = plain_body(m, outs, alloc)?;
     match first_known(m, outs) {
         Some(k) if sequence(k).len() <= plain.len() => copied(sequence(k), alloc),
-        _ => shorter_of(m, outs, plain, NARROW, alloc),
+        _ => shorter_of(m, outs, plain, breadth, most, alloc),
     }
 }
 
@@ -127,7 +144,7 @@ pub(crate) fn quick_body(m: &Mig, outs: &[OutRow], alloc: Global) -> Result<Vec<
 ///
 /// A copy stays one. Else the first sequence of the table that the symbolic run finds right stands
 /// for the body. Where there is none, the commands that two beams find are tried, the fewer taken,
-/// and else the plain body stands.
+/// then those of a third, and else the plain body stands.
 ///
 /// The row of an input that is an output too is written after the last command that reads it. The
 /// B cells and the spill rows may hold anything at entry, and are left with anything. Only want of

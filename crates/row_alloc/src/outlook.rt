@@ -26,6 +26,13 @@ impl State {
     pub fn left(&self) -> u32 {
         self.unmade.len().saturating_add(self.unwritten.len())
     }
+
+    /// A number of 16 bits that hangs on all of the state.
+    pub fn hash(&self) -> u16 {
+        let sets = u64::from(self.spilled.0) << 32 | u64::from(self.unmade.0);
+        let all = self.cells.hash(sets ^ u64::from(self.unwritten.0) << 24);
+        (all >> 48 & 0xFFFF) as u16
+    }
 }
 
 /// What reads a node: the majority nodes, the outputs that are it or its complement, and the

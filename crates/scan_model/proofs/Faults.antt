@@ -11,10 +11,10 @@ use Rattle.scan_model.specs.declared.QueryKind.TheVariants as kind
 use Rattle.scan_model.specs.Texts.{Word, Name, Number, Opens, Closes, Comma, Other, Stranger}
 use Rattle.scan_model.specs.Texts.{Piece, Lead, Compares, Negates, Ands, Ors, lead_text}
 use Rattle.scan_model.specs.Texts.{all_leads, lead_among, Wanted, Start, Open, Object, Between}
-use Rattle.scan_model.specs.Texts.{Bound, Close, following, Begun, tests_in, with_lead, fits}
-use Rattle.scan_model.specs.Texts.{Stepped, started, step, Breach, spare, after, breach_of}
+use Rattle.scan_model.specs.Texts.{Bound, Close, wanted_after, Begun, tests_in, with_lead, fits}
+use Rattle.scan_model.specs.Texts.{Stepped, started, step, Breach, spare, after_token, breach_of}
 use Rattle.scan_model.specs.Texts.{none_begun}
-use Rattle.scan_model.specs.TextLaws.{words_of, IsViable, StandsAt}
+use Rattle.scan_model.specs.TextLaws.{bare_words, IsViable, StandsAt}
 use Rattle.scan_model.specs.TextLaws.{BreaksName, BreaksNumber, BreaksCount, is_opening, is_number}
 use Rattle.scan_model.proofs.Parsed.{lead_is, among_text}
 use Rattle.scan_model.proofs.Viable.{follow, and_on, allowed, allowed-append, viable}
@@ -50,21 +50,21 @@ IsTidy (Bound ∷ wanted) = IsTidy wanted
 IsTidy (Close ∷ wanted) = IsTidy wanted
 
 lead_opens : (lead : Lead) (wanted : List Wanted)
-    → opens_in (following lead ++ wanted) ≡ suc (opens_in wanted)
+    → opens_in (wanted_after lead ++ wanted) ≡ suc (opens_in wanted)
 lead_opens (Compares op) wanted = refl
 lead_opens Negates wanted = refl
 lead_opens Ands wanted = refl
 lead_opens Ors wanted = refl
 
 lead_bounds : (lead : Lead) (wanted : List Wanted)
-    → bounds_in (following lead ++ wanted) ≡ tests_in lead + bounds_in wanted
+    → bounds_in (wanted_after lead ++ wanted) ≡ tests_in lead + bounds_in wanted
 lead_bounds (Compares op) wanted = omega arith
 lead_bounds Negates wanted = omega arith
 lead_bounds Ands wanted = omega arith
 lead_bounds Ors wanted = omega arith
 
 lead_tidy : (lead : Lead) (wanted : List Wanted) → IsTidy (Start ∷ wanted)
-    → IsTidy (following lead ++ wanted)
+    → IsTidy (wanted_after lead ++ wanted)
 lead_tidy (Compares op) wanted t = t.2
 lead_tidy Negates wanted t = t
 lead_tidy Ands wanted t = (t.0, t.1, t)
@@ -166,12 +166,12 @@ number_tells s v false e = (v, refl, refl, e)
 
 lead_tells : (s : Begun) (lead : Lead) (b : Bool) → fits (with_lead s lead) ≡ b
     → Tells Start s (Name (lead_text lead))
-    (cond b (Ok (following lead, with_lead s lead)) (Err kind.TooMany))
+    (cond b (Ok (wanted_after lead, with_lead s lead)) (Err kind.TooMany))
 lead_tells s lead true e = λ wanted.
     let opened = lead_opens lead wanted in
     let bounded = lead_bounds lead wanted in
     record {
-      follows = ap (option_map following) (lead_is lead);
+      follows = ap (option_map wanted_after) (lead_is lead);
       nodes = omega (arith, opened);
       tests = omega (arith, bounded);
       tidy = lead_tidy lead wanted;
@@ -221,6 +221,34 @@ step_tells Bound s Other = tt
 step_tells Close s Other = tt
 step_tells w s word = tt
 
+-- ---- the first fault decides
+
+same_breach : (b c : Breach) → Some b ≡ Some c → b ≡ c
+same_breach b c e = cc
+
+abbrev place_in : Breach → Option ℕ
+place_in b = b.at
+
+stays_after : (r : Stepped) (at : ℕ) (go goes : List Wanted → Begun → Option Breach) (b : Breach)
+    → ((front : List Wanted) (t : Begun) → go front t ≡ Some b → goes front t ≡ Some b)
+    → after_token r at go ≡ Some b → after_token r at goes ≡ Some b
+stays_after (Ok r) at go goes b on h = on r.0 r.1 h
+stays_after (Err k) at go goes b on h = h
+
+pub stays : (pieces more : List Piece) (wanted : List Wanted) (s : Begun) (b : Breach) (place : ℕ)
+    → breach_of wanted s pieces ≡ Some b → b.at ≡ Some place
+    → breach_of wanted s (pieces ++ more) ≡ Some b
+unfolding breach_of
+stays [] more [] s b place h k = absurd (cc)
+stays [] more (w ∷ wanted) s b place h k =
+    let e = same_breach (record { at = None; kind = kind.Syntax }) b h in
+    absurd (let f : None ≡ Some place = ap place_in e ∙ k in cc)
+stays (p ∷ pieces) more [] s b place h k = h
+stays (p ∷ pieces) more (w ∷ wanted) s b place h k =
+    stays_after (step w s p.1) p.0 (λ front t. breach_of (front ++ wanted) t pieces)
+    (λ front t. breach_of (front ++ wanted) t (pieces ++ more)) b
+    (λ front t e. stays pieces more (front ++ wanted) t b place e k) h
+
 -- ---- the token at fault
 
 -- the kinds that are told of a token that the grammar allows
@@ -240,7 +268,7 @@ record Stop (wanted : List Wanted) (s : Begun) (pieces : List Piece) (b : Breach
   begun : Begun
   parts : pieces ≡ before ++ token ∷ others
   place : b.at ≡ Some token.0
-  walk : Walk wanted (w ∷ stack) s begun (words_of before)
+  walk : Walk wanted (w ∷ stack) s begun (bare_words before)
   wrong : Fault w begun token.1 b.kind
 
 stop_later : (w : Wanted) (wanted front : List Wanted) (s t : Begun) (p : Piece)
@@ -256,12 +284,9 @@ stop_later w wanted front s t p pieces b one stop = record {
   parts = ap (λ (ps : List Piece). p ∷ ps) stop.parts;
   place = stop.place;
   walk = one_before w wanted (stop.w ∷ stop.stack) front s t stop.begun p.1
-      (words_of stop.before) one stop.walk;
+      (bare_words stop.before) one stop.walk;
   wrong = stop.wrong;
 }
-
-same_breach : (b c : Breach) → Some b ≡ Some c → b ≡ c
-same_breach b c e = cc
 
 stop_here : (w : Wanted) (wanted : List Wanted) (s : Begun) (p : Piece) (pieces : List Piece)
     (k : QueryKind) → Fault w s p.1 k
@@ -283,7 +308,7 @@ stop_case : (w : Wanted) (wanted : List Wanted) (s : Begun) (p : Piece) (pieces 
     (b : Breach) (r : Stepped) → Tells w s p.1 r
     → ((front : List Wanted) (t : Begun) → breach_of (front ++ wanted) t pieces ≡ Some b
     → Stop (front ++ wanted) t pieces b)
-    → after r p.0 (λ front t. breach_of (front ++ wanted) t pieces) ≡ Some b
+    → after_token r p.0 (λ front t. breach_of (front ++ wanted) t pieces) ≡ Some b
     → Stop (w ∷ wanted) s (p ∷ pieces) b
 stop_case w wanted s p pieces b (Ok r) tells go h =
     stop_later w wanted r.0 s r.1 p pieces b (tells wanted) (go r.0 r.1 h)
@@ -320,7 +345,7 @@ stops (p ∷ pieces) (w ∷ wanted) s b h k =
 
 stands : (wanted : List Wanted) (s : Begun) (pieces : List Piece) (b : Breach) (word : Word)
     (stop : Stop wanted s pieces b) → word ≡ stop.token.1
-    → StandsAt pieces b.at (words_of stop.before) word
+    → StandsAt pieces b.at (bare_words stop.before) word
 stands wanted s pieces b word stop e = record {
   front = stop.before;
   token = stop.token;
@@ -354,14 +379,14 @@ name_faults pieces b h e =
     let stop = fault_of pieces b kind.BadName tt h e in
     let wrong : Fault stop.w stop.begun stop.token.1 kind.BadName =
     subst (Fault stop.w stop.begun stop.token.1) e stop.wrong in
-    let ok : allowed (Start ∷ []) (words_of stop.before) ≡ Some (Object ∷ stop.stack) =
-    subst (λ (w : Wanted). allowed (Start ∷ []) (words_of stop.before) ≡ Some (w ∷ stop.stack))
+    let ok : allowed (Start ∷ []) (bare_words stop.before) ≡ Some (Object ∷ stop.stack) =
+    subst (λ (w : Wanted). allowed (Start ∷ []) (bare_words stop.before) ≡ Some (w ∷ stop.stack))
     wrong.1 stop.walk.ok in
     record {
-      before = words_of stop.before;
+      before = bare_words stop.before;
       name = wrong.0;
       stands = stands (Start ∷ []) none_begun pieces b (Name wrong.0) stop (sym wrong.2);
-      viable = viable_with (words_of stop.before) (Name wrong.0 ∷ []) (Object ∷ stop.stack)
+      viable = viable_with (bare_words stop.before) (Name wrong.0 ∷ []) (Object ∷ stop.stack)
           stop.stack ok refl;
       long = wrong.3;
     }
@@ -376,14 +401,14 @@ number_faults pieces b h e =
     let stop = fault_of pieces b kind.BadNumber tt h e in
     let wrong : Fault stop.w stop.begun stop.token.1 kind.BadNumber =
     subst (Fault stop.w stop.begun stop.token.1) e stop.wrong in
-    let ok : allowed (Start ∷ []) (words_of stop.before) ≡ Some (Bound ∷ stop.stack) =
-    subst (λ (w : Wanted). allowed (Start ∷ []) (words_of stop.before) ≡ Some (w ∷ stop.stack))
+    let ok : allowed (Start ∷ []) (bare_words stop.before) ≡ Some (Bound ∷ stop.stack) =
+    subst (λ (w : Wanted). allowed (Start ∷ []) (bare_words stop.before) ≡ Some (w ∷ stop.stack))
     wrong.1 stop.walk.ok in
     record {
-      before = words_of stop.before;
+      before = bare_words stop.before;
       number = wrong.0;
       stands = stands (Start ∷ []) none_begun pieces b (Number wrong.0) stop (sym wrong.2);
-      viable = viable_with (words_of stop.before) (Number wrong.0 ∷ []) (Bound ∷ stop.stack)
+      viable = viable_with (bare_words stop.before) (Number wrong.0 ∷ []) (Bound ∷ stop.stack)
           stop.stack ok refl;
       large = at_least wrong.0 (2 ^ 128) wrong.3;
     }
@@ -439,7 +464,7 @@ count_faults pieces b h e =
     let stop = fault_of pieces b kind.TooMany tt h e in
     let wrong : Fault stop.w stop.begun stop.token.1 kind.TooMany =
     subst (Fault stop.w stop.begun stop.token.1) e stop.wrong in
-    let words = words_of stop.before in
+    let words = bare_words stop.before in
     let walk : Walk (Start ∷ []) (Start ∷ stop.stack) none_begun stop.begun words =
     subst (λ (w : Wanted). Walk (Start ∷ []) (w ∷ stop.stack) none_begun stop.begun words)
     wrong.1 stop.walk in

@@ -15,9 +15,9 @@ use Rattle.scan_model.specs.Queries.{Query, Compare, Negate, Both, Either, size}
 use Rattle.scan_model.specs.Texts.{Word, Name, Number, Opens, Closes, Comma, Other, Stranger}
 use Rattle.scan_model.specs.Texts.{Piece, Lead, Compares, Negates, Ands, Ors, lead_text}
 use Rattle.scan_model.specs.Texts.{all_leads, lead_among, Wanted, Start, Open, Object, Between}
-use Rattle.scan_model.specs.Texts.{Bound, Close, following, Begun, with_lead, fits, tests_in}
-use Rattle.scan_model.specs.Texts.{Stepped, started, step, after, breach_of, none_begun, spelled}
-use Rattle.scan_model.specs.TextLaws.{tests, IsWritten, Says, words_of}
+use Rattle.scan_model.specs.Texts.{Bound, Close, wanted_after, Begun, with_lead, fits, tests_in}
+use Rattle.scan_model.specs.Texts.{Stepped, started, step, after_token, breach_of, none_begun, spelled}
+use Rattle.scan_model.specs.TextLaws.{tests, IsWritten, Says, bare_words}
 
 -- what has begun after a query
 abbrev plus : Begun → Query → Begun
@@ -73,28 +73,28 @@ true_below x y h = grind (arith, nat_tests)
 record Right (wanted : List Wanted) (s : Begun) (pieces : List Piece) (rest : List Word)
     (front : List Wanted) (t : Begun) (w0 : Wanted) : Type 0 where
   left : List Piece
-  words : words_of left ≡ rest
+  words : bare_words left ≡ rest
   is : breach_of (w0 ∷ wanted) s pieces ≡ breach_of (front ++ wanted) t left
 
 right : (w0 : Wanted) (wanted : List Wanted) (s : Begun) (pieces : List Piece) (word : Word)
-    (rest : List Word) (front : List Wanted) (t : Begun) → words_of pieces ≡ word ∷ rest
+    (rest : List Word) (front : List Wanted) (t : Begun) → bare_words pieces ≡ word ∷ rest
     → step w0 s word ≡ Ok (front, t) → Right wanted s pieces rest front t w0
 unfolding breach_of
 right w0 wanted s [] word rest front t e f = cc
 right w0 wanted s (p ∷ pieces) word rest front t e f =
     let first : p.1 ≡ word = cc in
-    let others : words_of pieces ≡ rest = cc in
+    let others : bare_words pieces ≡ rest = cc in
     record { left = pieces; words = others; is = rw (first, f) refl }
 
 -- A query's tokens break no rule where it is written and not too large
 record Through (q : Query) (wanted : List Wanted) (s : Begun) (pieces : List Piece)
     (rest : List Word) : Type 0 where
   left : List Piece
-  words : words_of left ≡ rest
+  words : bare_words left ≡ rest
   is : breach_of (Start ∷ wanted) s pieces ≡ breach_of wanted (plus s q) left
 
 start_step : (s : Begun) (lead : Lead) → s.nodes + 1 ≤ 64 → s.tests + tests_in lead ≤ 32
-    → step Start s (Name (lead_text lead)) ≡ Ok (following lead, with_lead s lead)
+    → step Start s (Name (lead_text lead)) ≡ Ok (wanted_after lead, with_lead s lead)
 start_step s lead a b = rw (lead_is lead, fits_true (with_lead s lead) a b) refl
 
 size_one : (q : Query) → 1 ≤ size q
@@ -104,11 +104,11 @@ size_one (Both a b) = omega arith
 size_one (Either a b) = omega arith
 
 through : (q : Query) (wanted : List Wanted) (s : Begun) (pieces : List Piece) (rest : List Word)
-    → words_of pieces ≡ spelled q rest → IsWritten q → s.nodes + size q ≤ 64
+    → bare_words pieces ≡ spelled q rest → IsWritten q → s.nodes + size q ≤ 64
     → s.tests + tests q ≤ 32 → Through q wanted s pieces rest
 through (Compare op name v) wanted s pieces rest e w a b =
     let t = with_lead s (Compares op) in
-    let r0 = right Start wanted s pieces _ _ (following (Compares op)) t e
+    let r0 = right Start wanted s pieces _ _ (wanted_after (Compares op)) t e
     (start_step s (Compares op) a b) in
     let r1 = right Open (Object ∷ Between ∷ Bound ∷ Close ∷ wanted) t r0.left _ _ [] t r0.words
     refl in
@@ -126,7 +126,7 @@ through (Compare op name v) wanted s pieces rest e w a b =
     }
 through (Negate q) wanted s pieces rest e w a b =
     let t = with_lead s Negates in
-    let r0 = right Start wanted s pieces _ _ (following Negates) t e
+    let r0 = right Start wanted s pieces _ _ (wanted_after Negates) t e
     (start_step s Negates (omega (arith, a)) (omega (arith, b))) in
     let r1 = right Open (Start ∷ Close ∷ wanted) t r0.left _ _ [] t r0.words refl in
     let r2 = through q (Close ∷ wanted) t r1.left _ r1.words w (omega (arith, a))
@@ -141,7 +141,7 @@ through (Negate q) wanted s pieces rest e w a b =
 through (Both p q) wanted s pieces rest e w a b =
     let t = with_lead s Ands in
     let some = size_one q in
-    let r0 = right Start wanted s pieces _ _ (following Ands) t e
+    let r0 = right Start wanted s pieces _ _ (wanted_after Ands) t e
     (start_step s Ands (omega (arith, a)) (omega (arith, b))) in
     let r1 = right Open (Start ∷ Between ∷ Start ∷ Close ∷ wanted) t r0.left _ _ [] t r0.words
     refl in
@@ -161,7 +161,7 @@ through (Both p q) wanted s pieces rest e w a b =
     }
 through (Either p q) wanted s pieces rest e w a b =
     let t = with_lead s Ors in
-    let r0 = right Start wanted s pieces _ _ (following Ors) t e
+    let r0 = right Start wanted s pieces _ _ (wanted_after Ors) t e
     (start_step s Ors (omega (arith, a)) (omega (arith, b))) in
     let r1 = right Open (Start ∷ Between ∷ Start ∷ Close ∷ wanted) t r0.left _ _ [] t r0.words
     refl in
@@ -186,13 +186,13 @@ record Took (w0 : Wanted) (wanted : List Wanted) (s : Begun) (pieces : List Piec
   left : List Piece
   front : List Wanted
   begun : Begun
-  words : words_of pieces ≡ word ∷ words_of left
+  words : bare_words pieces ≡ word ∷ bare_words left
   shorter : length pieces ≡ length left + 1
   ok : step w0 s word ≡ Ok (front, begun)
   rest : breach_of (front ++ wanted) begun left ≡ None
 
 took_case : (w0 : Wanted) (wanted : List Wanted) (s : Begun) (p : Piece) (pieces : List Piece)
-    (r : Stepped) → step w0 s p.1 ≡ r → after r p.0
+    (r : Stepped) → step w0 s p.1 ≡ r → after_token r p.0
     (λ front t. breach_of (front ++ wanted) t pieces) ≡ None → Took w0 wanted s (p ∷ pieces)
 took_case w0 wanted s p pieces (Ok r) e h = record {
   word = p.1;
@@ -293,14 +293,14 @@ bound_ok s Stranger front t e = cc
 record IsStarted (s : Begun) (word : Word) (front : List Wanted) (t : Begun) : Type 0 where
   lead : Lead
   spelling : word ≡ Name (lead_text lead)
-  after_it : front ≡ following lead
+  after_it : front ≡ wanted_after lead
   begun : t ≡ with_lead s lead
   nodes : s.nodes + 1 ≤ 64
   tests_so_far : s.tests + tests_in lead ≤ 32
 
 fits_case : (b : Bool) (s : Begun) (x : List ℕ) (lead : Lead) (front : List Wanted) (t : Begun)
     → x ≡ lead_text lead → fits (with_lead s lead) ≡ b
-    → chosen b (following lead, with_lead s lead) kind.TooMany ≡ Ok (front, t)
+    → chosen b (wanted_after lead, with_lead s lead) kind.TooMany ≡ Ok (front, t)
     → IsStarted s (Name x) front t
 unfolding front_in begun_in
 fits_case true s x lead front t is f e =
@@ -335,7 +335,7 @@ start_ok s Stranger front t e = cc
 record Passed (word : Word) (wanted : List Wanted) (s : Begun) (pieces : List Piece) : Type 0
   where
     left : List Piece
-    words : words_of pieces ≡ word ∷ words_of left
+    words : bare_words pieces ≡ word ∷ bare_words left
     shorter : length pieces ≡ length left + 1
     rest : breach_of wanted s left ≡ None
 
@@ -344,7 +344,7 @@ passed : (w0 : Wanted) (word : Word) (wanted : List Wanted) (s : Begun) (pieces 
     → Passed word wanted s pieces
 passed w0 word wanted s pieces k e i = record {
   left = k.left;
-  words = k.words ∙ ap (λ w. w ∷ words_of k.left) e;
+  words = k.words ∙ ap (λ w. w ∷ bare_words k.left) e;
   shorter = k.shorter;
   rest = subst (λ t. breach_of wanted t k.left ≡ None) i.1
       (subst (λ f. breach_of (f ++ wanted) k.begun k.left ≡ None) i.0 k.rest);
@@ -383,7 +383,7 @@ pass_bound wanted s pieces h = let k = took Bound wanted s pieces h in let r =
 record Read (wanted : List Wanted) (s : Begun) (pieces : List Piece) : Type 0 where
   query : Query
   left : List Piece
-  words : words_of pieces ≡ spelled query (words_of left)
+  words : bare_words pieces ≡ spelled query (bare_words left)
   written : IsWritten query
   nodes : s.nodes + size query ≤ 64
   comparisons : s.tests + tests query ≤ 32
@@ -397,8 +397,8 @@ Reads fuel = (wanted : List Wanted) (s : Begun) (pieces : List Piece) → length
 -- after the first token
 by_lead : (fuel : ℕ) → Reads fuel → (lead : Lead) (wanted : List Wanted) (s : Begun)
     (left : List Piece) → length left ≤ fuel → s.nodes + 1 ≤ 64 → s.tests + tests_in lead ≤ 32
-    → breach_of (following lead ++ wanted) (with_lead s lead) left ≡ None
-    → (pieces : List Piece) → words_of pieces ≡ Name (lead_text lead) ∷ words_of left
+    → breach_of (wanted_after lead ++ wanted) (with_lead s lead) left ≡ None
+    → (pieces : List Piece) → bare_words pieces ≡ Name (lead_text lead) ∷ bare_words left
     → length pieces ≡ length left + 1 → Read wanted s pieces
 by_lead fuel go (Compares op) wanted s left l a b h pieces w n =
     let t = with_lead s (Compares op) in
@@ -489,29 +489,29 @@ reads (suc fuel) wanted s pieces l h =
     let r = start_ok s k.word k.front k.begun k.ok in
     by_lead fuel (reads fuel) r.lead wanted s k.left (omega (arith, l, k.shorter)) r.nodes
     r.tests_so_far
-    (subst (λ t. breach_of (following r.lead ++ wanted) t k.left ≡ None) r.begun
+    (subst (λ t. breach_of (wanted_after r.lead ++ wanted) t k.left ≡ None) r.begun
     (subst (λ f. breach_of (f ++ wanted) k.begun k.left ≡ None) r.after_it k.rest))
-    pieces (k.words ∙ ap (λ w. w ∷ words_of k.left) r.spelling) k.shorter
+    pieces (k.words ∙ ap (λ w. w ∷ bare_words k.left) r.spelling) k.shorter
 
 at_end : (s : Begun) (pieces : List Piece) → breach_of [] s pieces ≡ None → pieces ≡ []
 unfolding breach_of
 at_end s [] h = refl
 at_end s (p ∷ pieces) h = cc
 
-none_left : (s : Begun) (pieces : List Piece) → words_of pieces ≡ []
+none_left : (s : Begun) (pieces : List Piece) → bare_words pieces ≡ []
     → breach_of [] s pieces ≡ None
 unfolding breach_of
 none_left s [] e = refl
 none_left s (p ∷ pieces) e = cc
 
 pub accepted : (pieces : List Piece) → (breach_of (Start ∷ []) none_begun pieces ≡ None) ↔
-    ((q : Query) × Says (words_of pieces) q)
+    ((q : Query) × Says (bare_words pieces) q)
 accepted pieces = (
   λ h.
       let r = reads (length pieces) [] none_begun pieces (omega arith) h in (
         r.query,
         record {
-          spelling = r.words ∙ ap (λ left. spelled r.query (words_of left))
+          spelling = r.words ∙ ap (λ left. spelled r.query (bare_words left))
               (at_end _ r.left r.rest);
           query = record {
             small = omega (arith, r.nodes);

@@ -10,16 +10,16 @@ use Rattle.scan_model.specs.Queries.{Query, Compare, Negate, Both, Either}
 use Rattle.scan_model.specs.Texts.{Word, Name, Number, Opens, Closes, Comma, Other, Stranger}
 use Rattle.scan_model.specs.Texts.{Piece, Lead, Compares, Negates, Ands, Ors, lead_text}
 use Rattle.scan_model.specs.Texts.{all_leads, lead_among, Wanted, Start, Open, Object, Between}
-use Rattle.scan_model.specs.Texts.{Bound, Close, following, Begun, with_lead, fits, Stepped}
+use Rattle.scan_model.specs.Texts.{Bound, Close, wanted_after, Begun, with_lead, fits, Stepped}
 use Rattle.scan_model.specs.Texts.{started}
-use Rattle.scan_model.specs.Texts.{step, Breach, spare, after, breach_of, none_begun, spelled}
-use Rattle.scan_model.specs.TextLaws.{words_of, IsViable, BreaksSyntax}
+use Rattle.scan_model.specs.Texts.{step, Breach, spare, after_token, breach_of, none_begun, spelled}
+use Rattle.scan_model.specs.TextLaws.{bare_words, IsViable, BreaksSyntax}
 use Rattle.scan_model.specs.TextLaws.{SyntaxIsTheGrammars}
 use Rattle.scan_model.proofs.Parsed.{lead_is, among_text}
 
 -- what the grammar alone asks for after a token, or none where it does not allow the token
 abbrev pub follow : Wanted → Word → Option (List Wanted)
-follow Start (Name text) = option_map following (lead_among all_leads text)
+follow Start (Name text) = option_map wanted_after (lead_among all_leads text)
 follow Open Opens = Some []
 follow Object (Name text) = Some []
 follow Between Comma = Some []
@@ -166,17 +166,17 @@ bound_is Other front e = cc
 bound_is Stranger front e = cc
 
 start_case : (x : List ℕ) (o : Option Lead) (front : List Wanted) → lead_among all_leads x ≡ o
-    → option_map following o ≡ Some front → (lead : Lead) × (x ≡ lead_text lead)
-    × (front ≡ following lead)
+    → option_map wanted_after o ≡ Some front → (lead : Lead) × (x ≡ lead_text lead)
+    × (front ≡ wanted_after lead)
 start_case x None front f e = cc
 start_case x (Some lead) front f e = (
   lead,
   among_text all_leads x lead f,
-  some_is (following lead) front e,
+  some_is (wanted_after lead) front e,
 )
 
 start_is : (word : Word) (front : List Wanted) → follow Start word ≡ Some front → (lead : Lead)
-    × (word ≡ Name (lead_text lead)) × (front ≡ following lead)
+    × (word ≡ Name (lead_text lead)) × (front ≡ wanted_after lead)
 start_is (Name x) front e = let r = start_case x (lead_among all_leads x) front refl e in
     (r.0, ap (λ y. Name y) r.1, r.2)
 start_is (Number v) front e = cc
@@ -248,7 +248,7 @@ smaller : (w : Word) (xs ys : List Word) → xs ≡ w ∷ ys → length xs ≡ l
 smaller w xs ys e = ap length e ∙ omega arith
 
 by_lead : (fuel : ℕ) → Parses fuel → (lead : Lead) (wanted : List Wanted) (left : List Word)
-    → length left ≤ fuel → allowed (following lead ++ wanted) left ≡ Some [] → (words : List Word)
+    → length left ≤ fuel → allowed (wanted_after lead ++ wanted) left ≡ Some [] → (words : List Word)
     → words ≡ Name (lead_text lead) ∷ left → Parsed wanted words
 by_lead fuel go (Compares op) wanted left l h words w =
     let r1 = opens_at (Object ∷ Between ∷ Bound ∷ Close ∷ wanted) left h in
@@ -381,12 +381,12 @@ number_fits true s = refl
 number_fits false s = tt
 
 lead_fits : (b : Bool) (s : Begun) (lead : Lead)
-    → Fits (cond b (Ok (following lead, with_lead s lead)) (Err kind.TooMany)) (Some (following
+    → Fits (cond b (Ok (wanted_after lead, with_lead s lead)) (Err kind.TooMany)) (Some (wanted_after
     lead))
 lead_fits true s lead = refl
 lead_fits false s lead = tt
 
-start_fits : (s : Begun) (o : Option Lead) → Fits (started s o) (option_map following o)
+start_fits : (s : Begun) (o : Option Lead) → Fits (started s o) (option_map wanted_after o)
 start_fits s None = refl
 start_fits s (Some lead) = lead_fits (fits (with_lead s lead)) s lead
 
@@ -410,10 +410,10 @@ step_fits w s word = refl
 data Broken (wanted : List Wanted) (pieces : List Piece) (at : Option ℕ) : Type 0 where
   token : (before : List Piece) (this : Piece) (others : List Piece) (stack : List Wanted)
       → pieces ≡ before ++ this ∷ others → at ≡ Some this.0
-      → allowed wanted (words_of before) ≡ Some stack → IsBad stack this.1
+      → allowed wanted (bare_words before) ≡ Some stack → IsBad stack this.1
       → Broken wanted pieces at
   end : (w : Wanted) (stack : List Wanted) → at ≡ None
-      → allowed wanted (words_of pieces) ≡ Some (w ∷ stack) → Broken wanted pieces at
+      → allowed wanted (bare_words pieces) ≡ Some (w ∷ stack) → Broken wanted pieces at
 
 later : (w : Wanted) (wanted front : List Wanted) (p : Piece) (pieces : List Piece)
     (at : Option ℕ) → follow w p.1 ≡ Some front → Broken (front ++ wanted) pieces at
@@ -438,7 +438,7 @@ broken_case : (w : Wanted) (wanted : List Wanted) (p : Piece) (pieces : List Pie
     (r : Stepped) → Fits r (follow w p.1) → b.kind ≡ kind.Syntax
     → ((front : List Wanted) (t : Begun) → breach_of (front ++ wanted) t pieces ≡ Some b
     → Broken (front ++ wanted) pieces b.at)
-    → after r p.0 (λ front t. breach_of (front ++ wanted) t pieces) ≡ Some b
+    → after_token r p.0 (λ front t. breach_of (front ++ wanted) t pieces) ≡ Some b
     → Broken (w ∷ wanted) (p ∷ pieces) b.at
 unfolding at_of kind_of
 broken_case w wanted p pieces b (Ok r) f k go h =
@@ -476,11 +476,11 @@ ends_early words w stack h q e =
 by_broken : (pieces : List Piece) (at : Option ℕ) → Broken (Start ∷ []) pieces at
     → BreaksSyntax pieces at
 by_broken pieces at (token before this others stack is place ok bad) =
-    BreaksSyntax.at_token before this others is place (viable (words_of before) stack ok)
-    (not_viable (words_of before) stack this.1 ok bad)
+    BreaksSyntax.at_token before this others is place (viable (bare_words before) stack ok)
+    (not_viable (bare_words before) stack this.1 ok bad)
 by_broken pieces at (end w stack none ok) =
-    BreaksSyntax.at_end none (viable (words_of pieces) (w ∷ stack) ok)
-    (ends_early (words_of pieces) w stack ok)
+    BreaksSyntax.at_end none (viable (bare_words pieces) (w ∷ stack) ok)
+    (ends_early (bare_words pieces) w stack ok)
 
 pub syntax_is_the_grammars : SyntaxIsTheGrammars
 syntax_is_the_grammars pieces b h k = by_broken pieces b.at

@@ -123,7 +123,7 @@ CostTheSame p other = (name : List ℕ) (n : ℕ) → 0 < n → n ≤ WIDTH_MAX
     → counts_of (issues_at (routines_of scan_text p name) n)
     ≡ counts_of (issues_at (routines_of scan_text other name) n)
 
--- and such programs give the same answer
+-- programs that take as many commands for each operation give the same answer
 abbrev pub ScansAnswerTheSame : Type 0
 ScansAnswerTheSame =
     (g : Geometry) (p other : Program) (banks : Banks) (table : List Named) (q : Query)

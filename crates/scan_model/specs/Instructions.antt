@@ -50,7 +50,7 @@ node_instructions table names count k (And a b) =
 node_instructions table names count k (Or a b) =
     join_two (codes "s_or") (names (k + 1)) (names (a + 1)) (names (b + 1)) count
 
--- those of nodes, the first of which has this number
+-- the instructions of nodes, the first of which has this number
 abbrev pub script_from : List Named → (ℕ → List ℕ) → ℕ → ℕ → List Node → List Instruction
 script_from table names count k [] = []
 script_from table names count k (node ∷ nodes) = node_instructions table names count k node

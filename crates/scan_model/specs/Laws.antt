@@ -111,9 +111,8 @@ pub record Scans (g : Geometry) (operations : Routines) (meaning : List ℕ → 
   pub room : (w : Why) (k : ℕ) → scan_refused g operations (table_of state) q ≡ Some (w, k)
       → IsRoom w
 
--- Where the checks pass and no instruction is refused, one new object is 1 exactly where the
--- query holds, and all else
--- is as it was; and an instruction is refused only for want of room
+-- Where the checks pass and no instruction is refused, one new object is 1 exactly where the query
+-- holds, and all else is as it was; and an instruction is refused only for want of room
 abbrev pub ScanInWords : Type 0
 ScanInWords =
     (g : Geometry) (operations : Routines) (meaning : List ℕ → ℕ → List ℕ
@@ -131,7 +130,7 @@ pub record NamesAreFree : Type 0 where
   pub differ : (table : List Named) (j k : ℕ) → length table ≤ 256 → j ≤ 64 → k ≤ 64
       → free_name table j ≡ free_name table k → j ≡ k
 
--- and a name is the k-th where k names before it are free
+-- a free name is the k-th where k of the names before it are free
 abbrev pub NamesAreCounted : Type 0
 NamesAreCounted = (table : List Named) (i : ℕ) → i < length table + 65
     → has_name table (scan_name i) ≡ false → free_name table (length (free_among table i))
@@ -164,7 +163,8 @@ pub record FoundInRows (g : Geometry) (operations : Routines) (banks : Banks)
 abbrev pub found_among : List Held → Query → ℕ → ℕ
 found_among state q count = count_by (λ e. matches q (element state e)) (range_with_len 0 count)
 
--- So it is in the rows
+-- Where the checks pass and no instruction is refused, the columns of one new object are 1 exactly
+-- where the query holds, and those of all others stay
 abbrev pub ScanInRows : Type 0
 ScanInRows =
     (g : Geometry) (p : Program) (banks : Banks) (state : List Held) (q : Query) → 0 < g.words
@@ -180,7 +180,7 @@ OnesAreFound = (state : List Held) (q : Query) (count size : ℕ) → count ≤ 
     → count_by (λ v. v == 1) (take count (map (λ e. bit_number (matches q (element state e)))
     (range_with_len 0 size))) ≡ found_among state q count
 
--- where the checks pass, its instructions are plain
+-- where the checks pass, the instructions of a query are plain
 abbrev pub ScanIsPlain : Type 0
 ScanIsPlain = (g : Geometry) (table : List Named) (q : Query)
     → All (λ named. IsObject g named.1) table → checked table (nodes_of q) ≡ None
@@ -193,7 +193,7 @@ pub record NothingIsMoved : Type 0 where
   pub prints : (g : Geometry) (operations : Routines) (start table : List Named)
       (nodes : List Node) → sum_done rows_printed g operations table (scan_script start nodes) ≡ 0
 
--- and no two bbops stand side by side: each is a wave of its own
+-- no two bbops of a query stand side by side: each is a wave of its own
 abbrev pub EachIsAlone : Type 0
 EachIsAlone = (table : List Named) (nodes : List Node)
     → pieces (scan_script table nodes) ≡ map piece_of (scan_script table nodes)

@@ -8,7 +8,7 @@ use Rattle.object_alloc.specs.Listed.{Named, has_name}
 abbrev pub scan_name : ℕ → List ℕ
 scan_name i = codes "scan_" ++ decimal i
 
--- those of the first n that no object of the table has
+-- the names among the first n that no object of the table has
 abbrev pub free_among : List Named → ℕ → List (List ℕ)
 free_among table n = filter (λ name. not (has_name table name))
     (map scan_name (range_with_len 0 n))

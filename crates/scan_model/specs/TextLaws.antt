@@ -34,8 +34,8 @@ pub record Says (words : List Word) (q : Query) : Type 0 where
   pub query : IsQuery q
 
 -- tokens without their places
-abbrev pub words_of : List Piece → List Word
-words_of pieces = map (λ p. p.1) pieces
+abbrev pub bare_words : List Piece → List Word
+bare_words pieces = map (λ p. p.1) pieces
 
 -- some query's tokens begin with these
 abbrev pub IsViable : List Word → Type 0
@@ -45,10 +45,10 @@ IsViable words = (q : Query) × (more : List Word) × (spelled q [] ≡ words ++
 -- these and it
 pub data BreaksSyntax (pieces : List Piece) (at : Option ℕ) : Type 0 where
   at_token : (before : List Piece) (token : Piece) (others : List Piece)
-      → pieces ≡ before ++ token ∷ others → at ≡ Some token.0 → IsViable (words_of before)
-      → (IsViable (words_of before ++ token.1 ∷ []) → ⊥) → BreaksSyntax pieces at
-  at_end : at ≡ None → IsViable (words_of pieces)
-      → ((q : Query) → spelled q [] ≡ words_of pieces → ⊥) → BreaksSyntax pieces at
+      → pieces ≡ before ++ token ∷ others → at ≡ Some token.0 → IsViable (bare_words before)
+      → (IsViable (bare_words before ++ token.1 ∷ []) → ⊥) → BreaksSyntax pieces at
+  at_end : at ≡ None → IsViable (bare_words pieces)
+      → ((q : Query) → spelled q [] ≡ bare_words pieces → ⊥) → BreaksSyntax pieces at
 
 -- A fault of kind Syntax is where the tokens stop being the beginning of a query's.
 abbrev pub SyntaxIsTheGrammars : Type 0
@@ -64,7 +64,7 @@ pub record StandsAt (pieces : List Piece) (at : Option ℕ) (before : List Word)
   pub others : List Piece
   pub parts : pieces ≡ front ++ token ∷ others
   pub place : at ≡ Some token.0
-  pub before_is : before ≡ words_of front
+  pub before_is : before ≡ bare_words front
   pub word_is : word ≡ token.1
 
 -- a BadName fault at this place: a name may stand there, and it has too many bytes for an object
@@ -103,14 +103,22 @@ pub record BreaksCount (pieces : List Piece) (at : Option ℕ) : Type 0 where
   pub full : (count_by is_opening before ≡ 64)
       ⊎ (tests_in lead ≡ 1) × (count_by is_number before ≡ 32)
 
+-- A fault at a token is that of each text which goes on from these tokens: the first one decides.
+abbrev pub FirstDecides : Type 0
+FirstDecides = (pieces more : List Piece) (b : Breach) (place : ℕ)
+    → breach_of (Start ∷ []) none_begun pieces ≡ Some b → b.at ≡ Some place
+    → breach_of (Start ∷ []) none_begun (pieces ++ more) ≡ Some b
+
 -- All laws of query texts: accepted are the spellings of queries, each of one alone, and a fault is
 -- of its kind and at its place.
 pub record QueryTextLaws : Type 0 where
   -- no rule is broken exactly where the tokens are the spelling of a query
   pub accepted : (pieces : List Piece) → (breach_of (Start ∷ []) none_begun pieces ≡ None) ↔
-      ((q : Query) × Says (words_of pieces) q)
+      ((q : Query) × Says (bare_words pieces) q)
   -- and of one alone
   pub once : (p q : Query) → spelled p [] ≡ spelled q [] → p ≡ q
+  -- the first fault decides, whatever follows
+  pub first : FirstDecides
   -- a Syntax fault is the grammar's
   pub syntax_faults : SyntaxIsTheGrammars
   -- and one of another kind but Lex is at a token that the grammar allows

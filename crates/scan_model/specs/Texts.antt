@@ -86,11 +86,11 @@ pub data Wanted : Type 0 where
   Close : Wanted
 
 -- a query, after its first token
-abbrev pub following : Lead → List Wanted
-following (Compares op) = Open ∷ Object ∷ Between ∷ Bound ∷ Close ∷ []
-following Negates = Open ∷ Start ∷ Close ∷ []
-following Ands = Open ∷ Start ∷ Between ∷ Start ∷ Close ∷ []
-following Ors = Open ∷ Start ∷ Between ∷ Start ∷ Close ∷ []
+abbrev pub wanted_after : Lead → List Wanted
+wanted_after (Compares op) = Open ∷ Object ∷ Between ∷ Bound ∷ Close ∷ []
+wanted_after Negates = Open ∷ Start ∷ Close ∷ []
+wanted_after Ands = Open ∷ Start ∷ Between ∷ Start ∷ Close ∷ []
+wanted_after Ors = Open ∷ Start ∷ Between ∷ Start ∷ Close ∷ []
 
 -- how many nodes and comparisons have begun
 pub record Begun : Type 0 where
@@ -119,8 +119,8 @@ Stepped = Result (List Wanted × Begun) QueryKind
 -- a node begins, unless the name begins none or there are too many
 abbrev pub started : Begun → Option Lead → Stepped
 started s None = Err Syntax
-started s (Some lead) = if fits (with_lead s lead) then Ok (following lead, with_lead s lead) else
-    Err TooMany
+started s (Some lead) = if fits (with_lead s lead)
+    then Ok (wanted_after lead, with_lead s lead) else Err TooMany
 
 -- the next token, where this is wanted: what is wanted in its place, or the first rule that it
 -- breaks
@@ -150,15 +150,15 @@ spare Stranger = Lex
 spare word = Syntax
 
 -- what follows a token that breaks no rule; one that does is the first breach
-abbrev pub after : Stepped → ℕ → (List Wanted → Begun → Option Breach) → Option Breach
-after (Ok r) at go = go r.0 r.1
-after (Err kind) at go = Some (record { at = Some at; kind = kind })
+abbrev pub after_token : Stepped → ℕ → (List Wanted → Begun → Option Breach) → Option Breach
+after_token (Ok r) at go = go r.0 r.1
+after_token (Err kind) at go = Some (record { at = Some at; kind = kind })
 
 -- the first token that breaks a rule
 unfoldable pub breach_of : List Wanted → Begun → List Piece → Option Breach
 breach_of wanted s [] = ended wanted
 breach_of [] s (p ∷ pieces) = Some (record { at = Some p.0; kind = spare p.1 })
-breach_of (w ∷ wanted) s (p ∷ pieces) = after (step w s p.1) p.0
+breach_of (w ∷ wanted) s (p ∷ pieces) = after_token (step w s p.1) p.0
     (λ front t. breach_of (front ++ wanted) t pieces)
 
 -- what has begun before the first token

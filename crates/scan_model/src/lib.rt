@@ -17,8 +17,7 @@ pub enum CmpOp {
 }
 
 /// Why a scan is refused: a comparison's object is not there, has another count, or is too narrow
-/// for the number; or
-/// there is no room for an object of a node.
+/// for the number; or there is no room for an object of a node.
 #[derive(Clone, Copy, PartialEq, Eq)]
 pub enum ScanWhy {
     NoObject,

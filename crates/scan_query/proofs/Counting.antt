@@ -1,7 +1,7 @@
 -- Ones, counted word by word and bank by bank.
 use Rattle.std.proofs.Common.{◌≡◌, ℕ, zero, suc, ◌+◌, ◌-◌, ◌*◌, ◌/◌, ◌%◌, ◌^◌, ◌<◌, ◌≤◌, ◌==◌}
 use Rattle.std.proofs.Common.{Bool, true, false, cond, min}
-use Rattle.std.proofs.Common.{List, [], ◌∷◌, ◌++◌, map, length, length-append, get_or, take, refl}
+use Rattle.std.proofs.Common.{List, [], ◌∷◌, ◌++◌, map, length, length-append, get_or, take, drop, refl}
 use Rattle.std.proofs.Common.{sym, ◌∙◌, ap, arith, append-nil}
 use Rattle.std.specs.Prelude.{count_by, count_ones, flat_map}
 use Rattle.std.specs.List.{range_with_len}
@@ -10,7 +10,7 @@ use lib.Count.{ones_step, ones-le}
 use Rattle.std.proofs.Math.Nat.{pow-succ', suc-mul, pow-le-pow_right, mod-eq_of_lt, mod-lt}
 use Rattle.std.proofs.lemmas.Nat.{pow_pos}
 use Rattle.std.proofs.Math.Seq.{take-suc}
-use Rattle.std.proofs.lemmas.List.{map-append, length-map}
+use Rattle.std.proofs.lemmas.List.{map-append, length-map, take-append-drop}
 use Rattle.std.proofs.lemmas.List.Sums.{sum_by-cons, sum_by-append}
 use Rattle.std.proofs.lemmas.Grind.{flat_map-append}
 use Rattle.bit_rows.specs.Bits.{bits, bits_of_words, bit_number, value}
@@ -198,3 +198,10 @@ banks_counted base columns count k banks now found more left same h e f m =
     ∙ ap (λ (bs : Banks). count_by (λ (b : Bool). b)
     (take (count - k * columns) (row_in base (bs k)))) same)
     ∙ banks_more base columns count k banks h
+
+-- the front of a list gives way to as many items
+pub length_put_back : (k : ℕ) (new old : List ℕ) → length new ≡ length (take k old)
+    → length (new ++ drop k old) ≡ length old
+length_put_back k new old h = length-append new (drop k old)
+    ∙ ap (λ n. n + length (drop k old)) h ∙ sym (length-append (take k old) (drop k old))
+    ∙ ap length (take-append-drop k old)

@@ -10,9 +10,9 @@ use Rattle.text_lex.specs.declared.token.TokenKind.TheVariants as kinds
 use Rattle.scan_model.specs.declared.QueryKind.TheVariants as kind
 use Rattle.scan_model.specs.Queries as query
 use Rattle.scan_model.specs.Texts as model
-use Rattle.scan_model.specs.TextLaws.{QueryTextLaws, words_of}
+use Rattle.scan_model.specs.TextLaws.{QueryTextLaws, bare_words}
 use Rattle.op_text.specs.Lines.{line_of}
-use Rattle.scan_query.specs.declared.reading.Stop.{Stop}
+use Rattle.scan_query.specs.declared.reading.ReadError.{ReadError}
 use Rattle.scan_query.specs.Parsing.{IsQueryOf}
 use Rattle.scan_query.specs.Reading.{Fails, Finds, ParserView, Reads, breach, left, start_of}
 
@@ -45,9 +45,6 @@ pub at_end : (old : ParserView) → old.pieces ≡ [] → breach [] old ≡ None
 unfolding model.breach_of
 at_end old e = rw e refl
 
-pub left_none : (old : ParserView) → old.pieces ≡ [] → left old ≡ []
-left_none old e = ap words_of e
-
 -- the query of a text
 pub is_query : (laws : QueryTextLaws) (text : List ℕ) (start new : ParserView) (k : ℕ)
     (before nodes : List query.Node) → before ≡ [] → start ≡ start_of text
@@ -58,7 +55,7 @@ is_query laws text start new k before nodes empty is reads moves none nothing =
     let found : model.first_breach text ≡ None = ap (breach (model.Start ∷ [])) (sym is) ∙ moves
     ∙ none in
     let (q, says) = (laws.accepted (model.pieces_of text)).0 found in
-    let words : words_of (model.pieces_of text) ≡ model.spelled reads.tree [] =
+    let words : bare_words (model.pieces_of text) ≡ model.spelled reads.tree [] =
     ap left (sym is) ∙ reads.spelling ∙ ap (model.spelled reads.tree) nothing in
     let same : reads.tree ≡ q = laws.once reads.tree q (sym words ∙ says.spelling) in
     record {
@@ -74,7 +71,7 @@ is_query laws text start new k before nodes empty is reads moves none nothing =
     }
 
 -- the exit of a `?`
-pub exit_finds : {A : Type 0} (found : Option model.Breach) (e : Stop) (r : Result A Stop)
+pub exit_finds : {A : Type 0} (found : Option model.Breach) (e : ReadError) (r : Result A ReadError)
     → IsErrAnd r (λ x. x ≡ e) → Fails found e → Finds found r
 exit_finds found e r is h =
     let p = err_from_is_err_and r is in

@@ -1,17 +1,15 @@
 -- Instructions that are done one after another.
-use Rattle.std.proofs.Common.{◌≡◌, ℕ, zero, suc, ◌+◌, ◌*◌, ◌≤◌, ◌^◌, Bool, true, false, cond}
+use Rattle.std.proofs.Common.{◌≡◌, ℕ, zero, suc, ◌+◌, ◌*◌, ◌≤◌, Bool, true, false, cond}
 use Rattle.std.proofs.Common.{take, drop, List, [], ◌∷◌}
 use Rattle.std.proofs.Common.{◌++◌, map, length, length-append, Option, Some, None}
-use Rattle.std.proofs.Common.{refl, sym, ◌∙◌, ap, subst, arith, append-nil}
+use Rattle.std.proofs.Common.{refl, sym, ◌∙◌, ap, subst, arith}
 use Rattle.std.specs.Prelude.{flat_map, is_none, slice_get}
 use Rattle.std.specs.List.{AllByRecursion}
-use Rattle.std.proofs.Math.Nat.{mul-le-mul_right}
 use Rattle.std.proofs.lemmas.List.{take-append-drop}
 use Rattle.std.proofs.lemmas.List.{map-append}
-use Rattle.dram_model.specs.View.{ChipView, Kept, Did, with_reads}
+use Rattle.dram_model.specs.View.{ChipView, Did, with_reads}
 use Rattle.dram_model.specs.declared.dram.Counters.{Counters}
 use Rattle.dram_model.proofs.EventLaws.{Did-none, Did-more, Kept-same, Kept-more}
-use Rattle.faults.specs.Counts.{Rose}
 use Rattle.uprog_code.specs.declared.TheConstants.{WALK_MAX}
 use Rattle.dram_model.specs.Chip.{Event, all_counted}
 use Rattle.dram_model.specs.declared.geometry.Geometry.{Geometry}
@@ -25,19 +23,17 @@ use Rattle.machine_model.specs.Steps.{reply_by, counts_for}
 use Rattle.machine_model.specs.Pieces.{instrs_in, events_of_pieces, piece_of}
 use Rattle.machine_model.specs.Pieces.{turn_at_end}
 use Rattle.machine_model.specs.Routines.{Routines}
-use Rattle.machine_model.specs.Script.{table_at_end, is_bbop, is_refused}
+use Rattle.machine_model.specs.Script.{table_at_end, is_bbop}
 use Rattle.machine_model.proofs.Parts.{scripts_go_on, pieces_go_on}
 use Rattle.object_steps.specs.Objects.{RisesAtMost}
 use Rattle.sim_machine.specs.declared.machine.Machine.{Machine}
-use Rattle.sim_machine.specs.Machine.{IsReady, geometry_of, operations_by, program_of, table_in}
-use Rattle.sim_machine.specs.Machine.{turn_in, reply_of, moved_table, turn_by_piece, events_by}
+use Rattle.sim_machine.specs.Machine.{IsReady, geometry_of, operations_by, table_in}
+use Rattle.sim_machine.specs.Machine.{turn_in, reply_of}
 use Rattle.sim_machine.specs.Machine.{reads_by, is_print}
-use Rattle.sim_machine.specs.Steps.{DidAndRead, HasRoom}
+use Rattle.sim_machine.specs.Steps.{DidAndRead}
 use Rattle.scan_model.specs.Checks.{refused_in, or_else}
 use Rattle.scan_model.proofs.Goes.{refused-append}
-use Rattle.scan_query.specs.Running.{Ran, AreBelow}
-use Rattle.scan_query.specs.Queries.{instructions_for}
-use Rattle.scan_model.specs.Queries.{Node, Test, Not, And, Or}
+use Rattle.scan_query.specs.Running.{Ran}
 
 -- single pieces hold the script
 holds_case : (b : Bool) (instr : Instruction) → is_bbop instr ≡ b
@@ -163,40 +159,12 @@ silent_did events n s t e d = record {
   log = d.log;
 }
 
-done_allowed : (r : Option Why) (counts : Counts) → is_refused (reply_by r counts) ≡ false
-    → or_else r None ≡ None
-done_allowed None counts e = refl
-done_allowed (Some w) counts e = cc
-
 refused_said : (r : Option Why) (counts : Counts) (why : Why) → Refused why ≡ reply_by r counts
     → or_else r None ≡ Some why
 refused_said None counts why e = cc
 refused_said (Some w) counts why e = same w why e where
   same : (w why : Why) → Refused why ≡ Refused w → Some w ≡ Some why
   same w why e = cc
-
--- one instruction was done
-pub ran_one : (instr : Instruction) (a b : Machine) (s t : ChipView)
-    → is_refused (reply_of a instr) ≡ false → is_print instr ≡ false
-    → program_of b ≡ program_of a → geometry_of b ≡ geometry_of a → IsReady b → Kept s t
-    → table_in b ≡ moved_table a instr → turn_in b ≡ turn_by_piece a (piece_of instr)
-    → DidAndRead (events_by a (piece_of instr)) (reads_by a instr) s t
-    → RisesAtMost (16 * WALK_MAX) s.counters t.counters
-    → Ran (instr ∷ []) a b s t
-ran_one instr a b s t done silent program shape ready kept table turn did rises = record {
-  program = program;
-  shape = shape;
-  ready = ready;
-  kept = kept;
-  allowed = done_allowed (refusal (geometry_of a) (operations_by a) (table_in a) instr)
-      (counts_for (geometry_of a) (operations_by a) (table_in a) instr) done;
-  table = table;
-  turn = turn;
-  did = subst (λ (es : List Event). Did es s t) (sym (append-nil (events_by a (piece_of instr))))
-      (silent_did (events_by a (piece_of instr)) (reads_by a instr) s t
-      (silent_reads a instr silent) did);
-  rises = subst (λ n. RisesAtMost n s.counters t.counters) (omega arith) rises;
-}
 
 pub refused_one : (instr : Instruction) (a : Machine) (why : Why) → Refused why ≡ reply_of a instr
     → refused_in (geometry_of a) (operations_by a) (table_in a) (instr ∷ []) ≡ Some why
@@ -245,37 +213,11 @@ take_short [] (suc n) l = refl
 take_short (x ∷ script) zero l = absurd (omega (arith, l))
 take_short (x ∷ script) (suc n) l = ap (λ rest. x ∷ rest) (take_short script n (omega (arith, l)))
 
-pub five_at_most : (names : ℕ → List ℕ) (count width k : ℕ) (node : Node)
-    → length (instructions_for names count width k node) ≤ 5
-five_at_most names count width k (Test op name v) = omega arith
-five_at_most names count width k (Not a) = omega arith
-five_at_most names count width k (And a b) = omega arith
-five_at_most names count width k (Or a b) = omega arith
-
 take_length : (script : List Instruction) (i : ℕ) → length (take i script) ≤ i
 take_length [] zero = omega arith
 take_length [] (suc i) = omega arith
 take_length (x ∷ script) zero = omega arith
 take_length (x ∷ script) (suc i) = let r = take_length script i in omega (arith, r)
-
--- there is room for one instruction more
-pub still_room : (script : List Instruction) (i limit : ℕ) (a b : Machine) (s t : ChipView)
-    → Ran (take i script) a b s t → i ≤ 5
-    → AreBelow (2 ^ 61 + 2 ^ 60) s.counters → HasRoom t.counters
-still_room script i limit a b s t p l r =
-    let n = take_length script i in
-    let m : length (take i script) * (16 * WALK_MAX) ≤ 5 * (16 * WALK_MAX) =
-    mul-le-mul_right {m = length (take i script)} {n = 5} (16 * WALK_MAX)
-    (omega (arith, n, l)) in
-    record {
-      aap = omega (arith, p.rises.aap, r.aap, m);
-      ap = omega (arith, p.rises.ap, r.ap, m);
-      writes = omega (arith, p.rises.writes, r.writes, m);
-      reads = omega (arith, p.rises.reads, r.reads, m);
-    }
-
-pub rose_after : (a b c : ℕ) → a ≤ b → Rose b c → Rose a c
-rose_after a b c l r = grind (arith, l, r)
 
 pub at_front : (script : List Instruction) (i : ℕ) (instr : Instruction)
     → slice_get script i ≡ Some instr → instr ∷ [] ≡ take 1 (drop i script)

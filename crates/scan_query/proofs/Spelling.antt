@@ -10,11 +10,11 @@ use Rattle.scan_model.specs.Queries as query
 use Rattle.scan_model.specs.Texts as model
 use Rattle.scan_model.proofs.Trees.{size_is}
 use Rattle.scan_query.specs.declared.query.Node.{Node}
-use Rattle.scan_query.specs.declared.reading.Stop.{Stop}
+use Rattle.scan_query.specs.declared.reading.ReadError.{ReadError}
 use Rattle.scan_query.specs.Queries.{node_of}
 use Rattle.scan_query.specs.Reading.{ParserView, Reads, join_node, join_text, left}
 
-pub test_reads : (r : Result ℕ Stop) (op : CmpOp) (name : List ℕ) (v : ℕ)
+pub test_reads : (r : Result ℕ ReadError) (op : CmpOp) (name : List ℕ) (v : ℕ)
     (w0 w1 w2 w3 w4 : List model.Word) (new : ParserView) (before after : List Node) (node : Node)
     → w0 ≡ model.Opens ∷ w1 → w1 ≡ model.Name name ∷ w2 → w2 ≡ model.Comma ∷ w3
     → w3 ≡ model.Number v ∷ w4 → w4 ≡ model.Closes ∷ left new
@@ -36,7 +36,7 @@ test_reads (Ok k) op name v w0 w1 w2 w3 w4 new before after node a b c d e last 
     }
 
 -- a query in front of a mark, and one node more
-pub not_reads : (r : Result ℕ Stop) (k : ℕ) (w0 w1 w2 : List model.Word) (mid new : ParserView)
+pub not_reads : (r : Result ℕ ReadError) (k : ℕ) (w0 w1 w2 : List model.Word) (mid new : ParserView)
     (before during after : List Node) (node : Node) → w0 ≡ model.Opens ∷ w1
     → Reads w1 k mid (map node_of before) (map node_of during)
     → left mid ≡ model.Closes ∷ left new
@@ -65,7 +65,7 @@ not_reads (Ok n) k w0 w1 w2 mid new before during after node a h b last nodes is
     }
 
 -- two queries in front of a comma and a mark, and one node more
-pub join_reads : (r : Result ℕ Stop) (both : Bool) (k j : ℕ) (w0 w1 w2 w3 : List model.Word)
+pub join_reads : (r : Result ℕ ReadError) (both : Bool) (k j : ℕ) (w0 w1 w2 w3 : List model.Word)
     (mid later new : ParserView) (before during then after : List Node) (node : Node)
     → w0 ≡ model.Opens ∷ w1
     → Reads w1 k mid (map node_of before) (map node_of during)

@@ -3,31 +3,29 @@ use Rattle.std.proofs.Common.{◌≡◌, ℕ, Bool, true, false, ◌&&◌, List,
 use Rattle.std.proofs.Common.{None}
 use Rattle.std.proofs.Common.{Result, Ok, Err, cond, refl, sym, ap, ◌∙◌, subst}
 use Rattle.std.specs.Result.{IsErrAnd}
-use Rattle.std.specs.Char.{is_ascii_digit}
-use Rattle.std.specs.List.{AllByRecursion, AllPass}
+use Rattle.std.specs.List.{AllByRecursion}
 use Rattle.std.proofs.lemmas.Result.{err_from_is_err_and}
-use Rattle.std.proofs.lemmas.List.Sums.{AllPass-from_list_all}
 use Rattle.text_lex.specs.declared.token.TokenKind.{TokenKind}
 use Rattle.text_lex.specs.declared.token.TokenKind.TheVariants as kinds
-use Rattle.text_lex.specs.Lexical.{Item, Whole, Bad, IsRight, Lexeme, is_token}
+use Rattle.text_lex.specs.Lexical.{Item, Whole, Bad, IsRight, is_token}
 use Rattle.scan_model.specs.declared.QueryKind.{QueryKind}
 use Rattle.scan_model.specs.declared.QueryKind.TheVariants as kind
 use Rattle.scan_model.specs.Texts as model
 use Rattle.scan_query.specs.declared.reading.Mark.{Mark}
 use Rattle.scan_query.specs.declared.reading.Mark.TheVariants as mark
-use Rattle.scan_query.specs.declared.reading.Stop.{Stop}
+use Rattle.scan_query.specs.declared.reading.ReadError.{ReadError}
 use Rattle.scan_query.specs.declared.reading.Word.{Word}
 use Rattle.scan_query.specs.declared.reading.Word.TheVariants as word
 use Rattle.scan_query.specs.Digits.{are_digits, is_written}
 use Rattle.scan_query.specs.Reading.{Fails, MovesTo, ParserView, Took, breach, is_it}
-use Rattle.scan_query.specs.Reading.{lead_at, wanted_by, word_by, word_view}
+use Rattle.scan_query.specs.Reading.{lead_at, wanted_by, word_view}
 
-pub fails_along : {a b : Option model.Breach} (e : Stop) → a ≡ b → Fails b e → Fails a e
+pub fails_along : {a b : Option model.Breach} (e : ReadError) → a ≡ b → Fails b e → Fails a e
 fails_along e h f = let P : Option model.Breach → Type 0 = λ x. Fails x e in subst P (sym h) f
 
 -- The exit of a `?`.
-pub exits : {A : Type 0} (front : List model.Wanted) (old : ParserView) (e : Stop)
-    (r : Result A Stop) (following : A → List model.Wanted) (new : ParserView)
+pub exits : {A : Type 0} (front : List model.Wanted) (old : ParserView) (e : ReadError)
+    (r : Result A ReadError) (following : A → List model.Wanted) (new : ParserView)
     → IsErrAnd r (λ x. x ≡ e)
     → ((more : List model.Wanted) → Fails (breach (front ++ more) old) e)
     → MovesTo front old r following new
@@ -105,26 +103,6 @@ mark_wrong mark.Comma word.Closes s e = refl
 mark_wrong mark.Comma word.Comma s e = cc
 mark_wrong mark.Comma word.Other s e = refl
 
-pub mark_word : (m : Mark) (w : Word) → is_it m w ≡ true → word_view w ≡ word_by m
-mark_word mark.Opens (word.Name text) e = cc
-mark_word mark.Opens (word.Number digits) e = cc
-mark_word mark.Opens word.Opens e = refl
-mark_word mark.Opens word.Closes e = cc
-mark_word mark.Opens word.Comma e = cc
-mark_word mark.Opens word.Other e = cc
-mark_word mark.Closes (word.Name text) e = cc
-mark_word mark.Closes (word.Number digits) e = cc
-mark_word mark.Closes word.Opens e = cc
-mark_word mark.Closes word.Closes e = refl
-mark_word mark.Closes word.Comma e = cc
-mark_word mark.Closes word.Other e = cc
-mark_word mark.Comma (word.Name text) e = cc
-mark_word mark.Comma (word.Number digits) e = cc
-mark_word mark.Comma word.Opens e = cc
-mark_word mark.Comma word.Closes e = cc
-mark_word mark.Comma word.Comma e = refl
-mark_word mark.Comma word.Other e = cc
-
 -- the numbers of a text are digits
 written : (k : TokenKind) (t : List ℕ) → is_token k t ≡ true → is_written k t ≡ true
 written kinds.Number [] e = cc
@@ -143,30 +121,6 @@ all_digits text (Whole t ∷ items) all = both (is_written t.kind t.text) (are_d
     (written t.kind t.text all.0.1) (all_digits text items all.1)
 all_digits text (Bad f ∷ items) all = all_digits text items all.1
 
-first_true : (a b : Bool) → (a && b) ≡ true → a ≡ true
-first_true true b e = refl
-first_true false b e = cc
-
-second_true : (a b : Bool) → (a && b) ≡ true → b ≡ true
-second_true true b e = e
-second_true false b e = cc
-
-number_digits : (k : TokenKind) (t : List ℕ) → is_written k t ≡ true → k ≡ kinds.Number
-    → AllPass is_ascii_digit t
-number_digits kinds.Number t e same = AllPass-from_list_all is_ascii_digit t e
-number_digits kinds.Name t e same = cc
-number_digits kinds.Symbol t e same = cc
-
-pub digits_first : (items rest : List Item) (t : Lexeme) → are_digits items ≡ true
-    → items ≡ Whole t ∷ rest → t.kind ≡ kinds.Number → AllPass is_ascii_digit t.text
-digits_first items rest t all e = number_digits t.kind t.text
-    (first_true (is_written t.kind t.text) (are_digits rest) (sym (ap are_digits e) ∙ all))
-
-pub digits_rest : (items rest : List Item) (t : Lexeme) → are_digits items ≡ true
-    → items ≡ Whole t ∷ rest → are_digits rest ≡ true
-digits_rest items rest t all e = second_true (is_written t.kind t.text) (are_digits rest)
-    (sym (ap are_digits e) ∙ all)
-
 -- what a query begins with
 pub start_is : (w : Word) (s : model.Begun) (found : Option model.Lead) → lead_at w ≡ found
     → model.step model.Start s (word_view w) ≡ model.started s found
@@ -179,8 +133,8 @@ start_is word.Other s found e = ap (model.started s) e
 
 fits_case : (s : model.Begun) (l : model.Lead) (b : Bool)
     → model.fits (model.with_lead s l) ≡ b → model.started s (Some l)
-    ≡ cond b (Ok (model.following l, model.with_lead s l)) (Err kind.TooMany)
-fits_case s l b e = ap (λ x. cond x (Ok (model.following l, model.with_lead s l)) (Err
+    ≡ cond b (Ok (model.wanted_after l, model.with_lead s l)) (Err kind.TooMany)
+fits_case s l b e = ap (λ x. cond x (Ok (model.wanted_after l, model.with_lead s l)) (Err
     kind.TooMany)) e
 
 pub start_goes : (w : Word) (old mid new : ParserView) (at : ℕ) (l : model.Lead)
@@ -188,14 +142,14 @@ pub start_goes : (w : Word) (old mid new : ParserView) (at : ℕ) (l : model.Lea
     → model.fits (model.with_lead mid.begun l) ≡ true
     → new.begun ≡ model.with_lead mid.begun l → new.pieces ≡ mid.pieces
     → (more : List model.Wanted)
-    → breach (model.Start ∷ more) old ≡ breach (model.following l ++ more) new
+    → breach (model.Start ∷ more) old ≡ breach (model.wanted_after l ++ more) new
 start_goes w old mid new at l took found fits begun pieces more =
-    goes old new (word_view w) at model.Start (model.following l)
+    goes old new (word_view w) at model.Start (model.wanted_after l)
     (took.pieces ∙ ap (λ (ps : List model.Piece). (at, word_view w) ∷ ps) (sym pieces))
     (start_is w old.begun (Some l) found
     ∙ ap (λ s. model.started s (Some l)) (sym took.begun)
     ∙ fits_case mid.begun l true fits
-    ∙ ap (λ s. Ok (model.following l, s)) (sym begun)) more
+    ∙ ap (λ s. Ok (model.wanted_after l, s)) (sym begun)) more
 
 pub start_full : (w : Word) (old mid : ParserView) (at : ℕ) (l : model.Lead)
     → Took (word_view w) at old mid → lead_at w ≡ Some l

@@ -6,14 +6,14 @@ use Rattle.std.specs.Char.{is_ascii_digit}
 use Rattle.std.specs.List.{AllPass}
 use Rattle.std.specs.Str.Parse.{digits_value}
 use Rattle.scan_model.specs.Texts as model
-use Rattle.scan_model.specs.TextLaws.{words_of}
+use Rattle.scan_model.specs.TextLaws.{bare_words}
 use Rattle.scan_query.specs.declared.reading.Lead.{Lead}
 use Rattle.scan_query.specs.declared.reading.Lead.TheVariants as lead
 use Rattle.scan_query.specs.declared.reading.Mark.{Mark}
 use Rattle.scan_query.specs.declared.reading.Mark.TheVariants as mark
 use Rattle.scan_query.specs.declared.parser.Parser.{Parser}
-use Rattle.scan_query.specs.declared.reading.Stop.{Stop}
-use Rattle.scan_query.specs.declared.reading.Stop.TheVariants as stop
+use Rattle.scan_query.specs.declared.reading.ReadError.{ReadError}
+use Rattle.scan_query.specs.declared.reading.ReadError.TheVariants as stop
 use Rattle.scan_query.specs.declared.reading.Taken.{Taken}
 use Rattle.scan_query.specs.declared.reading.Word.{Word}
 use Rattle.scan_query.specs.declared.reading.Word.TheVariants as word
@@ -45,7 +45,7 @@ lead_of lead.Ors = model.Ors
 
 -- what is wanted after the beginning of a query
 abbrev pub after_lead : Lead → List model.Wanted
-after_lead l = model.following (lead_of l)
+after_lead l = model.wanted_after (lead_of l)
 
 -- which beginning of a query a token is
 abbrev pub lead_at : Word → Option model.Lead
@@ -104,34 +104,34 @@ seen p = record { begun = begun_by p; pieces = map model.piece_of p.lexer }
 
 -- the tokens that are left, without their places
 abbrev pub left : ParserView → List model.Word
-left r = words_of r.pieces
+left r = bare_words r.pieces
 
 -- the first token that breaks a rule, where all this is wanted
 abbrev pub breach : List model.Wanted → ParserView → Option model.Breach
 breach wanted r = model.breach_of wanted r.begun r.pieces
 
 -- a fault that is told is the one that was found; want of memory may come of any text
-abbrev pub Fails : Option model.Breach → Stop → Type 0
+abbrev pub Fails : Option model.Breach → ReadError → Type 0
 Fails found stop.Memory = Unit {0}
 Fails found (stop.Breach at kind) = found ≡ Some (record { at = at; kind = kind })
 
 -- Where front is wanted first, and whatever is wanted after it, what was left is as good as what
 -- is left where following x is wanted first; or one of the tokens breaks a rule, which is the
 -- answer.
-abbrev pub MovesTo : {A : Type 0} → List model.Wanted → ParserView → Result A Stop
+abbrev pub MovesTo : {A : Type 0} → List model.Wanted → ParserView → Result A ReadError
     → (A → List model.Wanted) → ParserView → Type 0
 MovesTo front old (Ok x) following new = (wanted : List model.Wanted)
     → breach (front ++ wanted) old ≡ breach (following x ++ wanted) new
 MovesTo front old (Err e) following new = (wanted : List model.Wanted)
     → Fails (breach (front ++ wanted) old) e
 
--- the same where all of front is read
-abbrev pub Moves : {A : Type 0} → List model.Wanted → ParserView → Result A Stop → ParserView
+-- all of front is read, or one of the tokens breaks a rule, which is the answer
+abbrev pub Moves : {A : Type 0} → List model.Wanted → ParserView → Result A ReadError → ParserView
     → Type 0
 Moves front old r new = MovesTo front old r (λ x. []) new
 
 -- no rule is broken, or this is the first token that breaks one
-abbrev pub Finds : {A : Type 0} → Option model.Breach → Result A Stop → Type 0
+abbrev pub Finds : {A : Type 0} → Option model.Breach → Result A ReadError → Type 0
 Finds found (Ok x) = found ≡ None
 Finds found (Err e) = Fails found e
 
@@ -145,7 +145,7 @@ pub record Took (word : model.Word) (at : ℕ) (old new : ParserView) : Type 0 w
   pub begun : new.begun ≡ old.begun
 
 -- One token was taken, or it is at fault whatever is wanted later.
-abbrev pub Takes : ParserView → Result Taken Stop → ParserView → Type 0
+abbrev pub Takes : ParserView → Result Taken ReadError → ParserView → Type 0
 Takes old (Ok t) new = Took (word_view t.word) t.at old new
 Takes old (Err e) new = (want : model.Wanted) (more : List model.Wanted)
     → Fails (breach (want ∷ more) old) e

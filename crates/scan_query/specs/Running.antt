@@ -57,7 +57,7 @@ pub record StoppedAt (why : Why) (script : List Instruction) (m : Machine) (chip
   pub did : Did (events_of_pieces (geometry_of m) (operations_by m) (turn_in m) (table_in m)
       (map piece_of before)) chip chip'
 
--- they were done, or one was refused, or the chip failed
+-- the instructions were done, or one was refused, or the chip failed
 abbrev pub Runs : List Instruction → Machine → Machine → ChipView → ChipView
     → Result (Option Why) ChipFault → Type 0
 Runs script old new chip chip' (Ok None) = Ran script old new chip chip'

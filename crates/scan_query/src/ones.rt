@@ -71,6 +71,7 @@ fn ones_of_row<D: Dram>(
     requires room { (D.view dram.old).counters.reads < 2 ^ 63 }
     ensures borrow { D.borrow dram.new ≡ D.borrow dram.old }
     ensures kept { Kept (D.view dram.old) (D.view dram.new) }
+    ensures stage { length words.new ≡ length words.old }
     ensures ones { IfOk result (λ n. n ≡ count_by (λ b. b)
         (take columns (row_in row ((D.view dram.old).banks bank)))) }
     ensures few { IfOk result (λ n. n ≤ 65536) }
@@ -98,6 +99,7 @@ pub(crate) fn ones_of<D: Dram>(
     requires room { (D.view dram.old).counters.reads < 2 ^ 62 }
     ensures borrow { D.borrow dram.new ≡ D.borrow dram.old }
     ensures kept { Kept (D.view dram.old) (D.view dram.new) }
+    ensures stage { length stage.new ≡ length stage.old }
     ensures ones { IfOk result (λ n. n ≡ count_by (λ v. v == 1)
         (take object.count (columns g (D.view dram.old).banks object))) }
     ensures did { OnOk result (DidRead (segments g object) (D.view dram.old) (D.view dram.new)) }

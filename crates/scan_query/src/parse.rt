@@ -4,7 +4,7 @@ ghost use Rattle.std.specs.Prelude.{◌≡◌, ◌+◌, ◌<◌, ◌≤◌, [], 
 ghost use Rattle.std.specs.Prelude.{◌++◌, codes, length, map, IfOk, OnOk};
 ghost use Rattle.std.specs.Prelude.{IfErr, ◌^◌};
 ghost use Rattle.scan_model.specs.Texts as model;
-ghost use Rattle.scan_query.specs.declared.reading.Stop.TheVariants as stop;
+ghost use Rattle.scan_query.specs.declared.reading.ReadError.TheVariants as stop;
 ghost use Rattle.scan_query.specs.Parsing.{IsQueryOf, Parses};
 ghost use Rattle.scan_query.specs.Queries.{node_of};
 ghost use Rattle.scan_query.specs.Reading.{Finds, Moves, Reads, join_node, join_text, left, seen};
@@ -12,12 +12,12 @@ ghost use Rattle.scan_query.specs.Reading.{Finds, Moves, Reads, join_node, join_
 use crate::lines::line_of;
 use crate::parser::Parser;
 use crate::query::{Node, Query, QueryNo};
-use crate::reading::{Lead, Mark, Stop, begins, bound, ends, object, start, symbol};
+use crate::reading::{Lead, Mark, ReadError, begins, bound, ends, object, start, symbol};
 use scan_model::{CmpOp, QueryFault, texts_spell_queries};
 use std::alloc::Global;
 
 /// Puts a node after the others; answers its place.
-fn push(nodes: &mut Vec<Node>, node: Node) -> Result<u8, Stop>
+fn push(nodes: &mut Vec<Node>, node: Node) -> Result<u8, ReadError>
     requires { length nodes.old.items < 64 }
     ensures last { IfOk result (λ k. k ≡ length nodes.old.items) }
     ensures nodes { OnOk result (nodes.new.items ≡ nodes.old.items ++ node ∷ []) }
@@ -29,10 +29,10 @@ fn push(nodes: &mut Vec<Node>, node: Node) -> Result<u8, Stop>
 }
 
 /// A comparison, after its first word.
-fn test(parser: &mut Parser<'_>, op: CmpOp, nodes: &mut Vec<Node>) -> Result<u8, Stop>
+fn test(parser: &mut Parser<'_>, op: CmpOp, nodes: &mut Vec<Node>) -> Result<u8, ReadError>
     requires few { length nodes.old.items < parser.old.nodes }
     requires limit { parser.old.nodes ≤ 64 }
-    ensures moves { Moves (model.following (model.Compares op)) (seen parser.old) result
+    ensures moves { Moves (model.wanted_after (model.Compares op)) (seen parser.old) result
         (seen parser.new) }
     ensures reads { IfOk result (λ k. Reads (model.Name (model.lead_text (model.Compares op))
         ∷ left (seen parser.old)) k (seen parser.new) (map node_of nodes.old.items)
@@ -63,10 +63,10 @@ fn join_of(both: bool, a: u8, b: u8) -> Node
 
 /// What stands after `not`.
 #[cycle(queries)]
-fn negation(parser: &mut Parser<'_>, nodes: &mut Vec<Node>) -> Result<u8, Stop>
+fn negation(parser: &mut Parser<'_>, nodes: &mut Vec<Node>) -> Result<u8, ReadError>
     requires few { length nodes.old.items < parser.old.nodes }
     requires limit { parser.old.nodes ≤ 64 }
-    ensures moves { Moves (model.following model.Negates) (seen parser.old) result
+    ensures moves { Moves (model.wanted_after model.Negates) (seen parser.old) result
         (seen parser.new) }
     ensures reads { IfOk result (λ k. Reads (model.Name (codes "not") ∷ left (seen parser.old)) k
         (seen parser.new) (map node_of nodes.old.items) (map node_of nodes.new.items)) }
@@ -84,10 +84,11 @@ fn negation(parser: &mut Parser<'_>, nodes: &mut Vec<Node>) -> Result<u8, Stop>
 
 /// What stands after `and` or `or`.
 #[cycle(queries)]
-fn join(parser: &mut Parser<'_>, both: bool, nodes: &mut Vec<Node>) -> Result<u8, Stop>
+fn join(parser: &mut Parser<'_>, both: bool, nodes: &mut Vec<Node>) -> Result<u8, ReadError>
     requires few { length nodes.old.items < parser.old.nodes }
     requires limit { parser.old.nodes ≤ 64 }
-    ensures moves { Moves (model.following model.Ands) (seen parser.old) result (seen parser.new) }
+    ensures moves { Moves (model.wanted_after model.Ands) (seen parser.old) result
+        (seen parser.new) }
     ensures reads { IfOk result (λ k. Reads (model.Name (join_text both) ∷ left (seen parser.old)) k
         (seen parser.new) (map node_of nodes.old.items) (map node_of nodes.new.items)) }
     ensures grown { OnOk result (parser.new.nodes + length nodes.old.items + 1
@@ -106,7 +107,7 @@ fn join(parser: &mut Parser<'_>, both: bool, nodes: &mut Vec<Node>) -> Result<u8
 
 /// A query, whose nodes are put after the others; answers the place of its last.
 #[cycle(queries)]
-pub(crate) fn query(parser: &mut Parser<'_>, nodes: &mut Vec<Node>) -> Result<u8, Stop>
+pub(crate) fn query(parser: &mut Parser<'_>, nodes: &mut Vec<Node>) -> Result<u8, ReadError>
     requires few { length nodes.old.items ≤ parser.old.nodes }
     requires limit { parser.old.nodes ≤ 64 }
     ensures moves { Moves (model.Start ∷ []) (seen parser.old) result (seen parser.new) }
@@ -127,7 +128,7 @@ pub(crate) fn query(parser: &mut Parser<'_>, nodes: &mut Vec<Node>) -> Result<u8
 }
 
 /// The nodes of a whole text.
-fn whole(text: &[u8], alloc: Global) -> Result<Vec<Node>, Stop>
+fn whole(text: &[u8], alloc: Global) -> Result<Vec<Node>, ReadError>
     ensures finds { Finds (model.first_breach text.now) result }
     ensures nodes { IfOk result (λ v. IsQueryOf text.now (map node_of v.items)) }
 {
@@ -147,8 +148,8 @@ pub fn parse_query(text: &[u8], alloc: Global) -> Result<Query, QueryNo>
 {
     match whole(text, alloc) {
         Ok(nodes) => Ok(Query { nodes }),
-        Err(Stop::Memory) => Err(QueryNo::NoMemory),
-        Err(Stop::Breach(at, kind)) => Err(QueryNo::Fault(QueryFault {
+        Err(ReadError::Memory) => Err(QueryNo::NoMemory),
+        Err(ReadError::Breach(at, kind)) => Err(QueryNo::Fault(QueryFault {
             line: line_of(text, at),
             kind,
         })),

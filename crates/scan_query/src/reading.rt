@@ -7,7 +7,7 @@ ghost use Rattle.std.specs.Char.{is_ascii_digit};
 ghost use Rattle.std.specs.List.{AllPass};
 ghost use Rattle.text_lex.specs.declared.token.TokenKind.TheVariants as kinds;
 ghost use Rattle.scan_model.specs.Texts as model;
-ghost use Rattle.scan_query.specs.declared.reading.Stop.TheVariants as stop;
+ghost use Rattle.scan_query.specs.declared.reading.ReadError.TheVariants as stop;
 ghost use Rattle.scan_query.specs.Reading.{Finds, IsNumber, Moves};
 ghost use Rattle.scan_query.specs.Reading.{MovesTo, Takes, breach, start_of};
 ghost use Rattle.scan_query.specs.Reading.{begun_by, after_lead, is_it};
@@ -21,17 +21,17 @@ use text_lex::{Lexer, Name, Token, TokenKind, items_are_right, number};
 
 /// Why reading ends early.
 #[derive(Drop)]
-pub(crate) enum Stop {
+pub(crate) enum ReadError {
     Memory,
     /// The token at this place breaks a rule, or the end of the text does.
     Breach(Option<usize>, QueryKind),
 }
 
-impl<T: Drop> From<AllocFailed<T>> for Stop {
+impl<T: Drop> From<AllocFailed<T>> for ReadError {
     ghost from_gives = { λ _ e. e ≡ stop.Memory };
 
-    fn from(_e: AllocFailed<T>) -> Stop {
-        Stop::Memory
+    fn from(_e: AllocFailed<T>) -> ReadError {
+        ReadError::Memory
     }
 }
 
@@ -109,7 +109,7 @@ fn word_of(token: Token<'_>) -> Word<'_>
 }
 
 /// The next token.
-fn next<'a>(parser: &mut Parser<'a>) -> Result<Taken<'a>, Stop>
+fn next<'a>(parser: &mut Parser<'a>) -> Result<Taken<'a>, ReadError>
     ensures takes { Takes (seen parser.old) result (seen parser.new) }
     ensures number { IfOk result (λ t. IsNumber t.word) }
 {
@@ -119,9 +119,9 @@ fn next<'a>(parser: &mut Parser<'a>) -> Result<Taken<'a>, Stop>
                 word: word_of(token),
                 at: token.start,
             }),
-            None => Err(Stop::Breach(None, QueryKind::Syntax)),
+            None => Err(ReadError::Breach(None, QueryKind::Syntax)),
         },
-        Err(fault) => Err(Stop::Breach(Some(fault.at), QueryKind::Lex)),
+        Err(fault) => Err(ReadError::Breach(Some(fault.at), QueryKind::Lex)),
     }
 }
 
@@ -136,7 +136,7 @@ fn is_it(mark: Mark, word: Word<'_>) -> bool
 }
 
 /// This symbol.
-pub(crate) fn symbol(parser: &mut Parser<'_>, mark: Mark) -> Result<(), Stop>
+pub(crate) fn symbol(parser: &mut Parser<'_>, mark: Mark) -> Result<(), ReadError>
     ensures moves { Moves (wanted_by mark ∷ []) (seen parser.old) result (seen parser.new) }
     ensures spells { OnOk result (left (seen parser.old) ≡ word_by mark ∷ left (seen parser.new)) }
     ensures nodes { OnOk result (parser.new.nodes ≡ parser.old.nodes) }
@@ -145,7 +145,7 @@ pub(crate) fn symbol(parser: &mut Parser<'_>, mark: Mark) -> Result<(), Stop>
     if is_it(mark, token.word) {
         Ok(())
     } else {
-        Err(Stop::Breach(Some(token.at), QueryKind::Syntax))
+        Err(ReadError::Breach(Some(token.at), QueryKind::Syntax))
     }
 }
 
@@ -216,7 +216,7 @@ fn begin(parser: &mut Parser<'_>, lead: Lead) -> bool
 }
 
 /// What a query begins with.
-pub(crate) fn begins(parser: &mut Parser<'_>) -> Result<Lead, Stop>
+pub(crate) fn begins(parser: &mut Parser<'_>) -> Result<Lead, ReadError>
     ensures moves { MovesTo (model.Start ∷ []) (seen parser.old) result after_lead
         (seen parser.new) }
     ensures spells { IfOk result (λ l. left (seen parser.old)
@@ -226,12 +226,12 @@ pub(crate) fn begins(parser: &mut Parser<'_>) -> Result<Lead, Stop>
 {
     let token = next(parser)?;
     let Some(lead) = lead_at(token.word) else {
-        return Err(Stop::Breach(Some(token.at), QueryKind::Syntax));
+        return Err(ReadError::Breach(Some(token.at), QueryKind::Syntax));
     };
     if begin(parser, lead) {
         Ok(lead)
     } else {
-        Err(Stop::Breach(Some(token.at), QueryKind::TooMany))
+        Err(ReadError::Breach(Some(token.at), QueryKind::TooMany))
     }
 }
 
@@ -256,7 +256,7 @@ fn name_at(word: Word<'_>) -> Result<Name, QueryKind>
 }
 
 /// A name.
-pub(crate) fn object(parser: &mut Parser<'_>) -> Result<Name, Stop>
+pub(crate) fn object(parser: &mut Parser<'_>) -> Result<Name, ReadError>
     ensures moves { Moves (model.Object ∷ []) (seen parser.old) result (seen parser.new) }
     ensures spells { IfOk result (λ name. left (seen parser.old)
         ≡ model.Name name ∷ left (seen parser.new)) }
@@ -265,7 +265,7 @@ pub(crate) fn object(parser: &mut Parser<'_>) -> Result<Name, Stop>
     let token = next(parser)?;
     match name_at(token.word) {
         Ok(name) => Ok(name),
-        Err(kind) => Err(Stop::Breach(Some(token.at), kind)),
+        Err(kind) => Err(ReadError::Breach(Some(token.at), kind)),
     }
 }
 
@@ -291,7 +291,7 @@ fn value_at(word: Word<'_>) -> Result<u128, QueryKind>
 }
 
 /// A number.
-pub(crate) fn bound(parser: &mut Parser<'_>) -> Result<u128, Stop>
+pub(crate) fn bound(parser: &mut Parser<'_>) -> Result<u128, ReadError>
     ensures moves { Moves (model.Bound ∷ []) (seen parser.old) result (seen parser.new) }
     ensures spells { IfOk result (λ v. left (seen parser.old)
         ≡ model.Number v ∷ left (seen parser.new)) }
@@ -300,20 +300,20 @@ pub(crate) fn bound(parser: &mut Parser<'_>) -> Result<u128, Stop>
     let token = next(parser)?;
     match value_at(token.word) {
         Ok(value) => Ok(value),
-        Err(kind) => Err(Stop::Breach(Some(token.at), kind)),
+        Err(kind) => Err(ReadError::Breach(Some(token.at), kind)),
     }
 }
 
 /// The end of the text.
-pub(crate) fn ends(parser: &mut Parser<'_>) -> Result<(), Stop>
+pub(crate) fn ends(parser: &mut Parser<'_>) -> Result<(), ReadError>
     ensures finds { Finds (breach [] (seen parser.old)) result }
     ensures nothing { OnOk result (left (seen parser.old) ≡ []) }
 {
     match parser.lexer.next() {
         Ok(found) => match found {
-            Some(token) => Err(Stop::Breach(Some(token.start), QueryKind::Syntax)),
+            Some(token) => Err(ReadError::Breach(Some(token.start), QueryKind::Syntax)),
             None => Ok(()),
         },
-        Err(fault) => Err(Stop::Breach(Some(fault.at), QueryKind::Lex)),
+        Err(fault) => Err(ReadError::Breach(Some(fault.at), QueryKind::Lex)),
     }
 }

@@ -108,6 +108,7 @@ pub fn run_query<D: Dram>(
     requires room { AreBelow (2 ^ 61) (D.view dram.old).counters }
     ensures borrow { D.borrow dram.new ≡ D.borrow dram.old }
     ensures kept { Kept (D.view dram.old) (D.view dram.new) }
+    ensures stage { length stage.new ≡ length stage.old }
     ensures answer { IfOk result (λ reply. (t : model.Query) → IsNodesOf t (nodes_in query.now)
         → answer_of reply ≡ answer (geometry_of machine.old) (operations_by machine.old)
         (D.view dram.old).banks (table_in machine.old) t) }

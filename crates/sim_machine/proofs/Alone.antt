@@ -21,7 +21,7 @@ use Rattle.machine_model.specs.Steps.{job_of}
 use Rattle.object_steps.specs.declared.fault.StepFault.{StepFault}
 use Rattle.object_steps.specs.declared.fault.StepFault.TheVariants.{ChipFault, WriteFault}
 use Rattle.sim_machine.specs.declared.machine.Machine.{Machine}
-use Rattle.sim_machine.specs.Machine.{banks_by, events_by, geometry_of, is_print, line_of, lines_of}
+use Rattle.sim_machine.specs.Machine.{banks_by, events_by, geometry_of, is_print, reply_line, lines_of}
 use Rattle.sim_machine.specs.Machine.{operations_by, queues_by, reads_by}
 use Rattle.sim_machine.specs.Machine.{reply_of, moved_table, table_in}
 use Rattle.sim_machine.specs.Machine.{turn_by_piece, turn_in}
@@ -84,7 +84,7 @@ module _ (old new : Machine) (number : ℕ) (instr : Instruction) (wave : List I
     (chip chip' : ChipView) (sink sink' : SinkView) (is : wave ≡ instr ∷ [])
     (bbop : is_bbop instr ≡ true)
   where
-    one_line : lines_of old number wave ≡ line_of old number chip.banks instr
+    one_line : lines_of old number wave ≡ reply_line old number chip.banks instr
     one_line = ap (lines_of old number) is
         ∙ append-nil (line number (Answered (reply_of old instr)))
         ∙ ap (line number) (sym (said_answered (reply_of old instr) instr _
@@ -119,6 +119,7 @@ module _ (old new : Machine) (number : ℕ) (instr : Instruction) (wave : List I
     }
 
     pub bbop_failed : (fault : StepFault) → table_in new ≡ table_in old
+        → (fault ≡ WriteFault → turn_in new ≡ turn_by_piece old (Wave wave))
         → (fault ≡ ChipFault
         → StoppedAmong (events_by old (Wave wave)) (queues_by old wave) chip chip')
         → (fault ≡ ChipFault → sink' ≡ sink)
@@ -127,8 +128,9 @@ module _ (old new : Machine) (number : ℕ) (instr : Instruction) (wave : List I
         → (fault ≡ WriteFault
         → Known (AppendsPart (lines_of old number wave)) sink.sent sink'.sent)
         → Comes old new number instr chip chip' sink sink' (Err fault)
-    bbop_failed ChipFault table stopped same did rose part = record {
+    bbop_failed ChipFault table turn stopped same did rose part = record {
       table = table;
+      turn = λ e. absurd (cc (e, bbop));
       failed = stopped_below (geometry_of old).banks (turn_in old)
           (jobs_of (geometry_of old) (operations_by old) (table_in old) wave) chip chip'
           (banks_by old instr) (stopped refl) (jobs_below old wave (banks_by old instr)
@@ -136,12 +138,13 @@ module _ (old new : Machine) (number : ℕ) (instr : Instruction) (wave : List I
           (omega arith, tt)));
       stopped = λ e. stopped_alone (stopped refl);
       unsent = λ e. same refl;
-      part = subst (λ (s : SinkView). Known (AppendsPart (line_of old number chip.banks instr))
+      part = subst (λ (s : SinkView). Known (AppendsPart (reply_line old number chip.banks instr))
           sink.sent s.sent) (sym (same refl)) (no_part _ sink.sent);
     }
-    bbop_failed WriteFault table stopped same did rose part =
+    bbop_failed WriteFault table turn stopped same did rose part =
         let all = did_alone (did refl) in record {
           table = table;
+          turn = turn refl ∙ ap (turn_by_piece old) same_piece;
           did = λ e. all;
           read = λ e. absurd (cc (e, shows_none instr bbop));
           rose = rose refl;

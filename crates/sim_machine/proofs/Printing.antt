@@ -27,7 +27,7 @@ use Rattle.object_steps.specs.Lines.{DidReadAtMost, printed_line}
 use Rattle.object_steps.specs.declared.fault.StepFault.{StepFault}
 use Rattle.object_steps.specs.declared.fault.StepFault.TheVariants.{ChipFault, WriteFault}
 use Rattle.sim_machine.specs.declared.machine.Machine.{Machine}
-use Rattle.sim_machine.specs.Machine.{banks_by, events_by, geometry_of, line_of, line_shown}
+use Rattle.sim_machine.specs.Machine.{banks_by, events_by, geometry_of, reply_line, line_shown}
 use Rattle.sim_machine.specs.Machine.{operations_by}
 use Rattle.sim_machine.specs.Machine.{reads_by, reply_of, table_in, turn_in}
 use Rattle.sim_machine.specs.Outcome.{Comes, Stepped, StoppedBySink}
@@ -74,12 +74,12 @@ module _ (old new : Machine) (number : ℕ) (name : List ℕ) (chip chip' : Chip
         (sym none_else) (record { banks = did.banks; counters = did.counters; log = did.log })
 
     whole_line : refusal (geometry_of old) (operations_by old) (table_in old) (Print name) ≡ None
-        → shown_line ≡ line_of old number chip.banks (Print name)
+        → shown_line ≡ reply_line old number chip.banks (Print name)
     whole_line e = shown number name _ _ _ e
 
     refused_line : (reply : Reply) (w : Why) → reply ≡ reply_of old (Print name)
         → reply ≡ Refused w
-        → line number (Answered reply) ≡ line_of old number chip.banks (Print name)
+        → line number (Answered reply) ≡ reply_line old number chip.banks (Print name)
     refused_line reply w e h = ap (λ r. line number (Answered r)) e
         ∙ ap (line number) (sym (refused_said name (reply_of old (Print name)) w _ (sym e ∙ h)))
 
@@ -111,7 +111,7 @@ module _ (old new : Machine) (number : ℕ) (name : List ℕ) (chip chip' : Chip
       did = did_read did;
       sent = Known-trans {R = λ x y. y ≡ x ++ shown_line}
           {S = λ x y. y ≡ x ++ line number (Answered reply)}
-          {U = λ x y. y ≡ x ++ line_of old number chip.banks (Print name)}
+          {U = λ x y. y ≡ x ++ reply_line old number chip.banks (Print name)}
           sink.sent between.sent sink'.sent
           (λ x y z p q. q
           ∙ ap (λ t. t ++ line number (Answered reply))
@@ -120,15 +120,17 @@ module _ (old new : Machine) (number : ℕ) (name : List ℕ) (chip chip' : Chip
     }
 
     pub print_unsent : (reply : Reply) (w : Why) (between : SinkView)
-        → table_in new ≡ table_in old → reply ≡ reply_of old (Print name) → reply ≡ Refused w
+        → table_in new ≡ table_in old → turn_in new ≡ turn_in old
+        → reply ≡ reply_of old (Print name) → reply ≡ Refused w
         → DidRead (reads_by old (Print name)) chip chip'
         → sink.faults ≤ between.faults
         → Known (λ x y. y ≡ x ++ shown_line) sink.sent between.sent
         → Rose between.faults sink'.faults
         → Known (AppendsPart (line number (Answered reply))) between.sent sink'.sent
         → StoppedBySink old new number (Print name) chip chip' sink sink'
-    print_unsent reply w between table e h did before first rose sent = record {
+    print_unsent reply w between table turn e h did before first rose sent = record {
       table = table;
+      turn = turn;
       did = λ p. absurd (cc);
       read = λ p. record {
         rows = reads_by old (Print name);
@@ -138,7 +140,7 @@ module _ (old new : Machine) (number : ℕ) (name : List ℕ) (chip chip' : Chip
       rose = omega (arith, before, rose);
       part = Known-trans {R = λ x y. y ≡ x ++ shown_line}
           {S = AppendsPart (line number (Answered reply))}
-          {U = AppendsPart (line_of old number chip.banks (Print name))}
+          {U = AppendsPart (reply_line old number chip.banks (Print name))}
           sink.sent between.sent sink'.sent
           (λ x y z p q. subst (λ t. AppendsPart t x z) (refused_line reply w e h)
           (subst (λ t. AppendsPart (line number (Answered reply)) t z)
@@ -146,6 +148,7 @@ module _ (old new : Machine) (number : ℕ) (name : List ℕ) (chip chip' : Chip
     }
 
     pub print_failed : (fault : StepFault) → table_in new ≡ table_in old
+        → turn_in new ≡ turn_in old
         → refusal (geometry_of old) (operations_by old) (table_in old) (Print name) ≡ None
         → Known (AppendsPart shown_line) sink.sent sink'.sent
         → (fault ≡ ChipFault → FailedBelow (banks_by old (Print name)) chip chip')
@@ -153,15 +156,17 @@ module _ (old new : Machine) (number : ℕ) (name : List ℕ) (chip chip' : Chip
         → (fault ≡ WriteFault
         → DidReadAtMost (rows_printed (geometry_of old) (table_in old) (Print name)) chip chip')
         → Comes old new number (Print name) chip chip' sink sink' (Err fault)
-    print_failed ChipFault table allowed part failed rose read = record {
+    print_failed ChipFault table turn allowed part failed rose read = record {
       table = table;
+      turn = λ e. turn;
       failed = failed refl;
       stopped = λ p. absurd (cc);
       unsent = λ p. absurd (cc);
       part = subst (λ t. Known (AppendsPart t) sink.sent sink'.sent) (whole_line allowed) part;
     }
-    print_failed WriteFault table allowed part failed rose read = record {
+    print_failed WriteFault table turn allowed part failed rose read = record {
       table = table;
+      turn = turn;
       did = λ p. absurd (cc);
       read = λ p. subst (λ n. DidReadAtMost n chip chip') (sym (all_rows _ _ allowed)) (read refl);
       rose = rose refl;

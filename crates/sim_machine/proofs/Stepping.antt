@@ -34,7 +34,7 @@ use Rattle.machine_model.specs.Script.{is_bbop}
 use Rattle.machine_model.specs.Steps.{if_done, reply_by, reply_to, table_after}
 use Rattle.object_steps.specs.Objects.{events_alone}
 use Rattle.sim_machine.specs.declared.machine.Machine.{Machine}
-use Rattle.sim_machine.specs.Machine.{banks_by, events_by, geometry_of, is_print, line_of}
+use Rattle.sim_machine.specs.Machine.{banks_by, events_by, geometry_of, is_print, reply_line}
 use Rattle.sim_machine.specs.Machine.{operations_by, reads_by, reply_of, moved_table, table_in}
 use Rattle.sim_machine.specs.Machine.{leaves_table, turn_by_piece, turn_in}
 use Rattle.machine_model.proofs.First.{look_up-some}
@@ -101,7 +101,7 @@ module _ (old new : Machine) (number : ℕ) (instr : Instruction) (chip chip' : 
         (sym (alone instr bbop)) (did_only _ _ chip chip' (reads_none old instr print) did)
 
     answered : (reply : Reply) → reply ≡ reply_of old instr
-        → line number (Answered reply) ≡ line_of old number chip.banks instr
+        → line number (Answered reply) ≡ reply_line old number chip.banks instr
     answered reply e = ap (λ r. line number (Answered r)) e
         ∙ ap (line number) (sym (said_answered (reply_of old instr) instr _ print))
 
@@ -120,26 +120,29 @@ module _ (old new : Machine) (number : ℕ) (instr : Instruction) (chip chip' : 
           sent;
     }
 
-    pub failed_alone : table_in new ≡ table_in old
+    pub failed_alone : table_in new ≡ table_in old → turn_in new ≡ turn_in old
         → FailedBelow (banks_by old instr) chip chip' → sink' ≡ sink
         → StoppedByChip old new number instr chip chip' sink sink'
-    failed_alone table failed same = record {
+    failed_alone table turn failed same = record {
       table = table;
+      turn = λ e. turn;
       failed = failed;
       stopped = λ e. absurd (cc (e, bbop));
       unsent = λ e. same;
-      part = subst (λ (s : SinkView). Known (AppendsPart (line_of old number chip.banks instr))
+      part = subst (λ (s : SinkView). Known (AppendsPart (reply_line old number chip.banks instr))
           sink.sent s.sent) (sym same) (no_part _ sink.sent);
     }
 
     pub unsent_alone : (reply : Reply) → reply ≡ reply_of old instr → table_in new ≡ table_in old
+        → turn_in new ≡ turn_by_piece old (Alone instr)
         → Did (events_alone (geometry_of old) (operations_by old) (table_in old) instr) chip chip'
         → Rose sink.faults sink'.faults
         → Known (AppendsPart (line number (Answered reply))) sink.sent sink'.sent
         → StoppedBySink old new number instr chip chip' sink sink'
-    unsent_alone reply e table did rose sent =
+    unsent_alone reply e table turn did rose sent =
         let all = did_piece did in record {
           table = table;
+          turn = turn ∙ ap (turn_by_piece old) (sym (alone instr bbop));
           did = λ p. all;
           read = λ e. absurd (cc (e, print));
           rose = rose;

@@ -1,4 +1,5 @@
 -- What the machine does to a chip, and what it shows of itself.
+pub mod Walks
 pub mod Granted
 pub mod Opening
 pub mod Image

@@ -116,8 +116,8 @@ leaves_table (Print name) = false
 leaves_table (Free name) = false
 
 -- the line of an instruction
-abbrev pub line_of : Machine → ℕ → Banks → Instruction → List ℕ
-line_of m number banks instr = line number (said_of_step m banks instr)
+abbrev pub reply_line : Machine → ℕ → Banks → Instruction → List ℕ
+reply_line m number banks instr = line number (said_of_step m banks instr)
 
 -- the line of an object's values under another name
 abbrev pub line_shown : Machine → ℕ → Banks → (name shown : List ℕ) → List ℕ

@@ -16,7 +16,8 @@ use Rattle.object_steps.specs.declared.fault.StepFault.TheVariants.{ChipFault, W
 use Rattle.sim_machine.specs.declared.machine.Machine.{Machine}
 use Rattle.sim_machine.specs.Machine.{IsReady, geometry_of, program_of}
 use Rattle.sim_machine.specs.Machine.{table_in, turn_in, reply_of, moved_table, turn_by_piece}
-use Rattle.sim_machine.specs.Machine.{events_by, queues_by, reads_by, banks_by, is_print, line_of}
+use Rattle.sim_machine.specs.Machine.{events_by, queues_by, reads_by, banks_by, is_print}
+use Rattle.sim_machine.specs.Machine.{reply_line}
 use Rattle.sim_machine.specs.Steps.{DidAndRead}
 
 -- it was done, and its line was put
@@ -26,29 +27,32 @@ pub record Stepped (old new : Machine) (number : ℕ) (instr : Instruction) (chi
   pub table : table_in new ≡ moved_table old instr
   pub turn : turn_in new ≡ turn_by_piece old (piece_of instr)
   pub did : DidAndRead (events_by old (piece_of instr)) (reads_by old instr) chip chip'
-  pub sent : Known (λ before after. after ≡ before ++ line_of old number chip.banks instr)
+  pub sent : Known (λ before after. after ≡ before ++ reply_line old number chip.banks instr)
       sink.sent sink'.sent
 
 -- the chip failed: the banks past the destination's are as before, each bank of a bbop but the one
--- that failed has done the first of its commands, and of no line but a print's a part was put
+-- that failed has done the first of its commands, only in a bbop's wave did banks take turns, and
+-- of no line but a print's a part was put
 pub record StoppedByChip (old new : Machine) (number : ℕ) (instr : Instruction)
     (chip chip' : ChipView) (sink sink' : SinkView) : Type 0 where
   pub table : table_in new ≡ table_in old
+  pub turn : is_bbop instr ≡ false → turn_in new ≡ turn_in old
   pub failed : FailedBelow (banks_by old instr) chip chip'
   pub stopped : is_bbop instr ≡ true
       → StoppedAmong (events_by old (piece_of instr)) (queues_by old (instr ∷ [])) chip chip'
   pub unsent : is_print instr ≡ false → sink' ≡ sink
-  pub part : Known (AppendsPart (line_of old number chip.banks instr)) sink.sent sink'.sent
+  pub part : Known (AppendsPart (reply_line old number chip.banks instr)) sink.sent sink'.sent
 
 -- the sink failed: all was done, but of a print perhaps not each row was read
 pub record StoppedBySink (old new : Machine) (number : ℕ) (instr : Instruction)
     (chip chip' : ChipView) (sink sink' : SinkView) : Type 0 where
   pub table : table_in new ≡ table_in old
+  pub turn : turn_in new ≡ turn_by_piece old (piece_of instr)
   pub did : is_print instr ≡ false
       → DidAndRead (events_by old (piece_of instr)) (reads_by old instr) chip chip'
   pub read : is_print instr ≡ true → DidReadAtMost (reads_by old instr) chip chip'
   pub rose : Rose sink.faults sink'.faults
-  pub part : Known (AppendsPart (line_of old number chip.banks instr)) sink.sent sink'.sent
+  pub part : Known (AppendsPart (reply_line old number chip.banks instr)) sink.sent sink'.sent
 
 -- How an instruction went: it was done and told, or the chip or the sink failed.
 abbrev pub Comes : Machine → Machine → ℕ → Instruction → ChipView → ChipView → SinkView → SinkView

@@ -2,9 +2,7 @@
 
 ghost use Rattle.std.specs.Prelude.{◌≡◌, ◌+◌, ◌*◌, ◌<◌, ◌≤◌, ◌∷◌, ℕ, List, length, map, Some};
 ghost use Rattle.std.specs.Prelude.{None, OnOk, IfOk, IfErr, IfSome};
-ghost use Rattle.std.specs.List.{find};
 ghost use Rattle.std.specs.Option.{option_map, option_to_list};
-ghost use Rattle.std.specs.Str.{bytes_eq};
 ghost use Rattle.uprog_bin.specs.Opened.{code_of, program_of};
 ghost use Rattle.uprog_code.specs.Shape.{shape_of};
 ghost use Rattle.uprog_code.specs.Bound.{bound_of};
@@ -18,6 +16,7 @@ ghost use Rattle.object_steps.specs.Objects.{LiesOn};
 ghost use Rattle.sim_machine.specs.Granted.{IsGranted, granted_job, job_bound, said_bbop};
 
 use crate::refusal::{Bbop, Grant, allow, object_named, sources_of};
+use crate::walks::WalkedProgram;
 use arrayvec::ArrayVec;
 use bit_rows::WIDTH_MAX;
 use dram_model::Geometry;
@@ -25,21 +24,9 @@ use machine_model::Why;
 use object_alloc::Table;
 use object_steps::segments;
 use text_lex::Name;
-use uprog_bin::{Entry, ProgView};
+use uprog_bin::Entry;
 use uprog_code::{Binding, Counts, Fetch, Head, Kind, WALK_MAX};
 use uprog_ctl::Job;
-
-/// The entry of this name.
-pub(crate) fn entry_named<'a>(prog: &ProgView<'a>, op: &Name) -> Option<Entry<'a>>
-    ensures value { option_map program_of result
-        ≡ find (λ m. bytes_eq m.name op.now) prog.now.programs }
-    ensures legal { IfSome result (λ e. IsLegalCode e.shape (code_of e)) }
-{
-    match prog.find(op) {
-        Some(k) => Some(prog.entry(k)),
-        None => None,
-    }
-}
 
 /// The first rows of the sources.
 fn bases(table: &Table, kinds: &[Kind], srcs: &[Name]) -> ArrayVec<u16, 4>
@@ -126,7 +113,7 @@ fn times_counts(banks: u16, counts: Counts) -> Counts
 pub(crate) struct Setting<'s, 'p> {
     pub geometry: Geometry,
     pub table: &'s Table,
-    pub prog: &'s ProgView<'p>,
+    pub prog: &'s WalkedProgram<'p>,
 }
 
 /// The job of a bbop that is granted.
@@ -193,12 +180,13 @@ pub(crate) fn grant<'p>(
     ensures runs { IfOk result (λ granted. CanRun setting.now.geometry
         (job_bound granted.job)) }
 {
-    let found = match entry_named(setting.prog, op) {
+    let found = match setting.prog.find(op) {
         None => return Err(Why::NoOp),
         Some(found) => found,
     };
-    let grant = allow(setting.table, &found, bbop)?;
-    let job = job_for(setting, found, bbop, grant);
+    let walk = setting.prog.walk(&found, bbop.n);
+    let grant = allow(setting.table, &found.entry, walk, bbop)?;
+    let job = job_for(setting, found.entry, bbop, grant);
     let counts = times_counts(job.banks, grant.counts);
     Ok(Granted { counts, job })
 }

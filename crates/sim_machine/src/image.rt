@@ -8,7 +8,7 @@ ghost use Rattle.faults.specs.Counts.{Rose};
 ghost use Rattle.dram_model.specs.View.{HasBegun, Kept, DidRead};
 ghost use Rattle.object_alloc.specs.Bytes.{bytes_of_bits};
 ghost use Rattle.object_alloc.specs.Spelling.{rows_bytes};
-ghost use Rattle.machine_model.specs.Opened.{rows_of};
+ghost use Rattle.machine_model.specs.Opened.{rows_in_banks};
 ghost use Rattle.sim_machine.specs.Image.{bank_bytes};
 
 use dram_model::{ChipFault, Dram, Geometry};
@@ -98,7 +98,7 @@ fn read_rows<D: Dram>(
     ensures stage { length stage.new ≡ length stage.old }
     ensures did { OnOk result (DidRead (g.banks * g.rows) (D.view dram.old) (D.view dram.new)) }
     ensures file { OnOk result (file.new.items
-        ≡ file.old.items ++ rows_bytes g (rows_of (D.view dram.old).banks)) }
+        ≡ file.old.items ++ rows_bytes g (rows_in_banks (D.view dram.old).banks)) }
     ensures capacity { vec_capacity file.old ≤ vec_capacity file.new }
     ensures rose { OnErr result (Rose (D.view dram.old).faults (D.view dram.new).faults) }
     ensures no_event { Grew (D.view dram.old).log (D.view dram.new).log [] }
@@ -128,7 +128,7 @@ pub(crate) fn read_image<D: Dram>(
     ensures stage { length stage.new ≡ length stage.old }
     ensures did { OnOk result (DidRead (g.banks * g.rows) (D.view dram.old) (D.view dram.new)) }
     ensures file { OnOk result (file.new.items
-        ≡ file.old.items ++ rows_bytes g (rows_of (D.view dram.old).banks)) }
+        ≡ file.old.items ++ rows_bytes g (rows_in_banks (D.view dram.old).banks)) }
     ensures capacity { vec_capacity file.old ≤ vec_capacity file.new }
     ensures rose { OnErr result (Rose (D.view dram.old).faults (D.view dram.new).faults) }
     ensures no_event { Grew (D.view dram.old).log (D.view dram.new).log [] }

@@ -8,6 +8,7 @@ mod opening;
 mod refusal;
 mod report;
 mod steps;
+mod walks;
 mod waves;
 
 pub use machine::{Machine, StartNo};

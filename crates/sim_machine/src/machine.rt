@@ -13,7 +13,7 @@ ghost use Rattle.object_alloc.specs.Reading.{rows_size, table_at};
 ghost use Rattle.object_alloc.specs.Spelling.{image_bytes, table_bytes};
 ghost use Rattle.bbop_isa.specs.Forms.{view_of, Load, Print};
 ghost use Rattle.machine_model.specs.Agrees.{IsPlain};
-ghost use Rattle.machine_model.specs.Opened.{rows_of};
+ghost use Rattle.machine_model.specs.Opened.{rows_in_banks};
 ghost use Rattle.machine_model.specs.Pieces.{Alone, AreBbops, Wave, piece_of};
 ghost use Rattle.machine_model.specs.Report.{total_line};
 ghost use Rattle.machine_model.specs.Script.{is_bbop};
@@ -22,7 +22,7 @@ ghost use Rattle.wave_model.specs.Schedule.{Ahead};
 ghost use Rattle.object_steps.specs.Lines.{DidReadAtMost};
 ghost use Rattle.object_steps.specs.Objects.{LiesOn, RisesAtMost};
 ghost use Rattle.sim_machine.specs.Machine.{IsReady, banks_by, events_by, file_of, geometry_of};
-ghost use Rattle.sim_machine.specs.Machine.{is_print, line_of, line_shown, lines_of, program_of};
+ghost use Rattle.sim_machine.specs.Machine.{is_print, reply_line, line_shown, lines_of, program_of};
 ghost use Rattle.sim_machine.specs.Machine.{queues_by};
 ghost use Rattle.sim_machine.specs.Machine.{reads_by, reply_of, moved_table, table_in};
 ghost use Rattle.sim_machine.specs.Machine.{turn_by_piece, turn_in};
@@ -33,6 +33,7 @@ use crate::bbop::Setting;
 use crate::image::read_image;
 use crate::opening::{begin, make_file, make_stage};
 use crate::report::{put_lines, total};
+use crate::walks::WalkedProgram;
 use crate::waves::do_wave;
 use arrayvec::ArrayVec;
 use bbop_isa::Instr;
@@ -51,7 +52,7 @@ use uprog_ctl::{Forward, Order};
 /// A table of objects over a chip, the program that bbops run, the order in which banks take turns,
 /// and all memory that a script takes.
 pub struct Machine<'a> {
-    pub(crate) prog: ProgView<'a>,
+    pub(crate) prog: WalkedProgram<'a>,
     pub(crate) geometry: Geometry,
     pub(crate) table: Table,
     pub(crate) order: Order,
@@ -106,6 +107,7 @@ impl<'a> Machine<'a> {
     {
         let mut stage = make_stage(image.geometry.words, alloc)?;
         let file = make_file(image.geometry, alloc)?;
+        let prog = WalkedProgram::new(prog, alloc)?;
         let row = &mut stage[..usize::from(image.geometry.words)];
         begin(image.geometry, image.rows, row, dram)?;
         Ok(Machine {
@@ -163,6 +165,8 @@ impl<'a> Machine<'a> {
             → StoppedAmong (events_by self.old (Wave (map view_of instrs.now)))
             (queues_by self.old (map view_of instrs.now)) (D.view dram.old) (D.view dram.new) }
         ensures unsent { IsErrOf result StepFault.ChipFault → S.view out.new ≡ S.view out.old }
+        ensures turn_unsent { IsErrOf result StepFault.WriteFault
+            → turn_in self.new ≡ turn_by_piece self.old (Wave (map view_of instrs.now)) }
         ensures done { IsErrOf result StepFault.WriteFault
             → Did (events_by self.old (Wave (map view_of instrs.now))) (D.view dram.old)
             (D.view dram.new) }
@@ -172,6 +176,7 @@ impl<'a> Machine<'a> {
             → Known (AppendsPart (lines_of self.old number (map view_of instrs.now)))
             (S.view out.old).sent (S.view out.new).sent }
     {
+        self.prog.learn_all(instrs);
         let setting = Setting {
             geometry: self.geometry,
             table: &self.table,
@@ -216,7 +221,7 @@ impl<'a> Machine<'a> {
         ensures rises { OnOk result (RisesAtMost (16 * WALK_MAX) (D.view dram.old).counters
             (D.view dram.new).counters) }
         ensures sent { OnOk result (Known (λ before after. after
-            ≡ before ++ line_of self.old number (D.view dram.old).banks (view_of instr.now))
+            ≡ before ++ reply_line self.old number (D.view dram.old).banks (view_of instr.now))
             (S.view out.old).sent (S.view out.new).sent) }
 
         // After a fault the table is as before. Where the chip fails, the banks past those of the
@@ -233,7 +238,11 @@ impl<'a> Machine<'a> {
             (queues_by self.old (view_of instr.now ∷ [])) (D.view dram.old) (D.view dram.new) }
         ensures unsent { IsErrOf result StepFault.ChipFault
             → is_print (view_of instr.now) ≡ false → S.view out.new ≡ S.view out.old }
+        ensures same_turn { IsErrOf result StepFault.ChipFault
+            → is_bbop (view_of instr.now) ≡ false → turn_in self.new ≡ turn_in self.old }
         // Where the sink fails, all was done, but of a print perhaps not each row was read.
+        ensures turn_unsent { IsErrOf result StepFault.WriteFault
+            → turn_in self.new ≡ turn_by_piece self.old (piece_of (view_of instr.now)) }
         ensures done { IsErrOf result StepFault.WriteFault
             → is_print (view_of instr.now) ≡ false
             → DidAndRead (events_by self.old (piece_of (view_of instr.now)))
@@ -245,7 +254,7 @@ impl<'a> Machine<'a> {
         ensures write_fault { IsErrOf result StepFault.WriteFault
             → Rose (S.view out.old).faults (S.view out.new).faults }
         ensures part { OnErr result (Known (AppendsPart
-            (line_of self.old number (D.view dram.old).banks (view_of instr.now)))
+            (reply_line self.old number (D.view dram.old).banks (view_of instr.now)))
             (S.view out.old).sent (S.view out.new).sent) }
     {
         self.step_of(number, instr, dram, out)
@@ -367,7 +376,7 @@ impl<'a> Machine<'a> {
         ensures did { OnOk result (DidRead ((geometry_of self.old).banks
             * (geometry_of self.old).rows) (D.view dram.old) (D.view dram.new)) }
         ensures file { OnOk result (file_of self.new ≡ image_bytes (geometry_of self.old)
-            (table_in self.old) (rows_of (D.view dram.old).banks)) }
+            (table_in self.old) (rows_in_banks (D.view dram.old).banks)) }
         ensures ready { IsReady self.new }
         ensures program { program_of self.new ≡ program_of self.old }
         ensures shape { geometry_of self.new ≡ geometry_of self.old }
@@ -393,7 +402,7 @@ impl<'a> Machine<'a> {
         ensures did { OnOk result (DidRead ((geometry_of self.old).banks
             * (geometry_of self.old).rows) (D.view dram.old) (D.view dram.new)) }
         ensures file { OnOk result (file_of self.new ≡ image_bytes (geometry_of self.old)
-            table.now.pairs (rows_of (D.view dram.old).banks)) }
+            table.now.pairs (rows_in_banks (D.view dram.old).banks)) }
         ensures ready { IsReady self.new }
         ensures program { program_of self.new ≡ program_of self.old }
         ensures shape { geometry_of self.new ≡ geometry_of self.old }

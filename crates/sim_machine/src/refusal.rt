@@ -7,7 +7,8 @@ ghost use Rattle.std.specs.Option.{option_map, option_to_list};
 ghost use Rattle.std.specs.Str.{bytes_eq};
 ghost use Rattle.uprog_code.specs.Shape.{need, shape_of, width, results};
 ghost use Rattle.uprog_bin.specs.Opened.{code_of, program_of};
-ghost use Rattle.uprog_code.specs.Legal.{IsLegalCode};
+ghost use Rattle.uprog_code.specs.Count.{walked};
+ghost use Rattle.uprog_code.specs.Machine.{trace};
 ghost use Rattle.machine_model.specs.declared.Why.{Why};
 ghost use Rattle.sim_machine.specs.Granted.{IsGranted};
 ghost use Rattle.machine_model.specs.Routines.{routine_of};
@@ -17,12 +18,11 @@ ghost use Rattle.machine_model.specs.Refusals.{bbop_conditions, dsts_in, srcs_in
 ghost use Rattle.machine_model.specs.Refusals.{repeats};
 
 use arrayvec::ArrayVec;
-use bit_rows::WIDTH_MAX;
 use machine_model::Why;
 use object_alloc::{Object, Table};
 use text_lex::Name;
 use uprog_bin::Entry;
-use uprog_code::{Counts, Fetch, Head, Kind, walk};
+use uprog_code::{BadWalk, Counts, Fetch, Head, Kind, WALK_MAX};
 
 /// What is read of a name that no object has.
 const NOTHING: Object = Object {
@@ -262,18 +262,22 @@ pub(crate) struct Grant {
     pub scratch: u16,
 }
 
-/// The row commands and the scratch of an operation at width n.
-fn granted(table: &Table, entry: &Entry<'_>, n: u8) -> Result<Grant, Why>
-    requires legal { IsLegalCode entry.now.shape (code_of entry.now) }
-    requires some { 0 < n }
-    requires narrow { n ≤ WIDTH_MAX }
+/// The row commands and the scratch of an operation at width n, given what comes of its walk.
+fn granted(
+    table: &Table,
+    entry: &Entry<'_>,
+    walk: Result<Counts, BadWalk>,
+    n: u8,
+) -> Result<Grant, Why>
+    requires walk { walk ≡ walked (trace entry.now.shape (code_of entry.now) n) }
+    requires few { IfOk walk (λ counts. counts.aap + counts.ap ≤ WALK_MAX) }
     ensures refused { IfErr result (λ why. first
         (grant_conditions table.now.limit table.now.pairs (routine_of (program_of entry.now))
         n) ≡ Some why) }
     ensures granted { IfOk result (IsGranted table.now.limit table.now.pairs
         (program_of entry.now) n) }
 {
-    let counts = match walk(entry, n) {
+    let counts = match walk {
         Ok(counts) => counts,
         Err(walk) => return Err(Why::BadWalk(walk)),
     };
@@ -285,11 +289,15 @@ fn granted(table: &Table, entry: &Entry<'_>, n: u8) -> Result<Grant, Why>
 
 /// What a bbop of this entry is granted, or the first condition that refuses it, in the order of
 /// the table.
-pub(crate) fn allow(table: &Table, entry: &Entry<'_>, bbop: &Bbop<'_>) -> Result<Grant, Why>
+pub(crate) fn allow(
+    table: &Table,
+    entry: &Entry<'_>,
+    walk: Result<Counts, BadWalk>,
+    bbop: &Bbop<'_>,
+) -> Result<Grant, Why>
     requires few { length bbop.now.srcs.now ≤ 5 }
-    requires legal { IsLegalCode entry.now.shape (code_of entry.now) }
-    requires some { 0 < bbop.now.n }
-    requires narrow { bbop.now.n ≤ WIDTH_MAX }
+    requires walk { walk ≡ walked (trace entry.now.shape (code_of entry.now) bbop.now.n) }
+    requires few_commands { IfOk walk (λ counts. counts.aap + counts.ap ≤ WALK_MAX) }
     ensures refused { IfErr result (λ why. first
         (bbop_conditions table.now.limit table.now.pairs (routine_of (program_of entry.now))
         (bbop.now.dst.now ∷ bbop.now.srcs.now) bbop.now.count bbop.now.n) ≡ Some why) }
@@ -306,5 +314,5 @@ pub(crate) fn allow(table: &Table, entry: &Entry<'_>, bbop: &Bbop<'_>) -> Result
     if let Some(why) = operands_refusal(table, &head, bbop) {
         return Err(why);
     }
-    granted(table, entry, bbop.n)
+    granted(table, entry, walk, bbop.n)
 }

@@ -138,6 +138,7 @@ impl<'a> Machine<'a> {
             (D.view dram.new)) }
         ensures failed { OnErr result (FailedBelow (banks_by self.old (view_of instr.now))
             (D.view dram.old) (D.view dram.new)) }
+        ensures same_turn { OnErr result (turn_in self.new ≡ turn_in self.old) }
     {
         let g = self.geometry;
         match instr {

@@ -23,7 +23,7 @@ use Rattle.machine_model.specs.Script.{plus, replies}
 use Rattle.uprog_code.specs.declared.walker.Counts.{Counts}
 use Rattle.machine_model.specs.Routines.{Program, Routines, meaning_in, routines_in}
 use Rattle.machine_model.specs.Routines.{routines_of}
-use Rattle.machine_model.specs.Opened.{Image, opened, rows_of, words_of}
+use Rattle.machine_model.specs.Opened.{Image, opened, rows_in_banks, objects_held}
 use Rattle.machine_model.specs.Report.{line, lines, total_line}
 use Rattle.machine_model.specs.Steps.{Held, table_of}
 use Rattle.machine_model.proofs.Texts.{same_operations}
@@ -126,7 +126,7 @@ work_files out job f = script_files job.image.geometry (routines_in job.program)
 
 -- the image at the end, with these banks
 abbrev image_spelled : GuardJob → Banks → List ℕ
-image_spelled job banks = image_bytes job.image.geometry (table_at_last job) (rows_of banks)
+image_spelled job banks = image_bytes job.image.geometry (table_at_last job) (rows_in_banks banks)
 
 -- what an accepted script and an accepted image are
 
@@ -243,10 +243,10 @@ module _ (t : List TextOp) (job : GuardJob) (implements : ImplementsAll job.prog
       ∙ ap (λ (table : List Named). guarded_table_at_end job.image.geometry (operations_by t job)
       table job.script) (sym (table_is job.image))
       ∙ sym (tables_end job.image.geometry (operations_by t job) (meaning_in t)
-      (words_of job.image) job.script)
+      (objects_held job.image) job.script)
 
   said_same : guarded_said_in_rows job.image.geometry (operations_by t job) job.flips 1
-      (table_of (words_of job.image)) (opened job.image) job.script ≡ said_by t job
+      (table_of (objects_held job.image)) (opened job.image) job.script ≡ said_by t job
       → said_of job ≡ said_by t job
   said_same e =
       ap (λ (o : Routines). guarded_said_in_rows job.image.geometry o job.flips 1
@@ -258,7 +258,7 @@ module _ (t : List TextOp) (job : GuardJob) (implements : ImplementsAll job.prog
       → banks ≡ guarded_rows_at_end job.image.geometry (routines_in job.program) job.flips 1
       job.image.table (opened job.image) job.script
       → guarded_rows_at_end job.image.geometry (operations_by t job) job.flips 1
-      (table_of (words_of job.image)) (opened job.image) job.script ≡ banks
+      (table_of (objects_held job.image)) (opened job.image) job.script ≡ banks
   banks_same banks e =
       ap (λ (table : List Named). guarded_rows_at_end job.image.geometry (operations_by t job)
       job.flips 1 table (opened job.image) job.script) (table_is job.image)
@@ -268,14 +268,14 @@ module _ (t : List TextOp) (job : GuardJob) (implements : ImplementsAll job.prog
 
   alone_same : map unplaced (first_copies (state_by t job))
       ≡ map unplaced (lone_words_at_end job.image.geometry (operations_by t job) (meaning_in t)
-      (first_copies (words_of job.image)) (guarded_replies job.image.geometry
-      (operations_by t job) (table_of (words_of job.image)) job.script) job.script)
+      (first_copies (objects_held job.image)) (guarded_replies job.image.geometry
+      (operations_by t job) (table_of (objects_held job.image)) job.script) job.script)
       → map unplaced (first_copies (state_by t job))
       ≡ map unplaced (lone_words_at_end job.image.geometry (operations_by t job) (meaning_in t)
-      (first_copies (words_of job.image)) (replies_by t job) job.script)
+      (first_copies (objects_held job.image)) (replies_by t job) job.script)
   alone_same e = e
       ∙ ap (λ (table : List Named). map unplaced (lone_words_at_end job.image.geometry
-      (operations_by t job) (meaning_in t) (first_copies (words_of job.image))
+      (operations_by t job) (meaning_in t) (first_copies (objects_held job.image))
       (guarded_replies job.image.geometry (operations_by t job) table job.script) job.script))
       (table_is job.image)
 
@@ -305,7 +305,7 @@ mends : (t : List TextOp) (out : List ℕ) (job : GuardJob) (after : Files) (old
     → IsMendable t job → Mended t job old new
 mends t out job after old new status implements d m =
     let g : IsGuarded job.image.geometry (operations_by t job) (meaning_in t) job.flips 1
-    (opened job.image) (words_of job.image) job.script =
+    (opened job.image) (objects_held job.image) job.script =
     guarded_text job.program t job.image job.flips job.script d.done.image implements d.done.plain
     d.names d.triples m.equal m.single in
     let agrees : Agrees job.image.geometry new.chip.banks (state_by t job) =

@@ -28,7 +28,7 @@ use Rattle.bbop_isa.specs.Words.{words_in}
 use Rattle.text_lex.specs.Lexical.{items_of}
 use Rattle.wave_model.specs.Schedule.{Turn, Ahead}
 use Rattle.machine_model.specs.Agrees.{IsPlain}
-use Rattle.machine_model.specs.Opened.{Image, opened, row_writes, rows_of}
+use Rattle.machine_model.specs.Opened.{Image, opened, row_writes, rows_in_banks}
 use Rattle.machine_model.specs.Routines.{Program, routines_in}
 use Rattle.machine_model.specs.Report.{total_line}
 use Rattle.machine_model.specs.Script.{is_refused}
@@ -268,11 +268,11 @@ worked job shape p table turn own last start now votes refused b e d =
 
 module _ (job : GuardJob) (shape : Geometry) (table : List Named) (now : ChipView)
     (votes refused : ℕ) (w : Worked job shape table now votes refused) where
-  own_image : image_bytes shape table (rows_of now.banks) ≡ image_at_last job
+  own_image : image_bytes shape table (rows_in_banks now.banks) ≡ image_at_last job
   own_image =
-      ap (λ (s : Geometry). image_bytes s table (rows_of now.banks)) w.shape_is
-      ∙ ap (λ (t : List Named). image_bytes job.image.geometry t (rows_of now.banks)) w.table_is
-      ∙ ap (λ (b : Banks). image_bytes job.image.geometry (table_at_last job) (rows_of b)) w.banks
+      ap (λ (s : Geometry). image_bytes s table (rows_in_banks now.banks)) w.shape_is
+      ∙ ap (λ (t : List Named). image_bytes job.image.geometry t (rows_in_banks now.banks)) w.table_is
+      ∙ ap (λ (b : Banks). image_bytes job.image.geometry (table_at_last job) (rows_in_banks b)) w.banks
 
   own_tally : with_reads (shape.banks * shape.rows) now.counters ≡ tally_of job
   own_tally =
@@ -281,7 +281,7 @@ module _ (job : GuardJob) (shape : Geometry) (table : List Named) (now : ChipVie
 
   -- the steps at the end are those of the job
   pub last_are : (name : List ℕ) (end : End) (a b : World)
-      → Goes (Use ∷ Store name (image_bytes shape table (rows_of now.banks))
+      → Goes (Use ∷ Store name (image_bytes shape table (rows_in_banks now.banks))
       ∷ Put (vote_line votes (length job.flips))
       ∷ Put (total_line (with_reads (shape.banks * shape.rows) now.counters) refused)
       ∷ []) end a b

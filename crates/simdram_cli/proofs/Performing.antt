@@ -9,7 +9,7 @@ use Rattle.object_alloc.specs.Spelling.{image_bytes}
 use Rattle.bbop_isa.specs.Forms.{Instruction}
 use Rattle.wave_model.specs.Schedule.{Turn, Ahead}
 use Rattle.machine_model.specs.Routines.{Program, routines_in}
-use Rattle.machine_model.specs.Opened.{Image, opened, rows_of}
+use Rattle.machine_model.specs.Opened.{Image, opened, rows_in_banks}
 use Rattle.machine_model.specs.Pieces.{events_of_pieces, pieces, script_events}
 use Rattle.std.specs.Prelude.{count_by}
 use Rattle.machine_model.specs.Script.{banks_at_end, is_refused, replies, rows_printed, sum_done}
@@ -54,17 +54,17 @@ pub record Worked (program : Program) (script : List Instruction) (i : Image) (s
 module _ (program : Program) (script : List Instruction) (i : Image) (shape : Geometry)
     (table : List Named) (start now : ChipView) (refused : ℕ)
     (w : Worked program script i shape table start now refused) where
-  own_image : image_bytes shape table (rows_of now.banks) ≡ image_by program script i
+  own_image : image_bytes shape table (rows_in_banks now.banks) ≡ image_by program script i
   own_image =
       let o = routines_in program in
       let events = script_events i.geometry o i.table script in
       let banks : now.banks ≡ banks_at_end i.geometry o i.table (opened i) script =
       w.did.banks ∙ ap (after events) w.opened_on.banks
       ∙ events_are_steps i.geometry o Ahead i.table script (opened i) w.holds.words w.holds.fits in
-      ap (λ (s : Geometry). image_bytes s table (rows_of now.banks)) w.shape_is
-      ∙ ap (λ (t : List Named). image_bytes i.geometry t (rows_of now.banks)) w.table_is
+      ap (λ (s : Geometry). image_bytes s table (rows_in_banks now.banks)) w.shape_is
+      ∙ ap (λ (t : List Named). image_bytes i.geometry t (rows_in_banks now.banks)) w.table_is
       ∙ ap (λ (b : Banks). image_bytes i.geometry (table_at_end i.geometry o i.table script)
-      (rows_of b)) banks
+      (rows_in_banks b)) banks
 
   own_tally : with_reads (shape.banks * shape.rows) now.counters ≡ tally_by program script i
   own_tally =
@@ -78,7 +78,7 @@ module _ (program : Program) (script : List Instruction) (i : Image) (shape : Ge
 
   -- the steps at the end are those of the job
   pub last_are : (name : List ℕ) (end : End) (a b : World)
-      → Goes (Use ∷ Store name (image_bytes shape table (rows_of now.banks))
+      → Goes (Use ∷ Store name (image_bytes shape table (rows_in_banks now.banks))
       ∷ Put (total_line (with_reads (shape.banks * shape.rows) now.counters) refused)
       ∷ []) end a b
       → Goes (last_steps name program script i) end a b

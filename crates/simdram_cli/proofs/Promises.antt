@@ -13,7 +13,7 @@ use Rattle.bbop_isa.specs.Forms.{Instruction}
 use Rattle.machine_model.specs.Routines.{Program, Routines, routines_of, routines_in}
 use Rattle.machine_model.specs.Routines.{meaning_in}
 use Rattle.uprog_code.specs.Texts.{TextOp, ImplementsAll}
-use Rattle.machine_model.specs.Opened.{Image, opened, words_of, rows_of}
+use Rattle.machine_model.specs.Opened.{Image, opened, objects_held, rows_in_banks}
 use Rattle.machine_model.specs.Columns.{columns}
 use Rattle.machine_model.specs.Steps.{Held, table_of, words_after}
 use Rattle.machine_model.specs.Agrees.{Agrees, IsPlain, DoesAll}
@@ -46,7 +46,7 @@ tables : (g : Geometry) (banks : Banks) (table : List Named)
 tables g banks [] = refl
 tables g banks (p ∷ table) = ap (λ rest. p ∷ rest) (tables g banks table)
 
-pub table_is : (i : Image) → table_of (words_of i) ≡ i.table
+pub table_is : (i : Image) → table_of (objects_held i) ≡ i.table
 table_is i = tables i.geometry (opened i) i.table
 
 tables_end : (g : Geometry) (o : Routines) (meaning : List ℕ → ℕ → List ℕ
@@ -83,17 +83,17 @@ section_does t program implements =
 agrees_at_end : (t : List TextOp) (script : List Instruction) (i : Image) (program : Program)
     (chip : ChipView) (refused : ℕ) → IsDone t script i program chip refused
     → Agrees i.geometry chip.banks (words_at_end i.geometry (routines_in program)
-    (meaning_in t) (words_of i) script)
+    (meaning_in t) (objects_held i) script)
 agrees_at_end t script i program chip refused d =
     let whole = rows_give_words i.geometry (routines_in program) (meaning_in t)
-    script d.words (section_does t program d.implements) d.plain (opened i) (words_of i)
+    script d.words (section_does t program d.implements) d.plain (opened i) (objects_held i)
     (opened_agrees i d.words d.image) in
-    let banks : banks_at_end i.geometry (routines_in program) (table_of (words_of i)) (opened i)
+    let banks : banks_at_end i.geometry (routines_in program) (table_of (objects_held i)) (opened i)
     script ≡ chip.banks =
     ap (λ (table : List Named). banks_at_end i.geometry (routines_in program) table (opened i)
     script) (table_is i) ∙ sym d.work.banks in
     subst (λ (b : Banks). Agrees i.geometry b
-    (words_at_end i.geometry (routines_in program) (meaning_in t) (words_of i)
+    (words_at_end i.geometry (routines_in program) (meaning_in t) (objects_held i)
     script)) banks whole
 
 -- the table at the end
@@ -103,7 +103,7 @@ pub end_table : (t : List TextOp) (script : List Instruction) (i : Image) (progr
     ≡ table_at_end i.geometry (routines_in program) i.table script
 end_table t script i program implements =
     tables_end i.geometry (routines_of t program) (meaning_in t)
-    (words_of i) script
+    (objects_held i) script
     ∙ ap (λ (table : List Named). table_at_end i.geometry (routines_of t program)
     table script) (table_is i)
     ∙ ap (λ (o : Routines). table_at_end i.geometry o i.table script)
@@ -114,19 +114,19 @@ pub objects_right : (out : List ℕ) (t : List TextOp) (script : List Instructio
     → IsDone t script i program chip refused
     → after out
     ≡ Some (image_bytes i.geometry (table_at_end i.geometry (routines_in program) i.table
-    script) (rows_of (banks_at_end i.geometry (routines_in program) i.table (opened i)
+    script) (rows_in_banks (banks_at_end i.geometry (routines_in program) i.table (opened i)
     script)))
     → ObjectsRight out (job_of t script i program) after chip
 objects_right out t script i program chip refused after d there = record {
   file = there
       ∙ ap (λ (table : List Named). Some (image_bytes i.geometry table
-      (rows_of (banks_at_end i.geometry (routines_in program) i.table (opened i) script))))
+      (rows_in_banks (banks_at_end i.geometry (routines_in program) i.table (opened i) script))))
       (sym (end_table t script i program d.implements))
       ∙ ap (λ (b : Banks). Some (image_bytes i.geometry
-      (table_of (state_after (job_of t script i program))) (rows_of b))) (sym d.work.banks);
+      (table_of (state_after (job_of t script i program))) (rows_in_banks b))) (sym d.work.banks);
   numbers =
       (subst (λ (o : Routines). Agrees i.geometry chip.banks
-      (words_at_end i.geometry o (meaning_in t) (words_of i) script))
+      (words_at_end i.geometry o (meaning_in t) (objects_held i) script))
       (sym (same_operations program t d.implements))
       (agrees_at_end t script i program chip refused d)).numbers;
 }
@@ -174,18 +174,18 @@ report_is t script i program chip refused d =
     let same = same_operations program t d.implements in
     let does = section_does t program d.implements in
     let said : said_in program script i ≡ said_in_words i.geometry (routines_in program)
-    (meaning_in t) (words_of i) script =
+    (meaning_in t) (objects_held i) script =
     ap (λ (table : List Named). said_in_rows i.geometry (routines_in program) table (opened i)
     script) (sym (table_is i))
     ∙ report_same i.geometry (routines_in program) (meaning_in t) script
     (all_steps i.geometry (routines_in program) (meaning_in t) script d.words
-    does d.plain) (opened i) (words_of i) (opened_agrees i d.words d.image) in
+    does d.plain) (opened i) (objects_held i) (opened_agrees i d.words d.image) in
     ap (λ s. lines 1 s ++ total_line (tally_by program script i) (refused_by program script i)) said
     ∙ ap (λ k. lines 1 (said_in_words i.geometry (routines_in program)
-    (meaning_in t) (words_of i) script)
+    (meaning_in t) (objects_held i) script)
     ++ total_line k (refused_by program script i)) (sym d.work.counters)
     ∙ ap (λ (o : Routines). lines 1 (said_in_words i.geometry o (meaning_in t)
-    (words_of i) script) ++ total_line chip.counters
+    (objects_held i) script) ++ total_line chip.counters
     (count_by is_refused (replies i.geometry o i.table script))) (sym same)
 
 pub refusals_are : (t : List TextOp) (script : List Instruction) (i : Image) (program : Program)

@@ -22,7 +22,7 @@ use Rattle.object_alloc.specs.Reading.{Found, ImageFault, image_in, IsFault}
 use Rattle.object_alloc.specs.Spelling.{image_bytes}
 use Rattle.uprog_bin.specs.Opened.{IsProgramFile}
 use Rattle.uprog_bin.specs.Spelling.{program_bytes}
-use Rattle.machine_model.specs.Opened.{Image, row_writes, rows_of}
+use Rattle.machine_model.specs.Opened.{Image, row_writes, rows_in_banks}
 use Rattle.trace_model.specs.Reading.{TraceFault, trace_in as trace_read}
 use Rattle.trace_model.specs.Spelling.{IsTrace, Trace, bytes_of_trace}
 use Rattle.cmd_trace.specs.declared.fault.TraceNo.{TraceNo}
@@ -228,11 +228,11 @@ events_done t i g a b c shape same o did read first last = record {
 
 pub file_is : (t : Trace) (i : Image) (g : Geometry) (table : List Named) (a b : ChipView)
     → g ≡ t.geometry → table ≡ t.table → OpenedOn i a → Did t.events a b
-    → image_bytes g table (rows_of b.banks) ≡ image_replayed t i
+    → image_bytes g table (rows_in_banks b.banks) ≡ image_replayed t i
 file_is t i g table a b shape listed o did =
-    ap (λ (x : Geometry). image_bytes x table (rows_of b.banks)) shape
-    ∙ ap (λ (x : List Named). image_bytes t.geometry x (rows_of b.banks)) listed
-    ∙ ap (λ (x : Banks). image_bytes t.geometry t.table (rows_of x))
+    ap (λ (x : Geometry). image_bytes x table (rows_in_banks b.banks)) shape
+    ∙ ap (λ (x : List Named). image_bytes t.geometry x (rows_in_banks b.banks)) listed
+    ∙ ap (λ (x : Banks). image_bytes t.geometry t.table (rows_in_banks x))
     (did.banks ∙ ap (after t.events) o.banks)
 
 -- the store of OUT, and the line

@@ -30,7 +30,7 @@ use Rattle.uprog_gen.specs.Totals.{AreExact}
 use Rattle.machine_model.specs.declared.Why.{Why}
 use Rattle.bbop_isa.specs.Forms.{Instruction}
 use Rattle.wave_model.specs.Schedule.{Turn, Ahead}
-use Rattle.machine_model.specs.Opened.{Image, opened, row_writes, words_of}
+use Rattle.machine_model.specs.Opened.{Image, opened, row_writes, objects_held}
 use Rattle.machine_model.specs.Routines.{Program, routines_in}
 use Rattle.machine_model.specs.Pieces.{events_of_pieces, pieces, script_events}
 use Rattle.machine_model.specs.Script.{with_counts}
@@ -189,7 +189,7 @@ number_is : (q : Query) (i : Image)
     → found_in i.geometry (opened i) i.table q ≡ number_found q i
 number_is q i =
     let same : (λ e. matches q (element_in i.geometry (opened i) i.table e))
-    ≡ (λ e. matches q (element (words_of i) e)) =
+    ≡ (λ e. matches q (element (objects_held i) e)) =
     fun_ext (λ e. ap (matches q) (fun_ext (λ name.
     sym (elements i.geometry (opened i) i.table e name)))) in
     ap (λ (test : ℕ → Bool). count_by test (range_with_len 0 (query_count i.table q))) same

@@ -6,13 +6,13 @@ use Rattle.bbop_isa.specs.declared.instr.ScriptKind.{ScriptKind}
 use Rattle.bbop_isa.specs.declared.instr.ScriptFault.{ScriptFault}
 use Rattle.bbop_isa.specs.Forms.{Instruction, line_of}
 use Rattle.bbop_isa.specs.Lines.{begun, lines_of}
-use Rattle.bbop_isa.specs.Script.{after, go_on, script_from, script_of}
+use Rattle.bbop_isa.specs.Script.{script_with, go_on, script_from, script_of}
 
 abbrev AtMost : ℕ → Result (List Instruction) ScriptFault → Type 0
 AtMost n read = (script : List Instruction) → read ≡ Ok script → length script ≤ n
 
 following : (i : Option Instruction) (rest : Result (List Instruction) ScriptFault) (lines : ℕ)
-    → AtMost lines rest → AtMost (lines + 1) (after i rest)
+    → AtMost lines rest → AtMost (lines + 1) (script_with i rest)
 following i (Err fault) lines more script e = absurd (cc)
 following None (Ok s) lines more script e =
     let few = more s refl in

@@ -19,8 +19,8 @@ use Rattle.soak_job.specs.Cases.{soak_cases, source_kinds}
 use Rattle.soak_job.specs.Words.{after_all}
 use Rattle.soak_job.specs.Steps.{cases_steps, soak_steps}
 use Rattle.soak_job.specs.Done.{SoakGoes, SoakLeft}
-use Rattle.soak_job.specs.declared.job.SoakNo.{SoakNo}
-use Rattle.soak_job.specs.declared.job.SoakNo.TheVariants as no
+use Rattle.soak_job.specs.declared.job.SoakError.{SoakError}
+use Rattle.soak_job.specs.declared.job.SoakError.TheVariants as no
 use Rattle.simdram_cli.specs.declared.words.Command.TheVariants.{Soak}
 use Rattle.simdram_cli.specs.Commands.{CanAnswer}
 use Rattle.simdram_cli.specs.Soak.{SoakEnds, Soaked, soak_plan}
@@ -28,13 +28,13 @@ use Rattle.simdram_cli.proofs.Completes.{IsOneOf}
 use Rattle.simdram_cli.proofs.Planned.{GivesOwn, IsFailing, failing_apart}
 
 -- what the job of a seed says, as the command
-abbrev pub said_by : Result (Unit {0}) SoakNo → Result ℕ Reason
+abbrev pub said_by : Result (Unit {0}) SoakError → Result ℕ Reason
 said_by (Ok u) = Ok 0
 said_by (Err no.NoMemory) = Err NoMemory
 said_by (Err no.ChipFailed) = Err ChipFailed
 said_by (Err no.PutFailed) = Err PutFailed
 
-pub soak_runs : (seed : ℕ) (old new : World) (result : Result (Unit {0}) SoakNo)
+pub soak_runs : (seed : ℕ) (old new : World) (result : Result (Unit {0}) SoakError)
     → SoakGoes seed old new result → Runs (soak_plan seed) old new (said_by result)
 soak_runs seed old new (Ok u) g = runs_made _ _ g.programs _ _ _ g.are
     (runs_then (soak_steps seed g.programs) _ _ old new new g.goes

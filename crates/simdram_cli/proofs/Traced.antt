@@ -15,7 +15,7 @@ use Rattle.object_alloc.specs.Spelling.{image_bytes}
 use Rattle.bbop_isa.specs.declared.instr.ScriptFault.{ScriptFault}
 use Rattle.bbop_isa.specs.Forms.{Instruction}
 use Rattle.bbop_isa.specs.Script.{script_of}
-use Rattle.machine_model.specs.Opened.{Image, opened, rows_of}
+use Rattle.machine_model.specs.Opened.{Image, opened, rows_in_banks}
 use Rattle.machine_model.specs.Routines.{Program, routines_in}
 use Rattle.wave_model.specs.Schedule.{Ahead}
 use Rattle.machine_model.specs.Pieces.{pieces}
@@ -252,7 +252,7 @@ traced names old new status apart d =
           apart)
           ∙ at_own names.out.now (image_by program script i) before
           ∙ ap (λ (b : Banks). Some (image_bytes i.geometry (table_at_end i.geometry
-          (routines_in program) i.table script) (rows_of b)))
+          (routines_in program) i.table script) (rows_in_banks b)))
           (sym (replay_is_script i program script rows.image));
       others = λ other p q. ap (λ (f : Files). f other) stored
           ∙ other_kept names (bytes_of_trace t) (image_by program script i) before other p q;

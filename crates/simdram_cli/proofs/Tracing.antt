@@ -19,7 +19,7 @@ use Rattle.bbop_isa.specs.Forms.{Instruction}
 use Rattle.wave_model.specs.Schedule.{Turn, Ahead}
 use Rattle.machine_model.specs.Agrees.{IsPlain}
 use Rattle.machine_model.specs.Laws.{TableFits}
-use Rattle.machine_model.specs.Opened.{Image, opened, rows_of}
+use Rattle.machine_model.specs.Opened.{Image, opened, rows_in_banks}
 use Rattle.machine_model.specs.Routines.{Program, Routines, routines_in}
 use Rattle.machine_model.specs.Pieces.{Piece, Wave, Alone, instrs_in, pieces, script_events}
 use Rattle.machine_model.specs.Pieces.{turn_after}
@@ -100,12 +100,12 @@ pub image_is_on : (m n : Machine) (script : List Instruction) (a b : ChipView)
     → geometry_of n ≡ geometry_of m
     → table_in n ≡ table_at_end (geometry_of m) (routines_in (program_of m)) (table_in m) script
     → b.banks ≡ after (events_on m script) a.banks
-    → image_bytes (geometry_of n) (table_in n) (rows_of b.banks) ≡ image_on m a.banks script
+    → image_bytes (geometry_of n) (table_in n) (rows_in_banks b.banks) ≡ image_on m a.banks script
 image_is_on m n script a b e t s =
-    ap (λ (g : Geometry). image_bytes g (table_in n) (rows_of b.banks)) e
-    ∙ ap (λ (x : List Named). image_bytes (geometry_of m) x (rows_of b.banks)) t
+    ap (λ (g : Geometry). image_bytes g (table_in n) (rows_in_banks b.banks)) e
+    ∙ ap (λ (x : List Named). image_bytes (geometry_of m) x (rows_in_banks b.banks)) t
     ∙ ap (λ (x : Banks). image_bytes (geometry_of m) (table_at_end (geometry_of m)
-    (routines_in (program_of m)) (table_in m) script) (rows_of x)) s
+    (routines_in (program_of m)) (table_in m) script) (rows_in_banks x)) s
 
 reads_twice : (m n : ℕ) (k : Counters) → with_reads n (with_reads m k) ≡ with_reads (m + n) k
 reads_twice m n k = ap (λ (r : ℕ). let c : Counters = record k { reads = r } in c)
@@ -247,11 +247,11 @@ own_image program script i m start s =
     ∙ events_are_steps i.geometry o Ahead i.table script (opened i) s.holds.words s.holds.fits in
     ap (λ (g : Geometry). image_bytes g (table_at_end (geometry_of m)
     (routines_in (program_of m)) (table_in m) script)
-    (rows_of (after (events_on m script) start.banks))) s.shape_is
+    (rows_in_banks (after (events_on m script) start.banks))) s.shape_is
     ∙ ap (λ (t : List Named). image_bytes i.geometry t
-    (rows_of (after (events_on m script) start.banks))) same
+    (rows_in_banks (after (events_on m script) start.banks))) same
     ∙ ap (λ (b : Banks). image_bytes i.geometry (table_at_end i.geometry o i.table script)
-    (rows_of b)) banks
+    (rows_in_banks b)) banks
 
 -- the steps to the store of the image
 abbrev pub first_steps : TraceNames → Program → List Instruction → Image → List Step

@@ -13,7 +13,7 @@ use Rattle.bbop_isa.specs.Forms.{Instruction}
 use Rattle.wave_model.specs.Schedule.{Ahead}
 use Rattle.machine_model.specs.declared.Reply.{Reply}
 use Rattle.machine_model.specs.Agrees.{HoldsNumbers, IsPlain}
-use Rattle.machine_model.specs.Opened.{Image, opened, row_writes, rows_of, words_of}
+use Rattle.machine_model.specs.Opened.{Image, opened, row_writes, rows_in_banks, objects_held}
 use Rattle.machine_model.specs.Routines.{Program, Routines, meaning_in, routines_in}
 use Rattle.machine_model.specs.Routines.{routines_of}
 use Rattle.machine_model.specs.Report.{Said, total_line}
@@ -101,7 +101,7 @@ tally_of job = with_reads (job.image.geometry.banks * job.image.geometry.rows)
 -- the image at the end
 abbrev pub image_at_last : GuardJob → List ℕ
 image_at_last job =
-    image_bytes job.image.geometry (table_at_last job) (rows_of (banks_at_last job))
+    image_bytes job.image.geometry (table_at_last job) (rows_in_banks (banks_at_last job))
 
 -- the image is stored, and the lines of the votes and of the totals are sent
 abbrev pub last_steps : List ℕ → GuardJob → List Step
@@ -185,7 +185,7 @@ pub record GuardedRows (out : List ℕ) (job : GuardJob) (after : Files) (old ne
   pub counters : new.chip.counters ≡ tally_of job
   pub log : LogIs (events_of job) new.chip.log
   pub file : after out
-      ≡ Some (image_bytes job.image.geometry (table_at_last job) (rows_of new.chip.banks))
+      ≡ Some (image_bytes job.image.geometry (table_at_last job) (rows_in_banks new.chip.banks))
   pub sent : Known (λ x y. y ≡ x ++ guarded_report (said_of job) (votes_of job) (length job.flips)
       new.chip.counters (replies_of job)) old.sink.sent new.sink.sent
   pub answers : status ≡ done_status (refused_of job)
@@ -197,12 +197,12 @@ operations_by t job = routines_of t job.program
 -- the guarded word machine's state after the script, without flips and votes
 abbrev pub state_by : List TextOp → GuardJob → List Held
 state_by t job = guarded_words_at_end job.image.geometry (operations_by t job) (meaning_in t)
-    (words_of job.image) job.script
+    (objects_held job.image) job.script
 
 -- what the guarded word machine says of the script
 abbrev pub said_by : List TextOp → GuardJob → List Said
 said_by t job = guarded_said_in_words job.image.geometry (operations_by t job) (meaning_in t)
-    (words_of job.image) job.script
+    (objects_held job.image) job.script
 
 -- its replies to the script
 abbrev pub replies_by : List TextOp → GuardJob → List Reply
@@ -212,7 +212,7 @@ replies_by t job = guarded_replies job.image.geometry (operations_by t job) job.
 -- the copies of each object of IMAGE are equal, and between two votes the flips hit at most one of
 -- the three copies of an object in each column of its segments
 pub record IsMendable (t : List TextOp) (job : GuardJob) : Type 0 where
-  pub equal : EqualCopies (words_of job.image)
+  pub equal : EqualCopies (objects_held job.image)
   pub single : Single job.image.geometry (operations_by t job) job.flips 1 job.image.table
       job.script
 
@@ -225,7 +225,7 @@ pub record Mended (t : List TextOp) (job : GuardJob) (old new : World) : Type 0 
   pub equal : EqualCopies (state_by t job)
   pub alone : map unplaced (first_copies (state_by t job))
       ≡ map unplaced (lone_words_at_end job.image.geometry (operations_by t job) (meaning_in t)
-      (first_copies (words_of job.image)) (replies_by t job) job.script)
+      (first_copies (objects_held job.image)) (replies_by t job) job.script)
 
 -- By the ops of a text that the program does: the replies and the table are the guarded word
 -- machine's, whatever the flips are, and no walk was stuck; and what is damaged so is mended

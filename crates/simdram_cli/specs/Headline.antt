@@ -25,7 +25,7 @@ use Rattle.machine_model.specs.Pieces.{script_events}
 use Rattle.machine_model.specs.Script.{sum_of, sum_done, rows_loaded, rows_printed}
 use Rattle.machine_model.specs.Script.{is_refused}
 use Rattle.machine_model.specs.Report.{report, said_in_words}
-use Rattle.machine_model.specs.Opened.{Image, row_writes, opened, rows_of, words_of}
+use Rattle.machine_model.specs.Opened.{Image, row_writes, opened, rows_in_banks, objects_held}
 use Rattle.cli_model.specs.World.{World}
 use Rattle.cli_model.specs.Steps.{Refusal}
 use Rattle.simdram_cli.specs.Accepted.{IsTaken}
@@ -70,7 +70,7 @@ replies_of job = replies job.image.geometry (operations job) job.image.table job
 -- the word machine's state after the script: the objects with their numbers
 abbrev pub state_after : RunJob → List Held
 state_after job = words_at_end job.image.geometry (operations job) (meaning_in job.text)
-    (words_of job.image) job.script
+    (objects_held job.image) job.script
 
 -- PROG is the spelling of a program, which implements the operations; and each command that loads
 -- a program file takes it
@@ -85,7 +85,7 @@ pub record ProgramWritten (names : RunNames) (job : RunJob) (after : Files) : Ty
 pub record ObjectsRight (out : List ℕ) (job : RunJob) (after : Files) (chip : ChipView) : Type 0
   where
     pub file : after out ≡ Some (image_bytes job.image.geometry (table_of (state_after job))
-        (rows_of chip.banks))
+        (rows_in_banks chip.banks))
     pub numbers : HoldsNumbers job.image.geometry chip.banks (state_after job)
 
 -- A row that no done instruction touches is as it was in the image read
@@ -116,7 +116,7 @@ pub record CommandsCounted (job : RunJob) (chip : ChipView) : Type 0 where
 abbrev pub report_of : RunJob → ChipView → List ℕ
 report_of job chip =
     report (said_in_words job.image.geometry (operations job) (meaning_in job.text)
-    (words_of job.image) job.script) chip.counters (replies_of job)
+    (objects_held job.image) job.script) chip.counters (replies_of job)
 
 -- The report was sent, after what was sent before
 abbrev pub ReportSent : RunJob → ChipView → Option (List ℕ) → Option (List ℕ) → Type 0

@@ -10,7 +10,7 @@ use Rattle.object_alloc.specs.Spelling.{image_bytes}
 use Rattle.bbop_isa.specs.Forms.{Instruction}
 use Rattle.machine_model.specs.declared.Reply.{Reply}
 use Rattle.machine_model.specs.Routines.{Program, Routines, routines_in}
-use Rattle.machine_model.specs.Opened.{Image, opened, rows_of}
+use Rattle.machine_model.specs.Opened.{Image, opened, rows_in_banks}
 use Rattle.machine_model.specs.Script.{replies, table_at_end, banks_at_end, sum_of, sum_done}
 use Rattle.machine_model.specs.Script.{rows_loaded, rows_printed, is_refused}
 use Rattle.wave_model.specs.Schedule.{Turn, Ahead}
@@ -56,7 +56,7 @@ done_status refused = if nat_lt 0 refused then 8 else 0
 abbrev pub image_by : Program → List Instruction → Image → List ℕ
 image_by program script i =
     image_bytes i.geometry (table_at_end i.geometry (routines_in program) i.table script)
-    (rows_of (banks_at_end i.geometry (routines_in program) i.table (opened i) script))
+    (rows_in_banks (banks_at_end i.geometry (routines_in program) i.table (opened i) script))
 
 -- lines are sent, the first of which has this number
 abbrev pub put_lines : ℕ → List Said → List Step

@@ -7,7 +7,7 @@ use Rattle.scan_model.specs.declared.ScanWhy.{ScanWhy}
 use Rattle.scan_model.specs.declared.ScanWhy.TheVariants as reasons
 use Rattle.scan_model.specs.Queries.{Query}
 use Rattle.scan_model.specs.Texts.{fault_in, pieces_of}
-use Rattle.scan_model.specs.TextLaws.{Says, words_of}
+use Rattle.scan_model.specs.TextLaws.{Says, bare_words}
 use Rattle.cli_model.specs.Steps.{Refusal}
 
 -- the word for a rule of queries
@@ -37,7 +37,7 @@ query_in text = unless_broken (fault_in text)
 
 -- the tokens of the text spell this query
 abbrev pub Asks : List ℕ → Query → Type 0
-Asks text q = Says (words_of (pieces_of text)) q
+Asks text q = Says (bare_words (pieces_of text)) q
 
 -- the file is there, and its text asks this query
 abbrev pub AsksIn : Option (List ℕ) → Query → Type 0

@@ -8,7 +8,7 @@ use Rattle.dram_model.specs.Chip.Event.{Row, Write}
 use Rattle.dram_model.specs.View.{ChipView, HasBegun}
 use Rattle.host_edge.specs.Views.{Files, Known}
 use Rattle.object_alloc.specs.Spelling.{image_bytes}
-use Rattle.machine_model.specs.Opened.{Image, row_writes, rows_of}
+use Rattle.machine_model.specs.Opened.{Image, row_writes, rows_in_banks}
 use Rattle.trace_model.specs.Spelling.{IsTrace, Trace, bytes_of_trace}
 use Rattle.trace_model.specs.Replay.{replayed}
 use Rattle.cli_model.specs.World.{World}
@@ -57,7 +57,7 @@ replay_line k = codes "replay aap=" ++ decimal k.aap ++ codes " ap=" ++ decimal 
 -- the image of the trace's geometry and objects, with the rows that its events leave from those of
 -- the image read
 abbrev pub image_replayed : Trace → Image → List ℕ
-image_replayed t i = image_bytes t.geometry t.table (rows_of (replayed t.events i))
+image_replayed t i = image_bytes t.geometry t.table (rows_in_banks (replayed t.events i))
 
 -- the chip begins with the image's rows; the events are done; all rows are read; the image of them
 -- is stored, and the counters are sent

@@ -15,7 +15,7 @@ use Rattle.uprog_bin.specs.Spelling.{program_bytes}
 use Rattle.uprog_gen.specs.Totals.{AreExact}
 use Rattle.bbop_isa.specs.Forms.{Instruction}
 use Rattle.machine_model.specs.declared.Why.{Why}
-use Rattle.machine_model.specs.Opened.{Image, opened, row_writes, words_of}
+use Rattle.machine_model.specs.Opened.{Image, opened, row_writes, objects_held}
 use Rattle.machine_model.specs.Refusals.{refusal}
 use Rattle.machine_model.specs.Routines.{Program, routines_in}
 use Rattle.machine_model.specs.Pieces.{script_events}
@@ -64,7 +64,7 @@ scan_counts program q i =
 -- the number of elements of the image that the query holds of, among as many as its objects have:
 -- on the image's numbers alone
 abbrev pub number_found : Query → Image → ℕ
-number_found q i = count_by (λ e. matches q (element (words_of i) e))
+number_found q i = count_by (λ e. matches q (element (objects_held i) e))
     (range_with_len 0 (query_count i.table q))
 
 -- the line of a scan

@@ -11,7 +11,7 @@ use Rattle.uprog_bin.specs.Opened.{IsProgramFile}
 use Rattle.bbop_isa.specs.Forms.{Instruction}
 use Rattle.wave_model.specs.Schedule.{Ahead}
 use Rattle.machine_model.specs.Laws.{TableFits}
-use Rattle.machine_model.specs.Opened.{Image, rows_of}
+use Rattle.machine_model.specs.Opened.{Image, rows_in_banks}
 use Rattle.machine_model.specs.Routines.{Program}
 use Rattle.machine_model.specs.Pieces.{events_of_pieces, pieces}
 use Rattle.machine_model.specs.Report.{total_line}
@@ -142,7 +142,8 @@ pub record Traced (names : TraceNames) (before after : Files) (old new : World) 
   pub within : length (bytes_of_trace (trace_of executed)) ≤ TRACE_MAX
   pub accepted : trace_in (bytes_of_trace (trace_of executed)) ≡ Ok (trace_of executed)
   pub replays : after names.out.now ≡ Some (image_bytes executed.image.geometry
-      (trace_of executed).table (rows_of (replayed (trace_of executed).events executed.image)))
+      (trace_of executed).table
+      (rows_in_banks (replayed (trace_of executed).events executed.image)))
   pub others : (other : List ℕ) → other ≢ names.out.now → other ≢ names.trace.now
       → after other ≡ before other
 
@@ -162,7 +163,7 @@ events_on m script =
 abbrev pub image_on : Machine → Banks → List Instruction → List ℕ
 image_on m banks script =
     image_bytes (geometry_of m) (table_at_end (geometry_of m) (operations_by m) (table_in m) script)
-    (rows_of (after (events_on m script) banks))
+    (rows_in_banks (after (events_on m script) banks))
 
 -- how many rows are read: those of the prints, and all for the image
 abbrev pub reads_on : Machine → List Instruction → ℕ

@@ -12,7 +12,7 @@ ghost use Rattle.object_alloc.specs.Spelling.{IsImage, image_bytes, rows_in};
 ghost use Rattle.object_steps.specs.Objects.{LiesOn};
 ghost use Rattle.bbop_isa.specs.Forms.{view_of};
 ghost use Rattle.machine_model.specs.Agrees.{IsPlain};
-ghost use Rattle.machine_model.specs.Opened.{rows_of};
+ghost use Rattle.machine_model.specs.Opened.{rows_in_banks};
 ghost use Rattle.machine_model.specs.Report.{total_line};
 ghost use Rattle.cli_model.specs.World.{world};
 ghost use Rattle.cli_model.specs.Steps.{Goes, Put, Store, Use};
@@ -167,7 +167,7 @@ fn finish_guarded<'a, F: Folder, S: Sink, D: Dram>(
     ensures did { OnOk result (DidRead ((geometry_of (machine_in guard.old)).banks
         * (geometry_of (machine_in guard.old)).rows) (D.view chip.old) (D.view chip.new)) }
     ensures goes { Goes (Use ∷ Store name.now (image_bytes (geometry_of (machine_in guard.old))
-        (table_in (machine_in guard.old)) (rows_of (D.view chip.old).banks))
+        (table_in (machine_in guard.old)) (rows_in_banks (D.view chip.old).banks))
         ∷ Put (vote_line outcome.votes flips)
         ∷ Put (total_line (with_reads ((geometry_of (machine_in guard.old)).banks
         * (geometry_of (machine_in guard.old)).rows) (D.view chip.old).counters) outcome.refused)

@@ -10,7 +10,7 @@ ghost use Rattle.object_alloc.specs.Reading.{rows_size};
 ghost use Rattle.object_alloc.specs.Spelling.{image_bytes};
 ghost use Rattle.bbop_isa.specs.Forms.{view_of};
 ghost use Rattle.machine_model.specs.Agrees.{IsPlain};
-ghost use Rattle.machine_model.specs.Opened.{rows_of};
+ghost use Rattle.machine_model.specs.Opened.{rows_in_banks};
 ghost use Rattle.machine_model.specs.Report.{total_line};
 ghost use Rattle.cli_model.specs.World.{world};
 ghost use Rattle.cli_model.specs.Steps.{Goes, Open, Use, Store, Put};
@@ -77,7 +77,7 @@ fn finish<'a, F: Folder, S: Sink, D: Dram>(
     ensures did { OnOk result (DidRead ((geometry_of machine.old).banks
         * (geometry_of machine.old).rows) (D.view chip.old) (D.view chip.new)) }
     ensures goes { Goes (Use ∷ Store name.now (image_bytes (geometry_of machine.old)
-        (table_in machine.old) (rows_of (D.view chip.old).banks))
+        (table_in machine.old) (rows_in_banks (D.view chip.old).banks))
         ∷ Put (total_line (with_reads ((geometry_of machine.old).banks
         * (geometry_of machine.old).rows) (D.view chip.old).counters) refused) ∷ [])
         (end_of result) (world (F.view files.old) (S.view out.old) (D.view chip.old))

@@ -10,7 +10,7 @@ ghost use Rattle.simdram_cli.specs.Soak.{soak_plan};
 use crate::stop::Stop;
 use dram_model::Dram;
 use host_edge::Sink;
-use soak_job::SoakNo;
+use soak_job::SoakError;
 use std::alloc::Global;
 
 /// Does the large job of a seed. Nothing is refused.
@@ -27,8 +27,8 @@ pub(crate) fn soak<'a, S: Sink, D: Dram>(
 {
     match soak_job::soak(seed, out, chip, alloc) {
         Ok(()) => Ok(0),
-        Err(SoakNo::NoMemory) => Err(Stop::NoMemory),
-        Err(SoakNo::ChipFailed) => Err(Stop::ChipFailed),
-        Err(SoakNo::PutFailed) => Err(Stop::PutFailed),
+        Err(SoakError::NoMemory) => Err(Stop::NoMemory),
+        Err(SoakError::ChipFailed) => Err(Stop::ChipFailed),
+        Err(SoakError::PutFailed) => Err(Stop::PutFailed),
     }
 }

@@ -14,14 +14,14 @@ use Rattle.uprog_code.specs.Fits.{AreApart, AreBelow, Fits, Range, ranges, scrat
 use Rattle.soak_job.specs.declared.cases.Case.{Case}
 use Rattle.soak_job.specs.Cases.{first_form, one_statement, or_a_word, params_of, source_kinds}
 use Rattle.soak_job.specs.Cases.{source_names}
-use Rattle.soak_job.specs.Layout.{FitsChip, bases_from, layout, result_rows, rows_of, source_rows}
+use Rattle.soak_job.specs.Layout.{FitsChip, bases_from, layout, result_rows, source_row_count, source_rows}
 use Rattle.soak_job.proofs.Counting.{sum_cons}
 
-rows_cons : (n : ℕ) (k : Kind) (ks : List Kind) → rows_of n (k ∷ ks) ≡ width k n + rows_of n ks
+rows_cons : (n : ℕ) (k : Kind) (ks : List Kind) → source_row_count n (k ∷ ks) ≡ width k n + source_row_count n ks
 rows_cons n k ks = sum_cons (λ (j : Kind). width j n) k ks
 
 -- sources that end below the spill group
-sources_below : (row n : ℕ) (kinds : List Kind) → row + rows_of n kinds ≤ 480
+sources_below : (row n : ℕ) (kinds : List Kind) → row + source_row_count n kinds ≤ 480
     → AreBelow 512 n kinds (bases_from row n kinds)
 sources_below row n [] l = tt
 sources_below row n (k ∷ ks) l =
@@ -34,7 +34,7 @@ sources_below row n (k ∷ ks) l =
 pub record EndsBy (end : ℕ) (r : Range) : Type 0 where
   pub within : r.base + r.size ≤ end
 
-sources_end : (row n end : ℕ) (kinds : List Kind) → row + rows_of n kinds ≤ end
+sources_end : (row n end : ℕ) (kinds : List Kind) → row + source_row_count n kinds ≤ end
     → AllByRecursion (EndsBy end) (ranges n kinds (bases_from row n kinds))
 sources_end row n end [] l = tt
 sources_end row n end (k ∷ ks) l =

@@ -6,7 +6,7 @@ use Rattle.std.specs.Prelude.{Result, Ok, Err, IfOk}
 use Rattle.host_edge.specs.Views.{FolderView, SinkView, Known, AppendsPart}
 use Rattle.faults.specs.Counts.{Rose}
 use Rattle.dram_model.specs.declared.dram.Counters.{Counters}
-use Rattle.dram_model.specs.View.{Began, ChipView, Kept, NotBegun}
+use Rattle.dram_model.specs.View.{Began, ChipView, Kept}
 use Rattle.dram_model.proofs.EventLaws.{Did-none, Grew-more, LogIs-more}
 use Rattle.uprog_code.specs.Shape.{Microprogram}
 use Rattle.cli_model.specs.World.{World, world}
@@ -18,8 +18,8 @@ use Rattle.soak_job.specs.Layout.{case_events, result_rows, soak_chip, source_ro
 use Rattle.soak_job.specs.Sums.{case_line, last_line}
 use Rattle.soak_job.specs.OneCase.{CaseDone, IsFileOf, IsProgramOf, RisesLittle}
 use Rattle.soak_job.proofs.Counting.{sum_cons}
-use Rattle.soak_job.specs.declared.job.SoakNo.{SoakNo}
-use Rattle.soak_job.specs.declared.job.SoakNo.TheVariants as no
+use Rattle.soak_job.specs.declared.job.SoakError.{SoakError}
+use Rattle.soak_job.specs.declared.job.SoakError.TheVariants as no
 use Rattle.soak_job.specs.Steps.{cases_steps}
 use Rattle.soak_job.specs.Done.{CaseWent, CasesDone, CasesGo, SoakGoes, SoakLeft, cases_events}
 use Rattle.soak_job.specs.Done.{end_of}
@@ -79,16 +79,6 @@ case_went state c m files s t a b is l known k done few = record {
   );
   done = done;
   few = few;
-}
-
--- there was no memory for a case
-pub stops_at_take : (state : ℕ) (c : Case) (cs : List Case) (w : World)
-    → CasesGo state (c ∷ cs) w w (Err no.NoMemory)
-stops_at_take state c cs w = record {
-  programs = [];
-  are = tt;
-  goes = inr (refl, nothing_read w);
-  done = tt;
 }
 
 -- the chip failed in a case
@@ -156,7 +146,7 @@ both_done state c cs m ms a b d one more =
     }
 
 done_more : (state : ℕ) (c : Case) (cs : List Case) (m : Microprogram) (ms : List Microprogram)
-    (a b d : ChipView) (result : Result Unit SoakNo) → CaseDone state c m a b
+    (a b d : ChipView) (result : Result Unit SoakError) → CaseDone state c m a b
     → IfOk result (λ u. CasesDone (after_all state (source_kinds c.op)) cs ms b d)
     → IfOk result (λ u. CasesDone state (c ∷ cs) (m ∷ ms) a d)
 done_more state c cs m ms a b d (Ok u) one more = both_done state c cs m ms a b d one more
@@ -164,7 +154,7 @@ done_more state c cs m ms a b d (Err why) one more = tt
 
 -- a case, and the others after it
 pub goes_on : (state : ℕ) (c : Case) (cs : List Case) (old mid last : World)
-    (result : Result Unit SoakNo) → CaseWent state c old mid
+    (result : Result Unit SoakError) → CaseWent state c old mid
     → CasesGo (after_all state (source_kinds c.op)) cs mid last result
     → CasesGo state (c ∷ cs) old last result
 goes_on state c cs old mid last result one more = record {
@@ -210,7 +200,7 @@ not_known state files s t chip known l rose = record {
 }
 
 left_of : (seed : ℕ) (ms : List Microprogram) (begun last : ChipView)
-    (result : Result Unit SoakNo) → Began soak_chip begun → Kept begun last
+    (result : Result Unit SoakError) → Began soak_chip begun → Kept begun last
     → IfOk result (λ u. CasesDone seed soak_cases ms begun last)
     → IfOk result (λ u. SoakLeft seed ms last)
 left_of seed ms begun last (Err why) began kept done = tt
@@ -230,7 +220,7 @@ left_of seed ms begun last (Ok u) began kept done =
 
 -- the chip began, and the cases followed
 pub soak_goes : (seed : ℕ) (files : FolderView) (s : SinkView) (a b : ChipView) (last : World)
-    (result : Result Unit SoakNo) → Began soak_chip b → a.faults ≤ b.faults
+    (result : Result Unit SoakError) → Began soak_chip b → a.faults ≤ b.faults
     → Kept b last.chip → CasesGo seed soak_cases (world files s b) last result
     → SoakGoes seed (world files s a) last result
 soak_goes seed files s a b last result began l kept go = record {
@@ -238,24 +228,4 @@ soak_goes seed files s a b last result began l kept go = record {
   are = go.are;
   goes = inl (world files s b, (chip_used files s a b l, go.goes));
   left = left_of seed go.programs b last.chip result began kept go.done;
-}
-
-pub soak_unopened : (seed : ℕ) (files : FolderView) (s : SinkView) (a b : ChipView)
-    → NotBegun b → a.faults ≤ b.faults
-    → SoakGoes seed (world files s a) (world files s b) (Err no.NoMemory)
-soak_unopened seed files s a b not l = record {
-  programs = [];
-  are = tt;
-  goes = inr (inl (refl, chip_used files s a b l, inr not));
-  left = tt;
-}
-
-pub soak_failed : (seed : ℕ) (files : FolderView) (s : SinkView) (a b : ChipView)
-    → a.faults ≤ b.faults → Rose a.faults b.faults
-    → SoakGoes seed (world files s a) (world files s b) (Err no.ChipFailed)
-soak_failed seed files s a b l rose = record {
-  programs = [];
-  are = tt;
-  goes = inr (inr (refl, chip_used files s a b l, rose));
-  left = tt;
 }

@@ -25,7 +25,7 @@ use Rattle.uprog_code.specs.Implements.{numbers}
 use Rattle.uprog_code.specs.Shape.{width}
 use Rattle.soak_job.proofs.Counting.{sum_cons}
 use Rattle.soak_job.specs.Words.{following, after_all, elements, sources_at, value_at, values_of}
-use Rattle.soak_job.specs.Layout.{bases_from, rows_of, soak_chip, source_writes}
+use Rattle.soak_job.specs.Layout.{bases_from, source_row_count, soak_chip, source_writes}
 use Rattle.soak_job.specs.OneCase.{WritesMore}
 
 -- banks whose columns are alike
@@ -95,23 +95,12 @@ Completes n kinds rest first state row now = (banks : Banks)
 -- the sources so far were written
 pub record SoFar (n : ℕ) (kinds rest : List Kind) (first state row : ℕ) (start now : ChipView) :
     Type 0 where
-  pub rows : row + rows_of n rest ≡ rows_of n kinds
+  pub rows : row + source_row_count n rest ≡ source_row_count n kinds
   pub writes : WritesMore (2 * row) start.counters now.counters
   pub did : (new : ChipView) → Did (source_writes state row n rest) now new
       → Did (source_writes first 0 n kinds) start new
   pub completes : Completes n kinds rest first state row now.banks
   pub after_is : after_all state rest ≡ after_all first kinds
-
-pub at_start : (n : ℕ) (kinds : List Kind) (first : ℕ) (start : ChipView)
-    → SoFar n kinds kinds first first 0 start start
-at_start n kinds first start = let no_more : start.counters.writes
-    ≡ start.counters.writes + 2 * 0 = omega arith in record {
-      rows = omega arith;
-      writes = ap (λ x. record start.counters { writes = x }) no_more;
-      did = λ new d. d;
-      completes = λ banks low e. e;
-      after_is = refl;
-    }
 
 wide : (n : ℕ) (k : Kind) → 0 < n → 0 < width k n
 wide n Word p = p
@@ -151,7 +140,7 @@ one_more n kinds rest more k first state row start now mid p e so wrote are =
     wrote.counters ∙ counted_hold soak_chip row w (values_of state w) now.counters
     ∙ ap (λ m. record now.counters { writes = now.counters.writes + w * segments_of soak_chip m })
     size in
-    let all : rows_of n (k ∷ more) ≡ w + rows_of n more =
+    let all : source_row_count n (k ∷ more) ≡ w + source_row_count n more =
     sum_cons (λ (j : Kind). width j n) k more in
     let sum : now.counters.writes + w * 2 ≡ start.counters.writes + 2 * (row + w) =
     omega (arith, ap (λ (c : Counters). c.writes) here.writes) in
@@ -197,11 +186,11 @@ step_as n kinds rest more values k first state row next up w start now mid p e g
 
 -- rows for one source more
 pub has_rows : (n : ℕ) (rest more : List Kind) (k : Kind) (row w all : ℕ) → rest ≡ k ∷ more
-    → w ≡ width k n → row + rows_of n rest ≡ all → all ≤ 512 → row + w ≤ 512
+    → w ≡ width k n → row + source_row_count n rest ≡ all → all ≤ 512 → row + w ≤ 512
 has_rows n rest more k row w all e ew h l =
-    let cons : rows_of n (k ∷ more) ≡ width k n + rows_of n more =
+    let cons : source_row_count n (k ∷ more) ≡ width k n + source_row_count n more =
     sum_cons (λ (j : Kind). width j n) k more in
-    let same : rows_of n rest ≡ rows_of n (k ∷ more) = ap (rows_of n) e in
+    let same : source_row_count n rest ≡ source_row_count n (k ∷ more) = ap (source_row_count n) e in
     omega (arith, cons, same, ew, h, l)
 
 abbrev no_numbers : List ℕ

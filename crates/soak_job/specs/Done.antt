@@ -8,8 +8,8 @@ use Rattle.uprog_code.specs.Shape.{Microprogram}
 use Rattle.cli_model.specs.World.{World}
 use Rattle.cli_model.specs.Steps.{Step, Take, Use, Put, End, Done, Stopped, NoMemory, ChipFailed}
 use Rattle.cli_model.specs.Steps.{PutFailed, Goes}
-use Rattle.soak_job.specs.declared.job.SoakNo.{SoakNo}
-use Rattle.soak_job.specs.declared.job.SoakNo.TheVariants as no
+use Rattle.soak_job.specs.declared.job.SoakError.{SoakError}
+use Rattle.soak_job.specs.declared.job.SoakError.TheVariants as no
 use Rattle.soak_job.specs.declared.cases.Case.{Case}
 use Rattle.soak_job.specs.Cases.{source_kinds, soak_cases}
 use Rattle.soak_job.specs.Words.{after_all}
@@ -47,13 +47,13 @@ pub record CasesDone (state : ℕ) (cs : List Case) (ms : List Microprogram) (ol
   pub log : Grew old.log new.log (cases_events state cs ms)
 
 -- why a soak stopped, as the end of a command
-abbrev pub end_by : SoakNo → End
+abbrev pub end_by : SoakError → End
 end_by no.NoMemory = Stopped NoMemory
 end_by no.ChipFailed = Stopped ChipFailed
 end_by no.PutFailed = Stopped PutFailed
 
 -- how a soak ended, as the end of a command
-abbrev pub end_of : {A : Type 0} → Result A SoakNo → End
+abbrev pub end_of : {A : Type 0} → Result A SoakError → End
 end_of (Ok done) = Done
 end_of (Err why) = end_by why
 
@@ -75,7 +75,7 @@ pub record SoakLeft (seed : ℕ) (ms : List Microprogram) (chip : ChipView) : Ty
 
 -- What a soak comes to: the programs of its cases, the steps that it goes through, and what it
 -- leaves on the chip where it is done
-pub record SoakGoes (seed : ℕ) (old new : World) (result : Result Unit SoakNo) : Type 0 where
+pub record SoakGoes (seed : ℕ) (old new : World) (result : Result Unit SoakError) : Type 0 where
   pub programs : List Microprogram
   pub are : AreProgramsOf soak_cases programs
   pub goes : Goes (soak_steps seed programs) (end_of result) old new
@@ -98,7 +98,7 @@ pub record CaseWent (state : ℕ) (c : Case) (old new : World) : Type 0 where
   pub few : RisesLittle old.chip.counters new.chip.counters
 
 -- what the cases from a state of the generator on come to
-pub record CasesGo (state : ℕ) (cs : List Case) (old new : World) (result : Result Unit SoakNo) :
+pub record CasesGo (state : ℕ) (cs : List Case) (old new : World) (result : Result Unit SoakError) :
     Type 0 where
   pub programs : List Microprogram
   pub are : AreProgramsOf cs programs

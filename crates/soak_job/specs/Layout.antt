@@ -24,12 +24,12 @@ bases_from row n [] = []
 bases_from row n (k ∷ ks) = row ∷ bases_from (row + width k n) n ks
 
 -- how many rows sources of these kinds take
-abbrev pub rows_of : ℕ → List Kind → ℕ
-rows_of n kinds = sum_by (λ k. width k n) kinds
+abbrev pub source_row_count : ℕ → List Kind → ℕ
+source_row_count n kinds = sum_by (λ k. width k n) kinds
 
 -- how many rows of each bank the sources take
 abbrev pub source_rows : Case → ℕ
-source_rows c = rows_of c.n (source_kinds c.op)
+source_rows c = source_row_count c.n (source_kinds c.op)
 
 -- how many rows of each bank the result takes
 abbrev pub result_rows : Case → ℕ

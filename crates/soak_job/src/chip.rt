@@ -16,7 +16,7 @@ ghost use Rattle.uprog_ctl.specs.Waves.{wave_events};
 ghost use Rattle.wave_model.specs.Schedule.{in_turn, Ahead};
 ghost use Rattle.soak_job.specs.Cases.{source_kinds};
 ghost use Rattle.soak_job.specs.Words.{after_all};
-ghost use Rattle.soak_job.specs.Layout.{bases_from, rows_of, soak_chip, source_rows};
+ghost use Rattle.soak_job.specs.Layout.{bases_from, source_row_count, soak_chip, source_rows};
 ghost use Rattle.soak_job.specs.Layout.{layout, case_queues, issues_at, FitsChip};
 ghost use Rattle.soak_job.specs.Sums.{case_sum, in_both_banks};
 ghost use Rattle.soak_job.specs.OneCase.{CaseDone, IsFileOf, IsProgramOf, RisesLittle};
@@ -36,7 +36,7 @@ use uprog_ctl::{Forward, Job, run_wave};
 fn bases_of(kinds: &[Kind], n: u8) -> (ArrayVec<u16, 4>, u16)
     requires few { length kinds.now ≤ 3 }
     ensures bases { result.0.items ≡ bases_from 0 n kinds.now }
-    ensures end { result.1 ≡ rows_of n kinds.now }
+    ensures end { result.1 ≡ source_row_count n kinds.now }
     ensures within { result.1 ≤ 765 }
 {
     let mut bases = ArrayVec::new();

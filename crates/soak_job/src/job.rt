@@ -23,7 +23,7 @@ use std::alloc::Global;
 
 /// Why a soak stopped.
 #[derive(Clone, Copy, PartialEq, Eq)]
-pub enum SoakNo {
+pub enum SoakError {
     NoMemory,
     ChipFailed,
     PutFailed,
@@ -36,7 +36,7 @@ fn soak_case<S: Sink, D: Dram>(
     out: &mut S,
     chip: &mut D,
     alloc: Global,
-) -> Result<(), SoakNo>
+) -> Result<(), SoakError>
     requires begun { HasBegun (D.view chip.old) }
     requires geometry { (D.view chip.old).geometry ≡ soak_chip }
     requires can { CanBeDone case }
@@ -56,14 +56,14 @@ fn soak_case<S: Sink, D: Dram>(
         (world files (S.view out.new) (D.view chip.new)) (Err why)) }
 {
     let Ok(file) = program_file(case.op, alloc) else {
-        return Err(SoakNo::NoMemory);
+        return Err(SoakError::NoMemory);
     };
     let Ok(outcome) = do_case(chip, case, &file, generator) else {
-        return Err(SoakNo::ChipFailed);
+        return Err(SoakError::ChipFailed);
     };
     let line = line_of(case, outcome.counts, outcome.sum);
     if out.put(line.as_slice()).is_err() {
-        return Err(SoakNo::PutFailed);
+        return Err(SoakError::PutFailed);
     }
     Ok(())
 }
@@ -75,7 +75,7 @@ fn soak_cases<S: Sink, D: Dram>(
     out: &mut S,
     chip: &mut D,
     alloc: Global,
-) -> Result<(), SoakNo>
+) -> Result<(), SoakError>
     requires begun { HasBegun (D.view chip.old) }
     requires geometry { (D.view chip.old).geometry ≡ soak_chip }
     requires can { AllByRecursion CanBeDone cases.now }
@@ -95,7 +95,7 @@ fn soak_cases<S: Sink, D: Dram>(
     }
     let line = last_line(cases.len());
     if out.put(line.as_slice()).is_err() {
-        return Err(SoakNo::PutFailed);
+        return Err(SoakError::PutFailed);
     }
     Ok(())
 }
@@ -109,7 +109,7 @@ pub fn soak<S: Sink, D: Dram>(
     out: &mut S,
     chip: &mut D,
     alloc: Global,
-) -> Result<(), SoakNo>
+) -> Result<(), SoakError>
     ensures borrow { D.borrow chip.new ≡ D.borrow chip.old }
     ensures goes { (files : FolderView) → SoakGoes seed
         (world files (S.view out.old) (D.view chip.old))
@@ -117,8 +117,8 @@ pub fn soak<S: Sink, D: Dram>(
 {
     match chip.begin(CHIP) {
         Ok(()) => {}
-        Err(BeginNo::NoMemory) => return Err(SoakNo::NoMemory),
-        Err(BeginNo::Failed) => return Err(SoakNo::ChipFailed),
+        Err(BeginNo::NoMemory) => return Err(SoakError::NoMemory),
+        Err(BeginNo::Failed) => return Err(SoakError::ChipFailed),
     }
     let cases = all_cases();
     let mut generator = SplitMix64::seed_from_u64(seed);

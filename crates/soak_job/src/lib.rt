@@ -13,4 +13,4 @@ mod sums;
 mod words;
 
 pub use cases::Case;
-pub use job::{SoakNo, soak};
+pub use job::{SoakError, soak};

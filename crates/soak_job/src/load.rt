@@ -6,7 +6,7 @@ ghost use Rattle.dram_model.specs.View.{HasBegun, Kept, Did};
 ghost use Rattle.dram_model.specs.Elements.{below};
 ghost use Rattle.faults.specs.Counts.{Rose};
 ghost use Rattle.uprog_code.specs.Implements.{numbers};
-ghost use Rattle.soak_job.specs.Layout.{bases_from, rows_of, soak_chip, source_writes};
+ghost use Rattle.soak_job.specs.Layout.{bases_from, source_row_count, soak_chip, source_writes};
 ghost use Rattle.soak_job.specs.Words.{after_all, elements, sources_at};
 ghost use Rattle.soak_job.specs.OneCase.{WritesMore};
 
@@ -39,7 +39,7 @@ pub(crate) fn load_sources<D: Dram>(
     requires geometry { (D.view chip.old).geometry ≡ soak_chip }
     requires some { 0 < n }
     requires narrow { n ≤ 64 }
-    requires rows { rows_of n kinds.now ≤ 512 }
+    requires rows { source_row_count n kinds.now ≤ 512 }
     requires room { (D.view chip.old).counters.writes < 2 ^ 60 }
     ensures borrow { D.borrow chip.new ≡ D.borrow chip.old }
     ensures kept { Kept (D.view chip.old) (D.view chip.new) }
@@ -49,8 +49,8 @@ pub(crate) fn load_sources<D: Dram>(
     ensures numbers { OnOk result (map (numbers n kinds.now (bases_from 0 n kinds.now))
         (below 2 (D.view chip.new).banks)
         ≡ map (sources_at generator.old n kinds.now) (range_with_len 0 elements)) }
-    ensures writes { OnOk result (WritesMore (2 * rows_of n kinds.now) (D.view chip.old).counters
-        (D.view chip.new).counters) }
+    ensures writes { OnOk result (WritesMore (2 * source_row_count n kinds.now)
+        (D.view chip.old).counters (D.view chip.new).counters) }
     ensures following { OnOk result (generator.new ≡ after_all generator.old kinds.now) }
     ensures failed { OnErr result (Rose (D.view chip.old).faults (D.view chip.new).faults) }
 {

@@ -69,7 +69,7 @@ pub ran_none : (g : Geometry) (p : Program) (turn : Turn) (table : List Named) (
 ran_none g p turn table a = record { tables = refl; turns = refl; did = did_none a }
 
 -- one
-plus_none : (n : ℕ) → n ≡ n + 0
+pub plus_none : (n : ℕ) → n ≡ n + 0
 plus_none n = omega arith
 
 pub ran_one : (g : Geometry) (p : Program) (turn turn' : Turn) (table table' : List Named)

@@ -4,6 +4,7 @@ use Rattle.std.proofs.Common.{Some, None, refl, sym, ◌∙◌, ap, subst, arith
 use Rattle.host_edge.specs.Views.{SinkView, Known, AppendsPart}
 use Rattle.faults.specs.Counts.{Rose}
 use Rattle.dram_model.specs.View.{ChipView, DidRead}
+use Rattle.object_steps.specs.Lines.{DidReadAtMost}
 use Rattle.bit_rows.specs.declared.TheConstants.{WIDTH_MAX}
 use Rattle.uprog_code.specs.declared.TheConstants.{WALK_MAX}
 use Rattle.object_alloc.specs.Listed.{has_name}
@@ -17,6 +18,7 @@ use Rattle.machine_model.specs.Refusals.{refusal, when, object_named}
 use Rattle.machine_model.specs.Columns.{columns}
 use Rattle.std.specs.Prelude.{take}
 use Rattle.machine_model.specs.Steps.{reply_by}
+use Rattle.machine_model.specs.Script.{rows_printed, sum_done}
 use Rattle.machine_model.specs.Report.{line, said_of}
 use Rattle.machine_model.specs.Report.Said.{Answered}
 use Rattle.machine_model.specs.Pieces.{piece_of, piece_events}
@@ -31,8 +33,8 @@ use Rattle.guard_model.specs.Triples.{x_letter}
 use Rattle.guard_model.specs.Guarded.{joined, guarded_reply}
 use Rattle.guard_model.proofs.Runs.{none_yet, script_done, script_refused}
 use Rattle.tmr_guard.specs.Steps.{Broke, Guarded, RanBy, line_by, reply_by as answer_by}
-use Rattle.tmr_guard.specs.Steps.{script_by}
-use Rattle.tmr_guard.proofs.Runs.{ran_none, ran_one}
+use Rattle.tmr_guard.specs.Steps.{events_by, reads_by as guard_reads, script_by}
+use Rattle.tmr_guard.proofs.Runs.{did_none, plus_none, ran_none, ran_one}
 
 abbrev no_commands : Reply
 no_commands = Done (record { aap = 0; ap = 0 })
@@ -143,9 +145,10 @@ module _ (m new : Machine) (number : ℕ) (name : List ℕ) (chip chip' : ChipVi
         → has_name (table_in m) k ≡ true
         → (fault ≡ ChipFault → Rose chip.faults chip'.faults)
         → (fault ≡ WriteFault → Rose sink.faults sink'.faults)
+        → (fault ≡ WriteFault → DidReadAtMost (reads_by m (Print k)) chip chip')
         → Known (AppendsPart (line_shown m number chip.banks k name)) sink.sent sink'.sent
         → Broke m number (Print name) chip chip' sink sink' fault
-    shown_broke k fault is stands chip_rose sink_rose part =
+    shown_broke k fault is stands chip_rose sink_rose read part =
         let g = geometry_of m in
         let o = operations_by m in
         let has : has_name (table_in m) copy ≡ true =
@@ -158,18 +161,26 @@ module _ (m new : Machine) (number : ℕ) (name : List ℕ) (chip chip' : ChipVi
         ≡ line_by m number chip.banks (Print name) =
         ap (λ n. line_shown m number chip.banks n name) is
         ∙ ap (λ r. line number (said_of r (Print name) shown_values)) (sym reply) in
+        let script : script_by m (Print name) ≡ Print copy ∷ [] =
+        script_done g o (table_in m) (Print copy ∷ []) (allowed, tt) in
+        let reads : guard_reads m (Print name) ≡ reads_by m (Print k) =
+        ap (sum_done rows_printed g o (table_in m)) script
+        ∙ sym (plus_none (reads_by m (Print copy)))
+        ∙ sym (ap (λ n. reads_by m (Print n)) is) in
         record {
           chip_rose = chip_rose;
           sink_rose = sink_rose;
           unsent = λ e p. absurd (cc);
+          done = λ e p. absurd (cc);
+          read = λ e p. subst (λ n. DidReadAtMost n chip chip') (sym reads) (read e);
           part = subst (λ text. Known (AppendsPart text) sink.sent sink'.sent) shown part;
         }
 
     pub absent_broke : (k : List ℕ) → k ≡ copy → has_name (table_in m) k ≡ false
-        → Rose sink.faults sink'.faults
+        → chip' ≡ chip → Rose sink.faults sink'.faults
         → Known (AppendsPart (line number (Answered (Refused (why.NoObject 0))))) sink.sent
         sink'.sent → Broke m number (Print name) chip chip' sink sink' WriteFault
-    absent_broke k is stands rose part =
+    absent_broke k is stands same rose part =
         let g = geometry_of m in
         let o = operations_by m in
         let has : has_name (table_in m) copy ≡ false =
@@ -182,9 +193,18 @@ module _ (m new : Machine) (number : ℕ) (name : List ℕ) (chip chip' : ChipVi
           chip_rose = λ e. absurd (cc);
           sink_rose = λ e. rose;
           unsent = λ e. absurd (cc);
+          done = λ e p. absurd (cc);
+          read = λ e p. none_read same;
           part = subst (λ text. Known (AppendsPart text) sink.sent sink'.sent)
               (ap (λ r. line number (said_of r (Print name) shown_values)) (sym reply)) part;
-        }
+        } where
+          none_read : {n : ℕ} → chip' ≡ chip → DidReadAtMost n chip chip'
+          none_read same = let none = did_none chip in record {
+            rows = 0;
+            few = omega arith;
+            did = subst (DidRead 0 chip) (sym same)
+                (record { banks = none.banks; counters = none.counters; log = none.log });
+          }
 
 -- of an instruction but a print the reply is said
 pub said_answered : (reply : Reply) (instr : Instruction) (values : List ℕ → List ℕ)
@@ -213,18 +233,24 @@ silent_broke m number instr chip chip' sink rose = record {
   chip_rose = λ e. rose;
   sink_rose = λ e. absurd (cc);
   unsent = λ e h. refl;
+  done = λ e. absurd (cc);
+  read = λ e. absurd (cc);
   part = no_part (line_by m number chip.banks instr) sink.sent;
 }
 
 pub reply_broke : (m : Machine) (number : ℕ) (instr : Instruction) (reply : Reply)
     (chip chip' : ChipView) (sink sink' : SinkView) → is_print instr ≡ false
-    → reply ≡ answer_by m instr → Rose sink.faults sink'.faults
+    → reply ≡ answer_by m instr
+    → DidAndRead (events_by m instr) (guard_reads m instr) chip chip'
+    → Rose sink.faults sink'.faults
     → Known (AppendsPart (line number (Answered reply))) sink.sent sink'.sent
     → Broke m number instr chip chip' sink sink' WriteFault
-reply_broke m number instr reply chip chip' sink sink' h e rose part = record {
+reply_broke m number instr reply chip chip' sink sink' h e did rose part = record {
   chip_rose = λ f. absurd (cc);
   sink_rose = λ f. rose;
   unsent = λ f. absurd (cc);
+  done = λ f p. did;
+  read = λ f p. absurd (cc);
   part = subst (λ text. Known (AppendsPart text) sink.sent sink'.sent)
       (line_is m number chip instr reply h e) part;
 }

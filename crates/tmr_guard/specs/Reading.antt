@@ -8,20 +8,20 @@ use Rattle.bbop_isa.specs.Words.{words_in}
 use Rattle.guard_model.specs.declared.Flip.{Flip}
 use Rattle.guard_model.specs.declared.FlipsKind.TheVariants.{Lex}
 use Rattle.guard_model.specs.FlipText.{numbers_of, flip_in, flips_of}
-use Rattle.tmr_guard.specs.declared.texts.LineNo.{LineNo}
-use Rattle.tmr_guard.specs.declared.texts.LineNo.TheVariants as line_no
+use Rattle.tmr_guard.specs.declared.texts.FlipLineError.{FlipLineError}
+use Rattle.tmr_guard.specs.declared.texts.FlipLineError.TheVariants as line_no
 use Rattle.tmr_guard.specs.declared.texts.FlipsNo.{FlipsNo}
 use Rattle.tmr_guard.specs.declared.texts.FlipsNo.TheVariants as no
 
 -- the numbers of the line, where its words are all numbers, or a byte of it starts no token
-abbrev pub NumbersOf : List ℕ → Result (Option (Vec (Option ℕ) Global)) LineNo → Type 0
+abbrev pub NumbersOf : List ℕ → Result (Option (Vec (Option ℕ) Global)) FlipLineError → Type 0
 NumbersOf line (Ok found) = option_map numbers_of (words_in (items_of line))
     ≡ Some (option_map (λ v. v.items) found)
 NumbersOf line (Err (line_no.Bad kind)) = (words_in (items_of line) ≡ None) × (kind ≡ Lex)
 NumbersOf line (Err line_no.NoMemory) = Unit {0}
 
 -- what the line says
-abbrev pub FlipIn : Geometry → ℕ → ℕ → List ℕ → Result (Option Flip) LineNo → Type 0
+abbrev pub FlipIn : Geometry → ℕ → ℕ → List ℕ → Result (Option Flip) FlipLineError → Type 0
 FlipIn g instrs before line (Ok f) = flip_in g instrs before (words_in (items_of line)) ≡ Ok f
 FlipIn g instrs before line (Err (line_no.Bad kind)) =
     flip_in g instrs before (words_in (items_of line)) ≡ Err kind

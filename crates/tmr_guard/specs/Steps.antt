@@ -15,6 +15,7 @@ use Rattle.machine_model.specs.declared.Reply.{Reply}
 use Rattle.uprog_code.specs.declared.TheConstants.{WALK_MAX}
 use Rattle.machine_model.specs.Routines.{Program, routines_in}
 use Rattle.machine_model.specs.Steps.{reply_to}
+use Rattle.object_steps.specs.Lines.{DidReadAtMost}
 use Rattle.object_steps.specs.Objects.{RisesAtMost}
 use Rattle.object_steps.specs.declared.fault.StepFault.{StepFault}
 use Rattle.object_steps.specs.declared.fault.StepFault.TheVariants.{ChipFault, WriteFault}
@@ -74,7 +75,7 @@ abbrev pub line_by : Machine → ℕ → Banks → Instruction → List ℕ
 line_by m number banks instr =
     line number (guarded_said_by (geometry_of m) (operations_by m) (table_in m) banks instr)
 
--- the plain script that it comes to
+-- the plain script that a guarded instruction comes to
 abbrev pub script_by : Machine → Instruction → List Instruction
 script_by m instr = plain_script (geometry_of m) (operations_by m) (table_in m) instr
 
@@ -86,12 +87,12 @@ pub record Ran (g : Geometry) (p : Program) (turn turn' : Turn) (table table' : 
   pub did : DidAndRead (events_of_pieces g (routines_in p) turn table (map piece_of script))
       (sum_done rows_printed g (routines_in p) table script) chip chip'
 
--- so it was on a machine
+-- these plain instructions were done on a machine, one after another
 abbrev pub RanBy : Machine → Machine → List Instruction → ChipView → ChipView → Type 0
 RanBy old new script chip chip' = Ran (geometry_of old) (program_of old) (turn_in old)
     (turn_in new) (table_in old) (table_in new) script chip chip'
 
--- one of them was done, and this is its reply
+-- a plain instruction of a program was done, and this is its reply
 pub record One (g : Geometry) (p : Program) (turn turn' : Turn) (table table' : List Named)
     (instr : Instruction) (reply : Reply) (chip chip' : ChipView) : Type 0 where
   pub ran : Ran g p turn turn' table table' (instr ∷ []) chip chip'
@@ -129,12 +130,17 @@ pub record Guarded (old new : Machine) (number : ℕ) (instr : Instruction) (chi
   pub sent : Known (λ before after. after ≡ before ++ line_by old number chip.banks instr)
       sink.sent sink'.sent
 
--- a count of faults rose, and of no line but a print's a part was put where that is the chip's
+-- A count of faults rose. Where that is the chip's, of no line but a print's a part was put. Where
+-- it is the sink's, all was done, but of a print perhaps not each row was read.
 pub record Broke (old : Machine) (number : ℕ) (instr : Instruction) (chip chip' : ChipView)
     (sink sink' : SinkView) (fault : StepFault) : Type 0 where
   pub chip_rose : fault ≡ ChipFault → Rose chip.faults chip'.faults
   pub sink_rose : fault ≡ WriteFault → Rose sink.faults sink'.faults
   pub unsent : fault ≡ ChipFault → is_print instr ≡ false → sink' ≡ sink
+  pub done : fault ≡ WriteFault → is_print instr ≡ false
+      → DidAndRead (events_by old instr) (reads_by old instr) chip chip'
+  pub read : fault ≡ WriteFault → is_print instr ≡ true
+      → DidReadAtMost (reads_by old instr) chip chip'
   pub part : Known (AppendsPart (line_by old number chip.banks instr)) sink.sent sink'.sent
 
 -- How a guarded instruction went: it was done and told, or the chip or the sink failed.

@@ -10,8 +10,9 @@ ghost use Rattle.dram_model.specs.View.{HasBegun, Kept, Did, DidRead, StoppedIn}
 ghost use Rattle.object_alloc.specs.Spelling.{image_bytes};
 ghost use Rattle.bbop_isa.specs.Forms.{view_of, Print};
 ghost use Rattle.machine_model.specs.Agrees.{IsPlain};
-ghost use Rattle.machine_model.specs.Opened.{rows_of};
+ghost use Rattle.machine_model.specs.Opened.{rows_in_banks};
 ghost use Rattle.machine_model.specs.Script.{counted_in, plus as sum};
+ghost use Rattle.object_steps.specs.Lines.{DidReadAtMost};
 ghost use Rattle.object_steps.specs.Objects.{RisesAtMost};
 ghost use Rattle.sim_machine.specs.Machine.{IsReady, file_of, geometry_of, is_print, program_of};
 ghost use Rattle.sim_machine.specs.Machine.{table_in, turn_in};
@@ -396,13 +397,21 @@ impl<'a> Guard<'a> {
             (S.view out.old).sent (S.view out.new).sent) }
 
         // After a fault nothing is said of the table. Of no line but a print's is a part put where
-        // the chip fails.
+        // the chip fails. Where the sink fails, all was done, but of a print perhaps not each row
+        // was read.
         ensures chip_fault { IsErrOf result StepFault.ChipFault
             → Rose (D.view dram.old).faults (D.view dram.new).faults }
         ensures unsent { IsErrOf result StepFault.ChipFault
             → is_print (view_of instr.now) ≡ false → S.view out.new ≡ S.view out.old }
         ensures write_fault { IsErrOf result StepFault.WriteFault
             → Rose (S.view out.old).faults (S.view out.new).faults }
+        ensures done { IsErrOf result StepFault.WriteFault
+            → is_print (view_of instr.now) ≡ false → DidAndRead (events_by (machine_in self.old)
+            (view_of instr.now)) (reads_by (machine_in self.old) (view_of instr.now))
+            (D.view dram.old) (D.view dram.new) }
+        ensures read { IsErrOf result StepFault.WriteFault
+            → is_print (view_of instr.now) ≡ true → DidReadAtMost (reads_by
+            (machine_in self.old) (view_of instr.now)) (D.view dram.old) (D.view dram.new) }
         ensures part { OnErr result (Known (AppendsPart
             (line_by (machine_in self.old) number (D.view dram.old).banks (view_of instr.now)))
             (S.view out.old).sent (S.view out.new).sent) }
@@ -450,7 +459,7 @@ impl<'a> Guard<'a> {
             * (geometry_of (machine_in self.old)).rows) (D.view dram.old) (D.view dram.new)) }
         ensures file { OnOk result (file_of (machine_in self.new)
             ≡ image_bytes (geometry_of (machine_in self.old)) (table_in (machine_in self.old))
-            (rows_of (D.view dram.old).banks)) }
+            (rows_in_banks (D.view dram.old).banks)) }
         ensures ready { IsReady (machine_in self.new) }
         ensures program { program_of (machine_in self.new) ≡ program_of (machine_in self.old) }
         ensures shape { geometry_of (machine_in self.new) ≡ geometry_of (machine_in self.old) }

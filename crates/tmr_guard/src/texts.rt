@@ -7,7 +7,7 @@ ghost use Rattle.bbop_isa.specs.Numbers.{number_of};
 ghost use Rattle.dram_model.specs.Geometry.{is_geometry};
 ghost use Rattle.guard_model.specs.FlipText.{flip_of, flips_of};
 ghost use Rattle.tmr_guard.specs.Reading.{FlipIn, NumbersOf, Refused};
-ghost use Rattle.tmr_guard.specs.declared.texts.LineNo.TheVariants as line_no;
+ghost use Rattle.tmr_guard.specs.declared.texts.FlipLineError.TheVariants as line_no;
 
 use bbop_isa::split_line;
 use bit_rows::Value;
@@ -19,16 +19,16 @@ use text_lex::{Lexer, TokenKind, items_are_right, number};
 
 /// Why a line was not read.
 #[derive(Clone, Copy, PartialEq, Eq)]
-pub(crate) enum LineNo {
+pub(crate) enum FlipLineError {
     Bad(FlipsKind),
     NoMemory,
 }
 
-impl From<NoMemory> for LineNo {
+impl From<NoMemory> for FlipLineError {
     ghost from_gives = { λ _ e. e ≡ line_no.NoMemory };
 
-    fn from(_no: NoMemory) -> LineNo {
-        LineNo::NoMemory
+    fn from(_no: NoMemory) -> FlipLineError {
+        FlipLineError::NoMemory
     }
 }
 
@@ -47,7 +47,7 @@ fn value_of(digits: &[u8]) -> Option<Value>
 }
 
 /// The numbers of a line, where all its words are numbers.
-fn numbers_in(line: &[u8], alloc: Global) -> Result<Option<Vec<Option<Value>>>, LineNo>
+fn numbers_in(line: &[u8], alloc: Global) -> Result<Option<Vec<Option<Value>>>, FlipLineError>
     ensures { NumbersOf line.now result }
 {
     items_are_right();
@@ -61,7 +61,7 @@ fn numbers_in(line: &[u8], alloc: Global) -> Result<Option<Vec<Option<Value>>>, 
                 _ => plain = false,
             },
             Ok(None) => return Ok(if plain { Some(numbers) } else { None }),
-            Err(_) => return Err(LineNo::Bad(FlipsKind::Lex)),
+            Err(_) => return Err(FlipLineError::Bad(FlipsKind::Lex)),
         }
     }
 }
@@ -104,22 +104,22 @@ fn flip_in(
     instrs: u32,
     before: u32,
     alloc: Global,
-) -> Result<Option<Flip>, LineNo>
+) -> Result<Option<Flip>, FlipLineError>
     requires { instrs < 2 ^ 32 - 1 }
     ensures { FlipIn g instrs before line.now result }
 {
     let Some(numbers) = numbers_in(line, alloc)? else {
-        return Err(LineNo::Bad(FlipsKind::Syntax));
+        return Err(FlipLineError::Bad(FlipsKind::Syntax));
     };
     match numbers.as_slice() {
         [] => Ok(None),
         [k, bank, row, column] => {
             match checked(g, instrs, before, *k, *bank, *row, *column) {
                 Ok(flip) => Ok(flip),
-                Err(kind) => Err(LineNo::Bad(kind)),
+                Err(kind) => Err(FlipLineError::Bad(kind)),
             }
         }
-        _ => Err(LineNo::Bad(FlipsKind::Syntax)),
+        _ => Err(FlipLineError::Bad(FlipsKind::Syntax)),
     }
 }
 
@@ -151,11 +151,11 @@ pub fn parse_flips(
                     return Err(FlipsNo::NoMemory);
                 }
             }
-            Err(LineNo::Bad(kind)) => {
+            Err(FlipLineError::Bad(kind)) => {
                 let line = number as u32;
                 return Err(FlipsNo::Fault(FlipsFault { line, kind }));
             }
-            Err(LineNo::NoMemory) => return Err(FlipsNo::NoMemory),
+            Err(FlipLineError::NoMemory) => return Err(FlipsNo::NoMemory),
         }
         let Some(more) = others else {
             return Ok(flips);

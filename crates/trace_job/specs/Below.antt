@@ -22,7 +22,7 @@ abbrev pub BeginOnChip : List Step → Type 0
 BeginOnChip [] = ⊥
 BeginOnChip (step ∷ steps) = is_on_chip step ≡ true
 
--- the same, but that the chip shows this
+-- the same world, but that its chip shows this
 abbrev pub with_chip : ChipView → World → World
 with_chip chip w = record w { chip = chip }
 

@@ -4,7 +4,7 @@ use crate::cases::lines_of;
 use crate::chip::ListeningChip;
 use crate::numbers::{put_items, split_words};
 use crate::said::Said;
-use crate::stop::Stop;
+use crate::stop::LineError;
 use crate::world::World;
 use host_edge::{MemFolder, MemSink};
 use simdram_cli::simdram;
@@ -15,14 +15,14 @@ const ALIKE: usize = 4;
 
 /// Does the command in the folder of the world, and says its status, what it sent and which files
 /// it stored.
-pub fn do_command(world: &mut World, text: &str, said: &mut Said) -> Result<(), Stop> {
+pub fn do_command(world: &mut World, text: &str, said: &mut Said) -> Result<(), LineError> {
     let mut names = Vec::new(world.alloc);
     split_words(text, &mut names)?;
     in_folder(world, &names, said)
 }
 
 /// Does it in a folder of its own.
-fn in_folder(world: &mut World, names: &[&str], said: &mut Said) -> Result<(), Stop> {
+fn in_folder(world: &mut World, names: &[&str], said: &mut Said) -> Result<(), LineError> {
     let mut folder = MemFolder::new(world.alloc);
     in_filled(world, names, &mut folder, said)
 }
@@ -32,7 +32,7 @@ fn in_filled(
     names: &[&str],
     folder: &mut MemFolder,
     said: &mut Said,
-) -> Result<(), Stop> {
+) -> Result<(), LineError> {
     world.fill(folder)?;
     into_sink(world, names, folder, said)?;
     take_stored(world, names, folder, said)
@@ -44,7 +44,7 @@ fn into_sink(
     names: &[&str],
     folder: &mut MemFolder,
     said: &mut Said,
-) -> Result<(), Stop> {
+) -> Result<(), LineError> {
     let mut out = MemSink::new(world.alloc);
     into_failing(world, names, folder, &mut out, said)
 }
@@ -55,7 +55,7 @@ fn into_failing(
     folder: &mut MemFolder,
     out: &mut MemSink,
     said: &mut Said,
-) -> Result<(), Stop> {
+) -> Result<(), LineError> {
     world.set_failing(out)?;
     let status = on_chip(world, names, folder, out);
     said.put("= ");
@@ -79,7 +79,7 @@ fn take_stored(
     names: &[&str],
     folder: &MemFolder,
     said: &mut Said,
-) -> Result<(), Stop> {
+) -> Result<(), LineError> {
     for name in names {
         if let Some(bytes) = folder.file(name)
             && world.file(name) != Some(bytes)
@@ -99,7 +99,7 @@ fn take_stored(
 }
 
 /// Says what was sent, line by line.
-fn put_sent(said: &mut Said, bytes: &[u8], alloc: Global) -> Result<(), Stop> {
+fn put_sent(said: &mut Said, bytes: &[u8], alloc: Global) -> Result<(), LineError> {
     let Ok(text) = str::from_utf8(bytes) else {
         said.put("= no text was sent\n");
         return Ok(());

@@ -8,7 +8,7 @@ use crate::numbers::{decimal, hex_byte, put_hex_bytes, put_items, put_unescaped}
 use crate::plain::value;
 use crate::said::Said;
 use crate::sent::{put_comparison, put_order};
-use crate::stop::Stop;
+use crate::stop::LineError;
 use crate::tables::{fill, range_of};
 use crate::world::World;
 use std::alloc::Global;
@@ -46,7 +46,7 @@ pub fn rows_after(line: &str) -> (Rows, &str) {
 }
 
 /// Does a line, and says what came.
-pub fn do_line(world: &mut World, line: &str, said: &mut Said) -> Result<(), Stop> {
+pub fn do_line(world: &mut World, line: &str, said: &mut Said) -> Result<(), LineError> {
     let (verb, rest) = first_word(line);
     let (name, tail) = first_word(rest);
     match verb {
@@ -60,7 +60,7 @@ pub fn do_line(world: &mut World, line: &str, said: &mut Said) -> Result<(), Sto
 }
 
 /// A line that makes a file.
-fn make(world: &mut World, verb: &str, name: &str, tail: &str) -> Result<(), Stop> {
+fn make(world: &mut World, verb: &str, name: &str, tail: &str) -> Result<(), LineError> {
     match verb {
         "text" => set_text(world, name, tail),
         "hex" => put_hex_bytes(world.begun(name)?, tail),
@@ -71,12 +71,12 @@ fn make(world: &mut World, verb: &str, name: &str, tail: &str) -> Result<(), Sto
             Ok(_file) => Ok(()),
             Err(stop) => Err(stop),
         },
-        _ => Err(Stop::Unread),
+        _ => Err(LineError::Unread),
     }
 }
 
 /// A line that changes a file.
-fn change(world: &mut World, verb: &str, name: &str, tail: &str) -> Result<(), Stop> {
+fn change(world: &mut World, verb: &str, name: &str, tail: &str) -> Result<(), LineError> {
     let file = world.changed(name)?;
     match verb {
         "row" => set_row(file, tail),
@@ -92,10 +92,10 @@ fn is_word(text: &str) -> bool {
 }
 
 /// Does a row: appends it to the file that the line before it names.
-pub fn do_row(world: &mut World, rows: Rows, name: &str, row: &str) -> Result<(), Stop> {
+pub fn do_row(world: &mut World, rows: Rows, name: &str, row: &str) -> Result<(), LineError> {
     let file = world.changed(name)?;
     match rows {
-        Rows::No => Err(Stop::Unread),
+        Rows::No => Err(LineError::Unread),
         Rows::Lines => {
             file.extend_from_slice(row.as_bytes())?;
             file.push(b'\n')?;
@@ -106,7 +106,7 @@ pub fn do_row(world: &mut World, rows: Rows, name: &str, row: &str) -> Result<()
     }
 }
 
-fn add_objects(image: &mut Vec<u8>, objects: &str) -> Result<(), Stop> {
+fn add_objects(image: &mut Vec<u8>, objects: &str) -> Result<(), LineError> {
     for object in objects.split_whitespace() {
         add_object(image, object)?;
     }
@@ -114,22 +114,22 @@ fn add_objects(image: &mut Vec<u8>, objects: &str) -> Result<(), Stop> {
 }
 
 /// `text NAME TEXT`.
-fn set_text(world: &mut World, name: &str, text: &str) -> Result<(), Stop> {
+fn set_text(world: &mut World, name: &str, text: &str) -> Result<(), LineError> {
     let mut plain = Said::new(world.alloc);
     set_unescaped(world.begun(name)?, text, &mut plain)
 }
 
-fn set_unescaped(file: &mut Vec<u8>, text: &str, plain: &mut Said) -> Result<(), Stop> {
+fn set_unescaped(file: &mut Vec<u8>, text: &str, plain: &mut Said) -> Result<(), LineError> {
     put_unescaped(plain, text)?;
     file.extend_from_slice(plain.whole()?.as_bytes())?;
     Ok(())
 }
 
 /// `image NAME BANKSxROWSxWORDS OBJECTS`.
-fn make_image(world: &mut World, name: &str, tail: &str) -> Result<(), Stop> {
+fn make_image(world: &mut World, name: &str, tail: &str) -> Result<(), LineError> {
     let (shape, objects) = first_word(tail);
-    let (banks, rest) = shape.split_once('x').ok_or(Stop::Unread)?;
-    let (rows, words) = rest.split_once('x').ok_or(Stop::Unread)?;
+    let (banks, rest) = shape.split_once('x').ok_or(LineError::Unread)?;
+    let (rows, words) = rest.split_once('x').ok_or(LineError::Unread)?;
     let shape = [decimal(banks)?, decimal(rows)?, decimal(words)?];
     let image = world.begun(name)?;
     put_empty_image(image, shape)?;
@@ -137,13 +137,13 @@ fn make_image(world: &mut World, name: &str, tail: &str) -> Result<(), Stop> {
 }
 
 /// `row IMAGE BANK/ROW BYTES`, the first columns first.
-fn set_row(image: &mut Vec<u8>, tail: &str) -> Result<(), Stop> {
+fn set_row(image: &mut Vec<u8>, tail: &str) -> Result<(), LineError> {
     let (place, bytes) = first_word(tail);
-    let (bank, row) = place.split_once('/').ok_or(Stop::Unread)?;
+    let (bank, row) = place.split_once('/').ok_or(LineError::Unread)?;
     let (bank, row) = (decimal(bank)?, decimal(row)?);
     let (banks, rows) = banks_and_rows(image);
     if banks <= bank || rows <= row {
-        return Err(Stop::Unread);
+        return Err(LineError::Unread);
     }
     let (start, size) = row_place(image, bank, row);
     let written = match bytes.split_once('#') {
@@ -155,34 +155,34 @@ fn set_row(image: &mut Vec<u8>, tail: &str) -> Result<(), Stop> {
     let mut place = start;
     for pair in written.split_whitespace() {
         if end <= place {
-            return Err(Stop::Unread);
+            return Err(LineError::Unread);
         }
-        *image.get_mut(place).ok_or(Stop::Unread)? = hex_byte(pair)?;
+        *image.get_mut(place).ok_or(LineError::Unread)? = hex_byte(pair)?;
         place = place.saturating_add(1);
     }
     if place == start {
-        Err(Stop::Unread)
+        Err(LineError::Unread)
     } else {
         Ok(())
     }
 }
 
 /// `fails chip|folder|sink CALLS`, counted from 1.
-fn fail(world: &mut World, part: &str, tail: &str) -> Result<(), Stop> {
+fn fail(world: &mut World, part: &str, tail: &str) -> Result<(), LineError> {
     for call in tail.split_whitespace() {
         world.fail(part, call)?;
     }
     if tail.is_empty() {
-        Err(Stop::Unread)
+        Err(LineError::Unread)
     } else {
         Ok(())
     }
 }
 
 /// `each FILE A..B TEXT`: appends the text for each number, with the number for `{}`.
-fn append_each(world: &mut World, name: &str, tail: &str) -> Result<(), Stop> {
+fn append_each(world: &mut World, name: &str, tail: &str) -> Result<(), LineError> {
     let (range, text) = first_word(tail);
-    let range = range_of(range).ok_or(Stop::Unread)?;
+    let range = range_of(range).ok_or(LineError::Unread)?;
     if world.file(name).is_none() {
         world.begun(name)?;
     }
@@ -196,7 +196,7 @@ fn append_unescaped(
     range: (u64, u64),
     text: &str,
     plain: &mut Said,
-) -> Result<(), Stop> {
+) -> Result<(), LineError> {
     put_unescaped(plain, text)?;
     let mut pieces = Said::new(world.alloc);
     put_each(&mut pieces, range, plain.whole()?, world.alloc);
@@ -216,7 +216,7 @@ fn put_each(pieces: &mut Said, range: (u64, u64), text: &str, alloc: Global) {
 }
 
 /// `pad FILE BYTES`: zero bytes follow until it has so many.
-fn pad(file: &mut Vec<u8>, tail: &str) -> Result<(), Stop> {
+fn pad(file: &mut Vec<u8>, tail: &str) -> Result<(), LineError> {
     let size: usize = decimal(tail)?;
     if file.len() < size {
         file.resize(size, 0)?;
@@ -225,41 +225,41 @@ fn pad(file: &mut Vec<u8>, tail: &str) -> Result<(), Stop> {
 }
 
 /// `drop FILE BYTES`: leaves its first bytes, so many, out.
-fn drop_first(file: &mut Vec<u8>, tail: &str) -> Result<(), Stop> {
+fn drop_first(file: &mut Vec<u8>, tail: &str) -> Result<(), LineError> {
     let count: usize = decimal(tail)?;
     if file.len() < count {
-        return Err(Stop::Unread);
+        return Err(LineError::Unread);
     }
     *file = file.split_off(count)?;
     Ok(())
 }
 
 /// `cut FILE BYTES`: leaves its first bytes, so many.
-fn cut(file: &mut Vec<u8>, tail: &str) -> Result<(), Stop> {
+fn cut(file: &mut Vec<u8>, tail: &str) -> Result<(), LineError> {
     file.truncate(decimal(tail)?);
     Ok(())
 }
 
 /// `set FILE PLACE=BYTE ..`: changes bytes, or adds one at the end.
-fn set_bytes(file: &mut Vec<u8>, tail: &str) -> Result<(), Stop> {
+fn set_bytes(file: &mut Vec<u8>, tail: &str) -> Result<(), LineError> {
     for change in tail.split_whitespace() {
-        let (place, byte) = change.split_once('=').ok_or(Stop::Unread)?;
+        let (place, byte) = change.split_once('=').ok_or(LineError::Unread)?;
         let (place, byte) = (decimal(place)?, hex_byte(byte)?);
         if place == file.len() {
             file.push(byte)?;
         } else {
-            *file.get_mut(place).ok_or(Stop::Unread)? = byte;
+            *file.get_mut(place).ok_or(LineError::Unread)? = byte;
         }
     }
     if tail.is_empty() {
-        Err(Stop::Unread)
+        Err(LineError::Unread)
     } else {
         Ok(())
     }
 }
 
 /// A line that asks what the chip was sent.
-fn ask_of_chip(world: &mut World, verb: &str, said: &mut Said) -> Result<(), Stop> {
+fn ask_of_chip(world: &mut World, verb: &str, said: &mut Said) -> Result<(), LineError> {
     match verb {
         "keep" => world.keep(),
         "order" => {
@@ -274,7 +274,13 @@ fn ask_of_chip(world: &mut World, verb: &str, said: &mut Said) -> Result<(), Sto
 }
 
 /// A line that asks of a file.
-fn ask(world: &World, verb: &str, name: &str, tail: &str, said: &mut Said) -> Result<(), Stop> {
+fn ask(
+    world: &World,
+    verb: &str,
+    name: &str,
+    tail: &str,
+    said: &mut Said,
+) -> Result<(), LineError> {
     match verb {
         "numbers" => put_numbers(world.existing(name)?, tail, said, world),
         "plain" => compare_plain(world.existing(name)?, tail, said),
@@ -282,12 +288,17 @@ fn ask(world: &World, verb: &str, name: &str, tail: &str, said: &mut Said) -> Re
         "same" => put_same(world.existing(name)?, world.existing(tail)?, said),
         "rows" if tail.is_empty() => put_rows(world.existing(name)?, said),
         "size" if tail.is_empty() => put_size(world.file(name), said),
-        _ => Err(Stop::Unread),
+        _ => Err(LineError::Unread),
     }
 }
 
 /// `numbers IMAGE OBJECT`.
-fn put_numbers(image: &[u8], object: &str, said: &mut Said, world: &World) -> Result<(), Stop> {
+fn put_numbers(
+    image: &[u8],
+    object: &str,
+    said: &mut Said,
+    world: &World,
+) -> Result<(), LineError> {
     let numbers = numbers_in(image, object_of(image, object)?, world.alloc)?;
     said.put("= ");
     put_items(said, &numbers);
@@ -296,13 +307,13 @@ fn put_numbers(image: &[u8], object: &str, said: &mut Said, world: &World) -> Re
 }
 
 /// The next word of a line.
-fn next_of<'a>(words: &mut SplitWhitespace<'a>) -> Result<&'a str, Stop> {
-    words.next().ok_or(Stop::Unread)
+fn next_of<'a>(words: &mut SplitWhitespace<'a>) -> Result<&'a str, LineError> {
+    words.next().ok_or(LineError::Unread)
 }
 
 /// `plain IMAGE RESULT OPERATION WORD WORD BIT`: in how many columns the result is the operation's
 /// value on the sources, by plain arithmetic.
-fn compare_plain(image: &[u8], tail: &str, said: &mut Said) -> Result<(), Stop> {
+fn compare_plain(image: &[u8], tail: &str, said: &mut Said) -> Result<(), LineError> {
     let mut words = tail.split_whitespace();
     let result = object_of(image, next_of(&mut words)?)?;
     let operation = next_of(&mut words)?;
@@ -310,7 +321,7 @@ fn compare_plain(image: &[u8], tail: &str, said: &mut Said) -> Result<(), Stop> 
     let b = object_of(image, next_of(&mut words)?)?;
     let s = object_of(image, next_of(&mut words)?)?;
     if words.next().is_some() {
-        return Err(Stop::Unread);
+        return Err(LineError::Unread);
     }
     let n = u8::try_from(a.width).unwrap_or(0);
     let mut right: usize = 0;
@@ -330,7 +341,7 @@ fn compare_plain(image: &[u8], tail: &str, said: &mut Said) -> Result<(), Stop> 
 }
 
 /// `rows IMAGE`: each row that is not zero, as `BANK/ROW` and its bytes.
-fn put_rows(image: &[u8], said: &mut Said) -> Result<(), Stop> {
+fn put_rows(image: &[u8], said: &mut Said) -> Result<(), LineError> {
     let (banks, rows) = banks_and_rows(image);
     let before = said.as_str().len();
     for place in 0..banks.saturating_mul(rows) {
@@ -343,11 +354,11 @@ fn put_rows(image: &[u8], said: &mut Said) -> Result<(), Stop> {
     Ok(())
 }
 
-fn put_row(image: &[u8], bank: usize, row: usize, said: &mut Said) -> Result<(), Stop> {
+fn put_row(image: &[u8], bank: usize, row: usize, said: &mut Said) -> Result<(), LineError> {
     let (start, size) = row_place(image, bank, row);
     let bytes = image
         .get(start..start.saturating_add(size))
-        .ok_or(Stop::Unread)?;
+        .ok_or(LineError::Unread)?;
     if has_one(bytes) {
         said.put("= ");
         said.put_item(bank);
@@ -377,18 +388,18 @@ fn put_hex(bytes: &[u8], said: &mut Said) {
 }
 
 /// `bytes FILE FIRST END`: from the first place on up to the end.
-fn put_bytes(file: &[u8], tail: &str, said: &mut Said) -> Result<(), Stop> {
+fn put_bytes(file: &[u8], tail: &str, said: &mut Said) -> Result<(), LineError> {
     let (first, end) = first_word(tail);
     let bytes = file
         .get(decimal(first)?..decimal(end)?)
-        .ok_or(Stop::Unread)?;
+        .ok_or(LineError::Unread)?;
     said.put("=");
     put_hex(bytes, said);
     Ok(())
 }
 
 /// `size FILE`.
-fn put_size(file: Option<&[u8]>, said: &mut Said) -> Result<(), Stop> {
+fn put_size(file: Option<&[u8]>, said: &mut Said) -> Result<(), LineError> {
     match file {
         Some(bytes) => {
             said.put("= ");
@@ -401,7 +412,7 @@ fn put_size(file: Option<&[u8]>, said: &mut Said) -> Result<(), Stop> {
 }
 
 /// `same FILE OTHER`.
-fn put_same(file: &[u8], other: &[u8], said: &mut Said) -> Result<(), Stop> {
+fn put_same(file: &[u8], other: &[u8], said: &mut Said) -> Result<(), LineError> {
     said.put_line(if file == other {
         "= the same"
     } else {

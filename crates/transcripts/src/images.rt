@@ -2,7 +2,7 @@
 
 use crate::numbers::decimal;
 use crate::plain::{drawn, next_word, ones};
-use crate::stop::Stop;
+use crate::stop::LineError;
 use std::alloc::Global;
 
 /// Bytes before the records of the objects, and of a record.
@@ -100,13 +100,13 @@ fn has_name(image: &[u8], k: usize, name: &str) -> bool {
 }
 
 /// The object of a name.
-pub fn object_of(image: &[u8], name: &str) -> Result<Object, Stop> {
+pub fn object_of(image: &[u8], name: &str) -> Result<Object, LineError> {
     for k in 0..shape_of(image).objects {
         if has_name(image, k, name) {
             return Ok(object_at(image, k));
         }
     }
-    Err(Stop::Unread)
+    Err(LineError::Unread)
 }
 
 /// The number of an object's element e.
@@ -122,7 +122,7 @@ pub fn number_of(image: &[u8], object: Object, e: usize) -> u128 {
 }
 
 /// The numbers of an object's elements.
-pub fn numbers_in(image: &[u8], object: Object, alloc: Global) -> Result<Vec<u128>, Stop> {
+pub fn numbers_in(image: &[u8], object: Object, alloc: Global) -> Result<Vec<u128>, LineError> {
     let mut numbers = Vec::new(alloc);
     for e in 0..object.count {
         numbers.push(number_of(image, object, e))?;
@@ -131,7 +131,7 @@ pub fn numbers_in(image: &[u8], object: Object, alloc: Global) -> Result<Vec<u12
 }
 
 /// Makes the file an image of so many banks, rows and words, without objects and with zero rows.
-pub fn put_empty_image(file: &mut Vec<u8>, shape: [u16; 3]) -> Result<(), Stop> {
+pub fn put_empty_image(file: &mut Vec<u8>, shape: [u16; 3]) -> Result<(), LineError> {
     file.extend_from_slice(b"SDMI\x01\x00")?;
     for number in shape {
         file.extend_from_slice(&number.to_le_bytes())?;
@@ -165,11 +165,11 @@ struct Given<'a> {
 }
 
 /// How many numbers stand between commas.
-fn listed(numbers: &str) -> Result<u32, Stop> {
+fn listed(numbers: &str) -> Result<u32, LineError> {
     let mut count: u32 = 0;
     if !numbers.is_empty() {
         for _number in numbers.split(',') {
-            count = count.checked_add(1).ok_or(Stop::Unread)?;
+            count = count.checked_add(1).ok_or(LineError::Unread)?;
         }
     }
     Ok(count)
@@ -177,8 +177,8 @@ fn listed(numbers: &str) -> Result<u32, Stop> {
 
 /// The object of `NAME:WIDTH=NUMBERS`, `NAME:WIDTH/COUNT`, `NAME:WIDTH/COUNT=NUMBERS`, or
 /// `NAME:WIDTH/COUNT~SEED` of drawn numbers.
-fn given_of(text: &str) -> Result<Given<'_>, Stop> {
-    let (name, rest) = text.split_once(':').ok_or(Stop::Unread)?;
+fn given_of(text: &str) -> Result<Given<'_>, LineError> {
+    let (name, rest) = text.split_once(':').ok_or(LineError::Unread)?;
     let (front, numbers) = rest.split_once('=').unwrap_or((rest, ""));
     let (size, seed) = front.split_once('~').unwrap_or((front, ""));
     let (width, count) = size.split_once('/').unwrap_or((size, ""));
@@ -191,7 +191,7 @@ fn given_of(text: &str) -> Result<Given<'_>, Stop> {
     };
     let is_fit = 0 < width && width <= 128 && name.len() <= 16 && listed <= count;
     if !is_fit || !numbers.is_empty() && !seed.is_empty() {
-        return Err(Stop::Unread);
+        return Err(LineError::Unread);
     }
     Ok(Given {
         name,
@@ -247,11 +247,11 @@ fn set_number(image: &mut [u8], object: Object, e: usize, number: u128) {
 }
 
 /// Sets the first elements to the numbers between commas, each of which its width can hold.
-fn set_listed(image: &mut [u8], object: Object, given: &Given<'_>) -> Result<(), Stop> {
+fn set_listed(image: &mut [u8], object: Object, given: &Given<'_>) -> Result<(), LineError> {
     for (e, number) in given.numbers.split(',').enumerate() {
         let number = decimal(number)?;
         if ones(given.width) < number {
-            return Err(Stop::Unread);
+            return Err(LineError::Unread);
         }
         set_number(image, object, e, number);
     }
@@ -259,7 +259,7 @@ fn set_listed(image: &mut [u8], object: Object, given: &Given<'_>) -> Result<(),
 }
 
 /// Sets all elements to numbers drawn with the seed.
-fn set_drawn(image: &mut [u8], object: Object, given: &Given<'_>) -> Result<(), Stop> {
+fn set_drawn(image: &mut [u8], object: Object, given: &Given<'_>) -> Result<(), LineError> {
     let seed: u64 = decimal(given.seed)?;
     let mut word = seed;
     for e in 0..object.count {
@@ -270,10 +270,10 @@ fn set_drawn(image: &mut [u8], object: Object, given: &Given<'_>) -> Result<(), 
 }
 
 /// Adds the record after the others, and one to the number of objects.
-fn add_record(image: &mut Vec<u8>, record: [u8; RECORD]) -> Result<(), Stop> {
+fn add_record(image: &mut Vec<u8>, record: [u8; RECORD]) -> Result<(), LineError> {
     let start = shape_of(image).start();
     if image.len() < start {
-        return Err(Stop::Unread);
+        return Err(LineError::Unread);
     }
     let rows = image.split_off(start)?;
     image.extend_from_slice(&record)?;
@@ -286,7 +286,7 @@ fn add_record(image: &mut Vec<u8>, record: [u8; RECORD]) -> Result<(), Stop> {
 }
 
 /// Adds an object after the last one's rows.
-pub fn add_object(image: &mut Vec<u8>, text: &str) -> Result<(), Stop> {
+pub fn add_object(image: &mut Vec<u8>, text: &str) -> Result<(), LineError> {
     let given = given_of(text)?;
     add_record(image, record_of(&given, next_base(image)))?;
     let object = object_at(image, shape_of(image).objects.saturating_sub(1));

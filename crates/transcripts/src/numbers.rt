@@ -1,34 +1,34 @@
 //! Numbers and words as cases write them.
 
 use crate::said::Said;
-use crate::stop::Stop;
+use crate::stop::LineError;
 use std::fmt::Display;
 use std::str::FromStr;
 
 /// A number in decimal digits.
-pub fn decimal<T: FromStr>(text: &str) -> Result<T, Stop>
+pub fn decimal<T: FromStr>(text: &str) -> Result<T, LineError>
 where
     T::Err: Drop,
 {
     match text.parse() {
         Ok(number) => Ok(number),
-        Err(_) => Err(Stop::Unread),
+        Err(_) => Err(LineError::Unread),
     }
 }
 
 /// The byte of a pair of hexadecimal digits.
-pub fn hex_byte(pair: &str) -> Result<u8, Stop> {
+pub fn hex_byte(pair: &str) -> Result<u8, LineError> {
     if pair.len() != 2 || pair.starts_with('+') {
-        return Err(Stop::Unread);
+        return Err(LineError::Unread);
     }
     match u8::from_str_radix(pair, 16) {
         Ok(byte) => Ok(byte),
-        Err(_) => Err(Stop::Unread),
+        Err(_) => Err(LineError::Unread),
     }
 }
 
 /// Appends the bytes of pairs of hexadecimal digits; what follows `#` is for the reader.
-pub fn put_hex_bytes(bytes: &mut Vec<u8>, text: &str) -> Result<(), Stop> {
+pub fn put_hex_bytes(bytes: &mut Vec<u8>, text: &str) -> Result<(), LineError> {
     let written = match text.split_once('#') {
         Some((front, _)) => front,
         None => text,
@@ -40,7 +40,7 @@ pub fn put_hex_bytes(bytes: &mut Vec<u8>, text: &str) -> Result<(), Stop> {
 }
 
 /// Appends the words at the blanks.
-fn push_words<'a>(text: &'a str, words: &mut Vec<&'a str>) -> Result<(), Stop> {
+fn push_words<'a>(text: &'a str, words: &mut Vec<&'a str>) -> Result<(), LineError> {
     for word in text.split_whitespace() {
         words.push(word)?;
     }
@@ -48,7 +48,7 @@ fn push_words<'a>(text: &'a str, words: &mut Vec<&'a str>) -> Result<(), Stop> {
 }
 
 /// Appends the words at the blanks, where a word in single quotes may be empty or have blanks.
-pub fn split_words<'a>(text: &'a str, words: &mut Vec<&'a str>) -> Result<(), Stop> {
+pub fn split_words<'a>(text: &'a str, words: &mut Vec<&'a str>) -> Result<(), LineError> {
     let mut is_quoted = false;
     for piece in text.split('\'') {
         if is_quoted {
@@ -58,7 +58,11 @@ pub fn split_words<'a>(text: &'a str, words: &mut Vec<&'a str>) -> Result<(), St
         }
         is_quoted = !is_quoted;
     }
-    if is_quoted { Ok(()) } else { Err(Stop::Unread) }
+    if is_quoted {
+        Ok(())
+    } else {
+        Err(LineError::Unread)
+    }
 }
 
 /// What a backslash and this character stand for.
@@ -76,11 +80,11 @@ fn escaped(c: char) -> Option<char> {
 
 /// Puts the text in which `\n` stands for a line's end, `\t` for a tab, `\r` for a carriage return,
 /// `\s` for a blank, `\0` for a zero byte and `\\` for a backslash.
-pub fn put_unescaped(out: &mut Said, text: &str) -> Result<(), Stop> {
+pub fn put_unescaped(out: &mut Said, text: &str) -> Result<(), LineError> {
     let mut is_escaped = false;
     for c in text.chars() {
         if is_escaped {
-            out.put_char(escaped(c).ok_or(Stop::Unread)?);
+            out.put_char(escaped(c).ok_or(LineError::Unread)?);
             is_escaped = false;
         } else if c == '\\' {
             is_escaped = true;
@@ -89,7 +93,7 @@ pub fn put_unescaped(out: &mut Said, text: &str) -> Result<(), Stop> {
         }
     }
     if is_escaped {
-        Err(Stop::Unread)
+        Err(LineError::Unread)
     } else {
         Ok(())
     }

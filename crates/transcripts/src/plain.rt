@@ -1,6 +1,6 @@
 //! Plain arithmetic: numbers that are drawn, and what the word operations give of them.
 
-use crate::stop::Stop;
+use crate::stop::LineError;
 
 /// All ones at width n, from 1 to 128.
 pub fn ones(n: u8) -> u128 {
@@ -89,13 +89,13 @@ fn bit_of_words(name: &str, n: u8, a: u128, b: u128) -> Option<bool> {
 }
 
 /// The value of a word operation on a and b of n bits, and for `if_else` the bit s.
-pub fn value(name: &str, n: u8, a: u128, b: u128, s: u128) -> Result<u128, Stop> {
+pub fn value(name: &str, n: u8, a: u128, b: u128, s: u128) -> Result<u128, LineError> {
     if name == "if_else" {
         return Ok(if s == 1 { a } else { b });
     }
     match (of_words(name, n, a, b), bit_of_words(name, n, a, b)) {
         (Some(number), _) => Ok(number),
         (None, Some(bit)) => Ok(u128::from(bit)),
-        (None, None) => Err(Stop::Unread),
+        (None, None) => Err(LineError::Unread),
     }
 }

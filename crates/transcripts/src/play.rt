@@ -3,7 +3,7 @@
 use crate::cases::{Case, is_came, is_comment, named};
 use crate::directives::{Rows, do_line, do_row, rows_after};
 use crate::said::Said;
-use crate::stop::Stop;
+use crate::stop::LineError;
 use crate::tables::{Group, count_of, fill, put_emptied, put_value, range_of};
 use crate::world::World;
 use std::alloc::{AllocError, Global};
@@ -43,14 +43,14 @@ impl Drop for Play<'_> {
 }
 
 /// Says of a line that could not be done that it is not read; whether it was done.
-fn note(said: &mut Said, done: Result<(), Stop>) -> bool {
+fn note(said: &mut Said, done: Result<(), LineError>) -> bool {
     match done {
         Ok(()) => true,
-        Err(Stop::Unread) => {
+        Err(LineError::Unread) => {
             said.put("= not read\n");
             false
         }
-        Err(Stop::Memory) => {
+        Err(LineError::Memory) => {
             said.lack();
             false
         }
@@ -68,7 +68,7 @@ fn do_lines(world: &mut World, table: &[&str], value: &str, said: &mut Said) -> 
         let done = do_line(world, filled.as_str(), said);
         is_read &= note(said, done);
     }
-    is_read && !(world.is_failing() && !note(said, Err(Stop::Unread)))
+    is_read && !(world.is_failing() && !note(said, Err(LineError::Unread)))
 }
 
 impl<'a> Play<'a> {
@@ -94,7 +94,7 @@ impl<'a> Play<'a> {
         }
         self.end_table();
         if self.world.is_failing() {
-            self.note(Err(Stop::Unread));
+            self.note(Err(LineError::Unread));
         }
     }
 
@@ -104,7 +104,7 @@ impl<'a> Play<'a> {
     }
 
     /// Notes whether a line was done.
-    fn note(&mut self, done: Result<(), Stop>) {
+    fn note(&mut self, done: Result<(), LineError>) {
         self.is_read &= note(&mut self.said, done);
     }
 
@@ -115,7 +115,7 @@ impl<'a> Play<'a> {
         }
         if line.contains('\r') {
             self.said.put_line(line);
-            self.note(Err(Stop::Unread));
+            self.note(Err(LineError::Unread));
             return;
         }
         match line.strip_prefix('|') {
@@ -154,7 +154,7 @@ impl<'a> Play<'a> {
     fn table_line(&mut self, line: &str, own: &'a str) {
         self.said.put_line(line);
         if self.has_rows {
-            self.note(Err(Stop::Unread));
+            self.note(Err(LineError::Unread));
         }
         if self.table.push(own).is_err() {
             self.said.lack();
@@ -181,7 +181,7 @@ impl<'a> Play<'a> {
     /// Ends a table, which has to have rows.
     fn end_table(&mut self) {
         if self.in_table && !self.has_rows {
-            self.note(Err(Stop::Unread));
+            self.note(Err(LineError::Unread));
         }
         self.in_table = false;
         self.rows = Rows::No;
@@ -201,7 +201,7 @@ impl<'a> Play<'a> {
         self.has_rows = true;
         if self.table.is_empty() || count_of(row) == 0 {
             self.put_row(row);
-            self.note(Err(Stop::Unread));
+            self.note(Err(LineError::Unread));
         } else if let Some((first, last)) = range_of(row) {
             self.range_row(first, last);
         } else {

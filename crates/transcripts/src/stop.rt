@@ -5,25 +5,25 @@ use std::alloc::{AllocError, AllocFailed};
 
 /// The line is none of the format, or names what is not there; or memory was wanting.
 #[derive(Clone, Copy)]
-pub enum Stop {
+pub enum LineError {
     Unread,
     Memory,
 }
 
-impl From<AllocError> for Stop {
-    fn from(_wanting: AllocError) -> Stop {
-        Stop::Memory
+impl From<AllocError> for LineError {
+    fn from(_wanting: AllocError) -> LineError {
+        LineError::Memory
     }
 }
 
-impl<T: Drop> From<AllocFailed<T>> for Stop {
-    fn from(_wanting: AllocFailed<T>) -> Stop {
-        Stop::Memory
+impl<T: Drop> From<AllocFailed<T>> for LineError {
+    fn from(_wanting: AllocFailed<T>) -> LineError {
+        LineError::Memory
     }
 }
 
-impl From<NoMemory> for Stop {
-    fn from(_wanting: NoMemory) -> Stop {
-        Stop::Memory
+impl From<NoMemory> for LineError {
+    fn from(_wanting: NoMemory) -> LineError {
+        LineError::Memory
     }
 }

@@ -2,7 +2,7 @@
 
 use crate::numbers::decimal;
 use crate::sent::Sent;
-use crate::stop::Stop;
+use crate::stop::LineError;
 use host_edge::{MemFolder, MemSink, NoMemory};
 use std::alloc::{AllocError, Global};
 use std::collections::BTreeMap;
@@ -70,19 +70,19 @@ impl World {
     }
 
     /// A file that has to be there.
-    pub fn existing(&self, name: &str) -> Result<&[u8], Stop> {
-        self.file(name).ok_or(Stop::Unread)
+    pub fn existing(&self, name: &str) -> Result<&[u8], LineError> {
+        self.file(name).ok_or(LineError::Unread)
     }
 
     /// A file that has to be there, to be changed.
-    pub fn changed(&mut self, name: &str) -> Result<&mut Vec<u8>, Stop> {
-        self.files.get_mut(name).ok_or(Stop::Unread)
+    pub fn changed(&mut self, name: &str) -> Result<&mut Vec<u8>, LineError> {
+        self.files.get_mut(name).ok_or(LineError::Unread)
     }
 
     /// The file of a name, which is empty now, to be written.
-    pub fn begun(&mut self, name: &str) -> Result<&mut Vec<u8>, Stop> {
+    pub fn begun(&mut self, name: &str) -> Result<&mut Vec<u8>, LineError> {
         if name.is_empty() {
-            return Err(Stop::Unread);
+            return Err(LineError::Unread);
         }
         self.set(name, b"")?;
         self.changed(name)
@@ -96,7 +96,7 @@ impl World {
     }
 
     /// Makes another file the same.
-    pub fn copy(&mut self, name: &str, other: &str) -> Result<(), Stop> {
+    pub fn copy(&mut self, name: &str, other: &str) -> Result<(), LineError> {
         let bytes = self.existing(name)?.to_vec(self.alloc)?;
         let other = String::from_str(self.alloc, other)?;
         self.files.insert(other, bytes)?;
@@ -104,16 +104,16 @@ impl World {
     }
 
     /// Lets a call of a part fail in the next command.
-    pub fn fail(&mut self, part: &str, call: &str) -> Result<(), Stop> {
+    pub fn fail(&mut self, part: &str, call: &str) -> Result<(), LineError> {
         let call: u64 = decimal(call)?;
         let list = match part {
             "chip" => &mut self.failing_chip,
             "folder" => &mut self.failing_folder,
             "sink" => &mut self.failing_sink,
-            _ => return Err(Stop::Unread),
+            _ => return Err(LineError::Unread),
         };
         if call == 0 {
-            return Err(Stop::Unread);
+            return Err(LineError::Unread);
         }
         list.push(call)?;
         Ok(())
@@ -169,27 +169,27 @@ impl World {
     }
 
     /// What the chip of the last command was sent.
-    pub fn heard(&self) -> Result<&[Sent], Stop> {
+    pub fn heard(&self) -> Result<&[Sent], LineError> {
         if self.has_sent {
             Ok(self.sent.as_slice())
         } else {
-            Err(Stop::Unread)
+            Err(LineError::Unread)
         }
     }
 
     /// Keeps it to be compared with.
-    pub fn keep(&mut self) -> Result<(), Stop> {
+    pub fn keep(&mut self) -> Result<(), LineError> {
         self.kept = self.heard()?.to_vec(self.alloc)?;
         self.has_kept = true;
         Ok(())
     }
 
     /// What was kept.
-    pub fn kept(&self) -> Result<&[Sent], Stop> {
+    pub fn kept(&self) -> Result<&[Sent], LineError> {
         if self.has_kept {
             Ok(self.kept.as_slice())
         } else {
-            Err(Stop::Unread)
+            Err(LineError::Unread)
         }
     }
 }

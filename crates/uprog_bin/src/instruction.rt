@@ -65,9 +65,14 @@ impl RawRow {
 fn space_of(number: u8) -> RowSpace
     ensures { result ≡ slice_index_or SPACES number RowSpace.Spill }
 {
-    match SPACES.get(usize::from(number)) {
-        Some(space) => *space,
-        None => RowSpace::Spill,
+    match number {
+        0 => RowSpace::B,
+        1 => RowSpace::C,
+        2 => RowSpace::Result,
+        3 => RowSpace::Source,
+        4 => RowSpace::ScratchBit,
+        5 => RowSpace::ScratchWord,
+        _ => RowSpace::Spill,
     }
 }
 

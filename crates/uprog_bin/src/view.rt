@@ -179,9 +179,18 @@ fn part(bytes: &[u8], at: usize, len: usize) -> &[u8]
 fn opcode_or_done(number: u8) -> Opcode
     ensures { result ≡ slice_index_or OPCODES number Opcode.Done }
 {
-    match OPCODES.get(usize::from(number)) {
-        Some(opcode) => *opcode,
-        None => Opcode::Done,
+    match number {
+        1 => Opcode::SetI,
+        2 => Opcode::SetN,
+        3 => Opcode::SetT,
+        4 => Opcode::Mov,
+        5 => Opcode::Add,
+        6 => Opcode::AddI,
+        7 => Opcode::SubI,
+        8 => Opcode::Bnez,
+        9 => Opcode::Aap,
+        10 => Opcode::Ap,
+        _ => Opcode::Done,
     }
 }
 

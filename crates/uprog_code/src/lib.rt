@@ -13,7 +13,7 @@ pub use code::{EntryCode, Head, Program, RowRef, RowSpace, Uop};
 pub use fetch::Fetch;
 pub use laws::legal_code_is_safe;
 pub use op_text::Kind;
-pub use registers::{Issued, RowPosition, Turn, step};
+pub use registers::{Issued, RowPosition, Turn, register_value, step};
 pub use text_lex::Name;
 pub use walker::{BadWalk, Counts, Why3, walk};
 

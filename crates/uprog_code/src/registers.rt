@@ -164,7 +164,9 @@ fn placed(row: &RowRef, regs: &[u16]) -> RowPosition
     ensures { row_of result ≡ row_at regs.now row.now }
 {
     let index = match row.space {
-        RowSpace::Result | RowSpace::Source | RowSpace::ScratchWord => value(regs, row.index),
+        RowSpace::Result | RowSpace::Source | RowSpace::ScratchWord => {
+            register_value(regs, row.index)
+        }
         _ => 0,
     };
     RowPosition {
@@ -174,8 +176,9 @@ fn placed(row: &RowRef, regs: &[u16]) -> RowPosition
     }
 }
 
+/// The value of a register; 0 past the last one.
 #[inline(always)]
-fn value(regs: &[u16], r: u8) -> u16
+pub fn register_value(regs: &[u16], r: u8) -> u16
     requires { AreRegisters regs.now }
     ensures { result ≡ slice_index regs.now r }
 {

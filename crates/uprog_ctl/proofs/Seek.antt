@@ -1,11 +1,16 @@
 -- One step on the way to the next row command.
 use Rattle.std.proofs.Common.{◌≡◌, ℕ, suc, ◌+◌, ◌<◌, Bool, true, false, List, [], ◌∷◌, ◌++◌}
 use Rattle.std.proofs.Common.{length, refl, sym, ap, ◌∙◌, subst, Ok, Some, Result}
-use Rattle.std.specs.Prelude.{slice_get, slice_index, nat_le, ◌==◌, if◌then◌else◌}
+use Rattle.std.specs.Prelude.{slice_get, slice_index, nat_le, ◌==◌, ◌&&◌, if◌then◌else◌}
 use Rattle.uprog_code.specs.declared.code.Uop.{Uop}
 use Rattle.uprog_code.specs.declared.code.Uop.TheVariants.{Done, SetI, SetN, SetT, Mov, Add, AddI}
 use Rattle.uprog_code.specs.declared.code.Uop.TheVariants.{SubI, Bnez, Aap, Ap}
+use Rattle.uprog_code.specs.declared.code.RowRef.{RowRef}
+use Rattle.uprog_code.specs.declared.code.RowSpace.{RowSpace}
+use Rattle.uprog_code.specs.declared.code.RowSpace.TheVariants as space
+use Rattle.uprog_code.specs.declared.registers.RowPosition.{RowPosition}
 use Rattle.uprog_code.specs.declared.registers.Issued.{Issued}
+use Rattle.uprog_code.specs.declared.registers.Issued.TheVariants as told_as
 use Rattle.uprog_code.specs.declared.registers.Turn.{Turn}
 use Rattle.uprog_code.specs.declared.registers.Turn.TheVariants.{Over, On, To, Issues}
 use Rattle.uprog_code.specs.declared.walker.Why3.{Why3}
@@ -13,10 +18,11 @@ use Rattle.uprog_code.specs.declared.walker.Why3.TheVariants.{Index, Register}
 use Rattle.uprog_code.specs.Shape.{Shape}
 use Rattle.uprog_code.specs.Machine.{Next, Trace, Ended, Stuck, Issue, IssueAap, IssueAp, act}
 use Rattle.uprog_code.specs.Machine.{act_at, issue, issued, issues_of, HasEnded, onto}
-use Rattle.uprog_code.specs.Machine.{all_in_range, command_at}
+use Rattle.uprog_code.specs.Machine.{all_in_range, command_at, position}
 use Rattle.uprog_code.specs.OneStep.{turn_trace, issues_by, issue_of, next_place, HasOperands}
-use Rattle.uprog_code.specs.Legal.{IsLegalCode}
-use Rattle.uprog_code.specs.Issued.{AreGood}
+use Rattle.uprog_code.specs.Legal.{IsLegalCode, may_be_first, may_be_second}
+use Rattle.uprog_code.specs.Bound.{Bound, address_in}
+use Rattle.uprog_code.specs.Issued.{AreGood, is_good, is_issued, is_issued_in}
 use Rattle.uprog_code.proofs.Kept.{turn_good}
 use Rattle.uprog_code.proofs.Steps.{legal_operands, goes_on, not_last, place_in}
 use Rattle.uprog_ctl.specs.Cursors.{row_commands}
@@ -118,6 +124,72 @@ row_step shape code n all left pc regs uop is legal e lt at one ended =
     let ne : Issues is ≡ Over → ⊥ = λ (f : Issues is ≡ Over). absurd (cc) in
     stepped shape shape code n all left pc (pc + 1) regs regs uop (Issues is) res legal refl e lt at
     does over jumps refl ne refl ended
+
+-- a row and a command as the walker tells them
+abbrev pub place_of : RowRef → RowPosition
+place_of r = record { space = r.space; which = r.which; index = r.index }
+
+abbrev pub told : Issue → Issued
+told (IssueAap x y) = told_as.Aap (place_of x) (place_of y)
+told (IssueAp x) = told_as.Ap (place_of x)
+
+pub told_is : (c : Issue) → issue_of (told c) ≡ c
+told_is (IssueAap x y) = refl
+told_is (IssueAp x) = refl
+
+pub command_step : (shape : Shape) (code : List Uop) (n all left pc : ℕ) (regs : List ℕ)
+    (uop : Uop) (c : Issue) → IsLegalCode shape code → all ≡ suc left → pc < length code
+    → slice_get code pc ≡ Some uop → row_commands regs uop ≡ c ∷ []
+    → HasEnded (issue shape code n all pc regs)
+    → Stepped shape code n (issue shape code n all pc regs) left (pc + 1) regs (Issues (told c))
+command_step shape code n all left pc regs uop c legal e lt at one ended =
+    row_step shape code n all left pc regs uop (told c) legal e lt at
+    (one ∙ ap (λ (d : Issue). d ∷ []) (sym (told_is c))) ended
+
+-- where a row has no position, any gives the same row of a bank
+pub placed_good : (shape : Shape) (n : ℕ) (s : RowSpace) (which i : ℕ)
+    → is_issued_in shape n s which i ≡ is_issued_in shape n s which (position s i)
+placed_good shape n space.B which i = refl
+placed_good shape n space.C which i = refl
+placed_good shape n space.Result which i = refl
+placed_good shape n space.Source which i = refl
+placed_good shape n space.ScratchBit which i = refl
+placed_good shape n space.ScratchWord which i = refl
+placed_good shape n space.Spill which i = refl
+
+pub placed_address : (rows : ℕ) (shape : Shape) (n : ℕ) (b : Bound) (s : RowSpace) (which i : ℕ)
+    → address_in rows shape n b s which i ≡ address_in rows shape n b s which (position s i)
+placed_address rows shape n b space.B which i = refl
+placed_address rows shape n b space.C which i = refl
+placed_address rows shape n b space.Result which i = refl
+placed_address rows shape n b space.Source which i = refl
+placed_address rows shape n b space.ScratchBit which i = refl
+placed_address rows shape n b space.ScratchWord which i = refl
+placed_address rows shape n b space.Spill which i = refl
+
+-- each row of a good command is one that legal code may name
+both : (a b : Bool) → (a && b) ≡ true → (a ≡ true) × (b ≡ true)
+both true true e = (refl, refl)
+both true false e = absurd (cc)
+both false b e = absurd (cc)
+
+pub first_good : (shape : Shape) (n : ℕ) (x y : RowRef) → is_good shape n (IssueAap x y) ≡ true
+    → is_issued shape n x ≡ true
+first_good shape n x y e =
+    let pair = both (is_issued shape n x && may_be_first x.space x.which)
+    (is_issued shape n y && may_be_second y.space) e in
+    (both (is_issued shape n x) (may_be_first x.space x.which) pair.0).0
+
+pub second_good : (shape : Shape) (n : ℕ) (x y : RowRef) → is_good shape n (IssueAap x y) ≡ true
+    → is_issued shape n y ≡ true
+second_good shape n x y e =
+    let pair = both (is_issued shape n x && may_be_first x.space x.which)
+    (is_issued shape n y && may_be_second y.space) e in
+    (both (is_issued shape n y) (may_be_second y.space) pair.1).0
+
+pub one_good : (shape : Shape) (n : ℕ) (x : RowRef) → is_good shape n (IssueAp x) ≡ true
+    → is_issued shape n x ≡ true
+one_good shape n x e = (both (is_issued shape n x) (may_be_first x.space x.which) e).0
 
 -- any other instruction issues nothing
 either : (b : Bool) (t u : Trace) → issues_of t ≡ [] → issues_of u ≡ []

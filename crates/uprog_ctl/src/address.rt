@@ -3,7 +3,7 @@
 ghost use Rattle.std.specs.Prelude.{◌≡◌, ◌+◌, ◌<◌, ◌^◌, ◌∷◌, [], length, slice_index, true};
 ghost use Rattle.std.specs.Prelude.{MatchOption};
 ghost use Rattle.uprog_code.specs.Shape.{shape_of};
-ghost use Rattle.uprog_code.specs.Machine.{row_at};
+ghost use Rattle.uprog_code.specs.Machine.{Issue, row_at};
 ghost use Rattle.uprog_code.specs.OneStep.{AreRegisters, row_of, issue_of};
 ghost use Rattle.uprog_code.specs.Bound.{address, bound_command, bound_of};
 ghost use Rattle.uprog_code.specs.Fits.{Fits};
@@ -11,47 +11,7 @@ ghost use Rattle.uprog_code.specs.Issued.{is_issued, is_good};
 ghost use Rattle.uprog_ctl.specs.Cursors.{row_commands};
 
 use dram_model::{Addr, Command, Geometry};
-use uprog_code::{Binding, Head, Issued, RowPosition, RowRef, RowSpace, Uop};
-
-/// The value of a register; 0 past the last one.
-#[inline(always)]
-fn value(regs: &[u16], r: u8) -> u16
-    requires { AreRegisters regs.now }
-    ensures { result ≡ slice_index regs.now r }
-{
-    if r < 8 { regs[r as usize] } else { 0 }
-}
-
-/// The row at the position that its register gives.
-#[inline(always)]
-fn placed(row: &RowRef, regs: &[u16]) -> RowPosition
-    requires { AreRegisters regs.now }
-    ensures { row_of result ≡ row_at regs.now row.now }
-{
-    let index = match row.space {
-        RowSpace::Result | RowSpace::Source | RowSpace::ScratchWord => value(regs, row.index),
-        _ => 0,
-    };
-    RowPosition {
-        space: row.space,
-        which: row.which,
-        index,
-    }
-}
-
-/// The row command of an instruction, where it is one. Whether its rows are in range is not tested.
-#[inline(always)]
-pub(crate) fn issued_at(uop: &Uop, regs: &[u16]) -> Option<Issued>
-    requires { AreRegisters regs.now }
-    ensures { MatchOption result (row_commands regs.now uop.now ≡ [])
-        (λ issued. row_commands regs.now uop.now ≡ issue_of issued ∷ []) }
-{
-    match uop {
-        Uop::Aap(x, y) => Some(Issued::Aap(placed(x, regs), placed(y, regs))),
-        Uop::Ap(x) => Some(Issued::Ap(placed(x, regs))),
-        _ => None,
-    }
-}
+use uprog_code::{Binding, Head, Issued, RowPosition, RowRef, RowSpace, Uop, register_value};
 
 /// The row at a position of a source.
 #[inline(always)]
@@ -76,14 +36,14 @@ fn result_row(binding: &Binding, which: u8, index: u16) -> u16
     }
 }
 
-/// The address of a row under a binding, in a bank of so many data rows.
+/// The address of a row at a position, in a bank of so many data rows.
 #[inline(always)]
-fn address_of(place: &RowPosition, head: &Head, rows: u16, binding: &Binding) -> Addr
+fn address_of(place: RowPosition, head: &Head, rows: u16, binding: &Binding) -> Addr
     requires some { 0 < binding.now.n }
     requires fits { Fits rows (shape_of head.now) binding.now.n (bound_of binding.now) }
-    requires good { is_issued (shape_of head.now) binding.now.n (row_of place.now) ≡ true }
+    requires good { is_issued (shape_of head.now) binding.now.n (row_of place) ≡ true }
     ensures { result ≡ address rows (shape_of head.now) binding.now.n (bound_of binding.now)
-        (row_of place.now) }
+        (row_of place) }
 {
     match place.space {
         RowSpace::B => Addr::B(place.which),
@@ -103,6 +63,54 @@ fn address_of(place: &RowPosition, head: &Head, rows: u16, binding: &Binding) ->
     }
 }
 
+/// The address of a row at the position that its register gives. A row with no position has the
+/// same address at each.
+#[inline(always)]
+fn address_at(row: &RowRef, regs: &[u16], head: &Head, rows: u16, binding: &Binding) -> Addr
+    requires registers { AreRegisters regs.now }
+    requires some { 0 < binding.now.n }
+    requires fits { Fits rows (shape_of head.now) binding.now.n (bound_of binding.now) }
+    requires good { is_issued (shape_of head.now) binding.now.n (row_at regs.now row.now) ≡ true }
+    ensures { result ≡ address rows (shape_of head.now) binding.now.n (bound_of binding.now)
+        (row_at regs.now row.now) }
+{
+    let place = RowPosition {
+        space: row.space,
+        which: row.which,
+        index: register_value(regs, row.index),
+    };
+    address_of(place, head, rows, binding)
+}
+
+/// The row command of an instruction, bound, where it is one. Whether its rows are in range is not
+/// tested.
+#[inline(always)]
+pub(crate) fn command_at(
+    uop: &Uop,
+    regs: &[u16],
+    head: &Head,
+    rows: u16,
+    binding: &Binding,
+) -> Option<Command>
+    requires registers { AreRegisters regs.now }
+    requires some { 0 < binding.now.n }
+    requires fits { Fits rows (shape_of head.now) binding.now.n (bound_of binding.now) }
+    requires good { (c : Issue) → row_commands regs.now uop.now ≡ c ∷ []
+        → is_good (shape_of head.now) binding.now.n c ≡ true }
+    ensures { MatchOption result (row_commands regs.now uop.now ≡ []) (λ command. (c : Issue)
+        × (row_commands regs.now uop.now ≡ c ∷ []) × (command
+        ≡ bound_command rows (shape_of head.now) binding.now.n (bound_of binding.now) c)) }
+{
+    match uop {
+        Uop::Aap(x, y) => {
+            let first = address_at(x, regs, head, rows, binding);
+            Some(Command::Aap(first, address_at(y, regs, head, rows, binding)))
+        }
+        Uop::Ap(x) => Some(Command::Ap(address_at(x, regs, head, rows, binding))),
+        _ => None,
+    }
+}
+
 /// The command that is issued, bound.
 #[inline(always)]
 pub(crate) fn command_of(issued: &Issued, head: &Head, rows: u16, binding: &Binding) -> Command
@@ -114,9 +122,9 @@ pub(crate) fn command_of(issued: &Issued, head: &Head, rows: u16, binding: &Bind
 {
     match issued {
         Issued::Aap(x, y) => {
-            let first = address_of(x, head, rows, binding);
-            Command::Aap(first, address_of(y, head, rows, binding))
+            let first = address_of(*x, head, rows, binding);
+            Command::Aap(first, address_of(*y, head, rows, binding))
         }
-        Issued::Ap(x) => Command::Ap(address_of(x, head, rows, binding)),
+        Issued::Ap(x) => Command::Ap(address_of(*x, head, rows, binding)),
     }
 }

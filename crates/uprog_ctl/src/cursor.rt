@@ -9,7 +9,7 @@ ghost use Rattle.uprog_ctl.specs.Cursors.{bank_commands, StandsIn, Finds, left_a
 ghost use Rattle.uprog_ctl.specs.Cursors.{StandsInFirst};
 ghost use Rattle.uprog_ctl.specs.Cursors.{AreHeads, IsAt, AreAt, MovesOn};
 
-use crate::address::{command_of, issued_at};
+use crate::address::command_at;
 use crate::waves::Job;
 use arrayvec::ArrayVec;
 use bit_rows::WIDTH_MAX;
@@ -129,10 +129,10 @@ fn seek<F: Fetch>(
     for k in 0..all {
         let uop = job.entry.fetch(pc);
         // the trace ends, so a row command of it is in range
-        if let Some(issued) = issued_at(&uop, &walk.regs) {
+        if let Some(next) = command_at(&uop, &walk.regs, head, g.rows, &job.binding) {
             walk.pc = pc + 1;
             walk.left = all - k - 1;
-            return Some(command_of(&issued, head, g.rows, &job.binding));
+            return Some(next);
         }
         match step(&uop, head, job.binding.n, &mut walk.regs) {
             Ok(turn) => {

@@ -7,7 +7,6 @@ use Rattle.op_text.specs.declared.word_ops.WordOp.{WordOp}
 use Rattle.op_text.specs.Language.{Equation, Block, Statement, Compute, Visit, Operation}
 use Rattle.op_text.specs.Meaning.{term_bit, with_lets}
 use Rattle.op_text.specs.Scratch.{defines, names_width, block_weight}
-use Rattle.op_text.specs.Costs.{op_aaps, op_aps}
 use Rattle.mig_graph.specs.declared.Lit.{Lit}
 use Rattle.mig_graph.specs.declared.MigOuts.{MigOuts}
 use Rattle.mig_graph.specs.Graph.{Graph, IsGraph, value}
@@ -18,6 +17,7 @@ use Rattle.uprog_code.specs.Shape.{Microprogram}
 use Rattle.loop_ir.specs.Plain.{Block as Body, StepOf}
 use Rattle.loop_ir.specs.Plain.StepOf.{Single, Along, Nest, Pairs}
 use Rattle.block_lower.specs.Inputs.{block_inputs, name_at}
+use Rattle.uprog_gen.specs.Costs.{op_aaps, op_aps}
 use Rattle.uprog_gen.specs.Totals.{IsExact}
 
 -- a graph, and the literals of its outputs

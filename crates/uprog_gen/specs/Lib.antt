@@ -9,6 +9,7 @@ pub mod Emits
 pub mod Layout
 pub mod Programs
 pub mod Laying
+pub mod Costs
 pub mod Graphs
 pub mod Totals
 pub mod Settled

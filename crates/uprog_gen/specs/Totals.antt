@@ -7,10 +7,10 @@ use Rattle.op_text.specs.declared.tree.Param.{Param}
 use Rattle.op_text.specs.declared.word_ops.WordOp.{WordOp}
 use Rattle.op_text.specs.Language.{Statement, Compute, Visit, Operation}
 use Rattle.op_text.specs.Scratch.{defines, names_width}
-use Rattle.op_text.specs.Costs.{op_aaps, op_aps}
 use Rattle.uprog_code.specs.Machine.{trace, issues_of}
 use Rattle.uprog_code.specs.Count.{counts_of}
 use Rattle.uprog_code.specs.Shape.{Microprogram}
+use Rattle.uprog_gen.specs.Costs.{op_aaps, op_aps}
 
 -- the statement is a word operation, and no block
 abbrev pub is_word : Statement → Bool

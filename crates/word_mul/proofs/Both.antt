@@ -12,7 +12,7 @@ use Rattle.loop_ir.specs.declared.names.Slot.{Slot}
 use Rattle.loop_ir.specs.Loops.{all_rounds}
 use Rattle.loop_ir.specs.Spots.{Spot, Spots, spot_in, after_rounds, is_state}
 use Rattle.loop_ir.specs.Lowered.{slot_spot, slot_bits}
-use Rattle.loop_laws.specs.Rooms.{Room, Twice, room_at, row_in, extent, RoomsApart, IsOwned}
+use Rattle.loop_laws.specs.Rooms.{Room, room_at, row_in, extent, RoomsApart, IsOwned}
 use Rattle.loop_laws.specs.Rooms.{steps_fit}
 use Rattle.loop_laws.specs.Forms.{is_short}
 use Rattle.word_lower.specs.Places.{room_of, scratch_from, rooms_of}
@@ -24,9 +24,9 @@ use Rattle.word_lower.proofs.Filled.{filled_words, slot_is, one_slot, no_slots}
 use Rattle.word_mul.specs.declared.rows.Rows.{Rows}
 use Rattle.word_mul.specs.Places.{scratch_word, rooms_for, steps_for, rows_on}
 use Rattle.word_mul.specs.Programs.{nested}
-use Rattle.word_mul.proofs.Setting.{IsSecond}
+use Rattle.word_mul.proofs.Setting.{IsSecond, word_after}
 use Rattle.word_mul.proofs.Clear.{WordsClear, IsClear, room_of_more, rooms_more, owned_more}
-use Rattle.word_mul.proofs.Clear.{clear_rooms}
+use Rattle.word_mul.proofs.Clear.{words_apart, words_owned}
 use Rattle.word_mul.proofs.Nested.{turn, answer, elsewhere, two_rows, two_values}
 use Rattle.word_mul.proofs.Quotient.{divmod_does}
 
@@ -69,8 +69,10 @@ pub record LowersBoth (t u : Slot) (args : List Slot) (free_bit free_word : ℕ)
       (steps_for op.Divmod (rows_on t (Some u) args free_bit free_word))) before)
   pub wide : (n : ℕ) → slots_width n args ≡ n
 
-abbrev window : ℕ → Room
-window free_word = record { space = ScratchWord; which = free_word; rows = Twice; written = true }
+-- the words of scratch, after other rooms
+abbrev words_after : List Room → ℕ → List Room
+words_after rooms free_word = (rooms ++ room_of true (scratch_word free_word) ∷ [])
+    ++ room_of true (scratch_word (free_word + 1)) ∷ []
 
 -- a second target lies apart from the other rooms
 module _ (n : ℕ) (t u : Slot) (args : List Slot) (free_bit free_word : ℕ)
@@ -94,32 +96,49 @@ module _ (n : ℕ) (t u : Slot) (args : List Slot) (free_bit free_word : ℕ)
   abbrev rooms : List Room
   rooms = rooms_of t args (scratch_from free_bit 2)
 
-  clear_other : IsClear n (rooms ++ window free_word ∷ []) (room_of true u)
-  clear_other k i v lk li lv m =
+  abbrev first : Room
+  first = room_of true (scratch_word free_word)
+
+  abbrev second : Room
+  second = room_of true (scratch_word (free_word + 1))
+
+  clear_first : IsClear n (rooms ++ first ∷ []) (room_of true u)
+  clear_first k i v lk li lv m =
       let y : v < width n u.kind = (let z = extent_is n u.kind in omega (arith, lv, z)) in
-      elim (room_of_more rooms (window free_word) k lk) [
+      elim (room_of_more rooms first k lk) [
         | inl x ↦ view_other k i v (room_at rooms k)
             (room_view t args (scratch_from free_bit 2) k x.0)
             (subst (λ (r : Room). i < extent n r.rows) x.1 li) y
             (sym (ap (λ r. row_in n r i) x.1) ∙ m)
-        | inr x ↦ h.other_clear.target.by v i y
-            (subst (λ (r : Room). i < extent n r.rows) x.1 li)
-            (sym m ∙ ap (λ r. row_in n r i) x.1)
+        | inr x ↦
+            (let l : i < n = subst (λ (r : Room). i < extent n r.rows) x.1 li in
+            h.other_clear.target.by v i y (omega (arith, l))
+            (sym m ∙ ap (λ r. row_in n r i) x.1))
       ]
 
-  pub both_apart : RoomsApart n ((rooms ++ window free_word ∷ []) ++ room_of true u ∷ [])
-  both_apart = rooms_more n (rooms ++ window free_word ∷ []) (room_of true u)
-      (rooms_more n rooms (window free_word)
-      (rooms_apart n t args (scratch_from free_bit 2) h.first)
-      (clear_rooms n t args free_bit 2 free_word h.first_clear) tt) clear_other h.other.own
+  clear_other : IsClear n (words_after rooms free_word) (room_of true u)
+  clear_other k i v lk li lv m = elim (room_of_more (rooms ++ first ∷ []) second k lk) [
+    | inl x ↦ clear_first k i v x.0 (subst (λ (r : Room). i < extent n r.rows) x.1 li) lv
+        (sym (ap (λ r. row_in n r i) x.1) ∙ m)
+    | inr x ↦
+        (let l : i < n = subst (λ (r : Room). i < extent n r.rows) x.1 li in
+        let y : v < width n u.kind = (let z = extent_is n u.kind in omega (arith, lv, z)) in
+        h.other_clear.target.by v (n + i) y (omega (arith, l))
+        (sym m ∙ ap (λ r. row_in n r i) x.1 ∙ word_after n free_word i))
+  ]
+
+  pub both_apart : RoomsApart n (words_after rooms free_word ++ room_of true u ∷ [])
+  both_apart = rooms_more n (words_after rooms free_word) (room_of true u)
+      (words_apart n t args free_bit 2 free_word h.first_clear
+      (rooms_apart n t args (scratch_from free_bit 2) h.first)) clear_other h.other.own
 
 both_owned : (n : ℕ) (rooms : List Room) (u : Slot) (free_word : ℕ) (q : Spot)
-    → IsOwned n ((rooms ++ window free_word ∷ []) ++ room_of true u ∷ []) q
+    → IsOwned n (words_after rooms free_word ++ room_of true u ∷ []) q
     → (IsOwned n rooms q ⊎ ((v : ℕ) × (v < n * 2) × (q ≡ spot_in n ScratchWord free_word v)))
     ⊎ ((v : ℕ) × (v < width n u.kind) × (q ≡ slot_spot n u v))
 both_owned n rooms u free_word q o =
-    elim (owned_more n (rooms ++ window free_word ∷ []) (room_of true u) q o) [
-      | inl x ↦ inl (owned_more n rooms (window free_word) q x)
+    elim (owned_more n (words_after rooms free_word) (room_of true u) q o) [
+      | inl x ↦ inl (words_owned n rooms free_word q x)
       | inr y ↦ inr (y.0, (let z = extent_is n u.kind in let l = y.1 in omega (arith, l, z)), y.2)
     ]
 

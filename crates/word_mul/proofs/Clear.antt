@@ -16,6 +16,7 @@ use Rattle.word_lower.proofs.Pieces.{slot_at, RoomView, is_target, is_arg, is_sc
 use Rattle.word_lower.proofs.Pieces.{extent_is}
 use Rattle.word_lower.proofs.Statements.{space_is, length_scratch, scratch_at}
 use Rattle.word_mul.specs.Places.{scratch_word}
+use Rattle.word_mul.proofs.Setting.{word_after}
 
 times : (a b n : ℕ) → a ≤ b → a * n ≤ b * n
 times a b n h = grind arith
@@ -131,6 +132,12 @@ owned_more n rooms w q o = elim (room_of_more rooms w o.0 o.2) [
   )
 ]
 
+-- a word of scratch has no row of the next one
+one_word : (n free u v : ℕ) → u < n → row n (scratch_word free) u
+    ≡ row n (scratch_word (free + 1)) v → ⊥
+one_word n free u v lu e = let z : free * n + u ≡ (free + 1) * n + v =
+    ap (λ (q : Spot). q.index) e in omega (arith, z, lu)
+
 module _ (n : ℕ) (t : Slot) (args : List Slot) (free_bit bits free_word : ℕ)
     (are : WordsClear n t args free_word 2) where
   view_clear : (k u v : ℕ) (r : Room) → RoomView t args (scratch_from free_bit bits) k r
@@ -157,3 +164,48 @@ module _ (n : ℕ) (t : Slot) (args : List Slot) (free_bit bits free_word : ℕ)
   clear_rooms k u v lk lu lv h = view_clear k u v
       (room_at (rooms_of t args (scratch_from free_bit bits)) k)
       (room_view t args (scratch_from free_bit bits) k lk) lu lv h
+
+  -- the words of scratch as rooms of their own, after the others
+  abbrev rooms : List Room
+  rooms = rooms_of t args (scratch_from free_bit bits)
+
+  abbrev first : Room
+  first = room_of true (scratch_word free_word)
+
+  abbrev second : Room
+  second = room_of true (scratch_word (free_word + 1))
+
+  clear_first : IsClear n rooms first
+  clear_first k u v lk lu lv e = clear_rooms k u v lk lu (omega (arith, lv)) e
+
+  clear_second : IsClear n (rooms ++ first ∷ []) second
+  clear_second k u v lk lu lv e = elim (room_of_more rooms first k lk) [
+    | inl x ↦ clear_rooms k u (n + v) x.0 (subst (λ (r : Room). u < extent n r.rows) x.1 lu)
+        (omega (arith, lv))
+        (sym (ap (λ r. row_in n r u) x.1) ∙ e ∙ word_after n free_word v)
+    | inr x ↦ one_word n free_word u v (subst (λ (r : Room). u < extent n r.rows) x.1 lu)
+        (sym (ap (λ r. row_in n r u) x.1) ∙ e)
+  ]
+
+  pub words_apart : RoomsApart n rooms → RoomsApart n ((rooms ++ first ∷ []) ++ second ∷ [])
+  words_apart are = rooms_more n (rooms ++ first ∷ []) second
+      (rooms_more n rooms first are clear_first tt) clear_second tt
+
+pub words_owned : (n : ℕ) (rooms : List Room) (free_word : ℕ) (q : Spot)
+    → IsOwned n ((rooms ++ room_of true (scratch_word free_word) ∷ [])
+    ++ room_of true (scratch_word (free_word + 1)) ∷ []) q
+    → IsOwned n rooms q ⊎ ((v : ℕ) × (v < n * 2) × (q ≡ spot_in n ScratchWord free_word v))
+words_owned n rooms free_word q o =
+    let first = room_of true (scratch_word free_word) in
+    let second = room_of true (scratch_word (free_word + 1)) in
+    elim (owned_more n (rooms ++ first ∷ []) second q o) [
+      | inl x ↦ elim (owned_more n rooms first q x) [
+        | inl y ↦ inl y
+        | inr y ↦ inr (y.0, (let l = y.1 in omega (arith, l)), y.2)
+      ]
+      | inr y ↦ inr (
+        n + y.0,
+        (let l = y.1 in omega (arith, l)),
+        y.2 ∙ word_after n free_word y.0,
+      )
+    ]

@@ -2,6 +2,7 @@ pub mod Setting
 pub mod Product
 pub mod Multiply
 pub mod Divide
+pub mod Gather
 pub mod Quotient
 pub mod Built
 pub mod Parts

@@ -27,7 +27,7 @@ use Rattle.word_mul.specs.declared.rows.Rows.{Rows}
 use Rattle.word_mul.specs.Places.{scratch_word, rooms_for, steps_for, rows_on}
 use Rattle.word_mul.specs.Programs.{nested}
 use Rattle.word_mul.proofs.Setting.{operation, IsFree, AreRows, IsElsewhere, DoesNested}
-use Rattle.word_mul.proofs.Clear.{WordsClear, rooms_more, owned_more, clear_rooms}
+use Rattle.word_mul.proofs.Clear.{WordsClear, words_apart, words_owned}
 use Rattle.word_mul.proofs.Multiply.{mul_does, bitcount_does}
 use Rattle.word_mul.proofs.Quotient.{div_does, rem_does}
 
@@ -234,14 +234,14 @@ module _ (x0 : Space) (y0 : ℕ) (x1 : Space) (y1 : ℕ) (x2 : Space) (y2 : ℕ)
 
     pub window_apart : (n : ℕ) → Pieces n t (a ∷ b ∷ []) (scratch_from free_bit 2)
         → WordsClear n t (a ∷ b ∷ []) free_word 2 → RoomsApart n (rooms_for op.Div two)
-    window_apart n are clear = rooms_more n (rooms_of t (a ∷ b ∷ []) (scratch_from free_bit 2)) _
+    window_apart n are clear = words_apart n t (a ∷ b ∷ []) free_bit 2 free_word clear
         (rooms_apart n t (a ∷ b ∷ []) (scratch_from free_bit 2) are)
-        (clear_rooms n t (a ∷ b ∷ []) free_bit 2 free_word clear) tt
 
     pub window_owned : (n : ℕ) (q : Spot) → IsOwned n (rooms_for op.Div two) q
         → IsOwned n (rooms_of t (a ∷ b ∷ []) (scratch_from free_bit 2)) q
         ⊎ ((v : ℕ) × (v < n * 2) × (q ≡ spot_in n ScratchWord free_word v))
-    window_owned n q o = owned_more n (rooms_of t (a ∷ b ∷ []) (scratch_from free_bit 2)) _ q o
+    window_owned n q o = words_owned n (rooms_of t (a ∷ b ∷ []) (scratch_from free_bit 2)) free_word
+        q o
 
     pub on_mul : Lowers op.Mul t (a ∷ b ∷ []) free_bit free_word
     on_mul = record {

@@ -13,8 +13,9 @@ use Rattle.word_mul.specs.declared.shapes.Owners.{Owners}
 use Rattle.word_mul.specs.declared.shapes.BodyForm.{BodyForm}
 use Rattle.word_mul.specs.declared.shapes.NestPart.{NestPart}
 use Rattle.word_mul.specs.declared.shapes.NestPart.TheVariants.{Once, Each}
+use Rattle.word_mul.specs.declared.shapes.Gathering.{Gathering}
 use Rattle.word_mul.specs.declared.shapes.NestedProgram.{NestedProgram}
-use Rattle.word_mul.specs.Programs.{parts_of, pass_of, row_steps}
+use Rattle.word_mul.specs.Programs.{parts_of, pass_of, gathering_of, row_steps}
 use Rattle.word_mul.specs.Bodies.{parts_on, steps_on, body_on}
 
 map_last : {A B : Type 0} (f : A → B) (xs : List A) (x : A)
@@ -95,23 +96,32 @@ parts_over o [] qs = refl
 parts_over o (Alone b ∷ ps) qs = ap (λ l. Alone (body_on o b) ∷ l) (parts_over o ps qs)
 parts_over o (Across c b ∷ ps) qs = ap (λ l. Across c (body_on o b) ∷ l) (parts_over o ps qs)
 
+-- two steps more
+pub steps_push_two : (steps mid new : List Step) (s t : Step) (us vs : List (StepOf Block))
+    → mid ≡ steps ++ s ∷ [] → new ≡ mid ++ t ∷ [] → step_of s ∷ [] ≡ us → step_of t ∷ [] ≡ vs
+    → map step_of new ≡ map step_of steps ++ (us ++ vs)
+steps_push_two steps mid new s t us vs e f g h = steps_push mid new t vs f h
+    ∙ ap (λ l. l ++ vs) (steps_push steps mid s us e g)
+    ∙ sym (append_over (map step_of steps) us vs)
+
 -- the steps of a row, one after another
-joined : (o : Owners) (first : BodyForm) (second after : Option BodyForm)
+joined : (o : Owners) (first : BodyForm) (gathering : Option Gathering) (after : Option BodyForm)
     (nest : List (InnerOf Marked)) → ((([] ++ steps_on o (pass_of (Some first)))
-    ++ steps_on o (pass_of second)) ++ steps_on o (Nest nest ∷ [])) ++ steps_on o (pass_of after)
-    ≡ steps_on o (pass_of (Some first) ++ (pass_of second ++ Nest nest ∷ pass_of after))
+    ++ steps_on o (gathering_of gathering)) ++ steps_on o (Nest nest ∷ []))
+    ++ steps_on o (pass_of after)
+    ≡ steps_on o (pass_of (Some first) ++ (gathering_of gathering ++ Nest nest ∷ pass_of after))
 joined o first None None nest = refl
 joined o first None (Some g) nest = refl
 joined o first (Some f) None nest = refl
 joined o first (Some f) (Some g) nest = refl
 
 pub whole : (o : Owners) (r : NestedProgram) (a b c d : List (StepOf Block))
-    → a ≡ [] ++ steps_on o (pass_of (Some r.first)) → b ≡ a ++ steps_on o (pass_of r.second)
+    → a ≡ [] ++ steps_on o (pass_of (Some r.first)) → b ≡ a ++ steps_on o (gathering_of r.gathering)
     → c ≡ b ++ steps_on o (Nest (parts_of r.parts ++ parts_of (r.last ∷ [])) ∷ [])
     → d ≡ c ++ steps_on o (pass_of r.after) → d ≡ steps_on o (row_steps r)
 whole o r a b c d ea eb ec ed =
     let nest = parts_of r.parts ++ parts_of (r.last ∷ []) in
     ed ∙ ap (λ l. l ++ steps_on o (pass_of r.after)) (ec
     ∙ ap (λ l. l ++ steps_on o (Nest nest ∷ [])) (eb
-    ∙ ap (λ l. l ++ steps_on o (pass_of r.second)) ea))
-    ∙ joined o r.first r.second r.after nest
+    ∙ ap (λ l. l ++ steps_on o (gathering_of r.gathering)) ea))
+    ∙ joined o r.first r.gathering r.after nest

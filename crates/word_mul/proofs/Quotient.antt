@@ -6,40 +6,31 @@ use Rattle.std.specs.Prelude.{nat_lt, ◌==◌}
 use Rattle.std.proofs.lemmas.Bool.{cases_lt, cases_eq, lt-ltb, eq-eqb, ne_eqb}
 use Rattle.std.proofs.lemmas.Nat.{mod-mul-add, div-mul-add}
 use Rattle.std.proofs.Math.Nat.{pow-suc}
-use Rattle.std.proofs.Math.Pow.{pow_mono}
 use Rattle.mig_graph.specs.Graph.{values_from}
 use Rattle.op_text.specs.declared.word_ops.WordOp.TheVariants as op
 use Rattle.loop_ir.specs.declared.ir.Sub.TheVariants as sub
 use Rattle.loop_ir.specs.Plain.{Block, InnerOf}
 use Rattle.loop_ir.specs.Plain.InnerOf.{Alone}
-use Rattle.loop_ir.specs.Plain.StepOf.{Along, Nest}
+use Rattle.loop_ir.specs.Plain.StepOf.{Single, Along, Nest}
 use Rattle.loop_ir.specs.Loops.{all_rounds}
-use Rattle.loop_ir.specs.Spots.{Spot, Spots, after_rounds, set_spot, spot_at, nth_place}
+use Rattle.loop_ir.specs.Spots.{Spot, Spots, after_rounds, set_spot}
 use Rattle.loop_laws.specs.Rooms.{placed_body}
-use Rattle.loop_laws.specs.Turns.{Standing, IsLoop, after_many}
+use Rattle.loop_laws.specs.Turns.{Standing, after_many}
 use Rattle.loop_laws.proofs.Same.{set_same, set_other}
-use Rattle.loop_laws.proofs.Loop.{loop_turns, loop_word}
-use Rattle.loop_laws.proofs.Placed.{loop_of}
 use Rattle.loop_laws.proofs.Steps.{steps_each, steps_nest, after_parts, after_outer}
 use Rattle.word_lower.specs.Places.{scratch_bit}
-use Rattle.word_lower.specs.Programs.{plain, off, constant, moved}
-use Rattle.word_lower.proofs.Marks.{target, first, third}
+use Rattle.word_lower.specs.Programs.{plain, moved}
+use Rattle.word_lower.proofs.Marks.{target, third}
 use Rattle.word_lower.proofs.Setting.{bit, number, row, number_at}
 use Rattle.word_lower.proofs.Passes.{word_loop, upwards}
-use Rattle.word_lower.proofs.Sums.{value_same, value_below, value_false, value_low}
+use Rattle.word_lower.proofs.Sums.{value_same, value_below, value_low}
 use Rattle.word_mul.specs.declared.rows.Rows.{Rows}
 use Rattle.word_mul.specs.Places.{rooms_for, steps_for, scratch_word}
-use Rattle.word_mul.proofs.Setting.{fifth, sixth, row_stands, AreRows, IsSecond, IsElsewhere, Gives}
-use Rattle.word_mul.proofs.Setting.{Divided, DoesNested}
-use Rattle.word_mul.proofs.Divide.{w, gp, gf, core, IsOther, w_moves, Stepped, step}
-
--- what is left of the rows without a borrow is the whole difference
-exact : (t c : Bool) (y x xl k p : ℕ) → y < p → x < k + p → k ≤ x → x ≡ xl + bit t * p
-    → y + bit c * p + k ≡ xl + p → y + k ≡ x
-exact true true y x xl k p ly lx le e f = absurd (omega (arith, e, f))
-exact true false y x xl k p ly lx le e f = omega (arith, e, f)
-exact false true y x xl k p ly lx le e f = omega (arith, e, f)
-exact false false y x xl k p ly lx le e f = absurd (omega (arith, e, f))
+use Rattle.word_mul.proofs.Setting.{fifth, seventh, row_stands, AreRows, IsSecond, IsElsewhere}
+use Rattle.word_mul.proofs.Setting.{Gives, Divided, DoesNested}
+use Rattle.word_mul.proofs.Divide.{w, gp, gf, core, IsOther, Stepped, step, above, above_is, higher}
+use Rattle.word_mul.proofs.Gather.{one_lower, copy_body, start_body, gather_parts, started}
+use Rattle.word_mul.proofs.Gather.{b_else, all_gathers}
 
 record Next (y g b x hi quot : ℕ) : Type 0 where
   total : y + g * b ≡ x
@@ -47,13 +38,17 @@ record Next (y g b x hi quot : ℕ) : Type 0 where
   none : b ≡ 0 → g ≡ 1
   equation : hi ≡ (2 * quot + g) * b + y
 
-next : (g t c : Bool) (y x xl b p r aj hi up quot : ℕ) → g ≡ nat_lt b (x + 1) → y < p → b < p
-    → hi < p → aj ≤ 1 → (0 < b → r < b) → x ≡ aj + 2 * r → x ≡ xl + bit t * p → up ≡ quot * b + r
-    → hi ≡ aj + 2 * up → y + bit c * p + bit g * b ≡ xl + p → Next y (bit g) b x hi quot
-next true t c y x xl b p r aj hi up quot eg ly lb lh la lr ex et eu eh ed =
+-- without a borrow what is left is the whole difference
+exact : (c : Bool) (y x k p : ℕ) → y < p → k ≤ x → y + bit c * p + k ≡ x + p → y + k ≡ x
+exact true y x k p ly le e = omega (arith, e)
+exact false y x k p ly le e = absurd (omega (arith, e, ly, le))
+
+next : (g c : Bool) (y x b p r aj hi up quot : ℕ) → g ≡ nat_lt b (x + 1) → y < p → aj ≤ 1
+    → (0 < b → r < b) → x ≡ aj + 2 * r → up ≡ quot * b + r → hi ≡ aj + 2 * up
+    → y + bit c * p + bit g * b ≡ x + p → Next y (bit g) b x hi quot
+next true c y x b p r aj hi up quot eg ly la lr ex eu eh ed =
     let over : b ≤ x = under b x eg in
-    let fits : x < 1 * b + p = by (cases_eq b 0) in
-    let whole = exact t c y x xl (1 * b) p ly fits (omega (arith, over)) et ed in
+    let whole = exact c y x (1 * b) p ly (omega (arith, over)) ed in
     record {
       total = whole;
       small = λ some. let h = lr some in omega (arith, whole, ex, h);
@@ -63,14 +58,9 @@ next true t c y x xl b p r aj hi up quot eg ly lb lh la lr ex et eu eh ed =
   where
     under : (b x : ℕ) → true ≡ nat_lt b (x + 1) → b ≤ x
     under b x e = grind arith
-
-    by : (b ≡ 0) ⊎ (b ≡ 0 → ⊥) → x < 1 * b + p
-    by (inl z) = let q : quot * b ≡ quot * 0 = ap (λ k. quot * k) z in
-        omega (arith, q, z, ex, eu, eh)
-    by (inr some) = let h : r < b = lr (omega (arith, some)) in omega (arith, h, ex)
-next false t c y x xl b p r aj hi up quot eg ly lb lh la lr ex et eu eh ed =
+next false c y x b p r aj hi up quot eg ly la lr ex eu eh ed =
     let over : x < b = under b x eg in
-    let whole = exact t c y x xl (0 * b) p ly (omega (arith, over)) (omega arith) et ed in
+    let whole = exact c y x (0 * b) p ly (omega arith) ed in
     record {
       total = whole;
       small = λ some. omega (arith, whole, over);
@@ -93,23 +83,16 @@ module _ (n : ℕ) (m : Rows) (are : AreRows n 2 2 m) (bits : Spots) where
   abbrev b : ℕ
   b = number_at n bits m.b n
 
-  -- the high rows of a from a position on, divided: the quotient, and the remainder in the window
-  -- from there on
+  -- the high rows of a from a position on, divided: the quotient, and the remainder in the window,
+  -- which is as many rows from there on
   record Divides (j o quot : ℕ) (new : Spots) : Type 0 where
     equation : number (λ k. bits (row n m.a (j + k))) o
-        ≡ quot * b + number (λ i. new (row n (w n m are) (j + i))) n
-    small : 0 < b → number (λ i. new (row n (w n m are) (j + i))) n < b
+        ≡ quot * b + number (λ i. new (row n (w n m are) (j + i))) o
+    small : 0 < b → number (λ i. new (row n (w n m are) (j + i))) o < b
     none : b ≡ 0 → quot + 1 ≡ 2 ^ o
     low : (v : ℕ) → v < j → new (row n (w n m are) v) ≡ bits (row n m.a v)
+    high : (v : ℕ) → v < n → new (above n m are v) ≡ higher n m are bits v
     rest : (q : Spot) → IsElsewhere n 2 2 m q → new q ≡ bits q
-
-  b_else : (v : ℕ) → v < n → IsElsewhere n 2 2 m (row n m.b v)
-  b_else v lv = record {
-    has_row = row_stands n m.b v are.b_rows;
-    target = λ u lu e. are.b.by v u lv lu e;
-    bit = λ j lj e. (are.bit j lj).b.by v 0 lv (omega arith) e;
-    word = λ u lu e. are.word.b.by v u lv lu e;
-  }
 
   other : (q : Spot) → IsElsewhere n 2 2 m q → IsOther n m are q
   other q out = record {
@@ -126,107 +109,75 @@ module _ (n : ℕ) (m : Rows) (are : AreRows n 2 2 m) (bits : Spots) where
     g = λ e. (gf n m are).target.by 0 v (omega arith) lv (sym e);
   }
 
+  -- the divisor stands as it was
+  divisor : (j o quot : ℕ) (new : Spots) → Divides j o quot new → (v : ℕ) → v < n
+      → new (row n m.b v) ≡ bits (row n m.b v)
+  divisor j o quot new i v lv = i.rest (row n m.b v) (b_else n m are bits v lv)
+
   one_step : (j o quot : ℕ) (old new : Spots) → suc j + o ≡ n → Divides (suc j) o quot old
-      → (st : Stepped n m are j old new) → Divides j (suc o) (2 * quot + bit st.chosen) new
+      → (st : Stepped n m are j (suc o) old new)
+      → Divides j (suc o) (2 * quot + bit st.chosen) new
   one_step j o quot old new e i st =
       let win = w n m are in
-      let x = λ (k : ℕ). old (row n win (j + k)) in
-      let r = number (λ k. old (row n win (suc j + k))) n in
+      let x = number (λ k. old (row n win (j + k))) (suc o) in
+      let y = number (λ k. new (row n win (j + k))) (suc o) in
+      let r = number (λ k. old (row n win (suc j + k))) o in
+      let aj = bit (bits (row n m.a j)) in
       let vb : number_at n old m.b n ≡ b = value_same (λ v. old (row n m.b v)) (λ v.
-      bits (row n m.b v)) n (λ v lv. i.rest (row n m.b v) (b_else v lv)) in
-      let shift = λ (k : ℕ). (let z : j + suc k ≡ suc j + k = omega arith in z) in
-      let none : j + 0 ≡ j = omega arith in
-      let first : x 0 ≡ bits (row n m.a j) = ap (λ k. old (row n win k)) none
-      ∙ i.low j (omega arith) in
-      let ex : number x (suc n) ≡ bit (bits (row n m.a j)) + 2 * r =
-      value_low x n ∙ ap (λ z. bit z + 2 * number (λ k. x (suc k)) n) first
-      ∙ ap (λ z. bit (bits (row n m.a j)) + 2 * z)
-      (value_same (λ k. x (suc k)) (λ k. old (row n win (suc j + k))) n
-      (λ k lk. ap (λ q. old (row n win q)) (shift k))) in
-      let h = λ (k : ℕ). bits (row n m.a (j + k)) in
-      let up = number (λ k. bits (row n m.a (suc j + k))) o in
-      let eh : number h (suc o) ≡ bit (bits (row n m.a j)) + 2 * up =
-      value_low h o ∙ ap (λ q. bit (bits (row n m.a q)) + 2 * number (λ k. h (suc k)) o) none
-      ∙ ap (λ z. bit (bits (row n m.a j)) + 2 * z)
-      (value_same (λ k. h (suc k)) (λ k. bits (row n m.a (suc j + k))) o
-      (λ k lk. ap (λ q. bits (row n m.a q)) (shift k))) in
-      let le : suc o ≤ n = omega (arith, e) in
-      let lh : number h (suc o) < 2 ^ n = (let p = value_below h (suc o) in let q = pow_mono le in
-      omega (arith, p, q)) in
-      let y = number (λ k. new (row n win (j + k))) n in
-      let s = next st.chosen (x n) st.carry y (number x (suc n)) (number x n) b (2 ^ n) r
-      (bit (bits (row n m.a j))) (number h (suc o)) up quot
-      (st.compares ∙ ap (λ z. nat_lt z (number x (suc n) + 1)) vb)
-      (value_below (λ k. new (row n win (j + k))) n)
-      (value_below (λ v. bits (row n m.b v)) n)
-      lh (bit_le (bits (row n m.a j))) i.small ex refl i.equation eh
-      (ap (λ z. y + bit st.carry * 2 ^ n + bit st.chosen * z) (sym vb) ∙ st.less) in
+      bits (row n m.b v)) n (divisor (suc j) o quot old i) in
+      let ex : x ≡ aj + 2 * r = one_lower (λ k. old (row n win k)) j o
+      ∙ ap (λ z. bit z + 2 * r) (i.low j (omega arith)) in
+      let s = next st.chosen st.carry y x b (2 ^ suc o) r aj
+      (number (λ k. bits (row n m.a (j + k))) (suc o))
+      (number (λ k. bits (row n m.a (suc j + k))) o) quot
+      (st.compares ∙ ap (λ z. nat_lt z (x + 1)) vb)
+      (value_below (λ k. new (row n win (j + k))) (suc o)) (bit_le (bits (row n m.a j)))
+      i.small ex i.equation (one_lower (λ k. bits (row n m.a k)) j o)
+      (ap (λ z. y + bit st.carry * 2 ^ suc o + bit st.chosen * z) (sym vb) ∙ st.less) in
       record {
         equation = s.equation;
         small = s.small;
         none = λ z. let a = i.none z in let g = s.none z in rw pow-suc (omega (arith, a, g));
         low = λ v lv. st.low v lv ∙ i.low v (omega arith);
+        high = λ v lv. st.high v lv ∙ i.high v lv;
         rest = λ q out. st.rest q (other q out) ∙ i.rest q out;
       }
 
-  -- the window before the first step: a, and zeros above it
-  abbrev copy_body : Block
-  copy_body = placed_body (rooms_for op.Div m) (moved (first sub.Inner) (fifth sub.Inner))
-
-  abbrev clear_body : Block
-  clear_body = placed_body (rooms_for op.Div m) (constant off (fifth sub.NPlusInner))
-
-  abbrev copied : Spots
-  copied = after_many n 0 copy_body n bits
-
+  -- before the first step: a, and what is known of the divisor
   abbrev ready : Spots
-  ready = after_many n 0 clear_body n copied
-
-  clear_loop : IsLoop n 0 n clear_body []
-  clear_loop = loop_of n 0 n clear_body [] refl (tt, tt) (tt, tt) tt
+  ready = after_outer n (gather_parts n m are bits) n (started n m are bits)
 
   start : Divides n 0 0 ready
-  unfolding values_from
   start =
-      let win = w n m are in
-      let l1 = word_loop n 0 win tt (record { by = λ u v lu lv e. w_moves n m are u v e }) sub.Inner
-      (λ v. v) (upwards n 0) copy_body.reads 1 [] (plain 1) (Standing
-      ∷ []) bits (((λ i j li lj e. are.word.a.by i j li (omega arith) e), tt), tt) in
-      let t = loop_turns n 0 n clear_body [] clear_loop copied in
-      let zeros : number (λ k. ready (row n win (n + k))) n ≡ 0 =
-      value_same (λ k. ready (row n win (n + k))) (λ k.
-      false) n (λ k lk. loop_word n 0 n clear_body [] clear_loop copied 0 (omega arith)
-      (λ u v lu lv e. let z : n + u ≡ n + v = w_moves n m are (n + u) (n + v) e in
-      omega arith) k lk) ∙ value_false n in
+      let e : 0 + n ≡ n = omega arith in
+      let g = all_gathers n m are bits n 0 e in
       record {
-        equation = omega (arith, zeros);
-        small = λ some. omega (arith, zeros, some);
+        equation = omega arith;
+        small = λ some. some;
         none = λ z. omega arith;
-        low = λ v lv. t.rest (row n win v) (λ j k lj lk e. low_apart v lv j k lj lk e)
-            ∙ l1.word v lv;
-        rest = λ q out. t.rest q (λ j k lj lk e. clear_apart q out j k lj lk e)
-            ∙ l1.rest q (λ v lv e. out.word v (omega arith) e);
+        low = λ v lv. g.copy v lv;
+        high = λ v lv. g.over v (omega arith) lv;
+        rest = λ q out. g.rest q out;
       }
-    where
-      low_apart : (v : ℕ) → v < n → (j k : ℕ) → j < n → k < 1
-          → row n (w n m are) v ≡ spot_at n j 0 (nth_place clear_body.writes k) → ⊥
-      low_apart v lv j zero lj lk e = let z : v ≡ n + j = w_moves n m are v (n + j) e in
-          absurd (omega arith)
-      low_apart v lv j (suc k) lj lk e = absurd (omega arith)
-
-      clear_apart : (q : Spot) → IsElsewhere n 2 2 m q → (j k : ℕ) → j < n → k < 1
-          → q ≡ spot_at n j 0 (nth_place clear_body.writes k) → ⊥
-      clear_apart q out j zero lj lk e = out.word (n + j) (omega arith) e
-      clear_apart q out j (suc k) lj lk e = absurd (omega arith)
 
   abbrev the_core : List (InnerOf Block)
   the_core = core n m are
 
-  stepped : (o j : ℕ) (old : Spots) → suc j + o ≡ n
-      → Stepped n m are j old (after_parts n o the_core old)
-  stepped o j old e = let z : n - 1 - o ≡ j = omega (arith, e) in
-      subst (λ x. Stepped n m are x old (after_parts n o the_core old)) z
-      (step n m are o old (omega (arith, e)))
+  -- what is known of the divisor's higher bits where a step begins
+  knows : (o j quot : ℕ) (old : Spots) → suc j + o ≡ n → Divides (suc j) o quot old
+      → old (above n m are o) ≡ higher n m are old o
+  knows o j quot old e i = i.high o (omega (arith, e)) ∙ ap (nat_lt 0)
+      (value_same (λ k. bits (row n m.b (o + 1 + k))) (λ k. old (row n m.b (o + 1 + k)))
+      (n - (o + 1)) (λ k lk. sym (divisor (suc j) o quot old i (o + 1 + k) (omega (arith, lk)))))
+
+  stepped : (o j quot : ℕ) (old : Spots) → suc j + o ≡ n → Divides (suc j) o quot old
+      → Stepped n m are j (suc o) old (after_parts n o the_core old)
+  stepped o j quot old e i =
+      let z : n - 1 - o ≡ j = omega (arith, e) in
+      let c : o + 1 ≡ suc o = omega arith in
+      subst (λ x. Stepped n m are j x old (after_parts n o the_core old)) c
+      (subst (λ x. Stepped n m are x (o + 1) old (after_parts n o the_core old)) z
+      (step n m are o old (omega (arith, e)) (knows o j quot old e i)))
 
   all_steps : (o j : ℕ) → j + o ≡ n → (quot : ℕ) × Divides j o quot (after_outer n the_core o ready)
   all_steps zero j e = let z : n ≡ j = omega (arith, e) in
@@ -235,7 +186,7 @@ module _ (n : ℕ) (m : Rows) (are : AreRows n 2 2 m) (bits : Spots) where
       let old = after_outer n the_core o ready in
       let e' : suc j + o ≡ n = omega (arith, e) in
       let i = all_steps o (suc j) e' in
-      let st = stepped o j old e' in
+      let st = stepped o j i.0 old e' i.1 in
       (2 * i.0 + bit st.chosen, one_step j o i.0 old (after_parts n o the_core old) e' i.1 st)
 
   -- one more row of the target
@@ -253,12 +204,15 @@ module _ (n : ℕ) (m : Rows) (are : AreRows n 2 2 m) (bits : Spots) where
       let same = λ (u : ℕ) (lu : u < n * 2). set_other new (row n m.target k) v (row n win u) (λ h.
       are.word.target.by u k lu lk h) in
       let all = value_same (λ i. set_spot new (row n m.target k) v (row n win (j + i))) (λ i.
-      new (row n win (j + i))) n (λ i li. same (j + i) (omega (arith, e))) in
+      new (row n win (j + i))) o (λ i li. same (j + i) (omega (arith, e))) in
       record {
         equation = i.equation ∙ ap (λ x. quot * b + x) (sym all);
         small = λ some. let h = i.small some in omega (arith, h, all);
         none = i.none;
         low = λ u lu. same u (omega (arith, e)) ∙ i.low u lu;
+        high = λ u lu. set_other new (row n m.target k) v (above n m are u) (λ h.
+            are.word.target.by (n + u) k (omega (arith, lu)) lk (sym (above_is n m are u) ∙ h))
+            ∙ i.high u lu;
         rest = λ q out. set_other new (row n m.target k) v q (λ h. out.target k lk h)
             ∙ i.rest q out;
       }
@@ -276,7 +230,7 @@ module _ (n : ℕ) (m : Rows) (are : AreRows n 2 2 m) (bits : Spots) where
       let old = after_outer n all_parts o ready in
       let e' : suc j + o ≡ n = omega (arith, e) in
       let i = all_quotients o (suc j) e' in
-      let st = stepped o j old e' in
+      let st = stepped o j i.quot old e' i.divides in
       let mid = after_parts n o the_core old in
       let v = mid (gp n m are) in
       let p = row n m.target (n - 1 - o) in
@@ -369,13 +323,15 @@ pub div_does : (n : ℕ) (m : Rows) → AreRows n 2 2 m → DoesNested op.Div n 
 unfolding values_from
 div_does n m are bits =
     let b1 = copy_body n m are bits in
-    let b2 = clear_body n m are bits in
+    let b2 = start_body n m are bits in
+    let nest = gather_parts n m are bits in
     let parts = all_parts n m are bits in
-    let s1 = copied n m are bits in
+    let s1 = started n m are bits in
     let s2 = ready n m are bits in
     let d = div_leaves n m are bits in
-    subst (Gives op.Div n 2 2 m bits) (sym (steps_each n b1 (Along b2 ∷ (Nest parts ∷ [])) bits
-    ∙ steps_each n b2 (Nest parts ∷ []) s1 ∙ steps_nest n parts [] s2))
+    subst (Gives op.Div n 2 2 m bits) (sym (steps_each n b1 (Single b2
+    ∷ (Nest nest ∷ (Nest parts ∷ []))) bits
+    ∙ steps_nest n nest (Nest parts ∷ []) s1 ∙ steps_nest n parts [] s2))
     record { gives = d.quotient; keeps = λ q out. d.keeps q out (λ z. z) }
 
 -- and then the remainder is in the second target
@@ -385,12 +341,13 @@ pub divmod_does : (n : ℕ) (m : Rows) → AreRows n 2 2 m → IsSecond n m → 
 unfolding values_from
 divmod_does n m are has bits =
     let b1 = copy_body n m are bits in
-    let b2 = clear_body n m are bits in
+    let b2 = start_body n m are bits in
+    let nest = gather_parts n m are bits in
     let parts = all_parts n m are bits in
-    let s1 = copied n m are bits in
+    let s1 = started n m are bits in
     let s2 = ready n m are bits in
     let mid = after_outer n parts n s2 in
-    let b3 = placed_body (rooms_for op.Divmod m) (moved (fifth sub.Inner) (sixth sub.Inner)) in
+    let b3 = placed_body (rooms_for op.Divmod m) (moved (fifth sub.Inner) (seventh sub.Inner)) in
     let new = after_many n 0 b3 n mid in
     let d = div_leaves n m are bits in
     let l = word_loop n 0 m.second has.own has.moves sub.Inner (λ v. v) (upwards n 0) b3.reads 1 []
@@ -399,8 +356,8 @@ divmod_does n m are has bits =
       tt,
     ) in
     subst (Divided n m m.second (λ q. (v : ℕ) × (v < n) × (q ≡ row n m.second v)) bits)
-    (sym (steps_each n b1 (Along b2 ∷ (Nest parts ∷ (Along b3 ∷ []))) bits
-    ∙ steps_each n b2 (Nest parts ∷ (Along b3 ∷ [])) s1
+    (sym (steps_each n b1 (Single b2 ∷ (Nest nest ∷ (Nest parts ∷ (Along b3 ∷ [])))) bits
+    ∙ steps_nest n nest (Nest parts ∷ (Along b3 ∷ [])) s1
     ∙ steps_nest n parts (Along b3 ∷ []) s2 ∙ steps_each n b3 [] mid))
     record {
       quotient = value_same (λ v. new (row n m.target v)) (λ v. mid (row n m.target v)) n
@@ -413,9 +370,10 @@ pub rem_does : (n : ℕ) (m : Rows) → AreRows n 2 2 m → DoesNested op.Rem n 
 unfolding values_from
 rem_does n m are bits =
     let b1 = copy_body n m are bits in
-    let b2 = clear_body n m are bits in
+    let b2 = start_body n m are bits in
+    let nest = gather_parts n m are bits in
     let parts = the_core n m are bits in
-    let s1 = copied n m are bits in
+    let s1 = started n m are bits in
     let s2 = ready n m are bits in
     let mid = after_outer n parts n s2 in
     let b3 = placed_body (rooms_for op.Div m) (moved (fifth sub.Inner) (target sub.Inner)) in
@@ -430,8 +388,9 @@ rem_does n m are bits =
       ),
       tt,
     ) in
-    subst (Gives op.Rem n 2 2 m bits) (sym (steps_each n b1 (Along b2
-    ∷ (Nest parts ∷ (Along b3 ∷ []))) bits ∙ steps_each n b2 (Nest parts ∷ (Along b3 ∷ [])) s1
+    subst (Gives op.Rem n 2 2 m bits) (sym (steps_each n b1 (Single b2
+    ∷ (Nest nest ∷ (Nest parts ∷ (Along b3 ∷ [])))) bits
+    ∙ steps_nest n nest (Nest parts ∷ (Along b3 ∷ [])) s1
     ∙ steps_nest n parts (Along b3 ∷ []) s2 ∙ steps_each n b3 [] mid))
     record {
       gives = value_same _ _ n l.word ∙ remainder_is (number_at n bits m.a n)

@@ -3,6 +3,7 @@ use Rattle.std.proofs.Common.{◌≡◌, ℕ, ◌+◌, ◌*◌, ◌<◌, true, f
 use Rattle.op_text.specs.declared.word_ops.WordOp.{WordOp}
 use Rattle.op_text.specs.declared.word_ops.WordOp.TheVariants as o
 use Rattle.op_text.specs.Values.{of_one, of_two}
+use Rattle.loop_ir.specs.declared.ir.Space.TheVariants.{ScratchWord}
 use Rattle.loop_ir.specs.declared.ir.Sub.{Sub}
 use Rattle.loop_ir.specs.declared.names.Slot.{Slot}
 use Rattle.loop_ir.specs.Loops.{all_rounds}
@@ -15,12 +16,18 @@ use Rattle.word_lower.proofs.Statements.{space_is}
 use Rattle.word_mul.specs.declared.rows.Rows.{Rows}
 use Rattle.word_mul.specs.Places.{scratch_word, steps_for}
 
--- the words of scratch, and a second target
+-- the second bit of scratch, the words of scratch, and a second target
+abbrev pub fourth : Sub → Mark
+fourth s = on 4 s
+
 abbrev pub fifth : Sub → Mark
 fifth s = on 5 s
 
 abbrev pub sixth : Sub → Mark
 sixth s = on 6 s
+
+abbrev pub seventh : Sub → Mark
+seventh s = on 7 s
 
 -- where a state stands
 abbrev pub cell : ℕ → ℕ → Spot
@@ -40,6 +47,15 @@ cell_other n q layout rows e = let z : false ≡ true =
 
 pub row_other : (n : ℕ) (s : Slot) (v layout : ℕ) → HasRows s → row n s v ≡ cell n layout → ⊥
 row_other n s v layout rows e = cell_other n (row n s v) layout (row_stands n s v rows) e
+
+word_row : ℕ → Spot
+word_row x = record { space = ScratchWord; which = 0; index = x }
+
+-- a word of scratch comes right after the one before it
+pub word_after : (n k v : ℕ) → row n (scratch_word (k + 1)) v ≡ row n (scratch_word k) (n + v)
+unfolding word_row
+word_after n k v = let e : (k + 1) * n + v ≡ k * n + (n + v) = omega arith in
+    ap word_row e
 
 -- the operation's value from two numbers, of which it takes the first ones
 abbrev pub operation : WordOp → ℕ → ℕ → ℕ → ℕ

@@ -1,11 +1,12 @@
 -- A loop program that is built on a statement's rows does it, with one target or two.
-use Rattle.std.proofs.Common.{◌≡◌, ℕ, ◌≤◌, true, List, Option, Some, None, sym, ap, ◌∙◌, subst}
+use Rattle.std.proofs.Common.{◌≡◌, ℕ, ◌+◌, ◌≤◌, true, List, Option, Some, None, sym, ap, ◌∙◌, subst}
 use Rattle.std.specs.Option.{option_to_list}
 use Rattle.op_text.specs.declared.tree.Kind.{Kind}
 use Rattle.op_text.specs.declared.word_ops.WordOp.{WordOp}
 use Rattle.op_text.specs.declared.word_ops.WordOp.TheVariants as op
 use Rattle.op_text.specs.WordOps.{second_kind}
 use Rattle.op_text.specs.Language.{Statement, Compute}
+use Rattle.op_text.specs.Scratch.{bits_inside, words_inside}
 use Rattle.loop_ir.specs.declared.names.Slot.{Slot}
 use Rattle.loop_ir.specs.Plain.{Block, StepOf}
 use Rattle.loop_ir.specs.Loops.{all_rounds}
@@ -138,6 +139,13 @@ module _ (slots : Slots) (free_bit free_word : ℕ) (s : Statement) (target : Li
     m_is : m ≡ rows_on word_meets.gives.slot found_second.place found_args.list free_bit free_word
     m_is = on word_meets.gives.slot found_second.place found_args.list word_meets.gives.found
         found_second.at found_args.at
+
+    pub has_bits : m.free_bit + bits_inside p ≤ 256
+    has_bits = subst (λ (m : Rows). m.free_bit + bits_inside p ≤ 256) (sym m_is) word_placed.bits
+
+    pub has_words : m.free_word + words_inside p ≤ 256
+    has_words = subst (λ (m : Rows). m.free_word + words_inside p ≤ 256) (sym m_is)
+        word_placed.words
 
     done : (steps : List (StepOf Block)) → StepsBuilt steps (steps_for p m)
         → IsDone slots free_bit free_word target second p args steps

@@ -272,13 +272,13 @@ module _ (slots : Slots) (free_bit free_word : ℕ) (target name : List ℕ) (ar
           cheap = λ n some most.
               (let a = total op.Divmod refl
               (rooms_for op.Divmod (rows_on t (Some u) ss free_bit free_word)) have_rows n in
-              let b = cheap op.Divmod refl n in
+              let b = cheap op.Divmod refl n some in
               let w = ap (op_ceiling op.Divmod)
               (named_width n slots args ss at ∙ lowers.wide n) in
               omega (arith, a, b, w));
           plain = λ n some most.
               (let b = plain op.Divmod refl
-              (rooms_for op.Divmod (rows_on t (Some u) ss free_bit free_word)) have_rows n in
+              (rooms_for op.Divmod (rows_on t (Some u) ss free_bit free_word)) have_rows n some in
               let w = ap (op_plain_ceiling op.Divmod)
               (named_width n slots args ss at ∙ lowers.wide n) in
               omega (arith, b, w));

@@ -276,11 +276,11 @@ module _ (slots : Slots) (free_bit free_word : ℕ) (target : List ℕ) (p : Wor
           cheap = λ n some most.
               (let a = total p is (rooms_for p (rows_on t None ss free_bit free_word)) have_rows n
               in
-              let b = cheap p is n in
+              let b = cheap p is n some in
               let w = ap (op_ceiling p) (named_width n slots args ss at ∙ lowers.wide n) in
               omega (arith, a, b, w));
           plain = λ n some most.
-              (let b = plain p is (rooms_for p (rows_on t None ss free_bit free_word)) have_rows n
+              (let b = plain p is (rooms_for p (rows_on t None ss free_bit free_word)) have_rows n some
               in
               let w = ap (op_plain_ceiling p)
               (named_width n slots args ss at ∙ lowers.wide n) in

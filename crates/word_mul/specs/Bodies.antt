@@ -13,27 +13,30 @@ use Rattle.word_mul.specs.declared.shapes.Owners.{Owners}
 use Rattle.word_mul.specs.Places.{scratch_word}
 use Rattle.word_mul.specs.Programs.{mark_of}
 
--- the places of a statement's names and of its internal scratch
-abbrev pub owners_of : Rows → Owners
-owners_of m = record {
+-- the places of a statement's names and of its internal scratch, of which the second bit and the
+-- second word are these
+abbrev pub owners_of : Rows → Slot → Slot → Owners
+owners_of m second_bit second_word = record {
   target = m.target;
   first = m.a;
   second = m.b;
   bit = scratch_bit m.free_bit;
-  words = scratch_word m.free_word;
+  second_bit = second_bit;
+  word = scratch_word m.free_word;
+  second_word = second_word;
   second_target = m.second;
 }
 
--- whose rows an owner's number stands for: none of the table has the number 4, which is the second
--- bit of scratch of a division
+-- whose rows an owner's number stands for
 abbrev pub rows_at : Owners → ℕ → Slot
 rows_at o zero = o.target
 rows_at o (suc zero) = o.first
 rows_at o (suc (suc zero)) = o.second
 rows_at o (suc (suc (suc zero))) = o.bit
-rows_at o (suc (suc (suc (suc zero)))) = o.bit
-rows_at o (suc (suc (suc (suc (suc zero))))) = o.words
-rows_at o (suc (suc (suc (suc (suc (suc k)))))) = o.second_target
+rows_at o (suc (suc (suc (suc zero)))) = o.second_bit
+rows_at o (suc (suc (suc (suc (suc zero))))) = o.word
+rows_at o (suc (suc (suc (suc (suc (suc zero)))))) = o.second_word
+rows_at o (suc (suc (suc (suc (suc (suc (suc k))))))) = o.second_target
 
 -- an owner's rows, or the cells of a state
 abbrev pub owner_at : Owners → rooms.Owner → Slot

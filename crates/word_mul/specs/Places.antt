@@ -1,7 +1,7 @@
--- The rooms of such a statement: as any word statement's, with a lone argument for both, two words
--- of internal scratch as one room, and a second target.
-use Rattle.std.specs.Prelude.{◌≡◌, ℕ, zero, suc, true, List, [], ◌∷◌, ◌++◌, length, nat_lt, Option}
-use Rattle.std.specs.Prelude.{Some, None, unwrap_or, if◌then◌else◌}
+-- The rooms of such a statement: as any word statement's, with a lone argument for both, words of
+-- internal scratch, and a second target.
+use Rattle.std.specs.Prelude.{◌≡◌, ℕ, zero, suc, ◌+◌, true, List, [], ◌∷◌, ◌++◌, length, nat_lt}
+use Rattle.std.specs.Prelude.{Option, Some, None, unwrap_or, if◌then◌else◌}
 use Rattle.std.specs.Option.{option_to_list}
 use Rattle.op_text.specs.declared.tree.Kind.{Kind}
 use Rattle.op_text.specs.declared.tree.Kind.TheVariants.{Word}
@@ -13,7 +13,7 @@ use Rattle.loop_ir.specs.declared.ir.Space.TheVariants.{ScratchWord}
 use Rattle.loop_ir.specs.declared.names.Slot.{Slot}
 use Rattle.loop_ir.specs.Plain.{StepOf, Block}
 use Rattle.loop_ir.specs.Statements.{Slots}
-use Rattle.loop_laws.specs.Rooms.{Twice, Room, placed_steps}
+use Rattle.loop_laws.specs.Rooms.{Room, placed_steps}
 use Rattle.word_lower.specs.Places.{room_of, scratch_from, rooms_of, AreAt}
 use Rattle.word_lower.specs.Shapes.{following}
 use Rattle.word_mul.specs.declared.rows.Rows.{Rows}
@@ -23,15 +23,10 @@ use Rattle.word_mul.specs.Programs.{nested}
 abbrev pub scratch_word : ℕ → Slot
 scratch_word k = record { space = ScratchWord; which = k; kind = Word }
 
--- the two words of scratch of a division, as one room of twice n rows
-abbrev pub double_words : ℕ → ℕ → List Room
-double_words free zero = []
-double_words free (suc words) = record {
-  space = ScratchWord;
-  which = free;
-  rows = Twice;
-  written = true;
-} ∷ []
+-- so many words of scratch from this one on
+abbrev pub words_from : ℕ → ℕ → List Room
+words_from free zero = []
+words_from free (suc count) = room_of true (scratch_word free) ∷ words_from (free + 1) count
 
 -- a second target, where the operation has a second result
 abbrev pub second_rooms : Option Kind → Slot → List Room
@@ -41,7 +36,7 @@ second_rooms (Some k) s = room_of true s ∷ []
 -- the rows of such a statement, by the numbers of their owners
 abbrev pub rooms_for : WordOp → Rows → List Room
 rooms_for p m = rooms_of m.target (m.a ∷ m.b ∷ []) (scratch_from m.free_bit (bits_inside p))
-    ++ (double_words m.free_word (words_inside p) ++ second_rooms (second_kind p) m.second)
+    ++ (words_from m.free_word (words_inside p) ++ second_rooms (second_kind p) m.second)
 
 -- the loop program of such a statement, with its places found
 abbrev pub steps_for : WordOp → Rows → List (StepOf Block)

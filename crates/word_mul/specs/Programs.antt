@@ -1,5 +1,5 @@
 -- The loop programs of the word operations that take a pass over a word for each position.
-use Rattle.std.specs.Prelude.{ℕ, ◌+◌, ◌*◌, ◌/◌, ◌^◌, ◌==◌, Bool, true, false, if◌then◌else◌}
+use Rattle.std.specs.Prelude.{ℕ, ◌+◌, ◌*◌, ◌/◌, ◌==◌, Bool, true, false, if◌then◌else◌}
 use Rattle.std.specs.Prelude.{List, [], ◌∷◌, ◌++◌, Option, Some, None}
 use Rattle.mig_graph.specs.declared.Node.{Node}
 use Rattle.mig_graph.specs.Literals.{node_of}
@@ -9,21 +9,23 @@ use Rattle.op_text.specs.WordOps.{number}
 use Rattle.op_text.specs.Language.{Statement, Compute, Visit}
 use Rattle.loop_ir.specs.Plain.{InnerOf, StepOf}
 use Rattle.loop_ir.specs.Plain.InnerOf.{Alone, Across}
-use Rattle.loop_ir.specs.Plain.StepOf.{Along, Nest}
+use Rattle.loop_ir.specs.Plain.StepOf.{Single, Along, Nest}
 use Rattle.loop_laws.specs.Rooms as rooms
 use Rattle.loop_laws.specs.Rooms.{Mark, Marked, InRoom, InCells}
 use Rattle.word_lower.specs.Programs.{plain, complemented, off, up, template, constant, moved}
-use Rattle.word_lower.specs.Programs.{inverted, joined, compared}
+use Rattle.word_lower.specs.Programs.{inverted, joined, without, compared}
 use Rattle.word_mul.specs.declared.shapes.Owner.{Owner}
 use Rattle.word_mul.specs.declared.shapes.Owner.TheVariants.{Target, First, Second, ScratchBit}
-use Rattle.word_mul.specs.declared.shapes.Owner.TheVariants.{Words, SecondTarget, Cells}
+use Rattle.word_mul.specs.declared.shapes.Owner.TheVariants.{SecondBit, ScratchWord, SecondWord}
+use Rattle.word_mul.specs.declared.shapes.Owner.TheVariants.{SecondTarget, Cells}
 use Rattle.word_mul.specs.declared.shapes.Mark as code
 use Rattle.word_mul.specs.declared.shapes.BodyForm.{BodyForm}
 use Rattle.word_mul.specs.declared.shapes.BodyForm.TheVariants.{Off, On, Moved, Inverted, Either}
-use Rattle.word_mul.specs.declared.shapes.BodyForm.TheVariants.{Compared, Multiplied, Counted}
-use Rattle.word_mul.specs.declared.shapes.BodyForm.TheVariants.{Divided}
+use Rattle.word_mul.specs.declared.shapes.BodyForm.TheVariants.{Without, Compared, Multiplied}
+use Rattle.word_mul.specs.declared.shapes.BodyForm.TheVariants.{Counted, Divided}
 use Rattle.word_mul.specs.declared.shapes.NestPart.{NestPart}
 use Rattle.word_mul.specs.declared.shapes.NestPart.TheVariants.{Once, Each}
+use Rattle.word_mul.specs.declared.shapes.Gathering.{Gathering}
 use Rattle.word_mul.specs.declared.shapes.NestedProgram.{NestedProgram}
 use Rattle.word_mul.specs.declared.table.TheConstants.{NESTED}
 
@@ -58,15 +60,17 @@ abbrev pub divided : Mark → Mark → Mark → Mark → Marked
 divided w y g c = template (w ∷ y ∷ g ∷ c ∷ []) divided_nodes (plain 8 ∷ plain 7 ∷ []) (w ∷ c ∷ [])
 
 -- Whose rows a place of the table has, by its number: the target's, then the arguments', then those
--- of the bits of scratch, of which a division has two and uses the first, then of its words, then a
--- second target's; or the layout of a state
+-- of the bits of scratch, of which a division has two, then of its two words, then a second
+-- target's; or the layout of a state
 abbrev pub owner_of : Owner → rooms.Owner
 owner_of Target = InRoom 0
 owner_of First = InRoom 1
 owner_of Second = InRoom 2
 owner_of ScratchBit = InRoom 3
-owner_of Words = InRoom 5
-owner_of SecondTarget = InRoom 6
+owner_of SecondBit = InRoom 4
+owner_of ScratchWord = InRoom 5
+owner_of SecondWord = InRoom 6
+owner_of SecondTarget = InRoom 7
 owner_of (Cells layout) = InCells layout
 
 -- a place of the table, by its owner
@@ -80,6 +84,7 @@ form_body (On z) = constant up (mark_of z)
 form_body (Moved x z) = moved (mark_of x) (mark_of z)
 form_body (Inverted x z) = inverted (mark_of x) (mark_of z)
 form_body (Either x y z) = joined up (mark_of x) (mark_of y) (mark_of z)
+form_body (Without x y z) = without (mark_of x) (mark_of y) (mark_of z)
 form_body (Compared x y g z) = compared (mark_of x) (mark_of y) (mark_of g) (mark_of z)
 form_body (Multiplied y a b c) = multiplied (mark_of y) (mark_of a) (mark_of b) (mark_of c)
 form_body (Counted y c) = counted (mark_of y) (mark_of c)
@@ -97,9 +102,14 @@ abbrev pub pass_of : Option BodyForm → List (StepOf Marked)
 pass_of None = []
 pass_of (Some f) = Along (form_body f) ∷ []
 
+-- what is gathered, where something is
+abbrev pub gathering_of : Option Gathering → List (StepOf Marked)
+gathering_of None = []
+gathering_of (Some g) = Single (form_body g.start) ∷ Nest (parts_of g.parts) ∷ []
+
 -- the steps of a row of the table
 abbrev pub row_steps : NestedProgram → List (StepOf Marked)
-row_steps r = Along (form_body r.first) ∷ (pass_of r.second
+row_steps r = Along (form_body r.first) ∷ (gathering_of r.gathering
     ++ Nest (parts_of r.parts ++ parts_of (r.last ∷ [])) ∷ pass_of r.after)
 
 -- an operation's row of the table
@@ -137,10 +147,10 @@ is_nested_statement (Visit block) = false
 -- the commands of its loop program at width n
 abbrev pub nested_total : WordOp → ℕ → ℕ
 nested_total o.Mul n = 9 * (n * (n + 1) / 2) + 4 * n
-nested_total o.Div n = 12 * n ^ 2 + 9 * n
-nested_total o.Rem n = 12 * n ^ 2 + 9 * n
+nested_total o.Div n = 12 * (n * (n + 1) / 2) + 16 * n + 1
+nested_total o.Rem n = 12 * (n * (n + 1) / 2) + 16 * n + 1
 nested_total o.Bitcount n = 18 * (n * (n + 1) / 2) + 3 * n
-nested_total o.Divmod n = 12 * n ^ 2 + 10 * n
+nested_total o.Divmod n = 12 * (n * (n + 1) / 2) + 17 * n + 1
 nested_total p n = 0
 
 -- the commands of such a statement at width n

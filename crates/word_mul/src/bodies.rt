@@ -17,7 +17,7 @@ use mig_graph::{Lit, NoMemory, Node};
 use std::alloc::Global;
 use word_lower::literals::{N1, N8, OFF, ON, P1, P3, P4, P5, P7, P8};
 use word_lower::made;
-use word_lower::templates::{COMPARED, EITHER};
+use word_lower::templates::{COMPARED, EITHER, WITHOUT};
 
 /// The place of a mark.
 fn place(mark: Mark, owners: Owners) -> Place
@@ -28,7 +28,9 @@ fn place(mark: Mark, owners: Owners) -> Place
         Owner::First => owners.first,
         Owner::Second => owners.second,
         Owner::ScratchBit => owners.bit,
-        Owner::Words => owners.words,
+        Owner::SecondBit => owners.second_bit,
+        Owner::ScratchWord => owners.word,
+        Owner::SecondWord => owners.second_word,
         Owner::SecondTarget => owners.second_target,
         Owner::Cells(layout) => cells(layout),
     };
@@ -87,6 +89,7 @@ pub fn body(form: BodyForm, owners: Owners, alloc: Global) -> Result<Body, NoMem
         BodyForm::Moved(x, z) => templated(&[x], &[], &[P1], &[z], o, a),
         BodyForm::Inverted(x, z) => templated(&[x], &[], &[N1], &[z], o, a),
         BodyForm::Either(x, y, z) => templated(&[x, y], &EITHER, &[P3], &[z], o, a),
+        BodyForm::Without(x, y, z) => templated(&[x, y], &WITHOUT, &[P3], &[z], o, a),
         BodyForm::Compared(x, y, g, z) => templated(
             &[x, y, g],
             &COMPARED,

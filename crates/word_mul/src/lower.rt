@@ -4,6 +4,7 @@ ghost use Rattle.std.specs.Prelude.{◌≡◌, ◌≤◌, ◌<◌, ◌+◌, ℕ,
 ghost use Rattle.std.specs.Prelude.{unwrap_or};
 ghost use Rattle.std.specs.Option.{option_to_list};
 ghost use Rattle.op_text.specs.Language.{statement};
+ghost use Rattle.op_text.specs.Scratch.{bits_inside, words_inside};
 ghost use Rattle.loop_ir.specs.declared.names.Slot.{Slot};
 ghost use Rattle.loop_ir.specs.Plain.{steps_of};
 ghost use Rattle.loop_ir.specs.Loops.{all_rounds};
@@ -70,6 +71,8 @@ fn rows(names: &NameMap, target: &Name, second: &Option<Name>, args: &[Name]) ->
 /// The loop program of an operation.
 pub fn program(op: WordOp, m: Rows, alloc: Global) -> Result<LoopProgram, NoMemory>
     requires nested { is_nested op ≡ true }
+    requires bits { m.free_bit + bits_inside op ≤ 256 }
+    requires words { m.free_word + words_inside op ≤ 256 }
     ensures { IfOk result (λ p. StepsBuilt (steps_of p) (steps_for op m)) }
 {
     match program_of(op) {

@@ -4,11 +4,11 @@ ghost use Rattle.std.specs.Prelude.{◌≡◌, ◌++◌, ◌∷◌, [], map, IfO
 ghost use Rattle.loop_ir.specs.Plain.{inner_of, step_of, steps_of, AllInner, AllParts};
 ghost use Rattle.loop_ir.specs.Plain.StepOf.{Nest};
 ghost use Rattle.loop_laws.specs.Forms.{IsMade};
-ghost use Rattle.word_mul.specs.Programs.{parts_of, pass_of, row_steps};
+ghost use Rattle.word_mul.specs.Programs.{parts_of, pass_of, gathering_of, row_steps};
 ghost use Rattle.word_mul.specs.Bodies.{parts_on, steps_on};
 
 use crate::bodies::body;
-use crate::shapes::{BodyForm, NestPart, NestedProgram, Owners};
+use crate::shapes::{BodyForm, Gathering, NestPart, NestedProgram, Owners};
 use faults::keep;
 use loop_ir::{Inner, LoopProgram, Step};
 use mig_graph::NoMemory;
@@ -82,6 +82,30 @@ fn add_pass(
     }
 }
 
+/// What is gathered of an argument, where something is.
+fn add_gathering(
+    steps: &mut Vec<Step>,
+    gathering: Option<Gathering>,
+    owners: Owners,
+    alloc: Global,
+) -> Result<(), NoMemory>
+    ensures same { OnOk result (map step_of steps.new.items ≡ map step_of steps.old.items
+        ++ steps_on owners (gathering_of gathering)) }
+    ensures made { OnOk result (AllParts IsMade (map step_of steps.old.items)
+        → AllParts IsMade (map step_of steps.new.items)) }
+{
+    match gathering {
+        None => Ok(()),
+        Some(gathering) => {
+            let start = body(gathering.start, owners, alloc)?;
+            keep(steps, Step::Once(start))?;
+            let nest = parts(&gathering.parts, owners, alloc)?;
+            keep(steps, Step::Nest(nest))?;
+            Ok(())
+        }
+    }
+}
+
 /// The nest of a row, after what there is.
 fn add_nest(
     steps: &mut Vec<Step>,
@@ -107,7 +131,7 @@ pub fn built(row: NestedProgram, owners: Owners, alloc: Global) -> Result<LoopPr
 {
     let mut steps = Vec::new(alloc);
     add_pass(&mut steps, Some(row.first), owners, alloc)?;
-    add_pass(&mut steps, row.second, owners, alloc)?;
+    add_gathering(&mut steps, row.gathering, owners, alloc)?;
     add_nest(&mut steps, row, owners, alloc)?;
     add_pass(&mut steps, row.after, owners, alloc)?;
     Ok(LoopProgram { steps })

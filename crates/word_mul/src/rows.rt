@@ -1,6 +1,6 @@
 //! Where a statement's rows lie.
 
-ghost use Rattle.std.specs.Prelude.{◌≡◌};
+ghost use Rattle.std.specs.Prelude.{◌≡◌, ◌+◌, ◌<◌};
 ghost use Rattle.word_lower.specs.Places.{scratch_bit, cells};
 ghost use Rattle.word_mul.specs.Places.{scratch_word};
 ghost use Rattle.word_mul.specs.Bodies.{owners_of};
@@ -32,8 +32,8 @@ fn bit(which: u8) -> Slot
     }
 }
 
-/// A word of scratch, with the one after it.
-fn words(which: u8) -> Slot
+/// A word of scratch.
+fn word(which: u8) -> Slot
     ensures { result ≡ scratch_word which }
 {
     Slot {
@@ -54,16 +54,34 @@ pub fn cells(layout: u8) -> Slot
     }
 }
 
+/// The bit of scratch after this one, where a byte numbers it.
+fn bit_after(which: u8) -> Slot
+    ensures { which < 255 → result ≡ scratch_bit (which + 1) }
+{
+    bit(which.saturating_add(1))
+}
+
+/// The word of scratch after this one, where a byte numbers it.
+fn word_after(which: u8) -> Slot
+    ensures { which < 255 → result ≡ scratch_word (which + 1) }
+{
+    word(which.saturating_add(1))
+}
+
 /// The places of the owners.
 pub fn owners(m: Rows) -> Owners
-    ensures { result ≡ owners_of m }
+    ensures places { result ≡ owners_of m result.second_bit result.second_word }
+    ensures bit { m.free_bit < 255 → result.second_bit ≡ scratch_bit (m.free_bit + 1) }
+    ensures word { m.free_word < 255 → result.second_word ≡ scratch_word (m.free_word + 1) }
 {
     Owners {
         target: m.target,
         first: m.a,
         second: m.b,
         bit: bit(m.free_bit),
-        words: words(m.free_word),
+        second_bit: bit_after(m.free_bit),
+        word: word(m.free_word),
+        second_word: word_after(m.free_word),
         second_target: m.second,
     }
 }

@@ -3,15 +3,17 @@
 
 use loop_ir::{Count, Slot, Sub};
 
-/// Whose rows a place has: the target's, an argument's, those of a bit of internal scratch or of
-/// its words, or the second target's. A state in the cells of a layout has none.
+/// Whose rows a place has: the target's, an argument's, those of a bit or of a word of internal
+/// scratch, or the second target's. A state in the cells of a layout has none.
 #[derive(Clone, Copy)]
 pub enum Owner {
     Target,
     First,
     Second,
     ScratchBit,
-    Words,
+    SecondBit,
+    ScratchWord,
+    SecondWord,
     SecondTarget,
     Cells(u8),
 }
@@ -30,7 +32,9 @@ pub struct Owners {
     pub first: Slot,
     pub second: Slot,
     pub bit: Slot,
-    pub words: Slot,
+    pub second_bit: Slot,
+    pub word: Slot,
+    pub second_word: Slot,
     pub second_target: Slot,
 }
 
@@ -43,6 +47,7 @@ pub enum BodyForm {
     Moved(Mark, Mark),
     Inverted(Mark, Mark),
     Either(Mark, Mark, Mark),
+    Without(Mark, Mark, Mark),
     /// A state is whether what was read of one row is over what was read of another; a row gets it
     /// too.
     Compared(Mark, Mark, Mark, Mark),
@@ -61,11 +66,19 @@ pub enum NestPart {
     Each(Count, BodyForm),
 }
 
-/// A loop program: passes over a word, then at each position the parts of a nest, then a pass.
+/// What is known of an argument before: a body that is done once, and then a nest.
+#[derive(Clone, Copy)]
+pub struct Gathering {
+    pub start: BodyForm,
+    pub parts: [Option<NestPart>; 2],
+}
+
+/// A loop program: a pass over a word, what is gathered of an argument, then at each position the
+/// parts of a nest, then a pass.
 #[derive(Clone, Copy)]
 pub struct NestedProgram {
     pub first: BodyForm,
-    pub second: Option<BodyForm>,
+    pub gathering: Option<Gathering>,
     pub parts: [Option<NestPart>; 5],
     /// A part after these.
     pub last: Option<NestPart>,

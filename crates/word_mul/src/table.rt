@@ -4,10 +4,10 @@ ghost use Rattle.std.specs.Prelude.{◌≡◌};
 ghost use Rattle.word_mul.specs.Programs.{program_in, program_of};
 
 use crate::shapes::BodyForm::{
-    Compared, Counted, Divided, Either, Inverted, Moved, Multiplied, Off, On,
+    Compared, Counted, Divided, Either, Inverted, Moved, Multiplied, Off, On, Without,
 };
 use crate::shapes::NestPart::{Each, Once};
-use crate::shapes::{Mark, NestPart, NestedProgram, Owner};
+use crate::shapes::{Gathering, Mark, NestPart, NestedProgram, Owner};
 use loop_ir::{Count, Sub};
 use op_text::WordOp;
 
@@ -26,7 +26,7 @@ const Z_DOWN: Mark = Mark {
     owner: Owner::Target,
     sub: Sub::OuterDown,
 };
-// the arguments, at the inner and at the outer position
+// the arguments, at the inner and at the outer position, and at the outer one from above
 const X: Mark = Mark {
     owner: Owner::First,
     sub: Sub::Inner,
@@ -46,8 +46,12 @@ const Y_OUTER: Mark = Mark {
     owner: Owner::Second,
     sub: Sub::Outer,
 };
-// the complement of a bit of the argument, or one that a count adds; and of a division, whether the
-// divisor is taken away
+
+const Y_DOWN: Mark = Mark {
+    owner: Owner::Second,
+    sub: Sub::OuterDown,
+};
+// the complement of a bit of an argument; and of a division, whether the divisor is taken away
 const BIT: Mark = Mark {
     owner: Owner::ScratchBit,
     sub: Sub::Zero,
@@ -73,26 +77,31 @@ const BORROW: Mark = Mark {
     owner: Owner::Cells(4),
     sub: Sub::Zero,
 };
-// the dividend and what is left of it, the zeros above it, and of the window at the outer position
-// its rows and its top row
+// the dividend and what is left of it, and of it the window at the outer position
 const REST: Mark = Mark {
-    owner: Owner::Words,
+    owner: Owner::ScratchWord,
     sub: Sub::Inner,
 };
 
-const ABOVE: Mark = Mark {
-    owner: Owner::Words,
-    sub: Sub::NPlusInner,
-};
-
 const WINDOW: Mark = Mark {
-    owner: Owner::Words,
+    owner: Owner::ScratchWord,
     sub: Sub::DownSum,
 };
+// whether some bit of the divisor is set: of those that were looked at, and of those above a
+// position
+const HIGHER: Mark = Mark {
+    owner: Owner::SecondBit,
+    sub: Sub::Zero,
+};
 
-const TOP: Mark = Mark {
-    owner: Owner::Words,
-    sub: Sub::DownPlusN,
+const ABOVE: Mark = Mark {
+    owner: Owner::SecondWord,
+    sub: Sub::Outer,
+};
+
+const ABOVE_DOWN: Mark = Mark {
+    owner: Owner::SecondWord,
+    sub: Sub::OuterDown,
 };
 // the second target
 const LEFT: Mark = Mark {
@@ -100,14 +109,23 @@ const LEFT: Mark = Mark {
     sub: Sub::Inner,
 };
 
-/// One step of a long division: the divisor is compared with the window, and taken from it where it
-/// is not greater.
+/// From the top position down: whether a bit of the divisor above the position is set.
+pub const HIGHER_BITS: Option<Gathering> = Some(Gathering {
+    start: Off(HIGHER),
+    parts: [
+        Some(Once(Moved(HIGHER, ABOVE_DOWN))),
+        Some(Once(Either(Y_DOWN, HIGHER, HIGHER))),
+    ],
+});
+
+/// One step of a long division: as many low bits of the divisor as the window has are compared with
+/// it, and taken from it where they are not greater and no higher bit is set.
 pub const DIVISION: [Option<NestPart>; 5] = [
     Some(Once(On(OVER))),
-    Some(Each(Count::All, Compared(WINDOW, Y, OVER, FITS))),
-    Some(Once(Either(TOP, FITS, FITS))),
+    Some(Each(Count::UpTo, Compared(WINDOW, Y, OVER, FITS))),
+    Some(Once(Without(FITS, ABOVE, FITS))),
     Some(Once(Off(BORROW))),
-    Some(Each(Count::All, Divided(WINDOW, Y, FITS, BORROW))),
+    Some(Each(Count::UpTo, Divided(WINDOW, Y, FITS, BORROW))),
 ];
 
 /// The loop programs with a nest, each with its operation.
@@ -117,7 +135,7 @@ pub static NESTED: [(WordOp, NestedProgram); 5] = [
         WordOp::Mul,
         NestedProgram {
             first: Off(Z),
-            second: None,
+            gathering: None,
             parts: [
                 Some(Once(Inverted(Y_OUTER, BIT))),
                 Some(Once(Off(CARRY))),
@@ -134,7 +152,7 @@ pub static NESTED: [(WordOp, NestedProgram); 5] = [
         WordOp::Div,
         NestedProgram {
             first: Moved(X, REST),
-            second: Some(Off(ABOVE)),
+            gathering: HIGHER_BITS,
             parts: DIVISION,
             last: Some(Once(Moved(FITS, Z_DOWN))),
             after: None,
@@ -145,7 +163,7 @@ pub static NESTED: [(WordOp, NestedProgram); 5] = [
         WordOp::Rem,
         NestedProgram {
             first: Moved(X, REST),
-            second: Some(Off(ABOVE)),
+            gathering: HIGHER_BITS,
             parts: DIVISION,
             last: None,
             after: Some(Moved(REST, Z)),
@@ -156,7 +174,7 @@ pub static NESTED: [(WordOp, NestedProgram); 5] = [
         WordOp::Bitcount,
         NestedProgram {
             first: Off(Z),
-            second: None,
+            gathering: None,
             parts: [
                 Some(Once(Inverted(X_OUTER, BIT))),
                 Some(Each(Count::UpTo, Counted(Z, BIT))),
@@ -173,7 +191,7 @@ pub static NESTED: [(WordOp, NestedProgram); 5] = [
         WordOp::Divmod,
         NestedProgram {
             first: Moved(X, REST),
-            second: Some(Off(ABOVE)),
+            gathering: HIGHER_BITS,
             parts: DIVISION,
             last: Some(Once(Moved(FITS, Z_DOWN))),
             after: Some(Moved(REST, LEFT)),

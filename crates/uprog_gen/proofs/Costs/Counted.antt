@@ -8,9 +8,8 @@ use Rattle.op_text.specs.declared.word_ops.WordOp.TheVariants as op
 use Rattle.op_text.specs.Language.{Statement, Compute, Visit, Operation}
 use Rattle.op_text.specs.Meaning.{width}
 use Rattle.op_text.specs.Scratch.{names_width}
-use Rattle.op_text.specs.Costs.{op_aaps, op_aps}
 use Rattle.op_text.specs.declared.tree.Param.{Param}
-use Rattle.op_rules.specs.Meets.{Context, following, OperationMeets}
+use Rattle.op_rules.specs.Meets.{Context, next_context, OperationMeets}
 use Rattle.loop_ir.specs.Plain.{Block, StepOf, AllParts}
 use Rattle.loop_ir.specs.Loops.{all_rounds}
 use Rattle.loop_ir.specs.Statements.{Slots, IsPlaced, ComputeMeets, HaveKinds}
@@ -20,6 +19,7 @@ use Rattle.word_lower.specs.Programs.{program, is_linear}
 use Rattle.word_lower.proofs.Statements.{written_in_rooms}
 use Rattle.word_mul.specs.Programs.{is_nested, nested}
 use Rattle.word_mul.proofs.Statements.{nest_in_rooms}
+use Rattle.uprog_gen.specs.Costs.{op_aaps, op_aps}
 use Rattle.uprog_gen.specs.Does.{joined}
 use Rattle.uprog_gen.specs.Layout.{IsLayout}
 use Rattle.uprog_gen.specs.Programs.{IsAsWritten, AreWritten}
@@ -114,7 +114,7 @@ module _ (o : Operation) (meets : OperationMeets o) (slots : Slots) (free_bit fr
   all_exactly (Compute target second p args ∷ rest) c st (q ∷ ps) w h =
       let s = Compute target second p args in
       let one = one_exactly c target second p args rest st q w.0 in
-      let more = all_exactly rest (following c s) (next_stage o c s rest st) ps w.1 h in
+      let more = all_exactly rest (next_context c s) (next_stage o c s rest st) ps w.1 h in
       record {
         settled = parts_both IsSettled q (joined ps) one.settled more.settled;
         aaps = λ n some. sum_joined turn_aaps n q ps

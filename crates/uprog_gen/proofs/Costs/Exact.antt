@@ -1,8 +1,7 @@
 -- Each word operation's loop program has settled bodies, and takes exactly the operation's
 -- commands.
-use Rattle.std.proofs.Common.{◌≡◌, ℕ, zero, suc, ◌+◌, ◌*◌, ◌/◌, ◌^◌, ◌<◌, Bool, true, false, cond}
+use Rattle.std.proofs.Common.{◌≡◌, ℕ, ◌<◌, Bool, true, false, cond}
 use Rattle.std.proofs.Common.{List, [], ◌∷◌, Some, refl, sym, ap, ◌∙◌, subst, arith}
-use Rattle.std.proofs.Math.Nat.{pow-suc, pow-zero, mul-div_cancel_left}
 use Rattle.op_text.specs.declared.tree.Kind.{Kind}
 use Rattle.op_text.specs.declared.tree.Kind.TheVariants.{Word, Bit}
 use Rattle.op_text.specs.declared.word_ops.WordOp.{WordOp}
@@ -11,7 +10,6 @@ use Rattle.op_text.specs.declared.word_ops.Signature.{Signature}
 use Rattle.op_text.specs.declared.word_ops.Signature.TheVariants as shape
 use Rattle.op_text.specs.WordOps.{row_of, forms, signature_forms, filled, given_first, first_of}
 use Rattle.op_text.specs.Meaning.{width}
-use Rattle.op_text.specs.Costs.{op_aaps, op_aps}
 use Rattle.op_text.proofs.Operations.{first_settles}
 use Rattle.loop_ir.specs.Plain.{Block, StepOf, AllParts}
 use Rattle.loop_ir.specs.Loops.{all_rounds}
@@ -22,6 +20,8 @@ use Rattle.word_lower.specs.declared.table.ProgramRow.{ProgramRow}
 use Rattle.word_lower.specs.declared.table.ProgramRow.TheVariants.{Spread}
 use Rattle.word_lower.specs.Programs.{program, program_of}
 use Rattle.word_mul.specs.Programs.{is_nested, nested}
+use Rattle.word_mul.proofs.Totals.{triangle}
+use Rattle.uprog_gen.specs.Costs.{op_aaps, op_aps}
 use Rattle.uprog_gen.specs.Settled.{turn_aaps, turn_aps, IsSettled}
 use Rattle.uprog_gen.proofs.Costs.Placed.{steps_settle, settled_steps, aaps_like, aps_like}
 
@@ -35,21 +35,6 @@ all_settle op.Not Word = refl
 all_settle p Word = refl
 all_settle op.Not Bit = refl
 all_settle p Bit = refl
-
-square : (n : ℕ) → n ^ 2 ≡ n * n
-square n = let e : n ^ 2 ≡ n ^ 1 * n = pow-suc n 1 in let f : n ^ 1 ≡ n ^ 0 * n = pow-suc n 0 in
-    let z : n ^ 0 ≡ 1 = pow-zero n in e ∙ ap (λ x. x * n) (f ∙ ap (λ x. x * n) z ∙ omega arith)
-
--- one of two numbers in a row is even
-half : (n : ℕ) → (h : ℕ) × (n * (n + 1) ≡ 2 * h)
-half zero = (0, refl)
-half (suc n) = let h = half n in (h.0 + n + 1, omega (arith, h.1))
-
-pub triangle : (n : ℕ) → 2 * (n * (n + 1) / 2) ≡ n * n + n
-triangle n =
-    let h = half n in
-    let e : n * (n + 1) / 2 ≡ h.0 = ap (λ x. x / 2) h.1 ∙ mul-div_cancel_left h.0 (omega arith) in
-    omega (arith, e, h.1)
 
 -- the operations that take words or bits
 abbrev pub is_spread : ProgramRow → Bool
@@ -66,22 +51,18 @@ op_width p k n = cond (spreads p) (width n k) n
 numbered_aaps : (p : WordOp) (k : Kind) (n : ℕ) → 0 < n
     → rounds_sum turn_aaps (all_rounds n (placed_steps [] (Numbered p k)))
     ≡ op_aaps p (op_width p k n)
-numbered_aaps op.Mul k n some = let h = sum_is turn_aaps n (placed_steps [] (Numbered op.Mul k)) in
-    omega (arith, h, square n, triangle n)
 numbered_aaps p Word n some = let h = sum_is turn_aaps n (placed_steps [] (Numbered p Word)) in
-    omega (arith, h, square n, some)
+    omega (arith, h, triangle n, some)
 numbered_aaps p Bit n some = let h = sum_is turn_aaps n (placed_steps [] (Numbered p Bit)) in
-    omega (arith, h, square n, some)
+    omega (arith, h, triangle n, some)
 
 numbered_aps : (p : WordOp) (k : Kind) (n : ℕ) → 0 < n
     → rounds_sum turn_aps (all_rounds n (placed_steps [] (Numbered p k)))
     ≡ op_aps p (op_width p k n)
-numbered_aps op.Mul k n some = let h = sum_is turn_aps n (placed_steps [] (Numbered op.Mul k)) in
-    omega (arith, h, square n, triangle n)
 numbered_aps p Word n some = let h = sum_is turn_aps n (placed_steps [] (Numbered p Word)) in
-    omega (arith, h, square n, some)
+    omega (arith, h, triangle n, some)
 numbered_aps p Bit n some = let h = sum_is turn_aps n (placed_steps [] (Numbered p Bit)) in
-    omega (arith, h, square n, some)
+    omega (arith, h, triangle n, some)
 
 -- what is known of a statement's program
 pub record IsExactly (p : WordOp) (w : ℕ → ℕ) (steps : List (StepOf Block)) : Type 0 where

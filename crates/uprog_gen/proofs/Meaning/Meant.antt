@@ -22,7 +22,7 @@ use Rattle.op_text.specs.Costs.{op_ceiling}
 use Rattle.op_text.specs.Scratch.{statement_ceiling, body_ceiling, need_inside, bits_inside}
 use Rattle.op_text.specs.Scratch.{words_inside, scratch_bits, scratch_words}
 use Rattle.op_text.specs.Spelling.{Each}
-use Rattle.op_rules.specs.Meets.{IsNew, names_of, Differ, IsKnown, Context, following, at_start}
+use Rattle.op_rules.specs.Meets.{IsNew, names_of, Differ, IsKnown, Context, next_context, at_start}
 use Rattle.op_rules.specs.Meets.{OperationMeets}
 use Rattle.op_rules.specs.Laws.{all_names}
 use Rattle.op_rules.proofs.Names.{same_name, is_same, or_first, or_second}
@@ -365,7 +365,7 @@ module _ (op : Operation) (meets : OperationMeets op) (slots : Slots) (free_bit 
   all_can (s ∷ rest) c st [] low = absurd low
   all_can (s ∷ rest) c st (p ∷ ps) low = (
     can_statement c s rest st p low.0.can,
-    all_can rest (following c s) (next_stage op c s rest st) ps low.1,
+    all_can rest (next_context c s) (next_stage op c s rest st) ps low.1,
   )
 
   all_cheap : (n : ℕ) → 0 < n → n ≤ WIDTH_MAX → (rest : List Statement) (c : Context)
@@ -376,7 +376,7 @@ module _ (op : Operation) (meets : OperationMeets op) (slots : Slots) (free_bit 
   all_cheap n some small (s ∷ rest) c st [] low = absurd low
   all_cheap n some small (s ∷ rest) c st (p ∷ ps) low = (
     inl (omega (arith, low.0.cheap n some small, ceiling_same c s rest st n)),
-    all_cheap n some small rest (following c s) (next_stage op c s rest st) ps low.1,
+    all_cheap n some small rest (next_context c s) (next_stage op c s rest st) ps low.1,
   )
 
   pub can_compile : (ps : List (List (StepOf Block)))

@@ -13,7 +13,7 @@ use Rattle.op_text.specs.declared.tree.Stmt.{Stmt}
 use Rattle.op_text.specs.Language.{Statement, Compute, Visit, Operation, statement, operation}
 use Rattle.op_text.specs.Language.{Block as Serial}
 use Rattle.op_text.specs.Scratch.{names_width}
-use Rattle.op_rules.specs.Meets.{Context, following, at_start, OperationMeets}
+use Rattle.op_rules.specs.Meets.{Context, next_context, at_start, OperationMeets}
 use Rattle.uprog_code.specs.declared.code.EntryCode.{EntryCode}
 use Rattle.uprog_code.specs.Machine.{trace, issues_of}
 use Rattle.uprog_code.specs.Shape.{Microprogram, microprogram_of}
@@ -133,9 +133,9 @@ module _ (op : Operation) (meets : OperationMeets op) (slots : Slots) (free_bit 
       let one = one_exactly op meets slots free_bit free_word is c target second p args rest st q
       w.0 in
       let most = op_commands p (names_width c.known n args) in
-      one_more n q ps most (graphed_ceiling (following c s).known n rest (graphs_in rest ps))
+      one_more n q ps most (graphed_ceiling (next_context c s).known n rest (graphs_in rest ps))
       (inr (one.settled, omega (arith, one.aaps n some, one.aps n some)))
-      (few_rounds n some rest (following c s) (next_stage op c s rest st) ps h.1 w.1)
+      (few_rounds n some rest (next_context c s) (next_stage op c s rest st) ps h.1 w.1)
   few_rounds n some (Visit b ∷ rest) c st (q ∷ ps) h w =
       let s = Visit b in
       let g = the_graph slots b q h.0 in
@@ -143,9 +143,9 @@ module _ (op : Operation) (meets : OperationMeets op) (slots : Slots) (free_bit 
       subst (λ (gs : List Graphed). KeepsGraphs n (q ∷ ps)
       (graphed_ceiling c.known n (Visit b ∷ rest) (gs ++ graphs_in rest ps)))
       (sym (form_graph slots b q h.0))
-      (one_more n q ps most (graphed_ceiling (following c s).known n rest (graphs_in rest ps))
+      (one_more n q ps most (graphed_ceiling (next_context c s).known n rest (graphs_in rest ps))
       (inl (h.0.cost n))
-      (few_rounds n some rest (following c s) (next_stage op c s rest st) ps h.1 w.1))
+      (few_rounds n some rest (next_context c s) (next_stage op c s rest st) ps h.1 w.1))
 
   pub entry_graphed : (ps : List (List (StepOf Block))) → HaveForms slots op.body ps
       → AreWritten slots free_bit free_word op.body ps → (e : Microprogram)

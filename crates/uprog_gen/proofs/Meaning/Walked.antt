@@ -14,7 +14,7 @@ use Rattle.op_text.specs.Language.{Statement, Operation}
 use Rattle.op_text.specs.Rules.{is_among}
 use Rattle.op_text.specs.Meaning.{NameValue, width, after_statement, after_body}
 use Rattle.op_text.specs.Scratch.{defines, body_defines}
-use Rattle.op_rules.specs.Meets.{names_of, Context, following, OperationMeets}
+use Rattle.op_rules.specs.Meets.{names_of, Context, next_context, OperationMeets}
 use Rattle.op_rules.proofs.Standing.{names-append}
 use Rattle.loop_ir.specs.declared.ir.Space.{Space}
 use Rattle.loop_ir.specs.declared.ir.Space.TheVariants.{Result, Source, ScratchBit, ScratchWord}
@@ -190,7 +190,7 @@ module _ (op : Operation) (meets : OperationMeets op) (slots : Slots) (free_bit 
       → Does slots free_bit free_word s n steps
       → HoldsAll n slots held bits (names_of c.known)
       → HoldsAll n slots (after_statement n held s) (after_rounds n (all_rounds n steps) bits)
-      (names_of (following c s).known)
+      (names_of (next_context c s).known)
   step_holds c s rest st n steps held bits does all name h =
       ⊎_elim
       (λ (w : is_among (written_names s) name
@@ -223,5 +223,5 @@ module _ (op : Operation) (meets : OperationMeets op) (slots : Slots) (free_bit 
       (after_statements n ps bits') (names_of l))
       (append_assoc c.known (defines c.known s)
       (body_defines (c.known ++ defines c.known s) rest))
-      (body_holds rest (following c s) (next_stage op c s rest st) ps low.1 n some small held' bits'
+      (body_holds rest (next_context c s) (next_stage op c s rest st) ps low.1 n some small held' bits'
       (step_holds c s rest st n p held bits (low.0.does n some small) all))

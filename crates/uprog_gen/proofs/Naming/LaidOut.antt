@@ -12,7 +12,7 @@ use Rattle.op_text.specs.declared.tree.Stmt.{Stmt}
 use Rattle.op_text.specs.Language.{Statement, Compute, Visit, Operation, statement, result_names}
 use Rattle.op_text.specs.Rules.{kind_among}
 use Rattle.op_text.specs.Scratch.{defines, body_defines}
-use Rattle.op_rules.specs.Meets.{names_of, Differ, Context, following, at_start, StatementMeets}
+use Rattle.op_rules.specs.Meets.{names_of, Differ, Context, next_context, at_start, StatementMeets}
 use Rattle.op_rules.specs.Meets.{BodyMeets, OperationMeets}
 use Rattle.op_rules.proofs.Names.{new-left}
 use Rattle.op_rules.proofs.Standing.{names-append}
@@ -63,7 +63,7 @@ short_at c (y ∷ items) zero x h lt e = subst (λ (z : Stmt). IsShort (statemen
     by : (s : Statement) → StatementMeets c s → IsShort s
     by (Compute target second p args) m = tt
     by (Visit b) m = (m.few_states, m.few_assigns)
-short_at c (y ∷ items) (suc k) x h lt e = short_at (following c (statement y)) items k x h.1
+short_at c (y ∷ items) (suc k) x h lt e = short_at (next_context c (statement y)) items k x h.1
     (omega arith) e
 
 or_none : (o : Option Slot) → or_else o None ≡ o

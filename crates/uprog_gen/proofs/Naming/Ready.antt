@@ -19,7 +19,7 @@ use Rattle.op_text.specs.Scratch.{param, state_names, word_names, defines, body_
 use Rattle.op_text.specs.Scratch.{result_kind, scratch_names}
 use Rattle.op_text.specs.Spelling.{Each, TermMeets}
 use Rattle.op_rules.specs.Meets.{IsNewLet, IsNewOf, IsKnown, Differ, names_of, let_names, used}
-use Rattle.op_rules.specs.Meets.{can_read, LetsRead, Context, following, OperationMeets}
+use Rattle.op_rules.specs.Meets.{can_read, LetsRead, Context, next_context, OperationMeets}
 use Rattle.op_rules.specs.Meets as rules
 use Rattle.op_rules.specs.Laws.{all_names}
 use Rattle.op_rules.proofs.Names.{is_same, other_way, new-left, new-right, new-append}
@@ -273,7 +273,7 @@ module _ (op : Operation) (meets : OperationMeets op) (slots : Slots) (free_bit 
           written_defined c.known (Visit b) name
           ∙ new-append (state_names b) (word_names b) name state word in
           let later : is_among (names_of more) name ≡ false =
-          lets_stay (following c (Visit b)) rest name st.body.1
+          lets_stay (next_context c (Visit b)) rest name st.body.1
           (among_right c.lets (let_names b) name h) in
           let whole : is_among (names_of (all_names op)) name ≡ false =
           ap (λ ps. is_among (names_of ps) name) st.all

@@ -16,7 +16,7 @@ use Rattle.op_text.specs.Scratch.{param, state_names, word_names, defines, body_
 use Rattle.op_text.specs.Scratch.{greatest, need_inside, bits_inside, words_inside}
 use Rattle.op_text.specs.Spelling.{Each, TermMeets}
 use Rattle.op_rules.specs.Meets.{IsNew, IsNewOf, IsKnown, names_of, let_names, targets, used}
-use Rattle.op_rules.specs.Meets.{can_read, LetsRead, Context, following, at_start, StatementMeets}
+use Rattle.op_rules.specs.Meets.{can_read, LetsRead, Context, next_context, at_start, StatementMeets}
 use Rattle.op_rules.specs.Meets.{SecondMeets, BodyMeets, OperationMeets}
 use Rattle.op_text.specs.WordOps.{second_kind}
 use Rattle.op_rules.specs.Laws.{all_names}
@@ -61,7 +61,7 @@ max_first : (a b : ℕ) → a ≤ max a b
 max_first a b = grind arith
 
 pub next_stage : (op : Operation) (c : Context) (s : Statement) (rest : List Statement)
-    → Stage op c (s ∷ rest) → Stage op (following c s) rest
+    → Stage op c (s ∷ rest) → Stage op (next_context c s) rest
 next_stage op c s rest st = record {
   before = st.before ++ defines c.known s;
   known = ap (λ l. l ++ defines c.known s) st.known
@@ -285,7 +285,7 @@ lets_stay c (s ∷ rest) name h e =
     ∙ new-append (names_of (defines c.known s))
     (names_of (body_defines (c.known ++ defines c.known s) rest)) name
     (lets_unset c s name h.0 e)
-    (lets_stay (following c s) rest name h.1 (among_left c.lets _ name e))
+    (lets_stay (next_context c s) rest name h.1 (among_left c.lets _ name e))
 
 module _ (op : Operation) (meets : OperationMeets op) (slots : Slots) (free_bit free_word : ℕ)
     (is : IsLayout op slots free_bit free_word) (c : Context) (s : Statement)

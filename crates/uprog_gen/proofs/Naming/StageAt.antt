@@ -5,7 +5,7 @@ use Rattle.std.specs.Prelude.{slice_index_or}
 use Rattle.std.proofs.lemmas.List.{map-append}
 use Rattle.op_text.specs.declared.tree.Stmt.{Stmt}
 use Rattle.op_text.specs.Language.{Statement, Operation, statement}
-use Rattle.op_rules.specs.Meets.{Context, following, at_start, OperationMeets}
+use Rattle.op_rules.specs.Meets.{Context, next_context, at_start, OperationMeets}
 use Rattle.loop_ir.specs.declared.ir.LoopProgram.{LoopProgram}
 use Rattle.loop_ir.specs.Plain.{StepOf, Block, steps_of}
 use Rattle.loop_ir.specs.Statements.{Slots, StatementMeets, IsPlaced}
@@ -36,7 +36,7 @@ module _ (op : Operation) (meets : OperationMeets op) (slots : Slots) (free_bit 
         placed = is_placed op meets slots free_bit free_word is c (statement y)
             (map statement items) st;
       })
-  ready_at c (y ∷ items) st (suc k) x lt e = ready_at (following c (statement y)) items
+  ready_at c (y ∷ items) st (suc k) x lt e = ready_at (next_context c (statement y)) items
       (next_stage op c (statement y) (map statement items) st) k x (omega arith) e
 
   pub statement_ready : (items : List Stmt) → op.body ≡ map statement items → (k : ℕ) (x : Stmt)

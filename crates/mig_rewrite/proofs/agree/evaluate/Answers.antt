@@ -1,5 +1,4 @@
-use Rattle.std.proofs.Common.{◌≡◌, ◌∙◌, ◌<◌, ap, arith}
-use Rattle.bit_rows.specs.Bits.{majority}
+use Rattle.std.proofs.Common.{◌∙◌, ◌<◌, ap, arith}
 use Rattle.mig_graph.specs.Graph.{size_of}
 use Rattle.mig_graph.specs.Literals.{node_value}
 use Rattle.mig_rewrite.specs.Plan.{is_marked}

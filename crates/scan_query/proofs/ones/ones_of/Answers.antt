@@ -2,7 +2,7 @@ use Rattle.std.proofs.Common.{◌≡◌, ◌∙◌, ◌<◌, ℕ, ap, arith, len
 use Rattle.dram_model.specs.declared.geometry.Geometry.{Geometry}
 use Rattle.dram_model.specs.Elements.{column_count}
 use Rattle.dram_model.proofs.EventLaws.{Kept-more, DidRead-more}
-use Rattle.scan_query.proofs.Counting.{banks_counted}
+use Rattle.scan_query.proofs.Counting.{banks_counted, length_put_back}
 use Rattle.scan_query.proofs.ones.ones_of.Goals as goal
 
 pub banks-preserved : goal.banks-preserved
@@ -24,6 +24,8 @@ banks-preserved g c =
     record {
       borrow = c.in_ok-found.ensures.borrow ∙ c.banks.invariant.borrow;
       kept = Kept-more start now next c.banks.invariant.kept c.in_ok-found.ensures.kept;
+      stage = length_put_back c.from-words.result c.ones_of_row.new.words c.banks.stage
+          c.in_ok-found.ensures.stage ∙ c.banks.invariant.stage;
       did = DidRead-more k 1 start now next c.banks.invariant.did c.in_ok-found.ensures.did;
       few = omega (arith, c.banks.invariant.few, c.in_ok-found.ensures.few);
       counted = banks_counted c.args.object.base (column_count c.args.g) c.args.object.count k

@@ -1,4 +1,4 @@
-use Rattle.std.proofs.Common.{◌≡◌, ◌*◌, ◌≤◌, take, map}
+use Rattle.std.proofs.Common.{◌≡◌, ◌*◌, ◌≤◌, length, take, map}
 use Rattle.std.specs.Prelude.{count_by, ◌==◌}
 use Rattle.dram_model.specs.View.{DidRead, Kept}
 use Rattle.dram_model.specs.Elements.{number, below}
@@ -10,6 +10,7 @@ invariant-banks g l =
     record {
       borrow : D.borrow l.dram ≡ D.borrow l.initial.dram;
       kept : Kept (D.view l.initial.dram) (D.view l.dram);
+      stage : length l.stage ≡ length l.initial.stage;
       did : DidRead l.bank (D.view l.initial.dram) (D.view l.dram);
       few : l.found ≤ 65536 * l.bank;
       counted : l.found ≡ count_by (λ v. v == 1) (take l.object.count

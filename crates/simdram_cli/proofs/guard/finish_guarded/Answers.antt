@@ -1,7 +1,7 @@
 use Rattle.std.proofs.Common.{[], ◌∷◌, ◌*◌, sym, ◌∙◌}
 use Rattle.dram_model.specs.View.{with_reads}
 use Rattle.object_alloc.specs.Spelling.{image_bytes}
-use Rattle.machine_model.specs.Opened.{rows_of}
+use Rattle.machine_model.specs.Opened.{rows_in_banks}
 use Rattle.machine_model.specs.Report.{total_line}
 use Rattle.guard_model.specs.Report.{vote_line}
 use Rattle.tmr_guard.specs.Steps.{machine_in}
@@ -20,7 +20,7 @@ returns-then-is_err-2-clause-goes g c =
     let start = g.D.Dram.view c.args.chip.now in
     let rose = at_err c.store.result (sym c.is_err-2.ensures.value
     ∙ c.if-is_err-2.true) c.store.ensures.failed in
-    not_stored c.args.name.now (image_bytes shape (table_in m) (rows_of start.banks))
+    not_stored c.args.name.now (image_bytes shape (table_in m) (rows_in_banks start.banks))
     (Put (vote_line c.args.outcome.votes c.args.flips)
     ∷ Put (total_line (with_reads (shape.banks * shape.rows) start.counters)
     c.args.outcome.refused) ∷ [])
@@ -38,7 +38,7 @@ returns-clause-goes g c =
     let start = g.D.Dram.view c.args.chip.now in
     let last = g.D.Dram.view c.image.new.dram in
     let files = g.F.Folder.view c.store.new.self in
-    let bytes = image_bytes shape (table_in m) (rows_of start.banks) in
+    let bytes = image_bytes shape (table_in m) (rows_in_banks start.banks) in
     let read = sym c.is_err.ensures.value ∙ c.if-is_err.false in
     let file = at_ok c.image.result read c.image.ensures.file in
     let did = at_ok c.image.result read c.image.ensures.did in

@@ -10,7 +10,7 @@ use Rattle.uprog_code.specs.Texts.{EntryDoes, text_op}
 use Rattle.uprog_bin.specs.Opened.{program_of}
 use Rattle.soak_job.specs.Cases.{one_statement}
 use Rattle.soak_job.specs.Words.{elements, sources_at}
-use Rattle.soak_job.specs.Layout.{bases_from, result_rows, rows_of, source_rows, source_writes}
+use Rattle.soak_job.specs.Layout.{bases_from, result_rows, source_row_count, source_rows, source_writes}
 use Rattle.soak_job.specs.OneCase.{CaseDone, IsProgramOf, WritesMore}
 use Rattle.soak_job.proofs.Running.{case_done}
 use Rattle.soak_job.proofs.Summing.{sum_is}
@@ -38,7 +38,7 @@ returns-clause-sum g c =
     kinds
     c.in_ok-load_sources.ensures.numbers in
     let base : c.bases_of-base.result.1 ≡ source_rows case =
-    c.bases_of-base.ensures.end ∙ ap (rows_of case.n) kinds in
+    c.bases_of-base.ensures.end ∙ ap (source_row_count case.n) kinds in
     let rows : c.rows_of.result ≡ result_rows case =
     c.rows_of.ensures ∙ ap (λ (k : Kind). width k case.n) c.result_of.ensures in
     c.in_ok-sum.ensures.sum
@@ -64,7 +64,7 @@ returns-clause-done g c f =
     (case_done state case m a b d e
     (subst (λ (ks : List Kind). Did (source_writes state 0 case.n ks) a b) kinds
     c.in_ok-load_sources.ensures.did)
-    (subst (λ (ks : List Kind). WritesMore (2 * rows_of case.n ks) a.counters b.counters) kinds
+    (subst (λ (ks : List Kind). WritesMore (2 * source_row_count case.n ks) a.counters b.counters) kinds
     c.in_ok-load_sources.ensures.writes)
     c.in_ok-run_case.ensures.did c.in_ok-run_case.ensures.counters
     (subst (λ w. DidRead (2 * w) d e) rows c.in_ok-sum.ensures.did))

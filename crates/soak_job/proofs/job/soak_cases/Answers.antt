@@ -1,7 +1,7 @@
 use Rattle.std.proofs.Common.{◌≡◌, ◌+◌, ◌∷◌, ◌++◌, ℕ, List, suc, ap, sym, subst, ◌∙◌, arith}
 use Rattle.std.proofs.Common.{drop, get_or}
 use Rattle.std.specs.Prelude.{None, Ok, Err}
-use Rattle.soak_job.specs.declared.job.SoakNo.TheVariants as no
+use Rattle.soak_job.specs.declared.job.SoakError.TheVariants as no
 use Rattle.std.specs.List.{AllByRecursion}
 use Rattle.std.proofs.Math.Seq.{drop-cons}
 use Rattle.std.proofs.lemmas.List.{drop_all}

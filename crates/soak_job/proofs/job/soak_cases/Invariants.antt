@@ -4,7 +4,7 @@ use Rattle.std.specs.List.{AllByRecursion}
 use Rattle.host_edge.specs.Views.{FolderView}
 use Rattle.dram_model.specs.View.{Kept}
 use Rattle.cli_model.specs.World.{World, world}
-use Rattle.soak_job.specs.declared.job.SoakNo.{SoakNo}
+use Rattle.soak_job.specs.declared.job.SoakError.{SoakError}
 use Rattle.soak_job.specs.Done.{CanBeDone, CasesGo}
 use Rattle.soak_job.proofs.job.soak_cases.Given as goal
 
@@ -22,7 +22,7 @@ invariant-loop-case g l =
       few_ap : now.counters.ap ≤ 2 ^ 28 * l.case-index;
       few_writes : now.counters.writes ≤ 2 ^ 28 * l.case-index;
       few_reads : now.counters.reads ≤ 2 ^ 28 * l.case-index;
-      goes : (files : FolderView) (w : World) (result : Result Unit SoakNo)
+      goes : (files : FolderView) (w : World) (result : Result Unit SoakError)
           → CasesGo l.generator rest (world files (g.S.Sink.view l.out) now) w result
           → CasesGo l.fn.generator l.cases (world files (g.S.Sink.view l.fn.out) start) w result;
     }

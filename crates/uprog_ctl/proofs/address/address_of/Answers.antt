@@ -10,20 +10,20 @@ use Rattle.uprog_ctl.proofs.address.address_of.Goals as goal
 pub source_row-requires-clause-which : goal.source_row-requires-clause-which
 source_row-requires-clause-which c =
     let good = subst (λ (s : RowSpace). is_issued_in (shape_of c.args.head.now) c.args.binding.now.n
-    s c.args.place.now.which c.args.place.now.index ≡ true) c.in-Source.is c.requires.good in
+    s c.args.place.which c.args.place.index ≡ true) c.in-Source.is c.requires.good in
     let h = source_fits c.args.rows (shape_of c.args.head.now) c.args.binding.now.n
-    (bound_of c.args.binding.now) c.requires.fits c.args.place.now.which c.args.place.now.index
+    (bound_of c.args.binding.now) c.requires.fits c.args.place.which c.args.place.index
     good in
-    subst (λ (xs : List ℕ). c.args.place.now.which < length xs) (sym c.as_slice.ensures.value) h.0
+    subst (λ (xs : List ℕ). c.args.place.which < length xs) (sym c.as_slice.ensures.value) h.0
 
 pub source_row-requires-clause-room : goal.source_row-requires-clause-room
 source_row-requires-clause-room c =
     let good = subst (λ (s : RowSpace). is_issued_in (shape_of c.args.head.now) c.args.binding.now.n
-    s c.args.place.now.which c.args.place.now.index ≡ true) c.in-Source.is c.requires.good in
+    s c.args.place.which c.args.place.index ≡ true) c.in-Source.is c.requires.good in
     let h = source_fits c.args.rows (shape_of c.args.head.now) c.args.binding.now.n
-    (bound_of c.args.binding.now) c.requires.fits c.args.place.now.which c.args.place.now.index
+    (bound_of c.args.binding.now) c.requires.fits c.args.place.which c.args.place.index
     good in
-    let l : slice_index (bound_of c.args.binding.now).sources c.args.place.now.which
-    + c.args.place.now.index < 2 ^ 16 = omega (arith, h.1, c.ranges.rows.fits) in
-    subst (λ (xs : List ℕ). slice_index xs c.args.place.now.which + c.args.place.now.index
+    let l : slice_index (bound_of c.args.binding.now).sources c.args.place.which
+    + c.args.place.index < 2 ^ 16 = omega (arith, h.1, c.ranges.rows.fits) in
+    subst (λ (xs : List ℕ). slice_index xs c.args.place.which + c.args.place.index
     < 2 ^ 16) (sym c.as_slice.ensures.value) l

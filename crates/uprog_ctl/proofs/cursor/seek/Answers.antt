@@ -14,7 +14,7 @@ use Rattle.uprog_code.proofs.Steps.{legal_operands, no_more}
 use Rattle.uprog_ctl.specs.Waves.{bound_job}
 use Rattle.uprog_ctl.proofs.Left.{step_from}
 use Rattle.uprog_ctl.proofs.Queue.{all_done, found_first, not_its}
-use Rattle.uprog_ctl.proofs.Seek.{quiet, row_step, stepped}
+use Rattle.uprog_ctl.proofs.Seek.{command_step, quiet, stepped, told, told_is}
 use Rattle.uprog_ctl.proofs.cursor.seek.Goals as goal
 
 pub returns-then-bank-job : goal.returns-then-bank-job
@@ -30,37 +30,38 @@ step-requires-clause-operands g c =
           c.fetch-uop.ensures,
     )
 
-pub command_of-requires-clause-good : goal.command_of-requires-clause-good
-command_of-requires-clause-good g c =
+pub command_at-requires-clause-good : goal.command_at-requires-clause-good
+command_at-requires-clause-good g c = λ is one.
     let job = bound_job g.F.Fetch.shape g.F.Fetch.code c.args.job.now in
     let left = c.args.walk.now.left - c.loop-k.k - 1 in
-    let on = row_step job.shape job.code job.binding.n (c.args.walk.now.left - c.loop-k.k) left
-    c.loop-k.pc c.loop-k.walk.regs c.fetch-uop.result c.in-Some.issued c.requires.run.legal
-    (omega arith) c.loop-k.invariant.place c.fetch-uop.ensures c.in-Some.ensures
-    c.loop-k.invariant.ended in
-    subst (λ (s : Shape). is_good s job.binding.n (issue_of c.in-Some.issued) ≡ true)
-    (sym c.requires.head) on.good.0
+    let on = command_step job.shape job.code job.binding.n (c.args.walk.now.left - c.loop-k.k) left
+    c.loop-k.pc c.loop-k.walk.regs c.fetch-uop.result is c.requires.run.legal
+    (omega arith) c.loop-k.invariant.place c.fetch-uop.ensures one c.loop-k.invariant.ended in
+    subst (λ (s : Shape). is_good s job.binding.n is ≡ true) (sym c.requires.head)
+    (subst (λ (d : Issue). is_good job.shape job.binding.n d ≡ true) (told_is is) on.good.0)
 
 pub returns-in-Some : goal.returns-in-Some
 returns-in-Some g c =
     let job = bound_job g.F.Fetch.shape g.F.Fetch.code c.args.job.now in
     let rows = c.args.g.rows in
     let left = c.args.walk.now.left - c.loop-k.k - 1 in
-    let on = row_step job.shape job.code job.binding.n (c.args.walk.now.left - c.loop-k.k) left
-    c.loop-k.pc c.loop-k.walk.regs c.fetch-uop.result c.in-Some.issued c.requires.run.legal
-    (omega arith) c.loop-k.invariant.place c.fetch-uop.ensures c.in-Some.ensures
+    let one = c.in-Some.ensures.0 in
+    let on = command_step job.shape job.code job.binding.n (c.args.walk.now.left - c.loop-k.k) left
+    c.loop-k.pc c.loop-k.walk.regs c.fetch-uop.result one c.requires.run.legal
+    (omega arith) c.loop-k.invariant.place c.fetch-uop.ensures c.in-Some.ensures.1
     c.loop-k.invariant.ended in
-    let is = issue_of c.in-Some.issued in
-    let next : c.command_of.result ≡ bound_command rows job.shape job.binding.n
-    (bound_of job.binding) is = c.command_of.ensures
-    ∙ ap (λ (s : Shape). bound_command rows s job.binding.n (bound_of job.binding) is)
-    c.requires.head in
+    let is = issue_of (told one) in
+    let next : c.in-Some.next ≡ bound_command rows job.shape job.binding.n
+    (bound_of job.binding) is = c.in-Some.ensures.2
+    ∙ ap (λ (s : Shape). bound_command rows s job.binding.n (bound_of job.binding) one)
+    c.requires.head
+    ∙ ap (bound_command rows job.shape job.binding.n (bound_of job.binding)) (sym (told_is one)) in
     record {
       first = found_first rows c.args.bank job c.args.walk.now (record {
         pc = c.loop-k.pc + 1;
         regs = c.loop-k.walk.regs;
         left = left;
-      }) is c.command_of.result (omega arith) (sym c.loop-k.invariant.rest ∙ on.issues) next;
+      }) is c.in-Some.next (omega arith) (sym c.loop-k.invariant.rest ∙ on.issues) next;
       legal = subst (λ (k : Command). is_legal rows k ≡ true) (sym next)
           (command_legal rows job.shape job.binding.n (bound_of job.binding) c.requires.run.fits
           c.requires.run.some is on.good.0);

@@ -14,6 +14,7 @@ returns-in-Err-clause-went g c =
       shape = c.wave.ensures.shape;
       ready = c.wave.ensures.ready;
       comes = bbop_failed _ _ _ _ _ _ _ _ _ is c.requires.bbop c.in-Err.fault c.in-Err.ensures.table
+          (λ e. c.in-Err.ensures.turn_unsent (ap Err e))
           (λ e. c.in-Err.ensures.stopped (ap Err e)) (λ e. c.in-Err.ensures.unsent (ap Err e))
           (λ e. c.in-Err.ensures.done (ap Err e)) (λ e. c.in-Err.ensures.write_fault (ap Err e))
           (λ e. c.in-Err.ensures.part (ap Err e));

@@ -36,7 +36,7 @@ returns-in-Err-clause-went g c =
       shape = refl;
       ready = c.requires.ready;
       comes = unsent_alone _ _ _ _ _ _ _ _ refl refl c.free_reply-reply.result
-          (c.free_reply-reply.ensures (geometry_of m) operations) refl
+          (c.free_reply-reply.ensures (geometry_of m) operations) refl refl
           (nothing_done (geometry_of m) operations (table_in m) c.args.name.now _)
           c.in-Err.ensures.rose c.in-Err.ensures.part;
     }

@@ -21,6 +21,7 @@ returns-in-Err-clause-went g c =
         room = c.requires.ready.room;
       };
       comes = failed_alone _ _ _ _ _ _ _ _ refl refl (ap (λ t. t.pairs) c.in-Err.ensures.unlisted)
+          refl
           c.in-Err.ensures.failed refl;
     }
 
@@ -68,7 +69,7 @@ returns-in-Done-clause-went g c =
         room = c.requires.ready.room;
       };
       comes = unsent_alone _ _ _ _ _ _ _ _ refl refl c.in-Ok.reply
-          (c.in-Ok.ensures.reply operations) same (c.in-Ok.ensures.did operations)
+          (c.in-Ok.ensures.reply operations) same refl (c.in-Ok.ensures.did operations)
           c.in-Err-put_reply.ensures.rose c.in-Err-put_reply.ensures.part;
     }
 
@@ -91,6 +92,6 @@ returns-in_default-clause-went g c =
         room = c.requires.ready.room;
       };
       comes = unsent_alone _ _ _ _ _ _ _ _ refl refl c.in-Ok.reply
-          (c.in-Ok.ensures.reply operations) same (c.in-Ok.ensures.did operations)
+          (c.in-Ok.ensures.reply operations) same refl (c.in-Ok.ensures.did operations)
           c.in-Err-put_reply.ensures.rose c.in-Err-put_reply.ensures.part;
     }

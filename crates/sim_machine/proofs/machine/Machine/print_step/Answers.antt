@@ -19,7 +19,7 @@ returns-in-Err-clause-went g c =
             (omega (arith, c.args.self.now.stage.ok.0)) c.requires.ready.stage;
         room = c.requires.ready.room;
       };
-      comes = print_failed _ _ _ _ _ _ _ _ c.in-Err.fault refl (c.in-Err.ensures.allowed operations)
+      comes = print_failed _ _ _ _ _ _ _ _ c.in-Err.fault refl refl (c.in-Err.ensures.allowed operations)
           (c.in-Err.ensures.part operations) (λ e. c.in-Err.ensures.chip_fault (ap Err e))
           (λ e. c.in-Err.ensures.write_fault (ap Err e))
           (λ e. c.in-Err.ensures.read (ap Err e));
@@ -79,7 +79,7 @@ returns-in-Err-put_reply-clause-went g c =
         room = c.requires.ready.room;
       };
       comes = print_unsent _ _ _ _ _ _ _ _ c.in-Ok.reply c.in-Refused.field-0
-          (g.S.Sink.view c.print.new.out) refl
+          (g.S.Sink.view c.print.new.out) refl refl
           (c.in-Ok.ensures.reply operations) c.in-Refused.is (c.in-Ok.ensures.did operations)
           c.in-Ok.ensures.sink_faults (c.in-Ok.ensures.sent operations)
           c.in-Err-put_reply.ensures.rose c.in-Err-put_reply.ensures.part;

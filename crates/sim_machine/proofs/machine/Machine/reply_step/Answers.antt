@@ -14,7 +14,7 @@ returns-in-Err-clause-went g c =
       shape = c.answer.ensures.shape;
       ready = c.answer.ensures.ready;
       comes = failed_alone _ _ _ _ _ _ _ _ of.0 of.1 c.in-Err.ensures.table
-          c.in-Err.ensures.failed refl;
+          c.in-Err.ensures.same_turn c.in-Err.ensures.failed refl;
     }
 
 pub returns-in-Ok-put_reply-clause-went : goal.returns-in-Ok-put_reply-clause-went
@@ -43,6 +43,7 @@ returns-in-Err-put_reply-clause-went g c =
       shape = c.answer.ensures.shape;
       ready = c.answer.ensures.ready;
       comes = unsent_alone _ _ _ _ _ _ _ _ of.0 of.1 c.in-Ok.reply c.in-Ok.ensures.reply
-          c.in-Ok.ensures.table c.in-Ok.ensures.did c.in-Err-put_reply.ensures.rose
+          c.in-Ok.ensures.table c.in-Ok.ensures.turn c.in-Ok.ensures.did
+          c.in-Err-put_reply.ensures.rose
           c.in-Err-put_reply.ensures.part;
     }

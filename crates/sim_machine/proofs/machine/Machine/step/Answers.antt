@@ -63,6 +63,14 @@ pub returns-clause-chip_fault : goal.returns-clause-chip_fault
 returns-clause-chip_fault g c =
     when_chip _ _ _ _ _ _ _ _ c.step_of.result (λ h. h.failed) c.step_of.ensures.went.comes
 
+pub returns-clause-same_turn : goal.returns-clause-same_turn
+returns-clause-same_turn g c =
+    when_chip _ _ _ _ _ _ _ _ c.step_of.result (λ h. h.turn) c.step_of.ensures.went.comes
+
+pub returns-clause-turn_unsent : goal.returns-clause-turn_unsent
+returns-clause-turn_unsent g c =
+    when_sink _ _ _ _ _ _ _ _ c.step_of.result (λ h. h.turn) c.step_of.ensures.went.comes
+
 pub returns-clause-stopped : goal.returns-clause-stopped
 returns-clause-stopped g c =
     when_chip _ _ _ _ _ _ _ _ c.step_of.result (λ h. h.stopped) c.step_of.ensures.went.comes

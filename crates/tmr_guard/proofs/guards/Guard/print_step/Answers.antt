@@ -37,7 +37,8 @@ returns-in-Err-clause-came g c =
     (g.S.Sink.view c.args.out.now) (g.S.Sink.view c.print_as.new.out)
     k c.in-Err.fault c.copy_name-copy.ensures has
     (λ e. (c.in-Err.ensures.chip_fault (ap Err e)).rose)
-    (λ e. c.in-Err.ensures.write_fault (ap Err e)) c.in-Err.ensures.part
+    (λ e. c.in-Err.ensures.write_fault (ap Err e)) (λ e. c.in-Err.ensures.read (ap Err e))
+    c.in-Err.ensures.part
 
 pub returns-in-Ok-put_reply-clause-came : goal.returns-in-Ok-put_reply-clause-came
 returns-in-Ok-put_reply-clause-came g c =
@@ -59,5 +60,5 @@ returns-in-Err-put_reply-clause-came g c =
     absent_broke m m c.args.number c.args.name.now
     (g.D.Dram.view c.args.dram.now) (g.D.Dram.view c.args.dram.now)
     (g.S.Sink.view c.args.out.now) (g.S.Sink.view c.put_reply.new.out)
-    k c.copy_name-copy.ensures none c.in-Err-put_reply.ensures.rose
+    k c.copy_name-copy.ensures none refl c.in-Err-put_reply.ensures.rose
     c.in-Err-put_reply.ensures.part

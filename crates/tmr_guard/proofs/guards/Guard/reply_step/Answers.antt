@@ -20,5 +20,6 @@ pub returns-in-Err-put_reply-clause-came : goal.returns-in-Err-put_reply-clause-
 returns-in-Err-put_reply-clause-came g c =
     reply_broke (machine_in c.args.self.now) c.args.number (view_of c.args.instr.now)
     c.in-Ok.reply (g.D.Dram.view c.args.dram.now) _ (g.S.Sink.view c.args.out.now) _
-    c.requires.silent c.in-Ok.ensures.replied.answer c.in-Err-put_reply.ensures.rose
+    c.requires.silent c.in-Ok.ensures.replied.answer c.in-Ok.ensures.replied.ran.did
+    c.in-Err-put_reply.ensures.rose
     c.in-Err-put_reply.ensures.part

@@ -53,6 +53,16 @@ returns-clause-write_fault g c =
     when_fault _ _ _ _ _ _ _ _ c.step_of.result WriteFault (λ f e h. h.sink_rose e)
     c.step_of.ensures.came
 
+pub returns-clause-done : goal.returns-clause-done
+returns-clause-done g c =
+    when_fault _ _ _ _ _ _ _ _ c.step_of.result WriteFault (λ f e h. h.done e)
+    c.step_of.ensures.came
+
+pub returns-clause-read : goal.returns-clause-read
+returns-clause-read g c =
+    when_fault _ _ _ _ _ _ _ _ c.step_of.result WriteFault (λ f e h. h.read e)
+    c.step_of.ensures.came
+
 pub returns-clause-part : goal.returns-clause-part
 returns-clause-part g c =
     when_err _ _ _ _ _ _ _ _ c.step_of.result (λ f h. h.part) c.step_of.ensures.came
