@@ -187,7 +187,7 @@ some-same : (x h : HeldBody) → Some x ≡ Some h → x ≡ h
 some-same x h e = cc
 
 -- the body that is found is the body
-found-is : (hs : List HeldBody) (b : Block) (h : HeldBody) → held_among hs b ≡ Some h
+pub found-is : (hs : List HeldBody) (b : Block) (h : HeldBody) → held_among hs b ≡ Some h
     → is_held_body h b ≡ true
 found-is [] b h e = cc
 found-is (x ∷ hs) b h e = ⊎_elim

@@ -1,6 +1,6 @@
 -- Bodies with states are of the table, and their sequences serve them.
 use Rattle.std.proofs.Common.{◌≡◌, ℕ, suc, ◌<◌, ◌≤◌, Bool, true, false, cond, not}
-use Rattle.std.proofs.Common.{List, [], ◌∷◌, map, length, refl, sym, ap, ◌∙◌, subst, arith}
+use Rattle.std.proofs.Common.{List, [], ◌∷◌, map, length, refl, sym, ap, ◌∙◌, arith}
 use Rattle.std.proofs.Common.{Option, Some, None}
 use Rattle.std.specs.Prelude.{◌==◌, ◌&&◌}
 use Rattle.std.proofs.lemmas.Bool.{and_parts, eqb-true}
@@ -20,10 +20,10 @@ use Rattle.loop_ir.specs.Plain.{Block}
 use Rattle.loop_ir.specs.Spots.{nth_place, is_state}
 use Rattle.loop_ir.specs.Same.{same_lit, same_lits, same_nodes}
 use Rattle.loop_ir.specs.States.{has_states, row_count, RowsFirst, enters, leaves}
-use Rattle.loop_ir.specs.States.{row_outs, same_held, same_helds, is_held_body, held_among, held_of}
-use Rattle.loop_ir.specs.States.{held_bodies}
+use Rattle.loop_ir.specs.States.{row_outs, same_held, same_helds, is_held_body, held_bodies, held_of}
 use Rattle.loop_ir.specs.Costs.{same_sub, turn_cost, held_cost}
 use Rattle.loop_ir.specs.Limits.{IsSmall, is_served}
+use Rattle.loop_laws.proofs.Costing.{found-is}
 use Rattle.uprog_gen.specs.Parts.{IsOuts}
 use Rattle.uprog_gen.proofs.Bodies.Fixed.{lits-eq, all-lits, all-nodes, graph-made}
 use Rattle.uprog_gen.proofs.Bodies.Planned.{same_self}
@@ -67,17 +67,6 @@ held_body_is h b e =
       enter = all-helds (enters 0 b.reads) (enter_in h) s.0;
       leave = all-helds (leaves b.writes b.outs) (leave_in h) s.1;
     }
-
--- the body that is found is the body
-found_held : (hs : List HeldBody) (b : Block) (h : HeldBody) → held_among hs b ≡ Some h
-    → is_held_body h b ≡ true
-found_held [] b h e = absurd cc
-found_held (v ∷ hs) b h e = by (is_held_body v b) refl e (found_held hs b h)
-  where
-    by : (c : Bool) → is_held_body v b ≡ c → cond c (Some v) (held_among hs b) ≡ Some h
-        → (held_among hs b ≡ Some h → is_held_body h b ≡ true) → is_held_body h b ≡ true
-    by true t f more = let s : v ≡ h = cc in subst (λ x. is_held_body x b ≡ true) s t
-    by false t f more = more f
 
 -- the layouts of the table are of the list
 pub layouts_listed : (h : HeldBody) → (have_layouts (enter_in h) ≡ true)
@@ -161,7 +150,7 @@ served b outs small states is = by (held_of b) refl (small.known states)
     by : (o : Option HeldBody) → held_of b ≡ o → is_served o b ≡ true → IsServed b outs
     by None e s = absurd (cc)
     by (Some h) e s =
-        let same = held_body_is h b (found_held held_bodies b h e) in
+        let same = held_body_is h b (found-is held_bodies b h e) in
         record {
           body = h;
           is = e;

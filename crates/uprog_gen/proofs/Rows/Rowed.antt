@@ -1,13 +1,13 @@
 -- Bodies whose places all have rows.
-use Rattle.std.proofs.Common.{◌≡◌, ℕ, zero, suc, ◌+◌, ◌<◌, Bool, true, false, cond, List, [], ◌∷◌}
+use Rattle.std.proofs.Common.{◌≡◌, ℕ, zero, suc, ◌+◌, ◌<◌, Bool, false, cond, List, [], ◌∷◌}
 use Rattle.std.proofs.Common.{◌++◌, length, refl, ap, ◌∙◌, arith}
-use Rattle.std.specs.Prelude.{◌||◌}
 use Rattle.std.specs.List.{list_any}
 use Rattle.mig_graph.specs.declared.Lit.{Lit}
 use Rattle.loop_ir.specs.declared.ir.Place.{Place}
 use Rattle.loop_ir.specs.Plain.{Block}
 use Rattle.loop_ir.specs.Spots.{nth_place, is_state}
 use Rattle.loop_ir.specs.States.{has_states, row_count, enters, leaves}
+use Rattle.loop_laws.proofs.Alike.{or_parts, none_at}
 
 abbrev pub HaveRows : List Place → Type 0
 HaveRows ps = (k : ℕ) → k < length ps → is_state (nth_place ps k).space ≡ false
@@ -34,32 +34,22 @@ no_leaves (p ∷ ps) (l ∷ ls) h =
     ap (λ c. cond c (record { lit = l; layout = p.which } ∷ leaves ps ls) (leaves ps ls))
     (h 0 (omega arith)) ∙ no_leaves ps ls (later p ps h)
 
-neither : (c d : Bool) → (c || d) ≡ false → (c ≡ false) × (d ≡ false)
-neither true d h = absurd (cc)
-neither false d h = (refl, h)
-
 abbrev any_state : List Place → Bool
 any_state ps = list_any (λ p. is_state p.space) ps
 
 none_state : (ps : List Place) → any_state ps ≡ false → HaveRows ps
 none_state [] h k l = absurd (omega arith)
-none_state (p ∷ ps) h zero l = (neither (is_state p.space) (any_state ps) h).0
-none_state (p ∷ ps) h (suc k) l = none_state ps (neither (is_state p.space) (any_state ps) h).1 k
+none_state (p ∷ ps) h zero l = (or_parts (is_state p.space) (any_state ps) h).0
+none_state (p ∷ ps) h (suc k) l = none_state ps (or_parts (is_state p.space) (any_state ps) h).1 k
     (omega arith)
-
-front_none : (ps qs : List Place) → any_state (ps ++ qs) ≡ false → any_state ps ≡ false
-front_none [] qs h = refl
-front_none (p ∷ ps) qs h =
-    let t = neither (is_state p.space) (any_state (ps ++ qs)) h in
-    ap (λ c. c || any_state ps) t.0 ∙ front_none ps qs t.1
 
 back_none : (ps qs : List Place) → any_state (ps ++ qs) ≡ false → any_state qs ≡ false
 back_none [] qs h = h
-back_none (p ∷ ps) qs h = back_none ps qs (neither (is_state p.space) (any_state (ps ++ qs)) h).1
+back_none (p ∷ ps) qs h = back_none ps qs (or_parts (is_state p.space) (any_state (ps ++ qs)) h).1
 
 -- a body without states
 pub have_rows : (b : Block) → has_states b ≡ false → HaveRows b.reads × HaveRows b.writes
 have_rows b h = (
-  none_state b.reads (front_none b.reads b.writes h),
+  λ k l. none_at b.reads b.writes k h l,
   none_state b.writes (back_none b.reads b.writes h),
 )
