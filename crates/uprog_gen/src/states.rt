@@ -95,11 +95,7 @@ fn leaves(body: &Body, alloc: Global) -> Result<Vec<Held>, NoMemory>
 }
 
 /// The commands of a body with states, which has a sequence.
-pub fn held_commands(
-    body: &Body,
-    outs: &[OutRow],
-    alloc: Global,
-) -> Result<Vec<BodyCmd>, NoMemory>
+pub fn held_commands(body: &Body, outs: &[OutRow], alloc: Global) -> Result<Vec<BodyCmd>, NoMemory>
     requires small { IsSmall (block_of body.now) }
     requires states { has_states (block_of body.now) ≡ true }
     requires outs { IsOuts (block_of body.now) (row_count body.now.writes.items) outs.now }

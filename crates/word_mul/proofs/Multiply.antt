@@ -7,13 +7,12 @@ use Rattle.mig_graph.specs.Graph.{values_from}
 use Rattle.op_text.specs.declared.word_ops.WordOp.TheVariants as op
 use Rattle.op_text.specs.Values.{ones_of}
 use Rattle.loop_ir.specs.declared.ir.Sub.TheVariants as sub
-use Rattle.loop_ir.specs.declared.ir.Place.{Place}
 use Rattle.loop_ir.specs.declared.ir.Count.TheVariants.{All, Rest}
 use Rattle.loop_ir.specs.declared.names.Slot.{Slot}
 use Rattle.loop_ir.specs.Plain.{Block, InnerOf}
 use Rattle.loop_ir.specs.Plain.InnerOf.{Alone, Across}
 use Rattle.loop_ir.specs.Plain.StepOf.{Nest}
-use Rattle.loop_ir.specs.Spots.{Spot, Spots, set_spot, spot_at, nth_place}
+use Rattle.loop_ir.specs.Spots.{Spot, Spots, set_spot, spot_at, nth_place, is_state}
 use Rattle.loop_laws.specs.Rooms.{placed_body}
 use Rattle.loop_laws.specs.Turns.{Origin, Standing, Carried, IsLoop, turn, after_many}
 use Rattle.loop_laws.proofs.Same.{set_same, set_other}
@@ -22,8 +21,8 @@ use Rattle.loop_laws.proofs.Steps.{steps_each, steps_nest, after_parts, after_ou
 use Rattle.loop_laws.proofs.Placed.{loop_of}
 use Rattle.word_lower.specs.Places.{scratch_bit}
 use Rattle.word_lower.specs.Programs.{off, constant, inverted}
-use Rattle.word_lower.proofs.Marks.{target, first, second, third}
-use Rattle.word_lower.proofs.Setting.{bit, number, at, row, number_at, SlotsApart}
+use Rattle.word_lower.proofs.Marks.{target, first, second, third, state}
+use Rattle.word_lower.proofs.Setting.{bit, number, row, number_at, SlotsApart}
 use Rattle.word_lower.proofs.Passes.{word_loop, upwards}
 use Rattle.word_lower.proofs.Sums.{value_same, value_below, value_false, sum_two, carry_sum}
 use Rattle.word_lower.proofs.Sums.{digits_one, last_sum}
@@ -31,13 +30,14 @@ use Rattle.word_lower.proofs.Lists.{ones_of_none, ones_of_more}
 use Rattle.word_mul.specs.Programs.{multiplied, counted}
 use Rattle.word_mul.specs.declared.rows.Rows.{Rows}
 use Rattle.word_mul.specs.Places.{rooms_for}
-use Rattle.word_mul.proofs.Setting.{IsFree, AreRows, IsElsewhere, Gives, DoesNested, bit_free}
-use Rattle.word_mul.proofs.Setting.{bit_else}
-use Rattle.word_mul.proofs.Product.{value_split, value_gated, product_step, below_pow, few_ones}
+use Rattle.word_mul.proofs.Setting.{cell, HasRows, row_stands, cell_other, row_other, IsFree}
+use Rattle.word_mul.proofs.Setting.{AreRows, IsElsewhere, Gives, DoesNested, bit_free, bit_else}
+use Rattle.word_mul.proofs.Product.{value_split, value_kept, product_step, below_pow, few_ones}
 
+-- with the complement of what is added
 multiplied_digit : (t w c : Bool)
-    → bit (majority t (majority (not t) c w) (not (majority c w (not (majority (not t) c w)))))
-    + 2 * bit (majority c w (not (majority (not t) c w))) ≡ bit t + bit w + bit c
+    → bit (not (majority w (not (majority t c w)) (majority t c (not (majority t c w)))))
+    + 2 * bit (majority t c (not (majority t c w))) ≡ bit t + bit (not w) + bit c
 unfolding majority
 multiplied_digit true true true = refl
 multiplied_digit true true false = refl
@@ -49,10 +49,11 @@ multiplied_digit false false true = refl
 multiplied_digit false false false = refl
 
 -- an argument's rows are neither the target's nor the scratch bit's
-args_else : (n : ℕ) (m : Rows) (s : Slot) → SlotsApart n s n m.target n
+args_else : (n : ℕ) (m : Rows) (s : Slot) → HasRows s → SlotsApart n s n m.target n
     → SlotsApart n s n (scratch_bit m.free_bit) 1 → (v : ℕ) → v < n
     → IsElsewhere n 1 0 m (row n s v)
-args_else n m s t c v lt = record {
+args_else n m s rows t c v lt = record {
+  has_row = row_stands n s v rows;
   target = λ u lu e. t.by v u lt lu e;
   bit = λ j lj e. let z : m.free_bit + j ≡ m.free_bit = omega arith in
       c.by v 0 lt (omega arith) (e ∙ ap (λ x. row n (scratch_bit x) 0) z);
@@ -63,19 +64,21 @@ module _ (n : ℕ) (m : Rows) (are : AreRows n 1 0 m) (bits : Spots) where
   f : IsFree n m (scratch_bit m.free_bit) 1
   f = bit_free n 0 0 m are
 
-  abbrev c : Place
-  c = at (scratch_bit m.free_bit) sub.Zero
-
+  -- the bit of scratch, and the carry
   abbrev p : Spot
   p = row n (scratch_bit m.free_bit) 0
 
+  abbrev c : Spot
+  c = cell n 5
+
   abbrev body : Block
   body = placed_body (rooms_for op.Mul m) (multiplied (target sub.Sum) (first sub.Inner)
-      (second sub.Outer) (third sub.Zero))
+      (third sub.Zero) (state 5))
 
   abbrev parts : List (InnerOf Block)
-  parts = Alone (placed_body (rooms_for op.Mul m) (constant off (third sub.Zero)))
-      ∷ (Across Rest body ∷ [])
+  parts = Alone (placed_body (rooms_for op.Mul m) (inverted (second sub.Outer) (third sub.Zero)))
+      ∷ (Alone (placed_body (rooms_for op.Mul m) (constant off (state 5))) ∷ (Across Rest body
+      ∷ []))
 
   abbrev xs : List Origin
   xs = Standing ∷ (Standing ∷ (Standing ∷ (Carried 1 ∷ [])))
@@ -83,21 +86,21 @@ module _ (n : ℕ) (m : Rows) (are : AreRows n 1 0 m) (bits : Spots) where
   is_loop : (o : ℕ) → o < n → IsLoop n o (n - o) body xs
   is_loop o lo =
       loop_of n o (n - o) body xs refl (are.own, (tt, tt))
-      (((λ i j li lj e. f.target.by 0 (o + i) (omega arith) (omega arith) (sym e)), tt), (tt, tt)) (
+      (((λ i j li lj e. row_other n m.target (o + i) 5 are.target_rows e), tt), (tt, tt)) (
         (
           (λ i j li lj e. let z : o + i ≡ o + j =
               are.moves.by (o + i) (o + j) (omega arith) (omega arith) e in absurd (omega arith)),
-          ((λ i j li lj e. f.target.by 0 (o + i) (omega arith) (omega arith) (sym e)), tt),
+          ((λ i j li lj e. row_other n m.target (o + i) 5 are.target_rows e), tt),
         ),
         (
           (
             (λ i j li lj e. are.a.by i (o + j) (omega arith) (omega arith) e),
-            ((λ i j li lj e. f.a.by i 0 (omega arith) (omega arith) e), tt),
+            ((λ i j li lj e. row_other n m.a i 5 are.a_rows e), tt),
           ),
           (
             (
-              (λ i j li lj e. are.b.by o (o + j) lo (omega arith) e),
-              ((λ i j li lj e. f.b.by o 0 lo (omega arith) e), tt),
+              (λ i j li lj e. f.target.by 0 (o + j) (omega arith) (omega arith) e),
+              ((λ i j li lj e. row_other n (scratch_bit m.free_bit) 0 5 refl e), tt),
             ),
             ((omega arith, λ i j li lj. refl), tt),
           ),
@@ -116,7 +119,9 @@ module _ (n : ℕ) (m : Rows) (are : AreRows n 1 0 m) (bits : Spots) where
   unfolding values_from
   one_bit o old lo i =
       let r = n - o in
-      let start = set_spot old p false in
+      let v = old (row n m.b o) in
+      let mid = set_spot old p (not v) in
+      let start = set_spot mid c false in
       let new = after_many n o body r start in
       let is = is_loop o lo in
       let t = loop_turns n o r body xs is start in
@@ -124,34 +129,38 @@ module _ (n : ℕ) (m : Rows) (are : AreRows n 1 0 m) (bits : Spots) where
       let carry = λ (j : ℕ). turn n o body xs start j 1 in
       let ta = λ (j : ℕ). start (row n m.target (o + j)) in
       let a = λ (j : ℕ). start (row n m.a j) in
-      let g = start (row n m.b o) in
+      let h = start p in
       let sums : number y r + bit (carry r) * 2 ^ r
-      ≡ number ta r + number (λ j. majority false (a j) g) r + bit (carry 0) =
-      sum_two ta (λ j. majority false (a j) g) y carry r
-      (λ j lj. multiplied_digit (ta j) (majority false (a j) g) (carry j)) in
-      let gated = value_gated a g r in
-      let none : bit (carry 0) ≡ 0 = ap bit (set_same old p false p refl) in
+      ≡ number ta r + number (λ j. not (majority true (not (a j)) h)) r + bit (carry 0) =
+      sum_two ta (λ j. not (majority true (not (a j)) h)) y carry r
+      (λ j lj. multiplied_digit (ta j) (majority true (not (a j)) h) (carry j)) in
+      let g_old : h ≡ not (bits (row n m.b o)) =
+      set_other mid c false p (λ e. row_other n (scratch_bit m.free_bit) 0 5 refl e)
+      ∙ set_same old p (not v) p refl
+      ∙ ap not (i.rest (row n m.b o) (args_else n m m.b are.b_rows are.b f.b o lo)) in
+      let gated = value_kept a (bits (row n m.b o)) h r g_old in
+      let none : bit (carry 0) ≡ 0 = ap bit (set_same mid c false c refl) in
       let split : n ≡ o + r = omega arith in
+      let stays : (q : Spot) → is_state q.space ≡ false → (q ≡ p → ⊥) → start q ≡ old q =
+      λ q rows ne. set_other mid c false q (cell_other n q 5 rows) ∙ set_other old p (not v) q ne in
       let high : (j : ℕ) → j < r → new (row n m.target (o + j)) ≡ y j =
       λ j lj. loop_word n o r body xs is start 0 (omega arith) (λ u v lu lv e. let z : o + u
       ≡ o + v = are.moves.by (o + u) (o + v) (omega arith) (omega arith) e in
       omega arith) j lj in
       let untouched : (v : ℕ) → v < o → new (row n m.target v) ≡ old (row n m.target v) =
       λ v lv. t.rest (row n m.target v) (λ j w lj lw e. low o v lo lv j w lj lw e)
-      ∙ set_other old p false (row n m.target v) (λ e.
+      ∙ stays (row n m.target v) (row_stands n m.target v are.target_rows) (λ e.
       f.target.by 0 v (omega arith) (omega arith) (sym e)) in
-      let stays : (q : Spot) → (q ≡ p → ⊥) → start q ≡ old q = λ q ne. set_other old p false q ne in
       let low_new = value_same (λ v. new (row n m.target v)) (λ v. old (row n m.target v)) o
       untouched in
       let high_new = value_same (λ j. new (row n m.target (o + j))) y r high in
       let high_old = value_same ta (λ j. old (row n m.target (o + j))) r
-      (λ j lj. stays (row n m.target (o + j)) (λ e.
+      (λ j lj. stays (row n m.target (o + j)) (row_stands n m.target (o + j) are.target_rows) (λ e.
       f.target.by 0 (o + j) (omega arith) (omega arith) (sym e))) in
       let a_old = value_same a (λ j. bits (row n m.a j)) r
-      (λ j lj. stays (row n m.a j) (λ e. f.a.by j 0 (omega arith) (omega arith) e)
-      ∙ i.rest (row n m.a j) (args_else n m m.a are.a f.a j (omega arith))) in
-      let g_old : g ≡ bits (row n m.b o) = stays (row n m.b o) (λ e. f.b.by o 0 lo (omega arith) e)
-      ∙ i.rest (row n m.b o) (args_else n m m.b are.b f.b o lo) in
+      (λ j lj. stays (row n m.a j) (row_stands n m.a j are.a_rows) (λ e.
+      f.a.by j 0 (omega arith) (omega arith) e)
+      ∙ i.rest (row n m.a j) (args_else n m m.a are.a_rows are.a f.a j (omega arith))) in
       let back : r + o ≡ n = omega arith in
       let all_a : number_at n bits m.a n ≡ number (λ j. bits (row n m.a j)) r + 2 ^ r
       * number (λ j. bits (row n m.a (r + j))) o =
@@ -166,9 +175,8 @@ module _ (n : ℕ) (m : Rows) (are : AreRows n 1 0 m) (bits : Spots) where
       let digit : number y r + bit (carry r) * 2 ^ r ≡ number (λ j. old (row n m.target (o + j))) r
       + bit (bits (row n m.b o)) * number (λ j. bits (row n m.a j)) r =
       sums ∙ omega (arith, none, gated, high_old)
-      ∙ ap (λ x. number (λ j. old (row n m.target (o + j))) r + bit g * x) a_old
-      ∙ ap (λ x. number (λ j. old (row n m.target (o + j))) r + bit x
-      * number (λ j. bits (row n m.a j)) r) g_old in
+      ∙ ap (λ x. number (λ j. old (row n m.target (o + j))) r + bit (bits (row n m.b o)) * x) a_old
+      in
       let low_v = number (λ v. old (row n m.target v)) o in
       let before : low_v + 2 ^ o * number (λ j. old (row n m.target (o + j))) r + i.over
       * (2 ^ o * 2 ^ r) ≡ number_at n bits m.a n * number_at n bits m.b o =
@@ -191,20 +199,20 @@ module _ (n : ℕ) (m : Rows) (are : AreRows n 1 0 m) (bits : Spots) where
             * bit (bits (row n m.b o))) * x) pow
             ∙ step;
         rest = λ q out. t.rest q (λ j w lj lw e. elsewhere o lo q out j w lj lw e)
-            ∙ stays q (bit_else n 0 0 m q out) ∙ i.rest q out;
+            ∙ stays q out.has_row (bit_else n 0 0 m q out) ∙ i.rest q out;
       }
     where
       low : (o v : ℕ) → o < n → v < o → (j w : ℕ) → j < n - o → w < 2
           → row n m.target v ≡ spot_at n j o (nth_place body.writes w) → ⊥
       low o v lo lv j zero lj lw e = let z : v ≡ o + j =
           are.moves.by v (o + j) (omega arith) (omega arith) e in absurd (omega arith)
-      low o v lo lv j (suc zero) lj lw e = f.target.by 0 v (omega arith) (omega arith) (sym e)
+      low o v lo lv j (suc zero) lj lw e = row_other n m.target v 5 are.target_rows e
       low o v lo lv j (suc (suc w)) lj lw e = absurd (omega arith)
 
       elsewhere : (o : ℕ) → o < n → (q : Spot) → IsElsewhere n 1 0 m q → (j w : ℕ) → j < n - o
           → w < 2 → q ≡ spot_at n j o (nth_place body.writes w) → ⊥
       elsewhere o lo q out j zero lj lw e = out.target (o + j) (omega arith) e
-      elsewhere o lo q out j (suc zero) lj lw e = bit_else n 0 0 m q out e
+      elsewhere o lo q out j (suc zero) lj lw e = cell_other n q 5 out.has_row e
       elsewhere o lo q out j (suc (suc w)) lj lw e = absurd (omega arith)
 
   all_bits : (o : ℕ) (zeroed : Spots) → o ≤ n → Multiplied 0 zeroed
@@ -306,7 +314,7 @@ module _ (n : ℕ) (m : Rows) (are : AreRows n 1 0 m) (bits : Spots) where
       ∙ ap (λ x. x + bit (carry 0)) (digits_one ta n) in
       let first : bit (carry 0) ≡ bit (bits (row n m.a o)) =
       ap bit (ap not (set_same old cp (not v) cp refl) ∙ twice v ∙ i.rest (row n m.a o)
-      (args_else n m m.a are.a cf.a o lo)) in
+      (args_else n m m.a are.a_rows are.a cf.a o lo)) in
       let word = value_same (λ j. new (row n m.target j)) y n
       (λ j lj. loop_word n o n count_body ys is start 0 (omega arith) (λ u w lu lw e.
       are.moves.by u w (omega arith) (omega arith) e) j lj) in

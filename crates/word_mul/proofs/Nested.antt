@@ -1,35 +1,31 @@
--- Each nested operation's loop program gives its value, takes so many commands, and passes the
--- tests.
-use Rattle.std.proofs.Common.{◌≡◌, ◌⊎◌, inl, ℕ, zero, suc, ◌+◌, ◌*◌, ◌^◌, ◌<◌, ◌≤◌, true, List, []}
+-- Each nested operation's loop program gives its value, and passes the tests.
+use Rattle.std.proofs.Common.{◌≡◌, ◌⊎◌, inl, ℕ, zero, suc, ◌+◌, ◌*◌, ◌<◌, true, false, List, []}
 use Rattle.std.proofs.Common.{◌∷◌, map, length, Option, None, refl, sym, ap, ◌∙◌, subst, arith}
 use Rattle.std.specs.Prelude.{unwrap_or}
-use Rattle.std.proofs.Math.Nat.{pow-suc, pow-zero}
 use Rattle.op_text.specs.declared.tree.Kind.TheVariants.{Word}
 use Rattle.op_text.specs.declared.word_ops.WordOp.{WordOp}
 use Rattle.op_text.specs.declared.word_ops.WordOp.TheVariants as op
 use Rattle.op_text.specs.Values.{bits, value, op_value}
 use Rattle.op_text.specs.Meaning.{width}
 use Rattle.op_text.specs.Scratch.{bits_inside, words_inside}
-use Rattle.op_text.specs.Costs.{op_ceiling}
 use Rattle.loop_ir.specs.declared.ir.Space.{Space}
 use Rattle.loop_ir.specs.declared.ir.Space.TheVariants.{ScratchBit, ScratchWord}
 use Rattle.loop_ir.specs.declared.names.Slot.{Slot}
 use Rattle.loop_ir.specs.Loops.{all_rounds}
-use Rattle.loop_ir.specs.Spots.{Spot, Spots, spot_in, after_rounds}
-use Rattle.loop_ir.specs.Costs.{turn_cost, rounds_cost, plain_cost, plain_costs}
-use Rattle.loop_ir.specs.Lowered.{slot_spot, slot_bits, op_plain_ceiling}
+use Rattle.loop_ir.specs.Spots.{Spot, Spots, spot_in, after_rounds, is_state}
+use Rattle.loop_ir.specs.Lowered.{slot_spot, slot_bits}
 use Rattle.loop_laws.specs.Rooms.{room_at, row_in, extent, RoomsApart, IsOwned, steps_fit}
 use Rattle.loop_laws.specs.Forms.{is_short}
-use Rattle.loop_laws.proofs.Summed.{sum_is}
 use Rattle.word_lower.specs.Places.{scratch_bit, scratch_from, rooms_of}
 use Rattle.word_lower.proofs.Setting.{row, number_at, SlotsApart}
 use Rattle.word_lower.proofs.Lists.{bits_of_number, value_of_list}
-use Rattle.word_lower.proofs.Pieces.{slot, slot_at, AreApart, Pieces, moves_in, rooms_apart}
+use Rattle.word_lower.proofs.Pieces.{slot, slot_at, AreApart, Pieces, kind_row, moves_in}
+use Rattle.word_lower.proofs.Pieces.{rooms_apart}
 use Rattle.word_lower.proofs.Lowering.{slots_width}
 use Rattle.word_lower.proofs.Statements.{length_scratch, scratch_at}
 use Rattle.word_mul.specs.declared.rows.Rows.{Rows}
 use Rattle.word_mul.specs.Places.{scratch_word, rooms_for, steps_for, rows_on}
-use Rattle.word_mul.specs.Programs.{nested, nested_total}
+use Rattle.word_mul.specs.Programs.{nested}
 use Rattle.word_mul.proofs.Setting.{operation, IsFree, AreRows, IsElsewhere, DoesNested}
 use Rattle.word_mul.proofs.Clear.{WordsClear, rooms_more, owned_more, clear_rooms}
 use Rattle.word_mul.proofs.Multiply.{mul_does, bitcount_does}
@@ -41,7 +37,8 @@ pub record DoesOp (p : WordOp) (n : ℕ) (t : Slot) (args : List Slot) (free_bit
     (before after : Spots) : Type 0 where
   pub gives : slot_bits n after t ≡ bits (op_value p (slots_width n args)
       (map (λ a. value (slot_bits n before a)) args)) (width n t.kind)
-  pub keeps : (q : Spot) → ((v : ℕ) → v < width n t.kind → q ≡ slot_spot n t v → ⊥)
+  pub keeps : (q : Spot) → is_state q.space ≡ false
+      → ((v : ℕ) → v < width n t.kind → q ≡ slot_spot n t v → ⊥)
       → ((j : ℕ) → j < bits_inside p → q ≡ spot_in n ScratchBit (free_bit + j) 0 → ⊥)
       → ((v : ℕ) → v < n * words_inside p → q ≡ spot_in n ScratchWord free_word v → ⊥)
       → after q ≡ before q
@@ -60,17 +57,7 @@ pub record Lowers (p : WordOp) (t : Slot) (args : List Slot) (free_bit free_word
       → WordsClear n t args free_word (words_inside p) → (before : Spots)
       → DoesOp p n t args free_bit free_word before
       (after_rounds n (all_rounds n (steps_for p (rows_on t None args free_bit free_word))) before)
-  pub total : (n : ℕ) → rounds_cost (all_rounds n (steps_for p (rows_on t None args free_bit
-      free_word)))
-      ≡ nested_total p n
-  pub cheap : (n : ℕ) → nested_total p n ≤ op_ceiling p (slots_width n args)
-  pub plain : (n : ℕ) → plain_costs (all_rounds n (steps_for p (rows_on t None args free_bit
-      free_word)))
-      ≤ op_plain_ceiling p (slots_width n args)
-
-pub square : (n : ℕ) → n ^ 2 ≡ n * n
-square n = let e : n ^ 2 ≡ n ^ 1 * n = pow-suc n 1 in let f : n ^ 1 ≡ n ^ 0 * n = pow-suc n 0 in
-    let z : n ^ 0 ≡ 1 = pow-zero n in e ∙ ap (λ x. x * n) (f ∙ ap (λ x. x * n) z ∙ omega arith)
+  pub wide : (n : ℕ) → slots_width n args ≡ n
 
 pub turn : (n : ℕ) (s t : Slot) (k l : ℕ) → SlotsApart n s k t l → SlotsApart n t l s k
 turn n s t k l a = record { by = λ u v lu lv e. a.by v u lv lu (sym e) }
@@ -124,6 +111,8 @@ module _ (n : ℕ) (t a : Slot) (scratch : List Slot) where
     holds = are.holds;
     given = λ i li. subst (λ s. AreApart n s t) (sym (twice_given i li))
         (are.given 0 (omega arith));
+    rows = λ i li. subst (λ (s : Slot). is_state s.space ≡ false) (sym (twice_given i li))
+        (are.rows 0 (omega arith));
     owned = are.owned;
     free = are.free;
     others = λ i j li lj. subst (λ s. AreApart n s (slot_at scratch j)) (sym (twice_given i li))
@@ -151,12 +140,12 @@ answer p n space which after x y e f =
     sym (bits_of_number (λ v. after (row n (slot space which Word) v)) n)
     ∙ ap (λ z. bits z n) (e ∙ f)
 
-pub elsewhere : (n bits_free words : ℕ) (m : Rows) (q : Spot)
+pub elsewhere : (n bits_free words : ℕ) (m : Rows) (q : Spot) → is_state q.space ≡ false
     → ((v : ℕ) → v < n → q ≡ slot_spot n m.target v → ⊥)
     → ((j : ℕ) → j < bits_free → q ≡ spot_in n ScratchBit (m.free_bit + j) 0 → ⊥)
     → ((v : ℕ) → v < n * words → q ≡ spot_in n ScratchWord m.free_word v → ⊥)
     → IsElsewhere n bits_free words m q
-elsewhere n bits_free words m q t b w = record { target = t; bit = b; word = w }
+elsewhere n bits_free words m q row t b w = record { has_row = row; target = t; bit = b; word = w }
 
 module _ (x0 : Space) (y0 : ℕ) (x1 : Space) (y1 : ℕ) (x2 : Space) (y2 : ℕ) (free_bit free_word : ℕ)
   where
@@ -187,6 +176,9 @@ module _ (x0 : Space) (y0 : ℕ) (x1 : Space) (y1 : ℕ) (x2 : Space) (y2 : ℕ)
       moves = record { by = moves_in n x0 y0 Word are.holds };
       a = are.given 0 (omega arith);
       b = are.given 1 (omega arith);
+      target_rows = kind_row x0 Word are.holds;
+      a_rows = are.rows 0 (omega arith);
+      b_rows = are.rows 1 (omega arith);
       bit = λ j lj. bit_is_free n t (unwrap_or second t) a b (a ∷ b ∷ []) free_bit free_word
           bits_free j refl refl refl 0
           1
@@ -205,6 +197,9 @@ module _ (x0 : Space) (y0 : ℕ) (x1 : Space) (y1 : ℕ) (x2 : Space) (y2 : ℕ)
       moves = record { by = moves_in n x0 y0 Word are.holds };
       a = are.given 0 (omega arith);
       b = are.given 0 (omega arith);
+      target_rows = kind_row x0 Word are.holds;
+      a_rows = are.rows 0 (omega arith);
+      b_rows = are.rows 0 (omega arith);
       bit = λ j lj. bit_is_free n t t a a (a ∷ []) free_bit free_word bits_free j refl refl refl 0 0
           (omega arith) (omega arith) refl refl lj are;
       word = record {
@@ -233,8 +228,8 @@ module _ (x0 : Space) (y0 : ℕ) (x1 : Space) (y1 : ℕ) (x2 : Space) (y2 : ℕ)
           gives = answer p n x0 y0 (after_rounds n (all_rounds n (steps_for p two)) before) _ _
               g.gives (is (number_at n before a n) (number_at n before b n)
               ∙ two_values p n before);
-          keeps = λ q tq bq wq. g.keeps q (elsewhere n (bits_inside p) (words_inside p) two q tq bq
-              wq);
+          keeps = λ q row tq bq wq. g.keeps q
+              (elsewhere n (bits_inside p) (words_inside p) two q row tq bq wq);
         }
 
     pub window_apart : (n : ℕ) → Pieces n t (a ∷ b ∷ []) (scratch_from free_bit 2)
@@ -256,11 +251,7 @@ module _ (x0 : Space) (y0 : ℕ) (x1 : Space) (y1 : ℕ) (x2 : Space) (y2 : ℕ)
       owned = λ n q o. inl o;
       does = λ n some are clear. does_two op.Mul n (λ x y.
           refl) (mul_does n two (two_rows None n 1 0 are clear));
-      total = λ n. (let e = sum_is turn_cost n (steps_for op.Mul two) in let s = square n in
-          omega (arith, e, s));
-      cheap = λ n. omega arith;
-      plain = λ n. (let e = sum_is plain_cost n (steps_for op.Mul two) in let s = square n in
-          omega (arith, e, s));
+      wide = λ n. refl;
     }
 
     pub on_div : Lowers op.Div t (a ∷ b ∷ []) free_bit free_word
@@ -271,11 +262,7 @@ module _ (x0 : Space) (y0 : ℕ) (x1 : Space) (y1 : ℕ) (x2 : Space) (y2 : ℕ)
       owned = window_owned;
       does = λ n some are clear. does_two op.Div n (λ x y.
           refl) (div_does n two (two_rows None n 2 2 are clear));
-      total = λ n. (let e = sum_is turn_cost n (steps_for op.Div two) in let s = square n in
-          omega (arith, e, s));
-      cheap = λ n. omega arith;
-      plain = λ n. (let e = sum_is plain_cost n (steps_for op.Div two) in let s = square n in
-          omega (arith, e, s));
+      wide = λ n. refl;
     }
 
     pub on_rem : Lowers op.Rem t (a ∷ b ∷ []) free_bit free_word
@@ -286,11 +273,7 @@ module _ (x0 : Space) (y0 : ℕ) (x1 : Space) (y1 : ℕ) (x2 : Space) (y2 : ℕ)
       owned = window_owned;
       does = λ n some are clear. does_two op.Rem n (λ x y.
           refl) (rem_does n two (two_rows None n 2 2 are clear));
-      total = λ n. (let e = sum_is turn_cost n (steps_for op.Rem two) in let s = square n in
-          omega (arith, e, s));
-      cheap = λ n. omega arith;
-      plain = λ n. (let e = sum_is plain_cost n (steps_for op.Rem two) in let s = square n in
-          omega (arith, e, s));
+      wide = λ n. refl;
     }
 
     pub on_bitcount : Lowers op.Bitcount t (a ∷ []) free_bit free_word
@@ -307,11 +290,7 @@ module _ (x0 : Space) (y0 : ℕ) (x1 : Space) (y1 : ℕ) (x2 : Space) (y2 : ℕ)
                 (all_rounds n (steps_for op.Bitcount one)) before) _ _ g.gives
                 (ap (λ x. op_value op.Bitcount n (x ∷ []))
                 (sym (value_of_list (λ v. before (row n a v)) n)));
-            keeps = λ q tq bq wq. g.keeps q (elsewhere n 1 0 one q tq bq wq);
+            keeps = λ q row tq bq wq. g.keeps q (elsewhere n 1 0 one q row tq bq wq);
           });
-      total = λ n. (let e = sum_is turn_cost n (steps_for op.Bitcount one) in let s = square n in
-          omega (arith, e, s));
-      cheap = λ n. omega arith;
-      plain = λ n. (let e = sum_is plain_cost n (steps_for op.Bitcount one) in let s = square n in
-          omega (arith, e, s));
+      wide = λ n. refl;
     }

@@ -1,6 +1,6 @@
 -- Products, as numbers.
-use Rattle.std.proofs.Common.{◌≡◌, ℕ, zero, suc, ◌+◌, ◌*◌, ◌^◌, ◌<◌, ◌≤◌, Bool, true, false, refl}
-use Rattle.std.proofs.Common.{ap, ◌∙◌, arith}
+use Rattle.std.proofs.Common.{◌≡◌, ℕ, zero, suc, ◌+◌, ◌*◌, ◌^◌, ◌<◌, ◌≤◌, Bool, true, false, not}
+use Rattle.std.proofs.Common.{refl, ap, ◌∙◌, arith}
 use Rattle.std.proofs.Math.Nat.{pow-suc}
 use Rattle.std.proofs.lemmas.Nat.{pow-add}
 use Rattle.bit_rows.specs.Bits.{majority}
@@ -38,6 +38,20 @@ value_gated a false n = value_same (λ i. majority false (a i) false) (λ i.
     off : (b : Bool) → majority false b false ≡ false
     off true = refl
     off false = refl
+
+-- the same by the complement of the bit, as the complement of what is added
+pub value_kept : (a : ℕ → Bool) (g h : Bool) (n : ℕ) → h ≡ not g
+    → number (λ i. not (majority true (not (a i)) h)) n ≡ bit g * number a n
+unfolding majority
+value_kept a g h n e = value_same (λ i. not (majority true (not (a i)) h)) (λ i.
+    majority false (a i) g) n (λ i lt. ap (λ x. not (majority true (not (a i)) x)) e
+    ∙ turned (a i) g) ∙ value_gated a g n
+  where
+    turned : (b g : Bool) → not (majority true (not b) (not g)) ≡ majority false b g
+    turned true true = refl
+    turned true false = refl
+    turned false true = refl
+    turned false false = refl
 
 -- one more bit of the second factor: the part of the first that fits is added to the high rows
 pub product_step : (low t y c p q a h b k v all : ℕ) → y + c * q ≡ t + b * a → all ≡ a + q * h

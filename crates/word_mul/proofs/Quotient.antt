@@ -29,9 +29,9 @@ use Rattle.word_lower.proofs.Passes.{word_loop, upwards}
 use Rattle.word_lower.proofs.Sums.{value_same, value_below, value_false, value_low}
 use Rattle.word_mul.specs.declared.rows.Rows.{Rows}
 use Rattle.word_mul.specs.Places.{rooms_for, steps_for, scratch_word}
-use Rattle.word_mul.proofs.Setting.{fifth, sixth, AreRows, IsSecond, IsElsewhere, Gives, Divided}
-use Rattle.word_mul.proofs.Setting.{DoesNested}
-use Rattle.word_mul.proofs.Divide.{w, gp, gf, cf, core, IsOther, w_moves, Stepped, step}
+use Rattle.word_mul.proofs.Setting.{fifth, sixth, row_stands, AreRows, IsSecond, IsElsewhere, Gives}
+use Rattle.word_mul.proofs.Setting.{Divided, DoesNested}
+use Rattle.word_mul.proofs.Divide.{w, gp, gf, core, IsOther, w_moves, Stepped, step}
 
 -- what is left of the rows without a borrow is the whole difference
 exact : (t c : Bool) (y x xl k p : ℕ) → y < p → x < k + p → k ≤ x → x ≡ xl + bit t * p
@@ -105,6 +105,7 @@ module _ (n : ℕ) (m : Rows) (are : AreRows n 2 2 m) (bits : Spots) where
 
   b_else : (v : ℕ) → v < n → IsElsewhere n 2 2 m (row n m.b v)
   b_else v lv = record {
+    has_row = row_stands n m.b v are.b_rows;
     target = λ u lu e. are.b.by v u lv lu e;
     bit = λ j lj e. (are.bit j lj).b.by v 0 lv (omega arith) e;
     word = λ u lu e. are.word.b.by v u lv lu e;
@@ -112,17 +113,17 @@ module _ (n : ℕ) (m : Rows) (are : AreRows n 2 2 m) (bits : Spots) where
 
   other : (q : Spot) → IsElsewhere n 2 2 m q → IsOther n m are q
   other q out = record {
+    has_row = out.has_row;
     word = out.word;
     g = λ e. let z : m.free_bit + 0 ≡ m.free_bit = omega arith in
         out.bit 0 (omega arith) (e ∙ ap (λ x. row n (scratch_bit x) 0) (sym z));
-    c = λ e. out.bit 1 (omega arith) e;
   }
 
   target_other : (v : ℕ) → v < n → IsOther n m are (row n m.target v)
   target_other v lv = record {
+    has_row = row_stands n m.target v are.target_rows;
     word = λ u lu e. are.word.target.by u v lu lv (sym e);
     g = λ e. (gf n m are).target.by 0 v (omega arith) lv (sym e);
-    c = λ e. (cf n m are).target.by 0 v (omega arith) lv (sym e);
   }
 
   one_step : (j o quot : ℕ) (old new : Spots) → suc j + o ≡ n → Divides (suc j) o quot old

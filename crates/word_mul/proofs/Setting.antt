@@ -1,28 +1,45 @@
 -- When a loop program does a nested operation: the places of its names, and what it leaves.
-use Rattle.std.proofs.Common.{◌≡◌, ℕ, ◌+◌, ◌*◌, ◌<◌, sym, ap, ◌∙◌, subst, arith}
+use Rattle.std.proofs.Common.{◌≡◌, ℕ, ◌+◌, ◌*◌, ◌<◌, true, false, sym, ap, ◌∙◌, subst, arith}
 use Rattle.op_text.specs.declared.word_ops.WordOp.{WordOp}
 use Rattle.op_text.specs.declared.word_ops.WordOp.TheVariants as o
 use Rattle.op_text.specs.Values.{of_one, of_two}
 use Rattle.loop_ir.specs.declared.ir.Sub.{Sub}
 use Rattle.loop_ir.specs.declared.names.Slot.{Slot}
 use Rattle.loop_ir.specs.Loops.{all_rounds}
-use Rattle.loop_ir.specs.Spots.{Spot, Spots, after_rounds, IsOwn}
+use Rattle.loop_ir.specs.Spots.{Spot, Spots, after_rounds, IsOwn, is_state}
 use Rattle.loop_laws.specs.Rooms.{Mark}
-use Rattle.word_lower.specs.Places.{scratch_bit}
+use Rattle.word_lower.specs.Places.{scratch_bit, cells}
 use Rattle.word_lower.specs.Programs.{on}
 use Rattle.word_lower.proofs.Setting.{row, number_at, SlotsApart, Moves}
+use Rattle.word_lower.proofs.Statements.{space_is}
 use Rattle.word_mul.specs.declared.rows.Rows.{Rows}
 use Rattle.word_mul.specs.Places.{scratch_word, steps_for}
 
--- the second bit of scratch, the words of scratch, and a second target
-abbrev pub fourth : Sub → Mark
-fourth s = on 4 s
-
+-- the words of scratch, and a second target
 abbrev pub fifth : Sub → Mark
 fifth s = on 5 s
 
 abbrev pub sixth : Sub → Mark
 sixth s = on 6 s
+
+-- where a state stands
+abbrev pub cell : ℕ → ℕ → Spot
+cell n layout = row n (cells layout) 0
+
+-- a place has rows, and so has each of its spots
+abbrev pub HasRows : Slot → Type 0
+HasRows s = is_state s.space ≡ false
+
+pub row_stands : (n : ℕ) (s : Slot) (v : ℕ) → HasRows s → is_state (row n s v).space ≡ false
+row_stands n s v rows = ap is_state (space_is n s.space s.which v) ∙ rows
+
+-- what has a row is no state
+pub cell_other : (n : ℕ) (q : Spot) (layout : ℕ) → is_state q.space ≡ false → q ≡ cell n layout → ⊥
+cell_other n q layout rows e = let z : false ≡ true =
+    sym rows ∙ ap (λ (q : Spot). is_state q.space) e in cc
+
+pub row_other : (n : ℕ) (s : Slot) (v layout : ℕ) → HasRows s → row n s v ≡ cell n layout → ⊥
+row_other n s v layout rows e = cell_other n (row n s v) layout (row_stands n s v rows) e
 
 -- the operation's value from two numbers, of which it takes the first ones
 abbrev pub operation : WordOp → ℕ → ℕ → ℕ → ℕ
@@ -41,6 +58,9 @@ pub record AreRows (n bits words : ℕ) (m : Rows) : Type 0 where
   pub moves : Moves n m.target n
   pub a : SlotsApart n m.a n m.target n
   pub b : SlotsApart n m.b n m.target n
+  pub target_rows : HasRows m.target
+  pub a_rows : HasRows m.a
+  pub b_rows : HasRows m.b
   pub bit : (j : ℕ) → j < bits → IsFree n m (scratch_bit (m.free_bit + j)) 1
   pub word : IsFree n m (scratch_word m.free_word) (n * words)
 
@@ -51,8 +71,9 @@ pub record IsSecond (n : ℕ) (m : Rows) : Type 0 where
   pub target : SlotsApart n m.target n m.second n
   pub word : SlotsApart n (scratch_word m.free_word) (n * 2) m.second n
 
--- the row is none of the target or of the internal scratch
+-- a row that is none of the target or of the internal scratch
 pub record IsElsewhere (n bits words : ℕ) (m : Rows) (q : Spot) : Type 0 where
+  pub has_row : is_state q.space ≡ false
   pub target : (v : ℕ) → v < n → q ≡ row n m.target v → ⊥
   pub bit : (j : ℕ) → j < bits → q ≡ row n (scratch_bit (m.free_bit + j)) 0 → ⊥
   pub word : (v : ℕ) → v < n * words → q ≡ row n (scratch_word m.free_word) v → ⊥

@@ -1,25 +1,28 @@
 -- A loop program that is built on a statement's rows does it, with one target or two.
-use Rattle.std.proofs.Common.{◌≡◌, ℕ, ◌+◌, ◌≤◌, true, List, Option, Some, None, sym, ap, ◌∙◌, subst}
+use Rattle.std.proofs.Common.{◌≡◌, ℕ, ◌≤◌, true, List, Option, Some, None, sym, ap, ◌∙◌, subst}
 use Rattle.std.specs.Option.{option_to_list}
 use Rattle.op_text.specs.declared.tree.Kind.{Kind}
 use Rattle.op_text.specs.declared.word_ops.WordOp.{WordOp}
 use Rattle.op_text.specs.declared.word_ops.WordOp.TheVariants as op
 use Rattle.op_text.specs.WordOps.{second_kind}
 use Rattle.op_text.specs.Language.{Statement, Compute}
-use Rattle.op_text.specs.Scratch.{bits_inside}
 use Rattle.loop_ir.specs.declared.names.Slot.{Slot}
 use Rattle.loop_ir.specs.Plain.{Block, StepOf}
 use Rattle.loop_ir.specs.Loops.{all_rounds}
 use Rattle.loop_ir.specs.Costs.{rounds_cost}
 use Rattle.loop_ir.specs.Statements.{Slots, IsPlaced, SecondMeets, ComputeMeets, StatementMeets}
 use Rattle.loop_ir.specs.Lowered.{IsLowered}
+use Rattle.loop_laws.proofs.Alike.{HaveRows, InRooms}
 use Rattle.word_lower.specs.Places.{AreAt}
 use Rattle.word_lower.proofs.Statements.{Places, places_of}
 use Rattle.word_mul.specs.declared.rows.Rows.{Rows}
-use Rattle.word_mul.specs.Places.{steps_for, rows_on, IsNestWritten}
-use Rattle.word_mul.specs.Programs.{is_nested, is_nested_statement, nested_total, statement_total}
+use Rattle.word_mul.specs.Places.{rooms_for, steps_for, rows_on, IsNestWritten}
+use Rattle.word_mul.specs.Programs.{nested, is_nested, is_nested_statement, nested_total}
+use Rattle.word_mul.specs.Programs.{statement_total}
 use Rattle.word_mul.specs.Bodies.{StepsBuilt}
+use Rattle.word_mul.proofs.Whole as whole
 use Rattle.word_mul.proofs.Whole.{lowered, few}
+use Rattle.word_mul.proofs.Targets as targets
 use Rattle.word_mul.proofs.Targets.{both_lowered, both_few}
 
 -- a second target has a place
@@ -73,6 +76,43 @@ is_done slots fb fw target (Some name) p args is meets placed t found (Some u) n
     built =
     absurd meets.others
 
+have_rows_in : (slots : Slots) (free_bit free_word : ℕ) (target : List ℕ)
+    (second : Option (List ℕ)) (p : WordOp) (args : List (List ℕ)) → is_nested p ≡ true
+    → ComputeMeets slots target second p args
+    → IsPlaced slots free_bit free_word (Compute target second p args) → (t : Slot)
+    → slots target ≡ Some t → (u : Option Slot)
+    → AreAt slots (option_to_list second) (option_to_list u) → (ss : List Slot)
+    → AreAt slots args ss → HaveRows (rooms_for p (rows_on t u ss free_bit free_word))
+have_rows_in slots fb fw target None p args is meets placed t found None near ss at =
+    whole.have_rows slots fb fw target p args is meets placed t found ss at
+have_rows_in slots fb fw target None p args is meets placed t found (Some u) near ss at =
+    absurd near
+have_rows_in slots fb fw target (Some name) p args is meets placed t found None near ss at =
+    absurd near
+have_rows_in slots fb fw target (Some name) op.Divmod args is meets placed t found (Some u) near ss
+    at = targets.have_rows slots fb fw target name args meets placed t found u near.0 ss at
+have_rows_in slots fb fw target (Some name) p args is meets placed t found (Some u) near ss at =
+    absurd meets.others
+
+-- a written program lies in rooms of rows
+pub nest_in_rooms : (slots : Slots) (free_bit free_word : ℕ) (target : List ℕ)
+    (second : Option (List ℕ)) (p : WordOp) (args : List (List ℕ)) → is_nested p ≡ true
+    → (meets : ComputeMeets slots target second p args)
+    → IsPlaced slots free_bit free_word (Compute target second p args)
+    → (built : List (StepOf Block))
+    → IsNestWritten slots free_bit free_word (Compute target second p args) built
+    → InRooms (nested p) built
+nest_in_rooms slots free_bit free_word target second p args is meets placed built written =
+    let t = meets.gives.slot in
+    let u = second_place slots target args second (second_kind p) meets.others in
+    let ss = places_of slots args meets.kinds meets.have in
+    record {
+      rooms = rooms_for p (rows_on t u.place ss.list free_bit free_word);
+      rows = have_rows_in slots free_bit free_word target second p args is meets placed t
+          meets.gives.found u.place u.at ss.list ss.at;
+      same = written t u.place ss.list meets.gives.found u.at ss.at;
+    }
+
 module _ (slots : Slots) (free_bit free_word : ℕ) (s : Statement) (target : List ℕ)
     (second : Option (List ℕ)) (p : WordOp) (args : List (List ℕ))
     (e : s ≡ Compute target second p args) (nested_one : is_nested_statement s ≡ true)
@@ -98,9 +138,6 @@ module _ (slots : Slots) (free_bit free_word : ℕ) (s : Statement) (target : Li
     m_is : m ≡ rows_on word_meets.gives.slot found_second.place found_args.list free_bit free_word
     m_is = on word_meets.gives.slot found_second.place found_args.list word_meets.gives.found
         found_second.at found_args.at
-
-    pub has_bits : m.free_bit + bits_inside p ≤ 256
-    has_bits = subst (λ (m : Rows). m.free_bit + bits_inside p ≤ 256) (sym m_is) word_placed.bits
 
     done : (steps : List (StepOf Block)) → StepsBuilt steps (steps_for p m)
         → IsDone slots free_bit free_word target second p args steps

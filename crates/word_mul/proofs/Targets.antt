@@ -21,7 +21,8 @@ use Rattle.loop_ir.specs.Lowered.{slot_spot, HoldsAt, Holds, IsStatementRow, Doe
 use Rattle.loop_ir.specs.Lowered.{op_plain_ceiling}
 use Rattle.loop_laws.specs.Rooms.{IsOwned}
 use Rattle.loop_laws.specs.Forms.{HasForm, IsMade}
-use Rattle.loop_laws.proofs.EveryRound.{marks_are_enough}
+use Rattle.loop_laws.proofs.Alike.{HaveRows}
+use Rattle.loop_laws.proofs.EveryRound.{rooms_row, marks_are_enough}
 use Rattle.loop_laws.proofs.Compile.{made_compile}
 use Rattle.word_lower.specs.Places.{rooms_of, scratch_from, AreAt}
 use Rattle.word_lower.proofs.Pieces.{AreApart}
@@ -33,6 +34,7 @@ use Rattle.word_mul.specs.Places.{rooms_for, steps_for, rows_on}
 use Rattle.word_mul.specs.Programs.{nested, nested_total}
 use Rattle.word_mul.specs.Bodies.{StepsBuilt}
 use Rattle.word_mul.proofs.Both.{Apart, DoesBoth, LowersBoth, both_lowers}
+use Rattle.word_mul.proofs.Totals.{states, total, cheap, plain}
 use Rattle.word_mul.proofs.Whole.{clear, answer, second_answer}
 
 or_complemented : (p q r : Bool) → (p || (q || r)) ≡ true → (q || (p || r)) ≡ true
@@ -162,12 +164,18 @@ module _ (slots : Slots) (free_bit free_word : ℕ) (target name : List ℕ) (ar
   owner_row n q (inl (inr o)) = inr (inr o)
   owner_row n q (inr o) = inl (name, u, o.0, among_other, near, o.1, o.2)
 
+  -- none of the rooms stands in cells
+  pub have_rows : HaveRows (rooms_for op.Divmod (rows_on t (Some u) ss free_bit free_word))
+  have_rows = rooms_row row (rooms_for op.Divmod (rows_on t (Some u) ss free_bit free_word))
+      (λ q o. owner_row 1 q (lowers.owned 1 q o))
+      (statement_rows slots free_bit free_word (Compute target (Some name) op.Divmod args) placed 1)
+
   form : HasForm row (steps_for op.Divmod (rows_on t (Some u) ss free_bit free_word))
   form = marks_are_enough row (rooms_for op.Divmod (rows_on t (Some u) ss free_bit free_word))
       (nested op.Divmod) (λ n some most. lowers.apart n (all_apart n))
       (λ n some most q o. owner_row n q (lowers.owned n q o))
       (statement_rows slots free_bit free_word (Compute target (Some name) op.Divmod args) placed)
-      lowers.fit lowers.short
+      lowers.fit lowers.short (states op.Divmod refl)
 
   abbrev steps : List (StepOf Block)
   steps = steps_for op.Divmod (rows_on t (Some u) ss free_bit free_word)
@@ -218,7 +226,7 @@ module _ (slots : Slots) (free_bit free_word : ℕ) (target name : List ℕ) (ar
               (subst (λ (z : Option Slot). HoldsAt n z (after name) new) (sym near)
               (held_other n held rows h))
         ]);
-    keeps = λ rows q out. (does_both n rows).keeps q
+    keeps = λ rows q row out. (does_both n rows).keeps q row
         (λ v lv e. out (inl (
           target,
           t,
@@ -248,7 +256,9 @@ module _ (slots : Slots) (free_bit free_word : ℕ) (target name : List ℕ) (ar
   module _ (others : List (StepOf Block)) (built : StepsBuilt others steps) where
     pub both_few : (n : ℕ) → rounds_cost (all_rounds n others) ≤ nested_total op.Divmod n
     both_few n = let e = ap (λ ss. rounds_cost (all_rounds n ss)) built.same in
-        let b = lowers.total n in omega (arith, e, b)
+        let b = total op.Divmod refl
+        (rooms_for op.Divmod (rows_on t (Some u) ss free_bit free_word)) have_rows n in
+        omega (arith, e, b)
 
     pub both_lowered : IsLowered slots free_bit free_word
         (Compute target (Some name) op.Divmod args) others
@@ -259,10 +269,17 @@ module _ (slots : Slots) (free_bit free_word : ℕ) (target name : List ℕ) (ar
           well = c.0;
           can = c.1;
           does = λ n some most. does n;
-          cheap = λ n some most. (let a = lowers.total n in let b = lowers.cheap n in
-              let w = ap (op_ceiling op.Divmod) (named_width n slots args ss at) in
+          cheap = λ n some most.
+              (let a = total op.Divmod refl
+              (rooms_for op.Divmod (rows_on t (Some u) ss free_bit free_word)) have_rows n in
+              let b = cheap op.Divmod refl n in
+              let w = ap (op_ceiling op.Divmod)
+              (named_width n slots args ss at ∙ lowers.wide n) in
               omega (arith, a, b, w));
-          plain = λ n some most. (let b = lowers.plain n in
-              let w = ap (op_plain_ceiling op.Divmod) (named_width n slots args ss at) in
+          plain = λ n some most.
+              (let b = plain op.Divmod refl
+              (rooms_for op.Divmod (rows_on t (Some u) ss free_bit free_word)) have_rows n in
+              let w = ap (op_plain_ceiling op.Divmod)
+              (named_width n slots args ss at ∙ lowers.wide n) in
               omega (arith, b, w));
         }

@@ -26,7 +26,8 @@ use Rattle.loop_ir.specs.Lowered.{slot_bits, HoldsAt, Holds, IsStatementRow, Doe
 use Rattle.loop_ir.specs.Lowered.{op_plain_ceiling}
 use Rattle.loop_laws.specs.Rooms.{IsOwned}
 use Rattle.loop_laws.specs.Forms.{HasForm, IsMade}
-use Rattle.loop_laws.proofs.EveryRound.{marks_are_enough}
+use Rattle.loop_laws.proofs.Alike.{HaveRows}
+use Rattle.loop_laws.proofs.EveryRound.{rooms_row, marks_are_enough}
 use Rattle.loop_laws.proofs.Compile.{made_compile}
 use Rattle.word_lower.specs.Places.{rooms_of, scratch_from, AreAt}
 use Rattle.word_lower.proofs.Pieces.{slot, slot_at}
@@ -40,6 +41,7 @@ use Rattle.word_mul.specs.Places.{rooms_for, steps_for, rows_on}
 use Rattle.word_mul.specs.Programs.{nested, is_nested, nested_total}
 use Rattle.word_mul.specs.Bodies.{StepsBuilt}
 use Rattle.word_mul.proofs.Clear.{WordsClear, word_clear}
+use Rattle.word_mul.proofs.Totals.{states, total, cheap, plain}
 use Rattle.word_mul.proofs.Nested.{DoesOp, Lowers, on_mul, on_div, on_rem, on_bitcount}
 
 -- where the arguments are words
@@ -198,13 +200,19 @@ module _ (slots : Slots) (free_bit free_word : ℕ) (target : List ℕ) (p : Wor
       q o
   owner_row n q (inr o) = inr (inr o)
 
+  -- none of the rooms stands in cells
+  pub have_rows : HaveRows (rooms_for p (rows_on t None ss free_bit free_word))
+  have_rows = rooms_row row (rooms_for p (rows_on t None ss free_bit free_word))
+      (λ q o. owner_row 1 q (lowers.owned 1 q o))
+      (statement_rows slots free_bit free_word (Compute target None p args) placed 1)
+
   form : HasForm row (steps_for p (rows_on t None ss free_bit free_word))
   form = marks_are_enough row (rooms_for p (rows_on t None ss free_bit free_word)) (nested p)
       (λ n some most. lowers.apart n some (pieces slots free_bit free_word target None p args meets
       placed t found ss at n) (cleared n))
       (λ n some most q o. owner_row n q (lowers.owned n q o))
       (statement_rows slots free_bit free_word (Compute target None p args) placed) lowers.fit
-      lowers.short
+      lowers.short (states p is)
 
   abbrev steps : List (StepOf Block)
   steps = steps_for p (rows_on t None ss free_bit free_word)
@@ -230,7 +238,7 @@ module _ (slots : Slots) (free_bit free_word : ℕ) (target : List ℕ) (p : Wor
         x) same
         (subst (λ (x : Option Slot). HoldsAt n x
         (after_statement n held (Compute target None p args) target) new) (sym found) one));
-    keeps = λ rows q out. (does_op n some rows).keeps q
+    keeps = λ rows q row out. (does_op n some rows).keeps q row
         (λ v lv e.
         out (inl (
           target,
@@ -254,7 +262,8 @@ module _ (slots : Slots) (free_bit free_word : ℕ) (target : List ℕ) (p : Wor
   module _ (others : List (StepOf Block)) (built : StepsBuilt others steps) where
     pub few : (n : ℕ) → rounds_cost (all_rounds n others) ≤ nested_total p n
     few n = let e = ap (λ ss. rounds_cost (all_rounds n ss)) built.same in
-        let b = lowers.total n in omega (arith, e, b)
+        let b = total p is (rooms_for p (rows_on t None ss free_bit free_word)) have_rows n in
+        omega (arith, e, b)
 
     pub lowered : IsLowered slots free_bit free_word (Compute target None p args) others
     lowered =
@@ -264,9 +273,16 @@ module _ (slots : Slots) (free_bit free_word : ℕ) (target : List ℕ) (p : Wor
           well = c.0;
           can = c.1;
           does = λ n some most. does n some;
-          cheap = λ n some most. (let a = lowers.total n in let b = lowers.cheap n in
-              let w = ap (op_ceiling p) (named_width n slots args ss at) in omega (arith, a, b, w));
-          plain = λ n some most. (let b = lowers.plain n in
-              let w = ap (op_plain_ceiling p) (named_width n slots args ss at) in
+          cheap = λ n some most.
+              (let a = total p is (rooms_for p (rows_on t None ss free_bit free_word)) have_rows n
+              in
+              let b = cheap p is n in
+              let w = ap (op_ceiling p) (named_width n slots args ss at ∙ lowers.wide n) in
+              omega (arith, a, b, w));
+          plain = λ n some most.
+              (let b = plain p is (rooms_for p (rows_on t None ss free_bit free_word)) have_rows n
+              in
+              let w = ap (op_plain_ceiling p)
+              (named_width n slots args ss at ∙ lowers.wide n) in
               omega (arith, b, w));
         }

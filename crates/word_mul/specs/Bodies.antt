@@ -5,35 +5,40 @@ use Rattle.loop_ir.specs.declared.names.Slot.{Slot}
 use Rattle.loop_ir.specs.Plain.{Block, InnerOf, StepOf, AllParts, inner_map, step_map}
 use Rattle.loop_laws.specs.Forms.{IsMade}
 use Rattle.loop_laws.specs.Rooms as rooms
-use Rattle.loop_laws.specs.Rooms.{Marked}
-use Rattle.word_lower.specs.Places.{scratch_bit}
+use Rattle.loop_laws.specs.Rooms.{Marked, InRoom, InCells}
+use Rattle.word_lower.specs.Places.{scratch_bit, cells}
 use Rattle.word_mul.specs.declared.rows.Rows.{Rows}
 use Rattle.word_mul.specs.declared.shapes.Mark.{Mark}
 use Rattle.word_mul.specs.declared.shapes.Owners.{Owners}
 use Rattle.word_mul.specs.Places.{scratch_word}
 use Rattle.word_mul.specs.Programs.{mark_of}
 
--- the places of a statement's names and of its internal scratch, of which the second bit is this
-abbrev pub owners_of : Rows → Slot → Owners
-owners_of m second_bit = record {
+-- the places of a statement's names and of its internal scratch
+abbrev pub owners_of : Rows → Owners
+owners_of m = record {
   target = m.target;
   first = m.a;
   second = m.b;
-  first_bit = scratch_bit m.free_bit;
-  second_bit = second_bit;
+  bit = scratch_bit m.free_bit;
   words = scratch_word m.free_word;
   second_target = m.second;
 }
 
--- whose rows an owner's number stands for
-abbrev pub owner_at : Owners → ℕ → Slot
-owner_at o zero = o.target
-owner_at o (suc zero) = o.first
-owner_at o (suc (suc zero)) = o.second
-owner_at o (suc (suc (suc zero))) = o.first_bit
-owner_at o (suc (suc (suc (suc zero)))) = o.second_bit
-owner_at o (suc (suc (suc (suc (suc zero))))) = o.words
-owner_at o (suc (suc (suc (suc (suc (suc k)))))) = o.second_target
+-- whose rows an owner's number stands for: none of the table has the number 4, which is the second
+-- bit of scratch of a division
+abbrev pub rows_at : Owners → ℕ → Slot
+rows_at o zero = o.target
+rows_at o (suc zero) = o.first
+rows_at o (suc (suc zero)) = o.second
+rows_at o (suc (suc (suc zero))) = o.bit
+rows_at o (suc (suc (suc (suc zero)))) = o.bit
+rows_at o (suc (suc (suc (suc (suc zero))))) = o.words
+rows_at o (suc (suc (suc (suc (suc (suc k)))))) = o.second_target
+
+-- an owner's rows, or the cells of a state
+abbrev pub owner_at : Owners → rooms.Owner → Slot
+owner_at o (InRoom k) = rows_at o k
+owner_at o (InCells layout) = cells layout
 
 -- the place that an owner's place is, where the owners have these rows
 abbrev pub place_on : Owners → rooms.Mark → Place
@@ -43,7 +48,7 @@ place_on o m = let s = owner_at o m.owner in record {
   sub = m.sub;
 }
 
--- places of the table, by the numbers of their owners
+-- places of the table, by their owners
 abbrev pub marks : List Mark → List rooms.Mark
 marks ms = map mark_of ms
 

@@ -1,5 +1,5 @@
 -- The loop programs of the word operations that take a pass over a word for each position.
-use Rattle.std.specs.Prelude.{ℕ, ◌+◌, ◌*◌, ◌^◌, ◌==◌, Bool, true, false, if◌then◌else◌}
+use Rattle.std.specs.Prelude.{ℕ, ◌+◌, ◌*◌, ◌/◌, ◌^◌, ◌==◌, Bool, true, false, if◌then◌else◌}
 use Rattle.std.specs.Prelude.{List, [], ◌∷◌, ◌++◌, Option, Some, None}
 use Rattle.mig_graph.specs.declared.Node.{Node}
 use Rattle.mig_graph.specs.Literals.{node_of}
@@ -10,12 +10,13 @@ use Rattle.op_text.specs.Language.{Statement, Compute, Visit}
 use Rattle.loop_ir.specs.Plain.{InnerOf, StepOf}
 use Rattle.loop_ir.specs.Plain.InnerOf.{Alone, Across}
 use Rattle.loop_ir.specs.Plain.StepOf.{Along, Nest}
-use Rattle.loop_laws.specs.Rooms.{Mark, Marked}
-use Rattle.word_lower.specs.Programs.{on, plain, complemented, off, up, template, constant, moved}
+use Rattle.loop_laws.specs.Rooms as rooms
+use Rattle.loop_laws.specs.Rooms.{Mark, Marked, InRoom, InCells}
+use Rattle.word_lower.specs.Programs.{plain, complemented, off, up, template, constant, moved}
 use Rattle.word_lower.specs.Programs.{inverted, joined, compared}
 use Rattle.word_mul.specs.declared.shapes.Owner.{Owner}
-use Rattle.word_mul.specs.declared.shapes.Owner.TheVariants.{Target, First, Second, FirstBit}
-use Rattle.word_mul.specs.declared.shapes.Owner.TheVariants.{SecondBit, Words, SecondTarget}
+use Rattle.word_mul.specs.declared.shapes.Owner.TheVariants.{Target, First, Second, ScratchBit}
+use Rattle.word_mul.specs.declared.shapes.Owner.TheVariants.{Words, SecondTarget, Cells}
 use Rattle.word_mul.specs.declared.shapes.Mark as code
 use Rattle.word_mul.specs.declared.shapes.BodyForm.{BodyForm}
 use Rattle.word_mul.specs.declared.shapes.BodyForm.TheVariants.{Off, On, Moved, Inverted, Either}
@@ -26,16 +27,16 @@ use Rattle.word_mul.specs.declared.shapes.NestPart.TheVariants.{Once, Each}
 use Rattle.word_mul.specs.declared.shapes.NestedProgram.{NestedProgram}
 use Rattle.word_mul.specs.declared.table.TheConstants.{NESTED}
 
--- y, the bit of a product and a carry, into y
+-- y, a where b is not set, and a carry, into y
 abbrev pub multiplied_nodes : List Node
-multiplied_nodes = node_of off (plain 2) (plain 3) ∷ node_of (complemented 1) (plain 4) (plain 5)
-    ∷ node_of (plain 4) (plain 5) (complemented 6) ∷ node_of (plain 1) (plain 6) (complemented 7)
+multiplied_nodes = node_of up (complemented 2) (plain 3) ∷ node_of (plain 1) (plain 4) (plain 5)
+    ∷ node_of (plain 1) (plain 4) (complemented 6) ∷ node_of (plain 5) (complemented 6) (plain 7)
     ∷ []
 
 -- one position of a product: the partial product is added to y
 abbrev pub multiplied : Mark → Mark → Mark → Mark → Marked
-multiplied y a b c = template (y ∷ a ∷ b ∷ c ∷ []) multiplied_nodes (plain 8 ∷ plain 7 ∷ []) (y ∷ c
-    ∷ [])
+multiplied y a b c = template (y ∷ a ∷ b ∷ c ∷ []) multiplied_nodes
+    (complemented 8 ∷ plain 7 ∷ []) (y ∷ c ∷ [])
 
 -- y and a carry, into y; the carry is held inverted
 abbrev pub counted_nodes : List Node
@@ -48,28 +49,29 @@ counted y c = template (y ∷ c ∷ []) counted_nodes (plain 5 ∷ plain 3 ∷ [
 
 -- w less y where g is set, with a borrow, into w
 abbrev pub divided_nodes : List Node
-divided_nodes = node_of off (plain 2) (plain 3) ∷ node_of (complemented 1) (plain 4) (plain 5)
-    ∷ node_of (plain 1) (plain 4) (complemented 5) ∷ node_of (complemented 4) (plain 6) (plain 7)
+divided_nodes = node_of off (plain 2) (plain 3) ∷ node_of (plain 1) (complemented 4) (plain 5)
+    ∷ node_of (complemented 1) (plain 4) (plain 6) ∷ node_of (complemented 5) (plain 6) (plain 7)
     ∷ []
 
 -- one position of a division: the divisor is taken from the window where it fits
 abbrev pub divided : Mark → Mark → Mark → Mark → Marked
-divided w y g c = template (w ∷ y ∷ g ∷ c ∷ []) divided_nodes (plain 8 ∷ plain 6 ∷ []) (w ∷ c ∷ [])
+divided w y g c = template (w ∷ y ∷ g ∷ c ∷ []) divided_nodes (plain 8 ∷ plain 7 ∷ []) (w ∷ c ∷ [])
 
 -- Whose rows a place of the table has, by its number: the target's, then the arguments', then those
--- of the bits of scratch, then of its words, then a second target's
-abbrev pub number_of : Owner → ℕ
-number_of Target = 0
-number_of First = 1
-number_of Second = 2
-number_of FirstBit = 3
-number_of SecondBit = 4
-number_of Words = 5
-number_of SecondTarget = 6
+-- of the bits of scratch, of which a division has two and uses the first, then of its words, then a
+-- second target's; or the layout of a state
+abbrev pub owner_of : Owner → rooms.Owner
+owner_of Target = InRoom 0
+owner_of First = InRoom 1
+owner_of Second = InRoom 2
+owner_of ScratchBit = InRoom 3
+owner_of Words = InRoom 5
+owner_of SecondTarget = InRoom 6
+owner_of (Cells layout) = InCells layout
 
--- a place of the table, by the number of its owner
+-- a place of the table, by its owner
 abbrev pub mark_of : code.Mark → Mark
-mark_of m = on (number_of m.owner) m.sub
+mark_of m = record { owner = owner_of m.owner; sub = m.sub }
 
 -- the body that a form of the table stands for
 abbrev pub form_body : BodyForm → Marked
@@ -78,7 +80,7 @@ form_body (On z) = constant up (mark_of z)
 form_body (Moved x z) = moved (mark_of x) (mark_of z)
 form_body (Inverted x z) = inverted (mark_of x) (mark_of z)
 form_body (Either x y z) = joined up (mark_of x) (mark_of y) (mark_of z)
-form_body (Compared x y g) = compared (mark_of x) (mark_of y) (mark_of g)
+form_body (Compared x y g z) = compared (mark_of x) (mark_of y) (mark_of g) (mark_of z)
 form_body (Multiplied y a b c) = multiplied (mark_of y) (mark_of a) (mark_of b) (mark_of c)
 form_body (Counted y c) = counted (mark_of y) (mark_of c)
 form_body (Divided w y g c) = divided (mark_of w) (mark_of y) (mark_of g) (mark_of c)
@@ -134,11 +136,11 @@ is_nested_statement (Visit block) = false
 
 -- the commands of its loop program at width n
 abbrev pub nested_total : WordOp → ℕ → ℕ
-nested_total o.Mul n = 11 * n ^ 2 + 13 * n
-nested_total o.Div n = 29 * n ^ 2 + 9 * n
-nested_total o.Rem n = 29 * n ^ 2 + 9 * n
+nested_total o.Mul n = 9 * (n * (n + 1) / 2) + 4 * n
+nested_total o.Div n = 12 * n ^ 2 + 9 * n
+nested_total o.Rem n = 12 * n ^ 2 + 9 * n
 nested_total o.Bitcount n = 18 * n ^ 2 + 3 * n
-nested_total o.Divmod n = 29 * n ^ 2 + 10 * n
+nested_total o.Divmod n = 12 * n ^ 2 + 10 * n
 nested_total p n = 0
 
 -- the commands of such a statement at width n

@@ -8,14 +8,16 @@ ghost use Rattle.word_lower.specs.Shapes.{are_own, are_below};
 ghost use Rattle.word_mul.specs.Programs.{mark_of, form_body};
 ghost use Rattle.word_mul.specs.Bodies.{marks, place_on, body_on};
 
+use crate::rows::cells;
 use crate::shapes::{BodyForm, Mark, Owner, Owners};
-use crate::templates::{COMPARED, COUNTED, DIVIDED, EITHER, MULTIPLIED};
+use crate::templates::{COUNTED, DIVIDED, MULTIPLIED};
 use faults::keep;
 use loop_ir::{Body, Place};
 use mig_graph::{Lit, NoMemory, Node};
 use std::alloc::Global;
-use word_lower::literals::{N1, OFF, ON, P1, P3, P4, P5, P6, P7, P8};
+use word_lower::literals::{N1, N8, OFF, ON, P1, P3, P4, P5, P7, P8};
 use word_lower::made;
+use word_lower::templates::{COMPARED, EITHER};
 
 /// The place of a mark.
 fn place(mark: Mark, owners: Owners) -> Place
@@ -25,10 +27,10 @@ fn place(mark: Mark, owners: Owners) -> Place
         Owner::Target => owners.target,
         Owner::First => owners.first,
         Owner::Second => owners.second,
-        Owner::FirstBit => owners.first_bit,
-        Owner::SecondBit => owners.second_bit,
+        Owner::ScratchBit => owners.bit,
         Owner::Words => owners.words,
         Owner::SecondTarget => owners.second_target,
+        Owner::Cells(layout) => cells(layout),
     };
     Place {
         space: slot.space,
@@ -85,11 +87,18 @@ pub fn body(form: BodyForm, owners: Owners, alloc: Global) -> Result<Body, NoMem
         BodyForm::Moved(x, z) => templated(&[x], &[], &[P1], &[z], o, a),
         BodyForm::Inverted(x, z) => templated(&[x], &[], &[N1], &[z], o, a),
         BodyForm::Either(x, y, z) => templated(&[x, y], &EITHER, &[P3], &[z], o, a),
-        BodyForm::Compared(x, y, g) => templated(&[x, y, g], &COMPARED, &[P4], &[g], o, a),
+        BodyForm::Compared(x, y, g, z) => templated(
+            &[x, y, g],
+            &COMPARED,
+            &[P4, P4],
+            &[z, g],
+            o,
+            a,
+        ),
         BodyForm::Multiplied(y, x, g, c) => templated(
             &[y, x, g, c],
             &MULTIPLIED,
-            &[P8, P7],
+            &[N8, P7],
             &[y, c],
             o,
             a,
@@ -98,7 +107,7 @@ pub fn body(form: BodyForm, owners: Owners, alloc: Global) -> Result<Body, NoMem
         BodyForm::Divided(w, y, g, c) => templated(
             &[w, y, g, c],
             &DIVIDED,
-            &[P8, P6],
+            &[P8, P7],
             &[w, c],
             o,
             a,

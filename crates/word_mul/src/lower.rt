@@ -4,7 +4,6 @@ ghost use Rattle.std.specs.Prelude.{◌≡◌, ◌≤◌, ◌<◌, ◌+◌, ℕ,
 ghost use Rattle.std.specs.Prelude.{unwrap_or};
 ghost use Rattle.std.specs.Option.{option_to_list};
 ghost use Rattle.op_text.specs.Language.{statement};
-ghost use Rattle.op_text.specs.Scratch.{bits_inside};
 ghost use Rattle.loop_ir.specs.declared.names.Slot.{Slot};
 ghost use Rattle.loop_ir.specs.Plain.{steps_of};
 ghost use Rattle.loop_ir.specs.Loops.{all_rounds};
@@ -71,7 +70,6 @@ fn rows(names: &NameMap, target: &Name, second: &Option<Name>, args: &[Name]) ->
 /// The loop program of an operation.
 pub fn program(op: WordOp, m: Rows, alloc: Global) -> Result<LoopProgram, NoMemory>
     requires nested { is_nested op ≡ true }
-    requires bits { m.free_bit + bits_inside op ≤ 256 }
     ensures { IfOk result (λ p. StepsBuilt (steps_of p) (steps_for op m)) }
 {
     match program_of(op) {

@@ -1,7 +1,7 @@
 //! Where a statement's rows lie.
 
-ghost use Rattle.std.specs.Prelude.{◌≡◌, ◌+◌, ◌<◌};
-ghost use Rattle.word_lower.specs.Places.{scratch_bit};
+ghost use Rattle.std.specs.Prelude.{◌≡◌};
+ghost use Rattle.word_lower.specs.Places.{scratch_bit, cells};
 ghost use Rattle.word_mul.specs.Places.{scratch_word};
 ghost use Rattle.word_mul.specs.Bodies.{owners_of};
 
@@ -43,24 +43,26 @@ fn words(which: u8) -> Slot
     }
 }
 
-/// The bit of scratch after this one, where a byte numbers it.
-fn bit_after(which: u8) -> Slot
-    ensures { which < 255 → result ≡ scratch_bit (which + 1) }
+/// The cells of a layout, in which a state stands.
+pub fn cells(layout: u8) -> Slot
+    ensures { result ≡ cells layout }
 {
-    bit(which.saturating_add(1))
+    Slot {
+        space: Space::Cells,
+        which: layout,
+        kind: Kind::Bit,
+    }
 }
 
 /// The places of the owners.
 pub fn owners(m: Rows) -> Owners
-    ensures places { result ≡ owners_of m result.second_bit }
-    ensures second { m.free_bit < 255 → result.second_bit ≡ scratch_bit (m.free_bit + 1) }
+    ensures { result ≡ owners_of m }
 {
     Owners {
         target: m.target,
         first: m.a,
         second: m.b,
-        first_bit: bit(m.free_bit),
-        second_bit: bit_after(m.free_bit),
+        bit: bit(m.free_bit),
         words: words(m.free_word),
         second_target: m.second,
     }

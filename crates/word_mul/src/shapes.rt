@@ -4,16 +4,16 @@
 use loop_ir::{Count, Slot, Sub};
 
 /// Whose rows a place has: the target's, an argument's, those of a bit of internal scratch or of
-/// its words, or the second target's.
+/// its words, or the second target's. A state in the cells of a layout has none.
 #[derive(Clone, Copy)]
 pub enum Owner {
     Target,
     First,
     Second,
-    FirstBit,
-    SecondBit,
+    ScratchBit,
     Words,
     SecondTarget,
+    Cells(u8),
 }
 
 /// A place by its owner.
@@ -29,13 +29,12 @@ pub struct Owners {
     pub target: Slot,
     pub first: Slot,
     pub second: Slot,
-    pub first_bit: Slot,
-    pub second_bit: Slot,
+    pub bit: Slot,
     pub words: Slot,
     pub second_target: Slot,
 }
 
-/// What a body computes: from what it reads, into the row that is named last, or into the first
+/// What a body computes: from what it reads, into the place that is named last, or into the first
 /// and the last where it has a carry or a borrow.
 #[derive(Clone, Copy)]
 pub enum BodyForm {
@@ -44,9 +43,10 @@ pub enum BodyForm {
     Moved(Mark, Mark),
     Inverted(Mark, Mark),
     Either(Mark, Mark, Mark),
-    /// A state is whether what was read of one row is over what was read of another.
-    Compared(Mark, Mark, Mark),
-    /// The bit of a product is added, with a carry.
+    /// A state is whether what was read of one row is over what was read of another; a row gets it
+    /// too.
+    Compared(Mark, Mark, Mark, Mark),
+    /// A row is added where a state is not set, with a carry.
     Multiplied(Mark, Mark, Mark, Mark),
     /// A carry is added, which is held inverted.
     Counted(Mark, Mark),

@@ -46,19 +46,31 @@ const Y_OUTER: Mark = Mark {
     owner: Owner::Second,
     sub: Sub::Outer,
 };
-// a carry; and of a division, whether the divisor is taken away, and the borrow
-const CARRY: Mark = Mark {
-    owner: Owner::FirstBit,
+// the complement of a bit of the argument, or one that a count adds; and of a division, whether the
+// divisor is taken away
+const BIT: Mark = Mark {
+    owner: Owner::ScratchBit,
     sub: Sub::Zero,
 };
 
 const FITS: Mark = Mark {
-    owner: Owner::FirstBit,
+    owner: Owner::ScratchBit,
+    sub: Sub::Zero,
+};
+// states in cells: a carry, whose complement stands in T3 and DCC1; a comparison, in T0; and a
+// borrow, in T3 and DCC1
+const CARRY: Mark = Mark {
+    owner: Owner::Cells(5),
+    sub: Sub::Zero,
+};
+
+const OVER: Mark = Mark {
+    owner: Owner::Cells(0),
     sub: Sub::Zero,
 };
 
 const BORROW: Mark = Mark {
-    owner: Owner::SecondBit,
+    owner: Owner::Cells(4),
     sub: Sub::Zero,
 };
 // the dividend and what is left of it, the zeros above it, and of the window at the outer position
@@ -91,8 +103,8 @@ const LEFT: Mark = Mark {
 /// One step of a long division: the divisor is compared with the window, and taken from it where it
 /// is not greater.
 pub const DIVISION: [Option<NestPart>; 5] = [
-    Some(Once(On(FITS))),
-    Some(Each(Count::All, Compared(WINDOW, Y, FITS))),
+    Some(Once(On(OVER))),
+    Some(Each(Count::All, Compared(WINDOW, Y, OVER, FITS))),
     Some(Once(Either(TOP, FITS, FITS))),
     Some(Once(Off(BORROW))),
     Some(Each(Count::All, Divided(WINDOW, Y, FITS, BORROW))),
@@ -107,9 +119,9 @@ pub static NESTED: [(WordOp, NestedProgram); 5] = [
             first: Off(Z),
             second: None,
             parts: [
+                Some(Once(Inverted(Y_OUTER, BIT))),
                 Some(Once(Off(CARRY))),
-                Some(Each(Count::Rest, Multiplied(Z_SUM, X, Y_OUTER, CARRY))),
-                None,
+                Some(Each(Count::Rest, Multiplied(Z_SUM, X, BIT, CARRY))),
                 None,
                 None,
             ],
@@ -146,8 +158,8 @@ pub static NESTED: [(WordOp, NestedProgram); 5] = [
             first: Off(Z),
             second: None,
             parts: [
-                Some(Once(Inverted(X_OUTER, CARRY))),
-                Some(Each(Count::All, Counted(Z, CARRY))),
+                Some(Once(Inverted(X_OUTER, BIT))),
+                Some(Each(Count::All, Counted(Z, BIT))),
                 None,
                 None,
                 None,

@@ -1,40 +1,28 @@
 //! The nodes of the bodies, over the constant, the inputs and lower nodes.
 
 use mig_graph::Node;
-use word_lower::literals::{N1, N2, N4, N5, N6, N7, OFF, ON, P1, P2, P3, P4, P5, P6, P7};
-
-pub const EITHER: [Node; 1] = [Node {
-    a: ON,
-    b: P1,
-    c: P2,
-}];
-
-pub const COMPARED: [Node; 1] = [Node {
-    a: P1,
-    b: N2,
-    c: P3,
-}];
+use word_lower::literals::{N1, N2, N4, N5, N6, OFF, ON, P1, P2, P3, P4, P5, P6, P7};
 
 pub const MULTIPLIED: [Node; 4] = [
     Node {
-        a: OFF,
-        b: P2,
+        a: ON,
+        b: N2,
         c: P3,
     },
     Node {
-        a: N1,
+        a: P1,
         b: P4,
         c: P5,
     },
     Node {
-        a: P4,
-        b: P5,
+        a: P1,
+        b: P4,
         c: N6,
     },
     Node {
-        a: P1,
-        b: P6,
-        c: N7,
+        a: P5,
+        b: N6,
+        c: P7,
     },
 ];
 
@@ -63,17 +51,17 @@ pub const DIVIDED: [Node; 4] = [
         c: P3,
     },
     Node {
-        a: N1,
-        b: P4,
+        a: P1,
+        b: N4,
         c: P5,
     },
     Node {
-        a: P1,
+        a: N1,
         b: P4,
-        c: N5,
+        c: P6,
     },
     Node {
-        a: N4,
+        a: N5,
         b: P6,
         c: P7,
     },

@@ -1,5 +1,5 @@
 -- Bodies with states are of the table, and their sequences serve them.
-use Rattle.std.proofs.Common.{◌≡◌, ◌≢◌, ℕ, zero, suc, ◌+◌, ◌<◌, ◌≤◌, Bool, true, false, cond, not}
+use Rattle.std.proofs.Common.{◌≡◌, ℕ, suc, ◌<◌, ◌≤◌, Bool, true, false, cond, not}
 use Rattle.std.proofs.Common.{List, [], ◌∷◌, map, length, refl, sym, ap, ◌∙◌, subst, arith}
 use Rattle.std.proofs.Common.{Option, Some, None}
 use Rattle.std.specs.Prelude.{◌==◌, ◌&&◌}
@@ -19,7 +19,7 @@ use Rattle.loop_ir.specs.declared.ir.Place.{Place}
 use Rattle.loop_ir.specs.Plain.{Block}
 use Rattle.loop_ir.specs.Spots.{nth_place, is_state}
 use Rattle.loop_ir.specs.Same.{same_lit, same_lits, same_nodes}
-use Rattle.loop_ir.specs.States.{has_states, row_count, RowsFirst, StatesFit, enters, leaves}
+use Rattle.loop_ir.specs.States.{has_states, row_count, RowsFirst, enters, leaves}
 use Rattle.loop_ir.specs.States.{row_outs, same_held, same_helds, is_held_body, held_among, held_of}
 use Rattle.loop_ir.specs.States.{held_bodies}
 use Rattle.loop_ir.specs.Costs.{same_sub, turn_cost, held_cost}

@@ -268,7 +268,7 @@ pub is_part : (b : Block) (plan : Plan) (outs : List OutRow) (cmds : List BodyCm
 is_part b plan outs cmds small none e is does few one least copy word =
     let rows = have_rows b none in
     let all : IsOuts b (length b.outs) outs = subst (λ m. IsOuts b m outs)
-        (all_count b.writes rows.1 ∙ sym small.states.written) is in
+    (all_count b.writes rows.1 ∙ sym small.states.written) is in
     record {
       well = small.well;
       graph = small.graph;

@@ -1,32 +1,25 @@
 -- The commands of an operation whose statements are all word operations.
 use Rattle.std.proofs.Common.{◌≡◌, ℕ, ◌+◌, ◌<◌, Bool, true, false, List, [], ◌∷◌, ◌++◌}
-use Rattle.std.proofs.Common.{zero, suc, length, cond, Option, Some, None, refl, sym, ap, ◌∙◌}
-use Rattle.std.proofs.Common.{subst}
-use Rattle.std.specs.Prelude.{nat_lt, unwrap_or}
-use Rattle.std.specs.List.{list_all, AllByRecursion}
-use Rattle.std.specs.Option.{option_to_list}
+use Rattle.std.proofs.Common.{not, cond, Option, Some, refl, sym, ap, ◌∙◌}
+use Rattle.std.specs.List.{list_all}
 use Rattle.op_text.specs.declared.tree.Kind.{Kind}
 use Rattle.op_text.specs.declared.word_ops.WordOp.{WordOp}
-use Rattle.op_text.specs.WordOps.{second_kind}
+use Rattle.op_text.specs.declared.word_ops.WordOp.TheVariants as op
 use Rattle.op_text.specs.Language.{Statement, Compute, Visit, Operation}
 use Rattle.op_text.specs.Meaning.{width}
 use Rattle.op_text.specs.Scratch.{names_width}
 use Rattle.op_text.specs.Costs.{op_aaps, op_aps}
 use Rattle.op_text.specs.declared.tree.Param.{Param}
 use Rattle.op_rules.specs.Meets.{Context, following, OperationMeets}
-use Rattle.loop_ir.specs.declared.names.Slot.{Slot}
 use Rattle.loop_ir.specs.Plain.{Block, StepOf, AllParts}
 use Rattle.loop_ir.specs.Loops.{all_rounds}
-use Rattle.loop_ir.specs.Statements.{Slots, IsPlaced, ComputeMeets, HaveKinds, SecondMeets}
+use Rattle.loop_ir.specs.Statements.{Slots, IsPlaced, ComputeMeets, HaveKinds}
 use Rattle.loop_ir.specs.Lowered.{kind_at, args_width}
-use Rattle.word_lower.specs.declared.shapes.Owners.{Owners}
-use Rattle.word_lower.specs.Places.{AreAt}
-use Rattle.word_lower.specs.Shapes.{owners_of, following}
-use Rattle.word_lower.proofs.Statements.{Places, places_of}
-use Rattle.word_mul.specs.Programs.{is_nested}
-use Rattle.word_mul.specs.declared.rows.Rows.{Rows}
-use Rattle.word_mul.specs.Places.{rows_on}
-use Rattle.word_mul.proofs.Statements.{SecondPlace, second_place}
+use Rattle.loop_laws.proofs.Alike.{InRooms}
+use Rattle.word_lower.specs.Programs.{program, is_linear}
+use Rattle.word_lower.proofs.Statements.{written_in_rooms}
+use Rattle.word_mul.specs.Programs.{is_nested, nested}
+use Rattle.word_mul.proofs.Statements.{nest_in_rooms}
 use Rattle.uprog_gen.specs.Does.{joined}
 use Rattle.uprog_gen.specs.Layout.{IsLayout}
 use Rattle.uprog_gen.specs.Programs.{IsAsWritten, AreWritten}
@@ -38,19 +31,7 @@ use Rattle.uprog_gen.proofs.Naming.Stage.{Stage, next_stage}
 use Rattle.uprog_gen.proofs.Meaning.Meant.{args_same}
 use Rattle.uprog_gen.proofs.Naming.Ready.{statement_meets, is_placed}
 use Rattle.loop_laws.proofs.Summed.{rounds_sum, sum_append}
-use Rattle.uprog_gen.proofs.Meaning.Walked.{no_state}
-use Rattle.uprog_gen.proofs.Costs.Exact.{IsRow, AreRows, Written, written_nested}
-use Rattle.uprog_gen.proofs.Costs.Exact.{written_linear, is_settled, aaps_are, aps_are, op_width}
-use Rattle.uprog_gen.proofs.Costs.Exact.{first_width, width_is}
-
--- what is known of a statement's program
-pub record IsExactly (p : WordOp) (w : ℕ → ℕ) (steps : List (StepOf Block)) : Type 0 where
-  pub settled : AllParts IsSettled steps
-  pub aaps : (n : ℕ) → 0 < n → rounds_sum turn_aaps (all_rounds n steps) ≡ op_aaps p (w n)
-  pub aps : (n : ℕ) → 0 < n → rounds_sum turn_aps (all_rounds n steps) ≡ op_aps p (w n)
-
-some_slot : (a b : Slot) → Some a ≡ Some b → a ≡ b
-some_slot a b e = cc
+use Rattle.uprog_gen.proofs.Costs.Exact.{IsExactly, is_exactly, op_width, first_width, width_is}
 
 have_first : (slots : Slots) (n : ℕ) (args : List (List ℕ)) (ks : List Kind)
     → HaveKinds slots args ks → args_width slots n args ≡ first_width n ks
@@ -60,88 +41,27 @@ have_first slots n (a ∷ args) [] h = absurd h
 have_first slots n (a ∷ args) (k ∷ ks) h = ap (λ o. width n (kind_at o)) h.0.found
     ∙ ap (width n) h.0.kind
 
--- the places of arguments with kinds are rows
-args_rows : (slots : Slots) (args : List (List ℕ)) (ks : List Kind) (ss : List Slot)
-    → HaveKinds slots args ks → AreAt slots args ss → AllByRecursion IsRow ss
-args_rows slots [] ks [] h at = tt
-args_rows slots [] ks (s ∷ ss) h at = absurd at
-args_rows slots (a ∷ args) ks [] h at = absurd at
-args_rows slots (a ∷ args) [] (s ∷ ss) h at = absurd h
-args_rows slots (a ∷ args) (k ∷ ks) (s ∷ ss) h at =
-    let same : h.0.slot ≡ s = some_slot h.0.slot s (sym h.0.found ∙ at.0) in (
-      subst IsRow same (no_state h.0.slot.space k h.0.space),
-      args_rows slots args ks ss h.1 at.1,
-    )
+-- an operation takes one pass, or a pass for each position
+one_of : (p : WordOp) → is_linear p ≡ not (is_nested p)
+one_of op.Not = refl
+one_of p = refl
 
-following_row : (ss : List Slot) (free k : ℕ) → AllByRecursion IsRow ss
-    → IsRow (following ss free k)
-following_row [] free k h = refl
-following_row (s ∷ ss) free zero h = h.0
-following_row (s ∷ ss) free (suc k) h = following_row ss free k h.1
-
--- and that of a second target, or the target's, where there is none
-other_row : (slots : Slots) (target : List ℕ) (args : List (List ℕ)) (second : Option (List ℕ))
-    (kind : Option Kind) (u : Option Slot) → SecondMeets slots target args second kind
-    → AreAt slots (option_to_list second) (option_to_list u) → (t : Slot) → IsRow t
-    → IsRow (unwrap_or u t)
-other_row slots target args None kind None h at t r = r
-other_row slots target args None kind (Some u) h at t r = absurd at
-other_row slots target args (Some name) None u h at t r = absurd h
-other_row slots target args (Some name) (Some kind) None h at t r = absurd at
-other_row slots target args (Some name) (Some kind) (Some u) h at t r =
-    let same : h.gives.slot ≡ u = some_slot h.gives.slot u (sym h.gives.found ∙ at.0) in
-    subst IsRow same (no_state h.gives.slot.space kind h.gives.space)
-
-module _ (slots : Slots) (free_bit free_word : ℕ) (target : List ℕ) (second : Option (List ℕ))
+-- a statement's written program takes the operation's commands
+exactly : (slots : Slots) (free_bit free_word : ℕ) (target : List ℕ) (second : Option (List ℕ))
     (p : WordOp) (args : List (List ℕ)) (meets : ComputeMeets slots target second p args)
-    (placed : IsPlaced slots free_bit free_word (Compute target second p args)) where
-  abbrev t : Slot
-  t = meets.gives.slot
-
-  given : Places slots args
-  given = places_of slots args meets.kinds meets.have
-
-  near : SecondPlace slots second
-  near = second_place slots target args second (second_kind p) meets.others
-
-  abbrev owners : Owners
-  owners = owners_of t given.list free_bit
-
-  abbrev rows : Rows
-  rows = rows_on t near.place given.list free_bit free_word
-
-  -- no name lies in cells
-  are_rows : AreRows owners rows
-  are_rows =
-      let row = no_state t.space meets.kind meets.gives.space in
-      let all = args_rows slots args meets.kinds given.list meets.have given.at in
-      record {
-        target = row;
-        first = following_row given.list free_bit 0 all;
-        second = following_row given.list free_bit 1 all;
-        third = following_row given.list free_bit 2 all;
-        result = row;
-        other = other_row slots target args second (second_kind p) near.place meets.others near.at
-            t row;
-        a = following_row given.list free_bit 0 all;
-        b = following_row given.list free_bit (cond (nat_lt 1 (length given.list)) 1 0) all;
-      }
-
-  exactly : (steps : List (StepOf Block))
-      → IsAsWritten slots free_bit free_word (Compute target second p args) steps
-      → IsExactly p (λ n. op_width p t.kind n) steps
-  exactly steps w =
-      subst (IsExactly p (λ n. op_width p t.kind n)) (sym (same (is_nested p) refl)) record {
-        settled = is_settled p t.kind owners rows are_rows;
-        aaps = aaps_are p t.kind owners rows are_rows;
-        aps = aps_are p t.kind owners rows are_rows;
-      }
-    where
-      same : (b : Bool) → is_nested p ≡ b → steps ≡ Written p t.kind owners rows
-      same true e = w.nested e t near.place given.list meets.gives.found near.at given.at
-          ∙ written_nested p t.kind owners rows e
-      same false e = w.linear e t given.list meets.gives.found given.at
-          ∙ written_linear p t.kind owners rows e
+    → IsPlaced slots free_bit free_word (Compute target second p args)
+    → (steps : List (StepOf Block))
+    → IsAsWritten slots free_bit free_word (Compute target second p args) steps
+    → IsExactly p (λ n. op_width p meets.gives.slot.kind n) steps
+exactly slots free_bit free_word target second p args meets placed steps w =
+    is_exactly p meets.gives.slot.kind steps (by (is_nested p) refl)
+  where
+    by : (b : Bool) → is_nested p ≡ b
+        → InRooms (cond b (nested p) (program p meets.gives.slot.kind)) steps
+    by true e = nest_in_rooms slots free_bit free_word target second p args e meets placed steps
+        (w.nested e)
+    by false e = written_in_rooms slots free_bit free_word target second p args
+        (one_of p ∙ ap not e) meets placed steps (w.linear e)
 
 -- the rounds of one statement and of those after it
 sum_joined : (f : Block → ℕ) (n : ℕ) (q : List (StepOf Block)) (ps : List (List (StepOf Block)))

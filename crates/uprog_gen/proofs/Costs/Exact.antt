@@ -1,9 +1,7 @@
 -- Each word operation's loop program has settled bodies, and takes exactly the operation's
 -- commands.
 use Rattle.std.proofs.Common.{◌≡◌, ℕ, zero, suc, ◌+◌, ◌*◌, ◌/◌, ◌^◌, ◌<◌, Bool, true, false, cond}
-use Rattle.std.proofs.Common.{List, [], ◌∷◌, ◌++◌, map, Option, Some, None, refl, sym, ap, ◌∙◌}
-use Rattle.std.proofs.Common.{subst, arith}
-use Rattle.std.specs.List.{AllByRecursion}
+use Rattle.std.proofs.Common.{List, [], ◌∷◌, Some, refl, sym, ap, ◌∙◌, subst, arith}
 use Rattle.std.proofs.Math.Nat.{pow-suc, pow-zero, mul-div_cancel_left}
 use Rattle.op_text.specs.declared.tree.Kind.{Kind}
 use Rattle.op_text.specs.declared.tree.Kind.TheVariants.{Word, Bit}
@@ -12,135 +10,31 @@ use Rattle.op_text.specs.declared.word_ops.WordOp.TheVariants as op
 use Rattle.op_text.specs.declared.word_ops.Signature.{Signature}
 use Rattle.op_text.specs.declared.word_ops.Signature.TheVariants as shape
 use Rattle.op_text.specs.WordOps.{row_of, forms, signature_forms, filled, given_first, first_of}
-use Rattle.op_text.specs.WordOps.{second_kind}
-use Rattle.op_text.specs.Scratch.{bits_inside, words_inside}
 use Rattle.op_text.specs.Meaning.{width}
 use Rattle.op_text.specs.Costs.{op_aaps, op_aps}
 use Rattle.op_text.proofs.Operations.{first_settles}
-use Rattle.loop_ir.specs.declared.names.Slot.{Slot}
 use Rattle.loop_ir.specs.Plain.{Block, StepOf, AllParts}
 use Rattle.loop_ir.specs.Loops.{all_rounds}
-use Rattle.loop_ir.specs.Spots.{is_state}
-use Rattle.loop_laws.specs.Rooms.{Room, Marked, placed_steps}
-use Rattle.loop_laws.proofs.Alike.{HaveRows}
-use Rattle.word_lower.specs.Places.{room_of, rooms_of, scratch_from}
-use Rattle.word_lower.specs.declared.shapes.Owners.{Owners}
+use Rattle.loop_laws.specs.Rooms.{Marked, placed_steps}
+use Rattle.loop_laws.proofs.Alike.{InRooms}
+use Rattle.loop_laws.proofs.Summed.{rounds_sum, sum_is}
 use Rattle.word_lower.specs.declared.table.ProgramRow.{ProgramRow}
 use Rattle.word_lower.specs.declared.table.ProgramRow.TheVariants.{Spread}
 use Rattle.word_lower.specs.Programs.{program, program_of}
-use Rattle.word_lower.specs.Shapes.{program_on}
-use Rattle.word_mul.specs.declared.rows.Rows.{Rows}
 use Rattle.word_mul.specs.Programs.{is_nested, nested}
-use Rattle.word_mul.specs.Places.{double_words, second_rooms, rooms_for, steps_for}
-use Rattle.uprog_gen.proofs.Coding.Joined.{both}
-use Rattle.uprog_gen.proofs.Costs.Placed.{steps_settle, settled_steps, aaps_like, aps_like}
 use Rattle.uprog_gen.specs.Settled.{turn_aaps, turn_aps, IsSettled}
-use Rattle.loop_laws.proofs.Summed.{rounds_sum, sum_is}
+use Rattle.uprog_gen.proofs.Costs.Placed.{steps_settle, settled_steps, aaps_like, aps_like}
 
--- the loop program of an operation, in one pass or with a pass for each position
-abbrev pub Written : WordOp → Kind → Owners → Rows → List (StepOf Block)
-Written p k o m = cond (is_nested p) (steps_for p m) (program_on o (program p k))
-
-pub written_nested : (p : WordOp) (k : Kind) (o : Owners) (m : Rows) → is_nested p ≡ true
-    → steps_for p m ≡ Written p k o m
-written_nested p k o m e =
-    ap (λ b. cond b (steps_for p m) (program_on o (program p k))) (sym e)
-
-pub written_linear : (p : WordOp) (k : Kind) (o : Owners) (m : Rows) → is_nested p ≡ false
-    → program_on o (program p k) ≡ Written p k o m
-written_linear p k o m e =
-    ap (λ b. cond b (steps_for p m) (program_on o (program p k))) (sym e)
-
--- the same by the numbers of its owners
-abbrev Numbered : WordOp → Kind → List (StepOf Marked)
+-- the loop program of an operation, in one pass or with a pass for each position, by the numbers of
+-- its owners
+abbrev pub Numbered : WordOp → Kind → List (StepOf Marked)
 Numbered p k = cond (is_nested p) (nested p) (program p k)
-
--- where the four owners of a program in one pass lie
-abbrev rooms_by : Owners → List Room
-rooms_by o = map (room_of true) (o.target ∷ o.first ∷ o.second ∷ o.third ∷ [])
-
-abbrev Rooms : WordOp → Owners → Rows → List Room
-Rooms p o m = cond (is_nested p) (rooms_for p m) (rooms_by o)
-
-linear_placed : (p : WordOp) (k : Kind) (o : Owners)
-    → program_on o (program p k) ≡ placed_steps (rooms_by o) (program p k)
-linear_placed op.Not Word o = refl
-linear_placed p Word o = refl
-linear_placed op.Not Bit o = refl
-linear_placed p Bit o = refl
-
-written_placed : (p : WordOp) (k : Kind) (o : Owners) (m : Rows)
-    → Written p k o m ≡ placed_steps (Rooms p o m) (Numbered p k)
-written_placed p k o m = by (is_nested p)
-  where
-    by : (b : Bool) → cond b (steps_for p m) (program_on o (program p k))
-        ≡ placed_steps (cond b (rooms_for p m) (rooms_by o)) (cond b (nested p) (program p k))
-    by true = refl
-    by false = linear_placed p k o
-
--- the owner has rows, and stands in no cells
-abbrev pub IsRow : Slot → Type 0
-IsRow s = is_state s.space ≡ false
-
-pub record AreRows (o : Owners) (m : Rows) : Type 0 where
-  pub target : IsRow o.target
-  pub first : IsRow o.first
-  pub second : IsRow o.second
-  pub third : IsRow o.third
-  pub result : IsRow m.target
-  pub other : IsRow m.second
-  pub a : IsRow m.a
-  pub b : IsRow m.b
-
-abbrev AllRows : List Room → Type 0
-AllRows rooms = AllByRecursion (λ (r : Room). is_state r.space ≡ false) rooms
-
-each_row : (rooms : List Room) → AllRows rooms → HaveRows rooms
-each_row [] h k = refl
-each_row (r ∷ rs) h zero = h.0
-each_row (r ∷ rs) h (suc k) = each_row rs h.1 k
-
-scratch_rows : (free bits : ℕ) → AllRows (map (room_of true) (scratch_from free bits))
-scratch_rows free zero = tt
-scratch_rows free (suc bits) = (refl, scratch_rows (free + 1) bits)
-
-word_rows : (free words : ℕ) → AllRows (double_words free words)
-word_rows free zero = tt
-word_rows free (suc words) = (refl, tt)
-
-other_rows : (k : Option Kind) (s : Slot) → IsRow s → AllRows (second_rooms k s)
-other_rows None s r = tt
-other_rows (Some k) s r = (r, tt)
-
-all_append : (xs ys : List Room) → AllRows xs → AllRows ys → AllRows (xs ++ ys)
-all_append xs ys h k = both (λ (x : Room). is_state x.space ≡ false) xs ys h k
-
-nested_rows : (p : WordOp) (o : Owners) (m : Rows) → AreRows o m → AllRows (rooms_for p m)
-nested_rows p o m r =
-    let words = double_words m.free_word (words_inside p) in
-    let others = second_rooms (second_kind p) m.second in
-    all_append (rooms_of m.target (m.a ∷ m.b ∷ []) (scratch_from m.free_bit (bits_inside p)))
-    (words ++ others) (r.result, (r.a, (r.b, scratch_rows m.free_bit (bits_inside p))))
-    (all_append words others (word_rows m.free_word (words_inside p))
-    (other_rows (second_kind p) m.second r.other))
-
-rows_in : (p : WordOp) (o : Owners) (m : Rows) → AreRows o m → HaveRows (Rooms p o m)
-rows_in p o m r = each_row (Rooms p o m) (by (is_nested p))
-  where
-    by : (b : Bool) → AllRows (cond b (rooms_for p m) (rooms_by o))
-    by true = nested_rows p o m r
-    by false = (r.target, (r.first, (r.second, (r.third, tt))))
 
 all_settle : (p : WordOp) (k : Kind) → steps_settle (placed_steps [] (Numbered p k)) ≡ true
 all_settle op.Not Word = refl
 all_settle p Word = refl
 all_settle op.Not Bit = refl
 all_settle p Bit = refl
-
-pub is_settled : (p : WordOp) (k : Kind) (o : Owners) (m : Rows) → AreRows o m
-    → AllParts IsSettled (Written p k o m)
-is_settled p k o m r = subst (AllParts IsSettled) (sym (written_placed p k o m))
-    (settled_steps (Rooms p o m) (rows_in p o m r) (Numbered p k) (all_settle p k))
 
 square : (n : ℕ) → n ^ 2 ≡ n * n
 square n = let e : n ^ 2 ≡ n ^ 1 * n = pow-suc n 1 in let f : n ^ 1 ≡ n ^ 0 * n = pow-suc n 0 in
@@ -189,17 +83,23 @@ numbered_aps p Word n some = let h = sum_is turn_aps n (placed_steps [] (Numbere
 numbered_aps p Bit n some = let h = sum_is turn_aps n (placed_steps [] (Numbered p Bit)) in
     omega (arith, h, square n, some)
 
-pub aaps_are : (p : WordOp) (k : Kind) (o : Owners) (m : Rows) → AreRows o m → (n : ℕ) → 0 < n
-    → rounds_sum turn_aaps (all_rounds n (Written p k o m)) ≡ op_aaps p (op_width p k n)
-aaps_are p k o m r n some =
-    ap (λ ss. rounds_sum turn_aaps (all_rounds n ss)) (written_placed p k o m)
-    ∙ aaps_like (Rooms p o m) (rows_in p o m r) n (Numbered p k) ∙ numbered_aaps p k n some
+-- what is known of a statement's program
+pub record IsExactly (p : WordOp) (w : ℕ → ℕ) (steps : List (StepOf Block)) : Type 0 where
+  pub settled : AllParts IsSettled steps
+  pub aaps : (n : ℕ) → 0 < n → rounds_sum turn_aaps (all_rounds n steps) ≡ op_aaps p (w n)
+  pub aps : (n : ℕ) → 0 < n → rounds_sum turn_aps (all_rounds n steps) ≡ op_aps p (w n)
 
-pub aps_are : (p : WordOp) (k : Kind) (o : Owners) (m : Rows) → AreRows o m → (n : ℕ) → 0 < n
-    → rounds_sum turn_aps (all_rounds n (Written p k o m)) ≡ op_aps p (op_width p k n)
-aps_are p k o m r n some =
-    ap (λ ss. rounds_sum turn_aps (all_rounds n ss)) (written_placed p k o m)
-    ∙ aps_like (Rooms p o m) (rows_in p o m r) n (Numbered p k) ∙ numbered_aps p k n some
+-- wherever its rows lie
+pub is_exactly : (p : WordOp) (k : Kind) (steps : List (StepOf Block))
+    → InRooms (Numbered p k) steps → IsExactly p (op_width p k) steps
+is_exactly p k steps r = record {
+  settled = subst (AllParts IsSettled) (sym r.same)
+      (settled_steps r.rooms r.rows (Numbered p k) (all_settle p k));
+  aaps = λ n some. ap (λ ss. rounds_sum turn_aaps (all_rounds n ss)) r.same
+      ∙ aaps_like r.rooms r.rows n (Numbered p k) ∙ numbered_aaps p k n some;
+  aps = λ n some. ap (λ ss. rounds_sum turn_aps (all_rounds n ss)) r.same
+      ∙ aps_like r.rooms r.rows n (Numbered p k) ∙ numbered_aps p k n some;
+}
 
 -- the width of the arguments of these kinds
 abbrev pub first_width : ℕ → List Kind → ℕ

@@ -81,7 +81,7 @@ same_places n x y v u hx hy lv lu e =
     ∙ ap (λ (t : Space). spot_in n t y.which u) (sym s))
 
 -- a name lies in rows
-pub no_state : (s : Space) (k : Kind) → holds_kind s k ≡ true → is_state s ≡ false
+no_state : (s : Space) (k : Kind) → holds_kind s k ≡ true → is_state s ≡ false
 no_state Result k h = refl
 no_state Source k h = refl
 no_state ScratchBit k h = refl

@@ -3,19 +3,9 @@ use Rattle.op_text.specs.Language.{statement}
 use Rattle.loop_ir.specs.Plain.{steps_of}
 use Rattle.loop_ir.specs.Statements.{slots_of}
 use Rattle.word_lower.specs.Places.{AreAt}
-use Rattle.word_mul.proofs.Statements.{has_bits, statement_lowered, statement_few}
+use Rattle.word_mul.proofs.Statements.{statement_lowered, statement_few}
 use Rattle.word_mul.proofs.Statements.{statement_written}
 use Rattle.word_mul.proofs.lower.lower_nested.Goals as goal
-
-pub program-requires-clause-bits : goal.program-requires-clause-bits
-program-requires-clause-bits c =
-    let n = c.args.names.now in
-    let w = c.in-Word in
-    has_bits (slots_of n) n.free_bit n.free_word (statement c.args.s.now) w.dst w.second w.op
-    w.args.items
-    (ap statement w.is) c.requires.nested c.requires.meets c.requires.placed
-    c.rows.result (λ t u ss found near at. c.rows.ensures t u ss found near
-    (subst (λ ns. AreAt (slots_of n) ns ss) (sym c.deref.ensures.value) at))
 
 pub returns-clause-lowered : goal.returns-clause-lowered
 returns-clause-lowered c =

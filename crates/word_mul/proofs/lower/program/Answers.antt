@@ -5,6 +5,5 @@ use Rattle.word_mul.proofs.lower.program.Goals as goal
 
 pub returns : goal.returns
 returns c = row_built c.args.op c.in-Some.row c.args.m c.owners.result
-    (steps_of c.in_ok-p-in-Some.p) c.requires.bits
-    (sym c.in-Some.is ∙ c.program_of.ensures) c.owners.ensures.places c.owners.ensures.second
+    (steps_of c.in_ok-p-in-Some.p) (sym c.in-Some.is ∙ c.program_of.ensures) c.owners.ensures
     c.in_ok-p-in-Some.ensures.same c.in_ok-p-in-Some.ensures.made
