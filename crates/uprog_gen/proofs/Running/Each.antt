@@ -6,7 +6,7 @@ use Rattle.std.specs.Prelude.{slice_get, slice_index, ◌==◌}
 use Rattle.std.proofs.lemmas.Bool.{eq-eqb, ne_eqb}
 use Rattle.uprog_code.specs.Machine.{Issue, issue}
 use Rattle.uprog_code.specs.declared.code.Uop.{Uop}
-use Rattle.uprog_code.specs.declared.code.Uop.TheVariants.{SetN, Mov, SubI, Bnez}
+use Rattle.uprog_code.specs.declared.code.Uop.TheVariants.{AddI, SetN, Mov, SubI, Bnez}
 use Rattle.uprog_code.specs.Shape.{Shape}
 use Rattle.loop_ir.specs.Loops.{rounds, positions}
 use Rattle.uprog_gen.proofs.Running.Goes.{HasAt, has_front, has_back, moves}
