@@ -89,8 +89,8 @@ pub record IsRound (may_have : Spot → Type 0) (n : ℕ) (r : RoundOf Block) : 
       ≡ nth_spot n r.i r.o r.part.reads k → nth_spot n r.i r.o r.part.writes j
       ≡ nth_spot n r.i r.o r.part.reads l → k ≡ l
 
--- At every width code can be made of the loop program: at most 12 bodies, each small, which find the
--- states that they read, and at most 256 instructions
+-- At every width code can be made of the loop program: at most 12 bodies, each small, which find
+-- the states that they read, and at most 256 instructions
 pub record CanCompile (may_have : ℕ → Spot → Type 0) (steps : List (StepOf Block)) : Type
     0 where
   pub small : AllParts IsSmall steps

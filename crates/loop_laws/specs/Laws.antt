@@ -19,9 +19,9 @@ abbrev pub MadeCompile : (ℕ → Spot → Type 0) → Type 0
 MadeCompile may_have = (steps : List (StepOf Block)) → AllParts IsMade steps
     → HasForm may_have steps → AreWellFormed steps × CanCompile may_have steps
 
--- The tests on owners, subscripts, numbers and states are enough, where the rooms are apart at every
--- width and have such rows alone, of which none stands in cells. Which rows they have plays no part
--- in the tests on states.
+-- The tests on owners, subscripts, numbers and states are enough, where the rooms are apart at
+-- every width and have such rows alone, of which none stands in cells. Which rows they have plays
+-- no part in the tests on states.
 abbrev pub MarksAreEnough : (ℕ → Spot → Type 0) → Type 0
 MarksAreEnough may_have = (rooms : List Room) (steps : List (StepOf Marked))
     → ((n : ℕ) → 0 < n → n ≤ WIDTH_MAX → RoomsApart n rooms)

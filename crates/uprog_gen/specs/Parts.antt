@@ -30,8 +30,8 @@ pub record IsOuts (b : Block) (m : ℕ) (outs : List OutRow) : Type 0 where
       → nth_place b.reads k ≢ nth_place b.writes j
 
 -- a part whose commands do its body, from the states that it reads to those that it writes: a body
--- with states takes its own sequence; of the others a copy takes one command, and a body of the word
--- operations its own sequence
+-- with states takes its own sequence; of the others a copy takes one command, and a body of the
+-- word operations its own sequence
 pub record IsPart (p : Part) : Type 0 where
   pub well : IsWellFormed p.block
   pub graph : IsGraph p.block.graph.inputs p.block.graph.nodes

@@ -17,7 +17,6 @@ use Rattle.loop_laws.specs.Turns.{Origin, Standing, Carried, turn, after_many}
 use Rattle.loop_laws.proofs.Same.{set_same, set_other}
 use Rattle.loop_laws.proofs.Steps.{after_steps, steps_each}
 use Rattle.loop_laws.proofs.Placed.{AllBefore, ReadPlaces}
-use Rattle.loop_ir.specs.declared.ir.Space.{Space}
 use Rattle.loop_ir.specs.declared.ir.Space.TheVariants.{ScratchBit, Cells}
 use Rattle.word_lower.specs.Places.{scratch_bit, cells}
 use Rattle.word_lower.specs.Programs.{plain}

@@ -46,8 +46,7 @@ const Y_OUTER: Mark = Mark {
     owner: Owner::Second,
     sub: Sub::Outer,
 };
-// the complement of a bit of the argument, or one that a count adds; and of a division, whether the
-// divisor is taken away
+// the complement of a bit of an argument; and of a division, whether the divisor is taken away
 const BIT: Mark = Mark {
     owner: Owner::ScratchBit,
     sub: Sub::Zero,
