@@ -27,8 +27,9 @@ pub trait Picker {
     ghost picks_live: { PicksLive rule };
 }
 
-/// Which of so many live banks a number chooses: its remainder. The numbers of banks that are powers
-/// of two stand by themselves, since a division takes as long as a command on a row of one word.
+/// Which of so many live banks a number chooses: its remainder. The numbers of banks that are
+/// powers of two stand by themselves, since a division takes as long as a command on a row of one
+/// word.
 #[inline(always)]
 fn choice_of(number: u64, live: u16) -> u16
     requires { 0 < live }
