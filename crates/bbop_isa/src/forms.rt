@@ -227,10 +227,7 @@ fn fill_of(names: &[&[u8]], numbers: &[Digits<'_>]) -> Result<Instr, LineError>
         return Err(Bad(BadName));
     };
     match number.value() {
-        Some(value) => Ok(Instr::Fill {
-            name,
-            value,
-        }),
+        Some(value) => Ok(Instr::Fill { name, value }),
         None => Err(Bad(BadNumber)),
     }
 }
