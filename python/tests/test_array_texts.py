@@ -19,7 +19,7 @@ class Ops(unittest.TestCase):
         a = chip.array(x)
         mac = simdram.op("op mac(a: word, b: word, c: word) -> y: word { t = mul(a, b); y = add(t, c); }")
         z = mac(a, a, chip.array(1, bits=8))
-        self.assertEqual((z.numpy().tolist(), str(z.cost)), ((x * x + 1).tolist(), "aap=485 ap=8"))
+        self.assertEqual((z.numpy().tolist(), str(z.cost)), ((x * x + 1).tolist(), "aap=393 ap=44"))
         self.assertEqual(mac(a, 3, 2).numpy().tolist(), (x * 3 + 2).tolist())
         both = simdram.op("op both(a: word, s: bit) -> q: word, r: bit "
                           "{ t = not(a); q = if_else(a, t, s); r = not(s); }")
@@ -61,7 +61,7 @@ class Scans(unittest.TestCase):
         self.assertEqual(of_two.count, (((x ^ 85) < 99) | (x > 3)).sum())
         self.assertEqual(simdram.scan(chip, "eq(a, 1)", a=a + 1).count, (x == 0).sum())
         self.assertEqual(simdram.scan(chip, "and(ge(a, 3), lt(b, 99))", a=a, b=a).count, ((x >= 3) & (x < 99)).sum())
-        self.assertEqual(found.cost, simdram.Cost(264, 0))
+        self.assertEqual(found.cost, simdram.Cost(172, 32))
 
 
 if __name__ == "__main__":
