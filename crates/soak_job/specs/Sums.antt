@@ -28,14 +28,14 @@ in_both_banks c m = record {
 }
 
 -- a line of the report: operation, width, row commands of both banks, and the sum of the values
-abbrev pub case_line : Case → Counts → (sum : ℕ) → List ℕ
-case_line c counts sum = op_text c.op ++ codes " " ++ decimal c.n ++ codes " aap="
+abbrev pub counted_line : Case → Counts → (sum : ℕ) → List ℕ
+counted_line c counts sum = op_text c.op ++ codes " " ++ decimal c.n ++ codes " aap="
     ++ decimal counts.aap ++ codes " ap=" ++ decimal counts.ap ++ codes " sum=" ++ decimal sum
     ++ codes "\n"
 
 -- the line of a case: the row commands of its program, and the sum of the operation's values
 abbrev pub case_line : (state : ℕ) → Case → Microprogram → List ℕ
-case_line state c m = case_line c (in_both_banks c m) (case_sum state c)
+case_line state c m = counted_line c (in_both_banks c m) (case_sum state c)
 
 -- the line after those of so many cases
 abbrev pub last_line : ℕ → List ℕ

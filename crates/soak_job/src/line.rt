@@ -1,7 +1,7 @@
 //! The lines of a soak.
 
 ghost use Rattle.std.specs.Prelude.{◌≡◌, ◌+◌, ◌≤◌, ◌++◌, decimal, length};
-ghost use Rattle.soak_job.specs.Sums.{last_line, case_line};
+ghost use Rattle.soak_job.specs.Sums.{last_line, counted_line};
 
 use crate::cases::Case;
 use arrayvec::ArrayVec;
@@ -35,7 +35,7 @@ fn add_number(text: &mut Line, word: &[u8], number: u64)
 
 /// The line of a case: its operation and width, its row commands, and its sum.
 pub fn line_of(case: Case, counts: Counts, sum: u64) -> Line
-    ensures { result.items ≡ case_line case counts sum }
+    ensures { result.items ≡ counted_line case counts sum }
 {
     let mut text = ArrayVec::new();
     add(&mut text, op_name(case.op));

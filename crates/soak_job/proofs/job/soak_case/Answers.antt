@@ -2,7 +2,7 @@ use Rattle.std.proofs.Common.{◌≡◌, ◌++◌, ℕ, List, ap, sym, subst, �
 use Rattle.host_edge.specs.Views.{AppendsPart, Known}
 use Rattle.uprog_code.specs.declared.walker.Counts.{Counts}
 use Rattle.soak_job.specs.OneCase.{IsFileOf}
-use Rattle.soak_job.specs.Sums.{case_line, in_both_banks, case_line}
+use Rattle.soak_job.specs.Sums.{case_line, in_both_banks, counted_line}
 use Rattle.soak_job.proofs.Making.{at_err, at_ok}
 use Rattle.soak_job.proofs.Going.{case_went, program_is, stops_at_put, stops_at_use}
 use Rattle.soak_job.proofs.job.soak_case.Goals as goal
@@ -25,9 +25,10 @@ returns-then-is_err-clause-stopped g c files cases =
     let new = g.S.Sink.view c.put.new.self in
     let line : c.as_slice.result.now ≡ case_line c.args.generator.now c.args.case f.program =
     c.as_slice.ensures.value ∙ c.line_of-line.ensures
-    ∙ ap (λ (k : Counts). case_line c.args.case k c.in-Ok-do_case.outcome.sum)
+    ∙ ap (λ (k : Counts). counted_line c.args.case k c.in-Ok-do_case.outcome.sum)
     (c.in-Ok-do_case.ensures.counts f)
-    ∙ ap (case_line c.args.case (in_both_banks c.args.case f.program)) c.in-Ok-do_case.ensures.sum in
+    ∙ ap (counted_line c.args.case (in_both_banks c.args.case f.program))
+    c.in-Ok-do_case.ensures.sum in
     let is = sym c.is_err.ensures.value ∙ c.if-is_err.true in
     stops_at_put c.args.generator.now c.args.case cases f.program files old new
     (g.D.Dram.view c.args.chip.now) (g.D.Dram.view c.do_case.new.chip)
@@ -44,9 +45,10 @@ returns-clause-went g c files =
     let new = g.S.Sink.view c.put.new.self in
     let line : c.as_slice.result.now ≡ case_line c.args.generator.now c.args.case f.program =
     c.as_slice.ensures.value ∙ c.line_of-line.ensures
-    ∙ ap (λ (k : Counts). case_line c.args.case k c.in-Ok-do_case.outcome.sum)
+    ∙ ap (λ (k : Counts). counted_line c.args.case k c.in-Ok-do_case.outcome.sum)
     (c.in-Ok-do_case.ensures.counts f)
-    ∙ ap (case_line c.args.case (in_both_banks c.args.case f.program)) c.in-Ok-do_case.ensures.sum in
+    ∙ ap (counted_line c.args.case (in_both_banks c.args.case f.program))
+    c.in-Ok-do_case.ensures.sum in
     let is = sym c.is_err.ensures.value ∙ c.if-is_err.false in
     case_went c.args.generator.now c.args.case f.program files old new
     (g.D.Dram.view c.args.chip.now) (g.D.Dram.view c.do_case.new.chip)
