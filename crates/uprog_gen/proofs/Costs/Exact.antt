@@ -51,6 +51,8 @@ op_width p k n = cond (spreads p) (width n k) n
 numbered_aaps : (p : WordOp) (k : Kind) (n : ℕ) → 0 < n
     → rounds_sum turn_aaps (all_rounds n (placed_steps [] (Numbered p k)))
     ≡ op_aaps p (op_width p k n)
+numbered_aaps op.Mul k n some = let h = sum_is turn_aaps n (placed_steps [] (Numbered op.Mul k)) in
+    omega (arith, h, triangle n, some)
 numbered_aaps p Word n some = let h = sum_is turn_aaps n (placed_steps [] (Numbered p Word)) in
     omega (arith, h, triangle n, some)
 numbered_aaps p Bit n some = let h = sum_is turn_aaps n (placed_steps [] (Numbered p Bit)) in
@@ -59,6 +61,8 @@ numbered_aaps p Bit n some = let h = sum_is turn_aaps n (placed_steps [] (Number
 numbered_aps : (p : WordOp) (k : Kind) (n : ℕ) → 0 < n
     → rounds_sum turn_aps (all_rounds n (placed_steps [] (Numbered p k)))
     ≡ op_aps p (op_width p k n)
+numbered_aps op.Mul k n some = let h = sum_is turn_aps n (placed_steps [] (Numbered op.Mul k)) in
+    omega (arith, h, triangle n, some)
 numbered_aps p Word n some = let h = sum_is turn_aps n (placed_steps [] (Numbered p Word)) in
     omega (arith, h, triangle n, some)
 numbered_aps p Bit n some = let h = sum_is turn_aps n (placed_steps [] (Numbered p Bit)) in
