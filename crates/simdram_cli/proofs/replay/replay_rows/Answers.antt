@@ -72,5 +72,5 @@ returns-clause-file g c =
     file ∙ file_is c.args.trace.now (image_found (found_in c.args.image))
     (geometry_of c.in_ok-machine.machine) c.table.result.now.pairs (g.D.Dram.view c.open.new.chip)
     (g.D.Dram.view c.replay_events.new.dram)
-    (c.in_ok-machine.ensures.shape ∙ c.requires.same) c.table.ensures
+    (c.in_ok-machine.ensures.shape ∙ c.requires.same) c.table.ensures.objects
     c.in_ok-machine.ensures.opened did
