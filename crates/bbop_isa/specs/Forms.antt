@@ -32,7 +32,7 @@ abbrev pub view_of : Instr → Instruction
 view_of (instr.Init name count n) = Init name count n
 view_of (instr.Bbop op dst srcs count n) = Bbop op dst srcs.items count n
 view_of (instr.Load name values) = Load name values.items
-view_of (instr.Fill name number_or_zero) = Fill name number_or_zero
+view_of (instr.Fill name value) = Fill name value
 view_of (instr.Print name) = Print name
 view_of (instr.Free name) = Free name
 view_of (instr.Order order) = Order order

@@ -36,7 +36,7 @@ enum Verb {
 }
 
 fn verb_of(head: &[u8]) -> Option<Verb>
-    ensures number_or_zero { result ≡ verb_of head.now }
+    ensures verb { result ≡ verb_of head.now }
     ensures prefix { IfSome result (λ v. v ≡ Verb.Bbop → 5 ≤ length head.now) }
 {
     if head == b"bbop_trsp_init".as_slice() {

@@ -17,7 +17,8 @@ use Rattle.mig_rewrite.specs.declared.rebuild.Part.{Part}
 use Rattle.mig_rewrite.specs.declared.rebuild.Part.TheVariants.{Nothing, One, Two}
 use Rattle.mig_rewrite.specs.Merge.{IsMerge, straight}
 use Rattle.mig_rewrite.specs.Plan.{is_marked, EachLit, part_of, whole_part, part_value, IsPlan}
-use Rattle.mig_rewrite.specs.Plan.{MayMerge, cost, spared_below, merged_below, one_below}
+use Rattle.mig_rewrite.specs.Plan.{MayMerge, cost}
+use Rattle.mig_rewrite.proofs.Below.{spared_below, merged_below, one_below}
 use Rattle.mig_rewrite.proofs.Numbered.{numbered-lower, numbered-value}
 use Rattle.mig_rewrite.proofs.Planning.{if-cases, not-both, merge-placed, AreOutside, outside}
 use Rattle.mig_rewrite.proofs.Planning.{each-map, each-zip}

@@ -1,6 +1,6 @@
 -- What is made again for each node of a graph
 use Rattle.std.specs.Prelude.{◌≡◌, ℕ, ◌+◌, ◌<◌, ◌==◌, Bool, true, false, List, length}
-use Rattle.std.specs.Prelude.{slice_index_or, if◌then◌else◌, Option, Some, None, nat_lt}
+use Rattle.std.specs.Prelude.{slice_index_or, if◌then◌else◌, Option, Some, None}
 use Rattle.bit_rows.specs.Bits.{majority}
 use Rattle.mig_graph.specs.declared.Lit.{Lit}
 use Rattle.mig_graph.specs.declared.Node.{Node}
@@ -76,20 +76,6 @@ pub record IsReached (g : Graph) (outs : List Lit) (marks : List Bool) : Type 0 
 abbrev pub MayMerge : Graph → List Lit → Option Merge → Type 0
 MayMerge g outs None = Unit {0}
 MayMerge g outs (Some m) = IsMerge g outs m
-
--- 1 if the number is below k, else 0
-abbrev pub one_below : ℕ → ℕ → ℕ
-one_below a k = if nat_lt a k then 1 else 0
-
--- how many inner nodes stand below k
-abbrev pub spared_below : Option Merge → ℕ → ℕ
-spared_below None k = 0
-spared_below (Some m) k = one_below m.first k + one_below m.second k
-
--- how many merged nodes stand below k
-abbrev pub merged_below : Option Merge → ℕ → ℕ
-merged_below None k = 0
-merged_below (Some m) k = one_below m.node k
 
 -- how many nodes a merge saves at least
 abbrev pub saving : Option Merge → ℕ

@@ -11,7 +11,8 @@ use Rattle.row_alloc.specs.Rows.{out_at}
 use Rattle.row_alloc.specs.Legal.{are_legal}
 use Rattle.row_alloc.specs.Body.{FitBody}
 use Rattle.row_alloc.specs.Numbering.{own_output}
-use Rattle.row_alloc.specs.Phases.{IsTwoParts, keep_outputs, read_no_input}
+use Rattle.row_alloc.specs.Phases.{keep_outputs}
+use Rattle.row_alloc.proofs.Written.{IsTwoParts, read_no_input}
 use Rattle.row_alloc.specs.Symbolic.{symbols_after, sense_three, first_node}
 use Rattle.row_alloc.specs.Known.{Serves, plain, complemented, not_graph, and_graph, or_graph}
 use Rattle.row_alloc.specs.Known.{xor_graph}

@@ -15,8 +15,10 @@ use Rattle.row_alloc.specs.declared.body.BodyCmd.{BodyCmd}
 use Rattle.row_alloc.specs.declared.body.BodyCmd.TheVariants.{Aap, Ap}
 use Rattle.row_alloc.specs.declared.body.OutRow.{OutRow}
 use Rattle.row_alloc.specs.Body.{read_by, written_by, command_at, WritesLate}
-use Rattle.row_alloc.specs.Phases.{source_of, into_of, node_commands, stash_commands, is_out, is_in}
-use Rattle.row_alloc.specs.Phases.{keep_outputs, read_no_input, IsTwoParts}
+use Rattle.row_alloc.specs.Phases.{source_of, into_of, node_commands, stash_commands, is_out}
+use Rattle.row_alloc.proofs.Written.{is_in}
+use Rattle.row_alloc.specs.Phases.{keep_outputs}
+use Rattle.row_alloc.proofs.Written.{read_no_input, IsTwoParts}
 
 pub early-append : (xs ys : List BodyCmd) → keep_outputs xs ≡ true → keep_outputs ys ≡ true
     → keep_outputs (xs ++ ys) ≡ true

@@ -13,7 +13,8 @@ use Rattle.row_alloc.specs.declared.body.OutRow.{OutRow}
 use Rattle.row_alloc.specs.Rows.{Rows, place, run_body, out_at, AreApart}
 use Rattle.row_alloc.specs.Body.{FitBody, DoesBody}
 use Rattle.row_alloc.specs.Phases.{source_of, node_commands, stash_commands, inputs_of, IsReady}
-use Rattle.row_alloc.specs.Phases.{IsWritten, Prepares, Writes}
+use Rattle.row_alloc.specs.Phases.{Prepares}
+use Rattle.row_alloc.proofs.Written.{IsWritten, Writes}
 use Rattle.row_alloc.proofs.Activations.{copy-command}
 use Rattle.row_alloc.proofs.Holds.{run-body-append, Puts, puts-at, puts-off, source-holds}
 use Rattle.row_alloc.proofs.LegalPieces.{legal-append, source-legal, less, node-legal, stash-legal}

@@ -14,7 +14,8 @@ use Rattle.row_alloc.specs.declared.body.BodyCmd.TheVariants.{Aap}
 use Rattle.row_alloc.specs.declared.body.OutRow.{OutRow}
 use Rattle.row_alloc.specs.Rows.{Rows, run_body, out_at, AreApart}
 use Rattle.row_alloc.specs.Body.{FitBody}
-use Rattle.row_alloc.specs.Phases.{node_commands, stash_commands, inputs_of, IsReady, IsWritten}
+use Rattle.row_alloc.specs.Phases.{node_commands, stash_commands, inputs_of, IsReady}
+use Rattle.row_alloc.proofs.Written.{IsWritten}
 use Rattle.row_alloc.proofs.Activations.{copy-command}
 use Rattle.row_alloc.proofs.Holds.{Puts, puts-at, puts-off, node-puts, stash-puts}
 

@@ -16,6 +16,7 @@ use Rattle.row_alloc.specs.Known.{plain, complemented}
 abbrev pub held_sequences : List (List BodyCmd)
 held_sequences = map (λ r. r.now) HELD
 
+-- the sequence of this number
 abbrev pub held_at : ℕ → List BodyCmd
 held_at k = slice_index_or held_sequences k []
 
@@ -57,6 +58,7 @@ pub data HeldBody : Type 0 where
   HeldDivided : HeldBody
   HeldAgreed : HeldBody
 
+-- how many inputs the body's graph has
 abbrev pub held_inputs : HeldBody → ℕ
 held_inputs ZeroInT0 = 0
 held_inputs OneInT0 = 0
@@ -77,6 +79,7 @@ held_inputs HeldMultiplied = 4
 held_inputs HeldDivided = 4
 held_inputs HeldAgreed = 2
 
+-- the nodes of its graph
 abbrev pub held_nodes : HeldBody → List Node
 held_nodes ZeroInT0 = []
 held_nodes OneInT0 = []
@@ -109,6 +112,7 @@ held_nodes HeldDivided = node_of (plain 0) (plain 2) (plain 3)
     ∷ node_of (complemented 5) (plain 6) (plain 7) ∷ []
 held_nodes HeldAgreed = node_of (plain 0) (plain 1) (plain 2) ∷ []
 
+-- its graph
 abbrev pub held_graph : HeldBody → Graph
 held_graph b = record { inputs = held_inputs b; nodes = held_nodes b }
 
@@ -133,6 +137,7 @@ held_outs HeldMultiplied = complemented 8 ∷ []
 held_outs HeldDivided = plain 8 ∷ []
 held_outs HeldAgreed = plain 3 ∷ []
 
+-- the literal in the cells of this layout
 abbrev pub in_layout : ℕ → Lit → Held
 in_layout k l = record { lit = l; layout = k }
 

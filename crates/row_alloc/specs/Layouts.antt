@@ -17,6 +17,7 @@ layouts =
 abbrev pub layout : ℕ → List Line
 layout k = slice_index_or layouts k []
 
+-- there is a layout of this number
 abbrev pub is_layout : ℕ → Bool
 is_layout k = nat_lt k 10
 

@@ -32,10 +32,11 @@ row_commands regs (Bnez r t) = []
 row_commands regs (Aap x y) = command_at regs (IssueAap x y) ∷ []
 row_commands regs (Ap x) = command_at regs (IssueAp x) ∷ []
 
--- what a job still issues from a place on, and those commands in a bank, where it runs the job
+-- what a job still issues from a place on
 abbrev pub rest_of : BoundJob → Walk → Trace
 rest_of job w = issue job.shape job.code job.binding.n w.left w.pc w.regs
 
+-- what it still sends to this bank
 abbrev pub bank_commands : ℕ → ℕ → BoundJob → Walk → List Command
 bank_commands rows bank job w = if nat_lt bank job.banks
     then bound rows job.shape job.binding.n (bound_of job.binding) (issues_of (rest_of job w))

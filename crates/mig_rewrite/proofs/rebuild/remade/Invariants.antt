@@ -1,7 +1,8 @@
 use Rattle.std.proofs.Common.{◌≡◌, ◌<◌, ◌≤◌, ◌+◌, ℕ, Bool, true, length}
 use Rattle.mig_graph.specs.Graph.{value, values}
 use Rattle.mig_graph.specs.Outputs.{lit_at, AreNamed}
-use Rattle.mig_rewrite.specs.Plan.{is_marked, spared_below, merged_below}
+use Rattle.mig_rewrite.specs.Plan.{is_marked}
+use Rattle.mig_rewrite.proofs.Below.{spared_below, merged_below}
 use Rattle.mig_rewrite.proofs.rebuild.remade.Given as goal
 
 -- the marked nodes so far have their values

@@ -6,7 +6,7 @@ use Rattle.row_alloc.specs.declared.body.BodyCmd.{BodyCmd}
 use Rattle.row_alloc.specs.declared.body.BodyCmd.TheVariants.{Aap}
 use Rattle.row_alloc.specs.declared.body.BodyRef.TheVariants.{Spill, Out}
 use Rattle.row_alloc.specs.Body.{FitBody}
-use Rattle.row_alloc.specs.Phases.{Writes}
+use Rattle.row_alloc.proofs.Written.{Writes}
 use Rattle.row_alloc.proofs.Late.{writes-late}
 use Rattle.row_alloc.proofs.Sequence.{writes-none, writes-more, does-written}
 use Rattle.row_alloc.proofs.plain.write_part.Goals as goal

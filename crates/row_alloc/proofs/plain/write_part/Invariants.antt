@@ -1,5 +1,5 @@
 use Rattle.std.proofs.Common.{◌≡◌, ◌+◌, length}
-use Rattle.row_alloc.specs.Phases.{Writes}
+use Rattle.row_alloc.proofs.Written.{Writes}
 use Rattle.row_alloc.proofs.plain.write_part.Given as goal
 
 -- the outputs so far stand in their rows
