@@ -130,7 +130,10 @@ pub(crate) fn quick_body(
 ) -> Result<Vec<BodyCmd>, NoMemory>
     requires fit { FitBody m.now outs.now }
     ensures does { IfOk result (λ cmds. DoesBody m.now outs.now cmds.items) }
+    ensures late { IfOk result (λ cmds. WritesLate outs.now cmds.items) }
     ensures few { IfOk result (λ cmds. length cmds.items ≤ plain_length m.now outs.now) }
+    ensures least { IfOk result (λ cmds. (k : ℕ) → k < length known
+        → Serves m.now outs.now (known_at k) → length cmds.items ≤ length (known_at k)) }
 {
     let plain = plain_body(m, outs, alloc)?;
     match first_known(m, outs) {

@@ -9,8 +9,8 @@ mod beam;
 mod body;
 mod cells;
 mod check;
-mod count;
 mod estimate;
+mod found;
 mod greedy;
 mod held;
 mod held_table;
@@ -29,7 +29,7 @@ mod table;
 
 pub use body::{BodyCmd, BodyRef, Held, OutRow};
 pub use check::check_body;
-pub use count::{commands_of, quick_commands_of};
+pub use found::{Search, find_body};
 pub use greedy::greedy_body;
 pub use held::check_held;
 pub use held_table::held_body;
