@@ -63,7 +63,7 @@ fn first_known(m: &Mig, outs: &[OutRow]) -> Option<usize>
 }
 
 /// A copy of commands.
-fn copied(cmds: &[BodyCmd], alloc: Global) -> Result<Vec<BodyCmd>, NoMemory>
+pub(crate) fn copied(cmds: &[BodyCmd], alloc: Global) -> Result<Vec<BodyCmd>, NoMemory>
     ensures { IfOk result (λ v. v.items ≡ cmds.now) }
 {
     Ok(cmds.to_vec(alloc)?)
@@ -87,7 +87,7 @@ fn shorter_of(
     ensures few { IfOk result (λ cmds. length cmds.items ≤ length plain.items) }
 {
     let most = usize::min(most, plain.len());
-    let cmds = beam_body(m, outs, breadth, most, alloc)?;
+    let cmds = beam_body(m, outs, &[], &[], breadth, most, alloc)?;
     if cmds.len() <= plain.len() && serves(m, outs, &cmds) {
         Ok(cmds)
     } else {
