@@ -13,12 +13,12 @@ states_in [] = []
 states_in (p ∷ ps) = if is_state p.space then p.which ∷ states_in ps else states_in ps
 
 -- the state is one of these
-abbrev pub is_left : ℕ → List ℕ → Bool
-is_left w alive = list_any (λ v. v == w) alive
+abbrev pub is_alive : ℕ → List ℕ → Bool
+is_alive w alive = list_any (λ v. v == w) alive
 
 -- the body reads no state but these
 abbrev pub finds : List ℕ → Block → Bool
-finds alive b = list_all (λ w. is_left w alive) (states_in b.reads)
+finds alive b = list_all (λ w. is_alive w alive) (states_in b.reads)
 
 -- the states that a body leaves: all others may be lost
 abbrev pub left_by : Block → List ℕ

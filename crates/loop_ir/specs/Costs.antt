@@ -64,12 +64,17 @@ abbrev pub held_cost : Option HeldBody → ℕ
 held_cost None = 0
 held_cost (Some h) = length (held_at (held_sequence_for h))
 
--- what one round may take: a body with states has its sequence, a copy is one command, and the
--- bodies of five operations are fixed
+-- the body carries commands
+abbrev pub carries : Block → Bool
+carries b = nat_lt 0 (length b.found)
+
+-- what one round may take: a body that carries commands takes those, one with states has its
+-- sequence, a copy is one command, and the bodies of five operations are fixed
 abbrev pub turn_cost : Block → ℕ
-turn_cost b = if has_states b then held_cost (held_of b) else (if is_copy b then 1
-    else (if is_not b then 2 else (if is_and b then 4 else (if is_or b then 4
-    else (if is_xor b then 7 else (if is_add b then 9 else body_cost b))))))
+turn_cost b = if carries b then length b.found else (if has_states b then held_cost (held_of b)
+    else (if is_copy b then 1 else (if is_not b then 2 else (if is_and b then 4
+    else (if is_or b then 4 else (if is_xor b then 7 else (if is_add b then 9
+    else body_cost b)))))))
 
 -- the body has no node and writes no row: it starts states in cells, with one command
 abbrev pub is_start : Block → Bool

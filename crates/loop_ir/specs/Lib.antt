@@ -2,6 +2,7 @@
 pub mod Plain
 pub mod Loops
 pub mod Spots
+pub mod Outputs
 pub mod WellFormed
 pub mod Same
 pub mod States

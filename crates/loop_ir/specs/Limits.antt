@@ -14,10 +14,13 @@ use Rattle.loop_ir.specs.Plain.StepOf.{Single, Along, Nest, Pairs}
 use Rattle.loop_ir.specs.Loops.{RoundOf, all_rounds}
 use Rattle.loop_ir.specs.Spots.{Spot, IsOwn, is_state, nth_place, nth_spot}
 use Rattle.loop_ir.specs.WellFormed.{IsWellFormed}
+use Rattle.row_alloc.specs.declared.body.OutRow.{OutRow}
+use Rattle.row_alloc.specs.Held.{DoesHeld}
 use Rattle.row_alloc.specs.HeldBodies.{HeldBody, HeldNegatedIf}
-use Rattle.loop_ir.specs.States.{StatesFit, has_states, held_of}
+use Rattle.loop_ir.specs.Outputs.{IsOuts}
+use Rattle.loop_ir.specs.States.{StatesFit, has_states, held_of, row_count, enters, leaves}
 use Rattle.loop_ir.specs.Chains.{steps_find}
-use Rattle.loop_ir.specs.Costs.{same_sub, used_subs, code_cost, bodies}
+use Rattle.loop_ir.specs.Costs.{carries, plain_cost, same_sub, used_subs, code_cost, bodies}
 
 -- the body's sequence does it wherever its rows lie: that of abs reads its second input after it
 -- has written, so that the two must be rows of two positions
@@ -27,12 +30,20 @@ is_served (Some HeldNegatedIf) b = not (same_sub (nth_place b.reads 1).sub
     (nth_place b.writes 0).sub)
 is_served (Some h) b = true
 
--- a body of which commands can be made: its states fit, and where it has any it is one of the
--- bodies that hold states, with a sequence that does it
+-- the commands that the body carries do it, from the states that it reads to those that it writes
+-- and wherever its rows lie, and are few
+pub record IsCarried (b : Block) : Type 0 where
+  pub does : (outs : List OutRow) → IsOuts b (row_count b.writes) outs
+      → DoesHeld b.graph outs (enters 0 b.reads) (leaves b.writes b.outs) b.found
+  pub few : length b.found ≤ plain_cost b
+
+-- a body of which commands can be made: its states fit, and where it carries none and has states it
+-- is one of the bodies that hold states, with a sequence that does it
 pub record IsSmall (b : Block) : Type 0 where
   pub well : IsWellFormed b
   pub states : StatesFit b
-  pub known : has_states b ≡ true → is_served (held_of b) b ≡ true
+  pub found : carries b ≡ true → IsCarried b
+  pub known : carries b ≡ false → has_states b ≡ true → is_served (held_of b) b ≡ true
   pub graph : IsGraph b.graph.inputs b.graph.nodes
   pub inputs : b.graph.inputs ≤ 80
   pub outputs : length b.outs ≤ 8

@@ -2,6 +2,7 @@
 use Rattle.std.specs.Prelude.{List, [], ◌∷◌, map}
 use Rattle.mig_graph.specs.declared.Lit.{Lit}
 use Rattle.mig_graph.specs.Graph.{Graph}
+use Rattle.row_alloc.specs.declared.body.BodyCmd.{BodyCmd}
 use Rattle.loop_ir.specs.declared.ir.Place.{Place}
 use Rattle.loop_ir.specs.declared.ir.Count.{Count}
 use Rattle.loop_ir.specs.declared.ir.Body.{Body}
@@ -11,12 +12,14 @@ use Rattle.loop_ir.specs.declared.ir.Step.{Step}
 use Rattle.loop_ir.specs.declared.ir.Step.TheVariants as code_step
 use Rattle.loop_ir.specs.declared.ir.LoopProgram.{LoopProgram}
 
--- a body: read k is input k of the graph, and write j takes output j
+-- a body: read k is input k of the graph, and write j takes output j. It carries the commands that
+-- were found for it, or none
 pub record Block : Type 0 where
   pub reads : List Place
   pub graph : Graph
   pub outs : List Lit
   pub writes : List Place
+  pub found : List BodyCmd
 
 -- a part of a nest: a body once, or at each inner position
 pub data InnerOf (A : Type 0) : Type 0 where
@@ -38,6 +41,7 @@ block_of b = record {
   graph = b.graph.mig;
   outs = b.graph.outs.items;
   writes = b.writes.items;
+  found = b.found.items;
 }
 
 -- a part of a nest that the code built

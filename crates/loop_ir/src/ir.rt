@@ -3,6 +3,7 @@
 ghost use Rattle.std.specs.Prelude.{◌≡◌};
 
 use mig_graph::MigOuts;
+use row_alloc::BodyCmd;
 
 /// The position of a row in what it belongs to, at width n, at inner index i and outer index o.
 #[derive(Clone, Copy, PartialEq, Eq)]
@@ -55,6 +56,8 @@ pub struct Body {
     pub reads: Vec<Place>,
     pub graph: MigOuts,
     pub writes: Vec<Place>,
+    /// The commands that were found for it; none where they are still to be looked for.
+    pub found: Vec<BodyCmd>,
 }
 
 impl Body {
@@ -66,6 +69,7 @@ impl Body {
             reads: _,
             graph,
             writes: _,
+            found: _,
         } = self;
         graph
     }
@@ -77,6 +81,7 @@ impl Drop for Body {
             reads: _,
             graph: _,
             writes: _,
+            found: _,
         } = self;
     }
 }

@@ -3,8 +3,10 @@
 
 mod ir;
 mod names;
+mod rows;
 mod wells;
 
 pub use ir::{Body, Count, Inner, LoopProgram, Place, Space, Step, Sub};
 pub use names::{NameMap, Slot};
+pub use rows::{out_rows, place_at};
 pub use wells::well_formed;

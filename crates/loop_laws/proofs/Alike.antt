@@ -21,7 +21,7 @@ use Rattle.loop_ir.specs.Same.{same_lits, same_nodes}
 use Rattle.loop_ir.specs.States.{has_states, row_count, RowsFirst, enters, leaves, row_outs}
 use Rattle.loop_ir.specs.States.{StatesFit, same_helds, is_held_body, held_among, held_bodies}
 use Rattle.loop_ir.specs.States.{held_of}
-use Rattle.loop_ir.specs.Chains.{states_in, is_left, finds, left_by, loop_finds, inner_left}
+use Rattle.loop_ir.specs.Chains.{states_in, is_alive, finds, left_by, loop_finds, inner_left}
 use Rattle.loop_ir.specs.Chains.{inner_finds, steps_find}
 use Rattle.loop_ir.specs.Costs.{is_copy, is_not, is_and, is_or, is_xor, is_add, body_cost, held_cost}
 use Rattle.loop_ir.specs.Costs.{turn_cost, plain_cost, rounds_cost, plain_costs, same_sub}
@@ -160,7 +160,7 @@ module _ (rooms : List Room) (rows : HaveRows rooms) where
 
   finds_like : (alive : List ℕ) (b : Marked) → finds alive (placed_body rooms b)
       ≡ finds alive (placed_body [] b)
-  finds_like alive b = ap (list_all (λ w. is_left w alive)) (states_like b.reads)
+  finds_like alive b = ap (list_all (λ w. is_alive w alive)) (states_like b.reads)
 
   left_like : (b : Marked) → left_by (placed_body rooms b) ≡ left_by (placed_body [] b)
   left_like b = states_like b.writes

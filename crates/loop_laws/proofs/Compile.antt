@@ -39,6 +39,7 @@ small : (b : Block) → IsMade b → IsSlim b → IsSmall b
 small b made slim = record {
   well = well b made slim;
   states = slim.states;
+  found = slim.found;
   known = slim.known;
   graph = made.graph;
   inputs = slim.inputs;

@@ -3,7 +3,7 @@ use Rattle.std.proofs.Common.{◌≡◌, ℕ, ◌+◌, ◌*◌, ◌≤◌, Bool,
 use Rattle.std.proofs.Common.{◌<◌, ◌++◌, zero, suc, length, Option, Some, None, refl, sym, ap, ◌∙◌}
 use Rattle.std.proofs.Common.{⊎_elim, subst, arith}
 use Rattle.std.specs.Prelude.{◌==◌, ◌&&◌, ◌||◌, nat_lt}
-use Rattle.std.specs.List.{list_any}
+use Rattle.std.specs.List.{list_any, AllByRecursion}
 use Rattle.std.proofs.lemmas.Bool.{and_parts, cases_Bool, eqb-true, ne_eqb, lt-ltb}
 use Rattle.mig_graph.specs.declared.Lit.{Lit}
 use Rattle.mig_graph.specs.declared.Node.{Node}
@@ -25,7 +25,7 @@ use Rattle.loop_ir.specs.Same.{same_lit, same_lits, same_node, same_nodes, is_bo
 use Rattle.loop_ir.specs.States.{has_states, enters, leaves, row_outs, same_held, same_helds}
 use Rattle.loop_ir.specs.States.{is_held_body, held_among, held_bodies}
 use Rattle.loop_ir.specs.States.{held_of}
-use Rattle.loop_ir.specs.Costs.{body_cost, turn_cost, rounds_cost, plain_cost, plain_costs, is_copy}
+use Rattle.loop_ir.specs.Costs.{body_cost, carries, turn_cost, rounds_cost, plain_cost, plain_costs, is_copy}
 use Rattle.loop_ir.specs.Costs.{is_not, is_and, is_or, is_xor, is_add, held_cost, is_start}
 use Rattle.loop_laws.proofs.Summed.{sum_most}
 
@@ -225,25 +225,42 @@ plain-turn : (c : Bool) (x b : ℕ) → x ≤ b → cond c 1 x ≤ cond c 1 b
 plain-turn true x b l = omega arith
 plain-turn false x b l = l
 
+-- what a body without states may take where it has no sequence of its own
+pub rowed-plain : (b : Block) → has_states b ≡ false
+    → plain_cost b ≡ cond (is_copy b) 1 (body_cost b)
+rowed-plain b has =
+    ap (λ (x : List Lit). shape-cost (is_copy b) (length b.graph.nodes) (length x) (length b.outs))
+    (no-row-outs b.reads b.writes b.outs has)
+    ∙ ap (λ c. cond (is_copy b) 1 (cond c 1 (body_cost b)))
+    (never (length b.graph.nodes == 0) (length b.outs))
+
+-- what a body that carries no commands takes
+abbrev bare_cost : Block → ℕ
+bare_cost b = cond (has_states b) (held_cost (held_of b)) (cond (is_copy b) 1 (own_cost b))
+
 -- a sequence of its own makes a body no dearer
-pub turn-plain : (b : Block) → turn_cost b ≤ plain_cost b
-turn-plain b = ⊎_elim
+bare-plain : (b : Block) → bare_cost b ≤ plain_cost b
+bare-plain b = ⊎_elim
     (λ (has : has_states b ≡ true).
-    let e : turn_cost b ≡ held_cost (held_of b) =
+    let e : bare_cost b ≡ held_cost (held_of b) =
     ap (λ h. cond h (held_cost (held_of b)) (cond (is_copy b) 1 (own_cost b))) has in
     let l = held-most b (held_of b) (λ h f. found-is held_bodies b h f) in
     omega (arith, e, l))
     (λ (has : has_states b ≡ false).
-    let e : turn_cost b ≡ cond (is_copy b) 1 (own_cost b) =
+    let e : bare_cost b ≡ cond (is_copy b) 1 (own_cost b) =
     ap (λ h. cond h (held_cost (held_of b)) (cond (is_copy b) 1 (own_cost b))) has in
-    let f : plain_cost b ≡ cond (is_copy b) 1 (body_cost b) =
-    ap (λ (x : List Lit). shape-cost (is_copy b) (length b.graph.nodes) (length x) (length b.outs))
-    (no-row-outs b.reads b.writes b.outs has)
-    ∙ ap (λ c. cond (is_copy b) 1 (cond c 1 (body_cost b)))
-    (never (length b.graph.nodes == 0) (length b.outs)) in
+    let f = rowed-plain b has in
     let l = plain-turn (is_copy b) (own_cost b) (body_cost b) (own-most b) in
     omega (arith, e, f, l))
     (cases_Bool (has_states b))
+
+-- the commands that the body carries are few
+abbrev pub CarriesFew : Block → Type 0
+CarriesFew b = carries b ≡ true → length b.found ≤ plain_cost b
+
+pub turn-plain : (b : Block) → CarriesFew b → turn_cost b ≤ plain_cost b
+turn-plain b few = at-most (carries b) (length b.found) (bare_cost b) (plain_cost b) few
+    (bare-plain b)
 
 some-outs : (b : Block) → is_start b ≡ true → 0 < length b.outs
 some-outs b h =
@@ -261,9 +278,12 @@ plain-most b = at-most (is_copy b) 1 _ (body_cost b) (λ e. omega (arith, copy-l
     (body_cost b) (λ e. omega (arith, some-outs b e)) (omega (arith, fewer-outs b.writes b.outs)))
 
 -- and no more with its own sequence
-pub turn-most : (b : Block) → turn_cost b ≤ body_cost b
-turn-most b = omega (arith, turn-plain b, plain-most b)
+pub turn-most : (b : Block) → (carries b ≡ true → length b.found ≤ body_cost b)
+    → turn_cost b ≤ body_cost b
+turn-most b few = at-most (carries b) (length b.found) (bare_cost b) (body_cost b) few
+    (omega (arith, bare-plain b, plain-most b))
 
 -- no sequence of its own makes a round dearer
-pub rounds-plain : (rs : List (RoundOf Block)) → rounds_cost rs ≤ plain_costs rs
-rounds-plain rs = sum_most turn_cost plain_cost turn-plain rs
+pub rounds-plain : (rs : List (RoundOf Block)) → AllByRecursion (λ r. CarriesFew r.part) rs
+    → rounds_cost rs ≤ plain_costs rs
+rounds-plain rs few = sum_most turn_cost plain_cost CarriesFew turn-plain rs few

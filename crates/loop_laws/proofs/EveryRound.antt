@@ -302,7 +302,8 @@ module _ (n : ℕ) (rooms : List Room) (some : 0 < n) (are : RoomsApart n rooms)
       record {
         reads = most_is c.graph.inputs (length c.reads) a1.0;
         states = states_fit rooms rows b h (eqb-true (length c.outs) (length c.writes) a2.0);
-        known = states_known rooms rows b h;
+        found = λ carried. absurd (cc);
+        known = λ bare. states_known rooms rows b h;
         apart = λ i j li lj h. fit.differ i j (wr i li) (wr j lj)
             (one_owner (nth_place c.writes i) (nth_place c.writes j) (mark_at b.writes i)
             (mark_at b.writes j) (nth_placed rooms b.writes i (wr i li))

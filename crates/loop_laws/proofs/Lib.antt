@@ -7,6 +7,8 @@ pub mod Costing
 pub mod Fitting
 pub mod Alike
 pub mod NoStates
+pub mod Rowed
 pub mod Good
 pub mod EveryRound
+pub mod EachRound
 pub mod Compile

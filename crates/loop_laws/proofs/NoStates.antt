@@ -10,7 +10,7 @@ use Rattle.loop_ir.specs.Plain.InnerOf.{Alone, Across}
 use Rattle.loop_ir.specs.Plain.StepOf.{Single, Along, Nest, Pairs}
 use Rattle.loop_ir.specs.Spots.{is_state, nth_place}
 use Rattle.loop_ir.specs.States.{has_states, StatesFit}
-use Rattle.loop_ir.specs.Chains.{states_in, is_left, finds, left_by, loop_finds, inner_left}
+use Rattle.loop_ir.specs.Chains.{states_in, is_alive, finds, left_by, loop_finds, inner_left}
 use Rattle.loop_ir.specs.Chains.{inner_finds, steps_find}
 use Rattle.loop_laws.proofs.Alike.{or_parts, none_at, none_first, rows_first}
 
@@ -52,7 +52,7 @@ none_in (p ∷ ps) qs none =
     ap (λ b. cond b (p.which ∷ states_in ps) (states_in ps)) e.0 ∙ none_in ps qs e.1
 
 rows_find : (alive : List ℕ) (b : Block) → HasRows b → finds alive b ≡ true
-rows_find alive b none = ap (list_all (λ w. is_left w alive)) (none_in b.reads b.writes none)
+rows_find alive b none = ap (list_all (λ w. is_alive w alive)) (none_in b.reads b.writes none)
 
 loop_rows : (alive : List ℕ) (b : Block) → HasRows b → loop_finds alive b ≡ true
 loop_rows alive b none = and_from (finds alive b) (finds (left_by b) b) (rows_find alive b none)

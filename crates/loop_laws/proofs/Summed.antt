@@ -2,6 +2,7 @@
 use Rattle.std.proofs.Common.{◌≡◌, ℕ, zero, suc, ◌+◌, ◌-◌, ◌*◌, ◌≤◌, List, [], ◌∷◌, ◌++◌, refl, sym}
 use Rattle.std.proofs.Common.{ap, ◌∙◌, arith}
 use Rattle.std.specs.Prelude.{sum_by}
+use Rattle.std.specs.List.{AllByRecursion}
 use Rattle.std.proofs.lemmas.List.Sums.{sum_by-cons, sum_by-append}
 use Rattle.loop_ir.specs.declared.ir.Count.TheVariants.{All, Rest, UpTo}
 use Rattle.loop_ir.specs.Plain.{Block, InnerOf, StepOf}
@@ -111,8 +112,9 @@ module _ (f : Block → ℕ) where
       let c = sum_each b 1 0 (n - 1) in omega (arith, e, a, c)
 
 -- of two counts of which one is nowhere greater
-pub sum_most : (f g : Block → ℕ) → ((b : Block) → f b ≤ g b) → (rs : List (RoundOf Block))
+pub sum_most : (f g : Block → ℕ) (P : Block → Type 0) → ((b : Block) → P b → f b ≤ g b)
+    → (rs : List (RoundOf Block)) → AllByRecursion (λ r. P r.part) rs
     → rounds_sum f rs ≤ rounds_sum g rs
-sum_most f g h [] = omega arith
-sum_most f g h (r ∷ rs) = let a = more f r rs in let b = more g r rs in let c = h r.part in
-    let d = sum_most f g h rs in omega (arith, a, b, c, d)
+sum_most f g P h [] all = omega arith
+sum_most f g P h (r ∷ rs) all = let a = more f r rs in let b = more g r rs in
+    let c = h r.part all.0 in let d = sum_most f g P h rs all.1 in omega (arith, a, b, c, d)

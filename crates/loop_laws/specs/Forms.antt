@@ -1,5 +1,5 @@
 -- What a loop program has to keep, so that it can be compiled.
-use Rattle.std.specs.Prelude.{◌≡◌, ℕ, ◌+◌, ◌<◌, ◌≤◌, ◌==◌, Bool, true, ◌&&◌, nat_le, List}
+use Rattle.std.specs.Prelude.{◌≡◌, ℕ, ◌+◌, ◌<◌, ◌≤◌, ◌==◌, Bool, true, false, ◌&&◌, nat_le, List}
 use Rattle.std.specs.Prelude.{[], ◌∷◌, length, if◌then◌else◌}
 use Rattle.std.specs.List.{AllByRecursion, list_all}
 use Rattle.bit_rows.specs.declared.TheConstants.{WIDTH_MAX}
@@ -14,14 +14,15 @@ use Rattle.loop_ir.specs.Spots.{Spot, is_state, nth_place}
 use Rattle.loop_ir.specs.WellFormed.{IsOneValue}
 use Rattle.loop_ir.specs.States.{StatesFit, has_states, held_of}
 use Rattle.loop_ir.specs.Chains.{steps_find}
-use Rattle.loop_ir.specs.Costs.{used_subs, code_cost, bodies}
-use Rattle.loop_ir.specs.Limits.{IsRound, is_served, step_stands}
+use Rattle.loop_ir.specs.Costs.{carries, used_subs, code_cost, bodies}
+use Rattle.loop_ir.specs.Limits.{IsCarried, IsRound, is_served, step_stands}
 
 -- a body's places and numbers, but for its nodes
 pub record IsSlim (b : Block) : Type 0 where
   pub reads : b.graph.inputs ≤ length b.reads
   pub states : StatesFit b
-  pub known : has_states b ≡ true → is_served (held_of b) b ≡ true
+  pub found : carries b ≡ true → IsCarried b
+  pub known : carries b ≡ false → has_states b ≡ true → is_served (held_of b) b ≡ true
   pub apart : (i j : ℕ) → i < length b.writes → j < length b.writes
       → IsOneValue (nth_place b.writes i) (nth_place b.writes j) → i ≡ j
   pub same : (j k : ℕ) → j < length b.writes → k < length b.reads

@@ -82,6 +82,7 @@ placed_body rooms b = record {
   graph = b.graph;
   outs = b.outs;
   writes = map (placed rooms) b.writes;
+  found = [];
 }
 
 -- a loop program with its places found

@@ -9,6 +9,7 @@ pub mod Table
 pub mod Phases
 pub mod Order
 pub mod Known
+pub mod Found
 pub mod Layouts
 pub mod Held
 pub mod HeldBodies

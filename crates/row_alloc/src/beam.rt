@@ -4,10 +4,10 @@
 //! A step makes one node or writes one output, and after each step the few states of the least
 //! estimate go on. Nothing is promised of the commands. They are taken where they are found right.
 
-use crate::body::{BodyCmd, OutRow};
+use crate::body::{BodyCmd, Held, OutRow};
 use crate::cells::{Short, lacking};
 use crate::estimate::{estimate, is_ready, points_of_nodes};
-use crate::moves::{Commands, LineUp, Way, complemented, writes};
+use crate::moves::{Commands, LineUp, Way, complemented, fill_left, writes};
 use crate::outlook::{State, Task, in_place};
 use faults::keep;
 use mig_graph::{Mig, NoMemory};
@@ -38,6 +38,12 @@ pub const NARROW: Breadth = Breadth {
 /// Comes to the end of some bodies of the most nodes and outputs, for which both have too few.
 pub const DEEP: Breadth = Breadth {
     width: 2,
+    most_states: 7_000,
+};
+
+/// Finds the fewest commands for most bodies that hold states in cells.
+pub const BROAD: Breadth = Breadth {
+    width: 12,
     most_states: 7_000,
 };
 
@@ -459,6 +465,37 @@ impl Beam {
         Ok(())
     }
 
+    /// The entry after the cells at exit are filled, if they can be.
+    fn filled(&mut self, task: &Task, entry: &Entry) -> Result<Option<Entry>, NoMemory> {
+        let at = self.done.len();
+        keep(&mut self.done, *entry)?;
+        let Some(way) = fill_left(task, &entry.state) else {
+            return Ok(None);
+        };
+        let spent = entry.spent.saturating_add(way.cmds.len());
+        Ok(Some(Entry {
+            state: way.state,
+            spent,
+            rank: spent,
+            from: Some(at),
+            cmds: way.cmds,
+        }))
+    }
+
+    /// The entry of the fewest commands, with the cells at exit filled.
+    fn last(&mut self, task: &Task, alloc: Global) -> Result<Option<Entry>, NoMemory> {
+        let now = mem::replace(&mut self.now, Bucket::new(alloc));
+        let mut best = match now.safe {
+            Some(entry) => self.filled(task, &entry)?,
+            None => None,
+        };
+        for entry in &now.kept {
+            let filled = self.filled(task, entry)?;
+            best = fewer_of(best, filled);
+        }
+        Ok(best)
+    }
+
     /// The commands that led to an entry, the last one first.
     fn commands_back(&self, last: &Entry, alloc: Global) -> Result<Vec<BodyCmd>, NoMemory> {
         let mut cmds = Vec::new(alloc);
@@ -474,6 +511,15 @@ impl Beam {
     }
 }
 
+/// The second, where it took fewer commands, or there is no first.
+fn fewer_of(first: Option<Entry>, second: Option<Entry>) -> Option<Entry> {
+    match (first, second) {
+        (Some(first), Some(second)) if first.spent <= second.spent => Some(first),
+        (first, None) => first,
+        (_, second) => second,
+    }
+}
+
 /// The commands, the last one first.
 fn push_back(cmds: &mut Vec<BodyCmd>, step: &Commands) -> Result<(), NoMemory> {
     for back in 0..6u8 {
@@ -484,16 +530,18 @@ fn push_back(cmds: &mut Vec<BodyCmd>, step: &Commands) -> Result<(), NoMemory> {
     Ok(())
 }
 
-/// Commands for the body, or none where the search finds none. It ends early where so many commands
-/// or fewer are not to be hoped for.
+/// Commands for the body that finds and leaves these values in cells, or none where the search
+/// finds none. It ends early where so many commands or fewer are not to be hoped for.
 pub fn beam_body(
     m: &Mig,
     outs: &[OutRow],
+    enter: &[Held],
+    leave: &[Held],
     breadth: Breadth,
     most: usize,
     alloc: Global,
 ) -> Result<Vec<BodyCmd>, NoMemory> {
-    let task = Task::new(m, outs, alloc)?;
+    let task = Task::new(m, outs, enter, leave, alloc)?;
     let mut beam = Beam::new(&task, breadth, alloc)?;
     let steps = task.start().left();
     for done in 0..steps {
@@ -502,7 +550,7 @@ pub fn beam_body(
         }
         beam.step(&task, (steps - done) as usize, alloc)?;
     }
-    match beam.now.best() {
+    match beam.last(&task, alloc)? {
         Some(last) => {
             let mut cmds = beam.commands_back(&last, alloc)?;
             cmds.reverse();

@@ -1,6 +1,6 @@
 //! How many commands a state may still take, in twentieths of a command.
 
-use crate::cells::{Short, holders};
+use crate::cells::{Short, holders, lacking};
 use crate::outlook::{State, Task, in_place};
 use crate::set::Set;
 
@@ -113,10 +113,29 @@ fn points_of_cells(task: &Task, s: &State) -> u32 {
     points
 }
 
+/// One command for a literal that is made and lacks a cell in which it is to be left, and little
+/// for one that is not.
+fn points_of_left(task: &Task, s: &State) -> u32 {
+    let lacks = lacking(task.leave(), &s.cells);
+    let mut points = 0u32;
+    let mut seen = Set(0);
+    for k in 0..6u8 {
+        let l = task.leave().get(k);
+        if lacks.has(k) && !seen.has(k) {
+            let cells = holders(task.leave(), l);
+            seen = seen.or(cells.straight()).or(cells.complemented());
+            let is_unmade = task.is_unmade(s, l.node());
+            points = points.saturating_add(if is_unmade { 4 } else { 20 });
+        }
+    }
+    points
+}
+
 /// The whole estimate, where that of the nodes is known.
 pub fn estimate(task: &Task, s: &State, nodes: u32) -> u32 {
     nodes
         .saturating_add(points_of_outputs(task, s))
         .saturating_add(points_of_cells(task, s))
+        .saturating_add(points_of_left(task, s))
         .saturating_sub(gains(task, s))
 }

@@ -63,7 +63,7 @@ fn first_known(m: &Mig, outs: &[OutRow]) -> Option<usize>
 }
 
 /// A copy of commands.
-fn copied(cmds: &[BodyCmd], alloc: Global) -> Result<Vec<BodyCmd>, NoMemory>
+pub(crate) fn copied(cmds: &[BodyCmd], alloc: Global) -> Result<Vec<BodyCmd>, NoMemory>
     ensures { IfOk result (λ v. v.items ≡ cmds.now) }
 {
     Ok(cmds.to_vec(alloc)?)
@@ -87,7 +87,7 @@ fn shorter_of(
     ensures few { IfOk result (λ cmds. length cmds.items ≤ length plain.items) }
 {
     let most = usize::min(most, plain.len());
-    let cmds = beam_body(m, outs, breadth, most, alloc)?;
+    let cmds = beam_body(m, outs, &[], &[], breadth, most, alloc)?;
     if cmds.len() <= plain.len() && serves(m, outs, &cmds) {
         Ok(cmds)
     } else {
@@ -130,7 +130,10 @@ pub(crate) fn quick_body(
 ) -> Result<Vec<BodyCmd>, NoMemory>
     requires fit { FitBody m.now outs.now }
     ensures does { IfOk result (λ cmds. DoesBody m.now outs.now cmds.items) }
+    ensures late { IfOk result (λ cmds. WritesLate outs.now cmds.items) }
     ensures few { IfOk result (λ cmds. length cmds.items ≤ plain_length m.now outs.now) }
+    ensures least { IfOk result (λ cmds. (k : ℕ) → k < length known
+        → Serves m.now outs.now (known_at k) → length cmds.items ≤ length (known_at k)) }
 {
     let plain = plain_body(m, outs, alloc)?;
     match first_known(m, outs) {

@@ -94,7 +94,13 @@ pub static HELD: [&[BodyCmd]; 14] = [
 ];
 
 /// Whether the commands may stand for the body with its states in these cells.
-fn serves(m: &Mig, outs: &[OutRow], enter: &[Held], leave: &[Held], cmds: &[BodyCmd]) -> bool
+pub(crate) fn serves(
+    m: &Mig,
+    outs: &[OutRow],
+    enter: &[Held],
+    leave: &[Held],
+    cmds: &[BodyCmd],
+) -> bool
     requires fit { FitBody m.now outs.now }
     requires enter { have_layouts enter.now ≡ true }
     requires leave { have_layouts leave.now ≡ true }

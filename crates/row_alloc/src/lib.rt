@@ -9,10 +9,11 @@ mod beam;
 mod body;
 mod cells;
 mod check;
-mod count;
 mod estimate;
+mod found;
 mod greedy;
 mod held;
+mod held_beam;
 mod held_table;
 mod known;
 mod laws;
@@ -29,9 +30,10 @@ mod table;
 
 pub use body::{BodyCmd, BodyRef, Held, OutRow};
 pub use check::check_body;
-pub use count::{commands_of, quick_commands_of};
+pub use found::{Search, find_body};
 pub use greedy::greedy_body;
 pub use held::check_held;
+pub use held_beam::held_commands_of;
 pub use held_table::held_body;
 pub use laws::{
     fixed_sequences_serve, held_bodies_have_sequences, legal_bodies_are_legal_on_banks,

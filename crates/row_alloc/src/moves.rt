@@ -199,6 +199,19 @@ impl LineUp {
         Ok(())
     }
 
+    /// The cell that is loaded next: the first that lacks its literal. Where states stand in cells,
+    /// a literal that no row has comes before the others, since their loads may take its cells.
+    fn next_to_load(&self, task: &Task, s: &State) -> Option<u8> {
+        let lacks = lacking(&self.want, &s.cells);
+        for k in 0..6u8 {
+            let node = self.want.get(k).node();
+            if task.holds_states() && lacks.has(k) && !task.is_in_rows(s, node) {
+                return Some(k);
+            }
+        }
+        lacks.first()
+    }
+
     /// The ways that go on by a copy of one cell of the triple to cells outside of it.
     fn save_in_cells(
         &self,
@@ -262,7 +275,7 @@ impl LineUp {
 
     /// The ways that go on by one command, where the triple is not yet ready.
     fn go_on(&self, task: &Task, way: &Way, ways: &mut Vec<Way>) -> Result<(), NoMemory> {
-        match lacking(&self.want, &way.state.cells).first() {
+        match self.next_to_load(task, &way.state) {
             Some(k) => self.loads(task, way, k, ways),
             None if !way.saved => self.saves(task, way, ways),
             None => Ok(()),
@@ -361,6 +374,48 @@ pub fn writes(task: &Task, s: &State, j: u8, ends: &mut Vec<Way>) -> Result<(), 
     let mut state = *s;
     state.unwritten = state.unwritten.without(j);
     keep(ends, Way::from(*s).then(state, Aap(from, Out(j))))
+}
+
+/// The way that goes on by a load of one cell, and leaves the fewest of the cells at exit lacking.
+fn fill_by(task: &Task, way: &Way, k: u8, is_complemented: bool, l: Short) -> Option<Way> {
+    let from = task.source(&way.state, l)?;
+    let mut best = None;
+    let mut least = lacking(task.leave(), &way.state.cells).len();
+    for y in 0..16u8 {
+        if raises(y, k, is_complemented) {
+            let mut state = way.state;
+            state.cells = driven(&state.cells, y, l);
+            let lacks = lacking(task.leave(), &state.cells).len();
+            if lacks < least && !task.loses(&way.state.cells, &state) {
+                least = lacks;
+                best = Some(way.then(state, Aap(from, B(y))));
+            }
+        }
+    }
+    best
+}
+
+/// The same, of a cell straight or else complemented.
+fn fill_cell(task: &Task, way: &Way, k: u8) -> Option<Way> {
+    let l = task.leave().get(k);
+    let straight = fill_by(task, way, k, false, l);
+    if straight.is_none() && k > 3 {
+        fill_by(task, way, k, true, l.complement())
+    } else {
+        straight
+    }
+}
+
+/// The way that fills the cells at exit.
+pub fn fill_left(task: &Task, s: &State) -> Option<Way> {
+    let mut way = Way::from(*s);
+    for _cell in 0..6u8 {
+        match lacking(task.leave(), &way.state.cells).first() {
+            Some(k) => way = fill_cell(task, &way, k)?,
+            None => return Some(way),
+        }
+    }
+    None
 }
 
 /// Puts a way after the others, where there is room and none has led to the same state.

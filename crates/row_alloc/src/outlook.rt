@@ -2,9 +2,11 @@
 //! more commands that may take.
 
 use crate::body::BodyRef::{self, B, C, In, Out, Spill};
-use crate::body::OutRow;
+use crate::body::{Held, OutRow};
 use crate::cells::{Cells, Short, has_node, holders, reader};
+use crate::layout::layout;
 use crate::set::Set;
+use dram_model::{Cell, Line};
 use faults::keep;
 use mig_graph::{Mig, NoMemory};
 use std::alloc::Global;
@@ -36,18 +38,23 @@ impl State {
 }
 
 /// What reads a node: the majority nodes, the outputs that are it or its complement, and the
-/// outputs that stand in its row, where it is an input.
+/// outputs that stand in its row, where it is an input. A node may also stand in cells at entry,
+/// without a row, and be left in cells at exit.
 #[derive(Clone, Copy)]
 struct Uses {
     readers: Set,
     named: Set,
     taken: Set,
+    is_held: bool,
+    is_left: bool,
 }
 
 const UNUSED: Uses = Uses {
     readers: Set(0),
     named: Set(0),
     taken: Set(0),
+    is_held: false,
+    is_left: false,
 };
 
 /// A graph with its outputs, and what reads each node.
@@ -58,6 +65,10 @@ pub struct Task {
     uses: Vec<Uses>,
     /// The inputs in whose rows outputs stand.
     taken: Vec<u8>,
+    /// What the cells hold at entry.
+    enter: Cells,
+    /// What the cells are to hold at exit.
+    leave: Cells,
 }
 
 impl Drop for Task {
@@ -68,6 +79,8 @@ impl Drop for Task {
             outs: _,
             uses: _,
             taken: _,
+            enter: _,
+            leave: _,
         } = self;
     }
 }
@@ -139,21 +152,59 @@ fn taking(outs: &[OutRow], node: u8) -> Set {
     set
 }
 
+/// The cells after a wordline takes a literal.
+fn taken_by(cells: &Cells, line: Line, l: Short) -> Cells {
+    let l = if line.inverted { l.complement() } else { l };
+    match line.cell {
+        Cell::T(k) if k < 4 => cells.with(Set(0).with(k), l),
+        Cell::Dcc(k) if k < 2 => cells.with(Set(0).with(4 + k), l),
+        _ => *cells,
+    }
+}
+
+/// The cells that hold these literals.
+fn cells_of(held: &[Held]) -> Cells {
+    let mut cells = Cells::unknown();
+    for h in held {
+        if h.layout < 10 {
+            for line in layout(h.layout) {
+                cells = taken_by(&cells, *line, Short::of(h.lit));
+            }
+        }
+    }
+    cells
+}
+
+/// Whether one of the literals is the node or its complement.
+fn has_literal(held: &[Held], node: u8) -> bool {
+    held.iter().any(|h| h.lit.node == u32::from(node))
+}
+
 impl Task {
-    /// The graph's nodes and outputs.
-    pub fn new(m: &Mig, outs: &[OutRow], alloc: Global) -> Result<Task, NoMemory> {
+    /// The graph's nodes and outputs, and what stands in cells at entry and exit.
+    pub fn new(
+        m: &Mig,
+        outs: &[OutRow],
+        enter: &[Held],
+        leave: &[Held],
+        alloc: Global,
+    ) -> Result<Task, NoMemory> {
         let mut task = Task {
             inputs: m.inputs(),
             nodes: nodes_of(m, alloc)?,
             outs: literals_of(outs, alloc)?,
             uses: Vec::new(alloc),
             taken: taken_of(outs, alloc)?,
+            enter: cells_of(enter),
+            leave: cells_of(leave),
         };
         for node in 0..128u8 {
             let uses = Uses {
                 readers: readers_of(&task.nodes, node),
                 named: named_by(&task.outs, node),
                 taken: taking(outs, node),
+                is_held: has_literal(enter, node),
+                is_left: has_literal(leave, node),
             };
             keep(&mut task.uses, uses)?;
         }
@@ -173,6 +224,16 @@ impl Task {
     /// The literal of each output.
     pub fn outs(&self) -> &[Short] {
         &self.outs
+    }
+
+    /// What the cells are to hold at exit.
+    pub fn leave(&self) -> &Cells {
+        &self.leave
+    }
+
+    /// Whether values stand in cells at entry.
+    pub fn holds_states(&self) -> bool {
+        !self.enter.known().is_empty()
     }
 
     /// The literal of an output.
@@ -228,10 +289,11 @@ impl Task {
         }
     }
 
-    /// Whether a node that must be made or an output that must be written reads the node.
+    /// Whether a node that must be made or an output that must be written reads the node, or it is
+    /// left in cells.
     pub fn is_wanted(&self, s: &State, node: u8) -> bool {
         let uses = self.uses(node);
-        uses.readers.meets(s.unmade) || uses.named.meets(s.unwritten)
+        uses.is_left || uses.readers.meets(s.unmade) || uses.named.meets(s.unwritten)
     }
 
     /// The row of a written output that is this literal.
@@ -252,8 +314,12 @@ impl Task {
     fn own_row(&self, s: &State, node: u8) -> Option<BodyRef> {
         match self.majority(node) {
             Some(k) if s.spilled.has(k) => Some(Spill(k)),
-            None if 0 < node && self.uses(node).taken.minus(s.unwritten).is_empty() => {
-                Some(In(node - 1))
+            None if 0 < node && !self.uses(node).is_held => {
+                if self.uses(node).taken.minus(s.unwritten).is_empty() {
+                    Some(In(node - 1))
+                } else {
+                    None
+                }
             }
             _ => None,
         }
@@ -323,7 +389,7 @@ impl Task {
         let outs = self.outs.len();
         let unwritten = Set::below(if outs < 8 { outs as u8 } else { 8 });
         let mut s = State {
-            cells: Cells::unknown(),
+            cells: self.enter,
             spilled: Set(0),
             unmade: Set(0),
             unwritten,

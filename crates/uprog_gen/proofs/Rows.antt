@@ -5,7 +5,6 @@ pub mod Alive
 pub mod Chained
 pub mod States
 pub mod Named
-pub mod Rowed
 pub mod Ranges
 pub mod Laid
 pub mod Agree

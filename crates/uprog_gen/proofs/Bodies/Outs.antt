@@ -38,7 +38,7 @@ use Rattle.row_alloc.specs.HeldBodies.{HeldBody, held_at, held_sequence_for}
 use Rattle.loop_ir.specs.States.{has_states, held_of, row_count, enters, leaves}
 use Rattle.uprog_gen.proofs.Bodies.Held.{held_few}
 use Rattle.uprog_gen.proofs.Rows.Named.{row_few}
-use Rattle.uprog_gen.proofs.Rows.Rowed.{have_rows, all_count, no_enters, no_leaves}
+use Rattle.loop_laws.proofs.Rowed.{have_rows, all_count, no_enters, no_leaves}
 
 pub nth-at : (places : List Place) (k : ℕ) (d : Place) → k < length places
     → slice_index_or places k d ≡ nth_place places k

@@ -12,7 +12,7 @@ use Rattle.loop_ir.specs.Plain.InnerOf.{Alone, Across}
 use Rattle.loop_ir.specs.Plain.StepOf.{Single, Along, Nest, Pairs}
 use Rattle.loop_ir.specs.Loops.{RoundOf, one_round, rounds, positions, inner_rounds}
 use Rattle.loop_ir.specs.Loops.{all_rounds}
-use Rattle.loop_ir.specs.Chains.{states_in, is_left, finds, left_by, loop_finds, inner_left}
+use Rattle.loop_ir.specs.Chains.{states_in, is_alive, finds, left_by, loop_finds, inner_left}
 use Rattle.loop_ir.specs.Chains.{inner_finds, steps_find}
 use Rattle.uprog_gen.proofs.Rows.Alive.{chained}
 
@@ -38,14 +38,14 @@ left_both (r ∷ rs) ys alive = left_both rs ys (left_by r.part)
 
 -- the states of the first are among the second
 abbrev pub Within : List ℕ → List ℕ → Type 0
-Within xs ys = (w : ℕ) → is_left w xs ≡ true → is_left w ys ≡ true
+Within xs ys = (w : ℕ) → is_alive w xs ≡ true → is_alive w ys ≡ true
 
-more_find : (ws xs ys : List ℕ) → Within xs ys → list_all (λ w. is_left w xs) ws ≡ true
-    → list_all (λ w. is_left w ys) ws ≡ true
+more_find : (ws xs ys : List ℕ) → Within xs ys → list_all (λ w. is_alive w xs) ws ≡ true
+    → list_all (λ w. is_alive w ys) ws ≡ true
 more_find [] xs ys h e = refl
 more_find (w ∷ ws) xs ys h e =
-    let p = and_parts (is_left w xs) (list_all (λ w. is_left w xs) ws) e in
-    and_from (is_left w ys) (list_all (λ w. is_left w ys) ws) (h w p.0) (more_find ws xs ys h p.1)
+    let p = and_parts (is_alive w xs) (list_all (λ w. is_alive w xs) ws) e in
+    and_from (is_alive w ys) (list_all (λ w. is_alive w ys) ws) (h w p.0) (more_find ws xs ys h p.1)
 
 -- with more alive all that is needed is found, so statements can stand one after another
 pub more_chained : (rs : List (RoundOf Block)) (xs ys : List ℕ) → Within xs ys
@@ -72,7 +72,7 @@ join : (alive mid left : List ℕ) (xs ys : List (RoundOf Block)) → Chains ali
 join alive mid left xs ys a b = record {
   need = both_chained xs ys alive a.need
       (more_chained ys mid (left_after alive xs) a.left_in b.need);
-  left_in = λ w e. subst (λ l. is_left w l ≡ true) (sym (left_both xs ys alive))
+  left_in = λ w e. subst (λ l. is_alive w l ≡ true) (sym (left_both xs ys alive))
       (more_left ys mid (left_after alive xs) a.left_in w (b.left_in w e));
 }
 

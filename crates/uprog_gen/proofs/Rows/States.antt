@@ -17,25 +17,25 @@ use Rattle.row_alloc.specs.Held.{CellsHold, is_held}
 use Rattle.row_alloc.specs.Layouts.{StandsIn}
 use Rattle.loop_ir.specs.Spots.{Spots, spot_at, nth_place, nth_spot, is_state}
 use Rattle.loop_ir.specs.States.{enters, leaves}
-use Rattle.loop_ir.specs.Chains.{states_in, is_left}
+use Rattle.loop_ir.specs.Chains.{states_in, is_alive}
 use Rattle.uprog_gen.proofs.Rows.Alive.{state_spot, AreStanding}
 
 -- a state that is alive stands in its cells
-among : (P : ℕ → Type 0) (alive : List ℕ) (w : ℕ) → is_left w alive ≡ true
+among : (P : ℕ → Type 0) (alive : List ℕ) (w : ℕ) → is_alive w alive ≡ true
     → AllByRecursion P alive → P w
 among P [] w e h = absurd (cc)
 among P (v ∷ vs) w e h = by (v == w) refl e (λ g. among P vs w g h.1)
   where
-    by : (c : Bool) → (v == w) ≡ c → (c || is_left w vs) ≡ true → (is_left w vs ≡ true → P w)
+    by : (c : Bool) → (v == w) ≡ c → (c || is_alive w vs) ≡ true → (is_alive w vs ≡ true → P w)
         → P w
     by true f g more = subst P (eqb-true v w f) h.0
     by false f g more = more g
 
-pub are_among : (P : ℕ → Type 0) (alive ws : List ℕ) → list_all (λ w. is_left w alive) ws ≡ true
+pub are_among : (P : ℕ → Type 0) (alive ws : List ℕ) → list_all (λ w. is_alive w alive) ws ≡ true
     → AllByRecursion P alive → AllByRecursion P ws
 are_among P alive [] e h = tt
 are_among P alive (w ∷ ws) e h =
-    let f = and_parts (is_left w alive) (list_all (λ w. is_left w alive) ws) e in
+    let f = and_parts (is_alive w alive) (list_all (λ w. is_alive w alive) ws) e in
     (among P alive w f.0 h, are_among P alive ws f.1 h)
 
 -- an input that stands in a row isn't held

@@ -1,6 +1,6 @@
 use Rattle.std.proofs.Common.{◌≡◌, ◌≢◌, ◌<◌, ℕ, Some}
 use Rattle.row_alloc.specs.Rows.{out_at}
-use Rattle.row_alloc.proofs.count.are_alone.Given as goal
+use Rattle.row_alloc.proofs.found.are_alone.Given as goal
 
 -- none of the outputs so far stands in the row of an earlier one
 abbrev pub invariant-loop-j : goal.invariant-loop-j

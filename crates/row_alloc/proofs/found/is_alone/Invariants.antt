@@ -1,6 +1,6 @@
 use Rattle.std.proofs.Common.{◌≡◌, ◌≢◌, ◌<◌, ℕ, Some}
 use Rattle.row_alloc.specs.Rows.{out_at}
-use Rattle.row_alloc.proofs.count.is_alone.Given as goal
+use Rattle.row_alloc.proofs.found.is_alone.Given as goal
 
 -- the outputs so far stand in other rows
 abbrev pub invariant-loop-i : goal.invariant-loop-i

@@ -1,6 +1,6 @@
 use Rattle.std.proofs.Common.{◌≡◌, ◌<◌, ℕ, Some}
 use Rattle.row_alloc.specs.Rows.{out_at}
-use Rattle.row_alloc.proofs.count.are_inputs.Given as goal
+use Rattle.row_alloc.proofs.found.are_inputs.Given as goal
 
 -- the outputs so far
 abbrev pub invariant-loop-j : goal.invariant-loop-j

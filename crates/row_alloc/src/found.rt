@@ -1,16 +1,27 @@
-//! How many commands a body takes.
+//! The commands that are found for a body.
 
 ghost use Rattle.std.specs.Prelude.{◌≡◌, ◌≢◌, ◌<◌, ◌≤◌, ◌+◌, ◌↔◌, ℕ, IsTrue, IfOk};
 ghost use Rattle.std.specs.Prelude.{IfSome, IfNone, Some, length};
 ghost use Rattle.row_alloc.specs.Rows.{out_at};
-ghost use Rattle.row_alloc.specs.Body.{FitBody, IsLengthOf};
-ghost use Rattle.row_alloc.specs.Length.{plain_length};
+ghost use Rattle.row_alloc.specs.Body.{FitBody};
+ghost use Rattle.row_alloc.specs.Found.{IsFound};
 
-use crate::beam::{Breadth, NARROW, WIDE};
-use crate::body::OutRow;
-use crate::greedy::quick_body;
+use crate::beam::{NARROW, WIDE};
+use crate::body::{BodyCmd, OutRow};
+use crate::greedy::{greedy_body, quick_body};
 use mig_graph::{Mig, NoMemory};
 use std::alloc::Global;
+
+/// How far the search for a body's commands goes.
+#[derive(Clone, Copy)]
+pub enum Search {
+    /// By the narrow beam alone, in little time.
+    Narrow,
+    /// By the wide beam alone.
+    Wide,
+    /// By each beam: the greedy body, which takes no more than by either.
+    Whole,
+}
 
 /// Whether each literal names one of so many nodes.
 fn are_named(outs: &[OutRow], nodes: u32) -> bool
@@ -88,51 +99,41 @@ fn fits(m: &Mig, outs: &[OutRow]) -> bool
         && are_alone(outs)
 }
 
-/// How many commands the body takes that a beam finds.
-fn count(
+/// The commands of the body that such a search finds.
+fn search_body(
     m: &Mig,
     outs: &[OutRow],
-    breadth: Breadth,
+    search: Search,
     most: usize,
     alloc: Global,
-) -> Result<Option<usize>, NoMemory>
-    ensures some { IfOk result (λ o. IfSome o (IsLengthOf m.now outs.now)) }
+) -> Result<Vec<BodyCmd>, NoMemory>
+    requires { FitBody m.now outs.now }
+    ensures { IfOk result (λ cmds. IsFound m.now outs.now cmds.items) }
+{
+    match search {
+        Search::Narrow => quick_body(m, outs, NARROW, most, alloc),
+        Search::Wide => quick_body(m, outs, WIDE, most, alloc),
+        Search::Whole => greedy_body(m, outs, alloc),
+    }
+}
+
+/// The commands of a body, if any can be made of it.
+///
+/// A search by one beam looks for no more than `most`: where the body takes more, it gives a body
+/// of more commands, in less time.
+pub fn find_body(
+    m: &Mig,
+    outs: &[OutRow],
+    search: Search,
+    most: usize,
+    alloc: Global,
+) -> Result<Option<Vec<BodyCmd>>, NoMemory>
+    ensures some { IfOk result (λ o. IfSome o (λ cmds. IsFound m.now outs.now cmds.items)) }
     ensures none { IfOk result (λ o. IfNone o (FitBody m.now outs.now → ⊥)) }
-    ensures few { IfOk result (λ o. IfSome o (λ n. n ≤ plain_length m.now outs.now)) }
 {
     if !fits(m, outs) {
         return Ok(None);
     }
-    let cmds = quick_body(m, outs, breadth, most, alloc)?;
-    Ok(Some(cmds.len()))
-}
-
-/// How many commands a body takes that the wide beam finds, if commands can be made of the body.
-///
-/// Where these are more than `most`, a body of more commands is counted, in less time.
-pub fn commands_of(
-    m: &Mig,
-    outs: &[OutRow],
-    most: usize,
-    alloc: Global,
-) -> Result<Option<usize>, NoMemory>
-    ensures some { IfOk result (λ o. IfSome o (IsLengthOf m.now outs.now)) }
-    ensures none { IfOk result (λ o. IfNone o (FitBody m.now outs.now → ⊥)) }
-    ensures few { IfOk result (λ o. IfSome o (λ n. n ≤ plain_length m.now outs.now)) }
-{
-    count(m, outs, WIDE, most, alloc)
-}
-
-/// The same by the narrow beam, in less time. The greedy body takes no more than by either.
-pub fn quick_commands_of(
-    m: &Mig,
-    outs: &[OutRow],
-    most: usize,
-    alloc: Global,
-) -> Result<Option<usize>, NoMemory>
-    ensures some { IfOk result (λ o. IfSome o (IsLengthOf m.now outs.now)) }
-    ensures none { IfOk result (λ o. IfNone o (FitBody m.now outs.now → ⊥)) }
-    ensures few { IfOk result (λ o. IfSome o (λ n. n ≤ plain_length m.now outs.now)) }
-{
-    count(m, outs, NARROW, most, alloc)
+    let cmds = search_body(m, outs, search, most, alloc)?;
+    Ok(Some(cmds))
 }

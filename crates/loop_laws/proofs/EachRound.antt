@@ -1,0 +1,69 @@
+-- What holds of every body holds of every round.
+use Rattle.std.proofs.Common.{ℕ, zero, suc, ◌+◌, ◌-◌, ◌<◌, ◌≤◌, List, [], ◌∷◌, ◌++◌, map}
+use Rattle.std.specs.List.{AllByRecursion}
+use Rattle.loop_ir.specs.Plain.{Block, InnerOf, StepOf, AllInner, AllParts, inner_map, step_map}
+use Rattle.loop_ir.specs.Plain.InnerOf.{Alone, Across}
+use Rattle.loop_ir.specs.Plain.StepOf.{Single, Along, Nest, Pairs}
+use Rattle.loop_ir.specs.Loops.{RoundOf, one_round, rounds, positions, inner_rounds, all_rounds}
+use Rattle.loop_ir.specs.Costs.{rounds_cost, plain_costs}
+use Rattle.loop_laws.specs.Rooms.{Room, Marked, placed_body, placed_steps}
+use Rattle.loop_laws.proofs.EveryRound.{all_append}
+use Rattle.loop_laws.proofs.Costing.{CarriesFew, rounds-plain}
+
+module _ (P : Block → Type 0) where
+  abbrev OfPart : RoundOf Block → Type 0
+  OfPart r = P r.part
+
+  over : (f : ℕ → List (RoundOf Block)) → ((j : ℕ) → AllByRecursion OfPart (f j)) → (i count : ℕ)
+      → AllByRecursion OfPart (rounds f i count)
+  over f h i zero = tt
+  over f h i (suc count) = all_append OfPart (f i) (rounds f (i + 1) count) (h i)
+      (over f h (i + 1) count)
+
+  each : (b : Block) (o i count : ℕ) → P b
+      → AllByRecursion OfPart (rounds (λ j. one_round b j o) i count)
+  each b o i count p = over (λ j. one_round b j o) (λ j. (p, tt)) i count
+
+  inners : (n o : ℕ) (xs : List (InnerOf Block)) → AllInner P xs
+      → AllByRecursion OfPart (inner_rounds n o xs)
+  inners n o [] all = tt
+  inners n o (Alone b ∷ xs) all = (all.0, inners n o xs all.1)
+  inners n o (Across c b ∷ xs) all = all_append OfPart
+      (rounds (λ i. one_round b i o) 0 (positions n o c)) (inner_rounds n o xs)
+      (each b o 0 (positions n o c) all.0) (inners n o xs all.1)
+
+  pub each_round : (n : ℕ) (ss : List (StepOf Block)) → AllParts P ss
+      → AllByRecursion OfPart (all_rounds n ss)
+  each_round n [] all = tt
+  each_round n (Single b ∷ ss) all = (all.0, each_round n ss all.1)
+  each_round n (Along b ∷ ss) all = all_append OfPart (rounds (λ i. one_round b i 0) 0 n)
+      (all_rounds n ss) (each b 0 0 n all.0) (each_round n ss all.1)
+  each_round n (Nest xs ∷ ss) all = all_append OfPart (rounds (λ o. inner_rounds n o xs) 0 n)
+      (all_rounds n ss) (over (λ o. inner_rounds n o xs) (λ o. inners n o xs all.0) 0 n)
+      (each_round n ss all.1)
+  each_round n (Pairs b ∷ ss) all = all_append OfPart (rounds (λ i. one_round b i 1) 0 (n - 1))
+      (all_rounds n ss) (each b 1 0 (n - 1) all.0) (each_round n ss all.1)
+
+  module _ (f : Marked → Block) (h : (b : Marked) → P (f b)) where
+    inners_made : (xs : List (InnerOf Marked)) → AllInner P (map (inner_map f) xs)
+    inners_made [] = tt
+    inners_made (Alone b ∷ xs) = (h b, inners_made xs)
+    inners_made (Across c b ∷ xs) = (h b, inners_made xs)
+
+    pub all_made : (ss : List (StepOf Marked)) → AllParts P (map (step_map f) ss)
+    all_made [] = tt
+    all_made (Single b ∷ ss) = (h b, all_made ss)
+    all_made (Along b ∷ ss) = (h b, all_made ss)
+    all_made (Nest xs ∷ ss) = (inners_made xs, all_made ss)
+    all_made (Pairs b ∷ ss) = (h b, all_made ss)
+
+carries_none : (rooms : List Room) (b : Marked) → CarriesFew (placed_body rooms b)
+carries_none rooms b carried = absurd cc
+
+-- no sequence of its own makes a round of a written program dearer
+pub placed-plain : (rooms : List Room) (ss : List (StepOf Marked)) (n : ℕ)
+    → rounds_cost (all_rounds n (placed_steps rooms ss))
+    ≤ plain_costs (all_rounds n (placed_steps rooms ss))
+placed-plain rooms ss n = rounds-plain (all_rounds n (placed_steps rooms ss))
+    (each_round CarriesFew n (placed_steps rooms ss)
+    (all_made CarriesFew (placed_body rooms) (carries_none rooms) ss))

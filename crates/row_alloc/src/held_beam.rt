@@ -1,0 +1,100 @@
+//! The commands of a body that holds states in cells, where a beam finds them.
+
+ghost use Rattle.std.specs.Prelude.{◌≡◌, ◌<◌, ◌≤◌, ℕ, length, true, IfOk, IfSome, IfNone};
+ghost use Rattle.row_alloc.specs.Body.{FitBody, WritesLate};
+ghost use Rattle.row_alloc.specs.Held.{have_layouts, DoesHeld};
+ghost use Rattle.row_alloc.specs.HeldBodies.{IsFirstHeld, held_at};
+
+use crate::beam::{BROAD, Breadth, NARROW, beam_body};
+use crate::body::{BodyCmd, Held, OutRow};
+use crate::greedy::copied;
+use crate::held_table::{held_body, serves};
+use mig_graph::{Mig, NoMemory};
+use std::alloc::Global;
+
+/// The commands of a beam, where they are right and at most so many.
+fn found_of(
+    m: &Mig,
+    outs: &[OutRow],
+    enter: &[Held],
+    leave: &[Held],
+    breadth: Breadth,
+    most: usize,
+    alloc: Global,
+) -> Result<Option<Vec<BodyCmd>>, NoMemory>
+    requires fit { FitBody m.now outs.now }
+    requires enter { have_layouts enter.now ≡ true }
+    requires leave { have_layouts leave.now ≡ true }
+    ensures does { IfOk result (λ o. IfSome o (λ cmds. DoesHeld m.now outs.now enter.now leave.now
+        cmds.items)) }
+    ensures late { IfOk result (λ o. IfSome o (λ cmds. WritesLate outs.now cmds.items)) }
+    ensures few { IfOk result (λ o. IfSome o (λ cmds. length cmds.items ≤ most)) }
+{
+    let cmds = beam_body(m, outs, enter, leave, breadth, most, alloc)?;
+    if cmds.len() <= most && serves(m, outs, enter, leave, &cmds) {
+        Ok(Some(cmds))
+    } else {
+        Ok(None)
+    }
+}
+
+/// The commands of the beam that finds the fewest, where they are right and at most so many.
+fn fewest(
+    m: &Mig,
+    outs: &[OutRow],
+    enter: &[Held],
+    leave: &[Held],
+    most: usize,
+    alloc: Global,
+) -> Result<Option<Vec<BodyCmd>>, NoMemory>
+    requires fit { FitBody m.now outs.now }
+    requires enter { have_layouts enter.now ≡ true }
+    requires leave { have_layouts leave.now ≡ true }
+    ensures does { IfOk result (λ o. IfSome o (λ cmds. DoesHeld m.now outs.now enter.now leave.now
+        cmds.items)) }
+    ensures late { IfOk result (λ o. IfSome o (λ cmds. WritesLate outs.now cmds.items)) }
+    ensures few { IfOk result (λ o. IfSome o (λ cmds. length cmds.items ≤ most)) }
+{
+    let Some(few) = found_of(m, outs, enter, leave, NARROW, most, alloc)? else {
+        return found_of(m, outs, enter, leave, BROAD, most, alloc);
+    };
+    let fewer = few.len().saturating_sub(1);
+    match found_of(m, outs, enter, leave, BROAD, fewer, alloc)? {
+        Some(cmds) => Ok(Some(cmds)),
+        None => Ok(Some(few)),
+    }
+}
+
+/// The commands of a body that finds these states in cells and leaves these there, if at most so
+/// many are known or found: the first of the known sequences that serves, and else what two beams
+/// find.
+///
+/// That a body has no shorter commands is not said, nor is it of one for which none are found. Only
+/// want of memory is an `Err`.
+pub fn held_commands_of(
+    m: &Mig,
+    outs: &[OutRow],
+    enter: &[Held],
+    leave: &[Held],
+    most: usize,
+    alloc: Global,
+) -> Result<Option<Vec<BodyCmd>>, NoMemory>
+    requires fit { FitBody m.now outs.now }
+    requires enter { have_layouts enter.now ≡ true }
+    requires leave { have_layouts leave.now ≡ true }
+    ensures does { IfOk result (λ o. IfSome o (λ cmds. DoesHeld m.now outs.now enter.now leave.now
+        cmds.items)) }
+    ensures late { IfOk result (λ o. IfSome o (λ cmds. WritesLate outs.now cmds.items)) }
+    ensures few { IfOk result (λ o. IfSome o (λ cmds. length cmds.items ≤ most)) }
+    // No more than the known sequence that serves.
+    ensures known { IfOk result (λ o. IfSome o (λ cmds. (k : ℕ)
+        → IsFirstHeld m.now outs.now enter.now leave.now k
+        → length cmds.items ≤ length (held_at k))) }
+    ensures none { IfOk result (λ o. IfNone o ((k : ℕ)
+        → IsFirstHeld m.now outs.now enter.now leave.now k → most < length (held_at k))) }
+{
+    match held_body(m, outs, enter, leave) {
+        Some(cmds) if cmds.len() <= most => Ok(Some(copied(cmds, alloc)?)),
+        _ => fewest(m, outs, enter, leave, most, alloc),
+    }
+}
