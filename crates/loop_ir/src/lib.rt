@@ -5,6 +5,6 @@ mod ir;
 mod names;
 mod wells;
 
-pub use ir::{Body, Count, Inner, LoopProgram, Place, Space, Step, Sub};
+pub use ir::{Body, Count, Inner, LoopProgram, Place, Space, Step, Sub, Turns};
 pub use names::{NameMap, Slot};
 pub use wells::well_formed;
