@@ -10,9 +10,9 @@ use Rattle.loop_ir.specs.declared.ir.Sub.{Sub}
 use Rattle.loop_ir.specs.declared.ir.Sub.TheVariants.{Zero, Top, Inner as At_inner, InnerDown}
 use Rattle.loop_ir.specs.declared.ir.Sub.TheVariants.{Outer, OuterDown, Sum, DownSum, DownPlusN}
 use Rattle.loop_ir.specs.declared.ir.Sub.TheVariants.{NPlusInner}
-use Rattle.loop_ir.specs.Plain.{Block, InnerOf, StepOf}
+use Rattle.loop_ir.specs.Plain.{Block, InnerOf, TurnsOf, StepOf}
 use Rattle.loop_ir.specs.Plain.InnerOf.{Alone, Across}
-use Rattle.loop_ir.specs.Plain.StepOf.{Single, Along, Nest, Pairs}
+use Rattle.loop_ir.specs.Plain.StepOf.{Single, Along, Nest, Pairs, Alternate}
 use Rattle.row_alloc.specs.HeldBodies.{HeldBody, held_at, held_sequence_for}
 use Rattle.loop_ir.specs.Loops.{RoundOf}
 use Rattle.loop_ir.specs.Same.{is_body}
@@ -76,15 +76,19 @@ turn_cost b = if carries b then length b.found else (if has_states b then held_c
     else (if is_or b then 4 else (if is_xor b then 7 else (if is_add b then 9
     else body_cost b)))))))
 
--- the body has no node and writes no row: it starts states in cells, with one command
+-- the body has no node and writes no row: it puts constants or what it reads into cells
 abbrev pub is_start : Block → Bool
 is_start b = (length b.graph.nodes == 0) && ((length (row_outs b.writes b.outs) == 0)
     && nat_lt 0 (length b.outs))
 
+-- a constant comes into all its cells with one command; what is read takes one for each state
+abbrev pub start_cost : Block → ℕ
+start_cost b = if length b.reads == 0 then 1 else length b.outs
+
 -- the same where no body has a sequence of its own: four commands for a node and three for an
 -- output that is a row
 abbrev pub plain_cost : Block → ℕ
-plain_cost b = if is_copy b then 1 else (if is_start b then 1
+plain_cost b = if is_copy b then 1 else (if is_start b then start_cost b
     else 4 * length b.graph.nodes + 3 * length (row_outs b.writes b.outs))
 
 -- what all rounds may take where no body has a sequence of its own
@@ -134,12 +138,18 @@ abbrev pub inner_cost : InnerOf Block → ℕ
 inner_cost (Alone b) = body_cost b + 15
 inner_cost (Across count b) = body_cost b + 15
 
+-- how many instructions bodies that take turns may take
+abbrev pub turns_cost : TurnsOf Block → ℕ
+turns_cost t = body_cost t.even + body_cost t.odd + body_cost t.last_even + body_cost t.last_odd
+    + 15
+
 -- how many instructions a step may take
 abbrev pub step_cost : StepOf Block → ℕ
 step_cost (Single b) = single_cost b
 step_cost (Along b) = body_cost b + 15
 step_cost (Nest parts) = sum_by inner_cost parts
 step_cost (Pairs b) = body_cost b + 15
+step_cost (Alternate t) = turns_cost t
 
 -- how many instructions a loop program may take, its end aside
 abbrev pub code_cost : List (StepOf Block) → ℕ
@@ -151,6 +161,7 @@ step_bodies (Single b) = 1
 step_bodies (Along b) = 1
 step_bodies (Nest parts) = length parts
 step_bodies (Pairs b) = 1
+step_bodies (Alternate t) = 4
 
 -- the number of bodies of a loop program
 abbrev pub bodies : List (StepOf Block) → ℕ

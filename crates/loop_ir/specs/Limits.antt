@@ -1,5 +1,6 @@
 -- What a loop program keeps, so that its code is legal and short.
-use Rattle.std.specs.Prelude.{◌≡◌, ℕ, ◌+◌, ◌<◌, ◌≤◌, Bool, true, false, ◌&&◌, List, [], ◌++◌}
+use Rattle.std.specs.Prelude.{◌≡◌, ℕ, ◌+◌, ◌<◌, ◌≤◌, Bool, true, false, ◌&&◌, ◌||◌, List, []}
+use Rattle.std.specs.Prelude.{◌++◌}
 use Rattle.std.specs.Prelude.{length, not, Option, Some, None}
 use Rattle.std.specs.List.{AllByRecursion, list_all}
 use Rattle.bit_rows.specs.declared.TheConstants.{WIDTH_MAX}
@@ -8,9 +9,9 @@ use Rattle.loop_ir.specs.declared.ir.Sub.{Sub}
 use Rattle.loop_ir.specs.declared.ir.Sub.TheVariants.{Zero, Top, Inner as At_inner, InnerDown}
 use Rattle.loop_ir.specs.declared.ir.Sub.TheVariants.{Outer, OuterDown, Sum, DownSum, DownPlusN}
 use Rattle.loop_ir.specs.declared.ir.Sub.TheVariants.{NPlusInner}
-use Rattle.loop_ir.specs.Plain.{Block, InnerOf, StepOf, AllParts}
+use Rattle.loop_ir.specs.Plain.{Block, InnerOf, StepOf, all_turns, AllParts}
 use Rattle.loop_ir.specs.Plain.InnerOf.{Alone, Across}
-use Rattle.loop_ir.specs.Plain.StepOf.{Single, Along, Nest, Pairs}
+use Rattle.loop_ir.specs.Plain.StepOf.{Single, Along, Nest, Pairs, Alternate}
 use Rattle.loop_ir.specs.Loops.{RoundOf, all_rounds}
 use Rattle.loop_ir.specs.Spots.{Spot, IsOwn, is_state, nth_place, nth_spot}
 use Rattle.loop_ir.specs.WellFormed.{IsWellFormed}
@@ -72,12 +73,18 @@ abbrev pub inner_stands : InnerOf Block → Bool
 inner_stands (Alone b) = all_stand false true b
 inner_stands (Across count b) = all_stand true true b
 
+-- every place of the body is at 0 or at the inner position: so it is with bodies that take turns,
+-- for all of which one register is enough
+abbrev pub stays_inner : Block → Bool
+stays_inner b = list_all (λ p. same_sub p.sub Zero || same_sub p.sub At_inner) (b.reads ++ b.writes)
+
 -- so it is in a step, whose loops have the indices that its subscripts use
 abbrev pub step_stands : StepOf Block → Bool
 step_stands (Single b) = all_stand false false b
 step_stands (Along b) = all_stand true false b
 step_stands (Nest parts) = list_all inner_stands parts
 step_stands (Pairs b) = all_stand true true b
+step_stands (Alternate t) = all_turns stays_inner t
 
 -- In a round the body's places with rows are rows that it may have, and none of its writes is a
 -- source's. The row of a write is that of no other write, and that of at most one read, which is a

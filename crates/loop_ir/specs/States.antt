@@ -6,10 +6,12 @@ use Rattle.std.specs.List.{list_any}
 use Rattle.mig_graph.specs.declared.Lit.{Lit}
 use Rattle.row_alloc.specs.declared.body.Held.{Held}
 use Rattle.row_alloc.specs.HeldBodies.{HeldBody, ZeroInT0, OneInT0, ZeroInT1, OneInT1}
-use Rattle.row_alloc.specs.HeldBodies.{OnesInT2AndT3, ZeroInT2AndDcc0, ZeroInT3AndDcc1}
-use Rattle.row_alloc.specs.HeldBodies.{ZeroInTurnedT3AndDcc1, HeldCompared, HeldBoth, HeldEither}
-use Rattle.row_alloc.specs.HeldBodies.{HeldUnlike, HeldOrdered, HeldLessened, HeldNegatedIf}
-use Rattle.row_alloc.specs.HeldBodies.{HeldMultiplied, HeldDivided, HeldAgreed}
+use Rattle.row_alloc.specs.HeldBodies.{OnesInT2AndT3, ZeroInT3AndDcc1, ZeroInTurnedT3AndDcc1}
+use Rattle.row_alloc.specs.HeldBodies.{HeldCompared, HeldOrdered, HeldLessened, HeldNegatedIf}
+use Rattle.row_alloc.specs.HeldBodies.{HeldMultiplied, HeldDivided, HeldAgreed, BothInT2}
+use Rattle.row_alloc.specs.HeldBodies.{EitherInT2, MajorityInT1, KeptForPair, PairUnlike}
+use Rattle.row_alloc.specs.HeldBodies.{BothAtLast, EitherAtLast, MajorityAtLast, PairUnlikeAtLast}
+use Rattle.row_alloc.specs.HeldBodies.{UnlikeAtLast}
 use Rattle.row_alloc.specs.HeldBodies.{held_inputs, held_nodes, held_outs, enter_in, leave_in}
 use Rattle.loop_ir.specs.declared.ir.Place.{Place}
 use Rattle.loop_ir.specs.Plain.{Block}
@@ -83,9 +85,11 @@ held_among (h ∷ hs) b = if is_held_body h b then Some h else held_among hs b
 
 -- the bodies that hold states
 abbrev pub held_bodies : List HeldBody
-held_bodies = ZeroInT0 ∷ OneInT0 ∷ ZeroInT1 ∷ OneInT1 ∷ OnesInT2AndT3 ∷ ZeroInT2AndDcc0
-    ∷ ZeroInT3AndDcc1 ∷ ZeroInTurnedT3AndDcc1 ∷ HeldCompared ∷ HeldBoth ∷ HeldEither ∷ HeldUnlike
-    ∷ HeldOrdered ∷ HeldLessened ∷ HeldNegatedIf ∷ HeldMultiplied ∷ HeldDivided ∷ HeldAgreed ∷ []
+held_bodies = ZeroInT0 ∷ OneInT0 ∷ ZeroInT1 ∷ OneInT1 ∷ OnesInT2AndT3 ∷ ZeroInT3AndDcc1
+    ∷ ZeroInTurnedT3AndDcc1 ∷ HeldCompared ∷ HeldOrdered ∷ HeldLessened ∷ HeldNegatedIf
+    ∷ HeldMultiplied ∷ HeldDivided ∷ HeldAgreed ∷ BothInT2 ∷ EitherInT2 ∷ MajorityInT1
+    ∷ KeptForPair ∷ PairUnlike ∷ BothAtLast ∷ EitherAtLast ∷ MajorityAtLast ∷ PairUnlikeAtLast
+    ∷ UnlikeAtLast ∷ []
 
 -- which of the bodies that hold states it is
 abbrev pub held_of : Block → Option HeldBody

@@ -129,6 +129,12 @@ fn step_is_well_formed(step: &Step) -> bool
         Step::Each(body) => is_well_formed(body),
         Step::Nest(parts) => parts_are_well_formed(parts),
         Step::Pairs(body) => is_well_formed(body),
+        Step::Alternate(turns) => {
+            is_well_formed(&turns.even)
+                && is_well_formed(&turns.odd)
+                && is_well_formed(&turns.last_even)
+                && is_well_formed(&turns.last_odd)
+        }
     }
 }
 

@@ -12,24 +12,24 @@ use Rattle.row_alloc.specs.HeldBodies.{leave_in, HeldNegatedIf}
 use Rattle.row_alloc.specs.declared.body.Held.{Held}
 use Rattle.loop_ir.specs.declared.ir.Count.TheVariants.{All, Rest, UpTo}
 use Rattle.loop_ir.specs.declared.ir.Place.{Place}
-use Rattle.loop_ir.specs.Plain.{Block, InnerOf, StepOf, inner_map}
+use Rattle.loop_ir.specs.Plain.{Block, InnerOf, TurnsOf, StepOf, inner_map, turns_map}
 use Rattle.loop_ir.specs.Plain.InnerOf.{Alone, Across}
-use Rattle.loop_ir.specs.Plain.StepOf.{Single, Along, Nest, Pairs}
-use Rattle.loop_ir.specs.Loops.{all_rounds}
+use Rattle.loop_ir.specs.Plain.StepOf.{Single, Along, Nest, Pairs, Alternate}
+use Rattle.loop_ir.specs.Loops.{next_turn, all_rounds}
 use Rattle.loop_ir.specs.Spots.{is_state, nth_place}
 use Rattle.loop_ir.specs.Same.{same_lits, same_nodes}
 use Rattle.loop_ir.specs.States.{has_states, row_count, RowsFirst, enters, leaves, row_outs}
 use Rattle.loop_ir.specs.States.{StatesFit, same_helds, is_held_body, held_among, held_bodies}
 use Rattle.loop_ir.specs.States.{held_of}
 use Rattle.loop_ir.specs.Chains.{states_in, is_alive, finds, left_by, loop_finds, inner_left}
-use Rattle.loop_ir.specs.Chains.{inner_finds, steps_find}
+use Rattle.loop_ir.specs.Chains.{inner_finds, turns_find, steps_find}
 use Rattle.loop_ir.specs.Costs.{is_copy, is_not, is_and, is_or, is_xor, is_add, body_cost, held_cost}
 use Rattle.loop_ir.specs.Costs.{turn_cost, plain_cost, rounds_cost, plain_costs, same_sub}
 use Rattle.loop_ir.specs.Limits.{is_served}
 use Rattle.loop_laws.specs.Rooms.{Room, room_at, room_for, Owner, InRoom, InCells, Mark, Marked}
 use Rattle.loop_laws.specs.Rooms.{placed, placed_body, placed_steps}
 use Rattle.loop_laws.specs.Forms.{are_rows_first, has_known_states}
-use Rattle.loop_laws.proofs.Summed.{nest_sum, steps_sum, rounds_sum, sum_is}
+use Rattle.loop_laws.proofs.Summed.{nest_sum, turns_sum, steps_sum, rounds_sum, sum_is}
 
 -- no room stands in cells
 abbrev pub HaveRows : List Room → Type 0
@@ -201,6 +201,23 @@ module _ (rooms : List Room) (rows : HaveRows rooms) where
       (ap (λ l. inner_finds l qs) (left_like b)
       ∙ inner_finds_like (left_by (placed_body [] b)) ps)
 
+  after_like : (a b : Marked) → finds (left_by (placed_body rooms a)) (placed_body rooms b)
+      ≡ finds (left_by (placed_body [] a)) (placed_body [] b)
+  after_like a b = ap (λ l. finds l (placed_body rooms b)) (left_like a)
+      ∙ finds_like (left_by (placed_body [] a)) b
+
+  both_like : (a b c d : Bool) → a ≡ c → b ≡ d → (a && b) ≡ (c && d)
+  both_like a b c d e f = ap (λ x. x && b) e ∙ ap (λ x. c && x) f
+
+  turns_find_like : (alive : List ℕ) (t : TurnsOf Marked)
+      → turns_find alive (turns_map (placed_body rooms) t)
+      ≡ turns_find alive (turns_map (placed_body []) t)
+  turns_find_like alive t = both_like _ _ _ _
+      (both_like _ _ _ _ (finds_like alive t.even) (finds_like alive t.last_even))
+      (both_like _ _ _ _
+      (both_like _ _ _ _ (after_like t.even t.odd) (after_like t.even t.last_odd))
+      (both_like _ _ _ _ (after_like t.odd t.even) (after_like t.odd t.last_even)))
+
   pub steps_find_like : (alive : List ℕ) (ss : List (StepOf Marked))
       → steps_find alive (placed_steps rooms ss) ≡ steps_find alive (placed_steps [] ss)
   steps_find_like alive [] = refl
@@ -217,6 +234,8 @@ module _ (rooms : List Room) (rows : HaveRows rooms) where
   steps_find_like alive (Pairs b ∷ ss) =
       ap (λ c. c && steps_find [] (placed_steps rooms ss)) (loop_like alive b)
       ∙ ap (λ c. loop_finds alive (placed_body [] b) && c) (steps_find_like [] ss)
+  steps_find_like alive (Alternate t ∷ ss) = both_like _ _ _ _ (turns_find_like alive t)
+      (steps_find_like [] ss)
   steps_find_like alive (Nest ps ∷ ss) =
       let ts = placed_steps rooms ss in
       let qs = map (inner_map (placed_body rooms)) ps in
@@ -245,8 +264,15 @@ module _ (rooms : List Room) (rows : HaveRows rooms) where
   plain_like b =
       let c = placed_body [] b in
       ap (λ outs. cond (is_copy c) 1 (cond ((length c.graph.nodes == 0) && ((length outs == 0)
-      && nat_lt 0 (length c.outs))) 1 (4 * length c.graph.nodes + 3 * length outs)))
+      && nat_lt 0 (length c.outs)))
+      (cond (length (map (placed rooms) b.reads) == 0) 1 (length c.outs))
+      (4 * length c.graph.nodes + 3 * length outs)))
       (outs_like b.writes b.outs)
+      ∙ ap (λ reads. cond (is_copy c) 1 (cond ((length c.graph.nodes == 0)
+      && ((length (row_outs c.writes c.outs) == 0) && nat_lt 0 (length c.outs)))
+      (cond (reads == 0) 1 (length c.outs))
+      (4 * length c.graph.nodes + 3 * length (row_outs c.writes c.outs))))
+      (length-map b.reads (placed rooms) ∙ sym (length-map b.reads (placed [])))
 
 -- a count of each body that is the same wherever the rows lie is the same of all steps
 module _ (f : Block → ℕ) (rooms : List Room)
@@ -274,6 +300,14 @@ module _ (f : Block → ℕ) (rooms : List Room)
       ap (λ x. times * x + nest_sum f n o count (map (inner_map (placed_body rooms)) ps)) (like b)
       ∙ ap (λ x. times * f (placed_body [] b) + x) e
 
+  turns_like : (t : TurnsOf Marked) (count : ℕ)
+      → turns_sum f (turns_map (placed_body rooms) t) count
+      ≡ turns_sum f (turns_map (placed_body []) t) count
+  turns_like t zero = like t.last_even
+  turns_like t (suc count) =
+      ap (λ x. x + turns_sum f (turns_map (placed_body rooms) (next_turn t)) count) (like t.even)
+      ∙ ap (λ x. f (placed_body [] t.even) + x) (turns_like (next_turn t) count)
+
   sum_like : (n : ℕ) (ss : List (StepOf Marked)) → steps_sum f n (placed_steps rooms ss)
       ≡ steps_sum f n (placed_steps [] ss)
   sum_like n [] = refl
@@ -289,6 +323,9 @@ module _ (f : Block → ℕ) (rooms : List Room)
   sum_like n (Pairs b ∷ ss) =
       ap (λ x. 2 * ((n - 1) * x) + steps_sum f n (placed_steps rooms ss)) (like b)
       ∙ ap (λ x. 2 * ((n - 1) * f (placed_body [] b)) + x) (sum_like n ss)
+  sum_like n (Alternate t ∷ ss) =
+      ap (λ x. 2 * x + steps_sum f n (placed_steps rooms ss)) (turns_like t (n - 1))
+      ∙ ap (λ x. 2 * turns_sum f (turns_map (placed_body []) t) (n - 1) + x) (sum_like n ss)
 
   pub rounds_like : (n : ℕ) (ss : List (StepOf Marked))
       → rounds_sum f (all_rounds n (placed_steps rooms ss))

@@ -2,7 +2,7 @@
 use Rattle.std.proofs.Common.{ℕ, List, [], ◌∷◌, arith}
 use Rattle.loop_ir.specs.Plain.{Block, InnerOf, StepOf, AllInner, AllStep, AllParts}
 use Rattle.loop_ir.specs.Plain.InnerOf.{Alone, Across}
-use Rattle.loop_ir.specs.Plain.StepOf.{Single, Along, Nest, Pairs}
+use Rattle.loop_ir.specs.Plain.StepOf.{Single, Along, Nest, Pairs, Alternate}
 use Rattle.loop_ir.specs.Spots.{Spot}
 use Rattle.loop_ir.specs.WellFormed.{IsWellFormed}
 use Rattle.loop_ir.specs.Limits.{IsSmall}
@@ -21,6 +21,13 @@ module _ (P Q R : Block → Type 0) (f : (b : Block) → P b → Q b → R b) wh
   step_both (Along b) p q = f b p q
   step_both (Nest xs) p q = inner_both xs p q
   step_both (Pairs b) p q = f b p q
+  step_both (Alternate t) p q = (
+    f t.even p.0 q.0,
+    (
+      f t.odd p.1.0 q.1.0,
+      (f t.last_even p.1.1.0 q.1.1.0, f t.last_odd p.1.1.1 q.1.1.1),
+    ),
+  )
 
   parts_both : (ss : List (StepOf Block)) → AllParts P ss → AllParts Q ss → AllParts R ss
   parts_both [] p q = tt

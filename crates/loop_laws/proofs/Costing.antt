@@ -11,9 +11,11 @@ use Rattle.mig_graph.specs.Literals.{is_complemented}
 use Rattle.mig_graph.specs.Outputs.{lit_at}
 use Rattle.row_alloc.specs.declared.body.Held.{Held}
 use Rattle.row_alloc.specs.HeldBodies.{HeldBody, ZeroInT0, OneInT0, ZeroInT1, OneInT1}
-use Rattle.row_alloc.specs.HeldBodies.{OnesInT2AndT3, ZeroInT2AndDcc0, ZeroInT3AndDcc1}
-use Rattle.row_alloc.specs.HeldBodies.{ZeroInTurnedT3AndDcc1, HeldCompared, HeldBoth, HeldEither}
-use Rattle.row_alloc.specs.HeldBodies.{HeldUnlike, HeldOrdered, HeldLessened, HeldNegatedIf}
+use Rattle.row_alloc.specs.HeldBodies.{OnesInT2AndT3, ZeroInT3AndDcc1, ZeroInTurnedT3AndDcc1}
+use Rattle.row_alloc.specs.HeldBodies.{HeldCompared, HeldOrdered, HeldLessened, HeldNegatedIf}
+use Rattle.row_alloc.specs.HeldBodies.{BothInT2, EitherInT2, MajorityInT1, KeptForPair, PairUnlike}
+use Rattle.row_alloc.specs.HeldBodies.{BothAtLast, EitherAtLast, MajorityAtLast, PairUnlikeAtLast}
+use Rattle.row_alloc.specs.HeldBodies.{UnlikeAtLast}
 use Rattle.row_alloc.specs.HeldBodies.{HeldMultiplied, HeldDivided, HeldAgreed}
 use Rattle.row_alloc.specs.HeldBodies.{held_inputs, held_nodes, held_outs, enter_in, leave_in}
 use Rattle.row_alloc.specs.HeldBodies.{held_at, held_sequence_for}
@@ -27,6 +29,7 @@ use Rattle.loop_ir.specs.States.{is_held_body, held_among, held_bodies}
 use Rattle.loop_ir.specs.States.{held_of}
 use Rattle.loop_ir.specs.Costs.{body_cost, carries, turn_cost, rounds_cost, plain_cost, plain_costs, is_copy}
 use Rattle.loop_ir.specs.Costs.{is_not, is_and, is_or, is_xor, is_add, held_cost, is_start}
+use Rattle.loop_ir.specs.Costs.{start_cost}
 use Rattle.loop_laws.proofs.Summed.{sum_most}
 
 nodes-long : (ms ns : List Node) → same_nodes ms ns ≡ true → length ms ≡ length ns
@@ -114,6 +117,18 @@ fewer-held (p ∷ ps) (l ∷ ls) = by (is_state p.space) (leaves ps ls) (fewer-h
     by true xs h = omega (arith, h)
     by false xs h = omega (arith, h)
 
+fewer-entries : (k : ℕ) (ps : List Place) → length (enters k ps) ≤ length ps
+fewer-entries k [] = omega arith
+fewer-entries k (p ∷ ps) = by (is_state p.space) (enters (k + 1) ps) (fewer-entries (k + 1) ps)
+  where
+    by : (b : Bool) (xs : List Held) → length xs ≤ length ps
+        → length (cond b (record {
+          lit = record { node = k + 1; inverted = false };
+          layout = p.which;
+        } ∷ xs) xs) ≤ suc (length ps)
+    by true xs h = omega (arith, h)
+    by false xs h = omega (arith, h)
+
 helds-long : (xs ys : List Held) → same_helds xs ys ≡ true → length xs ≡ length ys
 helds-long [] [] h = refl
 helds-long [] (y ∷ ys) h = absurd cc
@@ -122,66 +137,104 @@ helds-long (x ∷ xs) (y ∷ ys) h = let e = helds-long xs ys
     (and_parts (same_held x y) (same_helds xs ys) h).1 in omega (arith, e)
 
 -- what a body with so many nodes and outputs may take where it has no sequence of its own
-abbrev shape-cost : Bool → ℕ → ℕ → ℕ → ℕ
-shape-cost copy nodes outs all = cond copy 1 (cond ((nodes == 0) && ((outs == 0) && nat_lt 0 all)) 1
-    (4 * nodes + 3 * outs))
+abbrev shape-cost : Bool → ℕ → ℕ → ℕ → ℕ → ℕ
+shape-cost copy nodes outs all reads = cond copy 1 (cond ((nodes == 0) && ((outs == 0)
+    && nat_lt 0 all)) (cond (reads == 0) 1 all) (4 * nodes + 3 * outs))
 
 and-false : (b : Bool) → (b && false) ≡ false
 and-false true = refl
 and-false false = refl
 
--- a start takes one command
-start-most : (copy : Bool) (nodes outs all : ℕ) → nodes ≡ 0 → outs ≡ 0 → 0 < all
-    → 1 ≤ shape-cost copy nodes outs all
-start-most true nodes outs all n o some = omega arith
-start-most false nodes outs all n o some =
-    let e : shape-cost false nodes outs all ≡ 1 =
-    ap (λ x. shape-cost false x outs all) n ∙ ap (λ x. shape-cost false 0 x all) o
-    ∙ ap (λ b. cond b 1 0) (lt-ltb 0 all some) in
-    omega (arith, e)
+-- what has no node, and leaves its outputs in cells
+cells-cost : (nodes outs all reads : ℕ) → nodes ≡ 0 → outs ≡ 0 → 0 < all
+    → shape-cost false nodes outs all reads ≡ cond (reads == 0) 1 all
+cells-cost nodes outs all reads n o some =
+    ap (λ x. shape-cost false x outs all reads) n ∙ ap (λ x. shape-cost false 0 x all reads) o
+    ∙ ap (λ b. cond b (cond (reads == 0) 1 all) 0) (lt-ltb 0 all some)
 
-round-most : (copy : Bool) (nodes outs all k : ℕ) → (copy ≡ true → nodes ≡ 0) → 0 < nodes
-    → k ≤ 4 * nodes + 3 * outs → k ≤ shape-cost copy nodes outs all
-round-most true nodes outs all k none some le = absurd (omega (arith, none refl, some))
-round-most false nodes outs all k none some le =
-    let e : shape-cost false nodes outs all ≡ 4 * nodes + 3 * outs =
-    ap (λ b. cond (b && ((outs == 0) && nat_lt 0 all)) 1 (4 * nodes + 3 * outs))
-    (ne_eqb nodes 0 (λ e. absurd (omega (arith, e, some)))) in
+-- a start takes one command
+start-most : (copy : Bool) (nodes outs all reads : ℕ) → nodes ≡ 0 → outs ≡ 0 → 0 < all
+    → 1 ≤ shape-cost copy nodes outs all reads
+start-most true nodes outs all reads n o some = omega arith
+start-most false nodes outs all reads n o some =
+    let e = cells-cost nodes outs all reads n o some in
+    let l = at-least (reads == 0) in
+    omega (arith, e, l)
+  where
+    at-least : (b : Bool) → 1 ≤ cond b 1 all
+    at-least true = omega arith
+    at-least false = omega (arith, some)
+
+-- what is kept takes a command for each state
+kept-most : (copy : Bool) (nodes outs all reads : ℕ) → (copy ≡ true → all ≡ 1) → nodes ≡ 0
+    → outs ≡ 0 → 2 ≤ all → 0 < reads → 2 ≤ shape-cost copy nodes outs all reads
+kept-most true nodes outs all reads one n o two some = absurd (omega (arith, one refl, two))
+kept-most false nodes outs all reads one n o two some =
+    let e = cells-cost nodes outs all reads n o (omega (arith, two)) in
+    let f = ap (λ b. cond b 1 all) (ne_eqb reads 0 (λ g. absurd (omega (arith, g, some)))) in
+    omega (arith, e, f, two)
+
+round-most : (copy : Bool) (nodes outs all reads k : ℕ) → (copy ≡ true → nodes ≡ 0) → 0 < nodes
+    → k ≤ 4 * nodes + 3 * outs → k ≤ shape-cost copy nodes outs all reads
+round-most true nodes outs all reads k none some le = absurd (omega (arith, none refl, some))
+round-most false nodes outs all reads k none some le =
+    let e : shape-cost false nodes outs all reads ≡ 4 * nodes + 3 * outs =
+    ap (λ b. cond (b && ((outs == 0) && nat_lt 0 all)) (cond (reads == 0) 1 all)
+    (4 * nodes + 3 * outs)) (ne_eqb nodes 0 (λ e. absurd (omega (arith, e, some)))) in
     omega (arith, e, le)
 
-sequence-most : (h : HeldBody) (copy : Bool) (nodes outs all : ℕ)
-    → (copy ≡ true → nodes ≡ 0) → nodes ≡ length (held_nodes h) → outs ≡ length (held_outs h)
-    → length (leave_in h) ≤ all
-    → length (held_at (held_sequence_for h)) ≤ shape-cost copy nodes outs all
-sequence-most ZeroInT0 c n o a hc en eo la = start-most c n o a en eo (omega (arith, la))
-sequence-most OneInT0 c n o a hc en eo la = start-most c n o a en eo (omega (arith, la))
-sequence-most ZeroInT1 c n o a hc en eo la = start-most c n o a en eo (omega (arith, la))
-sequence-most OneInT1 c n o a hc en eo la = start-most c n o a en eo (omega (arith, la))
-sequence-most OnesInT2AndT3 c n o a hc en eo la = start-most c n o a en eo (omega (arith, la))
-sequence-most ZeroInT2AndDcc0 c n o a hc en eo la = start-most c n o a en eo (omega (arith, la))
-sequence-most ZeroInT3AndDcc1 c n o a hc en eo la = start-most c n o a en eo (omega (arith, la))
-sequence-most ZeroInTurnedT3AndDcc1 c n o a hc en eo la = start-most c n o a en eo
+sequence-most : (h : HeldBody) (copy : Bool) (nodes outs all reads : ℕ)
+    → (copy ≡ true → nodes ≡ 0) → (copy ≡ true → all ≡ 1) → nodes ≡ length (held_nodes h)
+    → outs ≡ length (held_outs h) → length (leave_in h) ≤ all → length (enter_in h) ≤ reads
+    → length (held_at (held_sequence_for h)) ≤ shape-cost copy nodes outs all reads
+sequence-most ZeroInT0 c n o a r hc ha en eo la lr = start-most c n o a r en eo
     (omega (arith, la))
-sequence-most HeldCompared c n o a hc en eo la = round-most c n o a 3 hc (omega (arith, en))
-    (omega (arith, en, eo))
-sequence-most HeldBoth c n o a hc en eo la = round-most c n o a 3 hc (omega (arith, en))
-    (omega (arith, en, eo))
-sequence-most HeldEither c n o a hc en eo la = round-most c n o a 3 hc (omega (arith, en))
-    (omega (arith, en, eo))
-sequence-most HeldUnlike c n o a hc en eo la = round-most c n o a 6 hc (omega (arith, en))
-    (omega (arith, en, eo))
-sequence-most HeldOrdered c n o a hc en eo la = round-most c n o a 4 hc (omega (arith, en))
-    (omega (arith, en, eo))
-sequence-most HeldLessened c n o a hc en eo la = round-most c n o a 6 hc (omega (arith, en))
-    (omega (arith, en, eo))
-sequence-most HeldNegatedIf c n o a hc en eo la = round-most c n o a 8 hc (omega (arith, en))
-    (omega (arith, en, eo))
-sequence-most HeldMultiplied c n o a hc en eo la = round-most c n o a 9 hc (omega (arith, en))
-    (omega (arith, en, eo))
-sequence-most HeldDivided c n o a hc en eo la = round-most c n o a 9 hc (omega (arith, en))
-    (omega (arith, en, eo))
-sequence-most HeldAgreed c n o a hc en eo la = round-most c n o a 2 hc (omega (arith, en))
-    (omega (arith, en, eo))
+sequence-most OneInT0 c n o a r hc ha en eo la lr = start-most c n o a r en eo
+    (omega (arith, la))
+sequence-most ZeroInT1 c n o a r hc ha en eo la lr = start-most c n o a r en eo
+    (omega (arith, la))
+sequence-most OneInT1 c n o a r hc ha en eo la lr = start-most c n o a r en eo
+    (omega (arith, la))
+sequence-most OnesInT2AndT3 c n o a r hc ha en eo la lr = start-most c n o a r en eo
+    (omega (arith, la))
+sequence-most ZeroInT3AndDcc1 c n o a r hc ha en eo la lr = start-most c n o a r en eo
+    (omega (arith, la))
+sequence-most ZeroInTurnedT3AndDcc1 c n o a r hc ha en eo la lr = start-most c n o a r en eo
+    (omega (arith, la))
+sequence-most HeldCompared c n o a r hc ha en eo la lr = round-most c n o a r 3 hc
+    (omega (arith, en)) (omega (arith, en, eo))
+sequence-most HeldOrdered c n o a r hc ha en eo la lr = round-most c n o a r 4 hc
+    (omega (arith, en)) (omega (arith, en, eo))
+sequence-most HeldLessened c n o a r hc ha en eo la lr = round-most c n o a r 6 hc
+    (omega (arith, en)) (omega (arith, en, eo))
+sequence-most HeldNegatedIf c n o a r hc ha en eo la lr = round-most c n o a r 8 hc
+    (omega (arith, en)) (omega (arith, en, eo))
+sequence-most HeldMultiplied c n o a r hc ha en eo la lr = round-most c n o a r 9 hc
+    (omega (arith, en)) (omega (arith, en, eo))
+sequence-most HeldDivided c n o a r hc ha en eo la lr = round-most c n o a r 9 hc
+    (omega (arith, en)) (omega (arith, en, eo))
+sequence-most HeldAgreed c n o a r hc ha en eo la lr = round-most c n o a r 2 hc
+    (omega (arith, en)) (omega (arith, en, eo))
+sequence-most BothInT2 c n o a r hc ha en eo la lr = round-most c n o a r 3 hc
+    (omega (arith, en)) (omega (arith, en, eo))
+sequence-most EitherInT2 c n o a r hc ha en eo la lr = round-most c n o a r 3 hc
+    (omega (arith, en)) (omega (arith, en, eo))
+sequence-most MajorityInT1 c n o a r hc ha en eo la lr = round-most c n o a r 2 hc
+    (omega (arith, en)) (omega (arith, en, eo))
+sequence-most KeptForPair c n o a r hc ha en eo la lr = kept-most c n o a r ha en eo
+    (omega (arith, la)) (omega (arith, lr))
+sequence-most PairUnlike c n o a r hc ha en eo la lr = round-most c n o a r 4 hc
+    (omega (arith, en)) (omega (arith, en, eo))
+sequence-most BothAtLast c n o a r hc ha en eo la lr = round-most c n o a r 3 hc
+    (omega (arith, en)) (omega (arith, en, eo))
+sequence-most EitherAtLast c n o a r hc ha en eo la lr = round-most c n o a r 3 hc
+    (omega (arith, en)) (omega (arith, en, eo))
+sequence-most MajorityAtLast c n o a r hc ha en eo la lr = round-most c n o a r 2 hc
+    (omega (arith, en)) (omega (arith, en, eo))
+sequence-most PairUnlikeAtLast c n o a r hc ha en eo la lr = round-most c n o a r 4 hc
+    (omega (arith, en)) (omega (arith, en, eo))
+sequence-most UnlikeAtLast c n o a r hc ha en eo la lr = round-most c n o a r 6 hc
+    (omega (arith, en)) (omega (arith, en, eo))
 
 some-same : (x h : HeldBody) → Some x ≡ Some h → x ≡ h
 some-same x h e = cc
@@ -202,6 +255,11 @@ copy-none : (b : Block) → is_copy b ≡ true → length b.graph.nodes ≡ 0
 copy-none b h = eqb-true (length b.graph.nodes) 0 (and_parts (length b.graph.nodes == 0)
     ((length b.outs == 1) && not (is_complemented (lit_at b.outs 0))) h).0
 
+copy-one : (b : Block) → is_copy b ≡ true → length b.outs ≡ 1
+copy-one b h = eqb-true (length b.outs) 1 (and_parts (length b.outs == 1)
+    (not (is_complemented (lit_at b.outs 0))) (and_parts (length b.graph.nodes == 0)
+    ((length b.outs == 1) && not (is_complemented (lit_at b.outs 0))) h).1).0
+
 held-most : (b : Block) (o : Option HeldBody)
     → ((h : HeldBody) → o ≡ Some h → is_held_body h b ≡ true) → held_cost o ≤ plain_cost b
 held-most b None is = omega arith
@@ -212,9 +270,12 @@ held-most b (Some h) is =
     let s = and_parts (same_helds (enters 0 b.reads) (enter_in h)) _ r.1 in
     let k = helds-long (leaves b.writes b.outs) (leave_in h) s.1 in
     let f = fewer-held b.writes b.outs in
+    let l = helds-long (enters 0 b.reads) (enter_in h) s.0 in
+    let g = fewer-entries 0 b.reads in
     sequence-most h (is_copy b) (length b.graph.nodes) (length (row_outs b.writes b.outs))
-    (length b.outs) (copy-none b) (nodes-long b.graph.nodes (held_nodes h) q.0)
+    (length b.outs) (length b.reads) (copy-none b) (copy-one b) (nodes-long b.graph.nodes (held_nodes h) q.0)
     (lits-long (row_outs b.writes b.outs) (held_outs h) r.0) (omega (arith, k, f))
+    (omega (arith, l, g))
 
 never : (n : Bool) (k : ℕ) → (n && ((k == 0) && nat_lt 0 k)) ≡ false
 never n zero = and-false n
@@ -229,9 +290,9 @@ plain-turn false x b l = l
 pub rowed-plain : (b : Block) → has_states b ≡ false
     → plain_cost b ≡ cond (is_copy b) 1 (body_cost b)
 rowed-plain b has =
-    ap (λ (x : List Lit). shape-cost (is_copy b) (length b.graph.nodes) (length x) (length b.outs))
-    (no-row-outs b.reads b.writes b.outs has)
-    ∙ ap (λ c. cond (is_copy b) 1 (cond c 1 (body_cost b)))
+    ap (λ (x : List Lit). shape-cost (is_copy b) (length b.graph.nodes) (length x) (length b.outs)
+    (length b.reads)) (no-row-outs b.reads b.writes b.outs has)
+    ∙ ap (λ c. cond (is_copy b) 1 (cond c (start_cost b) (body_cost b)))
     (never (length b.graph.nodes == 0) (length b.outs))
 
 -- what a body that carries no commands takes
@@ -274,8 +335,11 @@ some-outs b h =
 -- a body takes at most four commands a node and three an output
 pub plain-most : (b : Block) → plain_cost b ≤ body_cost b
 plain-most b = at-most (is_copy b) 1 _ (body_cost b) (λ e. omega (arith, copy-long b e))
-    (at-most (is_start b) 1 (4 * length b.graph.nodes + 3 * length (row_outs b.writes b.outs))
-    (body_cost b) (λ e. omega (arith, some-outs b e)) (omega (arith, fewer-outs b.writes b.outs)))
+    (at-most (is_start b) (start_cost b)
+    (4 * length b.graph.nodes + 3 * length (row_outs b.writes b.outs)) (body_cost b)
+    (λ e. let s = some-outs b e in
+    at-most (length b.reads == 0) 1 (length b.outs) (body_cost b) (λ f. omega (arith, s))
+    (omega arith)) (omega (arith, fewer-outs b.writes b.outs)))
 
 -- and no more with its own sequence
 pub turn-most : (b : Block) → (carries b ≡ true → length b.found ≤ body_cost b)

@@ -1,14 +1,16 @@
 -- What holds of every body holds of every round.
-use Rattle.std.proofs.Common.{ℕ, zero, suc, ◌+◌, ◌-◌, ◌<◌, ◌≤◌, List, [], ◌∷◌, ◌++◌, map}
+use Rattle.std.proofs.Common.{ℕ, zero, suc, ◌+◌, ◌-◌, ◌<◌, ◌≤◌, List, [], ◌∷◌, ◌++◌, map, refl}
 use Rattle.std.specs.List.{AllByRecursion}
 use Rattle.loop_ir.specs.Plain.{Block, InnerOf, StepOf, AllInner, AllParts, inner_map, step_map}
 use Rattle.loop_ir.specs.Plain.InnerOf.{Alone, Across}
-use Rattle.loop_ir.specs.Plain.StepOf.{Single, Along, Nest, Pairs}
-use Rattle.loop_ir.specs.Loops.{RoundOf, one_round, rounds, positions, inner_rounds, all_rounds}
+use Rattle.loop_ir.specs.Plain.StepOf.{Single, Along, Nest, Pairs, Alternate}
+use Rattle.loop_ir.specs.Loops.{RoundOf, one_round, rounds, positions, inner_rounds, turns_from}
+use Rattle.loop_ir.specs.Loops.{all_rounds}
 use Rattle.loop_ir.specs.Costs.{rounds_cost, plain_costs}
 use Rattle.loop_laws.specs.Rooms.{Room, Marked, placed_body, placed_steps}
 use Rattle.loop_laws.proofs.EveryRound.{all_append}
 use Rattle.loop_laws.proofs.Costing.{CarriesFew, rounds-plain}
+use Rattle.loop_laws.proofs.TakingTurns.{turns_rounds}
 
 module _ (P : Block → Type 0) where
   abbrev OfPart : RoundOf Block → Type 0
@@ -43,6 +45,9 @@ module _ (P : Block → Type 0) where
       (each_round n ss all.1)
   each_round n (Pairs b ∷ ss) all = all_append OfPart (rounds (λ i. one_round b i 1) 0 (n - 1))
       (all_rounds n ss) (each b 1 0 (n - 1) all.0) (each_round n ss all.1)
+  each_round n (Alternate t ∷ ss) all = all_append OfPart (turns_from t 0 (n - 1))
+      (all_rounds n ss) (turns_rounds OfPart t 0 (n - 1) (n - 1) refl (λ j le. all.0))
+      (each_round n ss all.1)
 
   module _ (f : Marked → Block) (h : (b : Marked) → P (f b)) where
     inners_made : (xs : List (InnerOf Marked)) → AllInner P (map (inner_map f) xs)
@@ -56,6 +61,10 @@ module _ (P : Block → Type 0) where
     all_made (Along b ∷ ss) = (h b, all_made ss)
     all_made (Nest xs ∷ ss) = (inners_made xs, all_made ss)
     all_made (Pairs b ∷ ss) = (h b, all_made ss)
+    all_made (Alternate t ∷ ss) = (
+      (h t.even, (h t.odd, (h t.last_even, h t.last_odd))),
+      all_made ss,
+    )
 
 carries_none : (rooms : List Room) (b : Marked) → CarriesFew (placed_body rooms b)
 carries_none rooms b carried = absurd cc

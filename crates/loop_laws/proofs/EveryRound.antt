@@ -14,11 +14,12 @@ use Rattle.loop_ir.specs.declared.ir.Sub.TheVariants as sub
 use Rattle.loop_ir.specs.declared.ir.Count.{Count}
 use Rattle.loop_ir.specs.declared.ir.Count.TheVariants.{All, Rest, UpTo}
 use Rattle.loop_ir.specs.declared.ir.Place.{Place}
-use Rattle.loop_ir.specs.Plain.{Block, InnerOf, StepOf, AllInner, AllParts, inner_map}
+use Rattle.loop_ir.specs.Plain.{Block, InnerOf, StepOf, AllInner, AllParts, inner_map, turns_map}
+use Rattle.loop_ir.specs.Plain.{all_turns}
 use Rattle.loop_ir.specs.Plain.InnerOf.{Alone, Across}
-use Rattle.loop_ir.specs.Plain.StepOf.{Single, Along, Nest, Pairs}
+use Rattle.loop_ir.specs.Plain.StepOf.{Single, Along, Nest, Pairs, Alternate}
 use Rattle.loop_ir.specs.Loops.{RoundOf, round_at, one_round, rounds, positions, sub_value}
-use Rattle.loop_ir.specs.Loops.{inner_rounds, all_rounds}
+use Rattle.loop_ir.specs.Loops.{inner_rounds, turns_from, all_rounds}
 use Rattle.loop_ir.specs.Spots.{Spot, spot_at, spot_in, nth_place, nth_spot, IsOwn, is_state}
 use Rattle.loop_ir.specs.WellFormed.{IsOneValue}
 use Rattle.loop_ir.specs.Costs.{used_subs, code_cost, bodies}
@@ -33,6 +34,7 @@ use Rattle.loop_laws.specs.Forms.{has_known_states, inners_have_known, steps_hav
 use Rattle.loop_laws.specs.Laws.{MarksAreEnough}
 use Rattle.loop_laws.proofs.Fitting.{mark_at, IsThere, InnerOk, OuterOk, BodyFits, InnersFit}
 use Rattle.loop_laws.proofs.Fitting.{StepsFit}
+use Rattle.loop_laws.proofs.TakingTurns.{turns_all, turns_rounds}
 use Rattle.loop_laws.proofs.Alike.{HaveRows, past_row, states_fit, states_known, steps_find_like}
 use Rattle.loop_laws.proofs.Good.{steps_are_fit}
 
@@ -389,6 +391,20 @@ module _ (n : ℕ) (rooms : List Room) (some : 0 < n) (are : RoomsApart n rooms)
       (n - 1) (n - 1) (omega arith)
       (λ i lt. (round_is n rooms some are rows Left true b fit.0 i 1 lt (omega (arith, lt)), tt)))
       (rounds_are ss fit.1)
+  rounds_are (Alternate t ∷ ss) fit = all_append (IsRound (IsOwned n rooms) n)
+      (turns_from (turns_map (placed_body rooms) t) 0 (n - 1))
+      (all_rounds n (placed_steps rooms ss))
+      (turns_rounds (IsRound (IsOwned n rooms) n) (turns_map (placed_body rooms) t) 0 (n - 1)
+      (n - 1) (omega arith) (λ j le.
+      let is = λ (b : Marked) (h : BodyFits Whole false rooms b.reads b.writes).
+      round_is n rooms some are rows Whole false b h j 0 (omega (arith, le, some)) tt in (
+        is t.even fit.0.0,
+        (
+          is t.odd fit.0.1.0,
+          (is t.last_even fit.0.1.1.0, is t.last_odd fit.0.1.1.1),
+        ),
+      )))
+      (rounds_are ss fit.1)
 
   inners_slim : (ps : List (InnerOf Marked)) → InnersFit rooms ps
       → inners_have_room (map (inner_map (placed_body rooms)) ps) ≡ true
@@ -427,6 +443,28 @@ module _ (n : ℕ) (rooms : List Room) (some : 0 < n) (are : RoomsApart n rooms)
       let a = and_parts (has_room (placed_body rooms b)) _ e in
       let k = and_parts (has_known_states (placed_body [] b)) _ h in
       (slim_is n rooms some are rows Left true b fit.0 a.0 k.0, steps_slim ss fit.1 a.1 k.1)
+  steps_slim (Alternate t ∷ ss) fit e h =
+      let a = and_parts (all_turns has_room (turns_map (placed_body rooms) t)) _ e in
+      let k = and_parts (all_turns has_known_states (turns_map (placed_body []) t)) _ h in
+      let room = turns_all (λ (b : Marked). has_room (placed_body rooms b))
+      (λ (b : Marked). has_room (placed_body rooms b) ≡ true) (λ b x. x) t a.0 in
+      let known = turns_all (λ (b : Marked). has_known_states (placed_body [] b))
+      (λ (b : Marked). has_known_states (placed_body [] b) ≡ true) (λ b x. x) t k.0 in
+      let slim = λ (b : Marked) (f : BodyFits Whole false rooms b.reads b.writes)
+      (x : has_room (placed_body rooms b) ≡ true) (y : has_known_states (placed_body [] b) ≡ true).
+      slim_is n rooms some are rows Whole false b f x y in (
+        (
+          slim t.even fit.0.0 room.0 known.0,
+          (
+            slim t.odd fit.0.1.0 room.1.0 known.1.0,
+            (
+              slim t.last_even fit.0.1.1.0 room.1.1.0 known.1.1.0,
+              slim t.last_odd fit.0.1.1.1 room.1.1.1 known.1.1.1,
+            ),
+          ),
+        ),
+        steps_slim ss fit.1 a.1 k.1,
+      )
 
 -- the rows that it may have are among others
 pub round_among : (P Q : Spot → Type 0) → ((q : Spot) → P q → Q q) → (n : ℕ) (r : RoundOf Block)

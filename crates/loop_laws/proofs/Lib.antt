@@ -1,4 +1,5 @@
 pub mod Same
+pub mod TakingTurns
 pub mod Loop
 pub mod Steps
 pub mod Placed

@@ -7,11 +7,11 @@ use Rattle.std.proofs.lemmas.Bool.{and_from}
 use Rattle.loop_ir.specs.declared.ir.Place.{Place}
 use Rattle.loop_ir.specs.Plain.{Block, InnerOf, StepOf, AllInner, AllParts}
 use Rattle.loop_ir.specs.Plain.InnerOf.{Alone, Across}
-use Rattle.loop_ir.specs.Plain.StepOf.{Single, Along, Nest, Pairs}
+use Rattle.loop_ir.specs.Plain.StepOf.{Single, Along, Nest, Pairs, Alternate}
 use Rattle.loop_ir.specs.Spots.{is_state, nth_place}
 use Rattle.loop_ir.specs.States.{has_states, StatesFit}
 use Rattle.loop_ir.specs.Chains.{states_in, is_alive, finds, left_by, loop_finds, inner_left}
-use Rattle.loop_ir.specs.Chains.{inner_finds, steps_find}
+use Rattle.loop_ir.specs.Chains.{inner_finds, turns_find, steps_find}
 use Rattle.loop_laws.proofs.Alike.{or_parts, none_at, none_first, rows_first}
 
 -- nothing of the body stands in cells
@@ -76,6 +76,18 @@ no_state_sought alive (Along b ∷ ss) all = and_from (loop_finds alive b)
     (steps_find (left_by b) ss) (loop_rows alive b all.0) (no_state_sought (left_by b) ss all.1)
 no_state_sought alive (Pairs b ∷ ss) all = and_from (loop_finds alive b) (steps_find [] ss)
     (loop_rows alive b all.0) (no_state_sought [] ss all.1)
+no_state_sought alive (Alternate t ∷ ss) all = and_from (turns_find alive t) (steps_find [] ss)
+    (and_from _ _
+    (and_from (finds alive t.even) (finds alive t.last_even) (rows_find alive t.even all.0.0)
+    (rows_find alive t.last_even all.0.1.1.0))
+    (and_from _ _
+    (and_from (finds (left_by t.even) t.odd) (finds (left_by t.even) t.last_odd)
+    (rows_find (left_by t.even) t.odd all.0.1.0)
+    (rows_find (left_by t.even) t.last_odd all.0.1.1.1))
+    (and_from (finds (left_by t.odd) t.even) (finds (left_by t.odd) t.last_even)
+    (rows_find (left_by t.odd) t.even all.0.0)
+    (rows_find (left_by t.odd) t.last_even all.0.1.1.0))))
+    (no_state_sought [] ss all.1)
 no_state_sought alive (Nest ps ∷ ss) all =
     let once = inner_left alive ps in
     and_from (inner_finds alive ps) _ (inner_rows alive ps all.0)

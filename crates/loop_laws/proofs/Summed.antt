@@ -5,10 +5,11 @@ use Rattle.std.specs.Prelude.{sum_by}
 use Rattle.std.specs.List.{AllByRecursion}
 use Rattle.std.proofs.lemmas.List.Sums.{sum_by-cons, sum_by-append}
 use Rattle.loop_ir.specs.declared.ir.Count.TheVariants.{All, Rest, UpTo}
-use Rattle.loop_ir.specs.Plain.{Block, InnerOf, StepOf}
+use Rattle.loop_ir.specs.Plain.{Block, InnerOf, TurnsOf, StepOf}
 use Rattle.loop_ir.specs.Plain.InnerOf.{Alone, Across}
-use Rattle.loop_ir.specs.Plain.StepOf.{Single, Along, Nest, Pairs}
-use Rattle.loop_ir.specs.Loops.{RoundOf, round_at, one_round, rounds, inner_rounds, all_rounds}
+use Rattle.loop_ir.specs.Plain.StepOf.{Single, Along, Nest, Pairs, Alternate}
+use Rattle.loop_ir.specs.Loops.{RoundOf, round_at, one_round, rounds, inner_rounds, next_turn}
+use Rattle.loop_ir.specs.Loops.{turns_from, all_rounds}
 
 -- a number of each body, summed over all rounds
 abbrev pub rounds_sum : (Block → ℕ) → List (RoundOf Block) → ℕ
@@ -23,6 +24,11 @@ nest_sum f n o count (Across Rest b ∷ ps) = (count * count + count) * f b + ne
 nest_sum f n o count (Across UpTo b ∷ ps) = (2 * (o * count) + (count * count + count)) * f b
     + nest_sum f n o count ps
 
+-- the sum over bodies that take turns, where the top position comes after so many
+abbrev pub turns_sum : (Block → ℕ) → TurnsOf Block → ℕ → ℕ
+turns_sum f t zero = f t.last_even
+turns_sum f t (suc count) = f t.even + turns_sum f (next_turn t) count
+
 -- twice the sum of all steps
 abbrev pub steps_sum : (Block → ℕ) → ℕ → List (StepOf Block) → ℕ
 steps_sum f n [] = 0
@@ -30,6 +36,7 @@ steps_sum f n (Single b ∷ ss) = 2 * f b + steps_sum f n ss
 steps_sum f n (Along b ∷ ss) = 2 * (n * f b) + steps_sum f n ss
 steps_sum f n (Nest ps ∷ ss) = nest_sum f n 0 n ps + steps_sum f n ss
 steps_sum f n (Pairs b ∷ ss) = 2 * ((n - 1) * f b) + steps_sum f n ss
+steps_sum f n (Alternate t ∷ ss) = 2 * turns_sum f t (n - 1) + steps_sum f n ss
 
 module _ (f : Block → ℕ) where
   more : (r : RoundOf Block) (rs : List (RoundOf Block))
@@ -46,6 +53,14 @@ module _ (f : Block → ℕ) where
   sum_each b o i (suc count) =
       let e = sum_each b o (i + 1) count in
       let a = more (round_at b i o) (rounds (λ j. one_round b j o) (i + 1) count) in
+      omega (arith, a, e)
+
+  turns_is : (t : TurnsOf Block) (i count : ℕ) → rounds_sum f (turns_from t i count)
+      ≡ turns_sum f t count
+  turns_is t i zero = let a = more (round_at t.last_even i 0) [] in omega (arith, a)
+  turns_is t i (suc count) =
+      let e = turns_is (next_turn t) (i + 1) count in
+      let a = more (round_at t.even i 0) (turns_from (next_turn t) (i + 1) count) in
       omega (arith, a, e)
 
   abbrev inner_sum : ℕ → ℕ → ℕ → List (InnerOf Block) → ℕ
@@ -110,6 +125,34 @@ module _ (f : Block → ℕ) where
   sum_is n (Pairs b ∷ ss) = let e = sum_is n ss in
       let a = sum_append (rounds (λ j. one_round b j 1) 0 (n - 1)) (all_rounds n ss) in
       let c = sum_each b 1 0 (n - 1) in omega (arith, e, a, c)
+  sum_is n (Alternate t ∷ ss) = let e = sum_is n ss in
+      let a = sum_append (turns_from t 0 (n - 1)) (all_rounds n ss) in
+      let c = turns_is t 0 (n - 1) in omega (arith, e, a, c)
+
+  -- after an even number of positions, and after an odd one
+  pub turns_even : (t : TurnsOf Block) (k : ℕ) → turns_sum f t (2 * k)
+      ≡ k * (f t.even + f t.odd) + f t.last_even
+  turns_even t zero = omega arith
+  turns_even t (suc k) =
+      let two : 2 * suc k ≡ suc (suc (2 * k)) = omega arith in
+      let e = turns_even t k in
+      let g = ap (turns_sum f t) two in
+      omega (arith, e, g)
+
+  pub turns_odd : (t : TurnsOf Block) (k : ℕ) → turns_sum f t (2 * k + 1)
+      ≡ k * (f t.even + f t.odd) + (f t.even + f t.last_odd)
+  turns_odd t k =
+      let one : 2 * k + 1 ≡ suc (2 * k) = omega arith in
+      let e = turns_even (next_turn t) k in
+      let g = ap (turns_sum f t) one in
+      omega (arith, e, g)
+
+-- no body that takes turns counts more than so many
+pub turns_most : (f : Block → ℕ) (c : ℕ) (t : TurnsOf Block) → f t.even ≤ c → f t.odd ≤ c
+    → f t.last_even ≤ c → f t.last_odd ≤ c → (count : ℕ) → turns_sum f t count ≤ (count + 1) * c
+turns_most f c t e o le lo zero = omega (arith, le)
+turns_most f c t e o le lo (suc count) =
+    let h = turns_most f c (next_turn t) o e lo le count in omega (arith, h, e)
 
 -- of two counts of which one is nowhere greater
 pub sum_most : (f g : Block → ℕ) (P : Block → Type 0) → ((b : Block) → P b → f b ≤ g b)

@@ -21,8 +21,11 @@ use Rattle.row_alloc.specs.Layouts.{layout}
 use Rattle.row_alloc.specs.Held.{reads_rows, symbols_held, IsLeft, IsHeldChecked}
 use Rattle.row_alloc.specs.HeldBodies.{ServesHeld, IsFirstHeld, held_sequences, held_at, HeldBody}
 use Rattle.row_alloc.specs.HeldBodies.{ZeroInT0, OneInT0, ZeroInT1, OneInT1, OnesInT2AndT3}
-use Rattle.row_alloc.specs.HeldBodies.{ZeroInT2AndDcc0, ZeroInT3AndDcc1, ZeroInTurnedT3AndDcc1}
-use Rattle.row_alloc.specs.HeldBodies.{HeldCompared, HeldBoth, HeldEither, HeldUnlike, HeldOrdered}
+use Rattle.row_alloc.specs.HeldBodies.{ZeroInT3AndDcc1, ZeroInTurnedT3AndDcc1}
+use Rattle.row_alloc.specs.HeldBodies.{HeldCompared, HeldOrdered}
+use Rattle.row_alloc.specs.HeldBodies.{BothInT2, EitherInT2, MajorityInT1, KeptForPair, PairUnlike}
+use Rattle.row_alloc.specs.HeldBodies.{BothAtLast, EitherAtLast, MajorityAtLast, PairUnlikeAtLast}
+use Rattle.row_alloc.specs.HeldBodies.{UnlikeAtLast}
 use Rattle.row_alloc.specs.HeldBodies.{HeldLessened, HeldNegatedIf, HeldMultiplied, HeldDivided}
 use Rattle.row_alloc.specs.HeldBodies.{HeldAgreed, held_graph, held_outs, enter_in, leave_in}
 use Rattle.row_alloc.specs.HeldBodies.{held_sequence_for}
@@ -242,13 +245,9 @@ have_first OneInT0 = none OneInT0 refl refl (omega arith)
 have_first ZeroInT1 = none ZeroInT1 refl refl (omega arith)
 have_first OneInT1 = none OneInT1 refl refl (omega arith)
 have_first OnesInT2AndT3 = none OnesInT2AndT3 refl refl (omega arith)
-have_first ZeroInT2AndDcc0 = none ZeroInT2AndDcc0 refl refl (omega arith)
 have_first ZeroInT3AndDcc1 = none ZeroInT3AndDcc1 refl refl (omega arith)
 have_first ZeroInTurnedT3AndDcc1 = none ZeroInTurnedT3AndDcc1 refl refl (omega arith)
 have_first HeldCompared = one HeldCompared _ nowhere refl refl (omega arith) (λ outs late. refl)
-have_first HeldBoth = one HeldBoth _ nowhere refl refl (omega arith) (λ outs late. refl)
-have_first HeldEither = one HeldEither _ nowhere refl refl (omega arith) (λ outs late. refl)
-have_first HeldUnlike = one HeldUnlike _ nowhere refl refl (omega arith) (λ outs late. refl)
 have_first HeldOrdered = none HeldOrdered refl refl (omega arith)
 have_first HeldLessened = one HeldLessened _ nowhere refl refl (omega arith) (λ outs late. refl)
 have_first HeldNegatedIf = one HeldNegatedIf _ at_one refl refl (omega arith) (λ outs late.
@@ -257,6 +256,21 @@ have_first HeldNegatedIf = one HeldNegatedIf _ at_one refl refl (omega arith) (�
 have_first HeldMultiplied = one HeldMultiplied _ nowhere refl refl (omega arith) (λ outs late. refl)
 have_first HeldDivided = one HeldDivided _ nowhere refl refl (omega arith) (λ outs late. refl)
 have_first HeldAgreed = one HeldAgreed _ nowhere refl refl (omega arith) (λ outs late. refl)
+have_first BothInT2 = none BothInT2 refl refl (omega arith)
+have_first EitherInT2 = none EitherInT2 refl refl (omega arith)
+have_first MajorityInT1 = none MajorityInT1 refl refl (omega arith)
+have_first KeptForPair = none KeptForPair refl refl (omega arith)
+have_first PairUnlike = none PairUnlike refl refl (omega arith)
+have_first BothAtLast = one BothAtLast _ nowhere refl refl (omega arith)
+    (λ outs late. refl)
+have_first EitherAtLast = one EitherAtLast _ nowhere refl refl (omega arith)
+    (λ outs late. refl)
+have_first MajorityAtLast = one MajorityAtLast _ nowhere refl refl (omega arith)
+    (λ outs late. refl)
+have_first PairUnlikeAtLast = one PairUnlikeAtLast _ nowhere refl refl (omega arith)
+    (λ outs late. refl)
+have_first UnlikeAtLast = one UnlikeAtLast _ nowhere refl refl (omega arith)
+    (λ outs late. refl)
 
 pub held_first : (g : Graph) (outs : List OutRow) (enter leave : List Held) (b : HeldBody)
     → g ≡ held_graph b → FitBody g outs → map (λ o. o.lit) outs ≡ held_outs b → enter ≡ enter_in b

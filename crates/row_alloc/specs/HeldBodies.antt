@@ -35,28 +35,36 @@ pub record IsFirstHeld (g : Graph) (outs : List OutRow) (enter leave : List Held
   pub before : (i : ℕ) → i < k → ServesHeld g outs enter leave (held_at i) → ⊥
 
 -- The bodies with states in cells of the word operations. The starts: a zero or ones in the cells
--- where a loop begins. The rounds: a comparison; and, or and exclusive or with the state; two
+-- where a loop begins. The rounds: a comparison; two
 -- comparisons, of a with b and of b with a; the steps of subtraction and of abs, and the inner
--- steps of mul and div. The end: whether both comparisons hold
+-- steps of mul and div. The end: whether both comparisons hold.
+-- Of two bodies in turn the first joins its element to the state and keeps the constant, or keeps
+-- both, and the second joins its own to what was kept. Each has one that ends the loop in a row
 pub data HeldBody : Type 0 where
   ZeroInT0 : HeldBody
   OneInT0 : HeldBody
   ZeroInT1 : HeldBody
   OneInT1 : HeldBody
   OnesInT2AndT3 : HeldBody
-  ZeroInT2AndDcc0 : HeldBody
   ZeroInT3AndDcc1 : HeldBody
   ZeroInTurnedT3AndDcc1 : HeldBody
   HeldCompared : HeldBody
-  HeldBoth : HeldBody
-  HeldEither : HeldBody
-  HeldUnlike : HeldBody
   HeldOrdered : HeldBody
   HeldLessened : HeldBody
   HeldNegatedIf : HeldBody
   HeldMultiplied : HeldBody
   HeldDivided : HeldBody
   HeldAgreed : HeldBody
+  BothInT2 : HeldBody
+  EitherInT2 : HeldBody
+  MajorityInT1 : HeldBody
+  KeptForPair : HeldBody
+  PairUnlike : HeldBody
+  BothAtLast : HeldBody
+  EitherAtLast : HeldBody
+  MajorityAtLast : HeldBody
+  PairUnlikeAtLast : HeldBody
+  UnlikeAtLast : HeldBody
 
 -- how many inputs the body's graph has
 abbrev pub held_inputs : HeldBody → ℕ
@@ -65,19 +73,25 @@ held_inputs OneInT0 = 0
 held_inputs ZeroInT1 = 0
 held_inputs OneInT1 = 0
 held_inputs OnesInT2AndT3 = 0
-held_inputs ZeroInT2AndDcc0 = 0
 held_inputs ZeroInT3AndDcc1 = 0
 held_inputs ZeroInTurnedT3AndDcc1 = 0
 held_inputs HeldCompared = 3
-held_inputs HeldBoth = 2
-held_inputs HeldEither = 2
-held_inputs HeldUnlike = 2
 held_inputs HeldOrdered = 4
 held_inputs HeldLessened = 3
 held_inputs HeldNegatedIf = 3
 held_inputs HeldMultiplied = 4
 held_inputs HeldDivided = 4
 held_inputs HeldAgreed = 2
+held_inputs BothInT2 = 2
+held_inputs EitherInT2 = 2
+held_inputs MajorityInT1 = 3
+held_inputs KeptForPair = 2
+held_inputs PairUnlike = 3
+held_inputs BothAtLast = 2
+held_inputs EitherAtLast = 2
+held_inputs MajorityAtLast = 3
+held_inputs PairUnlikeAtLast = 3
+held_inputs UnlikeAtLast = 2
 
 -- the nodes of its graph
 abbrev pub held_nodes : HeldBody → List Node
@@ -86,15 +100,9 @@ held_nodes OneInT0 = []
 held_nodes ZeroInT1 = []
 held_nodes OneInT1 = []
 held_nodes OnesInT2AndT3 = []
-held_nodes ZeroInT2AndDcc0 = []
 held_nodes ZeroInT3AndDcc1 = []
 held_nodes ZeroInTurnedT3AndDcc1 = []
 held_nodes HeldCompared = node_of (plain 1) (complemented 2) (plain 3) ∷ []
-held_nodes HeldBoth = node_of (plain 0) (plain 1) (plain 2) ∷ []
-held_nodes HeldEither = node_of (complemented 0) (plain 1) (plain 2) ∷ []
-held_nodes HeldUnlike = node_of (complemented 0) (plain 1) (plain 2)
-    ∷ node_of (plain 0) (complemented 2) (plain 3)
-    ∷ node_of (complemented 1) (plain 3) (plain 4) ∷ []
 held_nodes HeldOrdered = node_of (plain 1) (complemented 2) (plain 3)
     ∷ node_of (complemented 1) (plain 2) (plain 4) ∷ []
 held_nodes HeldLessened = node_of (plain 1) (plain 2) (complemented 3)
@@ -111,6 +119,22 @@ held_nodes HeldDivided = node_of (plain 0) (plain 2) (plain 3)
     ∷ node_of (complemented 1) (plain 4) (plain 6)
     ∷ node_of (complemented 5) (plain 6) (plain 7) ∷ []
 held_nodes HeldAgreed = node_of (plain 0) (plain 1) (plain 2) ∷ []
+held_nodes BothInT2 = node_of (plain 0) (plain 1) (plain 2) ∷ []
+held_nodes EitherInT2 = node_of (complemented 0) (plain 1) (plain 2) ∷ []
+held_nodes MajorityInT1 = node_of (plain 1) (plain 2) (plain 3) ∷ []
+held_nodes KeptForPair = []
+held_nodes PairUnlike = node_of (plain 1) (plain 2) (complemented 3)
+    ∷ node_of (complemented 1) (plain 3) (plain 4)
+    ∷ node_of (complemented 2) (plain 4) (plain 5) ∷ []
+held_nodes BothAtLast = node_of (plain 0) (plain 1) (plain 2) ∷ []
+held_nodes EitherAtLast = node_of (complemented 0) (plain 1) (plain 2) ∷ []
+held_nodes MajorityAtLast = node_of (plain 1) (plain 2) (plain 3) ∷ []
+held_nodes PairUnlikeAtLast = node_of (plain 1) (plain 2) (complemented 3)
+    ∷ node_of (complemented 1) (plain 3) (plain 4)
+    ∷ node_of (complemented 2) (plain 4) (plain 5) ∷ []
+held_nodes UnlikeAtLast = node_of (plain 0) (plain 1) (complemented 2)
+    ∷ node_of (complemented 0) (plain 2) (plain 3)
+    ∷ node_of (complemented 1) (plain 3) (plain 4) ∷ []
 
 -- its graph
 abbrev pub held_graph : HeldBody → Graph
@@ -123,19 +147,25 @@ held_outs OneInT0 = []
 held_outs ZeroInT1 = []
 held_outs OneInT1 = []
 held_outs OnesInT2AndT3 = []
-held_outs ZeroInT2AndDcc0 = []
 held_outs ZeroInT3AndDcc1 = []
 held_outs ZeroInTurnedT3AndDcc1 = []
 held_outs HeldCompared = plain 4 ∷ []
-held_outs HeldBoth = plain 3 ∷ []
-held_outs HeldEither = plain 3 ∷ []
-held_outs HeldUnlike = plain 5 ∷ []
 held_outs HeldOrdered = []
 held_outs HeldLessened = plain 6 ∷ []
 held_outs HeldNegatedIf = plain 6 ∷ []
 held_outs HeldMultiplied = complemented 8 ∷ []
 held_outs HeldDivided = plain 8 ∷ []
 held_outs HeldAgreed = plain 3 ∷ []
+held_outs BothInT2 = []
+held_outs EitherInT2 = []
+held_outs MajorityInT1 = []
+held_outs KeptForPair = []
+held_outs PairUnlike = []
+held_outs BothAtLast = plain 3 ∷ []
+held_outs EitherAtLast = plain 3 ∷ []
+held_outs MajorityAtLast = plain 4 ∷ []
+held_outs PairUnlikeAtLast = plain 6 ∷ []
+held_outs UnlikeAtLast = plain 5 ∷ []
 
 -- the literal in the cells of this layout
 abbrev pub in_layout : ℕ → Lit → Held
@@ -148,19 +178,25 @@ enter_in OneInT0 = []
 enter_in ZeroInT1 = []
 enter_in OneInT1 = []
 enter_in OnesInT2AndT3 = []
-enter_in ZeroInT2AndDcc0 = []
 enter_in ZeroInT3AndDcc1 = []
 enter_in ZeroInTurnedT3AndDcc1 = []
 enter_in HeldCompared = in_layout 0 (plain 3) ∷ []
-enter_in HeldBoth = in_layout 1 (plain 2) ∷ []
-enter_in HeldEither = in_layout 1 (plain 2) ∷ []
-enter_in HeldUnlike = in_layout 9 (plain 2) ∷ []
 enter_in HeldOrdered = in_layout 2 (plain 3) ∷ in_layout 3 (plain 4) ∷ []
 enter_in HeldLessened = in_layout 4 (plain 3) ∷ []
 enter_in HeldNegatedIf = in_layout 4 (plain 3) ∷ []
 enter_in HeldMultiplied = in_layout 5 (plain 4) ∷ []
 enter_in HeldDivided = in_layout 4 (plain 4) ∷ []
 enter_in HeldAgreed = in_layout 2 (plain 1) ∷ in_layout 3 (plain 2) ∷ []
+enter_in BothInT2 = in_layout 1 (plain 2) ∷ []
+enter_in EitherInT2 = in_layout 1 (plain 2) ∷ []
+enter_in MajorityInT1 = in_layout 2 (plain 2) ∷ in_layout 3 (plain 3) ∷ []
+enter_in KeptForPair = in_layout 4 (plain 2) ∷ []
+enter_in PairUnlike = in_layout 9 (plain 2) ∷ in_layout 10 (plain 3) ∷ []
+enter_in BothAtLast = in_layout 1 (plain 2) ∷ []
+enter_in EitherAtLast = in_layout 1 (plain 2) ∷ []
+enter_in MajorityAtLast = in_layout 2 (plain 2) ∷ in_layout 3 (plain 3) ∷ []
+enter_in PairUnlikeAtLast = in_layout 9 (plain 2) ∷ in_layout 10 (plain 3) ∷ []
+enter_in UnlikeAtLast = in_layout 4 (plain 2) ∷ []
 
 -- the states that it leaves in cells
 abbrev pub leave_in : HeldBody → List Held
@@ -169,19 +205,25 @@ leave_in OneInT0 = in_layout 0 (complemented 0) ∷ []
 leave_in ZeroInT1 = in_layout 1 (plain 0) ∷ []
 leave_in OneInT1 = in_layout 1 (complemented 0) ∷ []
 leave_in OnesInT2AndT3 = in_layout 2 (complemented 0) ∷ in_layout 3 (complemented 0) ∷ []
-leave_in ZeroInT2AndDcc0 = in_layout 9 (plain 0) ∷ []
 leave_in ZeroInT3AndDcc1 = in_layout 4 (plain 0) ∷ []
 leave_in ZeroInTurnedT3AndDcc1 = in_layout 5 (plain 0) ∷ []
 leave_in HeldCompared = in_layout 0 (plain 4) ∷ []
-leave_in HeldBoth = in_layout 1 (plain 3) ∷ []
-leave_in HeldEither = in_layout 1 (plain 3) ∷ []
-leave_in HeldUnlike = in_layout 9 (plain 5) ∷ []
 leave_in HeldOrdered = in_layout 2 (plain 5) ∷ in_layout 3 (plain 6) ∷ []
 leave_in HeldLessened = in_layout 4 (plain 5) ∷ []
 leave_in HeldNegatedIf = in_layout 4 (plain 7) ∷ []
 leave_in HeldMultiplied = in_layout 5 (plain 7) ∷ []
 leave_in HeldDivided = in_layout 4 (plain 7) ∷ []
 leave_in HeldAgreed = []
+leave_in BothInT2 = in_layout 2 (plain 3) ∷ in_layout 3 (plain 0) ∷ []
+leave_in EitherInT2 = in_layout 2 (plain 3) ∷ in_layout 3 (complemented 0) ∷ []
+leave_in MajorityInT1 = in_layout 1 (plain 4) ∷ []
+leave_in KeptForPair = in_layout 9 (plain 1) ∷ in_layout 10 (plain 2) ∷ []
+leave_in PairUnlike = in_layout 4 (plain 6) ∷ []
+leave_in BothAtLast = []
+leave_in EitherAtLast = []
+leave_in MajorityAtLast = []
+leave_in PairUnlikeAtLast = []
+leave_in UnlikeAtLast = []
 
 -- the number of its sequence in the table
 abbrev pub held_sequence_for : HeldBody → ℕ
@@ -190,16 +232,22 @@ held_sequence_for ZeroInT3AndDcc1 = 0
 held_sequence_for OneInT0 = 1
 held_sequence_for ZeroInTurnedT3AndDcc1 = 1
 held_sequence_for ZeroInT1 = 2
-held_sequence_for ZeroInT2AndDcc0 = 2
 held_sequence_for OneInT1 = 3
 held_sequence_for OnesInT2AndT3 = 3
 held_sequence_for HeldAgreed = 4
 held_sequence_for HeldCompared = 5
-held_sequence_for HeldBoth = 6
-held_sequence_for HeldEither = 7
 held_sequence_for HeldOrdered = 8
 held_sequence_for HeldLessened = 9
-held_sequence_for HeldUnlike = 10
 held_sequence_for HeldNegatedIf = 11
 held_sequence_for HeldDivided = 12
 held_sequence_for HeldMultiplied = 13
+held_sequence_for BothInT2 = 17
+held_sequence_for EitherInT2 = 18
+held_sequence_for MajorityInT1 = 15
+held_sequence_for KeptForPair = 14
+held_sequence_for PairUnlike = 19
+held_sequence_for BothAtLast = 6
+held_sequence_for EitherAtLast = 7
+held_sequence_for MajorityAtLast = 16
+held_sequence_for PairUnlikeAtLast = 20
+held_sequence_for UnlikeAtLast = 10

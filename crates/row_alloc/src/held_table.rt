@@ -18,8 +18,9 @@ use crate::held::check_held;
 use crate::order::writes_late;
 use mig_graph::Mig;
 
-/// All of them, the shorter ones first.
-pub static HELD: [&[BodyCmd]; 14] = [
+/// All of them: of the bodies that a loop has alone the shorter ones first, and then so of those that
+/// stand in it by turns.
+pub static HELD: [&[BodyCmd]; 21] = [
     // 0 in T0, T3 and DCC1
     &[Aap(C(0), B(15))],
     // 1 in T0, T3 and DCC1
@@ -47,11 +48,11 @@ pub static HELD: [&[BodyCmd]; 14] = [
         Aap(B(15), B(1)),
         Aap(B(14), Out(0)),
     ],
-    // a xor T2
+    // a xor T3
     &[
-        Aap(C(1), B(9)),
-        Aap(B(5), B(11)),
         Aap(In(0), B(8)),
+        Aap(B(7), B(2)),
+        Aap(C(0), B(9)),
         Ap(B(12)),
         Aap(B(15), B(1)),
         Aap(B(14), Out(0)),
@@ -86,6 +87,28 @@ pub static HELD: [&[BodyCmd]; 14] = [
         Aap(In(2), B(2)),
         Aap(B(14), B(8)),
         Aap(B(7), B(2)),
+        Aap(In(0), B(9)),
+        Ap(B(12)),
+        Aap(B(15), B(1)),
+        Aap(B(14), Out(0)),
+    ],
+    // a in T0, and T3 beside its complement
+    &[Aap(In(0), B(8)), Aap(B(7), B(2))],
+    // the majority of a, T2 and T3
+    &[Aap(In(0), B(1)), Ap(B(13))],
+    &[Aap(In(0), B(1)), Aap(B(13), Out(0))],
+    // a and T1, and 0 in T3
+    &[Aap(C(0), B(10)), Aap(In(0), B(0)), Ap(B(12))],
+    // a or T1, and 1 in T3
+    &[Aap(C(1), B(10)), Aap(In(0), B(0)), Ap(B(12))],
+    // a xor T0 xor T3, whose complements stand in DCC0 and T2
+    &[
+        Aap(In(0), B(9)),
+        Ap(B(12)),
+        Aap(B(15), B(1)),
+        Aap(B(14), B(15)),
+    ],
+    &[
         Aap(In(0), B(9)),
         Ap(B(12)),
         Aap(B(15), B(1)),

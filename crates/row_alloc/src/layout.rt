@@ -43,7 +43,9 @@ static T3_DCC0_TURNED: [Line; 2] = [turned!(Cell::T(3)), turned!(Cell::Dcc(0))];
 
 static T0_T1: [Line; 2] = [straight!(Cell::T(0)), straight!(Cell::T(1))];
 
-static T2_DCC0: [Line; 2] = [straight!(Cell::T(2)), straight!(Cell::Dcc(0))];
+static T0_NOT_DCC0: [Line; 2] = [straight!(Cell::T(0)), turned!(Cell::Dcc(0))];
+
+static T3_NOT_T2: [Line; 2] = [straight!(Cell::T(3)), turned!(Cell::T(2))];
 
 /// The wordlines that read a state in the layout of this number.
 pub fn layout(k: u8) -> &'static [Line]
@@ -61,6 +63,7 @@ pub fn layout(k: u8) -> &'static [Line]
         6 => &T3_DCC0,
         7 => &T3_DCC0_TURNED,
         8 => &T0_T1,
-        _ => &T2_DCC0,
+        9 => &T0_NOT_DCC0,
+        _ => &T3_NOT_T2,
     }
 }
