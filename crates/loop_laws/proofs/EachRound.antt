@@ -1,5 +1,5 @@
 -- What holds of every body holds of every round.
-use Rattle.std.proofs.Common.{ℕ, zero, suc, ◌+◌, ◌-◌, ◌<◌, ◌≤◌, List, [], ◌∷◌, ◌++◌, map, refl}
+use Rattle.std.proofs.Common.{ℕ, zero, suc, ◌+◌, ◌-◌, ◌<◌, ◌≤◌, List, [], ◌∷◌, ◌++◌, map, arith}
 use Rattle.std.specs.List.{AllByRecursion}
 use Rattle.loop_ir.specs.Plain.{Block, InnerOf, StepOf, AllInner, AllParts, inner_map, step_map}
 use Rattle.loop_ir.specs.Plain.InnerOf.{Alone, Across}
@@ -46,7 +46,8 @@ module _ (P : Block → Type 0) where
   each_round n (Pairs b ∷ ss) all = all_append OfPart (rounds (λ i. one_round b i 1) 0 (n - 1))
       (all_rounds n ss) (each b 1 0 (n - 1) all.0) (each_round n ss all.1)
   each_round n (Alternate t ∷ ss) all = all_append OfPart (turns_from t 0 (n - 1))
-      (all_rounds n ss) (turns_rounds OfPart t 0 (n - 1) (n - 1) refl (λ j le. all.0))
+      (all_rounds n ss) (turns_rounds OfPart t 0 (n - 1) (n - 1) (omega arith)
+      (λ j le. all.0))
       (each_round n ss all.1)
 
   module _ (f : Marked → Block) (h : (b : Marked) → P (f b)) where
