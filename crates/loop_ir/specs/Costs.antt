@@ -11,6 +11,8 @@ use Rattle.loop_ir.specs.declared.ir.Sub.TheVariants.{Zero, Top, Inner as At_inn
 use Rattle.loop_ir.specs.declared.ir.Sub.TheVariants.{Outer, OuterDown, Sum, DownSum, DownPlusN}
 use Rattle.loop_ir.specs.declared.ir.Sub.TheVariants.{NPlusInner}
 use Rattle.loop_ir.specs.Plain.{Block, InnerOf, TurnsOf, StepOf}
+use Rattle.loop_ir.specs.declared.ir.Count.{Count}
+use Rattle.loop_ir.specs.declared.ir.Count.TheVariants.{All, Rest, UpTo, Bits}
 use Rattle.loop_ir.specs.Plain.InnerOf.{Alone, Across}
 use Rattle.loop_ir.specs.Plain.StepOf.{Single, Along, Nest, Pairs, Alternate}
 use Rattle.row_alloc.specs.HeldBodies.{HeldBody, held_at, held_sequence_for}
@@ -133,10 +135,17 @@ used_subs b = filter (is_used b) (Top ∷ At_inner ∷ InnerDown ∷ Outer ∷ O
 abbrev pub single_cost : Block → ℕ
 single_cost b = body_cost b + (if is_fixed b then 0 else 15)
 
+-- how many instructions more a loop takes that finds the bits of a number
+abbrev pub counter_cost : Count → ℕ
+counter_cost All = 0
+counter_cost Rest = 0
+counter_cost UpTo = 0
+counter_cost Bits = 11
+
 -- how many instructions a part of a nest may take
 abbrev pub inner_cost : InnerOf Block → ℕ
 inner_cost (Alone b) = body_cost b + 15
-inner_cost (Across count b) = body_cost b + 15
+inner_cost (Across count b) = body_cost b + 15 + counter_cost count
 
 -- how many instructions bodies that take turns may take
 abbrev pub turns_cost : TurnsOf Block → ℕ

@@ -1,11 +1,12 @@
 -- The rounds of a loop program.
-use Rattle.std.specs.Prelude.{ℕ, zero, suc, ◌+◌, ◌-◌, ◌*◌, List, [], ◌∷◌, ◌++◌}
+use Rattle.std.specs.Prelude.{ℕ, zero, suc, ◌+◌, ◌-◌, ◌*◌, ◌^◌, nat_le, if◌then◌else◌, List, []}
+use Rattle.std.specs.Prelude.{◌∷◌, ◌++◌}
 use Rattle.loop_ir.specs.declared.ir.Sub.{Sub}
 use Rattle.loop_ir.specs.declared.ir.Sub.TheVariants.{Zero, Top, Inner as At_inner, InnerDown}
 use Rattle.loop_ir.specs.declared.ir.Sub.TheVariants.{Outer, OuterDown, Sum, DownSum, DownPlusN}
 use Rattle.loop_ir.specs.declared.ir.Sub.TheVariants.{NPlusInner}
 use Rattle.loop_ir.specs.declared.ir.Count.{Count}
-use Rattle.loop_ir.specs.declared.ir.Count.TheVariants.{All, Rest, UpTo}
+use Rattle.loop_ir.specs.declared.ir.Count.TheVariants.{All, Rest, UpTo, Bits}
 use Rattle.loop_ir.specs.Plain.{InnerOf, TurnsOf, StepOf}
 use Rattle.loop_ir.specs.Plain.InnerOf.{Alone, Across}
 use Rattle.loop_ir.specs.Plain.StepOf.{Single, Along, Nest, Pairs, Alternate}
@@ -29,11 +30,17 @@ round_at b i o = record { part = b; i = i; o = o }
 abbrev pub one_round : {A : Type 0} → A → ℕ → ℕ → List (RoundOf A)
 one_round b i o = round_at b i o ∷ []
 
+-- how many bits a number has: one more at each power of two
+abbrev pub bits_in : ℕ → ℕ
+bits_in zero = 0
+bits_in (suc m) = if nat_le (2 ^ bits_in m) (suc m) then bits_in m + 1 else bits_in m
+
 -- how many inner positions there are
 abbrev pub positions : ℕ → ℕ → Count → ℕ
 positions n o All = n
 positions n o Rest = n - o
 positions n o UpTo = o + 1
+positions n o Bits = bits_in (o + 1)
 
 -- the rounds of a nest's parts at one outer position
 abbrev pub inner_rounds : {A : Type 0} → ℕ → ℕ → List (InnerOf A) → List (RoundOf A)

@@ -86,12 +86,14 @@ impl Drop for Body {
     }
 }
 
-/// How far an inner loop runs: from 0 to n - 1, to n - 1 - o, or to o. It is never without a round.
+/// How far an inner loop runs: from 0 to n - 1, to n - 1 - o, or to o; or over as many positions as
+/// the number o + 1 has bits. It is never without a round.
 #[derive(Clone, Copy, PartialEq, Eq)]
 pub enum Count {
     All,
     Rest,
     UpTo,
+    Bits,
 }
 
 /// A part of a nest: a body at each outer position, once or in a loop of its own.

@@ -10,7 +10,7 @@ use Rattle.mig_graph.specs.declared.Lit.{Lit}
 use Rattle.row_alloc.specs.HeldBodies.{HeldBody, held_inputs, held_nodes, held_outs, enter_in}
 use Rattle.row_alloc.specs.HeldBodies.{leave_in, HeldNegatedIf}
 use Rattle.row_alloc.specs.declared.body.Held.{Held}
-use Rattle.loop_ir.specs.declared.ir.Count.TheVariants.{All, Rest, UpTo}
+use Rattle.loop_ir.specs.declared.ir.Count.TheVariants.{All, Rest, UpTo, Bits}
 use Rattle.loop_ir.specs.declared.ir.Place.{Place}
 use Rattle.loop_ir.specs.Plain.{Block, InnerOf, TurnsOf, StepOf, inner_map, turns_map}
 use Rattle.loop_ir.specs.Plain.InnerOf.{Alone, Across}
@@ -29,7 +29,7 @@ use Rattle.loop_ir.specs.Limits.{is_served}
 use Rattle.loop_laws.specs.Rooms.{Room, room_at, room_for, Owner, InRoom, InCells, Mark, Marked}
 use Rattle.loop_laws.specs.Rooms.{placed, placed_body, placed_steps}
 use Rattle.loop_laws.specs.Forms.{are_rows_first, has_known_states}
-use Rattle.loop_laws.proofs.Summed.{nest_sum, turns_sum, steps_sum, rounds_sum, sum_is}
+use Rattle.loop_laws.proofs.Summed.{nest_sum, turns_sum, steps_sum, rounds_sum, sum_is, bits_from}
 
 -- no room stands in cells
 abbrev pub HaveRows : List Room → Type 0
@@ -299,6 +299,11 @@ module _ (f : Block → ℕ) (rooms : List Room)
       let times = 2 * (o * count) + (count * count + count) in
       ap (λ x. times * x + nest_sum f n o count (map (inner_map (placed_body rooms)) ps)) (like b)
       ∙ ap (λ x. times * f (placed_body [] b) + x) e
+  nest_like n o count (Across Bits b ∷ ps) =
+      let e = nest_like n o count ps in
+      let times = bits_from o count in
+      ap (λ x. 2 * (times * x) + nest_sum f n o count (map (inner_map (placed_body rooms)) ps))
+      (like b) ∙ ap (λ x. 2 * (times * f (placed_body [] b)) + x) e
 
   turns_like : (t : TurnsOf Marked) (count : ℕ)
       → turns_sum f (turns_map (placed_body rooms) t) count

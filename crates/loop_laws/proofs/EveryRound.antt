@@ -12,7 +12,7 @@ use Rattle.loop_ir.specs.declared.ir.Space.TheVariants.{Cells}
 use Rattle.loop_ir.specs.declared.ir.Sub.{Sub}
 use Rattle.loop_ir.specs.declared.ir.Sub.TheVariants as sub
 use Rattle.loop_ir.specs.declared.ir.Count.{Count}
-use Rattle.loop_ir.specs.declared.ir.Count.TheVariants.{All, Rest, UpTo}
+use Rattle.loop_ir.specs.declared.ir.Count.TheVariants.{All, Rest, UpTo, Bits}
 use Rattle.loop_ir.specs.declared.ir.Place.{Place}
 use Rattle.loop_ir.specs.Plain.{Block, InnerOf, StepOf, AllInner, AllParts, inner_map, turns_map}
 use Rattle.loop_ir.specs.Plain.{all_turns}
@@ -32,6 +32,7 @@ use Rattle.loop_laws.specs.Rooms.{is_long, is_twice, has_inner, is_left, is_belo
 use Rattle.loop_laws.specs.Forms.{IsSlim, has_room, inners_have_room, steps_have_room}
 use Rattle.loop_laws.specs.Forms.{has_known_states, inners_have_known, steps_have_known}
 use Rattle.loop_laws.specs.Laws.{MarksAreEnough}
+use Rattle.loop_laws.proofs.Digits.{few_bits}
 use Rattle.loop_laws.proofs.Fitting.{mark_at, IsThere, InnerOk, OuterOk, BodyFits, InnersFit}
 use Rattle.loop_laws.proofs.Fitting.{StepsFit}
 use Rattle.loop_laws.proofs.TakingTurns.{turns_all, turns_rounds}
@@ -342,6 +343,7 @@ reach_ok : (n : ℕ) (c : Count) (i o : ℕ) → o < n → i < positions n o c
 reach_ok n All i o lo lt = lt
 reach_ok n Rest i o lo lt = lt
 reach_ok n UpTo i o lo lt = (omega (arith, lt), lo)
+reach_ok n Bits i o lo lt = (omega (arith, lt, few_bits (o + 1)), lo)
 
 module _ (n : ℕ) (rooms : List Room) (some : 0 < n) (are : RoomsApart n rooms)
     (rows : HaveRows rooms) where

@@ -1,3 +1,4 @@
+pub mod Digits
 pub mod Same
 pub mod TakingTurns
 pub mod Loop

@@ -8,7 +8,7 @@ use Rattle.loop_ir.specs.declared.ir.Space.TheVariants.{Source, Cells}
 use Rattle.loop_ir.specs.declared.ir.Sub.{Sub}
 use Rattle.loop_ir.specs.declared.ir.Sub.TheVariants as sub
 use Rattle.loop_ir.specs.declared.ir.Count.{Count}
-use Rattle.loop_ir.specs.declared.ir.Count.TheVariants.{All, Rest, UpTo}
+use Rattle.loop_ir.specs.declared.ir.Count.TheVariants.{All, Rest, UpTo, Bits}
 use Rattle.loop_ir.specs.declared.ir.Place.{Place}
 use Rattle.loop_ir.specs.Plain.{Block, InnerOf, StepOf, step_map, all_turns}
 use Rattle.loop_ir.specs.Plain.InnerOf.{Alone, Across}
@@ -166,6 +166,7 @@ abbrev pub reach_of : Count → Reach
 reach_of All = Whole
 reach_of Rest = Left
 reach_of UpTo = Below
+reach_of Bits = Below
 
 -- there is such an owner among so many
 abbrev pub is_there : Owner → ℕ → Bool
