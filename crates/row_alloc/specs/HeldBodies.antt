@@ -1,5 +1,5 @@
 -- The known sequences for bodies that hold states in cells, and when one may stand for a body
-use Rattle.std.specs.Prelude.{ℕ, ◌<◌, List, [], ◌∷◌, length, map, slice_index_or}
+use Rattle.std.specs.Prelude.{◌≡◌, ℕ, ◌<◌, true, List, [], ◌∷◌, length, map, slice_index_or}
 use Rattle.mig_graph.specs.declared.Lit.{Lit}
 use Rattle.mig_graph.specs.declared.Node.{Node}
 use Rattle.mig_graph.specs.Literals.{node_of}
@@ -8,8 +8,8 @@ use Rattle.row_alloc.specs.declared.held_table.TheConstants.{HELD}
 use Rattle.row_alloc.specs.declared.body.BodyCmd.{BodyCmd}
 use Rattle.row_alloc.specs.declared.body.OutRow.{OutRow}
 use Rattle.row_alloc.specs.declared.body.Held.{Held}
-use Rattle.row_alloc.specs.Body.{WritesLate}
-use Rattle.row_alloc.specs.Held.{IsHeldChecked}
+use Rattle.row_alloc.specs.Body.{FitBody, WritesLate}
+use Rattle.row_alloc.specs.Held.{IsHeldChecked, have_layouts}
 use Rattle.row_alloc.specs.Known.{plain, complemented}
 
 -- the sequences of the table, shorter ones first
@@ -26,6 +26,12 @@ pub record ServesHeld (g : Graph) (outs : List OutRow) (enter leave : List Held)
     (cmds : List BodyCmd) : Type 0 where
   pub checked : IsHeldChecked g outs enter leave cmds
   pub late : WritesLate outs cmds
+
+-- commands can be made of the body, and its states have layouts
+pub record MayHold (g : Graph) (outs : List OutRow) (enter leave : List Held) : Type 0 where
+  pub fit : FitBody g outs
+  pub starts : have_layouts enter ≡ true
+  pub ends : have_layouts leave ≡ true
 
 -- The sequence of this number is the first that serves
 pub record IsFirstHeld (g : Graph) (outs : List OutRow) (enter leave : List Held)

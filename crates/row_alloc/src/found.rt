@@ -90,7 +90,7 @@ fn has_room(m: &Mig, outs: &[OutRow]) -> bool
 }
 
 /// Whether commands can be made of the body.
-fn fits(m: &Mig, outs: &[OutRow]) -> bool
+pub(crate) fn fits(m: &Mig, outs: &[OutRow]) -> bool
     ensures { IsTrue result ↔ FitBody m.now outs.now }
 {
     has_room(m, outs)

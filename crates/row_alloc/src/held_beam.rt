@@ -1,12 +1,14 @@
 //! The commands of a body that holds states in cells, where a beam finds them.
 
-ghost use Rattle.std.specs.Prelude.{◌≡◌, ◌<◌, ◌≤◌, ℕ, length, true, IfOk, IfSome, IfNone};
+ghost use Rattle.std.specs.Prelude.{◌≡◌, ◌<◌, ◌≤◌, ◌↔◌, ℕ, length, true, IsTrue, IfOk, IfSome};
+ghost use Rattle.std.specs.Prelude.{IfNone};
 ghost use Rattle.row_alloc.specs.Body.{FitBody, WritesLate};
 ghost use Rattle.row_alloc.specs.Held.{have_layouts, DoesHeld};
-ghost use Rattle.row_alloc.specs.HeldBodies.{IsFirstHeld, held_at};
+ghost use Rattle.row_alloc.specs.HeldBodies.{IsFirstHeld, MayHold, held_at};
 
 use crate::beam::{BROAD, Breadth, NARROW, beam_body};
 use crate::body::{BodyCmd, Held, OutRow};
+use crate::found::fits;
 use crate::greedy::copied;
 use crate::held_table::{held_body, serves};
 use mig_graph::{Mig, NoMemory};
@@ -65,6 +67,20 @@ fn fewest(
     }
 }
 
+/// Whether each of the literals has a layout.
+fn are_laid_out(held: &[Held]) -> bool
+    ensures { result ≡ have_layouts held.now }
+{
+    held.iter().all(|h| h.layout < 10)
+}
+
+/// Whether commands can be made of the body.
+fn may_hold(m: &Mig, outs: &[OutRow], enter: &[Held], leave: &[Held]) -> bool
+    ensures { IsTrue result ↔ MayHold m.now outs.now enter.now leave.now }
+{
+    fits(m, outs) && are_laid_out(enter) && are_laid_out(leave)
+}
+
 /// The commands of a body that finds these states in cells and leaves these there, if at most so
 /// many are known or found: the first of the known sequences that serves, and else what two beams
 /// find.
@@ -79,9 +95,6 @@ pub fn held_commands_of(
     most: usize,
     alloc: Global,
 ) -> Result<Option<Vec<BodyCmd>>, NoMemory>
-    requires fit { FitBody m.now outs.now }
-    requires enter { have_layouts enter.now ≡ true }
-    requires leave { have_layouts leave.now ≡ true }
     ensures does { IfOk result (λ o. IfSome o (λ cmds. DoesHeld m.now outs.now enter.now leave.now
         cmds.items)) }
     ensures late { IfOk result (λ o. IfSome o (λ cmds. WritesLate outs.now cmds.items)) }
@@ -90,9 +103,14 @@ pub fn held_commands_of(
     ensures known { IfOk result (λ o. IfSome o (λ cmds. (k : ℕ)
         → IsFirstHeld m.now outs.now enter.now leave.now k
         → length cmds.items ≤ length (held_at k))) }
-    ensures none { IfOk result (λ o. IfNone o ((k : ℕ)
-        → IsFirstHeld m.now outs.now enter.now leave.now k → most < length (held_at k))) }
+    // None for a body that can have commands only where no known sequence of so many serves.
+    ensures none { IfOk result (λ o. IfNone o (MayHold m.now outs.now enter.now leave.now
+        → (k : ℕ) → IsFirstHeld m.now outs.now enter.now leave.now k
+        → most < length (held_at k))) }
 {
+    if !may_hold(m, outs, enter, leave) {
+        return Ok(None);
+    }
     match held_body(m, outs, enter, leave) {
         Some(cmds) if cmds.len() <= most => Ok(Some(copied(cmds, alloc)?)),
         _ => fewest(m, outs, enter, leave, most, alloc),

@@ -31,7 +31,7 @@ none None p = p
 none (Some x) p = tt
 
 pub returns-in_default-clause-none : goal.returns-in_default-clause-none
-returns-in_default-clause-none c = IfOk-weaker c.fewest.result _ _ (λ o few. none o (λ k first.
+returns-in_default-clause-none c = IfOk-weaker c.fewest.result _ _ (λ o few. none o (λ may k first.
     elim c.in_default.branch [
       | in_default-via-in-Some+else-cmds-most w ↦
           let f = w.in-Some.ensures.first in
