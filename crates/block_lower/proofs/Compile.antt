@@ -37,6 +37,7 @@ use Rattle.loop_ir.specs.Lowered.{IsRowOf, IsStatementRow}
 use Rattle.loop_laws.proofs.NoStates.{HasRows, has_rows, rows_fit, no_state_sought}
 use Rattle.block_lower.specs.Inputs.{block_inputs, name_at}
 use Rattle.block_lower.specs.Form.{kind_sub, place_of, places_of, constant, start, IsBlockBody}
+use Rattle.block_lower.proofs.Carried.{is-carried}
 use Rattle.block_lower.proofs.Names.{among-at}
 use Rattle.block_lower.proofs.Rows.{slot_or, row_of, position, position-below, nth-place}
 use Rattle.block_lower.proofs.Facts.{Given, once-distinct, inputs-once, state-written}
@@ -248,7 +249,9 @@ body-small {b = b} {body = body} g is most =
     record {
       well = body-well g is;
       states = let l = writes-long is in rows_fit body (body-rows g is) (omega (arith, m, l));
-      known = λ has. absurd (let none = body-rows g is in cc);
+      found = let l = writes-long is in is-carried body (body-rows g is) is.graph
+          (omega (arith, m, l)) is.found;
+      known = λ bare has. absurd (let none = body-rows g is in cc);
       graph = is.graph;
       inputs = let i = is.inputs in omega (arith, i, most);
       outputs = omega (arith, m, a);
@@ -273,7 +276,8 @@ constant-small : (v : Bool) (p : Place) → p.sub ≡ Zero → is_state p.space 
 constant-small v p e r = record {
   well = constant-well v p;
   states = rows_fit (constant v p) (constant-rows v p r) refl;
-  known = λ has. absurd (let none = constant-rows v p r in cc);
+  found = λ carried. absurd cc;
+  known = λ bare has. absurd (let none = constant-rows v p r in cc);
   graph = empty-graph;
   inputs = omega arith;
   outputs = omega arith;

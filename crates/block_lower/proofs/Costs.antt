@@ -1,30 +1,38 @@
 -- How many commands a block's program takes.
 use Rattle.std.proofs.Common.{◌≡◌, ℕ, ◌+◌, ◌*◌, ◌<◌, ◌≤◌, Bool, true, false, List, [], ◌∷◌, ◌++◌}
-use Rattle.std.proofs.Common.{map, length, refl, arith}
+use Rattle.std.proofs.Common.{map, length, refl, arith, cond, ap, inl, inr}
+use Rattle.std.proofs.lemmas.Bool.{cases_Bool}
 use Rattle.std.proofs.Math.Nat.{mul-le-mul_left}
 use Rattle.op_text.specs.declared.tree.State.{State}
 use Rattle.op_text.specs.Language.{Block}
 use Rattle.op_text.specs.Scratch.{block_weight, block_ceiling}
 use Rattle.loop_ir.specs.declared.ir.Place.{Place}
-use Rattle.loop_ir.specs.Plain.{Block as Body, StepOf}
+use Rattle.loop_ir.specs.Plain.{Block as Body, StepOf, AllParts}
 use Rattle.loop_ir.specs.Plain.StepOf.{Along}
 use Rattle.loop_ir.specs.Loops.{all_rounds}
-use Rattle.loop_ir.specs.Costs.{plain_cost, plain_costs, rounds_cost}
+use Rattle.loop_ir.specs.Costs.{body_cost, carries, turn_cost, plain_cost, plain_costs, rounds_cost}
 use Rattle.loop_ir.specs.Statements.{Slots}
 use Rattle.loop_laws.proofs.Summed.{steps_sum, sum_is}
-use Rattle.loop_laws.proofs.Costing.{plain-most, rounds-plain}
+use Rattle.loop_laws.proofs.Costing.{plain-most, turn-most, turn-plain}
+use Rattle.loop_laws.proofs.Summed.{sum_most}
+use Rattle.loop_laws.proofs.EachRound.{each_round}
+use Rattle.block_lower.proofs.Carried.{carried-most}
 use Rattle.block_lower.specs.Form.{place_of, constant, start, IsBlockBody}
 
 constant-cost : (v : Bool) (p : Place) → plain_cost (constant v p) ≡ 1
 constant-cost true p = refl
 constant-cost false p = refl
 
+-- what a body takes at most: a constant one command
+abbrev cap : Body → ℕ
+cap b = cond (carries b) (body_cost b) (plain_cost b)
+
 starts-total : (n : ℕ) (slots : Slots) (down : Bool) (ss : List State) (more : List (StepOf Body))
-    → steps_sum plain_cost n (map (start slots down) ss ++ more)
-    ≡ 2 * length ss + steps_sum plain_cost n more
-starts-total n slots down [] more = omega arith
-starts-total n slots down (s ∷ ss) more = let h = starts-total n slots down ss more in
-    let c = constant-cost s.start (place_of down (slots s.name)) in omega (arith, h, c)
+    (f : Body → ℕ) → ((v : Bool) (p : Place) → f (constant v p) ≡ 1)
+    → steps_sum f n (map (start slots down) ss ++ more) ≡ 2 * length ss + steps_sum f n more
+starts-total n slots down [] more f one = omega arith
+starts-total n slots down (s ∷ ss) more f one = let h = starts-total n slots down ss more f one in
+    let c = one s.start (place_of down (slots s.name)) in omega (arith, h, c)
 
 pub program-plain : {slots : Slots} {b : Block} {body : Body} → IsBlockBody slots b body
     → 0 < length b.assigns → (n : ℕ)
@@ -33,20 +41,55 @@ pub program-plain : {slots : Slots} {b : Block} {body : Body} → IsBlockBody sl
 program-plain {slots = slots} {b = b} {body = body} is some n =
     let m = is.as_many in
     let t = sum_is plain_cost n (map (start slots b.down) b.states ++ Along body ∷ []) in
-    let s = starts-total n slots b.down b.states (Along body ∷ []) in
+    let s = starts-total n slots b.down b.states (Along body ∷ []) plain_cost constant-cost in
     let c : plain_cost body ≤ 4 * length body.graph.nodes + 3 * length b.assigns = let k =
     plain-most body in omega (arith, k, m) in
     let e = mul-le-mul_left n c in
     omega (arith, t, s, e)
+
+constant-cap : (v : Bool) (p : Place) → cap (constant v p) ≡ 1
+constant-cap true p = refl
+constant-cap false p = refl
+
+cap-most : (b : Body) → cap b ≤ body_cost b
+cap-most b = by (carries b)
+  where
+    by : (c : Bool) → cond c (body_cost b) (plain_cost b) ≤ body_cost b
+    by true = omega arith
+    by false = plain-most b
+
+abbrev KeepsCap : Body → Type 0
+KeepsCap b = carries b ≡ true → length b.found ≤ body_cost b
+
+under-cap : (b : Body) → KeepsCap b → turn_cost b ≤ cap b
+under-cap b h = elim (cases_Bool (carries b)) [
+  | inl e ↦ let c : cap b ≡ body_cost b = ap (λ x. cond x (body_cost b) (plain_cost b)) e in
+      let t = turn-most b h in omega (arith, c, t)
+  | inr e ↦ let c : cap b ≡ plain_cost b = ap (λ x. cond x (body_cost b) (plain_cost b)) e in
+      let t = turn-plain b (λ f. absurd cc) in omega (arith, c, t)
+]
+
+all-keep : (slots : Slots) (down : Bool) (ss : List State) (body : Body) → KeepsCap body
+    → AllParts KeepsCap (map (start slots down) ss ++ Along body ∷ [])
+all-keep slots down [] body h = (h, tt)
+all-keep slots down (s ∷ ss) body h = (λ carried. absurd cc, all-keep slots down ss body h)
 
 pub program-cost : {slots : Slots} {b : Block} {body : Body} → IsBlockBody slots b body
     → 0 < length b.assigns → (n : ℕ)
     → rounds_cost (all_rounds n (map (start slots b.down) b.states ++ Along body ∷ []))
     ≤ n * (4 * length body.graph.nodes + 3 * length b.assigns) + length b.states
 program-cost {slots = slots} {b = b} {body = body} is some n =
-    let p = program-plain is some n in
-    let r = rounds-plain (all_rounds n (map (start slots b.down) b.states ++ Along body ∷ [])) in
-    omega (arith, p, r)
+    let steps = map (start slots b.down) b.states ++ Along body ∷ [] in
+    let r = sum_most turn_cost cap KeepsCap under-cap (all_rounds n steps)
+    (each_round KeepsCap n steps (all-keep slots b.down b.states body (carried-most body is.found)))
+    in
+    let t = sum_is cap n steps in
+    let s = starts-total n slots b.down b.states (Along body ∷ []) cap constant-cap in
+    let m = is.as_many in
+    let c : cap body ≤ 4 * length body.graph.nodes + 3 * length b.assigns = let k = cap-most body
+    in omega (arith, k, m) in
+    let e = mul-le-mul_left n c in
+    omega (arith, r, t, s, e)
 
 pub within-ceiling : {slots : Slots} {b : Block} {body : Body} → IsBlockBody slots b body
     → (n c : ℕ) → c ≤ n * (4 * length body.graph.nodes + 3 * length b.assigns) + length b.states

@@ -5,13 +5,13 @@ mod Reading
 mod Finding
 mod Making
 mod Rows
-mod Outs
 mod Facts
 mod Folds
 mod Round
 mod Visits
 mod Starts
 mod Ends
+mod Carried
 mod Costs
 mod Compile
 mod Whole

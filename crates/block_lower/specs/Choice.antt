@@ -1,15 +1,15 @@
 -- A graph that may stand for another, and the commands of their bodies
-use Rattle.std.specs.Prelude.{◌≡◌, ◌≢◌, ◌≤◌, ◌<◌, ℕ, List, Option, Some, None, IfSome, IfNone}
-use Rattle.std.specs.Prelude.{length}
+use Rattle.std.specs.Prelude.{◌≡◌, ◌⊎◌, ◌≤◌, ℕ, List, [], length}
 use Rattle.mig_graph.specs.declared.Lit.{Lit}
 use Rattle.mig_graph.specs.Graph.{Graph}
-use Rattle.mig_graph.specs.Outputs.{lit_at, AreNamed, KeepsOutputs}
+use Rattle.mig_graph.specs.Outputs.{AreNamed, KeepsOutputs}
 use Rattle.mig_graph.specs.Reduced.{IsReduced}
+use Rattle.row_alloc.specs.declared.body.BodyCmd.{BodyCmd}
 use Rattle.row_alloc.specs.declared.body.OutRow.{OutRow}
-use Rattle.row_alloc.specs.Rows.{out_at}
-use Rattle.row_alloc.specs.Body.{FitBody, IsLengthOf}
+use Rattle.row_alloc.specs.Body.{FitBody}
+use Rattle.row_alloc.specs.Found.{IsFound}
 use Rattle.loop_ir.specs.declared.ir.Place.{Place}
-use Rattle.loop_ir.specs.Spots.{nth_place}
+use Rattle.loop_ir.specs.Outputs.{AreRows}
 
 -- each output keeps its value on every input, there are no more nodes, and no rule makes it smaller
 pub record MayStand (g : Graph) (outs : List Lit) (h : Graph) (made : List Lit) : Type 0 where
@@ -18,23 +18,12 @@ pub record MayStand (g : Graph) (outs : List Lit) (h : Graph) (made : List Lit) 
   pub count : length h.nodes ≤ length g.nodes
   pub reduced : IsReduced h made
 
--- the rows of the first m outputs: each has its literal, and names an input that is read at the
--- place where the output is written, if there is one
-pub record AreRows (reads writes : List Place) (inputs : ℕ) (outs : List Lit) (m : ℕ)
-    (rows : List OutRow) : Type 0 where
-  pub size : length rows ≡ m
-  pub lits : (j : ℕ) → j < length rows → (out_at rows j).lit ≡ lit_at outs j
-  pub found : (j k : ℕ) → j < length rows → (out_at rows j).same ≡ Some k → (k < inputs)
-      × (nth_place reads k ≡ nth_place writes j)
-  pub none : (j : ℕ) → j < length rows → (out_at rows j).same ≡ None → (k : ℕ) → k < inputs
-      → nth_place reads k ≢ nth_place writes j
-
--- some n commands do the body of the graph that reads and writes these places
-pub record HasBody (reads writes : List Place) (g : Graph) (outs : List Lit) (n : ℕ)
-    : Type 0 where
+-- these commands were found for the body of the graph that reads and writes these places
+pub record HasFound (reads writes : List Place) (g : Graph) (outs : List Lit)
+    (cmds : List BodyCmd) : Type 0 where
   pub rows : List OutRow
   pub are : AreRows reads writes g.inputs outs (length outs) rows
-  pub does : IsLengthOf g rows n
+  pub found : IsFound g rows cmds
 
 -- no body is made of the graph: it has too many inputs, outputs or nodes, names no node, or has two
 -- outputs in one row
@@ -43,21 +32,19 @@ pub record IsUnfit (reads writes : List Place) (g : Graph) (outs : List Lit) : T
   pub are : AreRows reads writes g.inputs outs (length outs) rows
   pub unfit : FitBody g rows → ⊥
 
--- some commands, at most n, do it
-pub record HasBodyWithin (reads writes : List Place) (g : Graph) (outs : List Lit) (n : ℕ)
-    : Type 0 where
-  pub commands : ℕ
-  pub few : commands ≤ n
-  pub body : HasBody reads writes g outs commands
+-- the commands were found for the graph's body, or there are none since no body is made of it
+abbrev pub AreFor : List Place → List Place → Graph → List Lit → List BodyCmd → Type 0
+AreFor reads writes g outs cmds = HasFound reads writes g outs cmds
+    ⊎ ((cmds ≡ []) × IsUnfit reads writes g outs)
 
--- The first graph was reduced, and the commands of a body of that were counted, unless none is made
--- of it. Where they were, the second graph has a body of at most as many
-pub record IsNoDearer (reads writes : List Place) (g : Graph) (outs : List Lit) (h : Graph)
-    (made : List Lit) : Type 0 where
+-- The graph was reduced, and commands were found for the body of that, if one is made of it: these
+-- commands are no more. So they are no more than those of its plain body and of each known sequence
+-- that may stand for it
+pub record IsNoDearer (reads writes : List Place) (g : Graph) (outs : List Lit)
+    (cmds : List BodyCmd) : Type 0 where
   pub graph : Graph
   pub outputs : List Lit
   pub reduced : MayStand g outs graph outputs
-  pub counted : Option ℕ
-  pub body : IfSome counted (HasBody reads writes graph outputs)
-  pub uncounted : IfNone counted (IsUnfit reads writes graph outputs)
-  pub fewer : IfSome counted (HasBodyWithin reads writes h made)
+  pub found : List BodyCmd
+  pub body : AreFor reads writes graph outputs found
+  pub fewer : length cmds ≤ length found

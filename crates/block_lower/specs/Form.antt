@@ -24,6 +24,7 @@ use Rattle.loop_ir.specs.Costs.{rounds_cost}
 use Rattle.loop_ir.specs.Spots.{gives}
 use Rattle.loop_ir.specs.Statements.{Slots, targets_of}
 use Rattle.block_lower.specs.Inputs.{block_inputs, name_at}
+use Rattle.block_lower.specs.Choice.{AreFor}
 
 -- a word is read and written at the position, from above where the block goes down; a bit has one
 -- row
@@ -43,7 +44,13 @@ places_of slots down names = map (λ name. place_of down (slots name)) names
 -- the constant, without reads and nodes
 abbrev pub constant : Bool → Place → Body
 constant value p = let l : Lit = record { node = 0; inverted = value } in
-    record { reads = []; graph = record { inputs = 0; nodes = [] }; outs = l ∷ []; writes = p ∷ [] }
+    record {
+      reads = [];
+      graph = record { inputs = 0; nodes = [] };
+      outs = l ∷ [];
+      writes = p ∷ [];
+      found = [];
+    }
 
 -- a state's start
 abbrev pub start : Slots → Bool → State → StepOf Body
@@ -51,7 +58,8 @@ start slots down s = Single (constant s.start (place_of down (slots s.name)))
 
 -- The body reads the block's inputs at their places and writes the assigned names at theirs. For
 -- all values of the names, where each input has its name's value, output j is the value of
--- assignment j. It has no more nodes than the block has weight, and no rule makes the graph smaller
+-- assignment j. It has no more nodes than the block has weight, and no rule makes the graph smaller.
+-- It carries the commands that were found for it
 pub record IsBlockBody (slots : Slots) (b : Block) (body : Body) : Type 0 where
   pub reads : body.reads ≡ places_of slots b.down (block_inputs b)
   pub writes : body.writes ≡ places_of slots b.down (targets_of b.assigns)
@@ -65,6 +73,7 @@ pub record IsBlockBody (slots : Slots) (b : Block) (body : Body) : Type 0 where
   pub graph : IsGraph body.graph.inputs body.graph.nodes
   pub named : AreNamed body.graph body.outs
   pub reduced : IsReduced body.graph body.outs
+  pub found : AreFor body.reads body.writes body.graph body.outs body.found
 
 -- first the states' starts, in their order, and then the block's body at each position
 pub record IsBlockProgram (slots : Slots) (b : Block) (steps : List (StepOf Body)) : Type 0 where

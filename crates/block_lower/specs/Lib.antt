@@ -1,4 +1,4 @@
 -- The loop program of a serial block.
 pub mod Inputs
-pub mod Form
 pub mod Choice
+pub mod Form

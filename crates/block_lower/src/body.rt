@@ -34,6 +34,7 @@ pub(crate) fn constant(value: bool, place: Place, alloc: Global) -> Result<Body,
         reads: Vec::new(alloc),
         graph: MigOuts { mig, outs },
         writes,
+        found: Vec::new(alloc),
     })
 }
 
@@ -55,12 +56,8 @@ pub(crate) fn block_body(
     let gates = build(lets, assigns, &inputs.numbers, alloc)?;
     let reads = places_of(names, down, &inputs.order, alloc)?;
     let writes = target_places(names, down, assigns, alloc)?;
-    let graph = least_graph(from_aoi(&gates, alloc)?, &reads, &writes, alloc)?;
+    let choice = least_graph(from_aoi(&gates, alloc)?, &reads, &writes, alloc)?;
     // This call's clause says that the graph keeps the rules of graphs.
-    let _ = graph.mig.inputs();
-    Ok(Body {
-        reads,
-        graph,
-        writes,
-    })
+    let _ = choice.graph.mig.inputs();
+    Ok(choice.into_body(reads, writes))
 }

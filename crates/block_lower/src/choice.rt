@@ -1,166 +1,145 @@
 //! The graph of a block whose body takes the fewest commands.
 
-ghost use Rattle.std.specs.Prelude.{◌≡◌, ◌≢◌, ◌<◌, ◌≤◌, ℕ, IfOk, IfSome, IfNone, length};
+ghost use Rattle.std.specs.Prelude.{◌≡◌, ◌≤◌, ℕ, IsTrue, IfOk, IfSome, IfNone, length};
 ghost use Rattle.mig_graph.specs.Outputs.{AreNamed, KeepsOutputs};
 ghost use Rattle.mig_graph.specs.Reduced.{IsReduced};
-ghost use Rattle.loop_ir.specs.Spots.{nth_place};
-ghost use Rattle.block_lower.specs.Choice.{AreRows, HasBody, HasBodyWithin, IsNoDearer, IsUnfit};
-ghost use Rattle.block_lower.specs.Choice.{MayStand};
+ghost use Rattle.loop_ir.specs.Plain.{block_of};
+ghost use Rattle.block_lower.specs.Choice.{AreFor, HasFound, IsNoDearer, IsUnfit, MayStand};
 
-use faults::keep;
-use loop_ir::{Place, Space, Sub};
+use loop_ir::{Body, Place, out_rows};
 use mig_graph::{MigOuts, NoMemory};
 use mig_rewrite::{Sketch, kept, offers, reduce};
-use row_alloc::{OutRow, commands_of, quick_commands_of};
+use row_alloc::{BodyCmd, Search, find_body};
 use std::alloc::Global;
 
 /// A graph of more nodes than this has fewer others counted.
 const FEW_NODES: u32 = 16;
 
-/// A graph, and how many commands its body takes.
-struct Choice {
-    graph: MigOuts,
-    commands: usize,
+/// A graph, and the commands that were found for its body.
+pub(crate) struct Choice {
+    pub graph: MigOuts,
+    pub found: Vec<BodyCmd>,
 }
 
 impl Drop for Choice {
     fn drop(self) {
-        let Choice {
-            graph: _,
-            commands: _,
-        } = self;
+        let Choice { graph: _, found: _ } = self;
     }
 }
 
 impl Choice {
-    fn into_graph(self) -> MigOuts
-        ensures { result ≡ self.graph }
+    /// The same graph with other commands.
+    fn with(self, found: Vec<BodyCmd>) -> Choice
+        ensures graph { result.graph ≡ self.graph }
+        ensures found { result.found ≡ found }
     {
-        let Choice { graph, commands: _ } = self;
-        graph
+        let Choice { graph, found: _ } = self;
+        Choice { graph, found }
+    }
+
+    /// The body that does the graph at these places.
+    pub(crate) fn into_body(self, reads: Vec<Place>, writes: Vec<Place>) -> Body
+        ensures { block_of result ≡ record {
+          reads = reads.items;
+          graph = self.graph.mig;
+          outs = self.graph.outs.items;
+          writes = writes.items;
+          found = self.found.items;
+        } }
+    {
+        let Choice { graph, found } = self;
+        Body {
+            reads,
+            graph,
+            writes,
+            found,
+        }
     }
 }
 
-/// A place of the list, or that of the first source's lowest position.
-fn place_at(places: &[Place], k: usize) -> Place
-    ensures { result ≡ nth_place places.now k }
+/// The commands that a search finds for the graph's body, if one can be made of it. Where they are
+/// more than `most`, they are found in less time, and may be more than need be.
+fn found_for(
+    graph: &MigOuts,
+    reads: &[Place],
+    writes: &[Place],
+    search: Search,
+    most: usize,
+    alloc: Global,
+) -> Result<Option<Vec<BodyCmd>>, NoMemory>
+    ensures some { IfOk result (λ o. IfSome o (λ cmds. HasFound reads.now writes.now graph.now.mig
+        graph.now.outs.items cmds.items)) }
+    ensures none { IfOk result (λ o. IfNone o (IsUnfit reads.now writes.now graph.now.mig
+        graph.now.outs.items)) }
 {
-    if k < places.len() {
-        places[k]
+    let rows = out_rows(graph, reads, writes, graph.outs.len(), alloc)?;
+    find_body(&graph.mig, &rows, search, most, alloc)
+}
+
+/// The offer, if it is right and its body takes fewer commands than `least`, or as many for fewer
+/// nodes than `size`.
+fn offered(
+    first: &Choice,
+    offer: &Sketch,
+    least: usize,
+    size: u32,
+    reads: &[Place],
+    writes: &[Place],
+    alloc: Global,
+) -> Result<Option<Choice>, NoMemory>
+    requires { AreNamed first.now.graph.mig first.now.graph.outs.items }
+    ensures stands { IfOk result (λ o. IfSome o (λ r. MayStand first.now.graph.mig
+        first.now.graph.outs.items r.graph.mig r.graph.outs.items)) }
+    ensures found { IfOk result (λ o. IfSome o (λ r. HasFound reads.now writes.now r.graph.mig
+        r.graph.outs.items r.found.items)) }
+    ensures fewer { IfOk result (λ o. IfSome o (λ r. length r.found.items ≤ least)) }
+{
+    let Some(graph) = kept(&first.graph, offer, alloc)? else {
+        return Ok(None);
+    };
+    let Some(found) = found_for(&graph, reads, writes, Search::Narrow, least, alloc)? else {
+        return Ok(None);
+    };
+    let commands = found.len();
+    if commands < least || commands == least && graph.mig.size() < size {
+        Ok(Some(Choice { graph, found }))
     } else {
-        Place {
-            space: Space::Source,
-            which: 0,
-            sub: Sub::Zero,
-        }
+        Ok(None)
     }
 }
 
-/// The input that is read at a place.
-fn input_at(reads: &[Place], inputs: u8, place: Place) -> Option<u8>
-    ensures found { IfSome result (λ k. (k < inputs) × (nth_place reads.now k ≡ place)) }
-    ensures none { IfNone result ((k : ℕ) → k < inputs → nth_place reads.now k ≢ place) }
-{
-    for k in 0..inputs {
-        if place_at(reads, k as usize) == place {
-            return Some(k);
-        }
-    }
-    None
-}
-
-/// The rows of a graph's outputs.
-fn rows_of(
-    graph: &MigOuts,
-    reads: &[Place],
-    writes: &[Place],
-    alloc: Global,
-) -> Result<Vec<OutRow>, NoMemory>
-    ensures { IfOk result (λ rows. AreRows reads.now writes.now graph.now.mig.inputs
-        graph.now.outs.items (length graph.now.outs.items) rows.items) }
-{
-    let mut rows = Vec::new(alloc);
-    let inputs = graph.mig.inputs();
-    for j in 0..graph.outs.len() {
-        let same = input_at(reads, inputs, place_at(writes, j));
-        let lit = graph.outs[j];
-        keep(&mut rows, OutRow { lit, same })?;
-    }
-    Ok(rows)
-}
-
-/// How many commands a body of the graph takes, if one can be made. More than `most` are counted in
-/// less time, and may be more than need be.
-fn count_of(
-    graph: &MigOuts,
-    reads: &[Place],
-    writes: &[Place],
-    most: usize,
-    alloc: Global,
-) -> Result<Option<usize>, NoMemory>
-    ensures some { IfOk result (λ o. IfSome o (HasBody reads.now writes.now graph.now.mig
-        graph.now.outs.items)) }
-    ensures none { IfOk result (λ o. IfNone o (IsUnfit reads.now writes.now graph.now.mig
-        graph.now.outs.items)) }
-{
-    let rows = rows_of(graph, reads, writes, alloc)?;
-    commands_of(&graph.mig, &rows, most, alloc)
-}
-
-/// The same or more, in less time.
-fn quick_count_of(
-    graph: &MigOuts,
-    reads: &[Place],
-    writes: &[Place],
-    most: usize,
-    alloc: Global,
-) -> Result<Option<usize>, NoMemory>
-    ensures some { IfOk result (λ o. IfSome o (HasBody reads.now writes.now graph.now.mig
-        graph.now.outs.items)) }
-    ensures none { IfOk result (λ o. IfNone o (IsUnfit reads.now writes.now graph.now.mig
-        graph.now.outs.items)) }
-{
-    let rows = rows_of(graph, reads, writes, alloc)?;
-    quick_commands_of(&graph.mig, &rows, most, alloc)
-}
-
-/// Of the offers that are right the first with the fewest commands, where these are fewer than the
-/// graph's own, or as many for fewer nodes.
+/// Of the offers that are right the first whose body takes the fewest commands, where these are
+/// fewer than the graph's own, or as many for fewer nodes.
 fn fewest(
-    m: &MigOuts,
-    commands: usize,
+    first: &Choice,
     offers: &[Sketch],
     reads: &[Place],
     writes: &[Place],
     alloc: Global,
 ) -> Result<Option<Choice>, NoMemory>
-    requires { AreNamed m.now.mig m.now.outs.items }
-    ensures stands { IfOk result (λ o. IfSome o (λ r. MayStand m.now.mig m.now.outs.items
-        r.graph.mig r.graph.outs.items)) }
-    ensures body { IfOk result (λ o. IfSome o (λ r. HasBody reads.now writes.now r.graph.mig
-        r.graph.outs.items r.commands)) }
-    ensures fewest { IfOk result (λ o. IfSome o (λ r. r.commands ≤ commands)) }
+    requires { AreNamed first.now.graph.mig first.now.graph.outs.items }
+    ensures stands { IfOk result (λ o. IfSome o (λ r. MayStand first.now.graph.mig
+        first.now.graph.outs.items r.graph.mig r.graph.outs.items)) }
+    ensures found { IfOk result (λ o. IfSome o (λ r. HasFound reads.now writes.now r.graph.mig
+        r.graph.outs.items r.found.items)) }
+    ensures fewest { IfOk result (λ o. IfSome o (λ r. length r.found.items
+        ≤ length first.now.found.items)) }
 {
     let mut best = None;
-    let mut least = commands;
-    let mut size = m.mig.size();
+    let mut least = first.found.len();
+    let mut size = first.graph.mig.size();
     for offer in offers {
-        if let Some(graph) = kept(m, offer, alloc)? {
-            let count = quick_count_of(&graph, reads, writes, least, alloc)?;
-            if let Some(commands) = count
-                && (commands < least || commands == least && graph.mig.size() < size)
-            {
-                least = commands;
-                size = graph.mig.size();
-                best = Some(Choice { graph, commands });
-            }
+        if let Some(choice) = offered(first, offer, least, size, reads, writes, alloc)? {
+            least = choice.found.len();
+            size = choice.graph.mig.size();
+            best = Some(choice);
         }
     }
     Ok(best)
 }
 
-/// How many other graphs are counted. A graph of one node has none that is better.
-fn most_counted(m: &MigOuts) -> u8 {
+/// How many other graphs are searched. A graph of one node has none that is better.
+fn most_offers(m: &MigOuts) -> u8 {
     let nodes = m.mig.size().saturating_sub(m.mig.inputs() as u32 + 1);
     if nodes < 2 {
         0
@@ -171,83 +150,148 @@ fn most_counted(m: &MigOuts) -> u8 {
     }
 }
 
-/// Whether so many commands for the graph are fewer than the other's body takes, or as many where
-/// the other has no fewer nodes.
-fn is_fewer(count: Option<usize>, graph: &MigOuts, other: &Choice) -> bool {
-    match count {
-        Some(count) if count == other.commands => graph.mig.size() == other.graph.mig.size(),
-        Some(count) => count < other.commands,
-        None => false,
-    }
-}
-
-/// Whether one of the beams finds fewer commands for the graph.
-fn is_better(
+/// Commands for the graph's body that are fewer than the other's, or as many where the other has no
+/// fewer nodes.
+fn fewer_for(
     graph: &MigOuts,
     other: &Choice,
     reads: &[Place],
     writes: &[Place],
+    search: Search,
     alloc: Global,
-) -> Result<bool, NoMemory> {
-    let few = quick_count_of(graph, reads, writes, other.commands, alloc)?;
-    if is_fewer(few, graph, other) {
-        return Ok(true);
+) -> Result<Option<Vec<BodyCmd>>, NoMemory>
+    ensures found { IfOk result (λ o. IfSome o (λ cmds. HasFound reads.now writes.now graph.now.mig
+        graph.now.outs.items cmds.items)) }
+    ensures fewer { IfOk result (λ o. IfSome o (λ cmds. length cmds.items
+        ≤ length other.now.found.items)) }
+{
+    let most = other.found.len();
+    let Some(found) = found_for(graph, reads, writes, search, most, alloc)? else {
+        return Ok(None);
+    };
+    let as_many = found.len() == most && graph.mig.size() == other.graph.mig.size();
+    if found.len() < most || as_many {
+        Ok(Some(found))
+    } else {
+        Ok(None)
     }
-    let few = count_of(graph, reads, writes, other.commands, alloc)?;
-    Ok(is_fewer(few, graph, other))
 }
 
-/// A reduced graph, or one of the same outputs and no more nodes whose body takes no more commands
-/// than were counted for the graph's.
-///
-/// The others are what the search of `mig_rewrite` offers.
-fn least_of(
-    graph: MigOuts,
-    counted: Option<usize>,
+/// The graph, where one of the beams finds fewer commands for it, or else the other.
+fn better(
+    first: Choice,
+    other: Choice,
     reads: &[Place],
     writes: &[Place],
     alloc: Global,
-) -> Result<MigOuts, NoMemory>
-    requires named { AreNamed graph.mig graph.outs.items }
-    requires reduced { IsReduced graph.mig graph.outs.items }
-    requires counted { IfSome counted (HasBody reads.now writes.now graph.mig graph.outs.items) }
-    ensures stands { IfOk result (λ r. MayStand graph.mig graph.outs.items r.mig r.outs.items) }
-    ensures fewest { IfOk result (λ r. IfSome counted (λ n. HasBodyWithin reads.now writes.now r.mig
-        r.outs.items n)) }
+) -> Result<Choice, NoMemory>
+    requires stands { MayStand first.graph.mig first.graph.outs.items other.graph.mig
+        other.graph.outs.items }
+    requires itself { MayStand first.graph.mig first.graph.outs.items first.graph.mig
+        first.graph.outs.items }
+    requires found { HasFound reads.now writes.now other.graph.mig other.graph.outs.items
+        other.found.items }
+    requires fewer { length other.found.items ≤ length first.found.items }
+    ensures stands { IfOk result (λ r. MayStand first.graph.mig first.graph.outs.items r.graph.mig
+        r.graph.outs.items) }
+    ensures found { IfOk result (λ r. HasFound reads.now writes.now r.graph.mig r.graph.outs.items
+        r.found.items) }
+    ensures fewer { IfOk result (λ r. length r.found.items ≤ length first.found.items) }
 {
-    let offers = offers(&graph, most_counted(&graph), alloc)?;
-    let most = counted.unwrap_or(usize::MAX);
-    let Some(other) = fewest(&graph, most, &offers, reads, writes, alloc)? else {
-        return Ok(graph);
-    };
-    if is_better(&graph, &other, reads, writes, alloc)? {
-        Ok(graph)
-    } else {
-        Ok(other.into_graph())
+    let graph = &first.graph;
+    if let Some(found) = fewer_for(graph, &other, reads, writes, Search::Narrow, alloc)? {
+        return Ok(first.with(found));
+    }
+    if let Some(found) = fewer_for(&first.graph, &other, reads, writes, Search::Wide, alloc)? {
+        return Ok(first.with(found));
+    }
+    Ok(other)
+}
+
+/// The choice with the commands of the widest search, where these are no more.
+fn finished(
+    choice: Choice,
+    reads: &[Place],
+    writes: &[Place],
+    alloc: Global,
+) -> Result<Choice, NoMemory>
+    requires { HasFound reads.now writes.now choice.graph.mig choice.graph.outs.items
+        choice.found.items }
+    ensures graph { IfOk result (λ r. r.graph ≡ choice.graph) }
+    ensures found { IfOk result (λ r. HasFound reads.now writes.now choice.graph.mig
+        choice.graph.outs.items r.found.items) }
+    ensures fewer { IfOk result (λ r. length r.found.items ≤ length choice.found.items) }
+{
+    let most = usize::MAX;
+    let found = found_for(&choice.graph, reads, writes, Search::Whole, most, alloc)?;
+    if let Some(found) = found {
+        if found.len() <= choice.found.len() {
+            return Ok(choice.with(found));
+        }
+    }
+    Ok(choice)
+}
+
+/// A reduced graph with the commands that were found for it, or one of the same outputs and no more
+/// nodes, with no more commands.
+///
+/// The others are what the search of `mig_rewrite` offers.
+fn least_of(
+    first: Choice,
+    reads: &[Place],
+    writes: &[Place],
+    alloc: Global,
+) -> Result<Choice, NoMemory>
+    requires named { AreNamed first.graph.mig first.graph.outs.items }
+    requires reduced { IsReduced first.graph.mig first.graph.outs.items }
+    requires found { HasFound reads.now writes.now first.graph.mig first.graph.outs.items
+        first.found.items }
+    ensures stands { IfOk result (λ r. MayStand first.graph.mig first.graph.outs.items r.graph.mig
+        r.graph.outs.items) }
+    ensures found { IfOk result (λ r. HasFound reads.now writes.now r.graph.mig r.graph.outs.items
+        r.found.items) }
+    ensures fewer { IfOk result (λ r. length r.found.items ≤ length first.found.items) }
+{
+    let offers = offers(&first.graph, most_offers(&first.graph), alloc)?;
+    match fewest(&first, &offers, reads, writes, alloc)? {
+        Some(other) => finished(
+            better(first, other, reads, writes, alloc)?,
+            reads,
+            writes,
+            alloc,
+        ),
+        None => finished(first, reads, writes, alloc),
     }
 }
 
-/// The graph reduced, or one of the same outputs and no more nodes that has a body of fewer
-/// commands.
+/// The graph reduced, or one of the same outputs and no more nodes whose body takes fewer commands,
+/// with the commands that were found for it.
 ///
-/// The commands of the reduced graph were counted, unless no body is made of it, and the graph has
-/// a body of at most that many. That the code made later takes this body is not said.
+/// There are none where no body is made of the reduced graph.
 pub(crate) fn least_graph(
     m: MigOuts,
     reads: &[Place],
     writes: &[Place],
     alloc: Global,
-) -> Result<MigOuts, NoMemory>
+) -> Result<Choice, NoMemory>
     requires { AreNamed m.mig m.outs.items }
-    ensures keeps { IfOk result (λ r. KeepsOutputs m.mig m.outs.items r.mig r.outs.items) }
-    ensures named { IfOk result (λ r. AreNamed r.mig r.outs.items) }
-    ensures count { IfOk result (λ r. length r.mig.nodes ≤ length m.mig.nodes) }
-    ensures reduced { IfOk result (λ r. IsReduced r.mig r.outs.items) }
+    ensures keeps { IfOk result (λ r. KeepsOutputs m.mig m.outs.items r.graph.mig
+        r.graph.outs.items) }
+    ensures named { IfOk result (λ r. AreNamed r.graph.mig r.graph.outs.items) }
+    ensures count { IfOk result (λ r. length r.graph.mig.nodes ≤ length m.mig.nodes) }
+    ensures reduced { IfOk result (λ r. IsReduced r.graph.mig r.graph.outs.items) }
+    ensures found { IfOk result (λ r. AreFor reads.now writes.now r.graph.mig r.graph.outs.items
+        r.found.items) }
     ensures fewest { IfOk result (λ r. IsNoDearer reads.now writes.now m.mig m.outs.items
-        r.mig r.outs.items) }
+        r.found.items) }
 {
     let graph = reduce(m, alloc)?;
-    let counted = quick_count_of(&graph, reads, writes, 0, alloc)?;
-    let least = least_of(graph, counted, reads, writes, alloc)?;
-    Ok(least)
+    let found = found_for(&graph, reads, writes, Search::Narrow, 0, alloc)?;
+    match found {
+        Some(found) => least_of(Choice { graph, found }, reads, writes, alloc),
+        None => Ok(Choice {
+            graph,
+            found: Vec::new(alloc),
+        }),
+    }
 }

@@ -2,8 +2,9 @@ use Rattle.std.proofs.Common.{sym, subst, arith, ◌∙◌, ap}
 use Rattle.std.proofs.lemmas.List.{length-map}
 use Rattle.op_text.specs.Language.{equation}
 use Rattle.loop_ir.specs.Statements.{slots_of}
-use Rattle.block_lower.specs.Inputs.{AreNumbered}
-use Rattle.block_lower.specs.Form.{places_of}
+use Rattle.block_lower.specs.Inputs.{AreNumbered, block_from}
+use Rattle.block_lower.specs.Form.{places_of, IsBlockBody}
+use Rattle.block_lower.specs.Choice.{AreFor}
 use Rattle.block_lower.proofs.Making.{room, parts-few, inputs-below, inputs-most, output-values}
 use Rattle.block_lower.proofs.body.block_body.Goals as goal
 
@@ -38,11 +39,12 @@ returns c = λ s.
     let inputs = c.in_ok-inputs.inputs in
     let gates = c.in_ok-gates.gates in
     let first = c.in_ok-from_aoi.field-0 in
-    let graph = c.in_ok-graph.graph in
+    let graph = c.in_ok-choice.choice.graph in
     let num = subst (λ names. AreNumbered names inputs.numbers) c.in_ok-inputs.ensures.order
     c.in_ok-inputs.ensures.numbered in
-    let made = c.in_ok-graph.ensures in
-    record {
+    let made = c.in_ok-choice.ensures in
+    subst (IsBlockBody slots (block_from c.args.down s lets assigns)) (sym c.into_body.ensures)
+    (record {
       reads = c.in_ok-reads.ensures ∙ ap (places_of slots c.args.down) (c.deref.ensures.value
           ∙ c.in_ok-inputs.ensures.order);
       writes = c.in_ok-writes.ensures;
@@ -62,4 +64,9 @@ returns c = λ s.
       graph = c.inputs.ensures.graph;
       named = made.named;
       reduced = made.reduced;
-    }
+      found = let choice = c.in_ok-choice.choice in
+          subst (λ ps. AreFor c.in_ok-reads.reads.items ps choice.graph.mig choice.graph.outs.items
+          choice.found.items) c.deref-3.ensures.value
+          (subst (λ ps. AreFor ps c.deref-3.result.now choice.graph.mig choice.graph.outs.items
+          choice.found.items) c.deref-2.ensures.value made.found);
+    })

@@ -1,6 +1,0 @@
-use Rattle.block_lower.specs.Choice.{AreRows}
-use Rattle.block_lower.proofs.choice.rows_of.Given as goal
-
--- the rows of the outputs so far
-abbrev pub invariant-loop-j : goal.invariant-loop-j
-invariant-loop-j l = AreRows l.reads l.writes l.inputs l.graph.outs.items l.j l.rows.items
