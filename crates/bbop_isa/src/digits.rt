@@ -1,13 +1,30 @@
 //! Numbers, as a script writes them.
 
-ghost use Rattle.std.specs.Prelude.{◌≡◌};
+ghost use Rattle.std.specs.Prelude.{◌≡◌, ◌≤◌, length};
 ghost use Rattle.std.specs.Char.{is_ascii_digit};
 ghost use Rattle.std.specs.List.{AllPass};
+ghost use Rattle.std.specs.Str.Parse.{digits_value};
 ghost use Rattle.bbop_isa.specs.Numbers.{number_of};
 
 use bit_rows::Value;
 use std::marker::Model;
 use text_lex::number;
+
+/// So many digits write a number below 2^64.
+const FEW: usize = 19;
+
+/// The number that a few digits write. No sum of it is tested.
+fn few_digits(text: &[u8]) -> u64
+    requires digits { AllPass is_ascii_digit text.now }
+    requires few { length text.now ≤ FEW }
+    ensures { result ≡ digits_value 10 text.now }
+{
+    let mut value: u64 = 0;
+    for byte in text {
+        value = 10 * value + u64::from(*byte - b'0');
+    }
+    value
+}
 
 /// The digits of a number, seen as its value, or `None` where that is 2^128 or more.
 ///
@@ -42,7 +59,11 @@ impl<'a> Digits<'a> {
     pub fn value(&self) -> Option<Value>
         ensures { result ≡ self.now }
     {
-        number(self.text)
+        if self.text.len() <= FEW {
+            Some(Value::from(few_digits(self.text)))
+        } else {
+            number(self.text)
+        }
     }
 
     /// The same digits again.

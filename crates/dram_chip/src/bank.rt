@@ -34,12 +34,17 @@ fn place(cell: Cell) -> usize
     requires { is_cell (2 ^ 16) cell ≡ true }
     ensures { result ≡ place_of cell }
 {
-    match cell {
-        Cell::Dcc(k) => k as usize,
-        Cell::T(k) => 2 + k as usize,
-        Cell::C(k) => 6 + k as usize,
-        Cell::D(k) => OTHER_ROWS + k as usize,
-    }
+    let first = match cell {
+        Cell::Dcc(_) => 0,
+        Cell::T(_) => 2,
+        Cell::C(_) => 6,
+        Cell::D(_) => OTHER_ROWS,
+    };
+    let k = match cell {
+        Cell::D(k) => k as usize,
+        Cell::Dcc(k) | Cell::T(k) | Cell::C(k) => k as usize,
+    };
+    first + k
 }
 
 /// The cell's d-wordline.

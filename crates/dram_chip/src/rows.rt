@@ -1,7 +1,7 @@
 //! Rows of equal length that stand one after another in a slice of words.
 
-ghost use Rattle.std.specs.Prelude.{◌≡◌, ℕ, ◌<◌, ◌+◌, ◌≤◌, ◌⊎◌, length, slice_index, true};
-ghost use Rattle.bit_rows.specs.Bits.{word_bit, flip_if, majority};
+ghost use Rattle.std.specs.Prelude.{◌≡◌, ◌≢◌, ℕ, ◌<◌, ◌+◌, ◌≤◌, ◌⊎◌, length, slice_index, true};
+ghost use Rattle.bit_rows.specs.Bits.{bit_at, word_bit, flip_if, majority, majority_word};
 
 use bit_rows::{settle3, store, store_not, turn};
 
@@ -20,10 +20,31 @@ fn put(src: &[u64], dst: &mut [u64], inverted: bool)
     }
 }
 
+/// A word, or its complement.
+#[inline(always)]
+fn flipped(word: u64, inverted: bool) -> u64
+    ensures { (r : ℕ) → r < 64 → bit_at result r ≡ flip_if inverted (bit_at word r) }
+{
+    if inverted { !word } else { word }
+}
+
+/// The row of one word at `to` takes the row at `from`, or its complement.
+#[inline(always)]
+fn move_word(all: &mut [u64], from: usize, to: usize, inverted: bool)
+    requires from { from < length all.old }
+    requires to { to < length all.old }
+    ensures length { length all.new ≡ length all.old }
+    ensures moved { (r : ℕ) → r < 64 → word_bit all.new to r
+        ≡ flip_if inverted (word_bit all.old from r) }
+    ensures others { (k : ℕ) → k ≢ to → slice_index all.new k ≡ slice_index all.old k }
+{
+    all[to] = flipped(all[from], inverted);
+}
+
 /// The row of `n` words at `to` takes the row at `from`, or its complement. The two are one row, or
 /// apart.
 #[inline(always)]
-pub fn move_row(all: &mut [u64], n: usize, from: usize, to: usize, inverted: bool)
+fn move_words(all: &mut [u64], n: usize, from: usize, to: usize, inverted: bool)
     requires from { from + n ≤ length all.old }
     requires to { to + n ≤ length all.old }
     requires apart { (from ≡ to) ⊎ (from + n ≤ to) ⊎ (to + n ≤ from) }
@@ -42,6 +63,80 @@ pub fn move_row(all: &mut [u64], n: usize, from: usize, to: usize, inverted: boo
     } else if inverted {
         turn(&mut all[to..to + n]);
     }
+}
+
+/// The row of `n` words at `to` takes the row at `from`, or its complement. The two are one row, or
+/// apart. A row of one word is moved as a word, which no kernel is set up for.
+#[inline(always)]
+pub fn move_row(all: &mut [u64], n: usize, from: usize, to: usize, inverted: bool)
+    requires from { from + n ≤ length all.old }
+    requires to { to + n ≤ length all.old }
+    requires apart { (from ≡ to) ⊎ (from + n ≤ to) ⊎ (to + n ≤ from) }
+    ensures length { length all.new ≡ length all.old }
+    ensures moved { (q r : ℕ) → q < n → r < 64 → word_bit all.new (to + q) r
+        ≡ flip_if inverted (word_bit all.old (from + q) r) }
+    ensures below { (k : ℕ) → k < to → slice_index all.new k ≡ slice_index all.old k }
+    ensures above { (k : ℕ) → to + n ≤ k → slice_index all.new k ≡ slice_index all.old k }
+{
+    if n == 1 {
+        move_word(all, from, to, inverted);
+    } else {
+        move_words(all, n, from, to, inverted);
+    }
+}
+
+/// The majority of three words, bit by bit.
+#[inline(always)]
+fn majority_of(a: u64, b: u64, c: u64) -> u64
+    ensures { result ≡ majority_word a b c }
+{
+    (a & b) | (c & (a | b))
+}
+
+/// Each of the rows of one word at `a`, `b` and `c` takes their majority.
+#[inline(always)]
+fn settle_word(all: &mut [u64], a: usize, b: usize, c: usize)
+    requires a { a < b }
+    requires b { b < c }
+    requires c { c < length all.old }
+    ensures length { length all.new ≡ length all.old }
+    ensures a { slice_index all.new a ≡ majority_word (slice_index all.old a)
+        (slice_index all.old b) (slice_index all.old c) }
+    ensures b { slice_index all.new b ≡ majority_word (slice_index all.old a)
+        (slice_index all.old b) (slice_index all.old c) }
+    ensures c { slice_index all.new c ≡ majority_word (slice_index all.old a)
+        (slice_index all.old b) (slice_index all.old c) }
+    ensures others { (k : ℕ) → k ≢ a → k ≢ b → k ≢ c
+        → slice_index all.new k ≡ slice_index all.old k }
+{
+    let word = majority_of(all[a], all[b], all[c]);
+    all[a] = word;
+    all[b] = word;
+    all[c] = word;
+}
+
+/// Each of the rows of `n` words at `a`, `b` and `c` takes their majority.
+#[inline(always)]
+fn settle_words(all: &mut [u64], n: usize, a: usize, b: usize, c: usize)
+    requires a { a + n ≤ b }
+    requires b { b + n ≤ c }
+    requires c { c + n ≤ length all.old }
+    ensures length { length all.new ≡ length all.old }
+    ensures a { (q r : ℕ) → q < n → word_bit all.new (a + q) r
+        ≡ majority (word_bit all.old (a + q) r) (word_bit all.old (b + q) r)
+        (word_bit all.old (c + q) r) }
+    ensures b { (q r : ℕ) → q < n → word_bit all.new (b + q) r
+        ≡ majority (word_bit all.old (a + q) r) (word_bit all.old (b + q) r)
+        (word_bit all.old (c + q) r) }
+    ensures c { (q r : ℕ) → q < n → word_bit all.new (c + q) r
+        ≡ majority (word_bit all.old (a + q) r) (word_bit all.old (b + q) r)
+        (word_bit all.old (c + q) r) }
+    ensures others { (k : ℕ) → ((k < a) ⊎ (a + n ≤ k)) → ((k < b) ⊎ (b + n ≤ k))
+        → ((k < c) ⊎ (c + n ≤ k)) → slice_index all.new k ≡ slice_index all.old k }
+{
+    let (low, rest) = all.split_at_mut(b);
+    let (mid, high) = rest.split_at_mut(c - b);
+    settle3(&mut low[a..a + n], &mut mid[..n], &mut high[..n]);
 }
 
 /// Each of the rows of `n` words at `a`, `b` and `c` takes their majority.
@@ -63,9 +158,11 @@ pub fn settle_rows(all: &mut [u64], n: usize, a: usize, b: usize, c: usize)
     ensures others { (k : ℕ) → ((k < a) ⊎ (a + n ≤ k)) → ((k < b) ⊎ (b + n ≤ k))
         → ((k < c) ⊎ (c + n ≤ k)) → slice_index all.new k ≡ slice_index all.old k }
 {
-    let (low, rest) = all.split_at_mut(b);
-    let (mid, high) = rest.split_at_mut(c - b);
-    settle3(&mut low[a..a + n], &mut mid[..n], &mut high[..n]);
+    if n == 1 {
+        settle_word(all, a, b, c);
+    } else {
+        settle_words(all, n, a, b, c);
+    }
 }
 
 /// The row of words at `to` takes these words.

@@ -7,7 +7,7 @@ use Rattle.bit_rows.specs.Bits.{bit_at, word_bit, flip_if}
 use Rattle.dram_chip.proofs.Placed.{past, alike, placed, length-placed, placed-at, placed-off}
 use Rattle.dram_chip.proofs.Placed.{headed, length-headed, headed-at, headed-off, read-front}
 use Rattle.dram_chip.proofs.Placed.{read-back}
-use Rattle.dram_chip.proofs.rows.move_row.Goals as goal
+use Rattle.dram_chip.proofs.rows.move_words.Goals as goal
 
 bit-moved : (x y z w r : ℕ) (inverted : Bool) → x ≡ y → bit_at y r ≡ flip_if inverted (bit_at z r)
     → z ≡ w → bit_at x r ≡ flip_if inverted (bit_at w r)

@@ -1,0 +1,10 @@
+use Rattle.std.proofs.Common.{◌≡◌, ◌<◌, ◌^◌, take}
+use Rattle.std.specs.Str.Parse.{digits_value}
+use Rattle.bbop_isa.proofs.digits.few_digits.Given as goal
+
+-- the digits so far
+abbrev pub invariant-loop-byte : goal.invariant-loop-byte
+invariant-loop-byte l = record {
+  so_far : l.value ≡ digits_value 10 (take l.byte-index l.text);
+  small : l.value < 10 ^ l.byte-index;
+}
