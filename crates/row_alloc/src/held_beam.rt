@@ -11,6 +11,7 @@ use crate::body::{BodyCmd, Held, OutRow};
 use crate::found::fits;
 use crate::greedy::copied;
 use crate::held_table::{held_body, serves};
+use crate::layout::LAYOUT_COUNT;
 use mig_graph::{Mig, NoMemory};
 use std::alloc::Global;
 
@@ -71,7 +72,7 @@ fn fewest(
 fn are_laid_out(held: &[Held]) -> bool
     ensures { result ≡ have_layouts held.now }
 {
-    held.iter().all(|h| h.layout < 10)
+    held.iter().all(|h| h.layout < LAYOUT_COUNT)
 }
 
 /// Whether commands can be made of the body.

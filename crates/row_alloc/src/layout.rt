@@ -47,6 +47,9 @@ static T0_NOT_DCC0: [Line; 2] = [straight!(Cell::T(0)), turned!(Cell::Dcc(0))];
 
 static T3_NOT_T2: [Line; 2] = [straight!(Cell::T(3)), turned!(Cell::T(2))];
 
+/// How many layouts there are.
+pub const LAYOUT_COUNT: u8 = 11;
+
 /// The wordlines that read a state in the layout of this number.
 pub fn layout(k: u8) -> &'static [Line]
     requires { is_layout k ≡ true }
