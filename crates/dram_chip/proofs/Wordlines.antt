@@ -2,11 +2,12 @@
 use Rattle.std.proofs.Common.{◌&&◌, not, nat_lt}
 use Rattle.std.proofs.Common.{◌≡◌, ℕ, zero, suc, ◌+◌, ◌*◌, ◌/◌, ◌%◌, ◌<◌, ◌≤◌, Bool, true}
 use Rattle.std.proofs.Common.{false, List, [], ◌∷◌, length, get_or, refl, sym, ap, ◌∙◌, arith}
-use Rattle.std.proofs.Common.{subst, slice_index_or, ◌++◌, take}
-use Rattle.std.proofs.lemmas.List.{take_more}
+use Rattle.std.proofs.Common.{subst, slice_index_or, ◌++◌, take, map, inr}
+use Rattle.std.specs.List.{AllByRecursion}
+use Rattle.std.proofs.lemmas.List.{take_more, length-map}
 use Rattle.std.proofs.lemmas.Bool.{and_parts, ltb-true}
 use mathlib.Core.Logic.{◌⊎◌}
-use Rattle.bit_rows.specs.Bits.{word_bit, majority}
+use Rattle.bit_rows.specs.Bits.{word_bit, bit_at, majority}
 use Rattle.dram_model.specs.declared.address.Addr.{Addr}
 use Rattle.dram_model.specs.declared.address.Addr.TheVariants.{B}
 use Rattle.dram_model.specs.declared.address.Cell.{Cell}
@@ -16,12 +17,33 @@ use Rattle.dram_model.specs.Column.{Column, bit, read, plain, is_cell, b_lines, 
 use Rattle.dram_model.specs.Column.{sense_lines, settle_lines, is_first, is_in_range}
 use Rattle.dram_model.specs.Column.{sense, settle, drive}
 use Rattle.dram_model.proofs.ColumnLaws.{refresh}
-use Rattle.dram_chip.specs.Rows.{place, is_kept, row_bit, column_in}
-use Rattle.dram_chip.proofs.Cells.{three-took}
+use Rattle.dram_chip.specs.declared.b_group.Wire.{Wire}
+use Rattle.dram_chip.specs.Rows.{place, is_kept, row_bit, column_in, HasConstants, IsWired}
+use Rattle.dram_chip.proofs.Cells.{three-took, rows-apart}
 
 -- a line of several
 abbrev pub line_at : List Line → ℕ → Line
 line_at lines i = slice_index_or lines i (record { cell = T 0; inverted = false })
+
+-- a wire of several
+abbrev pub wire_at : List Wire → ℕ → Wire
+wire_at wires i =
+    slice_index_or wires i (record { line = record { cell = T 0; inverted = false }; row = 0 })
+
+-- the lines of wires
+abbrev pub lines_in : List Wire → List Line
+lines_in wires = map (λ w. w.line) wires
+
+pub wire-line : (wires : List Wire) (i : ℕ) → (wire_at wires i).line ≡ line_at (lines_in wires) i
+wire-line [] i = refl
+wire-line (w ∷ ws) zero = refl
+wire-line (w ∷ ws) (suc i) = wire-line ws i
+
+pub wired-at : (wires : List Wire) (i : ℕ) → AllByRecursion IsWired wires → i < length wires
+    → IsWired (wire_at wires i)
+wired-at [] i h l = absurd (omega arith)
+wired-at (w ∷ ws) zero h l = h.0
+wired-at (w ∷ ws) (suc i) h l = wired-at ws i h.1 (omega arith)
 
 -- three lines stand in the order of their rows, and none is an n-wordline
 pub record Three (lines : List Line) : Type 0 where
@@ -161,6 +183,18 @@ one-line k (a ∷ b ∷ []) s h e m =
 one-line k (a ∷ b ∷ c ∷ []) s h e m = absurd (m refl)
 one-line k (a ∷ b ∷ c ∷ d ∷ more) s h e m = absurd (search arith)
 
+-- what one line reads is what is sensed
+one-read : (k : ℕ) (lines : List Line) (s : Column) → are_b k lines ≡ true
+    → is_first (B k) ≡ true → (length lines ≡ 3 → ⊥)
+    → read s (line_at lines 0) ≡ sense_lines s lines
+unfolding are_b
+one-read k [] s h e m = absurd (search arith)
+one-read k (a ∷ []) s h e m = refl
+one-read k (a ∷ b ∷ []) s h e m =
+    absurd (no-pair (is_first (B k)) e (and_parts (not (is_first (B k))) _ h).0)
+one-read k (a ∷ b ∷ c ∷ []) s h e m = absurd (m refl)
+one-read k (a ∷ b ∷ c ∷ d ∷ more) s h e m = absurd (search arith)
+
 bit-kept : (n c : ℕ) (all : List ℕ) (cell : Cell) → is_kept cell ≡ true
     → bit (column_in n all c) cell ≡ row_bit n all (place cell) c
 bit-kept n c all (T k) e = rw e refl
@@ -236,6 +270,17 @@ pub raised-b : (rows k : ℕ) (x : Addr) (raised : List Line) → Raises rows k 
 raised-b rows k x raised h = subst (λ ls. are_b k ls ≡ true) (sym h.lines)
     (b-passes k (subst (λ a. is_in_range rows a ≡ true) h.group h.range))
 
+-- a wire of a B address names a row that is kept
+pub kept-wire : (rows k i : ℕ) (x : Addr) (wires : List Wire) → Raises rows k x (lines_in wires)
+    → i < length wires → (is_cell rows (wire_at wires i).line.cell ≡ true)
+    × (is_kept (wire_at wires i).line.cell ≡ true)
+kept-wire rows k i x wires h l =
+    let inside : i < length (lines_in wires) =
+    omega (arith, length-map wires (λ (w : Wire). w.line), l) in
+    subst (λ (line : Line). (is_cell rows line.cell ≡ true) × (is_kept line.cell ≡ true))
+    (sym (wire-line wires i)) (kept-line k (lines_in wires) i rows
+    (record { cell = T 0; inverted = false }) (raised-b rows k x (lines_in wires) h) inside)
+
 -- the same, of lines that were looked up
 settled-at : (n p q r a b c : ℕ) (old seen new : List ℕ) → seen ≡ old → p ≡ a → q ≡ b → r ≡ c
     → Settled n p q r seen new → Settled n a b c old new
@@ -269,6 +314,60 @@ one-stepped rows k x raised s h first few = subst (λ ls. s ≡ settle_lines ls 
     (lines-are rows k x raised h)
     (one-line k raised s (raised-b rows k x raised h)
     (subst (λ a. is_first a ≡ true) h.group first) few)
+
+-- and one line reads what is sensed
+pub one-sensed : (rows k : ℕ) (x : Addr) (raised : List Line) (s : Column)
+    → Raises rows k x raised → is_first x ≡ true → (length raised ≡ 3 → ⊥)
+    → read s (line_at raised 0) ≡ sense x s
+one-sensed rows k x raised s h first few =
+    one-read k raised s (raised-b rows k x raised h)
+    (subst (λ a. is_first a ≡ true) h.group first) few
+    ∙ ap (sense_lines s) (lines-are rows k x raised h)
+
+-- three lines that an address raises
+pub raised-three : (rows k : ℕ) (x : Addr) (raised : List Line) → Raises rows k x raised
+    → length raised ≡ 3 → Three raised
+raised-three rows k x raised h e = three-of k raised (raised-b rows k x raised h) e
+
+-- the row of a kept cell of the first rows is before the constants
+low-place : (cell : Cell) → is_cell 0 cell ≡ true → is_kept cell ≡ true → place cell < 6
+low-place (T k) h e = omega (arith, ltb-true k 4 e)
+low-place (Dcc k) h e = omega (arith, ltb-true k 2 e)
+low-place (C k) h e = absurd (search arith)
+low-place (D k) h e = absurd (search arith)
+
+-- the third of three lines is no data row
+third-fixed : (k : ℕ) (lines : List Line) → are_b k lines ≡ true → length lines ≡ 3
+    → place (line_at lines 2).cell < 6
+unfolding are_b is_b
+third-fixed k [] h e = absurd (omega arith)
+third-fixed k (a ∷ []) h e = absurd (omega arith)
+third-fixed k (a ∷ b ∷ []) h e = absurd (omega arith)
+third-fixed k (a ∷ b ∷ c ∷ []) h e =
+    let cells = and_parts (is_b a && is_b b) (is_b c)
+    (and_parts ((is_b a && is_b b) && is_b c) _ h).0 in
+    let both = and_parts (is_cell 0 c.cell) (is_kept c.cell) cells.1 in
+    low-place c.cell both.0 both.1
+third-fixed k (a ∷ b ∷ c ∷ d ∷ more) h e = absurd (omega arith)
+
+pub third-low : (rows k : ℕ) (x : Addr) (raised : List Line) → Raises rows k x raised
+    → length raised ≡ 3 → place (line_at raised 2).cell < 6
+third-low rows k x raised h e = third-fixed k raised (raised-b rows k x raised h) e
+
+-- the constants stay where rows before them took what three lines sensed
+pub three-constants : (n p q r : ℕ) (raised : List Line) (old seen new : List ℕ) → Three raised
+    → place (line_at raised 2).cell < 6 → Activated n p q r raised old seen new
+    → HasConstants n old → HasConstants n new
+three-constants n p q r raised old seen new three low a h = λ k c small l.
+    let i : ℕ = n * (6 + k) + c / 64 in
+    let word : c / 64 < n = omega arith in
+    let z : ℕ = place (line_at raised 2).cell in
+    let apart = rows-apart n z (6 + k) (omega (arith, low)) in
+    let first = rows-apart n (place (line_at raised 0).cell) z (omega (arith, three.before, three.after)) in
+    let second = rows-apart n (place (line_at raised 1).cell) z three.after in
+    ap (λ w. bit_at w (c % 64)) (a.settled.others i
+    (inr (omega (arith, apart, first, a.at_p))) (inr (omega (arith, apart, second, a.at_q)))
+    (inr (omega (arith, apart, a.at_r)))) ∙ ap (λ xs. word_bit xs i (c % 64)) a.was ∙ h k c small l
 
 -- one more line
 settle-more : (xs : List Line) (line : Line) (v : Bool) (s : Column)

@@ -1,6 +1,7 @@
 -- A bank as it is kept: the words of all its rows, one row after another
 use Rattle.std.specs.Prelude.{◌≡◌, ℕ, ◌<◌, ◌+◌, ◌*◌, ◌/◌, ◌%◌, ◌==◌, Bool, true, false, not, ◌&&◌}
 use Rattle.std.specs.Prelude.{nat_lt, length, List}
+use Rattle.dram_chip.specs.declared.b_group.Wire.{Wire}
 use Rattle.dram_chip.specs.declared.bank.Bank.{Bank}
 use Rattle.dram_model.specs.declared.address.Cell.{Cell}
 use Rattle.dram_model.specs.declared.address.Cell.TheVariants.{T, Dcc, C, D}
@@ -14,6 +15,10 @@ place (Dcc k) = k
 place (T k) = 2 + k
 place (C k) = 6 + k
 place (D k) = 8 + k
+
+-- a wire's row is that of its line's cell
+abbrev pub IsWired : Wire → Type 0
+IsWired wire = wire.row ≡ place wire.line.cell
 
 -- a cell that is kept: what stands at a C cell is not read
 abbrev pub is_kept : Cell → Bool

@@ -1,56 +1,90 @@
 //! The wordlines of the B addresses, as a table that no activation builds.
 
-ghost use Rattle.std.specs.Prelude.{◌≡◌, ◌<◌};
+ghost use Rattle.std.specs.Prelude.{◌≡◌, ◌<◌, map};
+ghost use Rattle.std.specs.List.{AllByRecursion};
 ghost use Rattle.dram_model.specs.Column.{lines_of};
 ghost use Rattle.dram_model.specs.declared.address.Addr.{Addr};
+ghost use Rattle.dram_chip.specs.Rows.{IsWired};
 
 use dram_model::{Cell, Line};
 
-const T0: Line = Line {
-    cell: Cell::T(0),
-    inverted: false,
+/// A wordline, and which row of a bank is its cell's.
+#[derive(Clone, Copy)]
+pub struct Wire {
+    pub line: Line,
+    pub row: usize,
+}
+
+const T0: Wire = Wire {
+    line: Line {
+        cell: Cell::T(0),
+        inverted: false,
+    },
+    row: 2,
 };
 
-const T1: Line = Line {
-    cell: Cell::T(1),
-    inverted: false,
+const T1: Wire = Wire {
+    line: Line {
+        cell: Cell::T(1),
+        inverted: false,
+    },
+    row: 3,
 };
 
-const T2: Line = Line {
-    cell: Cell::T(2),
-    inverted: false,
+const T2: Wire = Wire {
+    line: Line {
+        cell: Cell::T(2),
+        inverted: false,
+    },
+    row: 4,
 };
 
-const T3: Line = Line {
-    cell: Cell::T(3),
-    inverted: false,
+const T3: Wire = Wire {
+    line: Line {
+        cell: Cell::T(3),
+        inverted: false,
+    },
+    row: 5,
 };
 
-const DCC0: Line = Line {
-    cell: Cell::Dcc(0),
-    inverted: false,
+const DCC0: Wire = Wire {
+    line: Line {
+        cell: Cell::Dcc(0),
+        inverted: false,
+    },
+    row: 0,
 };
 
-const DCC1: Line = Line {
-    cell: Cell::Dcc(1),
-    inverted: false,
+const DCC1: Wire = Wire {
+    line: Line {
+        cell: Cell::Dcc(1),
+        inverted: false,
+    },
+    row: 1,
 };
 
-const NOT_DCC0: Line = Line {
-    cell: Cell::Dcc(0),
-    inverted: true,
+const NOT_DCC0: Wire = Wire {
+    line: Line {
+        cell: Cell::Dcc(0),
+        inverted: true,
+    },
+    row: 0,
 };
 
-const NOT_DCC1: Line = Line {
-    cell: Cell::Dcc(1),
-    inverted: true,
+const NOT_DCC1: Wire = Wire {
+    line: Line {
+        cell: Cell::Dcc(1),
+        inverted: true,
+    },
+    row: 1,
 };
 
 /// The wordlines that an address of the bitwise group raises.
 #[inline(always)]
-pub fn b_lines(k: u8) -> &'static [Line]
+pub fn b_wires(k: u8) -> &'static [Wire]
     requires { k < 16 }
-    ensures { result.now ≡ lines_of (Addr.B k) }
+    ensures lines { map (λ w. w.line) result.now ≡ lines_of (Addr.B k) }
+    ensures wired { AllByRecursion IsWired result.now }
 {
     match k {
         0 => &[T0],

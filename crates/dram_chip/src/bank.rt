@@ -9,9 +9,9 @@ ghost use Rattle.dram_model.specs.declared.address.Cell.{Cell};
 ghost use Rattle.dram_model.specs.declared.address.Command.{Command};
 ghost use Rattle.dram_chip.specs.Rows.{place as place_of, is_kept, column_at, IsReady};
 ghost use Rattle.dram_chip.specs.Rows.{data_row_count};
-ghost use Rattle.dram_chip.specs.Rows.{columns_of};
+ghost use Rattle.dram_chip.specs.Rows.{columns_of, IsWired};
 
-use crate::b_group::b_lines;
+use crate::b_group::{Wire, b_wires};
 use crate::rows::{get_row, move_row, set_ones, set_row, settle_rows};
 use dram_model::{Addr, Cell, Line};
 use faults::NoMemory;
@@ -34,27 +34,27 @@ fn place(cell: Cell) -> usize
     requires { is_cell (2 ^ 16) cell ≡ true }
     ensures { result ≡ place_of cell }
 {
-    let first = match cell {
-        Cell::Dcc(_) => 0,
-        Cell::T(_) => 2,
-        Cell::C(_) => 6,
-        Cell::D(_) => OTHER_ROWS,
-    };
-    let k = match cell {
-        Cell::D(k) => k as usize,
-        Cell::Dcc(k) | Cell::T(k) | Cell::C(k) => k as usize,
-    };
-    first + k
+    match cell {
+        Cell::Dcc(k) => k as usize,
+        Cell::T(k) => 2 + k as usize,
+        Cell::C(k) => 6 + k as usize,
+        Cell::D(k) => OTHER_ROWS + k as usize,
+    }
 }
 
 /// The cell's d-wordline.
 #[inline(always)]
-fn line_of(cell: Cell) -> Line
-    ensures { result ≡ plain cell }
+fn wire_of(cell: Cell) -> Wire
+    requires { is_cell (2 ^ 16) cell ≡ true }
+    ensures line { result.line ≡ plain cell }
+    ensures wired { IsWired result }
 {
-    Line {
-        cell,
-        inverted: false,
+    Wire {
+        line: Line {
+            cell,
+            inverted: false,
+        },
+        row: place(cell),
     }
 }
 
@@ -83,87 +83,103 @@ impl Bank {
         self.words as usize * place(cell)
     }
 
+    /// Where the row of a wordline's cell begins.
+    #[inline(always)]
+    fn wire_start(&self, wire: Wire) -> usize
+        requires ready { IsReady self.now }
+        requires cell { is_cell (data_row_count self.now) wire.line.cell ≡ true }
+        requires wired { IsWired wire }
+        ensures start { result ≡ self.now.words * place_of wire.line.cell }
+        ensures room { result + self.now.words ≤ length self.now.all.items }
+    {
+        self.words as usize * wire.row
+    }
+
     /// The line's cell takes what the other line reads.
     #[inline(always)]
-    fn drive(&mut self, line: Line, src: Line)
+    fn drive(&mut self, wire: Wire, src: Wire)
         requires ready { IsReady self.old }
-        requires line { is_cell (data_row_count self.old) line.cell ≡ true }
-        requires kept { is_kept line.cell ≡ true }
-        requires src { is_cell (data_row_count self.old) src.cell ≡ true }
+        requires line { is_cell (data_row_count self.old) wire.line.cell ≡ true }
+        requires kept { is_kept wire.line.cell ≡ true }
+        requires src { is_cell (data_row_count self.old) src.line.cell ≡ true }
+        requires wired { IsWired wire }
+        requires src_wired { IsWired src }
         ensures ready { IsReady self.new }
         ensures rows { data_row_count self.new ≡ data_row_count self.old }
         ensures columns { columns_of self.new ≡ columns_of self.old }
         ensures driven { (c : ℕ) → c < columns_of self.old
-            → column_at self.new c ≡ drive line (read_of (column_at self.old c) src)
+            → column_at self.new c ≡ drive wire.line (read_of (column_at self.old c) src.line)
             (column_at self.old c) }
     {
-        let from = self.start(src.cell);
-        let to = self.start(line.cell);
+        let from = self.wire_start(src);
+        let to = self.wire_start(wire);
         move_row(
             &mut self.all,
             self.words as usize,
             from,
             to,
-            line.inverted != src.inverted,
+            wire.line.inverted != src.line.inverted,
         );
     }
 
     /// Activates `x`. Gives a line that reads what was sensed.
     #[inline(always)]
-    fn activate(&mut self, x: Addr) -> Line
+    fn activate(&mut self, x: Addr) -> Wire
         requires ready { IsReady self.old }
         requires range { is_in_range (data_row_count self.old) x ≡ true }
         requires first { is_first x ≡ true }
         ensures ready { IsReady self.new }
         ensures rows { data_row_count self.new ≡ data_row_count self.old }
         ensures columns { columns_of self.new ≡ columns_of self.old }
-        ensures cell { is_cell (data_row_count self.old) result.cell ≡ true }
+        ensures cell { is_cell (data_row_count self.old) result.line.cell ≡ true }
+        ensures wired { IsWired result }
         ensures stepped { (c : ℕ) → c < columns_of self.old
             → column_at self.new c ≡ step (Command.Ap x) (column_at self.old c) }
-        ensures sensed { (c : ℕ) → c < columns_of self.old → read_of (column_at self.new c) result
+        ensures sensed { (c : ℕ) → c < columns_of self.old → read_of (column_at self.new c) result.line
             ≡ sense_of x (column_at self.old c) }
     {
         let group = match x {
-            Addr::D(k) => return line_of(Cell::D(k)),
-            Addr::C(k) => return line_of(Cell::C(k)),
+            Addr::D(k) => return wire_of(Cell::D(k)),
+            Addr::C(k) => return wire_of(Cell::C(k)),
             Addr::B(k) => k,
         };
-        let raised = b_lines(group);
-        let line = raised[0];
+        let raised = b_wires(group);
+        let wire = raised[0];
         if raised.len() == 3 {
-            let p = self.start(line.cell);
-            let q = self.start(raised[1].cell);
-            let r = self.start(raised[2].cell);
+            let p = self.wire_start(wire);
+            let q = self.wire_start(raised[1]);
+            let r = self.wire_start(raised[2]);
             settle_rows(&mut self.all, self.words as usize, p, q, r);
         }
-        line
+        wire
     }
 
     /// Each line of `y` takes what the other line reads. A constant keeps its bits.
     #[inline(always)]
-    fn settle(&mut self, y: Addr, src: Line)
+    fn settle(&mut self, y: Addr, src: Wire)
         requires ready { IsReady self.old }
         requires range { is_in_range (data_row_count self.old) y ≡ true }
-        requires src { is_cell (data_row_count self.old) src.cell ≡ true }
+        requires src { is_cell (data_row_count self.old) src.line.cell ≡ true }
+        requires wired { IsWired src }
         ensures ready { IsReady self.new }
         ensures rows { data_row_count self.new ≡ data_row_count self.old }
         ensures columns { columns_of self.new ≡ columns_of self.old }
         ensures settled { (c : ℕ) → c < columns_of self.old
-            → column_at self.new c ≡ settle_of y (read_of (column_at self.old c) src)
+            → column_at self.new c ≡ settle_of y (read_of (column_at self.old c) src.line)
             (column_at self.old c) }
     {
         let group = match y {
             Addr::D(k) => {
-                self.drive(line_of(Cell::D(k)), src);
+                self.drive(wire_of(Cell::D(k)), src);
                 return;
             }
             Addr::C(_) => return,
             Addr::B(k) => k,
         };
         let mut from = src;
-        for line in b_lines(group) {
-            self.drive(*line, from);
-            from = *line;
+        for wire in b_wires(group) {
+            self.drive(*wire, from);
+            from = *wire;
         }
     }
 
@@ -179,7 +195,7 @@ impl Bank {
         ensures stepped { (c : ℕ) → c < columns_of self.old
             → column_at self.new c ≡ step (Command.Ap x) (column_at self.old c) }
     {
-        let _line = self.activate(x);
+        let _wire = self.activate(x);
     }
 
     /// AAP(x, y) in every column.
@@ -195,8 +211,8 @@ impl Bank {
         ensures stepped { (c : ℕ) → c < columns_of self.old
             → column_at self.new c ≡ step (Command.Aap x y) (column_at self.old c) }
     {
-        let line = self.activate(x);
-        self.settle(y, line);
+        let wire = self.activate(x);
+        self.settle(y, wire);
     }
 
     /// Sets a data row to these words.

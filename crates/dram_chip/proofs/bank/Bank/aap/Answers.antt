@@ -13,10 +13,10 @@ then-second x y v s t u e f g = g ∙ ap (settle_of y v) f ∙ ap (λ b. settle_
 
 pub returns-clause-stepped : goal.returns-clause-stepped
 returns-clause-stepped c = λ k h.
-    let below : k < columns_of c.activate-line.new.self =
-    omega (arith, c.activate-line.ensures.columns) in
-    then-second c.args.x c.args.y (read_of (column_at c.activate-line.new.self k)
-    c.activate-line.result) (column_at c.args.self.now k) (column_at c.activate-line.new.self k)
+    let below : k < columns_of c.activate-wire.new.self =
+    omega (arith, c.activate-wire.ensures.columns) in
+    then-second c.args.x c.args.y (read_of (column_at c.activate-wire.new.self k)
+    c.activate-wire.result.line) (column_at c.args.self.now k) (column_at c.activate-wire.new.self k)
     (column_at c.settle.new.self k)
-    (c.activate-line.ensures.sensed k h) (c.activate-line.ensures.stepped k h)
+    (c.activate-wire.ensures.sensed k h) (c.activate-wire.ensures.stepped k h)
     (c.settle.ensures.settled k below)
