@@ -56,7 +56,7 @@ place-which : (down : Bool) (o : Option Slot) → (place_of down o).which ≡ (s
 place-which down None = refl
 place-which down (Some x) = refl
 
-state-sub : {slots : Slots} {fb fw : ℕ} {b : Block} → Given slots fb fw b
+pub state-sub : {slots : Slots} {fb fw : ℕ} {b : Block} → Given slots fb fw b
     → (down : Bool) (x : List ℕ) → is_among (state_names b) x ≡ true
     → (place_of down (slots x)).sub ≡ Zero
 state-sub {b = b} g down x e = ap (λ o. (place_of down o).sub)
@@ -70,7 +70,7 @@ space-row ScratchBit k h = refl
 space-row ScratchWord k h = refl
 space-row Cells k h = cc
 
-name-row : {slots : Slots} {fb fw : ℕ} {b : Block} → Given slots fb fw b
+pub name-row : {slots : Slots} {fb fw : ℕ} {b : Block} → Given slots fb fw b
     → (down : Bool) (x : List ℕ) → is_among (statement_names (Visit b)) x ≡ true
     → is_state (place_of down (slots x)).space ≡ false
 name-row {slots = slots} g down x e =
@@ -87,23 +87,23 @@ one-value {slots = slots} g down x y ex ey e =
     ∙ place-space down (slots y)) (sym (place-which down (slots x)) ∙ e.1
     ∙ place-which down (slots y))
 
-reads-long : {slots : Slots} {b : Block} {body : Body} → IsBlockBody slots b body
+pub reads-long : {slots : Slots} {b : Block} {body : Body} → IsBlockBody slots b body
     → length body.reads ≡ length (block_inputs b)
 reads-long {b = b} is = ap length is.reads ∙ length-map (block_inputs b) _
 
-read-place : {slots : Slots} {b : Block} {body : Body} → IsBlockBody slots b body → (k : ℕ)
+pub read-place : {slots : Slots} {b : Block} {body : Body} → IsBlockBody slots b body → (k : ℕ)
     → k < length (block_inputs b) → nth_place body.reads k
     ≡ place_of b.down (slots (name_at (block_inputs b) k))
 read-place {slots = slots} {b = b} is k l = ap (λ ps. nth_place ps k) is.reads
     ∙ nth-place slots b.down (block_inputs b) k l
 
-write-place : {slots : Slots} {b : Block} {body : Body} → IsBlockBody slots b body → (j : ℕ)
+pub write-place : {slots : Slots} {b : Block} {body : Body} → IsBlockBody slots b body → (j : ℕ)
     → j < length b.assigns → nth_place body.writes j
     ≡ place_of b.down (slots (name_at (targets_of b.assigns) j))
 write-place {slots = slots} {b = b} is j l = ap (λ ps. nth_place ps j) is.writes
     ∙ nth-place slots b.down (targets_of b.assigns) j (omega (arith, targets-long b))
 
-input-at : (b : Block) (k : ℕ) → k < length (block_inputs b)
+pub input-at : (b : Block) (k : ℕ) → k < length (block_inputs b)
     → is_among (statement_names (Visit b)) (name_at (block_inputs b) k) ≡ true
 input-at b k l = input-named b (name_at (block_inputs b) k) (among-at (block_inputs b) k l)
 
@@ -167,7 +167,7 @@ constant-well v p = record {
 }
 
 -- which subscripts are used
-abbrev uses : Bool → Sub → Bool
+abbrev pub uses : Bool → Sub → Bool
 uses down s = same_sub (kind_sub down Word) s || same_sub Zero s
 
 kind-used : (down : Bool) (k : Kind) (s : Sub) → same_sub (kind_sub down k) s ≡ true
@@ -204,7 +204,7 @@ body-uses {slots = slots} {b = b} {body = body} is s e =
           (subst (λ ps. list_any (λ (p : Place). same_sub p.sub s) ps ≡ true) is.writes h)
     ]
 
-filter-less : (p q : Sub → Bool) (xs : List Sub) → ((s : Sub) → p s ≡ true → q s ≡ true)
+pub filter-less : (p q : Sub → Bool) (xs : List Sub) → ((s : Sub) → p s ≡ true → q s ≡ true)
     → length (filter p xs) ≤ length (filter q xs)
 filter-less p q [] h = omega arith
 filter-less p q (s ∷ xs) h =
@@ -217,11 +217,11 @@ filter-less p q (s ∷ xs) h =
       ]
     ]
 
-abbrev others : List Sub
+abbrev pub others : List Sub
 others = Top ∷ At_inner ∷ InnerDown ∷ Outer ∷ OuterDown ∷ Sum ∷ DownSum ∷ DownPlusN ∷ NPlusInner
     ∷ []
 
-few-uses : (down : Bool) → length (filter (uses down) others) ≤ 3
+pub few-uses : (down : Bool) → length (filter (uses down) others) ≤ 3
 few-uses true = omega arith
 few-uses false = omega arith
 
@@ -365,7 +365,7 @@ steps-bodies slots down body (s ∷ ss) =
     omega (arith, h, m)
 
 -- the rounds
-spot-space : (n : ℕ) (s : Space) (w v : ℕ) → (spot_in n s w v).space ≡ s
+pub spot-space : (n : ℕ) (s : Space) (w v : ℕ) → (spot_in n s w v).space ≡ s
 spot-space n Result w v = refl
 spot-space n Source w v = refl
 spot-space n ScratchBit w v = refl

@@ -15,3 +15,6 @@ mod Carried
 mod Costs
 mod Compile
 mod Whole
+mod HeldLoop
+mod Moved
+mod HeldDoes
