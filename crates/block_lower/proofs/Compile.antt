@@ -48,7 +48,7 @@ use Rattle.block_lower.proofs.Round.{named-once, write-row, read-row, writes-lon
 use Rattle.block_lower.proofs.Starts.{AreStates, head-state, tail-states, state-spot, state-row-is}
 
 -- places of names
-place-space : (down : Bool) (o : Option Slot) → (place_of down o).space ≡ (slot_or o).space
+pub place-space : (down : Bool) (o : Option Slot) → (place_of down o).space ≡ (slot_or o).space
 place-space down None = refl
 place-space down (Some x) = refl
 
@@ -175,7 +175,7 @@ kind-used : (down : Bool) (k : Kind) (s : Sub) → same_sub (kind_sub down k) s 
 kind-used down Word s e = or_left (same_sub (kind_sub down Word) s) (same_sub Zero s) e
 kind-used down Bit s e = or_right (same_sub (kind_sub down Word) s) (same_sub Zero s) e
 
-place-used : (down : Bool) (o : Option Slot) (s : Sub) → same_sub (place_of down o).sub s ≡ true
+pub place-used : (down : Bool) (o : Option Slot) (s : Sub) → same_sub (place_of down o).sub s ≡ true
     → uses down s ≡ true
 place-used down None s e = or_right (same_sub (kind_sub down Word) s) (same_sub Zero s) e
 place-used down (Some x) s e = kind-used down x.kind s e
@@ -303,7 +303,7 @@ kind-stands false Word = refl
 kind-stands true Bit = refl
 kind-stands false Bit = refl
 
-place-stands : (down : Bool) (o : Option Slot) → may_stand true false (place_of down o).sub ≡ true
+pub place-stands : (down : Bool) (o : Option Slot) → may_stand true false (place_of down o).sub ≡ true
 place-stands down None = refl
 place-stands down (Some x) = kind-stands down x.kind
 
@@ -372,10 +372,10 @@ spot-space n ScratchBit w v = refl
 spot-space n ScratchWord w v = refl
 spot-space n Cells w v = refl
 
-own-spot : (n : ℕ) (s : Space) (w v : ℕ) → IsOwn s → IsOwn (spot_in n s w v).space
+pub own-spot : (n : ℕ) (s : Space) (w v : ℕ) → IsOwn s → IsOwn (spot_in n s w v).space
 own-spot n s w v own = subst IsOwn (sym (spot-space n s w v)) own
 
-body-round : {slots : Slots} {fb fw : ℕ} {b : Block} {body : Body} → Given slots fb fw b
+pub body-round : {slots : Slots} {fb fw : ℕ} {b : Block} {body : Body} → Given slots fb fw b
     → IsBlockBody slots b body → (n i : ℕ) → i < n
     → IsRound (IsStatementRow slots fb fw (Visit b) n) n (round_at body i 0)
 body-round {slots = slots} {fb = fb} {fw = fw} {b = b} {body = body} g is n i lt =
@@ -459,7 +459,7 @@ start-round g n lt s e = record {
   once = λ j k l lj lk ll h m. absurd (omega arith);
 }
 
-rounds-all : (P : RoundOf Body → Type 0) (body : Body) (n count i : ℕ) → i + count ≡ n
+pub rounds-all : (P : RoundOf Body → Type 0) (body : Body) (n count i : ℕ) → i + count ≡ n
     → ((j : ℕ) → j < n → P (round_at body j 0))
     → AllByRecursion P (rounds (λ j. one_round body j 0) i count)
 rounds-all P body n zero i e h = tt

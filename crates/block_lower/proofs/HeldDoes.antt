@@ -174,7 +174,7 @@ module _ {slots : Slots} {fb fw : ℕ} {b : Block} (g : Given slots fb fw b) (ws
   abbrev pub hs : List Home
   hs = homes slots b.down b.states ws
 
-  abbrev state_at : ℕ → List ℕ
+  abbrev pub state_at : ℕ → List ℕ
   state_at k = name_at (names_of b.states) k
 
   pub long : length hs ≡ length b.states
@@ -183,14 +183,14 @@ module _ {slots : Slots} {fb fw : ℕ} {b : Block} (g : Given slots fb fw b) (ws
   names-long : length (names_of b.states) ≡ length b.states
   names-long = length-map b.states (λ (s : State). s.name)
 
-  state-is : (k : ℕ) → k < length b.states → is_among (state_names b) (state_at k) ≡ true
+  pub state-is : (k : ℕ) → k < length b.states → is_among (state_names b) (state_at k) ≡ true
   state-is k l = among-at (names_of b.states) k (omega (arith, l, names-long))
 
-  state-named : (k : ℕ) → k < length b.states
+  pub state-named : (k : ℕ) → k < length b.states
       → is_among (statement_names (Visit b)) (state_at k) ≡ true
   state-named k l = written-named b (state_at k) (state-written b (state_at k) (state-is k l))
 
-  home-row : (n : ℕ) (k : ℕ) → k < length b.states
+  pub home-row : (n : ℕ) (k : ℕ) → k < length b.states
       → home_spot n (nth_home hs k) ≡ named_row n slots (position b.down n 0) (state_at k)
   home-row n k l = ap (spot_at n 0 0) (home-place slots b.down b.states ws are.many k l)
       ∙ place-row n 0 b.down (slots (state_at k))
@@ -270,7 +270,7 @@ module _ {slots : Slots} {fb fw : ℕ} {b : Block} (g : Given slots fb fw b) (ws
     held-write cmds n i lt j l = ap (spot_at n i 0) (nth_map (held_place hs) body.writes j l)
         ∙ held_spot n i hs (nth_place body.writes j) (write-told n i lt j l)
 
-    read-rows : (n i k : ℕ) → k < length body.reads
+    pub read-rows : (n i k : ℕ) → k < length body.reads
         → is_state (nth_spot n i 0 body.reads k).space ≡ false
     read-rows n i k l =
         let longer = reads-long is in
@@ -278,7 +278,7 @@ module _ {slots : Slots} {fb fw : ℕ} {b : Block} (g : Given slots fb fw b) (ws
         spot-row n i (nth_place body.reads k) (ap (λ (p : Place). is_state p.space)
         (read-place is k m) ∙ name-row g b.down (name_at (block_inputs b) k) (input-at b k m))
 
-    write-rows : (n i j : ℕ) → j < length body.writes
+    pub write-rows : (n i j : ℕ) → j < length body.writes
         → is_state (nth_spot n i 0 body.writes j).space ≡ false
     write-rows n i j l =
         let m : j < length b.assigns = let w = writes-long is in omega (arith, l, w) in
@@ -286,7 +286,7 @@ module _ {slots : Slots} {fb fw : ℕ} {b : Block} (g : Given slots fb fw b) (ws
         (write-place is j m) ∙ name-row g b.down (name_at (targets_of b.assigns) j)
         (target-named b j m))
 
-    wide : length body.outs ≡ length body.writes
+    pub wide : length body.outs ≡ length body.writes
     wide = let w = writes-long is in is.as_many ∙ sym w
 
     pub held-once : (cmds : List BodyCmd) (n i : ℕ) → i < n → (a c : ℕ) → a < length body.writes

@@ -18,3 +18,5 @@ mod Whole
 mod HeldLoop
 mod Moved
 mod HeldDoes
+mod HeldCompile
+mod HeldWhole

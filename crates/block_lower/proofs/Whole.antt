@@ -22,7 +22,7 @@ use Rattle.block_lower.proofs.Ends.{are-read, holds-all}
 use Rattle.block_lower.proofs.Costs.{within-ceiling, program-cost, program-plain}
 use Rattle.block_lower.proofs.Compile.{can-compile, are-well}
 
-after-all : (slots : Slots) (b : Block) (body : Body) (n : ℕ) (bits : Spots)
+pub after-all : (slots : Slots) (b : Block) (body : Body) (n : ℕ) (bits : Spots)
     → after_rounds n (all_rounds n (map (start slots b.down) b.states ++ Along body ∷ [])) bits
     ≡ after_rounds n (rounds (λ j. one_round body j 0) 0 n) (started n slots b.down b.states bits)
 after-all slots b body n bits =
@@ -30,7 +30,7 @@ after-all slots b body n bits =
     ∙ ap (λ rs. after_rounds n rs (started n slots b.down b.states bits))
     (append-nil (rounds (λ j. one_round body j 0) 0 n))
 
-block-gives : {slots : Slots} {fb fw : ℕ} {b : Block} {body : Body} → Given slots fb fw b
+pub block-gives : {slots : Slots} {fb fw : ℕ} {b : Block} {body : Body} → Given slots fb fw b
     → IsBlockBody slots b body → (n : ℕ) → 0 < n → (held : List ℕ → NameValue) (bits : Spots)
     → ((x : List ℕ) → is_among (read_names (Visit b)) x ≡ true → Holds n slots held bits x)
     → (x : List ℕ) → is_among (written_names (Visit b)) x ≡ true
@@ -48,7 +48,7 @@ block-gives {slots = slots} {b = b} {body = body} g is n lt held bits all x e =
     (after_rounds n (rounds (λ j. one_round body j 0) 0 n)
     (started n slots b.down b.states bits)) x) (sym (positions-are b.down n)) h)
 
-block-keeps : {slots : Slots} {fb fw : ℕ} {b : Block} {body : Body} → Given slots fb fw b
+pub block-keeps : {slots : Slots} {fb fw : ℕ} {b : Block} {body : Body} → Given slots fb fw b
     → IsBlockBody slots b body → (n : ℕ) → 0 < n → (bits : Spots) (q : Spot)
     → (IsRowOf n slots (written_names (Visit b)) q → ⊥)
     → after_rounds n (all_rounds n (map (start slots b.down) b.states ++ Along body ∷ [])) bits q
