@@ -24,7 +24,7 @@ use Rattle.loop_ir.specs.Lowered.{slot_spot, slot_bits, op_plain_ceiling}
 use Rattle.loop_laws.specs.Rooms.{steps_fit, placed_steps}
 use Rattle.loop_laws.specs.Forms.{is_short, keeps_states}
 use Rattle.loop_laws.proofs.Summed.{steps_sum, sum_is}
-use Rattle.loop_laws.proofs.Costing.{rounds-plain}
+use Rattle.loop_laws.proofs.EachRound.{placed-plain}
 use Rattle.word_lower.specs.Places.{scratch_from, rooms_of}
 use Rattle.word_lower.specs.Programs.{program, is_linear}
 use Rattle.word_lower.specs.Shapes.{owners_of, program_on}
@@ -202,7 +202,7 @@ computed p k t args free fit same short states plain cheap =
         let e = sum_is turn_cost n (placed_steps [] (program p k)) in let c = h n some in
         omega (arith, e, c)
     kept n some f (inr same) =
-        let r = rounds-plain (all_rounds n (placed_steps [] (program p k))) in
+        let r = placed-plain [] (program p k) n in
         let s = same (slots_width n args) in omega (arith, r, f, s)
 
 computes : (c : Kind) (p : WordOp) (t : Slot) (f : ℕ → Slot) (free : ℕ) → ComputesIn p c t f free
