@@ -14,7 +14,7 @@ use Rattle.loop_ir.specs.Plain.StepOf.{Single, Along, Nest}
 use Rattle.loop_laws.specs.Rooms as rooms
 use Rattle.loop_laws.specs.Rooms.{Mark, Marked, InRoom, InCells}
 use Rattle.word_lower.specs.Programs.{plain, complemented, off, up, template, constant, moved}
-use Rattle.word_lower.specs.Programs.{inverted, joined, without, compared}
+use Rattle.word_lower.specs.Programs.{inverted, joined, compared}
 use Rattle.word_mul.specs.declared.shapes.Owner.{Owner}
 use Rattle.word_mul.specs.declared.shapes.Owner.TheVariants.{Target, First, Second, ScratchBit}
 use Rattle.word_mul.specs.declared.shapes.Owner.TheVariants.{SecondBit, ScratchWord, SecondWord}
@@ -29,6 +29,11 @@ use Rattle.word_mul.specs.declared.shapes.NestPart.TheVariants.{Once, Each}
 use Rattle.word_mul.specs.declared.shapes.Gathering.{Gathering}
 use Rattle.word_mul.specs.declared.shapes.NestedProgram.{NestedProgram}
 use Rattle.word_mul.specs.declared.table.TheConstants.{NESTED}
+
+-- x and not y
+abbrev pub without : Mark → Mark → Mark → Marked
+without x y z = template (x ∷ y ∷ []) (node_of off (plain 1) (complemented 2) ∷ [])
+    (plain 3 ∷ []) (z ∷ [])
 
 -- y, a where b is not set, and a carry, into y
 abbrev pub multiplied_nodes : List Node
