@@ -85,7 +85,7 @@ is_start b = (length b.graph.nodes == 0) && ((length (row_outs b.writes b.outs) 
 
 -- a constant comes into all its cells with one command; what is read takes one for each state
 abbrev pub start_cost : Block → ℕ
-start_cost b = if length b.reads == 0 then 1 else length b.outs
+start_cost b = if b.graph.inputs == 0 then 1 else length b.outs
 
 -- the same where no body has a sequence of its own: four commands for a node and three for an
 -- output that is a row

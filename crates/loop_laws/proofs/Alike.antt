@@ -265,14 +265,9 @@ module _ (rooms : List Room) (rows : HaveRows rooms) where
       let c = placed_body [] b in
       ap (λ outs. cond (is_copy c) 1 (cond ((length c.graph.nodes == 0) && ((length outs == 0)
       && nat_lt 0 (length c.outs)))
-      (cond (length (map (placed rooms) b.reads) == 0) 1 (length c.outs))
+      (cond (c.graph.inputs == 0) 1 (length c.outs))
       (4 * length c.graph.nodes + 3 * length outs)))
       (outs_like b.writes b.outs)
-      ∙ ap (λ reads. cond (is_copy c) 1 (cond ((length c.graph.nodes == 0)
-      && ((length (row_outs c.writes c.outs) == 0) && nat_lt 0 (length c.outs)))
-      (cond (reads == 0) 1 (length c.outs))
-      (4 * length c.graph.nodes + 3 * length (row_outs c.writes c.outs))))
-      (length-map b.reads (placed rooms) ∙ sym (length-map b.reads (placed [])))
 
 -- a count of each body that is the same wherever the rows lie is the same of all steps
 module _ (f : Block → ℕ) (rooms : List Room)

@@ -15,7 +15,7 @@ use Rattle.row_alloc.specs.HeldBodies.{OnesInT2AndT3, ZeroInT3AndDcc1, ZeroInTur
 use Rattle.row_alloc.specs.HeldBodies.{HeldCompared, HeldOrdered, HeldLessened, HeldNegatedIf}
 use Rattle.row_alloc.specs.HeldBodies.{BothInT2, EitherInT2, MajorityInT1, KeptForPair, PairUnlike}
 use Rattle.row_alloc.specs.HeldBodies.{BothAtLast, EitherAtLast, MajorityAtLast, PairUnlikeAtLast}
-use Rattle.row_alloc.specs.HeldBodies.{UnlikeAtLast}
+use Rattle.row_alloc.specs.HeldBodies.{UnlikeAtLast, NotInT1AndDcc0, BothFromT1, MajorityFromDcc0}
 use Rattle.row_alloc.specs.HeldBodies.{HeldMultiplied, HeldDivided, HeldAgreed}
 use Rattle.row_alloc.specs.HeldBodies.{held_inputs, held_nodes, held_outs, enter_in, leave_in}
 use Rattle.row_alloc.specs.HeldBodies.{held_at, held_sequence_for}
@@ -117,18 +117,6 @@ fewer-held (p ∷ ps) (l ∷ ls) = by (is_state p.space) (leaves ps ls) (fewer-h
     by true xs h = omega (arith, h)
     by false xs h = omega (arith, h)
 
-fewer-entries : (k : ℕ) (ps : List Place) → length (enters k ps) ≤ length ps
-fewer-entries k [] = omega arith
-fewer-entries k (p ∷ ps) = by (is_state p.space) (enters (k + 1) ps) (fewer-entries (k + 1) ps)
-  where
-    by : (b : Bool) (xs : List Held) → length xs ≤ length ps
-        → length (cond b (record {
-          lit = record { node = k + 1; inverted = false };
-          layout = p.which;
-        } ∷ xs) xs) ≤ suc (length ps)
-    by true xs h = omega (arith, h)
-    by false xs h = omega (arith, h)
-
 helds-long : (xs ys : List Held) → same_helds xs ys ≡ true → length xs ≡ length ys
 helds-long [] [] h = refl
 helds-long [] (y ∷ ys) h = absurd cc
@@ -138,27 +126,27 @@ helds-long (x ∷ xs) (y ∷ ys) h = let e = helds-long xs ys
 
 -- what a body with so many nodes and outputs may take where it has no sequence of its own
 abbrev shape-cost : Bool → ℕ → ℕ → ℕ → ℕ → ℕ
-shape-cost copy nodes outs all reads = cond copy 1 (cond ((nodes == 0) && ((outs == 0)
-    && nat_lt 0 all)) (cond (reads == 0) 1 all) (4 * nodes + 3 * outs))
+shape-cost copy nodes outs all inputs = cond copy 1 (cond ((nodes == 0) && ((outs == 0)
+    && nat_lt 0 all)) (cond (inputs == 0) 1 all) (4 * nodes + 3 * outs))
 
 and-false : (b : Bool) → (b && false) ≡ false
 and-false true = refl
 and-false false = refl
 
 -- what has no node, and leaves its outputs in cells
-cells-cost : (nodes outs all reads : ℕ) → nodes ≡ 0 → outs ≡ 0 → 0 < all
-    → shape-cost false nodes outs all reads ≡ cond (reads == 0) 1 all
-cells-cost nodes outs all reads n o some =
-    ap (λ x. shape-cost false x outs all reads) n ∙ ap (λ x. shape-cost false 0 x all reads) o
-    ∙ ap (λ b. cond b (cond (reads == 0) 1 all) 0) (lt-ltb 0 all some)
+cells-cost : (nodes outs all inputs : ℕ) → nodes ≡ 0 → outs ≡ 0 → 0 < all
+    → shape-cost false nodes outs all inputs ≡ cond (inputs == 0) 1 all
+cells-cost nodes outs all inputs n o some =
+    ap (λ x. shape-cost false x outs all inputs) n ∙ ap (λ x. shape-cost false 0 x all inputs) o
+    ∙ ap (λ b. cond b (cond (inputs == 0) 1 all) 0) (lt-ltb 0 all some)
 
 -- a start takes one command
-start-most : (copy : Bool) (nodes outs all reads : ℕ) → nodes ≡ 0 → outs ≡ 0 → 0 < all
-    → 1 ≤ shape-cost copy nodes outs all reads
-start-most true nodes outs all reads n o some = omega arith
-start-most false nodes outs all reads n o some =
-    let e = cells-cost nodes outs all reads n o some in
-    let l = at-least (reads == 0) in
+start-most : (copy : Bool) (nodes outs all inputs : ℕ) → nodes ≡ 0 → outs ≡ 0 → 0 < all
+    → 1 ≤ shape-cost copy nodes outs all inputs
+start-most true nodes outs all inputs n o some = omega arith
+start-most false nodes outs all inputs n o some =
+    let e = cells-cost nodes outs all inputs n o some in
+    let l = at-least (inputs == 0) in
     omega (arith, e, l)
   where
     at-least : (b : Bool) → 1 ≤ cond b 1 all
@@ -166,27 +154,27 @@ start-most false nodes outs all reads n o some =
     at-least false = omega (arith, some)
 
 -- what is kept takes a command for each state
-kept-most : (copy : Bool) (nodes outs all reads : ℕ) → (copy ≡ true → all ≡ 1) → nodes ≡ 0
-    → outs ≡ 0 → 2 ≤ all → 0 < reads → 2 ≤ shape-cost copy nodes outs all reads
-kept-most true nodes outs all reads one n o two some = absurd (omega (arith, one refl, two))
-kept-most false nodes outs all reads one n o two some =
-    let e = cells-cost nodes outs all reads n o (omega (arith, two)) in
-    let f = ap (λ b. cond b 1 all) (ne_eqb reads 0 (λ g. absurd (omega (arith, g, some)))) in
+kept-most : (copy : Bool) (nodes outs all inputs : ℕ) → (copy ≡ true → all ≡ 1) → nodes ≡ 0
+    → outs ≡ 0 → 2 ≤ all → 0 < inputs → 2 ≤ shape-cost copy nodes outs all inputs
+kept-most true nodes outs all inputs one n o two some = absurd (omega (arith, one refl, two))
+kept-most false nodes outs all inputs one n o two some =
+    let e = cells-cost nodes outs all inputs n o (omega (arith, two)) in
+    let f = ap (λ b. cond b 1 all) (ne_eqb inputs 0 (λ g. absurd (omega (arith, g, some)))) in
     omega (arith, e, f, two)
 
-round-most : (copy : Bool) (nodes outs all reads k : ℕ) → (copy ≡ true → nodes ≡ 0) → 0 < nodes
-    → k ≤ 4 * nodes + 3 * outs → k ≤ shape-cost copy nodes outs all reads
-round-most true nodes outs all reads k none some le = absurd (omega (arith, none refl, some))
-round-most false nodes outs all reads k none some le =
-    let e : shape-cost false nodes outs all reads ≡ 4 * nodes + 3 * outs =
-    ap (λ b. cond (b && ((outs == 0) && nat_lt 0 all)) (cond (reads == 0) 1 all)
+round-most : (copy : Bool) (nodes outs all inputs k : ℕ) → (copy ≡ true → nodes ≡ 0) → 0 < nodes
+    → k ≤ 4 * nodes + 3 * outs → k ≤ shape-cost copy nodes outs all inputs
+round-most true nodes outs all inputs k none some le = absurd (omega (arith, none refl, some))
+round-most false nodes outs all inputs k none some le =
+    let e : shape-cost false nodes outs all inputs ≡ 4 * nodes + 3 * outs =
+    ap (λ b. cond (b && ((outs == 0) && nat_lt 0 all)) (cond (inputs == 0) 1 all)
     (4 * nodes + 3 * outs)) (ne_eqb nodes 0 (λ e. absurd (omega (arith, e, some)))) in
     omega (arith, e, le)
 
-sequence-most : (h : HeldBody) (copy : Bool) (nodes outs all reads : ℕ)
+sequence-most : (h : HeldBody) (copy : Bool) (nodes outs all inputs : ℕ)
     → (copy ≡ true → nodes ≡ 0) → (copy ≡ true → all ≡ 1) → nodes ≡ length (held_nodes h)
-    → outs ≡ length (held_outs h) → length (leave_in h) ≤ all → length (enter_in h) ≤ reads
-    → length (held_at (held_sequence_for h)) ≤ shape-cost copy nodes outs all reads
+    → outs ≡ length (held_outs h) → length (leave_in h) ≤ all → inputs ≡ held_inputs h
+    → length (held_at (held_sequence_for h)) ≤ shape-cost copy nodes outs all inputs
 sequence-most ZeroInT0 c n o a r hc ha en eo la lr = start-most c n o a r en eo
     (omega (arith, la))
 sequence-most OneInT0 c n o a r hc ha en eo la lr = start-most c n o a r en eo
@@ -220,6 +208,12 @@ sequence-most BothInT2 c n o a r hc ha en eo la lr = round-most c n o a r 3 hc
 sequence-most EitherInT2 c n o a r hc ha en eo la lr = round-most c n o a r 3 hc
     (omega (arith, en)) (omega (arith, en, eo))
 sequence-most MajorityInT1 c n o a r hc ha en eo la lr = round-most c n o a r 2 hc
+    (omega (arith, en)) (omega (arith, en, eo))
+sequence-most NotInT1AndDcc0 c n o a r hc ha en eo la lr = kept-most c n o a r ha en eo
+    (omega (arith, la)) (omega (arith, lr))
+sequence-most BothFromT1 c n o a r hc ha en eo la lr = round-most c n o a r 3 hc
+    (omega (arith, en)) (omega (arith, en, eo))
+sequence-most MajorityFromDcc0 c n o a r hc ha en eo la lr = round-most c n o a r 3 hc
     (omega (arith, en)) (omega (arith, en, eo))
 sequence-most KeptForPair c n o a r hc ha en eo la lr = kept-most c n o a r ha en eo
     (omega (arith, la)) (omega (arith, lr))
@@ -270,12 +264,10 @@ held-most b (Some h) is =
     let s = and_parts (same_helds (enters 0 b.reads) (enter_in h)) _ r.1 in
     let k = helds-long (leaves b.writes b.outs) (leave_in h) s.1 in
     let f = fewer-held b.writes b.outs in
-    let l = helds-long (enters 0 b.reads) (enter_in h) s.0 in
-    let g = fewer-entries 0 b.reads in
     sequence-most h (is_copy b) (length b.graph.nodes) (length (row_outs b.writes b.outs))
-    (length b.outs) (length b.reads) (copy-none b) (copy-one b) (nodes-long b.graph.nodes (held_nodes h) q.0)
+    (length b.outs) b.graph.inputs (copy-none b) (copy-one b) (nodes-long b.graph.nodes (held_nodes h) q.0)
     (lits-long (row_outs b.writes b.outs) (held_outs h) r.0) (omega (arith, k, f))
-    (omega (arith, l, g))
+    (eqb-true b.graph.inputs (held_inputs h) p.0)
 
 never : (n : Bool) (k : ℕ) → (n && ((k == 0) && nat_lt 0 k)) ≡ false
 never n zero = and-false n
@@ -291,7 +283,7 @@ pub rowed-plain : (b : Block) → has_states b ≡ false
     → plain_cost b ≡ cond (is_copy b) 1 (body_cost b)
 rowed-plain b has =
     ap (λ (x : List Lit). shape-cost (is_copy b) (length b.graph.nodes) (length x) (length b.outs)
-    (length b.reads)) (no-row-outs b.reads b.writes b.outs has)
+    b.graph.inputs) (no-row-outs b.reads b.writes b.outs has)
     ∙ ap (λ c. cond (is_copy b) 1 (cond c (start_cost b) (body_cost b)))
     (never (length b.graph.nodes == 0) (length b.outs))
 
@@ -338,7 +330,7 @@ plain-most b = at-most (is_copy b) 1 _ (body_cost b) (λ e. omega (arith, copy-l
     (at-most (is_start b) (start_cost b)
     (4 * length b.graph.nodes + 3 * length (row_outs b.writes b.outs)) (body_cost b)
     (λ e. let s = some-outs b e in
-    at-most (length b.reads == 0) 1 (length b.outs) (body_cost b) (λ f. omega (arith, s))
+    at-most (b.graph.inputs == 0) 1 (length b.outs) (body_cost b) (λ f. omega (arith, s))
     (omega arith)) (omega (arith, fewer-outs b.writes b.outs)))
 
 -- and no more with its own sequence

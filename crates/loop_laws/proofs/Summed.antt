@@ -160,12 +160,12 @@ module _ (f : Block → ℕ) where
       let g = ap (turns_sum f t) one in
       omega (arith, e, g)
 
--- no body that takes turns counts more than so many
-pub turns_most : (f : Block → ℕ) (c : ℕ) (t : TurnsOf Block) → f t.even ≤ c → f t.odd ≤ c
-    → f t.last_even ≤ c → f t.last_odd ≤ c → (count : ℕ) → turns_sum f t count ≤ (count + 1) * c
-turns_most f c t e o le lo zero = omega (arith, le)
-turns_most f c t e o le lo (suc count) =
-    let h = turns_most f c (next_turn t) o e lo le count in omega (arith, h, e)
+-- what each body counts at most, and each at the top position
+pub turns_most : (f : Block → ℕ) (c d : ℕ) (t : TurnsOf Block) → f t.even ≤ c → f t.odd ≤ c
+    → f t.last_even ≤ d → f t.last_odd ≤ d → (count : ℕ) → turns_sum f t count ≤ count * c + d
+turns_most f c d t e o le lo zero = omega (arith, le)
+turns_most f c d t e o le lo (suc count) =
+    let h = turns_most f c d (next_turn t) o e lo le count in omega (arith, h, e)
 
 -- of two counts of which one is nowhere greater
 pub sum_most : (f g : Block → ℕ) (P : Block → Type 0) → ((b : Block) → P b → f b ≤ g b)

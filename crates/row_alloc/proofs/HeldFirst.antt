@@ -25,7 +25,7 @@ use Rattle.row_alloc.specs.HeldBodies.{ZeroInT3AndDcc1, ZeroInTurnedT3AndDcc1}
 use Rattle.row_alloc.specs.HeldBodies.{HeldCompared, HeldOrdered}
 use Rattle.row_alloc.specs.HeldBodies.{BothInT2, EitherInT2, MajorityInT1, KeptForPair, PairUnlike}
 use Rattle.row_alloc.specs.HeldBodies.{BothAtLast, EitherAtLast, MajorityAtLast, PairUnlikeAtLast}
-use Rattle.row_alloc.specs.HeldBodies.{UnlikeAtLast}
+use Rattle.row_alloc.specs.HeldBodies.{UnlikeAtLast, NotInT1AndDcc0, BothFromT1, MajorityFromDcc0}
 use Rattle.row_alloc.specs.HeldBodies.{HeldLessened, HeldNegatedIf, HeldMultiplied, HeldDivided}
 use Rattle.row_alloc.specs.HeldBodies.{HeldAgreed, held_graph, held_outs, enter_in, leave_in}
 use Rattle.row_alloc.specs.HeldBodies.{held_sequence_for}
@@ -269,7 +269,10 @@ have_first MajorityAtLast = one MajorityAtLast _ nowhere refl refl (omega arith)
     (λ outs late. refl)
 have_first PairUnlikeAtLast = one PairUnlikeAtLast _ nowhere refl refl (omega arith)
     (λ outs late. refl)
-have_first UnlikeAtLast = one UnlikeAtLast _ nowhere refl refl (omega arith)
+have_first UnlikeAtLast = one UnlikeAtLast _ nowhere refl refl (omega arith) (λ outs late. refl)
+have_first NotInT1AndDcc0 = none NotInT1AndDcc0 refl refl (omega arith)
+have_first BothFromT1 = one BothFromT1 _ nowhere refl refl (omega arith) (λ outs late. refl)
+have_first MajorityFromDcc0 = one MajorityFromDcc0 _ nowhere refl refl (omega arith)
     (λ outs late. refl)
 
 pub held_first : (g : Graph) (outs : List OutRow) (enter leave : List Held) (b : HeldBody)

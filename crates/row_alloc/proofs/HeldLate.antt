@@ -9,7 +9,7 @@ use Rattle.row_alloc.specs.HeldBodies.{ZeroInT3AndDcc1, ZeroInTurnedT3AndDcc1}
 use Rattle.row_alloc.specs.HeldBodies.{HeldCompared, HeldOrdered}
 use Rattle.row_alloc.specs.HeldBodies.{BothInT2, EitherInT2, MajorityInT1, KeptForPair, PairUnlike}
 use Rattle.row_alloc.specs.HeldBodies.{BothAtLast, EitherAtLast, MajorityAtLast, PairUnlikeAtLast}
-use Rattle.row_alloc.specs.HeldBodies.{UnlikeAtLast}
+use Rattle.row_alloc.specs.HeldBodies.{UnlikeAtLast, NotInT1AndDcc0, BothFromT1, MajorityFromDcc0}
 use Rattle.row_alloc.specs.HeldBodies.{HeldLessened, HeldNegatedIf, HeldMultiplied, HeldDivided}
 use Rattle.row_alloc.specs.HeldBodies.{HeldAgreed}
 use Rattle.row_alloc.proofs.First.{never, but_one}
@@ -45,3 +45,6 @@ held_late EitherAtLast outs h = never outs (held_at 7) refl
 held_late MajorityAtLast outs h = never outs (held_at 16) refl
 held_late PairUnlikeAtLast outs h = never outs (held_at 20) refl
 held_late UnlikeAtLast outs h = never outs (held_at 10) refl
+held_late NotInT1AndDcc0 outs h = never outs (held_at 21) refl
+held_late BothFromT1 outs h = never outs (held_at 22) refl
+held_late MajorityFromDcc0 outs h = never outs (held_at 23) refl

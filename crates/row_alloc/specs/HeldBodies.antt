@@ -45,7 +45,8 @@ pub record IsFirstHeld (g : Graph) (outs : List OutRow) (enter leave : List Held
 -- comparisons, of a with b and of b with a; the steps of subtraction and of abs, and the inner
 -- steps of mul and div. The end: whether both comparisons hold.
 -- Of two bodies in turn the first joins its element to the state and keeps the constant, or keeps
--- both, and the second joins its own to what was kept. Each has one that ends the loop in a row
+-- both, and the second joins its own to what was kept. Each has one that ends the loop in a row.
+-- Of the last three the first starts a complement in two cells, from which the others join elements
 pub data HeldBody : Type 0 where
   ZeroInT0 : HeldBody
   OneInT0 : HeldBody
@@ -71,6 +72,9 @@ pub data HeldBody : Type 0 where
   MajorityAtLast : HeldBody
   PairUnlikeAtLast : HeldBody
   UnlikeAtLast : HeldBody
+  NotInT1AndDcc0 : HeldBody
+  BothFromT1 : HeldBody
+  MajorityFromDcc0 : HeldBody
 
 -- how many inputs the body's graph has
 abbrev pub held_inputs : HeldBody → ℕ
@@ -98,6 +102,9 @@ held_inputs EitherAtLast = 2
 held_inputs MajorityAtLast = 3
 held_inputs PairUnlikeAtLast = 3
 held_inputs UnlikeAtLast = 2
+held_inputs NotInT1AndDcc0 = 1
+held_inputs BothFromT1 = 3
+held_inputs MajorityFromDcc0 = 3
 
 -- the nodes of its graph
 abbrev pub held_nodes : HeldBody → List Node
@@ -141,6 +148,9 @@ held_nodes PairUnlikeAtLast = node_of (plain 1) (plain 2) (complemented 3)
 held_nodes UnlikeAtLast = node_of (plain 0) (plain 1) (complemented 2)
     ∷ node_of (complemented 0) (plain 2) (plain 3)
     ∷ node_of (complemented 1) (plain 3) (plain 4) ∷ []
+held_nodes NotInT1AndDcc0 = []
+held_nodes BothFromT1 = node_of (plain 0) (plain 1) (plain 2) ∷ []
+held_nodes MajorityFromDcc0 = node_of (plain 1) (plain 2) (plain 3) ∷ []
 
 -- its graph
 abbrev pub held_graph : HeldBody → Graph
@@ -172,6 +182,9 @@ held_outs EitherAtLast = plain 3 ∷ []
 held_outs MajorityAtLast = plain 4 ∷ []
 held_outs PairUnlikeAtLast = plain 6 ∷ []
 held_outs UnlikeAtLast = plain 5 ∷ []
+held_outs NotInT1AndDcc0 = []
+held_outs BothFromT1 = plain 4 ∷ []
+held_outs MajorityFromDcc0 = plain 4 ∷ []
 
 -- the literal in the cells of this layout
 abbrev pub in_layout : ℕ → Lit → Held
@@ -203,6 +216,9 @@ enter_in EitherAtLast = in_layout 1 (plain 2) ∷ []
 enter_in MajorityAtLast = in_layout 2 (plain 2) ∷ in_layout 3 (plain 3) ∷ []
 enter_in PairUnlikeAtLast = in_layout 9 (plain 2) ∷ in_layout 10 (plain 3) ∷ []
 enter_in UnlikeAtLast = in_layout 4 (plain 2) ∷ []
+enter_in NotInT1AndDcc0 = []
+enter_in BothFromT1 = in_layout 1 (plain 2) ∷ in_layout 11 (plain 3) ∷ []
+enter_in MajorityFromDcc0 = in_layout 11 (plain 2) ∷ in_layout 3 (plain 3) ∷ []
 
 -- the states that it leaves in cells
 abbrev pub leave_in : HeldBody → List Held
@@ -230,6 +246,9 @@ leave_in EitherAtLast = []
 leave_in MajorityAtLast = []
 leave_in PairUnlikeAtLast = []
 leave_in UnlikeAtLast = []
+leave_in NotInT1AndDcc0 = in_layout 1 (complemented 1) ∷ in_layout 11 (complemented 1) ∷ []
+leave_in BothFromT1 = in_layout 11 (plain 3) ∷ in_layout 3 (plain 0) ∷ []
+leave_in MajorityFromDcc0 = in_layout 1 (plain 2) ∷ in_layout 11 (plain 2) ∷ []
 
 -- the number of its sequence in the table
 abbrev pub held_sequence_for : HeldBody → ℕ
@@ -257,3 +276,6 @@ held_sequence_for EitherAtLast = 7
 held_sequence_for MajorityAtLast = 16
 held_sequence_for PairUnlikeAtLast = 20
 held_sequence_for UnlikeAtLast = 10
+held_sequence_for NotInT1AndDcc0 = 21
+held_sequence_for BothFromT1 = 22
+held_sequence_for MajorityFromDcc0 = 23

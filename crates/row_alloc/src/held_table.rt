@@ -20,7 +20,7 @@ use mig_graph::Mig;
 
 /// All of them: of the bodies that a loop has alone the shorter ones first, and then so of those that
 /// stand in it by turns.
-pub static HELD: [&[BodyCmd]; 21] = [
+pub static HELD: [&[BodyCmd]; 24] = [
     // 0 in T0, T3 and DCC1
     &[Aap(C(0), B(15))],
     // 1 in T0, T3 and DCC1
@@ -114,6 +114,12 @@ pub static HELD: [&[BodyCmd]; 21] = [
         Aap(B(15), B(1)),
         Aap(B(14), Out(0)),
     ],
+    // not a, in T1 and DCC0
+    &[Aap(In(0), B(8)), Aap(B(4), B(1))],
+    // a and T1, and 0 in T3
+    &[Aap(C(0), B(11)), Aap(In(0), B(2)), Aap(B(12), Out(0))],
+    // the majority of a, DCC0 and T3, and DCC0 in T1 too
+    &[Aap(In(0), B(6)), Aap(B(4), B(12)), Aap(B(15), Out(0))],
 ];
 
 /// Whether the commands may stand for the body with its states in these cells.

@@ -47,8 +47,10 @@ static T0_NOT_DCC0: [Line; 2] = [straight!(Cell::T(0)), turned!(Cell::Dcc(0))];
 
 static T3_NOT_T2: [Line; 2] = [straight!(Cell::T(3)), turned!(Cell::T(2))];
 
+static DCC0: [Line; 1] = [straight!(Cell::Dcc(0))];
+
 /// How many layouts there are.
-pub const LAYOUT_COUNT: u8 = 11;
+pub const LAYOUT_COUNT: u8 = 12;
 
 /// The wordlines that read a state in the layout of this number.
 pub fn layout(k: u8) -> &'static [Line]
@@ -67,6 +69,7 @@ pub fn layout(k: u8) -> &'static [Line]
         7 => &T3_DCC0_TURNED,
         8 => &T0_T1,
         9 => &T0_NOT_DCC0,
-        _ => &T3_NOT_T2,
+        10 => &T3_NOT_T2,
+        _ => &DCC0,
     }
 }

@@ -4,7 +4,7 @@
 use crate::body::BodyRef::{self, B, C, In, Out, Spill};
 use crate::body::{Held, OutRow};
 use crate::cells::{Cells, Short, has_node, holders, reader};
-use crate::layout::layout;
+use crate::layout::{LAYOUT_COUNT, layout};
 use crate::set::Set;
 use dram_model::{Cell, Line};
 use faults::keep;
@@ -166,7 +166,7 @@ fn taken_by(cells: &Cells, line: Line, l: Short) -> Cells {
 fn cells_of(held: &[Held]) -> Cells {
     let mut cells = Cells::unknown();
     for h in held {
-        if h.layout < 10 {
+        if h.layout < LAYOUT_COUNT {
             for line in layout(h.layout) {
                 cells = taken_by(&cells, *line, Short::of(h.lit));
             }

@@ -8,6 +8,7 @@ use Rattle.mig_graph.specs.declared.Lit.{Lit}
 use Rattle.mig_graph.specs.declared.Node.{Node}
 use Rattle.mig_graph.specs.Graph.{Graph, IsGraph}
 use Rattle.mig_graph.specs.Outputs.{lit_at}
+use Rattle.row_alloc.specs.declared.body.BodyCmd.{BodyCmd}
 use Rattle.loop_ir.specs.declared.ir.Place.{Place}
 use Rattle.loop_ir.specs.Plain.{Block}
 use Rattle.loop_laws.specs.Forms.{IsMade}
@@ -34,37 +35,38 @@ twice_mapped o [] = refl
 twice_mapped o (m ∷ ms) = ap (λ ps. place_on o (mark_of m) ∷ ps) (twice_mapped o ms)
 
 -- a body put together
-abbrev pub block_of_parts : List Place → Graph → List Lit → List Place → Block
-block_of_parts reads g outs writes = record {
+abbrev pub block_of_parts : List Place → Graph → List Lit → List Place → List BodyCmd → Block
+block_of_parts reads g outs writes found = record {
   reads = reads;
   graph = g;
   outs = outs;
   writes = writes;
+  found = found;
 }
 
 -- bodies of equal parts are one
-pub block_eq : (reads writes rp wp : List Place) (g h : Graph) (outs lits : List Lit) → rp ≡ reads
-    → wp ≡ writes → g ≡ h → lits ≡ outs → block_of_parts rp g lits wp ≡ block_of_parts reads h outs
-    writes
-block_eq reads writes rp wp g h outs lits er ew eg el = rw (er, ew, eg, el) refl
+pub block_eq : (reads writes rp wp : List Place) (g h : Graph) (outs lits : List Lit)
+    (cmds : List BodyCmd) → rp ≡ reads → wp ≡ writes → g ≡ h → lits ≡ outs → cmds ≡ []
+    → block_of_parts rp g lits wp cmds ≡ block_of_parts reads h outs writes []
+block_eq reads writes rp wp g h outs lits cmds er ew eg el ec = rw (er, ew, eg, el, ec) refl
 
 pub template_same : (o : Owners) (reads writes : List Mark) (nodes : List Node) (outs : List Lit)
-    (rp wp : List Place) (g : Graph) (lits : List Lit)
+    (rp wp : List Place) (g : Graph) (lits : List Lit) (cmds : List BodyCmd)
     → rp ≡ map (λ m. place_on o (mark_of m)) reads → wp ≡ map (λ m. place_on o (mark_of m)) writes
     → g ≡ record { inputs = length reads; nodes = nodes } → lits ≡ outs
-    → block_of_parts rp g lits wp ≡ body_on o (template (marks reads) nodes outs (marks writes))
-template_same o reads writes nodes outs rp wp g lits er ew eg el =
+    → cmds ≡ [] → block_of_parts rp g lits wp cmds ≡ body_on o (template (marks reads) nodes outs (marks writes))
+template_same o reads writes nodes outs rp wp g lits cmds er ew eg el ec =
     let whole = body_on o (template (marks reads) nodes outs (marks writes)) in
     let n : length reads ≡ length (marks reads) = sym (length-map reads mark_of) in
-    block_eq whole.reads whole.writes rp wp g whole.graph outs lits (er ∙ twice_mapped o reads)
-    (ew ∙ twice_mapped o writes) (eg ∙ ap (λ (i : ℕ). record { inputs = i; nodes = nodes }) n) el
+    block_eq whole.reads whole.writes rp wp g whole.graph outs lits cmds (er ∙ twice_mapped o reads)
+    (ew ∙ twice_mapped o writes) (eg ∙ ap (λ (i : ℕ). record { inputs = i; nodes = nodes }) n) el ec
 
 -- its graph is as `Mig` makes them, and its outputs name nodes of it
 pub template_made : (rp wp : List Place) (i : ℕ) (nodes : List Node) (outs : List Lit) (g : Graph)
-    (lits : List Lit) → IsGraph i nodes → ((j : ℕ) → j < length outs
+    (lits : List Lit) (cmds : List BodyCmd) → IsGraph i nodes → ((j : ℕ) → j < length outs
     → (lit_at outs j).node < i + 1 + length nodes) → g ≡ record { inputs = i; nodes = nodes }
-    → lits ≡ outs → IsMade (record { reads = rp; graph = g; outs = lits; writes = wp })
-template_made rp wp i nodes outs g lits graph named eg el = rw (eg, el) record {
+    → lits ≡ outs → IsMade (record { reads = rp; graph = g; outs = lits; writes = wp; found = cmds })
+template_made rp wp i nodes outs g lits cmds graph named eg el = rw (eg, el) record {
   graph = graph;
   named = named;
 }

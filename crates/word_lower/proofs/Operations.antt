@@ -14,25 +14,26 @@ use Rattle.op_text.specs.WordOps.{number as place_of, row_of}
 use Rattle.op_text.specs.Meaning.{width}
 use Rattle.loop_ir.specs.declared.ir.Sub.TheVariants as sub
 use Rattle.loop_ir.specs.Loops.{all_rounds}
+use Rattle.loop_ir.specs.Plain.{turns_map}
 use Rattle.loop_ir.specs.Plain.StepOf.{Single}
 use Rattle.loop_ir.specs.Spots.{Spot, Spots, set_spot, after_rounds}
 use Rattle.loop_laws.specs.Turns.{Origin, Standing, Carried, turn, after_many}
 use Rattle.loop_laws.specs.Rooms.{placed_body}
 use Rattle.loop_laws.proofs.Same.{set_same, set_other}
-use Rattle.loop_laws.proofs.Steps.{steps_each, steps_pairs}
+use Rattle.loop_laws.proofs.Steps.{steps_each, steps_pairs, steps_turns}
 use Rattle.word_lower.specs.Places.{scratch_bit, cells}
 use Rattle.word_lower.specs.Programs.{plain, complemented, off, up}
 use Rattle.word_lower.proofs.Marks.{target, first, second, third, state}
-use Rattle.word_lower.specs.Programs.{constant, moved, inverted, joined, without, unlike, chosen}
-use Rattle.word_lower.specs.Programs.{added, lessened, negated_if, compared, gathered, odd}
+use Rattle.word_lower.specs.Programs.{constant, moved, inverted, joined, unlike, chosen}
+use Rattle.word_lower.specs.Programs.{added, lessened, negated_if, compared}
 use Rattle.word_lower.specs.Programs.{ordered}
 use Rattle.word_lower.specs.Programs.{is_linear, program_at}
 use Rattle.word_lower.proofs.Setting.{bit, number, operation, Slots, rooms_for, steps_for, row}
 use Rattle.word_lower.proofs.Setting.{number_at, AreSlots, Gives, DoesWords, DoesBits}
 use Rattle.word_lower.proofs.Sums.{value_same, value_false, value_pick, compare}
-use Rattle.word_lower.proofs.Sums.{add_gives, sub_gives, shl1_gives, shr1_gives, abs_gives}
+use Rattle.word_lower.proofs.Sums.{xor2, add_gives, sub_gives, shl1_gives, shr1_gives, abs_gives}
 use Rattle.word_lower.proofs.Bitwise.{value_and, value_or, value_xor, value_inverted, value_true}
-use Rattle.word_lower.proofs.Bitwise.{relu_gives, least, greatest, any_gives, all_gives}
+use Rattle.word_lower.proofs.Bitwise.{least, greatest, any_gives, all_gives}
 use Rattle.word_lower.proofs.Bitwise.{parity_gives, at_least}
 use Rattle.word_lower.proofs.Passes.{bit_free, bit_else, cell_else, carry_does, pair_loop, upwards}
 use Rattle.word_lower.proofs.Passes.{set_number}
@@ -41,8 +42,13 @@ use Rattle.word_lower.proofs.Words.{word_does, unlike_bit, chosen_bit, by_bit, a
 use Rattle.word_lower.proofs.Words.{b_read, s_read, choice_does, bit_does}
 use Rattle.word_lower.proofs.Carries.{added_digit, lessened_digit, negated_bit, negated_state}
 use Rattle.word_lower.proofs.Carries.{a_by_carry, top_by_carry, b_by_carry}
-use Rattle.word_lower.proofs.States.{one_bit, held_does, turned_bit, both_least, odd_bit}
+use Rattle.word_lower.proofs.States.{one_bit, held_does, turned_bit, both_least}
 use Rattle.word_lower.proofs.States.{a_by_held, b_by_held}
+use Rattle.word_lower.proofs.ByTurns.{joined_up, turns_does, Parity, Kept, kept_takes, three_takes}
+use Rattle.word_lower.proofs.ByTurns.{odd_closes, three_closes, Alone, Beside, gathered_takes}
+use Rattle.word_lower.proofs.ByTurns.{agreed_takes, joined_closes, agreed_closes, and_turns}
+use Rattle.word_lower.proofs.ByTurns.{or_turns, xor_turns}
+use Rattle.word_lower.proofs.Rectified.{relu_turns, relu_by_turns}
 use Rattle.word_lower.proofs.Filled.{arg_kind, gives_kind}
 
 -- one or two reads that no turn changes, and then what the turn before wrote in this place
@@ -121,16 +127,11 @@ module _ (n : ℕ) (m : Slots) (are : AreSlots n n n 0 m) where
   relu_does : 0 < n → DoesWords op.Relu Word n n 0 m
   unfolding values_from
   relu_does some before =
-      let b = placed_body (rooms_for op.Relu m)
-      (without (first sub.Inner) (first sub.Top) (target sub.Inner)) in
-      let a = λ (i : ℕ). before (row n m.a i) in
-      let e : n ≡ suc (n - 1) = omega arith in
-      subst (Gives op.Relu n n n 0 m before) (sym (steps_each n b [] before))
-      (word_does op.Relu n m are b.reads b.graph.inputs b.graph.nodes (plain 3) (Standing
-      ∷ (Standing ∷ [])) before (a_read n m are, (top_read n m are, tt))
-      (subst (λ k. number (λ i. majority false (a i) (not (a (n - 1)))) k
-      ≡ cond (nat_lt (number a k) (2 ^ (n - 1))) (number a k) 0) (sym e)
-      (relu_gives a (n - 1))))
+      let t = turns_map (placed_body (rooms_for op.Relu m)) relu_turns in
+      let low = not (before (row n m.a (n - 1))) in
+      let start = set_spot (set_spot before (row n (cells 1) 0) low) (row n (cells 11) 0) low in
+      subst (Gives op.Relu n n n 0 m before) (sym (steps_turns n t [] start))
+      (relu_by_turns n some m are before)
 
   if_else_does : DoesWords op.IfElse Word n n 0 m
   unfolding values_from
@@ -410,44 +411,46 @@ module _ (n : ℕ) (m : Slots) (are : AreSlots n 1 n 0 m) (some : 0 < n) where
   and_red_does : DoesWords op.AndRed Bit n 1 0 m
   unfolding values_from
   and_red_does before =
-      let b = placed_body (rooms_for op.AndRed m) (gathered off (first sub.Inner) (state 1) (target sub.Zero)) in
       let p = row n (cells 1) 0 in
       let start = set_spot before p true in
-      let e = λ (i : ℕ). turn n 0 b (after_one 1) start i 1 in
-      let a = λ (i : ℕ). start (row n m.a i) in
-      subst (Gives op.AndRed n 1 n 0 m before) (sym (steps_each n b [] start))
-      (held_does op.AndRed n some m are 1 b.reads b.graph.inputs b.graph.nodes (plain 3) (after_one 1)
-      true before
-      (a_by_held n m are 1, ((omega arith, λ i j li lj. refl), tt))
-      (ap bit (all_gives a e n (set_same before p true p refl) (λ i lt. refl))))
+      let a = λ (i : ℕ). before (row n m.a i) in
+      let t = turns_map (placed_body (rooms_for op.AndRed m)) and_turns in
+      subst (Gives op.AndRed n 1 n 0 m before) (sym (steps_turns n t [] start))
+      (turns_does op.AndRed n some m are (majority false) true before t (Alone n m false)
+      (Beside n m false) (gathered_takes n m false)
+      (agreed_takes n m false) (joined_closes n m false)
+      (agreed_closes n m false) start (set_same before p true p refl)
+      (λ q out. set_other before p true q (out 1))
+      (ap bit (all_gives a (joined_up (majority false) a true) n refl (λ i lt. refl))))
 
   or_red_does : DoesWords op.OrRed Bit n 1 0 m
   unfolding values_from
   or_red_does before =
-      let b = placed_body (rooms_for op.OrRed m) (gathered up (first sub.Inner) (state 1) (target sub.Zero)) in
       let p = row n (cells 1) 0 in
       let start = set_spot before p false in
-      let e = λ (i : ℕ). turn n 0 b (after_one 1) start i 1 in
-      let a = λ (i : ℕ). start (row n m.a i) in
-      subst (Gives op.OrRed n 1 n 0 m before) (sym (steps_each n b [] start))
-      (held_does op.OrRed n some m are 1 b.reads b.graph.inputs b.graph.nodes (plain 3) (after_one 1)
-      false before
-      (a_by_held n m are 1, ((omega arith, λ i j li lj. refl), tt))
-      (ap bit (any_gives a e n (set_same before p false p refl) (λ i lt. refl))))
+      let a = λ (i : ℕ). before (row n m.a i) in
+      let t = turns_map (placed_body (rooms_for op.OrRed m)) or_turns in
+      subst (Gives op.OrRed n 1 n 0 m before) (sym (steps_turns n t [] start))
+      (turns_does op.OrRed n some m are (majority true) false before t (Alone n m true)
+      (Beside n m true) (gathered_takes n m true)
+      (agreed_takes n m true) (joined_closes n m true)
+      (agreed_closes n m true) start (set_same before p false p refl)
+      (λ q out. set_other before p false q (out 1))
+      (ap bit (any_gives a (joined_up (majority true) a false) n refl (λ i lt. refl))))
 
   xor_red_does : DoesWords op.XorRed Bit n 1 0 m
   unfolding values_from
   xor_red_does before =
-      let b = placed_body (rooms_for op.XorRed m) (odd (first sub.Inner) (state 9) (target sub.Zero)) in
-      let p = row n (cells 9) 0 in
+      let p = row n (cells 4) 0 in
       let start = set_spot before p false in
-      let e = λ (i : ℕ). turn n 0 b (after_one 1) start i 1 in
-      let a = λ (i : ℕ). start (row n m.a i) in
-      subst (Gives op.XorRed n 1 n 0 m before) (sym (steps_each n b [] start))
-      (held_does op.XorRed n some m are 9 b.reads b.graph.inputs b.graph.nodes (plain 5) (after_one 1)
-      false before
-      (a_by_held n m are 9, ((omega arith, λ i j li lj. refl), tt))
-      (parity_gives a e n (set_same before p false p refl) (λ i lt. odd_bit (a i) (e i))))
+      let a = λ (i : ℕ). before (row n m.a i) in
+      let t = turns_map (placed_body (rooms_for op.XorRed m)) xor_turns in
+      subst (Gives op.XorRed n 1 n 0 m before) (sym (steps_turns n t [] start))
+      (turns_does op.XorRed n some m are xor2 false before t (Parity n m)
+      (Kept n m) (kept_takes n m) (three_takes n m)
+      (odd_closes n m) (three_closes n m) start
+      (set_same before p false p refl) (λ q out. set_other before p false q (out 4))
+      (parity_gives a (joined_up xor2 a false) n refl (λ i lt. refl)))
 
 -- on bits
 not_bit_does : (n : ℕ) (m : Slots) → DoesBits op.Not n m

@@ -78,6 +78,7 @@ carry_body m t u reads inputs nodes y c = record {
   graph = record { inputs = inputs; nodes = nodes };
   outs = y ∷ (c ∷ []);
   writes = at m.target u ∷ (at t sub.Zero ∷ []);
+  found = [];
 }
 
 module _ (o : WordOp) (n : ℕ) (m : Slots) (are : AreSlots n n n 1 m) (t : Slot)
@@ -135,6 +136,7 @@ state_body t reads inputs nodes c = record {
   graph = record { inputs = inputs; nodes = nodes };
   outs = c ∷ [];
   writes = at t sub.Zero ∷ [];
+  found = [];
 }
 
 pub record Leaves (n o : ℕ) (b : Block) (xs : List Origin) (t : Slot) (bits new : Spots) : Type 0
@@ -167,6 +169,7 @@ held_body t w reads inputs nodes c = record {
   graph = record { inputs = inputs; nodes = nodes };
   outs = c ∷ c ∷ [];
   writes = at t sub.Zero ∷ at (cells w) sub.Zero ∷ [];
+  found = [];
 }
 
 pub record HeldLeaves (n o : ℕ) (b : Block) (xs : List Origin) (t : Slot) (w : ℕ)
@@ -209,6 +212,7 @@ pair_body v w reads inputs nodes g h = record {
   graph = record { inputs = inputs; nodes = nodes };
   outs = g ∷ h ∷ [];
   writes = at (cells v) sub.Zero ∷ at (cells w) sub.Zero ∷ [];
+  found = [];
 }
 
 pub record PairLeaves (n o : ℕ) (b : Block) (xs : List Origin) (v w : ℕ) (bits new : Spots) : Type 0
@@ -249,6 +253,7 @@ word_body t u reads inputs nodes y = record {
   graph = record { inputs = inputs; nodes = nodes };
   outs = y ∷ [];
   writes = at t u ∷ [];
+  found = [];
 }
 
 pub record Writes (n o : ℕ) (b : Block) (xs : List Origin) (t : Slot) (turn_of : ℕ

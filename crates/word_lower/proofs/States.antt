@@ -17,7 +17,6 @@ use Rattle.word_lower.specs.Places.{cells}
 use Rattle.word_lower.proofs.Setting.{bit, number, operation, Slots, at, row, number_at}
 use Rattle.word_lower.proofs.Setting.{AreSlots, Gives}
 use Rattle.word_lower.proofs.Passes.{held_body, held_loop, set_operation, cell_else}
-use Rattle.word_lower.proofs.Sums.{xor2}
 
 pub one_bit : (f : ℕ → Bool) → number f 1 ≡ bit (f 0)
 one_bit f = omega arith
@@ -86,14 +85,6 @@ both_least x y = by (cases_order x y)
         (low (nat_lt x (y + 1)))
     by (inr (inr lt)) = rw (over y x lt, ne_eqb x y (λ e. absurd (omega (arith, e, lt))))
         (high (nat_lt y (x + 1)))
-
-pub odd_bit : (x c : Bool) → majority (not x) (majority true x c)
-    (majority false (not c) (majority true x c)) ≡ xor2 x c
-unfolding majority
-odd_bit true true = refl
-odd_bit true false = refl
-odd_bit false true = refl
-odd_bit false false = refl
 
 module _ (n : ℕ) (m : Slots) (are : AreSlots n 1 n 0 m) (w : ℕ) where
   pub a_by_held : AllBefore n 0 n (at m.a sub.Inner) (at m.target sub.Zero

@@ -10,8 +10,8 @@ use Rattle.op_text.specs.declared.word_ops.WordOp.TheVariants as o
 use Rattle.op_text.specs.WordOps.{number}
 use Rattle.op_text.specs.Language.{Statement, Compute, Visit}
 use Rattle.loop_ir.specs.declared.ir.Sub.{Sub}
-use Rattle.loop_ir.specs.Plain.{StepOf}
-use Rattle.loop_ir.specs.Plain.StepOf.{Single, Along, Pairs}
+use Rattle.loop_ir.specs.Plain.{TurnsOf, StepOf}
+use Rattle.loop_ir.specs.Plain.StepOf.{Single, Along, Pairs, Alternate}
 use Rattle.loop_laws.specs.Rooms as rooms
 use Rattle.loop_laws.specs.Rooms.{InRoom, InCells, Mark, Marked}
 use Rattle.word_lower.specs.declared.shapes.Owner.{Owner}
@@ -19,10 +19,14 @@ use Rattle.word_lower.specs.declared.shapes.Owner.TheVariants.{Target, First, Se
 use Rattle.word_lower.specs.declared.shapes.Mark as code
 use Rattle.word_lower.specs.declared.shapes.BodyForm.{BodyForm}
 use Rattle.word_lower.specs.declared.shapes.BodyForm.TheVariants.{Off, On, Moved, Inverted, Both}
-use Rattle.word_lower.specs.declared.shapes.BodyForm.TheVariants.{Either, Without, Unlike, Chosen}
+use Rattle.word_lower.specs.declared.shapes.BodyForm.TheVariants.{Either, Unlike, Chosen}
 use Rattle.word_lower.specs.declared.shapes.BodyForm.TheVariants.{Added, Lessened}
 use Rattle.word_lower.specs.declared.shapes.BodyForm.TheVariants.{NegatedIf, Compared, AllSet}
-use Rattle.word_lower.specs.declared.shapes.BodyForm.TheVariants.{AnySet, Odd, OnBoth, Ordered}
+use Rattle.word_lower.specs.declared.shapes.BodyForm.TheVariants.{AnySet, Majority, Kept, Odd}
+use Rattle.word_lower.specs.declared.shapes.BodyForm.TheVariants.{OddOfThree, InvertedInBoth}
+use Rattle.word_lower.specs.declared.shapes.BodyForm.TheVariants.{BothKeeping, MajorityKeeping}
+use Rattle.word_lower.specs.declared.shapes.BodyForm.TheVariants.{OnBoth, Ordered}
+use Rattle.word_lower.specs.declared.shapes.TurnForms.{TurnForms}
 use Rattle.word_lower.specs.declared.shapes.ProgramLine.{ProgramLine}
 use Rattle.word_lower.specs.declared.shapes.ProgramLine.TheVariants as line
 use Rattle.word_lower.specs.declared.shapes.ProgramLine.TheVariants.{Once, Each}
@@ -75,11 +79,6 @@ inverted x z = template (x ∷ []) [] (complemented 1 ∷ []) (z ∷ [])
 abbrev pub joined : Lit → Mark → Mark → Mark → Marked
 joined l x y z = template (x ∷ y ∷ []) (node_of l (plain 1) (plain 2) ∷ []) (plain 3 ∷ []) (z ∷ [])
 
--- x and not y
-abbrev pub without : Mark → Mark → Mark → Marked
-without x y z = template (x ∷ y ∷ []) (node_of off (plain 1) (complemented 2) ∷ [])
-    (plain 3 ∷ []) (z ∷ [])
-
 -- the exclusive or of x and y
 abbrev pub unlike : Mark → Mark → Mark → Marked
 unlike x y z = template (x ∷ y ∷ [])
@@ -120,17 +119,48 @@ abbrev pub compared : Mark → Mark → Mark → Mark → Marked
 compared x y g z = template (x ∷ y ∷ g ∷ []) (node_of (plain 1) (complemented 2) (plain 3) ∷ [])
     (plain 4 ∷ plain 4 ∷ []) (z ∷ g ∷ [])
 
--- the state is whether all that was read of x is set, or any of it; it is written to z too
-abbrev pub gathered : Lit → Mark → Mark → Mark → Marked
-gathered l x c z = template (x ∷ c ∷ []) (node_of l (plain 1) (plain 2) ∷ [])
-    (plain 3 ∷ plain 3 ∷ []) (z ∷ c ∷ [])
+-- the state is whether all that was read of x is set, or any of it; the constant stays beside it
+abbrev pub gathered : Lit → Mark → Mark → Mark → Mark → Marked
+gathered l x c z k = template (x ∷ c ∷ []) (node_of l (plain 1) (plain 2) ∷ [])
+    (plain 3 ∷ l ∷ []) (z ∷ k ∷ [])
 
--- the state is whether an odd number of what was read of x is set; it is written to z too
+-- the majority of x, a state and what stays beside it: where that is a constant, an and or an or
+abbrev pub agreed : Mark → Mark → Mark → Mark → Marked
+agreed x c k z = template (x ∷ c ∷ k ∷ []) (node_of (plain 1) (plain 2) (plain 3) ∷ [])
+    (plain 4 ∷ []) (z ∷ [])
+
+-- what was read of x, and the state beside it
+abbrev pub kept : Mark → Mark → Mark → Mark → Marked
+kept x c e s = template (x ∷ c ∷ []) [] (plain 1 ∷ plain 2 ∷ []) (e ∷ s ∷ [])
+
+-- whether an odd number of x and a state is set
 abbrev pub odd : Mark → Mark → Mark → Marked
 odd x c z = template (x ∷ c ∷ [])
-    (node_of up (plain 1) (plain 2) ∷ node_of off (complemented 2) (plain 3)
+    (node_of off (plain 1) (complemented 2) ∷ node_of up (plain 2) (plain 3)
     ∷ node_of (complemented 1) (plain 3) (plain 4) ∷ [])
-    (plain 5 ∷ plain 5 ∷ []) (z ∷ c ∷ [])
+    (plain 5 ∷ []) (z ∷ [])
+
+-- whether an odd number of x, an element that was kept and a state is set
+abbrev pub odd_of_three : Mark → Mark → Mark → Mark → Marked
+odd_of_three x e s z = template (x ∷ e ∷ s ∷ [])
+    (node_of (plain 1) (plain 2) (complemented 3) ∷ node_of (complemented 1) (plain 3) (plain 4)
+    ∷ node_of (complemented 2) (plain 4) (plain 5) ∷ [])
+    (plain 6 ∷ []) (z ∷ [])
+
+-- two states get the complement of x
+abbrev pub inverted_in_both : Mark → Mark → Mark → Marked
+inverted_in_both x g h = template (x ∷ []) [] (complemented 1 ∷ complemented 1 ∷ []) (g ∷ h ∷ [])
+
+-- x and a state; another state stays, and beside it the constant
+abbrev pub both_keeping : Mark → Mark → Mark → Mark → Mark → Mark → Marked
+both_keeping x c d z e k = template (x ∷ c ∷ d ∷ []) (node_of off (plain 1) (plain 2) ∷ [])
+    (plain 4 ∷ plain 3 ∷ off ∷ []) (z ∷ e ∷ k ∷ [])
+
+-- the majority of x, a state and what stays beside it; the state stands in two again
+abbrev pub agreed_keeping : Mark → Mark → Mark → Mark → Mark → Mark → Marked
+agreed_keeping x c k z g h = template (x ∷ c ∷ k ∷ [])
+    (node_of (plain 1) (plain 2) (plain 3) ∷ [])
+    (plain 4 ∷ plain 2 ∷ plain 2 ∷ []) (z ∷ g ∷ h ∷ [])
 
 -- two states get the constant 1
 abbrev pub on_both : Mark → Mark → Marked
@@ -163,24 +193,41 @@ form_body (Moved x z) = moved (mark_of x) (mark_of z)
 form_body (Inverted x z) = inverted (mark_of x) (mark_of z)
 form_body (Both x y z) = joined off (mark_of x) (mark_of y) (mark_of z)
 form_body (Either x y z) = joined up (mark_of x) (mark_of y) (mark_of z)
-form_body (Without x y z) = without (mark_of x) (mark_of y) (mark_of z)
 form_body (Unlike x y z) = unlike (mark_of x) (mark_of y) (mark_of z)
 form_body (Chosen x y s z) = chosen (mark_of x) (mark_of y) (mark_of s) (mark_of z)
 form_body (Added x y c z) = added (mark_of x) (mark_of y) (mark_of c) (mark_of z)
 form_body (Lessened x y c z) = lessened (mark_of x) (mark_of y) (mark_of c) (mark_of z)
 form_body (NegatedIf x t c z) = negated_if (mark_of x) (mark_of t) (mark_of c) (mark_of z)
 form_body (Compared x y g z) = compared (mark_of x) (mark_of y) (mark_of g) (mark_of z)
-form_body (AllSet x c z) = gathered off (mark_of x) (mark_of c) (mark_of z)
-form_body (AnySet x c z) = gathered up (mark_of x) (mark_of c) (mark_of z)
+form_body (AllSet x c z k) = gathered off (mark_of x) (mark_of c) (mark_of z) (mark_of k)
+form_body (AnySet x c z k) = gathered up (mark_of x) (mark_of c) (mark_of z) (mark_of k)
+form_body (Majority x c k z) = agreed (mark_of x) (mark_of c) (mark_of k) (mark_of z)
+form_body (Kept x c e s) = kept (mark_of x) (mark_of c) (mark_of e) (mark_of s)
 form_body (Odd x c z) = odd (mark_of x) (mark_of c) (mark_of z)
+form_body (OddOfThree x e s z) = odd_of_three (mark_of x) (mark_of e) (mark_of s) (mark_of z)
+form_body (InvertedInBoth x g h) = inverted_in_both (mark_of x) (mark_of g) (mark_of h)
+form_body (BothKeeping x c d z e k) = both_keeping (mark_of x) (mark_of c) (mark_of d) (mark_of z)
+    (mark_of e) (mark_of k)
+form_body (MajorityKeeping x c k z g h) = agreed_keeping (mark_of x) (mark_of c) (mark_of k)
+    (mark_of z) (mark_of g) (mark_of h)
 form_body (OnBoth g h) = on_both (mark_of g) (mark_of h)
 form_body (Ordered x y g h) = ordered (mark_of x) (mark_of y) (mark_of g) (mark_of h)
+
+-- the bodies that take turns
+abbrev pub turn_bodies : TurnForms → TurnsOf Marked
+turn_bodies t = record {
+  even = form_body t.even;
+  odd = form_body t.odd;
+  last_even = form_body t.last_even;
+  last_odd = form_body t.last_odd;
+}
 
 -- and the step that a line does
 abbrev pub line_step : ProgramLine → StepOf Marked
 line_step (Once s) = Single (form_body s)
 line_step (Each s) = Along (form_body s)
 line_step (line.Pairs s) = Pairs (form_body s)
+line_step (line.Alternate t) = Alternate (turn_bodies t)
 
 -- the steps of a row of the table. The kind is the target's
 abbrev pub row_steps : ProgramRow → Kind → List (StepOf Marked)

@@ -54,6 +54,7 @@ body_on o b = record {
   graph = b.graph;
   outs = b.outs;
   writes = map (place_on o) b.writes;
+  found = [];
 }
 
 -- a loop program at the places of its owners

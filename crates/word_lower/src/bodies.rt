@@ -2,22 +2,22 @@
 
 ghost use Rattle.std.specs.Prelude.{◌≡◌, ◌<◌, ◌≤◌, ◌+◌, ◌++◌, ◌∷◌, [], ℕ, List, length, map, IfOk};
 ghost use Rattle.std.specs.Prelude.{OnOk, Some, None, true};
-ghost use Rattle.loop_ir.specs.Plain.{block_of, step_of, steps_of};
-ghost use Rattle.loop_ir.specs.Plain.{Block, StepOf, AllParts, AllStep, step_map};
+ghost use Rattle.loop_ir.specs.Plain.{block_of, turns_of, step_of, steps_of, turns_map, step_map};
+ghost use Rattle.loop_ir.specs.Plain.{Block, StepOf, AllParts, AllTurns, AllStep};
 ghost use Rattle.loop_laws.specs.Forms.{IsMade};
 ghost use Rattle.word_lower.specs.Places.{cells};
-ghost use Rattle.word_lower.specs.Programs.{template, mark_of, form_body, line_step};
+ghost use Rattle.word_lower.specs.Programs.{template, mark_of, form_body, turn_bodies, line_step};
 ghost use Rattle.word_lower.specs.Shapes.{marks, lines_steps};
 ghost use Rattle.word_lower.specs.Shapes.{place_on, body_on, program_on, are_own, are_below};
 
 use crate::graphs::made;
-use crate::literals::{N1, OFF, ON, P1, P3, P4, P5, P6, P7};
-use crate::shapes::{BodyForm, Mark, Owner, Owners, ProgramLine};
+use crate::literals::{N1, OFF, ON, P1, P2, P3, P4, P5, P6, P7};
+use crate::shapes::{BodyForm, Mark, Owner, Owners, ProgramLine, TurnForms};
 use crate::templates::{
-    ADDED, BOTH, CHOSEN, COMPARED, EITHER, LESSENED, ODD, ORDERED, TURNED_BY, UNLIKE, WITHOUT,
+    ADDED, BOTH, CHOSEN, COMPARED, EITHER, LESSENED, MAJORITY, ODD, ORDERED, TURNED_BY, UNLIKE,
 };
 use faults::keep;
-use loop_ir::{Body, LoopProgram, Place, Slot, Space, Step};
+use loop_ir::{Body, LoopProgram, Place, Slot, Space, Step, Turns};
 use mig_graph::{Lit, NoMemory, Node};
 use op_text::Kind;
 use std::alloc::Global;
@@ -84,6 +84,7 @@ fn templated(
         reads: places(reads, owners, alloc)?,
         graph: made(reads.len() as u8, nodes, outs, alloc)?,
         writes: places(writes, owners, alloc)?,
+        found: Vec::new(alloc),
     })
 }
 
@@ -100,7 +101,6 @@ fn body(shape: BodyForm, owners: Owners, alloc: Global) -> Result<Body, NoMemory
         BodyForm::Inverted(x, z) => templated(&[x], &[], &[N1], &[z], o, a),
         BodyForm::Both(x, y, z) => templated(&[x, y], &BOTH, &[P3], &[z], o, a),
         BodyForm::Either(x, y, z) => templated(&[x, y], &EITHER, &[P3], &[z], o, a),
-        BodyForm::Without(x, y, z) => templated(&[x, y], &WITHOUT, &[P3], &[z], o, a),
         BodyForm::Unlike(x, y, z) => templated(&[x, y], &UNLIKE, &[P5], &[z], o, a),
         BodyForm::Chosen(x, y, s, z) => templated(&[x, y, s], &CHOSEN, &[P6], &[z], o, a),
         BodyForm::Added(x, y, c, z) => templated(&[x, y, c], &ADDED, &[P6, P4], &[z, c], o, a),
@@ -128,9 +128,29 @@ fn body(shape: BodyForm, owners: Owners, alloc: Global) -> Result<Body, NoMemory
             o,
             a,
         ),
-        BodyForm::AllSet(x, c, z) => templated(&[x, c], &BOTH, &[P3, P3], &[z, c], o, a),
-        BodyForm::AnySet(x, c, z) => templated(&[x, c], &EITHER, &[P3, P3], &[z, c], o, a),
-        BodyForm::Odd(x, c, z) => templated(&[x, c], &ODD, &[P5, P5], &[z, c], o, a),
+        BodyForm::AllSet(x, c, z, k) => templated(&[x, c], &BOTH, &[P3, OFF], &[z, k], o, a),
+        BodyForm::AnySet(x, c, z, k) => templated(&[x, c], &EITHER, &[P3, ON], &[z, k], o, a),
+        BodyForm::Majority(x, c, k, z) => templated(&[x, c, k], &MAJORITY, &[P4], &[z], o, a),
+        BodyForm::Kept(x, c, e, s) => templated(&[x, c], &[], &[P1, P2], &[e, s], o, a),
+        BodyForm::Odd(x, c, z) => templated(&[x, c], &ODD, &[P5], &[z], o, a),
+        BodyForm::OddOfThree(x, e, s, z) => templated(&[x, e, s], &LESSENED, &[P6], &[z], o, a),
+        BodyForm::InvertedInBoth(x, g, h) => templated(&[x], &[], &[N1, N1], &[g, h], o, a),
+        BodyForm::BothKeeping(x, c, d, z, e, k) => templated(
+            &[x, c, d],
+            &BOTH,
+            &[P4, P3, OFF],
+            &[z, e, k],
+            o,
+            a,
+        ),
+        BodyForm::MajorityKeeping(x, c, k, z, g, h) => templated(
+            &[x, c, k],
+            &MAJORITY,
+            &[P4, P2, P2],
+            &[z, g, h],
+            o,
+            a,
+        ),
         BodyForm::OnBoth(g, h) => templated(&[], &[], &[ON, ON], &[g, h], o, a),
         BodyForm::Ordered(x, y, g, h) => templated(
             &[x, y, g, h],
@@ -143,6 +163,20 @@ fn body(shape: BodyForm, owners: Owners, alloc: Global) -> Result<Body, NoMemory
     }
 }
 
+/// The bodies that take turns.
+fn turns(forms: TurnForms, owners: Owners, alloc: Global) -> Result<Turns, NoMemory>
+    ensures same { IfOk result (λ t. turns_of t
+        ≡ turns_map (body_on owners) (turn_bodies forms)) }
+    ensures made { IfOk result (λ t. AllTurns IsMade (turns_of t)) }
+{
+    Ok(Turns {
+        even: body(forms.even, owners, alloc)?,
+        odd: body(forms.odd, owners, alloc)?,
+        last_even: body(forms.last_even, owners, alloc)?,
+        last_odd: body(forms.last_odd, owners, alloc)?,
+    })
+}
+
 /// The step of a line.
 fn step(line: ProgramLine, owners: Owners, alloc: Global) -> Result<Step, NoMemory>
     ensures same { IfOk result (λ s. step_of s ∷ []
@@ -153,6 +187,7 @@ fn step(line: ProgramLine, owners: Owners, alloc: Global) -> Result<Step, NoMemo
         ProgramLine::Once(shape) => Ok(Step::Once(body(shape, owners, alloc)?)),
         ProgramLine::Each(shape) => Ok(Step::Each(body(shape, owners, alloc)?)),
         ProgramLine::Pairs(shape) => Ok(Step::Pairs(body(shape, owners, alloc)?)),
+        ProgramLine::Alternate(forms) => Ok(Step::Alternate(turns(forms, owners, alloc)?)),
     }
 }
 

@@ -39,26 +39,46 @@ pub enum BodyForm {
     Inverted(Mark, Mark),
     Both(Mark, Mark, Mark),
     Either(Mark, Mark, Mark),
-    Without(Mark, Mark, Mark),
     Unlike(Mark, Mark, Mark),
     Chosen(Mark, Mark, Mark, Mark),
     Added(Mark, Mark, Mark, Mark),
     Lessened(Mark, Mark, Mark, Mark),
     NegatedIf(Mark, Mark, Mark, Mark),
     Compared(Mark, Mark, Mark, Mark),
-    AllSet(Mark, Mark, Mark),
-    AnySet(Mark, Mark, Mark),
+    /// The state, and beside it the constant.
+    AllSet(Mark, Mark, Mark, Mark),
+    AnySet(Mark, Mark, Mark, Mark),
+    Majority(Mark, Mark, Mark, Mark),
+    /// What is read, and beside it the state.
+    Kept(Mark, Mark, Mark, Mark),
     Odd(Mark, Mark, Mark),
+    OddOfThree(Mark, Mark, Mark, Mark),
+    /// The complement, in two states.
+    InvertedInBoth(Mark, Mark, Mark),
+    /// What is read and the first state; the second one stays, and beside it the constant.
+    BothKeeping(Mark, Mark, Mark, Mark, Mark, Mark),
+    /// What is read and two states; the first one stands in two again.
+    MajorityKeeping(Mark, Mark, Mark, Mark, Mark, Mark),
     /// Two states, of which each is set.
     OnBoth(Mark, Mark),
     /// Two states: of either word, whether it is at least the other.
     Ordered(Mark, Mark, Mark, Mark),
 }
 
-/// A body done once, at each position, or at each position that has one above it.
+/// Bodies that take turns, and those in their places at the top position.
+#[derive(Clone, Copy)]
+pub struct TurnForms {
+    pub even: BodyForm,
+    pub odd: BodyForm,
+    pub last_even: BodyForm,
+    pub last_odd: BodyForm,
+}
+
+/// A body done once, at each position, or at each position that has one above it; or two in turn.
 #[derive(Clone, Copy)]
 pub enum ProgramLine {
     Once(BodyForm),
     Each(BodyForm),
     Pairs(BodyForm),
+    Alternate(TurnForms),
 }

@@ -5,11 +5,12 @@ ghost use Rattle.word_lower.specs.Programs.{program, program_of, row_steps};
 ghost use Rattle.word_lower.specs.Shapes.{lines_steps};
 
 use crate::shapes::BodyForm::{
-    Added, AllSet, AnySet, Both, Chosen, Compared, Either, Inverted, Lessened, Moved, NegatedIf,
-    Odd, Off, On, OnBoth, Ordered, Unlike, Without,
+    Added, AllSet, AnySet, Both, BothKeeping, Chosen, Compared, Either, Inverted, InvertedInBoth,
+    Kept, Lessened, Majority, MajorityKeeping, Moved, NegatedIf, Odd, OddOfThree, Off, On, OnBoth,
+    Ordered, Unlike,
 };
-use crate::shapes::ProgramLine::{Each, Once, Pairs};
-use crate::shapes::{BodyForm, Mark, Owner, ProgramLine};
+use crate::shapes::ProgramLine::{Alternate, Each, Once, Pairs};
+use crate::shapes::{BodyForm, Mark, Owner, ProgramLine, TurnForms};
 use ProgramRow::{Nested, One, Spread, Three, Two};
 use loop_ir::Sub;
 use op_text::{Kind, WordOp};
@@ -108,8 +109,18 @@ const T3_DCC1: Mark = Mark {
     sub: Sub::Zero,
 };
 
-const T2_DCC0: Mark = Mark {
+const T0_NOT_DCC0: Mark = Mark {
     owner: Owner::Cells(9),
+    sub: Sub::Zero,
+};
+
+const T3_NOT_T2: Mark = Mark {
+    owner: Owner::Cells(10),
+    sub: Sub::Zero,
+};
+
+const DCC0: Mark = Mark {
+    owner: Owner::Cells(11),
     sub: Sub::Zero,
 };
 
@@ -148,7 +159,18 @@ pub static PROGRAMS: [(WordOp, ProgramRow); 27] = [
         WordOp::Abs,
         Two(Once(Off(T3_DCC1)), Each(NegatedIf(X, X_TOP, T3_DCC1, Z))),
     ),
-    (WordOp::Relu, One(Each(Without(X, X_TOP, Z)))),
+    (
+        WordOp::Relu,
+        Two(
+            Once(InvertedInBoth(X_TOP, T1, DCC0)),
+            Alternate(TurnForms {
+                even: BothKeeping(X, T1, DCC0, Z, DCC0, T3),
+                odd: MajorityKeeping(X, DCC0, T3, Z, T1, DCC0),
+                last_even: Off(Z),
+                last_odd: Off(Z),
+            }),
+        ),
+    ),
     (
         WordOp::Min,
         Three(
@@ -188,15 +210,39 @@ pub static PROGRAMS: [(WordOp, ProgramRow); 27] = [
     (WordOp::Bitcount, Nested),
     (
         WordOp::AndRed,
-        Two(Once(On(T1)), Each(AllSet(X, T1, Z_BIT))),
+        Two(
+            Once(On(T1)),
+            Alternate(TurnForms {
+                even: AllSet(X, T1, T2, T3),
+                odd: Majority(X, T2, T3, T1),
+                last_even: Both(X, T1, Z_BIT),
+                last_odd: Majority(X, T2, T3, Z_BIT),
+            }),
+        ),
     ),
     (
         WordOp::OrRed,
-        Two(Once(Off(T1)), Each(AnySet(X, T1, Z_BIT))),
+        Two(
+            Once(Off(T1)),
+            Alternate(TurnForms {
+                even: AnySet(X, T1, T2, T3),
+                odd: Majority(X, T2, T3, T1),
+                last_even: Either(X, T1, Z_BIT),
+                last_odd: Majority(X, T2, T3, Z_BIT),
+            }),
+        ),
     ),
     (
         WordOp::XorRed,
-        Two(Once(Off(T2_DCC0)), Each(Odd(X, T2_DCC0, Z_BIT))),
+        Two(
+            Once(Off(T3_DCC1)),
+            Alternate(TurnForms {
+                even: Kept(X, T3_DCC1, T0_NOT_DCC0, T3_NOT_T2),
+                odd: OddOfThree(X, T0_NOT_DCC0, T3_NOT_T2, T3_DCC1),
+                last_even: Odd(X, T3_DCC1, Z_BIT),
+                last_odd: OddOfThree(X, T0_NOT_DCC0, T3_NOT_T2, Z_BIT),
+            }),
+        ),
     ),
     (WordOp::Divmod, Nested),
 ];

@@ -122,15 +122,21 @@ pub const COMPARED: [Node; 1] = [Node {
     c: P3,
 }];
 
+pub const MAJORITY: [Node; 1] = [Node {
+    a: P1,
+    b: P2,
+    c: P3,
+}];
+
 pub const ODD: [Node; 3] = [
     Node {
-        a: ON,
+        a: OFF,
         b: P1,
-        c: P2,
+        c: N2,
     },
     Node {
-        a: OFF,
-        b: N2,
+        a: ON,
+        b: P2,
         c: P3,
     },
     Node {

@@ -7,14 +7,16 @@ use Rattle.mig_graph.specs.Graph.{values_from}
 use Rattle.op_text.specs.declared.word_ops.WordOp.TheVariants as op
 use Rattle.op_text.specs.Values.{ones_of}
 use Rattle.loop_ir.specs.declared.ir.Sub.TheVariants as sub
-use Rattle.loop_ir.specs.declared.ir.Count.TheVariants.{Rest, UpTo}
+use Rattle.loop_ir.specs.declared.ir.Count.TheVariants.{Rest, Bits}
 use Rattle.loop_ir.specs.declared.names.Slot.{Slot}
+use Rattle.loop_ir.specs.Loops.{bits_in}
 use Rattle.loop_ir.specs.Plain.{Block, InnerOf}
 use Rattle.loop_ir.specs.Plain.InnerOf.{Alone, Across}
 use Rattle.loop_ir.specs.Plain.StepOf.{Nest}
 use Rattle.loop_ir.specs.Spots.{Spot, Spots, set_spot, spot_at, nth_place, is_state}
 use Rattle.loop_laws.specs.Rooms.{placed_body}
 use Rattle.loop_laws.specs.Turns.{Origin, Standing, Carried, IsLoop, turn, after_many}
+use Rattle.loop_laws.proofs.Digits.{few_bits, bits_hold}
 use Rattle.loop_laws.proofs.Same.{set_same, set_other}
 use Rattle.loop_laws.proofs.Loop.{loop_turns, loop_word}
 use Rattle.loop_laws.proofs.Steps.{steps_each, steps_nest, after_parts, after_outer}
@@ -32,7 +34,7 @@ use Rattle.word_mul.specs.declared.rows.Rows.{Rows}
 use Rattle.word_mul.specs.Places.{rooms_for}
 use Rattle.word_mul.proofs.Setting.{cell, HasRows, row_stands, cell_other, row_other, IsFree}
 use Rattle.word_mul.proofs.Setting.{AreRows, IsElsewhere, Gives, DoesNested, bit_free, bit_else}
-use Rattle.word_mul.proofs.Product.{value_split, value_kept, product_step, below_pow, few_ones}
+use Rattle.word_mul.proofs.Product.{value_split, value_kept, product_step, few_ones}
 
 -- with the complement of what is added
 multiplied_digit : (t w c : Bool)
@@ -278,19 +280,22 @@ module _ (n : ℕ) (m : Rows) (are : AreRows n 1 0 m) (bits : Spots) where
   abbrev count_parts : List (InnerOf Block)
   count_parts =
       Alone (placed_body (rooms_for op.Bitcount m) (inverted (first sub.Outer) (third sub.Zero)))
-      ∷ (Across UpTo count_body ∷ [])
+      ∷ (Across Bits count_body ∷ [])
 
   abbrev ys : List Origin
   ys = Standing ∷ (Carried 1 ∷ [])
 
-  count_loop : (o : ℕ) → o < n → IsLoop n o (o + 1) count_body ys
+  count_loop : (o : ℕ) → o < n → IsLoop n o (bits_in (o + 1)) count_body ys
   count_loop o lo =
-      loop_of n o (o + 1) count_body ys refl (are.own, (tt, tt))
-      (((λ i j li lj e. cf.target.by 0 i (omega arith) (omega arith) (sym e)), tt), (tt, tt)) (
+      let few = few_bits (o + 1) in
+      loop_of n o (bits_in (o + 1)) count_body ys refl (are.own, (tt, tt))
+      (((λ i j li lj e. cf.target.by 0 i (omega arith) (omega (arith, few, li, lo)) (sym e)), tt),
+      (tt, tt)) (
         (
-          (λ i j li lj e. let z : i ≡ j = are.moves.by i j (omega arith) (omega arith) e in
+          (λ i j li lj e. let z : i ≡ j =
+              are.moves.by i j (omega (arith, few, li, lj, lo)) (omega (arith, few, li, lj, lo)) e in
               absurd (omega arith)),
-          ((λ i j li lj e. cf.target.by 0 i (omega arith) (omega arith) (sym e)), tt),
+          ((λ i j li lj e. cf.target.by 0 i (omega arith) (omega (arith, few, li, lj, lo)) (sym e)), tt),
         ),
         ((omega arith, λ i j li lj. refl), tt),
       )
@@ -304,7 +309,8 @@ module _ (n : ℕ) (m : Rows) (are : AreRows n 1 0 m) (bits : Spots) where
       → Counted (suc o) (after_parts n o count_parts old)
   unfolding values_from majority
   one_count o old lo i =
-      let w = o + 1 in
+      let w = bits_in (o + 1) in
+      let few = few_bits (o + 1) in
       let r = n - w in
       let v = old (row n m.a o) in
       let start = set_spot old cp (not v) in
@@ -325,16 +331,17 @@ module _ (n : ℕ) (m : Rows) (are : AreRows n 1 0 m) (bits : Spots) where
       λ q ne. set_other old cp (not v) q ne in
       let same : (k : ℕ) → k < n → start (row n m.target k) ≡ old (row n m.target k) =
       λ k lk. stays (row n m.target k) (λ e. cf.target.by 0 k (omega arith) lk (sym e)) in
-      let low_old = value_same ta (λ j. old (row n m.target j)) w (λ j lj. same j (omega arith)) in
+      let low_old = value_same ta (λ j. old (row n m.target j)) w (λ j lj. same j (omega (arith, few, lj, lo))) in
       let low_new = value_same (λ j. new (row n m.target j)) y w
       (λ j lj. loop_word n o w count_body ys is start 0 (omega arith) (λ u x lu lx e.
-      are.moves.by u x (omega arith) (omega arith) e) j lj) in
+      are.moves.by u x (omega (arith, few, lu, lo)) (omega (arith, few, lx, lo)) e) j lj) in
       let high = number (λ j. old (row n m.target (w + j))) r in
       let high_new = value_same (λ j. new (row n m.target (w + j)))
       (λ j. old (row n m.target (w + j))) r
       (λ j lj. t.rest (row n m.target (w + j)) (λ k x lk lx e.
-      above o (w + j) (omega arith) (omega arith) k x lk lx e) ∙ same (w + j) (omega arith)) in
-      let split : n ≡ w + r = omega arith in
+      above o (w + j) lo (omega arith) (omega (arith, few, lj, lo)) k x lk lx e)
+      ∙ same (w + j) (omega (arith, few, lj, lo))) in
+      let split : n ≡ w + r = omega (arith, few, lo) in
       let old_split : number_at n old m.target n ≡ number_at n old m.target w + 2 ^ w * high =
       ap (number_at n old m.target) split ∙ value_split (λ j. old (row n m.target j)) w r in
       let new_split : number_at n new m.target n ≡ number_at n new m.target w + 2 ^ w
@@ -347,7 +354,7 @@ module _ (n : ℕ) (m : Rows) (are : AreRows n 1 0 m) (bits : Spots) where
       let a = λ (j : ℕ). bits (row n m.a j) in
       let most = few_ones a o in
       let most_new = few_ones a (suc o) in
-      let p = below_pow w in
+      let p = bits_hold (o + 1) in
       let step = count_step (number_at n old m.target w) high (number y w) (bit (carry w)) (2 ^ w)
       (ones_of o (number a o)) (bit (a o)) (ones_of (suc o) (number a (suc o)))
       (sym old_split ∙ i.ones) (omega (arith, most, p)) digit (sym (ones_of_more a o))
@@ -360,16 +367,18 @@ module _ (n : ℕ) (m : Rows) (are : AreRows n 1 0 m) (bits : Spots) where
             ∙ stays q (bit_else n 0 0 m q out) ∙ i.rest q out;
       }
     where
-      above : (o v : ℕ) → o < v → v < n → (j w : ℕ) → j < o + 1 → w < 2
-          → row n m.target v ≡ spot_at n j o (nth_place count_body.writes w) → ⊥
-      above o v lo lv j zero lj lw e = let z : v ≡ j =
-          are.moves.by v j (omega arith) (omega arith) e in absurd (omega arith)
-      above o v lo lv j (suc zero) lj lw e = cf.target.by 0 v (omega arith) (omega arith) (sym e)
-      above o v lo lv j (suc (suc w)) lj lw e = absurd (omega arith)
+      above : (o v : ℕ) → o < n → bits_in (o + 1) ≤ v → v < n → (j w : ℕ) → j < bits_in (o + 1)
+          → w < 2 → row n m.target v ≡ spot_at n j o (nth_place count_body.writes w) → ⊥
+      above o v lo le lv j zero lj lw e = let z : v ≡ j =
+          are.moves.by v j lv (omega (arith, few_bits (o + 1), lj, lo)) e in
+          absurd (omega (arith, z, le, lj))
+      above o v lo le lv j (suc zero) lj lw e = cf.target.by 0 v (omega arith) lv (sym e)
+      above o v lo le lv j (suc (suc w)) lj lw e = absurd (omega arith)
 
-      elsewhere : (o : ℕ) → o < n → (q : Spot) → IsElsewhere n 1 0 m q → (j w : ℕ) → j < o + 1
-          → w < 2 → q ≡ spot_at n j o (nth_place count_body.writes w) → ⊥
-      elsewhere o lo q out j zero lj lw e = out.target j (omega arith) e
+      elsewhere : (o : ℕ) → o < n → (q : Spot) → IsElsewhere n 1 0 m q → (j w : ℕ)
+          → j < bits_in (o + 1) → w < 2 → q ≡ spot_at n j o (nth_place count_body.writes w) → ⊥
+      elsewhere o lo q out j zero lj lw e =
+          out.target j (omega (arith, few_bits (o + 1), lj, lo)) e
       elsewhere o lo q out j (suc zero) lj lw e = bit_else n 0 0 m q out e
       elsewhere o lo q out j (suc (suc w)) lj lw e = absurd (omega arith)
 

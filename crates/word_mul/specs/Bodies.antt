@@ -1,5 +1,5 @@
 -- Bodies and loop programs at the places of their owners.
-use Rattle.std.specs.Prelude.{◌≡◌, ℕ, zero, suc, List, map}
+use Rattle.std.specs.Prelude.{◌≡◌, ℕ, zero, suc, List, [], map}
 use Rattle.loop_ir.specs.declared.ir.Place.{Place}
 use Rattle.loop_ir.specs.declared.names.Slot.{Slot}
 use Rattle.loop_ir.specs.Plain.{Block, InnerOf, StepOf, AllParts, inner_map, step_map}
@@ -62,6 +62,7 @@ body_on o b = record {
   graph = b.graph;
   outs = b.outs;
   writes = map (place_on o) b.writes;
+  found = [];
 }
 
 -- the parts of a nest at the places of their owners

@@ -1,5 +1,5 @@
 -- The loop programs of the word operations that take a pass over a word for each position.
-use Rattle.std.specs.Prelude.{ℕ, ◌+◌, ◌*◌, ◌/◌, ◌==◌, Bool, true, false, if◌then◌else◌}
+use Rattle.std.specs.Prelude.{ℕ, zero, suc, ◌+◌, ◌*◌, ◌/◌, ◌==◌, Bool, true, false, if◌then◌else◌}
 use Rattle.std.specs.Prelude.{List, [], ◌∷◌, ◌++◌, Option, Some, None}
 use Rattle.mig_graph.specs.declared.Node.{Node}
 use Rattle.mig_graph.specs.Literals.{node_of}
@@ -7,13 +7,14 @@ use Rattle.op_text.specs.declared.word_ops.WordOp.{WordOp}
 use Rattle.op_text.specs.declared.word_ops.WordOp.TheVariants as o
 use Rattle.op_text.specs.WordOps.{number}
 use Rattle.op_text.specs.Language.{Statement, Compute, Visit}
+use Rattle.loop_ir.specs.Loops.{bits_in}
 use Rattle.loop_ir.specs.Plain.{InnerOf, StepOf}
 use Rattle.loop_ir.specs.Plain.InnerOf.{Alone, Across}
 use Rattle.loop_ir.specs.Plain.StepOf.{Single, Along, Nest}
 use Rattle.loop_laws.specs.Rooms as rooms
 use Rattle.loop_laws.specs.Rooms.{Mark, Marked, InRoom, InCells}
 use Rattle.word_lower.specs.Programs.{plain, complemented, off, up, template, constant, moved}
-use Rattle.word_lower.specs.Programs.{inverted, joined, without, compared}
+use Rattle.word_lower.specs.Programs.{inverted, joined, compared}
 use Rattle.word_mul.specs.declared.shapes.Owner.{Owner}
 use Rattle.word_mul.specs.declared.shapes.Owner.TheVariants.{Target, First, Second, ScratchBit}
 use Rattle.word_mul.specs.declared.shapes.Owner.TheVariants.{SecondBit, ScratchWord, SecondWord}
@@ -28,6 +29,11 @@ use Rattle.word_mul.specs.declared.shapes.NestPart.TheVariants.{Once, Each}
 use Rattle.word_mul.specs.declared.shapes.Gathering.{Gathering}
 use Rattle.word_mul.specs.declared.shapes.NestedProgram.{NestedProgram}
 use Rattle.word_mul.specs.declared.table.TheConstants.{NESTED}
+
+-- x and not y
+abbrev pub without : Mark → Mark → Mark → Marked
+without x y z = template (x ∷ y ∷ []) (node_of off (plain 1) (complemented 2) ∷ [])
+    (plain 3 ∷ []) (z ∷ [])
 
 -- y, a where b is not set, and a carry, into y
 abbrev pub multiplied_nodes : List Node
@@ -144,12 +150,17 @@ abbrev pub is_nested_statement : Statement → Bool
 is_nested_statement (Compute target second p args) = is_nested p
 is_nested_statement (Visit block) = false
 
+-- how many bits the numbers from 1 to n have together
+abbrev pub bits_to : ℕ → ℕ
+bits_to zero = 0
+bits_to (suc n) = bits_to n + bits_in (suc n)
+
 -- the commands of its loop program at width n
 abbrev pub nested_total : WordOp → ℕ → ℕ
 nested_total o.Mul n = 9 * (n * (n + 1) / 2) + 4 * n
 nested_total o.Div n = 12 * (n * (n + 1) / 2) + 16 * n + 1
 nested_total o.Rem n = 12 * (n * (n + 1) / 2) + 16 * n + 1
-nested_total o.Bitcount n = 18 * (n * (n + 1) / 2) + 3 * n
+nested_total o.Bitcount n = 18 * bits_to n + 3 * n
 nested_total o.Divmod n = 12 * (n * (n + 1) / 2) + 17 * n + 1
 nested_total p n = 0
 

@@ -74,6 +74,7 @@ fn templated(
         reads: places(reads, owners, alloc)?,
         graph: made(reads.len() as u8, nodes, outs, alloc)?,
         writes: places(writes, owners, alloc)?,
+        found: Vec::new(alloc),
     })
 }
 

@@ -177,7 +177,7 @@ pub static NESTED: [(WordOp, NestedProgram); 5] = [
             gathering: None,
             parts: [
                 Some(Once(Inverted(X_OUTER, BIT))),
-                Some(Each(Count::UpTo, Counted(Z, BIT))),
+                Some(Each(Count::Bits, Counted(Z, BIT))),
                 None,
                 None,
                 None,

@@ -12,11 +12,11 @@ made-requires-clause-sorted c = own_sorted _ c.args.nodes.now c.requires.own
 
 pub returns-clause-same : goal.returns-clause-same
 returns-clause-same c = template_same c.args.owners c.args.reads.now c.args.writes.now
-    c.args.nodes.now c.args.outs.now _ _ _ _ c.in_ok-places.ensures c.in_ok-places-2.ensures
-    c.in_ok-made.ensures.graph c.in_ok-made.ensures.outs
+    c.args.nodes.now c.args.outs.now _ _ _ _ _ c.in_ok-places.ensures c.in_ok-places-2.ensures
+    c.in_ok-made.ensures.graph c.in_ok-made.ensures.outs c.new.ensures.items
 
 pub returns-clause-made : goal.returns-clause-made
-returns-clause-made c = template_made _ _ _ c.args.nodes.now c.args.outs.now _ _
+returns-clause-made c = template_made _ _ _ c.args.nodes.now c.args.outs.now _ _ _
     (own_graph _ c.args.nodes.now (omega (arith, c.requires.reads, c.requires.nodes))
     c.requires.own)
     (all_below _ c.args.outs.now c.requires.named) c.in_ok-made.ensures.graph
