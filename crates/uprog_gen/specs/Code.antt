@@ -22,7 +22,7 @@ use Rattle.loop_ir.specs.declared.ir.Space.TheVariants.{Result, Source, ScratchB
 use Rattle.loop_ir.specs.declared.ir.Space.TheVariants.{Cells}
 use Rattle.loop_ir.specs.declared.ir.Place.{Place}
 use Rattle.loop_ir.specs.declared.ir.Count.{Count}
-use Rattle.loop_ir.specs.declared.ir.Count.TheVariants.{All, Rest, UpTo}
+use Rattle.loop_ir.specs.declared.ir.Count.TheVariants.{All, Rest, UpTo, Bits}
 use Rattle.uprog_gen.specs.declared.plan.Plan.{Plan}
 use Rattle.loop_ir.specs.Plain.{Block, InnerOf, StepOf, step_map}
 use Rattle.loop_ir.specs.Plain.InnerOf.{Alone, Across}
@@ -157,12 +157,24 @@ after Outer r = []
 after OuterDown r = []
 after DownPlusN r = []
 
--- register 2 gets the number of turns: n, what is left of it at an outer position, or the positions
--- up to the outer one
-abbrev pub counter : Count → List Uop
-counter All = SetN 2 ∷ []
-counter Rest = Mov 2 1 ∷ AddI 2 1 ∷ []
-counter UpTo = Mov 2 0 ∷ AddI 2 1 ∷ []
+-- register 7 gets half of what register 6 holds, which isn't 0, beside what it had: two are taken
+-- away for each that is counted. Register 2 isn't 0, and serves to jump
+abbrev pub halve_code : ℕ → List Uop
+halve_code pc = SubI 6 1 ∷ Bnez 6 (pc + 1 + 1 + 1) ∷ Bnez 2 (pc + 1 + 1 + 1 + 1 + 1 + 1)
+    ∷ SubI 6 1 ∷ AddI 7 1 ∷ Bnez 6 pc ∷ []
+
+-- register 2 gets the number of bits of o + 1, which is halved until nothing is left
+abbrev pub bits_code : ℕ → List Uop
+bits_code pc = Mov 6 0 ∷ AddI 6 1 ∷ SetI 2 0 ∷ AddI 2 1 ∷ SetI 7 0
+    ∷ (halve_code (pc + 1 + 1 + 1 + 1 + 1) ++ Mov 6 7 ∷ Bnez 6 (pc + 1 + 1 + 1) ∷ [])
+
+-- register 2 gets the number of turns: n, what is left of it at an outer position, the positions up
+-- to the outer one, or the bits of as many. The first instruction has this place
+abbrev pub counter : Count → ℕ → List Uop
+counter All pc = SetN 2 ∷ []
+counter Rest pc = Mov 2 1 ∷ AddI 2 1 ∷ []
+counter UpTo pc = Mov 2 0 ∷ AddI 2 1 ∷ []
+counter Bits pc = bits_code pc
 
 -- the body's registers before its first turn
 abbrev pub inits : Plan → List Uop
@@ -189,13 +201,13 @@ abbrev pub turn_code : Plan → List Uop → List Uop
 turn_code plan body = befores plan ++ (body ++ (afters plan ++ (SubI 2 1 ∷ [])))
 
 -- what stands before the first turn
-abbrev pub enter_code : Plan → Count → List Uop
-enter_code plan count = counter count ++ inits plan
+abbrev pub enter_code : Plan → Count → ℕ → List Uop
+enter_code plan count pc = counter count pc ++ inits plan
 
 -- an inner loop, whose first instruction has this place
 abbrev pub loop_code : Count → Part → ℕ → List Uop
-loop_code count p pc = enter_code p.plan count
-    ++ (turn_code p.plan (body_uops p) ++ (Bnez 2 (pc + length (enter_code p.plan count)) ∷ []))
+loop_code count p pc = enter_code p.plan count pc
+    ++ (turn_code p.plan (body_uops p) ++ (Bnez 2 (pc + length (enter_code p.plan count pc)) ∷ []))
 
 -- a part of a nest, whose first instruction has this place
 abbrev pub inner_code : InnerOf Part → ℕ → List Uop

@@ -2,6 +2,7 @@
 use Rattle.std.specs.Prelude.{ℕ, ◌+◌, ◌*◌, ◌/◌}
 use Rattle.op_text.specs.declared.word_ops.WordOp.{WordOp}
 use Rattle.op_text.specs.declared.word_ops.WordOp.TheVariants as o
+use Rattle.word_mul.specs.Programs.{bits_to}
 
 -- how many AAP an operation takes on arguments of n bits
 abbrev pub op_aaps : WordOp → ℕ → ℕ
@@ -27,7 +28,7 @@ op_aaps o.Eq n = 2 * n + 3
 op_aaps o.Gt n = 3 * n + 1
 op_aaps o.Ge n = 3 * n + 1
 op_aaps o.IfElse n = 7 * n
-op_aaps o.Bitcount n = 7 * (n * (n + 1) / 2) + 3 * n
+op_aaps o.Bitcount n = 7 * bits_to n + 3 * n
 op_aaps o.AndRed n = 3 * n + 1
 op_aaps o.OrRed n = 3 * n + 1
 op_aaps o.XorRed n = 5 * n + 1

@@ -6,7 +6,8 @@ ghost use Rattle.row_alloc.specs.declared.body.BodyRef.{BodyRef};
 ghost use Rattle.loop_ir.specs.Plain.{block_of};
 ghost use Rattle.loop_ir.specs.Costs.{body_cost};
 ghost use Rattle.uprog_gen.specs.Code.{row_space, index_in, place_ref, code_ref, code_uop, init};
-ghost use Rattle.uprog_gen.specs.Code.{before, after, inits, befores, afters, counter, body_uops};
+ghost use Rattle.uprog_gen.specs.Code.{before, after, inits, befores, afters, halve_code};
+ghost use Rattle.uprog_gen.specs.Code.{bits_code, counter, body_uops};
 ghost use Rattle.uprog_gen.specs.Code.{once_code, turn_code, enter_code, loop_code, guard_code};
 ghost use Rattle.uprog_gen.specs.Code.{pairs_code};
 ghost use Rattle.uprog_gen.specs.Made.{part_of, is_ref_of, are_refs_of};
@@ -167,8 +168,42 @@ fn push_afters(code: &mut Vec<Uop>, plan: Plan) -> Result<(), NoMemory>
     push_after(code, plan.third, 5)
 }
 
+/// The code that halves what register 6 holds.
+fn push_half(code: &mut Vec<Uop>) -> Result<(), NoMemory>
+    requires { length code.old.items + 16 < 2 ^ 16 }
+    ensures { OnOk result (code.new.items ≡ code.old.items
+        ++ halve_code (length code.old.items)) }
+{
+    let half = code.len() as u16;
+    keep(code, Uop::SubI(6, 1))?;
+    keep(code, Uop::Bnez(6, half + 3))?;
+    keep(code, Uop::Bnez(2, half + 6))?;
+    keep(code, Uop::SubI(6, 1))?;
+    keep(code, Uop::AddI(7, 1))?;
+    keep(code, Uop::Bnez(6, half))
+}
+
+/// The code that counts the bits of o + 1.
+fn push_bits(code: &mut Vec<Uop>) -> Result<(), NoMemory>
+    requires { length code.old.items + 32 < 2 ^ 16 }
+    ensures { OnOk result (code.new.items ≡ code.old.items
+        ++ bits_code (length code.old.items)) }
+{
+    let top = code.len() as u16 + 3;
+    keep(code, Uop::Mov(6, 0))?;
+    keep(code, Uop::AddI(6, 1))?;
+    keep(code, Uop::SetI(2, 0))?;
+    keep(code, Uop::AddI(2, 1))?;
+    keep(code, Uop::SetI(7, 0))?;
+    push_half(code)?;
+    keep(code, Uop::Mov(6, 7))?;
+    keep(code, Uop::Bnez(6, top))
+}
+
 fn push_counter(code: &mut Vec<Uop>, count: Count) -> Result<(), NoMemory>
-    ensures { OnOk result (code.new.items ≡ code.old.items ++ counter count) }
+    requires { length code.old.items + 32 < 2 ^ 16 }
+    ensures { OnOk result (code.new.items ≡ code.old.items
+        ++ counter count (length code.old.items)) }
 {
     match count {
         Count::All => keep(code, Uop::SetN(2)),
@@ -180,12 +215,15 @@ fn push_counter(code: &mut Vec<Uop>, count: Count) -> Result<(), NoMemory>
             keep(code, Uop::Mov(2, 0))?;
             keep(code, Uop::AddI(2, 1))
         }
+        Count::Bits => push_bits(code),
     }
 }
 
 /// What stands before a loop.
 fn push_enter(code: &mut Vec<Uop>, plan: Plan, count: Count) -> Result<(), NoMemory>
-    ensures { OnOk result (code.new.items ≡ code.old.items ++ enter_code plan count) }
+    requires { length code.old.items + 32 < 2 ^ 16 }
+    ensures { OnOk result (code.new.items ≡ code.old.items
+        ++ enter_code plan count (length code.old.items)) }
 {
     push_counter(code, count)?;
     push_inits(code, plan)
@@ -222,7 +260,7 @@ pub fn push_loop(
     made: &Made,
 ) -> Result<(), NoMemory>
     requires part { IsPart (part_of (block_of body.now) made.now) }
-    requires room { length code.old.items + 8 < 2 ^ 16 }
+    requires room { length code.old.items + 32 < 2 ^ 16 }
     ensures { OnOk result (code.new.items ≡ code.old.items
         ++ loop_code count (part_of (block_of body.now) made.now) (length code.old.items)) }
 {
@@ -250,7 +288,7 @@ fn push_guard(code: &mut Vec<Uop>, end: u16) -> Result<(), NoMemory>
 /// loop stands.
 pub fn push_pairs(code: &mut Vec<Uop>, body: &Body, made: &Made) -> Result<(), NoMemory>
     requires part { IsPart (part_of (block_of body.now) made.now) }
-    requires room { length code.old.items + body_cost (block_of body.now) + 16 < 2 ^ 16 }
+    requires room { length code.old.items + body_cost (block_of body.now) + 64 < 2 ^ 16 }
     ensures { OnOk result (code.new.items ≡ code.old.items
         ++ pairs_code (part_of (block_of body.now) made.now) (length code.old.items)) }
 {

@@ -19,7 +19,7 @@ use uprog_code::Uop;
 /// One step of a nest.
 fn emit_inner(inner: &Inner, code: &mut Vec<Uop>, alloc: Global) -> Result<(), NoMemory>
     requires small { AllInner IsSmall (inner_of inner.now ∷ []) }
-    requires room { length code.old.items + 8 < 2 ^ 16 }
+    requires room { length code.old.items + 32 < 2 ^ 16 }
     ensures { OnOk result (EmitsInner (inner_of inner.now ∷ []) code.old.items code.new.items) }
 {
     match inner {
@@ -39,7 +39,7 @@ fn emit_inner(inner: &Inner, code: &mut Vec<Uop>, alloc: Global) -> Result<(), N
 /// The steps of a nest.
 fn emit_inners(parts: &[Inner], code: &mut Vec<Uop>, alloc: Global) -> Result<(), NoMemory>
     requires small { AllInner IsSmall (map inner_of parts.now) }
-    requires room { length code.old.items + sum_by inner_cost (map inner_of parts.now) + 8
+    requires room { length code.old.items + sum_by inner_cost (map inner_of parts.now) + 32
         < 2 ^ 16 }
     ensures { OnOk result (EmitsInner (map inner_of parts.now) code.old.items code.new.items) }
 {
@@ -69,7 +69,7 @@ fn emit_single(body: &Body, code: &mut Vec<Uop>, alloc: Global) -> Result<(), No
 /// Two nested loops.
 fn emit_nest(parts: &[Inner], code: &mut Vec<Uop>, alloc: Global) -> Result<(), NoMemory>
     requires small { AllInner IsSmall (map inner_of parts.now) }
-    requires room { length code.old.items + sum_by inner_cost (map inner_of parts.now) + 16
+    requires room { length code.old.items + sum_by inner_cost (map inner_of parts.now) + 64
         < 2 ^ 16 }
     ensures { OnOk result (EmitsSteps (NestOf (map inner_of parts.now) ∷ []) code.old.items
         code.new.items) }
@@ -90,7 +90,7 @@ fn emit_nest(parts: &[Inner], code: &mut Vec<Uop>, alloc: Global) -> Result<(), 
 /// One step.
 fn emit_step(step: &Step, code: &mut Vec<Uop>, alloc: Global) -> Result<(), NoMemory>
     requires small { AllStep IsSmall (step_of step.now) }
-    requires room { length code.old.items + step_cost (step_of step.now) + 16 < 2 ^ 16 }
+    requires room { length code.old.items + step_cost (step_of step.now) + 64 < 2 ^ 16 }
     ensures { OnOk result (EmitsSteps (step_of step.now ∷ []) code.old.items code.new.items) }
 {
     match step {
@@ -114,7 +114,7 @@ fn emit_step(step: &Step, code: &mut Vec<Uop>, alloc: Global) -> Result<(), NoMe
 /// Steps, one after another.
 pub fn emit_steps(steps: &[Step], code: &mut Vec<Uop>, alloc: Global) -> Result<(), NoMemory>
     requires small { AllParts IsSmall (map step_of steps.now) }
-    requires room { length code.old.items + code_cost (map step_of steps.now) + 16 < 2 ^ 16 }
+    requires room { length code.old.items + code_cost (map step_of steps.now) + 64 < 2 ^ 16 }
     ensures emits { OnOk result (EmitsSteps (map step_of steps.now) code.old.items code.new.items) }
     ensures short { OnOk result (length code.new.items
         ≤ length code.old.items + code_cost (map step_of steps.now)) }

@@ -30,7 +30,7 @@ use Rattle.loop_ir.specs.declared.ir.Space.{Space}
 use Rattle.loop_ir.specs.declared.ir.Space.TheVariants.{Result, Source, ScratchBit, ScratchWord}
 use Rattle.loop_ir.specs.declared.ir.Space.TheVariants.{Cells}
 use Rattle.loop_ir.specs.declared.ir.Count.{Count}
-use Rattle.loop_ir.specs.declared.ir.Count.TheVariants.{All as All_of, Rest, UpTo}
+use Rattle.loop_ir.specs.declared.ir.Count.TheVariants.{All as All_of, Rest, UpTo, Bits}
 use Rattle.loop_ir.specs.Plain.{Block, InnerOf, StepOf, AllInner, AllStep, AllParts}
 use Rattle.loop_ir.specs.Plain.InnerOf.{Alone, Across}
 use Rattle.loop_ir.specs.Plain.StepOf.{Single, Along, Nest, Pairs}
@@ -213,6 +213,7 @@ module _ (head : Shape) where
   fit_inner (Across All_of p ∷ xs) h r = (fit_part p h.0 0 r.0, fit_inner xs h.1 r.1.1)
   fit_inner (Across Rest p ∷ xs) h r = (fit_part p h.0 0 r.0, fit_inner xs h.1 r.1.1)
   fit_inner (Across UpTo p ∷ xs) h r = (fit_part p h.0 0 r.0, fit_inner xs h.1 r.1)
+  fit_inner (Across Bits p ∷ xs) h r = (fit_part p h.0 0 r.0, fit_inner xs h.1 r.1)
 
   fit_step : (s : StepOf Part) → AllStep IsPart s
       → AllByRecursion (IsRound (IsSpot head 2) 2) (map block_round (step_rounds 2 s))
@@ -298,10 +299,18 @@ module _ (head : Shape) where
         (after_legal plan.first 3 refl) (join (after plan.second 4) (after plan.third 5)
         (after_legal plan.second 4 refl) (after_legal plan.third 5 refl))
 
-    counter_legal : (count : Count) → L (counter count)
-    counter_legal All_of = (refl, tt)
-    counter_legal Rest = (refl, (refl, tt))
-    counter_legal UpTo = (refl, (refl, tt))
+    counter_legal : (count : Count) (pc : ℕ) → pc + length (counter count pc) < size
+        → L (counter count pc)
+    counter_legal All_of pc le = (refl, tt)
+    counter_legal Rest pc le = (refl, (refl, tt))
+    counter_legal UpTo pc le = (refl, (refl, tt))
+    counter_legal Bits pc le =
+        let to = λ (t : ℕ) (h : t ≤ pc + 13). lt-ltb t size (omega (arith, le, h)) in
+        (refl, (refl, (refl, (refl, (refl, (refl,
+        (to (pc + 1 + 1 + 1 + 1 + 1 + 1 + 1 + 1) (omega arith),
+        (to (pc + 1 + 1 + 1 + 1 + 1 + 1 + 1 + 1 + 1 + 1 + 1) (omega arith), (refl, (refl,
+        (to (pc + 1 + 1 + 1 + 1 + 1) (omega arith), (refl,
+        (to (pc + 1 + 1 + 1) (omega arith), tt)))))))))))))
 
     once_legal : (p : Part) → IsFit p → L (once_code p)
     once_legal p fit = join (inits p.plan) (befores p.plan ++ body_uops p) (inits_legal p.plan)
@@ -310,13 +319,15 @@ module _ (head : Shape) where
     loop_legal : (count : Count) (p : Part) (pc : ℕ) → IsFit p
         → pc + length (loop_code count p pc) ≤ size → L (loop_code count p pc)
     loop_legal count p pc fit le =
-        let enter = enter_code p.plan count in
+        let enter = enter_code p.plan count pc in
         let turn = turn_code p.plan (body_uops p) in
         let jump = Bnez 2 (pc + length enter) ∷ [] in
         let target : pc + length enter < size =
         omega (arith, le, length-append enter (turn ++ jump), length-append turn jump) in
-        join enter (turn ++ jump) (join (counter count) (inits p.plan) (counter_legal count)
-        (inits_legal p.plan))
+        let counted : pc + length (counter count pc) < size =
+        omega (arith, target, length-append (counter count pc) (inits p.plan)) in
+        join enter (turn ++ jump) (join (counter count pc) (inits p.plan)
+        (counter_legal count pc counted) (inits_legal p.plan))
         (join turn jump
         (join (befores p.plan) (body_uops p ++ (afters p.plan ++ (SubI 2 1 ∷ [])))
         (befores_legal p.plan) (join (body_uops p) (afters p.plan ++ (SubI 2 1 ∷ [])) (fit size)

@@ -11,7 +11,7 @@ use Rattle.loop_ir.specs.declared.ir.Sub.TheVariants.{Zero, Top, Inner as At_inn
 use Rattle.loop_ir.specs.declared.ir.Sub.TheVariants.{Outer, OuterDown, Sum, DownSum, DownPlusN}
 use Rattle.loop_ir.specs.declared.ir.Sub.TheVariants.{NPlusInner}
 use Rattle.loop_ir.specs.declared.ir.Count.{Count}
-use Rattle.loop_ir.specs.declared.ir.Count.TheVariants.{All as All_of, Rest, UpTo}
+use Rattle.loop_ir.specs.declared.ir.Count.TheVariants.{All as All_of, Rest, UpTo, Bits}
 use Rattle.loop_ir.specs.Plain.{InnerOf, StepOf, inner_map, step_map, AllInner, AllStep}
 use Rattle.loop_ir.specs.Plain.{AllParts}
 use Rattle.loop_ir.specs.Plain.InnerOf.{Alone, Across}
@@ -21,7 +21,7 @@ use Rattle.uprog_gen.specs.Code.{Part, block_of_part, blocks, code_uop, init, be
 use Rattle.uprog_gen.specs.Code.{befores, afters, counter, body_uops, once_code, turn_code}
 use Rattle.uprog_gen.specs.Code.{enter_code, loop_code, inner_list, outside, step_code}
 use Rattle.uprog_gen.specs.Code.{program_code}
-use Rattle.loop_ir.specs.Costs.{is_fixed, body_cost, inner_cost, step_cost}
+use Rattle.loop_ir.specs.Costs.{is_fixed, body_cost, counter_cost, inner_cost, step_cost}
 use Rattle.loop_ir.specs.Costs.{code_cost}
 use Rattle.loop_laws.proofs.Costing.{turn-most}
 use Rattle.uprog_gen.specs.Parts.{IsPart}
@@ -54,18 +54,26 @@ plan_few plan =
       init_few plan.third 5,
     )
 
-counter_few : (count : Count) → length (counter count) ≤ 2
-counter_few All_of = omega arith
-counter_few Rest = omega arith
-counter_few UpTo = omega arith
+counter_few : (count : Count) (pc : ℕ) → length (counter count pc) ≤ 2 + counter_cost count
+counter_few All_of pc = omega arith
+counter_few Rest pc = omega arith
+counter_few UpTo pc = omega arith
+counter_few Bits pc = omega arith
 
-pub enter_few : (plan : Plan) (count : Count) → length (enter_code plan count) ≤ 8
-enter_few plan count = omega (
+pub enter_few : (plan : Plan) (count : Count) (pc : ℕ)
+    → length (enter_code plan count pc) ≤ 8 + counter_cost count
+enter_few plan count pc = omega (
   arith,
-  length-append (counter count) (inits plan),
-  counter_few count,
+  length-append (counter count pc) (inits plan),
+  counter_few count pc,
   plan_few plan,
 )
+
+pub counter_most : (count : Count) → counter_cost count ≤ 11
+counter_most All_of = omega arith
+counter_most Rest = omega arith
+counter_most UpTo = omega arith
+counter_most Bits = omega arith
 
 body_few : (p : Part) → IsPart p → length (body_uops p) ≤ body_cost p.block
 body_few p is = omega (
@@ -85,15 +93,15 @@ once_few p is = omega (
 )
 
 pub loop_few : (count : Count) (p : Part) (pc : ℕ) → IsPart p
-    → length (loop_code count p pc) ≤ body_cost p.block + 10
+    → length (loop_code count p pc) ≤ body_cost p.block + 10 + counter_cost count
 loop_few count p pc is =
-    let jump = Bnez 2 (pc + length (enter_code p.plan count)) ∷ [] in
+    let jump = Bnez 2 (pc + length (enter_code p.plan count pc)) ∷ [] in
     omega (
       arith,
-      length-append (enter_code p.plan count) (turn_code p.plan (body_uops p) ++ jump),
+      length-append (enter_code p.plan count pc) (turn_code p.plan (body_uops p) ++ jump),
       length-append (turn_code p.plan (body_uops p)) jump,
-      length-append (counter count) (inits p.plan),
-      counter_few count,
+      length-append (counter count pc) (inits p.plan),
+      counter_few count pc,
       length-append (befores p.plan) (body_uops p ++ (afters p.plan ++ (SubI 2 1 ∷ []))),
       length-append (body_uops p) (afters p.plan ++ (SubI 2 1 ∷ [])),
       length-append (afters p.plan) (SubI 2 1 ∷ []),

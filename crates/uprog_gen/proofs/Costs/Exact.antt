@@ -20,7 +20,7 @@ use Rattle.word_lower.specs.declared.table.ProgramRow.{ProgramRow}
 use Rattle.word_lower.specs.declared.table.ProgramRow.TheVariants.{Spread}
 use Rattle.word_lower.specs.Programs.{program, program_of}
 use Rattle.word_mul.specs.Programs.{is_nested, nested}
-use Rattle.word_mul.proofs.Totals.{triangle}
+use Rattle.word_mul.proofs.Totals.{triangle, bits_together}
 use Rattle.uprog_gen.specs.Costs.{op_aaps, op_aps}
 use Rattle.uprog_gen.specs.Settled.{turn_aaps, turn_aps, IsSettled}
 use Rattle.uprog_gen.proofs.Costs.Placed.{steps_settle, settled_steps, aaps_like, aps_like}
@@ -53,6 +53,9 @@ numbered_aaps : (p : WordOp) (k : Kind) (n : ℕ) → 0 < n
     ≡ op_aaps p (op_width p k n)
 numbered_aaps op.Mul k n some = let h = sum_is turn_aaps n (placed_steps [] (Numbered op.Mul k)) in
     omega (arith, h, triangle n, some)
+numbered_aaps op.Bitcount k n some =
+    let h = sum_is turn_aaps n (placed_steps [] (Numbered op.Bitcount k)) in
+    omega (arith, h, bits_together n, some)
 numbered_aaps p Word n some = let h = sum_is turn_aaps n (placed_steps [] (Numbered p Word)) in
     omega (arith, h, triangle n, some)
 numbered_aaps p Bit n some = let h = sum_is turn_aaps n (placed_steps [] (Numbered p Bit)) in
@@ -63,6 +66,9 @@ numbered_aps : (p : WordOp) (k : Kind) (n : ℕ) → 0 < n
     ≡ op_aps p (op_width p k n)
 numbered_aps op.Mul k n some = let h = sum_is turn_aps n (placed_steps [] (Numbered op.Mul k)) in
     omega (arith, h, triangle n, some)
+numbered_aps op.Bitcount k n some =
+    let h = sum_is turn_aps n (placed_steps [] (Numbered op.Bitcount k)) in
+    omega (arith, h, some)
 numbered_aps p Word n some = let h = sum_is turn_aps n (placed_steps [] (Numbered p Word)) in
     omega (arith, h, triangle n, some)
 numbered_aps p Bit n some = let h = sum_is turn_aps n (placed_steps [] (Numbered p Bit)) in

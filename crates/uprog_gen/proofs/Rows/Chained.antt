@@ -6,12 +6,13 @@ use Rattle.std.specs.Prelude.{◌&&◌}
 use Rattle.std.specs.List.{list_all}
 use Rattle.std.proofs.lemmas.Bool.{and_parts, and_from}
 use Rattle.loop_ir.specs.declared.ir.Count.{Count}
-use Rattle.loop_ir.specs.declared.ir.Count.TheVariants.{All, Rest, UpTo}
+use Rattle.loop_ir.specs.declared.ir.Count.TheVariants.{All, Rest, UpTo, Bits}
 use Rattle.loop_ir.specs.Plain.{Block, InnerOf, StepOf}
 use Rattle.loop_ir.specs.Plain.InnerOf.{Alone, Across}
 use Rattle.loop_ir.specs.Plain.StepOf.{Single, Along, Nest, Pairs}
-use Rattle.loop_ir.specs.Loops.{RoundOf, one_round, rounds, positions, inner_rounds}
+use Rattle.loop_ir.specs.Loops.{RoundOf, one_round, rounds, bits_in, positions, inner_rounds}
 use Rattle.loop_ir.specs.Loops.{all_rounds}
+use Rattle.loop_laws.proofs.Digits.{some_bits}
 use Rattle.loop_ir.specs.Chains.{states_in, is_alive, finds, left_by, loop_finds, inner_left}
 use Rattle.loop_ir.specs.Chains.{inner_finds, steps_find}
 use Rattle.uprog_gen.proofs.Rows.Alive.{chained}
@@ -127,6 +128,8 @@ across_count : (n o : ℕ) (c : Count) (alive : List ℕ) (b : Block) → o < n
 across_count n o All alive b l h = across alive b o n h (omega arith)
 across_count n o Rest alive b l h = across alive b o (n - o) h (omega arith)
 across_count n o UpTo alive b l h = across alive b o (o + 1) h (omega arith)
+across_count n o Bits alive b l h = let one : suc o ≡ o + 1 = omega arith in
+    across alive b o (bits_in (o + 1)) h (subst (λ k. 0 < bits_in k) one (some_bits o))
 
 -- a loop that may have no round
 maybe : (alive : List ℕ) (b : Block) (o count : ℕ) → loop_finds alive b ≡ true

@@ -8,15 +8,17 @@ use Rattle.uprog_code.specs.Machine.{Issue, issue}
 use Rattle.uprog_code.specs.declared.code.Uop.{Uop}
 use Rattle.uprog_code.specs.declared.code.Uop.TheVariants.{AddI, SetN, Mov, SubI, Bnez}
 use Rattle.uprog_code.specs.Shape.{Shape}
-use Rattle.loop_ir.specs.Loops.{rounds, positions}
+use Rattle.loop_ir.specs.Loops.{rounds, positions, bits_in}
+use Rattle.loop_laws.proofs.Digits.{few_bits, some_bits}
 use Rattle.uprog_gen.proofs.Running.Goes.{HasAt, has_front, has_back, moves}
 use Rattle.loop_ir.specs.declared.ir.Count.{Count}
-use Rattle.loop_ir.specs.declared.ir.Count.TheVariants.{All as All_of, Rest, UpTo}
+use Rattle.loop_ir.specs.declared.ir.Count.TheVariants.{All as All_of, Rest, UpTo, Bits}
 use Rattle.uprog_gen.specs.declared.plan.Plan.{Plan}
 use Rattle.uprog_gen.specs.Code.{init, before, after, inits, befores, afters, counter, enter_code}
 use Rattle.uprog_gen.specs.Code.{turn_code}
 use Rattle.uprog_gen.proofs.Running.Runs.{Runs, run_then, run_loop, Changed, changed_again}
-use Rattle.uprog_gen.proofs.Running.Runs.{run_weaken}
+use Rattle.uprog_gen.proofs.Running.Runs.{run_weaken, run_jump}
+use Rattle.uprog_gen.proofs.Running.Halving.{run_bits, within}
 use Rattle.uprog_gen.proofs.Running.Runs.{run_at, run_add, run_sub, run_set, IsAt, IsTop, run_init}
 use Rattle.uprog_gen.proofs.Running.Runs.{run_before, run_after, run_parts, Regs, change2, change3}
 use Rattle.uprog_gen.proofs.Running.Runs.{change4}
@@ -154,31 +156,6 @@ module _ (head : Shape) (code : List Uop) (n : ℕ) where
       subst (λ l. Runs head code n pc regs (length (turn_code plan body)) l (pc
       + length (turn_code plan body)) U) (append-nil cs) all
 
-  -- a jump back, unless the register is 0
-  pub run_jump : (pc r l : ℕ) (regs : List ℕ) (again : Bool) (I : List ℕ → Type 0)
-      → slice_get code pc ≡ Some (Bnez r l) → (slice_index regs r == 0) ≡ again → I regs
-      → Runs head code n pc regs 1 [] (cond again (pc + 1) l) I
-  run_jump pc r l regs true I at test h =
-      record {
-        count = 1;
-        few = omega arith;
-        regs' = regs;
-        goes = moves head code n pc (pc + 1) regs regs (Bnez r l) at
-            (λ left. ap (λ b. cond b (issue head code n left (pc + 1) regs)
-            (issue head code n left l regs)) test);
-        known = h;
-      }
-  run_jump pc r l regs false I at test h =
-      record {
-        count = 1;
-        few = omega arith;
-        regs' = regs;
-        goes = moves head code n pc l regs regs (Bnez r l) at
-            (λ left. ap (λ b. cond b (issue head code n left (pc + 1) regs)
-            (issue head code n left l regs)) test);
-        known = h;
-      }
-
   -- register 2 gets one more than another register
   run_one_more : (r v m pc : ℕ) (regs : List ℕ) → length regs ≡ 8 → slice_index regs r ≡ v
       → v + 1 ≡ m → m ≤ WIDTH_MAX → HasAt code pc (Mov 2 r ∷ AddI 2 1 ∷ [])
@@ -196,38 +173,92 @@ module _ (head : Shape) (code : List Uop) (n : ℕ) where
       (run_add head code n (pc + 1) 2 1 (λ w. w ≡ m) q has.1.0 (omega (arith, c.this, more, small))
       (omega (arith, c.size, size)) (omega (arith, c.this, more)))))
 
+  -- the registers of the outer position, and register 2 with the turns
+  record IsCounted (o m : ℕ) (regs : List ℕ) : Type 0 where
+    outer : IsOuter n o regs
+    turns : slice_index regs 2 ≡ m
+
+  counted : (o m : ℕ) (old new : List ℕ) → IsOuter n o old
+      → Changed head code n 2 (λ v. v ≡ m) old new → IsCounted o m new
+  counted o m old new g c = record {
+    outer = record {
+      size = c.size ∙ g.size;
+      outer = c.others 0 (λ e. absurd (omega arith)) ∙ g.outer;
+      down = c.others 1 (λ e. absurd (omega arith)) ∙ g.down;
+    };
+    turns = c.this;
+  }
+
+  -- straight code
+  run_straight : (a pc o m : ℕ) (regs : List ℕ) → o < n → IsOuter n o regs
+      → Runs head code n pc regs a [] (pc + a) (Changed head code n 2 (λ v. v ≡ m) regs)
+      → Runs head code n pc regs (n * a) [] (pc + a) (IsCounted o m)
+  run_straight a pc o m regs lo g run = within head code n regs pc (pc + a) regs a (n * a)
+      (IsCounted o m) (grow n a lo)
+      (run_weaken head code n pc (pc + a) regs a [] _ (IsCounted o m)
+      (λ x c. counted o m regs x g c) run)
+    where
+      grow : (n a : ℕ) → o < n → a ≤ n * a
+      grow n a h = let k : 0 < n = omega (arith, h) in grind arith
+
   run_counter : (count : Count) (pc o : ℕ) (regs : List ℕ) → n ≤ WIDTH_MAX → o < n
-      → IsOuter n o regs → HasAt code pc (counter count)
-      → Runs head code n pc regs (length (counter count)) [] (pc + length (counter count))
-      (Changed head code n 2 (λ v. v ≡ positions n o count) regs)
-  run_counter All_of pc o regs small lo g has =
-      run_set head code n pc 2 n _ regs (SetN 2) has.0 (λ left. refl) (omega (arith, g.size)) refl
-  run_counter Rest pc o regs small lo g has = run_one_more 1 (n - 1 - o) (n - o) pc regs g.size
-      g.down (omega (arith, lo)) (omega (arith, small)) has
-  run_counter UpTo pc o regs small lo g has = run_one_more 0 o (o + 1) pc regs g.size g.outer
-      (omega arith) (omega (arith, small, lo)) has
+      → IsOuter n o regs → HasAt code pc (counter count pc)
+      → Runs head code n pc regs (n * length (counter count pc)) []
+      (pc + length (counter count pc)) (IsCounted o (positions n o count))
+  run_counter All_of pc o regs small lo g has = run_straight 1 pc o n regs lo g
+      (run_set head code n pc 2 n _ regs (SetN 2) has.0 (λ left. refl) (omega (arith, g.size)) refl)
+  run_counter Rest pc o regs small lo g has = run_straight 2 pc o (n - o) regs lo g
+      (run_one_more 1 (n - 1 - o) (n - o) pc regs g.size g.down (omega (arith, lo))
+      (omega (arith, small)) has)
+  run_counter UpTo pc o regs small lo g has = run_straight 2 pc o (o + 1) regs lo g
+      (run_one_more 0 o (o + 1) pc regs g.size g.outer (omega arith) (omega (arith, small, lo)) has)
+  run_counter Bits pc o regs small lo g has =
+      let end = pc + 1 + 1 + 1 + 1 + 1 + 1 + 1 + 1 + 1 + 1 + 1 + 1 + 1 in
+      let I = IsCounted o (positions n o Bits) in
+      let at : end ≡ pc + 13 = omega arith in
+      run_at head code n pc end (pc + 13) regs (n * 13) [] I at
+      (within head code n regs pc end regs (3 + 10 * (o + 1)) (n * 13) I (omega (arith, lo))
+      (run_weaken head code n pc end regs (3 + 10 * (o + 1)) [] _ I
+      (λ x c. record {
+        outer = record {
+          size = c.size;
+          outer = c.others 0 (λ e. absurd (omega arith)) (λ e. absurd (omega arith))
+              (λ e. absurd (omega arith)) ∙ g.outer;
+          down = c.others 1 (λ e. absurd (omega arith)) (λ e. absurd (omega arith))
+              (λ e. absurd (omega arith)) ∙ g.down;
+        };
+        turns = c.two_is;
+      })
+      (run_bits head code n regs o pc (omega (arith, small, lo)) g.size g.outer has)))
 
   pub run_enter : (plan : Plan) (count : Count) (pc o : ℕ) (regs : List ℕ) → n ≤ WIDTH_MAX → o < n
-      → IsOuter n o regs → HasAt code pc (enter_code plan count)
-      → Runs head code n pc regs (length (enter_code plan count)) [] (pc
-      + length (enter_code plan count)) (AtTop plan o (positions n o count) 0)
+      → IsOuter n o regs → HasAt code pc (enter_code plan count pc)
+      → Runs head code n pc regs (n * length (enter_code plan count pc)) [] (pc
+      + length (enter_code plan count pc)) (AtTop plan o (positions n o count) 0)
   run_enter plan count pc o regs small lo g has =
       let m = positions n o count in
-      let C = Changed head code n 2 (λ v. v ≡ m) regs in
-      run_parts head code n (counter count) (inits plan) pc regs [] [] C (AtTop plan o m 0) has
-      (λ hb. run_counter count pc o regs small lo g hb)
-      (λ q r c ha. run_inits plan o m small lo q r (record {
-        size = c.size
-            ∙ g.size;
-        outer = c.others 0 (λ e. absurd (omega arith)) ∙ g.outer;
-        down =
-            c.others 1 (λ e. absurd (omega arith)) ∙ g.down;
-      }) c.this ha)
+      let a = counter count pc in
+      let b = inits plan in
+      let e : pc + length a + length b ≡ pc + length (a ++ b) = omega (arith, length-append a b) in
+      run_at head code n pc (pc + length a + length b) (pc + length (a ++ b)) regs
+      (n * length (a ++ b)) [] (AtTop plan o m 0) e
+      (within head code n regs pc (pc + length a + length b) regs (n * length a + length b)
+      (n * length (a ++ b)) (AtTop plan o m 0)
+      (together n (length a) (length b) (length (a ++ b)) lo (length-append a b))
+      (run_then head code n pc (pc + length a) (pc + length a + length b) (n * length a) (length b)
+      (n * length a + length b) regs [] [] (IsCounted o m) (AtTop plan o m 0) refl
+      (run_counter count pc o regs small lo g (has_front code pc a b has))
+      (λ r c. run_inits plan o m small lo (pc + length a) r c.outer c.turns
+      (has_back code pc a b has))))
+    where
+      together : (n x y z : ℕ) → o < n → z ≡ x + y → n * x + y ≤ n * z
+      together n x y z h e = let k : 0 < n = omega (arith, h) in let l : y ≤ n * y = grind arith in
+          rw e (omega (arith, l))
 
   -- an inner loop, all of it
   abbrev pub each_code : Plan → Count → List Uop → ℕ → List Uop
-  each_code plan count body pc = enter_code plan count
-      ++ (turn_code plan body ++ (Bnez 2 (pc + length (enter_code plan count)) ∷ []))
+  each_code plan count body pc = enter_code plan count pc
+      ++ (turn_code plan body ++ (Bnez 2 (pc + length (enter_code plan count pc)) ∷ []))
 
   pub run_each : (plan : Plan) (count : Count) (body : List Uop) (pc o : ℕ) (regs : List ℕ) (cs : ℕ
       → List Issue) → n ≤ WIDTH_MAX → o < n → IsOuter n o regs
@@ -236,12 +267,12 @@ module _ (head : Shape) (code : List Uop) (n : ℕ) where
       → AtBody plan o (positions n o count - i) i r → HasAt code q body
       → Runs head code n q r (length body) (cs i) (q + length body)
       (AtBody plan o (positions n o count - i) i))
-      → Runs head code n pc regs (length (enter_code plan count) + positions n o count
+      → Runs head code n pc regs (n * length (enter_code plan count pc) + positions n o count
       * (length (turn_code plan body) + 1)) (rounds cs 0 (positions n o count)) (pc
       + length (each_code plan count body pc)) (IsOuter n o)
   run_each plan count body pc o regs cs small lo g has does =
       let m = positions n o count in
-      let head_code = enter_code plan count in
+      let head_code = enter_code plan count pc in
       let turn_of = turn_code plan body in
       let l = pc + length head_code in
       let loop = has_back code pc head_code (turn_of ++ (Bnez 2 l ∷ [])) has in
@@ -260,7 +291,7 @@ module _ (head : Shape) (code : List Uop) (n : ℕ) where
       (length turn_of + 1) r (cs j) [] (I (j + 1)) (I (j + 1)) refl
       (run_turn plan body o m j l r (cs j) small lo le lj t (has_front code l turn_of _ loop)
       (λ q x at hb. does j q x lj at hb))
-      (λ x t'. run_jump (l + length turn_of) 2 l x again (I (j + 1)) jump.0
+      (λ x t'. run_jump head code n (l + length turn_of) 2 l x again (I (j + 1)) jump.0
       (ap (λ v. v == 0) t'.left_is ∙ test) t'))) in
       let up : suc (m - 1) ≡ m = omega (arith, some) in
       let first = run_enter plan count pc o regs small lo g (has_front code pc head_code _ has) in
@@ -273,8 +304,9 @@ module _ (head : Shape) (code : List Uop) (n : ℕ) where
       let zero_off : m ≡ m - 0 = omega arith in
       run_at head code n pc end (pc + length (each_code plan count body pc)) regs _ (rounds cs 0 m)
       (IsOuter n o) at_end
-      (run_then head code n pc l end (length head_code) (m * (length turn_of + 1)) (length head_code
-      + m * (length turn_of + 1)) regs [] (rounds cs 0 m) _ (IsOuter n o) refl first
+      (run_then head code n pc l end (n * length head_code) (m * (length turn_of + 1)) (n
+      * length head_code + m * (length turn_of + 1)) regs [] (rounds cs 0 m) _ (IsOuter n o) refl
+      first
       (λ r t. run_weaken head code n l end r _ (rounds cs 0 m) (I m) (IsOuter n o) (λ x y.
       record { size = y.size; outer = y.outer; down = y.down })
       (subst (λ q. Runs head code n l r (q * (length turn_of + 1)) (rounds cs 0 q) end (I m)) up
@@ -288,8 +320,11 @@ module _ (head : Shape) (code : List Uop) (n : ℕ) where
       positive All_of = omega arith
       positive Rest = omega arith
       positive UpTo = omega arith
+      positive Bits = let one : suc o ≡ o + 1 = omega arith in
+          subst (λ k. 0 < bits_in k) one (some_bits o)
 
       at_most : (c : Count) → positions n o c ≤ n
       at_most All_of = omega arith
       at_most Rest = omega arith
       at_most UpTo = omega arith
+      at_most Bits = omega (arith, few_bits (o + 1))

@@ -13,8 +13,8 @@ use Rattle.uprog_gen.proofs.Running.Goes.{HasAt, has_front, has_back}
 use Rattle.uprog_gen.specs.Code.{nest_code}
 use Rattle.uprog_gen.proofs.Running.Runs.{Runs, run_then, run_loop, Changed, run_weaken, run_at}
 use Rattle.uprog_gen.proofs.Running.Runs.{run_add}
-use Rattle.uprog_gen.proofs.Running.Runs.{run_sub, run_set}
-use Rattle.uprog_gen.proofs.Running.Each.{IsOuter, run_jump}
+use Rattle.uprog_gen.proofs.Running.Runs.{run_sub, run_set, run_jump}
+use Rattle.uprog_gen.proofs.Running.Each.{IsOuter}
 use Rattle.bit_rows.specs.declared.TheConstants.{WIDTH_MAX}
 
 -- the registers before an outer turn

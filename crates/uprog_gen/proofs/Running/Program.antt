@@ -12,11 +12,12 @@ use Rattle.uprog_code.specs.declared.code.Uop.TheVariants.{Done, SetI, SetT, Add
 use Rattle.uprog_code.specs.Shape.{Shape}
 use Rattle.loop_ir.specs.Loops.{rounds, RoundOf, round_at, one_round, positions, inner_rounds}
 use Rattle.loop_ir.specs.Loops.{step_rounds, all_rounds}
+use Rattle.loop_laws.proofs.Digits.{few_bits}
 use Rattle.uprog_gen.proofs.Running.Goes.{HasAt, has_front, has_back, has_all, Goes}
 use Rattle.loop_ir.specs.declared.ir.Sub.TheVariants.{Zero}
 use Rattle.loop_ir.specs.declared.ir.Place.{Place}
 use Rattle.loop_ir.specs.declared.ir.Count.{Count}
-use Rattle.loop_ir.specs.declared.ir.Count.TheVariants.{All as All_of, Rest, UpTo}
+use Rattle.loop_ir.specs.declared.ir.Count.TheVariants.{All as All_of, Rest, UpTo, Bits}
 use Rattle.loop_ir.specs.Plain.{InnerOf, StepOf}
 use Rattle.loop_ir.specs.Plain.InnerOf.{Alone, Across}
 use Rattle.loop_ir.specs.Plain.StepOf.{Single, Along, Nest, Pairs}
@@ -28,9 +29,8 @@ use Rattle.uprog_gen.proofs.Rows.Issued.{round_command}
 use Rattle.uprog_gen.proofs.Rows.Issued.{rounds_commands}
 use Rattle.loop_ir.specs.Costs.{is_fixed, same_sub}
 use Rattle.uprog_gen.proofs.Running.Runs.{Runs, run_then, run_none, run_weaken, run_at, run_set}
-use Rattle.uprog_gen.proofs.Running.Runs.{run_parts, run_sub}
+use Rattle.uprog_gen.proofs.Running.Runs.{run_parts, run_sub, run_jump}
 use Rattle.uprog_gen.proofs.Running.Each.{AtBody, AtTop, IsOuter, run_each, run_inits, run_befores}
-use Rattle.uprog_gen.proofs.Running.Each.{run_jump}
 use Rattle.uprog_gen.proofs.Running.Nest.{run_nest}
 use Rattle.uprog_gen.proofs.Running.Held.{names_at, names_fixed, run_body, same_true}
 use Rattle.bit_rows.specs.declared.TheConstants.{WIDTH_MAX}
@@ -144,7 +144,7 @@ module _ (head : Shape) (code : List Uop) (n : ℕ) (some : 0 < n) (small : n �
       let plan = p.plan in
       let m = positions n o count in
       let is = body_uops p in
-      let a = enter_code plan count in
+      let a = enter_code plan count pc in
       let t = turn_code plan is in
       let cs = λ (i : ℕ). rounds_commands n (one_round p i o) in
       let run = run_each head code n plan count is pc o regs cs small lo g has
@@ -167,15 +167,16 @@ module _ (head : Shape) (code : List Uop) (n : ℕ) (some : 0 < n) (small : n �
       + length (loop_code count p pc)) (IsOuter n o))
       (sym (commands_rounds n (λ i. one_round p i o) 0 m))
       (run_more pc _ regs _ (n * length (loop_code count p pc)) (rounds cs 0 m) (IsOuter n o)
-      (few n (length a) (length t + 1) (m * (length t + 1)) _ some le size) run)
+      (few n (length a) (length t + 1) (m * (length t + 1)) _ le size) run)
     where
       at_most : (c : Count) → positions n o c ≤ n
       at_most All_of = omega arith
       at_most Rest = omega arith
       at_most UpTo = omega arith
+      at_most Bits = omega (arith, few_bits (o + 1))
 
-      few : (n a t x size : ℕ) → 0 < n → x ≤ n * t → size ≡ a + t → a + x ≤ n * size
-      few n a t x size h le e = rw e (let k : a ≤ n * a = grind arith in omega (arith, k))
+      few : (n a t x size : ℕ) → x ≤ n * t → size ≡ a + t → n * a + x ≤ n * size
+      few n a t x size le e = rw e (omega (arith, le))
 
   run_inner : (x : InnerOf Part) (pc o : ℕ) (regs : List ℕ) → o < n → IsOuter n o regs
       → HasAt code pc (inner_code x pc) → AllByRecursion (IsGood head n) (inner_rounds n o (x ∷ []))

@@ -1,12 +1,14 @@
 -- Runs of code with what is known of the registers.
-use Rattle.std.proofs.Common.{◌≡◌, ℕ, zero, suc, ◌+◌, ◌-◌, ◌*◌, ◌<◌, ◌≤◌, cond, List, [], ◌++◌}
-use Rattle.std.proofs.Common.{length, Some, refl, sym, ap, ◌∙◌, subst, arith, length-append}
+use Rattle.std.proofs.Common.{◌≡◌, ℕ, zero, suc, ◌+◌, ◌-◌, ◌*◌, ◌<◌, ◌≤◌, Bool, true, false}
+use Rattle.std.proofs.Common.{cond, List, [], ◌++◌, length, Some, refl, sym, ap, ◌∙◌, subst, arith}
+use Rattle.std.proofs.Common.{length-append}
 use Rattle.std.proofs.Common.{length-set, get_or-set_same, get_or-set_other}
-use Rattle.std.specs.Prelude.{slice_get, slice_set, slice_index}
+use Rattle.std.specs.Prelude.{slice_get, slice_set, slice_index, ◌==◌}
 use Rattle.std.proofs.lemmas.Bool.{le-leb}
 use Rattle.uprog_code.specs.Machine.{Issue, Stuck, act, issue}
 use Rattle.uprog_code.specs.declared.code.Uop.{Uop}
 use Rattle.uprog_code.specs.declared.code.Uop.TheVariants.{SetI, SetN, SetT, Mov, Add, SubI, AddI}
+use Rattle.uprog_code.specs.declared.code.Uop.TheVariants.{Bnez}
 use Rattle.uprog_code.specs.Shape.{Shape}
 use Rattle.uprog_code.specs.declared.walker.Why3.TheVariants.{Register}
 use Rattle.loop_ir.specs.Loops.{rounds}
@@ -324,3 +326,28 @@ module _ (head : Shape) (code : List Uop) (n : ℕ) where
     second = kept _ S 5 4 old new c (λ h. absurd (omega arith)) g.second;
     third = c.this;
   }
+
+  -- a jump back, unless the register is 0
+  pub run_jump : (pc r l : ℕ) (regs : List ℕ) (again : Bool) (I : List ℕ → Type 0)
+      → slice_get code pc ≡ Some (Bnez r l) → (slice_index regs r == 0) ≡ again → I regs
+      → Runs head code n pc regs 1 [] (cond again (pc + 1) l) I
+  run_jump pc r l regs true I at test h =
+      record {
+        count = 1;
+        few = omega arith;
+        regs' = regs;
+        goes = moves head code n pc (pc + 1) regs regs (Bnez r l) at
+            (λ left. ap (λ b. cond b (issue head code n left (pc + 1) regs)
+            (issue head code n left l regs)) test);
+        known = h;
+      }
+  run_jump pc r l regs false I at test h =
+      record {
+        count = 1;
+        few = omega arith;
+        regs' = regs;
+        goes = moves head code n pc l regs regs (Bnez r l) at
+            (λ left. ap (λ b. cond b (issue head code n left (pc + 1) regs)
+            (issue head code n left l regs)) test);
+        known = h;
+      }
