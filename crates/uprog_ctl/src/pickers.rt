@@ -69,6 +69,7 @@ impl Picker for Forward {
 
     ghost rule = { in_turn };
 
+    #[inline(always)]
     fn pick(&mut self, live: u16) -> u16 {
         0
     }
@@ -108,6 +109,7 @@ impl Picker for Turns {
 
     ghost rule = { in_turn };
 
+    #[inline(always)]
     fn pick(&mut self, live: u16) -> u16 {
         let choice = choice_of(u64::from(self.count), live);
         self.count = self.count.wrapping_add(1);
@@ -150,6 +152,7 @@ impl Picker for Seeded {
 
     ghost rule = { in_turn };
 
+    #[inline(always)]
     fn pick(&mut self, live: u16) -> u16 {
         choice_of(self.words.next_word(), live)
     }
@@ -182,6 +185,7 @@ impl Picker for Order {
 
     ghost rule = { in_turn };
 
+    #[inline(always)]
     fn pick(&mut self, live: u16) -> u16 {
         match self {
             Order::First(forward) => forward.pick(live),
