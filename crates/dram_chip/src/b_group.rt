@@ -79,6 +79,26 @@ const NOT_DCC1: Wire = Wire {
     row: 1,
 };
 
+/// The wordlines of B0 to B15.
+static GROUPS: [&[Wire]; 16] = [
+    &[T0],
+    &[T1],
+    &[T2],
+    &[T3],
+    &[DCC0],
+    &[NOT_DCC0],
+    &[DCC1],
+    &[NOT_DCC1],
+    &[NOT_DCC0, T0],
+    &[NOT_DCC1, T1],
+    &[T2, T3],
+    &[T0, T3],
+    &[T0, T1, T2],
+    &[T1, T2, T3],
+    &[DCC0, T1, T2],
+    &[DCC1, T0, T3],
+];
+
 /// The wordlines that an address of the bitwise group raises.
 #[inline(always)]
 pub fn b_wires(k: u8) -> &'static [Wire]
@@ -86,22 +106,5 @@ pub fn b_wires(k: u8) -> &'static [Wire]
     ensures lines { map (λ w. w.line) result.now ≡ lines_of (Addr.B k) }
     ensures wired { AllByRecursion IsWired result.now }
 {
-    match k {
-        0 => &[T0],
-        1 => &[T1],
-        2 => &[T2],
-        3 => &[T3],
-        4 => &[DCC0],
-        5 => &[NOT_DCC0],
-        6 => &[DCC1],
-        7 => &[NOT_DCC1],
-        8 => &[NOT_DCC0, T0],
-        9 => &[NOT_DCC1, T1],
-        10 => &[T2, T3],
-        11 => &[T0, T3],
-        12 => &[T0, T1, T2],
-        13 => &[T1, T2, T3],
-        14 => &[DCC0, T1, T2],
-        _ => &[DCC1, T0, T3],
-    }
+    GROUPS[k as usize]
 }

@@ -135,7 +135,8 @@ impl Bank {
         ensures wired { IsWired result }
         ensures stepped { (c : ℕ) → c < columns_of self.old
             → column_at self.new c ≡ step (Command.Ap x) (column_at self.old c) }
-        ensures sensed { (c : ℕ) → c < columns_of self.old → read_of (column_at self.new c) result.line
+        ensures sensed { (c : ℕ) → c < columns_of self.old
+            → read_of (column_at self.new c) result.line
             ≡ sense_of x (column_at self.old c) }
     {
         let group = match x {
