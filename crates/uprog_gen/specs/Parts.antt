@@ -14,24 +14,15 @@ use Rattle.row_alloc.specs.Known.{WordBody, graph_in, outs_in, sequence_for, kno
 use Rattle.row_alloc.specs.HeldBodies.{HeldBody, held_at, held_sequence_for}
 use Rattle.loop_ir.specs.Plain.{Block}
 use Rattle.loop_ir.specs.Spots.{nth_place}
+use Rattle.loop_ir.specs.Outputs.{IsOuts}
 use Rattle.loop_ir.specs.WellFormed.{IsWellFormed}
 use Rattle.loop_ir.specs.States.{StatesFit, has_states, held_of, row_count, enters, leaves}
-use Rattle.loop_ir.specs.Costs.{turn_cost, is_copy}
+use Rattle.loop_ir.specs.Costs.{body_cost, carries, turn_cost, is_copy}
 use Rattle.uprog_gen.specs.Code.{Part, IsPlanned}
 
--- the first m outputs: each has its literal, and names an input that is read at the place of its
--- write, if there is one
-pub record IsOuts (b : Block) (m : ℕ) (outs : List OutRow) : Type 0 where
-  pub size : length outs ≡ m
-  pub lits : (j : ℕ) → j < length outs → (out_at outs j).lit ≡ lit_at b.outs j
-  pub found : (j k : ℕ) → j < length outs → (out_at outs j).same ≡ Some k → (k < b.graph.inputs)
-      × (nth_place b.reads k ≡ nth_place b.writes j)
-  pub none : (j : ℕ) → j < length outs → (out_at outs j).same ≡ None → (k : ℕ) → k < b.graph.inputs
-      → nth_place b.reads k ≢ nth_place b.writes j
-
--- a part whose commands do its body, from the states that it reads to those that it writes: one
--- with states takes its own sequence; of the others a copy takes one command, and a body of the
--- word operations its own sequence
+-- a part whose commands do its body, from the states that it reads to those that it writes: one that
+-- carries commands takes those; of the rest one with states takes its own sequence, a copy one
+-- command, and a body of the word operations its own sequence
 pub record IsPart (p : Part) : Type 0 where
   pub well : IsWellFormed p.block
   pub graph : IsGraph p.block.graph.inputs p.block.graph.nodes
@@ -41,10 +32,12 @@ pub record IsPart (p : Part) : Type 0 where
   pub does : DoesHeld p.block.graph p.outs (enters 0 p.block.reads)
       (leaves p.block.writes p.block.outs) p.cmds
   pub few : length p.cmds ≤ turn_cost p.block
-  pub held : has_states p.block ≡ true → (h : HeldBody) × (held_of p.block ≡ Some h)
+  pub short : length p.cmds ≤ body_cost p.block
+  pub found : carries p.block ≡ true → p.cmds ≡ p.block.found
+  pub held : carries p.block ≡ false → has_states p.block ≡ true → (h : HeldBody) × (held_of p.block ≡ Some h)
       × (p.cmds ≡ held_at (held_sequence_for h))
-  pub copy : has_states p.block ≡ false → is_copy p.block ≡ true → (x : BodyRef) × (y : BodyRef)
+  pub copy : carries p.block ≡ false → has_states p.block ≡ false → is_copy p.block ≡ true → (x : BodyRef) × (y : BodyRef)
       × (p.cmds ≡ Aap x y ∷ [])
-  pub word : has_states p.block ≡ false → (w : WordBody) → p.block.graph ≡ graph_in w
+  pub word : carries p.block ≡ false → has_states p.block ≡ false → (w : WordBody) → p.block.graph ≡ graph_in w
       → p.block.outs ≡ outs_in w → WritesLate p.outs (known_at (sequence_for w))
       → p.cmds ≡ known_at (sequence_for w)

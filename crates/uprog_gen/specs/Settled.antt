@@ -1,5 +1,5 @@
--- Bodies whose commands are settled: those with states in cells, copies, and the bodies of the word
--- operations.
+-- Bodies whose commands are settled: those that carry them, those with states in cells, copies, and
+-- the bodies of the word operations.
 -- Only the compiler's own calls on one op speak of this.
 use Rattle.std.specs.Prelude.{◌≡◌, ℕ, ◌+◌, Bool, true, false, if◌then◌else◌, List, [], ◌∷◌, sum_by}
 use Rattle.std.specs.Prelude.{count_by, Option, Some, None}
@@ -16,7 +16,7 @@ use Rattle.loop_ir.specs.Loops.{RoundOf}
 use Rattle.loop_ir.specs.Spots.{nth_place}
 use Rattle.loop_ir.specs.Same.{is_body}
 use Rattle.loop_ir.specs.States.{has_states, held_of}
-use Rattle.loop_ir.specs.Costs.{is_copy}
+use Rattle.loop_ir.specs.Costs.{carries, is_copy}
 
 -- the command copies a row, and counts as an AAP
 abbrev pub is_aap : BodyCmd → Bool
@@ -54,8 +54,9 @@ held_commands (Some h) = held_at (held_sequence_for h)
 
 -- how many commands of a kind a round takes, where a copy takes so many
 abbrev pub turn_count : (BodyCmd → Bool) → ℕ → Block → ℕ
-turn_count f copy b = if has_states b then count_by f (held_commands (held_of b))
-    else (if is_copy b then copy else count_by f (word_commands (word_of b)))
+turn_count f copy b = if carries b then count_by f b.found
+    else (if has_states b then count_by f (held_commands (held_of b))
+    else (if is_copy b then copy else count_by f (word_commands (word_of b))))
 
 -- how many AAP a round takes
 abbrev pub turn_aaps : Block → ℕ
@@ -71,7 +72,7 @@ KeepsReads Shifted b = nth_place b.reads 0 ≡ nth_place b.writes 0 → ⊥
 KeepsReads Multiplied b = nth_place b.reads 0 ≡ nth_place b.writes 1 → ⊥
 KeepsReads w b = Unit {0}
 
--- the commands of the body are settled: it has states, or is a copy, or has a known sequence that
+-- the commands of a body that carries none are settled: it has states, or is a copy, or has a known sequence that
 -- keeps its reads
 abbrev pub IsSettledAs : Bool → Bool → Option WordBody → Block → Type 0
 IsSettledAs true copy o b = Unit {0}
@@ -79,9 +80,14 @@ IsSettledAs false true o b = Unit {0}
 IsSettledAs false false None b = ⊥
 IsSettledAs false false (Some w) b = KeepsReads w b
 
--- so they are, as the body is
+-- the body carries commands, or they are settled as it is
+abbrev pub IsSettledOr : Bool → Block → Type 0
+IsSettledOr true b = Unit {0}
+IsSettledOr false b = IsSettledAs (has_states b) (is_copy b) (word_of b) b
+
+-- so they are
 abbrev pub IsSettled : Block → Type 0
-IsSettled b = IsSettledAs (has_states b) (is_copy b) (word_of b) b
+IsSettled b = IsSettledOr (carries b) b
 
 -- the commands of all rounds
 abbrev pub rounds_counts : List (RoundOf Block) → Counts

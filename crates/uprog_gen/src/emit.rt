@@ -13,10 +13,10 @@ ghost use Rattle.uprog_gen.specs.Code.{pairs_code};
 ghost use Rattle.uprog_gen.specs.Made.{part_of, is_ref_of, are_refs_of};
 ghost use Rattle.uprog_gen.specs.Parts.{IsPart};
 
-use crate::part::{Made, place_at};
+use crate::part::Made;
 use crate::plan::{Plan, register};
 use faults::keep;
-use loop_ir::{Body, Count, Place, Space, Sub};
+use loop_ir::{Body, Count, Place, Space, Sub, place_at};
 use mig_graph::NoMemory;
 use row_alloc::{BodyCmd, BodyRef};
 use uprog_code::{RowRef, RowSpace, Uop};
@@ -74,8 +74,8 @@ fn row_ref(plan: Plan, body: &Body, row: BodyRef) -> RowRef
     match row {
         BodyRef::B(k) => fixed_row(RowSpace::B, k),
         BodyRef::C(k) => fixed_row(RowSpace::C, k),
-        BodyRef::In(k) => place_ref(plan, place_at(&body.reads, k)),
-        BodyRef::Out(k) => place_ref(plan, place_at(&body.writes, k)),
+        BodyRef::In(k) => place_ref(plan, place_at(&body.reads, k as usize)),
+        BodyRef::Out(k) => place_ref(plan, place_at(&body.writes, k as usize)),
         BodyRef::Spill(k) => fixed_row(RowSpace::Spill, k),
     }
 }

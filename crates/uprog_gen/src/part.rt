@@ -1,18 +1,17 @@
 //! The commands of a body.
 
-ghost use Rattle.std.specs.Prelude.{◌≡◌, ◌≢◌, ℕ, ◌<◌, ◌≤◌, ◌++◌, ◌∷◌, [], length, OnOk, IfOk};
-ghost use Rattle.std.specs.Prelude.{IfSome, IfNone};
+ghost use Rattle.std.specs.Prelude.{◌≡◌, IfOk};
 ghost use Rattle.loop_ir.specs.Plain.{block_of};
+ghost use Rattle.loop_ir.specs.Costs.{carries};
+ghost use Rattle.loop_ir.specs.Outputs.{IsOuts};
 ghost use Rattle.loop_ir.specs.States.{row_count as rows_in};
-ghost use Rattle.loop_ir.specs.Spots.{nth_place};
-ghost use Rattle.uprog_gen.specs.Parts.{IsOuts, IsPart};
+ghost use Rattle.uprog_gen.specs.Parts.{IsPart};
 ghost use Rattle.loop_ir.specs.Limits.{IsSmall};
 ghost use Rattle.uprog_gen.specs.Made.{part_of};
 
 use crate::plan::{Plan, plan_of};
 use crate::states::{has_states, held_commands, row_count};
-use faults::keep;
-use loop_ir::{Body, Place};
+use loop_ir::{Body, out_rows};
 use mig_graph::NoMemory;
 use row_alloc::{BodyCmd, OutRow, greedy_body};
 use std::alloc::Global;
@@ -34,52 +33,41 @@ impl Drop for Made {
     }
 }
 
-/// A place of the list.
-pub fn place_at(places: &[Place], k: u8) -> Place
-    requires { k < length places.now }
-    ensures { result ≡ nth_place places.now k }
-{
-    places[k as usize]
-}
-
-/// The input that is read at a place.
-fn find_place(reads: &[Place], inputs: u8, place: Place) -> Option<u8>
-    requires { inputs ≤ length reads.now }
-    ensures found { IfSome result (λ k. (k < inputs) × (nth_place reads.now k ≡ place)) }
-    ensures none { IfNone result ((k : ℕ) → k < inputs → nth_place reads.now k ≢ place) }
-{
-    for k in 0..inputs {
-        if place_at(reads, k) == place {
-            return Some(k);
-        }
-    }
-    None
-}
-
 /// The rows of the body's outputs that have one.
-fn out_rows(body: &Body, alloc: Global) -> Result<Vec<OutRow>, NoMemory>
+fn outs_of(body: &Body, alloc: Global) -> Result<Vec<OutRow>, NoMemory>
     requires { IsSmall (block_of body.now) }
     ensures { IfOk result (λ outs. IsOuts (block_of body.now)
         (rows_in body.now.writes.items) outs.items) }
 {
-    let mut outs = Vec::new(alloc);
-    let inputs = body.graph.mig.inputs();
-    for j in 0..row_count(&body.writes) {
-        let place = place_at(&body.writes, j as u8);
-        let same = find_place(&body.reads, inputs, place);
-        let lit = body.graph.outs[j];
-        keep(&mut outs, OutRow { lit, same })?;
-    }
-    Ok(outs)
+    let count = row_count(&body.writes);
+    out_rows(&body.graph, &body.reads, &body.writes, count, alloc)
 }
 
-/// The commands of a body.
+/// Whether the body carries commands.
+fn carries(body: &Body) -> bool
+    ensures { result ≡ carries (block_of body.now) }
+{
+    0 < body.found.len()
+}
+
+/// A copy of the commands that the body carries.
+fn carried(body: &Body, alloc: Global) -> Result<Vec<BodyCmd>, NoMemory>
+    ensures { IfOk result (λ cmds. cmds.items ≡ body.now.found.items) }
+{
+    Ok(body.found.to_vec(alloc)?)
+}
+
+/// The commands of a body: those that it carries, or else those that are found for it.
 pub fn make_part(body: &Body, alloc: Global) -> Result<Made, NoMemory>
     requires { IsSmall (block_of body.now) }
     ensures { IfOk result (λ made. IsPart (part_of (block_of body.now) made)) }
 {
     let plan = plan_of(body, alloc)?;
-    let outs = out_rows(body, alloc)?;
+    let outs = outs_of(body, alloc)?;
+    if carries(body) {
+        let cmds = carried(body, alloc)?;
+        return Ok(Made { plan, outs, cmds });
+    }
     if has_states(body) {
         let cmds = held_commands(body, &outs, alloc)?;
         return Ok(Made { plan, outs, cmds });

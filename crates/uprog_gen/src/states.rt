@@ -1,6 +1,6 @@
 //! The states of a body, which stand in cells, and its commands where it has any.
 
-ghost use Rattle.std.specs.Prelude.{◌≡◌, ◌<◌, ◌≤◌, ◌++◌, ◌∷◌, [], true, length, Some, IfOk};
+ghost use Rattle.std.specs.Prelude.{◌≡◌, ◌<◌, ◌≤◌, ◌++◌, ◌∷◌, [], true, false, length, Some, IfOk};
 ghost use Rattle.std.specs.List.{list_any};
 ghost use Rattle.row_alloc.specs.Held.{DoesHeld};
 ghost use Rattle.row_alloc.specs.HeldBodies.{HeldBody, held_at, held_sequence_for};
@@ -8,7 +8,8 @@ ghost use Rattle.loop_ir.specs.Plain.{block_of};
 ghost use Rattle.loop_ir.specs.Spots.{is_state as is_state_space};
 ghost use Rattle.loop_ir.specs.States.{has_states, row_count, enters, leaves, held_of};
 ghost use Rattle.loop_ir.specs.Limits.{IsSmall};
-ghost use Rattle.uprog_gen.specs.Parts.{IsOuts};
+ghost use Rattle.loop_ir.specs.Costs.{carries};
+ghost use Rattle.loop_ir.specs.Outputs.{IsOuts};
 
 use faults::keep;
 use loop_ir::{Body, Place, Space};
@@ -94,9 +95,10 @@ fn leaves(body: &Body, alloc: Global) -> Result<Vec<Held>, NoMemory>
     Ok(leave)
 }
 
-/// The commands of a body with states, which has a sequence.
+/// The commands of a body with states that carries none: it has a sequence.
 pub fn held_commands(body: &Body, outs: &[OutRow], alloc: Global) -> Result<Vec<BodyCmd>, NoMemory>
     requires small { IsSmall (block_of body.now) }
+    requires bare { carries (block_of body.now) ≡ false }
     requires states { has_states (block_of body.now) ≡ true }
     requires outs { IsOuts (block_of body.now) (row_count body.now.writes.items) outs.now }
     ensures does { IfOk result (λ cmds. DoesHeld body.now.graph.mig outs.now

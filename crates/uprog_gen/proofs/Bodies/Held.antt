@@ -21,10 +21,10 @@ use Rattle.loop_ir.specs.Spots.{nth_place, is_state}
 use Rattle.loop_ir.specs.Same.{same_lit, same_lits, same_nodes}
 use Rattle.loop_ir.specs.States.{has_states, row_count, RowsFirst, enters, leaves}
 use Rattle.loop_ir.specs.States.{row_outs, same_held, same_helds, is_held_body, held_bodies, held_of}
-use Rattle.loop_ir.specs.Costs.{same_sub, turn_cost, held_cost}
+use Rattle.loop_ir.specs.Costs.{carries, same_sub, turn_cost, held_cost}
 use Rattle.loop_ir.specs.Limits.{IsSmall, is_served}
 use Rattle.loop_laws.proofs.Costing.{found-is}
-use Rattle.uprog_gen.specs.Parts.{IsOuts}
+use Rattle.loop_ir.specs.Outputs.{IsOuts}
 use Rattle.uprog_gen.proofs.Bodies.Fixed.{lits-eq, all-lits, all-nodes, graph-made}
 use Rattle.uprog_gen.proofs.Bodies.Planned.{same_self}
 use Rattle.uprog_gen.proofs.Rows.Settled.{some_out}
@@ -143,9 +143,9 @@ pub record IsServed (b : Block) (outs : List OutRow) : Type 0 where
   pub lits : map (λ o. o.lit) outs ≡ held_outs body
   pub late : WritesLate outs (held_at (held_sequence_for body))
 
-pub served : (b : Block) (outs : List OutRow) → IsSmall b → has_states b ≡ true
+pub served : (b : Block) (outs : List OutRow) → IsSmall b → carries b ≡ false → has_states b ≡ true
     → IsOuts b (row_count b.writes) outs → IsServed b outs
-served b outs small states is = by (held_of b) refl (small.known states)
+served b outs small bare states is = by (held_of b) refl (small.known bare states)
   where
     by : (o : Option HeldBody) → held_of b ≡ o → is_served o b ≡ true → IsServed b outs
     by None e s = absurd (cc)
@@ -169,12 +169,16 @@ pub leaving_listed : (b : Block) (h : HeldBody) (hs : List Held) → IsHeldBody 
     → hs ≡ leaves b.writes b.outs → have_layouts hs ≡ true
 leaving_listed b h hs is e = ap have_layouts (e ∙ is.leave) ∙ (layouts_listed h).1
 
-at_true : (c : Bool) (x y k : ℕ) → c ≡ true → k ≤ x → k ≤ cond c x y
+pub at_true : (c : Bool) (x y k : ℕ) → c ≡ true → k ≤ x → k ≤ cond c x y
 at_true true x y k h l = l
 at_true false x y k h l = absurd (cc)
 
 -- its sequence has the length that is counted for a round
-pub held_few : (b : Block) (h : HeldBody) (k : ℕ) → has_states b ≡ true → held_of b ≡ Some h
+pub at_false : (c : Bool) (x y k : ℕ) → c ≡ false → k ≤ y → k ≤ cond c x y
+at_false true x y k h l = absurd (cc)
+at_false false x y k h l = l
+
+pub held_few : (b : Block) (h : HeldBody) (k : ℕ) → carries b ≡ false → has_states b ≡ true → held_of b ≡ Some h
     → k ≡ length (held_at (held_sequence_for h)) → k ≤ turn_cost b
-held_few b h k states e n = at_true (has_states b) (held_cost (held_of b)) _ k states
-    (omega (arith, n, ap held_cost e))
+held_few b h k bare states e n = at_false (carries b) (length b.found) _ k bare
+    (at_true (has_states b) (held_cost (held_of b)) _ k states (omega (arith, n, ap held_cost e)))

@@ -21,10 +21,11 @@ use Rattle.row_alloc.specs.Known.{WordBody, graph_in, outs_in, sequence_for, kno
 use Rattle.loop_ir.specs.declared.ir.Place.{Place}
 use Rattle.loop_ir.specs.Plain.{Block}
 use Rattle.loop_ir.specs.Spots.{nth_place, is_state}
-use Rattle.uprog_gen.specs.Parts.{IsOuts, IsPart}
+use Rattle.loop_ir.specs.Outputs.{IsOuts}
+use Rattle.uprog_gen.specs.Parts.{IsPart}
 use Rattle.mig_graph.specs.Outputs.{lit_at}
 use Rattle.loop_ir.specs.Costs.{is_copy, is_not, is_and, is_or, is_xor, is_add, turn_cost}
-use Rattle.loop_ir.specs.Costs.{held_cost}
+use Rattle.loop_ir.specs.Costs.{held_cost, carries}
 use Rattle.uprog_gen.proofs.Bodies.Fixed.{IsLeast, by_cases, body_is, not_few, and_few, or_few}
 use Rattle.uprog_gen.proofs.Bodies.Fixed.{xor_few}
 use Rattle.uprog_gen.proofs.Bodies.Fixed.{add_few}
@@ -36,7 +37,8 @@ use Rattle.row_alloc.specs.Held.{DoesHeld}
 use Rattle.row_alloc.proofs.Plainly.{plainly}
 use Rattle.row_alloc.specs.HeldBodies.{HeldBody, held_at, held_sequence_for}
 use Rattle.loop_ir.specs.States.{has_states, held_of, row_count, enters, leaves}
-use Rattle.uprog_gen.proofs.Bodies.Held.{held_few}
+use Rattle.uprog_gen.proofs.Bodies.Held.{held_few, at_true, at_false}
+use Rattle.loop_laws.proofs.Costing.{turn-most, plain-most}
 use Rattle.uprog_gen.proofs.Rows.Named.{row_few}
 use Rattle.loop_laws.proofs.Rowed.{have_rows, all_count, no_enters, no_leaves}
 
@@ -83,86 +85,6 @@ module _ (ps : List Place) (ls : List Lit) (j : ℕ) (p : Place) (l : Lit) (hs :
   pub row_left : is_state p.space ≡ false → hs ++ rest ≡ leaves ps ls
   row_left st = ap (λ t. hs ++ t) (sym (left_here
       ∙ ap (λ c. cond c (record { lit = l; layout = p.which } ∷ rest) rest) st)) ∙ is
-
--- what is found for one output
-pub record IsFound (b : Block) (j : ℕ) (out : OutRow) : Type 0 where
-  pub lit : out.lit ≡ lit_at b.outs j
-  pub found : (k : ℕ) → out.same ≡ Some k → (k < b.graph.inputs)
-      × (nth_place b.reads k ≡ nth_place b.writes j)
-  pub none : out.same ≡ None → (k : ℕ) → k < b.graph.inputs
-      → nth_place b.reads k ≢ nth_place b.writes j
-
-lit-here : (ls : List Lit) (j : ℕ) (x : Lit) → j < length ls → x ≡ slice_index_or ls j x
-    → x ≡ lit_at ls j
-lit-here [] j x lt e = absurd (omega arith)
-lit-here (l ∷ ls) zero x lt e = e
-lit-here (l ∷ ls) (suc j) x lt e = lit-here ls j x (omega arith) e
-
--- what the search gives
-pub found-here : (b : Block) (j : ℕ) (lit : Lit) (same : Option ℕ) (reads : List Place) (inputs : ℕ)
-    (place : Place) (writes : List Place) → reads ≡ b.reads → inputs ≡ b.graph.inputs
-    → writes ≡ b.writes → place ≡ nth_place writes j → j < length b.outs
-    → lit ≡ slice_index_or b.outs j lit → IfSome same (λ k. (k < inputs)
-    × (nth_place reads k ≡ place)) → IfNone same ((k : ℕ) → k < inputs → nth_place reads k ≢ place)
-    → IsFound b j (record { lit = lit; same = same })
-found-here b j lit None reads inputs place writes er ei ew ep lt el f g = record {
-  lit = lit-here b.outs j lit lt el;
-  found = λ k h. absurd (cc);
-  none = λ h k lk e. g k (omega arith) (ap (λ l. nth_place l k) er ∙ e
-      ∙ ap (λ l. nth_place l j) (sym ew) ∙ sym ep);
-}
-found-here b j lit (Some l) reads inputs place writes er ei ew ep lt el f g = record {
-  lit = lit-here b.outs j lit lt el;
-  found = λ k h. let s : l ≡ k = cc in subst (λ m. (m < b.graph.inputs)
-      × (nth_place b.reads m ≡ nth_place b.writes j)) s (
-        let a : l < inputs = f.0 in
-            omega arith,
-        ap (λ x. nth_place x l) (sym er) ∙ f.1 ∙ ep ∙ ap (λ x. nth_place x j) ew,
-      );
-  none = λ h. absurd (cc);
-}
-
-out-old : (outs : List OutRow) (o : OutRow) (j : ℕ) → j < length outs
-    → out_at (outs ++ o ∷ []) j ≡ out_at outs j
-out-old outs o j lt = get_or_append_left outs (o
-    ∷ []) (record { lit = record { node = 0; inverted = false }; same = None }) j lt
-
-out-last : (outs : List OutRow) (o : OutRow) (j : ℕ) → j ≡ length outs
-    → out_at (outs ++ o ∷ []) j ≡ o
-out-last outs o j e = subst (λ k. out_at (outs ++ o ∷ []) k
-    ≡ o) (sym e) (get_or-append_seam outs o []
-    (record { lit = record { node = 0; inverted = false }; same = None }))
-
-pub outs-more : (b : Block) (m : ℕ) (outs more : List OutRow) (o : OutRow) → more ≡ outs ++ o ∷ []
-    → IsOuts b m outs → IsFound b m o → IsOuts b (m + 1) more
-outs-more b m outs more o eq h f =
-    subst (IsOuts b (m + 1)) (sym eq)
-    (record {
-      size = omega (arith, length-append outs (o ∷ []), h.size);
-      lits = λ j lt. by j lt (λ q. q.lit ≡ lit_at b.outs j) (λ l. h.lits j l) (λ e.
-          subst (λ k. o.lit ≡ lit_at b.outs k) (sym e) f.lit);
-      found = λ j k lt. by j lt (λ q. q.same ≡ Some k → (k < b.graph.inputs)
-          × (nth_place b.reads k ≡ nth_place b.writes j)) (λ l. h.found j k l) (λ e.
-          subst (λ i. o.same ≡ Some k → (k < b.graph.inputs)
-          × (nth_place b.reads k ≡ nth_place b.writes i)) (sym e) (f.found k));
-      none = λ j lt. by j lt (λ q. q.same ≡ None → (k : ℕ) → k < b.graph.inputs
-          → nth_place b.reads k ≢ nth_place b.writes j) (λ l. h.none j l) (λ e.
-          subst (λ i. o.same ≡ None → (k : ℕ) → k < b.graph.inputs
-          → nth_place b.reads k ≢ nth_place b.writes i) (sym e) f.none);
-    })
-  where
-    by : (j : ℕ) → j < length (outs ++ o ∷ []) → (P : OutRow → Type 0)
-        → (j < length outs → P (out_at outs j)) → (j ≡ m → P o) → P (out_at (outs ++ o ∷ []) j)
-    by j lt P old last =
-        ⊎_elim
-        (λ (e : j ≡ m). subst P (sym (out-last outs o j (e ∙ sym h.size))) (last e))
-        (λ (ne : j ≡ m → ⊥). let l : j < length outs = omega (
-          arith,
-          lt,
-          h.size,
-          length-append outs (o ∷ []),
-        ) in subst P (sym (out-old outs o j l)) (old l))
-        (cases_eq j m)
 
 -- the conditions on a body
 pub fit : (b : Block) (outs : List OutRow) → IsSmall b → IsOuts b (row_count b.writes) outs
@@ -218,17 +140,14 @@ lits_of (l ∷ ls) (o ∷ outs) n h =
     ap (λ x. x ∷ map (λ (o : OutRow). o.lit) outs) (h 0 (omega arith))
     ∙ ap (λ xs. l ∷ xs) (lits_of ls outs (omega (arith, n)) (λ j lt. h (suc j) (omega (arith, lt))))
 
-at_false : (c : Bool) (x y k : ℕ) → c ≡ false → k ≤ y → k ≤ cond c x y
-at_false true x y k h l = absurd (cc)
-at_false false x y k h l = l
-
-few_cmds : (b : Block) (outs : List OutRow) (k : ℕ) → has_states b ≡ false → FitBody b.graph outs
+few_cmds : (b : Block) (outs : List OutRow) (k : ℕ) → carries b ≡ false → has_states b ≡ false → FitBody b.graph outs
     → IsOuts b (length b.outs) outs → k ≤ 4 * length b.graph.nodes + 3 * length outs
     → (length b.graph.nodes ≡ 0 → length outs ≡ 1 → is_complemented (out_at outs 0).lit ≡ false
     → k ≤ 1)
     → IsLeast b.graph outs k → k ≤ turn_cost b
-few_cmds b outs k none fits is few one least =
-    at_false (has_states b) (held_cost (held_of b)) _ k none
+few_cmds b outs k bare none fits is few one least =
+    at_false (carries b) (length b.found) _ k bare
+    (at_false (has_states b) (held_cost (held_of b)) _ k none
     (by_cases (is_copy b) 1 _ k copied
     (by_cases (is_not b) 2 _ k (λ e. let h = body_is 1 _ _ b e in
     not_few b.graph b.outs outs k h.0 h.1 fits is.size is.lits least)
@@ -240,7 +159,7 @@ few_cmds b outs k none fits is few one least =
     xor_few b.graph b.outs outs k h.0 h.1 fits is.size is.lits least)
     (by_cases (is_add b) 9 _ k (λ e. let h = body_is 3 _ _ b e in
     add_few b.graph b.outs outs k h.0 h.1 fits is.size is.lits least)
-    (omega (arith, few, is.size))))))))
+    (omega (arith, few, is.size)))))))))
   where
     copied : is_copy b ≡ true → k ≤ 1
     copied e =
@@ -256,7 +175,7 @@ few_cmds b outs k none fits is few one least =
 
 -- a plan, outputs and commands make a part of a body without states
 pub is_part : (b : Block) (plan : Plan) (outs : List OutRow) (cmds : List BodyCmd) → IsSmall b
-    → has_states b ≡ false → plan ≡ plan_of b → IsOuts b (row_count b.writes) outs
+    → carries b ≡ false → has_states b ≡ false → plan ≡ plan_of b → IsOuts b (row_count b.writes) outs
     → DoesBody b.graph outs cmds → length cmds ≤ 4 * length b.graph.nodes + 3 * length outs
     → (length b.graph.nodes ≡ 0 → length outs ≡ 1 → is_complemented (out_at outs 0).lit ≡ false
     → length cmds ≤ 1) → IsLeast b.graph outs (length cmds)
@@ -265,7 +184,7 @@ pub is_part : (b : Block) (plan : Plan) (outs : List OutRow) (cmds : List BodyCm
     → ((w : WordBody) → b.graph ≡ graph_in w → map (λ o. o.lit) outs ≡ outs_in w
     → WritesLate outs (known_at (sequence_for w)) → cmds ≡ known_at (sequence_for w))
     → IsPart (record { block = b; plan = plan; outs = outs; cmds = cmds })
-is_part b plan outs cmds small none e is does few one least copy word =
+is_part b plan outs cmds small bare none e is does few one least copy word =
     let rows = have_rows b none in
     let all : IsOuts b (length b.outs) outs = subst (λ m. IsOuts b m outs)
     (all_count b.writes rows.1 ∙ sym small.states.written) is in
@@ -280,31 +199,59 @@ is_part b plan outs cmds small none e is does few one least copy word =
           (subst (λ hs. DoesHeld b.graph outs [] hs cmds)
           (sym (no_leaves b.writes b.outs rows.1))
           (plainly b.graph outs cmds small.graph (fit b outs small is) does));
-      few = few_cmds b outs (length cmds) none (fit b outs small is) all few one least;
-      held = λ states. absurd (let f : true ≡ false = sym states ∙ none in cc);
-      copy = λ n c. let h = copied_one b outs all c in (
+      few = few_cmds b outs (length cmds) bare none (fit b outs small is) all few one least;
+      short = omega (arith, few, all.size);
+      found = λ carried. absurd (let f : true ≡ false = sym carried ∙ bare in cc);
+      held = λ bare' states. absurd (let f : true ≡ false = sym states ∙ none in cc);
+      copy = λ bare' n c. let h = copied_one b outs all c in (
         source_of b.graph.inputs (out_at outs 0).lit,
         Out 0,
         copy h.0 h.1 h.2,
       );
-      word = λ n w g o late. word w g (lits_of b.outs outs all.size all.lits ∙ o) late;
+      word = λ bare' n w g o late. word w g (lits_of b.outs outs all.size all.lits ∙ o) late;
     }
 
 -- and of one with states
 pub is_held_part : (b : Block) (plan : Plan) (outs : List OutRow) (cmds : List BodyCmd)
-    → IsSmall b → has_states b ≡ true → plan ≡ plan_of b → IsOuts b (row_count b.writes) outs
+    → IsSmall b → carries b ≡ false → has_states b ≡ true → plan ≡ plan_of b → IsOuts b (row_count b.writes) outs
     → DoesHeld b.graph outs (enters 0 b.reads) (leaves b.writes b.outs) cmds
     → (h : HeldBody) × (held_of b ≡ Some h) × (cmds ≡ held_at (held_sequence_for h))
     → IsPart (record { block = b; plan = plan; outs = outs; cmds = cmds })
-is_held_part b plan outs cmds small states e is does own = record {
+is_held_part b plan outs cmds small bare states e is does own = record {
   well = small.well;
   graph = small.graph;
   planned = subst (λ p. IsPlanned p b) (sym e) (plans b small.subs);
   states = small.states;
   outs = is;
   does = does;
-  few = held_few b own.0 (length cmds) states own.1 (ap length own.2);
-  held = λ s. own;
-  copy = λ none c. absurd (let f : true ≡ false = sym states ∙ none in cc);
-  word = λ none w g o late. absurd (let f : true ≡ false = sym states ∙ none in cc);
+  few = held_few b own.0 (length cmds) bare states own.1 (ap length own.2);
+  short = let f = held_few b own.0 (length cmds) bare states own.1 (ap length own.2) in
+      let m = turn-most b (λ carried. absurd (let f : true ≡ false = sym carried ∙ bare in cc)) in
+      omega (arith, f, m);
+  found = λ carried. absurd (let f : true ≡ false = sym carried ∙ bare in cc);
+  held = λ bare' s. own;
+  copy = λ bare' none c. absurd (let f : true ≡ false = sym states ∙ none in cc);
+  word = λ bare' none w g o late. absurd (let f : true ≡ false = sym states ∙ none in cc);
 }
+
+-- and of one that carries its commands
+pub is_carried_part : (b : Block) (plan : Plan) (outs : List OutRow) (cmds : List BodyCmd)
+    → IsSmall b → carries b ≡ true → plan ≡ plan_of b → IsOuts b (row_count b.writes) outs
+    → cmds ≡ b.found → IsPart (record { block = b; plan = plan; outs = outs; cmds = cmds })
+is_carried_part b plan outs cmds small carried e is own =
+    let found = small.found carried in
+    record {
+      well = small.well;
+      graph = small.graph;
+      planned = subst (λ p. IsPlanned p b) (sym e) (plans b small.subs);
+      states = small.states;
+      outs = is;
+      does = subst (λ cs. DoesHeld b.graph outs (enters 0 b.reads) (leaves b.writes b.outs) cs)
+          (sym own) (found.does outs is);
+      few = at_true (carries b) (length b.found) _ (length cmds) carried (omega (arith, ap length own));
+      short = let f = found.few in omega (arith, ap length own, f, plain-most b);
+      found = λ c. own;
+      held = λ bare. absurd (let f : true ≡ false = sym carried ∙ bare in cc);
+      copy = λ bare. absurd (let f : true ≡ false = sym carried ∙ bare in cc);
+      word = λ bare. absurd (let f : true ≡ false = sym carried ∙ bare in cc);
+    }

@@ -23,7 +23,6 @@ use Rattle.uprog_gen.specs.Code.{enter_code, loop_code, inner_list, outside, ste
 use Rattle.uprog_gen.specs.Code.{program_code}
 use Rattle.loop_ir.specs.Costs.{is_fixed, body_cost, counter_cost, inner_cost, step_cost}
 use Rattle.loop_ir.specs.Costs.{code_cost}
-use Rattle.loop_laws.proofs.Costing.{turn-most}
 use Rattle.uprog_gen.specs.Parts.{IsPart}
 
 init_few : (u : Sub) (r : ℕ) → length (init u r) + length (before u r) + length (after u r) ≤ 2
@@ -79,8 +78,7 @@ body_few : (p : Part) → IsPart p → length (body_uops p) ≤ body_cost p.bloc
 body_few p is = omega (
   arith,
   length-map p.cmds (code_uop p.plan p.block),
-  is.few,
-  turn-most p.block,
+  is.short,
 )
 
 pub once_few : (p : Part) → IsPart p → length (once_code p) ≤ body_cost p.block + 6

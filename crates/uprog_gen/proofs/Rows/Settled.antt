@@ -22,13 +22,14 @@ use Rattle.loop_ir.specs.Plain.InnerOf.{Alone, Across}
 use Rattle.loop_ir.specs.Plain.StepOf.{Single, Along, Nest, Pairs}
 use Rattle.loop_ir.specs.Loops.{RoundOf}
 use Rattle.loop_ir.specs.States.{has_states, held_of, row_count}
-use Rattle.loop_ir.specs.Costs.{is_copy}
+use Rattle.loop_ir.specs.Costs.{carries, is_copy}
 use Rattle.uprog_gen.specs.Code.{Part, block_of_part, blocks}
 use Rattle.uprog_gen.proofs.Rows.Issued.{round_command, rounds_commands}
-use Rattle.uprog_gen.specs.Parts.{IsPart, IsOuts}
+use Rattle.loop_ir.specs.Outputs.{IsOuts}
+use Rattle.uprog_gen.specs.Parts.{IsPart}
 use Rattle.uprog_gen.specs.Settled.{is_aap, is_ap, is_word_body, word_among, word_of, word_commands}
 use Rattle.uprog_gen.specs.Settled.{held_commands}
-use Rattle.uprog_gen.specs.Settled.{turn_count, turn_aaps, turn_aps, KeepsReads, IsSettledAs}
+use Rattle.uprog_gen.specs.Settled.{turn_count, turn_aaps, turn_aps, KeepsReads, IsSettledAs, IsSettledOr}
 use Rattle.uprog_gen.specs.Settled.{IsSettled}
 use Rattle.uprog_gen.proofs.Bodies.Fixed.{body_is}
 use Rattle.uprog_gen.proofs.Rows.Rounds.{block_round}
@@ -73,23 +74,30 @@ kept b m outs Divided is k = tt
 part_count : (f : BodyCmd → Bool) (one : ℕ) → ((x y : BodyRef) → count_by f (Aap x y ∷ []) ≡ one)
     → (p : Part) → IsPart p → IsSettled p.block → count_by f p.cmds ≡ turn_count f one p.block
 part_count f one copies p is settled =
-    by (has_states p.block) refl (is_copy p.block) refl (word_of p.block) refl settled
+    whole (carries p.block) refl settled
   where
-    by : (x : Bool) → has_states p.block ≡ x → (c : Bool) → is_copy p.block ≡ c
+    by : carries p.block ≡ false → (x : Bool) → has_states p.block ≡ x → (c : Bool) → is_copy p.block ≡ c
         → (o : Option WordBody) → word_of p.block ≡ o → IsSettledAs x c o p.block
         → count_by f p.cmds ≡ cond x (count_by f (held_commands (held_of p.block)))
         (cond c one (count_by f (word_commands o)))
-    by true x c e o g s = let h = is.held x in
+    by bare true x c e o g s = let h = is.held bare x in
         ap (count_by f) h.2 ∙ ap (λ o. count_by f (held_commands o)) (sym h.1)
-    by false x true e o g s = let h = is.copy x e in ap (count_by f) h.2 ∙ copies h.0 h.1
-    by false x false e None g s = absurd s
-    by false x false e (Some w) g s =
+    by bare false x true e o g s = let h = is.copy bare x e in ap (count_by f) h.2 ∙ copies h.0 h.1
+    by bare false x false e None g s = absurd s
+    by bare false x false e (Some w) g s =
         let h = body_is (inputs_in w) (nodes_in w) (outs_in w) p.block
         (found_word (Inverted ∷ Shifted ∷ Both ∷ Either ∷ Without ∷ Unlike ∷ Chosen ∷ Compared
         ∷ Agreed ∷ Added ∷ Lessened ∷ NegatedIf ∷ Multiplied ∷ Counted ∷ Divided ∷ []) p.block w
         g) in
-        ap (count_by f) (is.word x w h.0 h.1
+        ap (count_by f) (is.word bare x w h.0 h.1
         (word_late w p.outs (kept p.block (row_count p.block.writes) p.outs w is.outs s)))
+
+    whole : (c : Bool) → carries p.block ≡ c → IsSettledOr c p.block
+        → count_by f p.cmds ≡ cond c (count_by f p.block.found) (cond (has_states p.block)
+        (count_by f (held_commands (held_of p.block)))
+        (cond (is_copy p.block) one (count_by f (word_commands (word_of p.block)))))
+    whole true e s = ap (count_by f) (is.found e)
+    whole false e s = by e (has_states p.block) refl (is_copy p.block) refl (word_of p.block) refl s
 
 -- what holds of the bodies holds of the parts
 inner_parts : (P : Block → Type 0) (xs : List (InnerOf Part))

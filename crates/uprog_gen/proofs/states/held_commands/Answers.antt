@@ -11,21 +11,21 @@ held_body-requires-clause-fit c =
 pub held_body-requires-clause-enter : goal.held_body-requires-clause-enter
 held_body-requires-clause-enter c =
     let b = block_of c.args.body.now in
-    let s = served b c.args.outs.now c.requires.small c.requires.states c.requires.outs in
+    let s = served b c.args.outs.now c.requires.small c.requires.bare c.requires.states c.requires.outs in
     entering_listed b s.body c.deref.result.now s.same
     (c.deref.ensures.value ∙ c.in_ok-enter.ensures)
 
 pub held_body-requires-clause-leave : goal.held_body-requires-clause-leave
 held_body-requires-clause-leave c =
     let b = block_of c.args.body.now in
-    let s = served b c.args.outs.now c.requires.small c.requires.states c.requires.outs in
+    let s = served b c.args.outs.now c.requires.small c.requires.bare c.requires.states c.requires.outs in
     leaving_listed b s.body c.deref-2.result.now s.same
     (c.deref-2.ensures.value ∙ c.in_ok-leave.ensures)
 
 pub unreachable-requires : goal.unreachable-requires
 unreachable-requires c =
     let b = block_of c.args.body.now in
-    let s = served b c.args.outs.now c.requires.small c.requires.states c.requires.outs in
+    let s = served b c.args.outs.now c.requires.small c.requires.bare c.requires.states c.requires.outs in
     c.in-None.ensures.word s.body s.same.graph s.lits
     (c.deref.ensures.value ∙ c.in_ok-enter.ensures ∙ s.same.enter)
     (c.deref-2.ensures.value ∙ c.in_ok-leave.ensures ∙ s.same.leave) s.late
@@ -33,7 +33,7 @@ unreachable-requires c =
 pub returns-clause-held : goal.returns-clause-held
 returns-clause-held c =
     let b = block_of c.args.body.now in
-    let s = served b c.args.outs.now c.requires.small c.requires.states c.requires.outs in
+    let s = served b c.args.outs.now c.requires.small c.requires.bare c.requires.states c.requires.outs in
     let w = c.in-Some.ensures.word s.body s.same.graph s.lits
     (c.deref.ensures.value ∙ c.in_ok-enter.ensures ∙ s.same.enter)
     (c.deref-2.ensures.value ∙ c.in_ok-leave.ensures ∙ s.same.leave) s.late in
