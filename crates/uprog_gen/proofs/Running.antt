@@ -4,4 +4,5 @@ pub mod Runs
 pub mod Each
 pub mod Nest
 pub mod Held
+pub mod Turns
 pub mod Program
