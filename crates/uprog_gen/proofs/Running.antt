@@ -5,4 +5,5 @@ pub mod Halving
 pub mod Each
 pub mod Nest
 pub mod Held
+pub mod Turns
 pub mod Program

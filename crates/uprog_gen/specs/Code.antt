@@ -24,9 +24,9 @@ use Rattle.loop_ir.specs.declared.ir.Place.{Place}
 use Rattle.loop_ir.specs.declared.ir.Count.{Count}
 use Rattle.loop_ir.specs.declared.ir.Count.TheVariants.{All, Rest, UpTo, Bits}
 use Rattle.uprog_gen.specs.declared.plan.Plan.{Plan}
-use Rattle.loop_ir.specs.Plain.{Block, InnerOf, StepOf, step_map}
+use Rattle.loop_ir.specs.Plain.{Block, InnerOf, TurnsOf, StepOf, step_map}
 use Rattle.loop_ir.specs.Plain.InnerOf.{Alone, Across}
-use Rattle.loop_ir.specs.Plain.StepOf.{Single, Along, Nest, Pairs}
+use Rattle.loop_ir.specs.Plain.StepOf.{Single, Along, Nest, Pairs, Alternate}
 use Rattle.loop_ir.specs.Spots.{nth_place}
 use Rattle.loop_ir.specs.Costs.{same_sub, is_used, is_fixed}
 
@@ -238,6 +238,34 @@ abbrev pub pairs_code : Part → ℕ → List Uop
 pairs_code p pc = let q = pc + 1 + 1 + 1 + 1 + 1 in
     guard_code pc (q + length (loop_code Rest p q)) ++ loop_code Rest p q
 
+-- bodies that take turns have one register for the position
+abbrev pub turn_plan : Plan
+turn_plan = record { first = At_inner; second = Zero; third = Zero }
+
+-- the instructions of the commands of one of them
+abbrev pub turn_uops : Part → List Uop
+turn_uops p = map (code_uop turn_plan p.block) p.cmds
+
+-- One of two bodies, whose first instruction has this place. Register 2 holds how many positions
+-- come after this one, and 4 holds 1: where none comes, the other body stands in its place and a
+-- jump leads to the end
+abbrev pub half_code : Part → Part → ℕ → ℕ → List Uop
+half_code p last end pc = Bnez 2 (pc + 1 + length last.cmds + 1)
+    ∷ (turn_uops last ++ (Bnez 4 end ∷ (turn_uops p ++ (AddI 3 1 ∷ SubI 2 1 ∷ []))))
+
+-- how many instructions it has
+abbrev pub half_size : Part → Part → ℕ
+half_size p last = length p.cmds + length last.cmds + 4
+
+-- the code of bodies that take turns
+abbrev pub turns_code : TurnsOf Part → ℕ → List Uop
+turns_code t pc =
+    let head = pc + 1 + 1 + 1 in
+    let odd = head + half_size t.even t.last_even in
+    let end = odd + half_size t.odd t.last_odd + 1 in
+    SetT 2 ∷ SetI 3 0 ∷ SetI 4 1 ∷ (half_code t.even t.last_even end head
+    ++ (half_code t.odd t.last_odd end odd ++ (Bnez 4 head ∷ [])))
+
 -- the code of a step, whose first instruction has this place
 abbrev pub step_code : StepOf Part → ℕ → List Uop
 step_code (Single p) pc = if is_fixed p.block then body_uops p else outside ++ once_code p
@@ -245,6 +273,7 @@ step_code (Along p) pc = outside ++ loop_code All p (pc + 1 + 1)
 step_code (Nest []) pc = []
 step_code (Nest (x ∷ xs)) pc = nest_code (inner_list (x ∷ xs)) pc
 step_code (Pairs p) pc = pairs_code p pc
+step_code (Alternate t) pc = turns_code t pc
 
 -- the code of the steps, whose first instruction has this place
 abbrev pub program_code : List (StepOf Part) → ℕ → List Uop

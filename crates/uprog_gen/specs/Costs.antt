@@ -1,5 +1,5 @@
 -- How many commands the compiler gives a word operation.
-use Rattle.std.specs.Prelude.{ℕ, ◌+◌, ◌*◌, ◌/◌}
+use Rattle.std.specs.Prelude.{ℕ, ◌+◌, ◌-◌, ◌*◌, ◌/◌, ◌%◌}
 use Rattle.op_text.specs.declared.word_ops.WordOp.{WordOp}
 use Rattle.op_text.specs.declared.word_ops.WordOp.TheVariants as o
 use Rattle.word_mul.specs.Programs.{bits_to}
@@ -21,7 +21,7 @@ op_aaps o.Mul n = 8 * (n * (n + 1) / 2) + 4 * n
 op_aaps o.Div n = 11 * (n * (n + 1) / 2) + 13 * n + 1
 op_aaps o.Rem n = 11 * (n * (n + 1) / 2) + 13 * n + 1
 op_aaps o.Abs n = 8 * n + 1
-op_aaps o.Relu n = 4 * n
+op_aaps o.Relu n = 3 * n
 op_aaps o.Min n = 10 * n + 1
 op_aaps o.Max n = 10 * n + 1
 op_aaps o.Eq n = 2 * n + 3
@@ -29,15 +29,17 @@ op_aaps o.Gt n = 3 * n + 1
 op_aaps o.Ge n = 3 * n + 1
 op_aaps o.IfElse n = 7 * n
 op_aaps o.Bitcount n = 7 * bits_to n + 3 * n
-op_aaps o.AndRed n = 3 * n + 1
-op_aaps o.OrRed n = 3 * n + 1
-op_aaps o.XorRed n = 5 * n + 1
+op_aaps o.AndRed n = 3 * (n / 2) + 2 * (n % 2) + 2
+op_aaps o.OrRed n = 3 * (n / 2) + 2 * (n % 2) + 2
+op_aaps o.XorRed n = 5 * ((n + 1) / 2) + 1
 op_aaps o.Divmod n = 11 * (n * (n + 1) / 2) + 14 * n + 1
 
 -- how many AP
 abbrev pub op_aps : WordOp → ℕ → ℕ
 op_aps o.Xor n = 2 * n
-op_aps o.XorRed n = n
+op_aps o.AndRed n = n - 1
+op_aps o.OrRed n = n - 1
+op_aps o.XorRed n = (n + 1) / 2
 op_aps o.Add n = n
 op_aps o.Sub n = n
 op_aps o.Mul n = n * (n + 1) / 2

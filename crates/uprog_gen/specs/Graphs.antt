@@ -15,7 +15,7 @@ use Rattle.mig_graph.specs.Reduced.{IsReduced}
 use Rattle.uprog_code.specs.Machine.{trace, issues_of}
 use Rattle.uprog_code.specs.Shape.{Microprogram}
 use Rattle.loop_ir.specs.Plain.{Block as Body, StepOf}
-use Rattle.loop_ir.specs.Plain.StepOf.{Single, Along, Nest, Pairs}
+use Rattle.loop_ir.specs.Plain.StepOf.{Single, Along, Nest, Pairs, Alternate}
 use Rattle.block_lower.specs.Inputs.{block_inputs, name_at}
 use Rattle.uprog_gen.specs.Costs.{op_aaps, op_aps}
 use Rattle.uprog_gen.specs.Totals.{IsExact}
@@ -96,6 +96,7 @@ step_graph (Single b) = []
 step_graph (Along b) = let g : Graphed = record { graph = b.graph; outs = b.outs } in g ∷ []
 step_graph (Nest parts) = []
 step_graph (Pairs b) = []
+step_graph (Alternate t) = []
 
 -- the graph of a loop program's last step: of a block, the one that is done at each position
 abbrev pub last_graph : List (StepOf Body) → List Graphed

@@ -7,8 +7,8 @@ ghost use Rattle.loop_ir.specs.Limits.{IsSmall};
 ghost use Rattle.loop_ir.specs.Costs.{inner_cost, step_cost, code_cost};
 ghost use Rattle.uprog_gen.specs.Emits.{EmitsInner, EmitsSteps};
 
-use crate::emit::{push_body, push_loop, push_once, push_pairs};
-use crate::part::make_part;
+use crate::emit::{push_body, push_loop, push_once, push_pairs, push_turns};
+use crate::part::{make_part, make_turns};
 use crate::plan::is_fixed;
 use faults::keep;
 use loop_ir::{Body, Count, Inner, Step};
@@ -106,6 +106,11 @@ fn emit_step(step: &Step, code: &mut Vec<Uop>, alloc: Global) -> Result<(), NoMe
         Step::Pairs(body) => {
             let made = make_part(body, alloc)?;
             push_pairs(code, body, &made)?;
+            Ok(())
+        }
+        Step::Alternate(turns) => {
+            let made = make_turns(turns, alloc)?;
+            push_turns(code, turns, &made)?;
             Ok(())
         }
     }

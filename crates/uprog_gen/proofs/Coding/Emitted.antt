@@ -13,16 +13,18 @@ use Rattle.loop_ir.specs.declared.ir.Count.{Count}
 use Rattle.loop_ir.specs.declared.ir.Count.TheVariants.{All as All_of, Rest}
 use Rattle.loop_ir.specs.declared.ir.Inner.{Inner}
 use Rattle.loop_ir.specs.declared.ir.Step.{Step}
-use Rattle.loop_ir.specs.Plain.{Block, InnerOf, StepOf, inner_map, step_map, inner_of, step_of}
-use Rattle.loop_ir.specs.Plain.{AllInner, AllStep, AllParts}
+use Rattle.loop_ir.specs.Plain.{Block, InnerOf, TurnsOf, StepOf, inner_map, turns_map, step_map}
+use Rattle.loop_ir.specs.Plain.{inner_of, step_of}
+use Rattle.loop_ir.specs.Plain.{AllInner, AllTurns, AllStep, AllParts}
 use Rattle.loop_ir.specs.Plain.InnerOf.{Alone, Across}
-use Rattle.loop_ir.specs.Plain.StepOf.{Single, Along, Nest, Pairs}
+use Rattle.loop_ir.specs.Plain.StepOf.{Single, Along, Nest, Pairs, Alternate}
 use Rattle.uprog_gen.specs.Code.{Part, block_of_part, blocks, body_uops, once_code, loop_code}
 use Rattle.uprog_gen.specs.Code.{inner_code, inner_list, outside, guard_code, pairs_code}
-use Rattle.uprog_gen.specs.Code.{step_code, program_code}
+use Rattle.uprog_gen.specs.Code.{turn_uops, half_code, half_size, turns_code, step_code}
+use Rattle.uprog_gen.specs.Code.{program_code}
 use Rattle.loop_ir.specs.Costs.{is_fixed, inner_cost, step_cost, code_cost}
 use Rattle.uprog_gen.specs.Parts.{IsPart}
-use Rattle.uprog_gen.proofs.Coding.Sizes.{inner_few, program_few}
+use Rattle.uprog_gen.proofs.Coding.Sizes.{inner_few, half_long, program_few}
 use Rattle.uprog_gen.specs.Emits.{EmitsInner, EmitsSteps}
 
 -- what holds of all holds of one
@@ -181,6 +183,11 @@ pub pairs_emits : (p : Part) (old new : List Uop) → IsPart p
     → new ≡ old ++ pairs_code p (length old) → EmitsSteps (Pairs p.block ∷ []) old new
 pairs_emits p old new is e = one_step (Pairs p) old new is e
 
+pub turns_emits : (t : TurnsOf Part) (old new : List Uop) → AllTurns IsPart t
+    → new ≡ old ++ turns_code t (length old)
+    → EmitsSteps (Alternate (turns_map block_of_part t) ∷ []) old new
+turns_emits t old new is e = one_step (Alternate t) old new is e
+
 pub empty_emits : (old : List Uop) → EmitsSteps (Nest [] ∷ []) old old
 empty_emits old = one_step (Nest []) old old tt (sym (append-nil old))
 
@@ -330,6 +337,75 @@ pairs_made p old mid all past end ep em ea ee =
     ∙ set-append_seam (old ++ first) (Bnez 0 0) (SubI 1 1 ∷ loop) (Bnez 0 end)
     ∙ append_assoc old first (Bnez 0 end ∷ (SubI 1 1 ∷ loop))
     ∙ ap (λ t. old ++ (first ++ Bnez 0 t ∷ (SubI 1 1 ∷ loop))) here
+
+-- one of two bodies that take turns
+pub half_made : (p last : Part) (end more : ℕ) (old a b c d e f : List Uop)
+    → a ≡ old ++ Bnez 2 more ∷ [] → b ≡ a ++ turn_uops last → c ≡ b ++ Bnez 4 end ∷ []
+    → d ≡ c ++ turn_uops p → e ≡ d ++ AddI 3 1 ∷ [] → f ≡ e ++ SubI 2 1 ∷ []
+    → more ≡ length old + 1 + length last.cmds + 1
+    → f ≡ old ++ half_code p last end (length old)
+half_made p last end more old a b c d e f ea eb ec ed ee ef em =
+    let post = AddI 3 1 ∷ SubI 2 1 ∷ [] in
+    let w = turn_uops p ++ post in
+    let x = Bnez 4 end ∷ w in
+    let y = turn_uops last ++ x in
+    two_pushes d e f (AddI 3 1) (SubI 2 1) ee ef
+    ∙ ap (λ l. l ++ post) ed ∙ append_assoc c (turn_uops p) post
+    ∙ ap (λ l. l ++ w) ec ∙ append_assoc b (Bnez 4 end ∷ []) w
+    ∙ ap (λ l. l ++ x) eb ∙ append_assoc a (turn_uops last) x
+    ∙ ap (λ l. l ++ y) ea ∙ append_assoc old (Bnez 2 more ∷ []) y
+    ∙ ap (λ k. old ++ (Bnez 2 k ∷ y)) em
+
+pub three_long : (old a b c : List Uop) (x y z : Uop) → a ≡ old ++ x ∷ [] → b ≡ a ++ y ∷ []
+    → c ≡ b ++ z ∷ [] → length c ≡ length old + 3
+three_long old a b c x y z ea eb ec = omega (
+  arith,
+  ap length ea,
+  ap length eb,
+  ap length ec,
+  length-append old (x ∷ []),
+  length-append a (y ∷ []),
+  length-append b (z ∷ []),
+)
+
+-- both, and the jump back
+pub turns_made : (t : TurnsOf Part) (head end : ℕ) (old a b c d e f : List Uop)
+    → a ≡ old ++ SetT 2 ∷ [] → b ≡ a ++ SetI 3 0 ∷ [] → c ≡ b ++ SetI 4 1 ∷ []
+    → d ≡ c ++ half_code t.even t.last_even end (length c)
+    → e ≡ d ++ half_code t.odd t.last_odd end (length d) → f ≡ e ++ Bnez 4 head ∷ []
+    → head ≡ length old + 1 + 1 + 1
+    → end ≡ head + half_size t.even t.last_even + half_size t.odd t.last_odd + 1
+    → f ≡ old ++ turns_code t (length old)
+turns_made t head end old a b c d e f ea eb ec ed ee ef eh en =
+    let pre = SetT 2 ∷ SetI 3 0 ∷ SetI 4 1 ∷ [] in
+    let q = length old + 1 + 1 + 1 in
+    let o = q + half_size t.even t.last_even in
+    let z = o + half_size t.odd t.last_odd + 1 in
+    let start : c ≡ old ++ pre =
+    ec ∙ ap (λ l. l ++ SetI 4 1 ∷ []) (two_pushes old a b (SetT 2) (SetI 3 0) ea eb)
+    ∙ append_assoc old (SetT 2 ∷ SetI 3 0 ∷ []) (SetI 4 1 ∷ []) in
+    let lc : length c ≡ q = omega (arith, ap length start, length-append old pre) in
+    let ld : length d ≡ o = omega (
+      arith,
+      ap length ed,
+      length-append c (half_code t.even t.last_even end (length c)),
+      half_long t.even t.last_even end (length c),
+      lc,
+    ) in
+    let ez : end ≡ z = omega (arith, en, eh) in
+    let first = half_code t.even t.last_even end q in
+    let second = half_code t.odd t.last_odd end o in
+    let jump = Bnez 4 head ∷ [] in
+    ef ∙ ap (λ l. l ++ jump) (ee ∙ ap (λ k. d ++ half_code t.odd t.last_odd end k) ld)
+    ∙ append_assoc d second jump
+    ∙ ap (λ l. l ++ (second ++ jump)) (ed ∙ ap (λ k. c ++ half_code t.even t.last_even end k) lc)
+    ∙ append_assoc c first (second ++ jump)
+    ∙ ap (λ l. l ++ (first ++ (second ++ jump))) start
+    ∙ append_assoc old pre (first ++ (second ++ jump))
+    ∙ ap (λ k. old ++ (pre ++ (half_code t.even t.last_even k q
+    ++ (half_code t.odd t.last_odd k o ++ jump)))) ez
+    ∙ ap (λ k. old ++ (pre ++ (half_code t.even t.last_even z q
+    ++ (half_code t.odd t.last_odd z o ++ Bnez 4 k ∷ [])))) eh
 
 -- a nest, instruction by instruction
 pub nest_made : (ps : List Inner) (old a b c d e f : List Uop) (top : ℕ) → 0 < length ps

@@ -3,7 +3,9 @@ use Rattle.std.proofs.Common.{◌≡◌, ℕ, zero, suc, ◌+◌, ◌*◌, ◌<�
 use Rattle.std.proofs.Common.{◌++◌, map}
 use Rattle.std.proofs.Common.{length, refl, sym, ap, ◌∙◌, subst, arith, append_assoc, append-nil}
 use Rattle.std.specs.Prelude.{slice_get, slice_index, slice_index_or, take}
-use Rattle.std.specs.List.{AllByRecursion, range_with_len}
+use Rattle.std.specs.Prelude.{◌&&◌}
+use Rattle.std.specs.List.{AllByRecursion, list_all, range_with_len}
+use Rattle.std.proofs.lemmas.Bool.{and_parts, and_from}
 use Rattle.std.proofs.lemmas.List.{map_more, length-map}
 use Rattle.std.proofs.lemmas.List.Sums.{sum_by-append}
 use Rattle.std.proofs.lemmas.Grind.{common_steps}
@@ -29,7 +31,7 @@ use Rattle.loop_ir.specs.Spots.{Spots, after_round, after_rounds}
 use Rattle.uprog_gen.specs.Where.{Agree, spots_in, IsSpot, IsBelow}
 use Rattle.uprog_gen.specs.Code.{Part, blocks, program_code}
 use Rattle.uprog_gen.specs.Parts.{IsPart}
-use Rattle.loop_ir.specs.Limits.{IsRound, CanCompile}
+use Rattle.loop_ir.specs.Limits.{IsRound, CanCompile, step_stands}
 use Rattle.loop_ir.specs.Costs.{step_cost, code_cost}
 use Rattle.uprog_gen.specs.Emits.{EmitsSteps}
 use Rattle.uprog_gen.specs.Does.{DoesRounds, Means, AreCheap, joined, total, after_statements}
@@ -84,6 +86,18 @@ find_joined : (head : Shape) (ps : List Statement) → AllByRecursion (CanCompil
     → steps_find [] (joined ps) ≡ true
 find_joined head [] h = refl
 find_joined head (p ∷ ps) h = find_both p (joined ps) [] h.0.find (find_joined head ps h.1)
+
+stand_joined : (head : Shape) (ps : List Statement) → AllByRecursion (CanCompile (IsSpot head)) ps
+    → list_all step_stands (joined ps) ≡ true
+stand_joined head [] h = refl
+stand_joined head (p ∷ ps) h = all_stand p (joined ps) h.0.stand (stand_joined head ps h.1)
+  where
+    all_stand : (xs ys : Statement) → list_all step_stands xs ≡ true
+        → list_all step_stands ys ≡ true → list_all step_stands (xs ++ ys) ≡ true
+    all_stand [] ys a b = b
+    all_stand (x ∷ xs) ys a b =
+        let q = and_parts (step_stands x) (list_all step_stands xs) a in
+        and_from (step_stands x) (list_all step_stands (xs ++ ys)) q.0 (all_stand xs ys q.1 b)
 
 cost_joined : (head : Shape) (ps : List Statement) → AllByRecursion (CanCompile (IsSpot head)) ps
     → code_cost (joined ps) ≤ 256 * length ps
@@ -213,6 +227,12 @@ is_entry head ps mid code can few emits e = subst (IsEntry head ps)
         subst (λ (l : Statement). AllByRecursion (IsRound (IsSpot head n) n) (all_rounds n l))
         (sym same) (rounds_joined head n qs some small can)
 
+    stands : (qs : List Statement) (coded : List (StepOf Part))
+        → AllByRecursion (CanCompile (IsSpot head)) qs → blocks coded ≡ joined qs
+        → list_all step_stands (blocks coded) ≡ true
+    stands qs coded can same = subst (λ (l : Statement). list_all step_stands l ≡ true) (sym same)
+        (stand_joined head qs can)
+
     does : (qs : List Statement) (coded : List (StepOf Part)) (n : ℕ) → 0 < n → n ≤ WIDTH_MAX
         → AllByRecursion (CanCompile (IsSpot head)) qs → length qs ≤ 16
         → blocks coded ≡ joined qs → AllParts IsPart coded
@@ -221,8 +241,8 @@ is_entry head ps mid code can few emits e = subst (IsEntry head ps)
         subst (λ (l : Statement). DoesRounds head n l (program_code coded 0 ++ Done ∷ []))
         same (program_does head n coded some small (few_instructions qs coded can few same parts)
         parts (rounds qs coded n some small can same)
-        (subst (λ (l : Statement). steps_find [] l ≡ true) (sym same)
-        (find_joined head qs can)))
+        (subst (λ (l : Statement). steps_find [] l ≡ true) (sym same) (find_joined head qs can))
+        (stands qs coded can same))
 
     entry : IsEntry head ps (is ++ Done ∷ [])
     entry =
@@ -231,7 +251,9 @@ is_entry head ps mid code can few emits e = subst (IsEntry head ps)
         record {
           legal = code_legal head emits.coded short emits.parts
               (subst (AllByRecursion (IsRound (IsSpot head 2) 2)) (all_blocks 2 emits.coded)
-              (rounds ps emits.coded 2 (omega arith) (omega arith) can emits.same));
+              (rounds ps emits.coded 2 (omega arith) (omega arith) can emits.same))
+              (subst (AllByRecursion (IsRound (IsSpot head 3) 3)) (all_blocks 3 emits.coded)
+              (rounds ps emits.coded 3 (omega arith) (omega arith) can emits.same));
           parts = record {
             parts = cut.parts;
             many = cut.many;
@@ -247,7 +269,8 @@ is_entry head ps mid code can few emits e = subst (IsEntry head ps)
             arith,
             ap (λ t. length (issues_of t)) (program_issues head n emits.coded some small short
                 emits.parts
-                (rounds ps emits.coded n some small can emits.same)),
+                (rounds ps emits.coded n some small can emits.same)
+                (stands ps emits.coded can emits.same)),
             cheap_pieces head n ps emits.coded ceilings emits.same emits.parts cheap,
           );
           does = λ n some small. does ps emits.coded n some small can few emits.same emits.parts;

@@ -1,12 +1,14 @@
 -- The code is legal.
-use Rattle.std.proofs.Common.{◌≡◌, ℕ, zero, suc, ◌+◌, ◌-◌, ◌<◌, ◌≤◌, Bool, true, false, cond, List}
+use Rattle.std.proofs.Common.{◌≡◌, ℕ, zero, suc, ◌+◌, ◌-◌, ◌*◌, ◌<◌, ◌≤◌, Bool, true, false, cond}
+use Rattle.std.proofs.Common.{List, ⊎_elim}
 use Rattle.std.proofs.Common.{[], ◌∷◌, ◌++◌, map, length, refl, ap, ◌∙◌, subst, arith, Some}
 use Rattle.std.proofs.Common.{length-append}
 use Rattle.std.specs.Prelude.{slice_get, nat_lt, nat_le, ◌==◌, ◌&&◌}
 use Rattle.std.specs.List.{AllByRecursion, list_all}
 use Rattle.std.proofs.Math.Seq.{get_or-append_seam}
 use Rattle.std.proofs.lemmas.Option.{slice_get-get_or}
-use Rattle.std.proofs.lemmas.Bool.{and_parts, and_from, lt-ltb}
+use Rattle.std.proofs.lemmas.Bool.{and_parts, and_from, lt-ltb, cases_lt}
+use Rattle.std.proofs.Math.Nat.{mul-le-mul_right}
 use Rattle.op_text.specs.declared.tree.Kind.{Kind}
 use Rattle.uprog_code.specs.declared.code.Uop.{Uop}
 use Rattle.uprog_code.specs.declared.code.Uop.TheVariants.{Done, SubI, AddI, Bnez}
@@ -33,14 +35,16 @@ use Rattle.loop_ir.specs.declared.ir.Count.{Count}
 use Rattle.loop_ir.specs.declared.ir.Count.TheVariants.{All as All_of, Rest, UpTo, Bits}
 use Rattle.loop_ir.specs.Plain.{Block, InnerOf, StepOf, AllInner, AllStep, AllParts}
 use Rattle.loop_ir.specs.Plain.InnerOf.{Alone, Across}
-use Rattle.loop_ir.specs.Plain.StepOf.{Single, Along, Nest, Pairs}
+use Rattle.loop_ir.specs.Plain.StepOf.{Single, Along, Nest, Pairs, Alternate}
 use Rattle.loop_ir.specs.Spots.{nth_place, spot_in, IsOwn}
 use Rattle.uprog_gen.specs.Where.{IsSpot, IsBelow}
 use Rattle.uprog_gen.specs.declared.plan.Plan.{Plan}
 use Rattle.uprog_gen.specs.Code.{Part, row_space, register, place_ref, code_ref, code_uop, init}
 use Rattle.uprog_gen.specs.Code.{before, after, inits, befores, afters, counter, body_uops}
 use Rattle.uprog_gen.specs.Code.{once_code, turn_code, enter_code, loop_code, inner_list, outside}
-use Rattle.uprog_gen.specs.Code.{step_code, program_code}
+use Rattle.uprog_gen.specs.Code.{turn_plan, turn_uops, half_code, half_size, step_code}
+use Rattle.uprog_gen.specs.Code.{program_code}
+use Rattle.uprog_gen.proofs.Coding.Sizes.{turns_long}
 use Rattle.loop_ir.specs.Costs.{is_fixed, same_sub}
 use Rattle.loop_ir.specs.Limits.{IsRound}
 use Rattle.uprog_gen.proofs.Rows.Rounds.{block_round}
@@ -73,26 +77,31 @@ below_length [] w n v h = absurd h
 below_length (k ∷ ks) zero n v h = omega arith
 below_length (k ∷ ks) (suc w) n v h = let l = below_length ks w n v h in omega (arith, l)
 
+word_below : (n w v words : ℕ) → w * n + v < n * words → w < words
+word_below n w v words h = ⊎_elim (λ (lt : w < words). lt)
+    (λ (le : words ≤ w). let k : words * n ≤ w * n = mul-le-mul_right n le in
+    absurd (omega (arith, h, k))) (cases_lt w words)
+
 blocks-append : (xs ys : List (RoundOf Part))
     → map block_round (xs ++ ys) ≡ map block_round xs ++ map block_round ys
 blocks-append [] ys = refl
 blocks-append (x ∷ xs) ys = ap (λ l. block_round x ∷ l) (blocks-append xs ys)
 
 module _ (head : Shape) where
-  place_row_legal : (s : Space) (w v : ℕ) (plan : Plan) (u : Sub) → IsSpot head 2 (spot_in 2 s w v)
+  place_row_legal : (n : ℕ) (s : Space) (w v : ℕ) (plan : Plan) (u : Sub) → IsSpot head n (spot_in n s w v)
       → is_row head (place_ref plan (record { space = s; which = w; sub = u })) ≡ true
-  place_row_legal Result w v plan u h = and_from (nat_lt w (length (results head)))
+  place_row_legal n Result w v plan u h = and_from (nat_lt w (length (results head)))
       (nat_le (register plan u) 8) (lt-ltb w (length (results head))
-      (below_length (results head) w 2 v h)) (register_small plan u)
-  place_row_legal Source w v plan u h = and_from (nat_lt w (length head.sources))
+      (below_length (results head) w n v h)) (register_small plan u)
+  place_row_legal n Source w v plan u h = and_from (nat_lt w (length head.sources))
       (nat_le (register plan u) 8) (lt-ltb w (length head.sources)
-      (below_length head.sources w 2 v h)) (register_small plan u)
-  place_row_legal ScratchBit w v plan u h = and_from (nat_lt w head.bits) (0
+      (below_length head.sources w n v h)) (register_small plan u)
+  place_row_legal n ScratchBit w v plan u h = and_from (nat_lt w head.bits) (0
       == 0) (lt-ltb w head.bits h.0) refl
-  place_row_legal ScratchWord w v plan u h = and_from (nat_lt w head.words)
-      (nat_le (register plan u) 8) (lt-ltb w head.words (omega (arith, h.1)))
+  place_row_legal n ScratchWord w v plan u h = and_from (nat_lt w head.words)
+      (nat_le (register plan u) 8) (lt-ltb w head.words (word_below n w v head.words h.1))
       (register_small plan u)
-  place_row_legal Cells w v plan u h = absurd h
+  place_row_legal n Cells w v plan u h = absurd h
 
   place_first : (s : Space) (w : ℕ) → may_be_first (row_space s) w ≡ true
   place_first Result w = refl
@@ -108,138 +117,165 @@ module _ (head : Shape) where
   own_second ScratchWord h = refl
   own_second Cells h = refl
 
-  spot_space : (s : Space) (w v : ℕ) → (spot_in 2 s w v).space ≡ s
-  spot_space Result w v = refl
-  spot_space Source w v = refl
-  spot_space ScratchBit w v = refl
-  spot_space ScratchWord w v = refl
-  spot_space Cells w v = refl
+  spot_space : (n : ℕ) (s : Space) (w v : ℕ) → (spot_in n s w v).space ≡ s
+  spot_space n Result w v = refl
+  spot_space n Source w v = refl
+  spot_space n ScratchBit w v = refl
+  spot_space n ScratchWord w v = refl
+  spot_space n Cells w v = refl
 
   abbrev pub IsLegalAt : ℕ → Uop → Type 0
   IsLegalAt size i = is_legal head size i ≡ true
 
-  -- a round at width 2
-  abbrev IsRoundAtWidthTwo : RoundOf Block → Type 0
-  IsRoundAtWidthTwo r = IsRound (IsSpot head 2) 2 r
+  -- a round at this width
+  abbrev IsRoundAtWidth : ℕ → RoundOf Block → Type 0
+  IsRoundAtWidth n r = IsRound (IsSpot head n) n r
 
-  module _ (p : Part) (part : IsPart p) (o : ℕ) (is : IsRoundAtWidthTwo (round_at p.block 0 o))
-    where
-      abbrev N : ℕ
-      N = p.block.graph.inputs
+  module _ (p : Part) (part : IsPart p) (plan : Plan) (n i o : ℕ)
+      (is : IsRoundAtWidth n (round_at p.block i o)) where
+    abbrev N : ℕ
+    N = p.block.graph.inputs
 
-      abbrev M : ℕ
-      M = length p.outs
+    abbrev M : ℕ
+    M = length p.outs
 
-      abbrev enter : List Held
-      enter = enters 0 p.block.reads
+    abbrev enter : List Held
+    enter = enters 0 p.block.reads
 
-      row_legal : (x : BodyRef) → is_ref N M x ≡ true → IsNamed p x
-          → is_row head (code_ref p.plan p.block x) ≡ true
-      row_legal (ref.B k) h m = and_from (nat_lt k 16) (0 == 0) h refl
-      row_legal (ref.C k) h m = and_from (nat_lt k 2) (0 == 0) h refl
-      row_legal (ref.Spill k) h m = and_from (nat_lt k 32) (0 == 0) h refl
-      row_legal (ref.In k) h m =
-          let q = nth_place p.block.reads k in
-          place_row_legal q.space q.which (sub_value 2 0 o q.sub) p.plan q.sub
-          (is.reads k m.0 m.1)
-      row_legal (ref.Out k) h m =
-          let q = nth_place p.block.writes k in
-          place_row_legal q.space q.which (sub_value 2 0 o q.sub) p.plan q.sub
-          (is.writes k m.0 m.1)
+    row_legal : (x : BodyRef) → is_ref N M x ≡ true → IsNamed p x
+        → is_row head (code_ref plan p.block x) ≡ true
+    row_legal (ref.B k) h m = and_from (nat_lt k 16) (0 == 0) h refl
+    row_legal (ref.C k) h m = and_from (nat_lt k 2) (0 == 0) h refl
+    row_legal (ref.Spill k) h m = and_from (nat_lt k 32) (0 == 0) h refl
+    row_legal (ref.In k) h m =
+        let q = nth_place p.block.reads k in
+        place_row_legal n q.space q.which (sub_value n i o q.sub) plan q.sub
+        (is.reads k m.0 m.1)
+    row_legal (ref.Out k) h m =
+        let q = nth_place p.block.writes k in
+        place_row_legal n q.space q.which (sub_value n i o q.sub) plan q.sub
+        (is.writes k m.0 m.1)
 
-      first_of_ref : (x : BodyRef) → is_first_ref x ≡ true
-          → may_be_first (code_ref p.plan p.block x).space (code_ref p.plan p.block x).which ≡ true
-      first_of_ref (ref.B k) h = h
-      first_of_ref (ref.C k) h = refl
-      first_of_ref (ref.Spill k) h = refl
-      first_of_ref (ref.In k) h = let q = nth_place p.block.reads k in place_first q.space q.which
-      first_of_ref (ref.Out k) h = let q = nth_place p.block.writes k in place_first q.space q.which
+    first_of_ref : (x : BodyRef) → is_first_ref x ≡ true
+        → may_be_first (code_ref plan p.block x).space (code_ref plan p.block x).which ≡ true
+    first_of_ref (ref.B k) h = h
+    first_of_ref (ref.C k) h = refl
+    first_of_ref (ref.Spill k) h = refl
+    first_of_ref (ref.In k) h = let q = nth_place p.block.reads k in place_first q.space q.which
+    first_of_ref (ref.Out k) h = let q = nth_place p.block.writes k in place_first q.space q.which
 
-      second_of_ref : (x : BodyRef) → IsNamed p x → is_second_ref x ≡ true
-          → may_be_second (code_ref p.plan p.block x).space ≡ true
-      second_of_ref (ref.B k) m h = refl
-      second_of_ref (ref.C k) m h = absurd (let g : false ≡ true = h in cc)
-      second_of_ref (ref.Spill k) m h = refl
-      second_of_ref (ref.In k) m h = absurd (let g : false ≡ true = h in cc)
-      second_of_ref (ref.Out k) m h =
-          let q = nth_place p.block.writes k in
-          own_second q.space (subst IsOwn (spot_space q.space q.which (sub_value 2 0 o q.sub))
-          (is.own k m.0))
+    second_of_ref : (x : BodyRef) → IsNamed p x → is_second_ref x ≡ true
+        → may_be_second (code_ref plan p.block x).space ≡ true
+    second_of_ref (ref.B k) m h = refl
+    second_of_ref (ref.C k) m h = absurd (let g : false ≡ true = h in cc)
+    second_of_ref (ref.Spill k) m h = refl
+    second_of_ref (ref.In k) m h = absurd (let g : false ≡ true = h in cc)
+    second_of_ref (ref.Out k) m h =
+        let q = nth_place p.block.writes k in
+        own_second q.space (subst IsOwn (spot_space n q.space q.which (sub_value n i o q.sub))
+        (is.own k m.0))
 
-      uop_legal : (size : ℕ) (c : BodyCmd) → is_legal_cmd N M c ≡ true → reads_rows enter c ≡ true
-          → IsLegalAt size (code_uop p.plan p.block c)
-      uop_legal size (cmd.Aap x y) h u =
-          let a = and_parts (is_ref N M x && is_first_ref x) (is_ref N M y && is_second_ref y) h in
-          let b = and_parts (is_ref N M x) (is_first_ref x) a.0 in
-          let d = and_parts (is_ref N M y) (is_second_ref y) a.1 in
-          let v = and_parts (is_read enter x) (is_read enter y) u in
-          let mx = named_ref p part x b.0 v.0 in
-          let my = named_ref p part y d.0 v.1 in
-          let rx = code_ref p.plan p.block x in
-          let ry = code_ref p.plan p.block y in
-          and_from (is_first head rx) (is_second head ry)
-          (and_from (is_row head rx) (may_be_first rx.space rx.which) (row_legal x b.0 mx)
-          (first_of_ref x b.1))
-          (and_from (is_row head ry) (may_be_second ry.space) (row_legal y d.0 my)
-          (second_of_ref y my d.1))
-      uop_legal size (cmd.Ap x) h u =
-          let b = and_parts (is_ref N M x) (is_first_ref x) h in
-          let rx = code_ref p.plan p.block x in
-          and_from (is_row head rx) (may_be_first rx.space rx.which)
-          (row_legal x b.0 (named_ref p part x b.0 u)) (first_of_ref x b.1)
+    uop_legal : (size : ℕ) (c : BodyCmd) → is_legal_cmd N M c ≡ true → reads_rows enter c ≡ true
+        → IsLegalAt size (code_uop plan p.block c)
+    uop_legal size (cmd.Aap x y) h u =
+        let a = and_parts (is_ref N M x && is_first_ref x) (is_ref N M y && is_second_ref y) h in
+        let b = and_parts (is_ref N M x) (is_first_ref x) a.0 in
+        let d = and_parts (is_ref N M y) (is_second_ref y) a.1 in
+        let v = and_parts (is_read enter x) (is_read enter y) u in
+        let mx = named_ref p part x b.0 v.0 in
+        let my = named_ref p part y d.0 v.1 in
+        let rx = code_ref plan p.block x in
+        let ry = code_ref plan p.block y in
+        and_from (is_first head rx) (is_second head ry)
+        (and_from (is_row head rx) (may_be_first rx.space rx.which) (row_legal x b.0 mx)
+        (first_of_ref x b.1))
+        (and_from (is_row head ry) (may_be_second ry.space) (row_legal y d.0 my)
+        (second_of_ref y my d.1))
+    uop_legal size (cmd.Ap x) h u =
+        let b = and_parts (is_ref N M x) (is_first_ref x) h in
+        let rx = code_ref plan p.block x in
+        and_from (is_row head rx) (may_be_first rx.space rx.which)
+        (row_legal x b.0 (named_ref p part x b.0 u)) (first_of_ref x b.1)
 
-      uops_legal : (size : ℕ) (cs : List BodyCmd) → are_legal N M cs ≡ true
-          → list_all (reads_rows enter) cs ≡ true
-          → AllByRecursion (IsLegalAt size) (map (code_uop p.plan p.block) cs)
-      uops_legal size [] h u = tt
-      uops_legal size (c ∷ cs) h u =
-          let a = and_parts (is_legal_cmd N M c) (are_legal N M cs) h in
-          let v = and_parts (reads_rows enter c) (list_all (reads_rows enter) cs) u in
-          (uop_legal size c a.0 v.0, uops_legal size cs a.1 v.1)
+    uops_legal : (size : ℕ) (cs : List BodyCmd) → are_legal N M cs ≡ true
+        → list_all (reads_rows enter) cs ≡ true
+        → AllByRecursion (IsLegalAt size) (map (code_uop plan p.block) cs)
+    uops_legal size [] h u = tt
+    uops_legal size (c ∷ cs) h u =
+        let a = and_parts (is_legal_cmd N M c) (are_legal N M cs) h in
+        let v = and_parts (reads_rows enter c) (list_all (reads_rows enter) cs) u in
+        (uop_legal size c a.0 v.0, uops_legal size cs a.1 v.1)
 
-  -- the part's own commands are legal
+  -- the part's own commands are legal, wherever its subscripts are held
   abbrev pub IsFit : Part → Type 0
-  IsFit p = (size : ℕ) → AllByRecursion (IsLegalAt size) (body_uops p)
+  IsFit p = (plan : Plan) (size : ℕ)
+      → AllByRecursion (IsLegalAt size) (map (code_uop plan p.block) p.cmds)
 
-  fit_part : (p : Part) → IsPart p → (o : ℕ) → IsRoundAtWidthTwo (round_at p.block 0 o) → IsFit p
-  fit_part p part o is size = uops_legal p part o is size p.cmds part.does.legal part.does.unread
+  fit_part : (p : Part) → IsPart p → (n i o : ℕ) → IsRoundAtWidth n (round_at p.block i o)
+      → IsFit p
+  fit_part p part n i o is plan size = uops_legal p part plan n i o is size p.cmds part.does.legal
+      part.does.unread
 
-  -- each body has a round at width 2
+  -- each body has a round at width 2, but for two that take turns, which have one at width 3
   fit_inner : (xs : List (InnerOf Part)) → AllInner IsPart xs
       → AllByRecursion (IsRound (IsSpot head 2) 2) (map block_round (inner_rounds 2 0 xs))
       → AllInner IsFit xs
   fit_inner [] h r = tt
-  fit_inner (Alone p ∷ xs) h r = (fit_part p h.0 0 r.0, fit_inner xs h.1 r.1)
-  fit_inner (Across All_of p ∷ xs) h r = (fit_part p h.0 0 r.0, fit_inner xs h.1 r.1.1)
-  fit_inner (Across Rest p ∷ xs) h r = (fit_part p h.0 0 r.0, fit_inner xs h.1 r.1.1)
-  fit_inner (Across UpTo p ∷ xs) h r = (fit_part p h.0 0 r.0, fit_inner xs h.1 r.1)
-  fit_inner (Across Bits p ∷ xs) h r = (fit_part p h.0 0 r.0, fit_inner xs h.1 r.1)
+  fit_inner (Alone p ∷ xs) h r = (fit_part p h.0 2 0 0 r.0, fit_inner xs h.1 r.1)
+  fit_inner (Across All_of p ∷ xs) h r = (fit_part p h.0 2 0 0 r.0, fit_inner xs h.1 r.1.1)
+  fit_inner (Across Rest p ∷ xs) h r = (fit_part p h.0 2 0 0 r.0, fit_inner xs h.1 r.1.1)
+  fit_inner (Across UpTo p ∷ xs) h r = (fit_part p h.0 2 0 0 r.0, fit_inner xs h.1 r.1)
+  fit_inner (Across Bits p ∷ xs) h r = (fit_part p h.0 2 0 0 r.0, fit_inner xs h.1 r.1)
 
   fit_step : (s : StepOf Part) → AllStep IsPart s
       → AllByRecursion (IsRound (IsSpot head 2) 2) (map block_round (step_rounds 2 s))
+      → AllByRecursion (IsRound (IsSpot head 3) 3) (map block_round (step_rounds 3 s))
       → AllStep IsFit s
-  fit_step (Single p) h r = fit_part p h 0 r.0
-  fit_step (Along p) h r = fit_part p h 0 r.0
-  fit_step (Nest parts) h r =
+  fit_step (Single p) h r r3 = fit_part p h 2 0 0 r.0
+  fit_step (Along p) h r r3 = fit_part p h 2 0 0 r.0
+  fit_step (Nest parts) h r r3 =
       let first : List (RoundOf Part) = inner_rounds 2 0 parts in
       let more : List (RoundOf Part) = inner_rounds 2 1 parts ++ [] in
       fit_inner parts h (front_all (IsRound (IsSpot head 2) 2) (map block_round first)
       (map block_round more)
       (subst (AllByRecursion (IsRound (IsSpot head 2) 2)) (blocks-append first more) r))
-  fit_step (Pairs p) h r = fit_part p h 1 r.0
+  fit_step (Pairs p) h r r3 = fit_part p h 2 0 1 r.0
+  fit_step (Alternate t) h r r3 = (
+    fit_part t.even h.0 2 0 0 r.0,
+    (
+      fit_part t.odd h.1.0 3 1 0 r3.1.0,
+      (fit_part t.last_even h.1.1.0 3 2 0 r3.1.1.0, fit_part t.last_odd h.1.1.1 2 1 0 r.1.0),
+    ),
+  )
 
   fit_steps : (ss : List (StepOf Part)) → AllParts IsPart ss
       → AllByRecursion (IsRound (IsSpot head 2) 2) (map block_round (all_rounds 2 ss))
+      → AllByRecursion (IsRound (IsSpot head 3) 3) (map block_round (all_rounds 3 ss))
       → AllParts IsFit ss
-  fit_steps [] h r = tt
-  fit_steps (s ∷ ss) h r =
-      let r' = subst (AllByRecursion (IsRound (IsSpot head 2) 2))
-      (blocks-append (step_rounds 2 s) (all_rounds 2 ss)) r in (
-        fit_step s h.0 (front_all (IsRound (IsSpot head 2) 2) (map block_round (step_rounds 2 s))
-            (map block_round (all_rounds 2 ss)) r'),
-        fit_steps ss h.1 (back_all (IsRound (IsSpot head 2) 2) (map block_round (step_rounds 2 s))
-            (map block_round (all_rounds 2 ss)) r'),
-      )
+  fit_steps [] h r r3 = tt
+  fit_steps (s ∷ ss) h r r3 = (
+    fit_step s h.0 (first_rounds 2 r) (first_rounds 3 r3),
+    fit_steps ss h.1 (later_rounds 2 r) (later_rounds 3 r3),
+  )
+    where
+      apart : (n : ℕ)
+          → AllByRecursion (IsRoundAtWidth n) (map block_round (all_rounds n (s ∷ ss)))
+          → AllByRecursion (IsRoundAtWidth n) (map block_round (step_rounds n s)
+          ++ map block_round (all_rounds n ss))
+      apart n x = subst (AllByRecursion (IsRoundAtWidth n))
+          (blocks-append (step_rounds n s) (all_rounds n ss)) x
+
+      first_rounds : (n : ℕ)
+          → AllByRecursion (IsRoundAtWidth n) (map block_round (all_rounds n (s ∷ ss)))
+          → AllByRecursion (IsRoundAtWidth n) (map block_round (step_rounds n s))
+      first_rounds n x = front_all (IsRoundAtWidth n) (map block_round (step_rounds n s))
+          (map block_round (all_rounds n ss)) (apart n x)
+
+      later_rounds : (n : ℕ)
+          → AllByRecursion (IsRoundAtWidth n) (map block_round (all_rounds n (s ∷ ss)))
+          → AllByRecursion (IsRoundAtWidth n) (map block_round (all_rounds n ss))
+      later_rounds n x = back_all (IsRoundAtWidth n) (map block_round (step_rounds n s))
+          (map block_round (all_rounds n ss)) (apart n x)
 
   module _ (size : ℕ) where
     abbrev L : List Uop → Type 0
@@ -314,7 +350,7 @@ module _ (head : Shape) where
 
     once_legal : (p : Part) → IsFit p → L (once_code p)
     once_legal p fit = join (inits p.plan) (befores p.plan ++ body_uops p) (inits_legal p.plan)
-        (join (befores p.plan) (body_uops p) (befores_legal p.plan) (fit size))
+        (join (befores p.plan) (body_uops p) (befores_legal p.plan) (fit p.plan size))
 
     loop_legal : (count : Count) (p : Part) (pc : ℕ) → IsFit p
         → pc + length (loop_code count p pc) ≤ size → L (loop_code count p pc)
@@ -330,7 +366,7 @@ module _ (head : Shape) where
         (counter_legal count pc counted) (inits_legal p.plan))
         (join turn jump
         (join (befores p.plan) (body_uops p ++ (afters p.plan ++ (SubI 2 1 ∷ [])))
-        (befores_legal p.plan) (join (body_uops p) (afters p.plan ++ (SubI 2 1 ∷ [])) (fit size)
+        (befores_legal p.plan) (join (body_uops p) (afters p.plan ++ (SubI 2 1 ∷ [])) (fit p.plan size)
         (join (afters p.plan) (SubI 2 1 ∷ []) (afters_legal p.plan) (refl, tt))))
         (lt-ltb (pc + length enter) size target, tt))
 
@@ -350,8 +386,18 @@ module _ (head : Shape) where
 
     single_legal : (p : Part) (fixed : Bool) → IsFit p
         → L (cond fixed (body_uops p) (outside ++ once_code p))
-    single_legal p true fit = fit size
+    single_legal p true fit = fit p.plan size
     single_legal p false fit = (refl, (refl, once_legal p fit))
+
+    half_legal : (p last : Part) (end pc : ℕ) → IsFit p → IsFit last → end < size
+        → pc + half_size p last ≤ size → L (half_code p last end pc)
+    half_legal p last end pc fit fit_last le room =
+        let post = AddI 3 1 ∷ SubI 2 1 ∷ [] in
+        let more : pc + 1 + length last.cmds + 1 < size = omega (arith, room) in (
+          lt-ltb (pc + 1 + length last.cmds + 1) size more,
+          join (turn_uops last) (Bnez 4 end ∷ (turn_uops p ++ post)) (fit_last turn_plan size)
+              (lt-ltb end size le, join (turn_uops p) post (fit turn_plan size) (refl, (refl, tt))),
+        )
 
     step_legal : (s : StepOf Part) (pc : ℕ) → AllStep IsFit s → pc + length (step_code s pc) < size
         → L (step_code s pc)
@@ -389,6 +435,27 @@ module _ (head : Shape) where
             ),
           ),
         )
+    step_legal (Alternate t) pc h le =
+        let head = pc + 1 + 1 + 1 in
+        let odd = head + half_size t.even t.last_even in
+        let end = odd + half_size t.odd t.last_odd + 1 in
+        let all = turns_long t pc in
+        let at_end : end < size = omega (arith, le, all) in
+        let top : head < size = omega (arith, le, all) in
+        let second = half_code t.odd t.last_odd end odd in (
+          refl,
+          (
+            refl,
+            (
+              refl,
+              join (half_code t.even t.last_even end head) (second ++ (Bnez 4 head ∷ []))
+                  (half_legal t.even t.last_even end head h.0 h.1.1.0 at_end (omega (arith, at_end)))
+                  (join second (Bnez 4 head ∷ [])
+                  (half_legal t.odd t.last_odd end odd h.1.0 h.1.1.1 at_end (omega (arith, at_end)))
+                  (lt-ltb head size top, tt)),
+            ),
+          ),
+        )
 
     program_legal : (ss : List (StepOf Part)) (pc : ℕ) → AllParts IsFit ss
         → pc + length (program_code ss pc) < size → L (program_code ss pc)
@@ -401,8 +468,9 @@ module _ (head : Shape) where
 
   pub code_legal : (ss : List (StepOf Part)) → length (program_code ss 0) ≤ 4096
       → AllParts IsPart ss → AllByRecursion (IsRound (IsSpot head 2) 2)
-      (map block_round (all_rounds 2 ss)) → IsLegalCode head (program_code ss 0 ++ Done ∷ [])
-  code_legal ss short parts rounds =
+      (map block_round (all_rounds 2 ss)) → AllByRecursion (IsRound (IsSpot head 3) 3)
+      (map block_round (all_rounds 3 ss)) → IsLegalCode head (program_code ss 0 ++ Done ∷ [])
+  code_legal ss short parts rounds more =
       let is = program_code ss 0 in
       let size : length (is ++ Done ∷ []) ≡ length is + 1 = length-append is (Done ∷ []) in
       let within : length is < length (is ++ Done ∷ []) = omega (arith, size) in
@@ -413,7 +481,7 @@ module _ (head : Shape) where
       record {
         short = omega (arith, size, short);
         each = both (IsLegalAt (length (is ++ Done ∷ []))) is (Done
-            ∷ []) (program_legal (length (is ++ Done ∷ [])) ss 0 (fit_steps ss parts rounds)
+            ∷ []) (program_legal (length (is ++ Done ∷ [])) ss 0 (fit_steps ss parts rounds more)
             (omega (arith, size))) (refl, tt);
         last = subst (λ k. slice_get (is ++ Done ∷ []) k ≡ Some Done) e at;
       }

@@ -1,6 +1,8 @@
 -- Each word operation's loop program has settled bodies, and takes exactly the operation's
 -- commands.
-use Rattle.std.proofs.Common.{◌≡◌, ℕ, ◌<◌, Bool, true, false, cond}
+use Rattle.std.proofs.Common.{◌≡◌, ℕ, ◌+◌, ◌-◌, ◌*◌, ◌/◌, ◌%◌, ◌<◌, Bool, true, false, cond}
+use Rattle.std.proofs.Common.{⊎_elim}
+use Rattle.std.proofs.lemmas.Bool.{cases_eq}
 use Rattle.std.proofs.Common.{List, [], ◌∷◌, Some, refl, sym, ap, ◌∙◌, subst, arith}
 use Rattle.op_text.specs.declared.tree.Kind.{Kind}
 use Rattle.op_text.specs.declared.tree.Kind.TheVariants.{Word, Bit}
@@ -11,14 +13,16 @@ use Rattle.op_text.specs.declared.word_ops.Signature.TheVariants as shape
 use Rattle.op_text.specs.WordOps.{row_of, forms, signature_forms, filled, given_first, first_of}
 use Rattle.op_text.specs.Meaning.{width}
 use Rattle.op_text.proofs.Operations.{first_settles}
-use Rattle.loop_ir.specs.Plain.{Block, StepOf, AllParts}
+use Rattle.loop_ir.specs.Plain.{Block, TurnsOf, StepOf, AllParts, turns_map}
 use Rattle.loop_ir.specs.Loops.{all_rounds}
-use Rattle.loop_laws.specs.Rooms.{Marked, placed_steps}
+use Rattle.loop_laws.specs.Rooms.{Marked, placed_body, placed_steps}
 use Rattle.loop_laws.proofs.Alike.{InRooms}
-use Rattle.loop_laws.proofs.Summed.{rounds_sum, sum_is}
+use Rattle.loop_laws.proofs.Summed.{rounds_sum, sum_is, turns_sum, turns_even, turns_odd}
 use Rattle.word_lower.specs.declared.table.ProgramRow.{ProgramRow}
 use Rattle.word_lower.specs.declared.table.ProgramRow.TheVariants.{Spread}
 use Rattle.word_lower.specs.Programs.{program, program_of}
+use Rattle.word_lower.proofs.ByTurns.{and_turns, or_turns, xor_turns}
+use Rattle.word_lower.proofs.Rectified.{relu_turns}
 use Rattle.word_mul.specs.Programs.{is_nested, nested}
 use Rattle.word_mul.proofs.Totals.{triangle, bits_together}
 use Rattle.uprog_gen.specs.Costs.{op_aaps, op_aps}
@@ -48,6 +52,28 @@ spreads p = is_spread (program_of p)
 abbrev pub op_width : WordOp → Kind → ℕ → ℕ
 op_width p k n = cond (spreads p) (width n k) n
 
+-- what bodies that take turns count, by what each of them does
+turns_by : (f : Block → ℕ) (t : TurnsOf Block) (a b c d n total : ℕ) → 0 < n → f t.even ≡ a
+    → f t.odd ≡ b → f t.last_even ≡ c → f t.last_odd ≡ d
+    → (n ≡ 2 * ((n - 1) / 2) + 1 → total ≡ (n - 1) / 2 * (a + b) + c)
+    → (n ≡ 2 * ((n - 1) / 2) + 2 → total ≡ (n - 1) / 2 * (a + b) + (a + d))
+    → turns_sum f t (n - 1) ≡ total
+turns_by f t a b c d n total some ea eb ec ed one two =
+    let k = (n - 1) / 2 in
+    ⊎_elim
+    (λ (e : (n - 1) % 2 ≡ 0).
+    let s : n - 1 ≡ 2 * k = omega (arith, e) in
+    ap (turns_sum f t) s ∙ turns_even f t k
+    ∙ ap (λ x. k * (x + f t.odd) + f t.last_even) ea ∙ ap (λ x. k * (a + x) + f t.last_even) eb
+    ∙ ap (λ x. k * (a + b) + x) ec ∙ sym (one (omega (arith, e, some))))
+    (λ (ne : (n - 1) % 2 ≡ 0 → ⊥).
+    let s : n - 1 ≡ 2 * k + 1 = omega (arith, ne) in
+    ap (turns_sum f t) s ∙ turns_odd f t k
+    ∙ ap (λ x. k * (x + f t.odd) + (x + f t.last_odd)) ea
+    ∙ ap (λ x. k * (a + x) + (a + f t.last_odd)) eb ∙ ap (λ x. k * (a + b) + (a + x)) ed
+    ∙ sym (two (omega (arith, ne, some))))
+    (cases_eq ((n - 1) % 2) 0)
+
 numbered_aaps : (p : WordOp) (k : Kind) (n : ℕ) → 0 < n
     → rounds_sum turn_aaps (all_rounds n (placed_steps [] (Numbered p k)))
     ≡ op_aaps p (op_width p k n)
@@ -56,6 +82,26 @@ numbered_aaps op.Mul k n some = let h = sum_is turn_aaps n (placed_steps [] (Num
 numbered_aaps op.Bitcount k n some =
     let h = sum_is turn_aaps n (placed_steps [] (Numbered op.Bitcount k)) in
     omega (arith, h, bits_together n, some)
+numbered_aaps op.Relu k n some =
+    let h = sum_is turn_aaps n (placed_steps [] (Numbered op.Relu k)) in
+    let e = turns_by turn_aaps (turns_map (placed_body []) relu_turns) 3 3 1 1 n
+    (3 * (n - 1) + 1) some refl refl refl refl (λ z. omega (arith, z)) (λ z. omega (arith, z)) in
+    omega (arith, h, e, some)
+numbered_aaps op.AndRed k n some =
+    let h = sum_is turn_aaps n (placed_steps [] (Numbered op.AndRed k)) in
+    let e = turns_by turn_aaps (turns_map (placed_body []) and_turns) 2 1 3 2 n
+    (3 * (n / 2) + 2 * (n % 2) + 1) some refl refl refl refl (λ z. omega (arith, z)) (λ z. omega (arith, z)) in
+    omega (arith, h, e)
+numbered_aaps op.OrRed k n some =
+    let h = sum_is turn_aaps n (placed_steps [] (Numbered op.OrRed k)) in
+    let e = turns_by turn_aaps (turns_map (placed_body []) or_turns) 2 1 3 2 n
+    (3 * (n / 2) + 2 * (n % 2) + 1) some refl refl refl refl (λ z. omega (arith, z)) (λ z. omega (arith, z)) in
+    omega (arith, h, e)
+numbered_aaps op.XorRed k n some =
+    let h = sum_is turn_aaps n (placed_steps [] (Numbered op.XorRed k)) in
+    let e = turns_by turn_aaps (turns_map (placed_body []) xor_turns) 2 3 5 3 n
+    (5 * ((n + 1) / 2)) some refl refl refl refl (λ z. omega (arith, z)) (λ z. omega (arith, z)) in
+    omega (arith, h, e)
 numbered_aaps p Word n some = let h = sum_is turn_aaps n (placed_steps [] (Numbered p Word)) in
     omega (arith, h, triangle n, some)
 numbered_aaps p Bit n some = let h = sum_is turn_aaps n (placed_steps [] (Numbered p Bit)) in
@@ -69,6 +115,26 @@ numbered_aps op.Mul k n some = let h = sum_is turn_aps n (placed_steps [] (Numbe
 numbered_aps op.Bitcount k n some =
     let h = sum_is turn_aps n (placed_steps [] (Numbered op.Bitcount k)) in
     omega (arith, h, some)
+numbered_aps op.Relu k n some =
+    let h = sum_is turn_aps n (placed_steps [] (Numbered op.Relu k)) in
+    let e = turns_by turn_aps (turns_map (placed_body []) relu_turns) 0 0 0 0 n
+    (0) some refl refl refl refl (λ z. omega (arith, z)) (λ z. omega (arith, z)) in
+    omega (arith, h, e, some)
+numbered_aps op.AndRed k n some =
+    let h = sum_is turn_aps n (placed_steps [] (Numbered op.AndRed k)) in
+    let e = turns_by turn_aps (turns_map (placed_body []) and_turns) 1 1 0 0 n
+    (n - 1) some refl refl refl refl (λ z. omega (arith, z)) (λ z. omega (arith, z)) in
+    omega (arith, h, e)
+numbered_aps op.OrRed k n some =
+    let h = sum_is turn_aps n (placed_steps [] (Numbered op.OrRed k)) in
+    let e = turns_by turn_aps (turns_map (placed_body []) or_turns) 1 1 0 0 n
+    (n - 1) some refl refl refl refl (λ z. omega (arith, z)) (λ z. omega (arith, z)) in
+    omega (arith, h, e)
+numbered_aps op.XorRed k n some =
+    let h = sum_is turn_aps n (placed_steps [] (Numbered op.XorRed k)) in
+    let e = turns_by turn_aps (turns_map (placed_body []) xor_turns) 0 1 1 1 n
+    ((n + 1) / 2) some refl refl refl refl (λ z. omega (arith, z)) (λ z. omega (arith, z)) in
+    omega (arith, h, e)
 numbered_aps p Word n some = let h = sum_is turn_aps n (placed_steps [] (Numbered p Word)) in
     omega (arith, h, triangle n, some)
 numbered_aps p Bit n some = let h = sum_is turn_aps n (placed_steps [] (Numbered p Bit)) in

@@ -7,9 +7,10 @@ use Rattle.std.proofs.lemmas.Bool.{and_parts}
 use Rattle.row_alloc.specs.declared.body.BodyCmd.{BodyCmd}
 use Rattle.row_alloc.specs.Known.{WordBody, Inverted, Shifted, Multiplied}
 use Rattle.loop_ir.specs.declared.ir.Place.{Place}
-use Rattle.loop_ir.specs.Plain.{Block, InnerOf, StepOf, inner_map, AllInner, AllParts}
+use Rattle.loop_ir.specs.Plain.{Block, InnerOf, StepOf, inner_map, turns_map, AllInner, AllParts}
+use Rattle.loop_ir.specs.Plain.{all_turns}
 use Rattle.loop_ir.specs.Plain.InnerOf.{Alone, Across}
-use Rattle.loop_ir.specs.Plain.StepOf.{Single, Along, Nest, Pairs}
+use Rattle.loop_ir.specs.Plain.StepOf.{Single, Along, Nest, Pairs, Alternate}
 use Rattle.loop_ir.specs.Loops.{all_rounds}
 use Rattle.loop_ir.specs.Spots.{nth_place}
 use Rattle.loop_ir.specs.States.{has_states, held_of}
@@ -17,6 +18,7 @@ use Rattle.loop_ir.specs.Costs.{same_sub, is_copy}
 use Rattle.loop_laws.specs.Rooms.{Room, Marked, placed, placed_body, placed_steps}
 use Rattle.loop_laws.proofs.Alike.{HaveRows, has_like, held_like, sub_like, rounds_like}
 use Rattle.loop_laws.proofs.Summed.{rounds_sum}
+use Rattle.loop_laws.proofs.TakingTurns.{turns_all}
 use Rattle.uprog_gen.specs.Settled.{word_of, word_commands, held_commands, turn_count, is_aap}
 use Rattle.uprog_gen.specs.Settled.{is_ap, turn_aaps, turn_aps, IsSettledAs, IsSettled}
 use Rattle.uprog_gen.proofs.Bodies.Held.{not_same}
@@ -50,6 +52,7 @@ steps_settle (Single b ∷ ss) = settles b && steps_settle ss
 steps_settle (Along b ∷ ss) = settles b && steps_settle ss
 steps_settle (Nest ps ∷ ss) = inners_settle ps && steps_settle ss
 steps_settle (Pairs b ∷ ss) = settles b && steps_settle ss
+steps_settle (Alternate t ∷ ss) = all_turns settles t && steps_settle ss
 
 settled_by : (x c : Bool) (o : Option WordBody) (b : Block) → settles_as x c o b ≡ true
     → IsSettledAs x c o b
@@ -125,6 +128,13 @@ module _ (rooms : List Room) (rows : HaveRows rooms) where
   settled_steps (Pairs b ∷ ss) h =
       let p = and_parts (settles (placed_body [] b)) (steps_settle (placed_steps [] ss)) h in
       (settled_placed b p.0, settled_steps ss p.1)
+  settled_steps (Alternate t ∷ ss) h =
+      let p = and_parts (all_turns settles (turns_map (placed_body []) t))
+      (steps_settle (placed_steps [] ss)) h in (
+        turns_all (λ b. settles (placed_body [] b)) (λ b. IsSettled (placed_body rooms b))
+            settled_placed t p.0,
+        settled_steps ss p.1,
+      )
   settled_steps (Nest ps ∷ ss) h =
       let p = and_parts (inners_settle (map (inner_map (placed_body [])) ps))
       (steps_settle (placed_steps [] ss)) h in

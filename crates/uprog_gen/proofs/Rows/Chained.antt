@@ -7,14 +7,14 @@ use Rattle.std.specs.List.{list_all}
 use Rattle.std.proofs.lemmas.Bool.{and_parts, and_from}
 use Rattle.loop_ir.specs.declared.ir.Count.{Count}
 use Rattle.loop_ir.specs.declared.ir.Count.TheVariants.{All, Rest, UpTo, Bits}
-use Rattle.loop_ir.specs.Plain.{Block, InnerOf, StepOf}
+use Rattle.loop_ir.specs.Plain.{Block, InnerOf, StepOf, TurnsOf}
 use Rattle.loop_ir.specs.Plain.InnerOf.{Alone, Across}
-use Rattle.loop_ir.specs.Plain.StepOf.{Single, Along, Nest, Pairs}
+use Rattle.loop_ir.specs.Plain.StepOf.{Single, Along, Nest, Pairs, Alternate}
 use Rattle.loop_ir.specs.Loops.{RoundOf, one_round, rounds, bits_in, positions, inner_rounds}
-use Rattle.loop_ir.specs.Loops.{all_rounds}
+use Rattle.loop_ir.specs.Loops.{all_rounds, next_turn, turns_from}
 use Rattle.loop_laws.proofs.Digits.{some_bits}
 use Rattle.loop_ir.specs.Chains.{states_in, is_alive, finds, left_by, loop_finds, inner_left}
-use Rattle.loop_ir.specs.Chains.{inner_finds, steps_find}
+use Rattle.loop_ir.specs.Chains.{inner_finds, steps_find, turns_find}
 use Rattle.uprog_gen.proofs.Rows.Alive.{chained}
 
 -- the states that the last of the rounds leaves
@@ -151,6 +151,26 @@ inners n o (Across c b ∷ ps) alive l h =
     (rounds (λ i. one_round b i o) 0 (positions n o c)) (inner_rounds n o ps)
     (across_count n o c alive b l p.0) (inners n o ps (left_by b) l p.1)
 
+-- bodies that take turns
+by_turns : (t : TurnsOf Block) (i count : ℕ) (alive : List ℕ) → turns_find alive t ≡ true
+    → Chains alive [] (turns_from t i count)
+by_turns t i zero alive h =
+    let p = and_parts (finds alive t.even && finds alive t.last_even) _ h in
+    let q = and_parts (finds alive t.even) (finds alive t.last_even) p.0 in
+    fewer alive (left_by t.last_even) [] (one_round t.last_even i 0)
+    (none_within (left_by t.last_even)) (once alive t.last_even i 0 q.1)
+by_turns t i (suc count) alive h =
+    let p = and_parts (finds alive t.even && finds alive t.last_even) _ h in
+    let q = and_parts (finds alive t.even) (finds alive t.last_even) p.0 in
+    let r = and_parts (finds (left_by t.even) t.odd && finds (left_by t.even) t.last_odd)
+    (finds (left_by t.odd) t.even && finds (left_by t.odd) t.last_even) p.1 in
+    let next : turns_find (left_by t.even) (next_turn t) ≡ true =
+    and_from (finds (left_by t.even) t.odd && finds (left_by t.even) t.last_odd) _ r.0
+    (and_from (finds (left_by t.odd) t.even && finds (left_by t.odd) t.last_even)
+    (finds (left_by t.even) t.odd && finds (left_by t.even) t.last_odd) r.1 r.0) in
+    join alive (left_by t.even) [] (one_round t.even i 0) (turns_from (next_turn t) (i + 1) count)
+    (once alive t.even i 0 q.0) (by_turns (next_turn t) (i + 1) count (left_by t.even) next)
+
 pub steps_chained : (n : ℕ) (ss : List (StepOf Block)) (alive : List ℕ) → 0 < n
     → steps_find alive ss ≡ true → chained alive (all_rounds n ss) ≡ true
 steps_chained n [] alive some h = refl
@@ -171,6 +191,13 @@ steps_chained n (Pairs b ∷ ss) alive some h =
     let p = and_parts (loop_finds alive b) (steps_find [] ss) h in
     let rs = rounds (λ i. one_round b i 1) 0 (n - 1) in
     let c = maybe alive b 1 (n - 1) p.0 in
+    both_chained rs (all_rounds n ss) alive c.need
+    (more_chained (all_rounds n ss) [] (left_after alive rs) c.left_in
+    (steps_chained n ss [] some p.1))
+steps_chained n (Alternate t ∷ ss) alive some h =
+    let p = and_parts (turns_find alive t) (steps_find [] ss) h in
+    let rs = turns_from t 0 (n - 1) in
+    let c = by_turns t 0 (n - 1) alive p.0 in
     both_chained rs (all_rounds n ss) alive c.need
     (more_chained (all_rounds n ss) [] (left_after alive rs) c.left_in
     (steps_chained n ss [] some p.1))
@@ -224,6 +251,15 @@ still_find (Along b ∷ ss) xs ys w h =
 still_find (Pairs b ∷ ss) xs ys w h =
     let p = and_parts (loop_finds xs b) (steps_find [] ss) h in
     and_from (loop_finds ys b) (steps_find [] ss) (loop_still b xs ys w p.0) p.1
+still_find (Alternate t ∷ ss) xs ys w h =
+    let p = and_parts (turns_find xs t) (steps_find [] ss) h in
+    let q = and_parts (finds xs t.even && finds xs t.last_even) _ p.0 in
+    let r = and_parts (finds xs t.even) (finds xs t.last_even) q.0 in
+    and_from (turns_find ys t) (steps_find [] ss)
+    (and_from (finds ys t.even && finds ys t.last_even) _
+    (and_from (finds ys t.even) (finds ys t.last_even)
+    (more_find (states_in t.even.reads) xs ys w r.0)
+    (more_find (states_in t.last_even.reads) xs ys w r.1)) q.1) p.1
 still_find (Nest ps ∷ ss) xs ys w h =
     let m = inner_left xs ps in
     let k = inner_left ys ps in
@@ -251,6 +287,9 @@ find_both (Along b ∷ ss) ys alive h k =
 find_both (Pairs b ∷ ss) ys alive h k =
     let p = and_parts (loop_finds alive b) (steps_find [] ss) h in
     and_from (loop_finds alive b) (steps_find [] (ss ++ ys)) p.0 (find_both ss ys [] p.1 k)
+find_both (Alternate t ∷ ss) ys alive h k =
+    let p = and_parts (turns_find alive t) (steps_find [] ss) h in
+    and_from (turns_find alive t) (steps_find [] (ss ++ ys)) p.0 (find_both ss ys [] p.1 k)
 find_both (Nest ps ∷ ss) ys alive h k =
     let m = inner_left alive ps in
     let p = and_parts (inner_finds alive ps) (inner_finds m ps

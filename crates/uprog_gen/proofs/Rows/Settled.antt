@@ -19,7 +19,7 @@ use Rattle.row_alloc.proofs.First.{KeepsInputs, word_late}
 use Rattle.loop_ir.specs.Plain.{Block, InnerOf, StepOf, inner_map, step_map, AllInner, AllStep}
 use Rattle.loop_ir.specs.Plain.{AllParts}
 use Rattle.loop_ir.specs.Plain.InnerOf.{Alone, Across}
-use Rattle.loop_ir.specs.Plain.StepOf.{Single, Along, Nest, Pairs}
+use Rattle.loop_ir.specs.Plain.StepOf.{Single, Along, Nest, Pairs, Alternate}
 use Rattle.loop_ir.specs.Loops.{RoundOf}
 use Rattle.loop_ir.specs.States.{has_states, held_of, row_count}
 use Rattle.loop_ir.specs.Costs.{carries, is_copy}
@@ -112,6 +112,7 @@ step_parts P (Single p) h = h
 step_parts P (Along p) h = h
 step_parts P (Nest xs) h = inner_parts P xs h
 step_parts P (Pairs p) h = h
+step_parts P (Alternate t) h = h
 
 pub of_blocks : (P : Block → Type 0) (ss : List (StepOf Part)) → AllParts P (blocks ss)
     → AllParts (λ p. P p.block) ss

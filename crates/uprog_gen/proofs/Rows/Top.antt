@@ -2,7 +2,7 @@
 use Rattle.std.proofs.Common.{◌≡◌, ℕ, zero, suc, ◌+◌, ◌-◌, ◌<◌, ◌≤◌, true, List, [], ◌∷◌, ◌++◌, map}
 use Rattle.std.proofs.Common.{length, refl, sym, ap, ◌∙◌, subst, ⊎_elim, arith, inl, inr, cond}
 use Rattle.std.proofs.Common.{length-append, append_assoc}
-use Rattle.std.specs.List.{AllByRecursion}
+use Rattle.std.specs.List.{AllByRecursion, list_all}
 use Rattle.std.proofs.lemmas.List.{map-append, length-map}
 use Rattle.std.proofs.lemmas.List.Sums.{sum_by-cons}
 use Rattle.dram_model.specs.declared.address.Cell.TheVariants.{D}
@@ -15,21 +15,22 @@ use Rattle.uprog_code.specs.Count.{counts_of, issues_aap, issues_ap}
 use Rattle.uprog_code.specs.Bound.{Bound, bound}
 use Rattle.uprog_code.specs.Machine.{Issue, IssueAap, IssueAp, Ended, trace, HasEnded, issues_of}
 use Rattle.loop_ir.specs.Loops.{rounds, RoundOf, round_at, one_round, positions, inner_rounds}
-use Rattle.loop_ir.specs.Loops.{step_rounds, all_rounds}
+use Rattle.loop_ir.specs.Loops.{next_turn, turns_from, step_rounds, all_rounds}
 use Rattle.uprog_code.specs.Fits.{Fits, IsTouched}
 use Rattle.loop_ir.specs.declared.ir.Space.{Space}
 use Rattle.loop_ir.specs.declared.ir.Space.TheVariants.{Result, Source, ScratchBit, ScratchWord}
 use Rattle.loop_ir.specs.declared.ir.Space.TheVariants.{Cells}
-use Rattle.loop_ir.specs.Plain.{Block, InnerOf, StepOf, inner_map, step_map, AllInner, AllStep}
-use Rattle.loop_ir.specs.Plain.{AllParts}
+use Rattle.loop_ir.specs.Plain.{Block, InnerOf, TurnsOf, StepOf, inner_map, turns_map, step_map}
+use Rattle.loop_ir.specs.Plain.{AllInner, AllStep, AllParts}
 use Rattle.loop_ir.specs.Plain.InnerOf.{Alone, Across}
-use Rattle.loop_ir.specs.Plain.StepOf.{Single, Along, Nest, Pairs}
+use Rattle.loop_ir.specs.Plain.StepOf.{Single, Along, Nest, Pairs, Alternate}
 use Rattle.loop_ir.specs.Spots.{Spot, IsOwn, after_rounds}
 use Rattle.uprog_gen.specs.Where.{spot_row, row_in, IsSpot, IsIn, Agree, spots_in}
 use Rattle.uprog_gen.specs.Code.{Part, block_of_part, blocks}
 use Rattle.uprog_gen.proofs.Rows.Issued.{round_command, rounds_commands}
 use Rattle.uprog_gen.specs.Code.{program_code}
-use Rattle.loop_ir.specs.Limits.{IsRound}
+use Rattle.loop_ir.specs.Limits.{IsRound, step_stands}
+use Rattle.loop_laws.proofs.TakingTurns.{turns_rounds}
 use Rattle.uprog_gen.proofs.Rows.Rounds.{block_round}
 use Rattle.uprog_gen.specs.Parts.{IsPart}
 use Rattle.loop_ir.specs.Costs.{turn_cost, rounds_cost}
@@ -68,6 +69,12 @@ inner_blocks n o (Across count p ∷ xs) =
     (sym (map_rounds block_round (λ i. one_round p i o) 0 (positions n o count)))
     ∙ sym (map-append block_round rs (inner_rounds n o xs))
 
+turns_blocks : (t : TurnsOf Part) (i count : ℕ) → turns_from (turns_map block_of_part t) i count
+    ≡ map block_round (turns_from t i count)
+turns_blocks t i zero = refl
+turns_blocks t i (suc count) = ap (λ l. round_at t.even.block i 0 ∷ l)
+    (turns_blocks (next_turn t) (i + 1) count)
+
 step_blocks : (n : ℕ) (s : StepOf Part) → step_rounds n (step_map block_of_part s)
     ≡ map block_round (step_rounds n s)
 step_blocks n (Single p) = refl
@@ -77,6 +84,7 @@ step_blocks n (Nest parts) =
     map block_round (inner_rounds n o parts)) (λ o. inner_blocks n o parts) 0 n
     ∙ sym (map_rounds block_round (λ o. inner_rounds n o parts) 0 n)
 step_blocks n (Pairs p) = sym (map_rounds block_round (λ i. one_round p i 1) 0 (n - 1))
+step_blocks n (Alternate t) = turns_blocks t 0 (n - 1)
 
 pub all_blocks : (n : ℕ) (ss : List (StepOf Part))
     → all_rounds n (blocks ss) ≡ map block_round (all_rounds n ss)
@@ -117,6 +125,7 @@ module _ (P : Part → Type 0) where
   step_parts n (Nest parts) h = all_rounds_of In (λ o. inner_rounds n o parts) (λ o.
       inner_parts n o parts h) 0 n
   step_parts n (Pairs p) h = all_rounds_of In (λ i. one_round p i 1) (λ i. (h, tt)) 0 (n - 1)
+  step_parts n (Alternate t) h = turns_rounds In t 0 (n - 1) (n - 1) (omega arith) (λ j le. h)
 
   in_rounds : (n : ℕ) (ss : List (StepOf Part)) → AllParts P ss
       → AllByRecursion In (all_rounds n ss)
@@ -215,11 +224,13 @@ by_trace head n ss code cs t few exact agrees keeps =
 pub program_issues : (head : Shape) (n : ℕ) (ss : List (StepOf Part)) → 0 < n → n ≤ WIDTH_MAX
     → length (program_code ss 0) ≤ 4096 → AllParts IsPart ss
     → AllByRecursion (IsRound (IsSpot head n) n) (all_rounds n (blocks ss))
+    → list_all step_stands (blocks ss) ≡ true
     → trace head (program_code ss 0 ++ Done ∷ []) n ≡ Ended (rounds_commands n (all_rounds n ss))
-program_issues head n ss some small short parts is =
+program_issues head n ss some small short parts is stand =
     let rs = all_rounds n ss in
     let is' = subst (AllByRecursion (IsRound (IsSpot head n) n)) (all_blocks n ss) is in
     program_trace head n ss some small short (good head n rs is' (in_rounds IsPart n ss parts))
+    stand
 
 pub all_rounds-append : {A : Type 0} (n : ℕ) (xs ys : List (StepOf A))
     → all_rounds n (xs ++ ys) ≡ all_rounds n xs ++ all_rounds n ys
@@ -293,14 +304,14 @@ statement_most head n ss most parts (inr h) = omega (
 pub program_does : (head : Shape) (n : ℕ) (ss : List (StepOf Part)) → 0 < n → n ≤ WIDTH_MAX
     → length (program_code ss 0) ≤ 4096 → AllParts IsPart ss
     → AllByRecursion (IsRound (IsSpot head n) n) (all_rounds n (blocks ss))
-    → steps_find [] (blocks ss) ≡ true
+    → steps_find [] (blocks ss) ≡ true → list_all step_stands (blocks ss) ≡ true
     → DoesRounds head n (blocks ss) (program_code ss 0 ++ Done ∷ [])
-program_does head n ss some small short parts is find =
+program_does head n ss some small short parts is find stand =
     let rs = all_rounds n ss in
     let same = all_blocks n ss in
     let is' = subst (AllByRecursion (IsRound (IsSpot head n) n)) same is in
     let parts' = in_rounds IsPart n ss parts in
-    let t = program_issues head n ss some small short parts is in
+    let t = program_issues head n ss some small short parts is stand in
     by_trace head n ss (program_code ss 0 ++ Done ∷ []) (rounds_commands n rs) t
     (subst (λ (l : List (RoundOf Block)). length (rounds_commands n rs)
     ≤ rounds_cost l) (sym same) (few_commands head n rs parts'))

@@ -18,18 +18,23 @@ use Rattle.loop_ir.specs.declared.ir.Sub.TheVariants.{Zero}
 use Rattle.loop_ir.specs.declared.ir.Place.{Place}
 use Rattle.loop_ir.specs.declared.ir.Count.{Count}
 use Rattle.loop_ir.specs.declared.ir.Count.TheVariants.{All as All_of, Rest, UpTo, Bits}
-use Rattle.loop_ir.specs.Plain.{InnerOf, StepOf}
+use Rattle.loop_ir.specs.Plain.{InnerOf, StepOf, all_turns, step_map}
+use Rattle.loop_ir.specs.Limits.{stays_inner, step_stands}
 use Rattle.loop_ir.specs.Plain.InnerOf.{Alone, Across}
-use Rattle.loop_ir.specs.Plain.StepOf.{Single, Along, Nest, Pairs}
+use Rattle.loop_ir.specs.Plain.StepOf.{Single, Along, Nest, Pairs, Alternate}
 use Rattle.loop_ir.specs.Spots.{nth_place}
 use Rattle.uprog_gen.specs.Code.{Part, IsPlanned, inits, befores, enter_code, turn_code, body_uops}
 use Rattle.uprog_gen.specs.Code.{once_code, loop_code, inner_code, inner_list, nest_code, outside}
-use Rattle.uprog_gen.specs.Code.{pairs_code, step_code, program_code}
+use Rattle.uprog_gen.specs.Code.{block_of_part, blocks, pairs_code, turns_code, step_code}
+use Rattle.uprog_gen.specs.Code.{program_code}
+use Rattle.uprog_gen.proofs.Coding.Sizes.{turns_long}
+use Rattle.loop_laws.proofs.TakingTurns.{turns_all}
 use Rattle.uprog_gen.proofs.Rows.Issued.{round_command}
 use Rattle.uprog_gen.proofs.Rows.Issued.{rounds_commands}
 use Rattle.loop_ir.specs.Costs.{is_fixed, same_sub}
 use Rattle.uprog_gen.proofs.Running.Runs.{Runs, run_then, run_none, run_weaken, run_at, run_set}
-use Rattle.uprog_gen.proofs.Running.Runs.{run_parts, run_sub, run_jump}
+use Rattle.uprog_gen.proofs.Running.Runs.{run_parts, run_sub, run_jump, run_more}
+use Rattle.uprog_gen.proofs.Running.Turns.{InRange, run_turns}
 use Rattle.uprog_gen.proofs.Running.Each.{AtBody, AtTop, IsOuter, run_each, run_inits, run_befores}
 use Rattle.uprog_gen.proofs.Running.Nest.{run_nest}
 use Rattle.uprog_gen.proofs.Running.Held.{names_at, names_fixed, run_body, same_true}
@@ -73,8 +78,13 @@ each_all P f i (suc count) j low high h =
 -- the round's subscripts are planned, and its commands are in range
 pub record IsGood (head : Shape) (n : ℕ) (r : RoundOf Part) : Type 0 where
   pub planned : IsPlanned r.part.plan r.part.block
-  pub ranges : AllByRecursion (λ c. all_in_range head n c
-      ≡ true) (map (round_command n r) r.part.cmds)
+  pub ranges : InRange head n r
+
+-- the ranges alone
+ranges_of : (head : Shape) (n : ℕ) (rs : List (RoundOf Part)) → AllByRecursion (IsGood head n) rs
+    → AllByRecursion (InRange head n) rs
+ranges_of head n [] h = tt
+ranges_of head n (r ∷ rs) h = (h.0.ranges, ranges_of head n rs h.1)
 
 -- all places of a fixed body are at 0
 zero_front : (xs ys : List Place) → list_all (λ p. same_sub p.sub Zero) (xs ++ ys) ≡ true → (k : ℕ)
@@ -98,16 +108,6 @@ abbrev most_turns : ℕ
 most_turns = WIDTH_MAX * WIDTH_MAX - 1
 
 module _ (head : Shape) (code : List Uop) (n : ℕ) (some : 0 < n) (small : n ≤ WIDTH_MAX) where
-  run_more : (pc pc' : ℕ) (regs : List ℕ) (k l : ℕ) (cs : List Issue) (I : List ℕ → Type 0) → k ≤ l
-      → Runs head code n pc regs k cs pc' I → Runs head code n pc regs l cs pc' I
-  run_more pc pc' regs k l cs I le a = record {
-    count = a.count;
-    few = omega (arith, a.few);
-    regs' = a.regs';
-    goes = a.goes;
-    known = a.known;
-  }
-
   -- a body once, at position 0
   run_once : (p : Part) (pc o : ℕ) (regs : List ℕ) → o < n → IsOuter n o regs
       → HasAt code pc (once_code p) → IsGood head n (round_at p 0 o)
@@ -166,8 +166,8 @@ module _ (head : Shape) (code : List Uop) (n : ℕ) (some : 0 < n) (small : n �
       subst (λ l. Runs head code n pc regs (n * length (loop_code count p pc)) l (pc
       + length (loop_code count p pc)) (IsOuter n o))
       (sym (commands_rounds n (λ i. one_round p i o) 0 m))
-      (run_more pc _ regs _ (n * length (loop_code count p pc)) (rounds cs 0 m) (IsOuter n o)
-      (few n (length a) (length t + 1) (m * (length t + 1)) _ le size) run)
+      (run_more head code n pc _ regs _ (n * length (loop_code count p pc)) (rounds cs 0 m) (IsOuter n o)
+      (few n (length a) (length t + 1) (m * (length t + 1)) _ some le size) run)
     where
       at_most : (c : Count) → positions n o c ≤ n
       at_most All_of = omega arith
@@ -183,7 +183,7 @@ module _ (head : Shape) (code : List Uop) (n : ℕ) (some : 0 < n) (small : n �
       → Runs head code n pc regs (n * length (inner_code x pc))
       (rounds_commands n (inner_rounds n o (x ∷ []))) (pc + length (inner_code x pc)) (IsOuter n o)
   run_inner (Alone p) pc o regs lo g has ok =
-      run_more pc _ regs (length (once_code p)) (n * length (once_code p)) _ (IsOuter n o)
+      run_more head code n pc _ regs (length (once_code p)) (n * length (once_code p)) _ (IsOuter n o)
       (grow n (length (once_code p)) some) (run_once p pc o regs lo g has ok.0)
     where
       grow : (n x : ℕ) → 0 < n → x ≤ n * x
@@ -198,7 +198,7 @@ module _ (head : Shape) (code : List Uop) (n : ℕ) (some : 0 < n) (small : n �
       → HasAt code pc (inner_list xs pc) → AllByRecursion (IsGood head n) (inner_rounds n o xs)
       → Runs head code n pc regs (n * length (inner_list xs pc))
       (rounds_commands n (inner_rounds n o xs)) (pc + length (inner_list xs pc)) (IsOuter n o)
-  run_inners [] pc o regs lo g has ok = run_more pc (pc + 0) regs 0 (n * 0) [] (IsOuter n o)
+  run_inners [] pc o regs lo g has ok = run_more head code n pc (pc + 0) regs 0 (n * 0) [] (IsOuter n o)
       (omega arith) (run_none head code n pc (pc + 0) regs (IsOuter n o) (omega arith) g)
   run_inners (x ∷ xs) pc o regs lo g has ok =
       let a = inner_code x pc in
@@ -265,7 +265,7 @@ module _ (head : Shape) (code : List Uop) (n : ℕ) (some : 0 < n) (small : n �
       let wr = p.block.writes in
       subst (λ l. Runs head code n pc regs (most_turns * length (body_uops p)) l (pc
       + length (body_uops p)) Eight) (sym (append-nil cs))
-      (run_more pc _ regs (length (body_uops p)) _ cs Eight (grow (length (body_uops p)))
+      (run_more head code n pc _ regs (length (body_uops p)) _ cs Eight (grow (length (body_uops p)))
       (run_body head code n p plan 0 0 Eight p.cmds pc regs
       (names_fixed head code n plan p.block 0 0 regs size (zero_front rd wr e)
       (zero_back rd wr e)) size has ok.ranges))
@@ -276,7 +276,7 @@ module _ (head : Shape) (code : List Uop) (n : ℕ) (some : 0 < n) (small : n �
       let a = once_code p in
       let at_end : pc + 1 + 1 + length a ≡ pc + suc (suc (length a)) = omega arith in
       run_at head code n pc (pc + 1 + 1 + length a) _ regs _ _ Eight at_end
-      (run_more pc _ regs (2 + length a) _ _ Eight (grow (length a))
+      (run_more head code n pc _ regs (2 + length a) _ _ Eight (grow (length a))
       (run_then head code n pc (pc + 1 + 1) _ 2 (length a) (2 + length a) regs [] _ (IsOuter n 0)
       Eight refl (run_zero pc regs size has.0 has.1.0)
       (λ r h. run_weaken head code n (pc + 1 + 1) _ r _ _ (IsOuter n 0) Eight (λ x y.
@@ -363,13 +363,13 @@ module _ (head : Shape) (code : List Uop) (n : ℕ) (some : 0 < n) (small : n �
         (ap (λ k. rounds_commands n (rounds (λ i. one_round p i 1) 0 k)) (sym none))
         (run_at head code n pc (pc + 1 + 1 + 1 + 1 + 1 + length Loop)
         (pc + length (pairs_code p pc)) regs (most_turns * length (pairs_code p pc)) [] Eight at_end
-        (run_more pc (pc + 1 + 1 + 1 + 1 + 1 + length Loop) regs 4
+        (run_more head code n pc (pc + 1 + 1 + 1 + 1 + 1 + length Loop) regs 4
         (most_turns * length (pairs_code p pc)) [] Eight (few (length Loop)) (run_past one))))
         (λ (more : n ≡ 1 → ⊥).
         run_at head code n pc (pc + 1 + 1 + 1 + 1 + 1 + length Loop)
         (pc + length (pairs_code p pc)) regs (most_turns * length (pairs_code p pc))
         (rounds_commands n Rounds) Eight at_end
-        (run_more pc (pc + 1 + 1 + 1 + 1 + 1 + length Loop) regs (4 + n * length Loop)
+        (run_more head code n pc (pc + 1 + 1 + 1 + 1 + 1 + length Loop) regs (4 + n * length Loop)
         (most_turns * length (pairs_code p pc)) (rounds_commands n Rounds) Eight
         (grow (length Loop) small)
         (run_weaken head code n pc (pc + 1 + 1 + 1 + 1 + 1 + length Loop) regs
@@ -388,17 +388,17 @@ module _ (head : Shape) (code : List Uop) (n : ℕ) (some : 0 < n) (small : n �
         grow x h = let k : n * x ≤ WIDTH_MAX * x = mul-le-mul_right x h in omega (arith, k)
 
   run_step : (s : StepOf Part) (pc : ℕ) (regs : List ℕ) → length regs ≡ 8
-      → length (step_code s pc) ≤ 4096 → HasAt code pc (step_code s pc)
-      → AllByRecursion (IsGood head n) (step_rounds n s)
+      → length (step_code s pc) ≤ 4096 → step_stands (step_map block_of_part s) ≡ true
+      → HasAt code pc (step_code s pc) → AllByRecursion (IsGood head n) (step_rounds n s)
       → Runs head code n pc regs (most_turns * length (step_code s pc))
       (rounds_commands n (step_rounds n s)) (pc + length (step_code s pc)) (λ r. length r ≡ 8)
-  run_step (Single p) pc regs size short has ok =
+  run_step (Single p) pc regs size short stand has ok =
       run_single p pc regs (is_fixed p.block) refl size has ok.0
-  run_step (Along p) pc regs size short has ok =
+  run_step (Along p) pc regs size short stand has ok =
       let a = loop_code All_of p (pc + 1 + 1) in
       let at_end : pc + 1 + 1 + length a ≡ pc + suc (suc (length a)) = omega arith in
       run_at head code n pc (pc + 1 + 1 + length a) _ regs _ _ Eight at_end
-      (run_more pc _ regs (2 + n * length a) _ _ Eight (grow n (length a) small)
+      (run_more head code n pc _ regs (2 + n * length a) _ _ Eight (grow n (length a) small)
       (run_then head code n pc (pc + 1 + 1) _ 2 (n * length a) (2 + n * length a) regs [] _
       (IsOuter n 0) Eight refl (run_zero pc regs size has.0 has.1.0)
       (λ r h. run_weaken head code n (pc + 1 + 1) _ r _ _ (IsOuter n 0) Eight (λ x y.
@@ -406,7 +406,7 @@ module _ (head : Shape) (code : List Uop) (n : ℕ) (some : 0 < n) (small : n �
     where
       grow : (n x : ℕ) → n ≤ WIDTH_MAX → 2 + n * x ≤ most_turns * suc (suc x)
       grow n x h = let k : n * x ≤ WIDTH_MAX * x = mul-le-mul_right x h in omega (arith, k)
-  run_step (Nest []) pc regs size short has ok =
+  run_step (Nest []) pc regs size short stand has ok =
       let none : rounds_commands n (rounds (λ o. inner_rounds {A = Part} n o []) 0 n) ≡ [] =
       commands_rounds n (λ o. []) 0 n ∙ no_rounds 0 n in
       subst (λ l. Runs head code n pc regs 0 l (pc + 0) Eight) (sym none)
@@ -415,7 +415,7 @@ module _ (head : Shape) (code : List Uop) (n : ℕ) (some : 0 < n) (small : n �
       no_rounds : (i m : ℕ) → rounds {A = Issue} (λ j. []) i m ≡ []
       no_rounds i zero = refl
       no_rounds i (suc m) = no_rounds (i + 1) m
-  run_step (Nest (x ∷ xs)) pc regs size short has ok =
+  run_step (Nest (x ∷ xs)) pc regs size short stand has ok =
       let parts = x ∷ xs in
       let inner = inner_list parts in
       let q = pc + 1 + 1 + 1 in
@@ -425,7 +425,7 @@ module _ (head : Shape) (code : List Uop) (n : ℕ) (some : 0 < n) (small : n �
       omega (arith, length-append (inner q) (AddI 0 1 ∷ (Bnez 1 (pc + 1 + 1) ∷ []))) in
       subst (λ l. Runs head code n pc regs (most_turns * length (nest_code inner pc)) l (pc
       + length (nest_code inner pc)) Eight) (sym (commands_rounds n f 0 n))
-      (run_more pc _ regs (2 + n * (k + 3)) _ _ Eight
+      (run_more head code n pc _ regs (2 + n * (k + 3)) _ _ Eight
       (grow n (length (inner q)) (length (nest_code inner pc)) small size_is short)
       (run_nest head code n inner pc k regs (λ o. rounds_commands n (f o)) some small size has
       (λ o r lo g ha. run_inners parts q o r lo g ha
@@ -436,19 +436,32 @@ module _ (head : Shape) (code : List Uop) (n : ℕ) (some : 0 < n) (small : n �
       grow n x size h e s = rw e (let k : n * x ≤ WIDTH_MAX * x = mul-le-mul_right x h in
           let l : n * (n * x + 3) ≤ WIDTH_MAX * (n * x + 3) = mul-le-mul_right (n * x + 3) h in
           omega (arith, k, l, e, s))
-  run_step (Pairs p) pc regs size short has ok = run_pairs p pc regs size has ok
+  run_step (Pairs p) pc regs size short stand has ok = run_pairs p pc regs size has ok
+  run_step (Alternate t) pc regs size short stand has ok =
+      let long = length (turns_code t pc) in
+      let stays = turns_all (λ (p : Part). stays_inner p.block)
+      (λ (p : Part). stays_inner p.block ≡ true) (λ p h. h) t stand in
+      run_more head code n pc (pc + long) regs (3 + n * long) (most_turns * long) _ Eight
+      (grow n long small (omega (arith, turns_long t pc)))
+      (run_turns head code n some small t pc regs size stays has
+      (ranges_of head n (step_rounds n (Alternate t)) ok))
+    where
+      grow : (n x : ℕ) → n ≤ WIDTH_MAX → 4 ≤ x → 3 + n * x ≤ most_turns * x
+      grow n x h four = let k : n * x ≤ WIDTH_MAX * x = mul-le-mul_right x h in
+          omega (arith, k, four)
 
   run_steps : (ss : List (StepOf Part)) (pc : ℕ) (regs : List ℕ) → length regs ≡ 8
-      → length (program_code ss pc) ≤ 4096 → HasAt code pc (program_code ss pc)
-      → AllByRecursion (IsGood head n) (all_rounds n ss)
+      → length (program_code ss pc) ≤ 4096 → list_all step_stands (blocks ss) ≡ true
+      → HasAt code pc (program_code ss pc) → AllByRecursion (IsGood head n) (all_rounds n ss)
       → Runs head code n pc regs (most_turns * length (program_code ss pc))
       (rounds_commands n (all_rounds n ss)) (pc + length (program_code ss pc)) (λ r. length r ≡ 8)
-  run_steps [] pc regs size short has ok = run_more pc (pc + 0) regs 0 (most_turns * 0) [] Eight
+  run_steps [] pc regs size short stand has ok = run_more head code n pc (pc + 0) regs 0 (most_turns * 0) [] Eight
       (omega arith) (run_none head code n pc (pc + 0) regs Eight (omega arith) size)
-  run_steps (s ∷ ss) pc regs size short has ok =
+  run_steps (s ∷ ss) pc regs size short stand has ok =
       let a = step_code s pc in
       let b = program_code ss (pc + length a) in
       let rs = step_rounds n s in
+      let stands = and_parts (step_stands (step_map block_of_part s)) _ stand in
       let len = length-append a b in
       let at_end : pc + length a + length b ≡ pc + length (a ++ b) = omega (arith, len) in
       run_at head code n pc (pc + length a + length b) (pc + length (a ++ b)) regs (most_turns
@@ -458,21 +471,22 @@ module _ (head : Shape) (code : List Uop) (n : ℕ) (some : 0 < n) (small : n �
       (run_then head code n pc (pc + length a) (pc + length a + length b) (most_turns * length a)
       (most_turns * length b) (most_turns * length (a ++ b)) regs (rounds_commands n rs)
       (rounds_commands n (all_rounds n ss)) Eight Eight (omega (arith, len))
-      (run_step s pc regs size (omega (arith, len, short)) (has_front code pc a b has)
+      (run_step s pc regs size (omega (arith, len, short)) stands.0 (has_front code pc a b has)
       (front_all (IsGood head n) rs (all_rounds n ss) ok))
-      (λ r h. run_steps ss (pc + length a) r h (omega (arith, len, short))
+      (λ r h. run_steps ss (pc + length a) r h (omega (arith, len, short)) stands.1
       (has_back code pc a b has) (back_all (IsGood head n) rs (all_rounds n ss) ok))))
 
 -- the trace of a loop program: sixteen statements of 256 instructions never reach the budget
 pub program_trace : (head : Shape) (n : ℕ) (ss : List (StepOf Part)) → 0 < n → n ≤ WIDTH_MAX
     → length (program_code ss 0) ≤ 4096 → AllByRecursion (IsGood head n) (all_rounds n ss)
+    → list_all step_stands (blocks ss) ≡ true
     → trace head (program_code ss 0 ++ Done ∷ []) n ≡ Ended (rounds_commands n (all_rounds n ss))
 unfolding trace issue
-program_trace head n ss some small short ok =
+program_trace head n ss some small short ok stand =
     let is = program_code ss 0 in
     let code = is ++ Done ∷ [] in
     let has = has_all code [] in
-    let a = run_steps head code n some small ss 0 start refl short
+    let a = run_steps head code n some small ss 0 start refl short stand
     (has_front code 0 is (Done ∷ []) has) ok in
     let at = (has_back code 0 is (Done ∷ []) has).0 in
     let enough : a.count < WALK_MAX = in_budget a.count (length is) short a.few in

@@ -99,6 +99,17 @@ module _ (head : Shape) (code : List Uop) (n : ℕ) where
     known = f a.regs' a.known;
   }
 
+  -- a greater limit
+  pub run_more : (pc pc' : ℕ) (regs : List ℕ) (k l : ℕ) (cs : List Issue) (I : List ℕ → Type 0)
+      → k ≤ l → Runs head code n pc regs k cs pc' I → Runs head code n pc regs l cs pc' I
+  run_more pc pc' regs k l cs I le a = record {
+    count = a.count;
+    few = omega (arith, a.few, le);
+    regs' = a.regs';
+    goes = a.goes;
+    known = a.known;
+  }
+
   pub run_at : (pc pc1 pc2 : ℕ) (regs : List ℕ) (k : ℕ) (cs : List Issue) (I : List ℕ → Type 0)
       → pc1 ≡ pc2 → Runs head code n pc regs k cs pc1 I → Runs head code n pc regs k cs pc2 I
   run_at pc pc1 pc2 regs k cs I e a = subst (λ q. Runs head code n pc regs k cs q I) e a

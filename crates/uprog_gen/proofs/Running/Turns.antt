@@ -1,0 +1,267 @@
+-- The code of bodies that take turns.
+use Rattle.std.proofs.Common.{◌≡◌, ℕ, zero, suc, ◌+◌, ◌-◌, ◌*◌, ◌<◌, ◌≤◌, Bool, true, false, cond}
+use Rattle.std.proofs.Common.{List, [], ◌∷◌, ◌++◌, map, length, Some, refl, sym, ap, ◌∙◌, subst}
+use Rattle.std.proofs.Common.{⊎_elim, ◌⊎◌, inl, inr, arith, append-nil, length-append}
+use Rattle.std.specs.Prelude.{slice_get, slice_index, ◌==◌, ◌||◌, ◌&&◌}
+use Rattle.std.specs.List.{AllByRecursion, list_all}
+use Rattle.std.proofs.lemmas.Bool.{and_parts, cases_Bool, ne_eqb}
+use Rattle.std.proofs.lemmas.List.{get_or_past, length-map}
+use Rattle.bit_rows.specs.declared.TheConstants.{WIDTH_MAX}
+use Rattle.uprog_code.specs.Machine.{Issue, all_in_range}
+use Rattle.uprog_code.specs.Shape.{Shape}
+use Rattle.uprog_code.specs.declared.code.Uop.{Uop}
+use Rattle.uprog_code.specs.declared.code.Uop.TheVariants.{SetI, SetT, AddI, SubI, Bnez}
+use Rattle.loop_ir.specs.declared.ir.Place.{Place}
+use Rattle.loop_ir.specs.declared.ir.Sub.{Sub}
+use Rattle.loop_ir.specs.declared.ir.Sub.TheVariants.{Zero, Inner as At_inner}
+use Rattle.loop_ir.specs.Plain.{Block, TurnsOf, AllTurns}
+use Rattle.loop_ir.specs.Loops.{RoundOf, round_at, next_turn, turns_from, sub_value}
+use Rattle.loop_ir.specs.Spots.{nth_place}
+use Rattle.loop_ir.specs.Costs.{same_sub}
+use Rattle.loop_ir.specs.Limits.{stays_inner}
+use Rattle.uprog_gen.specs.Code.{Part, register, turn_plan, code_uop, turn_uops, half_code}
+use Rattle.uprog_gen.specs.Code.{half_size, turns_code}
+use Rattle.uprog_gen.proofs.Coding.Sizes.{half_long, turns_long}
+use Rattle.uprog_gen.proofs.Rows.Issued.{round_command, rounds_commands}
+use Rattle.uprog_gen.proofs.Running.Goes.{HasAt, has_front, has_back}
+use Rattle.uprog_gen.proofs.Running.Runs.{Runs, run_then, run_none, run_weaken, run_at, run_set}
+use Rattle.uprog_gen.proofs.Running.Runs.{run_add, run_sub, run_more}
+use Rattle.uprog_gen.proofs.Running.Each.{run_jump}
+use Rattle.uprog_gen.proofs.Running.Held.{Names, run_body, same_true}
+
+-- the round's commands are in range
+abbrev pub InRange : Shape → ℕ → RoundOf Part → Type 0
+InRange head n r = AllByRecursion (λ c. all_in_range head n c ≡ true)
+    (map (round_command n r) r.part.cmds)
+
+abbrev IsInner : Sub → Type 0
+IsInner s = (s ≡ Zero) ⊎ (s ≡ At_inner)
+
+one_inner : (s : Sub) → (same_sub s Zero || same_sub s At_inner) ≡ true → IsInner s
+one_inner s h = ⊎_elim (λ (a : same_sub s Zero ≡ true). inl (same_true s Zero a))
+    (λ (a : same_sub s Zero ≡ false). inr (same_true s At_inner
+    (sym (ap (λ b. b || same_sub s At_inner) a) ∙ h))) (cases_Bool (same_sub s Zero))
+
+inner_front : (xs ys : List Place)
+    → list_all (λ p. same_sub p.sub Zero || same_sub p.sub At_inner) (xs ++ ys) ≡ true → (k : ℕ)
+    → IsInner (nth_place xs k).sub
+inner_front [] ys h k = inl refl
+inner_front (x ∷ xs) ys h zero = one_inner x.sub
+    (and_parts (same_sub x.sub Zero || same_sub x.sub At_inner) _ h).0
+inner_front (x ∷ xs) ys h (suc k) = inner_front xs ys
+    (and_parts (same_sub x.sub Zero || same_sub x.sub At_inner) _ h).1 k
+
+inner_back : (xs ys : List Place)
+    → list_all (λ p. same_sub p.sub Zero || same_sub p.sub At_inner) (xs ++ ys) ≡ true → (k : ℕ)
+    → IsInner (nth_place ys k).sub
+inner_back [] ys h k = inner_front ys [] (subst (λ l. list_all (λ (p : Place). same_sub p.sub Zero
+    || same_sub p.sub At_inner) l ≡ true) (sym (append-nil ys)) h) k
+inner_back (x ∷ xs) ys h k = inner_back xs ys
+    (and_parts (same_sub x.sub Zero || same_sub x.sub At_inner) _ h).1 k
+
+module _ (head : Shape) (code : List Uop) (n : ℕ) where
+  -- how many positions come after this one, the position, and 1
+  record AtTurn (left i : ℕ) (regs : List ℕ) : Type 0 where
+    size : length regs ≡ 8
+    left_is : slice_index regs 2 ≡ left
+    at : slice_index regs 3 ≡ i
+    one : slice_index regs 4 ≡ 1
+
+  abbrev Eight : List ℕ → Type 0
+  Eight r = length r ≡ 8
+
+  register_holds : (s : Sub) (left i : ℕ) (regs : List ℕ) → AtTurn left i regs → IsInner s
+      → slice_index regs (register turn_plan s) ≡ sub_value n i 0 s
+  register_holds s left i regs g (inl e) = subst (λ u. slice_index regs (register turn_plan u)
+      ≡ sub_value n i 0 u) (sym e) (get_or_past regs 8 0 (omega (arith, g.size)))
+  register_holds s left i regs g (inr e) = subst (λ u. slice_index regs (register turn_plan u)
+      ≡ sub_value n i 0 u) (sym e) g.at
+
+  names : (b : Block) (left i : ℕ) (regs : List ℕ) → stays_inner b ≡ true → AtTurn left i regs
+      → Names n turn_plan b i 0 regs
+  names b left i regs stays g = record {
+    reads = λ k. register_holds (nth_place b.reads k).sub left i regs g
+        (inner_front b.reads b.writes stays k);
+    writes = λ k. register_holds (nth_place b.writes k).sub left i regs g
+        (inner_back b.reads b.writes stays k);
+  }
+
+  abbrev commands : Part → ℕ → List Issue
+  commands p i = map (round_command n (round_at p i 0)) p.cmds
+
+  run_uops : (p : Part) (left i pc : ℕ) (regs : List ℕ) → stays_inner p.block ≡ true
+      → InRange head n (round_at p i 0) → HasAt code pc (turn_uops p) → AtTurn left i regs
+      → Runs head code n pc regs (length (turn_uops p)) (commands p i)
+      (pc + length (turn_uops p)) (AtTurn left i)
+  run_uops p left i pc regs stays ok has g = run_body head code n p turn_plan i 0 (AtTurn left i)
+      p.cmds pc regs (names p.block left i regs stays g) g has ok
+
+  module _ (p last : Part) (end pc i : ℕ) (has : HasAt code pc (half_code p last end pc)) where
+    abbrev post : List Uop
+    post = AddI 3 1 ∷ SubI 2 1 ∷ []
+
+    abbrev after_last : List Uop
+    after_last = Bnez 4 end ∷ (turn_uops p ++ post)
+
+    rest : HasAt code (pc + 1 + length (turn_uops last)) after_last
+    rest = has_back code (pc + 1) (turn_uops last) after_last has.1
+
+    -- at the top position
+    run_last : (regs : List ℕ) → stays_inner last.block ≡ true
+        → InRange head n (round_at last i 0) → AtTurn 0 i regs
+        → Runs head code n pc regs (length (turn_uops last) + 2) (commands last i ++ []) end Eight
+    run_last regs stays ok g =
+        let u = length (turn_uops last) in
+        let q = pc + 1 in
+        run_then head code n pc q end 1 (u + 1) (u + 2) regs [] (commands last i ++ []) (AtTurn 0 i)
+        Eight (omega arith)
+        (run_jump head code n pc 2 (pc + 1 + length last.cmds + 1) regs true (AtTurn 0 i) has.0
+        (ap (λ v. v == 0) g.left_is) g)
+        (λ x k. run_then head code n q (q + u) end u 1 (u + 1) x (commands last i) [] (AtTurn 0 i)
+        Eight refl
+        (run_uops last 0 i q x stays ok (has_front code q (turn_uops last) after_last has.1) k)
+        (λ y m. run_weaken head code n (q + u) end y 1 [] (AtTurn 0 i) Eight (λ z l. l.size)
+        (run_jump head code n (q + u) 4 end y false (AtTurn 0 i) rest.0 (ap (λ v. v == 0) m.one)
+        m)))
+
+    -- at any other
+    run_turn : (left : ℕ) (regs : List ℕ) → n ≤ WIDTH_MAX → i < n → stays_inner p.block ≡ true
+        → InRange head n (round_at p i 0) → AtTurn (suc left) i regs
+        → Runs head code n pc regs (length (turn_uops p) + 3) (commands p i)
+        (pc + half_size p last) (AtTurn left (i + 1))
+    run_turn left regs small li stays ok g =
+        let u = length (turn_uops p) in
+        let q = pc + 1 + length (turn_uops last) + 1 in
+        let A = AtTurn (suc left) i in
+        let more : pc + 1 + length last.cmds + 1 ≡ q =
+        omega (arith, length-map last.cmds (code_uop turn_plan last.block)) in
+        let tail = has_back code q (turn_uops p) post rest.1 in
+        let e : q + u + 1 + 1 ≡ pc + half_size p last = omega (
+          arith,
+          length-map last.cmds (code_uop turn_plan last.block),
+          length-map p.cmds (code_uop turn_plan p.block),
+        ) in
+        let jump = run_at head code n pc (pc + 1 + length last.cmds + 1) q regs 1 [] A more
+        (run_jump head code n pc 2 (pc + 1 + length last.cmds + 1) regs false A has.0
+        (ap (λ v. v == 0) g.left_is ∙ ne_eqb (suc left) 0 (λ z. absurd (omega (arith, z)))) g) in
+        subst (λ l. Runs head code n pc regs (u + 3) l (pc + half_size p last)
+        (AtTurn left (i + 1))) (append-nil (commands p i))
+        (run_at head code n pc (q + u + 1 + 1) (pc + half_size p last) regs (u + 3)
+        (commands p i ++ []) (AtTurn left (i + 1)) e
+        (run_then head code n pc q (q + u + 1 + 1) 1 (u + 2) (u + 3) regs [] (commands p i ++ []) A
+        (AtTurn left (i + 1)) (omega arith) jump
+        (λ x k. run_then head code n q (q + u) (q + u + 1 + 1) u 2 (u + 2) x (commands p i) [] A
+        (AtTurn left (i + 1)) refl
+        (run_uops p (suc left) i q x stays ok (has_front code q (turn_uops p) post rest.1) k)
+        (λ y m. run_then head code n (q + u) (q + u + 1) (q + u + 1 + 1) 1 1 2 y [] [] _
+        (AtTurn left (i + 1)) refl
+        (run_add head code n (q + u) 3 1 (λ v. v ≡ i + 1) y tail.0
+        (omega (arith, m.at, li, small)) (omega (arith, m.size)) (omega (arith, m.at)))
+        (λ z c. run_weaken head code n (q + u + 1) (q + u + 1 + 1) z 1 [] _ (AtTurn left (i + 1))
+        (λ w d. record {
+          size = d.size ∙ c.size ∙ m.size;
+          left_is = d.this;
+          at = d.others 3 (λ f. absurd (omega (arith, f))) ∙ c.this;
+          one = d.others 4 (λ f. absurd (omega (arith, f)))
+              ∙ c.others 4 (λ f. absurd (omega (arith, f))) ∙ m.one;
+        })
+        (let two = c.others 2 (λ f. absurd (omega (arith, f))) ∙ m.left_is in
+        run_sub head code n (q + u + 1) 2 1 (λ v. v ≡ left) z tail.1.0 (omega (arith, two))
+        (omega (arith, c.size, m.size)) (omega (arith, two))))))))
+
+  -- one of two bodies, from which the code goes on to the other
+  record Half (p last : Part) (end pc next : ℕ) : Type 0 where
+    has : HasAt code pc (half_code p last end pc)
+    stays : stays_inner p.block ≡ true
+    last_stays : stays_inner last.block ≡ true
+    link : (left i : ℕ) (regs : List ℕ) → AtTurn left i regs
+        → Runs head code n (pc + half_size p last) regs 1 [] next (AtTurn left i)
+
+  uops_long : (p : Part) → length (turn_uops p) ≡ length p.cmds
+  uops_long p = length-map p.cmds (code_uop turn_plan p.block)
+
+  run_from : (t : TurnsOf Part) (end a b long : ℕ) → n ≤ WIDTH_MAX
+      → Half t.even t.last_even end a b → Half t.odd t.last_odd end b a
+      → half_size t.even t.last_even ≤ long → half_size t.odd t.last_odd ≤ long → (i count : ℕ)
+      (regs : List ℕ) → i + count < n → AllByRecursion (InRange head n) (turns_from t i count)
+      → AtTurn count i regs → Runs head code n a regs ((count + 1) * long)
+      (rounds_commands n (turns_from t i count)) end Eight
+  run_from t end a b long small x y le lo i zero regs lt ok g =
+      run_more head code n a end regs (length (turn_uops t.last_even) + 2) ((zero + 1) * long)
+      (commands t.last_even i ++ []) Eight (omega (arith, le, uops_long t.last_even))
+      (run_last t.even t.last_even end a i x.has regs x.last_stays ok.0 g)
+  run_from t end a b long small x y le lo i (suc count) regs lt ok g =
+      let cs = commands t.even i in
+      let rest = rounds_commands n (turns_from (next_turn t) (i + 1) count) in
+      let u = length (turn_uops t.even) + 3 in
+      let at = a + half_size t.even t.last_even in
+      run_more head code n a end regs (u + (1 + (count + 1) * long)) ((suc count + 1) * long)
+      (cs ++ rest) Eight (omega (arith, le, uops_long t.even))
+      (run_then head code n a at end u (1 + (count + 1) * long) (u + (1 + (count + 1) * long)) regs
+      cs rest (AtTurn count (i + 1)) Eight refl
+      (run_turn t.even t.last_even end a i x.has count regs small (omega (arith, lt)) x.stays ok.0
+      g)
+      (λ r h. run_then head code n at b end 1 ((count + 1) * long) (1 + (count + 1) * long) r [] rest
+      (AtTurn count (i + 1)) Eight refl (x.link count (i + 1) r h)
+      (λ z k. run_from (next_turn t) end b a long small y x lo le (i + 1) count z
+      (omega (arith, lt)) ok.1 k)))
+
+  pub run_turns : 0 < n → n ≤ WIDTH_MAX → (t : TurnsOf Part) (pc : ℕ) (regs : List ℕ)
+      → length regs ≡ 8 → AllTurns (λ (p : Part). stays_inner p.block ≡ true) t
+      → HasAt code pc (turns_code t pc) → AllByRecursion (InRange head n) (turns_from t 0 (n - 1))
+      → Runs head code n pc regs (3 + n * length (turns_code t pc))
+      (rounds_commands n (turns_from t 0 (n - 1))) (pc + length (turns_code t pc)) Eight
+  run_turns some small t pc regs size stays has ok =
+      let long = length (turns_code t pc) in
+      let top = pc + 1 + 1 + 1 in
+      let odd = top + half_size t.even t.last_even in
+      let end = odd + half_size t.odd t.last_odd + 1 in
+      let first = half_code t.even t.last_even end top in
+      let second = half_code t.odd t.last_odd end odd in
+      let jump = Bnez 4 top ∷ [] in
+      let cs = rounds_commands n (turns_from t 0 (n - 1)) in
+      let all = turns_long t pc in
+      let two : HasAt code odd (second ++ jump) = subst (λ k. HasAt code (top + k) (second ++ jump))
+      (half_long t.even t.last_even end top) (has_back code top first (second ++ jump) has.1.1.1) in
+      let back : HasAt code (odd + half_size t.odd t.last_odd) jump =
+      subst (λ k. HasAt code (odd + k) jump) (half_long t.odd t.last_odd end odd)
+      (has_back code odd second jump two) in
+      let x : Half t.even t.last_even end top odd = record {
+        has = has_front code top first (second ++ jump) has.1.1.1;
+        stays = stays.0;
+        last_stays = stays.1.1.0;
+        link = λ left i r g. run_more head code n odd odd r 0 1 [] (AtTurn left i) (omega arith)
+            (run_none head code n odd odd r (AtTurn left i) refl g);
+      } in
+      let y : Half t.odd t.last_odd end odd top = record {
+        has = has_front code odd second jump two;
+        stays = stays.1.0;
+        last_stays = stays.1.1.1;
+        link = λ left i r g. run_jump head code n (odd + half_size t.odd t.last_odd) 4 top r false
+            (AtTurn left i) back.0 (ap (λ v. v == 0) g.one) g;
+      } in
+      let many : n - 1 + 1 ≡ n = omega (arith, some) in
+      let at_end : end ≡ pc + long = omega (arith, all) in
+      run_at head code n pc end (pc + long) regs (3 + n * long) cs Eight at_end
+      (run_then head code n pc (pc + 1) end 1 (2 + n * long) (3 + n * long) regs [] cs _ Eight
+      (omega arith)
+      (run_set head code n pc 2 (n - 1) (λ v. v ≡ n - 1) regs (SetT 2) has.0 (λ left. refl)
+      (omega (arith, size)) refl)
+      (λ r c. run_then head code n (pc + 1) (pc + 1 + 1) end 1 (1 + n * long) (2 + n * long) r [] cs
+      _ Eight (omega arith)
+      (run_set head code n (pc + 1) 3 0 (λ v. v ≡ 0) r (SetI 3 0) has.1.0 (λ left. refl)
+      (omega (arith, size, c.size)) refl)
+      (λ s d. run_then head code n (pc + 1 + 1) top end 1 (n * long) (1 + n * long) s [] cs
+      (AtTurn (n - 1) 0) Eight refl
+      (run_weaken head code n (pc + 1 + 1) top s 1 [] _ (AtTurn (n - 1) 0) (λ z e. record {
+        size = e.size ∙ d.size ∙ c.size ∙ size;
+        left_is = e.others 2 (λ f. absurd (omega (arith, f)))
+            ∙ d.others 2 (λ f. absurd (omega (arith, f))) ∙ c.this;
+        at = e.others 3 (λ f. absurd (omega (arith, f))) ∙ d.this;
+        one = e.this;
+      })
+      (run_set head code n (pc + 1 + 1) 4 1 (λ v. v ≡ 1) s (SetI 4 1) has.1.1.0 (λ left. refl)
+      (omega (arith, size, c.size, d.size)) refl))
+      (λ z g. subst (λ k. Runs head code n top z (k * long) cs end Eight) many
+      (run_from t end top odd long small x y (omega (arith, all)) (omega (arith, all)) 0 (n - 1) z
+      (omega (arith, some)) ok g)))))
