@@ -178,7 +178,7 @@ fn push_afters(code: &mut Vec<Uop>, plan: Plan) -> Result<(), NoMemory>
 }
 
 /// The code that halves what register 6 holds.
-fn push_half(code: &mut Vec<Uop>) -> Result<(), NoMemory>
+fn push_halving(code: &mut Vec<Uop>) -> Result<(), NoMemory>
     requires { length code.old.items + 16 < 2 ^ 16 }
     ensures { OnOk result (code.new.items ≡ code.old.items
         ++ halve_code (length code.old.items)) }
@@ -204,7 +204,7 @@ fn push_bits(code: &mut Vec<Uop>) -> Result<(), NoMemory>
     keep(code, Uop::SetI(2, 0))?;
     keep(code, Uop::AddI(2, 1))?;
     keep(code, Uop::SetI(7, 0))?;
-    push_half(code)?;
+    push_halving(code)?;
     keep(code, Uop::Mov(6, 7))?;
     keep(code, Uop::Bnez(6, top))
 }

@@ -168,7 +168,7 @@ turns_long t pc =
     )
 
 cmds_few : (p : Part) → IsPart p → length p.cmds ≤ body_cost p.block
-cmds_few p is = omega (arith, is.few, turn-most p.block)
+cmds_few p is = is.short
 
 -- both halves
 pub turns_room : (t : TurnsOf Part) → AllTurns IsPart t

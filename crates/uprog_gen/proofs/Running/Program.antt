@@ -167,7 +167,7 @@ module _ (head : Shape) (code : List Uop) (n : ℕ) (some : 0 < n) (small : n �
       + length (loop_code count p pc)) (IsOuter n o))
       (sym (commands_rounds n (λ i. one_round p i o) 0 m))
       (run_more head code n pc _ regs _ (n * length (loop_code count p pc)) (rounds cs 0 m) (IsOuter n o)
-      (few n (length a) (length t + 1) (m * (length t + 1)) _ some le size) run)
+      (few n (length a) (length t + 1) (m * (length t + 1)) _ le size) run)
     where
       at_most : (c : Count) → positions n o c ≤ n
       at_most All_of = omega arith

@@ -25,8 +25,7 @@ use Rattle.uprog_gen.proofs.Coding.Sizes.{half_long, turns_long}
 use Rattle.uprog_gen.proofs.Rows.Issued.{round_command, rounds_commands}
 use Rattle.uprog_gen.proofs.Running.Goes.{HasAt, has_front, has_back}
 use Rattle.uprog_gen.proofs.Running.Runs.{Runs, run_then, run_none, run_weaken, run_at, run_set}
-use Rattle.uprog_gen.proofs.Running.Runs.{run_add, run_sub, run_more}
-use Rattle.uprog_gen.proofs.Running.Each.{run_jump}
+use Rattle.uprog_gen.proofs.Running.Runs.{run_add, run_sub, run_more, run_jump}
 use Rattle.uprog_gen.proofs.Running.Held.{Names, run_body, same_true}
 
 -- the round's commands are in range
