@@ -288,9 +288,10 @@ module _ (n : ℕ) (m : Rows) (are : AreRows n 1 0 m) (bits : Spots) where
   count_loop : (o : ℕ) → o < n → IsLoop n o (bits_in (o + 1)) count_body ys
   count_loop o lo =
       let few = few_bits (o + 1) in
-      loop_of n o (bits_in (o + 1)) count_body ys refl (are.own, (tt, tt))
-      (((λ i j li lj e. cf.target.by 0 i (omega arith) (omega (arith, few, li, lo)) (sym e)), tt),
-      (tt, tt)) (
+      loop_of n o (bits_in (o + 1)) count_body ys refl (are.own, (tt, tt)) (
+        ((λ i j li lj e. cf.target.by 0 i (omega arith) (omega (arith, few, li, lo)) (sym e)), tt),
+        (tt, tt),
+      ) (
         (
           (λ i j li lj e. let z : i ≡ j =
               are.moves.by i j (omega (arith, few, li, lj, lo)) (omega (arith, few, li, lj, lo)) e in

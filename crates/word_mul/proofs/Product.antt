@@ -1,7 +1,6 @@
 -- Products, as numbers.
-use Rattle.std.proofs.Common.{◌≡◌, ℕ, zero, suc, ◌+◌, ◌*◌, ◌^◌, ◌<◌, ◌≤◌, Bool, true, false, not}
+use Rattle.std.proofs.Common.{◌≡◌, ℕ, zero, suc, ◌+◌, ◌*◌, ◌^◌, ◌≤◌, Bool, true, false, not}
 use Rattle.std.proofs.Common.{refl, ap, ◌∙◌, arith}
-use Rattle.std.proofs.Math.Nat.{pow-suc}
 use Rattle.std.proofs.lemmas.Nat.{pow-add}
 use Rattle.bit_rows.specs.Bits.{majority}
 use Rattle.op_text.specs.Values.{ones_of}
@@ -61,10 +60,6 @@ product_step low t y c p q a h b k v all e f g =
     let e1 : p * (y + c * q) ≡ p * (t + b * a) = ap (λ z. p * z) e in
     let e2 : all * (b * p) ≡ (a + q * h) * (b * p) = ap (λ z. z * (b * p)) f in
     omega (arith, e1, e2, g)
-
-pub below_pow : (n : ℕ) → n < 2 ^ n
-below_pow zero = omega arith
-below_pow (suc n) = let h = below_pow n in rw pow-suc (omega (arith, h))
 
 bit_most : (b : Bool) → bit b ≤ 1
 bit_most true = omega arith

@@ -341,12 +341,43 @@ module _ (head : Shape) where
     counter_legal Rest pc le = (refl, (refl, tt))
     counter_legal UpTo pc le = (refl, (refl, tt))
     counter_legal Bits pc le =
-        let to = λ (t : ℕ) (h : t ≤ pc + 13). lt-ltb t size (omega (arith, le, h)) in
-        (refl, (refl, (refl, (refl, (refl, (refl,
-        (to (pc + 1 + 1 + 1 + 1 + 1 + 1 + 1 + 1) (omega arith),
-        (to (pc + 1 + 1 + 1 + 1 + 1 + 1 + 1 + 1 + 1 + 1 + 1) (omega arith), (refl, (refl,
-        (to (pc + 1 + 1 + 1 + 1 + 1) (omega arith), (refl,
-        (to (pc + 1 + 1 + 1) (omega arith), tt)))))))))))))
+        let to = λ (t : ℕ) (h : t ≤ pc + 13). lt-ltb t size (omega (arith, le, h)) in (
+          refl,
+          (
+            refl,
+            (
+              refl,
+              (
+                refl,
+                (
+                  refl,
+                  (
+                    refl,
+                    (
+                      to (pc + 1 + 1 + 1 + 1 + 1 + 1 + 1 + 1) (omega arith),
+                      (
+                        to (pc + 1 + 1 + 1 + 1 + 1 + 1 + 1 + 1 + 1 + 1 + 1) (omega arith),
+                        (
+                          refl,
+                          (
+                            refl,
+                            (
+                              to (pc + 1 + 1 + 1 + 1 + 1) (omega arith),
+                              (
+                                refl,
+                                (to (pc + 1 + 1 + 1) (omega arith), tt),
+                              ),
+                            ),
+                          ),
+                        ),
+                      ),
+                    ),
+                  ),
+                ),
+              ),
+            ),
+          ),
+        )
 
     once_legal : (p : Part) → IsFit p → L (once_code p)
     once_legal p fit = join (inits p.plan) (befores p.plan ++ body_uops p) (inits_legal p.plan)

@@ -1,16 +1,16 @@
 -- The inner loop, for every body, and whether it goes over all positions or over the rest.
 use Rattle.std.proofs.Common.{◌≡◌, ℕ, suc, ◌+◌, ◌-◌, ◌*◌, ◌<◌, ◌≤◌, Bool, true, false, cond, List}
-use Rattle.std.proofs.Common.{[], ◌∷◌, ◌++◌, length, Some, refl, ap, ◌∙◌, subst, arith, append-nil}
+use Rattle.std.proofs.Common.{[], ◌∷◌, ◌++◌, length, refl, ap, ◌∙◌, subst, arith, append-nil}
 use Rattle.std.proofs.Common.{length-append}
-use Rattle.std.specs.Prelude.{slice_get, slice_index, ◌==◌}
+use Rattle.std.specs.Prelude.{slice_index, ◌==◌}
 use Rattle.std.proofs.lemmas.Bool.{eq-eqb, ne_eqb}
-use Rattle.uprog_code.specs.Machine.{Issue, issue}
+use Rattle.uprog_code.specs.Machine.{Issue}
 use Rattle.uprog_code.specs.declared.code.Uop.{Uop}
 use Rattle.uprog_code.specs.declared.code.Uop.TheVariants.{AddI, SetN, Mov, SubI, Bnez}
 use Rattle.uprog_code.specs.Shape.{Shape}
 use Rattle.loop_ir.specs.Loops.{rounds, positions, bits_in}
 use Rattle.loop_laws.proofs.Digits.{few_bits, some_bits}
-use Rattle.uprog_gen.proofs.Running.Goes.{HasAt, has_front, has_back, moves}
+use Rattle.uprog_gen.proofs.Running.Goes.{HasAt, has_front, has_back}
 use Rattle.loop_ir.specs.declared.ir.Count.{Count}
 use Rattle.loop_ir.specs.declared.ir.Count.TheVariants.{All as All_of, Rest, UpTo, Bits}
 use Rattle.uprog_gen.specs.declared.plan.Plan.{Plan}

@@ -4,14 +4,13 @@ use Rattle.std.proofs.Common.{cond, List, [], ◌∷◌, length, refl, sym, ap, 
 use Rattle.std.specs.Prelude.{slice_index, ◌==◌}
 use Rattle.std.proofs.lemmas.Bool.{cases_eq, eq-eqb, ne_eqb}
 use Rattle.uprog_code.specs.Shape.{Shape}
-use Rattle.uprog_code.specs.Machine.{Issue, issue}
 use Rattle.uprog_code.specs.declared.code.Uop.{Uop}
 use Rattle.uprog_code.specs.declared.code.Uop.TheVariants.{Mov, AddI, SetI, SubI, Bnez}
 use Rattle.loop_ir.specs.Loops.{bits_in}
-use Rattle.loop_laws.proofs.Digits.{bits_half, few_bits}
+use Rattle.loop_laws.proofs.Digits.{bits_half}
 use Rattle.uprog_gen.specs.Code.{halve_code, bits_code}
-use Rattle.uprog_gen.proofs.Running.Goes.{HasAt, has_front, has_back}
-use Rattle.uprog_gen.proofs.Running.Runs.{Runs, run_then, run_none, Changed, run_weaken, run_at}
+use Rattle.uprog_gen.proofs.Running.Goes.{HasAt, has_front}
+use Rattle.uprog_gen.proofs.Running.Runs.{Runs, run_then, Changed, run_weaken}
 use Rattle.uprog_gen.proofs.Running.Runs.{run_add, run_sub, run_set, run_jump}
 use Rattle.bit_rows.specs.declared.TheConstants.{WIDTH_MAX}
 
@@ -266,13 +265,17 @@ module _ (head : Shape) (code : List Uop) (n : ℕ) (old : List ℕ) where
       let turns = 10 * (o + 1) in
       run_then head code n pc (pc + 1) end 1 (2 + turns) (3 + turns) old [] [] H0 C (omega arith)
       (run_weaken head code n pc (pc + 1) old 1 [] _ H0
-      (λ x c. (slice_index old 2, slice_index old 7, record {
-        size = c.size ∙ size;
-        others = λ k a b d. c.others k b;
-        two_is = c.others 2 (λ z. absurd (omega arith));
-        six_is = c.this;
-        seven_is = c.others 7 (λ z. absurd (omega arith));
-      }))
+      (λ x c. (
+        slice_index old 2,
+        slice_index old 7,
+        record {
+          size = c.size ∙ size;
+          others = λ k a b d. c.others k b;
+          two_is = c.others 2 (λ z. absurd (omega arith));
+          six_is = c.this;
+          seven_is = c.others 7 (λ z. absurd (omega arith));
+        },
+      ))
       (run_set head code n pc 6 (slice_index old 0) (λ v. v ≡ o) old (Mov 6 0) has.0 (λ left. refl)
       (omega (arith, size)) zero_is))
       (λ x a. run_then head code n (pc + 1) (pc + 1 + 1) end 1 (1 + turns) (2 + turns) x [] [] H1 C
