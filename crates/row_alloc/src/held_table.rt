@@ -18,7 +18,7 @@ use crate::held::check_held;
 use crate::order::writes_late;
 use mig_graph::Mig;
 
-/// All of them: of the bodies that a loop has alone the shorter ones first, and then so of those that
+/// All of them: of the bodies that a loop has alone the shorter ones first, and then those that
 /// stand in it by turns.
 pub static HELD: [&[BodyCmd]; 24] = [
     // 0 in T0, T3 and DCC1
