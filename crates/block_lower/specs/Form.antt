@@ -58,8 +58,8 @@ start slots down s = Single (constant s.start (place_of down (slots s.name)))
 
 -- The body reads the block's inputs at their places and writes the assigned names at theirs. For
 -- all values of the names, where each input has its name's value, output j is the value of
--- assignment j. It has no more nodes than the block has weight, and no rule makes the graph smaller.
--- It carries the commands that were found for it
+-- assignment j. It has no more nodes than the block has weight, and no rule makes the graph
+-- smaller. It carries the commands that were found for it
 pub record IsBlockBody (slots : Slots) (b : Block) (body : Body) : Type 0 where
   pub reads : body.reads ≡ places_of slots b.down (block_inputs b)
   pub writes : body.writes ≡ places_of slots b.down (targets_of b.assigns)

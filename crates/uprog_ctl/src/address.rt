@@ -11,7 +11,7 @@ ghost use Rattle.uprog_code.specs.Issued.{is_issued, is_good};
 ghost use Rattle.uprog_ctl.specs.Cursors.{row_commands};
 
 use dram_model::{Addr, Command, Geometry};
-use uprog_code::{Binding, Head, Issued, RowPosition, RowRef, RowSpace, Uop};
+use uprog_code::{Binding, Head, Issued, RowPosition, RowRef, RowSpace, Uop, register_value};
 
 /// The row at a position of a source.
 #[inline(always)]
@@ -63,17 +63,6 @@ fn address_of(place: RowPosition, head: &Head, rows: u16, binding: &Binding) -> 
     }
 }
 
-/// The value of a register; 0 past the last one. Both are at hand before it is known which is asked,
-/// since no branch foretells it.
-#[inline(always)]
-fn position_in(regs: &[u16], r: u8) -> u16
-    requires { AreRegisters regs.now }
-    ensures { result ≡ slice_index regs.now r }
-{
-    let value = regs[usize::from(r % 8)];
-    if r < 8 { value } else { 0 }
-}
-
 /// The address of a row at the position that its register gives. A row with no position has the
 /// same address at each.
 #[inline(always)]
@@ -88,7 +77,7 @@ fn address_at(row: &RowRef, regs: &[u16], head: &Head, rows: u16, binding: &Bind
     let place = RowPosition {
         space: row.space,
         which: row.which,
-        index: position_in(regs, row.index),
+        index: register_value(regs, row.index),
     };
     address_of(place, head, rows, binding)
 }

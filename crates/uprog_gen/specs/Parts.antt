@@ -20,8 +20,8 @@ use Rattle.loop_ir.specs.States.{StatesFit, has_states, held_of, row_count, ente
 use Rattle.loop_ir.specs.Costs.{body_cost, carries, turn_cost, is_copy}
 use Rattle.uprog_gen.specs.Code.{Part, IsPlanned}
 
--- a part whose commands do its body, from the states that it reads to those that it writes: one that
--- carries commands takes those; of the rest one with states takes its own sequence, a copy one
+-- a part whose commands do its body, from the states that it reads to those that it writes: one
+-- that carries commands takes those; of the rest one with states takes its own sequence, a copy one
 -- command, and a body of the word operations its own sequence
 pub record IsPart (p : Part) : Type 0 where
   pub well : IsWellFormed p.block
@@ -34,10 +34,11 @@ pub record IsPart (p : Part) : Type 0 where
   pub few : length p.cmds ≤ turn_cost p.block
   pub short : length p.cmds ≤ body_cost p.block
   pub found : carries p.block ≡ true → p.cmds ≡ p.block.found
-  pub held : carries p.block ≡ false → has_states p.block ≡ true → (h : HeldBody) × (held_of p.block ≡ Some h)
-      × (p.cmds ≡ held_at (held_sequence_for h))
-  pub copy : carries p.block ≡ false → has_states p.block ≡ false → is_copy p.block ≡ true → (x : BodyRef) × (y : BodyRef)
-      × (p.cmds ≡ Aap x y ∷ [])
-  pub word : carries p.block ≡ false → has_states p.block ≡ false → (w : WordBody) → p.block.graph ≡ graph_in w
-      → p.block.outs ≡ outs_in w → WritesLate p.outs (known_at (sequence_for w))
+  pub held : carries p.block ≡ false → has_states p.block ≡ true
+      → (h : HeldBody) × (held_of p.block ≡ Some h) × (p.cmds ≡ held_at (held_sequence_for h))
+  pub copy : carries p.block ≡ false → has_states p.block ≡ false → is_copy p.block ≡ true
+      → (x : BodyRef) × (y : BodyRef) × (p.cmds ≡ Aap x y ∷ [])
+  pub word : carries p.block ≡ false → has_states p.block ≡ false → (w : WordBody)
+      → p.block.graph ≡ graph_in w → p.block.outs ≡ outs_in w
+      → WritesLate p.outs (known_at (sequence_for w))
       → p.cmds ≡ known_at (sequence_for w)

@@ -72,8 +72,8 @@ KeepsReads Shifted b = nth_place b.reads 0 ≡ nth_place b.writes 0 → ⊥
 KeepsReads Multiplied b = nth_place b.reads 0 ≡ nth_place b.writes 1 → ⊥
 KeepsReads w b = Unit {0}
 
--- the commands of a body that carries none are settled: it has states, or is a copy, or has a known sequence that
--- keeps its reads
+-- the commands of a body that carries none are settled: it has states, or is a copy, or has a known
+-- sequence that keeps its reads
 abbrev pub IsSettledAs : Bool → Bool → Option WordBody → Block → Type 0
 IsSettledAs true copy o b = Unit {0}
 IsSettledAs false true o b = Unit {0}
