@@ -1,19 +1,13 @@
 -- When a part has the right commands for its body.
 -- Private contracts alone speak of this.
-use Rattle.std.specs.Prelude.{◌≡◌, ◌≢◌, ℕ, ◌<◌, ◌≤◌, true, false, List, [], ◌∷◌, length, Some}
-use Rattle.std.specs.Prelude.{None}
+use Rattle.std.specs.Prelude.{◌≡◌, ◌≤◌, true, false, [], ◌∷◌, length, Some}
 use Rattle.mig_graph.specs.Graph.{IsGraph}
-use Rattle.mig_graph.specs.Outputs.{lit_at}
 use Rattle.row_alloc.specs.declared.body.BodyRef.{BodyRef}
 use Rattle.row_alloc.specs.declared.body.BodyCmd.TheVariants.{Aap}
-use Rattle.row_alloc.specs.declared.body.OutRow.{OutRow}
-use Rattle.row_alloc.specs.Rows.{out_at}
 use Rattle.row_alloc.specs.Body.{WritesLate}
 use Rattle.row_alloc.specs.Held.{DoesHeld}
 use Rattle.row_alloc.specs.Known.{WordBody, graph_in, outs_in, sequence_for, known_at}
 use Rattle.row_alloc.specs.HeldBodies.{HeldBody, held_at, held_sequence_for}
-use Rattle.loop_ir.specs.Plain.{Block}
-use Rattle.loop_ir.specs.Spots.{nth_place}
 use Rattle.loop_ir.specs.Outputs.{IsOuts}
 use Rattle.loop_ir.specs.WellFormed.{IsWellFormed}
 use Rattle.loop_ir.specs.States.{StatesFit, has_states, held_of, row_count, enters, leaves}

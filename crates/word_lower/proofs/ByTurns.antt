@@ -1,15 +1,15 @@
 -- Reductions by two bodies that take turns.
-use Rattle.std.proofs.Common.{◌≡◌, ℕ, zero, suc, ◌-◌, ◌<◌, Bool, true, false, not, List, [], ◌∷◌}
-use Rattle.std.proofs.Common.{refl, sym, ap, ◌∙◌, subst, arith}
+use Rattle.std.proofs.Common.{◌≡◌, ℕ, zero, suc, ◌-◌, ◌<◌, Bool, true, false, not, [], ◌∷◌}
+use Rattle.std.proofs.Common.{refl, ap, ◌∙◌, subst, arith}
 use Rattle.bit_rows.specs.Bits.{majority}
 use Rattle.mig_graph.specs.declared.Lit.{Lit}
 use Rattle.mig_graph.specs.Graph.{values_from}
 use Rattle.op_text.specs.declared.word_ops.WordOp.{WordOp}
 use Rattle.loop_ir.specs.declared.ir.Sub.TheVariants as sub
-use Rattle.loop_ir.specs.Plain.{Block, TurnsOf, turns_map}
+use Rattle.loop_ir.specs.Plain.{Block, TurnsOf}
 use Rattle.loop_ir.specs.Loops.{round_at, turns_from}
 use Rattle.loop_ir.specs.Spots.{Spot, Spots, set_spot, after_round, after_rounds}
-use Rattle.loop_laws.specs.Rooms.{Room, Marked, placed_body}
+use Rattle.loop_laws.specs.Rooms.{Marked, placed_body}
 use Rattle.loop_laws.proofs.Same.{set_same, set_other}
 use Rattle.loop_laws.proofs.TakingTurns.{turns_give}
 use Rattle.word_lower.specs.Places.{cells, scratch_from, rooms_of}

@@ -38,7 +38,7 @@ use Rattle.word_lower.proofs.Bitwise.{parity_gives, at_least}
 use Rattle.word_lower.proofs.Passes.{bit_free, bit_else, cell_else, carry_does, pair_loop, upwards}
 use Rattle.word_lower.proofs.Passes.{set_number}
 use Rattle.word_lower.proofs.Shifts.{shifts}
-use Rattle.word_lower.proofs.Words.{word_does, unlike_bit, chosen_bit, by_bit, a_read, top_read}
+use Rattle.word_lower.proofs.Words.{word_does, unlike_bit, chosen_bit, by_bit, a_read}
 use Rattle.word_lower.proofs.Words.{b_read, s_read, choice_does, bit_does}
 use Rattle.word_lower.proofs.Carries.{added_digit, lessened_digit, negated_bit, negated_state}
 use Rattle.word_lower.proofs.Carries.{a_by_carry, top_by_carry, b_by_carry}

@@ -6,7 +6,7 @@ use Rattle.std.specs.Prelude.{slice_get, slice_index, ◌==◌}
 use Rattle.std.specs.List.{AllByRecursion, list_all}
 use Rattle.std.proofs.Math.Nat.{mul-le-mul_right}
 use Rattle.std.proofs.lemmas.Bool.{cases_eq, and_parts, eq-eqb, ne_eqb}
-use Rattle.uprog_code.specs.Machine.{Issue, Ended, issue, act_at, onto, trace, start, all_in_range}
+use Rattle.uprog_code.specs.Machine.{Issue, Ended, issue, act_at, onto, trace, start}
 use Rattle.uprog_code.specs.declared.code.Uop.{Uop}
 use Rattle.uprog_code.specs.declared.code.Uop.TheVariants.{Done, SetI, SetT, AddI, Bnez}
 use Rattle.uprog_code.specs.Shape.{Shape}
@@ -18,7 +18,7 @@ use Rattle.loop_ir.specs.declared.ir.Sub.TheVariants.{Zero}
 use Rattle.loop_ir.specs.declared.ir.Place.{Place}
 use Rattle.loop_ir.specs.declared.ir.Count.{Count}
 use Rattle.loop_ir.specs.declared.ir.Count.TheVariants.{All as All_of, Rest, UpTo, Bits}
-use Rattle.loop_ir.specs.Plain.{InnerOf, StepOf, all_turns, step_map}
+use Rattle.loop_ir.specs.Plain.{InnerOf, StepOf, step_map}
 use Rattle.loop_ir.specs.Limits.{stays_inner, step_stands}
 use Rattle.loop_ir.specs.Plain.InnerOf.{Alone, Across}
 use Rattle.loop_ir.specs.Plain.StepOf.{Single, Along, Nest, Pairs, Alternate}

@@ -1,4 +1,4 @@
-use Rattle.std.proofs.Common.{◌≡◌, ◌+◌, ◌≤◌, length, ap, refl, arith, length-append}
+use Rattle.std.proofs.Common.{◌≡◌, ◌+◌, ◌≤◌, length, ap, arith, length-append}
 use Rattle.uprog_code.specs.declared.code.Uop.TheVariants.{SetI, SetT}
 use Rattle.loop_ir.specs.Plain.{turns_of}
 use Rattle.loop_ir.specs.Costs.{turns_cost}
