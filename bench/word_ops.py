@@ -74,11 +74,17 @@ def rows():
     return found
 
 
+def bits_to(n):
+    """How many bits the numbers from 1 to n have together."""
+    return sum(k.bit_length() for k in range(1, n + 1))
+
+
 def formula(text, path):
-    """A formula of n, such as `14 * n ^ 2 + 9 * n`, as a function."""
-    if not re.fullmatch(r"[n\d +*/^()]+", text):
+    """A formula of n from 1 on, such as `7 * bits_to n + 3 * (n / 2)`, as a function."""
+    if not re.fullmatch(r"(?:bits_to n|[n\d +*/%^()-])+", text):
         fail(path, f"no formula of n: {text}")
-    return eval("lambda n: " + text.replace("^", "**").replace("/", "//"), {"__builtins__": {}})
+    source = text.replace("bits_to n", "bits_to(n)").replace("^", "**").replace("/", "//")
+    return eval("lambda n: " + source, {"__builtins__": {}, "bits_to": bits_to})
 
 
 def formulas(definition, path):
