@@ -3,8 +3,6 @@
 
 mod body;
 mod choice;
-mod held;
-mod home;
 mod inputs;
 mod lower;
 mod places;
