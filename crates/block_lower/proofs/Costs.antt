@@ -1,6 +1,6 @@
 -- How many commands a block's program takes.
 use Rattle.std.proofs.Common.{◌≡◌, ℕ, ◌+◌, ◌*◌, ◌<◌, ◌≤◌, Bool, true, false, List, [], ◌∷◌, ◌++◌}
-use Rattle.std.proofs.Common.{map, length, refl, arith, cond, ap, inl, inr}
+use Rattle.std.proofs.Common.{map, length, refl, arith, cond, ap, ◌∙◌, inl, inr}
 use Rattle.std.proofs.lemmas.Bool.{cases_Bool}
 use Rattle.std.proofs.Math.Nat.{mul-le-mul_left}
 use Rattle.op_text.specs.declared.tree.State.{State}
@@ -17,7 +17,10 @@ use Rattle.loop_laws.proofs.Costing.{plain-most, turn-most, turn-plain}
 use Rattle.loop_laws.proofs.Summed.{sum_most}
 use Rattle.loop_laws.proofs.EachRound.{each_round}
 use Rattle.block_lower.proofs.Carried.{carried-most}
-use Rattle.block_lower.specs.Form.{place_of, constant, start, IsBlockBody}
+use Rattle.block_lower.specs.Form.{place_of, constant, start, homes, IsBlockBody}
+use Rattle.block_lower.specs.declared.home.Home.{Home}
+use Rattle.loop_ir.specs.Spots.{is_state}
+use Rattle.block_lower.proofs.Moved.{nth_home}
 
 constant-cost : (v : Bool) (p : Place) → plain_cost (constant v p) ≡ 1
 constant-cost true p = refl
@@ -46,6 +49,24 @@ program-plain {slots = slots} {b = b} {body = body} is some n =
     plain-most body in omega (arith, k, m) in
     let e = mul-le-mul_left n c in
     omega (arith, t, s, e)
+
+constant-turn : (v : Bool) (p : Place) → is_state p.space ≡ false → turn_cost (constant v p) ≡ 1
+constant-turn true p e = rw e refl
+constant-turn false p e = rw e refl
+
+-- what the rounds take with one state in a row
+pub one-start : (slots : Slots) (down : Bool) (ss : List State) (w : ℕ) (h : Home)
+    → length ss ≡ 1 → homes slots down ss (w ∷ []) ≡ h ∷ [] → is_state h.place.space ≡ false
+    → (n : ℕ) (more : List (StepOf Body))
+    → steps_sum turn_cost n (map (start slots down) ss ++ more)
+    ≡ 2 + steps_sum turn_cost n more
+one-start slots down [] w h one e row n more = absurd (omega (arith, one))
+one-start slots down (s ∷ []) w h one e row n more =
+    let p : place_of down (slots s.name) ≡ h.place = ap (λ hs. (nth_home hs 0).place) e in
+    let c = constant-turn s.start (place_of down (slots s.name))
+    (ap (λ (q : Place). is_state q.space) p ∙ row) in
+    omega (arith, c)
+one-start slots down (s ∷ t ∷ ss) w h one e row n more = absurd (omega (arith, one))
 
 constant-cap : (v : Bool) (p : Place) → cap (constant v p) ≡ 1
 constant-cap true p = refl

@@ -25,8 +25,9 @@ use Rattle.loop_ir.specs.Limits.{IsCarried, IsSmall, IsRound}
 use Rattle.loop_ir.specs.Statements.{Slots, targets_of}
 use Rattle.block_lower.specs.Form.{kind_sub, IsBlockBody}
 use Rattle.block_lower.specs.Inputs.{block_inputs, name_at}
-use Rattle.block_lower.proofs.HeldLoop.{Home, cell_place, same_place, held_place, held_start, held_body}
-use Rattle.block_lower.proofs.HeldLoop.{held_store, start_lits, input_lits}
+use Rattle.block_lower.specs.declared.home.Home.{Home}
+use Rattle.block_lower.specs.Held.{cell_place, same_place, held_place, held_start, held_body}
+use Rattle.block_lower.specs.Held.{held_store, start_lits, input_lits}
 use Rattle.block_lower.proofs.Facts.{Given}
 use Rattle.block_lower.proofs.Compile.{uses, filter-less, others, few-uses, body-well, reads-long}
 use Rattle.block_lower.proofs.Compile.{read-place, write-place, name-row, input-at, place-used}

@@ -31,9 +31,10 @@ use Rattle.loop_ir.specs.Statements.{Slots, statement_names, targets_of}
 use Rattle.loop_ir.specs.Lowered.{Holds, HoldsAt, slot_spot}
 use Rattle.loop_laws.proofs.Same.{spot_true, spot_same}
 use Rattle.block_lower.specs.Inputs.{block_inputs, name_at}
-use Rattle.block_lower.specs.Form.{place_of, IsBlockBody}
-use Rattle.block_lower.proofs.HeldLoop.{Home, homes, cell_place, same_place, held_place, held_body}
-use Rattle.block_lower.proofs.HeldLoop.{HeldCommands, held_steps}
+use Rattle.block_lower.specs.Form.{place_of, homes, IsBlockBody}
+use Rattle.block_lower.specs.declared.home.Home.{Home}
+use Rattle.block_lower.specs.Held.{cell_place, same_place, held_place, held_body}
+use Rattle.block_lower.specs.Held.{HeldCommands, held_steps}
 use Rattle.block_lower.proofs.Folds.{names_of}
 use Rattle.block_lower.proofs.Rows.{slot_or, position, position-below, named_row, place-row}
 use Rattle.block_lower.proofs.Facts.{Given, once-distinct, state-written, written-named}

@@ -30,9 +30,10 @@ use Rattle.loop_laws.proofs.Summed.{sum_is}
 use Rattle.loop_laws.proofs.Costing.{plain-most}
 use Rattle.block_lower.specs.Inputs.{block_inputs, name_at}
 use Rattle.block_lower.specs.Form.{IsBlockBody}
-use Rattle.block_lower.proofs.HeldLoop.{Home, cell_place, held_place, held_start, held_body}
-use Rattle.block_lower.proofs.HeldLoop.{held_store, held_steps, HeldCommands, start_lits}
-use Rattle.block_lower.proofs.HeldLoop.{input_lits}
+use Rattle.block_lower.specs.declared.home.Home.{Home}
+use Rattle.block_lower.specs.Held.{cell_place, held_place, held_start, held_body}
+use Rattle.block_lower.specs.Held.{held_store, held_steps, HeldCommands, start_lits}
+use Rattle.block_lower.specs.Held.{input_lits}
 use Rattle.block_lower.proofs.Rows.{slot_or, row_of, position, position-below}
 use Rattle.block_lower.proofs.Facts.{Given, written-named, state-written, own-row}
 use Rattle.block_lower.proofs.Round.{named-row-is, writes-long}
@@ -204,7 +205,7 @@ single-most c = at (is_fixed c)
     at true = omega arith
     at false = omega arith
 
-turn-carried : (c : Body) → carries c ≡ true → turn_cost c ≡ length c.found
+pub turn-carried : (c : Body) → carries c ≡ true → turn_cost c ≡ length c.found
 turn-carried c e = rw e refl
 
 no-row-outs : (homes : List Home) (ls : List Lit) → length ls ≡ length homes
@@ -240,7 +241,7 @@ none-zero k l = elim (cases_Bool (k == 0)) [
   | inr e ↦ e
 ]
 
-node-plain : (c : Body) → 0 < length c.graph.nodes
+pub node-plain : (c : Body) → 0 < length c.graph.nodes
     → plain_cost c ≡ 4 * length c.graph.nodes + 3 * length (row_outs c.writes c.outs)
 node-plain c some = rw (none-zero (length c.graph.nodes) some) refl
 

@@ -15,8 +15,8 @@ mod Carried
 mod Costs
 mod Compile
 mod Whole
-mod HeldLoop
 mod Moved
 mod HeldDoes
 mod HeldCompile
 mod HeldWhole
+mod OneCell

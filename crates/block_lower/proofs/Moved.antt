@@ -17,8 +17,9 @@ use Rattle.loop_ir.specs.Loops.{RoundOf, round_at, one_round, rounds, all_rounds
 use Rattle.loop_ir.specs.Spots.{Spot, Spots, is_state, same_spot, set_spot, spot_at}
 use Rattle.loop_ir.specs.Spots.{nth_place, nth_spot, round_env, after_round}
 use Rattle.loop_ir.specs.Spots.{after_rounds, gives}
-use Rattle.block_lower.proofs.HeldLoop.{Home, cell_place, start_lits, input_lits, held_start}
-use Rattle.block_lower.proofs.HeldLoop.{held_store}
+use Rattle.block_lower.specs.declared.home.Home.{Home}
+use Rattle.block_lower.specs.Held.{cell_place, start_lits, input_lits, held_start}
+use Rattle.block_lower.specs.Held.{held_store}
 use Rattle.loop_laws.proofs.Same.{spot_true, spot_same, set_same, set_other, write_other, write_at}
 
 abbrev pub no_home : Home

@@ -13,7 +13,7 @@ use Rattle.loop_ir.specs.Costs.{rounds_cost, plain_costs}
 use Rattle.loop_ir.specs.Statements.{Slots, read_names, written_names}
 use Rattle.loop_ir.specs.Lowered.{Holds, IsRowOf, IsLowered}
 use Rattle.block_lower.specs.Inputs.{block_inputs}
-use Rattle.block_lower.specs.Form.{start, IsBlockBody, IsBlockProgram}
+use Rattle.block_lower.specs.Form.{start, row_steps, IsBlockBody, IsBlockProgram}
 use Rattle.block_lower.proofs.Facts.{Given}
 use Rattle.block_lower.proofs.Folds.{positions-are}
 use Rattle.block_lower.proofs.Visits.{all-visits, rounds-rest}
@@ -58,36 +58,33 @@ block-keeps {slots = slots} {b = b} {body = body} g is n lt bits q out =
     ∙ rounds-rest g is n n 0 (omega arith) (started n slots b.down b.states bits) q out
     ∙ started-rest g n lt b.down b.states (λ x e. e) bits q out
 
-pub lowered : {slots : Slots} {fb fw : ℕ} {b : Block} {steps : List (StepOf Body)}
-    → Given slots fb fw b → length (block_inputs b) ≤ 80 → IsBlockProgram slots b steps
-    → IsLowered slots fb fw (Visit b) steps
-lowered {slots = slots} {fb = fb} {fw = fw} {b = b} {steps = steps} g most form =
-    let is = form.is in
-    subst (IsLowered slots fb fw (Visit b)) (sym form.form) (record {
+pub row-lowered : {slots : Slots} {fb fw : ℕ} {b : Block} {body : Body} {steps : List (StepOf Body)}
+    → Given slots fb fw b → length (block_inputs b) ≤ 80 → IsBlockBody slots b body
+    → steps ≡ row_steps slots b body → IsLowered slots fb fw (Visit b) steps
+row-lowered {slots = slots} {fb = fb} {fw = fw} {b = b} {body = body} {steps = steps} g most is e =
+    subst (IsLowered slots fb fw (Visit b)) (sym e) (record {
       well = are-well g is;
       can = can-compile g is most;
       does = λ n lt wide. record {
         gives = block-gives g is n lt;
         keeps = λ bits q row out. block-keeps g is n lt bits q (λ r. out (inl r));
       };
-      cheap = λ n lt wide. within-ceiling is n
-          (rounds_cost (all_rounds n (map (start slots b.down) b.states ++ Along form.body ∷ [])))
-          (subst (λ ss. rounds_cost (all_rounds n ss)
-          ≤ n * (4 * length form.body.graph.nodes + 3 * length b.assigns) + length b.states)
-          form.form (form.cost n));
-      plain = λ n lt wide. within-ceiling is n
-          (plain_costs (all_rounds n (map (start slots b.down) b.states ++ Along form.body ∷ [])))
+      cheap = λ n lt wide. within-ceiling is n (rounds_cost (all_rounds n (row_steps slots b body)))
+          (program-cost is g.meets.some n);
+      plain = λ n lt wide. within-ceiling is n (plain_costs (all_rounds n (row_steps slots b body)))
           (program-plain is g.meets.some n);
     })
 
-pub is-program : {slots : Slots} {b : Block} (body : Body) (steps : List (StepOf Body))
-    → IsBlockBody slots b body → 0 < length b.assigns
-    → steps ≡ map (start slots b.down) b.states ++ Along body ∷ [] → IsBlockProgram slots b steps
-is-program {slots = slots} {b = b} body steps is some e = record {
+pub row-program : {slots : Slots} {b : Block} (body : Body) (steps : List (StepOf Body))
+    → IsBlockBody slots b body → 0 < length b.assigns → steps ≡ row_steps slots b body
+    → IsBlockProgram slots b steps
+row-program {slots = slots} {b = b} body steps is some e = record {
   body = body;
   is = is;
-  form = e;
-  cost = λ n. subst (λ ss. rounds_cost (all_rounds n ss)
+  form = inl e;
+  cost = λ n lt. subst (λ ss. rounds_cost (all_rounds n ss)
       ≤ n * (4 * length body.graph.nodes + 3 * length b.assigns) + length b.states) (sym e)
       (program-cost is some n);
+  no_dearer = λ n lt. subst (λ ss. rounds_cost (all_rounds n ss)
+      ≤ rounds_cost (all_rounds n (row_steps slots b body))) (sym e) (omega arith);
 }

@@ -1,7 +1,7 @@
 -- The loop program of a serial block: the states get their starts, then the block's graph is done
--- at each position.
-use Rattle.std.specs.Prelude.{◌≡◌, ℕ, ◌+◌, ◌*◌, ◌<◌, ◌≤◌, Bool, if◌then◌else◌, List, [], ◌∷◌, ◌++◌}
-use Rattle.std.specs.Prelude.{map, length, slice_get, Option, Some, None}
+-- at each position. The states stand in rows, or in cells from one position to the next.
+use Rattle.std.specs.Prelude.{◌≡◌, ◌⊎◌, ℕ, ◌+◌, ◌*◌, ◌<◌, ◌≤◌, Bool, if◌then◌else◌, List, [], ◌∷◌, ◌++◌}
+use Rattle.std.specs.Prelude.{map, length, slice_get, slice_index_or, Option, Some, None}
 use Rattle.mig_graph.specs.declared.Lit.{Lit}
 use Rattle.mig_graph.specs.Graph.{IsGraph}
 use Rattle.mig_graph.specs.Outputs.{AreNamed}
@@ -25,6 +25,8 @@ use Rattle.loop_ir.specs.Spots.{gives}
 use Rattle.loop_ir.specs.Statements.{Slots, targets_of}
 use Rattle.block_lower.specs.Inputs.{block_inputs, name_at}
 use Rattle.block_lower.specs.Choice.{AreFor}
+use Rattle.block_lower.specs.declared.home.Home.{Home}
+use Rattle.block_lower.specs.Held.{HeldCommands, held_steps}
 
 -- a word is read and written at the position, from above where the block goes down; a bit has one
 -- row
@@ -75,10 +77,38 @@ pub record IsBlockBody (slots : Slots) (b : Block) (body : Body) : Type 0 where
   pub reduced : IsReduced body.graph body.outs
   pub found : AreFor body.reads body.writes body.graph body.outs body.found
 
+-- the block's states, each with the number of its cells
+abbrev pub homes : Slots → Bool → List State → List ℕ → List Home
+homes slots down [] ws = []
+homes slots down (s ∷ ss) [] = []
+homes slots down (s ∷ ss) (w ∷ ws) = record {
+  place = place_of down (slots s.name);
+  cells = w;
+  start = s.start;
+} ∷ homes slots down ss ws
+
 -- first the states' starts, in their order, and then the block's body at each position
+abbrev pub row_steps : Slots → Block → Body → List (StepOf Body)
+row_steps slots b body = map (start slots b.down) b.states ++ Along body ∷ []
+
+-- the starts into cells, each state's its own; the body at each position, with the cells in place
+-- of the states' rows; and the states to their rows
+pub record IsHeldLoop (slots : Slots) (b : Block) (body : Body) (steps : List (StepOf Body)) : Type
+    0 where
+  pub cells : List ℕ
+  pub many : length cells ≡ length b.states
+  pub once : (x y : ℕ) → x < length cells → y < length cells
+      → slice_index_or cells x 0 ≡ slice_index_or cells y 0 → x ≡ y
+  pub cmds : HeldCommands
+  pub form : steps ≡ held_steps (homes slots b.down b.states cells) body cmds
+
+-- The states stand in rows or in cells. There are no more commands than the graph says, and at no
+-- width more than with the states in rows
 pub record IsBlockProgram (slots : Slots) (b : Block) (steps : List (StepOf Body)) : Type 0 where
   pub body : Body
   pub is : IsBlockBody slots b body
-  pub form : steps ≡ map (start slots b.down) b.states ++ Along body ∷ []
-  pub cost : (n : ℕ) → rounds_cost (all_rounds n steps)
+  pub form : (steps ≡ row_steps slots b body) ⊎ IsHeldLoop slots b body steps
+  pub cost : (n : ℕ) → 0 < n → rounds_cost (all_rounds n steps)
       ≤ n * (4 * length body.graph.nodes + 3 * length b.assigns) + length b.states
+  pub no_dearer : (n : ℕ) → 0 < n
+      → rounds_cost (all_rounds n steps) ≤ rounds_cost (all_rounds n (row_steps slots b body))

@@ -3,6 +3,8 @@
 
 mod body;
 mod choice;
+mod held;
+mod home;
 mod inputs;
 mod lower;
 mod places;

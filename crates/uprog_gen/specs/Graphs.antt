@@ -90,7 +90,7 @@ AreGraphed (e ∷ es) [] gs = ⊥
 AreGraphed (e ∷ es) (op ∷ ops) gs = (own : List Graphed) × (rest : List Graphed)
     × (gs ≡ own ++ rest) × IsGraphed e op own × AreGraphed es ops rest
 
--- the graph that a loop program does last at each position, if it does one
+-- the graph that a step does at each position, if it does one
 abbrev pub step_graph : StepOf Body → List Graphed
 step_graph (Single b) = []
 step_graph (Along b) = let g : Graphed = record { graph = b.graph; outs = b.outs } in g ∷ []
@@ -98,11 +98,15 @@ step_graph (Nest parts) = []
 step_graph (Pairs b) = []
 step_graph (Alternate t) = []
 
--- the graph of a loop program's last step: of a block, the one that is done at each position
+-- the second, if there is one, or else the first
+abbrev pub later : List Graphed → List Graphed → List Graphed
+later own [] = own
+later own (g ∷ gs) = g ∷ gs
+
+-- the graph of the last of the steps that does one at each position
 abbrev pub last_graph : List (StepOf Body) → List Graphed
 last_graph [] = []
-last_graph (s ∷ []) = step_graph s
-last_graph (s ∷ t ∷ ss) = last_graph (t ∷ ss)
+last_graph (s ∷ ss) = later (step_graph s) (last_graph ss)
 
 -- that of a serial block's loop program, and none of a word statement's
 abbrev pub statement_graph : Statement → List (StepOf Body) → List Graphed

@@ -21,14 +21,16 @@ fn step_graph(step: Step) -> Option<MigOuts>
     }
 }
 
-/// The graph that a loop program does last at each position, if it does one.
-fn last_graph(program: LoopProgram) -> Option<MigOuts>
-    ensures { map graphed_of (option_to_list result) ≡ last_graph (steps_of program) }
+/// The graph of the last of the steps that does one at each position.
+fn last_graph(mut steps: Vec<Step>) -> Option<MigOuts>
+    ensures { map graphed_of (option_to_list result) ≡ last_graph (map step_of steps.items) }
 {
-    let LoopProgram { mut steps } = program;
     match steps.pop() {
-        Some(step) => step_graph(step),
         None => None,
+        Some(step) => match step_graph(step) {
+            None => last_graph(steps),
+            Some(graph) => Some(graph),
+        },
     }
 }
 
@@ -37,9 +39,10 @@ fn take_statement(s: &Stmt, program: LoopProgram, graphs: &mut Vec<MigOuts>) -> 
     ensures { OnOk result (map graphed_of graphs.new.items ≡ map graphed_of graphs.old.items
         ++ statement_graph (statement s.now) (steps_of program)) }
 {
+    let LoopProgram { steps } = program;
     match s {
         Stmt::Word { .. } => Ok(()),
-        Stmt::Serial { .. } => match last_graph(program) {
+        Stmt::Serial { .. } => match last_graph(steps) {
             None => Ok(()),
             Some(graph) => keep(graphs, graph),
         },

@@ -1,6 +1,6 @@
 -- The graphs that are taken out of loop programs are those of the blocks, and say how many commands
 -- there are.
-use Rattle.std.proofs.Common.{◌≡◌, ℕ, ◌+◌, ◌*◌, ◌<◌, ◌≤◌, List, [], ◌∷◌, ◌++◌, take, map, length}
+use Rattle.std.proofs.Common.{◌≡◌, ℕ, ◌+◌, ◌*◌, ◌<◌, ◌≤◌, Bool, List, [], ◌∷◌, ◌++◌, take, map, length}
 use Rattle.std.proofs.Common.{refl}
 use Rattle.std.proofs.Common.{sym, ap, ◌∙◌, subst, arith, append_assoc, append-nil, inl, inr}
 use Rattle.std.specs.Prelude.{slice_index_or}
@@ -9,6 +9,7 @@ use Rattle.std.proofs.lemmas.List.{map-append, map_more}
 use Rattle.std.proofs.lemmas.List.Sums.{sum_by-cons}
 use Rattle.bit_rows.specs.declared.TheConstants.{WIDTH_MAX}
 use Rattle.op_text.specs.declared.tree.Op.{Op}
+use Rattle.op_text.specs.declared.tree.State.{State}
 use Rattle.op_text.specs.declared.tree.Stmt.{Stmt}
 use Rattle.op_text.specs.Language.{Statement, Compute, Visit, Operation, statement, operation}
 use Rattle.op_text.specs.Language.{Block as Serial}
@@ -35,19 +36,28 @@ use Rattle.uprog_gen.proofs.Costs.Counted.{one_exactly, all_exactly}
 use Rattle.uprog_gen.proofs.Rows.Top.{both_counts}
 use Rattle.uprog_gen.specs.Graphs.{Graphed, IsGraphOf, AreGraphsOf, op_commands, graphed_ceiling}
 use Rattle.uprog_gen.specs.Graphs.{IsGraphed}
-use Rattle.uprog_gen.specs.Graphs.{AreGraphed, step_graph, last_graph, statement_graph, graphs_in}
+use Rattle.uprog_gen.specs.Graphs.{AreGraphed, step_graph, later, last_graph}
+use Rattle.uprog_gen.specs.Graphs.{statement_graph, graphs_in}
 use Rattle.uprog_gen.proofs.Naming.Stage.{Stage, first_stage, next_stage}
 use Rattle.uprog_gen.proofs.Coding.Joined.{IsWithin}
 
--- the last step decides
+-- the last step decides, if it does a graph
+later-none : (gs : List Graphed) → later [] gs ≡ gs
+later-none [] = refl
+later-none (g ∷ gs) = refl
+
+later-twice : (a b c : List Graphed) → later a (later b c) ≡ later (later a b) c
+later-twice a b [] = refl
+later-twice a b (g ∷ gs) = refl
+
 last_of : (steps : List (StepOf Block)) (s : StepOf Block)
-    → last_graph (steps ++ s ∷ []) ≡ step_graph s
-last_of [] s = refl
-last_of (t ∷ []) s = refl
-last_of (t ∷ u ∷ steps) s = last_of (u ∷ steps) s
+    → last_graph (steps ++ s ∷ []) ≡ later (last_graph steps) (step_graph s)
+last_of [] s = sym (later-none (step_graph s))
+last_of (t ∷ steps) s = ap (later (step_graph t)) (last_of steps s)
+    ∙ later-twice (step_graph t) (last_graph steps) (step_graph s)
 
 pub last_popped : (items rest : List Step) (step : Step) → items ≡ rest ++ step ∷ []
-    → last_graph (map step_of items) ≡ step_graph (step_of step)
+    → last_graph (map step_of items) ≡ later (last_graph (map step_of rest)) (step_graph (step_of step))
 last_popped items rest step e = ap (λ l. last_graph (map step_of l)) e
     ∙ ap last_graph (map-append step_of rest (step ∷ []))
     ∙ last_of (map step_of rest) (step_of step)
@@ -77,10 +87,17 @@ abbrev pub the_graph : (slots : Slots) (b : Serial) (q : List (StepOf Block))
     → IsBlockProgram slots b q → Graphed
 the_graph slots b q f = record { graph = f.body.graph; outs = f.body.outs }
 
+started_graph : (slots : Slots) (down : Bool) (ss : List State) (body : Block)
+    → last_graph (map (start slots down) ss ++ Along body ∷ []) ≡ step_graph (Along body)
+started_graph slots down [] body = refl
+started_graph slots down (s ∷ ss) body = ap (later []) (started_graph slots down ss body)
+
 form_graph : (slots : Slots) (b : Serial) (q : List (StepOf Block)) (f : IsBlockProgram slots b q)
     → last_graph q ≡ the_graph slots b q f ∷ []
-form_graph slots b q f = ap last_graph f.form
-    ∙ last_of (map (start slots b.down) b.states) (Along f.body)
+form_graph slots b q f = elim f.form [
+  | inl e ↦ ap last_graph e ∙ started_graph slots b.down b.states f.body
+  | inr h ↦ ap last_graph h.form
+]
 
 is_graph : (slots : Slots) (b : Serial) (q : List (StepOf Block)) (f : IsBlockProgram slots b q)
     → IsGraphOf b (the_graph slots b q f)
@@ -144,7 +161,7 @@ module _ (op : Operation) (meets : OperationMeets op) (slots : Slots) (free_bit 
       (graphed_ceiling c.known n (Visit b ∷ rest) (gs ++ graphs_in rest ps)))
       (sym (form_graph slots b q h.0))
       (one_more n q ps most (graphed_ceiling (next_context c s).known n rest (graphs_in rest ps))
-      (inl (h.0.cost n))
+      (inl (h.0.cost n some))
       (few_rounds n some rest (next_context c s) (next_stage op c s rest st) ps h.1 w.1))
 
   pub entry_graphed : (ps : List (List (StepOf Block))) → HaveForms slots op.body ps

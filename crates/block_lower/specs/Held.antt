@@ -1,33 +1,22 @@
 -- The loop of a block whose states stand in cells from one position to the next.
-use Rattle.std.specs.Prelude.{ℕ, suc, ◌==◌, ◌&&◌, Bool, false, List, [], ◌∷◌, map, length, if◌then◌else◌}
+use Rattle.std.specs.Prelude.{◌≡◌, ℕ, suc, ◌+◌, ◌*◌, ◌<◌, ◌≤◌, ◌==◌, ◌&&◌, Bool, true, false, List, [], ◌∷◌, map}
+use Rattle.std.specs.Prelude.{length, if◌then◌else◌}
+use Rattle.std.specs.List.{list_all}
 use Rattle.mig_graph.specs.declared.Lit.{Lit}
 use Rattle.row_alloc.specs.declared.body.BodyCmd.{BodyCmd}
-use Rattle.op_text.specs.declared.tree.State.{State}
 use Rattle.loop_ir.specs.declared.ir.Space.TheVariants.{Cells}
 use Rattle.loop_ir.specs.declared.ir.Sub.TheVariants.{Zero}
 use Rattle.loop_ir.specs.declared.ir.Place.{Place}
 use Rattle.loop_ir.specs.Plain.{Block as Body, StepOf}
 use Rattle.loop_ir.specs.Plain.StepOf.{Single, Along}
+use Rattle.row_alloc.specs.declared.body.OutRow.{OutRow}
+use Rattle.row_alloc.specs.Held.{DoesHeld}
 use Rattle.loop_ir.specs.Spots.{same_space}
+use Rattle.loop_ir.specs.Outputs.{IsOuts}
+use Rattle.loop_ir.specs.States.{row_count, enters, leaves}
+use Rattle.loop_ir.specs.Chains.{states_in}
 use Rattle.loop_ir.specs.Costs.{same_sub}
-use Rattle.loop_ir.specs.Statements.{Slots}
-use Rattle.block_lower.specs.Form.{place_of}
-
--- a state: the place of its row, the number of its cells, and its start
-pub record Home : Type 0 where
-  pub place : Place
-  pub cells : ℕ
-  pub start : Bool
-
--- the block's states, in the cells of these numbers
-abbrev pub homes : Slots → Bool → List State → List ℕ → List Home
-homes slots down [] ws = []
-homes slots down (s ∷ ss) [] = []
-homes slots down (s ∷ ss) (w ∷ ws) = record {
-  place = place_of down (slots s.name);
-  cells = w;
-  start = s.start;
-} ∷ homes slots down ss ws
+use Rattle.block_lower.specs.declared.home.Home.{Home}
 
 -- the place of cells
 abbrev pub cell_place : ℕ → Place
@@ -91,3 +80,34 @@ held_store hs cmds = record {
 abbrev pub held_steps : List Home → Body → HeldCommands → List (StepOf Body)
 held_steps hs b cmds = Single (held_start hs cmds.start) ∷ Along (held_body hs b cmds.each)
     ∷ Single (held_store hs cmds.store) ∷ []
+
+-- the body carries commands, at most so many, and they do it wherever its rows lie
+pub record CarriesRight (b : Body) (most : ℕ) : Type 0 where
+  pub some : 0 < length b.found
+  pub does : (outs : List OutRow) → IsOuts b (row_count b.writes) outs
+      → DoesHeld b.graph outs (enters 0 b.reads) (leaves b.writes b.outs) b.found
+  pub few : length b.found ≤ most
+
+-- each place that stands in cells stands in these
+abbrev pub stand_in : ℕ → List Place → Bool
+stand_in w ps = list_all (λ v. v == w) (states_in ps)
+
+-- the body has nodes, reads as many places as its graph has inputs, and writes its one state last;
+-- it finds no other in cells
+pub record HoldsOne (w : ℕ) (b : Body) : Type 0 where
+  pub nodes : 0 < length b.graph.nodes
+  pub full : b.graph.inputs ≡ length b.reads
+  pub long : length b.outs ≡ length b.writes
+  pub last : row_count b.writes + 1 ≡ length b.writes
+  pub reads : stand_in w b.reads ≡ true
+  pub writes : stand_in w b.writes ≡ true
+
+-- The loop of a body with one state in cells: each of its bodies carries its commands, and these
+-- are no more than those of the loop with the state in a row, at width 1 and a round
+pub record IsHeldOne (h : Home) (b : Body) (cmds : HeldCommands) : Type 0 where
+  pub holds : HoldsOne h.cells (held_body (h ∷ []) b cmds.each)
+  pub start : CarriesRight (held_start (h ∷ []) cmds.start) 1
+  pub each : CarriesRight (held_body (h ∷ []) b cmds.each) (4 * length b.graph.nodes
+      + 3 * row_count (map (held_place (h ∷ [])) b.writes))
+  pub store : CarriesRight (held_store (h ∷ []) cmds.store) 1
+  pub fewer : length cmds.each + 1 ≤ length b.found

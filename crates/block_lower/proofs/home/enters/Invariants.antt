@@ -1,0 +1,6 @@
+use Rattle.std.proofs.Common.{◌≡◌, ◌++◌, drop}
+use Rattle.loop_ir.specs.States.{enters}
+use Rattle.block_lower.proofs.home.enters.Given as goal
+
+abbrev pub invariant-loop-k : goal.invariant-loop-k
+invariant-loop-k l = l.enter.items ++ enters l.k (drop l.k l.reads) ≡ enters 0 l.reads
