@@ -28,7 +28,8 @@ use Rattle.row_alloc.specs.HeldBodies.{BothAtLast, EitherAtLast, MajorityAtLast,
 use Rattle.row_alloc.specs.HeldBodies.{UnlikeAtLast, NotInT1AndDcc0, BothFromT1, MajorityFromDcc0}
 use Rattle.row_alloc.specs.HeldBodies.{HeldLessened, HeldNegatedIf, HeldMultiplied, HeldDivided}
 use Rattle.row_alloc.specs.HeldBodies.{HeldAgreed, held_graph, held_outs, enter_in, leave_in}
-use Rattle.row_alloc.specs.HeldBodies.{held_sequence_for}
+use Rattle.row_alloc.specs.HeldBodies.{held_sequence_for, ReadTurned, WrittenTurned, HeldCounted}
+use Rattle.row_alloc.specs.HeldBodies.{HeldMoved}
 use Rattle.row_alloc.proofs.Booleans.{and-both}
 use Rattle.row_alloc.proofs.First.{out, is_literal, is-literal, literal-is, in_all, in_one, single}
 
@@ -274,6 +275,10 @@ have_first NotInT1AndDcc0 = none NotInT1AndDcc0 refl refl (omega arith)
 have_first BothFromT1 = one BothFromT1 _ nowhere refl refl (omega arith) (λ outs late. refl)
 have_first MajorityFromDcc0 = one MajorityFromDcc0 _ nowhere refl refl (omega arith)
     (λ outs late. refl)
+have_first ReadTurned = none ReadTurned refl refl (omega arith)
+have_first WrittenTurned = one WrittenTurned _ nowhere refl refl (omega arith) (λ outs late. refl)
+have_first HeldCounted = one HeldCounted _ nowhere refl refl (omega arith) (λ outs late. refl)
+have_first HeldMoved = one HeldMoved _ nowhere refl refl (omega arith) (λ outs late. refl)
 
 pub held_first : (g : Graph) (outs : List OutRow) (enter leave : List Held) (b : HeldBody)
     → g ≡ held_graph b → FitBody g outs → map (λ o. o.lit) outs ≡ held_outs b → enter ≡ enter_in b

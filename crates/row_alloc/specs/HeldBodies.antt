@@ -46,7 +46,9 @@ pub record IsFirstHeld (g : Graph) (outs : List OutRow) (enter leave : List Held
 -- steps of mul and div. The end: whether both comparisons hold.
 -- Of two bodies in turn the first joins its element to the state and keeps the constant, or keeps
 -- both, and the second joins its own to what was kept. Each has one that ends the loop in a row.
--- Of the last three the first starts a complement in two cells, from which the others join elements
+-- Of three the first starts a complement in two cells, from which the others join elements. The last
+-- four count ones: what is read comes into the cells of a sum, the sum goes into a row, two elements
+-- are added to the sum, with a carry in a row, and a row is copied while the sum stays
 pub data HeldBody : Type 0 where
   ZeroInT0 : HeldBody
   OneInT0 : HeldBody
@@ -75,6 +77,10 @@ pub data HeldBody : Type 0 where
   NotInT1AndDcc0 : HeldBody
   BothFromT1 : HeldBody
   MajorityFromDcc0 : HeldBody
+  ReadTurned : HeldBody
+  WrittenTurned : HeldBody
+  HeldCounted : HeldBody
+  HeldMoved : HeldBody
 
 -- how many inputs the body's graph has
 abbrev pub held_inputs : HeldBody → ℕ
@@ -105,6 +111,10 @@ held_inputs UnlikeAtLast = 2
 held_inputs NotInT1AndDcc0 = 1
 held_inputs BothFromT1 = 3
 held_inputs MajorityFromDcc0 = 3
+held_inputs ReadTurned = 1
+held_inputs WrittenTurned = 1
+held_inputs HeldCounted = 3
+held_inputs HeldMoved = 2
 
 -- the nodes of its graph
 abbrev pub held_nodes : HeldBody → List Node
@@ -151,6 +161,12 @@ held_nodes UnlikeAtLast = node_of (plain 0) (plain 1) (complemented 2)
 held_nodes NotInT1AndDcc0 = []
 held_nodes BothFromT1 = node_of (plain 0) (plain 1) (plain 2) ∷ []
 held_nodes MajorityFromDcc0 = node_of (plain 1) (plain 2) (plain 3) ∷ []
+held_nodes ReadTurned = []
+held_nodes WrittenTurned = []
+held_nodes HeldCounted = node_of (plain 1) (plain 2) (plain 3)
+    ∷ node_of (plain 2) (plain 3) (complemented 4)
+    ∷ node_of (plain 1) (complemented 4) (plain 5) ∷ []
+held_nodes HeldMoved = []
 
 -- its graph
 abbrev pub held_graph : HeldBody → Graph
@@ -185,6 +201,10 @@ held_outs UnlikeAtLast = plain 5 ∷ []
 held_outs NotInT1AndDcc0 = []
 held_outs BothFromT1 = plain 4 ∷ []
 held_outs MajorityFromDcc0 = plain 4 ∷ []
+held_outs ReadTurned = []
+held_outs WrittenTurned = plain 1 ∷ []
+held_outs HeldCounted = plain 4 ∷ []
+held_outs HeldMoved = plain 1 ∷ []
 
 -- the literal in the cells of this layout
 abbrev pub in_layout : ℕ → Lit → Held
@@ -219,6 +239,10 @@ enter_in UnlikeAtLast = in_layout 4 (plain 2) ∷ []
 enter_in NotInT1AndDcc0 = []
 enter_in BothFromT1 = in_layout 1 (plain 2) ∷ in_layout 11 (plain 3) ∷ []
 enter_in MajorityFromDcc0 = in_layout 11 (plain 2) ∷ in_layout 3 (plain 3) ∷ []
+enter_in ReadTurned = []
+enter_in WrittenTurned = in_layout 5 (plain 1) ∷ []
+enter_in HeldCounted = in_layout 5 (plain 3) ∷ []
+enter_in HeldMoved = in_layout 5 (plain 2) ∷ []
 
 -- the states that it leaves in cells
 abbrev pub leave_in : HeldBody → List Held
@@ -249,6 +273,10 @@ leave_in UnlikeAtLast = []
 leave_in NotInT1AndDcc0 = in_layout 1 (complemented 1) ∷ in_layout 11 (complemented 1) ∷ []
 leave_in BothFromT1 = in_layout 11 (plain 3) ∷ in_layout 3 (plain 0) ∷ []
 leave_in MajorityFromDcc0 = in_layout 1 (plain 2) ∷ in_layout 11 (plain 2) ∷ []
+leave_in ReadTurned = in_layout 5 (plain 1) ∷ []
+leave_in WrittenTurned = []
+leave_in HeldCounted = in_layout 5 (plain 6) ∷ []
+leave_in HeldMoved = in_layout 5 (plain 2) ∷ []
 
 -- the number of its sequence in the table
 abbrev pub held_sequence_for : HeldBody → ℕ
@@ -256,7 +284,7 @@ held_sequence_for ZeroInT0 = 0
 held_sequence_for ZeroInT3AndDcc1 = 0
 held_sequence_for OneInT0 = 1
 held_sequence_for ZeroInTurnedT3AndDcc1 = 1
-held_sequence_for ZeroInT1 = 2
+held_sequence_for ZeroInT1 = 27
 held_sequence_for OneInT1 = 3
 held_sequence_for OnesInT2AndT3 = 3
 held_sequence_for HeldAgreed = 4
@@ -279,3 +307,7 @@ held_sequence_for UnlikeAtLast = 10
 held_sequence_for NotInT1AndDcc0 = 21
 held_sequence_for BothFromT1 = 22
 held_sequence_for MajorityFromDcc0 = 23
+held_sequence_for ReadTurned = 24
+held_sequence_for WrittenTurned = 25
+held_sequence_for HeldCounted = 26
+held_sequence_for HeldMoved = 2
