@@ -20,7 +20,7 @@ use mig_graph::Mig;
 
 /// All of them: of the bodies that a loop has alone the shorter ones first, and then those that
 /// stand in it by turns.
-pub static HELD: [&[BodyCmd]; 28] = [
+pub static HELD: [&[BodyCmd]; 30] = [
     // 0 in T0, T3 and DCC1
     &[Aap(C(0), B(15))],
     // 1 in T0, T3 and DCC1
@@ -97,10 +97,10 @@ pub static HELD: [&[BodyCmd]; 28] = [
     // the majority of a, T2 and T3
     &[Aap(In(0), B(1)), Ap(B(13))],
     &[Aap(In(0), B(1)), Aap(B(13), Out(0))],
-    // a and T1, and 0 in T3
-    &[Aap(C(0), B(10)), Aap(In(0), B(0)), Ap(B(12))],
-    // a or T1, and 1 in T3
-    &[Aap(C(1), B(10)), Aap(In(0), B(0)), Ap(B(12))],
+    // a and T1, and 0 in T3 and DCC1
+    &[Aap(C(0), B(15)), Aap(In(0), B(2)), Ap(B(12))],
+    // a or T1, and 1 in T3 and DCC1
+    &[Aap(C(1), B(15)), Aap(In(0), B(2)), Ap(B(12))],
     // a xor T0 xor T3, whose complements stand in DCC0 and T2
     &[
         Aap(In(0), B(9)),
@@ -135,6 +135,9 @@ pub static HELD: [&[BodyCmd]; 28] = [
     ],
     // 0 in DCC0, T1 and T2
     &[Aap(C(0), B(14))],
+    // the majority of a, T3 and DCC1
+    &[Aap(In(0), B(0)), Aap(B(15), B(1))],
+    &[Aap(In(0), B(0)), Aap(B(15), Out(0))],
 ];
 
 /// Whether the commands may stand for the body with its states in these cells.
