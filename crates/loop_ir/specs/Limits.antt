@@ -7,8 +7,8 @@ use Rattle.bit_rows.specs.declared.TheConstants.{WIDTH_MAX}
 use Rattle.mig_graph.specs.Graph.{IsGraph}
 use Rattle.loop_ir.specs.declared.ir.Sub.{Sub}
 use Rattle.loop_ir.specs.declared.ir.Sub.TheVariants.{Zero, Top, Inner as At_inner, InnerDown}
-use Rattle.loop_ir.specs.declared.ir.Sub.TheVariants.{Outer, OuterDown, Sum, DownSum, DownPlusN}
-use Rattle.loop_ir.specs.declared.ir.Sub.TheVariants.{NPlusInner, TwiceDown, BelowTwiceDown}
+use Rattle.loop_ir.specs.declared.ir.Sub.TheVariants.{Outer, OuterDown, Sum, DownSum, SumTwice}
+use Rattle.loop_ir.specs.declared.ir.Sub.TheVariants.{AboveSumTwice, AboveSum}
 use Rattle.loop_ir.specs.Plain.{Block, InnerOf, StepOf, all_turns, AllParts}
 use Rattle.loop_ir.specs.Plain.InnerOf.{Alone, Across, IfOdd, Halves}
 use Rattle.loop_ir.specs.Plain.StepOf.{Single, Along, Nest, Pairs, Alternate}
@@ -61,20 +61,19 @@ may_stand inner outer Outer = outer
 may_stand inner outer OuterDown = outer
 may_stand inner outer Sum = inner && outer
 may_stand inner outer DownSum = inner && outer
-may_stand inner outer DownPlusN = outer
-may_stand inner outer NPlusInner = inner
-may_stand inner outer TwiceDown = false
-may_stand inner outer BelowTwiceDown = false
+may_stand inner outer SumTwice = inner && outer
+may_stand inner outer AboveSumTwice = inner && outer
+may_stand inner outer AboveSum = inner && outer
 
 -- every place of the body has such a subscript
 abbrev pub all_stand : Bool → Bool → Block → Bool
 all_stand inner outer b = list_all (λ p. may_stand inner outer p.sub) (b.reads ++ b.writes)
 
--- every place of the body is at 0 or at a position of a pair or of what is made of it: three
--- registers are enough for the two bodies of a pair
+-- every place of the body is at 0, at an element of a pair, or where a level above has the carry:
+-- three registers are enough for the two bodies of a pair
 abbrev pub stays_in_pair : Block → Bool
-stays_in_pair b = list_all (λ p. same_sub p.sub Zero || (same_sub p.sub InnerDown
-    || (same_sub p.sub TwiceDown || same_sub p.sub BelowTwiceDown))) (b.reads ++ b.writes)
+stays_in_pair b = list_all (λ p. same_sub p.sub Zero || (same_sub p.sub SumTwice
+    || (same_sub p.sub AboveSumTwice || same_sub p.sub AboveSum))) (b.reads ++ b.writes)
 
 -- so it is in a part of a nest
 abbrev pub inner_stands : InnerOf Block → Bool

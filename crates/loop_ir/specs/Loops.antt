@@ -1,10 +1,10 @@
 -- The rounds of a loop program.
-use Rattle.std.specs.Prelude.{ℕ, zero, suc, ◌+◌, ◌-◌, ◌*◌, ◌/◌, ◌%◌, ◌^◌}
-use Rattle.std.specs.Prelude.{List, [], ◌∷◌, ◌++◌}
+use Rattle.std.specs.Prelude.{ℕ, zero, suc, ◌+◌, ◌-◌, ◌*◌, ◌/◌, ◌%◌, ◌^◌, List, []}
+use Rattle.std.specs.Prelude.{◌∷◌, ◌++◌}
 use Rattle.loop_ir.specs.declared.ir.Sub.{Sub}
 use Rattle.loop_ir.specs.declared.ir.Sub.TheVariants.{Zero, Top, Inner as At_inner, InnerDown}
-use Rattle.loop_ir.specs.declared.ir.Sub.TheVariants.{Outer, OuterDown, Sum, DownSum, DownPlusN}
-use Rattle.loop_ir.specs.declared.ir.Sub.TheVariants.{NPlusInner, TwiceDown, BelowTwiceDown}
+use Rattle.loop_ir.specs.declared.ir.Sub.TheVariants.{Outer, OuterDown, Sum, DownSum, SumTwice}
+use Rattle.loop_ir.specs.declared.ir.Sub.TheVariants.{AboveSumTwice, AboveSum}
 use Rattle.loop_ir.specs.declared.ir.Count.{Count}
 use Rattle.loop_ir.specs.declared.ir.Count.TheVariants.{All, Rest, UpTo}
 use Rattle.loop_ir.specs.Plain.{InnerOf, TurnsOf, StepOf}
@@ -92,7 +92,6 @@ sub_value n i o Outer = o
 sub_value n i o OuterDown = n - 1 - o
 sub_value n i o Sum = o + i
 sub_value n i o DownSum = n - 1 - o + i
-sub_value n i o DownPlusN = 2 * n - 1 - o
-sub_value n i o NPlusInner = n + i
-sub_value n i o TwiceDown = n - 1 - 2 * i
-sub_value n i o BelowTwiceDown = n - 2 - 2 * i
+sub_value n i o SumTwice = o + 2 * i
+sub_value n i o AboveSumTwice = o + 1 + 2 * i
+sub_value n i o AboveSum = o + 1 + i

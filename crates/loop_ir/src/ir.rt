@@ -24,14 +24,12 @@ pub enum Sub {
     Sum,
     /// n - 1 - o + i.
     DownSum,
-    /// 2n - 1 - o.
-    DownPlusN,
-    /// n + i.
-    NPlusInner,
-    /// n - 1 - 2i.
-    TwiceDown,
-    /// n - 2 - 2i.
-    BelowTwiceDown,
+    /// o + 2i.
+    SumTwice,
+    /// o + 1 + 2i.
+    AboveSumTwice,
+    /// o + 1 + i.
+    AboveSum,
 }
 
 /// What a row belongs to: the result, a source, or a bit or word of scratch. A value in cells of
@@ -106,8 +104,8 @@ pub enum Inner {
     Each(Count, Body),
     /// A body once at each level that has an odd number of elements.
     IfOdd(Body),
-    /// Two bodies at each pair of elements. Their subscripts are `Zero`, `InnerDown`, `TwiceDown`
-    /// and `BelowTwiceDown` alone.
+    /// Two bodies at each pair of elements. Their subscripts are `Zero`, `SumTwice`,
+    /// `AboveSumTwice` and `AboveSum` alone.
     Halves(Body, Body),
 }
 
