@@ -25,10 +25,10 @@ use Rattle.loop_ir.specs.WellFormed.{IsOneValue}
 use Rattle.loop_ir.specs.Costs.{used_subs, code_cost, bodies}
 use Rattle.loop_ir.specs.Limits.{IsRound, step_stands}
 use Rattle.loop_ir.specs.Chains.{steps_find}
-use Rattle.loop_laws.specs.Rooms.{Extent, One, Full, Twice, extent, Room, room_at, room_for, Owner}
+use Rattle.loop_laws.specs.Rooms.{Extent, One, Full, extent, Room, room_at, room_for, Owner}
 use Rattle.loop_laws.specs.Rooms.{InRoom, InCells, Mark, Marked, placed, placed_body, placed_steps}
 use Rattle.loop_laws.specs.Rooms.{row_in, IsOwned, RoomsApart, Reach, Nowhere, Whole, Left, Below}
-use Rattle.loop_laws.specs.Rooms.{is_long, is_twice, has_inner, is_left, is_below, fits, reach_of}
+use Rattle.loop_laws.specs.Rooms.{is_long, has_inner, is_left, is_below, fits, reach_of}
 use Rattle.loop_laws.specs.Forms.{IsSlim, has_room, inners_have_room, steps_have_room}
 use Rattle.loop_laws.specs.Forms.{has_known_states, inners_have_known, steps_have_known}
 use Rattle.loop_laws.specs.Laws.{MarksAreEnough}
@@ -45,17 +45,10 @@ most_is a b e = grind arith
 long : (n : ℕ) (w : Extent) → is_long w ≡ true → n ≤ extent n w
 long n One e = cc
 long n Full e = omega arith
-long n Twice e = omega arith
-
-twice : (n : ℕ) (w : Extent) → is_twice w ≡ true → n * 2 ≤ extent n w
-twice n One e = cc
-twice n Full e = cc
-twice n Twice e = omega arith
 
 first : (n : ℕ) (w : Extent) → 0 < n → 0 < extent n w
 first n One h = omega arith
 first n Full h = h
-first n Twice h = omega arith
 
 inner_below : (n i o : ℕ) (r : Reach) → InnerOk n i o r → has_inner r ≡ true → i < n
 inner_below n i o Nowhere ok e = cc
@@ -70,14 +63,12 @@ left_below n i o Left ok e = ok
 left_below n i o Below ok e = cc
 
 -- the place that is as far from an outer position as the inner one is from the start
-down_below : (n i o : ℕ) (r : Reach) (w : Extent) → InnerOk n i o r → has_inner r ≡ true → o < n
-    → (is_twice w || (is_long w && is_below r)) ≡ true → n - 1 - o + i < extent n w
-down_below n i o r One ok e lo f = cc
-down_below n i o r Twice ok e lo f = let b = inner_below n i o r ok e in omega arith
-down_below n i o Nowhere Full ok e lo f = cc
-down_below n i o Whole Full ok e lo f = cc
-down_below n i o Left Full ok e lo f = cc
-down_below n i o Below Full ok e lo f = omega (arith, ok.0, ok.1)
+down_below : (n i o : ℕ) (r : Reach) → InnerOk n i o r → is_below r ≡ true → o < n
+    → n - 1 - o + i < n
+down_below n i o Nowhere ok e lo = cc
+down_below n i o Whole ok e lo = cc
+down_below n i o Left ok e lo = cc
+down_below n i o Below ok e lo = omega (arith, ok.0, ok.1)
 
 outer_below : (n o : ℕ) (b : Bool) → OuterOk n o b → b ≡ true → o < n
 outer_below n o true ok e = ok
@@ -100,13 +91,11 @@ within n i o r outer w sub.Sum h ik ok e = let p = and_parts (is_long w) (outer 
     let q = and_parts outer (is_left r) p.1 in let a = long n w p.0 in
     let b = left_below n i o r ik q.1 in omega arith
 within n i o r outer w sub.DownSum h ik ok e = let p =
-    and_parts (is_twice w || (is_long w && is_below r)) (outer && has_inner r) e in
-    let q = and_parts outer (has_inner r) p.1 in
-    down_below n i o r w ik q.1 (outer_below n o outer ok q.0) p.0
-within n i o r outer w sub.DownPlusN h ik ok e = let p = and_parts (is_twice w) outer e in
-    let a = twice n w p.0 in omega arith
-within n i o r outer w sub.NPlusInner h ik ok e = let p = and_parts (is_twice w) (has_inner r) e in
-    let a = twice n w p.0 in let b = inner_below n i o r ik p.1 in omega arith
+    and_parts (is_long w) (outer && is_below r) e in
+    let q = and_parts outer (is_below r) p.1 in let a = long n w p.0 in
+    let b = down_below n i o r ik q.1 (outer_below n o outer ok q.0) in omega arith
+within n i o r outer w sub.DownPlusN h ik ok e = cc
+within n i o r outer w sub.NPlusInner h ik ok e = cc
 
 nth_placed : (rooms : List Room) (ms : List Mark) (k : ℕ) → k < length ms
     → nth_place (map (placed rooms) ms) k ≡ placed rooms (mark_at ms k)

@@ -1,6 +1,6 @@
 -- Places by their owners, and a test after which every round keeps the rules.
-use Rattle.std.specs.Prelude.{◌≡◌, ℕ, zero, suc, ◌*◌, ◌<◌, ◌==◌, Bool, true, false, not, ◌&&◌, ◌||◌}
-use Rattle.std.specs.Prelude.{nat_lt, if◌then◌else◌, List, [], ◌∷◌, map, length}
+use Rattle.std.specs.Prelude.{◌≡◌, ℕ, zero, suc, ◌<◌, ◌==◌, Bool, true, false, not, ◌&&◌, nat_lt}
+use Rattle.std.specs.Prelude.{if◌then◌else◌, List, [], ◌∷◌, map, length}
 use Rattle.mig_graph.specs.declared.Lit.{Lit}
 use Rattle.mig_graph.specs.Graph.{Graph}
 use Rattle.loop_ir.specs.declared.ir.Space.{Space}
@@ -16,17 +16,15 @@ use Rattle.loop_ir.specs.Plain.StepOf.{Single, Along, Nest, Pairs, Alternate}
 use Rattle.loop_ir.specs.Spots.{Spot, spot_in, IsOwn}
 use Rattle.loop_ir.specs.Costs.{sub_code}
 
--- how many rows an owner has: one, n or twice n
+-- how many rows an owner has: one or n
 pub data Extent : Type 0 where
   One : Extent
   Full : Extent
-  Twice : Extent
 
 -- how many rows an owner has at width n
 abbrev pub extent : ℕ → Extent → ℕ
 extent n One = 1
 extent n Full = n
-extent n Twice = n * 2
 
 -- where an owner's rows lie, how many there are, and whether a body may write them
 pub record Room : Type 0 where
@@ -119,13 +117,6 @@ pub data Reach : Type 0 where
 abbrev pub is_long : Extent → Bool
 is_long One = false
 is_long Full = true
-is_long Twice = true
-
--- an owner with two words
-abbrev pub is_twice : Extent → Bool
-is_twice One = false
-is_twice Full = false
-is_twice Twice = true
 
 -- the body is done at each inner position
 abbrev pub has_inner : Reach → Bool
@@ -148,7 +139,7 @@ is_below Whole = false
 is_below Left = false
 is_below Below = true
 
--- the subscript stays within so many rows
+-- the subscript stays within so many rows: no owner has the rows from n on
 abbrev pub fits : Reach → Bool → Extent → Sub → Bool
 fits r outer w sub.Zero = true
 fits r outer w sub.Top = is_long w
@@ -157,9 +148,9 @@ fits r outer w sub.InnerDown = is_long w && has_inner r
 fits r outer w sub.Outer = is_long w && outer
 fits r outer w sub.OuterDown = is_long w && outer
 fits r outer w sub.Sum = is_long w && (outer && is_left r)
-fits r outer w sub.DownSum = (is_twice w || (is_long w && is_below r)) && (outer && has_inner r)
-fits r outer w sub.DownPlusN = is_twice w && outer
-fits r outer w sub.NPlusInner = is_twice w && has_inner r
+fits r outer w sub.DownSum = is_long w && (outer && is_below r)
+fits r outer w sub.DownPlusN = false
+fits r outer w sub.NPlusInner = false
 
 -- how far the positions of a nest's part go
 abbrev pub reach_of : Count → Reach

@@ -20,10 +20,9 @@ use Rattle.row_alloc.specs.Body.{FitBody, WritesLate, read_by, written_by, comma
 use Rattle.row_alloc.specs.Numbering.{own_output}
 use Rattle.row_alloc.specs.Length.{plain_length}
 use Rattle.row_alloc.specs.Symbolic.{symbols_after, IsChecked, sense_three, first_node, lit_eq}
-use Rattle.row_alloc.specs.Known.{Serves, IsFirst, known, known_at, WordBody, Inverted, Shifted}
-use Rattle.row_alloc.specs.Known.{Both, Either, Without, Unlike, Chosen, Compared, Agreed, Added}
-use Rattle.row_alloc.specs.Known.{Lessened, NegatedIf, Multiplied, Counted, Divided, graph_in}
-use Rattle.row_alloc.specs.Known.{outs_in, sequence_for}
+use Rattle.row_alloc.specs.Known.{Serves, IsFirst, known, known_at, WordBody, Inverted, Both, Either}
+use Rattle.row_alloc.specs.Known.{Without, Unlike, Chosen, Added, Counted, graph_in, outs_in}
+use Rattle.row_alloc.specs.Known.{sequence_for}
 use Rattle.row_alloc.proofs.Booleans.{and-both}
 use Rattle.row_alloc.proofs.Sound.{lit-eq-true}
 
@@ -223,103 +222,53 @@ two g l m k out_of h within kept outs fit e late =
 abbrev nowhere : Option ℕ → Option ℕ → Bool
 nowhere s t = false
 
--- the output stands in the row of input 0
-abbrev at_zero : Option ℕ → Bool
-at_zero None = false
-at_zero (Some zero) = true
-at_zero (Some (suc k)) = false
-
-not_at_zero : (s : Option ℕ) → (s ≡ Some 0 → ⊥) → at_zero s ≡ false
-not_at_zero None h = refl
-not_at_zero (Some zero) h = absurd (h refl)
-not_at_zero (Some (suc k)) h = refl
-
 -- each body's sequence is the first that serves it, where it writes the outputs late
-abbrev pub HasFirst : WordBody → Type 0
+abbrev HasFirst : WordBody → Type 0
 HasFirst b = (outs : List OutRow) → FitBody (graph_in b) outs
     → map (λ o. o.lit) outs ≡ outs_in b → WritesLate outs (known_at (sequence_for b))
     → IsFirst (graph_in b) outs (sequence_for b)
 
-pub inverted_first : HasFirst Inverted
+inverted_first : HasFirst Inverted
 unfolding sense_three first_node
 inverted_first = one (graph_in Inverted) _ 0 refl (omega arith)
 
-pub shifted_first : HasFirst Shifted
-unfolding sense_three first_node
-shifted_first = two (graph_in Shifted) _ _ 1 (λ s t. at_zero s) refl (omega arith) (λ outs late.
-    not_at_zero (out_at outs 0).same (λ e. late.late 0 1 0 0 (omega arith) (omega arith) e refl
-    refl))
-
-pub both_first : HasFirst Both
+both_first : HasFirst Both
 unfolding sense_three first_node
 both_first = one (graph_in Both) _ 2 refl (omega arith)
 
-pub either_first : HasFirst Either
+either_first : HasFirst Either
 unfolding sense_three first_node
 either_first = one (graph_in Either) _ 3 refl (omega arith)
 
-pub without_first : HasFirst Without
+without_first : HasFirst Without
 unfolding sense_three first_node
 without_first = one (graph_in Without) _ 4 refl (omega arith)
 
-pub compared_first : HasFirst Compared
-unfolding sense_three first_node
-compared_first = one (graph_in Compared) _ 5 refl (omega arith)
-
-pub unlike_first : HasFirst Unlike
+unlike_first : HasFirst Unlike
 unfolding sense_three first_node
 unlike_first = one (graph_in Unlike) _ 9 refl (omega arith)
 
-pub chosen_first : HasFirst Chosen
+chosen_first : HasFirst Chosen
 unfolding sense_three first_node
 chosen_first = one (graph_in Chosen) _ 11 refl (omega arith)
 
-pub agreed_first : HasFirst Agreed
-unfolding sense_three first_node
-agreed_first = one (graph_in Agreed) _ 12 refl (omega arith)
-
-pub lessened_first : HasFirst Lessened
-unfolding sense_three first_node
-lessened_first = two (graph_in Lessened) _ _ 15 nowhere refl (omega arith) (λ outs late. refl)
-
-pub counted_first : HasFirst Counted
+counted_first : HasFirst Counted
 unfolding sense_three first_node
 counted_first = two (graph_in Counted) _ _ 16 nowhere refl (omega arith) (λ outs late. refl)
 
-pub added_first : HasFirst Added
+added_first : HasFirst Added
 unfolding sense_three first_node
 added_first = two (graph_in Added) _ _ 20 nowhere refl (omega arith) (λ outs late. refl)
 
-pub complemented_first : HasFirst NegatedIf
-unfolding sense_three first_node
-complemented_first = two (graph_in NegatedIf) _ _ 21 nowhere refl (omega arith) (λ outs late. refl)
-
-pub divided_first : HasFirst Divided
-unfolding sense_three first_node
-divided_first = two (graph_in Divided) _ _ 22 nowhere refl (omega arith) (λ outs late. refl)
-
-pub multiplied_first : HasFirst Multiplied
-unfolding sense_three first_node
-multiplied_first = two (graph_in Multiplied) _ _ 23 (λ s t. at_zero t) refl (omega arith) (λ outs
-    late. not_at_zero (out_at outs 1).same (λ e. late.late 7 8 1 0 (omega arith) (omega arith) e
-    refl refl))
-
-pub have_first : (b : WordBody) → HasFirst b
+have_first : (b : WordBody) → HasFirst b
 have_first Inverted = inverted_first
-have_first Shifted = shifted_first
 have_first Both = both_first
 have_first Either = either_first
 have_first Without = without_first
 have_first Unlike = unlike_first
 have_first Chosen = chosen_first
-have_first Compared = compared_first
-have_first Agreed = agreed_first
 have_first Added = added_first
-have_first Lessened = lessened_first
-have_first NegatedIf = complemented_first
-have_first Multiplied = multiplied_first
 have_first Counted = counted_first
-have_first Divided = divided_first
 
 abbrev IsShort : WordBody → List OutRow → Type 0
 IsShort b outs = length (known_at (sequence_for b)) ≤ plain_length (graph_in b) outs
@@ -327,32 +276,13 @@ IsShort b outs = length (known_at (sequence_for b)) ≤ plain_length (graph_in b
 -- it is no longer than the plain body
 short : (b : WordBody) (outs : List OutRow) → map (λ o. o.lit) outs ≡ outs_in b → IsShort b outs
 short Inverted outs e = subst (IsShort Inverted) (sym (single _ outs e)) (omega arith)
-short Shifted outs e = subst (IsShort Shifted) (sym (double _ _ outs e)) (omega arith)
 short Both outs e = subst (IsShort Both) (sym (single _ outs e)) (omega arith)
 short Either outs e = subst (IsShort Either) (sym (single _ outs e)) (omega arith)
 short Without outs e = subst (IsShort Without) (sym (single _ outs e)) (omega arith)
 short Unlike outs e = subst (IsShort Unlike) (sym (single _ outs e)) (omega arith)
 short Chosen outs e = subst (IsShort Chosen) (sym (single _ outs e)) (omega arith)
-short Compared outs e = subst (IsShort Compared) (sym (single _ outs e)) (omega arith)
-short Agreed outs e = subst (IsShort Agreed) (sym (single _ outs e)) (omega arith)
 short Added outs e = subst (IsShort Added) (sym (double _ _ outs e)) (omega arith)
-short Lessened outs e = subst (IsShort Lessened) (sym (double _ _ outs e)) (omega arith)
-short NegatedIf outs e = subst (IsShort NegatedIf) (sym (double _ _ outs e)) (omega arith)
-short Multiplied outs e = subst (IsShort Multiplied) (sym (double _ _ outs e)) (omega arith)
 short Counted outs e = subst (IsShort Counted) (sym (double _ _ outs e)) (omega arith)
-short Divided outs e = subst (IsShort Divided) (sym (double _ _ outs e)) (omega arith)
-
-pub record IsWordFirst (g : Graph) (outs : List OutRow) (b : WordBody) : Type 0 where
-  pub first : IsFirst g outs (sequence_for b)
-  pub short : length (known_at (sequence_for b)) ≤ plain_length g outs
-
-pub word_first : (g : Graph) (outs : List OutRow) (b : WordBody) → g ≡ graph_in b → FitBody g outs
-    → map (λ o. o.lit) outs ≡ outs_in b → WritesLate outs (known_at (sequence_for b))
-    → IsWordFirst g outs b
-word_first g outs b e fit l late = subst (λ h. IsWordFirst h outs b) (sym e) record {
-  first = have_first b outs (subst (λ h. FitBody h outs) e fit) l late;
-  short = short b outs l;
-}
 
 -- what stands first in one command and second in an earlier one, where f says of an output and an
 -- input that they may
@@ -416,27 +346,28 @@ but_one i l outs cs kept h = record {
       ∙ ap Some (eqb-true k l t.1))) cs h;
 }
 
--- the sequence reads no input whose row it has written
-abbrev pub KeepsInputs : WordBody → List OutRow → Type 0
-KeepsInputs Shifted outs = (out_at outs 0).same ≡ Some 0 → ⊥
-KeepsInputs Multiplied outs = (out_at outs 1).same ≡ Some 0 → ⊥
-KeepsInputs b outs = Unit {0}
-
 -- the known sequence of a body writes each output after it has read what stood there
-pub word_late : (b : WordBody) (outs : List OutRow) → KeepsInputs b outs
-    → WritesLate outs (known_at (sequence_for b))
-word_late Inverted outs h = never outs (known_at 0) refl
-word_late Shifted outs h = but_one 0 0 outs (known_at 1) h refl
-word_late Both outs h = never outs (known_at 2) refl
-word_late Either outs h = never outs (known_at 3) refl
-word_late Without outs h = never outs (known_at 4) refl
-word_late Unlike outs h = never outs (known_at 9) refl
-word_late Chosen outs h = never outs (known_at 11) refl
-word_late Compared outs h = never outs (known_at 5) refl
-word_late Agreed outs h = never outs (known_at 12) refl
-word_late Added outs h = never outs (known_at 20) refl
-word_late Lessened outs h = never outs (known_at 15) refl
-word_late NegatedIf outs h = never outs (known_at 21) refl
-word_late Multiplied outs h = but_one 1 0 outs (known_at 23) h refl
-word_late Counted outs h = never outs (known_at 16) refl
-word_late Divided outs h = never outs (known_at 22) refl
+word_late : (b : WordBody) (outs : List OutRow) → WritesLate outs (known_at (sequence_for b))
+word_late Inverted outs = never outs (known_at 0) refl
+word_late Both outs = never outs (known_at 2) refl
+word_late Either outs = never outs (known_at 3) refl
+word_late Without outs = never outs (known_at 4) refl
+word_late Unlike outs = never outs (known_at 9) refl
+word_late Chosen outs = never outs (known_at 11) refl
+word_late Added outs = never outs (known_at 20) refl
+word_late Counted outs = never outs (known_at 16) refl
+
+pub words_first : (b : WordBody) (outs : List OutRow) → FitBody (graph_in b) outs
+    → map (λ o. o.lit) outs ≡ outs_in b → IsFirst (graph_in b) outs (sequence_for b)
+words_first b outs fit l = have_first b outs fit l (word_late b outs)
+
+pub record IsWordFirst (g : Graph) (outs : List OutRow) (b : WordBody) : Type 0 where
+  pub first : IsFirst g outs (sequence_for b)
+  pub short : length (known_at (sequence_for b)) ≤ plain_length g outs
+
+pub word_first : (g : Graph) (outs : List OutRow) (b : WordBody) → g ≡ graph_in b → FitBody g outs
+    → map (λ o. o.lit) outs ≡ outs_in b → IsWordFirst g outs b
+word_first g outs b e fit l = subst (λ h. IsWordFirst h outs b) (sym e) record {
+  first = words_first b outs (subst (λ h. FitBody h outs) e fit) l;
+  short = short b outs l;
+}

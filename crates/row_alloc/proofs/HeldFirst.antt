@@ -23,12 +23,14 @@ use Rattle.row_alloc.specs.HeldBodies.{ServesHeld, IsFirstHeld, held_sequences, 
 use Rattle.row_alloc.specs.HeldBodies.{ZeroInT0, OneInT0, ZeroInT1, OneInT1, OnesInT2AndT3}
 use Rattle.row_alloc.specs.HeldBodies.{ZeroInT3AndDcc1, ZeroInTurnedT3AndDcc1}
 use Rattle.row_alloc.specs.HeldBodies.{HeldCompared, HeldOrdered}
-use Rattle.row_alloc.specs.HeldBodies.{BothInT2, EitherInT2, MajorityInT1, KeptForPair, PairUnlike}
+use Rattle.row_alloc.specs.HeldBodies.{BothInT2, EitherInT2, MajorityInT3, MajorityInT1, MajorityFromT3}
+use Rattle.row_alloc.specs.HeldBodies.{KeptForPair, PairUnlike}
 use Rattle.row_alloc.specs.HeldBodies.{BothAtLast, EitherAtLast, MajorityAtLast, PairUnlikeAtLast}
 use Rattle.row_alloc.specs.HeldBodies.{UnlikeAtLast, NotInT1AndDcc0, BothFromT1, MajorityFromDcc0}
 use Rattle.row_alloc.specs.HeldBodies.{HeldLessened, HeldNegatedIf, HeldMultiplied, HeldDivided}
 use Rattle.row_alloc.specs.HeldBodies.{HeldAgreed, held_graph, held_outs, enter_in, leave_in}
-use Rattle.row_alloc.specs.HeldBodies.{held_sequence_for}
+use Rattle.row_alloc.specs.HeldBodies.{held_sequence_for, ReadTurned, WrittenTurned, HeldCounted}
+use Rattle.row_alloc.specs.HeldBodies.{HeldMoved}
 use Rattle.row_alloc.proofs.Booleans.{and-both}
 use Rattle.row_alloc.proofs.First.{out, is_literal, is-literal, literal-is, in_all, in_one, single}
 
@@ -258,6 +260,7 @@ have_first HeldDivided = one HeldDivided _ nowhere refl refl (omega arith) (λ o
 have_first HeldAgreed = one HeldAgreed _ nowhere refl refl (omega arith) (λ outs late. refl)
 have_first BothInT2 = none BothInT2 refl refl (omega arith)
 have_first EitherInT2 = none EitherInT2 refl refl (omega arith)
+have_first MajorityInT3 = none MajorityInT3 refl refl (omega arith)
 have_first MajorityInT1 = none MajorityInT1 refl refl (omega arith)
 have_first KeptForPair = none KeptForPair refl refl (omega arith)
 have_first PairUnlike = none PairUnlike refl refl (omega arith)
@@ -267,6 +270,8 @@ have_first EitherAtLast = one EitherAtLast _ nowhere refl refl (omega arith)
     (λ outs late. refl)
 have_first MajorityAtLast = one MajorityAtLast _ nowhere refl refl (omega arith)
     (λ outs late. refl)
+have_first MajorityFromT3 = one MajorityFromT3 _ nowhere refl refl (omega arith)
+    (λ outs late. refl)
 have_first PairUnlikeAtLast = one PairUnlikeAtLast _ nowhere refl refl (omega arith)
     (λ outs late. refl)
 have_first UnlikeAtLast = one UnlikeAtLast _ nowhere refl refl (omega arith) (λ outs late. refl)
@@ -274,6 +279,10 @@ have_first NotInT1AndDcc0 = none NotInT1AndDcc0 refl refl (omega arith)
 have_first BothFromT1 = one BothFromT1 _ nowhere refl refl (omega arith) (λ outs late. refl)
 have_first MajorityFromDcc0 = one MajorityFromDcc0 _ nowhere refl refl (omega arith)
     (λ outs late. refl)
+have_first ReadTurned = none ReadTurned refl refl (omega arith)
+have_first WrittenTurned = one WrittenTurned _ nowhere refl refl (omega arith) (λ outs late. refl)
+have_first HeldCounted = one HeldCounted _ nowhere refl refl (omega arith) (λ outs late. refl)
+have_first HeldMoved = one HeldMoved _ nowhere refl refl (omega arith) (λ outs late. refl)
 
 pub held_first : (g : Graph) (outs : List OutRow) (enter leave : List Held) (b : HeldBody)
     → g ≡ held_graph b → FitBody g outs → map (λ o. o.lit) outs ≡ held_outs b → enter ≡ enter_in b

@@ -67,48 +67,32 @@ add_graph = record {
       ∷ node_of (plain 3) (complemented 4) (plain 5) ∷ [];
 }
 
--- The bodies of the word operations: the complement, a shift by one, and, or, and-not, exclusive
--- or, choice, a comparison's step, agreement, addition, subtraction, the step of abs, and the inner
--- bodies of mul, bitcount and div
+-- The bodies of the word operations that hold no state in cells and are no copies: the complement,
+-- and, or, and-not, exclusive or, choice, addition, and the inner body of bitcount
 pub data WordBody : Type 0 where
   Inverted : WordBody
-  Shifted : WordBody
   Both : WordBody
   Either : WordBody
   Without : WordBody
   Unlike : WordBody
   Chosen : WordBody
-  Compared : WordBody
-  Agreed : WordBody
   Added : WordBody
-  Lessened : WordBody
-  NegatedIf : WordBody
-  Multiplied : WordBody
   Counted : WordBody
-  Divided : WordBody
 
 -- how many inputs the graph of a body has
 abbrev pub inputs_in : WordBody → ℕ
 inputs_in Inverted = 1
-inputs_in Shifted = 2
 inputs_in Both = 2
 inputs_in Either = 2
 inputs_in Without = 2
 inputs_in Unlike = 2
 inputs_in Chosen = 3
-inputs_in Compared = 3
-inputs_in Agreed = 3
 inputs_in Added = 3
-inputs_in Lessened = 3
-inputs_in NegatedIf = 3
-inputs_in Multiplied = 4
 inputs_in Counted = 2
-inputs_in Divided = 4
 
 -- the nodes of a body's graph
 abbrev pub nodes_in : WordBody → List Node
 nodes_in Inverted = []
-nodes_in Shifted = []
 nodes_in Both = and_graph.nodes
 nodes_in Either = or_graph.nodes
 nodes_in Without = node_of (plain 0) (plain 1) (complemented 2) ∷ []
@@ -116,28 +100,10 @@ nodes_in Unlike = xor_graph.nodes
 nodes_in Chosen = node_of (plain 0) (plain 1) (plain 3)
     ∷ node_of (plain 2) (complemented 3) (plain 4)
     ∷ node_of (complemented 0) (plain 4) (plain 5) ∷ []
-nodes_in Compared = node_of (plain 1) (complemented 2) (plain 3) ∷ []
-nodes_in Agreed = node_of (complemented 0) (plain 1) (plain 2)
-    ∷ node_of (plain 1) (plain 2) (complemented 3)
-    ∷ node_of (plain 3) (complemented 4) (plain 5) ∷ []
 nodes_in Added = add_graph.nodes
-nodes_in Lessened = node_of (complemented 1) (plain 2) (plain 3)
-    ∷ node_of (plain 1) (complemented 2) (plain 3)
-    ∷ node_of (complemented 3) (plain 4) (plain 5) ∷ []
-nodes_in NegatedIf = node_of (plain 0) (complemented 1) (plain 3)
-    ∷ node_of (complemented 0) (plain 1) (plain 4)
-    ∷ node_of (plain 2) (plain 3) (plain 5) ∷ node_of (complemented 3) (plain 4) (plain 5) ∷ []
-nodes_in Multiplied = node_of (plain 0) (plain 2) (plain 3)
-    ∷ node_of (complemented 1) (plain 4) (plain 5)
-    ∷ node_of (plain 4) (plain 5) (complemented 6) ∷ node_of (plain 1) (plain 6) (complemented 7)
-    ∷ []
 nodes_in Counted = node_of (complemented 0) (complemented 1) (plain 2)
     ∷ node_of (plain 0) (plain 1) (plain 2)
     ∷ node_of (complemented 2) (plain 3) (plain 4) ∷ []
-nodes_in Divided = node_of (plain 0) (plain 2) (plain 3)
-    ∷ node_of (complemented 1) (plain 4) (plain 5)
-    ∷ node_of (plain 1) (plain 4) (complemented 5) ∷ node_of (complemented 4) (plain 6) (plain 7)
-    ∷ []
 
 -- the graph of a body
 abbrev pub graph_in : WordBody → Graph
@@ -146,35 +112,21 @@ graph_in b = record { inputs = inputs_in b; nodes = nodes_in b }
 -- the literals of its outputs
 abbrev pub outs_in : WordBody → List Lit
 outs_in Inverted = complemented 1 ∷ []
-outs_in Shifted = plain 2 ∷ plain 1 ∷ []
 outs_in Both = plain 3 ∷ []
 outs_in Either = plain 3 ∷ []
 outs_in Without = plain 3 ∷ []
 outs_in Unlike = plain 5 ∷ []
 outs_in Chosen = plain 6 ∷ []
-outs_in Compared = plain 4 ∷ []
-outs_in Agreed = plain 6 ∷ []
 outs_in Added = plain 6 ∷ plain 4 ∷ []
-outs_in Lessened = plain 6 ∷ plain 4 ∷ []
-outs_in NegatedIf = plain 7 ∷ plain 6 ∷ []
-outs_in Multiplied = plain 8 ∷ plain 7 ∷ []
 outs_in Counted = plain 5 ∷ plain 3 ∷ []
-outs_in Divided = plain 8 ∷ plain 6 ∷ []
 
 -- the number of its sequence in the table
 abbrev pub sequence_for : WordBody → ℕ
 sequence_for Inverted = 0
-sequence_for Shifted = 1
 sequence_for Both = 2
 sequence_for Either = 3
 sequence_for Without = 4
-sequence_for Compared = 5
 sequence_for Unlike = 9
 sequence_for Chosen = 11
-sequence_for Agreed = 12
-sequence_for Lessened = 15
 sequence_for Counted = 16
 sequence_for Added = 20
-sequence_for NegatedIf = 21
-sequence_for Divided = 22
-sequence_for Multiplied = 23

@@ -171,8 +171,7 @@ pub fn greedy_body(m: &Mig, outs: &[OutRow], alloc: Global) -> Result<Vec<BodyCm
         ≡ Aap (source_of m.now.inputs (out_at outs.now 0).lit) (Out 0) ∷ []) }
     // A body of the word operations takes its own sequence.
     ensures word { IfOk result (λ cmds. (b : WordBody) → m.now ≡ graph_in b
-        → map (λ o. o.lit) outs.now ≡ outs_in b → WritesLate outs.now (known_at (sequence_for b))
-        → cmds.items ≡ known_at (sequence_for b)) }
+        → map (λ o. o.lit) outs.now ≡ outs_in b → cmds.items ≡ known_at (sequence_for b)) }
 {
     let plain = plain_body(m, outs, alloc)?;
     if plain.len() <= 1 {

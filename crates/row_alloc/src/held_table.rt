@@ -20,13 +20,13 @@ use mig_graph::Mig;
 
 /// All of them: of the bodies that a loop has alone the shorter ones first, and then those that
 /// stand in it by turns.
-pub static HELD: [&[BodyCmd]; 24] = [
+pub static HELD: [&[BodyCmd]; 30] = [
     // 0 in T0, T3 and DCC1
     &[Aap(C(0), B(15))],
     // 1 in T0, T3 and DCC1
     &[Aap(C(1), B(15))],
-    // 0 in DCC0, T1 and T2
-    &[Aap(C(0), B(14))],
+    // a, and no cell is touched
+    &[Aap(In(0), Out(0))],
     // 1 in T1, T2 and T3
     &[Aap(C(1), B(13))],
     // T2 and T3
@@ -97,10 +97,10 @@ pub static HELD: [&[BodyCmd]; 24] = [
     // the majority of a, T2 and T3
     &[Aap(In(0), B(1)), Ap(B(13))],
     &[Aap(In(0), B(1)), Aap(B(13), Out(0))],
-    // a and T1, and 0 in T3
-    &[Aap(C(0), B(10)), Aap(In(0), B(0)), Ap(B(12))],
-    // a or T1, and 1 in T3
-    &[Aap(C(1), B(10)), Aap(In(0), B(0)), Ap(B(12))],
+    // a and T1, and 0 in T3 and DCC1
+    &[Aap(C(0), B(15)), Aap(In(0), B(2)), Ap(B(12))],
+    // a or T1, and 1 in T3 and DCC1
+    &[Aap(C(1), B(15)), Aap(In(0), B(2)), Ap(B(12))],
     // a xor T0 xor T3, whose complements stand in DCC0 and T2
     &[
         Aap(In(0), B(9)),
@@ -120,6 +120,24 @@ pub static HELD: [&[BodyCmd]; 24] = [
     &[Aap(C(0), B(11)), Aap(In(0), B(2)), Aap(B(12), Out(0))],
     // the majority of a, DCC0 and T3, and DCC0 in T1 too
     &[Aap(In(0), B(6)), Aap(B(4), B(12)), Aap(B(15), Out(0))],
+    // a, whose complement stands in T3 and DCC1
+    &[Aap(In(0), B(7)), Aap(B(6), B(3))],
+    // what has its complement in T3 and DCC1
+    &[Aap(B(7), Out(0))],
+    // a and b and a sum whose complement stands in T3 and DCC1, with a carry in a row
+    &[
+        Aap(In(0), B(8)),
+        Aap(B(7), B(2)),
+        Aap(In(1), B(9)),
+        Aap(B(12), Out(0)),
+        Aap(B(15), B(1)),
+        Aap(B(14), B(15)),
+    ],
+    // 0 in DCC0, T1 and T2
+    &[Aap(C(0), B(14))],
+    // the majority of a, T3 and DCC1
+    &[Aap(In(0), B(0)), Aap(B(15), B(1))],
+    &[Aap(In(0), B(0)), Aap(B(15), Out(0))],
 ];
 
 /// Whether the commands may stand for the body with its states in these cells.

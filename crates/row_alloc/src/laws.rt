@@ -61,14 +61,14 @@ pub fn fixed_sequences_serve()
 {}
 
 /// Each body of the word operations has a known sequence that is the first to serve it, in
-/// whichever inputs' rows the outputs stand, as long as the sequence writes them late there.
+/// whichever inputs' rows the outputs stand.
 pub fn word_bodies_have_sequences()
     ensures { (b : WordBody) (outs : List OutRow) → FitBody (graph_in b) outs
-        → map (λ o. o.lit) outs ≡ outs_in b → WritesLate outs (known_at (sequence_for b))
-        → IsFirst (graph_in b) outs (sequence_for b) }
+        → map (λ o. o.lit) outs ≡ outs_in b → IsFirst (graph_in b) outs (sequence_for b) }
 {}
 
-/// As `word_bodies_have_sequences`, of the bodies with states in cells.
+/// As `word_bodies_have_sequences`, of the bodies with states in cells, as long as the sequence
+/// writes the outputs late where they stand.
 pub fn held_bodies_have_sequences()
     ensures { (b : HeldBody) (outs : List OutRow) → FitBody (held_graph b) outs
         → map (λ o. o.lit) outs ≡ held_outs b → WritesLate outs (held_at (held_sequence_for b))

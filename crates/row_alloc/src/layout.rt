@@ -49,8 +49,10 @@ static T3_NOT_T2: [Line; 2] = [straight!(Cell::T(3)), turned!(Cell::T(2))];
 
 static DCC0: [Line; 1] = [straight!(Cell::Dcc(0))];
 
+static DCC1: [Line; 1] = [straight!(Cell::Dcc(1))];
+
 /// How many layouts there are.
-pub const LAYOUT_COUNT: u8 = 12;
+pub const LAYOUT_COUNT: u8 = 13;
 
 /// The wordlines that read a state in the layout of this number.
 pub fn layout(k: u8) -> &'static [Line]
@@ -70,6 +72,7 @@ pub fn layout(k: u8) -> &'static [Line]
         8 => &T0_T1,
         9 => &T0_NOT_DCC0,
         10 => &T3_NOT_T2,
-        _ => &DCC0,
+        11 => &DCC0,
+        _ => &DCC1,
     }
 }

@@ -4,7 +4,6 @@ use Rattle.std.specs.Prelude.{◌≡◌, ◌≤◌, true, false, [], ◌∷◌, 
 use Rattle.mig_graph.specs.Graph.{IsGraph}
 use Rattle.row_alloc.specs.declared.body.BodyRef.{BodyRef}
 use Rattle.row_alloc.specs.declared.body.BodyCmd.TheVariants.{Aap}
-use Rattle.row_alloc.specs.Body.{WritesLate}
 use Rattle.row_alloc.specs.Held.{DoesHeld}
 use Rattle.row_alloc.specs.Known.{WordBody, graph_in, outs_in, sequence_for, known_at}
 use Rattle.row_alloc.specs.HeldBodies.{HeldBody, held_at, held_sequence_for}
@@ -34,5 +33,4 @@ pub record IsPart (p : Part) : Type 0 where
       → (x : BodyRef) × (y : BodyRef) × (p.cmds ≡ Aap x y ∷ [])
   pub word : carries p.block ≡ false → has_states p.block ≡ false → (w : WordBody)
       → p.block.graph ≡ graph_in w → p.block.outs ≡ outs_in w
-      → WritesLate p.outs (known_at (sequence_for w))
       → p.cmds ≡ known_at (sequence_for w)

@@ -1,19 +1,17 @@
 -- Bodies whose commands are settled: those that carry them, those with states in cells, copies, and
 -- the bodies of the word operations.
 -- Only the compiler's own calls on one op speak of this.
-use Rattle.std.specs.Prelude.{◌≡◌, ℕ, ◌+◌, Bool, true, false, if◌then◌else◌, List, [], ◌∷◌, sum_by}
-use Rattle.std.specs.Prelude.{count_by, Option, Some, None}
+use Rattle.std.specs.Prelude.{◌≡◌, ℕ, ◌+◌, Bool, true, false, ◌||◌, if◌then◌else◌, List, [], ◌∷◌}
+use Rattle.std.specs.Prelude.{sum_by, count_by, Option, Some, None}
 use Rattle.uprog_code.specs.declared.walker.Counts.{Counts}
 use Rattle.row_alloc.specs.declared.body.BodyCmd.{BodyCmd}
 use Rattle.row_alloc.specs.declared.body.BodyCmd.TheVariants.{Aap, Ap}
-use Rattle.row_alloc.specs.Known.{known_at, WordBody, Inverted, Shifted, Both, Either, Without}
-use Rattle.row_alloc.specs.Known.{Unlike, Chosen, Compared, Agreed, Added, Lessened, NegatedIf}
-use Rattle.row_alloc.specs.Known.{Multiplied, Counted, Divided, inputs_in, nodes_in, outs_in}
+use Rattle.row_alloc.specs.Known.{known_at, WordBody, Inverted, Both, Either, Without, Unlike}
+use Rattle.row_alloc.specs.Known.{Chosen, Added, Counted, inputs_in, nodes_in, outs_in}
 use Rattle.row_alloc.specs.Known.{sequence_for}
 use Rattle.row_alloc.specs.HeldBodies.{HeldBody, held_at, held_sequence_for}
 use Rattle.loop_ir.specs.Plain.{Block}
 use Rattle.loop_ir.specs.Loops.{RoundOf}
-use Rattle.loop_ir.specs.Spots.{nth_place}
 use Rattle.loop_ir.specs.Same.{is_body}
 use Rattle.loop_ir.specs.States.{has_states, held_of}
 use Rattle.loop_ir.specs.Costs.{carries, is_copy}
@@ -39,8 +37,8 @@ word_among (w ∷ ws) b = if is_word_body w b then Some w else word_among ws b
 
 -- which body of the word operations it is
 abbrev pub word_of : Block → Option WordBody
-word_of b = word_among (Inverted ∷ Shifted ∷ Both ∷ Either ∷ Without ∷ Unlike ∷ Chosen ∷ Compared
-    ∷ Agreed ∷ Added ∷ Lessened ∷ NegatedIf ∷ Multiplied ∷ Counted ∷ Divided ∷ []) b
+word_of b = word_among (Inverted ∷ Both ∷ Either ∷ Without ∷ Unlike ∷ Chosen ∷ Added ∷ Counted
+    ∷ []) b
 
 -- the known sequence of a body of the word operations
 abbrev pub word_commands : Option WordBody → List BodyCmd
@@ -66,28 +64,18 @@ turn_aaps b = turn_count is_aap 1 b
 abbrev pub turn_aps : Block → ℕ
 turn_aps b = turn_count is_ap 0 b
 
--- its sequence writes in the row of no input that it has still to read
-abbrev pub KeepsReads : WordBody → Block → Type 0
-KeepsReads Shifted b = nth_place b.reads 0 ≡ nth_place b.writes 0 → ⊥
-KeepsReads Multiplied b = nth_place b.reads 0 ≡ nth_place b.writes 1 → ⊥
-KeepsReads w b = Unit {0}
+-- there is such a body
+abbrev pub is_known : Option WordBody → Bool
+is_known None = false
+is_known (Some w) = true
 
--- the commands of a body that carries none are settled: it has states, or is a copy, or has a known
--- sequence that keeps its reads
-abbrev pub IsSettledAs : Bool → Bool → Option WordBody → Block → Type 0
-IsSettledAs true copy o b = Unit {0}
-IsSettledAs false true o b = Unit {0}
-IsSettledAs false false None b = ⊥
-IsSettledAs false false (Some w) b = KeepsReads w b
+-- the body carries its commands, has states, is a copy or is one of the word operations
+abbrev pub is_settled : Block → Bool
+is_settled b = carries b || (has_states b || (is_copy b || is_known (word_of b)))
 
--- the body carries commands, or they are settled as it is
-abbrev pub IsSettledOr : Bool → Block → Type 0
-IsSettledOr true b = Unit {0}
-IsSettledOr false b = IsSettledAs (has_states b) (is_copy b) (word_of b) b
-
--- so they are
+-- so its commands are settled
 abbrev pub IsSettled : Block → Type 0
-IsSettled b = IsSettledOr (carries b) b
+IsSettled b = is_settled b ≡ true
 
 -- the commands of all rounds
 abbrev pub rounds_counts : List (RoundOf Block) → Counts

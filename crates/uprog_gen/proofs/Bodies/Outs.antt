@@ -180,7 +180,7 @@ pub is_part : (b : Block) (plan : Plan) (outs : List OutRow) (cmds : List BodyCm
     → (length b.graph.nodes ≡ 0 → length outs ≡ 1 → is_complemented (out_at outs 0).lit ≡ false
     → cmds ≡ Aap (source_of b.graph.inputs (out_at outs 0).lit) (Out 0) ∷ [])
     → ((w : WordBody) → b.graph ≡ graph_in w → map (λ o. o.lit) outs ≡ outs_in w
-    → WritesLate outs (known_at (sequence_for w)) → cmds ≡ known_at (sequence_for w))
+    → cmds ≡ known_at (sequence_for w))
     → IsPart (record { block = b; plan = plan; outs = outs; cmds = cmds })
 is_part b plan outs cmds small bare none e is does few one least copy word =
     let rows = have_rows b none in
@@ -206,7 +206,7 @@ is_part b plan outs cmds small bare none e is does few one least copy word =
         Out 0,
         copy h.0 h.1 h.2,
       );
-      word = λ bare' n w g o late. word w g (lits_of b.outs outs all.size all.lits ∙ o) late;
+      word = λ bare' n w g o. word w g (lits_of b.outs outs all.size all.lits ∙ o);
     }
 
 -- and of one with states
@@ -229,7 +229,7 @@ is_held_part b plan outs cmds small bare states e is does own = record {
   found = λ carried. absurd (let f : true ≡ false = sym carried ∙ bare in cc);
   held = λ bare' s. own;
   copy = λ bare' none c. absurd (let f : true ≡ false = sym states ∙ none in cc);
-  word = λ bare' none w g o late. absurd (let f : true ≡ false = sym states ∙ none in cc);
+  word = λ bare' none w g o. absurd (let f : true ≡ false = sym states ∙ none in cc);
 }
 
 -- and of one that carries its commands

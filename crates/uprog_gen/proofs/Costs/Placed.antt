@@ -2,117 +2,54 @@
 -- are settled.
 use Rattle.std.proofs.Common.{◌≡◌, ℕ, Bool, true, false, not, cond, List, [], ◌∷◌, map, refl, ap}
 use Rattle.std.proofs.Common.{◌∙◌, Option, Some, None}
-use Rattle.std.specs.Prelude.{◌&&◌, count_by}
+use Rattle.std.specs.Prelude.{◌&&◌, ◌||◌, count_by}
 use Rattle.std.proofs.lemmas.Bool.{and_parts}
 use Rattle.row_alloc.specs.declared.body.BodyCmd.{BodyCmd}
-use Rattle.row_alloc.specs.Known.{WordBody, Inverted, Shifted, Multiplied}
-use Rattle.loop_ir.specs.declared.ir.Place.{Place}
 use Rattle.loop_ir.specs.Plain.{Block, InnerOf, StepOf, inner_map, turns_map, AllInner, AllParts}
 use Rattle.loop_ir.specs.Plain.{all_turns}
 use Rattle.loop_ir.specs.Plain.InnerOf.{Alone, Across}
 use Rattle.loop_ir.specs.Plain.StepOf.{Single, Along, Nest, Pairs, Alternate}
 use Rattle.loop_ir.specs.Loops.{all_rounds}
-use Rattle.loop_ir.specs.Spots.{nth_place}
 use Rattle.loop_ir.specs.States.{has_states, held_of}
-use Rattle.loop_ir.specs.Costs.{same_sub, is_copy}
+use Rattle.loop_ir.specs.Costs.{is_copy}
 use Rattle.loop_laws.specs.Rooms.{Room, Marked, placed, placed_body, placed_steps}
 use Rattle.loop_laws.proofs.Alike.{HaveRows, has_like, held_like, sub_like, rounds_like}
 use Rattle.loop_laws.proofs.Summed.{rounds_sum}
 use Rattle.loop_laws.proofs.TakingTurns.{turns_all}
 use Rattle.uprog_gen.specs.Settled.{word_of, word_commands, held_commands, turn_count, is_aap}
-use Rattle.uprog_gen.specs.Settled.{is_ap, turn_aaps, turn_aps, IsSettledAs, IsSettled}
-use Rattle.uprog_gen.proofs.Bodies.Held.{not_same}
-use Rattle.uprog_gen.proofs.Bodies.Planned.{same_self}
-
--- the test that a body's sequence keeps its reads, on subscripts
-abbrev keeps_subs : WordBody → Block → Bool
-keeps_subs Shifted b = not (same_sub (nth_place b.reads 0).sub (nth_place b.writes 0).sub)
-keeps_subs Multiplied b = not (same_sub (nth_place b.reads 0).sub (nth_place b.writes 1).sub)
-keeps_subs w b = true
-
-abbrev settles_as : Bool → Bool → Option WordBody → Block → Bool
-settles_as true copy o b = true
-settles_as false true o b = true
-settles_as false false None b = false
-settles_as false false (Some w) b = keeps_subs w b
-
--- the commands of the body are settled, as a test
-abbrev settles : Block → Bool
-settles b = settles_as (has_states b) (is_copy b) (word_of b) b
+use Rattle.uprog_gen.specs.Settled.{is_ap, turn_aaps, turn_aps, is_known, is_settled, IsSettled}
 
 abbrev inners_settle : List (InnerOf Block) → Bool
 inners_settle [] = true
-inners_settle (Alone b ∷ ps) = settles b && inners_settle ps
-inners_settle (Across c b ∷ ps) = settles b && inners_settle ps
+inners_settle (Alone b ∷ ps) = is_settled b && inners_settle ps
+inners_settle (Across c b ∷ ps) = is_settled b && inners_settle ps
 
 -- and those of every body of a loop program
 abbrev pub steps_settle : List (StepOf Block) → Bool
 steps_settle [] = true
-steps_settle (Single b ∷ ss) = settles b && steps_settle ss
-steps_settle (Along b ∷ ss) = settles b && steps_settle ss
+steps_settle (Single b ∷ ss) = is_settled b && steps_settle ss
+steps_settle (Along b ∷ ss) = is_settled b && steps_settle ss
 steps_settle (Nest ps ∷ ss) = inners_settle ps && steps_settle ss
-steps_settle (Pairs b ∷ ss) = settles b && steps_settle ss
-steps_settle (Alternate t ∷ ss) = all_turns settles t && steps_settle ss
-
-settled_by : (x c : Bool) (o : Option WordBody) (b : Block) → settles_as x c o b ≡ true
-    → IsSettledAs x c o b
-settled_by true c o b h = tt
-settled_by false true o b h = tt
-settled_by false false None b h = absurd (cc)
-settled_by false false (Some Shifted) b h = λ e.
-    not_same (same_sub (nth_place b.reads 0).sub (nth_place b.writes 0).sub) h
-    (ap (λ (p : Place). same_sub p.sub (nth_place b.writes 0).sub) e
-    ∙ same_self (nth_place b.writes 0).sub)
-settled_by false false (Some Multiplied) b h = λ e.
-    not_same (same_sub (nth_place b.reads 0).sub (nth_place b.writes 1).sub) h
-    (ap (λ (p : Place). same_sub p.sub (nth_place b.writes 1).sub) e
-    ∙ same_self (nth_place b.writes 1).sub)
-settled_by false false (Some Inverted) b h = tt
-settled_by false false (Some w) b h = tt
+steps_settle (Pairs b ∷ ss) = is_settled b && steps_settle ss
+steps_settle (Alternate t ∷ ss) = all_turns is_settled t && steps_settle ss
 
 module _ (rooms : List Room) (rows : HaveRows rooms) where
-  subs_like : (b : Marked) (j k : ℕ) → not (same_sub
-      (nth_place (map (placed rooms) b.reads) j).sub (nth_place (map (placed rooms) b.writes) k).sub)
-      ≡ not (same_sub (nth_place (map (placed []) b.reads) j).sub
-      (nth_place (map (placed []) b.writes) k).sub)
-  subs_like b j k =
-      ap (λ s. not (same_sub s (nth_place (map (placed rooms) b.writes) k).sub))
-      (sub_like rooms b.reads j)
-      ∙ ap (λ s. not (same_sub (nth_place (map (placed []) b.reads) j).sub s))
-      (sub_like rooms b.writes k)
-
-  keeps_like : (w : WordBody) (b : Marked) → keeps_subs w (placed_body rooms b)
-      ≡ keeps_subs w (placed_body [] b)
-  keeps_like Shifted b = subs_like b 0 0
-  keeps_like Multiplied b = subs_like b 0 1
-  keeps_like Inverted b = refl
-  keeps_like w b = refl
-
-  as_like : (x c : Bool) (o : Option WordBody) (b : Marked)
-      → settles_as x c o (placed_body rooms b) ≡ settles_as x c o (placed_body [] b)
-  as_like true c o b = refl
-  as_like false true o b = refl
-  as_like false false None b = refl
-  as_like false false (Some w) b = keeps_like w b
-
-  settled_placed : (b : Marked) → settles (placed_body [] b) ≡ true
+  settled_placed : (b : Marked) → is_settled (placed_body [] b) ≡ true
       → IsSettled (placed_body rooms b)
   settled_placed b h =
-      let c = placed_body rooms b in
-      settled_by (has_states c) (is_copy c) (word_of c) c
-      (ap (λ x. settles_as x (is_copy c) (word_of c) c) (has_like rooms rows b)
-      ∙ as_like (has_states (placed_body [] b)) (is_copy c) (word_of c) b ∙ h)
+      let c = placed_body [] b in
+      ap (λ x. x || (is_copy c || is_known (word_of c))) (has_like rooms rows b) ∙ h
 
   inners_settled : (ps : List (InnerOf Marked))
       → inners_settle (map (inner_map (placed_body [])) ps) ≡ true
       → AllInner IsSettled (map (inner_map (placed_body rooms)) ps)
   inners_settled [] h = tt
   inners_settled (Alone b ∷ ps) h =
-      let p = and_parts (settles (placed_body [] b))
+      let p = and_parts (is_settled (placed_body [] b))
       (inners_settle (map (inner_map (placed_body [])) ps)) h in
       (settled_placed b p.0, inners_settled ps p.1)
   inners_settled (Across c b ∷ ps) h =
-      let p = and_parts (settles (placed_body [] b))
+      let p = and_parts (is_settled (placed_body [] b))
       (inners_settle (map (inner_map (placed_body [])) ps)) h in
       (settled_placed b p.0, inners_settled ps p.1)
 
@@ -120,18 +57,18 @@ module _ (rooms : List Room) (rows : HaveRows rooms) where
       → AllParts IsSettled (placed_steps rooms ss)
   settled_steps [] h = tt
   settled_steps (Single b ∷ ss) h =
-      let p = and_parts (settles (placed_body [] b)) (steps_settle (placed_steps [] ss)) h in
+      let p = and_parts (is_settled (placed_body [] b)) (steps_settle (placed_steps [] ss)) h in
       (settled_placed b p.0, settled_steps ss p.1)
   settled_steps (Along b ∷ ss) h =
-      let p = and_parts (settles (placed_body [] b)) (steps_settle (placed_steps [] ss)) h in
+      let p = and_parts (is_settled (placed_body [] b)) (steps_settle (placed_steps [] ss)) h in
       (settled_placed b p.0, settled_steps ss p.1)
   settled_steps (Pairs b ∷ ss) h =
-      let p = and_parts (settles (placed_body [] b)) (steps_settle (placed_steps [] ss)) h in
+      let p = and_parts (is_settled (placed_body [] b)) (steps_settle (placed_steps [] ss)) h in
       (settled_placed b p.0, settled_steps ss p.1)
   settled_steps (Alternate t ∷ ss) h =
-      let p = and_parts (all_turns settles (turns_map (placed_body []) t))
+      let p = and_parts (all_turns is_settled (turns_map (placed_body []) t))
       (steps_settle (placed_steps [] ss)) h in (
-        turns_all (λ b. settles (placed_body [] b)) (λ b. IsSettled (placed_body rooms b))
+        turns_all (λ b. is_settled (placed_body [] b)) (λ b. IsSettled (placed_body rooms b))
             settled_placed t p.0,
         settled_steps ss p.1,
       )

@@ -2,7 +2,7 @@
 use Rattle.std.proofs.Common.{◌≡◌, ℕ, zero, suc, ◌+◌, ◌<◌, Bool, true, false, cond, List, [], ◌∷◌}
 use Rattle.std.proofs.Common.{map, length, refl, sym, ap, ◌∙◌, subst, arith, Option, Some}
 use Rattle.std.proofs.Common.{None}
-use Rattle.std.specs.Prelude.{count_by, sum_by}
+use Rattle.std.specs.Prelude.{◌||◌, count_by, sum_by}
 use Rattle.std.specs.List.{AllByRecursion}
 use Rattle.std.proofs.lemmas.List.Sums.{sum_by-cons, sum_by-append}
 use Rattle.uprog_code.specs.Machine.{Issue}
@@ -12,10 +12,8 @@ use Rattle.row_alloc.specs.declared.body.BodyCmd.{BodyCmd}
 use Rattle.row_alloc.specs.declared.body.BodyCmd.TheVariants.{Aap, Ap}
 use Rattle.row_alloc.specs.declared.body.OutRow.{OutRow}
 use Rattle.row_alloc.specs.Rows.{out_at}
-use Rattle.row_alloc.specs.Known.{WordBody, Inverted, Shifted, Both, Either, Without}
-use Rattle.row_alloc.specs.Known.{Unlike, Chosen, Compared, Agreed, Added, Lessened, NegatedIf}
-use Rattle.row_alloc.specs.Known.{Multiplied, Counted, Divided, inputs_in, nodes_in, outs_in}
-use Rattle.row_alloc.proofs.First.{KeepsInputs, word_late}
+use Rattle.row_alloc.specs.Known.{WordBody, Inverted, Both, Either, Without, Unlike, Chosen, Added}
+use Rattle.row_alloc.specs.Known.{Counted, inputs_in, nodes_in, outs_in}
 use Rattle.loop_ir.specs.Plain.{Block, InnerOf, StepOf, inner_map, step_map, AllInner, AllStep}
 use Rattle.loop_ir.specs.Plain.{AllParts}
 use Rattle.loop_ir.specs.Plain.InnerOf.{Alone, Across}
@@ -29,8 +27,7 @@ use Rattle.loop_ir.specs.Outputs.{IsOuts}
 use Rattle.uprog_gen.specs.Parts.{IsPart}
 use Rattle.uprog_gen.specs.Settled.{is_aap, is_ap, is_word_body, word_among, word_of, word_commands}
 use Rattle.uprog_gen.specs.Settled.{held_commands}
-use Rattle.uprog_gen.specs.Settled.{turn_count, turn_aaps, turn_aps, KeepsReads, IsSettledAs, IsSettledOr}
-use Rattle.uprog_gen.specs.Settled.{IsSettled}
+use Rattle.uprog_gen.specs.Settled.{turn_count, turn_aaps, turn_aps, is_known, IsSettled}
 use Rattle.uprog_gen.proofs.Bodies.Fixed.{body_is}
 use Rattle.uprog_gen.proofs.Rows.Rounds.{block_round}
 
@@ -51,53 +48,30 @@ some_out [] j k e = absurd (let f : ◌≡◌ {A = Option ℕ} None (Some k) = e
 some_out (o ∷ outs) zero k e = omega arith
 some_out (o ∷ outs) (suc j) k e = let h = some_out outs j k e in omega (arith, h)
 
--- outputs that stand where the writes say leave the reads alone
-kept : (b : Block) (m : ℕ) (outs : List OutRow) (w : WordBody) → IsOuts b m outs → KeepsReads w b
-    → KeepsInputs w outs
-kept b m outs Shifted is k = λ s. k (is.found 0 0 (some_out outs 0 0 s) s).1
-kept b m outs Multiplied is k = λ s. k (is.found 1 0 (some_out outs 1 0 s) s).1
-kept b m outs Inverted is k = tt
-kept b m outs Both is k = tt
-kept b m outs Either is k = tt
-kept b m outs Without is k = tt
-kept b m outs Unlike is k = tt
-kept b m outs Chosen is k = tt
-kept b m outs Compared is k = tt
-kept b m outs Agreed is k = tt
-kept b m outs Added is k = tt
-kept b m outs Lessened is k = tt
-kept b m outs NegatedIf is k = tt
-kept b m outs Counted is k = tt
-kept b m outs Divided is k = tt
-
 -- a settled part's commands
 part_count : (f : BodyCmd → Bool) (one : ℕ) → ((x y : BodyRef) → count_by f (Aap x y ∷ []) ≡ one)
     → (p : Part) → IsPart p → IsSettled p.block → count_by f p.cmds ≡ turn_count f one p.block
 part_count f one copies p is settled =
-    whole (carries p.block) refl settled
+    by (carries p.block) refl (has_states p.block) refl (is_copy p.block) refl (word_of p.block)
+    refl settled
   where
-    by : carries p.block ≡ false → (x : Bool) → has_states p.block ≡ x → (c : Bool) → is_copy p.block ≡ c
-        → (o : Option WordBody) → word_of p.block ≡ o → IsSettledAs x c o p.block
-        → count_by f p.cmds ≡ cond x (count_by f (held_commands (held_of p.block)))
-        (cond c one (count_by f (word_commands o)))
-    by bare true x c e o g s = let h = is.held bare x in
-        ap (count_by f) h.2 ∙ ap (λ o. count_by f (held_commands o)) (sym h.1)
-    by bare false x true e o g s = let h = is.copy bare x e in ap (count_by f) h.2 ∙ copies h.0 h.1
-    by bare false x false e None g s = absurd s
-    by bare false x false e (Some w) g s =
-        let h = body_is (inputs_in w) (nodes_in w) (outs_in w) p.block
-        (found_word (Inverted ∷ Shifted ∷ Both ∷ Either ∷ Without ∷ Unlike ∷ Chosen ∷ Compared
-        ∷ Agreed ∷ Added ∷ Lessened ∷ NegatedIf ∷ Multiplied ∷ Counted ∷ Divided ∷ []) p.block w
-        g) in
-        ap (count_by f) (is.word bare x w h.0 h.1
-        (word_late w p.outs (kept p.block (row_count p.block.writes) p.outs w is.outs s)))
-
-    whole : (c : Bool) → carries p.block ≡ c → IsSettledOr c p.block
-        → count_by f p.cmds ≡ cond c (count_by f p.block.found) (cond (has_states p.block)
-        (count_by f (held_commands (held_of p.block)))
-        (cond (is_copy p.block) one (count_by f (word_commands (word_of p.block)))))
-    whole true e s = ap (count_by f) (is.found e)
-    whole false e s = by e (has_states p.block) refl (is_copy p.block) refl (word_of p.block) refl s
+    by : (k : Bool) → carries p.block ≡ k → (x : Bool) → has_states p.block ≡ x → (c : Bool)
+        → is_copy p.block ≡ c → (o : Option WordBody) → word_of p.block ≡ o
+        → (k || (x || (c || is_known o))) ≡ true
+        → count_by f p.cmds ≡ cond k (count_by f p.block.found)
+        (cond x (count_by f (held_commands (held_of p.block)))
+        (cond c one (count_by f (word_commands o))))
+    by true found x e c g o h s = ap (count_by f) (is.found found)
+    by false bare true e c g o h s = let held = is.held bare e in
+        ap (count_by f) held.2 ∙ ap (λ o. count_by f (held_commands o)) (sym held.1)
+    by false bare false e true g o h s = let copy = is.copy bare e g in
+        ap (count_by f) copy.2 ∙ copies copy.0 copy.1
+    by false bare false e false g None h s = absurd (let z : false ≡ true = s in cc)
+    by false bare false e false g (Some w) h s =
+        let same = body_is (inputs_in w) (nodes_in w) (outs_in w) p.block
+        (found_word (Inverted ∷ Both ∷ Either ∷ Without ∷ Unlike ∷ Chosen ∷ Added ∷ Counted ∷ [])
+        p.block w h) in
+        ap (count_by f) (is.word bare e w same.0 same.1)
 
 -- what holds of the bodies holds of the parts
 inner_parts : (P : Block → Type 0) (xs : List (InnerOf Part))

@@ -64,11 +64,11 @@ returns-in_default-clause-least c = IfOk-weaker c.shorter.result _ _ (λ cmds sh
     ]) c.shorter.ensures.few
 
 pub returns-in-Some-clause-word : goal.returns-in-Some-clause-word
-returns-in-Some-clause-word c = IfOk-weaker c.copied.result _ _ (λ cmds h b e l late.
-    let w = word_first c.args.m.now c.args.outs.now b e c.requires.fit l late in
+returns-in-Some-clause-word c = IfOk-weaker c.copied.result _ _ (λ cmds h b e l.
+    let w = word_first c.args.m.now c.args.outs.now b e c.requires.fit l in
     h (sequence_for b) w.first w.short) (returns-in-Some-clause-known c)
 
 pub returns-in_default-clause-word : goal.returns-in_default-clause-word
-returns-in_default-clause-word c = IfOk-weaker c.shorter.result _ _ (λ cmds h b e l late.
-    let w = word_first c.args.m.now c.args.outs.now b e c.requires.fit l late in
+returns-in_default-clause-word c = IfOk-weaker c.shorter.result _ _ (λ cmds h b e l.
+    let w = word_first c.args.m.now c.args.outs.now b e c.requires.fit l in
     h (sequence_for b) w.first w.short) (returns-in_default-clause-known c)
