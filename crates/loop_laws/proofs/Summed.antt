@@ -152,7 +152,10 @@ module _ (f : Block → ℕ) where
   -- where the first of them have had their turns
   turned_by : (ts us : List (TurnOf Block)) (count : ℕ) → turns_sum f (ts ++ us) (length ts + count)
       ≡ cycle_sum f ts + turns_sum f (us ++ ts) count
-  turned_by [] us count = ap (λ l. turns_sum f l count) (sym (append-nil us))
+  turned_by [] us count =
+      let none : 0 + count ≡ count = omega arith in
+      let same : turns_sum f (us ++ []) count ≡ 0 + turns_sum f (us ++ []) count = omega arith in
+      ap (turns_sum f us) none ∙ ap (λ l. turns_sum f l count) (sym (append-nil us)) ∙ same
   turned_by (t ∷ ts) us count =
       let all = length ts + count in
       let e = ap (λ l. turns_sum f l all) (append_assoc ts us (t ∷ [])) in
@@ -165,7 +168,10 @@ module _ (f : Block → ℕ) where
   -- where all of them have had so many
   pub turns_cycle : (ts : List (TurnOf Block)) (k count : ℕ)
       → turns_sum f ts (k * length ts + count) ≡ k * cycle_sum f ts + turns_sum f ts count
-  turns_cycle ts zero count = omega arith
+  turns_cycle ts zero count =
+      let none : 0 * length ts + count ≡ count = omega arith in
+      let same : turns_sum f ts count ≡ 0 * cycle_sum f ts + turns_sum f ts count = omega arith in
+      ap (turns_sum f ts) none ∙ same
   turns_cycle ts (suc k) count =
       let e = turned_by ts [] (k * length ts + count) in
       let nil = append-nil ts in
