@@ -28,6 +28,10 @@ pub enum Sub {
     DownPlusN,
     /// n + i.
     NPlusInner,
+    /// n - 1 - 2i.
+    TwiceDown,
+    /// n - 2 - 2i.
+    BelowTwiceDown,
 }
 
 /// What a row belongs to: the result, a source, or a bit or word of scratch. A value in cells of
@@ -86,21 +90,25 @@ impl Drop for Body {
     }
 }
 
-/// How far an inner loop runs: from 0 to n - 1, to n - 1 - o, or to o; or over as many positions as
-/// the number o + 1 has bits. It is never without a round.
+/// How far an inner loop runs: from 0 to n - 1, to n - 1 - o, or to o. It is never without a round.
 #[derive(Clone, Copy, PartialEq, Eq)]
 pub enum Count {
     All,
     Rest,
     UpTo,
-    Bits,
 }
 
-/// A part of a nest: a body at each outer position, once or in a loop of its own.
+/// A part of a nest: a body at each outer position, once or in a loop of its own. Where the outer
+/// positions are the levels of a count, level o has n / 2^o elements.
 #[derive(Drop)]
 pub enum Inner {
     Once(Body),
     Each(Count, Body),
+    /// A body once at each level that has an odd number of elements.
+    IfOdd(Body),
+    /// Two bodies at each pair of elements. Their subscripts are `Zero`, `InnerDown`, `TwiceDown`
+    /// and `BelowTwiceDown` alone.
+    Halves(Body, Body),
 }
 
 /// One of bodies that take turns from position to position, and the one that stands in its place at
