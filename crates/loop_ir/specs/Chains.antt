@@ -3,7 +3,7 @@ use Rattle.std.specs.Prelude.{ℕ, ◌==◌, ◌&&◌, Bool, true, List, [], ◌
 use Rattle.std.specs.Prelude.{filter}
 use Rattle.std.specs.List.{list_any, list_all}
 use Rattle.loop_ir.specs.declared.ir.Place.{Place}
-use Rattle.loop_ir.specs.Plain.{Block, InnerOf, TurnsOf, StepOf}
+use Rattle.loop_ir.specs.Plain.{Block, InnerOf, TurnOf, StepOf}
 use Rattle.loop_ir.specs.Plain.InnerOf.{Alone, Across, IfOdd, Halves}
 use Rattle.loop_ir.specs.Plain.StepOf.{Single, Along, Nest, Pairs, Alternate}
 use Rattle.loop_ir.specs.Spots.{is_state}
@@ -50,12 +50,16 @@ inner_finds alive (IfOdd b ∷ ps) = finds alive b && inner_finds (common alive 
 inner_finds alive (Halves b c ∷ ps) = (finds alive b && (finds (left_by b) c
     && finds (left_by c) b)) && inner_finds (common alive (left_by c)) ps
 
--- of two bodies that take turns, each finds what the other leaves, as does the one in its place at
--- the top position; those at position 0 find what stands before the loop
-abbrev pub turns_find : List ℕ → TurnsOf Block → Bool
-turns_find alive t = (finds alive t.even && finds alive t.last_even)
-    && ((finds (left_by t.even) t.odd && finds (left_by t.even) t.last_odd)
-    && (finds (left_by t.odd) t.even && finds (left_by t.odd) t.last_even))
+-- what bodies that take turns leave, each done once
+abbrev pub turns_left : List ℕ → List (TurnOf Block) → List ℕ
+turns_left alive [] = alive
+turns_left alive (t ∷ ts) = turns_left (left_by t.each) ts
+
+-- each of them finds what the one before it leaves, as does the one in its place at the top position
+abbrev pub turns_find : List ℕ → List (TurnOf Block) → Bool
+turns_find alive [] = true
+turns_find alive (t ∷ ts) = (finds alive t.each && finds alive t.last)
+    && turns_find (left_by t.each) ts
 
 -- each step finds its states: a loop that may have no round leaves none that is sure, nor does one
 -- whose last body is not always the same
@@ -64,6 +68,7 @@ steps_find alive [] = true
 steps_find alive (Single b ∷ ss) = finds alive b && steps_find (left_by b) ss
 steps_find alive (Along b ∷ ss) = loop_finds alive b && steps_find (left_by b) ss
 steps_find alive (Pairs b ∷ ss) = loop_finds alive b && steps_find [] ss
-steps_find alive (Alternate t ∷ ss) = turns_find alive t && steps_find [] ss
+steps_find alive (Alternate ts ∷ ss) = turns_find alive ts && (turns_find (turns_left alive ts) ts
+    && steps_find [] ss)
 steps_find alive (Nest ps ∷ ss) = inner_finds alive ps && (inner_finds (inner_left alive ps) ps
     && steps_find (inner_left (inner_left alive ps) ps) ss)

@@ -10,7 +10,7 @@ use Rattle.loop_ir.specs.declared.ir.Sub.{Sub}
 use Rattle.loop_ir.specs.declared.ir.Sub.TheVariants.{Zero, Top, Inner as At_inner, InnerDown}
 use Rattle.loop_ir.specs.declared.ir.Sub.TheVariants.{Outer, OuterDown, Sum, DownSum, SumTwice}
 use Rattle.loop_ir.specs.declared.ir.Sub.TheVariants.{AboveSumTwice, AboveSum}
-use Rattle.loop_ir.specs.Plain.{Block, InnerOf, TurnsOf, StepOf}
+use Rattle.loop_ir.specs.Plain.{Block, InnerOf, TurnOf, StepOf}
 use Rattle.loop_ir.specs.Plain.InnerOf.{Alone, Across, IfOdd, Halves}
 use Rattle.loop_ir.specs.Plain.StepOf.{Single, Along, Nest, Pairs, Alternate}
 use Rattle.row_alloc.specs.HeldBodies.{HeldBody, held_at, held_sequence_for}
@@ -141,10 +141,14 @@ inner_cost (Across count b) = body_cost b + 15
 inner_cost (IfOdd b) = body_cost b + 15 + 20
 inner_cost (Halves b c) = body_cost b + body_cost c + 10 + 20
 
--- how many instructions bodies that take turns may take
-abbrev pub turns_cost : TurnsOf Block → ℕ
-turns_cost t = body_cost t.even + body_cost t.odd + body_cost t.last_even + body_cost t.last_odd
-    + 15
+-- how many instructions one of bodies that take turns may take, with the one in its place at the top
+-- position: four of them count and jump
+abbrev pub either_cost : TurnOf Block → ℕ
+either_cost t = body_cost t.each + body_cost t.last + 4
+
+-- and how many all of them may take
+abbrev pub turns_cost : List (TurnOf Block) → ℕ
+turns_cost ts = sum_by either_cost ts + 7
 
 -- how many instructions a step may take
 abbrev pub step_cost : StepOf Block → ℕ
@@ -152,7 +156,7 @@ step_cost (Single b) = single_cost b
 step_cost (Along b) = body_cost b + 15
 step_cost (Nest parts) = sum_by inner_cost parts
 step_cost (Pairs b) = body_cost b + 15
-step_cost (Alternate t) = turns_cost t
+step_cost (Alternate ts) = turns_cost ts
 
 -- how many instructions a loop program may take, its end aside
 abbrev pub code_cost : List (StepOf Block) → ℕ
@@ -171,7 +175,7 @@ step_bodies (Single b) = 1
 step_bodies (Along b) = 1
 step_bodies (Nest parts) = sum_by inner_bodies parts
 step_bodies (Pairs b) = 1
-step_bodies (Alternate t) = 4
+step_bodies (Alternate ts) = 2 * length ts
 
 -- the number of bodies of a loop program
 abbrev pub bodies : List (StepOf Block) → ℕ

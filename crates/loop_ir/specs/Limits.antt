@@ -93,7 +93,7 @@ step_stands (Single b) = all_stand false false b
 step_stands (Along b) = all_stand true false b
 step_stands (Nest parts) = list_all inner_stands parts
 step_stands (Pairs b) = all_stand true true b
-step_stands (Alternate t) = all_turns stays_inner t
+step_stands (Alternate ts) = all_turns stays_inner ts
 
 -- In a round the body's places with rows are rows that it may have, and none of its writes is a
 -- source's. The row of a write is that of no other write, and that of at most one read, which is a

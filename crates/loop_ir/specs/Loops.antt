@@ -7,7 +7,7 @@ use Rattle.loop_ir.specs.declared.ir.Sub.TheVariants.{Outer, OuterDown, Sum, Dow
 use Rattle.loop_ir.specs.declared.ir.Sub.TheVariants.{AboveSumTwice, AboveSum}
 use Rattle.loop_ir.specs.declared.ir.Count.{Count}
 use Rattle.loop_ir.specs.declared.ir.Count.TheVariants.{All, Rest, UpTo}
-use Rattle.loop_ir.specs.Plain.{InnerOf, TurnsOf, StepOf}
+use Rattle.loop_ir.specs.Plain.{InnerOf, TurnOf, StepOf}
 use Rattle.loop_ir.specs.Plain.InnerOf.{Alone, Across, IfOdd, Halves}
 use Rattle.loop_ir.specs.Plain.StepOf.{Single, Along, Nest, Pairs, Alternate}
 
@@ -55,19 +55,13 @@ inner_rounds n o (IfOdd b ∷ more) = rounds (λ i. one_round b i o) 0 (elements
 inner_rounds n o (Halves b c ∷ more) = rounds (λ i. two_rounds b c i o) 0 (elements n (o + 1))
     ++ inner_rounds n o more
 
--- the same turns from the next position on: the other body has the next one
-abbrev pub next_turn : {A : Type 0} → TurnsOf A → TurnsOf A
-next_turn t = record {
-  even = t.odd;
-  odd = t.even;
-  last_even = t.last_odd;
-  last_odd = t.last_even;
-}
-
--- the rounds from position i on, where the top position comes after so many
-abbrev pub turns_from : {A : Type 0} → TurnsOf A → ℕ → ℕ → List (RoundOf A)
-turns_from t i zero = one_round t.last_even i 0
-turns_from t i (suc count) = one_round t.even i 0 ++ turns_from (next_turn t) (i + 1) count
+-- the rounds from position i on, where the top position comes after so many: the first of the
+-- bodies has its turn, and then stands behind all others
+abbrev pub turns_from : {A : Type 0} → List (TurnOf A) → ℕ → ℕ → List (RoundOf A)
+turns_from [] i count = []
+turns_from (t ∷ ts) i zero = one_round t.last i 0
+turns_from (t ∷ ts) i (suc count) = one_round t.each i 0
+    ++ turns_from (ts ++ (t ∷ [])) (i + 1) count
 
 -- the rounds of a step at width n
 abbrev pub step_rounds : {A : Type 0} → ℕ → StepOf A → List (RoundOf A)
@@ -75,7 +69,7 @@ step_rounds n (Single b) = one_round b 0 0
 step_rounds n (Along b) = rounds (λ i. one_round b i 0) 0 n
 step_rounds n (Nest parts) = rounds (λ o. inner_rounds n o parts) 0 n
 step_rounds n (Pairs b) = rounds (λ i. one_round b i 1) 0 (n - 1)
-step_rounds n (Alternate t) = turns_from t 0 (n - 1)
+step_rounds n (Alternate ts) = turns_from ts 0 (n - 1)
 
 -- every body at every position, in the order in which they come at width n
 abbrev pub all_rounds : {A : Type 0} → ℕ → List (StepOf A) → List (RoundOf A)

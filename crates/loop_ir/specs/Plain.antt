@@ -1,5 +1,5 @@
 -- Loop programs as plain data, over bodies or over what is made of them.
-use Rattle.std.specs.Prelude.{◌&&◌, Bool, List, [], ◌∷◌, map}
+use Rattle.std.specs.Prelude.{◌&&◌, Bool, true, List, [], ◌∷◌, map}
 use Rattle.mig_graph.specs.declared.Lit.{Lit}
 use Rattle.mig_graph.specs.Graph.{Graph}
 use Rattle.row_alloc.specs.declared.body.BodyCmd.{BodyCmd}
@@ -8,7 +8,7 @@ use Rattle.loop_ir.specs.declared.ir.Count.{Count}
 use Rattle.loop_ir.specs.declared.ir.Body.{Body}
 use Rattle.loop_ir.specs.declared.ir.Inner.{Inner}
 use Rattle.loop_ir.specs.declared.ir.Inner.TheVariants as code_inner
-use Rattle.loop_ir.specs.declared.ir.Turns.{Turns}
+use Rattle.loop_ir.specs.declared.ir.Turn.{Turn}
 use Rattle.loop_ir.specs.declared.ir.Step.{Step}
 use Rattle.loop_ir.specs.declared.ir.Step.TheVariants as code_step
 use Rattle.loop_ir.specs.declared.ir.LoopProgram.{LoopProgram}
@@ -30,12 +30,10 @@ pub data InnerOf (A : Type 0) : Type 0 where
   IfOdd : A → InnerOf A
   Halves : A → A → InnerOf A
 
--- two bodies that take turns, and of each the one that stands in its place at the top position
-pub record TurnsOf (A : Type 0) : Type 0 where
-  pub even : A
-  pub odd : A
-  pub last_even : A
-  pub last_odd : A
+-- one of bodies that take turns, and the one that stands in its place at the top position
+pub record TurnOf (A : Type 0) : Type 0 where
+  pub each : A
+  pub last : A
 
 -- a body once, a body at each position, parts at each outer position, a body at each position that
 -- has one above it, or bodies that take turns
@@ -44,7 +42,7 @@ pub data StepOf (A : Type 0) : Type 0 where
   Along : A → StepOf A
   Nest : List (InnerOf A) → StepOf A
   Pairs : A → StepOf A
-  Alternate : TurnsOf A → StepOf A
+  Alternate : List (TurnOf A) → StepOf A
 
 -- the body that the code built, without where it lies in memory
 abbrev pub block_of : Body → Block
@@ -63,14 +61,9 @@ inner_of (code_inner.Each count b) = Across count (block_of b)
 inner_of (code_inner.IfOdd b) = IfOdd (block_of b)
 inner_of (code_inner.Halves b c) = Halves (block_of b) (block_of c)
 
--- bodies that take turns
-abbrev pub turns_of : Turns → TurnsOf Block
-turns_of t = record {
-  even = block_of t.even;
-  odd = block_of t.odd;
-  last_even = block_of t.last_even;
-  last_odd = block_of t.last_odd;
-}
+-- one of bodies that take turns
+abbrev pub turn_of : Turn → TurnOf Block
+turn_of t = record { each = block_of t.each; last = block_of t.last }
 
 -- a step that the code built
 abbrev pub step_of : Step → StepOf Block
@@ -78,7 +71,7 @@ step_of (code_step.Once b) = Single (block_of b)
 step_of (code_step.Each b) = Along (block_of b)
 step_of (code_step.Nest parts) = Nest (map inner_of parts.items)
 step_of (code_step.Pairs b) = Pairs (block_of b)
-step_of (code_step.Alternate t) = Alternate (turns_of t)
+step_of (code_step.Alternate turns) = Alternate (map turn_of turns.items)
 
 -- the steps of a loop program that the code built
 abbrev pub steps_of : LoopProgram → List (StepOf Block)
@@ -91,14 +84,9 @@ inner_map f (Across count a) = Across count (f a)
 inner_map f (IfOdd a) = IfOdd (f a)
 inner_map f (Halves a b) = Halves (f a) (f b)
 
--- the same turns over other things
-abbrev pub turns_map : {A B : Type 0} → (A → B) → TurnsOf A → TurnsOf B
-turns_map f t = record {
-  even = f t.even;
-  odd = f t.odd;
-  last_even = f t.last_even;
-  last_odd = f t.last_odd;
-}
+-- the same turn over other things
+abbrev pub turn_map : {A B : Type 0} → (A → B) → TurnOf A → TurnOf B
+turn_map f t = record { each = f t.each; last = f t.last }
 
 -- the same loops over other things, made of each body
 abbrev pub step_map : {A B : Type 0} → (A → B) → StepOf A → StepOf B
@@ -106,7 +94,7 @@ step_map f (Single a) = Single (f a)
 step_map f (Along a) = Along (f a)
 step_map f (Nest parts) = Nest (map (inner_map f) parts)
 step_map f (Pairs a) = Pairs (f a)
-step_map f (Alternate t) = Alternate (turns_map f t)
+step_map f (Alternate ts) = Alternate (map (turn_map f) ts)
 
 -- what holds of every body of a nest
 abbrev pub AllInner : {A : Type 0} → (A → Type 0) → List (InnerOf A) → Type 0
@@ -117,12 +105,14 @@ AllInner P (IfOdd a ∷ xs) = P a × AllInner P xs
 AllInner P (Halves a b ∷ xs) = (P a × P b) × AllInner P xs
 
 -- what holds of all bodies that take turns
-abbrev pub AllTurns : {A : Type 0} → (A → Type 0) → TurnsOf A → Type 0
-AllTurns P t = P t.even × (P t.odd × (P t.last_even × P t.last_odd))
+abbrev pub AllTurns : {A : Type 0} → (A → Type 0) → List (TurnOf A) → Type 0
+AllTurns P [] = Unit {0}
+AllTurns P (t ∷ ts) = (P t.each × P t.last) × AllTurns P ts
 
 -- whether a test passes on all of them
-abbrev pub all_turns : {A : Type 0} → (A → Bool) → TurnsOf A → Bool
-all_turns f t = (f t.even && f t.odd) && (f t.last_even && f t.last_odd)
+abbrev pub all_turns : {A : Type 0} → (A → Bool) → List (TurnOf A) → Bool
+all_turns f [] = true
+all_turns f (t ∷ ts) = (f t.each && f t.last) && all_turns f ts
 
 -- what holds of every body of a step
 abbrev pub AllStep : {A : Type 0} → (A → Type 0) → StepOf A → Type 0
@@ -130,7 +120,7 @@ AllStep P (Single a) = P a
 AllStep P (Along a) = P a
 AllStep P (Nest parts) = AllInner P parts
 AllStep P (Pairs a) = P a
-AllStep P (Alternate t) = AllTurns P t
+AllStep P (Alternate ts) = AllTurns P ts
 
 -- what holds of every body of a loop program
 abbrev pub AllParts : {A : Type 0} → (A → Type 0) → List (StepOf A) → Type 0

@@ -9,7 +9,8 @@ use Rattle.row_alloc.specs.HeldBodies.{HeldBody, ZeroInT0, OneInT0, ZeroInT1, On
 use Rattle.row_alloc.specs.HeldBodies.{OnesInT2AndT3, ZeroInT3AndDcc1, ZeroInTurnedT3AndDcc1}
 use Rattle.row_alloc.specs.HeldBodies.{HeldCompared, HeldOrdered, HeldLessened, HeldNegatedIf}
 use Rattle.row_alloc.specs.HeldBodies.{HeldMultiplied, HeldDivided, HeldAgreed, BothInT2}
-use Rattle.row_alloc.specs.HeldBodies.{EitherInT2, MajorityInT1, KeptForPair, PairUnlike}
+use Rattle.row_alloc.specs.HeldBodies.{EitherInT2, MajorityInT3, MajorityInT1, MajorityFromT3}
+use Rattle.row_alloc.specs.HeldBodies.{KeptForPair, PairUnlike}
 use Rattle.row_alloc.specs.HeldBodies.{BothAtLast, EitherAtLast, MajorityAtLast, PairUnlikeAtLast}
 use Rattle.row_alloc.specs.HeldBodies.{ReadTurned, WrittenTurned, HeldCounted, HeldMoved}
 use Rattle.row_alloc.specs.HeldBodies.{UnlikeAtLast, NotInT1AndDcc0, BothFromT1, MajorityFromDcc0}
@@ -88,8 +89,9 @@ held_among (h ∷ hs) b = if is_held_body h b then Some h else held_among hs b
 abbrev pub held_bodies : List HeldBody
 held_bodies = ZeroInT0 ∷ OneInT0 ∷ ZeroInT1 ∷ OneInT1 ∷ OnesInT2AndT3 ∷ ZeroInT3AndDcc1
     ∷ ZeroInTurnedT3AndDcc1 ∷ HeldCompared ∷ HeldOrdered ∷ HeldLessened ∷ HeldNegatedIf
-    ∷ HeldMultiplied ∷ HeldDivided ∷ HeldAgreed ∷ BothInT2 ∷ EitherInT2 ∷ MajorityInT1
-    ∷ KeptForPair ∷ PairUnlike ∷ BothAtLast ∷ EitherAtLast ∷ MajorityAtLast ∷ PairUnlikeAtLast
+    ∷ HeldMultiplied ∷ HeldDivided ∷ HeldAgreed ∷ BothInT2 ∷ EitherInT2 ∷ MajorityInT3
+    ∷ MajorityInT1 ∷ KeptForPair ∷ PairUnlike ∷ BothAtLast ∷ EitherAtLast ∷ MajorityAtLast
+    ∷ MajorityFromT3 ∷ PairUnlikeAtLast
     ∷ UnlikeAtLast ∷ NotInT1AndDcc0 ∷ BothFromT1 ∷ MajorityFromDcc0 ∷ ReadTurned
     ∷ WrittenTurned ∷ HeldCounted ∷ HeldMoved ∷ []
 

@@ -109,14 +109,12 @@ pub enum Inner {
     Halves(Body, Body),
 }
 
-/// Two bodies that take turns from position to position, the first of them at each even one. At the
-/// top position another body stands in the place of the one whose turn it is.
+/// One of bodies that take turns from position to position, and the one that stands in its place at
+/// the top position.
 #[derive(Drop)]
-pub struct Turns {
-    pub even: Body,
-    pub odd: Body,
-    pub last_even: Body,
-    pub last_odd: Body,
+pub struct Turn {
+    pub each: Body,
+    pub last: Body,
 }
 
 /// A body done once, at each position, or parts done one after another at each outer position.
@@ -128,8 +126,9 @@ pub enum Step {
     /// A body at each position that has one above it: `Inner` is the position, from 0 to n - 2, and
     /// `Sum` the one above. The outer index is 1. At width 1 there is no round.
     Pairs(Body),
-    /// Bodies that take turns. Their subscripts are `Zero` and `Inner` alone.
-    Alternate(Turns),
+    /// Bodies that take turns in their order, again from the first after the last. Their subscripts
+    /// are `Zero` and `Inner` alone.
+    Alternate(Vec<Turn>),
 }
 
 /// Steps that are done one after another, the same at every width.

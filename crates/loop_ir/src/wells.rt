@@ -2,11 +2,12 @@
 
 ghost use Rattle.std.specs.Prelude.{◌≡◌, ◌↔◌, ◌<◌, ℕ, true, length, map, ◌∷◌, []};
 ghost use Rattle.mig_graph.specs.Outputs.{AreNamed};
-ghost use Rattle.loop_ir.specs.Plain.{block_of, inner_of, step_of, steps_of, AllInner, AllStep};
+ghost use Rattle.loop_ir.specs.Plain.{block_of, inner_of, turn_of, step_of, steps_of, AllInner};
+ghost use Rattle.loop_ir.specs.Plain.{AllTurns, AllStep};
 ghost use Rattle.loop_ir.specs.Spots.{nth_place};
 ghost use Rattle.loop_ir.specs.WellFormed.{IsOneValue, IsWellFormed, AreWellFormed};
 
-use crate::ir::{Body, Inner, LoopProgram, Place, Step};
+use crate::ir::{Body, Inner, LoopProgram, Place, Step, Turn};
 use mig_graph::MigOuts;
 
 /// Whether the two places are rows of one value.
@@ -128,6 +129,20 @@ fn parts_are_well_formed(parts: &[Inner]) -> bool
     }
 }
 
+/// Whether bodies that take turns are well formed.
+fn turns_are_well_formed(turns: &[Turn]) -> bool
+    ensures { (result ≡ true) ↔ AllTurns IsWellFormed (map turn_of turns.now) }
+{
+    match turns {
+        [] => true,
+        [first, rest @ ..] => {
+            is_well_formed(&first.each)
+                && is_well_formed(&first.last)
+                && turns_are_well_formed(rest)
+        }
+    }
+}
+
 /// Whether the bodies of a step are well formed.
 fn step_is_well_formed(step: &Step) -> bool
     ensures { (result ≡ true) ↔ AllStep IsWellFormed (step_of step.now) }
@@ -137,12 +152,7 @@ fn step_is_well_formed(step: &Step) -> bool
         Step::Each(body) => is_well_formed(body),
         Step::Nest(parts) => parts_are_well_formed(parts),
         Step::Pairs(body) => is_well_formed(body),
-        Step::Alternate(turns) => {
-            is_well_formed(&turns.even)
-                && is_well_formed(&turns.odd)
-                && is_well_formed(&turns.last_even)
-                && is_well_formed(&turns.last_odd)
-        }
+        Step::Alternate(turns) => turns_are_well_formed(turns),
     }
 }
 

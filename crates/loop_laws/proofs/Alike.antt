@@ -5,24 +5,24 @@ use Rattle.std.proofs.Common.{ap, ◌∙◌, ⊎_elim, arith}
 use Rattle.std.specs.Prelude.{◌==◌, ◌&&◌, ◌||◌, nat_le, nat_lt}
 use Rattle.std.specs.List.{list_any, list_all}
 use Rattle.std.proofs.lemmas.Bool.{cases_Bool, and_parts}
-use Rattle.std.proofs.lemmas.List.{length-map}
+use Rattle.std.proofs.lemmas.List.{length-map, map-append}
 use Rattle.mig_graph.specs.declared.Lit.{Lit}
 use Rattle.row_alloc.specs.HeldBodies.{HeldBody, held_inputs, held_nodes, held_outs, enter_in}
 use Rattle.row_alloc.specs.HeldBodies.{leave_in, HeldNegatedIf}
 use Rattle.row_alloc.specs.declared.body.Held.{Held}
 use Rattle.loop_ir.specs.declared.ir.Count.TheVariants.{All, Rest, UpTo}
 use Rattle.loop_ir.specs.declared.ir.Place.{Place}
-use Rattle.loop_ir.specs.Plain.{Block, InnerOf, TurnsOf, StepOf, inner_map, turns_map}
+use Rattle.loop_ir.specs.Plain.{Block, InnerOf, TurnOf, StepOf, inner_map, turn_map}
 use Rattle.loop_ir.specs.Plain.InnerOf.{Alone, Across, IfOdd, Halves}
 use Rattle.loop_ir.specs.Plain.StepOf.{Single, Along, Nest, Pairs, Alternate}
-use Rattle.loop_ir.specs.Loops.{next_turn, all_rounds}
+use Rattle.loop_ir.specs.Loops.{all_rounds}
 use Rattle.loop_ir.specs.Spots.{is_state, nth_place}
 use Rattle.loop_ir.specs.Same.{same_lits, same_nodes}
 use Rattle.loop_ir.specs.States.{has_states, row_count, RowsFirst, enters, leaves, row_outs}
 use Rattle.loop_ir.specs.States.{StatesFit, same_helds, is_held_body, held_among, held_bodies}
 use Rattle.loop_ir.specs.States.{held_of}
 use Rattle.loop_ir.specs.Chains.{states_in, is_alive, finds, left_by, loop_finds, common}
-use Rattle.loop_ir.specs.Chains.{inner_left, inner_finds, turns_find, steps_find}
+use Rattle.loop_ir.specs.Chains.{inner_left, inner_finds, turns_left, turns_find, steps_find}
 use Rattle.loop_ir.specs.Costs.{is_copy, is_not, is_and, is_or, is_xor, is_add, body_cost, held_cost}
 use Rattle.loop_ir.specs.Costs.{turn_cost, plain_cost, rounds_cost, plain_costs, same_sub}
 use Rattle.loop_ir.specs.Limits.{is_served}
@@ -229,14 +229,22 @@ module _ (rooms : List Room) (rows : HaveRows rooms) where
       (ap (λ l. inner_finds (common alive l) qs) (left_like c)
       ∙ inner_finds_like (common alive (left_by (placed_body [] c))) ps)
 
-  turns_find_like : (alive : List ℕ) (t : TurnsOf Marked)
-      → turns_find alive (turns_map (placed_body rooms) t)
-      ≡ turns_find alive (turns_map (placed_body []) t)
-  turns_find_like alive t = both_like _ _ _ _
-      (both_like _ _ _ _ (finds_like alive t.even) (finds_like alive t.last_even))
-      (both_like _ _ _ _
-      (both_like _ _ _ _ (after_like t.even t.odd) (after_like t.even t.last_odd))
-      (both_like _ _ _ _ (after_like t.odd t.even) (after_like t.odd t.last_even)))
+  abbrev turns_on : List Room → List (TurnOf Marked) → List (TurnOf Block)
+  turns_on rs ts = map (turn_map (placed_body rs)) ts
+
+  turns_find_like : (alive : List ℕ) (ts : List (TurnOf Marked))
+      → turns_find alive (turns_on rooms ts) ≡ turns_find alive (turns_on [] ts)
+  turns_find_like alive [] = refl
+  turns_find_like alive (t ∷ ts) = both_like _ _ _ _
+      (both_like _ _ _ _ (finds_like alive t.each) (finds_like alive t.last))
+      (ap (λ l. turns_find l (turns_on rooms ts)) (left_like t.each)
+      ∙ turns_find_like (left_by (placed_body [] t.each)) ts)
+
+  turns_left_like : (alive : List ℕ) (ts : List (TurnOf Marked))
+      → turns_left alive (turns_on rooms ts) ≡ turns_left alive (turns_on [] ts)
+  turns_left_like alive [] = refl
+  turns_left_like alive (t ∷ ts) = ap (λ l. turns_left l (turns_on rooms ts)) (left_like t.each)
+      ∙ turns_left_like (left_by (placed_body [] t.each)) ts
 
   pub steps_find_like : (alive : List ℕ) (ss : List (StepOf Marked))
       → steps_find alive (placed_steps rooms ss) ≡ steps_find alive (placed_steps [] ss)
@@ -254,8 +262,10 @@ module _ (rooms : List Room) (rows : HaveRows rooms) where
   steps_find_like alive (Pairs b ∷ ss) =
       ap (λ c. c && steps_find [] (placed_steps rooms ss)) (loop_like alive b)
       ∙ ap (λ c. loop_finds alive (placed_body [] b) && c) (steps_find_like [] ss)
-  steps_find_like alive (Alternate t ∷ ss) = both_like _ _ _ _ (turns_find_like alive t)
-      (steps_find_like [] ss)
+  steps_find_like alive (Alternate ts ∷ ss) = both_like _ _ _ _ (turns_find_like alive ts)
+      (both_like _ _ _ _
+      (ap (λ l. turns_find l (turns_on rooms ts)) (turns_left_like alive ts)
+      ∙ turns_find_like (turns_left alive (turns_on [] ts)) ts) (steps_find_like [] ss))
   steps_find_like alive (Nest ps ∷ ss) =
       let ts = placed_steps rooms ss in
       let qs = map (inner_map (placed_body rooms)) ps in
@@ -328,13 +338,18 @@ module _ (f : Block → ℕ) (rooms : List Room)
       + nest_sum f n o count (map (inner_map (placed_body rooms)) ps)) (like c)
       ∙ ap (λ x. 2 * (times * (f (placed_body [] b) + f (placed_body [] c))) + x) e
 
-  turns_like : (t : TurnsOf Marked) (count : ℕ)
-      → turns_sum f (turns_map (placed_body rooms) t) count
-      ≡ turns_sum f (turns_map (placed_body []) t) count
-  turns_like t zero = like t.last_even
-  turns_like t (suc count) =
-      ap (λ x. x + turns_sum f (turns_map (placed_body rooms) (next_turn t)) count) (like t.even)
-      ∙ ap (λ x. f (placed_body [] t.even) + x) (turns_like (next_turn t) count)
+  turns_like : (ts : List (TurnOf Marked)) (count : ℕ)
+      → turns_sum f (map (turn_map (placed_body rooms)) ts) count
+      ≡ turns_sum f (map (turn_map (placed_body [])) ts) count
+  turns_like [] count = refl
+  turns_like (t ∷ ts) zero = like t.last
+  turns_like (t ∷ ts) (suc count) =
+      let behind = λ (rs : List Room). ap (λ l. turns_sum f l count)
+      (map-append (turn_map (placed_body rs)) ts (t ∷ [])) in
+      ap (λ x. x + turns_sum f (map (turn_map (placed_body rooms)) ts
+      ++ (turn_map (placed_body rooms) t ∷ [])) count) (like t.each)
+      ∙ ap (λ x. f (placed_body [] t.each) + x)
+      (sym (behind rooms) ∙ turns_like (ts ++ (t ∷ [])) count ∙ behind [])
 
   sum_like : (n : ℕ) (ss : List (StepOf Marked)) → steps_sum f n (placed_steps rooms ss)
       ≡ steps_sum f n (placed_steps [] ss)
@@ -353,7 +368,7 @@ module _ (f : Block → ℕ) (rooms : List Room)
       ∙ ap (λ x. 2 * ((n - 1) * f (placed_body [] b)) + x) (sum_like n ss)
   sum_like n (Alternate t ∷ ss) =
       ap (λ x. 2 * x + steps_sum f n (placed_steps rooms ss)) (turns_like t (n - 1))
-      ∙ ap (λ x. 2 * turns_sum f (turns_map (placed_body []) t) (n - 1) + x) (sum_like n ss)
+      ∙ ap (λ x. 2 * turns_sum f (map (turn_map (placed_body [])) t) (n - 1) + x) (sum_like n ss)
 
   pub rounds_like : (n : ℕ) (ss : List (StepOf Marked))
       → rounds_sum f (all_rounds n (placed_steps rooms ss))

@@ -8,6 +8,7 @@ use Rattle.loop_ir.specs.WellFormed.{IsWellFormed}
 use Rattle.loop_ir.specs.Limits.{IsSmall}
 use Rattle.loop_laws.specs.Forms.{IsSlim, IsMade}
 use Rattle.loop_laws.specs.Laws.{MadeCompile}
+use Rattle.loop_laws.proofs.TakingTurns.{turns_both}
 
 -- what follows for each body from two facts of it
 module _ (P Q R : Block → Type 0) (f : (b : Block) → P b → Q b → R b) where
@@ -26,13 +27,7 @@ module _ (P Q R : Block → Type 0) (f : (b : Block) → P b → Q b → R b) wh
   step_both (Along b) p q = f b p q
   step_both (Nest xs) p q = inner_both xs p q
   step_both (Pairs b) p q = f b p q
-  step_both (Alternate t) p q = (
-    f t.even p.0 q.0,
-    (
-      f t.odd p.1.0 q.1.0,
-      (f t.last_even p.1.1.0 q.1.1.0, f t.last_odd p.1.1.1 q.1.1.1),
-    ),
-  )
+  step_both (Alternate ts) p q = turns_both P Q R f ts p q
 
   parts_both : (ss : List (StepOf Block)) → AllParts P ss → AllParts Q ss → AllParts R ss
   parts_both [] p q = tt

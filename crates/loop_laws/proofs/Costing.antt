@@ -11,11 +11,11 @@ use Rattle.mig_graph.specs.Literals.{is_complemented}
 use Rattle.mig_graph.specs.Outputs.{lit_at}
 use Rattle.row_alloc.specs.declared.body.Held.{Held}
 use Rattle.row_alloc.specs.HeldBodies.{ReadTurned, WrittenTurned, HeldCounted, HeldMoved}
-use Rattle.row_alloc.specs.HeldBodies.{MajorityInT3, MajorityFromT3}
 use Rattle.row_alloc.specs.HeldBodies.{HeldBody, ZeroInT0, OneInT0, ZeroInT1, OneInT1}
 use Rattle.row_alloc.specs.HeldBodies.{OnesInT2AndT3, ZeroInT3AndDcc1, ZeroInTurnedT3AndDcc1}
 use Rattle.row_alloc.specs.HeldBodies.{HeldCompared, HeldOrdered, HeldLessened, HeldNegatedIf}
-use Rattle.row_alloc.specs.HeldBodies.{BothInT2, EitherInT2, MajorityInT1, KeptForPair, PairUnlike}
+use Rattle.row_alloc.specs.HeldBodies.{BothInT2, EitherInT2, MajorityInT3, MajorityInT1, MajorityFromT3}
+use Rattle.row_alloc.specs.HeldBodies.{KeptForPair, PairUnlike}
 use Rattle.row_alloc.specs.HeldBodies.{BothAtLast, EitherAtLast, MajorityAtLast, PairUnlikeAtLast}
 use Rattle.row_alloc.specs.HeldBodies.{UnlikeAtLast, NotInT1AndDcc0, BothFromT1, MajorityFromDcc0}
 use Rattle.row_alloc.specs.HeldBodies.{HeldMultiplied, HeldDivided, HeldAgreed}
@@ -220,8 +220,6 @@ sequence-most EitherInT2 c n o a r hc ha en eo la lr = round-most c n o a r 3 hc
     (omega (arith, en)) (omega (arith, en, eo))
 sequence-most MajorityInT3 c n o a r hc ha en eo la lr = round-most c n o a r 2 hc
     (omega (arith, en)) (omega (arith, en, eo))
-sequence-most MajorityFromT3 c n o a r hc ha en eo la lr = round-most c n o a r 3 hc
-    (omega (arith, en)) (omega (arith, en, eo))
 sequence-most MajorityInT1 c n o a r hc ha en eo la lr = round-most c n o a r 2 hc
     (omega (arith, en)) (omega (arith, en, eo))
 sequence-most NotInT1AndDcc0 c n o a r hc ha en eo la lr = kept-most c n o a r ha en eo
@@ -239,6 +237,8 @@ sequence-most BothAtLast c n o a r hc ha en eo la lr = round-most c n o a r 3 hc
 sequence-most EitherAtLast c n o a r hc ha en eo la lr = round-most c n o a r 3 hc
     (omega (arith, en)) (omega (arith, en, eo))
 sequence-most MajorityAtLast c n o a r hc ha en eo la lr = round-most c n o a r 2 hc
+    (omega (arith, en)) (omega (arith, en, eo))
+sequence-most MajorityFromT3 c n o a r hc ha en eo la lr = round-most c n o a r 2 hc
     (omega (arith, en)) (omega (arith, en, eo))
 sequence-most PairUnlikeAtLast c n o a r hc ha en eo la lr = round-most c n o a r 4 hc
     (omega (arith, en)) (omega (arith, en, eo))

@@ -2,7 +2,8 @@
 use Rattle.std.proofs.Common.{ℕ, zero, suc, ◌+◌, ◌-◌, ◌*◌, ◌≤◌, List, [], ◌∷◌, map, arith}
 use Rattle.std.specs.Prelude.{◌%◌}
 use Rattle.std.specs.List.{AllByRecursion}
-use Rattle.loop_ir.specs.Plain.{Block, InnerOf, StepOf, AllInner, AllParts, inner_map, step_map}
+use Rattle.loop_ir.specs.Plain.{Block, InnerOf, TurnOf, StepOf, inner_map, turn_map, step_map}
+use Rattle.loop_ir.specs.Plain.{AllInner, AllTurns, AllParts}
 use Rattle.loop_ir.specs.Plain.InnerOf.{Alone, Across, IfOdd, Halves}
 use Rattle.loop_ir.specs.Plain.StepOf.{Single, Along, Nest, Pairs, Alternate}
 use Rattle.loop_ir.specs.Loops.{RoundOf, one_round, rounds, positions, inner_rounds, turns_from}
@@ -67,16 +68,17 @@ module _ (P : Block → Type 0) where
     inners_made (IfOdd b ∷ xs) = (h b, inners_made xs)
     inners_made (Halves b c ∷ xs) = ((h b, h c), inners_made xs)
 
+    turns_made : (ts : List (TurnOf Marked)) → AllTurns P (map (turn_map f) ts)
+    turns_made [] = tt
+    turns_made (t ∷ ts) = ((h t.each, h t.last), turns_made ts)
+
     pub all_made : (ss : List (StepOf Marked)) → AllParts P (map (step_map f) ss)
     all_made [] = tt
     all_made (Single b ∷ ss) = (h b, all_made ss)
     all_made (Along b ∷ ss) = (h b, all_made ss)
     all_made (Nest xs ∷ ss) = (inners_made xs, all_made ss)
     all_made (Pairs b ∷ ss) = (h b, all_made ss)
-    all_made (Alternate t ∷ ss) = (
-      (h t.even, (h t.odd, (h t.last_even, h t.last_odd))),
-      all_made ss,
-    )
+    all_made (Alternate ts ∷ ss) = (turns_made ts, all_made ss)
 
 carries_none : (rooms : List Room) (b : Marked) → CarriesFew (placed_body rooms b)
 carries_none rooms b carried = absurd cc

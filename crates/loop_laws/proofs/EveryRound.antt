@@ -14,7 +14,7 @@ use Rattle.loop_ir.specs.declared.ir.Sub.TheVariants as sub
 use Rattle.loop_ir.specs.declared.ir.Count.{Count}
 use Rattle.loop_ir.specs.declared.ir.Count.TheVariants.{All, Rest, UpTo}
 use Rattle.loop_ir.specs.declared.ir.Place.{Place}
-use Rattle.loop_ir.specs.Plain.{Block, InnerOf, StepOf, AllInner, AllParts, inner_map, turns_map}
+use Rattle.loop_ir.specs.Plain.{Block, InnerOf, StepOf, AllInner, AllParts, inner_map, turn_map}
 use Rattle.loop_ir.specs.Plain.{all_turns}
 use Rattle.loop_ir.specs.Plain.InnerOf.{Alone, Across, IfOdd, Halves}
 use Rattle.loop_ir.specs.Plain.StepOf.{Single, Along, Nest, Pairs, Alternate}
@@ -36,7 +36,7 @@ use Rattle.loop_laws.specs.Laws.{MarksAreEnough}
 use Rattle.loop_laws.proofs.Levels.{pairs_of, room_for_level}
 use Rattle.loop_laws.proofs.Fitting.{mark_at, IsThere, InnerOk, OuterOk, BodyFits, InnersFit}
 use Rattle.loop_laws.proofs.Fitting.{StepsFit}
-use Rattle.loop_laws.proofs.TakingTurns.{turns_all, turns_rounds}
+use Rattle.loop_laws.proofs.TakingTurns.{turns_tested, turns_mapped, turns_both, turns_rounds}
 use Rattle.loop_laws.proofs.Alike.{HaveRows, past_row, states_fit, states_known, steps_find_like}
 use Rattle.loop_laws.proofs.Good.{steps_are_fit}
 
@@ -431,18 +431,14 @@ module _ (n : ℕ) (rooms : List Room) (some : 0 < n) (are : RoomsApart n rooms)
       (λ i lt. (round_is n rooms some are rows Left true b fit.0 i 1 lt (omega (arith, lt)), tt)))
       (rounds_are ss fit.1)
   rounds_are (Alternate t ∷ ss) fit = all_append (IsRound (IsOwned n rooms) n)
-      (turns_from (turns_map (placed_body rooms) t) 0 (n - 1))
+      (turns_from (map (turn_map (placed_body rooms)) t) 0 (n - 1))
       (all_rounds n (placed_steps rooms ss))
-      (turns_rounds (IsRound (IsOwned n rooms) n) (turns_map (placed_body rooms) t) 0 (n - 1)
-      (n - 1) (omega arith) (λ j le.
-      let is = λ (b : Marked) (h : BodyFits Whole false rooms b.reads b.writes).
-      round_is n rooms some are rows Whole false b h j 0 (omega (arith, le, some)) tt in (
-        is t.even fit.0.0,
-        (
-          is t.odd fit.0.1.0,
-          (is t.last_even fit.0.1.1.0, is t.last_odd fit.0.1.1.1),
-        ),
-      )))
+      (turns_rounds (IsRound (IsOwned n rooms) n) (map (turn_map (placed_body rooms)) t) 0 (n - 1)
+      (n - 1) (omega arith) (λ j le. turns_mapped (placed_body rooms)
+      (λ (b : Marked). BodyFits Whole false rooms b.reads b.writes)
+      (λ (b : Block). IsRound (IsOwned n rooms) n (round_at b j 0))
+      (λ b h. round_is n rooms some are rows Whole false b h j 0 (omega (arith, le, some)) tt) t
+      fit.0))
       (rounds_are ss fit.1)
 
   inners_slim : (ps : List (InnerOf Marked)) → InnersFit rooms ps
@@ -479,6 +475,21 @@ module _ (n : ℕ) (rooms : List Room) (some : 0 < n) (are : RoomsApart n rooms)
         inners_slim ps fit.1 a.1 k.1,
       )
 
+  abbrev FitsWhole : Marked → Type 0
+  FitsWhole b = BodyFits Whole false rooms b.reads b.writes
+
+  abbrev HasRoom : Marked → Type 0
+  HasRoom b = has_room (placed_body rooms b) ≡ true
+
+  abbrev HasKnown : Marked → Type 0
+  HasKnown b = has_known_states (placed_body [] b) ≡ true
+
+  abbrev HasBoth : Marked → Type 0
+  HasBoth b = HasRoom b × HasKnown b
+
+  abbrev TurnFits : Marked → Type 0
+  TurnFits b = FitsWhole b × HasBoth b
+
   pub steps_slim : (ss : List (StepOf Marked)) → StepsFit rooms ss
       → steps_have_room (placed_steps rooms ss) ≡ true
       → steps_have_known (placed_steps [] ss) ≡ true → AllParts IsSlim (placed_steps rooms ss)
@@ -500,25 +511,14 @@ module _ (n : ℕ) (rooms : List Room) (some : 0 < n) (are : RoomsApart n rooms)
       let k = and_parts (has_known_states (placed_body [] b)) _ h in
       (slim_is n rooms some are rows Left true b fit.0 a.0 k.0, steps_slim ss fit.1 a.1 k.1)
   steps_slim (Alternate t ∷ ss) fit e h =
-      let a = and_parts (all_turns has_room (turns_map (placed_body rooms) t)) _ e in
-      let k = and_parts (all_turns has_known_states (turns_map (placed_body []) t)) _ h in
-      let room = turns_all (λ (b : Marked). has_room (placed_body rooms b))
-      (λ (b : Marked). has_room (placed_body rooms b) ≡ true) (λ b x. x) t a.0 in
-      let known = turns_all (λ (b : Marked). has_known_states (placed_body [] b))
-      (λ (b : Marked). has_known_states (placed_body [] b) ≡ true) (λ b x. x) t k.0 in
-      let slim = λ (b : Marked) (f : BodyFits Whole false rooms b.reads b.writes)
-      (x : has_room (placed_body rooms b) ≡ true) (y : has_known_states (placed_body [] b) ≡ true).
-      slim_is n rooms some are rows Whole false b f x y in (
-        (
-          slim t.even fit.0.0 room.0 known.0,
-          (
-            slim t.odd fit.0.1.0 room.1.0 known.1.0,
-            (
-              slim t.last_even fit.0.1.1.0 room.1.1.0 known.1.1.0,
-              slim t.last_odd fit.0.1.1.1 room.1.1.1 known.1.1.1,
-            ),
-          ),
-        ),
+      let a = and_parts (all_turns has_room (map (turn_map (placed_body rooms)) t)) _ e in
+      let k = and_parts (all_turns has_known_states (map (turn_map (placed_body [])) t)) _ h in (
+        turns_mapped (placed_body rooms) TurnFits IsSlim
+            (λ b f. slim_is n rooms some are rows Whole false b f.0 f.1.0 f.1.1) t
+            (turns_both FitsWhole HasBoth TurnFits (λ b f x. (f, x)) t fit.0
+            (turns_both HasRoom HasKnown HasBoth (λ b x y. (x, y)) t
+            (turns_tested (placed_body rooms) has_room t a.0)
+            (turns_tested (placed_body []) has_known_states t k.0))),
         steps_slim ss fit.1 a.1 k.1,
       )
 

@@ -5,13 +5,13 @@ use Rattle.std.specs.Prelude.{◌||◌, ◌&&◌}
 use Rattle.std.specs.List.{list_any, list_all}
 use Rattle.std.proofs.lemmas.Bool.{and_from}
 use Rattle.loop_ir.specs.declared.ir.Place.{Place}
-use Rattle.loop_ir.specs.Plain.{Block, InnerOf, StepOf, AllInner, AllParts}
+use Rattle.loop_ir.specs.Plain.{Block, InnerOf, TurnOf, StepOf, AllInner, AllTurns, AllParts}
 use Rattle.loop_ir.specs.Plain.InnerOf.{Alone, Across, IfOdd, Halves}
 use Rattle.loop_ir.specs.Plain.StepOf.{Single, Along, Nest, Pairs, Alternate}
 use Rattle.loop_ir.specs.Spots.{is_state, nth_place}
 use Rattle.loop_ir.specs.States.{has_states, StatesFit}
 use Rattle.loop_ir.specs.Chains.{states_in, is_alive, finds, left_by, loop_finds, common}
-use Rattle.loop_ir.specs.Chains.{inner_left, inner_finds, turns_find, steps_find}
+use Rattle.loop_ir.specs.Chains.{inner_left, inner_finds, turns_left, turns_find, steps_find}
 use Rattle.loop_laws.proofs.Alike.{or_parts, none_at, none_first, rows_first}
 
 -- nothing of the body stands in cells
@@ -76,6 +76,14 @@ inner_rows alive (Halves b c ∷ ps) all =
     (and_from (finds (left_by b) c) (finds (left_by c) b) (rows_find (left_by b) c all.0.1)
     (rows_find (left_by c) b all.0.0))) (inner_rows left ps all.1)
 
+turns_rows : (alive : List ℕ) (ts : List (TurnOf Block)) → AllTurns HasRows ts
+    → turns_find alive ts ≡ true
+turns_rows alive [] all = refl
+turns_rows alive (t ∷ ts) all =
+    and_from (finds alive t.each && finds alive t.last) (turns_find (left_by t.each) ts)
+    (and_from (finds alive t.each) (finds alive t.last) (rows_find alive t.each all.0.0)
+    (rows_find alive t.last all.0.1)) (turns_rows (left_by t.each) ts all.1)
+
 -- no body looks for a state
 pub no_state_sought : (alive : List ℕ) (ss : List (StepOf Block)) → AllParts HasRows ss
     → steps_find alive ss ≡ true
@@ -86,18 +94,12 @@ no_state_sought alive (Along b ∷ ss) all = and_from (loop_finds alive b)
     (steps_find (left_by b) ss) (loop_rows alive b all.0) (no_state_sought (left_by b) ss all.1)
 no_state_sought alive (Pairs b ∷ ss) all = and_from (loop_finds alive b) (steps_find [] ss)
     (loop_rows alive b all.0) (no_state_sought [] ss all.1)
-no_state_sought alive (Alternate t ∷ ss) all = and_from (turns_find alive t) (steps_find [] ss)
-    (and_from _ _
-    (and_from (finds alive t.even) (finds alive t.last_even) (rows_find alive t.even all.0.0)
-    (rows_find alive t.last_even all.0.1.1.0))
-    (and_from _ _
-    (and_from (finds (left_by t.even) t.odd) (finds (left_by t.even) t.last_odd)
-    (rows_find (left_by t.even) t.odd all.0.1.0)
-    (rows_find (left_by t.even) t.last_odd all.0.1.1.1))
-    (and_from (finds (left_by t.odd) t.even) (finds (left_by t.odd) t.last_even)
-    (rows_find (left_by t.odd) t.even all.0.0)
-    (rows_find (left_by t.odd) t.last_even all.0.1.1.0))))
-    (no_state_sought [] ss all.1)
+no_state_sought alive (Alternate ts ∷ ss) all =
+    let again = turns_left alive ts in
+    and_from (turns_find alive ts) (turns_find again ts && steps_find [] ss)
+    (turns_rows alive ts all.0)
+    (and_from (turns_find again ts) (steps_find [] ss) (turns_rows again ts all.0)
+    (no_state_sought [] ss all.1))
 no_state_sought alive (Nest ps ∷ ss) all =
     let once = inner_left alive ps in
     and_from (inner_finds alive ps) _ (inner_rows alive ps all.0)

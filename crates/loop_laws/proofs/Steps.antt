@@ -1,7 +1,7 @@
 -- Steps one after another.
 use Rattle.std.proofs.Common.{◌≡◌, ℕ, zero, suc, ◌+◌, ◌-◌, List, [], ◌∷◌, ◌++◌, refl, sym, ap}
 use Rattle.std.proofs.Common.{◌∙◌, arith}
-use Rattle.loop_ir.specs.Plain.{Block, InnerOf, TurnsOf, StepOf}
+use Rattle.loop_ir.specs.Plain.{Block, InnerOf, TurnOf, StepOf}
 use Rattle.loop_ir.specs.Plain.InnerOf.{Alone, Across, IfOdd, Halves}
 use Rattle.loop_ir.specs.Plain.StepOf.{Along, Nest, Pairs, Alternate}
 use Rattle.loop_ir.specs.Loops.{RoundOf, round_at, one_round, rounds, positions, inner_rounds}
@@ -34,10 +34,10 @@ steps_pairs n b ss bits =
     ∙ ap (after_rounds n (all_rounds n ss)) (many_is n 1 b (n - 1) bits)
 
 -- bodies that take turns, and then the steps after them
-pub steps_turns : (n : ℕ) (t : TurnsOf Block) (ss : List (StepOf Block)) (bits : Spots)
-    → after_steps n (Alternate t ∷ ss) bits
-    ≡ after_steps n ss (after_rounds n (turns_from t 0 (n - 1)) bits)
-steps_turns n t ss bits = rounds_append n (turns_from t 0 (n - 1)) (all_rounds n ss) bits
+pub steps_turns : (n : ℕ) (ts : List (TurnOf Block)) (ss : List (StepOf Block)) (bits : Spots)
+    → after_steps n (Alternate ts ∷ ss) bits
+    ≡ after_steps n ss (after_rounds n (turns_from ts 0 (n - 1)) bits)
+steps_turns n ts ss bits = rounds_append n (turns_from ts 0 (n - 1)) (all_rounds n ss) bits
 
 -- two bodies at each of the first positions
 abbrev pub after_both : ℕ → ℕ → Block → Block → ℕ → Spots → Spots

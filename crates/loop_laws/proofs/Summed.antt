@@ -1,14 +1,14 @@
 -- The sum over all rounds of what each body counts.
 use Rattle.std.proofs.Common.{◌≡◌, ℕ, zero, suc, ◌+◌, ◌-◌, ◌*◌, ◌≤◌, List, [], ◌∷◌, ◌++◌, refl, sym}
-use Rattle.std.proofs.Common.{ap, ◌∙◌, arith}
+use Rattle.std.proofs.Common.{ap, ◌∙◌, arith, append-nil, append_assoc, length}
 use Rattle.std.specs.Prelude.{sum_by, ◌%◌}
 use Rattle.std.specs.List.{AllByRecursion}
 use Rattle.std.proofs.lemmas.List.Sums.{sum_by-cons, sum_by-append}
 use Rattle.loop_ir.specs.declared.ir.Count.TheVariants.{All, Rest, UpTo}
-use Rattle.loop_ir.specs.Plain.{Block, InnerOf, TurnsOf, StepOf}
+use Rattle.loop_ir.specs.Plain.{Block, InnerOf, TurnOf, StepOf}
 use Rattle.loop_ir.specs.Plain.InnerOf.{Alone, Across, IfOdd, Halves}
 use Rattle.loop_ir.specs.Plain.StepOf.{Single, Along, Nest, Pairs, Alternate}
-use Rattle.loop_ir.specs.Loops.{RoundOf, round_at, one_round, rounds, inner_rounds, next_turn}
+use Rattle.loop_ir.specs.Loops.{RoundOf, round_at, one_round, rounds, inner_rounds}
 use Rattle.loop_ir.specs.Loops.{elements, two_rounds, turns_from, all_rounds}
 
 -- a number of each body, summed over all rounds
@@ -38,9 +38,15 @@ nest_sum f n o count (Halves b c ∷ ps) = 2 * (pairs_from n o count * (f b + f 
     + nest_sum f n o count ps
 
 -- the sum over bodies that take turns, where the top position comes after so many
-abbrev pub turns_sum : (Block → ℕ) → TurnsOf Block → ℕ → ℕ
-turns_sum f t zero = f t.last_even
-turns_sum f t (suc count) = f t.even + turns_sum f (next_turn t) count
+abbrev pub turns_sum : (Block → ℕ) → List (TurnOf Block) → ℕ → ℕ
+turns_sum f [] count = 0
+turns_sum f (t ∷ ts) zero = f t.last
+turns_sum f (t ∷ ts) (suc count) = f t.each + turns_sum f (ts ++ (t ∷ [])) count
+
+-- the sum over them where each has its turn once
+abbrev pub cycle_sum : (Block → ℕ) → List (TurnOf Block) → ℕ
+cycle_sum f [] = 0
+cycle_sum f (t ∷ ts) = f t.each + cycle_sum f ts
 
 -- twice the sum of all steps
 abbrev pub steps_sum : (Block → ℕ) → ℕ → List (StepOf Block) → ℕ
@@ -68,23 +74,14 @@ module _ (f : Block → ℕ) where
       let a = more (round_at b i o) (rounds (λ j. one_round b j o) (i + 1) count) in
       omega (arith, a, e)
 
-  sum_both : (b c : Block) (o i count : ℕ) → rounds_sum f (rounds (λ j. two_rounds b c j o) i count)
-      ≡ count * (f b + f c)
-  sum_both b c o i zero = omega arith
-  sum_both b c o i (suc count) =
-      let rest = rounds (λ j. two_rounds b c j o) (i + 1) count in
-      let e = sum_both b c o (i + 1) count in
-      let a = more (round_at b i o) (round_at c i o ∷ rest) in
-      let d = more (round_at c i o) rest in
-      omega (arith, a, d, e)
-
-  turns_is : (t : TurnsOf Block) (i count : ℕ) → rounds_sum f (turns_from t i count)
-      ≡ turns_sum f t count
-  turns_is t i zero = let a = more (round_at t.last_even i 0) [] in omega (arith, a)
-  turns_is t i (suc count) =
-      let e = turns_is (next_turn t) (i + 1) count in
-      let a = more (round_at t.even i 0) (turns_from (next_turn t) (i + 1) count) in
-      omega (arith, a, e)
+  turns_is : (ts : List (TurnOf Block)) (i count : ℕ) → rounds_sum f (turns_from ts i count)
+      ≡ turns_sum f ts count
+  turns_is [] i count = refl
+  turns_is (t ∷ ts) i zero = let a = more (round_at t.last i 0) [] in omega (arith, a)
+  turns_is (t ∷ ts) i (suc count) =
+      let e = turns_is (ts ++ (t ∷ [])) (i + 1) count in
+      let a = more (round_at t.each i 0) (turns_from (ts ++ (t ∷ [])) (i + 1) count) in
+      omega (arith, e, a)
 
   abbrev inner_sum : ℕ → ℕ → ℕ → List (InnerOf Block) → ℕ
   inner_sum n o left [] = 0
@@ -168,30 +165,58 @@ module _ (f : Block → ℕ) where
       let a = sum_append (turns_from t 0 (n - 1)) (all_rounds n ss) in
       let c = turns_is t 0 (n - 1) in omega (arith, e, a, c)
 
-  -- after an even number of positions, and after an odd one
-  pub turns_even : (t : TurnsOf Block) (k : ℕ) → turns_sum f t (2 * k)
-      ≡ k * (f t.even + f t.odd) + f t.last_even
-  turns_even t zero = omega arith
-  turns_even t (suc k) =
-      let two : 2 * suc k ≡ suc (suc (2 * k)) = omega arith in
-      let e = turns_even t k in
-      let g = ap (turns_sum f t) two in
-      omega (arith, e, g)
+  -- where the first of them have had their turns
+  turned_by : (ts us : List (TurnOf Block)) (count : ℕ) → turns_sum f (ts ++ us) (length ts + count)
+      ≡ cycle_sum f ts + turns_sum f (us ++ ts) count
+  turned_by [] us count =
+      let none : 0 + count ≡ count = omega arith in
+      let same : turns_sum f (us ++ []) count ≡ 0 + turns_sum f (us ++ []) count = omega arith in
+      ap (turns_sum f us) none ∙ ap (λ l. turns_sum f l count) (sym (append-nil us)) ∙ same
+  turned_by (t ∷ ts) us count =
+      let all = length ts + count in
+      let e = ap (λ l. turns_sum f l all) (append_assoc ts us (t ∷ [])) in
+      let g = turned_by ts (us ++ (t ∷ [])) count in
+      let h = ap (λ l. turns_sum f l count) (append_assoc us (t ∷ []) ts) in
+      let one : suc (length ts) + count ≡ suc all = omega arith in
+      let k = ap (turns_sum f ((t ∷ ts) ++ us)) one in
+      omega (arith, e, g, h, k)
 
-  pub turns_odd : (t : TurnsOf Block) (k : ℕ) → turns_sum f t (2 * k + 1)
-      ≡ k * (f t.even + f t.odd) + (f t.even + f t.last_odd)
-  turns_odd t k =
-      let one : 2 * k + 1 ≡ suc (2 * k) = omega arith in
-      let e = turns_even (next_turn t) k in
-      let g = ap (turns_sum f t) one in
-      omega (arith, e, g)
+  -- where all of them have had so many
+  pub turns_cycle : (ts : List (TurnOf Block)) (k count : ℕ)
+      → turns_sum f ts (k * length ts + count) ≡ k * cycle_sum f ts + turns_sum f ts count
+  turns_cycle ts zero count =
+      let none : 0 * length ts + count ≡ count = omega arith in
+      let same : turns_sum f ts count ≡ 0 * cycle_sum f ts + turns_sum f ts count = omega arith in
+      ap (turns_sum f ts) none ∙ same
+  turns_cycle ts (suc k) count =
+      let e = turned_by ts [] (k * length ts + count) in
+      let nil = append-nil ts in
+      let g = ap (λ l. turns_sum f l (length ts + (k * length ts + count))) nil in
+      let one : suc k * length ts + count ≡ length ts + (k * length ts + count) = grind arith in
+      let m = ap (turns_sum f ts) one in
+      let more : suc k * cycle_sum f ts ≡ cycle_sum f ts + k * cycle_sum f ts = grind arith in
+      let h = turns_cycle ts k count in
+      omega (arith, e, g, m, more, h)
 
--- what each body counts at most, and each at the top position
-pub turns_most : (f : Block → ℕ) (c d : ℕ) (t : TurnsOf Block) → f t.even ≤ c → f t.odd ≤ c
-    → f t.last_even ≤ d → f t.last_odd ≤ d → (count : ℕ) → turns_sum f t count ≤ count * c + d
-turns_most f c d t e o le lo zero = omega (arith, le)
-turns_most f c d t e o le lo (suc count) =
-    let h = turns_most f c d (next_turn t) o e lo le count in omega (arith, h, e)
+-- each of them counts at most so much, and at the top position
+abbrev pub AtMost : (Block → ℕ) → ℕ → ℕ → List (TurnOf Block) → Type 0
+AtMost f c d [] = Unit {0}
+AtMost f c d (t ∷ ts) = ((f t.each ≤ c) × (f t.last ≤ d)) × AtMost f c d ts
+
+most_behind : (f : Block → ℕ) (c d : ℕ) (ts : List (TurnOf Block)) (t : TurnOf Block)
+    → AtMost f c d ts → (f t.each ≤ c) × (f t.last ≤ d) → AtMost f c d (ts ++ (t ∷ []))
+most_behind f c d [] t all one = (one, tt)
+most_behind f c d (u ∷ us) t all one = (all.0, most_behind f c d us t all.1 one)
+
+pub turns_most : (f : Block → ℕ) (c d : ℕ) (ts : List (TurnOf Block)) → AtMost f c d ts
+    → (count : ℕ) → turns_sum f ts count ≤ count * c + d
+turns_most f c d [] all count = omega arith
+turns_most f c d (t ∷ ts) all zero = let h = all.0.1 in omega (arith, h)
+turns_most f c d (t ∷ ts) all (suc count) =
+    let h = turns_most f c d (ts ++ (t ∷ [])) (most_behind f c d ts t all.1 all.0) count in
+    let e = all.0.0 in
+    let more : suc count * c ≡ c + count * c = grind arith in
+    omega (arith, h, e, more)
 
 -- of two counts of which one is nowhere greater
 pub sum_most : (f g : Block → ℕ) (P : Block → Type 0) → ((b : Block) → P b → f b ≤ g b)
