@@ -1,9 +1,10 @@
 -- A test after which each body finds the states that it reads, at every width.
 use Rattle.std.specs.Prelude.{ℕ, ◌==◌, ◌&&◌, Bool, true, List, [], ◌∷◌, if◌then◌else◌}
+use Rattle.std.specs.Prelude.{filter}
 use Rattle.std.specs.List.{list_any, list_all}
 use Rattle.loop_ir.specs.declared.ir.Place.{Place}
 use Rattle.loop_ir.specs.Plain.{Block, InnerOf, TurnOf, StepOf}
-use Rattle.loop_ir.specs.Plain.InnerOf.{Alone, Across}
+use Rattle.loop_ir.specs.Plain.InnerOf.{Alone, Across, IfOdd, Halves}
 use Rattle.loop_ir.specs.Plain.StepOf.{Single, Along, Nest, Pairs, Alternate}
 use Rattle.loop_ir.specs.Spots.{is_state}
 
@@ -28,17 +29,26 @@ left_by b = states_in b.writes
 abbrev pub loop_finds : List ℕ → Block → Bool
 loop_finds alive b = finds alive b && finds (left_by b) b
 
--- what the parts of a nest leave, done once
+-- the states that are among these and among those
+abbrev pub common : List ℕ → List ℕ → List ℕ
+common alive left = filter (λ w. is_alive w left) alive
+
+-- what the parts of a nest leave, done once: one that may have no round leaves nothing new
 abbrev pub inner_left : List ℕ → List (InnerOf Block) → List ℕ
 inner_left alive [] = alive
 inner_left alive (Alone b ∷ ps) = inner_left (left_by b) ps
 inner_left alive (Across c b ∷ ps) = inner_left (left_by b) ps
+inner_left alive (IfOdd b ∷ ps) = inner_left (common alive (left_by b)) ps
+inner_left alive (Halves b c ∷ ps) = inner_left (common alive (left_by c)) ps
 
 -- each part of a nest finds its states
 abbrev pub inner_finds : List ℕ → List (InnerOf Block) → Bool
 inner_finds alive [] = true
 inner_finds alive (Alone b ∷ ps) = finds alive b && inner_finds (left_by b) ps
 inner_finds alive (Across c b ∷ ps) = loop_finds alive b && inner_finds (left_by b) ps
+inner_finds alive (IfOdd b ∷ ps) = finds alive b && inner_finds (common alive (left_by b)) ps
+inner_finds alive (Halves b c ∷ ps) = (finds alive b && (finds (left_by b) c
+    && finds (left_by c) b)) && inner_finds (common alive (left_by c)) ps
 
 -- what bodies that take turns leave, each done once
 abbrev pub turns_left : List ℕ → List (TurnOf Block) → List ℕ

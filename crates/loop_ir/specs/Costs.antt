@@ -8,12 +8,10 @@ use Rattle.mig_graph.specs.Literals.{is_complemented, node_of}
 use Rattle.mig_graph.specs.Outputs.{lit_at}
 use Rattle.loop_ir.specs.declared.ir.Sub.{Sub}
 use Rattle.loop_ir.specs.declared.ir.Sub.TheVariants.{Zero, Top, Inner as At_inner, InnerDown}
-use Rattle.loop_ir.specs.declared.ir.Sub.TheVariants.{Outer, OuterDown, Sum, DownSum, DownPlusN}
-use Rattle.loop_ir.specs.declared.ir.Sub.TheVariants.{NPlusInner}
+use Rattle.loop_ir.specs.declared.ir.Sub.TheVariants.{Outer, OuterDown, Sum, DownSum, SumTwice}
+use Rattle.loop_ir.specs.declared.ir.Sub.TheVariants.{AboveSumTwice, AboveSum}
 use Rattle.loop_ir.specs.Plain.{Block, InnerOf, TurnOf, StepOf}
-use Rattle.loop_ir.specs.declared.ir.Count.{Count}
-use Rattle.loop_ir.specs.declared.ir.Count.TheVariants.{All, Rest, UpTo, Bits}
-use Rattle.loop_ir.specs.Plain.InnerOf.{Alone, Across}
+use Rattle.loop_ir.specs.Plain.InnerOf.{Alone, Across, IfOdd, Halves}
 use Rattle.loop_ir.specs.Plain.StepOf.{Single, Along, Nest, Pairs, Alternate}
 use Rattle.row_alloc.specs.HeldBodies.{HeldBody, held_at, held_sequence_for}
 use Rattle.loop_ir.specs.Loops.{RoundOf}
@@ -111,8 +109,9 @@ sub_code Outer = 4
 sub_code OuterDown = 5
 sub_code Sum = 6
 sub_code DownSum = 7
-sub_code DownPlusN = 8
-sub_code NPlusInner = 9
+sub_code SumTwice = 8
+sub_code AboveSumTwice = 9
+sub_code AboveSum = 10
 
 -- both are one subscript
 abbrev pub same_sub : Sub → Sub → Bool
@@ -129,23 +128,18 @@ is_fixed b = list_all (λ p. same_sub p.sub Zero) (b.reads ++ b.writes)
 -- the subscripts other than Zero that the body's places have
 abbrev pub used_subs : Block → List Sub
 used_subs b = filter (is_used b) (Top ∷ At_inner ∷ InnerDown ∷ Outer ∷ OuterDown ∷ Sum ∷ DownSum
-    ∷ DownPlusN ∷ NPlusInner ∷ [])
+    ∷ SumTwice ∷ AboveSumTwice ∷ AboveSum ∷ [])
 
 -- how many instructions a body may take: 15 for its loop or its subscripts
 abbrev pub single_cost : Block → ℕ
 single_cost b = body_cost b + (if is_fixed b then 0 else 15)
 
--- how many instructions more a loop takes that finds the bits of a number
-abbrev pub counter_cost : Count → ℕ
-counter_cost All = 0
-counter_cost Rest = 0
-counter_cost UpTo = 0
-counter_cost Bits = 11
-
--- how many instructions a part of a nest may take
+-- how many instructions a part of a nest may take: 20 to find how many elements a level has
 abbrev pub inner_cost : InnerOf Block → ℕ
 inner_cost (Alone b) = body_cost b + 15
-inner_cost (Across count b) = body_cost b + 15 + counter_cost count
+inner_cost (Across count b) = body_cost b + 15
+inner_cost (IfOdd b) = body_cost b + 15 + 20
+inner_cost (Halves b c) = body_cost b + body_cost c + 10 + 20
 
 -- how many instructions one of bodies that take turns may take, with the one in its place at the top
 -- position: four of them count and jump
@@ -168,11 +162,18 @@ step_cost (Alternate ts) = turns_cost ts
 abbrev pub code_cost : List (StepOf Block) → ℕ
 code_cost steps = sum_by step_cost steps
 
+-- the number of bodies of a part of a nest
+abbrev pub inner_bodies : InnerOf Block → ℕ
+inner_bodies (Alone b) = 1
+inner_bodies (Across count b) = 1
+inner_bodies (IfOdd b) = 1
+inner_bodies (Halves b c) = 2
+
 -- the number of bodies of a step
 abbrev pub step_bodies : StepOf Block → ℕ
 step_bodies (Single b) = 1
 step_bodies (Along b) = 1
-step_bodies (Nest parts) = length parts
+step_bodies (Nest parts) = sum_by inner_bodies parts
 step_bodies (Pairs b) = 1
 step_bodies (Alternate ts) = 2 * length ts
 

@@ -7,10 +7,10 @@ use Rattle.bit_rows.specs.declared.TheConstants.{WIDTH_MAX}
 use Rattle.mig_graph.specs.Graph.{IsGraph}
 use Rattle.loop_ir.specs.declared.ir.Sub.{Sub}
 use Rattle.loop_ir.specs.declared.ir.Sub.TheVariants.{Zero, Top, Inner as At_inner, InnerDown}
-use Rattle.loop_ir.specs.declared.ir.Sub.TheVariants.{Outer, OuterDown, Sum, DownSum, DownPlusN}
-use Rattle.loop_ir.specs.declared.ir.Sub.TheVariants.{NPlusInner}
+use Rattle.loop_ir.specs.declared.ir.Sub.TheVariants.{Outer, OuterDown, Sum, DownSum, SumTwice}
+use Rattle.loop_ir.specs.declared.ir.Sub.TheVariants.{AboveSumTwice, AboveSum}
 use Rattle.loop_ir.specs.Plain.{Block, InnerOf, StepOf, all_turns, AllParts}
-use Rattle.loop_ir.specs.Plain.InnerOf.{Alone, Across}
+use Rattle.loop_ir.specs.Plain.InnerOf.{Alone, Across, IfOdd, Halves}
 use Rattle.loop_ir.specs.Plain.StepOf.{Single, Along, Nest, Pairs, Alternate}
 use Rattle.loop_ir.specs.Loops.{RoundOf, all_rounds}
 use Rattle.loop_ir.specs.Spots.{Spot, IsOwn, is_state, nth_place, nth_spot}
@@ -61,17 +61,26 @@ may_stand inner outer Outer = outer
 may_stand inner outer OuterDown = outer
 may_stand inner outer Sum = inner && outer
 may_stand inner outer DownSum = inner && outer
-may_stand inner outer DownPlusN = outer
-may_stand inner outer NPlusInner = inner
+may_stand inner outer SumTwice = inner && outer
+may_stand inner outer AboveSumTwice = inner && outer
+may_stand inner outer AboveSum = inner && outer
 
 -- every place of the body has such a subscript
 abbrev pub all_stand : Bool → Bool → Block → Bool
 all_stand inner outer b = list_all (λ p. may_stand inner outer p.sub) (b.reads ++ b.writes)
 
+-- every place of the body is at 0, at an element of a pair, or where a level above has the carry:
+-- three registers are enough for the two bodies of a pair
+abbrev pub stays_in_pair : Block → Bool
+stays_in_pair b = list_all (λ p. same_sub p.sub Zero || (same_sub p.sub SumTwice
+    || (same_sub p.sub AboveSumTwice || same_sub p.sub AboveSum))) (b.reads ++ b.writes)
+
 -- so it is in a part of a nest
 abbrev pub inner_stands : InnerOf Block → Bool
 inner_stands (Alone b) = all_stand false true b
 inner_stands (Across count b) = all_stand true true b
+inner_stands (IfOdd b) = all_stand false true b
+inner_stands (Halves b c) = stays_in_pair b && stays_in_pair c
 
 -- every place of the body is at 0 or at the inner position: so it is with bodies that take turns,
 -- for all of which one register is enough

@@ -1,14 +1,14 @@
 -- The rounds of a loop program.
-use Rattle.std.specs.Prelude.{ℕ, zero, suc, ◌+◌, ◌-◌, ◌*◌, ◌^◌, nat_le, if◌then◌else◌, List, []}
+use Rattle.std.specs.Prelude.{ℕ, zero, suc, ◌+◌, ◌-◌, ◌*◌, ◌/◌, ◌%◌, ◌^◌, List, []}
 use Rattle.std.specs.Prelude.{◌∷◌, ◌++◌}
 use Rattle.loop_ir.specs.declared.ir.Sub.{Sub}
 use Rattle.loop_ir.specs.declared.ir.Sub.TheVariants.{Zero, Top, Inner as At_inner, InnerDown}
-use Rattle.loop_ir.specs.declared.ir.Sub.TheVariants.{Outer, OuterDown, Sum, DownSum, DownPlusN}
-use Rattle.loop_ir.specs.declared.ir.Sub.TheVariants.{NPlusInner}
+use Rattle.loop_ir.specs.declared.ir.Sub.TheVariants.{Outer, OuterDown, Sum, DownSum, SumTwice}
+use Rattle.loop_ir.specs.declared.ir.Sub.TheVariants.{AboveSumTwice, AboveSum}
 use Rattle.loop_ir.specs.declared.ir.Count.{Count}
-use Rattle.loop_ir.specs.declared.ir.Count.TheVariants.{All, Rest, UpTo, Bits}
+use Rattle.loop_ir.specs.declared.ir.Count.TheVariants.{All, Rest, UpTo}
 use Rattle.loop_ir.specs.Plain.{InnerOf, TurnOf, StepOf}
-use Rattle.loop_ir.specs.Plain.InnerOf.{Alone, Across}
+use Rattle.loop_ir.specs.Plain.InnerOf.{Alone, Across, IfOdd, Halves}
 use Rattle.loop_ir.specs.Plain.StepOf.{Single, Along, Nest, Pairs, Alternate}
 
 -- the lists at i, i + 1 and so on, as many as the count
@@ -30,23 +30,29 @@ round_at b i o = record { part = b; i = i; o = o }
 abbrev pub one_round : {A : Type 0} → A → ℕ → ℕ → List (RoundOf A)
 one_round b i o = round_at b i o ∷ []
 
--- how many bits a number has: one more at each power of two
-abbrev pub bits_in : ℕ → ℕ
-bits_in zero = 0
-bits_in (suc m) = if nat_le (2 ^ bits_in m) (suc m) then bits_in m + 1 else bits_in m
-
 -- how many inner positions there are
 abbrev pub positions : ℕ → ℕ → Count → ℕ
 positions n o All = n
 positions n o Rest = n - o
 positions n o UpTo = o + 1
-positions n o Bits = bits_in (o + 1)
+
+-- how many elements level o of a count of n bits has
+abbrev pub elements : ℕ → ℕ → ℕ
+elements n o = n / 2 ^ o
+
+-- two bodies, one after the other at the same positions
+abbrev pub two_rounds : {A : Type 0} → A → A → ℕ → ℕ → List (RoundOf A)
+two_rounds b c i o = round_at b i o ∷ round_at c i o ∷ []
 
 -- the rounds of a nest's parts at one outer position
 abbrev pub inner_rounds : {A : Type 0} → ℕ → ℕ → List (InnerOf A) → List (RoundOf A)
 inner_rounds n o [] = []
 inner_rounds n o (Alone b ∷ more) = one_round b 0 o ++ inner_rounds n o more
 inner_rounds n o (Across count b ∷ more) = rounds (λ i. one_round b i o) 0 (positions n o count)
+    ++ inner_rounds n o more
+inner_rounds n o (IfOdd b ∷ more) = rounds (λ i. one_round b i o) 0 (elements n o % 2)
+    ++ inner_rounds n o more
+inner_rounds n o (Halves b c ∷ more) = rounds (λ i. two_rounds b c i o) 0 (elements n (o + 1))
     ++ inner_rounds n o more
 
 -- the rounds from position i on, where the top position comes after so many: the first of the
@@ -80,5 +86,6 @@ sub_value n i o Outer = o
 sub_value n i o OuterDown = n - 1 - o
 sub_value n i o Sum = o + i
 sub_value n i o DownSum = n - 1 - o + i
-sub_value n i o DownPlusN = 2 * n - 1 - o
-sub_value n i o NPlusInner = n + i
+sub_value n i o SumTwice = o + 2 * i
+sub_value n i o AboveSumTwice = o + 1 + 2 * i
+sub_value n i o AboveSum = o + 1 + i

@@ -22,10 +22,13 @@ pub record Block : Type 0 where
   pub writes : List Place
   pub found : List BodyCmd
 
--- a part of a nest: a body once, or at each inner position
+-- a part of a nest: a body once, or at each inner position; and where the outer positions are the
+-- levels of a count, a body where a level's elements are odd in number, or two at each pair of them
 pub data InnerOf (A : Type 0) : Type 0 where
   Alone : A → InnerOf A
   Across : Count → A → InnerOf A
+  IfOdd : A → InnerOf A
+  Halves : A → A → InnerOf A
 
 -- one of bodies that take turns, and the one that stands in its place at the top position
 pub record TurnOf (A : Type 0) : Type 0 where
@@ -55,6 +58,8 @@ block_of b = record {
 abbrev pub inner_of : Inner → InnerOf Block
 inner_of (code_inner.Once b) = Alone (block_of b)
 inner_of (code_inner.Each count b) = Across count (block_of b)
+inner_of (code_inner.IfOdd b) = IfOdd (block_of b)
+inner_of (code_inner.Halves b c) = Halves (block_of b) (block_of c)
 
 -- one of bodies that take turns
 abbrev pub turn_of : Turn → TurnOf Block
@@ -76,6 +81,8 @@ steps_of p = map step_of p.steps.items
 abbrev pub inner_map : {A B : Type 0} → (A → B) → InnerOf A → InnerOf B
 inner_map f (Alone a) = Alone (f a)
 inner_map f (Across count a) = Across count (f a)
+inner_map f (IfOdd a) = IfOdd (f a)
+inner_map f (Halves a b) = Halves (f a) (f b)
 
 -- the same turn over other things
 abbrev pub turn_map : {A B : Type 0} → (A → B) → TurnOf A → TurnOf B
@@ -94,6 +101,8 @@ abbrev pub AllInner : {A : Type 0} → (A → Type 0) → List (InnerOf A) → T
 AllInner P [] = Unit {0}
 AllInner P (Alone a ∷ xs) = P a × AllInner P xs
 AllInner P (Across count a ∷ xs) = P a × AllInner P xs
+AllInner P (IfOdd a ∷ xs) = P a × AllInner P xs
+AllInner P (Halves a b ∷ xs) = (P a × P b) × AllInner P xs
 
 -- what holds of all bodies that take turns
 abbrev pub AllTurns : {A : Type 0} → (A → Type 0) → List (TurnOf A) → Type 0

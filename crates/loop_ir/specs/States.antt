@@ -12,6 +12,7 @@ use Rattle.row_alloc.specs.HeldBodies.{HeldMultiplied, HeldDivided, HeldAgreed, 
 use Rattle.row_alloc.specs.HeldBodies.{EitherInT2, MajorityInT3, MajorityInT1, MajorityFromT3}
 use Rattle.row_alloc.specs.HeldBodies.{KeptForPair, PairUnlike}
 use Rattle.row_alloc.specs.HeldBodies.{BothAtLast, EitherAtLast, MajorityAtLast, PairUnlikeAtLast}
+use Rattle.row_alloc.specs.HeldBodies.{ReadTurned, WrittenTurned, HeldCounted, HeldMoved}
 use Rattle.row_alloc.specs.HeldBodies.{UnlikeAtLast, NotInT1AndDcc0, BothFromT1, MajorityFromDcc0}
 use Rattle.row_alloc.specs.HeldBodies.{held_inputs, held_nodes, held_outs, enter_in, leave_in}
 use Rattle.loop_ir.specs.declared.ir.Place.{Place}
@@ -91,7 +92,8 @@ held_bodies = ZeroInT0 ∷ OneInT0 ∷ ZeroInT1 ∷ OneInT1 ∷ OnesInT2AndT3 �
     ∷ HeldMultiplied ∷ HeldDivided ∷ HeldAgreed ∷ BothInT2 ∷ EitherInT2 ∷ MajorityInT3
     ∷ MajorityInT1 ∷ KeptForPair ∷ PairUnlike ∷ BothAtLast ∷ EitherAtLast ∷ MajorityAtLast
     ∷ MajorityFromT3 ∷ PairUnlikeAtLast
-    ∷ UnlikeAtLast ∷ NotInT1AndDcc0 ∷ BothFromT1 ∷ MajorityFromDcc0 ∷ []
+    ∷ UnlikeAtLast ∷ NotInT1AndDcc0 ∷ BothFromT1 ∷ MajorityFromDcc0 ∷ ReadTurned
+    ∷ WrittenTurned ∷ HeldCounted ∷ HeldMoved ∷ []
 
 -- which of the bodies that hold states it is
 abbrev pub held_of : Block → Option HeldBody

@@ -24,10 +24,12 @@ pub enum Sub {
     Sum,
     /// n - 1 - o + i.
     DownSum,
-    /// 2n - 1 - o.
-    DownPlusN,
-    /// n + i.
-    NPlusInner,
+    /// o + 2i.
+    SumTwice,
+    /// o + 1 + 2i.
+    AboveSumTwice,
+    /// o + 1 + i.
+    AboveSum,
 }
 
 /// What a row belongs to: the result, a source, or a bit or word of scratch. A value in cells of
@@ -86,21 +88,25 @@ impl Drop for Body {
     }
 }
 
-/// How far an inner loop runs: from 0 to n - 1, to n - 1 - o, or to o; or over as many positions as
-/// the number o + 1 has bits. It is never without a round.
+/// How far an inner loop runs: from 0 to n - 1, to n - 1 - o, or to o. It is never without a round.
 #[derive(Clone, Copy, PartialEq, Eq)]
 pub enum Count {
     All,
     Rest,
     UpTo,
-    Bits,
 }
 
-/// A part of a nest: a body at each outer position, once or in a loop of its own.
+/// A part of a nest: a body at each outer position, once or in a loop of its own. Where the outer
+/// positions are the levels of a count, level o has n / 2^o elements.
 #[derive(Drop)]
 pub enum Inner {
     Once(Body),
     Each(Count, Body),
+    /// A body once at each level that has an odd number of elements.
+    IfOdd(Body),
+    /// Two bodies at each pair of elements. Their subscripts are `Zero`, `SumTwice`,
+    /// `AboveSumTwice` and `AboveSum` alone.
+    Halves(Body, Body),
 }
 
 /// One of bodies that take turns from position to position, and the one that stands in its place at

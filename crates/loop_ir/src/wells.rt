@@ -1,6 +1,6 @@
 //! When a loop program is well formed.
 
-ghost use Rattle.std.specs.Prelude.{◌≡◌, ◌↔◌, ◌<◌, ℕ, true, length, map};
+ghost use Rattle.std.specs.Prelude.{◌≡◌, ◌↔◌, ◌<◌, ℕ, true, length, map, ◌∷◌, []};
 ghost use Rattle.mig_graph.specs.Outputs.{AreNamed};
 ghost use Rattle.loop_ir.specs.Plain.{block_of, inner_of, turn_of, step_of, steps_of, AllInner};
 ghost use Rattle.loop_ir.specs.Plain.{AllTurns, AllStep};
@@ -105,6 +105,18 @@ fn is_well_formed(b: &Body) -> bool
         && all_agree(&b.writes, &b.reads)
 }
 
+/// Whether the bodies of a part of a nest are well formed.
+fn part_is_well_formed(part: &Inner) -> bool
+    ensures { (result ≡ true) ↔ AllInner IsWellFormed (inner_of part.now ∷ []) }
+{
+    match part {
+        Inner::Once(body) => is_well_formed(body),
+        Inner::Each(_, body) => is_well_formed(body),
+        Inner::IfOdd(body) => is_well_formed(body),
+        Inner::Halves(first, second) => is_well_formed(first) && is_well_formed(second),
+    }
+}
+
 /// Whether the bodies of a nest are well formed.
 fn parts_are_well_formed(parts: &[Inner]) -> bool
     ensures { (result ≡ true) ↔ AllInner IsWellFormed (map inner_of parts.now) }
@@ -112,11 +124,7 @@ fn parts_are_well_formed(parts: &[Inner]) -> bool
     match parts {
         [] => true,
         [first, rest @ ..] => {
-            let body = match first {
-                Inner::Once(body) => body,
-                Inner::Each(_, body) => body,
-            };
-            is_well_formed(body) && parts_are_well_formed(rest)
+            part_is_well_formed(first) && parts_are_well_formed(rest)
         }
     }
 }

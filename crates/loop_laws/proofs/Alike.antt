@@ -10,10 +10,10 @@ use Rattle.mig_graph.specs.declared.Lit.{Lit}
 use Rattle.row_alloc.specs.HeldBodies.{HeldBody, held_inputs, held_nodes, held_outs, enter_in}
 use Rattle.row_alloc.specs.HeldBodies.{leave_in, HeldNegatedIf}
 use Rattle.row_alloc.specs.declared.body.Held.{Held}
-use Rattle.loop_ir.specs.declared.ir.Count.TheVariants.{All, Rest, UpTo, Bits}
+use Rattle.loop_ir.specs.declared.ir.Count.TheVariants.{All, Rest, UpTo}
 use Rattle.loop_ir.specs.declared.ir.Place.{Place}
 use Rattle.loop_ir.specs.Plain.{Block, InnerOf, TurnOf, StepOf, inner_map, turn_map}
-use Rattle.loop_ir.specs.Plain.InnerOf.{Alone, Across}
+use Rattle.loop_ir.specs.Plain.InnerOf.{Alone, Across, IfOdd, Halves}
 use Rattle.loop_ir.specs.Plain.StepOf.{Single, Along, Nest, Pairs, Alternate}
 use Rattle.loop_ir.specs.Loops.{all_rounds}
 use Rattle.loop_ir.specs.Spots.{is_state, nth_place}
@@ -21,15 +21,16 @@ use Rattle.loop_ir.specs.Same.{same_lits, same_nodes}
 use Rattle.loop_ir.specs.States.{has_states, row_count, RowsFirst, enters, leaves, row_outs}
 use Rattle.loop_ir.specs.States.{StatesFit, same_helds, is_held_body, held_among, held_bodies}
 use Rattle.loop_ir.specs.States.{held_of}
-use Rattle.loop_ir.specs.Chains.{states_in, is_alive, finds, left_by, loop_finds, inner_left}
-use Rattle.loop_ir.specs.Chains.{inner_finds, turns_left, turns_find, steps_find}
+use Rattle.loop_ir.specs.Chains.{states_in, is_alive, finds, left_by, loop_finds, common}
+use Rattle.loop_ir.specs.Chains.{inner_left, inner_finds, turns_left, turns_find, steps_find}
 use Rattle.loop_ir.specs.Costs.{is_copy, is_not, is_and, is_or, is_xor, is_add, body_cost, held_cost}
 use Rattle.loop_ir.specs.Costs.{turn_cost, plain_cost, rounds_cost, plain_costs, same_sub}
 use Rattle.loop_ir.specs.Limits.{is_served}
 use Rattle.loop_laws.specs.Rooms.{Room, room_at, room_for, Owner, InRoom, InCells, Mark, Marked}
 use Rattle.loop_laws.specs.Rooms.{placed, placed_body, placed_steps}
 use Rattle.loop_laws.specs.Forms.{are_rows_first, has_known_states}
-use Rattle.loop_laws.proofs.Summed.{nest_sum, turns_sum, steps_sum, rounds_sum, sum_is, bits_from}
+use Rattle.loop_laws.proofs.Summed.{nest_sum, turns_sum, steps_sum, rounds_sum, sum_is, odd_from}
+use Rattle.loop_laws.proofs.Summed.{pairs_from}
 
 -- no room stands in cells
 abbrev pub HaveRows : List Room → Type 0
@@ -185,6 +186,21 @@ module _ (rooms : List Room) (rows : HaveRows rooms) where
       ap (λ l. inner_left l (map (inner_map (placed_body rooms)) ps)) (left_like b)
       ∙ inner_left_like (left_by (placed_body [] b)) ps
 
+  inner_left_like alive (IfOdd b ∷ ps) =
+      ap (λ l. inner_left (common alive l) (map (inner_map (placed_body rooms)) ps)) (left_like b)
+      ∙ inner_left_like (common alive (left_by (placed_body [] b))) ps
+  inner_left_like alive (Halves b c ∷ ps) =
+      ap (λ l. inner_left (common alive l) (map (inner_map (placed_body rooms)) ps)) (left_like c)
+      ∙ inner_left_like (common alive (left_by (placed_body [] c))) ps
+
+  after_like : (a b : Marked) → finds (left_by (placed_body rooms a)) (placed_body rooms b)
+      ≡ finds (left_by (placed_body [] a)) (placed_body [] b)
+  after_like a b = ap (λ l. finds l (placed_body rooms b)) (left_like a)
+      ∙ finds_like (left_by (placed_body [] a)) b
+
+  both_like : (a b c d : Bool) → a ≡ c → b ≡ d → (a && b) ≡ (c && d)
+  both_like a b c d e f = ap (λ x. x && b) e ∙ ap (λ x. c && x) f
+
   inner_finds_like : (alive : List ℕ) (ps : List (InnerOf Marked))
       → inner_finds alive (map (inner_map (placed_body rooms)) ps)
       ≡ inner_finds alive (map (inner_map (placed_body [])) ps)
@@ -200,14 +216,18 @@ module _ (rooms : List Room) (rows : HaveRows rooms) where
       ∙ ap (λ c. loop_finds alive (placed_body [] b) && c)
       (ap (λ l. inner_finds l qs) (left_like b)
       ∙ inner_finds_like (left_by (placed_body [] b)) ps)
-
-  after_like : (a b : Marked) → finds (left_by (placed_body rooms a)) (placed_body rooms b)
-      ≡ finds (left_by (placed_body [] a)) (placed_body [] b)
-  after_like a b = ap (λ l. finds l (placed_body rooms b)) (left_like a)
-      ∙ finds_like (left_by (placed_body [] a)) b
-
-  both_like : (a b c d : Bool) → a ≡ c → b ≡ d → (a && b) ≡ (c && d)
-  both_like a b c d e f = ap (λ x. x && b) e ∙ ap (λ x. c && x) f
+  inner_finds_like alive (IfOdd b ∷ ps) =
+      let qs = map (inner_map (placed_body rooms)) ps in
+      both_like _ _ _ _ (finds_like alive b)
+      (ap (λ l. inner_finds (common alive l) qs) (left_like b)
+      ∙ inner_finds_like (common alive (left_by (placed_body [] b))) ps)
+  inner_finds_like alive (Halves b c ∷ ps) =
+      let qs = map (inner_map (placed_body rooms)) ps in
+      both_like _ _ _ _
+      (both_like _ _ _ _ (finds_like alive b)
+      (both_like _ _ _ _ (after_like b c) (after_like c b)))
+      (ap (λ l. inner_finds (common alive l) qs) (left_like c)
+      ∙ inner_finds_like (common alive (left_by (placed_body [] c))) ps)
 
   abbrev turns_on : List Room → List (TurnOf Marked) → List (TurnOf Block)
   turns_on rs ts = map (turn_map (placed_body rs)) ts
@@ -304,11 +324,19 @@ module _ (f : Block → ℕ) (rooms : List Room)
       let times = 2 * (o * count) + (count * count + count) in
       ap (λ x. times * x + nest_sum f n o count (map (inner_map (placed_body rooms)) ps)) (like b)
       ∙ ap (λ x. times * f (placed_body [] b) + x) e
-  nest_like n o count (Across Bits b ∷ ps) =
+  nest_like n o count (IfOdd b ∷ ps) =
       let e = nest_like n o count ps in
-      let times = bits_from o count in
+      let times = odd_from n o count in
       ap (λ x. 2 * (times * x) + nest_sum f n o count (map (inner_map (placed_body rooms)) ps))
       (like b) ∙ ap (λ x. 2 * (times * f (placed_body [] b)) + x) e
+  nest_like n o count (Halves b c ∷ ps) =
+      let e = nest_like n o count ps in
+      let times = pairs_from n o count in
+      ap (λ x. 2 * (times * (x + f (placed_body rooms c)))
+      + nest_sum f n o count (map (inner_map (placed_body rooms)) ps)) (like b)
+      ∙ ap (λ x. 2 * (times * (f (placed_body [] b) + x))
+      + nest_sum f n o count (map (inner_map (placed_body rooms)) ps)) (like c)
+      ∙ ap (λ x. 2 * (times * (f (placed_body [] b) + f (placed_body [] c))) + x) e
 
   turns_like : (ts : List (TurnOf Marked)) (count : ℕ)
       → turns_sum f (map (turn_map (placed_body rooms)) ts) count

@@ -1,7 +1,7 @@
 -- Code can be made of a program of such a form, whose graphs are such as `Mig` makes.
 use Rattle.std.proofs.Common.{ℕ, List, [], ◌∷◌, arith}
 use Rattle.loop_ir.specs.Plain.{Block, InnerOf, StepOf, AllInner, AllStep, AllParts}
-use Rattle.loop_ir.specs.Plain.InnerOf.{Alone, Across}
+use Rattle.loop_ir.specs.Plain.InnerOf.{Alone, Across, IfOdd, Halves}
 use Rattle.loop_ir.specs.Plain.StepOf.{Single, Along, Nest, Pairs, Alternate}
 use Rattle.loop_ir.specs.Spots.{Spot}
 use Rattle.loop_ir.specs.WellFormed.{IsWellFormed}
@@ -16,6 +16,11 @@ module _ (P Q R : Block → Type 0) (f : (b : Block) → P b → Q b → R b) wh
   inner_both [] p q = tt
   inner_both (Alone b ∷ xs) p q = (f b p.0 q.0, inner_both xs p.1 q.1)
   inner_both (Across c b ∷ xs) p q = (f b p.0 q.0, inner_both xs p.1 q.1)
+  inner_both (IfOdd b ∷ xs) p q = (f b p.0 q.0, inner_both xs p.1 q.1)
+  inner_both (Halves b c ∷ xs) p q = (
+    (f b p.0.0 q.0.0, f c p.0.1 q.0.1),
+    inner_both xs p.1 q.1,
+  )
 
   step_both : (s : StepOf Block) → AllStep P s → AllStep Q s → AllStep R s
   step_both (Single b) p q = f b p q

@@ -10,6 +10,7 @@ use Rattle.mig_graph.specs.declared.Node.{Node}
 use Rattle.mig_graph.specs.Literals.{is_complemented}
 use Rattle.mig_graph.specs.Outputs.{lit_at}
 use Rattle.row_alloc.specs.declared.body.Held.{Held}
+use Rattle.row_alloc.specs.HeldBodies.{ReadTurned, WrittenTurned, HeldCounted, HeldMoved}
 use Rattle.row_alloc.specs.HeldBodies.{HeldBody, ZeroInT0, OneInT0, ZeroInT1, OneInT1}
 use Rattle.row_alloc.specs.HeldBodies.{OnesInT2AndT3, ZeroInT3AndDcc1, ZeroInTurnedT3AndDcc1}
 use Rattle.row_alloc.specs.HeldBodies.{HeldCompared, HeldOrdered, HeldLessened, HeldNegatedIf}
@@ -163,6 +164,15 @@ kept-most false nodes outs all inputs one n o two some =
     let f = ap (λ b. cond b 1 all) (ne_eqb inputs 0 (λ g. absurd (omega (arith, g, some)))) in
     omega (arith, e, f, two)
 
+-- what has no node, and one output in a row
+row-most : (copy : Bool) (nodes outs all inputs : ℕ) → nodes ≡ 0 → outs ≡ 1
+    → 1 ≤ shape-cost copy nodes outs all inputs
+row-most true nodes outs all inputs n o = omega arith
+row-most false nodes outs all inputs n o =
+    let e = ap (λ x. shape-cost false x outs all inputs) n
+    ∙ ap (λ x. shape-cost false 0 x all inputs) o in
+    omega (arith, e)
+
 round-most : (copy : Bool) (nodes outs all inputs k : ℕ) → (copy ≡ true → nodes ≡ 0) → 0 < nodes
     → k ≤ 4 * nodes + 3 * outs → k ≤ shape-cost copy nodes outs all inputs
 round-most true nodes outs all inputs k none some le = absurd (omega (arith, none refl, some))
@@ -232,6 +242,12 @@ sequence-most MajorityFromT3 c n o a r hc ha en eo la lr = round-most c n o a r 
     (omega (arith, en)) (omega (arith, en, eo))
 sequence-most PairUnlikeAtLast c n o a r hc ha en eo la lr = round-most c n o a r 4 hc
     (omega (arith, en)) (omega (arith, en, eo))
+sequence-most ReadTurned c n o a r hc ha en eo la lr = kept-most c n o a r ha en eo
+    (omega (arith, la)) (omega (arith, lr))
+sequence-most WrittenTurned c n o a r hc ha en eo la lr = row-most c n o a r en eo
+sequence-most HeldCounted c n o a r hc ha en eo la lr = round-most c n o a r 6 hc
+    (omega (arith, en)) (omega (arith, en, eo))
+sequence-most HeldMoved c n o a r hc ha en eo la lr = row-most c n o a r en eo
 sequence-most UnlikeAtLast c n o a r hc ha en eo la lr = round-most c n o a r 6 hc
     (omega (arith, en)) (omega (arith, en, eo))
 

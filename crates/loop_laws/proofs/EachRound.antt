@@ -1,11 +1,13 @@
 -- What holds of every body holds of every round.
-use Rattle.std.proofs.Common.{ℕ, zero, suc, ◌+◌, ◌-◌, ◌≤◌, List, [], ◌∷◌, map, arith}
+use Rattle.std.proofs.Common.{ℕ, zero, suc, ◌+◌, ◌-◌, ◌*◌, ◌≤◌, List, [], ◌∷◌, map, arith}
+use Rattle.std.specs.Prelude.{◌%◌}
 use Rattle.std.specs.List.{AllByRecursion}
 use Rattle.loop_ir.specs.Plain.{Block, InnerOf, TurnOf, StepOf, inner_map, turn_map, step_map}
 use Rattle.loop_ir.specs.Plain.{AllInner, AllTurns, AllParts}
-use Rattle.loop_ir.specs.Plain.InnerOf.{Alone, Across}
+use Rattle.loop_ir.specs.Plain.InnerOf.{Alone, Across, IfOdd, Halves}
 use Rattle.loop_ir.specs.Plain.StepOf.{Single, Along, Nest, Pairs, Alternate}
 use Rattle.loop_ir.specs.Loops.{RoundOf, one_round, rounds, positions, inner_rounds, turns_from}
+use Rattle.loop_ir.specs.Loops.{elements, two_rounds}
 use Rattle.loop_ir.specs.Loops.{all_rounds}
 use Rattle.loop_ir.specs.Costs.{rounds_cost, plain_costs}
 use Rattle.loop_laws.specs.Rooms.{Room, Marked, placed_body, placed_steps}
@@ -34,6 +36,13 @@ module _ (P : Block → Type 0) where
   inners n o (Across c b ∷ xs) all = all_append OfPart
       (rounds (λ i. one_round b i o) 0 (positions n o c)) (inner_rounds n o xs)
       (each b o 0 (positions n o c) all.0) (inners n o xs all.1)
+  inners n o (IfOdd b ∷ xs) all = all_append OfPart
+      (rounds (λ i. one_round b i o) 0 (elements n o % 2)) (inner_rounds n o xs)
+      (each b o 0 (elements n o % 2) all.0) (inners n o xs all.1)
+  inners n o (Halves b c ∷ xs) all = all_append OfPart
+      (rounds (λ i. two_rounds b c i o) 0 (elements n (o + 1))) (inner_rounds n o xs)
+      (over (λ i. two_rounds b c i o) (λ i. (all.0.0, (all.0.1, tt))) 0 (elements n (o + 1)))
+      (inners n o xs all.1)
 
   pub each_round : (n : ℕ) (ss : List (StepOf Block)) → AllParts P ss
       → AllByRecursion OfPart (all_rounds n ss)
@@ -56,6 +65,8 @@ module _ (P : Block → Type 0) where
     inners_made [] = tt
     inners_made (Alone b ∷ xs) = (h b, inners_made xs)
     inners_made (Across c b ∷ xs) = (h b, inners_made xs)
+    inners_made (IfOdd b ∷ xs) = (h b, inners_made xs)
+    inners_made (Halves b c ∷ xs) = ((h b, h c), inners_made xs)
 
     turns_made : (ts : List (TurnOf Marked)) → AllTurns P (map (turn_map f) ts)
     turns_made [] = tt

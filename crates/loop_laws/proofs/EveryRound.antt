@@ -2,7 +2,7 @@
 use Rattle.std.proofs.Common.{◌≡◌, ℕ, zero, suc, ◌+◌, ◌-◌, ◌*◌, ◌<◌, ◌≤◌, Bool, true, false, List}
 use Rattle.std.proofs.Common.{[], ◌∷◌, ◌++◌, map, length, refl, sym, ap, ◌∙◌, subst, ⊎_elim, arith}
 use Rattle.std.proofs.Common.{◌⊎◌, inl, inr}
-use Rattle.std.specs.Prelude.{◌&&◌, ◌||◌, ◌==◌, nat_le}
+use Rattle.std.specs.Prelude.{◌%◌, ◌&&◌, ◌||◌, ◌==◌, nat_le}
 use Rattle.std.specs.List.{AllByRecursion, list_all}
 use Rattle.std.proofs.lemmas.Bool.{cases_eq, cases_lt, and_parts, eqb-true}
 use Rattle.std.proofs.lemmas.List.{length-map}
@@ -12,14 +12,14 @@ use Rattle.loop_ir.specs.declared.ir.Space.TheVariants.{Cells}
 use Rattle.loop_ir.specs.declared.ir.Sub.{Sub}
 use Rattle.loop_ir.specs.declared.ir.Sub.TheVariants as sub
 use Rattle.loop_ir.specs.declared.ir.Count.{Count}
-use Rattle.loop_ir.specs.declared.ir.Count.TheVariants.{All, Rest, UpTo, Bits}
+use Rattle.loop_ir.specs.declared.ir.Count.TheVariants.{All, Rest, UpTo}
 use Rattle.loop_ir.specs.declared.ir.Place.{Place}
 use Rattle.loop_ir.specs.Plain.{Block, InnerOf, StepOf, AllInner, AllParts, inner_map, turn_map}
 use Rattle.loop_ir.specs.Plain.{all_turns}
-use Rattle.loop_ir.specs.Plain.InnerOf.{Alone, Across}
+use Rattle.loop_ir.specs.Plain.InnerOf.{Alone, Across, IfOdd, Halves}
 use Rattle.loop_ir.specs.Plain.StepOf.{Single, Along, Nest, Pairs, Alternate}
 use Rattle.loop_ir.specs.Loops.{RoundOf, round_at, one_round, rounds, positions, sub_value}
-use Rattle.loop_ir.specs.Loops.{inner_rounds, turns_from, all_rounds}
+use Rattle.loop_ir.specs.Loops.{elements, two_rounds, inner_rounds, turns_from, all_rounds}
 use Rattle.loop_ir.specs.Spots.{Spot, spot_at, spot_in, nth_place, nth_spot, IsOwn, is_state}
 use Rattle.loop_ir.specs.WellFormed.{IsOneValue}
 use Rattle.loop_ir.specs.Costs.{used_subs, code_cost, bodies}
@@ -28,11 +28,12 @@ use Rattle.loop_ir.specs.Chains.{steps_find}
 use Rattle.loop_laws.specs.Rooms.{Extent, One, Full, extent, Room, room_at, room_for, Owner}
 use Rattle.loop_laws.specs.Rooms.{InRoom, InCells, Mark, Marked, placed, placed_body, placed_steps}
 use Rattle.loop_laws.specs.Rooms.{row_in, IsOwned, RoomsApart, Reach, Nowhere, Whole, Left, Below}
+use Rattle.loop_laws.specs.Rooms.{Paired, is_paired}
 use Rattle.loop_laws.specs.Rooms.{is_long, has_inner, is_left, is_below, fits, reach_of}
 use Rattle.loop_laws.specs.Forms.{IsSlim, has_room, inners_have_room, steps_have_room}
 use Rattle.loop_laws.specs.Forms.{has_known_states, inners_have_known, steps_have_known}
 use Rattle.loop_laws.specs.Laws.{MarksAreEnough}
-use Rattle.loop_laws.proofs.Digits.{few_bits}
+use Rattle.loop_laws.proofs.Levels.{pairs_of, room_for_level}
 use Rattle.loop_laws.proofs.Fitting.{mark_at, IsThere, InnerOk, OuterOk, BodyFits, InnersFit}
 use Rattle.loop_laws.proofs.Fitting.{StepsFit}
 use Rattle.loop_laws.proofs.TakingTurns.{turns_tested, turns_mapped, turns_both, turns_rounds}
@@ -50,17 +51,24 @@ first : (n : ℕ) (w : Extent) → 0 < n → 0 < extent n w
 first n One h = omega arith
 first n Full h = h
 
+-- the elements of a pair lie below n
+pair_below : (n i o : ℕ) → i < elements n (o + 1) → o < n → o + 1 + 2 * i < n
+pair_below n i o lt lo = let a = pairs_of n o in let b = room_for_level n o (omega (arith, lo)) in
+    omega (arith, a, b, lt)
+
 inner_below : (n i o : ℕ) (r : Reach) → InnerOk n i o r → has_inner r ≡ true → i < n
 inner_below n i o Nowhere ok e = cc
 inner_below n i o Whole ok e = ok
 inner_below n i o Left ok e = omega (arith, ok)
 inner_below n i o Below ok e = omega (arith, ok.0, ok.1)
+inner_below n i o Paired ok e = let a = pair_below n i o ok.0 ok.1 in omega (arith, a)
 
 left_below : (n i o : ℕ) (r : Reach) → InnerOk n i o r → is_left r ≡ true → i < n - o
 left_below n i o Nowhere ok e = cc
 left_below n i o Whole ok e = cc
 left_below n i o Left ok e = ok
 left_below n i o Below ok e = cc
+left_below n i o Paired ok e = cc
 
 -- the place that is as far from an outer position as the inner one is from the start
 down_below : (n i o : ℕ) (r : Reach) → InnerOk n i o r → is_below r ≡ true → o < n
@@ -69,6 +77,25 @@ down_below n i o Nowhere ok e lo = cc
 down_below n i o Whole ok e lo = cc
 down_below n i o Left ok e lo = cc
 down_below n i o Below ok e lo = omega (arith, ok.0, ok.1)
+down_below n i o Paired ok e lo = cc
+
+-- the second element of a pair, at the most
+paired_below : (n i o : ℕ) (r : Reach) → InnerOk n i o r → is_paired r ≡ true
+    → o + 1 + 2 * i < n
+paired_below n i o Nowhere ok e = cc
+paired_below n i o Whole ok e = cc
+paired_below n i o Left ok e = cc
+paired_below n i o Below ok e = cc
+paired_below n i o Paired ok e = pair_below n i o ok.0 ok.1
+
+paired_fits : (n i o : ℕ) (r : Reach) (outer : Bool) (w : Extent) (v : ℕ) → InnerOk n i o r
+    → (is_long w && (outer && is_paired r)) ≡ true → v ≤ o + 1 + 2 * i → v < extent n w
+paired_fits n i o r outer w v ik e le =
+    let p = and_parts (is_long w) (outer && is_paired r) e in
+    let q = and_parts outer (is_paired r) p.1 in
+    let a = long n w p.0 in
+    let b = paired_below n i o r ik q.1 in
+    omega (arith, a, b, le)
 
 outer_below : (n o : ℕ) (b : Bool) → OuterOk n o b → b ≡ true → o < n
 outer_below n o true ok e = ok
@@ -94,8 +121,10 @@ within n i o r outer w sub.DownSum h ik ok e = let p =
     and_parts (is_long w) (outer && is_below r) e in
     let q = and_parts outer (is_below r) p.1 in let a = long n w p.0 in
     let b = down_below n i o r ik q.1 (outer_below n o outer ok q.0) in omega arith
-within n i o r outer w sub.DownPlusN h ik ok e = cc
-within n i o r outer w sub.NPlusInner h ik ok e = cc
+within n i o r outer w sub.SumTwice h ik ok e = paired_fits n i o r outer w _ ik e (omega arith)
+within n i o r outer w sub.AboveSumTwice h ik ok e =
+    paired_fits n i o r outer w _ ik e (omega arith)
+within n i o r outer w sub.AboveSum h ik ok e = paired_fits n i o r outer w _ ik e (omega arith)
 
 nth_placed : (rooms : List Room) (ms : List Mark) (k : ℕ) → k < length ms
     → nth_place (map (placed rooms) ms) k ≡ placed rooms (mark_at ms k)
@@ -332,7 +361,6 @@ reach_ok : (n : ℕ) (c : Count) (i o : ℕ) → o < n → i < positions n o c
 reach_ok n All i o lo lt = lt
 reach_ok n Rest i o lo lt = lt
 reach_ok n UpTo i o lo lt = (omega (arith, lt), lo)
-reach_ok n Bits i o lo lt = (omega (arith, lt, few_bits (o + 1)), lo)
 
 module _ (n : ℕ) (rooms : List Room) (some : 0 < n) (are : RoomsApart n rooms)
     (rows : HaveRows rooms) where
@@ -353,6 +381,26 @@ module _ (n : ℕ) (rooms : List Room) (some : 0 < n) (are : RoomsApart n rooms)
         round_is n rooms some are rows (reach_of c) true b fit.0 i o (reach_ok n c i o lo lt)
             lo,
         tt,
+      )))
+      (inners_are ps o lo fit.1)
+  inners_are (IfOdd b ∷ ps) o lo fit =
+      let count = elements n o % 2 in
+      all_append (IsRound (IsOwned n rooms) n)
+      (rounds (λ i. one_round (placed_body rooms b) i o) 0 count)
+      (inner_rounds n o (map (inner_map (placed_body rooms)) ps))
+      (all_rounds_of (IsRound (IsOwned n rooms) n) (λ i. one_round (placed_body rooms b) i o) 0
+      count count (omega arith)
+      (λ i lt. (round_is n rooms some are rows Nowhere true b fit.0 i o tt lo, tt)))
+      (inners_are ps o lo fit.1)
+  inners_are (Halves b c ∷ ps) o lo fit =
+      let count = elements n (o + 1) in
+      let f = λ (i : ℕ). two_rounds (placed_body rooms b) (placed_body rooms c) i o in
+      all_append (IsRound (IsOwned n rooms) n) (rounds f 0 count)
+      (inner_rounds n o (map (inner_map (placed_body rooms)) ps))
+      (all_rounds_of (IsRound (IsOwned n rooms) n) f 0 count count (omega arith)
+      (λ i lt. (
+        round_is n rooms some are rows Paired true b fit.0.0 i o (lt, lo) lo,
+        (round_is n rooms some are rows Paired true c fit.0.1 i o (lt, lo) lo, tt),
       )))
       (inners_are ps o lo fit.1)
 
@@ -408,6 +456,23 @@ module _ (n : ℕ) (rooms : List Room) (some : 0 < n) (are : RoomsApart n rooms)
         slim_is n rooms some are rows (reach_of c) true b fit.0 a.0 k.0,
         inners_slim ps fit.1 a.1
             k.1,
+      )
+  inners_slim (IfOdd b ∷ ps) fit e h =
+      let a = and_parts (has_room (placed_body rooms b)) _ e in
+      let k = and_parts (has_known_states (placed_body [] b)) _ h in
+      (slim_is n rooms some are rows Nowhere true b fit.0 a.0 k.0, inners_slim ps fit.1 a.1 k.1)
+  inners_slim (Halves b c ∷ ps) fit e h =
+      let a = and_parts (has_room (placed_body rooms b) && has_room (placed_body rooms c)) _ e in
+      let a' = and_parts (has_room (placed_body rooms b)) (has_room (placed_body rooms c)) a.0 in
+      let k = and_parts (has_known_states (placed_body [] b)
+      && has_known_states (placed_body [] c)) _ h in
+      let k' = and_parts (has_known_states (placed_body [] b))
+      (has_known_states (placed_body [] c)) k.0 in (
+        (
+          slim_is n rooms some are rows Paired true b fit.0.0 a'.0 k'.0,
+          slim_is n rooms some are rows Paired true c fit.0.1 a'.1 k'.1,
+        ),
+        inners_slim ps fit.1 a.1 k.1,
       )
 
   abbrev FitsWhole : Marked → Type 0

@@ -1,11 +1,12 @@
 -- What a body's places keep where the test on owners and subscripts passes.
-use Rattle.std.proofs.Common.{◌≡◌, ℕ, zero, suc, ◌-◌, ◌<◌, ◌≤◌, Bool, true, false, List, [], ◌∷◌, length}
+use Rattle.std.proofs.Common.{◌≡◌, ℕ, zero, suc, ◌+◌, ◌-◌, ◌<◌, ◌≤◌, Bool, true, false, List, [], ◌∷◌, length}
 use Rattle.loop_ir.specs.declared.ir.Sub.TheVariants as sub
 use Rattle.loop_ir.specs.Plain.{InnerOf, StepOf, AllTurns}
-use Rattle.loop_ir.specs.Plain.InnerOf.{Alone, Across}
+use Rattle.loop_ir.specs.Plain.InnerOf.{Alone, Across, IfOdd, Halves}
 use Rattle.loop_ir.specs.Plain.StepOf.{Single, Along, Nest, Pairs, Alternate}
 use Rattle.loop_laws.specs.Rooms.{Room, room_for, Owner, InRoom, InCells, Mark, Marked}
-use Rattle.loop_laws.specs.Rooms.{Reach, Nowhere, Whole, Left, Below, fits, reach_of}
+use Rattle.loop_laws.specs.Rooms.{Reach, Nowhere, Whole, Left, Below, Paired, fits, reach_of}
+use Rattle.loop_ir.specs.Loops.{elements}
 
 -- a place of a body, by its number
 abbrev pub mark_at : List Mark → ℕ → Mark
@@ -24,6 +25,7 @@ InnerOk n i o Nowhere = Unit {0}
 InnerOk n i o Whole = i < n
 InnerOk n i o Left = i < n - o
 InnerOk n i o Below = (i ≤ o) × (o < n)
+InnerOk n i o Paired = (i < elements n (o + 1)) × (o < n)
 
 -- the outer index is one, where the body stands in a nest
 abbrev pub OuterOk : ℕ → ℕ → Bool → Type 0
@@ -57,6 +59,9 @@ InnersFit rooms [] = Unit {0}
 InnersFit rooms (Alone b ∷ ps) = BodyFits Nowhere true rooms b.reads b.writes × InnersFit rooms ps
 InnersFit rooms (Across c b ∷ ps) = BodyFits (reach_of c) true rooms b.reads b.writes
     × InnersFit rooms ps
+InnersFit rooms (IfOdd b ∷ ps) = BodyFits Nowhere true rooms b.reads b.writes × InnersFit rooms ps
+InnersFit rooms (Halves b c ∷ ps) = (BodyFits Paired true rooms b.reads b.writes
+    × BodyFits Paired true rooms c.reads c.writes) × InnersFit rooms ps
 
 -- so it is in every body of a loop program
 abbrev pub StepsFit : List Room → List (StepOf Marked) → Type 0

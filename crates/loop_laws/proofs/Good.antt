@@ -6,11 +6,11 @@ use Rattle.std.proofs.lemmas.Bool.{cases_Bool, and_parts, eqb-true, eq-eqb}
 use Rattle.loop_ir.specs.declared.ir.Sub.{Sub}
 use Rattle.loop_ir.specs.declared.ir.Sub.TheVariants as sub
 use Rattle.loop_ir.specs.Plain.{InnerOf, StepOf, all_turns}
-use Rattle.loop_ir.specs.Plain.InnerOf.{Alone, Across}
+use Rattle.loop_ir.specs.Plain.InnerOf.{Alone, Across, IfOdd, Halves}
 use Rattle.loop_ir.specs.Plain.StepOf.{Single, Along, Nest, Pairs, Alternate}
 use Rattle.loop_ir.specs.Costs.{sub_code}
 use Rattle.loop_laws.specs.Rooms.{Room, room_for, Owner, InRoom, InCells, same_owner, Mark, Marked}
-use Rattle.loop_laws.specs.Rooms.{Reach, Nowhere, Whole, Left, fits, reach_of, is_there, all_fit}
+use Rattle.loop_laws.specs.Rooms.{Reach, Nowhere, Whole, Left, Paired, fits, reach_of, is_there, all_fit}
 use Rattle.loop_laws.specs.Rooms.{none_like, alone_in, writes_fit, body_fits, inners_fit, steps_fit}
 use Rattle.loop_laws.proofs.Fitting.{mark_at, IsThere, BodyFits, InnersFit, StepsFit}
 use Rattle.loop_laws.proofs.TakingTurns.{turns_all}
@@ -35,8 +35,9 @@ sub_from (suc (suc (suc (suc zero)))) = sub.Outer
 sub_from (suc (suc (suc (suc (suc zero))))) = sub.OuterDown
 sub_from (suc (suc (suc (suc (suc (suc zero)))))) = sub.Sum
 sub_from (suc (suc (suc (suc (suc (suc (suc zero))))))) = sub.DownSum
-sub_from (suc (suc (suc (suc (suc (suc (suc (suc zero)))))))) = sub.DownPlusN
-sub_from (suc (suc (suc (suc (suc (suc (suc (suc (suc k))))))))) = sub.NPlusInner
+sub_from (suc (suc (suc (suc (suc (suc (suc (suc zero)))))))) = sub.SumTwice
+sub_from (suc (suc (suc (suc (suc (suc (suc (suc (suc zero))))))))) = sub.AboveSumTwice
+sub_from (suc (suc (suc (suc (suc (suc (suc (suc (suc (suc k)))))))))) = sub.AboveSum
 
 sub_back : (u : Sub) → sub_from (sub_code u) ≡ u
 unfolding sub_from
@@ -48,8 +49,9 @@ sub_back sub.Outer = refl
 sub_back sub.OuterDown = refl
 sub_back sub.Sum = refl
 sub_back sub.DownSum = refl
-sub_back sub.DownPlusN = refl
-sub_back sub.NPlusInner = refl
+sub_back sub.SumTwice = refl
+sub_back sub.AboveSumTwice = refl
+sub_back sub.AboveSum = refl
 
 -- a subscript is known by its number
 pub subs_same : (u v : Sub) → sub_code u ≡ sub_code v → u ≡ v
@@ -204,6 +206,16 @@ inners_are_fit rooms (Alone b ∷ ps) e = let a =
 inners_are_fit rooms (Across c b ∷ ps) e = let a =
     and_parts (body_fits (reach_of c) true rooms b) (inners_fit rooms ps) e in
     (body_is_fit (reach_of c) true rooms b a.0, inners_are_fit rooms ps a.1)
+inners_are_fit rooms (IfOdd b ∷ ps) e = let a =
+    and_parts (body_fits Nowhere true rooms b) (inners_fit rooms ps) e in
+    (body_is_fit Nowhere true rooms b a.0, inners_are_fit rooms ps a.1)
+inners_are_fit rooms (Halves b c ∷ ps) e =
+    let a = and_parts (body_fits Paired true rooms b && body_fits Paired true rooms c)
+    (inners_fit rooms ps) e in
+    let d = and_parts (body_fits Paired true rooms b) (body_fits Paired true rooms c) a.0 in (
+      (body_is_fit Paired true rooms b d.0, body_is_fit Paired true rooms c d.1),
+      inners_are_fit rooms ps a.1,
+    )
 
 pub steps_are_fit : (rooms : List Room) (ss : List (StepOf Marked)) → steps_fit rooms ss ≡ true
     → StepsFit rooms ss

@@ -1,4 +1,4 @@
-pub mod Digits
+pub mod Levels
 pub mod Same
 pub mod TakingTurns
 pub mod Loop

@@ -6,12 +6,12 @@ use Rattle.std.specs.List.{list_any, list_all}
 use Rattle.std.proofs.lemmas.Bool.{and_from}
 use Rattle.loop_ir.specs.declared.ir.Place.{Place}
 use Rattle.loop_ir.specs.Plain.{Block, InnerOf, TurnOf, StepOf, AllInner, AllTurns, AllParts}
-use Rattle.loop_ir.specs.Plain.InnerOf.{Alone, Across}
+use Rattle.loop_ir.specs.Plain.InnerOf.{Alone, Across, IfOdd, Halves}
 use Rattle.loop_ir.specs.Plain.StepOf.{Single, Along, Nest, Pairs, Alternate}
 use Rattle.loop_ir.specs.Spots.{is_state, nth_place}
 use Rattle.loop_ir.specs.States.{has_states, StatesFit}
-use Rattle.loop_ir.specs.Chains.{states_in, is_alive, finds, left_by, loop_finds, inner_left}
-use Rattle.loop_ir.specs.Chains.{inner_finds, turns_left, turns_find, steps_find}
+use Rattle.loop_ir.specs.Chains.{states_in, is_alive, finds, left_by, loop_finds, common}
+use Rattle.loop_ir.specs.Chains.{inner_left, inner_finds, turns_left, turns_find, steps_find}
 use Rattle.loop_laws.proofs.Alike.{or_parts, none_at, none_first, rows_first}
 
 -- nothing of the body stands in cells
@@ -65,6 +65,16 @@ inner_rows alive (Alone b ∷ ps) all = and_from (finds alive b) (inner_finds (l
     (rows_find alive b all.0) (inner_rows (left_by b) ps all.1)
 inner_rows alive (Across c b ∷ ps) all = and_from (loop_finds alive b) (inner_finds (left_by b) ps)
     (loop_rows alive b all.0) (inner_rows (left_by b) ps all.1)
+inner_rows alive (IfOdd b ∷ ps) all =
+    let left = common alive (left_by b) in
+    and_from (finds alive b) (inner_finds left ps) (rows_find alive b all.0)
+    (inner_rows left ps all.1)
+inner_rows alive (Halves b c ∷ ps) all =
+    let left = common alive (left_by c) in
+    and_from (finds alive b && (finds (left_by b) c && finds (left_by c) b)) (inner_finds left ps)
+    (and_from (finds alive b) _ (rows_find alive b all.0.0)
+    (and_from (finds (left_by b) c) (finds (left_by c) b) (rows_find (left_by b) c all.0.1)
+    (rows_find (left_by c) b all.0.0))) (inner_rows left ps all.1)
 
 turns_rows : (alive : List ℕ) (ts : List (TurnOf Block)) → AllTurns HasRows ts
     → turns_find alive ts ≡ true

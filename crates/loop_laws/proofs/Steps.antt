@@ -2,10 +2,11 @@
 use Rattle.std.proofs.Common.{◌≡◌, ℕ, zero, suc, ◌+◌, ◌-◌, List, [], ◌∷◌, ◌++◌, refl, sym, ap}
 use Rattle.std.proofs.Common.{◌∙◌, arith}
 use Rattle.loop_ir.specs.Plain.{Block, InnerOf, TurnOf, StepOf}
-use Rattle.loop_ir.specs.Plain.InnerOf.{Alone, Across}
+use Rattle.loop_ir.specs.Plain.InnerOf.{Alone, Across, IfOdd, Halves}
 use Rattle.loop_ir.specs.Plain.StepOf.{Along, Nest, Pairs, Alternate}
 use Rattle.loop_ir.specs.Loops.{RoundOf, round_at, one_round, rounds, positions, inner_rounds}
-use Rattle.loop_ir.specs.Loops.{turns_from, all_rounds}
+use Rattle.std.specs.Prelude.{◌%◌}
+use Rattle.loop_ir.specs.Loops.{elements, two_rounds, turns_from, all_rounds}
 use Rattle.loop_ir.specs.Spots.{Spots, after_round, after_rounds}
 use Rattle.loop_laws.specs.Turns.{after_many}
 use Rattle.loop_laws.proofs.Loop.{many_is}
@@ -38,12 +39,40 @@ pub steps_turns : (n : ℕ) (ts : List (TurnOf Block)) (ss : List (StepOf Block)
     ≡ after_steps n ss (after_rounds n (turns_from ts 0 (n - 1)) bits)
 steps_turns n ts ss bits = rounds_append n (turns_from ts 0 (n - 1)) (all_rounds n ss) bits
 
+-- two bodies at each of the first positions
+abbrev pub after_both : ℕ → ℕ → Block → Block → ℕ → Spots → Spots
+after_both n o b c zero bits = bits
+after_both n o b c (suc i) bits = after_round n (round_at c i o)
+    (after_round n (round_at b i o) (after_both n o b c i bits))
+
+both_more : (n o : ℕ) (b c : Block) (i count : ℕ) (bits : Spots)
+    → after_rounds n (rounds (λ j. two_rounds b c j o) i count) (after_both n o b c i bits)
+    ≡ after_both n o b c (i + count) bits
+both_more n o b c i zero bits = let e : i + 0 ≡ i = omega arith in
+    ap (λ x. after_both n o b c x bits) (sym e)
+both_more n o b c i (suc count) bits =
+    let e : i + 1 ≡ suc i = omega arith in
+    let f : suc i + count ≡ i + suc count = omega arith in
+    ap (λ x. after_rounds n (rounds (λ j. two_rounds b c j o) x count)
+    (after_both n o b c (suc i) bits)) e
+    ∙ both_more n o b c (suc i) count bits
+    ∙ ap (λ x. after_both n o b c x bits) f
+
+both_is : (n o : ℕ) (b c : Block) (count : ℕ) (bits : Spots)
+    → after_rounds n (rounds (λ j. two_rounds b c j o) 0 count) bits ≡ after_both n o b c count bits
+both_is n o b c count bits = let e : 0 + count ≡ count = omega arith in
+    both_more n o b c 0 count bits ∙ ap (λ x. after_both n o b c x bits) e
+
 -- the parts of a nest at an outer position
 abbrev pub after_parts : ℕ → ℕ → List (InnerOf Block) → Spots → Spots
 after_parts n o [] bits = bits
 after_parts n o (Alone b ∷ ps) bits = after_parts n o ps (after_round n (round_at b 0 o) bits)
 after_parts n o (Across k b ∷ ps) bits = after_parts n o ps
     (after_many n o b (positions n o k) bits)
+after_parts n o (IfOdd b ∷ ps) bits = after_parts n o ps
+    (after_many n o b (elements n o % 2) bits)
+after_parts n o (Halves b c ∷ ps) bits = after_parts n o ps
+    (after_both n o b c (elements n (o + 1)) bits)
 
 pub parts_is : (n o : ℕ) (ps : List (InnerOf Block)) (bits : Spots)
     → after_rounds n (inner_rounds n o ps) bits ≡ after_parts n o ps bits
@@ -53,6 +82,16 @@ parts_is n o (Across k b ∷ ps) bits =
     rounds_append n (rounds (λ i. one_round b i o) 0 (positions n o k)) (inner_rounds n o ps) bits
     ∙ ap (after_rounds n (inner_rounds n o ps)) (many_is n o b (positions n o k) bits)
     ∙ parts_is n o ps (after_many n o b (positions n o k) bits)
+parts_is n o (IfOdd b ∷ ps) bits =
+    let count = elements n o % 2 in
+    rounds_append n (rounds (λ i. one_round b i o) 0 count) (inner_rounds n o ps) bits
+    ∙ ap (after_rounds n (inner_rounds n o ps)) (many_is n o b count bits)
+    ∙ parts_is n o ps (after_many n o b count bits)
+parts_is n o (Halves b c ∷ ps) bits =
+    let count = elements n (o + 1) in
+    rounds_append n (rounds (λ i. two_rounds b c i o) 0 count) (inner_rounds n o ps) bits
+    ∙ ap (after_rounds n (inner_rounds n o ps)) (both_is n o b c count bits)
+    ∙ parts_is n o ps (after_both n o b c count bits)
 
 -- the first outer positions
 abbrev pub after_outer : ℕ → List (InnerOf Block) → ℕ → Spots → Spots

@@ -1,24 +1,29 @@
 -- The sum over all rounds of what each body counts.
 use Rattle.std.proofs.Common.{◌≡◌, ℕ, zero, suc, ◌+◌, ◌-◌, ◌*◌, ◌≤◌, List, [], ◌∷◌, ◌++◌, refl, sym}
 use Rattle.std.proofs.Common.{ap, ◌∙◌, arith, append-nil, append_assoc, length}
-use Rattle.std.specs.Prelude.{sum_by}
+use Rattle.std.specs.Prelude.{sum_by, ◌%◌}
 use Rattle.std.specs.List.{AllByRecursion}
 use Rattle.std.proofs.lemmas.List.Sums.{sum_by-cons, sum_by-append}
-use Rattle.loop_ir.specs.declared.ir.Count.TheVariants.{All, Rest, UpTo, Bits}
+use Rattle.loop_ir.specs.declared.ir.Count.TheVariants.{All, Rest, UpTo}
 use Rattle.loop_ir.specs.Plain.{Block, InnerOf, TurnOf, StepOf}
-use Rattle.loop_ir.specs.Plain.InnerOf.{Alone, Across}
+use Rattle.loop_ir.specs.Plain.InnerOf.{Alone, Across, IfOdd, Halves}
 use Rattle.loop_ir.specs.Plain.StepOf.{Single, Along, Nest, Pairs, Alternate}
 use Rattle.loop_ir.specs.Loops.{RoundOf, round_at, one_round, rounds, inner_rounds}
-use Rattle.loop_ir.specs.Loops.{turns_from, all_rounds, bits_in}
+use Rattle.loop_ir.specs.Loops.{elements, two_rounds, turns_from, all_rounds}
 
 -- a number of each body, summed over all rounds
 abbrev pub rounds_sum : (Block → ℕ) → List (RoundOf Block) → ℕ
 rounds_sum f rs = sum_by (λ r. f r.part) rs
 
--- the bits of so many numbers together, from o + 1 on
-abbrev pub bits_from : ℕ → ℕ → ℕ
-bits_from o zero = 0
-bits_from o (suc count) = bits_in (o + 1) + bits_from (o + 1) count
+-- how many of so many levels from o on have an odd number of elements
+abbrev pub odd_from : ℕ → ℕ → ℕ → ℕ
+odd_from n o zero = 0
+odd_from n o (suc count) = elements n o % 2 + odd_from n (o + 1) count
+
+-- the pairs of so many levels together
+abbrev pub pairs_from : ℕ → ℕ → ℕ → ℕ
+pairs_from n o zero = 0
+pairs_from n o (suc count) = elements n (o + 1) + pairs_from n (o + 1) count
 
 -- twice the sum over the last outer positions of a nest, from o on
 abbrev pub nest_sum : (Block → ℕ) → ℕ → ℕ → ℕ → List (InnerOf Block) → ℕ
@@ -28,7 +33,9 @@ nest_sum f n o count (Across All b ∷ ps) = 2 * (count * (n * f b)) + nest_sum 
 nest_sum f n o count (Across Rest b ∷ ps) = (count * count + count) * f b + nest_sum f n o count ps
 nest_sum f n o count (Across UpTo b ∷ ps) = (2 * (o * count) + (count * count + count)) * f b
     + nest_sum f n o count ps
-nest_sum f n o count (Across Bits b ∷ ps) = 2 * (bits_from o count * f b) + nest_sum f n o count ps
+nest_sum f n o count (IfOdd b ∷ ps) = 2 * (odd_from n o count * f b) + nest_sum f n o count ps
+nest_sum f n o count (Halves b c ∷ ps) = 2 * (pairs_from n o count * (f b + f c))
+    + nest_sum f n o count ps
 
 -- the sum over bodies that take turns, where the top position comes after so many
 abbrev pub turns_sum : (Block → ℕ) → List (TurnOf Block) → ℕ → ℕ
@@ -82,7 +89,8 @@ module _ (f : Block → ℕ) where
   inner_sum n o left (Across All b ∷ ps) = n * f b + inner_sum n o left ps
   inner_sum n o left (Across Rest b ∷ ps) = left * f b + inner_sum n o left ps
   inner_sum n o left (Across UpTo b ∷ ps) = (o + 1) * f b + inner_sum n o left ps
-  inner_sum n o left (Across Bits b ∷ ps) = bits_in (o + 1) * f b + inner_sum n o left ps
+  inner_sum n o left (IfOdd b ∷ ps) = elements n o % 2 * f b + inner_sum n o left ps
+  inner_sum n o left (Halves b c ∷ ps) = elements n (o + 1) * (f b + f c) + inner_sum n o left ps
 
   inner_is : (n o left : ℕ) (ps : List (InnerOf Block)) → n - o ≡ left
       → rounds_sum f (inner_rounds n o ps) ≡ inner_sum n o left ps
@@ -99,10 +107,16 @@ module _ (f : Block → ℕ) where
   inner_is n o left (Across UpTo b ∷ ps) e = sum_append (rounds (λ i. one_round b i o) 0 (o + 1))
       (inner_rounds n o ps) ∙ ap (λ x. x + rounds_sum f (inner_rounds n o ps))
       (sum_each b o 0 (o + 1)) ∙ ap (λ x. (o + 1) * f b + x) (inner_is n o left ps e)
-  inner_is n o left (Across Bits b ∷ ps) e =
-      sum_append (rounds (λ i. one_round b i o) 0 (bits_in (o + 1))) (inner_rounds n o ps)
-      ∙ ap (λ x. x + rounds_sum f (inner_rounds n o ps)) (sum_each b o 0 (bits_in (o + 1)))
-      ∙ ap (λ x. bits_in (o + 1) * f b + x) (inner_is n o left ps e)
+  inner_is n o left (IfOdd b ∷ ps) e =
+      let m = elements n o % 2 in
+      sum_append (rounds (λ i. one_round b i o) 0 m) (inner_rounds n o ps)
+      ∙ ap (λ x. x + rounds_sum f (inner_rounds n o ps)) (sum_each b o 0 m)
+      ∙ ap (λ x. m * f b + x) (inner_is n o left ps e)
+  inner_is n o left (Halves b c ∷ ps) e =
+      let m = elements n (o + 1) in
+      sum_append (rounds (λ i. two_rounds b c i o) 0 m) (inner_rounds n o ps)
+      ∙ ap (λ x. x + rounds_sum f (inner_rounds n o ps)) (sum_both b c o 0 m)
+      ∙ ap (λ x. m * (f b + f c) + x) (inner_is n o left ps e)
 
   one_more : (n o count : ℕ) (ps : List (InnerOf Block)) → nest_sum f n o (suc count) ps
       ≡ 2 * inner_sum n o (suc count) ps + nest_sum f n (o + 1) count ps
@@ -111,7 +125,8 @@ module _ (f : Block → ℕ) where
   one_more n o count (Across All b ∷ ps) = let e = one_more n o count ps in omega (arith, e)
   one_more n o count (Across Rest b ∷ ps) = let e = one_more n o count ps in omega (arith, e)
   one_more n o count (Across UpTo b ∷ ps) = let e = one_more n o count ps in omega (arith, e)
-  one_more n o count (Across Bits b ∷ ps) = let e = one_more n o count ps in omega (arith, e)
+  one_more n o count (IfOdd b ∷ ps) = let e = one_more n o count ps in omega (arith, e)
+  one_more n o count (Halves b c ∷ ps) = let e = one_more n o count ps in omega (arith, e)
 
   none : (n o : ℕ) (ps : List (InnerOf Block)) → nest_sum f n o 0 ps ≡ 0
   none n o [] = refl
@@ -119,7 +134,8 @@ module _ (f : Block → ℕ) where
   none n o (Across All b ∷ ps) = let e = none n o ps in omega (arith, e)
   none n o (Across Rest b ∷ ps) = let e = none n o ps in omega (arith, e)
   none n o (Across UpTo b ∷ ps) = let e = none n o ps in omega (arith, e)
-  none n o (Across Bits b ∷ ps) = let e = none n o ps in omega (arith, e)
+  none n o (IfOdd b ∷ ps) = let e = none n o ps in omega (arith, e)
+  none n o (Halves b c ∷ ps) = let e = none n o ps in omega (arith, e)
 
   nest_is : (n : ℕ) (ps : List (InnerOf Block)) (o count : ℕ) → n ≡ o + count
       → 2 * rounds_sum f (rounds (λ o. inner_rounds n o ps) o count) ≡ nest_sum f n o count ps

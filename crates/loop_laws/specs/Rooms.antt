@@ -8,10 +8,10 @@ use Rattle.loop_ir.specs.declared.ir.Space.TheVariants.{Source, Cells}
 use Rattle.loop_ir.specs.declared.ir.Sub.{Sub}
 use Rattle.loop_ir.specs.declared.ir.Sub.TheVariants as sub
 use Rattle.loop_ir.specs.declared.ir.Count.{Count}
-use Rattle.loop_ir.specs.declared.ir.Count.TheVariants.{All, Rest, UpTo, Bits}
+use Rattle.loop_ir.specs.declared.ir.Count.TheVariants.{All, Rest, UpTo}
 use Rattle.loop_ir.specs.declared.ir.Place.{Place}
 use Rattle.loop_ir.specs.Plain.{Block, InnerOf, StepOf, step_map, all_turns}
-use Rattle.loop_ir.specs.Plain.InnerOf.{Alone, Across}
+use Rattle.loop_ir.specs.Plain.InnerOf.{Alone, Across, IfOdd, Halves}
 use Rattle.loop_ir.specs.Plain.StepOf.{Single, Along, Nest, Pairs, Alternate}
 use Rattle.loop_ir.specs.Spots.{Spot, spot_in, IsOwn}
 use Rattle.loop_ir.specs.Costs.{sub_code}
@@ -105,13 +105,14 @@ pub record RoomsApart (n : ℕ) (rooms : List Room) : Type 0 where
   pub own : (k : ℕ) → k < length rooms → (room_at rooms k).written ≡ true
       → IsOwn (room_at rooms k).space
 
--- how far the inner index goes: there is none, up to n, up to what is left of the outer index, or
--- up to the outer index itself
+-- how far the inner index goes: there is none, up to n, up to what is left of the outer index, up to
+-- the outer index itself, or over the pairs of a level's elements
 pub data Reach : Type 0 where
   Nowhere : Reach
   Whole : Reach
   Left : Reach
   Below : Reach
+  Paired : Reach
 
 -- an owner with a row at each position of a word
 abbrev pub is_long : Extent → Bool
@@ -124,6 +125,7 @@ has_inner Nowhere = false
 has_inner Whole = true
 has_inner Left = true
 has_inner Below = true
+has_inner Paired = true
 
 -- the inner positions are those that are left of the outer one
 abbrev pub is_left : Reach → Bool
@@ -131,6 +133,7 @@ is_left Nowhere = false
 is_left Whole = false
 is_left Left = true
 is_left Below = false
+is_left Paired = false
 
 -- no inner position is above the outer one
 abbrev pub is_below : Reach → Bool
@@ -138,6 +141,15 @@ is_below Nowhere = false
 is_below Whole = false
 is_below Left = false
 is_below Below = true
+is_below Paired = false
+
+-- the inner positions are those of the pairs of a level's elements
+abbrev pub is_paired : Reach → Bool
+is_paired Nowhere = false
+is_paired Whole = false
+is_paired Left = false
+is_paired Below = false
+is_paired Paired = true
 
 -- the subscript stays within so many rows: no owner has the rows from n on
 abbrev pub fits : Reach → Bool → Extent → Sub → Bool
@@ -149,15 +161,15 @@ fits r outer w sub.Outer = is_long w && outer
 fits r outer w sub.OuterDown = is_long w && outer
 fits r outer w sub.Sum = is_long w && (outer && is_left r)
 fits r outer w sub.DownSum = is_long w && (outer && is_below r)
-fits r outer w sub.DownPlusN = false
-fits r outer w sub.NPlusInner = false
+fits r outer w sub.SumTwice = is_long w && (outer && is_paired r)
+fits r outer w sub.AboveSumTwice = is_long w && (outer && is_paired r)
+fits r outer w sub.AboveSum = is_long w && (outer && is_paired r)
 
 -- how far the positions of a nest's part go
 abbrev pub reach_of : Count → Reach
 reach_of All = Whole
 reach_of Rest = Left
 reach_of UpTo = Below
-reach_of Bits = Below
 
 -- there is such an owner among so many
 abbrev pub is_there : Owner → ℕ → Bool
@@ -197,6 +209,9 @@ abbrev pub inners_fit : List Room → List (InnerOf Marked) → Bool
 inners_fit rooms [] = true
 inners_fit rooms (Alone b ∷ ps) = body_fits Nowhere true rooms b && inners_fit rooms ps
 inners_fit rooms (Across c b ∷ ps) = body_fits (reach_of c) true rooms b && inners_fit rooms ps
+inners_fit rooms (IfOdd b ∷ ps) = body_fits Nowhere true rooms b && inners_fit rooms ps
+inners_fit rooms (Halves b c ∷ ps) = (body_fits Paired true rooms b
+    && body_fits Paired true rooms c) && inners_fit rooms ps
 
 -- the test of a loop program's bodies: it is run once on each written program
 abbrev pub steps_fit : List Room → List (StepOf Marked) → Bool

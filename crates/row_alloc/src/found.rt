@@ -6,7 +6,7 @@ ghost use Rattle.row_alloc.specs.Rows.{out_at};
 ghost use Rattle.row_alloc.specs.Body.{FitBody};
 ghost use Rattle.row_alloc.specs.Found.{IsFound};
 
-use crate::beam::{NARROW, WIDE};
+use crate::beam::{BROAD, DEEP, NARROW, WIDE};
 use crate::body::{BodyCmd, OutRow};
 use crate::greedy::{greedy_body, quick_body};
 use mig_graph::{Mig, NoMemory};
@@ -19,7 +19,12 @@ pub enum Search {
     Narrow,
     /// By the wide beam alone.
     Wide,
-    /// By each beam: the greedy body, which takes no more than by either.
+    /// By the deep beam alone.
+    Deep,
+    /// By the broad beam alone.
+    Broad,
+    /// By more than one: of a body in rows the greedy body, which takes no more than by the narrow
+    /// or the wide one, and of one in cells the better of the narrow and the broad one.
     Whole,
 }
 
@@ -113,6 +118,8 @@ fn search_body(
     match search {
         Search::Narrow => quick_body(m, outs, NARROW, most, alloc),
         Search::Wide => quick_body(m, outs, WIDE, most, alloc),
+        Search::Deep => quick_body(m, outs, DEEP, most, alloc),
+        Search::Broad => quick_body(m, outs, BROAD, most, alloc),
         Search::Whole => greedy_body(m, outs, alloc),
     }
 }

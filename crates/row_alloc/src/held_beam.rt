@@ -2,13 +2,14 @@
 
 ghost use Rattle.std.specs.Prelude.{◌≡◌, ◌<◌, ◌≤◌, ◌↔◌, ℕ, length, true, IsTrue, IfOk, IfSome};
 ghost use Rattle.std.specs.Prelude.{IfNone};
-ghost use Rattle.row_alloc.specs.Body.{FitBody, WritesLate};
-ghost use Rattle.row_alloc.specs.Held.{have_layouts, DoesHeld};
+ghost use Rattle.row_alloc.specs.Body.{FitBody};
+ghost use Rattle.row_alloc.specs.Found.{IsFoundHeld};
+ghost use Rattle.row_alloc.specs.Held.{have_layouts};
 ghost use Rattle.row_alloc.specs.HeldBodies.{IsFirstHeld, MayHold, held_at};
 
-use crate::beam::{BROAD, Breadth, NARROW, beam_body};
+use crate::beam::{BROAD, Breadth, DEEP, NARROW, WIDE, beam_body};
 use crate::body::{BodyCmd, Held, OutRow};
-use crate::found::fits;
+use crate::found::{Search, fits};
 use crate::greedy::copied;
 use crate::held_table::{held_body, serves};
 use crate::layout::LAYOUT_COUNT;
@@ -28,10 +29,8 @@ fn found_of(
     requires fit { FitBody m.now outs.now }
     requires enter { have_layouts enter.now ≡ true }
     requires leave { have_layouts leave.now ≡ true }
-    ensures does { IfOk result (λ o. IfSome o (λ cmds. DoesHeld m.now outs.now enter.now leave.now
-        cmds.items)) }
-    ensures late { IfOk result (λ o. IfSome o (λ cmds. WritesLate outs.now cmds.items)) }
-    ensures few { IfOk result (λ o. IfSome o (λ cmds. length cmds.items ≤ most)) }
+    ensures { IfOk result (λ o. IfSome o (λ cmds. IsFoundHeld m.now outs.now enter.now leave.now
+        most cmds.items)) }
 {
     let cmds = beam_body(m, outs, enter, leave, breadth, most, alloc)?;
     if cmds.len() <= most && serves(m, outs, enter, leave, &cmds) {
@@ -53,10 +52,8 @@ fn fewest(
     requires fit { FitBody m.now outs.now }
     requires enter { have_layouts enter.now ≡ true }
     requires leave { have_layouts leave.now ≡ true }
-    ensures does { IfOk result (λ o. IfSome o (λ cmds. DoesHeld m.now outs.now enter.now leave.now
-        cmds.items)) }
-    ensures late { IfOk result (λ o. IfSome o (λ cmds. WritesLate outs.now cmds.items)) }
-    ensures few { IfOk result (λ o. IfSome o (λ cmds. length cmds.items ≤ most)) }
+    ensures { IfOk result (λ o. IfSome o (λ cmds. IsFoundHeld m.now outs.now enter.now leave.now
+        most cmds.items)) }
 {
     let Some(few) = found_of(m, outs, enter, leave, NARROW, most, alloc)? else {
         return found_of(m, outs, enter, leave, BROAD, most, alloc);
@@ -65,6 +62,31 @@ fn fewest(
     match found_of(m, outs, enter, leave, BROAD, fewer, alloc)? {
         Some(cmds) => Ok(Some(cmds)),
         None => Ok(Some(few)),
+    }
+}
+
+/// The commands that such a search finds, where they are right and at most so many.
+fn search_held(
+    m: &Mig,
+    outs: &[OutRow],
+    enter: &[Held],
+    leave: &[Held],
+    search: Search,
+    most: usize,
+    alloc: Global,
+) -> Result<Option<Vec<BodyCmd>>, NoMemory>
+    requires fit { FitBody m.now outs.now }
+    requires enter { have_layouts enter.now ≡ true }
+    requires leave { have_layouts leave.now ≡ true }
+    ensures { IfOk result (λ o. IfSome o (λ cmds. IsFoundHeld m.now outs.now enter.now leave.now
+        most cmds.items)) }
+{
+    match search {
+        Search::Narrow => found_of(m, outs, enter, leave, NARROW, most, alloc),
+        Search::Wide => found_of(m, outs, enter, leave, WIDE, most, alloc),
+        Search::Deep => found_of(m, outs, enter, leave, DEEP, most, alloc),
+        Search::Broad => found_of(m, outs, enter, leave, BROAD, most, alloc),
+        Search::Whole => fewest(m, outs, enter, leave, most, alloc),
     }
 }
 
@@ -83,8 +105,8 @@ fn may_hold(m: &Mig, outs: &[OutRow], enter: &[Held], leave: &[Held]) -> bool
 }
 
 /// The commands of a body that finds these states in cells and leaves these there, if at most so
-/// many are known or found: the first of the known sequences that serves, and else what two beams
-/// find.
+/// many are known or found: the first of the known sequences that serves, and else what the search
+/// finds.
 ///
 /// That a body has no shorter commands is not said, nor is it of one for which none are found. Only
 /// want of memory is an `Err`.
@@ -93,13 +115,12 @@ pub fn held_commands_of(
     outs: &[OutRow],
     enter: &[Held],
     leave: &[Held],
+    search: Search,
     most: usize,
     alloc: Global,
 ) -> Result<Option<Vec<BodyCmd>>, NoMemory>
-    ensures does { IfOk result (λ o. IfSome o (λ cmds. DoesHeld m.now outs.now enter.now leave.now
-        cmds.items)) }
-    ensures late { IfOk result (λ o. IfSome o (λ cmds. WritesLate outs.now cmds.items)) }
-    ensures few { IfOk result (λ o. IfSome o (λ cmds. length cmds.items ≤ most)) }
+    ensures found { IfOk result (λ o. IfSome o (λ cmds. IsFoundHeld m.now outs.now enter.now leave.now
+        most cmds.items)) }
     // No more than the known sequence that serves.
     ensures known { IfOk result (λ o. IfSome o (λ cmds. (k : ℕ)
         → IsFirstHeld m.now outs.now enter.now leave.now k
@@ -114,6 +135,6 @@ pub fn held_commands_of(
     }
     match held_body(m, outs, enter, leave) {
         Some(cmds) if cmds.len() <= most => Ok(Some(copied(cmds, alloc)?)),
-        _ => fewest(m, outs, enter, leave, most, alloc),
+        _ => search_held(m, outs, enter, leave, search, most, alloc),
     }
 }

@@ -120,8 +120,8 @@ pub static HELD: [&[BodyCmd]; 30] = [
     &[Aap(C(0), B(11)), Aap(In(0), B(2)), Aap(B(12), Out(0))],
     // the majority of a, DCC0 and T3, and DCC0 in T1 too
     &[Aap(In(0), B(6)), Aap(B(4), B(12)), Aap(B(15), Out(0))],
-    // a, whose complement stands in T3 and DCC1
-    &[Aap(In(0), B(7)), Aap(B(6), B(3))],
+    // a in T1, and its complement in T3 and DCC1
+    &[Aap(In(0), B(9)), Aap(B(6), B(3))],
     // what has its complement in T3 and DCC1
     &[Aap(B(7), Out(0))],
     // a and b and a sum whose complement stands in T3 and DCC1, with a carry in a row

@@ -4,7 +4,8 @@ use Rattle.op_text.specs.declared.word_ops.WordOp.{WordOp}
 use Rattle.op_text.specs.declared.word_ops.WordOp.TheVariants as o
 use Rattle.word_mul.specs.Programs.{bits_to}
 
--- how many AAP an operation takes on arguments of n bits
+-- how many AAP an operation takes on arguments of n bits. Where bodies take turns, n / 2 of the
+-- positions are odd and (n + 1) / 2 are even, as they are counted from 0
 abbrev pub op_aaps : WordOp → ℕ → ℕ
 op_aaps o.Not n = 2 * n
 op_aaps o.And n = 4 * n

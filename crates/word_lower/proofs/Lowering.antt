@@ -26,9 +26,9 @@ use Rattle.loop_laws.specs.Rooms.{Marked, steps_fit, placed_body, placed_steps}
 use Rattle.loop_laws.specs.Forms.{is_short, keeps_states}
 use Rattle.loop_laws.proofs.Summed.{steps_sum, sum_is, turns_sum, turns_most}
 use Rattle.loop_laws.proofs.EachRound.{placed-plain}
-use Rattle.word_lower.specs.Places.{scratch_from, rooms_of}
+use Rattle.word_lower.specs.Places.{scratch_from, rooms_of, program_on}
 use Rattle.word_lower.specs.Programs.{program, is_linear}
-use Rattle.word_lower.specs.Shapes.{owners_of, program_on}
+use Rattle.word_lower.specs.Shapes.{rows_at, owners_of}
 use Rattle.word_lower.proofs.Setting.{taken, operation, Slots, row, number_at, IsElsewhere, Gives}
 use Rattle.word_lower.proofs.Lists.{bits_of_number, value_of_list}
 use Rattle.word_lower.proofs.Pieces.{slot, slot_at, Pieces, names, are_slots}
@@ -59,7 +59,7 @@ pub record DoesOp (p : WordOp) (n : ℕ) (k : Kind) (t : Slot) (args : List Slot
 
 pub record Lowers (p : WordOp) (k : Kind) (t : Slot) (args : List Slot) (free : ℕ) : Type 0 where
   pub fit : steps_fit (rooms_of t args (scratch_from free (bits_inside p))) (program p k) ≡ true
-  pub same : program_on (owners_of t args free) (program p k) ≡ steps_on p k t args free
+  pub same : program_on (rows_at (owners_of t args free)) (program p k) ≡ steps_on p k t args free
   pub short : is_short (steps_on p k t args free) ≡ true
   pub does : (n : ℕ) → 0 < n → Pieces n t args (scratch_from free (bits_inside p))
       → DoesOp p n k t args free
@@ -157,7 +157,7 @@ elsewhere n bound m q row out free = record {
 -- what computes, in each form
 record Computes (p : WordOp) (k : Kind) (t : Slot) (args : List Slot) (free : ℕ) : Type 0 where
   fit : steps_fit (rooms_of t args (scratch_from free (bits_inside p))) (program p k) ≡ true
-  same : program_on (owners_of t args free) (program p k) ≡ steps_on p k t args free
+  same : program_on (rows_at (owners_of t args free)) (program p k) ≡ steps_on p k t args free
   short : is_short (steps_on p k t args free) ≡ true
   states : keeps_states (placed_steps [] (program p k)) ≡ true
   cheap : (n : ℕ) → 0 < n → rounds_cost (all_rounds n (placed_steps [] (program p k)))
@@ -177,7 +177,7 @@ IsCheap p steps args =
 
 computed : (p : WordOp) (k : Kind) (t : Slot) (args : List Slot) (free : ℕ)
     → steps_fit (rooms_of t args (scratch_from free (bits_inside p))) (program p k) ≡ true
-    → program_on (owners_of t args free) (program p k) ≡ steps_on p k t args free
+    → program_on (rows_at (owners_of t args free)) (program p k) ≡ steps_on p k t args free
     → is_short (steps_on p k t args free) ≡ true
     → keeps_states (placed_steps [] (program p k)) ≡ true
     → ((n : ℕ) → 0 < n → steps_sum plain_cost n (placed_steps [] (program p k))

@@ -15,7 +15,7 @@ use Rattle.loop_ir.specs.Plain.{StepOf, Block}
 use Rattle.loop_ir.specs.Loops.{all_rounds}
 use Rattle.loop_ir.specs.Spots.{Spot, Spots, spot_in, after_rounds, IsOwn, is_state}
 use Rattle.loop_laws.specs.Rooms.{Room, placed_steps}
-use Rattle.word_lower.specs.Places.{scratch_bit, cells, scratch_from, rooms_of}
+use Rattle.word_lower.specs.Places.{scratch_bit, cells, scratch_from, rooms_of, place_in}
 use Rattle.word_lower.specs.Programs.{program}
 
 -- a bit as a number
@@ -59,7 +59,7 @@ steps_for p k m = placed_steps (rooms_for p m) (program p k)
 
 -- a row of a place, by its subscript
 abbrev pub at : Slot → Sub → Place
-at s u = record { space = s.space; which = s.which; sub = u }
+at s u = place_in s u
 
 -- a row of a name
 abbrev pub row : ℕ → Slot → ℕ → Spot

@@ -35,10 +35,10 @@ use Rattle.loop_laws.specs.Forms.{IsMade, HasForm}
 use Rattle.loop_laws.proofs.Alike.{HaveRows, InRooms, rounds_cost_like, plain_costs_like}
 use Rattle.loop_laws.proofs.EveryRound.{marks_are_enough, rooms_row}
 use Rattle.loop_laws.proofs.Compile.{made_compile}
-use Rattle.word_lower.specs.Places.{rooms_of, scratch_bit, scratch_from, AreAt}
+use Rattle.word_lower.specs.Places.{rooms_of, scratch_bit, scratch_from, AreAt, program_on}
 use Rattle.word_lower.specs.Forms.{IsWritten}
 use Rattle.word_lower.specs.Programs.{program, is_linear}
-use Rattle.word_lower.specs.Shapes.{owners_of, program_on}
+use Rattle.word_lower.specs.Shapes.{rows_at, owners_of}
 use Rattle.word_lower.proofs.Pieces.{no_slot, slot_at, AreApart, Pieces, RoomView, is_target}
 use Rattle.word_lower.proofs.Pieces.{is_arg, is_scratch, room_view, rooms_apart, extent_is, kind_row}
 use Rattle.word_lower.proofs.Lowering.{slots_width, steps_on, DoesOp, Lowers, op_lowers}
@@ -423,28 +423,20 @@ named_width n slots [] (s ∷ ss) at = absurd at
 named_width n slots (name ∷ names) [] at = absurd at
 named_width n slots (name ∷ names) (s ∷ ss) at = ap (λ x. width n (l.kind_at x)) at.0
 
-module _ (slots : Slots) (free_bit free_word : ℕ) (target : List ℕ) (p : WordOp)
-    (args : List (List ℕ)) (linear : is_linear p ≡ true) (meets : ComputeMeets slots target
-    None p args)
-    (placed : IsPlaced slots free_bit free_word (Compute target None p args)) (t : Slot)
-    (found : slots target ≡ Some t) (ss : List Slot) (at : AreAt slots args ss) where
-  lowers : Lowers p t.kind t ss free_bit
-  lowers = op_lowers p t.kind t ss free_bit linear
-      (form_filled slots free_bit free_word target None p args meets placed t found ss at) refl
-
-  -- what the target holds after the statement
-  answer : (n : ℕ) (held : List ℕ → NameValue) (before after : Spots)
+module _ (slots : Slots) (p : WordOp) (args : List (List ℕ)) (ss : List Slot)
+    (at : AreAt slots args ss) (t : Slot) where
+  -- what a target holds after the statement
+  pub answer : (n : ℕ) (held : List ℕ → NameValue) (before after : Spots)
+      → filled (forms p) (map (λ (s : Slot). s.kind) ss) ≡ Some t.kind
       → ((name : List ℕ) → is_among args name ≡ true → Holds n slots held before name)
       → slot_bits n after t ≡ bits (op_value p (slots_width n ss)
       (map (λ s. value (slot_bits n before s)) ss)) (width n t.kind)
       → HoldsAt n (Some t) (computed n p (map held args)) after
-  answer n held before after h gives =
+  answer n held before after filled_form h gives =
       let a = held_args n slots held before args ss at h in
       let k : unwrap_or (filled (forms p) (map (λ (h : NameValue). h.kind) (map held args))) Word
       ≡ t.kind = ap (λ ks. unwrap_or (filled (forms p) ks) Word)
-      (held_kinds n held before args ss a)
-      ∙ ap (λ x. unwrap_or x Word) (form_filled slots free_bit free_word target None p args meets
-      placed t found ss at) in
+      (held_kinds n held before args ss a) ∙ ap (λ x. unwrap_or x Word) filled_form in
       let v : op_value p (args_width n (map held args)) (map number (map held args))
       ≡ op_value p (slots_width n ss) (map (λ s. value (slot_bits n before s)) ss) =
       ap (λ x. op_value p x (map number (map held args))) (held_width n held before args ss a)
@@ -453,6 +445,37 @@ module _ (slots : Slots) (free_bit free_word : ℕ) (target : List ℕ) (p : Wor
         ap (λ x. bits (op_value p (args_width n (map held args)) (map number (map held args)))
             (width n x)) k ∙ ap (λ x. bits x (width n t.kind)) v ∙ sym gives,
       )
+
+  -- and so each name that is a target, where there is one alone
+  pub by_name : (target : List ℕ) → slots target ≡ Some t → (n : ℕ) (held : List ℕ → NameValue)
+      (after : Spots) → HoldsAt n (Some t) (computed n p (map held args)) after
+      → (name : List ℕ) → (bytes_eq target name || false) ≡ true
+      → Holds n slots (after_statement n held (Compute target None p args)) after name
+  by_name target found n held after h name e =
+      let s = Compute target None p args in
+      let same : target ≡ name = (bytes_eq-Decides target name).0 (only (bytes_eq target name) e)
+      in
+      let one : HoldsAt n (Some t) (after_statement n held s target) after =
+      subst (λ (c : Bool). HoldsAt n (Some t) (if c then computed n p (map held args)
+      else held target) after) (sym (same_name target target refl)) h in
+      subst (λ x. Holds n slots (after_statement n held s) after x) same
+      (subst (λ (x : Option Slot). HoldsAt n x (after_statement n held s target) after) (sym found)
+      one)
+    where
+      only : (b : Bool) → (b || false) ≡ true → b ≡ true
+      only true e = refl
+      only false e = cc
+
+module _ (slots : Slots) (free_bit free_word : ℕ) (target : List ℕ) (p : WordOp)
+    (args : List (List ℕ)) (linear : is_linear p ≡ true) (meets : ComputeMeets slots target
+    None p args)
+    (placed : IsPlaced slots free_bit free_word (Compute target None p args)) (t : Slot)
+    (found : slots target ≡ Some t) (ss : List Slot) (at : AreAt slots args ss) where
+  filled_form : filled (forms p) (map (λ (s : Slot). s.kind) ss) ≡ Some t.kind
+  filled_form = form_filled slots free_bit free_word target None p args meets placed t found ss at
+
+  lowers : Lowers p t.kind t ss free_bit
+  lowers = op_lowers p t.kind t ss free_bit linear filled_form refl
 
   does_op : (n : ℕ) → 0 < n → DoesOp p n t.kind t ss free_bit
   does_op n some = lowers.does n some (pieces slots free_bit free_word target None p args meets
@@ -466,21 +489,9 @@ module _ (slots : Slots) (free_bit free_word : ℕ) (target : List ℕ) (p : Wor
   does n some = record {
     gives = λ held rows h name e.
         (let new = after_rounds n (all_rounds n steps) rows in
-        let same : target ≡ name = (bytes_eq-Decides target name).0
-        (only (bytes_eq target name) e) in
-        let g : slot_bits n new t ≡ bits (op_value p (slots_width n ss)
-        (map (λ s. value (slot_bits n rows s)) ss)) (width n t.kind) =
-        (does_op n some).gives rows in
-        let one : HoldsAt n (Some t) (after_statement n held (Compute target None p args)
-        target)
-        new =
-        subst (λ (c : Bool). HoldsAt n (Some t) (if c then computed n p (map held args)
-        else held target) new) (sym (same_name target target refl))
-        (answer n held rows new h g) in
-        subst (λ x. Holds n slots (after_statement n held (Compute target None p args)) new
-        x) same
-        (subst (λ (x : Option Slot). HoldsAt n x
-        (after_statement n held (Compute target None p args) target) new) (sym found) one));
+        by_name slots p args ss at t target found n held new
+        (answer slots p args ss at t n held rows new filled_form h ((does_op n some).gives rows))
+        name e);
     keeps = λ rows q row out.
         (does_op n some).keeps rows q row (λ v lv e.
         out (inl (
@@ -494,10 +505,6 @@ module _ (slots : Slots) (free_bit free_word : ℕ) (target : List ℕ) (p : Wor
           e,
         ))) (λ j lj e. out (inr (inl (j, lj, e))));
   }
-    where
-      only : (b : Bool) → (b || false) ≡ true → b ≡ true
-      only true e = refl
-      only false e = cc
 
   pub lowered : AllParts IsMade steps → IsLowered slots free_bit free_word
       (Compute target None p args)
@@ -538,7 +545,8 @@ pub lowered_on : (slots : Slots) (free_bit free_word : ℕ) (target : List ℕ)
     (placed : IsPlaced slots free_bit free_word (Compute target second p args)) (t : Slot)
     (found : slots target ≡ Some t) (ss : List Slot) (at : AreAt slots args ss)
     (steps : List (StepOf Block))
-    → steps ≡ program_on (owners_of t ss free_bit) (program p t.kind) → AllParts IsMade steps
+    → steps ≡ program_on (rows_at (owners_of t ss free_bit)) (program p t.kind)
+    → AllParts IsMade steps
     → IsLowered slots free_bit free_word (Compute target second p args) steps
 lowered_on slots free_bit free_word target second p args linear meets placed t found ss at steps
     same made =

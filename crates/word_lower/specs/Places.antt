@@ -1,12 +1,18 @@
--- The rooms of a word statement: the target, the arguments, and the bits of internal scratch.
+-- The rooms of a word statement: the target, the arguments, and the bits of internal scratch; and
+-- bodies and loop programs at the places of owners.
 use Rattle.std.specs.Prelude.{◌≡◌, ℕ, zero, suc, ◌+◌, Bool, true, false, List, [], ◌∷◌, ◌++◌, map}
-use Rattle.std.specs.Prelude.{Some}
+use Rattle.std.specs.Prelude.{Some, length}
+use Rattle.mig_graph.specs.declared.Lit.{Lit}
+use Rattle.mig_graph.specs.declared.Node.{Node}
 use Rattle.op_text.specs.declared.tree.Kind.{Kind}
 use Rattle.op_text.specs.declared.tree.Kind.TheVariants.{Word, Bit}
 use Rattle.loop_ir.specs.declared.ir.Space.TheVariants.{ScratchBit, Cells}
 use Rattle.loop_ir.specs.declared.names.Slot.{Slot}
 use Rattle.loop_ir.specs.Statements.{Slots}
-use Rattle.loop_laws.specs.Rooms.{Extent, One, Full, Room}
+use Rattle.loop_ir.specs.declared.ir.Place.{Place}
+use Rattle.loop_ir.specs.declared.ir.Sub.{Sub}
+use Rattle.loop_ir.specs.Plain.{Block, StepOf, step_map}
+use Rattle.loop_laws.specs.Rooms.{Extent, One, Full, Room, Owner, InRoom, InCells, Mark, Marked}
 
 -- a word has a row at each position, and a bit one
 abbrev pub rows_of : Kind → Extent
@@ -29,6 +35,43 @@ scratch_bit k = record { space = ScratchBit; which = k; kind = Bit }
 -- the cells of a layout, in which a state stands
 abbrev pub cells : ℕ → Slot
 cells layout = record { space = Cells; which = layout; kind = Bit }
+
+-- an owner's rows, which its number gives, or the cells of a state
+abbrev pub owner_at : (ℕ → Slot) → Owner → Slot
+owner_at rows (InRoom k) = rows k
+owner_at rows (InCells layout) = cells layout
+
+-- the place with this subscript among the rows of a slot
+abbrev pub place_in : Slot → Sub → Place
+place_in s u = record { space = s.space; which = s.which; sub = u }
+
+-- the place that an owner's place is, where the owners have these rows
+abbrev pub place_on : (ℕ → Slot) → Mark → Place
+place_on rows m = place_in (owner_at rows m.owner) m.sub
+
+-- a body at the places of its owners
+abbrev pub body_on : (ℕ → Slot) → Marked → Block
+body_on rows b = record {
+  reads = map (place_on rows) b.reads;
+  graph = b.graph;
+  outs = b.outs;
+  writes = map (place_on rows) b.writes;
+  found = [];
+}
+
+-- a loop program at the places of its owners
+abbrev pub program_on : (ℕ → Slot) → List (StepOf Marked) → List (StepOf Block)
+program_on rows steps = map (step_map (body_on rows)) steps
+
+-- a body over places in which each read is an input
+abbrev pub template_at : List Place → List Node → List Lit → List Place → Block
+template_at reads nodes outs writes = record {
+  reads = reads;
+  graph = record { inputs = length reads; nodes = nodes };
+  outs = outs;
+  writes = writes;
+  found = [];
+}
 
 -- so many bits of scratch from this one on
 abbrev pub scratch_from : ℕ → ℕ → List Slot

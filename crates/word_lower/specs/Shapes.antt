@@ -1,25 +1,18 @@
 -- The places of the table's owners, and what the code counts on.
 use Rattle.std.specs.Prelude.{ℕ, zero, suc, ◌+◌, Bool, true, not, ◌&&◌, nat_lt, List, [], ◌∷◌}
-use Rattle.std.specs.Prelude.{map, Option, Some, None}
+use Rattle.std.specs.Prelude.{Option, Some, None}
 use Rattle.std.specs.List.{list_any}
 use Rattle.mig_graph.specs.declared.Lit.{Lit}
 use Rattle.mig_graph.specs.declared.Node.{Node}
 use Rattle.mig_graph.specs.Literals.{inversions}
-use Rattle.loop_ir.specs.declared.ir.Place.{Place}
 use Rattle.loop_ir.specs.declared.names.Slot.{Slot}
-use Rattle.loop_ir.specs.Plain.{Block, StepOf, step_map}
+use Rattle.loop_ir.specs.Plain.{StepOf}
 use Rattle.loop_ir.specs.Same.{same_node}
-use Rattle.loop_laws.specs.Rooms as rooms
-use Rattle.loop_laws.specs.Rooms.{InRoom, InCells, Marked}
-use Rattle.word_lower.specs.declared.shapes.Mark.{Mark}
+use Rattle.loop_laws.specs.Rooms.{Marked}
 use Rattle.word_lower.specs.declared.shapes.Owners.{Owners}
 use Rattle.word_lower.specs.declared.shapes.ProgramLine.{ProgramLine}
-use Rattle.word_lower.specs.Places.{scratch_bit, cells}
-use Rattle.word_lower.specs.Programs.{mark_of, line_step}
-
--- places of the table, by their owners
-abbrev pub marks : List Mark → List rooms.Mark
-marks ms = map mark_of ms
+use Rattle.word_lower.specs.Places.{scratch_bit}
+use Rattle.word_lower.specs.Programs.{line_step}
 
 -- the lines that there are
 abbrev pub lines_steps : List (Option ProgramLine) → List (StepOf Marked)
@@ -33,33 +26,6 @@ rows_at o zero = o.target
 rows_at o (suc zero) = o.first
 rows_at o (suc (suc zero)) = o.second
 rows_at o (suc (suc (suc k))) = o.third
-
--- an owner's rows, or the cells of a state
-abbrev pub owner_at : Owners → rooms.Owner → Slot
-owner_at o (InRoom k) = rows_at o k
-owner_at o (InCells layout) = cells layout
-
--- the place that an owner's place is, where the owners have these rows
-abbrev pub place_on : Owners → rooms.Mark → Place
-place_on o m = let s = owner_at o m.owner in record {
-  space = s.space;
-  which = s.which;
-  sub = m.sub;
-}
-
--- a body at the places of its owners
-abbrev pub body_on : Owners → Marked → Block
-body_on o b = record {
-  reads = map (place_on o) b.reads;
-  graph = b.graph;
-  outs = b.outs;
-  writes = map (place_on o) b.writes;
-  found = [];
-}
-
--- a loop program at the places of its owners
-abbrev pub program_on : Owners → List (StepOf Marked) → List (StepOf Block)
-program_on o steps = map (step_map (body_on o)) steps
 
 -- the argument of this number, and after the arguments the bit of scratch
 abbrev pub following : List Slot → ℕ → ℕ → Slot

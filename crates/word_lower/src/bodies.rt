@@ -5,167 +5,157 @@ ghost use Rattle.std.specs.Prelude.{OnOk, Some, None, true};
 ghost use Rattle.loop_ir.specs.Plain.{block_of, turn_of, step_of, steps_of, turn_map, step_map};
 ghost use Rattle.loop_ir.specs.Plain.{Block, StepOf, AllParts, AllTurns, AllStep};
 ghost use Rattle.loop_laws.specs.Forms.{IsMade};
-ghost use Rattle.word_lower.specs.Places.{cells};
-ghost use Rattle.word_lower.specs.Programs.{template, mark_of, form_body, turn_bodies, line_step};
-ghost use Rattle.word_lower.specs.Shapes.{marks, lines_steps};
-ghost use Rattle.word_lower.specs.Shapes.{place_on, body_on, program_on, are_own, are_below};
+ghost use Rattle.word_lower.specs.Places.{place_on, body_on, program_on};
+ghost use Rattle.word_lower.specs.Programs.{mark_of, form_body, turn_bodies, line_step};
+ghost use Rattle.word_lower.specs.Shapes.{rows_at, lines_steps};
 
-use crate::graphs::made;
+use crate::graphs::templated;
 use crate::literals::{N1, OFF, ON, P1, P2, P3, P4, P5, P6, P7};
 use crate::shapes::{BodyForm, Mark, Owner, Owners, ProgramLine, TurnForm};
+use crate::slots::{cells, place_in};
 use crate::templates::{
     ADDED, BOTH, CHOSEN, COMPARED, EITHER, LESSENED, MAJORITY, ODD, ORDERED, TURNED_BY, UNLIKE,
 };
 use faults::keep;
-use loop_ir::{Body, LoopProgram, Place, Slot, Space, Step, Turn};
-use mig_graph::{Lit, NoMemory, Node};
-use op_text::Kind;
+use loop_ir::{Body, LoopProgram, Place, Step, Turn};
+use mig_graph::NoMemory;
 use std::alloc::Global;
 
-/// The cells of a layout.
-fn cells(layout: u8) -> Slot
-    ensures { result ≡ cells layout }
-{
-    Slot {
-        space: Space::Cells,
-        which: layout,
-        kind: Kind::Bit,
+impl Mark {
+    /// The place that it is, where the owners have these rows.
+    fn at(self, owners: Owners) -> Place
+        ensures { result ≡ place_on (rows_at owners) (mark_of self) }
+    {
+        let slot = match self.owner {
+            Owner::Target => owners.target,
+            Owner::First => owners.first,
+            Owner::Second => owners.second,
+            Owner::Third => owners.third,
+            Owner::Cells(layout) => cells(layout),
+        };
+        place_in(slot, self.sub)
     }
-}
-
-/// The place of a mark.
-fn place(mark: Mark, owners: Owners) -> Place
-    ensures { result ≡ place_on owners (mark_of mark) }
-{
-    let slot = match mark.owner {
-        Owner::Target => owners.target,
-        Owner::First => owners.first,
-        Owner::Second => owners.second,
-        Owner::Third => owners.third,
-        Owner::Cells(layout) => cells(layout),
-    };
-    Place {
-        space: slot.space,
-        which: slot.which,
-        sub: mark.sub,
-    }
-}
-
-/// The places of marks.
-fn places(marks: &[Mark], owners: Owners, alloc: Global) -> Result<Vec<Place>, NoMemory>
-    ensures { IfOk result (λ v. v.items ≡ map (λ m. place_on owners (mark_of m)) marks.now) }
-{
-    let mut all = Vec::new(alloc);
-    for mark in marks {
-        keep(&mut all, place(*mark, owners))?;
-    }
-    Ok(all)
-}
-
-/// The body of a template: its nodes over the reads, and its outputs.
-fn templated(
-    reads: &[Mark],
-    nodes: &[Node],
-    outs: &[Lit],
-    writes: &[Mark],
-    owners: Owners,
-    alloc: Global,
-) -> Result<Body, NoMemory>
-    requires reads { length reads.now ≤ 4 }
-    requires nodes { length nodes.now ≤ 6 }
-    requires outs { 0 < length outs.now }
-    requires own { are_own (length reads.now + 1) nodes.now ≡ true }
-    requires named { are_below (length reads.now + 1 + length nodes.now) outs.now ≡ true }
-    ensures same { IfOk result (λ b. block_of b
-        ≡ body_on owners (template (marks reads.now) nodes.now outs.now (marks writes.now))) }
-    ensures made { IfOk result (λ b. IsMade (block_of b)) }
-{
-    Ok(Body {
-        reads: places(reads, owners, alloc)?,
-        graph: made(reads.len() as u8, nodes, outs, alloc)?,
-        writes: places(writes, owners, alloc)?,
-        found: Vec::new(alloc),
-    })
 }
 
 /// The body of a shape.
 fn body(shape: BodyForm, owners: Owners, alloc: Global) -> Result<Body, NoMemory>
-    ensures same { IfOk result (λ b. block_of b ≡ body_on owners (form_body shape)) }
+    ensures same { IfOk result (λ b. block_of b ≡ body_on (rows_at owners) (form_body shape)) }
     ensures made { IfOk result (λ b. IsMade (block_of b)) }
 {
     let (o, a) = (owners, alloc);
     match shape {
-        BodyForm::Off(z) => templated(&[], &[], &[OFF], &[z], o, a),
-        BodyForm::On(z) => templated(&[], &[], &[ON], &[z], o, a),
-        BodyForm::Moved(x, z) => templated(&[x], &[], &[P1], &[z], o, a),
-        BodyForm::Inverted(x, z) => templated(&[x], &[], &[N1], &[z], o, a),
-        BodyForm::Both(x, y, z) => templated(&[x, y], &BOTH, &[P3], &[z], o, a),
-        BodyForm::Either(x, y, z) => templated(&[x, y], &EITHER, &[P3], &[z], o, a),
-        BodyForm::Unlike(x, y, z) => templated(&[x, y], &UNLIKE, &[P5], &[z], o, a),
-        BodyForm::Chosen(x, y, s, z) => templated(&[x, y, s], &CHOSEN, &[P6], &[z], o, a),
-        BodyForm::Added(x, y, c, z) => templated(&[x, y, c], &ADDED, &[P6, P4], &[z, c], o, a),
+        BodyForm::Off(z) => templated(&[], &[], &[OFF], &[z.at(o)], a),
+        BodyForm::On(z) => templated(&[], &[], &[ON], &[z.at(o)], a),
+        BodyForm::Moved(x, z) => templated(&[x.at(o)], &[], &[P1], &[z.at(o)], a),
+        BodyForm::Inverted(x, z) => templated(&[x.at(o)], &[], &[N1], &[z.at(o)], a),
+        BodyForm::Both(x, y, z) => templated(&[x.at(o), y.at(o)], &BOTH, &[P3], &[z.at(o)], a),
+        BodyForm::Either(x, y, z) => templated(&[x.at(o), y.at(o)], &EITHER, &[P3], &[z.at(o)], a),
+        BodyForm::Unlike(x, y, z) => templated(&[x.at(o), y.at(o)], &UNLIKE, &[P5], &[z.at(o)], a),
+        BodyForm::Chosen(x, y, s, z) => templated(
+            &[x.at(o), y.at(o), s.at(o)],
+            &CHOSEN,
+            &[P6],
+            &[z.at(o)],
+            a,
+        ),
+        BodyForm::Added(x, y, c, z) => templated(
+            &[x.at(o), y.at(o), c.at(o)],
+            &ADDED,
+            &[P6, P4],
+            &[z.at(o), c.at(o)],
+            a,
+        ),
         BodyForm::Lessened(x, y, c, z) => templated(
-            &[x, y, c],
+            &[x.at(o), y.at(o), c.at(o)],
             &LESSENED,
             &[P6, P5],
-            &[z, c],
-            o,
+            &[z.at(o), c.at(o)],
             a,
         ),
         BodyForm::NegatedIf(x, t, c, z) => templated(
-            &[x, t, c],
+            &[x.at(o), t.at(o), c.at(o)],
             &TURNED_BY,
             &[P6, P7],
-            &[z, c],
-            o,
+            &[z.at(o), c.at(o)],
             a,
         ),
         BodyForm::Compared(x, y, g, z) => templated(
-            &[x, y, g],
+            &[x.at(o), y.at(o), g.at(o)],
             &COMPARED,
             &[P4, P4],
-            &[z, g],
-            o,
+            &[z.at(o), g.at(o)],
             a,
         ),
-        BodyForm::AllSet(x, c, z, k) => templated(&[x, c], &BOTH, &[P3, OFF], &[z, k], o, a),
-        BodyForm::AnySet(x, c, z, k) => templated(&[x, c], &EITHER, &[P3, ON], &[z, k], o, a),
-        BodyForm::Majority(x, c, k, z) => templated(&[x, c, k], &MAJORITY, &[P4], &[z], o, a),
-        BodyForm::Kept(x, c, e, s) => templated(&[x, c], &[], &[P1, P2], &[e, s], o, a),
-        BodyForm::Odd(x, c, z) => templated(&[x, c], &ODD, &[P5], &[z], o, a),
-        BodyForm::OddOfThree(x, e, s, z) => templated(&[x, e, s], &LESSENED, &[P6], &[z], o, a),
-        BodyForm::InvertedInBoth(x, g, h) => templated(&[x], &[], &[N1, N1], &[g, h], o, a),
+        BodyForm::AllSet(x, c, z, k) => templated(
+            &[x.at(o), c.at(o)],
+            &BOTH,
+            &[P3, OFF],
+            &[z.at(o), k.at(o)],
+            a,
+        ),
+        BodyForm::AnySet(x, c, z, k) => templated(
+            &[x.at(o), c.at(o)],
+            &EITHER,
+            &[P3, ON],
+            &[z.at(o), k.at(o)],
+            a,
+        ),
+        BodyForm::Majority(x, c, k, z) => templated(
+            &[x.at(o), c.at(o), k.at(o)],
+            &MAJORITY,
+            &[P4],
+            &[z.at(o)],
+            a,
+        ),
+        BodyForm::Kept(x, c, e, s) => templated(
+            &[x.at(o), c.at(o)],
+            &[],
+            &[P1, P2],
+            &[e.at(o), s.at(o)],
+            a,
+        ),
+        BodyForm::Odd(x, c, z) => templated(&[x.at(o), c.at(o)], &ODD, &[P5], &[z.at(o)], a),
+        BodyForm::OddOfThree(x, e, s, z) => templated(
+            &[x.at(o), e.at(o), s.at(o)],
+            &LESSENED,
+            &[P6],
+            &[z.at(o)],
+            a,
+        ),
+        BodyForm::InvertedInBoth(x, g, h) => templated(
+            &[x.at(o)],
+            &[],
+            &[N1, N1],
+            &[g.at(o), h.at(o)],
+            a,
+        ),
         BodyForm::BothKeeping(x, c, d, z, e, k) => templated(
-            &[x, c, d],
+            &[x.at(o), c.at(o), d.at(o)],
             &BOTH,
             &[P4, P3, OFF],
-            &[z, e, k],
-            o,
+            &[z.at(o), e.at(o), k.at(o)],
             a,
         ),
         BodyForm::MajorityBeside(x, c, k, z, h) => templated(
-            &[x, c, k],
+            &[x.at(o), c.at(o), k.at(o)],
             &MAJORITY,
             &[P4, P3],
-            &[z, h],
-            o,
+            &[z.at(o), h.at(o)],
             a,
         ),
         BodyForm::MajorityKeeping(x, c, k, z, g, h) => templated(
-            &[x, c, k],
+            &[x.at(o), c.at(o), k.at(o)],
             &MAJORITY,
             &[P4, P2, P2],
-            &[z, g, h],
-            o,
+            &[z.at(o), g.at(o), h.at(o)],
             a,
         ),
-        BodyForm::OnBoth(g, h) => templated(&[], &[], &[ON, ON], &[g, h], o, a),
+        BodyForm::OnBoth(g, h) => templated(&[], &[], &[ON, ON], &[g.at(o), h.at(o)], a),
         BodyForm::Ordered(x, y, g, h) => templated(
-            &[x, y, g, h],
+            &[x.at(o), y.at(o), g.at(o), h.at(o)],
             &ORDERED,
             &[P5, P6],
-            &[g, h],
-            o,
+            &[g.at(o), h.at(o)],
             a,
         ),
     }
@@ -173,7 +163,7 @@ fn body(shape: BodyForm, owners: Owners, alloc: Global) -> Result<Body, NoMemory
 
 /// One of bodies that take turns.
 fn turn(form: TurnForm, owners: Owners, alloc: Global) -> Result<Turn, NoMemory>
-    ensures same { IfOk result (λ t. turn_of t ≡ turn_map (body_on owners) (turn_bodies form)) }
+    ensures same { IfOk result (λ t. turn_of t ≡ turn_map (body_on (rows_at owners)) (turn_bodies form)) }
     ensures made { IfOk result (λ t. AllTurns IsMade (turn_of t ∷ [])) }
 {
     Ok(Turn {
@@ -185,7 +175,7 @@ fn turn(form: TurnForm, owners: Owners, alloc: Global) -> Result<Turn, NoMemory>
 /// The bodies that take turns.
 fn turns(forms: &[TurnForm], owners: Owners, alloc: Global) -> Result<Vec<Turn>, NoMemory>
     ensures same { IfOk result (λ ts. map turn_of ts.items
-        ≡ map (turn_map (body_on owners)) (map turn_bodies forms.now)) }
+        ≡ map (turn_map (body_on (rows_at owners))) (map turn_bodies forms.now)) }
     ensures made { IfOk result (λ ts. AllTurns IsMade (map turn_of ts.items)) }
 {
     let mut all = Vec::new(alloc);
@@ -199,7 +189,7 @@ fn turns(forms: &[TurnForm], owners: Owners, alloc: Global) -> Result<Vec<Turn>,
 /// The step of a line.
 fn step(line: ProgramLine, owners: Owners, alloc: Global) -> Result<Step, NoMemory>
     ensures same { IfOk result (λ s. step_of s ∷ []
-        ≡ program_on owners (line_step line ∷ [])) }
+        ≡ program_on (rows_at owners) (line_step line ∷ [])) }
     ensures made { IfOk result (λ s. AllStep IsMade (step_of s)) }
 {
     match line {
@@ -219,7 +209,7 @@ fn add_step(
     alloc: Global,
 ) -> Result<(), NoMemory>
     ensures same { OnOk result (map step_of steps.new.items ≡ map step_of steps.old.items
-        ++ program_on owners (lines_steps (line ∷ []))) }
+        ++ program_on (rows_at owners) (lines_steps (line ∷ []))) }
     ensures made { OnOk result (AllParts IsMade (map step_of steps.old.items)
         → AllParts IsMade (map step_of steps.new.items)) }
 {
@@ -239,7 +229,8 @@ pub fn program(
     owners: Owners,
     alloc: Global,
 ) -> Result<LoopProgram, NoMemory>
-    ensures same { IfOk result (λ p. steps_of p ≡ program_on owners (lines_steps lines.now)) }
+    ensures same { IfOk result (λ p. steps_of p
+        ≡ program_on (rows_at owners) (lines_steps lines.now)) }
     ensures made { IfOk result (λ p. AllParts IsMade (steps_of p)) }
 {
     let mut steps = Vec::new(alloc);

@@ -6,8 +6,10 @@ mod graphs;
 mod linear;
 pub mod literals;
 mod shapes;
+mod slots;
 mod table;
 pub mod templates;
 
-pub use graphs::made;
+pub use graphs::templated;
 pub use linear::{lower_linear, slot_of};
+pub use slots::{cells, place_in, scratch_bit};

@@ -13,11 +13,12 @@ ghost use Rattle.word_lower.specs.Shapes.{following, owners_of};
 
 use crate::bodies::program;
 use crate::shapes::Owners;
+use crate::slots::scratch_bit;
 use crate::table::lines;
 use block_lower::lower_block;
-use loop_ir::{LoopProgram, NameMap, Slot, Space};
+use loop_ir::{LoopProgram, NameMap, Slot};
 use mig_graph::NoMemory;
-use op_text::{Kind, Stmt, WordOp};
+use op_text::{Stmt, WordOp};
 use std::alloc::Global;
 use text_lex::Name;
 
@@ -28,17 +29,7 @@ pub fn slot_of(names: &NameMap, name: &Name) -> Slot
 {
     match names.slots.get(name).copied() {
         Some(slot) => slot,
-        None => free_bit(names),
-    }
-}
-
-fn free_bit(names: &NameMap) -> Slot
-    ensures { result ≡ scratch_bit names.now.free_bit }
-{
-    Slot {
-        space: Space::ScratchBit,
-        which: names.free_bit,
-        kind: Kind::Bit,
+        None => scratch_bit(names.free_bit),
     }
 }
 
@@ -50,7 +41,7 @@ fn owner(names: &NameMap, args: &[Name], k: usize) -> Slot
     if k < args.len() {
         slot_of(names, &args[k])
     } else {
-        free_bit(names)
+        scratch_bit(names.free_bit)
     }
 }
 

@@ -4,7 +4,6 @@ pub mod Multiply
 pub mod Divide
 pub mod Gather
 pub mod Quotient
-pub mod Built
 pub mod Parts
 pub mod Placed
 pub mod Clear

@@ -35,7 +35,8 @@ use Rattle.word_mul.specs.Programs.{nested, nested_total}
 use Rattle.word_mul.specs.Bodies.{StepsBuilt}
 use Rattle.word_mul.proofs.Both.{Apart, DoesBoth, LowersBoth, both_lowers}
 use Rattle.word_mul.proofs.Totals.{states, total, cheap, plain}
-use Rattle.word_mul.proofs.Whole.{clear, answer, second_answer}
+use Rattle.word_lower.proofs.Statements.{answer}
+use Rattle.word_mul.proofs.Whole.{clear, second_answer}
 
 or_complemented : (p q r : Bool) → (p || (q || r)) ≡ true → (q || (p || r)) ≡ true
 or_complemented true true r e = refl

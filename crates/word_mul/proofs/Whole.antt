@@ -1,18 +1,15 @@
 -- A loop program that is built as a nested operation's one does the statement.
-use Rattle.std.proofs.Common.{◌≡◌, ◌⊎◌, inl, inr, ℕ, ◌*◌, ◌<◌, ◌≤◌, Bool, true, false, List}
+use Rattle.std.proofs.Common.{◌≡◌, ◌⊎◌, inl, inr, ℕ, ◌*◌, ◌<◌, ◌≤◌, true, List}
 use Rattle.std.proofs.Common.{[], ◌∷◌, map, Option, Some, None, refl, sym, ap, ◌∙◌, subst, arith}
-use Rattle.std.specs.Prelude.{◌||◌, bytes_eq, unwrap_or, if◌then◌else◌}
-use Rattle.std.proofs.lemmas.Slice.Eq.{bytes_eq-Decides}
 use Rattle.op_text.specs.declared.tree.Kind.{Kind}
 use Rattle.op_text.specs.declared.tree.Kind.TheVariants.{Word}
 use Rattle.op_text.specs.declared.word_ops.WordOp.{WordOp}
 use Rattle.op_text.specs.declared.word_ops.WordOp.TheVariants as op
-use Rattle.op_text.specs.Values.{bits, value, op_value, second_value}
+use Rattle.op_text.specs.Values.{bits, value, second_value}
 use Rattle.op_text.specs.WordOps.{forms, filled, second_kind, second_gives}
 use Rattle.op_text.specs.Language.{Compute}
 use Rattle.op_text.specs.Rules.{is_among}
-use Rattle.op_text.specs.Meaning.{NameValue, width, number, args_width, computed, second_computed}
-use Rattle.op_text.specs.Meaning.{after_statement}
+use Rattle.op_text.specs.Meaning.{NameValue, width, number, args_width, second_computed}
 use Rattle.op_text.specs.Scratch.{bits_inside, words_inside}
 use Rattle.op_text.specs.Costs.{op_ceiling}
 use Rattle.loop_ir.specs.declared.ir.Space.TheVariants.{ScratchWord}
@@ -33,10 +30,10 @@ use Rattle.word_lower.specs.Places.{rooms_of, scratch_from, AreAt}
 use Rattle.word_lower.proofs.Pieces.{slot, slot_at}
 use Rattle.word_lower.proofs.Lowering.{slots_width}
 use Rattle.word_lower.proofs.Filled.{filled_word, filled_words, slot_is, one_slot, no_slots}
-use Rattle.word_lower.proofs.Statements.{name_at, at_place, same_name, among_target, among_arg}
+use Rattle.word_lower.proofs.Statements.{name_at, at_place, among_target, among_arg}
 use Rattle.word_lower.proofs.Statements.{written, holds, pieces, row_of, form_filled, held_args}
-use Rattle.word_lower.proofs.Statements.{held_kinds, held_numbers, held_width, named_width}
-use Rattle.word_lower.proofs.Statements.{statement_rows}
+use Rattle.word_lower.proofs.Statements.{held_numbers, held_width, named_width}
+use Rattle.word_lower.proofs.Statements.{statement_rows, answer, by_name}
 use Rattle.word_mul.specs.Places.{rooms_for, steps_for, rows_on}
 use Rattle.word_mul.specs.Programs.{nested, is_nested, nested_total}
 use Rattle.word_mul.specs.Bodies.{StepsBuilt}
@@ -133,27 +130,7 @@ module _ (slots : Slots) (free_bit free_word : ℕ) (target : List ℕ) (second 
 
 module _ (slots : Slots) (p : WordOp) (args : List (List ℕ)) (ss : List Slot)
     (at : AreAt slots args ss) (t : Slot) where
-  -- what a target holds after the statement
-  pub answer : (n : ℕ) (held : List ℕ → NameValue) (before after : Spots)
-      → filled (forms p) (map (λ (s : Slot). s.kind) ss) ≡ Some t.kind
-      → ((name : List ℕ) → is_among args name ≡ true → Holds n slots held before name)
-      → slot_bits n after t ≡ bits (op_value p (slots_width n ss)
-      (map (λ s. value (slot_bits n before s)) ss)) (width n t.kind)
-      → HoldsAt n (Some t) (computed n p (map held args)) after
-  answer n held before after filled_form h gives =
-      let a = held_args n slots held before args ss at h in
-      let k : unwrap_or (filled (forms p) (map (λ (h : NameValue). h.kind) (map held args))) Word
-      ≡ t.kind = ap (λ ks. unwrap_or (filled (forms p) ks) Word)
-      (held_kinds n held before args ss a) ∙ ap (λ x. unwrap_or x Word) filled_form in
-      let v : op_value p (args_width n (map held args)) (map number (map held args))
-      ≡ op_value p (slots_width n ss) (map (λ s. value (slot_bits n before s)) ss) =
-      ap (λ x. op_value p x (map number (map held args))) (held_width n held before args ss a)
-      ∙ ap (λ xs. op_value p (slots_width n ss) xs) (held_numbers n held before args ss a) in (
-        k,
-        ap (λ x. bits (op_value p (args_width n (map held args)) (map number (map held args)))
-            (width n x)) k ∙ ap (λ x. bits x (width n t.kind)) v ∙ sym gives,
-      )
-
+  -- what a second target holds after the statement
   pub second_answer : (n : ℕ) (held : List ℕ → NameValue) (before after : Spots)
       → second_gives p ≡ t.kind
       → ((name : List ℕ) → is_among args name ≡ true → Holds n slots held before name)
@@ -226,18 +203,9 @@ module _ (slots : Slots) (free_bit free_word : ℕ) (target : List ℕ) (p : Wor
   does n some = record {
     gives = λ held rows h name e.
         (let new = after_rounds n (all_rounds n steps) rows in
-        let same : target ≡ name = (bytes_eq-Decides target name).0
-        (only (bytes_eq target name) e) in
-        let one : HoldsAt n (Some t) (after_statement n held (Compute target None p args)
-        target) new =
-        subst (λ (c : Bool). HoldsAt n (Some t) (if c then computed n p (map held args)
-        else held target) new) (sym (same_name target target refl))
-        (answer slots p args ss at t n held rows new filled_form h
-        (does_op n some rows).gives) in
-        subst (λ x. Holds n slots (after_statement n held (Compute target None p args)) new
-        x) same
-        (subst (λ (x : Option Slot). HoldsAt n x
-        (after_statement n held (Compute target None p args) target) new) (sym found) one));
+        by_name slots p args ss at t target found n held new
+        (answer slots p args ss at t n held rows new filled_form h (does_op n some rows).gives)
+        name e);
     keeps = λ rows q row out. (does_op n some rows).keeps q row
         (λ v lv e.
         out (inl (
@@ -253,10 +221,6 @@ module _ (slots : Slots) (free_bit free_word : ℕ) (target : List ℕ) (p : Wor
         (λ j lj e. out (inr (inl (j, lj, e))))
         (λ v lv e. out (inr (inr (v, lv, e))));
   }
-    where
-      only : (b : Bool) → (b || false) ≡ true → b ≡ true
-      only true e = refl
-      only false e = cc
 
   -- and so the same steps, whose graphs are such as `Mig` makes
   module _ (others : List (StepOf Block)) (built : StepsBuilt others steps) where

@@ -4,8 +4,9 @@ ghost use Rattle.std.specs.Prelude.{◌≡◌, ◌++◌, ◌∷◌, [], map, IfO
 ghost use Rattle.loop_ir.specs.Plain.{inner_of, step_of, steps_of, AllInner, AllParts};
 ghost use Rattle.loop_ir.specs.Plain.StepOf.{Nest};
 ghost use Rattle.loop_laws.specs.Forms.{IsMade};
+ghost use Rattle.word_lower.specs.Places.{program_on};
 ghost use Rattle.word_mul.specs.Programs.{parts_of, pass_of, gathering_of, row_steps};
-ghost use Rattle.word_mul.specs.Bodies.{parts_on, steps_on};
+ghost use Rattle.word_mul.specs.Bodies.{rows_at, parts_on};
 
 use crate::bodies::body;
 use crate::shapes::{BodyForm, Gathering, NestPart, NestedProgram, Owners};
@@ -16,7 +17,8 @@ use std::alloc::Global;
 
 /// A part of a nest.
 fn part(p: NestPart, owners: Owners, alloc: Global) -> Result<Inner, NoMemory>
-    ensures same { IfOk result (λ i. inner_of i ∷ [] ≡ parts_on owners (parts_of (Some p ∷ []))) }
+    ensures same { IfOk result (λ i. inner_of i ∷ []
+        ≡ parts_on (rows_at owners) (parts_of (Some p ∷ []))) }
     ensures made { IfOk result (λ i. AllInner IsMade (inner_of i ∷ [])) }
 {
     match p {
@@ -33,7 +35,7 @@ fn add_part(
     alloc: Global,
 ) -> Result<(), NoMemory>
     ensures same { OnOk result (map inner_of parts.new.items ≡ map inner_of parts.old.items
-        ++ parts_on owners (parts_of (p ∷ []))) }
+        ++ parts_on (rows_at owners) (parts_of (p ∷ []))) }
     ensures made { OnOk result (AllInner IsMade (map inner_of parts.old.items)
         → AllInner IsMade (map inner_of parts.new.items)) }
 {
@@ -50,7 +52,7 @@ fn add_part(
 /// The parts that there are.
 fn parts(list: &[Option<NestPart>], owners: Owners, alloc: Global) -> Result<Vec<Inner>, NoMemory>
     ensures same { IfOk result (λ v. map inner_of v.items
-        ≡ parts_on owners (parts_of list.now)) }
+        ≡ parts_on (rows_at owners) (parts_of list.now)) }
     ensures made { IfOk result (λ v. AllInner IsMade (map inner_of v.items)) }
 {
     let mut all = Vec::new(alloc);
@@ -68,7 +70,7 @@ fn add_pass(
     alloc: Global,
 ) -> Result<(), NoMemory>
     ensures same { OnOk result (map step_of steps.new.items ≡ map step_of steps.old.items
-        ++ steps_on owners (pass_of form)) }
+        ++ program_on (rows_at owners) (pass_of form)) }
     ensures made { OnOk result (AllParts IsMade (map step_of steps.old.items)
         → AllParts IsMade (map step_of steps.new.items)) }
 {
@@ -90,7 +92,7 @@ fn add_gathering(
     alloc: Global,
 ) -> Result<(), NoMemory>
     ensures same { OnOk result (map step_of steps.new.items ≡ map step_of steps.old.items
-        ++ steps_on owners (gathering_of gathering)) }
+        ++ program_on (rows_at owners) (gathering_of gathering)) }
     ensures made { OnOk result (AllParts IsMade (map step_of steps.old.items)
         → AllParts IsMade (map step_of steps.new.items)) }
 {
@@ -114,7 +116,8 @@ fn add_nest(
     alloc: Global,
 ) -> Result<(), NoMemory>
     ensures same { OnOk result (map step_of steps.new.items ≡ map step_of steps.old.items
-        ++ steps_on owners (Nest (parts_of row.parts ++ parts_of (row.last ∷ [])) ∷ [])) }
+        ++ program_on (rows_at owners)
+        (Nest (parts_of row.parts ++ parts_of (row.last ∷ [])) ∷ [])) }
     ensures made { OnOk result (AllParts IsMade (map step_of steps.old.items)
         → AllParts IsMade (map step_of steps.new.items)) }
 {
@@ -126,7 +129,7 @@ fn add_nest(
 
 /// The loop program of a row.
 pub fn built(row: NestedProgram, owners: Owners, alloc: Global) -> Result<LoopProgram, NoMemory>
-    ensures same { IfOk result (λ p. steps_of p ≡ steps_on owners (row_steps row)) }
+    ensures same { IfOk result (λ p. steps_of p ≡ program_on (rows_at owners) (row_steps row)) }
     ensures made { IfOk result (λ p. AllParts IsMade (steps_of p)) }
 {
     let mut steps = Vec::new(alloc);

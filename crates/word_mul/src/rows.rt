@@ -1,13 +1,14 @@
 //! Where a statement's rows lie.
 
 ghost use Rattle.std.specs.Prelude.{◌≡◌, ◌+◌, ◌<◌};
-ghost use Rattle.word_lower.specs.Places.{scratch_bit, cells};
+ghost use Rattle.word_lower.specs.Places.{scratch_bit};
 ghost use Rattle.word_mul.specs.Places.{scratch_word};
 ghost use Rattle.word_mul.specs.Bodies.{owners_of};
 
 use crate::shapes::Owners;
 use loop_ir::{Slot, Space};
 use op_text::Kind;
+use word_lower::scratch_bit;
 
 /// The places of a statement's names, and its first internal scratch. Where there is one argument,
 /// it stands for both, and so does a lone target.
@@ -21,17 +22,6 @@ pub struct Rows {
     pub free_word: u8,
 }
 
-/// A bit of scratch.
-fn bit(which: u8) -> Slot
-    ensures { result ≡ scratch_bit which }
-{
-    Slot {
-        space: Space::ScratchBit,
-        which,
-        kind: Kind::Bit,
-    }
-}
-
 /// A word of scratch.
 fn word(which: u8) -> Slot
     ensures { result ≡ scratch_word which }
@@ -43,22 +33,11 @@ fn word(which: u8) -> Slot
     }
 }
 
-/// The cells of a layout, in which a state stands.
-pub fn cells(layout: u8) -> Slot
-    ensures { result ≡ cells layout }
-{
-    Slot {
-        space: Space::Cells,
-        which: layout,
-        kind: Kind::Bit,
-    }
-}
-
 /// The bit of scratch after this one, where a byte numbers it.
 fn bit_after(which: u8) -> Slot
     ensures { which < 255 → result ≡ scratch_bit (which + 1) }
 {
-    bit(which.saturating_add(1))
+    scratch_bit(which.saturating_add(1))
 }
 
 /// The word of scratch after this one, where a byte numbers it.
@@ -78,7 +57,7 @@ pub fn owners(m: Rows) -> Owners
         target: m.target,
         first: m.a,
         second: m.b,
-        bit: bit(m.free_bit),
+        bit: scratch_bit(m.free_bit),
         second_bit: bit_after(m.free_bit),
         word: word(m.free_word),
         second_word: word_after(m.free_word),

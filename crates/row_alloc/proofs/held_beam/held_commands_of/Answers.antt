@@ -31,7 +31,7 @@ none None p = p
 none (Some x) p = tt
 
 pub returns-in_default-clause-none : goal.returns-in_default-clause-none
-returns-in_default-clause-none c = IfOk-weaker c.fewest.result _ _ (λ o few. none o (λ may k first.
+returns-in_default-clause-none c = IfOk-weaker c.search_held.result _ _ (λ o few. none o (λ may k first.
     elim c.in_default.branch [
       | in_default-via-in-Some+else-cmds-most w ↦
           let f = w.in-Some.ensures.first in
@@ -40,16 +40,17 @@ returns-in_default-clause-none c = IfOk-weaker c.fewest.result _ _ (λ o few. no
           omega (arith, w.if-cmds-most.false, e)
       | in_default-via-in_default w ↦
           elim (w.in_default.ensures.none k first.within first.serves) [ ]
-    ])) c.fewest.ensures.few
+    ])) c.search_held.ensures
 
 pub returns-in_default-clause-known : goal.returns-in_default-clause-known
-returns-in_default-clause-known c = IfOk-weaker c.fewest.result _ _ (λ o few. IfSome_then o few
-    (λ cmds short k first. elim c.in_default.branch [
+returns-in_default-clause-known c = IfOk-weaker c.search_held.result _ _ (λ o few. IfSome_then o few
+    (λ cmds found k first. elim c.in_default.branch [
       | in_default-via-in-Some+else-cmds-most w ↦
           let f = w.in-Some.ensures.first in
           let e = first_length c.args.m.now c.args.outs.now c.args.enter.now c.args.leave.now
           w.in-Some.cmds.now f.0 k f.1 f.2 first in
+          let short = found.few in
           omega (arith, w.if-cmds-most.false, e, short)
       | in_default-via-in_default w ↦
           elim (w.in_default.ensures.none k first.within first.serves) [ ]
-    ])) c.fewest.ensures.few
+    ])) c.search_held.ensures

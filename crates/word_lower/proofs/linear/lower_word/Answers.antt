@@ -3,7 +3,8 @@ use Rattle.loop_ir.specs.Plain.{steps_of}
 use Rattle.loop_ir.specs.Statements.{slots_of}
 use Rattle.word_lower.specs.declared.shapes.Owners.{Owners}
 use Rattle.word_lower.specs.Programs.{program}
-use Rattle.word_lower.specs.Shapes.{program_on}
+use Rattle.word_lower.specs.Places.{program_on}
+use Rattle.word_lower.specs.Shapes.{rows_at}
 use Rattle.word_lower.proofs.Statements.{lowered_on, places_of}
 use Rattle.word_lower.proofs.linear.lower_word.Goals as goal
 
@@ -16,8 +17,8 @@ returns-clause-lowered c =
     let ss = places_of slots c.args.args.now meets.kinds meets.have in
     let r = c.owners-owners.result in
     let o = c.owners-owners.ensures t ss.list meets.gives.found ss.at in
-    let same = c.in_ok-p.ensures.same ∙ ap (program_on r) c.lines.ensures
-    ∙ ap (λ (r : Owners). program_on r (program c.args.op r.target.kind)) o in
+    let same = c.in_ok-p.ensures.same ∙ ap (program_on (rows_at r)) c.lines.ensures
+    ∙ ap (λ (r : Owners). program_on (rows_at r) (program c.args.op r.target.kind)) o in
     lowered_on slots names.free_bit names.free_word c.args.target.now c.args._second.now
     c.args.op c.args.args.now c.requires.linear meets c.requires.placed t meets.gives.found
     ss.list ss.at
@@ -27,6 +28,6 @@ pub returns-clause-written : goal.returns-clause-written
 returns-clause-written c =
     λ t ss found at.
     let r = c.owners-owners.result in
-    c.in_ok-p.ensures.same ∙ ap (program_on r) c.lines.ensures
-    ∙ ap (λ (r : Owners). program_on r (program c.args.op r.target.kind))
+    c.in_ok-p.ensures.same ∙ ap (program_on (rows_at r)) c.lines.ensures
+    ∙ ap (λ (r : Owners). program_on (rows_at r) (program c.args.op r.target.kind))
     (c.owners-owners.ensures t ss found at)

@@ -11,5 +11,5 @@ returns-then-k-args c = λ ss at. c.slot_of.ensures.place (following ss c.args.n
 
 pub returns-else-k-args : goal.returns-else-k-args
 returns-else-k-args c = λ ss at. (let past = c.if-k-args.false in
-    c.free_bit.ensures ∙ sym (after_past (slots_of c.args.names.now) c.args.args.now ss
+    c.scratch_bit.ensures ∙ sym (after_past (slots_of c.args.names.now) c.args.args.now ss
     c.args.names.now.free_bit c.args.k at (omega (arith, past))))
