@@ -24,7 +24,7 @@ use Rattle.loop_ir.specs.declared.ir.Place.{Place}
 use Rattle.loop_ir.specs.declared.ir.Count.{Count}
 use Rattle.loop_ir.specs.declared.ir.Count.TheVariants.{All, Rest, UpTo, Bits}
 use Rattle.uprog_gen.specs.declared.plan.Plan.{Plan}
-use Rattle.loop_ir.specs.Plain.{Block, InnerOf, TurnsOf, StepOf, step_map}
+use Rattle.loop_ir.specs.Plain.{Block, InnerOf, TurnOf, StepOf, step_map}
 use Rattle.loop_ir.specs.Plain.InnerOf.{Alone, Across}
 use Rattle.loop_ir.specs.Plain.StepOf.{Single, Along, Nest, Pairs, Alternate}
 use Rattle.loop_ir.specs.Spots.{nth_place}
@@ -246,25 +246,35 @@ turn_plan = record { first = At_inner; second = Zero; third = Zero }
 abbrev pub turn_uops : Part → List Uop
 turn_uops p = map (code_uop turn_plan p.block) p.cmds
 
--- One of two bodies, whose first instruction has this place. Register 2 holds how many positions
--- come after this one, and 4 holds 1: where none comes, the other body stands in its place and a
--- jump leads to the end
-abbrev pub half_code : Part → Part → ℕ → ℕ → List Uop
-half_code p last end pc = Bnez 2 (pc + 1 + length last.cmds + 1)
-    ∷ (turn_uops last ++ (Bnez 4 end ∷ (turn_uops p ++ (AddI 3 1 ∷ SubI 2 1 ∷ []))))
+-- One of bodies that take turns, whose first instruction has this place. Register 2 holds how many
+-- positions come after this one, and 4 holds 1: where none comes, the other body stands in its place
+-- and a jump leads out of the loop
+abbrev pub either_code : Part → Part → ℕ → ℕ → List Uop
+either_code p last out pc = Bnez 2 (pc + 1 + length last.cmds + 1)
+    ∷ (turn_uops last ++ (Bnez 4 out ∷ (turn_uops p ++ (AddI 3 1 ∷ SubI 2 1 ∷ []))))
 
 -- how many instructions it has
-abbrev pub half_size : Part → Part → ℕ
-half_size p last = length p.cmds + length last.cmds + 4
+abbrev pub either_size : Part → Part → ℕ
+either_size p last = length p.cmds + length last.cmds + 4
 
--- the code of bodies that take turns
-abbrev pub turns_code : TurnsOf Part → ℕ → List Uop
-turns_code t pc =
-    let head = pc + 1 + 1 + 1 in
-    let odd = head + half_size t.even t.last_even in
-    let end = odd + half_size t.odd t.last_odd + 1 in
-    SetT 2 ∷ SetI 3 0 ∷ SetI 4 1 ∷ (half_code t.even t.last_even end head
-    ++ (half_code t.odd t.last_odd end odd ++ (Bnez 4 head ∷ [])))
+-- bodies that take turns, one after another
+abbrev pub turns_list : List (TurnOf Part) → ℕ → ℕ → List Uop
+turns_list [] out pc = []
+turns_list (t ∷ ts) out pc = either_code t.each t.last out pc
+    ++ turns_list ts out (pc + either_size t.each t.last)
+
+-- before the loop of bodies that take turns, whose first instruction has this place: the last of
+-- these leads out of it, to the end
+abbrev pub start_code : ℕ → ℕ → List Uop
+start_code head end = SetT 2 ∷ SetI 3 0 ∷ SetI 4 1 ∷ Bnez 4 head ∷ Bnez 4 end ∷ []
+
+-- the loop of bodies that take turns, in which each jumps back to the way out
+abbrev pub cycle_code : List (TurnOf Part) → ℕ → List Uop
+cycle_code ts pc =
+    let out = pc + 1 + 1 + 1 + 1 in
+    let head = out + 1 in
+    let turns = turns_list ts out head in
+    start_code head (head + length turns + 1) ++ (turns ++ (Bnez 4 head ∷ []))
 
 -- the code of a step, whose first instruction has this place
 abbrev pub step_code : StepOf Part → ℕ → List Uop
@@ -273,7 +283,8 @@ step_code (Along p) pc = outside ++ loop_code All p (pc + 1 + 1)
 step_code (Nest []) pc = []
 step_code (Nest (x ∷ xs)) pc = nest_code (inner_list (x ∷ xs)) pc
 step_code (Pairs p) pc = pairs_code p pc
-step_code (Alternate t) pc = turns_code t pc
+step_code (Alternate []) pc = []
+step_code (Alternate (t ∷ ts)) pc = cycle_code (t ∷ ts) pc
 
 -- the code of the steps, whose first instruction has this place
 abbrev pub program_code : List (StepOf Part) → ℕ → List Uop

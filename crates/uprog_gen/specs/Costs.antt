@@ -30,16 +30,16 @@ op_aaps o.Gt n = 3 * n + 1
 op_aaps o.Ge n = 3 * n + 1
 op_aaps o.IfElse n = 7 * n
 op_aaps o.Bitcount n = 7 * bits_to n + 3 * n
-op_aaps o.AndRed n = 3 * (n / 2) + 2 * (n % 2) + 2
-op_aaps o.OrRed n = 3 * (n / 2) + 2 * (n % 2) + 2
+op_aaps o.AndRed n = n + 2 * ((n + 2) / 3) + 1
+op_aaps o.OrRed n = n + 2 * ((n + 2) / 3) + 1
 op_aaps o.XorRed n = 5 * ((n + 1) / 2) + 1
 op_aaps o.Divmod n = 11 * (n * (n + 1) / 2) + 14 * n + 1
 
 -- how many AP
 abbrev pub op_aps : WordOp → ℕ → ℕ
 op_aps o.Xor n = 2 * n
-op_aps o.AndRed n = n - 1
-op_aps o.OrRed n = n - 1
+op_aps o.AndRed n = n - (n + 2) / 3
+op_aps o.OrRed n = n - (n + 2) / 3
 op_aps o.XorRed n = (n + 1) / 2
 op_aps o.Add n = n
 op_aps o.Sub n = n

@@ -1,9 +1,11 @@
 -- What the emitters add to the code.
 -- Private contracts alone speak of this.
-use Rattle.std.specs.Prelude.{◌≡◌, List, ◌++◌, length, map}
+use Rattle.std.specs.Prelude.{◌≡◌, ℕ, List, ◌++◌, length, map}
 use Rattle.uprog_code.specs.declared.code.Uop.{Uop}
-use Rattle.loop_ir.specs.Plain.{Block, InnerOf, StepOf, inner_map, AllInner, AllParts}
-use Rattle.uprog_gen.specs.Code.{Part, block_of_part, blocks, inner_list, program_code}
+use Rattle.loop_ir.specs.Plain.{Block, InnerOf, TurnOf, StepOf, inner_map, turn_map}
+use Rattle.loop_ir.specs.Plain.{AllInner, AllTurns, AllParts}
+use Rattle.uprog_gen.specs.Code.{Part, block_of_part, blocks, inner_list, turns_list}
+use Rattle.uprog_gen.specs.Code.{program_code}
 use Rattle.uprog_gen.specs.Parts.{IsPart}
 
 -- the code of these inner steps came to the old code, with right commands for each body
@@ -12,6 +14,14 @@ pub record EmitsInner (xs : List (InnerOf Block)) (old new : List Uop) : Type 0 
   pub same : map (inner_map block_of_part) coded ≡ xs
   pub parts : AllInner IsPart coded
   pub code : new ≡ old ++ inner_list coded (length old)
+
+-- the code of bodies that take turns came to the old code, with right commands for each body and
+-- jumps to this place
+pub record EmitsTurns (ts : List (TurnOf Block)) (out : ℕ) (old new : List Uop) : Type 0 where
+  pub coded : List (TurnOf Part)
+  pub same : map (turn_map block_of_part) coded ≡ ts
+  pub parts : AllTurns IsPart coded
+  pub code : new ≡ old ++ turns_list coded out (length old)
 
 -- the code of these steps came to the old code, with right commands for each body
 pub record EmitsSteps (steps : List (StepOf Block)) (old new : List Uop) : Type 0 where

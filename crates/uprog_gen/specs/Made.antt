@@ -5,9 +5,8 @@ use Rattle.row_alloc.specs.declared.body.BodyRef.{BodyRef}
 use Rattle.row_alloc.specs.declared.body.BodyCmd.{BodyCmd}
 use Rattle.row_alloc.specs.declared.body.BodyCmd.TheVariants.{Aap, Ap}
 use Rattle.row_alloc.specs.Legal.{is_ref}
-use Rattle.loop_ir.specs.Plain.{Block, TurnsOf}
+use Rattle.loop_ir.specs.Plain.{Block}
 use Rattle.uprog_gen.specs.declared.part.Made.{Made}
-use Rattle.uprog_gen.specs.declared.part.MadeTurns.{MadeTurns}
 use Rattle.uprog_gen.specs.Code.{Part}
 
 -- a body with the commands that the code made for it
@@ -17,15 +16,6 @@ part_of b made = record {
   plan = made.plan;
   outs = made.outs.items;
   cmds = made.cmds.items;
-}
-
--- so with bodies that take turns
-abbrev pub parts_of : TurnsOf Block → MadeTurns → TurnsOf Part
-parts_of t made = record {
-  even = part_of t.even made.even;
-  odd = part_of t.odd made.odd;
-  last_even = part_of t.last_even made.last_even;
-  last_odd = part_of t.last_odd made.last_odd;
 }
 
 -- the body has this row

@@ -3,20 +3,20 @@
 ghost use Rattle.std.specs.Prelude.{◌≡◌, ◌<◌, ◌≤◌, ◌+◌, ◌^◌, ◌++◌, ◌∷◌, [], length, map, OnOk};
 ghost use Rattle.std.specs.Prelude.{true};
 ghost use Rattle.row_alloc.specs.declared.body.BodyRef.{BodyRef};
-ghost use Rattle.loop_ir.specs.Plain.{block_of, turns_of, AllTurns};
-ghost use Rattle.loop_ir.specs.Costs.{body_cost, turns_cost};
+ghost use Rattle.loop_ir.specs.Plain.{block_of};
+ghost use Rattle.loop_ir.specs.Costs.{body_cost};
 ghost use Rattle.uprog_gen.specs.Code.{row_space, index_in, place_ref, code_ref, code_uop, init};
 ghost use Rattle.uprog_gen.specs.Code.{before, after, inits, befores, afters, halve_code};
 ghost use Rattle.uprog_gen.specs.Code.{bits_code, counter, body_uops};
 ghost use Rattle.uprog_gen.specs.Code.{once_code, turn_code, enter_code, loop_code, guard_code};
-ghost use Rattle.uprog_gen.specs.Code.{pairs_code, half_code, turns_code};
-ghost use Rattle.uprog_gen.specs.Made.{part_of, parts_of, is_ref_of, are_refs_of};
+ghost use Rattle.uprog_gen.specs.Code.{pairs_code, start_code, either_code};
+ghost use Rattle.uprog_gen.specs.Made.{part_of, is_ref_of, are_refs_of};
 ghost use Rattle.uprog_gen.specs.Parts.{IsPart};
 
-use crate::part::{Made, MadeTurns};
+use crate::part::Made;
 use crate::plan::{Plan, register};
 use faults::keep;
-use loop_ir::{Body, Count, Place, Space, Sub, Turns, place_at};
+use loop_ir::{Body, Count, Place, Space, Sub, place_at};
 use mig_graph::NoMemory;
 use row_alloc::{BodyCmd, BodyRef};
 use uprog_code::{RowRef, RowSpace, Uop};
@@ -309,6 +309,18 @@ pub fn push_pairs(code: &mut Vec<Uop>, body: &Body, made: &Made) -> Result<(), N
     Ok(())
 }
 
+/// What stands before the loop of bodies that take turns, whose first instruction has this place. The
+/// jump out of the loop gets its target when the loop stands.
+pub fn push_start(code: &mut Vec<Uop>, head: u16) -> Result<(), NoMemory>
+    ensures { OnOk result (code.new.items ≡ code.old.items ++ start_code head 0) }
+{
+    keep(code, Uop::SetT(2))?;
+    keep(code, Uop::SetI(3, 0))?;
+    keep(code, Uop::SetI(4, 1))?;
+    keep(code, Uop::Bnez(4, head))?;
+    keep(code, Uop::Bnez(4, 0))
+}
+
 /// The subscripts of bodies that take turns: register 3 holds the position.
 const TURN_PLAN: Plan = Plan {
     first: Sub::Inner,
@@ -316,68 +328,27 @@ const TURN_PLAN: Plan = Plan {
     third: Sub::Zero,
 };
 
-/// One of two bodies that take turns, and the one that stands in its place at the top position.
-fn push_half(
+/// One of bodies that take turns, and the one that stands in its place at the top position.
+pub fn push_either(
     code: &mut Vec<Uop>,
     body: &Body,
     made: &Made,
     last: &Body,
     last_made: &Made,
-    end: u16,
+    out: u16,
 ) -> Result<(), NoMemory>
     requires part { IsPart (part_of (block_of body.now) made.now) }
     requires last { IsPart (part_of (block_of last.now) last_made.now) }
     requires room { length code.old.items + length last_made.now.cmds.items + 2 < 2 ^ 16 }
     ensures { OnOk result (code.new.items ≡ code.old.items
-        ++ half_code (part_of (block_of body.now) made.now)
-        (part_of (block_of last.now) last_made.now) end (length code.old.items)) }
+        ++ either_code (part_of (block_of body.now) made.now)
+        (part_of (block_of last.now) last_made.now) out (length code.old.items)) }
 {
     let more = code.len() as u16 + 1 + last_made.cmds.len() as u16 + 1;
     keep(code, Uop::Bnez(2, more))?;
     push_commands(code, TURN_PLAN, last, last_made)?;
-    keep(code, Uop::Bnez(4, end))?;
+    keep(code, Uop::Bnez(4, out))?;
     push_commands(code, TURN_PLAN, body, made)?;
     keep(code, Uop::AddI(3, 1))?;
     keep(code, Uop::SubI(2, 1))
-}
-
-/// How many instructions a half has.
-fn half_size(made: &Made, last: &Made) -> u16
-    requires { length made.now.cmds.items + length last.now.cmds.items + 4 < 2 ^ 16 }
-    ensures { result ≡ length made.now.cmds.items + length last.now.cmds.items + 4 }
-{
-    made.cmds.len() as u16 + last.cmds.len() as u16 + 4
-}
-
-/// Bodies that take turns.
-pub fn push_turns(code: &mut Vec<Uop>, turns: &Turns, made: &MadeTurns) -> Result<(), NoMemory>
-    requires parts { AllTurns IsPart (parts_of (turns_of turns.now) made.now) }
-    requires room { length code.old.items + turns_cost (turns_of turns.now) + 16 < 2 ^ 16 }
-    ensures { OnOk result (code.new.items ≡ code.old.items
-        ++ turns_code (parts_of (turns_of turns.now) made.now) (length code.old.items)) }
-{
-    let head = code.len() as u16 + 3;
-    let odd = head + half_size(&made.even, &made.last_even);
-    let end = odd + half_size(&made.odd, &made.last_odd) + 1;
-    keep(code, Uop::SetT(2))?;
-    keep(code, Uop::SetI(3, 0))?;
-    keep(code, Uop::SetI(4, 1))?;
-    push_half(
-        code,
-        &turns.even,
-        &made.even,
-        &turns.last_even,
-        &made.last_even,
-        end,
-    )?;
-    push_half(
-        code,
-        &turns.odd,
-        &made.odd,
-        &turns.last_odd,
-        &made.last_odd,
-        end,
-    )?;
-    keep(code, Uop::Bnez(4, head))?;
-    Ok(())
 }

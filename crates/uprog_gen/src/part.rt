@@ -1,17 +1,17 @@
 //! The commands of a body.
 
 ghost use Rattle.std.specs.Prelude.{◌≡◌, IfOk};
-ghost use Rattle.loop_ir.specs.Plain.{block_of, turns_of, AllTurns};
+ghost use Rattle.loop_ir.specs.Plain.{block_of};
 ghost use Rattle.loop_ir.specs.Costs.{carries};
 ghost use Rattle.loop_ir.specs.Outputs.{IsOuts};
 ghost use Rattle.loop_ir.specs.States.{row_count as rows_in};
 ghost use Rattle.uprog_gen.specs.Parts.{IsPart};
 ghost use Rattle.loop_ir.specs.Limits.{IsSmall};
-ghost use Rattle.uprog_gen.specs.Made.{part_of, parts_of};
+ghost use Rattle.uprog_gen.specs.Made.{part_of};
 
 use crate::plan::{Plan, plan_of};
 use crate::states::{has_states, held_commands, row_count};
-use loop_ir::{Body, Turns, out_rows};
+use loop_ir::{Body, out_rows};
 use mig_graph::NoMemory;
 use row_alloc::{BodyCmd, OutRow, greedy_body};
 use std::alloc::Global;
@@ -29,25 +29,6 @@ impl Drop for Made {
             plan: _,
             outs: _,
             cmds: _,
-        } = self;
-    }
-}
-
-/// What is made of bodies that take turns.
-pub struct MadeTurns {
-    pub even: Made,
-    pub odd: Made,
-    pub last_even: Made,
-    pub last_odd: Made,
-}
-
-impl Drop for MadeTurns {
-    fn drop(self) {
-        let MadeTurns {
-            even: _,
-            odd: _,
-            last_even: _,
-            last_odd: _,
         } = self;
     }
 }
@@ -93,17 +74,4 @@ pub fn make_part(body: &Body, alloc: Global) -> Result<Made, NoMemory>
     }
     let cmds = greedy_body(&body.graph.mig, &outs, alloc)?;
     Ok(Made { plan, outs, cmds })
-}
-
-/// The commands of bodies that take turns.
-pub fn make_turns(turns: &Turns, alloc: Global) -> Result<MadeTurns, NoMemory>
-    requires { AllTurns IsSmall (turns_of turns.now) }
-    ensures { IfOk result (λ made. AllTurns IsPart (parts_of (turns_of turns.now) made)) }
-{
-    Ok(MadeTurns {
-        even: make_part(&turns.even, alloc)?,
-        odd: make_part(&turns.odd, alloc)?,
-        last_even: make_part(&turns.last_even, alloc)?,
-        last_odd: make_part(&turns.last_odd, alloc)?,
-    })
 }

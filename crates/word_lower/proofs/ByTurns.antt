@@ -1,19 +1,20 @@
--- Reductions by two bodies that take turns.
-use Rattle.std.proofs.Common.{◌≡◌, ℕ, zero, suc, ◌-◌, ◌<◌, Bool, true, false, not, [], ◌∷◌}
+-- Reductions by bodies that take turns.
+use Rattle.std.proofs.Common.{◌≡◌, ℕ, zero, suc, ◌-◌, ◌<◌, Bool, true, false, not, List, [], ◌∷◌}
 use Rattle.std.proofs.Common.{refl, ap, ◌∙◌, subst, arith}
 use Rattle.bit_rows.specs.Bits.{majority}
 use Rattle.mig_graph.specs.declared.Lit.{Lit}
 use Rattle.mig_graph.specs.Graph.{values_from}
 use Rattle.op_text.specs.declared.word_ops.WordOp.{WordOp}
 use Rattle.loop_ir.specs.declared.ir.Sub.TheVariants as sub
-use Rattle.loop_ir.specs.Plain.{Block, TurnsOf}
+use Rattle.loop_ir.specs.Plain.{Block, TurnOf}
 use Rattle.loop_ir.specs.Loops.{round_at, turns_from}
 use Rattle.loop_ir.specs.Spots.{Spot, Spots, set_spot, after_round, after_rounds}
 use Rattle.loop_laws.specs.Rooms.{Marked, placed_body}
 use Rattle.loop_laws.proofs.Same.{set_same, set_other}
-use Rattle.loop_laws.proofs.TakingTurns.{turns_give}
+use Rattle.loop_laws.proofs.TakingTurns.{Leads, two_give, three_give}
 use Rattle.word_lower.specs.Places.{cells, scratch_from, rooms_of}
-use Rattle.word_lower.specs.Programs.{off, up, gathered, joined, agreed, kept, odd, odd_of_three}
+use Rattle.word_lower.specs.Programs.{off, up, gathered, joined, agreed, agreed_beside, kept, odd}
+use Rattle.word_lower.specs.Programs.{odd_of_three}
 use Rattle.word_lower.proofs.Marks.{target, first, state}
 use Rattle.word_lower.proofs.Setting.{bit, operation, Slots, row, number_at, AreSlots}
 use Rattle.word_lower.proofs.Setting.{Gives}
@@ -81,27 +82,49 @@ module _ (o : WordOp) (n : ℕ) (some : 0 < n) (m : Slots) (are : AreSlots n 1 n
     rows = λ q out other. does.keeps top bits q other ∙ h.rows q out;
   }
 
-  pub turns_does : (t : TurnsOf Block) (Even Odd : Spots → Bool → Type 0)
-      → Takes n m f t.even Even Odd → Takes n m f t.odd Odd Even → Closes n m f t.last_even Even
-      → Closes n m f t.last_odd Odd → (start : Spots) → Even start v
-      → ((q : Spot) → NotInCells n q → start q ≡ before q)
-      → bit (so_far n) ≡ operation o n (number_at n before m.a n) (number_at n before m.b n)
+  -- one of the bodies, and the one in its place at the top position
+  pub record IsTurn (t : TurnOf Block) (From To : Spots → Bool → Type 0) : Type 0 where
+    pub takes : Takes n m f t.each From To
+    pub closes : Closes n m f t.last From
+
+  leads : (t : TurnOf Block) (From To : Spots → Bool → Type 0) → IsTurn t From To
+      → Leads n (n - 1) Ends t (Holds From) (Holds To)
+  leads t From To is = let all : suc (n - 1) ≡ n = omega (arith, some) in record {
+    next = λ i bits lt h. taken t.each From To is.takes i bits (omega (arith, lt)) h;
+    ends = λ bits h. closed t.last From is.closes (n - 1) bits all h;
+  }
+
+  -- what the operation gives of the bits of its argument
+  abbrev IsValue : Type 0
+  IsValue = bit (so_far n) ≡ operation o n (number_at n before m.a n) (number_at n before m.b n)
       (number_at n before m.s 1)
-      → Gives o n 1 n 0 m before (after_rounds n (turns_from t 0 (n - 1)) start)
-  turns_does t Even Odd even odd last_even last_odd start begins rows value =
-      let all : suc (n - 1) ≡ n = omega (arith, some) in
-      let new = after_rounds n (turns_from t 0 (n - 1)) start in
-      let r = turns_give n t (Holds Even) (Holds Odd) Ends (n - 1)
-      (λ i bits lt h. taken t.even Even Odd even i bits (omega (arith, lt)) h)
-      (λ i bits lt h. taken t.odd Odd Even odd i bits (omega (arith, lt)) h)
-      (λ bits h. closed t.last_even Even last_even (n - 1) bits all h)
-      (λ bits h. closed t.last_odd Odd last_odd (n - 1) bits all h) 0 (n - 1) start (omega arith)
-      (record { state = begins; rows = rows }) in
-      record {
-        gives = one_bit (λ j. new (row n m.target j)) ∙ ap bit r.value ∙ value;
-        keeps = λ q out. r.rows q (λ w. cell_else n 1 0 m w q out)
-            (λ e. out.target 0 (omega arith) e);
-      }
+
+  ended : (new : Spots) → Ends new → IsValue → Gives o n 1 n 0 m before new
+  ended new r value = record {
+    gives = one_bit (λ j. new (row n m.target j)) ∙ ap bit r.value ∙ value;
+    keeps = λ q out. r.rows q (λ w. cell_else n 1 0 m w q out)
+        (λ e. out.target 0 (omega arith) e);
+  }
+
+  pub two_does : (t u : TurnOf Block) (One Other : Spots → Bool → Type 0) → IsTurn t One Other
+      → IsTurn u Other One → (start : Spots) → One start v
+      → ((q : Spot) → NotInCells n q → start q ≡ before q) → IsValue
+      → Gives o n 1 n 0 m before (after_rounds n (turns_from (t ∷ u ∷ []) 0 (n - 1)) start)
+  two_does t u One Other x y start begins rows value =
+      ended (after_rounds n (turns_from (t ∷ u ∷ []) 0 (n - 1)) start)
+      (two_give n (n - 1) Ends t u (Holds One) (Holds Other) (leads t One Other x)
+      (leads u Other One y) 0 (n - 1) start (omega arith) (record { state = begins; rows = rows }))
+      value
+
+  pub three_does : (t u w : TurnOf Block) (One Two Three : Spots → Bool → Type 0)
+      → IsTurn t One Two → IsTurn u Two Three → IsTurn w Three One → (start : Spots)
+      → One start v → ((q : Spot) → NotInCells n q → start q ≡ before q) → IsValue
+      → Gives o n 1 n 0 m before (after_rounds n (turns_from (t ∷ u ∷ w ∷ []) 0 (n - 1)) start)
+  three_does t u w One Two Three x y z start begins rows value =
+      ended (after_rounds n (turns_from (t ∷ u ∷ w ∷ []) 0 (n - 1)) start)
+      (three_give n (n - 1) Ends t u w (Holds One) (Holds Two) (Holds Three) (leads t One Two x)
+      (leads u Two Three y) (leads w Three One z) 0 (n - 1) start (omega arith)
+      (record { state = begins; rows = rows })) value
 
 -- three bits, of which two are the state
 pub three_bit : (x e s : Bool) → majority (not e) (majority x e (not s))
@@ -136,27 +159,32 @@ last_first false false true = refl
 last_first false false false = refl
 
 -- the bodies of and_red, or_red and xor_red
-abbrev both_turns : Lit → TurnsOf Marked
+abbrev both_turns : Lit → List (TurnOf Marked)
 both_turns l = record {
-  even = gathered l (first sub.Inner) (state 1) (state 2) (state 3);
-  odd = agreed (first sub.Inner) (state 2) (state 3) (state 1);
-  last_even = joined l (first sub.Inner) (state 1) (target sub.Zero);
-  last_odd = agreed (first sub.Inner) (state 2) (state 3) (target sub.Zero);
-}
+  each = gathered l (first sub.Inner) (state 1) (state 2) (state 4);
+  last = joined l (first sub.Inner) (state 1) (target sub.Zero);
+} ∷ record {
+  each = agreed_beside (first sub.Inner) (state 2) (state 4) (state 3) (state 12);
+  last = agreed (first sub.Inner) (state 2) (state 4) (target sub.Zero);
+} ∷ record {
+  each = agreed (first sub.Inner) (state 3) (state 12) (state 1);
+  last = agreed (first sub.Inner) (state 3) (state 12) (target sub.Zero);
+} ∷ []
 
-abbrev pub and_turns : TurnsOf Marked
+abbrev pub and_turns : List (TurnOf Marked)
 and_turns = both_turns off
 
-abbrev pub or_turns : TurnsOf Marked
+abbrev pub or_turns : List (TurnOf Marked)
 or_turns = both_turns up
 
-abbrev pub xor_turns : TurnsOf Marked
+abbrev pub xor_turns : List (TurnOf Marked)
 xor_turns = record {
-  even = kept (first sub.Inner) (state 4) (state 9) (state 10);
-  odd = odd_of_three (first sub.Inner) (state 9) (state 10) (state 4);
-  last_even = odd (first sub.Inner) (state 4) (target sub.Zero);
-  last_odd = odd_of_three (first sub.Inner) (state 9) (state 10) (target sub.Zero);
-}
+  each = kept (first sub.Inner) (state 4) (state 9) (state 10);
+  last = odd (first sub.Inner) (state 4) (target sub.Zero);
+} ∷ record {
+  each = odd_of_three (first sub.Inner) (state 9) (state 10) (state 4);
+  last = odd_of_three (first sub.Inner) (state 9) (state 10) (target sub.Zero);
+} ∷ []
 
 -- the parity in T3 and DCC1, and the element that is kept in T0 beside the parity before it
 module _ (n : ℕ) (m : Slots) where
@@ -207,13 +235,13 @@ module _ (n : ℕ) (m : Slots) where
     keeps = λ i bits q out. set_other bits (row n m.target 0) _ q out;
   }
 
--- an and or an or: the state in T1, or in T2 with the constant in T3
+-- an and or an or: the state in T1, or in other cells with the constant beside it
 module _ (n : ℕ) (m : Slots) (k : Bool) where
   abbrev pub Alone : Spots → Bool → Type 0
   Alone bits x = bits (row n (cells 1) 0) ≡ x
 
-  abbrev pub Beside : Spots → Bool → Type 0
-  Beside bits x = (bits (row n (cells 2) 0) ≡ x) × (bits (row n (cells 3) 0) ≡ k)
+  abbrev pub Beside : ℕ → ℕ → Spots → Bool → Type 0
+  Beside c d bits x = (bits (row n (cells c) 0) ≡ x) × (bits (row n (cells d) 0) ≡ k)
 
   abbrev made : Marked → Block
   made b = placed_body (rooms_of m.target (m.a ∷ []) (scratch_from m.free_bit 0)) b
@@ -222,21 +250,37 @@ module _ (n : ℕ) (m : Slots) (k : Bool) where
   agreed_bit x c d y e h = ap (λ z. majority x z d) e ∙ ap (λ z. majority x y z) h
       ∙ last_first x y k
 
+  pub beside_takes : Takes n m (majority k)
+      (made (agreed_beside (first sub.Inner) (state 2) (state 4) (state 3) (state 12)))
+      (Beside 2 4) (Beside 3 12)
+  unfolding values_from
+  beside_takes = record {
+    gives = λ i bits x h. (
+      agreed_bit (bits (row n m.a i)) (bits (row n (cells 2) 0)) (bits (row n (cells 4) 0)) x h.0
+          h.1,
+      h.1,
+    );
+    keeps = λ i bits q out. set_other (set_spot bits (row n (cells 3) 0) (majority
+        (bits (row n m.a i)) (bits (row n (cells 2) 0)) (bits (row n (cells 4) 0))))
+        (row n (cells 12) 0) (bits (row n (cells 4) 0)) q (out 12)
+        ∙ set_other bits (row n (cells 3) 0) _ q (out 3);
+  }
+
   pub agreed_takes : Takes n m (majority k)
-      (made (agreed (first sub.Inner) (state 2) (state 3) (state 1))) Beside Alone
+      (made (agreed (first sub.Inner) (state 3) (state 12) (state 1))) (Beside 3 12) Alone
   unfolding values_from
   agreed_takes = record {
-    gives = λ i bits x h. agreed_bit (bits (row n m.a i)) (bits (row n (cells 2) 0))
-        (bits (row n (cells 3) 0)) x h.0 h.1;
+    gives = λ i bits x h. agreed_bit (bits (row n m.a i)) (bits (row n (cells 3) 0))
+        (bits (row n (cells 12) 0)) x h.0 h.1;
     keeps = λ i bits q out. set_other bits (row n (cells 1) 0) _ q (out 1);
   }
 
-  pub agreed_closes : Closes n m (majority k)
-      (made (agreed (first sub.Inner) (state 2) (state 3) (target sub.Zero))) Beside
+  pub agreed_closes : (c d : ℕ) → Closes n m (majority k)
+      (made (agreed (first sub.Inner) (state c) (state d) (target sub.Zero))) (Beside c d)
   unfolding values_from
-  agreed_closes = record {
+  agreed_closes c d = record {
     gives = λ i bits x h. set_same bits (row n m.target 0) _ (row n m.target 0) refl
-        ∙ agreed_bit (bits (row n m.a i)) (bits (row n (cells 2) 0)) (bits (row n (cells 3) 0)) x
+        ∙ agreed_bit (bits (row n m.a i)) (bits (row n (cells c) 0)) (bits (row n (cells d) 0)) x
         h.0 h.1;
     keeps = λ i bits q out. set_other bits (row n m.target 0) _ q out;
   }
@@ -244,21 +288,21 @@ module _ (n : ℕ) (m : Slots) (k : Bool) where
 -- the bodies with a constant, which is 0 for an and and 1 for an or
 pub gathered_takes : (n : ℕ) (m : Slots) (k : Bool) → Takes n m (majority k)
     (placed_body (rooms_of m.target (m.a ∷ []) (scratch_from m.free_bit 0))
-    (gathered (record { node = 0; inverted = k }) (first sub.Inner) (state 1) (state 2) (state 3)))
-    (Alone n m k) (Beside n m k)
+    (gathered (record { node = 0; inverted = k }) (first sub.Inner) (state 1) (state 2) (state 4)))
+    (Alone n m k) (Beside n m k 2 4)
 unfolding values_from
 gathered_takes n m true = record {
   gives = λ i bits x h. (ap (λ z. majority true (bits (row n m.a i)) z) h, refl);
   keeps = λ i bits q out. set_other (set_spot bits (row n (cells 2) 0)
-      (majority true (bits (row n m.a i)) (bits (row n (cells 1) 0)))) (row n (cells 3) 0) true q
-      (out 3) ∙ set_other bits (row n (cells 2) 0)
+      (majority true (bits (row n m.a i)) (bits (row n (cells 1) 0)))) (row n (cells 4) 0) true q
+      (out 4) ∙ set_other bits (row n (cells 2) 0)
       (majority true (bits (row n m.a i)) (bits (row n (cells 1) 0))) q (out 2);
 }
 gathered_takes n m false = record {
   gives = λ i bits x h. (ap (λ z. majority false (bits (row n m.a i)) z) h, refl);
   keeps = λ i bits q out. set_other (set_spot bits (row n (cells 2) 0)
-      (majority false (bits (row n m.a i)) (bits (row n (cells 1) 0)))) (row n (cells 3) 0) false q
-      (out 3) ∙ set_other bits (row n (cells 2) 0)
+      (majority false (bits (row n m.a i)) (bits (row n (cells 1) 0)))) (row n (cells 4) 0) false q
+      (out 4) ∙ set_other bits (row n (cells 2) 0)
       (majority false (bits (row n m.a i)) (bits (row n (cells 1) 0))) q (out 2);
 }
 

@@ -17,7 +17,7 @@ use Rattle.op_text.specs.Scratch.{bits_inside}
 use Rattle.op_text.specs.Costs.{op_ceiling}
 use Rattle.loop_ir.specs.declared.ir.Space.TheVariants.{ScratchBit}
 use Rattle.loop_ir.specs.declared.names.Slot.{Slot}
-use Rattle.loop_ir.specs.Plain.{Block, TurnsOf, StepOf, turns_map}
+use Rattle.loop_ir.specs.Plain.{Block, TurnOf, StepOf, turn_map}
 use Rattle.loop_ir.specs.Loops.{all_rounds}
 use Rattle.loop_ir.specs.Spots.{Spot, Spots, spot_in, after_rounds, is_state}
 use Rattle.loop_ir.specs.Costs.{turn_cost, rounds_cost, plain_cost, plain_costs}
@@ -209,24 +209,24 @@ computed p k t args free fit same short states plain cheap =
         let s = same (slots_width n args) in omega (arith, r, f, s)
 
 -- what bodies that take turns may take
-abbrev Turned : TurnsOf Marked → TurnsOf Block
-Turned t = turns_map (placed_body []) t
+abbrev Turned : List (TurnOf Marked) → List (TurnOf Block)
+Turned ts = map (turn_map (placed_body [])) ts
 
 relu_few : (n : ℕ) → turns_sum plain_cost (Turned relu_turns) (n - 1) ≤ (n - 1) * 7 + 1
-relu_few n = turns_most plain_cost 7 1 (Turned relu_turns) (omega arith) (omega arith) (omega arith)
-    (omega arith) (n - 1)
+relu_few n = turns_most plain_cost 7 1 (Turned relu_turns)
+    ((omega arith, omega arith), ((omega arith, omega arith), tt)) (n - 1)
 
 and_few : (n : ℕ) → turns_sum plain_cost (Turned and_turns) (n - 1) ≤ (n - 1) * 7 + 7
-and_few n = turns_most plain_cost 7 7 (Turned and_turns) (omega arith) (omega arith) (omega arith)
-    (omega arith) (n - 1)
+and_few n = turns_most plain_cost 7 7 (Turned and_turns)
+    ((omega arith, omega arith), ((omega arith, omega arith), ((omega arith, omega arith), tt))) (n - 1)
 
 or_few : (n : ℕ) → turns_sum plain_cost (Turned or_turns) (n - 1) ≤ (n - 1) * 7 + 7
-or_few n = turns_most plain_cost 7 7 (Turned or_turns) (omega arith) (omega arith) (omega arith)
-    (omega arith) (n - 1)
+or_few n = turns_most plain_cost 7 7 (Turned or_turns)
+    ((omega arith, omega arith), ((omega arith, omega arith), ((omega arith, omega arith), tt))) (n - 1)
 
 xor_few : (n : ℕ) → turns_sum plain_cost (Turned xor_turns) (n - 1) ≤ (n - 1) * 15 + 15
-xor_few n = turns_most plain_cost 15 15 (Turned xor_turns) (omega arith) (omega arith) (omega arith)
-    (omega arith) (n - 1)
+xor_few n = turns_most plain_cost 15 15 (Turned xor_turns)
+    ((omega arith, omega arith), ((omega arith, omega arith), tt)) (n - 1)
 
 computes : (c : Kind) (p : WordOp) (t : Slot) (f : ℕ → Slot) (free : ℕ) → ComputesIn p c t f free
 computes Word op.Not t f free = computed _ _ _ _ _ refl refl refl refl (λ n some. omega (arith, some))

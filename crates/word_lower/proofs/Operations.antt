@@ -1,6 +1,7 @@
 -- Each operation's loop program gives its value.
 use Rattle.std.proofs.Common.{◌≡◌, ℕ, suc, ◌+◌, ◌-◌, ◌^◌, ◌%◌, ◌/◌, ◌<◌, Bool, true, false}
-use Rattle.std.proofs.Common.{not, cond, List, [], ◌∷◌, refl, sym, ap, ◌∙◌, subst, arith}
+use Rattle.std.proofs.Common.{not, cond, List, [], ◌∷◌, map, refl, sym, ap, ◌∙◌, subst}
+use Rattle.std.proofs.Common.{arith}
 use Rattle.std.specs.Prelude.{nat_lt, ◌==◌}
 use Rattle.bit_rows.specs.Bits.{majority}
 use Rattle.mig_graph.specs.Graph.{values_from}
@@ -14,7 +15,7 @@ use Rattle.op_text.specs.WordOps.{number as place_of, row_of}
 use Rattle.op_text.specs.Meaning.{width}
 use Rattle.loop_ir.specs.declared.ir.Sub.TheVariants as sub
 use Rattle.loop_ir.specs.Loops.{all_rounds}
-use Rattle.loop_ir.specs.Plain.{turns_map}
+use Rattle.loop_ir.specs.Plain.{turn_map}
 use Rattle.loop_ir.specs.Plain.StepOf.{Single}
 use Rattle.loop_ir.specs.Spots.{Spot, Spots, set_spot, after_rounds}
 use Rattle.loop_laws.specs.Turns.{Origin, Standing, Carried, turn, after_many}
@@ -44,8 +45,9 @@ use Rattle.word_lower.proofs.Carries.{added_digit, lessened_digit, negated_bit, 
 use Rattle.word_lower.proofs.Carries.{a_by_carry, top_by_carry, b_by_carry}
 use Rattle.word_lower.proofs.States.{one_bit, held_does, turned_bit, both_least}
 use Rattle.word_lower.proofs.States.{a_by_held, b_by_held}
-use Rattle.word_lower.proofs.ByTurns.{joined_up, turns_does, Parity, Kept, kept_takes, three_takes}
-use Rattle.word_lower.proofs.ByTurns.{odd_closes, three_closes, Alone, Beside, gathered_takes}
+use Rattle.word_lower.proofs.ByTurns.{joined_up, two_does, three_does, Parity, Kept, kept_takes}
+use Rattle.word_lower.proofs.ByTurns.{three_takes, odd_closes, three_closes, Alone, Beside}
+use Rattle.word_lower.proofs.ByTurns.{gathered_takes, beside_takes}
 use Rattle.word_lower.proofs.ByTurns.{agreed_takes, joined_closes, agreed_closes, and_turns}
 use Rattle.word_lower.proofs.ByTurns.{or_turns, xor_turns}
 use Rattle.word_lower.proofs.Rectified.{relu_turns, relu_by_turns}
@@ -127,7 +129,7 @@ module _ (n : ℕ) (m : Slots) (are : AreSlots n n n 0 m) where
   relu_does : 0 < n → DoesWords op.Relu Word n n 0 m
   unfolding values_from
   relu_does some before =
-      let t = turns_map (placed_body (rooms_for op.Relu m)) relu_turns in
+      let t = map (turn_map (placed_body (rooms_for op.Relu m))) relu_turns in
       let low = not (before (row n m.a (n - 1))) in
       let start = set_spot (set_spot before (row n (cells 1) 0) low) (row n (cells 11) 0) low in
       subst (Gives op.Relu n n n 0 m before) (sym (steps_turns n t [] start))
@@ -414,12 +416,13 @@ module _ (n : ℕ) (m : Slots) (are : AreSlots n 1 n 0 m) (some : 0 < n) where
       let p = row n (cells 1) 0 in
       let start = set_spot before p true in
       let a = λ (i : ℕ). before (row n m.a i) in
-      let t = turns_map (placed_body (rooms_for op.AndRed m)) and_turns in
+      let t = map (turn_map (placed_body (rooms_for op.AndRed m))) and_turns in
       subst (Gives op.AndRed n 1 n 0 m before) (sym (steps_turns n t [] start))
-      (turns_does op.AndRed n some m are (majority false) true before t (Alone n m false)
-      (Beside n m false) (gathered_takes n m false)
-      (agreed_takes n m false) (joined_closes n m false)
-      (agreed_closes n m false) start (set_same before p true p refl)
+      (three_does op.AndRed n some m are (majority false) true before _ _ _ (Alone n m false)
+      (Beside n m false 2 4) (Beside n m false 3 12)
+      (record { takes = gathered_takes n m false; closes = joined_closes n m false })
+      (record { takes = beside_takes n m false; closes = agreed_closes n m false 2 4 })
+      (record { takes = agreed_takes n m false; closes = agreed_closes n m false 3 12 }) start (set_same before p true p refl)
       (λ q out. set_other before p true q (out 1))
       (ap bit (all_gives a (joined_up (majority false) a true) n refl (λ i lt. refl))))
 
@@ -429,12 +432,13 @@ module _ (n : ℕ) (m : Slots) (are : AreSlots n 1 n 0 m) (some : 0 < n) where
       let p = row n (cells 1) 0 in
       let start = set_spot before p false in
       let a = λ (i : ℕ). before (row n m.a i) in
-      let t = turns_map (placed_body (rooms_for op.OrRed m)) or_turns in
+      let t = map (turn_map (placed_body (rooms_for op.OrRed m))) or_turns in
       subst (Gives op.OrRed n 1 n 0 m before) (sym (steps_turns n t [] start))
-      (turns_does op.OrRed n some m are (majority true) false before t (Alone n m true)
-      (Beside n m true) (gathered_takes n m true)
-      (agreed_takes n m true) (joined_closes n m true)
-      (agreed_closes n m true) start (set_same before p false p refl)
+      (three_does op.OrRed n some m are (majority true) false before _ _ _ (Alone n m true)
+      (Beside n m true 2 4) (Beside n m true 3 12)
+      (record { takes = gathered_takes n m true; closes = joined_closes n m true })
+      (record { takes = beside_takes n m true; closes = agreed_closes n m true 2 4 })
+      (record { takes = agreed_takes n m true; closes = agreed_closes n m true 3 12 }) start (set_same before p false p refl)
       (λ q out. set_other before p false q (out 1))
       (ap bit (any_gives a (joined_up (majority true) a false) n refl (λ i lt. refl))))
 
@@ -444,11 +448,11 @@ module _ (n : ℕ) (m : Slots) (are : AreSlots n 1 n 0 m) (some : 0 < n) where
       let p = row n (cells 4) 0 in
       let start = set_spot before p false in
       let a = λ (i : ℕ). before (row n m.a i) in
-      let t = turns_map (placed_body (rooms_for op.XorRed m)) xor_turns in
+      let t = map (turn_map (placed_body (rooms_for op.XorRed m))) xor_turns in
       subst (Gives op.XorRed n 1 n 0 m before) (sym (steps_turns n t [] start))
-      (turns_does op.XorRed n some m are xor2 false before t (Parity n m)
-      (Kept n m) (kept_takes n m) (three_takes n m)
-      (odd_closes n m) (three_closes n m) start
+      (two_does op.XorRed n some m are xor2 false before _ _ (Parity n m) (Kept n m)
+      (record { takes = kept_takes n m; closes = odd_closes n m })
+      (record { takes = three_takes n m; closes = three_closes n m }) start
       (set_same before p false p refl) (λ q out. set_other before p false q (out 4))
       (parity_gives a (joined_up xor2 a false) n refl (λ i lt. refl)))
 

@@ -1,6 +1,7 @@
 -- relu, by two bodies that take turns: the complement of the top bit in T1 and DCC0, or in DCC0 with
 -- the constant in T3.
-use Rattle.std.proofs.Common.{◌≡◌, ℕ, suc, ◌-◌, ◌^◌, ◌<◌, Bool, true, false, not, cond}
+use Rattle.std.proofs.Common.{◌≡◌, ℕ, suc, ◌-◌, ◌^◌, ◌<◌, Bool, true, false, not, cond, List}
+use Rattle.std.proofs.Common.{[], ◌∷◌}
 use Rattle.std.proofs.Common.{refl, sym, ap, ◌∙◌, ⊎_elim, subst, arith}
 use Rattle.std.specs.Prelude.{nat_lt}
 use Rattle.std.proofs.lemmas.Bool.{cases_eq}
@@ -8,12 +9,12 @@ use Rattle.bit_rows.specs.Bits.{majority}
 use Rattle.mig_graph.specs.Graph.{values_from}
 use Rattle.op_text.specs.declared.word_ops.WordOp.TheVariants as op
 use Rattle.loop_ir.specs.declared.ir.Sub.TheVariants as sub
-use Rattle.loop_ir.specs.Plain.{Block, TurnsOf, turns_map}
+use Rattle.loop_ir.specs.Plain.{Block, TurnOf, turn_map}
 use Rattle.loop_ir.specs.Loops.{round_at, turns_from}
 use Rattle.loop_ir.specs.Spots.{Spot, Spots, set_spot, after_round, after_rounds}
 use Rattle.loop_laws.specs.Rooms.{Marked, placed_body}
 use Rattle.loop_laws.proofs.Same.{set_same, set_other}
-use Rattle.loop_laws.proofs.TakingTurns.{turns_give}
+use Rattle.loop_laws.proofs.TakingTurns.{two_give}
 use Rattle.word_lower.specs.Places.{cells}
 use Rattle.word_lower.specs.Programs.{off, constant, both_keeping, agreed_keeping}
 use Rattle.word_lower.proofs.Marks.{target, first, state}
@@ -23,15 +24,22 @@ use Rattle.word_lower.proofs.Sums.{value_same}
 use Rattle.word_lower.proofs.Bitwise.{relu_gives}
 use Rattle.word_lower.proofs.ByTurns.{NotInCells, last_first}
 
-abbrev pub relu_turns : TurnsOf Marked
-relu_turns = record {
-  even = both_keeping (first sub.Inner) (state 1) (state 11) (target sub.Inner) (state 11)
+abbrev both_turn : TurnOf Marked
+both_turn = record {
+  each = both_keeping (first sub.Inner) (state 1) (state 11) (target sub.Inner) (state 11)
       (state 3);
-  odd = agreed_keeping (first sub.Inner) (state 11) (state 3) (target sub.Inner) (state 1)
-      (state 11);
-  last_even = constant off (target sub.Inner);
-  last_odd = constant off (target sub.Inner);
+  last = constant off (target sub.Inner);
 }
+
+abbrev agreed_turn : TurnOf Marked
+agreed_turn = record {
+  each = agreed_keeping (first sub.Inner) (state 11) (state 3) (target sub.Inner) (state 1)
+      (state 11);
+  last = constant off (target sub.Inner);
+}
+
+abbrev pub relu_turns : List (TurnOf Marked)
+relu_turns = both_turn ∷ agreed_turn ∷ []
 
 module _ (n : ℕ) (some : 0 < n) (m : Slots) (are : AreSlots n n n 0 m) (before : Spots) where
   abbrev a : ℕ → Bool
@@ -41,8 +49,11 @@ module _ (n : ℕ) (some : 0 < n) (m : Slots) (are : AreSlots n n n 0 m) (before
   abbrev low : Bool
   low = not (a (n - 1))
 
-  abbrev t : TurnsOf Block
-  t = turns_map (placed_body (rooms_for op.Relu m)) relu_turns
+  abbrev t : TurnOf Block
+  t = turn_map (placed_body (rooms_for op.Relu m)) both_turn
+
+  abbrev u : TurnOf Block
+  u = turn_map (placed_body (rooms_for op.Relu m)) agreed_turn
 
   abbrev c1 : Spot
   c1 = row n (cells 1) 0
@@ -113,28 +124,28 @@ module _ (n : ℕ) (some : 0 < n) (m : Slots) (are : AreSlots n n n 0 m) (before
       }
 
   even_turn : (i : ℕ) (bits : Spots) → i < n → Even i bits
-      → Odd (suc i) (after_round n (round_at t.even i 0) bits)
+      → Odd (suc i) (after_round n (round_at t.each i 0) bits)
   unfolding values_from
   even_turn i bits lt g =
       let y = majority false (bits (row n m.a i)) (bits c1) in
       record {
         kept = g.kept;
         zero_is = refl;
-        rows = rows_next i bits (after_round n (round_at t.even i 0) bits) y lt
+        rows = rows_next i bits (after_round n (round_at t.each i 0) bits) y lt
             (three_written i 11 3 bits y (bits c11) false lt)
             (ap (λ z. majority false z (bits c1)) (x_is i bits lt g.rows)
             ∙ ap (λ z. majority false (a i) z) g.here) g.rows;
       }
 
   odd_turn : (i : ℕ) (bits : Spots) → i < n → Odd i bits
-      → Even (suc i) (after_round n (round_at t.odd i 0) bits)
+      → Even (suc i) (after_round n (round_at u.each i 0) bits)
   unfolding values_from
   odd_turn i bits lt g =
       let y = majority (bits (row n m.a i)) (bits c11) (bits c3) in
       record {
         here = g.kept;
         kept = g.kept;
-        rows = rows_next i bits (after_round n (round_at t.odd i 0) bits) y lt
+        rows = rows_next i bits (after_round n (round_at u.each i 0) bits) y lt
             (three_written i 1 11 bits y (bits c11) (bits c11) lt)
             (ap (λ z. majority z (bits c11) (bits c3)) (x_is i bits lt g.rows)
             ∙ ap (λ z. majority (a i) z (bits c3)) g.kept
@@ -146,7 +157,7 @@ module _ (n : ℕ) (some : 0 < n) (m : Slots) (are : AreSlots n n n 0 m) (before
   top_bit true = refl
   top_bit false = refl
 
-  at_top : (b : Block) → b ≡ t.last_even → (bits : Spots) → Rows (n - 1) bits
+  at_top : (b : Block) → b ≡ t.last → (bits : Spots) → Rows (n - 1) bits
       → Rows n (after_round n (round_at b (n - 1) 0) bits)
   unfolding values_from
   at_top b e bits r =
@@ -164,14 +175,20 @@ module _ (n : ℕ) (some : 0 < n) (m : Slots) (are : AreSlots n n n 0 m) (before
   abbrev start : Spots
   start = set_spot (set_spot before c1 low) c11 low
 
-  pub relu_by_turns : Gives op.Relu n n n 0 m before (after_rounds n (turns_from t 0 (n - 1)) start)
+  pub relu_by_turns : Gives op.Relu n n n 0 m before
+      (after_rounds n (turns_from (t ∷ u ∷ []) 0 (n - 1)) start)
   relu_by_turns =
-      let new = after_rounds n (turns_from t 0 (n - 1)) start in
+      let new = after_rounds n (turns_from (t ∷ u ∷ []) 0 (n - 1)) start in
       let e : n ≡ suc (n - 1) = omega (arith, some) in
-      let r = turns_give n t Even Odd (Rows n) (n - 1)
-      (λ i bits lt g. even_turn i bits (omega (arith, lt)) g)
-      (λ i bits lt g. odd_turn i bits (omega (arith, lt)) g)
-      (λ bits g. at_top t.last_even refl bits g.rows) (λ bits g. at_top t.last_odd refl bits g.rows)
+      let r = two_give n (n - 1) (Rows n) t u Even Odd
+      (record {
+        next = λ i bits lt g. even_turn i bits (omega (arith, lt)) g;
+        ends = λ bits g. at_top t.last refl bits g.rows;
+      })
+      (record {
+        next = λ i bits lt g. odd_turn i bits (omega (arith, lt)) g;
+        ends = λ bits g. at_top u.last refl bits g.rows;
+      })
       0 (n - 1) start (omega arith) (record {
         here = refl;
         kept = refl;

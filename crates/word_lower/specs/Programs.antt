@@ -10,7 +10,7 @@ use Rattle.op_text.specs.declared.word_ops.WordOp.TheVariants as o
 use Rattle.op_text.specs.WordOps.{number}
 use Rattle.op_text.specs.Language.{Statement, Compute, Visit}
 use Rattle.loop_ir.specs.declared.ir.Sub.{Sub}
-use Rattle.loop_ir.specs.Plain.{TurnsOf, StepOf}
+use Rattle.loop_ir.specs.Plain.{TurnOf, StepOf}
 use Rattle.loop_ir.specs.Plain.StepOf.{Single, Along, Pairs, Alternate}
 use Rattle.loop_laws.specs.Rooms as rooms
 use Rattle.loop_laws.specs.Rooms.{InRoom, InCells, Mark, Marked}
@@ -24,9 +24,10 @@ use Rattle.word_lower.specs.declared.shapes.BodyForm.TheVariants.{Added, Lessene
 use Rattle.word_lower.specs.declared.shapes.BodyForm.TheVariants.{NegatedIf, Compared, AllSet}
 use Rattle.word_lower.specs.declared.shapes.BodyForm.TheVariants.{AnySet, Majority, Kept, Odd}
 use Rattle.word_lower.specs.declared.shapes.BodyForm.TheVariants.{OddOfThree, InvertedInBoth}
-use Rattle.word_lower.specs.declared.shapes.BodyForm.TheVariants.{BothKeeping, MajorityKeeping}
+use Rattle.word_lower.specs.declared.shapes.BodyForm.TheVariants.{BothKeeping, MajorityBeside}
+use Rattle.word_lower.specs.declared.shapes.BodyForm.TheVariants.{MajorityKeeping}
 use Rattle.word_lower.specs.declared.shapes.BodyForm.TheVariants.{OnBoth, Ordered}
-use Rattle.word_lower.specs.declared.shapes.TurnForms.{TurnForms}
+use Rattle.word_lower.specs.declared.shapes.TurnForm.{TurnForm}
 use Rattle.word_lower.specs.declared.shapes.ProgramLine.{ProgramLine}
 use Rattle.word_lower.specs.declared.shapes.ProgramLine.TheVariants as line
 use Rattle.word_lower.specs.declared.shapes.ProgramLine.TheVariants.{Once, Each}
@@ -129,6 +130,11 @@ abbrev pub agreed : Mark → Mark → Mark → Mark → Marked
 agreed x c k z = template (x ∷ c ∷ k ∷ []) (node_of (plain 1) (plain 2) (plain 3) ∷ [])
     (plain 4 ∷ []) (z ∷ [])
 
+-- the same, and what stays beside the state is kept
+abbrev pub agreed_beside : Mark → Mark → Mark → Mark → Mark → Marked
+agreed_beside x c k z h = template (x ∷ c ∷ k ∷ []) (node_of (plain 1) (plain 2) (plain 3) ∷ [])
+    (plain 4 ∷ plain 3 ∷ []) (z ∷ h ∷ [])
+
 -- what was read of x, and the state beside it
 abbrev pub kept : Mark → Mark → Mark → Mark → Marked
 kept x c e s = template (x ∷ c ∷ []) [] (plain 1 ∷ plain 2 ∷ []) (e ∷ s ∷ [])
@@ -208,26 +214,24 @@ form_body (OddOfThree x e s z) = odd_of_three (mark_of x) (mark_of e) (mark_of s
 form_body (InvertedInBoth x g h) = inverted_in_both (mark_of x) (mark_of g) (mark_of h)
 form_body (BothKeeping x c d z e k) = both_keeping (mark_of x) (mark_of c) (mark_of d) (mark_of z)
     (mark_of e) (mark_of k)
+form_body (MajorityBeside x c k z h) = agreed_beside (mark_of x) (mark_of c) (mark_of k) (mark_of z)
+    (mark_of h)
 form_body (MajorityKeeping x c k z g h) = agreed_keeping (mark_of x) (mark_of c) (mark_of k)
     (mark_of z) (mark_of g) (mark_of h)
 form_body (OnBoth g h) = on_both (mark_of g) (mark_of h)
 form_body (Ordered x y g h) = ordered (mark_of x) (mark_of y) (mark_of g) (mark_of h)
 
--- the bodies that take turns
-abbrev pub turn_bodies : TurnForms → TurnsOf Marked
-turn_bodies t = record {
-  even = form_body t.even;
-  odd = form_body t.odd;
-  last_even = form_body t.last_even;
-  last_odd = form_body t.last_odd;
-}
+-- one of bodies that take turns
+abbrev pub turn_bodies : TurnForm → TurnOf Marked
+turn_bodies t = record { each = form_body t.each; last = form_body t.last }
 
 -- and the step that a line does
 abbrev pub line_step : ProgramLine → StepOf Marked
 line_step (Once s) = Single (form_body s)
 line_step (Each s) = Along (form_body s)
 line_step (line.Pairs s) = Pairs (form_body s)
-line_step (line.Alternate t) = Alternate (turn_bodies t)
+line_step (line.InTwo t u) = Alternate (turn_bodies t ∷ turn_bodies u ∷ [])
+line_step (line.InThree t u v) = Alternate (turn_bodies t ∷ turn_bodies u ∷ turn_bodies v ∷ [])
 
 -- the steps of a row of the table. The kind is the target's
 abbrev pub row_steps : ProgramRow → Kind → List (StepOf Marked)

@@ -2,7 +2,7 @@
 
 ghost use Rattle.std.specs.Prelude.{◌≡◌, ◌<◌, ◌≤◌, ◌+◌, ◌++◌, ◌∷◌, [], ℕ, List, length, map, IfOk};
 ghost use Rattle.std.specs.Prelude.{OnOk, Some, None, true};
-ghost use Rattle.loop_ir.specs.Plain.{block_of, turns_of, step_of, steps_of, turns_map, step_map};
+ghost use Rattle.loop_ir.specs.Plain.{block_of, turn_of, step_of, steps_of, turn_map, step_map};
 ghost use Rattle.loop_ir.specs.Plain.{Block, StepOf, AllParts, AllTurns, AllStep};
 ghost use Rattle.loop_laws.specs.Forms.{IsMade};
 ghost use Rattle.word_lower.specs.Places.{place_on, body_on, program_on};
@@ -11,13 +11,13 @@ ghost use Rattle.word_lower.specs.Shapes.{rows_at, lines_steps};
 
 use crate::graphs::templated;
 use crate::literals::{N1, OFF, ON, P1, P2, P3, P4, P5, P6, P7};
-use crate::shapes::{BodyForm, Mark, Owner, Owners, ProgramLine, TurnForms};
+use crate::shapes::{BodyForm, Mark, Owner, Owners, ProgramLine, TurnForm};
 use crate::slots::{cells, place_in};
 use crate::templates::{
     ADDED, BOTH, CHOSEN, COMPARED, EITHER, LESSENED, MAJORITY, ODD, ORDERED, TURNED_BY, UNLIKE,
 };
 use faults::keep;
-use loop_ir::{Body, LoopProgram, Place, Step, Turns};
+use loop_ir::{Body, LoopProgram, Place, Step, Turn};
 use mig_graph::NoMemory;
 use std::alloc::Global;
 
@@ -136,6 +136,13 @@ fn body(shape: BodyForm, owners: Owners, alloc: Global) -> Result<Body, NoMemory
             &[z.at(o), e.at(o), k.at(o)],
             a,
         ),
+        BodyForm::MajorityBeside(x, c, k, z, h) => templated(
+            &[x.at(o), c.at(o), k.at(o)],
+            &MAJORITY,
+            &[P4, P3],
+            &[z.at(o), h.at(o)],
+            a,
+        ),
         BodyForm::MajorityKeeping(x, c, k, z, g, h) => templated(
             &[x.at(o), c.at(o), k.at(o)],
             &MAJORITY,
@@ -154,18 +161,29 @@ fn body(shape: BodyForm, owners: Owners, alloc: Global) -> Result<Body, NoMemory
     }
 }
 
-/// The bodies that take turns.
-fn turns(forms: TurnForms, owners: Owners, alloc: Global) -> Result<Turns, NoMemory>
-    ensures same { IfOk result (λ t. turns_of t
-        ≡ turns_map (body_on (rows_at owners)) (turn_bodies forms)) }
-    ensures made { IfOk result (λ t. AllTurns IsMade (turns_of t)) }
+/// One of bodies that take turns.
+fn turn(form: TurnForm, owners: Owners, alloc: Global) -> Result<Turn, NoMemory>
+    ensures same { IfOk result (λ t. turn_of t ≡ turn_map (body_on (rows_at owners)) (turn_bodies form)) }
+    ensures made { IfOk result (λ t. AllTurns IsMade (turn_of t ∷ [])) }
 {
-    Ok(Turns {
-        even: body(forms.even, owners, alloc)?,
-        odd: body(forms.odd, owners, alloc)?,
-        last_even: body(forms.last_even, owners, alloc)?,
-        last_odd: body(forms.last_odd, owners, alloc)?,
+    Ok(Turn {
+        each: body(form.each, owners, alloc)?,
+        last: body(form.last, owners, alloc)?,
     })
+}
+
+/// The bodies that take turns.
+fn turns(forms: &[TurnForm], owners: Owners, alloc: Global) -> Result<Vec<Turn>, NoMemory>
+    ensures same { IfOk result (λ ts. map turn_of ts.items
+        ≡ map (turn_map (body_on (rows_at owners))) (map turn_bodies forms.now)) }
+    ensures made { IfOk result (λ ts. AllTurns IsMade (map turn_of ts.items)) }
+{
+    let mut all = Vec::new(alloc);
+    for form in forms {
+        let next = turn(*form, owners, alloc)?;
+        keep(&mut all, next)?;
+    }
+    Ok(all)
 }
 
 /// The step of a line.
@@ -178,7 +196,8 @@ fn step(line: ProgramLine, owners: Owners, alloc: Global) -> Result<Step, NoMemo
         ProgramLine::Once(shape) => Ok(Step::Once(body(shape, owners, alloc)?)),
         ProgramLine::Each(shape) => Ok(Step::Each(body(shape, owners, alloc)?)),
         ProgramLine::Pairs(shape) => Ok(Step::Pairs(body(shape, owners, alloc)?)),
-        ProgramLine::Alternate(forms) => Ok(Step::Alternate(turns(forms, owners, alloc)?)),
+        ProgramLine::InTwo(t, u) => Ok(Step::Alternate(turns(&[t, u], owners, alloc)?)),
+        ProgramLine::InThree(t, u, v) => Ok(Step::Alternate(turns(&[t, u, v], owners, alloc)?)),
     }
 }
 

@@ -57,6 +57,8 @@ pub enum BodyForm {
     InvertedInBoth(Mark, Mark, Mark),
     /// What is read and the first state; the second one stays, and beside it the constant.
     BothKeeping(Mark, Mark, Mark, Mark, Mark, Mark),
+    /// What is read and two states, of which the second one stays.
+    MajorityBeside(Mark, Mark, Mark, Mark, Mark),
     /// What is read and two states; the first one stands in two again.
     MajorityKeeping(Mark, Mark, Mark, Mark, Mark, Mark),
     /// Two states, of which each is set.
@@ -65,20 +67,20 @@ pub enum BodyForm {
     Ordered(Mark, Mark, Mark, Mark),
 }
 
-/// Bodies that take turns, and those in their places at the top position.
+/// One of bodies that take turns, and the one in its place at the top position.
 #[derive(Clone, Copy)]
-pub struct TurnForms {
-    pub even: BodyForm,
-    pub odd: BodyForm,
-    pub last_even: BodyForm,
-    pub last_odd: BodyForm,
+pub struct TurnForm {
+    pub each: BodyForm,
+    pub last: BodyForm,
 }
 
-/// A body done once, at each position, or at each position that has one above it; or two in turn.
+/// A body done once, at each position, or at each position that has one above it; or two or three
+/// bodies in turn.
 #[derive(Clone, Copy)]
 pub enum ProgramLine {
     Once(BodyForm),
     Each(BodyForm),
     Pairs(BodyForm),
-    Alternate(TurnForms),
+    InTwo(TurnForm, TurnForm),
+    InThree(TurnForm, TurnForm, TurnForm),
 }

@@ -6,11 +6,11 @@ ghost use Rattle.word_lower.specs.Shapes.{lines_steps};
 
 use crate::shapes::BodyForm::{
     Added, AllSet, AnySet, Both, BothKeeping, Chosen, Compared, Either, Inverted, InvertedInBoth,
-    Kept, Lessened, Majority, MajorityKeeping, Moved, NegatedIf, Odd, OddOfThree, Off, On, OnBoth,
-    Ordered, Unlike,
+    Kept, Lessened, Majority, MajorityBeside, MajorityKeeping, Moved, NegatedIf, Odd, OddOfThree,
+    Off, On, OnBoth, Ordered, Unlike,
 };
-use crate::shapes::ProgramLine::{Alternate, Each, Once, Pairs};
-use crate::shapes::{BodyForm, Mark, Owner, ProgramLine, TurnForms};
+use crate::shapes::ProgramLine::{Each, InThree, InTwo, Once, Pairs};
+use crate::shapes::{BodyForm, Mark, Owner, ProgramLine, TurnForm};
 use ProgramRow::{Nested, One, Spread, Three, Two};
 use loop_ir::Sub;
 use op_text::{Kind, WordOp};
@@ -124,6 +124,11 @@ const DCC0: Mark = Mark {
     sub: Sub::Zero,
 };
 
+const DCC1: Mark = Mark {
+    owner: Owner::Cells(12),
+    sub: Sub::Zero,
+};
+
 /// The loop programs of the word operations, in the order of the variants.
 pub static PROGRAMS: [(WordOp, ProgramRow); 27] = [
     (WordOp::Not, Spread(Inverted(X, Z), Inverted(X_BIT, Z_BIT))),
@@ -163,12 +168,16 @@ pub static PROGRAMS: [(WordOp, ProgramRow); 27] = [
         WordOp::Relu,
         Two(
             Once(InvertedInBoth(X_TOP, T1, DCC0)),
-            Alternate(TurnForms {
-                even: BothKeeping(X, T1, DCC0, Z, DCC0, T3),
-                odd: MajorityKeeping(X, DCC0, T3, Z, T1, DCC0),
-                last_even: Off(Z),
-                last_odd: Off(Z),
-            }),
+            InTwo(
+                TurnForm {
+                    each: BothKeeping(X, T1, DCC0, Z, DCC0, T3),
+                    last: Off(Z),
+                },
+                TurnForm {
+                    each: MajorityKeeping(X, DCC0, T3, Z, T1, DCC0),
+                    last: Off(Z),
+                },
+            ),
         ),
     ),
     (
@@ -212,36 +221,56 @@ pub static PROGRAMS: [(WordOp, ProgramRow); 27] = [
         WordOp::AndRed,
         Two(
             Once(On(T1)),
-            Alternate(TurnForms {
-                even: AllSet(X, T1, T2, T3),
-                odd: Majority(X, T2, T3, T1),
-                last_even: Both(X, T1, Z_BIT),
-                last_odd: Majority(X, T2, T3, Z_BIT),
-            }),
+            InThree(
+                TurnForm {
+                    each: AllSet(X, T1, T2, T3_DCC1),
+                    last: Both(X, T1, Z_BIT),
+                },
+                TurnForm {
+                    each: MajorityBeside(X, T2, T3_DCC1, T3, DCC1),
+                    last: Majority(X, T2, T3_DCC1, Z_BIT),
+                },
+                TurnForm {
+                    each: Majority(X, T3, DCC1, T1),
+                    last: Majority(X, T3, DCC1, Z_BIT),
+                },
+            ),
         ),
     ),
     (
         WordOp::OrRed,
         Two(
             Once(Off(T1)),
-            Alternate(TurnForms {
-                even: AnySet(X, T1, T2, T3),
-                odd: Majority(X, T2, T3, T1),
-                last_even: Either(X, T1, Z_BIT),
-                last_odd: Majority(X, T2, T3, Z_BIT),
-            }),
+            InThree(
+                TurnForm {
+                    each: AnySet(X, T1, T2, T3_DCC1),
+                    last: Either(X, T1, Z_BIT),
+                },
+                TurnForm {
+                    each: MajorityBeside(X, T2, T3_DCC1, T3, DCC1),
+                    last: Majority(X, T2, T3_DCC1, Z_BIT),
+                },
+                TurnForm {
+                    each: Majority(X, T3, DCC1, T1),
+                    last: Majority(X, T3, DCC1, Z_BIT),
+                },
+            ),
         ),
     ),
     (
         WordOp::XorRed,
         Two(
             Once(Off(T3_DCC1)),
-            Alternate(TurnForms {
-                even: Kept(X, T3_DCC1, T0_NOT_DCC0, T3_NOT_T2),
-                odd: OddOfThree(X, T0_NOT_DCC0, T3_NOT_T2, T3_DCC1),
-                last_even: Odd(X, T3_DCC1, Z_BIT),
-                last_odd: OddOfThree(X, T0_NOT_DCC0, T3_NOT_T2, Z_BIT),
-            }),
+            InTwo(
+                TurnForm {
+                    each: Kept(X, T3_DCC1, T0_NOT_DCC0, T3_NOT_T2),
+                    last: Odd(X, T3_DCC1, Z_BIT),
+                },
+                TurnForm {
+                    each: OddOfThree(X, T0_NOT_DCC0, T3_NOT_T2, T3_DCC1),
+                    last: OddOfThree(X, T0_NOT_DCC0, T3_NOT_T2, Z_BIT),
+                },
+            ),
         ),
     ),
     (WordOp::Divmod, Nested),

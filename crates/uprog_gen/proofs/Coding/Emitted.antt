@@ -13,19 +13,21 @@ use Rattle.loop_ir.specs.declared.ir.Count.{Count}
 use Rattle.loop_ir.specs.declared.ir.Count.TheVariants.{All as All_of, Rest}
 use Rattle.loop_ir.specs.declared.ir.Inner.{Inner}
 use Rattle.loop_ir.specs.declared.ir.Step.{Step}
-use Rattle.loop_ir.specs.Plain.{Block, InnerOf, TurnsOf, StepOf, inner_map, turns_map, step_map}
-use Rattle.loop_ir.specs.Plain.{inner_of, step_of}
+use Rattle.loop_ir.specs.declared.ir.Turn.{Turn}
+use Rattle.loop_ir.specs.Plain.{Block, InnerOf, TurnOf, StepOf, inner_map, turn_map, step_map}
+use Rattle.loop_ir.specs.Plain.{inner_of, turn_of, step_of}
 use Rattle.loop_ir.specs.Plain.{AllInner, AllTurns, AllStep, AllParts}
 use Rattle.loop_ir.specs.Plain.InnerOf.{Alone, Across}
 use Rattle.loop_ir.specs.Plain.StepOf.{Single, Along, Nest, Pairs, Alternate}
 use Rattle.uprog_gen.specs.Code.{Part, block_of_part, blocks, body_uops, once_code, loop_code}
 use Rattle.uprog_gen.specs.Code.{inner_code, inner_list, outside, guard_code, pairs_code}
-use Rattle.uprog_gen.specs.Code.{turn_uops, half_code, half_size, turns_code, step_code}
+use Rattle.uprog_gen.specs.Code.{turn_uops, either_code, either_size, turns_list, start_code}
+use Rattle.uprog_gen.specs.Code.{cycle_code, step_code}
 use Rattle.uprog_gen.specs.Code.{program_code}
-use Rattle.loop_ir.specs.Costs.{is_fixed, inner_cost, step_cost, code_cost}
+use Rattle.loop_ir.specs.Costs.{is_fixed, inner_cost, either_cost, step_cost, code_cost}
 use Rattle.uprog_gen.specs.Parts.{IsPart}
-use Rattle.uprog_gen.proofs.Coding.Sizes.{inner_few, half_long, program_few}
-use Rattle.uprog_gen.specs.Emits.{EmitsInner, EmitsSteps}
+use Rattle.uprog_gen.proofs.Coding.Sizes.{inner_few, either_long, turns_few, program_few}
+use Rattle.uprog_gen.specs.Emits.{EmitsInner, EmitsTurns, EmitsSteps}
 
 -- what holds of all holds of one
 pub inner_at : (P : Block → Type 0) (xs : List Inner) (k : ℕ) (x : Inner)
@@ -183,11 +185,6 @@ pub pairs_emits : (p : Part) (old new : List Uop) → IsPart p
     → new ≡ old ++ pairs_code p (length old) → EmitsSteps (Pairs p.block ∷ []) old new
 pairs_emits p old new is e = one_step (Pairs p) old new is e
 
-pub turns_emits : (t : TurnsOf Part) (old new : List Uop) → AllTurns IsPart t
-    → new ≡ old ++ turns_code t (length old)
-    → EmitsSteps (Alternate (turns_map block_of_part t) ∷ []) old new
-turns_emits t old new is e = one_step (Alternate t) old new is e
-
 pub empty_emits : (old : List Uop) → EmitsSteps (Nest [] ∷ []) old old
 empty_emits old = one_step (Nest []) old old tt (sym (append-nil old))
 
@@ -338,13 +335,13 @@ pairs_made p old mid all past end ep em ea ee =
     ∙ append_assoc old first (Bnez 0 end ∷ (SubI 1 1 ∷ loop))
     ∙ ap (λ t. old ++ (first ++ Bnez 0 t ∷ (SubI 1 1 ∷ loop))) here
 
--- one of two bodies that take turns
-pub half_made : (p last : Part) (end more : ℕ) (old a b c d e f : List Uop)
+-- one of bodies that take turns
+pub either_made : (p last : Part) (end more : ℕ) (old a b c d e f : List Uop)
     → a ≡ old ++ Bnez 2 more ∷ [] → b ≡ a ++ turn_uops last → c ≡ b ++ Bnez 4 end ∷ []
     → d ≡ c ++ turn_uops p → e ≡ d ++ AddI 3 1 ∷ [] → f ≡ e ++ SubI 2 1 ∷ []
     → more ≡ length old + 1 + length last.cmds + 1
-    → f ≡ old ++ half_code p last end (length old)
-half_made p last end more old a b c d e f ea eb ec ed ee ef em =
+    → f ≡ old ++ either_code p last end (length old)
+either_made p last end more old a b c d e f ea eb ec ed ee ef em =
     let post = AddI 3 1 ∷ SubI 2 1 ∷ [] in
     let w = turn_uops p ++ post in
     let x = Bnez 4 end ∷ w in
@@ -356,56 +353,177 @@ half_made p last end more old a b c d e f ea eb ec ed ee ef em =
     ∙ ap (λ l. l ++ y) ea ∙ append_assoc old (Bnez 2 more ∷ []) y
     ∙ ap (λ k. old ++ (Bnez 2 k ∷ y)) em
 
-pub three_long : (old a b c : List Uop) (x y z : Uop) → a ≡ old ++ x ∷ [] → b ≡ a ++ y ∷ []
-    → c ≡ b ++ z ∷ [] → length c ≡ length old + 3
-three_long old a b c x y z ea eb ec = omega (
+-- the turns that are emitted
+pub turn_at : (P : Block → Type 0) (xs : List Turn) (k : ℕ) (x : Turn)
+    → AllTurns P (map turn_of xs) → k < length xs → x ≡ slice_index_or xs k x
+    → AllTurns P (turn_of x ∷ [])
+turn_at P [] k x h lt e = absurd (omega arith)
+turn_at P (y ∷ ys) zero x h lt e = subst (λ z. AllTurns P (turn_of z ∷ [])) (sym e) (h.0, tt)
+turn_at P (y ∷ ys) (suc k) x h lt e = turn_at P ys k x h.1 (omega arith) e
+
+turns_too : (P : Part → Type 0) (xs ys : List (TurnOf Part)) → AllTurns P xs → AllTurns P ys
+    → AllTurns P (xs ++ ys)
+turns_too P [] ys h k = k
+turns_too P (x ∷ xs) ys h k = (h.0, turns_too P xs ys h.1 k)
+
+turns_list-append : (xs ys : List (TurnOf Part)) (out pc : ℕ) → turns_list (xs ++ ys) out pc
+    ≡ turns_list xs out pc ++ turns_list ys out (pc + length (turns_list xs out pc))
+turns_list-append [] ys out pc = at_place (turns_list ys out) pc (pc + 0) (omega arith)
+turns_list-append (x ∷ xs) ys out pc =
+    let a = either_code x.each x.last out pc in
+    let b = turns_list xs out (pc + either_size x.each x.last) in
+    let e : pc + either_size x.each x.last + length b ≡ pc + length (a ++ b) =
+    omega (arith, length-append a b, either_long x.each x.last out pc) in
+    ap (λ l. a ++ l) (turns_list-append xs ys out (pc + either_size x.each x.last)
+    ∙ ap (λ q. b ++ turns_list ys out q) e)
+    ∙ sym (append_assoc a b (turns_list ys out (pc + length (a ++ b))))
+
+pub no_turns : (out : ℕ) (old : List Uop) → EmitsTurns [] out old old
+no_turns out old = record { coded = []; same = refl; parts = tt; code = sym (append-nil old) }
+
+more_turns : (xs ys : List (TurnOf Block)) (out : ℕ) (old mid new : List Uop)
+    → EmitsTurns xs out old mid → EmitsTurns ys out mid new → EmitsTurns (xs ++ ys) out old new
+more_turns xs ys out old mid new a b =
+    let c = turns_list a.coded out (length old) in
+    let size : length mid ≡ length old + length c =
+    omega (arith, ap length a.code, length-append old c) in
+    record {
+      coded = a.coded ++ b.coded;
+      same = map-append (turn_map block_of_part) a.coded b.coded
+          ∙ ap (λ l. l ++ map (turn_map block_of_part) b.coded) a.same ∙ ap (λ l. xs ++ l) b.same;
+      parts = turns_too IsPart a.coded b.coded a.parts b.parts;
+      code = b.code ∙ ap (λ l. l ++ turns_list b.coded out (length mid)) a.code
+          ∙ append_assoc old c (turns_list b.coded out (length mid))
+          ∙ ap (λ q. old ++ (c ++ turns_list b.coded out q)) size
+          ∙ ap (λ l. old ++ l) (sym (turns_list-append a.coded b.coded out (length old)));
+    }
+
+pub next_turns : (xs : List Turn) (k : ℕ) (x : Turn) (out : ℕ) (old mid new : List Uop)
+    → k < length xs → x ≡ slice_index_or xs k x → EmitsTurns (map turn_of (take k xs)) out old mid
+    → EmitsTurns (turn_of x ∷ []) out mid new
+    → EmitsTurns (map turn_of (take (k + 1) xs)) out old new
+next_turns xs k x out old mid new lt e a b =
+    let f : map turn_of (take (k + 1) xs) ≡ map turn_of (take k xs) ++ turn_of x ∷ [] =
+    map_more turn_of xs k x lt ∙ ap (λ y. map turn_of (take k xs) ++ turn_of y ∷ []) (sym e) in
+    subst (λ l. EmitsTurns l out old new) (sym f)
+    (more_turns (map turn_of (take k xs)) (turn_of x ∷ []) out old mid new a b)
+
+pub all_turns_emitted : (xs : List Turn) (k out : ℕ) (old new : List Uop) → k ≡ length xs
+    → EmitsTurns (map turn_of (take k xs)) out old new → EmitsTurns (map turn_of xs) out old new
+all_turns_emitted xs k out old new e a = subst (λ l. EmitsTurns (map turn_of l) out old new)
+    (let f : take k xs ≡ xs = grind (arith, common_steps) in f) a
+
+-- the turn and those before it take no more than all
+turn_taken : (xs : List Turn) (k : ℕ) (x : Turn) → k < length xs → x ≡ slice_index_or xs k x
+    → sum_by either_cost (map turn_of (take k xs)) + either_cost (turn_of x)
+    ≤ sum_by either_cost (map turn_of xs)
+turn_taken [] k x lt e = absurd (omega arith)
+turn_taken (y ∷ ys) zero x lt e = omega (
   arith,
-  ap length ea,
-  ap length eb,
-  ap length ec,
-  length-append old (x ∷ []),
-  length-append a (y ∷ []),
-  length-append b (z ∷ []),
+  ap (λ z. either_cost (turn_of z)) e,
+  sum_by-cons either_cost (turn_of y) (map turn_of ys),
+)
+turn_taken (y ∷ ys) (suc k) x lt e = omega (
+  arith,
+  turn_taken ys k x (omega arith) e,
+  sum_by-cons either_cost (turn_of y) (map turn_of ys),
+  sum_by-cons either_cost (turn_of y) (map turn_of (take k ys)),
 )
 
--- both, and the jump back
-pub turns_made : (t : TurnsOf Part) (head end : ℕ) (old a b c d e f : List Uop)
-    → a ≡ old ++ SetT 2 ∷ [] → b ≡ a ++ SetI 3 0 ∷ [] → c ≡ b ++ SetI 4 1 ∷ []
-    → d ≡ c ++ half_code t.even t.last_even end (length c)
-    → e ≡ d ++ half_code t.odd t.last_odd end (length d) → f ≡ e ++ Bnez 4 head ∷ []
-    → head ≡ length old + 1 + 1 + 1
-    → end ≡ head + half_size t.even t.last_even + half_size t.odd t.last_odd + 1
-    → f ≡ old ++ turns_code t (length old)
-turns_made t head end old a b c d e f ea eb ec ed ee ef eh en =
-    let pre = SetT 2 ∷ SetI 3 0 ∷ SetI 4 1 ∷ [] in
-    let q = length old + 1 + 1 + 1 in
-    let o = q + half_size t.even t.last_even in
-    let z = o + half_size t.odd t.last_odd + 1 in
-    let start : c ≡ old ++ pre =
-    ec ∙ ap (λ l. l ++ SetI 4 1 ∷ []) (two_pushes old a b (SetT 2) (SetI 3 0) ea eb)
-    ∙ append_assoc old (SetT 2 ∷ SetI 3 0 ∷ []) (SetI 4 1 ∷ []) in
-    let lc : length c ≡ q = omega (arith, ap length start, length-append old pre) in
-    let ld : length d ≡ o = omega (
+pub turns_short : (ts : List (TurnOf Block)) (out : ℕ) (old new : List Uop)
+    → EmitsTurns ts out old new → length new ≤ length old + sum_by either_cost ts
+turns_short ts out old new a = omega (
+  arith,
+  ap length a.code,
+  length-append old (turns_list a.coded out (length old)),
+  turns_few a.coded out (length old) a.parts,
+  ap (sum_by either_cost) a.same,
+)
+
+pub turn_room : (xs : List Turn) (k : ℕ) (x : Turn) (out : ℕ) (old mid : List Uop)
+    → k < length xs → x ≡ slice_index_or xs k x → EmitsTurns (map turn_of (take k xs)) out old mid
+    → length mid + either_cost (turn_of x) ≤ length old + sum_by either_cost (map turn_of xs)
+turn_room xs k x out old mid lt e a = omega (
+  arith,
+  turns_short (map turn_of (take k xs)) out old mid a,
+  turn_taken xs k x lt e,
+)
+
+-- one of them
+pub either_emits : (p last : Part) (out : ℕ) (old new : List Uop) → IsPart p → IsPart last
+    → new ≡ old ++ either_code p last out (length old)
+    → EmitsTurns ((record { each = p.block; last = last.block }) ∷ []) out old new
+either_emits p last out old new is is_last e = record {
+  coded = (record { each = p; last = last }) ∷ [];
+  same = refl;
+  parts = ((is, is_last), tt);
+  code = e ∙ ap (λ l. old ++ l) (sym (append-nil (either_code p last out (length old))));
+}
+
+pub empty_cycle : (xs : List Turn) (old : List Uop) → length xs ≡ 0
+    → EmitsSteps (Alternate (map turn_of xs) ∷ []) old old
+empty_cycle [] old e = one_step (Alternate []) old old tt (sym (append-nil old))
+empty_cycle (x ∷ xs) old e = absurd (omega arith)
+
+-- the jump out of the loop, once the loop stands
+cycle_made : (ts : List (TurnOf Part)) (old a b c : List Uop) (out head end : ℕ)
+    → out ≡ length old + 4 → head ≡ out + 1 → a ≡ old ++ start_code head 0
+    → b ≡ a ++ turns_list ts out (length a) → c ≡ b ++ Bnez 4 head ∷ [] → end ≡ length c
+    → set c out (Bnez 4 end) ≡ old ++ cycle_code ts (length old)
+cycle_made ts old a b c out head end eo eh ea eb ec ee =
+    let way = length old + 1 + 1 + 1 + 1 in
+    let h = way + 1 in
+    let turns = turns_list ts way h in
+    let first = SetT 2 ∷ SetI 3 0 ∷ SetI 4 1 ∷ Bnez 4 h ∷ [] in
+    let back = Bnez 4 h ∷ [] in
+    let o : out ≡ way = omega (arith, eo) in
+    let g : head ≡ h = omega (arith, eo, eh) in
+    let la : length a ≡ h = omega (
       arith,
-      ap length ed,
-      length-append c (half_code t.even t.last_even end (length c)),
-      half_long t.even t.last_even end (length c),
-      lc,
+      ap length ea,
+      length-append old (start_code head 0),
     ) in
-    let ez : end ≡ z = omega (arith, en, eh) in
-    let first = half_code t.even t.last_even end q in
-    let second = half_code t.odd t.last_odd end o in
-    let jump = Bnez 4 head ∷ [] in
-    ef ∙ ap (λ l. l ++ jump) (ee ∙ ap (λ k. d ++ half_code t.odd t.last_odd end k) ld)
-    ∙ append_assoc d second jump
-    ∙ ap (λ l. l ++ (second ++ jump)) (ed ∙ ap (λ k. c ++ half_code t.even t.last_even end k) lc)
-    ∙ append_assoc c first (second ++ jump)
-    ∙ ap (λ l. l ++ (first ++ (second ++ jump))) start
-    ∙ append_assoc old pre (first ++ (second ++ jump))
-    ∙ ap (λ k. old ++ (pre ++ (half_code t.even t.last_even k q
-    ++ (half_code t.odd t.last_odd k o ++ jump)))) ez
-    ∙ ap (λ k. old ++ (pre ++ (half_code t.even t.last_even z q
-    ++ (half_code t.odd t.last_odd z o ++ Bnez 4 k ∷ [])))) eh
+    let whole : c ≡ (old ++ first) ++ Bnez 4 0 ∷ (turns ++ back) =
+    ec ∙ ap (λ k. b ++ Bnez 4 k ∷ []) g
+    ∙ ap (λ l. l ++ back) (eb ∙ ap (λ k. a ++ turns_list ts k (length a)) o
+    ∙ ap (λ k. a ++ turns_list ts way k) la)
+    ∙ append_assoc a turns back
+    ∙ ap (λ l. l ++ (turns ++ back)) (ea ∙ ap (λ k. old ++ start_code k 0) g)
+    ∙ append_assoc old (start_code h 0) (turns ++ back)
+    ∙ sym (append_assoc old first (Bnez 4 0 ∷ (turns ++ back))) in
+    let at : out ≡ length (old ++ first) = omega (arith, eo, length-append old first) in
+    let here : end ≡ h + length turns + 1 = omega (
+      arith,
+      ee,
+      ap length whole,
+      length-append (old ++ first) (Bnez 4 0 ∷ (turns ++ back)),
+      length-append old first,
+      length-append turns back,
+    ) in
+    ap (λ l. set l out (Bnez 4 end)) whole
+    ∙ ap (λ k. set ((old ++ first) ++ Bnez 4 0 ∷ (turns ++ back)) k (Bnez 4 end)) at
+    ∙ set-append_seam (old ++ first) (Bnez 4 0) (turns ++ back) (Bnez 4 end)
+    ∙ append_assoc old first (Bnez 4 end ∷ (turns ++ back))
+    ∙ ap (λ t. old ++ (first ++ Bnez 4 t ∷ (turns ++ back))) here
+
+pub cycle_emits : (xs : List Turn) (old a b c : List Uop) (out head end : ℕ) → 0 < length xs
+    → out ≡ length old + 4 → head ≡ out + 1 → a ≡ old ++ start_code head 0
+    → EmitsTurns (map turn_of xs) out a b → c ≡ b ++ Bnez 4 head ∷ [] → end ≡ length c
+    → EmitsSteps (Alternate (map turn_of xs) ∷ []) old (set c out (Bnez 4 end))
+cycle_emits [] old a b c out head end some eo eh ea eb ec ee = absurd (omega arith)
+cycle_emits (x ∷ xs) old a b c out head end some eo eh ea eb ec ee =
+    by eb.coded eb.same eb.parts
+    (cycle_made eb.coded old a b c out head end eo eh ea eb.code ec ee)
+  where
+    new : List Uop
+    new = set c out (Bnez 4 end)
+
+    by : (ts : List (TurnOf Part)) → map (turn_map block_of_part) ts ≡ map turn_of (x ∷ xs)
+        → AllTurns IsPart ts → new ≡ old ++ cycle_code ts (length old)
+        → EmitsSteps (Alternate (map turn_of (x ∷ xs)) ∷ []) old new
+    by [] same is e = absurd (let g : [] ≡ turn_of x ∷ map turn_of xs = same in cc)
+    by (t ∷ ts) same is e = subst (λ l. EmitsSteps (Alternate l ∷ []) old new) same
+        (one_step (Alternate (t ∷ ts)) old new is e)
 
 -- a nest, instruction by instruction
 pub nest_made : (ps : List Inner) (old a b c d e f : List Uop) (top : ℕ) → 0 < length ps

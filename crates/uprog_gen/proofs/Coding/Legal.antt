@@ -2,7 +2,9 @@
 use Rattle.std.proofs.Common.{◌≡◌, ℕ, zero, suc, ◌+◌, ◌-◌, ◌*◌, ◌<◌, ◌≤◌, Bool, true, false, cond}
 use Rattle.std.proofs.Common.{List, ⊎_elim}
 use Rattle.std.proofs.Common.{[], ◌∷◌, ◌++◌, map, length, refl, ap, ◌∙◌, subst, arith, Some}
-use Rattle.std.proofs.Common.{length-append}
+use Rattle.std.proofs.Common.{length-append, append-nil, append_assoc, sym}
+use Rattle.std.proofs.lemmas.List.{length-map}
+use Rattle.bit_rows.specs.declared.TheConstants.{WIDTH_MAX}
 use Rattle.std.specs.Prelude.{slice_get, nat_lt, nat_le, ◌==◌, ◌&&◌}
 use Rattle.std.specs.List.{AllByRecursion, list_all}
 use Rattle.std.proofs.Math.Seq.{get_or-append_seam}
@@ -16,7 +18,7 @@ use Rattle.uprog_code.specs.Shape.{Shape, results}
 use Rattle.uprog_code.specs.Legal.{is_row, is_first, is_second, may_be_first, may_be_second}
 use Rattle.uprog_code.specs.Legal.{is_legal, IsLegalCode}
 use Rattle.loop_ir.specs.Loops.{rounds, RoundOf, round_at, inner_rounds, step_rounds, all_rounds}
-use Rattle.loop_ir.specs.Loops.{sub_value}
+use Rattle.loop_ir.specs.Loops.{sub_value, turns_from}
 use Rattle.row_alloc.specs.declared.body.BodyRef.{BodyRef}
 use Rattle.row_alloc.specs.declared.body.BodyRef.TheVariants as ref
 use Rattle.row_alloc.specs.declared.body.BodyCmd.{BodyCmd}
@@ -33,7 +35,8 @@ use Rattle.loop_ir.specs.declared.ir.Space.TheVariants.{Result, Source, ScratchB
 use Rattle.loop_ir.specs.declared.ir.Space.TheVariants.{Cells}
 use Rattle.loop_ir.specs.declared.ir.Count.{Count}
 use Rattle.loop_ir.specs.declared.ir.Count.TheVariants.{All as All_of, Rest, UpTo, Bits}
-use Rattle.loop_ir.specs.Plain.{Block, InnerOf, StepOf, AllInner, AllStep, AllParts}
+use Rattle.loop_ir.specs.Plain.{Block, InnerOf, TurnOf, StepOf, turn_map, step_map, AllInner}
+use Rattle.loop_ir.specs.Plain.{AllTurns, AllStep, AllParts}
 use Rattle.loop_ir.specs.Plain.InnerOf.{Alone, Across}
 use Rattle.loop_ir.specs.Plain.StepOf.{Single, Along, Nest, Pairs, Alternate}
 use Rattle.loop_ir.specs.Spots.{nth_place, spot_in, IsOwn}
@@ -42,16 +45,21 @@ use Rattle.uprog_gen.specs.declared.plan.Plan.{Plan}
 use Rattle.uprog_gen.specs.Code.{Part, row_space, register, place_ref, code_ref, code_uop, init}
 use Rattle.uprog_gen.specs.Code.{before, after, inits, befores, afters, counter, body_uops}
 use Rattle.uprog_gen.specs.Code.{once_code, turn_code, enter_code, loop_code, inner_list, outside}
-use Rattle.uprog_gen.specs.Code.{turn_plan, turn_uops, half_code, half_size, step_code}
+use Rattle.uprog_gen.specs.Code.{turn_plan, turn_uops, either_code, either_size, turns_list}
+use Rattle.uprog_gen.specs.Code.{step_code, block_of_part, blocks}
 use Rattle.uprog_gen.specs.Code.{program_code}
-use Rattle.uprog_gen.proofs.Coding.Sizes.{turns_long}
-use Rattle.loop_ir.specs.Costs.{is_fixed, same_sub}
+use Rattle.uprog_gen.proofs.Coding.Sizes.{either_long, cycle_long}
+use Rattle.loop_ir.specs.Costs.{is_fixed, same_sub, step_bodies}
 use Rattle.loop_ir.specs.Limits.{IsRound}
 use Rattle.uprog_gen.proofs.Rows.Rounds.{block_round}
 use Rattle.uprog_gen.specs.Parts.{IsPart}
 use Rattle.loop_ir.specs.States.{enters}
 use Rattle.uprog_gen.proofs.Rows.Named.{IsNamed, named_ref}
 use Rattle.uprog_gen.proofs.Running.Program.{front_all, back_all}
+
+-- no step has too many bodies
+abbrev pub AreFew : List (StepOf Block) → Type 0
+AreFew ss = AllByRecursion (λ s. step_bodies s ≤ 12) ss
 
 both : {X : Type 0} (P : X → Type 0) (xs ys : List X) → AllByRecursion P xs → AllByRecursion P ys
     → AllByRecursion P (xs ++ ys)
@@ -216,7 +224,8 @@ module _ (head : Shape) where
   fit_part p part n i o is plan size = uops_legal p part plan n i o is size p.cmds part.does.legal
       part.does.unread
 
-  -- each body has a round at width 2, but for two that take turns, which have one at width 3
+  -- each body has a round at width 2, but for those that take turns, which have one where there are
+  -- positions enough
   fit_inner : (xs : List (InnerOf Part)) → AllInner IsPart xs
       → AllByRecursion (IsRound (IsSpot head 2) 2) (map block_round (inner_rounds 2 0 xs))
       → AllInner IsFit xs
@@ -227,35 +236,62 @@ module _ (head : Shape) where
   fit_inner (Across UpTo p ∷ xs) h r = (fit_part p h.0 2 0 0 r.0, fit_inner xs h.1 r.1)
   fit_inner (Across Bits p ∷ xs) h r = (fit_part p h.0 2 0 0 r.0, fit_inner xs h.1 r.1)
 
-  fit_step : (s : StepOf Part) → AllStep IsPart s
-      → AllByRecursion (IsRound (IsSpot head 2) 2) (map block_round (step_rounds 2 s))
-      → AllByRecursion (IsRound (IsSpot head 3) 3) (map block_round (step_rounds 3 s))
-      → AllStep IsFit s
-  fit_step (Single p) h r r3 = fit_part p h 2 0 0 r.0
-  fit_step (Along p) h r r3 = fit_part p h 2 0 0 r.0
-  fit_step (Nest parts) h r r3 =
+  fit_turns : (ts us : List (TurnOf Part)) (i : ℕ) → AllTurns IsPart ts
+      → i + length ts < WIDTH_MAX
+      → ((count : ℕ) → i + count < WIDTH_MAX → AllByRecursion (IsRoundAtWidth (i + count + 1))
+      (map block_round (turns_from (ts ++ us) i count))) → AllTurns IsFit ts
+  fit_turns [] us i h lt r = tt
+  fit_turns (t ∷ ts) us i h lt r = (
+    (
+      fit_part t.each h.0.0 (i + 1 + 1) i 0 (r 1 (omega (arith, lt))).0,
+      fit_part t.last h.0.1 (i + 0 + 1) i 0 (r 0 (omega (arith, lt))).0,
+    ),
+    fit_turns ts (us ++ (t ∷ [])) (i + 1) h.1 (omega (arith, lt)) (λ count le.
+        let w : i + suc count + 1 ≡ i + 1 + count + 1 = omega arith in
+        subst (λ l. AllByRecursion (IsRoundAtWidth (i + 1 + count + 1))
+        (map block_round (turns_from l (i + 1) count))) (append_assoc ts us (t ∷ []))
+        (subst (λ n. AllByRecursion (IsRoundAtWidth n)
+        (map block_round (turns_from ((ts ++ us) ++ (t ∷ [])) (i + 1) count))) w
+        (r (suc count) (omega (arith, le))).1)),
+  )
+
+  -- at each width the rounds are such
+  abbrev AtWidths : (ℕ → List (RoundOf Part)) → Type 0
+  AtWidths rs = (n : ℕ) → 0 < n → n ≤ WIDTH_MAX
+      → AllByRecursion (IsRoundAtWidth n) (map block_round (rs n))
+
+  fit_step : (s : StepOf Part) → AllStep IsPart s → step_bodies (step_map block_of_part s) ≤ 12
+      → AtWidths (λ n. step_rounds n s) → AllStep IsFit s
+  fit_step (Single p) h few r = fit_part p h 2 0 0 (r 2 (omega arith) (omega arith)).0
+  fit_step (Along p) h few r = fit_part p h 2 0 0 (r 2 (omega arith) (omega arith)).0
+  fit_step (Nest parts) h few r =
       let first : List (RoundOf Part) = inner_rounds 2 0 parts in
       let more : List (RoundOf Part) = inner_rounds 2 1 parts ++ [] in
       fit_inner parts h (front_all (IsRound (IsSpot head 2) 2) (map block_round first)
       (map block_round more)
-      (subst (AllByRecursion (IsRound (IsSpot head 2) 2)) (blocks-append first more) r))
-  fit_step (Pairs p) h r r3 = fit_part p h 2 0 1 r.0
-  fit_step (Alternate t) h r r3 = (
-    fit_part t.even h.0 2 0 0 r.0,
-    (
-      fit_part t.odd h.1.0 3 1 0 r3.1.0,
-      (fit_part t.last_even h.1.1.0 3 2 0 r3.1.1.0, fit_part t.last_odd h.1.1.1 2 1 0 r.1.0),
-    ),
-  )
+      (subst (AllByRecursion (IsRound (IsSpot head 2) 2)) (blocks-append first more)
+      (r 2 (omega arith) (omega arith))))
+  fit_step (Pairs p) h few r = fit_part p h 2 0 1 (r 2 (omega arith) (omega arith)).0
+  fit_step (Alternate ts) h few r =
+      let many : 2 * length ts ≤ 12 = omega (
+        arith,
+        few,
+        length-map ts (turn_map block_of_part),
+      ) in
+      fit_turns ts [] 0 h (omega (arith, many)) (λ count lt.
+      let n = 0 + count + 1 in
+      let top : n - 1 ≡ count = omega arith in
+      subst (λ l. AllByRecursion (IsRoundAtWidth n) (map block_round (turns_from l 0 count)))
+      (sym (append-nil ts))
+      (subst (λ c. AllByRecursion (IsRoundAtWidth n) (map block_round (turns_from ts 0 c))) top
+      (r n (omega arith) (omega (arith, lt)))))
 
-  fit_steps : (ss : List (StepOf Part)) → AllParts IsPart ss
-      → AllByRecursion (IsRound (IsSpot head 2) 2) (map block_round (all_rounds 2 ss))
-      → AllByRecursion (IsRound (IsSpot head 3) 3) (map block_round (all_rounds 3 ss))
-      → AllParts IsFit ss
-  fit_steps [] h r r3 = tt
-  fit_steps (s ∷ ss) h r r3 = (
-    fit_step s h.0 (first_rounds 2 r) (first_rounds 3 r3),
-    fit_steps ss h.1 (later_rounds 2 r) (later_rounds 3 r3),
+  fit_steps : (ss : List (StepOf Part)) → AllParts IsPart ss → AreFew (blocks ss)
+      → AtWidths (λ n. all_rounds n ss) → AllParts IsFit ss
+  fit_steps [] h few r = tt
+  fit_steps (s ∷ ss) h few r = (
+    fit_step s h.0 few.0 (λ n some small. first_rounds n (r n some small)),
+    fit_steps ss h.1 few.1 (λ n some small. later_rounds n (r n some small)),
   )
     where
       apart : (n : ℕ)
@@ -420,15 +456,28 @@ module _ (head : Shape) where
     single_legal p true fit = fit p.plan size
     single_legal p false fit = (refl, (refl, once_legal p fit))
 
-    half_legal : (p last : Part) (end pc : ℕ) → IsFit p → IsFit last → end < size
-        → pc + half_size p last ≤ size → L (half_code p last end pc)
-    half_legal p last end pc fit fit_last le room =
+    either_legal : (p last : Part) (end pc : ℕ) → IsFit p → IsFit last → end < size
+        → pc + either_size p last ≤ size → L (either_code p last end pc)
+    either_legal p last end pc fit fit_last le room =
         let post = AddI 3 1 ∷ SubI 2 1 ∷ [] in
         let more : pc + 1 + length last.cmds + 1 < size = omega (arith, room) in (
           lt-ltb (pc + 1 + length last.cmds + 1) size more,
           join (turn_uops last) (Bnez 4 end ∷ (turn_uops p ++ post)) (fit_last turn_plan size)
               (lt-ltb end size le, join (turn_uops p) post (fit turn_plan size) (refl, (refl, tt))),
         )
+
+    turns_legal : (ts : List (TurnOf Part)) (out pc : ℕ) → AllTurns IsFit ts → out < size
+        → pc + length (turns_list ts out pc) ≤ size → L (turns_list ts out pc)
+    turns_legal [] out pc h lt le = tt
+    turns_legal (t ∷ ts) out pc h lt le =
+        let a = either_code t.each t.last out pc in
+        let b = turns_list ts out (pc + either_size t.each t.last) in
+        let long = either_long t.each t.last out pc in
+        let both_long = length-append a b in
+        join a b (either_legal t.each t.last out pc h.0.0 h.0.1 lt
+        (omega (arith, le, long, both_long)))
+        (turns_legal ts out (pc + either_size t.each t.last) h.1 lt
+        (omega (arith, le, long, both_long)))
 
     step_legal : (s : StepOf Part) (pc : ℕ) → AllStep IsFit s → pc + length (step_code s pc) < size
         → L (step_code s pc)
@@ -466,24 +515,29 @@ module _ (head : Shape) where
             ),
           ),
         )
-    step_legal (Alternate t) pc h le =
-        let head = pc + 1 + 1 + 1 in
-        let odd = head + half_size t.even t.last_even in
-        let end = odd + half_size t.odd t.last_odd + 1 in
-        let all = turns_long t pc in
+    step_legal (Alternate []) pc h le = tt
+    step_legal (Alternate (t ∷ ts)) pc h le =
+        let out = pc + 1 + 1 + 1 + 1 in
+        let first = out + 1 in
+        let turns = turns_list (t ∷ ts) out first in
+        let end = first + length turns + 1 in
+        let all = cycle_long (t ∷ ts) pc in
         let at_end : end < size = omega (arith, le, all) in
-        let top : head < size = omega (arith, le, all) in
-        let second = half_code t.odd t.last_odd end odd in (
+        let at_first : first < size = omega (arith, le, all) in (
           refl,
           (
             refl,
             (
               refl,
-              join (half_code t.even t.last_even end head) (second ++ (Bnez 4 head ∷ []))
-                  (half_legal t.even t.last_even end head h.0 h.1.1.0 at_end (omega (arith, at_end)))
-                  (join second (Bnez 4 head ∷ [])
-                  (half_legal t.odd t.last_odd end odd h.1.0 h.1.1.1 at_end (omega (arith, at_end)))
-                  (lt-ltb head size top, tt)),
+              (
+                lt-ltb first size at_first,
+                (
+                  lt-ltb end size at_end,
+                  join turns (Bnez 4 first ∷ [])
+                      (turns_legal (t ∷ ts) out first h (omega (arith, at_first))
+                      (omega (arith, at_end))) (lt-ltb first size at_first, tt),
+                ),
+              ),
             ),
           ),
         )
@@ -498,10 +552,9 @@ module _ (head : Shape) where
         (program_legal ss (pc + length a) h.1 (omega (arith, le, length-append a b)))
 
   pub code_legal : (ss : List (StepOf Part)) → length (program_code ss 0) ≤ 4096
-      → AllParts IsPart ss → AllByRecursion (IsRound (IsSpot head 2) 2)
-      (map block_round (all_rounds 2 ss)) → AllByRecursion (IsRound (IsSpot head 3) 3)
-      (map block_round (all_rounds 3 ss)) → IsLegalCode head (program_code ss 0 ++ Done ∷ [])
-  code_legal ss short parts rounds more =
+      → AllParts IsPart ss → AreFew (blocks ss) → AtWidths (λ n. all_rounds n ss)
+      → IsLegalCode head (program_code ss 0 ++ Done ∷ [])
+  code_legal ss short parts few rounds =
       let is = program_code ss 0 in
       let size : length (is ++ Done ∷ []) ≡ length is + 1 = length-append is (Done ∷ []) in
       let within : length is < length (is ++ Done ∷ []) = omega (arith, size) in
@@ -512,7 +565,7 @@ module _ (head : Shape) where
       record {
         short = omega (arith, size, short);
         each = both (IsLegalAt (length (is ++ Done ∷ []))) is (Done
-            ∷ []) (program_legal (length (is ++ Done ∷ [])) ss 0 (fit_steps ss parts rounds more)
+            ∷ []) (program_legal (length (is ++ Done ∷ [])) ss 0 (fit_steps ss parts few rounds)
             (omega (arith, size))) (refl, tt);
         last = subst (λ k. slice_get (is ++ Done ∷ []) k ≡ Some Done) e at;
       }

@@ -12,8 +12,8 @@ use Rattle.loop_ir.specs.declared.ir.Sub.TheVariants.{Outer, OuterDown, Sum, Dow
 use Rattle.loop_ir.specs.declared.ir.Sub.TheVariants.{NPlusInner}
 use Rattle.loop_ir.specs.declared.ir.Count.{Count}
 use Rattle.loop_ir.specs.declared.ir.Count.TheVariants.{All as All_of, Rest, UpTo, Bits}
-use Rattle.loop_ir.specs.Plain.{InnerOf, StepOf, inner_map, step_map, AllInner, AllStep, TurnsOf}
-use Rattle.loop_ir.specs.Plain.{turns_map, AllTurns}
+use Rattle.loop_ir.specs.Plain.{InnerOf, StepOf, inner_map, step_map, AllInner, AllStep, TurnOf}
+use Rattle.loop_ir.specs.Plain.{turn_map, AllTurns}
 use Rattle.loop_ir.specs.Plain.{AllParts}
 use Rattle.loop_ir.specs.Plain.InnerOf.{Alone, Across}
 use Rattle.loop_ir.specs.Plain.StepOf.{Single, Along, Nest, Pairs, Alternate}
@@ -21,10 +21,11 @@ use Rattle.uprog_gen.specs.declared.plan.Plan.{Plan}
 use Rattle.uprog_gen.specs.Code.{Part, block_of_part, blocks, code_uop, init, before, after, inits}
 use Rattle.uprog_gen.specs.Code.{befores, afters, counter, body_uops, once_code, turn_code}
 use Rattle.uprog_gen.specs.Code.{enter_code, loop_code, inner_list, outside, step_code}
-use Rattle.uprog_gen.specs.Code.{turn_plan, turn_uops, half_code, half_size, turns_code}
+use Rattle.uprog_gen.specs.Code.{turn_plan, turn_uops, either_code, either_size, turns_list}
+use Rattle.uprog_gen.specs.Code.{cycle_code}
 use Rattle.uprog_gen.specs.Code.{program_code}
 use Rattle.loop_ir.specs.Costs.{is_fixed, body_cost, counter_cost, inner_cost, step_cost}
-use Rattle.loop_ir.specs.Costs.{turns_cost}
+use Rattle.loop_ir.specs.Costs.{either_cost, turns_cost}
 use Rattle.loop_ir.specs.Costs.{code_cost}
 use Rattle.uprog_gen.specs.Parts.{IsPart}
 
@@ -139,9 +140,9 @@ single_few : (p : Part) → IsPart p → (fixed : Bool)
 single_few p is true = omega (arith, body_few p is)
 single_few p is false = omega (arith, once_few p is)
 
-pub half_long : (p last : Part) (end pc : ℕ)
-    → length (half_code p last end pc) ≡ half_size p last
-half_long p last end pc =
+pub either_long : (p last : Part) (end pc : ℕ)
+    → length (either_code p last end pc) ≡ either_size p last
+either_long p last end pc =
     let post = AddI 3 1 ∷ SubI 2 1 ∷ [] in
     omega (
       arith,
@@ -151,40 +152,38 @@ half_long p last end pc =
       length-map p.cmds (code_uop turn_plan p.block),
     )
 
-pub turns_long : (t : TurnsOf Part) (pc : ℕ) → length (turns_code t pc)
-    ≡ half_size t.even t.last_even + half_size t.odd t.last_odd + 4
-turns_long t pc =
-    let head = pc + 1 + 1 + 1 in
-    let odd = head + half_size t.even t.last_even in
-    let end = odd + half_size t.odd t.last_odd + 1 in
-    let a = half_code t.even t.last_even end head in
-    let b = half_code t.odd t.last_odd end odd in
-    omega (
-      arith,
-      length-append a (b ++ (Bnez 4 head ∷ [])),
-      length-append b (Bnez 4 head ∷ []),
-      half_long t.even t.last_even end head,
-      half_long t.odd t.last_odd end odd,
-    )
-
 cmds_few : (p : Part) → IsPart p → length p.cmds ≤ body_cost p.block
 cmds_few p is = is.short
 
--- both halves
-pub turns_room : (t : TurnsOf Part) → AllTurns IsPart t
-    → half_size t.even t.last_even + half_size t.odd t.last_odd + 7
-    ≤ turns_cost (turns_map block_of_part t)
-turns_room t h = omega (
-  arith,
-  cmds_few t.even h.0,
-  cmds_few t.odd h.1.0,
-  cmds_few t.last_even h.1.1.0,
-  cmds_few t.last_odd h.1.1.1,
-)
+pub turns_few : (ts : List (TurnOf Part)) (out pc : ℕ) → AllTurns IsPart ts
+    → length (turns_list ts out pc) ≤ sum_by either_cost (map (turn_map block_of_part) ts)
+turns_few [] out pc h = omega arith
+turns_few (t ∷ ts) out pc h =
+    let more = turns_list ts out (pc + either_size t.each t.last) in
+    omega (
+      arith,
+      length-append (either_code t.each t.last out pc) more,
+      either_long t.each t.last out pc,
+      cmds_few t.each h.0.0,
+      cmds_few t.last h.0.1,
+      turns_few ts out (pc + either_size t.each t.last) h.1,
+      sum_by-cons either_cost (turn_map block_of_part t) (map (turn_map block_of_part) ts),
+    )
 
-pub turns_few : (t : TurnsOf Part) (pc : ℕ) → AllTurns IsPart t
-    → length (turns_code t pc) ≤ turns_cost (turns_map block_of_part t)
-turns_few t pc h = omega (arith, turns_long t pc, turns_room t h)
+pub cycle_long : (ts : List (TurnOf Part)) (pc : ℕ) → length (cycle_code ts pc)
+    ≡ length (turns_list ts (pc + 1 + 1 + 1 + 1) (pc + 1 + 1 + 1 + 1 + 1)) + 6
+cycle_long ts pc =
+    let head = pc + 1 + 1 + 1 + 1 + 1 in
+    let turns = turns_list ts (pc + 1 + 1 + 1 + 1) head in
+    omega (arith, length-append turns (Bnez 4 head ∷ []))
+
+cycle_few : (ts : List (TurnOf Part)) (pc : ℕ) → AllTurns IsPart ts
+    → length (cycle_code ts pc) ≤ turns_cost (map (turn_map block_of_part) ts)
+cycle_few ts pc h = omega (
+  arith,
+  cycle_long ts pc,
+  turns_few ts (pc + 1 + 1 + 1 + 1) (pc + 1 + 1 + 1 + 1 + 1) h,
+)
 
 pub step_few : (s : StepOf Part) (pc : ℕ) → AllStep IsPart s
     → length (step_code s pc) ≤ step_cost (step_map block_of_part s)
@@ -199,7 +198,8 @@ step_few (Nest (x ∷ xs)) pc h =
       inner_few (x ∷ xs) q h,
     )
 step_few (Pairs p) pc h = omega (arith, loop_few Rest p (pc + 1 + 1 + 1 + 1 + 1) h)
-step_few (Alternate t) pc h = turns_few t pc h
+step_few (Alternate []) pc h = omega arith
+step_few (Alternate (t ∷ ts)) pc h = cycle_few (t ∷ ts) pc h
 
 pub program_few : (ss : List (StepOf Part)) (pc : ℕ) → AllParts IsPart ss
     → length (program_code ss pc) ≤ code_cost (blocks ss)

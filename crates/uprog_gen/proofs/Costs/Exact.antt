@@ -3,7 +3,7 @@
 use Rattle.std.proofs.Common.{◌≡◌, ℕ, ◌+◌, ◌-◌, ◌*◌, ◌/◌, ◌%◌, ◌<◌, Bool, true, false, cond}
 use Rattle.std.proofs.Common.{⊎_elim}
 use Rattle.std.proofs.lemmas.Bool.{cases_eq}
-use Rattle.std.proofs.Common.{List, [], ◌∷◌, Some, refl, sym, ap, ◌∙◌, subst, arith}
+use Rattle.std.proofs.Common.{List, [], ◌∷◌, map, length, Some, refl, sym, ap, ◌∙◌, subst, arith}
 use Rattle.op_text.specs.declared.tree.Kind.{Kind}
 use Rattle.op_text.specs.declared.tree.Kind.TheVariants.{Word, Bit}
 use Rattle.op_text.specs.declared.word_ops.WordOp.{WordOp}
@@ -13,11 +13,11 @@ use Rattle.op_text.specs.declared.word_ops.Signature.TheVariants as shape
 use Rattle.op_text.specs.WordOps.{row_of, forms, signature_forms, filled, given_first, first_of}
 use Rattle.op_text.specs.Meaning.{width}
 use Rattle.op_text.proofs.Operations.{first_settles}
-use Rattle.loop_ir.specs.Plain.{Block, TurnsOf, StepOf, AllParts, turns_map}
+use Rattle.loop_ir.specs.Plain.{Block, TurnOf, StepOf, AllParts, turn_map}
 use Rattle.loop_ir.specs.Loops.{all_rounds}
 use Rattle.loop_laws.specs.Rooms.{Marked, placed_body, placed_steps}
 use Rattle.loop_laws.proofs.Alike.{InRooms}
-use Rattle.loop_laws.proofs.Summed.{rounds_sum, sum_is, turns_sum, turns_even, turns_odd}
+use Rattle.loop_laws.proofs.Summed.{rounds_sum, sum_is, turns_sum, cycle_sum, turns_cycle}
 use Rattle.word_lower.specs.declared.table.ProgramRow.{ProgramRow}
 use Rattle.word_lower.specs.declared.table.ProgramRow.TheVariants.{Spread}
 use Rattle.word_lower.specs.Programs.{program, program_of}
@@ -52,27 +52,47 @@ spreads p = is_spread (program_of p)
 abbrev pub op_width : WordOp → Kind → ℕ → ℕ
 op_width p k n = cond (spreads p) (width n k) n
 
--- what bodies that take turns count, by what each of them does
-turns_by : (f : Block → ℕ) (t : TurnsOf Block) (a b c d n total : ℕ) → 0 < n → f t.even ≡ a
-    → f t.odd ≡ b → f t.last_even ≡ c → f t.last_odd ≡ d
-    → (n ≡ 2 * ((n - 1) / 2) + 1 → total ≡ (n - 1) / 2 * (a + b) + c)
-    → (n ≡ 2 * ((n - 1) / 2) + 2 → total ≡ (n - 1) / 2 * (a + b) + (a + d))
-    → turns_sum f t (n - 1) ≡ total
-turns_by f t a b c d n total some ea eb ec ed one two =
+-- what bodies that take turns count: all of them so many times, and then those up to the top
+cycle_by : (f : Block → ℕ) (ts : List (TurnOf Block)) (c n k r total : ℕ) → cycle_sum f ts ≡ c
+    → n - 1 ≡ k * length ts + r → total ≡ k * c + turns_sum f ts r
+    → turns_sum f ts (n - 1) ≡ total
+cycle_by f ts c n k r total ec e is = ap (turns_sum f ts) e ∙ turns_cycle f ts k r
+    ∙ ap (λ x. k * x + turns_sum f ts r) ec ∙ sym is
+
+-- two of them
+two_by : (f : Block → ℕ) (ts : List (TurnOf Block)) (a b c n total : ℕ) → 0 < n → length ts ≡ 2
+    → turns_sum f ts 0 ≡ a → turns_sum f ts 1 ≡ b → cycle_sum f ts ≡ c
+    → (n ≡ 2 * ((n - 1) / 2) + 1 → total ≡ (n - 1) / 2 * c + a)
+    → (n ≡ 2 * ((n - 1) / 2) + 2 → total ≡ (n - 1) / 2 * c + b) → turns_sum f ts (n - 1) ≡ total
+two_by f ts a b c n total some two ea eb ec one other =
     let k = (n - 1) / 2 in
+    let by : k * length ts ≡ k * 2 = ap (λ x. k * x) two in
     ⊎_elim
-    (λ (e : (n - 1) % 2 ≡ 0).
-    let s : n - 1 ≡ 2 * k = omega (arith, e) in
-    ap (turns_sum f t) s ∙ turns_even f t k
-    ∙ ap (λ x. k * (x + f t.odd) + f t.last_even) ea ∙ ap (λ x. k * (a + x) + f t.last_even) eb
-    ∙ ap (λ x. k * (a + b) + x) ec ∙ sym (one (omega (arith, e, some))))
-    (λ (ne : (n - 1) % 2 ≡ 0 → ⊥).
-    let s : n - 1 ≡ 2 * k + 1 = omega (arith, ne) in
-    ap (turns_sum f t) s ∙ turns_odd f t k
-    ∙ ap (λ x. k * (x + f t.odd) + (x + f t.last_odd)) ea
-    ∙ ap (λ x. k * (a + x) + (a + f t.last_odd)) eb ∙ ap (λ x. k * (a + b) + (a + x)) ed
-    ∙ sym (two (omega (arith, ne, some))))
+    (λ (e : (n - 1) % 2 ≡ 0). cycle_by f ts c n k 0 total ec (omega (arith, e, by))
+    (one (omega (arith, e, some)) ∙ ap (λ x. k * c + x) (sym ea)))
+    (λ (ne : (n - 1) % 2 ≡ 0 → ⊥). cycle_by f ts c n k 1 total ec (omega (arith, ne, by))
+    (other (omega (arith, ne, some)) ∙ ap (λ x. k * c + x) (sym eb)))
     (cases_eq ((n - 1) % 2) 0)
+
+-- three of them
+three_by : (f : Block → ℕ) (ts : List (TurnOf Block)) (a b c d n total : ℕ) → 0 < n
+    → length ts ≡ 3 → turns_sum f ts 0 ≡ a → turns_sum f ts 1 ≡ b → turns_sum f ts 2 ≡ d
+    → cycle_sum f ts ≡ c → (n ≡ 3 * ((n - 1) / 3) + 1 → total ≡ (n - 1) / 3 * c + a)
+    → (n ≡ 3 * ((n - 1) / 3) + 2 → total ≡ (n - 1) / 3 * c + b)
+    → (n ≡ 3 * ((n - 1) / 3) + 3 → total ≡ (n - 1) / 3 * c + d) → turns_sum f ts (n - 1) ≡ total
+three_by f ts a b c d n total some three ea eb ed ec one two last =
+    let k = (n - 1) / 3 in
+    let by : k * length ts ≡ k * 3 = ap (λ x. k * x) three in
+    ⊎_elim
+    (λ (e : (n - 1) % 3 ≡ 0). cycle_by f ts c n k 0 total ec (omega (arith, e, by))
+    (one (omega (arith, e, some)) ∙ ap (λ x. k * c + x) (sym ea)))
+    (λ (ne : (n - 1) % 3 ≡ 0 → ⊥). ⊎_elim
+    (λ (e : (n - 1) % 3 ≡ 1). cycle_by f ts c n k 1 total ec (omega (arith, e, by))
+    (two (omega (arith, e, some)) ∙ ap (λ x. k * c + x) (sym eb)))
+    (λ (no : (n - 1) % 3 ≡ 1 → ⊥). cycle_by f ts c n k 2 total ec (omega (arith, ne, no, by))
+    (last (omega (arith, ne, no, some)) ∙ ap (λ x. k * c + x) (sym ed)))
+    (cases_eq ((n - 1) % 3) 1))
+    (cases_eq ((n - 1) % 3) 0)
 
 numbered_aaps : (p : WordOp) (k : Kind) (n : ℕ) → 0 < n
     → rounds_sum turn_aaps (all_rounds n (placed_steps [] (Numbered p k)))
@@ -84,22 +104,24 @@ numbered_aaps op.Bitcount k n some =
     omega (arith, h, bits_together n, some)
 numbered_aaps op.Relu k n some =
     let h = sum_is turn_aaps n (placed_steps [] (Numbered op.Relu k)) in
-    let e = turns_by turn_aaps (turns_map (placed_body []) relu_turns) 3 3 1 1 n
+    let e = two_by turn_aaps (map (turn_map (placed_body [])) relu_turns) 1 4 6 n
     (3 * (n - 1) + 1) some refl refl refl refl (λ z. omega (arith, z)) (λ z. omega (arith, z)) in
     omega (arith, h, e, some)
 numbered_aaps op.AndRed k n some =
     let h = sum_is turn_aaps n (placed_steps [] (Numbered op.AndRed k)) in
-    let e = turns_by turn_aaps (turns_map (placed_body []) and_turns) 2 1 3 2 n
-    (3 * (n / 2) + 2 * (n % 2) + 1) some refl refl refl refl (λ z. omega (arith, z)) (λ z. omega (arith, z)) in
+    let e = three_by turn_aaps (map (turn_map (placed_body [])) and_turns) 3 4 5 5 n
+    (n + 2 * ((n + 2) / 3)) some refl refl refl refl refl (λ z. omega (arith, z))
+    (λ z. omega (arith, z)) (λ z. omega (arith, z)) in
     omega (arith, h, e)
 numbered_aaps op.OrRed k n some =
     let h = sum_is turn_aaps n (placed_steps [] (Numbered op.OrRed k)) in
-    let e = turns_by turn_aaps (turns_map (placed_body []) or_turns) 2 1 3 2 n
-    (3 * (n / 2) + 2 * (n % 2) + 1) some refl refl refl refl (λ z. omega (arith, z)) (λ z. omega (arith, z)) in
+    let e = three_by turn_aaps (map (turn_map (placed_body [])) or_turns) 3 4 5 5 n
+    (n + 2 * ((n + 2) / 3)) some refl refl refl refl refl (λ z. omega (arith, z))
+    (λ z. omega (arith, z)) (λ z. omega (arith, z)) in
     omega (arith, h, e)
 numbered_aaps op.XorRed k n some =
     let h = sum_is turn_aaps n (placed_steps [] (Numbered op.XorRed k)) in
-    let e = turns_by turn_aaps (turns_map (placed_body []) xor_turns) 2 3 5 3 n
+    let e = two_by turn_aaps (map (turn_map (placed_body [])) xor_turns) 5 5 5 n
     (5 * ((n + 1) / 2)) some refl refl refl refl (λ z. omega (arith, z)) (λ z. omega (arith, z)) in
     omega (arith, h, e)
 numbered_aaps p Word n some = let h = sum_is turn_aaps n (placed_steps [] (Numbered p Word)) in
@@ -117,22 +139,24 @@ numbered_aps op.Bitcount k n some =
     omega (arith, h, some)
 numbered_aps op.Relu k n some =
     let h = sum_is turn_aps n (placed_steps [] (Numbered op.Relu k)) in
-    let e = turns_by turn_aps (turns_map (placed_body []) relu_turns) 0 0 0 0 n
+    let e = two_by turn_aps (map (turn_map (placed_body [])) relu_turns) 0 0 0 n
     (0) some refl refl refl refl (λ z. omega (arith, z)) (λ z. omega (arith, z)) in
     omega (arith, h, e, some)
 numbered_aps op.AndRed k n some =
     let h = sum_is turn_aps n (placed_steps [] (Numbered op.AndRed k)) in
-    let e = turns_by turn_aps (turns_map (placed_body []) and_turns) 1 1 0 0 n
-    (n - 1) some refl refl refl refl (λ z. omega (arith, z)) (λ z. omega (arith, z)) in
+    let e = three_by turn_aps (map (turn_map (placed_body [])) and_turns) 0 1 2 2 n
+    (n - (n + 2) / 3) some refl refl refl refl refl (λ z. omega (arith, z))
+    (λ z. omega (arith, z)) (λ z. omega (arith, z)) in
     omega (arith, h, e)
 numbered_aps op.OrRed k n some =
     let h = sum_is turn_aps n (placed_steps [] (Numbered op.OrRed k)) in
-    let e = turns_by turn_aps (turns_map (placed_body []) or_turns) 1 1 0 0 n
-    (n - 1) some refl refl refl refl (λ z. omega (arith, z)) (λ z. omega (arith, z)) in
+    let e = three_by turn_aps (map (turn_map (placed_body [])) or_turns) 0 1 2 2 n
+    (n - (n + 2) / 3) some refl refl refl refl refl (λ z. omega (arith, z))
+    (λ z. omega (arith, z)) (λ z. omega (arith, z)) in
     omega (arith, h, e)
 numbered_aps op.XorRed k n some =
     let h = sum_is turn_aps n (placed_steps [] (Numbered op.XorRed k)) in
-    let e = turns_by turn_aps (turns_map (placed_body []) xor_turns) 0 1 1 1 n
+    let e = two_by turn_aps (map (turn_map (placed_body [])) xor_turns) 1 1 1 n
     ((n + 1) / 2) some refl refl refl refl (λ z. omega (arith, z)) (λ z. omega (arith, z)) in
     omega (arith, h, e)
 numbered_aps p Word n some = let h = sum_is turn_aps n (placed_steps [] (Numbered p Word)) in

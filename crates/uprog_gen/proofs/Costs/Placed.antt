@@ -5,7 +5,7 @@ use Rattle.std.proofs.Common.{◌∙◌, Option, Some, None}
 use Rattle.std.specs.Prelude.{◌&&◌, ◌||◌, count_by}
 use Rattle.std.proofs.lemmas.Bool.{and_parts}
 use Rattle.row_alloc.specs.declared.body.BodyCmd.{BodyCmd}
-use Rattle.loop_ir.specs.Plain.{Block, InnerOf, StepOf, inner_map, turns_map, AllInner, AllParts}
+use Rattle.loop_ir.specs.Plain.{Block, InnerOf, StepOf, inner_map, turn_map, AllInner, AllParts}
 use Rattle.loop_ir.specs.Plain.{all_turns}
 use Rattle.loop_ir.specs.Plain.InnerOf.{Alone, Across}
 use Rattle.loop_ir.specs.Plain.StepOf.{Single, Along, Nest, Pairs, Alternate}
@@ -15,7 +15,7 @@ use Rattle.loop_ir.specs.Costs.{is_copy}
 use Rattle.loop_laws.specs.Rooms.{Room, Marked, placed, placed_body, placed_steps}
 use Rattle.loop_laws.proofs.Alike.{HaveRows, has_like, held_like, sub_like, rounds_like}
 use Rattle.loop_laws.proofs.Summed.{rounds_sum}
-use Rattle.loop_laws.proofs.TakingTurns.{turns_all}
+use Rattle.loop_laws.proofs.TakingTurns.{turns_tested, turns_mapped}
 use Rattle.uprog_gen.specs.Settled.{word_of, word_commands, held_commands, turn_count, is_aap}
 use Rattle.uprog_gen.specs.Settled.{is_ap, turn_aaps, turn_aps, is_known, is_settled, IsSettled}
 
@@ -66,10 +66,10 @@ module _ (rooms : List Room) (rows : HaveRows rooms) where
       let p = and_parts (is_settled (placed_body [] b)) (steps_settle (placed_steps [] ss)) h in
       (settled_placed b p.0, settled_steps ss p.1)
   settled_steps (Alternate t ∷ ss) h =
-      let p = and_parts (all_turns is_settled (turns_map (placed_body []) t))
+      let p = and_parts (all_turns is_settled (map (turn_map (placed_body [])) t))
       (steps_settle (placed_steps [] ss)) h in (
-        turns_all (λ b. is_settled (placed_body [] b)) (λ b. IsSettled (placed_body rooms b))
-            settled_placed t p.0,
+        turns_mapped (placed_body rooms) (λ b. is_settled (placed_body [] b) ≡ true) IsSettled
+            settled_placed t (turns_tested (placed_body []) is_settled t p.0),
         settled_steps ss p.1,
       )
   settled_steps (Nest ps ∷ ss) h =

@@ -15,12 +15,12 @@ use Rattle.uprog_code.specs.Count.{counts_of, issues_aap, issues_ap}
 use Rattle.uprog_code.specs.Bound.{Bound, bound}
 use Rattle.uprog_code.specs.Machine.{Issue, IssueAap, IssueAp, Ended, trace, HasEnded, issues_of}
 use Rattle.loop_ir.specs.Loops.{rounds, RoundOf, round_at, one_round, positions, inner_rounds}
-use Rattle.loop_ir.specs.Loops.{next_turn, turns_from, step_rounds, all_rounds}
+use Rattle.loop_ir.specs.Loops.{turns_from, step_rounds, all_rounds}
 use Rattle.uprog_code.specs.Fits.{Fits, IsTouched}
 use Rattle.loop_ir.specs.declared.ir.Space.{Space}
 use Rattle.loop_ir.specs.declared.ir.Space.TheVariants.{Result, Source, ScratchBit, ScratchWord}
 use Rattle.loop_ir.specs.declared.ir.Space.TheVariants.{Cells}
-use Rattle.loop_ir.specs.Plain.{Block, InnerOf, TurnsOf, StepOf, inner_map, turns_map, step_map}
+use Rattle.loop_ir.specs.Plain.{Block, InnerOf, TurnOf, StepOf, inner_map, turn_map, step_map}
 use Rattle.loop_ir.specs.Plain.{AllInner, AllStep, AllParts}
 use Rattle.loop_ir.specs.Plain.InnerOf.{Alone, Across}
 use Rattle.loop_ir.specs.Plain.StepOf.{Single, Along, Nest, Pairs, Alternate}
@@ -69,11 +69,14 @@ inner_blocks n o (Across count p ∷ xs) =
     (sym (map_rounds block_round (λ i. one_round p i o) 0 (positions n o count)))
     ∙ sym (map-append block_round rs (inner_rounds n o xs))
 
-turns_blocks : (t : TurnsOf Part) (i count : ℕ) → turns_from (turns_map block_of_part t) i count
-    ≡ map block_round (turns_from t i count)
-turns_blocks t i zero = refl
-turns_blocks t i (suc count) = ap (λ l. round_at t.even.block i 0 ∷ l)
-    (turns_blocks (next_turn t) (i + 1) count)
+turns_blocks : (ts : List (TurnOf Part)) (i count : ℕ)
+    → turns_from (map (turn_map block_of_part) ts) i count ≡ map block_round (turns_from ts i count)
+turns_blocks [] i count = refl
+turns_blocks (t ∷ ts) i zero = refl
+turns_blocks (t ∷ ts) i (suc count) =
+    ap (λ l. round_at t.each.block i 0 ∷ turns_from l (i + 1) count)
+    (sym (map-append (turn_map block_of_part) ts (t ∷ [])))
+    ∙ ap (λ l. round_at t.each.block i 0 ∷ l) (turns_blocks (ts ++ (t ∷ [])) (i + 1) count)
 
 step_blocks : (n : ℕ) (s : StepOf Part) → step_rounds n (step_map block_of_part s)
     ≡ map block_round (step_rounds n s)

@@ -25,16 +25,16 @@ use Rattle.loop_ir.specs.Plain.StepOf.{Single, Along, Nest, Pairs, Alternate}
 use Rattle.loop_ir.specs.Spots.{nth_place}
 use Rattle.uprog_gen.specs.Code.{Part, IsPlanned, inits, befores, enter_code, turn_code, body_uops}
 use Rattle.uprog_gen.specs.Code.{once_code, loop_code, inner_code, inner_list, nest_code, outside}
-use Rattle.uprog_gen.specs.Code.{block_of_part, blocks, pairs_code, turns_code, step_code}
+use Rattle.uprog_gen.specs.Code.{block_of_part, blocks, pairs_code, cycle_code, step_code}
 use Rattle.uprog_gen.specs.Code.{program_code}
-use Rattle.uprog_gen.proofs.Coding.Sizes.{turns_long}
-use Rattle.loop_laws.proofs.TakingTurns.{turns_all}
+use Rattle.uprog_gen.proofs.Coding.Sizes.{cycle_long}
+use Rattle.loop_laws.proofs.TakingTurns.{turns_tested}
 use Rattle.uprog_gen.proofs.Rows.Issued.{round_command}
 use Rattle.uprog_gen.proofs.Rows.Issued.{rounds_commands}
 use Rattle.loop_ir.specs.Costs.{is_fixed, same_sub}
 use Rattle.uprog_gen.proofs.Running.Runs.{Runs, run_then, run_none, run_weaken, run_at, run_set}
 use Rattle.uprog_gen.proofs.Running.Runs.{run_parts, run_sub, run_jump, run_more}
-use Rattle.uprog_gen.proofs.Running.Turns.{InRange, run_turns}
+use Rattle.uprog_gen.proofs.Running.Turns.{InRange, run_cycle}
 use Rattle.uprog_gen.proofs.Running.Each.{AtBody, AtTop, IsOuter, run_each, run_inits, run_befores}
 use Rattle.uprog_gen.proofs.Running.Nest.{run_nest}
 use Rattle.uprog_gen.proofs.Running.Held.{names_at, names_fixed, run_body, same_true}
@@ -437,16 +437,17 @@ module _ (head : Shape) (code : List Uop) (n : ℕ) (some : 0 < n) (small : n �
           let l : n * (n * x + 3) ≤ WIDTH_MAX * (n * x + 3) = mul-le-mul_right (n * x + 3) h in
           omega (arith, k, l, e, s))
   run_step (Pairs p) pc regs size short stand has ok = run_pairs p pc regs size has ok
-  run_step (Alternate t) pc regs size short stand has ok =
-      let long = length (turns_code t pc) in
-      let stays = turns_all (λ (p : Part). stays_inner p.block)
-      (λ (p : Part). stays_inner p.block ≡ true) (λ p h. h) t stand in
-      run_more head code n pc (pc + long) regs (3 + n * long) (most_turns * long) _ Eight
-      (grow n long small (omega (arith, turns_long t pc)))
-      (run_turns head code n some small t pc regs size stays has
-      (ranges_of head n (step_rounds n (Alternate t)) ok))
+  run_step (Alternate []) pc regs size short stand has ok =
+      run_none head code n pc (pc + 0) regs Eight (omega arith) size
+  run_step (Alternate (t ∷ ts)) pc regs size short stand has ok =
+      let long = length (cycle_code (t ∷ ts) pc) in
+      let stays = turns_tested block_of_part stays_inner (t ∷ ts) stand in
+      run_more head code n pc (pc + long) regs (4 + n * long) (most_turns * long) _ Eight
+      (grow n long small (omega (arith, cycle_long (t ∷ ts) pc)))
+      (run_cycle head code n some small t ts pc regs size stays has
+      (ranges_of head n (step_rounds n (Alternate (t ∷ ts))) ok))
     where
-      grow : (n x : ℕ) → n ≤ WIDTH_MAX → 4 ≤ x → 3 + n * x ≤ most_turns * x
+      grow : (n x : ℕ) → n ≤ WIDTH_MAX → 4 ≤ x → 4 + n * x ≤ most_turns * x
       grow n x h four = let k : n * x ≤ WIDTH_MAX * x = mul-le-mul_right x h in
           omega (arith, k, four)
 

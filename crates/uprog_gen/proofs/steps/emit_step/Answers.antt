@@ -1,7 +1,7 @@
 use Rattle.uprog_code.specs.declared.code.Uop.TheVariants.{SetI, SetT}
-use Rattle.loop_ir.specs.Plain.{block_of, turns_of}
-use Rattle.uprog_gen.specs.Made.{part_of, parts_of}
-use Rattle.uprog_gen.proofs.Coding.Emitted.{along_emits, pairs_emits, turns_emits}
+use Rattle.loop_ir.specs.Plain.{block_of}
+use Rattle.uprog_gen.specs.Made.{part_of}
+use Rattle.uprog_gen.proofs.Coding.Emitted.{along_emits, pairs_emits}
 use Rattle.uprog_gen.proofs.Coding.Emitted.{two_pushes}
 use Rattle.uprog_gen.proofs.steps.emit_step.Goals as goal
 
@@ -19,10 +19,3 @@ returns-in_ok-push_pairs-in-Pairs c =
     rw c.in-Pairs.is (pairs_emits (part_of (block_of c.in-Pairs.body) c.in_ok-made-in-Pairs.made)
     c.args.code.now.items c.push_pairs.new.code.items c.in_ok-made-in-Pairs.ensures
     c.in_ok-push_pairs-in-Pairs.ensures)
-
-pub returns-in_ok-push_turns-in-Alternate : goal.returns-in_ok-push_turns-in-Alternate
-returns-in_ok-push_turns-in-Alternate c =
-    rw c.in-Alternate.is (turns_emits
-    (parts_of (turns_of c.in-Alternate.turns) c.in_ok-made-in-Alternate.made)
-    c.args.code.now.items c.push_turns.new.code.items c.in_ok-made-in-Alternate.ensures
-    c.in_ok-push_turns-in-Alternate.ensures)

@@ -14,7 +14,10 @@ pub returns-in_ok-body-in-Pairs-clause-same : goal.returns-in_ok-body-in-Pairs-c
 returns-in_ok-body-in-Pairs-clause-same c = rw c.in-Pairs.is
     (ap (λ b. Pairs b ∷ []) c.in_ok-body-in-Pairs.ensures.same)
 
-pub returns-in_ok-turns-in-Alternate-clause-same :
-    goal.returns-in_ok-turns-in-Alternate-clause-same
-returns-in_ok-turns-in-Alternate-clause-same c = rw c.in-Alternate.is
-    (ap (λ t. Alternate t ∷ []) c.in_ok-turns-in-Alternate.ensures.same)
+pub returns-in_ok-turns-in-InTwo-clause-same : goal.returns-in_ok-turns-in-InTwo-clause-same
+returns-in_ok-turns-in-InTwo-clause-same c = rw c.in-InTwo.is
+    (ap (λ t. Alternate t ∷ []) c.in_ok-turns-in-InTwo.ensures.same)
+
+pub returns-in_ok-turns-in-InThree-clause-same : goal.returns-in_ok-turns-in-InThree-clause-same
+returns-in_ok-turns-in-InThree-clause-same c = rw c.in-InThree.is
+    (ap (λ t. Alternate t ∷ []) c.in_ok-turns-in-InThree.ensures.same)
