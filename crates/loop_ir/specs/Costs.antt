@@ -139,7 +139,7 @@ abbrev pub inner_cost : InnerOf Block → ℕ
 inner_cost (Alone b) = body_cost b + 15
 inner_cost (Across count b) = body_cost b + 15
 inner_cost (IfOdd b) = body_cost b + 15 + 20
-inner_cost (Halves b c) = body_cost b + body_cost c + 10 + 20
+inner_cost (Halves b c) = body_cost b + body_cost c + 15 + 20
 
 -- how many instructions one of bodies that take turns may take, with the one in its place at the top
 -- position: four of them count and jump
