@@ -8,17 +8,15 @@ use Rattle.uprog_code.specs.Machine.{Issue}
 use Rattle.uprog_code.specs.declared.code.Uop.{Uop}
 use Rattle.uprog_code.specs.declared.code.Uop.TheVariants.{AddI, SetN, Mov, SubI, Bnez}
 use Rattle.uprog_code.specs.Shape.{Shape}
-use Rattle.loop_ir.specs.Loops.{rounds, positions, bits_in}
-use Rattle.loop_laws.proofs.Digits.{few_bits, some_bits}
+use Rattle.loop_ir.specs.Loops.{rounds, positions}
 use Rattle.uprog_gen.proofs.Running.Goes.{HasAt, has_front, has_back}
 use Rattle.loop_ir.specs.declared.ir.Count.{Count}
-use Rattle.loop_ir.specs.declared.ir.Count.TheVariants.{All as All_of, Rest, UpTo, Bits}
+use Rattle.loop_ir.specs.declared.ir.Count.TheVariants.{All as All_of, Rest, UpTo}
 use Rattle.uprog_gen.specs.declared.plan.Plan.{Plan}
 use Rattle.uprog_gen.specs.Code.{init, before, after, inits, befores, afters, counter, enter_code}
 use Rattle.uprog_gen.specs.Code.{turn_code}
 use Rattle.uprog_gen.proofs.Running.Runs.{Runs, run_then, run_loop, Changed, changed_again}
-use Rattle.uprog_gen.proofs.Running.Runs.{run_weaken, run_jump}
-use Rattle.uprog_gen.proofs.Running.Halving.{run_bits, within}
+use Rattle.uprog_gen.proofs.Running.Runs.{run_weaken, run_jump, run_more}
 use Rattle.uprog_gen.proofs.Running.Runs.{run_at, run_add, run_sub, run_set, IsAt, IsTop, run_init}
 use Rattle.uprog_gen.proofs.Running.Runs.{run_before, run_after, run_parts, Regs, change2, change3}
 use Rattle.uprog_gen.proofs.Running.Runs.{change4}
@@ -73,17 +71,20 @@ module _ (head : Shape) (code : List Uop) (n : ℕ) where
       change3 head code n F F' S T left o regs x d at)
       (f pc regs (outer_of F S T left o regs at) at.first hb)) p2
 
-  pub run_befores : (plan : Plan) (i o left : ℕ) → i < n → (pc : ℕ) (regs : List ℕ)
+  pub run_befores : (plan : Plan) (i o left : ℕ) → n ≤ WIDTH_MAX → i < n → o < n → (pc : ℕ)
+      (regs : List ℕ)
       → AtTop plan o left i regs → HasAt code pc (befores plan)
       → Runs head code n pc regs (length (befores plan)) [] (pc + length (befores plan))
       (AtBody plan o left i)
-  run_befores plan i o left li pc regs at has =
+  run_befores plan i o left small li lo pc regs at has =
       run_three (before plan.first 3) (before plan.second 4) (before plan.third 5) _ _ _ _ _ _ left
       o
-      (λ q r t h ha. run_before head code n plan.first 3 q i o r li (omega (arith, t.size)) h ha)
-      (λ q r t h ha. run_before head code n plan.second 4 q i o r li (omega (arith, t.size)) h ha)
-      (λ q r t h ha. run_before head code n plan.third 5 q i o r li (omega (arith, t.size)) h ha) pc
-      regs at has
+      (λ q r t h ha. run_before head code n plan.first 3 q i o r small li lo
+      (omega (arith, t.size)) h ha)
+      (λ q r t h ha. run_before head code n plan.second 4 q i o r small li lo
+      (omega (arith, t.size)) h ha)
+      (λ q r t h ha. run_before head code n plan.third 5 q i o r small li lo
+      (omega (arith, t.size)) h ha) pc regs at has
 
   pub run_afters : (plan : Plan) (i o left : ℕ) → n ≤ WIDTH_MAX → i < n → o < n
       → (pc : ℕ) (regs : List ℕ) → AtBody plan o left i regs → HasAt code pc (afters plan)
@@ -151,7 +152,7 @@ module _ (head : Shape) (code : List Uop) (n : ℕ) where
       run_parts head code n body (afters plan ++ (SubI 2 1 ∷ [])) q r cs [] B U h
       (λ ha. does q r g ha) p3 in
       let all = run_parts head code n (befores plan) (body ++ (afters plan ++ (SubI 2 1 ∷ []))) pc
-      regs [] (cs ++ []) B U has (λ ha. run_befores plan i o (m - i) (omega arith) pc regs t ha)
+      regs [] (cs ++ []) B U has (λ ha. run_befores plan i o (m - i) small (omega arith) lo pc regs t ha)
       p2 in
       subst (λ l. Runs head code n pc regs (length (turn_code plan body)) l (pc
       + length (turn_code plan body)) U) (append-nil cs) all
@@ -193,7 +194,7 @@ module _ (head : Shape) (code : List Uop) (n : ℕ) where
   run_straight : (a pc o m : ℕ) (regs : List ℕ) → o < n → IsOuter n o regs
       → Runs head code n pc regs a [] (pc + a) (Changed head code n 2 (λ v. v ≡ m) regs)
       → Runs head code n pc regs (n * a) [] (pc + a) (IsCounted o m)
-  run_straight a pc o m regs lo g run = within head code n regs pc (pc + a) regs a (n * a)
+  run_straight a pc o m regs lo g run = run_more head code n pc (pc + a) regs a (n * a) []
       (IsCounted o m) (grow n a lo)
       (run_weaken head code n pc (pc + a) regs a [] _ (IsCounted o m)
       (λ x c. counted o m regs x g c) run)
@@ -202,9 +203,9 @@ module _ (head : Shape) (code : List Uop) (n : ℕ) where
       grow n a h = let k : 0 < n = omega (arith, h) in grind arith
 
   run_counter : (count : Count) (pc o : ℕ) (regs : List ℕ) → n ≤ WIDTH_MAX → o < n
-      → IsOuter n o regs → HasAt code pc (counter count pc)
-      → Runs head code n pc regs (n * length (counter count pc)) []
-      (pc + length (counter count pc)) (IsCounted o (positions n o count))
+      → IsOuter n o regs → HasAt code pc (counter count)
+      → Runs head code n pc regs (n * length (counter count)) []
+      (pc + length (counter count)) (IsCounted o (positions n o count))
   run_counter All_of pc o regs small lo g has = run_straight 1 pc o n regs lo g
       (run_set head code n pc 2 n _ regs (SetN 2) has.0 (λ left. refl) (omega (arith, g.size)) refl)
   run_counter Rest pc o regs small lo g has = run_straight 2 pc o (n - o) regs lo g
@@ -212,38 +213,20 @@ module _ (head : Shape) (code : List Uop) (n : ℕ) where
       (omega (arith, small)) has)
   run_counter UpTo pc o regs small lo g has = run_straight 2 pc o (o + 1) regs lo g
       (run_one_more 0 o (o + 1) pc regs g.size g.outer (omega arith) (omega (arith, small, lo)) has)
-  run_counter Bits pc o regs small lo g has =
-      let end = pc + 1 + 1 + 1 + 1 + 1 + 1 + 1 + 1 + 1 + 1 + 1 + 1 + 1 in
-      let I = IsCounted o (positions n o Bits) in
-      let at : end ≡ pc + 13 = omega arith in
-      run_at head code n pc end (pc + 13) regs (n * 13) [] I at
-      (within head code n regs pc end regs (3 + 10 * (o + 1)) (n * 13) I (omega (arith, lo))
-      (run_weaken head code n pc end regs (3 + 10 * (o + 1)) [] _ I
-      (λ x c. record {
-        outer = record {
-          size = c.size;
-          outer = c.others 0 (λ e. absurd (omega arith)) (λ e. absurd (omega arith))
-              (λ e. absurd (omega arith)) ∙ g.outer;
-          down = c.others 1 (λ e. absurd (omega arith)) (λ e. absurd (omega arith))
-              (λ e. absurd (omega arith)) ∙ g.down;
-        };
-        turns = c.two_is;
-      })
-      (run_bits head code n regs o pc (omega (arith, small, lo)) g.size g.outer has)))
 
   pub run_enter : (plan : Plan) (count : Count) (pc o : ℕ) (regs : List ℕ) → n ≤ WIDTH_MAX → o < n
-      → IsOuter n o regs → HasAt code pc (enter_code plan count pc)
-      → Runs head code n pc regs (n * length (enter_code plan count pc)) [] (pc
-      + length (enter_code plan count pc)) (AtTop plan o (positions n o count) 0)
+      → IsOuter n o regs → HasAt code pc (enter_code plan count)
+      → Runs head code n pc regs (n * length (enter_code plan count)) [] (pc
+      + length (enter_code plan count)) (AtTop plan o (positions n o count) 0)
   run_enter plan count pc o regs small lo g has =
       let m = positions n o count in
-      let a = counter count pc in
+      let a = counter count in
       let b = inits plan in
       let e : pc + length a + length b ≡ pc + length (a ++ b) = omega (arith, length-append a b) in
       run_at head code n pc (pc + length a + length b) (pc + length (a ++ b)) regs
       (n * length (a ++ b)) [] (AtTop plan o m 0) e
-      (within head code n regs pc (pc + length a + length b) regs (n * length a + length b)
-      (n * length (a ++ b)) (AtTop plan o m 0)
+      (run_more head code n pc (pc + length a + length b) regs (n * length a + length b)
+      (n * length (a ++ b)) [] (AtTop plan o m 0)
       (together n (length a) (length b) (length (a ++ b)) lo (length-append a b))
       (run_then head code n pc (pc + length a) (pc + length a + length b) (n * length a) (length b)
       (n * length a + length b) regs [] [] (IsCounted o m) (AtTop plan o m 0) refl
@@ -257,29 +240,21 @@ module _ (head : Shape) (code : List Uop) (n : ℕ) where
 
   -- an inner loop, all of it
   abbrev pub each_code : Plan → Count → List Uop → ℕ → List Uop
-  each_code plan count body pc = enter_code plan count pc
-      ++ (turn_code plan body ++ (Bnez 2 (pc + length (enter_code plan count pc)) ∷ []))
+  each_code plan count body pc = enter_code plan count
+      ++ (turn_code plan body ++ (Bnez 2 (pc + length (enter_code plan count)) ∷ []))
 
-  pub run_each : (plan : Plan) (count : Count) (body : List Uop) (pc o : ℕ) (regs : List ℕ) (cs : ℕ
-      → List Issue) → n ≤ WIDTH_MAX → o < n → IsOuter n o regs
-      → HasAt code pc (each_code plan count body pc)
-      → ((i q : ℕ) (r : List ℕ) → i < positions n o count
-      → AtBody plan o (positions n o count - i) i r → HasAt code q body
-      → Runs head code n q r (length body) (cs i) (q + length body)
-      (AtBody plan o (positions n o count - i) i))
-      → Runs head code n pc regs (n * length (enter_code plan count pc) + positions n o count
-      * (length (turn_code plan body) + 1)) (rounds cs 0 (positions n o count)) (pc
-      + length (each_code plan count body pc)) (IsOuter n o)
-  run_each plan count body pc o regs cs small lo g has does =
-      let m = positions n o count in
-      let head_code = enter_code plan count pc in
+  -- all turns, from the first one on
+  pub run_rounds : (plan : Plan) (body : List Uop) (m l o : ℕ) (regs : List ℕ) (cs : ℕ
+      → List Issue) → n ≤ WIDTH_MAX → o < n → 0 < m → m ≤ n → AtTop plan o m 0 regs
+      → HasAt code l (turn_code plan body ++ (Bnez 2 l ∷ []))
+      → ((i q : ℕ) (r : List ℕ) → i < m → AtBody plan o (m - i) i r → HasAt code q body
+      → Runs head code n q r (length body) (cs i) (q + length body) (AtBody plan o (m - i) i))
+      → Runs head code n l regs (m * (length (turn_code plan body) + 1)) (rounds cs 0 m)
+      (l + length (turn_code plan body) + 1) (IsOuter n o)
+  run_rounds plan body m l o regs cs small lo some le t has does =
       let turn_of = turn_code plan body in
-      let l = pc + length head_code in
-      let loop = has_back code pc head_code (turn_of ++ (Bnez 2 l ∷ [])) has in
-      let jump = has_back code l turn_of (Bnez 2 l ∷ []) loop in
+      let jump = has_back code l turn_of (Bnez 2 l ∷ []) has in
       let end = l + length turn_of + 1 in
-      let some = positive count in
-      let le = at_most count in
       let I = λ (j : ℕ) (r : List ℕ). AtTop plan o (m - j) j r in
       let turn_then = λ (j : ℕ) (r : List ℕ) (again : Bool) (lj : j < m) (test : (m - (j + 1) == 0)
       ≡ again) (t : I j r).
@@ -289,42 +264,57 @@ module _ (head : Shape) (code : List Uop) (n : ℕ) where
       (append-nil (cs j))
       (run_then head code n l (l + length turn_of) (cond again end l) (length turn_of) 1
       (length turn_of + 1) r (cs j) [] (I (j + 1)) (I (j + 1)) refl
-      (run_turn plan body o m j l r (cs j) small lo le lj t (has_front code l turn_of _ loop)
+      (run_turn plan body o m j l r (cs j) small lo le lj t (has_front code l turn_of _ has)
       (λ q x at hb. does j q x lj at hb))
       (λ x t'. run_jump head code n (l + length turn_of) 2 l x again (I (j + 1)) jump.0
       (ap (λ v. v == 0) t'.left_is ∙ test) t'))) in
       let up : suc (m - 1) ≡ m = omega (arith, some) in
-      let first = run_enter plan count pc o regs small lo g (has_front code pc head_code _ has) in
+      let zero_off : m ≡ m - 0 = omega arith in
+      run_weaken head code n l end regs _ (rounds cs 0 m) (I m) (IsOuter n o) (λ x y.
+      record { size = y.size; outer = y.outer; down = y.down })
+      (subst (λ q. Runs head code n l regs (q * (length turn_of + 1)) (rounds cs 0 q) end (I m)) up
+      (run_loop head code n l end m (length turn_of + 1) I cs
+      (λ j x lj t'. turn_then j x false (omega arith)
+      (ne_eqb (m - (j + 1)) 0 (λ e. absurd (omega arith))) t')
+      (λ j x ej t'. turn_then j x true (omega arith) (eq-eqb (m - (j + 1)) 0 (omega arith)) t')
+      0 (m - 1) regs (omega (arith, some)) (subst (λ q. AtTop plan o q 0 regs) zero_off t)))
+
+  pub run_each : (plan : Plan) (count : Count) (body : List Uop) (pc o : ℕ) (regs : List ℕ) (cs : ℕ
+      → List Issue) → n ≤ WIDTH_MAX → o < n → IsOuter n o regs
+      → HasAt code pc (each_code plan count body pc)
+      → ((i q : ℕ) (r : List ℕ) → i < positions n o count
+      → AtBody plan o (positions n o count - i) i r → HasAt code q body
+      → Runs head code n q r (length body) (cs i) (q + length body)
+      (AtBody plan o (positions n o count - i) i))
+      → Runs head code n pc regs (n * length (enter_code plan count) + positions n o count
+      * (length (turn_code plan body) + 1)) (rounds cs 0 (positions n o count)) (pc
+      + length (each_code plan count body pc)) (IsOuter n o)
+  run_each plan count body pc o regs cs small lo g has does =
+      let m = positions n o count in
+      let head_code = enter_code plan count in
+      let turn_of = turn_code plan body in
+      let l = pc + length head_code in
+      let loop = has_back code pc head_code (turn_of ++ (Bnez 2 l ∷ [])) has in
+      let end = l + length turn_of + 1 in
       let at_end : end ≡ pc + length (each_code plan count body pc) =
       omega (
         arith,
         length-append head_code (turn_of ++ (Bnez 2 l ∷ [])),
         length-append turn_of (Bnez 2 l ∷ []),
       ) in
-      let zero_off : m ≡ m - 0 = omega arith in
       run_at head code n pc end (pc + length (each_code plan count body pc)) regs _ (rounds cs 0 m)
       (IsOuter n o) at_end
       (run_then head code n pc l end (n * length head_code) (m * (length turn_of + 1)) (n
       * length head_code + m * (length turn_of + 1)) regs [] (rounds cs 0 m) _ (IsOuter n o) refl
-      first
-      (λ r t. run_weaken head code n l end r _ (rounds cs 0 m) (I m) (IsOuter n o) (λ x y.
-      record { size = y.size; outer = y.outer; down = y.down })
-      (subst (λ q. Runs head code n l r (q * (length turn_of + 1)) (rounds cs 0 q) end (I m)) up
-      (run_loop head code n l end m (length turn_of + 1) I cs
-      (λ j x lj t'. turn_then j x false (omega arith)
-      (ne_eqb (m - (j + 1)) 0 (λ e. absurd (omega arith))) t')
-      (λ j x ej t'. turn_then j x true (omega arith) (eq-eqb (m - (j + 1)) 0 (omega arith)) t')
-      0 (m - 1) r (omega (arith, some)) (subst (λ q. AtTop plan o q 0 r) zero_off t)))))
+      (run_enter plan count pc o regs small lo g (has_front code pc head_code _ has))
+      (λ r t. run_rounds plan body m l o r cs small lo (positive count) (at_most count) t loop does))
     where
       positive : (c : Count) → 0 < positions n o c
       positive All_of = omega arith
       positive Rest = omega arith
       positive UpTo = omega arith
-      positive Bits = let one : suc o ≡ o + 1 = omega arith in
-          subst (λ k. 0 < bits_in k) one (some_bits o)
 
       at_most : (c : Count) → positions n o c ≤ n
       at_most All_of = omega arith
       at_most Rest = omega arith
       at_most UpTo = omega arith
-      at_most Bits = omega (arith, few_bits (o + 1))

@@ -2,28 +2,31 @@
 use Rattle.std.proofs.Common.{◌≡◌, ℕ, zero, suc, ◌+◌, ◌-◌, ◌*◌, ◌<◌, ◌≤◌, Bool, true, false}
 use Rattle.std.proofs.Common.{cond, List, [], ◌∷◌, ◌++◌, map, length, Some, refl, sym, ap, ◌∙◌}
 use Rattle.std.proofs.Common.{subst, ⊎_elim, arith, append-nil, append_assoc, length-append}
-use Rattle.std.specs.Prelude.{slice_get, slice_index, ◌==◌}
+use Rattle.std.specs.Prelude.{slice_get, slice_index, ◌==◌, ◌%◌, ◌||◌}
 use Rattle.std.specs.List.{AllByRecursion, list_all}
 use Rattle.std.proofs.Math.Nat.{mul-le-mul_right}
 use Rattle.std.proofs.lemmas.Bool.{cases_eq, and_parts, eq-eqb, ne_eqb}
 use Rattle.uprog_code.specs.Machine.{Issue, Ended, issue, act_at, onto, trace, start}
 use Rattle.uprog_code.specs.declared.code.Uop.{Uop}
-use Rattle.uprog_code.specs.declared.code.Uop.TheVariants.{Done, SetI, SetT, AddI, Bnez}
+use Rattle.uprog_code.specs.declared.code.Uop.TheVariants.{Done, SetI, SetT, Mov, AddI, Bnez}
 use Rattle.uprog_code.specs.Shape.{Shape}
 use Rattle.loop_ir.specs.Loops.{rounds, RoundOf, round_at, one_round, positions, inner_rounds}
-use Rattle.loop_ir.specs.Loops.{step_rounds, all_rounds}
-use Rattle.loop_laws.proofs.Digits.{few_bits}
+use Rattle.loop_ir.specs.Loops.{elements, two_rounds, step_rounds, all_rounds}
+use Rattle.loop_laws.proofs.Levels.{pairs_of, room_for_level}
 use Rattle.uprog_gen.proofs.Running.Goes.{HasAt, has_front, has_back, has_all, Goes}
-use Rattle.loop_ir.specs.declared.ir.Sub.TheVariants.{Zero}
+use Rattle.loop_ir.specs.declared.ir.Sub.TheVariants.{Zero, Outer, OuterDown, SumTwice}
+use Rattle.loop_ir.specs.declared.ir.Sub.TheVariants.{AboveSumTwice, AboveSum}
 use Rattle.loop_ir.specs.declared.ir.Place.{Place}
 use Rattle.loop_ir.specs.declared.ir.Count.{Count}
-use Rattle.loop_ir.specs.declared.ir.Count.TheVariants.{All as All_of, Rest, UpTo, Bits}
-use Rattle.loop_ir.specs.Plain.{InnerOf, StepOf, step_map}
-use Rattle.loop_ir.specs.Limits.{stays_inner, step_stands}
-use Rattle.loop_ir.specs.Plain.InnerOf.{Alone, Across}
+use Rattle.loop_ir.specs.declared.ir.Count.TheVariants.{All as All_of, Rest, UpTo}
+use Rattle.loop_ir.specs.Plain.{InnerOf, StepOf, inner_map, step_map}
+use Rattle.loop_ir.specs.Limits.{stays_inner, stays_in_pair, inner_stands, step_stands}
+use Rattle.loop_ir.specs.Plain.InnerOf.{Alone, Across, IfOdd, Halves}
 use Rattle.loop_ir.specs.Plain.StepOf.{Single, Along, Nest, Pairs, Alternate}
 use Rattle.loop_ir.specs.Spots.{nth_place}
 use Rattle.uprog_gen.specs.Code.{Part, IsPlanned, inits, befores, enter_code, turn_code, body_uops}
+use Rattle.uprog_gen.specs.Code.{is_planned, level_code, skip_code, odd_code, pair_plan}
+use Rattle.uprog_gen.specs.Code.{pair_uops, pairing_code, halves_code}
 use Rattle.uprog_gen.specs.Code.{once_code, loop_code, inner_code, inner_list, nest_code, outside}
 use Rattle.uprog_gen.specs.Code.{block_of_part, blocks, pairs_code, cycle_code, step_code}
 use Rattle.uprog_gen.specs.Code.{program_code}
@@ -35,7 +38,9 @@ use Rattle.loop_ir.specs.Costs.{is_fixed, same_sub}
 use Rattle.uprog_gen.proofs.Running.Runs.{Runs, run_then, run_none, run_weaken, run_at, run_set}
 use Rattle.uprog_gen.proofs.Running.Runs.{run_parts, run_sub, run_jump, run_more}
 use Rattle.uprog_gen.proofs.Running.Turns.{InRange, run_cycle}
+use Rattle.uprog_gen.proofs.Running.Halving.{Halves as Halved, run_level}
 use Rattle.uprog_gen.proofs.Running.Each.{AtBody, AtTop, IsOuter, run_each, run_inits, run_befores}
+use Rattle.uprog_gen.proofs.Running.Each.{run_rounds}
 use Rattle.uprog_gen.proofs.Running.Nest.{run_nest}
 use Rattle.uprog_gen.proofs.Running.Held.{names_at, names_fixed, run_body, same_true}
 use Rattle.bit_rows.specs.declared.TheConstants.{WIDTH_MAX}
@@ -103,6 +108,44 @@ zero_back (x ∷ xs) ys h k =
     zero_back xs ys (and_parts (same_sub x.sub Zero)
     (list_all (λ p. same_sub p.sub Zero) (xs ++ ys)) h).1 k
 
+-- a subscript of a pair's bodies is planned
+pair_sub : (z o u f s t : Bool) → (z || (f || (s || t))) ≡ true
+    → (z || (o || (u || (f || (s || t))))) ≡ true
+pair_sub true o u f s t h = refl
+pair_sub false true u f s t h = refl
+pair_sub false false true f s t h = refl
+pair_sub false false false f s t h = h
+
+abbrev in_pair : Place → Bool
+in_pair p = same_sub p.sub Zero || (same_sub p.sub SumTwice || (same_sub p.sub AboveSumTwice
+    || same_sub p.sub AboveSum))
+
+planned_place : (p : Place) → in_pair p ≡ true → is_planned pair_plan p.sub ≡ true
+planned_place p h = pair_sub (same_sub p.sub Zero) (same_sub p.sub Outer)
+    (same_sub p.sub OuterDown) (same_sub p.sub SumTwice) (same_sub p.sub AboveSumTwice)
+    (same_sub p.sub AboveSum) h
+
+pair_front : (xs ys : List Place) → list_all in_pair (xs ++ ys) ≡ true → (k : ℕ)
+    → is_planned pair_plan (nth_place xs k).sub ≡ true
+pair_front [] ys h k = refl
+pair_front (x ∷ xs) ys h zero = planned_place x
+    (and_parts (in_pair x) (list_all in_pair (xs ++ ys)) h).0
+pair_front (x ∷ xs) ys h (suc k) = pair_front xs ys
+    (and_parts (in_pair x) (list_all in_pair (xs ++ ys)) h).1 k
+
+pair_back : (xs ys : List Place) → list_all in_pair (xs ++ ys) ≡ true → (k : ℕ)
+    → is_planned pair_plan (nth_place ys k).sub ≡ true
+pair_back [] ys h k = pair_front ys []
+    (subst (λ l. list_all in_pair l ≡ true) (sym (append-nil ys)) h) k
+pair_back (x ∷ xs) ys h k = pair_back xs ys
+    (and_parts (in_pair x) (list_all in_pair (xs ++ ys)) h).1 k
+
+pair_planned : (p : Part) → stays_in_pair p.block ≡ true → IsPlanned pair_plan p.block
+pair_planned p h = record {
+  reads = pair_front p.block.reads p.block.writes h;
+  writes = pair_back p.block.reads p.block.writes h;
+}
+
 -- how many instructions are done at most for each that stands in code of at most 4096
 abbrev most_turns : ℕ
 most_turns = WIDTH_MAX * WIDTH_MAX - 1
@@ -127,7 +170,7 @@ module _ (head : Shape) (code : List Uop) (n : ℕ) (some : 0 < n) (small : n �
       (names_at head code n plan p.block left 0 o r ok.planned h) h ha ok.ranges) in
       let next = λ (q : ℕ) (r : List ℕ) (h : T r) (ha : HasAt code q (befores plan ++ is)).
       run_parts head code n (befores plan) is q r [] cs A (IsOuter n o) ha
-      (λ hb. run_befores head code n plan 0 o left some q r h hb) last in
+      (λ hb. run_befores head code n plan 0 o left small some lo q r h hb) last in
       subst (λ l. Runs head code n pc regs (length (once_code p)) l (pc + length (once_code p))
       (IsOuter n o)) (sym (append-nil cs))
       (run_parts head code n (inits plan) (befores plan ++ is) pc regs [] cs T (IsOuter n o) has
@@ -144,7 +187,7 @@ module _ (head : Shape) (code : List Uop) (n : ℕ) (some : 0 < n) (small : n �
       let plan = p.plan in
       let m = positions n o count in
       let is = body_uops p in
-      let a = enter_code plan count pc in
+      let a = enter_code plan count in
       let t = turn_code plan is in
       let cs = λ (i : ℕ). rounds_commands n (one_round p i o) in
       let run = run_each head code n plan count is pc o regs cs small lo g has
@@ -173,40 +216,319 @@ module _ (head : Shape) (code : List Uop) (n : ℕ) (some : 0 < n) (small : n �
       at_most All_of = omega arith
       at_most Rest = omega arith
       at_most UpTo = omega arith
-      at_most Bits = omega (arith, few_bits (o + 1))
 
       few : (n a t x size : ℕ) → x ≤ n * t → size ≡ a + t → n * a + x ≤ n * size
       few n a t x size le e = rw e (omega (arith, le))
 
+  -- a number times what it is at most
+  grows : (x : ℕ) → x ≤ n * x
+  grows x = grow n x some
+    where
+      grow : (n x : ℕ) → 0 < n → x ≤ n * x
+      grow n x h = grind arith
+
+  after_level : (o e h d : ℕ) (old regs : List ℕ) → IsOuter n o old → Halved old 0 e h d regs
+      → IsOuter n o regs
+  after_level o e h d old regs g k = record {
+    size = k.size;
+    outer = k.zero_is ∙ g.outer;
+    down = k.one_is ∙ g.down;
+  }
+
+  -- where the register is 0
+  run_past : (r pc o end : ℕ) (regs : List ℕ) → slice_index regs r ≡ 0 → IsOuter n o regs
+      → HasAt code pc (skip_code r pc end) → Runs head code n pc regs 3 [] end (IsOuter n o)
+  run_past r pc o end regs zero_is g has =
+      run_then head code n pc (pc + 1) end 1 2 3 regs [] [] (IsOuter n o) (IsOuter n o) refl
+      (run_jump head code n pc r (pc + 3) regs true (IsOuter n o) has.0
+      (ap (λ v. v == 0) zero_is) g)
+      (λ x h. run_then head code n (pc + 1) (pc + 1 + 1) end 1 1 2 x [] [] _ (IsOuter n o) refl
+      (run_set head code n (pc + 1) 7 1 (λ v. v ≡ 1) x (SetI 7 1) has.1.0 (λ left. refl)
+      (omega (arith, h.size)) refl)
+      (λ y c. run_jump head code n (pc + 1 + 1) 7 end y false (IsOuter n o) has.1.1.0
+      (ap (λ v. v == 0) c.this) (record {
+        size = c.size ∙ h.size;
+        outer = c.others 0 (λ e. absurd (omega arith)) ∙ h.outer;
+        down = c.others 1 (λ e. absurd (omega arith)) ∙ h.down;
+      })))
+
+  -- a body where a level has an odd number of elements
+  run_odd : (p : Part) (pc o : ℕ) (regs : List ℕ) → o < n → IsOuter n o regs
+      → HasAt code pc (odd_code p pc)
+      → AllByRecursion (IsGood head n) (rounds (λ i. one_round p i o) 0 (elements n o % 2))
+      → Runs head code n pc regs (n * length (odd_code p pc))
+      (rounds_commands n (rounds (λ i. one_round p i o) 0 (elements n o % 2)))
+      (pc + length (odd_code p pc)) (IsOuter n o)
+  run_odd p pc o regs lo g has ok = by (elements n o % 2) refl ok
+    where
+      level : List Uop
+      level = level_code pc
+
+      body : List Uop
+      body = once_code p
+
+      end : ℕ
+      end = pc + 19 + length body
+
+      skip : List Uop
+      skip = skip_code 5 (pc + 16) end
+
+      long : length (odd_code p pc) ≡ 19 + length body
+      long = omega arith
+
+      rest : HasAt code (pc + 16) (skip ++ body)
+      rest = has_back code pc level (skip ++ body) has
+
+      found : Runs head code n pc regs (n * 16) [] (pc + 16)
+          (λ x. (d : ℕ) × Halved regs 0 (elements n o % 2) (elements n (o + 1)) d x)
+      found = run_level head code n regs o pc lo small g.size g.outer
+          (has_front code pc level (skip ++ body) has)
+
+      at_body : HasAt code (pc + 19) body
+      at_body = let e : pc + 16 + 3 ≡ pc + 19 = omega arith in
+          subst (λ l. HasAt code l body) e (has_back code (pc + 16) skip body rest)
+
+      at_end : end ≡ pc + length (odd_code p pc)
+      at_end = omega (arith, long)
+
+      room : n * 16 + (1 + length body) ≤ n * length (odd_code p pc)
+      room = fits n (length body) (length (odd_code p pc)) (grows (length body)) some long
+        where
+          fits : (n b l : ℕ) → b ≤ n * b → 0 < n → l ≡ 19 + b → n * 16 + (1 + b) ≤ n * l
+          fits n b l le some e = rw e (omega (arith, le, some))
+
+      by : (k : ℕ) → elements n o % 2 ≡ k
+          → AllByRecursion (IsGood head n) (rounds (λ i. one_round p i o) 0 k)
+          → Runs head code n pc regs (n * length (odd_code p pc))
+          (rounds_commands n (rounds (λ i. one_round p i o) 0 k))
+          (pc + length (odd_code p pc)) (IsOuter n o)
+      by zero e ok = run_at head code n pc end (pc + length (odd_code p pc)) regs _ [] (IsOuter n o)
+          at_end
+          (run_more head code n pc end regs (n * 16 + 3) (n * length (odd_code p pc)) []
+          (IsOuter n o) (omega (arith, long, some))
+          (run_then head code n pc (pc + 16) end (n * 16) 3 (n * 16 + 3) regs [] [] _ (IsOuter n o)
+          refl found
+          (λ x h. run_past 5 (pc + 16) o end x (h.1.five_is ∙ e)
+          (after_level o (elements n o % 2) (elements n (o + 1)) h.0 regs x g h.1)
+          (has_front code (pc + 16) skip body rest))))
+      by (suc zero) e ok =
+          let cs = rounds_commands n (one_round p 0 o) in
+          let finish : end ≡ pc + 19 + length body = refl in
+          subst (λ l. Runs head code n pc regs (n * length (odd_code p pc)) (rounds_commands n l)
+          (pc + length (odd_code p pc)) (IsOuter n o)) (sym (append-nil (one_round p 0 o)))
+          (run_at head code n pc end (pc + length (odd_code p pc)) regs _ cs (IsOuter n o) at_end
+          (run_more head code n pc end regs (n * 16 + (1 + length body))
+          (n * length (odd_code p pc)) cs (IsOuter n o) room
+          (run_then head code n pc (pc + 16) end (n * 16) (1 + length body)
+          (n * 16 + (1 + length body)) regs [] cs _ (IsOuter n o) refl found
+          (λ x h. run_then head code n (pc + 16) (pc + 19) end 1 (length body) (1 + length body) x []
+          cs (IsOuter n o) (IsOuter n o) refl
+          (run_at head code n (pc + 16) (pc + 16 + 3) (pc + 19) x 1 [] (IsOuter n o) (omega arith)
+          (run_jump head code n (pc + 16) 5 (pc + 16 + 3) x false (IsOuter n o)
+          (has_front code (pc + 16) skip body rest).0
+          (ap (λ v. v == 0) (h.1.five_is ∙ e))
+          (after_level o (elements n o % 2) (elements n (o + 1)) h.0 regs x g h.1)))
+          (λ y k. run_once p (pc + 19) o y lo k at_body ok.0)))))
+      by (suc (suc k)) e ok = absurd (omega (arith, e))
+
+  -- two bodies at each pair of a level's elements
+  run_pairing : (p q : Part) (m pc o : ℕ) (regs : List ℕ) → o < n → 0 < m → m ≤ n → IsOuter n o regs
+      → slice_index regs 2 ≡ m → stays_in_pair p.block ≡ true → stays_in_pair q.block ≡ true
+      → HasAt code pc (pairing_code p q pc)
+      → AllByRecursion (IsGood head n) (rounds (λ i. two_rounds p q i o) 0 m)
+      → Runs head code n pc regs (n * length (pairing_code p q pc))
+      (rounds_commands n (rounds (λ i. two_rounds p q i o) 0 m))
+      (pc + length (pairing_code p q pc)) (IsOuter n o)
+  run_pairing p q m pc o regs lo more le g two sp sq has ok =
+      let start = inits pair_plan in
+      let us = pair_uops p ++ pair_uops q in
+      let turn_of = turn_code pair_plan us in
+      let l = pc + length start in
+      let jump = Bnez 2 l ∷ [] in
+      let end = l + length turn_of + 1 in
+      let cs = λ (i : ℕ). rounds_commands n (two_rounds p q i o) in
+      let loop = has_back code pc start (turn_of ++ jump) has in
+      let at_end : end ≡ pc + length (pairing_code p q pc) =
+      omega (arith, length-append start (turn_of ++ jump), length-append turn_of jump) in
+      let long : length (pairing_code p q pc) ≡ length start + (length turn_of + 1) =
+      omega (arith, length-append start (turn_of ++ jump), length-append turn_of jump) in
+      let most : m * (length turn_of + 1) ≤ n * (length turn_of + 1) =
+      mul-le-mul_right (length turn_of + 1) le in
+      subst (λ c. Runs head code n pc regs (n * length (pairing_code p q pc)) c
+      (pc + length (pairing_code p q pc)) (IsOuter n o))
+      (sym (commands_rounds n (λ i. two_rounds p q i o) 0 m))
+      (run_at head code n pc end (pc + length (pairing_code p q pc)) regs _ (rounds cs 0 m)
+      (IsOuter n o) at_end
+      (run_more head code n pc end regs (length start + m * (length turn_of + 1))
+      (n * length (pairing_code p q pc)) (rounds cs 0 m) (IsOuter n o)
+      (fits n (length start) (m * (length turn_of + 1)) (length turn_of + 1)
+      (length (pairing_code p q pc)) (grows (length start)) most long)
+      (run_then head code n pc l end (length start) (m * (length turn_of + 1))
+      (length start + m * (length turn_of + 1)) regs [] (rounds cs 0 m) _ (IsOuter n o) refl
+      (run_inits head code n pair_plan o m small lo pc regs g two
+      (has_front code pc start (turn_of ++ jump) has))
+      (λ r t. run_rounds head code n pair_plan us m l o r cs small lo more le t loop
+      (λ i w x li h ha.
+      let A = AtBody head code n pair_plan o (m - i) i in
+      let both = each_all (IsGood head n) (λ j. two_rounds p q j o) 0 m i (omega arith)
+      (omega (arith, li)) ok in
+      let ca = map (round_command n (round_at p i o)) p.cmds in
+      let cb = map (round_command n (round_at q i o)) q.cmds in
+      subst (λ c. Runs head code n w x (length us) (ca ++ c) (w + length us) A)
+      (sym (append-nil cb))
+      (run_parts head code n (pair_uops p) (pair_uops q) w x ca cb A A ha
+      (λ hb. run_body head code n p pair_plan i o A p.cmds w x
+      (names_at head code n pair_plan p.block (m - i) i o x (pair_planned p sp) h) h hb
+      both.0.ranges)
+      (λ v y k hb. run_body head code n q pair_plan i o A q.cmds v y
+      (names_at head code n pair_plan q.block (m - i) i o y (pair_planned q sq) k) k hb
+      both.1.0.ranges)))))))
+    where
+      fits : (n a x t l : ℕ) → a ≤ n * a → x ≤ n * t → l ≡ a + t → a + x ≤ n * l
+      fits n a x t l la lx e = rw e (omega (arith, la, lx))
+
+  run_halves : (p q : Part) (pc o : ℕ) (regs : List ℕ) → o < n → IsOuter n o regs
+      → stays_in_pair p.block ≡ true → stays_in_pair q.block ≡ true
+      → HasAt code pc (halves_code p q pc)
+      → AllByRecursion (IsGood head n) (rounds (λ i. two_rounds p q i o) 0 (elements n (o + 1)))
+      → Runs head code n pc regs (n * length (halves_code p q pc))
+      (rounds_commands n (rounds (λ i. two_rounds p q i o) 0 (elements n (o + 1))))
+      (pc + length (halves_code p q pc)) (IsOuter n o)
+  run_halves p q pc o regs lo g sp sq has ok = by (elements n (o + 1)) refl ok
+    where
+      level : List Uop
+      level = level_code pc
+
+      body : List Uop
+      body = pairing_code p q (pc + 20)
+
+      end : ℕ
+      end = pc + 20 + length body
+
+      skip : List Uop
+      skip = skip_code 2 (pc + 17) end
+
+      long : length (halves_code p q pc) ≡ 20 + length body
+      long = omega arith
+
+      rest : HasAt code (pc + 16) (Mov 2 6 ∷ (skip ++ body))
+      rest = has_back code pc level (Mov 2 6 ∷ (skip ++ body)) has
+
+      past : HasAt code (pc + 17) (skip ++ body)
+      past = let e : pc + 16 + 1 ≡ pc + 17 = omega arith in
+          subst (λ l. HasAt code l (skip ++ body)) e rest.1
+
+      at_body : HasAt code (pc + 20) body
+      at_body = let e : pc + 17 + 3 ≡ pc + 20 = omega arith in
+          subst (λ l. HasAt code l body) e (has_back code (pc + 17) skip body past)
+
+      at_end : end ≡ pc + length (halves_code p q pc)
+      at_end = omega (arith, long)
+
+      -- register 2 holds how many pairs there are
+      Ready : List ℕ → Type 0
+      Ready x = IsOuter n o x × (slice_index x 2 ≡ elements n (o + 1))
+
+      found : Runs head code n pc regs (n * 16 + 1) [] (pc + 17) Ready
+      found =
+          let e = elements n o % 2 in
+          let h = elements n (o + 1) in
+          run_then head code n pc (pc + 16) (pc + 17) (n * 16) 1 (n * 16 + 1) regs [] [] _ Ready refl
+          (run_level head code n regs o pc lo small g.size g.outer
+          (has_front code pc level (Mov 2 6 ∷ (skip ++ body)) has))
+          (λ x k. run_at head code n (pc + 16) (pc + 16 + 1) (pc + 17) x 1 [] Ready (omega arith)
+          (run_weaken head code n (pc + 16) (pc + 16 + 1) x 1 [] _ Ready
+          (λ y c. (
+            record {
+              size = c.size ∙ k.1.size;
+              outer = c.others 0 (λ z. absurd (omega arith)) ∙ k.1.zero_is ∙ g.outer;
+              down = c.others 1 (λ z. absurd (omega arith)) ∙ k.1.one_is ∙ g.down;
+            },
+            c.this,
+          ))
+          (run_set head code n (pc + 16) 2 (slice_index x 6) (λ v. v ≡ h) x (Mov 2 6) rest.0
+          (λ left. refl) (omega (arith, k.1.size)) k.1.six_is)))
+
+      room : n * 16 + 1 + (1 + n * length body) ≤ n * length (halves_code p q pc)
+      room = fits n (length body) (length (halves_code p q pc)) some long
+        where
+          fits : (n b l : ℕ) → 0 < n → l ≡ 20 + b → n * 16 + 1 + (1 + n * b) ≤ n * l
+          fits n b l some e = rw e (omega (arith, some))
+
+      few : elements n (o + 1) ≤ n
+      few = omega (arith, pairs_of n o, room_for_level n o (omega (arith, lo)))
+
+      by : (k : ℕ) → elements n (o + 1) ≡ k
+          → AllByRecursion (IsGood head n) (rounds (λ i. two_rounds p q i o) 0 k)
+          → Runs head code n pc regs (n * length (halves_code p q pc))
+          (rounds_commands n (rounds (λ i. two_rounds p q i o) 0 k))
+          (pc + length (halves_code p q pc)) (IsOuter n o)
+      by zero e ok = run_at head code n pc end (pc + length (halves_code p q pc)) regs _ []
+          (IsOuter n o) at_end
+          (run_more head code n pc end regs (n * 16 + 1 + 3) (n * length (halves_code p q pc)) []
+          (IsOuter n o) (omega (arith, long, some))
+          (run_then head code n pc (pc + 17) end (n * 16 + 1) 3 (n * 16 + 1 + 3) regs [] [] Ready
+          (IsOuter n o) refl found
+          (λ x h. run_past 2 (pc + 17) o end x (h.1 ∙ e) h.0
+          (has_front code (pc + 17) skip body past))))
+      by (suc k) e ok =
+          let cs = rounds_commands n (rounds (λ i. two_rounds p q i o) 0 (suc k)) in
+          run_at head code n pc end (pc + length (halves_code p q pc)) regs _ cs (IsOuter n o) at_end
+          (run_more head code n pc end regs (n * 16 + 1 + (1 + n * length body))
+          (n * length (halves_code p q pc)) cs (IsOuter n o) room
+          (run_then head code n pc (pc + 17) end (n * 16 + 1) (1 + n * length body)
+          (n * 16 + 1 + (1 + n * length body)) regs [] cs Ready (IsOuter n o) refl found
+          (λ x h. run_then head code n (pc + 17) (pc + 20) end 1 (n * length body)
+          (1 + n * length body) x [] cs Ready (IsOuter n o) refl
+          (run_at head code n (pc + 17) (pc + 17 + 3) (pc + 20) x 1 [] Ready (omega arith)
+          (run_jump head code n (pc + 17) 2 (pc + 17 + 3) x false Ready
+          (has_front code (pc + 17) skip body past).0 (ap (λ v. v == 0) (h.1 ∙ e)) h))
+          (λ y j. run_pairing p q (suc k) (pc + 20) o y lo (omega arith) (omega (arith, few, e)) j.0
+          (j.1 ∙ e) sp sq at_body ok))))
+
   run_inner : (x : InnerOf Part) (pc o : ℕ) (regs : List ℕ) → o < n → IsOuter n o regs
+      → inner_stands (inner_map block_of_part x) ≡ true
       → HasAt code pc (inner_code x pc) → AllByRecursion (IsGood head n) (inner_rounds n o (x ∷ []))
       → Runs head code n pc regs (n * length (inner_code x pc))
       (rounds_commands n (inner_rounds n o (x ∷ []))) (pc + length (inner_code x pc)) (IsOuter n o)
-  run_inner (Alone p) pc o regs lo g has ok =
+  run_inner (Alone p) pc o regs lo g stand has ok =
       run_more head code n pc _ regs (length (once_code p)) (n * length (once_code p)) _ (IsOuter n o)
       (grow n (length (once_code p)) some) (run_once p pc o regs lo g has ok.0)
     where
       grow : (n x : ℕ) → 0 < n → x ≤ n * x
       grow n x h = grind arith
-  run_inner (Across count p) pc o regs lo g has ok =
+  run_inner (Across count p) pc o regs lo g stand has ok =
       let rs = rounds (λ i. one_round p i o) 0 (positions n o count) in
       subst (λ l. Runs head code n pc regs (n * length (loop_code count p pc)) (rounds_commands n l)
       (pc + length (loop_code count p pc)) (IsOuter n o)) (sym (append-nil rs))
       (run_loop_of count p pc o regs lo g has (front_all (IsGood head n) rs [] ok))
+  run_inner (IfOdd p) pc o regs lo g stand has ok =
+      let rs = rounds (λ i. one_round p i o) 0 (elements n o % 2) in
+      subst (λ l. Runs head code n pc regs (n * length (odd_code p pc)) (rounds_commands n l)
+      (pc + length (odd_code p pc)) (IsOuter n o)) (sym (append-nil rs))
+      (run_odd p pc o regs lo g has (front_all (IsGood head n) rs [] ok))
+  run_inner (Halves p q) pc o regs lo g stand has ok =
+      let rs = rounds (λ i. two_rounds p q i o) 0 (elements n (o + 1)) in
+      let both = and_parts (stays_in_pair p.block) (stays_in_pair q.block) stand in
+      subst (λ l. Runs head code n pc regs (n * length (halves_code p q pc)) (rounds_commands n l)
+      (pc + length (halves_code p q pc)) (IsOuter n o)) (sym (append-nil rs))
+      (run_halves p q pc o regs lo g both.0 both.1 has (front_all (IsGood head n) rs [] ok))
 
   run_inners : (xs : List (InnerOf Part)) (pc o : ℕ) (regs : List ℕ) → o < n → IsOuter n o regs
+      → list_all inner_stands (map (inner_map block_of_part) xs) ≡ true
       → HasAt code pc (inner_list xs pc) → AllByRecursion (IsGood head n) (inner_rounds n o xs)
       → Runs head code n pc regs (n * length (inner_list xs pc))
       (rounds_commands n (inner_rounds n o xs)) (pc + length (inner_list xs pc)) (IsOuter n o)
-  run_inners [] pc o regs lo g has ok = run_more head code n pc (pc + 0) regs 0 (n * 0) [] (IsOuter n o)
+  run_inners [] pc o regs lo g stand has ok = run_more head code n pc (pc + 0) regs 0 (n * 0) [] (IsOuter n o)
       (omega arith) (run_none head code n pc (pc + 0) regs (IsOuter n o) (omega arith) g)
-  run_inners (x ∷ xs) pc o regs lo g has ok =
+  run_inners (x ∷ xs) pc o regs lo g stand has ok =
       let a = inner_code x pc in
       let b = inner_list xs (pc + length a) in
       let rs = inner_rounds n o (x ∷ []) in
       let e = split x xs in
       let ok' = subst (AllByRecursion (IsGood head n)) e ok in
-      let p = run_inner x pc o regs lo g (has_front code pc a b has)
+      let stands = and_parts (inner_stands (inner_map block_of_part x)) _ stand in
+      let p = run_inner x pc o regs lo g stands.0 (has_front code pc a b has)
       (front_all (IsGood head n) rs (inner_rounds n o xs) ok') in
       let len = length-append a b in
       let at_end : pc + length a + length b ≡ pc + length (a ++ b) = omega (arith, len) in
@@ -219,7 +541,7 @@ module _ (head : Shape) (code : List Uop) (n : ℕ) (some : 0 < n) (small : n �
       * length b) (n * length (a ++ b)) regs (rounds_commands n rs)
       (rounds_commands n (inner_rounds n o xs)) (IsOuter n o) (IsOuter n o)
       (add_up n (length a) (length b) (length (a ++ b)) len) p
-      (λ r h. run_inners xs (pc + length a) o r lo h (has_back code pc a b has)
+      (λ r h. run_inners xs (pc + length a) o r lo h stands.1 (has_back code pc a b has)
       (back_all (IsGood head n) rs (inner_rounds n o xs) ok'))))
     where
       add_up : (n x y z : ℕ) → z ≡ x + y → n * x + n * y ≡ n * z
@@ -230,6 +552,10 @@ module _ (head : Shape) (code : List Uop) (n : ℕ) (some : 0 < n) (small : n �
       split (Alone b) xs = refl
       split (Across count b) xs = ap (λ l. l ++ inner_rounds n o xs)
           (sym (append-nil (rounds (λ i. one_round b i o) 0 (positions n o count))))
+      split (IfOdd b) xs = ap (λ l. l ++ inner_rounds n o xs)
+          (sym (append-nil (rounds (λ i. one_round b i o) 0 (elements n o % 2))))
+      split (Halves b c) xs = ap (λ l. l ++ inner_rounds n o xs)
+          (sym (append-nil (rounds (λ i. two_rounds b c i o) 0 (elements n (o + 1)))))
 
   -- registers 0 and 1 of a step that stands in no nest: o is 0
   run_zero : (pc : ℕ) (regs : List ℕ) → length regs ≡ 8 → slice_get code pc ≡ Some (SetI 0 0)
@@ -428,7 +754,7 @@ module _ (head : Shape) (code : List Uop) (n : ℕ) (some : 0 < n) (small : n �
       (run_more head code n pc _ regs (2 + n * (k + 3)) _ _ Eight
       (grow n (length (inner q)) (length (nest_code inner pc)) small size_is short)
       (run_nest head code n inner pc k regs (λ o. rounds_commands n (f o)) some small size has
-      (λ o r lo g ha. run_inners parts q o r lo g ha
+      (λ o r lo g ha. run_inners parts q o r lo g stand ha
       (each_all (IsGood head n) f 0 n o (omega arith) (omega arith) ok))))
     where
       grow : (n x size : ℕ) → n ≤ WIDTH_MAX → size ≡ x + 5 → size ≤ 4096
