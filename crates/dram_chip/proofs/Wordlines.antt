@@ -1,12 +1,11 @@
 -- The lines of an address
 use Rattle.std.proofs.Common.{◌&&◌, not, nat_lt}
-use Rattle.std.proofs.Common.{◌≡◌, ℕ, zero, suc, ◌+◌, ◌*◌, ◌/◌, ◌%◌, ◌<◌, ◌≤◌, Bool, true}
+use Rattle.std.proofs.Common.{◌≡◌, ℕ, zero, suc, ◌+◌, ◌*◌, ◌/◌, ◌%◌, ◌<◌, Bool, true}
 use Rattle.std.proofs.Common.{false, List, [], ◌∷◌, length, get_or, refl, sym, ap, ◌∙◌, arith}
 use Rattle.std.proofs.Common.{subst, slice_index_or, ◌++◌, take, map, inr}
 use Rattle.std.specs.List.{AllByRecursion}
 use Rattle.std.proofs.lemmas.List.{take_more, length-map}
 use Rattle.std.proofs.lemmas.Bool.{and_parts, ltb-true}
-use mathlib.Core.Logic.{◌⊎◌}
 use Rattle.bit_rows.specs.Bits.{word_bit, bit_at, majority}
 use Rattle.dram_model.specs.declared.address.Addr.{Addr}
 use Rattle.dram_model.specs.declared.address.Addr.TheVariants.{B}
@@ -19,6 +18,7 @@ use Rattle.dram_model.specs.Column.{sense, settle, drive}
 use Rattle.dram_model.proofs.ColumnLaws.{refresh}
 use Rattle.dram_chip.specs.declared.b_group.Wire.{Wire}
 use Rattle.dram_chip.specs.Rows.{place, is_kept, row_bit, column_in, HasConstants, IsWired}
+use Rattle.dram_chip.specs.Rows.{Settled}
 use Rattle.dram_chip.proofs.Cells.{three-took, rows-apart}
 
 -- a line of several
@@ -201,17 +201,6 @@ bit-kept n c all (T k) e = rw e refl
 bit-kept n c all (Dcc k) e = rw e refl
 bit-kept n c all (C k) e = absurd (search arith)
 bit-kept n c all (D k) e = refl
-
--- rows that have all taken the majority of three
-pub record Settled (n p q r : ℕ) (old new : List ℕ) : Type 0 where
-  pub first : (i k : ℕ) → i < n → word_bit new (p + i) k ≡ majority (word_bit old (p + i) k)
-      (word_bit old (q + i) k) (word_bit old (r + i) k)
-  pub second : (i k : ℕ) → i < n → word_bit new (q + i) k ≡ majority (word_bit old (p + i) k)
-      (word_bit old (q + i) k) (word_bit old (r + i) k)
-  pub third : (i k : ℕ) → i < n → word_bit new (r + i) k ≡ majority (word_bit old (p + i) k)
-      (word_bit old (q + i) k) (word_bit old (r + i) k)
-  pub others : (k : ℕ) → ((k < p) ⊎ (p + n ≤ k)) → ((k < q) ⊎ (q + n ≤ k)) → ((k < r) ⊎ (r + n ≤ k))
-      → get_or new k 0 ≡ get_or old k 0
 
 -- the bit that three lines sense
 sensed-bits : (n c : ℕ) (old : List ℕ) (x y z : Cell) → is_kept x ≡ true → is_kept y ≡ true

@@ -1,11 +1,11 @@
 -- A bank as it is kept: the words of all its rows, one row after another
 use Rattle.std.specs.Prelude.{◌≡◌, ℕ, ◌<◌, ◌+◌, ◌*◌, ◌/◌, ◌%◌, ◌==◌, Bool, true, false, not, ◌&&◌}
-use Rattle.std.specs.Prelude.{nat_lt, length, List}
+use Rattle.std.specs.Prelude.{nat_lt, ◌≤◌, ◌⊎◌, length, slice_index, List}
 use Rattle.dram_chip.specs.declared.b_group.Wire.{Wire}
 use Rattle.dram_chip.specs.declared.bank.Bank.{Bank}
 use Rattle.dram_model.specs.declared.address.Cell.{Cell}
 use Rattle.dram_model.specs.declared.address.Cell.TheVariants.{T, Dcc, C, D}
-use Rattle.bit_rows.specs.Bits.{word_bit}
+use Rattle.bit_rows.specs.Bits.{word_bit, majority}
 use Rattle.dram_model.specs.Column.{Column}
 
 -- which row is a cell's. The DCC rows stand first: so the lines of an address that raises three
@@ -56,3 +56,17 @@ HasConstants words all = (k c : ℕ) → k < 2 → c < 64 * words
 pub record IsReady (bank : Bank) : Type 0 where
   pub size : length bank.all.items ≡ bank.words * (8 + bank.rows)
   pub constant : HasConstants bank.words bank.all.items
+
+-- the row of n words at `to` is now the majority of those at p, q and r
+abbrev pub TookMajority : ℕ → ℕ → ℕ → ℕ → ℕ → List ℕ → List ℕ → Type 0
+TookMajority n to p q r old new =
+    (i k : ℕ) → i < n → word_bit new (to + i) k ≡ majority (word_bit old (p + i) k)
+    (word_bit old (q + i) k) (word_bit old (r + i) k)
+
+-- three rows of n words have all taken their majority, and no other word has changed
+pub record Settled (n p q r : ℕ) (old new : List ℕ) : Type 0 where
+  pub first : TookMajority n p p q r old new
+  pub second : TookMajority n q p q r old new
+  pub third : TookMajority n r p q r old new
+  pub others : (k : ℕ) → ((k < p) ⊎ (p + n ≤ k)) → ((k < q) ⊎ (q + n ≤ k)) → ((k < r) ⊎ (r + n ≤ k))
+      → slice_index new k ≡ slice_index old k

@@ -1,7 +1,8 @@
 //! Rows of equal length that stand one after another in a slice of words.
 
 ghost use Rattle.std.specs.Prelude.{◌≡◌, ◌≢◌, ℕ, ◌<◌, ◌+◌, ◌≤◌, ◌⊎◌, length, slice_index, true};
-ghost use Rattle.bit_rows.specs.Bits.{bit_at, word_bit, flip_if, majority, majority_word};
+ghost use Rattle.bit_rows.specs.Bits.{bit_at, word_bit, flip_if, majority_word};
+ghost use Rattle.dram_chip.specs.Rows.{Settled};
 
 use bit_rows::{settle3, store, store_not, turn};
 
@@ -117,51 +118,19 @@ fn settle_word(all: &mut [u64], a: usize, b: usize, c: usize)
 
 /// Each of the rows of `n` words at `a`, `b` and `c` takes their majority.
 #[inline(always)]
-fn settle_words(all: &mut [u64], n: usize, a: usize, b: usize, c: usize)
-    requires a { a + n ≤ b }
-    requires b { b + n ≤ c }
-    requires c { c + n ≤ length all.old }
-    ensures length { length all.new ≡ length all.old }
-    ensures a { (q r : ℕ) → q < n → word_bit all.new (a + q) r
-        ≡ majority (word_bit all.old (a + q) r) (word_bit all.old (b + q) r)
-        (word_bit all.old (c + q) r) }
-    ensures b { (q r : ℕ) → q < n → word_bit all.new (b + q) r
-        ≡ majority (word_bit all.old (a + q) r) (word_bit all.old (b + q) r)
-        (word_bit all.old (c + q) r) }
-    ensures c { (q r : ℕ) → q < n → word_bit all.new (c + q) r
-        ≡ majority (word_bit all.old (a + q) r) (word_bit all.old (b + q) r)
-        (word_bit all.old (c + q) r) }
-    ensures others { (k : ℕ) → ((k < a) ⊎ (a + n ≤ k)) → ((k < b) ⊎ (b + n ≤ k))
-        → ((k < c) ⊎ (c + n ≤ k)) → slice_index all.new k ≡ slice_index all.old k }
-{
-    let (low, rest) = all.split_at_mut(b);
-    let (mid, high) = rest.split_at_mut(c - b);
-    settle3(&mut low[a..a + n], &mut mid[..n], &mut high[..n]);
-}
-
-/// Each of the rows of `n` words at `a`, `b` and `c` takes their majority.
-#[inline(always)]
 pub fn settle_rows(all: &mut [u64], n: usize, a: usize, b: usize, c: usize)
     requires a { a + n ≤ b }
     requires b { b + n ≤ c }
     requires c { c + n ≤ length all.old }
     ensures length { length all.new ≡ length all.old }
-    ensures a { (q r : ℕ) → q < n → word_bit all.new (a + q) r
-        ≡ majority (word_bit all.old (a + q) r) (word_bit all.old (b + q) r)
-        (word_bit all.old (c + q) r) }
-    ensures b { (q r : ℕ) → q < n → word_bit all.new (b + q) r
-        ≡ majority (word_bit all.old (a + q) r) (word_bit all.old (b + q) r)
-        (word_bit all.old (c + q) r) }
-    ensures c { (q r : ℕ) → q < n → word_bit all.new (c + q) r
-        ≡ majority (word_bit all.old (a + q) r) (word_bit all.old (b + q) r)
-        (word_bit all.old (c + q) r) }
-    ensures others { (k : ℕ) → ((k < a) ⊎ (a + n ≤ k)) → ((k < b) ⊎ (b + n ≤ k))
-        → ((k < c) ⊎ (c + n ≤ k)) → slice_index all.new k ≡ slice_index all.old k }
+    ensures settled { Settled n a b c all.old all.new }
 {
     if n == 1 {
         settle_word(all, a, b, c);
     } else {
-        settle_words(all, n, a, b, c);
+        let (low, rest) = all.split_at_mut(b);
+        let (mid, high) = rest.split_at_mut(c - b);
+        settle3(&mut low[a..a + n], &mut mid[..n], &mut high[..n]);
     }
 }
 

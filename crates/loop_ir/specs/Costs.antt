@@ -137,9 +137,9 @@ single_cost b = body_cost b + (if is_fixed b then 0 else 15)
 -- how many instructions a part of a nest may take: 20 to find how many elements a level has
 abbrev pub inner_cost : InnerOf Block → ℕ
 inner_cost (Alone b) = body_cost b + 15
-inner_cost (Across count b) = body_cost b + 15
+inner_cost (Across count b) = body_cost b + 18
 inner_cost (IfOdd b) = body_cost b + 15 + 20
-inner_cost (Halves b c) = body_cost b + body_cost c + 10 + 20
+inner_cost (Halves b c) = body_cost b + body_cost c + 15 + 20
 
 -- how many instructions one of bodies that take turns may take, with the one in its place at the top
 -- position: four of them count and jump
@@ -155,7 +155,7 @@ abbrev pub step_cost : StepOf Block → ℕ
 step_cost (Single b) = single_cost b
 step_cost (Along b) = body_cost b + 15
 step_cost (Nest parts) = sum_by inner_cost parts
-step_cost (Pairs b) = body_cost b + 15
+step_cost (Pairs b) = body_cost b + 18
 step_cost (Alternate ts) = turns_cost ts
 
 -- how many instructions a loop program may take, its end aside

@@ -123,9 +123,7 @@ fn parts_are_well_formed(parts: &[Inner]) -> bool
 {
     match parts {
         [] => true,
-        [first, rest @ ..] => {
-            part_is_well_formed(first) && parts_are_well_formed(rest)
-        }
+        [first, rest @ ..] => { part_is_well_formed(first) && parts_are_well_formed(rest) }
     }
 }
 

@@ -185,7 +185,6 @@ module _ (rooms : List Room) (rows : HaveRows rooms) where
   inner_left_like alive (Across c b ∷ ps) =
       ap (λ l. inner_left l (map (inner_map (placed_body rooms)) ps)) (left_like b)
       ∙ inner_left_like (left_by (placed_body [] b)) ps
-
   inner_left_like alive (IfOdd b ∷ ps) =
       ap (λ l. inner_left (common alive l) (map (inner_map (placed_body rooms)) ps)) (left_like b)
       ∙ inner_left_like (common alive (left_by (placed_body [] b))) ps

@@ -83,6 +83,16 @@ module _ (f : Block → ℕ) where
       let a = more (round_at t.each i 0) (turns_from (ts ++ (t ∷ [])) (i + 1) count) in
       omega (arith, e, a)
 
+  sum_both : (b c : Block) (o i count : ℕ) → rounds_sum f (rounds (λ j. two_rounds b c j o) i count)
+      ≡ count * (f b + f c)
+  sum_both b c o i zero = omega arith
+  sum_both b c o i (suc count) =
+      let rest = rounds (λ j. two_rounds b c j o) (i + 1) count in
+      let e = sum_both b c o (i + 1) count in
+      let a = more (round_at b i o) (round_at c i o ∷ rest) in
+      let d = more (round_at c i o) rest in
+      omega (arith, a, d, e)
+
   abbrev inner_sum : ℕ → ℕ → ℕ → List (InnerOf Block) → ℕ
   inner_sum n o left [] = 0
   inner_sum n o left (Alone b ∷ ps) = f b + inner_sum n o left ps

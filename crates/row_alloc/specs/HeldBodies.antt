@@ -41,14 +41,14 @@ pub record IsFirstHeld (g : Graph) (outs : List OutRow) (enter leave : List Held
   pub before : (i : ℕ) → i < k → ServesHeld g outs enter leave (held_at i) → ⊥
 
 -- The bodies with states in cells of the word operations. The starts: a zero or ones in the cells
--- where a loop begins. The rounds: a comparison; two
--- comparisons, of a with b and of b with a; the steps of subtraction and of abs, and the inner
--- steps of mul and div. The end: whether both comparisons hold.
+-- where a loop begins. The rounds: a comparison; two comparisons, of a with b and of b with a; the
+-- steps of subtraction and of abs, and the inner steps of mul and div. The end: whether both
+-- comparisons hold.
 -- Of the bodies in turn the first joins its element to the state and keeps the constant, or keeps
 -- both, and the others join their own to what was kept. Each has one that ends the loop in a row.
--- Of three the first starts a complement in two cells, from which the others join elements. The last
--- four count ones: what is read comes into the cells of a sum, the sum goes into a row, two elements
--- are added to the sum, with a carry in a row, and a row is copied while the sum stays
+-- Of three the first starts a complement in two cells, from which the others join elements.
+-- The last four count ones: what is read comes into the cells of a sum, the sum goes into a row,
+-- two elements are added to the sum, with a carry in a row, and a row is copied while the sum stays
 pub data HeldBody : Type 0 where
   ZeroInT0 : HeldBody
   OneInT0 : HeldBody

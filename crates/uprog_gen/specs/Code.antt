@@ -15,17 +15,17 @@ use Rattle.row_alloc.specs.declared.body.BodyCmd.TheVariants as cmd
 use Rattle.row_alloc.specs.declared.body.OutRow.{OutRow}
 use Rattle.loop_ir.specs.declared.ir.Sub.{Sub}
 use Rattle.loop_ir.specs.declared.ir.Sub.TheVariants.{Zero, Top, Inner as At_inner, InnerDown}
-use Rattle.loop_ir.specs.declared.ir.Sub.TheVariants.{Outer, OuterDown, Sum, DownSum, DownPlusN}
-use Rattle.loop_ir.specs.declared.ir.Sub.TheVariants.{NPlusInner}
+use Rattle.loop_ir.specs.declared.ir.Sub.TheVariants.{Outer, OuterDown, Sum, DownSum, SumTwice}
+use Rattle.loop_ir.specs.declared.ir.Sub.TheVariants.{AboveSumTwice, AboveSum}
 use Rattle.loop_ir.specs.declared.ir.Space.{Space}
 use Rattle.loop_ir.specs.declared.ir.Space.TheVariants.{Result, Source, ScratchBit, ScratchWord}
 use Rattle.loop_ir.specs.declared.ir.Space.TheVariants.{Cells}
 use Rattle.loop_ir.specs.declared.ir.Place.{Place}
 use Rattle.loop_ir.specs.declared.ir.Count.{Count}
-use Rattle.loop_ir.specs.declared.ir.Count.TheVariants.{All, Rest, UpTo, Bits}
+use Rattle.loop_ir.specs.declared.ir.Count.TheVariants.{All, Rest, UpTo}
 use Rattle.uprog_gen.specs.declared.plan.Plan.{Plan}
 use Rattle.loop_ir.specs.Plain.{Block, InnerOf, TurnOf, StepOf, step_map}
-use Rattle.loop_ir.specs.Plain.InnerOf.{Alone, Across}
+use Rattle.loop_ir.specs.Plain.InnerOf.{Alone, Across, IfOdd, Halves}
 use Rattle.loop_ir.specs.Plain.StepOf.{Single, Along, Nest, Pairs, Alternate}
 use Rattle.loop_ir.specs.Spots.{nth_place}
 use Rattle.loop_ir.specs.Costs.{same_sub, is_used, is_fixed}
@@ -49,7 +49,8 @@ row_space Cells = row.ScratchBit
 -- Registers 0 and 1 hold o and n - 1 - o, and 2 counts an inner loop down. The other subscripts
 -- that a body uses have registers 3 to 5
 abbrev pub loop_subs : List Sub
-loop_subs = Top ∷ At_inner ∷ InnerDown ∷ Sum ∷ DownSum ∷ DownPlusN ∷ NPlusInner ∷ []
+loop_subs = Top ∷ At_inner ∷ InnerDown ∷ Sum ∷ DownSum ∷ SumTwice ∷ AboveSumTwice
+    ∷ AboveSum ∷ []
 
 -- the subscripts of a body that need a register of its own; a plan has room for three
 abbrev pub own_subs : Block → List Sub
@@ -128,8 +129,9 @@ init Outer r = []
 init OuterDown r = []
 init Sum r = Mov r 0 ∷ []
 init DownSum r = Mov r 1 ∷ []
-init DownPlusN r = SetN r ∷ Add r 1 ∷ []
-init NPlusInner r = SetN r ∷ []
+init SumTwice r = Mov r 0 ∷ []
+init AboveSumTwice r = Mov r 0 ∷ []
+init AboveSum r = Mov r 0 ∷ []
 
 -- before a turn
 abbrev pub before : Sub → ℕ → List Uop
@@ -141,40 +143,30 @@ before Outer r = []
 before OuterDown r = []
 before Sum r = []
 before DownSum r = []
-before DownPlusN r = []
-before NPlusInner r = []
+before SumTwice r = []
+before AboveSumTwice r = AddI r 1 ∷ []
+before AboveSum r = AddI r 1 ∷ []
 
 -- after a turn
 abbrev pub after : Sub → ℕ → List Uop
 after At_inner r = AddI r 1 ∷ []
 after Sum r = AddI r 1 ∷ []
 after DownSum r = AddI r 1 ∷ []
-after NPlusInner r = AddI r 1 ∷ []
+after SumTwice r = AddI r 2 ∷ []
+after AboveSumTwice r = AddI r 1 ∷ []
 after Zero r = []
 after Top r = []
 after InnerDown r = []
 after Outer r = []
 after OuterDown r = []
-after DownPlusN r = []
+after AboveSum r = []
 
--- register 7 gets half of what register 6 holds, which isn't 0, beside what it had: two are taken
--- away for each that is counted. Register 2 isn't 0, and serves to jump
-abbrev pub halve_code : ℕ → List Uop
-halve_code pc = SubI 6 1 ∷ Bnez 6 (pc + 1 + 1 + 1) ∷ Bnez 2 (pc + 1 + 1 + 1 + 1 + 1 + 1)
-    ∷ SubI 6 1 ∷ AddI 7 1 ∷ Bnez 6 pc ∷ []
-
--- register 2 gets the number of bits of o + 1, which is halved until nothing is left
-abbrev pub bits_code : ℕ → List Uop
-bits_code pc = Mov 6 0 ∷ AddI 6 1 ∷ SetI 2 0 ∷ AddI 2 1 ∷ SetI 7 0
-    ∷ (halve_code (pc + 1 + 1 + 1 + 1 + 1) ++ Mov 6 7 ∷ Bnez 6 (pc + 1 + 1 + 1) ∷ [])
-
--- register 2 gets the number of turns: n, what is left of it at an outer position, the positions up
--- to the outer one, or the bits of as many. The first instruction has this place
-abbrev pub counter : Count → ℕ → List Uop
-counter All pc = SetN 2 ∷ []
-counter Rest pc = Mov 2 1 ∷ AddI 2 1 ∷ []
-counter UpTo pc = Mov 2 0 ∷ AddI 2 1 ∷ []
-counter Bits pc = bits_code pc
+-- register 2 gets the number of turns: n, what is left of it at an outer position, or the positions up
+-- to the outer one
+abbrev pub counter : Count → List Uop
+counter All = SetN 2 ∷ []
+counter Rest = Mov 2 1 ∷ AddI 2 1 ∷ []
+counter UpTo = Mov 2 0 ∷ AddI 2 1 ∷ []
 
 -- the body's registers before its first turn
 abbrev pub inits : Plan → List Uop
@@ -201,18 +193,60 @@ abbrev pub turn_code : Plan → List Uop → List Uop
 turn_code plan body = befores plan ++ (body ++ (afters plan ++ (SubI 2 1 ∷ [])))
 
 -- what stands before the first turn
-abbrev pub enter_code : Plan → Count → ℕ → List Uop
-enter_code plan count pc = counter count pc ++ inits plan
+abbrev pub enter_code : Plan → Count → List Uop
+enter_code plan count = counter count ++ inits plan
 
 -- an inner loop, whose first instruction has this place
 abbrev pub loop_code : Count → Part → ℕ → List Uop
-loop_code count p pc = enter_code p.plan count pc
-    ++ (turn_code p.plan (body_uops p) ++ (Bnez 2 (pc + length (enter_code p.plan count pc)) ∷ []))
+loop_code count p pc = enter_code p.plan count
+    ++ (turn_code p.plan (body_uops p) ++ (Bnez 2 (pc + length (enter_code p.plan count)) ∷ []))
+
+-- Register 6 gets the number of pairs of elements at level o, and 5 whether one is left: n is halved
+-- o + 1 times, and two are taken away for each that register 7 counts. Register 2 counts the turns,
+-- isn't 0 in one, and serves to jump
+abbrev pub halve_code : ℕ → List Uop
+halve_code pc = SetI 5 0 ∷ SetI 7 0 ∷ Bnez 2 (pc + 12)
+    ∷ SubI 6 1 ∷ Bnez 6 (pc + 10) ∷ SetI 5 1 ∷ Bnez 2 (pc + 13)
+    ∷ SubI 6 1 ∷ AddI 7 1 ∷ Bnez 6 (pc + 6) ∷ []
+
+-- and all turns
+abbrev pub level_code : ℕ → List Uop
+level_code pc = Mov 2 0 ∷ AddI 2 1 ∷ SetN 6
+    ∷ (halve_code pc ++ (Mov 6 7 ∷ SubI 2 1 ∷ Bnez 2 (pc + 3) ∷ []))
+
+-- where the register is 0, a jump past what comes next
+abbrev pub skip_code : ℕ → ℕ → ℕ → List Uop
+skip_code r pc end = Bnez r (pc + 3) ∷ SetI 7 1 ∷ Bnez 7 end ∷ []
+
+-- the code of a body that is done once where a level has an odd number of elements
+abbrev pub odd_code : Part → ℕ → List Uop
+odd_code p pc = level_code pc
+    ++ (skip_code 5 (pc + 16) (pc + 19 + length (once_code p)) ++ once_code p)
+
+-- the two bodies of a pair have three registers, for the elements and for their carry
+abbrev pub pair_plan : Plan
+pair_plan = record { first = SumTwice; second = AboveSumTwice; third = AboveSum }
+
+-- the instructions of the commands of one of them
+abbrev pub pair_uops : Part → List Uop
+pair_uops p = map (code_uop pair_plan p.block) p.cmds
+
+-- the loop over the pairs, where register 2 holds how many there are
+abbrev pub pairing_code : Part → Part → ℕ → List Uop
+pairing_code p q pc = inits pair_plan ++ (turn_code pair_plan (pair_uops p ++ pair_uops q)
+    ++ (Bnez 2 (pc + length (inits pair_plan)) ∷ []))
+
+-- the code of two bodies at each pair of a level's elements
+abbrev pub halves_code : Part → Part → ℕ → List Uop
+halves_code p q pc = level_code pc ++ (Mov 2 6 ∷ (skip_code 2 (pc + 17)
+    (pc + 20 + length (pairing_code p q (pc + 20))) ++ pairing_code p q (pc + 20)))
 
 -- a part of a nest, whose first instruction has this place
 abbrev pub inner_code : InnerOf Part → ℕ → List Uop
 inner_code (Alone p) pc = once_code p
 inner_code (Across count p) pc = loop_code count p pc
+inner_code (IfOdd p) pc = odd_code p pc
+inner_code (Halves p q) pc = halves_code p q pc
 
 -- the parts of a nest, one after another
 abbrev pub inner_list : List (InnerOf Part) → ℕ → List Uop

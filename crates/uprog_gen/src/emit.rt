@@ -7,7 +7,8 @@ ghost use Rattle.loop_ir.specs.Plain.{block_of};
 ghost use Rattle.loop_ir.specs.Costs.{body_cost};
 ghost use Rattle.uprog_gen.specs.Code.{row_space, index_in, place_ref, code_ref, code_uop, init};
 ghost use Rattle.uprog_gen.specs.Code.{before, after, inits, befores, afters, halve_code};
-ghost use Rattle.uprog_gen.specs.Code.{bits_code, counter, body_uops};
+ghost use Rattle.uprog_gen.specs.Code.{counter, body_uops, halve_code, level_code, skip_code};
+ghost use Rattle.uprog_gen.specs.Code.{odd_code, pairing_code, halves_code};
 ghost use Rattle.uprog_gen.specs.Code.{once_code, turn_code, enter_code, loop_code, guard_code};
 ghost use Rattle.uprog_gen.specs.Code.{pairs_code, start_code, either_code};
 ghost use Rattle.uprog_gen.specs.Made.{part_of, is_ref_of, are_refs_of};
@@ -120,13 +121,9 @@ fn push_init(code: &mut Vec<Uop>, sub: Sub, r: u8) -> Result<(), NoMemory>
         Sub::Top => keep(code, Uop::SetT(r)),
         Sub::Inner => keep(code, Uop::SetI(r, 0)),
         Sub::InnerDown => keep(code, Uop::SetN(r)),
-        Sub::NPlusInner => keep(code, Uop::SetN(r)),
-        Sub::Sum => keep(code, Uop::Mov(r, 0)),
+        Sub::Sum | Sub::SumTwice => keep(code, Uop::Mov(r, 0)),
+        Sub::AboveSumTwice | Sub::AboveSum => keep(code, Uop::Mov(r, 0)),
         Sub::DownSum => keep(code, Uop::Mov(r, 1)),
-        Sub::DownPlusN => {
-            keep(code, Uop::SetN(r))?;
-            keep(code, Uop::Add(r, 1))
-        }
     }
 }
 
@@ -135,8 +132,9 @@ fn push_before(code: &mut Vec<Uop>, sub: Sub, r: u8) -> Result<(), NoMemory>
 {
     match sub {
         Sub::InnerDown => keep(code, Uop::SubI(r, 1)),
+        Sub::AboveSumTwice | Sub::AboveSum => keep(code, Uop::AddI(r, 1)),
         Sub::Zero | Sub::Outer | Sub::OuterDown | Sub::Top | Sub::Inner => Ok(()),
-        Sub::Sum | Sub::DownSum | Sub::DownPlusN | Sub::NPlusInner => Ok(()),
+        Sub::Sum | Sub::DownSum | Sub::SumTwice => Ok(()),
     }
 }
 
@@ -147,9 +145,10 @@ fn push_after(code: &mut Vec<Uop>, sub: Sub, r: u8) -> Result<(), NoMemory>
         Sub::Inner => keep(code, Uop::AddI(r, 1)),
         Sub::Sum => keep(code, Uop::AddI(r, 1)),
         Sub::DownSum => keep(code, Uop::AddI(r, 1)),
-        Sub::NPlusInner => keep(code, Uop::AddI(r, 1)),
+        Sub::SumTwice => keep(code, Uop::AddI(r, 2)),
+        Sub::AboveSumTwice => keep(code, Uop::AddI(r, 1)),
         Sub::Zero | Sub::Top | Sub::InnerDown => Ok(()),
-        Sub::Outer | Sub::OuterDown | Sub::DownPlusN => Ok(()),
+        Sub::Outer | Sub::OuterDown | Sub::AboveSum => Ok(()),
     }
 }
 
@@ -177,42 +176,8 @@ fn push_afters(code: &mut Vec<Uop>, plan: Plan) -> Result<(), NoMemory>
     push_after(code, plan.third, 5)
 }
 
-/// The code that halves what register 6 holds.
-fn push_halving(code: &mut Vec<Uop>) -> Result<(), NoMemory>
-    requires { length code.old.items + 16 < 2 ^ 16 }
-    ensures { OnOk result (code.new.items ≡ code.old.items
-        ++ halve_code (length code.old.items)) }
-{
-    let half = code.len() as u16;
-    keep(code, Uop::SubI(6, 1))?;
-    keep(code, Uop::Bnez(6, half + 3))?;
-    keep(code, Uop::Bnez(2, half + 6))?;
-    keep(code, Uop::SubI(6, 1))?;
-    keep(code, Uop::AddI(7, 1))?;
-    keep(code, Uop::Bnez(6, half))
-}
-
-/// The code that counts the bits of o + 1.
-fn push_bits(code: &mut Vec<Uop>) -> Result<(), NoMemory>
-    requires { length code.old.items + 32 < 2 ^ 16 }
-    ensures { OnOk result (code.new.items ≡ code.old.items
-        ++ bits_code (length code.old.items)) }
-{
-    let top = code.len() as u16 + 3;
-    keep(code, Uop::Mov(6, 0))?;
-    keep(code, Uop::AddI(6, 1))?;
-    keep(code, Uop::SetI(2, 0))?;
-    keep(code, Uop::AddI(2, 1))?;
-    keep(code, Uop::SetI(7, 0))?;
-    push_halving(code)?;
-    keep(code, Uop::Mov(6, 7))?;
-    keep(code, Uop::Bnez(6, top))
-}
-
 fn push_counter(code: &mut Vec<Uop>, count: Count) -> Result<(), NoMemory>
-    requires { length code.old.items + 32 < 2 ^ 16 }
-    ensures { OnOk result (code.new.items ≡ code.old.items
-        ++ counter count (length code.old.items)) }
+    ensures { OnOk result (code.new.items ≡ code.old.items ++ counter count) }
 {
     match count {
         Count::All => keep(code, Uop::SetN(2)),
@@ -224,18 +189,47 @@ fn push_counter(code: &mut Vec<Uop>, count: Count) -> Result<(), NoMemory>
             keep(code, Uop::Mov(2, 0))?;
             keep(code, Uop::AddI(2, 1))
         }
-        Count::Bits => push_bits(code),
     }
 }
 
 /// What stands before a loop.
 fn push_enter(code: &mut Vec<Uop>, plan: Plan, count: Count) -> Result<(), NoMemory>
-    requires { length code.old.items + 32 < 2 ^ 16 }
-    ensures { OnOk result (code.new.items ≡ code.old.items
-        ++ enter_code plan count (length code.old.items)) }
+    ensures { OnOk result (code.new.items ≡ code.old.items ++ enter_code plan count) }
 {
     push_counter(code, count)?;
     push_inits(code, plan)
+}
+
+/// The code that halves n, whose first instruction has this place: one turn of it.
+fn push_halving(code: &mut Vec<Uop>, pc: u16) -> Result<(), NoMemory>
+    requires { pc + 16 < 2 ^ 16 }
+    ensures { OnOk result (code.new.items ≡ code.old.items ++ halve_code pc) }
+{
+    keep(code, Uop::SetI(5, 0))?;
+    keep(code, Uop::SetI(7, 0))?;
+    keep(code, Uop::Bnez(2, pc + 12))?;
+    keep(code, Uop::SubI(6, 1))?;
+    keep(code, Uop::Bnez(6, pc + 10))?;
+    keep(code, Uop::SetI(5, 1))?;
+    keep(code, Uop::Bnez(2, pc + 13))?;
+    keep(code, Uop::SubI(6, 1))?;
+    keep(code, Uop::AddI(7, 1))?;
+    keep(code, Uop::Bnez(6, pc + 6))
+}
+
+/// The code that finds how many pairs of elements a level has, and whether one is left.
+fn push_level(code: &mut Vec<Uop>) -> Result<(), NoMemory>
+    requires { length code.old.items + 32 < 2 ^ 16 }
+    ensures { OnOk result (code.new.items ≡ code.old.items ++ level_code (length code.old.items)) }
+{
+    let pc = code.len() as u16;
+    keep(code, Uop::Mov(2, 0))?;
+    keep(code, Uop::AddI(2, 1))?;
+    keep(code, Uop::SetN(6))?;
+    push_halving(code, pc)?;
+    keep(code, Uop::Mov(6, 7))?;
+    keep(code, Uop::SubI(2, 1))?;
+    keep(code, Uop::Bnez(2, pc + 3))
 }
 
 /// A turn of a loop, up to the jump.
@@ -277,6 +271,94 @@ pub fn push_loop(
     let top = code.len() as u16;
     push_turn(code, body, made)?;
     keep(code, Uop::Bnez(2, top))
+}
+
+/// A jump past what comes next, where a register is 0.
+fn push_skip(code: &mut Vec<Uop>, r: u8, end: u16) -> Result<(), NoMemory>
+    requires { length code.old.items + 8 < 2 ^ 16 }
+    ensures { OnOk result (code.new.items ≡ code.old.items
+        ++ skip_code r (length code.old.items) end) }
+{
+    let next = code.len() as u16 + 3;
+    keep(code, Uop::Bnez(r, next))?;
+    keep(code, Uop::SetI(7, 1))?;
+    keep(code, Uop::Bnez(7, end))
+}
+
+/// A body once, where a level has an odd number of elements. The jump past it gets its target when
+/// it stands.
+pub fn push_odd(code: &mut Vec<Uop>, body: &Body, made: &Made) -> Result<(), NoMemory>
+    requires part { IsPart (part_of (block_of body.now) made.now) }
+    requires room { length code.old.items + body_cost (block_of body.now) + 64 < 2 ^ 16 }
+    ensures { OnOk result (code.new.items ≡ code.old.items
+        ++ odd_code (part_of (block_of body.now) made.now) (length code.old.items)) }
+{
+    push_level(code)?;
+    let past = code.len() + 2;
+    push_skip(code, 5, 0)?;
+    push_once(code, body, made)?;
+    let end = code.len() as u16;
+    code[past] = Uop::Bnez(7, end);
+    Ok(())
+}
+
+/// The subscripts of the two bodies of a pair.
+const PAIR_PLAN: Plan = Plan {
+    first: Sub::SumTwice,
+    second: Sub::AboveSumTwice,
+    third: Sub::AboveSum,
+};
+
+/// The loop over the pairs of a level's elements.
+fn push_pairing(
+    code: &mut Vec<Uop>,
+    first: &Body,
+    first_made: &Made,
+    second: &Body,
+    second_made: &Made,
+) -> Result<(), NoMemory>
+    requires first { IsPart (part_of (block_of first.now) first_made.now) }
+    requires second { IsPart (part_of (block_of second.now) second_made.now) }
+    requires room { length code.old.items + 32 < 2 ^ 16 }
+    ensures { OnOk result (code.new.items ≡ code.old.items
+        ++ pairing_code (part_of (block_of first.now) first_made.now)
+        (part_of (block_of second.now) second_made.now) (length code.old.items)) }
+{
+    push_inits(code, PAIR_PLAN)?;
+    let top = code.len() as u16;
+    push_befores(code, PAIR_PLAN)?;
+    push_commands(code, PAIR_PLAN, first, first_made)?;
+    push_commands(code, PAIR_PLAN, second, second_made)?;
+    push_afters(code, PAIR_PLAN)?;
+    keep(code, Uop::SubI(2, 1))?;
+    keep(code, Uop::Bnez(2, top))
+}
+
+/// Two bodies at each pair of a level's elements. The jump past them gets its target when they
+/// stand.
+pub fn push_halves(
+    code: &mut Vec<Uop>,
+    first: &Body,
+    first_made: &Made,
+    second: &Body,
+    second_made: &Made,
+) -> Result<(), NoMemory>
+    requires first { IsPart (part_of (block_of first.now) first_made.now) }
+    requires second { IsPart (part_of (block_of second.now) second_made.now) }
+    requires room { length code.old.items + body_cost (block_of first.now)
+        + body_cost (block_of second.now) + 64 < 2 ^ 16 }
+    ensures { OnOk result (code.new.items ≡ code.old.items
+        ++ halves_code (part_of (block_of first.now) first_made.now)
+        (part_of (block_of second.now) second_made.now) (length code.old.items)) }
+{
+    push_level(code)?;
+    keep(code, Uop::Mov(2, 6))?;
+    let past = code.len() + 2;
+    push_skip(code, 2, 0)?;
+    push_pairing(code, first, first_made, second, second_made)?;
+    let end = code.len() as u16;
+    code[past] = Uop::Bnez(7, end);
+    Ok(())
 }
 
 /// What stands before a loop over neighbours that ends at this place.

@@ -9,7 +9,8 @@ ghost use Rattle.loop_ir.specs.Limits.{IsSmall};
 ghost use Rattle.loop_ir.specs.Costs.{inner_cost, either_cost, turns_cost, step_cost, code_cost};
 ghost use Rattle.uprog_gen.specs.Emits.{EmitsInner, EmitsTurns, EmitsSteps};
 
-use crate::emit::{push_body, push_either, push_loop, push_once, push_pairs, push_start};
+use crate::emit::{push_body, push_either, push_halves, push_loop, push_odd, push_once, push_pairs};
+use crate::emit::{push_start};
 use crate::part::make_part;
 use crate::plan::is_fixed;
 use faults::keep;
@@ -21,7 +22,7 @@ use uprog_code::Uop;
 /// One step of a nest.
 fn emit_inner(inner: &Inner, code: &mut Vec<Uop>, alloc: Global) -> Result<(), NoMemory>
     requires small { AllInner IsSmall (inner_of inner.now ∷ []) }
-    requires room { length code.old.items + 32 < 2 ^ 16 }
+    requires room { length code.old.items + inner_cost (inner_of inner.now) + 32 < 2 ^ 16 }
     ensures { OnOk result (EmitsInner (inner_of inner.now ∷ []) code.old.items code.new.items) }
 {
     match inner {
@@ -33,6 +34,17 @@ fn emit_inner(inner: &Inner, code: &mut Vec<Uop>, alloc: Global) -> Result<(), N
         Inner::Each(count, body) => {
             let made = make_part(body, alloc)?;
             push_loop(code, *count, body, &made)?;
+            Ok(())
+        }
+        Inner::IfOdd(body) => {
+            let made = make_part(body, alloc)?;
+            push_odd(code, body, &made)?;
+            Ok(())
+        }
+        Inner::Halves(first, second) => {
+            let first_made = make_part(first, alloc)?;
+            let second_made = make_part(second, alloc)?;
+            push_halves(code, first, &first_made, second, &second_made)?;
             Ok(())
         }
     }

@@ -1,6 +1,7 @@
 pub mod Setting
 pub mod Product
 pub mod Multiply
+pub mod Counting
 pub mod Divide
 pub mod Gather
 pub mod Quotient

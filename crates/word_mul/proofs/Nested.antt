@@ -28,7 +28,8 @@ use Rattle.word_mul.specs.Places.{scratch_word, rooms_for, steps_for, rows_on}
 use Rattle.word_mul.specs.Programs.{nested}
 use Rattle.word_mul.proofs.Setting.{operation, IsFree, AreRows, IsElsewhere, DoesNested}
 use Rattle.word_mul.proofs.Clear.{WordsClear, words_apart, words_owned}
-use Rattle.word_mul.proofs.Multiply.{mul_does, bitcount_does}
+use Rattle.word_mul.proofs.Multiply.{mul_does}
+use Rattle.word_mul.proofs.Counting.{bitcount_does}
 use Rattle.word_mul.proofs.Quotient.{div_does, rem_does}
 
 -- the target has the operation's value, and no row but the target's and the internal scratch's has
@@ -284,7 +285,7 @@ module _ (x0 : Space) (y0 : ℕ) (x1 : Space) (y1 : ℕ) (x2 : Space) (y2 : ℕ)
           (twice_pieces n t a (scratch_from free_bit 1) are);
       owned = λ n q o. inl (owned_once n t a (scratch_from free_bit 1) q o);
       does = λ n some are clear before.
-          (let g = bitcount_does n one (one_rows n 1 0 are clear) before in
+          (let g = bitcount_does n one some (one_rows n 1 0 are clear) before in
           record {
             gives = answer op.Bitcount n x0 y0 (after_rounds n
                 (all_rounds n (steps_for op.Bitcount one)) before) _ _ g.gives

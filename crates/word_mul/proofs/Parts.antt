@@ -7,14 +7,14 @@ use Rattle.loop_ir.specs.declared.names.Slot.{Slot}
 use Rattle.loop_ir.specs.Plain.{Block, InnerOf, StepOf, AllInner, inner_of}
 use Rattle.loop_ir.specs.Plain.{step_of}
 use Rattle.loop_ir.specs.Plain.StepOf.{Nest}
-use Rattle.loop_ir.specs.Plain.InnerOf.{Alone, Across}
+use Rattle.loop_ir.specs.Plain.InnerOf.{Alone, Across, IfOdd, Halves}
 use Rattle.loop_laws.specs.Rooms.{Marked}
 use Rattle.loop_laws.specs.Forms.{IsMade}
 use Rattle.word_lower.specs.Places.{program_on, body_on}
 use Rattle.word_lower.proofs.Append.{map_last, append_over, made_more, same_push}
 use Rattle.word_mul.specs.declared.shapes.BodyForm.{BodyForm}
 use Rattle.word_mul.specs.declared.shapes.NestPart.{NestPart}
-use Rattle.word_mul.specs.declared.shapes.NestPart.TheVariants.{Once, Each}
+use Rattle.word_mul.specs.declared.shapes.NestPart.TheVariants as part
 use Rattle.word_mul.specs.declared.shapes.Gathering.{Gathering}
 use Rattle.word_mul.specs.declared.shapes.NestedProgram.{NestedProgram}
 use Rattle.word_mul.specs.Programs.{parts_of, pass_of, gathering_of, row_steps}
@@ -32,6 +32,8 @@ inner_last : (ps : List (InnerOf Block)) (p : InnerOf Block) → AllInner IsMade
 inner_last [] p all h = h
 inner_last (Alone b ∷ ps) p all h = (all.0, inner_last ps p all.1 h)
 inner_last (Across c b ∷ ps) p all h = (all.0, inner_last ps p all.1 h)
+inner_last (IfOdd b ∷ ps) p all h = (all.0, inner_last ps p all.1 h)
+inner_last (Halves b c ∷ ps) p all h = (all.0, inner_last ps p all.1 h)
 
 pub made_part : (parts new : List Inner) (p : Inner) → new ≡ parts ++ p ∷ []
     → AllInner IsMade (map inner_of parts) → AllInner IsMade (inner_of p ∷ [])
@@ -43,8 +45,10 @@ made_part parts new p e all h = subst (AllInner IsMade) (sym (ap (map inner_of) 
 one_more : (o : ℕ → Slot) (p : Option NestPart) (ps : List (Option NestPart))
     → parts_on o (parts_of (p ∷ ps)) ≡ parts_on o (parts_of (p ∷ [])) ++ parts_on o (parts_of ps)
 one_more o None ps = refl
-one_more o (Some (Once f)) ps = refl
-one_more o (Some (Each c f)) ps = refl
+one_more o (Some (part.Once f)) ps = refl
+one_more o (Some (part.Each c f)) ps = refl
+one_more o (Some (part.IfOdd f)) ps = refl
+one_more o (Some (part.Halves f g)) ps = refl
 
 pub parts_more : (o : ℕ → Slot) (list : List (Option NestPart)) (i : ℕ) (d : Option NestPart)
     → i < length list → parts_on o (parts_of (take (i + 1) list))
@@ -56,6 +60,9 @@ pub parts_over : (o : ℕ → Slot) (ps qs : List (InnerOf Marked))
 parts_over o [] qs = refl
 parts_over o (Alone b ∷ ps) qs = ap (λ l. Alone (body_on o b) ∷ l) (parts_over o ps qs)
 parts_over o (Across c b ∷ ps) qs = ap (λ l. Across c (body_on o b) ∷ l) (parts_over o ps qs)
+parts_over o (IfOdd b ∷ ps) qs = ap (λ l. IfOdd (body_on o b) ∷ l) (parts_over o ps qs)
+parts_over o (Halves b c ∷ ps) qs = ap (λ l. Halves (body_on o b) (body_on o c) ∷ l)
+    (parts_over o ps qs)
 
 -- two steps more
 pub steps_push_two : (steps mid new : List Step) (s t : Step) (us vs : List (StepOf Block))

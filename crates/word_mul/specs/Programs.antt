@@ -1,5 +1,5 @@
 -- The loop programs of the word operations that take a pass over a word for each position.
-use Rattle.std.specs.Prelude.{ℕ, zero, suc, ◌+◌, ◌*◌, ◌/◌, ◌==◌, Bool, true, false, if◌then◌else◌}
+use Rattle.std.specs.Prelude.{ℕ, zero, suc, ◌+◌, ◌*◌, ◌/◌, ◌%◌, ◌==◌, Bool, true, false, if◌then◌else◌}
 use Rattle.std.specs.Prelude.{List, [], ◌∷◌, ◌++◌, Option, Some, None}
 use Rattle.mig_graph.specs.declared.Node.{Node}
 use Rattle.mig_graph.specs.Literals.{node_of}
@@ -7,9 +7,9 @@ use Rattle.op_text.specs.declared.word_ops.WordOp.{WordOp}
 use Rattle.op_text.specs.declared.word_ops.WordOp.TheVariants as o
 use Rattle.op_text.specs.WordOps.{number}
 use Rattle.op_text.specs.Language.{Statement, Compute, Visit}
-use Rattle.loop_ir.specs.Loops.{bits_in}
+use Rattle.loop_ir.specs.Loops.{elements}
 use Rattle.loop_ir.specs.Plain.{InnerOf, StepOf}
-use Rattle.loop_ir.specs.Plain.InnerOf.{Alone, Across}
+use Rattle.loop_ir.specs.Plain.InnerOf.{Alone, Across, IfOdd, Halves}
 use Rattle.loop_ir.specs.Plain.StepOf.{Single, Along, Nest}
 use Rattle.loop_laws.specs.Rooms as rooms
 use Rattle.loop_laws.specs.Rooms.{Mark, Marked, InRoom, InCells}
@@ -23,9 +23,9 @@ use Rattle.word_mul.specs.declared.shapes.Mark as code
 use Rattle.word_mul.specs.declared.shapes.BodyForm.{BodyForm}
 use Rattle.word_mul.specs.declared.shapes.BodyForm.TheVariants.{Off, On, Moved, Inverted, Either}
 use Rattle.word_mul.specs.declared.shapes.BodyForm.TheVariants.{Without, Compared, Multiplied}
-use Rattle.word_mul.specs.declared.shapes.BodyForm.TheVariants.{Counted, Divided}
+use Rattle.word_mul.specs.declared.shapes.BodyForm.TheVariants.{Begun, Counted, Kept, Divided}
 use Rattle.word_mul.specs.declared.shapes.NestPart.{NestPart}
-use Rattle.word_mul.specs.declared.shapes.NestPart.TheVariants.{Once, Each}
+use Rattle.word_mul.specs.declared.shapes.NestPart.TheVariants as part
 use Rattle.word_mul.specs.declared.shapes.Gathering.{Gathering}
 use Rattle.word_mul.specs.declared.shapes.NestedProgram.{NestedProgram}
 use Rattle.word_mul.specs.declared.table.TheConstants.{NESTED}
@@ -46,14 +46,23 @@ abbrev pub multiplied : Mark → Mark → Mark → Mark → Marked
 multiplied y a b c = template (y ∷ a ∷ b ∷ c ∷ []) multiplied_nodes
     (complemented 8 ∷ plain 7 ∷ []) (y ∷ c ∷ [])
 
--- y and a carry, into y; the carry is held inverted
-abbrev pub counted_nodes : List Node
-counted_nodes = node_of up (complemented 1) (plain 2) ∷ node_of off (plain 1) (plain 2)
-    ∷ node_of (complemented 2) (plain 3) (plain 4) ∷ []
+-- a row begins the sum of a level
+abbrev pub begun : Mark → Mark → Mark → Marked
+begun x s k = template (x ∷ []) [] (plain 1 ∷ plain 1 ∷ []) (s ∷ k ∷ [])
 
--- one position of a count: a bit is added to y
-abbrev pub counted : Mark → Mark → Marked
-counted y c = template (y ∷ c ∷ []) counted_nodes (plain 5 ∷ plain 3 ∷ []) (y ∷ c ∷ [])
+-- the carry of two elements and a sum, and the sum of all three
+abbrev pub counted_nodes : List Node
+counted_nodes = node_of (plain 1) (plain 2) (plain 3)
+    ∷ node_of (plain 2) (plain 3) (complemented 4)
+    ∷ node_of (plain 1) (complemented 4) (plain 5) ∷ []
+
+-- one pair of a count: two elements are added to a sum, with a carry
+abbrev pub counted : Mark → Mark → Mark → Mark → Marked
+counted x y s c = template (x ∷ y ∷ s ∷ []) counted_nodes (plain 4 ∷ plain 6 ∷ []) (c ∷ s ∷ [])
+
+-- a row gets what another has, and the sum stays
+abbrev pub kept : Mark → Mark → Mark → Marked
+kept x s z = template (x ∷ s ∷ []) [] (plain 1 ∷ plain 2 ∷ []) (z ∷ s ∷ [])
 
 -- w less y where g is set, with a borrow, into w
 abbrev pub divided_nodes : List Node
@@ -93,15 +102,19 @@ form_body (Either x y z) = joined up (mark_of x) (mark_of y) (mark_of z)
 form_body (Without x y z) = without (mark_of x) (mark_of y) (mark_of z)
 form_body (Compared x y g z) = compared (mark_of x) (mark_of y) (mark_of g) (mark_of z)
 form_body (Multiplied y a b c) = multiplied (mark_of y) (mark_of a) (mark_of b) (mark_of c)
-form_body (Counted y c) = counted (mark_of y) (mark_of c)
+form_body (Begun x s k) = begun (mark_of x) (mark_of s) (mark_of k)
+form_body (Counted x y s c) = counted (mark_of x) (mark_of y) (mark_of s) (mark_of c)
+form_body (Kept x s z) = kept (mark_of x) (mark_of s) (mark_of z)
 form_body (Divided w y g c) = divided (mark_of w) (mark_of y) (mark_of g) (mark_of c)
 
 -- the parts that there are
 abbrev pub parts_of : List (Option NestPart) → List (InnerOf Marked)
 parts_of [] = []
 parts_of (None ∷ ps) = parts_of ps
-parts_of (Some (Once f) ∷ ps) = Alone (form_body f) ∷ parts_of ps
-parts_of (Some (Each count f) ∷ ps) = Across count (form_body f) ∷ parts_of ps
+parts_of (Some (part.Once f) ∷ ps) = Alone (form_body f) ∷ parts_of ps
+parts_of (Some (part.Each count f) ∷ ps) = Across count (form_body f) ∷ parts_of ps
+parts_of (Some (part.IfOdd f) ∷ ps) = IfOdd (form_body f) ∷ parts_of ps
+parts_of (Some (part.Halves f g) ∷ ps) = Halves (form_body f) (form_body g) ∷ parts_of ps
 
 -- a pass, where there is one
 abbrev pub pass_of : Option BodyForm → List (StepOf Marked)
@@ -150,17 +163,22 @@ abbrev pub is_nested_statement : Statement → Bool
 is_nested_statement (Compute target second p args) = is_nested p
 is_nested_statement (Visit block) = false
 
--- how many bits the numbers from 1 to n have together
-abbrev pub bits_to : ℕ → ℕ
-bits_to zero = 0
-bits_to (suc n) = bits_to n + bits_in (suc n)
+-- how many of the first levels of a count of n bits have an odd number of elements
+abbrev pub odd_levels : ℕ → ℕ → ℕ
+odd_levels n zero = 0
+odd_levels n (suc o) = odd_levels n o + elements n o % 2
+
+-- how many pairs the first levels have together: their carries are the elements of the level above
+abbrev pub pairs_below : ℕ → ℕ → ℕ
+pairs_below n zero = 0
+pairs_below n (suc o) = pairs_below n o + elements n (o + 1)
 
 -- the commands of its loop program at width n
 abbrev pub nested_total : WordOp → ℕ → ℕ
 nested_total o.Mul n = 9 * (n * (n + 1) / 2) + 4 * n
 nested_total o.Div n = 12 * (n * (n + 1) / 2) + 16 * n + 1
 nested_total o.Rem n = 12 * (n * (n + 1) / 2) + 16 * n + 1
-nested_total o.Bitcount n = 18 * bits_to n + 3 * n
+nested_total o.Bitcount n = 3 * n + 1 + 2 * odd_levels n n + 7 * pairs_below n n
 nested_total o.Divmod n = 12 * (n * (n + 1) / 2) + 17 * n + 1
 nested_total p n = 0
 

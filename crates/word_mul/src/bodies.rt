@@ -12,7 +12,7 @@ use crate::templates::{COUNTED, DIVIDED, MULTIPLIED};
 use loop_ir::{Body, Place};
 use mig_graph::NoMemory;
 use std::alloc::Global;
-use word_lower::literals::{N1, N8, OFF, ON, P1, P3, P4, P5, P7, P8};
+use word_lower::literals::{N1, N8, OFF, ON, P1, P2, P3, P4, P6, P7, P8};
 use word_lower::templates::{COMPARED, EITHER, WITHOUT};
 use word_lower::{cells, place_in, templated};
 
@@ -69,11 +69,25 @@ pub fn body(form: BodyForm, owners: Owners, alloc: Global) -> Result<Body, NoMem
             &[y.at(o), c.at(o)],
             a,
         ),
-        BodyForm::Counted(y, c) => templated(
-            &[y.at(o), c.at(o)],
+        BodyForm::Begun(x, s, k) => templated(
+            &[x.at(o)],
+            &[],
+            &[P1, P1],
+            &[s.at(o), k.at(o)],
+            a,
+        ),
+        BodyForm::Counted(x, y, s, c) => templated(
+            &[x.at(o), y.at(o), s.at(o)],
             &COUNTED,
-            &[P5, P3],
-            &[y.at(o), c.at(o)],
+            &[P4, P6],
+            &[c.at(o), s.at(o)],
+            a,
+        ),
+        BodyForm::Kept(x, s, z) => templated(
+            &[x.at(o), s.at(o)],
+            &[],
+            &[P1, P2],
+            &[z.at(o), s.at(o)],
             a,
         ),
         BodyForm::Divided(w, y, g, c) => templated(

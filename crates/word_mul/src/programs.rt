@@ -24,6 +24,11 @@ fn part(p: NestPart, owners: Owners, alloc: Global) -> Result<Inner, NoMemory>
     match p {
         NestPart::Once(form) => Ok(Inner::Once(body(form, owners, alloc)?)),
         NestPart::Each(count, form) => Ok(Inner::Each(count, body(form, owners, alloc)?)),
+        NestPart::IfOdd(form) => Ok(Inner::IfOdd(body(form, owners, alloc)?)),
+        NestPart::Halves(first, second) => Ok(Inner::Halves(
+            body(first, owners, alloc)?,
+            body(second, owners, alloc)?,
+        )),
     }
 }
 

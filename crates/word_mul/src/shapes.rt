@@ -53,17 +53,24 @@ pub enum BodyForm {
     Compared(Mark, Mark, Mark, Mark),
     /// A row is added where a state is not set, with a carry.
     Multiplied(Mark, Mark, Mark, Mark),
-    /// A carry is added, which is held inverted.
-    Counted(Mark, Mark),
+    /// A row begins a sum in cells, and stands in another cell too.
+    Begun(Mark, Mark, Mark),
+    /// Two rows are added to a sum in cells, with a carry.
+    Counted(Mark, Mark, Mark, Mark),
+    /// A row gets what another has, while a sum stays in cells.
+    Kept(Mark, Mark, Mark),
     /// What a row has is taken away where a state is set, with a borrow.
     Divided(Mark, Mark, Mark, Mark),
 }
 
-/// A part of a nest: a body at each outer position once, or in a loop of its own.
+/// A part of a nest: a body at each outer position once, or in a loop of its own; or of the levels
+/// of a count, a body where the elements are odd in number, or two at each pair of them.
 #[derive(Clone, Copy)]
 pub enum NestPart {
     Once(BodyForm),
     Each(Count, BodyForm),
+    IfOdd(BodyForm),
+    Halves(BodyForm, BodyForm),
 }
 
 /// What is known of an argument before: a body that is done once, and then a nest.

@@ -4,9 +4,9 @@ ghost use Rattle.std.specs.Prelude.{◌≡◌};
 ghost use Rattle.word_mul.specs.Programs.{program_in, program_of};
 
 use crate::shapes::BodyForm::{
-    Compared, Counted, Divided, Either, Inverted, Moved, Multiplied, Off, On, Without,
+    Begun, Compared, Counted, Divided, Either, Inverted, Kept, Moved, Multiplied, Off, On, Without,
 };
-use crate::shapes::NestPart::{Each, Once};
+use crate::shapes::NestPart::{Each, Halves, IfOdd, Once};
 use crate::shapes::{Gathering, Mark, NestPart, NestedProgram, Owner};
 use loop_ir::{Count, Sub};
 use op_text::WordOp;
@@ -26,15 +26,36 @@ const Z_DOWN: Mark = Mark {
     owner: Owner::Target,
     sub: Sub::OuterDown,
 };
+
+// of a count the target at the level, at the elements of a pair, and at an element of the level above
+const Z_LEVEL: Mark = Mark {
+    owner: Owner::Target,
+    sub: Sub::Outer,
+};
+
+const Z_PAIR: Mark = Mark {
+    owner: Owner::Target,
+    sub: Sub::SumTwice,
+};
+
+const Z_PAIR_ABOVE: Mark = Mark {
+    owner: Owner::Target,
+    sub: Sub::AboveSumTwice,
+};
+
+const Z_LEVEL_ABOVE: Mark = Mark {
+    owner: Owner::Target,
+    sub: Sub::AboveSum,
+};
 // the arguments, at the inner and at the outer position, and at the outer one from above
 const X: Mark = Mark {
     owner: Owner::First,
     sub: Sub::Inner,
 };
 
-const X_OUTER: Mark = Mark {
+const X_TOP: Mark = Mark {
     owner: Owner::First,
-    sub: Sub::Outer,
+    sub: Sub::Top,
 };
 
 const Y: Mark = Mark {
@@ -51,8 +72,14 @@ const Y_DOWN: Mark = Mark {
     owner: Owner::Second,
     sub: Sub::OuterDown,
 };
-// the complement of a bit of an argument; and of a division, whether the divisor is taken away
+// the complement of a bit of an argument; of a count, the last element of a level; and of a division,
+// whether the divisor is taken away
 const BIT: Mark = Mark {
+    owner: Owner::ScratchBit,
+    sub: Sub::Zero,
+};
+
+const LAST: Mark = Mark {
     owner: Owner::ScratchBit,
     sub: Sub::Zero,
 };
@@ -61,10 +88,20 @@ const FITS: Mark = Mark {
     owner: Owner::ScratchBit,
     sub: Sub::Zero,
 };
-// states in cells: a carry, whose complement stands in T3 and DCC1; a comparison, in T0; and a
-// borrow, in T3 and DCC1
+// states in cells: a carry, whose complement stands in T3 and DCC1; a sum, as a carry, and what it
+// begins with, in T1 too; a comparison, in T0; and a borrow, in T3 and DCC1
 const CARRY: Mark = Mark {
     owner: Owner::Cells(5),
+    sub: Sub::Zero,
+};
+
+const SUM: Mark = Mark {
+    owner: Owner::Cells(5),
+    sub: Sub::Zero,
+};
+
+const BEGINNING: Mark = Mark {
+    owner: Owner::Cells(1),
     sub: Sub::Zero,
 };
 
@@ -169,17 +206,25 @@ pub static NESTED: [(WordOp, NestedProgram); 5] = [
             after: Some(Moved(REST, Z)),
         },
     ),
-    // each bit is added, where the count so far may have ones
+    // level o has n / 2^o elements of weight 2^o, from row o on, the bits of the argument at first.
+    // Its sum begins with the last one where they are odd in number, and takes the others in pairs,
+    // whose carries are the elements of the level above
     (
         WordOp::Bitcount,
         NestedProgram {
-            first: Off(Z),
-            gathering: None,
+            first: Moved(X, Z),
+            gathering: Some(Gathering {
+                start: Moved(X_TOP, LAST),
+                parts: [None, None],
+            }),
             parts: [
-                Some(Once(Inverted(X_OUTER, BIT))),
-                Some(Each(Count::Bits, Counted(Z, BIT))),
-                None,
-                None,
+                Some(Once(Off(SUM))),
+                Some(IfOdd(Begun(LAST, SUM, BEGINNING))),
+                Some(Halves(
+                    Counted(Z_PAIR, Z_PAIR_ABOVE, SUM, LAST),
+                    Kept(LAST, SUM, Z_LEVEL_ABOVE),
+                )),
+                Some(Once(Moved(SUM, Z_LEVEL))),
                 None,
             ],
             last: None,

@@ -28,19 +28,19 @@ pub const MULTIPLIED: [Node; 4] = [
 
 pub const COUNTED: [Node; 3] = [
     Node {
-        a: ON,
-        b: N1,
-        c: P2,
+        a: P1,
+        b: P2,
+        c: P3,
     },
     Node {
-        a: OFF,
-        b: P1,
-        c: P2,
-    },
-    Node {
-        a: N2,
+        a: P2,
         b: P3,
-        c: P4,
+        c: N4,
+    },
+    Node {
+        a: P1,
+        b: N4,
+        c: P5,
     },
 ];
 

@@ -17,8 +17,8 @@ use Rattle.row_alloc.specs.declared.body.BodyCmd.{BodyCmd}
 use Rattle.row_alloc.specs.declared.body.BodyCmd.TheVariants as cmd
 use Rattle.loop_ir.specs.declared.ir.Sub.{Sub}
 use Rattle.loop_ir.specs.declared.ir.Sub.TheVariants.{Zero, Top, Inner as At_inner, InnerDown}
-use Rattle.loop_ir.specs.declared.ir.Sub.TheVariants.{Outer, OuterDown, Sum, DownSum, DownPlusN}
-use Rattle.loop_ir.specs.declared.ir.Sub.TheVariants.{NPlusInner}
+use Rattle.loop_ir.specs.declared.ir.Sub.TheVariants.{Outer, OuterDown, Sum, DownSum, SumTwice}
+use Rattle.loop_ir.specs.declared.ir.Sub.TheVariants.{AboveSumTwice, AboveSum}
 use Rattle.loop_ir.specs.declared.ir.Space.{Space}
 use Rattle.loop_ir.specs.declared.ir.Space.TheVariants.{Result, Source, ScratchBit, ScratchWord}
 use Rattle.loop_ir.specs.declared.ir.Space.TheVariants.{Cells}
@@ -38,8 +38,8 @@ sub_at : ℕ → Sub
 sub_at k =
     slice_index_or (Zero
     ∷ (Top ∷ (At_inner
-    ∷ (InnerDown ∷ (Outer ∷ (OuterDown ∷ (Sum ∷ (DownSum ∷ (DownPlusN ∷ (NPlusInner ∷ [])))))))))) k
-    Zero
+    ∷ (InnerDown ∷ (Outer ∷ (OuterDown ∷ (Sum ∷ (DownSum ∷ (SumTwice ∷ (AboveSumTwice ∷ (AboveSum ∷ [])))))))))))
+    k Zero
 
 sub_back : (s : Sub) → sub_at (sub_code s) ≡ s
 unfolding sub_at
@@ -51,8 +51,9 @@ sub_back Outer = refl
 sub_back OuterDown = refl
 sub_back Sum = refl
 sub_back DownSum = refl
-sub_back DownPlusN = refl
-sub_back NPlusInner = refl
+sub_back SumTwice = refl
+sub_back AboveSumTwice = refl
+sub_back AboveSum = refl
 
 pub same_true : (s t : Sub) → same_sub s t ≡ true → s ≡ t
 same_true s t e = sym (sub_back s) ∙ ap sub_at (eqb-true (sub_code s) (sub_code t) e) ∙ sub_back t
@@ -75,8 +76,9 @@ module _ (head : Shape) (code : List Uop) (n : ℕ) where
   at_value InnerDown i o v a b c h = h
   at_value Sum i o v a b c h = h
   at_value DownSum i o v a b c h = h
-  at_value DownPlusN i o v a b c h = h
-  at_value NPlusInner i o v a b c h = h
+  at_value SumTwice i o v a b c h = h
+  at_value AboveSumTwice i o v a b c h = h
+  at_value AboveSum i o v a b c h = h
 
   -- the register of a planned subscript holds its value
   held : (plan : Plan) (s : Sub) (left i o : ℕ) (regs : List ℕ) → is_planned plan s ≡ true

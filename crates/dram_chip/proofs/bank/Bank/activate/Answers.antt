@@ -70,12 +70,7 @@ returns-then-raised-eq3-clause-ready c =
       at_p = c.wire_start-p.ensures.start ∙ at 0;
       at_q = c.wire_start-q.ensures.start ∙ at 1;
       at_r = c.wire_start-r.ensures.start ∙ at 2;
-      settled = record {
-        first = c.settle_rows.ensures.a;
-        second = c.settle_rows.ensures.b;
-        third = c.settle_rows.ensures.c;
-        others = c.settle_rows.ensures.others;
-      };
+      settled = c.settle_rows.ensures.settled;
     }) c.requires.ready.constant)
 
 pub returns-then-raised-eq3-clause-cell : goal.returns-then-raised-eq3-clause-cell
@@ -104,12 +99,7 @@ returns-then-raised-eq3-clause-stepped c = λ k h.
       at_p = c.wire_start-p.ensures.start ∙ at 0;
       at_q = c.wire_start-q.ensures.start ∙ at 1;
       at_r = c.wire_start-r.ensures.start ∙ at 2;
-      settled = record {
-        first = c.settle_rows.ensures.a;
-        second = c.settle_rows.ensures.b;
-        third = c.settle_rows.ensures.c;
-        others = c.settle_rows.ensures.others;
-      };
+      settled = c.settle_rows.ensures.settled;
     }) h).0
 
 pub returns-then-raised-eq3-clause-sensed : goal.returns-then-raised-eq3-clause-sensed
@@ -133,12 +123,7 @@ returns-then-raised-eq3-clause-sensed c = λ k h.
       at_p = c.wire_start-p.ensures.start ∙ at 0;
       at_q = c.wire_start-q.ensures.start ∙ at 1;
       at_r = c.wire_start-r.ensures.start ∙ at 2;
-      settled = record {
-        first = c.settle_rows.ensures.a;
-        second = c.settle_rows.ensures.b;
-        third = c.settle_rows.ensures.c;
-        others = c.settle_rows.ensures.others;
-      };
+      settled = c.settle_rows.ensures.settled;
     }) h).1
 
 pub returns-else-raised-eq3-clause-stepped : goal.returns-else-raised-eq3-clause-stepped

@@ -1,0 +1,430 @@
+-- bitcount: the elements of a level are added in pairs, and their carries are the next level's.
+use Rattle.std.proofs.Common.{◌≡◌, ℕ, zero, suc, ◌+◌, ◌-◌, ◌*◌, ◌^◌, ◌<◌, ◌≤◌, Bool, true, false}
+use Rattle.std.proofs.Common.{not, List, [], ◌∷◌, refl, sym, ap, ◌∙◌, subst, ⊎_elim, arith}
+use Rattle.std.specs.Prelude.{◌%◌}
+use Rattle.std.proofs.Math.Nat.{pow-suc}
+use Rattle.std.proofs.lemmas.Bool.{cases_eq}
+use Rattle.bit_rows.specs.Bits.{majority}
+use Rattle.mig_graph.specs.Graph.{values_from}
+use Rattle.op_text.specs.declared.word_ops.WordOp.TheVariants as op
+use Rattle.op_text.specs.Values.{ones_of}
+use Rattle.loop_ir.specs.declared.ir.Sub.TheVariants as sub
+use Rattle.loop_ir.specs.Loops.{elements}
+use Rattle.loop_ir.specs.Plain.{Block, InnerOf}
+use Rattle.loop_ir.specs.Plain.InnerOf.{Alone, IfOdd, Halves}
+use Rattle.loop_ir.specs.Plain.StepOf.{Single, Nest}
+use Rattle.loop_ir.specs.Spots.{Spot, Spots, set_spot, is_state}
+use Rattle.loop_laws.specs.Rooms.{placed_body}
+use Rattle.loop_laws.specs.Turns.{Standing, after_many}
+use Rattle.loop_laws.proofs.Levels.{all_elements, pairs_of, room_for_level}
+use Rattle.loop_laws.proofs.Same.{set_same, set_other}
+use Rattle.loop_laws.proofs.Steps.{steps_each, steps_nest, after_steps, after_parts, after_outer}
+use Rattle.loop_laws.proofs.Steps.{after_both}
+use Rattle.word_lower.specs.Places.{scratch_bit}
+use Rattle.word_lower.specs.Programs.{plain, off, constant, moved}
+use Rattle.word_lower.proofs.Marks.{target, first, third, state}
+use Rattle.word_lower.proofs.Setting.{bit, number, row, number_at}
+use Rattle.word_lower.proofs.Passes.{word_loop, upwards}
+use Rattle.word_lower.proofs.Sums.{value_same}
+use Rattle.word_lower.proofs.Lists.{ones_of_none, ones_of_more}
+use Rattle.word_mul.specs.Programs.{begun, counted, kept}
+use Rattle.word_mul.specs.declared.rows.Rows.{Rows}
+use Rattle.word_mul.specs.Places.{rooms_for}
+use Rattle.word_mul.proofs.Setting.{cell, row_stands, cell_other, row_other, IsFree}
+use Rattle.word_mul.proofs.Setting.{AreRows, IsElsewhere, Gives, DoesNested, bit_free, bit_else}
+use Rattle.word_mul.proofs.Multiply.{args_else}
+
+-- how many of the first bits are set
+tally : (ℕ → Bool) → ℕ → ℕ
+tally f zero = 0
+tally f (suc k) = tally f k + bit (f k)
+
+tally_same : (f g : ℕ → Bool) (k : ℕ) → ((j : ℕ) → j < k → f j ≡ g j) → tally f k ≡ tally g k
+unfolding tally
+tally_same f g zero h = refl
+tally_same f g (suc k) h =
+    let e = tally_same f g k (λ j lj. h j (omega (arith, lj))) in
+    let b = ap bit (h k (omega arith)) in
+    omega (arith, e, b)
+
+tally_two : (f : ℕ → Bool) (k : ℕ) → tally f (2 * suc k)
+    ≡ tally f (2 * k) + bit (f (2 * k)) + bit (f (1 + 2 * k))
+unfolding tally
+tally_two f k = let e : 2 * suc k ≡ suc (suc (2 * k)) = omega arith in
+    let g : suc (2 * k) ≡ 1 + 2 * k = omega arith in
+    ap (tally f) e ∙ ap (λ x. tally f (2 * k) + bit (f (2 * k)) + bit (f x)) g
+
+-- that is the number of ones of the number that they spell
+tally_ones : (f : ℕ → Bool) (n : ℕ) → tally f n ≡ ones_of n (number f n)
+unfolding tally
+tally_ones f zero = sym (ones_of_none f)
+tally_ones f (suc n) = ap (λ x. x + bit (f n)) (tally_ones f n) ∙ sym (ones_of_more f n)
+
+-- a carry and a sum of three
+abbrev sum_of : Bool → Bool → Bool → Bool
+sum_of x y s = majority x (not (majority x y s)) (majority y s (not (majority x y s)))
+
+counted_digit : (x y s : Bool) → bit (sum_of x y s) + 2 * bit (majority x y s)
+    ≡ bit x + bit y + bit s
+unfolding majority
+counted_digit true true true = refl
+counted_digit true true false = refl
+counted_digit true false true = refl
+counted_digit true false false = refl
+counted_digit false true true = refl
+counted_digit false true false = refl
+counted_digit false false true = refl
+counted_digit false false false = refl
+
+-- a level: what stands below it, its sum and its carries, where its elements were those
+level_sum : (low s t e p q : ℕ) → s + 2 * t ≡ e → q ≡ p * 2
+    → low + s * p + q * t ≡ low + p * e
+level_sum low s t e p q h g = let a : p * (s + 2 * t) ≡ p * e = ap (λ x. p * x) h in
+    rw g (omega (arith, a))
+
+module _ (n : ℕ) (m : Rows) (are : AreRows n 1 0 m) (bits : Spots) where
+  f : IsFree n m (scratch_bit m.free_bit) 1
+  f = bit_free n 0 0 m are
+
+  -- the bit of scratch, the sum, and what it begins with
+  abbrev p : Spot
+  p = row n (scratch_bit m.free_bit) 0
+
+  abbrev c : Spot
+  c = cell n 5
+
+  abbrev d : Spot
+  d = cell n 1
+
+  -- a row of the target
+  abbrev z : ℕ → Spot
+  z v = row n m.target v
+
+  abbrev load : Block
+  load = placed_body (rooms_for op.Bitcount m) (begun (third sub.Zero) (state 5) (state 1))
+
+  abbrev pair : Block
+  pair = placed_body (rooms_for op.Bitcount m) (counted (target sub.SumTwice)
+      (target sub.AboveSumTwice) (state 5) (third sub.Zero))
+
+  abbrev move : Block
+  move = placed_body (rooms_for op.Bitcount m) (kept (third sub.Zero) (state 5)
+      (target sub.AboveSum))
+
+  abbrev parts : List (InnerOf Block)
+  parts = Alone (placed_body (rooms_for op.Bitcount m) (constant off (state 5)))
+      ∷ (IfOdd load ∷ (Halves pair move
+      ∷ (Alone (placed_body (rooms_for op.Bitcount m) (moved (state 5) (target sub.Outer))) ∷ [])))
+
+  p_c : p ≡ c → ⊥
+  p_c = row_other n (scratch_bit m.free_bit) 0 5 refl
+
+  z_c : (v : ℕ) → z v ≡ c → ⊥
+  z_c v = row_other n m.target v 5 are.target_rows
+
+  z_p : (v : ℕ) → v < n → z v ≡ p → ⊥
+  z_p v lv e = f.target.by 0 v (omega arith) lv (sym e)
+
+  z_z : (u v : ℕ) → u < n → v < n → (u ≡ v → ⊥) → z u ≡ z v → ⊥
+  z_z u v lu lv ne e = ne (are.moves.by u v lu lv e)
+
+  -- what a pair of a level does
+  abbrev paired : ℕ → ℕ → Spots → Spots
+  paired o i old =
+      let x = old (z (o + 2 * i)) in
+      let y = old (z (o + 1 + 2 * i)) in
+      let s1 = set_spot old p (majority x y (old c)) in
+      let s2 = set_spot s1 c (sum_of x y (old c)) in
+      let s3 = set_spot s2 (z (o + 1 + i)) (s2 p) in
+      set_spot s3 c (s2 c)
+
+  -- after so many pairs of a level whose rows were these
+  record Paired (o i : ℕ) (old new : Spots) : Type 0 where
+    sum : bit (new c) + 2 * tally (λ j. new (z (o + 1 + j))) i
+        ≡ bit (old c) + tally (λ j. old (z (o + j))) (2 * i)
+    below : (v : ℕ) → v ≤ o → o < n → new (z v) ≡ old (z v)
+    above : (v : ℕ) → o + i < v → v < n → new (z v) ≡ old (z v)
+    last : 0 < i → new p ≡ new (z (o + i))
+    rest : (q : Spot) → IsElsewhere n 1 0 m q → new q ≡ old q
+
+  one_pair : (o i : ℕ) (old mid : Spots) → o + 1 + 2 * i < n → Paired o i old mid
+      → Paired o (suc i) old (paired o i mid)
+  unfolding tally
+  one_pair o i old mid lt r =
+      let x = mid (z (o + 2 * i)) in
+      let y = mid (z (o + 1 + 2 * i)) in
+      let k = majority x y (mid c) in
+      let w = sum_of x y (mid c) in
+      let s1 = set_spot mid p k in
+      let s2 = set_spot s1 c w in
+      let to = z (o + 1 + i) in
+      let s3 = set_spot s2 to (s2 p) in
+      let new = set_spot s3 c (s2 c) in
+      let lto : o + 1 + i < n = omega (arith, lt) in
+      let at_p : s2 p ≡ k = set_other s1 c w p p_c ∙ set_same mid p k p refl in
+      let new_c : new c ≡ w = set_same s3 c (s2 c) c refl ∙ set_same s1 c w c refl in
+      let new_to : new to ≡ k = set_other s3 c (s2 c) to (z_c (o + 1 + i))
+      ∙ set_same s2 to (s2 p) to refl ∙ at_p in
+      let new_p : new p ≡ k = set_other s3 c (s2 c) p p_c
+      ∙ set_other s2 to (s2 p) p (λ e. z_p (o + 1 + i) lto (sym e)) ∙ at_p in
+      let other : (v : ℕ) → v < n → (v ≡ o + 1 + i → ⊥) → new (z v) ≡ mid (z v) = λ v lv ne.
+      set_other s3 c (s2 c) (z v) (z_c v)
+      ∙ set_other s2 to (s2 p) (z v) (z_z v (o + 1 + i) lv lto ne)
+      ∙ set_other s1 c w (z v) (z_c v) ∙ set_other mid p k (z v) (z_p v lv) in
+      let read : (v : ℕ) → v < n → (v ≤ o → ⊥) → o + i < v → mid (z v) ≡ old (z v) = λ v lv a b.
+      r.above v b lv in
+      let first_is : x ≡ old (z (o + 2 * i)) = first_read o i old mid lt r in
+      let second_is : y ≡ old (z (o + (1 + 2 * i))) =
+      (let e : o + 1 + 2 * i ≡ o + (1 + 2 * i) = omega arith in
+      r.above (o + 1 + 2 * i) (omega (arith, lt)) lt ∙ ap (λ v. old (z v)) e) in
+      let carries : tally (λ j. new (z (o + 1 + j))) i ≡ tally (λ j. mid (z (o + 1 + j))) i =
+      tally_same _ _ i (λ j lj. other (o + 1 + j) (omega (arith, lj, lt)) (λ e.
+      absurd (omega (arith, e, lj)))) in
+      let two = tally_two (λ j. old (z (o + j))) i in
+      let digit = counted_digit x y (mid c) in
+      let b0 = ap bit new_c in
+      let b1 = ap bit new_to in
+      let b2 = ap bit first_is in
+      let b3 = ap bit second_is in
+      let s = r.sum in
+      record {
+        sum = omega (arith, carries, two, digit, b0, b1, b2, b3, s);
+        below = λ v le lo. other v (omega (arith, le, lo)) (λ e. absurd (omega (arith, e, le)))
+            ∙ r.below v le lo;
+        above = λ v le lv. other v lv (λ e. absurd (omega (arith, e, le)))
+            ∙ r.above v (omega (arith, le)) lv;
+        last = λ some. let e : o + 1 + i ≡ o + suc i = omega arith in
+            new_p ∙ sym new_to ∙ ap (λ v. new (z v)) e;
+        rest = λ q out. set_other s3 c (s2 c) q (cell_other n q 5 out.has_row)
+            ∙ set_other s2 to (s2 p) q (out.target (o + 1 + i) lto)
+            ∙ set_other s1 c w q (cell_other n q 5 out.has_row)
+            ∙ set_other mid p k q (bit_else n 0 0 m q out) ∙ r.rest q out;
+      }
+    where
+      first_read : (o i : ℕ) (old mid : Spots) → o + 1 + 2 * i < n → Paired o i old mid
+          → mid (z (o + 2 * i)) ≡ old (z (o + 2 * i))
+      first_read o zero old mid lt r = r.below (o + 2 * 0) (omega arith) (omega (arith, lt))
+      first_read o (suc i) old mid lt r = r.above (o + 2 * suc i) (omega arith) (omega (arith, lt))
+
+  all_pairs : (o h i : ℕ) (old : Spots) → i ≤ h → o + 2 * h ≤ n → o < n
+      → Paired o i old (after_both n o pair move i old)
+  unfolding values_from
+  all_pairs o h zero old le fit lo = record {
+    sum = let e : 2 * 0 ≡ 0 = refl in refl;
+    below = λ v lv l. refl;
+    above = λ v lv l. refl;
+    last = λ some. absurd (omega (arith, some));
+    rest = λ q out. refl;
+  }
+  all_pairs o h (suc i) old le fit lo =
+      one_pair o i old (after_both n o pair move i old) (omega (arith, le, fit))
+      (all_pairs o h i old (omega (arith, le)) fit lo)
+
+  -- before level o: its elements and the bits below it are worth the ones of the argument together
+  record Levelled (o : ℕ) (new : Spots) : Type 0 where
+    counted : number (λ v. new (z v)) o + 2 ^ o * tally (λ j. new (z (o + j))) (elements n o)
+        ≡ tally (λ v. bits (row n m.a v)) n
+    last : elements n o % 2 ≡ 1 → new p ≡ new (z (o + 2 * elements n (o + 1)))
+    rest : (q : Spot) → IsElsewhere n 1 0 m q → new q ≡ bits q
+
+  -- the sum begins with the last element, or with 0
+  record Begins (o : ℕ) (old new : Spots) : Type 0 where
+    sum : bit (new c) + tally (λ j. new (z (o + j))) (2 * elements n (o + 1))
+        ≡ tally (λ j. old (z (o + j))) (elements n o)
+    same : (q : Spot) → is_state q.space ≡ false → new q ≡ old q
+
+  begins : (o : ℕ) (old : Spots) → o < n → Levelled o old
+      → Begins o old (after_many n o load (elements n o % 2) (set_spot old c false))
+  begins o old lo i = by (elements n o % 2) refl
+    where
+      h : ℕ
+      h = elements n (o + 1)
+
+      even : elements n o % 2 ≡ 0 → elements n o ≡ 2 * h
+      even e = omega (arith, pairs_of n o, e)
+
+      odd : elements n o % 2 ≡ 1 → elements n o ≡ suc (2 * h)
+      odd e = omega (arith, pairs_of n o, e)
+
+      start : Spots
+      start = set_spot old c false
+
+      stays : (q : Spot) → is_state q.space ≡ false → start q ≡ old q
+      stays q rows = set_other old c false q (cell_other n q 5 rows)
+
+      rows_of : (v : ℕ) → is_state (z v).space ≡ false
+      rows_of v = row_stands n m.target v are.target_rows
+
+      by : (k : ℕ) → elements n o % 2 ≡ k
+          → Begins o old (after_many n o load k (set_spot old c false))
+      unfolding tally values_from
+      by zero e = record {
+        sum =
+            let a : bit (start c) ≡ 0 = ap bit (set_same old c false c refl) in
+            let b : tally (λ j. start (z (o + j))) (2 * h) ≡ tally (λ j. old (z (o + j))) (2 * h) =
+            tally_same _ _ (2 * h) (λ j lj. stays (z (o + j)) (rows_of (o + j))) in
+            let g : tally (λ j. old (z (o + j))) (elements n o)
+            ≡ tally (λ j. old (z (o + j))) (2 * h) =
+            ap (tally (λ j. old (z (o + j)))) (even e) in
+            omega (arith, a, b, g);
+        same = stays;
+      }
+      by (suc zero) e =
+          let x = start p in
+          let s1 = set_spot start c x in
+          let new = set_spot s1 d x in
+          let keeps : (q : Spot) → is_state q.space ≡ false → new q ≡ old q = λ q rows.
+          set_other s1 d x q (cell_other n q 1 rows) ∙ set_other start c x q (cell_other n q 5 rows)
+          ∙ stays q rows in
+          record {
+            sum =
+                let at : new c ≡ old (z (o + 2 * h)) = set_other s1 d x c (λ k. apart k)
+                ∙ set_same start c x c refl ∙ stays p refl ∙ i.last e in
+                let a = ap bit at in
+                let b : tally (λ j. new (z (o + j))) (2 * h)
+                ≡ tally (λ j. old (z (o + j))) (2 * h) =
+                tally_same _ _ (2 * h) (λ j lj. keeps (z (o + j)) (rows_of (o + j))) in
+                let g : tally (λ j. old (z (o + j))) (elements n o)
+                ≡ tally (λ j. old (z (o + j))) (2 * h) + bit (old (z (o + 2 * h))) =
+                ap (tally (λ j. old (z (o + j)))) (odd e) in
+                omega (arith, a, b, g);
+            same = keeps;
+          }
+        where
+          apart : c ≡ d → ⊥
+          apart e = let k : 5 ≡ 1 = ap (λ (q : Spot). q.which) e in absurd (omega (arith, k))
+      by (suc (suc k)) e = absurd (omega (arith, e, pairs_of n o))
+
+  one_level : (o : ℕ) (old : Spots) → o < n → Levelled o old
+      → Levelled (suc o) (after_parts n o parts old)
+  unfolding values_from tally
+  one_level o old lo i =
+      let h = elements n (o + 1) in
+      let one : o + 1 ≡ suc o = omega arith in
+      let room = room_for_level n o (omega (arith, lo)) in
+      let room_up = room_for_level n (suc o) (omega (arith, lo)) in
+      let up : elements n (o + 1) ≡ elements n (suc o) = ap (elements n) one in
+      let are_pairs = pairs_of n o in
+      let start = after_many n o load (elements n o % 2) (set_spot old c false) in
+      let g = begins o old lo i in
+      let mid = after_both n o pair move h start in
+      let r = all_pairs o h h start (omega arith) (omega (arith, room, are_pairs)) lo in
+      let new = set_spot mid (z o) (mid c) in
+      let at_o : new (z o) ≡ mid c = set_same mid (z o) (mid c) (z o) refl in
+      let high : (j : ℕ) → j < h → new (z (suc o + j)) ≡ mid (z (o + 1 + j)) = λ j lj.
+      (let e : suc o + j ≡ o + 1 + j = omega arith in
+      ap (λ v. new (z v)) e
+      ∙ set_other mid (z o) (mid c) (z (o + 1 + j))
+      (z_z (o + 1 + j) o (omega (arith, lj, room_up, up)) lo (λ k. absurd (omega (arith, k))))) in
+      let low : number (λ v. new (z v)) o ≡ number (λ v. old (z v)) o =
+      value_same _ _ o (λ v lv.
+      set_other mid (z o) (mid c) (z v) (z_z v o (omega (arith, lv, lo)) lo
+      (λ k. absurd (omega (arith, k, lv))))
+      ∙ r.below v (omega (arith, lv)) lo
+      ∙ g.same (z v) (row_stands n m.target v are.target_rows)) in
+      let carries : tally (λ j. new (z (suc o + j))) h ≡ tally (λ j. mid (z (o + 1 + j))) h =
+      tally_same _ _ h high in
+      let carries_up : tally (λ j. new (z (suc o + j))) (elements n (suc o))
+      ≡ tally (λ j. mid (z (o + 1 + j))) h =
+      ap (tally (λ j. new (z (suc o + j)))) (sym up) ∙ carries in
+      let sums : bit (mid c) + 2 * tally (λ j. mid (z (o + 1 + j))) h
+      ≡ tally (λ j. old (z (o + j))) (elements n o) = r.sum ∙ g.sum in
+      let level = level_sum (number (λ v. old (z v)) o) (bit (mid c))
+      (tally (λ j. mid (z (o + 1 + j))) h) (tally (λ j. old (z (o + j))) (elements n o)) (2 ^ o)
+      (2 ^ suc o) sums (pow-suc 2 o) in
+      record {
+        counted =
+            ap (λ x. x + bit (new (z o)) * 2 ^ o
+            + 2 ^ suc o * tally (λ j. new (z (suc o + j))) (elements n (suc o))) low
+            ∙ ap (λ b. number (λ v. old (z v)) o + bit b * 2 ^ o
+            + 2 ^ suc o * tally (λ j. new (z (suc o + j))) (elements n (suc o))) at_o
+            ∙ ap (λ x. number (λ v. old (z v)) o + bit (mid c) * 2 ^ o + 2 ^ suc o * x) carries_up
+            ∙ level ∙ i.counted;
+        last = λ e.
+            let k = pairs_of n (suc o) in
+            let some : 0 < h = omega (arith, k, e, up) in
+            let at : o + h ≡ suc o + 2 * elements n (suc o + 1) = omega (arith, k, e, up) in
+            set_other mid (z o) (mid c) p (λ j. z_p o lo (sym j))
+            ∙ r.last some
+            ∙ sym (set_other mid (z o) (mid c) (z (o + h))
+            (z_z (o + h) o (omega (arith, room_up, up, some)) lo
+            (λ j. absurd (omega (arith, j, some)))))
+            ∙ ap (λ v. new (z v)) at;
+        rest = λ q out. set_other mid (z o) (mid c) q (out.target o lo)
+            ∙ r.rest q out ∙ g.same q out.has_row ∙ i.rest q out;
+      }
+
+  all_levels : (o : ℕ) (start : Spots) → o ≤ n → Levelled 0 start
+      → Levelled o (after_outer n parts o start)
+  all_levels zero start lo i = i
+  all_levels (suc o) start lo i = one_level o (after_outer n parts o start) (omega (arith, lo))
+      (all_levels o start (omega (arith, lo)) i)
+
+  abbrev copy : Block
+  copy = placed_body (rooms_for op.Bitcount m) (moved (first sub.Inner) (target sub.Inner))
+
+  abbrev copied : Spots
+  copied = after_many n 0 copy n bits
+
+  abbrev taken : Spots
+  taken = set_spot copied p (copied (row n m.a (n - 1)))
+
+  first_level : 0 < n → Levelled 0 taken
+  unfolding values_from
+  first_level some =
+      let top = n - 1 in
+      let v = copied (row n m.a top) in
+      let l = word_loop n 0 m.target are.own are.moves sub.Inner (λ v. v) (upwards n 0) copy.reads 1
+      [] (plain 1) (Standing ∷ []) bits
+      (((λ i j li lj e. are.a.by i j li (omega (arith, li, lj)) e), tt), tt) in
+      let at : (u : ℕ) → u < n → taken (z u) ≡ bits (row n m.a u) = λ u lu.
+      set_other copied p v (z u) (z_p u lu) ∙ l.word u lu in
+      let all = all_elements n in
+      let a = λ (u : ℕ). bits (row n m.a u) in
+      let sums : tally (λ j. taken (z (0 + j))) n ≡ tally a n =
+      tally_same _ _ n (λ j lj. (let e : 0 + j ≡ j = omega arith in
+      ap (λ u. taken (z u)) e ∙ at j lj)) in
+      record {
+        counted = (let t = ap (tally (λ j. taken (z (0 + j)))) all in
+            let w : 2 ^ 0 ≡ 1 = refl in
+            ap (λ x. 0 + x * tally (λ j. taken (z (0 + j))) (elements n 0)) w
+            ∙ omega (arith, t, sums));
+        last = λ e.
+            let k = pairs_of n 0 in
+            let here : top ≡ 0 + 2 * elements n (0 + 1) = omega (arith, k, e, all) in
+            set_same copied p v p refl
+            ∙ l.rest (row n m.a top) (λ u lu j. are.a.by top u (omega (arith, some)) lu j)
+            ∙ sym (at top (omega (arith, some)))
+            ∙ ap (λ u. taken (z u)) here;
+        rest = λ q out. set_other copied p v q (bit_else n 0 0 m q out)
+            ∙ l.rest q (λ u lu e. out.target u lu e);
+      }
+
+no_parts : (n o : ℕ) (bits : Spots) → after_outer n [] o bits ≡ bits
+no_parts n zero bits = refl
+no_parts n (suc o) bits = no_parts n o bits
+
+pub bitcount_does : (n : ℕ) (m : Rows) → 0 < n → AreRows n 1 0 m → DoesNested op.Bitcount n 1 0 m
+unfolding values_from tally
+bitcount_does n m some are bits =
+    let b0 = copy n m are bits in
+    let b1 = placed_body (rooms_for op.Bitcount m) (moved (first sub.Top) (third sub.Zero)) in
+    let ps : List (InnerOf Block) = parts n m are bits in
+    let s = taken n m are bits in
+    let new = after_outer n ps n s in
+    let i = all_levels n m are bits n s (omega arith) (first_level n m are bits some) in
+    let room = room_for_level n n (omega arith) in
+    let none : elements n n ≡ 0 = omega (arith, room) in
+    let ones : number_at n new m.target n ≡ ones_of n (number_at n bits m.a n) =
+    (let t = ap (tally (λ j. new (row n m.target (n + j)))) none in
+    let g = i.counted in
+    let h : 2 ^ n * tally (λ j. new (row n m.target (n + j))) (elements n n) ≡ 2 ^ n * 0 =
+    ap (λ x. 2 ^ n * x) t in
+    let k : number_at n new m.target n ≡ tally (λ v. bits (row n m.a v)) n =
+    omega (arith, g, h) in
+    k ∙ tally_ones (λ v. bits (row n m.a v)) n) in
+    subst (Gives op.Bitcount n 1 0 m bits)
+    (sym (steps_each n b0 (Single b1 ∷ (Nest [] ∷ (Nest ps ∷ []))) bits
+    ∙ steps_nest n [] (Nest ps ∷ []) s ∙ ap (λ x. after_steps n (Nest ps ∷ []) x) (no_parts n n s)
+    ∙ steps_nest n ps [] s))
+    record { gives = ones; keeps = i.rest }
