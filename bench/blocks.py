@@ -5,7 +5,7 @@ Run it at the top of the repository, after the program was built once:  python3 
 It compiles each text of bench/blocks, asks `cost` at n = 8 and n = 32, and prints the commands that each position takes:
 those of the reduced graph, without the search for other graphs (`known.csv`), those now, and the fewest that are known.
 It ends with 1 where a text takes more than the reduced graph took, or where full adders or subtractors take more than
-8n + 1 or 7n + 1.
+7n + 2 or 6n + 2: their carry stands in cells from one position to the next, and goes to its row in the end.
 """
 
 import csv
@@ -19,7 +19,7 @@ HERE = pathlib.Path(__file__).resolve().parent
 TEXTS = HERE / "blocks"
 PROGRAM = HERE.parent / "simdram"
 WIDTHS = (8, 32)
-CEILINGS = {"fa_": 8, "sub_": 7}
+CEILINGS = {"fa_": 7, "sub_": 6}
 ROW = "| {:11} | {:>5} | {:>5} | {:>7} | {:>4} | {:>5} | {:>7} | {:>5} |"
 
 
@@ -43,7 +43,7 @@ def is_more(name, now, before):
     """Whether an op takes more than it may."""
     ceilings = [most for start, most in CEILINGS.items() if name.startswith(start)]
     return any(a > b for a, b in zip(now, before)) or any(
-        count > most * width + 1 for most in ceilings for count, width in zip(now, WIDTHS)
+        count > most * width + 2 for most in ceilings for count, width in zip(now, WIDTHS)
     )
 
 

@@ -4,7 +4,9 @@ PROG is a program file and OP one of its entries. The code is shown part by part
 places where it can jump: what is done once, and what is done at each position, upwards or downwards. With --ops, sources,
 results, states and temporaries have the names of the operation text, and it is said which statement a part is of. Without
 it, sources are a, b, c, d, results y and z, scratch bits t0, t1, .., scratch words w0, .. and spill rows p0, ..; [i] is the
-position where one register counts it, and else the register's name. A cell that the part has not written yet holds ?.
+position where one register counts it, and else the register's name. A cell that the part has not written yet holds ?; where
+a position takes a value over from the one before in cells, these hold it by the name of the row that it goes to in the end, or
+else as s.
 `~x` is the complement of x, M(x, y, z) the majority; and(x, y) and or(x, y) are majorities with 0 and with 1. A long value
 gets a number, as v1, which stands below its table with its value.
 
@@ -18,7 +20,7 @@ import argparse
 import dataclasses
 import typing
 
-from .cell_values import UNKNOWN, Names, Value, ZERO, ONE, complemented, majority, row_value
+from .cell_values import ALL, UNKNOWN, Names, Value, ZERO, ONE, complemented, drawn, majority, row_value
 from .faults import Fault
 from .files.decode import CELLS, RAISED
 from .files.program import (AAP, ADD, ADDI, B_ADDRESS, BNEZ, C_ADDRESS, INDEXED, MOV, SETI, SETN, SETT, SUBI, Instruction,
@@ -123,11 +125,12 @@ def only_offset(code, register: int) -> int:
 class Board:
     """What cells and rows hold while a part is done."""
 
-    def __init__(self, code, rows: RowNames, names: Names) -> None:
+    def __init__(self, code, rows: RowNames, names: Names, taken: dict[str, Value] | None = None) -> None:
         used = {row.index for one in code for row in one.rows if row.space in INDEXED and row.index < ZERO_INDEX}
         self.letters = {register: "i" for register in used} if len(used) == 1 else {}
         self.added = {register: -offset for register in self.letters for offset in [only_offset(code, register)] if offset}
-        self.cells = dict.fromkeys(CELLS, UNKNOWN)
+        self.cells = {**dict.fromkeys(CELLS, UNKNOWN), **(taken or {})}
+        self.fresh, self.taken = set(CELLS), set()
         self.rows: dict[str, Value] = {}
         self.row_names, self.names = rows, names
 
@@ -150,6 +153,7 @@ class Board:
             return (ZERO, ONE)[row.which]
         if row.space != B_ADDRESS:
             return self.rows.setdefault(self.name(row), self.names.named(row_value(self.name(row))))
+        self.taken.update(line.cell for line in RAISED[row.which] if line.cell in self.fresh)
         values = [self.read(*line) for line in RAISED[row.which]]
         value = self.names.named(majority(values)) if len(values) == 3 else values[0]
         self.settle(row, value)
@@ -162,6 +166,7 @@ class Board:
             return
         for cell, inverted in RAISED[row.which]:
             self.cells[cell] = complemented(value) if inverted else value
+            self.fresh.discard(cell)
 
     def do(self, one: Instruction) -> bool:
         """Does an instruction; whether it was a row command."""
@@ -178,9 +183,63 @@ class Board:
         return True
 
 
-def steps(part: Part, rows: RowNames, names: Names) -> list[Step]:
+def is_loop(part: Part) -> bool:
+    """Whether a part goes back to its own start."""
+    last = part.code[-1]
+    return last.kind == BNEZ and last.number == part.first
+
+
+def groups(end: dict[str, Value], cells) -> dict[str, tuple[str, bool]]:
+    """Of each of these cells the first one that ends with the same value or its complement, and whether it is that."""
+    found: dict[str, tuple[str, bool]] = {}
+    for cell in cells:
+        same = ((other, end[cell].pattern == end[other].pattern ^ ALL) for other in found
+                if end[cell].pattern in (end[other].pattern, end[other].pattern ^ ALL))
+        found[cell] = next(((found[other][0], turned != found[other][1]) for other, turned in same), (cell, False))
+    return found
+
+
+def stored(part: Part, rows: RowNames, held: dict[str, Value]) -> dict[str, tuple[str, bool]]:
+    """The row's name for each value held in cells that a part puts into a row, and whether it puts the complement there."""
+    board, found = Board(part.code, rows, Names({}, WIDEST), held), {}
+    for one in part.code:
+        board.do(one)
+        if one.kind == AAP and one.rows[1].space not in (B_ADDRESS, C_ADDRESS):
+            value = board.rows[board.name(one.rows[1])]
+            for text in {other.text for other in held.values()}:
+                if value.pattern in (drawn(text), drawn(text) ^ ALL):
+                    found.setdefault(text, (board.name(one.rows[1]), value.pattern != drawn(text)))
+    return found
+
+
+def over(found: list[Part], rows: RowNames) -> list[dict[str, Value]]:
+    """What the cells hold at the start of each part: states that a loop takes over from one position to the next."""
+    made: list[dict[str, Value]] = [{} for _ in found]
+    for k, part in enumerate(found):
+        if not is_loop(part):
+            continue
+        board = Board(part.code, rows, Names({}, WIDEST), {cell: row_value(f"{cell} before") for cell in CELLS})
+        for one in part.code:
+            board.do(one)
+        taken = [cell for cell in CELLS if cell in board.taken]
+        same = groups(board.cells, taken)
+        held = {cell: row_value(f"{first} before") for cell, (first, _) in same.items()}
+        turned = {cell: complemented(held[cell]) if same[cell][1] else held[cell] for cell in taken}
+        after = {cell: turned[other] for cell in CELLS for other in taken if board.cells[cell].pattern == board.cells[other].pattern}
+        names = stored(found[k + 1], rows, after) if k + 1 < len(found) and not is_loop(found[k + 1]) else {}
+        for number, first in enumerate(sorted({first for first, _ in same.values()})):
+            name, is_turned = names.get(f"{first} before", (f"s{number or ''}", False))
+            value = complemented(row_value(name)) if is_turned else row_value(name)
+            for cells, at in ((turned, k), (after, k + 1)):
+                for cell, old in cells.items():
+                    if old.text.lstrip("~") == f"{first} before" and at < len(found):
+                        made[at][cell] = complemented(value) if old.text.startswith("~") else value
+    return made
+
+
+def steps(part: Part, rows: RowNames, names: Names, taken: dict[str, Value] | None = None) -> list[Step]:
     """The row commands of a part in order, and what cells and rows hold after each."""
-    board, found = Board(part.code, rows, names), []
+    board, found = Board(part.code, rows, names, taken), []
     for one in part.code:
         text = f"{one.name} {', '.join(map(board.name, one.rows))}" if one.rows else ""
         if board.do(one):
@@ -212,14 +271,14 @@ class Shown(typing.NamedTuple):
     said: typing.List[typing.Tuple[str, str]]
 
 
-def shown(part: Part, rows: RowNames, shape: OpShape | None) -> Shown:
+def shown(part: Part, rows: RowNames, shape: OpShape | None, taken: dict[str, Value]) -> Shown:
     """A part with its long values numbered, so that no line is over 100 characters."""
     lets: dict[str, int] = {}
     for number in part.statements if shape else ():
         lets.update(let_patterns(shape, shape.statements[number]))
     for longest in LENGTHS:
         names = Names(lets, longest)
-        done = steps(part, rows, names)
+        done = steps(part, rows, names, taken)
         lines = [part.title(), *table(done), *(f"  {name} = {value}" for name, value in names.said)]
         if max(map(len, lines)) <= WIDEST:
             break
@@ -233,7 +292,7 @@ def all_shown(entry, ops: str | None) -> list[Shown]:
     rows, found = RowNames(shape), parts(entry.code)
     if shape:
         found = with_statements(found, rows, shape, data)
-    return [shown(part, rows, shape) for part in found]
+    return [shown(part, rows, shape, taken) for part, taken in zip(found, over(found, rows))]
 
 
 def parser() -> argparse.ArgumentParser:

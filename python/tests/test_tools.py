@@ -134,12 +134,23 @@ class CellValues(unittest.TestCase):
 class Steps(Folder):
     def test_a_full_adder_by_name(self):
         entry = self.compiled(SERIAL.read_text()).find("maj_add")
-        once, each = all_shown(entry, str(SERIAL))
+        once, each, store = all_shown(entry, str(SERIAL))
         self.assertEqual(once.lines[0], "from instruction 0, once: line 25, serial up (c = 0) { .. }")
         self.assertIn("at each position, upwards: line 25", each.lines[0])
-        last = each.done[-1]
-        self.assertEqual((last.rows["c"], last.cells["DCC1"]), ("k", "k"))
-        self.assertIn("M(a[i], m, ~k)", last.rows["y[i]"])
+        # the carry stands in cells from one position to the next, and goes to its row in the end
+        first, last = each.done[0], each.done[-1]
+        self.assertTrue({"c", "~c"} & set(first.cells.values()), first.cells)
+        self.assertTrue({"k", "~k"} & set(last.cells.values()), last.cells)
+        self.assertIn("M(a[i], m, ~k)", [last.rows["y[i]"], *(value for _, value in each.said)])
+        self.assertEqual(store.done[-1].rows, {"c": "c"})
+
+    def test_states_in_cells_have_names(self):
+        entry = self.compiled("op less(a: word, b: word) -> l: bit {\n  serial up (l = 0) { l = maj(not(a), b, l); }\n}\n").find("less")
+        for ops, name in ((None, "y"), (str(self.folder / "p.ops"), "l")):
+            start, each, store = all_shown(entry, ops)
+            self.assertIn("0", start.done[-1].cells.values())
+            self.assertIn(name, {value.lstrip("~").replace("[0]", "") for value in each.done[0].cells.values()})
+            self.assertEqual(len(store.done), 1)
 
     def test_lines_are_short_and_values_have_numbers(self):
         entry = self.compiled(BIG).find("big")

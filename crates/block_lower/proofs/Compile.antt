@@ -36,6 +36,7 @@ use Rattle.loop_ir.specs.Statements.{Slots, holds_kind, targets_of, statement_na
 use Rattle.loop_ir.specs.Lowered.{IsRowOf, IsStatementRow}
 use Rattle.loop_laws.proofs.NoStates.{HasRows, has_rows, rows_fit, no_state_sought}
 use Rattle.block_lower.specs.Inputs.{block_inputs, name_at}
+use Rattle.block_lower.specs.Choice.{AreFor}
 use Rattle.block_lower.specs.Form.{kind_sub, place_of, places_of, constant, start, IsBlockBody}
 use Rattle.block_lower.proofs.Carried.{is-carried}
 use Rattle.block_lower.proofs.Names.{among-at}
@@ -240,8 +241,9 @@ body-rows {b = b} {body = body} g is =
     ∙ name-row g b.down (name_at (targets_of b.assigns) j) (target-named b j kj))
 
 pub body-small : {slots : Slots} {fb fw : ℕ} {b : Block} {body : Body} → Given slots fb fw b
-    → IsBlockBody slots b body → length (block_inputs b) ≤ 80 → IsSmall body
-body-small {b = b} {body = body} g is most =
+    → IsBlockBody slots b body → AreFor body.reads body.writes body.graph body.outs body.found
+    → length (block_inputs b) ≤ 80 → IsSmall body
+body-small {b = b} {body = body} g is for most =
     let m = is.as_many in
     let a = g.meets.assigns in
     let w = g.meets.weight in
@@ -250,7 +252,7 @@ body-small {b = b} {body = body} g is most =
       well = body-well g is;
       states = let l = writes-long is in rows_fit body (body-rows g is) (omega (arith, m, l));
       found = let l = writes-long is in is-carried body (body-rows g is) is.graph
-          (omega (arith, m, l)) is.found;
+          (omega (arith, m, l)) for;
       known = λ bare has. absurd (let none = body-rows g is in cc);
       graph = is.graph;
       inputs = let i = is.inputs in omega (arith, i, most);
@@ -480,14 +482,14 @@ steps-all P slots b body n (s ∷ ss) all h k =
     (h s (head-state b s ss all), steps-all P slots b body n ss (tail-states b s ss all) h k)
 
 pub can-compile : {slots : Slots} {fb fw : ℕ} {b : Block} {body : Body} → Given slots fb fw b
-    → IsBlockBody slots b body → length (block_inputs b) ≤ 80
-    → CanCompile (IsStatementRow slots fb fw (Visit b)) (map (start slots b.down) b.states
+    → IsBlockBody slots b body → AreFor body.reads body.writes body.graph body.outs body.found
+    → length (block_inputs b) ≤ 80 → CanCompile (IsStatementRow slots fb fw (Visit b)) (map (start slots b.down) b.states
     ++ Along body ∷ [])
-can-compile {slots = slots} {fb = fb} {fw = fw} {b = b} {body = body} g is most = record {
+can-compile {slots = slots} {fb = fb} {fw = fw} {b = b} {body = body} g is for most = record {
   small = parts-all IsSmall slots b body b.states (λ x e. e) (λ s e.
       constant-small s.start (place_of b.down (slots s.name)) (state-sub g b.down s.name e)
       (name-row g b.down s.name (written-named b s.name (state-written b s.name e))))
-      (body-small g is most);
+      (body-small g is for most);
   find = no_state_sought [] (map (start slots b.down) b.states ++ Along body ∷ [])
       (parts-all HasRows slots b body b.states (λ x e. e) (λ s e.
       constant-rows s.start (place_of b.down (slots s.name))

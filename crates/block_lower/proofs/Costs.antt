@@ -17,6 +17,7 @@ use Rattle.loop_laws.proofs.Costing.{plain-most, turn-most, turn-plain}
 use Rattle.loop_laws.proofs.Summed.{sum_most}
 use Rattle.loop_laws.proofs.EachRound.{each_round}
 use Rattle.block_lower.proofs.Carried.{carried-most}
+use Rattle.block_lower.specs.Choice.{AreFor}
 use Rattle.block_lower.specs.Form.{place_of, constant, start, homes, IsBlockBody}
 use Rattle.block_lower.specs.declared.home.Home.{Home}
 use Rattle.loop_ir.specs.Spots.{is_state}
@@ -96,13 +97,14 @@ all-keep slots down [] body h = (h, tt)
 all-keep slots down (s ∷ ss) body h = (λ carried. absurd cc, all-keep slots down ss body h)
 
 pub program-cost : {slots : Slots} {b : Block} {body : Body} → IsBlockBody slots b body
+    → AreFor body.reads body.writes body.graph body.outs body.found
     → 0 < length b.assigns → (n : ℕ)
     → rounds_cost (all_rounds n (map (start slots b.down) b.states ++ Along body ∷ []))
     ≤ n * (4 * length body.graph.nodes + 3 * length b.assigns) + length b.states
-program-cost {slots = slots} {b = b} {body = body} is some n =
+program-cost {slots = slots} {b = b} {body = body} is for some n =
     let steps = map (start slots b.down) b.states ++ Along body ∷ [] in
     let r = sum_most turn_cost cap KeepsCap under-cap (all_rounds n steps)
-    (each_round KeepsCap n steps (all-keep slots b.down b.states body (carried-most body is.found)))
+    (each_round KeepsCap n steps (all-keep slots b.down b.states body (carried-most body for)))
     in
     let t = sum_is cap n steps in
     let s = starts-total n slots b.down b.states (Along body ∷ []) cap constant-cap in

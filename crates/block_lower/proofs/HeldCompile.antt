@@ -31,7 +31,6 @@ use Rattle.block_lower.specs.Held.{held_store, start_lits, input_lits}
 use Rattle.block_lower.proofs.Facts.{Given}
 use Rattle.block_lower.proofs.Compile.{uses, filter-less, others, few-uses, body-well, reads-long}
 use Rattle.block_lower.proofs.Compile.{read-place, write-place, name-row, input-at, place-used}
-use Rattle.block_lower.proofs.Compile.{body-small}
 use Rattle.block_lower.proofs.Round.{writes-long, target-named}
 use Rattle.block_lower.proofs.Moved.{nth_home, home_spot, cell_spot, AreHomes}
 use Rattle.block_lower.proofs.HeldDoes.{nth_map, place_true}
@@ -220,16 +219,19 @@ module _ {slots : Slots} {fb fw : ℕ} {b : Block} {body : Body} (g : Given slot
       → carries (held_body hs body cmds) ≡ true → IsCarried (held_body hs body cmds)
       → IsSmall (held_body hs body cmds)
   held-small cmds first full most has carried =
-      let small = body-small g is most in
+      let m = is.as_many in
+      let a = g.meets.assigns in
+      let w = g.meets.weight in
+      let k = is.nodes in
       record {
         well = held-well cmds;
         states = held-states cmds first full;
         found = λ e. carried;
         known = λ bare e. absurd (cc);
-        graph = small.graph;
-        inputs = small.inputs;
-        outputs = small.outputs;
-        rows = small.rows;
+        graph = is.graph;
+        inputs = let i = is.inputs in omega (arith, i, most);
+        outputs = omega (arith, m, a);
+        rows = omega (arith, m, a, w, k);
         subs = few-subs b.down (held_body hs body cmds) (reads-used cmds) (writes-used cmds);
       }
 

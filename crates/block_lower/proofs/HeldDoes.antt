@@ -17,8 +17,6 @@ use Rattle.op_text.specs.Scratch.{state_names}
 use Rattle.loop_ir.specs.declared.ir.Space.{Space}
 use Rattle.loop_ir.specs.declared.ir.Sub.{Sub}
 use Rattle.loop_ir.specs.declared.ir.Sub.TheVariants.{Zero, Top, Inner as At_inner, InnerDown}
-use Rattle.loop_ir.specs.declared.ir.Sub.TheVariants.{Outer, OuterDown, Sum, DownSum, DownPlusN}
-use Rattle.loop_ir.specs.declared.ir.Sub.TheVariants.{NPlusInner}
 use Rattle.loop_ir.specs.declared.ir.Place.{Place}
 use Rattle.loop_ir.specs.declared.names.Slot.{Slot}
 use Rattle.loop_ir.specs.Plain.{Block as Body}
@@ -29,7 +27,7 @@ use Rattle.loop_ir.specs.Spots.{Spot, Spots, is_state, same_space, same_spot, se
 use Rattle.loop_ir.specs.Spots.{spot_at, spot_in, nth_place, nth_spot, after_rounds}
 use Rattle.loop_ir.specs.Statements.{Slots, statement_names, targets_of}
 use Rattle.loop_ir.specs.Lowered.{Holds, HoldsAt, slot_spot}
-use Rattle.loop_laws.proofs.Same.{spot_true, spot_same}
+use Rattle.loop_laws.proofs.Same.{spot_true, spot_same, sub_true}
 use Rattle.block_lower.specs.Inputs.{block_inputs, name_at}
 use Rattle.block_lower.specs.Form.{place_of, homes, IsBlockBody}
 use Rattle.block_lower.specs.declared.home.Home.{Home}
@@ -47,24 +45,6 @@ use Rattle.block_lower.proofs.Compile.{input-at, spot-space}
 use Rattle.block_lower.proofs.Moved.{nth_home, home_spot, cell_spot, moved, moved_once, AreHomes}
 use Rattle.block_lower.proofs.Moved.{IsMoved, rows_started, promoted}
 
--- subscripts and places by their numbers
-sub_at : ℕ → Sub
-sub_at k = slice_index_or (Zero ∷ Top ∷ At_inner ∷ InnerDown ∷ Outer ∷ OuterDown ∷ Sum ∷ DownSum
-    ∷ DownPlusN ∷ NPlusInner ∷ []) k Zero
-
-sub_back : (s : Sub) → sub_at (sub_code s) ≡ s
-unfolding sub_at
-sub_back Zero = refl
-sub_back Top = refl
-sub_back At_inner = refl
-sub_back InnerDown = refl
-sub_back Outer = refl
-sub_back OuterDown = refl
-sub_back Sum = refl
-sub_back DownSum = refl
-sub_back DownPlusN = refl
-sub_back NPlusInner = refl
-
 abbrev at_zero : Space → Spot
 at_zero s = record { space = s; which = 0; index = 0 }
 
@@ -75,8 +55,7 @@ place_true p q e =
     let a : p.space ≡ q.space = ap (λ (s : Spot). s.space) (spot_true (at_zero p.space)
     (at_zero q.space) (and_from (same_space p.space q.space) true h.0 refl)) in
     let b = eqb-true p.which q.which k.0 in
-    let c : p.sub ≡ q.sub = sym (sub_back p.sub)
-    ∙ ap sub_at (eqb-true (sub_code p.sub) (sub_code q.sub) k.1) ∙ sub_back q.sub in
+    let c = sub_true p.sub q.sub k.1 in
     ap (λ x. record { space = x; which = p.which; sub = p.sub }) a
     ∙ ap (λ x. record { space = q.space; which = x; sub = p.sub }) b
     ∙ ap (λ x. record { space = q.space; which = q.which; sub = x }) c

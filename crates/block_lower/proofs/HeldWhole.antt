@@ -41,7 +41,6 @@ use Rattle.block_lower.proofs.Starts.{starts-do}
 use Rattle.block_lower.proofs.Compile.{body-round, own-spot, rounds-all, place-space, name-row}
 use Rattle.block_lower.proofs.Compile.{place-stands, read-place, write-place, reads-long}
 use Rattle.block_lower.proofs.Costs.{within-ceiling}
-use Rattle.block_lower.proofs.Carried.{carried-most}
 use Rattle.block_lower.proofs.Whole.{block-gives, block-keeps}
 use Rattle.block_lower.proofs.Moved.{nth_home, home_spot, moved_once, AreHomes}
 use Rattle.block_lower.proofs.HeldDoes.{AreCells, hs, long, state_at, state-is, state-named}
@@ -251,8 +250,8 @@ pub record DoesCarry (c : Body) : Type 0 where
   pub carried : IsCarried c
 
 -- What is asked of a block's loop with its states in cells: there are states, each in cells of its
--- own and each assigned, after the words; each body carries its commands; and these are no more
--- than those of the loop with its states in rows, a round and at width 1
+-- own and each assigned, after the words; and each body carries its commands, of which there are no
+-- more than its graph says
 pub record HeldFits {slots : Slots} {fb fw : ℕ} {b : Block} (g : Given slots fb fw b) (body : Body)
     (ws : List ℕ) (are : AreCells b ws) (cmds : HeldCommands) : Type 0 where
   pub some : 0 < length b.states
@@ -265,10 +264,10 @@ pub record HeldFits {slots : Slots} {fb fw : ℕ} {b : Block} (g : Given slots f
   pub start : DoesCarry (held_start (hs g ws are) cmds.start)
   pub each : DoesCarry (held_body (hs g ws are) body cmds.each)
   pub store : DoesCarry (held_store (hs g ws are) cmds.store)
-  pub rows : carries body ≡ true
-  pub total : length cmds.start + length cmds.each + length cmds.store
-      ≤ length b.states + length body.found
-  pub round : length cmds.each ≤ length body.found
+  pub begins : length cmds.start ≤ length b.states
+  pub stores : length cmds.store ≤ length b.states
+  pub round : length cmds.each + 3 * length b.states
+      ≤ 4 * length body.graph.nodes + 3 * length b.assigns
 
 module _ {slots : Slots} {fb fw : ℕ} {b : Block} {body : Body} (g : Given slots fb fw b)
     (is : IsBlockBody slots b body) (ws : List ℕ) (are : AreCells b ws) (cmds : HeldCommands)
@@ -403,14 +402,13 @@ module _ {slots : Slots} {fb fw : ℕ} {b : Block} {body : Body} (g : Given slot
       let a = turn-carried (held_start own cmds.start) fits.start.some in
       let e = turn-carried (held_body own body cmds.each) fits.each.some in
       let c = turn-carried (held_store own cmds.store) fits.store.some in
-      let m = is.as_many in
-      let k = carried-most body is.found fits.rows in
-      let total = fits.total in
+      let begins = fits.begins in
+      let stores = fits.stores in
       let round = fits.round in
       let l : turn_cost (held_body own body cmds.each) ≤ 4 * length body.graph.nodes
-      + 3 * length b.assigns = omega (arith, e, round, k, m) in
+      + 3 * length b.assigns = omega (arith, e, round) in
       let f = mul-le-mul_left n l in
-      omega (arith, t, a, e, c, m, k, total, round, f)
+      omega (arith, t, a, e, c, begins, stores, round, f)
 
   pub held-plain : (n : ℕ) → 0 < n → plain_costs (all_rounds n steps)
       ≤ n * (4 * length body.graph.nodes + 3 * length b.assigns) + length b.states

@@ -2,14 +2,14 @@
 use Rattle.std.proofs.Common.{◌≡◌, ℕ, zero, suc, ◌+◌, ◌*◌, ◌<◌, ◌≤◌, Bool, true, false, cond, List}
 use Rattle.std.proofs.Common.{[], ◌∷◌, ◌++◌, map, length, drop, refl, sym, ap, ◌∙◌, subst, arith}
 use Rattle.std.proofs.Common.{append_assoc, inl, inr}
-use Rattle.std.specs.Prelude.{◌==◌, nat_lt, slice_index_or}
+use Rattle.std.specs.Prelude.{◌==◌, nat_lt, slice_get, slice_index_or, Some}
 use Rattle.std.specs.List.{list_any, list_all}
 use Rattle.std.proofs.lemmas.Bool.{cases_Bool, and_parts, and_from, or_left, eqb-true, eq-eqb}
 use Rattle.std.proofs.lemmas.List.{length-map}
 use Rattle.std.proofs.Math.Nat.{mul-le-mul_left}
 use Rattle.mig_graph.specs.declared.Lit.{Lit}
 use Rattle.row_alloc.specs.declared.body.Held.{Held}
-use Rattle.op_text.specs.Language.{Block, Visit}
+use Rattle.op_text.specs.Language.{Block, Equation, Visit}
 use Rattle.loop_ir.specs.declared.ir.Place.{Place}
 use Rattle.loop_ir.specs.Plain.{Block as Body, StepOf}
 use Rattle.loop_ir.specs.Plain.StepOf.{Along}
@@ -25,6 +25,7 @@ use Rattle.block_lower.specs.Inputs.{block_inputs}
 use Rattle.block_lower.specs.declared.home.Home.{Home}
 use Rattle.block_lower.specs.Held.{held_place, held_start, held_body, held_store, held_steps}
 use Rattle.block_lower.specs.Held.{HeldCommands, CarriesRight, IsHeldOne, stand_in}
+use Rattle.block_lower.specs.Choice.{AreFor, IsOther}
 use Rattle.block_lower.specs.Form.{homes, row_steps, IsBlockBody, IsBlockProgram}
 use Rattle.block_lower.proofs.Facts.{Given}
 use Rattle.block_lower.proofs.Costs.{one-start}
@@ -179,10 +180,10 @@ record FitsFor (b : Block) (body : Body) (cmds : HeldCommands) (own : List Home)
   start : DoesCarry (held_start own cmds.start)
   each : DoesCarry (held_body own body cmds.each)
   store : DoesCarry (held_store own cmds.store)
-  rows : carries body ≡ true
-  total : length cmds.start + length cmds.each + length cmds.store
-      ≤ length b.states + length body.found
-  round : length cmds.each ≤ length body.found
+  begins : length cmds.start ≤ length b.states
+  stores : length cmds.store ≤ length b.states
+  round : length cmds.each + 3 * length b.states
+      ≤ 4 * length body.graph.nodes + 3 * length b.assigns
 
 module _ {slots : Slots} {b : Block} {body : Body} (is : IsBlockBody slots b body) (h : Home)
     (one : length b.states ≡ 1) (cmds : HeldCommands) (held : IsHeldOne h body cmds) where
@@ -216,9 +217,9 @@ module _ {slots : Slots} {b : Block} {body : Body} (is : IsBlockBody slots b bod
       let last = held.holds.last in
       let long = held.holds.long in
       let many = is.as_many in
-      let fewer = held.fewer in
       let a = held.start.few in
       let c = held.store.few in
+      let e = held.each.few in
       record {
         some = omega (arith, one);
         nodes = held.holds.nodes;
@@ -231,9 +232,9 @@ module _ {slots : Slots} {b : Block} {body : Body} (is : IsBlockBody slots b bod
             (let n = node-plain (held_body (h ∷ []) body cmds.each) held.holds.nodes in
             omega (arith, n, out));
         store = does-carry (held_store (h ∷ []) cmds.store) 1 held.store (omega arith);
-        rows = some-carried body (omega (arith, fewer));
-        total = omega (arith, fewer, a, c, one);
-        round = omega (arith, fewer);
+        begins = omega (arith, a, one);
+        stores = omega (arith, c, one);
+        round = omega (arith, e, last, long, many, one);
       }
 
   module _ (own : homes slots b.down b.states (h.cells ∷ []) ≡ h ∷ []) where
@@ -257,8 +258,8 @@ module _ {slots : Slots} {b : Block} {body : Body} (is : IsBlockBody slots b bod
             start = f.start;
             each = f.each;
             store = f.store;
-            rows = f.rows;
-            total = f.total;
+            begins = f.begins;
+            stores = f.stores;
             round = f.round;
           }
 
@@ -269,31 +270,39 @@ module _ {slots : Slots} {b : Block} {body : Body} (is : IsBlockBody slots b bod
           (ap (λ hs. held_steps hs body cmds) own ∙ sym e)
           (held-lowered g is (h.cells ∷ []) cells-are cmds fits most)
 
-      no-dearer : (n : ℕ) → 0 < n → rounds_cost (all_rounds n (held_steps (h ∷ []) body cmds))
-          ≤ rounds_cost (all_rounds n (row_steps slots b body))
-      no-dearer zero lt = absurd (omega (arith, lt))
-      no-dearer (suc n) lt =
+      no-dearer : (row : Body) → length cmds.each + 1 ≤ length row.found → (n : ℕ) → 0 < n
+          → rounds_cost (all_rounds n (held_steps (h ∷ []) body cmds))
+          ≤ rounds_cost (all_rounds n (row_steps slots b row))
+      no-dearer row fewer zero lt = absurd (omega (arith, lt))
+      no-dearer row fewer (suc n) lt =
           let f = fits-for in
           let t = sum_is turn_cost (suc n) (held_steps (h ∷ []) body cmds) in
           let a = turn-carried (held_start (h ∷ []) cmds.start) f.start.some in
           let e = turn-carried (held_body (h ∷ []) body cmds.each) f.each.some in
           let c = turn-carried (held_store (h ∷ []) cmds.store) f.store.some in
-          let r = turn-carried body f.rows in
-          let row : is_state h.place.space ≡ false =
+          let r = turn-carried row (some-carried row (omega (arith, fewer))) in
+          let place : is_state h.place.space ≡ false =
           ap (λ hs. is_state (nth_home hs 0).place.space) (sym own)
           ∙ home-rows g (h.cells ∷ []) cells-are 0 (let w = long g (h.cells ∷ []) cells-are in
           omega (arith, w, one)) in
-          let k = sum_is turn_cost (suc n) (row_steps slots b body) in
-          let s = one-start slots b.down b.states h.cells h one own row (suc n) (Along body ∷ []) in
-          let total = f.total in
-          let l : turn_cost (held_body (h ∷ []) body cmds.each) ≤ turn_cost body =
-          let round = f.round in omega (arith, e, r, round) in
+          let k = sum_is turn_cost (suc n) (row_steps slots b row) in
+          let s = one-start slots b.down b.states h.cells h one own place (suc n) (Along row ∷ [])
+          in
+          let begins = held.start.few in
+          let stores = held.store.few in
+          let l : turn_cost (held_body (h ∷ []) body cmds.each) ≤ turn_cost row =
+          omega (arith, e, r, fewer) in
           let m = mul-le-mul_left n l in
-          omega (arith, t, a, e, c, r, k, s, total, m, one)
+          omega (arith, t, a, e, c, r, k, s, begins, stores, fewer, m, one)
 
-      pub cells-program : (steps : List (StepOf Body))
+      pub cells-program : (row : Body) → IsBlockBody slots b row
+          → AreFor row.reads row.writes row.graph row.outs row.found
+          → length cmds.each + 1 ≤ length row.found → (steps : List (StepOf Body))
           → steps ≡ held_steps (h ∷ []) body cmds → IsBlockProgram slots b steps
-      cells-program steps e = record {
+      cells-program row row_is for fewer steps e = record {
+        row = row;
+        row_is = row_is;
+        found = for;
         body = body;
         is = is;
         form = inr (record {
@@ -308,5 +317,30 @@ module _ {slots : Slots} {b : Block} {body : Body} (is : IsBlockBody slots b bod
             (ap (λ hs. held_steps hs body cmds) own ∙ sym e)
             (held-cost g is (h.cells ∷ []) cells-are cmds fits n lt);
         no_dearer = λ n lt. subst (λ ss. rounds_cost (all_rounds n ss)
-            ≤ rounds_cost (all_rounds n (row_steps slots b body))) (sym e) (no-dearer n lt);
+            ≤ rounds_cost (all_rounds n (row_steps slots b row))) (sym e)
+            (no-dearer row fewer n lt);
       }
+
+equation-below : (es : List Equation) (j : ℕ) (e : Equation) → slice_get es j ≡ Some e
+    → j < length es
+equation-below [] j e at = absurd (cc)
+equation-below (x ∷ xs) zero e at = omega arith
+equation-below (x ∷ xs) (suc j) e at = let l = equation-below xs j e at in omega (arith, l)
+
+-- a body at the same places of a graph that may stand for the block's is one of the block
+pub other-is : {slots : Slots} {b : Block} {body other : Body} → IsBlockBody slots b body
+    → IsOther body other → IsBlockBody slots b other
+other-is {b = b} {body = body} {other = other} is o = record {
+  reads = o.reads ∙ is.reads;
+  writes = o.writes ∙ is.writes;
+  as_many = o.stands.keeps.long ∙ is.as_many;
+  inputs = let e = o.stands.keeps.inputs in let m = is.inputs in omega (arith, e, m);
+  values = λ env v same j e at.
+      let l = equation-below b.assigns j e at in
+      let m = is.as_many in
+      o.stands.keeps.values v j (omega (arith, l, m)) ∙ is.values env v same j e at;
+  nodes = let a = o.stands.count in let c = is.nodes in omega (arith, a, c);
+  graph = o.graph;
+  named = o.stands.named;
+  reduced = o.stands.reduced;
+}

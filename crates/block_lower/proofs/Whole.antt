@@ -1,6 +1,6 @@
 -- A block's program does the block.
 use Rattle.std.proofs.Common.{◌≡◌, ℕ, ◌+◌, ◌*◌, ◌<◌, ◌≤◌, true, List, [], ◌∷◌, ◌++◌, map, fold}
-use Rattle.std.proofs.Common.{length, sym, ap, ◌∙◌, subst, arith, inl}
+use Rattle.std.proofs.Common.{length, refl, sym, ap, ◌∙◌, subst, arith, inl}
 use Rattle.std.proofs.lemmas.List.{append-nil}
 use Rattle.op_text.specs.Language.{Block, Visit}
 use Rattle.op_text.specs.Meaning.{NameValue, visited, with_blanks, with_states, after_statement}
@@ -13,6 +13,7 @@ use Rattle.loop_ir.specs.Costs.{rounds_cost, plain_costs}
 use Rattle.loop_ir.specs.Statements.{Slots, read_names, written_names}
 use Rattle.loop_ir.specs.Lowered.{Holds, IsRowOf, IsLowered}
 use Rattle.block_lower.specs.Inputs.{block_inputs}
+use Rattle.block_lower.specs.Choice.{AreFor}
 use Rattle.block_lower.specs.Form.{start, row_steps, IsBlockBody, IsBlockProgram}
 use Rattle.block_lower.proofs.Facts.{Given}
 use Rattle.block_lower.proofs.Folds.{positions-are}
@@ -60,31 +61,35 @@ block-keeps {slots = slots} {b = b} {body = body} g is n lt bits q out =
 
 pub row-lowered : {slots : Slots} {fb fw : ℕ} {b : Block} {body : Body} {steps : List (StepOf Body)}
     → Given slots fb fw b → length (block_inputs b) ≤ 80 → IsBlockBody slots b body
+    → AreFor body.reads body.writes body.graph body.outs body.found
     → steps ≡ row_steps slots b body → IsLowered slots fb fw (Visit b) steps
-row-lowered {slots = slots} {fb = fb} {fw = fw} {b = b} {body = body} {steps = steps} g most is e =
+row-lowered {slots = slots} {fb = fb} {fw = fw} {b = b} {body = body} {steps = steps} g most is for e =
     subst (IsLowered slots fb fw (Visit b)) (sym e) (record {
       well = are-well g is;
-      can = can-compile g is most;
+      can = can-compile g is for most;
       does = λ n lt wide. record {
         gives = block-gives g is n lt;
         keeps = λ bits q row out. block-keeps g is n lt bits q (λ r. out (inl r));
       };
       cheap = λ n lt wide. within-ceiling is n (rounds_cost (all_rounds n (row_steps slots b body)))
-          (program-cost is g.meets.some n);
+          (program-cost is for g.meets.some n);
       plain = λ n lt wide. within-ceiling is n (plain_costs (all_rounds n (row_steps slots b body)))
           (program-plain is g.meets.some n);
     })
 
 pub row-program : {slots : Slots} {b : Block} (body : Body) (steps : List (StepOf Body))
-    → IsBlockBody slots b body → 0 < length b.assigns → steps ≡ row_steps slots b body
-    → IsBlockProgram slots b steps
-row-program {slots = slots} {b = b} body steps is some e = record {
+    → IsBlockBody slots b body → AreFor body.reads body.writes body.graph body.outs body.found
+    → 0 < length b.assigns → steps ≡ row_steps slots b body → IsBlockProgram slots b steps
+row-program {slots = slots} {b = b} body steps is for some e = record {
+  row = body;
+  row_is = is;
+  found = for;
   body = body;
   is = is;
-  form = inl e;
+  form = inl (refl, e);
   cost = λ n lt. subst (λ ss. rounds_cost (all_rounds n ss)
       ≤ n * (4 * length body.graph.nodes + 3 * length b.assigns) + length b.states) (sym e)
-      (program-cost is some n);
+      (program-cost is for some n);
   no_dearer = λ n lt. subst (λ ss. rounds_cost (all_rounds n ss)
       ≤ rounds_cost (all_rounds n (row_steps slots b body))) (sym e) (omega arith);
 }

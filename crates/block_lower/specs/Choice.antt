@@ -1,7 +1,7 @@
 -- A graph that may stand for another, and the commands of their bodies
 use Rattle.std.specs.Prelude.{◌≡◌, ◌⊎◌, ◌≤◌, List, [], length}
 use Rattle.mig_graph.specs.declared.Lit.{Lit}
-use Rattle.mig_graph.specs.Graph.{Graph}
+use Rattle.mig_graph.specs.Graph.{Graph, IsGraph}
 use Rattle.mig_graph.specs.Outputs.{AreNamed, KeepsOutputs}
 use Rattle.mig_graph.specs.Reduced.{IsReduced}
 use Rattle.row_alloc.specs.declared.body.BodyCmd.{BodyCmd}
@@ -9,6 +9,7 @@ use Rattle.row_alloc.specs.declared.body.OutRow.{OutRow}
 use Rattle.row_alloc.specs.Body.{FitBody}
 use Rattle.row_alloc.specs.Found.{IsFound}
 use Rattle.loop_ir.specs.declared.ir.Place.{Place}
+use Rattle.loop_ir.specs.Plain.{Block as Body}
 use Rattle.loop_ir.specs.Outputs.{AreRows}
 
 -- each output keeps its value on every input, there are no more nodes, and no rule makes it smaller
@@ -17,6 +18,13 @@ pub record MayStand (g : Graph) (outs : List Lit) (h : Graph) (made : List Lit) 
   pub named : AreNamed h made
   pub count : length h.nodes ≤ length g.nodes
   pub reduced : IsReduced h made
+
+-- at the same places, the second body does a graph that may stand for the first's
+pub record IsOther (b c : Body) : Type 0 where
+  pub reads : c.reads ≡ b.reads
+  pub writes : c.writes ≡ b.writes
+  pub stands : MayStand b.graph b.outs c.graph c.outs
+  pub graph : IsGraph c.graph.inputs c.graph.nodes
 
 -- these commands were found for the body of the graph that reads and writes these places
 pub record HasFound (reads writes : List Place) (g : Graph) (outs : List Lit)

@@ -61,7 +61,7 @@ start slots down s = Single (constant s.start (place_of down (slots s.name)))
 -- The body reads the block's inputs at their places and writes the assigned names at theirs. For
 -- all values of the names, where each input has its name's value, output j is the value of
 -- assignment j. It has no more nodes than the block has weight, and no rule makes the graph
--- smaller. It carries the commands that were found for it
+-- smaller
 pub record IsBlockBody (slots : Slots) (b : Block) (body : Body) : Type 0 where
   pub reads : body.reads ≡ places_of slots b.down (block_inputs b)
   pub writes : body.writes ≡ places_of slots b.down (targets_of b.assigns)
@@ -75,7 +75,6 @@ pub record IsBlockBody (slots : Slots) (b : Block) (body : Body) : Type 0 where
   pub graph : IsGraph body.graph.inputs body.graph.nodes
   pub named : AreNamed body.graph body.outs
   pub reduced : IsReduced body.graph body.outs
-  pub found : AreFor body.reads body.writes body.graph body.outs body.found
 
 -- the block's states, each with the number of its cells
 abbrev pub homes : Slots → Bool → List State → List ℕ → List Home
@@ -102,13 +101,18 @@ pub record IsHeldLoop (slots : Slots) (b : Block) (body : Body) (steps : List (S
   pub cmds : HeldCommands
   pub form : steps ≡ held_steps (homes slots b.down b.states cells) body cmds
 
--- The states stand in rows or in cells. There are no more commands than the graph says, and at no
--- width more than with the states in rows
+-- A body of the block carries the commands that were found for it with the states in rows. It is
+-- what the loop does at each position, or else a body of the block with its states in cells. There
+-- are no more commands than the graph says that is done, and at no width more than with the states
+-- in rows
 pub record IsBlockProgram (slots : Slots) (b : Block) (steps : List (StepOf Body)) : Type 0 where
+  pub row : Body
+  pub row_is : IsBlockBody slots b row
+  pub found : AreFor row.reads row.writes row.graph row.outs row.found
   pub body : Body
   pub is : IsBlockBody slots b body
-  pub form : (steps ≡ row_steps slots b body) ⊎ IsHeldLoop slots b body steps
+  pub form : ((body ≡ row) × (steps ≡ row_steps slots b row)) ⊎ IsHeldLoop slots b body steps
   pub cost : (n : ℕ) → 0 < n → rounds_cost (all_rounds n steps)
       ≤ n * (4 * length body.graph.nodes + 3 * length b.assigns) + length b.states
   pub no_dearer : (n : ℕ) → 0 < n
-      → rounds_cost (all_rounds n steps) ≤ rounds_cost (all_rounds n (row_steps slots b body))
+      → rounds_cost (all_rounds n steps) ≤ rounds_cost (all_rounds n (row_steps slots b row))

@@ -102,12 +102,10 @@ pub record HoldsOne (w : ℕ) (b : Body) : Type 0 where
   pub reads : stand_in w b.reads ≡ true
   pub writes : stand_in w b.writes ≡ true
 
--- The loop of a body with one state in cells: each of its bodies carries its commands, and these
--- are no more than those of the loop with the state in a row, at width 1 and a round
+-- The loop of a body with one state in cells: each of its bodies carries its commands
 pub record IsHeldOne (h : Home) (b : Body) (cmds : HeldCommands) : Type 0 where
   pub holds : HoldsOne h.cells (held_body (h ∷ []) b cmds.each)
   pub start : CarriesRight (held_start (h ∷ []) cmds.start) 1
   pub each : CarriesRight (held_body (h ∷ []) b cmds.each) (4 * length b.graph.nodes
       + 3 * row_count (map (held_place (h ∷ [])) b.writes))
   pub store : CarriesRight (held_store (h ∷ []) cmds.store) 1
-  pub fewer : length cmds.each + 1 ≤ length b.found

@@ -5,15 +5,17 @@ ghost use Rattle.op_text.specs.declared.tree.State.{State};
 ghost use Rattle.loop_ir.specs.Plain.{block_of};
 ghost use Rattle.loop_ir.specs.Statements.{slots_of, BlockMeets};
 ghost use Rattle.block_lower.specs.Inputs.{block_from};
+ghost use Rattle.block_lower.specs.Choice.{AreFor};
 ghost use Rattle.block_lower.specs.Form.{constant, IsBlockBody};
 
-use crate::choice::least_graph;
+use crate::choice::{Least, least_graph};
 use crate::inputs::inputs_of;
 use crate::places::{places_of, target_places};
 use aoi_graph::build;
 use faults::keep;
 use loop_ir::{Body, NameMap, Place};
 use mig_graph::{Lit, Mig, MigOuts, NoMemory, from_aoi};
+use mig_rewrite::Sketch;
 use op_text::Assign;
 use std::alloc::Global;
 
@@ -38,6 +40,28 @@ pub(crate) fn constant(value: bool, place: Place, alloc: Global) -> Result<Body,
     })
 }
 
+/// The body of a block at a position, and other graphs that may be right for it.
+#[derive(Drop)]
+pub(crate) struct BlockBody {
+    pub body: Body,
+    pub offers: Vec<Sketch>,
+}
+
+/// The body that does the chosen graph at these places.
+fn body_at(least: Least, reads: Vec<Place>, writes: Vec<Place>) -> BlockBody
+    ensures { block_of result.body ≡ record {
+      reads = reads.items;
+      graph = least.choice.graph.mig;
+      outs = least.choice.graph.outs.items;
+      writes = writes.items;
+      found = least.choice.found.items;
+    } }
+{
+    let Least { choice, offers } = least;
+    let body = choice.into_body(reads, writes);
+    BlockBody { body, offers }
+}
+
 /// The body of a block at a position, whatever its states are.
 pub(crate) fn block_body(
     down: bool,
@@ -45,19 +69,21 @@ pub(crate) fn block_body(
     assigns: &[Assign],
     names: &NameMap,
     alloc: Global,
-) -> Result<Body, NoMemory>
+) -> Result<BlockBody, NoMemory>
     requires meets { (states : List State) × BlockMeets (slots_of names.now)
         (block_from down states lets.now assigns.now) }
-    ensures { IfOk result (λ r. (states : List State)
+    ensures is { IfOk result (λ r. (states : List State)
         → IsBlockBody (slots_of names.now) (block_from down states lets.now assigns.now)
-        (block_of r)) }
+        (block_of r.body)) }
+    ensures found { IfOk result (λ r. AreFor r.body.reads.items r.body.writes.items
+        r.body.graph.mig r.body.graph.outs.items r.body.found.items) }
 {
     let inputs = inputs_of(lets, assigns, alloc)?;
     let gates = build(lets, assigns, &inputs.numbers, alloc)?;
     let reads = places_of(names, down, &inputs.order, alloc)?;
     let writes = target_places(names, down, assigns, alloc)?;
-    let choice = least_graph(from_aoi(&gates, alloc)?, &reads, &writes, alloc)?;
+    let least = least_graph(from_aoi(&gates, alloc)?, &reads, &writes, alloc)?;
     // This call's clause says that the graph keeps the rules of graphs.
-    let _ = choice.graph.mig.inputs();
-    Ok(choice.into_body(reads, writes))
+    let _ = least.choice.graph.mig.inputs();
+    Ok(body_at(least, reads, writes))
 }

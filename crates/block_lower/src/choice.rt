@@ -208,7 +208,37 @@ fn better(
     Ok(other)
 }
 
-/// The choice with the commands of the widest search, where these are no more.
+/// The choice with the commands of a search, where these are no more.
+fn with_fewer(
+    choice: Choice,
+    reads: &[Place],
+    writes: &[Place],
+    search: Search,
+    alloc: Global,
+) -> Result<Choice, NoMemory>
+    requires { HasFound reads.now writes.now choice.graph.mig choice.graph.outs.items
+        choice.found.items }
+    ensures graph { IfOk result (λ r. r.graph ≡ choice.graph) }
+    ensures found { IfOk result (λ r. HasFound reads.now writes.now choice.graph.mig
+        choice.graph.outs.items r.found.items) }
+    ensures fewer { IfOk result (λ r. length r.found.items ≤ length choice.found.items) }
+{
+    let found = found_for(&choice.graph, reads, writes, search, usize::MAX, alloc)?;
+    if let Some(found) = found {
+        if found.len() <= choice.found.len() {
+            return Ok(choice.with(found));
+        }
+    }
+    Ok(choice)
+}
+
+/// How many commands a body takes that a beam has found, about: fewer than four a node.
+fn plain_most(m: &MigOuts) -> usize {
+    4 * m.mig.size().saturating_sub(m.mig.inputs() as u32 + 1) as usize
+}
+
+/// The choice, of which the narrow beam was asked, with the commands of the wide beam, or of the
+/// deep one where no beam found few, if these are no more.
 fn finished(
     choice: Choice,
     reads: &[Place],
@@ -222,22 +252,20 @@ fn finished(
         choice.graph.outs.items r.found.items) }
     ensures fewer { IfOk result (λ r. length r.found.items ≤ length choice.found.items) }
 {
-    let most = usize::MAX;
-    let found = found_for(&choice.graph, reads, writes, Search::Whole, most, alloc)?;
-    if let Some(found) = found {
-        if found.len() <= choice.found.len() {
-            return Ok(choice.with(found));
-        }
+    let few = with_fewer(choice, reads, writes, Search::Wide, alloc)?;
+    if few.found.len() < plain_most(&few.graph) {
+        return Ok(few);
     }
-    Ok(choice)
+    with_fewer(few, reads, writes, Search::Deep, alloc)
 }
 
 /// A reduced graph with the commands that were found for it, or one of the same outputs and no more
 /// nodes, with no more commands.
 ///
-/// The others are what the search of `mig_rewrite` offers.
+/// The others are those of the offers that are right.
 fn least_of(
     first: Choice,
+    offers: &[Sketch],
     reads: &[Place],
     writes: &[Place],
     alloc: Global,
@@ -252,46 +280,74 @@ fn least_of(
         r.found.items) }
     ensures fewer { IfOk result (λ r. length r.found.items ≤ length first.found.items) }
 {
-    let offers = offers(&first.graph, most_offers(&first.graph), alloc)?;
-    match fewest(&first, &offers, reads, writes, alloc)? {
+    match fewest(&first, offers, reads, writes, alloc)? {
         Some(other) => finished(
             better(first, other, reads, writes, alloc)?,
             reads,
             writes,
             alloc,
         ),
-        None => finished(first, reads, writes, alloc),
+        None => with_fewer(first, reads, writes, Search::Whole, alloc),
     }
 }
 
-/// The graph reduced, or one of the same outputs and no more nodes whose body takes fewer commands,
-/// with the commands that were found for it.
+/// The reduced graph or one of the offers in its place, with the commands that were found for it.
 ///
 /// There are none where no body is made of the reduced graph.
-pub(crate) fn least_graph(
-    m: MigOuts,
+fn chosen(
+    graph: MigOuts,
+    offers: &[Sketch],
     reads: &[Place],
     writes: &[Place],
     alloc: Global,
 ) -> Result<Choice, NoMemory>
-    requires { AreNamed m.mig m.outs.items }
-    ensures keeps { IfOk result (λ r. KeepsOutputs m.mig m.outs.items r.graph.mig
+    requires named { AreNamed graph.mig graph.outs.items }
+    requires reduced { IsReduced graph.mig graph.outs.items }
+    ensures stands { IfOk result (λ r. MayStand graph.mig graph.outs.items r.graph.mig
         r.graph.outs.items) }
-    ensures named { IfOk result (λ r. AreNamed r.graph.mig r.graph.outs.items) }
-    ensures count { IfOk result (λ r. length r.graph.mig.nodes ≤ length m.mig.nodes) }
-    ensures reduced { IfOk result (λ r. IsReduced r.graph.mig r.graph.outs.items) }
     ensures found { IfOk result (λ r. AreFor reads.now writes.now r.graph.mig r.graph.outs.items
         r.found.items) }
-    ensures fewest { IfOk result (λ r. IsNoDearer reads.now writes.now m.mig m.outs.items
+    ensures fewest { IfOk result (λ r. IsNoDearer reads.now writes.now graph.mig graph.outs.items
         r.found.items) }
 {
-    let graph = reduce(m, alloc)?;
     let found = found_for(&graph, reads, writes, Search::Narrow, 0, alloc)?;
     match found {
-        Some(found) => least_of(Choice { graph, found }, reads, writes, alloc),
+        Some(found) => least_of(Choice { graph, found }, offers, reads, writes, alloc),
         None => Ok(Choice {
             graph,
             found: Vec::new(alloc),
         }),
     }
+}
+
+/// The choice, and what else the search of `mig_rewrite` offers in the place of the graph.
+#[derive(Drop)]
+pub(crate) struct Least {
+    pub choice: Choice,
+    pub offers: Vec<Sketch>,
+}
+
+/// The graph reduced, or one of the same outputs and no more nodes whose body takes fewer commands,
+/// with the commands that were found for it.
+pub(crate) fn least_graph(
+    m: MigOuts,
+    reads: &[Place],
+    writes: &[Place],
+    alloc: Global,
+) -> Result<Least, NoMemory>
+    requires { AreNamed m.mig m.outs.items }
+    ensures keeps { IfOk result (λ r. KeepsOutputs m.mig m.outs.items r.choice.graph.mig
+        r.choice.graph.outs.items) }
+    ensures named { IfOk result (λ r. AreNamed r.choice.graph.mig r.choice.graph.outs.items) }
+    ensures count { IfOk result (λ r. length r.choice.graph.mig.nodes ≤ length m.mig.nodes) }
+    ensures reduced { IfOk result (λ r. IsReduced r.choice.graph.mig r.choice.graph.outs.items) }
+    ensures found { IfOk result (λ r. AreFor reads.now writes.now r.choice.graph.mig
+        r.choice.graph.outs.items r.choice.found.items) }
+    ensures fewest { IfOk result (λ r. IsNoDearer reads.now writes.now m.mig m.outs.items
+        r.choice.found.items) }
+{
+    let graph = reduce(m, alloc)?;
+    let offers = offers(&graph, most_offers(&graph), alloc)?;
+    let choice = chosen(graph, &offers, reads, writes, alloc)?;
+    Ok(Least { choice, offers })
 }

@@ -2,8 +2,10 @@
 
 ghost use Rattle.std.specs.Prelude.{◌≡◌, ◌+◌, ◌*◌, ◌<◌, ◌≤◌, ◌^◌, [], ◌∷◌, map, length, IfOk};
 ghost use Rattle.std.specs.Prelude.{IfSome, IsTrue};
+ghost use Rattle.mig_graph.specs.Outputs.{AreNamed};
 ghost use Rattle.loop_ir.specs.Plain.{block_of, steps_of};
 ghost use Rattle.loop_ir.specs.States.{row_count};
+ghost use Rattle.block_lower.specs.Choice.{IsOther};
 ghost use Rattle.block_lower.specs.Held.{held_place, held_start, held_body, held_store, held_steps};
 ghost use Rattle.block_lower.specs.Held.{HeldCommands, CarriesRight, HoldsOne, IsHeldOne};
 
@@ -11,11 +13,22 @@ use crate::home::{Home, cell_place, enters, held_places, leaves, row_count, stan
 use faults::keep;
 use loop_ir::{Body, LoopProgram, Place, Step, out_rows};
 use mig_graph::{Lit, Mig, MigOuts, NoMemory};
-use row_alloc::{BodyCmd, held_commands_of};
+use mig_rewrite::{Sketch, kept};
+use row_alloc::{BodyCmd, Search, held_commands_of};
 use std::alloc::Global;
 
-/// How many layouts of cells there are.
-const LAYOUTS: u8 = 12;
+/// In how many layouts of cells a state is tried.
+const LAYOUTS: u8 = 3;
+
+/// The layouts: T3 and DCC1, both turned, and T0 with DCC0 turned. Any other shortens few bodies
+/// more.
+fn layout_to_try(k: u8) -> u8 {
+    match k {
+        0 => 4,
+        1 => 5,
+        _ => 9,
+    }
+}
 
 /// The commands of the three bodies.
 pub(crate) struct HeldLoop {
@@ -41,6 +54,7 @@ fn commands_for(
     graph: &MigOuts,
     reads: &[Place],
     writes: &[Place],
+    search: Search,
     most: usize,
     alloc: Global,
 ) -> Result<Option<Vec<BodyCmd>>, NoMemory>
@@ -57,7 +71,7 @@ fn commands_for(
     let rows = out_rows(graph, reads, writes, row_count(writes), alloc)?;
     let enter = enters(reads, alloc)?;
     let leave = leaves(writes, &graph.outs, alloc)?;
-    match held_commands_of(&graph.mig, &rows, &enter, &leave, most, alloc)? {
+    match held_commands_of(&graph.mig, &rows, &enter, &leave, search, most, alloc)? {
         Some(cmds) if !cmds.is_empty() => Ok(Some(cmds)),
         _ => Ok(None),
     }
@@ -132,6 +146,7 @@ fn holds_one(cells: u8, graph: &MigOuts, reads: &[Place], writes: &[Place]) -> b
 fn each_commands(
     home: Home,
     body: &Body,
+    search: Search,
     most: usize,
     alloc: Global,
 ) -> Result<Option<Vec<BodyCmd>>, NoMemory>
@@ -149,17 +164,17 @@ fn each_commands(
     }
     let nodes = body.graph.mig.size() - u32::from(body.graph.mig.inputs()) - 1;
     let plain = 4 * nodes as usize + 3 * row_count(&writes);
-    commands_for(&body.graph, &reads, &writes, most.min(plain), alloc)
+    commands_for(&body.graph, &reads, &writes, search, most.min(plain), alloc)
 }
 
 /// The loop with the state in these cells, if its body takes at most so many commands.
 fn held_in(
     home: Home,
     body: &Body,
+    search: Search,
     most: usize,
     alloc: Global,
 ) -> Result<Option<HeldLoop>, NoMemory>
-    requires { most + 1 ≤ length body.now.found.items }
     ensures held { IfOk result (λ o. IfSome o (λ r. IsHeldOne home (block_of body.now) (record {
       start = r.start.items;
       each = r.each.items;
@@ -168,15 +183,17 @@ fn held_in(
     ensures home { IfOk result (λ o. IfSome o (λ r. r.home ≡ home)) }
     ensures few { IfOk result (λ o. IfSome o (λ r. length r.each.items ≤ most)) }
 {
+    let Some(each) = each_commands(home, body, search, most, alloc)? else {
+        return Ok(None);
+    };
     let first = start_body(home, Vec::new(alloc), alloc)?;
-    let Some(start) = commands_for(&first.graph, &first.reads, &first.writes, 1, alloc)? else {
+    let (graph, reads, writes) = (&first.graph, &first.reads, &first.writes);
+    let Some(start) = commands_for(graph, reads, writes, Search::Narrow, 1, alloc)? else {
         return Ok(None);
     };
     let last = store_body(home, Vec::new(alloc), alloc)?;
-    let Some(store) = commands_for(&last.graph, &last.reads, &last.writes, 1, alloc)? else {
-        return Ok(None);
-    };
-    let Some(each) = each_commands(home, body, most, alloc)? else {
+    let (graph, reads, writes) = (&last.graph, &last.reads, &last.writes);
+    let Some(store) = commands_for(graph, reads, writes, Search::Narrow, 1, alloc)? else {
         return Ok(None);
     };
     Ok(Some(HeldLoop {
@@ -188,11 +205,13 @@ fn held_in(
 }
 
 /// The loop with the state in the cells that let its body take the fewest commands, where these are
-/// fewer than with the state in a row.
-pub(crate) fn held_loop(
+/// fewer than `most`.
+fn held_loop(
     place: Place,
     start: bool,
     body: &Body,
+    search: Search,
+    most: usize,
     alloc: Global,
 ) -> Result<Option<HeldLoop>, NoMemory>
     ensures held { IfOk result (λ o. IfSome o (λ r. IsHeldOne r.home (block_of body.now) (record {
@@ -202,20 +221,134 @@ pub(crate) fn held_loop(
     }))) }
     ensures place { IfOk result (λ o. IfSome o (λ r. r.home.place ≡ place)) }
     ensures start { IfOk result (λ o. IfSome o (λ r. r.home.start ≡ start)) }
+    ensures fewer { IfOk result (λ o. IfSome o (λ r. length r.each.items + 1 ≤ most)) }
 {
     let mut best = None;
-    let mut least = body.found.len();
-    for cells in 0..LAYOUTS {
+    let mut least = most;
+    for k in 0..LAYOUTS {
+        let cells = layout_to_try(k);
         let home = Home {
             place,
             cells,
             start,
         };
         if least > 0 {
-            if let Some(held) = held_in(home, body, least - 1, alloc)? {
+            if let Some(held) = held_in(home, body, search, least - 1, alloc)? {
                 least = held.each.len();
                 best = Some(held);
             }
+        }
+    }
+    Ok(best)
+}
+
+/// The loop of the block's own body with the state in cells, by two beams, where the body takes
+/// fewer commands than `most`.
+pub(crate) fn own_loop(
+    place: Place,
+    start: bool,
+    body: &Body,
+    most: usize,
+    alloc: Global,
+) -> Result<Option<HeldLoop>, NoMemory>
+    ensures held { IfOk result (λ o. IfSome o (λ r. IsHeldOne r.home (block_of body.now) (record {
+      start = r.start.items;
+      each = r.each.items;
+      store = r.store.items;
+    }))) }
+    ensures place { IfOk result (λ o. IfSome o (λ r. r.home.place ≡ place)) }
+    ensures start { IfOk result (λ o. IfSome o (λ r. r.home.start ≡ start)) }
+    ensures fewer { IfOk result (λ o. IfSome o (λ r. length r.each.items + 1 ≤ most)) }
+{
+    let Some(few) = held_loop(place, start, body, Search::Narrow, most, alloc)? else {
+        return held_loop(place, start, body, Search::Wide, most, alloc);
+    };
+    let least = few.each.len();
+    match held_loop(place, start, body, Search::Wide, least, alloc)? {
+        Some(fewer) => Ok(Some(fewer)),
+        None => Ok(Some(few)),
+    }
+}
+
+/// Another body of a block, and its loop with the state in cells.
+pub(crate) struct OtherLoop {
+    pub body: Body,
+    pub held: HeldLoop,
+}
+
+impl Drop for OtherLoop {
+    fn drop(self) {
+        let OtherLoop { body: _, held: _ } = self;
+    }
+}
+
+/// The loop that does the offer in the place of the body's graph, if the offer is right and takes
+/// fewer commands than `most` with the state in cells.
+fn offered_loop(
+    place: Place,
+    start: bool,
+    body: &Body,
+    offer: &Sketch,
+    most: usize,
+    alloc: Global,
+) -> Result<Option<OtherLoop>, NoMemory>
+    requires { AreNamed body.now.graph.mig body.now.graph.outs.items }
+    ensures other { IfOk result (λ o. IfSome o (λ r. IsOther (block_of body.now)
+        (block_of r.body))) }
+    ensures held { IfOk result (λ o. IfSome o (λ r. IsHeldOne r.held.home (block_of r.body) (record {
+      start = r.held.start.items;
+      each = r.held.each.items;
+      store = r.held.store.items;
+    }))) }
+    ensures place { IfOk result (λ o. IfSome o (λ r. r.held.home.place ≡ place)) }
+    ensures start { IfOk result (λ o. IfSome o (λ r. r.held.home.start ≡ start)) }
+    ensures fewer { IfOk result (λ o. IfSome o (λ r. length r.held.each.items + 1 ≤ most)) }
+{
+    let Some(graph) = kept(&body.graph, offer, alloc)? else {
+        return Ok(None);
+    };
+    // This call's clause says that the graph keeps the rules of graphs.
+    let _ = graph.mig.inputs();
+    let other = Body {
+        reads: body.reads.to_vec(alloc)?,
+        graph,
+        writes: body.writes.to_vec(alloc)?,
+        found: Vec::new(alloc),
+    };
+    let Some(held) = held_loop(place, start, &other, Search::Narrow, most, alloc)? else {
+        return Ok(None);
+    };
+    Ok(Some(OtherLoop { body: other, held }))
+}
+
+/// Of the offers that are right the first that takes the fewest commands with the state in cells,
+/// where these are fewer than `most`.
+pub(crate) fn other_loop(
+    place: Place,
+    start: bool,
+    body: &Body,
+    offers: &[Sketch],
+    most: usize,
+    alloc: Global,
+) -> Result<Option<OtherLoop>, NoMemory>
+    requires { AreNamed body.now.graph.mig body.now.graph.outs.items }
+    ensures other { IfOk result (λ o. IfSome o (λ r. IsOther (block_of body.now)
+        (block_of r.body))) }
+    ensures held { IfOk result (λ o. IfSome o (λ r. IsHeldOne r.held.home (block_of r.body) (record {
+      start = r.held.start.items;
+      each = r.held.each.items;
+      store = r.held.store.items;
+    }))) }
+    ensures place { IfOk result (λ o. IfSome o (λ r. r.held.home.place ≡ place)) }
+    ensures start { IfOk result (λ o. IfSome o (λ r. r.held.home.start ≡ start)) }
+    ensures fewer { IfOk result (λ o. IfSome o (λ r. length r.held.each.items + 1 ≤ most)) }
+{
+    let mut best = None;
+    let mut least = most;
+    for offer in offers {
+        if let Some(other) = offered_loop(place, start, body, offer, least, alloc)? {
+            least = other.held.each.len();
+            best = Some(other);
         }
     }
     Ok(best)
@@ -245,6 +378,21 @@ impl HeldLoop {
         keep(&mut steps, Step::Each(held))?;
         keep(&mut steps, Step::Once(last))?;
         Ok(LoopProgram { steps })
+    }
+}
+
+impl OtherLoop {
+    /// The steps of the loop that does the other body.
+    pub(crate) fn into_program(self, alloc: Global) -> Result<LoopProgram, NoMemory>
+        ensures { IfOk result (λ p. steps_of p ≡ held_steps (self.held.home ∷ []) (block_of self.body)
+            (record {
+              start = self.held.start.items;
+              each = self.held.each.items;
+              store = self.held.store.items;
+            })) }
+    {
+        let OtherLoop { body, held } = self;
+        held.into_program(body, alloc)
     }
 }
 

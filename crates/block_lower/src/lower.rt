@@ -1,21 +1,24 @@
 //! The loop program of a serial block.
 
-ghost use Rattle.std.specs.Prelude.{◌≡◌, ◌++◌, ◌∷◌, [], map, length, IfOk, IfSome};
+ghost use Rattle.std.specs.Prelude.{◌≡◌, ◌≤◌, ◌+◌, ◌++◌, ◌∷◌, [], map, length, IfOk, IfSome};
+ghost use Rattle.mig_graph.specs.Outputs.{AreNamed};
 ghost use Rattle.op_text.specs.Language.{Visit};
 ghost use Rattle.loop_ir.specs.Plain.{block_of, step_of, steps_of};
 ghost use Rattle.loop_ir.specs.Plain.StepOf.{Along};
 ghost use Rattle.loop_ir.specs.Statements.{slots_of, BlockMeets, IsPlaced};
 ghost use Rattle.loop_ir.specs.Lowered.{IsLowered};
 ghost use Rattle.block_lower.specs.Inputs.{block_from};
+ghost use Rattle.block_lower.specs.Choice.{IsOther};
 ghost use Rattle.block_lower.specs.Form.{start, homes, IsBlockProgram};
 ghost use Rattle.block_lower.specs.Held.{IsHeldOne};
 
-use crate::body::{block_body, constant};
-use crate::held::{HeldLoop, held_loop};
+use crate::body::{BlockBody, block_body, constant};
+use crate::held::{HeldLoop, OtherLoop, other_loop, own_loop};
 use crate::places::place_of;
 use faults::keep;
 use loop_ir::{Body, LoopProgram, NameMap, Step};
 use mig_graph::NoMemory;
+use mig_rewrite::Sketch;
 use op_text::{Assign, State};
 use std::alloc::Global;
 
@@ -53,11 +56,13 @@ fn row_loop(
     Ok(LoopProgram { steps })
 }
 
-/// The loop of a block of one state with the state in cells, where it takes fewer commands.
-fn loop_in_cells(
+/// The loop of a block of one state with the state in cells, where its own body takes fewer
+/// commands.
+fn own_in_cells(
     down: bool,
     states: &[State],
     body: &Body,
+    most: usize,
     names: &NameMap,
     alloc: Global,
 ) -> Result<Option<HeldLoop>, NoMemory>
@@ -69,13 +74,57 @@ fn loop_in_cells(
       each = r.each.items;
       store = r.store.items;
     }))) }
+    ensures fewer { IfOk result (λ o. IfSome o (λ r. length r.each.items + 1 ≤ most)) }
 {
     match states {
         [state] => {
             let place = place_of(names, down, &state.name);
-            held_loop(place, state.start, body, alloc)
+            own_loop(place, state.start, body, most, alloc)
         }
         _ => Ok(None),
+    }
+}
+
+/// The same of another body, where that takes fewer.
+fn other_in_cells(
+    down: bool,
+    states: &[State],
+    body: &Body,
+    offers: &[Sketch],
+    most: usize,
+    names: &NameMap,
+    alloc: Global,
+) -> Result<Option<OtherLoop>, NoMemory>
+    requires { AreNamed body.now.graph.mig body.now.graph.outs.items }
+    ensures one { IfOk result (λ o. IfSome o (λ r. length states.now ≡ 1)) }
+    ensures homes { IfOk result (λ o. IfSome o (λ r. homes (slots_of names.now) down states.now
+        (r.held.home.cells ∷ []) ≡ r.held.home ∷ [])) }
+    ensures other { IfOk result (λ o. IfSome o (λ r. IsOther (block_of body.now)
+        (block_of r.body))) }
+    ensures held { IfOk result (λ o. IfSome o (λ r. IsHeldOne r.held.home (block_of r.body) (record {
+      start = r.held.start.items;
+      each = r.held.each.items;
+      store = r.held.store.items;
+    }))) }
+    ensures fewer { IfOk result (λ o. IfSome o (λ r. length r.held.each.items + 1 ≤ most)) }
+{
+    match states {
+        [state] => {
+            let place = place_of(names, down, &state.name);
+            other_loop(place, state.start, body, offers, most, alloc)
+        }
+        _ => Ok(None),
+    }
+}
+
+/// How many commands the loop of the block's own body takes a position.
+fn own_commands(own: &Option<HeldLoop>, row: usize) -> usize
+    requires { IfSome own.now (λ r. length r.each.items + 1 ≤ row) }
+    ensures { result ≤ row }
+{
+    match own {
+        Some(held) => held.each.len(),
+        None => row,
     }
 }
 
@@ -98,9 +147,14 @@ pub fn lower_block(
         names.now.free_word (Visit (block_from down states.now lets.now assigns.now))
         (steps_of p)) }
 {
-    let body = block_body(down, lets, assigns, names, alloc)?;
-    match loop_in_cells(down, states, &body, names, alloc)? {
-        Some(held) => held.into_program(body, alloc),
-        None => row_loop(down, states, body, names, alloc),
+    let BlockBody { body, offers } = block_body(down, lets, assigns, names, alloc)?;
+    let own = own_in_cells(down, states, &body, body.found.len(), names, alloc)?;
+    let least = own_commands(&own, body.found.len());
+    match other_in_cells(down, states, &body, &offers, least, names, alloc)? {
+        Some(other) => other.into_program(alloc),
+        None => match own {
+            Some(held) => held.into_program(body, alloc),
+            None => row_loop(down, states, body, names, alloc),
+        },
     }
 }

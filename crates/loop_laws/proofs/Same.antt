@@ -1,7 +1,7 @@
 -- Named rows that are the same, and writes to them.
 use Rattle.std.proofs.Common.{◌≡◌, ℕ, zero, suc, ◌<◌, ◌≤◌, Bool, true, false, cond, List, [], ◌∷◌}
 use Rattle.std.proofs.Common.{length, refl, sym, ap, ◌∙◌, ⊎_elim, arith}
-use Rattle.std.specs.Prelude.{◌==◌, ◌&&◌}
+use Rattle.std.specs.Prelude.{◌==◌, ◌&&◌, slice_index_or}
 use Rattle.std.proofs.lemmas.Bool.{cases_Bool, and_parts, and_from, eqb-true, eq-eqb}
 use Rattle.mig_graph.specs.declared.Lit.{Lit}
 use Rattle.mig_graph.specs.Literals.{lit_value}
@@ -9,9 +9,36 @@ use Rattle.mig_graph.specs.Outputs.{lit_at}
 use Rattle.loop_ir.specs.declared.ir.Space.{Space}
 use Rattle.loop_ir.specs.declared.ir.Space.TheVariants.{Result, Source, ScratchBit, ScratchWord}
 use Rattle.loop_ir.specs.declared.ir.Space.TheVariants.{Cells}
+use Rattle.loop_ir.specs.declared.ir.Sub.{Sub}
+use Rattle.loop_ir.specs.declared.ir.Sub.TheVariants.{Zero, Top, Inner as At_inner, InnerDown}
+use Rattle.loop_ir.specs.declared.ir.Sub.TheVariants.{Outer, OuterDown, Sum, DownSum, SumTwice}
+use Rattle.loop_ir.specs.declared.ir.Sub.TheVariants.{AboveSumTwice, AboveSum}
 use Rattle.loop_ir.specs.declared.ir.Place.{Place}
 use Rattle.loop_ir.specs.Spots.{Spot, Spots, same_space, same_spot, set_spot, spot_at, nth_place}
 use Rattle.loop_ir.specs.Spots.{write_all}
+use Rattle.loop_ir.specs.Costs.{sub_code, same_sub}
+
+-- a number's subscript
+sub_at : ℕ → Sub
+sub_at k = slice_index_or (Zero ∷ Top ∷ At_inner ∷ InnerDown ∷ Outer ∷ OuterDown ∷ Sum ∷ DownSum
+    ∷ SumTwice ∷ AboveSumTwice ∷ AboveSum ∷ []) k Zero
+
+sub_back : (s : Sub) → sub_at (sub_code s) ≡ s
+unfolding sub_at
+sub_back Zero = refl
+sub_back Top = refl
+sub_back At_inner = refl
+sub_back InnerDown = refl
+sub_back Outer = refl
+sub_back OuterDown = refl
+sub_back Sum = refl
+sub_back DownSum = refl
+sub_back SumTwice = refl
+sub_back AboveSumTwice = refl
+sub_back AboveSum = refl
+
+pub sub_true : (s t : Sub) → same_sub s t ≡ true → s ≡ t
+sub_true s t e = sym (sub_back s) ∙ ap sub_at (eqb-true (sub_code s) (sub_code t) e) ∙ sub_back t
 
 space_true : (a b : Space) → same_space a b ≡ true → a ≡ b
 space_true Result Result e = refl

@@ -13,7 +13,7 @@ use Rattle.loop_ir.specs.Plain.{Block}
 use Rattle.loop_ir.specs.Spots.{nth_place}
 use Rattle.loop_ir.specs.Costs.{sub_code, same_sub, is_used, used_subs}
 use Rattle.uprog_gen.specs.Code.{own_subs, loop_subs, sub_in, plan_of, is_planned, IsPlanned}
-use Rattle.uprog_gen.proofs.Running.Held.{same_true}
+use Rattle.loop_laws.proofs.Same.{sub_true}
 
 member : Sub → List Sub → Bool
 member s xs = list_any (λ t. same_sub s t) xs
@@ -33,7 +33,7 @@ member_filter p s (x ∷ xs) ps h = by_head (same_sub s x) refl h (p x) refl (λ
         → (member s xs ≡ true → member s (filter p xs) ≡ true)
         → member s (cond c (x ∷ filter p xs) (filter p xs)) ≡ true
     by_head true e h true q rec = ap (λ b. b || member s (filter p xs)) e
-    by_head true e h false q rec = let f : p s ≡ false = ap p (same_true s x e) ∙ q in
+    by_head true e h false q rec = let f : p s ≡ false = ap p (sub_true s x e) ∙ q in
         absurd (let g : true ≡ false = sym ps ∙ f in cc)
     by_head false e h true q rec = or_right (same_sub s x) (member s (filter p xs)) (rec h)
     by_head false e h false q rec = rec h

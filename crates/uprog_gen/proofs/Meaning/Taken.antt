@@ -95,7 +95,8 @@ started_graph slots down (s ∷ ss) body = ap (later []) (started_graph slots do
 form_graph : (slots : Slots) (b : Serial) (q : List (StepOf Block)) (f : IsBlockProgram slots b q)
     → last_graph q ≡ the_graph slots b q f ∷ []
 form_graph slots b q f = elim f.form [
-  | inl e ↦ ap last_graph e ∙ started_graph slots b.down b.states f.body
+  | inl e ↦ ap last_graph e.1 ∙ started_graph slots b.down b.states f.row
+      ∙ ap (λ (r : Block). step_graph (Along r)) (sym e.0)
   | inr h ↦ ap last_graph h.form
 ]
 

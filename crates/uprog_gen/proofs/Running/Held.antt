@@ -30,33 +30,9 @@ use Rattle.uprog_gen.specs.Code.{Part, row_space, register}
 use Rattle.uprog_gen.proofs.Rows.Issued.{place_row, round_ref, round_command}
 use Rattle.uprog_gen.specs.Code.{is_planned, IsPlanned, place_ref, code_ref, code_uop}
 use Rattle.loop_ir.specs.Costs.{sub_code, same_sub}
+use Rattle.loop_laws.proofs.Same.{sub_true}
 use Rattle.uprog_gen.proofs.Running.Runs.{Runs, run_then, run_none, run_at, IsAt}
 use Rattle.uprog_gen.proofs.Running.Each.{AtBody}
-
--- a number's subscript
-sub_at : ℕ → Sub
-sub_at k =
-    slice_index_or (Zero
-    ∷ (Top ∷ (At_inner
-    ∷ (InnerDown ∷ (Outer ∷ (OuterDown ∷ (Sum ∷ (DownSum ∷ (SumTwice ∷ (AboveSumTwice ∷ (AboveSum ∷ [])))))))))))
-    k Zero
-
-sub_back : (s : Sub) → sub_at (sub_code s) ≡ s
-unfolding sub_at
-sub_back Zero = refl
-sub_back Top = refl
-sub_back At_inner = refl
-sub_back InnerDown = refl
-sub_back Outer = refl
-sub_back OuterDown = refl
-sub_back Sum = refl
-sub_back DownSum = refl
-sub_back SumTwice = refl
-sub_back AboveSumTwice = refl
-sub_back AboveSum = refl
-
-pub same_true : (s t : Sub) → same_sub s t ≡ true → s ≡ t
-same_true s t e = sym (sub_back s) ∙ ap sub_at (eqb-true (sub_code s) (sub_code t) e) ∙ sub_back t
 
 -- the registers hold the subscripts of the body's places
 pub record Names (n : ℕ) (plan : Plan) (b : Block) (i o : ℕ) (regs : List ℕ) : Type 0 where
@@ -94,20 +70,20 @@ module _ (head : Shape) (code : List Uop) (n : ℕ) where
           → slice_index regs (cond a 8 (cond b 0 (cond c 1 (cond d 3 (cond e 4 (cond f 5 8))))))
           ≡ sub_value n i o s
       by_zero true b c d e f ea eb ec ed ee ef h = get_or_past regs 8 0 (omega (arith, g.size))
-          ∙ sym (ap (sub_value n i o) (same_true s Zero ea))
+          ∙ sym (ap (sub_value n i o) (sub_true s Zero ea))
       by_zero false true c d e f ea eb ec ed ee ef h =
-          g.outer ∙ sym (ap (sub_value n i o) (same_true s Outer eb))
+          g.outer ∙ sym (ap (sub_value n i o) (sub_true s Outer eb))
       by_zero false false true d e f ea eb ec ed ee ef h =
-          g.down ∙ sym (ap (sub_value n i o) (same_true s OuterDown ec))
+          g.down ∙ sym (ap (sub_value n i o) (sub_true s OuterDown ec))
       by_zero false false false true e f ea eb ec ed ee ef h =
           at_value s i o _ ea eb ec (subst (λ u. IsAt head code n u i o (slice_index regs 3))
-          (sym (same_true s plan.first ed)) g.first)
+          (sym (sub_true s plan.first ed)) g.first)
       by_zero false false false false true f ea eb ec ed ee ef h =
           at_value s i o _ ea eb ec (subst (λ u. IsAt head code n u i o (slice_index regs 4))
-          (sym (same_true s plan.second ee)) g.second)
+          (sym (sub_true s plan.second ee)) g.second)
       by_zero false false false false false true ea eb ec ed ee ef h =
           at_value s i o _ ea eb ec (subst (λ u. IsAt head code n u i o (slice_index regs 5))
-          (sym (same_true s plan.third ef)) g.third)
+          (sym (sub_true s plan.third ef)) g.third)
       by_zero false false false false false false ea eb ec ed ee ef h = cc
 
   pub names_at : (plan : Plan) (b : Block) (left i o : ℕ) (regs : List ℕ) → IsPlanned plan b

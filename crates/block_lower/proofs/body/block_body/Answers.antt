@@ -1,6 +1,7 @@
 use Rattle.std.proofs.Common.{sym, subst, arith, ◌∙◌, ap}
 use Rattle.std.proofs.lemmas.List.{length-map}
 use Rattle.op_text.specs.Language.{equation}
+use Rattle.loop_ir.specs.Plain.{Block}
 use Rattle.loop_ir.specs.Statements.{slots_of}
 use Rattle.block_lower.specs.Inputs.{AreNumbered, block_from}
 use Rattle.block_lower.specs.Form.{places_of, IsBlockBody}
@@ -31,19 +32,19 @@ from_aoi-requires-clause-input c =
     c.args.assigns.now c.requires.meets.1 inputs.numbers num c.in_ok-gates.gates.nodes.items
     c.in_ok-gates.ensures.held
 
-pub returns : goal.returns
-returns c = λ s.
+pub returns-clause-is : goal.returns-clause-is
+returns-clause-is c = λ s.
     let slots = slots_of c.args.names.now in
     let lets = c.args.lets.now in
     let assigns = c.args.assigns.now in
     let inputs = c.in_ok-inputs.inputs in
     let gates = c.in_ok-gates.gates in
     let first = c.in_ok-from_aoi.field-0 in
-    let graph = c.in_ok-choice.choice.graph in
+    let graph = c.in_ok-least.least.choice.graph in
     let num = subst (λ names. AreNumbered names inputs.numbers) c.in_ok-inputs.ensures.order
     c.in_ok-inputs.ensures.numbered in
-    let made = c.in_ok-choice.ensures in
-    subst (IsBlockBody slots (block_from c.args.down s lets assigns)) (sym c.into_body.ensures)
+    let made = c.in_ok-least.ensures in
+    subst (IsBlockBody slots (block_from c.args.down s lets assigns)) (sym c.body_at.ensures)
     (record {
       reads = c.in_ok-reads.ensures ∙ ap (places_of slots c.args.down) (c.deref.ensures.value
           ∙ c.in_ok-inputs.ensures.order);
@@ -64,9 +65,15 @@ returns c = λ s.
       graph = c.inputs.ensures.graph;
       named = made.named;
       reduced = made.reduced;
-      found = let choice = c.in_ok-choice.choice in
-          subst (λ ps. AreFor c.in_ok-reads.reads.items ps choice.graph.mig choice.graph.outs.items
-          choice.found.items) c.deref-3.ensures.value
-          (subst (λ ps. AreFor ps c.deref-3.result.now choice.graph.mig choice.graph.outs.items
-          choice.found.items) c.deref-2.ensures.value made.found);
     })
+
+pub returns-clause-found : goal.returns-clause-found
+returns-clause-found c =
+    let made = c.in_ok-least.ensures in
+    let choice = c.in_ok-least.least.choice in
+    subst (λ (b : Block). AreFor b.reads b.writes b.graph b.outs b.found)
+    (sym c.body_at.ensures)
+    (subst (λ ps. AreFor c.in_ok-reads.reads.items ps choice.graph.mig choice.graph.outs.items
+    choice.found.items) c.deref-3.ensures.value
+    (subst (λ ps. AreFor ps c.deref-3.result.now choice.graph.mig choice.graph.outs.items
+    choice.found.items) c.deref-2.ensures.value made.found))

@@ -1,4 +1,5 @@
 use Rattle.std.proofs.Common.{◌≡◌, ◌≤◌, ◌<◌, length, IfSome, sym, subst, rules}
+use Rattle.row_alloc.specs.Found.{IsFoundHeld}
 use Rattle.row_alloc.specs.Held.{DoesHeld}
 use Rattle.loop_ir.specs.Outputs.{AreRows}
 use Rattle.loop_ir.specs.States.{enters, leaves}
@@ -12,10 +13,10 @@ returns-in-Some c =
     let lits = c.args.graph.now.outs.items in
     let rows = c.in_ok-rows.rows.items in
     let cmds = c.in-Some.cmds.items in
-    let done = subst (λ o. IfSome o (λ r. DoesHeld g c.deref-2.result.now c.deref-3.result.now
-    c.deref-4.result.now r.items)) c.in-Some.is c.in_ok-cmds.ensures.does in
-    let few = subst (λ o. IfSome o (λ r. length r.items ≤ c.args.most)) c.in-Some.is
-    c.in_ok-cmds.ensures.few in
+    let found = subst (λ o. IfSome o (λ r. IsFoundHeld g c.deref-2.result.now c.deref-3.result.now
+    c.deref-4.result.now c.args.most r.items)) c.in-Some.is c.in_ok-cmds.ensures.found in
+    let done = found.does in
+    let few = found.few in
     let some : 0 < length cmds = search rules in
     let enter = c.deref-3.ensures.value ∙ c.in_ok-enter.ensures in
     let leave = c.deref-4.ensures.value ∙ c.in_ok-leave.ensures

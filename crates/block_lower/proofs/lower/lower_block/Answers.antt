@@ -1,71 +1,145 @@
-use Rattle.std.proofs.Common.{◌≡◌, ◌∷◌, [], length, IfSome, subst, arith}
+use Rattle.std.proofs.Common.{◌≡◌, ◌≤◌, ◌+◌, ◌∷◌, [], length, IfSome, subst, arith}
 use Rattle.std.proofs.lemmas.Result.{IfOk-weaker}
 use Rattle.loop_ir.specs.Statements.{slots_of}
 use Rattle.loop_ir.specs.Plain.{block_of, steps_of}
+use Rattle.block_lower.specs.Choice.{IsOther}
 use Rattle.block_lower.specs.Form.{homes}
 use Rattle.block_lower.specs.Held.{IsHeldOne}
 use Rattle.block_lower.proofs.Making.{inputs-few}
 use Rattle.block_lower.proofs.Whole.{row-lowered, row-program}
-use Rattle.block_lower.proofs.OneCell.{cells-lowered, cells-program}
+use Rattle.block_lower.proofs.OneCell.{cells-lowered, cells-program, other-is}
 use Rattle.block_lower.proofs.lower.lower_block.Goals as goal
 
+pub other_in_cells-requires : goal.other_in_cells-requires
+other_in_cells-requires c = (c.in_ok-body.ensures.is c.args.states.now).named
+
+-- another body in cells
 pub returns-in-Some-clause-form : goal.returns-in-Some-clause-form
 returns-in-Some-clause-form c =
     let slots = slots_of c.args.names.now in
-    let h = c.in-Some.held in
-    let body = block_of c.in_ok-body.body in
-    let one = subst (λ o. IfSome o (λ r. length c.args.states.now ≡ 1)) c.in-Some.is
-    c.in_ok-held.ensures.one in
-    let own = subst (λ o. IfSome o (λ r. homes slots c.args.down c.args.states.now
-    (r.home.cells ∷ []) ≡ r.home ∷ [])) c.in-Some.is c.in_ok-held.ensures.homes in
-    let held = subst (λ o. IfSome o (λ r. IsHeldOne r.home body (record {
-      start = r.start.items;
-      each = r.each.items;
-      store = r.store.items;
-    }))) c.in-Some.is c.in_ok-held.ensures.held in
-    IfOk-weaker c.into_program.result _ _ (λ p e. cells-program
-    (c.in_ok-body.ensures c.args.states.now) h.home one (record {
+    let states = c.args.states.now in
+    let o = c.in-Some.other in
+    let h = o.held in
+    let body = block_of c.in_ok-body.field-0.body in
+    let e = c.in_ok-other.ensures in
+    let one = subst (λ r. IfSome r (λ r. length states ≡ 1)) c.in-Some.is e.one in
+    let own = subst (λ r. IfSome r (λ r. homes slots c.args.down states (r.held.home.cells ∷ [])
+    ≡ r.held.home ∷ [])) c.in-Some.is e.homes in
+    let other = subst (λ r. IfSome r (λ r. IsOther body (block_of r.body))) c.in-Some.is e.other in
+    let held = subst (λ r. IfSome r (λ r. IsHeldOne r.held.home (block_of r.body) (record {
+      start = r.held.start.items;
+      each = r.held.each.items;
+      store = r.held.store.items;
+    }))) c.in-Some.is e.held in
+    let few = subst (λ r. IfSome r (λ r. length r.held.each.items + 1 ≤ c.own_commands-least.result))
+    c.in-Some.is e.fewer in
+    let most = c.own_commands-least.ensures in
+    let found = c.len-2.ensures in
+    let is = c.in_ok-body.ensures.is states in
+    IfOk-weaker c.into_program.result _ _ (λ p s. cells-program (other-is is other) h.home one
+    (record {
       start = h.start.items;
       each = h.each.items;
       store = h.store.items;
-    }) held own (record { meets = c.requires.meets; placed = c.requires.placed }) (steps_of p) e)
+    }) held own (record { meets = c.requires.meets; placed = c.requires.placed }) body is
+    c.in_ok-body.ensures.found (omega (arith, few, most, found)) (steps_of p) s)
     c.into_program.ensures
 
 pub returns-in-Some-clause-lowered : goal.returns-in-Some-clause-lowered
 returns-in-Some-clause-lowered c =
     let slots = slots_of c.args.names.now in
-    let few = inputs-few slots c.args.down c.args.states.now c.args.lets.now c.args.assigns.now
+    let states = c.args.states.now in
+    let inputs = inputs-few slots c.args.down states c.args.lets.now c.args.assigns.now
     c.requires.meets in
-    let h = c.in-Some.held in
-    let body = block_of c.in_ok-body.body in
-    let one = subst (λ o. IfSome o (λ r. length c.args.states.now ≡ 1)) c.in-Some.is
-    c.in_ok-held.ensures.one in
-    let own = subst (λ o. IfSome o (λ r. homes slots c.args.down c.args.states.now
-    (r.home.cells ∷ []) ≡ r.home ∷ [])) c.in-Some.is c.in_ok-held.ensures.homes in
-    let held = subst (λ o. IfSome o (λ r. IsHeldOne r.home body (record {
-      start = r.start.items;
-      each = r.each.items;
-      store = r.store.items;
-    }))) c.in-Some.is c.in_ok-held.ensures.held in
-    IfOk-weaker c.into_program.result _ _ (λ p e. cells-lowered
-    (c.in_ok-body.ensures c.args.states.now) h.home one (record {
+    let o = c.in-Some.other in
+    let h = o.held in
+    let body = block_of c.in_ok-body.field-0.body in
+    let e = c.in_ok-other.ensures in
+    let one = subst (λ r. IfSome r (λ r. length states ≡ 1)) c.in-Some.is e.one in
+    let own = subst (λ r. IfSome r (λ r. homes slots c.args.down states (r.held.home.cells ∷ [])
+    ≡ r.held.home ∷ [])) c.in-Some.is e.homes in
+    let other = subst (λ r. IfSome r (λ r. IsOther body (block_of r.body))) c.in-Some.is e.other in
+    let held = subst (λ r. IfSome r (λ r. IsHeldOne r.held.home (block_of r.body) (record {
+      start = r.held.start.items;
+      each = r.held.each.items;
+      store = r.held.store.items;
+    }))) c.in-Some.is e.held in
+    let is = c.in_ok-body.ensures.is states in
+    IfOk-weaker c.into_program.result _ _ (λ p s. cells-lowered (other-is is other) h.home one
+    (record {
       start = h.start.items;
       each = h.each.items;
       store = h.store.items;
     }) held own (record { meets = c.requires.meets; placed = c.requires.placed }) (steps_of p)
-    (omega (arith, few)) e) c.into_program.ensures
+    (omega (arith, inputs)) s) c.into_program.ensures
 
-pub returns-in-None-clause-form : goal.returns-in-None-clause-form
-returns-in-None-clause-form c =
-    IfOk-weaker c.row_loop.result _ _ (λ p e. row-program (block_of c.in_ok-body.body) (steps_of p)
-    (c.in_ok-body.ensures c.args.states.now) c.requires.meets.some e) c.row_loop.ensures
+-- the block's own body in cells
+pub returns-in-Some-own-clause-form : goal.returns-in-Some-own-clause-form
+returns-in-Some-own-clause-form c =
+    let slots = slots_of c.args.names.now in
+    let states = c.args.states.now in
+    let h = c.in-Some-own.held in
+    let body = block_of c.in_ok-body.field-0.body in
+    let e = c.in_ok-own.ensures in
+    let one = subst (λ r. IfSome r (λ r. length states ≡ 1)) c.in-Some-own.is e.one in
+    let own = subst (λ r. IfSome r (λ r. homes slots c.args.down states (r.home.cells ∷ [])
+    ≡ r.home ∷ [])) c.in-Some-own.is e.homes in
+    let held = subst (λ r. IfSome r (λ r. IsHeldOne r.home body (record {
+      start = r.start.items;
+      each = r.each.items;
+      store = r.store.items;
+    }))) c.in-Some-own.is e.held in
+    let few = subst (λ r. IfSome r (λ r. length r.each.items + 1 ≤ c.len.result))
+    c.in-Some-own.is e.fewer in
+    let found = c.len.ensures in
+    let is = c.in_ok-body.ensures.is states in
+    IfOk-weaker c.into_program-in-Some-own.result _ _ (λ p s. cells-program is h.home one (record {
+      start = h.start.items;
+      each = h.each.items;
+      store = h.store.items;
+    }) held own (record { meets = c.requires.meets; placed = c.requires.placed }) body is
+    c.in_ok-body.ensures.found (omega (arith, few, found)) (steps_of p) s)
+    c.into_program-in-Some-own.ensures
 
-pub returns-in-None-clause-lowered : goal.returns-in-None-clause-lowered
-returns-in-None-clause-lowered c =
+pub returns-in-Some-own-clause-lowered : goal.returns-in-Some-own-clause-lowered
+returns-in-Some-own-clause-lowered c =
+    let slots = slots_of c.args.names.now in
+    let states = c.args.states.now in
+    let inputs = inputs-few slots c.args.down states c.args.lets.now c.args.assigns.now
+    c.requires.meets in
+    let h = c.in-Some-own.held in
+    let body = block_of c.in_ok-body.field-0.body in
+    let e = c.in_ok-own.ensures in
+    let one = subst (λ r. IfSome r (λ r. length states ≡ 1)) c.in-Some-own.is e.one in
+    let own = subst (λ r. IfSome r (λ r. homes slots c.args.down states (r.home.cells ∷ [])
+    ≡ r.home ∷ [])) c.in-Some-own.is e.homes in
+    let held = subst (λ r. IfSome r (λ r. IsHeldOne r.home body (record {
+      start = r.start.items;
+      each = r.each.items;
+      store = r.store.items;
+    }))) c.in-Some-own.is e.held in
+    IfOk-weaker c.into_program-in-Some-own.result _ _ (λ p s. cells-lowered
+    (c.in_ok-body.ensures.is states) h.home one (record {
+      start = h.start.items;
+      each = h.each.items;
+      store = h.store.items;
+    }) held own (record { meets = c.requires.meets; placed = c.requires.placed }) (steps_of p)
+    (omega (arith, inputs)) s) c.into_program-in-Some-own.ensures
+
+-- the state in its row
+pub returns-clause-form : goal.returns-clause-form
+returns-clause-form c =
+    IfOk-weaker c.row_loop.result _ _ (λ p e. row-program (block_of c.in_ok-body.field-0.body)
+    (steps_of p) (c.in_ok-body.ensures.is c.args.states.now) c.in_ok-body.ensures.found
+    c.requires.meets.some e) c.row_loop.ensures
+
+pub returns-clause-lowered : goal.returns-clause-lowered
+returns-clause-lowered c =
     let slots = slots_of c.args.names.now in
     let few = inputs-few slots c.args.down c.args.states.now c.args.lets.now c.args.assigns.now
     c.requires.meets in
     IfOk-weaker c.row_loop.result _ _ (λ p e. row-lowered (record {
       meets = c.requires.meets;
       placed = c.requires.placed;
-    }) (omega (arith, few)) (c.in_ok-body.ensures c.args.states.now) e) c.row_loop.ensures
+    }) (omega (arith, few)) (c.in_ok-body.ensures.is c.args.states.now) c.in_ok-body.ensures.found e)
+    c.row_loop.ensures
