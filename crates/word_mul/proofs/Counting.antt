@@ -208,9 +208,9 @@ module _ (n : ℕ) (m : Rows) (are : AreRows n 1 0 m) (bits : Spots) where
 
   all_pairs : (o h i : ℕ) (old : Spots) → i ≤ h → o + 2 * h ≤ n → o < n
       → Paired o i old (after_both n o pair move i old)
-  unfolding values_from
+  unfolding values_from tally
   all_pairs o h zero old le fit lo = record {
-    sum = let e : 2 * 0 ≡ 0 = refl in refl;
+    sum = refl;
     below = λ v lv l. refl;
     above = λ v lv l. refl;
     last = λ some. absurd (omega (arith, some));

@@ -49,7 +49,7 @@ multiplied_digit false false true = refl
 multiplied_digit false false false = refl
 
 -- an argument's rows are neither the target's nor the scratch bit's
-args_else : (n : ℕ) (m : Rows) (s : Slot) → HasRows s → SlotsApart n s n m.target n
+pub args_else : (n : ℕ) (m : Rows) (s : Slot) → HasRows s → SlotsApart n s n m.target n
     → SlotsApart n s n (scratch_bit m.free_bit) 1 → (v : ℕ) → v < n
     → IsElsewhere n 1 0 m (row n s v)
 args_else n m s rows t c v lt = record {
