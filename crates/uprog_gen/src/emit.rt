@@ -6,7 +6,7 @@ ghost use Rattle.row_alloc.specs.declared.body.BodyRef.{BodyRef};
 ghost use Rattle.loop_ir.specs.Plain.{block_of};
 ghost use Rattle.loop_ir.specs.Costs.{body_cost};
 ghost use Rattle.uprog_gen.specs.Code.{row_space, index_in, place_ref, code_ref, code_uop, init};
-ghost use Rattle.uprog_gen.specs.Code.{before, after, inits, befores, afters, halve_code};
+ghost use Rattle.uprog_gen.specs.Code.{before, after, inits, befores, afters};
 ghost use Rattle.uprog_gen.specs.Code.{counter, body_uops, halve_code, level_code, skip_code};
 ghost use Rattle.uprog_gen.specs.Code.{odd_code, pairing_code, halves_code};
 ghost use Rattle.uprog_gen.specs.Code.{once_code, turn_code, enter_code, loop_code, guard_code};
@@ -223,8 +223,7 @@ fn push_level(code: &mut Vec<Uop>) -> Result<(), NoMemory>
     ensures { OnOk result (code.new.items ≡ code.old.items ++ level_code (length code.old.items)) }
 {
     let pc = code.len() as u16;
-    keep(code, Uop::Mov(2, 0))?;
-    keep(code, Uop::AddI(2, 1))?;
+    push_counter(code, Count::UpTo)?;
     keep(code, Uop::SetN(6))?;
     push_halving(code, pc)?;
     keep(code, Uop::Mov(6, 7))?;

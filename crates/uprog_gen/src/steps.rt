@@ -9,8 +9,9 @@ ghost use Rattle.loop_ir.specs.Limits.{IsSmall};
 ghost use Rattle.loop_ir.specs.Costs.{inner_cost, either_cost, turns_cost, step_cost, code_cost};
 ghost use Rattle.uprog_gen.specs.Emits.{EmitsInner, EmitsTurns, EmitsSteps};
 
-use crate::emit::{push_body, push_either, push_halves, push_loop, push_odd, push_once, push_pairs};
-use crate::emit::{push_start};
+use crate::emit::{
+    push_body, push_either, push_halves, push_loop, push_odd, push_once, push_pairs, push_start,
+};
 use crate::part::make_part;
 use crate::plan::is_fixed;
 use faults::keep;

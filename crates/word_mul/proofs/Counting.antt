@@ -235,6 +235,7 @@ module _ (n : ℕ) (m : Rows) (are : AreRows n 1 0 m) (bits : Spots) where
 
   begins : (o : ℕ) (old : Spots) → o < n → Levelled o old
       → Begins o old (after_many n o load (elements n o % 2) (set_spot old c false))
+  unfolding tally values_from
   begins o old lo i = by (elements n o % 2) refl
     where
       h : ℕ
@@ -257,7 +258,6 @@ module _ (n : ℕ) (m : Rows) (are : AreRows n 1 0 m) (bits : Spots) where
 
       by : (k : ℕ) → elements n o % 2 ≡ k
           → Begins o old (after_many n o load k (set_spot old c false))
-      unfolding tally values_from
       by zero e = record {
         sum =
             let a : bit (start c) ≡ 0 = ap bit (set_same old c false c refl) in

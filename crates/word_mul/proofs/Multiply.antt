@@ -7,16 +7,14 @@ use Rattle.mig_graph.specs.Graph.{values_from}
 use Rattle.op_text.specs.declared.word_ops.WordOp.TheVariants as op
 use Rattle.op_text.specs.Values.{ones_of}
 use Rattle.loop_ir.specs.declared.ir.Sub.TheVariants as sub
-use Rattle.loop_ir.specs.declared.ir.Count.TheVariants.{Rest, Bits}
+use Rattle.loop_ir.specs.declared.ir.Count.TheVariants.{Rest}
 use Rattle.loop_ir.specs.declared.names.Slot.{Slot}
-use Rattle.loop_ir.specs.Loops.{bits_in}
 use Rattle.loop_ir.specs.Plain.{Block, InnerOf}
 use Rattle.loop_ir.specs.Plain.InnerOf.{Alone, Across}
 use Rattle.loop_ir.specs.Plain.StepOf.{Nest}
 use Rattle.loop_ir.specs.Spots.{Spot, Spots, set_spot, spot_at, nth_place, is_state}
 use Rattle.loop_laws.specs.Rooms.{placed_body}
 use Rattle.loop_laws.specs.Turns.{Origin, Standing, Carried, IsLoop, turn, after_many}
-use Rattle.loop_laws.proofs.Digits.{few_bits, bits_hold}
 use Rattle.loop_laws.proofs.Same.{set_same, set_other}
 use Rattle.loop_laws.proofs.Loop.{loop_turns, loop_word}
 use Rattle.loop_laws.proofs.Steps.{steps_each, steps_nest, after_parts, after_outer}
@@ -29,7 +27,7 @@ use Rattle.word_lower.proofs.Passes.{word_loop, upwards}
 use Rattle.word_lower.proofs.Sums.{value_same, value_below, value_false, sum_two, carry_sum}
 use Rattle.word_lower.proofs.Sums.{digits_one, last_sum}
 use Rattle.word_lower.proofs.Lists.{ones_of_none, ones_of_more}
-use Rattle.word_mul.specs.Programs.{multiplied, counted}
+use Rattle.word_mul.specs.Programs.{multiplied}
 use Rattle.word_mul.specs.declared.rows.Rows.{Rows}
 use Rattle.word_mul.specs.Places.{rooms_for}
 use Rattle.word_mul.proofs.Setting.{cell, HasRows, row_stands, cell_other, row_other, IsFree}

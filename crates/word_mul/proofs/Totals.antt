@@ -5,15 +5,17 @@ use Rattle.std.proofs.Math.Nat.{pow-suc, pow-zero}
 use Rattle.op_text.specs.declared.word_ops.WordOp.{WordOp}
 use Rattle.op_text.specs.declared.word_ops.WordOp.TheVariants as op
 use Rattle.op_text.specs.Costs.{op_ceiling}
-use Rattle.loop_ir.specs.Loops.{all_rounds, bits_in}
+use Rattle.std.specs.Prelude.{◌%◌}
+use Rattle.loop_ir.specs.Loops.{all_rounds, elements}
 use Rattle.loop_ir.specs.Costs.{turn_cost, rounds_cost, plain_cost, plain_costs}
 use Rattle.loop_ir.specs.Lowered.{op_plain_ceiling}
 use Rattle.loop_laws.specs.Rooms.{Room, placed_steps}
 use Rattle.loop_laws.specs.Forms.{keeps_states}
-use Rattle.loop_laws.proofs.Digits.{few_bits}
-use Rattle.loop_laws.proofs.Summed.{bits_from, sum_is}
+use Rattle.loop_laws.proofs.Levels.{all_elements, pairs_of}
+use Rattle.loop_laws.proofs.Summed.{odd_from, pairs_from, sum_is}
 use Rattle.loop_laws.proofs.Alike.{HaveRows, rounds_cost_like, plain_costs_like}
-use Rattle.word_mul.specs.Programs.{nested, is_nested, bits_to, nested_total}
+use Rattle.word_mul.specs.Programs.{nested, is_nested, odd_levels, pairs_below}
+use Rattle.word_mul.specs.Programs.{nested_total}
 
 square : (n : ℕ) → n ^ 2 ≡ n * n
 square n = let e : n ^ 2 ≡ n ^ 1 * n = pow-suc n 1 in let f : n ^ 1 ≡ n ^ 0 * n = pow-suc n 0 in
@@ -34,34 +36,65 @@ pub triangle : (n : ℕ) → 2 * (n * (n + 1) / 2) ≡ n * n + n
 triangle n = let h = half_of n in let e = h.is in
     let f : n * (n + 1) / 2 ≡ h.half = ap (λ x. x / 2) e ∙ omega arith in omega (arith, e, f)
 
--- the bits of one number more
-bits_more : (o count : ℕ) → bits_from o (suc count) ≡ bits_from o count + bits_in (o + count + 1)
-bits_more o zero = let e : o + 0 + 1 ≡ o + 1 = omega arith in let f = ap bits_in e in
-    omega (arith, f)
-bits_more o (suc count) =
-    let h = bits_more (o + 1) count in
-    let e : o + 1 + count + 1 ≡ o + suc count + 1 = omega arith in
-    let f = ap bits_in e in omega (arith, h, f)
+-- the levels with an odd number of elements, and the pairs, of one level more
+odd_more : (n o count : ℕ) → odd_from n o (suc count) ≡ odd_from n o count
+    + elements n (o + count) % 2
+odd_more n o zero = let e : o + 0 ≡ o = omega arith in
+    let f = ap (λ k. elements n k % 2) e in omega (arith, f)
+odd_more n o (suc count) =
+    let h = odd_more n (o + 1) count in
+    let e : o + 1 + count ≡ o + suc count = omega arith in
+    let f = ap (λ k. elements n k % 2) e in omega (arith, h, f)
 
--- the bits of the numbers up to n, of a nest
-pub bits_together : (n : ℕ) → bits_from 0 n ≡ bits_to n
-bits_together zero = refl
-bits_together (suc n) =
-    let h = bits_more 0 n in let g = bits_together n in
-    let e : 0 + n + 1 ≡ suc n = omega arith in
-    let f = ap bits_in e in omega (arith, h, g, f)
+pairs_more : (n o count : ℕ) → pairs_from n o (suc count) ≡ pairs_from n o count
+    + elements n (o + count + 1)
+pairs_more n o zero = let e : o + 0 + 1 ≡ o + 1 = omega arith in
+    let f = ap (elements n) e in omega (arith, f)
+pairs_more n o (suc count) =
+    let h = pairs_more n (o + 1) count in
+    let e : o + 1 + count + 1 ≡ o + suc count + 1 = omega arith in
+    let f = ap (elements n) e in omega (arith, h, f)
+
+-- those of a nest
+pub odd_together : (n k : ℕ) → odd_from n 0 k ≡ odd_levels n k
+odd_together n zero = refl
+odd_together n (suc k) =
+    let h = odd_more n 0 k in let g = odd_together n k in
+    let e : 0 + k ≡ k = omega arith in
+    let f = ap (λ i. elements n i % 2) e in omega (arith, h, g, f)
+
+pub pairs_together : (n k : ℕ) → pairs_from n 0 k ≡ pairs_below n k
+pairs_together n zero = refl
+pairs_together n (suc k) =
+    let h = pairs_more n 0 k in let g = pairs_together n k in
+    let e : 0 + k + 1 ≡ k + 1 = omega arith in
+    let f = ap (elements n) e in omega (arith, h, g, f)
 
 -- no more than so many
-bits_few : (n : ℕ) → bits_to n ≤ n * n
-bits_few zero = omega arith
-bits_few (suc n) = let h = bits_few n in let f = few_bits (suc n) in omega (arith, h, f)
+few_elements : (n o : ℕ) → elements n o ≤ n
+few_elements n zero = omega (arith, all_elements n)
+few_elements n (suc o) = let h = few_elements n o in let p = pairs_of n o in
+    let e : o + 1 ≡ suc o = omega arith in let f = ap (elements n) e in omega (arith, h, p, f)
+
+odd_few : (n k : ℕ) → odd_levels n k ≤ k
+odd_few n zero = omega arith
+odd_few n (suc k) = let h = odd_few n k in omega (arith, h)
+
+pairs_few : (n k : ℕ) → pairs_below n k ≤ n * k
+pairs_few n zero = omega arith
+pairs_few n (suc k) = let h = pairs_few n k in let f = few_elements n (k + 1) in
+    omega (arith, h, f)
+
+some_square : (n : ℕ) → 0 < n → n ≤ n * n
+some_square n some = grind arith
 
 -- what a count takes, where no body has a sequence of its own
 plain_count : (n : ℕ) → 0 < n → plain_costs (all_rounds n (placed_steps [] (nested op.Bitcount)))
     ≤ op_plain_ceiling op.Bitcount n
 plain_count n some = let e = sum_is plain_cost n (placed_steps [] (nested op.Bitcount)) in
-    let s = square n in let t = bits_together n in let f = bits_few n in
-    omega (arith, e, s, t, f)
+    let s = square n in let t = odd_together n n in let u = pairs_together n n in
+    let f = odd_few n n in let g = pairs_few n n in let h = some_square n some in
+    omega (arith, e, s, t, u, f, g, h)
 
 costs : (p : WordOp) → is_nested p ≡ true → (n : ℕ)
     → rounds_cost (all_rounds n (placed_steps [] (nested p))) ≡ nested_total p n
@@ -72,7 +105,7 @@ costs op.Div is n = let e = sum_is turn_cost n (placed_steps [] (nested op.Div))
 costs op.Rem is n = let e = sum_is turn_cost n (placed_steps [] (nested op.Rem)) in
     let s = triangle n in omega (arith, e, s)
 costs op.Bitcount is n = let e = sum_is turn_cost n (placed_steps [] (nested op.Bitcount)) in
-    let s = bits_together n in omega (arith, e, s)
+    let s = odd_together n n in let t = pairs_together n n in omega (arith, e, s, t)
 costs op.Divmod is n = let e = sum_is turn_cost n (placed_steps [] (nested op.Divmod)) in
     let s = triangle n in omega (arith, e, s)
 costs p is n = cc
@@ -95,8 +128,9 @@ plains op.Divmod is (suc k) some = let e =
     let s = square (suc k) in omega (arith, e, s)
 plains p is n some = cc
 
-cheap_count : (n : ℕ) → nested_total op.Bitcount n ≤ op_ceiling op.Bitcount n
-cheap_count n = let f = bits_few n in let s = square n in omega (arith, f, s)
+cheap_count : (n : ℕ) → 0 < n → nested_total op.Bitcount n ≤ op_ceiling op.Bitcount n
+cheap_count n some = let f = odd_few n n in let g = pairs_few n n in let s = square n in
+    let h = some_square n some in omega (arith, f, g, s, h)
 
 -- each total is within the operation's ceiling
 pub cheap : (p : WordOp) → is_nested p ≡ true → (n : ℕ) → 0 < n → nested_total p n ≤ op_ceiling p n
@@ -107,7 +141,7 @@ cheap op.Div is (suc k) some = let t = triangle (suc k) in let s = square (suc k
     omega (arith, t, s)
 cheap op.Rem is (suc k) some = let t = triangle (suc k) in let s = square (suc k) in
     omega (arith, t, s)
-cheap op.Bitcount is (suc k) some = cheap_count (suc k)
+cheap op.Bitcount is (suc k) some = cheap_count (suc k) some
 cheap op.Divmod is (suc k) some = let t = triangle (suc k) in let s = square (suc k) in
     omega (arith, t, s)
 cheap p is n some = cc

@@ -8,7 +8,7 @@ use Rattle.std.proofs.lemmas.List.{map-append, map_more}
 use Rattle.std.proofs.lemmas.List.Sums.{sum_by-cons}
 use Rattle.std.proofs.lemmas.Grind.{common_steps}
 use Rattle.uprog_code.specs.declared.code.Uop.{Uop}
-use Rattle.uprog_code.specs.declared.code.Uop.TheVariants.{SetI, SetN, SetT, SubI, AddI, Bnez}
+use Rattle.uprog_code.specs.declared.code.Uop.TheVariants.{SetI, SetN, SetT, Mov, SubI, AddI, Bnez}
 use Rattle.loop_ir.specs.declared.ir.Count.{Count}
 use Rattle.loop_ir.specs.declared.ir.Count.TheVariants.{All as All_of, Rest}
 use Rattle.loop_ir.specs.declared.ir.Inner.{Inner}
@@ -17,9 +17,10 @@ use Rattle.loop_ir.specs.declared.ir.Turn.{Turn}
 use Rattle.loop_ir.specs.Plain.{Block, InnerOf, TurnOf, StepOf, inner_map, turn_map, step_map}
 use Rattle.loop_ir.specs.Plain.{inner_of, turn_of, step_of}
 use Rattle.loop_ir.specs.Plain.{AllInner, AllTurns, AllStep, AllParts}
-use Rattle.loop_ir.specs.Plain.InnerOf.{Alone, Across}
+use Rattle.loop_ir.specs.Plain.InnerOf.{Alone, Across, IfOdd, Halves}
 use Rattle.loop_ir.specs.Plain.StepOf.{Single, Along, Nest, Pairs, Alternate}
 use Rattle.uprog_gen.specs.Code.{Part, block_of_part, blocks, body_uops, once_code, loop_code}
+use Rattle.uprog_gen.specs.Code.{level_code, skip_code, odd_code, pairing_code, halves_code}
 use Rattle.uprog_gen.specs.Code.{inner_code, inner_list, outside, guard_code, pairs_code}
 use Rattle.uprog_gen.specs.Code.{turn_uops, either_code, either_size, turns_list, start_code}
 use Rattle.uprog_gen.specs.Code.{cycle_code, step_code}
@@ -41,12 +42,16 @@ inner_at P (y ∷ ys) zero x h lt e = subst (λ z. AllInner P (inner_of z ∷ []
         → AllInner P (z ∷ [])
     first (Alone b) zs h = (h.0, tt)
     first (Across c b) zs h = (h.0, tt)
+    first (IfOdd b) zs h = (h.0, tt)
+    first (Halves b c) zs h = (h.0, tt)
 inner_at P (y ∷ ys) (suc k) x h lt e = inner_at P ys k x (more (inner_of y) (map inner_of ys) h)
     (omega arith) e
   where
     more : (z : InnerOf Block) (zs : List (InnerOf Block)) → AllInner P (z ∷ zs) → AllInner P zs
     more (Alone b) zs h = h.1
     more (Across c b) zs h = h.1
+    more (IfOdd b) zs h = h.1
+    more (Halves b c) zs h = h.1
 
 pub step_at : (P : Block → Type 0) (xs : List Step) (k : ℕ) (x : Step) → AllParts P (map step_of xs)
     → k < length xs → x ≡ slice_index_or xs k x → AllStep P (step_of x)
@@ -59,6 +64,8 @@ inner_both : (P : Part → Type 0) (xs ys : List (InnerOf Part)) → AllInner P 
 inner_both P [] ys h k = k
 inner_both P (Alone p ∷ xs) ys h k = (h.0, inner_both P xs ys h.1 k)
 inner_both P (Across c p ∷ xs) ys h k = (h.0, inner_both P xs ys h.1 k)
+inner_both P (IfOdd p ∷ xs) ys h k = (h.0, inner_both P xs ys h.1 k)
+inner_both P (Halves p q ∷ xs) ys h k = (h.0, inner_both P xs ys h.1 k)
 
 pub parts_both : {A : Type 0} (P : A → Type 0) (xs ys : List (StepOf A)) → AllParts P xs
     → AllParts P ys → AllParts P (xs ++ ys)
@@ -151,6 +158,25 @@ across_emits count p old new is e = record {
       ++ l) (sym (append-nil (loop_code count p (length old))));
 }
 
+pub odd_emits : (p : Part) (old new : List Uop) → IsPart p
+    → new ≡ old ++ odd_code p (length old) → EmitsInner (IfOdd p.block ∷ []) old new
+odd_emits p old new is e = record {
+  coded = IfOdd p ∷ [];
+  same = refl;
+  parts = (is, tt);
+  code = e ∙ ap (λ l. old ++ l) (sym (append-nil (odd_code p (length old))));
+}
+
+pub halves_emits : (p q : Part) (old new : List Uop) → IsPart p → IsPart q
+    → new ≡ old ++ halves_code p q (length old)
+    → EmitsInner (Halves p.block q.block ∷ []) old new
+halves_emits p q old new is js e = record {
+  coded = Halves p q ∷ [];
+  same = refl;
+  parts = ((is, js), tt);
+  code = e ∙ ap (λ l. old ++ l) (sym (append-nil (halves_code p q (length old))));
+}
+
 -- one step
 one_step : (s : StepOf Part) (old new : List Uop) → AllStep IsPart s
     → new ≡ old ++ step_code s (length old) → EmitsSteps (step_map block_of_part s ∷ []) old new
@@ -232,28 +258,33 @@ next_step xs k x old mid new lt e a b =
     (more_steps (map step_of (take k xs)) (step_of x ∷ []) old mid new a b)
 
 -- the room that is left
-inner_taken : (xs : List Inner) (k : ℕ) → sum_by inner_cost (map inner_of (take k xs))
+inner_taken : (xs : List Inner) (k : ℕ) (x : Inner) → k < length xs → x ≡ slice_index_or xs k x
+    → sum_by inner_cost (map inner_of (take k xs)) + inner_cost (inner_of x)
     ≤ sum_by inner_cost (map inner_of xs)
-inner_taken xs zero = omega arith
-inner_taken [] (suc k) = omega arith
-inner_taken (x ∷ xs) (suc k) = omega (
+inner_taken [] k x lt e = absurd (omega arith)
+inner_taken (y ∷ ys) zero x lt e = omega (
   arith,
-  inner_taken xs k,
-  sum_by-cons inner_cost (inner_of x) (map inner_of xs),
-  sum_by-cons inner_cost (inner_of x) (map inner_of (take k xs)),
+  ap (λ z. inner_cost (inner_of z)) e,
+  sum_by-cons inner_cost (inner_of y) (map inner_of ys),
+)
+inner_taken (y ∷ ys) (suc k) x lt e = omega (
+  arith,
+  inner_taken ys k x (omega arith) e,
+  sum_by-cons inner_cost (inner_of y) (map inner_of ys),
+  sum_by-cons inner_cost (inner_of y) (map inner_of (take k ys)),
 )
 
-pub inner_room : (xs : List Inner) (k : ℕ) (old mid : List Uop)
-    → EmitsInner (map inner_of (take k xs)) old mid
-    → length mid ≤ length old + sum_by inner_cost (map inner_of xs)
-inner_room xs k old mid a =
+pub inner_room : (xs : List Inner) (k : ℕ) (x : Inner) (old mid : List Uop) → k < length xs
+    → x ≡ slice_index_or xs k x → EmitsInner (map inner_of (take k xs)) old mid
+    → length mid + inner_cost (inner_of x) ≤ length old + sum_by inner_cost (map inner_of xs)
+inner_room xs k x old mid lt e a =
     omega (
       arith,
       ap length a.code,
       length-append old (inner_list a.coded (length old)),
       inner_few a.coded (length old) a.parts,
       ap (sum_by inner_cost) a.same,
-      inner_taken xs k,
+      inner_taken xs k x lt e,
     )
 
 -- the step and those before it take no more than all
@@ -303,6 +334,96 @@ two_pushes old a b x y e f = f ∙ ap (λ l. l ++ y ∷ []) e ∙ append_assoc o
 pub outside_then : (old mid new more : List Uop) → mid ≡ old ++ outside → new ≡ mid ++ more
     → new ≡ old ++ (outside ++ more)
 outside_then old mid new more e f = f ∙ ap (λ l. l ++ more) e ∙ append_assoc old outside more
+
+-- a jump past what comes next, once that stands
+skip_made : (pre body : List Uop) (old mid all : List Uop) (r past end : ℕ)
+    → past ≡ length old + length pre + 2
+    → mid ≡ old ++ (pre ++ skip_code r (length old + length pre) 0) → all ≡ mid ++ body
+    → end ≡ length old + length pre + 3 + length body → set all past (Bnez 7 end)
+    ≡ old ++ (pre ++ (skip_code r (length old + length pre) end ++ body))
+skip_made pre body old mid all r past end ep em ea ee =
+    let pc = length old + length pre in
+    let first = Bnez r (pc + 3) ∷ SetI 7 1 ∷ [] in
+    let front = old ++ (pre ++ first) in
+    let whole : all ≡ front ++ Bnez 7 0 ∷ body =
+    ea ∙ ap (λ l. l ++ body) em ∙ append_assoc old (pre ++ (first ++ Bnez 7 0 ∷ [])) body
+    ∙ ap (λ l. old ++ l) (append_assoc pre (first ++ Bnez 7 0 ∷ []) body
+    ∙ sym (append_assoc pre first (Bnez 7 0 ∷ body)))
+    ∙ sym (append_assoc old (pre ++ first) (Bnez 7 0 ∷ body)) in
+    let at : past ≡ length front = omega (
+      arith,
+      ep,
+      length-append old (pre ++ first),
+      length-append pre first,
+    ) in
+    ap (λ l. set l past (Bnez 7 end)) whole
+    ∙ ap (λ k. set (front ++ Bnez 7 0 ∷ body) k (Bnez 7 end)) at
+    ∙ set-append_seam front (Bnez 7 0) body (Bnez 7 end)
+    ∙ append_assoc old (pre ++ first) (Bnez 7 end ∷ body)
+    ∙ ap (λ l. old ++ l) (append_assoc pre first (Bnez 7 end ∷ body))
+
+-- a body where a level has an odd number of elements
+pub odd_made : (p : Part) (old a b all : List Uop) (past end : ℕ)
+    → a ≡ old ++ level_code (length old) → past ≡ length a + 2
+    → b ≡ a ++ skip_code 5 (length a) 0 → all ≡ b ++ once_code p → end ≡ length all
+    → set all past (Bnez 7 end) ≡ old ++ odd_code p (length old)
+odd_made p old a b all past end ea ep eb el ee =
+    let pc = length old in
+    let level = level_code pc in
+    let body = once_code p in
+    let long : length a ≡ pc + 16 = omega (arith, ap length ea, length-append old level) in
+    let mid : b ≡ old ++ (level ++ skip_code 5 (pc + 16) 0) =
+    eb ∙ ap (λ k. a ++ skip_code 5 k 0) long ∙ ap (λ l. l ++ skip_code 5 (pc + 16) 0) ea
+    ∙ append_assoc old level (skip_code 5 (pc + 16) 0) in
+    let ends : end ≡ pc + 16 + 3 + length body = omega (
+      arith,
+      ee,
+      ap length el,
+      length-append b body,
+      ap length eb,
+      length-append a (skip_code 5 (length a) 0),
+      long,
+    ) in
+    let same : end ≡ pc + 19 + length body = omega (arith, ends) in
+    skip_made level body old b all 5 past end (omega (arith, ep, long)) mid el ends
+    ∙ ap (λ t. old ++ (level ++ (skip_code 5 (pc + 16) t ++ body))) same
+
+-- two bodies at each pair
+pub halves_made : (p q : Part) (old a b c all : List Uop) (past end : ℕ)
+    → a ≡ old ++ level_code (length old) → b ≡ a ++ Mov 2 6 ∷ [] → past ≡ length b + 2
+    → c ≡ b ++ skip_code 2 (length b) 0 → all ≡ c ++ pairing_code p q (length c)
+    → end ≡ length all → set all past (Bnez 7 end) ≡ old ++ halves_code p q (length old)
+halves_made p q old a b c all past end ea eb ep ec el ee =
+    let pc = length old in
+    let level = level_code pc in
+    let pre = level ++ Mov 2 6 ∷ [] in
+    let body = pairing_code p q (pc + 20) in
+    let la : length a ≡ pc + 16 = omega (arith, ap length ea, length-append old level) in
+    let lb : length b ≡ pc + 17 = omega (arith, la, ap length eb, length-append a (Mov 2 6 ∷ [])) in
+    let lc : length c ≡ pc + 20 = omega (
+      arith,
+      lb,
+      ap length ec,
+      length-append b (skip_code 2 (length b) 0),
+    ) in
+    let front : b ≡ old ++ pre = eb ∙ ap (λ l. l ++ Mov 2 6 ∷ []) ea
+    ∙ append_assoc old level (Mov 2 6 ∷ []) in
+    let mid : c ≡ old ++ (pre ++ skip_code 2 (pc + 17) 0) =
+    ec ∙ ap (λ k. b ++ skip_code 2 k 0) lb ∙ ap (λ l. l ++ skip_code 2 (pc + 17) 0) front
+    ∙ append_assoc old pre (skip_code 2 (pc + 17) 0) in
+    let whole : all ≡ c ++ body = el ∙ ap (λ k. c ++ pairing_code p q k) lc in
+    let ends : end ≡ pc + 17 + 3 + length body = omega (
+      arith,
+      ee,
+      ap length whole,
+      length-append c body,
+      lc,
+    ) in
+    let same : end ≡ pc + 20 + length body = omega (arith, ends) in
+    skip_made pre body old c all 2 past end (omega (arith, ep, lb)) mid whole ends
+    ∙ ap (λ t. old ++ (pre ++ (skip_code 2 (pc + 17) t ++ body))) same
+    ∙ ap (λ l. old ++ l) (append_assoc level (Mov 2 6 ∷ [])
+    (skip_code 2 (pc + 17) (pc + 20 + length body) ++ body))
 
 -- the jump past the loop, once the loop stands
 pub pairs_made : (p : Part) (old mid all : List Uop) (past end : ℕ) → past ≡ length old + 3

@@ -13,7 +13,7 @@ use Rattle.std.proofs.lemmas.Bool.{and_parts, and_from, lt-ltb, cases_lt}
 use Rattle.std.proofs.Math.Nat.{mul-le-mul_right}
 use Rattle.op_text.specs.declared.tree.Kind.{Kind}
 use Rattle.uprog_code.specs.declared.code.Uop.{Uop}
-use Rattle.uprog_code.specs.declared.code.Uop.TheVariants.{Done, SubI, AddI, Bnez}
+use Rattle.uprog_code.specs.declared.code.Uop.TheVariants.{Done, SetI, SetN, Mov, SubI, AddI, Bnez}
 use Rattle.uprog_code.specs.Shape.{Shape, results}
 use Rattle.uprog_code.specs.Legal.{is_row, is_first, is_second, may_be_first, may_be_second}
 use Rattle.uprog_code.specs.Legal.{is_legal, IsLegalCode}
@@ -28,16 +28,16 @@ use Rattle.row_alloc.specs.Legal.{is_ref, is_first_ref, is_second_ref, is_legal_
 use Rattle.row_alloc.specs.Held.{is_read, reads_rows}
 use Rattle.loop_ir.specs.declared.ir.Sub.{Sub}
 use Rattle.loop_ir.specs.declared.ir.Sub.TheVariants.{Zero, Top, Inner as At_inner, InnerDown}
-use Rattle.loop_ir.specs.declared.ir.Sub.TheVariants.{Outer, OuterDown, Sum, DownSum, DownPlusN}
-use Rattle.loop_ir.specs.declared.ir.Sub.TheVariants.{NPlusInner}
+use Rattle.loop_ir.specs.declared.ir.Sub.TheVariants.{Outer, OuterDown, Sum, DownSum}
+use Rattle.loop_ir.specs.declared.ir.Sub.TheVariants.{SumTwice, AboveSumTwice, AboveSum}
 use Rattle.loop_ir.specs.declared.ir.Space.{Space}
 use Rattle.loop_ir.specs.declared.ir.Space.TheVariants.{Result, Source, ScratchBit, ScratchWord}
 use Rattle.loop_ir.specs.declared.ir.Space.TheVariants.{Cells}
 use Rattle.loop_ir.specs.declared.ir.Count.{Count}
-use Rattle.loop_ir.specs.declared.ir.Count.TheVariants.{All as All_of, Rest, UpTo, Bits}
+use Rattle.loop_ir.specs.declared.ir.Count.TheVariants.{All as All_of, Rest, UpTo}
 use Rattle.loop_ir.specs.Plain.{Block, InnerOf, TurnOf, StepOf, turn_map, step_map, AllInner}
 use Rattle.loop_ir.specs.Plain.{AllTurns, AllStep, AllParts}
-use Rattle.loop_ir.specs.Plain.InnerOf.{Alone, Across}
+use Rattle.loop_ir.specs.Plain.InnerOf.{Alone, Across, IfOdd, Halves}
 use Rattle.loop_ir.specs.Plain.StepOf.{Single, Along, Nest, Pairs, Alternate}
 use Rattle.loop_ir.specs.Spots.{nth_place, spot_in, IsOwn}
 use Rattle.uprog_gen.specs.Where.{IsSpot, IsBelow}
@@ -46,7 +46,8 @@ use Rattle.uprog_gen.specs.Code.{Part, row_space, register, place_ref, code_ref,
 use Rattle.uprog_gen.specs.Code.{before, after, inits, befores, afters, counter, body_uops}
 use Rattle.uprog_gen.specs.Code.{once_code, turn_code, enter_code, loop_code, inner_list, outside}
 use Rattle.uprog_gen.specs.Code.{turn_plan, turn_uops, either_code, either_size, turns_list}
-use Rattle.uprog_gen.specs.Code.{step_code, block_of_part, blocks}
+use Rattle.uprog_gen.specs.Code.{halve_code, level_code, skip_code, odd_code, pair_plan, pair_uops}
+use Rattle.uprog_gen.specs.Code.{pairing_code, halves_code, step_code, block_of_part, blocks}
 use Rattle.uprog_gen.specs.Code.{program_code}
 use Rattle.uprog_gen.proofs.Coding.Sizes.{either_long, cycle_long}
 use Rattle.loop_ir.specs.Costs.{is_fixed, same_sub, step_bodies}
@@ -224,17 +225,21 @@ module _ (head : Shape) where
   fit_part p part n i o is plan size = uops_legal p part plan n i o is size p.cmds part.does.legal
       part.does.unread
 
-  -- each body has a round at width 2, but for those that take turns, which have one where there are
-  -- positions enough
+  -- Each body has a round at width 2, those of a nest at width 3, where the lowest level is odd and has
+  -- a pair, and those that take turns where there are positions enough
   fit_inner : (xs : List (InnerOf Part)) → AllInner IsPart xs
-      → AllByRecursion (IsRound (IsSpot head 2) 2) (map block_round (inner_rounds 2 0 xs))
+      → AllByRecursion (IsRound (IsSpot head 3) 3) (map block_round (inner_rounds 3 0 xs))
       → AllInner IsFit xs
   fit_inner [] h r = tt
-  fit_inner (Alone p ∷ xs) h r = (fit_part p h.0 2 0 0 r.0, fit_inner xs h.1 r.1)
-  fit_inner (Across All_of p ∷ xs) h r = (fit_part p h.0 2 0 0 r.0, fit_inner xs h.1 r.1.1)
-  fit_inner (Across Rest p ∷ xs) h r = (fit_part p h.0 2 0 0 r.0, fit_inner xs h.1 r.1.1)
-  fit_inner (Across UpTo p ∷ xs) h r = (fit_part p h.0 2 0 0 r.0, fit_inner xs h.1 r.1)
-  fit_inner (Across Bits p ∷ xs) h r = (fit_part p h.0 2 0 0 r.0, fit_inner xs h.1 r.1)
+  fit_inner (Alone p ∷ xs) h r = (fit_part p h.0 3 0 0 r.0, fit_inner xs h.1 r.1)
+  fit_inner (Across All_of p ∷ xs) h r = (fit_part p h.0 3 0 0 r.0, fit_inner xs h.1 r.1.1.1)
+  fit_inner (Across Rest p ∷ xs) h r = (fit_part p h.0 3 0 0 r.0, fit_inner xs h.1 r.1.1.1)
+  fit_inner (Across UpTo p ∷ xs) h r = (fit_part p h.0 3 0 0 r.0, fit_inner xs h.1 r.1)
+  fit_inner (IfOdd p ∷ xs) h r = (fit_part p h.0 3 0 0 r.0, fit_inner xs h.1 r.1)
+  fit_inner (Halves p q ∷ xs) h r = (
+    (fit_part p h.0.0 3 0 0 r.0, fit_part q h.0.1 3 0 0 r.1.0),
+    fit_inner xs h.1 r.1.1,
+  )
 
   fit_turns : (ts us : List (TurnOf Part)) (i : ℕ) → AllTurns IsPart ts
       → i + length ts < WIDTH_MAX
@@ -265,12 +270,12 @@ module _ (head : Shape) where
   fit_step (Single p) h few r = fit_part p h 2 0 0 (r 2 (omega arith) (omega arith)).0
   fit_step (Along p) h few r = fit_part p h 2 0 0 (r 2 (omega arith) (omega arith)).0
   fit_step (Nest parts) h few r =
-      let first : List (RoundOf Part) = inner_rounds 2 0 parts in
-      let more : List (RoundOf Part) = inner_rounds 2 1 parts ++ [] in
-      fit_inner parts h (front_all (IsRound (IsSpot head 2) 2) (map block_round first)
+      let first : List (RoundOf Part) = inner_rounds 3 0 parts in
+      let more : List (RoundOf Part) = inner_rounds 3 1 parts ++ (inner_rounds 3 2 parts ++ []) in
+      fit_inner parts h (front_all (IsRound (IsSpot head 3) 3) (map block_round first)
       (map block_round more)
-      (subst (AllByRecursion (IsRound (IsSpot head 2) 2)) (blocks-append first more)
-      (r 2 (omega arith) (omega arith))))
+      (subst (AllByRecursion (IsRound (IsSpot head 3) 3)) (blocks-append first more)
+      (r 3 (omega arith) (omega arith))))
   fit_step (Pairs p) h few r = fit_part p h 2 0 1 (r 2 (omega arith) (omega arith)).0
   fit_step (Alternate ts) h few r =
       let many : 2 * length ts ≤ 12 = omega (
@@ -327,10 +332,11 @@ module _ (head : Shape) where
     init_legal Top r h = (h, tt)
     init_legal At_inner r h = (and_from (nat_lt r 8) (nat_le 0 1023) h refl, tt)
     init_legal InnerDown r h = (h, tt)
-    init_legal NPlusInner r h = (h, tt)
     init_legal Sum r h = (and_from (nat_lt r 8) (nat_lt 0 8) h refl, tt)
     init_legal DownSum r h = (and_from (nat_lt r 8) (nat_lt 1 8) h refl, tt)
-    init_legal DownPlusN r h = (h, (and_from (nat_lt r 8) (nat_lt 1 8) h refl, tt))
+    init_legal SumTwice r h = (and_from (nat_lt r 8) (nat_lt 0 8) h refl, tt)
+    init_legal AboveSumTwice r h = (and_from (nat_lt r 8) (nat_lt 0 8) h refl, tt)
+    init_legal AboveSum r h = (and_from (nat_lt r 8) (nat_lt 0 8) h refl, tt)
 
     before_legal : (u : Sub) (r : ℕ) → nat_lt r 8 ≡ true → L (before u r)
     before_legal InnerDown r h = (and_from (nat_lt r 8) (nat_le 1 1023) h refl, tt)
@@ -339,22 +345,24 @@ module _ (head : Shape) where
     before_legal OuterDown r h = tt
     before_legal Top r h = tt
     before_legal At_inner r h = tt
-    before_legal NPlusInner r h = tt
     before_legal Sum r h = tt
     before_legal DownSum r h = tt
-    before_legal DownPlusN r h = tt
+    before_legal SumTwice r h = tt
+    before_legal AboveSumTwice r h = (and_from (nat_lt r 8) (nat_le 1 1023) h refl, tt)
+    before_legal AboveSum r h = (and_from (nat_lt r 8) (nat_le 1 1023) h refl, tt)
 
     after_legal : (u : Sub) (r : ℕ) → nat_lt r 8 ≡ true → L (after u r)
     after_legal At_inner r h = (and_from (nat_lt r 8) (nat_le 1 1023) h refl, tt)
     after_legal Sum r h = (and_from (nat_lt r 8) (nat_le 1 1023) h refl, tt)
     after_legal DownSum r h = (and_from (nat_lt r 8) (nat_le 1 1023) h refl, tt)
-    after_legal NPlusInner r h = (and_from (nat_lt r 8) (nat_le 1 1023) h refl, tt)
+    after_legal SumTwice r h = (and_from (nat_lt r 8) (nat_le 2 1023) h refl, tt)
+    after_legal AboveSumTwice r h = (and_from (nat_lt r 8) (nat_le 1 1023) h refl, tt)
     after_legal Zero r h = tt
     after_legal Top r h = tt
     after_legal InnerDown r h = tt
     after_legal Outer r h = tt
     after_legal OuterDown r h = tt
-    after_legal DownPlusN r h = tt
+    after_legal AboveSum r h = tt
 
     inits_legal : (plan : Plan) → L (inits plan)
     inits_legal plan = join (init plan.first 3) (init plan.second 4 ++ init plan.third 5)
@@ -371,74 +379,95 @@ module _ (head : Shape) where
         (after_legal plan.first 3 refl) (join (after plan.second 4) (after plan.third 5)
         (after_legal plan.second 4 refl) (after_legal plan.third 5 refl))
 
-    counter_legal : (count : Count) (pc : ℕ) → pc + length (counter count pc) < size
-        → L (counter count pc)
-    counter_legal All_of pc le = (refl, tt)
-    counter_legal Rest pc le = (refl, (refl, tt))
-    counter_legal UpTo pc le = (refl, (refl, tt))
-    counter_legal Bits pc le =
-        let to = λ (t : ℕ) (h : t ≤ pc + 13). lt-ltb t size (omega (arith, le, h)) in (
-          refl,
-          (
-            refl,
-            (
-              refl,
-              (
-                refl,
-                (
-                  refl,
-                  (
-                    refl,
-                    (
-                      to (pc + 1 + 1 + 1 + 1 + 1 + 1 + 1 + 1) (omega arith),
-                      (
-                        to (pc + 1 + 1 + 1 + 1 + 1 + 1 + 1 + 1 + 1 + 1 + 1) (omega arith),
-                        (
-                          refl,
-                          (
-                            refl,
-                            (
-                              to (pc + 1 + 1 + 1 + 1 + 1) (omega arith),
-                              (
-                                refl,
-                                (to (pc + 1 + 1 + 1) (omega arith), tt),
-                              ),
-                            ),
-                          ),
-                        ),
-                      ),
-                    ),
-                  ),
-                ),
-              ),
-            ),
-          ),
-        )
+    counter_legal : (count : Count) → L (counter count)
+    counter_legal All_of = (refl, tt)
+    counter_legal Rest = (refl, (refl, tt))
+    counter_legal UpTo = (refl, (refl, tt))
 
     once_legal : (p : Part) → IsFit p → L (once_code p)
     once_legal p fit = join (inits p.plan) (befores p.plan ++ body_uops p) (inits_legal p.plan)
         (join (befores p.plan) (body_uops p) (befores_legal p.plan) (fit p.plan size))
 
+    turn_legal : (plan : Plan) (body : List Uop) → L body → L (turn_code plan body)
+    turn_legal plan body h = join (befores plan) (body ++ (afters plan ++ (SubI 2 1 ∷ [])))
+        (befores_legal plan) (join body (afters plan ++ (SubI 2 1 ∷ [])) h
+        (join (afters plan) (SubI 2 1 ∷ []) (afters_legal plan) (refl, tt)))
+
     loop_legal : (count : Count) (p : Part) (pc : ℕ) → IsFit p
         → pc + length (loop_code count p pc) ≤ size → L (loop_code count p pc)
     loop_legal count p pc fit le =
-        let enter = enter_code p.plan count pc in
+        let enter = enter_code p.plan count in
         let turn = turn_code p.plan (body_uops p) in
         let jump = Bnez 2 (pc + length enter) ∷ [] in
         let target : pc + length enter < size =
         omega (arith, le, length-append enter (turn ++ jump), length-append turn jump) in
-        let counted : pc + length (counter count pc) < size =
-        omega (arith, target, length-append (counter count pc) (inits p.plan)) in
-        join enter (turn ++ jump) (join (counter count pc) (inits p.plan)
-        (counter_legal count pc counted) (inits_legal p.plan))
-        (join turn jump
-        (join (befores p.plan) (body_uops p ++ (afters p.plan ++ (SubI 2 1 ∷ [])))
-        (befores_legal p.plan) (join (body_uops p) (afters p.plan ++ (SubI 2 1 ∷ [])) (fit p.plan size)
-        (join (afters p.plan) (SubI 2 1 ∷ []) (afters_legal p.plan) (refl, tt))))
+        join enter (turn ++ jump) (join (counter count) (inits p.plan)
+        (counter_legal count) (inits_legal p.plan))
+        (join turn jump (turn_legal p.plan (body_uops p) (fit p.plan size))
         (lt-ltb (pc + length enter) size target, tt))
 
+    level_legal : (pc : ℕ) → pc + 16 < size → L (level_code pc)
+    level_legal pc lt =
+        let to = λ (t : ℕ) (h : t ≤ pc + 16). lt-ltb t size (omega (arith, lt, h)) in
+        join (Mov 2 0 ∷ AddI 2 1 ∷ SetN 6 ∷ []) (halve_code pc ++ (Mov 6 7 ∷ SubI 2 1
+        ∷ Bnez 2 (pc + 3) ∷ [])) (refl, (refl, (refl, tt)))
+        (join (halve_code pc) (Mov 6 7 ∷ SubI 2 1 ∷ Bnez 2 (pc + 3) ∷ [])
+        (join (SetI 5 0 ∷ SetI 7 0 ∷ Bnez 2 (pc + 12) ∷ SubI 6 1 ∷ Bnez 6 (pc + 10) ∷ [])
+        (SetI 5 1 ∷ Bnez 2 (pc + 13) ∷ SubI 6 1 ∷ AddI 7 1 ∷ Bnez 6 (pc + 6) ∷ [])
+        (refl, (refl, (to (pc + 12) (omega arith), (refl, (to (pc + 10) (omega arith), tt)))))
+        (refl, (to (pc + 13) (omega arith), (refl, (refl, (to (pc + 6) (omega arith), tt))))))
+        (refl, (refl, (to (pc + 3) (omega arith), tt))))
+
+    odd_legal : (p : Part) (pc : ℕ) → IsFit p → pc + length (odd_code p pc) < size
+        → L (odd_code p pc)
+    odd_legal p pc fit lt =
+        let own = once_code p in
+        let end = pc + 19 + length own in
+        let skip = skip_code 5 (pc + 16) end in
+        let long = length-append (level_code pc) (skip ++ own) in
+        let all = length-append skip own in
+        let at_end : end < size = omega (arith, lt, long, all) in
+        join (level_code pc) (skip ++ own) (level_legal pc (omega (arith, at_end)))
+        (join skip own (
+          lt-ltb (pc + 16 + 3) size (omega (arith, at_end)),
+          (refl, (lt-ltb end size at_end, tt)),
+        )
+        (once_legal p fit))
+
+    pairing_legal : (p q : Part) (pc : ℕ) → IsFit p → IsFit q
+        → pc + length (pairing_code p q pc) < size → L (pairing_code p q pc)
+    pairing_legal p q pc fit_p fit_q lt =
+        let enter = inits pair_plan in
+        let turn = turn_code pair_plan (pair_uops p ++ pair_uops q) in
+        let jump = Bnez 2 (pc + length enter) ∷ [] in
+        let target : pc + length enter < size =
+        omega (arith, lt, length-append enter (turn ++ jump), length-append turn jump) in
+        join enter (turn ++ jump) (inits_legal pair_plan)
+        (join turn jump
+        (turn_legal pair_plan (pair_uops p ++ pair_uops q)
+        (join (pair_uops p) (pair_uops q) (fit_p pair_plan size) (fit_q pair_plan size)))
+        (lt-ltb (pc + length enter) size target, tt))
+
+    halves_legal : (p q : Part) (pc : ℕ) → IsFit p → IsFit q
+        → pc + length (halves_code p q pc) < size → L (halves_code p q pc)
+    halves_legal p q pc fit_p fit_q lt =
+        let loop = pairing_code p q (pc + 20) in
+        let end = pc + 20 + length loop in
+        let skip = skip_code 2 (pc + 17) end in
+        let long = length-append (level_code pc) (Mov 2 6 ∷ (skip ++ loop)) in
+        let all = length-append skip loop in
+        let at_end : end < size = omega (arith, lt, long, all) in
+        join (level_code pc) (Mov 2 6 ∷ (skip ++ loop)) (level_legal pc (omega (arith, at_end))) (
+          refl,
+          join skip loop (
+            lt-ltb (pc + 17 + 3) size (omega (arith, at_end)),
+            (refl, (lt-ltb end size at_end, tt)),
+          )
+              (pairing_legal p q (pc + 20) fit_p fit_q at_end),
+        )
+
     inner_legal : (xs : List (InnerOf Part)) (pc : ℕ) → AllInner IsFit xs
-        → pc + length (inner_list xs pc) ≤ size → L (inner_list xs pc)
+        → pc + length (inner_list xs pc) < size → L (inner_list xs pc)
     inner_legal [] pc h le = tt
     inner_legal (Alone p ∷ xs) pc h le =
         let a = once_code p in
@@ -449,6 +478,16 @@ module _ (head : Shape) where
         let a = loop_code count p pc in
         let b = inner_list xs (pc + length a) in
         join a b (loop_legal count p pc h.0 (omega (arith, le, length-append a b)))
+        (inner_legal xs (pc + length a) h.1 (omega (arith, le, length-append a b)))
+    inner_legal (IfOdd p ∷ xs) pc h le =
+        let a = odd_code p pc in
+        let b = inner_list xs (pc + length a) in
+        join a b (odd_legal p pc h.0 (omega (arith, le, length-append a b)))
+        (inner_legal xs (pc + length a) h.1 (omega (arith, le, length-append a b)))
+    inner_legal (Halves p q ∷ xs) pc h le =
+        let a = halves_code p q pc in
+        let b = inner_list xs (pc + length a) in
+        join a b (halves_legal p q pc h.0.0 h.0.1 (omega (arith, le, length-append a b)))
         (inner_legal xs (pc + length a) h.1 (omega (arith, le, length-append a b)))
 
     single_legal : (p : Part) (fixed : Bool) → IsFit p

@@ -8,28 +8,29 @@ use Rattle.uprog_code.specs.declared.code.Uop.{Uop}
 use Rattle.uprog_code.specs.declared.code.Uop.TheVariants.{SubI, AddI, Bnez}
 use Rattle.loop_ir.specs.declared.ir.Sub.{Sub}
 use Rattle.loop_ir.specs.declared.ir.Sub.TheVariants.{Zero, Top, Inner as At_inner, InnerDown}
-use Rattle.loop_ir.specs.declared.ir.Sub.TheVariants.{Outer, OuterDown, Sum, DownSum, DownPlusN}
-use Rattle.loop_ir.specs.declared.ir.Sub.TheVariants.{NPlusInner}
+use Rattle.loop_ir.specs.declared.ir.Sub.TheVariants.{Outer, OuterDown, Sum, DownSum, SumTwice}
+use Rattle.loop_ir.specs.declared.ir.Sub.TheVariants.{AboveSumTwice, AboveSum}
 use Rattle.loop_ir.specs.declared.ir.Count.{Count}
-use Rattle.loop_ir.specs.declared.ir.Count.TheVariants.{All as All_of, Rest, UpTo, Bits}
+use Rattle.loop_ir.specs.declared.ir.Count.TheVariants.{All as All_of, Rest, UpTo}
 use Rattle.loop_ir.specs.Plain.{InnerOf, StepOf, inner_map, step_map, AllInner, AllStep, TurnOf}
 use Rattle.loop_ir.specs.Plain.{turn_map, AllTurns}
 use Rattle.loop_ir.specs.Plain.{AllParts}
-use Rattle.loop_ir.specs.Plain.InnerOf.{Alone, Across}
+use Rattle.loop_ir.specs.Plain.InnerOf.{Alone, Across, IfOdd, Halves}
 use Rattle.loop_ir.specs.Plain.StepOf.{Single, Along, Nest, Pairs, Alternate}
 use Rattle.uprog_gen.specs.declared.plan.Plan.{Plan}
 use Rattle.uprog_gen.specs.Code.{Part, block_of_part, blocks, code_uop, init, before, after, inits}
 use Rattle.uprog_gen.specs.Code.{befores, afters, counter, body_uops, once_code, turn_code}
+use Rattle.uprog_gen.specs.Code.{odd_code, pair_plan, pair_uops, pairing_code, halves_code}
 use Rattle.uprog_gen.specs.Code.{enter_code, loop_code, inner_list, outside, step_code}
 use Rattle.uprog_gen.specs.Code.{turn_plan, turn_uops, either_code, either_size, turns_list}
 use Rattle.uprog_gen.specs.Code.{cycle_code}
 use Rattle.uprog_gen.specs.Code.{program_code}
-use Rattle.loop_ir.specs.Costs.{is_fixed, body_cost, counter_cost, inner_cost, step_cost}
+use Rattle.loop_ir.specs.Costs.{is_fixed, body_cost, inner_cost, step_cost}
 use Rattle.loop_ir.specs.Costs.{either_cost, turns_cost}
 use Rattle.loop_ir.specs.Costs.{code_cost}
 use Rattle.uprog_gen.specs.Parts.{IsPart}
 
-init_few : (u : Sub) (r : ℕ) → length (init u r) + length (before u r) + length (after u r) ≤ 2
+init_few : (u : Sub) (r : ℕ) → length (init u r) + length (before u r) + length (after u r) ≤ 3
 init_few Zero r = omega arith
 init_few Top r = omega arith
 init_few At_inner r = omega arith
@@ -38,14 +39,15 @@ init_few Outer r = omega arith
 init_few OuterDown r = omega arith
 init_few Sum r = omega arith
 init_few DownSum r = omega arith
-init_few DownPlusN r = omega arith
-init_few NPlusInner r = omega arith
+init_few SumTwice r = omega arith
+init_few AboveSumTwice r = omega arith
+init_few AboveSum r = omega arith
 
 three_length : (a b c : List Uop) → length (a ++ (b ++ c)) ≡ length a + length b + length c
 three_length a b c = omega (arith, length-append a (b ++ c), length-append b c)
 
 pub plan_few : (plan : Plan) → length (inits plan) + length (befores plan) + length (afters plan)
-    ≤ 6
+    ≤ 9
 plan_few plan =
     omega (
       arith,
@@ -57,26 +59,18 @@ plan_few plan =
       init_few plan.third 5,
     )
 
-counter_few : (count : Count) (pc : ℕ) → length (counter count pc) ≤ 2 + counter_cost count
-counter_few All_of pc = omega arith
-counter_few Rest pc = omega arith
-counter_few UpTo pc = omega arith
-counter_few Bits pc = omega arith
+counter_few : (count : Count) → length (counter count) ≤ 2
+counter_few All_of = omega arith
+counter_few Rest = omega arith
+counter_few UpTo = omega arith
 
-pub enter_few : (plan : Plan) (count : Count) (pc : ℕ)
-    → length (enter_code plan count pc) ≤ 8 + counter_cost count
-enter_few plan count pc = omega (
+pub enter_few : (plan : Plan) (count : Count) → length (enter_code plan count) ≤ 11
+enter_few plan count = omega (
   arith,
-  length-append (counter count pc) (inits plan),
-  counter_few count pc,
+  length-append (counter count) (inits plan),
+  counter_few count,
   plan_few plan,
 )
-
-pub counter_most : (count : Count) → counter_cost count ≤ 11
-counter_most All_of = omega arith
-counter_most Rest = omega arith
-counter_most UpTo = omega arith
-counter_most Bits = omega arith
 
 body_few : (p : Part) → IsPart p → length (body_uops p) ≤ body_cost p.block
 body_few p is = omega (
@@ -85,7 +79,7 @@ body_few p is = omega (
   is.short,
 )
 
-pub once_few : (p : Part) → IsPart p → length (once_code p) ≤ body_cost p.block + 6
+pub once_few : (p : Part) → IsPart p → length (once_code p) ≤ body_cost p.block + 9
 once_few p is = omega (
   arith,
   length-append (inits p.plan) (befores p.plan ++ body_uops p),
@@ -95,21 +89,53 @@ once_few p is = omega (
 )
 
 pub loop_few : (count : Count) (p : Part) (pc : ℕ) → IsPart p
-    → length (loop_code count p pc) ≤ body_cost p.block + 10 + counter_cost count
+    → length (loop_code count p pc) ≤ body_cost p.block + 13
 loop_few count p pc is =
-    let jump = Bnez 2 (pc + length (enter_code p.plan count pc)) ∷ [] in
+    let jump = Bnez 2 (pc + length (enter_code p.plan count)) ∷ [] in
     omega (
       arith,
-      length-append (enter_code p.plan count pc) (turn_code p.plan (body_uops p) ++ jump),
+      length-append (enter_code p.plan count) (turn_code p.plan (body_uops p) ++ jump),
       length-append (turn_code p.plan (body_uops p)) jump,
-      length-append (counter count pc) (inits p.plan),
-      counter_few count pc,
+      length-append (counter count) (inits p.plan),
+      counter_few count,
       length-append (befores p.plan) (body_uops p ++ (afters p.plan ++ (SubI 2 1 ∷ []))),
       length-append (body_uops p) (afters p.plan ++ (SubI 2 1 ∷ [])),
       length-append (afters p.plan) (SubI 2 1 ∷ []),
       plan_few p.plan,
       body_few p is,
     )
+
+pub odd_few : (p : Part) (pc : ℕ) → IsPart p
+    → length (odd_code p pc) ≤ body_cost p.block + 28
+odd_few p pc is = omega (arith, once_few p is)
+
+pair_few : (p : Part) → IsPart p → length (pair_uops p) ≤ body_cost p.block
+pair_few p is = omega (
+  arith,
+  length-map p.cmds (code_uop pair_plan p.block),
+  is.short,
+)
+
+pub pairing_few : (p q : Part) (pc : ℕ) → IsPart p → IsPart q
+    → length (pairing_code p q pc) ≤ body_cost p.block + body_cost q.block + 10
+pairing_few p q pc hp hq =
+    let us = pair_uops p ++ pair_uops q in
+    let turn = turn_code pair_plan us in
+    let jump = Bnez 2 (pc + length (inits pair_plan)) ∷ [] in
+    omega (
+      arith,
+      length-append (inits pair_plan) (turn ++ jump),
+      length-append turn jump,
+      length-append (befores pair_plan) (us ++ (afters pair_plan ++ (SubI 2 1 ∷ []))),
+      length-append us (afters pair_plan ++ (SubI 2 1 ∷ [])),
+      length-append (pair_uops p) (pair_uops q),
+      pair_few p hp,
+      pair_few q hq,
+    )
+
+pub halves_few : (p q : Part) (pc : ℕ) → IsPart p → IsPart q
+    → length (halves_code p q pc) ≤ body_cost p.block + body_cost q.block + 30
+halves_few p q pc hp hq = omega (arith, pairing_few p q (pc + 20) hp hq)
 
 pub inner_few : (xs : List (InnerOf Part)) (pc : ℕ) → AllInner IsPart xs
     → length (inner_list xs pc) + 5 * length xs
@@ -132,6 +158,24 @@ inner_few (Across count p ∷ xs) pc h =
       inner_few xs (pc + length a) h.1,
       sum_by-cons inner_cost (Across count p.block)
           (map (inner_map block_of_part) xs),
+    )
+inner_few (IfOdd p ∷ xs) pc h =
+    let a = odd_code p pc in
+    omega (
+      arith,
+      length-append a (inner_list xs (pc + length a)),
+      odd_few p pc h.0,
+      inner_few xs (pc + length a) h.1,
+      sum_by-cons inner_cost (IfOdd p.block) (map (inner_map block_of_part) xs),
+    )
+inner_few (Halves p q ∷ xs) pc h =
+    let a = halves_code p q pc in
+    omega (
+      arith,
+      length-append a (inner_list xs (pc + length a)),
+      halves_few p q pc h.0.0 h.0.1,
+      inner_few xs (pc + length a) h.1,
+      sum_by-cons inner_cost (Halves p.block q.block) (map (inner_map block_of_part) xs),
     )
 
 single_few : (p : Part) → IsPart p → (fixed : Bool)

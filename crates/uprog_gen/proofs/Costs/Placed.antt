@@ -7,7 +7,7 @@ use Rattle.std.proofs.lemmas.Bool.{and_parts}
 use Rattle.row_alloc.specs.declared.body.BodyCmd.{BodyCmd}
 use Rattle.loop_ir.specs.Plain.{Block, InnerOf, StepOf, inner_map, turn_map, AllInner, AllParts}
 use Rattle.loop_ir.specs.Plain.{all_turns}
-use Rattle.loop_ir.specs.Plain.InnerOf.{Alone, Across}
+use Rattle.loop_ir.specs.Plain.InnerOf.{Alone, Across, IfOdd, Halves}
 use Rattle.loop_ir.specs.Plain.StepOf.{Single, Along, Nest, Pairs, Alternate}
 use Rattle.loop_ir.specs.Loops.{all_rounds}
 use Rattle.loop_ir.specs.States.{has_states, held_of}
@@ -23,6 +23,8 @@ abbrev inners_settle : List (InnerOf Block) → Bool
 inners_settle [] = true
 inners_settle (Alone b ∷ ps) = is_settled b && inners_settle ps
 inners_settle (Across c b ∷ ps) = is_settled b && inners_settle ps
+inners_settle (IfOdd b ∷ ps) = is_settled b && inners_settle ps
+inners_settle (Halves b c ∷ ps) = (is_settled b && is_settled c) && inners_settle ps
 
 -- and those of every body of a loop program
 abbrev pub steps_settle : List (StepOf Block) → Bool
@@ -52,6 +54,15 @@ module _ (rooms : List Room) (rows : HaveRows rooms) where
       let p = and_parts (is_settled (placed_body [] b))
       (inners_settle (map (inner_map (placed_body [])) ps)) h in
       (settled_placed b p.0, inners_settled ps p.1)
+  inners_settled (IfOdd b ∷ ps) h =
+      let p = and_parts (is_settled (placed_body [] b))
+      (inners_settle (map (inner_map (placed_body [])) ps)) h in
+      (settled_placed b p.0, inners_settled ps p.1)
+  inners_settled (Halves b c ∷ ps) h =
+      let p = and_parts (is_settled (placed_body [] b) && is_settled (placed_body [] c))
+      (inners_settle (map (inner_map (placed_body [])) ps)) h in
+      let q = and_parts (is_settled (placed_body [] b)) (is_settled (placed_body [] c)) p.0 in
+      ((settled_placed b q.0, settled_placed c q.1), inners_settled ps p.1)
 
   pub settled_steps : (ss : List (StepOf Marked)) → steps_settle (placed_steps [] ss) ≡ true
       → AllParts IsSettled (placed_steps rooms ss)

@@ -1,20 +1,20 @@
 -- Where each body finds its states by the test, it does in every round.
-use Rattle.std.proofs.Common.{◌≡◌, ℕ, zero, suc, ◌+◌, ◌-◌, ◌<◌, ◌≤◌, true, List, [], ◌∷◌}
-use Rattle.std.proofs.Common.{◌++◌}
-use Rattle.std.proofs.Common.{refl, sym, subst, arith}
-use Rattle.std.specs.Prelude.{◌&&◌}
+use Rattle.std.proofs.Common.{◌≡◌, ℕ, zero, suc, ◌+◌, ◌-◌, ◌<◌, ◌≤◌, Bool, true, false, List, []}
+use Rattle.std.proofs.Common.{◌∷◌, ◌++◌, cond, refl, sym, ap, ◌∙◌, subst, arith, ◌⊎◌, inl, inr}
+use Rattle.std.proofs.Common.{⊎_elim}
+use Rattle.std.specs.Prelude.{◌&&◌, ◌||◌, ◌==◌, ◌%◌}
 use Rattle.std.specs.List.{list_all}
-use Rattle.std.proofs.lemmas.Bool.{and_parts, and_from}
+use Rattle.std.proofs.lemmas.Bool.{and_parts, and_from, cases_Bool, eqb-true}
 use Rattle.loop_ir.specs.declared.ir.Count.{Count}
-use Rattle.loop_ir.specs.declared.ir.Count.TheVariants.{All, Rest, UpTo, Bits}
+use Rattle.loop_ir.specs.declared.ir.Count.TheVariants.{All, Rest, UpTo}
 use Rattle.loop_ir.specs.Plain.{Block, InnerOf, StepOf, TurnOf}
-use Rattle.loop_ir.specs.Plain.InnerOf.{Alone, Across}
+use Rattle.loop_ir.specs.Plain.InnerOf.{Alone, Across, IfOdd, Halves}
 use Rattle.loop_ir.specs.Plain.StepOf.{Single, Along, Nest, Pairs, Alternate}
-use Rattle.loop_ir.specs.Loops.{RoundOf, one_round, rounds, bits_in, positions, inner_rounds}
+use Rattle.loop_ir.specs.Loops.{RoundOf, one_round, two_rounds, rounds, positions, elements}
+use Rattle.loop_ir.specs.Loops.{inner_rounds}
 use Rattle.loop_ir.specs.Loops.{all_rounds, turns_from}
-use Rattle.loop_laws.proofs.Digits.{some_bits}
 use Rattle.loop_ir.specs.Chains.{states_in, is_alive, finds, left_by, loop_finds, inner_left}
-use Rattle.loop_ir.specs.Chains.{inner_finds, steps_find, turns_left, turns_find}
+use Rattle.loop_ir.specs.Chains.{common, inner_finds, steps_find, turns_left, turns_find}
 use Rattle.uprog_gen.proofs.Rows.Alive.{chained}
 
 -- the states that the last of the rounds leaves
@@ -115,12 +115,103 @@ across alive b o count h some =
     many (λ i. one_round b i o) count alive (left_by b) (λ i l. once alive b i o p.0)
     (λ i l. once (left_by b) b i o p.1) 0 count some (omega arith)
 
--- what a nest leaves after a turn it leaves after the next
+-- the states that two lists have in common
+or_to : (a b c : Bool) → (b ≡ true → c ≡ true) → (a || b) ≡ true → (a || c) ≡ true
+or_to true b c h e = refl
+or_to false b c h e = h e
+
+or_more : (a b : Bool) → b ≡ true → (a || b) ≡ true
+or_more true b e = refl
+or_more false b e = e
+
+front_by : (b : Bool) (x : ℕ) (ys xs : List ℕ) (w : ℕ) → Within ys xs
+    → is_alive w (cond b (x ∷ ys) ys) ≡ true → is_alive w (x ∷ xs) ≡ true
+front_by true x ys xs w h e = or_to (x == w) (is_alive w ys) (is_alive w xs) (h w) e
+front_by false x ys xs w h e = or_more (x == w) (is_alive w xs) (h w e)
+
+common_front : (xs ls : List ℕ) → Within (common xs ls) xs
+common_front [] ls w e = e
+common_front (x ∷ xs) ls w e =
+    front_by (is_alive x ls) x (common xs ls) xs w (common_front xs ls) e
+
+back_by : (b : Bool) (x : ℕ) (ys ls : List ℕ) (w : ℕ) → is_alive x ls ≡ b → Within ys ls
+    → is_alive w (cond b (x ∷ ys) ys) ≡ true → is_alive w ls ≡ true
+back_by true x ys ls w is h e = ⊎_elim
+    (λ (t : (x == w) ≡ true). subst (λ v. is_alive v ls ≡ true) (eqb-true x w t) is)
+    (λ (f : (x == w) ≡ false). h w (sym (ap (λ b. b || is_alive w ys) f) ∙ e))
+    (cases_Bool (x == w))
+back_by false x ys ls w is h e = h w e
+
+common_back : (xs ls : List ℕ) → Within (common xs ls) ls
+common_back [] ls w e = absurd cc
+common_back (x ∷ xs) ls w e =
+    back_by (is_alive x ls) x (common xs ls) ls w refl (common_back xs ls) e
+
+both_by : (b : Bool) (x : ℕ) (ys xs ls : List ℕ) (w : ℕ) → is_alive x ls ≡ b
+    → (is_alive w xs ≡ true → is_alive w ys ≡ true) → is_alive w ls ≡ true
+    → is_alive w (x ∷ xs) ≡ true → is_alive w (cond b (x ∷ ys) ys) ≡ true
+both_by true x ys xs ls w is h f e = or_to (x == w) (is_alive w xs) (is_alive w ys) h e
+both_by false x ys xs ls w is h f e = ⊎_elim
+    (λ (t : (x == w) ≡ true). absurd (let g : false ≡ true = sym is
+    ∙ subst (λ v. is_alive v ls ≡ true) (sym (eqb-true x w t)) f in cc))
+    (λ (n : (x == w) ≡ false). h (sym (ap (λ b. b || is_alive w xs) n) ∙ e))
+    (cases_Bool (x == w))
+
+common_both : (xs ls : List ℕ) (w : ℕ) → is_alive w xs ≡ true → is_alive w ls ≡ true
+    → is_alive w (common xs ls) ≡ true
+common_both [] ls w e f = e
+common_both (x ∷ xs) ls w e f = both_by (is_alive x ls) x (common xs ls) xs ls w refl
+    (λ h. common_both xs ls w h f) f e
+
+-- a nest leaves always the same, or nothing new
+left_kind : (ps : List (InnerOf Block))
+    → ((xs ys : List ℕ) → inner_left xs ps ≡ inner_left ys ps)
+    ⊎ ((xs : List ℕ) → Within (inner_left xs ps) xs)
+left_kind [] = inr (λ xs w e. e)
+left_kind (Alone b ∷ ps) = inl (λ xs ys. refl)
+left_kind (Across c b ∷ ps) = inl (λ xs ys. refl)
+left_kind (IfOdd b ∷ ps) = elim (left_kind ps) [
+  | inl same ↦ inl (λ xs ys. same (common xs (left_by b)) (common ys (left_by b)))
+  | inr old ↦ inr (λ xs w e. common_front xs (left_by b) w (old (common xs (left_by b)) w e))
+]
+left_kind (Halves b c ∷ ps) = elim (left_kind ps) [
+  | inl same ↦ inl (λ xs ys. same (common xs (left_by c)) (common ys (left_by c)))
+  | inr old ↦ inr (λ xs w e. common_front xs (left_by c) w (old (common xs (left_by c)) w e))
+]
+
+-- what it leaves is left again where that is found
+left_common : (ps : List (InnerOf Block)) (xs ys left : List ℕ)
+    → ((us vs : List ℕ) → Within (inner_left us ps) vs
+    → Within (inner_left us ps) (inner_left vs ps)) → Within (inner_left (common xs left) ps) ys
+    → Within (inner_left (common xs left) ps) (inner_left (common ys left) ps)
+left_common ps xs ys left more h = elim (left_kind ps) [
+  | inl same ↦ (λ w e. subst (λ l. is_alive w l ≡ true) (same (common xs left) (common ys left)) e)
+  | inr old ↦ more (common xs left) (common ys left) (λ w e. common_both ys left w (h w e)
+      (common_back xs left w (old (common xs left) w e)))
+]
+
+left_from : (ps : List (InnerOf Block)) (xs ys : List ℕ) → Within (inner_left xs ps) ys
+    → Within (inner_left xs ps) (inner_left ys ps)
+left_from [] xs ys h = h
+left_from (Alone b ∷ ps) xs ys h = λ w e. e
+left_from (Across c b ∷ ps) xs ys h = λ w e. e
+left_from (IfOdd b ∷ ps) xs ys h = left_common ps xs ys (left_by b) (left_from ps) h
+left_from (Halves b c ∷ ps) xs ys h = left_common ps xs ys (left_by c) (left_from ps) h
+
 left_again : (ps : List (InnerOf Block)) (alive : List ℕ)
-    → inner_left (inner_left alive ps) ps ≡ inner_left alive ps
-left_again [] alive = refl
-left_again (Alone b ∷ ps) alive = refl
-left_again (Across c b ∷ ps) alive = refl
+    → Within (inner_left alive ps) (inner_left (inner_left alive ps) ps)
+left_again ps alive = left_from ps alive (inner_left alive ps) (λ w e. e)
+
+left_back : (ps : List (InnerOf Block)) (alive : List ℕ)
+    → Within (inner_left (inner_left alive ps) ps) (inner_left alive ps)
+left_back ps alive = elim (left_kind ps) [
+  | inl same ↦ (λ w e. subst (λ l. is_alive w l ≡ true) (same (inner_left alive ps) alive) e)
+  | inr old ↦ old (inner_left alive ps)
+]
+
+common_more : (xs ys ls : List ℕ) → Within xs ys → Within (common xs ls) (common ys ls)
+common_more xs ys ls w v e = common_both ys ls v (w v (common_front xs ls v e))
+    (common_back xs ls v e)
 
 across_count : (n o : ℕ) (c : Count) (alive : List ℕ) (b : Block) → o < n
     → loop_finds alive b ≡ true
@@ -128,8 +219,6 @@ across_count : (n o : ℕ) (c : Count) (alive : List ℕ) (b : Block) → o < n
 across_count n o All alive b l h = across alive b o n h (omega arith)
 across_count n o Rest alive b l h = across alive b o (n - o) h (omega arith)
 across_count n o UpTo alive b l h = across alive b o (o + 1) h (omega arith)
-across_count n o Bits alive b l h = let one : suc o ≡ o + 1 = omega arith in
-    across alive b o (bits_in (o + 1)) h (subst (λ k. 0 < bits_in k) one (some_bits o))
 
 -- a loop that may have no round
 maybe : (alive : List ℕ) (b : Block) (o count : ℕ) → loop_finds alive b ≡ true
@@ -137,6 +226,29 @@ maybe : (alive : List ℕ) (b : Block) (o count : ℕ) → loop_finds alive b �
 maybe alive b o zero h = fewer alive alive [] [] (none_within alive) (nothing alive)
 maybe alive b o (suc m) h = fewer alive (left_by b) [] (rounds (λ i. one_round b i o) 0 (suc m))
     (none_within (left_by b)) (across alive b o (suc m) h (omega arith))
+
+-- a body that may have a round
+odd : (alive : List ℕ) (b : Block) (o count : ℕ) → count < 2 → finds alive b ≡ true
+    → Chains alive (common alive (left_by b)) (rounds (λ i. one_round b i o) 0 count)
+odd alive b o zero lt h = fewer alive alive (common alive (left_by b)) []
+    (common_front alive (left_by b)) (nothing alive)
+odd alive b o (suc zero) lt h = fewer alive (left_by b) (common alive (left_by b))
+    (one_round b 0 o) (common_back alive (left_by b)) (once alive b 0 o h)
+odd alive b o (suc (suc count)) lt h = absurd (omega (arith, lt))
+
+-- two bodies at each of some pairs
+paired : (alive : List ℕ) (b c : Block) (o count : ℕ) → finds alive b ≡ true
+    → finds (left_by b) c ≡ true → finds (left_by c) b ≡ true
+    → Chains alive (common alive (left_by c)) (rounds (λ i. two_rounds b c i o) 0 count)
+paired alive b c o zero h k again = fewer alive alive (common alive (left_by c)) []
+    (common_front alive (left_by c)) (nothing alive)
+paired alive b c o (suc count) h k again =
+    let both = λ (xs : List ℕ) (f : finds xs b ≡ true) (i : ℕ). join xs (left_by b) (left_by c)
+    (one_round b i o) (one_round c i o) (once xs b i o f) (once (left_by b) c i o k) in
+    fewer alive (left_by c) (common alive (left_by c)) (rounds (λ i. two_rounds b c i o) 0 (suc count))
+    (common_back alive (left_by c))
+    (many (λ i. two_rounds b c i o) (suc count) alive (left_by c) (λ i l. both alive h i)
+    (λ i l. both (left_by c) again i) 0 (suc count) (omega arith) (omega arith))
 
 inners : (n o : ℕ) (ps : List (InnerOf Block)) (alive : List ℕ) → o < n
     → inner_finds alive ps ≡ true → Chains alive (inner_left alive ps) (inner_rounds n o ps)
@@ -150,6 +262,21 @@ inners n o (Across c b ∷ ps) alive l h =
     join alive (left_by b) (inner_left (left_by b) ps)
     (rounds (λ i. one_round b i o) 0 (positions n o c)) (inner_rounds n o ps)
     (across_count n o c alive b l p.0) (inners n o ps (left_by b) l p.1)
+inners n o (IfOdd b ∷ ps) alive l h =
+    let left = common alive (left_by b) in
+    let p = and_parts (finds alive b) (inner_finds left ps) h in
+    join alive left (inner_left left ps) (rounds (λ i. one_round b i o) 0 (elements n o % 2))
+    (inner_rounds n o ps) (odd alive b o (elements n o % 2) (omega arith) p.0)
+    (inners n o ps left l p.1)
+inners n o (Halves b c ∷ ps) alive l h =
+    let left = common alive (left_by c) in
+    let p = and_parts (finds alive b && (finds (left_by b) c && finds (left_by c) b))
+    (inner_finds left ps) h in
+    let q = and_parts (finds alive b) (finds (left_by b) c && finds (left_by c) b) p.0 in
+    let r = and_parts (finds (left_by b) c) (finds (left_by c) b) q.1 in
+    join alive left (inner_left left ps) (rounds (λ i. two_rounds b c i o) 0 (elements n (o + 1)))
+    (inner_rounds n o ps) (paired alive b c o (elements n (o + 1)) q.0 r.0 r.1)
+    (inners n o ps left l p.1)
 
 -- bodies that take turns: one that has had its turn stands behind the others
 left_behind : (ts : List (TurnOf Block)) (t : TurnOf Block) (alive : List ℕ)
@@ -228,11 +355,12 @@ steps_chained n (Nest ps ∷ ss) alive some h =
     && steps_find (inner_left mid ps) ss) h in
     let q = and_parts (inner_finds mid ps) (steps_find (inner_left mid ps) ss) p.1 in
     let c = many (λ o. inner_rounds n o ps) n alive mid (λ o l. inners n o ps alive l p.0)
-    (λ o l. subst (λ x. Chains mid x (inner_rounds n o ps)) (left_again ps alive)
+    (λ o l. fewer mid (inner_left mid ps) mid (inner_rounds n o ps) (left_again ps alive)
     (inners n o ps mid l q.0)) 0 n some (omega arith) in
     both_chained rs (all_rounds n ss) alive c.need
-    (more_chained (all_rounds n ss) mid (left_after alive rs) c.left_in
-    (steps_chained n ss mid some (subst (λ x. steps_find x ss ≡ true) (left_again ps alive) q.1)))
+    (more_chained (all_rounds n ss) (inner_left mid ps) (left_after alive rs)
+    (λ w e. c.left_in w (left_back ps alive w e))
+    (steps_chained n ss (inner_left mid ps) some q.1))
 
 -- with more alive each step still finds its states
 loop_still : (b : Block) (xs ys : List ℕ) → Within xs ys → loop_finds xs b ≡ true
@@ -251,12 +379,30 @@ inner_still (Alone b ∷ ps) xs ys w h =
 inner_still (Across c b ∷ ps) xs ys w h =
     let p = and_parts (loop_finds xs b) (inner_finds (left_by b) ps) h in
     and_from (loop_finds ys b) (inner_finds (left_by b) ps) (loop_still b xs ys w p.0) p.1
+inner_still (IfOdd b ∷ ps) xs ys w h =
+    let p = and_parts (finds xs b) (inner_finds (common xs (left_by b)) ps) h in
+    and_from (finds ys b) (inner_finds (common ys (left_by b)) ps)
+    (more_find (states_in b.reads) xs ys w p.0)
+    (inner_still ps (common xs (left_by b)) (common ys (left_by b))
+    (common_more xs ys (left_by b) w) p.1)
+inner_still (Halves b c ∷ ps) xs ys w h =
+    let both = finds (left_by b) c && finds (left_by c) b in
+    let p = and_parts (finds xs b && both) (inner_finds (common xs (left_by c)) ps) h in
+    let q = and_parts (finds xs b) both p.0 in
+    and_from (finds ys b && both) (inner_finds (common ys (left_by c)) ps)
+    (and_from (finds ys b) both (more_find (states_in b.reads) xs ys w q.0) q.1)
+    (inner_still ps (common xs (left_by c)) (common ys (left_by c))
+    (common_more xs ys (left_by c) w) p.1)
 
 inner_within : (ps : List (InnerOf Block)) (xs ys : List ℕ) → Within xs ys
     → Within (inner_left xs ps) (inner_left ys ps)
 inner_within [] xs ys w = w
 inner_within (Alone b ∷ ps) xs ys w = λ v e. e
 inner_within (Across c b ∷ ps) xs ys w = λ v e. e
+inner_within (IfOdd b ∷ ps) xs ys w = inner_within ps (common xs (left_by b))
+    (common ys (left_by b)) (common_more xs ys (left_by b) w)
+inner_within (Halves b c ∷ ps) xs ys w = inner_within ps (common xs (left_by c))
+    (common ys (left_by c)) (common_more xs ys (left_by c) w)
 
 turns_still : (ts : List (TurnOf Block)) (xs ys : List ℕ) → Within xs ys
     → turns_find xs ts ≡ true → turns_find ys ts ≡ true

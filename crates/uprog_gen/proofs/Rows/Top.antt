@@ -1,5 +1,6 @@
 -- The code of a loop program does to every column what its rounds do to the named rows.
-use Rattle.std.proofs.Common.{◌≡◌, ℕ, zero, suc, ◌+◌, ◌-◌, ◌<◌, ◌≤◌, true, List, [], ◌∷◌, ◌++◌, map}
+use Rattle.std.proofs.Common.{◌≡◌, ℕ, zero, suc, ◌+◌, ◌-◌, ◌%◌, ◌<◌, ◌≤◌, true, List, [], ◌∷◌}
+use Rattle.std.proofs.Common.{◌++◌, map}
 use Rattle.std.proofs.Common.{length, refl, sym, ap, ◌∙◌, subst, ⊎_elim, arith, inl, inr, cond}
 use Rattle.std.proofs.Common.{length-append, append_assoc}
 use Rattle.std.specs.List.{AllByRecursion, list_all}
@@ -15,14 +16,14 @@ use Rattle.uprog_code.specs.Count.{counts_of, issues_aap, issues_ap}
 use Rattle.uprog_code.specs.Bound.{Bound, bound}
 use Rattle.uprog_code.specs.Machine.{Issue, IssueAap, IssueAp, Ended, trace, HasEnded, issues_of}
 use Rattle.loop_ir.specs.Loops.{rounds, RoundOf, round_at, one_round, positions, inner_rounds}
-use Rattle.loop_ir.specs.Loops.{turns_from, step_rounds, all_rounds}
+use Rattle.loop_ir.specs.Loops.{turns_from, step_rounds, all_rounds, elements, two_rounds}
 use Rattle.uprog_code.specs.Fits.{Fits, IsTouched}
 use Rattle.loop_ir.specs.declared.ir.Space.{Space}
 use Rattle.loop_ir.specs.declared.ir.Space.TheVariants.{Result, Source, ScratchBit, ScratchWord}
 use Rattle.loop_ir.specs.declared.ir.Space.TheVariants.{Cells}
 use Rattle.loop_ir.specs.Plain.{Block, InnerOf, TurnOf, StepOf, inner_map, turn_map, step_map}
 use Rattle.loop_ir.specs.Plain.{AllInner, AllStep, AllParts}
-use Rattle.loop_ir.specs.Plain.InnerOf.{Alone, Across}
+use Rattle.loop_ir.specs.Plain.InnerOf.{Alone, Across, IfOdd, Halves}
 use Rattle.loop_ir.specs.Plain.StepOf.{Single, Along, Nest, Pairs, Alternate}
 use Rattle.loop_ir.specs.Spots.{Spot, IsOwn, after_rounds}
 use Rattle.uprog_gen.specs.Where.{spot_row, row_in, IsSpot, IsIn, Agree, spots_in}
@@ -67,6 +68,20 @@ inner_blocks n o (Across count p ∷ xs) =
     ap (λ l. rounds (λ i. one_round p.block i o) 0 (positions n o count) ++ l) (inner_blocks n o xs)
     ∙ ap (λ l. l ++ map block_round (inner_rounds n o xs))
     (sym (map_rounds block_round (λ i. one_round p i o) 0 (positions n o count)))
+    ∙ sym (map-append block_round rs (inner_rounds n o xs))
+inner_blocks n o (IfOdd p ∷ xs) =
+    let count = elements n o % 2 in
+    let rs : List (RoundOf Part) = rounds (λ i. one_round p i o) 0 count in
+    ap (λ l. rounds (λ i. one_round p.block i o) 0 count ++ l) (inner_blocks n o xs)
+    ∙ ap (λ l. l ++ map block_round (inner_rounds n o xs))
+    (sym (map_rounds block_round (λ i. one_round p i o) 0 count))
+    ∙ sym (map-append block_round rs (inner_rounds n o xs))
+inner_blocks n o (Halves p q ∷ xs) =
+    let count = elements n (o + 1) in
+    let rs : List (RoundOf Part) = rounds (λ i. two_rounds p q i o) 0 count in
+    ap (λ l. rounds (λ i. two_rounds p.block q.block i o) 0 count ++ l) (inner_blocks n o xs)
+    ∙ ap (λ l. l ++ map block_round (inner_rounds n o xs))
+    (sym (map_rounds block_round (λ i. two_rounds p q i o) 0 count))
     ∙ sym (map-append block_round rs (inner_rounds n o xs))
 
 turns_blocks : (ts : List (TurnOf Part)) (i count : ℕ)
@@ -120,6 +135,14 @@ module _ (P : Part → Type 0) where
   inner_parts n o (Across count p ∷ xs) h = all_both In
       (rounds (λ i. one_round p i o) 0 (positions n o count)) (inner_rounds n o xs)
       (all_rounds_of In (λ i. one_round p i o) (λ i. (h.0, tt)) 0 (positions n o count))
+      (inner_parts n o xs h.1)
+  inner_parts n o (IfOdd p ∷ xs) h = all_both In
+      (rounds (λ i. one_round p i o) 0 (elements n o % 2)) (inner_rounds n o xs)
+      (all_rounds_of In (λ i. one_round p i o) (λ i. (h.0, tt)) 0 (elements n o % 2))
+      (inner_parts n o xs h.1)
+  inner_parts n o (Halves p q ∷ xs) h = all_both In
+      (rounds (λ i. two_rounds p q i o) 0 (elements n (o + 1))) (inner_rounds n o xs)
+      (all_rounds_of In (λ i. two_rounds p q i o) (λ i. (h.0.0, (h.0.1, tt))) 0 (elements n (o + 1)))
       (inner_parts n o xs h.1)
 
   step_parts : (n : ℕ) (s : StepOf Part) → AllStep P s → AllByRecursion In (step_rounds n s)

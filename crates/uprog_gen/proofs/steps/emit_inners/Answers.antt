@@ -13,8 +13,8 @@ emit_inner-requires-clause-small c = inner_at IsSmall c.args.parts.now c.loop-in
 pub emit_inner-requires-clause-room : goal.emit_inner-requires-clause-room
 emit_inner-requires-clause-room c = omega (
   arith,
-  inner_room c.args.parts.now c.loop-inner.inner-index c.args.code.now.items
-      c.loop-inner.code.items c.loop-inner.invariant,
+  inner_room c.args.parts.now c.loop-inner.inner-index c.inner-item.result c.args.code.now.items
+      c.loop-inner.code.items c.loop-inner-test.true c.inner-item.is c.loop-inner.invariant,
   c.requires.room,
 )
 
