@@ -295,11 +295,12 @@ fn offered_loop(
     requires { AreNamed body.now.graph.mig body.now.graph.outs.items }
     ensures other { IfOk result (λ o. IfSome o (λ r. IsOther (block_of body.now)
         (block_of r.body))) }
-    ensures held { IfOk result (λ o. IfSome o (λ r. IsHeldOne r.held.home (block_of r.body) (record {
-      start = r.held.start.items;
-      each = r.held.each.items;
-      store = r.held.store.items;
-    }))) }
+    ensures held { IfOk result (λ o. IfSome o (λ r. IsHeldOne r.held.home (block_of r.body)
+        (record {
+          start = r.held.start.items;
+          each = r.held.each.items;
+          store = r.held.store.items;
+        }))) }
     ensures place { IfOk result (λ o. IfSome o (λ r. r.held.home.place ≡ place)) }
     ensures start { IfOk result (λ o. IfSome o (λ r. r.held.home.start ≡ start)) }
     ensures fewer { IfOk result (λ o. IfSome o (λ r. length r.held.each.items + 1 ≤ most)) }
@@ -334,11 +335,12 @@ pub(crate) fn other_loop(
     requires { AreNamed body.now.graph.mig body.now.graph.outs.items }
     ensures other { IfOk result (λ o. IfSome o (λ r. IsOther (block_of body.now)
         (block_of r.body))) }
-    ensures held { IfOk result (λ o. IfSome o (λ r. IsHeldOne r.held.home (block_of r.body) (record {
-      start = r.held.start.items;
-      each = r.held.each.items;
-      store = r.held.store.items;
-    }))) }
+    ensures held { IfOk result (λ o. IfSome o (λ r. IsHeldOne r.held.home (block_of r.body)
+        (record {
+          start = r.held.start.items;
+          each = r.held.each.items;
+          store = r.held.store.items;
+        }))) }
     ensures place { IfOk result (λ o. IfSome o (λ r. r.held.home.place ≡ place)) }
     ensures start { IfOk result (λ o. IfSome o (λ r. r.held.home.start ≡ start)) }
     ensures fewer { IfOk result (λ o. IfSome o (λ r. length r.held.each.items + 1 ≤ most)) }
@@ -384,8 +386,8 @@ impl HeldLoop {
 impl OtherLoop {
     /// The steps of the loop that does the other body.
     pub(crate) fn into_program(self, alloc: Global) -> Result<LoopProgram, NoMemory>
-        ensures { IfOk result (λ p. steps_of p ≡ held_steps (self.held.home ∷ []) (block_of self.body)
-            (record {
+        ensures { IfOk result (λ p. steps_of p ≡ held_steps (self.held.home ∷ [])
+            (block_of self.body) (record {
               start = self.held.start.items;
               each = self.held.each.items;
               store = self.held.store.items;

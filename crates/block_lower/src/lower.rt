@@ -101,11 +101,12 @@ fn other_in_cells(
         (r.held.home.cells ∷ []) ≡ r.held.home ∷ [])) }
     ensures other { IfOk result (λ o. IfSome o (λ r. IsOther (block_of body.now)
         (block_of r.body))) }
-    ensures held { IfOk result (λ o. IfSome o (λ r. IsHeldOne r.held.home (block_of r.body) (record {
-      start = r.held.start.items;
-      each = r.held.each.items;
-      store = r.held.store.items;
-    }))) }
+    ensures held { IfOk result (λ o. IfSome o (λ r. IsHeldOne r.held.home (block_of r.body)
+        (record {
+          start = r.held.start.items;
+          each = r.held.each.items;
+          store = r.held.store.items;
+        }))) }
     ensures fewer { IfOk result (λ o. IfSome o (λ r. length r.held.each.items + 1 ≤ most)) }
 {
     match states {
