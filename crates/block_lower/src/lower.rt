@@ -85,7 +85,7 @@ fn own_in_cells(
     }
 }
 
-/// The same of another body, where that takes fewer.
+/// The same of another body: that of the fewest commands.
 fn other_in_cells(
     down: bool,
     states: &[State],
@@ -118,17 +118,6 @@ fn other_in_cells(
     }
 }
 
-/// How many commands the loop of the block's own body takes a position.
-fn own_commands(own: &Option<HeldLoop>, row: usize) -> usize
-    requires { IfSome own.now (λ r. length r.each.items + 1 ≤ row) }
-    ensures { result ≤ row }
-{
-    match own {
-        Some(held) => held.each.len(),
-        None => row,
-    }
-}
-
 /// The loop program of a serial block, whose names lie where the map says.
 pub fn lower_block(
     down: bool,
@@ -149,13 +138,12 @@ pub fn lower_block(
         (steps_of p)) }
 {
     let BlockBody { body, offers } = block_body(down, lets, assigns, names, alloc)?;
-    let own = own_in_cells(down, states, &body, body.found.len(), names, alloc)?;
-    let least = own_commands(&own, body.found.len());
-    match other_in_cells(down, states, &body, &offers, least, names, alloc)? {
+    let most = body.found.len();
+    if let Some(own) = own_in_cells(down, states, &body, most, names, alloc)? {
+        return own.into_program(body, alloc);
+    }
+    match other_in_cells(down, states, &body, &offers, most, names, alloc)? {
         Some(other) => other.into_program(alloc),
-        None => match own {
-            Some(held) => held.into_program(body, alloc),
-            None => row_loop(down, states, body, names, alloc),
-        },
+        None => row_loop(down, states, body, names, alloc),
     }
 }
