@@ -1,6 +1,6 @@
 -- The loop of a block whose states stand in cells from one position to the next.
-use Rattle.std.specs.Prelude.{◌≡◌, ℕ, suc, ◌+◌, ◌*◌, ◌<◌, ◌≤◌, ◌==◌, ◌&&◌, Bool, true, false, List, [], ◌∷◌, map}
-use Rattle.std.specs.Prelude.{length, if◌then◌else◌}
+use Rattle.std.specs.Prelude.{◌≡◌, ℕ, suc, ◌+◌, ◌*◌, ◌<◌, ◌≤◌, ◌==◌, ◌&&◌, Bool, true, false, List}
+use Rattle.std.specs.Prelude.{[], ◌∷◌, map, length, if◌then◌else◌}
 use Rattle.std.specs.List.{list_all}
 use Rattle.mig_graph.specs.declared.Lit.{Lit}
 use Rattle.row_alloc.specs.declared.body.BodyCmd.{BodyCmd}

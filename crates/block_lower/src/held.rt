@@ -18,16 +18,11 @@ use row_alloc::{BodyCmd, Search, held_commands_of};
 use std::alloc::Global;
 
 /// In how many layouts of cells a state is tried.
-const LAYOUTS: u8 = 3;
+const LAYOUTS: u8 = 2;
 
-/// The layouts: T3 and DCC1, both turned, and T0 with DCC0 turned. Any other shortens few bodies
-/// more.
+/// The layouts: T3 and DCC1, straight and turned. Others shorten few bodies more.
 fn layout_to_try(k: u8) -> u8 {
-    match k {
-        0 => 4,
-        1 => 5,
-        _ => 9,
-    }
+    if k == 0 { 4 } else { 5 }
 }
 
 /// The commands of the three bodies.
@@ -242,7 +237,7 @@ fn held_loop(
     Ok(best)
 }
 
-/// The loop of the block's own body with the state in cells, by two beams, where the body takes
+/// The loop of the block's own body with the state in cells, by the first of two beams that finds
 /// fewer commands than `most`.
 pub(crate) fn own_loop(
     place: Place,
@@ -260,13 +255,9 @@ pub(crate) fn own_loop(
     ensures start { IfOk result (λ o. IfSome o (λ r. r.home.start ≡ start)) }
     ensures fewer { IfOk result (λ o. IfSome o (λ r. length r.each.items + 1 ≤ most)) }
 {
-    let Some(few) = held_loop(place, start, body, Search::Narrow, most, alloc)? else {
-        return held_loop(place, start, body, Search::Wide, most, alloc);
-    };
-    let least = few.each.len();
-    match held_loop(place, start, body, Search::Wide, least, alloc)? {
-        Some(fewer) => Ok(Some(fewer)),
-        None => Ok(Some(few)),
+    match held_loop(place, start, body, Search::Narrow, most, alloc)? {
+        Some(held) => Ok(Some(held)),
+        None => held_loop(place, start, body, Search::Wide, most, alloc),
     }
 }
 
@@ -295,11 +286,12 @@ fn offered_loop(
     requires { AreNamed body.now.graph.mig body.now.graph.outs.items }
     ensures other { IfOk result (λ o. IfSome o (λ r. IsOther (block_of body.now)
         (block_of r.body))) }
-    ensures held { IfOk result (λ o. IfSome o (λ r. IsHeldOne r.held.home (block_of r.body) (record {
-      start = r.held.start.items;
-      each = r.held.each.items;
-      store = r.held.store.items;
-    }))) }
+    ensures held { IfOk result (λ o. IfSome o (λ r. IsHeldOne r.held.home (block_of r.body)
+        (record {
+          start = r.held.start.items;
+          each = r.held.each.items;
+          store = r.held.store.items;
+        }))) }
     ensures place { IfOk result (λ o. IfSome o (λ r. r.held.home.place ≡ place)) }
     ensures start { IfOk result (λ o. IfSome o (λ r. r.held.home.start ≡ start)) }
     ensures fewer { IfOk result (λ o. IfSome o (λ r. length r.held.each.items + 1 ≤ most)) }
@@ -334,11 +326,12 @@ pub(crate) fn other_loop(
     requires { AreNamed body.now.graph.mig body.now.graph.outs.items }
     ensures other { IfOk result (λ o. IfSome o (λ r. IsOther (block_of body.now)
         (block_of r.body))) }
-    ensures held { IfOk result (λ o. IfSome o (λ r. IsHeldOne r.held.home (block_of r.body) (record {
-      start = r.held.start.items;
-      each = r.held.each.items;
-      store = r.held.store.items;
-    }))) }
+    ensures held { IfOk result (λ o. IfSome o (λ r. IsHeldOne r.held.home (block_of r.body)
+        (record {
+          start = r.held.start.items;
+          each = r.held.each.items;
+          store = r.held.store.items;
+        }))) }
     ensures place { IfOk result (λ o. IfSome o (λ r. r.held.home.place ≡ place)) }
     ensures start { IfOk result (λ o. IfSome o (λ r. r.held.home.start ≡ start)) }
     ensures fewer { IfOk result (λ o. IfSome o (λ r. length r.held.each.items + 1 ≤ most)) }
@@ -384,8 +377,8 @@ impl HeldLoop {
 impl OtherLoop {
     /// The steps of the loop that does the other body.
     pub(crate) fn into_program(self, alloc: Global) -> Result<LoopProgram, NoMemory>
-        ensures { IfOk result (λ p. steps_of p ≡ held_steps (self.held.home ∷ []) (block_of self.body)
-            (record {
+        ensures { IfOk result (λ p. steps_of p ≡ held_steps (self.held.home ∷ [])
+            (block_of self.body) (record {
               start = self.held.start.items;
               each = self.held.each.items;
               store = self.held.store.items;

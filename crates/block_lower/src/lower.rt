@@ -85,7 +85,7 @@ fn own_in_cells(
     }
 }
 
-/// The same of another body, where that takes fewer.
+/// The same of another body: that of the fewest commands.
 fn other_in_cells(
     down: bool,
     states: &[State],
@@ -101,11 +101,12 @@ fn other_in_cells(
         (r.held.home.cells ∷ []) ≡ r.held.home ∷ [])) }
     ensures other { IfOk result (λ o. IfSome o (λ r. IsOther (block_of body.now)
         (block_of r.body))) }
-    ensures held { IfOk result (λ o. IfSome o (λ r. IsHeldOne r.held.home (block_of r.body) (record {
-      start = r.held.start.items;
-      each = r.held.each.items;
-      store = r.held.store.items;
-    }))) }
+    ensures held { IfOk result (λ o. IfSome o (λ r. IsHeldOne r.held.home (block_of r.body)
+        (record {
+          start = r.held.start.items;
+          each = r.held.each.items;
+          store = r.held.store.items;
+        }))) }
     ensures fewer { IfOk result (λ o. IfSome o (λ r. length r.held.each.items + 1 ≤ most)) }
 {
     match states {
@@ -114,17 +115,6 @@ fn other_in_cells(
             other_loop(place, state.start, body, offers, most, alloc)
         }
         _ => Ok(None),
-    }
-}
-
-/// How many commands the loop of the block's own body takes a position.
-fn own_commands(own: &Option<HeldLoop>, row: usize) -> usize
-    requires { IfSome own.now (λ r. length r.each.items + 1 ≤ row) }
-    ensures { result ≤ row }
-{
-    match own {
-        Some(held) => held.each.len(),
-        None => row,
     }
 }
 
@@ -148,13 +138,12 @@ pub fn lower_block(
         (steps_of p)) }
 {
     let BlockBody { body, offers } = block_body(down, lets, assigns, names, alloc)?;
-    let own = own_in_cells(down, states, &body, body.found.len(), names, alloc)?;
-    let least = own_commands(&own, body.found.len());
-    match other_in_cells(down, states, &body, &offers, least, names, alloc)? {
+    let most = body.found.len();
+    if let Some(own) = own_in_cells(down, states, &body, most, names, alloc)? {
+        return own.into_program(body, alloc);
+    }
+    match other_in_cells(down, states, &body, &offers, most, names, alloc)? {
         Some(other) => other.into_program(alloc),
-        None => match own {
-            Some(held) => held.into_program(body, alloc),
-            None => row_loop(down, states, body, names, alloc),
-        },
+        None => row_loop(down, states, body, names, alloc),
     }
 }

@@ -55,7 +55,8 @@ abbrev pub turns_left : List ℕ → List (TurnOf Block) → List ℕ
 turns_left alive [] = alive
 turns_left alive (t ∷ ts) = turns_left (left_by t.each) ts
 
--- each of them finds what the one before it leaves, as does the one in its place at the top position
+-- each of them finds what the one before it leaves, and so does the one in its place at the top
+-- position
 abbrev pub turns_find : List ℕ → List (TurnOf Block) → Bool
 turns_find alive [] = true
 turns_find alive (t ∷ ts) = (finds alive t.each && finds alive t.last)

@@ -141,8 +141,8 @@ inner_cost (Across count b) = body_cost b + 18
 inner_cost (IfOdd b) = body_cost b + 15 + 20
 inner_cost (Halves b c) = body_cost b + body_cost c + 15 + 20
 
--- how many instructions one of bodies that take turns may take, with the one in its place at the top
--- position: four of them count and jump
+-- how many instructions one of bodies that take turns may take, with the one in its place at the
+-- top position: four of them count and jump
 abbrev pub either_cost : TurnOf Block → ℕ
 either_cost t = body_cost t.each + body_cost t.last + 4
 

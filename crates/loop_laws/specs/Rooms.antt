@@ -105,8 +105,8 @@ pub record RoomsApart (n : ℕ) (rooms : List Room) : Type 0 where
   pub own : (k : ℕ) → k < length rooms → (room_at rooms k).written ≡ true
       → IsOwn (room_at rooms k).space
 
--- how far the inner index goes: there is none, up to n, up to what is left of the outer index, up to
--- the outer index itself, or over the pairs of a level's elements
+-- how far the inner index goes: there is none, up to n, up to what is left of the outer index, up
+-- to the outer index itself, or over the pairs of a level's elements
 pub data Reach : Type 0 where
   Nowhere : Reach
   Whole : Reach

@@ -42,10 +42,6 @@ impl Picker for Last {
         live - 1
     }
 
-    fn is_ahead(&self) -> bool {
-        false
-    }
-
     ghost picks_live = { λ state count some. subst (λ (n : ℕ). count - 1 < n) (sub-zero count)
         (sub-suc-lt count 0 some) };
 }

@@ -119,8 +119,8 @@ pub fn held_commands_of(
     most: usize,
     alloc: Global,
 ) -> Result<Option<Vec<BodyCmd>>, NoMemory>
-    ensures found { IfOk result (λ o. IfSome o (λ cmds. IsFoundHeld m.now outs.now enter.now leave.now
-        most cmds.items)) }
+    ensures found { IfOk result (λ o. IfSome o (λ cmds. IsFoundHeld m.now outs.now enter.now
+        leave.now most cmds.items)) }
     // No more than the known sequence that serves.
     ensures known { IfOk result (λ o. IfSome o (λ cmds. (k : ℕ)
         → IsFirstHeld m.now outs.now enter.now leave.now k

@@ -1,5 +1,5 @@
 -- Waves of microprograms on the banks of a chip.
-use Rattle.std.specs.Prelude.{◌≡◌, ◌≢◌, ℕ, zero, suc, ◌+◌, ◌*◌, ◌<◌, ◌≤◌, List, [], ◌∷◌, ◌++◌}
+use Rattle.std.specs.Prelude.{◌≡◌, ◌≢◌, ℕ, ◌*◌, ◌<◌, ◌≤◌, List}
 use Rattle.std.specs.Prelude.{map, take, sum_by, slice_get, Some}
 use Rattle.bit_rows.specs.declared.TheConstants.{WIDTH_MAX}
 use Rattle.dram_model.specs.declared.address.Command.{Command}
@@ -8,7 +8,6 @@ use Rattle.dram_model.specs.Column.{run}
 use Rattle.dram_model.specs.Chip.{Event, after, Grew, SameBut}
 use Rattle.faults.specs.Counts.{Rose}
 use Rattle.dram_model.specs.Chip.Event.{Row}
-use Rattle.dram_model.specs.Events.{row_events}
 use Rattle.dram_model.specs.View.{ChipView}
 use Rattle.uprog_code.specs.declared.binding.Binding.{Binding}
 use Rattle.uprog_code.specs.declared.code.Uop.{Uop}
@@ -92,21 +91,4 @@ pub record StoppedAmong (events : List Event) (queue : Queues) (old new : ChipVi
   pub alone : (b : ℕ) → b ≢ bank → b < old.geometry.banks
       → (k : ℕ) × (new.banks b ≡ map (run (take k (queue b))) (old.banks b))
   pub known : Grew old.log new.log (take done events)
-  pub rose : Rose old.faults new.faults
-
--- the events of so many banks from this one on, where each does its queue before the next begins
-abbrev pub bank_by_bank : ℕ → ℕ → Queues → List Event
-bank_by_bank first zero left = []
-bank_by_bank first (suc n) left = row_events first (left first) ++ bank_by_bank (first + 1) n left
-
--- the call for a row command among these events failed: those before it are done, and its bank is
--- unspecified
-pub record StoppedAt (events : List Event) (old new : ChipView) : Type 0 where
-  pub done : List Event
-  pub bank : ℕ
-  pub command : Command
-  pub rest : List Event
-  pub all : events ≡ done ++ (Row bank command ∷ [] ++ rest)
-  pub others : SameBut bank (after done old.banks) new.banks
-  pub known : Grew old.log new.log done
   pub rose : Rose old.faults new.faults

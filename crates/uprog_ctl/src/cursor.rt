@@ -49,7 +49,7 @@ pub(crate) struct Cursor {
 
 impl Cursor {
     /// A bank before its first job.
-    pub(crate) fn before(bank: u16) -> Cursor
+    fn before(bank: u16) -> Cursor
         ensures bank { result.bank ≡ bank }
         ensures job { result.job ≡ 0 }
         ensures walk { result.walk ≡ record { pc = 0; regs = start; left = WALK_MAX } }
@@ -151,12 +151,7 @@ fn seek<F: Fetch>(
 /// Moves a bank on to its next command; false where it has none left. The bank stands in one of the
 /// jobs, at a place of its code.
 #[inline(always)]
-pub(crate) fn move_on<F: Fetch>(
-    jobs: &[Job<F>],
-    heads: &[JobHead],
-    g: Geometry,
-    cursor: &mut Cursor,
-) -> bool
+fn move_on<F: Fetch>(jobs: &[Job<F>], heads: &[JobHead], g: Geometry, cursor: &mut Cursor) -> bool
     requires jobs { All (CanRun g) (bound_jobs F.shape F.code jobs.now) }
     requires heads { AreHeads F.shape jobs.now heads.now }
     requires stands { StandsInFirst (drop cursor.old.job (bound_jobs F.shape F.code jobs.now))

@@ -1,8 +1,8 @@
 //! Who chooses the bank that does the next command of a wave.
 
-ghost use Rattle.std.specs.Prelude.{◌≡◌, ℕ, ◌%◌, ◌<◌, true};
+ghost use Rattle.std.specs.Prelude.{◌≡◌, ℕ, ◌%◌, ◌<◌};
 ghost use Rattle.wave_model.specs.Schedule.{Picker as Rule, PicksLive, Ahead, Turning, Drawing};
-ghost use Rattle.uprog_ctl.specs.Orders.{turn_of, StaysFirst};
+ghost use Rattle.uprog_ctl.specs.Orders.{turn_of};
 
 use rand_xoshiro::SplitMix64;
 use rand_xoshiro::rand_core::SeedableRng;
@@ -22,11 +22,6 @@ pub trait Picker {
         requires { 0 < live }
         ensures choice { result ≡ rule.choice (state self.old) live }
         ensures next { state self.new ≡ rule.next (state self.old) live };
-
-    /// Whether it chooses the first live bank from here on. A wave is then done bank by bank, with
-    /// no pick.
-    fn is_ahead(&self) -> bool
-        ensures { result ≡ true → StaysFirst rule (state self.now) };
 
     /// Its choice is one of the live banks.
     ghost picks_live: { PicksLive rule };
@@ -79,11 +74,6 @@ impl Picker for Forward {
         0
     }
 
-    #[inline(always)]
-    fn is_ahead(&self) -> bool {
-        true
-    }
-
     ghost picks_live = { elim [
       | Ahead ↦ λ count h. h
       | Turning t ↦ λ count h. mod-lt t h
@@ -124,11 +114,6 @@ impl Picker for Turns {
         let choice = choice_of(u64::from(self.count), live);
         self.count = self.count.wrapping_add(1);
         choice
-    }
-
-    #[inline(always)]
-    fn is_ahead(&self) -> bool {
-        false
     }
 
     ghost picks_live = { elim [
@@ -172,11 +157,6 @@ impl Picker for Seeded {
         choice_of(self.words.next_word(), live)
     }
 
-    #[inline(always)]
-    fn is_ahead(&self) -> bool {
-        false
-    }
-
     ghost picks_live = { elim [
       | Ahead ↦ λ count h. h
       | Turning t ↦ λ count h. mod-lt t h
@@ -211,14 +191,6 @@ impl Picker for Order {
             Order::First(forward) => forward.pick(live),
             Order::Turns(turns) => turns.pick(live),
             Order::Seeded(seeded) => seeded.pick(live),
-        }
-    }
-
-    #[inline(always)]
-    fn is_ahead(&self) -> bool {
-        match self {
-            Order::First(_) => true,
-            _ => false,
         }
     }
 

@@ -161,8 +161,8 @@ after Outer r = []
 after OuterDown r = []
 after AboveSum r = []
 
--- register 2 gets the number of turns: n, what is left of it at an outer position, or the positions up
--- to the outer one
+-- register 2 gets the number of turns: n, what is left of it at an outer position, or the positions
+-- up to the outer one
 abbrev pub counter : Count → List Uop
 counter All = SetN 2 ∷ []
 counter Rest = Mov 2 1 ∷ AddI 2 1 ∷ []
@@ -201,9 +201,9 @@ abbrev pub loop_code : Count → Part → ℕ → List Uop
 loop_code count p pc = enter_code p.plan count
     ++ (turn_code p.plan (body_uops p) ++ (Bnez 2 (pc + length (enter_code p.plan count)) ∷ []))
 
--- Register 6 gets the number of pairs of elements at level o, and 5 whether one is left: n is halved
--- o + 1 times, and two are taken away for each that register 7 counts. Register 2 counts the turns,
--- isn't 0 in one, and serves to jump
+-- Register 6 gets the number of pairs of elements at level o, and 5 whether one is left: n is
+-- halved o + 1 times, and two are taken away for each that register 7 counts. Register 2 counts the
+-- turns, isn't 0 in one, and serves to jump
 abbrev pub halve_code : ℕ → List Uop
 halve_code pc = SetI 5 0 ∷ SetI 7 0 ∷ Bnez 2 (pc + 12)
     ∷ SubI 6 1 ∷ Bnez 6 (pc + 10) ∷ SetI 5 1 ∷ Bnez 2 (pc + 13)
@@ -281,8 +281,8 @@ abbrev pub turn_uops : Part → List Uop
 turn_uops p = map (code_uop turn_plan p.block) p.cmds
 
 -- One of bodies that take turns, whose first instruction has this place. Register 2 holds how many
--- positions come after this one, and 4 holds 1: where none comes, the other body stands in its place
--- and a jump leads out of the loop
+-- positions come after this one, and 4 holds 1: where none comes, the other body stands in its
+-- place and a jump leads out of the loop
 abbrev pub either_code : Part → Part → ℕ → ℕ → List Uop
 either_code p last out pc = Bnez 2 (pc + 1 + length last.cmds + 1)
     ∷ (turn_uops last ++ (Bnez 4 out ∷ (turn_uops p ++ (AddI 3 1 ∷ SubI 2 1 ∷ []))))

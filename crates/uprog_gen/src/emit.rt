@@ -390,8 +390,8 @@ pub fn push_pairs(code: &mut Vec<Uop>, body: &Body, made: &Made) -> Result<(), N
     Ok(())
 }
 
-/// What stands before the loop of bodies that take turns, whose first instruction has this place. The
-/// jump out of the loop gets its target when the loop stands.
+/// What stands before the loop of bodies that take turns, whose first instruction has this place.
+/// The jump out of the loop gets its target when the loop stands.
 pub fn push_start(code: &mut Vec<Uop>, head: u16) -> Result<(), NoMemory>
     ensures { OnOk result (code.new.items ≡ code.old.items ++ start_code head 0) }
 {

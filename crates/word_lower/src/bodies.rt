@@ -163,7 +163,8 @@ fn body(shape: BodyForm, owners: Owners, alloc: Global) -> Result<Body, NoMemory
 
 /// One of bodies that take turns.
 fn turn(form: TurnForm, owners: Owners, alloc: Global) -> Result<Turn, NoMemory>
-    ensures same { IfOk result (λ t. turn_of t ≡ turn_map (body_on (rows_at owners)) (turn_bodies form)) }
+    ensures same { IfOk result (λ t. turn_of t ≡ turn_map (body_on (rows_at owners))
+        (turn_bodies form)) }
     ensures made { IfOk result (λ t. AllTurns IsMade (turn_of t ∷ [])) }
 {
     Ok(Turn {

@@ -1,6 +1,6 @@
 -- The loop programs of the word operations that take a pass over a word for each position.
-use Rattle.std.specs.Prelude.{ℕ, zero, suc, ◌+◌, ◌*◌, ◌/◌, ◌%◌, ◌==◌, Bool, true, false, if◌then◌else◌}
-use Rattle.std.specs.Prelude.{List, [], ◌∷◌, ◌++◌, Option, Some, None}
+use Rattle.std.specs.Prelude.{ℕ, zero, suc, ◌+◌, ◌*◌, ◌/◌, ◌%◌, ◌==◌, Bool, true, false}
+use Rattle.std.specs.Prelude.{if◌then◌else◌, List, [], ◌∷◌, ◌++◌, Option, Some, None}
 use Rattle.mig_graph.specs.declared.Node.{Node}
 use Rattle.mig_graph.specs.Literals.{node_of}
 use Rattle.op_text.specs.declared.word_ops.WordOp.{WordOp}

@@ -27,7 +27,8 @@ const Z_DOWN: Mark = Mark {
     sub: Sub::OuterDown,
 };
 
-// of a count the target at the level, at the elements of a pair, and at an element of the level above
+// of a count the target at the level, at the elements of a pair, and at an element of the level
+// above
 const Z_LEVEL: Mark = Mark {
     owner: Owner::Target,
     sub: Sub::Outer,
@@ -72,8 +73,8 @@ const Y_DOWN: Mark = Mark {
     owner: Owner::Second,
     sub: Sub::OuterDown,
 };
-// the complement of a bit of an argument; of a count, the last element of a level; and of a division,
-// whether the divisor is taken away
+// the complement of a bit of an argument; of a count, the last element of a level; and of a
+// division, whether the divisor is taken away
 const BIT: Mark = Mark {
     owner: Owner::ScratchBit,
     sub: Sub::Zero,

@@ -1,4 +1,4 @@
-use Rattle.std.proofs.Common.{◌≡◌, ◌≤◌, ◌<◌, length, IfSome, sym, subst, rules}
+use Rattle.std.proofs.Common.{◌≡◌, ◌<◌, length, IfSome, sym, subst, rules}
 use Rattle.row_alloc.specs.Found.{IsFoundHeld}
 use Rattle.row_alloc.specs.Held.{DoesHeld}
 use Rattle.loop_ir.specs.Outputs.{AreRows}

@@ -1,8 +1,7 @@
 use Rattle.std.proofs.Common.{◌≡◌, ◌<◌, ◌≤◌, List, [], ◌∷◌, length, refl, sym, ap}
 use Rattle.std.proofs.Common.{◌∙◌, subst, arith, Result, Ok, Err, rules}
-use Rattle.std.specs.Prelude.{OnOk, OnErr, slice_index_or}
+use Rattle.std.specs.Prelude.{OnErr, slice_index_or}
 use Rattle.std.proofs.lemmas.List.{length-map}
-use Rattle.std.proofs.lemmas.Result.{on_ok_weaker, on_err_weaker}
 use Rattle.dram_model.specs.declared.address.Command.TheVariants.{Ap}
 use Rattle.dram_model.specs.declared.address.Addr.TheVariants.{B}
 use Rattle.dram_model.specs.declared.geometry.Geometry.{Geometry}
@@ -14,9 +13,8 @@ use Rattle.dram_model.proofs.Shapes.{geometry_parts}
 use Rattle.wave_model.specs.Schedule.{total_left, whole_picks}
 use Rattle.wave_model.proofs.Waves.{picks_whole, wave_banks}
 use Rattle.uprog_ctl.specs.declared.cursor.Cursor.{Cursor}
-use Rattle.uprog_ctl.specs.Waves.{bound_job, bound_jobs, job_queues, wave_events}
+use Rattle.uprog_ctl.specs.Waves.{bound_job, bound_jobs, job_queues}
 use Rattle.uprog_ctl.specs.Cursors.{AreAt, MovesOn}
-use Rattle.uprog_ctl.proofs.Ahead.{ahead_events, ahead_state, ahead_stopped}
 use Rattle.uprog_ctl.proofs.Wave.{chosen_by, less_work, nothing_yet, bank_within, one_more, stopped}
 use Rattle.uprog_ctl.proofs.Wave.{all_over}
 use Rattle.uprog_ctl.proofs.Short.{wave_short}
@@ -263,95 +261,3 @@ returns-clause-counters g c =
     did.counters ∙ wave_risen first.geometry.rows g.P.Picker.rule first.geometry
     (g.P.Picker.state c.args.picker.now) jobs first.counters g.met.P.Picker.picks_live
     c.requires.jobs
-
-on_ok : {T E : Type 0} (r : Result T E) {P : Type 0} → P → OnOk r P
-on_ok (Ok x) p = p
-on_ok (Err e) p = tt
-
-pub returns-then-is_ahead-clause-did : goal.returns-then-is_ahead-clause-did
-returns-then-is_ahead-clause-did g c =
-    let first = g.D.Dram.view c.args.dram.now in
-    let new = g.D.Dram.view c.run_banks.new.dram in
-    let rule = g.P.Picker.rule in
-    let ok = g.met.P.Picker.picks_live in
-    let banks = first.geometry.banks in
-    let s0 = g.P.Picker.state c.args.picker.now in
-    let jobs = bound_jobs g.F.Fetch.shape g.F.Fetch.code c.args.jobs.now in
-    let qs = job_queues first.geometry.rows jobs in
-    let ahead = c.is_ahead.ensures c.if-is_ahead.true in
-    let same = ahead_events rule banks s0 ahead ok qs in
-    on_ok_weaker c.run_banks.result (λ did. subst (λ es. Did es first new) (sym same) did)
-    c.run_banks.ensures.did
-
-pub returns-then-is_ahead-clause-whole : goal.returns-then-is_ahead-clause-whole
-returns-then-is_ahead-clause-whole g c =
-    let first = g.D.Dram.view c.args.dram.now in
-    let banks = first.geometry.banks in
-    let jobs = bound_jobs g.F.Fetch.shape g.F.Fetch.code c.args.jobs.now in
-    let qs = job_queues first.geometry.rows jobs in
-    picks_whole g.P.Picker.rule banks (total_left banks qs)
-    (g.P.Picker.state c.args.picker.now) qs g.met.P.Picker.picks_live refl
-
-pub returns-then-is_ahead-clause-state : goal.returns-then-is_ahead-clause-state
-returns-then-is_ahead-clause-state g c =
-    let first = g.D.Dram.view c.args.dram.now in
-    let rule = g.P.Picker.rule in
-    let ok = g.met.P.Picker.picks_live in
-    let banks = first.geometry.banks in
-    let s0 = g.P.Picker.state c.args.picker.now in
-    let jobs = bound_jobs g.F.Fetch.shape g.F.Fetch.code c.args.jobs.now in
-    let qs = job_queues first.geometry.rows jobs in
-    let ahead = c.is_ahead.ensures c.if-is_ahead.true in
-    on_ok c.run_banks.result (ahead_state rule banks s0 ahead ok qs)
-
-pub returns-then-is_ahead-clause-alone : goal.returns-then-is_ahead-clause-alone
-returns-then-is_ahead-clause-alone g c =
-    let first = g.D.Dram.view c.args.dram.now in
-    let new = g.D.Dram.view c.run_banks.new.dram in
-    let rule = g.P.Picker.rule in
-    let ok = g.met.P.Picker.picks_live in
-    let banks = first.geometry.banks in
-    let s0 = g.P.Picker.state c.args.picker.now in
-    let jobs = bound_jobs g.F.Fetch.shape g.F.Fetch.code c.args.jobs.now in
-    let qs = job_queues first.geometry.rows jobs in
-    let ahead = c.is_ahead.ensures c.if-is_ahead.true in
-    let same = ahead_events rule banks s0 ahead ok qs in
-    let whole = picks_whole rule banks (total_left banks qs) s0 qs ok refl in
-    on_ok_weaker c.run_banks.result (λ done.
-    let did : Did (wave_events rule banks s0 qs) first new =
-    subst (λ es. Did es first new) (sym same) done in
-    λ bank lt. ap (λ (bs : Banks). bs bank) did.banks
-    ∙ wave_banks banks (whole_picks rule banks s0 qs) qs first.banks bank whole lt)
-    c.run_banks.ensures.did
-
-pub returns-then-is_ahead-clause-counters : goal.returns-then-is_ahead-clause-counters
-returns-then-is_ahead-clause-counters g c =
-    let first = g.D.Dram.view c.args.dram.now in
-    let new = g.D.Dram.view c.run_banks.new.dram in
-    let rule = g.P.Picker.rule in
-    let ok = g.met.P.Picker.picks_live in
-    let banks = first.geometry.banks in
-    let s0 = g.P.Picker.state c.args.picker.now in
-    let jobs = bound_jobs g.F.Fetch.shape g.F.Fetch.code c.args.jobs.now in
-    let qs = job_queues first.geometry.rows jobs in
-    let ahead = c.is_ahead.ensures c.if-is_ahead.true in
-    let same = ahead_events rule banks s0 ahead ok qs in
-    on_ok_weaker c.run_banks.result (λ done.
-    let did : Did (wave_events rule banks s0 qs) first new =
-    subst (λ es. Did es first new) (sym same) done in
-    did.counters ∙ wave_risen first.geometry.rows rule first.geometry s0 jobs first.counters ok
-    c.requires.jobs) c.run_banks.ensures.did
-
-pub returns-then-is_ahead-clause-stopped : goal.returns-then-is_ahead-clause-stopped
-returns-then-is_ahead-clause-stopped g c =
-    let first = g.D.Dram.view c.args.dram.now in
-    let new = g.D.Dram.view c.run_banks.new.dram in
-    let rule = g.P.Picker.rule in
-    let ok = g.met.P.Picker.picks_live in
-    let banks = first.geometry.banks in
-    let s0 = g.P.Picker.state c.args.picker.now in
-    let jobs = bound_jobs g.F.Fetch.shape g.F.Fetch.code c.args.jobs.now in
-    let qs = job_queues first.geometry.rows jobs in
-    let ahead = c.is_ahead.ensures c.if-is_ahead.true in
-    on_err_weaker c.run_banks.result (λ at. ahead_stopped rule banks s0 ahead ok qs first new refl at)
-    c.run_banks.ensures.stopped
