@@ -9,7 +9,7 @@ use Rattle.mig_graph.specs.Outputs.{lit_at}
 use Rattle.loop_ir.specs.declared.ir.Sub.{Sub}
 use Rattle.loop_ir.specs.declared.ir.Sub.TheVariants.{Zero, Top, Inner as At_inner, InnerDown}
 use Rattle.loop_ir.specs.declared.ir.Sub.TheVariants.{Outer, OuterDown, Sum, DownSum, SumTwice}
-use Rattle.loop_ir.specs.declared.ir.Sub.TheVariants.{AboveSumTwice, AboveSum}
+use Rattle.loop_ir.specs.declared.ir.Sub.TheVariants.{AboveSumTwice, AboveSum, DownPlusN, NPlusInner}
 use Rattle.loop_ir.specs.Plain.{Block, InnerOf, TurnOf, StepOf}
 use Rattle.loop_ir.specs.Plain.InnerOf.{Alone, Across, IfOdd, Halves}
 use Rattle.loop_ir.specs.Plain.StepOf.{Single, Along, Nest, Pairs, Alternate}
@@ -109,9 +109,11 @@ sub_code Outer = 4
 sub_code OuterDown = 5
 sub_code Sum = 6
 sub_code DownSum = 7
-sub_code SumTwice = 8
-sub_code AboveSumTwice = 9
-sub_code AboveSum = 10
+sub_code DownPlusN = 8
+sub_code NPlusInner = 9
+sub_code SumTwice = 10
+sub_code AboveSumTwice = 11
+sub_code AboveSum = 12
 
 -- both are one subscript
 abbrev pub same_sub : Sub → Sub → Bool
@@ -128,7 +130,7 @@ is_fixed b = list_all (λ p. same_sub p.sub Zero) (b.reads ++ b.writes)
 -- the subscripts other than Zero that the body's places have
 abbrev pub used_subs : Block → List Sub
 used_subs b = filter (is_used b) (Top ∷ At_inner ∷ InnerDown ∷ Outer ∷ OuterDown ∷ Sum ∷ DownSum
-    ∷ SumTwice ∷ AboveSumTwice ∷ AboveSum ∷ [])
+    ∷ DownPlusN ∷ NPlusInner ∷ SumTwice ∷ AboveSumTwice ∷ AboveSum ∷ [])
 
 -- how many instructions a body may take: 15 for its loop or its subscripts
 abbrev pub single_cost : Block → ℕ

@@ -8,7 +8,7 @@ use Rattle.mig_graph.specs.Graph.{IsGraph}
 use Rattle.loop_ir.specs.declared.ir.Sub.{Sub}
 use Rattle.loop_ir.specs.declared.ir.Sub.TheVariants.{Zero, Top, Inner as At_inner, InnerDown}
 use Rattle.loop_ir.specs.declared.ir.Sub.TheVariants.{Outer, OuterDown, Sum, DownSum, SumTwice}
-use Rattle.loop_ir.specs.declared.ir.Sub.TheVariants.{AboveSumTwice, AboveSum}
+use Rattle.loop_ir.specs.declared.ir.Sub.TheVariants.{AboveSumTwice, AboveSum, DownPlusN, NPlusInner}
 use Rattle.loop_ir.specs.Plain.{Block, InnerOf, StepOf, all_turns, AllParts}
 use Rattle.loop_ir.specs.Plain.InnerOf.{Alone, Across, IfOdd, Halves}
 use Rattle.loop_ir.specs.Plain.StepOf.{Single, Along, Nest, Pairs, Alternate}
@@ -61,6 +61,8 @@ may_stand inner outer Outer = outer
 may_stand inner outer OuterDown = outer
 may_stand inner outer Sum = inner && outer
 may_stand inner outer DownSum = inner && outer
+may_stand inner outer DownPlusN = outer
+may_stand inner outer NPlusInner = inner
 may_stand inner outer SumTwice = inner && outer
 may_stand inner outer AboveSumTwice = inner && outer
 may_stand inner outer AboveSum = inner && outer

@@ -4,7 +4,7 @@ use Rattle.std.specs.Prelude.{◌∷◌, ◌++◌}
 use Rattle.loop_ir.specs.declared.ir.Sub.{Sub}
 use Rattle.loop_ir.specs.declared.ir.Sub.TheVariants.{Zero, Top, Inner as At_inner, InnerDown}
 use Rattle.loop_ir.specs.declared.ir.Sub.TheVariants.{Outer, OuterDown, Sum, DownSum, SumTwice}
-use Rattle.loop_ir.specs.declared.ir.Sub.TheVariants.{AboveSumTwice, AboveSum}
+use Rattle.loop_ir.specs.declared.ir.Sub.TheVariants.{AboveSumTwice, AboveSum, DownPlusN, NPlusInner}
 use Rattle.loop_ir.specs.declared.ir.Count.{Count}
 use Rattle.loop_ir.specs.declared.ir.Count.TheVariants.{All, Rest, UpTo}
 use Rattle.loop_ir.specs.Plain.{InnerOf, TurnOf, StepOf}
@@ -86,6 +86,8 @@ sub_value n i o Outer = o
 sub_value n i o OuterDown = n - 1 - o
 sub_value n i o Sum = o + i
 sub_value n i o DownSum = n - 1 - o + i
+sub_value n i o DownPlusN = 2 * n - 1 - o
+sub_value n i o NPlusInner = n + i
 sub_value n i o SumTwice = o + 2 * i
 sub_value n i o AboveSumTwice = o + 1 + 2 * i
 sub_value n i o AboveSum = o + 1 + i

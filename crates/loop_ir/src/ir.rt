@@ -24,6 +24,10 @@ pub enum Sub {
     Sum,
     /// n - 1 - o + i.
     DownSum,
+    /// 2n - 1 - o.
+    DownPlusN,
+    /// n + i.
+    NPlusInner,
     /// o + 2i.
     SumTwice,
     /// o + 1 + 2i.

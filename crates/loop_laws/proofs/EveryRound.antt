@@ -121,6 +121,8 @@ within n i o r outer w sub.DownSum h ik ok e = let p =
     and_parts (is_long w) (outer && is_below r) e in
     let q = and_parts outer (is_below r) p.1 in let a = long n w p.0 in
     let b = down_below n i o r ik q.1 (outer_below n o outer ok q.0) in omega arith
+within n i o r outer w sub.DownPlusN h ik ok e = cc
+within n i o r outer w sub.NPlusInner h ik ok e = cc
 within n i o r outer w sub.SumTwice h ik ok e = paired_fits n i o r outer w _ ik e (omega arith)
 within n i o r outer w sub.AboveSumTwice h ik ok e =
     paired_fits n i o r outer w _ ik e (omega arith)

@@ -9,6 +9,7 @@ use Rattle.loop_ir.specs.Plain.{InnerOf, StepOf, all_turns}
 use Rattle.loop_ir.specs.Plain.InnerOf.{Alone, Across, IfOdd, Halves}
 use Rattle.loop_ir.specs.Plain.StepOf.{Single, Along, Nest, Pairs, Alternate}
 use Rattle.loop_ir.specs.Costs.{sub_code}
+use Rattle.loop_laws.proofs.Same.{sub_true}
 use Rattle.loop_laws.specs.Rooms.{Room, room_for, Owner, InRoom, InCells, same_owner, Mark, Marked}
 use Rattle.loop_laws.specs.Rooms.{Reach, Nowhere, Whole, Left, Paired, fits, reach_of, is_there, all_fit}
 use Rattle.loop_laws.specs.Rooms.{none_like, alone_in, writes_fit, body_fits, inners_fit, steps_fit}
@@ -26,36 +27,9 @@ owner_same : (a b : Owner) → a ≡ b → same_owner a b ≡ true
 owner_same (InRoom j) b e = subst (λ o. same_owner (InRoom j) o ≡ true) e (eq-eqb j j refl)
 owner_same (InCells w) b e = subst (λ o. same_owner (InCells w) o ≡ true) e (eq-eqb w w refl)
 
-sub_from : ℕ → Sub
-sub_from zero = sub.Zero
-sub_from (suc zero) = sub.Top
-sub_from (suc (suc zero)) = sub.Inner
-sub_from (suc (suc (suc zero))) = sub.InnerDown
-sub_from (suc (suc (suc (suc zero)))) = sub.Outer
-sub_from (suc (suc (suc (suc (suc zero))))) = sub.OuterDown
-sub_from (suc (suc (suc (suc (suc (suc zero)))))) = sub.Sum
-sub_from (suc (suc (suc (suc (suc (suc (suc zero))))))) = sub.DownSum
-sub_from (suc (suc (suc (suc (suc (suc (suc (suc zero)))))))) = sub.SumTwice
-sub_from (suc (suc (suc (suc (suc (suc (suc (suc (suc zero))))))))) = sub.AboveSumTwice
-sub_from (suc (suc (suc (suc (suc (suc (suc (suc (suc (suc k)))))))))) = sub.AboveSum
-
-sub_back : (u : Sub) → sub_from (sub_code u) ≡ u
-unfolding sub_from
-sub_back sub.Zero = refl
-sub_back sub.Top = refl
-sub_back sub.Inner = refl
-sub_back sub.InnerDown = refl
-sub_back sub.Outer = refl
-sub_back sub.OuterDown = refl
-sub_back sub.Sum = refl
-sub_back sub.DownSum = refl
-sub_back sub.SumTwice = refl
-sub_back sub.AboveSumTwice = refl
-sub_back sub.AboveSum = refl
-
 -- a subscript is known by its number
 pub subs_same : (u v : Sub) → sub_code u ≡ sub_code v → u ≡ v
-subs_same u v e = sym (sub_back u) ∙ ap sub_from e ∙ sub_back v
+subs_same u v e = sub_true u v (eq-eqb (sub_code u) (sub_code v) e)
 
 not_true : (b : Bool) → not b ≡ true → b ≡ true → ⊥
 not_true true e f = cc

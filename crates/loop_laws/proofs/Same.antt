@@ -12,7 +12,7 @@ use Rattle.loop_ir.specs.declared.ir.Space.TheVariants.{Cells}
 use Rattle.loop_ir.specs.declared.ir.Sub.{Sub}
 use Rattle.loop_ir.specs.declared.ir.Sub.TheVariants.{Zero, Top, Inner as At_inner, InnerDown}
 use Rattle.loop_ir.specs.declared.ir.Sub.TheVariants.{Outer, OuterDown, Sum, DownSum, SumTwice}
-use Rattle.loop_ir.specs.declared.ir.Sub.TheVariants.{AboveSumTwice, AboveSum}
+use Rattle.loop_ir.specs.declared.ir.Sub.TheVariants.{AboveSumTwice, AboveSum, DownPlusN, NPlusInner}
 use Rattle.loop_ir.specs.declared.ir.Place.{Place}
 use Rattle.loop_ir.specs.Spots.{Spot, Spots, same_space, same_spot, set_spot, spot_at, nth_place}
 use Rattle.loop_ir.specs.Spots.{write_all}
@@ -21,7 +21,7 @@ use Rattle.loop_ir.specs.Costs.{sub_code, same_sub}
 -- a number's subscript
 sub_at : ℕ → Sub
 sub_at k = slice_index_or (Zero ∷ Top ∷ At_inner ∷ InnerDown ∷ Outer ∷ OuterDown ∷ Sum ∷ DownSum
-    ∷ SumTwice ∷ AboveSumTwice ∷ AboveSum ∷ []) k Zero
+    ∷ DownPlusN ∷ NPlusInner ∷ SumTwice ∷ AboveSumTwice ∷ AboveSum ∷ []) k Zero
 
 sub_back : (s : Sub) → sub_at (sub_code s) ≡ s
 unfolding sub_at
@@ -33,6 +33,8 @@ sub_back Outer = refl
 sub_back OuterDown = refl
 sub_back Sum = refl
 sub_back DownSum = refl
+sub_back DownPlusN = refl
+sub_back NPlusInner = refl
 sub_back SumTwice = refl
 sub_back AboveSumTwice = refl
 sub_back AboveSum = refl

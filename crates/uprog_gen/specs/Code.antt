@@ -16,7 +16,7 @@ use Rattle.row_alloc.specs.declared.body.OutRow.{OutRow}
 use Rattle.loop_ir.specs.declared.ir.Sub.{Sub}
 use Rattle.loop_ir.specs.declared.ir.Sub.TheVariants.{Zero, Top, Inner as At_inner, InnerDown}
 use Rattle.loop_ir.specs.declared.ir.Sub.TheVariants.{Outer, OuterDown, Sum, DownSum, SumTwice}
-use Rattle.loop_ir.specs.declared.ir.Sub.TheVariants.{AboveSumTwice, AboveSum}
+use Rattle.loop_ir.specs.declared.ir.Sub.TheVariants.{AboveSumTwice, AboveSum, DownPlusN, NPlusInner}
 use Rattle.loop_ir.specs.declared.ir.Space.{Space}
 use Rattle.loop_ir.specs.declared.ir.Space.TheVariants.{Result, Source, ScratchBit, ScratchWord}
 use Rattle.loop_ir.specs.declared.ir.Space.TheVariants.{Cells}
@@ -49,8 +49,8 @@ row_space Cells = row.ScratchBit
 -- Registers 0 and 1 hold o and n - 1 - o, and 2 counts an inner loop down. The other subscripts
 -- that a body uses have registers 3 to 5
 abbrev pub loop_subs : List Sub
-loop_subs = Top ∷ At_inner ∷ InnerDown ∷ Sum ∷ DownSum ∷ SumTwice ∷ AboveSumTwice
-    ∷ AboveSum ∷ []
+loop_subs = Top ∷ At_inner ∷ InnerDown ∷ Sum ∷ DownSum ∷ DownPlusN ∷ NPlusInner ∷ SumTwice
+    ∷ AboveSumTwice ∷ AboveSum ∷ []
 
 -- the subscripts of a body that need a register of its own; a plan has room for three
 abbrev pub own_subs : Block → List Sub
@@ -129,6 +129,8 @@ init Outer r = []
 init OuterDown r = []
 init Sum r = Mov r 0 ∷ []
 init DownSum r = Mov r 1 ∷ []
+init DownPlusN r = SetN r ∷ Add r 1 ∷ []
+init NPlusInner r = SetN r ∷ []
 init SumTwice r = Mov r 0 ∷ []
 init AboveSumTwice r = Mov r 0 ∷ []
 init AboveSum r = Mov r 0 ∷ []
@@ -143,6 +145,8 @@ before Outer r = []
 before OuterDown r = []
 before Sum r = []
 before DownSum r = []
+before DownPlusN r = []
+before NPlusInner r = []
 before SumTwice r = []
 before AboveSumTwice r = AddI r 1 ∷ []
 before AboveSum r = AddI r 1 ∷ []
@@ -152,6 +156,7 @@ abbrev pub after : Sub → ℕ → List Uop
 after At_inner r = AddI r 1 ∷ []
 after Sum r = AddI r 1 ∷ []
 after DownSum r = AddI r 1 ∷ []
+after NPlusInner r = AddI r 1 ∷ []
 after SumTwice r = AddI r 2 ∷ []
 after AboveSumTwice r = AddI r 1 ∷ []
 after Zero r = []
@@ -159,6 +164,7 @@ after Top r = []
 after InnerDown r = []
 after Outer r = []
 after OuterDown r = []
+after DownPlusN r = []
 after AboveSum r = []
 
 -- register 2 gets the number of turns: n, what is left of it at an outer position, or the positions

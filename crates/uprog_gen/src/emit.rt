@@ -124,6 +124,11 @@ fn push_init(code: &mut Vec<Uop>, sub: Sub, r: u8) -> Result<(), NoMemory>
         Sub::Sum | Sub::SumTwice => keep(code, Uop::Mov(r, 0)),
         Sub::AboveSumTwice | Sub::AboveSum => keep(code, Uop::Mov(r, 0)),
         Sub::DownSum => keep(code, Uop::Mov(r, 1)),
+        Sub::NPlusInner => keep(code, Uop::SetN(r)),
+        Sub::DownPlusN => {
+            keep(code, Uop::SetN(r))?;
+            keep(code, Uop::Add(r, 1))
+        }
     }
 }
 
@@ -134,7 +139,8 @@ fn push_before(code: &mut Vec<Uop>, sub: Sub, r: u8) -> Result<(), NoMemory>
         Sub::InnerDown => keep(code, Uop::SubI(r, 1)),
         Sub::AboveSumTwice | Sub::AboveSum => keep(code, Uop::AddI(r, 1)),
         Sub::Zero | Sub::Outer | Sub::OuterDown | Sub::Top | Sub::Inner => Ok(()),
-        Sub::Sum | Sub::DownSum | Sub::SumTwice => Ok(()),
+        Sub::Sum | Sub::DownSum | Sub::DownPlusN => Ok(()),
+        Sub::NPlusInner | Sub::SumTwice => Ok(()),
     }
 }
 
@@ -145,10 +151,11 @@ fn push_after(code: &mut Vec<Uop>, sub: Sub, r: u8) -> Result<(), NoMemory>
         Sub::Inner => keep(code, Uop::AddI(r, 1)),
         Sub::Sum => keep(code, Uop::AddI(r, 1)),
         Sub::DownSum => keep(code, Uop::AddI(r, 1)),
+        Sub::NPlusInner => keep(code, Uop::AddI(r, 1)),
         Sub::SumTwice => keep(code, Uop::AddI(r, 2)),
         Sub::AboveSumTwice => keep(code, Uop::AddI(r, 1)),
         Sub::Zero | Sub::Top | Sub::InnerDown => Ok(()),
-        Sub::Outer | Sub::OuterDown | Sub::AboveSum => Ok(()),
+        Sub::Outer | Sub::OuterDown | Sub::DownPlusN | Sub::AboveSum => Ok(()),
     }
 }
 

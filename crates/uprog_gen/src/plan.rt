@@ -33,9 +33,11 @@ fn sub_code(s: Sub) -> u8
         Sub::OuterDown => 5,
         Sub::Sum => 6,
         Sub::DownSum => 7,
-        Sub::SumTwice => 8,
-        Sub::AboveSumTwice => 9,
-        Sub::AboveSum => 10,
+        Sub::DownPlusN => 8,
+        Sub::NPlusInner => 9,
+        Sub::SumTwice => 10,
+        Sub::AboveSumTwice => 11,
+        Sub::AboveSum => 12,
     }
 }
 
@@ -95,6 +97,8 @@ fn own_subs(body: &Body, alloc: Global) -> Result<Vec<Sub>, NoMemory>
     push_used(&mut subs, body, Sub::InnerDown)?;
     push_used(&mut subs, body, Sub::Sum)?;
     push_used(&mut subs, body, Sub::DownSum)?;
+    push_used(&mut subs, body, Sub::DownPlusN)?;
+    push_used(&mut subs, body, Sub::NPlusInner)?;
     push_used(&mut subs, body, Sub::SumTwice)?;
     push_used(&mut subs, body, Sub::AboveSumTwice)?;
     push_used(&mut subs, body, Sub::AboveSum)?;

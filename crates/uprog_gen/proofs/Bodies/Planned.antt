@@ -7,7 +7,7 @@ use Rattle.std.proofs.lemmas.Bool.{eq-eqb}
 use Rattle.loop_ir.specs.declared.ir.Sub.{Sub}
 use Rattle.loop_ir.specs.declared.ir.Sub.TheVariants.{Zero, Top, Inner as At_inner, InnerDown}
 use Rattle.loop_ir.specs.declared.ir.Sub.TheVariants.{Outer, OuterDown, Sum, DownSum, SumTwice}
-use Rattle.loop_ir.specs.declared.ir.Sub.TheVariants.{AboveSumTwice, AboveSum}
+use Rattle.loop_ir.specs.declared.ir.Sub.TheVariants.{AboveSumTwice, AboveSum, DownPlusN, NPlusInner}
 use Rattle.loop_ir.specs.declared.ir.Place.{Place}
 use Rattle.loop_ir.specs.Plain.{Block}
 use Rattle.loop_ir.specs.Spots.{nth_place}
@@ -84,7 +84,7 @@ module _ (p : Sub → Bool) where
 
 own_few : (b : Block) → length (own_subs b) ≤ length (used_subs b)
 own_few b = more_filtered (is_used b) (Top ∷ At_inner ∷ InnerDown ∷ []) (Outer ∷ OuterDown
-    ∷ []) (Sum ∷ DownSum ∷ SumTwice ∷ AboveSumTwice ∷ AboveSum ∷ [])
+    ∷ []) (Sum ∷ DownSum ∷ DownPlusN ∷ NPlusInner ∷ SumTwice ∷ AboveSumTwice ∷ AboveSum ∷ [])
 
 in_loop : (b : Block) (s : Sub) → length (used_subs b) ≤ 3 → is_used b s ≡ true
     → member s loop_subs ≡ true → (same_sub s (plan_of b).first
@@ -103,6 +103,8 @@ planned_sub b At_inner few used = in_loop b At_inner few used refl
 planned_sub b InnerDown few used = in_loop b InnerDown few used refl
 planned_sub b Sum few used = in_loop b Sum few used refl
 planned_sub b DownSum few used = in_loop b DownSum few used refl
+planned_sub b DownPlusN few used = in_loop b DownPlusN few used refl
+planned_sub b NPlusInner few used = in_loop b NPlusInner few used refl
 planned_sub b SumTwice few used = in_loop b SumTwice few used refl
 planned_sub b AboveSumTwice few used = in_loop b AboveSumTwice few used refl
 planned_sub b AboveSum few used = in_loop b AboveSum few used refl

@@ -29,7 +29,7 @@ use Rattle.row_alloc.specs.Held.{is_read, reads_rows}
 use Rattle.loop_ir.specs.declared.ir.Sub.{Sub}
 use Rattle.loop_ir.specs.declared.ir.Sub.TheVariants.{Zero, Top, Inner as At_inner, InnerDown}
 use Rattle.loop_ir.specs.declared.ir.Sub.TheVariants.{Outer, OuterDown, Sum, DownSum}
-use Rattle.loop_ir.specs.declared.ir.Sub.TheVariants.{SumTwice, AboveSumTwice, AboveSum}
+use Rattle.loop_ir.specs.declared.ir.Sub.TheVariants.{SumTwice, AboveSumTwice, AboveSum, DownPlusN, NPlusInner}
 use Rattle.loop_ir.specs.declared.ir.Space.{Space}
 use Rattle.loop_ir.specs.declared.ir.Space.TheVariants.{Result, Source, ScratchBit, ScratchWord}
 use Rattle.loop_ir.specs.declared.ir.Space.TheVariants.{Cells}
@@ -334,6 +334,8 @@ module _ (head : Shape) where
     init_legal InnerDown r h = (h, tt)
     init_legal Sum r h = (and_from (nat_lt r 8) (nat_lt 0 8) h refl, tt)
     init_legal DownSum r h = (and_from (nat_lt r 8) (nat_lt 1 8) h refl, tt)
+    init_legal NPlusInner r h = (h, tt)
+    init_legal DownPlusN r h = (h, (and_from (nat_lt r 8) (nat_lt 1 8) h refl, tt))
     init_legal SumTwice r h = (and_from (nat_lt r 8) (nat_lt 0 8) h refl, tt)
     init_legal AboveSumTwice r h = (and_from (nat_lt r 8) (nat_lt 0 8) h refl, tt)
     init_legal AboveSum r h = (and_from (nat_lt r 8) (nat_lt 0 8) h refl, tt)
@@ -347,6 +349,8 @@ module _ (head : Shape) where
     before_legal At_inner r h = tt
     before_legal Sum r h = tt
     before_legal DownSum r h = tt
+    before_legal DownPlusN r h = tt
+    before_legal NPlusInner r h = tt
     before_legal SumTwice r h = tt
     before_legal AboveSumTwice r h = (and_from (nat_lt r 8) (nat_le 1 1023) h refl, tt)
     before_legal AboveSum r h = (and_from (nat_lt r 8) (nat_le 1 1023) h refl, tt)
@@ -355,6 +359,7 @@ module _ (head : Shape) where
     after_legal At_inner r h = (and_from (nat_lt r 8) (nat_le 1 1023) h refl, tt)
     after_legal Sum r h = (and_from (nat_lt r 8) (nat_le 1 1023) h refl, tt)
     after_legal DownSum r h = (and_from (nat_lt r 8) (nat_le 1 1023) h refl, tt)
+    after_legal NPlusInner r h = (and_from (nat_lt r 8) (nat_le 1 1023) h refl, tt)
     after_legal SumTwice r h = (and_from (nat_lt r 8) (nat_le 2 1023) h refl, tt)
     after_legal AboveSumTwice r h = (and_from (nat_lt r 8) (nat_le 1 1023) h refl, tt)
     after_legal Zero r h = tt
@@ -362,6 +367,7 @@ module _ (head : Shape) where
     after_legal InnerDown r h = tt
     after_legal Outer r h = tt
     after_legal OuterDown r h = tt
+    after_legal DownPlusN r h = tt
     after_legal AboveSum r h = tt
 
     inits_legal : (plan : Plan) → L (inits plan)

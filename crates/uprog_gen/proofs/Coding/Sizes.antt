@@ -9,7 +9,7 @@ use Rattle.uprog_code.specs.declared.code.Uop.TheVariants.{SubI, AddI, Bnez}
 use Rattle.loop_ir.specs.declared.ir.Sub.{Sub}
 use Rattle.loop_ir.specs.declared.ir.Sub.TheVariants.{Zero, Top, Inner as At_inner, InnerDown}
 use Rattle.loop_ir.specs.declared.ir.Sub.TheVariants.{Outer, OuterDown, Sum, DownSum, SumTwice}
-use Rattle.loop_ir.specs.declared.ir.Sub.TheVariants.{AboveSumTwice, AboveSum}
+use Rattle.loop_ir.specs.declared.ir.Sub.TheVariants.{AboveSumTwice, AboveSum, DownPlusN, NPlusInner}
 use Rattle.loop_ir.specs.declared.ir.Count.{Count}
 use Rattle.loop_ir.specs.declared.ir.Count.TheVariants.{All as All_of, Rest, UpTo}
 use Rattle.loop_ir.specs.Plain.{InnerOf, StepOf, inner_map, step_map, AllInner, AllStep, TurnOf}
@@ -39,6 +39,8 @@ init_few Outer r = omega arith
 init_few OuterDown r = omega arith
 init_few Sum r = omega arith
 init_few DownSum r = omega arith
+init_few DownPlusN r = omega arith
+init_few NPlusInner r = omega arith
 init_few SumTwice r = omega arith
 init_few AboveSumTwice r = omega arith
 init_few AboveSum r = omega arith

@@ -173,8 +173,11 @@ module _ (head : Shape) (code : List Uop) (n : ℕ) (old : List ℕ) where
           let none : m ≡ 0 = omega (arith, e, k) in
           run_more head code n (pc + 12) (pc + 13) r 1 (1 + 5 * 0 + 4 * (m % 2)) [] _ (omega arith)
           (run_weaken head code n (pc + 12) (pc + 13) r 1 [] (Halves old two 0 m q) _
-          (λ x h. (m, subst (λ y. Halves old two y m (q + 0) x) (let z : 0 ≡ m % 2 =
-          omega (arith, k) in z) (subst (λ y. Halves old two 0 m y x) same h)))
+          (λ x h. (
+            m,
+            subst (λ y. Halves old two y m (q + 0) x) (let z : 0 ≡ m % 2 =
+                omega (arith, k) in z) (subst (λ y. Halves old two 0 m y x) same h),
+          ))
           (by_six (pc + 12) (pc + 13) (pc + 6) two 0 m q r true s.at12 (eq-eqb m 0 none)
           (omega arith) g))
       by (suc zero) k =
@@ -196,8 +199,11 @@ module _ (head : Shape) (code : List Uop) (n : ℕ) (old : List ℕ) where
           (run_set head code n (pc + 8) 5 1 (λ v. v ≡ 1) x3 (SetI 5 1) s.at8 (λ left. refl)
           (omega (arith, h3.size)) refl)))
           (λ x4 h4. run_weaken head code n (pc + 9) (pc + 13) x4 1 [] (Halves old two 1 0 q) end
-          (λ y h. (0, subst (λ z. Halves old two z 0 (q + 0) y) (let z : 1 ≡ m % 2 =
-          omega (arith, k) in z) (subst (λ z. Halves old two 1 0 z y) same h)))
+          (λ y h. (
+            0,
+            subst (λ z. Halves old two z 0 (q + 0) y) (let z : 1 ≡ m % 2 =
+                omega (arith, k) in z) (subst (λ z. Halves old two 1 0 z y) same h),
+          ))
           (by_two (pc + 9) (pc + 13) (pc + 13) two 1 0 q x4 false s.at9 (none_left two t) refl
           h4))))))
       by (suc (suc j)) k = absurd (omega (arith, k))
@@ -226,8 +232,11 @@ module _ (head : Shape) (code : List Uop) (n : ℕ) (old : List ℕ) where
       (more (pc + 11) (pc + 12) two 0 (m - 2) q x4 s.at11 (omega arith) (omega (arith, small)) h4)
       (λ x5 h5. run_weaken head code n (pc + 12) (pc + 13) x5 left []
       (λ x. (c : ℕ) × Halves old two ((m - 2) % 2) c (q + 1 + h) x) end
-      (λ y k. (k.0, subst (λ z. Halves old two z k.0 (q + suc h) y) low
-      (subst (λ z. Halves old two ((m - 2) % 2) k.0 z y) sum k.1)))
+      (λ y k. (
+        k.0,
+        subst (λ z. Halves old two z k.0 (q + suc h) y) low
+            (subst (λ z. Halves old two ((m - 2) % 2) k.0 z y) sum k.1),
+      ))
       (halving h (m - 2) (q + 1) two pc x5 rest (omega (arith, small)) t s h5)))))))
 
   -- one turn, up to the jump back: of the elements of level j

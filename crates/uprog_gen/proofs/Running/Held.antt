@@ -18,7 +18,7 @@ use Rattle.row_alloc.specs.declared.body.BodyCmd.TheVariants as cmd
 use Rattle.loop_ir.specs.declared.ir.Sub.{Sub}
 use Rattle.loop_ir.specs.declared.ir.Sub.TheVariants.{Zero, Top, Inner as At_inner, InnerDown}
 use Rattle.loop_ir.specs.declared.ir.Sub.TheVariants.{Outer, OuterDown, Sum, DownSum, SumTwice}
-use Rattle.loop_ir.specs.declared.ir.Sub.TheVariants.{AboveSumTwice, AboveSum}
+use Rattle.loop_ir.specs.declared.ir.Sub.TheVariants.{AboveSumTwice, AboveSum, DownPlusN, NPlusInner}
 use Rattle.loop_ir.specs.declared.ir.Space.{Space}
 use Rattle.loop_ir.specs.declared.ir.Space.TheVariants.{Result, Source, ScratchBit, ScratchWord}
 use Rattle.loop_ir.specs.declared.ir.Space.TheVariants.{Cells}
@@ -52,6 +52,8 @@ module _ (head : Shape) (code : List Uop) (n : ℕ) where
   at_value InnerDown i o v a b c h = h
   at_value Sum i o v a b c h = h
   at_value DownSum i o v a b c h = h
+  at_value DownPlusN i o v a b c h = h
+  at_value NPlusInner i o v a b c h = h
   at_value SumTwice i o v a b c h = h
   at_value AboveSumTwice i o v a b c h = h
   at_value AboveSum i o v a b c h = h

@@ -16,7 +16,7 @@ use Rattle.uprog_gen.proofs.Running.Goes.{HasAt, has_front, has_back, Goes, stay
 use Rattle.loop_ir.specs.declared.ir.Sub.{Sub}
 use Rattle.loop_ir.specs.declared.ir.Sub.TheVariants.{Zero, Top, Inner as At_inner, InnerDown}
 use Rattle.loop_ir.specs.declared.ir.Sub.TheVariants.{Outer, OuterDown, Sum, DownSum, SumTwice}
-use Rattle.loop_ir.specs.declared.ir.Sub.TheVariants.{AboveSumTwice, AboveSum}
+use Rattle.loop_ir.specs.declared.ir.Sub.TheVariants.{AboveSumTwice, AboveSum, DownPlusN, NPlusInner}
 use Rattle.uprog_gen.specs.Code.{init, before, after}
 use Rattle.bit_rows.specs.declared.TheConstants.{WIDTH_MAX}
 
@@ -163,6 +163,8 @@ module _ (head : Shape) (code : List Uop) (n : ℕ) where
   IsAt InnerDown i o v = v ≡ n - 1 - i
   IsAt Sum i o v = v ≡ o + i
   IsAt DownSum i o v = v ≡ n - 1 - o + i
+  IsAt DownPlusN i o v = v ≡ 2 * n - 1 - o
+  IsAt NPlusInner i o v = v ≡ n + i
   IsAt SumTwice i o v = v ≡ o + 2 * i
   IsAt AboveSumTwice i o v = v ≡ o + 1 + 2 * i
   IsAt AboveSum i o v = v ≡ o + 1 + i
@@ -177,6 +179,8 @@ module _ (head : Shape) (code : List Uop) (n : ℕ) where
   IsTop InnerDown i o v = v ≡ n - i
   IsTop Sum i o v = v ≡ o + i
   IsTop DownSum i o v = v ≡ n - 1 - o + i
+  IsTop DownPlusN i o v = v ≡ 2 * n - 1 - o
+  IsTop NPlusInner i o v = v ≡ n + i
   IsTop SumTwice i o v = v ≡ o + 2 * i
   IsTop AboveSumTwice i o v = v ≡ o + 2 * i
   IsTop AboveSum i o v = v ≡ o + i
@@ -207,6 +211,24 @@ module _ (head : Shape) (code : List Uop) (n : ℕ) where
       run_set pc r (slice_index regs 0) _ regs (Mov r 0) has.0 (λ left. refl) lt (omega arith)
   run_init DownSum r pc o regs small lo lt ne e0 e1 has =
       run_set pc r (slice_index regs 1) _ regs (Mov r 1) has.0 (λ left. refl) lt (omega arith)
+  run_init NPlusInner r pc o regs small lo lt ne e0 e1 has =
+      run_set pc r n _ regs (SetN r) has.0 (λ left. refl) lt (omega arith)
+  run_init DownPlusN r pc o regs small lo lt ne e0 e1 has =
+      let first = run_set pc r n (λ x. x ≡ n) regs (SetN r) has.0 (λ left. refl) lt refl in
+      let two : pc + 1 + 1 ≡ pc + 2 = omega arith in
+      run_at pc (pc + 1 + 1) (pc + 2) regs 2 [] _ two
+      (run_then pc (pc + 1) (pc + 1 + 1) 1 1 2 regs [] [] (Changed r (λ x. x ≡ n) regs)
+      (Changed r (IsTop DownPlusN 0 o) regs) refl first
+      (λ q c.
+      let e : slice_index q 1 ≡ n - 1 - o = c.others 1 (λ h. ne (sym h)) ∙ e1 in
+      let v = slice_index q r + slice_index q 1 in
+      let e2 : slice_index q r ≡ n = c.this in
+      run_weaken (pc + 1) (pc + 1 + 1) q 1 [] (Changed r (IsTop DownPlusN 0 o) q)
+      (Changed r (IsTop DownPlusN 0 o) regs) (λ x d. changed_again r _ _ regs q x c d)
+      (run_set (pc + 1) r v (IsTop DownPlusN 0 o) q (Add r 1) has.1.0
+      (λ left. ap (λ b. cond b (issue head code n left (pc + 1 + 1) (slice_set q r v))
+      (Stuck (pc + 1) Register)) (le-leb v 1023 (omega arith))) (omega (arith, c.size))
+      (omega arith))))
   run_init SumTwice r pc o regs small lo lt ne e0 e1 has =
       run_set pc r (slice_index regs 0) _ regs (Mov r 0) has.0 (λ left. refl) lt (omega (arith, e0))
   run_init AboveSumTwice r pc o regs small lo lt ne e0 e1 has =
@@ -228,6 +250,8 @@ module _ (head : Shape) (code : List Uop) (n : ℕ) where
       run_sub pc r 1 _ regs has.0 (omega arith) lt (omega arith)
   run_before Sum r pc i o regs small li lo lt h has = keeps pc r _ regs h
   run_before DownSum r pc i o regs small li lo lt h has = keeps pc r _ regs h
+  run_before NPlusInner r pc i o regs small li lo lt h has = keeps pc r _ regs h
+  run_before DownPlusN r pc i o regs small li lo lt h has = keeps pc r _ regs h
   run_before SumTwice r pc i o regs small li lo lt h has = keeps pc r _ regs h
   run_before AboveSumTwice r pc i o regs small li lo lt h has =
       run_add pc r 1 _ regs has.0 (omega (arith, h, small, li, lo)) lt (omega (arith, h))
@@ -249,6 +273,9 @@ module _ (head : Shape) (code : List Uop) (n : ℕ) where
       run_add pc r 1 _ regs has.0 (omega arith) lt (omega arith)
   run_after DownSum r pc i o regs small li lo lt h has =
       run_add pc r 1 _ regs has.0 (omega arith) lt (omega arith)
+  run_after NPlusInner r pc i o regs small li lo lt h has =
+      run_add pc r 1 _ regs has.0 (omega arith) lt (omega arith)
+  run_after DownPlusN r pc i o regs small li lo lt h has = keeps pc r _ regs h
   run_after SumTwice r pc i o regs small li lo lt h has =
       run_add pc r 2 _ regs has.0 (omega (arith, h, small, li, lo)) lt (omega (arith, h))
   run_after AboveSumTwice r pc i o regs small li lo lt h has =
