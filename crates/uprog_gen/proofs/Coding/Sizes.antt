@@ -9,7 +9,8 @@ use Rattle.uprog_code.specs.declared.code.Uop.TheVariants.{SubI, AddI, Bnez}
 use Rattle.loop_ir.specs.declared.ir.Sub.{Sub}
 use Rattle.loop_ir.specs.declared.ir.Sub.TheVariants.{Zero, Top, Inner as At_inner, InnerDown}
 use Rattle.loop_ir.specs.declared.ir.Sub.TheVariants.{Outer, OuterDown, Sum, DownSum, SumTwice}
-use Rattle.loop_ir.specs.declared.ir.Sub.TheVariants.{AboveSumTwice, AboveSum, DownPlusN, NPlusInner}
+use Rattle.loop_ir.specs.declared.ir.Sub.TheVariants.{AboveSumTwice, AboveSum, DownPlusN}
+use Rattle.loop_ir.specs.declared.ir.Sub.TheVariants.{NPlusInner}
 use Rattle.loop_ir.specs.declared.ir.Count.{Count}
 use Rattle.loop_ir.specs.declared.ir.Count.TheVariants.{All as All_of, Rest, UpTo}
 use Rattle.loop_ir.specs.Plain.{InnerOf, StepOf, inner_map, step_map, AllInner, AllStep, TurnOf}
