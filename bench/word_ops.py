@@ -74,17 +74,26 @@ def rows():
     return found
 
 
-def bits_to(n):
-    """How many bits the numbers from 1 to n have together."""
-    return sum(k.bit_length() for k in range(1, n + 1))
+def odd_levels(n):
+    """How many levels of a count of n bits have an odd number of elements."""
+    return sum((n >> level) % 2 for level in range(n))
+
+
+def pairs_below(n):
+    """How many pairs of elements all levels have together."""
+    return sum(n >> (level + 1) for level in range(n))
+
+
+COUNTS = {"odd_levels": odd_levels, "pairs_below": pairs_below}
 
 
 def formula(text, path):
-    """A formula of n from 1 on, such as `7 * bits_to n + 3 * (n / 2)`, as a function."""
-    if not re.fullmatch(r"(?:bits_to n|[n\d +*/%^()-])+", text):
+    """A formula of n from 1 on, such as `2 * odd_levels n n + 3 * (n / 2)`, as a function."""
+    names = "|".join(COUNTS)
+    if not re.fullmatch(rf"(?:(?:{names}) n n|[n\d +*/%^()-])+", text):
         fail(path, f"no formula of n: {text}")
-    source = text.replace("bits_to n", "bits_to(n)").replace("^", "**").replace("/", "//")
-    return eval("lambda n: " + source, {"__builtins__": {}, "bits_to": bits_to})
+    source = re.sub(rf"({names}) n n", r"\1(n)", text).replace("^", "**").replace("/", "//")
+    return eval("lambda n: " + source, {"__builtins__": {}, **COUNTS})
 
 
 def formulas(definition, path):

@@ -1,9 +1,8 @@
 -- bitcount: the elements of a level are added in pairs, and their carries are the next level's.
 use Rattle.std.proofs.Common.{◌≡◌, ℕ, zero, suc, ◌+◌, ◌-◌, ◌*◌, ◌^◌, ◌<◌, ◌≤◌, Bool, true, false}
-use Rattle.std.proofs.Common.{not, List, [], ◌∷◌, refl, sym, ap, ◌∙◌, subst, ⊎_elim, arith}
+use Rattle.std.proofs.Common.{not, List, [], ◌∷◌, refl, sym, ap, ◌∙◌, subst, arith}
 use Rattle.std.specs.Prelude.{◌%◌}
 use Rattle.std.proofs.Math.Nat.{pow-suc}
-use Rattle.std.proofs.lemmas.Bool.{cases_eq}
 use Rattle.bit_rows.specs.Bits.{majority}
 use Rattle.mig_graph.specs.Graph.{values_from}
 use Rattle.op_text.specs.declared.word_ops.WordOp.TheVariants as op
@@ -32,7 +31,6 @@ use Rattle.word_mul.specs.declared.rows.Rows.{Rows}
 use Rattle.word_mul.specs.Places.{rooms_for}
 use Rattle.word_mul.proofs.Setting.{cell, row_stands, cell_other, row_other, IsFree}
 use Rattle.word_mul.proofs.Setting.{AreRows, IsElsewhere, Gives, DoesNested, bit_free, bit_else}
-use Rattle.word_mul.proofs.Multiply.{args_else}
 
 -- how many of the first bits are set
 tally : (ℕ → Bool) → ℕ → ℕ

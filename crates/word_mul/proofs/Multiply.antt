@@ -5,7 +5,6 @@ use Rattle.std.proofs.lemmas.Nat.{pow-add}
 use Rattle.bit_rows.specs.Bits.{majority}
 use Rattle.mig_graph.specs.Graph.{values_from}
 use Rattle.op_text.specs.declared.word_ops.WordOp.TheVariants as op
-use Rattle.op_text.specs.Values.{ones_of}
 use Rattle.loop_ir.specs.declared.ir.Sub.TheVariants as sub
 use Rattle.loop_ir.specs.declared.ir.Count.TheVariants.{Rest}
 use Rattle.loop_ir.specs.declared.names.Slot.{Slot}
@@ -24,15 +23,14 @@ use Rattle.word_lower.specs.Programs.{off, constant, inverted}
 use Rattle.word_lower.proofs.Marks.{target, first, second, third, state}
 use Rattle.word_lower.proofs.Setting.{bit, number, row, number_at, SlotsApart}
 use Rattle.word_lower.proofs.Passes.{word_loop, upwards}
-use Rattle.word_lower.proofs.Sums.{value_same, value_below, value_false, sum_two, carry_sum}
-use Rattle.word_lower.proofs.Sums.{digits_one, last_sum}
-use Rattle.word_lower.proofs.Lists.{ones_of_none, ones_of_more}
+use Rattle.word_lower.proofs.Sums.{value_same, value_below, value_false, sum_two}
+use Rattle.word_lower.proofs.Sums.{last_sum}
 use Rattle.word_mul.specs.Programs.{multiplied}
 use Rattle.word_mul.specs.declared.rows.Rows.{Rows}
 use Rattle.word_mul.specs.Places.{rooms_for}
 use Rattle.word_mul.proofs.Setting.{cell, HasRows, row_stands, cell_other, row_other, IsFree}
 use Rattle.word_mul.proofs.Setting.{AreRows, IsElsewhere, Gives, DoesNested, bit_free, bit_else}
-use Rattle.word_mul.proofs.Product.{value_split, value_kept, product_step, few_ones}
+use Rattle.word_mul.proofs.Product.{value_split, value_kept, product_step}
 
 -- with the complement of what is added
 multiplied_digit : (t w c : Bool)

@@ -69,13 +69,7 @@ pub fn body(form: BodyForm, owners: Owners, alloc: Global) -> Result<Body, NoMem
             &[y.at(o), c.at(o)],
             a,
         ),
-        BodyForm::Begun(x, s, k) => templated(
-            &[x.at(o)],
-            &[],
-            &[P1, P1],
-            &[s.at(o), k.at(o)],
-            a,
-        ),
+        BodyForm::Begun(x, s, k) => templated(&[x.at(o)], &[], &[P1, P1], &[s.at(o), k.at(o)], a),
         BodyForm::Counted(x, y, s, c) => templated(
             &[x.at(o), y.at(o), s.at(o)],
             &COUNTED,

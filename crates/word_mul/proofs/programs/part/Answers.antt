@@ -1,6 +1,5 @@
 use Rattle.std.proofs.Common.{ap, ◌∷◌, []}
-use Rattle.loop_ir.specs.Plain.InnerOf.{Alone, Across, IfOdd, Halves}
-use Rattle.std.proofs.Common.{◌∙◌}
+use Rattle.loop_ir.specs.Plain.InnerOf.{Alone, Across}
 use Rattle.word_mul.proofs.programs.part.Goals as goal
 
 pub returns-in_ok-body-in-Once-clause-same : goal.returns-in_ok-body-in-Once-clause-same
