@@ -49,9 +49,16 @@ row_space Cells = row.ScratchBit
 
 -- Registers 0 and 1 hold o and n - 1 - o, and 2 counts an inner loop down. The other subscripts
 -- that a body uses have registers 3 to 5
+abbrev pub plain_subs : List Sub
+plain_subs = Top ∷ At_inner ∷ InnerDown ∷ Sum ∷ DownSum ∷ DownPlusN ∷ NPlusInner ∷ []
+
+-- those of the elements of a pair and of their carry
+abbrev pub pair_subs : List Sub
+pair_subs = SumTwice ∷ AboveSumTwice ∷ AboveSum ∷ []
+
+-- all that have registers 3 to 5
 abbrev pub loop_subs : List Sub
-loop_subs = Top ∷ At_inner ∷ InnerDown ∷ Sum ∷ DownSum ∷ DownPlusN ∷ NPlusInner ∷ SumTwice
-    ∷ AboveSumTwice ∷ AboveSum ∷ []
+loop_subs = plain_subs ++ pair_subs
 
 -- the subscripts of a body that need a register of its own; a plan has room for three
 abbrev pub own_subs : Block → List Sub

@@ -230,7 +230,8 @@ fn push_halving(code: &mut Vec<Uop>, pc: u16) -> Result<(), NoMemory>
     keep(code, Uop::SetI(5, 0))?;
     keep(code, Uop::SetI(7, 0))?;
     keep(code, Uop::Bnez(2, pc + 12))?;
-    push_taking(code, pc)
+    push_taking(code, pc)?;
+    Ok(())
 }
 
 /// The code that finds how many pairs of elements a level has, and whether one is left.
