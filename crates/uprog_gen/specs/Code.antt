@@ -49,9 +49,16 @@ row_space Cells = row.ScratchBit
 
 -- Registers 0 and 1 hold o and n - 1 - o, and 2 counts an inner loop down. The other subscripts
 -- that a body uses have registers 3 to 5
+abbrev pub plain_subs : List Sub
+plain_subs = Top ∷ At_inner ∷ InnerDown ∷ Sum ∷ DownSum ∷ DownPlusN ∷ NPlusInner ∷ []
+
+-- those of the elements of a pair and of their carry
+abbrev pub pair_subs : List Sub
+pair_subs = SumTwice ∷ AboveSumTwice ∷ AboveSum ∷ []
+
+-- all that have registers 3 to 5
 abbrev pub loop_subs : List Sub
-loop_subs = Top ∷ At_inner ∷ InnerDown ∷ Sum ∷ DownSum ∷ DownPlusN ∷ NPlusInner ∷ SumTwice
-    ∷ AboveSumTwice ∷ AboveSum ∷ []
+loop_subs = plain_subs ++ pair_subs
 
 -- the subscripts of a body that need a register of its own; a plan has room for three
 abbrev pub own_subs : Block → List Sub
@@ -208,15 +215,18 @@ abbrev pub loop_code : Count → Part → ℕ → List Uop
 loop_code count p pc = enter_code p.plan count
     ++ (turn_code p.plan (body_uops p) ++ (Bnez 2 (pc + length (enter_code p.plan count)) ∷ []))
 
--- Register 6 gets the number of pairs of elements at level o, and 5 whether one is left: n is
--- halved o + 1 times, and two are taken away for each that register 7 counts. Register 2 counts the
--- turns, isn't 0 in one, and serves to jump
-abbrev pub halve_code : ℕ → List Uop
-halve_code pc = SetI 5 0 ∷ SetI 7 0 ∷ Bnez 2 (pc + 12)
-    ∷ SubI 6 1 ∷ Bnez 6 (pc + 10) ∷ SetI 5 1 ∷ Bnez 2 (pc + 13)
+-- two are taken away from register 6 for each that register 7 counts, as long as there are two; one
+-- that is left makes register 5 a 1. Register 2 isn't 0, and serves to jump
+abbrev pub take_code : ℕ → List Uop
+take_code pc = SubI 6 1 ∷ Bnez 6 (pc + 10) ∷ SetI 5 1 ∷ Bnez 2 (pc + 13)
     ∷ SubI 6 1 ∷ AddI 7 1 ∷ Bnez 6 (pc + 6) ∷ []
 
--- and all turns
+-- one turn of what halves register 6: it begins where that is tested
+abbrev pub halve_code : ℕ → List Uop
+halve_code pc = SetI 5 0 ∷ SetI 7 0 ∷ Bnez 2 (pc + 12) ∷ take_code pc
+
+-- register 6 gets the number of pairs of elements at level o, and 5 whether one is left: n is halved
+-- o + 1 times, which register 2 counts
 abbrev pub level_code : ℕ → List Uop
 level_code pc = Mov 2 0 ∷ AddI 2 1 ∷ SetN 6
     ∷ (halve_code pc ++ (Mov 6 7 ∷ SubI 2 1 ∷ Bnez 2 (pc + 3) ∷ []))

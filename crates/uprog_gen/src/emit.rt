@@ -7,7 +7,8 @@ ghost use Rattle.loop_ir.specs.Plain.{block_of};
 ghost use Rattle.loop_ir.specs.Costs.{body_cost};
 ghost use Rattle.uprog_gen.specs.Code.{row_space, index_in, place_ref, code_ref, code_uop, init};
 ghost use Rattle.uprog_gen.specs.Code.{before, after, inits, befores, afters};
-ghost use Rattle.uprog_gen.specs.Code.{counter, body_uops, halve_code, level_code, skip_code};
+ghost use Rattle.uprog_gen.specs.Code.{counter, body_uops, take_code, halve_code, level_code};
+ghost use Rattle.uprog_gen.specs.Code.{skip_code};
 ghost use Rattle.uprog_gen.specs.Code.{odd_code, pairing_code, halves_code};
 ghost use Rattle.uprog_gen.specs.Code.{once_code, turn_code, enter_code, loop_code, guard_code};
 ghost use Rattle.uprog_gen.specs.Code.{pairs_code, start_code, either_code};
@@ -207,14 +208,11 @@ fn push_enter(code: &mut Vec<Uop>, plan: Plan, count: Count) -> Result<(), NoMem
     push_inits(code, plan)
 }
 
-/// The code that halves n, whose first instruction has this place: one turn of it.
-fn push_halving(code: &mut Vec<Uop>, pc: u16) -> Result<(), NoMemory>
+/// The code that counts pairs, in the code of a level whose first instruction has this place.
+fn push_taking(code: &mut Vec<Uop>, pc: u16) -> Result<(), NoMemory>
     requires { pc + 16 < 2 ^ 16 }
-    ensures { OnOk result (code.new.items ≡ code.old.items ++ halve_code pc) }
+    ensures { OnOk result (code.new.items ≡ code.old.items ++ take_code pc) }
 {
-    keep(code, Uop::SetI(5, 0))?;
-    keep(code, Uop::SetI(7, 0))?;
-    keep(code, Uop::Bnez(2, pc + 12))?;
     keep(code, Uop::SubI(6, 1))?;
     keep(code, Uop::Bnez(6, pc + 10))?;
     keep(code, Uop::SetI(5, 1))?;
@@ -222,6 +220,18 @@ fn push_halving(code: &mut Vec<Uop>, pc: u16) -> Result<(), NoMemory>
     keep(code, Uop::SubI(6, 1))?;
     keep(code, Uop::AddI(7, 1))?;
     keep(code, Uop::Bnez(6, pc + 6))
+}
+
+/// One turn of the code of a level: a number is halved.
+fn push_halving(code: &mut Vec<Uop>, pc: u16) -> Result<(), NoMemory>
+    requires { pc + 16 < 2 ^ 16 }
+    ensures { OnOk result (code.new.items ≡ code.old.items ++ halve_code pc) }
+{
+    keep(code, Uop::SetI(5, 0))?;
+    keep(code, Uop::SetI(7, 0))?;
+    keep(code, Uop::Bnez(2, pc + 12))?;
+    push_taking(code, pc)?;
+    Ok(())
 }
 
 /// The code that finds how many pairs of elements a level has, and whether one is left.

@@ -1,12 +1,12 @@
 //! Which subscripts a body's registers hold.
 
-ghost use Rattle.std.specs.Prelude.{◌≡◌, ◌<◌, ◌≤◌, ◌++◌, [], ◌∷◌, length, OnOk, IfOk};
+ghost use Rattle.std.specs.Prelude.{◌≡◌, ◌<◌, ◌≤◌, ◌++◌, [], ◌∷◌, length, filter, OnOk, IfOk};
 ghost use Rattle.std.specs.Prelude.{if◌then◌else◌};
 ghost use Rattle.std.specs.List.{list_any, list_all};
 ghost use Rattle.loop_ir.specs.Plain.{block_of};
 ghost use Rattle.loop_ir.specs.declared.ir.Sub.TheVariants.{Zero};
 ghost use Rattle.loop_ir.specs.Costs.{sub_code, same_sub, is_used, is_fixed};
-ghost use Rattle.uprog_gen.specs.Code.{own_subs, sub_in, plan_of, register};
+ghost use Rattle.uprog_gen.specs.Code.{plain_subs, pair_subs, own_subs, sub_in, plan_of, register};
 
 use faults::keep;
 use loop_ir::{Body, Place, Sub};
@@ -87,9 +87,9 @@ fn push_used(subs: &mut Vec<Sub>, body: &Body, s: Sub) -> Result<(), NoMemory>
     }
 }
 
-/// The subscripts that the body uses and that need a register of its own.
-fn own_subs(body: &Body, alloc: Global) -> Result<Vec<Sub>, NoMemory>
-    ensures { IfOk result (λ subs. subs.items ≡ own_subs (block_of body.now)) }
+/// The subscripts that the body uses and that need a register of its own, but for those of pairs.
+fn plain_subs(body: &Body, alloc: Global) -> Result<Vec<Sub>, NoMemory>
+    ensures { IfOk result (λ subs. subs.items ≡ filter (is_used (block_of body.now)) plain_subs) }
 {
     let mut subs = Vec::new(alloc);
     push_used(&mut subs, body, Sub::Top)?;
@@ -99,9 +99,25 @@ fn own_subs(body: &Body, alloc: Global) -> Result<Vec<Sub>, NoMemory>
     push_used(&mut subs, body, Sub::DownSum)?;
     push_used(&mut subs, body, Sub::DownPlusN)?;
     push_used(&mut subs, body, Sub::NPlusInner)?;
-    push_used(&mut subs, body, Sub::SumTwice)?;
-    push_used(&mut subs, body, Sub::AboveSumTwice)?;
-    push_used(&mut subs, body, Sub::AboveSum)?;
+    Ok(subs)
+}
+
+/// Those of pairs.
+fn push_pair_subs(subs: &mut Vec<Sub>, body: &Body) -> Result<(), NoMemory>
+    ensures { OnOk result (subs.new.items ≡ subs.old.items
+        ++ filter (is_used (block_of body.now)) pair_subs) }
+{
+    push_used(subs, body, Sub::SumTwice)?;
+    push_used(subs, body, Sub::AboveSumTwice)?;
+    push_used(subs, body, Sub::AboveSum)
+}
+
+/// The subscripts that the body uses and that need a register of its own.
+fn own_subs(body: &Body, alloc: Global) -> Result<Vec<Sub>, NoMemory>
+    ensures { IfOk result (λ subs. subs.items ≡ own_subs (block_of body.now)) }
+{
+    let mut subs = plain_subs(body, alloc)?;
+    push_pair_subs(&mut subs, body)?;
     Ok(subs)
 }
 
