@@ -245,7 +245,8 @@ fn push_level(code: &mut Vec<Uop>) -> Result<(), NoMemory>
     push_halving(code, pc)?;
     keep(code, Uop::Mov(6, 7))?;
     keep(code, Uop::SubI(2, 1))?;
-    keep(code, Uop::Bnez(2, pc + 3))
+    keep(code, Uop::Bnez(2, pc + 3))?;
+    Ok(())
 }
 
 /// A turn of a loop, up to the jump.

@@ -10,7 +10,7 @@ use Rattle.std.proofs.lemmas.Grind.{common_steps}
 use Rattle.uprog_code.specs.declared.code.Uop.{Uop}
 use Rattle.uprog_code.specs.declared.code.Uop.TheVariants.{SetI, SetN, SetT, Mov, SubI, AddI, Bnez}
 use Rattle.loop_ir.specs.declared.ir.Count.{Count}
-use Rattle.loop_ir.specs.declared.ir.Count.TheVariants.{All as All_of, Rest}
+use Rattle.loop_ir.specs.declared.ir.Count.TheVariants.{All as All_of, Rest, UpTo}
 use Rattle.loop_ir.specs.declared.ir.Inner.{Inner}
 use Rattle.loop_ir.specs.declared.ir.Step.{Step}
 use Rattle.loop_ir.specs.declared.ir.Turn.{Turn}
@@ -20,7 +20,7 @@ use Rattle.loop_ir.specs.Plain.{AllInner, AllTurns, AllStep, AllParts}
 use Rattle.loop_ir.specs.Plain.InnerOf.{Alone, Across, IfOdd, Halves}
 use Rattle.loop_ir.specs.Plain.StepOf.{Single, Along, Nest, Pairs, Alternate}
 use Rattle.uprog_gen.specs.Code.{Part, block_of_part, blocks, body_uops, once_code, loop_code}
-use Rattle.uprog_gen.specs.Code.{level_code, skip_code, odd_code, pairing_code, halves_code}
+use Rattle.uprog_gen.specs.Code.{counter, halve_code, level_code, skip_code, odd_code, pairing_code, halves_code}
 use Rattle.uprog_gen.specs.Code.{inner_code, inner_list, outside, guard_code, pairs_code}
 use Rattle.uprog_gen.specs.Code.{turn_uops, either_code, either_size, turns_list, start_code}
 use Rattle.uprog_gen.specs.Code.{cycle_code, step_code}
@@ -334,6 +334,26 @@ two_pushes old a b x y e f = f ∙ ap (λ l. l ++ y ∷ []) e ∙ append_assoc o
 pub outside_then : (old mid new more : List Uop) → mid ≡ old ++ outside → new ≡ mid ++ more
     → new ≡ old ++ (outside ++ more)
 outside_then old mid new more e f = f ∙ ap (λ l. l ++ more) e ∙ append_assoc old outside more
+
+-- what finds how many pairs a level has
+pub level_made : (old a b d e f g : List Uop) (pc : ℕ) → pc ≡ length old
+    → a ≡ old ++ counter UpTo → b ≡ a ++ SetN 6 ∷ [] → d ≡ b ++ halve_code pc
+    → e ≡ d ++ Mov 6 7 ∷ [] → f ≡ e ++ SubI 2 1 ∷ [] → g ≡ f ++ Bnez 2 (pc + 3) ∷ []
+    → g ≡ old ++ level_code (length old)
+level_made old a b d e f g pc at ea eb ed ee ef eg =
+    let pre = counter UpTo ++ SetN 6 ∷ [] in
+    let two = Mov 6 7 ∷ SubI 2 1 ∷ [] in
+    let jump = Bnez 2 (pc + 3) ∷ [] in
+    let front : b ≡ old ++ pre = eb ∙ ap (λ l. l ++ SetN 6 ∷ []) ea
+    ∙ append_assoc old (counter UpTo) (SetN 6 ∷ []) in
+    let mid : d ≡ old ++ (pre ++ halve_code pc) = ed ∙ ap (λ l. l ++ halve_code pc) front
+    ∙ append_assoc old pre (halve_code pc) in
+    let tail : g ≡ d ++ (two ++ jump) = eg
+    ∙ ap (λ l. l ++ jump) (two_pushes d e f (Mov 6 7) (SubI 2 1) ee ef)
+    ∙ append_assoc d two jump in
+    tail ∙ ap (λ l. l ++ (two ++ jump)) mid
+    ∙ append_assoc old (pre ++ halve_code pc) (two ++ jump)
+    ∙ ap (λ q. old ++ level_code q) at
 
 -- a jump past what comes next, once that stands
 skip_made : (pre body : List Uop) (old mid all : List Uop) (r past end : ℕ)

@@ -42,7 +42,8 @@ use Rattle.uprog_gen.proofs.Running.Halving.{Halves as Halved, run_level}
 use Rattle.uprog_gen.proofs.Running.Each.{AtBody, AtTop, IsOuter, run_each, run_inits, run_befores}
 use Rattle.uprog_gen.proofs.Running.Each.{run_rounds}
 use Rattle.uprog_gen.proofs.Running.Nest.{run_nest}
-use Rattle.uprog_gen.proofs.Running.Held.{names_at, names_fixed, run_body, same_true}
+use Rattle.loop_laws.proofs.Same.{sub_true}
+use Rattle.uprog_gen.proofs.Running.Held.{names_at, names_fixed, run_body}
 use Rattle.bit_rows.specs.declared.TheConstants.{WIDTH_MAX}
 use Rattle.uprog_code.specs.declared.TheConstants.{WALK_MAX}
 
@@ -95,7 +96,7 @@ ranges_of head n (r ∷ rs) h = (h.0.ranges, ranges_of head n rs h.1)
 zero_front : (xs ys : List Place) → list_all (λ p. same_sub p.sub Zero) (xs ++ ys) ≡ true → (k : ℕ)
     → (nth_place xs k).sub ≡ Zero
 zero_front [] ys h k = refl
-zero_front (x ∷ xs) ys h zero = same_true x.sub Zero
+zero_front (x ∷ xs) ys h zero = sub_true x.sub Zero
     (and_parts (same_sub x.sub Zero) (list_all (λ p. same_sub p.sub Zero) (xs ++ ys)) h).0
 zero_front (x ∷ xs) ys h (suc k) = zero_front xs ys
     (and_parts (same_sub x.sub Zero) (list_all (λ p. same_sub p.sub Zero) (xs ++ ys)) h).1 k
@@ -236,9 +237,9 @@ module _ (head : Shape) (code : List Uop) (n : ℕ) (some : 0 < n) (small : n �
   }
 
   -- where the register is 0
-  run_past : (r pc o end : ℕ) (regs : List ℕ) → slice_index regs r ≡ 0 → IsOuter n o regs
+  run_skip : (r pc o end : ℕ) (regs : List ℕ) → slice_index regs r ≡ 0 → IsOuter n o regs
       → HasAt code pc (skip_code r pc end) → Runs head code n pc regs 3 [] end (IsOuter n o)
-  run_past r pc o end regs zero_is g has =
+  run_skip r pc o end regs zero_is g has =
       run_then head code n pc (pc + 1) end 1 2 3 regs [] [] (IsOuter n o) (IsOuter n o) refl
       (run_jump head code n pc r (pc + 3) regs true (IsOuter n o) has.0
       (ap (λ v. v == 0) zero_is) g)
@@ -308,7 +309,7 @@ module _ (head : Shape) (code : List Uop) (n : ℕ) (some : 0 < n) (small : n �
           (IsOuter n o) (omega (arith, long, some))
           (run_then head code n pc (pc + 16) end (n * 16) 3 (n * 16 + 3) regs [] [] _ (IsOuter n o)
           refl found
-          (λ x h. run_past 5 (pc + 16) o end x (h.1.five_is ∙ e)
+          (λ x h. run_skip 5 (pc + 16) o end x (h.1.five_is ∙ e)
           (after_level o (elements n o % 2) (elements n (o + 1)) h.0 regs x g h.1)
           (has_front code (pc + 16) skip body rest))))
       by (suc zero) e ok =
@@ -469,7 +470,7 @@ module _ (head : Shape) (code : List Uop) (n : ℕ) (some : 0 < n) (small : n �
           (IsOuter n o) (omega (arith, long, some))
           (run_then head code n pc (pc + 17) end (n * 16 + 1) 3 (n * 16 + 1 + 3) regs [] [] Ready
           (IsOuter n o) refl found
-          (λ x h. run_past 2 (pc + 17) o end x (h.1 ∙ e) h.0
+          (λ x h. run_skip 2 (pc + 17) o end x (h.1 ∙ e) h.0
           (has_front code (pc + 17) skip body past))))
       by (suc k) e ok =
           let cs = rounds_commands n (rounds (λ i. two_rounds p q i o) 0 (suc k)) in
@@ -482,7 +483,8 @@ module _ (head : Shape) (code : List Uop) (n : ℕ) (some : 0 < n) (small : n �
           (1 + n * length body) x [] cs Ready (IsOuter n o) refl
           (run_at head code n (pc + 17) (pc + 17 + 3) (pc + 20) x 1 [] Ready (omega arith)
           (run_jump head code n (pc + 17) 2 (pc + 17 + 3) x false Ready
-          (has_front code (pc + 17) skip body past).0 (ap (λ v. v == 0) (h.1 ∙ e)) h))
+          (has_front code (pc + 17) skip body past).0
+          (ap (λ v. v == 0) (h.1 ∙ e) ∙ ne_eqb (suc k) 0 (λ z. absurd (omega (arith, z)))) h))
           (λ y j. run_pairing p q (suc k) (pc + 20) o y lo (omega arith) (omega (arith, few, e)) j.0
           (j.1 ∙ e) sp sq at_body ok))))
 

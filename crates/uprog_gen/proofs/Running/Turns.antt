@@ -27,7 +27,8 @@ use Rattle.uprog_gen.proofs.Rows.Issued.{round_command, rounds_commands}
 use Rattle.uprog_gen.proofs.Running.Goes.{HasAt, has_front, has_back}
 use Rattle.uprog_gen.proofs.Running.Runs.{Runs, run_then, run_none, run_weaken, run_at, run_set}
 use Rattle.uprog_gen.proofs.Running.Runs.{run_add, run_sub, run_more, run_jump}
-use Rattle.uprog_gen.proofs.Running.Held.{Names, run_body, same_true}
+use Rattle.loop_laws.proofs.Same.{sub_true}
+use Rattle.uprog_gen.proofs.Running.Held.{Names, run_body}
 
 -- the round's commands are in range
 abbrev pub InRange : Shape → ℕ → RoundOf Part → Type 0
@@ -38,8 +39,8 @@ abbrev IsInner : Sub → Type 0
 IsInner s = (s ≡ Zero) ⊎ (s ≡ At_inner)
 
 one_inner : (s : Sub) → (same_sub s Zero || same_sub s At_inner) ≡ true → IsInner s
-one_inner s h = ⊎_elim (λ (a : same_sub s Zero ≡ true). inl (same_true s Zero a))
-    (λ (a : same_sub s Zero ≡ false). inr (same_true s At_inner
+one_inner s h = ⊎_elim (λ (a : same_sub s Zero ≡ true). inl (sub_true s Zero a))
+    (λ (a : same_sub s Zero ≡ false). inr (sub_true s At_inner
     (sym (ap (λ b. b || same_sub s At_inner) a) ∙ h))) (cases_Bool (same_sub s Zero))
 
 inner_front : (xs ys : List Place)
