@@ -20,7 +20,8 @@ use Rattle.loop_ir.specs.Plain.{AllInner, AllTurns, AllStep, AllParts}
 use Rattle.loop_ir.specs.Plain.InnerOf.{Alone, Across, IfOdd, Halves}
 use Rattle.loop_ir.specs.Plain.StepOf.{Single, Along, Nest, Pairs, Alternate}
 use Rattle.uprog_gen.specs.Code.{Part, block_of_part, blocks, body_uops, once_code, loop_code}
-use Rattle.uprog_gen.specs.Code.{counter, halve_code, level_code, skip_code, odd_code, pairing_code, halves_code}
+use Rattle.uprog_gen.specs.Code.{counter, halve_code, level_code, skip_code, odd_code}
+use Rattle.uprog_gen.specs.Code.{pairing_code, halves_code}
 use Rattle.uprog_gen.specs.Code.{inner_code, inner_list, outside, guard_code, pairs_code}
 use Rattle.uprog_gen.specs.Code.{turn_uops, either_code, either_size, turns_list, start_code}
 use Rattle.uprog_gen.specs.Code.{cycle_code, step_code}
