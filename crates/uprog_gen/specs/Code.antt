@@ -225,8 +225,8 @@ take_code pc = SubI 6 1 ∷ Bnez 6 (pc + 10) ∷ SetI 5 1 ∷ Bnez 2 (pc + 13)
 abbrev pub halve_code : ℕ → List Uop
 halve_code pc = SetI 5 0 ∷ SetI 7 0 ∷ Bnez 2 (pc + 12) ∷ take_code pc
 
--- register 6 gets the number of pairs of elements at level o, and 5 whether one is left: n is halved
--- o + 1 times, which register 2 counts
+-- register 6 gets the number of pairs of elements at level o, and 5 whether one is left: n is
+-- halved o + 1 times, which register 2 counts
 abbrev pub level_code : ℕ → List Uop
 level_code pc = Mov 2 0 ∷ AddI 2 1 ∷ SetN 6
     ∷ (halve_code pc ++ (Mov 6 7 ∷ SubI 2 1 ∷ Bnez 2 (pc + 3) ∷ []))
