@@ -1,6 +1,5 @@
 pub mod Found
 mod Listing
-mod Keeping
 pub mod Stepping
 pub mod Printing
 pub mod Alone

@@ -1,13 +1,18 @@
 -- What a machine shows of itself.
-use Rattle.std.specs.Prelude.{ℕ, Bool, true, false, List, map}
+use Rattle.std.specs.Prelude.{◌≡◌, ℕ, ◌+◌, ◌*◌, ◌≤◌, Bool, true, false, List, length, map}
+use Rattle.std.specs.Prelude.{vec_capacity}
 use Rattle.dram_model.specs.declared.geometry.Geometry.{Geometry}
 use Rattle.dram_model.specs.Chip.{Banks, Event}
 use Rattle.uprog_code.specs.Shape.{Microprogram}
 use Rattle.object_alloc.specs.Listed.{Named}
+use Rattle.object_alloc.specs.Reading.{rows_size}
+use Rattle.object_alloc.specs.declared.sizes.TheConstants.{HEAD_BYTES, RECORD_BYTES, OBJECTS_MAX}
 use Rattle.sim_machine.specs.declared.machine.Machine.{Machine}
 use Rattle.bbop_isa.specs.Forms.{Instruction}
 use Rattle.bbop_isa.specs.Forms.{Init, Bbop, Load, Fill, Print, Free, Order}
 use Rattle.wave_model.specs.Schedule.{Queues, Turn}
+use Rattle.uprog_ctl.specs.Orders.{turn_of}
+use Rattle.object_steps.specs.Objects.{LiesOn}
 use Rattle.machine_model.specs.declared.Reply.{Reply}
 use Rattle.machine_model.specs.Columns.{segments}
 use Rattle.machine_model.specs.Routines.{Routines, routines_in}
@@ -21,7 +26,7 @@ use Rattle.machine_model.specs.Steps.{new_object, reply_to, table_after}
 
 -- the program that its bbops run
 abbrev pub program_of : Machine → List Microprogram
-program_of m = m.programs
+program_of m = m.prog.programs
 
 -- the shape of its chip
 abbrev pub geometry_of : Machine → Geometry
@@ -33,11 +38,18 @@ table_in m = m.table.pairs
 
 -- the order in force, with its picker's state
 abbrev pub turn_in : Machine → Turn
-turn_in m = m.turn
+turn_in m = turn_of m.order
 
 -- the image file that was spelled last
 abbrev pub file_of : Machine → List ℕ
-file_of m = m.file
+file_of m = m.file.items
+
+-- a machine that is open: its parts fit, and it has the memory that it needs
+pub record IsReady (m : Machine) : Type 0 where
+  pub set : LiesOn m.geometry m.table
+  pub stage : length m.stage.items ≡ 128 * m.geometry.words
+  pub room : HEAD_BYTES + RECORD_BYTES * OBJECTS_MAX + rows_size m.geometry
+      ≤ vec_capacity m.file
 
 -- the operations that its program offers by name
 abbrev pub operations_by : Machine → Routines

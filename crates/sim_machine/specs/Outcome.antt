@@ -14,6 +14,7 @@ use Rattle.object_steps.specs.Lines.{DidReadAtMost}
 use Rattle.object_steps.specs.declared.fault.StepFault.{StepFault}
 use Rattle.object_steps.specs.declared.fault.StepFault.TheVariants.{ChipFault, WriteFault}
 use Rattle.sim_machine.specs.declared.machine.Machine.{Machine}
+use Rattle.sim_machine.specs.Machine.{IsReady, geometry_of, program_of}
 use Rattle.sim_machine.specs.Machine.{table_in, turn_in, reply_of, moved_table, turn_by_piece}
 use Rattle.sim_machine.specs.Machine.{events_by, queues_by, reads_by, banks_by, is_print}
 use Rattle.sim_machine.specs.Machine.{reply_line}
@@ -63,11 +64,13 @@ Comes old new number instr chip chip' sink sink' (Err ChipFault) =
 Comes old new number instr chip chip' sink sink' (Err WriteFault) =
     StoppedBySink old new number instr chip chip' sink sink'
 
--- and whatever comes of it, the machine keeps its program and its shape, and
+-- and whatever comes of it, the machine stays one that is open, with its program and its shape, and
 -- the chip and the sink keep what each call keeps
 pub record Went (old new : Machine) (number : ℕ) (instr : Instruction) (chip chip' : ChipView)
     (sink sink' : SinkView) (result : Result Reply StepFault) : Type 0 where
   pub kept : Kept chip chip'
   pub sink_faults : sink.faults ≤ sink'.faults
-  pub same : new ≡ record old { table = new.table; turn = turn_in new }
+  pub program : program_of new ≡ program_of old
+  pub shape : geometry_of new ≡ geometry_of old
+  pub ready : IsReady new
   pub comes : Comes old new number instr chip chip' sink sink' result

@@ -21,7 +21,7 @@ ghost use Rattle.uprog_ctl.specs.Waves.{StoppedAmong};
 ghost use Rattle.wave_model.specs.Schedule.{Ahead};
 ghost use Rattle.object_steps.specs.Lines.{DidReadAtMost};
 ghost use Rattle.object_steps.specs.Objects.{LiesOn, RisesAtMost};
-ghost use Rattle.sim_machine.specs.Machine.{banks_by, events_by, file_of, geometry_of};
+ghost use Rattle.sim_machine.specs.Machine.{IsReady, banks_by, events_by, file_of, geometry_of};
 ghost use Rattle.sim_machine.specs.Machine.{is_print, reply_line, line_shown, lines_of, program_of};
 ghost use Rattle.sim_machine.specs.Machine.{queues_by};
 ghost use Rattle.sim_machine.specs.Machine.{reads_by, reply_of, moved_table, table_in};
@@ -44,7 +44,6 @@ use machine_model::Reply;
 use object_alloc::{Image, OBJECTS_MAX, Table, put_head};
 use object_steps::{StepFault, load, print};
 use std::alloc::Global;
-use std::marker::Model;
 use text_lex::Name;
 use uprog_bin::ProgView;
 use uprog_code::WALK_MAX;
@@ -74,19 +73,6 @@ impl Drop for Machine<'_> {
     }
 }
 
-impl<'a> Model for Machine<'a> {
-    ghost use Rattle.std.specs.Prelude.{vec_capacity};
-    ghost use Rattle.sim_machine.specs.State.{State, IsReady};
-
-    ghost Value = { State };
-
-    ghost use Rattle.sim_machine.specs.Shown.{state_of};
-
-    ghost view = { state_of };
-
-    ghost invariant = { λ m. IsReady m.geometry m.table m.stage.items (vec_capacity m.file) };
-}
-
 /// Why a machine was not opened.
 #[derive(Clone, Copy, PartialEq, Eq)]
 pub enum StartNo {
@@ -109,13 +95,11 @@ impl<'a> Machine<'a> {
         ensures faults { (D.view dram.old).faults ≤ (D.view dram.new).faults }
         ensures opened { OnOk result (Opened image.entry.geometry image.entry.rows.now
             (D.view dram.new)) }
-        ensures machine { IfOk result (λ machine. machine ≡ record {
-          geometry = image.entry.geometry;
-          programs = prog.entry.programs;
-          table = image.entry.table;
-          turn = Ahead;
-          file = [];
-        }) }
+        ensures ready { IfOk result IsReady }
+        ensures program { IfOk result (λ machine. program_of machine ≡ prog.entry.programs) }
+        ensures shape { IfOk result (λ machine. geometry_of machine ≡ image.entry.geometry) }
+        ensures table { IfOk result (λ machine. table_in machine ≡ image.entry.table.pairs) }
+        ensures turn { IfOk result (λ machine. turn_in machine ≡ Ahead) }
         ensures failed { IsErrOf result StartNo.ChipFault
             → Rose (D.view dram.old).faults (D.view dram.new).faults }
         ensures unopened { IsErrOf result StartNo.NoMemory
@@ -145,6 +129,7 @@ impl<'a> Machine<'a> {
         dram: &mut D,
         out: &mut S,
     ) -> Result<ArrayVec<Reply, 16>, StepFault>
+        requires ready { IsReady self.old }
         requires begun { HasBegun (D.view dram.old) }
         requires geometry { (D.view dram.old).geometry ≡ geometry_of self.old }
         requires some { 0 < length instrs.now }
@@ -155,11 +140,14 @@ impl<'a> Machine<'a> {
         ensures borrow { D.borrow dram.new ≡ D.borrow dram.old }
         ensures kept { Kept (D.view dram.old) (D.view dram.new) }
         ensures sink_faults { (S.view out.old).faults ≤ (S.view out.new).faults }
-        ensures same { self.new ≡ record self.old { turn = turn_in self.new } }
+        ensures program { program_of self.new ≡ program_of self.old }
+        ensures shape { geometry_of self.new ≡ geometry_of self.old }
+        ensures table { table_in self.new ≡ table_in self.old }
         ensures replies { IfOk result (λ replies. replies.items
             ≡ map (reply_of self.old) (map view_of instrs.now)) }
         ensures turn { OnOk result (turn_in self.new
             ≡ turn_by_piece self.old (Wave (map view_of instrs.now))) }
+        ensures ready { IsReady self.new }
         ensures did { OnOk result (Did (events_by self.old (Wave (map view_of instrs.now)))
             (D.view dram.old) (D.view dram.new)) }
         ensures rises { OnOk result (RisesAtMost (256 * WALK_MAX) (D.view dram.old).counters
@@ -199,10 +187,9 @@ impl<'a> Machine<'a> {
             Err(_) => return Err(StepFault::ChipFault),
         };
         match put_lines(number, replies.as_slice(), out) {
-            Ok(()) => {}
-            Err(_) => return Err(StepFault::WriteFault),
+            Ok(()) => Ok(replies),
+            Err(_) => Err(StepFault::WriteFault),
         }
-        Ok(replies)
     }
 
     /// Does one instruction, and puts its line. A bbop is a wave of one. It takes no memory.
@@ -213,6 +200,7 @@ impl<'a> Machine<'a> {
         dram: &mut D,
         out: &mut S,
     ) -> Result<Reply, StepFault>
+        requires ready { IsReady self.old }
         requires begun { HasBegun (D.view dram.old) }
         requires geometry { (D.view dram.old).geometry ≡ geometry_of self.old }
         requires plain { IsPlain (view_of instr.now) }
@@ -220,13 +208,14 @@ impl<'a> Machine<'a> {
         ensures borrow { D.borrow dram.new ≡ D.borrow dram.old }
         ensures kept { Kept (D.view dram.old) (D.view dram.new) }
         ensures sink_faults { (S.view out.old).faults ≤ (S.view out.new).faults }
-        ensures same { self.new
-            ≡ record self.old { table = self.new.table; turn = turn_in self.new } }
+        ensures program { program_of self.new ≡ program_of self.old }
+        ensures shape { geometry_of self.new ≡ geometry_of self.old }
         ensures reply { IfOk result (λ reply. reply ≡ reply_of self.old (view_of instr.now)) }
         ensures table { OnOk result (table_in self.new
             ≡ moved_table self.old (view_of instr.now)) }
         ensures turn { OnOk result (turn_in self.new
             ≡ turn_by_piece self.old (piece_of (view_of instr.now))) }
+        ensures ready { IsReady self.new }
         ensures did { OnOk result (DidAndRead (events_by self.old (piece_of (view_of instr.now)))
             (reads_by self.old (view_of instr.now)) (D.view dram.old) (D.view dram.new)) }
         ensures rises { OnOk result (RisesAtMost (16 * WALK_MAX) (D.view dram.old).counters
@@ -268,17 +257,16 @@ impl<'a> Machine<'a> {
             (reply_line self.old number (D.view dram.old).banks (view_of instr.now)))
             (S.view out.old).sent (S.view out.new).sent) }
     {
-        let _ = &self.geometry;
         self.step_of(number, instr, dram, out)
     }
 
     /// The objects. An image of this shape may have them: the bytes that spell the table are read
     /// as it.
     pub fn table(&self) -> &Table
-        ensures objects { result.now ≡ self.now.table }
-        ensures lies { LiesOn (geometry_of self.now) self.now.table }
-        ensures read { table_at (geometry_of self.now) 0 (table_bytes (table_in self.now))
-            ≡ Ok (table_in self.now) }
+        ensures objects { result.now.pairs ≡ table_in self.now }
+        ensures limit { IsReady self.now → result.now.limit ≡ limit_of (geometry_of self.now) }
+        ensures read { IsReady self.now → table_at (geometry_of self.now) 0
+            (table_bytes (table_in self.now)) ≡ Ok (table_in self.now) }
     {
         prove!(usize::from(self.table.len()) <= OBJECTS_MAX);
         &self.table
@@ -293,6 +281,7 @@ impl<'a> Machine<'a> {
         dram: &mut D,
         out: &mut S,
     ) -> Result<(), StepFault>
+        requires ready { IsReady self.old }
         requires begun { HasBegun (D.view dram.old) }
         requires geometry { (D.view dram.old).geometry ≡ geometry_of self.old }
         requires stands { has_name (table_in self.old) name.now ≡ true }
@@ -300,7 +289,11 @@ impl<'a> Machine<'a> {
         ensures borrow { D.borrow dram.new ≡ D.borrow dram.old }
         ensures kept { Kept (D.view dram.old) (D.view dram.new) }
         ensures sink_faults { (S.view out.old).faults ≤ (S.view out.new).faults }
-        ensures same { self.new ≡ self.old }
+        ensures program { program_of self.new ≡ program_of self.old }
+        ensures shape { geometry_of self.new ≡ geometry_of self.old }
+        ensures table { table_in self.new ≡ table_in self.old }
+        ensures turn { turn_in self.new ≡ turn_in self.old }
+        ensures ready { IsReady self.new }
         ensures did { OnOk result (DidRead (reads_by self.old (Print name.now))
             (D.view dram.old) (D.view dram.new)) }
         ensures rises { OnOk result (RisesAtMost (16 * WIDTH_MAX) (D.view dram.old).counters
@@ -327,10 +320,9 @@ impl<'a> Machine<'a> {
         let g = self.geometry;
         let stage = &mut self.stage;
         match print(g, &self.table, number, name, shown, stage, dram, out) {
-            Ok(_) => {}
-            Err(fault) => return Err(fault),
+            Ok(_) => Ok(()),
+            Err(fault) => Err(fault),
         }
-        Ok(())
     }
 
     /// Does a `load` of these values, and puts no line. It takes no memory.
@@ -340,12 +332,17 @@ impl<'a> Machine<'a> {
         values: &[Value],
         dram: &mut D,
     ) -> Result<Reply, ChipFault>
+        requires ready { IsReady self.old }
         requires begun { HasBegun (D.view dram.old) }
         requires geometry { (D.view dram.old).geometry ≡ geometry_of self.old }
         requires room { (D.view dram.old).counters.writes < 2 ^ 62 }
         ensures borrow { D.borrow dram.new ≡ D.borrow dram.old }
         ensures kept { Kept (D.view dram.old) (D.view dram.new) }
-        ensures same { self.new ≡ self.old }
+        ensures program { program_of self.new ≡ program_of self.old }
+        ensures shape { geometry_of self.new ≡ geometry_of self.old }
+        ensures table { table_in self.new ≡ table_in self.old }
+        ensures turn { turn_in self.new ≡ turn_in self.old }
+        ensures ready { IsReady self.new }
         ensures reply { IfOk result (λ reply. reply
             ≡ reply_of self.old (Load name.now values.now)) }
         ensures did { OnOk result (Did (events_by self.old (Alone (Load name.now values.now)))
@@ -370,6 +367,7 @@ impl<'a> Machine<'a> {
     /// Reads every row of the chip, and spells the image file: the shape, the table and the rows.
     /// It takes no memory.
     pub fn image<D: Dram>(&mut self, dram: &mut D) -> Result<(), ChipFault>
+        requires ready { IsReady self.old }
         requires begun { HasBegun (D.view dram.old) }
         requires geometry { (D.view dram.old).geometry ≡ geometry_of self.old }
         requires room { (D.view dram.old).counters.reads < 2 ^ 62 }
@@ -379,7 +377,11 @@ impl<'a> Machine<'a> {
             * (geometry_of self.old).rows) (D.view dram.old) (D.view dram.new)) }
         ensures file { OnOk result (file_of self.new ≡ image_bytes (geometry_of self.old)
             (table_in self.old) (rows_in_banks (D.view dram.old).banks)) }
-        ensures same { self.new ≡ record self.old { file = file_of self.new } }
+        ensures ready { IsReady self.new }
+        ensures program { program_of self.new ≡ program_of self.old }
+        ensures shape { geometry_of self.new ≡ geometry_of self.old }
+        ensures table { table_in self.new ≡ table_in self.old }
+        ensures turn { turn_in self.new ≡ turn_in self.old }
         ensures failed { OnErr result (Rose (D.view dram.old).faults (D.view dram.new).faults) }
         ensures no_event { Grew (D.view dram.old).log (D.view dram.new).log [] }
     {
@@ -391,6 +393,7 @@ impl<'a> Machine<'a> {
     /// Reads every row of the chip, and spells the image file with these objects in place of the
     /// machine's own. It takes no memory.
     pub fn image_with<D: Dram>(&mut self, table: &Table, dram: &mut D) -> Result<(), ChipFault>
+        requires ready { IsReady self.old }
         requires begun { HasBegun (D.view dram.old) }
         requires geometry { (D.view dram.old).geometry ≡ geometry_of self.old }
         requires room { (D.view dram.old).counters.reads < 2 ^ 62 }
@@ -400,7 +403,11 @@ impl<'a> Machine<'a> {
             * (geometry_of self.old).rows) (D.view dram.old) (D.view dram.new)) }
         ensures file { OnOk result (file_of self.new ≡ image_bytes (geometry_of self.old)
             table.now.pairs (rows_in_banks (D.view dram.old).banks)) }
-        ensures same { self.new ≡ record self.old { file = file_of self.new } }
+        ensures ready { IsReady self.new }
+        ensures program { program_of self.new ≡ program_of self.old }
+        ensures shape { geometry_of self.new ≡ geometry_of self.old }
+        ensures table { table_in self.new ≡ table_in self.old }
+        ensures turn { turn_in self.new ≡ turn_in self.old }
         ensures failed { OnErr result (Rose (D.view dram.old).faults (D.view dram.new).faults) }
         ensures no_event { Grew (D.view dram.old).log (D.view dram.new).log [] }
     {

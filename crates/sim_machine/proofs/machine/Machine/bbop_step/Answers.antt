@@ -1,5 +1,3 @@
-use Rattle.sim_machine.specs.State.{State}
-use Rattle.sim_machine.proofs.Keeping.{turned}
 use Rattle.std.proofs.Common.{ap, map, ◌∙◌}
 use Rattle.std.specs.Prelude.{Err}
 use Rattle.bbop_isa.specs.Forms.{view_of}
@@ -12,8 +10,10 @@ returns-in-Err-clause-went g c =
     record {
       kept = c.wave.ensures.kept;
       sink_faults = c.wave.ensures.sink_faults;
-      same = turned c.args.self.now c.wave.new.self c.wave.ensures.same;
-      comes = bbop_failed _ _ _ _ _ _ _ _ _ is c.requires.bbop c.in-Err.fault (ap (λ (s : State). s.table.pairs) c.in-Err.ensures.same)
+      program = c.wave.ensures.program;
+      shape = c.wave.ensures.shape;
+      ready = c.wave.ensures.ready;
+      comes = bbop_failed _ _ _ _ _ _ _ _ _ is c.requires.bbop c.in-Err.fault c.in-Err.ensures.table
           (λ e. c.in-Err.ensures.turn_unsent (ap Err e))
           (λ e. c.in-Err.ensures.stopped (ap Err e)) (λ e. c.in-Err.ensures.unsent (ap Err e))
           (λ e. c.in-Err.ensures.done (ap Err e)) (λ e. c.in-Err.ensures.write_fault (ap Err e))
@@ -26,8 +26,10 @@ returns-in-Ok-clause-went g c =
     record {
       kept = c.wave.ensures.kept;
       sink_faults = c.wave.ensures.sink_faults;
-      same = turned c.args.self.now c.wave.new.self c.wave.ensures.same;
+      program = c.wave.ensures.program;
+      shape = c.wave.ensures.shape;
+      ready = c.wave.ensures.ready;
       comes = bbop_done _ _ _ _ _ _ _ _ _ is c.requires.bbop c.as_slice.result.now _
-          (ap (λ (s : State). s.table.pairs) c.in-Ok.ensures.same) (c.as_slice.ensures.value ∙ c.in-Ok.ensures.replies)
+          c.in-Ok.ensures.table (c.as_slice.ensures.value ∙ c.in-Ok.ensures.replies)
           c.in-Ok.ensures.turn c.in-Ok.ensures.did c.in-Ok.ensures.sent;
     }

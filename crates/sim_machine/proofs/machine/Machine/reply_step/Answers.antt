@@ -1,6 +1,4 @@
-use Rattle.sim_machine.specs.State.{State}
-use Rattle.sim_machine.proofs.Keeping.{turned}
-use Rattle.std.proofs.Common.{ap, arith, refl, ◌∙◌}
+use Rattle.std.proofs.Common.{arith, refl, ◌∙◌}
 use Rattle.bbop_isa.specs.Forms.{view_of}
 use Rattle.sim_machine.proofs.Stepping.{done_alone, failed_alone, leaves, same_table, unsent_alone}
 use Rattle.sim_machine.proofs.machine.Machine.reply_step.Goals as goal
@@ -12,8 +10,10 @@ returns-in-Err-clause-went g c =
     record {
       kept = c.answer.ensures.kept;
       sink_faults = omega arith;
-      same = turned c.args.self.now c.answer.new.self c.answer.ensures.same;
-      comes = failed_alone _ _ _ _ _ _ _ _ of.0 of.1 (ap (λ (s : State). s.table.pairs) c.in-Err.ensures.same)
+      program = c.answer.ensures.program;
+      shape = c.answer.ensures.shape;
+      ready = c.answer.ensures.ready;
+      comes = failed_alone _ _ _ _ _ _ _ _ of.0 of.1 c.in-Err.ensures.table
           c.in-Err.ensures.same_turn c.in-Err.ensures.failed refl;
     }
 
@@ -24,9 +24,11 @@ returns-in-Ok-put_reply-clause-went g c =
     record {
       kept = c.answer.ensures.kept;
       sink_faults = c.put_reply.ensures.faults;
-      same = turned c.args.self.now c.answer.new.self c.answer.ensures.same;
+      program = c.answer.ensures.program;
+      shape = c.answer.ensures.shape;
+      ready = c.answer.ensures.ready;
       comes = done_alone _ _ _ _ _ _ _ _ of.0 of.1 c.in-Ok.reply c.in-Ok.ensures.reply
-          ((ap (λ (s : State). s.table.pairs) c.in-Ok.ensures.same) ∙ same_table c.args.self.now instr c.requires.leaves)
+          (c.in-Ok.ensures.table ∙ same_table c.args.self.now instr c.requires.leaves)
           c.in-Ok.ensures.turn c.in-Ok.ensures.did c.in-Ok-put_reply.ensures.sent;
     }
 
@@ -37,9 +39,11 @@ returns-in-Err-put_reply-clause-went g c =
     record {
       kept = c.answer.ensures.kept;
       sink_faults = c.put_reply.ensures.faults;
-      same = turned c.args.self.now c.answer.new.self c.answer.ensures.same;
+      program = c.answer.ensures.program;
+      shape = c.answer.ensures.shape;
+      ready = c.answer.ensures.ready;
       comes = unsent_alone _ _ _ _ _ _ _ _ of.0 of.1 c.in-Ok.reply c.in-Ok.ensures.reply
-          (ap (λ (s : State). s.table.pairs) c.in-Ok.ensures.same) c.in-Ok.ensures.turn c.in-Ok.ensures.did
+          c.in-Ok.ensures.table c.in-Ok.ensures.turn c.in-Ok.ensures.did
           c.in-Err-put_reply.ensures.rose
           c.in-Err-put_reply.ensures.part;
     }

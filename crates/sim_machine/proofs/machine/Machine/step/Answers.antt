@@ -1,6 +1,3 @@
-use Rattle.std.proofs.Common.{subst}
-use Rattle.object_steps.specs.Objects.{LiesOn}
-use Rattle.sim_machine.specs.State.{State}
 use Rattle.bbop_isa.specs.Forms.{view_of}
 use Rattle.sim_machine.specs.Machine.{geometry_of, program_of, turn_in}
 use Rattle.sim_machine.proofs.Comings.{when_answered, when_chip, when_err, when_ok, when_sink}
@@ -16,8 +13,14 @@ returns-clause-kept g c = c.step_of.ensures.went.kept
 pub returns-clause-sink_faults : goal.returns-clause-sink_faults
 returns-clause-sink_faults g c = c.step_of.ensures.went.sink_faults
 
-pub returns-clause-same : goal.returns-clause-same
-returns-clause-same g c = c.step_of.ensures.went.same
+pub returns-clause-program : goal.returns-clause-program
+returns-clause-program g c = c.step_of.ensures.went.program
+
+pub returns-clause-shape : goal.returns-clause-shape
+returns-clause-shape g c = c.step_of.ensures.went.shape
+
+pub returns-clause-ready : goal.returns-clause-ready
+returns-clause-ready g c = c.step_of.ensures.went.ready
 
 pub returns-clause-reply : goal.returns-clause-reply
 returns-clause-reply g c =
@@ -47,7 +50,7 @@ pub returns-clause-rises : goal.returns-clause-rises
 returns-clause-rises g c =
     let m = c.args.self.now in
     when_ok _ _ _ _ _ _ _ _ c.step_of.result (λ reply h. instr_rises (geometry_of m)
-    (program_of m) (turn_in m) m.table (view_of c.args.instr.now) _ _ (subst (λ (s : State). LiesOn s.geometry s.table) c.self.view_is c.self.invariant.set)
+    (program_of m) (turn_in m) m.table (view_of c.args.instr.now) _ _ c.requires.ready.set
     c.requires.plain h.did.counters)
     c.step_of.ensures.went.comes
 
