@@ -1,5 +1,5 @@
 -- How many commands the compiler gives a word operation.
-use Rattle.std.specs.Prelude.{ℕ, ◌+◌, ◌-◌, ◌*◌, ◌/◌, ◌%◌}
+use Rattle.std.specs.Prelude.{ℕ, ◌+◌, ◌-◌, ◌*◌, ◌/◌}
 use Rattle.op_text.specs.declared.word_ops.WordOp.{WordOp}
 use Rattle.op_text.specs.declared.word_ops.WordOp.TheVariants as o
 use Rattle.word_mul.specs.Programs.{odd_levels, pairs_below}

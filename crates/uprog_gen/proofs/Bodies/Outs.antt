@@ -10,7 +10,7 @@ use Rattle.mig_graph.specs.Graph.{size_of}
 use Rattle.row_alloc.specs.declared.body.OutRow.{OutRow}
 use Rattle.row_alloc.specs.declared.body.Held.{Held}
 use Rattle.row_alloc.specs.Rows.{out_at}
-use Rattle.row_alloc.specs.Body.{FitBody, DoesBody, WritesLate}
+use Rattle.row_alloc.specs.Body.{FitBody, DoesBody}
 use Rattle.row_alloc.specs.declared.body.BodyRef.TheVariants.{Out}
 use Rattle.row_alloc.specs.declared.body.BodyCmd.{BodyCmd}
 use Rattle.row_alloc.specs.declared.body.BodyCmd.TheVariants.{Aap}

@@ -1,7 +1,7 @@
 -- Where the rows of the owners lie plays no part in what a body's commands count, nor in whether they
 -- are settled.
-use Rattle.std.proofs.Common.{◌≡◌, ℕ, Bool, true, false, not, cond, List, [], ◌∷◌, map, refl, ap}
-use Rattle.std.proofs.Common.{◌∙◌, Option, Some, None}
+use Rattle.std.proofs.Common.{◌≡◌, ℕ, Bool, true, cond, List, [], ◌∷◌, map, ap}
+use Rattle.std.proofs.Common.{◌∙◌}
 use Rattle.std.specs.Prelude.{◌&&◌, ◌||◌, count_by}
 use Rattle.std.proofs.lemmas.Bool.{and_parts}
 use Rattle.row_alloc.specs.declared.body.BodyCmd.{BodyCmd}
@@ -12,8 +12,8 @@ use Rattle.loop_ir.specs.Plain.StepOf.{Single, Along, Nest, Pairs, Alternate}
 use Rattle.loop_ir.specs.Loops.{all_rounds}
 use Rattle.loop_ir.specs.States.{has_states, held_of}
 use Rattle.loop_ir.specs.Costs.{is_copy}
-use Rattle.loop_laws.specs.Rooms.{Room, Marked, placed, placed_body, placed_steps}
-use Rattle.loop_laws.proofs.Alike.{HaveRows, has_like, held_like, sub_like, rounds_like}
+use Rattle.loop_laws.specs.Rooms.{Room, Marked, placed_body, placed_steps}
+use Rattle.loop_laws.proofs.Alike.{HaveRows, has_like, held_like, rounds_like}
 use Rattle.loop_laws.proofs.Summed.{rounds_sum}
 use Rattle.loop_laws.proofs.TakingTurns.{turns_tested, turns_mapped}
 use Rattle.uprog_gen.specs.Settled.{word_of, word_commands, held_commands, turn_count, is_aap}

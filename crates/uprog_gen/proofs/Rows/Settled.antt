@@ -19,11 +19,10 @@ use Rattle.loop_ir.specs.Plain.{AllInner, AllTurns, AllStep, AllParts}
 use Rattle.loop_ir.specs.Plain.InnerOf.{Alone, Across, IfOdd, Halves}
 use Rattle.loop_ir.specs.Plain.StepOf.{Single, Along, Nest, Pairs, Alternate}
 use Rattle.loop_ir.specs.Loops.{RoundOf}
-use Rattle.loop_ir.specs.States.{has_states, held_of, row_count}
+use Rattle.loop_ir.specs.States.{has_states, held_of}
 use Rattle.loop_ir.specs.Costs.{carries, is_copy}
 use Rattle.uprog_gen.specs.Code.{Part, block_of_part, blocks}
 use Rattle.uprog_gen.proofs.Rows.Issued.{round_command, rounds_commands}
-use Rattle.loop_ir.specs.Outputs.{IsOuts}
 use Rattle.uprog_gen.specs.Parts.{IsPart}
 use Rattle.uprog_gen.specs.Settled.{is_aap, is_ap, is_word_body, word_among, word_of, word_commands}
 use Rattle.uprog_gen.specs.Settled.{held_commands}

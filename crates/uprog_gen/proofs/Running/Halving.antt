@@ -1,7 +1,7 @@
 -- The code that finds how many pairs of elements a level has.
-use Rattle.std.proofs.Common.{◌≡◌, ℕ, zero, suc, ◌+◌, ◌-◌, ◌*◌, ◌^◌, ◌<◌, ◌≤◌, Bool, true, false}
-use Rattle.std.proofs.Common.{cond, List, [], ◌∷◌, ◌++◌, length, Some, refl, ap, ◌∙◌, subst, arith}
-use Rattle.std.specs.Prelude.{slice_get, slice_index, ◌==◌, ◌/◌, ◌%◌}
+use Rattle.std.proofs.Common.{◌≡◌, ℕ, zero, suc, ◌+◌, ◌-◌, ◌*◌, ◌<◌, ◌≤◌, Bool, true, false}
+use Rattle.std.proofs.Common.{cond, List, [], length, Some, refl, ap, ◌∙◌, subst, arith}
+use Rattle.std.specs.Prelude.{slice_get, slice_index, ◌==◌, ◌%◌}
 use Rattle.std.proofs.lemmas.Bool.{eq-eqb, ne_eqb}
 use Rattle.bit_rows.specs.declared.TheConstants.{WIDTH_MAX}
 use Rattle.uprog_code.specs.declared.code.Uop.{Uop}
@@ -9,8 +9,8 @@ use Rattle.uprog_code.specs.declared.code.Uop.TheVariants.{SetI, SetN, Mov, AddI
 use Rattle.uprog_code.specs.Shape.{Shape}
 use Rattle.loop_ir.specs.Loops.{elements}
 use Rattle.loop_laws.proofs.Levels.{all_elements, pairs_of}
-use Rattle.uprog_gen.specs.Code.{halve_code, level_code}
-use Rattle.uprog_gen.proofs.Running.Goes.{HasAt, has_front, has_back}
+use Rattle.uprog_gen.specs.Code.{level_code}
+use Rattle.uprog_gen.proofs.Running.Goes.{HasAt}
 use Rattle.uprog_gen.proofs.Running.Runs.{Runs, Changed, run_then, run_weaken, run_more}
 use Rattle.uprog_gen.proofs.Running.Runs.{run_at, run_set, run_add, run_sub, run_jump}
 

@@ -1,8 +1,7 @@
 -- The code's rows, with the registers as they stand at a position, are the round's.
 use Rattle.std.proofs.Common.{◌≡◌, ℕ, suc, ◌+◌, Bool, true, false, cond, List, [], ◌∷◌, map, length}
 use Rattle.std.proofs.Common.{Some, refl, sym, ap, ◌∙◌, subst, arith}
-use Rattle.std.specs.Prelude.{slice_get, slice_index, slice_index_or, ◌||◌}
-use Rattle.std.proofs.lemmas.Bool.{eqb-true}
+use Rattle.std.specs.Prelude.{slice_get, slice_index, ◌||◌}
 use Rattle.std.proofs.lemmas.List.{get_or_past}
 use Rattle.std.specs.List.{AllByRecursion}
 use Rattle.uprog_code.specs.Machine.Issue.{IssueAap, IssueAp}
@@ -30,7 +29,7 @@ use Rattle.uprog_gen.specs.declared.plan.Plan.{Plan}
 use Rattle.uprog_gen.specs.Code.{Part, row_space, register}
 use Rattle.uprog_gen.proofs.Rows.Issued.{place_row, round_ref, round_command}
 use Rattle.uprog_gen.specs.Code.{is_planned, IsPlanned, place_ref, code_ref, code_uop}
-use Rattle.loop_ir.specs.Costs.{sub_code, same_sub}
+use Rattle.loop_ir.specs.Costs.{same_sub}
 use Rattle.loop_laws.proofs.Same.{sub_true}
 use Rattle.uprog_gen.proofs.Running.Runs.{Runs, run_then, run_none, run_at, IsAt}
 use Rattle.uprog_gen.proofs.Running.Each.{AtBody}

@@ -1,10 +1,8 @@
-use Rattle.std.proofs.Common.{◌≡◌, ◌≢◌, ◌+◌, ◌≤◌, ◌<◌, [], ◌∷◌, ap, arith, length, length-append, map}
+use Rattle.std.proofs.Common.{◌≡◌, ◌≢◌, ◌+◌, ◌<◌, [], ◌∷◌, ap, arith, length, length-append, map}
 use Rattle.std.proofs.Common.{sym}
-use Rattle.std.specs.Prelude.{sum_by}
 use Rattle.std.proofs.lemmas.Bool.{eqb-true, eqb-false}
 use Rattle.uprog_code.specs.declared.code.Uop.TheVariants.{Bnez}
 use Rattle.loop_ir.specs.Plain.{turn_of}
-use Rattle.loop_ir.specs.Costs.{either_cost}
 use Rattle.uprog_gen.specs.Code.{start_code}
 use Rattle.uprog_gen.proofs.Coding.Emitted.{empty_cycle, cycle_emits, turns_short}
 use Rattle.uprog_gen.proofs.steps.emit_cycle.Goals as goal
