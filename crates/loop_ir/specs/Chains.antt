@@ -2,6 +2,8 @@
 use Rattle.std.specs.Prelude.{ℕ, ◌==◌, ◌&&◌, Bool, true, List, [], ◌∷◌, if◌then◌else◌}
 use Rattle.std.specs.Prelude.{filter}
 use Rattle.std.specs.List.{list_any, list_all}
+use Rattle.loop_ir.specs.declared.ir.Span.{Span}
+use Rattle.loop_ir.specs.declared.ir.Span.TheVariants.{Full, First, Above}
 use Rattle.loop_ir.specs.declared.ir.Place.{Place}
 use Rattle.loop_ir.specs.Plain.{Block, InnerOf, TurnOf, StepOf}
 use Rattle.loop_ir.specs.Plain.InnerOf.{Alone, Across, IfOdd, Halves}
@@ -50,6 +52,12 @@ inner_finds alive (IfOdd b ∷ ps) = finds alive b && inner_finds (common alive 
 inner_finds alive (Halves b c ∷ ps) = (finds alive b && (finds (left_by b) c
     && finds (left_by c) b)) && inner_finds (common alive (left_by c)) ps
 
+-- of what a nest leaves that which is sure: nothing where it may have no round
+abbrev pub surely : Span → List ℕ → List ℕ
+surely Full left = left
+surely First left = left
+surely Above left = []
+
 -- what bodies that take turns leave, each done once
 abbrev pub turns_left : List ℕ → List (TurnOf Block) → List ℕ
 turns_left alive [] = alive
@@ -71,5 +79,5 @@ steps_find alive (Along b ∷ ss) = loop_finds alive b && steps_find (left_by b)
 steps_find alive (Pairs b ∷ ss) = loop_finds alive b && steps_find [] ss
 steps_find alive (Alternate ts ∷ ss) = turns_find alive ts && (turns_find (turns_left alive ts) ts
     && steps_find [] ss)
-steps_find alive (Nest ps ∷ ss) = inner_finds alive ps && (inner_finds (inner_left alive ps) ps
-    && steps_find (inner_left (inner_left alive ps) ps) ss)
+steps_find alive (Nest span ps ∷ ss) = inner_finds alive ps && (inner_finds (inner_left alive ps) ps
+    && steps_find (surely span (inner_left (inner_left alive ps) ps)) ss)

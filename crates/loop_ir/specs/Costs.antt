@@ -6,6 +6,8 @@ use Rattle.std.specs.List.{list_any, list_all}
 use Rattle.mig_graph.specs.declared.Lit.{Lit}
 use Rattle.mig_graph.specs.Literals.{is_complemented, node_of}
 use Rattle.mig_graph.specs.Outputs.{lit_at}
+use Rattle.loop_ir.specs.declared.ir.Span.{Span}
+use Rattle.loop_ir.specs.declared.ir.Span.TheVariants.{Full, First, Above}
 use Rattle.loop_ir.specs.declared.ir.Sub.{Sub}
 use Rattle.loop_ir.specs.declared.ir.Sub.TheVariants.{Zero, Top, Inner as At_inner, InnerDown}
 use Rattle.loop_ir.specs.declared.ir.Sub.TheVariants.{Outer, OuterDown, Sum, DownSum, SumTwice}
@@ -153,11 +155,17 @@ either_cost t = body_cost t.each + body_cost t.last + 4
 abbrev pub turns_cost : List (TurnOf Block) → ℕ
 turns_cost ts = sum_by either_cost ts + 7
 
+-- how many instructions a nest may take beside its parts: two jump past one that may have no round
+abbrev pub span_cost : Span → ℕ
+span_cost Full = 0
+span_cost First = 0
+span_cost Above = 2
+
 -- how many instructions a step may take
 abbrev pub step_cost : StepOf Block → ℕ
 step_cost (Single b) = single_cost b
 step_cost (Along b) = body_cost b + 15
-step_cost (Nest parts) = sum_by inner_cost parts
+step_cost (Nest span parts) = span_cost span + sum_by inner_cost parts
 step_cost (Pairs b) = body_cost b + 18
 step_cost (Alternate ts) = turns_cost ts
 
@@ -176,7 +184,7 @@ inner_bodies (Halves b c) = 2
 abbrev pub step_bodies : StepOf Block → ℕ
 step_bodies (Single b) = 1
 step_bodies (Along b) = 1
-step_bodies (Nest parts) = sum_by inner_bodies parts
+step_bodies (Nest span parts) = sum_by inner_bodies parts
 step_bodies (Pairs b) = 1
 step_bodies (Alternate ts) = 2 * length ts
 

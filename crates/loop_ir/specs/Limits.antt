@@ -94,7 +94,7 @@ stays_inner b = list_all (λ p. same_sub p.sub Zero || same_sub p.sub At_inner) 
 abbrev pub step_stands : StepOf Block → Bool
 step_stands (Single b) = all_stand false false b
 step_stands (Along b) = all_stand true false b
-step_stands (Nest parts) = list_all inner_stands parts
+step_stands (Nest span parts) = list_all inner_stands parts
 step_stands (Pairs b) = all_stand true true b
 step_stands (Alternate ts) = all_turns stays_inner ts
 

@@ -1,6 +1,8 @@
 -- The rounds of a loop program.
 use Rattle.std.specs.Prelude.{ℕ, zero, suc, ◌+◌, ◌-◌, ◌*◌, ◌/◌, ◌%◌, ◌^◌, List, []}
 use Rattle.std.specs.Prelude.{◌∷◌, ◌++◌}
+use Rattle.loop_ir.specs.declared.ir.Span.{Span}
+use Rattle.loop_ir.specs.declared.ir.Span.TheVariants.{Full, First, Above}
 use Rattle.loop_ir.specs.declared.ir.Sub.{Sub}
 use Rattle.loop_ir.specs.declared.ir.Sub.TheVariants.{Zero, Top, Inner as At_inner, InnerDown}
 use Rattle.loop_ir.specs.declared.ir.Sub.TheVariants.{Outer, OuterDown, Sum, DownSum, SumTwice}
@@ -37,6 +39,18 @@ positions n o All = n
 positions n o Rest = n - o
 positions n o UpTo = o + 1
 
+-- the first outer position of a nest
+abbrev pub first_outer : Span → ℕ
+first_outer Full = 0
+first_outer First = 0
+first_outer Above = 1
+
+-- how many outer positions it has
+abbrev pub outer_count : ℕ → Span → ℕ
+outer_count n Full = n
+outer_count n First = 1
+outer_count n Above = n - 1
+
 -- how many elements level o of a count of n bits has
 abbrev pub elements : ℕ → ℕ → ℕ
 elements n o = n / 2 ^ o
@@ -68,7 +82,8 @@ turns_from (t ∷ ts) i (suc count) = one_round t.each i 0
 abbrev pub step_rounds : {A : Type 0} → ℕ → StepOf A → List (RoundOf A)
 step_rounds n (Single b) = one_round b 0 0
 step_rounds n (Along b) = rounds (λ i. one_round b i 0) 0 n
-step_rounds n (Nest parts) = rounds (λ o. inner_rounds n o parts) 0 n
+step_rounds n (Nest span parts) = rounds (λ o. inner_rounds n o parts) (first_outer span)
+    (outer_count n span)
 step_rounds n (Pairs b) = rounds (λ i. one_round b i 1) 0 (n - 1)
 step_rounds n (Alternate ts) = turns_from ts 0 (n - 1)
 

@@ -3,6 +3,8 @@ use Rattle.std.specs.Prelude.{◌&&◌, Bool, true, List, [], ◌∷◌, map}
 use Rattle.mig_graph.specs.declared.Lit.{Lit}
 use Rattle.mig_graph.specs.Graph.{Graph}
 use Rattle.row_alloc.specs.declared.body.BodyCmd.{BodyCmd}
+use Rattle.loop_ir.specs.declared.ir.Span.{Span}
+use Rattle.loop_ir.specs.declared.ir.Span.TheVariants.{Full, First, Above}
 use Rattle.loop_ir.specs.declared.ir.Place.{Place}
 use Rattle.loop_ir.specs.declared.ir.Count.{Count}
 use Rattle.loop_ir.specs.declared.ir.Body.{Body}
@@ -35,12 +37,12 @@ pub record TurnOf (A : Type 0) : Type 0 where
   pub each : A
   pub last : A
 
--- a body once, a body at each position, parts at each outer position, a body at each position that
+-- a body once, a body at each position, parts at some outer positions, a body at each position that
 -- has one above it, or bodies that take turns
 pub data StepOf (A : Type 0) : Type 0 where
   Single : A → StepOf A
   Along : A → StepOf A
-  Nest : List (InnerOf A) → StepOf A
+  Nest : Span → List (InnerOf A) → StepOf A
   Pairs : A → StepOf A
   Alternate : List (TurnOf A) → StepOf A
 
@@ -69,7 +71,9 @@ turn_of t = record { each = block_of t.each; last = block_of t.last }
 abbrev pub step_of : Step → StepOf Block
 step_of (code_step.Once b) = Single (block_of b)
 step_of (code_step.Each b) = Along (block_of b)
-step_of (code_step.Nest parts) = Nest (map inner_of parts.items)
+step_of (code_step.Nest parts) = Nest Full (map inner_of parts.items)
+step_of (code_step.First parts) = Nest First (map inner_of parts.items)
+step_of (code_step.Above parts) = Nest Above (map inner_of parts.items)
 step_of (code_step.Pairs b) = Pairs (block_of b)
 step_of (code_step.Alternate turns) = Alternate (map turn_of turns.items)
 
@@ -92,7 +96,7 @@ turn_map f t = record { each = f t.each; last = f t.last }
 abbrev pub step_map : {A B : Type 0} → (A → B) → StepOf A → StepOf B
 step_map f (Single a) = Single (f a)
 step_map f (Along a) = Along (f a)
-step_map f (Nest parts) = Nest (map (inner_map f) parts)
+step_map f (Nest span parts) = Nest span (map (inner_map f) parts)
 step_map f (Pairs a) = Pairs (f a)
 step_map f (Alternate ts) = Alternate (map (turn_map f) ts)
 
@@ -118,7 +122,7 @@ all_turns f (t ∷ ts) = (f t.each && f t.last) && all_turns f ts
 abbrev pub AllStep : {A : Type 0} → (A → Type 0) → StepOf A → Type 0
 AllStep P (Single a) = P a
 AllStep P (Along a) = P a
-AllStep P (Nest parts) = AllInner P parts
+AllStep P (Nest span parts) = AllInner P parts
 AllStep P (Pairs a) = P a
 AllStep P (Alternate ts) = AllTurns P ts
 

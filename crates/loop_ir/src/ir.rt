@@ -1,6 +1,8 @@
 //! Loop programs.
 
-ghost use Rattle.std.specs.Prelude.{◌≡◌};
+ghost use Rattle.std.specs.Prelude.{◌≡◌, map};
+ghost use Rattle.loop_ir.specs.Plain.{inner_of, step_of};
+ghost use Rattle.loop_ir.specs.Plain.StepOf.{Nest};
 
 use mig_graph::MigOuts;
 use row_alloc::BodyCmd;
@@ -100,6 +102,15 @@ pub enum Count {
     UpTo,
 }
 
+/// At which outer positions the parts of a nest are done: at all, at 0 alone, or from 1 to n - 1,
+/// which at width 1 is none.
+#[derive(Clone, Copy, PartialEq, Eq)]
+pub enum Span {
+    Full,
+    First,
+    Above,
+}
+
 /// A part of a nest: a body at each outer position, once or in a loop of its own. Where the outer
 /// positions are the levels of a count, level o has n / 2^o elements.
 #[derive(Drop)]
@@ -127,12 +138,29 @@ pub enum Step {
     Once(Body),
     Each(Body),
     Nest(Vec<Inner>),
+    /// The parts at outer position 0 alone.
+    First(Vec<Inner>),
+    /// The parts at the outer positions from 1 on. At width 1 there is no round.
+    Above(Vec<Inner>),
     /// A body at each position that has one above it: `Inner` is the position, from 0 to n - 2, and
     /// `Sum` the one above. The outer index is 1. At width 1 there is no round.
     Pairs(Body),
     /// Bodies that take turns in their order, again from the first after the last. Their subscripts
     /// are `Zero` and `Inner` alone.
     Alternate(Vec<Turn>),
+}
+
+impl Step {
+    /// The parts at these outer positions.
+    pub fn nest(span: Span, parts: Vec<Inner>) -> Step
+        ensures { step_of result ≡ Nest span (map inner_of parts.items) }
+    {
+        match span {
+            Span::Full => Step::Nest(parts),
+            Span::First => Step::First(parts),
+            Span::Above => Step::Above(parts),
+        }
+    }
 }
 
 /// Steps that are done one after another, the same at every width.

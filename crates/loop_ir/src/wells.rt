@@ -149,6 +149,8 @@ fn step_is_well_formed(step: &Step) -> bool
         Step::Once(body) => is_well_formed(body),
         Step::Each(body) => is_well_formed(body),
         Step::Nest(parts) => parts_are_well_formed(parts),
+        Step::First(parts) => parts_are_well_formed(parts),
+        Step::Above(parts) => parts_are_well_formed(parts),
         Step::Pairs(body) => is_well_formed(body),
         Step::Alternate(turns) => turns_are_well_formed(turns),
     }

@@ -2,7 +2,7 @@
 use Rattle.std.proofs.Common.{◌≡◌, ℕ, zero, suc, ◌+◌, ◌-◌, ◌*◌, ◌<◌, ◌≤◌, Bool, true, false, not}
 use Rattle.std.proofs.Common.{cond, List, [], ◌∷◌, ◌++◌, map, length, Option, Some, None, refl, sym}
 use Rattle.std.proofs.Common.{ap, ◌∙◌, ⊎_elim, arith}
-use Rattle.std.specs.Prelude.{◌==◌, ◌&&◌, ◌||◌, nat_le, nat_lt}
+use Rattle.std.specs.Prelude.{◌==◌, ◌&&◌, ◌||◌, ◌%◌, nat_le, nat_lt}
 use Rattle.std.specs.List.{list_any, list_all}
 use Rattle.std.proofs.lemmas.Bool.{cases_Bool, and_parts}
 use Rattle.std.proofs.lemmas.List.{length-map, map-append}
@@ -10,19 +10,22 @@ use Rattle.mig_graph.specs.declared.Lit.{Lit}
 use Rattle.row_alloc.specs.HeldBodies.{HeldBody, held_inputs, held_nodes, held_outs, enter_in}
 use Rattle.row_alloc.specs.HeldBodies.{leave_in, HeldNegatedIf}
 use Rattle.row_alloc.specs.declared.body.Held.{Held}
+use Rattle.loop_ir.specs.declared.ir.Span.{Span}
+use Rattle.loop_ir.specs.declared.ir.Span.TheVariants.{Full, First, Above}
 use Rattle.loop_ir.specs.declared.ir.Count.TheVariants.{All, Rest, UpTo}
 use Rattle.loop_ir.specs.declared.ir.Place.{Place}
 use Rattle.loop_ir.specs.Plain.{Block, InnerOf, TurnOf, StepOf, inner_map, turn_map}
 use Rattle.loop_ir.specs.Plain.InnerOf.{Alone, Across, IfOdd, Halves}
 use Rattle.loop_ir.specs.Plain.StepOf.{Single, Along, Nest, Pairs, Alternate}
-use Rattle.loop_ir.specs.Loops.{all_rounds}
+use Rattle.loop_ir.specs.Loops.{elements, all_rounds}
 use Rattle.loop_ir.specs.Spots.{is_state, nth_place}
 use Rattle.loop_ir.specs.Same.{same_lits, same_nodes}
 use Rattle.loop_ir.specs.States.{has_states, row_count, RowsFirst, enters, leaves, row_outs}
 use Rattle.loop_ir.specs.States.{StatesFit, same_helds, is_held_body, held_among, held_bodies}
 use Rattle.loop_ir.specs.States.{held_of}
 use Rattle.loop_ir.specs.Chains.{states_in, is_alive, finds, left_by, loop_finds, common}
-use Rattle.loop_ir.specs.Chains.{inner_left, inner_finds, turns_left, turns_find, steps_find}
+use Rattle.loop_ir.specs.Chains.{inner_left, inner_finds, surely, turns_left, turns_find}
+use Rattle.loop_ir.specs.Chains.{steps_find}
 use Rattle.loop_ir.specs.Costs.{is_copy, is_not, is_and, is_or, is_xor, is_add, body_cost, held_cost}
 use Rattle.loop_ir.specs.Costs.{turn_cost, plain_cost, rounds_cost, plain_costs, same_sub}
 use Rattle.loop_ir.specs.Limits.{is_served}
@@ -30,7 +33,7 @@ use Rattle.loop_laws.specs.Rooms.{Room, room_at, room_for, Owner, InRoom, InCell
 use Rattle.loop_laws.specs.Rooms.{placed, placed_body, placed_steps}
 use Rattle.loop_laws.specs.Forms.{are_rows_first, has_known_states}
 use Rattle.loop_laws.proofs.Summed.{nest_sum, turns_sum, steps_sum, rounds_sum, sum_is, odd_from}
-use Rattle.loop_laws.proofs.Summed.{pairs_from}
+use Rattle.loop_laws.proofs.Summed.{pairs_from, inner_sum, span_sum}
 
 -- no room stands in cells
 abbrev pub HaveRows : List Room → Type 0
@@ -265,21 +268,25 @@ module _ (rooms : List Room) (rows : HaveRows rooms) where
       (both_like _ _ _ _
       (ap (λ l. turns_find l (turns_on rooms ts)) (turns_left_like alive ts)
       ∙ turns_find_like (turns_left alive (turns_on [] ts)) ts) (steps_find_like [] ss))
-  steps_find_like alive (Nest ps ∷ ss) =
+  steps_find_like alive (Nest span ps ∷ ss) =
       let ts = placed_steps rooms ss in
       let qs = map (inner_map (placed_body rooms)) ps in
       let q0 = map (inner_map (placed_body [])) ps in
       let l0 = inner_left alive q0 in
       ap (λ c. c && (inner_finds (inner_left alive qs) qs
-      && steps_find (inner_left (inner_left alive qs) qs) ts)) (inner_finds_like alive ps)
-      ∙ ap (λ l. inner_finds alive q0 && (inner_finds l qs && steps_find (inner_left l qs) ts))
+      && steps_find (surely span (inner_left (inner_left alive qs) qs)) ts))
+      (inner_finds_like alive ps)
+      ∙ ap (λ l. inner_finds alive q0 && (inner_finds l qs
+      && steps_find (surely span (inner_left l qs)) ts))
       (inner_left_like alive ps)
-      ∙ ap (λ c. inner_finds alive q0 && (c && steps_find (inner_left l0 qs) ts))
+      ∙ ap (λ c. inner_finds alive q0 && (c
+      && steps_find (surely span (inner_left l0 qs)) ts))
       (inner_finds_like l0 ps)
-      ∙ ap (λ l. inner_finds alive q0 && (inner_finds l0 q0 && steps_find l ts))
+      ∙ ap (λ l. inner_finds alive q0 && (inner_finds l0 q0
+      && steps_find (surely span l) ts))
       (inner_left_like l0 ps)
       ∙ ap (λ c. inner_finds alive q0 && (inner_finds l0 q0 && c))
-      (steps_find_like (inner_left l0 q0) ss)
+      (steps_find_like (surely span (inner_left l0 q0)) ss)
 
   turn_like : (b : Marked) → turn_cost (placed_body rooms b) ≡ turn_cost (placed_body [] b)
   turn_like b =
@@ -337,6 +344,41 @@ module _ (f : Block → ℕ) (rooms : List Room)
       + nest_sum f n o count (map (inner_map (placed_body rooms)) ps)) (like c)
       ∙ ap (λ x. 2 * (times * (f (placed_body [] b) + f (placed_body [] c))) + x) e
 
+  inner_like : (n o left : ℕ) (ps : List (InnerOf Marked))
+      → inner_sum f n o left (map (inner_map (placed_body rooms)) ps)
+      ≡ inner_sum f n o left (map (inner_map (placed_body [])) ps)
+  inner_like n o left [] = refl
+  inner_like n o left (Alone b ∷ ps) =
+      ap (λ x. x + inner_sum f n o left (map (inner_map (placed_body rooms)) ps)) (like b)
+      ∙ ap (λ x. f (placed_body [] b) + x) (inner_like n o left ps)
+  inner_like n o left (Across All b ∷ ps) =
+      ap (λ x. n * x + inner_sum f n o left (map (inner_map (placed_body rooms)) ps)) (like b)
+      ∙ ap (λ x. n * f (placed_body [] b) + x) (inner_like n o left ps)
+  inner_like n o left (Across Rest b ∷ ps) =
+      ap (λ x. left * x + inner_sum f n o left (map (inner_map (placed_body rooms)) ps)) (like b)
+      ∙ ap (λ x. left * f (placed_body [] b) + x) (inner_like n o left ps)
+  inner_like n o left (Across UpTo b ∷ ps) =
+      ap (λ x. (o + 1) * x + inner_sum f n o left (map (inner_map (placed_body rooms)) ps)) (like b)
+      ∙ ap (λ x. (o + 1) * f (placed_body [] b) + x) (inner_like n o left ps)
+  inner_like n o left (IfOdd b ∷ ps) =
+      let times = elements n o % 2 in
+      ap (λ x. times * x + inner_sum f n o left (map (inner_map (placed_body rooms)) ps)) (like b)
+      ∙ ap (λ x. times * f (placed_body [] b) + x) (inner_like n o left ps)
+  inner_like n o left (Halves b c ∷ ps) =
+      let times = elements n (o + 1) in
+      let rest = inner_sum f n o left (map (inner_map (placed_body rooms)) ps) in
+      ap (λ x. times * (x + f (placed_body rooms c)) + rest) (like b)
+      ∙ ap (λ x. times * (f (placed_body [] b) + x) + rest) (like c)
+      ∙ ap (λ x. times * (f (placed_body [] b) + f (placed_body [] c)) + x)
+      (inner_like n o left ps)
+
+  span_like : (n : ℕ) (span : Span) (ps : List (InnerOf Marked))
+      → span_sum f n span (map (inner_map (placed_body rooms)) ps)
+      ≡ span_sum f n span (map (inner_map (placed_body [])) ps)
+  span_like n Full ps = nest_like n 0 n ps
+  span_like n First ps = ap (λ x. 2 * x) (inner_like n 0 n ps)
+  span_like n Above ps = nest_like n 1 (n - 1) ps
+
   turns_like : (ts : List (TurnOf Marked)) (count : ℕ)
       → turns_sum f (map (turn_map (placed_body rooms)) ts) count
       ≡ turns_sum f (map (turn_map (placed_body [])) ts) count
@@ -359,9 +401,9 @@ module _ (f : Block → ℕ) (rooms : List Room)
   sum_like n (Along b ∷ ss) =
       ap (λ x. 2 * (n * x) + steps_sum f n (placed_steps rooms ss)) (like b)
       ∙ ap (λ x. 2 * (n * f (placed_body [] b)) + x) (sum_like n ss)
-  sum_like n (Nest ps ∷ ss) =
-      ap (λ x. x + steps_sum f n (placed_steps rooms ss)) (nest_like n 0 n ps)
-      ∙ ap (λ x. nest_sum f n 0 n (map (inner_map (placed_body [])) ps) + x) (sum_like n ss)
+  sum_like n (Nest span ps ∷ ss) =
+      ap (λ x. x + steps_sum f n (placed_steps rooms ss)) (span_like n span ps)
+      ∙ ap (λ x. span_sum f n span (map (inner_map (placed_body [])) ps) + x) (sum_like n ss)
   sum_like n (Pairs b ∷ ss) =
       ap (λ x. 2 * ((n - 1) * x) + steps_sum f n (placed_steps rooms ss)) (like b)
       ∙ ap (λ x. 2 * ((n - 1) * f (placed_body [] b)) + x) (sum_like n ss)

@@ -25,7 +25,7 @@ module _ (P Q R : Block → Type 0) (f : (b : Block) → P b → Q b → R b) wh
   step_both : (s : StepOf Block) → AllStep P s → AllStep Q s → AllStep R s
   step_both (Single b) p q = f b p q
   step_both (Along b) p q = f b p q
-  step_both (Nest xs) p q = inner_both xs p q
+  step_both (Nest span xs) p q = inner_both xs p q
   step_both (Pairs b) p q = f b p q
   step_both (Alternate ts) p q = turns_both P Q R f ts p q
 

@@ -2,6 +2,7 @@
 use Rattle.std.proofs.Common.{ℕ, zero, suc, ◌+◌, ◌-◌, ◌≤◌, List, [], ◌∷◌, map, arith}
 use Rattle.std.specs.Prelude.{◌%◌}
 use Rattle.std.specs.List.{AllByRecursion}
+use Rattle.loop_ir.specs.Loops.{step_rounds, first_outer, outer_count}
 use Rattle.loop_ir.specs.Plain.{Block, InnerOf, TurnOf, StepOf, inner_map, turn_map, step_map}
 use Rattle.loop_ir.specs.Plain.{AllInner, AllTurns, AllParts}
 use Rattle.loop_ir.specs.Plain.InnerOf.{Alone, Across, IfOdd, Halves}
@@ -50,8 +51,9 @@ module _ (P : Block → Type 0) where
   each_round n (Single b ∷ ss) all = (all.0, each_round n ss all.1)
   each_round n (Along b ∷ ss) all = all_append OfPart (rounds (λ i. one_round b i 0) 0 n)
       (all_rounds n ss) (each b 0 0 n all.0) (each_round n ss all.1)
-  each_round n (Nest xs ∷ ss) all = all_append OfPart (rounds (λ o. inner_rounds n o xs) 0 n)
-      (all_rounds n ss) (over (λ o. inner_rounds n o xs) (λ o. inners n o xs all.0) 0 n)
+  each_round n (Nest span xs ∷ ss) all = all_append OfPart (step_rounds n (Nest span xs))
+      (all_rounds n ss) (over (λ o. inner_rounds n o xs) (λ o. inners n o xs all.0)
+      (first_outer span) (outer_count n span))
       (each_round n ss all.1)
   each_round n (Pairs b ∷ ss) all = all_append OfPart (rounds (λ i. one_round b i 1) 0 (n - 1))
       (all_rounds n ss) (each b 1 0 (n - 1) all.0) (each_round n ss all.1)
@@ -76,7 +78,7 @@ module _ (P : Block → Type 0) where
     all_made [] = tt
     all_made (Single b ∷ ss) = (h b, all_made ss)
     all_made (Along b ∷ ss) = (h b, all_made ss)
-    all_made (Nest xs ∷ ss) = (inners_made xs, all_made ss)
+    all_made (Nest span xs ∷ ss) = (inners_made xs, all_made ss)
     all_made (Pairs b ∷ ss) = (h b, all_made ss)
     all_made (Alternate ts ∷ ss) = (turns_made ts, all_made ss)
 

@@ -6,6 +6,9 @@ use Rattle.std.specs.Prelude.{◌%◌, ◌&&◌, ◌==◌, nat_le}
 use Rattle.std.specs.List.{AllByRecursion, list_all}
 use Rattle.std.proofs.lemmas.Bool.{cases_eq, cases_lt, and_parts, eqb-true}
 use Rattle.std.proofs.lemmas.List.{length-map}
+use Rattle.loop_ir.specs.declared.ir.Span.{Span}
+use Rattle.loop_ir.specs.declared.ir.Span.TheVariants.{Full, First, Above}
+use Rattle.loop_ir.specs.Loops.{step_rounds, first_outer, outer_count}
 use Rattle.loop_ir.specs.declared.ir.Space.{Space}
 use Rattle.loop_ir.specs.declared.ir.Space.TheVariants.{Result, Source, ScratchBit, ScratchWord}
 use Rattle.loop_ir.specs.declared.ir.Space.TheVariants.{Cells}
@@ -358,6 +361,12 @@ all_rounds_of P f i zero limit e h = tt
 all_rounds_of P f i (suc count) limit e h = all_append P (f i) (rounds f (i + 1) count)
     (h i (omega arith)) (all_rounds_of P f (i + 1) count limit (omega arith) h)
 
+-- the outer positions of a nest are below n
+span_fits : (n : ℕ) (span : Span) → 0 < n → first_outer span + outer_count n span ≤ n
+span_fits n Full some = omega arith
+span_fits n First some = omega arith
+span_fits n Above some = omega arith
+
 reach_ok : (n : ℕ) (c : Count) (i o : ℕ) → o < n → i < positions n o c
     → InnerOk n i o (reach_of c)
 reach_ok n All i o lo lt = lt
@@ -418,12 +427,13 @@ module _ (n : ℕ) (rooms : List Room) (some : 0 < n) (are : RoomsApart n rooms)
       (all_rounds_of (IsRound (IsOwned n rooms) n) (λ i. one_round (placed_body rooms b) i 0) 0 n n
       (omega arith) (λ i lt. (round_is n rooms some are rows Whole false b fit.0 i 0 lt tt, tt)))
       (rounds_are ss fit.1)
-  rounds_are (Nest ps ∷ ss) fit = all_append (IsRound (IsOwned n rooms) n)
-      (rounds (λ o. inner_rounds n o (map (inner_map (placed_body rooms)) ps)) 0 n)
+  rounds_are (Nest span ps ∷ ss) fit =
+      let qs = map (inner_map (placed_body rooms)) ps in
+      all_append (IsRound (IsOwned n rooms) n) (step_rounds n (Nest span qs))
       (all_rounds n (placed_steps rooms ss))
-      (all_rounds_of (IsRound (IsOwned n rooms) n) (λ o.
-      inner_rounds n o (map (inner_map (placed_body rooms)) ps)) 0 n n (omega arith)
-      (λ o lt. inners_are ps o lt fit.0))
+      (all_rounds_of (IsRound (IsOwned n rooms) n) (λ o. inner_rounds n o qs) (first_outer span)
+      (outer_count n span) (first_outer span + outer_count n span) refl
+      (λ o lt. inners_are ps o (omega (arith, lt, span_fits n span some)) fit.0))
       (rounds_are ss fit.1)
   rounds_are (Pairs b ∷ ss) fit = all_append (IsRound (IsOwned n rooms) n)
       (rounds (λ i. one_round (placed_body rooms b) i 1) 0 (n - 1))
@@ -504,7 +514,7 @@ module _ (n : ℕ) (rooms : List Room) (some : 0 < n) (are : RoomsApart n rooms)
       let a = and_parts (has_room (placed_body rooms b)) _ e in
       let k = and_parts (has_known_states (placed_body [] b)) _ h in
       (slim_is n rooms some are rows Whole false b fit.0 a.0 k.0, steps_slim ss fit.1 a.1 k.1)
-  steps_slim (Nest ps ∷ ss) fit e h =
+  steps_slim (Nest span ps ∷ ss) fit e h =
       let a = and_parts (inners_have_room (map (inner_map (placed_body rooms)) ps)) _ e in
       let k = and_parts (inners_have_known (map (inner_map (placed_body [])) ps)) _ h in
       (inners_slim ps fit.0 a.0 k.0, steps_slim ss fit.1 a.1 k.1)

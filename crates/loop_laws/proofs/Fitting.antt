@@ -68,7 +68,7 @@ abbrev pub StepsFit : List Room → List (StepOf Marked) → Type 0
 StepsFit rooms [] = Unit {0}
 StepsFit rooms (Single b ∷ ss) = BodyFits Nowhere false rooms b.reads b.writes × StepsFit rooms ss
 StepsFit rooms (Along b ∷ ss) = BodyFits Whole false rooms b.reads b.writes × StepsFit rooms ss
-StepsFit rooms (Nest ps ∷ ss) = InnersFit rooms ps × StepsFit rooms ss
+StepsFit rooms (Nest span ps ∷ ss) = InnersFit rooms ps × StepsFit rooms ss
 StepsFit rooms (Pairs b ∷ ss) = BodyFits Left true rooms b.reads b.writes × StepsFit rooms ss
 StepsFit rooms (Alternate t ∷ ss) = AllTurns (λ (b : Marked). BodyFits Whole false rooms b.reads b.writes)
     t × StepsFit rooms ss

@@ -199,7 +199,7 @@ steps_are_fit rooms (Single b ∷ ss) e = let a =
 steps_are_fit rooms (Along b ∷ ss) e = let a =
     and_parts (body_fits Whole false rooms b) (steps_fit rooms ss) e in
     (body_is_fit Whole false rooms b a.0, steps_are_fit rooms ss a.1)
-steps_are_fit rooms (Nest ps ∷ ss) e = let a =
+steps_are_fit rooms (Nest span ps ∷ ss) e = let a =
     and_parts (inners_fit rooms ps) (steps_fit rooms ss) e in
     (inners_are_fit rooms ps a.0, steps_are_fit rooms ss a.1)
 steps_are_fit rooms (Pairs b ∷ ss) e = let a =

@@ -4,6 +4,7 @@ use Rattle.std.proofs.Common.{length, refl, ap, ◌∙◌, arith}
 use Rattle.std.specs.Prelude.{◌||◌, ◌&&◌}
 use Rattle.std.specs.List.{list_any, list_all}
 use Rattle.std.proofs.lemmas.Bool.{and_from}
+use Rattle.loop_ir.specs.Chains.{surely}
 use Rattle.loop_ir.specs.declared.ir.Place.{Place}
 use Rattle.loop_ir.specs.Plain.{Block, InnerOf, TurnOf, StepOf, AllInner, AllTurns, AllParts}
 use Rattle.loop_ir.specs.Plain.InnerOf.{Alone, Across, IfOdd, Halves}
@@ -100,8 +101,8 @@ no_state_sought alive (Alternate ts ∷ ss) all =
     (turns_rows alive ts all.0)
     (and_from (turns_find again ts) (steps_find [] ss) (turns_rows again ts all.0)
     (no_state_sought [] ss all.1))
-no_state_sought alive (Nest ps ∷ ss) all =
+no_state_sought alive (Nest span ps ∷ ss) all =
     let once = inner_left alive ps in
     and_from (inner_finds alive ps) _ (inner_rows alive ps all.0)
     (and_from (inner_finds once ps) _ (inner_rows once ps all.0)
-    (no_state_sought (inner_left once ps) ss all.1))
+    (no_state_sought (surely span (inner_left once ps)) ss all.1))

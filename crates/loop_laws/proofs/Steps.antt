@@ -1,6 +1,7 @@
 -- Steps one after another.
 use Rattle.std.proofs.Common.{◌≡◌, ℕ, zero, suc, ◌+◌, ◌-◌, List, [], ◌∷◌, ◌++◌, refl, sym, ap}
 use Rattle.std.proofs.Common.{◌∙◌, arith}
+use Rattle.loop_ir.specs.declared.ir.Span.TheVariants.{Full, First, Above}
 use Rattle.loop_ir.specs.Plain.{Block, InnerOf, TurnOf, StepOf}
 use Rattle.loop_ir.specs.Plain.InnerOf.{Alone, Across, IfOdd, Halves}
 use Rattle.loop_ir.specs.Plain.StepOf.{Along, Nest, Pairs, Alternate}
@@ -115,11 +116,49 @@ outer_more n ps o (suc count) bits =
     ∙ outer_more n ps (suc o) count bits
     ∙ ap (λ x. after_outer n ps x bits) f
 
+-- as many outer positions from 1 on
+abbrev pub after_above : ℕ → List (InnerOf Block) → ℕ → Spots → Spots
+after_above n ps zero bits = bits
+after_above n ps (suc o) bits = after_parts n (suc o) ps (after_above n ps o bits)
+
+above_more : (n : ℕ) (ps : List (InnerOf Block)) (o count : ℕ) (bits : Spots)
+    → after_rounds n (rounds (λ j. inner_rounds n j ps) (suc o) count) (after_above n ps o bits)
+    ≡ after_above n ps (o + count) bits
+above_more n ps o zero bits = let e : o + 0 ≡ o = omega arith in
+    ap (λ x. after_above n ps x bits) (sym e)
+above_more n ps o (suc count) bits =
+    let e : suc o + 1 ≡ suc (suc o) = omega arith in
+    let f : suc o + count ≡ o + suc count = omega arith in
+    rounds_append n (inner_rounds n (suc o) ps) (rounds (λ j. inner_rounds n j ps) (suc o + 1) count)
+    (after_above n ps o bits)
+    ∙ ap (after_rounds n (rounds (λ j. inner_rounds n j ps) (suc o + 1) count))
+    (parts_is n (suc o) ps (after_above n ps o bits))
+    ∙ ap (λ x. after_rounds n (rounds (λ j. inner_rounds n j ps) x count)
+    (after_above n ps (suc o) bits)) e
+    ∙ above_more n ps (suc o) count bits
+    ∙ ap (λ x. after_above n ps x bits) f
+
 -- a nest, and then the steps after it
 pub steps_nest : (n : ℕ) (ps : List (InnerOf Block)) (ss : List (StepOf Block)) (bits : Spots)
-    → after_steps n (Nest ps ∷ ss) bits ≡ after_steps n ss (after_outer n ps n bits)
+    → after_steps n (Nest Full ps ∷ ss) bits ≡ after_steps n ss (after_outer n ps n bits)
 steps_nest n ps ss bits =
     let e : 0 + n ≡ n = omega arith in
     rounds_append n (rounds (λ o. inner_rounds n o ps) 0 n) (all_rounds n ss) bits
     ∙ ap (after_rounds n (all_rounds n ss)) (outer_more n ps 0 n bits
     ∙ ap (λ x. after_outer n ps x bits) e)
+
+-- a nest at the first outer position alone
+pub steps_first : (n : ℕ) (ps : List (InnerOf Block)) (ss : List (StepOf Block)) (bits : Spots)
+    → after_steps n (Nest First ps ∷ ss) bits ≡ after_steps n ss (after_parts n 0 ps bits)
+steps_first n ps ss bits =
+    rounds_append n (rounds (λ o. inner_rounds n o ps) 0 1) (all_rounds n ss) bits
+    ∙ ap (after_rounds n (all_rounds n ss)) (outer_more n ps 0 1 bits)
+
+-- a nest from the second one on
+pub steps_above : (n : ℕ) (ps : List (InnerOf Block)) (ss : List (StepOf Block)) (bits : Spots)
+    → after_steps n (Nest Above ps ∷ ss) bits ≡ after_steps n ss (after_above n ps (n - 1) bits)
+steps_above n ps ss bits =
+    let e : 0 + (n - 1) ≡ n - 1 = omega arith in
+    rounds_append n (rounds (λ o. inner_rounds n o ps) 1 (n - 1)) (all_rounds n ss) bits
+    ∙ ap (after_rounds n (all_rounds n ss)) (above_more n ps 0 (n - 1) bits
+    ∙ ap (λ x. after_above n ps x bits) e)

@@ -4,12 +4,14 @@ use Rattle.std.proofs.Common.{ap, ◌∙◌, arith, append-nil, append_assoc, le
 use Rattle.std.specs.Prelude.{sum_by, ◌%◌}
 use Rattle.std.specs.List.{AllByRecursion}
 use Rattle.std.proofs.lemmas.List.Sums.{sum_by-cons, sum_by-append}
+use Rattle.loop_ir.specs.declared.ir.Span.{Span}
+use Rattle.loop_ir.specs.declared.ir.Span.TheVariants.{Full, First, Above}
 use Rattle.loop_ir.specs.declared.ir.Count.TheVariants.{All, Rest, UpTo}
 use Rattle.loop_ir.specs.Plain.{Block, InnerOf, TurnOf, StepOf}
 use Rattle.loop_ir.specs.Plain.InnerOf.{Alone, Across, IfOdd, Halves}
 use Rattle.loop_ir.specs.Plain.StepOf.{Single, Along, Nest, Pairs, Alternate}
 use Rattle.loop_ir.specs.Loops.{RoundOf, round_at, one_round, rounds, inner_rounds}
-use Rattle.loop_ir.specs.Loops.{elements, two_rounds, turns_from, all_rounds}
+use Rattle.loop_ir.specs.Loops.{elements, two_rounds, turns_from, step_rounds, all_rounds}
 
 -- a number of each body, summed over all rounds
 abbrev pub rounds_sum : (Block → ℕ) → List (RoundOf Block) → ℕ
@@ -48,12 +50,29 @@ abbrev pub cycle_sum : (Block → ℕ) → List (TurnOf Block) → ℕ
 cycle_sum f [] = 0
 cycle_sum f (t ∷ ts) = f t.each + cycle_sum f ts
 
+-- the sum over the parts of a nest at one outer position, from which on so many are left
+abbrev pub inner_sum : (Block → ℕ) → ℕ → ℕ → ℕ → List (InnerOf Block) → ℕ
+inner_sum f n o left [] = 0
+inner_sum f n o left (Alone b ∷ ps) = f b + inner_sum f n o left ps
+inner_sum f n o left (Across All b ∷ ps) = n * f b + inner_sum f n o left ps
+inner_sum f n o left (Across Rest b ∷ ps) = left * f b + inner_sum f n o left ps
+inner_sum f n o left (Across UpTo b ∷ ps) = (o + 1) * f b + inner_sum f n o left ps
+inner_sum f n o left (IfOdd b ∷ ps) = elements n o % 2 * f b + inner_sum f n o left ps
+inner_sum f n o left (Halves b c ∷ ps) = elements n (o + 1) * (f b + f c)
+    + inner_sum f n o left ps
+
+-- twice the sum over a nest
+abbrev pub span_sum : (Block → ℕ) → ℕ → Span → List (InnerOf Block) → ℕ
+span_sum f n Full ps = nest_sum f n 0 n ps
+span_sum f n First ps = 2 * inner_sum f n 0 n ps
+span_sum f n Above ps = nest_sum f n 1 (n - 1) ps
+
 -- twice the sum of all steps
 abbrev pub steps_sum : (Block → ℕ) → ℕ → List (StepOf Block) → ℕ
 steps_sum f n [] = 0
 steps_sum f n (Single b ∷ ss) = 2 * f b + steps_sum f n ss
 steps_sum f n (Along b ∷ ss) = 2 * (n * f b) + steps_sum f n ss
-steps_sum f n (Nest ps ∷ ss) = nest_sum f n 0 n ps + steps_sum f n ss
+steps_sum f n (Nest span ps ∷ ss) = span_sum f n span ps + steps_sum f n ss
 steps_sum f n (Pairs b ∷ ss) = 2 * ((n - 1) * f b) + steps_sum f n ss
 steps_sum f n (Alternate t ∷ ss) = 2 * turns_sum f t (n - 1) + steps_sum f n ss
 
@@ -93,17 +112,8 @@ module _ (f : Block → ℕ) where
       let d = more (round_at c i o) rest in
       omega (arith, a, d, e)
 
-  abbrev inner_sum : ℕ → ℕ → ℕ → List (InnerOf Block) → ℕ
-  inner_sum n o left [] = 0
-  inner_sum n o left (Alone b ∷ ps) = f b + inner_sum n o left ps
-  inner_sum n o left (Across All b ∷ ps) = n * f b + inner_sum n o left ps
-  inner_sum n o left (Across Rest b ∷ ps) = left * f b + inner_sum n o left ps
-  inner_sum n o left (Across UpTo b ∷ ps) = (o + 1) * f b + inner_sum n o left ps
-  inner_sum n o left (IfOdd b ∷ ps) = elements n o % 2 * f b + inner_sum n o left ps
-  inner_sum n o left (Halves b c ∷ ps) = elements n (o + 1) * (f b + f c) + inner_sum n o left ps
-
   inner_is : (n o left : ℕ) (ps : List (InnerOf Block)) → n - o ≡ left
-      → rounds_sum f (inner_rounds n o ps) ≡ inner_sum n o left ps
+      → rounds_sum f (inner_rounds n o ps) ≡ inner_sum f n o left ps
   inner_is n o left [] e = refl
   inner_is n o left (Alone b ∷ ps) e = more (round_at b 0 o) (inner_rounds n o ps)
       ∙ ap (λ x. f b + x) (inner_is n o left ps e)
@@ -129,7 +139,7 @@ module _ (f : Block → ℕ) where
       ∙ ap (λ x. m * (f b + f c) + x) (inner_is n o left ps e)
 
   one_more : (n o count : ℕ) (ps : List (InnerOf Block)) → nest_sum f n o (suc count) ps
-      ≡ 2 * inner_sum n o (suc count) ps + nest_sum f n (o + 1) count ps
+      ≡ 2 * inner_sum f n o (suc count) ps + nest_sum f n (o + 1) count ps
   one_more n o count [] = refl
   one_more n o count (Alone b ∷ ps) = let e = one_more n o count ps in omega (arith, e)
   one_more n o count (Across All b ∷ ps) = let e = one_more n o count ps in omega (arith, e)
@@ -157,6 +167,14 @@ module _ (f : Block → ℕ) where
       let all = sum_append (g o) (rounds g (o + 1) count) in
       omega (arith, all, one, h, one_more n o count ps)
 
+  span_is : (n : ℕ) (span : Span) (ps : List (InnerOf Block))
+      → 2 * rounds_sum f (step_rounds n (Nest span ps)) ≡ span_sum f n span ps
+  span_is n Full ps = nest_is n ps 0 n (omega arith)
+  span_is n First ps = let e = sum_append (inner_rounds n 0 ps) [] in
+      let g = inner_is n 0 n ps (omega arith) in omega (arith, e, g)
+  span_is zero Above ps = sym (none 0 1 ps)
+  span_is (suc k) Above ps = nest_is (suc k) ps 1 (suc k - 1) (omega arith)
+
   pub sum_is : (n : ℕ) (ss : List (StepOf Block))
       → 2 * rounds_sum f (all_rounds n ss) ≡ steps_sum f n ss
   sum_is n [] = refl
@@ -165,9 +183,9 @@ module _ (f : Block → ℕ) where
   sum_is n (Along b ∷ ss) = let e = sum_is n ss in
       let a = sum_append (rounds (λ j. one_round b j 0) 0 n) (all_rounds n ss) in
       let c = sum_each b 0 0 n in omega (arith, e, a, c)
-  sum_is n (Nest ps ∷ ss) = let e = sum_is n ss in
-      let a = sum_append (rounds (λ o. inner_rounds n o ps) 0 n) (all_rounds n ss) in
-      let c = nest_is n ps 0 n (omega arith) in omega (arith, e, a, c)
+  sum_is n (Nest span ps ∷ ss) = let e = sum_is n ss in
+      let a = sum_append (step_rounds n (Nest span ps)) (all_rounds n ss) in
+      let c = span_is n span ps in omega (arith, e, a, c)
   sum_is n (Pairs b ∷ ss) = let e = sum_is n ss in
       let a = sum_append (rounds (λ j. one_round b j 1) 0 (n - 1)) (all_rounds n ss) in
       let c = sum_each b 1 0 (n - 1) in omega (arith, e, a, c)

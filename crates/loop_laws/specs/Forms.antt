@@ -71,7 +71,7 @@ abbrev pub steps_have_room : List (StepOf Block) → Bool
 steps_have_room [] = true
 steps_have_room (Single b ∷ ss) = has_room b && steps_have_room ss
 steps_have_room (Along b ∷ ss) = has_room b && steps_have_room ss
-steps_have_room (Nest ps ∷ ss) = inners_have_room ps && steps_have_room ss
+steps_have_room (Nest span ps ∷ ss) = inners_have_room ps && steps_have_room ss
 steps_have_room (Pairs b ∷ ss) = has_room b && steps_have_room ss
 steps_have_room (Alternate t ∷ ss) = all_turns has_room t && steps_have_room ss
 
@@ -107,7 +107,7 @@ abbrev pub steps_have_known : List (StepOf Block) → Bool
 steps_have_known [] = true
 steps_have_known (Single b ∷ ss) = has_known_states b && steps_have_known ss
 steps_have_known (Along b ∷ ss) = has_known_states b && steps_have_known ss
-steps_have_known (Nest ps ∷ ss) = inners_have_known ps && steps_have_known ss
+steps_have_known (Nest span ps ∷ ss) = inners_have_known ps && steps_have_known ss
 steps_have_known (Pairs b ∷ ss) = has_known_states b && steps_have_known ss
 steps_have_known (Alternate t ∷ ss) = all_turns has_known_states t && steps_have_known ss
 

@@ -220,6 +220,6 @@ abbrev pub steps_fit : List Room → List (StepOf Marked) → Bool
 steps_fit rooms [] = true
 steps_fit rooms (Single b ∷ ss) = body_fits Nowhere false rooms b && steps_fit rooms ss
 steps_fit rooms (Along b ∷ ss) = body_fits Whole false rooms b && steps_fit rooms ss
-steps_fit rooms (Nest ps ∷ ss) = inners_fit rooms ps && steps_fit rooms ss
+steps_fit rooms (Nest span ps ∷ ss) = inners_fit rooms ps && steps_fit rooms ss
 steps_fit rooms (Pairs b ∷ ss) = body_fits Left true rooms b && steps_fit rooms ss
 steps_fit rooms (Alternate t ∷ ss) = all_turns (body_fits Whole false rooms) t && steps_fit rooms ss
