@@ -5,6 +5,7 @@ use Rattle.bit_rows.specs.Bits.{flip_if, majority}
 use Rattle.mig_graph.specs.declared.Lit.{Lit}
 use Rattle.mig_graph.specs.Graph.{Graph, start, value}
 use Rattle.mig_graph.specs.Outputs.{lit_at}
+use Rattle.mig_graph.specs.Reduced.{IsReduced}
 use Rattle.mig_rewrite.specs.declared.sketch.Sketch.{Sketch}
 
 -- the value of a literal: twice the number of its node, and one more where it is inverted
@@ -27,13 +28,11 @@ sketch_values s bits (suc k) n = let v = sketch_values s bits k in
 abbrev pub output_value : Sketch → (ℕ → Bool) → ℕ → Bool
 output_value s bits j = short_value (sketch_values s bits s.count) (slice_index_or s.outs j 0)
 
--- the sketch has the graph's inputs, at most 12, and its outputs with their values on every input,
--- and no more nodes
+-- the sketch has the graph's inputs, at most 12, and its outputs with their values on every input
 pub record IsRight (g : Graph) (outs : List Lit) (s : Sketch) : Type 0 where
   pub inputs : s.inputs ≡ g.inputs
   pub few : g.inputs ≤ 12
   pub long : s.outputs ≡ length outs
-  pub count : s.count ≤ length g.nodes
   pub values : (bits : ℕ → Bool) (j : ℕ) → j < length outs
       → output_value s bits j ≡ value g bits (lit_at outs j)
 
@@ -44,6 +43,14 @@ pub record IsOffered (s : Sketch) (g : Graph) (outs : List Lit) : Type 0 where
   pub count : length g.nodes ≤ s.count
   pub values : (bits : ℕ → Bool) (j : ℕ) → j < length outs
       → value g bits (lit_at outs j) ≡ output_value s bits j
+
+-- what the sketch is reduced to has more nodes than the graph
+pub record IsLarger (g : Graph) (s : Sketch) : Type 0 where
+  pub graph : Graph
+  pub outs : List Lit
+  pub offered : IsOffered s graph outs
+  pub reduced : IsReduced graph outs
+  pub more : length g.nodes < length graph.nodes
 
 -- the literals have the values of the constant, the inputs and the first k nodes
 pub record Stands (g : Graph) (bits : ℕ → Bool) (lits : List Lit) (s : Sketch) (k : ℕ) : Type 0

@@ -1,6 +1,7 @@
-use Rattle.std.proofs.Common.{◌∙◌, ◌≤◌, length, sym, arith}
+use Rattle.std.proofs.Common.{◌∙◌, ◌<◌, ◌≤◌, length, sym, arith}
 use Rattle.std.proofs.lemmas.Bool.{false≢true}
 use Rattle.mig_graph.specs.Outputs.{KeepsOutputs}
+use Rattle.mig_rewrite.specs.Offers.{IsOffered}
 use Rattle.mig_rewrite.proofs.Keeping.{keeps-twice}
 use Rattle.mig_rewrite.proofs.standing.kept.Goals as goal
 
@@ -17,9 +18,23 @@ returns-clause-dropped c = λ right.
     } in
     let keeps = keeps-twice m.mig made.mig new.mig m.outs.items made.outs.items new.outs.items first
     c.in_ok-new.ensures.keeps in
-    let few : length new.mig.nodes ≤ length m.mig.nodes =
-    omega (arith, c.in_ok-new.ensures.count, c.in_ok-made.ensures.count, right.count) in
-    false≢true (sym c.if-branch.false ∙ c.in_ok-may_stand.ensures.1 (right.few, keeps, few))
+    let no : length new.mig.nodes ≤ length m.mig.nodes → ⊥ = λ few. false≢true
+        (sym c.if-branch.false ∙ c.in_ok-may_stand.ensures.1 (right.few, keeps, few)) in
+    record {
+      graph = new.mig;
+      outs = new.outs.items;
+      offered = record {
+        inputs = c.in_ok-new.ensures.keeps.inputs ∙ c.in_ok-made.ensures.inputs;
+        long = c.in_ok-new.ensures.keeps.long ∙ c.in_ok-made.ensures.long;
+        count = omega (arith, c.in_ok-new.ensures.count, c.in_ok-made.ensures.count);
+        values = λ bits j b. c.in_ok-new.ensures.keeps.values bits j
+            (omega (arith, b, c.in_ok-new.ensures.keeps.long))
+            ∙ c.in_ok-made.ensures.values bits j
+            (omega (arith, b, c.in_ok-new.ensures.keeps.long, c.in_ok-made.ensures.long));
+      };
+      reduced = c.in_ok-new.ensures.reduced;
+      more = omega (arith, no);
+    }
 
 pub returns-then-branch-clause-offered : goal.returns-then-branch-clause-offered
 returns-then-branch-clause-offered c =
