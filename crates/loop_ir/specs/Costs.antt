@@ -139,7 +139,9 @@ used_subs b = filter (is_used b) (Top ∷ At_inner ∷ InnerDown ∷ Outer ∷ O
 abbrev pub single_cost : Block → ℕ
 single_cost b = body_cost b + (if is_fixed b then 0 else 15)
 
--- how many instructions a part of a nest may take: 20 to find how many elements a level has
+-- how many instructions a part of a nest may take: 15 for its loop or its subscripts, 3 more for a
+-- loop that counts its rounds anew at each outer position, and 20 more to find how many elements a
+-- level has
 abbrev pub inner_cost : InnerOf Block → ℕ
 inner_cost (Alone b) = body_cost b + 15
 inner_cost (Across count b) = body_cost b + 18
@@ -161,7 +163,7 @@ span_cost Full = 0
 span_cost First = 0
 span_cost Above = 2
 
--- how many instructions a step may take
+-- how many instructions a step may take: 3 more for a loop that may have no round
 abbrev pub step_cost : StepOf Block → ℕ
 step_cost (Single b) = single_cost b
 step_cost (Along b) = body_cost b + 15

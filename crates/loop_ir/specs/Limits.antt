@@ -85,10 +85,11 @@ inner_stands (Across count b) = all_stand true true b
 inner_stands (IfOdd b) = all_stand false true b
 inner_stands (Halves b c) = stays_in_pair b && stays_in_pair c
 
--- every place of the body is at 0 or at the inner position: so it is with bodies that take turns,
--- for all of which one register is enough
+-- every place of the body is at 0, or at the inner position from below or from above: so it is with
+-- bodies that take turns, for all of which two registers are enough
 abbrev pub stays_inner : Block → Bool
-stays_inner b = list_all (λ p. same_sub p.sub Zero || same_sub p.sub At_inner) (b.reads ++ b.writes)
+stays_inner b = list_all (λ p. same_sub p.sub Zero || (same_sub p.sub At_inner
+    || same_sub p.sub InnerDown)) (b.reads ++ b.writes)
 
 -- so it is in a step, whose loops have the indices that its subscripts use
 abbrev pub step_stands : StepOf Block → Bool

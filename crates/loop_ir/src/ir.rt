@@ -146,7 +146,7 @@ pub enum Step {
     /// `Sum` the one above. The outer index is 1. At width 1 there is no round.
     Pairs(Body),
     /// Bodies that take turns in their order, again from the first after the last. Their subscripts
-    /// are `Zero` and `Inner` alone.
+    /// are `Zero`, `Inner` and `InnerDown` alone.
     Alternate(Vec<Turn>),
 }
 
