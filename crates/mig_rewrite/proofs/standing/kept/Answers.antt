@@ -19,7 +19,7 @@ returns-clause-dropped c = λ right.
     let keeps = keeps-twice m.mig made.mig new.mig m.outs.items made.outs.items new.outs.items first
     c.in_ok-new.ensures.keeps in
     let no : length new.mig.nodes ≤ length m.mig.nodes → ⊥ = λ few. false≢true
-        (sym c.if-branch.false ∙ c.in_ok-may_stand.ensures.1 (right.few, keeps, few)) in
+    (sym c.if-branch.false ∙ c.in_ok-may_stand.ensures.1 (right.few, keeps, few)) in
     record {
       graph = new.mig;
       outs = new.outs.items;
