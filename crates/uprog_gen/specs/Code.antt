@@ -13,6 +13,8 @@ use Rattle.row_alloc.specs.declared.body.BodyRef.TheVariants as ref
 use Rattle.row_alloc.specs.declared.body.BodyCmd.{BodyCmd}
 use Rattle.row_alloc.specs.declared.body.BodyCmd.TheVariants as cmd
 use Rattle.row_alloc.specs.declared.body.OutRow.{OutRow}
+use Rattle.loop_ir.specs.declared.ir.Span.{Span}
+use Rattle.loop_ir.specs.declared.ir.Span.TheVariants.{Full, First, Above}
 use Rattle.loop_ir.specs.declared.ir.Sub.{Sub}
 use Rattle.loop_ir.specs.declared.ir.Sub.TheVariants.{Zero, Top, Inner as At_inner, InnerDown}
 use Rattle.loop_ir.specs.declared.ir.Sub.TheVariants.{Outer, OuterDown, Sum, DownSum, SumTwice}
@@ -279,8 +281,8 @@ nest_code inner pc = SetI 0 0 ∷ SetN 1 ∷ SubI 1 1
 abbrev pub outside : List Uop
 outside = SetI 0 0 ∷ SetT 1 ∷ []
 
--- before a loop over the positions that have one above them, which ends at this place: o is 1. At
--- width 1 there is no round, and a jump leads past the loop
+-- before a loop that has no round at width 1 and ends at this place: o is 1, and a jump leads past
+-- the loop where there is none
 abbrev pub guard_code : ℕ → ℕ → List Uop
 guard_code pc end = SetI 0 1 ∷ SetT 1 ∷ Bnez 1 (pc + 1 + 1 + 1 + 1) ∷ Bnez 0 end ∷ SubI 1 1 ∷ []
 
@@ -288,6 +290,19 @@ guard_code pc end = SetI 0 1 ∷ SetT 1 ∷ Bnez 1 (pc + 1 + 1 + 1 + 1) ∷ Bnez
 abbrev pub pairs_code : Part → ℕ → List Uop
 pairs_code p pc = let q = pc + 1 + 1 + 1 + 1 + 1 in
     guard_code pc (q + length (loop_code Rest p q)) ++ loop_code Rest p q
+
+-- an outer loop from the second position on
+abbrev pub above_code : (ℕ → List Uop) → ℕ → List Uop
+above_code inner pc =
+    let q = pc + 1 + 1 + 1 + 1 + 1 in
+    guard_code pc (q + length (inner q) + 1 + 1)
+    ++ (inner q ++ (AddI 0 1 ∷ Bnez 1 (pc + 1 + 1 + 1 + 1) ∷ []))
+
+-- the parts of a nest at these outer positions
+abbrev pub span_code : Span → (ℕ → List Uop) → ℕ → List Uop
+span_code Full inner pc = nest_code inner pc
+span_code First inner pc = outside ++ inner (pc + 1 + 1)
+span_code Above inner pc = above_code inner pc
 
 -- bodies that take turns have one register for the position
 abbrev pub turn_plan : Plan
@@ -331,8 +346,8 @@ cycle_code ts pc =
 abbrev pub step_code : StepOf Part → ℕ → List Uop
 step_code (Single p) pc = if is_fixed p.block then body_uops p else outside ++ once_code p
 step_code (Along p) pc = outside ++ loop_code All p (pc + 1 + 1)
-step_code (Nest []) pc = []
-step_code (Nest (x ∷ xs)) pc = nest_code (inner_list (x ∷ xs)) pc
+step_code (Nest span []) pc = []
+step_code (Nest span (x ∷ xs)) pc = span_code span (inner_list (x ∷ xs)) pc
 step_code (Pairs p) pc = pairs_code p pc
 step_code (Alternate []) pc = []
 step_code (Alternate (t ∷ ts)) pc = cycle_code (t ∷ ts) pc

@@ -94,7 +94,7 @@ AreGraphed (e ∷ es) (op ∷ ops) gs = (own : List Graphed) × (rest : List Gra
 abbrev pub step_graph : StepOf Body → List Graphed
 step_graph (Single b) = []
 step_graph (Along b) = let g : Graphed = record { graph = b.graph; outs = b.outs } in g ∷ []
-step_graph (Nest parts) = []
+step_graph (Nest span parts) = []
 step_graph (Pairs b) = []
 step_graph (Alternate t) = []
 

@@ -378,8 +378,8 @@ pub fn push_halves(
     Ok(())
 }
 
-/// What stands before a loop over neighbours that ends at this place.
-fn push_guard(code: &mut Vec<Uop>, end: u16) -> Result<(), NoMemory>
+/// What stands before a loop that has no round at width 1 and ends at this place.
+pub fn push_guard(code: &mut Vec<Uop>, end: u16) -> Result<(), NoMemory>
     requires { length code.old.items + 8 < 2 ^ 16 }
     ensures { OnOk result (code.new.items ≡ code.old.items
         ++ guard_code (length code.old.items) end) }

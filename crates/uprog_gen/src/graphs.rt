@@ -17,7 +17,8 @@ fn step_graph(step: Step) -> Option<MigOuts>
 {
     match step {
         Step::Each(body) => Some(body.into_graph()),
-        Step::Once(_) | Step::Nest(_) | Step::Pairs(_) | Step::Alternate(_) => None,
+        Step::Nest(_) | Step::First(_) | Step::Above(_) => None,
+        Step::Once(_) | Step::Pairs(_) | Step::Alternate(_) => None,
     }
 }
 

@@ -5,12 +5,14 @@ ghost use Rattle.loop_ir.specs.Plain.{block_of, inner_of, turn_of, step_of, AllI
 ghost use Rattle.loop_ir.specs.Plain.{AllStep, AllParts};
 ghost use Rattle.loop_ir.specs.Plain.StepOf.{Single as SingleOf, Nest as NestOf};
 ghost use Rattle.loop_ir.specs.Plain.StepOf.{Alternate as AlternateOf};
+ghost use Rattle.loop_ir.specs.declared.ir.Span.TheVariants.{Full, First, Above};
 ghost use Rattle.loop_ir.specs.Limits.{IsSmall};
 ghost use Rattle.loop_ir.specs.Costs.{inner_cost, either_cost, turns_cost, step_cost, code_cost};
 ghost use Rattle.uprog_gen.specs.Emits.{EmitsInner, EmitsTurns, EmitsSteps};
 
 use crate::emit::{
-    push_body, push_either, push_halves, push_loop, push_odd, push_once, push_pairs, push_start,
+    push_body, push_either, push_guard, push_halves, push_loop, push_odd, push_once, push_pairs,
+    push_start,
 };
 use crate::part::make_part;
 use crate::plan::is_fixed;
@@ -86,7 +88,7 @@ fn emit_nest(parts: &[Inner], code: &mut Vec<Uop>, alloc: Global) -> Result<(), 
     requires small { AllInner IsSmall (map inner_of parts.now) }
     requires room { length code.old.items + sum_by inner_cost (map inner_of parts.now) + 64
         < 2 ^ 16 }
-    ensures { OnOk result (EmitsSteps (NestOf (map inner_of parts.now) ∷ []) code.old.items
+    ensures { OnOk result (EmitsSteps (NestOf Full (map inner_of parts.now) ∷ []) code.old.items
         code.new.items) }
 {
     if parts.is_empty() {
@@ -99,6 +101,45 @@ fn emit_nest(parts: &[Inner], code: &mut Vec<Uop>, alloc: Global) -> Result<(), 
     emit_inners(parts, code, alloc)?;
     keep(code, Uop::AddI(0, 1))?;
     keep(code, Uop::Bnez(1, top))?;
+    Ok(())
+}
+
+/// A nest at the first outer position alone.
+fn emit_first(parts: &[Inner], code: &mut Vec<Uop>, alloc: Global) -> Result<(), NoMemory>
+    requires small { AllInner IsSmall (map inner_of parts.now) }
+    requires room { length code.old.items + sum_by inner_cost (map inner_of parts.now) + 64
+        < 2 ^ 16 }
+    ensures { OnOk result (EmitsSteps (NestOf First (map inner_of parts.now) ∷ []) code.old.items
+        code.new.items) }
+{
+    if parts.is_empty() {
+        return Ok(());
+    }
+    keep(code, Uop::SetI(0, 0))?;
+    keep(code, Uop::SetT(1))?;
+    emit_inners(parts, code, alloc)?;
+    Ok(())
+}
+
+/// A nest from the second outer position on. The jump past it gets its target when it stands.
+fn emit_above(parts: &[Inner], code: &mut Vec<Uop>, alloc: Global) -> Result<(), NoMemory>
+    requires small { AllInner IsSmall (map inner_of parts.now) }
+    requires room { length code.old.items + sum_by inner_cost (map inner_of parts.now) + 64
+        < 2 ^ 16 }
+    ensures { OnOk result (EmitsSteps (NestOf Above (map inner_of parts.now) ∷ []) code.old.items
+        code.new.items) }
+{
+    if parts.is_empty() {
+        return Ok(());
+    }
+    let past = code.len() + 3;
+    let top = past as u16 + 1;
+    push_guard(code, 0)?;
+    emit_inners(parts, code, alloc)?;
+    keep(code, Uop::AddI(0, 1))?;
+    keep(code, Uop::Bnez(1, top))?;
+    let end = code.len() as u16;
+    code[past] = Uop::Bnez(0, end);
     Ok(())
 }
 
@@ -156,6 +197,8 @@ fn emit_step(step: &Step, code: &mut Vec<Uop>, alloc: Global) -> Result<(), NoMe
     match step {
         Step::Once(body) => emit_single(body, code, alloc),
         Step::Nest(parts) => emit_nest(parts, code, alloc),
+        Step::First(parts) => emit_first(parts, code, alloc),
+        Step::Above(parts) => emit_above(parts, code, alloc),
         Step::Each(body) => {
             let made = make_part(body, alloc)?;
             keep(code, Uop::SetI(0, 0))?;

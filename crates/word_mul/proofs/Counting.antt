@@ -12,18 +12,18 @@ use Rattle.loop_ir.specs.Loops.{elements}
 use Rattle.loop_ir.specs.Plain.{Block, InnerOf}
 use Rattle.loop_ir.specs.Plain.InnerOf.{Alone, IfOdd, Halves}
 use Rattle.loop_ir.specs.Plain.StepOf.{Single, Nest}
+use Rattle.loop_ir.specs.declared.ir.Sub.{Sub}
+use Rattle.loop_ir.specs.declared.ir.Span.TheVariants.{Above}
 use Rattle.loop_ir.specs.Spots.{Spot, Spots, set_spot, is_state}
-use Rattle.loop_laws.specs.Rooms.{placed_body}
-use Rattle.loop_laws.specs.Turns.{Standing, after_many}
+use Rattle.loop_laws.specs.Rooms.{Mark, placed_body}
+use Rattle.loop_laws.specs.Turns.{after_many}
 use Rattle.loop_laws.proofs.Levels.{all_elements, pairs_of, room_for_level}
 use Rattle.loop_laws.proofs.Same.{set_same, set_other}
-use Rattle.loop_laws.proofs.Steps.{steps_each, steps_nest, after_steps, after_parts, after_outer}
-use Rattle.loop_laws.proofs.Steps.{after_both}
+use Rattle.loop_laws.proofs.Steps.{steps_first, steps_above, after_parts, after_above, after_both}
 use Rattle.word_lower.specs.Places.{scratch_bit}
-use Rattle.word_lower.specs.Programs.{plain, off, constant, moved}
+use Rattle.word_lower.specs.Programs.{off, constant, moved}
 use Rattle.word_lower.proofs.Marks.{target, first, third, state}
 use Rattle.word_lower.proofs.Setting.{bit, number, row, number_at}
-use Rattle.word_lower.proofs.Passes.{word_loop, upwards}
 use Rattle.word_lower.proofs.Sums.{value_same}
 use Rattle.word_lower.proofs.Lists.{ones_of_none, ones_of_more}
 use Rattle.word_mul.specs.Programs.{begun, counted, kept}
@@ -94,25 +94,38 @@ module _ (n : ℕ) (m : Rows) (are : AreRows n 1 0 m) (bits : Spots) where
   abbrev d : Spot
   d = cell n 1
 
-  -- a row of the target
+  -- a row of the target, and of the argument
   abbrev z : ℕ → Spot
   z v = row n m.target v
 
-  abbrev load : Block
-  load = placed_body (rooms_for op.Bitcount m) (begun (third sub.Zero) (state 5) (state 1))
+  abbrev x : ℕ → Spot
+  x v = row n m.a v
 
-  abbrev pair : Block
-  pair = placed_body (rooms_for op.Bitcount m) (counted (target sub.SumTwice)
-      (target sub.AboveSumTwice) (state 5) (third sub.Zero))
+  abbrev off_sum : Block
+  off_sum = placed_body (rooms_for op.Bitcount m) (constant off (state 5))
+
+  abbrev load : Mark → Block
+  load q = placed_body (rooms_for op.Bitcount m) (begun q (state 5) (state 1))
+
+  abbrev pair : Mark → Mark → Block
+  pair q r = placed_body (rooms_for op.Bitcount m) (counted q r (state 5) (third sub.Zero))
 
   abbrev move : Block
   move = placed_body (rooms_for op.Bitcount m) (kept (third sub.Zero) (state 5)
       (target sub.AboveSum))
 
+  abbrev store : Sub → Block
+  store u = placed_body (rooms_for op.Bitcount m) (moved (state 5) (target u))
+
+  -- the parts at the lowest level, and above it
+  abbrev low_parts : List (InnerOf Block)
+  low_parts = IfOdd (load (first sub.Top))
+      ∷ (Halves (pair (first sub.SumTwice) (first sub.AboveSumTwice)) move ∷ [])
+
   abbrev parts : List (InnerOf Block)
-  parts = Alone (placed_body (rooms_for op.Bitcount m) (constant off (state 5)))
-      ∷ (IfOdd load ∷ (Halves pair move
-      ∷ (Alone (placed_body (rooms_for op.Bitcount m) (moved (state 5) (target sub.Outer))) ∷ [])))
+  parts = Alone off_sum ∷ (IfOdd (load (third sub.Zero))
+      ∷ (Halves (pair (target sub.SumTwice) (target sub.AboveSumTwice)) move
+      ∷ (Alone (store sub.Outer) ∷ [])))
 
   p_c : p ≡ c → ⊥
   p_c = row_other n (scratch_bit m.free_bit) 0 5 refl
@@ -126,33 +139,44 @@ module _ (n : ℕ) (m : Rows) (are : AreRows n 1 0 m) (bits : Spots) where
   z_z : (u v : ℕ) → u < n → v < n → (u ≡ v → ⊥) → z u ≡ z v → ⊥
   z_z u v lu lv ne e = ne (are.moves.by u v lu lv e)
 
-  -- what a pair of a level does
-  abbrev paired : ℕ → ℕ → Spots → Spots
-  paired o i old =
-      let x = old (z (o + 2 * i)) in
-      let y = old (z (o + 1 + 2 * i)) in
-      let s1 = set_spot old p (majority x y (old c)) in
-      let s2 = set_spot s1 c (sum_of x y (old c)) in
+  -- the argument's rows are none of the target's
+  x_else : (v : ℕ) → v < n → IsElsewhere n 1 0 m (x v)
+  x_else v lv = record {
+    has_row = row_stands n m.a v are.a_rows;
+    target = λ u lu e. are.a.by v u lv lu e;
+    bit = λ j lj e. (let g = are.bit j lj in g.a.by v 0 lv (omega arith) e);
+    word = λ u lu e. absurd (omega (arith, lu));
+  }
+
+  -- what a pair of a level does, whose elements stand in these rows
+  abbrev paired : (ℕ → Spot) → ℕ → ℕ → Spots → Spots
+  paired y o i old =
+      let a = old (y (o + 2 * i)) in
+      let b = old (y (o + 1 + 2 * i)) in
+      let s1 = set_spot old p (majority a b (old c)) in
+      let s2 = set_spot s1 c (sum_of a b (old c)) in
       let s3 = set_spot s2 (z (o + 1 + i)) (s2 p) in
       set_spot s3 c (s2 c)
 
   -- after so many pairs of a level whose rows were these
-  record Paired (o i : ℕ) (old new : Spots) : Type 0 where
+  record Paired (y : ℕ → Spot) (o i : ℕ) (old new : Spots) : Type 0 where
     sum : bit (new c) + 2 * tally (λ j. new (z (o + 1 + j))) i
-        ≡ bit (old c) + tally (λ j. old (z (o + j))) (2 * i)
+        ≡ bit (old c) + tally (λ j. old (y (o + j))) (2 * i)
     below : (v : ℕ) → v ≤ o → o < n → new (z v) ≡ old (z v)
     above : (v : ℕ) → o + i < v → v < n → new (z v) ≡ old (z v)
     last : 0 < i → new p ≡ new (z (o + i))
     rest : (q : Spot) → IsElsewhere n 1 0 m q → new q ≡ old q
 
-  one_pair : (o i : ℕ) (old mid : Spots) → o + 1 + 2 * i < n → Paired o i old mid
-      → Paired o (suc i) old (paired o i mid)
+  one_pair : (y : ℕ → Spot) (o i : ℕ) (old mid : Spots) → o + 1 + 2 * i < n
+      → mid (y (o + 2 * i)) ≡ old (y (o + 2 * i))
+      → mid (y (o + 1 + 2 * i)) ≡ old (y (o + 1 + 2 * i)) → Paired y o i old mid
+      → Paired y o (suc i) old (paired y o i mid)
   unfolding tally
-  one_pair o i old mid lt r =
-      let x = mid (z (o + 2 * i)) in
-      let y = mid (z (o + 1 + 2 * i)) in
-      let k = majority x y (mid c) in
-      let w = sum_of x y (mid c) in
+  one_pair y o i old mid lt first_is second_as r =
+      let a = mid (y (o + 2 * i)) in
+      let b = mid (y (o + 1 + 2 * i)) in
+      let k = majority a b (mid c) in
+      let w = sum_of a b (mid c) in
       let s1 = set_spot mid p k in
       let s2 = set_spot s1 c w in
       let to = z (o + 1 + i) in
@@ -169,17 +193,14 @@ module _ (n : ℕ) (m : Rows) (are : AreRows n 1 0 m) (bits : Spots) where
       set_other s3 c (s2 c) (z v) (z_c v)
       ∙ set_other s2 to (s2 p) (z v) (z_z v (o + 1 + i) lv lto ne)
       ∙ set_other s1 c w (z v) (z_c v) ∙ set_other mid p k (z v) (z_p v lv) in
-      let read : (v : ℕ) → v < n → (v ≤ o → ⊥) → o + i < v → mid (z v) ≡ old (z v) = λ v lv a b.
-      r.above v b lv in
-      let first_is : x ≡ old (z (o + 2 * i)) = first_read o i old mid lt r in
-      let second_is : y ≡ old (z (o + (1 + 2 * i))) =
+      let second_is : b ≡ old (y (o + (1 + 2 * i))) =
       (let e : o + 1 + 2 * i ≡ o + (1 + 2 * i) = omega arith in
-      r.above (o + 1 + 2 * i) (omega (arith, lt)) lt ∙ ap (λ v. old (z v)) e) in
+      second_as ∙ ap (λ v. old (y v)) e) in
       let carries : tally (λ j. new (z (o + 1 + j))) i ≡ tally (λ j. mid (z (o + 1 + j))) i =
       tally_same _ _ i (λ j lj. other (o + 1 + j) (omega (arith, lj, lt)) (λ e.
       absurd (omega (arith, e, lj)))) in
-      let two = tally_two (λ j. old (z (o + j))) i in
-      let digit = counted_digit x y (mid c) in
+      let two = tally_two (λ j. old (y (o + j))) i in
+      let digit = counted_digit a b (mid c) in
       let b0 = ap bit new_c in
       let b1 = ap bit new_to in
       let b2 = ap bit first_is in
@@ -198,43 +219,62 @@ module _ (n : ℕ) (m : Rows) (are : AreRows n 1 0 m) (bits : Spots) where
             ∙ set_other s1 c w q (cell_other n q 5 out.has_row)
             ∙ set_other mid p k q (bit_else n 0 0 m q out) ∙ r.rest q out;
       }
-    where
-      first_read : (o i : ℕ) (old mid : Spots) → o + 1 + 2 * i < n → Paired o i old mid
-          → mid (z (o + 2 * i)) ≡ old (z (o + 2 * i))
-      first_read o zero old mid lt r = r.below (o + 2 * 0) (omega arith) (omega (arith, lt))
-      first_read o (suc i) old mid lt r = r.above (o + 2 * suc i) (omega arith) (omega (arith, lt))
 
-  all_pairs : (o h i : ℕ) (old : Spots) → i ≤ h → o + 2 * h ≤ n → o < n
-      → Paired o i old (after_both n o pair move i old)
-  unfolding values_from tally
-  all_pairs o h zero old le fit lo = record {
+  no_pair : (y : ℕ → Spot) (o : ℕ) (old : Spots) → Paired y o 0 old old
+  unfolding tally
+  no_pair y o old = record {
     sum = refl;
     below = λ v lv l. refl;
     above = λ v lv l. refl;
     last = λ some. absurd (omega (arith, some));
     rest = λ q out. refl;
   }
+
+  -- all pairs of the lowest level, and of one above it
+  low_pairs : (h i : ℕ) (old : Spots) → i ≤ h → 2 * h ≤ n → Paired x 0 i old
+      (after_both n 0 (pair (first sub.SumTwice) (first sub.AboveSumTwice)) move i old)
+  unfolding values_from
+  low_pairs h zero old le fit = no_pair x 0 old
+  low_pairs h (suc i) old le fit =
+      let mid = after_both n 0 (pair (first sub.SumTwice) (first sub.AboveSumTwice)) move i old in
+      let r = low_pairs h i old (omega (arith, le)) fit in
+      one_pair x 0 i old mid (omega (arith, le, fit))
+      (r.rest (x (0 + 2 * i)) (x_else (0 + 2 * i) (omega (arith, le, fit))))
+      (r.rest (x (0 + 1 + 2 * i)) (x_else (0 + 1 + 2 * i) (omega (arith, le, fit)))) r
+
+  all_pairs : (o h i : ℕ) (old : Spots) → i ≤ h → o + 2 * h ≤ n → o < n → Paired z o i old
+      (after_both n o (pair (target sub.SumTwice) (target sub.AboveSumTwice)) move i old)
+  unfolding values_from
+  all_pairs o h zero old le fit lo = no_pair z o old
   all_pairs o h (suc i) old le fit lo =
-      one_pair o i old (after_both n o pair move i old) (omega (arith, le, fit))
-      (all_pairs o h i old (omega (arith, le)) fit lo)
+      let mid = after_both n o (pair (target sub.SumTwice) (target sub.AboveSumTwice)) move i old in
+      let r = all_pairs o h i old (omega (arith, le)) fit lo in
+      let lt : o + 1 + 2 * i < n = omega (arith, le, fit) in
+      one_pair z o i old mid lt (first_read o i old mid lt r)
+      (r.above (o + 1 + 2 * i) (omega arith) lt) r
+    where
+      first_read : (o i : ℕ) (old mid : Spots) → o + 1 + 2 * i < n → Paired z o i old mid
+          → mid (z (o + 2 * i)) ≡ old (z (o + 2 * i))
+      first_read o zero old mid lt r = r.below (o + 2 * 0) (omega arith) (omega (arith, lt))
+      first_read o (suc i) old mid lt r = r.above (o + 2 * suc i) (omega arith) (omega (arith, lt))
 
-  -- before level o: its elements and the bits below it are worth the ones of the argument together
-  record Levelled (o : ℕ) (new : Spots) : Type 0 where
-    counted : number (λ v. new (z v)) o + 2 ^ o * tally (λ j. new (z (o + j))) (elements n o)
-        ≡ tally (λ v. bits (row n m.a v)) n
-    last : elements n o % 2 ≡ 1 → new p ≡ new (z (o + 2 * elements n (o + 1)))
-    rest : (q : Spot) → IsElsewhere n 1 0 m q → new q ≡ bits q
-
-  -- the sum begins with the last element, or with 0
-  record Begins (o : ℕ) (old new : Spots) : Type 0 where
-    sum : bit (new c) + tally (λ j. new (z (o + j))) (2 * elements n (o + 1))
-        ≡ tally (λ j. old (z (o + j))) (elements n o)
+  -- the sum of a level whose elements stand in these rows begins with the last of them, or with 0
+  record Begins (y : ℕ → Spot) (o : ℕ) (old new : Spots) : Type 0 where
+    sum : bit (new c) + tally (λ j. new (y (o + j))) (2 * elements n (o + 1))
+        ≡ tally (λ j. old (y (o + j))) (elements n o)
     same : (q : Spot) → is_state q.space ≡ false → new q ≡ old q
 
-  begins : (o : ℕ) (old : Spots) → o < n → Levelled o old
-      → Begins o old (after_many n o load (elements n o % 2) (set_spot old c false))
-  unfolding tally values_from
-  begins o old lo i = by (elements n o % 2) refl
+  -- what is read comes into the cells, where the elements are odd in number
+  abbrev loaded : Spot → Spots → Spots
+  loaded q s = set_spot (set_spot s c (s q)) d (s q)
+
+  begins : (y : ℕ → Spot) (q : Spot) (o : ℕ) (old new : Spots)
+      → ((v : ℕ) → is_state (y v).space ≡ false) → is_state q.space ≡ false → old c ≡ false
+      → (elements n o % 2 ≡ 1 → old q ≡ old (y (o + 2 * elements n (o + 1))))
+      → (elements n o % 2 ≡ 0 → new ≡ old) → (elements n o % 2 ≡ 1 → new ≡ loaded q old)
+      → Begins y o old new
+  unfolding tally
+  begins y q o old new rows row none last stays loads = by (elements n o % 2) refl
     where
       h : ℕ
       h = elements n (o + 1)
@@ -245,68 +285,55 @@ module _ (n : ℕ) (m : Rows) (are : AreRows n 1 0 m) (bits : Spots) where
       odd : elements n o % 2 ≡ 1 → elements n o ≡ suc (2 * h)
       odd e = omega (arith, pairs_of n o, e)
 
-      start : Spots
-      start = set_spot old c false
+      apart : c ≡ d → ⊥
+      apart e = let k : 5 ≡ 1 = ap (λ (q : Spot). q.which) e in absurd (omega (arith, k))
 
-      stays : (q : Spot) → is_state q.space ≡ false → start q ≡ old q
-      stays q rows = set_other old c false q (cell_other n q 5 rows)
-
-      rows_of : (v : ℕ) → is_state (z v).space ≡ false
-      rows_of v = row_stands n m.target v are.target_rows
-
-      by : (k : ℕ) → elements n o % 2 ≡ k
-          → Begins o old (after_many n o load k (set_spot old c false))
-      by zero e = record {
+      by : (k : ℕ) → elements n o % 2 ≡ k → Begins y o old new
+      by zero e = subst (Begins y o old) (sym (stays e)) (record {
         sum =
-            let a : bit (start c) ≡ 0 = ap bit (set_same old c false c refl) in
-            let b : tally (λ j. start (z (o + j))) (2 * h) ≡ tally (λ j. old (z (o + j))) (2 * h) =
-            tally_same _ _ (2 * h) (λ j lj. stays (z (o + j)) (rows_of (o + j))) in
-            let g : tally (λ j. old (z (o + j))) (elements n o)
-            ≡ tally (λ j. old (z (o + j))) (2 * h) =
-            ap (tally (λ j. old (z (o + j)))) (even e) in
-            omega (arith, a, b, g);
-        same = stays;
-      }
+            let a : bit (old c) ≡ 0 = ap bit none in
+            let g = ap (tally (λ j. old (y (o + j)))) (even e) in
+            omega (arith, a, g);
+        same = λ r s. refl;
+      })
       by (suc zero) e =
-          let x = start p in
-          let s1 = set_spot start c x in
-          let new = set_spot s1 d x in
-          let keeps : (q : Spot) → is_state q.space ≡ false → new q ≡ old q = λ q rows.
-          set_other s1 d x q (cell_other n q 1 rows) ∙ set_other start c x q (cell_other n q 5 rows)
-          ∙ stays q rows in
-          record {
+          let v = old q in
+          let s1 = set_spot old c v in
+          let after = set_spot s1 d v in
+          let keeps : (r : Spot) → is_state r.space ≡ false → after r ≡ old r = λ r s.
+          set_other s1 d v r (cell_other n r 1 s) ∙ set_other old c v r (cell_other n r 5 s) in
+          subst (Begins y o old) (sym (loads e)) (record {
             sum =
-                let at : new c ≡ old (z (o + 2 * h)) = set_other s1 d x c (λ k. apart k)
-                ∙ set_same start c x c refl ∙ stays p refl ∙ i.last e in
+                let at : after c ≡ old (y (o + 2 * h)) = set_other s1 d v c (λ k. apart k)
+                ∙ set_same old c v c refl ∙ last e in
                 let a = ap bit at in
-                let b : tally (λ j. new (z (o + j))) (2 * h)
-                ≡ tally (λ j. old (z (o + j))) (2 * h) =
-                tally_same _ _ (2 * h) (λ j lj. keeps (z (o + j)) (rows_of (o + j))) in
-                let g : tally (λ j. old (z (o + j))) (elements n o)
-                ≡ tally (λ j. old (z (o + j))) (2 * h) + bit (old (z (o + 2 * h))) =
-                ap (tally (λ j. old (z (o + j)))) (odd e) in
+                let b : tally (λ j. after (y (o + j))) (2 * h)
+                ≡ tally (λ j. old (y (o + j))) (2 * h) =
+                tally_same _ _ (2 * h) (λ j lj. keeps (y (o + j)) (rows (o + j))) in
+                let g : tally (λ j. old (y (o + j))) (elements n o)
+                ≡ tally (λ j. old (y (o + j))) (2 * h) + bit (old (y (o + 2 * h))) =
+                ap (tally (λ j. old (y (o + j)))) (odd e) in
                 omega (arith, a, b, g);
             same = keeps;
-          }
-        where
-          apart : c ≡ d → ⊥
-          apart e = let k : 5 ≡ 1 = ap (λ (q : Spot). q.which) e in absurd (omega (arith, k))
+          })
       by (suc (suc k)) e = absurd (omega (arith, e, pairs_of n o))
 
-  one_level : (o : ℕ) (old : Spots) → o < n → Levelled o old
-      → Levelled (suc o) (after_parts n o parts old)
-  unfolding values_from tally
-  one_level o old lo i =
+  -- a level: its sum is its bit of the target, and its carries are the elements of the next one
+  record Level (y : ℕ → Spot) (o : ℕ) (old new : Spots) : Type 0 where
+    sum : bit (new (z o)) + 2 * tally (λ j. new (z (suc o + j))) (elements n (suc o))
+        ≡ tally (λ j. old (y (o + j))) (elements n o)
+    below : (v : ℕ) → v < o → new (z v) ≡ old (z v)
+    last : elements n (suc o) % 2 ≡ 1 → new p ≡ new (z (suc o + 2 * elements n (suc o + 1)))
+    rest : (q : Spot) → IsElsewhere n 1 0 m q → new q ≡ old q
+
+  one_level : (y : ℕ → Spot) (o : ℕ) (old start mid : Spots) → o < n → Begins y o old start
+      → Paired y o (elements n (o + 1)) start mid → Level y o old (set_spot mid (z o) (mid c))
+  unfolding tally
+  one_level y o old start mid lo g r =
       let h = elements n (o + 1) in
       let one : o + 1 ≡ suc o = omega arith in
-      let room = room_for_level n o (omega (arith, lo)) in
       let room_up = room_for_level n (suc o) (omega (arith, lo)) in
       let up : elements n (o + 1) ≡ elements n (suc o) = ap (elements n) one in
-      let are_pairs = pairs_of n o in
-      let start = after_many n o load (elements n o % 2) (set_spot old c false) in
-      let g = begins o old lo i in
-      let mid = after_both n o pair move h start in
-      let r = all_pairs o h h start (omega arith) (omega (arith, room, are_pairs)) lo in
       let new = set_spot mid (z o) (mid c) in
       let at_o : new (z o) ≡ mid c = set_same mid (z o) (mid c) (z o) refl in
       let high : (j : ℕ) → j < h → new (z (suc o + j)) ≡ mid (z (o + 1 + j)) = λ j lj.
@@ -314,30 +341,19 @@ module _ (n : ℕ) (m : Rows) (are : AreRows n 1 0 m) (bits : Spots) where
       ap (λ v. new (z v)) e
       ∙ set_other mid (z o) (mid c) (z (o + 1 + j))
       (z_z (o + 1 + j) o (omega (arith, lj, room_up, up)) lo (λ k. absurd (omega (arith, k))))) in
-      let low : number (λ v. new (z v)) o ≡ number (λ v. old (z v)) o =
-      value_same _ _ o (λ v lv.
-      set_other mid (z o) (mid c) (z v) (z_z v o (omega (arith, lv, lo)) lo
-      (λ k. absurd (omega (arith, k, lv))))
-      ∙ r.below v (omega (arith, lv)) lo
-      ∙ g.same (z v) (row_stands n m.target v are.target_rows)) in
       let carries : tally (λ j. new (z (suc o + j))) h ≡ tally (λ j. mid (z (o + 1 + j))) h =
       tally_same _ _ h high in
       let carries_up : tally (λ j. new (z (suc o + j))) (elements n (suc o))
       ≡ tally (λ j. mid (z (o + 1 + j))) h =
       ap (tally (λ j. new (z (suc o + j)))) (sym up) ∙ carries in
       let sums : bit (mid c) + 2 * tally (λ j. mid (z (o + 1 + j))) h
-      ≡ tally (λ j. old (z (o + j))) (elements n o) = r.sum ∙ g.sum in
-      let level = level_sum (number (λ v. old (z v)) o) (bit (mid c))
-      (tally (λ j. mid (z (o + 1 + j))) h) (tally (λ j. old (z (o + j))) (elements n o)) (2 ^ o)
-      (2 ^ suc o) sums (pow-suc 2 o) in
+      ≡ tally (λ j. old (y (o + j))) (elements n o) = r.sum ∙ g.sum in
+      let b = ap bit at_o in
       record {
-        counted =
-            ap (λ x. x + bit (new (z o)) * 2 ^ o
-            + 2 ^ suc o * tally (λ j. new (z (suc o + j))) (elements n (suc o))) low
-            ∙ ap (λ b. number (λ v. old (z v)) o + bit b * 2 ^ o
-            + 2 ^ suc o * tally (λ j. new (z (suc o + j))) (elements n (suc o))) at_o
-            ∙ ap (λ x. number (λ v. old (z v)) o + bit (mid c) * 2 ^ o + 2 ^ suc o * x) carries_up
-            ∙ level ∙ i.counted;
+        sum = omega (arith, b, carries_up, sums);
+        below = λ v lv. set_other mid (z o) (mid c) (z v) (z_z v o (omega (arith, lv, lo)) lo
+            (λ k. absurd (omega (arith, k, lv)))) ∙ r.below v (omega (arith, lv)) lo
+            ∙ g.same (z v) (row_stands n m.target v are.target_rows);
         last = λ e.
             let k = pairs_of n (suc o) in
             let some : 0 < h = omega (arith, k, e, up) in
@@ -349,68 +365,119 @@ module _ (n : ℕ) (m : Rows) (are : AreRows n 1 0 m) (bits : Spots) where
             (λ j. absurd (omega (arith, j, some)))))
             ∙ ap (λ v. new (z v)) at;
         rest = λ q out. set_other mid (z o) (mid c) q (out.target o lo)
-            ∙ r.rest q out ∙ g.same q out.has_row ∙ i.rest q out;
+            ∙ r.rest q out ∙ g.same q out.has_row;
       }
 
-  all_levels : (o : ℕ) (start : Spots) → o ≤ n → Levelled 0 start
-      → Levelled o (after_outer n parts o start)
-  all_levels zero start lo i = i
-  all_levels (suc o) start lo i = one_level o (after_outer n parts o start) (omega (arith, lo))
-      (all_levels o start (omega (arith, lo)) i)
+  -- before level o: its elements and the bits below it are worth the ones of the argument together
+  record Levelled (o : ℕ) (new : Spots) : Type 0 where
+    counted : number (λ v. new (z v)) o + 2 ^ o * tally (λ j. new (z (o + j))) (elements n o)
+        ≡ tally (λ v. bits (x v)) n
+    last : elements n o % 2 ≡ 1 → new p ≡ new (z (o + 2 * elements n (o + 1)))
+    rest : (q : Spot) → IsElsewhere n 1 0 m q → new q ≡ bits q
 
-  abbrev copy : Block
-  copy = placed_body (rooms_for op.Bitcount m) (moved (first sub.Inner) (target sub.Inner))
+  -- the lowest level
+  abbrev cleared : Spots
+  cleared = set_spot bits c false
 
-  abbrev copied : Spots
-  copied = after_many n 0 copy n bits
+  abbrev low : Spots
+  low = let s = after_parts n 0 low_parts cleared in set_spot s (z 0) (s c)
 
-  abbrev taken : Spots
-  taken = set_spot copied p (copied (row n m.a (n - 1)))
-
-  first_level : 0 < n → Levelled 0 taken
-  unfolding values_from
+  first_level : 0 < n → Levelled 1 low
+  unfolding values_from tally
   first_level some =
-      let top = n - 1 in
-      let v = copied (row n m.a top) in
-      let l = word_loop n 0 m.target are.own are.moves sub.Inner (λ v. v) (upwards n 0) copy.reads 1
-      [] (plain 1) (Standing ∷ []) bits
-      (((λ i j li lj e. are.a.by i j li (omega (arith, li, lj)) e), tt), tt) in
-      let at : (u : ℕ) → u < n → taken (z u) ≡ bits (row n m.a u) = λ u lu.
-      set_other copied p v (z u) (z_p u lu) ∙ l.word u lu in
+      let h = elements n (0 + 1) in
       let all = all_elements n in
-      let a = λ (u : ℕ). bits (row n m.a u) in
-      let sums : tally (λ j. taken (z (0 + j))) n ≡ tally a n =
+      let k = pairs_of n 0 in
+      let stays : (q : Spot) → is_state q.space ≡ false → cleared q ≡ bits q = λ q rows.
+      set_other bits c false q (cell_other n q 5 rows) in
+      let rows_of : (v : ℕ) → is_state (x v).space ≡ false = λ v. row_stands n m.a v are.a_rows in
+      let start = after_many n 0 (load (first sub.Top)) (elements n 0 % 2) cleared in
+      let g : Begins x 0 cleared start = begins x (x (n - 1)) 0 cleared start rows_of (rows_of (n - 1))
+      (set_same bits c false c refl)
+      (λ e. (let top : n - 1 ≡ 0 + 2 * h = omega (arith, k, e, all) in
+      ap (λ v. cleared (x v)) top))
+      (λ e. ap (λ i. after_many n 0 (load (first sub.Top)) i cleared) e)
+      (λ e. ap (λ i. after_many n 0 (load (first sub.Top)) i cleared) e) in
+      let mid = after_both n 0 (pair (first sub.SumTwice) (first sub.AboveSumTwice)) move h start in
+      let r = low_pairs h h start (omega arith) (omega (arith, k, all)) in
+      let l = one_level x 0 cleared start mid some g r in
+      let a = λ (u : ℕ). bits (x u) in
+      let sums : tally (λ j. cleared (x (0 + j))) n ≡ tally a n =
       tally_same _ _ n (λ j lj. (let e : 0 + j ≡ j = omega arith in
-      ap (λ u. taken (z u)) e ∙ at j lj)) in
+      ap (λ u. cleared (x u)) e ∙ stays (x j) (rows_of j))) in
+      let t = ap (tally (λ j. cleared (x (0 + j)))) all in
+      let s = l.sum in
+      let none : 2 ^ 0 ≡ 1 = refl in
+      let one : 2 ^ 1 ≡ 2 = refl in
+      let up = tally (λ j. low (z (1 + j))) (elements n 1) in
       record {
-        counted = (let t = ap (tally (λ j. taken (z (0 + j)))) all in
-            let w : 2 ^ 0 ≡ 1 = refl in
-            ap (λ x. 0 + x * tally (λ j. taken (z (0 + j))) (elements n 0)) w
-            ∙ omega (arith, t, sums));
-        last = λ e.
-            let k = pairs_of n 0 in
-            let here : top ≡ 0 + 2 * elements n (0 + 1) = omega (arith, k, e, all) in
-            set_same copied p v p refl
-            ∙ l.rest (row n m.a top) (λ u lu j. are.a.by top u (omega (arith, some)) lu j)
-            ∙ sym (at top (omega (arith, some)))
-            ∙ ap (λ u. taken (z u)) here;
-        rest = λ q out. set_other copied p v q (bit_else n 0 0 m q out)
-            ∙ l.rest q (λ u lu e. out.target u lu e);
+        counted = ap (λ v. 0 + bit (low (z 0)) * v + 2 ^ 1 * up) none
+            ∙ ap (λ v. 0 + bit (low (z 0)) * 1 + v * up) one ∙ omega (arith, s, t, sums);
+        last = l.last;
+        rest = λ q out. l.rest q out ∙ stays q out.has_row;
       }
 
-no_parts : (n o : ℕ) (bits : Spots) → after_outer n [] o bits ≡ bits
-no_parts n zero bits = refl
-no_parts n (suc o) bits = no_parts n o bits
+  next_level : (o : ℕ) (old : Spots) → o < n → Levelled o old
+      → Levelled (suc o) (after_parts n o parts old)
+  unfolding values_from tally
+  next_level o old lo i =
+      let h = elements n (o + 1) in
+      let room = room_for_level n o (omega (arith, lo)) in
+      let k = pairs_of n o in
+      let clear = set_spot old c false in
+      let stays : (q : Spot) → is_state q.space ≡ false → clear q ≡ old q = λ q rows.
+      set_other old c false q (cell_other n q 5 rows) in
+      let rows_of : (v : ℕ) → is_state (z v).space ≡ false = λ v.
+      row_stands n m.target v are.target_rows in
+      let start = after_many n o (load (third sub.Zero)) (elements n o % 2) clear in
+      let g : Begins z o clear start = begins z p o clear start rows_of refl
+      (set_same old c false c refl)
+      (λ e. stays p refl ∙ i.last e
+      ∙ sym (stays (z (o + 2 * h)) (rows_of (o + 2 * h))))
+      (λ e. ap (λ i. after_many n o (load (third sub.Zero)) i clear) e)
+      (λ e. ap (λ i. after_many n o (load (third sub.Zero)) i clear) e) in
+      let mid = after_both n o (pair (target sub.SumTwice) (target sub.AboveSumTwice)) move h start
+      in
+      let r = all_pairs o h h start (omega arith) (omega (arith, room, k)) lo in
+      let l = one_level z o clear start mid lo g r in
+      let new = set_spot mid (z o) (mid c) in
+      let lower : number (λ v. new (z v)) o ≡ number (λ v. old (z v)) o =
+      value_same _ _ o (λ v lv. l.below v lv ∙ stays (z v) (rows_of v)) in
+      let same : tally (λ j. clear (z (o + j))) (elements n o)
+      ≡ tally (λ j. old (z (o + j))) (elements n o) =
+      tally_same _ _ (elements n o) (λ j lj. stays (z (o + j)) (rows_of (o + j))) in
+      let level = level_sum (number (λ v. old (z v)) o) (bit (new (z o)))
+      (tally (λ j. new (z (suc o + j))) (elements n (suc o)))
+      (tally (λ j. old (z (o + j))) (elements n o)) (2 ^ o) (2 ^ suc o) (l.sum ∙ same)
+      (pow-suc 2 o) in
+      record {
+        counted =
+            ap (λ v. v + bit (new (z o)) * 2 ^ o
+            + 2 ^ suc o * tally (λ j. new (z (suc o + j))) (elements n (suc o))) lower
+            ∙ level ∙ i.counted;
+        last = l.last;
+        rest = λ q out. l.rest q out ∙ stays q out.has_row ∙ i.rest q out;
+      }
+
+  all_levels : (o : ℕ) (start : Spots) → suc o ≤ n → Levelled 1 start
+      → Levelled (suc o) (after_above n parts o start)
+  all_levels zero start lo i = i
+  all_levels (suc o) start lo i = next_level (suc o) (after_above n parts o start)
+      (omega (arith, lo)) (all_levels o start (omega (arith, lo)) i)
 
 pub bitcount_does : (n : ℕ) (m : Rows) → 0 < n → AreRows n 1 0 m → DoesNested op.Bitcount n 1 0 m
 unfolding values_from tally
 bitcount_does n m some are bits =
-    let b0 = copy n m are bits in
-    let b1 = placed_body (rooms_for op.Bitcount m) (moved (first sub.Top) (third sub.Zero)) in
+    let b0 = off_sum n m are bits in
+    let b1 = store n m are bits sub.Zero in
+    let low0 : List (InnerOf Block) = low_parts n m are bits in
     let ps : List (InnerOf Block) = parts n m are bits in
-    let s = taken n m are bits in
-    let new = after_outer n ps n s in
-    let i = all_levels n m are bits n s (omega arith) (first_level n m are bits some) in
+    let s0 = cleared n m are bits in
+    let s = low n m are bits in
+    let new = after_above n ps (n - 1) s in
+    let up : suc (n - 1) ≡ n = omega (arith, some) in
+    let i : Levelled n m are bits n new = subst (λ k. Levelled n m are bits k new) up
+    (all_levels n m are bits (n - 1) s (omega (arith, some)) (first_level n m are bits some)) in
     let room = room_for_level n n (omega arith) in
     let none : elements n n ≡ 0 = omega (arith, room) in
     let ones : number_at n new m.target n ≡ ones_of n (number_at n bits m.a n) =
@@ -422,7 +489,5 @@ bitcount_does n m some are bits =
     omega (arith, g, h) in
     k ∙ tally_ones (λ v. bits (row n m.a v)) n) in
     subst (Gives op.Bitcount n 1 0 m bits)
-    (sym (steps_each n b0 (Single b1 ∷ (Nest [] ∷ (Nest ps ∷ []))) bits
-    ∙ steps_nest n [] (Nest ps ∷ []) s ∙ ap (λ x. after_steps n (Nest ps ∷ []) x) (no_parts n n s)
-    ∙ steps_nest n ps [] s))
+    (sym (steps_first n low0 (Single b1 ∷ (Nest Above ps ∷ [])) s0 ∙ steps_above n ps [] s))
     record { gives = ones; keeps = i.rest }

@@ -23,7 +23,8 @@ use Rattle.word_lower.proofs.Setting.{bit, number, row, number_at}
 use Rattle.word_lower.proofs.Sums.{value_same, value_below, compare, less_two}
 use Rattle.word_lower.specs.Programs.{compared}
 use Rattle.word_mul.specs.Programs.{divided, parts_of}
-use Rattle.word_mul.specs.declared.table.TheConstants.{DIVISION}
+use Rattle.word_mul.specs.declared.table.TheConstants.{BEGINS_OVER, COMPARES, LOOKS_ABOVE}
+use Rattle.word_mul.specs.declared.table.TheConstants.{BEGINS_BORROW, TAKES_AWAY}
 use Rattle.word_mul.specs.declared.rows.Rows.{Rows}
 use Rattle.word_mul.specs.Places.{rooms_for, scratch_word}
 use Rattle.word_mul.proofs.Setting.{fifth, cell, row_stands, cell_other, row_other, IsFree}
@@ -84,7 +85,7 @@ divided_digit false false false = refl
 -- on, which are as many as the steps so far and this one: as many low bits of the divisor are
 -- compared with it, and taken from it where it is not less and no higher bit is set
 abbrev pub division : List (InnerOf Marked)
-division = parts_of DIVISION
+division = parts_of (BEGINS_OVER ∷ COMPARES ∷ LOOKS_ABOVE ∷ BEGINS_BORROW ∷ TAKES_AWAY ∷ [])
 
 module _ (n : ℕ) (m : Rows) (are : AreRows n 2 2 m) where
   abbrev pub w : Slot

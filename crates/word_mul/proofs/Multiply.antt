@@ -10,6 +10,7 @@ use Rattle.loop_ir.specs.declared.ir.Count.TheVariants.{Rest}
 use Rattle.loop_ir.specs.declared.names.Slot.{Slot}
 use Rattle.loop_ir.specs.Plain.{Block, InnerOf}
 use Rattle.loop_ir.specs.Plain.InnerOf.{Alone, Across}
+use Rattle.loop_ir.specs.declared.ir.Span.TheVariants.{Full}
 use Rattle.loop_ir.specs.Plain.StepOf.{Nest}
 use Rattle.loop_ir.specs.Spots.{Spot, Spots, set_spot, spot_at, nth_place, is_state}
 use Rattle.loop_laws.specs.Rooms.{placed_body}
@@ -232,7 +233,7 @@ mul_does n m are bits =
     let first : Multiplied n m are bits 0 zeroed =
     record { over = 0; product = omega (arith, none); rest = λ q out. l.rest q out.target } in
     let i = all_bits n m are bits n zeroed (omega arith) first in
-    subst (Gives op.Mul n 1 0 m bits) (sym (steps_each n b0 (Nest ps ∷ []) bits
+    subst (Gives op.Mul n 1 0 m bits) (sym (steps_each n b0 (Nest Full ps ∷ []) bits
     ∙ steps_nest n ps [] zeroed))
     record {
       gives = last_sum (number_at n (after_outer n ps n zeroed) m.target n) i.over (2 ^ n)

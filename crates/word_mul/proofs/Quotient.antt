@@ -11,6 +11,7 @@ use Rattle.op_text.specs.declared.word_ops.WordOp.TheVariants as op
 use Rattle.loop_ir.specs.declared.ir.Sub.TheVariants as sub
 use Rattle.loop_ir.specs.Plain.{Block, InnerOf}
 use Rattle.loop_ir.specs.Plain.InnerOf.{Alone}
+use Rattle.loop_ir.specs.declared.ir.Span.TheVariants.{Full}
 use Rattle.loop_ir.specs.Plain.StepOf.{Single, Along, Nest}
 use Rattle.loop_ir.specs.Loops.{all_rounds}
 use Rattle.loop_ir.specs.Spots.{Spot, Spots, after_rounds, set_spot}
@@ -330,8 +331,8 @@ div_does n m are bits =
     let s2 = ready n m are bits in
     let d = div_leaves n m are bits in
     subst (Gives op.Div n 2 2 m bits) (sym (steps_each n b1 (Single b2
-    ∷ (Nest nest ∷ (Nest parts ∷ []))) bits
-    ∙ steps_nest n nest (Nest parts ∷ []) s1 ∙ steps_nest n parts [] s2))
+    ∷ (Nest Full nest ∷ (Nest Full parts ∷ []))) bits
+    ∙ steps_nest n nest (Nest Full parts ∷ []) s1 ∙ steps_nest n parts [] s2))
     record { gives = d.quotient; keeps = λ q out. d.keeps q out (λ z. z) }
 
 -- and then the remainder is in the second target
@@ -356,8 +357,8 @@ divmod_does n m are has bits =
       tt,
     ) in
     subst (Divided n m m.second (λ q. (v : ℕ) × (v < n) × (q ≡ row n m.second v)) bits)
-    (sym (steps_each n b1 (Single b2 ∷ (Nest nest ∷ (Nest parts ∷ (Along b3 ∷ [])))) bits
-    ∙ steps_nest n nest (Nest parts ∷ (Along b3 ∷ [])) s1
+    (sym (steps_each n b1 (Single b2 ∷ (Nest Full nest ∷ (Nest Full parts ∷ (Along b3 ∷ [])))) bits
+    ∙ steps_nest n nest (Nest Full parts ∷ (Along b3 ∷ [])) s1
     ∙ steps_nest n parts (Along b3 ∷ []) s2 ∙ steps_each n b3 [] mid))
     record {
       quotient = value_same (λ v. new (row n m.target v)) (λ v. mid (row n m.target v)) n
@@ -389,8 +390,8 @@ rem_does n m are bits =
       tt,
     ) in
     subst (Gives op.Rem n 2 2 m bits) (sym (steps_each n b1 (Single b2
-    ∷ (Nest nest ∷ (Nest parts ∷ (Along b3 ∷ [])))) bits
-    ∙ steps_nest n nest (Nest parts ∷ (Along b3 ∷ [])) s1
+    ∷ (Nest Full nest ∷ (Nest Full parts ∷ (Along b3 ∷ [])))) bits
+    ∙ steps_nest n nest (Nest Full parts ∷ (Along b3 ∷ [])) s1
     ∙ steps_nest n parts (Along b3 ∷ []) s2 ∙ steps_each n b3 [] mid))
     record {
       gives = value_same _ _ n l.word ∙ remainder_is (number_at n bits m.a n)

@@ -1,5 +1,5 @@
 -- What the nested loop programs take, wherever the rows lie, and that they keep their states.
-use Rattle.std.proofs.Common.{◌≡◌, ℕ, zero, suc, ◌+◌, ◌*◌, ◌^◌, ◌/◌, ◌<◌, ◌≤◌, true, List, [], refl}
+use Rattle.std.proofs.Common.{◌≡◌, ℕ, zero, suc, ◌+◌, ◌-◌, ◌*◌, ◌^◌, ◌/◌, ◌<◌, ◌≤◌, true, List, [], refl}
 use Rattle.std.proofs.Common.{ap, ◌∙◌, arith}
 use Rattle.std.proofs.Math.Nat.{pow-suc, pow-zero}
 use Rattle.op_text.specs.declared.word_ops.WordOp.{WordOp}
@@ -56,19 +56,30 @@ pairs_more n o (suc count) =
     let f = ap (elements n) e in omega (arith, h, f)
 
 -- those of a nest
-pub odd_together : (n k : ℕ) → odd_from n 0 k ≡ odd_levels n k
+odd_together : (n k : ℕ) → odd_from n 0 k ≡ odd_levels n k
 odd_together n zero = refl
 odd_together n (suc k) =
     let h = odd_more n 0 k in let g = odd_together n k in
     let e : 0 + k ≡ k = omega arith in
     let f = ap (λ i. elements n i % 2) e in omega (arith, h, g, f)
 
-pub pairs_together : (n k : ℕ) → pairs_from n 0 k ≡ pairs_below n k
+pairs_together : (n k : ℕ) → pairs_from n 0 k ≡ pairs_below n k
 pairs_together n zero = refl
 pairs_together n (suc k) =
     let h = pairs_more n 0 k in let g = pairs_together n k in
     let e : 0 + k + 1 ≡ k + 1 = omega arith in
     let f = ap (elements n) e in omega (arith, h, g, f)
+
+-- those of the lowest level, and of all above it
+pub low_odd : (n : ℕ) → elements n 0 % 2 + odd_from n 1 (n - 1) ≡ odd_levels n n
+low_odd zero = refl
+low_odd (suc k) = let h = odd_together (suc k) (suc k) in let e : suc k - 1 ≡ k = omega arith in
+    ap (λ i. elements (suc k) 0 % 2 + odd_from (suc k) 1 i) e ∙ h
+
+pub low_pairs : (n : ℕ) → elements n 1 + pairs_from n 1 (n - 1) ≡ pairs_below n n
+low_pairs zero = refl
+low_pairs (suc k) = let h = pairs_together (suc k) (suc k) in let e : suc k - 1 ≡ k = omega arith in
+    ap (λ i. elements (suc k) 1 + pairs_from (suc k) 1 i) e ∙ h
 
 -- no more than so many
 few_elements : (n o : ℕ) → elements n o ≤ n
@@ -92,7 +103,7 @@ some_square n some = grind arith
 plain_count : (n : ℕ) → 0 < n → plain_costs (all_rounds n (placed_steps [] (nested op.Bitcount)))
     ≤ op_plain_ceiling op.Bitcount n
 plain_count n some = let e = sum_is plain_cost n (placed_steps [] (nested op.Bitcount)) in
-    let s = square n in let t = odd_together n n in let u = pairs_together n n in
+    let s = square n in let t = low_odd n in let u = low_pairs n in
     let f = odd_few n n in let g = pairs_few n n in let h = some_square n some in
     omega (arith, e, s, t, u, f, g, h)
 
@@ -105,7 +116,7 @@ costs op.Div is n = let e = sum_is turn_cost n (placed_steps [] (nested op.Div))
 costs op.Rem is n = let e = sum_is turn_cost n (placed_steps [] (nested op.Rem)) in
     let s = triangle n in omega (arith, e, s)
 costs op.Bitcount is n = let e = sum_is turn_cost n (placed_steps [] (nested op.Bitcount)) in
-    let s = odd_together n n in let t = pairs_together n n in omega (arith, e, s, t)
+    let s = low_odd n in let t = low_pairs n in omega (arith, e, s, t)
 costs op.Divmod is n = let e = sum_is turn_cost n (placed_steps [] (nested op.Divmod)) in
     let s = triangle n in omega (arith, e, s)
 costs p is n = cc

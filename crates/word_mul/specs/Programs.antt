@@ -1,5 +1,5 @@
 -- The loop programs of the word operations that take a pass over a word for each position.
-use Rattle.std.specs.Prelude.{ℕ, zero, suc, ◌+◌, ◌*◌, ◌/◌, ◌%◌, ◌==◌, Bool, true, false}
+use Rattle.std.specs.Prelude.{ℕ, zero, suc, ◌+◌, ◌-◌, ◌*◌, ◌/◌, ◌%◌, ◌==◌, Bool, true, false}
 use Rattle.std.specs.Prelude.{if◌then◌else◌, List, [], ◌∷◌, ◌++◌, Option, Some, None}
 use Rattle.mig_graph.specs.declared.Node.{Node}
 use Rattle.mig_graph.specs.Literals.{node_of}
@@ -26,7 +26,8 @@ use Rattle.word_mul.specs.declared.shapes.BodyForm.TheVariants.{Without, Compare
 use Rattle.word_mul.specs.declared.shapes.BodyForm.TheVariants.{Begun, Counted, Kept, Divided}
 use Rattle.word_mul.specs.declared.shapes.NestPart.{NestPart}
 use Rattle.word_mul.specs.declared.shapes.NestPart.TheVariants as part
-use Rattle.word_mul.specs.declared.shapes.Gathering.{Gathering}
+use Rattle.word_mul.specs.declared.shapes.StepForm.{StepForm}
+use Rattle.word_mul.specs.declared.shapes.StepForm.TheVariants as step
 use Rattle.word_mul.specs.declared.shapes.NestedProgram.{NestedProgram}
 use Rattle.word_mul.specs.declared.table.TheConstants.{NESTED}
 
@@ -116,20 +117,17 @@ parts_of (Some (part.Each count f) ∷ ps) = Across count (form_body f) ∷ part
 parts_of (Some (part.IfOdd f) ∷ ps) = IfOdd (form_body f) ∷ parts_of ps
 parts_of (Some (part.Halves f g) ∷ ps) = Halves (form_body f) (form_body g) ∷ parts_of ps
 
--- a pass, where there is one
-abbrev pub pass_of : Option BodyForm → List (StepOf Marked)
-pass_of None = []
-pass_of (Some f) = Along (form_body f) ∷ []
-
--- what is gathered, where something is
-abbrev pub gathering_of : Option Gathering → List (StepOf Marked)
-gathering_of None = []
-gathering_of (Some g) = Single (form_body g.start) ∷ Nest (parts_of g.parts) ∷ []
+-- the steps that there are
+abbrev pub steps_of_forms : List (Option StepForm) → List (StepOf Marked)
+steps_of_forms [] = []
+steps_of_forms (None ∷ ss) = steps_of_forms ss
+steps_of_forms (Some (step.Once f) ∷ ss) = Single (form_body f) ∷ steps_of_forms ss
+steps_of_forms (Some (step.Each f) ∷ ss) = Along (form_body f) ∷ steps_of_forms ss
+steps_of_forms (Some (step.Nest span parts) ∷ ss) = Nest span (parts_of parts) ∷ steps_of_forms ss
 
 -- the steps of a row of the table
 abbrev pub row_steps : NestedProgram → List (StepOf Marked)
-row_steps r = Along (form_body r.first) ∷ (gathering_of r.gathering
-    ++ Nest (parts_of r.parts ++ parts_of (r.last ∷ [])) ∷ pass_of r.after)
+row_steps r = steps_of_forms r.steps
 
 -- an operation's row of the table
 abbrev pub program_in : List (WordOp × NestedProgram) → WordOp → Option NestedProgram
@@ -178,7 +176,7 @@ abbrev pub nested_total : WordOp → ℕ → ℕ
 nested_total o.Mul n = 9 * (n * (n + 1) / 2) + 4 * n
 nested_total o.Div n = 12 * (n * (n + 1) / 2) + 16 * n + 1
 nested_total o.Rem n = 12 * (n * (n + 1) / 2) + 16 * n + 1
-nested_total o.Bitcount n = 3 * n + 1 + 2 * odd_levels n n + 7 * pairs_below n n
+nested_total o.Bitcount n = 2 + 2 * (n - 1) + 2 * odd_levels n n + 7 * pairs_below n n
 nested_total o.Divmod n = 12 * (n * (n + 1) / 2) + 17 * n + 1
 nested_total p n = 0
 

@@ -1,15 +1,14 @@
 //! Loop programs by their rows of the table.
 
 ghost use Rattle.std.specs.Prelude.{◌≡◌, ◌++◌, ◌∷◌, [], map, IfOk, OnOk, Some};
-ghost use Rattle.loop_ir.specs.Plain.{inner_of, step_of, steps_of, AllInner, AllParts};
-ghost use Rattle.loop_ir.specs.Plain.StepOf.{Nest};
+ghost use Rattle.loop_ir.specs.Plain.{inner_of, step_of, steps_of, AllInner, AllStep, AllParts};
 ghost use Rattle.loop_laws.specs.Forms.{IsMade};
 ghost use Rattle.word_lower.specs.Places.{program_on};
-ghost use Rattle.word_mul.specs.Programs.{parts_of, pass_of, gathering_of, row_steps};
+ghost use Rattle.word_mul.specs.Programs.{parts_of, steps_of_forms, row_steps};
 ghost use Rattle.word_mul.specs.Bodies.{rows_at, parts_on};
 
 use crate::bodies::body;
-use crate::shapes::{BodyForm, Gathering, NestPart, NestedProgram, Owners};
+use crate::shapes::{NestPart, NestedProgram, Owners, StepForm};
 use faults::keep;
 use loop_ir::{Inner, LoopProgram, Step};
 use mig_graph::NoMemory;
@@ -67,69 +66,39 @@ fn parts(list: &[Option<NestPart>], owners: Owners, alloc: Global) -> Result<Vec
     Ok(all)
 }
 
-/// One more pass over a word, where there is one.
-fn add_pass(
+/// A step.
+fn step(form: StepForm, owners: Owners, alloc: Global) -> Result<Step, NoMemory>
+    ensures same { IfOk result (λ s. step_of s ∷ []
+        ≡ program_on (rows_at owners) (steps_of_forms (Some form ∷ []))) }
+    ensures made { IfOk result (λ s. AllStep IsMade (step_of s)) }
+{
+    match form {
+        StepForm::Once(form) => Ok(Step::Once(body(form, owners, alloc)?)),
+        StepForm::Each(form) => Ok(Step::Each(body(form, owners, alloc)?)),
+        StepForm::Nest(span, list) => Ok(Step::nest(span, parts(&list, owners, alloc)?)),
+    }
+}
+
+/// One more step, where there is one.
+fn add_step(
     steps: &mut Vec<Step>,
-    form: Option<BodyForm>,
+    form: Option<StepForm>,
     owners: Owners,
     alloc: Global,
 ) -> Result<(), NoMemory>
     ensures same { OnOk result (map step_of steps.new.items ≡ map step_of steps.old.items
-        ++ program_on (rows_at owners) (pass_of form)) }
+        ++ program_on (rows_at owners) (steps_of_forms (form ∷ []))) }
     ensures made { OnOk result (AllParts IsMade (map step_of steps.old.items)
         → AllParts IsMade (map step_of steps.new.items)) }
 {
     match form {
         None => Ok(()),
         Some(form) => {
-            let pass = body(form, owners, alloc)?;
-            keep(steps, Step::Each(pass))?;
+            let made = step(form, owners, alloc)?;
+            keep(steps, made)?;
             Ok(())
         }
     }
-}
-
-/// What is gathered of an argument, where something is.
-fn add_gathering(
-    steps: &mut Vec<Step>,
-    gathering: Option<Gathering>,
-    owners: Owners,
-    alloc: Global,
-) -> Result<(), NoMemory>
-    ensures same { OnOk result (map step_of steps.new.items ≡ map step_of steps.old.items
-        ++ program_on (rows_at owners) (gathering_of gathering)) }
-    ensures made { OnOk result (AllParts IsMade (map step_of steps.old.items)
-        → AllParts IsMade (map step_of steps.new.items)) }
-{
-    match gathering {
-        None => Ok(()),
-        Some(gathering) => {
-            let start = body(gathering.start, owners, alloc)?;
-            keep(steps, Step::Once(start))?;
-            let nest = parts(&gathering.parts, owners, alloc)?;
-            keep(steps, Step::Nest(nest))?;
-            Ok(())
-        }
-    }
-}
-
-/// The nest of a row, after what there is.
-fn add_nest(
-    steps: &mut Vec<Step>,
-    row: NestedProgram,
-    owners: Owners,
-    alloc: Global,
-) -> Result<(), NoMemory>
-    ensures same { OnOk result (map step_of steps.new.items ≡ map step_of steps.old.items
-        ++ program_on (rows_at owners)
-        (Nest (parts_of row.parts ++ parts_of (row.last ∷ [])) ∷ [])) }
-    ensures made { OnOk result (AllParts IsMade (map step_of steps.old.items)
-        → AllParts IsMade (map step_of steps.new.items)) }
-{
-    let mut nest = parts(&row.parts, owners, alloc)?;
-    add_part(&mut nest, row.last, owners, alloc)?;
-    keep(steps, Step::Nest(nest))?;
-    Ok(())
 }
 
 /// The loop program of a row.
@@ -138,9 +107,8 @@ pub fn built(row: NestedProgram, owners: Owners, alloc: Global) -> Result<LoopPr
     ensures made { IfOk result (λ p. AllParts IsMade (steps_of p)) }
 {
     let mut steps = Vec::new(alloc);
-    add_pass(&mut steps, Some(row.first), owners, alloc)?;
-    add_gathering(&mut steps, row.gathering, owners, alloc)?;
-    add_nest(&mut steps, row, owners, alloc)?;
-    add_pass(&mut steps, row.after, owners, alloc)?;
+    for form in &row.steps {
+        add_step(&mut steps, *form, owners, alloc)?;
+    }
     Ok(LoopProgram { steps })
 }

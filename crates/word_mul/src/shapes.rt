@@ -1,7 +1,7 @@
 //! The loop programs that take a pass for each position: whose rows their bodies read and write,
 //! what these compute, and where they stand.
 
-use loop_ir::{Count, Slot, Sub};
+use loop_ir::{Count, Slot, Span, Sub};
 
 /// Whose rows a place has: the target's, an argument's, those of a bit or of a word of internal
 /// scratch, or the second target's. A state in the cells of a layout has none.
@@ -73,21 +73,16 @@ pub enum NestPart {
     Halves(BodyForm, BodyForm),
 }
 
-/// What is known of an argument before: a body that is done once, and then a nest.
+/// A step: a body once, at each position, or the parts of a nest at outer positions.
 #[derive(Clone, Copy)]
-pub struct Gathering {
-    pub start: BodyForm,
-    pub parts: [Option<NestPart>; 2],
+pub enum StepForm {
+    Once(BodyForm),
+    Each(BodyForm),
+    Nest(Span, [Option<NestPart>; 6]),
 }
 
-/// A loop program: a pass over a word, what is gathered of an argument, then at each position the
-/// parts of a nest, then a pass.
+/// A loop program: the steps that there are, one after another.
 #[derive(Clone, Copy)]
 pub struct NestedProgram {
-    pub first: BodyForm,
-    pub gathering: Option<Gathering>,
-    pub parts: [Option<NestPart>; 5],
-    /// A part after these.
-    pub last: Option<NestPart>,
-    pub after: Option<BodyForm>,
+    pub steps: [Option<StepForm>; 5],
 }

@@ -7,8 +7,8 @@ use crate::shapes::BodyForm::{
     Begun, Compared, Counted, Divided, Either, Inverted, Kept, Moved, Multiplied, Off, On, Without,
 };
 use crate::shapes::NestPart::{Each, Halves, IfOdd, Once};
-use crate::shapes::{Gathering, Mark, NestPart, NestedProgram, Owner};
-use loop_ir::{Count, Sub};
+use crate::shapes::{BodyForm, Mark, NestPart, NestedProgram, Owner, StepForm};
+use loop_ir::{Count, Span, Sub};
 use op_text::WordOp;
 
 // the target: at the position, at those from the outer one on, and at the outer one from above
@@ -27,8 +27,13 @@ const Z_DOWN: Mark = Mark {
     sub: Sub::OuterDown,
 };
 
-// of a count the target at the level, at the elements of a pair, and at an element of the level
-// above
+// of a count the target at the lowest level, at the level, at the elements of a pair, and at an
+// element of the level above
+const Z_LOWEST: Mark = Mark {
+    owner: Owner::Target,
+    sub: Sub::Zero,
+};
+
 const Z_LEVEL: Mark = Mark {
     owner: Owner::Target,
     sub: Sub::Outer,
@@ -48,7 +53,8 @@ const Z_LEVEL_ABOVE: Mark = Mark {
     owner: Owner::Target,
     sub: Sub::AboveSum,
 };
-// the arguments, at the inner and at the outer position, and at the outer one from above
+// the arguments, at the inner position, at the top, at the elements of a pair, at the outer
+// position, and at the outer one from above
 const X: Mark = Mark {
     owner: Owner::First,
     sub: Sub::Inner,
@@ -57,6 +63,16 @@ const X: Mark = Mark {
 const X_TOP: Mark = Mark {
     owner: Owner::First,
     sub: Sub::Top,
+};
+
+const X_PAIR: Mark = Mark {
+    owner: Owner::First,
+    sub: Sub::SumTwice,
+};
+
+const X_PAIR_ABOVE: Mark = Mark {
+    owner: Owner::First,
+    sub: Sub::AboveSumTwice,
 };
 
 const Y: Mark = Mark {
@@ -148,23 +164,61 @@ const LEFT: Mark = Mark {
 };
 
 /// From the top position down: whether a bit of the divisor above the position is set.
-pub const HIGHER_BITS: Option<Gathering> = Some(Gathering {
-    start: Off(HIGHER),
-    parts: [
+pub const HIGHER_BITS: Option<StepForm> = Some(StepForm::Nest(
+    Span::Full,
+    [
         Some(Once(Moved(HIGHER, ABOVE_DOWN))),
         Some(Once(Either(Y_DOWN, HIGHER, HIGHER))),
+        None,
+        None,
+        None,
+        None,
     ],
-});
+));
 
-/// One step of a long division: as many low bits of the divisor as the window has are compared with
-/// it, and taken from it where they are not greater and no higher bit is set.
-pub const DIVISION: [Option<NestPart>; 5] = [
-    Some(Once(On(OVER))),
-    Some(Each(Count::UpTo, Compared(WINDOW, Y, OVER, FITS))),
-    Some(Once(Without(FITS, ABOVE, FITS))),
-    Some(Once(Off(BORROW))),
-    Some(Each(Count::UpTo, Divided(WINDOW, Y, FITS, BORROW))),
-];
+/// A step of a long division: a comparison begins.
+pub const BEGINS_OVER: Option<NestPart> = Some(Once(On(OVER)));
+
+/// As many low bits of the divisor as the window has are compared with it.
+pub const COMPARES: Option<NestPart> = Some(Each(Count::UpTo, Compared(WINDOW, Y, OVER, FITS)));
+
+/// They do not fit where a higher bit of the divisor is set.
+pub const LOOKS_ABOVE: Option<NestPart> = Some(Once(Without(FITS, ABOVE, FITS)));
+
+/// A borrow begins.
+pub const BEGINS_BORROW: Option<NestPart> = Some(Once(Off(BORROW)));
+
+/// The bits of the divisor are taken from the window where they fit.
+pub const TAKES_AWAY: Option<NestPart> = Some(Each(Count::UpTo, Divided(WINDOW, Y, FITS, BORROW)));
+
+/// The steps of a long division, each of which gives a bit of the quotient.
+pub const QUOTIENT: Option<StepForm> = Some(StepForm::Nest(
+    Span::Full,
+    [
+        BEGINS_OVER,
+        COMPARES,
+        LOOKS_ABOVE,
+        BEGINS_BORROW,
+        TAKES_AWAY,
+        Some(Once(Moved(FITS, Z_DOWN))),
+    ],
+));
+
+/// The same steps for what they leave alone.
+pub const DIVISION: Option<StepForm> = Some(StepForm::Nest(
+    Span::Full,
+    [
+        BEGINS_OVER,
+        COMPARES,
+        LOOKS_ABOVE,
+        BEGINS_BORROW,
+        TAKES_AWAY,
+        None,
+    ],
+));
+
+// of a count: the carry of a pair is an element of the level above
+const KEEPS_CARRY: BodyForm = Kept(LAST, SUM, Z_LEVEL_ABOVE);
 
 /// The loop programs with a nest, each with its operation.
 pub static NESTED: [(WordOp, NestedProgram); 5] = [
@@ -172,75 +226,97 @@ pub static NESTED: [(WordOp, NestedProgram); 5] = [
     (
         WordOp::Mul,
         NestedProgram {
-            first: Off(Z),
-            gathering: None,
-            parts: [
-                Some(Once(Inverted(Y_OUTER, BIT))),
-                Some(Once(Off(CARRY))),
-                Some(Each(Count::Rest, Multiplied(Z_SUM, X, BIT, CARRY))),
+            steps: [
+                Some(StepForm::Each(Off(Z))),
+                Some(StepForm::Nest(
+                    Span::Full,
+                    [
+                        Some(Once(Inverted(Y_OUTER, BIT))),
+                        Some(Once(Off(CARRY))),
+                        Some(Each(Count::Rest, Multiplied(Z_SUM, X, BIT, CARRY))),
+                        None,
+                        None,
+                        None,
+                    ],
+                )),
+                None,
                 None,
                 None,
             ],
-            last: None,
-            after: None,
         },
     ),
     // each step gives a bit of the quotient
     (
         WordOp::Div,
         NestedProgram {
-            first: Moved(X, REST),
-            gathering: HIGHER_BITS,
-            parts: DIVISION,
-            last: Some(Once(Moved(FITS, Z_DOWN))),
-            after: None,
+            steps: [
+                Some(StepForm::Each(Moved(X, REST))),
+                Some(StepForm::Once(Off(HIGHER))),
+                HIGHER_BITS,
+                QUOTIENT,
+                None,
+            ],
         },
     ),
     // what the steps leave
     (
         WordOp::Rem,
         NestedProgram {
-            first: Moved(X, REST),
-            gathering: HIGHER_BITS,
-            parts: DIVISION,
-            last: None,
-            after: Some(Moved(REST, Z)),
+            steps: [
+                Some(StepForm::Each(Moved(X, REST))),
+                Some(StepForm::Once(Off(HIGHER))),
+                HIGHER_BITS,
+                DIVISION,
+                Some(StepForm::Each(Moved(REST, Z))),
+            ],
         },
     ),
-    // level o has n / 2^o elements of weight 2^o, from row o on, the bits of the argument at first.
-    // Its sum begins with the last one where they are odd in number, and takes the others in pairs,
-    // whose carries are the elements of the level above
+    // Level o has n / 2^o elements of weight 2^o: the bits of the argument at first, then those from
+    // row o on. Its sum begins with the last one where they are odd in number, and takes the others
+    // in pairs, whose carries are the elements of the level above
     (
         WordOp::Bitcount,
         NestedProgram {
-            first: Moved(X, Z),
-            gathering: Some(Gathering {
-                start: Moved(X_TOP, LAST),
-                parts: [None, None],
-            }),
-            parts: [
-                Some(Once(Off(SUM))),
-                Some(IfOdd(Begun(LAST, SUM, BEGINNING))),
-                Some(Halves(
-                    Counted(Z_PAIR, Z_PAIR_ABOVE, SUM, LAST),
-                    Kept(LAST, SUM, Z_LEVEL_ABOVE),
+            steps: [
+                Some(StepForm::Once(Off(SUM))),
+                Some(StepForm::Nest(
+                    Span::First,
+                    [
+                        Some(IfOdd(Begun(X_TOP, SUM, BEGINNING))),
+                        Some(Halves(Counted(X_PAIR, X_PAIR_ABOVE, SUM, LAST), KEEPS_CARRY)),
+                        None,
+                        None,
+                        None,
+                        None,
+                    ],
                 )),
-                Some(Once(Moved(SUM, Z_LEVEL))),
+                Some(StepForm::Once(Moved(SUM, Z_LOWEST))),
+                Some(StepForm::Nest(
+                    Span::Above,
+                    [
+                        Some(Once(Off(SUM))),
+                        Some(IfOdd(Begun(LAST, SUM, BEGINNING))),
+                        Some(Halves(Counted(Z_PAIR, Z_PAIR_ABOVE, SUM, LAST), KEEPS_CARRY)),
+                        Some(Once(Moved(SUM, Z_LEVEL))),
+                        None,
+                        None,
+                    ],
+                )),
                 None,
             ],
-            last: None,
-            after: None,
         },
     ),
     // the quotient, and then what its steps leave
     (
         WordOp::Divmod,
         NestedProgram {
-            first: Moved(X, REST),
-            gathering: HIGHER_BITS,
-            parts: DIVISION,
-            last: Some(Once(Moved(FITS, Z_DOWN))),
-            after: Some(Moved(REST, LEFT)),
+            steps: [
+                Some(StepForm::Each(Moved(X, REST))),
+                Some(StepForm::Once(Off(HIGHER))),
+                HIGHER_BITS,
+                QUOTIENT,
+                Some(StepForm::Each(Moved(REST, LEFT))),
+            ],
         },
     ),
 ];

@@ -9,6 +9,8 @@ use Rattle.std.proofs.lemmas.List.Sums.{sum_by-cons}
 use Rattle.std.proofs.lemmas.Grind.{common_steps}
 use Rattle.uprog_code.specs.declared.code.Uop.{Uop}
 use Rattle.uprog_code.specs.declared.code.Uop.TheVariants.{SetI, SetN, SetT, Mov, SubI, AddI, Bnez}
+use Rattle.loop_ir.specs.declared.ir.Span.{Span}
+use Rattle.loop_ir.specs.declared.ir.Span.TheVariants.{Full, First, Above}
 use Rattle.loop_ir.specs.declared.ir.Count.{Count}
 use Rattle.loop_ir.specs.declared.ir.Count.TheVariants.{All as All_of, Rest, UpTo}
 use Rattle.loop_ir.specs.declared.ir.Inner.{Inner}
@@ -22,7 +24,7 @@ use Rattle.loop_ir.specs.Plain.StepOf.{Single, Along, Nest, Pairs, Alternate}
 use Rattle.uprog_gen.specs.Code.{Part, block_of_part, blocks, body_uops, once_code, loop_code}
 use Rattle.uprog_gen.specs.Code.{counter, halve_code, level_code, skip_code, odd_code}
 use Rattle.uprog_gen.specs.Code.{pairing_code, halves_code}
-use Rattle.uprog_gen.specs.Code.{inner_code, inner_list, outside, guard_code, pairs_code}
+use Rattle.uprog_gen.specs.Code.{inner_code, inner_list, outside, guard_code, pairs_code, span_code}
 use Rattle.uprog_gen.specs.Code.{turn_uops, either_code, either_size, turns_list, start_code}
 use Rattle.uprog_gen.specs.Code.{cycle_code, step_code}
 use Rattle.uprog_gen.specs.Code.{program_code}
@@ -212,29 +214,24 @@ pub pairs_emits : (p : Part) (old new : List Uop) → IsPart p
     → new ≡ old ++ pairs_code p (length old) → EmitsSteps (Pairs p.block ∷ []) old new
 pairs_emits p old new is e = one_step (Pairs p) old new is e
 
-pub empty_emits : (old : List Uop) → EmitsSteps (Nest [] ∷ []) old old
-empty_emits old = one_step (Nest []) old old tt (sym (append-nil old))
+empty_emits : (span : Span) (old : List Uop) → EmitsSteps (Nest span [] ∷ []) old old
+empty_emits span old = one_step (Nest span []) old old tt (sym (append-nil old))
 
-pub nest_emits : (x : InnerOf Block) (xs : List (InnerOf Block)) (old first mid new : List Uop)
-    → first ≡ old ++ (SetI 0 0 ∷ SetN 1 ∷ SubI 1 1 ∷ []) → EmitsInner (x ∷ xs) first mid
-    → new ≡ mid ++ (AddI 0 1 ∷ Bnez 1 (length old + 1 + 1) ∷ [])
-    → EmitsSteps (Nest (x ∷ xs) ∷ []) old new
-nest_emits x xs old first mid new f a e = by a.coded a.same a.parts a.code
+-- a nest, once its parts are emitted and the code round them stands
+span_made : (span : Span) (ps : List Inner) (old first mid new : List Uop) → 0 < length ps
+    → EmitsInner (map inner_of ps) first mid
+    → ((cs : List (InnerOf Part)) → mid ≡ first ++ inner_list cs (length first)
+    → new ≡ old ++ span_code span (inner_list cs) (length old))
+    → EmitsSteps (Nest span (map inner_of ps) ∷ []) old new
+span_made span [] old first mid new some a e = absurd (omega arith)
+span_made span (x ∷ xs) old first mid new some a e = by a.coded a.same a.parts (e a.coded a.code)
   where
-    by : (cs : List (InnerOf Part)) → map (inner_map block_of_part) cs ≡ x ∷ xs → AllInner IsPart cs
-        → mid ≡ first ++ inner_list cs (length first) → EmitsSteps (Nest (x ∷ xs) ∷ []) old new
-    by [] same parts code = absurd (let g : [] ≡ x ∷ xs = same in cc)
-    by (c ∷ cs) same parts code =
-        let pre = SetI 0 0 ∷ SetN 1 ∷ SubI 1 1 ∷ [] in
-        let post = AddI 0 1 ∷ Bnez 1 (length old + 1 + 1) ∷ [] in
-        let size : length first ≡ length old + 1 + 1 + 1 =
-        omega (arith, ap length f, length-append old pre) in
-        let body = inner_list (c ∷ cs) (length old + 1 + 1 + 1) in
-        subst (λ l. EmitsSteps (Nest l ∷ []) old new) same
-        (one_step (Nest (c ∷ cs)) old new parts
-        (e ∙ ap (λ l. l ++ post) (code ∙ ap (λ l. l ++ inner_list (c ∷ cs) (length first)) f
-        ∙ ap (λ q. (old ++ pre) ++ inner_list (c ∷ cs) q) size)
-        ∙ append_assoc (old ++ pre) body post ∙ append_assoc old pre (body ++ post)))
+    by : (cs : List (InnerOf Part)) → map (inner_map block_of_part) cs ≡ map inner_of (x ∷ xs)
+        → AllInner IsPart cs → new ≡ old ++ span_code span (inner_list cs) (length old)
+        → EmitsSteps (Nest span (map inner_of (x ∷ xs)) ∷ []) old new
+    by [] same parts code = absurd (let g : [] ≡ inner_of x ∷ map inner_of xs = same in cc)
+    by (c ∷ cs) same parts code = subst (λ l. EmitsSteps (Nest span l ∷ []) old new) same
+        (one_step (Nest span (c ∷ cs)) old new parts code)
 
 -- a list up to one more
 inner_more_taken : (xs : List Inner) (k : ℕ) (x : Inner) → k < length xs → x ≡ slice_index_or xs k x
@@ -671,25 +668,91 @@ cycle_emits (x ∷ xs) old a b c out head end some eo eh ea eb ec ee =
 pub nest_made : (ps : List Inner) (old a b c d e f : List Uop) (top : ℕ) → 0 < length ps
     → a ≡ old ++ SetI 0 0 ∷ [] → b ≡ a ++ SetN 1 ∷ [] → top ≡ length b → c ≡ b ++ SubI 1 1 ∷ []
     → EmitsInner (map inner_of ps) c d → e ≡ d ++ AddI 0 1 ∷ [] → f ≡ e ++ Bnez 1 top ∷ []
-    → EmitsSteps (Nest (map inner_of ps) ∷ []) old f
-nest_made [] old a b c d e f top some ea eb et ec ed ee ef = absurd (omega arith)
-nest_made (p ∷ ps) old a b c d e f top some ea eb et ec ed ee ef =
+    → EmitsSteps (Nest Full (map inner_of ps) ∷ []) old f
+nest_made ps old a b c d e f top some ea eb et ec ed ee ef =
     let two = two_pushes old a b (SetI 0 0) (SetN 1) ea eb in
+    let pre = SetI 0 0 ∷ SetN 1 ∷ SubI 1 1 ∷ [] in
+    let post = AddI 0 1 ∷ Bnez 1 (length old + 1 + 1) ∷ [] in
     let at : top ≡ length old + 1 + 1 = omega (
       arith,
       et,
       ap length two,
       length-append old (SetI 0 0 ∷ SetN 1 ∷ []),
     ) in
-    nest_emits (inner_of p) (map inner_of ps) old c d f
-    (ec ∙ ap (λ l. l ++ SubI 1 1 ∷ []) two ∙ append_assoc old (SetI 0 0 ∷ SetN 1 ∷ []) (SubI 1 1
-    ∷ [])) ed
-    (two_pushes d e f (AddI 0 1) (Bnez 1 top) ee ef ∙ ap (λ t. d ++ (AddI 0 1 ∷ Bnez 1 t ∷ [])) at)
+    let three : c ≡ old ++ pre = ec ∙ ap (λ l. l ++ SubI 1 1 ∷ []) two
+    ∙ append_assoc old (SetI 0 0 ∷ SetN 1 ∷ []) (SubI 1 1 ∷ []) in
+    let size : length c ≡ length old + 1 + 1 + 1 =
+    omega (arith, ap length three, length-append old pre) in
+    span_made Full ps old c d f some ed (λ cs code.
+    let body = inner_list cs (length old + 1 + 1 + 1) in
+    two_pushes d e f (AddI 0 1) (Bnez 1 top) ee ef ∙ ap (λ t. d ++ (AddI 0 1 ∷ Bnez 1 t ∷ [])) at
+    ∙ ap (λ l. l ++ post) (code ∙ ap (λ l. l ++ inner_list cs (length c)) three
+    ∙ ap (λ q. (old ++ pre) ++ inner_list cs q) size)
+    ∙ append_assoc (old ++ pre) body post ∙ append_assoc old pre (body ++ post))
 
-pub nothing_made : (ps : List Inner) (old : List Uop) → length ps ≡ 0
-    → EmitsSteps (Nest (map inner_of ps) ∷ []) old old
-nothing_made [] old e = empty_emits old
-nothing_made (p ∷ ps) old e = absurd (omega arith)
+-- a nest at the first outer position
+pub first_made : (ps : List Inner) (old a b c : List Uop) → 0 < length ps
+    → a ≡ old ++ SetI 0 0 ∷ [] → b ≡ a ++ SetT 1 ∷ [] → EmitsInner (map inner_of ps) b c
+    → EmitsSteps (Nest First (map inner_of ps) ∷ []) old c
+first_made ps old a b c some ea eb ec =
+    let two : b ≡ old ++ outside = two_pushes old a b (SetI 0 0) (SetT 1) ea eb in
+    let size : length b ≡ length old + 1 + 1 =
+    omega (arith, ap length two, length-append old outside) in
+    span_made First ps old b c c some ec (λ cs code.
+    code ∙ ap (λ l. l ++ inner_list cs (length b)) two
+    ∙ append_assoc old outside (inner_list cs (length b))
+    ∙ ap (λ q. old ++ (outside ++ inner_list cs q)) size)
+
+-- the jump past a nest from the second outer position on, once it stands
+pub above_made : (ps : List Inner) (old a b c d : List Uop) (past top end : ℕ) → 0 < length ps
+    → past ≡ length old + 3 → top ≡ past + 1 → a ≡ old ++ guard_code (length old) 0
+    → EmitsInner (map inner_of ps) a b → c ≡ b ++ AddI 0 1 ∷ [] → d ≡ c ++ Bnez 1 top ∷ []
+    → end ≡ length d → EmitsSteps (Nest Above (map inner_of ps) ∷ []) old (set d past (Bnez 0 end))
+above_made ps old a b c d past top end some ep et ea eb ec ed ee =
+    let head = length old + 1 + 1 + 1 + 1 in
+    let guard = guard_code (length old) 0 in
+    let front = SetI 0 1 ∷ SetT 1 ∷ Bnez 1 head ∷ [] in
+    let post = AddI 0 1 ∷ Bnez 1 head ∷ [] in
+    let long : length a ≡ head + 1 = omega (arith, ap length ea, length-append old guard) in
+    let back_at : top ≡ head = omega (arith, ep, et) in
+    let at : past ≡ length (old ++ front) = omega (arith, ep, length-append old front) in
+    span_made Above ps old a b (set d past (Bnez 0 end)) some eb (λ cs code.
+    let body = inner_list cs (head + 1) in
+    let rest = SubI 1 1 ∷ (body ++ post) in
+    let whole : d ≡ (old ++ front) ++ Bnez 0 0 ∷ rest =
+    two_pushes b c d (AddI 0 1) (Bnez 1 top) ec ed
+    ∙ ap (λ t. b ++ (AddI 0 1 ∷ Bnez 1 t ∷ [])) back_at
+    ∙ ap (λ l. l ++ post) (code ∙ ap (λ q. a ++ inner_list cs q) long ∙ ap (λ l. l ++ body) ea)
+    ∙ append_assoc (old ++ guard) body post ∙ append_assoc old guard (body ++ post)
+    ∙ sym (append_assoc old front (Bnez 0 0 ∷ rest)) in
+    let here : end ≡ head + 1 + length body + 1 + 1 = omega (
+      arith,
+      ee,
+      ap length whole,
+      length-append (old ++ front) (Bnez 0 0 ∷ rest),
+      length-append old front,
+      length-append body post,
+    ) in
+    ap (λ l. set l past (Bnez 0 end)) whole
+    ∙ ap (λ k. set ((old ++ front) ++ Bnez 0 0 ∷ rest) k (Bnez 0 end)) at
+    ∙ set-append_seam (old ++ front) (Bnez 0 0) rest (Bnez 0 end)
+    ∙ append_assoc old front (Bnez 0 end ∷ rest)
+    ∙ ap (λ t. old ++ (front ++ Bnez 0 t ∷ rest)) here)
+
+pub nothing_made : (span : Span) (ps : List Inner) (old : List Uop) → length ps ≡ 0
+    → EmitsSteps (Nest span (map inner_of ps) ∷ []) old old
+nothing_made span [] old e = empty_emits span old
+nothing_made span (p ∷ ps) old e = absurd (omega arith)
+
+pub inners_short : (xs : List (InnerOf Block)) (old new : List Uop) → EmitsInner xs old new
+    → length new ≤ length old + sum_by inner_cost xs
+inners_short xs old new a = omega (
+  arith,
+  ap length a.code,
+  length-append old (inner_list a.coded (length old)),
+  inner_few a.coded (length old) a.parts,
+  ap (sum_by inner_cost) a.same,
+)
 
 pub steps_short : (steps : List (StepOf Block)) (old new : List Uop) → EmitsSteps steps old new
     → length new ≤ length old + code_cost steps

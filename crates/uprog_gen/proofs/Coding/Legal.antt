@@ -5,7 +5,7 @@ use Rattle.std.proofs.Common.{[], ◌∷◌, ◌++◌, map, length, refl, ap, �
 use Rattle.std.proofs.Common.{length-append, append-nil, append_assoc, sym}
 use Rattle.std.proofs.lemmas.List.{length-map}
 use Rattle.bit_rows.specs.declared.TheConstants.{WIDTH_MAX}
-use Rattle.std.specs.Prelude.{slice_get, nat_lt, nat_le, ◌==◌, ◌&&◌}
+use Rattle.std.specs.Prelude.{slice_get, nat_lt, nat_le, ◌==◌, ◌&&◌, ◌%◌}
 use Rattle.std.specs.List.{AllByRecursion, list_all}
 use Rattle.std.proofs.Math.Seq.{get_or-append_seam}
 use Rattle.std.proofs.lemmas.Option.{slice_get-get_or}
@@ -17,7 +17,9 @@ use Rattle.uprog_code.specs.declared.code.Uop.TheVariants.{Done, SetI, SetN, Mov
 use Rattle.uprog_code.specs.Shape.{Shape, results}
 use Rattle.uprog_code.specs.Legal.{is_row, is_first, is_second, may_be_first, may_be_second}
 use Rattle.uprog_code.specs.Legal.{is_legal, IsLegalCode}
-use Rattle.loop_ir.specs.Loops.{rounds, RoundOf, round_at, inner_rounds, step_rounds, all_rounds}
+use Rattle.loop_ir.specs.declared.ir.Span.TheVariants.{Full, First, Above}
+use Rattle.loop_ir.specs.Loops.{rounds, RoundOf, round_at, one_round, two_rounds, positions}
+use Rattle.loop_ir.specs.Loops.{elements, inner_rounds, step_rounds, all_rounds}
 use Rattle.loop_ir.specs.Loops.{sub_value, turns_from}
 use Rattle.row_alloc.specs.declared.body.BodyRef.{BodyRef}
 use Rattle.row_alloc.specs.declared.body.BodyRef.TheVariants as ref
@@ -225,21 +227,47 @@ module _ (head : Shape) where
   fit_part p part n i o is plan size = uops_legal p part plan n i o is size p.cmds part.does.legal
       part.does.unread
 
-  -- Each body has a round at width 2, those of a nest at width 3, where the lowest level is odd and has
-  -- a pair, and those that take turns where there are positions enough
-  fit_inner : (xs : List (InnerOf Part)) → AllInner IsPart xs
-      → AllByRecursion (IsRound (IsSpot head 3) 3) (map block_round (inner_rounds 3 0 xs))
-      → AllInner IsFit xs
-  fit_inner [] h r = tt
-  fit_inner (Alone p ∷ xs) h r = (fit_part p h.0 3 0 0 r.0, fit_inner xs h.1 r.1)
-  fit_inner (Across All_of p ∷ xs) h r = (fit_part p h.0 3 0 0 r.0, fit_inner xs h.1 r.1.1.1)
-  fit_inner (Across Rest p ∷ xs) h r = (fit_part p h.0 3 0 0 r.0, fit_inner xs h.1 r.1.1.1)
-  fit_inner (Across UpTo p ∷ xs) h r = (fit_part p h.0 3 0 0 r.0, fit_inner xs h.1 r.1)
-  fit_inner (IfOdd p ∷ xs) h r = (fit_part p h.0 3 0 0 r.0, fit_inner xs h.1 r.1)
-  fit_inner (Halves p q ∷ xs) h r = (
-    (fit_part p h.0.0 3 0 0 r.0, fit_part q h.0.1 3 0 0 r.1.0),
-    fit_inner xs h.1 r.1.1,
-  )
+  -- Each body has a round at width 2, those of a nest where the level is odd and has a pair, and
+  -- those that take turns where there are positions enough
+  module _ (n o : ℕ) (below : o < n) (odd : 0 < elements n o % 2) (pair : 0 < elements n (o + 1))
+    where
+      -- the first of some rounds, and what comes after them
+      first_of : (f : ℕ → List (RoundOf Part)) (count : ℕ) (more : List (RoundOf Part)) → 0 < count
+          → AllByRecursion (IsRoundAtWidth n) (map block_round (rounds f 0 count ++ more))
+          → AllByRecursion (IsRoundAtWidth n) (map block_round (f 0))
+          × AllByRecursion (IsRoundAtWidth n) (map block_round more)
+      first_of f zero more some r = absurd (omega arith)
+      first_of f (suc count) more some r =
+          let rest = rounds f (0 + 1) count in
+          let all = subst (AllByRecursion (IsRoundAtWidth n)) (blocks-append (f 0 ++ rest) more) r in
+          let front = front_all (IsRoundAtWidth n) (map block_round (f 0 ++ rest))
+          (map block_round more) all in (
+            front_all (IsRoundAtWidth n) (map block_round (f 0)) (map block_round rest)
+                (subst (AllByRecursion (IsRoundAtWidth n)) (blocks-append (f 0) rest) front),
+            back_all (IsRoundAtWidth n) (map block_round (f 0 ++ rest)) (map block_round more) all,
+          )
+
+      some_positions : (count : Count) → 0 < positions n o count
+      some_positions All_of = omega (arith, below)
+      some_positions Rest = omega (arith, below)
+      some_positions UpTo = omega arith
+
+      fit_inner : (xs : List (InnerOf Part)) → AllInner IsPart xs
+          → AllByRecursion (IsRoundAtWidth n) (map block_round (inner_rounds n o xs))
+          → AllInner IsFit xs
+      fit_inner [] h r = tt
+      fit_inner (Alone p ∷ xs) h r = (fit_part p h.0 n 0 o r.0, fit_inner xs h.1 r.1)
+      fit_inner (Across count p ∷ xs) h r =
+          let a = first_of (λ i. one_round p i o) (positions n o count) (inner_rounds n o xs)
+          (some_positions count) r in
+          (fit_part p h.0 n 0 o a.0.0, fit_inner xs h.1 a.1)
+      fit_inner (IfOdd p ∷ xs) h r =
+          let a = first_of (λ i. one_round p i o) (elements n o % 2) (inner_rounds n o xs) odd r in
+          (fit_part p h.0 n 0 o a.0.0, fit_inner xs h.1 a.1)
+      fit_inner (Halves p q ∷ xs) h r =
+          let a = first_of (λ i. two_rounds p q i o) (elements n (o + 1)) (inner_rounds n o xs) pair r
+          in
+          ((fit_part p h.0.0 n 0 o a.0.0, fit_part q h.0.1 n 0 o a.0.1.0), fit_inner xs h.1 a.1)
 
   fit_turns : (ts us : List (TurnOf Part)) (i : ℕ) → AllTurns IsPart ts
       → i + length ts < WIDTH_MAX
@@ -260,6 +288,18 @@ module _ (head : Shape) where
         (r (suc count) (omega (arith, le))).1)),
   )
 
+  -- a nest of which some outer position has a round of each body
+  fit_nest : (n o count : ℕ) (parts : List (InnerOf Part)) → AllInner IsPart parts → o < n
+      → 0 < elements n o % 2 → 0 < elements n (o + 1)
+      → AllByRecursion (IsRoundAtWidth n) (map block_round (rounds (λ j. inner_rounds n j parts) o
+      (suc count))) → AllInner IsFit parts
+  fit_nest n o count parts h below odd pair r =
+      let first = inner_rounds n o parts in
+      let more = rounds (λ j. inner_rounds n j parts) (o + 1) count in
+      fit_inner n o below odd pair parts h (front_all (IsRoundAtWidth n) (map block_round first)
+      (map block_round more)
+      (subst (AllByRecursion (IsRoundAtWidth n)) (blocks-append first more) r))
+
   -- at each width the rounds are such
   abbrev AtWidths : (ℕ → List (RoundOf Part)) → Type 0
   AtWidths rs = (n : ℕ) → 0 < n → n ≤ WIDTH_MAX
@@ -269,13 +309,12 @@ module _ (head : Shape) where
       → AtWidths (λ n. step_rounds n s) → AllStep IsFit s
   fit_step (Single p) h few r = fit_part p h 2 0 0 (r 2 (omega arith) (omega arith)).0
   fit_step (Along p) h few r = fit_part p h 2 0 0 (r 2 (omega arith) (omega arith)).0
-  fit_step (Nest parts) h few r =
-      let first : List (RoundOf Part) = inner_rounds 3 0 parts in
-      let more : List (RoundOf Part) = inner_rounds 3 1 parts ++ (inner_rounds 3 2 parts ++ []) in
-      fit_inner parts h (front_all (IsRound (IsSpot head 3) 3) (map block_round first)
-      (map block_round more)
-      (subst (AllByRecursion (IsRound (IsSpot head 3) 3)) (blocks-append first more)
-      (r 3 (omega arith) (omega arith))))
+  fit_step (Nest Full parts) h few r = fit_nest 3 0 2 parts h (omega arith) (omega arith)
+      (omega arith) (r 3 (omega arith) (omega arith))
+  fit_step (Nest First parts) h few r = fit_nest 3 0 0 parts h (omega arith) (omega arith)
+      (omega arith) (r 3 (omega arith) (omega arith))
+  fit_step (Nest Above parts) h few r = fit_nest 6 1 4 parts h (omega arith) (omega arith)
+      (omega arith) (r 6 (omega arith) (omega arith))
   fit_step (Pairs p) h few r = fit_part p h 2 0 1 (r 2 (omega arith) (omega arith)).0
   fit_step (Alternate ts) h few r =
       let many : 2 * length ts ≤ 12 = omega (
@@ -529,8 +568,28 @@ module _ (head : Shape) where
     step_legal (Single p) pc h le = single_legal p (is_fixed p.block) h
     step_legal (Along p) pc h le =
         (refl, (refl, loop_legal All_of p (pc + 1 + 1) h (omega (arith, le))))
-    step_legal (Nest []) pc h le = tt
-    step_legal (Nest (x ∷ xs)) pc h le =
+    step_legal (Nest span []) pc h le = tt
+    step_legal (Nest First (x ∷ xs)) pc h le =
+        (refl, (refl, inner_legal (x ∷ xs) (pc + 1 + 1) h (omega (arith, le))))
+    step_legal (Nest Above (x ∷ xs)) pc h le =
+        let top = pc + 1 + 1 + 1 + 1 in
+        let a = inner_list (x ∷ xs) (top + 1) in
+        let post = AddI 0 1 ∷ Bnez 1 top ∷ [] in
+        let all = length-append a post in
+        let target : top < size = omega (arith, le, all) in
+        let end : top + 1 + length a + 1 + 1 < size = omega (arith, le, all) in
+        let rest = join a post (inner_legal (x ∷ xs) (top + 1) h (omega (arith, le, all)))
+        (refl, (lt-ltb top size target, tt)) in (
+          refl,
+          (
+            refl,
+            (
+              lt-ltb top size target,
+              (lt-ltb (top + 1 + length a + 1 + 1) size end, (refl, rest)),
+            ),
+          ),
+        )
+    step_legal (Nest Full (x ∷ xs)) pc h le =
         let q = pc + 1 + 1 + 1 in
         let a = inner_list (x ∷ xs) q in
         let post = AddI 0 1 ∷ Bnez 1 (pc + 1 + 1) ∷ [] in

@@ -6,6 +6,7 @@ use Rattle.std.proofs.lemmas.List.{length-map}
 use Rattle.std.proofs.lemmas.List.Sums.{sum_by-cons}
 use Rattle.uprog_code.specs.declared.code.Uop.{Uop}
 use Rattle.uprog_code.specs.declared.code.Uop.TheVariants.{SubI, AddI, Bnez}
+use Rattle.loop_ir.specs.declared.ir.Span.TheVariants.{Full, First, Above}
 use Rattle.loop_ir.specs.declared.ir.Sub.{Sub}
 use Rattle.loop_ir.specs.declared.ir.Sub.TheVariants.{Zero, Top, Inner as At_inner, InnerDown}
 use Rattle.loop_ir.specs.declared.ir.Sub.TheVariants.{Outer, OuterDown, Sum, DownSum, SumTwice}
@@ -236,12 +237,20 @@ pub step_few : (s : StepOf Part) (pc : ℕ) → AllStep IsPart s
     → length (step_code s pc) ≤ step_cost (step_map block_of_part s)
 step_few (Single p) pc h = single_few p h (is_fixed p.block)
 step_few (Along p) pc h = omega (arith, loop_few All_of p (pc + 1 + 1) h)
-step_few (Nest []) pc h = omega arith
-step_few (Nest (x ∷ xs)) pc h =
+step_few (Nest span []) pc h = omega arith
+step_few (Nest Full (x ∷ xs)) pc h =
     let q = pc + 1 + 1 + 1 in
     omega (
       arith,
       length-append (inner_list (x ∷ xs) q) (AddI 0 1 ∷ Bnez 1 (pc + 1 + 1) ∷ []),
+      inner_few (x ∷ xs) q h,
+    )
+step_few (Nest First (x ∷ xs)) pc h = omega (arith, inner_few (x ∷ xs) (pc + 1 + 1) h)
+step_few (Nest Above (x ∷ xs)) pc h =
+    let q = pc + 1 + 1 + 1 + 1 + 1 in
+    omega (
+      arith,
+      length-append (inner_list (x ∷ xs) q) (AddI 0 1 ∷ Bnez 1 (pc + 1 + 1 + 1 + 1) ∷ []),
       inner_few (x ∷ xs) q h,
     )
 step_few (Pairs p) pc h = omega (arith, loop_few Rest p (pc + 1 + 1 + 1 + 1 + 1) h)

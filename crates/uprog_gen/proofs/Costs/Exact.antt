@@ -24,7 +24,7 @@ use Rattle.word_lower.specs.Programs.{program, program_of}
 use Rattle.word_lower.proofs.ByTurns.{and_turns, or_turns, xor_turns}
 use Rattle.word_lower.proofs.Rectified.{relu_turns}
 use Rattle.word_mul.specs.Programs.{is_nested, nested}
-use Rattle.word_mul.proofs.Totals.{triangle, odd_together, pairs_together}
+use Rattle.word_mul.proofs.Totals.{triangle, low_odd, low_pairs}
 use Rattle.uprog_gen.specs.Costs.{op_aaps, op_aps}
 use Rattle.uprog_gen.specs.Settled.{turn_aaps, turn_aps, IsSettled}
 use Rattle.uprog_gen.proofs.Costs.Placed.{steps_settle, settled_steps, aaps_like, aps_like}
@@ -101,7 +101,7 @@ numbered_aaps op.Mul k n some = let h = sum_is turn_aaps n (placed_steps [] (Num
     omega (arith, h, triangle n, some)
 numbered_aaps op.Bitcount k n some =
     let h = sum_is turn_aaps n (placed_steps [] (Numbered op.Bitcount k)) in
-    omega (arith, h, odd_together n n, pairs_together n n, some)
+    omega (arith, h, low_odd n, low_pairs n, some)
 numbered_aaps op.Relu k n some =
     let h = sum_is turn_aaps n (placed_steps [] (Numbered op.Relu k)) in
     let e = two_by turn_aaps (map (turn_map (placed_body [])) relu_turns) 1 4 6 n
@@ -136,7 +136,7 @@ numbered_aps op.Mul k n some = let h = sum_is turn_aps n (placed_steps [] (Numbe
     omega (arith, h, triangle n, some)
 numbered_aps op.Bitcount k n some =
     let h = sum_is turn_aps n (placed_steps [] (Numbered op.Bitcount k)) in
-    omega (arith, h, odd_together n n, pairs_together n n, some)
+    omega (arith, h, low_odd n, low_pairs n, some)
 numbered_aps op.Relu k n some =
     let h = sum_is turn_aps n (placed_steps [] (Numbered op.Relu k)) in
     let e = two_by turn_aps (map (turn_map (placed_body [])) relu_turns) 0 0 0 n

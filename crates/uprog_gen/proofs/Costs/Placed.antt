@@ -31,7 +31,7 @@ abbrev pub steps_settle : List (StepOf Block) → Bool
 steps_settle [] = true
 steps_settle (Single b ∷ ss) = is_settled b && steps_settle ss
 steps_settle (Along b ∷ ss) = is_settled b && steps_settle ss
-steps_settle (Nest ps ∷ ss) = inners_settle ps && steps_settle ss
+steps_settle (Nest span ps ∷ ss) = inners_settle ps && steps_settle ss
 steps_settle (Pairs b ∷ ss) = is_settled b && steps_settle ss
 steps_settle (Alternate t ∷ ss) = all_turns is_settled t && steps_settle ss
 
@@ -83,7 +83,7 @@ module _ (rooms : List Room) (rows : HaveRows rooms) where
             settled_placed t (turns_tested (placed_body []) is_settled t p.0),
         settled_steps ss p.1,
       )
-  settled_steps (Nest ps ∷ ss) h =
+  settled_steps (Nest span ps ∷ ss) h =
       let p = and_parts (inners_settle (map (inner_map (placed_body [])) ps))
       (steps_settle (placed_steps [] ss)) h in
       (inners_settled ps p.0, settled_steps ss p.1)

@@ -5,6 +5,10 @@ use Rattle.std.proofs.Common.{⊎_elim}
 use Rattle.std.specs.Prelude.{◌&&◌, ◌||◌, ◌==◌, ◌%◌}
 use Rattle.std.specs.List.{list_all}
 use Rattle.std.proofs.lemmas.Bool.{and_parts, and_from, cases_Bool, eqb-true}
+use Rattle.loop_ir.specs.declared.ir.Span.{Span}
+use Rattle.loop_ir.specs.declared.ir.Span.TheVariants.{Full, First, Above}
+use Rattle.loop_ir.specs.Chains.{surely}
+use Rattle.loop_ir.specs.Loops.{step_rounds}
 use Rattle.loop_ir.specs.declared.ir.Count.{Count}
 use Rattle.loop_ir.specs.declared.ir.Count.TheVariants.{All, Rest, UpTo}
 use Rattle.loop_ir.specs.Plain.{Block, InnerOf, StepOf, TurnOf}
@@ -316,6 +320,35 @@ by_turns (t ∷ ts) i (suc count) alive h k =
     (by_turns more (i + 1) count left next
     (subst (λ l. turns_find l more ≡ true) (sym (left_behind ts t left)) next))
 
+module _ (n : ℕ) (ps : List (InnerOf Block)) (alive : List ℕ)
+    (finds_first : inner_finds alive ps ≡ true)
+    (finds_again : inner_finds (inner_left alive ps) ps ≡ true) where
+  abbrev Mid : List ℕ
+  Mid = inner_left alive ps
+
+  -- the parts of a nest at some outer positions
+  passes : (o count : ℕ) → 0 < count → o + count ≤ n
+      → Chains alive (inner_left Mid ps) (rounds (λ j. inner_rounds n j ps) o count)
+  passes o count some le = fewer alive Mid (inner_left Mid ps)
+      (rounds (λ j. inner_rounds n j ps) o count) (left_back ps alive)
+      (many (λ j. inner_rounds n j ps) n alive Mid (λ j l. inners n j ps alive l finds_first)
+      (λ j l. fewer Mid (inner_left Mid ps) Mid (inner_rounds n j ps) (left_again ps alive)
+      (inners n j ps Mid l finds_again)) o count some le)
+
+  -- at some outer positions or none
+  maybe_passes : (o count : ℕ) → o + count ≤ n
+      → Chains alive [] (rounds (λ j. inner_rounds n j ps) o count)
+  maybe_passes o zero le = fewer alive alive [] [] (none_within alive) (nothing alive)
+  maybe_passes o (suc m) le = fewer alive (inner_left Mid ps) []
+      (rounds (λ j. inner_rounds n j ps) o (suc m)) (none_within (inner_left Mid ps))
+      (passes o (suc m) (omega arith) le)
+
+  nested : (span : Span) → 0 < n
+      → Chains alive (surely span (inner_left Mid ps)) (step_rounds n (Nest span ps))
+  nested Full some = passes 0 n some (omega arith)
+  nested First some = passes 0 1 (omega arith) (omega (arith, some))
+  nested Above some = maybe_passes 1 (n - 1) (omega (arith, some))
+
 pub steps_chained : (n : ℕ) (ss : List (StepOf Block)) (alive : List ℕ) → 0 < n
     → steps_find alive ss ≡ true → chained alive (all_rounds n ss) ≡ true
 steps_chained n [] alive some h = refl
@@ -348,19 +381,16 @@ steps_chained n (Alternate t ∷ ss) alive some h =
     both_chained rs (all_rounds n ss) alive c.need
     (more_chained (all_rounds n ss) [] (left_after alive rs) c.left_in
     (steps_chained n ss [] some q.1))
-steps_chained n (Nest ps ∷ ss) alive some h =
+steps_chained n (Nest span ps ∷ ss) alive some h =
     let mid = inner_left alive ps in
-    let rs = rounds (λ o. inner_rounds n o ps) 0 n in
-    let p = and_parts (inner_finds alive ps) (inner_finds mid ps
-    && steps_find (inner_left mid ps) ss) h in
-    let q = and_parts (inner_finds mid ps) (steps_find (inner_left mid ps) ss) p.1 in
-    let c = many (λ o. inner_rounds n o ps) n alive mid (λ o l. inners n o ps alive l p.0)
-    (λ o l. fewer mid (inner_left mid ps) mid (inner_rounds n o ps) (left_again ps alive)
-    (inners n o ps mid l q.0)) 0 n some (omega arith) in
+    let left = surely span (inner_left mid ps) in
+    let rs = step_rounds n (Nest span ps) in
+    let p = and_parts (inner_finds alive ps) (inner_finds mid ps && steps_find left ss) h in
+    let q = and_parts (inner_finds mid ps) (steps_find left ss) p.1 in
+    let c = nested n ps alive p.0 q.0 span some in
     both_chained rs (all_rounds n ss) alive c.need
-    (more_chained (all_rounds n ss) (inner_left mid ps) (left_after alive rs)
-    (λ w e. c.left_in w (left_back ps alive w e))
-    (steps_chained n ss (inner_left mid ps) some q.1))
+    (more_chained (all_rounds n ss) left (left_after alive rs) c.left_in
+    (steps_chained n ss left some q.1))
 
 -- with more alive each step still finds its states
 loop_still : (b : Block) (xs ys : List ℕ) → Within xs ys → loop_finds xs b ≡ true
@@ -404,6 +434,12 @@ inner_within (IfOdd b ∷ ps) xs ys w = inner_within ps (common xs (left_by b))
 inner_within (Halves b c ∷ ps) xs ys w = inner_within ps (common xs (left_by c))
     (common ys (left_by c)) (common_more xs ys (left_by c) w)
 
+surely_within : (span : Span) (xs ys : List ℕ) → Within xs ys
+    → Within (surely span xs) (surely span ys)
+surely_within Full xs ys w = w
+surely_within First xs ys w = w
+surely_within Above xs ys w = none_within []
+
 turns_still : (ts : List (TurnOf Block)) (xs ys : List ℕ) → Within xs ys
     → turns_find xs ts ≡ true → turns_find ys ts ≡ true
 turns_still [] xs ys w h = refl
@@ -440,17 +476,18 @@ still_find (Alternate ts ∷ ss) xs ys w h =
     and_from (turns_find ys ts) (turns_find k ts && steps_find [] ss) (turns_still ts xs ys w p.0)
     (and_from (turns_find k ts) (steps_find [] ss)
     (turns_still ts m k (turns_within ts xs ys w) q.0) q.1)
-still_find (Nest ps ∷ ss) xs ys w h =
+still_find (Nest span ps ∷ ss) xs ys w h =
     let m = inner_left xs ps in
     let k = inner_left ys ps in
     let v = inner_within ps xs ys w in
-    let p = and_parts (inner_finds xs ps) (inner_finds m ps
-    && steps_find (inner_left m ps) ss) h in
-    let q = and_parts (inner_finds m ps) (steps_find (inner_left m ps) ss) p.1 in
-    and_from (inner_finds ys ps) (inner_finds k ps && steps_find (inner_left k ps) ss)
-    (inner_still ps xs ys w p.0)
-    (and_from (inner_finds k ps) (steps_find (inner_left k ps) ss) (inner_still ps m k v q.0)
-    (still_find ss (inner_left m ps) (inner_left k ps) (inner_within ps m k v) q.1))
+    let a = surely span (inner_left m ps) in
+    let b = surely span (inner_left k ps) in
+    let p = and_parts (inner_finds xs ps) (inner_finds m ps && steps_find a ss) h in
+    let q = and_parts (inner_finds m ps) (steps_find a ss) p.1 in
+    and_from (inner_finds ys ps) (inner_finds k ps && steps_find b ss) (inner_still ps xs ys w p.0)
+    (and_from (inner_finds k ps) (steps_find b ss) (inner_still ps m k v q.0)
+    (still_find ss a b (surely_within span (inner_left m ps) (inner_left k ps)
+    (inner_within ps m k v)) q.1))
 
 -- steps that need no state from before may stand after any
 pub find_both : (xs ys : List (StepOf Block)) (alive : List ℕ) → steps_find alive xs ≡ true
@@ -473,12 +510,10 @@ find_both (Alternate ts ∷ ss) ys alive h k =
     let q = and_parts (turns_find m ts) (steps_find [] ss) p.1 in
     and_from (turns_find alive ts) (turns_find m ts && steps_find [] (ss ++ ys)) p.0
     (and_from (turns_find m ts) (steps_find [] (ss ++ ys)) q.0 (find_both ss ys [] q.1 k))
-find_both (Nest ps ∷ ss) ys alive h k =
+find_both (Nest span ps ∷ ss) ys alive h k =
     let m = inner_left alive ps in
-    let p = and_parts (inner_finds alive ps) (inner_finds m ps
-    && steps_find (inner_left m ps) ss) h in
-    let q = and_parts (inner_finds m ps) (steps_find (inner_left m ps) ss) p.1 in
-    and_from (inner_finds alive ps) (inner_finds m ps && steps_find (inner_left m ps) (ss ++ ys))
-    p.0
-    (and_from (inner_finds m ps) (steps_find (inner_left m ps) (ss ++ ys)) q.0
-    (find_both ss ys (inner_left m ps) q.1 k))
+    let left = surely span (inner_left m ps) in
+    let p = and_parts (inner_finds alive ps) (inner_finds m ps && steps_find left ss) h in
+    let q = and_parts (inner_finds m ps) (steps_find left ss) p.1 in
+    and_from (inner_finds alive ps) (inner_finds m ps && steps_find left (ss ++ ys)) p.0
+    (and_from (inner_finds m ps) (steps_find left (ss ++ ys)) q.0 (find_both ss ys left q.1 k))

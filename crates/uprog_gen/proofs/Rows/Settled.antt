@@ -90,7 +90,7 @@ step_parts : (P : Block → Type 0) (s : StepOf Part) → AllStep P (step_map bl
     → AllStep (λ p. P p.block) s
 step_parts P (Single p) h = h
 step_parts P (Along p) h = h
-step_parts P (Nest xs) h = inner_parts P xs h
+step_parts P (Nest span xs) h = inner_parts P xs h
 step_parts P (Pairs p) h = h
 step_parts P (Alternate ts) h = turns_parts P ts h
 

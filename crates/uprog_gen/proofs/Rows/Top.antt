@@ -15,6 +15,7 @@ use Rattle.uprog_code.specs.declared.walker.Counts.{Counts}
 use Rattle.uprog_code.specs.Count.{counts_of, issues_aap, issues_ap}
 use Rattle.uprog_code.specs.Bound.{Bound, bound}
 use Rattle.uprog_code.specs.Machine.{Issue, IssueAap, IssueAp, Ended, trace, HasEnded, issues_of}
+use Rattle.loop_ir.specs.Loops.{first_outer, outer_count}
 use Rattle.loop_ir.specs.Loops.{rounds, RoundOf, round_at, one_round, positions, inner_rounds}
 use Rattle.loop_ir.specs.Loops.{turns_from, step_rounds, all_rounds, elements, two_rounds}
 use Rattle.uprog_code.specs.Fits.{Fits, IsTouched}
@@ -97,10 +98,12 @@ step_blocks : (n : ℕ) (s : StepOf Part) → step_rounds n (step_map block_of_p
     ≡ map block_round (step_rounds n s)
 step_blocks n (Single p) = refl
 step_blocks n (Along p) = sym (map_rounds block_round (λ i. one_round p i 0) 0 n)
-step_blocks n (Nest parts) =
+step_blocks n (Nest span parts) =
+    let first = first_outer span in
+    let count = outer_count n span in
     rounds_same (λ o. inner_rounds n o (map (inner_map block_of_part) parts)) (λ o.
-    map block_round (inner_rounds n o parts)) (λ o. inner_blocks n o parts) 0 n
-    ∙ sym (map_rounds block_round (λ o. inner_rounds n o parts) 0 n)
+    map block_round (inner_rounds n o parts)) (λ o. inner_blocks n o parts) first count
+    ∙ sym (map_rounds block_round (λ o. inner_rounds n o parts) first count)
 step_blocks n (Pairs p) = sym (map_rounds block_round (λ i. one_round p i 1) 0 (n - 1))
 step_blocks n (Alternate t) = turns_blocks t 0 (n - 1)
 
@@ -148,8 +151,8 @@ module _ (P : Part → Type 0) where
   step_parts : (n : ℕ) (s : StepOf Part) → AllStep P s → AllByRecursion In (step_rounds n s)
   step_parts n (Single p) h = (h, tt)
   step_parts n (Along p) h = all_rounds_of In (λ i. one_round p i 0) (λ i. (h, tt)) 0 n
-  step_parts n (Nest parts) h = all_rounds_of In (λ o. inner_rounds n o parts) (λ o.
-      inner_parts n o parts h) 0 n
+  step_parts n (Nest span parts) h = all_rounds_of In (λ o. inner_rounds n o parts) (λ o.
+      inner_parts n o parts h) (first_outer span) (outer_count n span)
   step_parts n (Pairs p) h = all_rounds_of In (λ i. one_round p i 1) (λ i. (h, tt)) 0 (n - 1)
   step_parts n (Alternate t) h = turns_rounds In t 0 (n - 1) (n - 1) (omega arith) (λ j le. h)
 

@@ -18,10 +18,10 @@ use Rattle.uprog_gen.proofs.Running.Each.{IsOuter}
 use Rattle.bit_rows.specs.declared.TheConstants.{WIDTH_MAX}
 
 -- the registers before an outer turn
-record IsNext (n j : ℕ) (regs : List ℕ) : Type 0 where
-  size : length regs ≡ 8
-  outer : slice_index regs 0 ≡ j
-  left : slice_index regs 1 ≡ n - j
+pub record IsNext (n j : ℕ) (regs : List ℕ) : Type 0 where
+  pub size : length regs ≡ 8
+  pub outer : slice_index regs 0 ≡ j
+  pub left : slice_index regs 1 ≡ n - j
 
 module _ (head : Shape) (code : List Uop) (n : ℕ) where
   run_outer : (l j k : ℕ) (again : Bool) (inner : List Uop) (regs : List ℕ) (cs : List Issue)
@@ -66,6 +66,30 @@ module _ (head : Shape) (code : List Uop) (n : ℕ) where
         down = c.this;
       }) down) p1)
 
+  -- the outer turns from one position on
+  pub run_from : (l k o count : ℕ) (body : List Uop) (regs : List ℕ) (cs : ℕ → List Issue)
+      → n ≤ WIDTH_MAX → o + suc count ≡ n → IsNext n o regs
+      → HasAt code l (SubI 1 1 ∷ (body ++ (AddI 0 1 ∷ Bnez 1 l ∷ [])))
+      → ((j : ℕ) (r : List ℕ) → o ≤ j → j < n → IsOuter n j r → HasAt code (l + 1) body
+      → Runs head code n (l + 1) r k (cs j) (l + 1 + length body) (IsOuter n j))
+      → Runs head code n l regs (suc count * (k + 3)) (rounds cs o (suc count))
+      (l + 1 + length body + 1 + 1) (λ r. length r ≡ 8)
+  run_from l k o count body regs cs small e at has does =
+      let end = l + 1 + length body + 1 + 1 in
+      let each = λ (j : ℕ) (r : List ℕ) (again : Bool) (lj : j < n) (test : (n - (j + 1) == 0)
+      ≡ again) (h : (o ≤ j) × IsNext n j r).
+      run_weaken head code n l (cond again end l) r (k + 3) (cs j) (IsNext n (j + 1))
+      (λ x. (o ≤ j + 1) × IsNext n (j + 1) x) (λ x y. (omega (arith, h.0), y))
+      (run_outer l j k again body r (cs j) small lj test h.1 has
+      (λ x g ha. does j x h.0 lj g ha)) in
+      run_weaken head code n l end regs _ (rounds cs o (suc count))
+      (λ x. (o ≤ n) × IsNext n n x) (λ x. length x ≡ 8) (λ x y. y.1.size)
+      (run_loop head code n l end n (k + 3) (λ j x. (o ≤ j) × IsNext n j x) cs
+      (λ j x lj g. each j x false (omega arith) (ne_eqb (n - (j + 1)) 0 (λ e. absurd (omega arith)))
+      g)
+      (λ j x ej g. each j x true (omega arith) (eq-eqb (n - (j + 1)) 0 (omega arith)) g)
+      o count regs e (omega arith, at))
+
   pub run_nest : (inner : ℕ → List Uop) (pc k : ℕ) (regs : List ℕ) (cs : ℕ → List Issue) → 0 < n
       → n ≤ WIDTH_MAX → length regs ≡ 8 → HasAt code pc (nest_code inner pc)
       → ((o : ℕ) (r : List ℕ) → o < n → IsOuter n o r
@@ -91,9 +115,6 @@ module _ (head : Shape) (code : List Uop) (n : ℕ) where
       (run_set head code n (pc + 1) 1 n (λ v. v ≡ n - 0) r (SetN 1) has.1.0 (λ left. refl)
       (omega (arith, c.size, size)) (omega arith)) in
       let up : suc (n - 1) ≡ n = omega arith in
-      let each = λ (j : ℕ) (r : List ℕ) (again : Bool) (lj : j < n) (test : (n - (j + 1) == 0)
-      ≡ again) (h : IsNext n j r).
-      run_outer l j k again body r (cs j) small lj test h has.1.1 (λ x g ha. does j x lj g ha) in
       let at_end : end ≡ pc + length (nest_code inner pc) =
       omega (arith, length-append body (AddI 0 1 ∷ (Bnez 1 (pc + 1 + 1) ∷ []))) in
       run_at head code n pc end (pc + length (nest_code inner pc)) regs _ (rounds cs 0 n) (λ r.
@@ -101,11 +122,7 @@ module _ (head : Shape) (code : List Uop) (n : ℕ) where
       (run_then head code n pc l end 2 (n * (k + 3)) (2 + n * (k + 3)) regs [] (rounds cs 0 n)
       (IsNext n 0) (λ r. length r ≡ 8) refl
       (run_then head code n pc (pc + 1) l 1 1 2 regs [] [] _ (IsNext n 0) refl first second)
-      (λ r h. run_weaken head code n l end r _ (rounds cs 0 n) (IsNext n n) (λ x. length x
-      ≡ 8) (λ x y. y.size)
-      (subst (λ q. Runs head code n l r (q * (k + 3)) (rounds cs 0 q) end (IsNext n n)) up
-      (run_loop head code n l end n (k + 3) (IsNext n) cs
-      (λ j x lj g. each j x false (omega arith) (ne_eqb (n - (j + 1)) 0 (λ e. absurd (omega arith)))
-      g)
-      (λ j x ej g. each j x true (omega arith) (eq-eqb (n - (j + 1)) 0 (omega arith)) g)
-      0 (n - 1) r (omega arith) h))))
+      (λ r h. subst (λ q. Runs head code n l r (q * (k + 3)) (rounds cs 0 q) end
+      (λ x. length x ≡ 8)) up
+      (run_from l k 0 (n - 1) body r cs small (omega arith) h has.1.1
+      (λ j x le lj g ha. does j x lj g ha))))

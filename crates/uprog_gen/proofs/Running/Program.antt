@@ -10,8 +10,10 @@ use Rattle.uprog_code.specs.Machine.{Issue, Ended, issue, act_at, onto, trace, s
 use Rattle.uprog_code.specs.declared.code.Uop.{Uop}
 use Rattle.uprog_code.specs.declared.code.Uop.TheVariants.{Done, SetI, SetT, Mov, AddI, Bnez}
 use Rattle.uprog_code.specs.Shape.{Shape}
+use Rattle.loop_ir.specs.declared.ir.Span.TheVariants.{Full, First, Above}
 use Rattle.loop_ir.specs.Loops.{rounds, RoundOf, round_at, one_round, positions, inner_rounds}
-use Rattle.loop_ir.specs.Loops.{elements, two_rounds, step_rounds, all_rounds}
+use Rattle.loop_ir.specs.Loops.{elements, two_rounds, first_outer, outer_count, step_rounds}
+use Rattle.loop_ir.specs.Loops.{all_rounds}
 use Rattle.loop_laws.proofs.Levels.{pairs_of, room_for_level}
 use Rattle.uprog_gen.proofs.Running.Goes.{HasAt, has_front, has_back, has_all, Goes}
 use Rattle.loop_ir.specs.declared.ir.Sub.TheVariants.{Zero, Outer, OuterDown, SumTwice}
@@ -28,7 +30,8 @@ use Rattle.uprog_gen.specs.Code.{Part, IsPlanned, inits, befores, enter_code, tu
 use Rattle.uprog_gen.specs.Code.{is_planned, level_code, skip_code, odd_code, pair_plan}
 use Rattle.uprog_gen.specs.Code.{pair_uops, pairing_code, halves_code}
 use Rattle.uprog_gen.specs.Code.{once_code, loop_code, inner_code, inner_list, nest_code, outside}
-use Rattle.uprog_gen.specs.Code.{block_of_part, blocks, pairs_code, cycle_code, step_code}
+use Rattle.uprog_gen.specs.Code.{block_of_part, blocks, guard_code, above_code, pairs_code}
+use Rattle.uprog_gen.specs.Code.{cycle_code, step_code}
 use Rattle.uprog_gen.specs.Code.{program_code}
 use Rattle.uprog_gen.proofs.Coding.Sizes.{cycle_long}
 use Rattle.loop_laws.proofs.TakingTurns.{turns_tested}
@@ -41,7 +44,7 @@ use Rattle.uprog_gen.proofs.Running.Turns.{InRange, run_cycle}
 use Rattle.uprog_gen.proofs.Running.Halving.{Halves as Halved, run_level}
 use Rattle.uprog_gen.proofs.Running.Each.{AtBody, AtTop, IsOuter, run_each, run_inits, run_befores}
 use Rattle.uprog_gen.proofs.Running.Each.{run_rounds}
-use Rattle.uprog_gen.proofs.Running.Nest.{run_nest}
+use Rattle.uprog_gen.proofs.Running.Nest.{run_nest, run_from}
 use Rattle.loop_laws.proofs.Same.{sub_true}
 use Rattle.uprog_gen.proofs.Running.Held.{names_at, names_fixed, run_body}
 use Rattle.bit_rows.specs.declared.TheConstants.{WIDTH_MAX}
@@ -632,6 +635,31 @@ module _ (head : Shape) (code : List Uop) (n : ℕ) (some : 0 < n) (small : n �
       (run_set head code n (pc + 1) 1 (n - 1) (λ v. v ≡ n - 1) r (SetT 1) at1 (λ left. refl)
       (omega (arith, c.size, size)) refl))
 
+  -- past a loop that has no round
+  guard_past : (pc end : ℕ) (regs : List ℕ) (rest : List Uop) → length regs ≡ 8 → n ≡ 1
+      → HasAt code pc (guard_code pc end ++ rest) → Runs head code n pc regs 4 [] end Eight
+  guard_past pc end regs rest size one has =
+      let q = pc + 1 + 1 in
+      run_then head code n pc q end 2 2 4 regs [] [] Ready Eight refl
+      (run_ready pc regs size has.0 has.1.0)
+      (λ r h. run_then head code n q (q + 1) end 1 1 2 r [] [] Ready Eight refl
+      (run_jump head code n q 1 (q + 1 + 1) r true Ready has.1.1.0
+      (ap (λ v. v == 0) h.2 ∙ eq-eqb (n - 1) 0 (omega (arith, one))) h)
+      (λ x k. run_weaken head code n (q + 1) end x 1 [] Ready Eight (λ y l. l.0)
+      (run_jump head code n (q + 1) 0 end x false Ready has.1.1.1.0
+      (ap (λ v. v == 0) k.1) k)))
+
+  -- on to one that has rounds
+  guard_on : (pc end : ℕ) (regs : List ℕ) (rest : List Uop) → length regs ≡ 8 → 1 < n
+      → HasAt code pc (guard_code pc end ++ rest)
+      → Runs head code n pc regs 3 [] (pc + 1 + 1 + 1 + 1) Ready
+  guard_on pc end regs rest size two has =
+      let q = pc + 1 + 1 in
+      run_then head code n pc q (q + 1 + 1) 2 1 3 regs [] [] Ready Ready refl
+      (run_ready pc regs size has.0 has.1.0)
+      (λ r h. run_jump head code n q 1 (q + 1 + 1) r false Ready has.1.1.0
+      (ap (λ v. v == 0) h.2 ∙ ne_eqb (n - 1) 0 (λ e. omega (arith, e, two))) h)
+
   -- a body at each position that has one above it
   module _ (p : Part) (pc : ℕ) (regs : List ℕ) (size : length regs ≡ 8)
       (has : HasAt code pc (pairs_code p pc)) where
@@ -646,40 +674,26 @@ module _ (head : Shape) (code : List Uop) (n : ℕ) (some : 0 < n) (small : n �
         → Runs head code n pc regs (4 + n * length Loop) (rounds_commands n Rounds)
         (pc + 1 + 1 + 1 + 1 + 1 + length Loop) (IsOuter n 1)
     run_on two ok =
-        let q = pc + 1 + 1 in
-        let loop = q + 1 + 1 + 1 in
+        let first = pc + 1 + 1 + 1 + 1 in
+        let loop = first + 1 in
+        let end = loop + length Loop in
         let cs = rounds_commands n Rounds in
-        run_then head code n pc q (loop + length Loop) 2 (2 + n * length Loop)
-        (4 + n * length Loop) regs [] cs Ready (IsOuter n 1) (omega arith)
-        (run_ready pc regs size has.0 has.1.0)
-        (λ r h. run_then head code n q (q + 1 + 1) (loop + length Loop) 1 (1 + n * length Loop)
-        (2 + n * length Loop) r [] cs Ready (IsOuter n 1) (omega arith)
-        (run_jump head code n q 1 (q + 1 + 1) r false Ready has.1.1.0
-        (ap (λ v. v == 0) h.2 ∙ ne_eqb (n - 1) 0 (λ e. omega (arith, e, two))) h)
-        (λ x k. run_then head code n (q + 1 + 1) loop (loop + length Loop) 1 (n * length Loop)
-        (1 + n * length Loop) x [] cs (IsOuter n 1) (IsOuter n 1) refl
-        (run_weaken head code n (q + 1 + 1) loop x 1 [] _ (IsOuter n 1) (λ y d. record {
+        run_then head code n pc first end 3 (1 + n * length Loop) (4 + n * length Loop) regs [] cs
+        Ready (IsOuter n 1) (omega arith) (guard_on pc end regs Loop size two has)
+        (λ x k. run_then head code n first loop end 1 (n * length Loop) (1 + n * length Loop) x []
+        cs (IsOuter n 1) (IsOuter n 1) refl
+        (run_weaken head code n first loop x 1 [] _ (IsOuter n 1) (λ y d. record {
           size = d.size ∙ k.0;
           outer = d.others 0 (λ e. absurd (omega arith)) ∙ k.1;
           down = d.this;
         })
-        (run_sub head code n (q + 1 + 1) 1 1 (λ v. v ≡ n - 1 - 1) x has.1.1.1.1.0
+        (run_sub head code n first 1 1 (λ v. v ≡ n - 1 - 1) x has.1.1.1.1.0
         (omega (arith, k.2, two)) (omega (arith, k.0)) (omega (arith, k.2))))
-        (λ y g. run_loop_of Rest p loop 1 y two g has.1.1.1.1.1 ok)))
+        (λ y g. run_loop_of Rest p loop 1 y two g has.1.1.1.1.1 ok))
 
     -- there is none: past the loop
     run_past : n ≡ 1 → Runs head code n pc regs 4 [] (pc + 1 + 1 + 1 + 1 + 1 + length Loop) Eight
-    run_past one =
-        let q = pc + 1 + 1 in
-        let end = q + 1 + 1 + 1 + length Loop in
-        run_then head code n pc q end 2 2 4 regs [] [] Ready Eight refl
-        (run_ready pc regs size has.0 has.1.0)
-        (λ r h. run_then head code n q (q + 1) end 1 1 2 r [] [] Ready Eight refl
-        (run_jump head code n q 1 (q + 1 + 1) r true Ready has.1.1.0
-        (ap (λ v. v == 0) h.2 ∙ eq-eqb (n - 1) 0 (omega (arith, one))) h)
-        (λ x k. run_weaken head code n (q + 1) end x 1 [] Ready Eight (λ y l. l.0)
-        (run_jump head code n (q + 1) 0 end x false Ready has.1.1.1.0
-        (ap (λ v. v == 0) k.1) k)))
+    run_past one = guard_past pc (pc + 1 + 1 + 1 + 1 + 1 + length Loop) regs Loop size one has
 
     run_pairs : AllByRecursion (IsGood head n) Rounds
         → Runs head code n pc regs (most_turns * length (pairs_code p pc))
@@ -715,6 +729,108 @@ module _ (head : Shape) (code : List Uop) (n : ℕ) (some : 0 < n) (small : n �
         grow : (x : ℕ) → n ≤ WIDTH_MAX → 4 + n * x ≤ most_turns * suc (suc (suc (suc (suc x))))
         grow x h = let k : n * x ≤ WIDTH_MAX * x = mul-le-mul_right x h in omega (arith, k)
 
+  -- the parts of a nest at the first outer position alone
+  run_first : (xs : List (InnerOf Part)) (pc : ℕ) (regs : List ℕ) → length regs ≡ 8
+      → list_all inner_stands (map (inner_map block_of_part) xs) ≡ true
+      → HasAt code pc (outside ++ inner_list xs (pc + 1 + 1))
+      → AllByRecursion (IsGood head n) (inner_rounds n 0 xs ++ [])
+      → Runs head code n pc regs (most_turns * length (outside ++ inner_list xs (pc + 1 + 1)))
+      (rounds_commands n (inner_rounds n 0 xs ++ []))
+      (pc + length (outside ++ inner_list xs (pc + 1 + 1))) Eight
+  run_first xs pc regs size stand has ok =
+      let q = pc + 1 + 1 in
+      let a = inner_list xs q in
+      let rs = inner_rounds n 0 xs in
+      let at_end : q + length a ≡ pc + suc (suc (length a)) = omega arith in
+      subst (λ l. Runs head code n pc regs (most_turns * suc (suc (length a)))
+      (rounds_commands n l) (pc + suc (suc (length a))) Eight) (sym (append-nil rs))
+      (run_at head code n pc (q + length a) (pc + suc (suc (length a))) regs _
+      (rounds_commands n rs) Eight at_end
+      (run_more head code n pc (q + length a) regs (2 + n * length a) _ (rounds_commands n rs)
+      Eight (grow (length a) small)
+      (run_then head code n pc q (q + length a) 2 (n * length a) (2 + n * length a) regs []
+      (rounds_commands n rs) (IsOuter n 0) Eight refl (run_zero pc regs size has.0 has.1.0)
+      (λ r h. run_weaken head code n q (q + length a) r (n * length a) (rounds_commands n rs)
+      (IsOuter n 0) Eight (λ x y. y.size)
+      (run_inners xs q 0 r some h stand has.1.1 (front_all (IsGood head n) rs [] ok))))))
+    where
+      grow : (x : ℕ) → n ≤ WIDTH_MAX → 2 + n * x ≤ most_turns * suc (suc x)
+      grow x h = let k : n * x ≤ WIDTH_MAX * x = mul-le-mul_right x h in omega (arith, k)
+
+  -- the parts of a nest from the second outer position on
+  module _ (xs : List (InnerOf Part)) (pc : ℕ) (regs : List ℕ) (size : length regs ≡ 8)
+      (has : HasAt code pc (above_code (inner_list xs) pc))
+      (stand : list_all inner_stands (map (inner_map block_of_part) xs) ≡ true)
+      (ok : AllByRecursion (IsGood head n) (rounds (λ o. inner_rounds n o xs) 1 (n - 1)))
+      (short : length (above_code (inner_list xs) pc) ≤ 4096) where
+    abbrev Inners : List Uop
+    Inners = inner_list xs (pc + 1 + 1 + 1 + 1 + 1)
+
+    abbrev Turns : List (RoundOf Part)
+    Turns = rounds (λ o. inner_rounds n o xs) 1 (n - 1)
+
+    abbrev End : ℕ
+    End = pc + 1 + 1 + 1 + 1 + 1 + length Inners + 1 + 1
+
+    abbrev Back : List Uop
+    Back = AddI 0 1 ∷ Bnez 1 (pc + 1 + 1 + 1 + 1) ∷ []
+
+    above_on : 1 < n → Runs head code n pc regs (3 + (n - 1) * (n * length Inners + 3))
+        (rounds_commands n Turns) End Eight
+    above_on two =
+        let l = pc + 1 + 1 + 1 + 1 in
+        let f = λ (o : ℕ). inner_rounds n o xs in
+        let cs = λ (o : ℕ). rounds_commands n (f o) in
+        let k = n * length Inners in
+        let up : suc (n - 2) ≡ n - 1 = omega (arith, two) in
+        subst (λ c. Runs head code n pc regs (3 + (n - 1) * (k + 3)) c End Eight)
+        (sym (commands_rounds n f 1 (n - 1)))
+        (run_then head code n pc l End 3 ((n - 1) * (k + 3)) (3 + (n - 1) * (k + 3)) regs []
+        (rounds cs 1 (n - 1)) Ready Eight refl
+        (guard_on pc End regs (Inners ++ Back) size two has)
+        (λ r h. subst (λ q. Runs head code n l r (q * (k + 3)) (rounds cs 1 q) End Eight) up
+        (run_from head code n l k 1 (n - 2) Inners r cs small (omega (arith, two))
+        (record { size = h.0; outer = h.1; left = h.2 }) has.1.1.1.1
+        (λ o x le lo g ha. run_inners xs (l + 1) o x lo g stand ha
+        (each_all (IsGood head n) f 1 (n - 1) o le (omega (arith, lo)) ok)))))
+
+    run_above : Runs head code n pc regs (most_turns * length (above_code (inner_list xs) pc))
+        (rounds_commands n Turns) (pc + length (above_code (inner_list xs) pc)) Eight
+    run_above = ⊎_elim
+        (λ (one : n ≡ 1). let none : n - 1 ≡ 0 = omega (arith, one) in
+        subst (λ k. Runs head code n pc regs (most_turns * long) (rounds_commands n
+        (rounds (λ o. inner_rounds n o xs) 1 k)) (pc + long) Eight) (sym none)
+        (run_at head code n pc End (pc + long) regs (most_turns * long) [] Eight at_end
+        (run_more head code n pc End regs 4 (most_turns * long) [] Eight few
+        (guard_past pc End regs (Inners ++ Back) size one has))))
+        (λ (more : n ≡ 1 → ⊥).
+        run_at head code n pc End (pc + long) regs (most_turns * long) (rounds_commands n Turns)
+        Eight at_end
+        (run_more head code n pc End regs (3 + (n - 1) * (n * length Inners + 3))
+        (most_turns * long) (rounds_commands n Turns) Eight
+        (grow (length Inners) long small sized short)
+        (above_on (omega (arith, some, more)))))
+        (cases_eq n 1)
+      where
+        long : ℕ
+        long = length (above_code (inner_list xs) pc)
+
+        sized : long ≡ length Inners + 7
+        sized = omega (arith, length-append Inners Back)
+
+        at_end : End ≡ pc + long
+        at_end = omega (arith, sized)
+
+        few : 4 ≤ most_turns * long
+        few = omega (arith, sized)
+
+        grow : (x all : ℕ) → n ≤ WIDTH_MAX → all ≡ x + 7 → all ≤ 4096
+            → 3 + (n - 1) * (n * x + 3) ≤ most_turns * all
+        grow x all h e s = rw e (let k : n * x ≤ WIDTH_MAX * x = mul-le-mul_right x h in
+            let m : n - 1 ≤ WIDTH_MAX = omega (arith, h) in
+            let l : (n - 1) * (n * x + 3) ≤ WIDTH_MAX * (n * x + 3) =
+            mul-le-mul_right (n * x + 3) m in omega (arith, k, l, e, s))
+
   run_step : (s : StepOf Part) (pc : ℕ) (regs : List ℕ) → length regs ≡ 8
       → length (step_code s pc) ≤ 4096 → step_stands (step_map block_of_part s) ≡ true
       → HasAt code pc (step_code s pc) → AllByRecursion (IsGood head n) (step_rounds n s)
@@ -734,16 +850,22 @@ module _ (head : Shape) (code : List Uop) (n : ℕ) (some : 0 < n) (small : n �
     where
       grow : (n x : ℕ) → n ≤ WIDTH_MAX → 2 + n * x ≤ most_turns * suc (suc x)
       grow n x h = let k : n * x ≤ WIDTH_MAX * x = mul-le-mul_right x h in omega (arith, k)
-  run_step (Nest []) pc regs size short stand has ok =
-      let none : rounds_commands n (rounds (λ o. inner_rounds {A = Part} n o []) 0 n) ≡ [] =
-      commands_rounds n (λ o. []) 0 n ∙ no_rounds 0 n in
+  run_step (Nest span []) pc regs size short stand has ok =
+      let first = first_outer span in
+      let count = outer_count n span in
+      let none : rounds_commands n (rounds (λ o. inner_rounds {A = Part} n o []) first count) ≡ [] =
+      commands_rounds n (λ o. []) first count ∙ no_rounds first count in
       subst (λ l. Runs head code n pc regs 0 l (pc + 0) Eight) (sym none)
       (run_none head code n pc (pc + 0) regs Eight (omega arith) size)
     where
       no_rounds : (i m : ℕ) → rounds {A = Issue} (λ j. []) i m ≡ []
       no_rounds i zero = refl
       no_rounds i (suc m) = no_rounds (i + 1) m
-  run_step (Nest (x ∷ xs)) pc regs size short stand has ok =
+  run_step (Nest First (x ∷ xs)) pc regs size short stand has ok =
+      run_first (x ∷ xs) pc regs size stand has ok
+  run_step (Nest Above (x ∷ xs)) pc regs size short stand has ok =
+      run_above (x ∷ xs) pc regs size has stand ok short
+  run_step (Nest Full (x ∷ xs)) pc regs size short stand has ok =
       let parts = x ∷ xs in
       let inner = inner_list parts in
       let q = pc + 1 + 1 + 1 in

@@ -1,14 +1,21 @@
+use Rattle.std.proofs.Common.{slice_index_or, sym, ap, ◌++◌, ◌∷◌, [], ◌∙◌, refl, None}
+use Rattle.word_lower.specs.Places.{program_on}
+use Rattle.word_mul.specs.Programs.{steps_of_forms}
 use Rattle.word_mul.specs.Bodies.{rows_at}
-use Rattle.word_mul.proofs.Parts.{whole}
+use Rattle.word_mul.proofs.Parts.{steps_more}
 use Rattle.word_mul.proofs.programs.built.Goals as goal
 
-pub returns-clause-same : goal.returns-clause-same
-returns-clause-same c = whole (rows_at c.args.owners) c.args.row _ _ _ _
-    (rw c.new-steps.ensures.items at c.in_ok-add_pass.ensures.same)
-    c.in_ok-add_gathering.ensures.same c.in_ok-add_nest.ensures.same
-    c.in_ok-add_pass-2.ensures.same
+pub loop-form-init : goal.loop-form-init
+loop-form-init c = rw c.new-steps.ensures.items (record { same = refl; made = tt })
 
-pub returns-clause-made : goal.returns-clause-made
-returns-clause-made c = c.in_ok-add_pass-2.ensures.made (c.in_ok-add_nest.ensures.made
-    (c.in_ok-add_gathering.ensures.made (c.in_ok-add_pass.ensures.made
-    (rw c.new-steps.ensures.items tt))))
+pub loop-form-preserved : goal.loop-form-preserved
+loop-form-preserved c =
+    let so = c.loop-form.invariant in
+    record {
+      same = c.in_ok-add_step.ensures.same
+          ∙ ap (λ l. l ++ program_on (rows_at c.args.owners) (steps_of_forms
+          (slice_index_or c.args.row.steps c.loop-form.form-index None ∷ []))) so.same
+          ∙ sym (steps_more (rows_at c.args.owners) c.args.row.steps c.loop-form.form-index None
+          c.loop-form-test.true);
+      made = c.in_ok-add_step.ensures.made so.made;
+    }
