@@ -16,7 +16,7 @@ use Rattle.machine_model.specs.Script.{counters_at_end, is_refused}
 use Rattle.machine_model.proofs.Bounds.{geometry_parts}
 use Rattle.machine_model.proofs.Tables.{fits_banks}
 use Rattle.sim_machine.specs.declared.machine.Machine.{Machine}
-use Rattle.sim_machine.specs.Machine.{IsReady, geometry_of, operations_by, table_in, turn_in}
+use Rattle.sim_machine.specs.Machine.{IsLaidOut, geometry_of, operations_by, table_in, turn_in}
 use Rattle.sim_machine.specs.Steps.{DidAndRead}
 use Rattle.guard_model.specs.declared.Flip.{Flip}
 use Rattle.guard_model.specs.Flips.{all_flipped}
@@ -43,16 +43,15 @@ mended_by g now table n a b c banks counters log count did = record {
   log = Grew-more a.log b.log c.log (flip_events now a.banks) (vote_events g table) log did.log;
 }
 
--- the banks of a machine that is ready hold its objects
+-- the banks of a machine hold its objects
 pub record Holds (m : Machine) : Type 0 where
   pub words : 0 < (geometry_of m).words
   pub fits : FitsBanks (geometry_of m) (table_in m)
 
-pub holds_of : (m : Machine) → IsReady m → Holds m
-holds_of m ready = record {
-  words = (geometry_parts (geometry_of m) ready.set.geometry).0;
-  fits = fits_banks (geometry_of m) (table_in m)
-      (record { listed = ready.set.listed; objects = ready.set.objects });
+pub holds_of : (m : Machine) → IsLaidOut m → Holds m
+holds_of m laid = record {
+  words = (geometry_parts (geometry_of m) laid.shape).0;
+  fits = fits_banks (geometry_of m) (table_in m) laid.table;
 }
 
 -- a test as a number

@@ -14,8 +14,8 @@ ghost use Rattle.machine_model.specs.Script.{is_refused};
 ghost use Rattle.object_steps.specs.Objects.{RisesAtMost};
 ghost use Rattle.cli_model.specs.World.{world};
 ghost use Rattle.cli_model.specs.Steps.{Goes, Use};
-ghost use Rattle.sim_machine.specs.Machine.{IsReady, geometry_of, is_print, operations_by};
-ghost use Rattle.sim_machine.specs.Machine.{program_of, table_in, turn_in};
+ghost use Rattle.sim_machine.specs.Machine.{GoesOn, IsLaidOut, geometry_of, is_print};
+ghost use Rattle.sim_machine.specs.Machine.{operations_by, table_in, turn_in};
 ghost use Rattle.guard_model.specs.Flips.{due};
 ghost use Rattle.guard_model.specs.FlipText.{AreSorted, IsFlip};
 ghost use Rattle.guard_model.specs.Named.{has_long_name};
@@ -61,7 +61,6 @@ fn mend<D: Dram>(
     stage: &mut [u64],
     chip: &mut D,
 ) -> Result<Mended, ChipFault>
-    requires ready { IsReady (machine_in guard.old) }
     requires begun { HasBegun (D.view chip.old) }
     requires geometry { (D.view chip.old).geometry ≡ geometry_of (machine_in guard.old) }
     requires triples { first_stranger (table_in (machine_in guard.old)) ≡ None }
@@ -76,6 +75,7 @@ fn mend<D: Dram>(
     ensures kept { Kept (D.view chip.old) (D.view chip.new) }
     ensures stage { length stage.new ≡ length stage.old }
     ensures same { machine_in guard.new ≡ machine_in guard.old }
+    ensures laid { IsLaidOut (machine_in guard.old) }
     ensures flips { IfOk result (λ mended. mended.flips ≡ length (due k flips.now)) }
     ensures within { IfOk result (λ mended. mended.flips ≤ length flips.now) }
     ensures votes { IfOk result (λ mended. mended.votes
@@ -115,7 +115,6 @@ fn do_one<D: Dram, S: Sink>(
     chip: &mut D,
     out: &mut S,
 ) -> Result<One, StepFault>
-    requires ready { IsReady (machine_in guard.old) }
     requires begun { HasBegun (D.view chip.old) }
     requires geometry { (D.view chip.old).geometry ≡ geometry_of (machine_in guard.old) }
     requires triples { first_stranger (table_in (machine_in guard.old)) ≡ None }
@@ -132,9 +131,7 @@ fn do_one<D: Dram, S: Sink>(
     ensures borrow { D.borrow chip.new ≡ D.borrow chip.old }
     ensures kept { Kept (D.view chip.old) (D.view chip.new) }
     ensures stage { length stage.new ≡ length stage.old }
-    ensures ready { IsReady (machine_in guard.new) }
-    ensures program { program_of (machine_in guard.new) ≡ program_of (machine_in guard.old) }
-    ensures shape { geometry_of (machine_in guard.new) ≡ geometry_of (machine_in guard.old) }
+    ensures goes_on { GoesOn (machine_in guard.old) (machine_in guard.new) }
     ensures triples { OnOk result (first_stranger (table_in (machine_in guard.new)) ≡ None) }
     ensures flips { IfOk result (λ one. one.flips ≡ length (due k flips.now)) }
     ensures within { IfOk result (λ one. one.flips ≤ length flips.now) }
@@ -180,7 +177,6 @@ pub fn guard_script<D: Dram, S: Sink>(
     chip: &mut D,
     out: &mut S,
 ) -> Result<Outcome, StepFault>
-    requires ready { IsReady (machine_in guard.old) }
     requires begun { HasBegun (D.view chip.old) }
     requires geometry { (D.view chip.old).geometry ≡ geometry_of (machine_in guard.old) }
     requires triples { first_stranger (table_in (machine_in guard.old)) ≡ None }
@@ -199,9 +195,7 @@ pub fn guard_script<D: Dram, S: Sink>(
     requires reads_none { (D.view chip.old).counters.reads ≡ 0 }
     ensures borrow { D.borrow chip.new ≡ D.borrow chip.old }
     ensures kept { Kept (D.view chip.old) (D.view chip.new) }
-    ensures program { program_of (machine_in guard.new) ≡ program_of (machine_in guard.old) }
-    ensures shape { geometry_of (machine_in guard.new) ≡ geometry_of (machine_in guard.old) }
-    ensures ready { OnOk result (IsReady (machine_in guard.new)) }
+    ensures goes_on { GoesOn (machine_in guard.old) (machine_in guard.new) }
     ensures table { OnOk result (table_in (machine_in guard.new)
         ≡ guarded_table_at_end (geometry_of (machine_in guard.old))
         (operations_by (machine_in guard.old)) (table_in (machine_in guard.old))

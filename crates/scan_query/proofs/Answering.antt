@@ -3,7 +3,7 @@ use Rattle.std.proofs.Common.{◌≡◌, ℕ, suc, ◌+◌, ◌*◌, ◌<◌, �
 use Rattle.std.proofs.Common.{Option, Some, None, sym, ◌∙◌, ap, subst, arith, length-append}
 use Rattle.std.proofs.Common.{◌-◌, ◌^◌, ◌==◌, take, append-nil}
 use Rattle.std.specs.Prelude.{count_by}
-use Rattle.std.specs.Prelude.{All}
+use Rattle.std.specs.Prelude.{All, Ok}
 use Rattle.std.specs.List.{AllByRecursion}
 use Rattle.dram_model.specs.declared.geometry.Geometry.{Geometry}
 use Rattle.dram_model.specs.declared.dram.Counters.{Counters}
@@ -30,7 +30,8 @@ use Rattle.machine_model.proofs.Bounds.{geometry_parts}
 use Rattle.machine_model.proofs.Pieces.{counted_by_replies, events_are_steps}
 use Rattle.machine_model.proofs.Texts.{same_operations}
 use Rattle.sim_machine.specs.declared.machine.Machine.{Machine}
-use Rattle.sim_machine.specs.Machine.{IsReady, geometry_of, operations_by, program_of, table_in}
+use Rattle.sim_machine.specs.Machine.{IsLaidOut, at_end, geometry_of, operations_by, program_of}
+use Rattle.sim_machine.specs.Machine.{table_in}
 use Rattle.sim_machine.specs.Machine.{turn_in}
 use Rattle.sim_machine.specs.Steps.{DidAndRead}
 use Rattle.scan_model.specs.declared.ScanWhy.{ScanWhy}
@@ -47,9 +48,8 @@ use Rattle.scan_model.specs.Queries.{size}
 use Rattle.scan_model.proofs.Answered.{scan_is_plain, scans_answer}
 use Rattle.scan_model.proofs.Counted.{all_append, each_is_alone, nothing_is_moved}
 use Rattle.scan_model.proofs.Trees.{size_is, size_some}
-use Rattle.scan_query.specs.Answers.{GoesOn}
 use Rattle.scan_query.specs.Queries.{IsNodesOf, sources_fit}
-use Rattle.scan_query.specs.Running.{AreBelow, NodesRan, refused_node}
+use Rattle.scan_query.specs.Running.{AreBelow, NodesRan, NodesRun, refused_node}
 use Rattle.scan_query.proofs.Nodewise.{node_room}
 
 -- the sources of a query's nodes are among them
@@ -84,11 +84,11 @@ pub few_nodes : (t : Query) (nodes : List Node) → IsNodesOf t nodes → length
 few_nodes t nodes h = let s = size_is 0 t in let e = ap length h.nodes_are in
     omega (arith, s, e, h.small)
 
-pub plain_nodes : (m : Machine) (t : Query) (nodes : List Node) → IsReady m → IsNodesOf t nodes
+pub plain_nodes : (m : Machine) (t : Query) (nodes : List Node) → IsLaidOut m → IsNodesOf t nodes
     → checked (table_in m) nodes ≡ None → AllByRecursion IsPlain (scan_script (table_in m) nodes)
-plain_nodes m t nodes ready h e =
+plain_nodes m t nodes laid h e =
     subst (λ (ns : List Node). AllByRecursion IsPlain (scan_script (table_in m) ns))
-    (sym h.nodes_are) (scan_is_plain (geometry_of m) (table_in m) t ready.set.objects
+    (sym h.nodes_are) (scan_is_plain (geometry_of m) (table_in m) t laid.table.objects
     (ap (checked (table_in m)) (sym h.nodes_are) ∙ e))
 
 -- the answers
@@ -141,18 +141,18 @@ counts_risen g ops turn table nodes k new words fits e =
     ∙ no_writes (with_counts k (sum_of (replies g ops table (scan_script table nodes))))
 
 -- the last object's ones are what is found
-pub leaves_one : (m : Machine) (banks : Banks) (t : Query) → IsReady m
+pub leaves_one : (m : Machine) (banks : Banks) (t : Query) → IsLaidOut m
     → ((b : ℕ) → b < (geometry_of m).banks → length (banks b) ≡ column_count (geometry_of m))
     → ImplementsAll (program_of m) scan_text → size t ≤ 64
     → checked (table_in m) (nodes_of t) ≡ None
     → scan_refused (geometry_of m) (operations_by m) (table_in m) t ≡ None
     → LeavesOne (geometry_of m) (operations_by m) banks (table_in m) t
-leaves_one m banks t ready shaped impl small checks none =
+leaves_one m banks t laid shaped impl small checks none =
     let g = geometry_of m in
     let same = same_operations (program_of m) scan_text impl in
     subst (λ (ops : Routines). LeavesOne g ops banks (table_in m) t) same
-    (scans_answer g (program_of m) banks (table_in m) t (geometry_parts g ready.set.geometry).0 impl
-    shaped ready.set.listed ready.set.objects small checks
+    (scans_answer g (program_of m) banks (table_in m) t (geometry_parts g laid.shape).0 impl
+    shaped laid.table.listed laid.table.objects small checks
     (subst (λ (ops : Routines). scan_refused g ops (table_in m) t ≡ None) (sym same) none))
 
 all_last : {X : Type 0} (P : X → Type 0) (front : List X) (x : X) → All P (front ++ x ∷ []) → P x
@@ -164,29 +164,29 @@ fit : (g : Geometry) (table : List Named) → All (λ named. IsObject g named.1)
 fit g table all k d l = (all k d l).fits
 
 -- a query's events leave the banks as its instructions one after another do
-banks_come : (m : Machine) (nodes : List Node) (banks : Banks) → IsReady m
+banks_come : (m : Machine) (nodes : List Node) (banks : Banks) → IsLaidOut m
     → after (events_of_pieces (geometry_of m) (operations_by m) (turn_in m) (table_in m)
     (map piece_of (scan_script (table_in m) nodes))) banks
     ≡ banks_at_end (geometry_of m) (operations_by m) (table_in m) banks
     (scan_script (table_in m) nodes)
-banks_come m nodes banks ready =
+banks_come m nodes banks laid =
     let g = geometry_of m in
     let ops = operations_by m in
     let table = table_in m in
     ap (λ (ps : List Piece). after (events_of_pieces g ops (turn_in m) table ps) banks)
     (sym (each_is_alone table nodes))
     ∙ events_are_steps g ops (turn_in m) table (scan_script table nodes) banks
-    (geometry_parts g ready.set.geometry).0 (fit g table ready.set.objects)
+    (geometry_parts g laid.shape).0 (fit g table laid.table.objects)
 
 -- what a scan that is done leaves
-pub leaves : (a b : Machine) (s t : ChipView) (nodes : List Node) (q : Query) → IsReady a
+pub leaves : (a b : Machine) (s t : ChipView) (nodes : List Node) (q : Query) → IsLaidOut a
     → ((bank : ℕ) → bank < (geometry_of a).banks
     → length (s.banks bank) ≡ column_count (geometry_of a))
     → ImplementsAll (program_of a) scan_text → IsNodesOf q nodes
     → checked (table_in a) nodes ≡ None → NodesRan nodes a b s t
     → LeavesOne (geometry_of a) (operations_by a) s.banks (table_in a) q
-leaves a b s t nodes q ready shaped impl h checks ran =
-    leaves_one a s.banks q ready shaped impl h.small
+leaves a b s t nodes q laid shaped impl h checks ran =
+    leaves_one a s.banks q laid shaped impl h.small
     (ap (checked (table_in a)) (sym h.nodes_are) ∙ checks)
     (ap (λ (ns : List Node). refused_node a ns) (sym h.nodes_are) ∙ ran.allowed)
 
@@ -195,10 +195,36 @@ pub table_left : (a b : Machine) (s t : ChipView) (nodes : List Node) (q : Query
     → (l : LeavesOne (geometry_of a) (operations_by a) s.banks (table_in a) q)
     → table_in b ≡ table_in a ++ (free_name (table_in a) (size q), l.object) ∷ []
 table_left a b s t nodes q h ran l =
-    ran.ran.table
+    ap table_in ran.ran.machine
     ∙ ap (λ (ns : List Node). table_at_end (geometry_of a) (operations_by a) (table_in a)
     (scan_script (table_in a) ns)) h.nodes_are
     ∙ l.one_more
+
+shaped_as : (g shown : Geometry) (banks : Banks) → shown ≡ g
+    → ((b : ℕ) → b < shown.banks → length (banks b) ≡ 64 * shown.words)
+    → (b : ℕ) → b < g.banks → length (banks b) ≡ column_count g
+shaped_as g shown banks e w = subst (λ (x : Geometry). (b : ℕ) → b < x.banks
+    → length (banks b) ≡ column_count x) e w
+
+-- what stands where the nodes of a query were done
+pub record Asked (a b : Machine) (s t : ChipView) (nodes : List Node) (q : Query) : Type 0 where
+  pub ran : NodesRan nodes a b s t
+  pub checks : checked (table_in a) nodes ≡ None
+  pub leaves : LeavesOne (geometry_of a) (operations_by a) s.banks (table_in a) q
+  pub left : table_in b ≡ table_in a ++ (free_name (table_in a) (size q), leaves.object) ∷ []
+
+pub asked : (a b : Machine) (s t : ChipView) (nodes seen : List Node) (q : Query)
+    (r : Option (Why × ℕ)) → IsLaidOut a → s.geometry ≡ geometry_of a
+    → ((bank : ℕ) → bank < s.geometry.banks → length (s.banks bank) ≡ 64 * s.geometry.words)
+    → ImplementsAll (program_of a) scan_text → IsNodesOf q nodes → seen ≡ nodes
+    → checked (table_in a) nodes ≡ None → r ≡ None → NodesRun seen a b s t (Ok r)
+    → Asked a b s t nodes q
+asked a b s t nodes seen q r laid shape shaped impl h same checks none runs =
+    let ran = subst (λ (ns : List Node). NodesRan ns a b s t) same
+    (subst (λ (x : Option (Why × ℕ)). NodesRun seen a b s t (Ok x)) none runs) in
+    let l = leaves a b s t nodes q laid (shaped_as (geometry_of a) s.geometry s.banks shape shaped)
+    impl h checks ran in
+    record { ran = ran; checks = checks; leaves = l; left = table_left a b s t nodes q h ran l }
 
 pub some_left : (front : List Named) (x : Named) (table : List Named) → table ≡ front ++ x ∷ []
     → 0 < length table
@@ -212,41 +238,41 @@ pub record LiesIn (g : Geometry) (o : Object) : Type 0 where
   pub low : end_of o ≤ limit_of g
   pub object : IsObject g o
 
-pub last_lies : (b : Machine) (front : List Named) (x : Named) → IsReady b
+pub last_lies : (b : Machine) (front : List Named) (x : Named) → IsLaidOut b
     → table_in b ≡ front ++ x ∷ [] → LiesIn (geometry_of b) x.1
-last_lies b front x ready e = record {
+last_lies b front x laid e = record {
   low = all_last (λ p. end_of p.1 ≤ limit_of (geometry_of b)) front x
       (subst (λ (t : List Named). All (λ p. end_of p.1 ≤ limit_of (geometry_of b)) t) e
-      ready.set.listed.within);
+      laid.table.listed.within);
   object = all_last (λ p. IsObject (geometry_of b) p.1) front x
       (subst (λ (t : List Named). All (λ p. IsObject (geometry_of b) p.1) t) e
-      ready.set.objects);
+      laid.table.objects);
 }
 
 -- its ones are the elements found
-pub ones_found : (a b : Machine) (s t : ChipView) (nodes : List Node) (q : Query) → IsReady a
+pub ones_found : (a b : Machine) (s t : ChipView) (nodes : List Node) (q : Query) → IsLaidOut a
     → IsNodesOf q nodes → NodesRan nodes a b s t
     → (l : LeavesOne (geometry_of a) (operations_by a) s.banks (table_in a) q)
     → count_by (λ v. v == 1) (take l.object.count (columns (geometry_of a) t.banks l.object))
     ≡ found_in (geometry_of a) s.banks (table_in a) q
-ones_found a b s t nodes q ready h ran l =
+ones_found a b s t nodes q laid h ran l =
     let g = geometry_of a in
     let found : Banks → ℕ = λ banks.
     count_by (λ v. v == 1) (take l.object.count (columns g banks l.object)) in
-    ap found (ran.ran.did.banks ∙ banks_come a nodes s.banks ready
+    ap found (ran.ran.did.banks ∙ banks_come a nodes s.banks laid
     ∙ ap (λ (ns : List Node). banks_at_end g (operations_by a) (table_in a) s.banks
     (scan_script (table_in a) ns)) h.nodes_are)
     ∙ l.ones
 
 -- the counters after it
-pub counts_after : (a b : Machine) (s t : ChipView) (nodes : List Node) → IsReady a
+pub counts_after : (a b : Machine) (s t : ChipView) (nodes : List Node) → IsLaidOut a
     → NodesRan nodes a b s t
     → t.counters ≡ with_counts s.counters (sum_of (replies (geometry_of a) (operations_by a)
     (table_in a) (scan_script (table_in a) nodes)))
-counts_after a b s t nodes ready ran = counts_risen (geometry_of a) (operations_by a) (turn_in a)
+counts_after a b s t nodes laid ran = counts_risen (geometry_of a) (operations_by a) (turn_in a)
     (table_in a) nodes s.counters t.counters
-    (geometry_parts (geometry_of a) ready.set.geometry).0
-    (fit (geometry_of a) (table_in a) ready.set.objects) ran.ran.did.counters
+    (geometry_parts (geometry_of a) laid.shape).0
+    (fit (geometry_of a) (table_in a) laid.table.objects) ran.ran.did.counters
 
 difference : (old new : Counters) (sum counts : Counts) → new ≡ with_counts old sum
     → counts.aap ≡ new.aap - old.aap → counts.ap ≡ new.ap - old.ap → counts ≡ sum
@@ -260,7 +286,7 @@ difference old new sum counts e aap ap' =
 
 -- so the answer is the model's
 pub answer_done : (a b : Machine) (s t : ChipView) (nodes : List Node) (q : Query)
-    (found of : ℕ) (counts : Counts) → IsReady a → IsNodesOf q nodes
+    (found of : ℕ) (counts : Counts) → IsLaidOut a → IsNodesOf q nodes
     → checked (table_in a) nodes ≡ None → NodesRan nodes a b s t
     → (l : LeavesOne (geometry_of a) (operations_by a) s.banks (table_in a) q)
     → found ≡ count_by (λ v. v == 1) (take l.object.count
@@ -268,16 +294,16 @@ pub answer_done : (a b : Machine) (s t : ChipView) (nodes : List Node) (q : Quer
     → of ≡ count_of (table_in a) nodes
     → counts.aap ≡ t.counters.aap - s.counters.aap → counts.ap ≡ t.counters.ap - s.counters.ap
     → Found found of counts ≡ answer (geometry_of a) (operations_by a) s.banks (table_in a) q
-answer_done a b s t nodes q found of counts ready h checks ran l ones same aap ap' =
+answer_done a b s t nodes q found of counts laid h checks ran l ones same aap ap' =
     let g = geometry_of a in
     let ops = operations_by a in
     let table = table_in a in
     let sum = sum_of (replies g ops table (scan_script table nodes)) in
-    ap (λ n. Found n of counts) (ones ∙ ones_found a b s t nodes q ready h ran l)
+    ap (λ n. Found n of counts) (ones ∙ ones_found a b s t nodes q laid h ran l)
     ∙ ap (λ n. Found (found_in g s.banks table q) n counts)
     (same ∙ ap (count_of table) h.nodes_are)
     ∙ ap (λ (c : Counts). Found (found_in g s.banks table q) (query_count table q) c)
-    (difference s.counters t.counters sum counts (counts_after a b s t nodes ready ran) aap ap'
+    (difference s.counters t.counters sum counts (counts_after a b s t nodes laid ran) aap ap'
     ∙ ap (λ (ns : List Node). sum_of (replies g ops table (scan_script table ns))) h.nodes_are)
     ∙ answer_found g ops s.banks table q
     (ap (checked table) (sym h.nodes_are) ∙ checks)
@@ -311,28 +337,19 @@ room_left a b s t nodes few ran room = node_room (table_in a) (free_name (table_
     (count_of (table_in a) nodes) nodes a b s t few ran.ran room
 
 pub goes_on : (a b : Machine) (s t : ChipView) (nodes : List Node) → NodesRan nodes a b s t
-    → GoesOn (scan_script (table_in a) nodes) a b
-goes_on a b s t nodes ran = record {
-  ready = ran.ran.ready;
-  program = ran.ran.program;
-  shape = ran.ran.shape;
-  table = ran.ran.table;
-  turn = ran.ran.turn
-      ∙ ap (turn_at_end (geometry_of a) (operations_by a) (turn_in a) (table_in a))
-      (sym (each_is_alone (table_in a) nodes));
-}
+    → b ≡ at_end a (scan_script (table_in a) nodes)
+goes_on a b s t nodes ran =
+    let m = at_end a (scan_script (table_in a) nodes) in
+    ran.ran.machine
+    ∙ ap (λ (ps : List Piece). let n : Machine = record m {
+      turn = turn_at_end (geometry_of a) (operations_by a) (turn_in a) (table_in a) ps;
+    } in n) (sym (each_is_alone (table_in a) nodes))
 
 -- what the code looked at is what the definitions name
 pub check_says : (table shown again : List Named) (nodes seen : List Node) (count : ℕ)
     (r : Option (ScanWhy × ℕ)) → shown ≡ table → again ≡ table → seen ≡ nodes
     → count ≡ count_of shown seen → r ≡ checked_from again count 0 seen → r ≡ checked table nodes
 check_says table shown again nodes seen count r e f s c h = rw (c, e, f, s) at h
-
-pub shaped_as : (g shown : Geometry) (banks : Banks) → shown ≡ g
-    → ((b : ℕ) → b < shown.banks → length (banks b) ≡ 64 * shown.words)
-    → (b : ℕ) → b < g.banks → length (banks b) ≡ column_count g
-shaped_as g shown banks e w = subst (λ (x : Geometry). (b : ℕ) → b < x.banks
-    → length (banks b) ≡ column_count x) e w
 
 -- the last object can be read
 pub record IsLast (g : Geometry) (o : Object) : Type 0 where
@@ -341,12 +358,12 @@ pub record IsLast (g : Geometry) (o : Object) : Type 0 where
   pub narrow : o.width ≡ 1
 
 pub last_is : (a b : Machine) (s t : ChipView) (nodes : List Node) (q : Query) (shown : Geometry)
-    (o : Object) → IsNodesOf q nodes → NodesRan nodes a b s t
+    (o : Object) → IsLaidOut b → IsNodesOf q nodes → NodesRan nodes a b s t
     → (l : LeavesOne (geometry_of a) (operations_by a) s.banks (table_in a) q)
     → shown ≡ geometry_of a → o ≡ l.object → IsLast shown o
-last_is a b s t nodes q shown o h ran l e f =
-    let lies = subst (λ (x : Geometry). LiesIn x l.object) (ran.ran.shape ∙ sym e)
-    (last_lies b (table_in a) (free_name (table_in a) (size q), l.object) ran.ran.ready
+last_is a b s t nodes q shown o laid h ran l e f =
+    let lies = subst (λ (x : Geometry). LiesIn x l.object) (ap geometry_of ran.ran.machine ∙ sym e)
+    (last_lies b (table_in a) (free_name (table_in a) (size q), l.object) laid
     (table_left a b s t nodes q h ran l)) in
     let low = lies.low in
     let narrow = l.narrow in
@@ -384,11 +401,11 @@ rises old new sum e =
     (omega (arith, more), omega (arith, more'))
 
 pub counters_end : (a b : Machine) (s t u : ChipView) (nodes : List Node) (n : ℕ)
-    (counts : Counts) → IsReady a → NodesRan nodes a b s t → DidRead n t u
+    (counts : Counts) → IsLaidOut a → NodesRan nodes a b s t → DidRead n t u
     → counts.aap ≡ t.counters.aap - s.counters.aap → counts.ap ≡ t.counters.ap - s.counters.ap
     → u.counters ≡ with_reads n (with_counts s.counters counts)
-counters_end a b s t u nodes n counts ready ran read aap ap' =
-    let following = counts_after a b s t nodes ready ran in
+counters_end a b s t u nodes n counts laid ran read aap ap' =
+    let following = counts_after a b s t nodes laid ran in
     read.counters
     ∙ ap (with_reads n) (following
     ∙ ap (with_counts s.counters) (sym (difference s.counters t.counters

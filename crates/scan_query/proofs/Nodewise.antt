@@ -16,7 +16,7 @@ use Rattle.machine_model.specs.declared.Why.{Why}
 use Rattle.machine_model.specs.Routines.{Routines}
 use Rattle.machine_model.specs.Script.{table_at_end}
 use Rattle.sim_machine.specs.declared.machine.Machine.{Machine}
-use Rattle.sim_machine.specs.Machine.{geometry_of, operations_by, table_in}
+use Rattle.sim_machine.specs.Machine.{geometry_of, operations_by, program_of, table_in}
 use Rattle.scan_model.specs.Checks.{refused_in, refused_from, or_later}
 use Rattle.scan_model.specs.Instructions.{node_instructions, script_from}
 use Rattle.scan_model.specs.Names.{free_name}
@@ -182,8 +182,8 @@ pub node_allowed : (start : List Named) (names : ℕ
 node_allowed start names count j front back node a b c s t u r e p q =
     let g = geometry_of a in
     let ops = operations_by a in
-    let allowed = rw (p.shape, p.program) at q.allowed in
-    let table = rw (p.shape, p.program) at q.table in
+    let allowed = rw (ap geometry_of p.machine, ap program_of p.machine) at q.allowed in
+    let table = rw (ap geometry_of p.machine, ap program_of p.machine) at (ap table_in q.machine) in
     e ∙ allowed_on g ops start (table_in b) names count j node back allowed
     ∙ ap (λ (t : List Named). refused_from g ops start t names count (j + 1) back) (sym table)
 
@@ -198,7 +198,7 @@ pub node_refused : (start : List Named) (names : ℕ
     (node_instructions start names count j node) ≡ Some why
     → r ≡ Some (why, j)
 node_refused start names count j front back node a b s t r why e p q =
-    let refused = rw (p.shape, p.program) at q in
+    let refused = rw (ap geometry_of p.machine, ap program_of p.machine) at q in
     e ∙ refused_on (geometry_of a) (operations_by a) start (table_in b) names count j node back
     why refused
 

@@ -11,6 +11,7 @@ use Rattle.dram_model.specs.View.{ChipView, Did, with_reads}
 use Rattle.dram_model.specs.declared.dram.Counters.{Counters}
 use Rattle.dram_model.proofs.EventLaws.{Did-none, Did-more, Kept-same, Kept-more}
 use Rattle.uprog_code.specs.declared.TheConstants.{WALK_MAX}
+use Rattle.wave_model.specs.Schedule.{Turn}
 use Rattle.dram_model.specs.Chip.{Event, all_counted}
 use Rattle.dram_model.specs.declared.geometry.Geometry.{Geometry}
 use Rattle.object_alloc.specs.Listed.{Named}
@@ -27,7 +28,7 @@ use Rattle.machine_model.specs.Script.{table_at_end, is_bbop}
 use Rattle.machine_model.proofs.Parts.{scripts_go_on, pieces_go_on}
 use Rattle.object_steps.specs.Objects.{RisesAtMost}
 use Rattle.sim_machine.specs.declared.machine.Machine.{Machine}
-use Rattle.sim_machine.specs.Machine.{IsReady, geometry_of, operations_by, table_in}
+use Rattle.sim_machine.specs.Machine.{geometry_of, operations_by, table_in}
 use Rattle.sim_machine.specs.Machine.{turn_in, reply_of}
 use Rattle.sim_machine.specs.Machine.{reads_by, is_print}
 use Rattle.sim_machine.specs.Steps.{DidAndRead}
@@ -67,18 +68,20 @@ rises_more m n all a b c p q e = record {
 }
 
 -- nothing is done
-pub ran_nothing : (m : Machine) (chip : ChipView) → IsReady m → Ran [] m m chip chip
-ran_nothing m chip ready = record {
-  program = refl;
-  shape = refl;
-  ready = ready;
+pub ran_nothing : (m : Machine) (chip : ChipView) → Ran [] m m chip chip
+ran_nothing m chip = record {
   kept = Kept-same chip;
   allowed = refl;
-  table = refl;
-  turn = refl;
+  machine = refl;
   did = Did-none chip;
   rises = rises_none chip.counters;
 }
+
+with_both : (m : Machine) (table table' : List Named) (turn turn' : Turn) → table ≡ table'
+    → turn ≡ turn'
+    → (let n : Machine = record m { table = table; turn = turn } in n)
+    ≡ record m { table = table'; turn = turn' }
+with_both m table table' turn turn' e f = rw (e, f) refl
 
 lengths : (xs ys : List Instruction) (n : ℕ) → length xs * n + length ys * n
     ≡ length (xs ++ ys) * n
@@ -92,26 +95,21 @@ ran_then xs ys a b c s t u p q =
     let ops = operations_by a in
     let scripts = scripts_go_on g ops (table_in a) xs ys in
     let parts = pieces_go_on g ops (turn_in a) (table_in a) (map piece_of xs) (map piece_of ys) in
-    let allowed = rw (p.shape, p.program, p.table) at q.allowed in
-    let table = rw (p.shape, p.program, p.table) at q.table in
-    let turn = rw (p.shape, p.program, p.table, p.turn) at q.turn in
-    let did = rw (p.shape, p.program, p.table, p.turn) at q.did in
+    let allowed = rw p.machine at q.allowed in
+    let did = rw p.machine at q.did in
     record {
-      program = q.program ∙ p.program;
-      shape = q.shape ∙ p.shape;
-      ready = q.ready;
       kept = Kept-more s t u p.kept q.kept;
       allowed = refused-append g ops (table_in a) xs ys
           ∙ ap (λ r. or_else r (refused_in g ops (table_at_end g ops (table_in a) xs) ys))
           p.allowed
           ∙ allowed;
-      table = table ∙ sym scripts.tables;
-      turn = turn
-          ∙ ap (λ ts. turn_at_end g ops (turn_at_end g ops (turn_in a) (table_in a)
+      machine = (rw p.machine at q.machine)
+          ∙ with_both a _ _ _ _ (sym scripts.tables)
+          (ap (λ ts. turn_at_end g ops (turn_at_end g ops (turn_in a) (table_in a)
           (map piece_of xs)) (table_at_end g ops (table_in a) ts) (map piece_of ys))
           (sym (holds_all xs))
           ∙ sym parts.turns
-          ∙ ap (turn_at_end g ops (turn_in a) (table_in a)) (sym (map-append piece_of xs ys));
+          ∙ ap (turn_at_end g ops (turn_in a) (table_in a)) (sym (map-append piece_of xs ys)));
       did = subst (λ (es : List Event). Did es s u)
           (ap (λ ts. events_of_pieces g ops (turn_in a) (table_in a) (map piece_of xs)
           ++ events_of_pieces g ops (turn_at_end g ops (turn_in a) (table_in a)
@@ -181,7 +179,7 @@ refused_then xs ys a b s t why p e =
     let ops = operations_by a in
     refused-append g ops (table_in a) xs ys
     ∙ ap (λ r. or_else r (refused_in g ops (table_at_end g ops (table_in a) xs) ys)) p.allowed
-    ∙ (rw (p.shape, p.program, p.table) at e)
+    ∙ (rw p.machine at e)
 
 refused_front : (g : Geometry) (ops : Routines) (table : List Named) (xs ys : List Instruction)
     (why : Why)

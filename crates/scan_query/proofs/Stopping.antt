@@ -119,9 +119,9 @@ stopped_then xs ys a b s t u why p q =
     let scripts = scripts_go_on g ops (table_in a) xs q.before in
     let parts = pieces_go_on g ops (turn_in a) (table_in a) (map piece_of xs)
     (map piece_of q.before) in
-    let allowed = rw (p.shape, p.program, p.table) at q.allowed in
-    let why_is = rw (p.shape, p.program, p.table) at q.why_is in
-    let did = rw (p.shape, p.program, p.table, p.turn) at q.did in
+    let allowed = rw p.machine at q.allowed in
+    let why_is = rw p.machine at q.why_is in
+    let did = rw p.machine at q.did in
     record {
       before = xs ++ q.before;
       refused = q.refused;

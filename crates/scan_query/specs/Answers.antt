@@ -2,12 +2,7 @@
 use Rattle.std.specs.Prelude.{◌≡◌, ℕ, Bool, true, false, List}
 use Rattle.dram_model.specs.declared.dram.Counters.{Counters}
 use Rattle.dram_model.specs.View.{with_reads}
-use Rattle.bbop_isa.specs.Forms.{Instruction}
-use Rattle.machine_model.specs.Pieces.{pieces, turn_at_end}
-use Rattle.machine_model.specs.Script.{table_at_end, with_counts}
-use Rattle.sim_machine.specs.declared.machine.Machine.{Machine}
-use Rattle.sim_machine.specs.Machine.{IsReady, geometry_of, operations_by, program_of, table_in}
-use Rattle.sim_machine.specs.Machine.{turn_in}
+use Rattle.machine_model.specs.Script.{with_counts}
 use Rattle.scan_model.specs.Queries as model
 use Rattle.scan_model.specs.Answers.{Answer, Found, Refused}
 use Rattle.scan_query.specs.declared.query.ScanReply.{ScanReply}
@@ -33,13 +28,3 @@ abbrev pub CountersRose : ScanReply → ℕ → Counters → Counters → Type 0
 CountersRose (reply.Done found of counts) reads old new = new
     ≡ with_reads reads (with_counts old counts)
 CountersRose (reply.Refused why k) reads old new = Unit {0}
-
--- a machine goes on after a script
-pub record GoesOn (script : List Instruction) (old new : Machine) : Type 0 where
-  pub ready : IsReady new
-  pub program : program_of new ≡ program_of old
-  pub shape : geometry_of new ≡ geometry_of old
-  pub table : table_in new
-      ≡ table_at_end (geometry_of old) (operations_by old) (table_in old) script
-  pub turn : turn_in new ≡ turn_at_end (geometry_of old) (operations_by old) (turn_in old)
-      (table_in old) (pieces script)

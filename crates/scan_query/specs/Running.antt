@@ -13,8 +13,7 @@ use Rattle.machine_model.specs.Refusals.{refusal}
 use Rattle.machine_model.specs.Script.{table_at_end}
 use Rattle.object_steps.specs.Objects.{RisesAtMost}
 use Rattle.sim_machine.specs.declared.machine.Machine.{Machine}
-use Rattle.sim_machine.specs.Machine.{IsReady, geometry_of, operations_by, program_of, table_in}
-use Rattle.sim_machine.specs.Machine.{turn_in}
+use Rattle.sim_machine.specs.Machine.{geometry_of, operations_by, table_in, turn_in}
 use Rattle.scan_model.specs.Checks.{refused_in, refused_from}
 use Rattle.scan_model.specs.Instructions.{count_of, scan_script}
 use Rattle.scan_model.specs.Names.{free_name}
@@ -30,15 +29,13 @@ pub record AreBelow (limit : ℕ) (counters : Counters) : Type 0 where
 -- the instructions were done one after another, and none was refused
 pub record Ran (script : List Instruction) (old new : Machine) (chip chip' : ChipView) : Type 0
   where
-    pub program : program_of new ≡ program_of old
-    pub shape : geometry_of new ≡ geometry_of old
-    pub ready : IsReady new
     pub kept : Kept chip chip'
     pub allowed : refused_in (geometry_of old) (operations_by old) (table_in old) script ≡ None
-    pub table : table_in new
-        ≡ table_at_end (geometry_of old) (operations_by old) (table_in old) script
-    pub turn : turn_in new ≡ turn_at_end (geometry_of old) (operations_by old) (turn_in old)
-        (table_in old) (map piece_of script)
+    pub machine : new ≡ record old {
+      table = table_at_end (geometry_of old) (operations_by old) (table_in old) script;
+      turn = turn_at_end (geometry_of old) (operations_by old) (turn_in old) (table_in old)
+          (map piece_of script);
+    }
     pub did : Did (events_of_pieces (geometry_of old) (operations_by old) (turn_in old)
         (table_in old) (map piece_of script)) chip chip'
     pub rises : RisesAtMost (length script * (16 * WALK_MAX)) chip.counters chip'.counters

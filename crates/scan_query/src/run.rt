@@ -11,7 +11,7 @@ ghost use Rattle.object_alloc.specs.Listed.{Named};
 ghost use Rattle.machine_model.specs.Agrees.{IsPlain};
 ghost use Rattle.machine_model.specs.Pieces.{events_of_pieces, pieces};
 ghost use Rattle.uprog_code.specs.Texts.{ImplementsAll};
-ghost use Rattle.sim_machine.specs.Machine.{IsReady, geometry_of, operations_by, program_of};
+ghost use Rattle.sim_machine.specs.Machine.{at_end, geometry_of, operations_by, program_of};
 ghost use Rattle.sim_machine.specs.Machine.{table_in, turn_in};
 ghost use Rattle.sim_machine.specs.Steps.{DidAndRead};
 ghost use Rattle.scan_model.specs.Queries as model;
@@ -19,7 +19,7 @@ ghost use Rattle.scan_model.specs.Answers.{answer, room_word};
 ghost use Rattle.scan_model.specs.Checks.{checked};
 ghost use Rattle.scan_model.specs.Instructions.{count_of, scan_script};
 ghost use Rattle.scan_model.specs.Operations.{scan_text};
-ghost use Rattle.scan_query.specs.Answers.{CountersRose, GoesOn, IsScan, answer_of, is_done};
+ghost use Rattle.scan_query.specs.Answers.{CountersRose, IsScan, answer_of, is_done};
 ghost use Rattle.scan_query.specs.Queries.{IsNodesOf, node_of, nodes_in, sources_fit};
 ghost use Rattle.scan_query.specs.Running.{AreBelow, NodesRun, StoppedAt, refused_node};
 
@@ -41,7 +41,6 @@ pub(crate) fn run_nodes<D: Dram>(
     nodes: &[Node],
     dram: &mut D,
 ) -> Result<Option<(Why, u8)>, ChipFault>
-    requires ready { IsReady machine.old }
     requires begun { HasBegun (D.view dram.old) }
     requires geometry { (D.view dram.old).geometry ≡ geometry_of machine.old }
     requires few { length nodes.now ≤ 64 }
@@ -99,7 +98,6 @@ pub fn run_query<D: Dram>(
     dram: &mut D,
     stage: &mut [u64],
 ) -> Result<ScanReply, ChipFault>
-    requires ready { IsReady machine.old }
     requires begun { HasBegun (D.view dram.old) }
     requires geometry { (D.view dram.old).geometry ≡ geometry_of machine.old }
     requires program { ImplementsAll (program_of machine.old) scan_text }
@@ -125,8 +123,8 @@ pub fn run_query<D: Dram>(
         (segments_of (geometry_of machine.old) (count_of (table_in machine.old)
         (nodes_in query.now))) (D.view dram.old).counters (D.view dram.new).counters) }
     ensures goes { IfOk result (λ reply. is_done reply ≡ true
-        → GoesOn (scan_script (table_in machine.old) (nodes_in query.now)) machine.old
-        machine.new) }
+        → machine.new ≡ at_end machine.old (scan_script (table_in machine.old)
+        (nodes_in query.now))) }
     // Where an instruction is refused, those before it were done, and nothing else.
     ensures stopped { IfOk result (λ reply. (why : _) (k : _)
         → checked (table_in machine.old) (nodes_in query.now) ≡ None

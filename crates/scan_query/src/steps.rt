@@ -5,7 +5,7 @@ ghost use Rattle.std.specs.List.{AllByRecursion};
 ghost use Rattle.dram_model.specs.View.{HasBegun, Kept};
 ghost use Rattle.bbop_isa.specs.Forms.{view_of};
 ghost use Rattle.machine_model.specs.Agrees.{IsPlain};
-ghost use Rattle.sim_machine.specs.Machine.{IsReady, geometry_of, is_print};
+ghost use Rattle.sim_machine.specs.Machine.{geometry_of, is_print};
 ghost use Rattle.sim_machine.specs.Steps.{HasRoom};
 ghost use Rattle.scan_query.specs.Queries.{instructions_for, names_in, node_of, sources_fit};
 ghost use Rattle.scan_query.specs.Running.{Runs, AreBelow};
@@ -24,7 +24,6 @@ fn do_one<D: Dram>(
     instr: &Instr,
     dram: &mut D,
 ) -> Result<Option<Why>, ChipFault>
-    requires ready { IsReady machine.old }
     requires begun { HasBegun (D.view dram.old) }
     requires geometry { (D.view dram.old).geometry ≡ geometry_of machine.old }
     requires plain { IsPlain (view_of instr.now) }
@@ -53,7 +52,6 @@ fn do_at<D: Dram>(
     i: u8,
     dram: &mut D,
 ) -> Result<Option<Why>, ChipFault>
-    requires ready { IsReady machine.old }
     requires begun { HasBegun (D.view dram.old) }
     requires geometry { (D.view dram.old).geometry ≡ geometry_of machine.old }
     requires names { length names.now ≡ 65 }
@@ -83,7 +81,6 @@ pub(crate) fn do_node<D: Dram>(
     k: u8,
     dram: &mut D,
 ) -> Result<Option<Why>, ChipFault>
-    requires ready { IsReady machine.old }
     requires begun { HasBegun (D.view dram.old) }
     requires geometry { (D.view dram.old).geometry ≡ geometry_of machine.old }
     requires names { length names.now ≡ 65 }

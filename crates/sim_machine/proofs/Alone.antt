@@ -27,6 +27,7 @@ use Rattle.sim_machine.specs.Machine.{reply_of, moved_table, table_in}
 use Rattle.sim_machine.specs.Machine.{turn_by_piece, turn_in}
 use Rattle.sim_machine.specs.Outcome.{Comes, Stepped}
 use Rattle.sim_machine.specs.Steps.{DidAndRead}
+use Rattle.sim_machine.proofs.Keeping.{goes_to}
 use Rattle.sim_machine.proofs.Waving.{stopped_below}
 use Rattle.sim_machine.proofs.Stepping.{did_only, if_same, no_part, reads_none, said_answered}
 
@@ -81,7 +82,8 @@ jobs_below m (instr ∷ wave) k all =
     (omega (arith, all.0, banks)) (jobs_below m wave k all.1)
 
 module _ (old new : Machine) (number : ℕ) (instr : Instruction) (wave : List Instruction)
-    (chip chip' : ChipView) (sink sink' : SinkView) (is : wave ≡ instr ∷ [])
+    (chip chip' : ChipView) (sink sink' : SinkView)
+    (same : new ≡ record old { turn = turn_in new }) (is : wave ≡ instr ∷ [])
     (bbop : is_bbop instr ≡ true)
   where
     one_line : lines_of old number wave ≡ reply_line old number chip.banks instr
@@ -105,20 +107,20 @@ module _ (old new : Machine) (number : ℕ) (instr : Instruction) (wave : List I
         chip') same_piece (subst (λ (xs : List Instruction). StoppedAmong
         (events_by old (Wave wave)) (queues_by old xs) chip chip') is stopped)
 
-    pub bbop_done : (replies : List Reply) (d : Reply) → table_in new ≡ table_in old
-        → replies ≡ map (reply_of old) wave → turn_in new ≡ turn_by_piece old (Wave wave)
+    pub bbop_done : (replies : List Reply) (d : Reply) → replies ≡ map (reply_of old) wave →
+        turn_in new ≡ turn_by_piece old (Wave wave)
         → Did (events_by old (Wave wave)) chip chip'
         → Known (λ x y. y ≡ x ++ lines_of old number wave) sink.sent sink'.sent
         → Stepped old new number instr chip chip' sink sink' (get_or replies 0 d)
-    bbop_done replies d table e turn did sent = record {
+    bbop_done replies d e turn did sent = record {
       answer = ap (λ (rs : List Reply). get_or rs 0 d) (e ∙ ap (map (reply_of old)) is);
-      table = table ∙ keeps_table old instr bbop;
-      turn = turn ∙ ap (turn_by_piece old) same_piece;
+      machine = same ∙ goes_to old (record old { turn = turn_in new }) _ _ refl
+          (keeps_table old instr bbop) (turn ∙ ap (turn_by_piece old) same_piece);
       did = did_alone did;
       sent = subst (λ text. Known (λ x y. y ≡ x ++ text) sink.sent sink'.sent) one_line sent;
     }
 
-    pub bbop_failed : (fault : StepFault) → table_in new ≡ table_in old
+    pub bbop_failed : (fault : StepFault)
         → (fault ≡ WriteFault → turn_in new ≡ turn_by_piece old (Wave wave))
         → (fault ≡ ChipFault
         → StoppedAmong (events_by old (Wave wave)) (queues_by old wave) chip chip')
@@ -128,8 +130,8 @@ module _ (old new : Machine) (number : ℕ) (instr : Instruction) (wave : List I
         → (fault ≡ WriteFault
         → Known (AppendsPart (lines_of old number wave)) sink.sent sink'.sent)
         → Comes old new number instr chip chip' sink sink' (Err fault)
-    bbop_failed ChipFault table turn stopped same did rose part = record {
-      table = table;
+    bbop_failed ChipFault turn stopped unsent did rose part = record {
+      same = same;
       turn = λ e. absurd (cc (e, bbop));
       failed = stopped_below (geometry_of old).banks (turn_in old)
           (jobs_of (geometry_of old) (operations_by old) (table_in old) wave) chip chip'
@@ -137,14 +139,14 @@ module _ (old new : Machine) (number : ℕ) (instr : Instruction) (wave : List I
           (subst (AllByRecursion (λ i. banks_by old i ≤ banks_by old instr)) (sym is)
           (omega arith, tt)));
       stopped = λ e. stopped_alone (stopped refl);
-      unsent = λ e. same refl;
+      unsent = λ e. unsent refl;
       part = subst (λ (s : SinkView). Known (AppendsPart (reply_line old number chip.banks instr))
-          sink.sent s.sent) (sym (same refl)) (no_part _ sink.sent);
+          sink.sent s.sent) (sym (unsent refl)) (no_part _ sink.sent);
     }
-    bbop_failed WriteFault table turn stopped same did rose part =
+    bbop_failed WriteFault turn stopped unsent did rose part =
         let all = did_alone (did refl) in record {
-          table = table;
-          turn = turn refl ∙ ap (turn_by_piece old) same_piece;
+          machine = same ∙ goes_to old (record old { turn = turn_in new }) _ _ refl refl
+              (turn refl ∙ ap (turn_by_piece old) same_piece);
           did = λ e. all;
           read = λ e. absurd (cc (e, shows_none instr bbop));
           rose = rose refl;

@@ -8,8 +8,9 @@ use Rattle.machine_model.specs.declared.Reply.{Reply}
 use Rattle.object_steps.specs.declared.fault.StepFault.{StepFault}
 use Rattle.object_steps.specs.declared.fault.StepFault.TheVariants.{ChipFault, WriteFault}
 use Rattle.sim_machine.specs.declared.machine.Machine.{Machine}
-use Rattle.sim_machine.specs.Machine.{reply_of}
+use Rattle.sim_machine.specs.Machine.{GoesOn, reply_of}
 use Rattle.sim_machine.specs.Outcome.{Comes, Stepped, StoppedByChip, StoppedBySink}
+use Rattle.sim_machine.proofs.Keeping.{going}
 
 module _ (old new : Machine) (number : ℕ) (instr : Instruction) (chip chip' : ChipView)
     (sink sink' : SinkView)
@@ -22,6 +23,11 @@ module _ (old new : Machine) (number : ℕ) (instr : Instruction) (chip chip' : 
         → Came r → OnOk r P
     when_ok (Ok reply) f h = f reply h
     when_ok (Err fault) f h = tt
+
+    pub goes : (r : Result Reply StepFault) → Came r → GoesOn old new
+    goes (Ok reply) h = going old new _ _ h.machine
+    goes (Err ChipFault) h = going old new _ _ h.same
+    goes (Err WriteFault) h = going old new _ _ h.machine
 
     pub when_answered : (r : Result Reply StepFault) → Came r
         → IfOk r (λ reply. reply ≡ reply_of old instr)

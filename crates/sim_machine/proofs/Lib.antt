@@ -1,5 +1,6 @@
 pub mod Found
 mod Listing
+pub mod Keeping
 pub mod Stepping
 pub mod Printing
 pub mod Alone

@@ -26,6 +26,7 @@ use Rattle.machine_model.specs.Steps.{if_done, reply_by}
 use Rattle.object_steps.specs.Lines.{DidReadAtMost, printed_line}
 use Rattle.object_steps.specs.declared.fault.StepFault.{StepFault}
 use Rattle.object_steps.specs.declared.fault.StepFault.TheVariants.{ChipFault, WriteFault}
+use Rattle.wave_model.specs.Schedule.{Turn}
 use Rattle.sim_machine.specs.declared.machine.Machine.{Machine}
 use Rattle.sim_machine.specs.Machine.{banks_by, events_by, geometry_of, reply_line, line_shown}
 use Rattle.sim_machine.specs.Machine.{operations_by}
@@ -58,7 +59,7 @@ nothing_more : (x y : List ℕ) (text : List ℕ) → text ≡ [] → y ≡ x ++
 nothing_more x y text e h = h ∙ ap (λ t. x ++ t) e ∙ append-nil x
 
 module _ (old new : Machine) (number : ℕ) (name : List ℕ) (chip chip' : ChipView)
-    (sink sink' : SinkView)
+    (sink sink' : SinkView) (same : new ≡ old)
   where
     abbrev shown_line : List ℕ
     shown_line = printed_line (geometry_of old) (operations_by old) (table_in old) chip.banks
@@ -83,31 +84,30 @@ module _ (old new : Machine) (number : ℕ) (name : List ℕ) (chip chip' : Chip
     refused_line reply w e h = ap (λ r. line number (Answered r)) e
         ∙ ap (line number) (sym (refused_said name (reply_of old (Print name)) w _ (sym e ∙ h)))
 
-    pub print_done : (reply : Reply) (d : Counts) → table_in new ≡ table_in old
-        → turn_in new ≡ turn_in old → reply ≡ reply_of old (Print name) → reply ≡ Done d
+    pub print_done : (reply : Reply) (d : Counts) → reply ≡ reply_of old (Print name) → reply ≡
+        Done d
         → DidRead (reads_by old (Print name)) chip chip'
         → Known (λ x y. y ≡ x ++ shown_line) sink.sent sink'.sent
         → Stepped old new number (Print name) chip chip' sink sink' reply
-    print_done reply d table turn e h did sent = record {
+    print_done reply d e h did sent = record {
       answer = e;
-      table = table ∙ print_table old name;
-      turn = turn;
+      machine = same ∙ ap (λ (t : List Named). let m : Machine = record old { table = t } in m)
+          (print_table old name);
       did = did_read did;
       sent = subst (λ text. Known (λ x y. y ≡ x ++ text) sink.sent sink'.sent)
           (whole_line (not_refused _ _ d (sym h ∙ e))) sent;
     }
 
     pub print_refused : (reply : Reply) (w : Why) (between : SinkView)
-        → table_in new ≡ table_in old
-        → turn_in new ≡ turn_in old → reply ≡ reply_of old (Print name) → reply ≡ Refused w
+        → reply ≡ reply_of old (Print name) → reply ≡ Refused w
         → DidRead (reads_by old (Print name)) chip chip'
         → Known (λ x y. y ≡ x ++ shown_line) sink.sent between.sent
         → Known (λ x y. y ≡ x ++ line number (Answered reply)) between.sent sink'.sent
         → Stepped old new number (Print name) chip chip' sink sink' reply
-    print_refused reply w between table turn e h did first sent = record {
+    print_refused reply w between e h did first sent = record {
       answer = e;
-      table = table ∙ print_table old name;
-      turn = turn;
+      machine = same ∙ ap (λ (t : List Named). let m : Machine = record old { table = t } in m)
+          (print_table old name);
       did = did_read did;
       sent = Known-trans {R = λ x y. y ≡ x ++ shown_line}
           {S = λ x y. y ≡ x ++ line number (Answered reply)}
@@ -120,7 +120,6 @@ module _ (old new : Machine) (number : ℕ) (name : List ℕ) (chip chip' : Chip
     }
 
     pub print_unsent : (reply : Reply) (w : Why) (between : SinkView)
-        → table_in new ≡ table_in old → turn_in new ≡ turn_in old
         → reply ≡ reply_of old (Print name) → reply ≡ Refused w
         → DidRead (reads_by old (Print name)) chip chip'
         → sink.faults ≤ between.faults
@@ -128,9 +127,8 @@ module _ (old new : Machine) (number : ℕ) (name : List ℕ) (chip chip' : Chip
         → Rose between.faults sink'.faults
         → Known (AppendsPart (line number (Answered reply))) between.sent sink'.sent
         → StoppedBySink old new number (Print name) chip chip' sink sink'
-    print_unsent reply w between table turn e h did before first rose sent = record {
-      table = table;
-      turn = turn;
+    print_unsent reply w between e h did before first rose sent = record {
+      machine = same;
       did = λ p. absurd (cc);
       read = λ p. record {
         rows = reads_by old (Print name);
@@ -147,8 +145,7 @@ module _ (old new : Machine) (number : ℕ) (name : List ℕ) (chip chip' : Chip
           (nothing_more x y shown_line (unshown _ _ w _ (sym h ∙ e)) p) q)) first sent;
     }
 
-    pub print_failed : (fault : StepFault) → table_in new ≡ table_in old
-        → turn_in new ≡ turn_in old
+    pub print_failed : (fault : StepFault)
         → refusal (geometry_of old) (operations_by old) (table_in old) (Print name) ≡ None
         → Known (AppendsPart shown_line) sink.sent sink'.sent
         → (fault ≡ ChipFault → FailedBelow (banks_by old (Print name)) chip chip')
@@ -156,17 +153,17 @@ module _ (old new : Machine) (number : ℕ) (name : List ℕ) (chip chip' : Chip
         → (fault ≡ WriteFault
         → DidReadAtMost (rows_printed (geometry_of old) (table_in old) (Print name)) chip chip')
         → Comes old new number (Print name) chip chip' sink sink' (Err fault)
-    print_failed ChipFault table turn allowed part failed rose read = record {
-      table = table;
-      turn = λ e. turn;
+    print_failed ChipFault allowed part failed rose read = record {
+      same = same ∙ ap (λ (t : Turn). let m : Machine = record old { turn = t } in m)
+          (sym (ap turn_in same));
+      turn = λ e. ap turn_in same;
       failed = failed refl;
       stopped = λ p. absurd (cc);
       unsent = λ p. absurd (cc);
       part = subst (λ t. Known (AppendsPart t) sink.sent sink'.sent) (whole_line allowed) part;
     }
-    print_failed WriteFault table turn allowed part failed rose read = record {
-      table = table;
-      turn = turn;
+    print_failed WriteFault allowed part failed rose read = record {
+      machine = same;
       did = λ p. absurd (cc);
       read = λ p. subst (λ n. DidReadAtMost n chip chip') (sym (all_rows _ _ allowed)) (read refl);
       rose = rose refl;

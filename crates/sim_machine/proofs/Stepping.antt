@@ -34,12 +34,14 @@ use Rattle.machine_model.specs.Script.{is_bbop}
 use Rattle.machine_model.specs.Steps.{if_done, reply_by, reply_to, table_after}
 use Rattle.object_steps.specs.Objects.{events_alone}
 use Rattle.sim_machine.specs.declared.machine.Machine.{Machine}
-use Rattle.sim_machine.specs.Machine.{banks_by, events_by, geometry_of, is_print, reply_line}
+use Rattle.sim_machine.specs.Machine.{GoesOn, banks_by, events_by, geometry_of, is_print}
+use Rattle.sim_machine.specs.Machine.{reply_line}
 use Rattle.sim_machine.specs.Machine.{operations_by, reads_by, reply_of, moved_table, table_in}
 use Rattle.sim_machine.specs.Machine.{leaves_table, turn_by_piece, turn_in}
 use Rattle.machine_model.proofs.First.{look_up-some}
 use Rattle.sim_machine.specs.Outcome.{Stepped, StoppedByChip, StoppedBySink}
 use Rattle.sim_machine.specs.Steps.{DidAndRead}
+use Rattle.sim_machine.proofs.Keeping.{goes_to}
 
 -- a line that shows no values is that of the reply
 pub said_answered : (reply : Reply) (instr : Instruction) (values : List ℕ → List ℕ)
@@ -93,7 +95,8 @@ no_part bytes sent = Known-same (AppendsPart bytes) sent (λ x. (
 ))
 
 module _ (old new : Machine) (number : ℕ) (instr : Instruction) (chip chip' : ChipView)
-    (sink sink' : SinkView) (print : is_print instr ≡ false) (bbop : is_bbop instr ≡ false)
+    (sink sink' : SinkView) (goes : GoesOn old new) (print : is_print instr ≡ false)
+    (bbop : is_bbop instr ≡ false)
   where
     did_piece : Did (events_alone (geometry_of old) (operations_by old) (table_in old) instr)
         chip chip' → DidAndRead (events_by old (piece_of instr)) (reads_by old instr) chip chip'
@@ -113,8 +116,8 @@ module _ (old new : Machine) (number : ℕ) (instr : Instruction) (chip chip' : 
         → Stepped old new number instr chip chip' sink sink' reply
     done_alone reply e table turn did sent = record {
       answer = e;
-      table = table;
-      turn = turn ∙ ap (turn_by_piece old) (sym (alone instr bbop));
+      machine = goes_to old new _ _ goes table
+          (turn ∙ ap (turn_by_piece old) (sym (alone instr bbop)));
       did = did_piece did;
       sent = subst (λ text. Known (λ x y. y ≡ x ++ text) sink.sent sink'.sent) (answered reply e)
           sent;
@@ -124,7 +127,7 @@ module _ (old new : Machine) (number : ℕ) (instr : Instruction) (chip chip' : 
         → FailedBelow (banks_by old instr) chip chip' → sink' ≡ sink
         → StoppedByChip old new number instr chip chip' sink sink'
     failed_alone table turn failed same = record {
-      table = table;
+      same = goes_to old new _ _ goes table refl;
       turn = λ e. turn;
       failed = failed;
       stopped = λ e. absurd (cc (e, bbop));
@@ -141,8 +144,8 @@ module _ (old new : Machine) (number : ℕ) (instr : Instruction) (chip chip' : 
         → StoppedBySink old new number instr chip chip' sink sink'
     unsent_alone reply e table turn did rose sent =
         let all = did_piece did in record {
-          table = table;
-          turn = turn ∙ ap (turn_by_piece old) (sym (alone instr bbop));
+          machine = goes_to old new _ _ goes table
+              (turn ∙ ap (turn_by_piece old) (sym (alone instr bbop)));
           did = λ p. all;
           read = λ e. absurd (cc (e, print));
           rose = rose;

@@ -4,5 +4,7 @@ pub mod Granted
 pub mod Opening
 pub mod Image
 pub mod Machine
+pub mod State
+pub mod Shown
 pub mod Steps
 pub mod Outcome

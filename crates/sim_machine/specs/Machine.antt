@@ -1,32 +1,30 @@
 -- What a machine shows of itself.
-use Rattle.std.specs.Prelude.{◌≡◌, ℕ, ◌+◌, ◌*◌, ◌≤◌, Bool, true, false, List, length, map}
-use Rattle.std.specs.Prelude.{vec_capacity}
+use Rattle.std.specs.Prelude.{◌≡◌, ℕ, Bool, true, false, List, map}
 use Rattle.dram_model.specs.declared.geometry.Geometry.{Geometry}
 use Rattle.dram_model.specs.Chip.{Banks, Event}
+use Rattle.dram_model.specs.Geometry.{is_geometry}
 use Rattle.uprog_code.specs.Shape.{Microprogram}
 use Rattle.object_alloc.specs.Listed.{Named}
-use Rattle.object_alloc.specs.Reading.{rows_size}
-use Rattle.object_alloc.specs.declared.sizes.TheConstants.{HEAD_BYTES, RECORD_BYTES, OBJECTS_MAX}
 use Rattle.sim_machine.specs.declared.machine.Machine.{Machine}
 use Rattle.bbop_isa.specs.Forms.{Instruction}
 use Rattle.bbop_isa.specs.Forms.{Init, Bbop, Load, Fill, Print, Free, Order}
 use Rattle.wave_model.specs.Schedule.{Queues, Turn}
-use Rattle.uprog_ctl.specs.Orders.{turn_of}
-use Rattle.object_steps.specs.Objects.{LiesOn}
 use Rattle.machine_model.specs.declared.Reply.{Reply}
 use Rattle.machine_model.specs.Columns.{segments}
 use Rattle.machine_model.specs.Routines.{Routines, routines_in}
 use Rattle.machine_model.specs.Refusals.{object_named}
-use Rattle.machine_model.specs.Pieces.{Piece, piece_events, turn_after, wave_queues}
+use Rattle.machine_model.specs.Laws.{TableFits}
+use Rattle.machine_model.specs.Pieces.{Piece, piece_events, piece_of, pieces, turn_after}
+use Rattle.machine_model.specs.Pieces.{turn_at_end, wave_queues}
 use Rattle.machine_model.specs.Report.{Said, line, lines, said_by}
 use Rattle.machine_model.specs.Report.Said.{Answered, Printed}
 use Rattle.object_steps.specs.Lines.{values_of}
-use Rattle.machine_model.specs.Script.{rows_if_done, rows_printed}
+use Rattle.machine_model.specs.Script.{rows_if_done, rows_printed, table_at_end}
 use Rattle.machine_model.specs.Steps.{new_object, reply_to, table_after}
 
 -- the program that its bbops run
 abbrev pub program_of : Machine → List Microprogram
-program_of m = m.prog.programs
+program_of m = m.programs
 
 -- the shape of its chip
 abbrev pub geometry_of : Machine → Geometry
@@ -34,22 +32,15 @@ geometry_of m = m.geometry
 
 -- its objects
 abbrev pub table_in : Machine → List Named
-table_in m = m.table.pairs
+table_in m = m.table
 
 -- the order in force, with its picker's state
 abbrev pub turn_in : Machine → Turn
-turn_in m = turn_of m.order
+turn_in m = m.turn
 
 -- the image file that was spelled last
 abbrev pub file_of : Machine → List ℕ
-file_of m = m.file.items
-
--- a machine that is open: its parts fit, and it has the memory that it needs
-pub record IsReady (m : Machine) : Type 0 where
-  pub set : LiesOn m.geometry m.table
-  pub stage : length m.stage.items ≡ 128 * m.geometry.words
-  pub room : HEAD_BYTES + RECORD_BYTES * OBJECTS_MAX + rows_size m.geometry
-      ≤ vec_capacity m.file
+file_of m = m.file
 
 -- the operations that its program offers by name
 abbrev pub operations_by : Machine → Routines
@@ -74,6 +65,27 @@ events_by m piece = piece_events (geometry_of m) (operations_by m) (turn_in m) (
 -- the order in force after a piece
 abbrev pub turn_by_piece : Machine → Piece → Turn
 turn_by_piece m piece = turn_after (geometry_of m) (operations_by m) (turn_in m) (table_in m) piece
+
+-- the machine after an instruction
+abbrev pub stepped : Machine → Instruction → Machine
+stepped m instr =
+    record m { table = moved_table m instr; turn = turn_by_piece m (piece_of instr) }
+
+-- the machine after a script
+abbrev pub at_end : Machine → List Instruction → Machine
+at_end m script = record m {
+  table = table_at_end (geometry_of m) (operations_by m) (table_in m) script;
+  turn = turn_at_end (geometry_of m) (operations_by m) (turn_in m) (table_in m) (pieces script);
+}
+
+-- at most the objects and the order in force are others
+abbrev pub GoesOn : Machine → Machine → Type 0
+GoesOn old new = new ≡ record old { table = table_in new; turn = turn_in new }
+
+-- a machine has a chip, and its objects lie on it
+pub record IsLaidOut (m : Machine) : Type 0 where
+  pub shape : is_geometry (geometry_of m) ≡ true
+  pub table : TableFits (geometry_of m) (table_in m)
 
 -- the commands of each bank in a wave of bbops
 abbrev pub queues_by : Machine → List Instruction → Queues

@@ -14,8 +14,7 @@ use Rattle.object_steps.specs.Lines.{DidReadAtMost}
 use Rattle.object_steps.specs.declared.fault.StepFault.{StepFault}
 use Rattle.object_steps.specs.declared.fault.StepFault.TheVariants.{ChipFault, WriteFault}
 use Rattle.sim_machine.specs.declared.machine.Machine.{Machine}
-use Rattle.sim_machine.specs.Machine.{IsReady, geometry_of, program_of}
-use Rattle.sim_machine.specs.Machine.{table_in, turn_in, reply_of, moved_table, turn_by_piece}
+use Rattle.sim_machine.specs.Machine.{reply_of, stepped, turn_by_piece, turn_in}
 use Rattle.sim_machine.specs.Machine.{events_by, queues_by, reads_by, banks_by, is_print}
 use Rattle.sim_machine.specs.Machine.{reply_line}
 use Rattle.sim_machine.specs.Steps.{DidAndRead}
@@ -24,8 +23,7 @@ use Rattle.sim_machine.specs.Steps.{DidAndRead}
 pub record Stepped (old new : Machine) (number : ℕ) (instr : Instruction) (chip chip' : ChipView)
     (sink sink' : SinkView) (reply : Reply) : Type 0 where
   pub answer : reply ≡ reply_of old instr
-  pub table : table_in new ≡ moved_table old instr
-  pub turn : turn_in new ≡ turn_by_piece old (piece_of instr)
+  pub machine : new ≡ stepped old instr
   pub did : DidAndRead (events_by old (piece_of instr)) (reads_by old instr) chip chip'
   pub sent : Known (λ before after. after ≡ before ++ reply_line old number chip.banks instr)
       sink.sent sink'.sent
@@ -35,7 +33,7 @@ pub record Stepped (old new : Machine) (number : ℕ) (instr : Instruction) (chi
 -- of no line but a print's a part was put
 pub record StoppedByChip (old new : Machine) (number : ℕ) (instr : Instruction)
     (chip chip' : ChipView) (sink sink' : SinkView) : Type 0 where
-  pub table : table_in new ≡ table_in old
+  pub same : new ≡ record old { turn = turn_in new }
   pub turn : is_bbop instr ≡ false → turn_in new ≡ turn_in old
   pub failed : FailedBelow (banks_by old instr) chip chip'
   pub stopped : is_bbop instr ≡ true
@@ -46,8 +44,7 @@ pub record StoppedByChip (old new : Machine) (number : ℕ) (instr : Instruction
 -- the sink failed: all was done, but of a print perhaps not each row was read
 pub record StoppedBySink (old new : Machine) (number : ℕ) (instr : Instruction)
     (chip chip' : ChipView) (sink sink' : SinkView) : Type 0 where
-  pub table : table_in new ≡ table_in old
-  pub turn : turn_in new ≡ turn_by_piece old (piece_of instr)
+  pub machine : new ≡ record old { turn = turn_by_piece old (piece_of instr) }
   pub did : is_print instr ≡ false
       → DidAndRead (events_by old (piece_of instr)) (reads_by old instr) chip chip'
   pub read : is_print instr ≡ true → DidReadAtMost (reads_by old instr) chip chip'
@@ -64,13 +61,9 @@ Comes old new number instr chip chip' sink sink' (Err ChipFault) =
 Comes old new number instr chip chip' sink sink' (Err WriteFault) =
     StoppedBySink old new number instr chip chip' sink sink'
 
--- and whatever comes of it, the machine stays one that is open, with its program and its shape, and
--- the chip and the sink keep what each call keeps
+-- and whatever comes of it, the chip and the sink keep what each call keeps
 pub record Went (old new : Machine) (number : ℕ) (instr : Instruction) (chip chip' : ChipView)
     (sink sink' : SinkView) (result : Result Reply StepFault) : Type 0 where
   pub kept : Kept chip chip'
   pub sink_faults : sink.faults ≤ sink'.faults
-  pub program : program_of new ≡ program_of old
-  pub shape : geometry_of new ≡ geometry_of old
-  pub ready : IsReady new
   pub comes : Comes old new number instr chip chip' sink sink' result

@@ -1,5 +1,5 @@
 -- Walks that were done, and are kept.
-use Rattle.std.specs.Prelude.{◌≡◌, ℕ, ◌+◌, ◌*◌, ◌≤◌, List, length, Option, Some, IfOk, IfSome, All}
+use Rattle.std.specs.Prelude.{◌≡◌, ◌+◌, ◌*◌, ◌≤◌, List, length, Option, Some, IfOk, IfSome, All}
 use Rattle.std.specs.Prelude.{slice_get}
 use Rattle.uprog_code.specs.declared.TheConstants.{WALK_MAX}
 use Rattle.uprog_code.specs.Shape.{Microprogram}

@@ -18,15 +18,14 @@ ghost use Rattle.machine_model.specs.Pieces.{Alone, AreBbops, Wave, piece_of};
 ghost use Rattle.machine_model.specs.Report.{total_line};
 ghost use Rattle.machine_model.specs.Script.{is_bbop};
 ghost use Rattle.uprog_ctl.specs.Waves.{StoppedAmong};
-ghost use Rattle.wave_model.specs.Schedule.{Ahead};
 ghost use Rattle.object_steps.specs.Lines.{DidReadAtMost};
 ghost use Rattle.object_steps.specs.Objects.{LiesOn, RisesAtMost};
-ghost use Rattle.sim_machine.specs.Machine.{IsReady, banks_by, events_by, file_of, geometry_of};
-ghost use Rattle.sim_machine.specs.Machine.{is_print, reply_line, line_shown, lines_of, program_of};
-ghost use Rattle.sim_machine.specs.Machine.{queues_by};
-ghost use Rattle.sim_machine.specs.Machine.{reads_by, reply_of, moved_table, table_in};
+ghost use Rattle.sim_machine.specs.Machine.{GoesOn, IsLaidOut, banks_by, events_by, file_of};
+ghost use Rattle.sim_machine.specs.Machine.{is_print, reply_line, line_shown, lines_of};
+ghost use Rattle.sim_machine.specs.Machine.{geometry_of, queues_by};
+ghost use Rattle.sim_machine.specs.Machine.{reads_by, reply_of, stepped, table_in};
 ghost use Rattle.sim_machine.specs.Machine.{turn_by_piece, turn_in};
-ghost use Rattle.sim_machine.specs.Opening.{Opened};
+ghost use Rattle.sim_machine.specs.Opening.{Opened, machine_on};
 ghost use Rattle.sim_machine.specs.Steps.{DidAndRead, HasRoom};
 
 use crate::bbop::Setting;
@@ -44,6 +43,7 @@ use machine_model::Reply;
 use object_alloc::{Image, OBJECTS_MAX, Table, put_head};
 use object_steps::{StepFault, load, print};
 use std::alloc::Global;
+use std::marker::Model;
 use text_lex::Name;
 use uprog_bin::ProgView;
 use uprog_code::WALK_MAX;
@@ -73,6 +73,19 @@ impl Drop for Machine<'_> {
     }
 }
 
+impl<'a> Model for Machine<'a> {
+    ghost use Rattle.std.specs.Prelude.{vec_capacity};
+    ghost use Rattle.sim_machine.specs.State.{State, IsReady};
+
+    ghost Value = { State };
+
+    ghost use Rattle.sim_machine.specs.Shown.{state_of};
+
+    ghost view = { state_of };
+
+    ghost invariant = { λ m. IsReady m.geometry m.table m.stage.items (vec_capacity m.file) };
+}
+
 /// Why a machine was not opened.
 #[derive(Clone, Copy, PartialEq, Eq)]
 pub enum StartNo {
@@ -95,11 +108,8 @@ impl<'a> Machine<'a> {
         ensures faults { (D.view dram.old).faults ≤ (D.view dram.new).faults }
         ensures opened { OnOk result (Opened image.entry.geometry image.entry.rows.now
             (D.view dram.new)) }
-        ensures ready { IfOk result IsReady }
-        ensures program { IfOk result (λ machine. program_of machine ≡ prog.entry.programs) }
-        ensures shape { IfOk result (λ machine. geometry_of machine ≡ image.entry.geometry) }
-        ensures table { IfOk result (λ machine. table_in machine ≡ image.entry.table.pairs) }
-        ensures turn { IfOk result (λ machine. turn_in machine ≡ Ahead) }
+        ensures machine { IfOk result (λ machine. machine ≡ machine_on image.entry.geometry
+            prog.entry.programs image.entry.table.pairs) }
         ensures failed { IsErrOf result StartNo.ChipFault
             → Rose (D.view dram.old).faults (D.view dram.new).faults }
         ensures unopened { IsErrOf result StartNo.NoMemory
@@ -129,7 +139,6 @@ impl<'a> Machine<'a> {
         dram: &mut D,
         out: &mut S,
     ) -> Result<ArrayVec<Reply, 16>, StepFault>
-        requires ready { IsReady self.old }
         requires begun { HasBegun (D.view dram.old) }
         requires geometry { (D.view dram.old).geometry ≡ geometry_of self.old }
         requires some { 0 < length instrs.now }
@@ -140,14 +149,12 @@ impl<'a> Machine<'a> {
         ensures borrow { D.borrow dram.new ≡ D.borrow dram.old }
         ensures kept { Kept (D.view dram.old) (D.view dram.new) }
         ensures sink_faults { (S.view out.old).faults ≤ (S.view out.new).faults }
-        ensures program { program_of self.new ≡ program_of self.old }
-        ensures shape { geometry_of self.new ≡ geometry_of self.old }
-        ensures table { table_in self.new ≡ table_in self.old }
+        ensures same { self.new ≡ record self.old { turn = turn_in self.new } }
+        ensures laid { IsLaidOut self.old }
         ensures replies { IfOk result (λ replies. replies.items
             ≡ map (reply_of self.old) (map view_of instrs.now)) }
         ensures turn { OnOk result (turn_in self.new
             ≡ turn_by_piece self.old (Wave (map view_of instrs.now))) }
-        ensures ready { IsReady self.new }
         ensures did { OnOk result (Did (events_by self.old (Wave (map view_of instrs.now)))
             (D.view dram.old) (D.view dram.new)) }
         ensures rises { OnOk result (RisesAtMost (256 * WALK_MAX) (D.view dram.old).counters
@@ -187,9 +194,10 @@ impl<'a> Machine<'a> {
             Err(_) => return Err(StepFault::ChipFault),
         };
         match put_lines(number, replies.as_slice(), out) {
-            Ok(()) => Ok(replies),
-            Err(_) => Err(StepFault::WriteFault),
+            Ok(()) => {}
+            Err(_) => return Err(StepFault::WriteFault),
         }
+        Ok(replies)
     }
 
     /// Does one instruction, and puts its line. A bbop is a wave of one. It takes no memory.
@@ -200,7 +208,6 @@ impl<'a> Machine<'a> {
         dram: &mut D,
         out: &mut S,
     ) -> Result<Reply, StepFault>
-        requires ready { IsReady self.old }
         requires begun { HasBegun (D.view dram.old) }
         requires geometry { (D.view dram.old).geometry ≡ geometry_of self.old }
         requires plain { IsPlain (view_of instr.now) }
@@ -208,14 +215,10 @@ impl<'a> Machine<'a> {
         ensures borrow { D.borrow dram.new ≡ D.borrow dram.old }
         ensures kept { Kept (D.view dram.old) (D.view dram.new) }
         ensures sink_faults { (S.view out.old).faults ≤ (S.view out.new).faults }
-        ensures program { program_of self.new ≡ program_of self.old }
-        ensures shape { geometry_of self.new ≡ geometry_of self.old }
+        ensures goes_on { GoesOn self.old self.new }
+        ensures laid { IsLaidOut self.old }
         ensures reply { IfOk result (λ reply. reply ≡ reply_of self.old (view_of instr.now)) }
-        ensures table { OnOk result (table_in self.new
-            ≡ moved_table self.old (view_of instr.now)) }
-        ensures turn { OnOk result (turn_in self.new
-            ≡ turn_by_piece self.old (piece_of (view_of instr.now))) }
-        ensures ready { IsReady self.new }
+        ensures machine { OnOk result (self.new ≡ stepped self.old (view_of instr.now)) }
         ensures did { OnOk result (DidAndRead (events_by self.old (piece_of (view_of instr.now)))
             (reads_by self.old (view_of instr.now)) (D.view dram.old) (D.view dram.new)) }
         ensures rises { OnOk result (RisesAtMost (16 * WALK_MAX) (D.view dram.old).counters
@@ -228,7 +231,7 @@ impl<'a> Machine<'a> {
         // destination are as before, each bank of a bbop but the one that failed stands where a
         // prefix of its queue leaves it, and nothing is put but of a print, whose line goes out
         // while its rows are read.
-        ensures same_table { OnErr result (table_in self.new ≡ table_in self.old) }
+        ensures same_table { OnErr result (self.new ≡ record self.old { turn = turn_in self.new }) }
         ensures chip_fault { IsErrOf result StepFault.ChipFault
             → FailedBelow (banks_by self.old (view_of instr.now)) (D.view dram.old)
             (D.view dram.new) }
@@ -257,6 +260,7 @@ impl<'a> Machine<'a> {
             (reply_line self.old number (D.view dram.old).banks (view_of instr.now)))
             (S.view out.old).sent (S.view out.new).sent) }
     {
+        let _ = &self.geometry;
         self.step_of(number, instr, dram, out)
     }
 
@@ -264,9 +268,10 @@ impl<'a> Machine<'a> {
     /// as it.
     pub fn table(&self) -> &Table
         ensures objects { result.now.pairs ≡ table_in self.now }
-        ensures limit { IsReady self.now → result.now.limit ≡ limit_of (geometry_of self.now) }
-        ensures read { IsReady self.now → table_at (geometry_of self.now) 0
-            (table_bytes (table_in self.now)) ≡ Ok (table_in self.now) }
+        ensures limit { result.now.limit ≡ limit_of (geometry_of self.now) }
+        ensures laid { IsLaidOut self.now }
+        ensures read { table_at (geometry_of self.now) 0 (table_bytes (table_in self.now))
+            ≡ Ok (table_in self.now) }
     {
         prove!(usize::from(self.table.len()) <= OBJECTS_MAX);
         &self.table
@@ -281,7 +286,6 @@ impl<'a> Machine<'a> {
         dram: &mut D,
         out: &mut S,
     ) -> Result<(), StepFault>
-        requires ready { IsReady self.old }
         requires begun { HasBegun (D.view dram.old) }
         requires geometry { (D.view dram.old).geometry ≡ geometry_of self.old }
         requires stands { has_name (table_in self.old) name.now ≡ true }
@@ -289,11 +293,7 @@ impl<'a> Machine<'a> {
         ensures borrow { D.borrow dram.new ≡ D.borrow dram.old }
         ensures kept { Kept (D.view dram.old) (D.view dram.new) }
         ensures sink_faults { (S.view out.old).faults ≤ (S.view out.new).faults }
-        ensures program { program_of self.new ≡ program_of self.old }
-        ensures shape { geometry_of self.new ≡ geometry_of self.old }
-        ensures table { table_in self.new ≡ table_in self.old }
-        ensures turn { turn_in self.new ≡ turn_in self.old }
-        ensures ready { IsReady self.new }
+        ensures same { self.new ≡ self.old }
         ensures did { OnOk result (DidRead (reads_by self.old (Print name.now))
             (D.view dram.old) (D.view dram.new)) }
         ensures rises { OnOk result (RisesAtMost (16 * WIDTH_MAX) (D.view dram.old).counters
@@ -320,9 +320,10 @@ impl<'a> Machine<'a> {
         let g = self.geometry;
         let stage = &mut self.stage;
         match print(g, &self.table, number, name, shown, stage, dram, out) {
-            Ok(_) => Ok(()),
-            Err(fault) => Err(fault),
+            Ok(_) => {}
+            Err(fault) => return Err(fault),
         }
+        Ok(())
     }
 
     /// Does a `load` of these values, and puts no line. It takes no memory.
@@ -332,17 +333,12 @@ impl<'a> Machine<'a> {
         values: &[Value],
         dram: &mut D,
     ) -> Result<Reply, ChipFault>
-        requires ready { IsReady self.old }
         requires begun { HasBegun (D.view dram.old) }
         requires geometry { (D.view dram.old).geometry ≡ geometry_of self.old }
         requires room { (D.view dram.old).counters.writes < 2 ^ 62 }
         ensures borrow { D.borrow dram.new ≡ D.borrow dram.old }
         ensures kept { Kept (D.view dram.old) (D.view dram.new) }
-        ensures program { program_of self.new ≡ program_of self.old }
-        ensures shape { geometry_of self.new ≡ geometry_of self.old }
-        ensures table { table_in self.new ≡ table_in self.old }
-        ensures turn { turn_in self.new ≡ turn_in self.old }
-        ensures ready { IsReady self.new }
+        ensures same { self.new ≡ self.old }
         ensures reply { IfOk result (λ reply. reply
             ≡ reply_of self.old (Load name.now values.now)) }
         ensures did { OnOk result (Did (events_by self.old (Alone (Load name.now values.now)))
@@ -367,7 +363,6 @@ impl<'a> Machine<'a> {
     /// Reads every row of the chip, and spells the image file: the shape, the table and the rows.
     /// It takes no memory.
     pub fn image<D: Dram>(&mut self, dram: &mut D) -> Result<(), ChipFault>
-        requires ready { IsReady self.old }
         requires begun { HasBegun (D.view dram.old) }
         requires geometry { (D.view dram.old).geometry ≡ geometry_of self.old }
         requires room { (D.view dram.old).counters.reads < 2 ^ 62 }
@@ -377,11 +372,7 @@ impl<'a> Machine<'a> {
             * (geometry_of self.old).rows) (D.view dram.old) (D.view dram.new)) }
         ensures file { OnOk result (file_of self.new ≡ image_bytes (geometry_of self.old)
             (table_in self.old) (rows_in_banks (D.view dram.old).banks)) }
-        ensures ready { IsReady self.new }
-        ensures program { program_of self.new ≡ program_of self.old }
-        ensures shape { geometry_of self.new ≡ geometry_of self.old }
-        ensures table { table_in self.new ≡ table_in self.old }
-        ensures turn { turn_in self.new ≡ turn_in self.old }
+        ensures same { self.new ≡ record self.old { file = file_of self.new } }
         ensures failed { OnErr result (Rose (D.view dram.old).faults (D.view dram.new).faults) }
         ensures no_event { Grew (D.view dram.old).log (D.view dram.new).log [] }
     {
@@ -393,7 +384,6 @@ impl<'a> Machine<'a> {
     /// Reads every row of the chip, and spells the image file with these objects in place of the
     /// machine's own. It takes no memory.
     pub fn image_with<D: Dram>(&mut self, table: &Table, dram: &mut D) -> Result<(), ChipFault>
-        requires ready { IsReady self.old }
         requires begun { HasBegun (D.view dram.old) }
         requires geometry { (D.view dram.old).geometry ≡ geometry_of self.old }
         requires room { (D.view dram.old).counters.reads < 2 ^ 62 }
@@ -403,11 +393,7 @@ impl<'a> Machine<'a> {
             * (geometry_of self.old).rows) (D.view dram.old) (D.view dram.new)) }
         ensures file { OnOk result (file_of self.new ≡ image_bytes (geometry_of self.old)
             table.now.pairs (rows_in_banks (D.view dram.old).banks)) }
-        ensures ready { IsReady self.new }
-        ensures program { program_of self.new ≡ program_of self.old }
-        ensures shape { geometry_of self.new ≡ geometry_of self.old }
-        ensures table { table_in self.new ≡ table_in self.old }
-        ensures turn { turn_in self.new ≡ turn_in self.old }
+        ensures same { self.new ≡ record self.old { file = file_of self.new } }
         ensures failed { OnErr result (Rose (D.view dram.old).faults (D.view dram.new).faults) }
         ensures no_event { Grew (D.view dram.old).log (D.view dram.new).log [] }
     {

@@ -14,8 +14,8 @@ ghost use Rattle.machine_model.specs.Routines.{Routines};
 ghost use Rattle.machine_model.specs.Script.{is_bbop};
 ghost use Rattle.machine_model.specs.Steps.{reply_to};
 ghost use Rattle.object_steps.specs.Objects.{events_alone};
-ghost use Rattle.sim_machine.specs.Machine.{IsReady, banks_by, geometry_of, leaves_table};
-ghost use Rattle.sim_machine.specs.Machine.{operations_by, program_of, reply_of, table_in};
+ghost use Rattle.sim_machine.specs.Machine.{banks_by, geometry_of, leaves_table};
+ghost use Rattle.sim_machine.specs.Machine.{operations_by, reply_of, table_in};
 ghost use Rattle.sim_machine.specs.Machine.{turn_by_piece, turn_in};
 ghost use Rattle.sim_machine.specs.Outcome.{Went};
 ghost use Rattle.sim_machine.specs.Steps.{HasRoom};
@@ -67,7 +67,6 @@ impl<'a> Machine<'a> {
         dram: &mut D,
         out: &mut S,
     ) -> Result<Reply, StepFault>
-        requires ready { IsReady self.old }
         requires begun { HasBegun (D.view dram.old) }
         requires geometry { (D.view dram.old).geometry ≡ geometry_of self.old }
         requires bbop { is_bbop (view_of instr.now) ≡ true }
@@ -93,7 +92,6 @@ impl<'a> Machine<'a> {
         dram: &mut D,
         out: &mut S,
     ) -> Result<Reply, StepFault>
-        requires ready { IsReady self.old }
         requires begun { HasBegun (D.view dram.old) }
         requires geometry { (D.view dram.old).geometry ≡ geometry_of self.old }
         requires plain { IsPlain (Init name.now count n) }
@@ -119,17 +117,13 @@ impl<'a> Machine<'a> {
 
     /// What a load, a fill or an order comes to. None of them changes the table.
     fn answer<D: Dram>(&mut self, instr: &Instr, dram: &mut D) -> Result<Reply, ChipFault>
-        requires ready { IsReady self.old }
         requires begun { HasBegun (D.view dram.old) }
         requires geometry { (D.view dram.old).geometry ≡ geometry_of self.old }
         requires leaves { leaves_table (view_of instr.now) ≡ true }
         requires room { HasRoom (D.view dram.old).counters }
         ensures borrow { D.borrow dram.new ≡ D.borrow dram.old }
         ensures kept { Kept (D.view dram.old) (D.view dram.new) }
-        ensures program { program_of self.new ≡ program_of self.old }
-        ensures shape { geometry_of self.new ≡ geometry_of self.old }
-        ensures ready { IsReady self.new }
-        ensures table { table_in self.new ≡ table_in self.old }
+        ensures same { self.new ≡ record self.old { turn = turn_in self.new } }
         ensures reply { IfOk result (λ reply. reply ≡ reply_of self.old (view_of instr.now)) }
         ensures turn { OnOk result (turn_in self.new
             ≡ turn_by_piece self.old (Alone (view_of instr.now))) }
@@ -169,7 +163,6 @@ impl<'a> Machine<'a> {
         dram: &mut D,
         out: &mut S,
     ) -> Result<Reply, StepFault>
-        requires ready { IsReady self.old }
         requires begun { HasBegun (D.view dram.old) }
         requires geometry { (D.view dram.old).geometry ≡ geometry_of self.old }
         requires leaves { leaves_table (view_of instr.now) ≡ true }
@@ -196,7 +189,6 @@ impl<'a> Machine<'a> {
         dram: &mut D,
         out: &mut S,
     ) -> Result<Reply, StepFault>
-        requires ready { IsReady self.old }
         requires begun { HasBegun (D.view dram.old) }
         requires geometry { (D.view dram.old).geometry ≡ geometry_of self.old }
         requires room { HasRoom (D.view dram.old).counters }
@@ -219,12 +211,13 @@ impl<'a> Machine<'a> {
             Err(fault) => return Err(fault),
         };
         match reply {
-            Reply::Done(_) => Ok(reply),
+            Reply::Done(_) => {}
             Reply::Refused(_) => match put_reply(number, reply, out) {
-                Ok(()) => Ok(reply),
-                Err(_) => Err(StepFault::WriteFault),
+                Ok(()) => return Ok(reply),
+                Err(_) => return Err(StepFault::WriteFault),
             },
         }
+        Ok(reply)
     }
 
     /// An object leaves the table once the line is put.
@@ -235,7 +228,6 @@ impl<'a> Machine<'a> {
         dram: &mut D,
         out: &mut S,
     ) -> Result<Reply, StepFault>
-        requires ready { IsReady self.old }
         requires begun { HasBegun (D.view dram.old) }
         requires geometry { (D.view dram.old).geometry ≡ geometry_of self.old }
         requires room { HasRoom (D.view dram.old).counters }
@@ -261,7 +253,6 @@ impl<'a> Machine<'a> {
         dram: &mut D,
         out: &mut S,
     ) -> Result<Reply, StepFault>
-        requires ready { IsReady self.old }
         requires begun { HasBegun (D.view dram.old) }
         requires geometry { (D.view dram.old).geometry ≡ geometry_of self.old }
         requires plain { IsPlain (view_of instr.now) }

@@ -26,12 +26,14 @@ use Rattle.bbop_isa.specs.Forms.{Instruction, view_of}
 use Rattle.bbop_isa.specs.Lines.{lines_of}
 use Rattle.bbop_isa.specs.Words.{words_in}
 use Rattle.text_lex.specs.Lexical.{items_of}
-use Rattle.wave_model.specs.Schedule.{Turn, Ahead}
 use Rattle.machine_model.specs.Agrees.{IsPlain}
 use Rattle.machine_model.specs.Opened.{Image, opened, row_writes, rows_in_banks}
-use Rattle.machine_model.specs.Routines.{Program, routines_in}
+use Rattle.machine_model.specs.Routines.{routines_in}
 use Rattle.machine_model.specs.Report.{total_line}
 use Rattle.machine_model.specs.Script.{is_refused}
+use Rattle.sim_machine.specs.declared.machine.Machine.{Machine}
+use Rattle.sim_machine.specs.Machine.{geometry_of, operations_by, table_in, turn_in}
+use Rattle.sim_machine.specs.Opening.{machine_on}
 use Rattle.guard_model.specs.declared.Flip.{Flip}
 use Rattle.guard_model.specs.declared.FlipsFault.{FlipsFault}
 use Rattle.guard_model.specs.declared.FlipsKind.{FlipsKind}
@@ -221,49 +223,42 @@ pub record Worked (job : GuardJob) (shape : Geometry) (table : List Named) (now 
   pub refused_is : refused ≡ refused_of job
 
 -- a machine that was opened on the image of a job
-pub record Begins (job : GuardJob) (shape : Geometry) (p : Program) (table : List Named)
-    (turn : Turn) (start : ChipView) : Type 0 where
-  pub shape_is : shape ≡ job.image.geometry
-  pub program_is : p ≡ job.program
-  pub table_is : table ≡ job.image.table
-  pub turn_is : turn ≡ Ahead
+pub record Begins (job : GuardJob) (m : Machine) (start : ChipView) : Type 0 where
+  pub machine_is : m ≡ machine_on job.image.geometry job.program job.image.table
   pub opened_on : OpenedOn job.image start
 
 -- what was done by such a machine
-pub record Did (shape : Geometry) (p : Program) (table : List Named) (turn : Turn)
-    (flips : List Flip) (script : List Instruction) (last : List Named) (start now : ChipView)
-    (votes refused : ℕ) : Type 0 where
-  pub table_is : last ≡ guarded_table_at_end shape (routines_in p) table script
-  pub banks : now.banks
-      ≡ guarded_rows_at_end shape (routines_in p) flips 1 table start.banks script
+pub record Did (m : Machine) (flips : List Flip) (script : List Instruction) (last : List Named)
+    (start now : ChipView) (votes refused : ℕ) : Type 0 where
+  pub table_is : last ≡ guarded_table_at_end (geometry_of m) (operations_by m) (table_in m) script
+  pub banks : now.banks ≡ guarded_rows_at_end (geometry_of m) (operations_by m) flips 1 (table_in m)
+      start.banks script
   pub counters : now.counters
-      ≡ guarded_tally shape (routines_in p) table script flips start.counters
-  pub log : Grew start.log now.log
-      (run_events shape (routines_in p) flips 1 turn table start.banks script)
-  pub votes_is : votes ≡ votes_at_end shape (routines_in p) table script
-  pub refused_is : refused
-      ≡ count_by is_refused (guarded_replies shape (routines_in p) table script)
+      ≡ guarded_tally (geometry_of m) (operations_by m) (table_in m) script flips start.counters
+  pub log : Grew start.log now.log (run_events (geometry_of m) (operations_by m) flips 1
+      (turn_in m) (table_in m) start.banks script)
+  pub votes_is : votes ≡ votes_at_end (geometry_of m) (operations_by m) (table_in m) script
+  pub refused_is : refused ≡ count_by is_refused (guarded_replies (geometry_of m)
+      (operations_by m) (table_in m) script)
 
 log_is : (i : Image) (events : List Event) (a b : Option Log) → LogIs (row_writes i) a
     → Grew a b events → LogIs (row_writes i ++ events) b
 log_is i events a b is grew = LogIs-more (row_writes i) events a b is grew
 
-pub worked : (job : GuardJob) (shape : Geometry) (p : Program) (table : List Named) (turn : Turn)
-    (own : Geometry) (last : List Named) (start now : ChipView) (votes refused : ℕ)
-    → (b : Begins job shape p table turn start) → own ≡ shape
-    → Did shape p table turn job.flips job.script last start now votes refused
+pub worked : (job : GuardJob) (m : Machine) (own : Geometry) (last : List Named)
+    (start now : ChipView) (votes refused : ℕ) → Begins job m start → own ≡ geometry_of m
+    → Did m job.flips job.script last start now votes refused
     → Worked job own last now votes refused
-worked job shape p table turn own last start now votes refused b e d =
+worked job m own last start now votes refused b e d =
     let on = b.opened_on in
     record {
-      shape_is = e ∙ b.shape_is;
-      table_is = rw (b.shape_is, b.program_is, b.table_is) at d.table_is;
-      banks = rw (b.shape_is, b.program_is, b.table_is, on.banks) at d.banks;
-      counters = rw (b.shape_is, b.program_is, b.table_is, on.counters) at d.counters;
-      log = log_is job.image _ start.log now.log on.log
-          (rw (b.shape_is, b.program_is, b.table_is, b.turn_is, on.banks) at d.log);
-      votes_is = rw (b.shape_is, b.program_is, b.table_is) at d.votes_is;
-      refused_is = rw (b.shape_is, b.program_is, b.table_is) at d.refused_is;
+      shape_is = e ∙ ap geometry_of b.machine_is;
+      table_is = rw b.machine_is at d.table_is;
+      banks = rw (b.machine_is, on.banks) at d.banks;
+      counters = rw (b.machine_is, on.counters) at d.counters;
+      log = log_is job.image _ start.log now.log on.log (rw (b.machine_is, on.banks) at d.log);
+      votes_is = rw b.machine_is at d.votes_is;
+      refused_is = rw b.machine_is at d.refused_is;
     }
 
 module _ (job : GuardJob) (shape : Geometry) (table : List Named) (now : ChipView)
@@ -317,14 +312,13 @@ module _ (job : GuardJob) (shape : Geometry) (table : List Named) (now : ChipVie
   }
 
 -- the steps of the script on a machine that was opened on the image are those of the job
-pub script_are : (job : GuardJob) (shape : Geometry) (p : Program) (table : List Named)
-    (turn : Turn) (start : ChipView) (end : End) (a b : World)
-    → (k : Begins job shape p table turn start)
-    → Goes (guarded_steps shape (routines_in p) job.flips 1 table start.banks job.script) end a b
+pub script_are : (job : GuardJob) (m : Machine) (start : ChipView) (end : End) (a b : World)
+    → (k : Begins job m start)
+    → Goes (guarded_steps (geometry_of m) (operations_by m) job.flips 1 (table_in m) start.banks
+    job.script) end a b
     → Goes (guarded_steps job.image.geometry (routines_in job.program) job.flips 1
     job.image.table (opened job.image) job.script) end a b
-script_are job shape p table turn start end a b k g =
-    rw (k.shape_is, k.program_is, k.table_is, k.opened_on.banks) at g
+script_are job m start end a b k g = rw (k.machine_is, k.opened_on.banks) at g
 
 -- a run that stopped at the opening or in the script, or went on to its end
 pub stopped_open : (name : List ℕ) (job : GuardJob) (reason : Reason) (a b : World)

@@ -7,7 +7,7 @@ use Rattle.dram_model.specs.View.{ChipView, DidRead, with_reads, Kept}
 use Rattle.object_alloc.specs.Listed.{Named}
 use Rattle.object_alloc.specs.Spelling.{image_bytes}
 use Rattle.bbop_isa.specs.Forms.{Instruction}
-use Rattle.wave_model.specs.Schedule.{Turn, Ahead}
+use Rattle.wave_model.specs.Schedule.{Ahead}
 use Rattle.machine_model.specs.Routines.{Program, routines_in}
 use Rattle.machine_model.specs.Opened.{Image, opened, rows_in_banks}
 use Rattle.machine_model.specs.Pieces.{events_of_pieces, pieces, script_events}
@@ -19,6 +19,9 @@ use Rattle.machine_model.proofs.Pieces.{events_are_steps}
 use Rattle.cli_model.specs.World.{World}
 use Rattle.cli_model.specs.Steps.{Step, Open, Use, Store, Put, End, Done, Stopped, Reason, Goes}
 use Rattle.cli_model.proofs.Going.{goes_on, stops}
+use Rattle.sim_machine.specs.declared.machine.Machine.{Machine}
+use Rattle.sim_machine.specs.Machine.{GoesOn, geometry_of, operations_by, table_in, turn_in}
+use Rattle.sim_machine.specs.Opening.{machine_on}
 use Rattle.sim_machine.specs.Steps.{DidAndRead}
 use Rattle.simdram_cli.specs.Job.{image_by, pieces_steps, refused_by, script_steps, tally_by}
 use Rattle.simdram_cli.specs.Job.{work_steps}
@@ -29,16 +32,6 @@ use Rattle.simdram_cli.proofs.Tallies.{tally_is, work_done}
 abbrev pub last_steps : List ℕ → Program → List Instruction → Image → List Step
 last_steps name program script i = Use ∷ Store name (image_by program script i)
     ∷ Put (total_line (tally_by program script i) (refused_by program script i)) ∷ []
-
--- the events of a script on a machine that was opened on an image
-pub own_events : (program : Program) (script : List Instruction) (i : Image) (shape : Geometry)
-    (p : Program) (table : List Named) (turn : Turn) (a b : ChipView) → shape ≡ i.geometry
-    → p ≡ program → table ≡ i.table → turn ≡ Ahead
-    → DidAndRead (events_of_pieces shape (routines_in p) turn table (pieces script))
-    (sum_done rows_printed shape (routines_in p) table script) a b
-    → DidAndRead (script_events i.geometry (routines_in program) i.table script)
-    (sum_done rows_printed i.geometry (routines_in program) i.table script) a b
-own_events program script i shape p table turn a b e f t o did = rw (e, f, t, o) at did
 
 -- what stands before the end of a job, with a machine of this shape and table
 pub record Worked (program : Program) (script : List Instruction) (i : Image) (shape : Geometry)
@@ -100,13 +93,34 @@ module _ (program : Program) (script : List Instruction) (i : Image) (shape : Ge
       (subst (λ (s : Geometry). DidRead (s.banks * s.rows) now last) w.shape_is read) kept
       w.refused_is
 
--- the lines are those of the job
-pub lines_are : (program : Program) (script : List Instruction) (i : Image) (shape : Geometry)
-    (p : Program) (turn : Turn) (table : List Named) (banks : Banks) (end : End) (a b : World)
-    → shape ≡ i.geometry → p ≡ program → turn ≡ Ahead → table ≡ i.table → banks ≡ opened i
-    → Goes (pieces_steps shape (routines_in p) turn table banks 1 (pieces script)) end a b
+-- a machine that was opened on the image, after the script
+pub worked_by : (program : Program) (script : List Instruction) (i : Image) (m last : Machine)
+    (start now : ChipView) (refused : ℕ) → m ≡ machine_on i.geometry program i.table
+    → Holds i.geometry i.table → OpenedOn i start → GoesOn m last
+    → table_in last ≡ table_at_end (geometry_of m) (operations_by m) (table_in m) script
+    → DidAndRead (events_of_pieces (geometry_of m) (operations_by m) (turn_in m) (table_in m)
+    (pieces script))
+    (sum_done rows_printed (geometry_of m) (operations_by m) (table_in m) script) start now
+    → refused ≡ count_by is_refused (replies (geometry_of m) (operations_by m) (table_in m) script)
+    → Worked program script i (geometry_of last) (table_in last) start now refused
+worked_by program script i m last start now refused e holds opened_on goes table did count =
+    record {
+      shape_is = ap geometry_of goes ∙ ap geometry_of e;
+      table_is = rw e at table;
+      holds = holds;
+      opened_on = opened_on;
+      did = rw e at did;
+      refused_is = rw e at count;
+    }
+
+-- its lines are those of the job
+pub lines_are : (program : Program) (script : List Instruction) (i : Image) (m : Machine)
+    (banks : Banks) (end : End) (a b : World) → m ≡ machine_on i.geometry program i.table
+    → banks ≡ opened i
+    → Goes (pieces_steps (geometry_of m) (operations_by m) (turn_in m) (table_in m) banks 1
+    (pieces script)) end a b
     → Goes (script_steps program script i) end a b
-lines_are program script i shape p turn table banks end a b e f o t s g = rw (e, f, o, t, s) at g
+lines_are program script i m banks end a b e s g = rw (e, s) at g
 
 -- a run that stopped at the opening, in the script, or went on to its end
 pub stopped_open : (name : List ℕ) (program : Program) (script : List Instruction) (i : Image)
@@ -136,17 +150,3 @@ went_on name program script i end a b c d g h k =
     ++ last_steps name program script i) end a b d g
     (goes_on (script_steps program script i) (last_steps name program script i) end b
     c d h k)
-
--- the table after a script, and how many instructions were refused
-pub own_table : (program : Program) (script : List Instruction) (i : Image) (shape : Geometry)
-    (p : Program) (table last : List Named) → shape ≡ i.geometry → p ≡ program → table ≡ i.table
-    → last ≡ table_at_end shape (routines_in p) table script
-    → last ≡ table_at_end i.geometry (routines_in program) i.table script
-own_table program script i shape p table last e f t is = rw (e, f, t) at is
-
-pub own_refused : (program : Program) (script : List Instruction) (i : Image) (shape : Geometry)
-    (p : Program) (table : List Named) (refused : ℕ) → shape ≡ i.geometry → p ≡ program
-    → table ≡ i.table
-    → refused ≡ count_by is_refused (replies shape (routines_in p) table script)
-    → refused ≡ refused_by program script i
-own_refused program script i shape p table refused e f t is = rw (e, f, t) at is

@@ -8,14 +8,15 @@ use Rattle.std.specs.List.{AllByRecursion}
 use Rattle.host_edge.specs.Views.{FolderView, SinkView}
 use Rattle.dram_model.specs.declared.dram.Counters.{Counters}
 use Rattle.dram_model.specs.declared.geometry.Geometry.{Geometry}
+use Rattle.dram_model.specs.Geometry.{is_geometry}
 use Rattle.dram_model.specs.View.{ChipView}
-use Rattle.object_alloc.specs.Listed.{Named}
+use Rattle.object_alloc.specs.Listed.{Listing, Named}
 use Rattle.bbop_isa.specs.declared.instr.Instr.{Instr}
 use Rattle.bbop_isa.specs.Forms.{Instruction, view_of}
 use Rattle.wave_model.specs.Schedule.{Turn}
 use Rattle.machine_model.specs.Agrees.{IsPlain}
 use Rattle.machine_model.specs.Routines.{Program, routines_in}
-use Rattle.machine_model.specs.Laws.{FitsBanks}
+use Rattle.machine_model.specs.Laws.{FitsBanks, TableFits}
 use Rattle.machine_model.specs.Pieces.{Piece, instrs_in, pieces, piece_events, turn_after}
 use Rattle.machine_model.specs.Pieces.{events_of_pieces}
 use Rattle.machine_model.specs.Script.{is_refused, replies, rows_printed, sum_done, table_at_end}
@@ -27,8 +28,8 @@ use Rattle.machine_model.proofs.Tables.{fits_banks}
 use Rattle.cli_model.specs.World.{World, world}
 use Rattle.cli_model.specs.Steps.{End, Done, Goes}
 use Rattle.sim_machine.specs.declared.machine.Machine.{Machine}
-use Rattle.sim_machine.specs.Machine.{IsReady, geometry_of, program_of, table_in, turn_in}
-use Rattle.object_steps.specs.Objects.{RisesAtMost}
+use Rattle.sim_machine.specs.Machine.{geometry_of, program_of, table_in, turn_in}
+use Rattle.object_steps.specs.Objects.{LiesOn, RisesAtMost}
 use Rattle.sim_machine.specs.Steps.{DidAndRead}
 use Rattle.simdram_cli.specs.Job.{piece_steps, pieces_steps}
 use Rattle.simdram_cli.specs.Works.{PieceDone, next_piece}
@@ -55,17 +56,21 @@ step_of m n g p piece a b refused e f d = rw (← e, ← f) (record {
   refused_is = d.refused_is;
 })
 
--- the banks of a machine that is ready hold its objects
+-- the banks of a machine hold its objects
 pub record Holds (g : Geometry) (table : List Named) : Type 0 where
   pub words : 0 < g.words
   pub fits : FitsBanks g table
 
-pub holds_of : (m : Machine) (g : Geometry) → geometry_of m ≡ g → IsReady m → Holds g (table_in m)
-holds_of m g e ready = subst (λ (x : Geometry). Holds x (table_in m)) e (record {
-  words = (geometry_parts (geometry_of m) ready.set.geometry).0;
-  fits = fits_banks (geometry_of m) (table_in m)
-      (record { listed = ready.set.listed; objects = ready.set.objects });
-})
+pub holds_of : (g : Geometry) (table : List Named) → is_geometry g ≡ true → TableFits g table
+    → Holds g table
+holds_of g table shape fits = record {
+  words = (geometry_parts g shape).0;
+  fits = fits_banks g table fits;
+}
+
+pub holds_on : (g : Geometry) (table : Listing) → LiesOn g table → Holds g table.pairs
+holds_on g table lies = holds_of g table.pairs lies.geometry
+    (record { listed = lies.listed; objects = lies.objects })
 
 -- what is left after the first piece
 pub left_is : (script : List Instr) (done taken : ℕ) → taken

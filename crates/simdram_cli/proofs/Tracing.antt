@@ -28,8 +28,8 @@ use Rattle.machine_model.specs.Script.{banks_at_end, is_refused, replies, rows_p
 use Rattle.machine_model.specs.Script.{table_at_end}
 use Rattle.machine_model.proofs.Pieces.{events_are_steps}
 use Rattle.sim_machine.specs.declared.machine.Machine.{Machine}
-use Rattle.sim_machine.specs.Machine.{IsReady, geometry_of, is_print, program_of, table_in}
-use Rattle.sim_machine.specs.Machine.{turn_in}
+use Rattle.sim_machine.specs.Machine.{geometry_of, is_print, program_of, table_in}
+use Rattle.sim_machine.specs.Opening.{machine_on}
 use Rattle.sim_machine.specs.Steps.{DidAndRead}
 use Rattle.object_steps.specs.Objects.{LiesOn}
 use Rattle.trace_model.specs.Replay.{script_trace}
@@ -205,32 +205,27 @@ pieces_begin g o turn table banks number (piece ∷ pieces) rest =
 
 -- a machine that was opened on an image with a program, and the view of its chip
 pub record Started (program : Program) (i : Image) (m : Machine) (start : ChipView) : Type 0 where
-  pub shape_is : geometry_of m ≡ i.geometry
-  pub program_is : program_of m ≡ program
-  pub table_is : table_in m ≡ i.table
-  pub turn_is : turn_in m ≡ Ahead
+  pub machine_is : m ≡ machine_on i.geometry program i.table
   pub holds : Holds i.geometry i.table
   pub banks : start.banks ≡ opened i
   pub counters : start.counters ≡ opened_counters i.geometry
   pub geometry : start.geometry ≡ i.geometry
 
-own_lines : (program : Program) (script : List Instruction) (i : Image) (shape : Geometry)
-    (p : Program) (turn : Turn) (table : List Named) (banks : Banks) → shape ≡ i.geometry
-    → p ≡ program → turn ≡ Ahead → table ≡ i.table → banks ≡ opened i
-    → pieces_steps shape (routines_in p) turn table banks 1 (pieces script)
-    ≡ script_steps program script i
-own_lines program script i shape p turn table banks e f o t s = rw (e, f, o, t, s) refl
+own_lines : (program : Program) (script : List Instruction) (i : Image) (m : Machine)
+    (banks : Banks) → m ≡ machine_on i.geometry program i.table → banks ≡ opened i
+    → steps_on m banks script ≡ script_steps program script i
+own_lines program script i m banks e s = rw (e, s) refl
 
 own_events : (program : Program) (script : List Instruction) (i : Image) (m : Machine)
     (start : ChipView) → Started program i m start
     → events_on m script ≡ script_events i.geometry (routines_in program) i.table script
-own_events program script i m start s = rw (s.shape_is, s.program_is, s.table_is, s.turn_is) refl
+own_events program script i m start s = rw s.machine_is refl
 
 own_reads : (program : Program) (script : List Instruction) (i : Image) (m : Machine)
     (start : ChipView) → Started program i m start
     → reads_on m script ≡ sum_done rows_printed i.geometry (routines_in program) i.table script
     + i.geometry.banks * i.geometry.rows
-own_reads program script i m start s = rw (s.shape_is, s.program_is, s.table_is) refl
+own_reads program script i m start s = rw s.machine_is refl
 
 own_image : (program : Program) (script : List Instruction) (i : Image) (m : Machine)
     (start : ChipView) → Started program i m start
@@ -239,7 +234,7 @@ own_image program script i m start s =
     let o = routines_in program in
     let same : table_at_end (geometry_of m) (routines_in (program_of m)) (table_in m) script
     ≡ table_at_end i.geometry o i.table script =
-    rw (s.shape_is, s.program_is, s.table_is) refl in
+    rw s.machine_is refl in
     let banks : after (events_on m script) start.banks
     ≡ banks_at_end i.geometry o i.table (opened i) script =
     ap (λ (es : List Event). after es start.banks) (own_events program script i m start s)
@@ -247,7 +242,7 @@ own_image program script i m start s =
     ∙ events_are_steps i.geometry o Ahead i.table script (opened i) s.holds.words s.holds.fits in
     ap (λ (g : Geometry). image_bytes g (table_at_end (geometry_of m)
     (routines_in (program_of m)) (table_in m) script)
-    (rows_in_banks (after (events_on m script) start.banks))) s.shape_is
+    (rows_in_banks (after (events_on m script) start.banks))) (ap geometry_of s.machine_is)
     ∙ ap (λ (t : List Named). image_bytes i.geometry t
     (rows_in_banks (after (events_on m script) start.banks))) same
     ∙ ap (λ (b : Banks). image_bytes i.geometry (table_at_end i.geometry o i.table script)
@@ -265,8 +260,7 @@ first_are : (names : TraceNames) (program : Program) (script : List Instruction)
     ≡ first_steps names program script i
 first_are names program script i m start s =
     ap (λ (xs : List Step). xs ++ (Use ∷ Store names.out.now (image_on m start.banks script) ∷ []))
-    (own_lines program script i (geometry_of m) (program_of m) (turn_in m) (table_in m) start.banks
-    s.shape_is s.program_is s.turn_is s.table_is s.banks)
+    (own_lines program script i m start.banks s.machine_is s.banks)
     ∙ ap (λ (bytes : List ℕ). script_steps program script i
     ++ (Use ∷ Store names.out.now bytes ∷ [])) (own_image program script i m start s)
 
@@ -339,7 +333,7 @@ left_by program script i m from last new refused s did banks counters count begu
           ∙ sym (reads_twice printed all (all_counted events (opened_counters i.geometry)))
           ∙ tally_is program script i s.holds;
       log = tt;
-      refused_is = count ∙ rw (s.shape_is, s.program_is, s.table_is) refl;
+      refused_is = count ∙ rw s.machine_is refl;
     }
 
 -- the recorder saw the script's events
@@ -394,17 +388,14 @@ own_table : (program : Program) (script : List Instruction) (i : Image) (m : Mac
     (from : ChipView) → Started program i m from
     → table_at_end (geometry_of m) (routines_in (program_of m)) (table_in m) script
     ≡ table_at_end i.geometry (routines_in program) i.table script
-own_table program script i m from s = rw (s.shape_is, s.program_is, s.table_is) refl
+own_table program script i m from s = rw s.machine_is refl
 
 pub started_at : (program : Program) (i : Image) (m : Machine) (old from : ChipView)
-    → OpensOn program i m old → IsReady m → from ≡ record old { log = Some empty_log }
+    → OpensOn program i m old → from ≡ record old { log = Some empty_log }
     → Started program i m from
-started_at program i m old from o ready e = record {
-  shape_is = o.shape_is;
-  program_is = o.program_is;
-  table_is = o.table_is;
-  turn_is = o.turn_is;
-  holds = rw o.table_is at (holds_of m i.geometry o.shape_is ready);
+started_at program i m old from o e = record {
+  machine_is = o.machine_is;
+  holds = holds_of i.geometry i.table o.shape o.fits;
   banks = ap (λ (v : ChipView). v.banks) e ∙ o.opened_on.banks;
   counters = ap (λ (v : ChipView). v.counters) e ∙ o.opened_on.counters;
   geometry = ap (λ (v : ChipView). v.geometry) e ∙ o.opened_on.geometry;
@@ -415,7 +406,6 @@ started_at program i m old from o ready e = record {
 pub record FirstDone (names : TraceNames) (script : List Instruction) (m : Machine)
     (files : FolderView) (sink : SinkView) (old from last : ChipView) (tape : NotesView)
     (after : FolderView) (sent : SinkView) (refused : ℕ) : Type 0 where
-  pub ready : IsReady m
   pub plain : AllByRecursion IsPlain script
   pub same : from ≡ record old { log = Some empty_log }
   pub kept : Kept from (recorded last tape)
@@ -432,7 +422,7 @@ module _ (names : TraceNames) (script : List Instruction) (m : Machine) (files :
     (d : FirstDone names script m files sink old from last tape after sent refused)
     (program : Program) (i : Image) (o : OpensOn program i m old) where
   begun_at : Started program i m from
-  begun_at = started_at program i m old from o d.ready d.same
+  begun_at = started_at program i m old from o d.same
 
   what_saw : Saw last tape (script_trace program i script).events
   what_saw = saw_script program script i m from last tape o.legal o.shape o.fits d.plain begun_at

@@ -9,7 +9,6 @@ use Rattle.object_alloc.specs.Spelling.{image_bytes}
 use Rattle.uprog_code.specs.Programs.{IsProgram}
 use Rattle.uprog_bin.specs.Opened.{IsProgramFile}
 use Rattle.bbop_isa.specs.Forms.{Instruction}
-use Rattle.wave_model.specs.Schedule.{Ahead}
 use Rattle.machine_model.specs.Laws.{TableFits}
 use Rattle.machine_model.specs.Opened.{Image, rows_in_banks}
 use Rattle.machine_model.specs.Routines.{Program}
@@ -17,7 +16,8 @@ use Rattle.machine_model.specs.Pieces.{events_of_pieces, pieces}
 use Rattle.machine_model.specs.Report.{total_line}
 use Rattle.machine_model.specs.Script.{rows_printed, sum_done, table_at_end}
 use Rattle.sim_machine.specs.declared.machine.Machine.{Machine}
-use Rattle.sim_machine.specs.Machine.{geometry_of, operations_by, program_of, table_in, turn_in}
+use Rattle.sim_machine.specs.Machine.{geometry_of, operations_by, table_in, turn_in}
+use Rattle.sim_machine.specs.Opening.{machine_on}
 use Rattle.trace_model.specs.Reading.{trace_in}
 use Rattle.trace_model.specs.Replay.{replayed, script_trace}
 use Rattle.trace_model.specs.Spelling.{Trace, bytes_of_trace}
@@ -185,10 +185,7 @@ pub record OpensOn (program : Program) (i : Image) (m : Machine) (chip : ChipVie
   pub legal : IsProgram program
   pub shape : is_geometry i.geometry ≡ true
   pub fits : TableFits i.geometry i.table
-  pub shape_is : geometry_of m ≡ i.geometry
-  pub program_is : program_of m ≡ program
-  pub table_is : table_in m ≡ i.table
-  pub turn_is : turn_in m ≡ Ahead
+  pub machine_is : m ≡ machine_on i.geometry program i.table
   pub opened_on : OpenedOn i chip
 
 -- the script was done on its chip

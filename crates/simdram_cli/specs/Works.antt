@@ -12,7 +12,7 @@ use Rattle.machine_model.specs.Pieces.{Piece, Wave, Alone, instrs_in, wave_size,
 use Rattle.machine_model.specs.Script.{banks_at_end, is_bbop, is_refused, replies, rows_printed}
 use Rattle.machine_model.specs.Script.{sum_done, table_at_end}
 use Rattle.sim_machine.specs.declared.machine.Machine.{Machine}
-use Rattle.sim_machine.specs.Machine.{IsReady, events_by, geometry_of, operations_by, table_in}
+use Rattle.sim_machine.specs.Machine.{IsLaidOut, events_by, geometry_of, operations_by, table_in}
 use Rattle.sim_machine.specs.Machine.{turn_by_piece, turn_in}
 use Rattle.object_steps.specs.Objects.{RisesAtMost}
 use Rattle.sim_machine.specs.Steps.{DidAndRead}
@@ -52,7 +52,7 @@ pub record PieceDone (piece : Piece) (m n : Machine) (a b : ChipView) (refused :
   pub turn : turn_in n ≡ turn_by_piece m piece
   pub table : table_in n
       ≡ table_at_end (geometry_of m) (operations_by m) (table_in m) (instrs_in piece)
-  pub ready : IsReady n
+  pub laid : IsLaidOut m
   pub did : DidAndRead (events_by m piece)
       (sum_done rows_printed (geometry_of m) (operations_by m) (table_in m) (instrs_in piece)) a b
   pub rises : RisesAtMost (256 * WALK_MAX) a.counters b.counters

@@ -16,7 +16,7 @@ ghost use Rattle.machine_model.specs.Opened.{rows_in_banks};
 ghost use Rattle.machine_model.specs.Report.{total_line};
 ghost use Rattle.cli_model.specs.World.{world};
 ghost use Rattle.cli_model.specs.Steps.{Goes, Put, Store, Use};
-ghost use Rattle.sim_machine.specs.Machine.{IsReady, geometry_of, table_in};
+ghost use Rattle.sim_machine.specs.Machine.{geometry_of, table_in};
 ghost use Rattle.guard_model.specs.FlipText.{AreSorted, IsFlip};
 ghost use Rattle.guard_model.specs.Named.{has_long_name};
 ghost use Rattle.guard_model.specs.Report.{vote_line};
@@ -158,7 +158,6 @@ fn finish_guarded<'a, F: Folder, S: Sink, D: Dram>(
     out: &mut S,
     chip: &mut D,
 ) -> Result<(), Stop<'a>>
-    requires ready { IsReady (machine_in guard.old) }
     requires begun { HasBegun (D.view chip.old) }
     requires geometry { (D.view chip.old).geometry ≡ geometry_of (machine_in guard.old) }
     requires reads { (D.view chip.old).counters.reads < 2 ^ 62 }

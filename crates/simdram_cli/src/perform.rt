@@ -15,9 +15,8 @@ ghost use Rattle.machine_model.specs.Report.{total_line};
 ghost use Rattle.cli_model.specs.World.{world};
 ghost use Rattle.cli_model.specs.Steps.{Goes, Open, Use, Store, Put};
 ghost use Rattle.object_steps.specs.Objects.{LiesOn};
-ghost use Rattle.sim_machine.specs.Machine.{IsReady, geometry_of, program_of};
-ghost use Rattle.sim_machine.specs.Machine.{table_in, turn_in};
-ghost use Rattle.wave_model.specs.Schedule.{Ahead};
+ghost use Rattle.sim_machine.specs.Machine.{geometry_of, table_in};
+ghost use Rattle.sim_machine.specs.Opening.{machine_on};
 ghost use Rattle.simdram_cli.specs.Inputs.{image_found};
 ghost use Rattle.simdram_cli.specs.Job.{work_steps};
 ghost use Rattle.simdram_cli.specs.Stops.{end_of};
@@ -44,11 +43,8 @@ pub(crate) fn open<'a, 'p, D: Dram>(
     requires rows { length image.rows.now ≡ rows_size image.geometry }
     ensures borrow { D.borrow chip.new ≡ D.borrow chip.old }
     ensures opened { OnOk result (OpenedOn (image_found (found_in image.entry)) (D.view chip.new)) }
-    ensures ready { IfOk result IsReady }
-    ensures program { IfOk result (λ machine. program_of machine ≡ prog.entry.programs) }
-    ensures turn { IfOk result (λ machine. turn_in machine ≡ Ahead) }
-    ensures shape { IfOk result (λ machine. geometry_of machine ≡ image.entry.geometry) }
-    ensures table { IfOk result (λ machine. table_in machine ≡ image.entry.table.pairs) }
+    ensures machine { IfOk result (λ machine. machine ≡ machine_on image.entry.geometry
+        prog.entry.programs image.entry.table.pairs) }
     ensures goes { (files : FolderView) (sink : SinkView) → Goes (Open ∷ []) (end_of result)
         (world files sink (D.view chip.old)) (world files sink (D.view chip.new)) }
 {
@@ -68,7 +64,6 @@ fn finish<'a, F: Folder, S: Sink, D: Dram>(
     out: &mut S,
     chip: &mut D,
 ) -> Result<(), Stop<'a>>
-    requires ready { IsReady machine.old }
     requires begun { HasBegun (D.view chip.old) }
     requires geometry { (D.view chip.old).geometry ≡ geometry_of machine.old }
     requires reads { (D.view chip.old).counters.reads < 2 ^ 62 }

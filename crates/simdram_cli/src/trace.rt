@@ -16,7 +16,7 @@ ghost use Rattle.machine_model.specs.Routines.{Program};
 ghost use Rattle.machine_model.specs.Script.{is_refused, replies, table_at_end};
 ghost use Rattle.cli_model.specs.World.{world};
 ghost use Rattle.cli_model.specs.Steps.{Goes, Store, Use};
-ghost use Rattle.sim_machine.specs.Machine.{IsReady, geometry_of, operations_by, table_in};
+ghost use Rattle.sim_machine.specs.Machine.{geometry_of, operations_by, table_in};
 ghost use Rattle.sim_machine.specs.Steps.{DidAndRead};
 ghost use Rattle.simdram_cli.specs.Inputs.{image_found};
 ghost use Rattle.simdram_cli.specs.Stops.{end_of};
@@ -51,7 +51,6 @@ fn work_to_image<'a, F: Folder, S: Sink, D: Dram>(
     out: &mut S,
     chip: &mut D,
 ) -> Result<u64, Stop<'a>>
-    requires ready { IsReady machine.old }
     requires begun { HasBegun (D.view chip.old) }
     requires geometry { (D.view chip.old).geometry ≡ geometry_of machine.old }
     requires plain { AllByRecursion IsPlain (map view_of script.now) }
@@ -98,7 +97,6 @@ fn record_script<'a, F: Folder, S: Sink, D: Dram>(
     chip: &mut D,
     room: &mut Room,
 ) -> Result<u64, Stop<'a>>
-    requires ready { IsReady machine.old }
     requires begun { HasBegun (D.view chip.old) }
     requires geometry { (D.view chip.old).geometry ≡ geometry_of machine.old }
     requires plain { AllByRecursion IsPlain (map view_of script.now) }

@@ -13,7 +13,7 @@ ghost use Rattle.machine_model.specs.Script.{is_bbop, is_refused, replies, rows_
 ghost use Rattle.machine_model.specs.Script.{sum_done, table_at_end};
 ghost use Rattle.cli_model.specs.World.{world};
 ghost use Rattle.cli_model.specs.Steps.{Goes};
-ghost use Rattle.sim_machine.specs.Machine.{IsReady, geometry_of, operations_by, program_of};
+ghost use Rattle.sim_machine.specs.Machine.{GoesOn, geometry_of, operations_by};
 ghost use Rattle.sim_machine.specs.Machine.{table_in, turn_in};
 ghost use Rattle.sim_machine.specs.Steps.{DidAndRead, HasRoom};
 ghost use Rattle.simdram_cli.specs.Job.{piece_steps, pieces_steps};
@@ -78,14 +78,12 @@ fn work_line<'a, D: Dram, S: Sink>(
     chip: &mut D,
     out: &mut S,
 ) -> Result<u64, Stop<'a>>
-    requires ready { IsReady machine.old }
     requires begun { HasBegun (D.view chip.old) }
     requires geometry { (D.view chip.old).geometry ≡ geometry_of machine.old }
     requires alone { is_bbop (view_of instr.now) ≡ false }
     requires plain { IsPlain (view_of instr.now) }
     requires room { HasRoom (D.view chip.old).counters }
-    ensures program { program_of machine.new ≡ program_of machine.old }
-    ensures shape { geometry_of machine.new ≡ geometry_of machine.old }
+    ensures goes_on { GoesOn machine.old machine.new }
     ensures borrow { D.borrow chip.new ≡ D.borrow chip.old }
     ensures kept { Kept (D.view chip.old) (D.view chip.new) }
     ensures done { IfOk result (PieceDone (Alone (view_of instr.now)) machine.old machine.new
@@ -112,7 +110,6 @@ fn work_wave<'a, D: Dram, S: Sink>(
     chip: &mut D,
     out: &mut S,
 ) -> Result<u64, Stop<'a>>
-    requires ready { IsReady machine.old }
     requires begun { HasBegun (D.view chip.old) }
     requires geometry { (D.view chip.old).geometry ≡ geometry_of machine.old }
     requires some { 0 < length wave.now }
@@ -120,8 +117,7 @@ fn work_wave<'a, D: Dram, S: Sink>(
     requires bbops { AreBbops (map view_of wave.now) }
     requires plain { AllByRecursion IsPlain (map view_of wave.now) }
     requires room { HasRoom (D.view chip.old).counters }
-    ensures program { program_of machine.new ≡ program_of machine.old }
-    ensures shape { geometry_of machine.new ≡ geometry_of machine.old }
+    ensures goes_on { GoesOn machine.old machine.new }
     ensures borrow { D.borrow chip.new ≡ D.borrow chip.old }
     ensures kept { Kept (D.view chip.old) (D.view chip.new) }
     ensures done { IfOk result (PieceDone (Wave (map view_of wave.now)) machine.old machine.new
@@ -156,14 +152,12 @@ fn work_piece<'a, D: Dram, S: Sink>(
     chip: &mut D,
     out: &mut S,
 ) -> Result<Taken, Stop<'a>>
-    requires ready { IsReady machine.old }
     requires begun { HasBegun (D.view chip.old) }
     requires geometry { (D.view chip.old).geometry ≡ geometry_of machine.old }
     requires some { 0 < length script.now }
     requires plain { AllByRecursion IsPlain (map view_of script.now) }
     requires room { HasRoom (D.view chip.old).counters }
-    ensures program { program_of machine.new ≡ program_of machine.old }
-    ensures shape { geometry_of machine.new ≡ geometry_of machine.old }
+    ensures goes_on { GoesOn machine.old machine.new }
     ensures borrow { D.borrow chip.new ≡ D.borrow chip.old }
     ensures kept { Kept (D.view chip.old) (D.view chip.new) }
     ensures taken { IfOk result (λ taken. taken.instrs
@@ -200,7 +194,6 @@ pub(crate) fn work<'a, D: Dram, S: Sink>(
     chip: &mut D,
     out: &mut S,
 ) -> Result<u64, Stop<'a>>
-    requires ready { IsReady machine.old }
     requires begun { HasBegun (D.view chip.old) }
     requires geometry { (D.view chip.old).geometry ≡ geometry_of machine.old }
     requires plain { AllByRecursion IsPlain (map view_of script.now) }
@@ -209,11 +202,9 @@ pub(crate) fn work<'a, D: Dram, S: Sink>(
     requires ap_none { (D.view chip.old).counters.ap ≡ 0 }
     requires few_writes { (D.view chip.old).counters.writes ≤ 2 ^ 60 }
     requires reads_none { (D.view chip.old).counters.reads ≡ 0 }
-    ensures program { program_of machine.new ≡ program_of machine.old }
-    ensures shape { geometry_of machine.new ≡ geometry_of machine.old }
+    ensures goes_on { GoesOn machine.old machine.new }
     ensures borrow { D.borrow chip.new ≡ D.borrow chip.old }
     ensures kept { Kept (D.view chip.old) (D.view chip.new) }
-    ensures ready { IfOk result (λ refused. IsReady machine.new) }
     ensures table { IfOk result (λ refused. table_in machine.new ≡ table_at_end
         (geometry_of machine.old) (operations_by machine.old) (table_in machine.old)
         (map view_of script.now)) }

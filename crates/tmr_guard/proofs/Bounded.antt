@@ -3,16 +3,13 @@ use Rattle.std.proofs.Common.{◌≡◌, ℕ, ◌+◌, ◌*◌, ◌≤◌, [], �
 use Rattle.std.proofs.Common.{subst}
 use Rattle.std.proofs.Common.{arith, sym}
 use Rattle.uprog_code.specs.declared.TheConstants.{WALK_MAX}
-use Rattle.object_alloc.specs.Listed.{Listing}
-use Rattle.dram_model.specs.declared.geometry.Geometry.{Geometry}
 use Rattle.bbop_isa.specs.Forms.{Instruction, Init, Bbop, Load, Fill, Print, Free, Order}
 use Rattle.machine_model.specs.declared.Reply.{Reply}
 use Rattle.machine_model.specs.Agrees.{IsPlain}
-use Rattle.machine_model.specs.Routines.{Program, routines_in}
-use Rattle.machine_model.specs.Steps.{reply_to}
 use Rattle.machine_model.specs.Script.{counted_in}
 use Rattle.machine_model.proofs.Bounds.{work_is_bounded}
-use Rattle.object_steps.specs.Objects.{LiesOn}
+use Rattle.sim_machine.specs.declared.machine.Machine.{Machine}
+use Rattle.sim_machine.specs.Machine.{IsLaidOut, geometry_of, program_of, reply_of, table_in}
 use Rattle.guard_model.specs.Guarded.{on_copy}
 
 pub copy_plain : (c : ℕ) (instr : Instruction) → IsPlain instr → IsPlain (on_copy c instr)
@@ -24,16 +21,13 @@ copy_plain c (Print name) h = tt
 copy_plain c (Free name) h = tt
 copy_plain c (Order o) h = tt
 
-pub few_commands : (g : Geometry) (p : Program) (table : Listing) (c : ℕ) (instr : Instruction)
-    (reply : Reply) → LiesOn g table → IsPlain instr
-    → reply ≡ reply_to g (routines_in p) table.pairs (on_copy c instr)
+pub few_commands : (m : Machine) (c : ℕ) (instr : Instruction) (reply : Reply) → IsLaidOut m
+    → IsPlain instr → reply ≡ reply_of m (on_copy c instr)
     → (counted_in reply).aap + (counted_in reply).ap ≤ 16 * WALK_MAX
-few_commands g p table c instr reply lies plain e =
+few_commands m c instr reply laid plain e =
     let i = on_copy c instr in
-    let few = work_is_bounded g p table.pairs (i ∷ []) lies.geometry
-    (record { listed = lies.listed; objects = lies.objects }) (copy_plain c instr plain, tt)
-    in
-    let one : (counted_in (reply_to g (routines_in p) table.pairs i)).aap
-    + (counted_in (reply_to g (routines_in p) table.pairs i)).ap ≤ 16 * WALK_MAX =
+    let few = work_is_bounded (geometry_of m) (program_of m) (table_in m) (i ∷ []) laid.shape
+    laid.table (copy_plain c instr plain, tt) in
+    let one : (counted_in (reply_of m i)).aap + (counted_in (reply_of m i)).ap ≤ 16 * WALK_MAX =
     omega (arith, few.commands) in
     subst (λ (r : Reply). (counted_in r).aap + (counted_in r).ap ≤ 16 * WALK_MAX) (sym e) one

@@ -14,7 +14,7 @@ ghost use Rattle.machine_model.specs.Opened.{rows_in_banks};
 ghost use Rattle.machine_model.specs.Script.{counted_in, plus as sum};
 ghost use Rattle.object_steps.specs.Lines.{DidReadAtMost};
 ghost use Rattle.object_steps.specs.Objects.{RisesAtMost};
-ghost use Rattle.sim_machine.specs.Machine.{IsReady, file_of, geometry_of, is_print, program_of};
+ghost use Rattle.sim_machine.specs.Machine.{GoesOn, IsLaidOut, file_of, geometry_of, is_print};
 ghost use Rattle.sim_machine.specs.Machine.{table_in, turn_in};
 ghost use Rattle.sim_machine.specs.Steps.{DidAndRead, HasRoom};
 ghost use Rattle.guard_model.specs.Guarded.{on_copies, on_copy, plain_ones, removal};
@@ -55,16 +55,14 @@ fn plus(a: Counts, b: Counts) -> Counts
 
 /// Does a plain instruction, and drops its line.
 fn done<D: Dram>(m: &mut Machine<'_>, instr: &Instr, dram: &mut D) -> Result<Reply, ChipFault>
-    requires ready { IsReady m.old }
     requires begun { HasBegun (D.view dram.old) }
     requires geometry { (D.view dram.old).geometry ≡ geometry_of m.old }
     requires plain { IsPlain (view_of instr.now) }
     requires room { HasRoom (D.view dram.old).counters }
     ensures borrow { D.borrow dram.new ≡ D.borrow dram.old }
     ensures kept { Kept (D.view dram.old) (D.view dram.new) }
-    ensures ready { IsReady m.new }
-    ensures program { program_of m.new ≡ program_of m.old }
-    ensures shape { geometry_of m.new ≡ geometry_of m.old }
+    ensures goes_on { GoesOn m.old m.new }
+    ensures laid { IsLaidOut m.old }
     ensures did { IfOk result (λ reply. DidOne m.old m.new (view_of instr.now) reply
         (D.view dram.old) (D.view dram.new)) }
     ensures rises { OnOk result (RisesAtMost (16 * WALK_MAX) (D.view dram.old).counters
@@ -107,7 +105,6 @@ impl<'a> Guard<'a> {
         instr: &Instr,
         dram: &mut D,
     ) -> Result<Reply, ChipFault>
-        requires ready { IsReady (machine_in self.old) }
         requires begun { HasBegun (D.view dram.old) }
         requires geometry { (D.view dram.old).geometry ≡ geometry_of (machine_in self.old) }
         requires plain { IsPlain (view_of instr.now) }
@@ -116,9 +113,7 @@ impl<'a> Guard<'a> {
         requires room { HasRoom (D.view dram.old).counters }
         ensures borrow { D.borrow dram.new ≡ D.borrow dram.old }
         ensures kept { Kept (D.view dram.old) (D.view dram.new) }
-        ensures ready { IsReady (machine_in self.new) }
-        ensures program { program_of (machine_in self.new) ≡ program_of (machine_in self.old) }
-        ensures shape { geometry_of (machine_in self.new) ≡ geometry_of (machine_in self.old) }
+        ensures goes_on { GoesOn (machine_in self.old) (machine_in self.new) }
         ensures did { IfOk result (λ reply. DidOne (machine_in self.old) (machine_in self.new)
             (on_copy letter (view_of instr.now)) reply (D.view dram.old) (D.view dram.new)) }
         ensures few { IfOk result (λ reply. (counted_in reply).aap + (counted_in reply).ap
@@ -150,7 +145,6 @@ impl<'a> Guard<'a> {
         instr: &Instr,
         dram: &mut D,
     ) -> Result<(), ChipFault>
-        requires ready { IsReady (machine_in self.old) }
         requires begun { HasBegun (D.view dram.old) }
         requires geometry { (D.view dram.old).geometry ≡ geometry_of (machine_in self.old) }
         requires letter { fits_name (letter ∷ []) ≡ true }
@@ -158,9 +152,7 @@ impl<'a> Guard<'a> {
         requires room { HasRoom (D.view dram.old).counters }
         ensures borrow { D.borrow dram.new ≡ D.borrow dram.old }
         ensures kept { Kept (D.view dram.old) (D.view dram.new) }
-        ensures ready { IsReady (machine_in self.new) }
-        ensures program { program_of (machine_in self.new) ≡ program_of (machine_in self.old) }
-        ensures shape { geometry_of (machine_in self.new) ≡ geometry_of (machine_in self.old) }
+        ensures goes_on { GoesOn (machine_in self.old) (machine_in self.new) }
         ensures ran { OnOk result (RanBy (machine_in self.old) (machine_in self.new)
             (removal (on_copy letter (view_of instr.now))) (D.view dram.old) (D.view dram.new)) }
         ensures rises { OnOk result (RisesAtMost (16 * WALK_MAX) (D.view dram.old).counters
@@ -183,7 +175,6 @@ impl<'a> Guard<'a> {
 
     /// The plain instructions on the three copies in turn, up to the first that is refused.
     fn on_three<D: Dram>(&mut self, instr: &Instr, dram: &mut D) -> Result<Reply, ChipFault>
-        requires ready { IsReady (machine_in self.old) }
         requires begun { HasBegun (D.view dram.old) }
         requires geometry { (D.view dram.old).geometry ≡ geometry_of (machine_in self.old) }
         requires plain { IsPlain (view_of instr.now) }
@@ -192,9 +183,7 @@ impl<'a> Guard<'a> {
         requires room { HasMoreRoom (D.view dram.old).counters }
         ensures borrow { D.borrow dram.new ≡ D.borrow dram.old }
         ensures kept { Kept (D.view dram.old) (D.view dram.new) }
-        ensures ready { IsReady (machine_in self.new) }
-        ensures program { program_of (machine_in self.new) ≡ program_of (machine_in self.old) }
-        ensures shape { geometry_of (machine_in self.new) ≡ geometry_of (machine_in self.old) }
+        ensures goes_on { GoesOn (machine_in self.old) (machine_in self.new) }
         ensures replied { IfOk result (λ reply. RepliedBy (machine_in self.old)
             (machine_in self.new) (view_of instr.now) reply (D.view dram.old) (D.view dram.new)) }
         ensures rises { OnOk result (RisesAtMost (80 * WALK_MAX) (D.view dram.old).counters
@@ -225,7 +214,6 @@ impl<'a> Guard<'a> {
 
     /// What a guarded instruction but a print comes to.
     fn reply_to<D: Dram>(&mut self, instr: &Instr, dram: &mut D) -> Result<Reply, ChipFault>
-        requires ready { IsReady (machine_in self.old) }
         requires begun { HasBegun (D.view dram.old) }
         requires geometry { (D.view dram.old).geometry ≡ geometry_of (machine_in self.old) }
         requires plain { IsPlain (view_of instr.now) }
@@ -234,9 +222,7 @@ impl<'a> Guard<'a> {
         requires room { HasMoreRoom (D.view dram.old).counters }
         ensures borrow { D.borrow dram.new ≡ D.borrow dram.old }
         ensures kept { Kept (D.view dram.old) (D.view dram.new) }
-        ensures ready { IsReady (machine_in self.new) }
-        ensures program { program_of (machine_in self.new) ≡ program_of (machine_in self.old) }
-        ensures shape { geometry_of (machine_in self.new) ≡ geometry_of (machine_in self.old) }
+        ensures goes_on { GoesOn (machine_in self.old) (machine_in self.new) }
         ensures replied { IfOk result (λ reply. RepliedBy (machine_in self.old)
             (machine_in self.new) (view_of instr.now) reply (D.view dram.old) (D.view dram.new)) }
         ensures rises { OnOk result (RisesAtMost (80 * WALK_MAX) (D.view dram.old).counters
@@ -263,7 +249,6 @@ impl<'a> Guard<'a> {
         dram: &mut D,
         out: &mut S,
     ) -> Result<Reply, StepFault>
-        requires ready { IsReady (machine_in self.old) }
         requires begun { HasBegun (D.view dram.old) }
         requires geometry { (D.view dram.old).geometry ≡ geometry_of (machine_in self.old) }
         requires plain { IsPlain (view_of instr.now) }
@@ -273,9 +258,7 @@ impl<'a> Guard<'a> {
         ensures borrow { D.borrow dram.new ≡ D.borrow dram.old }
         ensures kept { Kept (D.view dram.old) (D.view dram.new) }
         ensures sink_faults { (S.view out.old).faults ≤ (S.view out.new).faults }
-        ensures ready { IsReady (machine_in self.new) }
-        ensures program { program_of (machine_in self.new) ≡ program_of (machine_in self.old) }
-        ensures shape { geometry_of (machine_in self.new) ≡ geometry_of (machine_in self.old) }
+        ensures goes_on { GoesOn (machine_in self.old) (machine_in self.new) }
         ensures came { Came (machine_in self.old) (machine_in self.new) number (view_of instr.now)
             (D.view dram.old) (D.view dram.new) (S.view out.old) (S.view out.new) result }
     {
@@ -297,7 +280,6 @@ impl<'a> Guard<'a> {
         dram: &mut D,
         out: &mut S,
     ) -> Result<Reply, StepFault>
-        requires ready { IsReady (machine_in self.old) }
         requires begun { HasBegun (D.view dram.old) }
         requires geometry { (D.view dram.old).geometry ≡ geometry_of (machine_in self.old) }
         requires short { has_long_name (Print name.now) ≡ false }
@@ -305,9 +287,7 @@ impl<'a> Guard<'a> {
         ensures borrow { D.borrow dram.new ≡ D.borrow dram.old }
         ensures kept { Kept (D.view dram.old) (D.view dram.new) }
         ensures sink_faults { (S.view out.old).faults ≤ (S.view out.new).faults }
-        ensures ready { IsReady (machine_in self.new) }
-        ensures program { program_of (machine_in self.new) ≡ program_of (machine_in self.old) }
-        ensures shape { geometry_of (machine_in self.new) ≡ geometry_of (machine_in self.old) }
+        ensures goes_on { GoesOn (machine_in self.old) (machine_in self.new) }
         ensures came { Came (machine_in self.old) (machine_in self.new) number (Print name.now)
             (D.view dram.old) (D.view dram.new) (S.view out.old) (S.view out.new) result }
     {
@@ -335,7 +315,6 @@ impl<'a> Guard<'a> {
         dram: &mut D,
         out: &mut S,
     ) -> Result<Reply, StepFault>
-        requires ready { IsReady (machine_in self.old) }
         requires begun { HasBegun (D.view dram.old) }
         requires geometry { (D.view dram.old).geometry ≡ geometry_of (machine_in self.old) }
         requires plain { IsPlain (view_of instr.now) }
@@ -344,9 +323,7 @@ impl<'a> Guard<'a> {
         ensures borrow { D.borrow dram.new ≡ D.borrow dram.old }
         ensures kept { Kept (D.view dram.old) (D.view dram.new) }
         ensures sink_faults { (S.view out.old).faults ≤ (S.view out.new).faults }
-        ensures ready { IsReady (machine_in self.new) }
-        ensures program { program_of (machine_in self.new) ≡ program_of (machine_in self.old) }
-        ensures shape { geometry_of (machine_in self.new) ≡ geometry_of (machine_in self.old) }
+        ensures goes_on { GoesOn (machine_in self.old) (machine_in self.new) }
         ensures came { Came (machine_in self.old) (machine_in self.new) number (view_of instr.now)
             (D.view dram.old) (D.view dram.new) (S.view out.old) (S.view out.new) result }
     {
@@ -367,7 +344,6 @@ impl<'a> Guard<'a> {
         dram: &mut D,
         out: &mut S,
     ) -> Result<Reply, StepFault>
-        requires ready { IsReady (machine_in self.old) }
         requires begun { HasBegun (D.view dram.old) }
         requires geometry { (D.view dram.old).geometry ≡ geometry_of (machine_in self.old) }
         requires triples { first_stranger (table_in (machine_in self.old)) ≡ None }
@@ -377,9 +353,7 @@ impl<'a> Guard<'a> {
         ensures borrow { D.borrow dram.new ≡ D.borrow dram.old }
         ensures kept { Kept (D.view dram.old) (D.view dram.new) }
         ensures sink_faults { (S.view out.old).faults ≤ (S.view out.new).faults }
-        ensures ready { IsReady (machine_in self.new) }
-        ensures program { program_of (machine_in self.new) ≡ program_of (machine_in self.old) }
-        ensures shape { geometry_of (machine_in self.new) ≡ geometry_of (machine_in self.old) }
+        ensures goes_on { GoesOn (machine_in self.old) (machine_in self.new) }
         ensures reply { IfOk result (λ reply. reply
             ≡ reply_by (machine_in self.old) (view_of instr.now)) }
         ensures table { OnOk result (table_in (machine_in self.new)
@@ -424,7 +398,6 @@ impl<'a> Guard<'a> {
     /// Every triple takes its majority, in the order of the table. The answer is how many AAP that
     /// took. It takes no memory.
     pub fn vote<D: Dram>(&mut self, dram: &mut D) -> Result<u64, ChipFault>
-        requires ready { IsReady (machine_in self.old) }
         requires begun { HasBegun (D.view dram.old) }
         requires geometry { (D.view dram.old).geometry ≡ geometry_of (machine_in self.old) }
         requires triples { first_stranger (table_in (machine_in self.old)) ≡ None }
@@ -432,6 +405,7 @@ impl<'a> Guard<'a> {
         ensures borrow { D.borrow dram.new ≡ D.borrow dram.old }
         ensures kept { Kept (D.view dram.old) (D.view dram.new) }
         ensures same { machine_in self.new ≡ machine_in self.old }
+        ensures laid { IsLaidOut (machine_in self.old) }
         ensures count { IfOk result (λ aap. aap ≡ vote_count (geometry_of (machine_in self.old))
             (table_in (machine_in self.old))) }
         ensures few { IfOk result (λ aap. aap ≤ 2 ^ 30) }
@@ -449,7 +423,6 @@ impl<'a> Guard<'a> {
 
     /// Reads every row of the chip, and spells the image file of the machine. It takes no memory.
     pub fn image<D: Dram>(&mut self, dram: &mut D) -> Result<(), ChipFault>
-        requires ready { IsReady (machine_in self.old) }
         requires begun { HasBegun (D.view dram.old) }
         requires geometry { (D.view dram.old).geometry ≡ geometry_of (machine_in self.old) }
         requires room { (D.view dram.old).counters.reads < 2 ^ 62 }
@@ -460,11 +433,8 @@ impl<'a> Guard<'a> {
         ensures file { OnOk result (file_of (machine_in self.new)
             ≡ image_bytes (geometry_of (machine_in self.old)) (table_in (machine_in self.old))
             (rows_in_banks (D.view dram.old).banks)) }
-        ensures ready { IsReady (machine_in self.new) }
-        ensures program { program_of (machine_in self.new) ≡ program_of (machine_in self.old) }
-        ensures shape { geometry_of (machine_in self.new) ≡ geometry_of (machine_in self.old) }
-        ensures table { table_in (machine_in self.new) ≡ table_in (machine_in self.old) }
-        ensures turn { turn_in (machine_in self.new) ≡ turn_in (machine_in self.old) }
+        ensures same { machine_in self.new
+            ≡ record (machine_in self.old) { file = file_of (machine_in self.new) } }
         ensures failed { OnErr result (Rose (D.view dram.old).faults (D.view dram.new).faults) }
         ensures no_event { Grew (D.view dram.old).log (D.view dram.new).log [] }
     {

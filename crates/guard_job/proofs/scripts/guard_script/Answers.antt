@@ -28,6 +28,7 @@ use Rattle.guard_job.proofs.Ending.{next_flips, others_of}
 use Rattle.guard_job.proofs.Ending.{rises_more, stops_here, tally_last}
 use Rattle.guard_job.proofs.Walking.{banks_go, goes_goes, line_moved, log_goes, moved, refused_goes}
 use Rattle.guard_job.proofs.Walking.{table_goes, tally_goes, votes_go}
+use Rattle.sim_machine.proofs.Keeping.{goes_more}
 use Rattle.guard_job.proofs.scripts.guard_script.Goals as goal
 
 pub instrs-preserved : goal.instrs-preserved
@@ -65,8 +66,9 @@ instrs-preserved g c =
     let same : due k left ≡ due k flips = inv.later k (omega arith) in
     let known = rw c.split_at.ensures.back at c.in_ok-one.ensures.done in
     let d = moved (geometry_of before) shape (program_of before) p (due k left) (due k flips) i
-    (turn_in before) (turn_in after) table (table_in after) a b one.votes one.refused inv.shape_is
-    inv.program same known in
+    (turn_in before) (turn_in after) table (table_in after) a b one.votes one.refused
+    (ap geometry_of inv.goes_on)
+    (ap program_of inv.goes_on) same known in
     let next = next_flips k one.flips at flips inv.sorted count in
     let due_size = ap (λ (l : List Flip). length l) same in
     let following = length-drop (at + one.flips) flips in
@@ -74,9 +76,7 @@ instrs-preserved g c =
       within = omega arith;
       flipped = omega (arith, within, size, inv.flipped);
       stage = c.do_one.ensures.stage ∙ inv.stage;
-      program = c.do_one.ensures.program ∙ inv.program;
-      shape_is = c.do_one.ensures.shape ∙ inv.shape_is;
-      ready = c.do_one.ensures.ready;
+      goes_on = goes_more first before after inv.goes_on c.do_one.ensures.goes_on;
       triples = c.in_ok-one.ensures.triples;
       borrow = c.do_one.ensures.borrow ∙ inv.borrow;
       kept = Kept-more start a b inv.kept c.do_one.ensures.kept;
@@ -117,7 +117,8 @@ instrs-preserved g c =
           (let went = rw c.split_at.ensures.back at (c.in_ok-one.ensures.goes files) in
           let line = line_moved (geometry_of before) shape (program_of before) p (due k left)
           (due k flips) k table a.banks i Done (world files (W c.instrs.out) a)
-          (world files (W c.do_one.new.out) b) inv.shape_is inv.program same went in
+          (world files (W c.do_one.new.out) b) (ap geometry_of inv.goes_on)
+          (ap program_of inv.goes_on) same went in
           inv.goes files end w (subst (λ (s : List Instruction).
           Goes (guarded_steps shape o flips k table a.banks s) end
           (world files (W c.instrs.out) a) w) (sym is)
@@ -152,7 +153,8 @@ returns-in_err-one-clause-goes g c files =
     let went = rw c.split_at.ensures.back at (c.in_err-one.ensures.goes files) in
     let line = line_moved (geometry_of before) (geometry_of first) (program_of before)
     (program_of first) (due k left) (due k left) k (table_in before) a.banks i
-    (end_by {X = One} (Err fault)) start last inv.shape_is inv.program refl went in
+    (end_by {X = One} (Err fault)) start last (ap geometry_of inv.goes_on)
+    (ap program_of inv.goes_on) refl went in
     rw (q.1, q.2) (inv.goes files _ last (stops_here One fault (geometry_of first)
     (operations_by first) flips left k (table_in before) a.banks i others rest start last is same
     line))
@@ -182,7 +184,7 @@ returns-in-Ok-clause-banks g c =
     ap (map view_of) (drop_all c.instrs.done script (omega arith)) in
     let known = rw c.split_at-2.ensures.back at c.in-Ok.ensures.done in
     let m = mended_moved (geometry_of last) shape (due k left) (due k flips) (table_in last) now
-    (V c.mend.new.chip) inv.shape_is (inv.later k (omega arith)) known in
+    (V c.mend.new.chip) (ap geometry_of inv.goes_on) (inv.later k (omega arith)) known in
     m.banks ∙ ap (guarded_rows_at_end shape o flips k (table_in last) now.banks) (sym none)
     ∙ inv.banks_end
 
@@ -203,7 +205,7 @@ returns-in-Ok-clause-counters g c =
     ap (map view_of) (drop_all c.instrs.done script (omega arith)) in
     let known = rw c.split_at-2.ensures.back at c.in-Ok.ensures.done in
     let m = mended_moved (geometry_of last) shape (due k left) (due k flips) (table_in last) now
-    (V c.mend.new.chip) inv.shape_is (inv.later k (omega arith)) known in
+    (V c.mend.new.chip) (ap geometry_of inv.goes_on) (inv.later k (omega arith)) known in
     let all : due k left ≡ left = all_here shape (length script) c.instrs.done left (omega arith)
     inv.cells inv.sorted in
     let whole = mended_moved shape shape (due k flips) left (table_in last) now
@@ -229,7 +231,7 @@ returns-in-Ok-clause-log g c =
     ap (map view_of) (drop_all c.instrs.done script (omega arith)) in
     let known = rw c.split_at-2.ensures.back at c.in-Ok.ensures.done in
     let m = mended_moved (geometry_of last) shape (due k left) (due k flips) (table_in last) now
-    (V c.mend.new.chip) inv.shape_is (inv.later k (omega arith)) known in
+    (V c.mend.new.chip) (ap geometry_of inv.goes_on) (inv.later k (omega arith)) known in
     inv.log (V c.mend.new.chip) (subst (λ (s : List Instruction).
     Grew now.log (V c.mend.new.chip).log
     (run_events shape o flips k (turn_in last) (table_in last) now.banks s)) (sym none) m.log)
@@ -251,8 +253,8 @@ returns-in-Ok-clause-votes g c =
     ap (map view_of) (drop_all c.instrs.done script (omega arith)) in
     let known = rw c.split_at-2.ensures.back at c.in-Ok.ensures.done in
     let m = mended_moved (geometry_of last) shape (due k left) (due k flips) (table_in last) now
-    (V c.mend.new.chip) inv.shape_is (inv.later k (omega arith)) known in
-    let votes = rw inv.shape_is at c.in-Ok.ensures.votes in
+    (V c.mend.new.chip) (ap geometry_of inv.goes_on) (inv.later k (omega arith)) known in
+    let votes = rw (ap geometry_of inv.goes_on) at c.in-Ok.ensures.votes in
     ap (λ (n : ℕ). c.instrs.votes + n) votes
     ∙ ap (λ (s : List Instruction). c.instrs.votes + votes_at_end shape o (table_in last) s)
     (sym none) ∙ inv.votes_end

@@ -10,7 +10,7 @@ use Rattle.machine_model.specs.Script.{is_refused}
 use Rattle.object_steps.specs.Objects.{RisesAtMost}
 use Rattle.cli_model.specs.World.{World, world}
 use Rattle.cli_model.specs.Steps.{Goes, End}
-use Rattle.sim_machine.specs.Machine.{IsReady, geometry_of, operations_by, program_of, table_in}
+use Rattle.sim_machine.specs.Machine.{GoesOn, geometry_of, operations_by, table_in}
 use Rattle.sim_machine.specs.Machine.{turn_in}
 use Rattle.guard_model.specs.Flips.{due}
 use Rattle.guard_model.specs.FlipText.{AreSorted, IsFlip}
@@ -40,9 +40,7 @@ invariant-instrs g l =
       within : l.done ≤ length l.script;
       flipped : l.flipped ≤ length l.flips;
       stage : length l.stage ≡ length l.initial.stage;
-      program : program_of machine ≡ program_of first;
-      shape_is : geometry_of machine ≡ shape;
-      ready : IsReady machine;
+      goes_on : GoesOn first machine;
       triples : first_stranger (table_in machine) ≡ None;
       borrow : D.borrow l.chip ≡ D.borrow l.initial.chip;
       kept : Kept start now;

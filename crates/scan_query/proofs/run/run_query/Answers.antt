@@ -18,11 +18,12 @@ use Rattle.scan_model.specs.Queries.{Node, size}
 use Rattle.scan_query.specs.Queries.{node_of, nodes_in, sources_fit}
 use Rattle.scan_query.specs.Running.{NodesRan, NodesRun, StoppedAt, refused_node}
 use Rattle.scan_query.proofs.Answering.{all_done, answer_checked, answer_done, answer_refused}
+use Rattle.scan_query.proofs.Answering.{asked}
 use Rattle.scan_query.proofs.Answering.{check_says, counters_end, counts_after, few_nodes, goes_on}
 use Rattle.scan_query.proofs.Answering.{last_is}
-use Rattle.scan_query.proofs.Answering.{leaves, not_both, ones_as, plain_nodes, reads_are, rises}
+use Rattle.scan_query.proofs.Answering.{not_both, ones_as, plain_nodes, reads_are, rises}
 use Rattle.scan_query.proofs.Answering.{room_left}
-use Rattle.scan_query.proofs.Answering.{shaped_as, some_left, sources_fit_all, table_left}
+use Rattle.scan_query.proofs.Answering.{some_left, sources_fit_all}
 use Rattle.scan_query.proofs.Stopping.{same_why}
 use Rattle.scan_query.proofs.run.run_query.Goals as goal
 
@@ -40,9 +41,7 @@ returns-in-Some-clause-answer g c q h =
     let nodes = nodes_in c.args.query.now in
     let same = ap (map node_of) c.as_slice-nodes.ensures.value in
     let checks : checked (table_in a) nodes ≡ Some (c.in-Some.why, c.in-Some.k) =
-    sym (check_says (table_in a)
-    c.table.result.now.pairs c.table-2.result.now.pairs nodes
-    (map node_of c.as_slice-nodes.result.now) c.count_of-count.result c.check.result
+    sym (check_says _ _ _ _ _ _ _
     c.table.ensures.objects c.table-2.ensures.objects same c.count_of-count.ensures
     c.check.ensures) ∙ c.in-Some.is in
     answer_checked (geometry_of a) (operations_by a) s.banks (table_in a) q c.in-Some.why
@@ -66,13 +65,11 @@ run_nodes-requires-clause-plain g c =
     let a = c.args.machine.now in
     let nodes = nodes_in c.args.query.now in
     let same = ap (map node_of) c.as_slice-nodes.ensures.value in
-    let checks : checked (table_in a) nodes ≡ None = sym (check_says (table_in a)
-    c.table.result.now.pairs c.table-2.result.now.pairs nodes
-    (map node_of c.as_slice-nodes.result.now) c.count_of-count.result c.check.result
+    let checks : checked (table_in a) nodes ≡ None = sym (check_says _ _ _ _ _ _ _
     c.table.ensures.objects c.table-2.ensures.objects same c.count_of-count.ensures
     c.check.ensures) ∙ c.in_default.is in
     subst (λ (ns : List Node). AllByRecursion IsPlain (scan_script (table_in a) ns)) (sym same)
-    (plain_nodes a c.requires.query.0 nodes c.requires.ready c.requires.query.1 checks)
+    (plain_nodes a c.requires.query.0 nodes c.table.ensures.laid c.requires.query.1 checks)
 
 pub returns-in-Some-2-clause-answer : goal.returns-in-Some-2-clause-answer
 returns-in-Some-2-clause-answer g c q h =
@@ -82,9 +79,7 @@ returns-in-Some-2-clause-answer g c q h =
     let t = g.D.Dram.view c.run_nodes.new.dram in
     let nodes = nodes_in c.args.query.now in
     let same = ap (map node_of) c.as_slice-nodes.ensures.value in
-    let checks : checked (table_in a) nodes ≡ None = sym (check_says (table_in a)
-    c.table.result.now.pairs c.table-2.result.now.pairs nodes
-    (map node_of c.as_slice-nodes.result.now) c.count_of-count.result c.check.result
+    let checks : checked (table_in a) nodes ≡ None = sym (check_says _ _ _ _ _ _ _
     c.table.ensures.objects c.table-2.ensures.objects same c.count_of-count.ensures
     c.check.ensures) ∙ c.in_default.is in
     let runs = subst (λ r. NodesRun (map node_of c.as_slice-nodes.result.now) a b s t (Ok r))
@@ -104,23 +99,17 @@ last_object-object-requires g c =
     let s = g.D.Dram.view c.args.dram.now in
     let t = g.D.Dram.view c.run_nodes.new.dram in
     let nodes = nodes_in c.args.query.now in
-    let same = ap (map node_of) c.as_slice-nodes.ensures.value in
-    let ran : NodesRan nodes a b s t = subst (λ (ns : List Node). NodesRan ns a b s t) same
-    (subst (λ r. NodesRun (map node_of c.as_slice-nodes.result.now) a b s t (Ok r))
-    c.in_default-2.is c.in_ok-why.ensures.runs) in
-    let checks : checked (table_in a) nodes ≡ None = sym (check_says (table_in a)
-    c.table.result.now.pairs c.table-2.result.now.pairs nodes
-    (map node_of c.as_slice-nodes.result.now) c.count_of-count.result c.check.result
-    c.table.ensures.objects c.table-2.ensures.objects same c.count_of-count.ensures
-    c.check.ensures) ∙ c.in_default.is in
     let q = c.requires.query.0 in
     let h = c.requires.query.1 in
-    let l = leaves a b s t nodes q c.requires.ready (shaped_as (geometry_of a) s.geometry s.banks
-    c.requires.geometry (g.met.D.Dram.width c.args.dram.now c.requires.begun))
-    c.requires.program h checks ran in
-    let left = table_left a b s t nodes q h ran l in
-    some_left (table_in a) (free_name (table_in a) (size q), l.object) c.table-3.result.now.pairs
-    (c.table-3.ensures.objects ∙ left)
+    let same = ap (map node_of) c.as_slice-nodes.ensures.value in
+    let k = asked a b s t nodes _ q _ c.table.ensures.laid c.requires.geometry
+    (g.met.D.Dram.width c.args.dram.now c.requires.begun) c.requires.program h same
+    (sym (check_says _ _ _ _ _ _ _ c.table.ensures.objects c.table-2.ensures.objects same
+    c.count_of-count.ensures c.check.ensures) ∙ c.in_default.is)
+    c.in_default-2.is c.in_ok-why.ensures.runs in
+    some_left (table_in a) (free_name (table_in a) (size q), k.leaves.object)
+    c.table-3.result.now.pairs
+    (c.table-3.ensures.objects ∙ k.left)
 
 pub ones_of-requires-clause-row : goal.ones_of-requires-clause-row
 ones_of-requires-clause-row g c =
@@ -129,26 +118,19 @@ ones_of-requires-clause-row g c =
     let s = g.D.Dram.view c.args.dram.now in
     let t = g.D.Dram.view c.run_nodes.new.dram in
     let nodes = nodes_in c.args.query.now in
-    let same = ap (map node_of) c.as_slice-nodes.ensures.value in
-    let ran : NodesRan nodes a b s t = subst (λ (ns : List Node). NodesRan ns a b s t) same
-    (subst (λ r. NodesRun (map node_of c.as_slice-nodes.result.now) a b s t (Ok r))
-    c.in_default-2.is c.in_ok-why.ensures.runs) in
-    let checks : checked (table_in a) nodes ≡ None = sym (check_says (table_in a)
-    c.table.result.now.pairs c.table-2.result.now.pairs nodes
-    (map node_of c.as_slice-nodes.result.now) c.count_of-count.result c.check.result
-    c.table.ensures.objects c.table-2.ensures.objects same c.count_of-count.ensures
-    c.check.ensures) ∙ c.in_default.is in
     let q = c.requires.query.0 in
     let h = c.requires.query.1 in
-    let l = leaves a b s t nodes q c.requires.ready (shaped_as (geometry_of a) s.geometry s.banks
-    c.requires.geometry (g.met.D.Dram.width c.args.dram.now c.requires.begun))
-    c.requires.program h checks ran in
-    let left = table_left a b s t nodes q h ran l in
+    let same = ap (map node_of) c.as_slice-nodes.ensures.value in
+    let k = asked a b s t nodes _ q _ c.table.ensures.laid c.requires.geometry
+    (g.met.D.Dram.width c.args.dram.now c.requires.begun) c.requires.program h same
+    (sym (check_says _ _ _ _ _ _ _ c.table.ensures.objects c.table-2.ensures.objects same
+    c.count_of-count.ensures c.check.ensures) ∙ c.in_default.is)
+    c.in_default-2.is c.in_ok-why.ensures.runs in
     let shown = c.geometry.ensures ∙ c.in_ok-why.ensures.kept.geometry ∙ c.requires.geometry in
     let object = c.last_object-object.ensures (table_in a)
-    (free_name (table_in a) (size q), l.object) (c.table-3.ensures.objects ∙ left) in
-    let last = last_is a b s t nodes q c.geometry.result c.last_object-object.result h ran l shown
-    object in
+    (free_name (table_in a) (size q), k.leaves.object) (c.table-3.ensures.objects ∙ k.left) in
+    let last = last_is a b s t nodes q c.geometry.result c.last_object-object.result
+    c.table-3.ensures.laid h k.ran k.leaves shown object in
     last.low
 
 pub ones_of-requires-clause-object : goal.ones_of-requires-clause-object
@@ -158,26 +140,19 @@ ones_of-requires-clause-object g c =
     let s = g.D.Dram.view c.args.dram.now in
     let t = g.D.Dram.view c.run_nodes.new.dram in
     let nodes = nodes_in c.args.query.now in
-    let same = ap (map node_of) c.as_slice-nodes.ensures.value in
-    let ran : NodesRan nodes a b s t = subst (λ (ns : List Node). NodesRan ns a b s t) same
-    (subst (λ r. NodesRun (map node_of c.as_slice-nodes.result.now) a b s t (Ok r))
-    c.in_default-2.is c.in_ok-why.ensures.runs) in
-    let checks : checked (table_in a) nodes ≡ None = sym (check_says (table_in a)
-    c.table.result.now.pairs c.table-2.result.now.pairs nodes
-    (map node_of c.as_slice-nodes.result.now) c.count_of-count.result c.check.result
-    c.table.ensures.objects c.table-2.ensures.objects same c.count_of-count.ensures
-    c.check.ensures) ∙ c.in_default.is in
     let q = c.requires.query.0 in
     let h = c.requires.query.1 in
-    let l = leaves a b s t nodes q c.requires.ready (shaped_as (geometry_of a) s.geometry s.banks
-    c.requires.geometry (g.met.D.Dram.width c.args.dram.now c.requires.begun))
-    c.requires.program h checks ran in
-    let left = table_left a b s t nodes q h ran l in
+    let same = ap (map node_of) c.as_slice-nodes.ensures.value in
+    let k = asked a b s t nodes _ q _ c.table.ensures.laid c.requires.geometry
+    (g.met.D.Dram.width c.args.dram.now c.requires.begun) c.requires.program h same
+    (sym (check_says _ _ _ _ _ _ _ c.table.ensures.objects c.table-2.ensures.objects same
+    c.count_of-count.ensures c.check.ensures) ∙ c.in_default.is)
+    c.in_default-2.is c.in_ok-why.ensures.runs in
     let shown = c.geometry.ensures ∙ c.in_ok-why.ensures.kept.geometry ∙ c.requires.geometry in
     let object = c.last_object-object.ensures (table_in a)
-    (free_name (table_in a) (size q), l.object) (c.table-3.ensures.objects ∙ left) in
-    let last = last_is a b s t nodes q c.geometry.result c.last_object-object.result h ran l shown
-    object in
+    (free_name (table_in a) (size q), k.leaves.object) (c.table-3.ensures.objects ∙ k.left) in
+    let last = last_is a b s t nodes q c.geometry.result c.last_object-object.result
+    c.table-3.ensures.laid h k.ran k.leaves shown object in
     last.object
 
 pub ones_of-requires-clause-narrow : goal.ones_of-requires-clause-narrow
@@ -187,26 +162,19 @@ ones_of-requires-clause-narrow g c =
     let s = g.D.Dram.view c.args.dram.now in
     let t = g.D.Dram.view c.run_nodes.new.dram in
     let nodes = nodes_in c.args.query.now in
-    let same = ap (map node_of) c.as_slice-nodes.ensures.value in
-    let ran : NodesRan nodes a b s t = subst (λ (ns : List Node). NodesRan ns a b s t) same
-    (subst (λ r. NodesRun (map node_of c.as_slice-nodes.result.now) a b s t (Ok r))
-    c.in_default-2.is c.in_ok-why.ensures.runs) in
-    let checks : checked (table_in a) nodes ≡ None = sym (check_says (table_in a)
-    c.table.result.now.pairs c.table-2.result.now.pairs nodes
-    (map node_of c.as_slice-nodes.result.now) c.count_of-count.result c.check.result
-    c.table.ensures.objects c.table-2.ensures.objects same c.count_of-count.ensures
-    c.check.ensures) ∙ c.in_default.is in
     let q = c.requires.query.0 in
     let h = c.requires.query.1 in
-    let l = leaves a b s t nodes q c.requires.ready (shaped_as (geometry_of a) s.geometry s.banks
-    c.requires.geometry (g.met.D.Dram.width c.args.dram.now c.requires.begun))
-    c.requires.program h checks ran in
-    let left = table_left a b s t nodes q h ran l in
+    let same = ap (map node_of) c.as_slice-nodes.ensures.value in
+    let k = asked a b s t nodes _ q _ c.table.ensures.laid c.requires.geometry
+    (g.met.D.Dram.width c.args.dram.now c.requires.begun) c.requires.program h same
+    (sym (check_says _ _ _ _ _ _ _ c.table.ensures.objects c.table-2.ensures.objects same
+    c.count_of-count.ensures c.check.ensures) ∙ c.in_default.is)
+    c.in_default-2.is c.in_ok-why.ensures.runs in
     let shown = c.geometry.ensures ∙ c.in_ok-why.ensures.kept.geometry ∙ c.requires.geometry in
     let object = c.last_object-object.ensures (table_in a)
-    (free_name (table_in a) (size q), l.object) (c.table-3.ensures.objects ∙ left) in
-    let last = last_is a b s t nodes q c.geometry.result c.last_object-object.result h ran l shown
-    object in
+    (free_name (table_in a) (size q), k.leaves.object) (c.table-3.ensures.objects ∙ k.left) in
+    let last = last_is a b s t nodes q c.geometry.result c.last_object-object.result
+    c.table-3.ensures.laid h k.ran k.leaves shown object in
     last.narrow
 
 pub ones_of-requires-clause-room : goal.ones_of-requires-clause-room
@@ -236,7 +204,8 @@ overflow_sub-result g c =
     let ran : NodesRan nodes a b s t = subst (λ (ns : List Node). NodesRan ns a b s t) same
     (subst (λ r. NodesRun (map node_of c.as_slice-nodes.result.now) a b s t (Ok r))
     c.in_default-2.is c.in_ok-why.ensures.runs) in
-    let more = rises s.counters t.counters _ (counts_after a b s t nodes c.requires.ready ran) in
+    let more = rises s.counters t.counters _ (counts_after a b s t nodes c.table.ensures.laid ran)
+    in
     let first = ap (λ (k : Counters). k.aap) c.tally-before.ensures in
     let second = ap (λ (k : Counters). k.aap) c.tally-after.ensures in
     let less = more.0 in
@@ -253,7 +222,8 @@ overflow_sub-result-2 g c =
     let ran : NodesRan nodes a b s t = subst (λ (ns : List Node). NodesRan ns a b s t) same
     (subst (λ r. NodesRun (map node_of c.as_slice-nodes.result.now) a b s t (Ok r))
     c.in_default-2.is c.in_ok-why.ensures.runs) in
-    let more = rises s.counters t.counters _ (counts_after a b s t nodes c.requires.ready ran) in
+    let more = rises s.counters t.counters _ (counts_after a b s t nodes c.table.ensures.laid ran)
+    in
     let first = ap (λ (k : Counters). k.ap) c.tally-before.ensures in
     let second = ap (λ (k : Counters). k.ap) c.tally-after.ensures in
     let less = more.1 in
@@ -267,28 +237,21 @@ returns-clause-answer g c q h =
     let t = g.D.Dram.view c.run_nodes.new.dram in
     let nodes = nodes_in c.args.query.now in
     let same = ap (map node_of) c.as_slice-nodes.ensures.value in
-    let ran : NodesRan nodes a b s t = subst (λ (ns : List Node). NodesRan ns a b s t) same
-    (subst (λ r. NodesRun (map node_of c.as_slice-nodes.result.now) a b s t (Ok r))
-    c.in_default-2.is c.in_ok-why.ensures.runs) in
-    let checks : checked (table_in a) nodes ≡ None = sym (check_says (table_in a)
-    c.table.result.now.pairs c.table-2.result.now.pairs nodes
-    (map node_of c.as_slice-nodes.result.now) c.count_of-count.result c.check.result
-    c.table.ensures.objects c.table-2.ensures.objects same c.count_of-count.ensures
-    c.check.ensures) ∙ c.in_default.is in
-    let l = leaves a b s t nodes q c.requires.ready (shaped_as (geometry_of a) s.geometry s.banks
-    c.requires.geometry (g.met.D.Dram.width c.args.dram.now c.requires.begun))
-    c.requires.program h checks ran in
-    let left = table_left a b s t nodes q h ran l in
+    let k = asked a b s t nodes _ q _ c.table.ensures.laid c.requires.geometry
+    (g.met.D.Dram.width c.args.dram.now c.requires.begun) c.requires.program h same
+    (sym (check_says _ _ _ _ _ _ _ c.table.ensures.objects c.table-2.ensures.objects same
+    c.count_of-count.ensures c.check.ensures) ∙ c.in_default.is)
+    c.in_default-2.is c.in_ok-why.ensures.runs in
     let shown = c.geometry.ensures ∙ c.in_ok-why.ensures.kept.geometry ∙ c.requires.geometry in
     let object = c.last_object-object.ensures (table_in a)
-    (free_name (table_in a) (size q), l.object) (c.table-3.ensures.objects ∙ left) in
+    (free_name (table_in a) (size q), k.leaves.object) (c.table-3.ensures.objects ∙ k.left) in
     let counts : Counts = record {
       aap = c.tally-after.result.aap - c.tally-before.result.aap;
       ap = c.tally-after.result.ap - c.tally-before.result.ap;
     } in
     answer_done a b s t nodes q c.in_ok-found.found c.count_of-count.result counts
-    c.requires.ready h checks ran l
-    (ones_as (geometry_of a) c.geometry.result t.banks c.last_object-object.result l.object
+    c.table.ensures.laid h k.checks k.ran k.leaves
+    (ones_as (geometry_of a) c.geometry.result t.banks c.last_object-object.result k.leaves.object
     c.in_ok-found.found shown object c.in_ok-found.ensures.ones)
     (c.count_of-count.ensures
     ∙ ap (λ (p : List Named). count_of p (map node_of c.as_slice-nodes.result.now))
@@ -306,29 +269,22 @@ returns-clause-did g c done =
     let s = g.D.Dram.view c.args.dram.now in
     let t = g.D.Dram.view c.run_nodes.new.dram in
     let nodes = nodes_in c.args.query.now in
-    let same = ap (map node_of) c.as_slice-nodes.ensures.value in
-    let ran : NodesRan nodes a b s t = subst (λ (ns : List Node). NodesRan ns a b s t) same
-    (subst (λ r. NodesRun (map node_of c.as_slice-nodes.result.now) a b s t (Ok r))
-    c.in_default-2.is c.in_ok-why.ensures.runs) in
-    let checks : checked (table_in a) nodes ≡ None = sym (check_says (table_in a)
-    c.table.result.now.pairs c.table-2.result.now.pairs nodes
-    (map node_of c.as_slice-nodes.result.now) c.count_of-count.result c.check.result
-    c.table.ensures.objects c.table-2.ensures.objects same c.count_of-count.ensures
-    c.check.ensures) ∙ c.in_default.is in
     let q = c.requires.query.0 in
     let h = c.requires.query.1 in
-    let l = leaves a b s t nodes q c.requires.ready (shaped_as (geometry_of a) s.geometry s.banks
-    c.requires.geometry (g.met.D.Dram.width c.args.dram.now c.requires.begun))
-    c.requires.program h checks ran in
-    let left = table_left a b s t nodes q h ran l in
+    let same = ap (map node_of) c.as_slice-nodes.ensures.value in
+    let k = asked a b s t nodes _ q _ c.table.ensures.laid c.requires.geometry
+    (g.met.D.Dram.width c.args.dram.now c.requires.begun) c.requires.program h same
+    (sym (check_says _ _ _ _ _ _ _ c.table.ensures.objects c.table-2.ensures.objects same
+    c.count_of-count.ensures c.check.ensures) ∙ c.in_default.is)
+    c.in_default-2.is c.in_ok-why.ensures.runs in
     let shown = c.geometry.ensures ∙ c.in_ok-why.ensures.kept.geometry ∙ c.requires.geometry in
     let object = c.last_object-object.ensures (table_in a)
-    (free_name (table_in a) (size q), l.object) (c.table-3.ensures.objects ∙ left) in
+    (free_name (table_in a) (size q), k.leaves.object) (c.table-3.ensures.objects ∙ k.left) in
     let u = g.D.Dram.view c.ones_of.new.dram in
     let n = segments_of (geometry_of a) (count_of (table_in a) nodes) in
-    all_done a b s t u nodes n ran
+    all_done a b s t u nodes n k.ran
     (subst (λ k. DidRead k t u)
-    (reads_are a s nodes q c.geometry.result c.last_object-object.result h l shown object)
+    (reads_are a s nodes q c.geometry.result c.last_object-object.result h k.leaves shown object)
     c.in_ok-found.ensures.did)
 
 pub returns-clause-counted : goal.returns-clause-counted
@@ -338,33 +294,26 @@ returns-clause-counted g c =
     let s = g.D.Dram.view c.args.dram.now in
     let t = g.D.Dram.view c.run_nodes.new.dram in
     let nodes = nodes_in c.args.query.now in
-    let same = ap (map node_of) c.as_slice-nodes.ensures.value in
-    let ran : NodesRan nodes a b s t = subst (λ (ns : List Node). NodesRan ns a b s t) same
-    (subst (λ r. NodesRun (map node_of c.as_slice-nodes.result.now) a b s t (Ok r))
-    c.in_default-2.is c.in_ok-why.ensures.runs) in
-    let checks : checked (table_in a) nodes ≡ None = sym (check_says (table_in a)
-    c.table.result.now.pairs c.table-2.result.now.pairs nodes
-    (map node_of c.as_slice-nodes.result.now) c.count_of-count.result c.check.result
-    c.table.ensures.objects c.table-2.ensures.objects same c.count_of-count.ensures
-    c.check.ensures) ∙ c.in_default.is in
     let q = c.requires.query.0 in
     let h = c.requires.query.1 in
-    let l = leaves a b s t nodes q c.requires.ready (shaped_as (geometry_of a) s.geometry s.banks
-    c.requires.geometry (g.met.D.Dram.width c.args.dram.now c.requires.begun))
-    c.requires.program h checks ran in
-    let left = table_left a b s t nodes q h ran l in
+    let same = ap (map node_of) c.as_slice-nodes.ensures.value in
+    let k = asked a b s t nodes _ q _ c.table.ensures.laid c.requires.geometry
+    (g.met.D.Dram.width c.args.dram.now c.requires.begun) c.requires.program h same
+    (sym (check_says _ _ _ _ _ _ _ c.table.ensures.objects c.table-2.ensures.objects same
+    c.count_of-count.ensures c.check.ensures) ∙ c.in_default.is)
+    c.in_default-2.is c.in_ok-why.ensures.runs in
     let shown = c.geometry.ensures ∙ c.in_ok-why.ensures.kept.geometry ∙ c.requires.geometry in
     let object = c.last_object-object.ensures (table_in a)
-    (free_name (table_in a) (size q), l.object) (c.table-3.ensures.objects ∙ left) in
+    (free_name (table_in a) (size q), k.leaves.object) (c.table-3.ensures.objects ∙ k.left) in
     let u = g.D.Dram.view c.ones_of.new.dram in
     let n = segments_of (geometry_of a) (count_of (table_in a) nodes) in
     let counts : Counts = record {
       aap = c.tally-after.result.aap - c.tally-before.result.aap;
       ap = c.tally-after.result.ap - c.tally-before.result.ap;
     } in
-    counters_end a b s t u nodes n counts c.requires.ready ran
+    counters_end a b s t u nodes n counts c.table.ensures.laid k.ran
     (subst (λ k. DidRead k t u)
-    (reads_are a s nodes q c.geometry.result c.last_object-object.result h l shown object)
+    (reads_are a s nodes q c.geometry.result c.last_object-object.result h k.leaves shown object)
     c.in_ok-found.ensures.did)
     (ap (λ (k : Counters). k.aap - c.tally-before.result.aap) c.tally-after.ensures
     ∙ ap (λ (k : Counters). t.counters.aap - k.aap) c.tally-before.ensures)
@@ -389,9 +338,7 @@ returns-in-Some-2-clause-unused g c found refused =
     let a = c.args.machine.now in
     let nodes = nodes_in c.args.query.now in
     let same = ap (map node_of) c.as_slice-nodes.ensures.value in
-    let checks : checked (table_in a) nodes ≡ None = sym (check_says (table_in a)
-    c.table.result.now.pairs c.table-2.result.now.pairs nodes
-    (map node_of c.as_slice-nodes.result.now) c.count_of-count.result c.check.result
+    let checks : checked (table_in a) nodes ≡ None = sym (check_says _ _ _ _ _ _ _
     c.table.ensures.objects c.table-2.ensures.objects same c.count_of-count.ensures
     c.check.ensures) ∙ c.in_default.is in
     absurd (not_both (checked (table_in a) nodes) found refused checks)
@@ -401,9 +348,7 @@ returns-clause-unused g c found refused =
     let a = c.args.machine.now in
     let nodes = nodes_in c.args.query.now in
     let same = ap (map node_of) c.as_slice-nodes.ensures.value in
-    let checks : checked (table_in a) nodes ≡ None = sym (check_says (table_in a)
-    c.table.result.now.pairs c.table-2.result.now.pairs nodes
-    (map node_of c.as_slice-nodes.result.now) c.count_of-count.result c.check.result
+    let checks : checked (table_in a) nodes ≡ None = sym (check_says _ _ _ _ _ _ _
     c.table.ensures.objects c.table-2.ensures.objects same c.count_of-count.ensures
     c.check.ensures) ∙ c.in_default.is in
     absurd (not_both (checked (table_in a) nodes) found refused checks)
@@ -413,9 +358,7 @@ returns-in_err-why-clause-unused g c found refused =
     let a = c.args.machine.now in
     let nodes = nodes_in c.args.query.now in
     let same = ap (map node_of) c.as_slice-nodes.ensures.value in
-    let checks : checked (table_in a) nodes ≡ None = sym (check_says (table_in a)
-    c.table.result.now.pairs c.table-2.result.now.pairs nodes
-    (map node_of c.as_slice-nodes.result.now) c.count_of-count.result c.check.result
+    let checks : checked (table_in a) nodes ≡ None = sym (check_says _ _ _ _ _ _ _
     c.table.ensures.objects c.table-2.ensures.objects same c.count_of-count.ensures
     c.check.ensures) ∙ c.in_default.is in
     absurd (not_both (checked (table_in a) nodes) found refused checks)
@@ -425,9 +368,7 @@ returns-in_err-found-clause-unused g c found refused =
     let a = c.args.machine.now in
     let nodes = nodes_in c.args.query.now in
     let same = ap (map node_of) c.as_slice-nodes.ensures.value in
-    let checks : checked (table_in a) nodes ≡ None = sym (check_says (table_in a)
-    c.table.result.now.pairs c.table-2.result.now.pairs nodes
-    (map node_of c.as_slice-nodes.result.now) c.count_of-count.result c.check.result
+    let checks : checked (table_in a) nodes ≡ None = sym (check_says _ _ _ _ _ _ _
     c.table.ensures.objects c.table-2.ensures.objects same c.count_of-count.ensures
     c.check.ensures) ∙ c.in_default.is in
     absurd (not_both (checked (table_in a) nodes) found refused checks)
@@ -438,9 +379,7 @@ returns-in-Some-clause-stopped g c why k none refused =
     let nodes = nodes_in c.args.query.now in
     let same = ap (map node_of) c.as_slice-nodes.ensures.value in
     let checks : checked (table_in a) nodes ≡ Some (c.in-Some.why, c.in-Some.k) =
-    sym (check_says (table_in a)
-    c.table.result.now.pairs c.table-2.result.now.pairs nodes
-    (map node_of c.as_slice-nodes.result.now) c.count_of-count.result c.check.result
+    sym (check_says _ _ _ _ _ _ _
     c.table.ensures.objects c.table-2.ensures.objects same c.count_of-count.ensures
     c.check.ensures) ∙ c.in-Some.is in
     absurd (not_both (checked (table_in a) nodes) (c.in-Some.why, c.in-Some.k) checks none)

@@ -25,4 +25,4 @@ returns-in-None-clause-runs g c =
     (view c.args.dram.now) (view c.args.dram.now))
     (at_end script c.args.i (sym c.instruction.ensures.value
     ∙ ap (option_map view_of) c.in-None.is))
-    (ran_nothing c.args.machine.now (view c.args.dram.now) c.requires.ready)
+    (ran_nothing c.args.machine.now (view c.args.dram.now))

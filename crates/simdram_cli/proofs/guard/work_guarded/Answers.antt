@@ -5,7 +5,7 @@ use Rattle.object_alloc.specs.Exact.{found_in}
 use Rattle.bbop_isa.specs.Forms.{view_of}
 use Rattle.guard_job.specs.declared.scripts.Outcome.{Outcome}
 use Rattle.tmr_guard.specs.Steps.{machine_in}
-use Rattle.sim_machine.specs.Machine.{geometry_of, program_of, table_in, turn_in}
+use Rattle.sim_machine.specs.Machine.{geometry_of, table_in}
 use Rattle.cli_model.specs.World.{world}
 use Rattle.cli_model.specs.Steps.{Done, Stopped}
 use Rattle.simdram_cli.specs.Guard.{guard_job}
@@ -38,16 +38,13 @@ returns-in-Err-clause-goes g c =
     let b = world files (g.S.Sink.view c.args.out.now) start in
     let d = world files (g.S.Sink.view c.guard_script.new.out)
     (g.D.Dram.view c.guard_script.new.chip) in
-    let k : Begins job (geometry_of m) (program_of m) (table_in m) (turn_in m) start = record {
-      shape_is = ap geometry_of c.new-guard.ensures ∙ opened.shape;
-      program_is = ap program_of c.new-guard.ensures ∙ opened.program;
-      table_is = ap table_in c.new-guard.ensures ∙ opened.table;
-      turn_is = ap turn_in c.new-guard.ensures ∙ opened.turn;
+    let k : Begins job m start = record {
+      machine_is = c.new-guard.ensures ∙ opened.machine;
       opened_on = opened.opened;
     } in
     stopped_work Outcome c.args.name.now job c.in-Err.fault (reason_of c.fault_stop.result) a b d
     c.fault_stop.ensures (opened.goes files (g.S.Sink.view c.args.out.now))
-    (script_are job (geometry_of m) (program_of m) (table_in m) (turn_in m) start _ b d k
+    (script_are job m start _ b d k
     (c.in-Err.ensures.goes files))
 
 pub returns-in_err-finish_guarded-clause-goes : goal.returns-in_err-finish_guarded-clause-goes
@@ -69,16 +66,13 @@ returns-in_err-finish_guarded-clause-goes g c =
     let d = world files (g.S.Sink.view c.guard_script.new.out) now in
     let e = world (g.F.Folder.view c.finish_guarded.new.files)
     (g.S.Sink.view c.finish_guarded.new.out) (g.D.Dram.view c.finish_guarded.new.chip) in
-    let k : Begins job (geometry_of m) (program_of m) (table_in m) (turn_in m) start = record {
-      shape_is = ap geometry_of c.new-guard.ensures ∙ opened.shape;
-      program_is = ap program_of c.new-guard.ensures ∙ opened.program;
-      table_is = ap table_in c.new-guard.ensures ∙ opened.table;
-      turn_is = ap turn_in c.new-guard.ensures ∙ opened.turn;
+    let k : Begins job m start = record {
+      machine_is = c.new-guard.ensures ∙ opened.machine;
       opened_on = opened.opened;
     } in
     let w : Worked job (geometry_of last) (table_in last) now outcome.votes outcome.refused =
-    worked job (geometry_of m) (program_of m) (table_in m) (turn_in m) (geometry_of last)
-    (table_in last) start now outcome.votes outcome.refused k c.guard_script.ensures.shape (record {
+    worked job m (geometry_of last) (table_in last) start now outcome.votes outcome.refused k
+    (ap geometry_of c.guard_script.ensures.goes_on) (record {
       table_is = did.table;
       banks = did.banks;
       counters = did.counters;
@@ -88,7 +82,7 @@ returns-in_err-finish_guarded-clause-goes g c =
     }) in
     rw (p.1, p.2) (worked_on c.args.name.now job _ a b d e
     (opened.goes files (g.S.Sink.view c.args.out.now))
-    (script_are job (geometry_of m) (program_of m) (table_in m) (turn_in m) start Done b d k
+    (script_are job m start Done b d k
     (did.goes files))
     (last_are job (geometry_of last) (table_in last) now outcome.votes outcome.refused w
     c.args.name.now (Stopped (reason_of c.in_err-finish_guarded.field-0.0)) d e
@@ -111,16 +105,13 @@ returns-clause-goes g c =
     let d = world files (g.S.Sink.view c.guard_script.new.out) now in
     let e = world (g.F.Folder.view c.finish_guarded.new.files)
     (g.S.Sink.view c.finish_guarded.new.out) (g.D.Dram.view c.finish_guarded.new.chip) in
-    let k : Begins job (geometry_of m) (program_of m) (table_in m) (turn_in m) start = record {
-      shape_is = ap geometry_of c.new-guard.ensures ∙ opened.shape;
-      program_is = ap program_of c.new-guard.ensures ∙ opened.program;
-      table_is = ap table_in c.new-guard.ensures ∙ opened.table;
-      turn_is = ap turn_in c.new-guard.ensures ∙ opened.turn;
+    let k : Begins job m start = record {
+      machine_is = c.new-guard.ensures ∙ opened.machine;
       opened_on = opened.opened;
     } in
     let w : Worked job (geometry_of last) (table_in last) now outcome.votes outcome.refused =
-    worked job (geometry_of m) (program_of m) (table_in m) (turn_in m) (geometry_of last)
-    (table_in last) start now outcome.votes outcome.refused k c.guard_script.ensures.shape (record {
+    worked job m (geometry_of last) (table_in last) start now outcome.votes outcome.refused k
+    (ap geometry_of c.guard_script.ensures.goes_on) (record {
       table_is = did.table;
       banks = did.banks;
       counters = did.counters;
@@ -129,7 +120,7 @@ returns-clause-goes g c =
       refused_is = did.refused;
     }) in
     worked_on c.args.name.now job Done a b d e (opened.goes files (g.S.Sink.view c.args.out.now))
-    (script_are job (geometry_of m) (program_of m) (table_in m) (turn_in m) start Done b d k
+    (script_are job m start Done b d k
     (did.goes files))
     (last_are job (geometry_of last) (table_in last) now outcome.votes outcome.refused w
     c.args.name.now Done d e c.in_ok-finish_guarded.ensures.goes)
@@ -145,16 +136,13 @@ returns-clause-done g c =
     let outcome = c.in-Ok.outcome in
     let start = g.D.Dram.view c.open.new.chip in
     let now = g.D.Dram.view c.guard_script.new.chip in
-    let k : Begins job (geometry_of m) (program_of m) (table_in m) (turn_in m) start = record {
-      shape_is = ap geometry_of c.new-guard.ensures ∙ opened.shape;
-      program_is = ap program_of c.new-guard.ensures ∙ opened.program;
-      table_is = ap table_in c.new-guard.ensures ∙ opened.table;
-      turn_is = ap turn_in c.new-guard.ensures ∙ opened.turn;
+    let k : Begins job m start = record {
+      machine_is = c.new-guard.ensures ∙ opened.machine;
       opened_on = opened.opened;
     } in
     let w : Worked job (geometry_of last) (table_in last) now outcome.votes outcome.refused =
-    worked job (geometry_of m) (program_of m) (table_in m) (turn_in m) (geometry_of last)
-    (table_in last) start now outcome.votes outcome.refused k c.guard_script.ensures.shape (record {
+    worked job m (geometry_of last) (table_in last) start now outcome.votes outcome.refused k
+    (ap geometry_of c.guard_script.ensures.goes_on) (record {
       table_is = did.table;
       banks = did.banks;
       counters = did.counters;

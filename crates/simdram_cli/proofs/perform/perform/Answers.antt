@@ -7,11 +7,10 @@ use Rattle.cli_model.specs.World.{world}
 use Rattle.cli_model.specs.Steps.{Done, Stopped}
 use Rattle.simdram_cli.specs.Inputs.{image_found}
 use Rattle.simdram_cli.specs.Stops.{reason_of}
-use Rattle.sim_machine.specs.Machine.{geometry_of, program_of, table_in, turn_in}
-use Rattle.simdram_cli.proofs.Performing.{Worked, all_done, last_are, lines_are, own_events}
-use Rattle.simdram_cli.proofs.Performing.{own_refused, own_table, stopped_open, stopped_work}
-use Rattle.simdram_cli.proofs.Performing.{went_on}
-use Rattle.simdram_cli.proofs.Progress.{holds_of}
+use Rattle.sim_machine.specs.Machine.{geometry_of, table_in}
+use Rattle.simdram_cli.proofs.Performing.{Worked, all_done, last_are, lines_are, stopped_open}
+use Rattle.simdram_cli.proofs.Performing.{stopped_work, went_on, worked_by}
+use Rattle.simdram_cli.proofs.Progress.{holds_on}
 use Rattle.simdram_cli.proofs.perform.perform.Goals as goal
 
 pub returns-in_err-machine-clause-goes : goal.returns-in_err-machine-clause-goes
@@ -37,10 +36,9 @@ returns-in_err-refused-clause-goes g c =
     rw (p.1, p.2) (stopped_work c.args.name.now c.args.prog.programs
     (map view_of c.args.script.now) i _ a b d
     (c.in_ok-machine.ensures.goes files (g.S.Sink.view c.args.out.now))
-    (lines_are c.args.prog.programs (map view_of c.args.script.now) i _ _ _ _
-    (g.D.Dram.view c.open.new.chip).banks _ b d
-    c.in_ok-machine.ensures.shape c.in_ok-machine.ensures.program c.in_ok-machine.ensures.turn
-    c.in_ok-machine.ensures.table c.in_ok-machine.ensures.opened.banks
+    (lines_are c.args.prog.programs (map view_of c.args.script.now) i c.in_ok-machine.machine
+    (g.D.Dram.view c.open.new.chip).banks _ b d c.in_ok-machine.ensures.machine
+    c.in_ok-machine.ensures.opened.banks
     (c.in_err-refused.ensures.goes files)))
 
 pub returns-in_err-finish-clause-goes : goal.returns-in_err-finish-clause-goes
@@ -62,24 +60,15 @@ returns-in_err-finish-clause-goes g c =
     let e = world (g.F.Folder.view c.finish.new.files) (g.S.Sink.view c.finish.new.out)
     (g.D.Dram.view c.finish.new.chip) in
     let worked : Worked program script i (geometry_of last) (table_in last) start now
-    c.in_ok-refused.refused = record {
-      shape_is = c.work.ensures.shape ∙ opened.shape;
-      table_is = own_table program script i (geometry_of machine) (program_of machine)
-          (table_in machine) (table_in last) opened.shape opened.program opened.table
-          c.in_ok-refused.ensures.table;
-      holds = rw opened.table at (holds_of machine i.geometry opened.shape opened.ready);
-      opened_on = opened.opened;
-      did = own_events program script i (geometry_of machine) (program_of machine)
-          (table_in machine) (turn_in machine) start now opened.shape opened.program opened.table
-          opened.turn c.in_ok-refused.ensures.did;
-      refused_is = own_refused program script i (geometry_of machine) (program_of machine)
-          (table_in machine) c.in_ok-refused.refused opened.shape opened.program opened.table
-          c.in_ok-refused.ensures.refused;
-    } in
+    c.in_ok-refused.refused =
+    worked_by program script i machine last start now c.in_ok-refused.refused opened.machine
+    (holds_on c.args.image.geometry c.args.image.table c.requires.lies) opened.opened
+    c.work.ensures.goes_on c.in_ok-refused.ensures.table c.in_ok-refused.ensures.did
+    c.in_ok-refused.ensures.refused in
     rw (p.1, p.2) (went_on c.args.name.now program script i _ a b d e
     (opened.goes files (g.S.Sink.view c.args.out.now))
-    (lines_are program script i _ _ _ _ start.banks Done b d opened.shape opened.program opened.turn
-    opened.table opened.opened.banks (c.in_ok-refused.ensures.goes files))
+    (lines_are program script i machine start.banks Done b d opened.machine opened.opened.banks
+    (c.in_ok-refused.ensures.goes files))
     (last_are program script i (geometry_of last) (table_in last) start now
     c.in_ok-refused.refused worked c.args.name.now (Stopped (reason_of c.in_err-finish.field-0.0))
     d e c.in_err-finish.ensures.goes))
@@ -101,24 +90,15 @@ returns-clause-goes g c =
     let e = world (g.F.Folder.view c.finish.new.files) (g.S.Sink.view c.finish.new.out)
     (g.D.Dram.view c.finish.new.chip) in
     let worked : Worked program script i (geometry_of last) (table_in last) start now
-    c.in_ok-refused.refused = record {
-      shape_is = c.work.ensures.shape ∙ opened.shape;
-      table_is = own_table program script i (geometry_of machine) (program_of machine)
-          (table_in machine) (table_in last) opened.shape opened.program opened.table
-          c.in_ok-refused.ensures.table;
-      holds = rw opened.table at (holds_of machine i.geometry opened.shape opened.ready);
-      opened_on = opened.opened;
-      did = own_events program script i (geometry_of machine) (program_of machine)
-          (table_in machine) (turn_in machine) start now opened.shape opened.program opened.table
-          opened.turn c.in_ok-refused.ensures.did;
-      refused_is = own_refused program script i (geometry_of machine) (program_of machine)
-          (table_in machine) c.in_ok-refused.refused opened.shape opened.program opened.table
-          c.in_ok-refused.ensures.refused;
-    } in
+    c.in_ok-refused.refused =
+    worked_by program script i machine last start now c.in_ok-refused.refused opened.machine
+    (holds_on c.args.image.geometry c.args.image.table c.requires.lies) opened.opened
+    c.work.ensures.goes_on c.in_ok-refused.ensures.table c.in_ok-refused.ensures.did
+    c.in_ok-refused.ensures.refused in
     went_on c.args.name.now program script i Done a b d e
     (opened.goes files (g.S.Sink.view c.args.out.now))
-    (lines_are program script i _ _ _ _ start.banks Done b d opened.shape opened.program opened.turn
-    opened.table opened.opened.banks (c.in_ok-refused.ensures.goes files))
+    (lines_are program script i machine start.banks Done b d opened.machine opened.opened.banks
+    (c.in_ok-refused.ensures.goes files))
     (last_are program script i (geometry_of last) (table_in last) start now
     c.in_ok-refused.refused worked c.args.name.now Done d e c.in_ok-finish.ensures.goes)
 
@@ -139,20 +119,11 @@ returns-clause-done g c =
     let e = world (g.F.Folder.view c.finish.new.files) (g.S.Sink.view c.finish.new.out)
     (g.D.Dram.view c.finish.new.chip) in
     let worked : Worked program script i (geometry_of last) (table_in last) start now
-    c.in_ok-refused.refused = record {
-      shape_is = c.work.ensures.shape ∙ opened.shape;
-      table_is = own_table program script i (geometry_of machine) (program_of machine)
-          (table_in machine) (table_in last) opened.shape opened.program opened.table
-          c.in_ok-refused.ensures.table;
-      holds = rw opened.table at (holds_of machine i.geometry opened.shape opened.ready);
-      opened_on = opened.opened;
-      did = own_events program script i (geometry_of machine) (program_of machine)
-          (table_in machine) (turn_in machine) start now opened.shape opened.program opened.table
-          opened.turn c.in_ok-refused.ensures.did;
-      refused_is = own_refused program script i (geometry_of machine) (program_of machine)
-          (table_in machine) c.in_ok-refused.refused opened.shape opened.program opened.table
-          c.in_ok-refused.ensures.refused;
-    } in
+    c.in_ok-refused.refused =
+    worked_by program script i machine last start now c.in_ok-refused.refused opened.machine
+    (holds_on c.args.image.geometry c.args.image.table c.requires.lies) opened.opened
+    c.work.ensures.goes_on c.in_ok-refused.ensures.table c.in_ok-refused.ensures.did
+    c.in_ok-refused.ensures.refused in
     all_done program script i (geometry_of last) (table_in last) start now c.in_ok-refused.refused
     worked (g.D.Dram.view c.finish.new.chip) c.in_ok-finish.ensures.did
     (Kept-more start now (g.D.Dram.view c.finish.new.chip) c.work.ensures.kept c.finish.ensures.kept)

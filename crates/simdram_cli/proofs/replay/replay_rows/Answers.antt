@@ -1,4 +1,4 @@
-use Rattle.std.proofs.Common.{sym, ◌∙◌}
+use Rattle.std.proofs.Common.{ap, sym, ◌∙◌}
 use Rattle.std.proofs.lemmas.Result.{err_from_is_err_and}
 use Rattle.object_alloc.specs.Exact.{found_in}
 use Rattle.sim_machine.specs.Machine.{geometry_of}
@@ -60,7 +60,8 @@ returns-clause-done g c =
     events_done c.args.trace.now (image_found (found_in c.args.image))
     (geometry_of c.in_ok-machine.machine) (g.D.Dram.view c.open.new.chip)
     (g.D.Dram.view c.replay_events.new.dram) (g.D.Dram.view c.image_with.new.dram)
-    c.in_ok-machine.ensures.shape c.requires.same c.in_ok-machine.ensures.opened did read
+    (ap geometry_of c.in_ok-machine.ensures.machine) c.requires.same c.in_ok-machine.ensures.opened
+    did read
     c.replay_events.ensures.kept c.image_with.ensures.kept
 
 pub returns-clause-file : goal.returns-clause-file
@@ -72,5 +73,5 @@ returns-clause-file g c =
     file ∙ file_is c.args.trace.now (image_found (found_in c.args.image))
     (geometry_of c.in_ok-machine.machine) c.table.result.now.pairs (g.D.Dram.view c.open.new.chip)
     (g.D.Dram.view c.replay_events.new.dram)
-    (c.in_ok-machine.ensures.shape ∙ c.requires.same) c.table.ensures.objects
+    (ap geometry_of c.in_ok-machine.ensures.machine ∙ c.requires.same) c.table.ensures.objects
     c.in_ok-machine.ensures.opened did

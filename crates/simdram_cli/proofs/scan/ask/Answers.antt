@@ -1,4 +1,4 @@
-use Rattle.std.proofs.Common.{◌∙◌, List, sym, subst}
+use Rattle.std.proofs.Common.{◌∙◌, List, ap, sym, subst}
 use Rattle.std.proofs.lemmas.Result.{err_from_is_err_and}
 use Rattle.uprog_code.specs.Shape.{Microprogram}
 use Rattle.uprog_code.specs.Texts.{ImplementsAll}
@@ -11,13 +11,13 @@ use Rattle.simdram_cli.specs.Inputs.{image_found}
 use Rattle.simdram_cli.proofs.Scanning.{RanOn, asked_done, asked_failed, answer_moves, no_stage}
 use Rattle.simdram_cli.proofs.Scanning.{checks_are, not_opened, query_done, room_opened}
 use Rattle.simdram_cli.proofs.Stopping.{query_stopped, refused_moves}
-use Rattle.simdram_cli.proofs.Progress.{Holds, holds_of}
+use Rattle.simdram_cli.proofs.Progress.{Holds, holds_on}
 use Rattle.simdram_cli.proofs.scan.ask.Goals as goal
 
 pub run_query-requires-clause-program : goal.run_query-requires-clause-program
 run_query-requires-clause-program g c =
     subst (λ (p : List Microprogram). ImplementsAll p scan_text)
-    (sym c.in_ok-machine.ensures.program) c.requires.does.implements
+    (sym (ap program_of c.in_ok-machine.ensures.machine)) c.requires.does.implements
 
 pub run_query-requires-clause-room : goal.run_query-requires-clause-room
 run_query-requires-clause-room g c =
@@ -47,29 +47,33 @@ returns-in-Ok-run_query-clause-goes g c files sink t h =
     let new = g.D.Dram.view c.run_query.new.dram in
     let opened = c.in_ok-machine.ensures in
     let ran : RanOn program t i nodes (table_in machine) old new = record {
-      table_is = opened.table;
+      table_is = ap table_in opened.machine;
       nodes_are = h;
       opened_on = opened.opened;
       faults = c.run_query.ensures.kept.faults;
     } in
     let holds : Holds i.geometry i.table =
-    rw opened.table at (holds_of machine i.geometry opened.shape opened.ready) in
+    holds_on c.args.image.geometry c.args.image.table c.requires.lies in
+    let shape_is = ap geometry_of opened.machine in
+    let program_is = ap program_of opened.machine in
+    let turn_is = ap turn_in opened.machine in
     asked_done program t i nodes (table_in machine) files sink before old new c.run_query.result
     c.in-Ok-run_query.reply (geometry_of machine) ran (opened.goes files sink) c.in-Ok-run_query.is
-    opened.shape
-    (answer_moves program machine.prog.programs t i (geometry_of machine) old.banks
-    (table_in machine) _ opened.shape opened.program opened.opened.banks opened.table
+    shape_is
+    (answer_moves program (program_of machine) t i (geometry_of machine) old.banks
+    (table_in machine) _ shape_is program_is opened.opened.banks
+    (ap table_in opened.machine)
     (c.in-Ok-run_query.ensures.answer t h)) c.in-Ok-run_query.ensures.counted
     c.run_query.ensures.unused
     (λ is. query_done program (program_of machine) t i nodes (geometry_of machine) (table_in
     machine)
-    (turn_in machine) _ old new ran holds opened.shape opened.program opened.turn
+    (turn_in machine) _ old new ran holds shape_is program_is turn_is
     (c.in-Ok-run_query.ensures.did is))
     c.run_query.ensures.kept
     (λ reason k none refused. query_stopped program t i nodes machine reason old new ran holds
-    opened.shape opened.program opened.turn (c.in-Ok-run_query.ensures.stopped reason k
+    shape_is program_is turn_is (c.in-Ok-run_query.ensures.stopped reason k
     (sym (checks_are program t i nodes (table_in machine) old new ran) ∙ none)
-    (refused_moves program t i nodes machine old new ran opened.shape opened.program ∙ refused)))
+    (refused_moves program t i nodes machine old new ran shape_is program_is ∙ refused)))
 
 pub returns-clause-goes : goal.returns-clause-goes
 returns-clause-goes g c files sink t h =
@@ -82,7 +86,7 @@ returns-clause-goes g c files sink t h =
     let new = g.D.Dram.view c.run_query.new.dram in
     let opened = c.in_ok-machine.ensures in
     let ran : RanOn program t i nodes (table_in machine) old new = record {
-      table_is = opened.table;
+      table_is = ap table_in opened.machine;
       nodes_are = h;
       opened_on = opened.opened;
       faults = c.run_query.ensures.kept.faults;

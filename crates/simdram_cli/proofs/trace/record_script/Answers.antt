@@ -31,7 +31,7 @@ returns-in_err-refused-clause-recorded g c program i o =
     let same : from ≡ record old { log = Some empty_log } =
     c.mark.ensures.shown ∙ ap (λ d. let v : ChipView = record (g.D.Dram.view d)
     { log = Some empty_log } in v) c.new-recorder.ensures.chip in
-    let started = started_at program i machine old from o c.requires.ready same in
+    let started = started_at program i machine old from o same in
     moved g.D.Dram.view _ last.dram.now (λ v. ScriptRecorded names program script i
     (world files out old) (world after sent v) c.from_residual.result)
     (search rules) (rw (p.1, p.2) (first_failed names program script i _ machine files out old
@@ -59,7 +59,6 @@ returns-then-not-spell_trace-clause-recorded g c program i o =
     { log = Some empty_log } in v) c.new-recorder.ensures.chip in
     let done : FirstDone names script machine files out old from (g.D.Dram.view last.dram.now)
     last.notes.now after sent c.in_ok-refused.refused = record {
-      ready = c.requires.ready;
       plain = c.requires.plain;
       same = same;
       kept = c.work_to_image.ensures.kept;
@@ -95,7 +94,6 @@ returns-then-is_err-clause-recorded g c program i o =
     { log = Some empty_log } in v) c.new-recorder.ensures.chip in
     let done : FirstDone names script machine files out old from (g.D.Dram.view last.dram.now)
     last.notes.now after sent c.in_ok-refused.refused = record {
-      ready = c.requires.ready;
       plain = c.requires.plain;
       same = same;
       kept = c.work_to_image.ensures.kept;
@@ -148,7 +146,6 @@ returns-clause-recorded g c program i o =
     { log = Some empty_log } in v) c.new-recorder.ensures.chip in
     let done : FirstDone names script machine files out old from (g.D.Dram.view last.dram.now)
     last.notes.now after sent c.in_ok-refused.refused = record {
-      ready = c.requires.ready;
       plain = c.requires.plain;
       same = same;
       kept = c.work_to_image.ensures.kept;

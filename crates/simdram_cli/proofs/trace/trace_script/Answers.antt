@@ -35,10 +35,7 @@ returns-in_err-refused-clause-traced g c =
       legal = c.requires.legal;
       shape = c.requires.lies.geometry;
       fits = table_fits c.args.image.geometry c.args.image.table c.requires.lies;
-      shape_is = opened.shape;
-      program_is = opened.program;
-      table_is = opened.table;
-      turn_is = opened.turn;
+      machine_is = opened.machine;
       opened_on = opened.opened;
     } in
     rw (p.1, p.2) (not_recorded c.args.names.now program script i _
@@ -61,10 +58,7 @@ returns-then-is_err-clause-traced g c =
       legal = c.requires.legal;
       shape = c.requires.lies.geometry;
       fits = table_fits c.args.image.geometry c.args.image.table c.requires.lies;
-      shape_is = opened.shape;
-      program_is = opened.program;
-      table_is = opened.table;
-      turn_is = opened.turn;
+      machine_is = opened.machine;
       opened_on = opened.opened;
     } in
     total_unsent c.args.names.now program script i c.in_ok-refused.refused
@@ -91,10 +85,7 @@ returns-clause-traced g c =
       legal = c.requires.legal;
       shape = c.requires.lies.geometry;
       fits = table_fits c.args.image.geometry c.args.image.table c.requires.lies;
-      shape_is = opened.shape;
-      program_is = opened.program;
-      table_is = opened.table;
-      turn_is = opened.turn;
+      machine_is = opened.machine;
       opened_on = opened.opened;
     } in
     total_sent c.args.names.now program script i c.in_ok-refused.refused

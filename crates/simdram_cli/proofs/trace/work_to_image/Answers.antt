@@ -1,8 +1,8 @@
-use Rattle.std.proofs.Common.{map, sym, ◌∙◌}
+use Rattle.std.proofs.Common.{ap, map, sym, ◌∙◌}
 use Rattle.std.proofs.lemmas.Result.{err_from_is_err_and}
 use Rattle.bbop_isa.specs.Forms.{view_of}
 use Rattle.dram_model.proofs.EventLaws.{Kept-more}
-use Rattle.sim_machine.specs.Machine.{geometry_of}
+use Rattle.sim_machine.specs.Machine.{geometry_of, table_in}
 use Rattle.cli_model.specs.World.{world}
 use Rattle.cli_model.specs.Steps.{CannotWrite, ChipFailed, Done, Stopped}
 use Rattle.simdram_cli.specs.Tracing.{image_on}
@@ -74,12 +74,13 @@ pub returns-clause-did : goal.returns-clause-did
 returns-clause-did g c =
     did_all c.args.machine.now (map view_of c.args.script.now)
     (geometry_of c.work.new.machine) (g.D.Dram.view c.args.chip.now)
-    (g.D.Dram.view c.work.new.chip) (g.D.Dram.view c.image.new.dram) c.work.ensures.shape
+    (g.D.Dram.view c.work.new.chip) (g.D.Dram.view c.image.new.dram)
+    (ap geometry_of c.work.ensures.goes_on)
     c.in_ok-refused.ensures.did (at_ok c.image.result (sym c.is_err.ensures.value
     ∙ c.if-is_err.false) c.image.ensures.did)
 
 pub returns-clause-table : goal.returns-clause-table
-returns-clause-table g c = c.image.ensures.table ∙ c.in_ok-refused.ensures.table
+returns-clause-table g c = ap table_in c.image.ensures.same ∙ c.in_ok-refused.ensures.table
 
 pub returns-clause-goes : goal.returns-clause-goes
 returns-clause-goes g c =
@@ -93,7 +94,8 @@ returns-clause-goes g c =
     let machine = c.args.machine.now in
     let file = at_ok c.image.result (sym c.is_err.ensures.value
     ∙ c.if-is_err.false) c.image.ensures.file in
-    let is = image_is_on machine c.work.new.machine script start mid c.work.ensures.shape
+    let is = image_is_on machine c.work.new.machine script start mid
+    (ap geometry_of c.work.ensures.goes_on)
     c.in_ok-refused.ensures.table c.in_ok-refused.ensures.did.banks in
     let there = at_ok c.store.result (sym c.is_err-2.ensures.value
     ∙ c.if-is_err-2.false) c.store.ensures.stored in

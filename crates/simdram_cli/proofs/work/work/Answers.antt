@@ -1,10 +1,11 @@
-use Rattle.std.proofs.Common.{◌+◌, ◌<◌, arith, length, ◌∙◌, map, drop}
+use Rattle.std.proofs.Common.{◌+◌, ◌<◌, ap, arith, length, ◌∙◌, map, drop}
 use Rattle.std.proofs.lemmas.Result.{err_from_is_err_and}
 use Rattle.std.proofs.lemmas.List.{drop_all, length-drop, length-map}
 use Rattle.bbop_isa.specs.Forms.{view_of}
 use Rattle.cli_model.specs.World.{world}
 use Rattle.dram_model.proofs.EventLaws.{Kept-more}
 use Rattle.sim_machine.specs.Machine.{geometry_of, operations_by, program_of, table_in, turn_in}
+use Rattle.sim_machine.proofs.Keeping.{goes_more}
 use Rattle.simdram_cli.specs.Works.{next_piece}
 use Rattle.simdram_cli.proofs.Piecewise.{begins, did_none, stops_piece}
 use Rattle.simdram_cli.proofs.Progress.{did_goes, goes_goes, holds_of, left_is, plain_left}
@@ -30,16 +31,18 @@ pieces-preserved g c =
     let front = rw c.split_at.ensures.back at c.in_ok-taken.ensures.done in
     let count = rw c.split_at.ensures.back at c.in_ok-taken.ensures.taken in
     let left = left_is script done taken.instrs count in
+    let shape_is = ap geometry_of c.pieces.invariant.goes_on in
+    let program_is = ap program_of c.pieces.invariant.goes_on in
     let step = step_of before after shape program (next_piece rest) now next taken.refused
-    c.pieces.invariant.shape_is c.pieces.invariant.program front in
-    let holds = holds_of before shape c.pieces.invariant.shape_is c.pieces.invariant.ready in
+    shape_is program_is front in
+    let holds = rw shape_is at (holds_of (geometry_of before) (table_in before) front.laid.shape
+    front.laid.table) in
     let within = rw c.split_at.ensures.back at c.in_ok-taken.ensures.within in
     record {
       within = omega (arith, within, size);
       few = omega (arith, c.in_ok-taken.ensures.few, c.pieces.invariant.few);
-      program = c.work_piece.ensures.program ∙ c.pieces.invariant.program;
-      shape_is = c.work_piece.ensures.shape ∙ c.pieces.invariant.shape_is;
-      ready = front.ready;
+      goes_on = goes_more c.args.machine.now before after c.pieces.invariant.goes_on
+          c.work_piece.ensures.goes_on;
       borrow = c.work_piece.ensures.borrow ∙ c.pieces.invariant.borrow;
       kept = Kept-more start now next c.pieces.invariant.kept c.work_piece.ensures.kept;
       rises = rises_more _ _ _ start.counters now.counters next.counters
@@ -60,8 +63,8 @@ pieces-preserved g c =
           (g.S.Sink.view c.work_piece.new.out) end w count holds
           (rw (
             c.split_at.ensures.back,
-            c.pieces.invariant.shape_is,
-            c.pieces.invariant.program,
+            shape_is,
+            program_is,
           ) at (c.in_ok-taken.ensures.goes files)) more);
     }
 
@@ -83,8 +86,8 @@ returns-in_err-taken-clause-goes g c files =
     (world files (g.S.Sink.view c.work_piece.new.out) (g.D.Dram.view c.work_piece.new.chip))
     (rw (
       c.split_at.ensures.back,
-      c.pieces.invariant.shape_is,
-      c.pieces.invariant.program,
+      ap geometry_of c.pieces.invariant.goes_on,
+      ap program_of c.pieces.invariant.goes_on,
     ) at (c.in_err-taken.ensures.goes files)))))
 
 pub returns-clause-did : goal.returns-clause-did

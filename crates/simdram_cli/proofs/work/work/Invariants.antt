@@ -9,7 +9,7 @@ use Rattle.machine_model.specs.Pieces.{events_of_pieces, pieces}
 use Rattle.machine_model.specs.Script.{is_refused, replies, rows_printed, sum_done, table_at_end}
 use Rattle.cli_model.specs.World.{World, world}
 use Rattle.cli_model.specs.Steps.{Goes, End}
-use Rattle.sim_machine.specs.Machine.{IsReady, geometry_of, operations_by, program_of, table_in}
+use Rattle.sim_machine.specs.Machine.{GoesOn, geometry_of, operations_by, table_in}
 use Rattle.sim_machine.specs.Machine.{turn_in}
 use Rattle.object_steps.specs.Objects.{RisesAtMost}
 use Rattle.sim_machine.specs.Steps.{DidAndRead}
@@ -31,9 +31,7 @@ invariant-pieces g l =
     record {
       within : l.done ≤ length l.script;
       few : l.refused ≤ l.done;
-      program : program_of l.machine ≡ program_of l.initial.machine;
-      shape_is : geometry_of l.machine ≡ shape;
-      ready : IsReady l.machine;
+      goes_on : GoesOn l.initial.machine l.machine;
       borrow : g.D.Dram.borrow l.chip ≡ g.D.Dram.borrow l.initial.chip;
       kept : Kept start now;
       rises : RisesAtMost (256 * WALK_MAX * l.done) start.counters now.counters;

@@ -16,8 +16,8 @@ returns-in-Ok-clause-done g c =
     c.requires.bbops in
     record {
       turn = c.in-Ok.ensures.turn;
-      table = c.wave.ensures.table ∙ sym answered.tables;
-      ready = c.in-Ok.ensures.ready;
+      table = ap table_in c.wave.ensures.same ∙ sym answered.tables;
+      laid = c.wave.ensures.laid;
       did = wave_did (geometry_of m) (operations_by m) (table_in m) wave _
           (g.D.Dram.view c.args.chip.now) (g.D.Dram.view c.wave.new.dram) c.requires.bbops
           c.in-Ok.ensures.did;

@@ -1,11 +1,11 @@
-use Rattle.std.proofs.Common.{◌≡◌, ◌∙◌, ap, arith, length, refl, subst, sym}
+use Rattle.sim_machine.specs.Shown.{state_of}
+use Rattle.std.proofs.Common.{◌≡◌, ◌∙◌, ap, refl, subst, sym}
 use Rattle.dram_model.proofs.EventLaws.{Kept-same}
 use Rattle.std.specs.Prelude.{IfOk, OnOk}
 use Rattle.dram_model.specs.View.{Did}
 use Rattle.bbop_isa.specs.Forms.{Instruction, Fill, Load, view_of}
 use Rattle.object_steps.specs.Objects.{events_alone}
 use Rattle.sim_machine.specs.Machine.{geometry_of, operations_by, reply_of, table_in}
-use Rattle.sim_machine.proofs.Rows.{stage_kept}
 use Rattle.sim_machine.proofs.machine.Machine.answer.Goals as goal
 
 pub returns-in-Load-clause-borrow : goal.returns-in-Load-clause-borrow
@@ -14,40 +14,11 @@ returns-in-Load-clause-borrow g c = c.load.ensures.borrow
 pub returns-in-Load-clause-kept : goal.returns-in-Load-clause-kept
 returns-in-Load-clause-kept g c = c.load.ensures.kept
 
-pub returns-in-Load-clause-program : goal.returns-in-Load-clause-program
-returns-in-Load-clause-program g c = refl
-
-pub returns-in-Load-clause-shape : goal.returns-in-Load-clause-shape
-returns-in-Load-clause-shape g c = refl
-
-pub returns-in-Load-clause-table : goal.returns-in-Load-clause-table
-returns-in-Load-clause-table g c = refl
-
 pub returns-in-Fill-clause-borrow : goal.returns-in-Fill-clause-borrow
 returns-in-Fill-clause-borrow g c = c.fill.ensures.borrow
 
 pub returns-in-Fill-clause-kept : goal.returns-in-Fill-clause-kept
 returns-in-Fill-clause-kept g c = c.fill.ensures.kept
-
-pub returns-in-Fill-clause-program : goal.returns-in-Fill-clause-program
-returns-in-Fill-clause-program g c = refl
-
-pub returns-in-Fill-clause-shape : goal.returns-in-Fill-clause-shape
-returns-in-Fill-clause-shape g c = refl
-
-pub returns-in-Fill-clause-table : goal.returns-in-Fill-clause-table
-returns-in-Fill-clause-table g c = refl
-
-pub returns-in-Load-clause-ready : goal.returns-in-Load-clause-ready
-returns-in-Load-clause-ready g c = record {
-  set = c.requires.ready.set;
-  stage = stage_kept _ _ _ _ (c.load.ensures.stage ∙ ap length c.deref_mut.ensures.value)
-      (omega (arith, c.args.self.now.stage.ok.0)) c.requires.ready.stage;
-  room = c.requires.ready.room;
-}
-
-pub returns-in-Fill-clause-ready : goal.returns-in-Fill-clause-ready
-returns-in-Fill-clause-ready g c = c.requires.ready
 
 pub returns-in-Order-clause-borrow : goal.returns-in-Order-clause-borrow
 returns-in-Order-clause-borrow g c = refl
@@ -55,54 +26,38 @@ returns-in-Order-clause-borrow g c = refl
 pub returns-in-Order-clause-kept : goal.returns-in-Order-clause-kept
 returns-in-Order-clause-kept g c = Kept-same (g.D.Dram.view c.args.dram.now)
 
-pub returns-in-Order-clause-program : goal.returns-in-Order-clause-program
-returns-in-Order-clause-program g c = refl
-
-pub returns-in-Order-clause-shape : goal.returns-in-Order-clause-shape
-returns-in-Order-clause-shape g c = refl
-
-pub returns-in-Order-clause-table : goal.returns-in-Order-clause-table
-returns-in-Order-clause-table g c = refl
-
-pub returns-in-Order-clause-ready : goal.returns-in-Order-clause-ready
-returns-in-Order-clause-ready g c = record {
-  set = c.requires.ready.set;
-  stage = c.requires.ready.stage;
-  room = c.requires.ready.room;
-}
-
 pub returns-in-Load-clause-reply : goal.returns-in-Load-clause-reply
-returns-in-Load-clause-reply g c =
-    let m = c.args.self.now in
+returns-in-Load-clause-reply g c = rw (← c.self.view_is) (
+    let m = (state_of c.self.inside) in
     let is : view_of c.args.instr.now ≡ Load c.in-Load.name c.as_slice.result.now =
     ap view_of c.in-Load.is ∙ ap (Load c.in-Load.name) (sym c.as_slice.ensures.value) in
     subst (λ (i : Instruction). IfOk c.load.result (λ reply. reply ≡ reply_of m i)) (sym is)
-    (c.load.ensures.reply (operations_by m))
+    (c.load.ensures.reply (operations_by m)))
 
 pub returns-in-Load-clause-did : goal.returns-in-Load-clause-did
-returns-in-Load-clause-did g c =
-    let m = c.args.self.now in
+returns-in-Load-clause-did g c = rw (← c.self.view_is) (
+    let m = (state_of c.self.inside) in
     let V = g.D.Dram.view in
     let is : view_of c.args.instr.now ≡ Load c.in-Load.name c.as_slice.result.now =
     ap view_of c.in-Load.is ∙ ap (Load c.in-Load.name) (sym c.as_slice.ensures.value) in
     subst (λ (i : Instruction). OnOk c.load.result (Did (events_alone (geometry_of m)
     (operations_by m) (table_in m) i) (V c.args.dram.now) (V c.load.new.dram))) (sym is)
-    (c.load.ensures.did (operations_by m))
+    (c.load.ensures.did (operations_by m)))
 
 pub returns-in-Fill-clause-reply : goal.returns-in-Fill-clause-reply
-returns-in-Fill-clause-reply g c =
-    let m = c.args.self.now in
+returns-in-Fill-clause-reply g c = rw (← c.self.view_is) (
+    let m = (state_of c.self.inside) in
     let is : view_of c.args.instr.now ≡ Fill c.in-Fill.name c.in-Fill.value =
     ap view_of c.in-Fill.is in
     subst (λ (i : Instruction). IfOk c.fill.result (λ reply. reply ≡ reply_of m i)) (sym is)
-    (c.fill.ensures.reply (operations_by m))
+    (c.fill.ensures.reply (operations_by m)))
 
 pub returns-in-Fill-clause-did : goal.returns-in-Fill-clause-did
-returns-in-Fill-clause-did g c =
-    let m = c.args.self.now in
+returns-in-Fill-clause-did g c = rw (← c.self.view_is) (
+    let m = (state_of c.self.inside) in
     let V = g.D.Dram.view in
     let is : view_of c.args.instr.now ≡ Fill c.in-Fill.name c.in-Fill.value =
     ap view_of c.in-Fill.is in
     subst (λ (i : Instruction). OnOk c.fill.result (Did (events_alone (geometry_of m)
     (operations_by m) (table_in m) i) (V c.args.dram.now) (V c.fill.new.dram))) (sym is)
-    (c.fill.ensures.did (operations_by m))
+    (c.fill.ensures.did (operations_by m)))

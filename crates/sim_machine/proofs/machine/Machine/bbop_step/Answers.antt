@@ -10,10 +10,7 @@ returns-in-Err-clause-went g c =
     record {
       kept = c.wave.ensures.kept;
       sink_faults = c.wave.ensures.sink_faults;
-      program = c.wave.ensures.program;
-      shape = c.wave.ensures.shape;
-      ready = c.wave.ensures.ready;
-      comes = bbop_failed _ _ _ _ _ _ _ _ _ is c.requires.bbop c.in-Err.fault c.in-Err.ensures.table
+      comes = bbop_failed _ _ _ _ _ _ _ _ _ c.wave.ensures.same is c.requires.bbop c.in-Err.fault
           (λ e. c.in-Err.ensures.turn_unsent (ap Err e))
           (λ e. c.in-Err.ensures.stopped (ap Err e)) (λ e. c.in-Err.ensures.unsent (ap Err e))
           (λ e. c.in-Err.ensures.done (ap Err e)) (λ e. c.in-Err.ensures.write_fault (ap Err e))
@@ -26,10 +23,7 @@ returns-in-Ok-clause-went g c =
     record {
       kept = c.wave.ensures.kept;
       sink_faults = c.wave.ensures.sink_faults;
-      program = c.wave.ensures.program;
-      shape = c.wave.ensures.shape;
-      ready = c.wave.ensures.ready;
-      comes = bbop_done _ _ _ _ _ _ _ _ _ is c.requires.bbop c.as_slice.result.now _
-          c.in-Ok.ensures.table (c.as_slice.ensures.value ∙ c.in-Ok.ensures.replies)
+      comes = bbop_done _ _ _ _ _ _ _ _ _ c.wave.ensures.same is c.requires.bbop
+          c.as_slice.result.now _ (c.as_slice.ensures.value ∙ c.in-Ok.ensures.replies)
           c.in-Ok.ensures.turn c.in-Ok.ensures.did c.in-Ok.ensures.sent;
     }

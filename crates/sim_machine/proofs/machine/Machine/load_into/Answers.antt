@@ -1,6 +1,13 @@
-use Rattle.std.proofs.Common.{ap, arith, length, refl, ◌∙◌}
+use Rattle.std.proofs.Common.{◌≡◌, subst}
+use Rattle.std.specs.Prelude.{IfOk, OnOk, OnErr}
+use Rattle.dram_model.specs.View.{Did}
+use Rattle.dram_model.specs.Elements.{FailedBelow}
+use Rattle.bbop_isa.specs.Forms.{Load}
+use Rattle.machine_model.specs.Pieces.{Alone}
+use Rattle.sim_machine.specs.State.{State}
+use Rattle.sim_machine.specs.Machine.{banks_by, events_by, reply_of}
+use Rattle.sim_machine.specs.Shown.{state_of}
 use Rattle.sim_machine.specs.Machine.{operations_by}
-use Rattle.sim_machine.proofs.Rows.{stage_kept}
 use Rattle.sim_machine.proofs.machine.Machine.load_into.Goals as goal
 
 pub returns-clause-borrow : goal.returns-clause-borrow
@@ -13,30 +20,19 @@ pub returns-clause-rises : goal.returns-clause-rises
 returns-clause-rises g c = c.load.ensures.rises
 
 pub returns-clause-failed : goal.returns-clause-failed
-returns-clause-failed g c = c.load.ensures.failed
-
-pub returns-clause-program : goal.returns-clause-program
-returns-clause-program g c = refl
-
-pub returns-clause-shape : goal.returns-clause-shape
-returns-clause-shape g c = refl
-
-pub returns-clause-table : goal.returns-clause-table
-returns-clause-table g c = refl
-
-pub returns-clause-turn : goal.returns-clause-turn
-returns-clause-turn g c = refl
-
-pub returns-clause-ready : goal.returns-clause-ready
-returns-clause-ready g c = record {
-  set = c.requires.ready.set;
-  stage = stage_kept _ _ _ _ (c.load.ensures.stage ∙ ap length c.deref_mut.ensures.value)
-      (omega (arith, c.args.self.now.stage.ok.0)) c.requires.ready.stage;
-  room = c.requires.ready.room;
-}
+returns-clause-failed g c =
+    subst (λ (m : State). OnErr c.load.result (FailedBelow (banks_by m (Load c.args.name.now
+    c.args.values.now)) (g.D.Dram.view c.args.dram.now) (g.D.Dram.view c.load.new.dram)))
+    c.self.view_is c.load.ensures.failed
 
 pub returns-clause-reply : goal.returns-clause-reply
-returns-clause-reply g c = c.load.ensures.reply (operations_by c.args.self.now)
+returns-clause-reply g c =
+    subst (λ (m : State). IfOk c.load.result (λ reply. reply ≡ reply_of m (Load c.args.name.now
+    c.args.values.now))) c.self.view_is
+    (c.load.ensures.reply (operations_by (state_of c.self.inside)))
 
 pub returns-clause-did : goal.returns-clause-did
-returns-clause-did g c = c.load.ensures.did (operations_by c.args.self.now)
+returns-clause-did g c =
+    subst (λ (m : State). OnOk c.load.result (Did (events_by m (Alone (Load c.args.name.now
+    c.args.values.now))) (g.D.Dram.view c.args.dram.now) (g.D.Dram.view c.load.new.dram)))
+    c.self.view_is (c.load.ensures.did (operations_by (state_of c.self.inside)))

@@ -1,5 +1,4 @@
-use Rattle.std.proofs.Common.{ap, arith, refl}
-use Rattle.uprog_bin.specs.Opened.{File}
+use Rattle.std.proofs.Common.{arith, refl}
 use Rattle.sim_machine.proofs.machine.Machine.open.Goals as goal
 
 pub returns-clause-borrow : goal.returns-clause-borrow
@@ -10,18 +9,6 @@ returns-clause-faults g c = c.begin.ensures.faults
 
 pub returns-clause-opened : goal.returns-clause-opened
 returns-clause-opened g c = c.in_ok-begin.ensures.opened
-
-pub returns-clause-program : goal.returns-clause-program
-returns-clause-program g c = ap (λ (f : File). f.programs) c.in_ok-prog.ensures.program
-
-pub returns-clause-shape : goal.returns-clause-shape
-returns-clause-shape g c = refl
-
-pub returns-clause-table : goal.returns-clause-table
-returns-clause-table g c = refl
-
-pub returns-clause-turn : goal.returns-clause-turn
-returns-clause-turn g c = refl
 
 pub returns-in_err-stage-clause-borrow : goal.returns-in_err-stage-clause-borrow
 returns-in_err-stage-clause-borrow g c = refl

@@ -1,6 +1,9 @@
+use Rattle.std.proofs.Common.{ap}
 use Rattle.bbop_isa.specs.Forms.{view_of}
-use Rattle.sim_machine.specs.Machine.{geometry_of, program_of, turn_in}
-use Rattle.sim_machine.proofs.Comings.{when_answered, when_chip, when_err, when_ok, when_sink}
+use Rattle.sim_machine.specs.Machine.{turn_in}
+use Rattle.sim_machine.proofs.Comings.{goes, when_answered, when_chip, when_err, when_ok}
+use Rattle.sim_machine.proofs.Comings.{when_sink}
+use Rattle.sim_machine.proofs.Keeping.{laid_of, turned}
 use Rattle.sim_machine.proofs.Rising.{instr_rises}
 use Rattle.sim_machine.proofs.machine.Machine.step.Goals as goal
 
@@ -13,28 +16,20 @@ returns-clause-kept g c = c.step_of.ensures.went.kept
 pub returns-clause-sink_faults : goal.returns-clause-sink_faults
 returns-clause-sink_faults g c = c.step_of.ensures.went.sink_faults
 
-pub returns-clause-program : goal.returns-clause-program
-returns-clause-program g c = c.step_of.ensures.went.program
-
-pub returns-clause-shape : goal.returns-clause-shape
-returns-clause-shape g c = c.step_of.ensures.went.shape
-
-pub returns-clause-ready : goal.returns-clause-ready
-returns-clause-ready g c = c.step_of.ensures.went.ready
+pub returns-clause-goes_on : goal.returns-clause-goes_on
+returns-clause-goes_on g c = goes _ _ _ _ _ _ _ _ c.step_of.result c.step_of.ensures.went.comes
 
 pub returns-clause-reply : goal.returns-clause-reply
 returns-clause-reply g c =
     when_answered _ _ _ _ _ _ _ _ c.step_of.result c.step_of.ensures.went.comes
 
-pub returns-clause-table : goal.returns-clause-table
-returns-clause-table g c =
-    when_ok _ _ _ _ _ _ _ _ c.step_of.result (λ reply h. h.table)
+pub returns-clause-machine : goal.returns-clause-machine
+returns-clause-machine g c =
+    when_ok _ _ _ _ _ _ _ _ c.step_of.result (λ reply h. h.machine)
     c.step_of.ensures.went.comes
 
-pub returns-clause-turn : goal.returns-clause-turn
-returns-clause-turn g c =
-    when_ok _ _ _ _ _ _ _ _ c.step_of.result (λ reply h. h.turn)
-    c.step_of.ensures.went.comes
+pub returns-clause-laid : goal.returns-clause-laid
+returns-clause-laid g c = laid_of c.self.inside _ c.self.invariant.set c.self.view_is
 
 pub returns-clause-did : goal.returns-clause-did
 returns-clause-did g c =
@@ -48,15 +43,15 @@ returns-clause-sent g c =
 
 pub returns-clause-rises : goal.returns-clause-rises
 returns-clause-rises g c =
-    let m = c.args.self.now in
-    when_ok _ _ _ _ _ _ _ _ c.step_of.result (λ reply h. instr_rises (geometry_of m)
-    (program_of m) (turn_in m) m.table (view_of c.args.instr.now) _ _ c.requires.ready.set
+    when_ok _ _ _ _ _ _ _ _ c.step_of.result (λ reply h. instr_rises c.args.self.now
+    (view_of c.args.instr.now) _ _ (laid_of c.self.inside _ c.self.invariant.set c.self.view_is)
     c.requires.plain h.did.counters)
     c.step_of.ensures.went.comes
 
 pub returns-clause-same_table : goal.returns-clause-same_table
 returns-clause-same_table g c =
-    when_err _ _ _ _ _ _ _ _ c.step_of.result (λ h. h.table) (λ h. h.table)
+    when_err _ _ _ _ _ _ _ _ c.step_of.result (λ h. h.same)
+    (λ h. turned c.args.self.now c.step_of.new.self _ h.machine)
     c.step_of.ensures.went.comes
 
 pub returns-clause-chip_fault : goal.returns-clause-chip_fault
@@ -69,7 +64,8 @@ returns-clause-same_turn g c =
 
 pub returns-clause-turn_unsent : goal.returns-clause-turn_unsent
 returns-clause-turn_unsent g c =
-    when_sink _ _ _ _ _ _ _ _ c.step_of.result (λ h. h.turn) c.step_of.ensures.went.comes
+    when_sink _ _ _ _ _ _ _ _ c.step_of.result (λ h. ap turn_in h.machine)
+    c.step_of.ensures.went.comes
 
 pub returns-clause-stopped : goal.returns-clause-stopped
 returns-clause-stopped g c =

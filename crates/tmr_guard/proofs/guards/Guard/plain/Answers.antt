@@ -1,6 +1,5 @@
 use Rattle.std.proofs.Common.{subst}
 use Rattle.bbop_isa.specs.Forms.{Instruction, view_of}
-use Rattle.sim_machine.specs.Machine.{geometry_of, program_of}
 use Rattle.tmr_guard.specs.Steps.{DidOne, machine_in}
 use Rattle.tmr_guard.proofs.Bounded.{few_commands}
 use Rattle.tmr_guard.proofs.guards.Guard.plain.Goals as goal
@@ -19,5 +18,5 @@ returns-in-Ok-done-clause-few g c =
     let one = subst (λ (i : Instruction). DidOne m c.done.new.m i
     c.in-Ok-done.reply (V c.args.dram.now) (V c.done.new.dram)) c.copied.ensures
     c.in-Ok-done.ensures.did in
-    few_commands (geometry_of m) (program_of m) m.table c.args.letter (view_of c.args.instr.now)
-    c.in-Ok-done.reply c.requires.ready.set c.requires.plain one.answer
+    few_commands m c.args.letter (view_of c.args.instr.now) c.in-Ok-done.reply
+    c.done.ensures.laid c.requires.plain one.answer

@@ -2,7 +2,7 @@ use Rattle.std.proofs.Common.{◌≡◌, ◌∙◌, ap, refl, sym}
 use Rattle.std.specs.Prelude.{Err, true, false}
 use Rattle.object_alloc.specs.Listed.{look_up, has_name}
 use Rattle.object_steps.proofs.Found.{has_found, has_none}
-use Rattle.sim_machine.specs.Machine.{table_in}
+use Rattle.sim_machine.specs.Machine.{table_in, turn_in}
 use Rattle.tmr_guard.specs.Steps.{machine_in}
 use Rattle.tmr_guard.proofs.Shown.{absent_broke, absent_by, shown_broke, shown_by}
 use Rattle.tmr_guard.proofs.guards.Guard.print_step.Goals as goal
@@ -23,7 +23,8 @@ returns-in-Ok-clause-came g c =
     shown_by m c.print_as.new.self c.args.number c.args.name.now
     (g.D.Dram.view c.args.dram.now) (g.D.Dram.view c.print_as.new.dram)
     (g.S.Sink.view c.args.out.now) (g.S.Sink.view c.print_as.new.out)
-    k c.copy_name-copy.ensures has c.in-Ok.ensures.table c.in-Ok.ensures.turn
+    k c.copy_name-copy.ensures has (ap table_in c.print_as.ensures.same)
+    (ap turn_in c.print_as.ensures.same)
     c.in-Ok.ensures.did c.in-Ok.ensures.rises c.in-Ok.ensures.sent
 
 pub returns-in-Err-clause-came : goal.returns-in-Err-clause-came

@@ -1,0 +1,17 @@
+use Rattle.std.proofs.Common.{ap}
+use Rattle.bbop_isa.specs.Forms.{view_of}
+use Rattle.sim_machine.specs.Machine.{geometry_of, program_of, table_in, turn_in}
+use Rattle.tmr_guard.proofs.Runs.{ran_one}
+use Rattle.tmr_guard.proofs.guards.done.Goals as goal
+
+pub returns-in-Ok-clause-did : goal.returns-in-Ok-clause-did
+returns-in-Ok-clause-did g c =
+    let m = c.args.m.now in
+    let n = c.step.new.self in
+    record {
+      ran = ran_one (geometry_of m) (program_of m) (turn_in m) (turn_in n) (table_in m)
+          (table_in n) (view_of c.args.instr.now) (g.D.Dram.view c.args.dram.now)
+          (g.D.Dram.view c.step.new.dram) (ap table_in c.in-Ok.ensures.machine)
+          (ap turn_in c.in-Ok.ensures.machine) c.in-Ok.ensures.did;
+      answer = c.in-Ok.ensures.reply;
+    }
