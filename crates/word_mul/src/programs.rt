@@ -101,14 +101,24 @@ fn add_step(
     }
 }
 
+/// The steps that there are.
+fn steps(list: &[Option<StepForm>], owners: Owners, alloc: Global) -> Result<Vec<Step>, NoMemory>
+    ensures same { IfOk result (λ v. map step_of v.items
+        ≡ program_on (rows_at owners) (steps_of_forms list.now)) }
+    ensures made { IfOk result (λ v. AllParts IsMade (map step_of v.items)) }
+{
+    let mut all = Vec::new(alloc);
+    for form in list {
+        add_step(&mut all, *form, owners, alloc)?;
+    }
+    Ok(all)
+}
+
 /// The loop program of a row.
 pub fn built(row: NestedProgram, owners: Owners, alloc: Global) -> Result<LoopProgram, NoMemory>
     ensures same { IfOk result (λ p. steps_of p ≡ program_on (rows_at owners) (row_steps row)) }
     ensures made { IfOk result (λ p. AllParts IsMade (steps_of p)) }
 {
-    let mut steps = Vec::new(alloc);
-    for form in &row.steps {
-        add_step(&mut steps, *form, owners, alloc)?;
-    }
+    let steps = steps(&row.steps, owners, alloc)?;
     Ok(LoopProgram { steps })
 }
