@@ -1,5 +1,5 @@
 -- Code can be made of a block's loop with its states in cells.
-use Rattle.std.proofs.Common.{◌≡◌, ℕ, zero, suc, ◌+◌, ◌<◌, ◌≤◌, Bool, true, false, cond}
+use Rattle.std.proofs.Common.{◌≡◌, ℕ, zero, suc, ◌<◌, ◌≤◌, Bool, true, false, cond}
 use Rattle.std.proofs.Common.{◌⊎◌, List, [], ◌∷◌, map, length, refl, sym, ap, ◌∙◌, subst}
 use Rattle.std.proofs.Common.{arith, inl, inr}
 use Rattle.std.specs.List.{list_any}
@@ -27,12 +27,12 @@ use Rattle.block_lower.specs.Form.{kind_sub, IsBlockBody}
 use Rattle.block_lower.specs.Inputs.{block_inputs, name_at}
 use Rattle.block_lower.specs.declared.home.Home.{Home}
 use Rattle.block_lower.specs.Held.{cell_place, same_place, held_place, held_start, held_body}
-use Rattle.block_lower.specs.Held.{held_store, start_lits, input_lits}
+use Rattle.block_lower.specs.Held.{held_last, start_lits}
 use Rattle.block_lower.proofs.Facts.{Given}
 use Rattle.block_lower.proofs.Compile.{uses, filter-less, others, few-uses, body-well, reads-long}
 use Rattle.block_lower.proofs.Compile.{read-place, write-place, name-row, input-at, place-used}
 use Rattle.block_lower.proofs.Round.{writes-long, target-named}
-use Rattle.block_lower.proofs.Moved.{nth_home, home_spot, cell_spot, AreHomes}
+use Rattle.block_lower.proofs.Moved.{nth_home, cell_spot, AreHomes}
 use Rattle.block_lower.proofs.HeldDoes.{nth_map, place_true}
 
 -- subscripts that are used
@@ -176,6 +176,31 @@ module _ {slots : Slots} {fb fw : ℕ} {b : Block} {body : Body} (g : Given slot
             ∙ sym (ap (λ (p : Place). p.sub) (nth_map move body.reads k kk));
       }
 
+  -- so is the one that writes their rows
+  pub last-well : (cmds : List BodyCmd) → IsWellFormed (held_last hs body cmds)
+  last-well cmds =
+      let well = body-well g is in
+      let move = held_place hs in
+      let lr = length-map body.reads move in
+      record {
+        named = well.named;
+        reads = let r = well.reads in omega (arith, lr, r);
+        writes = well.writes;
+        apart = well.apart;
+        same = λ j k lj lk e.
+            let kk : k < length body.reads = omega (arith, lk, lr) in
+            let m = nth_map move body.reads k kk in
+            let p = nth_place body.reads k in
+            elim (cases_held hs p) [
+              | inl f ↦
+                  elim (cells_space (nth_place (map move body.reads) k) (nth_home hs f.0).cells
+                  (nth_place body.writes j).space (write-row-is j lj) (m ∙ f.3) (sym e.0)) [ ]
+              | inr f ↦
+                  well.same j k lj kk (subst (IsOneValue (nth_place body.writes j)) (m ∙ f) e)
+                  ∙ sym (ap (λ (q : Place). q.sub) (m ∙ f))
+            ];
+      }
+
   -- its states are inputs, and are written last
   pub held-states : (cmds : List BodyCmd) → RowsFirst (held_body hs body cmds).writes
       → body.graph.inputs ≡ length body.reads → StatesFit (held_body hs body cmds)
@@ -185,6 +210,27 @@ module _ {slots : Slots} {fb fw : ℕ} {b : Block} {body : Body} (g : Given slot
       record {
         first = first;
         written = m ∙ sym w ∙ sym (length-map body.writes (held_place hs));
+        read = λ k l e. omega (arith, l, full, length-map body.reads (held_place hs));
+      }
+
+  rows-count : (ps : List Place)
+      → ((j : ℕ) → j < length ps → is_state (nth_place ps j).space ≡ false)
+      → row_count ps ≡ length ps
+  rows-count [] h = refl
+  rows-count (p ∷ ps) h = ap (λ c. cond c 0 (suc (row_count ps))) (h 0 (omega arith))
+      ∙ ap suc (rows-count ps (λ j l. h (suc j) (omega (arith, l))))
+
+  last-states : (cmds : List BodyCmd) → body.graph.inputs ≡ length body.reads
+      → StatesFit (held_last hs body cmds)
+  last-states cmds full =
+      let w = writes-long is in
+      let c = rows-count body.writes write-row-is in
+      record {
+        first = record {
+          row = λ k l. write-row-is k (omega (arith, l, c));
+          state = λ k le l. absurd (omega (arith, le, l, c));
+        };
+        written = is.as_many ∙ sym w;
         read = λ k l e. omega (arith, l, full, length-map body.reads (held_place hs));
       }
 
@@ -204,13 +250,17 @@ module _ {slots : Slots} {fb fw : ℕ} {b : Block} {body : Body} (g : Given slot
       (ap (λ (q : Place). same_sub q.sub t) (sym (read-place is k m)) ∙ f)) s
       (ap (λ (q : Place). same_sub q.sub s) (sym (nth_map (held_place hs) body.reads k lk)) ∙ e)
 
+  row-used : (s : Sub) (j : ℕ) → j < length body.writes
+      → same_sub (nth_place body.writes j).sub s ≡ true → uses b.down s ≡ true
+  row-used s j l e =
+      let m : j < length b.assigns = let w = writes-long is in omega (arith, l, w) in
+      place-used b.down (slots (name_at (targets_of b.assigns) j)) s
+      (ap (λ (q : Place). same_sub q.sub s) (sym (write-place is j m)) ∙ e)
+
   writes-used : (cmds : List BodyCmd) → AreUsed b.down (held_body hs body cmds).writes
   writes-used cmds s j l e =
       let lj : j < length body.writes = omega (arith, l, length-map body.writes (held_place hs)) in
-      let m : j < length b.assigns = let w = writes-long is in omega (arith, lj, w) in
-      moved-used (nth_place body.writes j) (λ t f.
-      place-used b.down (slots (name_at (targets_of b.assigns) j)) t
-      (ap (λ (q : Place). same_sub q.sub t) (sym (write-place is j m)) ∙ f)) s
+      moved-used (nth_place body.writes j) (λ t f. row-used t j lj f) s
       (ap (λ (q : Place). same_sub q.sub s) (sym (nth_map (held_place hs) body.writes j lj)) ∙ e)
 
   -- commands can be made of it
@@ -235,14 +285,30 @@ module _ {slots : Slots} {fb fw : ℕ} {b : Block} {body : Body} (g : Given slot
         subs = few-subs b.down (held_body hs body cmds) (reads-used cmds) (writes-used cmds);
       }
 
--- the bodies of the starts and of the store
+  pub last-small : (cmds : List BodyCmd) → body.graph.inputs ≡ length body.reads
+      → length (block_inputs b) ≤ 80 → carries (held_last hs body cmds) ≡ true
+      → IsCarried (held_last hs body cmds) → IsSmall (held_last hs body cmds)
+  last-small cmds full most has carried =
+      let m = is.as_many in
+      let a = g.meets.assigns in
+      let w = g.meets.weight in
+      let k = is.nodes in
+      record {
+        well = last-well cmds;
+        states = last-states cmds full;
+        found = λ e. carried;
+        known = λ bare e. absurd (cc);
+        graph = is.graph;
+        inputs = let i = is.inputs in omega (arith, i, most);
+        outputs = omega (arith, m, a);
+        rows = omega (arith, m, a, w, k);
+        subs = few-subs b.down (held_last hs body cmds) (reads-used cmds) row-used;
+      }
+
+-- the body of the starts
 long_starts : (hs : List Home) → length (start_lits hs) ≡ length hs
 long_starts [] = refl
 long_starts (h ∷ hs) = ap suc (long_starts hs)
-
-long_inputs : (k : ℕ) (hs : List Home) → length (input_lits k hs) ≡ length hs
-long_inputs k [] = refl
-long_inputs k (h ∷ hs) = ap suc (long_inputs (suc k) hs)
 
 start-named : (hs : List Home) (k : ℕ) → k < length (start_lits hs)
     → (lit_at (start_lits hs) k).node < 1
@@ -250,24 +316,11 @@ start-named [] k l = absurd (omega arith)
 start-named (h ∷ hs) zero l = omega arith
 start-named (h ∷ hs) (suc k) l = start-named hs k (omega (arith, l))
 
-input-named : (j : ℕ) (hs : List Home) (k : ℕ) → k < length (input_lits j hs)
-    → (lit_at (input_lits j hs) k).node < j + length hs + 1
-input-named j [] k l = absurd (omega arith)
-input-named j (h ∷ hs) zero l = omega arith
-input-named j (h ∷ hs) (suc k) l =
-    let m = input-named (suc j) hs k (omega (arith, l)) in omega (arith, m)
-
 nth_cell : (hs : List Home) (k : ℕ) → k < length hs
     → nth_place (map (λ h. cell_place h.cells) hs) k ≡ cell_place (nth_home hs k).cells
 nth_cell [] k l = absurd (omega arith)
 nth_cell (h ∷ hs) zero l = refl
 nth_cell (h ∷ hs) (suc k) l = nth_cell hs k (omega arith)
-
-nth_row : (hs : List Home) (k : ℕ) → k < length hs
-    → nth_place (map (λ h. h.place) hs) k ≡ (nth_home hs k).place
-nth_row [] k l = absurd (omega arith)
-nth_row (h ∷ hs) zero l = refl
-nth_row (h ∷ hs) (suc k) l = nth_row hs k (omega arith)
 
 no-nodes : (k : ℕ) → k ≤ 80 → IsGraph k []
 no-nodes k le = record {
@@ -282,9 +335,6 @@ no-nodes k le = record {
 module _ (n : ℕ) (hs : List Home) (are : AreHomes n hs) where
   wide-cells : length (map (λ (h : Home). cell_place h.cells) hs) ≡ length hs
   wide-cells = length-map hs (λ (h : Home). cell_place h.cells)
-
-  wide-rows : length (map (λ (h : Home). h.place) hs) ≡ length hs
-  wide-rows = length-map hs (λ (h : Home). h.place)
 
   pub start-well : (cmds : List BodyCmd) → IsWellFormed (held_start hs cmds)
   start-well cmds = record {
@@ -335,130 +385,29 @@ module _ (n : ℕ) (hs : List Home) (are : AreHomes n hs) where
         (cells-used false);
   }
 
-  module _ (fixed : (k : ℕ) → k < length hs → (nth_home hs k).place.sub ≡ Zero)
-      (rows : (k : ℕ) → k < length hs → is_state (nth_home hs k).place.space ≡ false) where
-    store-row : (j : ℕ) → j < length (map (λ (h : Home). h.place) hs)
-        → is_state (nth_place (map (λ (h : Home). h.place) hs) j).space ≡ false
-    store-row j l = let m : j < length hs = omega (arith, l, wide-rows) in
-        ap (λ (p : Place). is_state p.space) (nth_row hs j m) ∙ rows j m
+  -- its round
+  module _ (may_have : Spot → Type 0) where
+    cell-spot-is : (k : ℕ) → k < length (map (λ (h : Home). cell_place h.cells) hs)
+        → nth_spot n 0 0 (map (λ (h : Home). cell_place h.cells) hs) k
+        ≡ cell_spot (nth_home hs k).cells
+    cell-spot-is k l = ap (spot_at n 0 0) (nth_cell hs k (omega (arith, l, wide-cells)))
 
-    pub store-well : (cmds : List BodyCmd) → IsWellFormed (held_store hs cmds)
-    store-well cmds = record {
-      named = λ k l. let m = input-named 0 hs k l in omega (arith, m);
-      reads = omega (arith, wide-cells);
-      writes = omega (arith, long_inputs 0 hs, wide-rows);
+    cell-is : (k : ℕ) → k < length (map (λ (h : Home). cell_place h.cells) hs)
+        → is_state (nth_place (map (λ (h : Home). cell_place h.cells) hs) k).space ≡ true
+    cell-is k l = ap (λ (p : Place). is_state p.space)
+        (nth_cell hs k (omega (arith, l, wide-cells)))
+
+    pub start-rounds : (cmds : List BodyCmd)
+        → IsRound may_have n (round_at (held_start hs cmds) 0 0)
+    start-rounds cmds = record {
+      reads = λ k l row. absurd (omega arith);
+      writes = λ j l row. absurd (let c = cell-is j l in cc);
+      own = λ j l. subst (λ (q : Spot). IsOwn q.space) (sym (cell-spot-is j l)) tt;
       apart = λ i j li lj e.
-          let ki : i < length hs = omega (arith, li, wide-rows) in
-          let kj : j < length hs = omega (arith, lj, wide-rows) in
-          let p = (nth_home hs i).place in
-          let q = (nth_home hs j).place in
-          let a : p.space ≡ q.space = sym (ap (λ (r : Place). r.space) (nth_row hs i ki)) ∙ e.0
-          ∙ ap (λ (r : Place). r.space) (nth_row hs j kj) in
-          let c : p.which ≡ q.which = sym (ap (λ (r : Place). r.which) (nth_row hs i ki)) ∙ e.1
-          ∙ ap (λ (r : Place). r.which) (nth_row hs j kj) in
-          let d : p.sub ≡ q.sub = fixed i ki ∙ sym (fixed j kj) in
-          let s : p ≡ q = ap (λ x. record { space = x; which = p.which; sub = p.sub }) a
-          ∙ ap (λ x. record { space = q.space; which = x; sub = p.sub }) c
-          ∙ ap (λ x. record { space = q.space; which = q.which; sub = x }) d in
-          are.rows i j ki kj (ap (spot_at n 0 0) s);
-      same = λ j k lj lk e.
-          let kk : k < length hs = omega (arith, lk, wide-cells) in
-          elim (cells_space (nth_place (map (λ (h : Home). cell_place h.cells) hs) k)
-          (nth_home hs k).cells (nth_place (map (λ (h : Home). h.place) hs) j).space
-          (store-row j lj) (nth_cell hs k kk) (sym e.0)) [ ];
+          let ki : i < length hs = omega (arith, li, wide-cells) in
+          let kj : j < length hs = omega (arith, lj, wide-cells) in
+          are.cells i j ki kj (ap (λ (q : Spot). q.which) (sym (cell-spot-is i li) ∙ e
+          ∙ cell-spot-is j lj));
+      same = λ j k lj lk e. absurd (omega arith);
+      once = λ j k l lj lk ll e f. absurd (omega arith);
     }
-
-    rows-count : (ps : List Place)
-        → ((j : ℕ) → j < length ps → is_state (nth_place ps j).space ≡ false)
-        → row_count ps ≡ length ps
-    rows-count [] h = refl
-    rows-count (p ∷ ps) h = ap (λ c. cond c 0 (suc (row_count ps))) (h 0 (omega arith))
-        ∙ ap suc (rows-count ps (λ j l. h (suc j) (omega (arith, l))))
-
-    pub store-states : (cmds : List BodyCmd) → StatesFit (held_store hs cmds)
-    store-states cmds =
-        let c = rows-count (map (λ (h : Home). h.place) hs) store-row in
-        record {
-          first = record {
-            row = λ k l. store-row k (omega (arith, l, c));
-            state = λ k le l. absurd (omega (arith, le, l, c));
-          };
-          written = long_inputs 0 hs ∙ sym wide-rows;
-          read = λ k l e. omega (arith, l, wide-cells);
-        }
-
-    rows-used : (down : Bool) → AreUsed down (map (λ (h : Home). h.place) hs)
-    rows-used down s k l e =
-        let m : k < length hs = omega (arith, l, wide-rows) in
-        zero-used down (nth_place (map (λ (h : Home). h.place) hs) k).sub s
-        (ap (λ (p : Place). p.sub) (nth_row hs k m) ∙ fixed k m) e
-
-    pub store-small : (cmds : List BodyCmd) → length hs ≤ 8 → carries (held_store hs cmds) ≡ true
-        → IsCarried (held_store hs cmds) → IsSmall (held_store hs cmds)
-    store-small cmds few has carried = record {
-      well = store-well cmds;
-      states = store-states cmds;
-      found = λ e. carried;
-      known = λ bare e. absurd (cc);
-      graph = no-nodes (length hs) (omega (arith, few));
-      inputs = omega (arith, few);
-      outputs = omega (arith, few, long_inputs 0 hs);
-      rows = omega (arith, few, long_inputs 0 hs);
-      subs = few-subs false (held_store hs cmds) (cells-used false) (rows-used false);
-    }
-
-    -- the rounds
-    module _ (may_have : Spot → Type 0)
-        (have : (k : ℕ) → k < length hs → may_have (home_spot n (nth_home hs k))
-        × IsOwn (home_spot n (nth_home hs k)).space) where
-      cell-spot-is : (k : ℕ) → k < length (map (λ (h : Home). cell_place h.cells) hs)
-          → nth_spot n 0 0 (map (λ (h : Home). cell_place h.cells) hs) k
-          ≡ cell_spot (nth_home hs k).cells
-      cell-spot-is k l = ap (spot_at n 0 0) (nth_cell hs k (omega (arith, l, wide-cells)))
-
-      cell-is : (k : ℕ) → k < length (map (λ (h : Home). cell_place h.cells) hs)
-          → is_state (nth_place (map (λ (h : Home). cell_place h.cells) hs) k).space ≡ true
-      cell-is k l = ap (λ (p : Place). is_state p.space)
-          (nth_cell hs k (omega (arith, l, wide-cells)))
-
-      row-spot-is : (k : ℕ) → k < length (map (λ (h : Home). h.place) hs)
-          → nth_spot n 0 0 (map (λ (h : Home). h.place) hs) k ≡ home_spot n (nth_home hs k)
-      row-spot-is k l = ap (spot_at n 0 0) (nth_row hs k (omega (arith, l, wide-rows)))
-
-      pub start-rounds : (cmds : List BodyCmd)
-          → IsRound may_have n (round_at (held_start hs cmds) 0 0)
-      start-rounds cmds = record {
-        reads = λ k l row. absurd (omega arith);
-        writes = λ j l row. absurd (let c = cell-is j l in cc);
-        own = λ j l. subst (λ (q : Spot). IsOwn q.space) (sym (cell-spot-is j l)) tt;
-        apart = λ i j li lj e.
-            let ki : i < length hs = omega (arith, li, wide-cells) in
-            let kj : j < length hs = omega (arith, lj, wide-cells) in
-            are.cells i j ki kj (ap (λ (q : Spot). q.which) (sym (cell-spot-is i li) ∙ e
-            ∙ cell-spot-is j lj));
-        same = λ j k lj lk e. absurd (omega arith);
-        once = λ j k l lj lk ll e f. absurd (omega arith);
-      }
-
-      no-both : (j k : ℕ) → j < length (map (λ (h : Home). h.place) hs)
-          → k < length (map (λ (h : Home). cell_place h.cells) hs)
-          → nth_spot n 0 0 (map (λ (h : Home). h.place) hs) j
-          ≡ nth_spot n 0 0 (map (λ (h : Home). cell_place h.cells) hs) k → ⊥
-      no-both j k lj lk e =
-          let m : j < length hs = omega (arith, lj, wide-rows) in
-          let s = sym (row-spot-is j lj) ∙ e ∙ cell-spot-is k lk in
-          let t : true ≡ false = ap (λ (q : Spot). is_state q.space) (sym s) ∙ are.are j m in cc
-
-      pub store-rounds : (cmds : List BodyCmd)
-          → IsRound may_have n (round_at (held_store hs cmds) 0 0)
-      store-rounds cmds = record {
-        reads = λ k l row. absurd (let c = cell-is k l in cc);
-        writes = λ j l row. subst may_have (sym (row-spot-is j l))
-            (have j (omega (arith, l, wide-rows))).0;
-        own = λ j l. subst (λ (q : Spot). IsOwn q.space) (sym (row-spot-is j l))
-            (have j (omega (arith, l, wide-rows))).1;
-        apart = λ i j li lj e. are.rows i j (omega (arith, li, wide-rows))
-            (omega (arith, lj, wide-rows)) (sym (row-spot-is i li) ∙ e ∙ row-spot-is j lj);
-        same = λ j k lj lk e. absurd (no-both j k lj lk e);
-        once = λ j k l lj lk ll e f. absurd (no-both j k lj lk e);
-      }

@@ -42,7 +42,7 @@ use Rattle.block_lower.proofs.Starts.{started, state_spot}
 use Rattle.block_lower.proofs.Compile.{state-sub, name-row, reads-long, read-place, write-place}
 use Rattle.block_lower.proofs.Compile.{input-at, spot-space}
 use Rattle.block_lower.proofs.Moved.{nth_home, home_spot, cell_spot, moved, moved_once, AreHomes}
-use Rattle.block_lower.proofs.Moved.{IsMoved, rows_started, promoted}
+use Rattle.block_lower.proofs.Moved.{IsMoved, AreSet, rows_started, promoted}
 
 abbrev at_zero : Space → Spot
 at_zero s = record { space = s; which = 0; index = 0 }
@@ -302,13 +302,31 @@ module _ {slots : Slots} {fb fw : ℕ} {b : Block} (g : Given slots fb fw b) (ws
           (omega (arith, lc, wide)) e;
     }
 
+    -- the block assigns each state
+    abbrev pub AreWritten : Type 0
+    AreWritten = (k : ℕ) → k < length hs → (j : ℕ) × (j < length body.writes)
+        × (nth_place body.writes j ≡ (nth_home hs k).place)
+
+    are-set : AreWritten → (n i : ℕ) → AreSet n hs i body
+    are-set written n i k l =
+        let w = written k l in
+        let p = (nth_home hs k).place in
+        let z = home-fixed k l in (
+          w.0,
+          omega (arith, w.1, wide),
+          ap (λ s. spot_in n p.space p.which (sub_value n 0 0 s)) z
+              ∙ sym (ap (λ s. spot_in n p.space p.which (sub_value n i 0 s)) z)
+              ∙ sym (ap (spot_at n i 0) w.2),
+        )
+
     -- each row is left as the loop with its states in rows leaves it
-    pub held-alike : (cmds : HeldCommands) (n : ℕ) → 0 < n → (bits : Spots) (q : Spot) → is_state q.space ≡ false
+    pub held-alike : AreWritten → (cmds : HeldCommands) (n : ℕ) → 0 < n → (bits : Spots) (q : Spot)
+        → is_state q.space ≡ false
         → after_rounds n (all_rounds n (held_steps hs body cmds)) bits q
         ≡ after_rounds n (all_rounds n (Along body ∷ [])) (started n slots b.down b.states bits) q
-    held-alike cmds n lt bits q e =
-        promoted n hs (are-homes n lt) body (held_body hs body cmds.each) cmds.start cmds.store
-        (λ i l. is-moved cmds.each n i l) bits q e
+    held-alike written cmds n lt bits q e =
+        promoted n lt hs (are-homes n lt) body (held_body hs body cmds.each) cmds.start cmds.last
+        (λ i l. is-moved cmds.each n i l) (λ i l. are-set written n i) bits q e
         ∙ ap (λ (s : Spots). after_rounds n (all_rounds n (Along body ∷ [])) s q)
         (rows-are n slots b.down b.states ws bits are.many)
 

@@ -20,3 +20,4 @@ mod HeldDoes
 mod HeldCompile
 mod HeldWhole
 mod OneCell
+mod SameGraphs

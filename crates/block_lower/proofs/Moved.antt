@@ -1,5 +1,5 @@
 -- A loop whose states stand in cells leaves the rows as the loop with its states in rows does.
-use Rattle.std.proofs.Common.{◌≡◌, ℕ, zero, suc, ◌+◌, ◌<◌, ◌≤◌, Bool, true, false, cond, List, []}
+use Rattle.std.proofs.Common.{◌≡◌, ℕ, zero, suc, ◌+◌, ◌-◌, ◌<◌, ◌≤◌, Bool, true, false, cond, List, []}
 use Rattle.std.proofs.Common.{◌∷◌, ◌++◌, map, length, refl, sym, ap, ◌∙◌, arith, ◌⊎◌, inl}
 use Rattle.std.proofs.Common.{inr}
 use Rattle.std.specs.Prelude.{if◌then◌else◌}
@@ -12,14 +12,13 @@ use Rattle.loop_ir.specs.declared.ir.Space.TheVariants.{Cells}
 use Rattle.loop_ir.specs.declared.ir.Sub.TheVariants.{Zero}
 use Rattle.loop_ir.specs.declared.ir.Place.{Place}
 use Rattle.loop_ir.specs.Plain.{Block}
-use Rattle.loop_ir.specs.Plain.StepOf.{Single, Along}
-use Rattle.loop_ir.specs.Loops.{RoundOf, round_at, one_round, rounds, all_rounds}
+use Rattle.loop_ir.specs.Plain.StepOf.{Single, Along, Alternate}
+use Rattle.loop_ir.specs.Loops.{RoundOf, round_at, one_round, rounds, turns_from, all_rounds}
 use Rattle.loop_ir.specs.Spots.{Spot, Spots, is_state, same_spot, set_spot, spot_at}
 use Rattle.loop_ir.specs.Spots.{nth_place, nth_spot, round_env, after_round}
 use Rattle.loop_ir.specs.Spots.{after_rounds, gives}
 use Rattle.block_lower.specs.declared.home.Home.{Home}
-use Rattle.block_lower.specs.Held.{cell_place, start_lits, input_lits, held_start}
-use Rattle.block_lower.specs.Held.{held_store}
+use Rattle.block_lower.specs.Held.{cell_place, start_lits, held_start}
 use Rattle.loop_laws.proofs.Same.{spot_true, spot_same, set_same, set_other, write_other, write_at}
 
 abbrev pub no_home : Home
@@ -179,24 +178,66 @@ module _ (n : ℕ) where
             ∙ sym (write_other n i o first b.writes b.outs bits q (λ j l e. out (j, l, e)))
       ]
 
-  -- any count of rounds
-  pub loop_moved : (hs : List Home) → AreHomes hs → (o : ℕ) (b c : Block)
-      → ((i : ℕ) → i < n → IsMoved hs i o b c) → (i count : ℕ) → i + count ≤ n → (bits new : Spots)
-      → Moved hs bits new
-      → Moved hs (after_rounds n (rounds (λ j. one_round b j o) i count) bits)
-      (after_rounds n (rounds (λ j. one_round c j o) i count) new)
-  loop_moved hs are o b c is i zero le bits new m = m
-  loop_moved hs are o b c is i (suc count) le bits new m =
-      loop_moved hs are o b c is (i + 1) count (omega arith) (after_round n (round_at b i o) bits)
-      (after_round n (round_at c i o) new)
-      (round_moved hs are i o b c bits new (is i (omega arith)) m)
+  -- the second body, but that it writes the first's rows
+  abbrev pub last_of : Block → Block → List BodyCmd → Block
+  last_of b c cmds = record {
+    reads = c.reads;
+    graph = c.graph;
+    outs = b.outs;
+    writes = b.writes;
+    found = cmds;
+  }
+
+  -- the first body writes each state
+  abbrev pub AreSet : List Home → ℕ → Block → Type 0
+  AreSet hs i b = (k : ℕ) → k < length hs
+      → IsAt n i 0 b.writes (length b.outs) (home_spot (nth_home hs k))
+
+  -- where it writes the rows, each row is left as the first body leaves it
+  pub round_last : (hs : List Home) (i : ℕ) (b c : Block) (cmds : List BodyCmd) (bits new : Spots)
+      → IsMoved hs i 0 b c → AreSet hs i b → Moved hs bits new → (q : Spot)
+      → is_state q.space ≡ false
+      → after_round n (round_at (last_of b c cmds) i 0) new q ≡ after_round n (round_at b i 0) bits q
+  round_last hs i b c cmds bits new is set m q a =
+      let first = round_env n (round_at b i 0) bits in
+      let second = round_env n (round_at (last_of b c cmds) i 0) new in
+      elim (find_at n i 0 b.writes (length b.outs) q) [
+        | inl f ↦
+            ap (after_round n (round_at (last_of b c cmds) i 0) new) f.2
+            ∙ write_at n i 0 second b.writes b.outs new is.written.0 is.once f.0 f.1
+            ∙ ap (λ (g : Graph). lit_value (values g (λ k. new (nth_spot n i 0 c.reads k)))
+            (lit_at b.outs f.0)) is.graph
+            ∙ is.follows (λ k. new (nth_spot n i 0 c.reads k))
+            (λ k. bits (nth_spot n i 0 b.reads k)) (λ k l.
+            let r = is.reads k l in ap new r.1 ∙ m (nth_spot n i 0 b.reads k) r.0) f.0 f.1
+            ∙ sym (ap (after_round n (round_at b i 0) bits) f.2
+            ∙ write_at n i 0 first b.writes b.outs bits is.written.0 is.once f.0 f.1)
+        | inr out ↦
+            let here : new q ≡ bits q = elim (cases_home hs q) [
+              | inl f ↦ let w = set f.0 f.1.0 in absurd (out (w.0, w.1, f.1.1 ∙ w.2))
+              | inr f ↦ sym (ap new f.1) ∙ m q a
+            ] in
+            write_other n i 0 second b.writes b.outs new q (λ j l e. out (j, l, e)) ∙ here
+            ∙ sym (write_other n i 0 first b.writes b.outs bits q (λ j l e. out (j, l, e)))
+      ]
+
+  -- the second body at all positions from this one on, and at the last one so
+  pub turns_moved : (hs : List Home) → AreHomes hs → (b c : Block) (cmds : List BodyCmd)
+      → ((i : ℕ) → i < n → IsMoved hs i 0 b c) → ((i : ℕ) → i < n → AreSet hs i b)
+      → (i count : ℕ) → i + count < n → (bits new : Spots) → Moved hs bits new → (q : Spot)
+      → is_state q.space ≡ false
+      → after_rounds n (turns_from (record { each = c; last = last_of b c cmds } ∷ []) i count) new q
+      ≡ after_rounds n (rounds (λ j. one_round b j 0) i (suc count)) bits q
+  turns_moved hs are b c cmds is set i zero le bits new m q a =
+      round_last hs i b c cmds bits new (is i (omega (arith, le))) (set i (omega (arith, le))) m q a
+  turns_moved hs are b c cmds is set i (suc count) le bits new m q a =
+      turns_moved hs are b c cmds is set (i + 1) count (omega (arith, le))
+      (after_round n (round_at b i 0) bits) (after_round n (round_at c i 0) new)
+      (round_moved hs are i 0 b c bits new (is i (omega (arith, le))) m) q a
 
 -- places of the states
 abbrev pub cell_places : List Home → List Place
 cell_places hs = map (λ h. cell_place h.cells) hs
-
-abbrev pub home_places : List Home → List Place
-home_places hs = map (λ h. h.place) hs
 
 nth_cells : (hs : List Home) (k : ℕ) → k < length hs
     → nth_place (cell_places hs) k ≡ cell_place (nth_home hs k).cells
@@ -204,27 +245,13 @@ nth_cells [] k l = absurd (omega arith)
 nth_cells (h ∷ hs) zero l = refl
 nth_cells (h ∷ hs) (suc k) l = nth_cells hs k (omega arith)
 
-nth_homes : (hs : List Home) (k : ℕ) → k < length hs
-    → nth_place (home_places hs) k ≡ (nth_home hs k).place
-nth_homes [] k l = absurd (omega arith)
-nth_homes (h ∷ hs) zero l = refl
-nth_homes (h ∷ hs) (suc k) l = nth_homes hs k (omega arith)
-
 long_cells : (hs : List Home) → length (cell_places hs) ≡ length hs
 long_cells [] = refl
 long_cells (h ∷ hs) = ap suc (long_cells hs)
 
-long_homes : (hs : List Home) → length (home_places hs) ≡ length hs
-long_homes [] = refl
-long_homes (h ∷ hs) = ap suc (long_homes hs)
-
 long_starts : (hs : List Home) → length (start_lits hs) ≡ length hs
 long_starts [] = refl
 long_starts (h ∷ hs) = ap suc (long_starts hs)
-
-long_inputs : (k : ℕ) (hs : List Home) → length (input_lits k hs) ≡ length hs
-long_inputs k [] = refl
-long_inputs k (h ∷ hs) = ap suc (long_inputs (suc k) hs)
 
 start_value : (env : ℕ → Bool) (hs : List Home) (k : ℕ) → env 0 ≡ false → k < length hs
     → lit_value env (lit_at (start_lits hs) k) ≡ (nth_home hs k).start
@@ -235,14 +262,6 @@ start_value env (h ∷ hs) zero e l = flipped h.start
     flipped true = rw e refl
     flipped false = e
 start_value env (h ∷ hs) (suc k) e l = start_value env hs k e (omega arith)
-
-input_value : (env : ℕ → Bool) (j : ℕ) (hs : List Home) (k : ℕ) → k < length hs
-    → lit_value env (lit_at (input_lits j hs) k) ≡ env (suc (j + k))
-input_value env j [] k l = absurd (omega arith)
-input_value env j (h ∷ hs) zero l = let e : j ≡ j + 0 = omega arith in ap (λ x. env (suc x)) e
-input_value env j (h ∷ hs) (suc k) l =
-    let e : suc j + k ≡ j + suc k = omega arith in
-    input_value env (suc j) hs k (omega arith) ∙ ap (λ x. env (suc x)) e
 
 module _ (n : ℕ) where
   -- the rows after the states have their starts in them
@@ -308,57 +327,28 @@ module _ (n : ℕ) where
           let s = e ∙ ap (spot_at n 0 0) (nth_cells hs j l) in
           let t : true ≡ false = ap (λ (x : Spot). is_state x.space) (sym s) ∙ a in cc
 
-  -- stored in their rows, the states leave each row as the first program does
-  pub stored : (hs : List Home) → AreHomes n hs → (cmds : List BodyCmd) → (new : Spots) (q : Spot)
-      → is_state q.space ≡ false
-      → after_round n (round_at (held_store hs cmds) 0 0) new q ≡ new (moved n hs q)
-  unfolding values_from
-  stored hs are cmds new q a =
-      let r = round_at (held_store hs cmds) 0 0 in
-      let env = round_env n r new in
-      let ll = long_inputs 0 hs in
-      let lp = long_homes hs in
-      elim (cases_home n hs q) [
-        | inl f ↦
-            let w = nth_homes hs f.0 f.1.0 in
-            let e : suc (0 + f.0) ≡ suc f.0 = omega arith in
-            ap (after_round n r new) (f.1.1 ∙ sym (ap (spot_at n 0 0) w))
-            ∙ write_at n 0 0 env (home_places hs) (input_lits 0 hs) new (omega (arith, ll, lp))
-            (λ x y lx ly s. are.rows x y (omega (arith, ll, lx)) (omega (arith, ll, ly))
-            (sym (ap (spot_at n 0 0) (nth_homes hs x (omega (arith, ll, lx)))) ∙ s
-            ∙ ap (spot_at n 0 0) (nth_homes hs y (omega (arith, ll, ly))))) f.0
-            (omega (arith, ll, f.1.0))
-            ∙ input_value env 0 hs f.0 f.1.0 ∙ ap env e
-            ∙ ap (λ p. new (spot_at n 0 0 p)) (nth_cells hs f.0 f.1.0) ∙ ap new (sym f.2)
-        | inr f ↦
-            write_other n 0 0 env (home_places hs) (input_lits 0 hs) new q (λ j l e.
-            f.0 j (
-              omega (arith, ll, l),
-              e ∙ ap (spot_at n 0 0) (nth_homes hs j
-                  (omega (arith, ll, l))),
-            ))
-            ∙ ap new (sym f.1)
-      ]
-
   after-append : (xs ys : List (RoundOf Block)) (bits : Spots)
       → after_rounds n (xs ++ ys) bits ≡ after_rounds n ys (after_rounds n xs bits)
   after-append [] ys bits = refl
   after-append (r ∷ xs) ys bits = after-append xs ys (after_round n r bits)
 
-  -- The law: a start in cells, the held body at each position and a store leave every row as starts
-  -- in rows and the first body at each position do
-  pub promoted : (hs : List Home) → AreHomes n hs → (b c : Block) (start store : List BodyCmd)
-      → ((i : ℕ) → i < n → IsMoved n hs i 0 b c) → (bits : Spots) (q : Spot)
+  -- The law: a start in cells and the held body at each position, which leaves the states in their
+  -- rows at the top position, leave every row as starts in rows and the first body at each position
+  -- do
+  pub promoted : 0 < n → (hs : List Home) → AreHomes n hs → (b c : Block)
+      (start last : List BodyCmd) → ((i : ℕ) → i < n → IsMoved n hs i 0 b c)
+      → ((i : ℕ) → i < n → AreSet n hs i b) → (bits : Spots) (q : Spot)
       → is_state q.space ≡ false
-      → after_rounds n (all_rounds n (Single (held_start hs start) ∷ Along c
-      ∷ Single (held_store hs store) ∷ [])) bits q
+      → after_rounds n (all_rounds n (Single (held_start hs start)
+      ∷ Alternate (record { each = c; last = last_of n b c last } ∷ []) ∷ [])) bits q
       ≡ after_rounds n (all_rounds n (Along b ∷ [])) (rows_started hs bits) q
-  promoted hs are b c start store is bits q a =
+  promoted lt hs are b c start last is set bits q a =
       let first = after_round n (round_at (held_start hs start) 0 0) bits in
       let old = rounds (λ i. one_round b i 0) 0 n in
-      let new = rounds (λ i. one_round c i 0) 0 n in
-      ap (λ (s : Spots). s q) (after-append new (round_at (held_store hs store) 0 0 ∷ []) first)
-      ∙ stored hs are store (after_rounds n new first) q a
-      ∙ loop_moved n hs are 0 b c is 0 n (omega arith) (rows_started hs bits) first
-      (begun hs are start bits) q a
+      let new = turns_from (record { each = c; last = last_of n b c last } ∷ []) 0 (n - 1) in
+      let all : suc (n - 1) ≡ n = omega (arith, lt) in
+      ap (λ (s : Spots). s q) (after-append new [] first)
+      ∙ turns_moved n hs are b c last is set 0 (n - 1) (omega (arith, lt)) (rows_started hs bits)
+      first (begun hs are start bits) q a
+      ∙ ap (λ m. after_rounds n (rounds (λ i. one_round b i 0) 0 m) (rows_started hs bits) q) all
       ∙ sym (ap (λ (s : Spots). s q) (after-append old [] (rows_started hs bits)))

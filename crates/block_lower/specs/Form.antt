@@ -1,5 +1,6 @@
 -- The loop program of a serial block: the states get their starts, then the block's graph is done
--- at each position. The states stand in rows, or in cells from one position to the next.
+-- at each position. The states stand in rows, or in cells from one position to the next and in rows
+-- in the end.
 use Rattle.std.specs.Prelude.{◌≡◌, ◌⊎◌, ℕ, ◌+◌, ◌*◌, ◌<◌, ◌≤◌, Bool, if◌then◌else◌, List, [], ◌∷◌}
 use Rattle.std.specs.Prelude.{◌++◌}
 use Rattle.std.specs.Prelude.{map, length, slice_get, slice_index_or, Option, Some, None}
@@ -25,9 +26,10 @@ use Rattle.loop_ir.specs.Costs.{rounds_cost}
 use Rattle.loop_ir.specs.Spots.{gives}
 use Rattle.loop_ir.specs.Statements.{Slots, targets_of}
 use Rattle.block_lower.specs.Inputs.{block_inputs, name_at}
-use Rattle.block_lower.specs.Choice.{AreFor}
+use Rattle.block_lower.specs.Choice.{AreFor, IsOther}
+use Rattle.block_lower.specs.declared.held.HeldLoop.{HeldLoop}
 use Rattle.block_lower.specs.declared.home.Home.{Home}
-use Rattle.block_lower.specs.Held.{HeldCommands, held_steps}
+use Rattle.block_lower.specs.Held.{HeldCommands, commands_in, held_steps, IsHeldOne}
 
 -- a word is read and written at the position, from above where the block goes down; a bit has one
 -- row
@@ -91,8 +93,8 @@ homes slots down (s ∷ ss) (w ∷ ws) = record {
 abbrev pub row_steps : Slots → Block → Body → List (StepOf Body)
 row_steps slots b body = map (start slots b.down) b.states ++ Along body ∷ []
 
--- the starts into cells, each state's its own; the body at each position, with the cells in place
--- of the states' rows; and the states to their rows
+-- the starts into cells, each state's its own; and the body at each position, with the cells in
+-- place of the states' rows, but that it writes these rows at the top position
 pub record IsHeldLoop (slots : Slots) (b : Block) (body : Body) (steps : List (StepOf Body)) : Type
     0 where
   pub cells : List ℕ
@@ -101,6 +103,21 @@ pub record IsHeldLoop (slots : Slots) (b : Block) (body : Body) (steps : List (S
       → slice_index_or cells x 0 ≡ slice_index_or cells y 0 → x ≡ y
   pub cmds : HeldCommands
   pub form : steps ≡ held_steps (homes slots b.down b.states cells) body cmds
+
+-- The one state of a block stands in cells, in a loop of the body or of another that may stand for
+-- it. Each body of the loop carries its commands: fewer than the body carries, or at the top
+-- position no more
+pub record IsInCells (slots : Slots) (down : Bool) (states : List State) (b : Body)
+    (steps : List (StepOf Body)) : Type 0 where
+  pub one : length states ≡ 1
+  pub body : Body
+  pub other : (body ≡ b) ⊎ IsOther b body
+  pub loop : HeldLoop
+  pub home : homes slots down states (loop.home.cells ∷ []) ≡ loop.home ∷ []
+  pub held : IsHeldOne loop.home body (commands_in loop)
+  pub fewer : length loop.each.items + 1 ≤ length b.found
+  pub last : length loop.last.items ≤ length b.found
+  pub form : steps ≡ held_steps (loop.home ∷ []) body (commands_in loop)
 
 -- A body of the block carries the commands that were found for it with the states in rows. It is
 -- what the loop does at each position, or else a body of the block with its states in cells. There

@@ -1,5 +1,6 @@
--- The loop of a block whose states stand in cells from one position to the next.
-use Rattle.std.specs.Prelude.{◌≡◌, ℕ, suc, ◌+◌, ◌*◌, ◌<◌, ◌≤◌, ◌==◌, ◌&&◌, Bool, true, false, List}
+-- The loop of a block whose states stand in cells from one position to the next, and in their rows
+-- in the end.
+use Rattle.std.specs.Prelude.{◌≡◌, ℕ, ◌+◌, ◌*◌, ◌<◌, ◌≤◌, ◌==◌, ◌&&◌, Bool, true, false, List}
 use Rattle.std.specs.Prelude.{[], ◌∷◌, map, length, if◌then◌else◌}
 use Rattle.std.specs.List.{list_all}
 use Rattle.mig_graph.specs.declared.Lit.{Lit}
@@ -8,7 +9,7 @@ use Rattle.loop_ir.specs.declared.ir.Space.TheVariants.{Cells}
 use Rattle.loop_ir.specs.declared.ir.Sub.TheVariants.{Zero}
 use Rattle.loop_ir.specs.declared.ir.Place.{Place}
 use Rattle.loop_ir.specs.Plain.{Block as Body, StepOf}
-use Rattle.loop_ir.specs.Plain.StepOf.{Single, Along}
+use Rattle.loop_ir.specs.Plain.StepOf.{Single, Alternate}
 use Rattle.row_alloc.specs.declared.body.OutRow.{OutRow}
 use Rattle.row_alloc.specs.Held.{DoesHeld}
 use Rattle.loop_ir.specs.Spots.{same_space}
@@ -16,6 +17,7 @@ use Rattle.loop_ir.specs.Outputs.{IsOuts}
 use Rattle.loop_ir.specs.States.{row_count, enters, leaves}
 use Rattle.loop_ir.specs.Chains.{states_in}
 use Rattle.loop_ir.specs.Costs.{same_sub}
+use Rattle.block_lower.specs.declared.held.HeldLoop.{HeldLoop}
 use Rattle.block_lower.specs.declared.home.Home.{Home}
 
 -- the place of cells
@@ -31,20 +33,16 @@ abbrev pub held_place : List Home → Place → Place
 held_place [] p = p
 held_place (h ∷ hs) p = if same_place p h.place then cell_place h.cells else held_place hs p
 
--- the literals of the states' starts, and of so many inputs from one on
+-- the literals of the states' starts
 abbrev pub start_lits : List Home → List Lit
 start_lits [] = []
 start_lits (h ∷ hs) = record { node = 0; inverted = h.start } ∷ start_lits hs
-
-abbrev pub input_lits : ℕ → List Home → List Lit
-input_lits k [] = []
-input_lits k (h ∷ hs) = record { node = suc k; inverted = false } ∷ input_lits (suc k) hs
 
 -- the commands of the three bodies
 pub record HeldCommands : Type 0 where
   pub start : List BodyCmd
   pub each : List BodyCmd
-  pub store : List BodyCmd
+  pub last : List BodyCmd
 
 -- all starts, into cells
 abbrev pub held_start : List Home → List BodyCmd → Body
@@ -66,20 +64,22 @@ held_body hs b cmds = record {
   found = cmds;
 }
 
--- all states, from cells to their rows
-abbrev pub held_store : List Home → List BodyCmd → Body
-held_store hs cmds = record {
-  reads = map (λ h. cell_place h.cells) hs;
-  graph = record { inputs = length hs; nodes = [] };
-  outs = input_lits 0 hs;
-  writes = map (λ h. h.place) hs;
+-- the body that finds its states in cells, and leaves them in their rows
+abbrev pub held_last : List Home → Body → List BodyCmd → Body
+held_last hs b cmds = record {
+  reads = map (held_place hs) b.reads;
+  graph = b.graph;
+  outs = b.outs;
+  writes = b.writes;
   found = cmds;
 }
 
--- the starts, the body at each position, and the states to their rows
+-- the starts, and the body at each position: at the top position it leaves the states in their rows
 abbrev pub held_steps : List Home → Body → HeldCommands → List (StepOf Body)
-held_steps hs b cmds = Single (held_start hs cmds.start) ∷ Along (held_body hs b cmds.each)
-    ∷ Single (held_store hs cmds.store) ∷ []
+held_steps hs b cmds = Single (held_start hs cmds.start) ∷ Alternate (record {
+  each = held_body hs b cmds.each;
+  last = held_last hs b cmds.last;
+} ∷ []) ∷ []
 
 -- the body carries commands, at most so many, and they do it wherever its rows lie
 pub record CarriesRight (b : Body) (most : ℕ) : Type 0 where
@@ -108,4 +108,19 @@ pub record IsHeldOne (h : Home) (b : Body) (cmds : HeldCommands) : Type 0 where
   pub start : CarriesRight (held_start (h ∷ []) cmds.start) 1
   pub each : CarriesRight (held_body (h ∷ []) b cmds.each) (4 * length b.graph.nodes
       + 3 * row_count (map (held_place (h ∷ [])) b.writes))
-  pub store : CarriesRight (held_store (h ∷ []) cmds.store) 1
+  pub last : CarriesRight (held_last (h ∷ []) b cmds.last) (4 * length b.graph.nodes
+      + 3 * row_count b.writes)
+
+-- what the search has found for the three bodies
+abbrev pub commands_in : HeldLoop → HeldCommands
+commands_in r = record { start = r.start.items; each = r.each.items; last = r.last.items }
+
+-- a loop of the body with the state of this row and start in cells, whose bodies take no more
+-- commands than these, and at each position but the top one fewer
+pub record IsLoopFor (place : Place) (start : Bool) (b : Body) (most : ℕ) (r : HeldLoop) : Type
+    0 where
+  pub held : IsHeldOne r.home b (commands_in r)
+  pub row : r.home.place ≡ place
+  pub begins : r.home.start ≡ start
+  pub fewer : length r.each.items + 1 ≤ most
+  pub last : length r.last.items ≤ most

@@ -6,12 +6,14 @@ ghost use Rattle.mig_graph.specs.Outputs.{AreNamed};
 ghost use Rattle.loop_ir.specs.Plain.{block_of, steps_of};
 ghost use Rattle.loop_ir.specs.States.{row_count};
 ghost use Rattle.block_lower.specs.Choice.{IsOther};
-ghost use Rattle.block_lower.specs.Held.{held_place, held_start, held_body, held_store, held_steps};
-ghost use Rattle.block_lower.specs.Held.{HeldCommands, CarriesRight, HoldsOne, IsHeldOne};
+ghost use Rattle.block_lower.specs.Held.{held_place, held_start, held_body, held_last, held_steps};
+ghost use Rattle.block_lower.specs.Held.{CarriesRight, HoldsOne, IsHeldOne, commands_in};
+ghost use Rattle.block_lower.specs.Held.{IsLoopFor};
 
+use crate::copied::copied;
 use crate::home::{Home, cell_place, enters, held_places, leaves, row_count, stand_in};
 use faults::keep;
-use loop_ir::{Body, LoopProgram, Place, Step, out_rows};
+use loop_ir::{Body, LoopProgram, Place, Step, Turn, out_rows};
 use mig_graph::{Lit, Mig, MigOuts, NoMemory};
 use mig_rewrite::{Sketch, kept};
 use row_alloc::{BodyCmd, Search, held_commands_of};
@@ -30,7 +32,7 @@ pub(crate) struct HeldLoop {
     pub home: Home,
     pub start: Vec<BodyCmd>,
     pub each: Vec<BodyCmd>,
-    pub store: Vec<BodyCmd>,
+    pub last: Vec<BodyCmd>,
 }
 
 impl Drop for HeldLoop {
@@ -39,7 +41,7 @@ impl Drop for HeldLoop {
             home: _,
             start: _,
             each: _,
-            store: _,
+            last: _,
         } = self;
     }
 }
@@ -93,29 +95,6 @@ fn start_body(home: Home, found: Vec<BodyCmd>, alloc: Global) -> Result<Body, No
     })
 }
 
-/// The body that moves the state from its cells to its row.
-fn store_body(home: Home, found: Vec<BodyCmd>, alloc: Global) -> Result<Body, NoMemory>
-    ensures { IfOk result (λ r. block_of r ≡ held_store (home ∷ []) found.items) }
-{
-    let mut reads = Vec::new(alloc);
-    let mut outs = Vec::new(alloc);
-    let mut writes = Vec::new(alloc);
-    let lit = Lit {
-        node: 1,
-        inverted: false,
-    };
-    keep(&mut reads, cell_place(home.cells))?;
-    keep(&mut outs, lit)?;
-    keep(&mut writes, home.place)?;
-    let mig = Mig::new(1, alloc)?;
-    Ok(Body {
-        reads,
-        graph: MigOuts { mig, outs },
-        writes,
-        found,
-    })
-}
-
 /// Whether the graph at these places has nodes, reads each input at a place, and writes the state
 /// in these cells last.
 fn holds_one(cells: u8, graph: &MigOuts, reads: &[Place], writes: &[Place]) -> bool
@@ -137,6 +116,14 @@ fn holds_one(cells: u8, graph: &MigOuts, reads: &[Place], writes: &[Place]) -> b
         && stand_in(cells, writes)
 }
 
+/// How many commands a body of the graph may take: four for a node, and three for a row.
+fn plain_most(graph: &MigOuts, writes: &[Place]) -> usize
+    ensures { result ≡ 4 * length graph.now.mig.nodes + 3 * row_count writes.now }
+{
+    let nodes = graph.mig.size() - u32::from(graph.mig.inputs()) - 1;
+    4 * nodes as usize + 3 * row_count(writes)
+}
+
 /// The commands of the body with its state in cells, at most so many.
 fn each_commands(
     home: Home,
@@ -154,31 +141,51 @@ fn each_commands(
 {
     let reads = held_places(home, &body.reads, alloc)?;
     let writes = held_places(home, &body.writes, alloc)?;
-    if !holds_one(home.cells, &body.graph, &reads, &writes) {
+    if reads.len() > 255 || !holds_one(home.cells, &body.graph, &reads, &writes) {
         return Ok(None);
     }
-    let nodes = body.graph.mig.size() - u32::from(body.graph.mig.inputs()) - 1;
-    let plain = 4 * nodes as usize + 3 * row_count(&writes);
-    commands_for(&body.graph, &reads, &writes, search, most.min(plain), alloc)
+    let few = most.min(plain_most(&body.graph, &writes));
+    commands_for(&body.graph, &reads, &writes, search, few, alloc)
 }
 
-/// The loop with the state in these cells, if its body takes at most so many commands.
+/// The commands of the body that finds its state in cells and leaves it in its row, at most so
+/// many.
+fn last_commands(
+    home: Home,
+    body: &Body,
+    most: usize,
+    alloc: Global,
+) -> Result<Option<Vec<BodyCmd>>, NoMemory>
+    ensures right { IfOk result (λ o. IfSome o (λ cmds. CarriesRight (held_last (home ∷ [])
+        (block_of body.now) cmds.items) (4 * length body.now.graph.mig.nodes
+        + 3 * row_count body.now.writes.items))) }
+    ensures few { IfOk result (λ o. IfSome o (λ cmds. length cmds.items ≤ most)) }
+{
+    let reads = held_places(home, &body.reads, alloc)?;
+    if reads.len() > 255 || body.graph.outs.len() != body.writes.len() {
+        return Ok(None);
+    }
+    let few = most.min(plain_most(&body.graph, &body.writes));
+    commands_for(&body.graph, &reads, &body.writes, Search::Whole, few, alloc)
+}
+
+/// The loop with the state in these cells, if its body takes at most `few` commands, and in its
+/// place at the top position at most `most`.
 fn held_in(
     home: Home,
     body: &Body,
     search: Search,
+    few: usize,
     most: usize,
     alloc: Global,
 ) -> Result<Option<HeldLoop>, NoMemory>
-    ensures held { IfOk result (λ o. IfSome o (λ r. IsHeldOne home (block_of body.now) (record {
-      start = r.start.items;
-      each = r.each.items;
-      store = r.store.items;
-    }))) }
+    ensures held { IfOk result (λ o. IfSome o (λ r. IsHeldOne home (block_of body.now)
+        (commands_in r))) }
     ensures home { IfOk result (λ o. IfSome o (λ r. r.home ≡ home)) }
-    ensures few { IfOk result (λ o. IfSome o (λ r. length r.each.items ≤ most)) }
+    ensures few { IfOk result (λ o. IfSome o (λ r. length r.each.items ≤ few)) }
+    ensures last { IfOk result (λ o. IfSome o (λ r. length r.last.items ≤ most)) }
 {
-    let Some(each) = each_commands(home, body, search, most, alloc)? else {
+    let Some(each) = each_commands(home, body, search, few, alloc)? else {
         return Ok(None);
     };
     let first = start_body(home, Vec::new(alloc), alloc)?;
@@ -186,16 +193,14 @@ fn held_in(
     let Some(start) = commands_for(graph, reads, writes, Search::Narrow, 1, alloc)? else {
         return Ok(None);
     };
-    let last = store_body(home, Vec::new(alloc), alloc)?;
-    let (graph, reads, writes) = (&last.graph, &last.reads, &last.writes);
-    let Some(store) = commands_for(graph, reads, writes, Search::Narrow, 1, alloc)? else {
+    let Some(last) = last_commands(home, body, most, alloc)? else {
         return Ok(None);
     };
     Ok(Some(HeldLoop {
         home,
         start,
         each,
-        store,
+        last,
     }))
 }
 
@@ -209,14 +214,7 @@ fn held_loop(
     most: usize,
     alloc: Global,
 ) -> Result<Option<HeldLoop>, NoMemory>
-    ensures held { IfOk result (λ o. IfSome o (λ r. IsHeldOne r.home (block_of body.now) (record {
-      start = r.start.items;
-      each = r.each.items;
-      store = r.store.items;
-    }))) }
-    ensures place { IfOk result (λ o. IfSome o (λ r. r.home.place ≡ place)) }
-    ensures start { IfOk result (λ o. IfSome o (λ r. r.home.start ≡ start)) }
-    ensures fewer { IfOk result (λ o. IfSome o (λ r. length r.each.items + 1 ≤ most)) }
+    ensures { IfOk result (λ o. IfSome o (λ r. IsLoopFor place start (block_of body.now) most r)) }
 {
     let mut best = None;
     let mut least = most;
@@ -228,7 +226,7 @@ fn held_loop(
             start,
         };
         if least > 0 {
-            if let Some(held) = held_in(home, body, search, least - 1, alloc)? {
+            if let Some(held) = held_in(home, body, search, least - 1, most, alloc)? {
                 least = held.each.len();
                 best = Some(held);
             }
@@ -246,14 +244,7 @@ pub(crate) fn own_loop(
     most: usize,
     alloc: Global,
 ) -> Result<Option<HeldLoop>, NoMemory>
-    ensures held { IfOk result (λ o. IfSome o (λ r. IsHeldOne r.home (block_of body.now) (record {
-      start = r.start.items;
-      each = r.each.items;
-      store = r.store.items;
-    }))) }
-    ensures place { IfOk result (λ o. IfSome o (λ r. r.home.place ≡ place)) }
-    ensures start { IfOk result (λ o. IfSome o (λ r. r.home.start ≡ start)) }
-    ensures fewer { IfOk result (λ o. IfSome o (λ r. length r.each.items + 1 ≤ most)) }
+    ensures { IfOk result (λ o. IfSome o (λ r. IsLoopFor place start (block_of body.now) most r)) }
 {
     match held_loop(place, start, body, Search::Narrow, most, alloc)? {
         Some(held) => Ok(Some(held)),
@@ -286,15 +277,8 @@ fn offered_loop(
     requires { AreNamed body.now.graph.mig body.now.graph.outs.items }
     ensures other { IfOk result (λ o. IfSome o (λ r. IsOther (block_of body.now)
         (block_of r.body))) }
-    ensures held { IfOk result (λ o. IfSome o (λ r. IsHeldOne r.held.home (block_of r.body)
-        (record {
-          start = r.held.start.items;
-          each = r.held.each.items;
-          store = r.held.store.items;
-        }))) }
-    ensures place { IfOk result (λ o. IfSome o (λ r. r.held.home.place ≡ place)) }
-    ensures start { IfOk result (λ o. IfSome o (λ r. r.held.home.start ≡ start)) }
-    ensures fewer { IfOk result (λ o. IfSome o (λ r. length r.held.each.items + 1 ≤ most)) }
+    ensures held { IfOk result (λ o. IfSome o (λ r. IsLoopFor place start (block_of r.body) most
+        r.held)) }
 {
     let Some(graph) = kept(&body.graph, offer, alloc)? else {
         return Ok(None);
@@ -326,15 +310,8 @@ pub(crate) fn other_loop(
     requires { AreNamed body.now.graph.mig body.now.graph.outs.items }
     ensures other { IfOk result (λ o. IfSome o (λ r. IsOther (block_of body.now)
         (block_of r.body))) }
-    ensures held { IfOk result (λ o. IfSome o (λ r. IsHeldOne r.held.home (block_of r.body)
-        (record {
-          start = r.held.start.items;
-          each = r.held.each.items;
-          store = r.held.store.items;
-        }))) }
-    ensures place { IfOk result (λ o. IfSome o (λ r. r.held.home.place ≡ place)) }
-    ensures start { IfOk result (λ o. IfSome o (λ r. r.held.home.start ≡ start)) }
-    ensures fewer { IfOk result (λ o. IfSome o (λ r. length r.held.each.items + 1 ≤ most)) }
+    ensures held { IfOk result (λ o. IfSome o (λ r. IsLoopFor place start (block_of r.body) most
+        r.held)) }
 {
     let mut best = None;
     let mut least = most;
@@ -347,59 +324,88 @@ pub(crate) fn other_loop(
     Ok(best)
 }
 
+/// The body with its state in cells, and with these commands, if its graph is copied.
+fn held_body(
+    home: Home,
+    body: &Body,
+    found: Vec<BodyCmd>,
+    alloc: Global,
+) -> Result<Option<Body>, NoMemory>
+    ensures { IfOk result (λ o. IfSome o (λ r. block_of r
+        ≡ held_body (home ∷ []) (block_of body.now) found.items)) }
+{
+    let Some(graph) = copied(&body.graph, alloc)? else {
+        return Ok(None);
+    };
+    Ok(Some(Body {
+        reads: held_places(home, &body.reads, alloc)?,
+        graph,
+        writes: held_places(home, &body.writes, alloc)?,
+        found,
+    }))
+}
+
+/// The body that leaves its state in the row, so too.
+fn held_last(
+    home: Home,
+    body: &Body,
+    found: Vec<BodyCmd>,
+    alloc: Global,
+) -> Result<Option<Body>, NoMemory>
+    ensures { IfOk result (λ o. IfSome o (λ r. block_of r
+        ≡ held_last (home ∷ []) (block_of body.now) found.items)) }
+{
+    let Some(graph) = copied(&body.graph, alloc)? else {
+        return Ok(None);
+    };
+    Ok(Some(Body {
+        reads: held_places(home, &body.reads, alloc)?,
+        graph,
+        writes: body.writes.to_vec(alloc)?,
+        found,
+    }))
+}
+
 impl HeldLoop {
-    /// The loop's steps: the start, the body at each position, and the store.
-    pub(crate) fn into_program(self, body: Body, alloc: Global) -> Result<LoopProgram, NoMemory>
-        ensures { IfOk result (λ p. steps_of p ≡ held_steps (self.home ∷ []) (block_of body)
-            (record {
-              start = self.start.items;
-              each = self.each.items;
-              store = self.store.items;
-            })) }
+    /// The loop's steps: the start, and the body at each position. There are none where the body's
+    /// graph isn't copied.
+    pub(crate) fn into_program(
+        self,
+        body: &Body,
+        alloc: Global,
+    ) -> Result<Option<LoopProgram>, NoMemory>
+        ensures { IfOk result (λ o. IfSome o (λ p. steps_of p ≡ held_steps (self.home ∷ [])
+            (block_of body.now) (commands_in self))) }
     {
         let HeldLoop {
             home,
             start,
             each,
-            store,
+            last,
         } = self;
+        let Some(each) = held_body(home, body, each, alloc)? else {
+            return Ok(None);
+        };
+        let Some(last) = held_last(home, body, last, alloc)? else {
+            return Ok(None);
+        };
         let first = start_body(home, start, alloc)?;
-        let held = held_body(home, body, each, alloc)?;
-        let last = store_body(home, store, alloc)?;
+        let mut turns = Vec::new(alloc);
+        keep(&mut turns, Turn { each, last })?;
         let mut steps = Vec::new(alloc);
         keep(&mut steps, Step::Once(first))?;
-        keep(&mut steps, Step::Each(held))?;
-        keep(&mut steps, Step::Once(last))?;
-        Ok(LoopProgram { steps })
+        keep(&mut steps, Step::Alternate(turns))?;
+        Ok(Some(LoopProgram { steps }))
     }
 }
 
 impl OtherLoop {
-    /// The steps of the loop that does the other body.
-    pub(crate) fn into_program(self, alloc: Global) -> Result<LoopProgram, NoMemory>
-        ensures { IfOk result (λ p. steps_of p ≡ held_steps (self.held.home ∷ [])
-            (block_of self.body) (record {
-              start = self.held.start.items;
-              each = self.held.each.items;
-              store = self.held.store.items;
-            })) }
+    /// The steps of the loop that does the other body, so too.
+    pub(crate) fn into_program(self, alloc: Global) -> Result<Option<LoopProgram>, NoMemory>
+        ensures { IfOk result (λ o. IfSome o (λ p. steps_of p ≡ held_steps (self.held.home ∷ [])
+            (block_of self.body) (commands_in self.held))) }
     {
         let OtherLoop { body, held } = self;
-        held.into_program(body, alloc)
+        held.into_program(&body, alloc)
     }
-}
-
-/// The body with its state in cells, and with these commands.
-fn held_body(home: Home, body: Body, found: Vec<BodyCmd>, alloc: Global) -> Result<Body, NoMemory>
-    ensures { IfOk result (λ r. block_of r ≡ held_body (home ∷ []) (block_of body) found.items) }
-{
-    let reads = held_places(home, &body.reads, alloc)?;
-    let writes = held_places(home, &body.writes, alloc)?;
-    let graph = body.into_graph();
-    Ok(Body {
-        reads,
-        graph,
-        writes,
-        found,
-    })
 }

@@ -3,6 +3,7 @@
 
 mod body;
 mod choice;
+mod copied;
 mod held;
 mod home;
 mod inputs;

@@ -1,6 +1,6 @@
 //! The loop program of a serial block.
 
-ghost use Rattle.std.specs.Prelude.{◌≡◌, ◌≤◌, ◌+◌, ◌++◌, ◌∷◌, [], map, length, IfOk, IfSome};
+ghost use Rattle.std.specs.Prelude.{◌≡◌, ◌++◌, ◌∷◌, [], map, IfOk, IfSome};
 ghost use Rattle.mig_graph.specs.Outputs.{AreNamed};
 ghost use Rattle.op_text.specs.Language.{Visit};
 ghost use Rattle.loop_ir.specs.Plain.{block_of, step_of, steps_of};
@@ -8,12 +8,10 @@ ghost use Rattle.loop_ir.specs.Plain.StepOf.{Along};
 ghost use Rattle.loop_ir.specs.Statements.{slots_of, BlockMeets, IsPlaced};
 ghost use Rattle.loop_ir.specs.Lowered.{IsLowered};
 ghost use Rattle.block_lower.specs.Inputs.{block_from};
-ghost use Rattle.block_lower.specs.Choice.{IsOther};
-ghost use Rattle.block_lower.specs.Form.{start, homes, IsBlockProgram};
-ghost use Rattle.block_lower.specs.Held.{IsHeldOne};
+ghost use Rattle.block_lower.specs.Form.{start, IsInCells, IsBlockProgram};
 
 use crate::body::{BlockBody, block_body, constant};
-use crate::held::{HeldLoop, OtherLoop, other_loop, own_loop};
+use crate::held::{other_loop, own_loop};
 use crate::places::place_of;
 use faults::keep;
 use loop_ir::{Body, LoopProgram, NameMap, Step};
@@ -56,63 +54,31 @@ fn row_loop(
     Ok(LoopProgram { steps })
 }
 
-/// The loop of a block of one state with the state in cells, where its own body takes fewer
-/// commands.
-fn own_in_cells(
-    down: bool,
-    states: &[State],
-    body: &Body,
-    most: usize,
-    names: &NameMap,
-    alloc: Global,
-) -> Result<Option<HeldLoop>, NoMemory>
-    ensures one { IfOk result (λ o. IfSome o (λ r. length states.now ≡ 1)) }
-    ensures homes { IfOk result (λ o. IfSome o (λ r. homes (slots_of names.now) down states.now
-        (r.home.cells ∷ []) ≡ r.home ∷ [])) }
-    ensures held { IfOk result (λ o. IfSome o (λ r. IsHeldOne r.home (block_of body.now) (record {
-      start = r.start.items;
-      each = r.each.items;
-      store = r.store.items;
-    }))) }
-    ensures fewer { IfOk result (λ o. IfSome o (λ r. length r.each.items + 1 ≤ most)) }
-{
-    match states {
-        [state] => {
-            let place = place_of(names, down, &state.name);
-            own_loop(place, state.start, body, most, alloc)
-        }
-        _ => Ok(None),
-    }
-}
-
-/// The same of another body: that of the fewest commands.
-fn other_in_cells(
+/// The loop of a block of one state with the state in cells, where its body, or else another, takes
+/// fewer commands so.
+fn in_cells(
     down: bool,
     states: &[State],
     body: &Body,
     offers: &[Sketch],
-    most: usize,
     names: &NameMap,
     alloc: Global,
-) -> Result<Option<OtherLoop>, NoMemory>
+) -> Result<Option<LoopProgram>, NoMemory>
     requires { AreNamed body.now.graph.mig body.now.graph.outs.items }
-    ensures one { IfOk result (λ o. IfSome o (λ r. length states.now ≡ 1)) }
-    ensures homes { IfOk result (λ o. IfSome o (λ r. homes (slots_of names.now) down states.now
-        (r.held.home.cells ∷ []) ≡ r.held.home ∷ [])) }
-    ensures other { IfOk result (λ o. IfSome o (λ r. IsOther (block_of body.now)
-        (block_of r.body))) }
-    ensures held { IfOk result (λ o. IfSome o (λ r. IsHeldOne r.held.home (block_of r.body)
-        (record {
-          start = r.held.start.items;
-          each = r.held.each.items;
-          store = r.held.store.items;
-        }))) }
-    ensures fewer { IfOk result (λ o. IfSome o (λ r. length r.held.each.items + 1 ≤ most)) }
+    ensures { IfOk result (λ o. IfSome o (λ p. IsInCells (slots_of names.now) down states.now
+        (block_of body.now) (steps_of p))) }
 {
     match states {
         [state] => {
             let place = place_of(names, down, &state.name);
-            other_loop(place, state.start, body, offers, most, alloc)
+            let most = body.found.len();
+            if let Some(own) = own_loop(place, state.start, body, most, alloc)? {
+                return own.into_program(body, alloc);
+            }
+            match other_loop(place, state.start, body, offers, most, alloc)? {
+                Some(other) => other.into_program(alloc),
+                None => Ok(None),
+            }
         }
         _ => Ok(None),
     }
@@ -138,12 +104,8 @@ pub fn lower_block(
         (steps_of p)) }
 {
     let BlockBody { body, offers } = block_body(down, lets, assigns, names, alloc)?;
-    let most = body.found.len();
-    if let Some(own) = own_in_cells(down, states, &body, most, names, alloc)? {
-        return own.into_program(body, alloc);
-    }
-    match other_in_cells(down, states, &body, &offers, most, names, alloc)? {
-        Some(other) => other.into_program(alloc),
+    match in_cells(down, states, &body, &offers, names, alloc)? {
+        Some(program) => Ok(program),
         None => row_loop(down, states, body, names, alloc),
     }
 }

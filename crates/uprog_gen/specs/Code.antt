@@ -304,20 +304,20 @@ span_code Full inner pc = nest_code inner pc
 span_code First inner pc = outside ++ inner (pc + 1 + 1)
 span_code Above inner pc = above_code inner pc
 
--- bodies that take turns have one register for the position
+-- bodies that take turns have one register for the position, and one for how many come after it
 abbrev pub turn_plan : Plan
-turn_plan = record { first = At_inner; second = Zero; third = Zero }
+turn_plan = record { first = At_inner; second = Zero; third = InnerDown }
 
 -- the instructions of the commands of one of them
 abbrev pub turn_uops : Part → List Uop
 turn_uops p = map (code_uop turn_plan p.block) p.cmds
 
--- One of bodies that take turns, whose first instruction has this place. Register 2 holds how many
+-- One of bodies that take turns, whose first instruction has this place. Register 5 holds how many
 -- positions come after this one, and 4 holds 1: where none comes, the other body stands in its
 -- place and a jump leads out of the loop
 abbrev pub either_code : Part → Part → ℕ → ℕ → List Uop
-either_code p last out pc = Bnez 2 (pc + 1 + length last.cmds + 1)
-    ∷ (turn_uops last ++ (Bnez 4 out ∷ (turn_uops p ++ (AddI 3 1 ∷ SubI 2 1 ∷ []))))
+either_code p last out pc = Bnez 5 (pc + 1 + length last.cmds + 1)
+    ∷ (turn_uops last ++ (Bnez 4 out ∷ (turn_uops p ++ (AddI 3 1 ∷ SubI 5 1 ∷ []))))
 
 -- how many instructions it has
 abbrev pub either_size : Part → Part → ℕ
@@ -332,7 +332,7 @@ turns_list (t ∷ ts) out pc = either_code t.each t.last out pc
 -- before the loop of bodies that take turns, whose first instruction has this place: the last of
 -- these leads out of it, to the end
 abbrev pub start_code : ℕ → ℕ → List Uop
-start_code head end = SetT 2 ∷ SetI 3 0 ∷ SetI 4 1 ∷ Bnez 4 head ∷ Bnez 4 end ∷ []
+start_code head end = SetT 5 ∷ SetI 3 0 ∷ SetI 4 1 ∷ Bnez 4 head ∷ Bnez 4 end ∷ []
 
 -- the loop of bodies that take turns, in which each jumps back to the way out
 abbrev pub cycle_code : List (TurnOf Part) → ℕ → List Uop

@@ -14,7 +14,7 @@ use Rattle.mig_graph.specs.Outputs.{lit_at, AreNamed}
 use Rattle.mig_graph.specs.Reduced.{IsReduced}
 use Rattle.uprog_code.specs.Machine.{trace, issues_of}
 use Rattle.uprog_code.specs.Shape.{Microprogram}
-use Rattle.loop_ir.specs.Plain.{Block as Body, StepOf}
+use Rattle.loop_ir.specs.Plain.{Block as Body, TurnOf, StepOf}
 use Rattle.loop_ir.specs.Plain.StepOf.{Single, Along, Nest, Pairs, Alternate}
 use Rattle.block_lower.specs.Inputs.{block_inputs, name_at}
 use Rattle.uprog_gen.specs.Costs.{op_aaps, op_aps}
@@ -90,18 +90,27 @@ AreGraphed (e ∷ es) [] gs = ⊥
 AreGraphed (e ∷ es) (op ∷ ops) gs = (own : List Graphed) × (rest : List Graphed)
     × (gs ≡ own ++ rest) × IsGraphed e op own × AreGraphed es ops rest
 
--- the graph that a step does at each position, if it does one
-abbrev pub step_graph : StepOf Body → List Graphed
-step_graph (Single b) = []
-step_graph (Along b) = let g : Graphed = record { graph = b.graph; outs = b.outs } in g ∷ []
-step_graph (Nest span parts) = []
-step_graph (Pairs b) = []
-step_graph (Alternate t) = []
+-- a body's graph
+abbrev pub body_graph : Body → Graphed
+body_graph b = record { graph = b.graph; outs = b.outs }
 
 -- the second, if there is one, or else the first
 abbrev pub later : List Graphed → List Graphed → List Graphed
 later own [] = own
 later own (g ∷ gs) = g ∷ gs
+
+-- the graph of the last of bodies that take turns
+abbrev pub turns_graph : List (TurnOf Body) → List Graphed
+turns_graph [] = []
+turns_graph (t ∷ ts) = later (body_graph t.each ∷ []) (turns_graph ts)
+
+-- the graph that a step does at each position, if it does one
+abbrev pub step_graph : StepOf Body → List Graphed
+step_graph (Single b) = []
+step_graph (Along b) = body_graph b ∷ []
+step_graph (Nest span parts) = []
+step_graph (Pairs b) = []
+step_graph (Alternate ts) = turns_graph ts
 
 -- the graph of the last of the steps that does one at each position
 abbrev pub last_graph : List (StepOf Body) → List Graphed

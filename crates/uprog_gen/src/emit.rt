@@ -413,18 +413,19 @@ pub fn push_pairs(code: &mut Vec<Uop>, body: &Body, made: &Made) -> Result<(), N
 pub fn push_start(code: &mut Vec<Uop>, head: u16) -> Result<(), NoMemory>
     ensures { OnOk result (code.new.items ≡ code.old.items ++ start_code head 0) }
 {
-    keep(code, Uop::SetT(2))?;
+    keep(code, Uop::SetT(5))?;
     keep(code, Uop::SetI(3, 0))?;
     keep(code, Uop::SetI(4, 1))?;
     keep(code, Uop::Bnez(4, head))?;
     keep(code, Uop::Bnez(4, 0))
 }
 
-/// The subscripts of bodies that take turns: register 3 holds the position.
+/// The subscripts of bodies that take turns: register 3 holds the position, and 5 how many come after
+/// it.
 const TURN_PLAN: Plan = Plan {
     first: Sub::Inner,
     second: Sub::Zero,
-    third: Sub::Zero,
+    third: Sub::InnerDown,
 };
 
 /// One of bodies that take turns, and the one that stands in its place at the top position.
@@ -444,10 +445,10 @@ pub fn push_either(
         (part_of (block_of last.now) last_made.now) out (length code.old.items)) }
 {
     let more = code.len() as u16 + 1 + last_made.cmds.len() as u16 + 1;
-    keep(code, Uop::Bnez(2, more))?;
+    keep(code, Uop::Bnez(5, more))?;
     push_commands(code, TURN_PLAN, last, last_made)?;
     keep(code, Uop::Bnez(4, out))?;
     push_commands(code, TURN_PLAN, body, made)?;
     keep(code, Uop::AddI(3, 1))?;
-    keep(code, Uop::SubI(2, 1))
+    keep(code, Uop::SubI(5, 1))
 }

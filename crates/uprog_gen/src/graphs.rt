@@ -2,23 +2,37 @@
 
 ghost use Rattle.std.specs.Prelude.{◌≡◌, ◌++◌, ◌∷◌, [], map, option_to_list, OnOk};
 ghost use Rattle.op_text.specs.Language.{statement, operation};
-ghost use Rattle.loop_ir.specs.Plain.{step_of, steps_of};
-ghost use Rattle.uprog_gen.specs.Graphs.{graphed_of, step_graph, last_graph, statement_graph};
-ghost use Rattle.uprog_gen.specs.Graphs.{graphs_in};
+ghost use Rattle.loop_ir.specs.Plain.{turn_of, step_of, steps_of};
+ghost use Rattle.uprog_gen.specs.Graphs.{graphed_of, turns_graph, step_graph, last_graph};
+ghost use Rattle.uprog_gen.specs.Graphs.{statement_graph, graphs_in};
 
 use crate::ops::Lowered;
 use faults::keep;
-use loop_ir::{LoopProgram, Step};
+use loop_ir::{LoopProgram, Step, Turn};
 use mig_graph::{MigOuts, NoMemory};
 use op_text::{Op, Stmt};
+
+/// The graph of the last of bodies that take turns.
+fn turns_graph(mut turns: Vec<Turn>) -> Option<MigOuts>
+    ensures { map graphed_of (option_to_list result) ≡ turns_graph (map turn_of turns.items) }
+{
+    match turns.pop() {
+        None => None,
+        Some(turn) => {
+            let Turn { each, last: _ } = turn;
+            Some(each.into_graph())
+        }
+    }
+}
 
 fn step_graph(step: Step) -> Option<MigOuts>
     ensures { map graphed_of (option_to_list result) ≡ step_graph (step_of step) }
 {
     match step {
         Step::Each(body) => Some(body.into_graph()),
+        Step::Alternate(turns) => turns_graph(turns),
         Step::Nest(_) | Step::First(_) | Step::Above(_) => None,
-        Step::Once(_) | Step::Pairs(_) | Step::Alternate(_) => None,
+        Step::Once(_) | Step::Pairs(_) => None,
     }
 }
 

@@ -21,7 +21,8 @@ use Rattle.uprog_code.specs.Shape.{Microprogram, microprogram_of}
 use Rattle.loop_ir.specs.declared.ir.LoopProgram.{LoopProgram}
 use Rattle.loop_ir.specs.declared.ir.Step.{Step}
 use Rattle.uprog_code.specs.Count.{counts_of}
-use Rattle.loop_ir.specs.Plain.{StepOf, Block, AllParts, step_of, steps_of}
+use Rattle.loop_ir.specs.declared.ir.Turn.{Turn}
+use Rattle.loop_ir.specs.Plain.{StepOf, TurnOf, Block, AllParts, block_of, turn_of, step_of, steps_of}
 use Rattle.loop_ir.specs.Plain.StepOf.{Along}
 use Rattle.loop_ir.specs.Loops.{all_rounds}
 use Rattle.loop_ir.specs.Statements.{Slots}
@@ -36,7 +37,7 @@ use Rattle.uprog_gen.proofs.Costs.Counted.{one_exactly, all_exactly}
 use Rattle.uprog_gen.proofs.Rows.Top.{both_counts}
 use Rattle.uprog_gen.specs.Graphs.{Graphed, IsGraphOf, AreGraphsOf, op_commands, graphed_ceiling}
 use Rattle.uprog_gen.specs.Graphs.{IsGraphed}
-use Rattle.uprog_gen.specs.Graphs.{AreGraphed, step_graph, later, last_graph}
+use Rattle.uprog_gen.specs.Graphs.{AreGraphed, body_graph, turns_graph, step_graph, later, last_graph}
 use Rattle.uprog_gen.specs.Graphs.{statement_graph, graphs_in}
 use Rattle.uprog_gen.proofs.Naming.Stage.{Stage, first_stage, next_stage}
 use Rattle.uprog_gen.proofs.Coding.Joined.{IsWithin}
@@ -61,6 +62,18 @@ pub last_popped : (items rest : List Step) (step : Step) → items ≡ rest ++ s
 last_popped items rest step e = ap (λ l. last_graph (map step_of l)) e
     ∙ ap last_graph (map-append step_of rest (step ∷ []))
     ∙ last_of (map step_of rest) (step_of step)
+
+turns_of_more : (turns : List (TurnOf Block)) (t : TurnOf Block)
+    → turns_graph (turns ++ t ∷ []) ≡ later (turns_graph turns) (body_graph t.each ∷ [])
+turns_of_more [] t = refl
+turns_of_more (u ∷ turns) t = ap (later (body_graph u.each ∷ [])) (turns_of_more turns t)
+    ∙ later-twice (body_graph u.each ∷ []) (turns_graph turns) (body_graph t.each ∷ [])
+
+pub turn_popped : (items rest : List Turn) (turn : Turn) → items ≡ rest ++ turn ∷ []
+    → turns_graph (map turn_of items) ≡ body_graph (block_of turn.each) ∷ []
+turn_popped items rest turn e = ap (λ l. turns_graph (map turn_of l)) e
+    ∙ ap turns_graph (map-append turn_of rest (turn ∷ []))
+    ∙ turns_of_more (map turn_of rest) (turn_of turn)
 
 -- statement after statement
 abbrev pub pair_graphs : List (Stmt × LoopProgram) → List Graphed

@@ -1,11 +1,11 @@
 -- The code of bodies that take turns.
-use Rattle.std.proofs.Common.{◌≡◌, ℕ, zero, suc, ◌+◌, ◌-◌, ◌*◌, ◌<◌, ◌≤◌, true, false}
+use Rattle.std.proofs.Common.{◌≡◌, ℕ, zero, suc, ◌+◌, ◌-◌, ◌*◌, ◌<◌, ◌≤◌, Bool, true, false}
 use Rattle.std.proofs.Common.{List, [], ◌∷◌, ◌++◌, map, length, refl, sym, ap, ◌∙◌, subst}
-use Rattle.std.proofs.Common.{⊎_elim, ◌⊎◌, inl, inr, arith, append-nil, append_assoc}
+use Rattle.std.proofs.Common.{◌⊎◌, inl, inr, arith, append-nil, append_assoc}
 use Rattle.std.proofs.Common.{length-append}
 use Rattle.std.specs.Prelude.{slice_index, ◌==◌, ◌||◌}
 use Rattle.std.specs.List.{AllByRecursion, list_all}
-use Rattle.std.proofs.lemmas.Bool.{and_parts, cases_Bool, ne_eqb}
+use Rattle.std.proofs.lemmas.Bool.{and_parts, or_cases, ne_eqb}
 use Rattle.std.proofs.lemmas.List.{get_or_past, length-map}
 use Rattle.bit_rows.specs.declared.TheConstants.{WIDTH_MAX}
 use Rattle.uprog_code.specs.Machine.{Issue, all_in_range}
@@ -14,7 +14,7 @@ use Rattle.uprog_code.specs.declared.code.Uop.{Uop}
 use Rattle.uprog_code.specs.declared.code.Uop.TheVariants.{SetI, SetT, AddI, SubI, Bnez}
 use Rattle.loop_ir.specs.declared.ir.Place.{Place}
 use Rattle.loop_ir.specs.declared.ir.Sub.{Sub}
-use Rattle.loop_ir.specs.declared.ir.Sub.TheVariants.{Zero, Inner as At_inner}
+use Rattle.loop_ir.specs.declared.ir.Sub.TheVariants.{Zero, Inner as At_inner, InnerDown}
 use Rattle.loop_ir.specs.Plain.{Block, TurnOf, AllTurns}
 use Rattle.loop_ir.specs.Loops.{RoundOf, round_at, turns_from, sub_value}
 use Rattle.loop_ir.specs.Spots.{nth_place}
@@ -36,37 +36,40 @@ InRange head n r = AllByRecursion (λ c. all_in_range head n c ≡ true)
     (map (round_command n r) r.part.cmds)
 
 abbrev IsInner : Sub → Type 0
-IsInner s = (s ≡ Zero) ⊎ (s ≡ At_inner)
+IsInner s = (s ≡ Zero) ⊎ ((s ≡ At_inner) ⊎ (s ≡ InnerDown))
 
-one_inner : (s : Sub) → (same_sub s Zero || same_sub s At_inner) ≡ true → IsInner s
-one_inner s h = ⊎_elim (λ (a : same_sub s Zero ≡ true). inl (sub_true s Zero a))
-    (λ (a : same_sub s Zero ≡ false). inr (sub_true s At_inner
-    (sym (ap (λ b. b || same_sub s At_inner) a) ∙ h))) (cases_Bool (same_sub s Zero))
+abbrev is_inner : Sub → Bool
+is_inner s = same_sub s Zero || (same_sub s At_inner || same_sub s InnerDown)
 
-inner_front : (xs ys : List Place)
-    → list_all (λ p. same_sub p.sub Zero || same_sub p.sub At_inner) (xs ++ ys) ≡ true → (k : ℕ)
+one_inner : (s : Sub) → is_inner s ≡ true → IsInner s
+one_inner s h = elim (or_cases (same_sub s Zero) (same_sub s At_inner || same_sub s InnerDown) h) [
+  | inl a ↦ inl (sub_true s Zero a)
+  | inr a ↦ elim (or_cases (same_sub s At_inner) (same_sub s InnerDown) a) [
+    | inl c ↦ inr (inl (sub_true s At_inner c))
+    | inr c ↦ inr (inr (sub_true s InnerDown c))
+  ]
+]
+
+inner_front : (xs ys : List Place) → list_all (λ p. is_inner p.sub) (xs ++ ys) ≡ true → (k : ℕ)
     → IsInner (nth_place xs k).sub
 inner_front [] ys h k = inl refl
-inner_front (x ∷ xs) ys h zero = one_inner x.sub
-    (and_parts (same_sub x.sub Zero || same_sub x.sub At_inner) _ h).0
-inner_front (x ∷ xs) ys h (suc k) = inner_front xs ys
-    (and_parts (same_sub x.sub Zero || same_sub x.sub At_inner) _ h).1 k
+inner_front (x ∷ xs) ys h zero = one_inner x.sub (and_parts (is_inner x.sub) _ h).0
+inner_front (x ∷ xs) ys h (suc k) = inner_front xs ys (and_parts (is_inner x.sub) _ h).1 k
 
-inner_back : (xs ys : List Place)
-    → list_all (λ p. same_sub p.sub Zero || same_sub p.sub At_inner) (xs ++ ys) ≡ true → (k : ℕ)
+inner_back : (xs ys : List Place) → list_all (λ p. is_inner p.sub) (xs ++ ys) ≡ true → (k : ℕ)
     → IsInner (nth_place ys k).sub
-inner_back [] ys h k = inner_front ys [] (subst (λ l. list_all (λ (p : Place). same_sub p.sub Zero
-    || same_sub p.sub At_inner) l ≡ true) (sym (append-nil ys)) h) k
-inner_back (x ∷ xs) ys h k = inner_back xs ys
-    (and_parts (same_sub x.sub Zero || same_sub x.sub At_inner) _ h).1 k
+inner_back [] ys h k = inner_front ys [] (subst (λ l. list_all (λ (p : Place). is_inner p.sub) l
+    ≡ true) (sym (append-nil ys)) h) k
+inner_back (x ∷ xs) ys h k = inner_back xs ys (and_parts (is_inner x.sub) _ h).1 k
 
 module _ (head : Shape) (code : List Uop) (n : ℕ) where
   -- how many positions come after this one, the position, and 1
   record AtTurn (left i : ℕ) (regs : List ℕ) : Type 0 where
     size : length regs ≡ 8
-    left_is : slice_index regs 2 ≡ left
+    left_is : slice_index regs 5 ≡ left
     at : slice_index regs 3 ≡ i
     one : slice_index regs 4 ≡ 1
+    all : left + i + 1 ≡ n
 
   abbrev Eight : List ℕ → Type 0
   Eight r = length r ≡ 8
@@ -75,8 +78,12 @@ module _ (head : Shape) (code : List Uop) (n : ℕ) where
       → slice_index regs (register turn_plan s) ≡ sub_value n i 0 s
   register_holds s left i regs g (inl e) = subst (λ u. slice_index regs (register turn_plan u)
       ≡ sub_value n i 0 u) (sym e) (get_or_past regs 8 0 (omega (arith, g.size)))
-  register_holds s left i regs g (inr e) = subst (λ u. slice_index regs (register turn_plan u)
+  register_holds s left i regs g (inr (inl e)) = subst (λ u. slice_index regs (register turn_plan u)
       ≡ sub_value n i 0 u) (sym e) g.at
+  register_holds s left i regs g (inr (inr e)) =
+      let here : left ≡ n - 1 - i = let a = g.all in omega (arith, a) in
+      subst (λ u. slice_index regs (register turn_plan u) ≡ sub_value n i 0 u) (sym e)
+      (g.left_is ∙ here)
 
   names : (b : Block) (left i : ℕ) (regs : List ℕ) → stays_inner b ≡ true → AtTurn left i regs
       → Names n turn_plan b i 0 regs
@@ -99,7 +106,7 @@ module _ (head : Shape) (code : List Uop) (n : ℕ) where
 
   module _ (p last : Part) (out pc i : ℕ) (has : HasAt code pc (either_code p last out pc)) where
     abbrev post : List Uop
-    post = AddI 3 1 ∷ SubI 2 1 ∷ []
+    post = AddI 3 1 ∷ SubI 5 1 ∷ []
 
     abbrev after_last : List Uop
     after_last = Bnez 4 out ∷ (turn_uops p ++ post)
@@ -117,7 +124,7 @@ module _ (head : Shape) (code : List Uop) (n : ℕ) where
         let q = pc + 1 in
         run_then head code n pc q out 1 (u + 1) (u + 2) regs [] (commands last i ++ []) (AtTurn 0 i)
         (AtTurn 0 i) (omega arith)
-        (run_jump head code n pc 2 (pc + 1 + length last.cmds + 1) regs true (AtTurn 0 i) has.0
+        (run_jump head code n pc 5 (pc + 1 + length last.cmds + 1) regs true (AtTurn 0 i) has.0
         (ap (λ v. v == 0) g.left_is) g)
         (λ x k. run_then head code n q (q + u) out u 1 (u + 1) x (commands last i) [] (AtTurn 0 i)
         (AtTurn 0 i) refl
@@ -143,7 +150,7 @@ module _ (head : Shape) (code : List Uop) (n : ℕ) where
           length-map p.cmds (code_uop turn_plan p.block),
         ) in
         let jump = run_at head code n pc (pc + 1 + length last.cmds + 1) q regs 1 [] A more
-        (run_jump head code n pc 2 (pc + 1 + length last.cmds + 1) regs false A has.0
+        (run_jump head code n pc 5 (pc + 1 + length last.cmds + 1) regs false A has.0
         (ap (λ v. v == 0) g.left_is ∙ ne_eqb (suc left) 0 (λ z. absurd (omega (arith, z)))) g) in
         subst (λ l. Runs head code n pc regs (u + 3) l (pc + either_size p last)
         (AtTurn left (i + 1))) (append-nil (commands p i))
@@ -165,9 +172,10 @@ module _ (head : Shape) (code : List Uop) (n : ℕ) where
           at = d.others 3 (λ f. absurd (omega (arith, f))) ∙ c.this;
           one = d.others 4 (λ f. absurd (omega (arith, f)))
               ∙ c.others 4 (λ f. absurd (omega (arith, f))) ∙ m.one;
+          all = let a = m.all in omega (arith, a);
         })
-        (let two = c.others 2 (λ f. absurd (omega (arith, f))) ∙ m.left_is in
-        run_sub head code n (q + u + 1) 2 1 (λ v. v ≡ left) z tail.1.0 (omega (arith, two))
+        (let two = c.others 5 (λ f. absurd (omega (arith, f))) ∙ m.left_is in
+        run_sub head code n (q + u + 1) 5 1 (λ v. v ≡ left) z tail.1.0 (omega (arith, two))
         (omega (arith, c.size, m.size)) (omega (arith, two))))))))
 
   -- one of the bodies at this place, from which the code goes on to the next, or out of the loop, and
@@ -300,7 +308,7 @@ module _ (head : Shape) (code : List Uop) (n : ℕ) where
       run_at head code n pc end (pc + long) regs (4 + n * long) cs Eight at_end
       (run_then head code n pc (pc + 1) end 1 (3 + n * long) (4 + n * long) regs [] cs _ Eight
       (omega arith)
-      (run_set head code n pc 2 (n - 1) (λ v. v ≡ n - 1) regs (SetT 2) has.0 (λ left. refl)
+      (run_set head code n pc 5 (n - 1) (λ v. v ≡ n - 1) regs (SetT 5) has.0 (λ left. refl)
       (omega (arith, size)) refl)
       (λ r c. run_then head code n (pc + 1) (pc + 1 + 1) end 1 (2 + n * long) (3 + n * long) r [] cs
       _ Eight (omega arith)
@@ -311,10 +319,11 @@ module _ (head : Shape) (code : List Uop) (n : ℕ) where
       (run_weaken head code n (pc + 1 + 1) (pc + 1 + 1 + 1) s 1 [] _ (AtTurn (n - 1) 0)
       (λ z e. record {
         size = e.size ∙ d.size ∙ c.size ∙ size;
-        left_is = e.others 2 (λ f. absurd (omega (arith, f)))
-            ∙ d.others 2 (λ f. absurd (omega (arith, f))) ∙ c.this;
+        left_is = e.others 5 (λ f. absurd (omega (arith, f)))
+            ∙ d.others 5 (λ f. absurd (omega (arith, f))) ∙ c.this;
         at = e.others 3 (λ f. absurd (omega (arith, f))) ∙ d.this;
         one = e.this;
+        all = omega (arith, some);
       })
       (run_set head code n (pc + 1 + 1) 4 1 (λ v. v ≡ 1) s (SetI 4 1) has.1.1.0 (λ left. refl)
       (omega (arith, size, c.size, d.size)) refl))
