@@ -30,7 +30,7 @@ use Rattle.word_mul.specs.declared.shapes.NestPart.TheVariants as part
 use Rattle.word_mul.specs.declared.shapes.StepForm.{StepForm}
 use Rattle.word_mul.specs.declared.shapes.StepForm.TheVariants as step
 use Rattle.word_mul.specs.declared.shapes.NestedProgram.{NestedProgram}
-use Rattle.word_mul.specs.declared.table.TheConstants.{NESTED}
+use Rattle.word_mul.specs.declared.table.TheConstants.{MUL, DIV, REM, BITCOUNT, DIVMOD}
 
 -- x and not y
 abbrev pub without : Mark → Mark → Mark → Marked
@@ -131,14 +131,14 @@ steps_of_forms (Some (step.Nest span parts) ∷ ss) = Nest span (parts_of parts)
 abbrev pub row_steps : NestedProgram → List (StepOf Marked)
 row_steps r = steps_of_forms r.steps
 
--- an operation's row of the table
-abbrev pub program_in : List (WordOp × NestedProgram) → WordOp → Option NestedProgram
-program_in [] p = None
-program_in (r ∷ rows) p = if number r.0 == number p then Some r.1 else program_in rows p
-
--- the row that the table has of an operation, if it has one
+-- the program that the table has of an operation, if it has one
 abbrev pub program_of : WordOp → Option NestedProgram
-program_of p = program_in NESTED p
+program_of o.Mul = Some MUL
+program_of o.Div = Some DIV
+program_of o.Rem = Some REM
+program_of o.Bitcount = Some BITCOUNT
+program_of o.Divmod = Some DIVMOD
+program_of p = None
 
 -- the steps of a row, and none where there is no row
 abbrev pub steps_in : Option NestedProgram → List (StepOf Marked)

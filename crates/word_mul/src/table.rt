@@ -1,7 +1,7 @@
 //! The loop program of each operation that takes a pass for each position.
 
 ghost use Rattle.std.specs.Prelude.{◌≡◌};
-ghost use Rattle.word_mul.specs.Programs.{program_in, program_of};
+ghost use Rattle.word_mul.specs.Programs.{program_of};
 
 use crate::shapes::BodyForm::{
     Begun, Both, Compared, Counted, Divided, Either, Inverted, Kept, Moved, Multiplied, Off, On,
@@ -226,128 +226,104 @@ pub const DIVISION: Option<StepForm> = Some(StepForm::Nest(
 // of a count: the carry of a pair is an element of the level above
 const KEEPS_CARRY: BodyForm = Kept(LAST, SUM, Z_LEVEL_ABOVE);
 
-/// The loop programs with a nest, each with its operation.
-pub static NESTED: [(WordOp, NestedProgram); 5] = [
-    // the first argument where the lowest bit of the second is set; then for each other bit of this the
-    // first is added from that position on
-    (
-        WordOp::Mul,
-        NestedProgram {
-            steps: [
-                Some(StepForm::Each(Both(X, Y_LOWEST, Z))),
-                Some(StepForm::Nest(
-                    Span::Above,
-                    [
-                        Some(Once(Inverted(Y_OUTER, BIT))),
-                        Some(Once(Off(CARRY))),
-                        Some(Each(Count::Rest, Multiplied(Z_SUM, X, BIT, CARRY))),
-                        None,
-                        None,
-                        None,
-                    ],
-                )),
+/// Of `mul`: the first argument where the lowest bit of the second is set; then for each other bit
+/// of this the first is added from that position on.
+pub const MUL: NestedProgram = NestedProgram {
+    steps: [
+        Some(StepForm::Each(Both(X, Y_LOWEST, Z))),
+        Some(StepForm::Nest(
+            Span::Above,
+            [
+                Some(Once(Inverted(Y_OUTER, BIT))),
+                Some(Once(Off(CARRY))),
+                Some(Each(Count::Rest, Multiplied(Z_SUM, X, BIT, CARRY))),
                 None,
                 None,
                 None,
             ],
-        },
-    ),
-    // each step gives a bit of the quotient
-    (
-        WordOp::Div,
-        NestedProgram {
-            steps: [
-                Some(StepForm::Each(Moved(X, REST))),
-                Some(StepForm::Once(Off(HIGHER))),
-                HIGHER_BITS,
-                QUOTIENT,
-                None,
-            ],
-        },
-    ),
-    // what the steps leave
-    (
-        WordOp::Rem,
-        NestedProgram {
-            steps: [
-                Some(StepForm::Each(Moved(X, REST))),
-                Some(StepForm::Once(Off(HIGHER))),
-                HIGHER_BITS,
-                DIVISION,
-                Some(StepForm::Each(Moved(REST, Z))),
-            ],
-        },
-    ),
-    // Level o has n / 2^o elements of weight 2^o: the bits of the argument at first, then those from
-    // row o on. Its sum begins with the last one where they are odd in number, and takes the others
-    // in pairs, whose carries are the elements of the level above
-    (
-        WordOp::Bitcount,
-        NestedProgram {
-            steps: [
-                Some(StepForm::Once(Off(SUM))),
-                Some(StepForm::Nest(
-                    Span::First,
-                    [
-                        Some(IfOdd(Begun(X_TOP, SUM, BEGINNING))),
-                        Some(Halves(Counted(X_PAIR, X_PAIR_ABOVE, SUM, LAST), KEEPS_CARRY)),
-                        None,
-                        None,
-                        None,
-                        None,
-                    ],
-                )),
-                Some(StepForm::Once(Moved(SUM, Z_LOWEST))),
-                Some(StepForm::Nest(
-                    Span::Above,
-                    [
-                        Some(Once(Off(SUM))),
-                        Some(IfOdd(Begun(LAST, SUM, BEGINNING))),
-                        Some(Halves(Counted(Z_PAIR, Z_PAIR_ABOVE, SUM, LAST), KEEPS_CARRY)),
-                        Some(Once(Moved(SUM, Z_LEVEL))),
-                        None,
-                        None,
-                    ],
-                )),
-                None,
-            ],
-        },
-    ),
-    // the quotient, and then what its steps leave
-    (
-        WordOp::Divmod,
-        NestedProgram {
-            steps: [
-                Some(StepForm::Each(Moved(X, REST))),
-                Some(StepForm::Once(Off(HIGHER))),
-                HIGHER_BITS,
-                QUOTIENT,
-                Some(StepForm::Each(Moved(REST, LEFT))),
-            ],
-        },
-    ),
-];
+        )),
+        None,
+        None,
+        None,
+    ],
+};
 
-/// The program of an operation, where one of the rows has it.
-fn program_in(rows: &[(WordOp, NestedProgram)], op: WordOp) -> Option<NestedProgram>
-    ensures { result ≡ program_in rows.now op }
-{
-    match rows {
-        [] => None,
-        [(owner, program), rest @ ..] => {
-            if *owner as usize == op as usize {
-                Some(*program)
-            } else {
-                program_in(rest, op)
-            }
-        }
-    }
-}
+/// Of `div`: each step gives a bit of the quotient.
+pub const DIV: NestedProgram = NestedProgram {
+    steps: [
+        Some(StepForm::Each(Moved(X, REST))),
+        Some(StepForm::Once(Off(HIGHER))),
+        HIGHER_BITS,
+        QUOTIENT,
+        None,
+    ],
+};
+
+/// Of `rem`: what the steps leave.
+pub const REM: NestedProgram = NestedProgram {
+    steps: [
+        Some(StepForm::Each(Moved(X, REST))),
+        Some(StepForm::Once(Off(HIGHER))),
+        HIGHER_BITS,
+        DIVISION,
+        Some(StepForm::Each(Moved(REST, Z))),
+    ],
+};
+
+/// Of `bitcount`: level o has n / 2^o elements of weight 2^o, the bits of the argument at first, then
+/// those from row o on. Its sum begins with the last one where they are odd in number, and takes the
+/// others in pairs, whose carries are the elements of the level above.
+pub const BITCOUNT: NestedProgram = NestedProgram {
+    steps: [
+        Some(StepForm::Once(Off(SUM))),
+        Some(StepForm::Nest(
+            Span::First,
+            [
+                Some(IfOdd(Begun(X_TOP, SUM, BEGINNING))),
+                Some(Halves(Counted(X_PAIR, X_PAIR_ABOVE, SUM, LAST), KEEPS_CARRY)),
+                None,
+                None,
+                None,
+                None,
+            ],
+        )),
+        Some(StepForm::Once(Moved(SUM, Z_LOWEST))),
+        Some(StepForm::Nest(
+            Span::Above,
+            [
+                Some(Once(Off(SUM))),
+                Some(IfOdd(Begun(LAST, SUM, BEGINNING))),
+                Some(Halves(Counted(Z_PAIR, Z_PAIR_ABOVE, SUM, LAST), KEEPS_CARRY)),
+                Some(Once(Moved(SUM, Z_LEVEL))),
+                None,
+                None,
+            ],
+        )),
+        None,
+    ],
+};
+
+/// Of `divmod`: the quotient, and then what its steps leave.
+pub const DIVMOD: NestedProgram = NestedProgram {
+    steps: [
+        Some(StepForm::Each(Moved(X, REST))),
+        Some(StepForm::Once(Off(HIGHER))),
+        HIGHER_BITS,
+        QUOTIENT,
+        Some(StepForm::Each(Moved(REST, LEFT))),
+    ],
+};
 
 /// The program of an operation, if it is one with a nest.
 pub fn program_of(op: WordOp) -> Option<NestedProgram>
     ensures { result ≡ program_of op }
 {
-    let rows = NESTED;
-    program_in(&rows, op)
+    match op {
+        WordOp::Mul => Some(MUL),
+        WordOp::Div => Some(DIV),
+        WordOp::Rem => Some(REM),
+        WordOp::Bitcount => Some(BITCOUNT),
+        WordOp::Divmod => Some(DIVMOD),
+        _ => None,
+    }
 }
