@@ -75,7 +75,7 @@ fn mend<D: Dram>(
     ensures kept { Kept (D.view chip.old) (D.view chip.new) }
     ensures stage { length stage.new ≡ length stage.old }
     ensures same { machine_in guard.new ≡ machine_in guard.old }
-    ensures laid { IsLaidOut (machine_in guard.old) }
+    ensures laid { OnOk result (IsLaidOut (machine_in guard.old)) }
     ensures flips { IfOk result (λ mended. mended.flips ≡ length (due k flips.now)) }
     ensures within { IfOk result (λ mended. mended.flips ≤ length flips.now) }
     ensures votes { IfOk result (λ mended. mended.votes

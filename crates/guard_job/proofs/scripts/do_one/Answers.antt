@@ -29,7 +29,7 @@ returns-in-Ok-step-clause-done g c =
     } in
     done_by m n (due c.args.k c.args.flips.now) i (V c.args.chip.now) (V c.mend.new.chip)
     (V c.step.new.dram) c.in-Ok.mended.votes c.from.result c.in-Ok-step.reply
-    (holds_of m c.mend.ensures.laid) c.in-Ok.ensures.done step c.in-Ok.ensures.votes
+    (holds_of m c.in-Ok.ensures.laid) c.in-Ok.ensures.done step c.in-Ok.ensures.votes
     (byte_is c.from.result c.is_refused.result (is_refused c.in-Ok-step.reply) c.from.ensures
     c.is_refused.ensures)
 
