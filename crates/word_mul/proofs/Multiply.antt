@@ -4,34 +4,35 @@ use Rattle.std.proofs.Common.{not, List, [], ◌∷◌, refl, sym, ap, ◌∙◌
 use Rattle.std.proofs.lemmas.Nat.{pow-add}
 use Rattle.bit_rows.specs.Bits.{majority}
 use Rattle.mig_graph.specs.Graph.{values_from}
+use Rattle.mig_graph.specs.Outputs.{lit_at}
 use Rattle.op_text.specs.declared.word_ops.WordOp.TheVariants as op
 use Rattle.loop_ir.specs.declared.ir.Sub.TheVariants as sub
 use Rattle.loop_ir.specs.declared.ir.Count.TheVariants.{Rest}
+use Rattle.loop_ir.specs.declared.ir.Span.TheVariants.{Above}
 use Rattle.loop_ir.specs.declared.names.Slot.{Slot}
 use Rattle.loop_ir.specs.Plain.{Block, InnerOf}
 use Rattle.loop_ir.specs.Plain.InnerOf.{Alone, Across}
-use Rattle.loop_ir.specs.declared.ir.Span.TheVariants.{Full}
 use Rattle.loop_ir.specs.Plain.StepOf.{Nest}
 use Rattle.loop_ir.specs.Spots.{Spot, Spots, set_spot, spot_at, nth_place, is_state}
 use Rattle.loop_laws.specs.Rooms.{placed_body}
 use Rattle.loop_laws.specs.Turns.{Origin, Standing, Carried, IsLoop, turn, after_many}
 use Rattle.loop_laws.proofs.Same.{set_same, set_other}
 use Rattle.loop_laws.proofs.Loop.{loop_turns, loop_word}
-use Rattle.loop_laws.proofs.Steps.{steps_each, steps_nest, after_parts, after_outer}
+use Rattle.loop_laws.proofs.Steps.{steps_each, steps_above, after_parts, after_above}
 use Rattle.loop_laws.proofs.Placed.{loop_of}
 use Rattle.word_lower.specs.Places.{scratch_bit}
-use Rattle.word_lower.specs.Programs.{off, constant, inverted}
+use Rattle.word_lower.specs.Programs.{off, constant, inverted, joined}
 use Rattle.word_lower.proofs.Marks.{target, first, second, third, state}
 use Rattle.word_lower.proofs.Setting.{bit, number, row, number_at, SlotsApart}
 use Rattle.word_lower.proofs.Passes.{word_loop, upwards}
-use Rattle.word_lower.proofs.Sums.{value_same, value_below, value_false, sum_two}
+use Rattle.word_lower.proofs.Sums.{value_same, value_below, sum_two}
 use Rattle.word_lower.proofs.Sums.{last_sum}
 use Rattle.word_mul.specs.Programs.{multiplied}
 use Rattle.word_mul.specs.declared.rows.Rows.{Rows}
 use Rattle.word_mul.specs.Places.{rooms_for}
 use Rattle.word_mul.proofs.Setting.{cell, HasRows, row_stands, cell_other, row_other, IsFree}
 use Rattle.word_mul.proofs.Setting.{AreRows, IsElsewhere, Gives, DoesNested, bit_free, bit_else}
-use Rattle.word_mul.proofs.Product.{value_split, value_kept, product_step}
+use Rattle.word_mul.proofs.Product.{value_split, value_gated, value_kept, product_step}
 
 -- with the complement of what is added
 multiplied_digit : (t w c : Bool)
@@ -214,30 +215,61 @@ module _ (n : ℕ) (m : Rows) (are : AreRows n 1 0 m) (bits : Spots) where
       elsewhere o lo q out j (suc zero) lj lw e = cell_other n q 5 out.has_row e
       elsewhere o lo q out j (suc (suc w)) lj lw e = absurd (omega arith)
 
-  all_bits : (o : ℕ) (zeroed : Spots) → o ≤ n → Multiplied 0 zeroed
-      → Multiplied o (after_outer n parts o zeroed)
-  all_bits zero zeroed lo i = i
-  all_bits (suc o) zeroed lo i = one_bit o (after_outer n parts o zeroed) (omega arith)
-      (all_bits o zeroed (omega arith) i)
+  all_bits : (k : ℕ) (first : Spots) → suc k ≤ n → Multiplied 1 first
+      → Multiplied (suc k) (after_above n parts k first)
+  all_bits zero first le i = i
+  all_bits (suc k) first le i = one_bit (suc k) (after_above n parts k first) (omega arith)
+      (all_bits k first (omega arith) i)
 
-pub mul_does : (n : ℕ) (m : Rows) → AreRows n 1 0 m → DoesNested op.Mul n 1 0 m
+  -- the first row: the bits of a where the lowest of b is set
+  abbrev gated : Block
+  gated = placed_body (rooms_for op.Mul m) (joined off (first sub.Inner) (second sub.Zero)
+      (target sub.Inner))
+
+  first_bit : 0 < n → Multiplied 1 (after_many n 0 gated n bits)
+  unfolding values_from
+  first_bit some =
+      let l = word_loop n 0 m.target are.own are.moves sub.Inner (λ v. v) (upwards n 0)
+      gated.reads gated.graph.inputs gated.graph.nodes (lit_at gated.outs 0)
+      (Standing ∷ (Standing ∷ [])) bits (
+        ((λ i j li lj e. are.a.by i j li (omega (arith, li, lj)) e), tt),
+        (((λ i j li lj e. are.b.by 0 j some (omega (arith, li, lj)) e), tt), tt),
+      ) in
+      let b = bits (row n m.b 0) in
+      let word : number_at n (after_many n 0 gated n bits) m.target n
+      ≡ number (λ v. majority false (bits (row n m.a v)) b) n =
+      value_same (λ v. after_many n 0 gated n bits (row n m.target v))
+      (λ v. majority false (bits (row n m.a v)) b) n l.word in
+      let e = value_gated (λ v. bits (row n m.a v)) b n in
+      let last = number_at n bits m.a n in
+      record {
+        over = 0;
+        product = flat (number_at n (after_many n 0 gated n bits) m.target n) (2 ^ n) ∙ word ∙ e
+            ∙ by (bit b) last;
+        rest = λ q out. l.rest q out.target;
+      }
+    where
+      by : (x y : ℕ) → x * y ≡ y * (0 + x * 2 ^ 0)
+      by x y = omega arith
+
+      flat : (x p : ℕ) → x + 0 * p ≡ x
+      flat x p = omega arith
+
+pub mul_does : (n : ℕ) (m : Rows) → 0 < n → AreRows n 1 0 m → DoesNested op.Mul n 1 0 m
 unfolding values_from
-mul_does n m are bits =
-    let b0 = placed_body (rooms_for op.Mul m) (constant off (target sub.Inner)) in
+mul_does n m some are bits =
+    let b0 = gated n m are bits in
     let ps : List (InnerOf Block) = parts n m are bits in
-    let zeroed = after_many n 0 b0 n bits in
-    let l = word_loop n 0 m.target are.own are.moves sub.Inner (λ v. v) (upwards n 0) [] 0 [] off []
-    bits tt in
-    let none : number_at n zeroed m.target n ≡ 0 =
-    value_same (λ v. zeroed (row n m.target v)) (λ v. false) n l.word ∙ value_false n in
-    let first : Multiplied n m are bits 0 zeroed =
-    record { over = 0; product = omega (arith, none); rest = λ q out. l.rest q out.target } in
-    let i = all_bits n m are bits n zeroed (omega arith) first in
-    subst (Gives op.Mul n 1 0 m bits) (sym (steps_each n b0 (Nest Full ps ∷ []) bits
-    ∙ steps_nest n ps [] zeroed))
+    let first = after_many n 0 b0 n bits in
+    let last = after_above n ps (n - 1) first in
+    let all : suc (n - 1) ≡ n = omega (arith, some) in
+    let i : Multiplied n m are bits n last = subst (λ k. Multiplied n m are bits k last) all
+    (all_bits n m are bits (n - 1) first (omega (arith, some)) (first_bit n m are bits some)) in
+    subst (Gives op.Mul n 1 0 m bits) (sym (steps_each n b0 (Nest Above ps ∷ []) bits
+    ∙ steps_above n ps [] first))
     record {
-      gives = last_sum (number_at n (after_outer n ps n zeroed) m.target n) i.over (2 ^ n)
+      gives = last_sum (number_at n last m.target n) i.over (2 ^ n)
           (number_at n bits m.a n * number_at n bits m.b n)
-          (value_below (λ v. after_outer n ps n zeroed (row n m.target v)) n) i.product;
+          (value_below (λ v. last (row n m.target v)) n) i.product;
       keeps = i.rest;
     }

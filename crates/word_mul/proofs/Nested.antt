@@ -251,7 +251,7 @@ module _ (x0 : Space) (y0 : ℕ) (x1 : Space) (y1 : ℕ) (x2 : Space) (y2 : ℕ)
       apart = λ n some are clear. rooms_apart n t (a ∷ b ∷ []) (scratch_from free_bit 1) are;
       owned = λ n q o. inl o;
       does = λ n some are clear. does_two op.Mul n (λ x y.
-          refl) (mul_does n two (two_rows None n 1 0 are clear));
+          refl) (mul_does n two some (two_rows None n 1 0 are clear));
       wide = λ n. refl;
     }
 

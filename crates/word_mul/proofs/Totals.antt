@@ -1,6 +1,6 @@
 -- What the nested loop programs take, wherever the rows lie, and that they keep their states.
 use Rattle.std.proofs.Common.{◌≡◌, ℕ, zero, suc, ◌+◌, ◌-◌, ◌*◌, ◌^◌, ◌/◌, ◌<◌, ◌≤◌, true, List, [], refl}
-use Rattle.std.proofs.Common.{ap, ◌∙◌, arith}
+use Rattle.std.proofs.Common.{ap, ◌∙◌, subst, arith}
 use Rattle.std.proofs.Math.Nat.{pow-suc, pow-zero}
 use Rattle.op_text.specs.declared.word_ops.WordOp.{WordOp}
 use Rattle.op_text.specs.declared.word_ops.WordOp.TheVariants as op
@@ -31,10 +31,21 @@ half_of zero = record { half = 0; is = refl }
 half_of (suc n) = let h = half_of n in
     record { half = h.half + n + 1; is = (let e = h.is in omega (arith, e)) }
 
+-- a product of one less
+fewer_products : (k : ℕ) → (suc k - 1) * (suc k - 1) ≡ k * k
+fewer_products k = let e : suc k - 1 ≡ k = omega arith in ap (λ x. x * x) e
+
 -- the sum of the numbers up to n, twice
 pub triangle : (n : ℕ) → 2 * (n * (n + 1) / 2) ≡ n * n + n
 triangle n = let h = half_of n in let e = h.is in
     let f : n * (n + 1) / 2 ≡ h.half = ap (λ x. x / 2) e ∙ omega arith in omega (arith, e, f)
+
+-- and below n
+pub triangle_below : (n : ℕ) → 2 * ((n - 1) * n / 2) ≡ (n - 1) * (n - 1) + (n - 1)
+triangle_below zero = refl
+triangle_below (suc k) = let e : suc k - 1 + 1 ≡ suc k = omega arith in
+    subst (λ x. 2 * ((suc k - 1) * x / 2) ≡ (suc k - 1) * (suc k - 1) + (suc k - 1)) e
+    (triangle (suc k - 1))
 
 -- the levels with an odd number of elements, and the pairs, of one level more
 odd_more : (n o count : ℕ) → odd_from n o (suc count) ≡ odd_from n o count
@@ -110,7 +121,7 @@ plain_count n some = let e = sum_is plain_cost n (placed_steps [] (nested op.Bit
 costs : (p : WordOp) → is_nested p ≡ true → (n : ℕ)
     → rounds_cost (all_rounds n (placed_steps [] (nested p))) ≡ nested_total p n
 costs op.Mul is n = let e = sum_is turn_cost n (placed_steps [] (nested op.Mul)) in
-    let s = triangle n in omega (arith, e, s)
+    let s = triangle_below n in omega (arith, e, s)
 costs op.Div is n = let e = sum_is turn_cost n (placed_steps [] (nested op.Div)) in
     let s = triangle n in omega (arith, e, s)
 costs op.Rem is n = let e = sum_is turn_cost n (placed_steps [] (nested op.Rem)) in
@@ -126,7 +137,7 @@ plains : (p : WordOp) → is_nested p ≡ true → (n : ℕ) → 0 < n
 plains p is zero some = absurd (omega arith)
 plains op.Mul is (suc k) some = let e =
     sum_is plain_cost (suc k) (placed_steps [] (nested op.Mul)) in
-    let s = square (suc k) in omega (arith, e, s)
+    let s = square (suc k) in let m = fewer_products k in omega (arith, e, s, m)
 plains op.Div is (suc k) some = let e =
     sum_is plain_cost (suc k) (placed_steps [] (nested op.Div)) in
     let s = square (suc k) in omega (arith, e, s)
@@ -146,8 +157,8 @@ cheap_count n some = let f = odd_few n n in let g = pairs_few n n in let s = squ
 -- each total is within the operation's ceiling
 pub cheap : (p : WordOp) → is_nested p ≡ true → (n : ℕ) → 0 < n → nested_total p n ≤ op_ceiling p n
 cheap p is zero some = absurd (omega arith)
-cheap op.Mul is (suc k) some = let t = triangle (suc k) in let s = square (suc k) in
-    omega (arith, t, s)
+cheap op.Mul is (suc k) some = let t = triangle_below (suc k) in let s = square (suc k) in
+    let m = fewer_products k in omega (arith, t, s, m)
 cheap op.Div is (suc k) some = let t = triangle (suc k) in let s = square (suc k) in
     omega (arith, t, s)
 cheap op.Rem is (suc k) some = let t = triangle (suc k) in let s = square (suc k) in

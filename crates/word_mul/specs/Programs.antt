@@ -21,7 +21,8 @@ use Rattle.word_mul.specs.declared.shapes.Owner.TheVariants.{SecondBit, ScratchW
 use Rattle.word_mul.specs.declared.shapes.Owner.TheVariants.{SecondTarget, Cells}
 use Rattle.word_mul.specs.declared.shapes.Mark as code
 use Rattle.word_mul.specs.declared.shapes.BodyForm.{BodyForm}
-use Rattle.word_mul.specs.declared.shapes.BodyForm.TheVariants.{Off, On, Moved, Inverted, Either}
+use Rattle.word_mul.specs.declared.shapes.BodyForm.TheVariants.{Off, On, Moved, Inverted, Both}
+use Rattle.word_mul.specs.declared.shapes.BodyForm.TheVariants.{Either}
 use Rattle.word_mul.specs.declared.shapes.BodyForm.TheVariants.{Without, Compared, Multiplied}
 use Rattle.word_mul.specs.declared.shapes.BodyForm.TheVariants.{Begun, Counted, Kept, Divided}
 use Rattle.word_mul.specs.declared.shapes.NestPart.{NestPart}
@@ -99,6 +100,7 @@ form_body (Off z) = constant off (mark_of z)
 form_body (On z) = constant up (mark_of z)
 form_body (Moved x z) = moved (mark_of x) (mark_of z)
 form_body (Inverted x z) = inverted (mark_of x) (mark_of z)
+form_body (Both x y z) = joined off (mark_of x) (mark_of y) (mark_of z)
 form_body (Either x y z) = joined up (mark_of x) (mark_of y) (mark_of z)
 form_body (Without x y z) = without (mark_of x) (mark_of y) (mark_of z)
 form_body (Compared x y g z) = compared (mark_of x) (mark_of y) (mark_of g) (mark_of z)
@@ -173,7 +175,7 @@ pairs_below n (suc o) = pairs_below n o + elements n (o + 1)
 
 -- the commands of its loop program at width n
 abbrev pub nested_total : WordOp → ℕ → ℕ
-nested_total o.Mul n = 9 * (n * (n + 1) / 2) + 4 * n
+nested_total o.Mul n = 9 * ((n - 1) * n / 2) + 4 * n + 3 * (n - 1)
 nested_total o.Div n = 12 * (n * (n + 1) / 2) + 16 * n + 1
 nested_total o.Rem n = 12 * (n * (n + 1) / 2) + 16 * n + 1
 nested_total o.Bitcount n = 2 + 2 * (n - 1) + 2 * odd_levels n n + 7 * pairs_below n n

@@ -13,7 +13,7 @@ use loop_ir::{Body, Place};
 use mig_graph::NoMemory;
 use std::alloc::Global;
 use word_lower::literals::{N1, N8, OFF, ON, P1, P2, P3, P4, P6, P7, P8};
-use word_lower::templates::{COMPARED, EITHER, WITHOUT};
+use word_lower::templates::{BOTH, COMPARED, EITHER, WITHOUT};
 use word_lower::{cells, place_in, templated};
 
 impl Mark {
@@ -47,6 +47,7 @@ pub fn body(form: BodyForm, owners: Owners, alloc: Global) -> Result<Body, NoMem
         BodyForm::On(z) => templated(&[], &[], &[ON], &[z.at(o)], a),
         BodyForm::Moved(x, z) => templated(&[x.at(o)], &[], &[P1], &[z.at(o)], a),
         BodyForm::Inverted(x, z) => templated(&[x.at(o)], &[], &[N1], &[z.at(o)], a),
+        BodyForm::Both(x, y, z) => templated(&[x.at(o), y.at(o)], &BOTH, &[P3], &[z.at(o)], a),
         BodyForm::Either(x, y, z) => templated(&[x.at(o), y.at(o)], &EITHER, &[P3], &[z.at(o)], a),
         BodyForm::Without(x, y, z) => templated(
             &[x.at(o), y.at(o)],

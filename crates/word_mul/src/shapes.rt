@@ -46,6 +46,7 @@ pub enum BodyForm {
     On(Mark),
     Moved(Mark, Mark),
     Inverted(Mark, Mark),
+    Both(Mark, Mark, Mark),
     Either(Mark, Mark, Mark),
     Without(Mark, Mark, Mark),
     /// A state is whether what was read of one row is over what was read of another; a row gets it

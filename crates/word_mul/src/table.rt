@@ -4,7 +4,8 @@ ghost use Rattle.std.specs.Prelude.{◌≡◌};
 ghost use Rattle.word_mul.specs.Programs.{program_in, program_of};
 
 use crate::shapes::BodyForm::{
-    Begun, Compared, Counted, Divided, Either, Inverted, Kept, Moved, Multiplied, Off, On, Without,
+    Begun, Both, Compared, Counted, Divided, Either, Inverted, Kept, Moved, Multiplied, Off, On,
+    Without,
 };
 use crate::shapes::NestPart::{Each, Halves, IfOdd, Once};
 use crate::shapes::{BodyForm, Mark, NestPart, NestedProgram, Owner, StepForm};
@@ -53,7 +54,7 @@ const Z_LEVEL_ABOVE: Mark = Mark {
     owner: Owner::Target,
     sub: Sub::AboveSum,
 };
-// the arguments, at the inner position, at the top, at the elements of a pair, at the outer
+// the arguments, at the inner position, at 0, at the top, at the elements of a pair, at the outer
 // position, and at the outer one from above
 const X: Mark = Mark {
     owner: Owner::First,
@@ -78,6 +79,11 @@ const X_PAIR_ABOVE: Mark = Mark {
 const Y: Mark = Mark {
     owner: Owner::Second,
     sub: Sub::Inner,
+};
+
+const Y_LOWEST: Mark = Mark {
+    owner: Owner::Second,
+    sub: Sub::Zero,
 };
 
 const Y_OUTER: Mark = Mark {
@@ -222,14 +228,15 @@ const KEEPS_CARRY: BodyForm = Kept(LAST, SUM, Z_LEVEL_ABOVE);
 
 /// The loop programs with a nest, each with its operation.
 pub static NESTED: [(WordOp, NestedProgram); 5] = [
-    // for each bit of the second argument, the first is added from that position on
+    // the first argument where the lowest bit of the second is set; then for each other bit of the
+    // second the first is added from that position on
     (
         WordOp::Mul,
         NestedProgram {
             steps: [
-                Some(StepForm::Each(Off(Z))),
+                Some(StepForm::Each(Both(X, Y_LOWEST, Z))),
                 Some(StepForm::Nest(
-                    Span::Full,
+                    Span::Above,
                     [
                         Some(Once(Inverted(Y_OUTER, BIT))),
                         Some(Once(Off(CARRY))),

@@ -24,7 +24,7 @@ use Rattle.word_lower.specs.Programs.{program, program_of}
 use Rattle.word_lower.proofs.ByTurns.{and_turns, or_turns, xor_turns}
 use Rattle.word_lower.proofs.Rectified.{relu_turns}
 use Rattle.word_mul.specs.Programs.{is_nested, nested}
-use Rattle.word_mul.proofs.Totals.{triangle, low_odd, low_pairs}
+use Rattle.word_mul.proofs.Totals.{triangle, triangle_below, low_odd, low_pairs}
 use Rattle.uprog_gen.specs.Costs.{op_aaps, op_aps}
 use Rattle.uprog_gen.specs.Settled.{turn_aaps, turn_aps, IsSettled}
 use Rattle.uprog_gen.proofs.Costs.Placed.{steps_settle, settled_steps, aaps_like, aps_like}
@@ -98,7 +98,7 @@ numbered_aaps : (p : WordOp) (k : Kind) (n : ℕ) → 0 < n
     → rounds_sum turn_aaps (all_rounds n (placed_steps [] (Numbered p k)))
     ≡ op_aaps p (op_width p k n)
 numbered_aaps op.Mul k n some = let h = sum_is turn_aaps n (placed_steps [] (Numbered op.Mul k)) in
-    omega (arith, h, triangle n, some)
+    omega (arith, h, triangle_below n, some)
 numbered_aaps op.Bitcount k n some =
     let h = sum_is turn_aaps n (placed_steps [] (Numbered op.Bitcount k)) in
     omega (arith, h, low_odd n, low_pairs n, some)
@@ -133,7 +133,7 @@ numbered_aps : (p : WordOp) (k : Kind) (n : ℕ) → 0 < n
     → rounds_sum turn_aps (all_rounds n (placed_steps [] (Numbered p k)))
     ≡ op_aps p (op_width p k n)
 numbered_aps op.Mul k n some = let h = sum_is turn_aps n (placed_steps [] (Numbered op.Mul k)) in
-    omega (arith, h, triangle n, some)
+    omega (arith, h, triangle_below n, some)
 numbered_aps op.Bitcount k n some =
     let h = sum_is turn_aps n (placed_steps [] (Numbered op.Bitcount k)) in
     omega (arith, h, low_odd n, low_pairs n, some)
