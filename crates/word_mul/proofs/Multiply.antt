@@ -232,8 +232,8 @@ module _ (n : ℕ) (m : Rows) (are : AreRows n 1 0 m) (bits : Spots) where
       let l = word_loop n 0 m.target are.own are.moves sub.Inner (λ v. v) (upwards n 0)
       gated.reads gated.graph.inputs gated.graph.nodes (lit_at gated.outs 0)
       (Standing ∷ (Standing ∷ [])) bits (
-        ((λ i j li lj e. are.a.by i j li lj e), tt),
-        (((λ i j li lj e. are.b.by 0 j some lj e), tt), tt),
+        ((λ i j li lj e. are.a.by i j li (omega (arith, li, lj)) e), tt),
+        (((λ i j li lj e. are.b.by 0 j some (omega (arith, li, lj)) e), tt), tt),
       ) in
       let b = bits (row n m.b 0) in
       let word : number_at n (after_many n 0 gated n bits) m.target n
@@ -241,16 +241,19 @@ module _ (n : ℕ) (m : Rows) (are : AreRows n 1 0 m) (bits : Spots) where
       value_same (λ v. after_many n 0 gated n bits (row n m.target v))
       (λ v. majority false (bits (row n m.a v)) b) n l.word in
       let e = value_gated (λ v. bits (row n m.a v)) b n in
-      let one : 2 ^ 0 ≡ 1 = omega arith in
       let last = number_at n bits m.a n in
       record {
         over = 0;
-        product = word ∙ e ∙ by (bit b) last;
+        product = flat (number_at n (after_many n 0 gated n bits) m.target n) (2 ^ n) ∙ word ∙ e
+            ∙ by (bit b) last;
         rest = λ q out. l.rest q out.target;
       }
     where
       by : (x y : ℕ) → x * y ≡ y * (0 + x * 2 ^ 0)
       by x y = omega arith
+
+      flat : (x p : ℕ) → x + 0 * p ≡ x
+      flat x p = omega arith
 
 pub mul_does : (n : ℕ) (m : Rows) → 0 < n → AreRows n 1 0 m → DoesNested op.Mul n 1 0 m
 unfolding values_from
