@@ -36,7 +36,7 @@ pub node-same : (n o : Node) (xs ys : List Lit) → xs ≡ n.a ∷ n.b ∷ n.c �
     → false ≡ AreUnlike xs ys 2 → n ≡ o
 node-same n o xs ys e f p q r =
     let both = λ (k : ℕ). ap (λ zs. AreUnlike zs ys k) e
-        ∙ ap (λ zs. AreUnlike (n.a ∷ n.b ∷ n.c ∷ []) zs k) f in
+    ∙ ap (λ zs. AreUnlike (n.a ∷ n.b ∷ n.c ∷ []) zs k) f in
     let a = lit-same n.a o.a (p ∙ both 0) in
     let b = lit-same n.b o.b (q ∙ both 1) in
     let c = lit-same n.c o.c (r ∙ both 2) in

@@ -13,8 +13,11 @@ returns-in-Some c =
     let s = c.state-item.result in
     let body = block_of c.args.body.now in
     let place = c.place_of-place.result in
-    let one = one-item c.args.states.now s s (omega (arith, c.in-len1.len_at_least,
-    c.in-len1.len_below)) (sym c.state-item.is) in
+    let one = one-item c.args.states.now s s (omega (
+      arith,
+      c.in-len1.len_at_least,
+      c.in-len1.len_below,
+    )) (sym c.state-item.is) in
     let found = c.len-most.ensures in
     let many : c.len-most.result ≡ length body.found = omega (arith, found) in
     let l = subst (λ m. IsLoopFor place s.start body m c.in-Some.own) many
@@ -33,8 +36,11 @@ returns-in-Some-2 c =
     let body = block_of c.args.body.now in
     let r = c.in-Some-2.other in
     let place = c.place_of-place.result in
-    let one = one-item c.args.states.now s s (omega (arith, c.in-len1.len_at_least,
-    c.in-len1.len_below)) (sym c.state-item.is) in
+    let one = one-item c.args.states.now s s (omega (
+      arith,
+      c.in-len1.len_at_least,
+      c.in-len1.len_below,
+    )) (sym c.state-item.is) in
     let e = c.in_ok-other-in-len1.ensures in
     let is = subst (λ o. IfSome o (λ r. IsOther body (block_of r.body))) c.in-Some-2.is e.other in
     let found = c.len-most.ensures in
