@@ -420,8 +420,8 @@ pub fn push_start(code: &mut Vec<Uop>, head: u16) -> Result<(), NoMemory>
     keep(code, Uop::Bnez(4, 0))
 }
 
-/// The subscripts of bodies that take turns: register 3 holds the position, and 5 how many come after
-/// it.
+/// The subscripts of bodies that take turns: register 3 holds the position, and 5 how many come
+/// after it.
 const TURN_PLAN: Plan = Plan {
     first: Sub::Inner,
     second: Sub::Zero,

@@ -270,9 +270,9 @@ pub const REM: NestedProgram = NestedProgram {
     ],
 };
 
-/// Of `bitcount`: level o has n / 2^o elements of weight 2^o, the bits of the argument at first, then
-/// those from row o on. Its sum begins with the last one where they are odd in number, and takes the
-/// others in pairs, whose carries are the elements of the level above.
+/// Of `bitcount`: level o has n / 2^o elements of weight 2^o, the bits of the argument at first,
+/// then those from row o on. Its sum begins with the last one where they are odd in number, and
+/// takes the others in pairs, whose carries are the elements of the level above.
 pub const BITCOUNT: NestedProgram = NestedProgram {
     steps: [
         Some(StepForm::Once(Off(SUM))),
