@@ -149,7 +149,7 @@ fn each_commands(
 }
 
 /// The commands of the body that finds its state in cells and leaves it in its row, at most so
-/// many.
+/// many, by the first of two beams that finds them.
 fn last_commands(
     home: Home,
     body: &Body,
@@ -166,7 +166,11 @@ fn last_commands(
         return Ok(None);
     }
     let few = most.min(plain_most(&body.graph, &body.writes));
-    commands_for(&body.graph, &reads, &body.writes, Search::Whole, few, alloc)
+    let (graph, writes) = (&body.graph, &body.writes);
+    match commands_for(graph, &reads, writes, Search::Narrow, few, alloc)? {
+        Some(cmds) => Ok(Some(cmds)),
+        None => commands_for(graph, &reads, writes, Search::Broad, few, alloc),
+    }
 }
 
 /// The loop with the state in these cells, if its body takes at most `few` commands, and in its

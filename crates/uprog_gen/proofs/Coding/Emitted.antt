@@ -476,21 +476,21 @@ pairs_made p old mid all past end ep em ea ee =
 
 -- one of bodies that take turns
 pub either_made : (p last : Part) (end more : ℕ) (old a b c d e f : List Uop)
-    → a ≡ old ++ Bnez 2 more ∷ [] → b ≡ a ++ turn_uops last → c ≡ b ++ Bnez 4 end ∷ []
-    → d ≡ c ++ turn_uops p → e ≡ d ++ AddI 3 1 ∷ [] → f ≡ e ++ SubI 2 1 ∷ []
+    → a ≡ old ++ Bnez 5 more ∷ [] → b ≡ a ++ turn_uops last → c ≡ b ++ Bnez 4 end ∷ []
+    → d ≡ c ++ turn_uops p → e ≡ d ++ AddI 3 1 ∷ [] → f ≡ e ++ SubI 5 1 ∷ []
     → more ≡ length old + 1 + length last.cmds + 1
     → f ≡ old ++ either_code p last end (length old)
 either_made p last end more old a b c d e f ea eb ec ed ee ef em =
-    let post = AddI 3 1 ∷ SubI 2 1 ∷ [] in
+    let post = AddI 3 1 ∷ SubI 5 1 ∷ [] in
     let w = turn_uops p ++ post in
     let x = Bnez 4 end ∷ w in
     let y = turn_uops last ++ x in
-    two_pushes d e f (AddI 3 1) (SubI 2 1) ee ef
+    two_pushes d e f (AddI 3 1) (SubI 5 1) ee ef
     ∙ ap (λ l. l ++ post) ed ∙ append_assoc c (turn_uops p) post
     ∙ ap (λ l. l ++ w) ec ∙ append_assoc b (Bnez 4 end ∷ []) w
     ∙ ap (λ l. l ++ x) eb ∙ append_assoc a (turn_uops last) x
-    ∙ ap (λ l. l ++ y) ea ∙ append_assoc old (Bnez 2 more ∷ []) y
-    ∙ ap (λ k. old ++ (Bnez 2 k ∷ y)) em
+    ∙ ap (λ l. l ++ y) ea ∙ append_assoc old (Bnez 5 more ∷ []) y
+    ∙ ap (λ k. old ++ (Bnez 5 k ∷ y)) em
 
 -- the turns that are emitted
 pub turn_at : (P : Block → Type 0) (xs : List Turn) (k : ℕ) (x : Turn)
@@ -613,7 +613,7 @@ cycle_made ts old a b c out head end eo eh ea eb ec ee =
     let way = length old + 1 + 1 + 1 + 1 in
     let h = way + 1 in
     let turns = turns_list ts way h in
-    let first = SetT 2 ∷ SetI 3 0 ∷ SetI 4 1 ∷ Bnez 4 h ∷ [] in
+    let first = SetT 5 ∷ SetI 3 0 ∷ SetI 4 1 ∷ Bnez 4 h ∷ [] in
     let back = Bnez 4 h ∷ [] in
     let o : out ≡ way = omega (arith, eo) in
     let g : head ≡ h = omega (arith, eo, eh) in

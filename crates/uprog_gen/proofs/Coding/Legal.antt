@@ -543,7 +543,7 @@ module _ (head : Shape) where
     either_legal : (p last : Part) (end pc : ℕ) → IsFit p → IsFit last → end < size
         → pc + either_size p last ≤ size → L (either_code p last end pc)
     either_legal p last end pc fit fit_last le room =
-        let post = AddI 3 1 ∷ SubI 2 1 ∷ [] in
+        let post = AddI 3 1 ∷ SubI 5 1 ∷ [] in
         let more : pc + 1 + length last.cmds + 1 < size = omega (arith, room) in (
           lt-ltb (pc + 1 + length last.cmds + 1) size more,
           join (turn_uops last) (Bnez 4 end ∷ (turn_uops p ++ post)) (fit_last turn_plan size)

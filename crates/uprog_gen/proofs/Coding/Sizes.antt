@@ -191,7 +191,7 @@ single_few p is false = omega (arith, once_few p is)
 pub either_long : (p last : Part) (end pc : ℕ)
     → length (either_code p last end pc) ≡ either_size p last
 either_long p last end pc =
-    let post = AddI 3 1 ∷ SubI 2 1 ∷ [] in
+    let post = AddI 3 1 ∷ SubI 5 1 ∷ [] in
     omega (
       arith,
       length-append (turn_uops last) (Bnez 4 end ∷ (turn_uops p ++ post)),
