@@ -1,7 +1,7 @@
 -- One piece of a script was done, and the others are left.
 use Rattle.std.proofs.Common.{◌≡◌, ℕ, ◌+◌, ◌<◌, ◌≤◌, List, ◌∷◌, ◌++◌, drop, length, refl, sym}
 use Rattle.std.proofs.Common.{◌∙◌}
-use Rattle.std.proofs.Common.{ap, subst, arith, map}
+use Rattle.std.proofs.Common.{ap, subst, arith, map, true}
 use Rattle.std.proofs.lemmas.List.{drop-drop, drop-map}
 use Rattle.std.specs.Prelude.{count_by}
 use Rattle.std.specs.List.{AllByRecursion}
