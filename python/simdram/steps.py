@@ -1,7 +1,8 @@
 """What each cell holds after each command of an operation, in the operands' names.
 
 PROG is a program file and OP one of its entries. The code is shown part by part, a part being the instructions between two
-places where it can jump: what is done once, and what is done at each position, upwards or downwards. With --ops, sources,
+places where it can jump: what is done once, what is done at each position, upwards or downwards, and what stands in its place
+at the last position. With --ops, sources,
 results, states and temporaries have the names of the operation text, and it is said which statement a part is of. Without
 it, sources are a, b, c, d, results y and z, scratch bits t0, t1, .., scratch words w0, .. and spill rows p0, ..; [i] is the
 position where one register counts it, and else the register's name. A cell that the part has not written yet holds ?; where
@@ -42,11 +43,14 @@ STATEMENT_SHOWN = 60
 
 @dataclasses.dataclass(frozen=True)
 class Part:
-    """A part of the code: its first instruction, its instructions, how it is repeated, and of which statements it is."""
+    """A part of the code: its first instruction, its instructions, how it is repeated, whether it alone follows itself, whether
+    the part before stands in its place at the last position, and of which statements it is."""
 
     first: int
     code: tuple[Instruction, ...]
     said: str
+    again: bool
+    has_last: bool = False
     statements: tuple[int, ...] = ()
     what: str = ""
 
@@ -71,15 +75,38 @@ def direction(code) -> str:
     return {frozenset((ADDI,)): ", upwards", frozenset((SUBI,)): ", downwards"}.get(frozenset(kinds), "")
 
 
+def leaves(code, k: int) -> bool:
+    """Whether an instruction jumps back to a jump that leads past it."""
+    one = code[k]
+    return one.kind == BNEZ and one.number <= k and code[one.number].kind == BNEZ and code[one.number].number > k
+
+
+def asked(code, loops) -> dict[int, int]:
+    """Where bodies take turns: of each question whether the last position is reached, its place, and where the body for the
+    other positions begins. Between them is the one for the last position, which leaves the loop."""
+    return {k: one.number for k, one in enumerate(code)
+            if one.kind == BNEZ and k < one.number and leaves(code, one.number - 1)
+            and any(start <= k and one.number <= end for start, end in loops)}
+
+
 def parts(code) -> list[Part]:
     """The code cut where it can jump or be jumped to."""
-    loops = [(one.number, k) for k, one in enumerate(code) if one.kind == BNEZ and one.number <= k]
-    places = sorted({0, len(code)} | {at for loop in loops for at in (loop[0], loop[1] + 1)})
+    loops = [(one.number, k) for k, one in enumerate(code) if one.kind == BNEZ and one.number <= k and not leaves(code, k)]
+    turns = asked(code, loops)
+    places = sorted({0, len(code), *turns.values()} | {k + 1 for k in turns} | {at for start, end in loops for at in (start, end + 1)})
     found = []
     for first, past in zip(places, places[1:]):
-        depth = sum(start <= first and past <= end + 1 for start, end in loops)
-        said = ("once", "at each position", "at each position of each position")[min(depth, 2)]
-        found.append(Part(first, code[first:past], said + (direction(code[first:past]) if depth else "")))
+        around = [(start, end) for start, end in loops if start <= first and past <= end + 1]
+        said = ("once", "at each position", "at each position of each position")[min(len(around), 2)]
+        said += direction(code[first:past]) if around else ""
+        in_turn = ", in its turn" if sum(start <= k < end for start, end in around for k in turns) > 1 else ""
+        has_last = first in turns.values()
+        if has_last:
+            said = f"at each position but the last{direction(code[first:past])}{in_turn}"
+        elif first - 1 in turns:
+            said = f"at the last position{in_turn}"
+        again = bool(around) and (around[-1][0] == first or has_last) and around[-1][1] == past - 1 and not in_turn
+        found.append(Part(first, code[first:past], said, again, has_last))
     return [part for part in found if any(one.rows for one in part.code)]
 
 
@@ -183,12 +210,6 @@ class Board:
         return True
 
 
-def is_loop(part: Part) -> bool:
-    """Whether a part goes back to its own start."""
-    last = part.code[-1]
-    return last.kind == BNEZ and last.number == part.first
-
-
 def groups(end: dict[str, Value], cells) -> dict[str, tuple[str, bool]]:
     """Of each of these cells the first one that ends with the same value or its complement, and whether it is that."""
     found: dict[str, tuple[str, bool]] = {}
@@ -199,24 +220,26 @@ def groups(end: dict[str, Value], cells) -> dict[str, tuple[str, bool]]:
     return found
 
 
-def stored(part: Part, rows: RowNames, held: dict[str, Value]) -> dict[str, tuple[str, bool]]:
-    """The row's name for each value held in cells that a part puts into a row, and whether it puts the complement there."""
+def put_by(part: Part, rows: RowNames, held: dict[str, Value], wanted: dict[str, Value]) -> dict[str, tuple[str, bool]]:
+    """The row's name for each of these values, by its key, that a part puts into a row, and whether it puts the complement
+    there."""
     board, found = Board(part.code, rows, Names({}, WIDEST), held), {}
     for one in part.code:
         board.do(one)
         if one.kind == AAP and one.rows[1].space not in (B_ADDRESS, C_ADDRESS):
             value = board.rows[board.name(one.rows[1])]
-            for text in {other.text for other in held.values()}:
-                if value.pattern in (drawn(text), drawn(text) ^ ALL):
-                    found.setdefault(text, (board.name(one.rows[1]), value.pattern != drawn(text)))
+            for key, other in wanted.items():
+                if value.pattern is not None and value.pattern in (other.pattern, other.pattern ^ ALL):
+                    found.setdefault(key, (board.name(one.rows[1]), value.pattern != other.pattern))
     return found
 
 
 def over(found: list[Part], rows: RowNames) -> list[dict[str, Value]]:
-    """What the cells hold at the start of each part: states that a loop takes over from one position to the next."""
+    """What the cells hold at the start of each part: states that a loop takes over from one position to the next. Each has the
+    name of the row that it goes to after the loop, or at the last position."""
     made: list[dict[str, Value]] = [{} for _ in found]
     for k, part in enumerate(found):
-        if not is_loop(part):
+        if not part.again:
             continue
         board = Board(part.code, rows, Names({}, WIDEST), {cell: row_value(f"{cell} before") for cell in CELLS})
         for one in part.code:
@@ -226,15 +249,27 @@ def over(found: list[Part], rows: RowNames) -> list[dict[str, Value]]:
         held = {cell: row_value(f"{first} before") for cell, (first, _) in same.items()}
         turned = {cell: complemented(held[cell]) if same[cell][1] else held[cell] for cell in taken}
         after = {cell: turned[other] for cell in CELLS for other in taken if board.cells[cell].pattern == board.cells[other].pattern}
-        names = stored(found[k + 1], rows, after) if k + 1 < len(found) and not is_loop(found[k + 1]) else {}
+        names: dict[str, tuple[str, bool]] = {}
+        if part.has_last:
+            names = put_by(found[k - 1], rows, turned, ends(part, rows, turned, same))
+        elif k + 1 < len(found) and not found[k + 1].again:
+            names = put_by(found[k + 1], rows, after, {first: row_value(f"{first} before") for first, _ in same.values()})
         for number, first in enumerate(sorted({first for first, _ in same.values()})):
-            name, is_turned = names.get(f"{first} before", (f"s{number or ''}", False))
+            name, is_turned = names.get(first, (f"s{number or ''}", False))
             value = complemented(row_value(name)) if is_turned else row_value(name)
-            for cells, at in ((turned, k), (after, k + 1)):
+            for cells, at in ((turned, k), (turned, k - 1)) if part.has_last else ((turned, k), (after, k + 1)):
                 for cell, old in cells.items():
                     if old.text.lstrip("~") == f"{first} before" and at < len(found):
                         made[at][cell] = complemented(value) if old.text.startswith("~") else value
     return made
+
+
+def ends(part: Part, rows: RowNames, held: dict[str, Value], same: dict[str, tuple[str, bool]]) -> dict[str, Value]:
+    """The states as a part leaves them, each by the cell that it is known by."""
+    board = Board(part.code, rows, Names({}, WIDEST), held)
+    for one in part.code:
+        board.do(one)
+    return {first: board.cells[first] for first, _ in same.values()}
 
 
 def steps(part: Part, rows: RowNames, names: Names, taken: dict[str, Value] | None = None) -> list[Step]:

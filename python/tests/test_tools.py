@@ -134,23 +134,33 @@ class CellValues(unittest.TestCase):
 class Steps(Folder):
     def test_a_full_adder_by_name(self):
         entry = self.compiled(SERIAL.read_text()).find("maj_add")
-        once, each, store = all_shown(entry, str(SERIAL))
+        once, last, each = all_shown(entry, str(SERIAL))
         self.assertEqual(once.lines[0], "from instruction 0, once: line 25, serial up (c = 0) { .. }")
-        self.assertIn("at each position, upwards: line 25", each.lines[0])
-        # the carry stands in cells from one position to the next, and goes to its row in the end
-        first, last = each.done[0], each.done[-1]
-        self.assertTrue({"c", "~c"} & set(first.cells.values()), first.cells)
-        self.assertTrue({"k", "~k"} & set(last.cells.values()), last.cells)
-        self.assertIn("M(a[i], m, ~k)", [last.rows["y[i]"], *(value for _, value in each.said)])
-        self.assertEqual(store.done[-1].rows, {"c": "c"})
+        self.assertIn("at the last position: line 25", last.lines[0])
+        self.assertIn("at each position but the last, upwards: line 25", each.lines[0])
+        # the carry stands in cells from one position to the next, and goes to its row at the last one
+        for one in (last, each):
+            self.assertTrue({"c", "~c"} & set(one.done[0].cells.values()), one.done[0].cells)
+            self.assertTrue({"k", "~k"} & set(one.done[-1].cells.values()), one.done[-1].cells)
+            self.assertIn("M(a[i], m, ~k)", [one.done[-1].rows["y[i]"], *(value for _, value in one.said)])
+        self.assertEqual(last.done[-1].rows["c"], "k")
+        self.assertNotIn("c", each.done[-1].rows)
 
     def test_states_in_cells_have_names(self):
         entry = self.compiled("op less(a: word, b: word) -> l: bit {\n  serial up (l = 0) { l = maj(not(a), b, l); }\n}\n").find("less")
         for ops, name in ((None, "y"), (str(self.folder / "p.ops"), "l")):
-            start, each, store = all_shown(entry, ops)
+            start, last, each = all_shown(entry, ops)
             self.assertIn("0", start.done[-1].cells.values())
-            self.assertIn(name, {value.lstrip("~").replace("[0]", "") for value in each.done[0].cells.values()})
-            self.assertEqual(len(store.done), 1)
+            for one in (last, each):
+                self.assertIn(name, {value.lstrip("~").replace("[0]", "") for value in one.done[0].cells.values()})
+            self.assertEqual(len(last.done), 3)
+
+    def test_bodies_that_take_turns(self):
+        entry = self.compiled("op odd(a: word) -> y: bit {\n  y = xor_red(a);\n}\n").find("odd")
+        titles = [one.lines[0] for one in all_shown(entry, str(self.folder / "p.ops"))]
+        self.assertIn("once", titles[0])
+        self.assertEqual(sum("at the last position, in its turn" in title for title in titles), 2)
+        self.assertEqual(sum("at each position but the last, upwards, in its turn" in title for title in titles), 2)
 
     def test_lines_are_short_and_values_have_numbers(self):
         entry = self.compiled(BIG).find("big")
