@@ -26,7 +26,7 @@ class Page(unittest.TestCase):
                 exec(block, names)
         shown = re.search(r"\n\n((?:    .*\n)+)\n## Chips", text)[1].replace("\n    ", "\n")[4:]
         self.assertEqual(put.getvalue(), f"[[  2   0]\n [100 252]]\naap=163 ap=16\n{shown}\n")
-        self.assertEqual((str(names["z"].cost), names["found"]), ("aap=393 ap=44", (2, 4, (86, 16))))
+        self.assertEqual((str(names["z"].cost), names["found"]), ("aap=350 ap=36", (2, 4, (86, 16))))
 
 
 class Door(unittest.TestCase):
