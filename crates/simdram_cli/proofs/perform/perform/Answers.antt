@@ -1,4 +1,4 @@
-use Rattle.std.proofs.Common.{◌∙◌, map}
+use Rattle.std.proofs.Common.{map}
 use Rattle.std.proofs.lemmas.Result.{err_from_is_err_and}
 use Rattle.dram_model.proofs.EventLaws.{Kept-more}
 use Rattle.object_alloc.specs.Exact.{found_in}
