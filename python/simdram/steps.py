@@ -220,6 +220,14 @@ def groups(end: dict[str, Value], cells) -> dict[str, tuple[str, bool]]:
     return found
 
 
+def done_by(part: Part, rows: RowNames, held: dict[str, Value]) -> Board:
+    """What cells and rows hold after a part that finds these values in cells."""
+    board = Board(part.code, rows, Names({}, WIDEST), held)
+    for one in part.code:
+        board.do(one)
+    return board
+
+
 def put_by(part: Part, rows: RowNames, held: dict[str, Value], wanted: dict[str, Value]) -> dict[str, tuple[str, bool]]:
     """The row's name for each of these values, by its key, that a part puts into a row, and whether it puts the complement
     there."""
@@ -241,9 +249,7 @@ def over(found: list[Part], rows: RowNames) -> list[dict[str, Value]]:
     for k, part in enumerate(found):
         if not part.again:
             continue
-        board = Board(part.code, rows, Names({}, WIDEST), {cell: row_value(f"{cell} before") for cell in CELLS})
-        for one in part.code:
-            board.do(one)
+        board = done_by(part, rows, {cell: row_value(f"{cell} before") for cell in CELLS})
         taken = [cell for cell in CELLS if cell in board.taken]
         same = groups(board.cells, taken)
         held = {cell: row_value(f"{first} before") for cell, (first, _) in same.items()}
@@ -251,7 +257,8 @@ def over(found: list[Part], rows: RowNames) -> list[dict[str, Value]]:
         after = {cell: turned[other] for cell in CELLS for other in taken if board.cells[cell].pattern == board.cells[other].pattern}
         names: dict[str, tuple[str, bool]] = {}
         if part.has_last:
-            names = put_by(found[k - 1], rows, turned, ends(part, rows, turned, same))
+            ends = done_by(part, rows, turned).cells
+            names = put_by(found[k - 1], rows, turned, {first: ends[first] for first, _ in same.values()})
         elif k + 1 < len(found) and not found[k + 1].again:
             names = put_by(found[k + 1], rows, after, {first: row_value(f"{first} before") for first, _ in same.values()})
         for number, first in enumerate(sorted({first for first, _ in same.values()})):
@@ -262,14 +269,6 @@ def over(found: list[Part], rows: RowNames) -> list[dict[str, Value]]:
                     if old.text.lstrip("~") == f"{first} before" and at < len(found):
                         made[at][cell] = complemented(value) if old.text.startswith("~") else value
     return made
-
-
-def ends(part: Part, rows: RowNames, held: dict[str, Value], same: dict[str, tuple[str, bool]]) -> dict[str, Value]:
-    """The states as a part leaves them, each by the cell that it is known by."""
-    board = Board(part.code, rows, Names({}, WIDEST), held)
-    for one in part.code:
-        board.do(one)
-    return {first: board.cells[first] for first, _ in same.values()}
 
 
 def steps(part: Part, rows: RowNames, names: Names, taken: dict[str, Value] | None = None) -> list[Step]:
