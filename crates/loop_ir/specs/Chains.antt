@@ -5,8 +5,8 @@ use Rattle.std.specs.List.{list_any, list_all}
 use Rattle.loop_ir.specs.declared.ir.Span.{Span}
 use Rattle.loop_ir.specs.declared.ir.Span.TheVariants.{Full, First, Above}
 use Rattle.loop_ir.specs.declared.ir.Place.{Place}
-use Rattle.loop_ir.specs.Plain.{Block, InnerOf, TurnOf, StepOf}
-use Rattle.loop_ir.specs.Plain.InnerOf.{Alone, Across, IfOdd, Halves}
+use Rattle.loop_ir.specs.Plain.{Block, LevelOf, InnerOf, TurnOf, StepOf}
+use Rattle.loop_ir.specs.Plain.InnerOf.{Alone, Across, AtLevel}
 use Rattle.loop_ir.specs.Plain.StepOf.{Single, Along, Nest, Pairs, Alternate}
 use Rattle.loop_ir.specs.Spots.{is_state}
 
@@ -35,22 +35,39 @@ loop_finds alive b = finds alive b && finds (left_by b) b
 abbrev pub common : List ℕ → List ℕ → List ℕ
 common alive left = filter (λ w. is_alive w left) alive
 
--- what the parts of a nest leave, done once: one that may have no round leaves nothing new
+-- what a level's sum begins with, in either way
+abbrev pub begun_by : LevelOf Block → List ℕ
+begun_by l = common (left_by l.odd) (left_by l.even)
+
+-- what a level leaves, with elements or without
+abbrev pub level_left : LevelOf Block → List ℕ
+level_left l = common (left_by l.none) (left_by l.end)
+
+-- the pairs of a level find what their sum begins with, and what the pair before them leaves; and
+-- so does the end
+abbrev pub pairs_find : LevelOf Block → Bool
+pairs_find l = (finds (begun_by l) l.first && (finds (left_by l.first) l.second
+    && finds (left_by l.second) l.first)) && (finds (begun_by l) l.end
+    && finds (left_by l.second) l.end)
+
+-- each body of a level finds its states
+abbrev pub level_finds : List ℕ → LevelOf Block → Bool
+level_finds alive l = (finds alive l.none && (finds alive l.odd && finds alive l.even))
+    && pairs_find l
+
+-- what the parts of a nest leave, done once
 abbrev pub inner_left : List ℕ → List (InnerOf Block) → List ℕ
 inner_left alive [] = alive
 inner_left alive (Alone b ∷ ps) = inner_left (left_by b) ps
 inner_left alive (Across c b ∷ ps) = inner_left (left_by b) ps
-inner_left alive (IfOdd b ∷ ps) = inner_left (common alive (left_by b)) ps
-inner_left alive (Halves b c ∷ ps) = inner_left (common alive (left_by c)) ps
+inner_left alive (AtLevel l ∷ ps) = inner_left (level_left l) ps
 
 -- each part of a nest finds its states
 abbrev pub inner_finds : List ℕ → List (InnerOf Block) → Bool
 inner_finds alive [] = true
 inner_finds alive (Alone b ∷ ps) = finds alive b && inner_finds (left_by b) ps
 inner_finds alive (Across c b ∷ ps) = loop_finds alive b && inner_finds (left_by b) ps
-inner_finds alive (IfOdd b ∷ ps) = finds alive b && inner_finds (common alive (left_by b)) ps
-inner_finds alive (Halves b c ∷ ps) = (finds alive b && (finds (left_by b) c
-    && finds (left_by c) b)) && inner_finds (common alive (left_by c)) ps
+inner_finds alive (AtLevel l ∷ ps) = level_finds alive l && inner_finds (level_left l) ps
 
 -- of what a nest leaves that which is sure: nothing where it may have no round
 abbrev pub surely : Span → List ℕ → List ℕ

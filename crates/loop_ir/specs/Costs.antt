@@ -13,8 +13,8 @@ use Rattle.loop_ir.specs.declared.ir.Sub.TheVariants.{Zero, Top, Inner as At_inn
 use Rattle.loop_ir.specs.declared.ir.Sub.TheVariants.{Outer, OuterDown, Sum, DownSum, SumTwice}
 use Rattle.loop_ir.specs.declared.ir.Sub.TheVariants.{AboveSumTwice, AboveSum, DownPlusN}
 use Rattle.loop_ir.specs.declared.ir.Sub.TheVariants.{NPlusInner}
-use Rattle.loop_ir.specs.Plain.{Block, InnerOf, TurnOf, StepOf}
-use Rattle.loop_ir.specs.Plain.InnerOf.{Alone, Across, IfOdd, Halves}
+use Rattle.loop_ir.specs.Plain.{Block, LevelOf, InnerOf, TurnOf, StepOf}
+use Rattle.loop_ir.specs.Plain.InnerOf.{Alone, Across, AtLevel}
 use Rattle.loop_ir.specs.Plain.StepOf.{Single, Along, Nest, Pairs, Alternate}
 use Rattle.row_alloc.specs.HeldBodies.{HeldBody, held_at, held_sequence_for}
 use Rattle.loop_ir.specs.Loops.{RoundOf}
@@ -139,14 +139,22 @@ used_subs b = filter (is_used b) (Top ∷ At_inner ∷ InnerDown ∷ Outer ∷ O
 abbrev pub single_cost : Block → ℕ
 single_cost b = body_cost b + (if is_fixed b then 0 else 15)
 
--- how many instructions a part of a nest may take: 15 for its loop or its subscripts, 3 more for a
--- loop that counts its rounds anew at each outer position, and 20 more to find how many elements a
--- level has
+-- the commands of all bodies of a level
+abbrev pub level_bodies_cost : LevelOf Block → ℕ
+level_bodies_cost l = body_cost l.none + body_cost l.odd + body_cost l.even + body_cost l.first
+    + body_cost l.second + body_cost l.end
+
+-- how many instructions a level may take: 9 for the subscripts of each of its bodies that stands in
+-- no loop, 16 to find how many elements it has, 10 to jump, and 9 for the loop over its pairs
+abbrev pub level_cost : LevelOf Block → ℕ
+level_cost l = level_bodies_cost l + 4 * 9 + 16 + 10 + 9
+
+-- how many instructions a part of a nest may take: 15 for its loop or its subscripts, and 3 more
+-- for a loop that counts its rounds anew at each outer position
 abbrev pub inner_cost : InnerOf Block → ℕ
 inner_cost (Alone b) = body_cost b + 15
 inner_cost (Across count b) = body_cost b + 18
-inner_cost (IfOdd b) = body_cost b + 15 + 20
-inner_cost (Halves b c) = body_cost b + body_cost c + 15 + 20
+inner_cost (AtLevel l) = level_cost l
 
 -- how many instructions one of bodies that take turns may take, with the one in its place at the
 -- top position: four of them count and jump
@@ -179,8 +187,7 @@ code_cost steps = sum_by step_cost steps
 abbrev pub inner_bodies : InnerOf Block → ℕ
 inner_bodies (Alone b) = 1
 inner_bodies (Across count b) = 1
-inner_bodies (IfOdd b) = 1
-inner_bodies (Halves b c) = 2
+inner_bodies (AtLevel l) = 6
 
 -- the number of bodies of a step
 abbrev pub step_bodies : StepOf Block → ℕ

@@ -10,8 +10,8 @@ use Rattle.loop_ir.specs.declared.ir.Sub.TheVariants.{Zero, Top, Inner as At_inn
 use Rattle.loop_ir.specs.declared.ir.Sub.TheVariants.{Outer, OuterDown, Sum, DownSum, SumTwice}
 use Rattle.loop_ir.specs.declared.ir.Sub.TheVariants.{AboveSumTwice, AboveSum, DownPlusN}
 use Rattle.loop_ir.specs.declared.ir.Sub.TheVariants.{NPlusInner}
-use Rattle.loop_ir.specs.Plain.{Block, InnerOf, StepOf, all_turns, AllParts}
-use Rattle.loop_ir.specs.Plain.InnerOf.{Alone, Across, IfOdd, Halves}
+use Rattle.loop_ir.specs.Plain.{Block, LevelOf, InnerOf, StepOf, all_turns, AllParts}
+use Rattle.loop_ir.specs.Plain.InnerOf.{Alone, Across, AtLevel}
 use Rattle.loop_ir.specs.Plain.StepOf.{Single, Along, Nest, Pairs, Alternate}
 use Rattle.loop_ir.specs.Loops.{RoundOf, all_rounds}
 use Rattle.loop_ir.specs.Spots.{Spot, IsOwn, is_state, nth_place, nth_spot}
@@ -78,12 +78,17 @@ abbrev pub stays_in_pair : Block → Bool
 stays_in_pair b = list_all (λ p. same_sub p.sub Zero || (same_sub p.sub SumTwice
     || (same_sub p.sub AboveSumTwice || same_sub p.sub AboveSum))) (b.reads ++ b.writes)
 
+-- so it is with the bodies of a level, of which the two of a pair stand in a loop
+abbrev pub level_stands : LevelOf Block → Bool
+level_stands l = all_stand false true l.none && (all_stand false true l.odd
+    && (all_stand false true l.even && (stays_in_pair l.first && (stays_in_pair l.second
+    && all_stand false true l.end))))
+
 -- so it is in a part of a nest
 abbrev pub inner_stands : InnerOf Block → Bool
 inner_stands (Alone b) = all_stand false true b
 inner_stands (Across count b) = all_stand true true b
-inner_stands (IfOdd b) = all_stand false true b
-inner_stands (Halves b c) = stays_in_pair b && stays_in_pair c
+inner_stands (AtLevel l) = level_stands l
 
 -- every place of the body is at 0, or at the inner position from below or from above: so it is with
 -- bodies that take turns, for all of which two registers are enough

@@ -1,6 +1,6 @@
 -- The rounds of a loop program.
-use Rattle.std.specs.Prelude.{ℕ, zero, suc, ◌+◌, ◌-◌, ◌*◌, ◌/◌, ◌%◌, ◌^◌, List, []}
-use Rattle.std.specs.Prelude.{◌∷◌, ◌++◌}
+use Rattle.std.specs.Prelude.{ℕ, zero, suc, ◌+◌, ◌-◌, ◌*◌, ◌/◌, ◌%◌, ◌^◌, ◌==◌, if◌then◌else◌}
+use Rattle.std.specs.Prelude.{List, [], ◌∷◌, ◌++◌}
 use Rattle.loop_ir.specs.declared.ir.Span.{Span}
 use Rattle.loop_ir.specs.declared.ir.Span.TheVariants.{Full, First, Above}
 use Rattle.loop_ir.specs.declared.ir.Sub.{Sub}
@@ -10,8 +10,8 @@ use Rattle.loop_ir.specs.declared.ir.Sub.TheVariants.{AboveSumTwice, AboveSum, D
 use Rattle.loop_ir.specs.declared.ir.Sub.TheVariants.{NPlusInner}
 use Rattle.loop_ir.specs.declared.ir.Count.{Count}
 use Rattle.loop_ir.specs.declared.ir.Count.TheVariants.{All, Rest, UpTo}
-use Rattle.loop_ir.specs.Plain.{InnerOf, TurnOf, StepOf}
-use Rattle.loop_ir.specs.Plain.InnerOf.{Alone, Across, IfOdd, Halves}
+use Rattle.loop_ir.specs.Plain.{LevelOf, InnerOf, TurnOf, StepOf}
+use Rattle.loop_ir.specs.Plain.InnerOf.{Alone, Across, AtLevel}
 use Rattle.loop_ir.specs.Plain.StepOf.{Single, Along, Nest, Pairs, Alternate}
 
 -- the lists at i, i + 1 and so on, as many as the count
@@ -59,16 +59,27 @@ elements n o = n / 2 ^ o
 abbrev pub two_rounds : {A : Type 0} → A → A → ℕ → ℕ → List (RoundOf A)
 two_rounds b c i o = round_at b i o ∷ round_at c i o ∷ []
 
+-- how a level's sum begins: by what is done for elements that are odd in number, or even
+abbrev pub level_start : {A : Type 0} → ℕ → ℕ → LevelOf A → A
+level_start n o l = if elements n o % 2 == 0 then l.even else l.odd
+
+-- the rounds of a level that has elements: its sum begins, takes the pairs, and ends
+abbrev pub filled_rounds : {A : Type 0} → ℕ → ℕ → LevelOf A → List (RoundOf A)
+filled_rounds n o l = one_round (level_start n o l) 0 o
+    ++ (rounds (λ i. two_rounds l.first l.second i o) 0 (elements n (o + 1))
+    ++ one_round l.end 0 o)
+
+-- the rounds of a level
+abbrev pub level_rounds : {A : Type 0} → ℕ → ℕ → LevelOf A → List (RoundOf A)
+level_rounds n o l = if elements n o == 0 then one_round l.none 0 o else filled_rounds n o l
+
 -- the rounds of a nest's parts at one outer position
 abbrev pub inner_rounds : {A : Type 0} → ℕ → ℕ → List (InnerOf A) → List (RoundOf A)
 inner_rounds n o [] = []
 inner_rounds n o (Alone b ∷ more) = one_round b 0 o ++ inner_rounds n o more
 inner_rounds n o (Across count b ∷ more) = rounds (λ i. one_round b i o) 0 (positions n o count)
     ++ inner_rounds n o more
-inner_rounds n o (IfOdd b ∷ more) = rounds (λ i. one_round b i o) 0 (elements n o % 2)
-    ++ inner_rounds n o more
-inner_rounds n o (Halves b c ∷ more) = rounds (λ i. two_rounds b c i o) 0 (elements n (o + 1))
-    ++ inner_rounds n o more
+inner_rounds n o (AtLevel l ∷ more) = level_rounds n o l ++ inner_rounds n o more
 
 -- the rounds from position i on, where the top position comes after so many: the first of the
 -- bodies has its turn, and then stands behind all others

@@ -8,6 +8,7 @@ use Rattle.loop_ir.specs.declared.ir.Span.TheVariants.{Full, First, Above}
 use Rattle.loop_ir.specs.declared.ir.Place.{Place}
 use Rattle.loop_ir.specs.declared.ir.Count.{Count}
 use Rattle.loop_ir.specs.declared.ir.Body.{Body}
+use Rattle.loop_ir.specs.declared.ir.Level.{Level}
 use Rattle.loop_ir.specs.declared.ir.Inner.{Inner}
 use Rattle.loop_ir.specs.declared.ir.Inner.TheVariants as code_inner
 use Rattle.loop_ir.specs.declared.ir.Turn.{Turn}
@@ -24,13 +25,22 @@ pub record Block : Type 0 where
   pub writes : List Place
   pub found : List BodyCmd
 
--- a part of a nest: a body once, or at each inner position; and where the outer positions are the
--- levels of a count, a body where a level's elements are odd in number, or two at each pair of them
+-- the bodies of a level of a count: what alone is done where it has no element; how its sum begins
+-- where its elements are odd in number, and where they are even; the two at each pair; and how it
+-- ends
+pub record LevelOf (A : Type 0) : Type 0 where
+  pub none : A
+  pub odd : A
+  pub even : A
+  pub first : A
+  pub second : A
+  pub end : A
+
+-- a part of a nest: a body once, or at each inner position, or the bodies of a level
 pub data InnerOf (A : Type 0) : Type 0 where
   Alone : A → InnerOf A
   Across : Count → A → InnerOf A
-  IfOdd : A → InnerOf A
-  Halves : A → A → InnerOf A
+  AtLevel : LevelOf A → InnerOf A
 
 -- one of bodies that take turns, and the one that stands in its place at the top position
 pub record TurnOf (A : Type 0) : Type 0 where
@@ -56,12 +66,22 @@ block_of b = record {
   found = b.found.items;
 }
 
+-- the bodies of a level that the code built
+abbrev pub level_of : Level → LevelOf Block
+level_of l = record {
+  none = block_of l.none;
+  odd = block_of l.odd;
+  even = block_of l.even;
+  first = block_of l.first;
+  second = block_of l.second;
+  end = block_of l.end;
+}
+
 -- a part of a nest that the code built
 abbrev pub inner_of : Inner → InnerOf Block
 inner_of (code_inner.Once b) = Alone (block_of b)
 inner_of (code_inner.Each count b) = Across count (block_of b)
-inner_of (code_inner.IfOdd b) = IfOdd (block_of b)
-inner_of (code_inner.Halves b c) = Halves (block_of b) (block_of c)
+inner_of (code_inner.Level l) = AtLevel (level_of l)
 
 -- one of bodies that take turns
 abbrev pub turn_of : Turn → TurnOf Block
@@ -81,12 +101,22 @@ step_of (code_step.Alternate turns) = Alternate (map turn_of turns.items)
 abbrev pub steps_of : LoopProgram → List (StepOf Block)
 steps_of p = map step_of p.steps.items
 
+-- the same level over other things
+abbrev pub level_map : {A B : Type 0} → (A → B) → LevelOf A → LevelOf B
+level_map f l = record {
+  none = f l.none;
+  odd = f l.odd;
+  even = f l.even;
+  first = f l.first;
+  second = f l.second;
+  end = f l.end;
+}
+
 -- the same loop over another thing
 abbrev pub inner_map : {A B : Type 0} → (A → B) → InnerOf A → InnerOf B
 inner_map f (Alone a) = Alone (f a)
 inner_map f (Across count a) = Across count (f a)
-inner_map f (IfOdd a) = IfOdd (f a)
-inner_map f (Halves a b) = Halves (f a) (f b)
+inner_map f (AtLevel l) = AtLevel (level_map f l)
 
 -- the same turn over other things
 abbrev pub turn_map : {A B : Type 0} → (A → B) → TurnOf A → TurnOf B
@@ -100,13 +130,25 @@ step_map f (Nest span parts) = Nest span (map (inner_map f) parts)
 step_map f (Pairs a) = Pairs (f a)
 step_map f (Alternate ts) = Alternate (map (turn_map f) ts)
 
+-- what holds of every body of a level
+pub record AllLevel {A : Type 0} (P : A → Type 0) (l : LevelOf A) : Type 0 where
+  pub none : P l.none
+  pub odd : P l.odd
+  pub even : P l.even
+  pub first : P l.first
+  pub second : P l.second
+  pub end : P l.end
+
+-- whether a test passes on all bodies of a level
+abbrev pub all_level : {A : Type 0} → (A → Bool) → LevelOf A → Bool
+all_level f l = f l.none && (f l.odd && (f l.even && (f l.first && (f l.second && f l.end))))
+
 -- what holds of every body of a nest
 abbrev pub AllInner : {A : Type 0} → (A → Type 0) → List (InnerOf A) → Type 0
 AllInner P [] = Unit {0}
 AllInner P (Alone a ∷ xs) = P a × AllInner P xs
 AllInner P (Across count a ∷ xs) = P a × AllInner P xs
-AllInner P (IfOdd a ∷ xs) = P a × AllInner P xs
-AllInner P (Halves a b ∷ xs) = (P a × P b) × AllInner P xs
+AllInner P (AtLevel l ∷ xs) = AllLevel P l × AllInner P xs
 
 -- what holds of all bodies that take turns
 abbrev pub AllTurns : {A : Type 0} → (A → Type 0) → List (TurnOf A) → Type 0

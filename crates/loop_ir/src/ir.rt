@@ -111,17 +111,30 @@ pub enum Span {
     Above,
 }
 
-/// A part of a nest: a body at each outer position, once or in a loop of its own. Where the outer
-/// positions are the levels of a count, level o has n / 2^o elements.
+/// What is done at a level of a count: the outer positions are the levels, and level o has n / 2^o
+/// elements. Their sum begins, takes the elements in pairs, and ends.
+#[derive(Drop)]
+pub struct Level {
+    /// What alone is done at a level that has no element.
+    pub none: Body,
+    /// How the sum begins where the elements are odd in number, and where they are even.
+    pub odd: Body,
+    pub even: Body,
+    /// The two bodies at each pair. Their subscripts are `Zero`, `SumTwice`, `AboveSumTwice` and
+    /// `AboveSum` alone.
+    pub first: Body,
+    pub second: Body,
+    /// How it ends.
+    pub end: Body,
+}
+
+/// A part of a nest: a body at each outer position, once or in a loop of its own, or the bodies of
+/// a level of a count.
 #[derive(Drop)]
 pub enum Inner {
     Once(Body),
     Each(Count, Body),
-    /// A body once at each level that has an odd number of elements.
-    IfOdd(Body),
-    /// Two bodies at each pair of elements. Their subscripts are `Zero`, `SumTwice`,
-    /// `AboveSumTwice` and `AboveSum` alone.
-    Halves(Body, Body),
+    Level(Level),
 }
 
 /// One of bodies that take turns from position to position, and the one that stands in its place at

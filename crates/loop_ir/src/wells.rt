@@ -2,12 +2,12 @@
 
 ghost use Rattle.std.specs.Prelude.{◌≡◌, ◌↔◌, ◌<◌, ℕ, true, length, map, ◌∷◌, []};
 ghost use Rattle.mig_graph.specs.Outputs.{AreNamed};
-ghost use Rattle.loop_ir.specs.Plain.{block_of, inner_of, turn_of, step_of, steps_of, AllInner};
-ghost use Rattle.loop_ir.specs.Plain.{AllTurns, AllStep};
+ghost use Rattle.loop_ir.specs.Plain.{block_of, level_of, inner_of, turn_of, step_of, steps_of};
+ghost use Rattle.loop_ir.specs.Plain.{AllLevel, AllInner, AllTurns, AllStep};
 ghost use Rattle.loop_ir.specs.Spots.{nth_place};
 ghost use Rattle.loop_ir.specs.WellFormed.{IsOneValue, IsWellFormed, AreWellFormed};
 
-use crate::ir::{Body, Inner, LoopProgram, Place, Step, Turn};
+use crate::ir::{Body, Inner, Level, LoopProgram, Place, Step, Turn};
 use mig_graph::MigOuts;
 
 /// Whether the two places are rows of one value.
@@ -105,6 +105,18 @@ fn is_well_formed(b: &Body) -> bool
         && all_agree(&b.writes, &b.reads)
 }
 
+/// Whether the bodies of a level are well formed.
+fn level_is_well_formed(level: &Level) -> bool
+    ensures { (result ≡ true) ↔ AllLevel IsWellFormed (level_of level.now) }
+{
+    is_well_formed(&level.none)
+        && is_well_formed(&level.odd)
+        && is_well_formed(&level.even)
+        && is_well_formed(&level.first)
+        && is_well_formed(&level.second)
+        && is_well_formed(&level.end)
+}
+
 /// Whether the bodies of a part of a nest are well formed.
 fn part_is_well_formed(part: &Inner) -> bool
     ensures { (result ≡ true) ↔ AllInner IsWellFormed (inner_of part.now ∷ []) }
@@ -112,8 +124,7 @@ fn part_is_well_formed(part: &Inner) -> bool
     match part {
         Inner::Once(body) => is_well_formed(body),
         Inner::Each(_, body) => is_well_formed(body),
-        Inner::IfOdd(body) => is_well_formed(body),
-        Inner::Halves(first, second) => is_well_formed(first) && is_well_formed(second),
+        Inner::Level(level) => level_is_well_formed(level),
     }
 }
 

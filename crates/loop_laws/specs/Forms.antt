@@ -6,7 +6,7 @@ use Rattle.bit_rows.specs.declared.TheConstants.{WIDTH_MAX}
 use Rattle.mig_graph.specs.Graph.{IsGraph}
 use Rattle.mig_graph.specs.Outputs.{AreNamed}
 use Rattle.loop_ir.specs.Plain.{Block, InnerOf, StepOf, AllParts, all_turns}
-use Rattle.loop_ir.specs.Plain.InnerOf.{Alone, Across, IfOdd, Halves}
+use Rattle.loop_ir.specs.Plain.InnerOf.{Alone, Across, AtLevel}
 use Rattle.loop_ir.specs.Plain.StepOf.{Single, Along, Nest, Pairs, Alternate}
 use Rattle.loop_ir.specs.Loops.{all_rounds}
 use Rattle.loop_ir.specs.declared.ir.Place.{Place}
@@ -63,8 +63,7 @@ abbrev pub inners_have_room : List (InnerOf Block) → Bool
 inners_have_room [] = true
 inners_have_room (Alone b ∷ ps) = has_room b && inners_have_room ps
 inners_have_room (Across c b ∷ ps) = has_room b && inners_have_room ps
-inners_have_room (IfOdd b ∷ ps) = has_room b && inners_have_room ps
-inners_have_room (Halves b c ∷ ps) = (has_room b && has_room c) && inners_have_room ps
+inners_have_room (AtLevel l ∷ ps) = all_level has_room l && inners_have_room ps
 
 -- every body of a loop program keeps these bounds
 abbrev pub steps_have_room : List (StepOf Block) → Bool
@@ -98,9 +97,7 @@ abbrev pub inners_have_known : List (InnerOf Block) → Bool
 inners_have_known [] = true
 inners_have_known (Alone b ∷ ps) = has_known_states b && inners_have_known ps
 inners_have_known (Across c b ∷ ps) = has_known_states b && inners_have_known ps
-inners_have_known (IfOdd b ∷ ps) = has_known_states b && inners_have_known ps
-inners_have_known (Halves b c ∷ ps) = (has_known_states b && has_known_states c)
-    && inners_have_known ps
+inners_have_known (AtLevel l ∷ ps) = all_level has_known_states l && inners_have_known ps
 
 -- so it is in every body of a loop program
 abbrev pub steps_have_known : List (StepOf Block) → Bool

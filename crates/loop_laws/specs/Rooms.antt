@@ -11,7 +11,7 @@ use Rattle.loop_ir.specs.declared.ir.Count.{Count}
 use Rattle.loop_ir.specs.declared.ir.Count.TheVariants.{All, Rest, UpTo}
 use Rattle.loop_ir.specs.declared.ir.Place.{Place}
 use Rattle.loop_ir.specs.Plain.{Block, InnerOf, StepOf, step_map, all_turns}
-use Rattle.loop_ir.specs.Plain.InnerOf.{Alone, Across, IfOdd, Halves}
+use Rattle.loop_ir.specs.Plain.InnerOf.{Alone, Across, AtLevel}
 use Rattle.loop_ir.specs.Plain.StepOf.{Single, Along, Nest, Pairs, Alternate}
 use Rattle.loop_ir.specs.Spots.{Spot, spot_in, IsOwn}
 use Rattle.loop_ir.specs.Costs.{sub_code}
@@ -206,14 +206,19 @@ abbrev pub body_fits : Reach → Bool → List Room → Marked → Bool
 body_fits r outer rooms b = all_fit r outer rooms b.reads
     && (all_fit r outer rooms b.writes && writes_fit rooms b.reads b.writes)
 
+-- the test of a level's bodies
+abbrev pub level_fits : List Room → LevelOf Marked → Bool
+level_fits rooms l = body_fits Nowhere true rooms l.none
+    && (body_fits Nowhere true rooms l.odd && (body_fits Nowhere true rooms l.even
+    && (body_fits Paired true rooms l.first && (body_fits Paired true rooms l.second
+    && body_fits Nowhere true rooms l.end))))
+
 -- the test of a nest's bodies
 abbrev pub inners_fit : List Room → List (InnerOf Marked) → Bool
 inners_fit rooms [] = true
 inners_fit rooms (Alone b ∷ ps) = body_fits Nowhere true rooms b && inners_fit rooms ps
 inners_fit rooms (Across c b ∷ ps) = body_fits (reach_of c) true rooms b && inners_fit rooms ps
-inners_fit rooms (IfOdd b ∷ ps) = body_fits Nowhere true rooms b && inners_fit rooms ps
-inners_fit rooms (Halves b c ∷ ps) = (body_fits Paired true rooms b
-    && body_fits Paired true rooms c) && inners_fit rooms ps
+inners_fit rooms (AtLevel l ∷ ps) = level_fits rooms l && inners_fit rooms ps
 
 -- the test of a loop program's bodies: it is run once on each written program
 abbrev pub steps_fit : List Room → List (StepOf Marked) → Bool

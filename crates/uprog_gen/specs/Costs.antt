@@ -2,7 +2,7 @@
 use Rattle.std.specs.Prelude.{ℕ, ◌+◌, ◌-◌, ◌*◌, ◌/◌}
 use Rattle.op_text.specs.declared.word_ops.WordOp.{WordOp}
 use Rattle.op_text.specs.declared.word_ops.WordOp.TheVariants as o
-use Rattle.word_mul.specs.Programs.{odd_levels, pairs_below}
+use Rattle.word_mul.specs.Programs.{filled_levels, odd_levels, pairs_below}
 
 -- how many AAP an operation takes on arguments of n bits. Where bodies take turns, n / 2 of the
 -- positions are odd and (n + 1) / 2 are even, as they are counted from 0
@@ -29,7 +29,7 @@ op_aaps o.Eq n = 2 * n + 3
 op_aaps o.Gt n = 3 * n + 1
 op_aaps o.Ge n = 3 * n + 1
 op_aaps o.IfElse n = 7 * n
-op_aaps o.Bitcount n = 2 * n + 2 * odd_levels n n + 7 * pairs_below n n
+op_aaps o.Bitcount n = n + filled_levels n n + odd_levels n n + 7 * pairs_below n n
 op_aaps o.AndRed n = n + 2 * ((n + 2) / 3) + 1
 op_aaps o.OrRed n = n + 2 * ((n + 2) / 3) + 1
 op_aaps o.XorRed n = 5 * ((n + 1) / 2) + 1

@@ -8,8 +8,8 @@ use Rattle.op_text.specs.declared.word_ops.WordOp.TheVariants as o
 use Rattle.op_text.specs.WordOps.{number}
 use Rattle.op_text.specs.Language.{Statement, Compute, Visit}
 use Rattle.loop_ir.specs.Loops.{elements}
-use Rattle.loop_ir.specs.Plain.{InnerOf, StepOf}
-use Rattle.loop_ir.specs.Plain.InnerOf.{Alone, Across, IfOdd, Halves}
+use Rattle.loop_ir.specs.Plain.{LevelOf, InnerOf, StepOf}
+use Rattle.loop_ir.specs.Plain.InnerOf.{Alone, Across, AtLevel}
 use Rattle.loop_ir.specs.Plain.StepOf.{Single, Along, Nest}
 use Rattle.loop_laws.specs.Rooms as rooms
 use Rattle.loop_laws.specs.Rooms.{Mark, Marked, InRoom, InCells}
@@ -25,6 +25,7 @@ use Rattle.word_mul.specs.declared.shapes.BodyForm.TheVariants.{Off, On, Moved, 
 use Rattle.word_mul.specs.declared.shapes.BodyForm.TheVariants.{Either}
 use Rattle.word_mul.specs.declared.shapes.BodyForm.TheVariants.{Without, Compared, Multiplied}
 use Rattle.word_mul.specs.declared.shapes.BodyForm.TheVariants.{Begun, Counted, Kept, Divided}
+use Rattle.word_mul.specs.declared.shapes.LevelForm.{LevelForm}
 use Rattle.word_mul.specs.declared.shapes.NestPart.{NestPart}
 use Rattle.word_mul.specs.declared.shapes.NestPart.TheVariants as part
 use Rattle.word_mul.specs.declared.shapes.StepForm.{StepForm}
@@ -110,14 +111,24 @@ form_body (Counted x y s c) = counted (mark_of x) (mark_of y) (mark_of s) (mark_
 form_body (Kept x s z) = kept (mark_of x) (mark_of s) (mark_of z)
 form_body (Divided w y g c) = divided (mark_of w) (mark_of y) (mark_of g) (mark_of c)
 
+-- the bodies of a level
+abbrev pub level_bodies : LevelForm → LevelOf Marked
+level_bodies l = record {
+  none = form_body l.none;
+  odd = form_body l.odd;
+  even = form_body l.even;
+  first = form_body l.first;
+  second = form_body l.second;
+  end = form_body l.end;
+}
+
 -- the parts that there are
 abbrev pub parts_of : List (Option NestPart) → List (InnerOf Marked)
 parts_of [] = []
 parts_of (None ∷ ps) = parts_of ps
 parts_of (Some (part.Once f) ∷ ps) = Alone (form_body f) ∷ parts_of ps
 parts_of (Some (part.Each count f) ∷ ps) = Across count (form_body f) ∷ parts_of ps
-parts_of (Some (part.IfOdd f) ∷ ps) = IfOdd (form_body f) ∷ parts_of ps
-parts_of (Some (part.Halves f g) ∷ ps) = Halves (form_body f) (form_body g) ∷ parts_of ps
+parts_of (Some (part.Level l) ∷ ps) = AtLevel (level_bodies l) ∷ parts_of ps
 
 -- the steps that there are
 abbrev pub steps_of_forms : List (Option StepForm) → List (StepOf Marked)
@@ -168,6 +179,11 @@ abbrev pub odd_levels : ℕ → ℕ → ℕ
 odd_levels n zero = 0
 odd_levels n (suc o) = odd_levels n o + elements n o % 2
 
+-- how many of the first levels have an element
+abbrev pub filled_levels : ℕ → ℕ → ℕ
+filled_levels n zero = 0
+filled_levels n (suc o) = filled_levels n o + (if elements n o == 0 then 0 else 1)
+
 -- how many pairs the first levels have together: their carries are the elements of the level above
 abbrev pub pairs_below : ℕ → ℕ → ℕ
 pairs_below n zero = 0
@@ -178,7 +194,7 @@ abbrev pub nested_total : WordOp → ℕ → ℕ
 nested_total o.Mul n = 9 * ((n - 1) * n / 2) + 4 * n + 3 * (n - 1)
 nested_total o.Div n = 12 * (n * (n + 1) / 2) + 16 * n + 1
 nested_total o.Rem n = 12 * (n * (n + 1) / 2) + 16 * n + 1
-nested_total o.Bitcount n = 2 + 2 * (n - 1) + 2 * odd_levels n n + 7 * pairs_below n n
+nested_total o.Bitcount n = n + filled_levels n n + odd_levels n n + 7 * pairs_below n n
 nested_total o.Divmod n = 12 * (n * (n + 1) / 2) + 17 * n + 1
 nested_total p n = 0
 

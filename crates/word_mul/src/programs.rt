@@ -8,11 +8,27 @@ ghost use Rattle.word_mul.specs.Programs.{parts_of, steps_of_forms, row_steps};
 ghost use Rattle.word_mul.specs.Bodies.{rows_at, parts_on};
 
 use crate::bodies::body;
-use crate::shapes::{NestPart, NestedProgram, Owners, StepForm};
+use crate::shapes::{LevelForm, NestPart, NestedProgram, Owners, StepForm};
 use faults::keep;
-use loop_ir::{Inner, LoopProgram, Step};
+use loop_ir::{Inner, Level, LoopProgram, Step};
 use mig_graph::NoMemory;
 use std::alloc::Global;
+
+/// The bodies of a level.
+fn level(form: LevelForm, owners: Owners, alloc: Global) -> Result<Level, NoMemory>
+    ensures same { IfOk result (λ l. level_of l
+        ≡ level_map (placed_on (rows_at owners)) (level_bodies form)) }
+    ensures made { IfOk result (λ l. AllLevel IsMade (level_of l)) }
+{
+    Ok(Level {
+        none: body(form.none, owners, alloc)?,
+        odd: body(form.odd, owners, alloc)?,
+        even: body(form.even, owners, alloc)?,
+        first: body(form.first, owners, alloc)?,
+        second: body(form.second, owners, alloc)?,
+        end: body(form.end, owners, alloc)?,
+    })
+}
 
 /// A part of a nest.
 fn part(p: NestPart, owners: Owners, alloc: Global) -> Result<Inner, NoMemory>
@@ -23,11 +39,7 @@ fn part(p: NestPart, owners: Owners, alloc: Global) -> Result<Inner, NoMemory>
     match p {
         NestPart::Once(form) => Ok(Inner::Once(body(form, owners, alloc)?)),
         NestPart::Each(count, form) => Ok(Inner::Each(count, body(form, owners, alloc)?)),
-        NestPart::IfOdd(form) => Ok(Inner::IfOdd(body(form, owners, alloc)?)),
-        NestPart::Halves(first, second) => Ok(Inner::Halves(
-            body(first, owners, alloc)?,
-            body(second, owners, alloc)?,
-        )),
+        NestPart::Level(form) => Ok(Inner::Level(level(form, owners, alloc)?)),
     }
 }
 

@@ -64,14 +64,26 @@ pub enum BodyForm {
     Divided(Mark, Mark, Mark, Mark),
 }
 
-/// A part of a nest: a body at each outer position once, or in a loop of its own; or of the levels
-/// of a count, a body where the elements are odd in number, or two at each pair of them.
+/// The bodies of a level of a count: what alone is done where it has no element; how its sum begins
+/// where the elements are odd in number, and where they are even; the two at each pair of them; and
+/// how it ends.
+#[derive(Clone, Copy)]
+pub struct LevelForm {
+    pub none: BodyForm,
+    pub odd: BodyForm,
+    pub even: BodyForm,
+    pub first: BodyForm,
+    pub second: BodyForm,
+    pub end: BodyForm,
+}
+
+/// A part of a nest: a body at each outer position once, or in a loop of its own, or the bodies of
+/// a level of a count.
 #[derive(Clone, Copy)]
 pub enum NestPart {
     Once(BodyForm),
     Each(Count, BodyForm),
-    IfOdd(BodyForm),
-    Halves(BodyForm, BodyForm),
+    Level(LevelForm),
 }
 
 /// A step: a body once, at each position, or the parts of a nest at outer positions.

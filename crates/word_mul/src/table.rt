@@ -7,8 +7,8 @@ use crate::shapes::BodyForm::{
     Begun, Both, Compared, Counted, Divided, Either, Inverted, Kept, Moved, Multiplied, Off, On,
     Without,
 };
-use crate::shapes::NestPart::{Each, Halves, IfOdd, Once};
-use crate::shapes::{BodyForm, Mark, NestPart, NestedProgram, Owner, StepForm};
+use crate::shapes::NestPart::{Each, Level, Once};
+use crate::shapes::{BodyForm, LevelForm, Mark, NestPart, NestedProgram, Owner, StepForm};
 use loop_ir::{Count, Span, Sub};
 use op_text::WordOp;
 
@@ -28,13 +28,8 @@ const Z_DOWN: Mark = Mark {
     sub: Sub::OuterDown,
 };
 
-// of a count the target at the lowest level, at the level, at the elements of a pair, and at an
-// element of the level above
-const Z_LOWEST: Mark = Mark {
-    owner: Owner::Target,
-    sub: Sub::Zero,
-};
-
+// of a count the target at the level, at the elements of a pair, and at an element of the level
+// above
 const Z_LEVEL: Mark = Mark {
     owner: Owner::Target,
     sub: Sub::Outer,
@@ -270,35 +265,41 @@ pub const REM: NestedProgram = NestedProgram {
     ],
 };
 
-/// Of `bitcount`: level o has n / 2^o elements of weight 2^o, the bits of the argument at first,
-/// then those from row o on. Its sum begins with the last one where they are odd in number, and
-/// takes the others in pairs, whose carries are the elements of the level above.
+/// The lowest level of a count, whose elements are the bits of the argument.
+pub const LOWEST_LEVEL: LevelForm = LevelForm {
+    none: Off(Z_LEVEL),
+    odd: Begun(X_TOP, SUM, BEGINNING),
+    even: Off(SUM),
+    first: Counted(X_PAIR, X_PAIR_ABOVE, SUM, LAST),
+    second: KEEPS_CARRY,
+    end: Moved(SUM, Z_LEVEL),
+};
+
+/// A level above it, whose elements stand from its own row of the target on.
+pub const HIGHER_LEVEL: LevelForm = LevelForm {
+    none: Off(Z_LEVEL),
+    odd: Begun(LAST, SUM, BEGINNING),
+    even: Off(SUM),
+    first: Counted(Z_PAIR, Z_PAIR_ABOVE, SUM, LAST),
+    second: KEEPS_CARRY,
+    end: Moved(SUM, Z_LEVEL),
+};
+
+/// Of `bitcount`: level o has n / 2^o elements of weight 2^o. Its sum begins with the last one where
+/// they are odd in number, and takes the others in pairs, whose carries are the elements of the
+/// level above; a level without elements has the bit 0.
 pub const BITCOUNT: NestedProgram = NestedProgram {
     steps: [
-        Some(StepForm::Once(Off(SUM))),
         Some(StepForm::Nest(
             Span::First,
-            [
-                Some(IfOdd(Begun(X_TOP, SUM, BEGINNING))),
-                Some(Halves(Counted(X_PAIR, X_PAIR_ABOVE, SUM, LAST), KEEPS_CARRY)),
-                None,
-                None,
-                None,
-                None,
-            ],
+            [Some(Level(LOWEST_LEVEL)), None, None, None, None, None],
         )),
-        Some(StepForm::Once(Moved(SUM, Z_LOWEST))),
         Some(StepForm::Nest(
             Span::Above,
-            [
-                Some(Once(Off(SUM))),
-                Some(IfOdd(Begun(LAST, SUM, BEGINNING))),
-                Some(Halves(Counted(Z_PAIR, Z_PAIR_ABOVE, SUM, LAST), KEEPS_CARRY)),
-                Some(Once(Moved(SUM, Z_LEVEL))),
-                None,
-                None,
-            ],
+            [Some(Level(HIGHER_LEVEL)), None, None, None, None, None],
         )),
+        None,
+        None,
         None,
     ],
 };
