@@ -14,8 +14,9 @@ use Rattle.loop_ir.specs.declared.ir.Span.{Span}
 use Rattle.loop_ir.specs.declared.ir.Span.TheVariants.{Full, First, Above}
 use Rattle.loop_ir.specs.declared.ir.Count.TheVariants.{All, Rest, UpTo}
 use Rattle.loop_ir.specs.declared.ir.Place.{Place}
-use Rattle.loop_ir.specs.Plain.{Block, InnerOf, TurnOf, StepOf, inner_map, turn_map}
-use Rattle.loop_ir.specs.Plain.InnerOf.{Alone, Across, IfOdd, Halves}
+use Rattle.loop_ir.specs.Plain.{Block, LevelOf, InnerOf, TurnOf, StepOf, level_map, inner_map}
+use Rattle.loop_ir.specs.Plain.{turn_map}
+use Rattle.loop_ir.specs.Plain.InnerOf.{Alone, Across, AtLevel}
 use Rattle.loop_ir.specs.Plain.StepOf.{Single, Along, Nest, Pairs, Alternate}
 use Rattle.loop_ir.specs.Loops.{elements, all_rounds}
 use Rattle.loop_ir.specs.Spots.{is_state, nth_place}
@@ -24,16 +25,16 @@ use Rattle.loop_ir.specs.States.{has_states, row_count, RowsFirst, enters, leave
 use Rattle.loop_ir.specs.States.{StatesFit, same_helds, is_held_body, held_among, held_bodies}
 use Rattle.loop_ir.specs.States.{held_of}
 use Rattle.loop_ir.specs.Chains.{states_in, is_alive, finds, left_by, loop_finds, common}
-use Rattle.loop_ir.specs.Chains.{inner_left, inner_finds, surely, turns_left, turns_find}
-use Rattle.loop_ir.specs.Chains.{steps_find}
+use Rattle.loop_ir.specs.Chains.{begun_by, level_left, pairs_find, level_finds, inner_left}
+use Rattle.loop_ir.specs.Chains.{inner_finds, surely, turns_left, turns_find, steps_find}
 use Rattle.loop_ir.specs.Costs.{is_copy, is_not, is_and, is_or, is_xor, is_add, body_cost, held_cost}
 use Rattle.loop_ir.specs.Costs.{turn_cost, plain_cost, rounds_cost, plain_costs, same_sub}
 use Rattle.loop_ir.specs.Limits.{is_served}
 use Rattle.loop_laws.specs.Rooms.{Room, room_at, room_for, Owner, InRoom, InCells, Mark, Marked}
 use Rattle.loop_laws.specs.Rooms.{placed, placed_body, placed_steps}
 use Rattle.loop_laws.specs.Forms.{are_rows_first, has_known_states}
-use Rattle.loop_laws.proofs.Summed.{nest_sum, turns_sum, steps_sum, rounds_sum, sum_is, odd_from}
-use Rattle.loop_laws.proofs.Summed.{pairs_from, inner_sum, span_sum}
+use Rattle.loop_laws.proofs.Summed.{nest_sum, turns_sum, steps_sum, rounds_sum, sum_is, level_sum}
+use Rattle.loop_laws.proofs.Summed.{levels_sum, inner_sum, span_sum}
 
 -- no room stands in cells
 abbrev pub HaveRows : List Room → Type 0
@@ -178,6 +179,17 @@ module _ (rooms : List Room) (rows : HaveRows rooms) where
       (ap (λ l. finds l (placed_body rooms b)) (left_like b)
       ∙ finds_like (left_by (placed_body [] b)) b)
 
+  common_like : (a b c d : List ℕ) → a ≡ c → b ≡ d → common a b ≡ common c d
+  common_like a b c d e f = ap (λ x. common x b) e ∙ ap (λ x. common c x) f
+
+  begun_like : (l : LevelOf Marked) → begun_by (level_map (placed_body rooms) l)
+      ≡ begun_by (level_map (placed_body []) l)
+  begun_like l = common_like _ _ _ _ (left_like l.odd) (left_like l.even)
+
+  level_left_like : (l : LevelOf Marked) → level_left (level_map (placed_body rooms) l)
+      ≡ level_left (level_map (placed_body []) l)
+  level_left_like l = common_like _ _ _ _ (left_like l.none) (left_like l.end)
+
   inner_left_like : (alive : List ℕ) (ps : List (InnerOf Marked))
       → inner_left alive (map (inner_map (placed_body rooms)) ps)
       ≡ inner_left alive (map (inner_map (placed_body [])) ps)
@@ -188,20 +200,34 @@ module _ (rooms : List Room) (rows : HaveRows rooms) where
   inner_left_like alive (Across c b ∷ ps) =
       ap (λ l. inner_left l (map (inner_map (placed_body rooms)) ps)) (left_like b)
       ∙ inner_left_like (left_by (placed_body [] b)) ps
-  inner_left_like alive (IfOdd b ∷ ps) =
-      ap (λ l. inner_left (common alive l) (map (inner_map (placed_body rooms)) ps)) (left_like b)
-      ∙ inner_left_like (common alive (left_by (placed_body [] b))) ps
-  inner_left_like alive (Halves b c ∷ ps) =
-      ap (λ l. inner_left (common alive l) (map (inner_map (placed_body rooms)) ps)) (left_like c)
-      ∙ inner_left_like (common alive (left_by (placed_body [] c))) ps
+  inner_left_like alive (AtLevel l ∷ ps) =
+      ap (λ x. inner_left x (map (inner_map (placed_body rooms)) ps)) (level_left_like l)
+      ∙ inner_left_like (level_left (level_map (placed_body []) l)) ps
+
+  finds_among : (x y : List ℕ) (b : Marked) → x ≡ y → finds x (placed_body rooms b)
+      ≡ finds y (placed_body [] b)
+  finds_among x y b e = ap (λ l. finds l (placed_body rooms b)) e ∙ finds_like y b
 
   after_like : (a b : Marked) → finds (left_by (placed_body rooms a)) (placed_body rooms b)
       ≡ finds (left_by (placed_body [] a)) (placed_body [] b)
-  after_like a b = ap (λ l. finds l (placed_body rooms b)) (left_like a)
-      ∙ finds_like (left_by (placed_body [] a)) b
+  after_like a b = finds_among _ _ b (left_like a)
 
   both_like : (a b c d : Bool) → a ≡ c → b ≡ d → (a && b) ≡ (c && d)
   both_like a b c d e f = ap (λ x. x && b) e ∙ ap (λ x. c && x) f
+
+  pairs_find_like : (l : LevelOf Marked) → pairs_find (level_map (placed_body rooms) l)
+      ≡ pairs_find (level_map (placed_body []) l)
+  pairs_find_like l = both_like _ _ _ _
+      (both_like _ _ _ _ (finds_among _ _ l.first (begun_like l))
+      (both_like _ _ _ _ (after_like l.first l.second) (after_like l.second l.first)))
+      (both_like _ _ _ _ (finds_among _ _ l.end (begun_like l)) (after_like l.second l.end))
+
+  level_finds_like : (alive : List ℕ) (l : LevelOf Marked)
+      → level_finds alive (level_map (placed_body rooms) l)
+      ≡ level_finds alive (level_map (placed_body []) l)
+  level_finds_like alive l = both_like _ _ _ _
+      (both_like _ _ _ _ (finds_like alive l.none)
+      (both_like _ _ _ _ (finds_like alive l.odd) (finds_like alive l.even))) (pairs_find_like l)
 
   inner_finds_like : (alive : List ℕ) (ps : List (InnerOf Marked))
       → inner_finds alive (map (inner_map (placed_body rooms)) ps)
@@ -218,18 +244,11 @@ module _ (rooms : List Room) (rows : HaveRows rooms) where
       ∙ ap (λ c. loop_finds alive (placed_body [] b) && c)
       (ap (λ l. inner_finds l qs) (left_like b)
       ∙ inner_finds_like (left_by (placed_body [] b)) ps)
-  inner_finds_like alive (IfOdd b ∷ ps) =
+  inner_finds_like alive (AtLevel l ∷ ps) =
       let qs = map (inner_map (placed_body rooms)) ps in
-      both_like _ _ _ _ (finds_like alive b)
-      (ap (λ l. inner_finds (common alive l) qs) (left_like b)
-      ∙ inner_finds_like (common alive (left_by (placed_body [] b))) ps)
-  inner_finds_like alive (Halves b c ∷ ps) =
-      let qs = map (inner_map (placed_body rooms)) ps in
-      both_like _ _ _ _
-      (both_like _ _ _ _ (finds_like alive b)
-      (both_like _ _ _ _ (after_like b c) (after_like c b)))
-      (ap (λ l. inner_finds (common alive l) qs) (left_like c)
-      ∙ inner_finds_like (common alive (left_by (placed_body [] c))) ps)
+      both_like _ _ _ _ (level_finds_like alive l)
+      (ap (λ x. inner_finds x qs) (level_left_like l)
+      ∙ inner_finds_like (level_left (level_map (placed_body []) l)) ps)
 
   abbrev turns_on : List Room → List (TurnOf Marked) → List (TurnOf Block)
   turns_on rs ts = map (turn_map (placed_body rs)) ts
@@ -308,6 +327,33 @@ module _ (rooms : List Room) (rows : HaveRows rooms) where
 -- a count of each body that is the same wherever the rows lie is the same of all steps
 module _ (f : Block → ℕ) (rooms : List Room)
     (like : (b : Marked) → f (placed_body rooms b) ≡ f (placed_body [] b)) where
+  level_like : (n o : ℕ) (l : LevelOf Marked) → level_sum f n o (level_map (placed_body rooms) l)
+      ≡ level_sum f n o (level_map (placed_body []) l)
+  level_like n o l =
+      let old = λ (b : Marked). f (placed_body rooms b) in
+      let new = λ (b : Marked). f (placed_body [] b) in
+      let sum = λ (none odd even first second end : ℕ). cond (elements n o == 0) none
+      (cond (elements n o % 2 == 0) even odd + (elements n (o + 1) * (first + second) + end)) in
+      ap (λ x. sum x (old l.odd) (old l.even) (old l.first) (old l.second) (old l.end)) (like l.none)
+      ∙ ap (λ x. sum (new l.none) x (old l.even) (old l.first) (old l.second) (old l.end))
+      (like l.odd)
+      ∙ ap (λ x. sum (new l.none) (new l.odd) x (old l.first) (old l.second) (old l.end))
+      (like l.even)
+      ∙ ap (λ x. sum (new l.none) (new l.odd) (new l.even) x (old l.second) (old l.end))
+      (like l.first)
+      ∙ ap (λ x. sum (new l.none) (new l.odd) (new l.even) (new l.first) x (old l.end))
+      (like l.second)
+      ∙ ap (λ x. sum (new l.none) (new l.odd) (new l.even) (new l.first) (new l.second) x)
+      (like l.end)
+
+  levels_like : (n o count : ℕ) (l : LevelOf Marked)
+      → levels_sum f n o count (level_map (placed_body rooms) l)
+      ≡ levels_sum f n o count (level_map (placed_body []) l)
+  levels_like n o zero l = refl
+  levels_like n o (suc count) l =
+      ap (λ x. x + levels_sum f n (o + 1) count (level_map (placed_body rooms) l)) (level_like n o l)
+      ∙ ap (λ x. level_sum f n o (level_map (placed_body []) l) + x) (levels_like n (o + 1) count l)
+
   nest_like : (n o count : ℕ) (ps : List (InnerOf Marked))
       → nest_sum f n o count (map (inner_map (placed_body rooms)) ps)
       ≡ nest_sum f n o count (map (inner_map (placed_body [])) ps)
@@ -330,19 +376,11 @@ module _ (f : Block → ℕ) (rooms : List Room)
       let times = 2 * (o * count) + (count * count + count) in
       ap (λ x. times * x + nest_sum f n o count (map (inner_map (placed_body rooms)) ps)) (like b)
       ∙ ap (λ x. times * f (placed_body [] b) + x) e
-  nest_like n o count (IfOdd b ∷ ps) =
+  nest_like n o count (AtLevel l ∷ ps) =
       let e = nest_like n o count ps in
-      let times = odd_from n o count in
-      ap (λ x. 2 * (times * x) + nest_sum f n o count (map (inner_map (placed_body rooms)) ps))
-      (like b) ∙ ap (λ x. 2 * (times * f (placed_body [] b)) + x) e
-  nest_like n o count (Halves b c ∷ ps) =
-      let e = nest_like n o count ps in
-      let times = pairs_from n o count in
-      ap (λ x. 2 * (times * (x + f (placed_body rooms c)))
-      + nest_sum f n o count (map (inner_map (placed_body rooms)) ps)) (like b)
-      ∙ ap (λ x. 2 * (times * (f (placed_body [] b) + x))
-      + nest_sum f n o count (map (inner_map (placed_body rooms)) ps)) (like c)
-      ∙ ap (λ x. 2 * (times * (f (placed_body [] b) + f (placed_body [] c))) + x) e
+      ap (λ x. 2 * x + nest_sum f n o count (map (inner_map (placed_body rooms)) ps))
+      (levels_like n o count l)
+      ∙ ap (λ x. 2 * levels_sum f n o count (level_map (placed_body []) l) + x) e
 
   inner_like : (n o left : ℕ) (ps : List (InnerOf Marked))
       → inner_sum f n o left (map (inner_map (placed_body rooms)) ps)
@@ -360,17 +398,10 @@ module _ (f : Block → ℕ) (rooms : List Room)
   inner_like n o left (Across UpTo b ∷ ps) =
       ap (λ x. (o + 1) * x + inner_sum f n o left (map (inner_map (placed_body rooms)) ps)) (like b)
       ∙ ap (λ x. (o + 1) * f (placed_body [] b) + x) (inner_like n o left ps)
-  inner_like n o left (IfOdd b ∷ ps) =
-      let times = elements n o % 2 in
-      ap (λ x. times * x + inner_sum f n o left (map (inner_map (placed_body rooms)) ps)) (like b)
-      ∙ ap (λ x. times * f (placed_body [] b) + x) (inner_like n o left ps)
-  inner_like n o left (Halves b c ∷ ps) =
-      let times = elements n (o + 1) in
-      let rest = inner_sum f n o left (map (inner_map (placed_body rooms)) ps) in
-      ap (λ x. times * (x + f (placed_body rooms c)) + rest) (like b)
-      ∙ ap (λ x. times * (f (placed_body [] b) + x) + rest) (like c)
-      ∙ ap (λ x. times * (f (placed_body [] b) + f (placed_body [] c)) + x)
-      (inner_like n o left ps)
+  inner_like n o left (AtLevel l ∷ ps) =
+      ap (λ x. x + inner_sum f n o left (map (inner_map (placed_body rooms)) ps))
+      (level_like n o l)
+      ∙ ap (λ x. level_sum f n o (level_map (placed_body []) l) + x) (inner_like n o left ps)
 
   span_like : (n : ℕ) (span : Span) (ps : List (InnerOf Marked))
       → span_sum f n span (map (inner_map (placed_body rooms)) ps)

@@ -1,7 +1,8 @@
 -- Code can be made of a program of such a form, whose graphs are such as `Mig` makes.
 use Rattle.std.proofs.Common.{ℕ, List, [], ◌∷◌, arith}
-use Rattle.loop_ir.specs.Plain.{Block, InnerOf, StepOf, AllInner, AllStep, AllParts}
-use Rattle.loop_ir.specs.Plain.InnerOf.{Alone, Across, IfOdd, Halves}
+use Rattle.loop_ir.specs.Plain.{Block, LevelOf, InnerOf, StepOf, AllLevel, AllInner, AllStep}
+use Rattle.loop_ir.specs.Plain.{AllParts}
+use Rattle.loop_ir.specs.Plain.InnerOf.{Alone, Across, AtLevel}
 use Rattle.loop_ir.specs.Plain.StepOf.{Single, Along, Nest, Pairs, Alternate}
 use Rattle.loop_ir.specs.Spots.{Spot}
 use Rattle.loop_ir.specs.WellFormed.{IsWellFormed}
@@ -12,15 +13,21 @@ use Rattle.loop_laws.proofs.TakingTurns.{turns_both}
 
 -- what follows for each body from two facts of it
 module _ (P Q R : Block → Type 0) (f : (b : Block) → P b → Q b → R b) where
+  level_both : (l : LevelOf Block) → AllLevel P l → AllLevel Q l → AllLevel R l
+  level_both l p q = record {
+    none = f l.none p.none q.none;
+    odd = f l.odd p.odd q.odd;
+    even = f l.even p.even q.even;
+    first = f l.first p.first q.first;
+    second = f l.second p.second q.second;
+    end = f l.end p.end q.end;
+  }
+
   inner_both : (xs : List (InnerOf Block)) → AllInner P xs → AllInner Q xs → AllInner R xs
   inner_both [] p q = tt
   inner_both (Alone b ∷ xs) p q = (f b p.0 q.0, inner_both xs p.1 q.1)
   inner_both (Across c b ∷ xs) p q = (f b p.0 q.0, inner_both xs p.1 q.1)
-  inner_both (IfOdd b ∷ xs) p q = (f b p.0 q.0, inner_both xs p.1 q.1)
-  inner_both (Halves b c ∷ xs) p q = (
-    (f b p.0.0 q.0.0, f c p.0.1 q.0.1),
-    inner_both xs p.1 q.1,
-  )
+  inner_both (AtLevel l ∷ xs) p q = (level_both l p.0 q.0, inner_both xs p.1 q.1)
 
   step_both : (s : StepOf Block) → AllStep P s → AllStep Q s → AllStep R s
   step_both (Single b) p q = f b p q

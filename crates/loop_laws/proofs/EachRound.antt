@@ -1,18 +1,16 @@
 -- What holds of every body holds of every round.
 use Rattle.std.proofs.Common.{ℕ, zero, suc, ◌+◌, ◌-◌, ◌≤◌, List, [], ◌∷◌, map, arith}
-use Rattle.std.specs.Prelude.{◌%◌}
 use Rattle.std.specs.List.{AllByRecursion}
 use Rattle.loop_ir.specs.Loops.{step_rounds, first_outer, outer_count}
-use Rattle.loop_ir.specs.Plain.{Block, InnerOf, TurnOf, StepOf, inner_map, turn_map, step_map}
-use Rattle.loop_ir.specs.Plain.{AllInner, AllTurns, AllParts}
-use Rattle.loop_ir.specs.Plain.InnerOf.{Alone, Across, IfOdd, Halves}
+use Rattle.loop_ir.specs.Plain.{Block, LevelOf, InnerOf, TurnOf, StepOf, level_map, inner_map}
+use Rattle.loop_ir.specs.Plain.{turn_map, step_map, AllLevel, AllInner, AllTurns, AllParts}
+use Rattle.loop_ir.specs.Plain.InnerOf.{Alone, Across, AtLevel}
 use Rattle.loop_ir.specs.Plain.StepOf.{Single, Along, Nest, Pairs, Alternate}
 use Rattle.loop_ir.specs.Loops.{RoundOf, one_round, rounds, positions, inner_rounds, turns_from}
-use Rattle.loop_ir.specs.Loops.{elements, two_rounds}
-use Rattle.loop_ir.specs.Loops.{all_rounds}
+use Rattle.loop_ir.specs.Loops.{level_rounds, all_rounds}
 use Rattle.loop_ir.specs.Costs.{rounds_cost, plain_costs}
 use Rattle.loop_laws.specs.Rooms.{Room, Marked, placed_body, placed_steps}
-use Rattle.loop_laws.proofs.EveryRound.{all_append}
+use Rattle.loop_laws.proofs.EveryRound.{all_append, LevelHolds, level_holds}
 use Rattle.loop_laws.proofs.Costing.{CarriesFew, rounds-plain}
 use Rattle.loop_laws.proofs.TakingTurns.{turns_rounds}
 
@@ -30,6 +28,16 @@ module _ (P : Block → Type 0) where
       → AllByRecursion OfPart (rounds (λ j. one_round b j o) i count)
   each b o i count p = over (λ j. one_round b j o) (λ j. (p, tt)) i count
 
+  level : (n o : ℕ) (l : LevelOf Block) → AllLevel P l → LevelHolds OfPart n o l
+  level n o l all = record {
+    none = all.none;
+    odd = all.odd;
+    even = all.even;
+    first = λ i lt. all.first;
+    second = λ i lt. all.second;
+    end = all.end;
+  }
+
   inners : (n o : ℕ) (xs : List (InnerOf Block)) → AllInner P xs
       → AllByRecursion OfPart (inner_rounds n o xs)
   inners n o [] all = tt
@@ -37,13 +45,8 @@ module _ (P : Block → Type 0) where
   inners n o (Across c b ∷ xs) all = all_append OfPart
       (rounds (λ i. one_round b i o) 0 (positions n o c)) (inner_rounds n o xs)
       (each b o 0 (positions n o c) all.0) (inners n o xs all.1)
-  inners n o (IfOdd b ∷ xs) all = all_append OfPart
-      (rounds (λ i. one_round b i o) 0 (elements n o % 2)) (inner_rounds n o xs)
-      (each b o 0 (elements n o % 2) all.0) (inners n o xs all.1)
-  inners n o (Halves b c ∷ xs) all = all_append OfPart
-      (rounds (λ i. two_rounds b c i o) 0 (elements n (o + 1))) (inner_rounds n o xs)
-      (over (λ i. two_rounds b c i o) (λ i. (all.0.0, (all.0.1, tt))) 0 (elements n (o + 1)))
-      (inners n o xs all.1)
+  inners n o (AtLevel l ∷ xs) all = all_append OfPart (level_rounds n o l) (inner_rounds n o xs)
+      (level_holds OfPart n o l (level n o l all.0)) (inners n o xs all.1)
 
   pub each_round : (n : ℕ) (ss : List (StepOf Block)) → AllParts P ss
       → AllByRecursion OfPart (all_rounds n ss)
@@ -63,12 +66,21 @@ module _ (P : Block → Type 0) where
       (each_round n ss all.1)
 
   module _ (f : Marked → Block) (h : (b : Marked) → P (f b)) where
+    level_made : (l : LevelOf Marked) → AllLevel P (level_map f l)
+    level_made l = record {
+      none = h l.none;
+      odd = h l.odd;
+      even = h l.even;
+      first = h l.first;
+      second = h l.second;
+      end = h l.end;
+    }
+
     inners_made : (xs : List (InnerOf Marked)) → AllInner P (map (inner_map f) xs)
     inners_made [] = tt
     inners_made (Alone b ∷ xs) = (h b, inners_made xs)
     inners_made (Across c b ∷ xs) = (h b, inners_made xs)
-    inners_made (IfOdd b ∷ xs) = (h b, inners_made xs)
-    inners_made (Halves b c ∷ xs) = ((h b, h c), inners_made xs)
+    inners_made (AtLevel l ∷ xs) = (level_made l, inners_made xs)
 
     turns_made : (ts : List (TurnOf Marked)) → AllTurns P (map (turn_map f) ts)
     turns_made [] = tt

@@ -1,7 +1,7 @@
 -- Every round of a loop program by owners keeps the rules.
 use Rattle.std.proofs.Common.{◌≡◌, ℕ, zero, suc, ◌+◌, ◌-◌, ◌*◌, ◌<◌, ◌≤◌, Bool, true, false, List}
 use Rattle.std.proofs.Common.{[], ◌∷◌, ◌++◌, map, length, refl, sym, ap, ◌∙◌, subst, ⊎_elim, arith}
-use Rattle.std.proofs.Common.{◌⊎◌, inl, inr}
+use Rattle.std.proofs.Common.{◌⊎◌, inl, inr, cond}
 use Rattle.std.specs.Prelude.{◌%◌, ◌&&◌, ◌==◌, nat_le}
 use Rattle.std.specs.List.{AllByRecursion, list_all}
 use Rattle.std.proofs.lemmas.Bool.{cases_eq, cases_lt, and_parts, eqb-true}
@@ -17,12 +17,13 @@ use Rattle.loop_ir.specs.declared.ir.Sub.TheVariants as sub
 use Rattle.loop_ir.specs.declared.ir.Count.{Count}
 use Rattle.loop_ir.specs.declared.ir.Count.TheVariants.{All, Rest, UpTo}
 use Rattle.loop_ir.specs.declared.ir.Place.{Place}
-use Rattle.loop_ir.specs.Plain.{Block, InnerOf, StepOf, AllInner, AllParts, inner_map, turn_map}
-use Rattle.loop_ir.specs.Plain.{all_turns}
-use Rattle.loop_ir.specs.Plain.InnerOf.{Alone, Across, IfOdd, Halves}
+use Rattle.loop_ir.specs.Plain.{Block, LevelOf, InnerOf, StepOf, AllLevel, AllInner, AllParts}
+use Rattle.loop_ir.specs.Plain.{level_map, inner_map, turn_map, all_level, all_turns}
+use Rattle.loop_ir.specs.Plain.InnerOf.{Alone, Across, AtLevel}
 use Rattle.loop_ir.specs.Plain.StepOf.{Single, Along, Nest, Pairs, Alternate}
 use Rattle.loop_ir.specs.Loops.{RoundOf, round_at, one_round, rounds, positions, sub_value}
-use Rattle.loop_ir.specs.Loops.{elements, two_rounds, inner_rounds, turns_from, all_rounds}
+use Rattle.loop_ir.specs.Loops.{elements, two_rounds, filled_rounds, level_rounds}
+use Rattle.loop_ir.specs.Loops.{inner_rounds, turns_from, all_rounds}
 use Rattle.loop_ir.specs.Spots.{Spot, spot_at, spot_in, nth_place, nth_spot, IsOwn, is_state}
 use Rattle.loop_ir.specs.WellFormed.{IsOneValue}
 use Rattle.loop_ir.specs.Costs.{used_subs, code_cost, bodies}
@@ -38,7 +39,7 @@ use Rattle.loop_laws.specs.Forms.{has_known_states, inners_have_known, steps_hav
 use Rattle.loop_laws.specs.Laws.{MarksAreEnough}
 use Rattle.loop_laws.proofs.Levels.{pairs_of, room_for_level}
 use Rattle.loop_laws.proofs.Fitting.{mark_at, IsThere, InnerOk, OuterOk, BodyFits, InnersFit}
-use Rattle.loop_laws.proofs.Fitting.{StepsFit}
+use Rattle.loop_laws.proofs.Fitting.{LevelFits, StepsFit}
 use Rattle.loop_laws.proofs.TakingTurns.{turns_tested, turns_mapped, turns_both, turns_rounds}
 use Rattle.loop_laws.proofs.Alike.{HaveRows, past_row, states_fit, states_known, steps_find_like}
 use Rattle.loop_laws.proofs.Good.{steps_are_fit}
@@ -361,6 +362,39 @@ all_rounds_of P f i zero limit e h = tt
 all_rounds_of P f i (suc count) limit e h = all_append P (f i) (rounds f (i + 1) count)
     (h i (omega arith)) (all_rounds_of P f (i + 1) count limit (omega arith) h)
 
+-- what holds of each round that the bodies of a level may have
+pub record LevelHolds {A : Type 0} (P : RoundOf A → Type 0) (n o : ℕ) (l : LevelOf A) : Type 0 where
+  pub none : P (round_at l.none 0 o)
+  pub odd : P (round_at l.odd 0 o)
+  pub even : P (round_at l.even 0 o)
+  pub first : (i : ℕ) → i < elements n (o + 1) → P (round_at l.first i o)
+  pub second : (i : ℕ) → i < elements n (o + 1) → P (round_at l.second i o)
+  pub end : P (round_at l.end 0 o)
+
+either_start : {A : Type 0} (P : RoundOf A → Type 0) (o : ℕ) (c : Bool) (a b : A)
+    → P (round_at a 0 o) → P (round_at b 0 o) → P (round_at (cond c a b) 0 o)
+either_start P o true a b p q = p
+either_start P o false a b p q = q
+
+either_rounds : {A : Type 0} (P : A → Type 0) (c : Bool) (xs ys : List A)
+    → AllByRecursion P xs → AllByRecursion P ys → AllByRecursion P (cond c xs ys)
+either_rounds P true xs ys p q = p
+either_rounds P false xs ys p q = q
+
+-- it holds of all rounds of the level
+pub level_holds : {A : Type 0} (P : RoundOf A → Type 0) (n o : ℕ) (l : LevelOf A)
+    → LevelHolds P n o l → AllByRecursion P (level_rounds n o l)
+level_holds P n o l h =
+    let count = elements n (o + 1) in
+    let pairs = λ (i : ℕ). two_rounds l.first l.second i o in
+    either_rounds P (elements n o == 0) (one_round l.none 0 o) (filled_rounds n o l) (h.none, tt) (
+      either_start P o (elements n o % 2 == 0) l.even l.odd h.even h.odd,
+      all_append P (rounds pairs 0 count) (one_round l.end 0 o)
+          (all_rounds_of P pairs 0 count count (omega arith)
+          (λ i lt. (h.first i lt, (h.second i lt, tt))))
+          (h.end, tt),
+    )
+
 -- the outer positions of a nest are below n
 span_fits : (n : ℕ) (span : Span) → 0 < n → first_outer span + outer_count n span ≤ n
 span_fits n Full some = omega arith
@@ -373,8 +407,30 @@ reach_ok n All i o lo lt = lt
 reach_ok n Rest i o lo lt = lt
 reach_ok n UpTo i o lo lt = (omega (arith, lt), lo)
 
+-- a test that passes on all bodies of a level passes on each
+pub level_tested : {A : Type 0} (f : A → Bool) (l : LevelOf A) → all_level f l ≡ true
+    → AllLevel (λ a. f a ≡ true) l
+level_tested f l e =
+    let a = and_parts (f l.none) _ e in
+    let b = and_parts (f l.odd) _ a.1 in
+    let c = and_parts (f l.even) _ b.1 in
+    let d = and_parts (f l.first) _ c.1 in
+    let g = and_parts (f l.second) (f l.end) d.1 in
+    record { none = a.0; odd = b.0; even = c.0; first = d.0; second = g.0; end = g.1 }
+
 module _ (n : ℕ) (rooms : List Room) (some : 0 < n) (are : RoomsApart n rooms)
     (rows : HaveRows rooms) where
+  level_is : (l : LevelOf Marked) (o : ℕ) → o < n → LevelFits rooms l
+      → LevelHolds (IsRound (IsOwned n rooms) n) n o (level_map (placed_body rooms) l)
+  level_is l o lo fit = record {
+    none = round_is n rooms some are rows Nowhere true l.none fit.none 0 o tt lo;
+    odd = round_is n rooms some are rows Nowhere true l.odd fit.odd 0 o tt lo;
+    even = round_is n rooms some are rows Nowhere true l.even fit.even 0 o tt lo;
+    first = λ i lt. round_is n rooms some are rows Paired true l.first fit.first i o (lt, lo) lo;
+    second = λ i lt. round_is n rooms some are rows Paired true l.second fit.second i o (lt, lo) lo;
+    end = round_is n rooms some are rows Nowhere true l.end fit.end 0 o tt lo;
+  }
+
   inners_are : (ps : List (InnerOf Marked)) (o : ℕ) → o < n → InnersFit rooms ps
       → AllByRecursion (IsRound (IsOwned n rooms) n)
       (inner_rounds n o (map (inner_map (placed_body rooms)) ps))
@@ -394,25 +450,11 @@ module _ (n : ℕ) (rooms : List Room) (some : 0 < n) (are : RoomsApart n rooms)
         tt,
       )))
       (inners_are ps o lo fit.1)
-  inners_are (IfOdd b ∷ ps) o lo fit =
-      let count = elements n o % 2 in
-      all_append (IsRound (IsOwned n rooms) n)
-      (rounds (λ i. one_round (placed_body rooms b) i o) 0 count)
+  inners_are (AtLevel l ∷ ps) o lo fit = all_append (IsRound (IsOwned n rooms) n)
+      (level_rounds n o (level_map (placed_body rooms) l))
       (inner_rounds n o (map (inner_map (placed_body rooms)) ps))
-      (all_rounds_of (IsRound (IsOwned n rooms) n) (λ i. one_round (placed_body rooms b) i o) 0
-      count count (omega arith)
-      (λ i lt. (round_is n rooms some are rows Nowhere true b fit.0 i o tt lo, tt)))
-      (inners_are ps o lo fit.1)
-  inners_are (Halves b c ∷ ps) o lo fit =
-      let count = elements n (o + 1) in
-      let f = λ (i : ℕ). two_rounds (placed_body rooms b) (placed_body rooms c) i o in
-      all_append (IsRound (IsOwned n rooms) n) (rounds f 0 count)
-      (inner_rounds n o (map (inner_map (placed_body rooms)) ps))
-      (all_rounds_of (IsRound (IsOwned n rooms) n) f 0 count count (omega arith)
-      (λ i lt. (
-        round_is n rooms some are rows Paired true b fit.0.0 i o (lt, lo) lo,
-        (round_is n rooms some are rows Paired true c fit.0.1 i o (lt, lo) lo, tt),
-      )))
+      (level_holds (IsRound (IsOwned n rooms) n) n o (level_map (placed_body rooms) l)
+      (level_is l o lo fit.0))
       (inners_are ps o lo fit.1)
 
   pub rounds_are : (ss : List (StepOf Marked)) → StepsFit rooms ss
@@ -453,6 +495,23 @@ module _ (n : ℕ) (rooms : List Room) (some : 0 < n) (are : RoomsApart n rooms)
       fit.0))
       (rounds_are ss fit.1)
 
+  level_slim : (l : LevelOf Marked) → LevelFits rooms l
+      → all_level has_room (level_map (placed_body rooms) l) ≡ true
+      → all_level has_known_states (level_map (placed_body []) l) ≡ true
+      → AllLevel IsSlim (level_map (placed_body rooms) l)
+  level_slim l fit e h =
+      let room = level_tested has_room (level_map (placed_body rooms) l) e in
+      let known = level_tested has_known_states (level_map (placed_body []) l) h in
+      record {
+        none = slim_is n rooms some are rows Nowhere true l.none fit.none room.none known.none;
+        odd = slim_is n rooms some are rows Nowhere true l.odd fit.odd room.odd known.odd;
+        even = slim_is n rooms some are rows Nowhere true l.even fit.even room.even known.even;
+        first = slim_is n rooms some are rows Paired true l.first fit.first room.first known.first;
+        second = slim_is n rooms some are rows Paired true l.second fit.second room.second
+            known.second;
+        end = slim_is n rooms some are rows Nowhere true l.end fit.end room.end known.end;
+      }
+
   inners_slim : (ps : List (InnerOf Marked)) → InnersFit rooms ps
       → inners_have_room (map (inner_map (placed_body rooms)) ps) ≡ true
       → inners_have_known (map (inner_map (placed_body [])) ps) ≡ true
@@ -469,23 +528,10 @@ module _ (n : ℕ) (rooms : List Room) (some : 0 < n) (are : RoomsApart n rooms)
         inners_slim ps fit.1 a.1
             k.1,
       )
-  inners_slim (IfOdd b ∷ ps) fit e h =
-      let a = and_parts (has_room (placed_body rooms b)) _ e in
-      let k = and_parts (has_known_states (placed_body [] b)) _ h in
-      (slim_is n rooms some are rows Nowhere true b fit.0 a.0 k.0, inners_slim ps fit.1 a.1 k.1)
-  inners_slim (Halves b c ∷ ps) fit e h =
-      let a = and_parts (has_room (placed_body rooms b) && has_room (placed_body rooms c)) _ e in
-      let a' = and_parts (has_room (placed_body rooms b)) (has_room (placed_body rooms c)) a.0 in
-      let k = and_parts (has_known_states (placed_body [] b)
-      && has_known_states (placed_body [] c)) _ h in
-      let k' = and_parts (has_known_states (placed_body [] b))
-      (has_known_states (placed_body [] c)) k.0 in (
-        (
-          slim_is n rooms some are rows Paired true b fit.0.0 a'.0 k'.0,
-          slim_is n rooms some are rows Paired true c fit.0.1 a'.1 k'.1,
-        ),
-        inners_slim ps fit.1 a.1 k.1,
-      )
+  inners_slim (AtLevel l ∷ ps) fit e h =
+      let a = and_parts (all_level has_room (level_map (placed_body rooms) l)) _ e in
+      let k = and_parts (all_level has_known_states (level_map (placed_body []) l)) _ h in
+      (level_slim l fit.0 a.0 k.0, inners_slim ps fit.1 a.1 k.1)
 
   abbrev FitsWhole : Marked → Type 0
   FitsWhole b = BodyFits Whole false rooms b.reads b.writes

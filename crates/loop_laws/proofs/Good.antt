@@ -4,15 +4,16 @@ use Rattle.std.proofs.Common.{length, refl, sym, ap, subst, ◌∙◌, ⊎_elim,
 use Rattle.std.specs.Prelude.{◌==◌, ◌&&◌, nat_lt}
 use Rattle.std.proofs.lemmas.Bool.{cases_Bool, and_parts, eqb-true, eq-eqb}
 use Rattle.loop_ir.specs.declared.ir.Sub.{Sub}
-use Rattle.loop_ir.specs.Plain.{InnerOf, StepOf, all_turns}
-use Rattle.loop_ir.specs.Plain.InnerOf.{Alone, Across, IfOdd, Halves}
+use Rattle.loop_ir.specs.Plain.{LevelOf, InnerOf, StepOf, all_turns}
+use Rattle.loop_ir.specs.Plain.InnerOf.{Alone, Across, AtLevel}
 use Rattle.loop_ir.specs.Plain.StepOf.{Single, Along, Nest, Pairs, Alternate}
 use Rattle.loop_ir.specs.Costs.{sub_code}
 use Rattle.loop_laws.proofs.Same.{sub_true}
 use Rattle.loop_laws.specs.Rooms.{Room, room_for, Owner, InRoom, InCells, same_owner, Mark, Marked}
 use Rattle.loop_laws.specs.Rooms.{Reach, Nowhere, Whole, Left, Paired, fits, reach_of, is_there, all_fit}
-use Rattle.loop_laws.specs.Rooms.{none_like, alone_in, writes_fit, body_fits, inners_fit, steps_fit}
-use Rattle.loop_laws.proofs.Fitting.{mark_at, IsThere, BodyFits, InnersFit, StepsFit}
+use Rattle.loop_laws.specs.Rooms.{none_like, alone_in, writes_fit, body_fits, level_fits, inners_fit}
+use Rattle.loop_laws.specs.Rooms.{steps_fit}
+use Rattle.loop_laws.proofs.Fitting.{mark_at, IsThere, BodyFits, LevelFits, InnersFit, StepsFit}
 use Rattle.loop_laws.proofs.TakingTurns.{turns_all}
 
 less_is : (a b : ℕ) → nat_lt a b ≡ true → a < b
@@ -170,6 +171,23 @@ body_is_fit r outer rooms b e =
           (write_at rooms b.reads b.writes j c.1 lj).alone lk ll h g;
     }
 
+level_is_fit : (rooms : List Room) (l : LevelOf Marked) → level_fits rooms l ≡ true
+    → LevelFits rooms l
+level_is_fit rooms l e =
+    let a = and_parts (body_fits Nowhere true rooms l.none) _ e in
+    let b = and_parts (body_fits Nowhere true rooms l.odd) _ a.1 in
+    let c = and_parts (body_fits Nowhere true rooms l.even) _ b.1 in
+    let d = and_parts (body_fits Paired true rooms l.first) _ c.1 in
+    let g = and_parts (body_fits Paired true rooms l.second) _ d.1 in
+    record {
+      none = body_is_fit Nowhere true rooms l.none a.0;
+      odd = body_is_fit Nowhere true rooms l.odd b.0;
+      even = body_is_fit Nowhere true rooms l.even c.0;
+      first = body_is_fit Paired true rooms l.first d.0;
+      second = body_is_fit Paired true rooms l.second g.0;
+      end = body_is_fit Nowhere true rooms l.end g.1;
+    }
+
 inners_are_fit : (rooms : List Room) (ps : List (InnerOf Marked)) → inners_fit rooms ps ≡ true
     → InnersFit rooms ps
 inners_are_fit rooms [] e = tt
@@ -179,16 +197,9 @@ inners_are_fit rooms (Alone b ∷ ps) e = let a =
 inners_are_fit rooms (Across c b ∷ ps) e = let a =
     and_parts (body_fits (reach_of c) true rooms b) (inners_fit rooms ps) e in
     (body_is_fit (reach_of c) true rooms b a.0, inners_are_fit rooms ps a.1)
-inners_are_fit rooms (IfOdd b ∷ ps) e = let a =
-    and_parts (body_fits Nowhere true rooms b) (inners_fit rooms ps) e in
-    (body_is_fit Nowhere true rooms b a.0, inners_are_fit rooms ps a.1)
-inners_are_fit rooms (Halves b c ∷ ps) e =
-    let a = and_parts (body_fits Paired true rooms b && body_fits Paired true rooms c)
-    (inners_fit rooms ps) e in
-    let d = and_parts (body_fits Paired true rooms b) (body_fits Paired true rooms c) a.0 in (
-      (body_is_fit Paired true rooms b d.0, body_is_fit Paired true rooms c d.1),
-      inners_are_fit rooms ps a.1,
-    )
+inners_are_fit rooms (AtLevel l ∷ ps) e =
+    let a = and_parts (level_fits rooms l) (inners_fit rooms ps) e in
+    (level_is_fit rooms l a.0, inners_are_fit rooms ps a.1)
 
 pub steps_are_fit : (rooms : List Room) (ss : List (StepOf Marked)) → steps_fit rooms ss ≡ true
     → StepsFit rooms ss

@@ -6,12 +6,14 @@ use Rattle.std.specs.List.{list_any, list_all}
 use Rattle.std.proofs.lemmas.Bool.{and_from}
 use Rattle.loop_ir.specs.Chains.{surely}
 use Rattle.loop_ir.specs.declared.ir.Place.{Place}
-use Rattle.loop_ir.specs.Plain.{Block, InnerOf, TurnOf, StepOf, AllInner, AllTurns, AllParts}
-use Rattle.loop_ir.specs.Plain.InnerOf.{Alone, Across, IfOdd, Halves}
+use Rattle.loop_ir.specs.Plain.{Block, LevelOf, InnerOf, TurnOf, StepOf, AllLevel, AllInner}
+use Rattle.loop_ir.specs.Plain.{AllTurns, AllParts}
+use Rattle.loop_ir.specs.Plain.InnerOf.{Alone, Across, AtLevel}
 use Rattle.loop_ir.specs.Plain.StepOf.{Single, Along, Nest, Pairs, Alternate}
 use Rattle.loop_ir.specs.Spots.{is_state, nth_place}
 use Rattle.loop_ir.specs.States.{has_states, StatesFit}
-use Rattle.loop_ir.specs.Chains.{states_in, is_alive, finds, left_by, loop_finds, common}
+use Rattle.loop_ir.specs.Chains.{states_in, is_alive, finds, left_by, loop_finds, begun_by}
+use Rattle.loop_ir.specs.Chains.{level_left, pairs_find, level_finds}
 use Rattle.loop_ir.specs.Chains.{inner_left, inner_finds, turns_left, turns_find, steps_find}
 use Rattle.loop_laws.proofs.Alike.{or_parts, none_at, none_first, rows_first}
 
@@ -59,6 +61,26 @@ loop_rows : (alive : List ℕ) (b : Block) → HasRows b → loop_finds alive b 
 loop_rows alive b none = and_from (finds alive b) (finds (left_by b) b) (rows_find alive b none)
     (rows_find (left_by b) b none)
 
+pairs_rows : (l : LevelOf Block) → AllLevel HasRows l → pairs_find l ≡ true
+pairs_rows l all =
+    let begun = begun_by l in
+    and_from (finds begun l.first && (finds (left_by l.first) l.second
+    && finds (left_by l.second) l.first)) (finds begun l.end && finds (left_by l.second) l.end)
+    (and_from (finds begun l.first) _ (rows_find begun l.first all.first)
+    (and_from (finds (left_by l.first) l.second) (finds (left_by l.second) l.first)
+    (rows_find (left_by l.first) l.second all.second)
+    (rows_find (left_by l.second) l.first all.first)))
+    (and_from (finds begun l.end) (finds (left_by l.second) l.end)
+    (rows_find begun l.end all.end) (rows_find (left_by l.second) l.end all.end))
+
+level_rows : (alive : List ℕ) (l : LevelOf Block) → AllLevel HasRows l
+    → level_finds alive l ≡ true
+level_rows alive l all =
+    and_from (finds alive l.none && (finds alive l.odd && finds alive l.even)) (pairs_find l)
+    (and_from (finds alive l.none) _ (rows_find alive l.none all.none)
+    (and_from (finds alive l.odd) (finds alive l.even) (rows_find alive l.odd all.odd)
+    (rows_find alive l.even all.even))) (pairs_rows l all)
+
 inner_rows : (alive : List ℕ) (ps : List (InnerOf Block)) → AllInner HasRows ps
     → inner_finds alive ps ≡ true
 inner_rows alive [] all = refl
@@ -66,16 +88,8 @@ inner_rows alive (Alone b ∷ ps) all = and_from (finds alive b) (inner_finds (l
     (rows_find alive b all.0) (inner_rows (left_by b) ps all.1)
 inner_rows alive (Across c b ∷ ps) all = and_from (loop_finds alive b) (inner_finds (left_by b) ps)
     (loop_rows alive b all.0) (inner_rows (left_by b) ps all.1)
-inner_rows alive (IfOdd b ∷ ps) all =
-    let left = common alive (left_by b) in
-    and_from (finds alive b) (inner_finds left ps) (rows_find alive b all.0)
-    (inner_rows left ps all.1)
-inner_rows alive (Halves b c ∷ ps) all =
-    let left = common alive (left_by c) in
-    and_from (finds alive b && (finds (left_by b) c && finds (left_by c) b)) (inner_finds left ps)
-    (and_from (finds alive b) _ (rows_find alive b all.0.0)
-    (and_from (finds (left_by b) c) (finds (left_by c) b) (rows_find (left_by b) c all.0.1)
-    (rows_find (left_by c) b all.0.0))) (inner_rows left ps all.1)
+inner_rows alive (AtLevel l ∷ ps) all = and_from (level_finds alive l)
+    (inner_finds (level_left l) ps) (level_rows alive l all.0) (inner_rows (level_left l) ps all.1)
 
 turns_rows : (alive : List ℕ) (ts : List (TurnOf Block)) → AllTurns HasRows ts
     → turns_find alive ts ≡ true

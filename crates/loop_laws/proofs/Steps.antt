@@ -1,13 +1,14 @@
 -- Steps one after another.
-use Rattle.std.proofs.Common.{◌≡◌, ℕ, zero, suc, ◌+◌, ◌-◌, List, [], ◌∷◌, ◌++◌, refl, sym, ap}
-use Rattle.std.proofs.Common.{◌∙◌, arith}
+use Rattle.std.proofs.Common.{◌≡◌, ℕ, zero, suc, ◌+◌, ◌-◌, Bool, true, false, cond, List, [], ◌∷◌}
+use Rattle.std.proofs.Common.{◌++◌, refl, sym, ap, ◌∙◌, arith}
 use Rattle.loop_ir.specs.declared.ir.Span.TheVariants.{Full, First, Above}
-use Rattle.loop_ir.specs.Plain.{Block, InnerOf, TurnOf, StepOf}
-use Rattle.loop_ir.specs.Plain.InnerOf.{Alone, Across, IfOdd, Halves}
+use Rattle.loop_ir.specs.Plain.{Block, LevelOf, InnerOf, TurnOf, StepOf}
+use Rattle.loop_ir.specs.Plain.InnerOf.{Alone, Across, AtLevel}
 use Rattle.loop_ir.specs.Plain.StepOf.{Along, Nest, Pairs, Alternate}
 use Rattle.loop_ir.specs.Loops.{RoundOf, round_at, one_round, rounds, positions, inner_rounds}
-use Rattle.std.specs.Prelude.{◌%◌}
-use Rattle.loop_ir.specs.Loops.{elements, two_rounds, turns_from, all_rounds}
+use Rattle.std.specs.Prelude.{◌==◌}
+use Rattle.loop_ir.specs.Loops.{elements, two_rounds, level_start, filled_rounds, level_rounds}
+use Rattle.loop_ir.specs.Loops.{turns_from, all_rounds}
 use Rattle.loop_ir.specs.Spots.{Spots, after_round, after_rounds}
 use Rattle.loop_laws.specs.Turns.{after_many}
 use Rattle.loop_laws.proofs.Loop.{many_is}
@@ -64,16 +65,46 @@ both_is : (n o : ℕ) (b c : Block) (count : ℕ) (bits : Spots)
 both_is n o b c count bits = let e : 0 + count ≡ count = omega arith in
     both_more n o b c 0 count bits ∙ ap (λ x. after_both n o b c x bits) e
 
+-- a level that has elements
+abbrev pub after_filled : ℕ → ℕ → LevelOf Block → Spots → Spots
+after_filled n o l bits = after_round n (round_at l.end 0 o)
+    (after_both n o l.first l.second (elements n (o + 1))
+    (after_round n (round_at (level_start n o l) 0 o) bits))
+
+filled_is : (n o : ℕ) (l : LevelOf Block) (bits : Spots)
+    → after_rounds n (filled_rounds n o l) bits ≡ after_filled n o l bits
+filled_is n o l bits =
+    let count = elements n (o + 1) in
+    let begun = after_round n (round_at (level_start n o l) 0 o) bits in
+    rounds_append n (rounds (λ i. two_rounds l.first l.second i o) 0 count) (one_round l.end 0 o)
+    begun
+    ∙ ap (after_round n (round_at l.end 0 o)) (both_is n o l.first l.second count begun)
+
+-- a level
+abbrev pub after_level : ℕ → ℕ → LevelOf Block → Spots → Spots
+after_level n o l bits = cond (elements n o == 0) (after_round n (round_at l.none 0 o) bits)
+    (after_filled n o l bits)
+
+either_is : (n : ℕ) (empty : Bool) (rs ss : List (RoundOf Block)) (bits : Spots)
+    → after_rounds n (cond empty rs ss) bits
+    ≡ cond empty (after_rounds n rs bits) (after_rounds n ss bits)
+either_is n true rs ss bits = refl
+either_is n false rs ss bits = refl
+
+level_is : (n o : ℕ) (l : LevelOf Block) (bits : Spots)
+    → after_rounds n (level_rounds n o l) bits ≡ after_level n o l bits
+level_is n o l bits =
+    let empty = elements n o == 0 in
+    either_is n empty (one_round l.none 0 o) (filled_rounds n o l) bits
+    ∙ ap (cond empty (after_round n (round_at l.none 0 o) bits)) (filled_is n o l bits)
+
 -- the parts of a nest at an outer position
 abbrev pub after_parts : ℕ → ℕ → List (InnerOf Block) → Spots → Spots
 after_parts n o [] bits = bits
 after_parts n o (Alone b ∷ ps) bits = after_parts n o ps (after_round n (round_at b 0 o) bits)
 after_parts n o (Across k b ∷ ps) bits = after_parts n o ps
     (after_many n o b (positions n o k) bits)
-after_parts n o (IfOdd b ∷ ps) bits = after_parts n o ps
-    (after_many n o b (elements n o % 2) bits)
-after_parts n o (Halves b c ∷ ps) bits = after_parts n o ps
-    (after_both n o b c (elements n (o + 1)) bits)
+after_parts n o (AtLevel l ∷ ps) bits = after_parts n o ps (after_level n o l bits)
 
 pub parts_is : (n o : ℕ) (ps : List (InnerOf Block)) (bits : Spots)
     → after_rounds n (inner_rounds n o ps) bits ≡ after_parts n o ps bits
@@ -83,16 +114,10 @@ parts_is n o (Across k b ∷ ps) bits =
     rounds_append n (rounds (λ i. one_round b i o) 0 (positions n o k)) (inner_rounds n o ps) bits
     ∙ ap (after_rounds n (inner_rounds n o ps)) (many_is n o b (positions n o k) bits)
     ∙ parts_is n o ps (after_many n o b (positions n o k) bits)
-parts_is n o (IfOdd b ∷ ps) bits =
-    let count = elements n o % 2 in
-    rounds_append n (rounds (λ i. one_round b i o) 0 count) (inner_rounds n o ps) bits
-    ∙ ap (after_rounds n (inner_rounds n o ps)) (many_is n o b count bits)
-    ∙ parts_is n o ps (after_many n o b count bits)
-parts_is n o (Halves b c ∷ ps) bits =
-    let count = elements n (o + 1) in
-    rounds_append n (rounds (λ i. two_rounds b c i o) 0 count) (inner_rounds n o ps) bits
-    ∙ ap (after_rounds n (inner_rounds n o ps)) (both_is n o b c count bits)
-    ∙ parts_is n o ps (after_both n o b c count bits)
+parts_is n o (AtLevel l ∷ ps) bits =
+    rounds_append n (level_rounds n o l) (inner_rounds n o ps) bits
+    ∙ ap (after_rounds n (inner_rounds n o ps)) (level_is n o l bits)
+    ∙ parts_is n o ps (after_level n o l bits)
 
 -- the first outer positions
 abbrev pub after_outer : ℕ → List (InnerOf Block) → ℕ → Spots → Spots

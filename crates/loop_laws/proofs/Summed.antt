@@ -1,31 +1,37 @@
 -- The sum over all rounds of what each body counts.
 use Rattle.std.proofs.Common.{◌≡◌, ℕ, zero, suc, ◌+◌, ◌-◌, ◌*◌, ◌≤◌, List, [], ◌∷◌, ◌++◌, refl, sym}
-use Rattle.std.proofs.Common.{ap, ◌∙◌, arith, append-nil, append_assoc, length}
-use Rattle.std.specs.Prelude.{sum_by, ◌%◌}
+use Rattle.std.proofs.Common.{ap, ◌∙◌, arith, append-nil, append_assoc, length, Bool, true, false}
+use Rattle.std.proofs.Common.{cond}
+use Rattle.std.specs.Prelude.{sum_by, ◌%◌, ◌==◌}
 use Rattle.std.specs.List.{AllByRecursion}
 use Rattle.std.proofs.lemmas.List.Sums.{sum_by-cons, sum_by-append}
 use Rattle.loop_ir.specs.declared.ir.Span.{Span}
 use Rattle.loop_ir.specs.declared.ir.Span.TheVariants.{Full, First, Above}
 use Rattle.loop_ir.specs.declared.ir.Count.TheVariants.{All, Rest, UpTo}
-use Rattle.loop_ir.specs.Plain.{Block, InnerOf, TurnOf, StepOf}
-use Rattle.loop_ir.specs.Plain.InnerOf.{Alone, Across, IfOdd, Halves}
+use Rattle.loop_ir.specs.Plain.{Block, LevelOf, InnerOf, TurnOf, StepOf}
+use Rattle.loop_ir.specs.Plain.InnerOf.{Alone, Across, AtLevel}
 use Rattle.loop_ir.specs.Plain.StepOf.{Single, Along, Nest, Pairs, Alternate}
 use Rattle.loop_ir.specs.Loops.{RoundOf, round_at, one_round, rounds, inner_rounds}
-use Rattle.loop_ir.specs.Loops.{elements, two_rounds, turns_from, step_rounds, all_rounds}
+use Rattle.loop_ir.specs.Loops.{elements, two_rounds, level_start, filled_rounds, level_rounds}
+use Rattle.loop_ir.specs.Loops.{turns_from, step_rounds, all_rounds}
 
 -- a number of each body, summed over all rounds
 abbrev pub rounds_sum : (Block → ℕ) → List (RoundOf Block) → ℕ
 rounds_sum f rs = sum_by (λ r. f r.part) rs
 
--- how many of so many levels from o on have an odd number of elements
-abbrev pub odd_from : ℕ → ℕ → ℕ → ℕ
-odd_from n o zero = 0
-odd_from n o (suc count) = elements n o % 2 + odd_from n (o + 1) count
+-- the sum over a level that has elements
+abbrev pub filled_sum : (Block → ℕ) → ℕ → ℕ → LevelOf Block → ℕ
+filled_sum f n o l = cond (elements n o % 2 == 0) (f l.even) (f l.odd)
+    + (elements n (o + 1) * (f l.first + f l.second) + f l.end)
 
--- the pairs of so many levels together
-abbrev pub pairs_from : ℕ → ℕ → ℕ → ℕ
-pairs_from n o zero = 0
-pairs_from n o (suc count) = elements n (o + 1) + pairs_from n (o + 1) count
+-- the sum over a level
+abbrev pub level_sum : (Block → ℕ) → ℕ → ℕ → LevelOf Block → ℕ
+level_sum f n o l = cond (elements n o == 0) (f l.none) (filled_sum f n o l)
+
+-- the sum over so many levels from o on
+abbrev pub levels_sum : (Block → ℕ) → ℕ → ℕ → ℕ → LevelOf Block → ℕ
+levels_sum f n o zero l = 0
+levels_sum f n o (suc count) l = level_sum f n o l + levels_sum f n (o + 1) count l
 
 -- twice the sum over the last outer positions of a nest, from o on
 abbrev pub nest_sum : (Block → ℕ) → ℕ → ℕ → ℕ → List (InnerOf Block) → ℕ
@@ -35,9 +41,7 @@ nest_sum f n o count (Across All b ∷ ps) = 2 * (count * (n * f b)) + nest_sum 
 nest_sum f n o count (Across Rest b ∷ ps) = (count * count + count) * f b + nest_sum f n o count ps
 nest_sum f n o count (Across UpTo b ∷ ps) = (2 * (o * count) + (count * count + count)) * f b
     + nest_sum f n o count ps
-nest_sum f n o count (IfOdd b ∷ ps) = 2 * (odd_from n o count * f b) + nest_sum f n o count ps
-nest_sum f n o count (Halves b c ∷ ps) = 2 * (pairs_from n o count * (f b + f c))
-    + nest_sum f n o count ps
+nest_sum f n o count (AtLevel l ∷ ps) = 2 * levels_sum f n o count l + nest_sum f n o count ps
 
 -- the sum over bodies that take turns, where the top position comes after so many
 abbrev pub turns_sum : (Block → ℕ) → List (TurnOf Block) → ℕ → ℕ
@@ -57,9 +61,7 @@ inner_sum f n o left (Alone b ∷ ps) = f b + inner_sum f n o left ps
 inner_sum f n o left (Across All b ∷ ps) = n * f b + inner_sum f n o left ps
 inner_sum f n o left (Across Rest b ∷ ps) = left * f b + inner_sum f n o left ps
 inner_sum f n o left (Across UpTo b ∷ ps) = (o + 1) * f b + inner_sum f n o left ps
-inner_sum f n o left (IfOdd b ∷ ps) = elements n o % 2 * f b + inner_sum f n o left ps
-inner_sum f n o left (Halves b c ∷ ps) = elements n (o + 1) * (f b + f c)
-    + inner_sum f n o left ps
+inner_sum f n o left (AtLevel l ∷ ps) = level_sum f n o l + inner_sum f n o left ps
 
 -- twice the sum over a nest
 abbrev pub span_sum : (Block → ℕ) → ℕ → Span → List (InnerOf Block) → ℕ
@@ -112,6 +114,38 @@ module _ (f : Block → ℕ) where
       let d = more (round_at c i o) rest in
       omega (arith, a, d, e)
 
+  sum_start : (c : Bool) (a b : Block) → f (cond c a b) ≡ cond c (f a) (f b)
+  sum_start true a b = refl
+  sum_start false a b = refl
+
+  sum_either : (c : Bool) (rs ss : List (RoundOf Block))
+      → rounds_sum f (cond c rs ss) ≡ cond c (rounds_sum f rs) (rounds_sum f ss)
+  sum_either true rs ss = refl
+  sum_either false rs ss = refl
+
+  sum_filled : (n o : ℕ) (l : LevelOf Block) → rounds_sum f (filled_rounds n o l)
+      ≡ filled_sum f n o l
+  sum_filled n o l =
+      let count = elements n (o + 1) in
+      let begin = level_start n o l in
+      let pairs = rounds (λ i. two_rounds l.first l.second i o) 0 count in
+      let a = more (round_at begin 0 o) (pairs ++ one_round l.end 0 o) in
+      let b = sum_start (elements n o % 2 == 0) l.even l.odd in
+      let c = sum_append pairs (one_round l.end 0 o) in
+      let d = sum_both l.first l.second o 0 count in
+      let e = more (round_at l.end 0 o) [] in
+      omega (arith, a, b, c, d, e)
+
+  level_sum_is : (n o : ℕ) (l : LevelOf Block) → rounds_sum f (level_rounds n o l)
+      ≡ level_sum f n o l
+  level_sum_is n o l =
+      let empty = elements n o == 0 in
+      let one : rounds_sum f (one_round l.none 0 o) ≡ f l.none =
+      (let a = more (round_at l.none 0 o) [] in omega (arith, a)) in
+      sum_either empty (one_round l.none 0 o) (filled_rounds n o l)
+      ∙ ap (λ x. cond empty x (rounds_sum f (filled_rounds n o l))) one
+      ∙ ap (cond empty (f l.none)) (sum_filled n o l)
+
   inner_is : (n o left : ℕ) (ps : List (InnerOf Block)) → n - o ≡ left
       → rounds_sum f (inner_rounds n o ps) ≡ inner_sum f n o left ps
   inner_is n o left [] e = refl
@@ -127,16 +161,10 @@ module _ (f : Block → ℕ) where
   inner_is n o left (Across UpTo b ∷ ps) e = sum_append (rounds (λ i. one_round b i o) 0 (o + 1))
       (inner_rounds n o ps) ∙ ap (λ x. x + rounds_sum f (inner_rounds n o ps))
       (sum_each b o 0 (o + 1)) ∙ ap (λ x. (o + 1) * f b + x) (inner_is n o left ps e)
-  inner_is n o left (IfOdd b ∷ ps) e =
-      let m = elements n o % 2 in
-      sum_append (rounds (λ i. one_round b i o) 0 m) (inner_rounds n o ps)
-      ∙ ap (λ x. x + rounds_sum f (inner_rounds n o ps)) (sum_each b o 0 m)
-      ∙ ap (λ x. m * f b + x) (inner_is n o left ps e)
-  inner_is n o left (Halves b c ∷ ps) e =
-      let m = elements n (o + 1) in
-      sum_append (rounds (λ i. two_rounds b c i o) 0 m) (inner_rounds n o ps)
-      ∙ ap (λ x. x + rounds_sum f (inner_rounds n o ps)) (sum_both b c o 0 m)
-      ∙ ap (λ x. m * (f b + f c) + x) (inner_is n o left ps e)
+  inner_is n o left (AtLevel l ∷ ps) e =
+      sum_append (level_rounds n o l) (inner_rounds n o ps)
+      ∙ ap (λ x. x + rounds_sum f (inner_rounds n o ps)) (level_sum_is n o l)
+      ∙ ap (λ x. level_sum f n o l + x) (inner_is n o left ps e)
 
   one_more : (n o count : ℕ) (ps : List (InnerOf Block)) → nest_sum f n o (suc count) ps
       ≡ 2 * inner_sum f n o (suc count) ps + nest_sum f n (o + 1) count ps
@@ -145,8 +173,7 @@ module _ (f : Block → ℕ) where
   one_more n o count (Across All b ∷ ps) = let e = one_more n o count ps in omega (arith, e)
   one_more n o count (Across Rest b ∷ ps) = let e = one_more n o count ps in omega (arith, e)
   one_more n o count (Across UpTo b ∷ ps) = let e = one_more n o count ps in omega (arith, e)
-  one_more n o count (IfOdd b ∷ ps) = let e = one_more n o count ps in omega (arith, e)
-  one_more n o count (Halves b c ∷ ps) = let e = one_more n o count ps in omega (arith, e)
+  one_more n o count (AtLevel l ∷ ps) = let e = one_more n o count ps in omega (arith, e)
 
   none : (n o : ℕ) (ps : List (InnerOf Block)) → nest_sum f n o 0 ps ≡ 0
   none n o [] = refl
@@ -154,8 +181,7 @@ module _ (f : Block → ℕ) where
   none n o (Across All b ∷ ps) = let e = none n o ps in omega (arith, e)
   none n o (Across Rest b ∷ ps) = let e = none n o ps in omega (arith, e)
   none n o (Across UpTo b ∷ ps) = let e = none n o ps in omega (arith, e)
-  none n o (IfOdd b ∷ ps) = let e = none n o ps in omega (arith, e)
-  none n o (Halves b c ∷ ps) = let e = none n o ps in omega (arith, e)
+  none n o (AtLevel l ∷ ps) = let e = none n o ps in omega (arith, e)
 
   nest_is : (n : ℕ) (ps : List (InnerOf Block)) (o count : ℕ) → n ≡ o + count
       → 2 * rounds_sum f (rounds (λ o. inner_rounds n o ps) o count) ≡ nest_sum f n o count ps

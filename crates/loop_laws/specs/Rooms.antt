@@ -10,7 +10,7 @@ use Rattle.loop_ir.specs.declared.ir.Sub.TheVariants as sub
 use Rattle.loop_ir.specs.declared.ir.Count.{Count}
 use Rattle.loop_ir.specs.declared.ir.Count.TheVariants.{All, Rest, UpTo}
 use Rattle.loop_ir.specs.declared.ir.Place.{Place}
-use Rattle.loop_ir.specs.Plain.{Block, InnerOf, StepOf, step_map, all_turns}
+use Rattle.loop_ir.specs.Plain.{Block, LevelOf, InnerOf, StepOf, step_map, all_turns}
 use Rattle.loop_ir.specs.Plain.InnerOf.{Alone, Across, AtLevel}
 use Rattle.loop_ir.specs.Plain.StepOf.{Single, Along, Nest, Pairs, Alternate}
 use Rattle.loop_ir.specs.Spots.{Spot, spot_in, IsOwn}
