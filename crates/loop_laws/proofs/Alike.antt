@@ -334,7 +334,8 @@ module _ (f : Block → ℕ) (rooms : List Room)
       let new = λ (b : Marked). f (placed_body [] b) in
       let sum = λ (none odd even first second end : ℕ). cond (elements n o == 0) none
       (cond (elements n o % 2 == 0) even odd + (elements n (o + 1) * (first + second) + end)) in
-      ap (λ x. sum x (old l.odd) (old l.even) (old l.first) (old l.second) (old l.end)) (like l.none)
+      ap (λ x. sum x (old l.odd) (old l.even) (old l.first) (old l.second) (old l.end))
+      (like l.none)
       ∙ ap (λ x. sum (new l.none) x (old l.even) (old l.first) (old l.second) (old l.end))
       (like l.odd)
       ∙ ap (λ x. sum (new l.none) (new l.odd) x (old l.first) (old l.second) (old l.end))
@@ -351,7 +352,8 @@ module _ (f : Block → ℕ) (rooms : List Room)
       ≡ levels_sum f n o count (level_map (placed_body []) l)
   levels_like n o zero l = refl
   levels_like n o (suc count) l =
-      ap (λ x. x + levels_sum f n (o + 1) count (level_map (placed_body rooms) l)) (level_like n o l)
+      ap (λ x. x + levels_sum f n (o + 1) count (level_map (placed_body rooms) l))
+      (level_like n o l)
       ∙ ap (λ x. level_sum f n o (level_map (placed_body []) l) + x) (levels_like n (o + 1) count l)
 
   nest_like : (n o count : ℕ) (ps : List (InnerOf Marked))

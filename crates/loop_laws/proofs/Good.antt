@@ -11,8 +11,8 @@ use Rattle.loop_ir.specs.Costs.{sub_code}
 use Rattle.loop_laws.proofs.Same.{sub_true}
 use Rattle.loop_laws.specs.Rooms.{Room, room_for, Owner, InRoom, InCells, same_owner, Mark, Marked}
 use Rattle.loop_laws.specs.Rooms.{Reach, Nowhere, Whole, Left, Paired, fits, reach_of, is_there, all_fit}
-use Rattle.loop_laws.specs.Rooms.{none_like, alone_in, writes_fit, body_fits, level_fits, inners_fit}
-use Rattle.loop_laws.specs.Rooms.{steps_fit}
+use Rattle.loop_laws.specs.Rooms.{none_like, alone_in, writes_fit, body_fits, level_fits}
+use Rattle.loop_laws.specs.Rooms.{inners_fit, steps_fit}
 use Rattle.loop_laws.proofs.Fitting.{mark_at, IsThere, BodyFits, LevelFits, InnersFit, StepsFit}
 use Rattle.loop_laws.proofs.TakingTurns.{turns_all}
 

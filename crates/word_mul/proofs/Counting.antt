@@ -1,25 +1,24 @@
 -- bitcount: the elements of a level are added in pairs, and their carries are the next level's.
 use Rattle.std.proofs.Common.{◌≡◌, ℕ, zero, suc, ◌+◌, ◌-◌, ◌*◌, ◌^◌, ◌<◌, ◌≤◌, Bool, true, false}
-use Rattle.std.proofs.Common.{not, List, [], ◌∷◌, refl, sym, ap, ◌∙◌, subst, arith}
-use Rattle.std.specs.Prelude.{◌%◌}
+use Rattle.std.proofs.Common.{not, cond, List, [], ◌∷◌, refl, sym, ap, ◌∙◌, subst, arith}
+use Rattle.std.specs.Prelude.{◌%◌, ◌==◌}
+use Rattle.std.proofs.lemmas.Bool.{eqb-true}
 use Rattle.std.proofs.Math.Nat.{pow-suc}
 use Rattle.bit_rows.specs.Bits.{majority}
 use Rattle.mig_graph.specs.Graph.{values_from}
 use Rattle.op_text.specs.declared.word_ops.WordOp.TheVariants as op
 use Rattle.op_text.specs.Values.{ones_of}
 use Rattle.loop_ir.specs.declared.ir.Sub.TheVariants as sub
-use Rattle.loop_ir.specs.Loops.{elements}
-use Rattle.loop_ir.specs.Plain.{Block, InnerOf}
-use Rattle.loop_ir.specs.Plain.InnerOf.{Alone, IfOdd, Halves}
-use Rattle.loop_ir.specs.Plain.StepOf.{Single, Nest}
-use Rattle.loop_ir.specs.declared.ir.Sub.{Sub}
+use Rattle.loop_ir.specs.Loops.{elements, round_at}
+use Rattle.loop_ir.specs.Plain.{Block, LevelOf, InnerOf}
+use Rattle.loop_ir.specs.Plain.InnerOf.{AtLevel}
+use Rattle.loop_ir.specs.Plain.StepOf.{Nest}
 use Rattle.loop_ir.specs.declared.ir.Span.TheVariants.{Above}
-use Rattle.loop_ir.specs.Spots.{Spot, Spots, set_spot, is_state}
+use Rattle.loop_ir.specs.Spots.{Spot, Spots, set_spot, after_round, is_state}
 use Rattle.loop_laws.specs.Rooms.{Mark, placed_body}
-use Rattle.loop_laws.specs.Turns.{after_many}
 use Rattle.loop_laws.proofs.Levels.{all_elements, pairs_of, room_for_level}
 use Rattle.loop_laws.proofs.Same.{set_same, set_other}
-use Rattle.loop_laws.proofs.Steps.{steps_first, steps_above, after_parts, after_above, after_both}
+use Rattle.loop_laws.proofs.Steps.{steps_first, steps_above, after_level, after_above, after_both}
 use Rattle.word_lower.specs.Places.{scratch_bit}
 use Rattle.word_lower.specs.Programs.{off, constant, moved}
 use Rattle.word_lower.proofs.Marks.{target, first, third, state}
@@ -114,18 +113,29 @@ module _ (n : ℕ) (m : Rows) (are : AreRows n 1 0 m) (bits : Spots) where
   move = placed_body (rooms_for op.Bitcount m) (kept (third sub.Zero) (state 5)
       (target sub.AboveSum))
 
-  abbrev store : Sub → Block
-  store u = placed_body (rooms_for op.Bitcount m) (moved (state 5) (target u))
+  abbrev clear : Block
+  clear = placed_body (rooms_for op.Bitcount m) (constant off (target sub.Outer))
 
-  -- the parts at the lowest level, and above it
-  abbrev low_parts : List (InnerOf Block)
-  low_parts = IfOdd (load (first sub.Top))
-      ∷ (Halves (pair (first sub.SumTwice) (first sub.AboveSumTwice)) move ∷ [])
+  abbrev store : Block
+  store = placed_body (rooms_for op.Bitcount m) (moved (state 5) (target sub.Outer))
 
-  abbrev parts : List (InnerOf Block)
-  parts = Alone off_sum ∷ (IfOdd (load (third sub.Zero))
-      ∷ (Halves (pair (target sub.SumTwice) (target sub.AboveSumTwice)) move
-      ∷ (Alone (store sub.Outer) ∷ [])))
+  -- a level whose last element and whose pairs stand there
+  abbrev level : Mark → Mark → Mark → LevelOf Block
+  level q r s = record {
+    none = clear;
+    odd = load q;
+    even = off_sum;
+    first = pair r s;
+    second = move;
+    end = store;
+  }
+
+  -- the lowest level, and one above it
+  abbrev lowest : LevelOf Block
+  lowest = level (first sub.Top) (first sub.SumTwice) (first sub.AboveSumTwice)
+
+  abbrev higher : LevelOf Block
+  higher = level (third sub.Zero) (target sub.SumTwice) (target sub.AboveSumTwice)
 
   p_c : p ≡ c → ⊥
   p_c = row_other n (scratch_bit m.free_bit) 0 5 refl
@@ -269,12 +279,12 @@ module _ (n : ℕ) (m : Rows) (are : AreRows n 1 0 m) (bits : Spots) where
   loaded q s = set_spot (set_spot s c (s q)) d (s q)
 
   begins : (y : ℕ → Spot) (q : Spot) (o : ℕ) (old new : Spots)
-      → ((v : ℕ) → is_state (y v).space ≡ false) → is_state q.space ≡ false → old c ≡ false
+      → ((v : ℕ) → is_state (y v).space ≡ false)
       → (elements n o % 2 ≡ 1 → old q ≡ old (y (o + 2 * elements n (o + 1))))
-      → (elements n o % 2 ≡ 0 → new ≡ old) → (elements n o % 2 ≡ 1 → new ≡ loaded q old)
-      → Begins y o old new
+      → (elements n o % 2 ≡ 0 → new ≡ set_spot old c false)
+      → (elements n o % 2 ≡ 1 → new ≡ loaded q old) → Begins y o old new
   unfolding tally
-  begins y q o old new rows row none last stays loads = by (elements n o % 2) refl
+  begins y q o old new rows last clears loads = by (elements n o % 2) refl
     where
       h : ℕ
       h = elements n (o + 1)
@@ -288,14 +298,23 @@ module _ (n : ℕ) (m : Rows) (are : AreRows n 1 0 m) (bits : Spots) where
       apart : c ≡ d → ⊥
       apart e = let k : 5 ≡ 1 = ap (λ (q : Spot). q.which) e in absurd (omega (arith, k))
 
+      alike : (after : Spots) → ((r : Spot) → is_state r.space ≡ false → after r ≡ old r)
+          → tally (λ j. after (y (o + j))) (2 * h) ≡ tally (λ j. old (y (o + j))) (2 * h)
+      alike after keeps = tally_same _ _ (2 * h) (λ j lj. keeps (y (o + j)) (rows (o + j)))
+
       by : (k : ℕ) → elements n o % 2 ≡ k → Begins y o old new
-      by zero e = subst (Begins y o old) (sym (stays e)) (record {
-        sum =
-            let a : bit (old c) ≡ 0 = ap bit none in
-            let g = ap (tally (λ j. old (y (o + j)))) (even e) in
-            omega (arith, a, g);
-        same = λ r s. refl;
-      })
+      by zero e =
+          let after = set_spot old c false in
+          let keeps : (r : Spot) → is_state r.space ≡ false → after r ≡ old r = λ r s.
+          set_other old c false r (cell_other n r 5 s) in
+          subst (Begins y o old) (sym (clears e)) (record {
+            sum =
+                let a : bit (after c) ≡ 0 = ap bit (set_same old c false c refl) in
+                let b = alike after keeps in
+                let g = ap (tally (λ j. old (y (o + j)))) (even e) in
+                omega (arith, a, b, g);
+            same = keeps;
+          })
       by (suc zero) e =
           let v = old q in
           let s1 = set_spot old c v in
@@ -307,9 +326,7 @@ module _ (n : ℕ) (m : Rows) (are : AreRows n 1 0 m) (bits : Spots) where
                 let at : after c ≡ old (y (o + 2 * h)) = set_other s1 d v c (λ k. apart k)
                 ∙ set_same old c v c refl ∙ last e in
                 let a = ap bit at in
-                let b : tally (λ j. after (y (o + j))) (2 * h)
-                ≡ tally (λ j. old (y (o + j))) (2 * h) =
-                tally_same _ _ (2 * h) (λ j lj. keeps (y (o + j)) (rows (o + j))) in
+                let b = alike after keeps in
                 let g : tally (λ j. old (y (o + j))) (elements n o)
                 ≡ tally (λ j. old (y (o + j))) (2 * h) + bit (old (y (o + 2 * h))) =
                 ap (tally (λ j. old (y (o + j)))) (odd e) in
@@ -368,6 +385,38 @@ module _ (n : ℕ) (m : Rows) (are : AreRows n 1 0 m) (bits : Spots) where
             ∙ r.rest q out ∙ g.same q out.has_row;
       }
 
+  -- a level without elements
+  empty_level : (y : ℕ → Spot) (o : ℕ) (old : Spots) → o < n → elements n o ≡ 0
+      → Level y o old (set_spot old (z o) false)
+  unfolding tally
+  empty_level y o old lo none =
+      let k = pairs_of n o in
+      let e : o + 1 ≡ suc o = omega arith in
+      let up : elements n (o + 1) ≡ elements n (suc o) = ap (elements n) e in
+      let above : elements n (suc o) ≡ 0 = omega (arith, k, none, up) in
+      let new = set_spot old (z o) false in
+      record {
+        sum =
+            let a : bit (new (z o)) ≡ 0 = ap bit (set_same old (z o) false (z o) refl) in
+            let b = ap (tally (λ j. new (z (suc o + j)))) above in
+            let g = ap (tally (λ j. old (y (o + j)))) none in
+            omega (arith, a, b, g);
+        below = λ v lv. set_other old (z o) false (z v) (z_z v o (omega (arith, lv, lo)) lo
+            (λ k. absurd (omega (arith, k, lv))));
+        last = λ odd. absurd (omega (arith, odd, above));
+        rest = λ q out. set_other old (z o) false q (out.target o lo);
+      }
+
+  -- a level with elements or without
+  either_level : (y : ℕ → Spot) (o : ℕ) (old filled : Spots) → o < n → Level y o old filled
+      → Level y o old (cond (elements n o == 0) (set_spot old (z o) false) filled)
+  either_level y o old filled lo l = by (elements n o == 0) refl
+    where
+      by : (b : Bool) → (elements n o == 0) ≡ b
+          → Level y o old (cond b (set_spot old (z o) false) filled)
+      by true e = empty_level y o old lo (eqb-true (elements n o) 0 e)
+      by false e = l
+
   -- before level o: its elements and the bits below it are worth the ones of the argument together
   record Levelled (o : ℕ) (new : Spots) : Type 0 where
     counted : number (λ v. new (z v)) o + 2 ^ o * tally (λ j. new (z (o + j))) (elements n o)
@@ -376,11 +425,8 @@ module _ (n : ℕ) (m : Rows) (are : AreRows n 1 0 m) (bits : Spots) where
     rest : (q : Spot) → IsElsewhere n 1 0 m q → new q ≡ bits q
 
   -- the lowest level
-  abbrev cleared : Spots
-  cleared = set_spot bits c false
-
   abbrev low : Spots
-  low = let s = after_parts n 0 low_parts cleared in set_spot s (z 0) (s c)
+  low = after_level n 0 lowest bits
 
   first_level : 0 < n → Levelled 1 low
   unfolding values_from tally
@@ -388,24 +434,22 @@ module _ (n : ℕ) (m : Rows) (are : AreRows n 1 0 m) (bits : Spots) where
       let h = elements n (0 + 1) in
       let all = all_elements n in
       let k = pairs_of n 0 in
-      let stays : (q : Spot) → is_state q.space ≡ false → cleared q ≡ bits q = λ q rows.
-      set_other bits c false q (cell_other n q 5 rows) in
-      let rows_of : (v : ℕ) → is_state (x v).space ≡ false = λ v. row_stands n m.a v are.a_rows in
-      let start = after_many n 0 (load (first sub.Top)) (elements n 0 % 2) cleared in
-      let g : Begins x 0 cleared start = begins x (x (n - 1)) 0 cleared start rows_of (rows_of (n - 1))
-      (set_same bits c false c refl)
+      let start = λ (k : ℕ). after_round n
+      (round_at (cond (k == 0) off_sum (load (first sub.Top))) 0 0) bits in
+      let g : Begins x 0 bits (start (elements n 0 % 2)) = begins x (x (n - 1)) 0 bits
+      (start (elements n 0 % 2)) (λ v. row_stands n m.a v are.a_rows)
       (λ e. (let top : n - 1 ≡ 0 + 2 * h = omega (arith, k, e, all) in
-      ap (λ v. cleared (x v)) top))
-      (λ e. ap (λ i. after_many n 0 (load (first sub.Top)) i cleared) e)
-      (λ e. ap (λ i. after_many n 0 (load (first sub.Top)) i cleared) e) in
-      let mid = after_both n 0 (pair (first sub.SumTwice) (first sub.AboveSumTwice)) move h start in
-      let r = low_pairs h h start (omega arith) (omega (arith, k, all)) in
-      let l = one_level x 0 cleared start mid some g r in
+      ap (λ v. bits (x v)) top))
+      (λ e. ap start e) (λ e. ap start e) in
+      let mid = after_both n 0 (pair (first sub.SumTwice) (first sub.AboveSumTwice)) move h
+      (start (elements n 0 % 2)) in
+      let r = low_pairs h h (start (elements n 0 % 2)) (omega arith) (omega (arith, k, all)) in
+      let l : Level x 0 bits low = either_level x 0 bits (set_spot mid (z 0) (mid c)) some
+      (one_level x 0 bits (start (elements n 0 % 2)) mid some g r) in
       let a = λ (u : ℕ). bits (x u) in
-      let sums : tally (λ j. cleared (x (0 + j))) n ≡ tally a n =
-      tally_same _ _ n (λ j lj. (let e : 0 + j ≡ j = omega arith in
-      ap (λ u. cleared (x u)) e ∙ stays (x j) (rows_of j))) in
-      let t = ap (tally (λ j. cleared (x (0 + j)))) all in
+      let sums : tally (λ j. bits (x (0 + j))) n ≡ tally a n =
+      tally_same _ _ n (λ j lj. (let e : 0 + j ≡ j = omega arith in ap (λ u. bits (x u)) e)) in
+      let t = ap (tally (λ j. bits (x (0 + j)))) all in
       let s = l.sum in
       let none : 2 ^ 0 ≡ 1 = refl in
       let one : 2 ^ 1 ≡ 2 = refl in
@@ -414,65 +458,54 @@ module _ (n : ℕ) (m : Rows) (are : AreRows n 1 0 m) (bits : Spots) where
         counted = ap (λ v. 0 + bit (low (z 0)) * v + 2 ^ 1 * up) none
             ∙ ap (λ v. 0 + bit (low (z 0)) * 1 + v * up) one ∙ omega (arith, s, t, sums);
         last = l.last;
-        rest = λ q out. l.rest q out ∙ stays q out.has_row;
+        rest = l.rest;
       }
 
   next_level : (o : ℕ) (old : Spots) → o < n → Levelled o old
-      → Levelled (suc o) (after_parts n o parts old)
+      → Levelled (suc o) (after_level n o higher old)
   unfolding values_from tally
   next_level o old lo i =
       let h = elements n (o + 1) in
       let room = room_for_level n o (omega (arith, lo)) in
       let k = pairs_of n o in
-      let clear = set_spot old c false in
-      let stays : (q : Spot) → is_state q.space ≡ false → clear q ≡ old q = λ q rows.
-      set_other old c false q (cell_other n q 5 rows) in
-      let rows_of : (v : ℕ) → is_state (z v).space ≡ false = λ v.
-      row_stands n m.target v are.target_rows in
-      let start = after_many n o (load (third sub.Zero)) (elements n o % 2) clear in
-      let g : Begins z o clear start = begins z p o clear start rows_of refl
-      (set_same old c false c refl)
-      (λ e. stays p refl ∙ i.last e
-      ∙ sym (stays (z (o + 2 * h)) (rows_of (o + 2 * h))))
-      (λ e. ap (λ i. after_many n o (load (third sub.Zero)) i clear) e)
-      (λ e. ap (λ i. after_many n o (load (third sub.Zero)) i clear) e) in
-      let mid = after_both n o (pair (target sub.SumTwice) (target sub.AboveSumTwice)) move h start
+      let start = λ (k : ℕ). after_round n
+      (round_at (cond (k == 0) off_sum (load (third sub.Zero))) 0 o) old in
+      let g : Begins z o old (start (elements n o % 2)) = begins z p o old
+      (start (elements n o % 2)) (λ v. row_stands n m.target v are.target_rows) i.last
+      (λ e. ap start e) (λ e. ap start e) in
+      let mid = after_both n o (pair (target sub.SumTwice) (target sub.AboveSumTwice)) move h
+      (start (elements n o % 2)) in
+      let r = all_pairs o h h (start (elements n o % 2)) (omega arith) (omega (arith, room, k)) lo
       in
-      let r = all_pairs o h h start (omega arith) (omega (arith, room, k)) lo in
-      let l = one_level z o clear start mid lo g r in
-      let new = set_spot mid (z o) (mid c) in
+      let new = after_level n o higher old in
+      let l : Level z o old new = either_level z o old (set_spot mid (z o) (mid c)) lo
+      (one_level z o old (start (elements n o % 2)) mid lo g r) in
       let lower : number (λ v. new (z v)) o ≡ number (λ v. old (z v)) o =
-      value_same _ _ o (λ v lv. l.below v lv ∙ stays (z v) (rows_of v)) in
-      let same : tally (λ j. clear (z (o + j))) (elements n o)
-      ≡ tally (λ j. old (z (o + j))) (elements n o) =
-      tally_same _ _ (elements n o) (λ j lj. stays (z (o + j)) (rows_of (o + j))) in
+      value_same _ _ o (λ v lv. l.below v lv) in
       let level = level_sum (number (λ v. old (z v)) o) (bit (new (z o)))
       (tally (λ j. new (z (suc o + j))) (elements n (suc o)))
-      (tally (λ j. old (z (o + j))) (elements n o)) (2 ^ o) (2 ^ suc o) (l.sum ∙ same)
-      (pow-suc 2 o) in
+      (tally (λ j. old (z (o + j))) (elements n o)) (2 ^ o) (2 ^ suc o) l.sum (pow-suc 2 o) in
       record {
         counted =
             ap (λ v. v + bit (new (z o)) * 2 ^ o
             + 2 ^ suc o * tally (λ j. new (z (suc o + j))) (elements n (suc o))) lower
             ∙ level ∙ i.counted;
         last = l.last;
-        rest = λ q out. l.rest q out ∙ stays q out.has_row ∙ i.rest q out;
+        rest = λ q out. l.rest q out ∙ i.rest q out;
       }
 
   all_levels : (o : ℕ) (start : Spots) → suc o ≤ n → Levelled 1 start
-      → Levelled (suc o) (after_above n parts o start)
+      → Levelled (suc o) (after_above n (AtLevel higher ∷ []) o start)
   all_levels zero start lo i = i
-  all_levels (suc o) start lo i = next_level (suc o) (after_above n parts o start)
+  all_levels (suc o) start lo i = next_level (suc o)
+      (after_above n (AtLevel higher ∷ []) o start)
       (omega (arith, lo)) (all_levels o start (omega (arith, lo)) i)
 
 pub bitcount_does : (n : ℕ) (m : Rows) → 0 < n → AreRows n 1 0 m → DoesNested op.Bitcount n 1 0 m
 unfolding values_from tally
 bitcount_does n m some are bits =
-    let b0 = off_sum n m are bits in
-    let b1 = store n m are bits sub.Zero in
-    let low0 : List (InnerOf Block) = low_parts n m are bits in
-    let ps : List (InnerOf Block) = parts n m are bits in
-    let s0 = cleared n m are bits in
+    let low_parts : List (InnerOf Block) = AtLevel (lowest n m are bits) ∷ [] in
+    let ps : List (InnerOf Block) = AtLevel (higher n m are bits) ∷ [] in
     let s = low n m are bits in
     let new = after_above n ps (n - 1) s in
     let up : suc (n - 1) ≡ n = omega (arith, some) in
@@ -489,5 +522,5 @@ bitcount_does n m some are bits =
     omega (arith, g, h) in
     k ∙ tally_ones (λ v. bits (row n m.a v)) n) in
     subst (Gives op.Bitcount n 1 0 m bits)
-    (sym (steps_first n low0 (Single b1 ∷ (Nest Above ps ∷ [])) s0 ∙ steps_above n ps [] s))
+    (sym (steps_first n low_parts (Nest Above ps ∷ []) bits ∙ steps_above n ps [] s))
     record { gives = ones; keeps = i.rest }

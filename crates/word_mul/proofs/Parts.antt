@@ -4,7 +4,7 @@ use Rattle.std.proofs.Common.{slice_index_or, Option, Some, None, refl, sym, ap,
 use Rattle.loop_ir.specs.declared.ir.Inner.{Inner}
 use Rattle.loop_ir.specs.declared.names.Slot.{Slot}
 use Rattle.loop_ir.specs.Plain.{Block, InnerOf, AllInner, inner_of}
-use Rattle.loop_ir.specs.Plain.InnerOf.{Alone, Across, IfOdd, Halves}
+use Rattle.loop_ir.specs.Plain.InnerOf.{Alone, Across, AtLevel}
 use Rattle.loop_laws.specs.Forms.{IsMade}
 use Rattle.word_lower.specs.Places.{program_on}
 use Rattle.word_lower.proofs.Append.{map_last, made_more}
@@ -27,8 +27,7 @@ inner_last : (ps : List (InnerOf Block)) (p : InnerOf Block) → AllInner IsMade
 inner_last [] p all h = h
 inner_last (Alone b ∷ ps) p all h = (all.0, inner_last ps p all.1 h)
 inner_last (Across c b ∷ ps) p all h = (all.0, inner_last ps p all.1 h)
-inner_last (IfOdd b ∷ ps) p all h = (all.0, inner_last ps p all.1 h)
-inner_last (Halves b c ∷ ps) p all h = (all.0, inner_last ps p all.1 h)
+inner_last (AtLevel l ∷ ps) p all h = (all.0, inner_last ps p all.1 h)
 
 pub made_part : (parts new : List Inner) (p : Inner) → new ≡ parts ++ p ∷ []
     → AllInner IsMade (map inner_of parts) → AllInner IsMade (inner_of p ∷ [])
@@ -42,8 +41,7 @@ one_more : (o : ℕ → Slot) (p : Option NestPart) (ps : List (Option NestPart)
 one_more o None ps = refl
 one_more o (Some (part.Once f)) ps = refl
 one_more o (Some (part.Each c f)) ps = refl
-one_more o (Some (part.IfOdd f)) ps = refl
-one_more o (Some (part.Halves f g)) ps = refl
+one_more o (Some (part.Level l)) ps = refl
 
 pub parts_more : (o : ℕ → Slot) (list : List (Option NestPart)) (i : ℕ) (d : Option NestPart)
     → i < length list → parts_on o (parts_of (take (i + 1) list))

@@ -1,21 +1,24 @@
 -- What the nested loop programs take, wherever the rows lie, and that they keep their states.
-use Rattle.std.proofs.Common.{◌≡◌, ℕ, zero, suc, ◌+◌, ◌-◌, ◌*◌, ◌^◌, ◌/◌, ◌<◌, ◌≤◌, true, List, [], refl}
-use Rattle.std.proofs.Common.{ap, ◌∙◌, subst, arith}
+use Rattle.std.proofs.Common.{◌≡◌, ℕ, zero, suc, ◌+◌, ◌-◌, ◌*◌, ◌^◌, ◌/◌, ◌<◌, ◌≤◌, Bool, true, false}
+use Rattle.std.proofs.Common.{cond, List, [], refl, ap, ◌∙◌, subst, arith}
+use Rattle.std.proofs.lemmas.Bool.{eqb-true}
 use Rattle.std.proofs.Math.Nat.{pow-suc, pow-zero}
 use Rattle.op_text.specs.declared.word_ops.WordOp.{WordOp}
 use Rattle.op_text.specs.declared.word_ops.WordOp.TheVariants as op
 use Rattle.op_text.specs.Costs.{op_ceiling}
-use Rattle.std.specs.Prelude.{◌%◌}
+use Rattle.std.specs.Prelude.{◌%◌, ◌==◌}
 use Rattle.loop_ir.specs.Loops.{all_rounds, elements}
 use Rattle.loop_ir.specs.Costs.{turn_cost, rounds_cost, plain_cost, plain_costs}
 use Rattle.loop_ir.specs.Lowered.{op_plain_ceiling}
-use Rattle.loop_laws.specs.Rooms.{Room, placed_steps}
+use Rattle.loop_ir.specs.Plain.{Block, LevelOf, level_map}
+use Rattle.loop_laws.specs.Rooms.{Room, placed_body, placed_steps}
 use Rattle.loop_laws.specs.Forms.{keeps_states}
 use Rattle.loop_laws.proofs.Levels.{all_elements, pairs_of}
-use Rattle.loop_laws.proofs.Summed.{odd_from, pairs_from, sum_is}
+use Rattle.loop_laws.proofs.Summed.{level_sum, levels_sum, sum_is}
 use Rattle.loop_laws.proofs.Alike.{HaveRows, rounds_cost_like, plain_costs_like}
-use Rattle.word_mul.specs.Programs.{nested, is_nested, odd_levels, pairs_below}
-use Rattle.word_mul.specs.Programs.{nested_total}
+use Rattle.word_mul.specs.declared.table.TheConstants.{LOWEST_LEVEL, HIGHER_LEVEL}
+use Rattle.word_mul.specs.Programs.{level_bodies, nested, is_nested, odd_levels, filled_levels}
+use Rattle.word_mul.specs.Programs.{pairs_below, nested_total}
 
 square : (n : ℕ) → n ^ 2 ≡ n * n
 square n = let e : n ^ 2 ≡ n ^ 1 * n = pow-suc n 1 in let f : n ^ 1 ≡ n ^ 0 * n = pow-suc n 0 in
@@ -47,50 +50,75 @@ triangle_below (suc k) = let e : suc k - 1 + 1 ≡ suc k = omega arith in
     subst (λ x. 2 * ((suc k - 1) * x / 2) ≡ (suc k - 1) * (suc k - 1) + (suc k - 1)) e
     (triangle (suc k - 1))
 
--- the levels with an odd number of elements, and the pairs, of one level more
-odd_more : (n o count : ℕ) → odd_from n o (suc count) ≡ odd_from n o count
-    + elements n (o + count) % 2
-odd_more n o zero = let e : o + 0 ≡ o = omega arith in
-    let f = ap (λ k. elements n k % 2) e in omega (arith, f)
-odd_more n o (suc count) =
-    let h = odd_more n (o + 1) count in
-    let e : o + 1 + count ≡ o + suc count = omega arith in
-    let f = ap (λ k. elements n k % 2) e in omega (arith, h, f)
+-- what the bodies of a level take
+record Takes (f : Block → ℕ) (pair : ℕ) (l : LevelOf Block) : Type 0 where
+  none : f l.none ≡ 1
+  odd : f l.odd ≡ 2
+  even : f l.even ≡ 1
+  pairs : f l.first + f l.second ≡ pair
+  end : f l.end ≡ 1
 
-pairs_more : (n o count : ℕ) → pairs_from n o (suc count) ≡ pairs_from n o count
-    + elements n (o + count + 1)
-pairs_more n o zero = let e : o + 0 + 1 ≡ o + 1 = omega arith in
-    let f = ap (elements n) e in omega (arith, f)
-pairs_more n o (suc count) =
-    let h = pairs_more n (o + 1) count in
-    let e : o + 1 + count + 1 ≡ o + suc count + 1 = omega arith in
-    let f = ap (elements n) e in omega (arith, h, f)
+begins_with : (x : ℕ) → x < 2 → cond (x == 0) 1 2 ≡ 1 + x
+begins_with zero lt = refl
+begins_with (suc zero) lt = refl
+begins_with (suc (suc x)) lt = absurd (omega (arith, lt))
 
--- those of a nest
-odd_together : (n k : ℕ) → odd_from n 0 k ≡ odd_levels n k
-odd_together n zero = refl
-odd_together n (suc k) =
-    let h = odd_more n 0 k in let g = odd_together n k in
-    let e : 0 + k ≡ k = omega arith in
-    let f = ap (λ i. elements n i % 2) e in omega (arith, h, g, f)
+-- a level without elements takes one command
+level_takes : (empty : Bool) (t : ℕ) → (empty ≡ true → t ≡ 0)
+    → cond empty 1 (t + 2) ≡ 1 + cond empty 0 1 + t
+level_takes true t none = let h = none refl in omega (arith, h)
+level_takes false t none = omega arith
 
-pairs_together : (n k : ℕ) → pairs_from n 0 k ≡ pairs_below n k
-pairs_together n zero = refl
-pairs_together n (suc k) =
-    let h = pairs_more n 0 k in let g = pairs_together n k in
-    let e : 0 + k + 1 ≡ k + 1 = omega arith in
-    let f = ap (elements n) e in omega (arith, h, g, f)
+no_pairs : (n o pair : ℕ) → elements n o ≡ 0
+    → elements n o % 2 + elements n (o + 1) * pair ≡ 0
+no_pairs n o pair e =
+    let k = pairs_of n o in
+    let h : elements n (o + 1) ≡ 0 = omega (arith, k, e) in
+    let z = ap (λ x. x * pair) h in
+    omega (arith, z, e)
 
--- those of the lowest level, and of all above it
-pub low_odd : (n : ℕ) → elements n 0 % 2 + odd_from n 1 (n - 1) ≡ odd_levels n n
-low_odd zero = refl
-low_odd (suc k) = let h = odd_together (suc k) (suc k) in let e : suc k - 1 ≡ k = omega arith in
-    ap (λ i. elements (suc k) 0 % 2 + odd_from (suc k) 1 i) e ∙ h
+module _ (f : Block → ℕ) (n pair : ℕ) where
+  one_level : (o : ℕ) (l : LevelOf Block) → Takes f pair l → level_sum f n o l
+      ≡ 1 + cond (elements n o == 0) 0 1 + (elements n o % 2 + elements n (o + 1) * pair)
+  one_level o l takes =
+      let e = elements n o in
+      let h = elements n (o + 1) in
+      let odd = e % 2 == 0 in
+      let start : cond odd (f l.even) (f l.odd) ≡ 1 + e % 2 =
+      ap (λ x. cond odd x (f l.odd)) takes.even ∙ ap (cond odd 1) takes.odd
+      ∙ begins_with (e % 2) (omega arith) in
+      let pairs : h * (f l.first + f l.second) ≡ h * pair = ap (λ x. h * x) takes.pairs in
+      let end = takes.end in
+      let filled : cond odd (f l.even) (f l.odd) + (h * (f l.first + f l.second) + f l.end)
+      ≡ e % 2 + h * pair + 2 = omega (arith, start, pairs, end) in
+      ap (λ x. cond (e == 0) x (cond odd (f l.even) (f l.odd)
+      + (h * (f l.first + f l.second) + f l.end))) takes.none
+      ∙ ap (cond (e == 0) 1) filled
+      ∙ level_takes (e == 0) (e % 2 + h * pair) (λ none. no_pairs n o pair (eqb-true e 0 none))
 
-pub low_pairs : (n : ℕ) → elements n 1 + pairs_from n 1 (n - 1) ≡ pairs_below n n
-low_pairs zero = refl
-low_pairs (suc k) = let h = pairs_together (suc k) (suc k) in let e : suc k - 1 ≡ k = omega arith in
-    ap (λ i. elements (suc k) 1 + pairs_from (suc k) 1 i) e ∙ h
+  -- one level more
+  one_more : (o count : ℕ) (l : LevelOf Block) → levels_sum f n o (suc count) l
+      ≡ levels_sum f n o count l + level_sum f n (o + count) l
+  one_more o zero l = let e : o + 0 ≡ o = omega arith in
+      let h = ap (λ k. level_sum f n k l) e in omega (arith, h)
+  one_more o (suc count) l =
+      let h = one_more (o + 1) count l in
+      let e : o + 1 + count ≡ o + suc count = omega arith in
+      let g = ap (λ k. level_sum f n k l) e in
+      omega (arith, h, g)
+
+  -- the lowest level, and so many above it
+  module _ (low high : LevelOf Block) (lowest : Takes f pair low) (higher : Takes f pair high) where
+    levels_take : (k : ℕ) → level_sum f n 0 low + levels_sum f n 1 k high
+        ≡ suc k + filled_levels n (suc k) + odd_levels n (suc k) + pairs_below n (suc k) * pair
+    levels_take zero = let h = one_level 0 low lowest in omega (arith, h)
+    levels_take (suc k) =
+        let h = levels_take k in
+        let m = one_more 1 k high in
+        let e : 1 + k ≡ suc k = omega arith in
+        let g = ap (λ o. level_sum f n o high) e in
+        let a = one_level (suc k) high higher in
+        omega (arith, h, m, g, a)
 
 -- no more than so many
 few_elements : (n o : ℕ) → elements n o ≤ n
@@ -102,6 +130,15 @@ odd_few : (n k : ℕ) → odd_levels n k ≤ k
 odd_few n zero = omega arith
 odd_few n (suc k) = let h = odd_few n k in omega (arith, h)
 
+filled_more : (empty : Bool) → cond empty 0 1 ≤ 1
+filled_more true = omega arith
+filled_more false = omega arith
+
+filled_few : (n k : ℕ) → filled_levels n k ≤ k
+filled_few n zero = omega arith
+filled_few n (suc k) = let h = filled_few n k in let m = filled_more (elements n k == 0) in
+    omega (arith, h, m)
+
 pairs_few : (n k : ℕ) → pairs_below n k ≤ n * k
 pairs_few n zero = omega arith
 pairs_few n (suc k) = let h = pairs_few n k in let f = few_elements n (k + 1) in
@@ -110,13 +147,50 @@ pairs_few n (suc k) = let h = pairs_few n k in let f = few_elements n (k + 1) in
 some_square : (n : ℕ) → 0 < n → n ≤ n * n
 some_square n some = grind arith
 
--- what a count takes, where no body has a sequence of its own
+-- the lowest level of a count, and those above it, wherever the rows lie
+abbrev lowest : LevelOf Block
+lowest = level_map (placed_body []) (level_bodies LOWEST_LEVEL)
+
+abbrev higher : LevelOf Block
+higher = level_map (placed_body []) (level_bodies HIGHER_LEVEL)
+
+-- what a count takes
+count : (n : ℕ) → rounds_cost (all_rounds n (placed_steps [] (nested op.Bitcount)))
+    ≡ nested_total op.Bitcount n
+count zero = refl
+count (suc k) =
+    let e = sum_is turn_cost (suc k) (placed_steps [] (nested op.Bitcount)) in
+    let a = levels_take turn_cost (suc k) 7 lowest higher (record {
+      none = refl;
+      odd = refl;
+      even = refl;
+      pairs = refl;
+      end = refl;
+    }) (record { none = refl; odd = refl; even = refl; pairs = refl; end = refl }) k in
+    let one : suc k - 1 ≡ k = omega arith in
+    let g = ap (λ i. levels_sum turn_cost (suc k) 1 i higher) one in
+    omega (arith, e, a, g)
+
+-- what it takes where no body has a sequence of its own
 plain_count : (n : ℕ) → 0 < n → plain_costs (all_rounds n (placed_steps [] (nested op.Bitcount)))
     ≤ op_plain_ceiling op.Bitcount n
-plain_count n some = let e = sum_is plain_cost n (placed_steps [] (nested op.Bitcount)) in
-    let s = square n in let t = low_odd n in let u = low_pairs n in
-    let f = odd_few n n in let g = pairs_few n n in let h = some_square n some in
-    omega (arith, e, s, t, u, f, g, h)
+plain_count zero some = absurd (omega (arith, some))
+plain_count (suc k) some =
+    let n = suc k in
+    let e = sum_is plain_cost n (placed_steps [] (nested op.Bitcount)) in
+    let a = levels_take plain_cost n 18 lowest higher (record {
+      none = refl;
+      odd = refl;
+      even = refl;
+      pairs = refl;
+      end = refl;
+    }) (record { none = refl; odd = refl; even = refl; pairs = refl; end = refl }) k in
+    let one : n - 1 ≡ k = omega arith in
+    let g = ap (λ i. levels_sum plain_cost n 1 i higher) one in
+    let s = square n in
+    let f = odd_few n n in let l = filled_few n n in let p = pairs_few n n in
+    let h = some_square n some in
+    omega (arith, e, a, g, s, f, l, p, h)
 
 costs : (p : WordOp) → is_nested p ≡ true → (n : ℕ)
     → rounds_cost (all_rounds n (placed_steps [] (nested p))) ≡ nested_total p n
@@ -126,8 +200,7 @@ costs op.Div is n = let e = sum_is turn_cost n (placed_steps [] (nested op.Div))
     let s = triangle n in omega (arith, e, s)
 costs op.Rem is n = let e = sum_is turn_cost n (placed_steps [] (nested op.Rem)) in
     let s = triangle n in omega (arith, e, s)
-costs op.Bitcount is n = let e = sum_is turn_cost n (placed_steps [] (nested op.Bitcount)) in
-    let s = low_odd n in let t = low_pairs n in omega (arith, e, s, t)
+costs op.Bitcount is n = count n
 costs op.Divmod is n = let e = sum_is turn_cost n (placed_steps [] (nested op.Divmod)) in
     let s = triangle n in omega (arith, e, s)
 costs p is n = cc
@@ -151,8 +224,8 @@ plains op.Divmod is (suc k) some = let e =
 plains p is n some = cc
 
 cheap_count : (n : ℕ) → 0 < n → nested_total op.Bitcount n ≤ op_ceiling op.Bitcount n
-cheap_count n some = let f = odd_few n n in let g = pairs_few n n in let s = square n in
-    let h = some_square n some in omega (arith, f, g, s, h)
+cheap_count n some = let f = odd_few n n in let l = filled_few n n in let g = pairs_few n n in
+    let s = square n in let h = some_square n some in omega (arith, f, l, g, s, h)
 
 -- each total is within the operation's ceiling
 pub cheap : (p : WordOp) → is_nested p ≡ true → (n : ℕ) → 0 < n → nested_total p n ≤ op_ceiling p n

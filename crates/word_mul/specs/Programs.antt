@@ -1,11 +1,10 @@
 -- The loop programs of the word operations that take a pass over a word for each position.
 use Rattle.std.specs.Prelude.{ℕ, zero, suc, ◌+◌, ◌-◌, ◌*◌, ◌/◌, ◌%◌, ◌==◌, Bool, true, false}
-use Rattle.std.specs.Prelude.{if◌then◌else◌, List, [], ◌∷◌, ◌++◌, Option, Some, None}
+use Rattle.std.specs.Prelude.{if◌then◌else◌, List, [], ◌∷◌, Option, Some, None}
 use Rattle.mig_graph.specs.declared.Node.{Node}
 use Rattle.mig_graph.specs.Literals.{node_of}
 use Rattle.op_text.specs.declared.word_ops.WordOp.{WordOp}
 use Rattle.op_text.specs.declared.word_ops.WordOp.TheVariants as o
-use Rattle.op_text.specs.WordOps.{number}
 use Rattle.op_text.specs.Language.{Statement, Compute, Visit}
 use Rattle.loop_ir.specs.Loops.{elements}
 use Rattle.loop_ir.specs.Plain.{LevelOf, InnerOf, StepOf}
@@ -194,7 +193,7 @@ abbrev pub nested_total : WordOp → ℕ → ℕ
 nested_total o.Mul n = 9 * ((n - 1) * n / 2) + 4 * n + 3 * (n - 1)
 nested_total o.Div n = 12 * (n * (n + 1) / 2) + 16 * n + 1
 nested_total o.Rem n = 12 * (n * (n + 1) / 2) + 16 * n + 1
-nested_total o.Bitcount n = n + filled_levels n n + odd_levels n n + 7 * pairs_below n n
+nested_total o.Bitcount n = 1 + (n - 1) + filled_levels n n + odd_levels n n + 7 * pairs_below n n
 nested_total o.Divmod n = 12 * (n * (n + 1) / 2) + 17 * n + 1
 nested_total p n = 0
 

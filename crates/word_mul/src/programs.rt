@@ -1,10 +1,11 @@
 //! Loop programs by their rows of the table.
 
 ghost use Rattle.std.specs.Prelude.{◌≡◌, ◌++◌, ◌∷◌, [], map, IfOk, OnOk, Some};
-ghost use Rattle.loop_ir.specs.Plain.{inner_of, step_of, steps_of, AllInner, AllStep, AllParts};
+ghost use Rattle.loop_ir.specs.Plain.{level_of, inner_of, step_of, steps_of, level_map, AllLevel};
+ghost use Rattle.loop_ir.specs.Plain.{AllInner, AllStep, AllParts};
 ghost use Rattle.loop_laws.specs.Forms.{IsMade};
-ghost use Rattle.word_lower.specs.Places.{program_on};
-ghost use Rattle.word_mul.specs.Programs.{parts_of, steps_of_forms, row_steps};
+ghost use Rattle.word_lower.specs.Places.{body_on, program_on};
+ghost use Rattle.word_mul.specs.Programs.{level_bodies, parts_of, steps_of_forms, row_steps};
 ghost use Rattle.word_mul.specs.Bodies.{rows_at, parts_on};
 
 use crate::bodies::body;
@@ -17,7 +18,7 @@ use std::alloc::Global;
 /// The bodies of a level.
 fn level(form: LevelForm, owners: Owners, alloc: Global) -> Result<Level, NoMemory>
     ensures same { IfOk result (λ l. level_of l
-        ≡ level_map (placed_on (rows_at owners)) (level_bodies form)) }
+        ≡ level_map (body_on (rows_at owners)) (level_bodies form)) }
     ensures made { IfOk result (λ l. AllLevel IsMade (level_of l)) }
 {
     Ok(Level {

@@ -277,17 +277,14 @@ pub const LOWEST_LEVEL: LevelForm = LevelForm {
 
 /// A level above it, whose elements stand from its own row of the target on.
 pub const HIGHER_LEVEL: LevelForm = LevelForm {
-    none: Off(Z_LEVEL),
     odd: Begun(LAST, SUM, BEGINNING),
-    even: Off(SUM),
     first: Counted(Z_PAIR, Z_PAIR_ABOVE, SUM, LAST),
-    second: KEEPS_CARRY,
-    end: Moved(SUM, Z_LEVEL),
+    ..LOWEST_LEVEL
 };
 
-/// Of `bitcount`: level o has n / 2^o elements of weight 2^o. Its sum begins with the last one where
-/// they are odd in number, and takes the others in pairs, whose carries are the elements of the
-/// level above; a level without elements has the bit 0.
+/// Of `bitcount`: level o has n / 2^o elements of weight 2^o. Its sum begins with the last one
+/// where they are odd in number, and takes the others in pairs, whose carries are the elements of
+/// the level above; a level without elements has the bit 0.
 pub const BITCOUNT: NestedProgram = NestedProgram {
     steps: [
         Some(StepForm::Nest(
