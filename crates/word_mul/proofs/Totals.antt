@@ -51,12 +51,12 @@ triangle_below (suc k) = let e : suc k - 1 + 1 ≡ suc k = omega arith in
     (triangle (suc k - 1))
 
 -- what the bodies of a level take
-record Takes (f : Block → ℕ) (pair : ℕ) (l : LevelOf Block) : Type 0 where
-  none : f l.none ≡ 1
-  odd : f l.odd ≡ 2
-  even : f l.even ≡ 1
-  pairs : f l.first + f l.second ≡ pair
-  end : f l.end ≡ 1
+pub record Takes (f : Block → ℕ) (pair : ℕ) (l : LevelOf Block) : Type 0 where
+  pub none : f l.none ≡ 1
+  pub odd : f l.odd ≡ 2
+  pub even : f l.even ≡ 1
+  pub pairs : f l.first + f l.second ≡ pair
+  pub end : f l.end ≡ 1
 
 begins_with : (x : ℕ) → x < 2 → cond (x == 0) 1 2 ≡ 1 + x
 begins_with zero lt = refl
@@ -109,7 +109,7 @@ module _ (f : Block → ℕ) (n pair : ℕ) where
 
   -- the lowest level, and so many above it
   module _ (low high : LevelOf Block) (lowest : Takes f pair low) (higher : Takes f pair high) where
-    levels_take : (k : ℕ) → level_sum f n 0 low + levels_sum f n 1 k high
+    pub levels_take : (k : ℕ) → level_sum f n 0 low + levels_sum f n 1 k high
         ≡ suc k + filled_levels n (suc k) + odd_levels n (suc k) + pairs_below n (suc k) * pair
     levels_take zero = let h = one_level 0 low lowest in omega (arith, h)
     levels_take (suc k) =
@@ -148,10 +148,10 @@ some_square : (n : ℕ) → 0 < n → n ≤ n * n
 some_square n some = grind arith
 
 -- the lowest level of a count, and those above it, wherever the rows lie
-abbrev lowest : LevelOf Block
+abbrev pub lowest : LevelOf Block
 lowest = level_map (placed_body []) (level_bodies LOWEST_LEVEL)
 
-abbrev higher : LevelOf Block
+abbrev pub higher : LevelOf Block
 higher = level_map (placed_body []) (level_bodies HIGHER_LEVEL)
 
 -- what a count takes
