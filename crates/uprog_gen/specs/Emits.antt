@@ -2,11 +2,27 @@
 -- Private contracts alone speak of this.
 use Rattle.std.specs.Prelude.{◌≡◌, ℕ, List, ◌++◌, length, map}
 use Rattle.uprog_code.specs.declared.code.Uop.{Uop}
-use Rattle.loop_ir.specs.Plain.{Block, InnerOf, TurnOf, StepOf, inner_map, turn_map}
+use Rattle.loop_ir.specs.Plain.{Block, LevelOf, InnerOf, TurnOf, StepOf, inner_map, turn_map}
 use Rattle.loop_ir.specs.Plain.{AllInner, AllTurns, AllParts}
-use Rattle.uprog_gen.specs.Code.{Part, block_of_part, blocks, inner_list, turns_list}
+use Rattle.uprog_gen.specs.declared.part.Made.{Made}
+use Rattle.uprog_gen.specs.declared.level.Singles.{Singles}
+use Rattle.uprog_gen.specs.Code.{Part, block_of_part, blocks, once_code, inner_list, turns_list}
 use Rattle.uprog_gen.specs.Code.{program_code}
+use Rattle.uprog_gen.specs.Made.{part_of}
 use Rattle.uprog_gen.specs.Parts.{IsPart}
+
+-- the code of a body that is done once, with right commands for it
+pub record OnceOf (b : Block) (code : List Uop) : Type 0 where
+  pub made : Made
+  pub right : IsPart (part_of b made)
+  pub is : code ≡ once_code (part_of b made)
+
+-- so it is with the bodies of a level that stand in no loop
+pub record AreSingles (l : LevelOf Block) (s : Singles) : Type 0 where
+  pub none : OnceOf l.none s.none.items
+  pub odd : OnceOf l.odd s.odd.items
+  pub even : OnceOf l.even s.even.items
+  pub end : OnceOf l.end s.end.items
 
 -- the code of these inner steps came to the old code, with right commands for each body
 pub record EmitsInner (xs : List (InnerOf Block)) (old new : List Uop) : Type 0 where

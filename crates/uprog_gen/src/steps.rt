@@ -11,9 +11,9 @@ ghost use Rattle.loop_ir.specs.Costs.{inner_cost, either_cost, turns_cost, step_
 ghost use Rattle.uprog_gen.specs.Emits.{EmitsInner, EmitsTurns, EmitsSteps};
 
 use crate::emit::{
-    push_body, push_either, push_guard, push_halves, push_loop, push_odd, push_once, push_pairs,
-    push_start,
+    push_body, push_either, push_guard, push_loop, push_once, push_pairs, push_start,
 };
+use crate::level::emit_level;
 use crate::part::make_part;
 use crate::plan::is_fixed;
 use faults::keep;
@@ -39,17 +39,7 @@ fn emit_inner(inner: &Inner, code: &mut Vec<Uop>, alloc: Global) -> Result<(), N
             push_loop(code, *count, body, &made)?;
             Ok(())
         }
-        Inner::IfOdd(body) => {
-            let made = make_part(body, alloc)?;
-            push_odd(code, body, &made)?;
-            Ok(())
-        }
-        Inner::Halves(first, second) => {
-            let first_made = make_part(first, alloc)?;
-            let second_made = make_part(second, alloc)?;
-            push_halves(code, first, &first_made, second, &second_made)?;
-            Ok(())
-        }
+        Inner::Level(level) => emit_level(level, code, alloc),
     }
 }
 

@@ -16,22 +16,26 @@ use Rattle.loop_ir.specs.declared.ir.Count.TheVariants.{All as All_of, Rest, UpT
 use Rattle.loop_ir.specs.declared.ir.Inner.{Inner}
 use Rattle.loop_ir.specs.declared.ir.Step.{Step}
 use Rattle.loop_ir.specs.declared.ir.Turn.{Turn}
-use Rattle.loop_ir.specs.Plain.{Block, InnerOf, TurnOf, StepOf, inner_map, turn_map, step_map}
+use Rattle.loop_ir.specs.Plain.{Block, LevelOf, InnerOf, TurnOf, StepOf, inner_map, turn_map, step_map}
 use Rattle.loop_ir.specs.Plain.{inner_of, turn_of, step_of}
 use Rattle.loop_ir.specs.Plain.{AllInner, AllTurns, AllStep, AllParts}
-use Rattle.loop_ir.specs.Plain.InnerOf.{Alone, Across, IfOdd, Halves}
+use Rattle.loop_ir.specs.Plain.InnerOf.{Alone, Across, AtLevel}
 use Rattle.loop_ir.specs.Plain.StepOf.{Single, Along, Nest, Pairs, Alternate}
 use Rattle.uprog_gen.specs.Code.{Part, block_of_part, blocks, body_uops, once_code, loop_code}
-use Rattle.uprog_gen.specs.Code.{counter, halve_code, level_code, skip_code, odd_code}
-use Rattle.uprog_gen.specs.Code.{pairing_code, halves_code}
+use Rattle.uprog_gen.specs.Code.{counter, halve_code, level_code, leave_code, skip_code}
+use Rattle.uprog_gen.specs.Code.{pairing_code, begin_code, finish_code, whole_code}
 use Rattle.uprog_gen.specs.Code.{inner_code, inner_list, outside, guard_code, pairs_code, span_code}
 use Rattle.uprog_gen.specs.Code.{turn_uops, either_code, either_size, turns_list, start_code}
 use Rattle.uprog_gen.specs.Code.{cycle_code, step_code}
 use Rattle.uprog_gen.specs.Code.{program_code}
 use Rattle.loop_ir.specs.Costs.{is_fixed, inner_cost, either_cost, step_cost, code_cost}
+use Rattle.uprog_gen.specs.declared.part.Made.{Made}
+use Rattle.uprog_gen.specs.declared.level.Singles.{Singles}
+use Rattle.uprog_gen.specs.Made.{part_of}
 use Rattle.uprog_gen.specs.Parts.{IsPart}
-use Rattle.uprog_gen.proofs.Coding.Sizes.{inner_few, either_long, turns_few, program_few}
-use Rattle.uprog_gen.specs.Emits.{EmitsInner, EmitsTurns, EmitsSteps}
+use Rattle.uprog_gen.proofs.Coding.Sizes.{pairing_long, begin_long, finish_long, inner_few}
+use Rattle.uprog_gen.proofs.Coding.Sizes.{either_long, turns_few, program_few}
+use Rattle.uprog_gen.specs.Emits.{AreSingles, EmitsInner, EmitsTurns, EmitsSteps}
 
 -- what holds of all holds of one
 pub inner_at : (P : Block → Type 0) (xs : List Inner) (k : ℕ) (x : Inner)
@@ -45,16 +49,14 @@ inner_at P (y ∷ ys) zero x h lt e = subst (λ z. AllInner P (inner_of z ∷ []
         → AllInner P (z ∷ [])
     first (Alone b) zs h = (h.0, tt)
     first (Across c b) zs h = (h.0, tt)
-    first (IfOdd b) zs h = (h.0, tt)
-    first (Halves b c) zs h = (h.0, tt)
+    first (AtLevel l) zs h = (h.0, tt)
 inner_at P (y ∷ ys) (suc k) x h lt e = inner_at P ys k x (more (inner_of y) (map inner_of ys) h)
     (omega arith) e
   where
     more : (z : InnerOf Block) (zs : List (InnerOf Block)) → AllInner P (z ∷ zs) → AllInner P zs
     more (Alone b) zs h = h.1
     more (Across c b) zs h = h.1
-    more (IfOdd b) zs h = h.1
-    more (Halves b c) zs h = h.1
+    more (AtLevel l) zs h = h.1
 
 pub step_at : (P : Block → Type 0) (xs : List Step) (k : ℕ) (x : Step) → AllParts P (map step_of xs)
     → k < length xs → x ≡ slice_index_or xs k x → AllStep P (step_of x)
@@ -67,8 +69,7 @@ inner_both : (P : Part → Type 0) (xs ys : List (InnerOf Part)) → AllInner P 
 inner_both P [] ys h k = k
 inner_both P (Alone p ∷ xs) ys h k = (h.0, inner_both P xs ys h.1 k)
 inner_both P (Across c p ∷ xs) ys h k = (h.0, inner_both P xs ys h.1 k)
-inner_both P (IfOdd p ∷ xs) ys h k = (h.0, inner_both P xs ys h.1 k)
-inner_both P (Halves p q ∷ xs) ys h k = (h.0, inner_both P xs ys h.1 k)
+inner_both P (AtLevel l ∷ xs) ys h k = (h.0, inner_both P xs ys h.1 k)
 
 pub parts_both : {A : Type 0} (P : A → Type 0) (xs ys : List (StepOf A)) → AllParts P xs
     → AllParts P ys → AllParts P (xs ++ ys)
@@ -161,24 +162,48 @@ across_emits count p old new is e = record {
       ++ l) (sym (append-nil (loop_code count p (length old))));
 }
 
-pub odd_emits : (p : Part) (old new : List Uop) → IsPart p
-    → new ≡ old ++ odd_code p (length old) → EmitsInner (IfOdd p.block ∷ []) old new
-odd_emits p old new is e = record {
-  coded = IfOdd p ∷ [];
-  same = refl;
-  parts = (is, tt);
-  code = e ∙ ap (λ l. old ++ l) (sym (append-nil (odd_code p (length old))));
-}
-
-pub halves_emits : (p q : Part) (old new : List Uop) → IsPart p → IsPart q
-    → new ≡ old ++ halves_code p q (length old)
-    → EmitsInner (Halves p.block q.block ∷ []) old new
-halves_emits p q old new is js e = record {
-  coded = Halves p q ∷ [];
-  same = refl;
-  parts = ((is, js), tt);
-  code = e ∙ ap (λ l. old ++ l) (sym (append-nil (halves_code p q (length old))));
-}
+pub level_emits : (l : LevelOf Block) (s : Singles) (first second : Made) (old new : List Uop)
+    → AreSingles l s → IsPart (part_of l.first first) → IsPart (part_of l.second second)
+    → new ≡ old ++ whole_code s.none.items s.odd.items s.even.items (part_of l.first first)
+    (part_of l.second second) s.end.items (length old) → EmitsInner (AtLevel l ∷ []) old new
+level_emits l s first second old new a is js e =
+    let p = part_of l.first first in
+    let q = part_of l.second second in
+    let none = part_of l.none a.none.made in
+    let odd = part_of l.odd a.odd.made in
+    let even = part_of l.even a.even.made in
+    let end = part_of l.end a.end.made in
+    let pc = length old in
+    let code = whole_code (once_code none) (once_code odd) (once_code even) p q (once_code end) pc in
+    let same : new ≡ old ++ code = e
+    ∙ ap (λ c. old ++ whole_code c s.odd.items s.even.items p q s.end.items pc) a.none.is
+    ∙ ap (λ c. old ++ whole_code (once_code none) c s.even.items p q s.end.items pc) a.odd.is
+    ∙ ap (λ c. old ++ whole_code (once_code none) (once_code odd) c p q s.end.items pc) a.even.is
+    ∙ ap (λ c. old ++ whole_code (once_code none) (once_code odd) (once_code even) p q c pc)
+    a.end.is in
+    record {
+      coded = AtLevel (record {
+        none = none;
+        odd = odd;
+        even = even;
+        first = p;
+        second = q;
+        end = end;
+      }) ∷ [];
+      same = refl;
+      parts = (
+        record {
+          none = a.none.right;
+          odd = a.odd.right;
+          even = a.even.right;
+          first = is;
+          second = js;
+          end = a.end.right;
+        },
+        tt,
+      );
+      code = same ∙ ap (λ l. old ++ l) (sym (append-nil code));
+    }
 
 -- one step
 one_step : (s : StepOf Part) (old new : List Uop) → AllStep IsPart s
@@ -353,95 +378,60 @@ level_made old a b d e f g pc at ea eb ed ee ef eg =
     ∙ append_assoc old (pre ++ halve_code pc) (two ++ jump)
     ∙ ap (λ q. old ++ level_code q) at
 
--- a jump past what comes next, once that stands
-skip_made : (pre body : List Uop) (old mid all : List Uop) (r past end : ℕ)
-    → past ≡ length old + length pre + 2
-    → mid ≡ old ++ (pre ++ skip_code r (length old + length pre) 0) → all ≡ mid ++ body
-    → end ≡ length old + length pre + 3 + length body → set all past (Bnez 7 end)
-    ≡ old ++ (pre ++ (skip_code r (length old + length pre) end ++ body))
-skip_made pre body old mid all r past end ep em ea ee =
-    let pc = length old + length pre in
-    let first = Bnez r (pc + 3) ∷ SetI 7 1 ∷ [] in
-    let front = old ++ (pre ++ first) in
-    let whole : all ≡ front ++ Bnez 7 0 ∷ body =
-    ea ∙ ap (λ l. l ++ body) em ∙ append_assoc old (pre ++ (first ++ Bnez 7 0 ∷ [])) body
-    ∙ ap (λ l. old ++ l) (append_assoc pre (first ++ Bnez 7 0 ∷ []) body
-    ∙ sym (append_assoc pre first (Bnez 7 0 ∷ body)))
-    ∙ sym (append_assoc old (pre ++ first) (Bnez 7 0 ∷ body)) in
-    let at : past ≡ length front = omega (
-      arith,
-      ep,
-      length-append old (pre ++ first),
-      length-append pre first,
-    ) in
-    ap (λ l. set l past (Bnez 7 end)) whole
-    ∙ ap (λ k. set (front ++ Bnez 7 0 ∷ body) k (Bnez 7 end)) at
-    ∙ set-append_seam front (Bnez 7 0) body (Bnez 7 end)
-    ∙ append_assoc old (pre ++ first) (Bnez 7 end ∷ body)
-    ∙ ap (λ l. old ++ l) (append_assoc pre first (Bnez 7 end ∷ body))
-
--- a body where a level has an odd number of elements
-pub odd_made : (p : Part) (old a b all : List Uop) (past end : ℕ)
-    → a ≡ old ++ level_code (length old) → past ≡ length a + 2
-    → b ≡ a ++ skip_code 5 (length a) 0 → all ≡ b ++ once_code p → end ≡ length all
-    → set all past (Bnez 7 end) ≡ old ++ odd_code p (length old)
-odd_made p old a b all past end ea ep eb el ee =
+-- how a level goes on
+pub finish_made : (p q : Part) (last old a b c d : List Uop) (past : ℕ)
+    → past ≡ length old + 13 + length p.cmds + length q.cmds
+    → a ≡ old ++ Mov 2 6 ∷ [] → b ≡ a ++ skip_code 2 (length a) past
+    → c ≡ b ++ pairing_code p q (length b) → d ≡ c ++ last
+    → d ≡ old ++ finish_code p q last (length old)
+finish_made p q last old a b c d past ep ea eb ec ed =
     let pc = length old in
-    let level = level_code pc in
-    let body = once_code p in
-    let long : length a ≡ pc + 16 = omega (arith, ap length ea, length-append old level) in
-    let mid : b ≡ old ++ (level ++ skip_code 5 (pc + 16) 0) =
-    eb ∙ ap (λ k. a ++ skip_code 5 k 0) long ∙ ap (λ l. l ++ skip_code 5 (pc + 16) 0) ea
-    ∙ append_assoc old level (skip_code 5 (pc + 16) 0) in
-    let ends : end ≡ pc + 16 + 3 + length body = omega (
+    let pairing = pairing_code p q (pc + 4) in
+    let first = Mov 2 6 ∷ [] in
+    let la : length a ≡ pc + 1 = omega (arith, ap length ea, length-append old first) in
+    let lb : length b ≡ pc + 4 = omega (
       arith,
-      ee,
-      ap length el,
-      length-append b body,
+      la,
       ap length eb,
-      length-append a (skip_code 5 (length a) 0),
-      long,
+      length-append a (skip_code 2 (length a) past),
     ) in
-    let same : end ≡ pc + 19 + length body = omega (arith, ends) in
-    skip_made level body old b all 5 past end (omega (arith, ep, long)) mid el ends
-    ∙ ap (λ t. old ++ (level ++ (skip_code 5 (pc + 16) t ++ body))) same
+    let to : past ≡ pc + 4 + length pairing = omega (arith, ep, pairing_long p q (pc + 4)) in
+    let skip = skip_code 2 (pc + 1) (pc + 4 + length pairing) in
+    ed ∙ ap (λ l. l ++ last) (ec ∙ ap (λ k. b ++ pairing_code p q k) lb)
+    ∙ append_assoc b pairing last
+    ∙ ap (λ l. l ++ (pairing ++ last)) (eb ∙ ap (λ k. a ++ skip_code 2 k past) la
+    ∙ ap (λ k. a ++ skip_code 2 (pc + 1) k) to)
+    ∙ append_assoc a skip (pairing ++ last)
+    ∙ ap (λ l. l ++ (skip ++ (pairing ++ last))) ea
+    ∙ append_assoc old first (skip ++ (pairing ++ last))
 
--- two bodies at each pair
-pub halves_made : (p q : Part) (old a b c all : List Uop) (past end : ℕ)
-    → a ≡ old ++ level_code (length old) → b ≡ a ++ Mov 2 6 ∷ [] → past ≡ length b + 2
-    → c ≡ b ++ skip_code 2 (length b) 0 → all ≡ c ++ pairing_code p q (length c)
-    → end ≡ length all → set all past (Bnez 7 end) ≡ old ++ halves_code p q (length old)
-halves_made p q old a b c all past end ea eb ep ec el ee =
+-- the whole of it
+pub whole_made : (none odd even : List Uop) (p q : Part) (last old a b c : List Uop) (end : ℕ)
+    → end ≡ length old + 35 + length none + length odd + length even + length p.cmds
+    + length q.cmds + length last
+    → a ≡ old ++ level_code (length old) → b ≡ a ++ begin_code none odd even (length a) end
+    → c ≡ b ++ finish_code p q last (length b)
+    → c ≡ old ++ whole_code none odd even p q last (length old)
+whole_made none odd even p q last old a b c end ee ea eb ec =
     let pc = length old in
+    let at = pc + 22 + length none + length odd + length even in
+    let finish = finish_code p q last at in
     let level = level_code pc in
-    let pre = level ++ Mov 2 6 ∷ [] in
-    let body = pairing_code p q (pc + 20) in
     let la : length a ≡ pc + 16 = omega (arith, ap length ea, length-append old level) in
-    let lb : length b ≡ pc + 17 = omega (arith, la, ap length eb, length-append a (Mov 2 6 ∷ [])) in
-    let lc : length c ≡ pc + 20 = omega (
+    let lb : length b ≡ at = omega (
       arith,
-      lb,
-      ap length ec,
-      length-append b (skip_code 2 (length b) 0),
+      la,
+      ap length eb,
+      length-append a (begin_code none odd even (length a) end),
+      begin_long none odd even (length a) end,
     ) in
-    let front : b ≡ old ++ pre = eb ∙ ap (λ l. l ++ Mov 2 6 ∷ []) ea
-    ∙ append_assoc old level (Mov 2 6 ∷ []) in
-    let mid : c ≡ old ++ (pre ++ skip_code 2 (pc + 17) 0) =
-    ec ∙ ap (λ k. b ++ skip_code 2 k 0) lb ∙ ap (λ l. l ++ skip_code 2 (pc + 17) 0) front
-    ∙ append_assoc old pre (skip_code 2 (pc + 17) 0) in
-    let whole : all ≡ c ++ body = el ∙ ap (λ k. c ++ pairing_code p q k) lc in
-    let ends : end ≡ pc + 17 + 3 + length body = omega (
-      arith,
-      ee,
-      ap length whole,
-      length-append c body,
-      lc,
-    ) in
-    let same : end ≡ pc + 20 + length body = omega (arith, ends) in
-    skip_made pre body old c all 2 past end (omega (arith, ep, lb)) mid whole ends
-    ∙ ap (λ t. old ++ (pre ++ (skip_code 2 (pc + 17) t ++ body))) same
-    ∙ ap (λ l. old ++ l) (append_assoc level (Mov 2 6 ∷ [])
-    (skip_code 2 (pc + 17) (pc + 20 + length body) ++ body))
+    let to : end ≡ at + length finish = omega (arith, ee, finish_long p q last at) in
+    let begin = begin_code none odd even (pc + 16) (at + length finish) in
+    ec ∙ ap (λ k. b ++ finish_code p q last k) lb
+    ∙ ap (λ l. l ++ finish) (eb ∙ ap (λ k. a ++ begin_code none odd even k end) la
+    ∙ ap (λ k. a ++ begin_code none odd even (pc + 16) k) to)
+    ∙ append_assoc a begin finish ∙ ap (λ l. l ++ (begin ++ finish)) ea
+    ∙ append_assoc old level (begin ++ finish)
 
 -- the jump past the loop, once the loop stands
 pub pairs_made : (p : Part) (old mid all : List Uop) (past end : ℕ) → past ≡ length old + 3
