@@ -276,17 +276,24 @@ whole_code none odd even p q last pc =
     let finish = finish_code p q last finish_at in
     level_code pc ++ (begin_code none odd even (pc + 16) (finish_at + length finish) ++ finish)
 
--- a part of a nest, whose first instruction has this place
-abbrev pub inner_code : InnerOf Part → ℕ → List Uop
-inner_code (Alone p) pc = once_code p
-inner_code (Across count p) pc = loop_code count p pc
-inner_code (AtLevel l) pc = whole_code (once_code l.none) (once_code l.odd) (once_code l.even)
-    l.first l.second (once_code l.end) pc
+-- what alone is done at a level without elements: at the first outer position there always is one
+abbrev pub none_code : Span → Part → List Uop
+none_code Full p = once_code p
+none_code First p = []
+none_code Above p = once_code p
+
+-- a part of a nest at these outer positions, whose first instruction has this place
+abbrev pub inner_code : Span → InnerOf Part → ℕ → List Uop
+inner_code span (Alone p) pc = once_code p
+inner_code span (Across count p) pc = loop_code count p pc
+inner_code span (AtLevel l) pc = whole_code (none_code span l.none) (once_code l.odd)
+    (once_code l.even) l.first l.second (once_code l.end) pc
 
 -- the parts of a nest, one after another
-abbrev pub inner_list : List (InnerOf Part) → ℕ → List Uop
-inner_list [] pc = []
-inner_list (x ∷ xs) pc = inner_code x pc ++ inner_list xs (pc + length (inner_code x pc))
+abbrev pub inner_list : Span → List (InnerOf Part) → ℕ → List Uop
+inner_list span [] pc = []
+inner_list span (x ∷ xs) pc = inner_code span x pc
+    ++ inner_list span xs (pc + length (inner_code span x pc))
 
 -- an outer loop
 abbrev pub nest_code : (ℕ → List Uop) → ℕ → List Uop
@@ -363,7 +370,7 @@ abbrev pub step_code : StepOf Part → ℕ → List Uop
 step_code (Single p) pc = if is_fixed p.block then body_uops p else outside ++ once_code p
 step_code (Along p) pc = outside ++ loop_code All p (pc + 1 + 1)
 step_code (Nest span []) pc = []
-step_code (Nest span (x ∷ xs)) pc = span_code span (inner_list (x ∷ xs)) pc
+step_code (Nest span (x ∷ xs)) pc = span_code span (inner_list span (x ∷ xs)) pc
 step_code (Pairs p) pc = pairs_code p pc
 step_code (Alternate []) pc = []
 step_code (Alternate (t ∷ ts)) pc = cycle_code (t ∷ ts) pc

@@ -8,12 +8,12 @@ ghost use Rattle.loop_ir.specs.Costs.{level_cost};
 ghost use Rattle.uprog_gen.specs.Code.{begin_code, finish_code, whole_code};
 ghost use Rattle.uprog_gen.specs.Made.{part_of};
 ghost use Rattle.uprog_gen.specs.Parts.{IsPart};
-ghost use Rattle.uprog_gen.specs.Emits.{OnceOf, AreSingles, EmitsInner};
+ghost use Rattle.uprog_gen.specs.Emits.{OnceOf, NoneOf, AreSingles, EmitsInner};
 
 use crate::emit::{push_leave, push_level, push_once, push_pairing, push_skip};
 use crate::part::{Made, make_part};
 use faults::keep;
-use loop_ir::{Body, Level};
+use loop_ir::{Body, Level, Span};
 use mig_graph::NoMemory;
 use std::alloc::Global;
 use uprog_code::Uop;
@@ -48,12 +48,26 @@ fn once_of(body: &Body, alloc: Global) -> Result<Vec<Uop>, NoMemory>
     Ok(code)
 }
 
-fn singles_of(level: &Level, alloc: Global) -> Result<Singles, NoMemory>
+/// The code of what is done at a level without elements. At the first outer position there always
+/// is one, and nothing is done.
+fn none_of(body: &Body, span: Span, alloc: Global) -> Result<Vec<Uop>, NoMemory>
+    requires { IsSmall (block_of body.now) }
+    ensures { IfOk result (λ code. NoneOf span (block_of body.now) code.items) }
+{
+    let mut code = once_of(body, alloc)?;
+    match span {
+        Span::First => code.clear(),
+        Span::Full | Span::Above => (),
+    }
+    Ok(code)
+}
+
+fn singles_of(level: &Level, span: Span, alloc: Global) -> Result<Singles, NoMemory>
     requires { AllLevel IsSmall (level_of level.now) }
-    ensures { IfOk result (λ singles. AreSingles (level_of level.now) singles) }
+    ensures { IfOk result (λ singles. AreSingles span (level_of level.now) singles) }
 {
     Ok(Singles {
-        none: once_of(&level.none, alloc)?,
+        none: none_of(&level.none, span, alloc)?,
         odd: once_of(&level.odd, alloc)?,
         even: once_of(&level.even, alloc)?,
         end: once_of(&level.end, alloc)?,
@@ -147,14 +161,19 @@ fn push_whole(
     Ok(())
 }
 
-/// A level of a count.
-pub fn emit_level(level: &Level, code: &mut Vec<Uop>, alloc: Global) -> Result<(), NoMemory>
+/// A level of a count, at these outer positions.
+pub fn emit_level(
+    level: &Level,
+    span: Span,
+    code: &mut Vec<Uop>,
+    alloc: Global,
+) -> Result<(), NoMemory>
     requires small { AllLevel IsSmall (level_of level.now) }
     requires room { length code.old.items + level_cost (level_of level.now) + 32 < 2 ^ 16 }
-    ensures { OnOk result (EmitsInner (AtLevel (level_of level.now) ∷ []) code.old.items
+    ensures { OnOk result (EmitsInner span (AtLevel (level_of level.now) ∷ []) code.old.items
         code.new.items) }
 {
-    let singles = singles_of(level, alloc)?;
+    let singles = singles_of(level, span, alloc)?;
     let first = make_part(&level.first, alloc)?;
     let second = make_part(&level.second, alloc)?;
     push_whole(code, level, &singles, &first, &second)?;

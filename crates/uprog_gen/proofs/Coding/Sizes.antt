@@ -6,6 +6,7 @@ use Rattle.std.proofs.lemmas.List.{length-map}
 use Rattle.std.proofs.lemmas.List.Sums.{sum_by-cons}
 use Rattle.uprog_code.specs.declared.code.Uop.{Uop}
 use Rattle.uprog_code.specs.declared.code.Uop.TheVariants.{SubI, AddI, Bnez}
+use Rattle.loop_ir.specs.declared.ir.Span.{Span}
 use Rattle.loop_ir.specs.declared.ir.Span.TheVariants.{Full, First, Above}
 use Rattle.loop_ir.specs.declared.ir.Sub.{Sub}
 use Rattle.loop_ir.specs.declared.ir.Sub.TheVariants.{Zero, Top, Inner as At_inner, InnerDown}
@@ -22,7 +23,7 @@ use Rattle.uprog_gen.specs.declared.plan.Plan.{Plan}
 use Rattle.uprog_gen.specs.Code.{Part, block_of_part, blocks, code_uop, init, before, after, inits}
 use Rattle.uprog_gen.specs.Code.{befores, afters, counter, body_uops, once_code, turn_code}
 use Rattle.uprog_gen.specs.Code.{leave_code, pair_plan, pair_uops, pairing_code, begin_code}
-use Rattle.uprog_gen.specs.Code.{finish_code, whole_code}
+use Rattle.uprog_gen.specs.Code.{finish_code, whole_code, none_code}
 use Rattle.uprog_gen.specs.Code.{enter_code, loop_code, inner_list, outside, step_code}
 use Rattle.uprog_gen.specs.Code.{turn_plan, turn_uops, either_code, either_size, turns_list}
 use Rattle.uprog_gen.specs.Code.{cycle_code}
@@ -184,45 +185,51 @@ whole_long none odd even p q last pc =
       finish_long p q last at,
     )
 
-pub inner_few : (xs : List (InnerOf Part)) (pc : ℕ) → AllInner IsPart xs
-    → length (inner_list xs pc) + 5 * length xs
+none_few : (span : Span) (p : Part) → IsPart p
+    → length (none_code span p) ≤ body_cost p.block + 6
+none_few Full p is = once_few p is
+none_few First p is = omega arith
+none_few Above p is = once_few p is
+
+pub inner_few : (span : Span) (xs : List (InnerOf Part)) (pc : ℕ) → AllInner IsPart xs
+    → length (inner_list span xs pc) + 5 * length xs
     ≤ sum_by inner_cost (map (inner_map block_of_part) xs)
-inner_few [] pc h = omega arith
-inner_few (Alone p ∷ xs) pc h =
+inner_few span [] pc h = omega arith
+inner_few span (Alone p ∷ xs) pc h =
     omega (
       arith,
-      length-append (once_code p) (inner_list xs (pc + length (once_code p))),
+      length-append (once_code p) (inner_list span xs (pc + length (once_code p))),
       once_few p h.0,
-      inner_few xs (pc + length (once_code p)) h.1,
+      inner_few span xs (pc + length (once_code p)) h.1,
       sum_by-cons inner_cost (Alone p.block) (map (inner_map block_of_part) xs),
     )
-inner_few (Across count p ∷ xs) pc h =
+inner_few span (Across count p ∷ xs) pc h =
     let a = loop_code count p pc in
     omega (
       arith,
-      length-append a (inner_list xs (pc + length a)),
+      length-append a (inner_list span xs (pc + length a)),
       loop_few count p pc h.0,
-      inner_few xs (pc + length a) h.1,
+      inner_few span xs (pc + length a) h.1,
       sum_by-cons inner_cost (Across count p.block)
           (map (inner_map block_of_part) xs),
     )
-inner_few (AtLevel l ∷ xs) pc h =
-    let none = once_code l.none in
+inner_few span (AtLevel l ∷ xs) pc h =
+    let none = none_code span l.none in
     let odd = once_code l.odd in
     let even = once_code l.even in
     let last = once_code l.end in
     let a = whole_code none odd even l.first l.second last pc in
     omega (
       arith,
-      length-append a (inner_list xs (pc + length a)),
+      length-append a (inner_list span xs (pc + length a)),
       whole_long none odd even l.first l.second last pc,
-      once_few l.none h.0.none,
+      none_few span l.none h.0.none,
       once_few l.odd h.0.odd,
       once_few l.even h.0.even,
       h.0.first.short,
       h.0.second.short,
       once_few l.end h.0.end,
-      inner_few xs (pc + length a) h.1,
+      inner_few span xs (pc + length a) h.1,
       sum_by-cons inner_cost (AtLevel (level_map block_of_part l))
           (map (inner_map block_of_part) xs),
     )
@@ -287,16 +294,16 @@ step_few (Nest Full (x ∷ xs)) pc h =
     let q = pc + 1 + 1 + 1 in
     omega (
       arith,
-      length-append (inner_list (x ∷ xs) q) (AddI 0 1 ∷ Bnez 1 (pc + 1 + 1) ∷ []),
-      inner_few (x ∷ xs) q h,
+      length-append (inner_list Full (x ∷ xs) q) (AddI 0 1 ∷ Bnez 1 (pc + 1 + 1) ∷ []),
+      inner_few Full (x ∷ xs) q h,
     )
-step_few (Nest First (x ∷ xs)) pc h = omega (arith, inner_few (x ∷ xs) (pc + 1 + 1) h)
+step_few (Nest First (x ∷ xs)) pc h = omega (arith, inner_few First (x ∷ xs) (pc + 1 + 1) h)
 step_few (Nest Above (x ∷ xs)) pc h =
     let q = pc + 1 + 1 + 1 + 1 + 1 in
     omega (
       arith,
-      length-append (inner_list (x ∷ xs) q) (AddI 0 1 ∷ Bnez 1 (pc + 1 + 1 + 1 + 1) ∷ []),
-      inner_few (x ∷ xs) q h,
+      length-append (inner_list Above (x ∷ xs) q) (AddI 0 1 ∷ Bnez 1 (pc + 1 + 1 + 1 + 1) ∷ []),
+      inner_few Above (x ∷ xs) q h,
     )
 step_few (Pairs p) pc h = omega (arith, loop_few Rest p (pc + 1 + 1 + 1 + 1 + 1) h)
 step_few (Alternate []) pc h = omega arith

@@ -10,12 +10,13 @@ use Rattle.uprog_code.specs.Machine.{Issue, Ended, issue, act_at, onto, trace, s
 use Rattle.uprog_code.specs.declared.code.Uop.{Uop}
 use Rattle.uprog_code.specs.declared.code.Uop.TheVariants.{Done, SetI, SetT, Mov, AddI, Bnez}
 use Rattle.uprog_code.specs.Shape.{Shape}
+use Rattle.loop_ir.specs.declared.ir.Span.{Span}
 use Rattle.loop_ir.specs.declared.ir.Span.TheVariants.{Full, First, Above}
 use Rattle.loop_ir.specs.Loops.{rounds, RoundOf, round_at, one_round, positions, inner_rounds}
 use Rattle.loop_ir.specs.Loops.{elements, two_rounds, filled_rounds, level_rounds, first_outer}
 use Rattle.loop_ir.specs.Loops.{outer_count, step_rounds}
 use Rattle.loop_ir.specs.Loops.{all_rounds}
-use Rattle.loop_laws.proofs.Levels.{pairs_of, room_for_level}
+use Rattle.loop_laws.proofs.Levels.{all_elements, pairs_of, room_for_level}
 use Rattle.uprog_gen.proofs.Running.Goes.{HasAt, has_front, has_back, has_all, Goes}
 use Rattle.loop_ir.specs.declared.ir.Sub.TheVariants.{Zero, Outer, OuterDown, SumTwice}
 use Rattle.loop_ir.specs.declared.ir.Sub.TheVariants.{AboveSumTwice, AboveSum}
@@ -30,7 +31,8 @@ use Rattle.loop_ir.specs.Spots.{nth_place}
 use Rattle.uprog_gen.specs.Code.{Part, IsPlanned, inits, befores, enter_code, turn_code, body_uops}
 use Rattle.uprog_gen.specs.Code.{is_planned, level_code, leave_code, skip_code, pair_plan}
 use Rattle.uprog_gen.specs.Code.{pair_uops, pairing_code, begin_code, finish_code, whole_code}
-use Rattle.uprog_gen.specs.Code.{once_code, loop_code, inner_code, inner_list, nest_code, outside}
+use Rattle.uprog_gen.specs.Code.{once_code, loop_code, none_code, inner_code, inner_list}
+use Rattle.uprog_gen.specs.Code.{nest_code, outside}
 use Rattle.uprog_gen.specs.Code.{block_of_part, blocks, guard_code, above_code, pairs_code}
 use Rattle.uprog_gen.specs.Code.{cycle_code, step_code}
 use Rattle.uprog_gen.specs.Code.{program_code}
@@ -426,12 +428,29 @@ module _ (head : Shape) (code : List Uop) (n : ℕ) (some : 0 < n) (small : n �
           (has_back code (pc + 4) Pairing Last finish_pairing)
           (back_all (IsGood head n) Pair_rounds (one_round last 0 o) ok).0))))
 
+  -- a nest at the first outer position has no other
+  abbrev IsAmong : Span → ℕ → Type 0
+  IsAmong Full o = Unit {0}
+  IsAmong First o = o ≡ 0
+  IsAmong Above o = Unit {0}
+
+  -- what alone is done without elements, of which there are some at the first outer position
+  none_beside : (span : Span) (p : Part) (pc o six : ℕ) (regs : List ℕ) → IsAmong span o
+      → elements n o ≡ 0 → o < n → Beside six (IsOuter n o) regs → HasAt code pc (none_code span p)
+      → IsGood head n (round_at p 0 o)
+      → Runs head code n pc regs (length (none_code span p)) (rounds_commands n (one_round p 0 o))
+      (pc + length (none_code span p)) (Beside six (IsOuter n o))
+  none_beside Full p pc o six regs at none lo g has ok = once_beside p pc o six regs lo g has ok
+  none_beside First p pc o six regs at none lo g has ok =
+      absurd (omega (arith, none, ap (elements n) at, all_elements n, some))
+  none_beside Above p pc o six regs at none lo g has ok = once_beside p pc o six regs lo g has ok
+
   -- a level, with elements or without
-  module _ (l : LevelOf Part) (pc o : ℕ) (lo : o < n) (sp : stays_in_pair l.first.block ≡ true)
-      (sq : stays_in_pair l.second.block ≡ true) (has : HasAt code pc (inner_code (AtLevel l) pc))
-    where
+  module _ (span : Span) (l : LevelOf Part) (pc o : ℕ) (at : IsAmong span o) (lo : o < n)
+      (sp : stays_in_pair l.first.block ≡ true) (sq : stays_in_pair l.second.block ≡ true)
+      (has : HasAt code pc (inner_code span (AtLevel l) pc)) where
       abbrev None_code : List Uop
-      None_code = once_code l.none
+      None_code = none_code span l.none
 
       abbrev Odd_code : List Uop
       Odd_code = once_code l.odd
@@ -555,7 +574,7 @@ module _ (head : Shape) (code : List Uop) (n : ℕ) (some : 0 < n) (small : n �
           (IsOuter n o)) (append-nil cs)
           (run_then head code n (pc + 18) (pc + 18 + length None_code) Level_end (length None_code) 2
           (length None_code + 2) x cs [] Begun (IsOuter n o) refl
-          (once_beside l.none (pc + 18) o (elements n (o + 1)) x lo h.0
+          (none_beside span l.none (pc + 18) o (elements n (o + 1)) x at none lo h.0
           (has_front code (pc + 18) None_code (leave_code Level_end ++ From_odd) level_none) ok)
           (λ y k. run_weaken head code n (pc + 18 + length None_code) Level_end y 2 [] Begun (IsOuter n o)
           (λ z j. j.0)
@@ -666,7 +685,7 @@ module _ (head : Shape) (code : List Uop) (n : ℕ) (some : 0 < n) (small : n �
               (3 + length Odd_code + length Even_code) (rounds_commands n (one_round l.odd 0 o)) Begun
               (omega arith) (run_odd regs g odd ok.0)) ok.1
 
-      level_long : length (inner_code (AtLevel l) pc) ≡ 26 + length None_code + length Odd_code
+      level_long : length (inner_code span (AtLevel l) pc) ≡ 26 + length None_code + length Odd_code
           + length Even_code + length Pairing_code + length End_code
       level_long = omega (
         arith,
@@ -677,13 +696,13 @@ module _ (head : Shape) (code : List Uop) (n : ℕ) (some : 0 < n) (small : n �
 
       run_of_level : (regs : List ℕ) → IsOuter n o regs
           → AllByRecursion (IsGood head n) (level_rounds n o l)
-          → Runs head code n pc regs (n * length (inner_code (AtLevel l) pc))
-          (rounds_commands n (level_rounds n o l)) (pc + length (inner_code (AtLevel l) pc))
+          → Runs head code n pc regs (n * length (inner_code span (AtLevel l) pc))
+          (rounds_commands n (level_rounds n o l)) (pc + length (inner_code span (AtLevel l) pc))
           (IsOuter n o)
       run_of_level regs g ok = by (elements n o == 0) refl ok
         where
           long : ℕ
-          long = length (inner_code (AtLevel l) pc)
+          long = length (inner_code span (AtLevel l) pc)
 
           at_end : Level_end ≡ pc + long
           at_end = omega (arith, level_long, length-append Pairing_code End_code)
@@ -727,25 +746,25 @@ module _ (head : Shape) (code : List Uop) (n : ℕ) (some : 0 < n) (small : n �
               (grows (length Even_code)) (grows (length End_code)) level_long)
               (λ x h. run_with x h (omega (arith, ne)) ok)
 
-  run_inner : (x : InnerOf Part) (pc o : ℕ) (regs : List ℕ) → o < n → IsOuter n o regs
+  run_inner : (span : Span) (x : InnerOf Part) (pc o : ℕ) (regs : List ℕ) → IsAmong span o → o < n → IsOuter n o regs
       → inner_stands (inner_map block_of_part x) ≡ true
-      → HasAt code pc (inner_code x pc) → AllByRecursion (IsGood head n) (inner_rounds n o (x ∷ []))
-      → Runs head code n pc regs (n * length (inner_code x pc))
-      (rounds_commands n (inner_rounds n o (x ∷ []))) (pc + length (inner_code x pc)) (IsOuter n o)
-  run_inner (Alone p) pc o regs lo g stand has ok =
+      → HasAt code pc (inner_code span x pc) → AllByRecursion (IsGood head n) (inner_rounds n o (x ∷ []))
+      → Runs head code n pc regs (n * length (inner_code span x pc))
+      (rounds_commands n (inner_rounds n o (x ∷ []))) (pc + length (inner_code span x pc)) (IsOuter n o)
+  run_inner span (Alone p) pc o regs at lo g stand has ok =
       run_more head code n pc _ regs (length (once_code p)) (n * length (once_code p)) _ (IsOuter n o)
       (grow n (length (once_code p)) some) (run_once p pc o regs lo g has ok.0)
     where
       grow : (n x : ℕ) → 0 < n → x ≤ n * x
       grow n x h = grind arith
-  run_inner (Across count p) pc o regs lo g stand has ok =
+  run_inner span (Across count p) pc o regs at lo g stand has ok =
       let rs = rounds (λ i. one_round p i o) 0 (positions n o count) in
       subst (λ l. Runs head code n pc regs (n * length (loop_code count p pc)) (rounds_commands n l)
       (pc + length (loop_code count p pc)) (IsOuter n o)) (sym (append-nil rs))
       (run_loop_of count p pc o regs lo g has (front_all (IsGood head n) rs [] ok))
-  run_inner (AtLevel l) pc o regs lo g stand has ok =
+  run_inner span (AtLevel l) pc o regs at lo g stand has ok =
       let rs = level_rounds n o l in
-      let long = length (inner_code (AtLevel l) pc) in
+      let long = length (inner_code span (AtLevel l) pc) in
       let last = all_stand false true l.end.block in
       let pair = stays_in_pair l.first.block && (stays_in_pair l.second.block && last) in
       let odd = and_parts (all_stand false true l.none.block)
@@ -758,23 +777,23 @@ module _ (head : Shape) (code : List Uop) (n : ℕ) (some : 0 < n) (small : n �
       let second = and_parts (stays_in_pair l.second.block) last first.1 in
       subst (λ c. Runs head code n pc regs (n * long) (rounds_commands n c) (pc + long)
       (IsOuter n o)) (sym (append-nil rs))
-      (run_of_level l pc o lo first.0 second.0 has regs g (front_all (IsGood head n) rs [] ok))
+      (run_of_level span l pc o at lo first.0 second.0 has regs g (front_all (IsGood head n) rs [] ok))
 
-  run_inners : (xs : List (InnerOf Part)) (pc o : ℕ) (regs : List ℕ) → o < n → IsOuter n o regs
+  run_inners : (span : Span) (xs : List (InnerOf Part)) (pc o : ℕ) (regs : List ℕ) → IsAmong span o → o < n → IsOuter n o regs
       → list_all inner_stands (map (inner_map block_of_part) xs) ≡ true
-      → HasAt code pc (inner_list xs pc) → AllByRecursion (IsGood head n) (inner_rounds n o xs)
-      → Runs head code n pc regs (n * length (inner_list xs pc))
-      (rounds_commands n (inner_rounds n o xs)) (pc + length (inner_list xs pc)) (IsOuter n o)
-  run_inners [] pc o regs lo g stand has ok = run_more head code n pc (pc + 0) regs 0 (n * 0) [] (IsOuter n o)
+      → HasAt code pc (inner_list span xs pc) → AllByRecursion (IsGood head n) (inner_rounds n o xs)
+      → Runs head code n pc regs (n * length (inner_list span xs pc))
+      (rounds_commands n (inner_rounds n o xs)) (pc + length (inner_list span xs pc)) (IsOuter n o)
+  run_inners span [] pc o regs at lo g stand has ok = run_more head code n pc (pc + 0) regs 0 (n * 0) [] (IsOuter n o)
       (omega arith) (run_none head code n pc (pc + 0) regs (IsOuter n o) (omega arith) g)
-  run_inners (x ∷ xs) pc o regs lo g stand has ok =
-      let a = inner_code x pc in
-      let b = inner_list xs (pc + length a) in
+  run_inners span (x ∷ xs) pc o regs at lo g stand has ok =
+      let a = inner_code span x pc in
+      let b = inner_list span xs (pc + length a) in
       let rs = inner_rounds n o (x ∷ []) in
       let e = split x xs in
       let ok' = subst (AllByRecursion (IsGood head n)) e ok in
       let stands = and_parts (inner_stands (inner_map block_of_part x)) _ stand in
-      let p = run_inner x pc o regs lo g stands.0 (has_front code pc a b has)
+      let p = run_inner span x pc o regs at lo g stands.0 (has_front code pc a b has)
       (front_all (IsGood head n) rs (inner_rounds n o xs) ok') in
       let len = length-append a b in
       let at_end : pc + length a + length b ≡ pc + length (a ++ b) = omega (arith, len) in
@@ -787,7 +806,7 @@ module _ (head : Shape) (code : List Uop) (n : ℕ) (some : 0 < n) (small : n �
       * length b) (n * length (a ++ b)) regs (rounds_commands n rs)
       (rounds_commands n (inner_rounds n o xs)) (IsOuter n o) (IsOuter n o)
       (add_up n (length a) (length b) (length (a ++ b)) len) p
-      (λ r h. run_inners xs (pc + length a) o r lo h stands.1 (has_back code pc a b has)
+      (λ r h. run_inners span xs (pc + length a) o r at lo h stands.1 (has_back code pc a b has)
       (back_all (IsGood head n) rs (inner_rounds n o xs) ok'))))
     where
       add_up : (n x y z : ℕ) → z ≡ x + y → n * x + n * y ≡ n * z
@@ -971,14 +990,14 @@ module _ (head : Shape) (code : List Uop) (n : ℕ) (some : 0 < n) (small : n �
   -- the parts of a nest at the first outer position alone
   run_first : (xs : List (InnerOf Part)) (pc : ℕ) (regs : List ℕ) → length regs ≡ 8
       → list_all inner_stands (map (inner_map block_of_part) xs) ≡ true
-      → HasAt code pc (outside ++ inner_list xs (pc + 1 + 1))
+      → HasAt code pc (outside ++ inner_list First xs (pc + 1 + 1))
       → AllByRecursion (IsGood head n) (inner_rounds n 0 xs ++ [])
-      → Runs head code n pc regs (most_turns * length (outside ++ inner_list xs (pc + 1 + 1)))
+      → Runs head code n pc regs (most_turns * length (outside ++ inner_list First xs (pc + 1 + 1)))
       (rounds_commands n (inner_rounds n 0 xs ++ []))
-      (pc + length (outside ++ inner_list xs (pc + 1 + 1))) Eight
+      (pc + length (outside ++ inner_list First xs (pc + 1 + 1))) Eight
   run_first xs pc regs size stand has ok =
       let q = pc + 1 + 1 in
-      let a = inner_list xs q in
+      let a = inner_list First xs q in
       let rs = inner_rounds n 0 xs in
       let at_end : q + length a ≡ pc + suc (suc (length a)) = omega arith in
       subst (λ l. Runs head code n pc regs (most_turns * suc (suc (length a)))
@@ -991,19 +1010,19 @@ module _ (head : Shape) (code : List Uop) (n : ℕ) (some : 0 < n) (small : n �
       (rounds_commands n rs) (IsOuter n 0) Eight refl (run_zero pc regs size has.0 has.1.0)
       (λ r h. run_weaken head code n q (q + length a) r (n * length a) (rounds_commands n rs)
       (IsOuter n 0) Eight (λ x y. y.size)
-      (run_inners xs q 0 r some h stand has.1.1 (front_all (IsGood head n) rs [] ok))))))
+      (run_inners First xs q 0 r refl some h stand has.1.1 (front_all (IsGood head n) rs [] ok))))))
     where
       grow : (x : ℕ) → n ≤ WIDTH_MAX → 2 + n * x ≤ most_turns * suc (suc x)
       grow x h = let k : n * x ≤ WIDTH_MAX * x = mul-le-mul_right x h in omega (arith, k)
 
   -- the parts of a nest from the second outer position on
   module _ (xs : List (InnerOf Part)) (pc : ℕ) (regs : List ℕ) (size : length regs ≡ 8)
-      (has : HasAt code pc (above_code (inner_list xs) pc))
+      (has : HasAt code pc (above_code (inner_list Above xs) pc))
       (stand : list_all inner_stands (map (inner_map block_of_part) xs) ≡ true)
       (ok : AllByRecursion (IsGood head n) (rounds (λ o. inner_rounds n o xs) 1 (n - 1)))
-      (short : length (above_code (inner_list xs) pc) ≤ 4096) where
+      (short : length (above_code (inner_list Above xs) pc) ≤ 4096) where
     abbrev Inners : List Uop
-    Inners = inner_list xs (pc + 1 + 1 + 1 + 1 + 1)
+    Inners = inner_list Above xs (pc + 1 + 1 + 1 + 1 + 1)
 
     abbrev Turns : List (RoundOf Part)
     Turns = rounds (λ o. inner_rounds n o xs) 1 (n - 1)
@@ -1030,11 +1049,11 @@ module _ (head : Shape) (code : List Uop) (n : ℕ) (some : 0 < n) (small : n �
         (λ r h. subst (λ q. Runs head code n l r (q * (k + 3)) (rounds cs 1 q) End Eight) up
         (run_from head code n l k 1 (n - 2) Inners r cs small (omega (arith, two))
         (record { size = h.0; outer = h.1; left = h.2 }) has.1.1.1.1
-        (λ o x le lo g ha. run_inners xs (l + 1) o x lo g stand ha
+        (λ o x le lo g ha. run_inners Above xs (l + 1) o x tt lo g stand ha
         (each_all (IsGood head n) f 1 (n - 1) o le (omega (arith, lo)) ok)))))
 
-    run_above : Runs head code n pc regs (most_turns * length (above_code (inner_list xs) pc))
-        (rounds_commands n Turns) (pc + length (above_code (inner_list xs) pc)) Eight
+    run_above : Runs head code n pc regs (most_turns * length (above_code (inner_list Above xs) pc))
+        (rounds_commands n Turns) (pc + length (above_code (inner_list Above xs) pc)) Eight
     run_above = ⊎_elim
         (λ (one : n ≡ 1). let none : n - 1 ≡ 0 = omega (arith, one) in
         subst (λ k. Runs head code n pc regs (most_turns * long) (rounds_commands n
@@ -1052,7 +1071,7 @@ module _ (head : Shape) (code : List Uop) (n : ℕ) (some : 0 < n) (small : n �
         (cases_eq n 1)
       where
         long : ℕ
-        long = length (above_code (inner_list xs) pc)
+        long = length (above_code (inner_list Above xs) pc)
 
         sized : long ≡ length Inners + 7
         sized = omega (arith, length-append Inners Back)
@@ -1106,7 +1125,7 @@ module _ (head : Shape) (code : List Uop) (n : ℕ) (some : 0 < n) (small : n �
       run_above (x ∷ xs) pc regs size has stand ok short
   run_step (Nest Full (x ∷ xs)) pc regs size short stand has ok =
       let parts = x ∷ xs in
-      let inner = inner_list parts in
+      let inner = inner_list Full parts in
       let q = pc + 1 + 1 + 1 in
       let k = n * length (inner q) in
       let f = λ (o : ℕ). inner_rounds n o parts in
@@ -1117,7 +1136,7 @@ module _ (head : Shape) (code : List Uop) (n : ℕ) (some : 0 < n) (small : n �
       (run_more head code n pc _ regs (2 + n * (k + 3)) _ _ Eight
       (grow n (length (inner q)) (length (nest_code inner pc)) small size_is short)
       (run_nest head code n inner pc k regs (λ o. rounds_commands n (f o)) some small size has
-      (λ o r lo g ha. run_inners parts q o r lo g stand ha
+      (λ o r lo g ha. run_inners Full parts q o r tt lo g stand ha
       (each_all (IsGood head n) f 0 n o (omega arith) (omega arith) ok))))
     where
       grow : (n x size : ℕ) → n ≤ WIDTH_MAX → size ≡ x + 5 → size ≤ 4096
