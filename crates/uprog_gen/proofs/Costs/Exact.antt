@@ -116,13 +116,13 @@ count_aaps (suc k) some =
     omega (arith, h, a, g)
 
 -- and none of them an AP
-same_zero : (z : Bool) → cond z 0 0 ≡ 0
-same_zero true = refl
-same_zero false = refl
+zero_either : (z : Bool) (x : ℕ) → x ≡ 0 → cond z 0 x ≡ 0
+zero_either true x e = refl
+zero_either false x e = e
 
-nothing : (z y : Bool) (h : ℕ) → cond z 0 (cond y 0 0 + (h * 0 + 0)) ≡ 0
-nothing z y h = let e = same_zero y in
-    let f : cond y 0 0 + (h * 0 + 0) ≡ 0 = omega (arith, e) in ap (cond z 0) f ∙ same_zero z
+nothing : (z y : Bool) (h : ℕ) → cond z 0 (cond {A = ℕ} y 0 0 + (h * 0 + 0)) ≡ 0
+nothing z y h = let e = zero_either y 0 refl in
+    zero_either z (cond {A = ℕ} y 0 0 + (h * 0 + 0)) (omega (arith, e))
 
 no_ap : (n o : ℕ) → level_sum turn_aps n o lowest ≡ 0
 no_ap n o = nothing (elements n o == 0) (elements n o % 2 == 0) (elements n (o + 1))
