@@ -254,8 +254,8 @@ abbrev pub pairing_code : Part → Part → ℕ → List Uop
 pairing_code p q pc = inits pair_plan ++ (turn_code pair_plan (pair_uops p ++ pair_uops q)
     ++ (Bnez 2 (pc + length (inits pair_plan)) ∷ []))
 
--- how a level begins, where these are the codes of what is done without elements and with an odd or
--- an even number of them: the first of these leads to the level's end, the second past the third
+-- how a level begins, where these are the codes of what is done without elements, with an odd
+-- number of them and with an even one: the first leads to the level's end, the second past the third
 abbrev pub begin_code : List Uop → List Uop → List Uop → ℕ → ℕ → List Uop
 begin_code none odd even pc end =
     let odd_at = pc + 4 + length none in

@@ -25,15 +25,15 @@ pub record NoneOf (span : Span) (b : Block) (code : List Uop) : Type 0 where
   pub right : IsPart (part_of b made)
   pub is : code ≡ none_code span (part_of b made)
 
--- so it is with the bodies of a level that stand in no loop
+-- the codes of those bodies of a level that stand in no loop
 pub record AreSingles (span : Span) (l : LevelOf Block) (s : Singles) : Type 0 where
   pub none : NoneOf span l.none s.none.items
   pub odd : OnceOf l.odd s.odd.items
   pub even : OnceOf l.even s.even.items
   pub end : OnceOf l.end s.end.items
 
--- the code of these inner steps, at these outer positions, came to the old code, with right commands
--- for each body
+-- the code of these inner steps, at these outer positions, came to the old code, with right
+-- commands for each body
 pub record EmitsInner (span : Span) (xs : List (InnerOf Block)) (old new : List Uop) : Type 0 where
   pub coded : List (InnerOf Part)
   pub same : map (inner_map block_of_part) coded ≡ xs

@@ -1,6 +1,6 @@
 //! The code of a level of a count.
 
-ghost use Rattle.std.specs.Prelude.{◌≡◌, ◌<◌, ◌≤◌, ◌+◌, ◌^◌, ◌++◌, ◌∷◌, [], length, IfOk, OnOk};
+ghost use Rattle.std.specs.Prelude.{◌≡◌, ◌<◌, ◌+◌, ◌^◌, ◌++◌, ◌∷◌, [], length, IfOk, OnOk};
 ghost use Rattle.loop_ir.specs.Plain.{block_of, level_of, AllLevel};
 ghost use Rattle.loop_ir.specs.Plain.InnerOf.{AtLevel};
 ghost use Rattle.loop_ir.specs.Limits.{IsSmall};

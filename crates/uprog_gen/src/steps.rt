@@ -23,12 +23,7 @@ use std::alloc::Global;
 use uprog_code::Uop;
 
 /// One step of a nest.
-fn emit_inner(
-    inner: &Inner,
-    span: Span,
-    code: &mut Vec<Uop>,
-    alloc: Global,
-) -> Result<(), NoMemory>
+fn emit_inner(inner: &Inner, span: Span, code: &mut Vec<Uop>, alloc: Global) -> Result<(), NoMemory>
     requires small { AllInner IsSmall (inner_of inner.now ∷ []) }
     requires room { length code.old.items + inner_cost (inner_of inner.now) + 32 < 2 ^ 16 }
     ensures { OnOk result (EmitsInner span (inner_of inner.now ∷ []) code.old.items

@@ -1,7 +1,7 @@
 -- Code that comes after code.
 use Rattle.std.proofs.Common.{◌≡◌, ℕ, zero, suc, ◌+◌, ◌<◌, ◌≤◌, true, false, cond, List, [], ◌∷◌}
 use Rattle.std.proofs.Common.{◌++◌, map, length, refl, sym, ap, ◌∙◌, subst, arith, append-nil}
-use Rattle.std.proofs.Common.{append_assoc, length-append}
+use Rattle.std.proofs.Common.{append_assoc, length-append, ◌⊎◌, ⊎_elim}
 use Rattle.std.specs.Prelude.{slice_index_or, sum_by, take, set}
 use Rattle.std.proofs.Math.Seq.{set-append_seam}
 use Rattle.std.proofs.lemmas.List.{map-append, map_more}
@@ -22,7 +22,7 @@ use Rattle.loop_ir.specs.Plain.{AllInner, AllTurns, AllStep, AllParts}
 use Rattle.loop_ir.specs.Plain.InnerOf.{Alone, Across, AtLevel}
 use Rattle.loop_ir.specs.Plain.StepOf.{Single, Along, Nest, Pairs, Alternate}
 use Rattle.uprog_gen.specs.Code.{Part, block_of_part, blocks, body_uops, once_code, loop_code}
-use Rattle.uprog_gen.specs.Code.{counter, halve_code, level_code, leave_code, skip_code}
+use Rattle.uprog_gen.specs.Code.{counter, halve_code, level_code, skip_code}
 use Rattle.uprog_gen.specs.Code.{pairing_code, begin_code, finish_code, whole_code}
 use Rattle.uprog_gen.specs.Code.{none_code, inner_code, inner_list, outside, guard_code, pairs_code, span_code}
 use Rattle.uprog_gen.specs.Code.{turn_uops, either_code, either_size, turns_list, start_code}
@@ -35,7 +35,7 @@ use Rattle.uprog_gen.specs.Made.{part_of}
 use Rattle.uprog_gen.specs.Parts.{IsPart}
 use Rattle.uprog_gen.proofs.Coding.Sizes.{pairing_long, begin_long, finish_long, inner_few}
 use Rattle.uprog_gen.proofs.Coding.Sizes.{either_long, turns_few, program_few}
-use Rattle.uprog_gen.specs.Emits.{AreSingles, EmitsInner, EmitsTurns, EmitsSteps}
+use Rattle.uprog_gen.specs.Emits.{OnceOf, NoneOf, AreSingles, EmitsInner, EmitsTurns, EmitsSteps}
 
 -- what holds of all holds of one
 pub inner_at : (P : Block → Type 0) (xs : List Inner) (k : ℕ) (x : Inner)
@@ -162,6 +162,26 @@ across_emits span count p old new is e = record {
       ++ l) (sym (append-nil (loop_code count p (length old))));
 }
 
+-- what alone is done at a level without elements
+pub none_first : (b : Block) (span : Span) (old new : List Uop) → OnceOf b old → span ≡ First
+    → new ≡ [] → NoneOf span b new
+none_first b span old new a first none = record {
+  made = a.made;
+  right = a.right;
+  is = none ∙ ap (λ s. none_code s (part_of b a.made)) (sym first);
+}
+
+pub none_later : (b : Block) (span : Span) (code : List Uop) → OnceOf b code
+    → (span ≡ Full) ⊎ (span ≡ Above) → NoneOf span b code
+none_later b span code a later = record {
+  made = a.made;
+  right = a.right;
+  is = a.is ∙ ⊎_elim
+      (λ (e : span ≡ Full). ap (λ s. none_code s (part_of b a.made)) (sym e))
+      (λ (e : span ≡ Above). ap (λ s. none_code s (part_of b a.made)) (sym e)) later;
+}
+
+-- a level
 pub level_emits : (span : Span) (l : LevelOf Block) (s : Singles) (first second : Made) (old new : List Uop)
     → AreSingles span l s → IsPart (part_of l.first first) → IsPart (part_of l.second second)
     → new ≡ old ++ whole_code s.none.items s.odd.items s.even.items (part_of l.first first)

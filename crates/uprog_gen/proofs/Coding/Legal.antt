@@ -54,7 +54,7 @@ use Rattle.uprog_gen.specs.Code.{halve_code, level_code, leave_code, skip_code, 
 use Rattle.uprog_gen.specs.Code.{pair_uops, pairing_code, begin_code, finish_code, whole_code}
 use Rattle.uprog_gen.specs.Code.{none_code, step_code, block_of_part, blocks}
 use Rattle.uprog_gen.specs.Code.{program_code}
-use Rattle.uprog_gen.proofs.Coding.Sizes.{begin_long, whole_long, either_long, cycle_long}
+use Rattle.uprog_gen.proofs.Coding.Sizes.{begin_long, either_long, cycle_long}
 use Rattle.loop_ir.specs.Costs.{is_fixed, same_sub, step_bodies}
 use Rattle.loop_ir.specs.Limits.{IsRound}
 use Rattle.uprog_gen.proofs.Rows.Rounds.{block_round}
@@ -358,8 +358,7 @@ module _ (head : Shape) where
         let c = odd_rounds n o l odd a.0 in
         let pairs = rounds (λ i. two_rounds l.first l.second i o) 0 (elements n (o + 1)) in
         let d = apart n pairs (one_round l.end 0 o) c.1 in
-        let two = first_of n (λ i. two_rounds l.first l.second i o) (elements n (o + 1)) pair d.0 in
-        (
+        let two = first_of n (λ i. two_rounds l.first l.second i o) (elements n (o + 1)) pair d.0 in (
           record {
             none = none_fits span l xs h.0.none z;
             odd = fit_part l.odd h.0.odd n 0 o c.0;

@@ -185,7 +185,7 @@ whole_long none odd even p q last pc =
       finish_long p q last at,
     )
 
-none_few : (span : Span) (p : Part) → IsPart p
+pub none_few : (span : Span) (p : Part) → IsPart p
     → length (none_code span p) ≤ body_cost p.block + 6
 none_few Full p is = once_few p is
 none_few First p is = omega arith

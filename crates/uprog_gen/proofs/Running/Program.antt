@@ -30,7 +30,7 @@ use Rattle.loop_ir.specs.Plain.StepOf.{Single, Along, Nest, Pairs, Alternate}
 use Rattle.loop_ir.specs.Spots.{nth_place}
 use Rattle.uprog_gen.specs.Code.{Part, IsPlanned, inits, befores, enter_code, turn_code, body_uops}
 use Rattle.uprog_gen.specs.Code.{is_planned, level_code, leave_code, skip_code, pair_plan}
-use Rattle.uprog_gen.specs.Code.{pair_uops, pairing_code, begin_code, finish_code, whole_code}
+use Rattle.uprog_gen.specs.Code.{pair_uops, pairing_code, begin_code, finish_code}
 use Rattle.uprog_gen.specs.Code.{once_code, loop_code, none_code, inner_code, inner_list}
 use Rattle.uprog_gen.specs.Code.{nest_code, outside}
 use Rattle.uprog_gen.specs.Code.{block_of_part, blocks, guard_code, above_code, pairs_code}
@@ -449,302 +449,305 @@ module _ (head : Shape) (code : List Uop) (n : ℕ) (some : 0 < n) (small : n �
   module _ (span : Span) (l : LevelOf Part) (pc o : ℕ) (at : IsAmong span o) (lo : o < n)
       (sp : stays_in_pair l.first.block ≡ true) (sq : stays_in_pair l.second.block ≡ true)
       (has : HasAt code pc (inner_code span (AtLevel l) pc)) where
-      abbrev None_code : List Uop
-      None_code = none_code span l.none
+    abbrev None_code : List Uop
+    None_code = none_code span l.none
 
-      abbrev Odd_code : List Uop
-      Odd_code = once_code l.odd
+    abbrev Odd_code : List Uop
+    Odd_code = once_code l.odd
 
-      abbrev Even_code : List Uop
-      Even_code = once_code l.even
+    abbrev Even_code : List Uop
+    Even_code = once_code l.even
 
-      abbrev Next : ℕ
-      Next = pc + 22 + length None_code + length Odd_code + length Even_code
+    abbrev Next : ℕ
+    Next = pc + 22 + length None_code + length Odd_code + length Even_code
 
-      abbrev Finish : List Uop
-      Finish = finish_code l.first l.second (once_code l.end) Next
+    abbrev Finish : List Uop
+    Finish = finish_code l.first l.second (once_code l.end) Next
 
-      abbrev Level_end : ℕ
-      Level_end = Next + length Finish
+    abbrev Level_end : ℕ
+    Level_end = Next + length Finish
 
-      abbrev Begin : List Uop
-      Begin = begin_code None_code Odd_code Even_code (pc + 16) Level_end
+    abbrev Begin : List Uop
+    Begin = begin_code None_code Odd_code Even_code (pc + 16) Level_end
 
-      abbrev Odd_at : ℕ
-      Odd_at = pc + 16 + 4 + length None_code
+    abbrev Odd_at : ℕ
+    Odd_at = pc + 16 + 4 + length None_code
 
-      abbrev Even_at : ℕ
-      Even_at = Odd_at + 2 + length Odd_code
+    abbrev Even_at : ℕ
+    Even_at = Odd_at + 2 + length Odd_code
 
-      -- the code from what is done for an odd number on
-      abbrev From_odd : List Uop
-      From_odd = Odd_code ++ (leave_code (Even_at + length Even_code) ++ Even_code)
+    -- the code from what is done for an odd number on
+    abbrev From_odd : List Uop
+    From_odd = Odd_code ++ (leave_code (Even_at + length Even_code) ++ Even_code)
 
-      level_all : HasAt code (pc + 16) (Begin ++ Finish)
-      level_all = has_back code pc (level_code pc) (Begin ++ Finish) has
+    level_all : HasAt code (pc + 16) (Begin ++ Finish)
+    level_all = has_back code pc (level_code pc) (Begin ++ Finish) has
 
-      level_begin : HasAt code (pc + 16) Begin
-      level_begin = has_front code (pc + 16) Begin Finish level_all
+    level_begin : HasAt code (pc + 16) Begin
+    level_begin = has_front code (pc + 16) Begin Finish level_all
 
-      level_finish : HasAt code Next Finish
-      level_finish =
-          let e : pc + 16 + length Begin ≡ Next =
-          omega (arith, begin_long None_code Odd_code Even_code (pc + 16) Level_end) in
-          subst (λ k. HasAt code k Finish) e (has_back code (pc + 16) Begin Finish level_all)
+    level_finish : HasAt code Next Finish
+    level_finish =
+        let e : pc + 16 + length Begin ≡ Next =
+        omega (arith, begin_long None_code Odd_code Even_code (pc + 16) Level_end) in
+        subst (λ k. HasAt code k Finish) e (has_back code (pc + 16) Begin Finish level_all)
 
-      level_none : HasAt code (pc + 18) (None_code ++ (leave_code Level_end ++ From_odd))
-      level_none = let e : pc + 16 + 1 + 1 ≡ pc + 18 = omega arith in
-          subst (λ k. HasAt code k (None_code ++ (leave_code Level_end ++ From_odd))) e level_begin.1.1
+    level_none : HasAt code (pc + 18) (None_code ++ (leave_code Level_end ++ From_odd))
+    level_none = let e : pc + 16 + 1 + 1 ≡ pc + 18 = omega arith in
+        subst (λ k. HasAt code k (None_code ++ (leave_code Level_end ++ From_odd))) e level_begin.1.1
 
-      level_out : HasAt code (pc + 18 + length None_code) (leave_code Level_end ++ From_odd)
-      level_out = has_back code (pc + 18) None_code (leave_code Level_end ++ From_odd) level_none
+    level_out : HasAt code (pc + 18 + length None_code) (leave_code Level_end ++ From_odd)
+    level_out = has_back code (pc + 18) None_code (leave_code Level_end ++ From_odd) level_none
 
-      level_odd : HasAt code Odd_at From_odd
-      level_odd = let e : pc + 18 + length None_code + 2 ≡ Odd_at = omega arith in
-          subst (λ k. HasAt code k From_odd) e
-          (has_back code (pc + 18 + length None_code) (leave_code Level_end) From_odd level_out)
+    level_odd : HasAt code Odd_at From_odd
+    level_odd = let e : pc + 18 + length None_code + 2 ≡ Odd_at = omega arith in
+        subst (λ k. HasAt code k From_odd) e
+        (has_back code (pc + 18 + length None_code) (leave_code Level_end) From_odd level_out)
 
-      level_past : HasAt code (Odd_at + length Odd_code)
-          (leave_code (Even_at + length Even_code) ++ Even_code)
-      level_past = has_back code Odd_at Odd_code
-          (leave_code (Even_at + length Even_code) ++ Even_code) level_odd
+    level_past : HasAt code (Odd_at + length Odd_code)
+        (leave_code (Even_at + length Even_code) ++ Even_code)
+    level_past = has_back code Odd_at Odd_code
+        (leave_code (Even_at + length Even_code) ++ Even_code) level_odd
 
-      level_even : HasAt code Even_at Even_code
-      level_even = let e : Odd_at + length Odd_code + 2 ≡ Even_at = omega arith in
-          subst (λ k. HasAt code k Even_code) e
-          (has_back code (Odd_at + length Odd_code) (leave_code (Even_at + length Even_code))
-          Even_code level_past)
+    level_even : HasAt code Even_at Even_code
+    level_even = let e : Odd_at + length Odd_code + 2 ≡ Even_at = omega arith in
+        subst (λ k. HasAt code k Even_code) e
+        (has_back code (Odd_at + length Odd_code) (leave_code (Even_at + length Even_code))
+        Even_code level_past)
 
-      to_next : Even_at + length Even_code ≡ Next
-      to_next = omega arith
+    to_next : Even_at + length Even_code ≡ Next
+    to_next = omega arith
 
-      -- registers 5 and 6 hold whether an element is left, and how many pairs there are
-      abbrev Found : List ℕ → Type 0
-      Found x = Beside (elements n (o + 1)) (IsOuter n o) x × (slice_index x 5 ≡ elements n o % 2)
+    -- registers 5 and 6 hold whether an element is left, and how many pairs there are
+    abbrev Found : List ℕ → Type 0
+    Found x = Beside (elements n (o + 1)) (IsOuter n o) x × (slice_index x 5 ≡ elements n o % 2)
 
-      abbrev Begun : List ℕ → Type 0
-      Begun = Beside (elements n (o + 1)) (IsOuter n o)
+    abbrev Begun : List ℕ → Type 0
+    Begun = Beside (elements n (o + 1)) (IsOuter n o)
 
-      run_found : (regs : List ℕ) → IsOuter n o regs
-          → Runs head code n pc regs (n * 16) [] (pc + 16) Found
-      run_found regs g =
-          run_weaken head code n pc (pc + 16) regs (n * 16) [] _ Found
-          (λ x k. (
-            (
-              record {
-                size = k.1.size;
-                outer = k.1.zero_is ∙ g.outer;
-                down = k.1.one_is ∙ g.down;
-              },
-              k.1.six_is,
-            ),
-            k.1.five_is,
-          ))
-          (run_level head code n regs o pc lo small g.size g.outer
-          (has_front code pc (level_code pc) (Begin ++ Finish) has))
+    run_found : (regs : List ℕ) → IsOuter n o regs
+        → Runs head code n pc regs (n * 16) [] (pc + 16) Found
+    run_found regs g =
+        run_weaken head code n pc (pc + 16) regs (n * 16) [] _ Found
+        (λ x k. (
+          (
+            record {
+              size = k.1.size;
+              outer = k.1.zero_is ∙ g.outer;
+              down = k.1.one_is ∙ g.down;
+            },
+            k.1.six_is,
+          ),
+          k.1.five_is,
+        ))
+        (run_level head code n regs o pc lo small g.size g.outer
+        (has_front code pc (level_code pc) (Begin ++ Finish) has))
 
-      -- no element is left
-      run_no_left : (regs : List ℕ) → Found regs → elements n o % 2 ≡ 0
-          → Runs head code n (pc + 16) regs 1 [] (pc + 17) Found
-      run_no_left regs g e = run_at head code n (pc + 16) (pc + 16 + 1) (pc + 17) regs 1 [] Found
-          (omega arith)
-          (run_jump head code n (pc + 16) 5 Odd_at regs true Found level_begin.0
-          (ap (λ v. v == 0) (g.1 ∙ e)) g)
+    -- no element is left
+    run_no_left : (regs : List ℕ) → Found regs → elements n o % 2 ≡ 0
+        → Runs head code n (pc + 16) regs 1 [] (pc + 17) Found
+    run_no_left regs g e = run_at head code n (pc + 16) (pc + 16 + 1) (pc + 17) regs 1 [] Found
+        (omega arith)
+        (run_jump head code n (pc + 16) 5 Odd_at regs true Found level_begin.0
+        (ap (λ v. v == 0) (g.1 ∙ e)) g)
 
-      -- there is no element
-      run_without : (regs : List ℕ) → Found regs → elements n o ≡ 0
-          → IsGood head n (round_at l.none 0 o)
-          → Runs head code n (pc + 16) regs (2 + (length None_code + 2))
-          (rounds_commands n (one_round l.none 0 o)) Level_end (IsOuter n o)
-      run_without regs g none ok =
-          let cs = rounds_commands n (one_round l.none 0 o) in
-          let even : elements n o % 2 ≡ 0 = omega (arith, none) in
-          let pairs : elements n (o + 1) ≡ 0 = omega (arith, none, pairs_of n o) in
-          let at6 : slice_get code (pc + 17) ≡ Some (Bnez 6 Even_at) =
-          let e : pc + 16 + 1 ≡ pc + 17 = omega arith in
-          subst (λ k. slice_get code k ≡ Some (Bnez 6 Even_at)) e level_begin.1.0 in
-          run_then head code n (pc + 16) (pc + 18) Level_end 2 (length None_code + 2)
-          (2 + (length None_code + 2)) regs [] cs Found (IsOuter n o) refl
-          (run_then head code n (pc + 16) (pc + 17) (pc + 18) 1 1 2 regs [] [] Found Found refl
-          (run_no_left regs g even)
-          (λ x h. run_at head code n (pc + 17) (pc + 17 + 1) (pc + 18) x 1 [] Found (omega arith)
-          (run_jump head code n (pc + 17) 6 Even_at x true Found at6
-          (ap (λ v. v == 0) (h.0.1 ∙ pairs)) h)))
-          (λ x h. subst (λ c. Runs head code n (pc + 18) x (length None_code + 2) c Level_end
-          (IsOuter n o)) (append-nil cs)
-          (run_then head code n (pc + 18) (pc + 18 + length None_code) Level_end (length None_code) 2
-          (length None_code + 2) x cs [] Begun (IsOuter n o) refl
-          (none_beside span l.none (pc + 18) o (elements n (o + 1)) x at none lo h.0
-          (has_front code (pc + 18) None_code (leave_code Level_end ++ From_odd) level_none) ok)
-          (λ y k. run_weaken head code n (pc + 18 + length None_code) Level_end y 2 [] Begun (IsOuter n o)
-          (λ z j. j.0)
-          (run_leave (pc + 18 + length None_code) o (elements n (o + 1)) Level_end y k
-          (has_front code (pc + 18 + length None_code) (leave_code Level_end) From_odd level_out)))))
+    -- there is no element
+    run_without : (regs : List ℕ) → Found regs → elements n o ≡ 0
+        → IsGood head n (round_at l.none 0 o)
+        → Runs head code n (pc + 16) regs (2 + (length None_code + 2))
+        (rounds_commands n (one_round l.none 0 o)) Level_end (IsOuter n o)
+    run_without regs g none ok =
+        let cs = rounds_commands n (one_round l.none 0 o) in
+        let even : elements n o % 2 ≡ 0 = omega (arith, none) in
+        let pairs : elements n (o + 1) ≡ 0 = omega (arith, none, pairs_of n o) in
+        let at6 : slice_get code (pc + 17) ≡ Some (Bnez 6 Even_at) =
+        let e : pc + 16 + 1 ≡ pc + 17 = omega arith in
+        subst (λ k. slice_get code k ≡ Some (Bnez 6 Even_at)) e level_begin.1.0 in
+        run_then head code n (pc + 16) (pc + 18) Level_end 2 (length None_code + 2)
+        (2 + (length None_code + 2)) regs [] cs Found (IsOuter n o) refl
+        (run_then head code n (pc + 16) (pc + 17) (pc + 18) 1 1 2 regs [] [] Found Found refl
+        (run_no_left regs g even)
+        (λ x h. run_at head code n (pc + 17) (pc + 17 + 1) (pc + 18) x 1 [] Found (omega arith)
+        (run_jump head code n (pc + 17) 6 Even_at x true Found at6
+        (ap (λ v. v == 0) (h.0.1 ∙ pairs)) h)))
+        (λ x h. subst (λ c. Runs head code n (pc + 18) x (length None_code + 2) c Level_end
+        (IsOuter n o)) (append-nil cs)
+        (run_then head code n (pc + 18) (pc + 18 + length None_code) Level_end (length None_code) 2
+        (length None_code + 2) x cs [] Begun (IsOuter n o) refl
+        (none_beside span l.none (pc + 18) o (elements n (o + 1)) x at none lo h.0
+        (has_front code (pc + 18) None_code (leave_code Level_end ++ From_odd) level_none) ok)
+        (λ y k. run_weaken head code n (pc + 18 + length None_code) Level_end y 2 [] Begun (IsOuter n o)
+        (λ z j. j.0)
+        (run_leave (pc + 18 + length None_code) o (elements n (o + 1)) Level_end y k
+        (has_front code (pc + 18 + length None_code) (leave_code Level_end) From_odd level_out)))))
 
-      -- the elements are odd in number
-      run_odd : (regs : List ℕ) → Found regs → elements n o % 2 ≡ 1
-          → IsGood head n (round_at l.odd 0 o)
-          → Runs head code n (pc + 16) regs (1 + (length Odd_code + 2))
-          (rounds_commands n (one_round l.odd 0 o)) Next Begun
-      run_odd regs g odd ok =
-          let cs = rounds_commands n (one_round l.odd 0 o) in
-          let six = elements n (o + 1) in
-          run_then head code n (pc + 16) Odd_at Next 1 (length Odd_code + 2)
-          (1 + (length Odd_code + 2)) regs [] cs Begun Begun refl
-          (run_jump head code n (pc + 16) 5 Odd_at regs false Begun level_begin.0
-          (ap (λ v. v == 0) (g.1 ∙ odd)) g.0)
-          (λ x h. subst (λ c. Runs head code n Odd_at x (length Odd_code + 2) c Next Begun)
-          (append-nil cs)
-          (run_then head code n Odd_at (Odd_at + length Odd_code) Next (length Odd_code) 2
-          (length Odd_code + 2) x cs [] Begun Begun refl
-          (once_beside l.odd Odd_at o six x lo h (has_front code Odd_at Odd_code
-          (leave_code (Even_at + length Even_code) ++ Even_code) level_odd) ok)
-          (λ y k. run_at head code n (Odd_at + length Odd_code) (Even_at + length Even_code) Next y 2
-          [] Begun to_next
-          (run_leave (Odd_at + length Odd_code) o six (Even_at + length Even_code) y k
-          (has_front code (Odd_at + length Odd_code) (leave_code (Even_at + length Even_code))
-          Even_code level_past)))))
+    -- the elements are odd in number
+    run_odd : (regs : List ℕ) → Found regs → elements n o % 2 ≡ 1
+        → IsGood head n (round_at l.odd 0 o)
+        → Runs head code n (pc + 16) regs (1 + (length Odd_code + 2))
+        (rounds_commands n (one_round l.odd 0 o)) Next Begun
+    run_odd regs g odd ok =
+        let cs = rounds_commands n (one_round l.odd 0 o) in
+        let six = elements n (o + 1) in
+        run_then head code n (pc + 16) Odd_at Next 1 (length Odd_code + 2)
+        (1 + (length Odd_code + 2)) regs [] cs Begun Begun refl
+        (run_jump head code n (pc + 16) 5 Odd_at regs false Begun level_begin.0
+        (ap (λ v. v == 0) (g.1 ∙ odd)) g.0)
+        (λ x h. subst (λ c. Runs head code n Odd_at x (length Odd_code + 2) c Next Begun)
+        (append-nil cs)
+        (run_then head code n Odd_at (Odd_at + length Odd_code) Next (length Odd_code) 2
+        (length Odd_code + 2) x cs [] Begun Begun refl
+        (once_beside l.odd Odd_at o six x lo h (has_front code Odd_at Odd_code
+        (leave_code (Even_at + length Even_code) ++ Even_code) level_odd) ok)
+        (λ y k. run_at head code n (Odd_at + length Odd_code) (Even_at + length Even_code) Next y 2
+        [] Begun to_next
+        (run_leave (Odd_at + length Odd_code) o six (Even_at + length Even_code) y k
+        (has_front code (Odd_at + length Odd_code) (leave_code (Even_at + length Even_code))
+        Even_code level_past)))))
 
-      -- they are even in number, and there are some
-      run_even : (regs : List ℕ) → Found regs → elements n o % 2 ≡ 0 → 0 < elements n o
-          → IsGood head n (round_at l.even 0 o)
-          → Runs head code n (pc + 16) regs (2 + length Even_code)
-          (rounds_commands n (one_round l.even 0 o)) Next Begun
-      run_even regs g even some_in ok =
-          let cs = rounds_commands n (one_round l.even 0 o) in
-          let six = elements n (o + 1) in
-          let pairs : 0 < elements n (o + 1) = omega (arith, some_in, even, pairs_of n o) in
-          let at6 : slice_get code (pc + 17) ≡ Some (Bnez 6 Even_at) =
-          let e : pc + 16 + 1 ≡ pc + 17 = omega arith in
-          subst (λ k. slice_get code k ≡ Some (Bnez 6 Even_at)) e level_begin.1.0 in
-          run_then head code n (pc + 16) Even_at Next 2 (length Even_code) (2 + length Even_code)
-          regs [] cs Begun Begun refl
-          (run_then head code n (pc + 16) (pc + 17) Even_at 1 1 2 regs [] [] Found Begun refl
-          (run_no_left regs g even)
-          (λ x h. run_jump head code n (pc + 17) 6 Even_at x false Begun at6
-          (ap (λ v. v == 0) h.0.1 ∙ ne_eqb (elements n (o + 1)) 0 (λ e. absurd (omega (arith, e,
-          pairs)))) h.0))
-          (λ x h. run_at head code n Even_at (Even_at + length Even_code) Next x (length Even_code)
-          cs Begun to_next (once_beside l.even Even_at o six x lo h level_even ok))
+    -- they are even in number, and there are some
+    run_even : (regs : List ℕ) → Found regs → elements n o % 2 ≡ 0 → 0 < elements n o
+        → IsGood head n (round_at l.even 0 o)
+        → Runs head code n (pc + 16) regs (2 + length Even_code)
+        (rounds_commands n (one_round l.even 0 o)) Next Begun
+    run_even regs g even some_in ok =
+        let cs = rounds_commands n (one_round l.even 0 o) in
+        let six = elements n (o + 1) in
+        let pairs : 0 < elements n (o + 1) = omega (arith, some_in, even, pairs_of n o) in
+        let at6 : slice_get code (pc + 17) ≡ Some (Bnez 6 Even_at) =
+        let e : pc + 16 + 1 ≡ pc + 17 = omega arith in
+        subst (λ k. slice_get code k ≡ Some (Bnez 6 Even_at)) e level_begin.1.0 in
+        run_then head code n (pc + 16) Even_at Next 2 (length Even_code) (2 + length Even_code)
+        regs [] cs Begun Begun refl
+        (run_then head code n (pc + 16) (pc + 17) Even_at 1 1 2 regs [] [] Found Begun refl
+        (run_no_left regs g even)
+        (λ x h. run_jump head code n (pc + 17) 6 Even_at x false Begun at6
+        (ap (λ v. v == 0) h.0.1 ∙ ne_eqb (elements n (o + 1)) 0 (λ e. absurd (omega (
+          arith,
+          e,
+          pairs,
+        )))) h.0))
+        (λ x h. run_at head code n Even_at (Even_at + length Even_code) Next x (length Even_code)
+        cs Begun to_next (once_beside l.even Even_at o six x lo h level_even ok))
 
-      abbrev Pairing_code : List Uop
-      Pairing_code = pairing_code l.first l.second (Next + 4)
+    abbrev Pairing_code : List Uop
+    Pairing_code = pairing_code l.first l.second (Next + 4)
 
-      abbrev End_code : List Uop
-      End_code = once_code l.end
+    abbrev End_code : List Uop
+    End_code = once_code l.end
 
-      abbrev Rest_rounds : List (RoundOf Part)
-      Rest_rounds = rounds (λ i. two_rounds l.first l.second i o) 0 (elements n (o + 1))
-          ++ one_round l.end 0 o
+    abbrev Rest_rounds : List (RoundOf Part)
+    Rest_rounds = rounds (λ i. two_rounds l.first l.second i o) 0 (elements n (o + 1))
+        ++ one_round l.end 0 o
 
-      -- on from where the sum has begun
-      run_on_begun : (start : Part) (regs : List ℕ) → Runs head code n (pc + 16) regs
-          (3 + length Odd_code + length Even_code) (rounds_commands n (one_round start 0 o)) Next
-          Begun
-          → AllByRecursion (IsGood head n) Rest_rounds
-          → Runs head code n (pc + 16) regs (3 + length Odd_code + length Even_code
-          + (4 + n * length Pairing_code + length End_code))
-          (rounds_commands n (one_round start 0 o ++ Rest_rounds)) Level_end (IsOuter n o)
-      run_on_begun start regs run ok =
-          let cs = rounds_commands n (one_round start 0 o) in
-          let ds = rounds_commands n Rest_rounds in
-          let k = 3 + length Odd_code + length Even_code in
-          let m = 4 + n * length Pairing_code + length End_code in
-          let e : Next + 4 + length Pairing_code + length End_code ≡ Level_end =
-          omega (arith, length-append Pairing_code End_code) in
-          subst (λ c. Runs head code n (pc + 16) regs (k + m) c Level_end (IsOuter n o))
-          (sym (commands_append n (one_round start 0 o) Rest_rounds))
-          (run_then head code n (pc + 16) Next Level_end k m (k + m) regs cs ds Begun (IsOuter n o) refl run
-          (λ x h. run_at head code n Next (Next + 4 + length Pairing_code + length End_code) Level_end x m
-          ds (IsOuter n o) e
-          (run_finish l.first l.second l.end Next o lo sp sq level_finish x h ok)))
+    -- on from where the sum has begun
+    run_on_begun : (start : Part) (regs : List ℕ) → Runs head code n (pc + 16) regs
+        (3 + length Odd_code + length Even_code) (rounds_commands n (one_round start 0 o)) Next
+        Begun
+        → AllByRecursion (IsGood head n) Rest_rounds
+        → Runs head code n (pc + 16) regs (3 + length Odd_code + length Even_code
+        + (4 + n * length Pairing_code + length End_code))
+        (rounds_commands n (one_round start 0 o ++ Rest_rounds)) Level_end (IsOuter n o)
+    run_on_begun start regs run ok =
+        let cs = rounds_commands n (one_round start 0 o) in
+        let ds = rounds_commands n Rest_rounds in
+        let k = 3 + length Odd_code + length Even_code in
+        let m = 4 + n * length Pairing_code + length End_code in
+        let e : Next + 4 + length Pairing_code + length End_code ≡ Level_end =
+        omega (arith, length-append Pairing_code End_code) in
+        subst (λ c. Runs head code n (pc + 16) regs (k + m) c Level_end (IsOuter n o))
+        (sym (commands_append n (one_round start 0 o) Rest_rounds))
+        (run_then head code n (pc + 16) Next Level_end k m (k + m) regs cs ds Begun (IsOuter n o) refl run
+        (λ x h. run_at head code n Next (Next + 4 + length Pairing_code + length End_code) Level_end x m
+        ds (IsOuter n o) e
+        (run_finish l.first l.second l.end Next o lo sp sq level_finish x h ok)))
 
-      -- there are elements
-      run_with : (regs : List ℕ) → Found regs → 0 < elements n o
-          → AllByRecursion (IsGood head n) (filled_rounds n o l)
-          → Runs head code n (pc + 16) regs (3 + length Odd_code + length Even_code
-          + (4 + n * length Pairing_code + length End_code))
-          (rounds_commands n (filled_rounds n o l)) Level_end (IsOuter n o)
-      run_with regs g some_in ok = by (elements n o % 2 == 0) refl ok
-        where
-          by : (z : Bool) → (elements n o % 2 == 0) ≡ z → AllByRecursion (IsGood head n)
-              (one_round (cond z l.even l.odd) 0 o ++ Rest_rounds)
-              → Runs head code n (pc + 16) regs (3 + length Odd_code + length Even_code
-              + (4 + n * length Pairing_code + length End_code))
-              (rounds_commands n (one_round (cond z l.even l.odd) 0 o ++ Rest_rounds)) Level_end
-              (IsOuter n o)
-          by true e ok = run_on_begun l.even regs
-              (run_more head code n (pc + 16) Next regs (2 + length Even_code)
-              (3 + length Odd_code + length Even_code) (rounds_commands n (one_round l.even 0 o)) Begun
-              (omega arith) (run_even regs g (eqb-true (elements n o % 2) 0 e) some_in ok.0)) ok.1
-          by false e ok =
-              let ne = eqb-false (elements n o % 2) 0 e in
-              let odd : elements n o % 2 ≡ 1 = omega (arith, ne) in
-              run_on_begun l.odd regs
-              (run_more head code n (pc + 16) Next regs (1 + (length Odd_code + 2))
-              (3 + length Odd_code + length Even_code) (rounds_commands n (one_round l.odd 0 o)) Begun
-              (omega arith) (run_odd regs g odd ok.0)) ok.1
+    -- there are elements
+    run_with : (regs : List ℕ) → Found regs → 0 < elements n o
+        → AllByRecursion (IsGood head n) (filled_rounds n o l)
+        → Runs head code n (pc + 16) regs (3 + length Odd_code + length Even_code
+        + (4 + n * length Pairing_code + length End_code))
+        (rounds_commands n (filled_rounds n o l)) Level_end (IsOuter n o)
+    run_with regs g some_in ok = by (elements n o % 2 == 0) refl ok
+      where
+        by : (z : Bool) → (elements n o % 2 == 0) ≡ z → AllByRecursion (IsGood head n)
+            (one_round (cond z l.even l.odd) 0 o ++ Rest_rounds)
+            → Runs head code n (pc + 16) regs (3 + length Odd_code + length Even_code
+            + (4 + n * length Pairing_code + length End_code))
+            (rounds_commands n (one_round (cond z l.even l.odd) 0 o ++ Rest_rounds)) Level_end
+            (IsOuter n o)
+        by true e ok = run_on_begun l.even regs
+            (run_more head code n (pc + 16) Next regs (2 + length Even_code)
+            (3 + length Odd_code + length Even_code) (rounds_commands n (one_round l.even 0 o)) Begun
+            (omega arith) (run_even regs g (eqb-true (elements n o % 2) 0 e) some_in ok.0)) ok.1
+        by false e ok =
+            let ne = eqb-false (elements n o % 2) 0 e in
+            let odd : elements n o % 2 ≡ 1 = omega (arith, ne) in
+            run_on_begun l.odd regs
+            (run_more head code n (pc + 16) Next regs (1 + (length Odd_code + 2))
+            (3 + length Odd_code + length Even_code) (rounds_commands n (one_round l.odd 0 o)) Begun
+            (omega arith) (run_odd regs g odd ok.0)) ok.1
 
-      level_long : length (inner_code span (AtLevel l) pc) ≡ 26 + length None_code + length Odd_code
-          + length Even_code + length Pairing_code + length End_code
-      level_long = omega (
-        arith,
-        length-append Begin Finish,
-        begin_long None_code Odd_code Even_code (pc + 16) Level_end,
-        length-append Pairing_code End_code,
-      )
+    level_long : length (inner_code span (AtLevel l) pc) ≡ 26 + length None_code + length Odd_code
+        + length Even_code + length Pairing_code + length End_code
+    level_long = omega (
+      arith,
+      length-append Begin Finish,
+      begin_long None_code Odd_code Even_code (pc + 16) Level_end,
+      length-append Pairing_code End_code,
+    )
 
-      run_of_level : (regs : List ℕ) → IsOuter n o regs
-          → AllByRecursion (IsGood head n) (level_rounds n o l)
-          → Runs head code n pc regs (n * length (inner_code span (AtLevel l) pc))
-          (rounds_commands n (level_rounds n o l)) (pc + length (inner_code span (AtLevel l) pc))
-          (IsOuter n o)
-      run_of_level regs g ok = by (elements n o == 0) refl ok
-        where
-          long : ℕ
-          long = length (inner_code span (AtLevel l) pc)
+    run_of_level : (regs : List ℕ) → IsOuter n o regs
+        → AllByRecursion (IsGood head n) (level_rounds n o l)
+        → Runs head code n pc regs (n * length (inner_code span (AtLevel l) pc))
+        (rounds_commands n (level_rounds n o l)) (pc + length (inner_code span (AtLevel l) pc))
+        (IsOuter n o)
+    run_of_level regs g ok = by (elements n o == 0) refl ok
+      where
+        long : ℕ
+        long = length (inner_code span (AtLevel l) pc)
 
-          at_end : Level_end ≡ pc + long
-          at_end = omega (arith, level_long, length-append Pairing_code End_code)
+        at_end : Level_end ≡ pc + long
+        at_end = omega (arith, level_long, length-append Pairing_code End_code)
 
-          -- what comes after the level has been found
-          after : (k : ℕ) (rs : List (RoundOf Part)) → n * 16 + k ≤ n * long
-              → ((x : List ℕ) → Found x
-              → Runs head code n (pc + 16) x k (rounds_commands n rs) Level_end (IsOuter n o))
-              → Runs head code n pc regs (n * long) (rounds_commands n rs) (pc + long) (IsOuter n o)
-          after k rs le f = run_at head code n pc Level_end (pc + long) regs (n * long)
-              (rounds_commands n rs) (IsOuter n o) at_end
-              (run_more head code n pc Level_end regs (n * 16 + k) (n * long) (rounds_commands n rs)
-              (IsOuter n o) le
-              (run_then head code n pc (pc + 16) Level_end (n * 16) k (n * 16 + k) regs []
-              (rounds_commands n rs) Found (IsOuter n o) refl (run_found regs g) f))
+        -- what comes after the level has been found
+        after : (k : ℕ) (rs : List (RoundOf Part)) → n * 16 + k ≤ n * long
+            → ((x : List ℕ) → Found x
+            → Runs head code n (pc + 16) x k (rounds_commands n rs) Level_end (IsOuter n o))
+            → Runs head code n pc regs (n * long) (rounds_commands n rs) (pc + long) (IsOuter n o)
+        after k rs le f = run_at head code n pc Level_end (pc + long) regs (n * long)
+            (rounds_commands n rs) (IsOuter n o) at_end
+            (run_more head code n pc Level_end regs (n * 16 + k) (n * long) (rounds_commands n rs)
+            (IsOuter n o) le
+            (run_then head code n pc (pc + 16) Level_end (n * 16) k (n * 16 + k) regs []
+            (rounds_commands n rs) Found (IsOuter n o) refl (run_found regs g) f))
 
-          fits_none : (n b c l : ℕ) → 0 < n → b ≤ n * b → l ≡ 26 + b + c
-              → n * 16 + (2 + (b + 2)) ≤ n * l
-          fits_none n b c l some le e = rw e (omega (arith, some, le))
+        fits_none : (n b c l : ℕ) → 0 < n → b ≤ n * b → l ≡ 26 + b + c
+            → n * 16 + (2 + (b + 2)) ≤ n * l
+        fits_none n b c l some le e = rw e (omega (arith, some, le))
 
-          fits_some : (n a b c d e l : ℕ) → 0 < n → b ≤ n * b → c ≤ n * c → e ≤ n * e
-              → l ≡ 26 + a + b + c + d + e → n * 16 + (3 + b + c + (4 + n * d + e)) ≤ n * l
-          fits_some n a b c d e l some lb lc le h = rw h (omega (arith, some, lb, lc, le))
+        fits_some : (n a b c d e l : ℕ) → 0 < n → b ≤ n * b → c ≤ n * c → e ≤ n * e
+            → l ≡ 26 + a + b + c + d + e → n * 16 + (3 + b + c + (4 + n * d + e)) ≤ n * l
+        fits_some n a b c d e l some lb lc le h = rw h (omega (arith, some, lb, lc, le))
 
-          by : (z : Bool) → (elements n o == 0) ≡ z → AllByRecursion (IsGood head n)
-              (cond z (one_round l.none 0 o) (filled_rounds n o l))
-              → Runs head code n pc regs (n * long)
-              (rounds_commands n (cond z (one_round l.none 0 o) (filled_rounds n o l)))
-              (pc + long) (IsOuter n o)
-          by true e ok = after (2 + (length None_code + 2)) (one_round l.none 0 o)
-              (fits_none n (length None_code)
-              (length Odd_code + length Even_code + length Pairing_code + length End_code) long some
-              (grows (length None_code)) (omega (arith, level_long)))
-              (λ x h. run_without x h (eqb-true (elements n o) 0 e) ok.0)
-          by false e ok =
-              let ne = eqb-false (elements n o) 0 e in
-              after (3 + length Odd_code + length Even_code
-              + (4 + n * length Pairing_code + length End_code)) (filled_rounds n o l)
-              (fits_some n (length None_code) (length Odd_code) (length Even_code)
-              (length Pairing_code) (length End_code) long some (grows (length Odd_code))
-              (grows (length Even_code)) (grows (length End_code)) level_long)
-              (λ x h. run_with x h (omega (arith, ne)) ok)
+        by : (z : Bool) → (elements n o == 0) ≡ z → AllByRecursion (IsGood head n)
+            (cond z (one_round l.none 0 o) (filled_rounds n o l))
+            → Runs head code n pc regs (n * long)
+            (rounds_commands n (cond z (one_round l.none 0 o) (filled_rounds n o l)))
+            (pc + long) (IsOuter n o)
+        by true e ok = after (2 + (length None_code + 2)) (one_round l.none 0 o)
+            (fits_none n (length None_code)
+            (length Odd_code + length Even_code + length Pairing_code + length End_code) long some
+            (grows (length None_code)) (omega (arith, level_long)))
+            (λ x h. run_without x h (eqb-true (elements n o) 0 e) ok.0)
+        by false e ok =
+            let ne = eqb-false (elements n o) 0 e in
+            after (3 + length Odd_code + length Even_code
+            + (4 + n * length Pairing_code + length End_code)) (filled_rounds n o l)
+            (fits_some n (length None_code) (length Odd_code) (length Even_code)
+            (length Pairing_code) (length End_code) long some (grows (length Odd_code))
+            (grows (length Even_code)) (grows (length End_code)) level_long)
+            (λ x h. run_with x h (omega (arith, ne)) ok)
 
   run_inner : (span : Span) (x : InnerOf Part) (pc o : ℕ) (regs : List ℕ) → IsAmong span o → o < n → IsOuter n o regs
       → inner_stands (inner_map block_of_part x) ≡ true
