@@ -28,7 +28,7 @@ use Rattle.loop_ir.specs.declared.ir.Count.{Count}
 use Rattle.loop_ir.specs.declared.ir.Count.TheVariants.{All, Rest, UpTo}
 use Rattle.uprog_gen.specs.declared.plan.Plan.{Plan}
 use Rattle.loop_ir.specs.Plain.{Block, InnerOf, TurnOf, StepOf, step_map}
-use Rattle.loop_ir.specs.Plain.InnerOf.{Alone, Across, IfOdd, Halves}
+use Rattle.loop_ir.specs.Plain.InnerOf.{Alone, Across, AtLevel}
 use Rattle.loop_ir.specs.Plain.StepOf.{Single, Along, Nest, Pairs, Alternate}
 use Rattle.loop_ir.specs.Spots.{nth_place}
 use Rattle.loop_ir.specs.Costs.{same_sub, is_used, is_fixed}
@@ -233,14 +233,13 @@ abbrev pub level_code : ℕ → List Uop
 level_code pc = Mov 2 0 ∷ AddI 2 1 ∷ SetN 6
     ∷ (halve_code pc ++ (Mov 6 7 ∷ SubI 2 1 ∷ Bnez 2 (pc + 3) ∷ []))
 
+-- a jump, by register 7
+abbrev pub leave_code : ℕ → List Uop
+leave_code to = SetI 7 1 ∷ Bnez 7 to ∷ []
+
 -- where the register is 0, a jump past what comes next
 abbrev pub skip_code : ℕ → ℕ → ℕ → List Uop
-skip_code r pc end = Bnez r (pc + 3) ∷ SetI 7 1 ∷ Bnez 7 end ∷ []
-
--- the code of a body that is done once where a level has an odd number of elements
-abbrev pub odd_code : Part → ℕ → List Uop
-odd_code p pc = level_code pc
-    ++ (skip_code 5 (pc + 16) (pc + 19 + length (once_code p)) ++ once_code p)
+skip_code r pc end = Bnez r (pc + 3) ∷ leave_code end
 
 -- the two bodies of a pair have three registers, for the elements and for their carry
 abbrev pub pair_plan : Plan
@@ -255,22 +254,46 @@ abbrev pub pairing_code : Part → Part → ℕ → List Uop
 pairing_code p q pc = inits pair_plan ++ (turn_code pair_plan (pair_uops p ++ pair_uops q)
     ++ (Bnez 2 (pc + length (inits pair_plan)) ∷ []))
 
--- the code of two bodies at each pair of a level's elements
-abbrev pub halves_code : Part → Part → ℕ → List Uop
-halves_code p q pc = level_code pc ++ (Mov 2 6 ∷ (skip_code 2 (pc + 17)
-    (pc + 20 + length (pairing_code p q (pc + 20))) ++ pairing_code p q (pc + 20)))
+-- how a level begins, where these are the codes of what is done without elements, with an odd
+-- number of them and with an even one: the first leads to the level's end, the second past the third
+abbrev pub begin_code : List Uop → List Uop → List Uop → ℕ → ℕ → List Uop
+begin_code none odd even pc end =
+    let odd_at = pc + 4 + length none in
+    let even_at = odd_at + 2 + length odd in
+    Bnez 5 odd_at ∷ Bnez 6 even_at ∷ (none ++ (leave_code end
+    ++ (odd ++ (leave_code (even_at + length even) ++ even))))
 
--- a part of a nest, whose first instruction has this place
-abbrev pub inner_code : InnerOf Part → ℕ → List Uop
-inner_code (Alone p) pc = once_code p
-inner_code (Across count p) pc = loop_code count p pc
-inner_code (IfOdd p) pc = odd_code p pc
-inner_code (Halves p q) pc = halves_code p q pc
+-- how a level with elements goes on: the loop over its pairs, if there are any, and its end
+abbrev pub finish_code : Part → Part → List Uop → ℕ → List Uop
+finish_code p q last pc =
+    let pairing = pairing_code p q (pc + 4) in
+    Mov 2 6 ∷ (skip_code 2 (pc + 1) (pc + 4 + length pairing) ++ (pairing ++ last))
+
+-- the code of a level whose bodies have these codes
+abbrev pub whole_code : List Uop → List Uop → List Uop → Part → Part → List Uop → ℕ → List Uop
+whole_code none odd even p q last pc =
+    let finish_at = pc + 22 + length none + length odd + length even in
+    let finish = finish_code p q last finish_at in
+    level_code pc ++ (begin_code none odd even (pc + 16) (finish_at + length finish) ++ finish)
+
+-- what alone is done at a level without elements: at the first outer position there always is one
+abbrev pub none_code : Span → Part → List Uop
+none_code Full p = once_code p
+none_code First p = []
+none_code Above p = once_code p
+
+-- a part of a nest at these outer positions, whose first instruction has this place
+abbrev pub inner_code : Span → InnerOf Part → ℕ → List Uop
+inner_code span (Alone p) pc = once_code p
+inner_code span (Across count p) pc = loop_code count p pc
+inner_code span (AtLevel l) pc = whole_code (none_code span l.none) (once_code l.odd)
+    (once_code l.even) l.first l.second (once_code l.end) pc
 
 -- the parts of a nest, one after another
-abbrev pub inner_list : List (InnerOf Part) → ℕ → List Uop
-inner_list [] pc = []
-inner_list (x ∷ xs) pc = inner_code x pc ++ inner_list xs (pc + length (inner_code x pc))
+abbrev pub inner_list : Span → List (InnerOf Part) → ℕ → List Uop
+inner_list span [] pc = []
+inner_list span (x ∷ xs) pc = inner_code span x pc
+    ++ inner_list span xs (pc + length (inner_code span x pc))
 
 -- an outer loop
 abbrev pub nest_code : (ℕ → List Uop) → ℕ → List Uop
@@ -347,7 +370,7 @@ abbrev pub step_code : StepOf Part → ℕ → List Uop
 step_code (Single p) pc = if is_fixed p.block then body_uops p else outside ++ once_code p
 step_code (Along p) pc = outside ++ loop_code All p (pc + 1 + 1)
 step_code (Nest span []) pc = []
-step_code (Nest span (x ∷ xs)) pc = span_code span (inner_list (x ∷ xs)) pc
+step_code (Nest span (x ∷ xs)) pc = span_code span (inner_list span (x ∷ xs)) pc
 step_code (Pairs p) pc = pairs_code p pc
 step_code (Alternate []) pc = []
 step_code (Alternate (t ∷ ts)) pc = cycle_code (t ∷ ts) pc

@@ -8,8 +8,7 @@ ghost use Rattle.loop_ir.specs.Costs.{body_cost};
 ghost use Rattle.uprog_gen.specs.Code.{row_space, index_in, place_ref, code_ref, code_uop, init};
 ghost use Rattle.uprog_gen.specs.Code.{before, after, inits, befores, afters};
 ghost use Rattle.uprog_gen.specs.Code.{counter, body_uops, take_code, halve_code, level_code};
-ghost use Rattle.uprog_gen.specs.Code.{skip_code};
-ghost use Rattle.uprog_gen.specs.Code.{odd_code, pairing_code, halves_code};
+ghost use Rattle.uprog_gen.specs.Code.{leave_code, skip_code, pairing_code};
 ghost use Rattle.uprog_gen.specs.Code.{once_code, turn_code, enter_code, loop_code, guard_code};
 ghost use Rattle.uprog_gen.specs.Code.{pairs_code, start_code, either_code};
 ghost use Rattle.uprog_gen.specs.Made.{part_of, is_ref_of, are_refs_of};
@@ -235,7 +234,7 @@ fn push_halving(code: &mut Vec<Uop>, pc: u16) -> Result<(), NoMemory>
 }
 
 /// The code that finds how many pairs of elements a level has, and whether one is left.
-fn push_level(code: &mut Vec<Uop>) -> Result<(), NoMemory>
+pub fn push_level(code: &mut Vec<Uop>) -> Result<(), NoMemory>
     requires { length code.old.items + 32 < 2 ^ 16 }
     ensures { OnOk result (code.new.items ≡ code.old.items ++ level_code (length code.old.items)) }
 {
@@ -290,33 +289,23 @@ pub fn push_loop(
     keep(code, Uop::Bnez(2, top))
 }
 
+/// A jump, by register 7.
+pub fn push_leave(code: &mut Vec<Uop>, to: u16) -> Result<(), NoMemory>
+    ensures { OnOk result (code.new.items ≡ code.old.items ++ leave_code to) }
+{
+    keep(code, Uop::SetI(7, 1))?;
+    keep(code, Uop::Bnez(7, to))
+}
+
 /// A jump past what comes next, where a register is 0.
-fn push_skip(code: &mut Vec<Uop>, r: u8, end: u16) -> Result<(), NoMemory>
+pub fn push_skip(code: &mut Vec<Uop>, r: u8, end: u16) -> Result<(), NoMemory>
     requires { length code.old.items + 8 < 2 ^ 16 }
     ensures { OnOk result (code.new.items ≡ code.old.items
         ++ skip_code r (length code.old.items) end) }
 {
     let next = code.len() as u16 + 3;
     keep(code, Uop::Bnez(r, next))?;
-    keep(code, Uop::SetI(7, 1))?;
-    keep(code, Uop::Bnez(7, end))
-}
-
-/// A body once, where a level has an odd number of elements. The jump past it gets its target when
-/// it stands.
-pub fn push_odd(code: &mut Vec<Uop>, body: &Body, made: &Made) -> Result<(), NoMemory>
-    requires part { IsPart (part_of (block_of body.now) made.now) }
-    requires room { length code.old.items + body_cost (block_of body.now) + 64 < 2 ^ 16 }
-    ensures { OnOk result (code.new.items ≡ code.old.items
-        ++ odd_code (part_of (block_of body.now) made.now) (length code.old.items)) }
-{
-    push_level(code)?;
-    let past = code.len() + 2;
-    push_skip(code, 5, 0)?;
-    push_once(code, body, made)?;
-    let end = code.len() as u16;
-    code[past] = Uop::Bnez(7, end);
-    Ok(())
+    push_leave(code, end)
 }
 
 /// The subscripts of the two bodies of a pair.
@@ -327,7 +316,7 @@ const PAIR_PLAN: Plan = Plan {
 };
 
 /// The loop over the pairs of a level's elements.
-fn push_pairing(
+pub fn push_pairing(
     code: &mut Vec<Uop>,
     first: &Body,
     first_made: &Made,
@@ -349,33 +338,6 @@ fn push_pairing(
     push_afters(code, PAIR_PLAN)?;
     keep(code, Uop::SubI(2, 1))?;
     keep(code, Uop::Bnez(2, top))
-}
-
-/// Two bodies at each pair of a level's elements. The jump past them gets its target when they
-/// stand.
-pub fn push_halves(
-    code: &mut Vec<Uop>,
-    first: &Body,
-    first_made: &Made,
-    second: &Body,
-    second_made: &Made,
-) -> Result<(), NoMemory>
-    requires first { IsPart (part_of (block_of first.now) first_made.now) }
-    requires second { IsPart (part_of (block_of second.now) second_made.now) }
-    requires room { length code.old.items + body_cost (block_of first.now)
-        + body_cost (block_of second.now) + 64 < 2 ^ 16 }
-    ensures { OnOk result (code.new.items ≡ code.old.items
-        ++ halves_code (part_of (block_of first.now) first_made.now)
-        (part_of (block_of second.now) second_made.now) (length code.old.items)) }
-{
-    push_level(code)?;
-    keep(code, Uop::Mov(2, 6))?;
-    let past = code.len() + 2;
-    push_skip(code, 2, 0)?;
-    push_pairing(code, first, first_made, second, second_made)?;
-    let end = code.len() as u16;
-    code[past] = Uop::Bnez(7, end);
-    Ok(())
 }
 
 /// What stands before a loop that has no round at width 1 and ends at this place.

@@ -6,6 +6,7 @@ mod entry;
 mod graphs;
 mod head;
 mod layout;
+mod level;
 mod lowering;
 mod ops;
 mod part;

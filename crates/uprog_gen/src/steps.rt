@@ -11,22 +11,23 @@ ghost use Rattle.loop_ir.specs.Costs.{inner_cost, either_cost, turns_cost, step_
 ghost use Rattle.uprog_gen.specs.Emits.{EmitsInner, EmitsTurns, EmitsSteps};
 
 use crate::emit::{
-    push_body, push_either, push_guard, push_halves, push_loop, push_odd, push_once, push_pairs,
-    push_start,
+    push_body, push_either, push_guard, push_loop, push_once, push_pairs, push_start,
 };
+use crate::level::emit_level;
 use crate::part::make_part;
 use crate::plan::is_fixed;
 use faults::keep;
-use loop_ir::{Body, Count, Inner, Step, Turn};
+use loop_ir::{Body, Count, Inner, Span, Step, Turn};
 use mig_graph::NoMemory;
 use std::alloc::Global;
 use uprog_code::Uop;
 
 /// One step of a nest.
-fn emit_inner(inner: &Inner, code: &mut Vec<Uop>, alloc: Global) -> Result<(), NoMemory>
+fn emit_inner(inner: &Inner, span: Span, code: &mut Vec<Uop>, alloc: Global) -> Result<(), NoMemory>
     requires small { AllInner IsSmall (inner_of inner.now ∷ []) }
     requires room { length code.old.items + inner_cost (inner_of inner.now) + 32 < 2 ^ 16 }
-    ensures { OnOk result (EmitsInner (inner_of inner.now ∷ []) code.old.items code.new.items) }
+    ensures { OnOk result (EmitsInner span (inner_of inner.now ∷ []) code.old.items
+        code.new.items) }
 {
     match inner {
         Inner::Once(body) => {
@@ -39,29 +40,25 @@ fn emit_inner(inner: &Inner, code: &mut Vec<Uop>, alloc: Global) -> Result<(), N
             push_loop(code, *count, body, &made)?;
             Ok(())
         }
-        Inner::IfOdd(body) => {
-            let made = make_part(body, alloc)?;
-            push_odd(code, body, &made)?;
-            Ok(())
-        }
-        Inner::Halves(first, second) => {
-            let first_made = make_part(first, alloc)?;
-            let second_made = make_part(second, alloc)?;
-            push_halves(code, first, &first_made, second, &second_made)?;
-            Ok(())
-        }
+        Inner::Level(level) => emit_level(level, span, code, alloc),
     }
 }
 
 /// The steps of a nest.
-fn emit_inners(parts: &[Inner], code: &mut Vec<Uop>, alloc: Global) -> Result<(), NoMemory>
+fn emit_inners(
+    parts: &[Inner],
+    span: Span,
+    code: &mut Vec<Uop>,
+    alloc: Global,
+) -> Result<(), NoMemory>
     requires small { AllInner IsSmall (map inner_of parts.now) }
     requires room { length code.old.items + sum_by inner_cost (map inner_of parts.now) + 32
         < 2 ^ 16 }
-    ensures { OnOk result (EmitsInner (map inner_of parts.now) code.old.items code.new.items) }
+    ensures { OnOk result (EmitsInner span (map inner_of parts.now) code.old.items
+        code.new.items) }
 {
     for inner in parts {
-        emit_inner(inner, code, alloc)?;
+        emit_inner(inner, span, code, alloc)?;
     }
     Ok(())
 }
@@ -98,7 +95,7 @@ fn emit_nest(parts: &[Inner], code: &mut Vec<Uop>, alloc: Global) -> Result<(), 
     keep(code, Uop::SetN(1))?;
     let top = code.len() as u16;
     keep(code, Uop::SubI(1, 1))?;
-    emit_inners(parts, code, alloc)?;
+    emit_inners(parts, Span::Full, code, alloc)?;
     keep(code, Uop::AddI(0, 1))?;
     keep(code, Uop::Bnez(1, top))?;
     Ok(())
@@ -117,7 +114,7 @@ fn emit_first(parts: &[Inner], code: &mut Vec<Uop>, alloc: Global) -> Result<(),
     }
     keep(code, Uop::SetI(0, 0))?;
     keep(code, Uop::SetT(1))?;
-    emit_inners(parts, code, alloc)?;
+    emit_inners(parts, Span::First, code, alloc)?;
     Ok(())
 }
 
@@ -135,7 +132,7 @@ fn emit_above(parts: &[Inner], code: &mut Vec<Uop>, alloc: Global) -> Result<(),
     let past = code.len() + 3;
     let top = past as u16 + 1;
     push_guard(code, 0)?;
-    emit_inners(parts, code, alloc)?;
+    emit_inners(parts, Span::Above, code, alloc)?;
     keep(code, Uop::AddI(0, 1))?;
     keep(code, Uop::Bnez(1, top))?;
     let end = code.len() as u16;

@@ -1,7 +1,7 @@
 -- Code that comes after code.
 use Rattle.std.proofs.Common.{◌≡◌, ℕ, zero, suc, ◌+◌, ◌<◌, ◌≤◌, true, false, cond, List, [], ◌∷◌}
 use Rattle.std.proofs.Common.{◌++◌, map, length, refl, sym, ap, ◌∙◌, subst, arith, append-nil}
-use Rattle.std.proofs.Common.{append_assoc, length-append}
+use Rattle.std.proofs.Common.{append_assoc, length-append, ◌⊎◌, ⊎_elim}
 use Rattle.std.specs.Prelude.{slice_index_or, sum_by, take, set}
 use Rattle.std.proofs.Math.Seq.{set-append_seam}
 use Rattle.std.proofs.lemmas.List.{map-append, map_more}
@@ -16,22 +16,26 @@ use Rattle.loop_ir.specs.declared.ir.Count.TheVariants.{All as All_of, Rest, UpT
 use Rattle.loop_ir.specs.declared.ir.Inner.{Inner}
 use Rattle.loop_ir.specs.declared.ir.Step.{Step}
 use Rattle.loop_ir.specs.declared.ir.Turn.{Turn}
-use Rattle.loop_ir.specs.Plain.{Block, InnerOf, TurnOf, StepOf, inner_map, turn_map, step_map}
+use Rattle.loop_ir.specs.Plain.{Block, LevelOf, InnerOf, TurnOf, StepOf, inner_map, turn_map, step_map}
 use Rattle.loop_ir.specs.Plain.{inner_of, turn_of, step_of}
 use Rattle.loop_ir.specs.Plain.{AllInner, AllTurns, AllStep, AllParts}
-use Rattle.loop_ir.specs.Plain.InnerOf.{Alone, Across, IfOdd, Halves}
+use Rattle.loop_ir.specs.Plain.InnerOf.{Alone, Across, AtLevel}
 use Rattle.loop_ir.specs.Plain.StepOf.{Single, Along, Nest, Pairs, Alternate}
 use Rattle.uprog_gen.specs.Code.{Part, block_of_part, blocks, body_uops, once_code, loop_code}
-use Rattle.uprog_gen.specs.Code.{counter, halve_code, level_code, skip_code, odd_code}
-use Rattle.uprog_gen.specs.Code.{pairing_code, halves_code}
-use Rattle.uprog_gen.specs.Code.{inner_code, inner_list, outside, guard_code, pairs_code, span_code}
+use Rattle.uprog_gen.specs.Code.{counter, halve_code, level_code, skip_code}
+use Rattle.uprog_gen.specs.Code.{pairing_code, begin_code, finish_code, whole_code}
+use Rattle.uprog_gen.specs.Code.{none_code, inner_code, inner_list, outside, guard_code, pairs_code, span_code}
 use Rattle.uprog_gen.specs.Code.{turn_uops, either_code, either_size, turns_list, start_code}
 use Rattle.uprog_gen.specs.Code.{cycle_code, step_code}
 use Rattle.uprog_gen.specs.Code.{program_code}
 use Rattle.loop_ir.specs.Costs.{is_fixed, inner_cost, either_cost, step_cost, code_cost}
+use Rattle.uprog_gen.specs.declared.part.Made.{Made}
+use Rattle.uprog_gen.specs.declared.level.Singles.{Singles}
+use Rattle.uprog_gen.specs.Made.{part_of}
 use Rattle.uprog_gen.specs.Parts.{IsPart}
-use Rattle.uprog_gen.proofs.Coding.Sizes.{inner_few, either_long, turns_few, program_few}
-use Rattle.uprog_gen.specs.Emits.{EmitsInner, EmitsTurns, EmitsSteps}
+use Rattle.uprog_gen.proofs.Coding.Sizes.{pairing_long, begin_long, finish_long, inner_few}
+use Rattle.uprog_gen.proofs.Coding.Sizes.{either_long, turns_few, program_few}
+use Rattle.uprog_gen.specs.Emits.{OnceOf, NoneOf, AreSingles, EmitsInner, EmitsTurns, EmitsSteps}
 
 -- what holds of all holds of one
 pub inner_at : (P : Block → Type 0) (xs : List Inner) (k : ℕ) (x : Inner)
@@ -45,16 +49,14 @@ inner_at P (y ∷ ys) zero x h lt e = subst (λ z. AllInner P (inner_of z ∷ []
         → AllInner P (z ∷ [])
     first (Alone b) zs h = (h.0, tt)
     first (Across c b) zs h = (h.0, tt)
-    first (IfOdd b) zs h = (h.0, tt)
-    first (Halves b c) zs h = (h.0, tt)
+    first (AtLevel l) zs h = (h.0, tt)
 inner_at P (y ∷ ys) (suc k) x h lt e = inner_at P ys k x (more (inner_of y) (map inner_of ys) h)
     (omega arith) e
   where
     more : (z : InnerOf Block) (zs : List (InnerOf Block)) → AllInner P (z ∷ zs) → AllInner P zs
     more (Alone b) zs h = h.1
     more (Across c b) zs h = h.1
-    more (IfOdd b) zs h = h.1
-    more (Halves b c) zs h = h.1
+    more (AtLevel l) zs h = h.1
 
 pub step_at : (P : Block → Type 0) (xs : List Step) (k : ℕ) (x : Step) → AllParts P (map step_of xs)
     → k < length xs → x ≡ slice_index_or xs k x → AllStep P (step_of x)
@@ -67,8 +69,7 @@ inner_both : (P : Part → Type 0) (xs ys : List (InnerOf Part)) → AllInner P 
 inner_both P [] ys h k = k
 inner_both P (Alone p ∷ xs) ys h k = (h.0, inner_both P xs ys h.1 k)
 inner_both P (Across c p ∷ xs) ys h k = (h.0, inner_both P xs ys h.1 k)
-inner_both P (IfOdd p ∷ xs) ys h k = (h.0, inner_both P xs ys h.1 k)
-inner_both P (Halves p q ∷ xs) ys h k = (h.0, inner_both P xs ys h.1 k)
+inner_both P (AtLevel l ∷ xs) ys h k = (h.0, inner_both P xs ys h.1 k)
 
 pub parts_both : {A : Type 0} (P : A → Type 0) (xs ys : List (StepOf A)) → AllParts P xs
     → AllParts P ys → AllParts P (xs ++ ys)
@@ -78,15 +79,15 @@ parts_both P (x ∷ xs) ys h k = (h.0, parts_both P xs ys h.1 k)
 at_place : (f : ℕ → List Uop) (a b : ℕ) → a ≡ b → f a ≡ f b
 at_place f a b e = ap f e
 
-inner_list-append : (xs ys : List (InnerOf Part)) (pc : ℕ)
-    → inner_list (xs ++ ys) pc ≡ inner_list xs pc ++ inner_list ys (pc + length (inner_list xs pc))
-inner_list-append [] ys pc = at_place (inner_list ys) pc (pc + 0) (omega arith)
-inner_list-append (x ∷ xs) ys pc =
-    let a = inner_code x pc in
-    let b = inner_list xs (pc + length a) in
+inner_list-append : (span : Span) (xs ys : List (InnerOf Part)) (pc : ℕ)
+    → inner_list span (xs ++ ys) pc ≡ inner_list span xs pc ++ inner_list span ys (pc + length (inner_list span xs pc))
+inner_list-append span [] ys pc = at_place (inner_list span ys) pc (pc + 0) (omega arith)
+inner_list-append span (x ∷ xs) ys pc =
+    let a = inner_code span x pc in
+    let b = inner_list span xs (pc + length a) in
     let e : pc + length a + length b ≡ pc + length (a ++ b) = omega (arith, length-append a b) in
-    ap (λ l. a ++ l) (inner_list-append xs ys (pc + length a) ∙ ap (λ q. b ++ inner_list ys q) e)
-    ∙ sym (append_assoc a b (inner_list ys (pc + length (a ++ b))))
+    ap (λ l. a ++ l) (inner_list-append span xs ys (pc + length a) ∙ ap (λ q. b ++ inner_list span ys q) e)
+    ∙ sym (append_assoc a b (inner_list span ys (pc + length (a ++ b))))
 
 pub program_code-append : (xs ys : List (StepOf Part)) (pc : ℕ)
     → program_code (xs ++ ys) pc ≡ program_code xs pc
@@ -100,13 +101,13 @@ program_code-append (x ∷ xs) ys pc =
     ∙ ap (λ q. b ++ program_code ys q) e)
     ∙ sym (append_assoc a b (program_code ys (pc + length (a ++ b))))
 
-pub no_inner : (old : List Uop) → EmitsInner [] old old
-no_inner old = record { coded = []; same = refl; parts = tt; code = sym (append-nil old) }
+pub no_inner : (span : Span) (old : List Uop) → EmitsInner span [] old old
+no_inner span old = record { coded = []; same = refl; parts = tt; code = sym (append-nil old) }
 
-pub more_inner : (xs ys : List (InnerOf Block)) (old mid new : List Uop) → EmitsInner xs old mid
-    → EmitsInner ys mid new → EmitsInner (xs ++ ys) old new
-more_inner xs ys old mid new a b =
-    let c = inner_list a.coded (length old) in
+pub more_inner : (span : Span) (xs ys : List (InnerOf Block)) (old mid new : List Uop) → EmitsInner span xs old mid
+    → EmitsInner span ys mid new → EmitsInner span (xs ++ ys) old new
+more_inner span xs ys old mid new a b =
+    let c = inner_list span a.coded (length old) in
     let size : length mid ≡ length old + length c =
     omega (arith, ap length a.code, length-append old c) in
     record {
@@ -114,10 +115,10 @@ more_inner xs ys old mid new a b =
       same = map-append (inner_map block_of_part) a.coded b.coded
           ∙ ap (λ l. l ++ map (inner_map block_of_part) b.coded) a.same ∙ ap (λ l. xs ++ l) b.same;
       parts = inner_both IsPart a.coded b.coded a.parts b.parts;
-      code = b.code ∙ ap (λ l. l ++ inner_list b.coded (length mid)) a.code
-          ∙ append_assoc old c (inner_list b.coded (length mid))
-          ∙ ap (λ q. old ++ (c ++ inner_list b.coded q)) size
-          ∙ ap (λ l. old ++ l) (sym (inner_list-append a.coded b.coded (length old)));
+      code = b.code ∙ ap (λ l. l ++ inner_list span b.coded (length mid)) a.code
+          ∙ append_assoc old c (inner_list span b.coded (length mid))
+          ∙ ap (λ q. old ++ (c ++ inner_list span b.coded q)) size
+          ∙ ap (λ l. old ++ l) (sym (inner_list-append span a.coded b.coded (length old)));
     }
 
 pub no_steps : (old : List Uop) → EmitsSteps [] old old
@@ -141,9 +142,9 @@ more_steps xs ys old mid new a b =
     }
 
 -- one inner step
-pub alone_emits : (p : Part) (old new : List Uop) → IsPart p → new ≡ old ++ once_code p
-    → EmitsInner (Alone p.block ∷ []) old new
-alone_emits p old new is e = record {
+pub alone_emits : (span : Span) (p : Part) (old new : List Uop) → IsPart p → new ≡ old ++ once_code p
+    → EmitsInner span (Alone p.block ∷ []) old new
+alone_emits span p old new is e = record {
   coded = Alone p ∷ [];
   same = refl;
   parts = (is, tt);
@@ -151,9 +152,9 @@ alone_emits p old new is e = record {
       ∙ ap (λ l. old ++ l) (sym (append-nil (once_code p)));
 }
 
-pub across_emits : (count : Count) (p : Part) (old new : List Uop) → IsPart p
-    → new ≡ old ++ loop_code count p (length old) → EmitsInner (Across count p.block ∷ []) old new
-across_emits count p old new is e = record {
+pub across_emits : (span : Span) (count : Count) (p : Part) (old new : List Uop) → IsPart p
+    → new ≡ old ++ loop_code count p (length old) → EmitsInner span (Across count p.block ∷ []) old new
+across_emits span count p old new is e = record {
   coded = Across count p ∷ [];
   same = refl;
   parts = (is, tt);
@@ -161,24 +162,68 @@ across_emits count p old new is e = record {
       ++ l) (sym (append-nil (loop_code count p (length old))));
 }
 
-pub odd_emits : (p : Part) (old new : List Uop) → IsPart p
-    → new ≡ old ++ odd_code p (length old) → EmitsInner (IfOdd p.block ∷ []) old new
-odd_emits p old new is e = record {
-  coded = IfOdd p ∷ [];
-  same = refl;
-  parts = (is, tt);
-  code = e ∙ ap (λ l. old ++ l) (sym (append-nil (odd_code p (length old))));
+-- what alone is done at a level without elements
+pub none_first : (b : Block) (span : Span) (old new : List Uop) → OnceOf b old → span ≡ First
+    → new ≡ [] → NoneOf span b new
+none_first b span old new a first none = record {
+  made = a.made;
+  right = a.right;
+  is = none ∙ ap (λ s. none_code s (part_of b a.made)) (sym first);
 }
 
-pub halves_emits : (p q : Part) (old new : List Uop) → IsPart p → IsPart q
-    → new ≡ old ++ halves_code p q (length old)
-    → EmitsInner (Halves p.block q.block ∷ []) old new
-halves_emits p q old new is js e = record {
-  coded = Halves p q ∷ [];
-  same = refl;
-  parts = ((is, js), tt);
-  code = e ∙ ap (λ l. old ++ l) (sym (append-nil (halves_code p q (length old))));
+pub none_later : (b : Block) (span : Span) (code : List Uop) → OnceOf b code
+    → (span ≡ Full) ⊎ (span ≡ Above) → NoneOf span b code
+none_later b span code a later = record {
+  made = a.made;
+  right = a.right;
+  is = a.is ∙ ⊎_elim
+      (λ (e : span ≡ Full). ap (λ s. none_code s (part_of b a.made)) (sym e))
+      (λ (e : span ≡ Above). ap (λ s. none_code s (part_of b a.made)) (sym e)) later;
 }
+
+-- a level
+pub level_emits : (span : Span) (l : LevelOf Block) (s : Singles) (first second : Made) (old new : List Uop)
+    → AreSingles span l s → IsPart (part_of l.first first) → IsPart (part_of l.second second)
+    → new ≡ old ++ whole_code s.none.items s.odd.items s.even.items (part_of l.first first)
+    (part_of l.second second) s.end.items (length old) → EmitsInner span (AtLevel l ∷ []) old new
+level_emits span l s first second old new a is js e =
+    let p = part_of l.first first in
+    let q = part_of l.second second in
+    let none = part_of l.none a.none.made in
+    let odd = part_of l.odd a.odd.made in
+    let even = part_of l.even a.even.made in
+    let end = part_of l.end a.end.made in
+    let pc = length old in
+    let code = whole_code (none_code span none) (once_code odd) (once_code even) p q (once_code end) pc in
+    let same : new ≡ old ++ code = e
+    ∙ ap (λ c. old ++ whole_code c s.odd.items s.even.items p q s.end.items pc) a.none.is
+    ∙ ap (λ c. old ++ whole_code (none_code span none) c s.even.items p q s.end.items pc) a.odd.is
+    ∙ ap (λ c. old ++ whole_code (none_code span none) (once_code odd) c p q s.end.items pc) a.even.is
+    ∙ ap (λ c. old ++ whole_code (none_code span none) (once_code odd) (once_code even) p q c pc)
+    a.end.is in
+    record {
+      coded = AtLevel (record {
+        none = none;
+        odd = odd;
+        even = even;
+        first = p;
+        second = q;
+        end = end;
+      }) ∷ [];
+      same = refl;
+      parts = (
+        record {
+          none = a.none.right;
+          odd = a.odd.right;
+          even = a.even.right;
+          first = is;
+          second = js;
+          end = a.end.right;
+        },
+        tt,
+      );
+      code = same ∙ ap (λ l. old ++ l) (sym (append-nil code));
+    }
 
 -- one step
 one_step : (s : StepOf Part) (old new : List Uop) → AllStep IsPart s
@@ -219,15 +264,15 @@ empty_emits span old = one_step (Nest span []) old old tt (sym (append-nil old))
 
 -- a nest, once its parts are emitted and the code round them stands
 span_made : (span : Span) (ps : List Inner) (old first mid new : List Uop) → 0 < length ps
-    → EmitsInner (map inner_of ps) first mid
-    → ((cs : List (InnerOf Part)) → mid ≡ first ++ inner_list cs (length first)
-    → new ≡ old ++ span_code span (inner_list cs) (length old))
+    → EmitsInner span (map inner_of ps) first mid
+    → ((cs : List (InnerOf Part)) → mid ≡ first ++ inner_list span cs (length first)
+    → new ≡ old ++ span_code span (inner_list span cs) (length old))
     → EmitsSteps (Nest span (map inner_of ps) ∷ []) old new
 span_made span [] old first mid new some a e = absurd (omega arith)
 span_made span (x ∷ xs) old first mid new some a e = by a.coded a.same a.parts (e a.coded a.code)
   where
     by : (cs : List (InnerOf Part)) → map (inner_map block_of_part) cs ≡ map inner_of (x ∷ xs)
-        → AllInner IsPart cs → new ≡ old ++ span_code span (inner_list cs) (length old)
+        → AllInner IsPart cs → new ≡ old ++ span_code span (inner_list span cs) (length old)
         → EmitsSteps (Nest span (map inner_of (x ∷ xs)) ∷ []) old new
     by [] same parts code = absurd (let g : [] ≡ inner_of x ∷ map inner_of xs = same in cc)
     by (c ∷ cs) same parts code = subst (λ l. EmitsSteps (Nest span l ∷ []) old new) same
@@ -239,11 +284,11 @@ inner_more_taken : (xs : List Inner) (k : ℕ) (x : Inner) → k < length xs →
 inner_more_taken xs k x lt e = map_more inner_of xs k x lt
     ∙ ap (λ y. map inner_of (take k xs) ++ inner_of y ∷ []) (sym e)
 
-pub next_inner : (xs : List Inner) (k : ℕ) (x : Inner) (old mid new : List Uop) → k < length xs
-    → x ≡ slice_index_or xs k x → EmitsInner (map inner_of (take k xs)) old mid
-    → EmitsInner (inner_of x ∷ []) mid new → EmitsInner (map inner_of (take (k + 1) xs)) old new
-next_inner xs k x old mid new lt e a b = subst (λ l. EmitsInner l old new)
-    (sym (inner_more_taken xs k x lt e)) (more_inner (map inner_of (take k xs)) (inner_of x
+pub next_inner : (span : Span) (xs : List Inner) (k : ℕ) (x : Inner) (old mid new : List Uop) → k < length xs
+    → x ≡ slice_index_or xs k x → EmitsInner span (map inner_of (take k xs)) old mid
+    → EmitsInner span (inner_of x ∷ []) mid new → EmitsInner span (map inner_of (take (k + 1) xs)) old new
+next_inner span xs k x old mid new lt e a b = subst (λ l. EmitsInner span l old new)
+    (sym (inner_more_taken xs k x lt e)) (more_inner span (map inner_of (take k xs)) (inner_of x
     ∷ []) old mid new a b)
 
 pub next_step : (xs : List Step) (k : ℕ) (x : Step) (old mid new : List Uop) → k < length xs
@@ -272,15 +317,15 @@ inner_taken (y ∷ ys) (suc k) x lt e = omega (
   sum_by-cons inner_cost (inner_of y) (map inner_of (take k ys)),
 )
 
-pub inner_room : (xs : List Inner) (k : ℕ) (x : Inner) (old mid : List Uop) → k < length xs
-    → x ≡ slice_index_or xs k x → EmitsInner (map inner_of (take k xs)) old mid
+pub inner_room : (span : Span) (xs : List Inner) (k : ℕ) (x : Inner) (old mid : List Uop) → k < length xs
+    → x ≡ slice_index_or xs k x → EmitsInner span (map inner_of (take k xs)) old mid
     → length mid + inner_cost (inner_of x) ≤ length old + sum_by inner_cost (map inner_of xs)
-inner_room xs k x old mid lt e a =
+inner_room span xs k x old mid lt e a =
     omega (
       arith,
       ap length a.code,
-      length-append old (inner_list a.coded (length old)),
-      inner_few a.coded (length old) a.parts,
+      length-append old (inner_list span a.coded (length old)),
+      inner_few span a.coded (length old) a.parts,
       ap (sum_by inner_cost) a.same,
       inner_taken xs k x lt e,
     )
@@ -315,9 +360,9 @@ step_room xs k x old mid lt e a =
       step_taken xs k x lt e,
     )
 
-pub all_inner : (xs : List Inner) (k : ℕ) (old new : List Uop) → k ≡ length xs
-    → EmitsInner (map inner_of (take k xs)) old new → EmitsInner (map inner_of xs) old new
-all_inner xs k old new e a = subst (λ l. EmitsInner (map inner_of l) old new) (let f : take k xs
+pub all_inner : (span : Span) (xs : List Inner) (k : ℕ) (old new : List Uop) → k ≡ length xs
+    → EmitsInner span (map inner_of (take k xs)) old new → EmitsInner span (map inner_of xs) old new
+all_inner span xs k old new e a = subst (λ l. EmitsInner span (map inner_of l) old new) (let f : take k xs
     ≡ xs = grind (arith, common_steps) in f) a
 
 pub all_steps : (xs : List Step) (k : ℕ) (old new : List Uop) → k ≡ length xs
@@ -353,95 +398,60 @@ level_made old a b d e f g pc at ea eb ed ee ef eg =
     ∙ append_assoc old (pre ++ halve_code pc) (two ++ jump)
     ∙ ap (λ q. old ++ level_code q) at
 
--- a jump past what comes next, once that stands
-skip_made : (pre body : List Uop) (old mid all : List Uop) (r past end : ℕ)
-    → past ≡ length old + length pre + 2
-    → mid ≡ old ++ (pre ++ skip_code r (length old + length pre) 0) → all ≡ mid ++ body
-    → end ≡ length old + length pre + 3 + length body → set all past (Bnez 7 end)
-    ≡ old ++ (pre ++ (skip_code r (length old + length pre) end ++ body))
-skip_made pre body old mid all r past end ep em ea ee =
-    let pc = length old + length pre in
-    let first = Bnez r (pc + 3) ∷ SetI 7 1 ∷ [] in
-    let front = old ++ (pre ++ first) in
-    let whole : all ≡ front ++ Bnez 7 0 ∷ body =
-    ea ∙ ap (λ l. l ++ body) em ∙ append_assoc old (pre ++ (first ++ Bnez 7 0 ∷ [])) body
-    ∙ ap (λ l. old ++ l) (append_assoc pre (first ++ Bnez 7 0 ∷ []) body
-    ∙ sym (append_assoc pre first (Bnez 7 0 ∷ body)))
-    ∙ sym (append_assoc old (pre ++ first) (Bnez 7 0 ∷ body)) in
-    let at : past ≡ length front = omega (
-      arith,
-      ep,
-      length-append old (pre ++ first),
-      length-append pre first,
-    ) in
-    ap (λ l. set l past (Bnez 7 end)) whole
-    ∙ ap (λ k. set (front ++ Bnez 7 0 ∷ body) k (Bnez 7 end)) at
-    ∙ set-append_seam front (Bnez 7 0) body (Bnez 7 end)
-    ∙ append_assoc old (pre ++ first) (Bnez 7 end ∷ body)
-    ∙ ap (λ l. old ++ l) (append_assoc pre first (Bnez 7 end ∷ body))
-
--- a body where a level has an odd number of elements
-pub odd_made : (p : Part) (old a b all : List Uop) (past end : ℕ)
-    → a ≡ old ++ level_code (length old) → past ≡ length a + 2
-    → b ≡ a ++ skip_code 5 (length a) 0 → all ≡ b ++ once_code p → end ≡ length all
-    → set all past (Bnez 7 end) ≡ old ++ odd_code p (length old)
-odd_made p old a b all past end ea ep eb el ee =
+-- how a level goes on
+pub finish_made : (p q : Part) (last old a b c d : List Uop) (past : ℕ)
+    → past ≡ length old + 13 + length p.cmds + length q.cmds
+    → a ≡ old ++ Mov 2 6 ∷ [] → b ≡ a ++ skip_code 2 (length a) past
+    → c ≡ b ++ pairing_code p q (length b) → d ≡ c ++ last
+    → d ≡ old ++ finish_code p q last (length old)
+finish_made p q last old a b c d past ep ea eb ec ed =
     let pc = length old in
-    let level = level_code pc in
-    let body = once_code p in
-    let long : length a ≡ pc + 16 = omega (arith, ap length ea, length-append old level) in
-    let mid : b ≡ old ++ (level ++ skip_code 5 (pc + 16) 0) =
-    eb ∙ ap (λ k. a ++ skip_code 5 k 0) long ∙ ap (λ l. l ++ skip_code 5 (pc + 16) 0) ea
-    ∙ append_assoc old level (skip_code 5 (pc + 16) 0) in
-    let ends : end ≡ pc + 16 + 3 + length body = omega (
+    let pairing = pairing_code p q (pc + 4) in
+    let first = Mov 2 6 ∷ [] in
+    let la : length a ≡ pc + 1 = omega (arith, ap length ea, length-append old first) in
+    let lb : length b ≡ pc + 4 = omega (
       arith,
-      ee,
-      ap length el,
-      length-append b body,
+      la,
       ap length eb,
-      length-append a (skip_code 5 (length a) 0),
-      long,
+      length-append a (skip_code 2 (length a) past),
     ) in
-    let same : end ≡ pc + 19 + length body = omega (arith, ends) in
-    skip_made level body old b all 5 past end (omega (arith, ep, long)) mid el ends
-    ∙ ap (λ t. old ++ (level ++ (skip_code 5 (pc + 16) t ++ body))) same
+    let to : past ≡ pc + 4 + length pairing = omega (arith, ep, pairing_long p q (pc + 4)) in
+    let skip = skip_code 2 (pc + 1) (pc + 4 + length pairing) in
+    ed ∙ ap (λ l. l ++ last) (ec ∙ ap (λ k. b ++ pairing_code p q k) lb)
+    ∙ append_assoc b pairing last
+    ∙ ap (λ l. l ++ (pairing ++ last)) (eb ∙ ap (λ k. a ++ skip_code 2 k past) la
+    ∙ ap (λ k. a ++ skip_code 2 (pc + 1) k) to)
+    ∙ append_assoc a skip (pairing ++ last)
+    ∙ ap (λ l. l ++ (skip ++ (pairing ++ last))) ea
+    ∙ append_assoc old first (skip ++ (pairing ++ last))
 
--- two bodies at each pair
-pub halves_made : (p q : Part) (old a b c all : List Uop) (past end : ℕ)
-    → a ≡ old ++ level_code (length old) → b ≡ a ++ Mov 2 6 ∷ [] → past ≡ length b + 2
-    → c ≡ b ++ skip_code 2 (length b) 0 → all ≡ c ++ pairing_code p q (length c)
-    → end ≡ length all → set all past (Bnez 7 end) ≡ old ++ halves_code p q (length old)
-halves_made p q old a b c all past end ea eb ep ec el ee =
+-- the whole of it
+pub whole_made : (none odd even : List Uop) (p q : Part) (last old a b c : List Uop) (end : ℕ)
+    → end ≡ length old + 35 + length none + length odd + length even + length p.cmds
+    + length q.cmds + length last
+    → a ≡ old ++ level_code (length old) → b ≡ a ++ begin_code none odd even (length a) end
+    → c ≡ b ++ finish_code p q last (length b)
+    → c ≡ old ++ whole_code none odd even p q last (length old)
+whole_made none odd even p q last old a b c end ee ea eb ec =
     let pc = length old in
+    let at = pc + 22 + length none + length odd + length even in
+    let finish = finish_code p q last at in
     let level = level_code pc in
-    let pre = level ++ Mov 2 6 ∷ [] in
-    let body = pairing_code p q (pc + 20) in
     let la : length a ≡ pc + 16 = omega (arith, ap length ea, length-append old level) in
-    let lb : length b ≡ pc + 17 = omega (arith, la, ap length eb, length-append a (Mov 2 6 ∷ [])) in
-    let lc : length c ≡ pc + 20 = omega (
+    let lb : length b ≡ at = omega (
       arith,
-      lb,
-      ap length ec,
-      length-append b (skip_code 2 (length b) 0),
+      la,
+      ap length eb,
+      length-append a (begin_code none odd even (length a) end),
+      begin_long none odd even (length a) end,
     ) in
-    let front : b ≡ old ++ pre = eb ∙ ap (λ l. l ++ Mov 2 6 ∷ []) ea
-    ∙ append_assoc old level (Mov 2 6 ∷ []) in
-    let mid : c ≡ old ++ (pre ++ skip_code 2 (pc + 17) 0) =
-    ec ∙ ap (λ k. b ++ skip_code 2 k 0) lb ∙ ap (λ l. l ++ skip_code 2 (pc + 17) 0) front
-    ∙ append_assoc old pre (skip_code 2 (pc + 17) 0) in
-    let whole : all ≡ c ++ body = el ∙ ap (λ k. c ++ pairing_code p q k) lc in
-    let ends : end ≡ pc + 17 + 3 + length body = omega (
-      arith,
-      ee,
-      ap length whole,
-      length-append c body,
-      lc,
-    ) in
-    let same : end ≡ pc + 20 + length body = omega (arith, ends) in
-    skip_made pre body old c all 2 past end (omega (arith, ep, lb)) mid whole ends
-    ∙ ap (λ t. old ++ (pre ++ (skip_code 2 (pc + 17) t ++ body))) same
-    ∙ ap (λ l. old ++ l) (append_assoc level (Mov 2 6 ∷ [])
-    (skip_code 2 (pc + 17) (pc + 20 + length body) ++ body))
+    let to : end ≡ at + length finish = omega (arith, ee, finish_long p q last at) in
+    let begin = begin_code none odd even (pc + 16) (at + length finish) in
+    ec ∙ ap (λ k. b ++ finish_code p q last k) lb
+    ∙ ap (λ l. l ++ finish) (eb ∙ ap (λ k. a ++ begin_code none odd even k end) la
+    ∙ ap (λ k. a ++ begin_code none odd even (pc + 16) k) to)
+    ∙ append_assoc a begin finish ∙ ap (λ l. l ++ (begin ++ finish)) ea
+    ∙ append_assoc old level (begin ++ finish)
 
 -- the jump past the loop, once the loop stands
 pub pairs_made : (p : Part) (old mid all : List Uop) (past end : ℕ) → past ≡ length old + 3
@@ -667,7 +677,7 @@ cycle_emits (x ∷ xs) old a b c out head end some eo eh ea eb ec ee =
 -- a nest, instruction by instruction
 pub nest_made : (ps : List Inner) (old a b c d e f : List Uop) (top : ℕ) → 0 < length ps
     → a ≡ old ++ SetI 0 0 ∷ [] → b ≡ a ++ SetN 1 ∷ [] → top ≡ length b → c ≡ b ++ SubI 1 1 ∷ []
-    → EmitsInner (map inner_of ps) c d → e ≡ d ++ AddI 0 1 ∷ [] → f ≡ e ++ Bnez 1 top ∷ []
+    → EmitsInner Full (map inner_of ps) c d → e ≡ d ++ AddI 0 1 ∷ [] → f ≡ e ++ Bnez 1 top ∷ []
     → EmitsSteps (Nest Full (map inner_of ps) ∷ []) old f
 nest_made ps old a b c d e f top some ea eb et ec ed ee ef =
     let two = two_pushes old a b (SetI 0 0) (SetN 1) ea eb in
@@ -684,29 +694,29 @@ nest_made ps old a b c d e f top some ea eb et ec ed ee ef =
     let size : length c ≡ length old + 1 + 1 + 1 =
     omega (arith, ap length three, length-append old pre) in
     span_made Full ps old c d f some ed (λ cs code.
-    let body = inner_list cs (length old + 1 + 1 + 1) in
+    let body = inner_list Full cs (length old + 1 + 1 + 1) in
     two_pushes d e f (AddI 0 1) (Bnez 1 top) ee ef ∙ ap (λ t. d ++ (AddI 0 1 ∷ Bnez 1 t ∷ [])) at
-    ∙ ap (λ l. l ++ post) (code ∙ ap (λ l. l ++ inner_list cs (length c)) three
-    ∙ ap (λ q. (old ++ pre) ++ inner_list cs q) size)
+    ∙ ap (λ l. l ++ post) (code ∙ ap (λ l. l ++ inner_list Full cs (length c)) three
+    ∙ ap (λ q. (old ++ pre) ++ inner_list Full cs q) size)
     ∙ append_assoc (old ++ pre) body post ∙ append_assoc old pre (body ++ post))
 
 -- a nest at the first outer position
 pub first_made : (ps : List Inner) (old a b c : List Uop) → 0 < length ps
-    → a ≡ old ++ SetI 0 0 ∷ [] → b ≡ a ++ SetT 1 ∷ [] → EmitsInner (map inner_of ps) b c
+    → a ≡ old ++ SetI 0 0 ∷ [] → b ≡ a ++ SetT 1 ∷ [] → EmitsInner First (map inner_of ps) b c
     → EmitsSteps (Nest First (map inner_of ps) ∷ []) old c
 first_made ps old a b c some ea eb ec =
     let two : b ≡ old ++ outside = two_pushes old a b (SetI 0 0) (SetT 1) ea eb in
     let size : length b ≡ length old + 1 + 1 =
     omega (arith, ap length two, length-append old outside) in
     span_made First ps old b c c some ec (λ cs code.
-    code ∙ ap (λ l. l ++ inner_list cs (length b)) two
-    ∙ append_assoc old outside (inner_list cs (length b))
-    ∙ ap (λ q. old ++ (outside ++ inner_list cs q)) size)
+    code ∙ ap (λ l. l ++ inner_list First cs (length b)) two
+    ∙ append_assoc old outside (inner_list First cs (length b))
+    ∙ ap (λ q. old ++ (outside ++ inner_list First cs q)) size)
 
 -- the jump past a nest from the second outer position on, once it stands
 pub above_made : (ps : List Inner) (old a b c d : List Uop) (past top end : ℕ) → 0 < length ps
     → past ≡ length old + 3 → top ≡ past + 1 → a ≡ old ++ guard_code (length old) 0
-    → EmitsInner (map inner_of ps) a b → c ≡ b ++ AddI 0 1 ∷ [] → d ≡ c ++ Bnez 1 top ∷ []
+    → EmitsInner Above (map inner_of ps) a b → c ≡ b ++ AddI 0 1 ∷ [] → d ≡ c ++ Bnez 1 top ∷ []
     → end ≡ length d → EmitsSteps (Nest Above (map inner_of ps) ∷ []) old (set d past (Bnez 0 end))
 above_made ps old a b c d past top end some ep et ea eb ec ed ee =
     let head = length old + 1 + 1 + 1 + 1 in
@@ -717,12 +727,12 @@ above_made ps old a b c d past top end some ep et ea eb ec ed ee =
     let back_at : top ≡ head = omega (arith, ep, et) in
     let at : past ≡ length (old ++ front) = omega (arith, ep, length-append old front) in
     span_made Above ps old a b (set d past (Bnez 0 end)) some eb (λ cs code.
-    let body = inner_list cs (head + 1) in
+    let body = inner_list Above cs (head + 1) in
     let rest = SubI 1 1 ∷ (body ++ post) in
     let whole : d ≡ (old ++ front) ++ Bnez 0 0 ∷ rest =
     two_pushes b c d (AddI 0 1) (Bnez 1 top) ec ed
     ∙ ap (λ t. b ++ (AddI 0 1 ∷ Bnez 1 t ∷ [])) back_at
-    ∙ ap (λ l. l ++ post) (code ∙ ap (λ q. a ++ inner_list cs q) long ∙ ap (λ l. l ++ body) ea)
+    ∙ ap (λ l. l ++ post) (code ∙ ap (λ q. a ++ inner_list Above cs q) long ∙ ap (λ l. l ++ body) ea)
     ∙ append_assoc (old ++ guard) body post ∙ append_assoc old guard (body ++ post)
     ∙ sym (append_assoc old front (Bnez 0 0 ∷ rest)) in
     let here : end ≡ head + 1 + length body + 1 + 1 = omega (
@@ -744,13 +754,13 @@ pub nothing_made : (span : Span) (ps : List Inner) (old : List Uop) → length p
 nothing_made span [] old e = empty_emits span old
 nothing_made span (p ∷ ps) old e = absurd (omega arith)
 
-pub inners_short : (xs : List (InnerOf Block)) (old new : List Uop) → EmitsInner xs old new
+pub inners_short : (span : Span) (xs : List (InnerOf Block)) (old new : List Uop) → EmitsInner span xs old new
     → length new ≤ length old + sum_by inner_cost xs
-inners_short xs old new a = omega (
+inners_short span xs old new a = omega (
   arith,
   ap length a.code,
-  length-append old (inner_list a.coded (length old)),
-  inner_few a.coded (length old) a.parts,
+  length-append old (inner_list span a.coded (length old)),
+  inner_few span a.coded (length old) a.parts,
   ap (sum_by inner_cost) a.same,
 )
 

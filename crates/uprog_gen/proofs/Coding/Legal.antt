@@ -9,7 +9,7 @@ use Rattle.std.specs.Prelude.{slice_get, nat_lt, nat_le, ◌==◌, ◌&&◌, ◌
 use Rattle.std.specs.List.{AllByRecursion, list_all}
 use Rattle.std.proofs.Math.Seq.{get_or-append_seam}
 use Rattle.std.proofs.lemmas.Option.{slice_get-get_or}
-use Rattle.std.proofs.lemmas.Bool.{and_parts, and_from, lt-ltb, cases_lt}
+use Rattle.std.proofs.lemmas.Bool.{and_parts, and_from, lt-ltb, cases_lt, eq-eqb, ne_eqb}
 use Rattle.std.proofs.Math.Nat.{mul-le-mul_right}
 use Rattle.op_text.specs.declared.tree.Kind.{Kind}
 use Rattle.uprog_code.specs.declared.code.Uop.{Uop}
@@ -17,9 +17,11 @@ use Rattle.uprog_code.specs.declared.code.Uop.TheVariants.{Done, SetI, SetN, Mov
 use Rattle.uprog_code.specs.Shape.{Shape, results}
 use Rattle.uprog_code.specs.Legal.{is_row, is_first, is_second, may_be_first, may_be_second}
 use Rattle.uprog_code.specs.Legal.{is_legal, IsLegalCode}
+use Rattle.loop_ir.specs.declared.ir.Span.{Span}
 use Rattle.loop_ir.specs.declared.ir.Span.TheVariants.{Full, First, Above}
 use Rattle.loop_ir.specs.Loops.{rounds, RoundOf, round_at, one_round, two_rounds, positions}
-use Rattle.loop_ir.specs.Loops.{elements, inner_rounds, step_rounds, all_rounds}
+use Rattle.loop_ir.specs.Loops.{elements, filled_rounds, level_rounds, inner_rounds, step_rounds}
+use Rattle.loop_ir.specs.Loops.{all_rounds}
 use Rattle.loop_ir.specs.Loops.{sub_value, turns_from}
 use Rattle.row_alloc.specs.declared.body.BodyRef.{BodyRef}
 use Rattle.row_alloc.specs.declared.body.BodyRef.TheVariants as ref
@@ -37,9 +39,9 @@ use Rattle.loop_ir.specs.declared.ir.Space.TheVariants.{Result, Source, ScratchB
 use Rattle.loop_ir.specs.declared.ir.Space.TheVariants.{Cells}
 use Rattle.loop_ir.specs.declared.ir.Count.{Count}
 use Rattle.loop_ir.specs.declared.ir.Count.TheVariants.{All as All_of, Rest, UpTo}
-use Rattle.loop_ir.specs.Plain.{Block, InnerOf, TurnOf, StepOf, turn_map, step_map, AllInner}
+use Rattle.loop_ir.specs.Plain.{Block, LevelOf, InnerOf, TurnOf, StepOf, turn_map, step_map, AllInner}
 use Rattle.loop_ir.specs.Plain.{AllTurns, AllStep, AllParts}
-use Rattle.loop_ir.specs.Plain.InnerOf.{Alone, Across, IfOdd, Halves}
+use Rattle.loop_ir.specs.Plain.InnerOf.{Alone, Across, AtLevel}
 use Rattle.loop_ir.specs.Plain.StepOf.{Single, Along, Nest, Pairs, Alternate}
 use Rattle.loop_ir.specs.Spots.{nth_place, spot_in, IsOwn}
 use Rattle.uprog_gen.specs.Where.{IsSpot, IsBelow}
@@ -48,10 +50,11 @@ use Rattle.uprog_gen.specs.Code.{Part, row_space, register, place_ref, code_ref,
 use Rattle.uprog_gen.specs.Code.{before, after, inits, befores, afters, counter, body_uops}
 use Rattle.uprog_gen.specs.Code.{once_code, turn_code, enter_code, loop_code, inner_list, outside}
 use Rattle.uprog_gen.specs.Code.{turn_plan, turn_uops, either_code, either_size, turns_list}
-use Rattle.uprog_gen.specs.Code.{halve_code, level_code, skip_code, odd_code, pair_plan, pair_uops}
-use Rattle.uprog_gen.specs.Code.{pairing_code, halves_code, step_code, block_of_part, blocks}
+use Rattle.uprog_gen.specs.Code.{halve_code, level_code, leave_code, skip_code, pair_plan}
+use Rattle.uprog_gen.specs.Code.{pair_uops, pairing_code, begin_code, finish_code, whole_code}
+use Rattle.uprog_gen.specs.Code.{none_code, step_code, block_of_part, blocks}
 use Rattle.uprog_gen.specs.Code.{program_code}
-use Rattle.uprog_gen.proofs.Coding.Sizes.{either_long, cycle_long}
+use Rattle.uprog_gen.proofs.Coding.Sizes.{begin_long, either_long, cycle_long}
 use Rattle.loop_ir.specs.Costs.{is_fixed, same_sub, step_bodies}
 use Rattle.loop_ir.specs.Limits.{IsRound}
 use Rattle.uprog_gen.proofs.Rows.Rounds.{block_round}
@@ -227,47 +230,145 @@ module _ (head : Shape) where
   fit_part p part n i o is plan size = uops_legal p part plan n i o is size p.cmds part.does.legal
       part.does.unread
 
-  -- Each body has a round at width 2, those of a nest where the level is odd and has a pair, and
-  -- those that take turns where there are positions enough
-  module _ (n o : ℕ) (below : o < n) (odd : 0 < elements n o % 2) (pair : 0 < elements n (o + 1))
-    where
-      -- the first of some rounds, and what comes after them
-      first_of : (f : ℕ → List (RoundOf Part)) (count : ℕ) (more : List (RoundOf Part)) → 0 < count
-          → AllByRecursion (IsRoundAtWidth n) (map block_round (rounds f 0 count ++ more))
-          → AllByRecursion (IsRoundAtWidth n) (map block_round (f 0))
-          × AllByRecursion (IsRoundAtWidth n) (map block_round more)
-      first_of f zero more some r = absurd (omega arith)
-      first_of f (suc count) more some r =
-          let rest = rounds f (0 + 1) count in
-          let all = subst (AllByRecursion (IsRoundAtWidth n)) (blocks-append (f 0 ++ rest) more) r in
-          let front = front_all (IsRoundAtWidth n) (map block_round (f 0 ++ rest))
-          (map block_round more) all in (
-            front_all (IsRoundAtWidth n) (map block_round (f 0)) (map block_round rest)
-                (subst (AllByRecursion (IsRoundAtWidth n)) (blocks-append (f 0) rest) front),
-            back_all (IsRoundAtWidth n) (map block_round (f 0 ++ rest)) (map block_round more) all,
-          )
+  -- rounds, and more of them
+  abbrev All_at : ℕ → List (RoundOf Part) → Type 0
+  All_at n rs = AllByRecursion (IsRoundAtWidth n) (map block_round rs)
 
-      some_positions : (count : Count) → 0 < positions n o count
-      some_positions All_of = omega (arith, below)
-      some_positions Rest = omega (arith, below)
-      some_positions UpTo = omega arith
+  apart : (n : ℕ) (xs ys : List (RoundOf Part)) → All_at n (xs ++ ys) → All_at n xs × All_at n ys
+  apart n xs ys r =
+      let all = subst (AllByRecursion (IsRoundAtWidth n)) (blocks-append xs ys) r in (
+        front_all (IsRoundAtWidth n) (map block_round xs) (map block_round ys) all,
+        back_all (IsRoundAtWidth n) (map block_round xs) (map block_round ys) all,
+      )
 
-      fit_inner : (xs : List (InnerOf Part)) → AllInner IsPart xs
-          → AllByRecursion (IsRoundAtWidth n) (map block_round (inner_rounds n o xs))
-          → AllInner IsFit xs
-      fit_inner [] h r = tt
-      fit_inner (Alone p ∷ xs) h r = (fit_part p h.0 n 0 o r.0, fit_inner xs h.1 r.1)
-      fit_inner (Across count p ∷ xs) h r =
-          let a = first_of (λ i. one_round p i o) (positions n o count) (inner_rounds n o xs)
-          (some_positions count) r in
-          (fit_part p h.0 n 0 o a.0.0, fit_inner xs h.1 a.1)
-      fit_inner (IfOdd p ∷ xs) h r =
-          let a = first_of (λ i. one_round p i o) (elements n o % 2) (inner_rounds n o xs) odd r in
-          (fit_part p h.0 n 0 o a.0.0, fit_inner xs h.1 a.1)
-      fit_inner (Halves p q ∷ xs) h r =
-          let a = first_of (λ i. two_rounds p q i o) (elements n (o + 1)) (inner_rounds n o xs) pair r
-          in
-          ((fit_part p h.0.0 n 0 o a.0.0, fit_part q h.0.1 n 0 o a.0.1.0), fit_inner xs h.1 a.1)
+  -- the first of some rounds
+  first_of : (n : ℕ) (f : ℕ → List (RoundOf Part)) (count : ℕ) → 0 < count
+      → All_at n (rounds f 0 count) → All_at n (f 0)
+  first_of n f zero some r = absurd (omega arith)
+  first_of n f (suc count) some r = (apart n (f 0) (rounds f (0 + 1) count) r).0
+
+  -- what alone is done at a level without elements
+  none_round : (n o : ℕ) (l : LevelOf Part) → elements n o ≡ 0 → All_at n (level_rounds n o l)
+      → IsRoundAtWidth n (round_at l.none.block 0 o)
+  none_round n o l none r = (subst (λ z. All_at n (cond z (one_round l.none 0 o)
+      (filled_rounds n o l))) (eq-eqb (elements n o) 0 none) r).0
+
+  -- the rounds of a level that has elements
+  some_rounds : (n o : ℕ) (l : LevelOf Part) → 0 < elements n o → All_at n (level_rounds n o l)
+      → All_at n (filled_rounds n o l)
+  some_rounds n o l some r = subst (λ z. All_at n (cond z (one_round l.none 0 o)
+      (filled_rounds n o l))) (ne_eqb (elements n o) 0 (λ e. absurd (omega (arith, e, some)))) r
+
+  abbrev Started : LevelOf Part → ℕ → ℕ → Bool → Type 0
+  Started l n o z = All_at n (one_round (cond z l.even l.odd) 0 o
+      ++ (rounds (λ i. two_rounds l.first l.second i o) 0 (elements n (o + 1))
+      ++ one_round l.end 0 o))
+
+  even_round : (n o : ℕ) (l : LevelOf Part) → 0 < elements n o → elements n o % 2 ≡ 0
+      → All_at n (level_rounds n o l) → IsRoundAtWidth n (round_at l.even.block 0 o)
+  even_round n o l some even r = (subst (Started l n o) (eq-eqb (elements n o % 2) 0 even)
+      (some_rounds n o l some r)).0
+
+  odd_rounds : (n o : ℕ) (l : LevelOf Part) → elements n o % 2 ≡ 1 → All_at n (level_rounds n o l)
+      → Started l n o false
+  odd_rounds n o l odd r = subst (Started l n o) (ne_eqb (elements n o % 2) 0 (λ e.
+      absurd (omega (arith, e, odd)))) (some_rounds n o l (omega (arith, odd)) r)
+
+  -- what alone is done without elements has no code at the first outer position
+  abbrev NoneFits : Span → Part → Type 0
+  NoneFits Full p = IsFit p
+  NoneFits First p = Unit {0}
+  NoneFits Above p = IsFit p
+
+  record LevelFits (span : Span) (l : LevelOf Part) : Type 0 where
+    none : NoneFits span l.none
+    odd : IsFit l.odd
+    even : IsFit l.even
+    first : IsFit l.first
+    second : IsFit l.second
+    end : IsFit l.end
+
+  abbrev InnersFit : Span → List (InnerOf Part) → Type 0
+  InnersFit span [] = Unit {0}
+  InnersFit span (Alone p ∷ xs) = IsFit p × InnersFit span xs
+  InnersFit span (Across count p ∷ xs) = IsFit p × InnersFit span xs
+  InnersFit span (AtLevel l ∷ xs) = LevelFits span l × InnersFit span xs
+
+  abbrev StepFits : StepOf Part → Type 0
+  StepFits (Single p) = IsFit p
+  StepFits (Along p) = IsFit p
+  StepFits (Nest span parts) = InnersFit span parts
+  StepFits (Pairs p) = IsFit p
+  StepFits (Alternate ts) = AllTurns IsFit ts
+
+  abbrev StepsFit : List (StepOf Part) → Type 0
+  StepsFit [] = Unit {0}
+  StepsFit (s ∷ ss) = StepFits s × StepsFit ss
+
+  some_positions : (n o : ℕ) (count : Count) → o < n → 0 < positions n o count
+  some_positions n o All_of below = omega (arith, below)
+  some_positions n o Rest below = omega (arith, below)
+  some_positions n o UpTo below = omega arith
+
+  -- a level without elements, if there is one among the outer positions
+  abbrev NoneAt : Span → List (InnerOf Part) → Type 0
+  NoneAt Full xs = All_at 3 (inner_rounds 3 2 xs)
+  NoneAt First xs = Unit {0}
+  NoneAt Above xs = All_at 3 (inner_rounds 3 2 xs)
+
+  none_past : (span : Span) (rs : List (RoundOf Part)) (x : InnerOf Part) (xs : List (InnerOf Part))
+      → inner_rounds 3 2 (x ∷ xs) ≡ rs ++ inner_rounds 3 2 xs → NoneAt span (x ∷ xs) → NoneAt span xs
+  none_past Full rs x xs e r = (apart 3 rs (inner_rounds 3 2 xs) (subst (All_at 3) e r)).1
+  none_past First rs x xs e r = tt
+  none_past Above rs x xs e r = (apart 3 rs (inner_rounds 3 2 xs) (subst (All_at 3) e r)).1
+
+  none_fits : (span : Span) (l : LevelOf Part) (xs : List (InnerOf Part)) → IsPart l.none
+      → NoneAt span (AtLevel l ∷ xs) → NoneFits span l.none
+  none_fits Full l xs h r = fit_part l.none h 3 0 2 (none_round 3 2 l (omega arith)
+      (apart 3 (level_rounds 3 2 l) (inner_rounds 3 2 xs) r).0)
+  none_fits First l xs h r = tt
+  none_fits Above l xs h r = fit_part l.none h 3 0 2 (none_round 3 2 l (omega arith)
+      (apart 3 (level_rounds 3 2 l) (inner_rounds 3 2 xs) r).0)
+
+  -- Each body has a round at width 2, those that take turns where there are positions enough, and
+  -- those of a nest where one level is odd and has a pair, where one is even and has elements, and
+  -- where one has none
+  module _ (span : Span) (n m o : ℕ) (below : o < n) (odd : elements n o % 2 ≡ 1)
+      (pair : 0 < elements n (o + 1)) (some : 0 < elements m o) (even : elements m o % 2 ≡ 0) where
+    fit_inner : (xs : List (InnerOf Part)) → AllInner IsPart xs → All_at n (inner_rounds n o xs)
+        → All_at m (inner_rounds m o xs) → NoneAt span xs → InnersFit span xs
+    fit_inner [] h r q z = tt
+    fit_inner (Alone p ∷ xs) h r q z = (
+      fit_part p h.0 n 0 o r.0,
+      fit_inner xs h.1 r.1 q.1 (none_past span (one_round p 0 2) (Alone p) xs refl z),
+    )
+    fit_inner (Across count p ∷ xs) h r q z =
+        let a = apart n (rounds (λ i. one_round p i o) 0 (positions n o count))
+        (inner_rounds n o xs) r in
+        let b = apart m (rounds (λ i. one_round p i o) 0 (positions m o count))
+        (inner_rounds m o xs) q in (
+          fit_part p h.0 n 0 o (first_of n (λ i. one_round p i o) (positions n o count)
+              (some_positions n o count below) a.0).0,
+          fit_inner xs h.1 a.1 b.1 (none_past span
+              (rounds (λ i. one_round p i 2) 0 (positions 3 2 count)) (Across count p) xs refl z),
+        )
+    fit_inner (AtLevel l ∷ xs) h r q z =
+        let a = apart n (level_rounds n o l) (inner_rounds n o xs) r in
+        let b = apart m (level_rounds m o l) (inner_rounds m o xs) q in
+        let c = odd_rounds n o l odd a.0 in
+        let pairs = rounds (λ i. two_rounds l.first l.second i o) 0 (elements n (o + 1)) in
+        let d = apart n pairs (one_round l.end 0 o) c.1 in
+        let two = first_of n (λ i. two_rounds l.first l.second i o) (elements n (o + 1)) pair d.0 in (
+          record {
+            none = none_fits span l xs h.0.none z;
+            odd = fit_part l.odd h.0.odd n 0 o c.0;
+            even = fit_part l.even h.0.even m 0 o (even_round m o l some even b.0);
+            first = fit_part l.first h.0.first n 0 o two.0;
+            second = fit_part l.second h.0.second n 0 o two.1.0;
+            end = fit_part l.end h.0.end n 0 o d.1.0;
+          },
+          fit_inner xs h.1 a.1 b.1 (none_past span (level_rounds 3 2 l) (AtLevel l) xs refl z),
+        )
 
   fit_turns : (ts us : List (TurnOf Part)) (i : ℕ) → AllTurns IsPart ts
       → i + length ts < WIDTH_MAX
@@ -288,17 +389,18 @@ module _ (head : Shape) where
         (r (suc count) (omega (arith, le))).1)),
   )
 
-  -- a nest of which some outer position has a round of each body
-  fit_nest : (n o count : ℕ) (parts : List (InnerOf Part)) → AllInner IsPart parts → o < n
-      → 0 < elements n o % 2 → 0 < elements n (o + 1)
-      → AllByRecursion (IsRoundAtWidth n) (map block_round (rounds (λ j. inner_rounds n j parts) o
-      (suc count))) → AllInner IsFit parts
-  fit_nest n o count parts h below odd pair r =
-      let first = inner_rounds n o parts in
-      let more = rounds (λ j. inner_rounds n j parts) (o + 1) count in
-      fit_inner n o below odd pair parts h (front_all (IsRoundAtWidth n) (map block_round first)
-      (map block_round more)
-      (subst (AllByRecursion (IsRoundAtWidth n)) (blocks-append first more) r))
+  -- the rounds of a nest at the first of some outer positions, and at the third
+  at_first : (n o count : ℕ) (parts : List (InnerOf Part))
+      → All_at n (rounds (λ j. inner_rounds n j parts) o (suc count))
+      → All_at n (inner_rounds n o parts)
+  at_first n o count parts r =
+      (apart n (inner_rounds n o parts) (rounds (λ j. inner_rounds n j parts) (o + 1) count) r).0
+
+  after_first : (n o count : ℕ) (parts : List (InnerOf Part))
+      → All_at n (rounds (λ j. inner_rounds n j parts) o (suc count))
+      → All_at n (rounds (λ j. inner_rounds n j parts) (o + 1) count)
+  after_first n o count parts r =
+      (apart n (inner_rounds n o parts) (rounds (λ j. inner_rounds n j parts) (o + 1) count) r).1
 
   -- at each width the rounds are such
   abbrev AtWidths : (ℕ → List (RoundOf Part)) → Type 0
@@ -306,15 +408,24 @@ module _ (head : Shape) where
       → AllByRecursion (IsRoundAtWidth n) (map block_round (rs n))
 
   fit_step : (s : StepOf Part) → AllStep IsPart s → step_bodies (step_map block_of_part s) ≤ 12
-      → AtWidths (λ n. step_rounds n s) → AllStep IsFit s
+      → AtWidths (λ n. step_rounds n s) → StepFits s
   fit_step (Single p) h few r = fit_part p h 2 0 0 (r 2 (omega arith) (omega arith)).0
   fit_step (Along p) h few r = fit_part p h 2 0 0 (r 2 (omega arith) (omega arith)).0
-  fit_step (Nest Full parts) h few r = fit_nest 3 0 2 parts h (omega arith) (omega arith)
-      (omega arith) (r 3 (omega arith) (omega arith))
-  fit_step (Nest First parts) h few r = fit_nest 3 0 0 parts h (omega arith) (omega arith)
-      (omega arith) (r 3 (omega arith) (omega arith))
-  fit_step (Nest Above parts) h few r = fit_nest 6 1 4 parts h (omega arith) (omega arith)
-      (omega arith) (r 6 (omega arith) (omega arith))
+  fit_step (Nest Full parts) h few r =
+      let three = r 3 (omega arith) (omega arith) in
+      fit_inner Full 3 2 0 (omega arith) (omega arith) (omega arith) (omega arith) (omega arith)
+      parts h (at_first 3 0 2 parts three)
+      (at_first 2 0 1 parts (r 2 (omega arith) (omega arith)))
+      (at_first 3 2 0 parts (after_first 3 1 1 parts (after_first 3 0 2 parts three)))
+  fit_step (Nest First parts) h few r =
+      fit_inner First 3 2 0 (omega arith) (omega arith) (omega arith) (omega arith) (omega arith)
+      parts h (at_first 3 0 0 parts (r 3 (omega arith) (omega arith)))
+      (at_first 2 0 0 parts (r 2 (omega arith) (omega arith))) tt
+  fit_step (Nest Above parts) h few r =
+      fit_inner Above 6 4 1 (omega arith) (omega arith) (omega arith) (omega arith) (omega arith)
+      parts h (at_first 6 1 4 parts (r 6 (omega arith) (omega arith)))
+      (at_first 4 1 2 parts (r 4 (omega arith) (omega arith)))
+      (at_first 3 2 0 parts (after_first 3 1 1 parts (r 3 (omega arith) (omega arith))))
   fit_step (Pairs p) h few r = fit_part p h 2 0 1 (r 2 (omega arith) (omega arith)).0
   fit_step (Alternate ts) h few r =
       let many : 2 * length ts ≤ 12 = omega (
@@ -331,7 +442,7 @@ module _ (head : Shape) where
       (r n (omega arith) (omega (arith, lt)))))
 
   fit_steps : (ss : List (StepOf Part)) → AllParts IsPart ss → AreFew (blocks ss)
-      → AtWidths (λ n. all_rounds n ss) → AllParts IsFit ss
+      → AtWidths (λ n. all_rounds n ss) → StepsFit ss
   fit_steps [] h few r = tt
   fit_steps (s ∷ ss) h few r = (
     fit_step s h.0 few.0 (λ n some small. first_rounds n (r n some small)),
@@ -463,22 +574,6 @@ module _ (head : Shape) where
         (refl, (to (pc + 13) (omega arith), (refl, (refl, (to (pc + 6) (omega arith), tt))))))
         (refl, (refl, (to (pc + 3) (omega arith), tt))))
 
-    odd_legal : (p : Part) (pc : ℕ) → IsFit p → pc + length (odd_code p pc) < size
-        → L (odd_code p pc)
-    odd_legal p pc fit lt =
-        let own = once_code p in
-        let end = pc + 19 + length own in
-        let skip = skip_code 5 (pc + 16) end in
-        let long = length-append (level_code pc) (skip ++ own) in
-        let all = length-append skip own in
-        let at_end : end < size = omega (arith, lt, long, all) in
-        join (level_code pc) (skip ++ own) (level_legal pc (omega (arith, at_end)))
-        (join skip own (
-          lt-ltb (pc + 16 + 3) size (omega (arith, at_end)),
-          (refl, (lt-ltb end size at_end, tt)),
-        )
-        (once_legal p fit))
-
     pairing_legal : (p q : Part) (pc : ℕ) → IsFit p → IsFit q
         → pc + length (pairing_code p q pc) < size → L (pairing_code p q pc)
     pairing_legal p q pc fit_p fit_q lt =
@@ -493,47 +588,88 @@ module _ (head : Shape) where
         (join (pair_uops p) (pair_uops q) (fit_p pair_plan size) (fit_q pair_plan size)))
         (lt-ltb (pc + length enter) size target, tt))
 
-    halves_legal : (p q : Part) (pc : ℕ) → IsFit p → IsFit q
-        → pc + length (halves_code p q pc) < size → L (halves_code p q pc)
-    halves_legal p q pc fit_p fit_q lt =
-        let loop = pairing_code p q (pc + 20) in
-        let end = pc + 20 + length loop in
-        let skip = skip_code 2 (pc + 17) end in
-        let long = length-append (level_code pc) (Mov 2 6 ∷ (skip ++ loop)) in
-        let all = length-append skip loop in
-        let at_end : end < size = omega (arith, lt, long, all) in
-        join (level_code pc) (Mov 2 6 ∷ (skip ++ loop)) (level_legal pc (omega (arith, at_end))) (
-          refl,
-          join skip loop (
-            lt-ltb (pc + 17 + 3) size (omega (arith, at_end)),
-            (refl, (lt-ltb end size at_end, tt)),
-          )
-              (pairing_legal p q (pc + 20) fit_p fit_q at_end),
+    leave_legal : (to : ℕ) → to < size → L (leave_code to)
+    leave_legal to lt = (refl, (lt-ltb to size lt, tt))
+
+    begin_legal : (none odd even : List Uop) (pc end : ℕ) → L none → L odd → L even → end < size
+        → pc + length (begin_code none odd even pc end) < size → L (begin_code none odd even pc end)
+    begin_legal none odd even pc end h k m at_end lt =
+        let odd_at = pc + 4 + length none in
+        let even_at = odd_at + 2 + length odd in
+        let next = even_at + length even in
+        let long = begin_long none odd even pc end in
+        let rest = leave_code next ++ even in (
+          lt-ltb odd_at size (omega (arith, lt, long)),
+          (
+            lt-ltb even_at size (omega (arith, lt, long)),
+            join none (leave_code end ++ (odd ++ rest)) h
+                (join (leave_code end) (odd ++ rest) (leave_legal end at_end)
+                (join odd rest k (join (leave_code next) even
+                (leave_legal next (omega (arith, lt, long))) m))),
+          ),
         )
 
-    inner_legal : (xs : List (InnerOf Part)) (pc : ℕ) → AllInner IsFit xs
-        → pc + length (inner_list xs pc) < size → L (inner_list xs pc)
-    inner_legal [] pc h le = tt
-    inner_legal (Alone p ∷ xs) pc h le =
+    finish_legal : (p q : Part) (last : List Uop) (pc : ℕ) → IsFit p → IsFit q → L last
+        → pc + length (finish_code p q last pc) < size → L (finish_code p q last pc)
+    finish_legal p q last pc fit_p fit_q h lt =
+        let loop = pairing_code p q (pc + 4) in
+        let end = pc + 4 + length loop in
+        let skip = skip_code 2 (pc + 1) end in
+        let all = length-append loop last in
+        let at_end : end < size = omega (arith, lt, all) in (
+          refl,
+          join skip (loop ++ last) (
+            lt-ltb (pc + 1 + 3) size (omega (arith, at_end)),
+            leave_legal end at_end,
+          )
+              (join loop last (pairing_legal p q (pc + 4) fit_p fit_q at_end) h),
+        )
+
+    whole_legal : (none odd even : List Uop) (p q : Part) (last : List Uop) (pc : ℕ) → L none
+        → L odd → L even → IsFit p → IsFit q → L last
+        → pc + length (whole_code none odd even p q last pc) < size
+        → L (whole_code none odd even p q last pc)
+    whole_legal none odd even p q last pc h k m fit_p fit_q z lt =
+        let at = pc + 22 + length none + length odd + length even in
+        let finish = finish_code p q last at in
+        let begin = begin_code none odd even (pc + 16) (at + length finish) in
+        let long = length-append begin finish in
+        let first = begin_long none odd even (pc + 16) (at + length finish) in
+        join (level_code pc) (begin ++ finish) (level_legal pc (omega (arith, lt)))
+        (join begin finish
+        (begin_legal none odd even (pc + 16) (at + length finish) h k m
+        (omega (arith, lt, long, first)) (omega (arith, lt, long, first)))
+        (finish_legal p q last at fit_p fit_q z (omega (arith, lt, long, first))))
+
+    none_legal : (span : Span) (p : Part) → NoneFits span p → L (none_code span p)
+    none_legal Full p fit = once_legal p fit
+    none_legal First p fit = tt
+    none_legal Above p fit = once_legal p fit
+
+    inner_legal : (span : Span) (xs : List (InnerOf Part)) (pc : ℕ) → InnersFit span xs
+        → pc + length (inner_list span xs pc) < size → L (inner_list span xs pc)
+    inner_legal span [] pc h le = tt
+    inner_legal span (Alone p ∷ xs) pc h le =
         let a = once_code p in
-        let b = inner_list xs (pc + length a) in
-        join a b (once_legal p h.0) (inner_legal xs (pc + length a) h.1
+        let b = inner_list span xs (pc + length a) in
+        join a b (once_legal p h.0) (inner_legal span xs (pc + length a) h.1
         (omega (arith, le, length-append a b)))
-    inner_legal (Across count p ∷ xs) pc h le =
+    inner_legal span (Across count p ∷ xs) pc h le =
         let a = loop_code count p pc in
-        let b = inner_list xs (pc + length a) in
+        let b = inner_list span xs (pc + length a) in
         join a b (loop_legal count p pc h.0 (omega (arith, le, length-append a b)))
-        (inner_legal xs (pc + length a) h.1 (omega (arith, le, length-append a b)))
-    inner_legal (IfOdd p ∷ xs) pc h le =
-        let a = odd_code p pc in
-        let b = inner_list xs (pc + length a) in
-        join a b (odd_legal p pc h.0 (omega (arith, le, length-append a b)))
-        (inner_legal xs (pc + length a) h.1 (omega (arith, le, length-append a b)))
-    inner_legal (Halves p q ∷ xs) pc h le =
-        let a = halves_code p q pc in
-        let b = inner_list xs (pc + length a) in
-        join a b (halves_legal p q pc h.0.0 h.0.1 (omega (arith, le, length-append a b)))
-        (inner_legal xs (pc + length a) h.1 (omega (arith, le, length-append a b)))
+        (inner_legal span xs (pc + length a) h.1 (omega (arith, le, length-append a b)))
+    inner_legal span (AtLevel l ∷ xs) pc h le =
+        let none = none_code span l.none in
+        let odd = once_code l.odd in
+        let even = once_code l.even in
+        let last = once_code l.end in
+        let a = whole_code none odd even l.first l.second last pc in
+        let b = inner_list span xs (pc + length a) in
+        join a b (whole_legal none odd even l.first l.second last pc
+        (none_legal span l.none h.0.none) (once_legal l.odd h.0.odd) (once_legal l.even h.0.even)
+        h.0.first h.0.second (once_legal l.end h.0.end) (omega (arith, le, length-append a b)))
+        (inner_legal span xs (pc + length a) h.1 (omega (arith, le, length-append a b)))
 
     single_legal : (p : Part) (fixed : Bool) → IsFit p
         → L (cond fixed (body_uops p) (outside ++ once_code p))
@@ -563,22 +699,22 @@ module _ (head : Shape) where
         (turns_legal ts out (pc + either_size t.each t.last) h.1 lt
         (omega (arith, le, long, both_long)))
 
-    step_legal : (s : StepOf Part) (pc : ℕ) → AllStep IsFit s → pc + length (step_code s pc) < size
+    step_legal : (s : StepOf Part) (pc : ℕ) → StepFits s → pc + length (step_code s pc) < size
         → L (step_code s pc)
     step_legal (Single p) pc h le = single_legal p (is_fixed p.block) h
     step_legal (Along p) pc h le =
         (refl, (refl, loop_legal All_of p (pc + 1 + 1) h (omega (arith, le))))
     step_legal (Nest span []) pc h le = tt
     step_legal (Nest First (x ∷ xs)) pc h le =
-        (refl, (refl, inner_legal (x ∷ xs) (pc + 1 + 1) h (omega (arith, le))))
+        (refl, (refl, inner_legal First (x ∷ xs) (pc + 1 + 1) h (omega (arith, le))))
     step_legal (Nest Above (x ∷ xs)) pc h le =
         let top = pc + 1 + 1 + 1 + 1 in
-        let a = inner_list (x ∷ xs) (top + 1) in
+        let a = inner_list Above (x ∷ xs) (top + 1) in
         let post = AddI 0 1 ∷ Bnez 1 top ∷ [] in
         let all = length-append a post in
         let target : top < size = omega (arith, le, all) in
         let end : top + 1 + length a + 1 + 1 < size = omega (arith, le, all) in
-        let rest = join a post (inner_legal (x ∷ xs) (top + 1) h (omega (arith, le, all)))
+        let rest = join a post (inner_legal Above (x ∷ xs) (top + 1) h (omega (arith, le, all)))
         (refl, (lt-ltb top size target, tt)) in (
           refl,
           (
@@ -591,7 +727,7 @@ module _ (head : Shape) where
         )
     step_legal (Nest Full (x ∷ xs)) pc h le =
         let q = pc + 1 + 1 + 1 in
-        let a = inner_list (x ∷ xs) q in
+        let a = inner_list Full (x ∷ xs) q in
         let post = AddI 0 1 ∷ Bnez 1 (pc + 1 + 1) ∷ [] in
         let target : pc + 1 + 1 < size = omega (arith, le, length-append a post) in (
           refl,
@@ -599,7 +735,7 @@ module _ (head : Shape) where
             refl,
             (
               refl,
-              join a post (inner_legal (x ∷ xs) q h (omega (arith, le, length-append a post)))
+              join a post (inner_legal Full (x ∷ xs) q h (omega (arith, le, length-append a post)))
                   (refl, (lt-ltb (pc + 1 + 1) size target, tt)),
             ),
           ),
@@ -646,7 +782,7 @@ module _ (head : Shape) where
           ),
         )
 
-    program_legal : (ss : List (StepOf Part)) (pc : ℕ) → AllParts IsFit ss
+    program_legal : (ss : List (StepOf Part)) (pc : ℕ) → StepsFit ss
         → pc + length (program_code ss pc) < size → L (program_code ss pc)
     program_legal [] pc h le = tt
     program_legal (s ∷ ss) pc h le =

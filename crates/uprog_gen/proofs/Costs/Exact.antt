@@ -1,7 +1,8 @@
 -- Each word operation's loop program has settled bodies, and takes exactly the operation's
 -- commands.
-use Rattle.std.proofs.Common.{◌≡◌, ℕ, ◌+◌, ◌-◌, ◌*◌, ◌/◌, ◌%◌, ◌<◌, Bool, true, false, cond}
-use Rattle.std.proofs.Common.{⊎_elim}
+use Rattle.std.proofs.Common.{◌≡◌, ℕ, zero, suc, ◌+◌, ◌-◌, ◌*◌, ◌/◌, ◌%◌, ◌<◌, Bool, true, false}
+use Rattle.std.proofs.Common.{cond, ⊎_elim}
+use Rattle.std.specs.Prelude.{◌==◌}
 use Rattle.std.proofs.lemmas.Bool.{cases_eq}
 use Rattle.std.proofs.Common.{List, [], ◌∷◌, map, length, Some, refl, sym, ap, ◌∙◌, subst, arith}
 use Rattle.op_text.specs.declared.tree.Kind.{Kind}
@@ -14,17 +15,18 @@ use Rattle.op_text.specs.WordOps.{row_of, forms, signature_forms, filled, given_
 use Rattle.op_text.specs.Meaning.{width}
 use Rattle.op_text.proofs.Operations.{first_settles}
 use Rattle.loop_ir.specs.Plain.{Block, TurnOf, StepOf, AllParts, turn_map}
-use Rattle.loop_ir.specs.Loops.{all_rounds}
+use Rattle.loop_ir.specs.Loops.{all_rounds, elements}
 use Rattle.loop_laws.specs.Rooms.{Marked, placed_body, placed_steps}
 use Rattle.loop_laws.proofs.Alike.{InRooms}
-use Rattle.loop_laws.proofs.Summed.{rounds_sum, sum_is, turns_sum, cycle_sum, turns_cycle}
+use Rattle.loop_laws.proofs.Summed.{rounds_sum, level_sum, levels_sum, sum_is, turns_sum}
+use Rattle.loop_laws.proofs.Summed.{cycle_sum, turns_cycle}
 use Rattle.word_lower.specs.declared.table.ProgramRow.{ProgramRow}
 use Rattle.word_lower.specs.declared.table.ProgramRow.TheVariants.{Spread}
 use Rattle.word_lower.specs.Programs.{program, program_of}
 use Rattle.word_lower.proofs.ByTurns.{and_turns, or_turns, xor_turns}
 use Rattle.word_lower.proofs.Rectified.{relu_turns}
 use Rattle.word_mul.specs.Programs.{is_nested, nested}
-use Rattle.word_mul.proofs.Totals.{triangle, triangle_below, low_odd, low_pairs}
+use Rattle.word_mul.proofs.Totals.{triangle, triangle_below, lowest, higher, levels_take}
 use Rattle.uprog_gen.specs.Costs.{op_aaps, op_aps}
 use Rattle.uprog_gen.specs.Settled.{turn_aaps, turn_aps, IsSettled}
 use Rattle.uprog_gen.proofs.Costs.Placed.{steps_settle, settled_steps, aaps_like, aps_like}
@@ -94,14 +96,50 @@ three_by f ts a b c d n total some three ea eb ed ec one two last =
     (cases_eq ((n - 1) % 3) 1))
     (cases_eq ((n - 1) % 3) 0)
 
+-- each level of a count takes a command, one with elements one more, one with an odd number of them
+-- one more, and each pair seven
+count_aaps : (n : ℕ) → 0 < n
+    → rounds_sum turn_aaps (all_rounds n (placed_steps [] (nested op.Bitcount)))
+    ≡ op_aaps op.Bitcount n
+count_aaps zero some = absurd (omega arith)
+count_aaps (suc k) some =
+    let h = sum_is turn_aaps (suc k) (placed_steps [] (nested op.Bitcount)) in
+    let a = levels_take turn_aaps (suc k) 7 lowest higher (record {
+      none = refl;
+      odd = refl;
+      even = refl;
+      pairs = refl;
+      end = refl;
+    }) (record { none = refl; odd = refl; even = refl; pairs = refl; end = refl }) k in
+    let one : suc k - 1 ≡ k = omega arith in
+    let g = ap (λ i. levels_sum turn_aaps (suc k) 1 i higher) one in
+    omega (arith, h, a, g)
+
+-- and none of them an AP
+zero_either : (z : Bool) (x : ℕ) → x ≡ 0 → cond z 0 x ≡ 0
+zero_either true x e = refl
+zero_either false x e = e
+
+nothing : (z y : Bool) (h : ℕ) → cond z 0 (cond {A = ℕ} y 0 0 + (h * 0 + 0)) ≡ 0
+nothing z y h = let e = zero_either y 0 refl in
+    zero_either z (cond {A = ℕ} y 0 0 + (h * 0 + 0)) (omega (arith, e))
+
+no_ap : (n o : ℕ) → level_sum turn_aps n o lowest ≡ 0
+no_ap n o = nothing (elements n o == 0) (elements n o % 2 == 0) (elements n (o + 1))
+
+no_aps : (n o count : ℕ) → levels_sum turn_aps n o count higher ≡ 0
+no_aps n o zero = refl
+no_aps n o (suc count) =
+    let a = nothing (elements n o == 0) (elements n o % 2 == 0) (elements n (o + 1)) in
+    let b = no_aps n (o + 1) count in
+    omega (arith, a, b)
+
 numbered_aaps : (p : WordOp) (k : Kind) (n : ℕ) → 0 < n
     → rounds_sum turn_aaps (all_rounds n (placed_steps [] (Numbered p k)))
     ≡ op_aaps p (op_width p k n)
 numbered_aaps op.Mul k n some = let h = sum_is turn_aaps n (placed_steps [] (Numbered op.Mul k)) in
     omega (arith, h, triangle_below n, some)
-numbered_aaps op.Bitcount k n some =
-    let h = sum_is turn_aaps n (placed_steps [] (Numbered op.Bitcount k)) in
-    omega (arith, h, low_odd n, low_pairs n, some)
+numbered_aaps op.Bitcount k n some = count_aaps n some
 numbered_aaps op.Relu k n some =
     let h = sum_is turn_aaps n (placed_steps [] (Numbered op.Relu k)) in
     let e = two_by turn_aaps (map (turn_map (placed_body [])) relu_turns) 1 4 6 n
@@ -136,7 +174,9 @@ numbered_aps op.Mul k n some = let h = sum_is turn_aps n (placed_steps [] (Numbe
     omega (arith, h, triangle_below n, some)
 numbered_aps op.Bitcount k n some =
     let h = sum_is turn_aps n (placed_steps [] (Numbered op.Bitcount k)) in
-    omega (arith, h, low_odd n, low_pairs n, some)
+    let a = no_aps n 1 (n - 1) in
+    let b = no_ap n 0 in
+    omega (arith, h, a, b)
 numbered_aps op.Relu k n some =
     let h = sum_is turn_aps n (placed_steps [] (Numbered op.Relu k)) in
     let e = two_by turn_aps (map (turn_map (placed_body [])) relu_turns) 0 0 0 n

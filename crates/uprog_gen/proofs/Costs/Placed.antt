@@ -5,15 +5,16 @@ use Rattle.std.proofs.Common.{◌∙◌}
 use Rattle.std.specs.Prelude.{◌&&◌, ◌||◌, count_by}
 use Rattle.std.proofs.lemmas.Bool.{and_parts}
 use Rattle.row_alloc.specs.declared.body.BodyCmd.{BodyCmd}
-use Rattle.loop_ir.specs.Plain.{Block, InnerOf, StepOf, inner_map, turn_map, AllInner, AllParts}
-use Rattle.loop_ir.specs.Plain.{all_turns}
-use Rattle.loop_ir.specs.Plain.InnerOf.{Alone, Across, IfOdd, Halves}
+use Rattle.loop_ir.specs.Plain.{Block, InnerOf, StepOf, level_map, inner_map, turn_map, AllInner}
+use Rattle.loop_ir.specs.Plain.{AllParts, all_level, all_turns}
+use Rattle.loop_ir.specs.Plain.InnerOf.{Alone, Across, AtLevel}
 use Rattle.loop_ir.specs.Plain.StepOf.{Single, Along, Nest, Pairs, Alternate}
 use Rattle.loop_ir.specs.Loops.{all_rounds}
 use Rattle.loop_ir.specs.States.{has_states, held_of}
 use Rattle.loop_ir.specs.Costs.{is_copy}
 use Rattle.loop_laws.specs.Rooms.{Room, Marked, placed_body, placed_steps}
 use Rattle.loop_laws.proofs.Alike.{HaveRows, has_like, held_like, rounds_like}
+use Rattle.loop_laws.proofs.EveryRound.{level_tested}
 use Rattle.loop_laws.proofs.Summed.{rounds_sum}
 use Rattle.loop_laws.proofs.TakingTurns.{turns_tested, turns_mapped}
 use Rattle.uprog_gen.specs.Settled.{word_of, word_commands, held_commands, turn_count, is_aap}
@@ -23,8 +24,7 @@ abbrev inners_settle : List (InnerOf Block) → Bool
 inners_settle [] = true
 inners_settle (Alone b ∷ ps) = is_settled b && inners_settle ps
 inners_settle (Across c b ∷ ps) = is_settled b && inners_settle ps
-inners_settle (IfOdd b ∷ ps) = is_settled b && inners_settle ps
-inners_settle (Halves b c ∷ ps) = (is_settled b && is_settled c) && inners_settle ps
+inners_settle (AtLevel l ∷ ps) = all_level is_settled l && inners_settle ps
 
 -- and those of every body of a loop program
 abbrev pub steps_settle : List (StepOf Block) → Bool
@@ -54,15 +54,20 @@ module _ (rooms : List Room) (rows : HaveRows rooms) where
       let p = and_parts (is_settled (placed_body [] b))
       (inners_settle (map (inner_map (placed_body [])) ps)) h in
       (settled_placed b p.0, inners_settled ps p.1)
-  inners_settled (IfOdd b ∷ ps) h =
-      let p = and_parts (is_settled (placed_body [] b))
+  inners_settled (AtLevel l ∷ ps) h =
+      let p = and_parts (all_level is_settled (level_map (placed_body []) l))
       (inners_settle (map (inner_map (placed_body [])) ps)) h in
-      (settled_placed b p.0, inners_settled ps p.1)
-  inners_settled (Halves b c ∷ ps) h =
-      let p = and_parts (is_settled (placed_body [] b) && is_settled (placed_body [] c))
-      (inners_settle (map (inner_map (placed_body [])) ps)) h in
-      let q = and_parts (is_settled (placed_body [] b)) (is_settled (placed_body [] c)) p.0 in
-      ((settled_placed b q.0, settled_placed c q.1), inners_settled ps p.1)
+      let t = level_tested is_settled (level_map (placed_body []) l) p.0 in (
+        record {
+          none = settled_placed l.none t.none;
+          odd = settled_placed l.odd t.odd;
+          even = settled_placed l.even t.even;
+          first = settled_placed l.first t.first;
+          second = settled_placed l.second t.second;
+          end = settled_placed l.end t.end;
+        },
+        inners_settled ps p.1,
+      )
 
   pub settled_steps : (ss : List (StepOf Marked)) → steps_settle (placed_steps [] ss) ≡ true
       → AllParts IsSettled (placed_steps rooms ss)

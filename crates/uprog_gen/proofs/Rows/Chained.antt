@@ -11,14 +11,14 @@ use Rattle.loop_ir.specs.Chains.{surely}
 use Rattle.loop_ir.specs.Loops.{step_rounds}
 use Rattle.loop_ir.specs.declared.ir.Count.{Count}
 use Rattle.loop_ir.specs.declared.ir.Count.TheVariants.{All, Rest, UpTo}
-use Rattle.loop_ir.specs.Plain.{Block, InnerOf, StepOf, TurnOf}
-use Rattle.loop_ir.specs.Plain.InnerOf.{Alone, Across, IfOdd, Halves}
+use Rattle.loop_ir.specs.Plain.{Block, LevelOf, InnerOf, StepOf, TurnOf}
+use Rattle.loop_ir.specs.Plain.InnerOf.{Alone, Across, AtLevel}
 use Rattle.loop_ir.specs.Plain.StepOf.{Single, Along, Nest, Pairs, Alternate}
 use Rattle.loop_ir.specs.Loops.{RoundOf, one_round, two_rounds, rounds, positions, elements}
-use Rattle.loop_ir.specs.Loops.{inner_rounds}
-use Rattle.loop_ir.specs.Loops.{all_rounds, turns_from}
+use Rattle.loop_ir.specs.Loops.{filled_rounds, level_rounds, inner_rounds, all_rounds, turns_from}
 use Rattle.loop_ir.specs.Chains.{states_in, is_alive, finds, left_by, loop_finds, inner_left}
-use Rattle.loop_ir.specs.Chains.{common, inner_finds, steps_find, turns_left, turns_find}
+use Rattle.loop_ir.specs.Chains.{common, begun_by, level_left, pairs_find, level_finds}
+use Rattle.loop_ir.specs.Chains.{inner_finds, steps_find, turns_left, turns_find}
 use Rattle.uprog_gen.proofs.Rows.Alive.{chained}
 
 -- the states that the last of the rounds leaves
@@ -151,22 +151,6 @@ common_back [] ls w e = absurd cc
 common_back (x ∷ xs) ls w e =
     back_by (is_alive x ls) x (common xs ls) ls w refl (common_back xs ls) e
 
-both_by : (b : Bool) (x : ℕ) (ys xs ls : List ℕ) (w : ℕ) → is_alive x ls ≡ b
-    → (is_alive w xs ≡ true → is_alive w ys ≡ true) → is_alive w ls ≡ true
-    → is_alive w (x ∷ xs) ≡ true → is_alive w (cond b (x ∷ ys) ys) ≡ true
-both_by true x ys xs ls w is h f e = or_to (x == w) (is_alive w xs) (is_alive w ys) h e
-both_by false x ys xs ls w is h f e = ⊎_elim
-    (λ (t : (x == w) ≡ true). absurd (let g : false ≡ true = sym is
-    ∙ subst (λ v. is_alive v ls ≡ true) (sym (eqb-true x w t)) f in cc))
-    (λ (n : (x == w) ≡ false). h (sym (ap (λ b. b || is_alive w xs) n) ∙ e))
-    (cases_Bool (x == w))
-
-common_both : (xs ls : List ℕ) (w : ℕ) → is_alive w xs ≡ true → is_alive w ls ≡ true
-    → is_alive w (common xs ls) ≡ true
-common_both [] ls w e f = e
-common_both (x ∷ xs) ls w e f = both_by (is_alive x ls) x (common xs ls) xs ls w refl
-    (λ h. common_both xs ls w h f) f e
-
 -- a nest leaves always the same, or nothing new
 left_kind : (ps : List (InnerOf Block))
     → ((xs ys : List ℕ) → inner_left xs ps ≡ inner_left ys ps)
@@ -174,33 +158,15 @@ left_kind : (ps : List (InnerOf Block))
 left_kind [] = inr (λ xs w e. e)
 left_kind (Alone b ∷ ps) = inl (λ xs ys. refl)
 left_kind (Across c b ∷ ps) = inl (λ xs ys. refl)
-left_kind (IfOdd b ∷ ps) = elim (left_kind ps) [
-  | inl same ↦ inl (λ xs ys. same (common xs (left_by b)) (common ys (left_by b)))
-  | inr old ↦ inr (λ xs w e. common_front xs (left_by b) w (old (common xs (left_by b)) w e))
-]
-left_kind (Halves b c ∷ ps) = elim (left_kind ps) [
-  | inl same ↦ inl (λ xs ys. same (common xs (left_by c)) (common ys (left_by c)))
-  | inr old ↦ inr (λ xs w e. common_front xs (left_by c) w (old (common xs (left_by c)) w e))
-]
+left_kind (AtLevel l ∷ ps) = inl (λ xs ys. refl)
 
 -- what it leaves is left again where that is found
-left_common : (ps : List (InnerOf Block)) (xs ys left : List ℕ)
-    → ((us vs : List ℕ) → Within (inner_left us ps) vs
-    → Within (inner_left us ps) (inner_left vs ps)) → Within (inner_left (common xs left) ps) ys
-    → Within (inner_left (common xs left) ps) (inner_left (common ys left) ps)
-left_common ps xs ys left more h = elim (left_kind ps) [
-  | inl same ↦ (λ w e. subst (λ l. is_alive w l ≡ true) (same (common xs left) (common ys left)) e)
-  | inr old ↦ more (common xs left) (common ys left) (λ w e. common_both ys left w (h w e)
-      (common_back xs left w (old (common xs left) w e)))
-]
-
 left_from : (ps : List (InnerOf Block)) (xs ys : List ℕ) → Within (inner_left xs ps) ys
     → Within (inner_left xs ps) (inner_left ys ps)
 left_from [] xs ys h = h
 left_from (Alone b ∷ ps) xs ys h = λ w e. e
 left_from (Across c b ∷ ps) xs ys h = λ w e. e
-left_from (IfOdd b ∷ ps) xs ys h = left_common ps xs ys (left_by b) (left_from ps) h
-left_from (Halves b c ∷ ps) xs ys h = left_common ps xs ys (left_by c) (left_from ps) h
+left_from (AtLevel l ∷ ps) xs ys h = λ w e. e
 
 left_again : (ps : List (InnerOf Block)) (alive : List ℕ)
     → Within (inner_left alive ps) (inner_left (inner_left alive ps) ps)
@@ -212,10 +178,6 @@ left_back ps alive = elim (left_kind ps) [
   | inl same ↦ (λ w e. subst (λ l. is_alive w l ≡ true) (same (inner_left alive ps) alive) e)
   | inr old ↦ old (inner_left alive ps)
 ]
-
-common_more : (xs ys ls : List ℕ) → Within xs ys → Within (common xs ls) (common ys ls)
-common_more xs ys ls w v e = common_both ys ls v (w v (common_front xs ls v e))
-    (common_back xs ls v e)
 
 across_count : (n o : ℕ) (c : Count) (alive : List ℕ) (b : Block) → o < n
     → loop_finds alive b ≡ true
@@ -231,28 +193,71 @@ maybe alive b o zero h = fewer alive alive [] [] (none_within alive) (nothing al
 maybe alive b o (suc m) h = fewer alive (left_by b) [] (rounds (λ i. one_round b i o) 0 (suc m))
     (none_within (left_by b)) (across alive b o (suc m) h (omega arith))
 
--- a body that may have a round
-odd : (alive : List ℕ) (b : Block) (o count : ℕ) → count < 2 → finds alive b ≡ true
-    → Chains alive (common alive (left_by b)) (rounds (λ i. one_round b i o) 0 count)
-odd alive b o zero lt h = fewer alive alive (common alive (left_by b)) []
-    (common_front alive (left_by b)) (nothing alive)
-odd alive b o (suc zero) lt h = fewer alive (left_by b) (common alive (left_by b))
-    (one_round b 0 o) (common_back alive (left_by b)) (once alive b 0 o h)
-odd alive b o (suc (suc count)) lt h = absurd (omega (arith, lt))
-
--- two bodies at each of some pairs
-paired : (alive : List ℕ) (b c : Block) (o count : ℕ) → finds alive b ≡ true
-    → finds (left_by b) c ≡ true → finds (left_by c) b ≡ true
-    → Chains alive (common alive (left_by c)) (rounds (λ i. two_rounds b c i o) 0 count)
-paired alive b c o zero h k again = fewer alive alive (common alive (left_by c)) []
-    (common_front alive (left_by c)) (nothing alive)
-paired alive b c o (suc count) h k again =
+-- two bodies at each of some pairs, and what ends their level
+paired : (alive : List ℕ) (b c d : Block) (o count : ℕ) → finds alive b ≡ true
+    → finds (left_by b) c ≡ true → finds (left_by c) b ≡ true → finds alive d ≡ true
+    → finds (left_by c) d ≡ true
+    → Chains alive (left_by d) (rounds (λ i. two_rounds b c i o) 0 count ++ one_round d 0 o)
+paired alive b c d o zero h k again none more = once alive d 0 o none
+paired alive b c d o (suc count) h k again none more =
     let both = λ (xs : List ℕ) (f : finds xs b ≡ true) (i : ℕ). join xs (left_by b) (left_by c)
     (one_round b i o) (one_round c i o) (once xs b i o f) (once (left_by b) c i o k) in
-    fewer alive (left_by c) (common alive (left_by c)) (rounds (λ i. two_rounds b c i o) 0 (suc count))
-    (common_back alive (left_by c))
+    join alive (left_by c) (left_by d) (rounds (λ i. two_rounds b c i o) 0 (suc count))
+    (one_round d 0 o)
     (many (λ i. two_rounds b c i o) (suc count) alive (left_by c) (λ i l. both alive h i)
     (λ i l. both (left_by c) again i) 0 (suc count) (omega arith) (omega arith))
+    (once (left_by c) d 0 o more)
+
+-- how a level's sum begins
+begun : (alive : List ℕ) (l : LevelOf Block) (o : ℕ) (z : Bool) → finds alive l.odd ≡ true
+    → finds alive l.even ≡ true
+    → Chains alive (begun_by l) (one_round (cond z l.even l.odd) 0 o)
+begun alive l o true h k = fewer alive (left_by l.even) (begun_by l) (one_round l.even 0 o)
+    (common_back (left_by l.odd) (left_by l.even)) (once alive l.even 0 o k)
+begun alive l o false h k = fewer alive (left_by l.odd) (begun_by l) (one_round l.odd 0 o)
+    (common_front (left_by l.odd) (left_by l.even)) (once alive l.odd 0 o h)
+
+-- a level with elements
+filled : (n o : ℕ) (alive : List ℕ) (l : LevelOf Block) → finds alive l.odd ≡ true
+    → finds alive l.even ≡ true → pairs_find l ≡ true
+    → Chains alive (left_by l.end) (filled_rounds n o l)
+filled n o alive l odd even h =
+    let start = begun_by l in
+    let count = elements n (o + 1) in
+    let again = finds (left_by l.first) l.second && finds (left_by l.second) l.first in
+    let last = finds start l.end && finds (left_by l.second) l.end in
+    let p = and_parts (finds start l.first && again) last h in
+    let q = and_parts (finds start l.first) again p.0 in
+    let r = and_parts (finds (left_by l.first) l.second) (finds (left_by l.second) l.first) q.1 in
+    let s = and_parts (finds start l.end) (finds (left_by l.second) l.end) p.1 in
+    let z = elements n o % 2 == 0 in
+    join alive start (left_by l.end) (one_round (cond z l.even l.odd) 0 o)
+    (rounds (λ i. two_rounds l.first l.second i o) 0 count ++ one_round l.end 0 o)
+    (begun alive l o z odd even)
+    (paired start l.first l.second l.end o count q.0 r.0 r.1 s.0 s.1)
+
+-- a level
+levelled : (n o : ℕ) (alive : List ℕ) (l : LevelOf Block) → level_finds alive l ≡ true
+    → Chains alive (level_left l) (level_rounds n o l)
+levelled n o alive l h = by (elements n o == 0)
+  where
+    none : List (RoundOf Block)
+    none = one_round l.none 0 o
+
+    by : (z : Bool) → Chains alive (level_left l) (cond z none (filled_rounds n o l))
+    by true =
+        let p = and_parts (finds alive l.none && (finds alive l.odd && finds alive l.even))
+        (pairs_find l) h in
+        let q = and_parts (finds alive l.none) (finds alive l.odd && finds alive l.even) p.0 in
+        fewer alive (left_by l.none) (level_left l) none
+        (common_front (left_by l.none) (left_by l.end)) (once alive l.none 0 o q.0)
+    by false =
+        let p = and_parts (finds alive l.none && (finds alive l.odd && finds alive l.even))
+        (pairs_find l) h in
+        let q = and_parts (finds alive l.none) (finds alive l.odd && finds alive l.even) p.0 in
+        let r = and_parts (finds alive l.odd) (finds alive l.even) q.1 in
+        fewer alive (left_by l.end) (level_left l) (filled_rounds n o l)
+        (common_back (left_by l.none) (left_by l.end)) (filled n o alive l r.0 r.1 p.1)
 
 inners : (n o : ℕ) (ps : List (InnerOf Block)) (alive : List ℕ) → o < n
     → inner_finds alive ps ≡ true → Chains alive (inner_left alive ps) (inner_rounds n o ps)
@@ -266,21 +271,10 @@ inners n o (Across c b ∷ ps) alive l h =
     join alive (left_by b) (inner_left (left_by b) ps)
     (rounds (λ i. one_round b i o) 0 (positions n o c)) (inner_rounds n o ps)
     (across_count n o c alive b l p.0) (inners n o ps (left_by b) l p.1)
-inners n o (IfOdd b ∷ ps) alive l h =
-    let left = common alive (left_by b) in
-    let p = and_parts (finds alive b) (inner_finds left ps) h in
-    join alive left (inner_left left ps) (rounds (λ i. one_round b i o) 0 (elements n o % 2))
-    (inner_rounds n o ps) (odd alive b o (elements n o % 2) (omega arith) p.0)
-    (inners n o ps left l p.1)
-inners n o (Halves b c ∷ ps) alive l h =
-    let left = common alive (left_by c) in
-    let p = and_parts (finds alive b && (finds (left_by b) c && finds (left_by c) b))
-    (inner_finds left ps) h in
-    let q = and_parts (finds alive b) (finds (left_by b) c && finds (left_by c) b) p.0 in
-    let r = and_parts (finds (left_by b) c) (finds (left_by c) b) q.1 in
-    join alive left (inner_left left ps) (rounds (λ i. two_rounds b c i o) 0 (elements n (o + 1)))
-    (inner_rounds n o ps) (paired alive b c o (elements n (o + 1)) q.0 r.0 r.1)
-    (inners n o ps left l p.1)
+inners n o (AtLevel v ∷ ps) alive l h =
+    let p = and_parts (level_finds alive v) (inner_finds (level_left v) ps) h in
+    join alive (level_left v) (inner_left (level_left v) ps) (level_rounds n o v)
+    (inner_rounds n o ps) (levelled n o alive v p.0) (inners n o ps (level_left v) l p.1)
 
 -- bodies that take turns: one that has had its turn stands behind the others
 left_behind : (ts : List (TurnOf Block)) (t : TurnOf Block) (alive : List ℕ)
@@ -399,6 +393,18 @@ loop_still b xs ys w h =
     let p = and_parts (finds xs b) (finds (left_by b) b) h in
     and_from (finds ys b) (finds (left_by b) b) (more_find (states_in b.reads) xs ys w p.0) p.1
 
+level_still : (l : LevelOf Block) (xs ys : List ℕ) → Within xs ys → level_finds xs l ≡ true
+    → level_finds ys l ≡ true
+level_still l xs ys w h =
+    let p = and_parts (finds xs l.none && (finds xs l.odd && finds xs l.even)) (pairs_find l) h in
+    let q = and_parts (finds xs l.none) (finds xs l.odd && finds xs l.even) p.0 in
+    let r = and_parts (finds xs l.odd) (finds xs l.even) q.1 in
+    and_from (finds ys l.none && (finds ys l.odd && finds ys l.even)) (pairs_find l)
+    (and_from (finds ys l.none) (finds ys l.odd && finds ys l.even)
+    (more_find (states_in l.none.reads) xs ys w q.0)
+    (and_from (finds ys l.odd) (finds ys l.even) (more_find (states_in l.odd.reads) xs ys w r.0)
+    (more_find (states_in l.even.reads) xs ys w r.1))) p.1
+
 inner_still : (ps : List (InnerOf Block)) (xs ys : List ℕ) → Within xs ys
     → inner_finds xs ps ≡ true → inner_finds ys ps ≡ true
 inner_still [] xs ys w h = refl
@@ -409,30 +415,16 @@ inner_still (Alone b ∷ ps) xs ys w h =
 inner_still (Across c b ∷ ps) xs ys w h =
     let p = and_parts (loop_finds xs b) (inner_finds (left_by b) ps) h in
     and_from (loop_finds ys b) (inner_finds (left_by b) ps) (loop_still b xs ys w p.0) p.1
-inner_still (IfOdd b ∷ ps) xs ys w h =
-    let p = and_parts (finds xs b) (inner_finds (common xs (left_by b)) ps) h in
-    and_from (finds ys b) (inner_finds (common ys (left_by b)) ps)
-    (more_find (states_in b.reads) xs ys w p.0)
-    (inner_still ps (common xs (left_by b)) (common ys (left_by b))
-    (common_more xs ys (left_by b) w) p.1)
-inner_still (Halves b c ∷ ps) xs ys w h =
-    let both = finds (left_by b) c && finds (left_by c) b in
-    let p = and_parts (finds xs b && both) (inner_finds (common xs (left_by c)) ps) h in
-    let q = and_parts (finds xs b) both p.0 in
-    and_from (finds ys b && both) (inner_finds (common ys (left_by c)) ps)
-    (and_from (finds ys b) both (more_find (states_in b.reads) xs ys w q.0) q.1)
-    (inner_still ps (common xs (left_by c)) (common ys (left_by c))
-    (common_more xs ys (left_by c) w) p.1)
+inner_still (AtLevel l ∷ ps) xs ys w h =
+    let p = and_parts (level_finds xs l) (inner_finds (level_left l) ps) h in
+    and_from (level_finds ys l) (inner_finds (level_left l) ps) (level_still l xs ys w p.0) p.1
 
 inner_within : (ps : List (InnerOf Block)) (xs ys : List ℕ) → Within xs ys
     → Within (inner_left xs ps) (inner_left ys ps)
 inner_within [] xs ys w = w
 inner_within (Alone b ∷ ps) xs ys w = λ v e. e
 inner_within (Across c b ∷ ps) xs ys w = λ v e. e
-inner_within (IfOdd b ∷ ps) xs ys w = inner_within ps (common xs (left_by b))
-    (common ys (left_by b)) (common_more xs ys (left_by b) w)
-inner_within (Halves b c ∷ ps) xs ys w = inner_within ps (common xs (left_by c))
-    (common ys (left_by c)) (common_more xs ys (left_by c) w)
+inner_within (AtLevel l ∷ ps) xs ys w = λ v e. e
 
 surely_within : (span : Span) (xs ys : List ℕ) → Within xs ys
     → Within (surely span xs) (surely span ys)

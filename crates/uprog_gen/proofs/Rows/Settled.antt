@@ -16,7 +16,7 @@ use Rattle.row_alloc.specs.Known.{WordBody, Inverted, Both, Either, Without, Unl
 use Rattle.row_alloc.specs.Known.{Counted, inputs_in, nodes_in, outs_in}
 use Rattle.loop_ir.specs.Plain.{Block, InnerOf, TurnOf, StepOf, inner_map, turn_map, step_map}
 use Rattle.loop_ir.specs.Plain.{AllInner, AllTurns, AllStep, AllParts}
-use Rattle.loop_ir.specs.Plain.InnerOf.{Alone, Across, IfOdd, Halves}
+use Rattle.loop_ir.specs.Plain.InnerOf.{Alone, Across, AtLevel}
 use Rattle.loop_ir.specs.Plain.StepOf.{Single, Along, Nest, Pairs, Alternate}
 use Rattle.loop_ir.specs.Loops.{RoundOf}
 use Rattle.loop_ir.specs.States.{has_states, held_of}
@@ -78,8 +78,17 @@ inner_parts : (P : Block → Type 0) (xs : List (InnerOf Part))
 inner_parts P [] h = tt
 inner_parts P (Alone p ∷ xs) h = (h.0, inner_parts P xs h.1)
 inner_parts P (Across c p ∷ xs) h = (h.0, inner_parts P xs h.1)
-inner_parts P (IfOdd p ∷ xs) h = (h.0, inner_parts P xs h.1)
-inner_parts P (Halves p q ∷ xs) h = (h.0, inner_parts P xs h.1)
+inner_parts P (AtLevel l ∷ xs) h = (
+  record {
+    none = h.0.none;
+    odd = h.0.odd;
+    even = h.0.even;
+    first = h.0.first;
+    second = h.0.second;
+    end = h.0.end;
+  },
+  inner_parts P xs h.1,
+)
 
 turns_parts : (P : Block → Type 0) (ts : List (TurnOf Part))
     → AllTurns P (map (turn_map block_of_part) ts) → AllTurns (λ p. P p.block) ts

@@ -1,6 +1,7 @@
 -- The code of a loop program does to every column what its rounds do to the named rows.
-use Rattle.std.proofs.Common.{◌≡◌, ℕ, zero, suc, ◌+◌, ◌-◌, ◌%◌, ◌<◌, ◌≤◌, true, List, [], ◌∷◌}
-use Rattle.std.proofs.Common.{◌++◌, map}
+use Rattle.std.proofs.Common.{◌≡◌, ℕ, zero, suc, ◌+◌, ◌-◌, ◌%◌, ◌<◌, ◌≤◌, Bool, true, false, List}
+use Rattle.std.proofs.Common.{[], ◌∷◌, ◌++◌, map}
+use Rattle.std.specs.Prelude.{◌==◌}
 use Rattle.std.proofs.Common.{length, refl, sym, ap, ◌∙◌, subst, ⊎_elim, arith, inl, inr, cond}
 use Rattle.std.proofs.Common.{length-append, append_assoc}
 use Rattle.std.specs.List.{AllByRecursion, list_all}
@@ -18,13 +19,14 @@ use Rattle.uprog_code.specs.Machine.{Issue, IssueAap, IssueAp, Ended, trace, Has
 use Rattle.loop_ir.specs.Loops.{first_outer, outer_count}
 use Rattle.loop_ir.specs.Loops.{rounds, RoundOf, round_at, one_round, positions, inner_rounds}
 use Rattle.loop_ir.specs.Loops.{turns_from, step_rounds, all_rounds, elements, two_rounds}
+use Rattle.loop_ir.specs.Loops.{filled_rounds, level_rounds}
 use Rattle.uprog_code.specs.Fits.{Fits, IsTouched}
 use Rattle.loop_ir.specs.declared.ir.Space.{Space}
 use Rattle.loop_ir.specs.declared.ir.Space.TheVariants.{Result, Source, ScratchBit, ScratchWord}
 use Rattle.loop_ir.specs.declared.ir.Space.TheVariants.{Cells}
-use Rattle.loop_ir.specs.Plain.{Block, InnerOf, TurnOf, StepOf, inner_map, turn_map, step_map}
-use Rattle.loop_ir.specs.Plain.{AllInner, AllStep, AllParts}
-use Rattle.loop_ir.specs.Plain.InnerOf.{Alone, Across, IfOdd, Halves}
+use Rattle.loop_ir.specs.Plain.{Block, LevelOf, InnerOf, TurnOf, StepOf, level_map, inner_map}
+use Rattle.loop_ir.specs.Plain.{turn_map, step_map, AllInner, AllStep, AllParts}
+use Rattle.loop_ir.specs.Plain.InnerOf.{Alone, Across, AtLevel}
 use Rattle.loop_ir.specs.Plain.StepOf.{Single, Along, Nest, Pairs, Alternate}
 use Rattle.loop_ir.specs.Spots.{Spot, IsOwn, after_rounds}
 use Rattle.uprog_gen.specs.Where.{spot_row, row_in, IsSpot, IsIn, Agree, spots_in}
@@ -32,6 +34,7 @@ use Rattle.uprog_gen.specs.Code.{Part, block_of_part, blocks}
 use Rattle.uprog_gen.proofs.Rows.Issued.{round_command, rounds_commands}
 use Rattle.uprog_gen.specs.Code.{program_code}
 use Rattle.loop_ir.specs.Limits.{IsRound, step_stands}
+use Rattle.loop_laws.proofs.EveryRound.{level_holds}
 use Rattle.loop_laws.proofs.TakingTurns.{turns_rounds}
 use Rattle.uprog_gen.proofs.Rows.Rounds.{block_round}
 use Rattle.uprog_gen.specs.Parts.{IsPart}
@@ -60,6 +63,39 @@ rounds_same f h e i zero = refl
 rounds_same f h e i (suc count) = ap (λ l. l ++ rounds f (i + 1) count) (e i)
     ∙ ap (λ l. h i ++ l) (rounds_same f h e (i + 1) count)
 
+filled_blocks : (n o : ℕ) (l : LevelOf Part)
+    → filled_rounds n o (level_map block_of_part l) ≡ map block_round (filled_rounds n o l)
+filled_blocks n o l = by (elements n o % 2 == 0)
+  where
+    count : ℕ
+    count = elements n (o + 1)
+
+    pairs : List (RoundOf Part)
+    pairs = rounds (λ i. two_rounds l.first l.second i o) 0 count
+
+    rest : rounds (λ i. two_rounds l.first.block l.second.block i o) 0 count
+        ++ one_round l.end.block 0 o ≡ map block_round (pairs ++ one_round l.end 0 o)
+    rest = ap (λ r. r ++ one_round l.end.block 0 o)
+        (sym (map_rounds block_round (λ i. two_rounds l.first l.second i o) 0 count))
+        ∙ sym (map-append block_round pairs (one_round l.end 0 o))
+
+    by : (z : Bool) → one_round (cond z l.even.block l.odd.block) 0 o
+        ++ (rounds (λ i. two_rounds l.first.block l.second.block i o) 0 count
+        ++ one_round l.end.block 0 o)
+        ≡ map block_round (one_round (cond z l.even l.odd) 0 o ++ (pairs ++ one_round l.end 0 o))
+    by true = ap (λ r. round_at l.even.block 0 o ∷ r) rest
+    by false = ap (λ r. round_at l.odd.block 0 o ∷ r) rest
+
+level_blocks : (n o : ℕ) (l : LevelOf Part)
+    → level_rounds n o (level_map block_of_part l) ≡ map block_round (level_rounds n o l)
+level_blocks n o l = by (elements n o == 0)
+  where
+    by : (z : Bool) → cond z (one_round l.none.block 0 o) (filled_rounds n o
+        (level_map block_of_part l))
+        ≡ map block_round (cond z (one_round l.none 0 o) (filled_rounds n o l))
+    by true = refl
+    by false = filled_blocks n o l
+
 inner_blocks : (n o : ℕ) (xs : List (InnerOf Part))
     → inner_rounds n o (map (inner_map block_of_part) xs) ≡ map block_round (inner_rounds n o xs)
 inner_blocks n o [] = refl
@@ -70,20 +106,10 @@ inner_blocks n o (Across count p ∷ xs) =
     ∙ ap (λ l. l ++ map block_round (inner_rounds n o xs))
     (sym (map_rounds block_round (λ i. one_round p i o) 0 (positions n o count)))
     ∙ sym (map-append block_round rs (inner_rounds n o xs))
-inner_blocks n o (IfOdd p ∷ xs) =
-    let count = elements n o % 2 in
-    let rs : List (RoundOf Part) = rounds (λ i. one_round p i o) 0 count in
-    ap (λ l. rounds (λ i. one_round p.block i o) 0 count ++ l) (inner_blocks n o xs)
-    ∙ ap (λ l. l ++ map block_round (inner_rounds n o xs))
-    (sym (map_rounds block_round (λ i. one_round p i o) 0 count))
-    ∙ sym (map-append block_round rs (inner_rounds n o xs))
-inner_blocks n o (Halves p q ∷ xs) =
-    let count = elements n (o + 1) in
-    let rs : List (RoundOf Part) = rounds (λ i. two_rounds p q i o) 0 count in
-    ap (λ l. rounds (λ i. two_rounds p.block q.block i o) 0 count ++ l) (inner_blocks n o xs)
-    ∙ ap (λ l. l ++ map block_round (inner_rounds n o xs))
-    (sym (map_rounds block_round (λ i. two_rounds p q i o) 0 count))
-    ∙ sym (map-append block_round rs (inner_rounds n o xs))
+inner_blocks n o (AtLevel l ∷ xs) =
+    ap (λ r. level_rounds n o (level_map block_of_part l) ++ r) (inner_blocks n o xs)
+    ∙ ap (λ r. r ++ map block_round (inner_rounds n o xs)) (level_blocks n o l)
+    ∙ sym (map-append block_round (level_rounds n o l) (inner_rounds n o xs))
 
 turns_blocks : (ts : List (TurnOf Part)) (i count : ℕ)
     → turns_from (map (turn_map block_of_part) ts) i count ≡ map block_round (turns_from ts i count)
@@ -139,13 +165,15 @@ module _ (P : Part → Type 0) where
       (rounds (λ i. one_round p i o) 0 (positions n o count)) (inner_rounds n o xs)
       (all_rounds_of In (λ i. one_round p i o) (λ i. (h.0, tt)) 0 (positions n o count))
       (inner_parts n o xs h.1)
-  inner_parts n o (IfOdd p ∷ xs) h = all_both In
-      (rounds (λ i. one_round p i o) 0 (elements n o % 2)) (inner_rounds n o xs)
-      (all_rounds_of In (λ i. one_round p i o) (λ i. (h.0, tt)) 0 (elements n o % 2))
-      (inner_parts n o xs h.1)
-  inner_parts n o (Halves p q ∷ xs) h = all_both In
-      (rounds (λ i. two_rounds p q i o) 0 (elements n (o + 1))) (inner_rounds n o xs)
-      (all_rounds_of In (λ i. two_rounds p q i o) (λ i. (h.0.0, (h.0.1, tt))) 0 (elements n (o + 1)))
+  inner_parts n o (AtLevel l ∷ xs) h = all_both In (level_rounds n o l) (inner_rounds n o xs)
+      (level_holds In n o l (record {
+        none = h.0.none;
+        odd = h.0.odd;
+        even = h.0.even;
+        first = λ i lt. h.0.first;
+        second = λ i lt. h.0.second;
+        end = h.0.end;
+      }))
       (inner_parts n o xs h.1)
 
   step_parts : (n : ℕ) (s : StepOf Part) → AllStep P s → AllByRecursion In (step_rounds n s)

@@ -29,6 +29,10 @@ pub record IsOuter (n o : ℕ) (regs : List ℕ) : Type 0 where
   pub outer : slice_index regs 0 ≡ o
   pub down : slice_index regs 1 ≡ n - 1 - o
 
+-- and what register 6 holds beside that
+abbrev pub Beside : ℕ → (List ℕ → Type 0) → List ℕ → Type 0
+Beside six I regs = I regs × (slice_index regs 6 ≡ six)
+
 module _ (head : Shape) (code : List Uop) (n : ℕ) where
   -- the registers as the body is reached, and before the turn
   abbrev pub AtBody : Plan → ℕ → ℕ → ℕ → List ℕ → Type 0
@@ -49,36 +53,41 @@ module _ (head : Shape) (code : List Uop) (n : ℕ) where
       → IsOuter n o regs
   outer_of F S T left o regs g = record { size = g.size; outer = g.outer; down = g.down }
 
-  -- code for the three registers of subscripts, one after another
-  pub run_three : (a b c : List Uop) (F F' S S' T T' : ℕ → Type 0) (left o : ℕ) → Sets a 3 o F F'
-      → Sets b 4 o S S' → Sets c 5 o T T' → (pc : ℕ) (regs : List ℕ)
-      → Regs head code n F S T left o regs → HasAt code pc (a ++ (b ++ c))
+  -- code for the three registers of subscripts, one after another: it leaves register 6
+  pub run_three : (a b c : List Uop) (F F' S S' T T' : ℕ → Type 0) (left o six : ℕ)
+      → Sets a 3 o F F' → Sets b 4 o S S' → Sets c 5 o T T' → (pc : ℕ) (regs : List ℕ)
+      → Beside six (Regs head code n F S T left o) regs → HasAt code pc (a ++ (b ++ c))
       → Runs head code n pc regs (length (a ++ (b ++ c))) [] (pc + length (a ++ (b ++ c)))
-      (Regs head code n F' S' T' left o)
-  run_three a b c F F' S S' T T' left o f g h pc regs at has =
-      let G = Regs head code n in
-      let p3 = λ (q : ℕ) (r : List ℕ) (t : G F' S' T left o r) (ha : HasAt code q c).
-      run_weaken head code n q _ r _ [] _ (G F' S' T' left o) (λ x d.
-      change5 head code n F' S' T T' left o r x d t)
-      (h q r (outer_of F' S' T left o r t) t.third ha) in
-      let p2 = λ (q : ℕ) (r : List ℕ) (t : G F' S T left o r) (ha : HasAt code q (b ++ c)).
-      run_parts head code n b c q r [] [] (G F' S' T left o) (G F' S' T' left o) ha
-      (λ hb. run_weaken head code n q _ r _ [] _ (G F' S' T left o) (λ x d.
-      change4 head code n F' S S' T left o r x d t)
-      (g q r (outer_of F' S T left o r t) t.second hb)) p3 in
-      run_parts head code n a (b ++ c) pc regs [] [] (G F' S T left o) (G F' S' T' left o) has
-      (λ hb. run_weaken head code n pc _ regs _ [] _ (G F' S T left o) (λ x d.
-      change3 head code n F F' S T left o regs x d at)
-      (f pc regs (outer_of F S T left o regs at) at.first hb)) p2
+      (Beside six (Regs head code n F' S' T' left o))
+  run_three a b c F F' S S' T T' left o six f g h pc regs at has =
+      let G = λ (F S T : ℕ → Type 0). Beside six (Regs head code n F S T left o) in
+      let p3 = λ (q : ℕ) (r : List ℕ) (t : G F' S' T r) (ha : HasAt code q c).
+      run_weaken head code n q _ r _ [] _ (G F' S' T') (λ x d. (
+        change5 head code n F' S' T T' left o r x d t.0,
+        d.others 6 (λ e. absurd (omega arith)) ∙ t.1,
+      ))
+      (h q r (outer_of F' S' T left o r t.0) t.0.third ha) in
+      let p2 = λ (q : ℕ) (r : List ℕ) (t : G F' S T r) (ha : HasAt code q (b ++ c)).
+      run_parts head code n b c q r [] [] (G F' S' T) (G F' S' T') ha
+      (λ hb. run_weaken head code n q _ r _ [] _ (G F' S' T) (λ x d. (
+        change4 head code n F' S S' T left o r x d t.0,
+        d.others 6 (λ e. absurd (omega arith)) ∙ t.1,
+      ))
+      (g q r (outer_of F' S T left o r t.0) t.0.second hb)) p3 in
+      run_parts head code n a (b ++ c) pc regs [] [] (G F' S T) (G F' S' T') has
+      (λ hb. run_weaken head code n pc _ regs _ [] _ (G F' S T) (λ x d. (
+        change3 head code n F F' S T left o regs x d at.0,
+        d.others 6 (λ e. absurd (omega arith)) ∙ at.1,
+      ))
+      (f pc regs (outer_of F S T left o regs at.0) at.0.first hb)) p2
 
-  pub run_befores : (plan : Plan) (i o left : ℕ) → n ≤ WIDTH_MAX → i < n → o < n → (pc : ℕ)
-      (regs : List ℕ)
-      → AtTop plan o left i regs → HasAt code pc (befores plan)
+  pub befores_beside : (plan : Plan) (i o left six : ℕ) → n ≤ WIDTH_MAX → i < n → o < n → (pc : ℕ)
+      (regs : List ℕ) → Beside six (AtTop plan o left i) regs → HasAt code pc (befores plan)
       → Runs head code n pc regs (length (befores plan)) [] (pc + length (befores plan))
-      (AtBody plan o left i)
-  run_befores plan i o left small li lo pc regs at has =
+      (Beside six (AtBody plan o left i))
+  befores_beside plan i o left six small li lo pc regs at has =
       run_three (before plan.first 3) (before plan.second 4) (before plan.third 5) _ _ _ _ _ _ left
-      o
+      o six
       (λ q r t h ha. run_before head code n plan.first 3 q i o r small li lo
       (omega (arith, t.size)) h ha)
       (λ q r t h ha. run_before head code n plan.second 4 q i o r small li lo
@@ -86,44 +95,73 @@ module _ (head : Shape) (code : List Uop) (n : ℕ) where
       (λ q r t h ha. run_before head code n plan.third 5 q i o r small li lo
       (omega (arith, t.size)) h ha) pc regs at has
 
+  pub run_befores : (plan : Plan) (i o left : ℕ) → n ≤ WIDTH_MAX → i < n → o < n → (pc : ℕ)
+      (regs : List ℕ)
+      → AtTop plan o left i regs → HasAt code pc (befores plan)
+      → Runs head code n pc regs (length (befores plan)) [] (pc + length (befores plan))
+      (AtBody plan o left i)
+  run_befores plan i o left small li lo pc regs at has =
+      let six = slice_index regs 6 in
+      run_weaken head code n pc (pc + length (befores plan)) regs (length (befores plan)) []
+      (Beside six (AtBody plan o left i)) (AtBody plan o left i) (λ x h. h.0)
+      (befores_beside plan i o left six small li lo pc regs (at, refl) has)
+
   pub run_afters : (plan : Plan) (i o left : ℕ) → n ≤ WIDTH_MAX → i < n → o < n
       → (pc : ℕ) (regs : List ℕ) → AtBody plan o left i regs → HasAt code pc (afters plan)
       → Runs head code n pc regs (length (afters plan)) [] (pc + length (afters plan))
       (AtTop plan o left (i + 1))
   run_afters plan i o left small li lo pc regs at has =
-      run_three (after plan.first 3) (after plan.second 4) (after plan.third 5) _ _ _ _ _ _ left o
+      let six = slice_index regs 6 in
+      run_weaken head code n pc (pc + length (afters plan)) regs (length (afters plan)) []
+      (Beside six (AtTop plan o left (i + 1))) (AtTop plan o left (i + 1)) (λ x h. h.0)
+      (run_three (after plan.first 3) (after plan.second 4) (after plan.third 5) _ _ _ _ _ _ left o
+      six
       (λ q r t h ha. run_after head code n plan.first 3 q i o r small li lo (omega (arith, t.size))
       h ha)
       (λ q r t h ha. run_after head code n plan.second 4 q i o r small li lo (omega (arith, t.size))
       h ha)
       (λ q r t h ha. run_after head code n plan.third 5 q i o r small li lo (omega (arith, t.size))
-      h ha) pc regs at has
+      h ha) pc regs (at, refl) has)
 
   abbrev Any : ℕ → Type 0
   Any v = Unit {0}
 
-  pub run_inits : (plan : Plan) (o left : ℕ) → n ≤ WIDTH_MAX → o < n → (pc : ℕ) (regs : List ℕ)
-      → IsOuter n o regs → slice_index regs 2 ≡ left → HasAt code pc (inits plan)
+  pub inits_beside : (plan : Plan) (o left six : ℕ) → n ≤ WIDTH_MAX → o < n → (pc : ℕ)
+      (regs : List ℕ) → Beside six (IsOuter n o) regs → slice_index regs 2 ≡ left
+      → HasAt code pc (inits plan)
       → Runs head code n pc regs (length (inits plan)) [] (pc + length (inits plan))
-      (AtTop plan o left 0)
-  run_inits plan o left small lo pc regs at two has =
+      (Beside six (AtTop plan o left 0))
+  inits_beside plan o left six small lo pc regs at two has =
       run_three (init plan.first 3) (init plan.second 4) (init plan.third 5) Any _ Any _ Any _ left
-      o
+      o six
       (λ q r t h ha. run_init head code n plan.first 3 q o r small lo (omega (arith, t.size)) (λ e.
       absurd (omega arith)) t.outer t.down ha)
       (λ q r t h ha. run_init head code n plan.second 4 q o r small lo (omega (arith, t.size)) (λ e.
       absurd (omega arith)) t.outer t.down ha)
       (λ q r t h ha. run_init head code n plan.third 5 q o r small lo (omega (arith, t.size)) (λ e.
       absurd (omega arith)) t.outer t.down ha)
-      pc regs (record {
-        size = at.size;
-        outer = at.outer;
-        down = at.down;
-        left_is = two;
-        first = tt;
-        second = tt;
-        third = tt;
-      }) has
+      pc regs (
+        record {
+          size = at.0.size;
+          outer = at.0.outer;
+          down = at.0.down;
+          left_is = two;
+          first = tt;
+          second = tt;
+          third = tt;
+        },
+        at.1,
+      ) has
+
+  pub run_inits : (plan : Plan) (o left : ℕ) → n ≤ WIDTH_MAX → o < n → (pc : ℕ) (regs : List ℕ)
+      → IsOuter n o regs → slice_index regs 2 ≡ left → HasAt code pc (inits plan)
+      → Runs head code n pc regs (length (inits plan)) [] (pc + length (inits plan))
+      (AtTop plan o left 0)
+  run_inits plan o left small lo pc regs at two has =
+      let six = slice_index regs 6 in
+      run_weaken head code n pc (pc + length (inits plan)) regs (length (inits plan)) []
+      (Beside six (AtTop plan o left 0)) (AtTop plan o left 0) (λ x h. h.0)
+      (inits_beside plan o left six small lo pc regs (at, refl) two has)
 
   -- one turn, up to the jump
   run_turn : (plan : Plan) (body : List Uop) (o m i pc : ℕ) (regs : List ℕ) (cs : List Issue)

@@ -30,7 +30,7 @@ overflow_cast-end c =
       length-append c.keep.new.items.items (Bnez 1 (c.len-past.result + 3 + 1) ∷ []),
       ap length c.in_ok-keep.ensures,
       length-append c.emit_inners.new.code.items (AddI 0 1 ∷ []),
-      inners_short (map inner_of c.args.parts.now) c.push_guard.new.code.items
+      inners_short Above (map inner_of c.args.parts.now) c.push_guard.new.code.items
           c.emit_inners.new.code.items c.in_ok-emit_inners.ensures,
       ap length c.in_ok-push_guard.ensures,
       length-append old (guard_code (length old) 0),
