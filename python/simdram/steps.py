@@ -89,15 +89,23 @@ def asked(code, loops) -> dict[int, int]:
             and any(start <= k and one.number <= end for start, end in loops)}
 
 
+def passed(ahead: dict[int, int], around, first: int, past: int) -> bool:
+    """Whether a jump of the same loop leads past a part."""
+    start = max(around, default=(0, 0))[0]
+    return any(start <= k < first and past <= to for k, to in ahead.items())
+
+
 def parts(code) -> list[Part]:
     """The code cut where it can jump or be jumped to."""
     loops = [(one.number, k) for k, one in enumerate(code) if one.kind == BNEZ and one.number <= k and not leaves(code, k)]
     turns = asked(code, loops)
-    places = sorted({0, len(code), *turns.values()} | {k + 1 for k in turns} | {at for start, end in loops for at in (start, end + 1)})
+    ahead = {k: one.number for k, one in enumerate(code) if one.kind == BNEZ and k < one.number}
+    places = sorted({0, len(code), *ahead.values()} | {k + 1 for k in ahead} | {at for start, end in loops for at in (start, end + 1)})
     found = []
     for first, past in zip(places, places[1:]):
-        around = [(start, end) for start, end in loops if start <= first and past <= end + 1]
+        around = sorted((start, end) for start, end in loops if start <= first and past <= end + 1)
         said = ("once", "at each position", "at each position of each position")[min(len(around), 2)]
+        said += ", or not" if passed(ahead, around, first, past) else ""
         said += direction(code[first:past]) if around else ""
         in_turn = ", in its turn" if sum(start <= k < end for start, end in around for k in turns) > 1 else ""
         has_last = first in turns.values()

@@ -162,6 +162,17 @@ class Steps(Folder):
         self.assertEqual(sum("at the last position, in its turn" in title for title in titles), 2)
         self.assertEqual(sum("at each position but the last, upwards, in its turn" in title for title in titles), 2)
 
+    def test_bodies_between_jumps(self):
+        entry = self.compiled("op ones(a: word) -> y: word {\n  y = bitcount(a);\n}\n").find("ones")
+        found = all_shown(entry, str(self.folder / "p.ops"))
+        # of a level: where it has no element (but at the lowest), an odd or an even number, at each pair, and the end
+        self.assertEqual([", or not" in one.lines[0] for one in found], [True, True, False, True, True, True, True, False, True])
+        pair, end = found[-2:]
+        self.assertIn("at each position of each position, upwards", pair.lines[0])
+        # the sum stands in cells from pair to pair, and goes to its row at the end
+        for one in (pair, end):
+            self.assertIn("~y[i]", one.done[0].cells.values())
+
     def test_lines_are_short_and_values_have_numbers(self):
         entry = self.compiled(BIG).find("big")
         for ops in (None, str(self.folder / "p.ops")):
