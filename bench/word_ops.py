@@ -74,6 +74,11 @@ def rows():
     return found
 
 
+def filled_levels(n):
+    """How many levels of a count of n bits have an element."""
+    return sum(n >> level > 0 for level in range(n))
+
+
 def odd_levels(n):
     """How many levels of a count of n bits have an odd number of elements."""
     return sum((n >> level) % 2 for level in range(n))
@@ -84,7 +89,7 @@ def pairs_below(n):
     return sum(n >> (level + 1) for level in range(n))
 
 
-COUNTS = {"odd_levels": odd_levels, "pairs_below": pairs_below}
+COUNTS = {"filled_levels": filled_levels, "odd_levels": odd_levels, "pairs_below": pairs_below}
 
 
 def formula(text, path):
