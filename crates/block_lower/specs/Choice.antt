@@ -11,6 +11,7 @@ use Rattle.row_alloc.specs.Found.{IsFound}
 use Rattle.loop_ir.specs.declared.ir.Place.{Place}
 use Rattle.loop_ir.specs.Plain.{Block as Body}
 use Rattle.loop_ir.specs.Outputs.{AreRows}
+use Rattle.block_lower.specs.declared.choice.Choice.{Choice}
 
 -- each output keeps its value on every input, there are no more nodes, and no rule makes it smaller
 pub record MayStand (g : Graph) (outs : List Lit) (h : Graph) (made : List Lit) : Type 0 where
@@ -32,6 +33,12 @@ pub record HasFound (reads writes : List Place) (g : Graph) (outs : List Lit)
   pub rows : List OutRow
   pub are : AreRows reads writes g.inputs outs (length outs) rows
   pub found : IsFound g rows cmds
+
+-- the same graph, with commands that were found for its body at these places, and are no more
+pub record HasNoMore (reads writes : List Place) (first r : Choice) : Type 0 where
+  pub graph : r.graph ≡ first.graph
+  pub found : HasFound reads writes r.graph.mig r.graph.outs.items r.found.items
+  pub fewer : length r.found.items ≤ length first.found.items
 
 -- no body is made of the graph: it has too many inputs, outputs or nodes, names no node, or has two
 -- outputs in one row

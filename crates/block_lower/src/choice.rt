@@ -4,7 +4,8 @@ ghost use Rattle.std.specs.Prelude.{◌≡◌, ◌≤◌, ℕ, IsTrue, IfOk, IfS
 ghost use Rattle.mig_graph.specs.Outputs.{AreNamed, KeepsOutputs};
 ghost use Rattle.mig_graph.specs.Reduced.{IsReduced};
 ghost use Rattle.loop_ir.specs.Plain.{block_of};
-ghost use Rattle.block_lower.specs.Choice.{AreFor, HasFound, IsNoDearer, IsUnfit, MayStand};
+ghost use Rattle.block_lower.specs.Choice.{AreFor, HasFound, HasNoMore, IsNoDearer};
+ghost use Rattle.block_lower.specs.Choice.{IsUnfit, MayStand};
 
 use loop_ir::{Body, Place, out_rows};
 use mig_graph::{MigOuts, NoMemory};
@@ -218,10 +219,7 @@ fn with_fewer(
 ) -> Result<Choice, NoMemory>
     requires { HasFound reads.now writes.now choice.graph.mig choice.graph.outs.items
         choice.found.items }
-    ensures graph { IfOk result (λ r. r.graph ≡ choice.graph) }
-    ensures found { IfOk result (λ r. HasFound reads.now writes.now choice.graph.mig
-        choice.graph.outs.items r.found.items) }
-    ensures fewer { IfOk result (λ r. length r.found.items ≤ length choice.found.items) }
+    ensures { IfOk result (HasNoMore reads.now writes.now choice) }
 {
     let found = found_for(&choice.graph, reads, writes, search, usize::MAX, alloc)?;
     if let Some(found) = found {
@@ -247,10 +245,7 @@ fn finished(
 ) -> Result<Choice, NoMemory>
     requires { HasFound reads.now writes.now choice.graph.mig choice.graph.outs.items
         choice.found.items }
-    ensures graph { IfOk result (λ r. r.graph ≡ choice.graph) }
-    ensures found { IfOk result (λ r. HasFound reads.now writes.now choice.graph.mig
-        choice.graph.outs.items r.found.items) }
-    ensures fewer { IfOk result (λ r. length r.found.items ≤ length choice.found.items) }
+    ensures { IfOk result (HasNoMore reads.now writes.now choice) }
 {
     let few = with_fewer(choice, reads, writes, Search::Wide, alloc)?;
     if few.found.len() < plain_most(&few.graph) {

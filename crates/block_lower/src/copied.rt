@@ -1,13 +1,16 @@
-//! A graph once more, for a second body.
+//! Whether graphs are the same, and a graph once more, for a second body.
 
 ghost use Rattle.std.specs.Prelude.{◌≡◌, IsTrue, IfOk, IfSome};
+ghost use Rattle.mig_graph.specs.Graph.{IsGraph};
 
 use mig_graph::{Lit, Mig, MigOuts, NoMemory};
 use std::alloc::Global;
 
 /// Whether both graphs have the same nodes.
-fn are_same(m: &Mig, r: &Mig) -> bool
-    ensures { IsTrue result → r.now ≡ m.now }
+pub(crate) fn are_same(m: &Mig, r: &Mig) -> bool
+    ensures same { IsTrue result → r.now ≡ m.now }
+    // What is known of every graph.
+    ensures graph { IsGraph r.now.inputs r.now.nodes }
 {
     if m.inputs() != r.inputs() || m.size() != r.size() {
         return false;

@@ -10,7 +10,7 @@ ghost use Rattle.block_lower.specs.Held.{held_place, held_start, held_body, held
 ghost use Rattle.block_lower.specs.Held.{CarriesRight, HoldsOne, IsHeldOne, commands_in};
 ghost use Rattle.block_lower.specs.Held.{IsLoopFor};
 
-use crate::copied::copied;
+use crate::copied::{are_same, copied};
 use crate::home::{Home, cell_place, enters, held_places, leaves, row_count, stand_in};
 use faults::keep;
 use loop_ir::{Body, LoopProgram, Place, Step, Turn, out_rows};
@@ -269,7 +269,8 @@ impl Drop for OtherLoop {
 }
 
 /// The loop that does the offer in the place of the body's graph, if the offer is right and takes
-/// fewer commands than `most` with the state in cells.
+/// fewer commands than `most` with the state in cells. The body's own graph, which `own_loop` has
+/// searched as far, is left out.
 fn offered_loop(
     place: Place,
     start: bool,
@@ -287,8 +288,9 @@ fn offered_loop(
     let Some(graph) = kept(&body.graph, offer, alloc)? else {
         return Ok(None);
     };
-    // This call's clause says that the graph keeps the rules of graphs.
-    let _ = graph.mig.inputs();
+    if are_same(&body.graph.mig, &graph.mig) && body.graph.outs == graph.outs {
+        return Ok(None);
+    }
     let other = Body {
         reads: body.reads.to_vec(alloc)?,
         graph,
@@ -328,15 +330,22 @@ pub(crate) fn other_loop(
     Ok(best)
 }
 
-/// The body with its state in cells, and with these commands, if its graph is copied.
+/// The body that finds its state in cells and writes these places, with these commands, if its
+/// graph is copied.
 fn held_body(
     home: Home,
     body: &Body,
+    writes: Vec<Place>,
     found: Vec<BodyCmd>,
     alloc: Global,
 ) -> Result<Option<Body>, NoMemory>
-    ensures { IfOk result (λ o. IfSome o (λ r. block_of r
-        ≡ held_body (home ∷ []) (block_of body.now) found.items)) }
+    ensures { IfOk result (λ o. IfSome o (λ r. block_of r ≡ record {
+      reads = map (held_place (home ∷ [])) body.now.reads.items;
+      graph = body.now.graph.mig;
+      outs = body.now.graph.outs.items;
+      writes = writes.items;
+      found = found.items;
+    })) }
 {
     let Some(graph) = copied(&body.graph, alloc)? else {
         return Ok(None);
@@ -344,28 +353,7 @@ fn held_body(
     Ok(Some(Body {
         reads: held_places(home, &body.reads, alloc)?,
         graph,
-        writes: held_places(home, &body.writes, alloc)?,
-        found,
-    }))
-}
-
-/// The body that leaves its state in the row, so too.
-fn held_last(
-    home: Home,
-    body: &Body,
-    found: Vec<BodyCmd>,
-    alloc: Global,
-) -> Result<Option<Body>, NoMemory>
-    ensures { IfOk result (λ o. IfSome o (λ r. block_of r
-        ≡ held_last (home ∷ []) (block_of body.now) found.items)) }
-{
-    let Some(graph) = copied(&body.graph, alloc)? else {
-        return Ok(None);
-    };
-    Ok(Some(Body {
-        reads: held_places(home, &body.reads, alloc)?,
-        graph,
-        writes: body.writes.to_vec(alloc)?,
+        writes,
         found,
     }))
 }
@@ -387,10 +375,12 @@ impl HeldLoop {
             each,
             last,
         } = self;
-        let Some(each) = held_body(home, body, each, alloc)? else {
+        let cells = held_places(home, &body.writes, alloc)?;
+        let rows = body.writes.to_vec(alloc)?;
+        let Some(each) = held_body(home, body, cells, each, alloc)? else {
             return Ok(None);
         };
-        let Some(last) = held_last(home, body, last, alloc)? else {
+        let Some(last) = held_body(home, body, rows, last, alloc)? else {
             return Ok(None);
         };
         let first = start_body(home, start, alloc)?;

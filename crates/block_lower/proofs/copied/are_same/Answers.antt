@@ -23,8 +23,8 @@ loop-k-preserved c j l =
       | inr ne ↦ c.loop-k.invariant j (omega (arith, l, ne))
     ]
 
-pub returns : goal.returns
-returns c t =
+pub returns-clause-same : goal.returns-clause-same
+returns-clause-same c t =
     let i = c.if-inputs.false in
     let a = c.inputs.ensures.inputs in
     let b = c.inputs-2.ensures.inputs in
