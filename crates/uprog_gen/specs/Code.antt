@@ -255,7 +255,8 @@ pairing_code p q pc = inits pair_plan ++ (turn_code pair_plan (pair_uops p ++ pa
     ++ (Bnez 2 (pc + length (inits pair_plan)) ∷ []))
 
 -- how a level begins, where these are the codes of what is done without elements, with an odd
--- number of them and with an even one: the first leads to the level's end, the second past the third
+-- number of them and with an even one: the first leads to the level's end, the second past the
+-- third
 abbrev pub begin_code : List Uop → List Uop → List Uop → ℕ → ℕ → List Uop
 begin_code none odd even pc end =
     let odd_at = pc + 4 + length none in
