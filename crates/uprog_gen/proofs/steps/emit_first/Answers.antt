@@ -1,4 +1,4 @@
-use Rattle.std.proofs.Common.{arith, length, ◌<◌, ◌≡◌, ◌≢◌, sym}
+use Rattle.std.proofs.Common.{arith, length, ◌<◌, ◌≢◌, sym}
 use Rattle.std.proofs.lemmas.Bool.{eqb-true, eqb-false}
 use Rattle.loop_ir.specs.declared.ir.Span.TheVariants.{First}
 use Rattle.uprog_gen.proofs.Coding.Emitted.{first_made, nothing_made}
