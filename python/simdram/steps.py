@@ -2,7 +2,7 @@
 
 PROG is a program file and OP one of its entries. The code is shown part by part, a part being the instructions between two
 places where it can jump: what is done once, what is done at each position, upwards or downwards, and what stands in its place
-at the last position. With --ops, sources,
+at the last position; `or not` says that a jump may lead past it. With --ops, sources,
 results, states and temporaries have the names of the operation text, and it is said which statement a part is of. Without
 it, sources are a, b, c, d, results y and z, scratch bits t0, t1, .., scratch words w0, .. and spill rows p0, ..; [i] is the
 position where one register counts it, and else the register's name. A cell that the part has not written yet holds ?; where
