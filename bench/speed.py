@@ -9,7 +9,7 @@ part is the time of the run less that of a run with an empty script on the same 
 and middle of N (10); memory is the program's greatest, as a multiple of the image; the speed is that of the script's
 bytes, or of an image that is opened and stored. A last column says whether report and OUT were the same byte for byte.
 `--clock processor` and `--clock user` take processor time, the second without the system's part, in place of elapsed
-time, for a machine that others use too; `--table` prints the ratios as the table of README.md.
+time, for a machine that others use too; `--table` prints the ratios as the table of docs/SPEED.md.
 """
 
 import argparse

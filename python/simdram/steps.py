@@ -1,13 +1,13 @@
 """What each cell holds after each command of an operation, in the operands' names.
 
 PROG is a program file and OP one of its entries. The code is shown part by part, a part being the instructions between two
-places where it can jump: what is done once, what is done at each position, upwards or downwards, and what stands in its place
-at the last position; `or not` says that a jump may lead past it. With --ops, sources,
-results, states and temporaries have the names of the operation text, and it is said which statement a part is of. Without
-it, sources are a, b, c, d, results y and z, scratch bits t0, t1, .., scratch words w0, .. and spill rows p0, ..; [i] is the
-position where one register counts it, and else the register's name. A cell that the part has not written yet holds ?; where
-a position takes a value over from the one before in cells, these hold it by the name of the row that it goes to in the end, or
-else as s.
+places where it can jump: what is done once, what is done at each position, upwards or downwards, and what stands in its
+place at the last position; `or not` says that a jump of the same loop leads past it, and a loop may be without a round.
+With --ops, sources, results, states and temporaries have the names of the operation text, and it is said which statement a
+part is of. Without it, sources are a, b, c, d, results y and z, scratch bits t0, t1, .., scratch words w0, .. and spill rows
+p0, ..; [i] is the position where one register counts it, and else the register's name. A cell that the part has not written
+yet holds ?; where a position takes a value over from the one before in cells, these hold it by the name of the row that it
+goes to in the end, or else as s.
 `~x` is the complement of x, M(x, y, z) the majority; and(x, y) and or(x, y) are majorities with 0 and with 1. A long value
 gets a number, as v1, which stands below its table with its value.
 
