@@ -1,7 +1,7 @@
 #!/usr/bin/env python3
 """Row commands of serial blocks that are written as one would write them, beside what the reduction alone gave.
 
-Run it at the top of the repository, after the program was built once:  python3 bench/blocks.py
+Run it at the top of the repository:  python3 bench/blocks.py [--program PATH]
 It compiles each text of bench/blocks, asks `cost` at n = 8 and n = 32, and prints the commands that each position takes:
 those of the reduced graph, without the search for other graphs (`known.csv`), those now, and the fewest that are known.
 It ends with 1 where a text takes more than the reduced graph took, or where full adders or subtractors take more than
@@ -15,9 +15,13 @@ import subprocess
 import sys
 import tempfile
 
+sys.dont_write_bytecode = True
+
+import program  # noqa: E402
+
 HERE = pathlib.Path(__file__).resolve().parent
 TEXTS = HERE / "blocks"
-PROGRAM = HERE.parent / "simdram"
+PROGRAM = HERE.parent / "simdram"  # until the arguments are read
 WIDTHS = (8, 32)
 CEILINGS = {"fa_": 7, "sub_": 6}
 ROW = "| {:11} | {:>5} | {:>5} | {:>7} | {:>4} | {:>5} | {:>7} | {:>5} |"
@@ -49,6 +53,8 @@ def is_more(name, now, before):
 
 def main():
     """Prints the table; the status."""
+    global PROGRAM
+    PROGRAM = program.path_of(program.parser(__doc__).parse_args())
     rows = list(csv.DictReader((TEXTS / "known.csv").read_text(encoding="utf-8").splitlines()))
     sums, status = [0, 0, 0], 0
     print(ROW.format("block", "nodes", "least", "reduced", "now", "least", "n8 now", "n32"))

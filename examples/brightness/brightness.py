@@ -21,5 +21,5 @@ spellings = {
     "a sum that keeps its carry": brighter(a, MORE),
 }
 for name, z in spellings.items():
-    print(f"{name}: {z.cost} {'as NumPy' if (z.numpy() == expected).all() else 'not as NumPy'}")
+    print(f"{name}: {z.cost}: {'as NumPy' if (z.numpy() == expected).all() else 'not as NumPy'}")
     print(z.text, end="")

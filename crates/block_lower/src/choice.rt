@@ -7,14 +7,15 @@ ghost use Rattle.loop_ir.specs.Plain.{block_of};
 ghost use Rattle.block_lower.specs.Choice.{AreFor, HasFound, HasNoMore, IsNoDearer};
 ghost use Rattle.block_lower.specs.Choice.{IsUnfit, MayStand};
 
+use crate::rounds::{Ranked, best_of, to_try};
 use loop_ir::{Body, Place, out_rows};
 use mig_graph::{MigOuts, NoMemory};
-use mig_rewrite::{Sketch, kept, offers, reduce};
+use mig_rewrite::{kept, offers, reduce};
 use row_alloc::{BodyCmd, Search, find_body};
 use std::alloc::Global;
 
-/// A graph of more nodes than this has fewer others counted.
-const FEW_NODES: u32 = 16;
+/// How many other graphs are counted.
+const MOST_OFFERS: u8 = 96;
 
 /// A graph, and the commands that were found for its body.
 pub(crate) struct Choice {
@@ -81,7 +82,7 @@ fn found_for(
 /// nodes than `size`.
 fn offered(
     first: &Choice,
-    offer: &Sketch,
+    offer: &Ranked,
     least: usize,
     size: u32,
     reads: &[Place],
@@ -95,10 +96,10 @@ fn offered(
         r.graph.outs.items r.found.items)) }
     ensures fewer { IfOk result (λ o. IfSome o (λ r. length r.found.items ≤ least)) }
 {
-    let Some(graph) = kept(&first.graph, offer, alloc)? else {
+    let Some(graph) = kept(&first.graph, &offer.sketch, alloc)? else {
         return Ok(None);
     };
-    let Some(found) = found_for(&graph, reads, writes, Search::Narrow, least, alloc)? else {
+    let Some(found) = found_for(&graph, reads, writes, offer.search, least, alloc)? else {
         return Ok(None);
     };
     let commands = found.len();
@@ -113,7 +114,7 @@ fn offered(
 /// fewer than the graph's own, or as many for fewer nodes.
 fn fewest(
     first: &Choice,
-    offers: &[Sketch],
+    offers: &[Ranked],
     reads: &[Place],
     writes: &[Place],
     alloc: Global,
@@ -139,16 +140,10 @@ fn fewest(
     Ok(best)
 }
 
-/// How many other graphs are searched. A graph of one node has none that is better.
+/// How many other graphs are counted. A graph of one node has none that is better.
 fn most_offers(m: &MigOuts) -> u8 {
     let nodes = m.mig.size().saturating_sub(m.mig.inputs() as u32 + 1);
-    if nodes < 2 {
-        0
-    } else if nodes > FEW_NODES {
-        4
-    } else {
-        8
-    }
+    if nodes < 2 { 0 } else { MOST_OFFERS }
 }
 
 /// Commands for the graph's body that are fewer than the other's, or as many where the other has no
@@ -260,7 +255,7 @@ fn finished(
 /// The others are those of the offers that are right.
 fn least_of(
     first: Choice,
-    offers: &[Sketch],
+    offers: &[Ranked],
     reads: &[Place],
     writes: &[Place],
     alloc: Global,
@@ -291,7 +286,7 @@ fn least_of(
 /// There are none where no body is made of the reduced graph.
 fn chosen(
     graph: MigOuts,
-    offers: &[Sketch],
+    offers: &[Ranked],
     reads: &[Place],
     writes: &[Place],
     alloc: Global,
@@ -315,11 +310,11 @@ fn chosen(
     }
 }
 
-/// The choice, and what else the search of `mig_rewrite` offers in the place of the graph.
+/// The choice, and other graphs that may stand for it, the best by their bodies first.
 #[derive(Drop)]
 pub(crate) struct Least {
     pub choice: Choice,
-    pub offers: Vec<Sketch>,
+    pub offers: Vec<Ranked>,
 }
 
 /// The graph reduced, or one of the same outputs and no more nodes whose body takes fewer commands,
@@ -343,6 +338,8 @@ pub(crate) fn least_graph(
 {
     let graph = reduce(m, alloc)?;
     let offers = offers(&graph, most_offers(&graph), alloc)?;
-    let choice = chosen(graph, &offers, reads, writes, alloc)?;
+    let offers = best_of(&graph, &offers, reads, writes, alloc)?;
+    let tries = to_try(&offers, alloc)?;
+    let choice = chosen(graph, &tries, reads, writes, alloc)?;
     Ok(Least { choice, offers })
 }

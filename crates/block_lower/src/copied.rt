@@ -7,7 +7,7 @@ use mig_graph::{Lit, Mig, MigOuts, NoMemory};
 use std::alloc::Global;
 
 /// Whether both graphs have the same nodes.
-pub(crate) fn are_same(m: &Mig, r: &Mig) -> bool
+fn are_same(m: &Mig, r: &Mig) -> bool
     ensures same { IsTrue result → r.now ≡ m.now }
     // What is known of every graph.
     ensures graph { IsGraph r.now.inputs r.now.nodes }

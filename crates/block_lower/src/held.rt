@@ -10,22 +10,20 @@ ghost use Rattle.block_lower.specs.Held.{held_place, held_start, held_body, held
 ghost use Rattle.block_lower.specs.Held.{CarriesRight, HoldsOne, IsHeldOne, commands_in};
 ghost use Rattle.block_lower.specs.Held.{IsLoopFor};
 
-use crate::copied::{are_same, copied};
+use crate::copied::copied;
+use crate::held_rounds::{HeldTry, held_tries};
 use crate::home::{Home, cell_place, enters, held_places, leaves, row_count, stand_in};
+use crate::rounds::Ranked;
 use faults::keep;
 use loop_ir::{Body, LoopProgram, Place, Step, Turn, out_rows};
 use mig_graph::{Lit, Mig, MigOuts, NoMemory};
-use mig_rewrite::{Sketch, kept};
+use mig_rewrite::kept;
 use row_alloc::{BodyCmd, Search, held_commands_of};
 use std::alloc::Global;
 
-/// In how many layouts of cells a state is tried.
-const LAYOUTS: u8 = 2;
-
-/// The layouts: T3 and DCC1, straight and turned. Others shorten few bodies more.
-fn layout_to_try(k: u8) -> u8 {
-    if k == 0 { 4 } else { 5 }
-}
+/// The layouts of cells in which a state is tried: T0; T3 and DCC1, straight and turned; T3 and
+/// DCC0; and DCC0. The others shorten few bodies more.
+pub(crate) const LAYOUTS: [u8; 5] = [0, 4, 5, 6, 11];
 
 /// The commands of the three bodies.
 pub(crate) struct HeldLoop {
@@ -125,7 +123,7 @@ fn plain_most(graph: &MigOuts, writes: &[Place]) -> usize
 }
 
 /// The commands of the body with its state in cells, at most so many.
-fn each_commands(
+pub(crate) fn each_commands(
     home: Home,
     body: &Body,
     search: Search,
@@ -222,8 +220,8 @@ fn held_loop(
 {
     let mut best = None;
     let mut least = most;
-    for k in 0..LAYOUTS {
-        let cells = layout_to_try(k);
+    for k in 0..LAYOUTS.len() {
+        let cells = LAYOUTS[k];
         let home = Home {
             place,
             cells,
@@ -268,14 +266,13 @@ impl Drop for OtherLoop {
     }
 }
 
-/// The loop that does the offer in the place of the body's graph, if the offer is right and takes
-/// fewer commands than `most` with the state in cells. The body's own graph, which `own_loop` has
-/// searched as far, is left out.
+/// The loop that does the offer in the place of the body's graph with the state in the cells that
+/// are to be tried, if the offer is right and takes fewer commands than `most` so.
 fn offered_loop(
     place: Place,
     start: bool,
     body: &Body,
-    offer: &Sketch,
+    offer: &HeldTry,
     most: usize,
     alloc: Global,
 ) -> Result<Option<OtherLoop>, NoMemory>
@@ -285,31 +282,39 @@ fn offered_loop(
     ensures held { IfOk result (λ o. IfSome o (λ r. IsLoopFor place start (block_of r.body) most
         r.held)) }
 {
-    let Some(graph) = kept(&body.graph, offer, alloc)? else {
+    let Some(graph) = kept(&body.graph, &offer.sketch, alloc)? else {
         return Ok(None);
     };
-    if are_same(&body.graph.mig, &graph.mig) && body.graph.outs == graph.outs {
-        return Ok(None);
-    }
+    // This call's clause says that the graph keeps the rules of graphs.
+    let _ = graph.mig.inputs();
     let other = Body {
         reads: body.reads.to_vec(alloc)?,
         graph,
         writes: body.writes.to_vec(alloc)?,
         found: Vec::new(alloc),
     };
-    let Some(held) = held_loop(place, start, &other, Search::Narrow, most, alloc)? else {
+    let home = Home {
+        place,
+        cells: offer.cells,
+        start,
+    };
+    if most == 0 {
+        return Ok(None);
+    }
+    let few = usize::min(offer.cost, most - 1);
+    let Some(held) = held_in(home, &other, offer.search, few, most, alloc)? else {
         return Ok(None);
     };
     Ok(Some(OtherLoop { body: other, held }))
 }
 
-/// Of the offers that are right the first that takes the fewest commands with the state in cells,
-/// where these are fewer than `most`.
-pub(crate) fn other_loop(
+/// The first loop of those to be tried that takes fewer commands than `most` with the state in
+/// cells.
+fn other_loop(
     place: Place,
     start: bool,
     body: &Body,
-    offers: &[Sketch],
+    offers: &[HeldTry],
     most: usize,
     alloc: Global,
 ) -> Result<Option<OtherLoop>, NoMemory>
@@ -319,15 +324,41 @@ pub(crate) fn other_loop(
     ensures held { IfOk result (λ o. IfSome o (λ r. IsLoopFor place start (block_of r.body) most
         r.held)) }
 {
-    let mut best = None;
-    let mut least = most;
     for offer in offers {
-        if let Some(other) = offered_loop(place, start, body, offer, least, alloc)? {
-            least = other.held.each.len();
-            best = Some(other);
+        if let Some(other) = offered_loop(place, start, body, offer, most, alloc)? {
+            return Ok(Some(other));
         }
     }
-    Ok(best)
+    Ok(None)
+}
+
+/// How many commands the loop's body takes, or so many where there is no loop.
+pub(crate) fn commands_of(held: &Option<HeldLoop>, most: usize) -> usize {
+    match held {
+        Some(held) => held.each.len(),
+        None => most,
+    }
+}
+
+/// The loop with one of the offers in the place of the body's graph, where it takes fewer commands
+/// than `few` with the state in cells.
+pub(crate) fn fewer_loop(
+    place: Place,
+    start: bool,
+    body: &Body,
+    offers: &[Ranked],
+    few: usize,
+    most: usize,
+    alloc: Global,
+) -> Result<Option<OtherLoop>, NoMemory>
+    requires { AreNamed body.now.graph.mig body.now.graph.outs.items }
+    ensures other { IfOk result (λ o. IfSome o (λ r. IsOther (block_of body.now)
+        (block_of r.body))) }
+    ensures held { IfOk result (λ o. IfSome o (λ r. IsLoopFor place start (block_of r.body) most
+        r.held)) }
+{
+    let tries = held_tries(place, start, body, offers, few, alloc)?;
+    other_loop(place, start, body, &tries, most, alloc)
 }
 
 /// The body that finds its state in cells and writes these places, with these commands, if its

@@ -5,10 +5,12 @@ mod body;
 mod choice;
 mod copied;
 mod held;
+mod held_rounds;
 mod home;
 mod inputs;
 mod lower;
 mod places;
+mod rounds;
 
 pub use lower::lower_block;
 pub use mig_graph::NoMemory;

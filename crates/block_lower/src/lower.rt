@@ -11,12 +11,12 @@ ghost use Rattle.block_lower.specs.Inputs.{block_from};
 ghost use Rattle.block_lower.specs.Form.{start, IsInCells, IsBlockProgram};
 
 use crate::body::{BlockBody, block_body, constant};
-use crate::held::{other_loop, own_loop};
+use crate::held::{commands_of, fewer_loop, own_loop};
 use crate::places::place_of;
+use crate::rounds::Ranked;
 use faults::keep;
 use loop_ir::{Body, LoopProgram, NameMap, Step};
 use mig_graph::NoMemory;
-use mig_rewrite::Sketch;
 use op_text::{Assign, State};
 use std::alloc::Global;
 
@@ -60,7 +60,7 @@ fn in_cells(
     down: bool,
     states: &[State],
     body: &Body,
-    offers: &[Sketch],
+    offers: &[Ranked],
     names: &NameMap,
     alloc: Global,
 ) -> Result<Option<LoopProgram>, NoMemory>
@@ -72,11 +72,13 @@ fn in_cells(
         [state] => {
             let place = place_of(names, down, &state.name);
             let most = body.found.len();
-            if let Some(own) = own_loop(place, state.start, body, most, alloc)? {
-                return own.into_program(body, alloc);
+            let own = own_loop(place, state.start, body, most, alloc)?;
+            let few = commands_of(&own, most);
+            if let Some(other) = fewer_loop(place, state.start, body, offers, few, most, alloc)? {
+                return other.into_program(alloc);
             }
-            match other_loop(place, state.start, body, offers, most, alloc)? {
-                Some(other) => other.into_program(alloc),
+            match own {
+                Some(own) => own.into_program(body, alloc),
                 None => Ok(None),
             }
         }

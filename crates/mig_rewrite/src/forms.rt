@@ -195,6 +195,14 @@ impl Form {
         }
     }
 
+    /// A node of three literals, and one of it and two others.
+    pub fn two(inner: [u8; 3], [a, b]: [u8; 2]) -> Form {
+        Form {
+            nodes: [inner, [a, b, OWN], [0; 3], [0; 3]],
+            out: OWN + 2,
+        }
+    }
+
     /// Makes the form in a graph, where the others' literals are known.
     pub fn made(&self, new: &mut Sketch, made: &Made) -> u8 {
         let mut own = [0u8; 4];

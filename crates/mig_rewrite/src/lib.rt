@@ -7,9 +7,12 @@ ghost use Rattle.mig_graph.specs.Reduced.{IsReduced};
 ghost use Rattle.mig_rewrite.specs.Merge.{IsMerge};
 
 mod agree;
+mod draws;
 mod forms;
 mod merges;
 mod plan;
+mod points;
+mod pool;
 mod rebuild;
 mod replacements;
 mod search;

@@ -1,26 +1,31 @@
 //! The search for other graphs of the same outputs.
 //!
-//! First the graphs of the least size so far are looked at one after another: each node is replaced
-//! in each way. Then two walks go on by replacements drawn at random, always the same ones.
+//! Walks go from graph to graph by replacements that are drawn, always the same ones, and the best
+//! graphs that they meet are kept: eight long walks from the block's own graph or the best so far,
+//! then short ones from drawn graphs of those that are kept.
 
-use crate::forms::{Carries, Form, carries};
-use crate::replacements::{Divisor, replacements};
+use crate::pool::Pool;
+use crate::replacements::Replacer;
 use crate::sketch::Sketch;
-use faults::keep;
+use crate::tables::{self, Tables, agree, tables_of};
 use mig_graph::{Lit, MigOuts, NoMemory};
 use std::alloc::Global;
 
-/// How many graphs are looked at without a smaller one before the walks begin.
-const PATIENCE: usize = 8;
+/// How many long walks there are, and how many steps each has.
+const LONG_WALKS: u8 = 8;
 
-/// How many graphs are looked at in all: enough for 28 falls of the size.
-const MOST_LOOKS: u8 = 232;
+const LONG_STEPS: u16 = 2_000;
 
-/// How many graphs of one size are kept.
-const MOST_KEPT: usize = 600;
+/// How many short walks there are, and how many steps each has.
+const SHORT_WALKS: u8 = 64;
 
-/// How many steps a walk has.
-const STEPS: u8 = 200;
+const SHORT_STEPS: u16 = 200;
+
+/// What a walk's seed is more than that of the last one.
+const SEED_STEP: u64 = 0x9E3779B97F4A7C15;
+
+/// How many nodes more than its least graph a walk's graph may have.
+const SLACK: u8 = 1;
 
 /// The most inputs, nodes and outputs of a graph that is searched for.
 const MOST_INPUTS: u8 = 12;
@@ -29,169 +34,88 @@ const MOST_NODES: u8 = 28;
 
 const MOST_OUTPUTS: usize = 8;
 
-/// The graphs of the least size so far, in the order in which they were found.
+/// The graphs that were met, and what replacements are drawn of.
 struct Search {
-    found: Vec<Sketch>,
-    prints: Vec<u64>,
-    least: u8,
-    carries: Carries,
-    list: Vec<Divisor>,
-    forms: Vec<Form>,
+    pool: Pool,
+    replacer: Replacer,
+    seed: u64,
 }
 
 impl Drop for Search {
     fn drop(self) {
         let Search {
-            found: _,
-            prints: _,
-            least: _,
-            carries: _,
-            list: _,
-            forms: _,
+            pool: _,
+            replacer: _,
+            seed: _,
         } = self;
-    }
-}
-
-/// Whether the number is among these.
-fn is_among(prints: &[u64], print: u64) -> bool {
-    for other in prints {
-        if *other == print {
-            return true;
-        }
-    }
-    false
-}
-
-/// The next number of a generator (xorshift).
-fn next(draw: u64) -> u64 {
-    let x = draw ^ draw << 13;
-    let y = x ^ x >> 7;
-    y ^ y << 17
-}
-
-/// A number below the count, from a drawn one.
-fn below(draw: u64, count: usize) -> usize {
-    if count == 0 {
-        0
-    } else {
-        (draw >> 20 & 0xFFFF) as usize % count
     }
 }
 
 impl Search {
-    fn into_found(self) -> Vec<Sketch> {
-        let Search {
-            found,
-            prints: _,
-            least: _,
-            carries: _,
-            list: _,
-            forms: _,
-        } = self;
-        found
+    fn new(alloc: Global) -> Result<Search, NoMemory> {
+        Ok(Search {
+            pool: Pool::new(alloc)?,
+            replacer: Replacer::new(alloc),
+            seed: 0,
+        })
     }
 
-    fn new(first: &Sketch, alloc: Global) -> Search {
-        Search {
-            found: Vec::new(alloc),
-            prints: Vec::new(alloc),
-            least: first.count,
-            carries: carries(),
-            list: Vec::new(alloc),
-            forms: Vec::new(alloc),
-        }
-    }
-
-    /// Keeps a graph that is new and of the least size.
-    fn offer(&mut self, sketch: &Sketch) -> Result<(), NoMemory> {
-        if sketch.count < self.least {
-            self.found.clear();
-            self.prints.clear();
-            self.least = sketch.count;
-        }
-        if sketch.count > self.least || self.found.len() >= MOST_KEPT {
-            return Ok(());
-        }
-        let print = sketch.print();
-        if is_among(&self.prints, print) {
-            return Ok(());
-        }
-        keep(&mut self.prints, print)?;
-        keep(&mut self.found, *sketch)
-    }
-
-    /// Finds the replacements of a node.
-    fn replace(&mut self, sketch: &Sketch, node: u8) -> Result<(), NoMemory> {
-        replacements(sketch, node, &self.carries, &mut self.list, &mut self.forms)
-    }
-
-    /// Offers the graph with a node replaced in each way.
-    fn offer_all(&mut self, sketch: &Sketch, node: u8) -> Result<(), NoMemory> {
-        self.replace(sketch, node)?;
-        let base = sketch.base(node);
-        for k in 0..self.forms.len() {
-            if k < self.forms.len() {
-                let other = sketch.replaced(&base, &self.forms[k]);
-                self.offer(&other)?;
-            }
-        }
-        Ok(())
-    }
-
-    /// Offers the graph with each node replaced in each way, the last node first, until a smaller
-    /// graph is found.
-    fn expand(&mut self, sketch: &Sketch) -> Result<(), NoMemory> {
-        for back in 0..sketch.count {
-            if self.least == sketch.count {
-                let node = sketch.size().saturating_sub(1).saturating_sub(back);
-                self.offer_all(sketch, node)?;
-            }
-        }
-        Ok(())
-    }
-
-    /// Expands the graphs that were found, until no smaller one comes.
-    fn spread(&mut self) -> Result<(), NoMemory> {
-        let mut done = 0usize;
-        for _ in 0..MOST_LOOKS {
-            if done < PATIENCE && done < self.found.len() {
-                let sketch = self.found[done];
-                let before = self.least;
-                self.expand(&sketch)?;
-                done = if self.least < before { 0 } else { done + 1 };
-            }
-        }
-        Ok(())
-    }
-
-    /// The graph with a node replaced, both drawn by the number.
-    fn drawn(&mut self, at: &Sketch, draw: u64) -> Result<Sketch, NoMemory> {
-        let place = below(draw, at.count as usize);
-        let place = if place < 32 { place as u8 } else { 0 };
-        let node = at.first().saturating_add(place);
-        self.replace(at, node)?;
-        let k = below(next(draw), self.forms.len());
-        if k < self.forms.len() {
-            Ok(at.replaced(&at.base(node), &self.forms[k]))
+    /// The graph with a drawn node replaced, if it has at most so many nodes and the same outputs.
+    fn step(&mut self, at: &Sketch, tables: &Tables, most: u8) -> Result<Option<Sketch>, NoMemory> {
+        let Some(drawn) = self.replacer.drawn(at, tables)? else {
+            return Ok(None);
+        };
+        let other = at.replaced(&at.base(drawn.node), &drawn.form);
+        Ok(if other.count <= most {
+            Some(other)
         } else {
-            Ok(*at)
-        }
+            None
+        })
     }
 
-    /// Goes from a graph by replacements drawn at random, and never to a larger graph.
-    fn walk(&mut self, first: &Sketch, seed: u64) -> Result<(), NoMemory> {
+    /// Goes from a graph by drawn replacements, and offers each graph on the way.
+    fn walk(&mut self, first: &Sketch, steps: u16) -> Result<(), NoMemory> {
+        self.seed = self.seed.wrapping_add(SEED_STEP);
+        self.replacer.start(self.seed);
         let mut at = *first;
-        let mut draw = seed;
-        for _ in 0..STEPS {
+        let mut tables = tables_of(&at);
+        let mut least = at.count;
+        self.pool.offer(&at)?;
+        for _ in 0..steps {
             // One node is the only one of its function.
             if at.count < 2 {
                 break;
             }
-            let other = self.drawn(&at, draw)?;
-            draw = next(next(draw));
-            if other.count <= at.count {
+            let most = u8::max(at.count, least.saturating_add(SLACK));
+            if let Some(other) = self.step(&at, &tables, u8::min(most, MOST_NODES - 1))? {
                 at = other;
-                self.offer(&other)?;
+                tables = tables_of(&at);
+                least = u8::min(least, at.count);
+                self.pool.offer(&at)?;
+            }
+        }
+        Ok(())
+    }
+
+    /// Goes the long walks, from the first graph and from the best one in turn.
+    fn walk_far(&mut self, first: &Sketch) -> Result<(), NoMemory> {
+        for walk in 0..LONG_WALKS {
+            let from = match self.pool.best() {
+                Some(best) if walk % 2 == 1 => best,
+                _ => *first,
+            };
+            self.walk(&from, LONG_STEPS)?;
+        }
+        Ok(())
+    }
+
+    /// Goes the short walks, from drawn graphs.
+    fn walk_near(&mut self) -> Result<(), NoMemory> {
+        for _ in 0..SHORT_WALKS {
+            let drawn = self.seed.wrapping_add(SEED_STEP) >> 33;
+            let count = usize::max(self.pool.len(), 1);
+            if let Some(from) = self.pool.get(drawn as usize % count) {
+                self.walk(&from, SHORT_STEPS)?;
             }
         }
         Ok(())
@@ -230,56 +154,16 @@ fn sketch_of(m: &MigOuts) -> Option<Sketch> {
     Some(sketch.swept())
 }
 
-/// The graphs of the least size that the search finds.
-fn found(first: &Sketch, alloc: Global) -> Result<Vec<Sketch>, NoMemory> {
-    let mut search = Search::new(first, alloc);
-    search.offer(first)?;
-    search.spread()?;
-    search.walk(first, 0x9E3779B97F4A7C15)?;
-    if let Some(least) = search.found.first().copied() {
-        search.walk(&least, 0x3C6EF372FE94F82B)?;
-    }
-    Ok(search.into_found())
-}
-
-/// The place of the least number.
-fn least_place(points: &[u32]) -> usize {
-    let mut place = 0;
-    let mut least = u32::MAX;
-    for (k, other) in points.iter().enumerate() {
-        if *other < least {
-            place = k;
-            least = *other;
-        }
-    }
-    place
-}
-
-/// The first graphs, so many, by the estimate of their bodies' commands.
-fn ordered(found: &[Sketch], most: u8, alloc: Global) -> Result<Vec<Sketch>, NoMemory> {
-    let mut points = Vec::new(alloc);
-    for sketch in found {
-        keep(&mut points, sketch.points())?;
-    }
-    let mut first = Vec::new(alloc);
-    for _ in 0..most {
-        let place = least_place(&points);
-        if place < found.len() && place < points.len() && points[place] < u32::MAX {
-            keep(&mut first, found[place])?;
-            points[place] = u32::MAX;
-        }
-    }
-    Ok(first)
-}
-
 /// Graphs that may have the same outputs and no more nodes, the best by an estimate first: at most
 /// so many. Nothing is promised of them; `kept` tells which are right.
 pub fn offers(m: &MigOuts, most: u8, alloc: Global) -> Result<Vec<Sketch>, NoMemory> {
     match sketch_of(m) {
-        Some(first) => {
-            let found = found(&first, alloc)?;
-            ordered(&found, most, alloc)
+        Some(first) if most > 0 => {
+            let mut search = Search::new(alloc)?;
+            search.walk_far(&first)?;
+            search.walk_near()?;
+            search.pool.ordered(most, alloc)
         }
-        None => Ok(Vec::new(alloc)),
+        _ => Ok(Vec::new(alloc)),
     }
 }

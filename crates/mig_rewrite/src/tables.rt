@@ -1,10 +1,13 @@
 //! Truth tables of a sketch's nodes.
 
-use crate::sketch::{Sketch, has};
+use crate::sketch::{Sketch, has, mixed, with};
 
 /// The values of a node on the 256 assignments of 8 inputs.
 #[derive(Clone, Copy)]
 pub struct Table(pub [u64; 4]);
+
+/// The most inputs of which a table has every assignment.
+pub const MOST_INPUTS: u8 = 8;
 
 /// The tables of a sketch's nodes.
 pub type Tables = [Table; 64];
@@ -30,6 +33,30 @@ impl Table {
         }
     }
 
+    /// An input's values on 256 drawn assignments.
+    fn drawn(input: u8) -> Table {
+        let seed = (input as u64 + 1) << 8;
+        Table([
+            mixed(seed),
+            mixed(seed + 1),
+            mixed(seed + 2),
+            mixed(seed + 3),
+        ])
+    }
+
+    /// An input's values on a page of 256 assignments: bit k of the page's number is input 8 + k.
+    fn on_page(input: u8, page: u16) -> Table {
+        if input < MOST_INPUTS {
+            return Table::of_input(input);
+        }
+        let place = input - MOST_INPUTS;
+        if place < 16 && page >> place & 1 == 1 {
+            Table([u64::MAX; 4])
+        } else {
+            NONE
+        }
+    }
+
     fn complement(&self) -> Table {
         let Table([a, b, c, d]) = *self;
         Table([!a, !b, !c, !d])
@@ -41,7 +68,7 @@ impl Table {
         Table([a ^ e, b ^ f, c ^ g, d ^ h])
     }
 
-    fn and(&self, other: &Table) -> Table {
+    pub fn and(&self, other: &Table) -> Table {
         let Table([a, b, c, d]) = *self;
         let Table([e, f, g, h]) = *other;
         Table([a & e, b & f, c & g, d & h])
@@ -77,32 +104,117 @@ pub fn table_of(tables: &Tables, literal: u8) -> Table {
     }
 }
 
-/// The table of a node.
-fn table_at(sketch: &Sketch, tables: &Tables, node: u8) -> Table {
-    if node == 0 {
-        NONE
-    } else if node < sketch.first() {
-        Table::of_input(node - 1)
-    } else {
-        let [a, b, c] = sketch.operands(node);
-        let (a, b, c) = (
-            table_of(tables, a),
-            table_of(tables, b),
-            table_of(tables, c),
-        );
-        Table::majority(&a, &b, &c)
-    }
+/// The table of a majority node, from those of its operands.
+fn table_above(sketch: &Sketch, tables: &Tables, node: u8) -> Table {
+    let [a, b, c] = sketch.operands(node);
+    let (a, b, c) = (
+        table_of(tables, a),
+        table_of(tables, b),
+        table_of(tables, c),
+    );
+    Table::majority(&a, &b, &c)
 }
 
-/// The tables of all nodes.
-pub fn tables_of(sketch: &Sketch) -> Tables {
-    let mut tables = [NONE; 64];
-    for node in 0..sketch.size() {
+/// The tables of all nodes, from those of the inputs.
+fn completed(sketch: &Sketch, inputs: Tables) -> Tables {
+    let mut tables = inputs;
+    for node in sketch.first()..sketch.size() {
         if (node as usize) < 64 {
-            tables[node as usize] = table_at(sketch, &tables, node);
+            tables[node as usize] = table_above(sketch, &tables, node);
         }
     }
     tables
+}
+
+/// The tables of all nodes: on every assignment of at most 8 inputs, else on 256 drawn ones.
+pub fn tables_of(sketch: &Sketch) -> Tables {
+    let mut tables = [NONE; 64];
+    for input in 0..sketch.inputs {
+        let node = input as usize + 1;
+        if node < 64 {
+            tables[node] = if sketch.inputs > MOST_INPUTS {
+                Table::drawn(input)
+            } else {
+                Table::of_input(input)
+            };
+        }
+    }
+    completed(sketch, tables)
+}
+
+/// The tables of all nodes on a page of 256 assignments.
+fn tables_on_page(sketch: &Sketch, page: u16) -> Tables {
+    let mut tables = [NONE; 64];
+    for input in 0..sketch.inputs {
+        let node = input as usize + 1;
+        if node < 64 {
+            tables[node] = Table::on_page(input, page);
+        }
+    }
+    completed(sketch, tables)
+}
+
+/// Whether both have the same outputs on a page.
+fn agree_on_page(first: &Sketch, second: &Sketch, page: u16) -> bool {
+    let (of_first, of_second) = (tables_on_page(first, page), tables_on_page(second, page));
+    for (k, literal) in first.outs.iter().enumerate() {
+        if k < second.outs.len() {
+            let other = table_of(&of_second, second.outs[k]);
+            if !table_of(&of_first, *literal).xor(&other).is_zero() {
+                return false;
+            }
+        }
+    }
+    true
+}
+
+/// How many pages of 256 assignments so many inputs have, of at most 12.
+fn pages(inputs: u8) -> u16 {
+    match inputs {
+        0..=8 => 1,
+        9 => 2,
+        10 => 4,
+        11 => 8,
+        _ => 16,
+    }
+}
+
+/// Whether both have the same outputs on every assignment of at most 12 inputs.
+pub fn agree(first: &Sketch, second: &Sketch) -> bool {
+    for page in 0..pages(first.inputs) {
+        if !agree_on_page(first, second, page) {
+            return false;
+        }
+    }
+    true
+}
+
+/// The tables where a node is turned.
+fn tables_with_turned(sketch: &Sketch, tables: &Tables, node: u8) -> Tables {
+    let mut turned = *tables;
+    if (node as usize) < 64 {
+        turned[node as usize] = tables[node as usize].complement();
+    }
+    let above = sketch.above(node) & !with(0, node);
+    for k in sketch.first()..sketch.size() {
+        if has(above, k) && (k as usize) < 64 {
+            turned[k as usize] = table_above(sketch, &turned, k);
+        }
+    }
+    turned
+}
+
+/// On which assignments some output changes when the node is turned.
+pub fn care_of(sketch: &Sketch, tables: &Tables, node: u8) -> Table {
+    let turned = tables_with_turned(sketch, tables, node);
+    let mut care = NONE;
+    for (k, literal) in sketch.outs.iter().enumerate() {
+        if k < sketch.outputs as usize {
+            let change = table_of(tables, *literal).xor(&table_of(&turned, *literal));
+            care = care.or(&change);
+        }
+    }
+    care
 }
 
 /// A literal's values on the 8 assignments of three leaves.

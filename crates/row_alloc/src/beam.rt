@@ -5,8 +5,10 @@
 //! estimate go on. Nothing is promised of the commands. They are taken where they are found right.
 
 use crate::body::{BodyCmd, Held, OutRow};
+use crate::bucket::{Bucket, Entry};
 use crate::cells::{Short, lacking};
-use crate::estimate::{estimate, is_ready, points_of_nodes};
+use crate::estimate::{bound, estimate, is_ready, points_of_nodes};
+use crate::idle::without_copies;
 use crate::moves::{Commands, LineUp, Way, complemented, fill_left, writes};
 use crate::outlook::{State, Task, in_place};
 use faults::keep;
@@ -23,161 +25,33 @@ pub struct Breadth {
     most_states: usize,
 }
 
-/// Serves most bodies best.
-pub const WIDE: Breadth = Breadth {
-    width: 5,
-    most_states: 7_000,
-};
-
-/// Comes to the end of bodies of many nodes, for which the wide one has too few states.
+/// Counts many bodies in little time.
 pub const NARROW: Breadth = Breadth {
-    width: 2,
+    width: 4,
     most_states: 2_000,
 };
 
-/// Comes to the end of some bodies of the most nodes and outputs, for which both have too few.
-pub const DEEP: Breadth = Breadth {
-    width: 2,
-    most_states: 7_000,
+/// Serves most bodies well.
+pub const WIDE: Breadth = Breadth {
+    width: 12,
+    most_states: 8_000,
 };
 
-/// Finds the fewest commands for most bodies that hold states in cells.
+/// Finds the fewest commands for most bodies.
 pub const BROAD: Breadth = Breadth {
-    width: 12,
-    most_states: 7_000,
+    width: 40,
+    most_states: 30_000,
+};
+
+/// Comes to the end of some bodies of the most nodes and outputs, for which the others have too few
+/// states.
+pub const DEEP: Breadth = Breadth {
+    width: 4,
+    most_states: 30_000,
 };
 
 /// A step of fewer states than this for each that goes on lets fewer go on.
-const FEW_STATES: usize = 30;
-
-/// Each step takes two commands or more, but for a few of the last ones.
-const LAST_STEPS: u32 = 3;
-
-/// A state of the beam, with its commands so far, its estimate and the step that led to it.
-#[derive(Clone, Copy)]
-struct Entry {
-    state: State,
-    spent: u32,
-    rank: u32,
-    from: Option<usize>,
-    cmds: Commands,
-}
-
-/// The best states after as many steps, and the best of those whose values all stand in rows, from
-/// which every node can be made.
-struct Bucket {
-    kept: Vec<Entry>,
-    safe: Option<Entry>,
-}
-
-impl Drop for Bucket {
-    fn drop(self) {
-        let Bucket { kept: _, safe: _ } = self;
-    }
-}
-
-impl Bucket {
-    fn new(alloc: Global) -> Bucket {
-        Bucket {
-            kept: Vec::new(alloc),
-            safe: None,
-        }
-    }
-
-    /// The place of the entry that a new one replaces: that of the same state, else the worst.
-    fn place_for(&self, new: &Entry, width: usize) -> usize {
-        let mut place = 0;
-        let mut rank = 0;
-        for (k, entry) in self.kept.iter().enumerate() {
-            if entry.state == new.state {
-                return k;
-            }
-            if entry.rank > rank {
-                place = k;
-                rank = entry.rank;
-            }
-        }
-        if self.kept.len() < usize::max(width, 1) {
-            self.kept.len()
-        } else {
-            place
-        }
-    }
-
-    /// Keeps the entry beside the best ones, where it is one that every node can be made from.
-    fn offer_safe(&mut self, task: &Task, new: Entry) {
-        let is_better = match &self.safe {
-            Some(old) => new.rank < old.rank,
-            None => true,
-        };
-        if is_better && task.is_safe(&new.state) {
-            self.safe = Some(new);
-        }
-    }
-
-    /// Keeps the entry beside the best ones, where its state is one of theirs.
-    fn offer_again(&mut self, task: &Task, new: Entry) {
-        for k in 0..self.kept.len() {
-            if k < self.kept.len() && self.kept[k].state == new.state {
-                let more = new.spent.saturating_sub(self.kept[k].spent);
-                let mut again = new;
-                again.rank = self.kept[k].rank.saturating_add(more.saturating_mul(20));
-                self.offer_safe(task, again);
-            }
-        }
-    }
-
-    /// The safe entry, where no other is safe.
-    fn only_safe(&self, task: &Task) -> Option<Entry> {
-        for entry in &self.kept {
-            if task.is_safe(&entry.state) {
-                return None;
-            }
-        }
-        self.safe
-    }
-
-    /// Whether no entry may come to so many commands or fewer. A guess: it stands on what bodies
-    /// took.
-    fn is_over(&self, most: usize) -> bool {
-        match self.best() {
-            Some(best) => {
-                let steps = best.state.left().saturating_sub(LAST_STEPS);
-                let least = best.spent.saturating_add(steps.saturating_mul(2));
-                least as usize > most
-            }
-            None => true,
-        }
-    }
-
-    /// The entry of the fewest commands.
-    fn best(&self) -> Option<Entry> {
-        let mut best = self.safe;
-        for entry in &self.kept {
-            match best {
-                Some(old) if old.spent <= entry.spent => {}
-                _ => best = Some(*entry),
-            }
-        }
-        best
-    }
-
-    /// Keeps the entry, where it is among the best.
-    fn offer(&mut self, task: &Task, new: Entry, width: usize) -> Result<(), NoMemory> {
-        let place = self.place_for(&new, width);
-        if place >= self.kept.len() {
-            return keep(&mut self.kept, new);
-        }
-        if new.rank < self.kept[place].rank {
-            let old = self.kept[place];
-            self.kept[place] = new;
-            self.offer_safe(task, old);
-        } else {
-            self.offer_safe(task, new);
-        }
-        Ok(())
-    }
-}
+const FEW_STATES: usize = 5;
 
 /// How many states are remembered.
 const MOST_SEEN: usize = 256;
@@ -201,6 +75,8 @@ struct Beam {
     seen: Vec<Option<Seen>>,
     breadth: Breadth,
     width: usize,
+    /// More commands are not looked for.
+    most: usize,
     tried: usize,
 }
 
@@ -216,6 +92,7 @@ impl Drop for Beam {
             seen: _,
             breadth: _,
             width: _,
+            most: _,
             tried: _,
         } = self;
     }
@@ -262,7 +139,7 @@ fn candidates(task: &Task, s: &State, alloc: Global) -> Result<Vec<Candidate>, N
 
 impl Beam {
     /// The state before any step.
-    fn new(task: &Task, breadth: Breadth, alloc: Global) -> Result<Beam, NoMemory> {
+    fn new(task: &Task, breadth: Breadth, most: usize, alloc: Global) -> Result<Beam, NoMemory> {
         let mut beam = Beam {
             done: Vec::new(alloc),
             now: Bucket::new(alloc),
@@ -273,6 +150,7 @@ impl Beam {
             seen: vec![in alloc; None; MOST_SEEN]?,
             breadth,
             width: breadth.width,
+            most,
             tried: 0,
         };
         let start = Entry {
@@ -305,6 +183,11 @@ impl Beam {
         was_seen
     }
 
+    /// Whether more commands than are looked for come to the end from this state.
+    fn is_too_far(&self, task: &Task, state: &State, spent: u32) -> bool {
+        spent.saturating_add(bound(task, state)) as usize > self.most
+    }
+
     /// Keeps a state that a step has led to, where it is among the best and loses no value.
     fn consider(
         &mut self,
@@ -315,32 +198,46 @@ impl Beam {
         way: &Way,
     ) -> Result<(), NoMemory> {
         self.tried = self.tried.saturating_add(1);
+        if task.loses(&parent.state.cells, &way.state) {
+            return Ok(());
+        }
+        let state = task.cleared(&way.state);
         let spent = parent.spent.saturating_add(way.cmds.len());
+        if self.is_too_far(task, &state, spent) {
+            return Ok(());
+        }
         let mut entry = Entry {
-            state: way.state,
+            state,
             spent,
             rank: 0,
             from: Some(at),
             cmds: way.cmds,
         };
-        let is_next = way.state.left().saturating_add(1) == parent.state.left();
-        if self.was_seen(&way.state, spent) {
-            if is_next {
-                self.next.offer_again(task, entry);
-            } else {
-                self.after.offer_again(task, entry);
-            }
+        let is_next = state.left().saturating_add(1) == parent.state.left();
+        if self.was_seen(&state, spent) {
+            self.offer_again(task, entry, is_next);
             return Ok(());
         }
-        if task.loses(&parent.state.cells, &way.state) {
-            return Ok(());
-        }
-        let points = estimate(task, &way.state, nodes);
+        let points = estimate(task, &state, nodes);
         entry.rank = spent.saturating_mul(20).saturating_add(points);
+        self.offer(task, entry, is_next)
+    }
+
+    /// Offers an entry to those after the next step, or else after the one that follows.
+    fn offer(&mut self, task: &Task, entry: Entry, is_next: bool) -> Result<(), NoMemory> {
         if is_next {
             self.next.offer(task, entry, self.width)
         } else {
             self.after.offer(task, entry, self.width)
+        }
+    }
+
+    /// Offers an entry whose state was met before.
+    fn offer_again(&mut self, task: &Task, entry: Entry, is_next: bool) {
+        if is_next {
+            self.next.offer_again(task, entry);
+        } else {
+            self.after.offer_again(task, entry);
         }
     }
 
@@ -465,6 +362,14 @@ impl Beam {
         Ok(())
     }
 
+    /// Whether no state may come to so many commands or fewer.
+    fn is_over(&self) -> bool {
+        match self.now.best() {
+            Some(best) => best.is_over(self.most),
+            None => self.next.best().is_none(),
+        }
+    }
+
     /// The entry after the cells at exit are filled, if they can be.
     fn filled(&mut self, task: &Task, entry: &Entry) -> Result<Option<Entry>, NoMemory> {
         let at = self.done.len();
@@ -542,17 +447,18 @@ pub fn beam_body(
     alloc: Global,
 ) -> Result<Vec<BodyCmd>, NoMemory> {
     let task = Task::new(m, outs, enter, leave, alloc)?;
-    let mut beam = Beam::new(&task, breadth, alloc)?;
+    let mut beam = Beam::new(&task, breadth, most, alloc)?;
     let steps = task.start().left();
     for done in 0..steps {
-        if beam.now.is_over(most) {
+        if beam.is_over() {
             return Ok(Vec::new(alloc));
         }
         beam.step(&task, (steps - done) as usize, alloc)?;
     }
     match beam.last(&task, alloc)? {
         Some(last) => {
-            let mut cmds = beam.commands_back(&last, alloc)?;
+            let back = beam.commands_back(&last, alloc)?;
+            let mut cmds = without_copies(&back, task.leave().known(), alloc)?;
             cmds.reverse();
             Ok(cmds)
         }

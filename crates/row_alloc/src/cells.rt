@@ -151,6 +151,12 @@ impl Lines {
     }
 }
 
+/// The cells that an address raises.
+pub fn raised(y: u8) -> Set {
+    let lines = lines_of(y);
+    lines.straight().or(lines.complemented())
+}
+
 /// The cells that hold the literal, and those that hold its complement.
 pub fn holders(cells: &Cells, l: Short) -> Lines {
     let others = cells.0 ^ u64::from(l.0).wrapping_mul(LOW);

@@ -7,6 +7,7 @@
 
 mod beam;
 mod body;
+mod bucket;
 mod cells;
 mod check;
 mod estimate;
@@ -15,6 +16,7 @@ mod greedy;
 mod held;
 mod held_beam;
 mod held_table;
+mod idle;
 mod known;
 mod laws;
 mod layout;

@@ -3,7 +3,7 @@
 
 use crate::body::BodyRef::{self, B, C, In, Out, Spill};
 use crate::body::{Held, OutRow};
-use crate::cells::{Cells, Short, has_node, holders, reader};
+use crate::cells::{Cells, NONE, Short, has_node, holders, lacking, reader};
 use crate::layout::{LAYOUT_COUNT, layout};
 use crate::set::Set;
 use dram_model::{Cell, Line};
@@ -27,6 +27,12 @@ impl State {
     /// How many steps are left: nodes to be made, and outputs to be written.
     pub fn left(&self) -> u32 {
         self.unmade.len().saturating_add(self.unwritten.len())
+    }
+
+    /// Whether it holds all that the other one does, in the same cells and spill rows.
+    pub fn covers(&self, other: &State) -> bool {
+        other.spilled.minus(self.spilled).is_empty()
+            && lacking(&other.cells, &self.cells).is_empty()
     }
 
     /// A number of 16 bits that hangs on all of the state.
@@ -65,6 +71,8 @@ pub struct Task {
     uses: Vec<Uses>,
     /// The inputs in whose rows outputs stand.
     taken: Vec<u8>,
+    /// For each majority node the inputs and constants that it reads from their rows.
+    sources: Vec<u128>,
     /// What the cells hold at entry.
     enter: Cells,
     /// What the cells are to hold at exit.
@@ -79,6 +87,7 @@ impl Drop for Task {
             outs: _,
             uses: _,
             taken: _,
+            sources: _,
             enter: _,
             leave: _,
         } = self;
@@ -175,6 +184,11 @@ fn cells_of(held: &[Held]) -> Cells {
     cells
 }
 
+/// The set with the node alone.
+pub fn bit(node: u8) -> u128 {
+    if node < 128 { 1 << node } else { 0 }
+}
+
 /// Whether one of the literals is the node or its complement.
 fn has_literal(held: &[Held], node: u8) -> bool {
     held.iter().any(|h| h.lit.node == u32::from(node))
@@ -195,6 +209,7 @@ impl Task {
             outs: literals_of(outs, alloc)?,
             uses: Vec::new(alloc),
             taken: taken_of(outs, alloc)?,
+            sources: Vec::new(alloc),
             enter: cells_of(enter),
             leave: cells_of(leave),
         };
@@ -207,6 +222,12 @@ impl Task {
                 is_left: has_literal(leave, node),
             };
             keep(&mut task.uses, uses)?;
+        }
+        for k in 0..task.nodes.len() {
+            if k < task.nodes.len() {
+                let sources = task.sources_of(task.nodes[k]);
+                keep(&mut task.sources, sources)?;
+            }
         }
         Ok(task)
     }
@@ -412,6 +433,66 @@ impl Task {
             }
         }
         true
+    }
+
+    /// The nodes in spill rows that are wanted.
+    fn wanted_spills(&self, s: &State) -> Set {
+        let mut left = s.spilled;
+        let mut wanted = Set(0);
+        for _ in 0..s.spilled.len() {
+            if let Some(k) = left.first() {
+                left = left.without(k);
+                if self.is_wanted(s, self.lit_of(k, false).node()) {
+                    wanted = wanted.with(k);
+                }
+            }
+        }
+        wanted
+    }
+
+    /// The state without the values that nothing wants: equal states are one then.
+    pub fn cleared(&self, s: &State) -> State {
+        let mut cleared = *s;
+        cleared.cells = s.cells.with(self.free_cells(s), NONE);
+        cleared.spilled = self.wanted_spills(s);
+        cleared
+    }
+
+    /// Whether it is an input or the constant, and stands in no cells at entry.
+    fn has_row(&self, node: u8) -> bool {
+        self.majority(node).is_none() && !self.uses(node).is_held
+    }
+
+    /// The inputs and constants that unmade nodes read from their rows.
+    pub fn sources(&self, s: &State) -> u128 {
+        let mut left = s.unmade;
+        let mut sources = 0u128;
+        for _ in 0..s.unmade.len() {
+            if let Some(k) = left.first() {
+                left = left.without(k);
+                sources |= self.sources_at(k);
+            }
+        }
+        sources
+    }
+
+    /// Those that a majority node reads.
+    fn sources_at(&self, k: u8) -> u128 {
+        match self.sources.get(k as usize) {
+            Some(sources) => *sources,
+            None => 0,
+        }
+    }
+
+    /// Finds those that a majority node reads.
+    fn sources_of(&self, operands: [Short; 3]) -> u128 {
+        let mut sources = 0u128;
+        for l in operands {
+            if l.is_some() && self.has_row(l.node()) {
+                sources |= bit(l.node());
+            }
+        }
+        sources
     }
 
     /// The cells whose value nothing wants.

@@ -47,12 +47,11 @@ impl Set {
 
     /// The least number.
     pub fn first(self) -> Option<u8> {
-        for k in 0..32u8 {
-            if self.has(k) {
-                return Some(k);
-            }
+        if self.0 == 0 {
+            None
+        } else {
+            Some(self.0.trailing_zeros() as u8)
         }
-        None
     }
 
     pub fn is_empty(self) -> bool {
