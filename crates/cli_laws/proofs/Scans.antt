@@ -39,7 +39,7 @@ use Rattle.cli_model.specs.Plan.{AreTexts, Leaves, Way, last_status, refused_las
 use Rattle.cli_model.specs.Runs.{EndsBy, LeavesAt, TellsLast}
 use Rattle.cli_model.specs.Stands.{sent_by}
 use Rattle.cli_model.specs.Status.{Says}
-use Rattle.cli_model.specs.Steps.{Done, Load, Open, Take}
+use Rattle.cli_model.specs.Steps.{Done, Load, Take}
 use Rattle.cli_model.proofs.Delivering.{load_there}
 use Rattle.cli_model.proofs.Giving.{refused_so}
 use Rattle.cli_model.proofs.Going.{known_sent, within}
@@ -48,6 +48,7 @@ use Rattle.simdram_cli.specs.declared.words.ScanNames.{ScanNames}
 use Rattle.simdram_cli.specs.declared.words.TheConstants.{IMAGE_MAX, QUERY_MAX}
 use Rattle.simdram_cli.specs.Headline.{read_as}
 use Rattle.simdram_cli.specs.Inputs.{image_of}
+use Rattle.simdram_cli.specs.Job.{opening}
 use Rattle.simdram_cli.specs.Queries.{Asks, AsksIn, query_in, scan_refusal, unless_broken}
 use Rattle.simdram_cli.specs.Scan.{DoesScans, ScanLeft, Scanned, answer_on, answer_plan}
 use Rattle.simdram_cli.specs.Scan.{count_line, number_found, scan_counters, scan_counts}
@@ -330,7 +331,7 @@ told names before a b c status
     let shown = ScanLeft program q i in
     let x = answer_on program q i in
     let fault = checked i.table (nodes_of q) in
-    let steps = Take ∷ Open ∷ (use_steps fault ++ steps_of (answer_plan shown x) way) in
+    let steps = Take ∷ opening i ∷ (use_steps fault ++ steps_of (answer_plan shown x) way) in
     let asked = load_there names.query.now QUERY_MAX None (before names.query.now)
     (foreseen (Load names.image.now IMAGE_MAX bytes None ∷ steps) before) f in
     let found = load_there names.image.now IMAGE_MAX None (before names.image.now)

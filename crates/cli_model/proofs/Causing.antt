@@ -89,19 +89,19 @@ step_fails Take steps (Stopped reason) a b files f e =
     inr (reason, refl, fault_of reason NoMemory f.0 tt)
 step_fails (Store name bytes) steps (Stopped reason) a b files f e =
     inr (reason, refl, fault_of reason (CannotWrite name) f.0 tt)
-step_fails Open steps (Stopped reason) a b files (inl f) e =
+step_fails (Open on) steps (Stopped reason) a b files (inl f) e =
     inr (reason, refl, fault_of reason NoMemory f.0 tt)
-step_fails Open steps (Stopped reason) a b files (inr f) e =
+step_fails (Open on) steps (Stopped reason) a b files (inr f) e =
     inr (reason, refl, fault_of reason ChipFailed f.0 tt)
-step_fails Use steps (Stopped reason) a b files f e =
+step_fails (Use on) steps (Stopped reason) a b files f e =
     inr (reason, refl, fault_of reason ChipFailed f.0 tt)
 step_fails (UseFor wave) steps (Stopped reason) a b files f e =
     inr (reason, refl, fault_of reason ChipFailed f.0 tt)
 step_fails (Put bytes) steps (Stopped reason) a b files f e =
     inr (reason, refl, fault_of reason PutFailed f.0 tt)
-step_fails (Print bytes) steps (Stopped reason) a b files (p, inl f) e =
+step_fails (Print on bytes) steps (Stopped reason) a b files (p, inl f) e =
     inr (reason, refl, fault_of reason PutFailed f.0 tt)
-step_fails (Print bytes) steps (Stopped reason) a b files (p, inr f) e =
+step_fails (Print on bytes) steps (Stopped reason) a b files (p, inr f) e =
     inr (reason, refl, fault_of reason ChipFailed f.0 tt)
 
 -- what is known before is known afterwards
@@ -131,11 +131,11 @@ files_decide (Store name bytes ∷ steps) end a b files (inl (mid, (d, g))) e =
     mid.files.holds files d.files e in
     decided_by (Store name bytes ∷ steps) steps end files next.0 (ap (foreseen steps) next.2)
     (files_decide steps end mid b next.0 g next.1)
-files_decide (Open ∷ steps) end a b files (inl (mid, (d, g))) e =
-    decided_by (Open ∷ steps) steps end files files refl
+files_decide (Open on ∷ steps) end a b files (inl (mid, (d, g))) e =
+    decided_by (Open on ∷ steps) steps end files files refl
     (files_decide steps end mid b files g (ap (λ f. f.holds) d.files ∙ e))
-files_decide (Use ∷ steps) end a b files (inl (mid, (d, g))) e =
-    decided_by (Use ∷ steps) steps end files files refl
+files_decide (Use on ∷ steps) end a b files (inl (mid, (d, g))) e =
+    decided_by (Use on ∷ steps) steps end files files refl
     (files_decide steps end mid b files g (ap (λ f. f.holds) d.files ∙ e))
 files_decide (UseFor wave ∷ steps) end a b files (inl (mid, (d, g))) e =
     decided_by (UseFor wave ∷ steps) steps end files files refl
@@ -143,6 +143,6 @@ files_decide (UseFor wave ∷ steps) end a b files (inl (mid, (d, g))) e =
 files_decide (Put bytes ∷ steps) end a b files (inl (mid, (d, g))) e =
     decided_by (Put bytes ∷ steps) steps end files files refl
     (files_decide steps end mid b files g (ap (λ f. f.holds) d.files ∙ e))
-files_decide (Print bytes ∷ steps) end a b files (inl (mid, (d, g))) e =
-    decided_by (Print bytes ∷ steps) steps end files files refl
+files_decide (Print on bytes ∷ steps) end a b files (inl (mid, (d, g))) e =
+    decided_by (Print on bytes ∷ steps) steps end files files refl
     (files_decide steps end mid b files g (ap (λ f. f.holds) d.files ∙ e))

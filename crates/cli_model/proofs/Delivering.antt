@@ -57,11 +57,11 @@ files_append [] ys files = refl
 files_append (Load name limit text refusal ∷ xs) ys files = files_append xs ys files
 files_append (Take ∷ xs) ys files = files_append xs ys files
 files_append (Store name bytes ∷ xs) ys files = files_append xs ys (with_file name bytes files)
-files_append (Open ∷ xs) ys files = files_append xs ys files
-files_append (Use ∷ xs) ys files = files_append xs ys files
+files_append (Open on ∷ xs) ys files = files_append xs ys files
+files_append (Use on ∷ xs) ys files = files_append xs ys files
 files_append (UseFor wave ∷ xs) ys files = files_append xs ys files
 files_append (Put bytes ∷ xs) ys files = files_append xs ys files
-files_append (Print bytes ∷ xs) ys files = files_append xs ys files
+files_append (Print on bytes ∷ xs) ys files = files_append xs ys files
 
 -- what two lists of steps send is what the one sends and then the other
 pub sent_append : (xs ys : List Step) → sent_by (xs ++ ys) ≡ sent_by xs ++ sent_by ys
@@ -69,12 +69,12 @@ sent_append [] ys = refl
 sent_append (Load name limit text refusal ∷ xs) ys = sent_append xs ys
 sent_append (Take ∷ xs) ys = sent_append xs ys
 sent_append (Store name bytes ∷ xs) ys = sent_append xs ys
-sent_append (Open ∷ xs) ys = sent_append xs ys
-sent_append (Use ∷ xs) ys = sent_append xs ys
+sent_append (Open on ∷ xs) ys = sent_append xs ys
+sent_append (Use on ∷ xs) ys = sent_append xs ys
 sent_append (UseFor wave ∷ xs) ys = sent_append xs ys
 sent_append (Put bytes ∷ xs) ys =
     ap (λ z. bytes ++ z) (sent_append xs ys) ∙ sym (append_assoc bytes (sent_by xs) (sent_by ys))
-sent_append (Print bytes ∷ xs) ys =
+sent_append (Print on bytes ∷ xs) ys =
     ap (λ z. bytes ++ z) (sent_append xs ys) ∙ sym (append_assoc bytes (sent_by xs) (sent_by ys))
 
 foreseen_rest : (xs ys : List Step) (files : Files) → foreseen (xs ++ ys) files ≡ Done
@@ -86,11 +86,11 @@ foreseen_rest (Load name limit text refusal ∷ xs) ys files e =
 foreseen_rest (Take ∷ xs) ys files e = foreseen_rest xs ys files e
 foreseen_rest (Store name bytes ∷ xs) ys files e =
     foreseen_rest xs ys (with_file name bytes files) e
-foreseen_rest (Open ∷ xs) ys files e = foreseen_rest xs ys files e
-foreseen_rest (Use ∷ xs) ys files e = foreseen_rest xs ys files e
+foreseen_rest (Open on ∷ xs) ys files e = foreseen_rest xs ys files e
+foreseen_rest (Use on ∷ xs) ys files e = foreseen_rest xs ys files e
 foreseen_rest (UseFor wave ∷ xs) ys files e = foreseen_rest xs ys files e
 foreseen_rest (Put bytes ∷ xs) ys files e = foreseen_rest xs ys files e
-foreseen_rest (Print bytes ∷ xs) ys files e = foreseen_rest xs ys files e
+foreseen_rest (Print on bytes ∷ xs) ys files e = foreseen_rest xs ys files e
 
 text_in : (file : Option (List ℕ)) (bytes text : List ℕ) → file ≡ Some bytes
     → IfSome file (λ b. b ≡ text) → bytes ≡ text

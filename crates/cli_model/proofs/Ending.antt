@@ -5,7 +5,8 @@ use Rattle.std.specs.Prelude.{IfSome}
 use Rattle.host_edge.specs.Views.{Files, Known, AppendsPart, IsPrefix}
 use Rattle.faults.specs.Counts.{Rose, RoseBy}
 use Rattle.cli_model.specs.World.{World}
-use Rattle.cli_model.specs.Waves.{StoppedIn}
+use Rattle.cli_model.specs.Waves.{IsLeftBy, StoppedIn}
+use Rattle.cli_model.specs.Steps.{IsLeftUnopened}
 use Rattle.cli_model.specs.Steps.{Step, Load, Take, Store, Open, Use, UseFor, Put, Print, Reason}
 use Rattle.cli_model.specs.Steps.{CannotRead, TooLong, Refused, NoMemory, CannotWrite, PutFailed}
 use Rattle.cli_model.specs.Steps.{ChipFailed}
@@ -39,12 +40,12 @@ fails_causes (Load name limit text refusal) reason a b f =
     load_causes name limit text refusal reason a b f
 fails_causes Take reason a b f = f.0
 fails_causes (Store name bytes) reason a b f = (f.0, f.1.rose)
-fails_causes Open reason a b (inl f) = inl f.0
-fails_causes Open reason a b (inr f) = inr (f.0, f.2)
-fails_causes Use reason a b f = (f.0, f.2)
+fails_causes (Open on) reason a b (inl f) = inl f.0
+fails_causes (Open on) reason a b (inr f) = inr (f.0, f.2, f.3)
+fails_causes (Use on) reason a b f = (f.0, f.2, f.3)
 fails_causes (UseFor wave) reason a b f = (f.0, f.2, f.3)
 fails_causes (Put bytes) reason a b f = (f.0, f.2)
-fails_causes (Print bytes) reason a b f = f.1
+fails_causes (Print on bytes) reason a b f = f.1
 
 -- a count that rose between two moments rose between moments around them
 around : (a b c d n : ℕ) → a ≤ b → RoseBy n b c → c ≤ d → RoseBy n a d
@@ -71,19 +72,30 @@ causes_around (Load name limit text refusal) reason a b c d p q e f =
 causes_around Take reason a b c d p q e f = f
 causes_around (Store name bytes) reason a b c d p q e f =
     (f.0, around _ _ _ _ 1 p.files.store_faults f.1 q.files.store_faults)
-causes_around Open reason a b c d p q e (inl f) = inl f
-causes_around Open reason a b c d p q e (inr f) = inr (f.0, around _ _ _ _ 1 p.chip f.1 q.chip)
-causes_around Use reason a b c d p q e f = (f.0, around _ _ _ _ 1 p.chip f.1 q.chip)
+causes_around (Open on) reason a b c d p q e (inl f) = inl f
+causes_around (Open on) reason a b c d p q e (inr f) = inr (
+  f.0,
+  around _ _ _ _ 1 p.chip f.1 q.chip,
+  subst (IsLeftUnopened on) (sym e) f.2,
+)
+causes_around (Use on) reason a b c d p q e f = (
+  f.0,
+  around _ _ _ _ 1 p.chip f.1 q.chip,
+  subst (λ (v : ChipView). IsLeftBy on v.banks) (sym e) f.2,
+)
 causes_around (UseFor wave) reason a b c d p q e f = (
   f.0,
   around _ _ _ _ 1 p.chip f.1 q.chip,
   subst (λ (v : ChipView). StoppedIn wave v.banks) (sym e) f.2,
 )
 causes_around (Put bytes) reason a b c d p q e f = (f.0, around _ _ _ _ 1 p.sink f.1 q.sink)
-causes_around (Print bytes) reason a b c d p q e (inl f) =
+causes_around (Print on bytes) reason a b c d p q e (inl f) =
     inl (f.0, around _ _ _ _ 1 p.sink f.1 q.sink)
-causes_around (Print bytes) reason a b c d p q e (inr f) =
-    inr (f.0, around _ _ _ _ 1 p.chip f.1 q.chip)
+causes_around (Print on bytes) reason a b c d p q e (inr f) = inr (
+  f.0,
+  around _ _ _ _ 1 p.chip f.1 q.chip,
+  subst (λ (v : ChipView). IsLeftBy on v.banks) (sym e) f.2,
+)
 
 -- what was sent
 
@@ -230,22 +242,22 @@ stop_sent certain Take reason a b c d t l f s =
     (reason_line reason, refl, line_sent certain (reason_line reason) a b c d t l f.1.sink s)
 stop_sent certain (Store name bytes) reason a b c d t l f s =
     (reason_line reason, refl, line_sent certain (reason_line reason) a b c d t l f.1.sink s)
-stop_sent certain Open reason a b c d t l (inl f) s =
+stop_sent certain (Open on) reason a b c d t l (inl f) s =
     (reason_line reason, refl, line_sent certain (reason_line reason) a b c d t l f.1.sink s)
-stop_sent certain Open reason a b c d t l (inr f) s =
+stop_sent certain (Open on) reason a b c d t l (inr f) s =
     (reason_line reason, refl, line_sent certain (reason_line reason) a b c d t l f.1.sink s)
-stop_sent certain Use reason a b c d t l f s =
+stop_sent certain (Use on) reason a b c d t l f s =
     (reason_line reason, refl, line_sent certain (reason_line reason) a b c d t l f.1.sink s)
 stop_sent certain (UseFor wave) reason a b c d t l f s =
     (reason_line reason, refl, line_sent certain (reason_line reason) a b c d t l f.1.sink s)
 stop_sent certain (Put bytes) reason a b c d t l f s =
     (bytes, refl, put_sent certain bytes reason a b c d t l f.2 f.1.sent f.0 s)
-stop_sent certain (Print bytes) reason a b c d t l (p, inl f) s = (
+stop_sent certain (Print on bytes) reason a b c d t l (p, inl f) s = (
   bytes,
   subst (λ (r : Reason). LastOfPrint bytes r bytes) (sym f.0) refl,
   put_sent certain bytes reason a b c d t l f.1 p.sent f.0 s,
 )
-stop_sent certain (Print bytes) reason a b c d t l (p, inr f) s =
+stop_sent certain (Print on bytes) reason a b c d t l (p, inr f) s =
     let says : Says (reason_line ChipFailed) c d =
     subst (λ (r : Reason). Says (reason_line r) c d) f.0 s in
     let said = print_sent certain bytes (reason_line ChipFailed) a b c d t
@@ -283,14 +295,14 @@ fails_files (Load name limit text refusal) reason a b f =
     known_kept (Load name limit text refusal) _ _ (load_files name limit text refusal reason a b f)
 fails_files Take reason a b f = known_kept Take _ _ f.1.files
 fails_files (Store name bytes) reason a b f = f.1.others
-fails_files Open reason a b (inl f) = known_kept Open _ _ (ap (λ k. k.holds) f.1.files)
-fails_files Open reason a b (inr f) = known_kept Open _ _ (ap (λ k. k.holds) f.1.files)
-fails_files Use reason a b f = known_kept Use _ _ (ap (λ k. k.holds) f.1.files)
+fails_files (Open on) reason a b (inl f) = known_kept (Open on) _ _ (ap (λ k. k.holds) f.1.files)
+fails_files (Open on) reason a b (inr f) = known_kept (Open on) _ _ (ap (λ k. k.holds) f.1.files)
+fails_files (Use on) reason a b f = known_kept (Use on) _ _ (ap (λ k. k.holds) f.1.files)
 fails_files (UseFor wave) reason a b f =
     known_kept (UseFor wave) _ _ (ap (λ k. k.holds) f.1.files)
 fails_files (Put bytes) reason a b f = known_kept (Put bytes) _ _ (ap (λ k. k.holds) f.1.files)
-fails_files (Print bytes) reason a b f =
-    known_kept (Print bytes) _ _ (ap (λ k. k.holds) f.0.files)
+fails_files (Print on bytes) reason a b f =
+    known_kept (Print on bytes) _ _ (ap (λ k. k.holds) f.0.files)
 
 known_left : (stop : Stop) (a b c d : Option Files)
     → Known (λ x y. y ≡ files_after stop.before x) a b → Known (KeepsBut stop.failed) b c → d ≡ c
@@ -355,16 +367,16 @@ fails_unopened (Load name limit text refusal) reason a b f e =
     inl (load_unopened name limit text refusal reason a b f)
 fails_unopened Take reason a b f e = inl f.1.chip
 fails_unopened (Store name bytes) reason a b f e = inl f.1.chip
-fails_unopened Open reason a b (inl f) e = f.2
-fails_unopened Open reason a b (inr f) e = let no : ChipFailed ≡ NoMemory = sym f.0 ∙ e in
+fails_unopened (Open on) reason a b (inl f) e = f.2
+fails_unopened (Open on) reason a b (inr f) e = let no : ChipFailed ≡ NoMemory = sym f.0 ∙ e in
     absurd (cc)
-fails_unopened Use reason a b f e = let no : ChipFailed ≡ NoMemory = sym f.0 ∙ e in absurd (cc)
+fails_unopened (Use on) reason a b f e = let no : ChipFailed ≡ NoMemory = sym f.0 ∙ e in absurd (cc)
 fails_unopened (UseFor wave) reason a b f e =
     let no : ChipFailed ≡ NoMemory = sym f.0 ∙ e in absurd (cc)
 fails_unopened (Put bytes) reason a b f e = inl f.1.chip
-fails_unopened (Print bytes) reason a b (p, inl f) e =
+fails_unopened (Print on bytes) reason a b (p, inl f) e =
     let no : PutFailed ≡ NoMemory = sym f.0 ∙ e in absurd (cc)
-fails_unopened (Print bytes) reason a b (p, inr f) e =
+fails_unopened (Print on bytes) reason a b (p, inr f) e =
     let no : ChipFailed ≡ NoMemory = sym f.0 ∙ e in absurd (cc)
 
 unopened_around : (a b c d : ChipView) → b ≡ a → Unopened b c → d ≡ c → Unopened a d

@@ -109,11 +109,11 @@ pub does_count : (step : Step) (a b : World) → StepDone step a b → CountsOn 
 does_count (Load name limit text refusal) a b d = reads_count a b d.1.reads
 does_count Take a b d = reads_count a b d
 does_count (Store name bytes) a b d = stored_count name bytes a b d
-does_count Open a b d = used_count a b d
-does_count Use a b d = used_count a b d
+does_count (Open on) a b d = used_count a b d
+does_count (Use on) a b d = used_count a b d
 does_count (UseFor wave) a b d = used_count a b d
 does_count (Put bytes) a b d = sent_count _ a b d
-does_count (Print bytes) a b d = printed_count _ a b d
+does_count (Print on bytes) a b d = printed_count _ a b d
 
 load_fails_count : (name : List ℕ) (limit : ℕ) (text : List ℕ) (refusal : _) (reason : Reason)
     (a b : World) → Fails (Load name limit text refusal) reason a b → CountsOn a b
@@ -131,12 +131,12 @@ fails_count (Load name limit text refusal) reason a b f =
     load_fails_count name limit text refusal reason a b f
 fails_count Take reason a b f = reads_count a b f.1
 fails_count (Store name bytes) reason a b f = unstored_count name a b f.1
-fails_count Open reason a b (inl f) = used_count a b f.1
-fails_count Open reason a b (inr f) = used_count a b f.1
-fails_count Use reason a b f = used_count a b f.1
+fails_count (Open on) reason a b (inl f) = used_count a b f.1
+fails_count (Open on) reason a b (inr f) = used_count a b f.1
+fails_count (Use on) reason a b f = used_count a b f.1
 fails_count (UseFor wave) reason a b f = used_count a b f.1
 fails_count (Put bytes) reason a b f = sent_count _ a b f.1
-fails_count (Print bytes) reason a b f = printed_count _ a b f.0
+fails_count (Print on bytes) reason a b f = printed_count _ a b f.0
 
 pub known_same : {A : Type 0} (a b : Option A) → b ≡ a → Known (λ x y. y ≡ x) a b
 known_same None b e = tt
@@ -175,15 +175,15 @@ one_stands (Store name bytes) a b d = record {
   sent = known_unsent _ _ (ap (λ s. s.sent) d.sink);
   counts = does_count (Store name bytes) a b d;
 }
-one_stands Open a b d = record {
+one_stands (Open on) a b d = record {
   files = known_same _ _ (ap (λ f. f.holds) d.files);
   sent = known_unsent _ _ (ap (λ s. s.sent) d.sink);
-  counts = does_count Open a b d;
+  counts = does_count (Open on) a b d;
 }
-one_stands Use a b d = record {
+one_stands (Use on) a b d = record {
   files = known_same _ _ (ap (λ f. f.holds) d.files);
   sent = known_unsent _ _ (ap (λ s. s.sent) d.sink);
-  counts = does_count Use a b d;
+  counts = does_count (Use on) a b d;
 }
 one_stands (UseFor wave) a b d = record {
   files = known_same _ _ (ap (λ f. f.holds) d.files);
@@ -195,10 +195,10 @@ one_stands (Put bytes) a b d = record {
   sent = rw append-nil d.sent;
   counts = does_count (Put bytes) a b d;
 }
-one_stands (Print bytes) a b d = record {
+one_stands (Print on bytes) a b d = record {
   files = known_same _ _ (ap (λ f. f.holds) d.files);
   sent = rw append-nil d.sent;
-  counts = does_count (Print bytes) a b d;
+  counts = does_count (Print on bytes) a b d;
 }
 
 files_after-cons : (step : Step) (steps : List Step) (f : Files)
@@ -206,22 +206,22 @@ files_after-cons : (step : Step) (steps : List Step) (f : Files)
 files_after-cons (Load name limit text refusal) steps f = refl
 files_after-cons Take steps f = refl
 files_after-cons (Store name bytes) steps f = refl
-files_after-cons Open steps f = refl
-files_after-cons Use steps f = refl
+files_after-cons (Open on) steps f = refl
+files_after-cons (Use on) steps f = refl
 files_after-cons (UseFor wave) steps f = refl
 files_after-cons (Put bytes) steps f = refl
-files_after-cons (Print bytes) steps f = refl
+files_after-cons (Print on bytes) steps f = refl
 
 sent_by-cons : (step : Step) (steps : List Step)
     → sent_by (step ∷ steps) ≡ sent_by (step ∷ []) ++ sent_by steps
 sent_by-cons (Load name limit text refusal) steps = refl
 sent_by-cons Take steps = refl
 sent_by-cons (Store name bytes) steps = refl
-sent_by-cons Open steps = refl
-sent_by-cons Use steps = refl
+sent_by-cons (Open on) steps = refl
+sent_by-cons (Use on) steps = refl
 sent_by-cons (UseFor wave) steps = refl
 sent_by-cons (Put bytes) steps = rw append-nil refl
-sent_by-cons (Print bytes) steps = rw append-nil refl
+sent_by-cons (Print on bytes) steps = rw append-nil refl
 
 known_files : (step : Step) (steps : List Step) (a b c : Option Files)
     → Known (λ x y. y ≡ files_after (step ∷ []) x) a b → Known (λ x y. y ≡ files_after steps x) b c
@@ -262,11 +262,11 @@ does_chip : (step : Step) (a b : World) → is_on_chip step ≡ false → StepDo
 does_chip (Load name limit text refusal) a b off d = d.1.reads.chip
 does_chip Take a b off d = d.chip
 does_chip (Store name bytes) a b off d = d.chip
-does_chip Open a b off d = absurd (cc)
-does_chip Use a b off d = absurd (cc)
+does_chip (Open on) a b off d = absurd (cc)
+does_chip (Use on) a b off d = absurd (cc)
 does_chip (UseFor wave) a b off d = absurd (cc)
 does_chip (Put bytes) a b off d = d.chip
-does_chip (Print bytes) a b off d = absurd (cc)
+does_chip (Print on bytes) a b off d = absurd (cc)
 
 load_chip : (name : List ℕ) (limit : ℕ) (text : List ℕ) (refusal : _) (reason : Reason)
     (a b : World) → Fails (Load name limit text refusal) reason a b → b.chip ≡ a.chip
@@ -284,11 +284,11 @@ fails_chip (Load name limit text refusal) reason a b off f =
     load_chip name limit text refusal reason a b f
 fails_chip Take reason a b off f = f.1.chip
 fails_chip (Store name bytes) reason a b off f = f.1.chip
-fails_chip Open reason a b off f = absurd (cc)
-fails_chip Use reason a b off f = absurd (cc)
+fails_chip (Open on) reason a b off f = absurd (cc)
+fails_chip (Use on) reason a b off f = absurd (cc)
 fails_chip (UseFor wave) reason a b off f = absurd (cc)
 fails_chip (Put bytes) reason a b off f = f.1.chip
-fails_chip (Print bytes) reason a b off f = absurd (cc)
+fails_chip (Print on bytes) reason a b off f = absurd (cc)
 
 -- the first step is off the chip, and so are the others
 first_off : (step : Step) (steps : List Step) → list_any is_on_chip (step ∷ steps) ≡ false
@@ -296,11 +296,11 @@ first_off : (step : Step) (steps : List Step) → list_any is_on_chip (step ∷ 
 first_off (Load name limit text refusal) steps off = (refl, off)
 first_off Take steps off = (refl, off)
 first_off (Store name bytes) steps off = (refl, off)
-first_off Open steps off = absurd (cc)
-first_off Use steps off = absurd (cc)
+first_off (Open on) steps off = absurd (cc)
+first_off (Use on) steps off = absurd (cc)
 first_off (UseFor wave) steps off = absurd (cc)
 first_off (Put bytes) steps off = (refl, off)
-first_off (Print bytes) steps off = absurd (cc)
+first_off (Print on bytes) steps off = absurd (cc)
 
 pub all_off : (steps : List Step) (a b : World) → Goes steps Done a b
     → list_any is_on_chip steps ≡ false → b.chip ≡ a.chip

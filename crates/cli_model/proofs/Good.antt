@@ -40,13 +40,13 @@ step_wants (Load name limit text refusal) reason a b c f n =
     load_wants name limit text refusal reason a b c f n
 step_wants Take reason a b c f n = ap reason_status c
 step_wants (Store name bytes) reason a b c f n = absurd (n.stores c.1)
-step_wants Open reason a b (inl c) f n = ap reason_status c
-step_wants Open reason a b (inr c) f n = absurd (n.chip c.1)
-step_wants Use reason a b c f n = absurd (n.chip c.1)
+step_wants (Open on) reason a b (inl c) f n = ap reason_status c
+step_wants (Open on) reason a b (inr c) f n = absurd (n.chip c.1)
+step_wants (Use on) reason a b c f n = absurd (n.chip c.1)
 step_wants (UseFor wave) reason a b c f n = absurd (n.chip c.1)
 step_wants (Put bytes) reason a b c f n = absurd (n.puts c.1)
-step_wants (Print bytes) reason a b (inl c) f n = absurd (n.puts c.1)
-step_wants (Print bytes) reason a b (inr c) f n = absurd (n.chip c.1)
+step_wants (Print on bytes) reason a b (inl c) f n = absurd (n.puts c.1)
+step_wants (Print on bytes) reason a b (inr c) f n = absurd (n.chip c.1)
 
 pub at_middle : (P : ℕ → Type 0) (front : List Step) (at : Step) (rest : List Step)
     → OfSteps P (front ++ at ∷ rest) → OfStep P at
@@ -66,13 +66,13 @@ fault_by : (step : Step) (reason : Reason) (a b : World) → OfStep (λ s. s ≡
 fault_by (Load name limit text refusal) reason a b h c = absurd (h.0 refl)
 fault_by Take reason a b h c = is_fault reason NoMemory c tt
 fault_by (Store name bytes) reason a b h c = is_fault reason (CannotWrite name) c.0 tt
-fault_by Open reason a b h (inl c) = is_fault reason NoMemory c tt
-fault_by Open reason a b h (inr c) = is_fault reason ChipFailed c.0 tt
-fault_by Use reason a b h c = is_fault reason ChipFailed c.0 tt
+fault_by (Open on) reason a b h (inl c) = is_fault reason NoMemory c tt
+fault_by (Open on) reason a b h (inr c) = is_fault reason ChipFailed c.0 tt
+fault_by (Use on) reason a b h c = is_fault reason ChipFailed c.0 tt
 fault_by (UseFor wave) reason a b h c = is_fault reason ChipFailed c.0 tt
 fault_by (Put bytes) reason a b h c = is_fault reason PutFailed c.0 tt
-fault_by (Print bytes) reason a b h (inl c) = is_fault reason PutFailed c.0 tt
-fault_by (Print bytes) reason a b h (inr c) = is_fault reason ChipFailed c.0 tt
+fault_by (Print on bytes) reason a b h (inl c) = is_fault reason PutFailed c.0 tt
+fault_by (Print on bytes) reason a b h (inr c) = is_fault reason ChipFailed c.0 tt
 
 -- a line that is reported last changes no file and no chip, and no count of faults falls
 record IsAfter (known new : World) : Type 0 where
@@ -118,11 +118,11 @@ none_loaded (Load name limit text refusal ∷ xs) ys files h = absurd (h.0.0 ref
 none_loaded (Take ∷ xs) ys files h = none_loaded xs ys files h.1
 none_loaded (Store name bytes ∷ xs) ys files h =
     none_loaded xs ys (with_file name bytes files) h.1
-none_loaded (Open ∷ xs) ys files h = none_loaded xs ys files h.1
-none_loaded (Use ∷ xs) ys files h = none_loaded xs ys files h.1
+none_loaded (Open on ∷ xs) ys files h = none_loaded xs ys files h.1
+none_loaded (Use on ∷ xs) ys files h = none_loaded xs ys files h.1
 none_loaded (UseFor wave ∷ xs) ys files h = none_loaded xs ys files h.1
 none_loaded (Put bytes ∷ xs) ys files h = none_loaded xs ys files h.1
-none_loaded (Print bytes ∷ xs) ys files h = none_loaded xs ys files h.1
+none_loaded (Print on bytes ∷ xs) ys files h = none_loaded xs ys files h.1
 
 same_text : (file : Option (List ℕ)) (bytes text : List ℕ) → file ≡ Some bytes
     → IfSome file (λ b. b ≡ text) → bytes ≡ text

@@ -11,3 +11,4 @@ pub mod Delivers
 pub mod Delivering
 pub mod Good
 pub mod Sparing
+pub mod Losing

@@ -53,11 +53,11 @@ FirstThen but (Load name limit text refusal ∷ steps) first none =
 FirstThen but (Take ∷ steps) first none = FirstThen but steps first none
 FirstThen but (Store name bytes ∷ steps) first none =
     ((but ≡ Some name) × FirstThen but steps first none) ⊎ (OfSteps NotTen steps × none)
-FirstThen but (Open ∷ steps) first none = OfSteps NotTen steps × none
-FirstThen but (Use ∷ steps) first none = OfSteps NotTen steps × none
+FirstThen but (Open on ∷ steps) first none = OfSteps NotTen steps × none
+FirstThen but (Use on ∷ steps) first none = OfSteps NotTen steps × none
 FirstThen but (UseFor wave ∷ steps) first none = OfSteps NotTen steps × none
 FirstThen but (Put bytes ∷ steps) first none = OfSteps NotTen steps × none
-FirstThen but (Print bytes ∷ steps) first none = OfSteps NotTen steps × none
+FirstThen but (Print on bytes ∷ steps) first none = OfSteps NotTen steps × none
 
 -- a plan in which memory is taken first, but for the loads and the store of this file
 abbrev pub TakesFirst : Option (List ℕ) → Plan → Type 0

@@ -4,6 +4,7 @@ use Rattle.std.proofs.Common.{sym, ◌∙◌, ap, subst, inl, inr, false}
 use Rattle.std.specs.Prelude.{◌≢◌, codes}
 use Rattle.std.specs.List.{list_any}
 use Rattle.host_edge.specs.Views.{Files, Known}
+use Rattle.cli_model.specs.Waves.{ChipUse}
 use Rattle.cli_model.specs.World.{World, with_file}
 use Rattle.cli_model.specs.Steps.{Step, Load, Take, Store, Open, Use, UseFor, Put, Print, Refusal}
 use Rattle.cli_model.specs.Steps.{Reason, CannotRead, TooLong, Refused, NoMemory, CannotWrite}
@@ -36,11 +37,11 @@ StepsTake but (Load name limit text refusal ∷ steps) = OfRefusal (λ s. s ≡ 
 StepsTake but (Take ∷ steps) = StepsTake but steps
 StepsTake but (Store name bytes ∷ steps) = ((but ≡ Some name) × StepsTake but steps)
     ⊎ NoneTakes steps
-StepsTake but (Open ∷ steps) = NoneTakes steps
-StepsTake but (Use ∷ steps) = NoneTakes steps
+StepsTake but (Open on ∷ steps) = NoneTakes steps
+StepsTake but (Use on ∷ steps) = NoneTakes steps
 StepsTake but (UseFor wave ∷ steps) = NoneTakes steps
 StepsTake but (Put bytes ∷ steps) = NoneTakes steps
-StepsTake but (Print bytes ∷ steps) = NoneTakes steps
+StepsTake but (Print on bytes ∷ steps) = NoneTakes steps
 
 -- what is done before a step that wants memory, and what is sent where it does
 record IsEarly (but : Option (List ℕ)) (front : List Step) (at : Step) (reason : Reason) : Type 0
@@ -94,8 +95,8 @@ take_early but reason c = record {
   line = λ last is. is ∙ ap reason_line c;
 }
 
-open_early : (but : Option (List ℕ)) (reason : Reason) → reason ≡ NoMemory
-    → IsEarly but [] Open reason
+open_early : {on : Option ChipUse} (but : Option (List ℕ)) (reason : Reason)
+    → reason ≡ NoMemory → IsEarly but [] (Open on) reason
 open_early but reason c = record {
   wants = c;
   quiet = refl;
@@ -113,18 +114,18 @@ first_early but (Load name limit text refusal) rest reason a b h c ten =
 first_early but Take rest reason a b h c ten = take_early but reason c
 first_early but (Store name bytes) rest reason a b h c ten =
     absurd (not_ten reason (CannotWrite name) 3 c.0 refl (λ f. cc) ten)
-first_early but Open rest reason a b h (inl c) ten = open_early but reason c
-first_early but Open rest reason a b h (inr c) ten =
+first_early but (Open on) rest reason a b h (inl c) ten = open_early but reason c
+first_early but (Open on) rest reason a b h (inr c) ten =
     absurd (not_ten reason ChipFailed 9 c.0 refl (λ f. cc) ten)
-first_early but Use rest reason a b h c ten =
+first_early but (Use on) rest reason a b h c ten =
     absurd (not_ten reason ChipFailed 9 c.0 refl (λ f. cc) ten)
 first_early but (UseFor wave) rest reason a b h c ten =
     absurd (not_ten reason ChipFailed 9 c.0 refl (λ f. cc) ten)
 first_early but (Put bytes) rest reason a b h c ten =
     absurd (not_ten reason PutFailed 3 c.0 refl (λ f. cc) ten)
-first_early but (Print bytes) rest reason a b h (inl c) ten =
+first_early but (Print on bytes) rest reason a b h (inl c) ten =
     absurd (not_ten reason PutFailed 3 c.0 refl (λ f. cc) ten)
-first_early but (Print bytes) rest reason a b h (inr c) ten =
+first_early but (Print on bytes) rest reason a b h (inr c) ten =
     absurd (not_ten reason ChipFailed 9 c.0 refl (λ f. cc) ten)
 
 load_takes : (name : List ℕ) (limit : ℕ) (text : List ℕ) (refusal : Option Refusal)
@@ -147,14 +148,14 @@ step_takes (Load name limit text refusal) reason a b h c ten =
 step_takes Take reason a b h c ten = h refl
 step_takes (Store name bytes) reason a b h c ten =
     not_ten reason (CannotWrite name) 3 c.0 refl (λ f. cc) ten
-step_takes Open reason a b h c ten = h.1 refl
-step_takes Use reason a b h c ten = not_ten reason ChipFailed 9 c.0 refl (λ f. cc) ten
+step_takes (Open on) reason a b h c ten = h.1 refl
+step_takes (Use on) reason a b h c ten = not_ten reason ChipFailed 9 c.0 refl (λ f. cc) ten
 step_takes (UseFor wave) reason a b h c ten =
     not_ten reason ChipFailed 9 c.0 refl (λ f. cc) ten
 step_takes (Put bytes) reason a b h c ten = not_ten reason PutFailed 3 c.0 refl (λ f. cc) ten
-step_takes (Print bytes) reason a b h (inl c) ten =
+step_takes (Print on bytes) reason a b h (inl c) ten =
     not_ten reason PutFailed 3 c.0 refl (λ f. cc) ten
-step_takes (Print bytes) reason a b h (inr c) ten =
+step_takes (Print on bytes) reason a b h (inr c) ten =
     not_ten reason ChipFailed 9 c.0 refl (λ f. cc) ten
 
 none_takes : (front : List Step) (at : Step) (rest : List Step) (reason : Reason) (a b : World)
@@ -200,15 +201,15 @@ early but (Store name bytes ∷ front) at rest reason a b (inl h) c ten =
     }
 early but (Store name bytes ∷ front) at rest reason a b (inr h) c ten =
     absurd (none_takes front at rest reason a b h c ten)
-early but (Open ∷ front) at rest reason a b h c ten =
+early but (Open on ∷ front) at rest reason a b h c ten =
     absurd (none_takes front at rest reason a b h c ten)
-early but (Use ∷ front) at rest reason a b h c ten =
+early but (Use on ∷ front) at rest reason a b h c ten =
     absurd (none_takes front at rest reason a b h c ten)
 early but (UseFor wave ∷ front) at rest reason a b h c ten =
     absurd (none_takes front at rest reason a b h c ten)
 early but (Put bytes ∷ front) at rest reason a b h c ten =
     absurd (none_takes front at rest reason a b h c ten)
-early but (Print bytes ∷ front) at rest reason a b h c ten =
+early but (Print on bytes ∷ front) at rest reason a b h c ten =
     absurd (none_takes front at rest reason a b h c ten)
 
 known_weaker : {A : Type 0} (R Q : A → A → Type 0) (a b : Option A) → Known R a b
@@ -247,11 +248,11 @@ first_append but (Store name bytes ∷ xs) ys F N (inl h) f n =
     inl (h.0, first_append but xs ys F N h.1 f n)
 first_append but (Store name bytes ∷ xs) ys F N (inr h) f n =
     inr (of_more NotTen xs ys h.0 (n h.1))
-first_append but (Open ∷ xs) ys F N h f n = of_more NotTen xs ys h.0 (n h.1)
-first_append but (Use ∷ xs) ys F N h f n = of_more NotTen xs ys h.0 (n h.1)
+first_append but (Open on ∷ xs) ys F N h f n = of_more NotTen xs ys h.0 (n h.1)
+first_append but (Use on ∷ xs) ys F N h f n = of_more NotTen xs ys h.0 (n h.1)
 first_append but (UseFor wave ∷ xs) ys F N h f n = of_more NotTen xs ys h.0 (n h.1)
 first_append but (Put bytes ∷ xs) ys F N h f n = of_more NotTen xs ys h.0 (n h.1)
-first_append but (Print bytes ∷ xs) ys F N h f n = of_more NotTen xs ys h.0 (n h.1)
+first_append but (Print on bytes ∷ xs) ys F N h f n = of_more NotTen xs ys h.0 (n h.1)
 
 takes_first : (but : Option (List ℕ)) (plan : Plan) → TakesFirst but plan → (way : Way plan)
     → StepsTake but (steps_of plan way)
@@ -276,11 +277,11 @@ first_end but (Load name limit text refusal ∷ xs) F N h = first_end but xs F N
 first_end but (Take ∷ xs) F N h = first_end but xs F N h
 first_end but (Store name bytes ∷ xs) F N (inl h) = first_end but xs F N h.1
 first_end but (Store name bytes ∷ xs) F N (inr h) = inr h.1
-first_end but (Open ∷ xs) F N h = inr h.1
-first_end but (Use ∷ xs) F N h = inr h.1
+first_end but (Open on ∷ xs) F N h = inr h.1
+first_end but (Use on ∷ xs) F N h = inr h.1
 first_end but (UseFor wave ∷ xs) F N h = inr h.1
 first_end but (Put bytes ∷ xs) F N h = inr h.1
-first_end but (Print bytes ∷ xs) F N h = inr h.1
+first_end but (Print on bytes ∷ xs) F N h = inr h.1
 
 none_end : (plan : Plan) → TakesNone plan → (way : Way plan) (chip : ChipView)
     → Leaves plan way chip → NotTen (last_status plan way)

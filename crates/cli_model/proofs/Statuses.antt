@@ -21,11 +21,11 @@ abbrev pub OfStep : (ℕ → Type 0) → Step → Type 0
 OfStep P (Load name limit text refusal) = P 2 × P 11 × P 10 × OfRefusal P refusal
 OfStep P Take = P 10
 OfStep P (Store name bytes) = P 3
-OfStep P Open = P 9 × P 10
-OfStep P Use = P 9
+OfStep P (Open on) = P 9 × P 10
+OfStep P (Use on) = P 9
 OfStep P (UseFor wave) = P 9
 OfStep P (Put bytes) = P 3
-OfStep P (Print bytes) = P 3 × P 9
+OfStep P (Print on bytes) = P 3 × P 9
 
 -- each step can fail only with these statuses
 abbrev pub OfSteps : (ℕ → Type 0) → List Step → Type 0
@@ -65,13 +65,13 @@ step_so P (Load name limit text refusal) reason a b h c =
     load_so P name limit text refusal reason a b h c
 step_so P Take reason a b h c = reason_so P reason NoMemory c h
 step_so P (Store name bytes) reason a b h c = reason_so P reason (CannotWrite name) c.0 h
-step_so P Open reason a b h (inl c) = reason_so P reason NoMemory c h.1
-step_so P Open reason a b h (inr c) = reason_so P reason ChipFailed c.0 h.0
-step_so P Use reason a b h c = reason_so P reason ChipFailed c.0 h
+step_so P (Open on) reason a b h (inl c) = reason_so P reason NoMemory c h.1
+step_so P (Open on) reason a b h (inr c) = reason_so P reason ChipFailed c.0 h.0
+step_so P (Use on) reason a b h c = reason_so P reason ChipFailed c.0 h
 step_so P (UseFor wave) reason a b h c = reason_so P reason ChipFailed c.0 h
 step_so P (Put bytes) reason a b h c = reason_so P reason PutFailed c.0 h
-step_so P (Print bytes) reason a b h (inl c) = reason_so P reason PutFailed c.0 h.0
-step_so P (Print bytes) reason a b h (inr c) = reason_so P reason ChipFailed c.0 h.1
+step_so P (Print on bytes) reason a b h (inl c) = reason_so P reason PutFailed c.0 h.0
+step_so P (Print on bytes) reason a b h (inr c) = reason_so P reason ChipFailed c.0 h.1
 
 of_middle : (P : ℕ → Type 0) (front : List Step) (at : Step) (rest : List Step)
     → OfSteps P (front ++ at ∷ rest) → OfStep P at
@@ -122,8 +122,8 @@ foreseen_more (Load name limit text refusal ∷ xs) ys files reason e =
 foreseen_more (Take ∷ xs) ys files reason e = foreseen_more xs ys files reason e
 foreseen_more (Store name bytes ∷ xs) ys files reason e =
     foreseen_more xs ys (with_file name bytes files) reason e
-foreseen_more (Open ∷ xs) ys files reason e = foreseen_more xs ys files reason e
-foreseen_more (Use ∷ xs) ys files reason e = foreseen_more xs ys files reason e
+foreseen_more (Open on ∷ xs) ys files reason e = foreseen_more xs ys files reason e
+foreseen_more (Use on ∷ xs) ys files reason e = foreseen_more xs ys files reason e
 foreseen_more (UseFor wave ∷ xs) ys files reason e = foreseen_more xs ys files reason e
 foreseen_more (Put bytes ∷ xs) ys files reason e = foreseen_more xs ys files reason e
-foreseen_more (Print bytes ∷ xs) ys files reason e = foreseen_more xs ys files reason e
+foreseen_more (Print on bytes ∷ xs) ys files reason e = foreseen_more xs ys files reason e

@@ -5,11 +5,11 @@ use Rattle.std.specs.List.{list_any}
 use Rattle.host_edge.specs.Views.{Files, Known, IsPrefix}
 use Rattle.faults.specs.Counts.{Rose, RoseBy}
 use Rattle.cli_model.specs.World.{World}
-use Rattle.cli_model.specs.Waves.{StoppedIn}
+use Rattle.cli_model.specs.Waves.{IsLeftBy, StoppedIn}
 use Rattle.cli_model.specs.Steps.{Step, Load, Take, Store, Open, Use, UseFor, Put, Print, Reason}
 use Rattle.cli_model.specs.Steps.{CannotRead, TooLong, Refused, NoMemory, CannotWrite, PutFailed}
 use Rattle.cli_model.specs.Steps.{ChipFailed}
-use Rattle.cli_model.specs.Steps.{Done, Stopped, Unopened}
+use Rattle.cli_model.specs.Steps.{Done, IsLeftUnopened, Stopped, Unopened}
 use Rattle.cli_model.specs.Stands.{files_after, sent_by, CountsOn}
 use Rattle.cli_model.specs.Status.{reason_status, reason_line}
 use Rattle.cli_model.specs.Foreseen.{foreseen}
@@ -28,7 +28,7 @@ pub data Ended : Type 0 where
   At : Stop → Ended
 
 -- Why a step fails: a count rose in this call, the text of its file is refused, or memory was
--- wanting; and of a wave what then stands in the chip
+-- wanting; and where the chip failed, what then stands in it
 abbrev pub Causes : Step → Reason → World → World → Type 0
 Causes (Load name limit text refusal) (CannotRead said) old new =
     (said ≡ name) × Rose (old.files.load_faults name) (new.files.load_faults name)
@@ -40,16 +40,17 @@ Causes (Load name limit text refusal) _ old new = ⊥
 Causes Take reason old new = reason ≡ NoMemory
 Causes (Store name bytes) reason old new =
     (reason ≡ CannotWrite name) × Rose old.files.store_faults new.files.store_faults
-Causes Open reason old new =
-    (reason ≡ NoMemory) ⊎ ((reason ≡ ChipFailed) × Rose old.chip.faults new.chip.faults)
-Causes Use reason old new = (reason ≡ ChipFailed) × Rose old.chip.faults new.chip.faults
+Causes (Open on) reason old new = (reason ≡ NoMemory) ⊎ ((reason ≡ ChipFailed)
+    × Rose old.chip.faults new.chip.faults × IsLeftUnopened on new.chip)
+Causes (Use on) reason old new = (reason ≡ ChipFailed)
+    × Rose old.chip.faults new.chip.faults × IsLeftBy on new.chip.banks
 Causes (UseFor wave) reason old new = (reason ≡ ChipFailed)
     × Rose old.chip.faults new.chip.faults × StoppedIn wave new.chip.banks
 Causes (Put bytes) reason old new =
     (reason ≡ PutFailed) × Rose old.sink.faults new.sink.faults
-Causes (Print bytes) reason old new =
+Causes (Print on bytes) reason old new =
     ((reason ≡ PutFailed) × Rose old.sink.faults new.sink.faults)
-    ⊎ ((reason ≡ ChipFailed) × Rose old.chip.faults new.chip.faults)
+    ⊎ ((reason ≡ ChipFailed) × Rose old.chip.faults new.chip.faults × IsLeftBy on new.chip.banks)
 
 -- what is sent last of a line that is sent while the chip is read: the line, or the part of it that
 -- was sent before the chip failed, and then the line that tells this
@@ -63,11 +64,11 @@ abbrev pub IsLast : Step → Reason → List ℕ → Type 0
 IsLast (Load name limit text refusal) reason last = last ≡ reason_line reason
 IsLast Take reason last = last ≡ reason_line reason
 IsLast (Store name bytes) reason last = last ≡ reason_line reason
-IsLast Open reason last = last ≡ reason_line reason
-IsLast Use reason last = last ≡ reason_line reason
+IsLast (Open on) reason last = last ≡ reason_line reason
+IsLast (Use on) reason last = last ≡ reason_line reason
 IsLast (UseFor wave) reason last = last ≡ reason_line reason
 IsLast (Put bytes) reason last = last ≡ bytes
-IsLast (Print bytes) reason last = LastOfPrint bytes reason last
+IsLast (Print on bytes) reason last = LastOfPrint bytes reason last
 
 -- a part of the last bytes came after those that are certain
 abbrev pub AppendsAfter : (certain last : List ℕ) → List ℕ → List ℕ → Type 0
@@ -86,11 +87,11 @@ abbrev pub IsStoreOf : List ℕ → Step → Type 0
 IsStoreOf name (Store other bytes) = name ≡ other
 IsStoreOf name (Load other limit text refusal) = ⊥
 IsStoreOf name Take = ⊥
-IsStoreOf name Open = ⊥
-IsStoreOf name Use = ⊥
+IsStoreOf name (Open on) = ⊥
+IsStoreOf name (Use on) = ⊥
 IsStoreOf name (UseFor wave) = ⊥
 IsStoreOf name (Put bytes) = ⊥
-IsStoreOf name (Print bytes) = ⊥
+IsStoreOf name (Print on bytes) = ⊥
 
 -- some step stores the file of this name
 abbrev pub Stores : List ℕ → List Step → Type 0
@@ -107,11 +108,11 @@ abbrev pub is_on_chip : Step → Bool
 is_on_chip (Load name limit text refusal) = false
 is_on_chip Take = false
 is_on_chip (Store name bytes) = false
-is_on_chip Open = true
-is_on_chip Use = true
+is_on_chip (Open on) = true
+is_on_chip (Use on) = true
 is_on_chip (UseFor wave) = true
 is_on_chip (Put bytes) = false
-is_on_chip (Print bytes) = true
+is_on_chip (Print on bytes) = true
 
 -- the steps that were begun
 abbrev pub begun_steps : List Step → Ended → List Step

@@ -25,8 +25,8 @@ foreseen (Load name limit text refusal ∷ steps) files =
     load_end name limit refusal (files name) (foreseen steps files)
 foreseen (Take ∷ steps) files = foreseen steps files
 foreseen (Store name bytes ∷ steps) files = foreseen steps (with_file name bytes files)
-foreseen (Open ∷ steps) files = foreseen steps files
-foreseen (Use ∷ steps) files = foreseen steps files
+foreseen (Open on ∷ steps) files = foreseen steps files
+foreseen (Use on ∷ steps) files = foreseen steps files
 foreseen (UseFor wave ∷ steps) files = foreseen steps files
 foreseen (Put bytes ∷ steps) files = foreseen steps files
-foreseen (Print bytes ∷ steps) files = foreseen steps files
+foreseen (Print on bytes ∷ steps) files = foreseen steps files

@@ -10,11 +10,11 @@ files_after [] files = files
 files_after (Load name limit text refusal ∷ steps) files = files_after steps files
 files_after (Take ∷ steps) files = files_after steps files
 files_after (Store name bytes ∷ steps) files = files_after steps (with_file name bytes files)
-files_after (Open ∷ steps) files = files_after steps files
-files_after (Use ∷ steps) files = files_after steps files
+files_after (Open on ∷ steps) files = files_after steps files
+files_after (Use on ∷ steps) files = files_after steps files
 files_after (UseFor wave ∷ steps) files = files_after steps files
 files_after (Put bytes ∷ steps) files = files_after steps files
-files_after (Print bytes ∷ steps) files = files_after steps files
+files_after (Print on bytes ∷ steps) files = files_after steps files
 
 -- what these steps send
 abbrev pub sent_by : List Step → List ℕ
@@ -22,11 +22,11 @@ sent_by [] = []
 sent_by (Load name limit text refusal ∷ steps) = sent_by steps
 sent_by (Take ∷ steps) = sent_by steps
 sent_by (Store name bytes ∷ steps) = sent_by steps
-sent_by (Open ∷ steps) = sent_by steps
-sent_by (Use ∷ steps) = sent_by steps
+sent_by (Open on ∷ steps) = sent_by steps
+sent_by (Use on ∷ steps) = sent_by steps
 sent_by (UseFor wave ∷ steps) = sent_by steps
 sent_by (Put bytes ∷ steps) = bytes ++ sent_by steps
-sent_by (Print bytes ∷ steps) = bytes ++ sent_by steps
+sent_by (Print on bytes ∷ steps) = bytes ++ sent_by steps
 
 -- no count of faults falls
 pub record CountsOn (old new : World) : Type 0 where

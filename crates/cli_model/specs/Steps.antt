@@ -6,7 +6,7 @@ use Rattle.faults.specs.Counts.{Rose, RoseBy}
 use Rattle.host_edge.specs.Views.{AppendsPart}
 use Rattle.dram_model.specs.View.{ChipView, NotBegun}
 use Rattle.cli_model.specs.World.{World, with_file}
-use Rattle.cli_model.specs.Waves.{ChipWave, StoppedIn}
+use Rattle.cli_model.specs.Waves.{ChipUse, ChipWave, IsLeftBy, StoppedIn}
 
 -- why a text is not accepted: the status, and the line that tells it
 pub record Refusal : Type 0 where
@@ -22,16 +22,16 @@ pub data Step : Type 0 where
   Take : Step
   -- the file of this name is set to these bytes
   Store : (name bytes : List ℕ) → Step
-  -- memory is taken, and the chip begins
-  Open : Step
-  -- the chip is used
-  Use : Step
+  -- memory is taken, the chip begins, and it is used so
+  Open : Option ChipUse → Step
+  -- the chip is used so
+  Use : Option ChipUse → Step
   -- it is used for this wave
   UseFor : ChipWave → Step
   -- these bytes are sent
   Put : List ℕ → Step
-  -- these bytes are sent while the chip is read
-  Print : List ℕ → Step
+  -- these bytes are sent while the chip is read, which has these banks
+  Print : Option ChipUse → List ℕ → Step
 
 -- a file is loaded; what its text is read as goes on, and a text that is refused ends the command
 abbrev pub loading : {A : Type 0} → (name : List ℕ) (limit : ℕ) (text : List ℕ) → Result A Refusal
@@ -101,11 +101,11 @@ abbrev pub StepDone : Step → World → World → Type 0
 StepDone (Load name limit text refusal) old new = (refusal ≡ None) × Loaded name limit text old new
 StepDone Take old new = ReadsOnly old new
 StepDone (Store name bytes) old new = Stored name bytes old new
-StepDone Open old new = Used old new
-StepDone Use old new = Used old new
+StepDone (Open on) old new = Used old new
+StepDone (Use on) old new = Used old new
 StepDone (UseFor wave) old new = Used old new
 StepDone (Put bytes) old new = Sent (λ before after. after ≡ before ++ bytes) old new
-StepDone (Print bytes) old new = Printed (λ before after. after ≡ before ++ bytes) old new
+StepDone (Print on bytes) old new = Printed (λ before after. after ≡ before ++ bytes) old new
 
 -- the load of a file failed for this reason
 abbrev pub LoadFails : List ℕ → ℕ → List ℕ → Option Refusal → Reason → World → World → Type 0
@@ -130,23 +130,30 @@ pub record Unstored (name : List ℕ) (old new : World) : Type 0 where
 abbrev pub Unopened : ChipView → ChipView → Type 0
 Unopened old new = (new ≡ old) ⊎ NotBegun new
 
+-- the chip failed at its opening: it has not begun, or it is left as by such a use
+abbrev pub IsLeftUnopened : Option ChipUse → ChipView → Type 0
+IsLeftUnopened on chip = NotBegun chip ⊎ IsLeftBy on chip.banks
+
 -- the step failed for this reason
 abbrev pub Fails : Step → Reason → World → World → Type 0
 Fails (Load name limit text refusal) reason old new =
     LoadFails name limit text refusal reason old new
 Fails Take reason old new = (reason ≡ NoMemory) × ReadsOnly old new
 Fails (Store name bytes) reason old new = (reason ≡ CannotWrite name) × Unstored name old new
-Fails Open reason old new = ((reason ≡ NoMemory) × Used old new × Unopened old.chip new.chip)
-    ⊎ ((reason ≡ ChipFailed) × Used old new × Rose old.chip.faults new.chip.faults)
-Fails Use reason old new =
-    (reason ≡ ChipFailed) × Used old new × Rose old.chip.faults new.chip.faults
+Fails (Open on) reason old new =
+    ((reason ≡ NoMemory) × Used old new × Unopened old.chip new.chip)
+    ⊎ ((reason ≡ ChipFailed) × Used old new × Rose old.chip.faults new.chip.faults
+    × IsLeftUnopened on new.chip)
+Fails (Use on) reason old new = (reason ≡ ChipFailed) × Used old new
+    × Rose old.chip.faults new.chip.faults × IsLeftBy on new.chip.banks
 Fails (UseFor wave) reason old new = (reason ≡ ChipFailed) × Used old new
     × Rose old.chip.faults new.chip.faults × StoppedIn wave new.chip.banks
 Fails (Put bytes) reason old new = (reason ≡ PutFailed) × Sent (AppendsPart bytes) old new
     × Rose old.sink.faults new.sink.faults
-Fails (Print bytes) reason old new = Printed (AppendsPart bytes) old new
+Fails (Print on bytes) reason old new = Printed (AppendsPart bytes) old new
     × (((reason ≡ PutFailed) × Rose old.sink.faults new.sink.faults)
-    ⊎ ((reason ≡ ChipFailed) × Rose old.chip.faults new.chip.faults))
+    ⊎ ((reason ≡ ChipFailed) × Rose old.chip.faults new.chip.faults
+    × IsLeftBy on new.chip.banks))
 
 -- the step failed, and this is the end that tells why
 abbrev pub FailsBy : Step → End → World → World → Type 0

@@ -1,7 +1,7 @@
 -- The end of a guarded script, and its steps one by one.
 use Rattle.std.proofs.Common.{◌≡◌, ℕ, ◌+◌, ◌<◌, ◌≤◌, List, [], ◌∷◌, length, map, drop, get_or}
 use Rattle.std.proofs.Common.{sym, ◌∙◌, ap, subst, arith}
-use Rattle.std.specs.Prelude.{Err}
+use Rattle.std.specs.Prelude.{Err, None}
 use Rattle.std.specs.List.{AllByRecursion}
 use Rattle.std.proofs.lemmas.List.{drop-drop, drop_more}
 use Rattle.dram_model.specs.declared.geometry.Geometry.{Geometry}
@@ -54,16 +54,16 @@ pub stops_here : (X : Type 0) (fault : StepFault) (g : Geometry) (o : Routines)
     (flips now : List Flip) (k : ℕ) (table : List Named) (banks : Banks) (instr : Instruction)
     (others left : List Instruction) (a b : World) → left ≡ instr ∷ others
     → due k now ≡ due k flips
-    → Goes (Use ∷ line_steps (is_print instr) (line k (guarded_said_by g o table
+    → Goes (Use None ∷ line_steps (is_print instr) (line k (guarded_said_by g o table
     (mended g now k table banks) instr))) (end_by {X = X} (Err fault)) a b
     → Goes (guarded_steps g o flips k table banks left) (end_by {X = X} (Err fault)) a b
 stops_here X fault g o flips now k table banks instr others left a b e same go =
-    let here = subst (λ (ds : List Flip). Goes (Use ∷ line_steps (is_print instr)
+    let here = subst (λ (ds : List Flip). Goes (Use None ∷ line_steps (is_print instr)
     (line k (guarded_said_by g o table (voted g table (all_flipped ds banks)) instr)))
     (end_by {X = X} (Err fault)) a b) same go in
     subst (λ (script : List Instruction). Goes (guarded_steps g o flips k table banks script)
     (end_by {X = X} (Err fault)) a b) (sym e)
-    (stops_by X fault (Use ∷ line_steps (is_print instr) (line k (guarded_said_by g o table
+    (stops_by X fault (Use None ∷ line_steps (is_print instr) (line k (guarded_said_by g o table
     (mended g flips k table banks) instr))) (guarded_steps g o flips (k + 1)
     (guarded_table g o table instr)
     (guarded_rows g o table (mended g flips k table banks) instr) others) a b here)

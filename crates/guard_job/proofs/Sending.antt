@@ -2,7 +2,7 @@
 use Rattle.std.proofs.Common.{◌≡◌, ℕ, ◌≤◌, Bool, true, false, List, [], ◌∷◌, ◌++◌, refl, sym, subst}
 use Rattle.std.proofs.Common.{inl}
 use Rattle.std.proofs.Common.{inr}
-use Rattle.std.specs.Prelude.{Err}
+use Rattle.std.specs.Prelude.{Err, None}
 use Rattle.host_edge.specs.Views.{FolderView, SinkView, Known, AppendsPart}
 use Rattle.faults.specs.Counts.{Rose}
 use Rattle.dram_model.specs.View.{ChipView}
@@ -31,14 +31,14 @@ printed R files s t a b known l m = record { files = refl; sent = known; faults 
 pub and_then : (steps : List Step) (end : End) (files : FolderView) (s t : SinkView)
     (a b c : ChipView) → a.faults ≤ b.faults
     → Goes steps end (world files s b) (world files t c)
-    → Goes (Use ∷ steps) end (world files s a) (world files t c)
+    → Goes (Use None ∷ steps) end (world files s a) (world files t c)
 and_then steps end files s t a b c l go = inl (world files s b, (used files s a b l, go))
 
 -- the chip failed
 pub unused : (steps : List Step) (files : FolderView) (s : SinkView) (a b : ChipView)
     → a.faults ≤ b.faults → Rose a.faults b.faults
-    → Goes (Use ∷ steps) (Stopped ChipFailed) (world files s a) (world files s b)
-unused steps files s a b l rose = inr (refl, used files s a b l, rose)
+    → Goes (Use None ∷ steps) (Stopped ChipFailed) (world files s a) (world files s b)
+unused steps files s a b l rose = inr (refl, used files s a b l, rose, tt)
 
 -- one instruction's line
 pub line_done : (prints : Bool) (bytes : List ℕ) (files : FolderView) (s t : SinkView)
@@ -80,7 +80,7 @@ pub line_failed : (X : Type 0) (fault : StepFault) (prints : Bool) (bytes : List
 line_failed X step_fault.ChipFault true bytes files s t a b f =
     inr (
       printed (AppendsPart bytes) files s t a b f.part f.sink f.chip,
-      inr (refl, f.chip_rose refl),
+      inr (refl, f.chip_rose refl, tt),
     )
 line_failed X step_fault.WriteFault true bytes files s t a b f =
     inr (
@@ -88,7 +88,7 @@ line_failed X step_fault.WriteFault true bytes files s t a b f =
       inl (refl, f.sink_rose refl),
     )
 line_failed X step_fault.ChipFault false bytes files s t a b f =
-    subst (λ (x : SinkView). Goes (Use ∷ Put bytes ∷ []) (Stopped ChipFailed) (world files s a)
+    subst (λ (x : SinkView). Goes (Use None ∷ Put bytes ∷ []) (Stopped ChipFailed) (world files s a)
     (world files x b)) (sym (f.unsent refl refl))
     (unused (Put bytes ∷ []) files s a b f.chip (f.chip_rose refl))
 line_failed X step_fault.WriteFault false bytes files s t a b f =

@@ -1,7 +1,7 @@
 -- One instruction of a guarded script was done, and the others are left.
 use Rattle.std.proofs.Common.{◌≡◌, ℕ, ◌+◌, List, ◌∷◌, length, sym, ◌∙◌, ap, subst}
 use Rattle.std.proofs.Common.{arith}
-use Rattle.std.specs.Prelude.{count_by}
+use Rattle.std.specs.Prelude.{None, count_by}
 use Rattle.host_edge.specs.Views.{FolderView, SinkView}
 use Rattle.dram_model.specs.declared.geometry.Geometry.{Geometry}
 use Rattle.dram_model.specs.Chip.{Banks, Event, Grew}
@@ -103,14 +103,14 @@ module _ (g : Geometry) (operations : Routines) (flips : List Flip) (k : ℕ) (i
         (guarded_table g operations table instr) x others) d.banks
 
     pub goes_goes : (files : FolderView) (s t : SinkView) (end : End) (w : World)
-        → Goes (Use ∷ line_steps (is_print instr) (line k (guarded_said_by g operations table
+        → Goes (Use None ∷ line_steps (is_print instr) (line k (guarded_said_by g operations table
         (mended g flips k table a.banks) instr))) Done (world files s a) (world files t b)
         → Goes (guarded_steps g operations flips (k + 1) table' b.banks others) end
         (world files t b) w
         → Goes (guarded_steps g operations flips k table a.banks (instr ∷ others)) end
         (world files s a) w
     goes_goes files s t end w one more =
-        goes_on (Use ∷ line_steps (is_print instr) (line k (guarded_said_by g operations table
+        goes_on (Use None ∷ line_steps (is_print instr) (line k (guarded_said_by g operations table
         (mended g flips k table a.banks) instr))) (guarded_steps g operations flips (k + 1)
         (guarded_table g operations table instr)
         (guarded_rows g operations table (mended g flips k table a.banks) instr) others) end
@@ -133,7 +133,7 @@ moved h g q p now flips instr turn turn' table table' a b votes refused e f s d 
 
 abbrev pub one_steps : Geometry → Routines → List Flip → ℕ → List Named → Banks → Instruction
     → List Step
-one_steps g o due_now k table banks instr = Use ∷ line_steps (is_print instr)
+one_steps g o due_now k table banks instr = Use None ∷ line_steps (is_print instr)
     (line k (guarded_said_by g o table (voted g table (all_flipped due_now banks)) instr))
 
 pub line_moved : (h g : Geometry) (q p : Program) (now flips : List Flip) (k : ℕ)

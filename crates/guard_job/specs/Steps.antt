@@ -1,6 +1,6 @@
 -- A guarded script as the steps of a command.
 use Rattle.std.specs.Prelude.{ℕ, ◌+◌, Bool, if◌then◌else◌, List, [], ◌∷◌, ◌++◌}
-use Rattle.std.specs.Prelude.{Result, Ok, Err}
+use Rattle.std.specs.Prelude.{None, Result, Ok, Err}
 use Rattle.dram_model.specs.declared.geometry.Geometry.{Geometry}
 use Rattle.dram_model.specs.Chip.{Banks}
 use Rattle.object_alloc.specs.Listed.{Named}
@@ -17,16 +17,16 @@ use Rattle.guard_model.specs.Guarded.{guarded_rows, guarded_said_by, guarded_tab
 -- the line of a print is sent while the chip is read; each other instruction uses the chip, and
 -- then its line is sent
 abbrev pub line_steps : Bool → List ℕ → List Step
-line_steps prints bytes = if prints then Print bytes ∷ [] else Use ∷ Put bytes ∷ []
+line_steps prints bytes = if prints then Print None bytes ∷ [] else Use None ∷ Put bytes ∷ []
 
 -- for each instruction, of which the first has number k, the flips and votes use the chip, and it
 -- is done; after the last the flips and votes use the chip once more
 abbrev pub guarded_steps : Geometry → Routines → List Flip → ℕ → List Named → Banks
     → List Instruction → List Step
-guarded_steps g operations flips k table banks [] = Use ∷ []
+guarded_steps g operations flips k table banks [] = Use None ∷ []
 guarded_steps g operations flips k table banks (instr ∷ script) =
     let now = mended g flips k table banks in
-    (Use ∷ line_steps (is_print instr) (line k (guarded_said_by g operations table now instr)))
+    (Use None ∷ line_steps (is_print instr) (line k (guarded_said_by g operations table now instr)))
     ++ guarded_steps g operations flips (k + 1) (guarded_table g operations table instr)
     (guarded_rows g operations table now instr) script
 

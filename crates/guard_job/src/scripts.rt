@@ -144,7 +144,7 @@ fn do_one<D: Dram, S: Sink>(
         (D.view chip.old) (D.view chip.new) one.votes one.refused) }
     ensures rises { IfOk result (λ one. RisesAtMost (2 ^ 33 + one.flips)
         (D.view chip.old).counters (D.view chip.new).counters) }
-    ensures goes { (files : FolderView) → Goes (Use ∷ line_steps (is_print (view_of instr.now))
+    ensures goes { (files : FolderView) → Goes (Use None ∷ line_steps (is_print (view_of instr.now))
         (line k (guarded_said_by (geometry_of (machine_in guard.old))
         (operations_by (machine_in guard.old)) (table_in (machine_in guard.old))
         (mended (geometry_of (machine_in guard.old)) flips.now k

@@ -5,8 +5,9 @@ use Rattle.std.proofs.Common.{◌-◌, ◌∷◌, subst}
 use Rattle.std.specs.Prelude.{◌^◌, unwrap_or}
 use Rattle.std.proofs.lemmas.Bool.{eq-eqb}
 use Rattle.dram_model.specs.declared.geometry.Geometry.{Geometry}
-use Rattle.dram_model.specs.Chip.{Event}
+use Rattle.dram_model.specs.Chip.{Banks, Event}
 use Rattle.dram_model.specs.View.{ChipView, Did}
+use Rattle.transpose_unit.specs.Stopped.{StoppedWithin}
 use Rattle.dram_model.proofs.EventLaws.{Did-none}
 use Rattle.uprog_code.specs.declared.walker.Counts.{Counts}
 use Rattle.object_alloc.specs.declared.table.Object.{Object}
@@ -30,6 +31,10 @@ use Rattle.std.specs.Option.{option_map}
 pub did_all : (r : Option Why) (events : List Event) (a b : ChipView) → r ≡ None → Did events a b
     → Did (if_done r events []) a b
 did_all r events a b e did = rw e did
+
+pub stopped_all : (r : Option Why) (events : List Event) (a b : Banks) → r ≡ None
+    → StoppedWithin events a b → StoppedWithin (if_done r events []) a b
+stopped_all r events a b e s = rw e s
 
 pub did_nothing : (r : Option Why) (reason : Why) (events : List Event) (a : ChipView)
     → r ≡ Some reason → Did (if_done r events []) a a

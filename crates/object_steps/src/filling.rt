@@ -6,6 +6,7 @@ ghost use Rattle.bit_rows.specs.Bits.{bit_at, bit_number};
 ghost use Rattle.dram_model.specs.declared.address.Addr.{Addr};
 ghost use Rattle.dram_model.specs.Geometry.{is_geometry};
 ghost use Rattle.dram_model.specs.View.{HasBegun, Kept, Did, FailedIn};
+ghost use Rattle.transpose_unit.specs.Stopped.{StoppedWithin};
 ghost use Rattle.dram_model.specs.Elements.{FailedBelow};
 ghost use Rattle.object_alloc.specs.Free.{end_of};
 ghost use Rattle.object_alloc.specs.Listed.{limit_of};
@@ -90,6 +91,8 @@ pub(crate) fn fill_object<D: Dram>(
         (D.view dram.new).counters) }
     ensures failed { OnErr result (FailedBelow (segments g o) (D.view dram.old)
         (D.view dram.new)) }
+    ensures stopped { OnErr result (StoppedWithin (fill_events g o value) (D.view dram.old).banks
+        (D.view dram.new).banks) }
 {
     for bank in 0..segments(g, o) {
         fill_bank(dram, bank, o, value)?;
@@ -155,11 +158,15 @@ pub fn fill<D: Dram>(
     ensures rises { OnOk result (RisesAtMost (16 * WIDTH_MAX) (D.view dram.old).counters
         (D.view dram.new).counters) }
 
-    // Where a call fails, the instruction is not refused, and no bank past the object's is changed.
+    // Where a call fails, the instruction is not refused, no bank past the object's is changed, and
+    // every bank but one stands where a first part of the events leaves it.
     ensures allowed { (operations : Routines) → OnErr result
         (refusal g operations table.now.pairs (Fill name.now value) ≡ None) }
     ensures failed { OnErr result (FailedBelow (segments g (object_named table.now.pairs name.now))
         (D.view dram.old) (D.view dram.new)) }
+    ensures stopped { (operations : Routines) → OnErr result
+        (StoppedWithin (events_alone g operations table.now.pairs (Fill name.now value))
+        (D.view dram.old).banks (D.view dram.new).banks) }
 {
     match fillable(g, table, name, value) {
         Err(why) => Ok(Reply::Refused(why)),

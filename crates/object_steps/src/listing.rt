@@ -4,6 +4,7 @@ ghost use Rattle.std.specs.Prelude.{◌≡◌, ◌+◌, ◌*◌, ◌<◌, ◌≤
 ghost use Rattle.std.specs.Prelude.{None, IfOk, IfErr, OnOk, OnErr};
 ghost use Rattle.dram_model.specs.declared.geometry.Geometry.{Geometry};
 ghost use Rattle.dram_model.specs.View.{HasBegun, Kept, Did};
+ghost use Rattle.transpose_unit.specs.Stopped.{StoppedWithin};
 ghost use Rattle.dram_model.specs.Elements.{FailedBelow, column_count};
 ghost use Rattle.object_alloc.specs.Free.{free as free_base};
 ghost use Rattle.object_alloc.specs.Listed.{has_name, limit_of, objects_of};
@@ -87,11 +88,15 @@ pub fn trsp_init<D: Dram>(
         (D.view dram.new).counters) }
 
     // Where a call fails, the instruction is not refused, no bank past the new object's is changed,
-    // and the table is as before.
+    // every bank but one stands where a first part of the events leaves it, and the table is as
+    // before.
     ensures allowed { (operations : Routines) → OnErr result
         (refusal g operations table.old.pairs (Init name.now count n) ≡ None) }
     ensures failed { OnErr result (FailedBelow (segments g (new_object g table.old.pairs count n))
         (D.view dram.old) (D.view dram.new)) }
+    ensures stopped { (operations : Routines) → OnErr result
+        (StoppedWithin (events_alone g operations table.old.pairs (Init name.now count n))
+        (D.view dram.old).banks (D.view dram.new).banks) }
     ensures unlisted { OnErr result (table.new ≡ table.old) }
 {
     match place(g, table, name, count, n) {

@@ -3,6 +3,7 @@
 ghost use Rattle.std.specs.Prelude.{◌≡◌, ◌+◌, ◌*◌, ◌<◌, ◌≤◌, ◌^◌, nat_le, length, All};
 ghost use Rattle.std.specs.Prelude.{position, Some, None, IfSome, IfOk, IfErr, OnOk, OnErr};
 ghost use Rattle.dram_model.specs.View.{HasBegun, Kept, Did};
+ghost use Rattle.transpose_unit.specs.Stopped.{StoppedWithin};
 ghost use Rattle.dram_model.specs.Elements.{FailedBelow};
 ghost use Rattle.object_alloc.specs.Free.{end_of};
 ghost use Rattle.object_alloc.specs.Listed.{limit_of};
@@ -90,11 +91,15 @@ pub fn load<D: Dram>(
     ensures rises { OnOk result (RisesAtMost (16 * WIDTH_MAX) (D.view dram.old).counters
         (D.view dram.new).counters) }
 
-    // Where a call fails, the instruction is not refused, and no bank past the object's is changed.
+    // Where a call fails, the instruction is not refused, no bank past the object's is changed, and
+    // every bank but one stands where a first part of the events leaves it.
     ensures allowed { (operations : Routines) → OnErr result
         (refusal g operations table.now.pairs (Load name.now values.now) ≡ None) }
     ensures failed { OnErr result (FailedBelow (segments g (object_named table.now.pairs name.now))
         (D.view dram.old) (D.view dram.new)) }
+    ensures stopped { (operations : Routines) → OnErr result
+        (StoppedWithin (events_alone g operations table.now.pairs (Load name.now values.now))
+        (D.view dram.old).banks (D.view dram.new).banks) }
 {
     match loadable(g, table, name, values) {
         Err(why) => Ok(Reply::Refused(why)),

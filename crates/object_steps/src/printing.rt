@@ -11,6 +11,7 @@ ghost use Rattle.host_edge.specs.Sends.{AppendsUpTo};
 ghost use Rattle.dram_model.specs.Geometry.{is_geometry};
 ghost use Rattle.dram_model.specs.Chip.{Grew};
 ghost use Rattle.dram_model.specs.View.{HasBegun, Kept, DidRead};
+ghost use Rattle.transpose_unit.specs.Stopped.{StoppedWithin};
 ghost use Rattle.dram_model.specs.Elements.{FailedBelow, column_count};
 ghost use Rattle.object_alloc.specs.Free.{end_of};
 ghost use Rattle.object_alloc.specs.Listed.{limit_of};
@@ -178,6 +179,8 @@ fn add_values<D: Dram, S: Sink>(
         (S.view out.new).sent) }
     ensures chip_fault { IsErrOf result StepFault.ChipFault
         → FailedBelow (segments g o) (D.view dram.old) (D.view dram.new) }
+    ensures stopped { IsErrOf result StepFault.ChipFault
+        → StoppedWithin [] (D.view dram.old).banks (D.view dram.new).banks }
     ensures no_event { Grew (D.view dram.old).log (D.view dram.new).log [] }
     ensures write_fault { IsErrOf result StepFault.WriteFault
         → Rose (S.view out.old).faults (S.view out.new).faults }
@@ -253,6 +256,8 @@ pub fn print<D: Dram, S: Sink>(
         shown.now)) (S.view out.old).sent (S.view out.new).sent) }
     ensures chip_fault { IsErrOf result StepFault.ChipFault → FailedBelow
         (segments g (object_named table.now.pairs name.now)) (D.view dram.old) (D.view dram.new) }
+    ensures stopped { IsErrOf result StepFault.ChipFault
+        → StoppedWithin [] (D.view dram.old).banks (D.view dram.new).banks }
     ensures no_event { Grew (D.view dram.old).log (D.view dram.new).log [] }
     ensures write_fault { IsErrOf result StepFault.WriteFault
         → Rose (S.view out.old).faults (S.view out.new).faults }

@@ -1,12 +1,15 @@
 -- What comes of a bbop, which is a wave of one.
 use Rattle.std.proofs.Common.{◌≡◌, ℕ, ◌≤◌, Bool, true, false, cond, List, [], ◌∷◌, ◌++◌, refl}
 use Rattle.std.proofs.Common.{sym, ◌∙◌, ap, subst, append-nil, arith, map, get_or}
-use Rattle.std.specs.Prelude.{Err, is_none}
+use Rattle.std.specs.Prelude.{Err, is_none, take, drop}
 use Rattle.std.specs.List.{AllByRecursion}
+use Rattle.std.proofs.lemmas.List.{take-append-drop}
 use Rattle.host_edge.specs.Views.{SinkView, Known, AppendsPart}
 use Rattle.faults.specs.Counts.{Rose}
+use Rattle.dram_model.specs.Chip.{Event}
+use Rattle.transpose_unit.specs.Stopped.{StoppedWithin}
 use Rattle.dram_model.specs.View.{ChipView, Did}
-use Rattle.wave_model.specs.Schedule.{WaveJob}
+use Rattle.wave_model.specs.Schedule.{Queues, WaveJob}
 use Rattle.uprog_ctl.specs.Waves.{StoppedAmong}
 use Rattle.bbop_isa.specs.Forms.{Instruction}
 use Rattle.bbop_isa.specs.Forms.{Init, Bbop, Load, Fill, Print, Free, Order}
@@ -81,6 +84,17 @@ jobs_below m (instr ∷ wave) k all =
     (job_of (geometry_of m) (operations_by m) (table_in m)) instr _
     (omega (arith, all.0, banks)) (jobs_below m wave k all.1)
 
+-- all banks but one stand where the events before the one that failed leave them
+among_within : (events : List Event) (queue : Queues) (a b : ChipView)
+    → StoppedAmong events queue a b → StoppedWithin events a.banks b.banks
+among_within events queue a b s = record {
+  done = take s.done events;
+  left = drop s.done events;
+  all = take-append-drop s.done events;
+  bank = s.bank;
+  others = s.others;
+}
+
 module _ (old new : Machine) (number : ℕ) (instr : Instruction) (wave : List Instruction)
     (chip chip' : ChipView) (sink sink' : SinkView)
     (same : new ≡ record old { turn = turn_in new }) (is : wave ≡ instr ∷ [])
@@ -139,6 +153,7 @@ module _ (old new : Machine) (number : ℕ) (instr : Instruction) (wave : List I
           (subst (AllByRecursion (λ i. banks_by old i ≤ banks_by old instr)) (sym is)
           (omega arith, tt)));
       stopped = λ e. stopped_alone (stopped refl);
+      left = among_within _ _ chip chip' (stopped_alone (stopped refl));
       unsent = λ e. unsent refl;
       part = subst (λ (s : SinkView). Known (AppendsPart (reply_line old number chip.banks instr))
           sink.sent s.sent) (sym (unsent refl)) (no_part _ sink.sent);

@@ -5,6 +5,7 @@ use Rattle.std.specs.Prelude.{Option, Err, is_none}
 use Rattle.host_edge.specs.Views.{SinkView, Known, AppendsPart}
 use Rattle.host_edge.proofs.Tells.{Known-trans}
 use Rattle.faults.specs.Counts.{Rose}
+use Rattle.transpose_unit.specs.Stopped.{StoppedWithin}
 use Rattle.dram_model.specs.View.{ChipView, DidRead}
 use Rattle.dram_model.specs.Elements.{FailedBelow}
 use Rattle.uprog_code.specs.declared.walker.Counts.{Counts}
@@ -149,20 +150,23 @@ module _ (old new : Machine) (number : ℕ) (name : List ℕ) (chip chip' : Chip
         → refusal (geometry_of old) (operations_by old) (table_in old) (Print name) ≡ None
         → Known (AppendsPart shown_line) sink.sent sink'.sent
         → (fault ≡ ChipFault → FailedBelow (banks_by old (Print name)) chip chip')
+        → (fault ≡ ChipFault → StoppedWithin [] chip.banks chip'.banks)
         → (fault ≡ WriteFault → Rose sink.faults sink'.faults)
         → (fault ≡ WriteFault
         → DidReadAtMost (rows_printed (geometry_of old) (table_in old) (Print name)) chip chip')
         → Comes old new number (Print name) chip chip' sink sink' (Err fault)
-    print_failed ChipFault allowed part failed rose read = record {
+    print_failed ChipFault allowed part failed left rose read = record {
       same = same ∙ ap (λ (t : Turn). let m : Machine = record old { turn = t } in m)
           (sym (ap turn_in same));
       turn = λ e. ap turn_in same;
       failed = failed refl;
       stopped = λ p. absurd (cc);
+      left = subst (λ events. StoppedWithin events chip.banks chip'.banks) (sym none_else)
+          (left refl);
       unsent = λ p. absurd (cc);
       part = subst (λ t. Known (AppendsPart t) sink.sent sink'.sent) (whole_line allowed) part;
     }
-    print_failed WriteFault allowed part failed rose read = record {
+    print_failed WriteFault allowed part failed left rose read = record {
       machine = same;
       did = λ p. absurd (cc);
       read = λ p. subst (λ n. DidReadAtMost n chip chip') (sym (all_rows _ _ allowed)) (read refl);

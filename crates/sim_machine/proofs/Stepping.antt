@@ -11,6 +11,7 @@ use Rattle.faults.specs.Counts.{Rose}
 use Rattle.dram_model.specs.declared.dram.Counters.{Counters}
 use Rattle.dram_model.specs.Chip.{Event, all_counted}
 use Rattle.dram_model.proofs.EventLaws.{Grew-none}
+use Rattle.transpose_unit.specs.Stopped.{StoppedWithin}
 use Rattle.dram_model.specs.View.{ChipView, Did, with_reads}
 use Rattle.dram_model.specs.Elements.{FailedBelow}
 use Rattle.object_alloc.specs.declared.table.Object.{Object}
@@ -124,13 +125,17 @@ module _ (old new : Machine) (number : ℕ) (instr : Instruction) (chip chip' : 
     }
 
     pub failed_alone : table_in new ≡ table_in old → turn_in new ≡ turn_in old
-        → FailedBelow (banks_by old instr) chip chip' → sink' ≡ sink
+        → FailedBelow (banks_by old instr) chip chip'
+        → StoppedWithin (events_alone (geometry_of old) (operations_by old) (table_in old) instr)
+        chip.banks chip'.banks → sink' ≡ sink
         → StoppedByChip old new number instr chip chip' sink sink'
-    failed_alone table turn failed same = record {
+    failed_alone table turn failed left same = record {
       same = goes_to old new _ _ goes table refl;
       turn = λ e. turn;
       failed = failed;
       stopped = λ e. absurd (cc (e, bbop));
+      left = subst (λ p. StoppedWithin (events_by old p) chip.banks chip'.banks)
+          (sym (alone instr bbop)) left;
       unsent = λ e. same;
       part = subst (λ (s : SinkView). Known (AppendsPart (reply_line old number chip.banks instr))
           sink.sent s.sent) (sym same) (no_part _ sink.sent);

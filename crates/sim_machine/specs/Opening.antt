@@ -1,10 +1,11 @@
 -- A chip that was opened: the writes of an image's rows.
-use Rattle.std.specs.Prelude.{◌≡◌, ℕ, List, [], map, flat_map}
+use Rattle.std.specs.Prelude.{◌≡◌, ◌⊎◌, ℕ, List, [], map, flat_map}
 use Rattle.std.specs.List.{range_with_len}
 use Rattle.dram_model.specs.declared.geometry.Geometry.{Geometry}
 use Rattle.dram_model.specs.Chip.{Event, LogIs, after, all_counted, blank_banks}
 use Rattle.dram_model.specs.Chip.Event.{Write}
-use Rattle.dram_model.specs.View.{ChipView, HasBegun, no_counts}
+use Rattle.transpose_unit.specs.Stopped.{StoppedWithin}
+use Rattle.dram_model.specs.View.{ChipView, HasBegun, NotBegun, no_counts}
 use Rattle.uprog_code.specs.Shape.{Microprogram}
 use Rattle.object_alloc.specs.Listed.{Named}
 use Rattle.object_alloc.specs.Spelling.{rows_in}
@@ -37,3 +38,9 @@ pub record Opened (g : Geometry) (rows : List ℕ) (chip : ChipView) : Type 0 wh
   pub banks : chip.banks ≡ after (all_writes g rows) (blank_banks g)
   pub counters : chip.counters ≡ all_counted (all_writes g rows) no_counts
   pub log : LogIs (all_writes g rows) chip.log
+
+-- a chip that failed at its opening: it has not begun, or every bank but one stands where a first
+-- part of the writes leaves it
+abbrev pub IsLeftUnopened : Geometry → List ℕ → ChipView → Type 0
+IsLeftUnopened g rows chip =
+    NotBegun chip ⊎ StoppedWithin (all_writes g rows) (blank_banks g) chip.banks

@@ -3,6 +3,7 @@
 use Rattle.std.specs.Prelude.{◌≡◌, ℕ, ◌≤◌, true, false, [], ◌∷◌, ◌++◌, Result, Ok, Err}
 use Rattle.host_edge.specs.Views.{SinkView, Known, AppendsPart}
 use Rattle.faults.specs.Counts.{Rose}
+use Rattle.transpose_unit.specs.Stopped.{StoppedWithin}
 use Rattle.dram_model.specs.View.{ChipView, Kept}
 use Rattle.dram_model.specs.Elements.{FailedBelow}
 use Rattle.bbop_isa.specs.Forms.{Instruction}
@@ -28,9 +29,10 @@ pub record Stepped (old new : Machine) (number : ℕ) (instr : Instruction) (chi
   pub sent : Known (λ before after. after ≡ before ++ reply_line old number chip.banks instr)
       sink.sent sink'.sent
 
--- the chip failed: the banks past the destination's are as before, each bank of a bbop but the one
--- that failed has done the first of its commands, only in a bbop's wave did banks take turns, and
--- of no line but a print's a part was put
+-- the chip failed: the banks past the destination's are as before, each bank but one stands where a
+-- first part of the events leaves it, each bank of a bbop but the one that failed has done the
+-- first of its commands, only in a bbop's wave did banks take turns, and of no line but a print's a
+-- part was put
 pub record StoppedByChip (old new : Machine) (number : ℕ) (instr : Instruction)
     (chip chip' : ChipView) (sink sink' : SinkView) : Type 0 where
   pub same : new ≡ record old { turn = turn_in new }
@@ -38,6 +40,7 @@ pub record StoppedByChip (old new : Machine) (number : ℕ) (instr : Instruction
   pub failed : FailedBelow (banks_by old instr) chip chip'
   pub stopped : is_bbop instr ≡ true
       → StoppedAmong (events_by old (piece_of instr)) (queues_by old (instr ∷ [])) chip chip'
+  pub left : StoppedWithin (events_by old (piece_of instr)) chip.banks chip'.banks
   pub unsent : is_print instr ≡ false → sink' ≡ sink
   pub part : Known (AppendsPart (reply_line old number chip.banks instr)) sink.sent sink'.sent
 

@@ -5,7 +5,8 @@ ghost use Rattle.std.specs.Prelude.{map, OnOk, OnErr, vec_len, vec_capacity};
 ghost use Rattle.std.specs.List.{range_with_len};
 ghost use Rattle.dram_model.specs.Chip.{Grew, row_in};
 ghost use Rattle.faults.specs.Counts.{Rose};
-ghost use Rattle.dram_model.specs.View.{HasBegun, Kept, DidRead};
+ghost use Rattle.dram_model.specs.View.{HasBegun, Kept, DidRead, FailedIn};
+ghost use Rattle.transpose_unit.specs.Stopped.{StoppedWithin};
 ghost use Rattle.object_alloc.specs.Bytes.{bytes_of_bits};
 ghost use Rattle.object_alloc.specs.Spelling.{rows_bytes};
 ghost use Rattle.machine_model.specs.Opened.{rows_in_banks};
@@ -39,7 +40,7 @@ fn read_row<D: Dram>(
     ensures len { OnOk result (vec_len file.new
         ≡ vec_len file.old + 8 * (D.view dram.old).geometry.words) }
     ensures capacity { vec_capacity file.old ≤ vec_capacity file.new }
-    ensures rose { OnErr result (Rose (D.view dram.old).faults (D.view dram.new).faults) }
+    ensures failed { OnErr result (FailedIn bank (D.view dram.old) (D.view dram.new)) }
     ensures no_event { Grew (D.view dram.old).log (D.view dram.new).log [] }
 {
     dram.read_row(bank, row, stage)?;
@@ -70,7 +71,7 @@ fn read_bank<D: Dram>(
         ≡ file.old.items ++ bank_bytes g (D.view dram.old).banks bank g.rows) }
     ensures len { OnOk result (vec_len file.new ≡ vec_len file.old + g.rows * (8 * g.words)) }
     ensures capacity { vec_capacity file.old ≤ vec_capacity file.new }
-    ensures rose { OnErr result (Rose (D.view dram.old).faults (D.view dram.new).faults) }
+    ensures failed { OnErr result (FailedIn bank (D.view dram.old) (D.view dram.new)) }
     ensures no_event { Grew (D.view dram.old).log (D.view dram.new).log [] }
 {
     for row in 0..g.rows {
@@ -101,6 +102,8 @@ fn read_rows<D: Dram>(
         ≡ file.old.items ++ rows_bytes g (rows_in_banks (D.view dram.old).banks)) }
     ensures capacity { vec_capacity file.old ≤ vec_capacity file.new }
     ensures rose { OnErr result (Rose (D.view dram.old).faults (D.view dram.new).faults) }
+    ensures stopped { OnErr result (StoppedWithin [] (D.view dram.old).banks
+        (D.view dram.new).banks) }
     ensures no_event { Grew (D.view dram.old).log (D.view dram.new).log [] }
 {
     for bank in 0..g.banks {
@@ -131,6 +134,8 @@ pub(crate) fn read_image<D: Dram>(
         ≡ file.old.items ++ rows_bytes g (rows_in_banks (D.view dram.old).banks)) }
     ensures capacity { vec_capacity file.old ≤ vec_capacity file.new }
     ensures rose { OnErr result (Rose (D.view dram.old).faults (D.view dram.new).faults) }
+    ensures stopped { OnErr result (StoppedWithin [] (D.view dram.old).banks
+        (D.view dram.new).banks) }
     ensures no_event { Grew (D.view dram.old).log (D.view dram.new).log [] }
 {
     let row = &mut stage[..usize::from(g.words)];

@@ -6,6 +6,7 @@ ghost use Rattle.std.specs.List.{AllByRecursion};
 ghost use Rattle.host_edge.specs.Views.{Known, AppendsPart};
 ghost use Rattle.faults.specs.Counts.{Rose};
 ghost use Rattle.dram_model.specs.Chip.{Grew};
+ghost use Rattle.transpose_unit.specs.Stopped.{StoppedWithin};
 ghost use Rattle.dram_model.specs.View.{HasBegun, Kept, Did, DidRead, NotBegun};
 ghost use Rattle.dram_model.specs.Elements.{FailedBelow};
 ghost use Rattle.object_alloc.specs.Listed.{has_name, limit_of};
@@ -25,7 +26,7 @@ ghost use Rattle.sim_machine.specs.Machine.{is_print, reply_line, line_shown, li
 ghost use Rattle.sim_machine.specs.Machine.{geometry_of, queues_by};
 ghost use Rattle.sim_machine.specs.Machine.{reads_by, reply_of, stepped, table_in};
 ghost use Rattle.sim_machine.specs.Machine.{turn_by_piece, turn_in};
-ghost use Rattle.sim_machine.specs.Opening.{Opened, machine_on};
+ghost use Rattle.sim_machine.specs.Opening.{IsLeftUnopened, Opened, machine_on};
 ghost use Rattle.sim_machine.specs.Steps.{DidAndRead, HasRoom};
 
 use crate::bbop::Setting;
@@ -112,6 +113,8 @@ impl<'a> Machine<'a> {
             prog.entry.programs image.entry.table.pairs) }
         ensures failed { IsErrOf result StartNo.ChipFault
             → Rose (D.view dram.old).faults (D.view dram.new).faults }
+        ensures left { IsErrOf result StartNo.ChipFault
+            → IsLeftUnopened image.entry.geometry image.entry.rows.now (D.view dram.new) }
         ensures unopened { IsErrOf result StartNo.NoMemory
             → (D.view dram.new ≡ D.view dram.old) ⊎ NotBegun (D.view dram.new) }
     {
@@ -228,9 +231,9 @@ impl<'a> Machine<'a> {
             (S.view out.old).sent (S.view out.new).sent) }
 
         // After a fault the table is as before. Where the chip fails, the banks past those of the
-        // destination are as before, each bank of a bbop but the one that failed stands where a
-        // prefix of its queue leaves it, and nothing is put but of a print, whose line goes out
-        // while its rows are read.
+        // destination are as before, each bank but one stands where a first part of the events
+        // leaves it, each bank of a bbop but the one that failed where a prefix of its queue does,
+        // and nothing is put but of a print, whose line goes out while its rows are read.
         ensures same_table { OnErr result (self.new ≡ record self.old { turn = turn_in self.new }) }
         ensures chip_fault { IsErrOf result StepFault.ChipFault
             → FailedBelow (banks_by self.old (view_of instr.now)) (D.view dram.old)
@@ -239,6 +242,9 @@ impl<'a> Machine<'a> {
             → is_bbop (view_of instr.now) ≡ true
             → StoppedAmong (events_by self.old (piece_of (view_of instr.now)))
             (queues_by self.old (view_of instr.now ∷ [])) (D.view dram.old) (D.view dram.new) }
+        ensures left { IsErrOf result StepFault.ChipFault
+            → StoppedWithin (events_by self.old (piece_of (view_of instr.now)))
+            (D.view dram.old).banks (D.view dram.new).banks }
         ensures unsent { IsErrOf result StepFault.ChipFault
             → is_print (view_of instr.now) ≡ false → S.view out.new ≡ S.view out.old }
         ensures same_turn { IsErrOf result StepFault.ChipFault
@@ -307,6 +313,8 @@ impl<'a> Machine<'a> {
         ensures chip_fault { IsErrOf result StepFault.ChipFault
             → FailedBelow (banks_by self.old (Print name.now)) (D.view dram.old)
             (D.view dram.new) }
+        ensures left { IsErrOf result StepFault.ChipFault
+            → StoppedWithin [] (D.view dram.old).banks (D.view dram.new).banks }
         ensures no_event { Grew (D.view dram.old).log (D.view dram.new).log [] }
         ensures read { IsErrOf result StepFault.WriteFault
             → DidReadAtMost (reads_by self.old (Print name.now)) (D.view dram.old)
@@ -346,9 +354,13 @@ impl<'a> Machine<'a> {
         ensures rises { OnOk result (RisesAtMost (16 * WIDTH_MAX) (D.view dram.old).counters
             (D.view dram.new).counters) }
 
-        // Where the chip fails, the banks past those of the object are as before.
+        // Where the chip fails, the banks past those of the object are as before, and each bank but
+        // one stands where a first part of the writes leaves it.
         ensures failed { OnErr result (FailedBelow (banks_by self.old (Load name.now values.now))
             (D.view dram.old) (D.view dram.new)) }
+        ensures left { OnErr result (StoppedWithin
+            (events_by self.old (Alone (Load name.now values.now))) (D.view dram.old).banks
+            (D.view dram.new).banks) }
     {
         load(
             self.geometry,
@@ -374,6 +386,8 @@ impl<'a> Machine<'a> {
             (table_in self.old) (rows_in_banks (D.view dram.old).banks)) }
         ensures same { self.new ≡ record self.old { file = file_of self.new } }
         ensures failed { OnErr result (Rose (D.view dram.old).faults (D.view dram.new).faults) }
+        ensures left { OnErr result (StoppedWithin [] (D.view dram.old).banks
+            (D.view dram.new).banks) }
         ensures no_event { Grew (D.view dram.old).log (D.view dram.new).log [] }
     {
         self.file.clear();
@@ -395,6 +409,8 @@ impl<'a> Machine<'a> {
             table.now.pairs (rows_in_banks (D.view dram.old).banks)) }
         ensures same { self.new ≡ record self.old { file = file_of self.new } }
         ensures failed { OnErr result (Rose (D.view dram.old).faults (D.view dram.new).faults) }
+        ensures left { OnErr result (StoppedWithin [] (D.view dram.old).banks
+            (D.view dram.new).banks) }
         ensures no_event { Grew (D.view dram.old).log (D.view dram.new).log [] }
     {
         prove!(usize::from(table.len()) <= OBJECTS_MAX);

@@ -5,11 +5,12 @@ ghost use Rattle.std.specs.Prelude.{IfOk, IsErrOf, true, vec_capacity};
 ghost use Rattle.dram_model.specs.Geometry.{is_geometry};
 ghost use Rattle.dram_model.specs.Chip.{Event};
 ghost use Rattle.faults.specs.Counts.{Rose};
-ghost use Rattle.dram_model.specs.View.{HasBegun, Kept, Did, NotBegun};
+ghost use Rattle.dram_model.specs.View.{HasBegun, Kept, Did, FailedIn, NotBegun};
+ghost use Rattle.transpose_unit.specs.Stopped.{StoppedWithin};
 ghost use Rattle.object_alloc.specs.Bytes.{bits_of_bytes};
 ghost use Rattle.object_alloc.specs.Reading.{rows_size};
 ghost use Rattle.object_alloc.specs.Spelling.{row_at};
-ghost use Rattle.sim_machine.specs.Opening.{bank_writes, all_writes, Opened};
+ghost use Rattle.sim_machine.specs.Opening.{IsLeftUnopened, Opened, all_writes, bank_writes};
 
 use crate::machine::StartNo;
 use dram_model::{BeginNo, ChipFault, Dram, Geometry};
@@ -35,7 +36,7 @@ fn write_row<D: Dram>(
     ensures stage { length stage.new ≡ length stage.old }
     ensures did { OnOk result (Did (Event.Write bank row (bits_of_bytes bytes.now) ∷ [])
         (D.view dram.old) (D.view dram.new)) }
-    ensures rose { OnErr result (Rose (D.view dram.old).faults (D.view dram.new).faults) }
+    ensures failed { OnErr result (FailedIn bank (D.view dram.old) (D.view dram.new)) }
 {
     words_of_bytes(bytes, stage);
     dram.write_row(bank, row, stage)
@@ -83,7 +84,7 @@ fn write_bank<D: Dram>(
         (D.view dram.new)) }
     ensures writes { OnOk result ((D.view dram.new).counters.writes
         ≡ (D.view dram.old).counters.writes + g.rows) }
-    ensures rose { OnErr result (Rose (D.view dram.old).faults (D.view dram.new).faults) }
+    ensures failed { OnErr result (FailedIn bank (D.view dram.old) (D.view dram.new)) }
 {
     for row in 0..g.rows {
         write_row(dram, bank, row, row_bytes(g, rows, bank, row), stage)?;
@@ -110,6 +111,8 @@ fn write_rows<D: Dram>(
     ensures stage { length stage.new ≡ length stage.old }
     ensures did { OnOk result (Did (all_writes g rows.now) (D.view dram.old) (D.view dram.new)) }
     ensures rose { OnErr result (Rose (D.view dram.old).faults (D.view dram.new).faults) }
+    ensures stopped { OnErr result (StoppedWithin (all_writes g rows.now) (D.view dram.old).banks
+        (D.view dram.new).banks) }
 {
     for bank in 0..g.banks {
         write_bank(dram, g, bank, rows, stage)?;
@@ -166,6 +169,8 @@ pub(crate) fn begin<D: Dram>(
     ensures opened { OnOk result (Opened g rows.now (D.view dram.new)) }
     ensures failed { IsErrOf result StartNo.ChipFault
         → Rose (D.view dram.old).faults (D.view dram.new).faults }
+    ensures left { IsErrOf result StartNo.ChipFault
+        → IsLeftUnopened g rows.now (D.view dram.new) }
     ensures unopened { IsErrOf result StartNo.NoMemory → NotBegun (D.view dram.new) }
 {
     match dram.begin(g) {

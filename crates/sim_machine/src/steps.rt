@@ -4,6 +4,7 @@ ghost use Rattle.std.specs.Prelude.{◌≡◌, ℕ, ◌≤◌, true, length, IfO
 ghost use Rattle.host_edge.specs.Views.{Known};
 ghost use Rattle.faults.specs.Counts.{Rose};
 ghost use Rattle.dram_model.specs.View.{HasBegun, Kept, Did};
+ghost use Rattle.transpose_unit.specs.Stopped.{StoppedWithin};
 ghost use Rattle.dram_model.specs.Elements.{FailedBelow};
 ghost use Rattle.bbop_isa.specs.Forms.{view_of, Init, Print, Free};
 ghost use Rattle.machine_model.specs.Agrees.{IsPlain};
@@ -132,6 +133,9 @@ impl<'a> Machine<'a> {
             (D.view dram.new)) }
         ensures failed { OnErr result (FailedBelow (banks_by self.old (view_of instr.now))
             (D.view dram.old) (D.view dram.new)) }
+        ensures left { OnErr result (StoppedWithin (events_alone (geometry_of self.old)
+            (operations_by self.old) (table_in self.old) (view_of instr.now))
+            (D.view dram.old).banks (D.view dram.new).banks) }
         ensures same_turn { OnErr result (turn_in self.new ≡ turn_in self.old) }
     {
         let g = self.geometry;

@@ -90,7 +90,7 @@ stops_at_use state c cs m files s a b is l rose = record {
   are = (is, tt);
   goes = inl (
     world files s a,
-    (nothing_read (world files s a), inr (refl, chip_used files s a b l, rose)),
+    (nothing_read (world files s a), inr (refl, chip_used files s a b l, rose, tt)),
   );
   done = tt;
 }

@@ -93,7 +93,7 @@ pub record CaseWent (state : ℕ) (c : Case) (old new : World) : Type 0 where
   pub program : Microprogram
   pub is : IsProgramOf c program
   pub does : (rest : List Step) (end : End) (last : World) → Goes rest end new last
-      → Goes (Take ∷ Use ∷ Put (case_line state c program) ∷ rest) end old last
+      → Goes (Take ∷ Use None ∷ Put (case_line state c program) ∷ rest) end old last
   pub done : CaseDone state c program old.chip new.chip
   pub few : RisesLittle old.chip.counters new.chip.counters
 

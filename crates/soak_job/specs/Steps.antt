@@ -1,9 +1,12 @@
 -- The programs of a soak, and its steps.
-use Rattle.std.specs.Prelude.{ℕ, List, [], ◌∷◌, length}
+use Rattle.std.specs.Prelude.{ℕ, List, [], ◌∷◌, length, None}
 use Rattle.uprog_code.specs.Shape.{Microprogram}
+use Rattle.dram_model.specs.Chip.{blank_banks}
+use Rattle.cli_model.specs.Waves.{doing}
 use Rattle.cli_model.specs.Steps.{Step, Take, Open, Use, Put}
 use Rattle.soak_job.specs.declared.cases.Case.{Case}
 use Rattle.soak_job.specs.Cases.{soak_cases, source_kinds}
+use Rattle.soak_job.specs.Layout.{soak_chip}
 use Rattle.soak_job.specs.OneCase.{IsProgramOf}
 use Rattle.soak_job.specs.Words.{after_all}
 use Rattle.soak_job.specs.Sums.{case_line, last_line}
@@ -19,9 +22,10 @@ AreProgramsOf (c ∷ cs) (m ∷ ms) = IsProgramOf c m × AreProgramsOf cs ms
 abbrev pub cases_steps : (state : ℕ) → List Case → List Microprogram → List Step
 cases_steps state [] ms = Put (last_line (length soak_cases)) ∷ []
 cases_steps state (c ∷ cs) [] = Take ∷ []
-cases_steps state (c ∷ cs) (m ∷ ms) = Take ∷ Use ∷ Put (case_line state c m)
+cases_steps state (c ∷ cs) (m ∷ ms) = Take ∷ Use None ∷ Put (case_line state c m)
     ∷ cases_steps (after_all state (source_kinds c.op)) cs ms
 
 -- the chip begins, and all cases follow, with the generator whose first state is the seed
 abbrev pub soak_steps : (seed : ℕ) → List Microprogram → List Step
-soak_steps seed programs = Open ∷ cases_steps seed soak_cases programs
+soak_steps seed programs =
+    Open (doing (blank_banks soak_chip) []) ∷ cases_steps seed soak_cases programs

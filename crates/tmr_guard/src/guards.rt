@@ -6,6 +6,7 @@ ghost use Rattle.host_edge.specs.Views.{Known, AppendsPart};
 ghost use Rattle.faults.specs.Counts.{Rose};
 ghost use Rattle.text_lex.specs.Spelled.{fits_name};
 ghost use Rattle.dram_model.specs.Chip.{Grew};
+ghost use Rattle.transpose_unit.specs.Stopped.{StoppedWithin};
 ghost use Rattle.dram_model.specs.View.{HasBegun, Kept, Did, DidRead, StoppedIn};
 ghost use Rattle.object_alloc.specs.Spelling.{image_bytes};
 ghost use Rattle.bbop_isa.specs.Forms.{view_of, Print};
@@ -436,6 +437,8 @@ impl<'a> Guard<'a> {
         ensures same { machine_in self.new
             ≡ record (machine_in self.old) { file = file_of (machine_in self.new) } }
         ensures failed { OnErr result (Rose (D.view dram.old).faults (D.view dram.new).faults) }
+        ensures left { OnErr result (StoppedWithin [] (D.view dram.old).banks
+            (D.view dram.new).banks) }
         ensures no_event { Grew (D.view dram.old).log (D.view dram.new).log [] }
     {
         self.machine.image(dram)

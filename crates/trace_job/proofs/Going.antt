@@ -5,7 +5,7 @@ use Rattle.std.specs.List.{AllByRecursion}
 use Rattle.dram_model.specs.View.{ChipView}
 use Rattle.faults.specs.Counts.{Rose}
 use Rattle.cli_model.specs.World.{World}
-use Rattle.cli_model.specs.Waves.{StoppedIn}
+use Rattle.cli_model.specs.Waves.{IsLeftBy, StoppedIn}
 use Rattle.cli_model.specs.Steps.{Step, Load, Take, Store, Open, Use, UseFor, Put, Print, End, Done}
 use Rattle.cli_model.specs.Steps.{Stopped}
 use Rattle.cli_model.specs.Steps.{Goes, Used, Sent, Printed, Stored}
@@ -84,7 +84,7 @@ goes_below [] Done a b old new late p q r same g =
 goes_below [] (Stopped reason) a b old new late p q r same g = absurd g
 goes_below (Load name limit text refusal ∷ steps) end a b old new late p q r same g = absurd late.0
 goes_below (Take ∷ steps) end a b old new late p q r same g = absurd late.0
-goes_below (Open ∷ steps) end a b old new late p q r same g = absurd late.0
+goes_below (Open on ∷ steps) end a b old new late p q r same g = absurd late.0
 goes_below (Store name bytes ∷ steps) end a b old new late p q r same (inl (mid, (d, g))) =
     inl (
       with_chip old mid,
@@ -109,7 +109,7 @@ goes_below (Put bytes ∷ steps) end a b old new late p q r same (inl (mid, (d, 
 goes_below (Put bytes ∷ steps) Done a b old new late p q r same (inr f) = absurd f
 goes_below (Put bytes ∷ steps) (Stopped reason) a b old new late p q r same (inr f) =
     inr (f.0, sent_below _ a b old new (same f.1.chip) f.1, f.2)
-goes_below (Use ∷ steps) end a b old new late p q r same (inl (mid, (d, g))) =
+goes_below (Use on ∷ steps) end a b old new late p q r same (inl (mid, (d, g))) =
     let own = counting new mid.chip.faults in
     inl (
       with_chip own mid,
@@ -118,12 +118,13 @@ goes_below (Use ∷ steps) end a b old new late p q r same (inl (mid, (d, g))) =
         goes_below steps end mid b own new late.1 refl q r (mid_same mid.chip b.chip new q) g,
       ),
     )
-goes_below (Use ∷ steps) Done a b old new late p q r same (inr f) = absurd f
-goes_below (Use ∷ steps) (Stopped reason) a b old new late p q r same (inr f) =
+goes_below (Use on ∷ steps) Done a b old new late p q r same (inr f) = absurd f
+goes_below (Use on ∷ steps) (Stopped reason) a b old new late p q r same (inr f) =
     inr (
       f.0,
       used_below a b old new p q f.1,
       rose_below old.faults new.faults a.chip.faults b.chip.faults p q f.2,
+      subst (IsLeftBy on) (sym r) f.3,
     )
 goes_below (UseFor wave ∷ steps) end a b old new late p q r same (inl (mid, (d, g))) =
     let own = counting new mid.chip.faults in
@@ -142,7 +143,7 @@ goes_below (UseFor wave ∷ steps) (Stopped reason) a b old new late p q r same 
       rose_below old.faults new.faults a.chip.faults b.chip.faults p q f.2,
       subst (StoppedIn wave) (sym r) f.3,
     )
-goes_below (Print bytes ∷ steps) end a b old new late p q r same (inl (mid, (d, g))) =
+goes_below (Print on bytes ∷ steps) end a b old new late p q r same (inl (mid, (d, g))) =
     let own = counting new mid.chip.faults in
     inl (
       with_chip own mid,
@@ -151,24 +152,28 @@ goes_below (Print bytes ∷ steps) end a b old new late p q r same (inl (mid, (d
         goes_below steps end mid b own new late.1 refl q r (mid_same mid.chip b.chip new q) g,
       ),
     )
-goes_below (Print bytes ∷ steps) Done a b old new late p q r same (inr f) = absurd f
-goes_below (Print bytes ∷ steps) (Stopped reason) a b old new late p q r same (inr (f, inl rose)) =
+goes_below (Print on bytes ∷ steps) Done a b old new late p q r same (inr f) = absurd f
+goes_below (Print on bytes ∷ steps) (Stopped reason) a b old new late p q r same (inr (f, inl rose)) =
     inr (printed_below _ a b old new p q f, inl rose)
-goes_below (Print bytes ∷ steps) (Stopped reason) a b old new late p q r same (inr (f, inr rose)) =
+goes_below (Print on bytes ∷ steps) (Stopped reason) a b old new late p q r same (inr (f, inr rose)) =
     inr (
       printed_below _ a b old new p q f,
-      inr (rose.0, rose_below old.faults new.faults a.chip.faults b.chip.faults p q rose.1),
+      inr (
+        rose.0,
+        rose_below old.faults new.faults a.chip.faults b.chip.faults p q rose.1,
+        subst (IsLeftBy on) (sym r) rose.2,
+      ),
     )
 
 -- where the first step uses the chip, nothing of it has to be the same
 pub steps_are_below : StepsAreBelow
-steps_are_below [] end a b old new late on p q r g = absurd on
-steps_are_below (Load name limit text refusal ∷ steps) end a b old new late on p q r g = absurd late.0
-steps_are_below (Take ∷ steps) end a b old new late on p q r g = absurd late.0
-steps_are_below (Open ∷ steps) end a b old new late on p q r g = absurd late.0
-steps_are_below (Store name bytes ∷ steps) end a b old new late on p q r g = absurd (cc)
-steps_are_below (Put bytes ∷ steps) end a b old new late on p q r g = absurd (cc)
-steps_are_below (Use ∷ steps) end a b old new late on p q r (inl (mid, (d, g))) =
+steps_are_below [] end a b old new late first p q r g = absurd first
+steps_are_below (Load name limit text refusal ∷ steps) end a b old new late first p q r g = absurd late.0
+steps_are_below (Take ∷ steps) end a b old new late first p q r g = absurd late.0
+steps_are_below (Open on ∷ steps) end a b old new late first p q r g = absurd late.0
+steps_are_below (Store name bytes ∷ steps) end a b old new late first p q r g = absurd (cc)
+steps_are_below (Put bytes ∷ steps) end a b old new late first p q r g = absurd (cc)
+steps_are_below (Use on ∷ steps) end a b old new late first p q r (inl (mid, (d, g))) =
     let own = counting new mid.chip.faults in
     inl (
       with_chip own mid,
@@ -177,14 +182,15 @@ steps_are_below (Use ∷ steps) end a b old new late on p q r (inl (mid, (d, g))
         goes_below steps end mid b own new late.1 refl q r (mid_same mid.chip b.chip new q) g,
       ),
     )
-steps_are_below (Use ∷ steps) Done a b old new late on p q r (inr f) = absurd f
-steps_are_below (Use ∷ steps) (Stopped reason) a b old new late on p q r (inr f) =
+steps_are_below (Use on ∷ steps) Done a b old new late first p q r (inr f) = absurd f
+steps_are_below (Use on ∷ steps) (Stopped reason) a b old new late first p q r (inr f) =
     inr (
       f.0,
       used_below a b old new p q f.1,
       rose_below old.faults new.faults a.chip.faults b.chip.faults p q f.2,
+      subst (IsLeftBy on) (sym r) f.3,
     )
-steps_are_below (UseFor wave ∷ steps) end a b old new late on p q r (inl (mid, (d, g))) =
+steps_are_below (UseFor wave ∷ steps) end a b old new late first p q r (inl (mid, (d, g))) =
     let own = counting new mid.chip.faults in
     inl (
       with_chip own mid,
@@ -193,15 +199,15 @@ steps_are_below (UseFor wave ∷ steps) end a b old new late on p q r (inl (mid,
         goes_below steps end mid b own new late.1 refl q r (mid_same mid.chip b.chip new q) g,
       ),
     )
-steps_are_below (UseFor wave ∷ steps) Done a b old new late on p q r (inr f) = absurd f
-steps_are_below (UseFor wave ∷ steps) (Stopped reason) a b old new late on p q r (inr f) =
+steps_are_below (UseFor wave ∷ steps) Done a b old new late first p q r (inr f) = absurd f
+steps_are_below (UseFor wave ∷ steps) (Stopped reason) a b old new late first p q r (inr f) =
     inr (
       f.0,
       used_below a b old new p q f.1,
       rose_below old.faults new.faults a.chip.faults b.chip.faults p q f.2,
       subst (StoppedIn wave) (sym r) f.3,
     )
-steps_are_below (Print bytes ∷ steps) end a b old new late on p q r (inl (mid, (d, g))) =
+steps_are_below (Print on bytes ∷ steps) end a b old new late first p q r (inl (mid, (d, g))) =
     let own = counting new mid.chip.faults in
     inl (
       with_chip own mid,
@@ -210,11 +216,15 @@ steps_are_below (Print bytes ∷ steps) end a b old new late on p q r (inl (mid,
         goes_below steps end mid b own new late.1 refl q r (mid_same mid.chip b.chip new q) g,
       ),
     )
-steps_are_below (Print bytes ∷ steps) Done a b old new late on p q r (inr f) = absurd f
-steps_are_below (Print bytes ∷ steps) (Stopped reason) a b old new late on p q r (inr (f, inl rose)) =
+steps_are_below (Print on bytes ∷ steps) Done a b old new late first p q r (inr f) = absurd f
+steps_are_below (Print on bytes ∷ steps) (Stopped reason) a b old new late first p q r (inr (f, inl rose)) =
     inr (printed_below _ a b old new p q f, inl rose)
-steps_are_below (Print bytes ∷ steps) (Stopped reason) a b old new late on p q r (inr (f, inr rose)) =
+steps_are_below (Print on bytes ∷ steps) (Stopped reason) a b old new late first p q r (inr (f, inr rose)) =
     inr (
       printed_below _ a b old new p q f,
-      inr (rose.0, rose_below old.faults new.faults a.chip.faults b.chip.faults p q rose.1),
+      inr (
+        rose.0,
+        rose_below old.faults new.faults a.chip.faults b.chip.faults p q rose.1,
+        subst (IsLeftBy on) (sym r) rose.2,
+      ),
     )

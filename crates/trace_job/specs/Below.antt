@@ -11,11 +11,11 @@ abbrev pub IsLate : Step → Type 0
 IsLate (Load name limit text refusal) = ⊥
 IsLate Take = ⊥
 IsLate (Store name bytes) = Unit {0}
-IsLate Open = ⊥
-IsLate Use = Unit {0}
+IsLate (Open on) = ⊥
+IsLate (Use on) = Unit {0}
 IsLate (UseFor wave) = Unit {0}
 IsLate (Put bytes) = Unit {0}
-IsLate (Print bytes) = Unit {0}
+IsLate (Print on bytes) = Unit {0}
 
 -- the first of them uses the chip
 abbrev pub BeginOnChip : List Step → Type 0

@@ -6,3 +6,4 @@ mod Columns
 mod Segments
 pub mod Held
 mod Rows
+pub mod Stopping

@@ -3,4 +3,5 @@
 pub mod Stage
 pub mod Exchange
 pub mod Laws
+pub mod Stopped
 pub use Rattle.dram_model.specs.Elements

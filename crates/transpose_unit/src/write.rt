@@ -2,6 +2,7 @@
 
 ghost use Rattle.std.specs.Prelude.{◌≡◌, ℕ, ◌+◌, ◌*◌, ◌<◌, ◌≤◌, ◌^◌, length, All, OnOk, OnErr};
 ghost use Rattle.dram_model.specs.View.{HasBegun, Kept, Did, FailedIn};
+ghost use Rattle.transpose_unit.specs.Stopped.{StoppedWithin};
 ghost use Rattle.dram_model.specs.Elements.{column_count, segments_of, write_events, numbers_in};
 ghost use Rattle.dram_model.specs.Elements.{padded_to, size_of, FailedBelow};
 ghost use Rattle.transpose_unit.specs.Stage.{stage_events, stage_rows};
@@ -73,6 +74,8 @@ pub fn write_object<D: Dram>(
         ≡ padded_to (size_of g (length values.now)) values.now) }
     ensures failed { OnErr result (FailedBelow (segments_of g (length values.now)) (D.view dram.old)
         (D.view dram.new)) }
+    ensures stopped { OnErr result (StoppedWithin (write_events g base n values.now)
+        (D.view dram.old).banks (D.view dram.new).banks) }
 {
     let words = usize::from(g.words);
     let columns = 64 * words;

@@ -1,6 +1,7 @@
 use Rattle.std.proofs.Common.{◌∙◌, ◌*◌, ap, subst, refl}
 use Rattle.dram_model.proofs.EventLaws.{Kept-same}
 use Rattle.dram_model.specs.View.{Did}
+use Rattle.transpose_unit.specs.Stopped.{StoppedWithin}
 use Rattle.uprog_code.specs.declared.walker.Counts.{Counts}
 use Rattle.object_alloc.specs.declared.table.Object.{Object}
 use Rattle.bbop_isa.specs.Forms.{Fill}
@@ -8,6 +9,7 @@ use Rattle.machine_model.specs.Columns.{segments}
 use Rattle.machine_model.specs.Refusals.{refusal}
 use Rattle.machine_model.specs.Steps.{counts_for, fill_events, own_events}
 use Rattle.object_steps.proofs.Done.{did_all, did_nothing, replies_done, replies_refused}
+use Rattle.object_steps.proofs.Done.{stopped_all}
 use Rattle.object_steps.proofs.Filled.{on_err}
 use Rattle.object_steps.proofs.filling.fill.Goals as goal
 
@@ -35,6 +37,18 @@ pub returns-in_err-fill_object-in-Ok-clause-allowed :
     goal.returns-in_err-fill_object-in-Ok-clause-allowed
 returns-in_err-fill_object-in-Ok-clause-allowed g c = λ operations.
     on_err c.from_residual.result (c.in-Ok.ensures.allowed operations)
+
+pub returns-in_err-fill_object-in-Ok-clause-stopped :
+    goal.returns-in_err-fill_object-in-Ok-clause-stopped
+returns-in_err-fill_object-in-Ok-clause-stopped g c = λ operations.
+    let instr = Fill c.args.name.now c.args.value in
+    let pairs = c.args.table.now.pairs in
+    let old = g.D.Dram.view c.args.dram.now in
+    let new = g.D.Dram.view c.fill_object.new.dram in
+    on_err c.from_residual.result (stopped_all (refusal c.args.g operations pairs instr)
+    (own_events c.args.g pairs instr) old.banks new.banks (c.in-Ok.ensures.allowed operations)
+    (subst (λ (o : Object). StoppedWithin (fill_events c.args.g o c.args.value) old.banks new.banks)
+    c.in-Ok.ensures.object c.in_err-fill_object-in-Ok.ensures.stopped))
 
 pub returns-in-Err-clause-reply : goal.returns-in-Err-clause-reply
 returns-in-Err-clause-reply g c = λ operations.

@@ -6,11 +6,14 @@ use Rattle.dram_model.specs.declared.address.Command.TheVariants.{Aap}
 use Rattle.dram_model.specs.declared.address.Addr.TheVariants as addr
 use Rattle.dram_model.specs.Chip.Event.{Row}
 use Rattle.object_steps.proofs.Rises.{few_events, few_rows}
-use Rattle.std.proofs.Common.{◌≤◌, ◌≢◌, ◌∙◌, ◌*◌, ◌+◌, ap, arith}
+use Rattle.std.proofs.Common.{◌≤◌, ◌≢◌, ◌∙◌, ◌*◌, ◌+◌, ◌<◌, ap, arith}
 use Rattle.dram_model.specs.Chip.{Banks}
 use Rattle.dram_model.specs.Elements.{FailedBelow}
+use Rattle.transpose_unit.specs.Stopped.{StoppedWithin}
 use Rattle.dram_model.proofs.EventLaws.{Kept-more}
+use Rattle.transpose_unit.proofs.Stopping.{stopped_turn}
 use Rattle.machine_model.specs.Columns.{segments}
+use Rattle.machine_model.specs.Steps.{fill_events}
 use Rattle.object_steps.specs.Objects.{filled_in}
 use Rattle.object_steps.proofs.Filled.{next_bank, on_err, filled_others, one_times_more}
 use Rattle.object_steps.proofs.filling.fill_object.Goals as goal
@@ -68,6 +71,19 @@ returns-in_err-fill_bank-clause-failed g c =
           let ne : b ≢ c.loop-bank.bank = λ e. absurd (omega (arith, l, e)) in
           failed.others b ne ∙ c.loop-bank.invariant.others b (omega (arith, l));
     } in
+    on_err c.from_residual.result all
+
+pub returns-in_err-fill_bank-clause-stopped : goal.returns-in_err-fill_bank-clause-stopped
+returns-in_err-fill_bank-clause-stopped g c =
+    let first = g.D.Dram.view c.args.dram.now in
+    let now = g.D.Dram.view c.loop-bank.dram in
+    let new = g.D.Dram.view c.fill_bank.new.dram in
+    let inside : c.loop-bank.bank < segments c.args.g c.args.o =
+    omega (arith, c.segments-bank-end.ensures.value) in
+    let all : StoppedWithin (fill_events c.args.g c.args.o c.args.value) first.banks new.banks =
+    stopped_turn (filled_in c.args.o c.args.value) (segments c.args.g c.args.o) c.loop-bank.bank
+    c.loop-bank.bank inside first.banks now.banks new.banks c.loop-bank.invariant.did.banks
+    c.in_err-fill_bank.ensures.failed.others in
     on_err c.from_residual.result all
 
 pub returns-clause-rises : goal.returns-clause-rises

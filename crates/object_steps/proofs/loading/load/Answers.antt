@@ -4,12 +4,14 @@ use Rattle.dram_model.specs.Chip.{Event}
 use Rattle.dram_model.specs.Chip.Event.{Write}
 use Rattle.dram_model.specs.Elements.{padded_to, row_bits}
 use Rattle.dram_model.specs.View.{Did}
+use Rattle.transpose_unit.specs.Stopped.{StoppedWithin}
 use Rattle.object_alloc.specs.declared.table.Object.{Object}
 use Rattle.bbop_isa.specs.Forms.{Load}
 use Rattle.machine_model.specs.Columns.{object_size, segments}
 use Rattle.machine_model.specs.Refusals.{refusal}
 use Rattle.machine_model.specs.Steps.{counts_for, load_events, own_events}
 use Rattle.object_steps.proofs.Done.{did_all, did_nothing, replies_done, replies_refused}
+use Rattle.object_steps.proofs.Done.{stopped_all}
 use Rattle.object_steps.proofs.Filled.{on_err}
 use Rattle.object_steps.proofs.Rises.{few_banks, few_events, few_rows, loads_are}
 use Rattle.object_steps.proofs.loading.load.Goals as goal
@@ -42,6 +44,20 @@ pub returns-in_err-write_object-in-Ok-clause-allowed :
     goal.returns-in_err-write_object-in-Ok-clause-allowed
 returns-in_err-write_object-in-Ok-clause-allowed g c = λ operations.
     on_err c.from_residual.result (c.in-Ok.ensures.allowed operations)
+
+pub returns-in_err-write_object-in-Ok-clause-stopped :
+    goal.returns-in_err-write_object-in-Ok-clause-stopped
+returns-in_err-write_object-in-Ok-clause-stopped g c = λ operations.
+    let instr = Load c.args.name.now c.args.values.now in
+    let pairs = c.args.table.now.pairs in
+    let old = g.D.Dram.view c.args.dram.now in
+    let new = g.D.Dram.view c.write_object.new.dram in
+    on_err c.from_residual.result (stopped_all (refusal c.args.g operations pairs instr)
+    (own_events c.args.g pairs instr) old.banks new.banks (c.in-Ok.ensures.allowed operations)
+    (subst (λ (es : List Event). StoppedWithin es old.banks new.banks)
+    (loads_are c.args.g c.in-Ok.o c.args.values.now c.in-Ok.ensures.count
+    ∙ ap (λ (o : Object). load_events c.args.g o c.args.values.now) c.in-Ok.ensures.object)
+    c.in_err-write_object-in-Ok.ensures.stopped))
 
 pub returns-in-Err-clause-reply : goal.returns-in-Err-clause-reply
 returns-in-Err-clause-reply g c = λ operations.

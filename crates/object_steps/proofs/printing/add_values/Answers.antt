@@ -5,8 +5,10 @@ use Rattle.std.proofs.lemmas.Bool.Decides.{nat_tests}
 use Rattle.host_edge.specs.Views.{Known, AppendsPart}
 use Rattle.host_edge.specs.Sends.{AppendsUpTo}
 use Rattle.dram_model.specs.declared.geometry.Geometry.{Geometry}
+use Rattle.dram_model.specs.Chip.{Banks}
 use Rattle.dram_model.specs.View.{DidRead}
 use Rattle.dram_model.proofs.EventLaws.{DidRead-more, Grew-more, Kept-more}
+use Rattle.transpose_unit.proofs.Stopping.{stopped_first}
 use Rattle.transpose_unit.specs.Stage.{stage_number, stage_rows}
 use Rattle.machine_model.specs.Columns.{segments}
 use Rattle.object_steps.specs.Lines.{values_text}
@@ -128,6 +130,14 @@ returns-in-Err-clause-part g c =
     subst (λ (xs : List ℕ). Known (AppendsPart xs) began.sent before.sent) front.1
     (part_of_more so_far front.0 began.sent before.sent (put_is_part so_far c.loop-bank.text.items
     began.sent before.sent c.loop-bank.invariant.held))
+
+pub returns-in-Err-clause-stopped : goal.returns-in-Err-clause-stopped
+returns-in-Err-clause-stopped g c = λ _.
+    let first = g.D.Dram.view c.args.dram.now in
+    let new = g.D.Dram.view c.read_segment.new.dram in
+    stopped_first [] c.loop-bank.bank first.banks new.banks (λ b ne.
+    c.in-Err.ensures.failed.others b ne
+    ∙ ap (λ (banks : Banks). banks b) c.loop-bank.invariant.did.banks)
 
 pub returns-in-Err-add_columns-clause-part : goal.returns-in-Err-add_columns-clause-part
 returns-in-Err-add_columns-clause-part g c =

@@ -1,7 +1,9 @@
 use Rattle.std.proofs.Common.{[], ◌+◌, ◌*◌, arith, vec_len, ap, ◌∙◌}
-use Rattle.dram_model.specs.Chip.{row_in}
+use Rattle.dram_model.specs.Chip.{Banks, row_in}
+use Rattle.dram_model.specs.View.{FailedIn}
 use Rattle.dram_model.proofs.EventLaws.{Grew-more, Kept-more, DidRead-more}
 use Rattle.object_alloc.specs.Bytes.{bytes_of_bits}
+use Rattle.object_steps.proofs.Filled.{on_err}
 use Rattle.sim_machine.proofs.Rows.{next_bytes, more_reads}
 use Rattle.sim_machine.proofs.image.read_bank.Goals as goal
 
@@ -25,6 +27,18 @@ returns-in_err-read_row-clause-no_event g c =
 pub returns-in_err-read_row-clause-capacity : goal.returns-in_err-read_row-clause-capacity
 returns-in_err-read_row-clause-capacity g c =
     omega (arith, c.loop-row.invariant.capacity, c.in_err-read_row.ensures.capacity)
+
+pub returns-in_err-read_row-clause-failed : goal.returns-in_err-read_row-clause-failed
+returns-in_err-read_row-clause-failed g c =
+    let first = g.D.Dram.view c.args.dram.now in
+    let new = g.D.Dram.view c.read_row.new.dram in
+    let failed = c.in_err-read_row.ensures.failed in
+    let all : FailedIn c.args.bank first new = record {
+      rose = omega (arith, c.loop-row.invariant.kept.faults, failed.rose);
+      others = λ b ne. failed.others b ne
+          ∙ ap (λ (banks : Banks). banks b) c.loop-row.invariant.did.banks;
+    } in
+    on_err c.from_residual.result all
 
 pub returns-clause-borrow : goal.returns-clause-borrow
 returns-clause-borrow g c = c.loop-row.invariant.borrow

@@ -1,6 +1,11 @@
 use Rattle.std.proofs.Common.{[], ◌+◌, ◌*◌, arith, vec_len, ap, ◌∙◌, subst}
+use Rattle.faults.specs.Counts.{Rose}
+use Rattle.dram_model.specs.Chip.{Banks}
+use Rattle.transpose_unit.specs.Stopped.{StoppedWithin}
 use Rattle.dram_model.specs.View.{DidRead}
+use Rattle.transpose_unit.proofs.Stopping.{stopped_first}
 use Rattle.dram_model.proofs.EventLaws.{Grew-more, Kept-more, DidRead-more}
+use Rattle.object_steps.proofs.Filled.{on_err}
 use Rattle.sim_machine.specs.Image.{bank_bytes}
 use Rattle.sim_machine.proofs.Rows.{next_bytes, more_reads, one_times_more}
 use Rattle.sim_machine.proofs.image.read_rows.Goals as goal
@@ -34,6 +39,25 @@ returns-in_err-read_bank-clause-no_event g c =
 pub returns-in_err-read_bank-clause-capacity : goal.returns-in_err-read_bank-clause-capacity
 returns-in_err-read_bank-clause-capacity g c =
     omega (arith, c.loop-bank.invariant.capacity, c.in_err-read_bank.ensures.capacity)
+
+pub returns-in_err-read_bank-clause-rose : goal.returns-in_err-read_bank-clause-rose
+returns-in_err-read_bank-clause-rose g c =
+    let first = g.D.Dram.view c.args.dram.now in
+    let new = g.D.Dram.view c.read_bank.new.dram in
+    let failed = c.in_err-read_bank.ensures.failed in
+    let all : Rose first.faults new.faults =
+    omega (arith, c.loop-bank.invariant.kept.faults, failed.rose) in
+    on_err c.from_residual.result all
+
+pub returns-in_err-read_bank-clause-stopped : goal.returns-in_err-read_bank-clause-stopped
+returns-in_err-read_bank-clause-stopped g c =
+    let first = g.D.Dram.view c.args.dram.now in
+    let new = g.D.Dram.view c.read_bank.new.dram in
+    let all : StoppedWithin [] first.banks new.banks =
+    stopped_first [] c.loop-bank.bank first.banks new.banks (λ b ne.
+    c.in_err-read_bank.ensures.failed.others b ne
+    ∙ ap (λ (banks : Banks). banks b) c.loop-bank.invariant.did.banks) in
+    on_err c.from_residual.result all
 
 pub returns-clause-borrow : goal.returns-clause-borrow
 returns-clause-borrow g c = c.loop-bank.invariant.borrow

@@ -1,8 +1,12 @@
-use Rattle.std.proofs.Common.{arith, ◌∙◌}
+use Rattle.std.proofs.Common.{arith, ◌∙◌, ap, refl}
 use Rattle.std.proofs.lemmas.Grind.{common_steps}
 use Rattle.dram_model.proofs.EventLaws.{Kept-more}
+use Rattle.transpose_unit.proofs.Stopping.{others_stay}
+use Rattle.dram_model.specs.Chip.{Banks}
 use Rattle.dram_model.specs.Chip.Event.{Write}
+use Rattle.dram_model.specs.View.{FailedIn}
 use Rattle.object_alloc.specs.Spelling.{rows_in}
+use Rattle.object_steps.proofs.Filled.{on_err}
 use Rattle.sim_machine.proofs.Rows.{next_row}
 use Rattle.sim_machine.proofs.opening.write_bank.Goals as goal
 
@@ -18,3 +22,18 @@ loop-row-preserved g c =
           (rows_in c.args.g c.args.rows.now c.args.bank row)) c.loop-row.row _ _ _
           c.loop-row.invariant.did here;
     }
+
+pub returns-in_err-write_row-clause-failed : goal.returns-in_err-write_row-clause-failed
+returns-in_err-write_row-clause-failed g c =
+    let first = g.D.Dram.view c.args.dram.now in
+    let new = g.D.Dram.view c.write_row.new.dram in
+    let failed = c.in_err-write_row.ensures.failed in
+    let all : FailedIn c.args.bank first new = record {
+      rose = omega (arith, c.loop-row.invariant.kept.faults, failed.rose);
+      others = λ b ne. failed.others b ne
+          ∙ ap (λ (banks : Banks). banks b) c.loop-row.invariant.did.banks
+          ∙ others_stay (λ row. Write c.args.bank row
+          (rows_in c.args.g c.args.rows.now c.args.bank row)) c.args.bank (λ k. refl) 0
+          c.loop-row.row first.banks b ne;
+    } in
+    on_err c.from_residual.result all

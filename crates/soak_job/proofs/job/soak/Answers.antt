@@ -1,11 +1,11 @@
-use Rattle.std.proofs.Common.{◌≡◌, List, sym, subst, ◌∙◌}
+use Rattle.std.proofs.Common.{◌≡◌, List, [], inl, inr, refl, sym, subst, ◌∙◌}
 use Rattle.std.specs.List.{AllByRecursion}
 use Rattle.cli_model.specs.World.{world}
 use Rattle.soak_job.specs.declared.cases.Case.{Case}
 use Rattle.soak_job.specs.Cases.{soak_cases}
 use Rattle.soak_job.specs.Done.{CanBeDone, CasesGo}
 use Rattle.soak_job.proofs.Fitting.{all_done}
-use Rattle.soak_job.proofs.Going.{soak_goes}
+use Rattle.soak_job.proofs.Going.{chip_used, soak_goes}
 use Rattle.soak_job.proofs.job.soak.Goals as goal
 
 pub soak_cases-requires-clause-can : goal.soak_cases-requires-clause-can
@@ -29,3 +29,17 @@ returns-clause-goes g c files =
     c.soak_cases.result) same
     (subst (λ s. CasesGo s c.as_slice.result.now (world files sink begun) last c.soak_cases.result)
     c.seed_from_u64-generator.ensures.same (c.soak_cases.ensures.goes files)))
+
+pub returns-in-Err-Failed-clause-goes : goal.returns-in-Err-Failed-clause-goes
+returns-in-Err-Failed-clause-goes g c files = record {
+  programs = [];
+  are = tt;
+  goes = inr (inr (
+    refl,
+    chip_used files (g.S.Sink.view c.args.out.now) (g.D.Dram.view c.args.chip.now)
+        (g.D.Dram.view c.begin.new.self) c.begin.ensures.faults,
+    c.in-Err-Failed.ensures.failed c.in-Err-Failed.field-0-is,
+    inl c.in-Err-Failed.ensures.err,
+  ));
+  left = tt;
+}

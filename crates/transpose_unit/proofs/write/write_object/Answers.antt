@@ -5,7 +5,9 @@ use Rattle.std.specs.Int.{div_ceil}
 use Rattle.dram_model.specs.declared.geometry.Geometry.{Geometry}
 use Rattle.dram_model.specs.Chip.{Banks, Event}
 use Rattle.dram_model.specs.View.{Did}
+use Rattle.transpose_unit.specs.Stopped.{StoppedWithin}
 use Rattle.dram_model.proofs.EventLaws.{Did-more, Kept-more}
+use Rattle.transpose_unit.proofs.Stopping.{stopped_turn}
 use Rattle.dram_model.specs.Elements.{column_count, segments_of, size_of, padded_to, write_events}
 use Rattle.dram_model.specs.Elements.{numbers_in, FailedBelow}
 use Rattle.bit_rows.specs.Bits.{bit_at}
@@ -101,6 +103,26 @@ returns-in_err-write_rows-clause-failed g c =
           ∙ after_first c.args.g c.args.base c.args.n numbers first.banks c.loop-bank.bank b
           (omega arith);
     } in
+    on_err_always c.from_residual.result all
+
+pub returns-in_err-write_rows-clause-stopped : goal.returns-in_err-write_rows-clause-stopped
+unfolding write_events
+returns-in_err-write_rows-clause-stopped g c =
+    let first = g.D.Dram.view c.args.dram.now in
+    let now = g.D.Dram.view c.loop-bank.dram in
+    let new = g.D.Dram.view c.write_rows.new.dram in
+    let segments = c.div_ceil-bank-end.ensures
+    ∙ ap (λ (w : ℕ). div_ceil (length c.args.values.now) (64 * w)) c.from-words.ensures in
+    let numbers : List ℕ = padded_to (size_of c.args.g (length c.args.values.now)) c.args.values.now
+    in
+    let inside : c.loop-bank.bank < segments_of c.args.g (length c.args.values.now) =
+    omega (arith, segments) in
+    let all : StoppedWithin (flat_map (bank_events c.args.g c.args.base c.args.n numbers)
+    (range_with_len 0 (segments_of c.args.g (length c.args.values.now)))) first.banks new.banks =
+    stopped_turn (bank_events c.args.g c.args.base c.args.n numbers)
+    (segments_of c.args.g (length c.args.values.now)) c.loop-bank.bank c.loop-bank.bank inside
+    first.banks now.banks new.banks c.loop-bank.invariant.did.banks
+    c.in_err-write_rows.ensures.failed.others in
     on_err_always c.from_residual.result all
 
 pub returns-clause-did : goal.returns-clause-did

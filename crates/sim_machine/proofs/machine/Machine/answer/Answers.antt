@@ -1,7 +1,8 @@
 use Rattle.sim_machine.specs.Shown.{state_of}
 use Rattle.std.proofs.Common.{◌≡◌, ◌∙◌, ap, refl, subst, sym}
 use Rattle.dram_model.proofs.EventLaws.{Kept-same}
-use Rattle.std.specs.Prelude.{IfOk, OnOk}
+use Rattle.std.specs.Prelude.{IfOk, OnErr, OnOk}
+use Rattle.transpose_unit.specs.Stopped.{StoppedWithin}
 use Rattle.dram_model.specs.View.{Did}
 use Rattle.bbop_isa.specs.Forms.{Instruction, Fill, Load, view_of}
 use Rattle.object_steps.specs.Objects.{events_alone}
@@ -61,3 +62,23 @@ returns-in-Fill-clause-did g c = rw (← c.self.view_is) (
     subst (λ (i : Instruction). OnOk c.fill.result (Did (events_alone (geometry_of m)
     (operations_by m) (table_in m) i) (V c.args.dram.now) (V c.fill.new.dram))) (sym is)
     (c.fill.ensures.did (operations_by m)))
+
+pub returns-in-Load-clause-left : goal.returns-in-Load-clause-left
+returns-in-Load-clause-left g c = rw (← c.self.view_is) (
+    let m = (state_of c.self.inside) in
+    let V = g.D.Dram.view in
+    let is : view_of c.args.instr.now ≡ Load c.in-Load.name c.as_slice.result.now =
+    ap view_of c.in-Load.is ∙ ap (Load c.in-Load.name) (sym c.as_slice.ensures.value) in
+    subst (λ (i : Instruction). OnErr c.load.result (StoppedWithin (events_alone (geometry_of m)
+    (operations_by m) (table_in m) i) (V c.args.dram.now).banks (V c.load.new.dram).banks)) (sym is)
+    (c.load.ensures.stopped (operations_by m)))
+
+pub returns-in-Fill-clause-left : goal.returns-in-Fill-clause-left
+returns-in-Fill-clause-left g c = rw (← c.self.view_is) (
+    let m = (state_of c.self.inside) in
+    let V = g.D.Dram.view in
+    let is : view_of c.args.instr.now ≡ Fill c.in-Fill.name c.in-Fill.value =
+    ap view_of c.in-Fill.is in
+    subst (λ (i : Instruction). OnErr c.fill.result (StoppedWithin (events_alone (geometry_of m)
+    (operations_by m) (table_in m) i) (V c.args.dram.now).banks (V c.fill.new.dram).banks)) (sym is)
+    (c.fill.ensures.stopped (operations_by m)))

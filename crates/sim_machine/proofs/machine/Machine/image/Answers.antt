@@ -19,6 +19,9 @@ returns-clause-no_event g c = c.read_image.ensures.no_event
 pub returns-clause-failed : goal.returns-clause-failed
 returns-clause-failed g c = c.read_image.ensures.rose
 
+pub returns-clause-left : goal.returns-clause-left
+returns-clause-left g c = c.read_image.ensures.stopped
+
 pub returns-clause-file : goal.returns-clause-file
 returns-clause-file g c = rw (← c.self.view_is) (
     on_ok_weaker c.read_image.result

@@ -17,7 +17,8 @@ returns-in-Err-clause-went g c = rw (← c.self.view_is) (
       comes = failed_alone _ _ _ _ _ _ _ _ refl refl refl (ap (λ t. t.pairs)
           c.in-Err.ensures.unlisted)
           refl
-          c.in-Err.ensures.failed refl;
+          c.in-Err.ensures.failed
+          (c.in-Err.ensures.stopped (operations_by (state_of c.self.inside))) refl;
     })
 
 pub returns-in-Ok-put_reply-clause-went : goal.returns-in-Ok-put_reply-clause-went

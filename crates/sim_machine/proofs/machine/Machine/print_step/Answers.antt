@@ -13,6 +13,7 @@ returns-in-Err-clause-went g c = rw (← c.self.view_is) (
       sink_faults = c.print.ensures.sink_faults;
       comes = print_failed _ _ _ _ _ _ _ _ refl c.in-Err.fault (c.in-Err.ensures.allowed operations)
           (c.in-Err.ensures.part operations) (λ e. c.in-Err.ensures.chip_fault (ap Err e))
+          (λ e. c.in-Err.ensures.stopped (ap Err e))
           (λ e. c.in-Err.ensures.write_fault (ap Err e))
           (λ e. c.in-Err.ensures.read (ap Err e));
     })

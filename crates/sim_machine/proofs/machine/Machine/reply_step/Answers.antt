@@ -14,7 +14,7 @@ returns-in-Err-clause-went g c =
       kept = c.answer.ensures.kept;
       sink_faults = omega arith;
       comes = failed_alone _ _ _ _ _ _ _ _ goes of.0 of.1 (ap table_in c.answer.ensures.same)
-          c.in-Err.ensures.same_turn c.in-Err.ensures.failed refl;
+          c.in-Err.ensures.same_turn c.in-Err.ensures.failed c.in-Err.ensures.left refl;
     }
 
 pub returns-in-Ok-put_reply-clause-went : goal.returns-in-Ok-put_reply-clause-went

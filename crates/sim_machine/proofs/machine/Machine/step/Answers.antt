@@ -71,6 +71,10 @@ pub returns-clause-stopped : goal.returns-clause-stopped
 returns-clause-stopped g c =
     when_chip _ _ _ _ _ _ _ _ c.step_of.result (λ h. h.stopped) c.step_of.ensures.went.comes
 
+pub returns-clause-left : goal.returns-clause-left
+returns-clause-left g c =
+    when_chip _ _ _ _ _ _ _ _ c.step_of.result (λ h. h.left) c.step_of.ensures.went.comes
+
 pub returns-clause-unsent : goal.returns-clause-unsent
 returns-clause-unsent g c =
     when_chip _ _ _ _ _ _ _ _ c.step_of.result (λ h. h.unsent) c.step_of.ensures.went.comes
