@@ -13,7 +13,7 @@ use uprog_bin::ProgView;
 use uprog_code::{BadWalk, Counts, Fetch, Head, Why3, walk};
 
 /// Why a walk is stuck, at the end of its line.
-fn stuck_word(why: Why3) -> &'static [u8]
+pub fn stuck_word(why: Why3) -> &'static [u8]
     ensures { result.now ≡ stuck_word why }
 {
     match why {

@@ -5,5 +5,5 @@ mod costs;
 mod listing;
 mod pieces;
 
-pub use costs::cost_text;
+pub use costs::{cost_text, stuck_word};
 pub use listing::list_text;

@@ -15,6 +15,7 @@ use Rattle.simdram_cli.specs.declared.words.Command.TheVariants.{Trace}
 use Rattle.simdram_cli.specs.declared.words.TraceNames.{TraceNames}
 use Rattle.simdram_cli.specs.declared.words.Command.TheVariants.{Replay}
 use Rattle.simdram_cli.specs.declared.words.Command.TheVariants.{Guard}
+use Rattle.simdram_cli.specs.declared.words.Command.TheVariants.{Verify}
 use Rattle.simdram_cli.specs.declared.words.GuardNames.{GuardNames}
 use Rattle.simdram_cli.specs.Words.{HasNumbers, IsApart, are_apart, command_of, command_on_one}
 use Rattle.simdram_cli.specs.Words.{command_on_four, command_on_two, cost_on, init_on}
@@ -26,7 +27,7 @@ use Rattle.simdram_cli.specs.declared.account.ProgramAccount.TheVariants.{Costs}
 use Rattle.simdram_cli.proofs.Accounting.{named_right}
 use Rattle.simdram_cli.specs.Accounts.{HasWidth, account_named}
 use Rattle.simdram_cli.specs.Words.{command_on_three, replay_apart}
-use Rattle.simdram_cli.specs.Words.{guard_apart, guard_on}
+use Rattle.simdram_cli.specs.Words.{guard_apart, guard_on, verify_on}
 
 -- the files of a command are apart, and its numbers are in range
 pub record IsRight (command : Command) : Type 0 where
@@ -81,6 +82,23 @@ cost_right prog width =
       );
     })
 
+verify_right : (ops prog : Bor (List ℕ)) (width : List ℕ) → AreRight (verify_on ops prog width)
+verify_right ops prog width =
+    let low = nat_le 1 (value_of width) in
+    let high = nat_le (value_of width) WIDTH_MAX in
+    no_other (bytes_eq ops.now prog.now) _ (λ apart.
+    if_so (is_number width && (low && high)) (Verify (record
+    { ops = ops; prog = prog; n = value_of width }))
+    (λ e. record {
+      apart = apart;
+      numbers = (
+        leb-true 1 (value_of width)
+            (first_holds low high (second_holds (is_number width) (low && high) e)),
+        leb-true (value_of width) WIDTH_MAX
+            (second_holds low high (second_holds (is_number width) (low && high) e)),
+      );
+    }))
+
 init_right : (banks rows words : List ℕ) (out : Bor (List ℕ))
     → AreRight (init_on banks rows words out)
 init_right banks rows words out =
@@ -129,11 +147,13 @@ on_three_right : (verb : List ℕ) (first second third : Bor (List ℕ))
     → AreRight (command_on_three verb first second third)
 on_three_right verb first second third =
     let apart = replay_apart first.now second.now third.now in
+    either (bytes_eq verb (codes "verify")) (verify_on first second third.now) _
+    (verify_right first second third.now) (λ other.
     if_so (bytes_eq verb (codes "replay") && apart) (Replay (record
     { trace = first; image = second; out = third })) (λ e. record {
       apart = second_holds (bytes_eq verb (codes "replay")) apart e;
       numbers = tt;
-    })
+    }))
 
 on_four_right : (verb : List ℕ) (first second third fourth : Bor (List ℕ))
     → AreRight (command_on_four verb first second third fourth)

@@ -9,6 +9,7 @@ use Rattle.simdram_cli.specs.declared.words.Command.{Command}
 use Rattle.simdram_cli.specs.declared.words.Command.TheVariants.{Run, Exec, Compile, Migrate}
 use Rattle.simdram_cli.specs.declared.words.Command.TheVariants.{Account as AccountOf, Init, Soak}
 use Rattle.simdram_cli.specs.declared.words.Command.TheVariants.{Guard, Replay, Scan, Trace}
+use Rattle.simdram_cli.specs.declared.words.Command.TheVariants.{Verify}
 use Rattle.simdram_cli.specs.Accounts.{account_plan}
 use Rattle.simdram_cli.specs.Commands.{CommandEnds, OnCommand}
 use Rattle.simdram_cli.specs.Compile.{compile_plan}
@@ -22,6 +23,7 @@ use Rattle.simdram_cli.specs.Run.{run_plan}
 use Rattle.simdram_cli.specs.Scan.{scan_plan}
 use Rattle.simdram_cli.specs.Soak.{soak_plan}
 use Rattle.simdram_cli.specs.Tracing.{trace_plan}
+use Rattle.simdram_cli.specs.Verify.{verify_plan}
 use Rattle.simdram_cli.specs.Words.{command_of, IsApart}
 use Rattle.simdram_cli.proofs.Accounting.{account_good, account_takes}
 use Rattle.simdram_cli.proofs.Commanding.{command_right}
@@ -39,6 +41,7 @@ use Rattle.simdram_cli.proofs.Running.{apart}
 use Rattle.simdram_cli.proofs.Scanning.{scan_good, scan_takes}
 use Rattle.simdram_cli.proofs.Soaking.{soak_good}
 use Rattle.simdram_cli.proofs.TracePlanned.{trace_good, trace_takes}
+use Rattle.simdram_cli.proofs.Verifying.{verify_good, verify_takes}
 
 -- a command is done where its files are good and nothing failed, or answers 10
 pub completes : (command : Command) (old new : World) (status : ℕ) → IsApart command
@@ -76,6 +79,9 @@ completes (Replay names) old new status are e = λ good n.
 completes (Guard names) old new status are e = λ good n.
     plan_completes (IsOneOf (10 ∷ 0 ∷ 8 ∷ 17 ∷ [])) (guard_plan names) old new status
     (guard_good names old.files.holds (guard_files_apart names are).others good) refl n e
+completes (Verify names) old new status are e = λ good n.
+    plan_completes (IsOneOf (10 ∷ 0 ∷ 19 ∷ 20 ∷ [])) (verify_plan names) old new status
+    (verify_good names old.files.holds good) refl n e
 
 -- what want of memory leaves
 pub spares : (command : Command) (old new : World) (status : ℕ)
@@ -102,6 +108,8 @@ spares (Replay names) old new status e =
     plan_spares None (replay_plan names) old new status (replay_takes names) e
 spares (Guard names) old new status e =
     plan_spares (Some names.prog.now) (guard_plan names) old new status (guard_takes names) e
+spares (Verify names) old new status e =
+    plan_spares None (verify_plan names) old new status (verify_takes names) e
 
 -- on the words of a command
 

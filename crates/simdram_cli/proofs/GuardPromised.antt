@@ -70,7 +70,7 @@ use Rattle.cli_model.proofs.Files.{at_other, at_own}
 -- what the steps send and store
 
 line_sent : (prints : Bool) (bytes : List ℕ) (rest more : List Step)
-    → sent_by (((Use ∷ line_steps prints bytes) ++ rest) ++ more)
+    → sent_by (((Use None ∷ line_steps prints bytes) ++ rest) ++ more)
     ≡ bytes ++ sent_by (rest ++ more)
 line_sent true bytes rest more = refl
 line_sent false bytes rest more = refl
@@ -91,7 +91,7 @@ script_sent g o flips k table banks (instr ∷ script) more =
     (guarded_said_in_rows g o flips (k + 1) next rows script)) (sent_by more))
 
 line_files : (prints : Bool) (bytes : List ℕ) (rest more : List Step) (f : Files)
-    → files_after (((Use ∷ line_steps prints bytes) ++ rest) ++ more) f
+    → files_after (((Use None ∷ line_steps prints bytes) ++ rest) ++ more) f
     ≡ files_after (rest ++ more) f
 line_files true bytes rest more f = refl
 line_files false bytes rest more f = refl

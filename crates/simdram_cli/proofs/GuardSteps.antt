@@ -66,7 +66,7 @@ script_are P g o flips k table banks (instr ∷ script) three nine =
     let bytes = line k (guarded_said_by g o table now instr) in
     let next = guarded_table g o table instr in
     let rows = guarded_rows g o table now instr in
-    of_more P (Use ∷ line_steps (is_print instr) bytes)
+    of_more P (Use None ∷ line_steps (is_print instr) bytes)
     (guarded_steps g o flips (k + 1) next rows script)
     (nine, line_are P (is_print instr) bytes three nine)
     (script_are P g o flips (k + 1) next rows script three nine)

@@ -46,7 +46,8 @@ use Rattle.guard_model.specs.Triples.{first_stranger}
 use Rattle.guard_job.specs.Events.{run_events}
 use Rattle.guard_job.specs.Steps.{end_by, guarded_steps}
 use Rattle.cli_model.specs.World.{World, world}
-use Rattle.cli_model.specs.Steps.{Step, Store, Open, Use, Put, Refusal, Reason}
+use Rattle.cli_model.specs.Waves.{ChipUse}
+use Rattle.cli_model.specs.Steps.{Step, Store, Use, Put, Refusal, Reason}
 use Rattle.cli_model.specs.Steps.{CannotRead, TooLong, Refused, NoMemory, CannotWrite, PutFailed}
 use Rattle.cli_model.specs.Steps.{ChipFailed, End, Done, Stopped, Goes, LoadFails, Stored, Unstored}
 use Rattle.cli_model.proofs.Going.{goes_on, stops}
@@ -69,7 +70,7 @@ use Rattle.cli_model.specs.Runs.{Runs}
 use Rattle.cli_model.proofs.Running.{runs_answered, runs_stopped, runs_then}
 use Rattle.simdram_cli.specs.Guard.{GuardDoneOn, guard_work_plan}
 use Rattle.simdram_cli.specs.Plans.{said_of}
-use Rattle.simdram_cli.specs.Job.{done_status, opened_counters}
+use Rattle.simdram_cli.specs.Job.{done_status, opened_counters, opening, reading}
 use Rattle.cli_model.specs.Reads.{LoadedAs, NotRead, ReadAs, refusal_of}
 use Rattle.simdram_cli.specs.Stops.{end_of, fault_reason, image_reason, reason_of}
 use Rattle.simdram_cli.specs.Words.{all_differ, guard_apart}
@@ -276,27 +277,30 @@ module _ (job : GuardJob) (shape : Geometry) (table : List Named) (now : ChipVie
 
   -- the steps at the end are those of the job
   pub last_are : (name : List ℕ) (end : End) (a b : World)
-      → Goes (Use ∷ Store name (image_bytes shape table (rows_in_banks now.banks))
+      → Goes (reading now.banks ∷ Store name (image_bytes shape table (rows_in_banks now.banks))
       ∷ Put (vote_line votes (length job.flips))
       ∷ Put (total_line (with_reads (shape.banks * shape.rows) now.counters) refused)
       ∷ []) end a b
       → Goes (last_steps name job) end a b
   last_are name end a b g =
       subst (λ (steps : List Step). Goes steps end a b)
-      (ap (λ (bytes : List ℕ). Use ∷ Store name bytes
+      (ap (λ (bytes : List ℕ). reading now.banks ∷ Store name bytes
       ∷ Put (vote_line votes (length job.flips))
       ∷ Put (total_line (with_reads (shape.banks * shape.rows) now.counters) refused)
       ∷ []) own_image
-      ∙ ap (λ (n : ℕ). Use ∷ Store name (image_at_last job)
+      ∙ ap (λ (n : ℕ). reading now.banks ∷ Store name (image_at_last job)
       ∷ Put (vote_line n (length job.flips))
       ∷ Put (total_line (with_reads (shape.banks * shape.rows) now.counters) refused)
       ∷ []) w.votes_is
-      ∙ ap (λ (k : Counters). Use ∷ Store name (image_at_last job)
+      ∙ ap (λ (k : Counters). reading now.banks ∷ Store name (image_at_last job)
       ∷ Put (vote_line (votes_of job) (length job.flips)) ∷ Put (total_line k refused) ∷ [])
       own_tally
-      ∙ ap (λ (n : ℕ). Use ∷ Store name (image_at_last job)
+      ∙ ap (λ (n : ℕ). reading now.banks ∷ Store name (image_at_last job)
       ∷ Put (vote_line (votes_of job) (length job.flips)) ∷ Put (total_line (tally_of job) n) ∷ [])
-      w.refused_is) g
+      w.refused_is
+      ∙ ap (λ (b : Banks). reading b ∷ Store name (image_at_last job)
+      ∷ Put (vote_line (votes_of job) (length job.flips))
+      ∷ Put (total_line (tally_of job) (refused_of job)) ∷ []) w.banks) g
 
   -- what stands when all is done
   pub all_done : (start last : ChipView) → OpenedOn job.image start → Kept start last
@@ -322,8 +326,8 @@ script_are job m start end a b k g = rw (k.machine_is, k.opened_on.banks) at g
 
 -- a run that stopped at the opening or in the script, or went on to its end
 pub stopped_open : (name : List ℕ) (job : GuardJob) (reason : Reason) (a b : World)
-    → Goes (Open ∷ []) (Stopped reason) a b → Goes (work_steps name job) (Stopped reason) a b
-stopped_open name job reason a b g = stops (Open ∷ []) (guarded_steps job.image.geometry
+    → Goes (opening job.image ∷ []) (Stopped reason) a b → Goes (work_steps name job) (Stopped reason) a b
+stopped_open name job reason a b g = stops (opening job.image ∷ []) (guarded_steps job.image.geometry
     (routines_in job.program) job.flips 1 job.image.table (opened job.image) job.script
     ++ last_steps name job) reason a b g
 
@@ -333,26 +337,26 @@ fault_end X step_fault.ChipFault reason e = ap Stopped (sym e)
 fault_end X step_fault.WriteFault reason e = ap Stopped (sym e)
 
 pub stopped_work : (X : Type 0) (name : List ℕ) (job : GuardJob) (fault : StepFault)
-    (reason : Reason) (a b c : World) → reason ≡ fault_reason fault → Goes (Open ∷ []) Done a b
+    (reason : Reason) (a b c : World) → reason ≡ fault_reason fault → Goes (opening job.image ∷ []) Done a b
     → Goes (guarded_steps job.image.geometry (routines_in job.program) job.flips 1
     job.image.table (opened job.image) job.script) (end_by {X = X} (Err fault)) b c
     → Goes (work_steps name job) (Stopped reason) a c
 stopped_work X name job fault reason a b c e g h =
     let steps = guarded_steps job.image.geometry (routines_in job.program) job.flips 1
     job.image.table (opened job.image) job.script in
-    goes_on (Open ∷ []) (steps ++ last_steps name job) (Stopped reason) a b c g
+    goes_on (opening job.image ∷ []) (steps ++ last_steps name job) (Stopped reason) a b c g
     (stops steps (last_steps name job) reason b c
     (subst (λ (end : End). Goes steps end b c) (fault_end X fault reason e) h))
 
 pub worked_on : (name : List ℕ) (job : GuardJob) (end : End) (a b c d : World)
-    → Goes (Open ∷ []) Done a b
+    → Goes (opening job.image ∷ []) Done a b
     → Goes (guarded_steps job.image.geometry (routines_in job.program) job.flips 1
     job.image.table (opened job.image) job.script) Done b c
     → Goes (last_steps name job) end c d → Goes (work_steps name job) end a d
 worked_on name job end a b c d g h k =
     let steps = guarded_steps job.image.geometry (routines_in job.program) job.flips 1
     job.image.table (opened job.image) job.script in
-    goes_on (Open ∷ []) (steps ++ last_steps name job) end a b d g
+    goes_on (opening job.image ∷ []) (steps ++ last_steps name job) end a b d g
     (goes_on steps (last_steps name job) end b c d h k)
 
 -- the end: the image is stored, and two lines are sent
@@ -385,17 +389,17 @@ puts_done first second files s t u chip p n q m = inl (
   ),
 )
 
-pub not_stored : (name bytes : List ℕ) (steps : List Step) (f g : FolderView) (s : SinkView)
+pub not_stored : (on : Option ChipUse) (name bytes : List ℕ) (steps : List Step) (f g : FolderView) (s : SinkView)
     (a b : ChipView) → a.faults ≤ b.faults → Unstored name (world f s b) (world g s b)
-    → Goes (Use ∷ Store name bytes ∷ steps) (Stopped (CannotWrite name)) (world f s a) (world g s b)
-not_stored name bytes steps f g s a b l u =
+    → Goes (Use on ∷ Store name bytes ∷ steps) (Stopped (CannotWrite name)) (world f s a) (world g s b)
+not_stored on name bytes steps f g s a b l u =
     inl (world f s b, (used f s a b l, inr (refl, u)))
 
-pub stored_then : (name bytes : List ℕ) (steps : List Step) (end : End) (f g : FolderView)
+pub stored_then : (on : Option ChipUse) (name bytes : List ℕ) (steps : List Step) (end : End) (f g : FolderView)
     (s : SinkView) (a b : ChipView) (w : World) → a.faults ≤ b.faults
     → Stored name bytes (world f s b) (world g s b) → Goes steps end (world g s b) w
-    → Goes (Use ∷ Store name bytes ∷ steps) end (world f s a) w
-stored_then name bytes steps end f g s a b w l u h =
+    → Goes (Use on ∷ Store name bytes ∷ steps) end (world f s a) w
+stored_then on name bytes steps end f g s a b w l u h =
     inl (world f s b, (used f s a b l, inl (world g s b, (u, h))))
 
 -- FLIPS, and the job that it makes

@@ -15,11 +15,11 @@ abbrev pub IsNoStore : Step → Type 0
 IsNoStore (Store name bytes) = ⊥
 IsNoStore (Load name limit text refusal) = Unit {0}
 IsNoStore Take = Unit {0}
-IsNoStore Open = Unit {0}
-IsNoStore Use = Unit {0}
+IsNoStore (Open on) = Unit {0}
+IsNoStore (Use on) = Unit {0}
 IsNoStore (UseFor wave) = Unit {0}
 IsNoStore (Put bytes) = Unit {0}
-IsNoStore (Print bytes) = Unit {0}
+IsNoStore (Print on bytes) = Unit {0}
 
 -- none of these steps is
 abbrev pub StoreNone : List Step → Type 0
@@ -31,11 +31,11 @@ does_keep : (step : Step) (a b : World) → IsNoStore step → StepDone step a b
 does_keep (Load name limit text refusal) a b n d = d.1.reads.files
 does_keep Take a b n d = d.files
 does_keep (Store name bytes) a b n d = absurd n
-does_keep Open a b n d = ap (λ (f : FolderView). f.holds) d.files
-does_keep Use a b n d = ap (λ (f : FolderView). f.holds) d.files
+does_keep (Open on) a b n d = ap (λ (f : FolderView). f.holds) d.files
+does_keep (Use on) a b n d = ap (λ (f : FolderView). f.holds) d.files
 does_keep (UseFor wave) a b n d = ap (λ (f : FolderView). f.holds) d.files
 does_keep (Put bytes) a b n d = ap (λ (f : FolderView). f.holds) d.files
-does_keep (Print bytes) a b n d = ap (λ (f : FolderView). f.holds) d.files
+does_keep (Print on bytes) a b n d = ap (λ (f : FolderView). f.holds) d.files
 
 load_keeps : (name : List ℕ) (limit : ℕ) (text : List ℕ) (refusal : Option Refusal)
     (reason : Reason) (a b : World) → Fails (Load name limit text refusal) reason a b
@@ -54,12 +54,12 @@ fails_keep (Load name limit text refusal) reason a b n f =
     load_keeps name limit text refusal reason a b f
 fails_keep Take reason a b n f = f.1.files
 fails_keep (Store name bytes) reason a b n f = absurd n
-fails_keep Open reason a b n (inl f) = ap (λ (w : FolderView). w.holds) f.1.files
-fails_keep Open reason a b n (inr f) = ap (λ (w : FolderView). w.holds) f.1.files
-fails_keep Use reason a b n f = ap (λ (w : FolderView). w.holds) f.1.files
+fails_keep (Open on) reason a b n (inl f) = ap (λ (w : FolderView). w.holds) f.1.files
+fails_keep (Open on) reason a b n (inr f) = ap (λ (w : FolderView). w.holds) f.1.files
+fails_keep (Use on) reason a b n f = ap (λ (w : FolderView). w.holds) f.1.files
 fails_keep (UseFor wave) reason a b n f = ap (λ (w : FolderView). w.holds) f.1.files
 fails_keep (Put bytes) reason a b n f = ap (λ (w : FolderView). w.holds) f.1.files
-fails_keep (Print bytes) reason a b n f = ap (λ (w : FolderView). w.holds) f.0.files
+fails_keep (Print on bytes) reason a b n f = ap (λ (w : FolderView). w.holds) f.0.files
 
 goes_keep : (steps : List Step) (end : End) (a b : World) → StoreNone steps → Goes steps end a b
     → b.files.holds ≡ a.files.holds

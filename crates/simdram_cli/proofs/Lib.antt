@@ -44,3 +44,4 @@ pub mod TracePlanned
 pub mod Compiled
 pub mod GuardPlanned
 pub mod RunPlanned
+pub mod Verifying

@@ -17,20 +17,20 @@ use Rattle.machine_model.specs.Script.{table_at_end}
 use Rattle.machine_model.specs.Report.{total_line}
 use Rattle.machine_model.proofs.Pieces.{events_are_steps}
 use Rattle.cli_model.specs.World.{World}
-use Rattle.cli_model.specs.Steps.{Step, Open, Use, Store, Put, End, Done, Stopped, Reason, Goes}
+use Rattle.cli_model.specs.Steps.{Step, Store, Put, End, Done, Stopped, Reason, Goes}
 use Rattle.cli_model.proofs.Going.{goes_on, stops}
 use Rattle.sim_machine.specs.declared.machine.Machine.{Machine}
 use Rattle.sim_machine.specs.Machine.{GoesOn, geometry_of, operations_by, table_in, turn_in}
 use Rattle.sim_machine.specs.Opening.{machine_on}
 use Rattle.sim_machine.specs.Steps.{DidAndRead}
 use Rattle.simdram_cli.specs.Job.{image_by, pieces_steps, refused_by, script_steps, tally_by}
-use Rattle.simdram_cli.specs.Job.{work_steps}
+use Rattle.simdram_cli.specs.Job.{opening, reading, reading_by, work_steps}
 use Rattle.simdram_cli.specs.Works.{OpenedOn, WorkDone}
 use Rattle.simdram_cli.proofs.Progress.{Holds}
 use Rattle.simdram_cli.proofs.Tallies.{tally_is, work_done}
 
 abbrev pub last_steps : List ℕ → Program → List Instruction → Image → List Step
-last_steps name program script i = Use ∷ Store name (image_by program script i)
+last_steps name program script i = reading_by program script i ∷ Store name (image_by program script i)
     ∷ Put (total_line (tally_by program script i) (refused_by program script i)) ∷ []
 
 -- what stands before the end of a job, with a machine of this shape and table
@@ -47,17 +47,20 @@ pub record Worked (program : Program) (script : List Instruction) (i : Image) (s
 module _ (program : Program) (script : List Instruction) (i : Image) (shape : Geometry)
     (table : List Named) (start now : ChipView) (refused : ℕ)
     (w : Worked program script i shape table start now refused) where
+  own_banks : now.banks ≡ banks_at_end i.geometry (routines_in program) i.table (opened i) script
+  own_banks =
+      let o = routines_in program in
+      let events = script_events i.geometry o i.table script in
+      w.did.banks ∙ ap (after events) w.opened_on.banks
+      ∙ events_are_steps i.geometry o Ahead i.table script (opened i) w.holds.words w.holds.fits
+
   own_image : image_bytes shape table (rows_in_banks now.banks) ≡ image_by program script i
   own_image =
       let o = routines_in program in
-      let events = script_events i.geometry o i.table script in
-      let banks : now.banks ≡ banks_at_end i.geometry o i.table (opened i) script =
-      w.did.banks ∙ ap (after events) w.opened_on.banks
-      ∙ events_are_steps i.geometry o Ahead i.table script (opened i) w.holds.words w.holds.fits in
       ap (λ (s : Geometry). image_bytes s table (rows_in_banks now.banks)) w.shape_is
       ∙ ap (λ (t : List Named). image_bytes i.geometry t (rows_in_banks now.banks)) w.table_is
       ∙ ap (λ (b : Banks). image_bytes i.geometry (table_at_end i.geometry o i.table script)
-      (rows_in_banks b)) banks
+      (rows_in_banks b)) own_banks
 
   own_tally : with_reads (shape.banks * shape.rows) now.counters ≡ tally_by program script i
   own_tally =
@@ -71,19 +74,22 @@ module _ (program : Program) (script : List Instruction) (i : Image) (shape : Ge
 
   -- the steps at the end are those of the job
   pub last_are : (name : List ℕ) (end : End) (a b : World)
-      → Goes (Use ∷ Store name (image_bytes shape table (rows_in_banks now.banks))
+      → Goes (reading now.banks ∷ Store name (image_bytes shape table (rows_in_banks now.banks))
       ∷ Put (total_line (with_reads (shape.banks * shape.rows) now.counters) refused)
       ∷ []) end a b
       → Goes (last_steps name program script i) end a b
   last_are name end a b g =
       subst (λ (steps : List Step). Goes steps end a b)
-      (ap (λ (bytes : List ℕ). Use ∷ Store name bytes
+      (ap (λ (bytes : List ℕ). reading now.banks ∷ Store name bytes
       ∷ Put (total_line (with_reads (shape.banks * shape.rows) now.counters) refused)
       ∷ []) own_image
-      ∙ ap (λ (k : Counters). Use ∷ Store name (image_by program script i)
+      ∙ ap (λ (k : Counters). reading now.banks ∷ Store name (image_by program script i)
       ∷ Put (total_line k refused) ∷ []) own_tally
-      ∙ ap (λ (n : ℕ). Use ∷ Store name (image_by program script i)
-      ∷ Put (total_line (tally_by program script i) n) ∷ []) w.refused_is) g
+      ∙ ap (λ (n : ℕ). reading now.banks ∷ Store name (image_by program script i)
+      ∷ Put (total_line (tally_by program script i) n) ∷ []) w.refused_is
+      ∙ ap (λ (b : Banks). reading b ∷ Store name (image_by program script i)
+      ∷ Put (total_line (tally_by program script i) (refused_by program script i)) ∷ [])
+      own_banks) g
 
   -- what stands when all is done
   pub all_done : (last : ChipView) → DidRead (shape.banks * shape.rows) now last
@@ -124,29 +130,29 @@ lines_are program script i m banks end a b e s g = rw (e, s) at g
 
 -- a run that stopped at the opening, in the script, or went on to its end
 pub stopped_open : (name : List ℕ) (program : Program) (script : List Instruction) (i : Image)
-    (reason : Reason) (a b : World) → Goes (Open ∷ []) (Stopped reason) a b
+    (reason : Reason) (a b : World) → Goes (opening i ∷ []) (Stopped reason) a b
     → Goes (work_steps name program script i) (Stopped reason) a b
 stopped_open name program script i reason a b g =
-    stops (Open ∷ []) (script_steps program script i ++ last_steps name program script i)
+    stops (opening i ∷ []) (script_steps program script i ++ last_steps name program script i)
     reason a b g
 
 pub stopped_work : (name : List ℕ) (program : Program) (script : List Instruction) (i : Image)
-    (reason : Reason) (a b c : World) → Goes (Open ∷ []) Done a b
+    (reason : Reason) (a b c : World) → Goes (opening i ∷ []) Done a b
     → Goes (script_steps program script i) (Stopped reason) b c
     → Goes (work_steps name program script i) (Stopped reason) a c
 stopped_work name program script i reason a b c g h =
-    goes_on (Open ∷ []) (script_steps program script i
+    goes_on (opening i ∷ []) (script_steps program script i
     ++ last_steps name program script i) (Stopped reason) a b c g
     (stops (script_steps program script i) (last_steps name program script i) reason b
     c h)
 
 pub went_on : (name : List ℕ) (program : Program) (script : List Instruction) (i : Image)
-    (end : End) (a b c d : World) → Goes (Open ∷ []) Done a b
+    (end : End) (a b c d : World) → Goes (opening i ∷ []) Done a b
     → Goes (script_steps program script i) Done b c
     → Goes (last_steps name program script i) end c d
     → Goes (work_steps name program script i) end a d
 went_on name program script i end a b c d g h k =
-    goes_on (Open ∷ []) (script_steps program script i
+    goes_on (opening i ∷ []) (script_steps program script i
     ++ last_steps name program script i) end a b d g
     (goes_on (script_steps program script i) (last_steps name program script i) end b
     c d h k)

@@ -3,7 +3,7 @@ use Rattle.std.proofs.Common.{◌≡◌, ℕ, suc, ◌+◌, ◌<◌, ◌≤◌, 
 use Rattle.std.proofs.Common.{[]}
 use Rattle.std.proofs.Common.{◌∷◌, ◌++◌, map, drop, take, length, refl, sym, ◌∙◌, ap, subst, arith}
 use Rattle.std.proofs.Common.{append-nil, inl, inr}
-use Rattle.std.specs.Prelude.{count_by, flat_map, min}
+use Rattle.std.specs.Prelude.{Option, count_by, flat_map, min}
 use Rattle.std.specs.List.{AllByRecursion, prefix_len}
 use Rattle.std.proofs.lemmas.Bool.{cases_lt}
 use Rattle.std.proofs.lemmas.List.{length-take-le, take-map}
@@ -26,7 +26,8 @@ use Rattle.machine_model.specs.Routines.{Routines}
 use Rattle.machine_model.specs.Script.{is_bbop, banks_at_end, table_at_end}
 use Rattle.machine_model.specs.Pieces.{AreBbops, Piece, Wave, Alone, IsPiece, instrs_in, pieces}
 use Rattle.wave_model.specs.Schedule.{Turn}
-use Rattle.machine_model.specs.Pieces.{turn_after, wave_size}
+use Rattle.machine_model.specs.Pieces.{piece_events, turn_after, wave_size}
+use Rattle.cli_model.specs.Waves.{ChipUse, doing}
 use Rattle.machine_model.specs.Report.{Said, said_by, said_in_rows, line, lines}
 use Rattle.machine_model.specs.Steps.{banks_after, table_after}
 use Rattle.machine_model.proofs.Cut.{alone_cut, wave_cut, wave_is_piece}
@@ -231,9 +232,10 @@ sent_lines number [] = refl
 sent_lines number (said ∷ rest) =
     ap (λ w. line number said ++ w) (sent_lines (number + 1) rest)
 
-sent_instr : (prints : Bool) (bytes : List ℕ) → sent_by (instr_steps prints bytes) ≡ bytes
-sent_instr true bytes = append-nil bytes
-sent_instr false bytes = append-nil bytes
+sent_instr : (on : Option ChipUse) (prints : Bool) (bytes : List ℕ)
+    → sent_by (instr_steps on prints bytes) ≡ bytes
+sent_instr on true bytes = append-nil bytes
+sent_instr on false bytes = append-nil bytes
 
 sent_piece : (g : Geometry) (o : Routines) (turn : Turn) (table : List Named) (banks : Banks)
     (number : ℕ) (piece : Piece) → sent_by (piece_steps g o turn table banks number piece)
@@ -242,7 +244,8 @@ sent_piece g o turn table banks number (Wave wave) =
     sent_lines number (said_in_rows g o table banks wave)
 sent_piece g o turn table banks number (Alone instr) =
     let bytes = line number (said_by g o table banks instr) in
-    sent_instr (is_print instr) bytes ∙ sym (append-nil bytes)
+    sent_instr (doing banks (piece_events g o turn table (Alone instr))) (is_print instr) bytes
+    ∙ sym (append-nil bytes)
 
 said_count : (g : Geometry) (o : Routines) (table : List Named) (banks : Banks)
     (script : List Instruction) → length (said_in_rows g o table banks script) ≡ length script

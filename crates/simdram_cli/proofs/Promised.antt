@@ -15,16 +15,18 @@ use Rattle.machine_model.specs.Agrees.{IsPlain}
 use Rattle.machine_model.specs.Routines.{Program, Routines, routines_in}
 use Rattle.machine_model.specs.Opened.{Image, opened}
 use Rattle.wave_model.specs.Schedule.{Turn, Ahead}
-use Rattle.machine_model.specs.Pieces.{Piece, Wave, Alone, instrs_in, pieces, turn_after}
+use Rattle.machine_model.specs.Pieces.{Piece, Wave, Alone, instrs_in, piece_events, pieces, turn_after}
 use Rattle.machine_model.specs.Report.{Said, line, lines, said_by, said_in_rows, total_line}
 use Rattle.machine_model.specs.Script.{banks_at_end, table_at_end}
 use Rattle.cli_model.specs.World.{with_file}
-use Rattle.cli_model.specs.Steps.{Store, Use, Put}
+use Rattle.std.specs.Prelude.{Option}
+use Rattle.cli_model.specs.Waves.{ChipUse, doing}
+use Rattle.cli_model.specs.Steps.{Store, Put}
 use Rattle.cli_model.specs.Stands.{files_after, sent_by}
 use Rattle.sim_machine.specs.Machine.{is_print}
 use Rattle.simdram_cli.specs.Job.{done_status, image_by, instr_steps}
 use Rattle.simdram_cli.specs.Job.{piece_steps, pieces_steps, put_lines, refused_by, said_in}
-use Rattle.simdram_cli.specs.Job.{script_steps, tally_by, work_steps}
+use Rattle.simdram_cli.specs.Job.{reading_by, script_steps, tally_by, work_steps}
 use Rattle.simdram_cli.specs.Works.{WorkDone}
 use Rattle.simdram_cli.specs.Headline.{RepliesExact}
 use Rattle.simdram_cli.proofs.Piecewise.{sent_script}
@@ -41,10 +43,10 @@ lines_files : (number : ℕ) (said : List Said) (f : Files)
 lines_files number [] f = refl
 lines_files number (s ∷ said) f = lines_files (number + 1) said f
 
-instr_files : (prints : Bool) (bytes : List ℕ) (f : Files)
-    → files_after (instr_steps prints bytes) f ≡ f
-instr_files true bytes f = refl
-instr_files false bytes f = refl
+instr_files : (on : Option ChipUse) (prints : Bool) (bytes : List ℕ) (f : Files)
+    → files_after (instr_steps on prints bytes) f ≡ f
+instr_files on true bytes f = refl
+instr_files on false bytes f = refl
 
 piece_files : (g : Geometry) (o : Routines) (turn : Turn) (table : List Named) (banks : Banks)
     (number : ℕ) (piece : Piece) (f : Files)
@@ -52,7 +54,8 @@ piece_files : (g : Geometry) (o : Routines) (turn : Turn) (table : List Named) (
 piece_files g o turn table banks number (Wave wave) f =
     lines_files number (said_in_rows g o table banks wave) f
 piece_files g o turn table banks number (Alone instr) f =
-    instr_files (is_print instr) (line number (said_by g o table banks instr)) f
+    instr_files (doing banks (piece_events g o turn table (Alone instr))) (is_print instr)
+    (line number (said_by g o table banks instr)) f
 
 pub pieces_files : (g : Geometry) (o : Routines) (turn : Turn) (table : List Named) (banks : Banks)
     (number : ℕ) (pieces : List Piece) (f : Files)
@@ -71,7 +74,7 @@ pub work_files : (out : List ℕ) (program : Program) (script : List Instruction
     (f : Files) → files_after (work_steps out program script i) f
     ≡ with_file out (image_by program script i) f
 work_files out program script i f =
-    let last = Use ∷ Store out (image_by program script i)
+    let last = reading_by program script i ∷ Store out (image_by program script i)
     ∷ Put (total_line (tally_by program script i) (refused_by program script i)) ∷ [] in
     files_append (script_steps program script i) last f
     ∙ ap (files_after last) (pieces_files i.geometry (routines_in program) Ahead i.table (opened i) 1
@@ -82,7 +85,7 @@ pub work_sent : (out : List ℕ) (program : Program) (script : List Instruction)
     ++ total_line (tally_by program script i) (refused_by program script i)
 work_sent out program script i =
     let total = total_line (tally_by program script i) (refused_by program script i) in
-    sent_append (script_steps program script i) (Use ∷ Store out (image_by program script i)
+    sent_append (script_steps program script i) (reading_by program script i ∷ Store out (image_by program script i)
     ∷ Put total ∷ [])
     ∙ ap (λ w. w ++ (total ++ [])) (sent_script i.geometry (routines_in program) Ahead i.table
     (opened i) script)

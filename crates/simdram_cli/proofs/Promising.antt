@@ -7,6 +7,7 @@ use Rattle.simdram_cli.specs.declared.words.Command.{Command}
 use Rattle.simdram_cli.specs.declared.words.Command.TheVariants.{Run, Exec, Compile, Migrate}
 use Rattle.simdram_cli.specs.declared.words.Command.TheVariants.{Account as AccountOf, Init, Soak}
 use Rattle.simdram_cli.specs.declared.words.Command.TheVariants.{Guard, Replay, Scan, Trace}
+use Rattle.simdram_cli.specs.declared.words.Command.TheVariants.{Verify}
 use Rattle.simdram_cli.specs.Accounts.{account_plan}
 use Rattle.simdram_cli.specs.Commands.{CanAnswer, CommandEnds, OnCommand, Promises}
 use Rattle.simdram_cli.specs.Compile.{compile_plan}
@@ -37,6 +38,7 @@ use Rattle.simdram_cli.proofs.Scanning.{scan_gives, scanned}
 use Rattle.simdram_cli.proofs.Soaking.{soak_gives, soaked}
 use Rattle.simdram_cli.proofs.TracePlanned.{trace_gives}
 use Rattle.simdram_cli.proofs.Traced.{traced}
+use Rattle.simdram_cli.proofs.Verifying.{verified, verify_can, verify_done}
 
 -- a command answers one of its statuses
 pub can_answer : (command : Command) (old new : World) (status : ℕ)
@@ -64,6 +66,7 @@ can_answer (Replay names) old new status e =
     plan_can (Replay names) (replay_plan names) old new status (replay_gives names) e
 can_answer (Guard names) old new status e =
     plan_can (Guard names) (guard_plan names) old new status (guard_gives names) e
+can_answer (Verify names) old new status e = verify_can names old new status e
 
 not_one : (command : Command) (status : ℕ) → CanAnswer command status → status ≡ 1 → ⊥
 not_one (Run names) status can e =
@@ -88,6 +91,8 @@ not_one (Replay names) status can e =
     let one : CanAnswer (Replay names) 1 = subst (CanAnswer (Replay names)) e can in cc
 not_one (Guard names) status can e =
     let one : CanAnswer (Guard names) 1 = subst (CanAnswer (Guard names)) e can in cc
+not_one (Verify names) status can e =
+    let one : CanAnswer (Verify names) 1 = subst (CanAnswer (Verify names)) e can in cc
 
 no_command : (words : List (Bor (List ℕ))) (o : Option Command) (status : ℕ) → command_of words ≡ o
     → OnCommand words (λ command. CanAnswer command status) → status ≡ 1
@@ -136,6 +141,8 @@ promises (Replay names) old new status are e = λ is.
 promises (Guard names) old new status are e = λ is.
     guard_promised names old new status (guard_files_apart names are)
     (plan_done (Guard names) (guard_plan names) old new status (guard_gives names) is e)
+promises (Verify names) old new status are e = λ is.
+    verified names old new status (verify_done names old new status is e)
 
 -- the words are this command and no other
 pub on_command : (words : List (Bor (List ℕ))) (command : Command) (P : Command → Type 0)

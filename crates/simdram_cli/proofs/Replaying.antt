@@ -14,7 +14,10 @@ use Rattle.dram_model.specs.declared.dram.Counters.{Counters}
 use Rattle.dram_model.specs.declared.geometry.Geometry.{Geometry}
 use Rattle.dram_model.specs.Chip.{Banks, Event, after, all_counted, counted}
 use Rattle.dram_model.specs.Chip.Event.{Row, Write}
-use Rattle.dram_model.specs.View.{ChipView, Did, DidRead, with_reads, Kept}
+use Rattle.transpose_unit.specs.Stopped.{StoppedWithin}
+use Rattle.dram_model.specs.View.{ChipView, Did, DidRead, StoppedIn, with_reads, Kept}
+use Rattle.transpose_unit.proofs.Stopping.{stopped_at_event}
+use Rattle.trace_model.specs.Replay.{replayed}
 use Rattle.object_alloc.specs.declared.fault.ImageNo.{ImageNo}
 use Rattle.object_alloc.specs.declared.fault.ImageNo.TheVariants as no
 use Rattle.object_alloc.specs.Listed.{Named}
@@ -22,14 +25,15 @@ use Rattle.object_alloc.specs.Reading.{Found, ImageFault, image_in, IsFault}
 use Rattle.object_alloc.specs.Spelling.{image_bytes}
 use Rattle.uprog_bin.specs.Opened.{IsProgramFile}
 use Rattle.uprog_bin.specs.Spelling.{program_bytes}
-use Rattle.machine_model.specs.Opened.{Image, row_writes, rows_in_banks}
+use Rattle.machine_model.specs.Opened.{Image, opened, row_writes, rows_in_banks}
 use Rattle.trace_model.specs.Reading.{TraceFault, trace_in as trace_read}
 use Rattle.trace_model.specs.Spelling.{IsTrace, Trace, bytes_of_trace}
 use Rattle.cmd_trace.specs.declared.fault.TraceNo.{TraceNo}
 use Rattle.cmd_trace.specs.declared.fault.TraceNo.TheVariants as trace_no
 use Rattle.cmd_trace.specs.Opened.{IsFault as IsTraceFault}
 use Rattle.cli_model.specs.World.{World, world}
-use Rattle.cli_model.specs.Steps.{Store, Open, Use, Put, Refusal, Reason}
+use Rattle.cli_model.specs.Waves.{doing}
+use Rattle.cli_model.specs.Steps.{Step, Store, Use, Put, Refusal, Reason}
 use Rattle.cli_model.specs.Steps.{CannotWrite, PutFailed, ChipFailed, End, Done, Stopped}
 use Rattle.cli_model.specs.Steps.{Goes, Stored, Unstored}
 use Rattle.cli_model.specs.Faultless.{file_in}
@@ -49,9 +53,9 @@ use Rattle.simdram_cli.specs.declared.stop.Stop.{Stop}
 use Rattle.simdram_cli.specs.Complete.{AreGood, IsImageFile}
 use Rattle.simdram_cli.specs.Headline.{read_as}
 use Rattle.simdram_cli.specs.Inputs.{image_found, image_of, image_or_refusal, image_refusal}
-use Rattle.simdram_cli.specs.Job.{opened_counters}
+use Rattle.simdram_cli.specs.Job.{opened_counters, opening, reading}
 use Rattle.simdram_cli.specs.Plans.{said_of}
-use Rattle.simdram_cli.specs.Replay.{EventsDone, Replayed, events_plan, events_steps}
+use Rattle.simdram_cli.specs.Replay.{EventsDone, Replayed, events_plan, events_steps, replay_steps}
 use Rattle.simdram_cli.specs.Replay.{image_replayed, is_aap, is_ap, is_write}
 use Rattle.simdram_cli.specs.Replay.{replay_counters, replay_image_plan, replay_line, replay_plan}
 use Rattle.simdram_cli.specs.Stops.{image_reason, reason_of, trace_reason}
@@ -61,6 +65,7 @@ use Rattle.simdram_cli.specs.Works.{OpenedOn}
 use Rattle.simdram_cli.proofs.Completes.{IsOneOf}
 use Rattle.simdram_cli.proofs.JobPlans.{good_file}
 use Rattle.simdram_cli.proofs.Planned.{GivesOwn, IsFailing}
+use Rattle.simdram_cli.proofs.Sending.{left_by}
 use Rattle.simdram_cli.proofs.Stores.{sent, used}
 use Rattle.simdram_cli.proofs.Tallies.{both, log_is}
 
@@ -174,35 +179,60 @@ reads_still events i a b o did =
 
 -- the rows
 
-pub rows_unopened : (reason : Reason) (a b : World) → Goes (Open ∷ []) (Stopped reason) a b
-    → Goes (Open ∷ Use ∷ Use ∷ []) (Stopped reason) a b
-rows_unopened reason a b g = stops (Open ∷ []) (Use ∷ Use ∷ []) reason a b g
+-- the steps after the opening
+abbrev rest_of : Trace → Image → List Step
+rest_of t i = Use (doing (opened i) t.events) ∷ reading (replayed t.events i) ∷ []
 
-pub events_failed : (files : FolderView) (sink : SinkView) (before a b : ChipView)
-    → Goes (Open ∷ []) Done (world files sink before) (world files sink a) → a.faults ≤ b.faults
-    → Rose a.faults b.faults
-    → Goes (Open ∷ Use ∷ Use ∷ []) (Stopped ChipFailed) (world files sink before)
-    (world files sink b)
-events_failed files sink before a b g l r =
-    goes_on (Open ∷ []) (Use ∷ Use ∷ []) (Stopped ChipFailed) (world files sink before)
-    (world files sink a) (world files sink b) g (inr (refl, used files sink a b l, r))
+pub rows_unopened : (t : Trace) (i : Image) (reason : Reason) (a b : World)
+    → Goes (opening i ∷ []) (Stopped reason) a b → Goes (replay_steps t i) (Stopped reason) a b
+rows_unopened t i reason a b g = stops (opening i ∷ []) (rest_of t i) reason a b g
 
-pub reads_failed : (files : FolderView) (sink : SinkView) (before a b c : ChipView)
-    → Goes (Open ∷ []) Done (world files sink before) (world files sink a) → a.faults ≤ b.faults
-    → b.faults ≤ c.faults → Rose b.faults c.faults
-    → Goes (Open ∷ Use ∷ Use ∷ []) (Stopped ChipFailed) (world files sink before)
-    (world files sink c)
-reads_failed files sink before a b c g l m r =
-    goes_on (Open ∷ []) (Use ∷ Use ∷ []) (Stopped ChipFailed) (world files sink before)
-    (world files sink a) (world files sink c) g
-    (inl (world files sink b, (used files sink a b l, inr (refl, used files sink b c m, r))))
+pub events_failed : (t : Trace) (i : Image) (files : FolderView) (sink : SinkView)
+    (before a b : ChipView)
+    → Goes (opening i ∷ []) Done (world files sink before) (world files sink a)
+    → a.faults ≤ b.faults → OpenedOn i a → StoppedIn t.events a b
+    → Goes (replay_steps t i) (Stopped ChipFailed) (world files sink before) (world files sink b)
+events_failed t i files sink before a b g l o s =
+    goes_on (opening i ∷ []) (rest_of t i) (Stopped ChipFailed) (world files sink before)
+    (world files sink a) (world files sink b) g (inr (
+      refl,
+      used files sink a b l,
+      s.rose,
+      left_by t.events (opened i) b.banks
+          (subst (λ (banks : Banks). StoppedWithin t.events banks b.banks) o.banks
+          (stopped_at_event t.events a b s)),
+    ))
 
-pub rows_read : (files : FolderView) (sink : SinkView) (before a b c : ChipView)
-    → Goes (Open ∷ []) Done (world files sink before) (world files sink a) → a.faults ≤ b.faults
-    → b.faults ≤ c.faults
-    → Goes (Open ∷ Use ∷ Use ∷ []) Done (world files sink before) (world files sink c)
-rows_read files sink before a b c g l m =
-    goes_on (Open ∷ []) (Use ∷ Use ∷ []) Done (world files sink before) (world files sink a)
+pub reads_failed : (t : Trace) (i : Image) (files : FolderView) (sink : SinkView)
+    (before a b c : ChipView)
+    → Goes (opening i ∷ []) Done (world files sink before) (world files sink a)
+    → a.faults ≤ b.faults → b.faults ≤ c.faults → OpenedOn i a → Did t.events a b
+    → Rose b.faults c.faults → StoppedWithin [] b.banks c.banks
+    → Goes (replay_steps t i) (Stopped ChipFailed) (world files sink before) (world files sink c)
+reads_failed t i files sink before a b c g l m o did r s =
+    goes_on (opening i ∷ []) (rest_of t i) (Stopped ChipFailed) (world files sink before)
+    (world files sink a) (world files sink c) g (inl (
+      world files sink b,
+      (
+        used files sink a b l,
+        inr (
+          refl,
+          used files sink b c m,
+          r,
+          left_by [] (replayed t.events i) c.banks
+              (subst (λ (banks : Banks). StoppedWithin [] banks c.banks)
+              (did.banks ∙ ap (after t.events) o.banks) s),
+        ),
+      ),
+    ))
+
+pub rows_read : (t : Trace) (i : Image) (files : FolderView) (sink : SinkView)
+    (before a b c : ChipView)
+    → Goes (opening i ∷ []) Done (world files sink before) (world files sink a)
+    → a.faults ≤ b.faults → b.faults ≤ c.faults
+    → Goes (replay_steps t i) Done (world files sink before) (world files sink c)
+rows_read t i files sink before a b c g l m =
+    goes_on (opening i ∷ []) (rest_of t i) Done (world files sink before) (world files sink a)
     (world files sink c) g
     (inl (
       world files sink b,
@@ -263,18 +293,18 @@ all_put name bytes line f g s t k u p n =
 -- the events on an image
 
 pub on_unread : (out : List ℕ) (t : Trace) (i : Image) (reason : Reason) (a b : World)
-    → Goes (Open ∷ Use ∷ Use ∷ []) (Stopped reason) a b
+    → Goes (replay_steps t i) (Stopped reason) a b
     → Goes (events_steps out t i) (Stopped reason) a b
 on_unread out t i reason a b g =
-    stops (Open ∷ Use ∷ Use ∷ []) (Store out (image_replayed t i)
+    stops (replay_steps t i) (Store out (image_replayed t i)
     ∷ Put (replay_line (replay_counters t)) ∷ []) reason a b g
 
 pub on_read : (out : List ℕ) (t : Trace) (i : Image) (file : List ℕ) (k : Counters) (end : End)
-    (a b c : World) → Goes (Open ∷ Use ∷ Use ∷ []) Done a b → file ≡ image_replayed t i
+    (a b c : World) → Goes (replay_steps t i) Done a b → file ≡ image_replayed t i
     → k ≡ replay_counters t → Goes (Store out file ∷ Put (replay_line k) ∷ []) end b c
     → Goes (events_steps out t i) end a c
 on_read out t i file k end a b c g f e h =
-    goes_on (Open ∷ Use ∷ Use ∷ []) (Store out (image_replayed t i)
+    goes_on (replay_steps t i) (Store out (image_replayed t i)
     ∷ Put (replay_line (replay_counters t)) ∷ []) end a b c g
     (subst (λ (x : List ℕ). Goes (Store out x ∷ Put (replay_line (replay_counters t)) ∷ []) end b c)
     f (subst (λ (x : Counters). Goes (Store out file ∷ Put (replay_line x) ∷ []) end b c) e h))

@@ -54,7 +54,7 @@ use Rattle.scan_query.specs.Running.{AreBelow}
 use Rattle.scan_query.specs.declared.query.ScanReply.{ScanReply}
 use Rattle.scan_query.specs.declared.query.ScanReply.TheVariants as reply
 use Rattle.cli_model.specs.World.{World, world}
-use Rattle.cli_model.specs.Steps.{Step, Take, Open, Refusal, Reason}
+use Rattle.cli_model.specs.Steps.{Step, Take, Refusal, Reason}
 use Rattle.cli_model.specs.Steps.{ChipFailed, End, Done, Stopped, Goes}
 use Rattle.cli_model.specs.Stands.{sent_by}
 use Rattle.cli_model.specs.Faultless.{file_in}
@@ -76,7 +76,7 @@ use Rattle.simdram_cli.specs.Commands.{CanAnswer}
 use Rattle.simdram_cli.specs.Complete.{AreGood}
 use Rattle.simdram_cli.specs.Headline.{read_as}
 use Rattle.simdram_cli.specs.Inputs.{image_found, image_of, image_or_refusal}
-use Rattle.simdram_cli.specs.Job.{opened_counters}
+use Rattle.simdram_cli.specs.Job.{opened_counters, opening}
 use Rattle.simdram_cli.specs.Plans.{said_of}
 use Rattle.simdram_cli.specs.Queries.{Asks, AsksIn, query_in, query_refusal, scan_refusal}
 use Rattle.simdram_cli.specs.Queries.{unless_broken}
@@ -201,12 +201,12 @@ pub no_stage : (program : Program) (q : Query) (i : Image) (w : World)
 no_stage program q i w = inr (refl, nothing_read w)
 
 pub not_opened : (program : Program) (q : Query) (i : Image) (why : Stop) (a b : World)
-    → Goes (Open ∷ []) (Stopped (reason_of why)) a b → AnswerGoes program q i (Err why) a b
+    → Goes (opening i ∷ []) (Stopped (reason_of why)) a b → AnswerGoes program q i (Err why) a b
 not_opened program q i why a b g = inl (
   a,
   (
     nothing_read a,
-    stops (Open ∷ []) (use_steps (checked i.table (nodes_of q))) (reason_of why) a b
+    stops (opening i ∷ []) (use_steps (checked i.table (nodes_of q))) (reason_of why) a b
         g,
   ),
 )
@@ -215,7 +215,7 @@ not_opened program q i why a b g = inl (
 use_failed : (o : Option (ScanWhy × ℕ)) (files : FolderView) (sink : SinkView) (a b : ChipView)
     → a.faults ≤ b.faults → Rose a.faults b.faults → ((fault : ScanWhy × ℕ) → o ≡ Some fault → ⊥)
     → Goes (use_steps o) (Stopped ChipFailed) (world files sink a) (world files sink b)
-use_failed None files sink a b l r none = inr (refl, used files sink a b l, r)
+use_failed None files sink a b l r none = inr (refl, used files sink a b l, r, tt)
 use_failed (Some fault) files sink a b l r none = absurd (none fault refl)
 
 use_done : (o : Option (ScanWhy × ℕ)) (files : FolderView) (sink : SinkView) (a b : ChipView)
@@ -224,10 +224,11 @@ use_done : (o : Option (ScanWhy × ℕ)) (files : FolderView) (sink : SinkView) 
 use_done None files sink a b l same = inl (world files sink b, (used files sink a b l, refl))
 use_done (Some fault) files sink a b l same = ap (world files sink) (same fault refl)
 
-taken_open : (o : Option (ScanWhy × ℕ)) (end : End) (a b c : World) → Goes (Open ∷ []) Done a b
-    → Goes (use_steps o) end b c → Goes (Take ∷ Open ∷ use_steps o) end a c
-taken_open o end a b c g h =
-    inl (a, (nothing_read a, goes_on (Open ∷ []) (use_steps o) end a b c g h))
+taken_open : (i : Image) (o : Option (ScanWhy × ℕ)) (end : End) (a b c : World)
+    → Goes (opening i ∷ []) Done a b
+    → Goes (use_steps o) end b c → Goes (Take ∷ opening i ∷ use_steps o) end a c
+taken_open i o end a b c g h =
+    inl (a, (nothing_read a, goes_on (opening i ∷ []) (use_steps o) end a b c g h))
 
 not_ok : {T E : Type 0} (r : Result T E) (e : E) (P : T → Type 0) → r ≡ Err e → IsOkAnd r P → ⊥
 not_ok (Ok x) e P is ok = absurd (cc)
@@ -257,13 +258,13 @@ checks_are program q i nodes table old new r =
 pub asked_failed : {E : Type 0} (program : Program) (q : Query) (i : Image) (nodes : List Node)
     (table : List Named) (files : FolderView) (sink : SinkView) (before old new : ChipView)
     (r : Result ScanReply E) (e : E) → RanOn program q i nodes table old new
-    → Goes (Open ∷ []) Done (world files sink before) (world files sink old)
+    → Goes (opening i ∷ []) Done (world files sink before) (world files sink old)
     → r ≡ Err e → Rose old.faults new.faults
     → ((found : ScanWhy × ℕ) → checked table nodes ≡ Some found → IsOkAnd r (λ said. new ≡ old))
     → AnswerGoes program q i (Err stop.ChipFailed) (world files sink before) (world files sink new)
 asked_failed program q i nodes table files sink before old new r e ran g is rose unused =
     let o = checked i.table (nodes_of q) in
-    taken_open o (Stopped ChipFailed) (world files sink before) (world files sink old)
+    taken_open i o (Stopped ChipFailed) (world files sink before) (world files sink old)
     (world files sink new) g
     (use_failed o files sink old new ran.faults rose (λ fault some.
     not_ok r e (λ said. new ≡ old) is (unused fault
@@ -347,7 +348,7 @@ pub asked_done : {E : Type 0} (program : Program) (q : Query) (i : Image) (nodes
     (table : List Named) (files : FolderView) (sink : SinkView) (before old new : ChipView)
     (r : Result ScanReply E) (said : ScanReply) (g : Geometry)
     → RanOn program q i nodes table old new
-    → Goes (Open ∷ []) Done (world files sink before) (world files sink old) → r ≡ Ok said
+    → Goes (opening i ∷ []) Done (world files sink before) (world files sink old) → r ≡ Ok said
     → g ≡ i.geometry → answer_of said ≡ answer_on program q i
     → CountersRose said (segments_of g (count_of table nodes)) old.counters new.counters
     → ((found : ScanWhy × ℕ) → checked table nodes ≡ Some found → IsOkAnd r (λ said. new ≡ old))
@@ -363,7 +364,7 @@ asked_done program q i nodes table files sink before old new r said g ran opens 
     ok_and r said (new ≡ old) is (unused fault
     (sym (checks_are program q i nodes table old new ran) ∙ some)) in (
       says,
-      taken_open o Done (world files sink before) (world files sink old) (world files sink new)
+      taken_open i o Done (world files sink before) (world files sink old) (world files sink new)
           opens
           (use_done o files sink old new ran.faults stays),
       record {
@@ -468,7 +469,7 @@ pub query_unasked : (program : Program) (q : Query) (i : Image) (why : Stop) (ol
 query_unasked program q i why old new does (inl (mid, (d, g))) =
     runs_then (Take ∷ []) _ _ old mid new (inl (mid, (d, refl)))
     (runs_made _ _ program _ _ _ does
-    (runs_stopped (Open ∷ use_steps (checked i.table (nodes_of q))) _ (reason_of why) mid new g))
+    (runs_stopped (opening i ∷ use_steps (checked i.table (nodes_of q))) _ (reason_of why) mid new g))
 query_unasked program q i why old new does (inr f) =
     runs_stopped (Take ∷ []) _ (reason_of why) old new (inr f)
 
@@ -491,7 +492,7 @@ query_asked program q i said result files sink after before chip does g r =
     let a = world files sink before in
     let b = world files sink chip in
     let c = world files after chip in
-    let steps = Open ∷ use_steps (checked i.table (nodes_of q)) in
+    let steps = opening i ∷ use_steps (checked i.table (nodes_of q)) in
     let left = ScanLeft program q i in
     let answered : Runs (answer_plan left (answer_on program q i)) b c (said_of result) =
     with_left left (answer_on program q i) (said_of result) b c g.2

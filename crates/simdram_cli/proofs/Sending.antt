@@ -7,7 +7,7 @@ use Rattle.host_edge.specs.Views.{FolderView, SinkView, Known, IsPrefix, Appends
 use Rattle.faults.specs.Counts.{Rose}
 use Rattle.dram_model.specs.declared.dram.Counters.{Counters}
 use Rattle.dram_model.specs.declared.geometry.Geometry.{Geometry}
-use Rattle.dram_model.specs.Chip.{Banks, Event, all_counted}
+use Rattle.dram_model.specs.Chip.{Banks, Event, all_counted, blank_banks}
 use Rattle.dram_model.specs.View.{ChipView, Did, with_reads}
 use Rattle.object_alloc.specs.Listed.{Named}
 use Rattle.bbop_isa.specs.Forms.{Instruction}
@@ -22,7 +22,10 @@ use Rattle.object_steps.specs.declared.fault.StepFault.{StepFault}
 use Rattle.object_steps.specs.declared.fault.StepFault.TheVariants as step_fault
 use Rattle.sim_machine.specs.Steps.{DidAndRead}
 use Rattle.cli_model.specs.World.{world}
-use Rattle.cli_model.specs.Waves.{ChipWave, StoppedIn}
+use Rattle.cli_model.specs.Waves.{ChipUse, ChipWave, IsLeftBy, StoppedIn, doing}
+use Rattle.transpose_unit.specs.Stopped.{StoppedWithin}
+use Rattle.sim_machine.specs.Opening.{IsLeftUnopened, all_writes}
+use Rattle.cli_model.specs.Steps.{IsLeftUnopened as IsUnopened}
 use Rattle.cli_model.specs.Steps.{Step, Use, UseFor, Put, Print, Goes, Printed, PutFailed}
 use Rattle.cli_model.specs.Steps.{ChipFailed, Done, Stopped}
 use Rattle.simdram_cli.specs.Job.{put_lines, instr_steps, piece_steps, wave_on}
@@ -146,11 +149,11 @@ printed : (R : List ℕ → List ℕ → Type 0) (files : FolderView) (s t : Sin
     → Printed R (world files s a) (world files t b)
 printed R files s t a b known l m = record { files = refl; sent = known; faults = l; chip = m }
 
-pub print_done : (bytes : List ℕ) (files : FolderView) (s t : SinkView) (a b : ChipView)
+pub print_done : (on : Option ChipUse) (bytes : List ℕ) (files : FolderView) (s t : SinkView) (a b : ChipView)
     → Known (λ before after. after ≡ before ++ bytes) s.sent t.sent → s.faults ≤ t.faults
     → a.faults ≤ b.faults
-    → Goes (Print bytes ∷ []) Done (world files s a) (world files t b)
-print_done bytes files s t a b known l m =
+    → Goes (Print on bytes ∷ []) Done (world files s a) (world files t b)
+print_done on bytes files s t a b known l m =
     inl (
       world files t b,
       (
@@ -159,19 +162,19 @@ print_done bytes files s t a b known l m =
       ),
     )
 
-pub print_unput : (bytes : List ℕ) (files : FolderView) (s t : SinkView) (a b : ChipView)
+pub print_unput : (on : Option ChipUse) (bytes : List ℕ) (files : FolderView) (s t : SinkView) (a b : ChipView)
     → Known (AppendsPart bytes) s.sent t.sent → s.faults ≤ t.faults → a.faults ≤ b.faults
     → Rose s.faults t.faults
-    → Goes (Print bytes ∷ []) (Stopped PutFailed) (world files s a) (world files t b)
-print_unput bytes files s t a b known l m rose =
+    → Goes (Print on bytes ∷ []) (Stopped PutFailed) (world files s a) (world files t b)
+print_unput on bytes files s t a b known l m rose =
     inr (printed (AppendsPart bytes) files s t a b known l m, inl (refl, rose))
 
-pub print_unread : (bytes : List ℕ) (files : FolderView) (s t : SinkView) (a b : ChipView)
+pub print_unread : (on : Option ChipUse) (bytes : List ℕ) (files : FolderView) (s t : SinkView) (a b : ChipView)
     → Known (AppendsPart bytes) s.sent t.sent → s.faults ≤ t.faults → a.faults ≤ b.faults
-    → Rose a.faults b.faults
-    → Goes (Print bytes ∷ []) (Stopped ChipFailed) (world files s a) (world files t b)
-print_unread bytes files s t a b known l m rose =
-    inr (printed (AppendsPart bytes) files s t a b known l m, inr (refl, rose))
+    → Rose a.faults b.faults → IsLeftBy on b.banks
+    → Goes (Print on bytes ∷ []) (Stopped ChipFailed) (world files s a) (world files t b)
+print_unread on bytes files s t a b known l m rose left =
+    inr (printed (AppendsPart bytes) files s t a b known l m, inr (refl, rose, left))
 
 -- a wave
 
@@ -193,13 +196,29 @@ pub wave_unput : (wave : ChipWave) (number : ℕ) (said : Said) (rest : List Sai
 wave_unput wave number said rest files s t a b m known l rose =
     inl (world files s b, (used files s a b m, lines_cut number said rest files s t b known l rose))
 
+-- as the machine says it
+pub left_by : (events : List Event) (old new : Banks) → StoppedWithin events old new
+    → IsLeftBy (doing old events) new
+left_by events old new s = record {
+  done = s.done;
+  rest = s.left;
+  all = s.all;
+  bank = s.bank;
+  others = s.others;
+}
+
+pub unopened_by : (g : Geometry) (rows : List ℕ) (chip : ChipView) → IsLeftUnopened g rows chip
+    → IsUnopened (doing (blank_banks g) (all_writes g rows)) chip
+unopened_by g rows chip (inl not) = inl not
+unopened_by g rows chip (inr s) = inr (left_by (all_writes g rows) (blank_banks g) chip.banks s)
+
 -- the chip failed, and nothing was sent
-pub unused : (steps : List Step) (files : FolderView) (s t : SinkView) (a b : ChipView)
-    → a.faults ≤ b.faults → Rose a.faults b.faults → t ≡ s
-    → Goes (Use ∷ steps) (Stopped ChipFailed) (world files s a) (world files t b)
-unused steps files s t a b m rose e =
-    subst (λ (x : SinkView). Goes (Use ∷ steps) (Stopped ChipFailed) (world files s a)
-    (world files x b)) (sym e) (inr (refl, used files s a b m, rose))
+pub unused : (on : Option ChipUse) (steps : List Step) (files : FolderView) (s t : SinkView)
+    (a b : ChipView) → a.faults ≤ b.faults → Rose a.faults b.faults → IsLeftBy on b.banks → t ≡ s
+    → Goes (Use on ∷ steps) (Stopped ChipFailed) (world files s a) (world files t b)
+unused on steps files s t a b m rose left e =
+    subst (λ (x : SinkView). Goes (Use on ∷ steps) (Stopped ChipFailed) (world files s a)
+    (world files x b)) (sym e) (inr (refl, used files s a b m, rose, left))
 
 -- and of a wave what then stands
 unwaved : (wave : ChipWave) (steps : List Step) (files : FolderView) (s t : SinkView)
@@ -211,36 +230,38 @@ unwaved wave steps files s t a b m rose stopped e =
     (world files x b)) (sym e) (inr (refl, used files s a b m, rose, stopped))
 
 -- one instruction's line
-pub instr_done : (prints : Bool) (bytes : List ℕ) (files : FolderView) (s t : SinkView)
+pub instr_done : (on : Option ChipUse) (prints : Bool) (bytes : List ℕ) (files : FolderView) (s t : SinkView)
     (a b : ChipView) → Known (λ before after. after ≡ before ++ bytes) s.sent t.sent
     → s.faults ≤ t.faults → a.faults ≤ b.faults
-    → Goes (instr_steps prints bytes) Done (world files s a) (world files t b)
-instr_done true bytes files s t a b known l m = print_done bytes files s t a b known l m
-instr_done false bytes files s t a b known l m = line_done bytes files s t a b m known l
+    → Goes (instr_steps on prints bytes) Done (world files s a) (world files t b)
+instr_done on true bytes files s t a b known l m = print_done on bytes files s t a b known l m
+instr_done on false bytes files s t a b known l m = line_done on bytes files s t a b m known l
 
 -- what is known where an instruction was not done
-pub record Failed (fault : StepFault) (prints : Bool) (bytes : List ℕ) (s t : SinkView)
-    (a b : ChipView) : Type 0 where
+pub record Failed (on : Option ChipUse) (fault : StepFault) (prints : Bool) (bytes : List ℕ)
+    (s t : SinkView) (a b : ChipView) : Type 0 where
   pub sink : s.faults ≤ t.faults
   pub chip : a.faults ≤ b.faults
   pub chip_rose : fault ≡ step_fault.ChipFault → Rose a.faults b.faults
+  pub left : fault ≡ step_fault.ChipFault → IsLeftBy on b.banks
   pub unsent : fault ≡ step_fault.ChipFault → prints ≡ false → t ≡ s
   pub sink_rose : fault ≡ step_fault.WriteFault → Rose s.faults t.faults
   pub part : fault ≡ step_fault.WriteFault → Known (AppendsPart bytes) s.sent t.sent
   pub cut : prints ≡ true → Known (AppendsPart bytes) s.sent t.sent
 
-pub instr_failed : (fault : StepFault) (prints : Bool) (bytes : List ℕ) (files : FolderView)
-    (s t : SinkView) (a b : ChipView) → Failed fault prints bytes s t a b
-    → Goes (instr_steps prints bytes) (Stopped (fault_reason fault)) (world files s a)
+pub instr_failed : (on : Option ChipUse) (fault : StepFault) (prints : Bool) (bytes : List ℕ)
+    (files : FolderView) (s t : SinkView) (a b : ChipView) → Failed on fault prints bytes s t a b
+    → Goes (instr_steps on prints bytes) (Stopped (fault_reason fault)) (world files s a)
     (world files t b)
-instr_failed step_fault.ChipFault true bytes files s t a b f =
-    print_unread bytes files s t a b (f.cut refl) f.sink f.chip (f.chip_rose refl)
-instr_failed step_fault.WriteFault true bytes files s t a b f =
-    print_unput bytes files s t a b (f.cut refl) f.sink f.chip (f.sink_rose refl)
-instr_failed step_fault.ChipFault false bytes files s t a b f =
-    unused (Put bytes ∷ []) files s t a b f.chip (f.chip_rose refl) (f.unsent refl refl)
-instr_failed step_fault.WriteFault false bytes files s t a b f =
-    line_unput bytes files s t a b f.chip (f.part refl) f.sink (f.sink_rose refl)
+instr_failed on step_fault.ChipFault true bytes files s t a b f =
+    print_unread on bytes files s t a b (f.cut refl) f.sink f.chip (f.chip_rose refl) (f.left refl)
+instr_failed on step_fault.WriteFault true bytes files s t a b f =
+    print_unput on bytes files s t a b (f.cut refl) f.sink f.chip (f.sink_rose refl)
+instr_failed on step_fault.ChipFault false bytes files s t a b f =
+    unused on (Put bytes ∷ []) files s t a b f.chip (f.chip_rose refl) (f.left refl)
+    (f.unsent refl refl)
+instr_failed on step_fault.WriteFault false bytes files s t a b f =
+    line_unput on bytes files s t a b f.chip (f.part refl) f.sink (f.sink_rose refl)
 
 -- a wave's lines
 abbrev answers_of : Geometry → Routines → List Named → List Instruction → List Said

@@ -8,6 +8,7 @@ use Rattle.dram_model.specs.View.{ChipView}
 use Rattle.host_edge.specs.Views.{Files, FolderView, SinkView, Known, NoCountFalls}
 use Rattle.faults.specs.Counts.{Rose}
 use Rattle.host_edge.specs.Views.{KeepsOthers, HasBytes, AppendsPart}
+use Rattle.cli_model.specs.Waves.{ChipUse}
 use Rattle.cli_model.specs.World.{World, world, with_file}
 use Rattle.cli_model.specs.Steps.{Take, Use, Store, Put, ReadsOnly, CannotWrite, PutFailed, Done}
 use Rattle.cli_model.specs.Steps.{Stopped, Goes, Used, Stored, Sent, Unstored}
@@ -58,18 +59,18 @@ pub sent : (R : List ℕ → List ℕ → Type 0) (files : FolderView) (old new 
     → Sent R (world files old chip) (world files new chip)
 sent R files old new chip t l = record { files = refl; sent = t; faults = l; chip = refl }
 
-pub finish_unstored : (name bytes total : List ℕ) (f g : FolderView) (s : SinkView) (a b : ChipView)
+pub finish_unstored : (on : Option ChipUse) (name bytes total : List ℕ) (f g : FolderView) (s : SinkView) (a b : ChipView)
     → a.faults ≤ b.faults → Unstored name (world f s b) (world g s b)
-    → Goes (Use ∷ Store name bytes ∷ Put total ∷ []) (Stopped (CannotWrite name)) (world f s a)
+    → Goes (Use on ∷ Store name bytes ∷ Put total ∷ []) (Stopped (CannotWrite name)) (world f s a)
     (world g s b)
-finish_unstored name bytes total f g s a b l u = inl (world f s b, (used f s a b l, inr (refl, u)))
+finish_unstored on name bytes total f g s a b l u = inl (world f s b, (used f s a b l, inr (refl, u)))
 
-pub finish_unput : (name bytes total : List ℕ) (f g : FolderView) (s t : SinkView) (a b : ChipView)
+pub finish_unput : (on : Option ChipUse) (name bytes total : List ℕ) (f g : FolderView) (s t : SinkView) (a b : ChipView)
     → a.faults ≤ b.faults
     → Stored name bytes (world f s b) (world g s b) → Known (AppendsPart total) s.sent t.sent
     → s.faults ≤ t.faults → Rose s.faults t.faults
-    → Goes (Use ∷ Store name bytes ∷ Put total ∷ []) (Stopped PutFailed) (world f s a) (world g t b)
-finish_unput name bytes total f g s t a b l u p n r =
+    → Goes (Use on ∷ Store name bytes ∷ Put total ∷ []) (Stopped PutFailed) (world f s a) (world g t b)
+finish_unput on name bytes total f g s t a b l u p n r =
     inl (
       world f s b,
       (
@@ -81,12 +82,12 @@ finish_unput name bytes total f g s t a b l u p n r =
       ),
     )
 
-pub finish_done : (name bytes total : List ℕ) (f g : FolderView) (s t : SinkView) (a b : ChipView)
+pub finish_done : (on : Option ChipUse) (name bytes total : List ℕ) (f g : FolderView) (s t : SinkView) (a b : ChipView)
     → a.faults ≤ b.faults
     → Stored name bytes (world f s b) (world g s b)
     → Known (λ before after. after ≡ before ++ total) s.sent t.sent → s.faults ≤ t.faults
-    → Goes (Use ∷ Store name bytes ∷ Put total ∷ []) Done (world f s a) (world g t b)
-finish_done name bytes total f g s t a b l u p n =
+    → Goes (Use on ∷ Store name bytes ∷ Put total ∷ []) Done (world f s a) (world g t b)
+finish_done on name bytes total f g s t a b l u p n =
     inl (
       world f s b,
       (
@@ -132,11 +133,11 @@ pub take_unstored : (name bytes : List ℕ) (f g : FolderView) (s : SinkView) (k
     → Goes (Take ∷ Store name bytes ∷ []) (Stopped (CannotWrite name)) (world f s k) (world g s k)
 take_unstored name bytes f g s k t = inl (world f s k, (nothing_read (world f s k), inr (refl, t)))
 
-pub line_done : (bytes : List ℕ) (files : FolderView) (s t : SinkView) (a b : ChipView)
+pub line_done : (on : Option ChipUse) (bytes : List ℕ) (files : FolderView) (s t : SinkView) (a b : ChipView)
     → a.faults ≤ b.faults
     → Known (λ before after. after ≡ before ++ bytes) s.sent t.sent → s.faults ≤ t.faults
-    → Goes (Use ∷ Put bytes ∷ []) Done (world files s a) (world files t b)
-line_done bytes files s t a b l p n = inl (
+    → Goes (Use on ∷ Put bytes ∷ []) Done (world files s a) (world files t b)
+line_done on bytes files s t a b l p n = inl (
   world files s b,
   (
     used files s a b l,
@@ -147,11 +148,11 @@ line_done bytes files s t a b l p n = inl (
   ),
 )
 
-pub line_unput : (bytes : List ℕ) (files : FolderView) (s t : SinkView) (a b : ChipView)
+pub line_unput : (on : Option ChipUse) (bytes : List ℕ) (files : FolderView) (s t : SinkView) (a b : ChipView)
     → a.faults ≤ b.faults
     → Known (AppendsPart bytes) s.sent t.sent → s.faults ≤ t.faults → Rose s.faults t.faults
-    → Goes (Use ∷ Put bytes ∷ []) (Stopped PutFailed) (world files s a) (world files t b)
-line_unput bytes files s t a b l p n r = inl (
+    → Goes (Use on ∷ Put bytes ∷ []) (Stopped PutFailed) (world files s a) (world files t b)
+line_unput on bytes files s t a b l p n r = inl (
   world files s b,
   (used files s a b l, inr (refl, sent (AppendsPart bytes) files s t b p n, r)),
 )

@@ -9,7 +9,7 @@ use Rattle.machine_model.specs.Pieces.{pieces}
 use Rattle.machine_model.specs.Routines.{Program, routines_in}
 use Rattle.cli_model.specs.Faultless.{file_in}
 use Rattle.cli_model.specs.Plan.{Makes}
-use Rattle.cli_model.specs.Steps.{Store, Use}
+use Rattle.cli_model.specs.Steps.{Store}
 use Rattle.cli_model.proofs.Owed.{Gives, GoodFor, NotTen, TakesFirst}
 use Rattle.cli_model.proofs.Statuses.{OfSteps, of_more}
 use Rattle.simdram_cli.specs.declared.words.Command.TheVariants.{Trace}
@@ -18,7 +18,7 @@ use Rattle.simdram_cli.specs.declared.words.TheConstants.{IMAGE_MAX, PROG_MAX, S
 use Rattle.simdram_cli.specs.Commands.{CanAnswer}
 use Rattle.simdram_cli.specs.Complete.{AreGood}
 use Rattle.simdram_cli.specs.Inputs.{image_of, script_in}
-use Rattle.simdram_cli.specs.Job.{image_by, refused_by, script_steps}
+use Rattle.simdram_cli.specs.Job.{image_by, reading_by, refused_by, script_steps}
 use Rattle.simdram_cli.specs.Programs.{prog_in}
 use Rattle.simdram_cli.specs.Tracing.{fits, full_plan, recorded_steps, store_steps, total_steps}
 use Rattle.simdram_cli.specs.Tracing.{trace_image_plan, trace_job_plan, trace_plan, traced_plan}
@@ -49,7 +49,7 @@ recorded_of P names program script i three nine =
     of_more P (recorded_steps names program script i)
     (total_steps (fits program script i) program script i)
     (of_more P (script_steps program script i)
-    (Use ∷ Store names.out.now (image_by program script i)
+    (reading_by program script i ∷ Store names.out.now (image_by program script i)
     ∷ store_steps (fits program script i) names.trace.now program script i)
     (pieces_of P i.geometry (routines_in program) Ahead i.table (opened i) 1 (pieces script) three
     nine)

@@ -30,7 +30,7 @@ use Rattle.trace_model.proofs.Records.{event_length, fitting_are_few}
 use Rattle.trace_model.proofs.Scripts.{replay_is_script, script_is_trace}
 use Rattle.cmd_trace.specs.declared.sizes.TheConstants.{EVENTS_BYTES_MAX}
 use Rattle.cli_model.specs.World.{World, with_file}
-use Rattle.cli_model.specs.Steps.{Store, Use}
+use Rattle.cli_model.specs.Steps.{Store}
 use Rattle.cli_model.specs.Stands.{files_after, sent_by}
 use Rattle.cli_model.proofs.Delivering.{IsDelivered, known_delivered, files_append, sent_append}
 use Rattle.cli_model.proofs.Delivers.{Delivers}
@@ -40,7 +40,8 @@ use Rattle.simdram_cli.specs.Headline.{read_as}
 use Rattle.simdram_cli.specs.Words.{all_differ, traced_apart}
 use Rattle.simdram_cli.specs.Inputs.{image_of, script_in, script_or_refusal}
 use Rattle.simdram_cli.specs.Programs.{prog_in}
-use Rattle.simdram_cli.specs.Job.{done_status, image_by, refused_by, said_in, script_steps, tally_by}
+use Rattle.simdram_cli.specs.Job.{done_status, image_by, reading_by, refused_by, said_in}
+use Rattle.simdram_cli.specs.Job.{script_steps, tally_by}
 use Rattle.simdram_cli.specs.Tracing.{TraceLeft, Traced, exec_of, fits, full_plan, recorded_steps}
 use Rattle.simdram_cli.specs.Tracing.{store_steps, total_steps, trace_plan, traced_steps, unlogged}
 use Rattle.simdram_cli.specs.Tracing.{unlogged_world}
@@ -59,7 +60,7 @@ recorded_files : (names : TraceNames) (program : Program) (script : List Instruc
     ≡ with_file names.trace.now (bytes_of_trace (script_trace program i script))
     (with_file names.out.now (image_by program script i) files)
 recorded_files names program script i files all =
-    let last = Use ∷ Store names.out.now (image_by program script i)
+    let last = reading_by program script i ∷ Store names.out.now (image_by program script i)
     ∷ store_steps (fits program script i) names.trace.now program script i in
     files_append (script_steps program script i) last files
     ∙ ap (files_after last) (pieces_files i.geometry (routines_in program) Ahead i.table (opened i) 1
@@ -88,7 +89,7 @@ recorded_sent : (names : TraceNames) (program : Program) (script : List Instruct
     → sent_by (recorded_steps names program script i) ≡ lines 1 (said_in program script i)
 recorded_sent names program script i =
     let said = lines 1 (said_in program script i) in
-    let last = Use ∷ Store names.out.now (image_by program script i)
+    let last = reading_by program script i ∷ Store names.out.now (image_by program script i)
     ∷ store_steps (fits program script i) names.trace.now program script i in
     sent_append (script_steps program script i) last
     ∙ ap (λ w. w ++ sent_by last) (sent_script i.geometry (routines_in program) Ahead i.table

@@ -2,7 +2,7 @@
 use Rattle.std.proofs.Common.{◌≡◌, ℕ, ◌+◌, ◌*◌, ◌≤◌, Bool, true, false, List, [], ◌∷◌, ◌++◌}
 use Rattle.std.proofs.Common.{Some, None, refl, sym, ◌∙◌, ap, subst, inl, inr, length}
 use Rattle.std.proofs.Common.{append-nil, append_assoc, add_assoc}
-use Rattle.std.specs.Prelude.{Result, Ok, Err, count_by}
+use Rattle.std.specs.Prelude.{Option, Result, Ok, Err, count_by}
 use Rattle.std.specs.List.{AllByRecursion}
 use Rattle.faults.specs.Counts.{Rose}
 use Rattle.host_edge.specs.Views.{AppendsPart, FolderView, SinkView, Known}
@@ -22,7 +22,7 @@ use Rattle.machine_model.specs.Laws.{TableFits}
 use Rattle.machine_model.specs.Opened.{Image, opened, rows_in_banks}
 use Rattle.machine_model.specs.Routines.{Program, Routines, routines_in}
 use Rattle.machine_model.specs.Pieces.{Piece, Wave, Alone, instrs_in, pieces, script_events}
-use Rattle.machine_model.specs.Pieces.{turn_after}
+use Rattle.machine_model.specs.Pieces.{piece_events, turn_after}
 use Rattle.machine_model.specs.Report.{Said, line, said_by, said_in_rows, total_line}
 use Rattle.machine_model.specs.Script.{banks_at_end, is_refused, replies, rows_printed, sum_done}
 use Rattle.machine_model.specs.Script.{table_at_end}
@@ -41,7 +41,8 @@ use Rattle.trace_job.specs.Below.{BeginOnChip, IsLate}
 use Rattle.trace_job.specs.Telling.{Saw, Spelled, all_fit}
 use Rattle.trace_job.proofs.Going.{steps_are_below}
 use Rattle.cli_model.specs.World.{World, world}
-use Rattle.cli_model.specs.Steps.{Step, Open, Use, Store, Put, Refusal, Reason, Refused}
+use Rattle.cli_model.specs.Waves.{ChipUse, IsLeftBy, doing}
+use Rattle.cli_model.specs.Steps.{Step, Use, Store, Put, Refusal, Reason, Refused}
 use Rattle.cli_model.specs.Steps.{CannotWrite, PutFailed, ChipFailed, End, Done, Stopped}
 use Rattle.cli_model.specs.Steps.{Goes, Stored, Unstored}
 use Rattle.cli_model.specs.Runs.{Runs}
@@ -52,11 +53,13 @@ use Rattle.simdram_cli.specs.declared.stop.Stop.{Stop}
 use Rattle.simdram_cli.specs.declared.stop.Stop.TheVariants as stop
 use Rattle.simdram_cli.specs.Stops.{reason_of, trace_full}
 use Rattle.simdram_cli.specs.Job.{done_status, image_by, instr_steps, opened_counters, piece_steps}
-use Rattle.simdram_cli.specs.Job.{pieces_steps, put_lines, refused_by, script_steps, tally_by}
+use Rattle.simdram_cli.specs.Job.{opening, pieces_steps, put_lines, reading, reading_by}
+use Rattle.simdram_cli.specs.Job.{refused_by, script_steps, tally_by}
 use Rattle.simdram_cli.specs.Plans.{said_of}
 use Rattle.simdram_cli.specs.Works.{WorkDone}
 use Rattle.simdram_cli.specs.Tracing.{OpensOn, ScriptRecorded, ScriptTraced, TraceLeft, events_on}
-use Rattle.simdram_cli.specs.Tracing.{fits, full_plan, image_on, reads_on, recorded_steps, steps_on}
+use Rattle.simdram_cli.specs.Tracing.{fits, full_plan, image_on, reading_on, reads_on}
+use Rattle.simdram_cli.specs.Tracing.{recorded_steps, steps_on}
 use Rattle.simdram_cli.specs.Tracing.{store_steps, total_steps, traced_plan, traced_steps}
 use Rattle.simdram_cli.specs.Tracing.{unless_fits, unlogged}
 use Rattle.simdram_cli.proofs.Progress.{Holds, holds_of}
@@ -65,35 +68,37 @@ use Rattle.simdram_cli.proofs.Tallies.{tally_is}
 
 -- a script is done, and the image after it stored
 
-pub image_failed : (name bytes : List ℕ) (f : FolderView) (s : SinkView) (a b : ChipView)
-    → a.faults ≤ b.faults → Rose a.faults b.faults
-    → Goes (Use ∷ Store name bytes ∷ []) (Stopped ChipFailed) (world f s a) (world f s b)
-image_failed name bytes f s a b l r = inr (refl, used f s a b l, r)
+pub image_failed : (on : Option ChipUse) (name bytes : List ℕ) (f : FolderView) (s : SinkView)
+    (a b : ChipView) → a.faults ≤ b.faults → Rose a.faults b.faults → IsLeftBy on b.banks
+    → Goes (Use on ∷ Store name bytes ∷ []) (Stopped ChipFailed) (world f s a) (world f s b)
+image_failed on name bytes f s a b l r left = inr (refl, used f s a b l, r, left)
 
-pub image_unstored : (name bytes : List ℕ) (f g : FolderView) (s : SinkView) (a b : ChipView)
-    → a.faults ≤ b.faults → Unstored name (world f s b) (world g s b)
-    → Goes (Use ∷ Store name bytes ∷ []) (Stopped (CannotWrite name)) (world f s a) (world g s b)
-image_unstored name bytes f g s a b l u = inl (world f s b, (used f s a b l, inr (refl, u)))
+pub image_unstored : (on : Option ChipUse) (name bytes : List ℕ) (f g : FolderView)
+    (s : SinkView) (a b : ChipView) → a.faults ≤ b.faults
+    → Unstored name (world f s b) (world g s b)
+    → Goes (Use on ∷ Store name bytes ∷ []) (Stopped (CannotWrite name)) (world f s a)
+    (world g s b)
+image_unstored on name bytes f g s a b l u = inl (world f s b, (used f s a b l, inr (refl, u)))
 
-pub image_stored : (name bytes : List ℕ) (f g : FolderView) (s : SinkView) (a b : ChipView)
-    → a.faults ≤ b.faults → Stored name bytes (world f s b) (world g s b)
-    → Goes (Use ∷ Store name bytes ∷ []) Done (world f s a) (world g s b)
-image_stored name bytes f g s a b l t =
+pub image_stored : (on : Option ChipUse) (name bytes : List ℕ) (f g : FolderView) (s : SinkView)
+    (a b : ChipView) → a.faults ≤ b.faults → Stored name bytes (world f s b) (world g s b)
+    → Goes (Use on ∷ Store name bytes ∷ []) Done (world f s a) (world g s b)
+image_stored on name bytes f g s a b l t =
     inl (world f s b, (used f s a b l, inl (world g s b, (t, refl))))
 
 pub work_stopped : (m : Machine) (banks : Banks) (script : List Instruction) (name : List ℕ)
     (reason : Reason) (a b : World) → Goes (steps_on m banks script) (Stopped reason) a b
-    → Goes (steps_on m banks script ++ (Use ∷ Store name (image_on m banks script) ∷ []))
+    → Goes (steps_on m banks script ++ (reading_on m banks script ∷ Store name (image_on m banks script) ∷ []))
     (Stopped reason) a b
 work_stopped m banks script name reason a b g =
-    stops (steps_on m banks script) (Use ∷ Store name (image_on m banks script) ∷ []) reason a b g
+    stops (steps_on m banks script) (reading_on m banks script ∷ Store name (image_on m banks script) ∷ []) reason a b g
 
 pub then_image : (m : Machine) (banks : Banks) (script : List Instruction) (name : List ℕ)
     (end : End) (a b c : World) → Goes (steps_on m banks script) Done a b
-    → Goes (Use ∷ Store name (image_on m banks script) ∷ []) end b c
-    → Goes (steps_on m banks script ++ (Use ∷ Store name (image_on m banks script) ∷ [])) end a c
+    → Goes (reading_on m banks script ∷ Store name (image_on m banks script) ∷ []) end b c
+    → Goes (steps_on m banks script ++ (reading_on m banks script ∷ Store name (image_on m banks script) ∷ [])) end a c
 then_image m banks script name end a b c g h =
-    goes_on (steps_on m banks script) (Use ∷ Store name (image_on m banks script) ∷ []) end a b c g
+    goes_on (steps_on m banks script) (reading_on m banks script ∷ Store name (image_on m banks script) ∷ []) end a b c g
     h
 
 pub image_is_on : (m n : Machine) (script : List Instruction) (a b : ChipView)
@@ -144,9 +149,10 @@ lines_late : (number : ℕ) (said : List Said) → AllByRecursion IsLate (put_li
 lines_late number [] = tt
 lines_late number (s ∷ said) = (tt, lines_late (number + 1) said)
 
-instr_late : (prints : Bool) (bytes : List ℕ) → AllByRecursion IsLate (instr_steps prints bytes)
-instr_late true bytes = (tt, tt)
-instr_late false bytes = (tt, (tt, tt))
+instr_late : (on : Option ChipUse) (prints : Bool) (bytes : List ℕ)
+    → AllByRecursion IsLate (instr_steps on prints bytes)
+instr_late on true bytes = (tt, tt)
+instr_late on false bytes = (tt, (tt, tt))
 
 piece_late : (g : Geometry) (o : Routines) (turn : Turn) (table : List Named) (banks : Banks)
     (number : ℕ) (piece : Piece)
@@ -154,7 +160,8 @@ piece_late : (g : Geometry) (o : Routines) (turn : Turn) (table : List Named) (b
 piece_late g o turn table banks number (Wave wave) =
     (tt, lines_late number (said_in_rows g o table banks wave))
 piece_late g o turn table banks number (Alone instr) =
-    instr_late (is_print instr) (line number (said_by g o table banks instr))
+    instr_late (doing banks (piece_events g o turn table (Alone instr))) (is_print instr)
+    (line number (said_by g o table banks instr))
 
 pub pieces_late : (g : Geometry) (o : Routines) (turn : Turn) (table : List Named) (banks : Banks)
     (number : ℕ) (pieces : List Piece)
@@ -178,30 +185,31 @@ all_late names program script i =
     (pieces_late i.geometry (routines_in program) Ahead i.table (opened i) 1 (pieces script))
     (tt, (tt, store_late (fits program script i) names.trace.now program script i))
 
-instr_begins : (prints : Bool) (bytes : List ℕ) (rest : List Step)
-    → BeginOnChip (instr_steps prints bytes ++ rest)
-instr_begins true bytes rest = refl
-instr_begins false bytes rest = refl
+instr_begins : (on : Option ChipUse) (prints : Bool) (bytes : List ℕ) (rest : List Step)
+    → BeginOnChip (instr_steps on prints bytes ++ rest)
+instr_begins on true bytes rest = refl
+instr_begins on false bytes rest = refl
 
 piece_begins : (g : Geometry) (o : Routines) (turn : Turn) (table : List Named) (banks : Banks)
     (number : ℕ) (piece : Piece) (rest : List Step)
     → BeginOnChip (piece_steps g o turn table banks number piece ++ rest)
 piece_begins g o turn table banks number (Wave wave) rest = refl
 piece_begins g o turn table banks number (Alone instr) rest =
-    instr_begins (is_print instr) (line number (said_by g o table banks instr)) rest
+    instr_begins (doing banks (piece_events g o turn table (Alone instr))) (is_print instr)
+    (line number (said_by g o table banks instr)) rest
 
 -- the first of them uses the chip: that of a script, or without one the reading of the image
-pieces_begin : (g : Geometry) (o : Routines) (turn : Turn) (table : List Named) (banks : Banks)
+pieces_begin : (on : Option ChipUse) (g : Geometry) (o : Routines) (turn : Turn) (table : List Named) (banks : Banks)
     (number : ℕ) (pieces : List Piece) (rest : List Step)
-    → BeginOnChip (pieces_steps g o turn table banks number pieces ++ (Use ∷ rest))
-pieces_begin g o turn table banks number [] rest = refl
-pieces_begin g o turn table banks number (piece ∷ pieces) rest =
+    → BeginOnChip (pieces_steps g o turn table banks number pieces ++ (Use on ∷ rest))
+pieces_begin on g o turn table banks number [] rest = refl
+pieces_begin on g o turn table banks number (piece ∷ pieces) rest =
     let others = pieces_steps g o (turn_after g o turn table piece)
     (table_at_end g o table (instrs_in piece))
     (banks_at_end g o table banks (instrs_in piece)) (number + length (instrs_in piece)) pieces in
     subst BeginOnChip (sym (append_assoc (piece_steps g o turn table banks number piece) others
-    (Use ∷ rest)))
-    (piece_begins g o turn table banks number piece (others ++ (Use ∷ rest)))
+    (Use on ∷ rest)))
+    (piece_begins g o turn table banks number piece (others ++ (Use on ∷ rest)))
 
 -- a machine that was opened on an image with a program, and the view of its chip
 pub record Started (program : Program) (i : Image) (m : Machine) (start : ChipView) : Type 0 where
@@ -227,6 +235,15 @@ own_reads : (program : Program) (script : List Instruction) (i : Image) (m : Mac
     + i.geometry.banks * i.geometry.rows
 own_reads program script i m start s = rw s.machine_is refl
 
+own_banks : (program : Program) (script : List Instruction) (i : Image) (m : Machine)
+    (start : ChipView) → Started program i m start → after (events_on m script) start.banks
+    ≡ banks_at_end i.geometry (routines_in program) i.table (opened i) script
+own_banks program script i m start s =
+    ap (λ (es : List Event). after es start.banks) (own_events program script i m start s)
+    ∙ ap (after (script_events i.geometry (routines_in program) i.table script)) s.banks
+    ∙ events_are_steps i.geometry (routines_in program) Ahead i.table script (opened i)
+    s.holds.words s.holds.fits
+
 own_image : (program : Program) (script : List Instruction) (i : Image) (m : Machine)
     (start : ChipView) → Started program i m start
     → image_on m start.banks script ≡ image_by program script i
@@ -235,11 +252,7 @@ own_image program script i m start s =
     let same : table_at_end (geometry_of m) (routines_in (program_of m)) (table_in m) script
     ≡ table_at_end i.geometry o i.table script =
     rw s.machine_is refl in
-    let banks : after (events_on m script) start.banks
-    ≡ banks_at_end i.geometry o i.table (opened i) script =
-    ap (λ (es : List Event). after es start.banks) (own_events program script i m start s)
-    ∙ ap (after (script_events i.geometry o i.table script)) s.banks
-    ∙ events_are_steps i.geometry o Ahead i.table script (opened i) s.holds.words s.holds.fits in
+    let banks = own_banks program script i m start s in
     ap (λ (g : Geometry). image_bytes g (table_at_end (geometry_of m)
     (routines_in (program_of m)) (table_in m) script)
     (rows_in_banks (after (events_on m script) start.banks))) (ap geometry_of s.machine_is)
@@ -251,18 +264,23 @@ own_image program script i m start s =
 -- the steps to the store of the image
 abbrev pub first_steps : TraceNames → Program → List Instruction → Image → List Step
 first_steps names program script i =
-    script_steps program script i ++ (Use ∷ Store names.out.now (image_by program script i) ∷ [])
+    script_steps program script i ++ (reading_by program script i
+    ∷ Store names.out.now (image_by program script i) ∷ [])
 
 first_are : (names : TraceNames) (program : Program) (script : List Instruction) (i : Image)
     (m : Machine) (start : ChipView) → Started program i m start
     → steps_on m start.banks script
-    ++ (Use ∷ Store names.out.now (image_on m start.banks script) ∷ [])
+    ++ (reading_on m start.banks script ∷ Store names.out.now (image_on m start.banks script) ∷ [])
     ≡ first_steps names program script i
 first_are names program script i m start s =
-    ap (λ (xs : List Step). xs ++ (Use ∷ Store names.out.now (image_on m start.banks script) ∷ []))
+    ap (λ (xs : List Step). xs ++ (reading_on m start.banks script ∷ Store names.out.now (image_on m start.banks script) ∷ []))
     (own_lines program script i m start.banks s.machine_is s.banks)
+    ∙ ap (λ (banks : Banks). script_steps program script i ++ (reading banks
+    ∷ Store names.out.now (image_on m start.banks script) ∷ []))
+    (own_banks program script i m start s)
     ∙ ap (λ (bytes : List ℕ). script_steps program script i
-    ++ (Use ∷ Store names.out.now bytes ∷ [])) (own_image program script i m start s)
+    ++ (reading_by program script i ∷ Store names.out.now bytes ∷ []))
+    (own_image program script i m start s)
 
 all_are : (names : TraceNames) (program : Program) (script : List Instruction) (i : Image)
     → first_steps names program script i
@@ -280,7 +298,8 @@ below : (names : TraceNames) (program : Program) (script : List Instruction) (i 
 below names program script i end files sink old new from to p q r g =
     steps_are_below (recorded_steps names program script i) end (world files sink from) to old new
     (all_late names program script i)
-    (pieces_begin i.geometry (routines_in program) Ahead i.table (opened i) 1 (pieces script) _) p q
+    (pieces_begin (doing (banks_at_end i.geometry (routines_in program) i.table (opened i) script) [])
+    i.geometry (routines_in program) Ahead i.table (opened i) 1 (pieces script) _) p q
     r g
 
 -- it stopped before OUT was stored
@@ -289,7 +308,8 @@ pub first_failed : (names : TraceNames) (program : Program) (script : List Instr
     (to : World) → Started program i m from → old.faults ≡ from.faults
     → new.faults ≡ to.chip.faults → new.banks ≡ to.chip.banks
     → Goes (steps_on m from.banks script
-    ++ (Use ∷ Store names.out.now (image_on m from.banks script) ∷ [])) (Stopped (reason_of why))
+    ++ (reading_on m from.banks script
+    ∷ Store names.out.now (image_on m from.banks script) ∷ [])) (Stopped (reason_of why))
     (world files sink from) to
     → ScriptRecorded names program script i (world files sink old) (world to.files to.sink new)
     (Err why)
@@ -410,7 +430,8 @@ pub record FirstDone (names : TraceNames) (script : List Instruction) (m : Machi
   pub same : from ≡ record old { log = Some empty_log }
   pub kept : Kept from (recorded last tape)
   pub goes : Goes (steps_on m from.banks script
-      ++ (Use ∷ Store names.out.now (image_on m from.banks script) ∷ [])) Done
+      ++ (reading_on m from.banks script
+      ∷ Store names.out.now (image_on m from.banks script) ∷ [])) Done
       (world files sink from) (world after sent (recorded last tape))
   pub did : DidAndRead (events_on m script) (reads_on m script) from (recorded last tape)
   pub count : refused ≡ count_by is_refused (replies (geometry_of m) (routines_in (program_of m))
@@ -526,16 +547,16 @@ module _ (names : TraceNames) (script : List Instruction) (m : Machine) (files :
       )
 
 pub not_opened : (names : TraceNames) (program : Program) (script : List Instruction) (i : Image)
-    (why : Stop) (a b : World) → Goes (Open ∷ []) (Stopped (reason_of why)) a b
+    (why : Stop) (a b : World) → Goes (opening i ∷ []) (Stopped (reason_of why)) a b
     → ScriptTraced names program script i a b (Err why)
 not_opened names program script i why a b g = inl (inl (
   a,
-  (nothing_read a, stops (Open ∷ []) _ (reason_of why) a b g),
+  (nothing_read a, stops (opening i ∷ []) _ (reason_of why) a b g),
 ))
 
 -- from the opening on
 from_open : (names : TraceNames) (program : Program) (script : List Instruction) (i : Image)
-    (end : End) (a b c : World) → Goes (Open ∷ []) Done a b
+    (end : End) (a b c : World) → Goes (opening i ∷ []) Done a b
     → Goes (recorded_steps names program script i
     ++ total_steps (fits program script i) program script i) end b c
     → Goes (traced_steps names program script i) end a c
@@ -543,7 +564,7 @@ from_open names program script i end a b c g h = inl (
   a,
   (
     nothing_read a,
-    goes_on (Open ∷ []) (recorded_steps names program script i
+    goes_on (opening i ∷ []) (recorded_steps names program script i
         ++ total_steps (fits program script i) program script i) end a b c g h,
   ),
 )
@@ -558,7 +579,7 @@ fits_so false e = absurd (cc)
 
 -- the script was not done, or its trace is full or was not stored
 pub not_recorded : (names : TraceNames) (program : Program) (script : List Instruction) (i : Image)
-    (why : Stop) (a b c : World) → Goes (Open ∷ []) Done a b
+    (why : Stop) (a b c : World) → Goes (opening i ∷ []) Done a b
     → ScriptRecorded names program script i b c (Err why)
     → ScriptTraced names program script i a c (Err why)
 not_recorded names program script i why a b c g (inl h) =
@@ -591,7 +612,7 @@ total_goes program script i k refused end a b all e f g =
 -- the line of the totals is not sent, or is
 pub total_unsent : (names : TraceNames) (program : Program) (script : List Instruction) (i : Image)
     (refused : ℕ) (a b : World) (files : FolderView) (s t : SinkView) (chip : ChipView)
-    → Goes (Open ∷ []) Done a b
+    → Goes (opening i ∷ []) Done a b
     → ScriptRecorded names program script i b (world files s chip) (Ok refused)
     → Known (AppendsPart (total_line chip.counters refused)) s.sent t.sent → s.faults ≤ t.faults
     → Rose s.faults t.faults
@@ -608,7 +629,7 @@ total_unsent names program script i refused a b files s t chip g w p n r =
 
 pub total_sent : (names : TraceNames) (program : Program) (script : List Instruction) (i : Image)
     (refused : ℕ) (a b : World) (files : FolderView) (s t : SinkView) (chip : ChipView)
-    → Goes (Open ∷ []) Done a b
+    → Goes (opening i ∷ []) Done a b
     → ScriptRecorded names program script i b (world files s chip) (Ok refused)
     → Known (λ before after. after ≡ before ++ total_line chip.counters refused) s.sent t.sent
     → s.faults ≤ t.faults

@@ -7,24 +7,26 @@ use Rattle.dram_model.specs.declared.geometry.Geometry.{Geometry}
 use Rattle.dram_model.specs.Chip.{Banks}
 use Rattle.object_alloc.specs.Listed.{Named}
 use Rattle.wave_model.specs.Schedule.{Turn, Ahead}
-use Rattle.machine_model.specs.Pieces.{Piece, Wave, Alone, instrs_in, pieces, turn_after}
+use Rattle.machine_model.specs.Pieces.{Piece, Wave, Alone, instrs_in, piece_events, pieces, turn_after}
 use Rattle.machine_model.specs.Report.{Said, line, said_by, said_in_rows, total_line}
 use Rattle.machine_model.specs.Script.{banks_at_end, table_at_end}
 use Rattle.sim_machine.specs.Machine.{is_print}
-use Rattle.cli_model.specs.Steps.{Use, Store, Put}
+use Rattle.std.specs.Prelude.{Option}
+use Rattle.cli_model.specs.Waves.{ChipUse, doing}
+use Rattle.cli_model.specs.Steps.{Store, Put}
 use Rattle.cli_model.proofs.Statuses.{OfSteps, of_more}
 use Rattle.simdram_cli.specs.Job.{image_by, instr_steps, piece_steps, pieces_steps, put_lines}
-use Rattle.simdram_cli.specs.Job.{refused_by, script_steps, tally_by, work_steps}
+use Rattle.simdram_cli.specs.Job.{reading_by, refused_by, script_steps, tally_by, work_steps}
 
 lines_of : (P : ℕ → Type 0) (number : ℕ) (said : List Said) → P 3
     → OfSteps P (put_lines number said)
 lines_of P number [] three = tt
 lines_of P number (s ∷ said) three = (three, lines_of P (number + 1) said three)
 
-instr_of : (P : ℕ → Type 0) (prints : Bool) (bytes : List ℕ) → P 3 → P 9
-    → OfSteps P (instr_steps prints bytes)
-instr_of P true bytes three nine = ((three, nine), tt)
-instr_of P false bytes three nine = (nine, (three, tt))
+instr_of : (P : ℕ → Type 0) (on : Option ChipUse) (prints : Bool) (bytes : List ℕ) → P 3
+    → P 9 → OfSteps P (instr_steps on prints bytes)
+instr_of P on true bytes three nine = ((three, nine), tt)
+instr_of P on false bytes three nine = (nine, (three, tt))
 
 piece_of : (P : ℕ → Type 0) (g : Geometry) (o : Routines) (turn : Turn) (table : List Named)
     (banks : Banks) (number : ℕ) (piece : Piece) → P 3 → P 9
@@ -32,7 +34,8 @@ piece_of : (P : ℕ → Type 0) (g : Geometry) (o : Routines) (turn : Turn) (tab
 piece_of P g o turn table banks number (Wave wave) three nine =
     (nine, lines_of P number (said_in_rows g o table banks wave) three)
 piece_of P g o turn table banks number (Alone instr) three nine =
-    instr_of P (is_print instr) (line number (said_by g o table banks instr)) three nine
+    instr_of P (doing banks (piece_events g o turn table (Alone instr))) (is_print instr)
+    (line number (said_by g o table banks instr)) three nine
 
 pub pieces_of : (P : ℕ → Type 0) (g : Geometry) (o : Routines) (turn : Turn) (table : List Named)
     (banks : Banks) (number : ℕ) (pieces : List Piece) → P 3 → P 9
@@ -48,11 +51,11 @@ pieces_of P g o turn table banks number (piece ∷ rest) three nine =
 -- the steps after the opening
 pub after_open : (P : ℕ → Type 0) (out : List ℕ) (program : Program) (script : List Instruction)
     (i : Image) → P 3 → P 9 → OfSteps P (script_steps program script i
-    ++ (Use ∷ Store out (image_by program script i)
+    ++ (reading_by program script i ∷ Store out (image_by program script i)
     ∷ Put (total_line (tally_by program script i) (refused_by program script i)) ∷ []))
 after_open P out program script i three nine =
     of_more P (script_steps program script i)
-    (Use ∷ Store out (image_by program script i)
+    (reading_by program script i ∷ Store out (image_by program script i)
     ∷ Put (total_line (tally_by program script i) (refused_by program script i)) ∷ [])
     (pieces_of P i.geometry (routines_in program) Ahead i.table (opened i) 1 (pieces script) three
     nine) (nine, (three, (three, tt)))

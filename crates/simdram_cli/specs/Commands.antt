@@ -11,6 +11,7 @@ use Rattle.simdram_cli.specs.declared.words.Command.TheVariants.{Scan}
 use Rattle.simdram_cli.specs.declared.words.Command.TheVariants.{Trace}
 use Rattle.simdram_cli.specs.declared.words.Command.TheVariants.{Replay}
 use Rattle.simdram_cli.specs.declared.words.Command.TheVariants.{Guard}
+use Rattle.simdram_cli.specs.declared.words.Command.TheVariants.{Verify}
 use Rattle.simdram_cli.specs.Words.{command_of}
 use Rattle.simdram_cli.specs.Run.{run_plan}
 use Rattle.simdram_cli.specs.Headline.{Headline}
@@ -25,6 +26,7 @@ use Rattle.simdram_cli.specs.Scan.{ScanEnds, Scanned}
 use Rattle.simdram_cli.specs.Tracing.{trace_plan, Traced}
 use Rattle.simdram_cli.specs.Replay.{replay_plan, Replayed}
 use Rattle.simdram_cli.specs.Guard.{guard_plan, Guarded}
+use Rattle.simdram_cli.specs.Verify.{verify_plan, IsVerifyDone, Verified}
 
 -- the statuses that a command can answer
 abbrev pub statuses : Command → List ℕ
@@ -40,6 +42,7 @@ statuses (Trace names) = 0 ∷ 2 ∷ 3 ∷ 5 ∷ 6 ∷ 7 ∷ 8 ∷ 9 ∷ 10 ∷ 
 statuses (Replay names) = 0 ∷ 2 ∷ 3 ∷ 7 ∷ 9 ∷ 10 ∷ 11 ∷ 13 ∷ 14 ∷ []
 statuses (Guard names) =
     0 ∷ 2 ∷ 3 ∷ 4 ∷ 6 ∷ 7 ∷ 8 ∷ 9 ∷ 10 ∷ 11 ∷ 17 ∷ 18 ∷ []
+statuses (Verify names) = 0 ∷ 2 ∷ 3 ∷ 4 ∷ 5 ∷ 10 ∷ 11 ∷ 19 ∷ 20 ∷ []
 
 -- the command can end with this status
 abbrev pub CanAnswer : Command → ℕ → Type 0
@@ -59,6 +62,7 @@ CommandEnds (Scan names) old new status = ScanEnds names old new status
 CommandEnds (Trace names) old new status = EndsBy (trace_plan names) old new status
 CommandEnds (Replay names) old new status = EndsBy (replay_plan names) old new status
 CommandEnds (Guard names) old new status = EndsBy (guard_plan names) old new status
+CommandEnds (Verify names) old new status = EndsBy (verify_plan names) old new status
 
 -- what it promises when it ends as it should, where the folder tells its files; a soak touches
 -- none, and promises it in any folder
@@ -88,6 +92,9 @@ Promises (Replay names) old new status = status ≡ 0
     → Known (λ before after. Replayed names before after old new) old.files.holds new.files.holds
 Promises (Guard names) old new status = (status ≡ 0) ⊎ (status ≡ 8)
     → Known (λ before after. Guarded names before after old new status) old.files.holds
+    new.files.holds
+Promises (Verify names) old new status = IsVerifyDone status
+    → Known (λ before after. Verified names before after old new status) old.files.holds
     new.files.holds
 
 -- where the words are a command

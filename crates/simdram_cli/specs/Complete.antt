@@ -20,6 +20,7 @@ use Rattle.simdram_cli.specs.declared.words.Command.TheVariants.{Scan}
 use Rattle.simdram_cli.specs.declared.words.Command.TheVariants.{Trace}
 use Rattle.simdram_cli.specs.declared.words.Command.TheVariants.{Replay}
 use Rattle.simdram_cli.specs.declared.words.Command.TheVariants.{Guard}
+use Rattle.simdram_cli.specs.declared.words.Command.TheVariants.{Verify}
 use Rattle.simdram_cli.specs.Flips.{flips_in}
 use Rattle.simdram_cli.specs.Inputs.{ops_in, script_in, image_of}
 use Rattle.simdram_cli.specs.Programs.{prog_in}
@@ -87,6 +88,7 @@ AreGood (Replay names) file =
 AreGood (Guard names) file = IsOps (file names.ops.now)
     × (script : IsScript (file names.script.now)) × (image : IsImageFile (file names.image.now))
     × IsFlipsFile image.value.geometry (length script.value) (file names.flips.now)
+AreGood (Verify names) file = IsOps (file names.ops.now) × IsProg (file names.prog.now)
 
 -- the statuses of the command where it is done
 abbrev pub done_statuses : Command → List ℕ
@@ -101,6 +103,7 @@ done_statuses (Scan names) = 0 ∷ 16 ∷ []
 done_statuses (Trace names) = 0 ∷ 8 ∷ 12 ∷ []
 done_statuses (Replay names) = 0 ∷ 14 ∷ []
 done_statuses (Guard names) = 0 ∷ 8 ∷ 17 ∷ []
+done_statuses (Verify names) = 0 ∷ 19 ∷ 20 ∷ []
 
 -- Where its files are good and nothing failed, the command is done, or answers 10
 abbrev pub Completes : Command → World → World → ℕ → Type 0
@@ -123,3 +126,4 @@ Spares (Scan names) old new status = status ≡ 10 → IsSpared None old new
 Spares (Trace names) old new status = status ≡ 10 → IsSpared None old new
 Spares (Replay names) old new status = status ≡ 10 → IsSpared None old new
 Spares (Guard names) old new status = status ≡ 10 → IsSpared (Some names.prog.now) old new
+Spares (Verify names) old new status = status ≡ 10 → IsSpared None old new

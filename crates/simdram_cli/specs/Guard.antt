@@ -32,13 +32,13 @@ use Rattle.guard_job.specs.Steps.{guarded_steps}
 use Rattle.cli_model.specs.World.{World}
 use Rattle.cli_model.specs.Plan.{Answers, Loads, Plan, Then}
 use Rattle.simdram_cli.specs.Plans.{compiled_plan}
-use Rattle.cli_model.specs.Steps.{Step, Take, Store, Open, Use, Put}
+use Rattle.cli_model.specs.Steps.{Step, Take, Store, Put}
 use Rattle.simdram_cli.specs.declared.words.GuardNames.{GuardNames}
 use Rattle.simdram_cli.specs.declared.words.RunNames.{RunNames}
 use Rattle.simdram_cli.specs.declared.words.TheConstants.{FLIPS_MAX, IMAGE_MAX, SCRIPT_MAX}
 use Rattle.simdram_cli.specs.Flips.{flips_in, guarded_image_of, guarded_script_in}
 use Rattle.simdram_cli.specs.Headline.{IsRunJob, IsNoBadWalk, RunJob, ProgramWritten, read_as}
-use Rattle.simdram_cli.specs.Job.{done_status, opened_counters}
+use Rattle.simdram_cli.specs.Job.{done_status, opened_counters, opening, reading}
 
 -- a guarded script on an image with a program, and the flips among its instructions
 pub record GuardJob : Type 0 where
@@ -105,15 +105,15 @@ image_at_last job =
 
 -- the image is stored, and the lines of the votes and of the totals are sent
 abbrev pub last_steps : List ℕ → GuardJob → List Step
-last_steps out job = Use ∷ Store out (image_at_last job)
+last_steps out job = reading (banks_at_last job) ∷ Store out (image_at_last job)
     ∷ Put (vote_line (votes_of job) (length job.flips))
     ∷ Put (total_line (tally_of job) (refused_of job)) ∷ []
 
 -- the script goes on the image, with its flips and votes
 abbrev pub work_steps : List ℕ → GuardJob → List Step
 work_steps out job =
-    Open ∷ guarded_steps job.image.geometry (routines_in job.program) job.flips 1 job.image.table
-    (opened job.image) job.script
+    opening job.image ∷ guarded_steps job.image.geometry (routines_in job.program) job.flips 1
+    job.image.table (opened job.image) job.script
     ++ last_steps out job
 
 -- The job was done, row by row, with so many instructions refused: the chip has begun with the

@@ -24,5 +24,6 @@ pub mod Scan
 pub mod Tracing
 pub mod Replay
 pub mod Guard
+pub mod Verify
 pub mod Commands
 pub mod Complete

@@ -8,16 +8,18 @@ use Rattle.dram_model.specs.Chip.Event.{Row, Write}
 use Rattle.dram_model.specs.View.{ChipView, HasBegun}
 use Rattle.host_edge.specs.Views.{Files, Known}
 use Rattle.object_alloc.specs.Spelling.{image_bytes}
-use Rattle.machine_model.specs.Opened.{Image, row_writes, rows_in_banks}
+use Rattle.machine_model.specs.Opened.{Image, opened, row_writes, rows_in_banks}
 use Rattle.trace_model.specs.Spelling.{IsTrace, Trace, bytes_of_trace}
 use Rattle.trace_model.specs.Replay.{replayed}
 use Rattle.cli_model.specs.World.{World}
-use Rattle.cli_model.specs.Steps.{Step, Store, Open, Use, Put}
+use Rattle.cli_model.specs.Waves.{doing}
+use Rattle.cli_model.specs.Steps.{Step, Store, Use, Put}
 use Rattle.cli_model.specs.Plan.{Answers, Loads, Makes, Plan, Then}
 use Rattle.simdram_cli.specs.declared.words.ReplayNames.{ReplayNames}
 use Rattle.simdram_cli.specs.declared.words.TheConstants.{IMAGE_MAX, TRACE_MAX}
 use Rattle.simdram_cli.specs.Headline.{read_as}
 use Rattle.simdram_cli.specs.Inputs.{image_of}
+use Rattle.simdram_cli.specs.Job.{opening, reading}
 use Rattle.simdram_cli.specs.Traces.{image_for, trace_in}
 
 -- the event is a command that copies a row
@@ -59,11 +61,15 @@ replay_line k = codes "replay aap=" ++ decimal k.aap ++ codes " ap=" ++ decimal 
 abbrev pub image_replayed : Trace → Image → List ℕ
 image_replayed t i = image_bytes t.geometry t.table (rows_in_banks (replayed t.events i))
 
--- the chip begins with the image's rows; the events are done; all rows are read; the image of them
--- is stored, and the counters are sent
+-- the chip begins with the image's rows; the events are done; all rows are read
+abbrev pub replay_steps : Trace → Image → List Step
+replay_steps t i =
+    opening i ∷ Use (doing (opened i) t.events) ∷ reading (replayed t.events i) ∷ []
+
+-- and then the image of them is stored, and the counters are sent
 abbrev pub events_steps : List ℕ → Trace → Image → List Step
-events_steps out t i = Open ∷ Use ∷ Use ∷ Store out (image_replayed t i)
-    ∷ Put (replay_line (replay_counters t)) ∷ []
+events_steps out t i = replay_steps t i ++ (Store out (image_replayed t i)
+    ∷ Put (replay_line (replay_counters t)) ∷ [])
 
 -- The trace's events were done on the image, and nothing else: the chip has begun with the trace's
 -- geometry; the banks are what they leave, the counters count them, and a log that is known has the

@@ -31,7 +31,7 @@ use Rattle.scan_query.specs.Answers.{answer_of}
 use Rattle.scan_query.specs.Queries.{IsNodesOf}
 use Rattle.scan_query.specs.declared.query.ScanReply.{ScanReply}
 use Rattle.cli_model.specs.World.{World}
-use Rattle.cli_model.specs.Steps.{Step, Take, Open, Use, Put, Done, Stopped, Goes}
+use Rattle.cli_model.specs.Steps.{Step, Take, Use, Put, Done, Stopped, Goes}
 use Rattle.cli_model.specs.Plan.{Answers, Loads, Makes, Plan, Refuses, Then}
 use Rattle.cli_model.specs.Runs.{EndsBy}
 use Rattle.simdram_cli.specs.declared.words.ScanNames.{ScanNames}
@@ -39,7 +39,7 @@ use Rattle.simdram_cli.specs.declared.words.TheConstants.{IMAGE_MAX, QUERY_MAX}
 use Rattle.simdram_cli.specs.declared.stop.Stop.{Stop}
 use Rattle.simdram_cli.specs.Headline.{read_as}
 use Rattle.simdram_cli.specs.Inputs.{image_of}
-use Rattle.simdram_cli.specs.Job.{opened_counters}
+use Rattle.simdram_cli.specs.Job.{opened_counters, opening}
 use Rattle.simdram_cli.specs.Queries.{Asks, AsksIn, query_in, scan_refusal}
 use Rattle.cli_model.specs.Reads.{LoadedAs}
 use Rattle.simdram_cli.specs.Stops.{reason_of}
@@ -75,7 +75,7 @@ count_line found of counts = codes "count " ++ decimal found ++ codes " of " ++ 
 -- a query whose comparisons are at fault does not use the chip
 abbrev pub use_steps : Option (ScanWhy × ℕ) → List Step
 use_steps (Some fault) = []
-use_steps None = Use ∷ []
+use_steps None = Use None ∷ []
 
 -- the counters after a scan: each row of every bank was written at the opening, and of the last
 -- object, whose width is 1, one row was read for each segment
@@ -140,7 +140,7 @@ answer_plan left (NotFound why k) = Refuses (scan_refusal why k) left
 -- image, the query's instructions are done, and it is answered
 abbrev pub query_plan : Query → Image → Plan
 query_plan q i = Then (Take ∷ []) (Makes DoesScans (λ program.
-    Then (Open ∷ use_steps (checked i.table (nodes_of q)))
+    Then (opening i ∷ use_steps (checked i.table (nodes_of q)))
     (answer_plan (ScanLeft program q i) (answer_on program q i))))
 
 -- IMAGE is loaded, and the query is done on it
@@ -197,7 +197,8 @@ pub record IsScanFile (bytes : List ℕ) : Type 0 where
 -- the chip has begun, and the query was answered
 abbrev pub AnswerGoes : Program → Query → Image → Result ScanReply Stop → World → World → Type 0
 AnswerGoes program q i (Ok reply) old new = (answer_of reply ≡ answer_on program q i)
-    × Goes (Take ∷ Open ∷ use_steps (checked i.table (nodes_of q))) Done old new
+    × Goes (Take ∷ opening i ∷ use_steps (checked i.table (nodes_of q))) Done old new
     × ScanLeft program q i new.chip
 AnswerGoes program q i (Err stop) old new =
-    Goes (Take ∷ Open ∷ use_steps (checked i.table (nodes_of q))) (Stopped (reason_of stop)) old new
+    Goes (Take ∷ opening i ∷ use_steps (checked i.table (nodes_of q)))
+    (Stopped (reason_of stop)) old new

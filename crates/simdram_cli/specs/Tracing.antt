@@ -23,7 +23,7 @@ use Rattle.trace_model.specs.Replay.{replayed, script_trace}
 use Rattle.trace_model.specs.Spelling.{Trace, bytes_of_trace}
 use Rattle.trace_job.specs.Telling.{all_fit}
 use Rattle.cli_model.specs.World.{World, with_file}
-use Rattle.cli_model.specs.Steps.{Step, Take, Open, Use, Store, Put, Refusal, Refused, Done}
+use Rattle.cli_model.specs.Steps.{Step, Take, Store, Put, Refusal, Refused, Done}
 use Rattle.cli_model.specs.Steps.{Stopped, Goes}
 use Rattle.cli_model.specs.Plan.{Answers, Loads, Makes, Plan, Refuses, Then}
 use Rattle.simdram_cli.specs.declared.words.ExecNames.{ExecNames}
@@ -35,7 +35,7 @@ use Rattle.simdram_cli.specs.Inputs.{script_in, image_of}
 use Rattle.simdram_cli.specs.Programs.{prog_in}
 use Rattle.simdram_cli.specs.Stops.{reason_of, trace_full}
 use Rattle.simdram_cli.specs.Job.{done_status, image_by, pieces_steps, refused_by, script_steps}
-use Rattle.simdram_cli.specs.Job.{tally_by}
+use Rattle.simdram_cli.specs.Job.{opening, reading, reading_by, tally_by}
 use Rattle.simdram_cli.specs.Plans.{JobLeft}
 use Rattle.simdram_cli.specs.Works.{OpenedOn, WorkDone}
 use Rattle.simdram_cli.specs.Exec.{Executed}
@@ -69,13 +69,13 @@ total_steps false program script i = []
 abbrev pub recorded_steps : TraceNames → Program → List Instruction → Image → List Step
 recorded_steps names program script i =
     script_steps program script i
-    ++ (Use ∷ Store names.out.now (image_by program script i)
+    ++ (reading_by program script i ∷ Store names.out.now (image_by program script i)
     ∷ store_steps (fits program script i) names.trace.now program script i)
 
 -- memory is taken for a recorder, and the chip begins with the image
 abbrev pub traced_steps : TraceNames → Program → List Instruction → Image → List Step
 traced_steps names program script i =
-    Take ∷ Open ∷ (recorded_steps names program script i
+    Take ∷ opening i ∷ (recorded_steps names program script i
     ++ total_steps (fits program script i) program script i)
 
 -- why a trace is not stored whose steps were done, if it is not
@@ -164,6 +164,10 @@ abbrev pub image_on : Machine → Banks → List Instruction → List ℕ
 image_on m banks script =
     image_bytes (geometry_of m) (table_at_end (geometry_of m) (operations_by m) (table_in m) script)
     (rows_in_banks (after (events_on m script) banks))
+
+-- every row is read after a script on a machine
+abbrev pub reading_on : Machine → Banks → List Instruction → Step
+reading_on m banks script = reading (after (events_on m script) banks)
 
 -- how many rows are read: those of the prints, and all for the image
 abbrev pub reads_on : Machine → List Instruction → ℕ

@@ -1,6 +1,6 @@
 -- The words of a command.
 use Rattle.std.specs.Prelude.{◌≡◌, ℕ, Bool, true, false, not, ◌&&◌, List, [], ◌∷◌, Option, Some}
-use Rattle.std.specs.Prelude.{None, ◌<◌, ◌^◌, nat_le, nat_lt}
+use Rattle.std.specs.Prelude.{None, ◌<◌, ◌≤◌, ◌^◌, nat_le, nat_lt}
 use Rattle.std.specs.Prelude.{bytes_eq, codes, if◌then◌else◌}
 use Rattle.std.specs.Char.{is_ascii_digit}
 use Rattle.std.specs.List.{list_all}
@@ -17,6 +17,7 @@ use Rattle.simdram_cli.specs.declared.words.Command.TheVariants.{Trace}
 use Rattle.simdram_cli.specs.declared.words.TraceNames.{TraceNames}
 use Rattle.simdram_cli.specs.declared.words.Command.TheVariants.{Replay}
 use Rattle.simdram_cli.specs.declared.words.Command.TheVariants.{Guard}
+use Rattle.simdram_cli.specs.declared.words.Command.TheVariants.{Verify}
 use Rattle.simdram_cli.specs.declared.words.GuardNames.{GuardNames}
 use Rattle.simdram_cli.specs.declared.account.Account.{Account}
 use Rattle.simdram_cli.specs.declared.account.Account.TheVariants.{OfProgram}
@@ -89,6 +90,12 @@ cost_on prog width =
     then Some (AccountOf (record
     { file = prog; account = OfProgram (Costs (value_of width)) })) else None
 
+-- `verify`, where its files are apart and its number is a width
+abbrev pub verify_on : (ops prog : Bor (List ℕ)) → List ℕ → Option Command
+verify_on ops prog width = if bytes_eq ops.now prog.now then None
+    else if is_number width && (nat_le 1 (value_of width) && nat_le (value_of width) WIDTH_MAX)
+    then Some (Verify (record { ops = ops; prog = prog; n = value_of width })) else None
+
 -- `init`, where its numbers are a chip's
 abbrev pub init_on : (banks rows words : List ℕ) → Bor (List ℕ) → Option Command
 init_on banks rows words out =
@@ -118,7 +125,8 @@ command_on_one verb word = or_account (account_named verb) word
 -- the command of three words after its own
 abbrev pub command_on_three : List ℕ → (first second third : Bor (List ℕ)) → Option Command
 command_on_three verb first second third =
-    if bytes_eq verb (codes "replay") && replay_apart first.now second.now third.now
+    if bytes_eq verb (codes "verify") then verify_on first second third.now
+    else if bytes_eq verb (codes "replay") && replay_apart first.now second.now third.now
     then Some (Replay (record { trace = first; image = second; out = third })) else None
 
 -- the command of four words after its own
@@ -133,8 +141,8 @@ command_on_four verb first second third fourth =
 -- the command that the words are: `run OPS PROG SCRIPT IMAGE OUT`, `exec PROG SCRIPT IMAGE OUT`,
 -- `compile OPS PROG`, `show OPS`, `migrate OLD NEW`, `cost PROG N`, `list PROG`,
 -- `init BANKS ROWS WORDS OUT`, `soak SEED`, `scan QUERY IMAGE`,
--- `trace PROG SCRIPT IMAGE OUT TRACE`, `replay TRACE IMAGE OUT` or
--- `guard OPS PROG SCRIPT IMAGE FLIPS OUT`
+-- `trace PROG SCRIPT IMAGE OUT TRACE`, `replay TRACE IMAGE OUT`,
+-- `guard OPS PROG SCRIPT IMAGE FLIPS OUT` or `verify OPS PROG N`
 abbrev pub command_of : List (Bor (List ℕ)) → Option Command
 command_of (verb ∷ ops ∷ prog ∷ script ∷ image ∷ flips ∷ out ∷ []) =
     guard_on verb.now (record {
@@ -175,10 +183,12 @@ IsApart (Scan names) = bytes_eq names.query.now names.image.now ≡ false
 IsApart (Trace names) = traced_apart names ≡ true
 IsApart (Replay names) = replay_apart names.trace.now names.image.now names.out.now ≡ true
 IsApart (Guard names) = guard_apart names ≡ true
+IsApart (Verify names) = bytes_eq names.ops.now names.prog.now ≡ false
 
 -- the numbers of a command are a width, a chip's, or a seed
 abbrev pub HasNumbers : Command → Type 0
 HasNumbers (AccountOf names) = HasWidth names.account
 HasNumbers (Init names) = is_geometry names.geometry ≡ true
 HasNumbers (Soak seed) = seed < 2 ^ 64
+HasNumbers (Verify names) = (0 < names.n) × (names.n ≤ WIDTH_MAX)
 HasNumbers _ = Unit {0}

@@ -15,7 +15,7 @@ ghost use Rattle.machine_model.specs.Agrees.{IsPlain};
 ghost use Rattle.machine_model.specs.Opened.{rows_in_banks};
 ghost use Rattle.machine_model.specs.Report.{total_line};
 ghost use Rattle.cli_model.specs.World.{world};
-ghost use Rattle.cli_model.specs.Steps.{Goes, Put, Store, Use};
+ghost use Rattle.cli_model.specs.Steps.{Goes, Put, Store};
 ghost use Rattle.sim_machine.specs.Machine.{geometry_of, table_in};
 ghost use Rattle.guard_model.specs.FlipText.{AreSorted, IsFlip};
 ghost use Rattle.guard_model.specs.Named.{has_long_name};
@@ -29,6 +29,7 @@ ghost use Rattle.simdram_cli.specs.Guard.{guard_job as job_on, guard_job_plan, g
 ghost use Rattle.simdram_cli.specs.Guard.{work_steps};
 ghost use Rattle.simdram_cli.specs.Plans.{said_of};
 ghost use Rattle.simdram_cli.specs.Inputs.{image_found};
+ghost use Rattle.simdram_cli.specs.Job.{reading};
 ghost use Rattle.cli_model.specs.Reads.{NotRead, ReadAs};
 ghost use Rattle.simdram_cli.specs.Stops.{end_of, reason_of};
 
@@ -165,7 +166,8 @@ fn finish_guarded<'a, F: Folder, S: Sink, D: Dram>(
     ensures kept { Kept (D.view chip.old) (D.view chip.new) }
     ensures did { OnOk result (DidRead ((geometry_of (machine_in guard.old)).banks
         * (geometry_of (machine_in guard.old)).rows) (D.view chip.old) (D.view chip.new)) }
-    ensures goes { Goes (Use ∷ Store name.now (image_bytes (geometry_of (machine_in guard.old))
+    ensures goes { Goes (reading (D.view chip.old).banks
+        ∷ Store name.now (image_bytes (geometry_of (machine_in guard.old))
         (table_in (machine_in guard.old)) (rows_in_banks (D.view chip.old).banks))
         ∷ Put (vote_line outcome.votes flips)
         ∷ Put (total_line (with_reads ((geometry_of (machine_in guard.old)).banks

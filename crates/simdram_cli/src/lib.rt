@@ -19,6 +19,7 @@ mod soak;
 mod stop;
 mod top;
 mod trace;
+mod verify;
 mod words;
 mod work;
 
@@ -28,5 +29,5 @@ pub use top::{one_job, simdram};
 pub use words::{
     AccountNames, Command, CompileNames, ExecNames, FLIPS_MAX, GuardNames, IMAGE_MAX, InitNames,
     MigrateNames, OPS_MAX, PROG_MAX, QUERY_MAX, ReplayNames, RunNames, SCRIPT_MAX, ScanNames,
-    TRACE_MAX, TraceNames, command_of, limits,
+    TRACE_MAX, TraceNames, VerifyNames, command_of, limits,
 };

@@ -13,12 +13,12 @@ ghost use Rattle.machine_model.specs.Agrees.{IsPlain};
 ghost use Rattle.machine_model.specs.Opened.{rows_in_banks};
 ghost use Rattle.machine_model.specs.Report.{total_line};
 ghost use Rattle.cli_model.specs.World.{world};
-ghost use Rattle.cli_model.specs.Steps.{Goes, Open, Use, Store, Put};
+ghost use Rattle.cli_model.specs.Steps.{Goes, Store, Put};
 ghost use Rattle.object_steps.specs.Objects.{LiesOn};
 ghost use Rattle.sim_machine.specs.Machine.{geometry_of, table_in};
 ghost use Rattle.sim_machine.specs.Opening.{machine_on};
 ghost use Rattle.simdram_cli.specs.Inputs.{image_found};
-ghost use Rattle.simdram_cli.specs.Job.{work_steps};
+ghost use Rattle.simdram_cli.specs.Job.{opening, reading, work_steps};
 ghost use Rattle.simdram_cli.specs.Stops.{end_of};
 ghost use Rattle.simdram_cli.specs.Works.{OpenedOn, WorkDone};
 
@@ -45,7 +45,8 @@ pub(crate) fn open<'a, 'p, D: Dram>(
     ensures opened { OnOk result (OpenedOn (image_found (found_in image.entry)) (D.view chip.new)) }
     ensures machine { IfOk result (λ machine. machine ≡ machine_on image.entry.geometry
         prog.entry.programs image.entry.table.pairs) }
-    ensures goes { (files : FolderView) (sink : SinkView) → Goes (Open ∷ []) (end_of result)
+    ensures goes { (files : FolderView) (sink : SinkView) → Goes (opening
+        (image_found (found_in image.entry)) ∷ []) (end_of result)
         (world files sink (D.view chip.old)) (world files sink (D.view chip.new)) }
 {
     match Machine::open(prog, image, chip, alloc) {
@@ -71,7 +72,8 @@ fn finish<'a, F: Folder, S: Sink, D: Dram>(
     ensures kept { Kept (D.view chip.old) (D.view chip.new) }
     ensures did { OnOk result (DidRead ((geometry_of machine.old).banks
         * (geometry_of machine.old).rows) (D.view chip.old) (D.view chip.new)) }
-    ensures goes { Goes (Use ∷ Store name.now (image_bytes (geometry_of machine.old)
+    ensures goes { Goes (reading (D.view chip.old).banks
+        ∷ Store name.now (image_bytes (geometry_of machine.old)
         (table_in machine.old) (rows_in_banks (D.view chip.old).banks))
         ∷ Put (total_line (with_reads ((geometry_of machine.old).banks
         * (geometry_of machine.old).rows) (D.view chip.old).counters) refused) ∷ [])

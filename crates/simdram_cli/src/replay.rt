@@ -8,12 +8,13 @@ ghost use Rattle.object_alloc.specs.Reading.{rows_size};
 ghost use Rattle.object_steps.specs.Objects.{LiesOn};
 ghost use Rattle.sim_machine.specs.Machine.{file_of};
 ghost use Rattle.cli_model.specs.World.{world};
-ghost use Rattle.cli_model.specs.Steps.{Goes, Open, Use, Store, Put};
+ghost use Rattle.cli_model.specs.Steps.{Goes, Store, Put};
 ghost use Rattle.simdram_cli.specs.Inputs.{image_found};
 ghost use Rattle.cli_model.specs.Runs.{Runs};
 ghost use Rattle.simdram_cli.specs.Plans.{said_of};
 ghost use Rattle.simdram_cli.specs.Replay.{EventsDone, events_plan, image_replayed};
 ghost use Rattle.simdram_cli.specs.Replay.{replay_image_plan, replay_line, replay_plan};
+ghost use Rattle.simdram_cli.specs.Replay.{replay_steps};
 ghost use Rattle.simdram_cli.specs.Stops.{end_of, reason_of, trace_reason};
 
 use crate::job::image_stop;
@@ -77,7 +78,8 @@ fn replay_rows<'a, 'p, D: Dram>(
         (D.view chip.new)) }
     ensures file { IfOk result (λ machine. file_of machine
         ≡ image_replayed trace.now (image_found (found_in image.entry))) }
-    ensures goes { (files : FolderView) (sink : SinkView) → Goes (Open ∷ Use ∷ Use ∷ [])
+    ensures goes { (files : FolderView) (sink : SinkView) → Goes (replay_steps
+        trace.now (image_found (found_in image.entry)))
         (end_of result) (world files sink (D.view chip.old)) (world files sink (D.view chip.new)) }
 {
     let mut machine = open(prog, image, chip, alloc)?;

@@ -1,6 +1,7 @@
 //! The top of the program.
 
-ghost use Rattle.std.specs.Prelude.{◌≡◌, ◌↔◌, codes, true, None};
+ghost use Rattle.std.specs.Prelude.{◌≡◌, ◌<◌, ◌≤◌, ◌↔◌, codes, true, None};
+ghost use Rattle.bit_rows.specs.declared.TheConstants.{WIDTH_MAX};
 ghost use Rattle.dram_model.specs.View.{ChipView};
 ghost use Rattle.dram_model.specs.Geometry.{is_geometry};
 ghost use Rattle.host_edge.specs.Views.{FolderView};
@@ -23,6 +24,7 @@ ghost use Rattle.simdram_cli.specs.Scan.{ScanEnds};
 ghost use Rattle.simdram_cli.specs.Soak.{SoakEnds};
 ghost use Rattle.simdram_cli.specs.Stops.{end_of};
 ghost use Rattle.simdram_cli.specs.Tracing.{trace_plan};
+ghost use Rattle.simdram_cli.specs.Verify.{verify_answer, verify_plan};
 ghost use Rattle.simdram_cli.specs.Words.{HasNumbers, IsApart, command_of};
 
 use crate::account::give_account;
@@ -37,9 +39,10 @@ use crate::scan::scan;
 use crate::soak::soak;
 use crate::stop::{Stop, status_of, tell};
 use crate::trace::trace;
+use crate::verify::verify;
 use crate::words::{
     AccountNames, Command, CompileNames, ExecNames, GuardNames, InitNames, MigrateNames,
-    ReplayNames, RunNames, ScanNames, TraceNames, command_of,
+    ReplayNames, RunNames, ScanNames, TraceNames, VerifyNames, command_of,
 };
 use dram_model::Dram;
 use host_edge::{Folder, Sink};
@@ -237,6 +240,39 @@ fn guard_and_answer<F: Folder, S: Sink, D: Dram>(
     answer(ended, out)
 }
 
+/// The exit status of a `verify` that is done; why one stopped is reported first.
+fn answer_verify<S: Sink>(ended: Result<u8, Stop<'_>>, out: &mut S) -> u8
+    ensures status { result ≡ verify_answer ended.entry }
+    ensures tells { (files : FolderView) (chip : ChipView)
+        → Tells (end_of ended.entry) (world files (S.view out.old) chip)
+        (world files (S.view out.new) chip) }
+{
+    match ended {
+        Ok(status) => status,
+        Err(stop) => {
+            let _ = tell(stop, out);
+            status_of(stop)
+        }
+    }
+}
+
+/// Verifies, and tells why it stopped if it did.
+fn verify_and_answer<F: Folder, S: Sink>(
+    names: &VerifyNames<'_>,
+    files: &mut F,
+    out: &mut S,
+    alloc: Global,
+) -> u8
+    requires some { 0 < names.now.n }
+    requires narrow { names.now.n ≤ WIDTH_MAX }
+    ensures { (chip : ChipView) → EndsBy (verify_plan names.now)
+        (world (F.view files.old) (S.view out.old) chip)
+        (world (F.view files.new) (S.view out.new) chip) result }
+{
+    let ended = verify(names, files, out, alloc);
+    answer_verify(ended, out)
+}
+
 /// Does a command.
 fn dispatch<F: Folder, S: Sink, D: Dram>(
     command: &Command<'_>,
@@ -264,6 +300,7 @@ fn dispatch<F: Folder, S: Sink, D: Dram>(
         Command::Trace(names) => trace_and_answer(names, files, out, chip, alloc),
         Command::Replay(names) => replay_and_answer(names, files, out, chip, alloc),
         Command::Guard(names) => guard_and_answer(names, files, out, chip, alloc),
+        Command::Verify(names) => verify_and_answer(names, files, out, alloc),
     }
 }
 
@@ -281,8 +318,9 @@ fn dispatch<F: Folder, S: Sink, D: Dram>(
 /// the events of the script as TRACE; `replay TRACE IMAGE OUT` does the events of TRACE on IMAGE's
 /// rows, stores them with the objects of TRACE as OUT, and puts how many commands the chip did;
 /// `guard OPS PROG SCRIPT IMAGE FLIPS OUT` runs with each object in three copies, inverts the cells
-/// that FLIPS names, and votes before each instruction and after the last. The answer is the exit
-/// status.
+/// that FLIPS names, and votes before each instruction and after the last; `verify OPS PROG N` puts
+/// for each operation of OPS whether PROG's entry of its name does it at width N, for all values
+/// and all contents of the cells and rows at the start. The answer is the exit status.
 pub fn simdram<F: Folder, S: Sink, D: Dram>(
     words: &[&str],
     files: &mut F,

@@ -15,7 +15,7 @@ ghost use Rattle.machine_model.specs.Opened.{Image as ImageOf};
 ghost use Rattle.machine_model.specs.Routines.{Program};
 ghost use Rattle.machine_model.specs.Script.{is_refused, replies, table_at_end};
 ghost use Rattle.cli_model.specs.World.{world};
-ghost use Rattle.cli_model.specs.Steps.{Goes, Store, Use};
+ghost use Rattle.cli_model.specs.Steps.{Goes, Store};
 ghost use Rattle.sim_machine.specs.Machine.{geometry_of, operations_by, table_in};
 ghost use Rattle.sim_machine.specs.Steps.{DidAndRead};
 ghost use Rattle.simdram_cli.specs.Inputs.{image_found};
@@ -23,8 +23,8 @@ ghost use Rattle.simdram_cli.specs.Stops.{end_of};
 ghost use Rattle.cli_model.specs.Runs.{Runs};
 ghost use Rattle.simdram_cli.specs.Plans.{said_of};
 ghost use Rattle.simdram_cli.specs.Tracing.{OpensOn, ScriptRecorded, ScriptTraced, events_on};
-ghost use Rattle.simdram_cli.specs.Tracing.{image_on, reads_on, steps_on, trace_image_plan};
-ghost use Rattle.simdram_cli.specs.Tracing.{trace_job_plan, trace_plan};
+ghost use Rattle.simdram_cli.specs.Tracing.{image_on, reading_on, reads_on, steps_on};
+ghost use Rattle.simdram_cli.specs.Tracing.{trace_image_plan, trace_job_plan, trace_plan};
 
 use crate::job::image_stop;
 use crate::load::{load, load_script};
@@ -71,7 +71,8 @@ fn work_to_image<'a, F: Folder, S: Sink, D: Dram>(
         ≡ count_by is_refused (replies (geometry_of machine.old) (operations_by machine.old)
         (table_in machine.old) (map view_of script.now))) }
     ensures goes { Goes (steps_on machine.old (D.view chip.old).banks (map view_of script.now)
-        ++ (Use ∷ Store name.now (image_on machine.old (D.view chip.old).banks
+        ++ (reading_on machine.old (D.view chip.old).banks (map view_of script.now)
+        ∷ Store name.now (image_on machine.old (D.view chip.old).banks
         (map view_of script.now)) ∷ [])) (end_of result)
         (world (F.view files.old) (S.view out.old) (D.view chip.old))
         (world (F.view files.new) (S.view out.new) (D.view chip.new)) }

@@ -7,7 +7,7 @@ ghost use Rattle.std.specs.Option.{SomeIff};
 ghost use Rattle.simdram_cli.specs.Words.{all_differ, are_apart, command_of, command_on_four};
 ghost use Rattle.simdram_cli.specs.Words.{command_on_one, inputs_apart};
 ghost use Rattle.simdram_cli.specs.Words.{command_on_two, cost_on, init_on, is_number, soak_on};
-ghost use Rattle.simdram_cli.specs.Words.{value_of};
+ghost use Rattle.simdram_cli.specs.Words.{value_of, verify_on};
 ghost use Rattle.simdram_cli.specs.Words.{traced_apart, trace_on};
 ghost use Rattle.simdram_cli.specs.Words.{command_on_three, replay_apart};
 ghost use Rattle.simdram_cli.specs.Words.{guard_apart, guard_on};
@@ -132,6 +132,14 @@ pub struct GuardNames<'a> {
     pub out: &'a str,
 }
 
+/// The files of `verify`, and its width.
+#[derive(Clone, Copy)]
+pub struct VerifyNames<'a> {
+    pub ops: &'a str,
+    pub prog: &'a str,
+    pub n: u8,
+}
+
 /// A command, with its words.
 #[derive(Clone, Copy)]
 pub enum Command<'a> {
@@ -146,6 +154,7 @@ pub enum Command<'a> {
     Trace(TraceNames<'a>),
     Replay(ReplayNames<'a>),
     Guard(GuardNames<'a>),
+    Verify(VerifyNames<'a>),
 }
 
 /// Whether no two of four names are equal.
@@ -271,6 +280,23 @@ fn cost_on<'a>(prog: &'a str, width: &str) -> Option<Command<'a>>
     }
 }
 
+/// The command `verify`, if its files are apart and its number is a width.
+fn verify_on<'a>(ops: &'a str, prog: &'a str, width: &str) -> Option<Command<'a>>
+    ensures { result ≡ verify_on ops.entry prog.entry width.now }
+{
+    if ops == prog {
+        return None;
+    }
+    match number_of(width) {
+        Some(n) if 1 <= n && n <= u16::from(WIDTH_MAX) => Some(Command::Verify(VerifyNames {
+            ops,
+            prog,
+            n: n as u8,
+        })),
+        _ => None,
+    }
+}
+
 /// The number that a word's digits write, however many they are, if it is below 2^64.
 fn seed_of(word: &str) -> Option<u64>
     ensures { SomeIff result ((is_number word.now ≡ true) × (value_of word.now < 2 ^ 64))
@@ -389,7 +415,9 @@ fn command_on_three<'a>(
 ) -> Option<Command<'a>>
     ensures { result ≡ command_on_three verb.now first.entry second.entry third.entry }
 {
-    if verb == "replay" && replay_apart(first, second, third) {
+    if verb == "verify" {
+        verify_on(first, second, third)
+    } else if verb == "replay" && replay_apart(first, second, third) {
         Some(Command::Replay(ReplayNames {
             trace: first,
             image: second,

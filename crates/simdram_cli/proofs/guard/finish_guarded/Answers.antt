@@ -1,4 +1,4 @@
-use Rattle.std.proofs.Common.{[], ◌∷◌, ◌*◌, sym, ◌∙◌}
+use Rattle.std.proofs.Common.{[], ◌∷◌, ◌*◌, inr, refl, sym, ◌∙◌}
 use Rattle.dram_model.specs.View.{with_reads}
 use Rattle.object_alloc.specs.Spelling.{image_bytes}
 use Rattle.machine_model.specs.Opened.{rows_in_banks}
@@ -10,8 +10,22 @@ use Rattle.cli_model.specs.World.{world}
 use Rattle.cli_model.specs.Steps.{Put}
 use Rattle.simdram_cli.specs.Stops.{end_of}
 use Rattle.simdram_cli.proofs.Guarding.{not_stored, stored_then}
-use Rattle.simdram_cli.proofs.Stores.{at_err, at_ok, stored, unstored}
+use Rattle.cli_model.specs.Waves.{doing}
+use Rattle.simdram_cli.proofs.Sending.{left_by}
+use Rattle.simdram_cli.proofs.Stores.{at_err, at_ok, stored, unstored, used}
 use Rattle.simdram_cli.proofs.guard.finish_guarded.Goals as goal
+
+pub returns-then-is_err-clause-goes : goal.returns-then-is_err-clause-goes
+returns-then-is_err-clause-goes g c =
+    let bad = sym c.is_err.ensures.value ∙ c.if-is_err.true in
+    inr (
+      refl,
+      used (g.F.Folder.view c.args.files.now) (g.S.Sink.view c.args.out.now)
+          (g.D.Dram.view c.args.chip.now) (g.D.Dram.view c.image.new.dram)
+          c.image.ensures.kept.faults,
+      at_err c.image.result bad c.image.ensures.failed,
+      left_by [] _ _ (at_err c.image.result bad c.image.ensures.left),
+    )
 
 pub returns-then-is_err-2-clause-goes : goal.returns-then-is_err-2-clause-goes
 returns-then-is_err-2-clause-goes g c =
@@ -20,7 +34,7 @@ returns-then-is_err-2-clause-goes g c =
     let start = g.D.Dram.view c.args.chip.now in
     let rose = at_err c.store.result (sym c.is_err-2.ensures.value
     ∙ c.if-is_err-2.true) c.store.ensures.failed in
-    not_stored c.args.name.now (image_bytes shape (table_in m) (rows_in_banks start.banks))
+    not_stored (doing start.banks []) c.args.name.now (image_bytes shape (table_in m) (rows_in_banks start.banks))
     (Put (vote_line c.args.outcome.votes c.args.flips)
     ∷ Put (total_line (with_reads (shape.banks * shape.rows) start.counters)
     c.args.outcome.refused) ∷ [])
@@ -44,7 +58,7 @@ returns-clause-goes g c =
     let did = at_ok c.image.result read c.image.ensures.did in
     let there = at_ok c.store.result (sym c.is_err-2.ensures.value
     ∙ c.if-is_err-2.false) c.store.ensures.stored in
-    stored_then c.args.name.now bytes
+    stored_then (doing start.banks []) c.args.name.now bytes
     (Put (vote_line c.args.outcome.votes c.args.flips)
     ∷ Put (total_line (with_reads (shape.banks * shape.rows) start.counters)
     c.args.outcome.refused) ∷ [])

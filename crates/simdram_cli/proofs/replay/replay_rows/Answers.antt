@@ -12,7 +12,7 @@ use Rattle.simdram_cli.proofs.replay.replay_rows.Goals as goal
 pub returns-in_err-machine-clause-goes : goal.returns-in_err-machine-clause-goes
 returns-in_err-machine-clause-goes g c files sink =
     let p = err_from_is_err_and c.from_residual.result c.from_residual.ensures.1 in
-    rw (p.1, p.2) (rows_unopened _ (world files sink (g.D.Dram.view c.args.chip.now))
+    rw (p.1, p.2) (rows_unopened c.args.trace.now (image_found (found_in c.args.image)) _ (world files sink (g.D.Dram.view c.args.chip.now))
     (world files sink (g.D.Dram.view c.open.new.chip)) (c.in_err-machine.ensures.goes files sink))
 
 pub image_with-requires-clause-room : goal.image_with-requires-clause-room
@@ -28,10 +28,11 @@ returns-then-is_err-clause-goes g c files sink =
     let before = g.D.Dram.view c.args.chip.now in
     let a = g.D.Dram.view c.open.new.chip in
     let b = g.D.Dram.view c.replay_events.new.dram in
-    events_failed files sink before a b (c.in_ok-machine.ensures.goes files sink)
-    c.replay_events.ensures.kept.faults
+    events_failed c.args.trace.now (image_found (found_in c.args.image)) files sink before a b
+    (c.in_ok-machine.ensures.goes files sink) c.replay_events.ensures.kept.faults
+    c.in_ok-machine.ensures.opened
     (at_err c.replay_events.result (sym c.is_err.ensures.value ∙ c.if-is_err.true)
-    c.replay_events.ensures.stopped).rose
+    c.replay_events.ensures.stopped)
 
 pub returns-then-is_err-2-clause-goes : goal.returns-then-is_err-2-clause-goes
 returns-then-is_err-2-clause-goes g c files sink =
@@ -39,14 +40,17 @@ returns-then-is_err-2-clause-goes g c files sink =
     let a = g.D.Dram.view c.open.new.chip in
     let b = g.D.Dram.view c.replay_events.new.dram in
     let last = g.D.Dram.view c.image_with.new.dram in
-    reads_failed files sink before a b last (c.in_ok-machine.ensures.goes files sink)
-    c.replay_events.ensures.kept.faults c.image_with.ensures.kept.faults
-    (at_err c.image_with.result (sym c.is_err-2.ensures.value ∙ c.if-is_err-2.true)
-    c.image_with.ensures.failed)
+    let bad = sym c.is_err-2.ensures.value ∙ c.if-is_err-2.true in
+    reads_failed c.args.trace.now (image_found (found_in c.args.image)) files sink before a b last
+    (c.in_ok-machine.ensures.goes files sink) c.replay_events.ensures.kept.faults
+    c.image_with.ensures.kept.faults c.in_ok-machine.ensures.opened
+    (at_ok c.replay_events.result (sym c.is_err.ensures.value ∙ c.if-is_err.false)
+    c.replay_events.ensures.did) (at_err c.image_with.result bad c.image_with.ensures.failed)
+    (at_err c.image_with.result bad c.image_with.ensures.left)
 
 pub returns-clause-goes : goal.returns-clause-goes
 returns-clause-goes g c files sink =
-    rows_read files sink (g.D.Dram.view c.args.chip.now) (g.D.Dram.view c.open.new.chip)
+    rows_read c.args.trace.now (image_found (found_in c.args.image)) files sink (g.D.Dram.view c.args.chip.now) (g.D.Dram.view c.open.new.chip)
     (g.D.Dram.view c.replay_events.new.dram) (g.D.Dram.view c.image_with.new.dram)
     (c.in_ok-machine.ensures.goes files sink) c.replay_events.ensures.kept.faults
     c.image_with.ensures.kept.faults

@@ -1,11 +1,15 @@
-use Rattle.std.proofs.Common.{ap, map, sym, ◌∙◌}
+use Rattle.std.proofs.Common.{[], ap, map, subst, sym, ◌∙◌}
 use Rattle.std.proofs.lemmas.Result.{err_from_is_err_and}
 use Rattle.bbop_isa.specs.Forms.{view_of}
+use Rattle.dram_model.specs.Chip.{Banks, after}
+use Rattle.transpose_unit.specs.Stopped.{StoppedWithin}
 use Rattle.dram_model.proofs.EventLaws.{Kept-more}
 use Rattle.sim_machine.specs.Machine.{geometry_of, table_in}
 use Rattle.cli_model.specs.World.{world}
 use Rattle.cli_model.specs.Steps.{CannotWrite, ChipFailed, Done, Stopped}
-use Rattle.simdram_cli.specs.Tracing.{image_on}
+use Rattle.cli_model.specs.Waves.{doing}
+use Rattle.simdram_cli.specs.Tracing.{events_on, image_on}
+use Rattle.simdram_cli.proofs.Sending.{left_by}
 use Rattle.simdram_cli.proofs.Stores.{at_err, at_ok, stored, unstored}
 use Rattle.simdram_cli.proofs.Tracing.{did_all, image_failed, image_is_on, image_stored}
 use Rattle.simdram_cli.proofs.Tracing.{image_unstored, then_image, work_stopped}
@@ -34,12 +38,15 @@ returns-then-is_err-clause-goes g c =
     let last = g.D.Dram.view c.image.new.dram in
     let script = map view_of c.args.script.now in
     let banks = (g.D.Dram.view c.args.chip.now).banks in
+    let bad = sym c.is_err.ensures.value ∙ c.if-is_err.true in
     then_image c.args.machine.now banks script c.args.name.now (Stopped ChipFailed)
     (world files (g.S.Sink.view c.args.out.now) (g.D.Dram.view c.args.chip.now))
     (world files out mid) (world files out last) (c.in_ok-refused.ensures.goes files)
-    (image_failed c.args.name.now (image_on c.args.machine.now banks script) files out mid last
-    c.image.ensures.kept.faults (at_err c.image.result (sym c.is_err.ensures.value
-    ∙ c.if-is_err.true) c.image.ensures.failed))
+    (image_failed (doing (after (events_on c.args.machine.now script) banks) [])
+    c.args.name.now (image_on c.args.machine.now banks script) files out mid last
+    c.image.ensures.kept.faults (at_err c.image.result bad c.image.ensures.failed)
+    (left_by [] _ last.banks (subst (λ (b : Banks). StoppedWithin [] b last.banks)
+    c.in_ok-refused.ensures.did.banks (at_err c.image.result bad c.image.ensures.left))))
 
 pub returns-then-is_err-2-clause-kept : goal.returns-then-is_err-2-clause-kept
 returns-then-is_err-2-clause-kept g c =
@@ -49,7 +56,7 @@ returns-then-is_err-2-clause-kept g c =
 pub returns-then-is_err-2-clause-goes : goal.returns-then-is_err-2-clause-goes
 returns-then-is_err-2-clause-goes g c =
     let files = g.F.Folder.view c.args.files.now in
-    let after = g.F.Folder.view c.store.new.self in
+    let stores = g.F.Folder.view c.store.new.self in
     let out = g.S.Sink.view c.work.new.out in
     let mid = g.D.Dram.view c.work.new.chip in
     let last = g.D.Dram.view c.image.new.dram in
@@ -60,9 +67,10 @@ returns-then-is_err-2-clause-goes g c =
     then_image c.args.machine.now banks script c.args.name.now
     (Stopped (CannotWrite c.args.name.now))
     (world files (g.S.Sink.view c.args.out.now) (g.D.Dram.view c.args.chip.now))
-    (world files out mid) (world after out last) (c.in_ok-refused.ensures.goes files)
-    (image_unstored c.args.name.now (image_on c.args.machine.now banks script) files after out mid
-    last c.image.ensures.kept.faults (unstored c.args.name.now files after out last
+    (world files out mid) (world stores out last) (c.in_ok-refused.ensures.goes files)
+    (image_unstored (doing (after (events_on c.args.machine.now script) banks) [])
+    c.args.name.now (image_on c.args.machine.now banks script) files stores out mid
+    last c.image.ensures.kept.faults (unstored c.args.name.now files stores out last
     c.store.ensures.others rose c.store.ensures.counts))
 
 pub returns-clause-kept : goal.returns-clause-kept
@@ -85,7 +93,7 @@ returns-clause-table g c = ap table_in c.image.ensures.same ∙ c.in_ok-refused.
 pub returns-clause-goes : goal.returns-clause-goes
 returns-clause-goes g c =
     let files = g.F.Folder.view c.args.files.now in
-    let after = g.F.Folder.view c.store.new.self in
+    let stores = g.F.Folder.view c.store.new.self in
     let out = g.S.Sink.view c.work.new.out in
     let start = g.D.Dram.view c.args.chip.now in
     let mid = g.D.Dram.view c.work.new.chip in
@@ -100,8 +108,9 @@ returns-clause-goes g c =
     let there = at_ok c.store.result (sym c.is_err-2.ensures.value
     ∙ c.if-is_err-2.false) c.store.ensures.stored in
     then_image machine start.banks script c.args.name.now Done
-    (world files (g.S.Sink.view c.args.out.now) start) (world files out mid) (world after out last)
+    (world files (g.S.Sink.view c.args.out.now) start) (world files out mid) (world stores out last)
     (c.in_ok-refused.ensures.goes files)
-    (image_stored c.args.name.now (image_on machine start.banks script) files after out mid
-    last c.image.ensures.kept.faults (stored c.args.name.now _ files after out last
+    (image_stored (doing (after (events_on machine script) start.banks) [])
+    c.args.name.now (image_on machine start.banks script) files stores out mid
+    last c.image.ensures.kept.faults (stored c.args.name.now _ files stores out last
     c.store.ensures.others (rw (c.file.ensures, file, is) at there) c.store.ensures.counts))

@@ -1,23 +1,33 @@
-use Rattle.std.proofs.Common.{refl}
+use Rattle.std.proofs.Common.{refl, subst}
+use Rattle.transpose_unit.specs.Stopped.{StoppedWithin}
 use Rattle.bbop_isa.specs.Forms.{view_of}
-use Rattle.sim_machine.specs.Machine.{is_print}
-use Rattle.simdram_cli.proofs.Sending.{instr_done, instr_failed}
+use Rattle.machine_model.specs.Pieces.{Alone, Piece}
+use Rattle.cli_model.specs.Waves.{doing}
+use Rattle.sim_machine.specs.Machine.{events_by, is_print}
+use Rattle.sim_machine.proofs.Stepping.{alone}
+use Rattle.simdram_cli.proofs.Sending.{instr_done, instr_failed, left_by}
 use Rattle.simdram_cli.proofs.work.work_line.Goals as goal
 
 pub returns-in-Ok-clause-goes : goal.returns-in-Ok-clause-goes
 returns-in-Ok-clause-goes g c files =
-    instr_done (is_print (view_of c.args.instr.now)) _ files (g.S.Sink.view c.args.out.now)
+    instr_done (doing (g.D.Dram.view c.args.chip.now).banks
+    (events_by c.args.machine.now (Alone (view_of c.args.instr.now))))
+    (is_print (view_of c.args.instr.now)) _ files (g.S.Sink.view c.args.out.now)
     (g.S.Sink.view c.step.new.out) (g.D.Dram.view c.args.chip.now) (g.D.Dram.view c.step.new.dram)
     c.in-Ok.ensures.sent c.step.ensures.sink_faults c.step.ensures.kept.faults
 
 pub returns-in-Err-clause-goes : goal.returns-in-Err-clause-goes
 returns-in-Err-clause-goes g c files =
-    rw c.fault_stop.ensures (instr_failed c.in-Err.fault (is_print (view_of c.args.instr.now)) _
+    rw c.fault_stop.ensures (instr_failed (doing (g.D.Dram.view c.args.chip.now).banks
+    (events_by c.args.machine.now (Alone (view_of c.args.instr.now)))) c.in-Err.fault (is_print (view_of c.args.instr.now)) _
     files (g.S.Sink.view c.args.out.now) (g.S.Sink.view c.step.new.out)
     (g.D.Dram.view c.args.chip.now) (g.D.Dram.view c.step.new.dram) (record {
       sink = c.step.ensures.sink_faults;
       chip = c.step.ensures.kept.faults;
       chip_rose = λ e. (c.in-Err.ensures.chip_fault (rw e refl)).rose;
+      left = λ e. left_by _ _ _ (subst (λ (p : Piece). StoppedWithin (events_by c.args.machine.now p)
+          (g.D.Dram.view c.args.chip.now).banks (g.D.Dram.view c.step.new.dram).banks)
+          (alone (view_of c.args.instr.now) c.requires.alone) (c.in-Err.ensures.left (rw e refl)));
       unsent = λ e other. c.in-Err.ensures.unsent (rw e refl) other;
       sink_rose = λ e. c.in-Err.ensures.write_fault (rw e refl);
       part = λ e. c.in-Err.ensures.part;

@@ -1,0 +1,90 @@
+-- The command `verify`.
+use Rattle.std.specs.Prelude.{◌≡◌, ◌⊎◌, map, ℕ, List, [], ◌∷◌, ◌++◌, Some, Result, Ok, Err}
+use Rattle.std.specs.List.{AllByRecursion}
+use Rattle.host_edge.specs.Views.{Files, Known}
+use Rattle.op_text.specs.Language.{Operation}
+use Rattle.op_text.specs.OpsOf.{IsOpsOf}
+use Rattle.uprog_code.specs.Programs.{IsProgram}
+use Rattle.uprog_code.specs.Texts.{text_op}
+use Rattle.uprog_bin.specs.Spelling.{HasVersion, program_bytes}
+use Rattle.uprog_bin.specs.Opened.{IsProgramFile}
+use Rattle.machine_model.specs.Routines.{Program}
+use Rattle.verify_job.specs.declared.finding.Finding.{Finding}
+use Rattle.verify_job.specs.Findings.{AreFindings, HasRight, status_of}
+use Rattle.verify_job.specs.Report.{report}
+use Rattle.cli_model.specs.World.{World}
+use Rattle.cli_model.specs.Status.{reason_status}
+use Rattle.cli_model.specs.Steps.{Put, Reason, Take}
+use Rattle.cli_model.specs.Plan.{Answers, Loads, Makes, Plan, Then}
+use Rattle.simdram_cli.specs.declared.stop.Stop.{Stop}
+use Rattle.simdram_cli.specs.declared.words.TheConstants.{OPS_MAX, PROG_MAX}
+use Rattle.simdram_cli.specs.declared.words.VerifyNames.{VerifyNames}
+use Rattle.simdram_cli.specs.Headline.{Spells}
+use Rattle.simdram_cli.specs.Inputs.{ops_in}
+use Rattle.simdram_cli.specs.Programs.{prog_in}
+use Rattle.simdram_cli.specs.Stops.{reason_of}
+
+-- what its function says: the status of what it found, or why it stopped
+abbrev pub verify_said : Result ℕ Stop → Result ℕ Reason
+verify_said (Ok status) = Ok status
+verify_said (Err stop) = Err (reason_of stop)
+
+-- the status that it is answered with
+abbrev pub verify_answer : Result ℕ Stop → ℕ
+verify_answer (Ok status) = status
+verify_answer (Err stop) = reason_status (reason_of stop)
+
+-- the ops of a text, and what is found of a program's entries of their names
+pub record Found : Type 0 where
+  pub ops : List Operation
+  pub findings : List Finding
+
+-- these are the ops of OPS, and the findings are true of the program of PROG at this width
+pub record IsFound (n : ℕ) (ops_text prog_text : List ℕ) (program : Program) (found : Found)
+    : Type 0 where
+  pub ops : IsOpsOf ops_text found.ops
+  pub file : IsProgramFile prog_text
+  pub are : AreFindings n program (map text_op found.ops) found.findings
+
+-- the report of what is found is sent, and its status answered
+abbrev pub found_plan : ℕ → Found → Plan
+found_plan n found = Then (Put (report n found.ops found.findings) ∷ [])
+    (Answers (status_of found.findings) (λ chip. Unit {0}))
+
+-- OPS and PROG are loaded, and what is found of PROG's entries is told
+abbrev pub verify_plan : VerifyNames → Plan
+verify_plan names = Loads names.ops.now OPS_MAX ops_in (λ ops_text u.
+    Loads names.prog.now PROG_MAX prog_in (λ prog_text program.
+    Then (Take ∷ []) (Makes (IsFound names.n ops_text prog_text program)
+    (λ found. found_plan names.n found))))
+
+-- the statuses under which the report was sent
+abbrev pub IsVerifyDone : ℕ → Type 0
+IsVerifyDone status = (status ≡ 0) ⊎ ((status ≡ 19) ⊎ (status ≡ 20))
+
+-- For each op of OPS, in order, what is found of the entry of its name is true of the program that
+-- PROG has in some version, and the report of it was sent. The status is that of the findings: at 0
+-- each op has an entry that does it at this width. All files are as at entry
+pub record Verified (names : VerifyNames) (before after : Files) (old new : World) (status : ℕ)
+    : Type 0 where
+  pub ops : List Operation
+  pub program : Program
+  pub version : ℕ
+  pub findings : List Finding
+  pub ops_are : Spells (before names.ops.now) ops
+  pub legal : IsProgram program
+  pub has : HasVersion version program
+  pub prog_is : before names.prog.now ≡ Some (program_bytes version program)
+  pub are : AreFindings names.n program (map text_op ops) findings
+  pub answers : status ≡ status_of findings
+  pub right : status ≡ 0 → AllByRecursion (HasRight names.n program) (map text_op ops)
+  pub files : after ≡ before
+  pub sent : Known (λ x y. y ≡ x ++ report names.n ops findings) old.sink.sent new.sink.sent
+
+-- the text and the status are those of true findings
+pub record IsReport (n : ℕ) (program : Program) (ops : List Operation) (text : List ℕ)
+    (status : ℕ) : Type 0 where
+  pub findings : List Finding
+  pub are : AreFindings n program (map text_op ops) findings
+  pub text_is : text ≡ report n ops findings
+  pub status_is : status ≡ status_of findings

@@ -1,0 +1,12 @@
+pub mod Orders
+pub mod Runs
+pub mod Right
+pub mod Ran
+pub mod KindLists
+pub mod Numbers
+pub mod Ones
+pub mod Results
+pub mod Steps
+pub mod Wrong
+pub mod Cases
+pub mod Says

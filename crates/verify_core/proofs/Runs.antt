@@ -1,0 +1,132 @@
+-- Runs on variables, in a diagram that grew, and from a column of one's choice
+use Rattle.std.specs.Prelude.{◌≡◌, ℕ, ◌+◌, ◌*◌, ◌<◌, ◌≤◌, Bool, List, length, slice_index}
+use Rattle.std.proofs.Common.{sym, ◌∙◌, ap, arith}
+use Rattle.bit_rows.specs.Bits.{flip_if}
+use Rattle.dram_model.specs.declared.address.Cell.TheVariants.{T, Dcc, D}
+use Rattle.dram_model.specs.Column.{Column}
+use Rattle.op_text.specs.declared.tree.Kind.{Kind}
+use Rattle.uprog_code.specs.Shape.{Shape}
+use Rattle.uprog_code.specs.Machine.{Issue}
+use Rattle.uprog_code.specs.Bound.{Bound}
+use Rattle.uprog_code.specs.Fits.{Fits}
+use Rattle.uprog_code.specs.Implements.{numbers}
+use Rattle.bdd.specs.declared.Edge.{Edge}
+use Rattle.bdd.specs.declared.Node.{Node}
+use Rattle.bdd.specs.Graphs.{Keeps}
+use Rattle.bdd.proofs.Laws.{value-kept}
+use Rattle.symbolic_column.specs.Symbols.{AreCells, Cells, edge_at, column_of}
+use Rattle.symbolic_column.proofs.Lines.{column-kept, cells-kept}
+use Rattle.binding_laws.specs.Alike.{Alike}
+use Rattle.binding_laws.specs.Canonical.{canonical, canonical_rows, result_rows, value_rows, moved, bases}
+use Rattle.binding_laws.proofs.Settled.{canonical-fits, moved-alike, same-alike, base-at, base-small}
+use Rattle.binding_laws.proofs.Enough.{numbers-same}
+use Rattle.verify_core.specs.Starts.{IsStart, bits_of, row_variable}
+use Rattle.verify_core.specs.SymbolicRuns.{IsRun, IsDifference, ResultsDiffer}
+use Rattle.verify_core.specs.Verdicts.{SameKinds}
+use Rattle.verify_core.proofs.Orders.{bits-tee, bits-dual, bits-row}
+
+-- a diagram that grew keeps the variables
+pub start-kept : (x y : List Node) (n s r : ℕ) (c : Cells) → Keeps x y → AreCells x c
+    → IsStart x n s r c → IsStart y n s r c
+start-kept x y n s r c k all i = record {
+  tees = λ bits j l. value-kept x y bits (edge_at c (T j)) k (all (T j)) ∙ i.tees bits j l;
+  duals = λ bits j l. value-kept x y bits (edge_at c (Dcc j)) k (all (Dcc j)) ∙ i.duals bits j l;
+  rows = λ bits j l. value-kept x y bits (edge_at c (D j)) k (all (D j)) ∙ i.rows bits j l;
+}
+
+-- and what a run came to
+pub run-kept : (shape : Shape) (n : ℕ) (issues : List Issue) (x y : List Node) (end : Cells)
+    → Keeps x y → IsRun shape n issues x end → IsRun shape n issues y end
+run-kept shape n issues x y end k ran = record {
+  first = ran.first;
+  start = ran.start;
+  starts = ran.starts;
+  start_rows = ran.start_rows;
+  does = λ bits. column-kept x y bits end k ran.cells ∙ ran.does bits;
+  cells = cells-kept x y end k ran.cells;
+  rows = ran.rows;
+  short = ran.short;
+}
+
+-- and where two runs differ
+pub difference-kept : (old new last : List Node) (own made : Cells) (row : ℕ) (e : Edge)
+    → Keeps old last → Keeps new last → AreCells old own → AreCells old made
+    → IsDifference old new own made row e → IsDifference last last own made row e
+difference-kept old new last own made row e k l p q d = record {
+  named = omega (arith, d.named, l.longer);
+  some = d.some;
+  value = λ bits. value-kept new last bits e l d.named ∙ d.value bits
+      ∙ ap (λ (s : Column). flip_if (s (D row)) (column_of old bits made (D row)))
+      (sym (column-kept old last bits own k p))
+      ∙ ap (λ (s : Column). flip_if (column_of last bits own (D row)) (s (D row)))
+      (sym (column-kept old last bits made k q));
+}
+
+pub results-kept : (shape : Shape) (n : ℕ) (old new last : List Node) (own made : Cells) (e : Edge)
+    → Keeps old last → Keeps new last → AreCells old own → AreCells old made
+    → ResultsDiffer shape n old new own made e → ResultsDiffer shape n last last own made e
+results-kept shape n old new last own made e k l p q d = record {
+  which = d.which;
+  position = d.position;
+  inside = d.inside;
+  difference = difference-kept old new last own made (d.which * n + d.position) e k l p q d.difference;
+}
+
+-- an assignment that gives a column, as far as the canonical bank goes
+pub start-alike : (shape : Shape) (n q : ℕ) (c : Bound) (t : Column) (issues : List Issue)
+    (nodes : List Node) (end : Cells) → 0 < n → Fits q shape n c
+    → (ran : IsRun shape n issues nodes end)
+    → (let bits = bits_of n (length shape.sources) (result_rows shape n) (moved shape n q c t) in
+    Alike shape n (canonical_rows shape n) q (canonical shape n) c
+    (column_of ran.first bits ran.start) t)
+start-alike shape n q c t issues nodes end some fits ran =
+    let m = moved shape n q c t in
+    let s = length shape.sources in
+    let r = result_rows shape n in
+    let bits = bits_of n s r m in
+    same-alike shape n q c (column_of ran.first bits ran.start) m t some
+    (λ k l. ran.starts.tees bits k l ∙ bits-tee n s r m k l)
+    (λ k l. ran.starts.duals bits k l ∙ bits-dual n s r m k l)
+    (λ k l. ran.starts.rows bits k (omega (arith, ran.start_rows, l)) ∙ bits-row n s r m k some)
+    (moved-alike shape n q c t some fits)
+
+-- columns of variables hold the same numbers as sources, whatever the scratch
+pub sources-same : (a b : Shape) (n : ℕ) (x y : List Node) (c d : Cells) (bits : ℕ → Bool) → 0 < n
+    → SameKinds a b → IsStart x n (length a.sources) (result_rows a n) c
+    → IsStart y n (length b.sources) (result_rows b n) d → value_rows a n ≤ length c.rows
+    → value_rows b n ≤ length d.rows
+    → numbers n a.sources (canonical a n).sources (column_of x bits c)
+    ≡ numbers n b.sources (canonical b n).sources (column_of y bits d)
+sources-same a b n x y c d bits some same p q long wide =
+    numbers-same (canonical_rows a n) (canonical_rows a n) n a.sources
+    (bases n (result_rows a n) a.sources) (bases n (result_rows a n) a.sources)
+    (column_of x bits c) (column_of y bits d) (canonical-fits a n some).sources
+    (canonical-fits a n some).sources
+    (λ w i h. at (slice_index (bases n (result_rows a n) a.sources) w + i)
+    (omega (
+      arith,
+      base-at n (result_rows a n) a.sources w i h,
+      (base-small n (result_rows a n) a.sources w i some h).0,
+    )))
+    ∙ ap (λ (ks : List Kind). numbers n ks (bases n (result_rows a n) ks)
+    (column_of y bits d)) same.sources
+    ∙ ap (λ (r : ℕ). numbers n b.sources (bases n r b.sources) (column_of y bits d)) rows-one
+  where
+    rows-one : result_rows a n ≡ result_rows b n
+    rows-one = ap (λ (ks : List Kind). n * length ks) same.results
+
+    sources-one : length a.sources ≡ length b.sources
+    sources-one = ap (λ (ks : List Kind). length ks) same.sources
+
+    at : (k : ℕ) → k < value_rows a n → column_of x bits c (D k) ≡ column_of y bits d (D k)
+    at k l =
+        p.rows bits k (omega (arith, l, long))
+        ∙ ap (λ (r : ℕ). bits (6 + row_variable n (length a.sources) r k)) rows-one
+        ∙ ap (λ (s : ℕ). bits (6 + row_variable n s (result_rows b n) k)) sources-one
+        ∙ sym (q.rows bits k (omega (
+          arith,
+          l,
+          wide,
+          rows-one,
+          ap (λ (v : ℕ). n * v) sources-one,
+        )))

@@ -1,0 +1,15 @@
+use Rattle.std.proofs.Common.{◌≡◌, ◌+◌, ◌<◌, ℕ, Bool}
+use Rattle.dram_model.specs.declared.address.Cell.TheVariants.{D}
+use Rattle.bdd.specs.Graphs.{AreNodes, Keeps}
+use Rattle.symbolic_column.specs.Symbols.{column_of}
+use Rattle.verify_core.proofs.compare.first_difference.Given as goal
+
+abbrev pub invariant-loop-k : goal.invariant-loop-k
+invariant-loop-k l = record {
+  nodes : AreNodes l.diagram.nodes;
+  keeps : Keeps l.fn.diagram.nodes l.diagram.nodes;
+  bound : l.diagram.bound ≡ l.fn.diagram.bound;
+  agree : (bits : ℕ → Bool) (i : ℕ) → i < l.k
+      → column_of l.fn.diagram.nodes bits l.own (D (l.first + i))
+      ≡ column_of l.fn.diagram.nodes bits l.made (D (l.first + i));
+}

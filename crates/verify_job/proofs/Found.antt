@@ -1,0 +1,151 @@
+-- The findings of ops, one after another.
+use Rattle.std.proofs.Common.{◌≡◌, ℕ, zero, suc, ◌+◌, ◌<◌, Bool, true, false, List, [], ◌∷◌, ◌++◌}
+use Rattle.std.proofs.Common.{◌≤◌, length, map, take, refl, sym, ◌∙◌, ap, subst, arith, cond}
+use Rattle.std.proofs.Common.{Option, Some, None}
+use Rattle.std.specs.Prelude.{◌&&◌, bytes_eq, nat_lt, position, slice_get, slice_index_or}
+use Rattle.std.specs.List.{AllByRecursion, list_all, position_or_len}
+use Rattle.std.proofs.lemmas.List.Folds.{find_at}
+use Rattle.std.proofs.lemmas.Option.{slice_get_past}
+use Rattle.uprog_code.specs.declared.code.EntryCode.{EntryCode}
+use Rattle.bit_rows.specs.declared.TheConstants.{WIDTH_MAX}
+use Rattle.uprog_code.specs.Shape.{Microprogram, Shape, microprogram_of, shape_of}
+use Rattle.uprog_code.specs.Machine.{HasEnded, trace}
+use Rattle.uprog_code.specs.Legal.{IsLegalCode}
+use Rattle.uprog_code.specs.Programs.{IsEntry, IsProgram}
+use Rattle.uprog_code.specs.Texts.{EntryDoes, ImplementsAll, TextOp}
+use Rattle.machine_model.specs.Routines.{Program, entry_named}
+use Rattle.verify_core.specs.declared.verdict.Verdict.TheVariants.{Right, Wrong, Stuck, OtherKinds}
+use Rattle.verify_core.specs.declared.verdict.Verdict.TheVariants.{Unknown}
+use Rattle.verify_job.specs.declared.finding.Finding.{Finding}
+use Rattle.verify_job.specs.declared.finding.Finding.TheVariants.{NoEntry, Entry}
+use Rattle.verify_job.specs.Findings.{AreFindings, HasRight, IsFinding, is_right, may_be_right}
+use Rattle.verify_job.specs.Findings.{status_of}
+
+-- an entry of a program that does ops, with its op
+pub op_there : (items : List EntryCode) (ops : List TextOp) (k : ℕ) (x : EntryCode)
+    → ImplementsAll (map microprogram_of items) ops → k < length items
+    → x ≡ slice_index_or items k x → (o : TextOp) × EntryDoes (microprogram_of x) o
+op_there [] ops k x does lt e = absurd (omega arith)
+op_there (y ∷ items) [] k x does lt e = absurd does
+op_there (y ∷ items) (o ∷ ops) zero x does lt e =
+    (o, subst (λ (z : EntryCode). EntryDoes (microprogram_of z) o) (sym e) does.0)
+op_there (y ∷ items) (o ∷ ops) (suc k) x does lt e =
+    op_there items ops k x does.1 (omega arith) e
+
+-- one more finding
+pub found_more : (n : ℕ) (program : Program) (items : List EntryCode) (ops : List TextOp) (k : ℕ)
+    (x : EntryCode) (found : List Finding) (f : Finding)
+    → ImplementsAll (map microprogram_of items) ops → k < length items
+    → x ≡ slice_index_or items k x
+    → ((o : TextOp) → EntryDoes (microprogram_of x) o → IsFinding n program o f)
+    → AreFindings n program (take k ops) found
+    → AreFindings n program (take (suc k) ops) (found ++ f ∷ [])
+found_more n program [] ops k x found f does lt e own are = absurd (omega arith)
+found_more n program (y ∷ items) [] k x found f does lt e own are = absurd does
+found_more n program (y ∷ items) (o ∷ ops) zero x [] f does lt e own are =
+    (own o (subst (λ (z : EntryCode). EntryDoes (microprogram_of z) o) (sym e) does.0), tt)
+found_more n program (y ∷ items) (o ∷ ops) zero x (g ∷ found) f does lt e own are = absurd are
+found_more n program (y ∷ items) (o ∷ ops) (suc k) x [] f does lt e own are = absurd are
+found_more n program (y ∷ items) (o ∷ ops) (suc k) x (g ∷ found) f does lt e own are =
+    (are.0, found_more n program items ops k x found f does.1 (omega arith) e own are.1)
+
+-- as many ops as entries
+pub as_many : (es : List Microprogram) (ops : List TextOp) → ImplementsAll es ops
+    → length ops ≡ length es
+as_many [] [] does = refl
+as_many [] (o ∷ ops) does = absurd does
+as_many (e ∷ es) [] does = absurd does
+as_many (e ∷ es) (o ∷ ops) does = ap suc (as_many es ops does.1)
+
+-- what the status 0 says
+
+right_one : (n : ℕ) (program : Program) (o : TextOp) (f : Finding) → is_right f ≡ true
+    → IsFinding n program o f → HasRight n program o
+right_one n program o NoEntry e is = absurd (cc)
+right_one n program o (Entry head (Right counts)) e is = (is.0, is.1, is.3.2)
+right_one n program o (Entry head (Wrong case)) e is = absurd (cc)
+right_one n program o (Entry head (Stuck walk)) e is = absurd (cc)
+right_one n program o (Entry head OtherKinds) e is = absurd (cc)
+right_one n program o (Entry head (Unknown limit)) e is = absurd (cc)
+
+both : (a b : Bool) → a && b ≡ true → (a ≡ true) × (b ≡ true)
+both true b e = (refl, e)
+both false b e = absurd (cc)
+
+right_all : (n : ℕ) (program : Program) (ops : List TextOp) (found : List Finding)
+    → list_all is_right found ≡ true → AreFindings n program ops found
+    → AllByRecursion (HasRight n program) ops
+right_all n program [] found e are = tt
+right_all n program (o ∷ ops) [] e are = absurd are
+right_all n program (o ∷ ops) (f ∷ found) e are =
+    let parts = both (is_right f) (list_all is_right found) e in
+    (right_one n program o f parts.0 are.0, right_all n program ops found parts.1 are.1)
+
+zero_all : (a b : Bool) → ◌≡◌ {A = ℕ} (cond a 0 (cond b 20 19)) 0 → a ≡ true
+zero_all true b e = refl
+zero_all false true e = absurd (cc)
+zero_all false false e = absurd (cc)
+
+-- where the status is 0, the program has for each op an entry that does it
+pub all_right : (n : ℕ) (program : Program) (ops : List TextOp) (found : List Finding)
+    → status_of found ≡ 0 → AreFindings n program ops found
+    → AllByRecursion (HasRight n program) ops
+all_right n program ops found e are =
+    right_all n program ops found
+    (zero_all (list_all is_right found) (list_all may_be_right found) e) are
+
+-- the entry of an op's name, by its place
+
+some_place : (b : Bool) (n k : ℕ) → Some k ≡ cond b (Some n) None → n ≡ k
+some_place true n k e = cc
+some_place false n k e = absurd (cc)
+
+no_place : (b : Bool) (n : ℕ) → None ≡ cond b (Some n) None → b ≡ false
+no_place true n e = absurd (cc)
+no_place false n e = refl
+
+past : {X : Type 0} (xs : List X) (n : ℕ) → nat_lt n (length xs) ≡ false → None ≡ slice_get xs n
+past xs n e = sym (slice_get_past xs n (grind arith))
+
+-- the entry at the place of a name is the one of the name
+pub named_there : (program : Program) (name : List ℕ) (o : TextOp) (k : ℕ) (e : Microprogram)
+    → name ≡ o.name → Some k ≡ position (λ m. bytes_eq m.name name) program
+    → slice_get program k ≡ Some e → entry_named program o.name ≡ Some e
+named_there program name o k e same is at =
+    let p = λ (m : Microprogram). bytes_eq m.name name in
+    let place = some_place (nat_lt (position_or_len p program) (length program))
+    (position_or_len p program) k is in
+    subst (λ (x : List ℕ). entry_named program x ≡ Some e) same
+    (find_at p program ∙ ap (slice_get program) place ∙ at)
+
+-- and where a name has no place, there is none
+pub none_named : (program : Program) (name : List ℕ) (o : TextOp) → name ≡ o.name
+    → None ≡ position (λ m. bytes_eq m.name name) program → entry_named program o.name ≡ None
+none_named program name o same is =
+    let p = λ (m : Microprogram). bytes_eq m.name name in
+    subst (λ (x : List ℕ). entry_named program x ≡ None) same
+    (find_at p program ∙ sym (past program (position_or_len p program)
+    (no_place (nat_lt (position_or_len p program) (length program)) (position_or_len p program)
+    is)))
+
+legal_there : (items : List EntryCode) (k : ℕ) (x : EntryCode)
+    → AllByRecursion IsEntry (map microprogram_of items) → k < length items
+    → x ≡ slice_index_or items k x → IsEntry (microprogram_of x)
+legal_there [] k x legal lt e = absurd (omega arith)
+legal_there (y ∷ items) zero x legal lt e =
+    subst (λ (z : EntryCode). IsEntry (microprogram_of z)) (sym e) legal.0
+legal_there (y ∷ items) (suc k) x legal lt e =
+    legal_there items k x legal.1 (omega arith) e
+
+-- an entry of a program that does ops is legal, and its walks end
+pub entry_there : (n : ℕ) (items : List EntryCode) (ops : List TextOp) (k : ℕ) (x : EntryCode)
+    → 0 < n → n ≤ WIDTH_MAX → ImplementsAll (map microprogram_of items) ops
+    → IsProgram (map microprogram_of items) → k < length items → x ≡ slice_index_or items k x
+    → IsLegalCode (shape_of x.head) x.code.items
+    × HasEnded (trace (shape_of x.head) x.code.items n)
+entry_there n items ops k x some narrow does legal lt e =
+    let o = op_there items ops k x does lt e in (
+      (legal_there items k x legal.entries lt e).code,
+      subst (λ (s : Shape). HasEnded (trace s x.code.items n)) (sym o.1.shape)
+          (o.1.code.ends n some narrow),
+    )

@@ -1,0 +1,86 @@
+//! What is found of the entry of an op's name.
+
+ghost use Rattle.std.specs.Prelude.{◌≡◌, ◌<◌, ◌≤◌, List, IfOk};
+ghost use Rattle.uprog_code.specs.Shape.{microprogram_of, microprograms_of, shape_of};
+ghost use Rattle.uprog_code.specs.Machine.{HasEnded, trace};
+ghost use Rattle.uprog_code.specs.Legal.{IsLegalCode};
+ghost use Rattle.uprog_code.specs.Programs.{IsProgram};
+ghost use Rattle.uprog_code.specs.Texts.{EntryDoes, ImplementsAll, TextOp};
+ghost use Rattle.verify_job.specs.Findings.{AreFindings, IsFinding};
+
+use bdd::Diagram;
+use bit_rows::WIDTH_MAX;
+use faults::{NoMemory, keep};
+use std::alloc::Global;
+use uprog_bin::ProgView;
+use uprog_code::{EntryCode, Fetch, Head, Program};
+use verify_core::{Verdict, verify_entry};
+
+/// The greatest number of nodes of an op's diagram.
+const NODES_MAX: u32 = 4_000_000;
+
+/// How many slots the table of its nodes begins with.
+const SLOTS: usize = 4096;
+
+/// How many answers it keeps.
+const ANSWERS: usize = 1 << 20;
+
+/// What is found of the entry of an op's name.
+#[derive(Drop)]
+pub enum Finding {
+    /// The program has no entry of this name.
+    NoEntry,
+    /// It has one, with this head, of which this is said.
+    Entry(Head, Verdict),
+}
+
+/// What is found of the entry of an op's name, by the compiler's microprogram of the op.
+fn finding_of(
+    made: &EntryCode,
+    prog: &ProgView<'_>,
+    n: u8,
+    alloc: Global,
+) -> Result<Finding, NoMemory>
+    requires some { 0 < n }
+    requires narrow { n ≤ WIDTH_MAX }
+    requires legal { IsLegalCode (shape_of made.now.head) made.now.code.items }
+    requires ends { HasEnded (trace (shape_of made.now.head) made.now.code.items n) }
+    ensures { IfOk result (λ f. (o : TextOp) → EntryDoes (microprogram_of made.now) o
+        → IsFinding n prog.now.programs o f) }
+{
+    match prog.find(&made.head.name) {
+        None => Ok(Finding::NoEntry),
+        Some(at) => {
+            let mut diagram = Diagram::new(NODES_MAX, SLOTS, ANSWERS, alloc)?;
+            let entry = prog.entry(at);
+            let verdict = verify_entry(&entry, made, n, &mut diagram, alloc)?;
+            Ok(Finding::Entry(entry.head(), verdict))
+        }
+    }
+}
+
+/// What is found of the program's entry of each op's name, in order, at a width, by the program
+/// that the compiler made of the ops. Each op has its own diagram, of at most 4,000,000 nodes.
+///
+/// Only a lack of memory is an `Err`.
+pub fn verify_all(
+    made: &Program,
+    prog: &ProgView<'_>,
+    n: u8,
+    alloc: Global,
+) -> Result<Vec<Finding>, NoMemory>
+    requires some { 0 < n }
+    requires narrow { n ≤ WIDTH_MAX }
+    requires legal { IsProgram (microprograms_of made.now) }
+    requires implements { (ops : List TextOp) × ImplementsAll (microprograms_of made.now) ops }
+    ensures { IfOk result (λ found. (ops : List TextOp)
+        → ImplementsAll (microprograms_of made.now) ops
+        → AreFindings n prog.now.programs ops found.items) }
+{
+    let mut found = Vec::new(alloc);
+    for entry in made.entries.as_slice() {
+        let finding = finding_of(entry, prog, n, alloc)?;
+        keep(&mut found, finding)?;
+    }
+    Ok(found)
+}

@@ -1,0 +1,13 @@
+//! What is found of the entries of a program, one for each op of a text: the findings, the report
+//! of them, and the exit status.
+#![tactic(auto)]
+
+mod cells;
+mod finding;
+mod laws;
+mod pieces;
+mod text;
+
+pub use finding::{Finding, verify_all};
+pub use laws::zero_says_right;
+pub use text::{report, status};
