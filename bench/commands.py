@@ -1,7 +1,7 @@
 #!/usr/bin/env python3
 """Row commands of each word operation at every width, beside its ceiling.
 
-Run it at the top of the repository, after the program was built once:  python3 bench/commands.py
+Run it at the top of the repository:  python3 bench/commands.py [--program PATH]
 It compiles one op of each operation, asks `cost` for every width from 1 to 128, and ends with 1 where the AAP or the AP
 are not those that `crates/uprog_gen/specs/Costs.antt` says, which the compiler's contract proves.
 """
@@ -15,10 +15,11 @@ import time
 
 sys.dont_write_bytecode = True
 
+import program  # noqa: E402
 from word_ops import word_ops  # noqa: E402
 
 TOP = pathlib.Path(__file__).resolve().parent.parent
-PROGRAM = TOP / "simdram"
+PROGRAM = TOP / "simdram"  # until the arguments are read
 WIDTHS = range(1, 129)
 SHOWN = (8, 16, 32, 64, 128)
 
@@ -82,6 +83,8 @@ def costs(folder, n):
 
 
 def main():
+    global PROGRAM
+    PROGRAM = program.path_of(program.parser(__doc__).parse_args())
     wrong = 0
     with tempfile.TemporaryDirectory() as name:
         folder = pathlib.Path(name)

@@ -1,9 +1,9 @@
 #!/usr/bin/env python3
 """Random and mutated texts, scripts, programs and images through the built program.
 
-Run it at the top of the repository, after the program was built once:
+Run it at the top of the repository:
 
-    python3 bench/fuzz.py [--seed S] [--cases N] [--seconds T]
+    python3 bench/fuzz.py [--seed S] [--cases N] [--seconds T] [--program PATH]
 
 It ends after N cases or T seconds, whichever comes first, and prints how many cases ended with each status. A case is one
 call of one command on files in a folder of its own. What is checked of each: it ends by itself, within a second of
@@ -13,7 +13,6 @@ as before, and those that it stores are whole where it ends with 0 or 8, and els
 of these is kept in a folder, and the program ends with 1.
 """
 
-import argparse
 import collections
 import dataclasses
 import os
@@ -34,6 +33,7 @@ sys.path.append(str(TOP / "python"))
 
 from simdram.files.image import Image, Object  # noqa: E402
 from simdram.from_hex import bytes_in  # noqa: E402
+import program  # noqa: E402
 from word_ops import word_ops  # noqa: E402
 
 PROGRAM = TOP / "crates" / "simdram" / "out" / "simdram"
@@ -389,11 +389,13 @@ def remember(folder, command, maker):
 
 
 def main():
-    parser = argparse.ArgumentParser(description=__doc__.split("\n")[0])
+    global PROGRAM
+    parser = program.parser(__doc__)
     parser.add_argument("--seed", type=int, default=1)
     parser.add_argument("--cases", type=int, default=100_000)
     parser.add_argument("--seconds", type=float, default=3600)
     asked = parser.parse_args()
+    PROGRAM = program.path_of(asked)
     maker = Maker(random.Random(asked.seed))
     ended, began, case = collections.Counter(), time.monotonic(), 0
     within = "/dev/shm" if os.path.isdir("/dev/shm") else None

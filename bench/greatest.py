@@ -1,7 +1,7 @@
 #!/usr/bin/env python3
 """How long the greatest operation text takes to compile: 32 ops, each of 16 blocks of weight 24.
 
-Run it at the top of the repository, after the program was built once:  python3 bench/greatest.py [SEED]
+Run it at the top of the repository:  python3 bench/greatest.py [--program PATH] [SEED]
 The blocks are drawn, each for itself, so that few have the same graph.
 """
 
@@ -16,7 +16,10 @@ import sys
 import tempfile
 import typing
 
-PROGRAM = pathlib.Path(__file__).resolve().parent.parent / "simdram"
+sys.dont_write_bytecode = True
+
+import program  # noqa: E402
+
 OPS, BLOCKS, WEIGHT, MOST_BYTES = 32, 16, 24, 65_536
 LETTERS = "efghijklmnopqrstuvwxzABCDEFGHIJKLMNOPQRSTUVWXYZ"
 Names = typing.Iterator[str]
@@ -75,13 +78,16 @@ def op(draw: random.Random, number: int) -> str:
 
 def main() -> int:
     """Prints the processor time of `compile`; its status."""
-    draw = random.Random(int(sys.argv[1]) if len(sys.argv) > 1 else 1)
+    parser = program.parser(__doc__)
+    parser.add_argument("seed", metavar="SEED", type=int, nargs="?", default=1)
+    asked = parser.parse_args()
+    path_of_program, draw = program.path_of(asked), random.Random(asked.seed)
     text = "".join(op(draw, number) for number in range(OPS))
     assert len(text) <= MOST_BYTES
     with tempfile.TemporaryDirectory() as folder:
         path = pathlib.Path(folder) / "ops"
         path.write_text(text, encoding="utf-8")
-        status = subprocess.run([PROGRAM, "compile", path, pathlib.Path(folder) / "prog"], check=False).returncode
+        status = subprocess.run([path_of_program, "compile", path, pathlib.Path(folder) / "prog"], check=False).returncode
     used = resource.getrusage(resource.RUSAGE_CHILDREN)
     print(f"{len(text)} bytes, {OPS * BLOCKS} blocks: {used.ru_utime + used.ru_stime:.2f} s")
     return status

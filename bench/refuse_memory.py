@@ -1,12 +1,12 @@
 #!/usr/bin/env python3
 """Runs jobs with one allocation refused, for each in turn, and compares how they end.
 
-Run it at the top of the repository, after the program was built once:  python3 bench/refuse_memory.py [JOB..]
+Run it at the top of the repository:  python3 bench/refuse_memory.py [--program PATH] [JOB..]
 
 The allocations are those of the C library, counted over the whole process; bench/refuse.c, which gcc builds, refuses one.
-Each run must end as with ample memory, or with status 10, `no memory` as all that was sent, and OUT as at entry; where the
-words of the command line could not be kept, nothing is sent. It prints how many runs ended in each way, and ends with 1
-where one ended in another.
+It needs the proved program: the one without proofs has another allocator. Each run must end as with ample memory, or with
+status 10, `no memory` as all that was sent, and OUT as at entry; where the words of the command line could not be kept,
+nothing is sent. It prints how many runs ended in each way, and ends with 1 where one ended in another.
 """
 
 import collections
@@ -21,6 +21,7 @@ sys.dont_write_bytecode = True
 sys.path.append(str(TOP / "python"))
 
 from simdram.files.image import Image  # noqa: E402
+import program  # noqa: E402
 from simdram.image_tool import make  # noqa: E402
 
 PROGRAM = TOP / "crates" / "simdram" / "out" / "simdram"
@@ -63,7 +64,11 @@ def build(folder):
 
 
 def main():
-    asked, wrong = sys.argv[1:], 0
+    global PROGRAM
+    parser = program.parser(__doc__)
+    parser.add_argument("jobs", metavar="JOB", nargs="*", help="first, add or 64MiB; all without one")
+    arguments = parser.parse_args()
+    PROGRAM, asked, wrong = program.path_of(arguments, "--proved"), arguments.jobs, 0
     with tempfile.TemporaryDirectory() as folder:
         shim = build(folder)
         for name, ops, script, bytes_in in jobs():

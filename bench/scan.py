@@ -10,7 +10,6 @@ query is refused by a check, which opens the image and no more; and what is left
 that. The counts of all must be the same.
 """
 
-import argparse
 import array
 import pathlib
 import statistics
@@ -20,6 +19,7 @@ import tempfile
 import time
 
 sys.path.insert(0, str(pathlib.Path(__file__).resolve().parent))
+import program  # noqa: E402
 import speed
 
 COUNT, LOW, HIGH = 500_000, 1_000_000_000, 3_000_000_000
@@ -77,14 +77,10 @@ def show(name, least, middle, more=""):
 
 
 def main():
-    parser = argparse.ArgumentParser(description=__doc__.splitlines()[0])
+    parser = program.parser(__doc__)
     parser.add_argument("--times", type=int, default=10)
-    parser.add_argument("--program", type=pathlib.Path, help="a built program, in place of this repository's")
     asked = parser.parse_args()
-    if asked.program:
-        speed.PROGRAM = asked.program.resolve()
-    else:
-        subprocess.run([speed.TOP / "simdram", "build"], stdout=subprocess.DEVNULL, check=True)
+    speed.PROGRAM = program.path_of(asked)
     numbers = array.array("I", ((2_654_435_761 * e + 12_345) % 2**32 for e in range(COUNT)))
     with tempfile.TemporaryDirectory() as name:
         folder = pathlib.Path(name)

@@ -12,7 +12,6 @@ bytes, or of an image that is opened and stored. A last column says whether repo
 time, for a machine that others use too; `--table` prints the ratios as the table of docs/SPEED.md.
 """
 
-import argparse
 import dataclasses
 import filecmp
 import os
@@ -20,8 +19,13 @@ import pathlib
 import statistics
 import struct
 import subprocess
+import sys
 import tempfile
 import time
+
+sys.dont_write_bytecode = True
+
+import program  # noqa: E402
 
 TOP = pathlib.Path(__file__).resolve().parent.parent
 CLOCK = "elapsed"
@@ -198,18 +202,14 @@ def table(rows):
 
 def main():
     global PROGRAM, CLOCK
-    parser = argparse.ArgumentParser(description=__doc__.splitlines()[0])
+    parser = program.parser(__doc__)
     parser.add_argument("--times", type=int, default=10)
-    parser.add_argument("--program", type=pathlib.Path, help="a built program, in place of this repository's")
     parser.add_argument("--clock", choices=("elapsed", "processor", "user"), default="elapsed")
     parser.add_argument("--table", action="store_true")
     parser.add_argument("jobs", nargs="*", metavar="JOB")
     asked = parser.parse_args()
     CLOCK = asked.clock
-    if asked.program:
-        PROGRAM = asked.program.resolve()
-    else:
-        subprocess.run([TOP / "simdram", "build"], stdout=subprocess.DEVNULL, check=True)
+    PROGRAM = program.path_of(asked)
     rows = []
     with tempfile.TemporaryDirectory() as name:
         baseline = pathlib.Path(name) / "baseline"

@@ -9,16 +9,15 @@ chip's own work is least. `exec`, `trace` and `replay` go in turn, N times (5); 
 and each ratio is that of the least times. The OUT of all three must be the same.
 """
 
-import argparse
 import filecmp
 import pathlib
 import statistics
-import subprocess
 import sys
 import tempfile
 
 sys.path.insert(0, str(pathlib.Path(__file__).resolve().parent))
 sys.dont_write_bytecode = True
+import program  # noqa: E402
 import speed
 
 ROOM = 67_108_864
@@ -66,16 +65,12 @@ def timed(folder, times):
 
 
 def main():
-    parser = argparse.ArgumentParser(description=__doc__.splitlines()[0])
+    parser = program.parser(__doc__)
     parser.add_argument("--times", type=int, default=5)
     parser.add_argument("--clock", choices=("elapsed", "processor", "user"), default="elapsed")
-    parser.add_argument("--program", type=pathlib.Path, help="a built program, in place of this repository's")
     asked = parser.parse_args()
     speed.CLOCK = asked.clock
-    if asked.program:
-        speed.PROGRAM = asked.program.resolve()
-    else:
-        subprocess.run([speed.TOP / "simdram", "build"], stdout=subprocess.DEVNULL, check=True)
+    speed.PROGRAM = program.path_of(asked)
     print(f"{speed.load_now()} at the start")
     for name, shape, count in JOBS:
         with tempfile.TemporaryDirectory() as path:

@@ -20,22 +20,31 @@ TOOL_MODULES = {
     "explain": "explain",
     "report": "report",
     "cost-table": "cost_table",
+    "profile": "profile",
     "steps": "steps",
     "plot": "plot",
+    "flips": "flips_tool",
+    "survival": "survival",
     "trace-text": "trace_text",
     "from-hex": "from_hex",
+    "graph": "graph_tool",
+    "from-blif": "from_blif",
+    "assemble": "assemble_tool",
+    "disassemble": "disassemble_tool",
+    "link": "link_tool",
     "build": "build_tool",
+    "prove": "prove",
 }
 
 
 def end_with_reader() -> None:
-    """Has this program end as others do where its reader goes away, as under `head`."""
+    """Lets a closed pipe end this program, as under `head`."""
     if hasattr(signal, "SIGPIPE"):
         signal.signal(signal.SIGPIPE, signal.SIG_DFL)
 
 
 def tool(name: str, words: list[str], settings: Settings) -> int:
-    """Does a tool's work."""
+    """Runs a tool."""
     end_with_reader()
     module = importlib.import_module(f".{TOOL_MODULES[name]}", __package__)
     return module.main(words, settings)
@@ -58,7 +67,7 @@ def help_on(words: list[str], settings: Settings) -> int:
 
 
 def start(words: list[str]) -> int:
-    """The status of the words."""
+    """Runs a command line and returns its status."""
     settings, words = taken(words)
     name, others = (words[0], words[1:]) if words else ("help", [])
     if name in HELP:
@@ -75,7 +84,7 @@ def start(words: list[str]) -> int:
 
 
 def main() -> int:
-    """The command: its status."""
+    """Runs our command line; a fault is one line on standard error."""
     try:
         status = start(sys.argv[1:])
         sys.stdout.flush()

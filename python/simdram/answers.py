@@ -6,6 +6,7 @@ import subprocess
 
 from . import run_program
 from .answer import Answer, at_token
+from .assembler import TextFault, assemble
 from .commands import KINDS, MAGIC
 from .files.fault import FileFault
 from .files.image import Image
@@ -24,15 +25,14 @@ from .table import Table
 READERS = {"program": Program, "image": Image, "trace": Trace}
 # what would be right, by the word of the rule
 RIGHT = {
-    "rest": "the numbers before that place say where the file ends, and nothing may follow",
+    "rest": "the file ends where its earlier fields say, and nothing may follow",
     "instruction": "kinds of instructions are 0 to 10, registers r0 to r7, numbers 0 to 1023, and bytes that are not named are 0",
     "target": "a jump goes to an instruction of its own entry",
-    "row": "rows are those of the entry's results, sources and scratch, with registers of r0 to r7; a first row is not "
-           "B8 to B11, and a second one no source and no C row",
+    "row": "a command names rows of the entry's results, sources and scratch, B and C addresses, and spill rows",
     "no_done": "an entry ends with DONE",
-    "overlap": "each object has rows of its own, neighbouring ones, as many as it has bits",
+    "overlap": "each object has its own adjacent rows, as many as it has bits",
     "event": "an event is 0 AAP, 1 AP or 2 WRITE, its bank, and two addresses: a group, 0 B, 1 C or 2 D, and a number",
-    "legal": "B8 to B11 raise two wordlines and stand only second; C0 and C1 stand only first",
+    "legal": "B8 to B11 raise two wordlines and may only be second; C0 and C1 may only be first",
 }
 SHOWN_MAX = 5
 GUARDED_NAME_MAX = 15
@@ -44,7 +44,7 @@ def right_bytes(word: str, data: bytes) -> tuple[str, ...]:
     if word == "magic":
         return (f"the file holds {content(data[:512])}",)
     if word == "short":
-        return (f"the file has {len(data)} bytes: it was cut off, or a number before that place is too great" if data
+        return (f"the file has {len(data)} bytes: it was cut off, or an earlier number is too large" if data
                 else "the file is empty",)
     return (RIGHT[word],) if word in RIGHT else ()
 
@@ -68,9 +68,18 @@ def explain_query(path: str, data: bytes) -> Answer | None:
     return read_query(path, data)[1]
 
 
+def explain_micro(path: str, data: bytes) -> Answer | None:
+    """The first fault of a text of microprograms."""
+    try:
+        assemble(data)
+    except TextFault as fault:
+        return fault.answer(path, data)
+    return None
+
+
 def first_fault(kind: str, path: str, data: bytes) -> Answer | None:
     """The first fault of a file of a kind, by itself."""
-    texts = {"ops": explain_ops, "script": explain_script, "query": explain_query}
+    texts = {"ops": explain_ops, "script": explain_script, "query": explain_query, "micro": explain_micro}
     if kind not in texts:
         return explain_bytes(kind, path, data)
     found = texts[kind](path, data)
@@ -159,7 +168,7 @@ def no_triples(path: str, table: Table) -> list[Answer]:
         return []
     k, wanted = found
     stands = table.objects[k].name if k < len(table.objects) else "the table's end"
-    return [Answer(path, f"object {k}", f"guard table {k}", f"{stands} stands where {wanted} has to",
+    return [Answer(path, f"object {k}", f"guard table {k}", f"{stands} where {wanted} is expected",
                    ("the table of a guarded image is a list of triples xNAME, yNAME, zNAME; `simdram init` makes one without objects",))]
 
 

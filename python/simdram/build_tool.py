@@ -1,4 +1,4 @@
-"""Builds the program where it does not stand, and prints where it stands."""
+"""Builds the program without proofs if none is built, and prints the path of the program that runs."""
 
 from __future__ import annotations
 

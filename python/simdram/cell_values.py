@@ -35,6 +35,11 @@ def row_value(name: str) -> Value:
     return Value(name, drawn(name))
 
 
+def old_value(name: str) -> Value:
+    """What a row that is written held before, by a name of its own."""
+    return Value(f"old {name}", drawn(name))
+
+
 def complemented(value: Value) -> Value:
     """The complement of a value."""
     if value.pattern is None:

@@ -1,8 +1,8 @@
-"""The first fault of a file, with its place and what would be right.
+"""Prints the first fault of a file, where it is and what would be right.
 
-FILE is an operation text, a script, a query, a text of flips, a program file, an image or a trace. Further files say on what
-it is done: with PROG and IMAGE beside a script, each instruction that is refused; with IMAGE beside a query, why the scan is
-refused; with SCRIPT and IMAGE beside a text of flips, which it needs. The status is 0 where there is no fault, and else 1.
+FILE is an operation text, a script, a query, a text of flips, a text of microprograms, a program file, an image or a trace. More can
+be said with further files: with PROG and IMAGE after a script, every instruction that is refused; with IMAGE after a query, why the
+scan is refused. A text of flips needs SCRIPT and IMAGE. The status is 0 without a fault, else 1.
 """
 
 from __future__ import annotations
@@ -35,15 +35,15 @@ def check_beside(path: str, kind: str, beside: dict) -> None:
     """Refuses files that say nothing beside this one, and a script's program without its image, or the other way round."""
     for other, (name, _) in beside.items():
         if other not in BESIDE.get(kind, ()):
-            raise Fault(f"{name} is {KINDS[other]}, which says nothing of {path}, {KINDS[kind]}; the form: explain {FORMS.get(kind, 'FILE')}")
+            raise Fault(f"{name} is {KINDS[other]}, which tells nothing about {path}, {KINDS[kind]}; usage: explain {FORMS.get(kind, 'FILE')}")
     if kind == "script" and len(beside) == 1:
-        raise Fault(f"{path} is a script: its refusals need both a program file and an image beside it")
+        raise Fault(f"{path} is a script: name both a program file and an image to see its refusals")
 
 
 def of_flips(path: str, data: bytes, beside: dict) -> list[Answer]:
     """The fault of a text of flips."""
     if not {"script", "image"} <= beside.keys():
-        raise Fault(f"{path} is a text of flips: name the script and the image too, which say what its numbers may be")
+        raise Fault(f"{path} is a text of flips: name the script and the image too, which limit its numbers")
     return answers.flips_fault(path, data, beside["script"], Table.read(beside["image"][1], beside["image"][0]))
 
 

@@ -9,7 +9,7 @@ from .query_rules import COMPARISONS, JOINS
 from .tokens import NAME, NUMBER, tokens
 
 ENDINGS = {".ops": "ops", ".bbop": "script", ".query": "query", ".flips": "flips", ".prog": "program", ".img": "image",
-           ".trace": "trace"}
+           ".trace": "trace", ".micro": "micro"}
 PROBE = 4096
 
 
@@ -20,6 +20,8 @@ def by_first_word(data: bytes) -> str:
         return "flips"
     if first.kind == NAME and (first.text in FORMS or first.text.startswith("bbop_")):
         return "script"
+    if first.kind == NAME and first.text in ("program", "version"):
+        return "micro"
     return "query" if first.kind == NAME and first.text in (*COMPARISONS, *JOINS) else "ops"
 
 

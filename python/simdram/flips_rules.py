@@ -7,7 +7,7 @@ from .script_rules import Breach, lines_of
 from .table import Table
 from .tokens import NUMBER, STRANGER, no_token, value_of
 
-FORM = "the form: K BANK ROW COLUMN, four numbers without commas"
+FORM = "form: K BANK ROW COLUMN, four numbers without commas"
 
 
 def check_line(line, least: int, instructions: int, table: Table) -> int:
@@ -19,12 +19,12 @@ def check_line(line, least: int, instructions: int, table: Table) -> int:
         return least
     other = next((token for token in words if token.kind != NUMBER), None)
     if other or len(words) != 4:
-        raise Breach(other or (words[4] if len(words) > 4 else line[-1]), "syntax", "a line has four numbers, or no token", FORM)
+        raise Breach(other or (words[4] if len(words) > 4 else line[-1]), "syntax", "a line has four numbers or is empty", FORM)
     limits = ((least, instructions + 1, "K, before which instruction,"), (0, table.banks - 1, "BANK"), (0, table.rows - 1, "ROW"),
               (0, 64 * table.words - 1, "COLUMN"))
     for token, (low, high, what) in zip(words, limits):
         if not low <= value_of(token.text) <= high:
-            after = f", and not below the K of the line before, {least}" if what.startswith("K") and least > 1 else ""
+            after = f", and at least {least}, the K of the line before" if what.startswith("K") and least > 1 else ""
             raise Breach(token, "number", f"{what} is {min(low, high)} to {high} here{after}")
     return value_of(words[0].text)
 

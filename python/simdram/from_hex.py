@@ -1,7 +1,7 @@
 """Makes a file from its bytes, written as hexadecimal digits.
 
-In NOTE a `#` begins a comment to the end of its line, and what is left are the bytes, two digits each, with any blanks
-between them. So a program file is written by hand with a comment after each instruction, as examples/exec/xor.hex is.
+In NOTE a `#` begins a comment to the end of the line; the rest is the bytes, two digits each, with any blanks between them. So a
+program file can be written by hand with a comment for each instruction, such as examples/exec/xor.hex.
 """
 
 from __future__ import annotations
@@ -25,7 +25,7 @@ def bytes_in(note: str) -> bytes:
             words = line.partition("#")[0].split()
             wrong = next((word for word in words if not BYTES.fullmatch(word)), None)
             if wrong is not None:
-                raise Fault(f"{note} line {number}: {wrong[:SHOWN]!r} are no bytes, each of two hexadecimal digits")
+                raise Fault(f"{note} line {number}: {wrong[:SHOWN]!r} is not a sequence of bytes of two hexadecimal digits each")
             found += bytes.fromhex("".join(words))
     return bytes(found)
 

@@ -5,12 +5,11 @@
     simdram image get IMAGE NAME [FILE]
     simdram image put IMAGE NAME FILE
 
-An OBJECT is NAME:WIDTH=V1,V2,.. with its elements' values, or NAME:WIDTH/COUNT with COUNT zeros; each takes the least
-free rows. `get` writes a number a line, to standard output or to FILE; a FILE ending in .csv gets a line `element,NAME`
-first and both numbers in each line, and one ending in .npy an array of 64-bit numbers (of two columns, the lower half
-first, for widths over 64). `put` sets the object's elements, in place, from a file of these forms, from numbers with
-commas or blanks between them, or from an array of any shape, of truth values or of whole numbers, read with its last
-axis first. A file of another kind is not written over: `--force` passes it.
+An OBJECT is NAME:WIDTH=V1,V2,.. with the values of its elements, or NAME:WIDTH/COUNT with COUNT zeros; it takes the lowest
+free rows. `get` prints one number per line, or writes FILE: a .csv file has a head line `element,NAME` and both numbers in
+each line, a .npy file is an array of 64-bit numbers (with two columns, the lower half first, for widths over 64). `put` sets
+the object's elements from a file of these forms, from numbers separated by commas or blanks, or from a .npy array of booleans
+or integers of any shape, read with its last axis first. A file of another kind is not overwritten without `--force`.
 
     simdram image make mac.img 1x96x1 a:8=3,10,15,200 y:8/4
     simdram image get mac.img a
@@ -39,14 +38,14 @@ OBJECT = re.compile(r"([A-Za-z_][A-Za-z0-9_]{0,15}):(\d+)(?:=(-?\d+(?:,-?\d+)*),
 
 
 class WordsFault(Exception):
-    """Words that say no image, as one line."""
+    """Arguments that do not describe an image, as one line."""
 
 
 def make(geometry: str, words: typing.Sequence[str]) -> Image:
     """The image of a geometry, as text, and of objects, as the words say them."""
     match = re.fullmatch(r"(\d+)x(\d+)x(\d+)", geometry)
     if not match:
-        raise WordsFault(f"{geometry} is no BANKSxROWSxWORDS, such as 1x96x1")
+        raise WordsFault(f"{geometry} is not BANKSxROWSxWORDS, such as 1x96x1")
     try:
         image = Image(*map(int, match.groups()))
         for word in words:
@@ -117,8 +116,8 @@ def check_kind(path: str, is_image: bool, settings: Settings) -> None:
     is_numbers = NUMBERS.fullmatch(start) and not path.endswith(tuple(ENDINGS))
     if not (start.startswith(MAGIC["image"]) if is_image else is_numbers):
         wanted = "an image is" if is_image else "numbers are"
-        raise FileFault(path, "", "", f"{wanted} to be written there, and it holds {content(start)}; nothing was done, "
-                        "and --force writes over it")
+        raise FileFault(path, "", "", f"{wanted} written there, but it holds {content(start)}; nothing was done, "
+                        "and --force overwrites it")
 
 
 def do(words: typing.Sequence[str], settings: Settings) -> None:

@@ -1,7 +1,7 @@
-"""What a command writes over a file of the kind that it also reads, kept beside it.
+"""Copies of files that a command overwrites and that are of a kind that it also reads.
 
-Words of two kinds that changed places are found by the first bytes of the files. An IMAGE and an OUT, or an OLD and a NEW,
-that changed places are not: so what the written one held before is kept as NAME~, where the command changed it.
+Swapped arguments of different kinds are found by the first bytes of the files. A swapped IMAGE and OUT, or OLD and NEW, are
+not: so what the written file held before is kept as NAME~, if the command changed it.
 """
 
 from __future__ import annotations
@@ -17,7 +17,7 @@ from .overwrite import start_of
 from .say import say
 from .settings import Settings
 
-# words of one kind: the one that is read, and the one that is written
+# arguments of one kind: the file that is read, and the one that is written
 PAIRS = (("IMAGE", "OUT"), ("OLD", "NEW"))
 
 
@@ -30,13 +30,13 @@ def is_one(first: str, second: str) -> bool:
 
 
 def free_name(path: str, magic: bytes) -> str:
-    """The first of NAME~, NAME~2, NAME~3 .. that does not stand, or is a file of this kind."""
+    """The first of NAME~, NAME~2, NAME~3 .. that does not exist, or is a file of this kind."""
     names = itertools.chain([f"{path}~"], (f"{path}~{k}" for k in itertools.count(2)))
     return next(name for name in names if not os.path.lexists(name) or start_of(name, len(magic)) == magic)
 
 
 class Kept:
-    """The file that a command may write over, as it stands before."""
+    """The file that a command may overwrite, as it is before the command."""
 
     def __init__(self, command: Command, words: list[str], settings: Settings) -> None:
         self.settings, self.path, self.kind, self.data = settings, "", "", None
@@ -63,4 +63,4 @@ class Kept:
             store(name, self.data)
         if not self.settings.quiet:
             kind = KINDS[self.kind].partition(" ")[2]
-            say(f"{self.path} held another {kind}, which is now {name}")
+            say(f"{self.path} held another {kind}, which is kept as {name}")

@@ -1,4 +1,4 @@
-"""A command of the program, from its words to its status."""
+"""A command of the program: from the command line to the exit status."""
 
 from __future__ import annotations
 
@@ -15,13 +15,13 @@ USAGE_STATUS = 1
 
 
 def form(words: list[str]) -> str:
-    """The form of the command that was meant, or where all stand."""
+    """The arguments of the command that was meant, or where all commands are listed."""
     command = ALL.get(words[0]) if words else None
-    return f"the form: simdram {command.usage()}" if command else "simdram help lists the commands"
+    return f"usage: simdram {command.usage()}" if command else "simdram help lists the commands"
 
 
 def refused_words(wrong: str, words: list[str], settings: Settings) -> int:
-    """Words that are no command: the program says so where it stands, and nothing is built for it."""
+    """A command line that is not a command: the program says so if it is built, and nothing is built for it."""
     program = run_program.standing(settings)
     if program:
         status = run_program.follow(program, words)
@@ -35,7 +35,7 @@ def refused_words(wrong: str, words: list[str], settings: Settings) -> int:
 
 
 def launch(words: list[str], settings: Settings) -> int:
-    """Does a command of the program."""
+    """Runs a command of the program."""
     command = ALL.get(words[0]) if words else None
     is_whole = command is not None and command.is_program and len(words) == 1 + len(command.words)
     refusal = overwrite.refusal(command, words[1:]) if is_whole and not settings.force else None

@@ -9,13 +9,16 @@ from .tokens import Token
 
 @dataclasses.dataclass
 class Statement:
-    """A statement: its place in the text, the names that it sets, of a block its direction and its lets as tokens."""
+    """A statement: its place in the text, the names that it sets, of a block its direction, how its states begin, and its
+    lets and assignments as tokens."""
 
     first: Token
     last: Token | None = None
     targets: list[str] = dataclasses.field(default_factory=list)
     direction: str = ""
+    starts: dict[str, str] = dataclasses.field(default_factory=dict)
     lets: dict[str, list[Token]] = dataclasses.field(default_factory=dict)
+    assignments: dict[str, list[Token]] = dataclasses.field(default_factory=dict)
 
 
 @dataclasses.dataclass

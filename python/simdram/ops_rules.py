@@ -35,7 +35,7 @@ def listed(names) -> str:
 def near(word: str, known) -> str:
     """The nearest names, as a part of a sentence."""
     found = nearest(word, known)
-    return f"; the nearest: {', '.join(found)}" if found else ""
+    return f"; did you mean {' or '.join(found)}?" if found else ""
 
 
 def spelled(token: Token) -> str:
@@ -60,9 +60,9 @@ class Reader:
     def stray(self, token: Token) -> Breach:
         """The fault of a byte that starts no token."""
         operation = OPERATORS.get(token.text)
-        right = [f"there are no signs for operations; the operation is `{operation}(..)`"] if operation else []
+        right = [f"there are no operator symbols; the operation is `{operation}(..)`"] if operation else []
         if token.text == "<":
-            right = ["there are no signs for comparisons; a < b is `gt(b, a)`"]
+            right = ["there are no operator symbols; a < b is `gt(b, a)`"]
         return Breach(token, "lex", no_token(token), *right)
 
     def take(self, wanted: str, *texts: str, name: bool = False) -> Token:
@@ -77,21 +77,21 @@ class Reader:
 
     def unwanted(self, token: Token, wanted: str) -> Breach:
         """The fault of a token that the grammar does not allow."""
-        right = [f"what could stand there: {wanted}"]
+        right = [f"allowed here: {wanted}"]
         if token.kind == "number" and "argument" in wanted:
             right.append("arguments are names: a constant is `zero()` or `ones()`, or an object that a script fills")
         if token.text == "(" and self.at and self.tokens[self.at - 1].text in word_ops.TAKES_GIVES and "argument" in wanted:
             right.append(NO_NEST.format(self.tokens[self.at - 1].text))
-        return Breach(token, "syntax", f"the grammar does not allow {spelled(token)} there", *right)
+        return Breach(token, "syntax", f"the grammar does not allow {spelled(token)} here", *right)
 
     # rules on names
 
     def good_name(self, token: Token, what: str) -> str:
         """A new name that is not reserved and not too long."""
         if token.text in RESERVED:
-            raise Breach(token, "bad_name", f"{token.text} is a word of the language: {listed(RESERVED)}", f"give {what} another name")
+            raise Breach(token, "bad_name", f"{token.text} is a reserved word: {listed(RESERVED)}", f"give {what} another name")
         if is_long(token.text):
-            raise Breach(token, "bad_name", f"a name has at most {NAME_MAX} bytes, and this one {len(token.text)}")
+            raise Breach(token, "bad_name", f"a name has at most {NAME_MAX} bytes; this one has {len(token.text)}")
         return token.text
 
     def new_name(self, token: Token, what: str) -> str:
@@ -103,8 +103,8 @@ class Reader:
         return name
 
     def twice(self, token: Token) -> None:
-        raise Breach(token, "twice", f"{token.text} stands already in this op, and a name is given once",
-                     f"the names that stand: {listed(self.scope.stands)}")
+        raise Breach(token, "twice", f"{token.text} is already defined in this op; a name is assigned once",
+                     f"defined names: {listed(self.scope.stands)}")
 
     def too_many(self, token: Token, what: str) -> None:
         raise Breach(token, "too_many", what)
@@ -123,9 +123,9 @@ class Reader:
         token = self.take("the op's name", name=True)
         name = self.good_name(token, "the op")
         if name == "trsp_init":
-            raise Breach(token, "bad_name", "no op is named trsp_init, since bbop_trsp_init makes an object")
+            raise Breach(token, "bad_name", "an op cannot be named trsp_init: bbop_trsp_init makes an object")
         if name in self.ops:
-            raise Breach(token, "twice", f"an op {name} stands already", f"the ops that stand: {listed(self.ops)}")
+            raise Breach(token, "twice", f"an op {name} is already defined", f"defined ops: {listed(self.ops)}")
         self.ops.append(name)
         self.scope = Scope(name)
         self.shapes.append(OpShape(name, results=self.scope.results, defined=self.scope.defined))
@@ -216,7 +216,7 @@ class Reader:
             right = [f"the word operations: {listed(word_ops.TAKES_GIVES)}"]
             sign = OPERATORS.get(self.next().text)
             if sign and self.next().kind == STRANGER:
-                right.insert(0, f"there are no signs for operations: the statement is `{listed(targets)} = {sign}({name}, ..);`")
+                right.insert(0, f"there are no operator symbols: the statement is `{listed(targets)} = {sign}({name}, ..);`")
             elif name in self.scope.defined:
                 right.insert(0, f"{name} is a name: a copy of it is `copy({name})`")
             if name in word_ops.GATES:
@@ -224,7 +224,7 @@ class Reader:
             raise Breach(token, "unknown", f"there is no word operation {name}{near(name, word_ops.TAKES_GIVES)}", *right)
         gives = len(word_ops.TAKES_GIVES[name][1])
         if len(targets) != gives:
-            raise Breach(token, "kind", f"{name} gives {gives} value{'s' * (gives > 1)}, and the statement has {len(targets)} "
+            raise Breach(token, "kind", f"{name} gives {gives} value{'s' * (gives > 1)}; the statement has {len(targets)} "
                          f"target{'s' * (len(targets) > 1)}", word_ops.said(name))
         return name
 
@@ -254,7 +254,7 @@ class Reader:
         if not word_ops.may_take(operation, given, kind):
             other = "bit" if kind == "word" else "word"
             wanted = f"a {other}" if word_ops.may_take(operation, given, other) else "no argument"
-            raise Breach(token, "kind", f"{name} is a {kind}, and {operation} takes {wanted} there", word_ops.said(operation))
+            raise Breach(token, "kind", f"{name} is a {kind}; {operation} takes {wanted} here", word_ops.said(operation))
         return kind
 
     def unknown_argument(self, token: Token) -> Breach:
@@ -262,16 +262,16 @@ class Reader:
         if self.next().text == "(" and name in word_ops.TAKES_GIVES:
             right.append(NO_NEST.format(name))
         elif self.scope.is_open_result(name):
-            right.append(f"{name} is a result and is not assigned before this place")
-        right.append(f"the names that stand: {listed(self.scope.defined)}")
-        return Breach(token, "unknown", f"no name {name} is defined before this place{near(name, self.scope.defined)}", *right)
+            right.append(f"{name} is a result that is not assigned yet")
+        right.append(f"defined names: {listed(self.scope.defined)}")
+        return Breach(token, "unknown", f"no name {name} is defined before this{near(name, self.scope.defined)}", *right)
 
     def word_end(self, targets: list[str], gives: list[str]) -> None:
         token = self.take("`;`", ";")
         for name, kind in zip(targets, gives):
             wanted = self.scope.results.get(name)
             if wanted is not None and wanted != kind:
-                raise Breach(token, "kind", f"{name} is a result that is a {wanted}, and the operation gives a {kind}",
+                raise Breach(token, "kind", f"the result {name} is a {wanted}; the operation returns a {kind}",
                              f"declare `{name}: {kind}`, or give the value another name")
         self.shapes[-1].statements[-1].targets = targets
         for name, kind in zip(targets, gives):
@@ -310,7 +310,7 @@ class Reader:
         block.states.append(name)
         block.readable.append(name)
         self.take("`=`", "=")
-        self.take("`0` or `1`", "0", "1")
+        self.shapes[-1].statements[-1].starts[name] = self.take("`0` or `1`", "0", "1").text
 
     def let(self, token: Token) -> None:
         if self.scope.block.lets >= LETS:
@@ -328,13 +328,15 @@ class Reader:
         if self.scope.is_taken_target(name):
             self.twice(token)
         if self.scope.results.get(name) == "bit" and name not in block.states:
-            raise Breach(token, "kind", f"{name} is a bit result, and a block gives a bit only as a state",
+            raise Breach(token, "kind", f"{name} is a bit result; a block can return a bit only as a state",
                          f"make it a state of the block, `({name} = 0)`: after the block it is the result")
         if len(block.targets) >= ASSIGNMENTS:
             self.too_many(token, f"a block has at most {ASSIGNMENTS} assignments")
         block.targets.append(name)
         self.take("`=`", "=")
+        first = self.at
         self.value("`;`")
+        self.shapes[-1].statements[-1].assignments[name] = self.tokens[first:self.at - 1]
 
     def value(self, wanted: str) -> None:
         """An expression, with the sign after it."""
@@ -364,21 +366,21 @@ class Reader:
     def read_name(self, token: Token) -> None:
         known = self.scope.readable()
         if token.text not in known:
-            right = [f"the names that stand: {listed(known)}"]
+            right = [f"defined names: {listed(known)}"]
             if token.text in word_ops.GATES:
                 right.insert(0, f"{token.text} is a gate: `{token.text}(..)`")
-            raise Breach(token, "unknown", f"no name {token.text} is defined before this place{near(token.text, known)}", *right)
+            raise Breach(token, "unknown", f"no name {token.text} is defined before this{near(token.text, known)}", *right)
 
     def gate(self, token: Token) -> None:
         name, block = token.text, self.scope.block
         if name not in word_ops.GATES:
             right = [f"the gates: {listed(word_ops.GATES)}"]
             if name in word_ops.TAKES_GIVES:
-                right.insert(0, f"{name} is a word operation: it stands in a statement of its own, outside of blocks")
+                right.insert(0, f"{name} is a word operation: it needs a statement of its own, outside of blocks")
             raise Breach(token, "unknown", f"there is no gate {name}{near(name, word_ops.GATES)}", *right)
         weight = word_ops.WEIGHTS[name]
         if block.weight > WEIGHT - weight:
-            self.too_many(token, f"the gates of a block weigh at most {WEIGHT}: and, or, maj 1, xor 3, not 0")
+            self.too_many(token, f"the gates of a block weigh at most {WEIGHT}: and, or, maj 1 each, xor 3, not 0")
         if len(block.missing) >= DEPTH:
             self.too_many(token, f"gates nest at most {DEPTH} deep")
         block.weight += weight
@@ -399,17 +401,23 @@ class Reader:
         return depth - 1
 
 
-def op_shape(path: str, data: bytes, name: str) -> OpShape:
-    """What an operation text says of an op."""
+def shapes_of(path: str, data: bytes) -> list[OpShape]:
+    """What an operation text says of each op."""
     reader = Reader(data)
     try:
         reader.read()
     except Breach as breach:
         answer = at_token(path, data, breach.token, breach.kind, breach.rule, breach.right)
         raise Fault(f"{path} {answer.place}: {answer.kind}: {answer.rule}") from None
-    found = next((shape for shape in reader.shapes if shape.name == name), None)
+    return reader.shapes
+
+
+def op_shape(path: str, data: bytes, name: str) -> OpShape:
+    """What an operation text says of an op."""
+    shapes = shapes_of(path, data)
+    found = next((shape for shape in shapes if shape.name == name), None)
     if found is None:
-        raise Fault(f"{path} has no op {name}: it has {listed(shape.name for shape in reader.shapes)}")
+        raise Fault(f"{path} has no op {name}: it has {listed(shape.name for shape in shapes)}")
     return found
 
 

@@ -1,4 +1,4 @@
-"""Files that a command or a tool would write over, and that hold something of another kind."""
+"""Files that a command or a tool would overwrite although they are of another kind."""
 
 from __future__ import annotations
 
@@ -14,7 +14,7 @@ TEXT_PROBE = 512
 
 
 def start_of(path: str, size: int) -> bytes | None:
-    """The first bytes of a regular file that stands and is not empty."""
+    """The first bytes of a regular file that exists and is not empty."""
     try:
         if not stat.S_ISREG(os.stat(path).st_mode):
             return None
@@ -34,7 +34,7 @@ def content(start: bytes) -> str:
 
 
 def refusal(command: Command, words: list[str]) -> str | None:
-    """Which word of a command names a file that it must not write over, as one line."""
+    """Which argument of a command names a file that it must not overwrite, as one line."""
     images = {text for word, text in zip(command.words, words) if word.name == "IMAGE"}
     for k, (word, text) in enumerate(zip(command.words, words)):
         if not word.is_written or (word.name == "OUT" and text in images):
@@ -42,13 +42,13 @@ def refusal(command: Command, words: list[str]) -> str | None:
         start = start_of(text, TEXT_PROBE)
         if start is not None and not start.startswith(MAGIC[word.kind]):
             order = " ".join(one.name for one in command.words)
-            return (f"{text} is the {PLACES[k]} word of {command.name}, where {KINDS[word.kind]} is written, and holds "
-                    f"{content(start)}; is the order {order} meant? Nothing was done; --force writes over it")
+            return (f"{text} is the {PLACES[k]} argument of {command.name}, where {KINDS[word.kind]} is written, but it holds "
+                    f"{content(start)}; the order is {order}. Nothing was done; --force overwrites it")
     return None
 
 
 def check_tool(path: str, starts: bytes | tuple[bytes, ...], what: str, settings: Settings) -> None:
-    """Refuses to have a tool write over a file that does not begin as its own files do."""
+    """Refuses to let a tool overwrite a file that does not begin as its own files do."""
     start = start_of(path, TEXT_PROBE)
     if start is not None and not start.startswith(starts) and not settings.force:
-        raise Fault(f"{path}: {what} to be written there, and it holds {content(start)}; nothing was done, and --force writes over it")
+        raise Fault(f"{path}: {what} written there, but it holds {content(start)}; nothing was done, and --force overwrites it")

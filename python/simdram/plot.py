@@ -1,122 +1,95 @@
-"""Draws how many row commands the entries of a program file take, over the width.
+"""Draws how many row commands the entries of program files take, over the width.
 
-A line an entry: its AAP and AP together on one bank, as `simdram cost` counts them, at n = 1 to N (64 where none is
-given). A FORMULA is of n, with whole numbers, `+`, `-`, `*`, `//` and brackets, such as `9*n+1` or `11*n*n+15*n`; it is
-drawn dashed in the entry's colour. An entry whose walk is stuck at a width is left out, with a line that says so.
+Each entry of each PROG has a curve: its AAP and AP together on one bank, as `simdram cost` counts them, at n = 1 to N (64
+unless --to says another). OUT is SVG, or PNG where its name ends in .png and matplotlib is installed. --curve draws a
+formula of n beside them, such as one of a paper, and --ceiling one in the colour of an entry; both are dashed. A formula has
+numbers, n, brackets, +, -, *, /, // (rounded down), ** or ^ (power), log2(..), ceil(..) and floor(..), as in 9*n+1 or
+n*ceil(log2(n)). An entry whose execution is stuck at a width is left out, with a line that says so.
 """
 
 from __future__ import annotations
 
 import argparse
-import ast
-import html
-import operator
-import pathlib
+import itertools
+import typing
 
-from .costs import costs
+from . import formulas, picture
+from .cost_table import labels_of
+from .costs import EntryCost, costs_at
 from .faults import Fault
-from .overwrite import check_tool
+from .picture import COLOURS, Line, Picture
 from .say import say
 from .settings import Settings
 
-COLOURS = ("#0072b2", "#d55e00", "#009e73", "#cc79a7", "#555555", "#e69f00", "#56b4e9")
-OPERATORS = {ast.Add: operator.add, ast.Sub: operator.sub, ast.Mult: operator.mul, ast.FloorDiv: operator.floordiv}
-WIDE, HIGH, LEFT, BELOW, LEGEND = 720, 420, 80, 50, 260
+Counts = typing.Dict[str, typing.List[float]]
 
 
-def value(formula, n):
-    """What a formula gives at n."""
-    def of(node):
-        if isinstance(node, ast.Constant) and type(node.value) is int:
-            return node.value
-        if isinstance(node, ast.Name) and node.id == "n":
-            return n
-        if isinstance(node, ast.BinOp) and type(node.op) in OPERATORS:
-            return OPERATORS[type(node.op)](of(node.left), of(node.right))
-        raise Fault(f"{formula} is no formula of n")
-
-    try:
-        return of(ast.parse(formula, mode="eval").body)
-    except (SyntaxError, ZeroDivisionError):
-        raise Fault(f"{formula} is no formula of n") from None
+def stuck_of(costs: list[EntryCost]) -> str:
+    """Why an entry is left out, by its costs at n = 1 and on, or nothing."""
+    return next((f"{cost.stuck} at n = {n}" for n, cost in enumerate(costs, 1) if cost.stuck), "")
 
 
-def curves(path: str, ops: list[str], last: int, settings: Settings) -> dict[str, list[int]]:
-    """Of each entry that is asked for its commands at n = 1 to `last`; a stuck one is left out and told."""
-    found: dict[str, list[int]] = {}
-    stuck: dict[str, str] = {}
-    for n in range(1, last + 1):
-        for cost in costs(path, n, settings):
-            found.setdefault(cost.name, []).append(cost.commands)
-            if cost.stuck:
-                stuck.setdefault(cost.name, f"{cost.stuck} at n = {n}")
-    unknown = [name for name in ops if name not in found]
+def entries_of(path: str, ops: list[str], widths: range, found: dict) -> dict[str, list[EntryCost]]:
+    """Of each entry that is asked for, its costs at the widths, where none is stuck."""
+    by_name = {cost.name: [found[path, n][k] for n in widths] for k, cost in enumerate(found[path, 1])}
+    for name, costs in by_name.items():
+        if stuck_of(costs) and (name in ops or not ops):
+            say(f"{name} is left out: its execution is stuck, {stuck_of(costs)}")
+    return {name: costs for name, costs in by_name.items() if not stuck_of(costs) and (name in ops or not ops)}
+
+
+def curves(paths: list[str], ops: list[str], last: int, settings: Settings) -> Counts:
+    """The commands of each entry at n = 1 to `last`, by its name, and by its file's too where there are several."""
+    widths = range(1, last + 1)
+    found = costs_at(paths, widths, settings, "plot")
+    there = list(dict.fromkeys(cost.name for path in paths for cost in found[path, 1]))
+    unknown = [name for name in ops if name not in there]
     if unknown:
-        raise Fault(f"{path} has no entry {unknown[0]}: it has {', '.join(found) or 'none'}")
-    for name in ops or found:
-        if name in stuck:
-            say(f"{name} is left out: its walk is stuck, {stuck[name]}")
-    drawn_names = [name for name in ops or found if name not in stuck]
-    if not drawn_names:
-        raise Fault(f"{path} has no entry that can be drawn")
-    return {name: found[name] for name in drawn_names}
+        raise Fault(f"{', '.join(paths)}: no entry is called {unknown[0]}; the entries: {', '.join(there) or 'none'}")
+    made: Counts = {}
+    for path, label in zip(paths, labels_of(paths)):
+        for name, costs in entries_of(path, ops, widths, found).items():
+            made[name if len(paths) == 1 else f"{name} of {label}"] = [cost.commands for cost in costs]
+    if not made:
+        raise Fault(f"{', '.join(paths)}: there is no entry that can be drawn")
+    return made
 
 
-def step(reach, most):
-    """A step of 1, 2 or 5 times a power of ten that marks `reach` at most `most` times."""
-    power = 1
-    while True:
-        for times in (1, 2, 5):
-            if reach <= times * power * most:
-                return times * power
-        power *= 10
+def drawn_of(words: list[str], last: int) -> Counts:
+    """The values of formulas NAME=FORMULA."""
+    pairs = dict(word.split("=", 1) for word in words if "=" in word)
+    if len(pairs) != len(words) or not all(pairs):
+        raise Fault("each --curve and --ceiling is NAME=FORMULA, with another name each")
+    return {name: [formulas.value(text, n) for n in range(1, last + 1)] for name, text in pairs.items()}
 
 
-def element(name, text=None, **attributes):
-    words = "".join(f' {key.replace("_", "-")}="{html.escape(str(word))}"' for key, word in attributes.items())
-    return f"<{name}{words}/>" if text is None else f"<{name}{words}>{html.escape(text)}</{name}>"
+def ceilings_of(words: list[str], found: Counts, last: int) -> Counts:
+    """The values of ceilings, each of an entry that is drawn."""
+    made = drawn_of(words, last)
+    unknown = [name for name in made if name not in found]
+    if unknown:
+        raise Fault(f"--ceiling names {unknown[0]}, and these are drawn: {', '.join(found)}")
+    return made
 
 
-def line(values, place, colour, **more):
-    points = " ".join("{:.1f},{:.1f}".format(*place(n, v)) for n, v in enumerate(values, 1))
-    return element("polyline", points=points, fill="none", stroke=colour, stroke_width=2, **more)
+def line_of(name: str, values: list[float], colour: str, is_dashed: bool = False) -> Line:
+    """A curve over the width; what a formula has below 0 is not drawn."""
+    points = [(n, value) for n, value in enumerate(values, 1) if value >= 0]
+    if not points:
+        raise Fault(f"{name} is below 0 at each width")
+    return Line(name, points, colour, is_dashed)
 
 
-def axes(last, top, place):
-    """The two axes with their marks."""
-    for v in range(0, top + 1, step(top, 8)):
-        x, y = place(0, v)
-        yield element("line", x1=x, y1=y, x2=LEFT + WIDE, y2=y, stroke="#ddd" if v else "#222")
-        yield element("text", f"{v:,}", x=x - 8, y=y + 5, text_anchor="end")
-    for n in range(0, last + 1, step(last, 10)):
-        x, y = place(n, 0)
-        yield element("line", x1=x, y1=y, x2=x, y2=y + 5, stroke="#222")
-        yield element("text", str(n), x=x, y=y + 22, text_anchor="middle")
-    yield element("text", "width n", x=LEFT + WIDE, y=HIGH + 20 + 42, text_anchor="end")
-    yield element("text", "row commands (AAP and AP)", x=LEFT - 60, y=14)
-
-
-def drawn(found, ceilings):
-    """The picture of curves and of ceilings, by name."""
-    last = max(map(len, found.values()), default=1)
-    top = max((max(c) for c in [*found.values(), *ceilings.values()]), default=1)
-
-    def place(n, v):
-        return LEFT + WIDE * n / last, 20 + HIGH - HIGH * v / max(top, 1)
-
-    yield (f'<svg xmlns="http://www.w3.org/2000/svg" width="{LEFT + WIDE + LEGEND}" height="{HIGH + 20 + BELOW}" '
-           'font-family="sans-serif" font-size="14">')
-    yield element("rect", width="100%", height="100%", fill="#fff")
-    yield from axes(last, top, place)
-    for k, (name, values) in enumerate(found.items()):
-        colour = COLOURS[k % len(COLOURS)]
-        yield line(values, place, colour)
+def lines_of(found: Counts, ceilings: Counts, others: Counts) -> list[Line]:
+    """The lines of the picture: each entry with its ceiling, and then the other formulas."""
+    colours = itertools.cycle(COLOURS)
+    lines = []
+    for name, values in found.items():
+        colour = next(colours)
+        lines.append(line_of(name, values, colour))
         if name in ceilings:
-            yield line(ceilings[name], place, colour, stroke_dasharray="6 5")
-        yield element("text", f"{name}: {values[-1]:,} at {last}", x=LEFT + WIDE + 16, y=34 + 22 * k, fill=colour)
-    if ceilings:
-        yield element("text", "dashed: the ceiling", x=LEFT + WIDE + 16, y=34 + 22 * len(found))
-    yield "</svg>"
+            lines.append(line_of(f"{name}, ceiling", ceilings[name], colour, True))
+    return lines + [line_of(name, values, next(colours), True) for name, values in others.items()]
 
 
 def width(text: str) -> int:
@@ -128,26 +101,22 @@ def width(text: str) -> int:
 
 def parser() -> argparse.ArgumentParser:
     made = argparse.ArgumentParser(prog="simdram plot", description=__doc__, formatter_class=argparse.RawDescriptionHelpFormatter)
-    made.add_argument("prog", metavar="PROG")
-    made.add_argument("out", metavar="OUT.svg")
+    made.add_argument("files", metavar="PROG .. OUT", nargs="+", help="program files, and the picture, OUT.svg or OUT.png")
     made.add_argument("--ops", default="", metavar="NAME,..", help="the entries to draw; all where none is given")
     made.add_argument("--to", type=width, default=64, metavar="N", help="the greatest width, 1 to 128")
-    made.add_argument("--ceiling", action="append", default=[], metavar="NAME=FORMULA")
+    made.add_argument("--curve", action="append", default=[], metavar="NAME=FORMULA", help="a formula beside the entries")
+    made.add_argument("--ceiling", action="append", default=[], metavar="NAME=FORMULA", help="a formula in an entry's colour")
     return made
 
 
-def ceilings_of(words: list[str], found: dict[str, list[int]], last: int) -> dict[str, list[int]]:
-    """The values of each ceiling that is asked for."""
-    formulas = dict(word.split("=", 1) for word in words if "=" in word)
-    if len(formulas) != len(words) or not formulas.keys() <= found.keys():
-        raise Fault("each --ceiling is NAME=FORMULA, of another entry that is drawn")
-    return {name: [value(text, n) for n in range(1, last + 1)] for name, text in formulas.items()}
-
-
 def main(words: list[str], settings: Settings) -> int:
-    asked = parser().parse_args(words)
-    found = curves(asked.prog, [name for name in asked.ops.split(",") if name], asked.to, settings)
+    asked = parser().parse_intermixed_args(words)
+    *progs, out = asked.files
+    if not progs:
+        raise Fault("plot takes program files and the picture's name after them: OUT is missing")
+    others = drawn_of(asked.curve, asked.to)
+    found = curves(list(dict.fromkeys(progs)), [name for name in asked.ops.split(",") if name], asked.to, settings)
     ceilings = ceilings_of(asked.ceiling, found, asked.to)
-    check_tool(asked.out, (b"<svg", b"<?xml"), "a picture is", settings)
-    pathlib.Path(asked.out).write_text("\n".join(drawn(found, ceilings)) + "\n", encoding="utf-8")
+    lines = lines_of(found, ceilings, others)
+    picture.write(Picture(lines, "width n", "row commands (AAP and AP)"), out, settings)
     return 0

@@ -55,11 +55,11 @@ class Reader:
         after = self.data[token.at:token.at + 2].decode("ascii", "replace")
         sign = next((sign for sign in (after, after[:1]) if sign in SIGNS), "")
         name = self.tokens[self.at - 1].text if self.at and self.tokens[self.at - 1].kind == NAME else "NAME"
-        return [f"there are no signs for comparisons: `{name} {sign} V` is `{SIGNS[sign]}({name}, V)`"] if sign else []
+        return [f"there are no operator symbols: `{name} {sign} V` is `{SIGNS[sign]}({name}, V)`"] if sign else []
 
     def wrong(self, token: Token, wanted: str, *right: str) -> Breach:
         what = "the end of the text" if token.kind == END else f"`{token.text}`"
-        return Breach(token, "syntax", f"the grammar does not allow {what} there", f"what could stand there: {wanted}", *right)
+        return Breach(token, "syntax", f"the grammar does not allow {what} here", f"allowed here: {wanted}", *right)
 
     def mark(self, text: str) -> None:
         token = self.take()
@@ -84,7 +84,7 @@ class Reader:
         right = []
         if token.kind == NAME:
             found = nearest(token.text, (*COMPARISONS, *JOINS))
-            right += [f"the nearest: {', '.join(found)}"] if found else []
+            right += [f"did you mean {' or '.join(found)}?"] if found else []
             ahead = self.tokens[self.at]
             if ahead.kind == STRANGER or ahead.text == "=":
                 right += self.sign_hint(ahead)
@@ -93,9 +93,9 @@ class Reader:
     def comparison(self, lead: Token) -> int:
         name = self.take()
         if name.kind != NAME:
-            raise self.wrong(name, "an object's name", *(["the name stands first: ge(NAME, V)"] if name.kind == NUMBER else []))
+            raise self.wrong(name, "an object's name", *(["the name comes first: ge(NAME, V)"] if name.kind == NUMBER else []))
         if is_long(name.text):
-            raise Breach(name, "bad_name", f"a name has at most 16 bytes, and this one {len(name.text)}")
+            raise Breach(name, "bad_name", f"a name has at most 16 bytes; this one has {len(name.text)}")
         self.mark(",")
         number = self.take()
         if number.kind != NUMBER:
@@ -121,7 +121,7 @@ class Reader:
         self.query()
         token = self.take()
         if token.kind != END:
-            raise self.wrong(token, "the end of the text", "a text has one query: join two by and(Q, Q) or or(Q, Q)")
+            raise self.wrong(token, "the end of the text", "a text has one query: combine two with and(Q, Q) or or(Q, Q)")
 
 
 def read_query(path: str, data: bytes) -> tuple[list[Node], Answer | None]:

@@ -1,9 +1,11 @@
 """A report of run, exec, trace or guard as one JSON object, or as a table.
 
-REPORT is a file that has what the command printed, or standard input where none is named. A report sums over banks. With
-SCRIPT and IMAGE it is also said, of each bbop, how many banks its elements stand in, the commands of one bank, and those
-for each element: 64 elements stand in a bank for each word of its rows. Banks work at the same time, so the time of a
-wave is that of the bank with the most commands.
+REPORT is a file that has what the command printed, or standard input where none is named. A report sums over banks, and
+its writes and reads include the rows that the simulator itself writes to open IMAGE and reads to store OUT, which are all
+rows of all banks. With --image the rows of the script alone are told too, as host_writes and host_reads; in a guarded run
+those that flips read and write are among them. With --script too, each bbop has the number of banks that its elements
+stand in, the commands of one bank, and those for each element: 64 elements stand in a bank for each word of its rows.
+Banks work at the same time, so the time of a wave is that of the bank with the most commands.
 """
 
 from __future__ import annotations
@@ -30,35 +32,36 @@ TOTAL = re.compile(r"total aap=(\d+) ap=(\d+) writes=(\d+) reads=(\d+) refused=(
 COLUMNS = ("number", "status", "aap", "ap", "banks", "aap_per_bank", "ap_per_bank", "commands_per_element", "instruction")
 
 
-class Beside(typing.NamedTuple):
-    """The script's instructions with their lines, and how many elements a bank holds."""
+class Script(typing.NamedTuple):
+    """A script's instructions, and their lines."""
 
     instructions: typing.List[Instruction]
     lines: typing.List[str]
-    columns: int
+
+    @classmethod
+    def load(cls, path: str) -> Script:
+        """The script in a file."""
+        data = load(path)
+        instructions, fault = read_script(path, data)
+        if fault:
+            raise Fault(f"{path} {fault.place}: {fault.kind}: {fault.rule}")
+        ends = [data[one.head.at:].split(b"\n", 1)[0] for one in instructions]
+        return cls(instructions, [line.decode("utf-8", "replace").partition("#")[0].strip() for line in ends])
 
 
-def beside_of(script: str | None, image: str | None) -> Beside | None:
-    """What a script and an image say beside a report."""
-    if not (script and image):
-        return None
-    data = load(script)
-    instructions, fault = read_script(script, data)
-    if fault:
-        raise Fault(f"{script} {fault.place}: {fault.kind}: {fault.rule}")
-    table = Table.read(load(image)[:HEAD_MAX], image)
-    lines = [data[one.head.at:].split(b"\n", 1)[0].decode("utf-8", "replace").partition("#")[0].strip() for one in instructions]
-    return Beside(instructions, lines, 64 * table.words)
+def table_in(image: str) -> Table:
+    """The geometry and the objects of an image file."""
+    return Table.read(load(image)[:HEAD_MAX], image)
 
 
-def in_banks(found: dict, beside: Beside) -> None:
+def in_banks(found: dict, script: Script, table: Table) -> None:
     """Adds what one bank and one element of an instruction cost."""
-    one = beside.instructions[found["number"] - 1]
-    found["instruction"] = beside.lines[found["number"] - 1]
+    one = script.instructions[found["number"] - 1]
+    found["instruction"] = script.lines[found["number"] - 1]
     if one.verb not in ("bbop", "bbop_trsp_init") or found["status"] != "ok":
         return
     count = one.number(0)
-    banks = -(-count // beside.columns)
+    banks = -(-count // (64 * table.words))
     found.update(elements=count, banks=banks, aap_per_bank=found["aap"] // banks, ap_per_bank=found["ap"] // banks,
                  commands_per_element=(found["aap"] + found["ap"]) / count)
 
@@ -78,8 +81,8 @@ def instruction_of(line: str) -> dict | None:
     return None
 
 
-def object_of(text: str, beside: Beside | None) -> dict:
-    """The object of a report."""
+def object_of(text: str, table: Table | None = None, script: Script | None = None) -> dict:
+    """The object of a report; the table of the image adds the host's rows, and the script each instruction's banks."""
     made: dict = {"instructions": [], "totals": None, "vote": None}
     for number, line in enumerate(text.splitlines(), 1):
         total, vote, found = TOTAL.fullmatch(line), VOTE.fullmatch(line), instruction_of(line)
@@ -93,11 +96,22 @@ def object_of(text: str, beside: Beside | None) -> dict:
             raise Fault(f"line {number} is no line of a report: {line[:80]!r}")
     if made["totals"] is None:
         raise Fault("the report has no line of totals: the command did not end with status 0 or 8")
-    if beside and len(beside.instructions) != len(made["instructions"]):
-        raise Fault(f"the report has {len(made['instructions'])} instructions, and the script {len(beside.instructions)}")
-    for found in made["instructions"] if beside else ():
-        in_banks(found, beside)
+    if table:
+        made["totals"].update(host_rows(made["totals"], table))
+    if script and len(script.instructions) != len(made["instructions"]):
+        raise Fault(f"the report has {len(made['instructions'])} instructions, and the script {len(script.instructions)}")
+    for found in made["instructions"] if script else ():
+        in_banks(found, script, table)
     return made
+
+
+def host_rows(totals: dict, table: Table) -> dict:
+    """The rows that the script wrote and read: without those of the simulator's own opening and storing of the image."""
+    own = table.banks * table.rows
+    rows = {"host_writes": totals["writes"] - own, "host_reads": totals["reads"] - own}
+    if min(rows.values()) < 0:
+        raise Fault(f"the report has fewer writes or reads than the {own} rows of the image: it is of another image")
+    return rows
 
 
 def cell(found: dict, name: str) -> str:
@@ -120,8 +134,8 @@ def parser() -> argparse.ArgumentParser:
     made = argparse.ArgumentParser(prog="simdram report", description=__doc__, formatter_class=argparse.RawDescriptionHelpFormatter)
     made.add_argument("report", metavar="REPORT", nargs="?")
     made.add_argument("--json", action="store_true", help="one JSON object")
-    made.add_argument("--script", metavar="SCRIPT")
-    made.add_argument("--image", metavar="IMAGE")
+    made.add_argument("--script", metavar="SCRIPT", help="the script that was executed; needs --image")
+    made.add_argument("--image", metavar="IMAGE", help="the image that it was executed on")
     return made
 
 
@@ -137,8 +151,10 @@ def text_of(report: str | None) -> str:
 
 def main(words: list[str], _settings: Settings) -> int:
     asked = parser().parse_args(words)
-    if bool(asked.script) != bool(asked.image):
-        raise Fault("--script and --image stand together")
-    made = object_of(text_of(asked.report), beside_of(asked.script, asked.image))
+    if asked.script and not asked.image:
+        raise Fault("--script needs --image, the image that the script ran on")
+    table = table_in(asked.image) if asked.image else None
+    script = Script.load(asked.script) if asked.script else None
+    made = object_of(text_of(asked.report), table, script)
     print(json.dumps(made, indent=1) if asked.json else table_of(made))
     return 0

@@ -1,4 +1,4 @@
-"""Finds the program, builds it where that is wanted, and runs it. Nothing else here runs it."""
+"""Finds the program, builds it if necessary, and runs it. No other module runs it."""
 
 from __future__ import annotations
 
@@ -17,9 +17,6 @@ from .say import is_new_here, say
 from .settings import Settings, taken
 
 PASSED_ON = (signal.SIGINT, signal.SIGTERM, signal.SIGHUP, signal.SIGQUIT)
-PROVED, UNPROVED = "simdram", "unproved"
-# the folders of a crate that a program is made from
-FOLDERS = {PROVED: ("src", "specs", "proofs"), UNPROVED: ("src",)}
 
 
 def given() -> str | None:
@@ -29,45 +26,60 @@ def given() -> str | None:
         return None
     found = shutil.which(name)
     if found is None:
-        raise NoProgram(f"SIMDRAM_PROGRAM names {name}, which is no program")
+        raise NoProgram(f"SIMDRAM_PROGRAM is {name}, which is not a program")
     return str(pathlib.Path(found).resolve())
 
 
+def kinds(settings: Settings) -> tuple[str, ...]:
+    """Which built programs may run, the preferred one first."""
+    if settings.unproved:
+        return (build.UNPROVED,)
+    return (build.PROVED,) if settings.proved else (build.PROVED, build.UNPROVED)
+
+
 def standing(settings: Settings) -> str | None:
-    """The program where it stands already, built from the sources as they are."""
+    """The program, if it is already built from the sources as they are."""
     if given():
         return given()
-    name = UNPROVED if settings.unproved else PROVED
-    if TOP is None or build.is_old(build.out_folder() / name, FOLDERS[name]):
-        return None
-    return str(build.out_folder() / name)
+    for name in kinds(settings) if TOP is not None else ():
+        if not build.is_old(build.out_folder() / name, build.SOURCES[name]):
+            return str(build.out_folder() / name)
+    return None
 
 
-def warn(settings: Settings) -> None:
-    """Says once a terminal that nothing was proved."""
-    if settings.unproved and not given() and not settings.quiet and is_new_here("unproved"):
-        say("this program was compiled without proofs: nothing was proved")
+def need_no_proof(settings: Settings) -> None:
+    """Raises if only the proved program will do."""
+    if settings.proved:
+        state = "is older than its sources" if (build.out_folder() / build.PROVED).exists() else "is not built"
+        raise NoProgram(f"the proved program {state}: simdram prove")
+
+
+def warn(path: str, settings: Settings) -> None:
+    """Says once per terminal that the program was not proved."""
+    if pathlib.Path(path).name == build.UNPROVED and not given() and not settings.quiet and is_new_here("unproved"):
+        say("this program was compiled without proofs; `simdram prove` builds the proved one")
 
 
 def program(settings: Settings) -> str:
-    """The program, which is built where it does not stand."""
+    """The program, built first if necessary: without proofs, since a proof takes long and is asked for by `simdram prove`."""
     found = standing(settings)
     if found is None:
-        build.compile_unproved() if settings.unproved else build.prove()
-        found = str(build.out_folder() / (UNPROVED if settings.unproved else PROVED))
-    warn(settings)
+        need_no_proof(settings)
+        build.compile_unproved()
+        found = str(build.out_folder() / build.UNPROVED)
+    warn(found, settings)
     return found
 
 
 def environment() -> dict[str, str]:
-    """Ours, and large pages for what the program takes, where nothing is said to the C library: an image is touched in fewer faults."""
+    """Ours; and large pages for the program's memory, unless the C library is told otherwise: fewer page faults on a large image."""
     return {"GLIBC_TUNABLES": "glibc.malloc.hugetlb=1", **os.environ}
 
 
 def follow(path: str, words: list[str], ended: typing.Callable[[], None] = lambda: None) -> int:
-    """The status of the program on these words; it has our streams, open files and signals, and ends us as it was ended.
+    """Runs the program with our streams, open files and signals, and returns its status; a signal that ends it ends us too.
 
-    What `ended` does comes between the two ends.
+    `ended` is called after the program has ended.
     """
     with subprocess.Popen([path, *words], close_fds=False, env=environment()) as running:
         def pass_on(number, _frame):
@@ -87,17 +99,39 @@ def follow(path: str, words: list[str], ended: typing.Callable[[], None] = lambd
 
 
 class Ended(typing.NamedTuple):
-    """How a call ended: its status, and what it put on standard output and standard error."""
+    """How a call ended: its status, and what it printed on standard output and standard error."""
 
     status: int
     out: str
     err: str
 
 
-def run(words: typing.Sequence, folder=None, settings: Settings | None = None, seconds: float | None = None) -> Ended:
-    """How the program ends on the words, in a folder; its standard error is passed on. It may take so many seconds."""
-    chosen = settings if settings is not None else taken([])[0]
-    ended = subprocess.run([program(chosen), *map(str, words)], cwd=folder, stdin=subprocess.DEVNULL, capture_output=True,
-                           text=True, errors="backslashreplace", check=False, timeout=seconds, env=environment())
-    sys.stderr.write(ended.stderr)
-    return Ended(ended.returncode, ended.stdout, ended.stderr)
+# the calls of the program that have not ended, of all threads
+_running: set[subprocess.Popen] = set()
+
+
+def run(words: typing.Sequence, folder=None, settings: Settings | None = None, seconds: float | None = None,
+        path: str | None = None) -> Ended:
+    """Runs the program in a folder and returns how it ended; its standard error is passed on.
+
+    A caller that runs it many times finds the program once and gives its path.
+    """
+    found = path or program(settings if settings is not None else taken([])[0])
+    with subprocess.Popen([found, *map(str, words)], cwd=folder, stdin=subprocess.DEVNULL, stdout=subprocess.PIPE,
+                          stderr=subprocess.PIPE, text=True, errors="backslashreplace", env=environment()) as running:
+        _running.add(running)
+        try:
+            out, err = running.communicate(timeout=seconds)
+        except BaseException:
+            running.kill()
+            raise
+        finally:
+            _running.discard(running)
+    sys.stderr.write(err)
+    return Ended(running.returncode, out, err)
+
+
+def stop_all() -> None:
+    """Ends the calls of all threads that have not ended."""
+    for running in list(_running):
+        running.terminate()

@@ -17,11 +17,11 @@ def wrong_comparison(nodes: list[Node], table: Table) -> Refusal | None:
         found, name = table.find(node.name.text), node.name
         if found is None:
             return Refusal(f"no_object {k}", name, f"no object has the name {name.text}{near(name.text, names)}",
-                           (f"the objects that stand: {', '.join(names) or 'none'}",))
+                           (f"objects: {', '.join(names) or 'none'}",))
         first = table.find(tests[0].name.text)
         if found.count != first.count:
-            return Refusal(f"count {k}", name, f"{found.name} has {found.count} elements, and {first.name} {first.count}",
-                           ("all objects of a query have as many elements",))
+            return Refusal(f"count {k}", name, f"{found.name} has {found.count} elements; {first.name} has {first.count}",
+                           ("all objects of a query have the same number of elements",))
         if value_of(node.number.text) >= 2**found.width:
             return Refusal(f"range {k}", node.number, f"{found.name} has {found.width} bits, which hold 0 to {2**found.width - 1}")
     return None
@@ -36,7 +36,7 @@ class Room:
     def make(self, node: Node, k: int, width: int) -> Object | Refusal:
         """One more object of the scan, under the first free of its names."""
         if len(self.table.objects) == OBJECTS:
-            return Refusal(f"table_full {k}", node.lead, f"the scan makes an object here, and the table has {OBJECTS} already")
+            return Refusal(f"table_full {k}", node.lead, f"the scan makes an object here, but the table is full with {OBJECTS}")
         base = self.table.least_free(width)
         if base is None:
             refusal = no_rows(self.table, node.lead, width, "an object that the scan makes here")

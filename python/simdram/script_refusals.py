@@ -29,22 +29,22 @@ class Refusal:
 
 def near(word: str, known) -> str:
     found = nearest(word, known)
-    return f"; the nearest: {', '.join(found)}" if found else ""
+    return f"; did you mean {' or '.join(found)}?" if found else ""
 
 
 def no_object(table: Table, token: Token, place: int) -> Refusal:
     names = [one.name for one in table.objects]
     return Refusal(f"no_object {place}", token, f"no object has the name {token.text}{near(token.text, names)}",
-                   (f"the objects that stand: {', '.join(names) or 'none'}",))
+                   (f"objects: {', '.join(names) or 'none'}",))
 
 
 def no_rows(table: Table, token: Token, size: int, what: str) -> Refusal:
     """The refusal for want of free rows in one piece."""
     rows = table.rows_for(size)
-    right = (f"with {rows} rows to a bank it would go: this image has {table.rows}" if rows <= ROWS_MAX else
-             f"it would take {rows} rows to a bank, and no image has more than {ROWS_MAX}")
-    return Refusal("no_rows", token, f"{what} takes {size} neighbouring rows, and the longest free piece has {table.longest()}; "
-                   f"the last {SPILL_ROWS} rows of a bank are no object's", (right, "a `free` before, or objects of one width, help too"))
+    right = (f"it would fit with {rows} rows per bank; this image has {table.rows}" if rows <= ROWS_MAX else
+             f"it would need {rows} rows per bank; an image has at most {ROWS_MAX}")
+    return Refusal("no_rows", token, f"{what} needs {size} adjacent rows, and the longest free piece has {table.longest()}; "
+                   f"the last {SPILL_ROWS} rows of a bank are reserved for spills", (right, "a `free` before, or objects of equal width, help too"))
 
 
 def with_own_name(refusal: Refusal, copies: tuple[Token, ...]) -> Refusal:
@@ -83,11 +83,11 @@ class Checker:
     def do_bbop_trsp_init(self, one: Instruction) -> Refusal | None:
         token, count, width, table = one.names[0], one.number(0), one.number(1), self.table
         if table.find(token.text):
-            return Refusal("exists", token, f"an object {token.text} stands already", (f"`free {token.text}` before makes room",))
+            return Refusal("exists", token, f"an object {token.text} already exists", (f"`free {token.text}` before removes it",))
         if len(table.objects) == OBJECTS:
             return Refusal("table_full", token, f"the table has {OBJECTS} objects already", ("`free` one before",))
         if count > table.room:
-            return Refusal("too_large", one.numbers[0], f"{count} elements, and an object of this image has at most {table.room}: "
+            return Refusal("too_large", one.numbers[0], f"{count} elements; an object of this image has at most {table.room}: "
                            f"64 columns for each of {table.words} words in {table.banks} banks")
         base = table.least_free(width)
         if base is None:
@@ -139,9 +139,9 @@ class Checker:
         wanted = len(entry.results) + len(entry.sources)
         if len(one.names) == wanted:
             return None
-        return Refusal("arity", one.head, f"{len(one.names)} names, and {entry.name} has {len(entry.results)} result"
+        return Refusal("arity", one.head, f"{len(one.names)} names; {entry.name} has {len(entry.results)} result"
                        f"{'s' * (len(entry.results) > 1)} and {len(entry.sources)} source{'s' * (len(entry.sources) > 1)}",
-                       (f"results stand first: {form_of(entry)}",))
+                       (f"results come first: {form_of(entry)}",))
 
     def operands(self, one: Instruction, entry: Entry) -> Refusal | None:
         """The names, then their widths, then their counts."""
@@ -154,12 +154,12 @@ class Checker:
         for place, (token, kind) in enumerate(zip(one.names, (*entry.results, *entry.sources))):
             wanted = width if kind == "word" else 1
             if found[place].width != wanted:
-                what = f"a word, of {width} bits here" if kind == "word" else "a bit, of 1 bit"
-                return Refusal(f"width {place}", token, f"{token.text} is {found[place].width} bits wide, and {entry.name} takes there "
+                what = f"a word of {width} bits" if kind == "word" else "a bit"
+                return Refusal(f"width {place}", token, f"{token.text} is {found[place].width} bits wide; {entry.name} expects "
                                f"{what}", (form_of(entry),))
         for place, token in enumerate(one.names):
             if found[place].count != count:
-                return Refusal(f"size {place}", token, f"{token.text} has {found[place].count} elements, and COUNT is {count}")
+                return Refusal(f"size {place}", token, f"{token.text} has {found[place].count} elements; COUNT is {count}")
         return None
 
     def overlap(self, one: Instruction, entry: Entry) -> Refusal | None:
@@ -178,7 +178,7 @@ class Checker:
         stuck = self.stuck(entry.name, width)
         if stuck:
             return Refusal(f"bad_walk {stuck}", one.head, f"the microprogram of {entry.name} is stuck at the width {width}, at instruction "
-                           f"{stuck.split()[0]}", ("the compiler writes no such program; `simdram list PROG` shows the instructions",))
+                           f"{stuck.split()[0]}", ("no compiled program is; `simdram list PROG` shows the instructions",))
         size = entry.bits + width * entry.words
         if self.table.least_free(size) is None:
             return no_rows(self.table, one.head, size, f"the scratch of {entry.name} at the width {width}")

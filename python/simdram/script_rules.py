@@ -22,7 +22,7 @@ FORMS = {
 SHAPES = {"bbop_trsp_init": (1, 1, 2, 2), "bbop": (2, 6, 2, 2), "load": (1, 1, 1, None), "fill": (1, 1, 1, 1),
           "print": (1, 1, 0, 0), "free": (1, 1, 0, 0)}
 COUNT_MAX, WIDTH_MAX, VALUE_MAX, SEED_MAX = 2**32 - 1, 128, 2**128 - 1, 2**64 - 1
-ALL_FORMS = "the forms: " + "; ".join(FORMS.values())
+ALL_FORMS = "forms: " + "; ".join(FORMS.values())
 
 
 class Breach(Exception):
@@ -59,28 +59,28 @@ def verb_of(head: Token) -> str:
     if text.startswith("bbop_"):
         return "bbop"
     near = nearest(text, [*FORMS, f"bbop_{text}"])
-    raise Breach(head, "syntax", f"no instruction begins with {text}", f"the nearest: {', '.join(near)}" if near else ALL_FORMS,
-                 f"an operation is run by bbop_ and its name, as in bbop_{text} Y, A, B, COUNT, N")
+    raise Breach(head, "syntax", f"no instruction begins with {text}", f"did you mean {' or '.join(near)}?" if near else ALL_FORMS,
+                 f"an operation is run by bbop_ and its name, such as bbop_{text} Y, A, B, COUNT, N")
 
 
 def operands(verb: str, words: list[Token]) -> tuple[list[Token], list[Token]]:
     """The names and then the numbers, with commas between them."""
     names: list[Token] = []
     numbers: list[Token] = []
-    form = f"the form: {FORMS[verb]}"
+    form = f"form: {FORMS[verb]}"
     for k, token in enumerate(words):
         if token.kind == END:
             if k and k % 2 == 0:
                 raise Breach(token, "syntax", "the line ends after a comma", form)
         elif k % 2:
             if token.text != ",":
-                raise Breach(token, "syntax", f"`{token.text}` stands where a comma or the line's end has to", form)
+                raise Breach(token, "syntax", f"`{token.text}` where a comma or the end of the line is expected", form)
         elif token.kind == NAME and not numbers:
             names.append(token)
         elif token.kind == NUMBER:
             numbers.append(token)
         else:
-            what = "a name after a number" if token.kind == NAME else f"`{token.text}` where a name or a number has to stand"
+            what = "a name after a number" if token.kind == NAME else f"`{token.text}` where a name or a number is expected"
             raise Breach(token, "syntax", what, form)
     return names, numbers
 
@@ -88,26 +88,26 @@ def operands(verb: str, words: list[Token]) -> tuple[list[Token], list[Token]]:
 def check_shape(verb: str, names: list[Token], numbers: list[Token], end: Token) -> None:
     """Whether there are as many names and numbers as the form has."""
     least, most, fewest, greatest = SHAPES[verb]
-    form = f"the form: {FORMS[verb]}"
+    form = f"form: {FORMS[verb]}"
     if len(names) > most:
-        raise Breach(names[most], "syntax", f"a name too many: {verb} takes {most}", form)
+        raise Breach(names[most], "syntax", f"one name too many: {verb} takes {most}", form)
     if len(names) < least:
         raise Breach((numbers or [end])[0], "syntax", f"{len(names) or 'no'} name{'s' * (len(names) != 1)} where {least} "
-                     f"{'is' if least == 1 else 'are'} wanted", form)
+                     f"{'is' if least == 1 else 'are'} expected", form)
     if greatest is not None and len(numbers) > greatest:
-        raise Breach(numbers[greatest], "syntax", f"a number too many: {verb} takes {greatest}", form)
+        raise Breach(numbers[greatest], "syntax", f"one number too many: {verb} takes {greatest}", form)
     if len(numbers) < fewest:
         raise Breach(end, "syntax", f"{len(numbers) or 'no'} number{'s' * (len(numbers) != 1)} where {fewest} "
-                     f"{'is' if fewest == 1 else 'are'} wanted", form)
+                     f"{'is' if fewest == 1 else 'are'} expected", form)
 
 
 def check_names(one: Instruction) -> None:
     """Whether the names are short enough, and the operation's name is one."""
     if one.verb == "bbop" and (not one.op or one.op[0].isdigit() or is_long(one.op)):
-        raise Breach(one.head, "bad_name", f"after bbop_ stands the name of an operation, of 1 to {NAME_MAX} bytes")
+        raise Breach(one.head, "bad_name", f"bbop_ is followed by the name of an operation, of 1 to {NAME_MAX} bytes")
     for token in one.names:
         if is_long(token.text):
-            raise Breach(token, "bad_name", f"a name has at most {NAME_MAX} bytes, and this one {len(token.text)}")
+            raise Breach(token, "bad_name", f"a name has at most {NAME_MAX} bytes; this one has {len(token.text)}")
 
 
 def check_range(token: Token, least: int, most: int, what: str) -> None:
@@ -134,7 +134,7 @@ def order_of(head: Token, words: list[Token]) -> Instruction:
         check_range(words[1], 0, SEED_MAX, "a seed")
         return Instruction("order", head, (), (words[1],))
     known = texts[:1] in (["in"], ["turns"], ["seed"])
-    raise Breach(words[1] if known else words[0], "syntax", "no order is written so", f"the form: {FORMS['order']}")
+    raise Breach(words[1] if known else words[0], "syntax", "there is no such order", f"form: {FORMS['order']}")
 
 
 def instruction_of(line: list[Token]) -> Instruction | None:

@@ -1,4 +1,4 @@
-"""The launcher's settings: from the words, from the environment, from the file `.simdram` at the top."""
+"""The launcher's settings: from the command line, the environment, and the file `.simdram` at the top of the repository."""
 
 from __future__ import annotations
 
@@ -6,7 +6,7 @@ import dataclasses
 import os
 import pathlib
 
-from .faults import NoProgram
+from .faults import Fault, NoProgram
 from .places import TOP
 
 FILE = ".simdram"
@@ -14,9 +14,10 @@ FILE = ".simdram"
 
 @dataclasses.dataclass(frozen=True)
 class Settings:
-    """Whether the program without proofs is meant, whether files of another kind may be written over, and what is quiet."""
+    """Which program is asked for, whether files of another kind may be overwritten, and whether notes are left out."""
 
     unproved: bool = False
+    proved: bool = False
     force: bool = False
     quiet: bool = False
 
@@ -26,7 +27,7 @@ def is_set(name: str) -> bool:
 
 
 def unproved_by_file() -> bool:
-    """Whether the file at the top says so."""
+    """Whether the file at the top of the repository has the setting."""
     path = pathlib.Path(TOP) / FILE if TOP is not None else None
     if path is None or not path.is_file():
         return False
@@ -34,13 +35,17 @@ def unproved_by_file() -> bool:
     for number, line in enumerate(path.read_text(encoding="utf-8", errors="replace").splitlines(), 1):
         word = line.partition("#")[0].strip()
         if word not in ("", "unproved", "--unproved"):
-            raise NoProgram(f"{path} line {number}: {word} is no setting; the one that there is: unproved")
+            raise NoProgram(f"{path} line {number}: {word} is not a setting; the only setting is: unproved")
         said = said or bool(word)
     return said
 
 
 def taken(words: list[str]) -> tuple[Settings, list[str]]:
     """The settings, and the words without them."""
-    rest = [word for word in words if word not in ("--unproved", "--force")]
-    unproved = "--unproved" in words or is_set("SIMDRAM_UNPROVED") or unproved_by_file()
-    return Settings(unproved, "--force" in words, is_set("SIMDRAM_QUIET")), rest
+    flags = {"--unproved", "--proved", "--force"}
+    given, rest = flags.intersection(words), [word for word in words if word not in flags]
+    if {"--unproved", "--proved"} <= given:
+        raise Fault("--proved and --unproved are both given; at most one of them may be")
+    proved = "--proved" in given
+    unproved = "--unproved" in given or not proved and (is_set("SIMDRAM_UNPROVED") or unproved_by_file())
+    return Settings(unproved, proved, "--force" in given, is_set("SIMDRAM_QUIET")), rest

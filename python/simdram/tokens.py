@@ -35,7 +35,7 @@ def no_token(token: Token) -> str:
     """Why a byte starts no token, as a rule."""
     if len(token.text) == 1:
         return f"no token begins with {token.text!r}; a comment begins with `#`"
-    return f"no token begins with the byte 0{token.text[1:]}: but for comments, which begin with `#`, texts are ASCII"
+    return f"no token begins with the byte 0{token.text[1:]}: texts are ASCII, except in comments, which begin with `#`"
 
 
 def line_of(data: bytes, at: int) -> int:

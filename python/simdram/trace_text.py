@@ -1,9 +1,8 @@
 """Prints a trace file as text, one line for each event, such as `bank 0 AAP D8 B8`.
 
-With --ramulator it prints the form of simulators of DRAM in the manner of Ramulator, such as `AAP 0 8 2048`: a command, its
-bank, and its rows, one command a line. Data rows are numbered as they are; the other groups stand after them, C0 and C1 at
-1024 and 1025, and B0 to B15 from 2048 on. No times are given: when a command may follow another is the simulator's to say,
-by its own timing.
+With --ramulator it prints a command list for DRAM simulators like Ramulator, such as `AAP 0 8 2048`: one command per line, with
+its bank and its rows. Data rows keep their numbers; C0 and C1 are rows 1024 and 1025, and B0 to B15 begin at 2048. There are no
+times: the simulator decides by its own timing when a command may follow another.
 """
 
 from __future__ import annotations

@@ -1,4 +1,4 @@
-"""Which words are a command of the program, and what is wrong with others."""
+"""Whether a command line is a command of the program, and what is wrong with it if not."""
 
 from __future__ import annotations
 
@@ -6,7 +6,7 @@ import difflib
 
 from .commands import ALL, Command, Word
 
-# of each number the least and the greatest that it may be, and what it is called
+# of each numeric argument its range, and what it is called
 RANGES = {
     "width": (1, 128, "the width"),
     "banks": (1, 16, "the number of banks"),
@@ -19,7 +19,7 @@ PLACES = ("first", "second", "third", "fourth", "fifth", "sixth")
 
 
 def nearest(word: str, known) -> list[str]:
-    """The known words that are most like this one."""
+    """The known words that are most similar to this one."""
     def likeness(name: str) -> float:
         return difflib.SequenceMatcher(None, word, name).ratio()
 
@@ -28,50 +28,51 @@ def nearest(word: str, known) -> list[str]:
 
 
 def wrong_number(word: Word, text: str) -> str | None:
-    """What is wrong with a word that has to be a number."""
+    """What is wrong with an argument that has to be a number."""
     low, high, says = RANGES[word.kind]
     if not (text.isascii() and text.isdigit()):
-        return f"{word.name} is {says}, in decimal digits, and not {text!r}"
+        return f"{word.name} is {says}, in decimal digits; it cannot be {text!r}"
     if not low <= int(text) <= high:
-        return f"{word.name} is {says}, {low} to {high}, and not {text}"
+        return f"{word.name} is {says}, {low} to {high}; it cannot be {text}"
     return None
 
 
 def wrong_numbers(command: Command, words: list[str]) -> str | None:
-    """What is wrong with the numbers of a command."""
+    """What is wrong with the numeric arguments of a command."""
     numbers = [(word, text) for word, text in zip(command.words, words) if word.kind in RANGES]
     for word, text in numbers:
         wrong = wrong_number(word, text)
         if wrong:
             return wrong
     if command.name == "init" and int(words[0]) * int(words[1]) * int(words[2]) > WORDS_MAX:
-        return f"{words[0]} banks of {words[1]} rows of {words[2]} words are more than {WORDS_MAX} words in all"
+        return f"{words[0]} banks of {words[1]} rows of {words[2]} words are more than the {WORDS_MAX} words that a chip may have"
     return None
 
 
 def equal_files(command: Command, words: list[str]) -> str | None:
-    """Which two files of a command are one, where they may not: all but IMAGE and OUT differ."""
+    """Which two files of a command are the same; only IMAGE and OUT may be."""
     files = [(word, text) for word, text in zip(command.words, words) if word.is_file]
     for k, (word, text) in enumerate(files):
         for other, same in files[k + 1:]:
             if text == same and (word.name, other.name) != ("IMAGE", "OUT"):
-                return f"{word.name} and {other.name} are one file, {text}"
+                return f"{word.name} and {other.name} are the same file, {text}"
     return None
 
 
 def wrong_count(command: Command, words: list[str]) -> str | None:
-    """Whether words are missing, or too many."""
+    """Whether arguments are missing, or too many."""
     wanted, given = len(command.words), len(words)
     if given < wanted:
-        missing = " and ".join(word.name for word in command.words[given:])
-        return f"{missing} {'is' if wanted - given == 1 else 'are'} missing: {command.name} takes {wanted} word{'s' * (wanted > 1)}"
+        *others, last = (word.name for word in command.words[given:])
+        missing = f"{', '.join(others)} and {last} are" if others else f"{last} is"
+        return f"{missing} missing; {command.name} takes {wanted} argument{'s' * (wanted > 1)}"
     if given > wanted:
-        return f"{words[wanted]} is one word too many: {command.name} takes {wanted}"
+        return f"{words[wanted]} is one argument too many; {command.name} takes {wanted}"
     return None
 
 
 def is_text(word: str) -> bool:
-    """Whether a word is text, as the program takes words."""
+    """Whether an argument is UTF-8, as the program requires."""
     try:
         word.encode()
     except UnicodeEncodeError:
@@ -80,15 +81,15 @@ def is_text(word: str) -> bool:
 
 
 def wrong_words(words: list[str]) -> str | None:
-    """What is wrong with the words, as one line, or nothing where they are a command of the program."""
+    """What is wrong with a command line, as one line, or nothing if it is a command of the program."""
     if not words:
         return "there is no command"
     strange = next((word for word in words if not is_text(word)), None)
     if strange is not None:
-        return f"{strange!r} is no word: words are UTF-8"
+        return f"{strange!r} is not UTF-8"
     command = ALL.get(words[0])
     if command is None or not command.is_program:
         near = nearest(words[0], [*ALL, "help"])
-        return f"there is no command {words[0] or repr('')}" + (f"; the nearest: {', '.join(near)}" if near else "")
+        return f"there is no command {words[0] or repr('')}" + (f"; did you mean {' or '.join(near)}?" if near else "")
     given = words[1:]
     return wrong_count(command, given) or wrong_numbers(command, given) or equal_files(command, given)

@@ -90,7 +90,8 @@ class Tree:
         name = self.dice.choice([name for name in WORDS if self.heavy or name not in LONG])
         first, one = self.word(depth - 1)
         if self.dice.random() < 0.2:
-            number = self.dice.getrandbits(self.bits)
+            plain = (0, 1, 2**self.bits - 1, 1 << self.dice.randrange(self.bits))
+            number = self.dice.choice((*plain, self.dice.getrandbits(self.bits)))
             alike = numpy.full(self.shape, number, dtype=object)
             return of_chip(name, first, number), of_numpy(name, self.bits, one, alike)
         second, two = self.word(depth - 1)

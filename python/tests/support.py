@@ -25,5 +25,5 @@ def program():
     return None
 
 
-needs_program = unittest.skipUnless(program(), "no program is built: ./simdram --unproved builds one")
+needs_program = unittest.skipUnless(program(), "no program is built: ./simdram build builds one")
 needs_numpy = unittest.skipUnless(numpy, "NumPy is not installed")

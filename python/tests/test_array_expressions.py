@@ -71,7 +71,7 @@ class Expressions(Beside):
         for k in range(16):
             sixteen = sixteen ^ (b if k % 2 else c)
         self.assertEqual(sixteen.text.count("op "), 1)
-        self.assertEqual((sixteen + 0).text.count("op "), 1)
+        self.assertEqual((sixteen + 1).text.count("op "), 1)
         seventeen = a
         for k in range(17):
             seventeen = seventeen ^ (b if k % 2 else c)
@@ -233,9 +233,22 @@ class Objects(unittest.TestCase):
         for banks, count in ((1, 64), (2, 65)):
             chip = simdram.Chip(banks=2, rows=200, words=1)
             a = chip.array(numpy.arange(count), bits=8)
-            self.assertEqual((a + a).cost, simdram.Cost(65 * banks, 8 * banks))
-            self.assertEqual((a + 1).cost, simdram.Cost(73 * banks, 8 * banks))
+            both = a + chip.array(numpy.arange(count), bits=8)
+            self.assertEqual(both.cost, simdram.Cost(65 * banks, 8 * banks, banks))
+            self.assertEqual((a & 1).cost, simdram.Cost(40 * banks, 0, banks))
+            self.assertEqual(both.cost.per_bank, simdram.Cost(65, 8))
+            self.assertEqual(both.cost.commands, 73 * banks)
             self.assertEqual(a.cost, simdram.Cost(0, 0))
+        self.assertEqual(str(both.cost), "aap=130 ap=16 over 2 banks, aap=65 ap=8 in each")
+
+    def test_rows_of_the_host(self):
+        chip = simdram.Chip(banks=2, rows=200, words=1)
+        a = chip.array(numpy.arange(65), bits=8)
+        b = chip.array([1, 2, 3], bits=5)
+        self.assertEqual((chip.host_writes, chip.host_reads), (2 * 8 + 5, 0))
+        (a + a).numpy(), (b > 1).numpy(), chip.array(3, bits=8).numpy()
+        self.assertEqual((chip.host_writes, chip.host_reads), (2 * 8 + 5, 2 * 8 + 1))
+        self.assertEqual(((a + a).cost.host_writes, (a + a).cost.host_reads), (0, 0))
 
 
 if __name__ == "__main__":

@@ -39,8 +39,27 @@ class Ops(unittest.TestCase):
                 simdram.op(text)
             self.assertEqual((caught.exception.status, caught.exception.line), (4, line))
             self.assertRegex(str(caught.exception), r"ops line 1 column \d+: ")
-        with self.assertRaisesRegex(ValueError, "this has 2"):
-            simdram.op("op f(a: word) -> y: word { y = not(a); } op g(a: word) -> y: word { y = not(a); }")
+
+    def test_a_text_of_several_ops(self):
+        text = "op f(a: word, b: word) -> y: word { y = add(a, b); } op g(a: word) -> y: word { y = not(a); }"
+        found = simdram.ops(text)
+        self.assertEqual(list(found), ["f", "g"])
+        self.assertEqual(found["g"].text, simdram.op("op g(a: word) -> y: word { y = not(a); }").text)
+        chip = simdram.Chip(banks=1, rows=200, words=1)
+        a = chip.array([1, 2], bits=8)
+        self.assertEqual(found["f"](a, simdram.op(text, name="g")(a)).numpy().tolist(), [255, 255])
+        for name, said in ((None, "this one has f, g"), ("h", "no op h; it has f, g")):
+            with self.assertRaisesRegex(ValueError, said):
+                simdram.op(text, name=name)
+
+    def test_costs_of_an_op(self):
+        text = "op f(a: word, b: word) -> y: word { y = add(a, b); } op g(a: word) -> y: word { y = not(a); }"
+        add, turned = simdram.ops(text).values()
+        self.assertEqual({bits: one.commands for bits, one in add.costs([4, 8, 16, 32]).items()}, {4: 37, 8: 73, 16: 145, 32: 289})
+        self.assertEqual(str(turned.cost(8)), "aap=16 ap=0 rows=0")
+        self.assertEqual(add.costs([]), {})
+        with self.assertRaises(simdram.Refused):
+            add.cost(129)
 
 
 @needs_numpy
@@ -61,7 +80,7 @@ class Scans(unittest.TestCase):
         self.assertEqual(of_two.count, (((x ^ 85) < 99) | (x > 3)).sum())
         self.assertEqual(simdram.scan(chip, "eq(a, 1)", a=a + 1).count, (x == 0).sum())
         self.assertEqual(simdram.scan(chip, "and(ge(a, 3), lt(b, 99))", a=a, b=a).count, ((x >= 3) & (x < 99)).sum())
-        self.assertEqual(found.cost, simdram.Cost(172, 32))
+        self.assertEqual(found.cost, simdram.Cost(172, 32, 2))
 
 
 if __name__ == "__main__":

@@ -25,24 +25,24 @@ from simdram.table import HEAD_MAX, Table
 HEAD = "op f(a: word, b: word, s: bit) -> y: word {\n"
 # a text, the kind, the line and column, the token, and words of what would be right
 OPS = (
-    (HEAD + "  y = ad(a, b);\n}", "unknown", "line 2 column 7", "ad", "the nearest: add"),
+    (HEAD + "  y = ad(a, b);\n}", "unknown", "line 2 column 7", "ad", "did you mean add"),
     (HEAD + "  y = add(mul(a, b), b);\n}", "unknown", "line 2 column 11", "mul", "do not nest in word statements"),
     (HEAD + "  y = a + b;\n}", "unknown", "line 2 column 7", "a", "y = add(a, ..)"),
     (HEAD + "  y = add(a, 1);\n}", "syntax", "line 2 column 14", "1", "arguments are names"),
     (HEAD + "  y = add(a, s);\n}", "kind", "line 2 column 14", "s", "add takes a word, a word and gives a word"),
     (HEAD + "  y = add(a);\n}", "kind", "line 2 column 12", ")", "too few arguments"),
-    (HEAD + "  y = add(a, b)\n}", "syntax", "line 3 column 1", "}", "what could stand there: `;`"),
-    (HEAD + "  a = add(a, b);\n}", "twice", "line 2 column 3", "a", "the names that stand: a, b, s, y"),
+    (HEAD + "  y = add(a, b)\n}", "syntax", "line 3 column 1", "}", "allowed here: `;`"),
+    (HEAD + "  a = add(a, b);\n}", "twice", "line 2 column 3", "a", "defined names: a, b, s, y"),
     (HEAD + "  t = add(a, b);\n}", "no_result", "line 3 column 1", "}", "assign it before"),
-    (HEAD + "  serial up () { y = xr(a, b); }\n}", "unknown", "line 2 column 22", "xr", "the nearest: xor"),
+    (HEAD + "  serial up () { y = xr(a, b); }\n}", "unknown", "line 2 column 22", "xr", "did you mean xor"),
     (HEAD + "  y = add(a, @);\n}", "lex", "line 2 column 14", "@", "no token begins with"),
-    ("op serial(a: word)", "bad_name", "line 1 column 4", "serial", "word of the language"),
+    ("op serial(a: word)", "bad_name", "line 1 column 4", "serial", "a reserved word"),
     ("op f(a: word, b: word, c: word, d: word, e: word)", "too_many", "line 1 column 42", "e", "at most 4 parameters"),
 )
 SCRIPTS = (
     ("add y, a, b, 4, 8", "syntax", "line 1 column 1", "add", "bbop_add Y, A, B, COUNT, N"),
     ("bbop_add y, a b, 4, 8", "syntax", "line 1 column 15", "b", "a comma"),
-    ("print a\nprint", "syntax", "line 2 column 6", "", "the form: print NAME"),
+    ("print a\nprint", "syntax", "line 2 column 6", "", "form: print NAME"),
     ("load a, -1", "lex", "line 1 column 9", "-", "at least 0"),
     ("bbop_trsp_init a, 0, 8", "bad_number", "line 1 column 19", "0", "is 1 to 4294967295"),
     ("bbop_add y, a, b, 4, 129", "bad_number", "line 1 column 22", "129", "is 1 to 128"),
@@ -51,11 +51,11 @@ SCRIPTS = (
 )
 QUERIES = (
     ("a >= 10", "syntax", "line 1 column 1", "a", "`a >= V` is `ge(a, V)`"),
-    ("and(ge(a, 10))", "syntax", "line 1 column 14", ")", "what could stand there: `,`"),
-    ("ge(10, a)", "syntax", "line 1 column 4", "10", "the name stands first"),
+    ("and(ge(a, 10))", "syntax", "line 1 column 14", ")", "allowed here: `,`"),
+    ("ge(10, a)", "syntax", "line 1 column 4", "10", "the name comes first"),
     ("ne(a, 1)", "syntax", "line 1 column 1", "ne", "eq, gt, ge, lt, le"),
     ("eq(a, b)", "syntax", "line 1 column 7", "b", "with a number"),
-    ("eq(a, 1) eq(b, 2)", "syntax", "line 1 column 10", "eq", "join two by"),
+    ("eq(a, 1) eq(b, 2)", "syntax", "line 1 column 10", "eq", "combine two with"),
     ("not(eq(a, 1)", "syntax", "line 1 column 13", "", "the end of the text"),
 )
 
@@ -86,7 +86,7 @@ class Texts(unittest.TestCase):
     def test_flips(self):
         table = Table(1, 64, 1, [])
         cases = (("1 0 0", "syntax", "four numbers"), ("1 0 0 64", "number", "COLUMN is 0 to 63"), ("9 0 0 0", "number", "1 to 4"),
-                 ("2 0 0 0\n1 0 0 0", "number", "not below the K"), ("1 0 0 0 0", "syntax", "four numbers"), ("1, 0", "syntax", "without commas"),
+                 ("2 0 0 0\n1 0 0 0", "number", "the K of the line before"), ("1 0 0 0 0", "syntax", "four numbers"), ("1, 0", "syntax", "without commas"),
                  ("1 1 0 0", "number", "BANK is 0 to 0"), ("@", "lex", "no token"))
         for text, kind, right in cases:
             answer = explain_flips("file", text.encode(), 3, table)
@@ -120,7 +120,7 @@ class Texts(unittest.TestCase):
             ("image", b"", "short", "the file is empty"), ("image", image[:100], "short", "the file has 100 bytes"),
             ("image", image[:4] + bytes([2]) + image[5:], "version", "the version is 2, and has to be 1"),
             ("image", image + b"0", "rest", "1 byte follows the last field"), ("image", b"op f", "magic", "the file holds text"),
-            ("image", image[:14 + 42] + image[14 + 18:14 + 20] + image[14 + 44:], "overlap", "each object has rows of its own"),
+            ("image", image[:14 + 42] + image[14 + 18:14 + 20] + image[14 + 44:], "overlap", "each object has its own adjacent rows"),
             ("program", program[:4] + bytes([7]) + program[5:], "version", "may be 1 to 2"),
             ("program", program[:35] + bytes([15]) + program[36:], "instruction", "kinds of instructions are 0 to 10"),
             ("program", program[:8] + bytes([17]) + program[9:], "directory", "may be 1 to 16"),
@@ -134,6 +134,39 @@ class Texts(unittest.TestCase):
             answer = first_fault(kind, "file", data)
             self.assertEqual(answer.kind, word, (kind, said))
             self.assertIn(said, " ".join(" ".join(answer.lines()).split()))
+
+    def test_an_illegal_row_and_its_rule(self):
+        program = bytes_in(str(TOP / "examples" / "exec" / "xor.hex"))
+        code = 8 + 27
+        for at, row, said in (
+            (1, (0, 8, 0), "row 1 is B8: B8 to B11 raise two wordlines, and only the second row may be one of them"),
+            (4, (1, 0, 0), "row 2 is C0, a constant; no command may write it"),
+            (4, (3, 1, 8), "row 2 is s1[0], a source; no command may write it"),
+            (1, (0, 16, 0), "row 1 is B address 16, counted from 0; the chip has 16 B addresses"),
+            (1, (3, 2, 8), "row 1 is source 2, counted from 0; xor has 2 sources"),
+            (4, (2, 1, 8), "row 2 is result 1, counted from 0; xor has 1 result"),
+            (4, (4, 0, 0), "row 2 is bit of scratch 0, counted from 0; xor has no bit of scratch"),
+            (4, (5, 0, 8), "row 2 is word of scratch 0, counted from 0; xor has no word of scratch"),
+            (4, (6, 32, 0), "row 2 is spill row 32, counted from 0; the chip has 32 spill rows"),
+            (1, (3, 0, 9), "row 1 has index 9; an index is 0 to 7 for a register, or 8 for the number 0"),
+            (4, (0, 8, 3), "row 2 is a B address with index byte 3; it takes no index, so the byte is 0"),
+            (4, (7, 0, 0), "row 2 is of space 7; spaces are 0 to 6"),
+        ):
+            data = program[:code + at] + bytes(row) + program[code + at + 3:]
+            answer = first_fault("program", "file", data)
+            self.assertEqual((answer.kind, answer.place, answer.rule), ("row", f"byte {code}", f"instruction 0 of xor, AAP: {said}"))
+
+    def test_an_illegal_operand_and_its_rule(self):
+        program = bytes_in(str(TOP / "examples" / "exec" / "xor.hex"))
+        code = 8 + 27
+        for raw, said in (
+            ((1, 8, 0, 0, 0, 0, 0, 0), "SETI, names register 8; registers are 0 to 7"),
+            ((4, 0, 9, 0, 0, 0, 0, 0), "MOV, names register 9; registers are 0 to 7"),
+            ((1, 0, 0, 4, 0, 0, 0, 0), "SETI, has the number 1024; numbers are 0 to 1023"),
+            ((2, 0, 0, 0, 0, 0, 0, 5), "SETN, has 5 in byte 7, which is not named there and has to be 0"),
+        ):
+            answer = first_fault("program", "file", program[:code] + bytes(raw) + program[code + 8:])
+            self.assertEqual((answer.kind, answer.rule), ("instruction", f"instruction 0 of xor, {said}"))
 
     def test_a_byte_that_is_not_ascii(self):
         for kind in ("ops", "script", "query"):
@@ -173,11 +206,11 @@ class Refusals(unittest.TestCase):
             subprocess.run([support.program(), "compile", ops, self.prog], check=True, capture_output=True)
             for script, kind, said in (
                 ("bbop_trsp_init c, 4, 20", "no_rows", "the longest free piece has 15; the last 32"),
-                ("bbop_trsp_init c, 4, 20", "no_rows", "with 69 rows to a bank it would go: this image has 64"),
-                ("bbop_ink y, a, a, 4, 8", "no_op", "the nearest: inc"),
+                ("bbop_trsp_init c, 4, 20", "no_rows", "it would fit with 69 rows per bank; this image has 64"),
+                ("bbop_ink y, a, a, 4, 8", "no_op", "did you mean inc"),
                 ("bbop_inc y, a, y, 4, 8", "overlap 2", "y is a destination and a source"),
                 ("bbop_inc y, a, s, 4, 8", "width 2", "s is 1 bits wide"),
-                ("bbop_inc y, a, aa, 4, 8", "no_object 2", "the nearest: a"),
+                ("bbop_inc y, a, aa, 4, 8", "no_object 2", "did you mean a"),
                 ("load a, 1, 2, 3, 256", "range 4", "hold 0 to 255"),
             ):
                 answer = self.found(script)[0]
@@ -186,7 +219,7 @@ class Refusals(unittest.TestCase):
 
     def test_queries(self):
         table = Table(1, 64, 1, [Object("category", 8, 0, 4), Object("b", 8, 8, 3)])
-        for query, kind, said in (("eq(categry, 1)", "no_object 0", "the nearest: category"), ("and(eq(category, 1), eq(b, 1))", "count 1", "3 elements"),
+        for query, kind, said in (("eq(categry, 1)", "no_object 0", "did you mean category"), ("and(eq(category, 1), eq(b, 1))", "count 1", "3 elements"),
                                   ("eq(category, 256)", "range 0", "0 to 255")):
             answer = query_refusals("file", query.encode(), table)[0]
             self.assertEqual(answer.kind, f"query refused {kind}")

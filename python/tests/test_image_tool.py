@@ -97,7 +97,7 @@ class Tool(unittest.TestCase):
         self.assertEqual(Image.load("m").file(), before)
 
     def test_words(self):
-        for text, said in (("make m 1x96", "1x96 is no BANKSxROWSxWORDS"), ("make m 1x96x1 a:8", "a:8 is no NAME"),
+        for text, said in (("make m 1x96", "1x96 is not BANKSxROWSxWORDS"), ("make m 1x96x1 a:8", "a:8 is no NAME"),
                            ("make m 1x96x1 a:8=1,-2", "value 1 of a is -2"), ("make m 0x96x1", "0x96x1: a chip has"),
                            ("make m 1x96x1 a:8=256", "value 0 of a is 256"), ("make m 1x96x1 a:65/1", "no_rows"),
                            ("make m 1x96x1 a:8/65", "too_large"), ("make m 1x96x1 a:8/1 a:8/1", "exists"),
@@ -112,8 +112,8 @@ class Tool(unittest.TestCase):
         self.did("make", "m", "1x96x1", "a:8/4")
         self.write("text", "1 2 3 4")
         before = Image.load("m").file()
-        for words, said in ((("make", "text", "1x96x1"), "text: an image is to be written there, and it holds text"),
-                            (("get", "m", "a", "m"), "m: numbers are to be written there, and it holds an image")):
+        for words, said in ((("make", "text", "1x96x1"), "text: an image is written there, but it holds text"),
+                            (("get", "m", "a", "m"), "m: numbers are written there, but it holds an image")):
             status, line = self.did(*words)
             self.assertEqual((status, line[:len(said) + 15]), (2, f"simdram image: {said}"))
         self.assertEqual(Image.load("m").file(), before)

@@ -1,8 +1,7 @@
-"""The launcher with a program: its streams and statuses, files that are not written over, settings, building."""
+"""The launcher with a program: its streams and statuses, its environment, files that are not overwritten."""
 
 import os
 import pathlib
-import shutil
 import signal
 import subprocess
 import sys
@@ -140,7 +139,7 @@ class NothingDestroyed(Folder):
             ended = self.call(command, *words, SIMDRAM_QUIET="")
             self.assertEqual(text(self.folder / f"{over}~"), before[over], command)
             kind = "program file" if command == "migrate" else "image"
-            self.assertIn(f"{over} held another {kind}, which is now {over}~", ended.stderr)
+            self.assertIn(f"{over} held another {kind}, which is kept as {over}~", ended.stderr)
             for name in self.files():
                 (self.folder / name).write_bytes(before[name]) if name in before else (self.folder / name).unlink()
 
@@ -165,7 +164,7 @@ class NothingDestroyed(Folder):
     def test_what_is_said(self):
         ended = self.call("run", "mac.bbop", "mac.ops", "mac.prog", "mac.img", "out.img")
         self.assertEqual((ended.returncode, ended.stdout), (2, ""))
-        self.assertIn("mac.ops is the second word of run, where a program file is written, and holds text", ended.stderr)
+        self.assertIn("mac.ops is the second argument of run, where a program file is written, but it holds text", ended.stderr)
         self.assertIn("OPS PROG SCRIPT IMAGE OUT", ended.stderr)
         self.assertEqual(self.call("init", "1", "64", "1", "mac.ops").returncode, 2)
 
@@ -177,114 +176,6 @@ class NothingDestroyed(Folder):
         self.assertEqual(self.call("compile", "mac.ops", "old", "--force").returncode, 0)
         self.assertEqual(self.call("compile", "mac.ops", "old").returncode, 0)
         self.assertEqual(text(self.folder / "old")[:4], b"SDMP")
-
-
-FAKE_RT = """#!/bin/sh
-# stands for the toolchain: notes what it is asked, and makes what a crate's proof makes
-echo "$(basename "$PWD") $1" >> "$ASKED"
-echo "fn a::b: proved"
-case "$1 $FAIL" in
-  "lib $(basename "$PWD")") echo "error: open goal"; exit 1 ;;
-esac
-if [ "$1" = run ]; then mkdir -p out; printf '#!/bin/sh\\necho ran "$@"\\n' > out/simdram; chmod +x out/simdram; fi
-"""
-
-
-class Building(unittest.TestCase):
-    """Building, with a stand-in for the toolchain."""
-
-    def setUp(self):
-        kept = tempfile.TemporaryDirectory()
-        self.addCleanup(kept.cleanup)
-        self.top = pathlib.Path(kept.name)
-        (self.top / "crates.txt").write_text("# crates\nlow:\nmid: low\nother:\nsimdram: mid low\n")
-        for crate in ("low", "mid", "other", "simdram"):
-            for folder in ("src", "specs", "proofs"):
-                (self.top / "crates" / crate / folder).mkdir(parents=True)
-                (self.top / "crates" / crate / folder / "file").write_text("text")
-        (self.top / "bin").mkdir()
-        (self.top / "bin" / "rt").write_text(FAKE_RT)
-        (self.top / "bin" / "rt").chmod(0o755)
-
-    def call(self, *words, **environment):
-        path = f"{self.top / 'bin'}:{os.environ['PATH']}"
-        return called(*words, environment={"SIMDRAM_HOME": str(self.top), "SIMDRAM_PROGRAM": "", "SIMDRAM_UNPROVED": "", "PATH": path,
-                                           "ASKED": str(self.top / "asked"), **environment})
-
-    def asked(self):
-        path = self.top / "asked"
-        lines = path.read_text().splitlines() if path.exists() else []
-        path.unlink(missing_ok=True)
-        return lines
-
-    def test_lowest_first_and_once(self):
-        ended = self.call("show", "a.ops")
-        self.assertEqual((ended.returncode, ended.stdout), (0, "ran show a.ops\n"), ended.stderr)
-        self.assertEqual(self.asked(), ["low lib", "mid lib", "simdram run"])
-        self.assertIn("proving mid, 2 of 3", ended.stderr)
-        self.assertEqual(self.call("show", "a.ops").stdout, "ran show a.ops\n")
-        self.assertEqual(self.asked(), [])
-
-    def test_a_newer_source_is_proved_again(self):
-        self.call("show", "a.ops")
-        self.asked()
-        later = time.time() + 5
-        os.utime(self.top / "crates" / "other" / "proofs" / "file", (later, later))
-        self.call("show", "a.ops")
-        self.assertEqual(self.asked(), ["low lib", "mid lib", "simdram run"])
-
-    def test_what_is_not_proved(self):
-        ended = self.call("show", "a.ops", FAIL="mid")
-        self.assertEqual((ended.returncode, ended.stdout), (125, ""))
-        self.assertIn("error: open goal", ended.stderr)
-        self.assertIn("mid is not proved", ended.stderr)
-
-    def test_no_toolchain(self):
-        bare = self.top / "none"
-        bare.mkdir()
-        os.symlink(shutil.which("env"), bare / "env")
-        ended = self.call("show", "a.ops", PATH=str(bare))
-        self.assertEqual(ended.returncode, 125)
-        self.assertEqual(len(ended.stderr.splitlines()), 1)
-        self.assertIn("README", ended.stderr)
-
-    def test_a_home_that_is_none(self):
-        ended = self.call("show", "a.ops", SIMDRAM_HOME=str(self.top / "bin"))
-        self.assertEqual(ended.returncode, 125)
-        self.assertIn("bin, which is no repository of SIMDRAM", ended.stderr)
-
-    def test_wrong_words_build_nothing(self):
-        self.assertEqual(self.call("show").returncode, 1)
-        self.assertEqual(self.asked(), [])
-
-
-class Unproved(Building):
-    """The program without proofs, which stands already here."""
-
-    def setUp(self):
-        super().setUp()
-        out = self.top / "crates" / "simdram" / "out"
-        out.mkdir()
-        (out / "unproved").write_text('#!/bin/sh\necho unproved "$@"\n')
-        (out / "unproved").chmod(0o755)
-
-    def test_each_way_to_say_it(self):
-        for words, more in ((["--unproved", "show", "a"], {}), (["show", "a", "--unproved"], {}), (["show", "a"], {"SIMDRAM_UNPROVED": "1"})):
-            self.assertEqual(self.call(*words, **more).stdout, "unproved show a\n", words)
-        (self.top / ".simdram").write_text("# mine\nunproved\n")
-        self.assertEqual(self.call("show", "a").stdout, "unproved show a\n")
-        (self.top / ".simdram").write_text("quick\n")
-        ended = self.call("show", "a")
-        self.assertEqual(ended.returncode, 125)
-        self.assertIn("line 1: quick is no setting", ended.stderr)
-
-    def test_the_warning_comes_once(self):
-        said = [self.call("show", "a", "--unproved", SIMDRAM_QUIET="").stderr.count("nothing was proved") for _ in range(3)]
-        self.assertEqual(said, [1, 0, 0])
-        self.assertNotIn("nothing", self.call("show", "a", "--unproved").stderr)
-
-    test_lowest_first_and_once = test_a_newer_source_is_proved_again = test_what_is_not_proved = None
-    test_no_toolchain = test_wrong_words_build_nothing = None
 
 
 if __name__ == "__main__":

@@ -36,20 +36,20 @@ class WrongWords(unittest.TestCase):
 
     def test_what_is_wrong(self):
         for words, said in (
-            (["run", "a"], "PROG and SCRIPT and IMAGE and OUT are missing"),
-            (["cost", "p", "8", "9"], "9 is one word too many"),
-            (["cost", "p", "129"], "1 to 128, and not 129"),
+            (["run", "a"], "PROG, SCRIPT, IMAGE and OUT are missing; run takes 5 arguments"),
+            (["cost", "p", "8", "9"], "9 is one argument too many; cost takes 2"),
+            (["cost", "p", "129"], "1 to 128; it cannot be 129"),
             (["cost", "p", "+8"], "in decimal digits"),
-            (["init", "1", "63", "1", "o"], "64 to 1006, and not 63"),
-            (["init", "16", "1006", "1024", "o"], "more than 8388608 words"),
+            (["init", "1", "63", "1", "o"], "64 to 1006; it cannot be 63"),
+            (["init", "16", "1006", "1024", "o"], "more than the 8388608 words"),
             (["soak", str(2**64)], "the seed"),
-            (["run", "a", "a", "s", "i", "o"], "OPS and PROG are one file, a"),
-            (["trace", "p", "s", "i", "o", "o"], "OUT and TRACE are one file"),
-            (["replay", "i", "i", "o"], "TRACE and IMAGE are one file"),
-            (["shwo", "a"], "no command shwo; the nearest: show"),
+            (["run", "a", "a", "s", "i", "o"], "OPS and PROG are the same file, a"),
+            (["trace", "p", "s", "i", "o", "o"], "OUT and TRACE are the same file"),
+            (["replay", "i", "i", "o"], "TRACE and IMAGE are the same file"),
+            (["shwo", "a"], "no command shwo; did you mean show?"),
             ([], "there is no command"),
             ([""], "there is no command ''"),
-            (["show", "no\udcff"], "'no\\udcff' is no word: words are UTF-8"),
+            (["show", "no\udcff"], "'no\\udcff' is not UTF-8"),
         ):
             self.assertIn(said, wrong_words(words) or "", words)
 
@@ -90,6 +90,13 @@ class Help(unittest.TestCase):
             self.assertEqual((ended.returncode, ended.stderr), (0, ""), words)
             self.assertTrue(ended.stdout)
 
+    def test_each_argument_and_its_page(self):
+        for command in PROGRAM:
+            lines = called("help", command.name).stdout.splitlines()
+            for word in command.words:
+                line = next(line for line in lines if line.split()[:1] == [word.name])
+                self.assertIn("docs/" if word.is_file else " to ", line, command.name)
+
     def test_names_all(self):
         said = called("help").stdout
         for command in ALL.values():
@@ -115,7 +122,7 @@ class Help(unittest.TestCase):
             ended = called("cost", "p", "0", environment={"SIMDRAM_HOME": name, "SIMDRAM_PROGRAM": ""})
             self.assertEqual((ended.returncode, ended.stdout), (1, "usage\n"))
             self.assertIn("1 to 128", ended.stderr)
-            self.assertIn("the form: simdram cost PROG N", ended.stderr)
+            self.assertIn("usage: simdram cost PROG N", ended.stderr)
 
 
 class Anywhere(unittest.TestCase):

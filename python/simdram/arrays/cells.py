@@ -44,18 +44,29 @@ def checked_width(bits: int) -> int:
     return bits
 
 
-def check_range(numbers: numpy.ndarray, bits: int) -> None:
+def check_range(numbers: numpy.ndarray, bits: int, signed: bool = False) -> None:
     """Refuses the first number that does not fit."""
     if numbers.dtype == bool or not numbers.size:
         return
-    if 0 <= int(numbers.min()) and int(numbers.max()) < 1 << bits:
+    least, past = (-(1 << bits - 1), 1 << bits - 1) if signed else (0, 1 << bits)
+    if least <= int(numbers.min()) and int(numbers.max()) < past:
         return
-    outside = numpy.array([not 0 <= int(number) < 1 << bits for number in numbers.ravel()])
+    outside = numpy.array([not least <= int(number) < past for number in numbers.ravel()])
     place = int(outside.argmax())
     index = ", ".join(map(str, numpy.unravel_index(place, numbers.shape)))
     said = f"the number at [{index}]" if index else "the number"
     hold = f"{bits} bits hold" if bits > 1 else "1 bit holds"
-    raise Refused("range", f"{said} is {int(numbers.ravel()[place])}, and {hold} 0 to {2**bits - 1}", place + 1)
+    number = int(numbers.ravel()[place])
+    more = "; signed=True places numbers below 0" if number < 0 and not signed else ""
+    raise Refused("range", f"{said} is {number}, and {hold} {least} to {past - 1}{more}", place + 1)
+
+
+def modulo(numbers: numpy.ndarray, bits: int) -> numpy.ndarray:
+    """The numbers modulo 2^bits, as unsigned numbers."""
+    if bits > 64 or numbers.dtype == object:
+        return numbers.astype(object) % (1 << bits)
+    size = columns.size_of(bits)
+    return numbers.astype(f"u{size}") & numpy.array((1 << bits) - 1, dtype=f"u{size}")
 
 
 def cells_of(numbers: numpy.ndarray, bits: int) -> bytes:
@@ -73,13 +84,22 @@ def cells_of(numbers: numpy.ndarray, bits: int) -> bytes:
 
 
 def array_of(cells: bytes, size: int, kind: str, shape: typing.Tuple[int, ...]) -> numpy.ndarray:
-    """The array of what cells hold: truth values, the least unsigned type, or Python's integers above 64 bits."""
+    """The array of what cells hold: truth values, the smallest unsigned type, or Python's integers above 64 bits."""
     if size > 8:
         numbers = numpy.empty(len(cells) // size, dtype=object)
         numbers[:] = columns.numbers_of(cells, size)
         return numbers.reshape(shape)
     numbers = numpy.frombuffer(cells, dtype=f"<u{size}").astype(bool if kind == BIT else f"u{size}")
     return numbers.reshape(shape)
+
+
+def as_signed(numbers: numpy.ndarray, bits: int) -> numpy.ndarray:
+    """Patterns of so many bits as the numbers that they are in two's complement."""
+    if numbers.dtype == object:
+        return numpy.where(numbers >> bits - 1, numbers - (1 << bits), numbers)
+    above = 8 * numbers.dtype.itemsize - bits
+    kind = f"i{numbers.dtype.itemsize}"
+    return (numbers << numpy.array(above, numbers.dtype)).view(kind) >> numpy.array(above, kind)
 
 
 def kind_of(numbers: numpy.ndarray, bits: int) -> str:

@@ -11,17 +11,20 @@ import numpy
 from ..files.image import Image, NoRoom
 from . import cells
 from .array import Array, constant
+from .costing import Cost, total
 from .cutting import STATEMENTS, cut
-from .expressions import Constant, Held, Value, merged
+from .expressions import Constant, Held, Value
 from .refusals import Refused
-from .running import HELP, Cost, Made, run
+from .running import HELP, Made, run
 from .scripting import Names, Scripts
+from .simplify import simplified
 
 
 class Chip:
     """A chip of so many banks of rows of 64-bit words, as `simdram init` makes one.
 
-    A bank holds 64 * words elements of an array, one in each column.
+    A bank holds 64 * words elements of an array, one in each column. `host_writes` and `host_reads` count the rows that the
+    host has written to place arrays and has read for `numpy()`, over all banks.
     """
 
     def __init__(self, banks: int = 1, rows: int = 1006, words: int = 64) -> None:
@@ -30,6 +33,7 @@ class Chip:
         except ValueError as fault:
             raise Refused("geometry", str(fault)) from None
         self.banks, self.rows, self.words = self.image.banks, self.image.rows, self.image.words
+        self.host_writes = self.host_reads = 0
         self._names = Names()
         self._gone: typing.List[str] = []
 
@@ -37,21 +41,24 @@ class Chip:
         shape = f"{self.banks} banks of {self.rows} rows of {self.words} words"
         return f"<simdram.Chip of {shape}, {len(self.image.objects)} objects>"
 
-    def array(self, data: typing.Any, bits: typing.Optional[int] = None) -> Array:
+    def array(self, data: typing.Any, bits: typing.Optional[int] = None, signed: bool = False) -> Array:
         """Whole numbers or truth values in the chip: an array of any shape, at a width of 1 to 128 bits.
 
-        Without `bits` the width is that of the array's type, and one bit for truth values. One number alone is a
-        constant.
+        Without `bits` the width is that of the array's type, and one bit for truth values. With `signed` numbers from
+        -2^(bits-1) on are placed, in two's complement. One number alone is a constant.
         """
         numbers = cells.as_array(data)
         width = cells.checked_width(cells.width_of(numbers) if bits is None else operator.index(bits))
-        cells.check_range(numbers, width)
+        signed = signed and numbers.dtype != bool
+        cells.check_range(numbers, width, signed)
         kind = cells.kind_of(numbers, width)
         if not numbers.shape:
-            return constant(self, int(numbers), kind, width)
+            return constant(self, int(numbers), kind, width, signed)
         name = self._placed(width, numbers.size)
-        self.image.set_cells(name, cells.cells_of(numbers, width))
-        return Array(self, numbers.shape, Value(kind, width, self._held(name)), Made())
+        patterns = cells.modulo(numbers, width) if signed else numbers
+        self.image.set_cells(name, cells.cells_of(patterns, width))
+        self.host_writes += width * self.image.banks_of(numbers.size)
+        return Array(self, numbers.shape, Value(kind, width, self._held(name)), Made(), signed)
 
     def _placed(self, width: int, count: int) -> str:
         """A new object at the least free rows."""
@@ -87,8 +94,11 @@ class Chip:
         self.made(array)
         origin = array.value.origin
         if isinstance(origin, Constant):
-            return cells.array_of_number(origin.number, array.bits, array.value.kind)
-        return cells.array_of(*self.image.cells(origin.name), array.value.kind, array.shape)
+            numbers = cells.array_of_number(origin.number, array.bits, array.value.kind)
+        else:
+            self.host_reads += array.bits * self.image.banks_of(array.size)
+            numbers = cells.array_of(*self.image.cells(origin.name), array.value.kind, array.shape)
+        return cells.as_signed(numbers, array.bits) if array.signed else numbers
 
     def compute(self, arrays: typing.Sequence[Array]) -> None:
         """Computes arrays of one shape together: as one op, where that has room for them."""
@@ -100,44 +110,61 @@ class Chip:
             self._compute(left, max(1, left[0].size))
 
     def _compute(self, arrays: typing.Sequence[Array], count: int) -> None:
-        """As few ops as there are rows for: each has rows of its own for its temporaries, which smaller ones share."""
+        """The arrays in the form that takes the fewest commands, or, where rows are few, the fewest temporaries."""
         self._sweep()
-        targets = merged([array.value for array in arrays])
+        for by_digits in (True, False):
+            targets = simplified([array.value for array in arrays], by_digits)
+            left = [(array, target) for array, target in zip(arrays, targets) if not settled(array, target)]
+            try:
+                if left:
+                    self._keep(left, *self._in_few_ops([target for _, target in left], count))
+                return
+            except Refused as refused:
+                if refused.word != "no_rows" or not by_digits:
+                    raise
+
+    def _in_few_ops(self, targets: typing.Sequence[Value], count: int) -> typing.Tuple[Scripts, Made]:
+        """As few ops as there are rows for: each has rows of its own for its temporaries, which smaller ones share."""
         statements = STATEMENTS
         while True:
             scripts = Scripts(cut(list(dict.fromkeys(targets)), statements), targets, count, self._names)
             try:
-                made = self._done(scripts)
-                break
+                return scripts, self._done(scripts)
             except Refused as refused:
                 if refused.word != "no_rows" or statements == 1:
                     raise
             statements = min(statements, scripts.longest) // 2 or 1
-        self._keep(arrays, targets, scripts, made)
 
     def _done(self, scripts: Scripts) -> Made:
         """Does scripts one after another, or none of them."""
         before, done = self.image, []
         try:
-            for script in scripts.scripts:
+            for script in filter(lambda one: one.lines, scripts.scripts):
                 done.append(run(script, self.image))
                 self.image = done[-1].image
         except BaseException:
             self.image = before
             raise
-        total = Cost(sum(one.cost.aap for one in done), sum(one.cost.ap for one in done))
+        cost = total([one.cost for one in done], self.image.banks_of(scripts.count))
         lines = "".join(f"{line}\n" for script in scripts.scripts for line in script.lines)
-        return Made("".join(scripts.texts), lines, "".join(one.report for one in done), total)
+        return Made("".join(scripts.texts), lines, "".join(one.report for one in done), cost)
 
-    def _keep(self, arrays: typing.Sequence[Array], targets: typing.Sequence[Value], scripts: Scripts,
-              made: Made) -> None:
+    def _keep(self, computed: typing.Sequence[typing.Tuple[Array, Value]], scripts: Scripts, made: Made) -> None:
         """The arrays are now what was computed for them; one of no dimensions becomes its number again."""
-        names = [scripts.object_of(target) for target in targets]
-        origins = {target.origin.name: target.origin for target in targets if isinstance(target.origin, Held)}
-        for array, name in zip(arrays, names):
+        origins = {target.origin.name: target.origin for _, target in computed if isinstance(target.origin, Held)}
+        for array, target in computed:
+            name = scripts.object_of(target)
             if name not in origins:
                 origins[name] = self._held(name)
             array.settle(origins[name] if array.shape else Constant(self.image.get(name)[0]), made)
+
+
+def settled(array: Array, target: Value) -> bool:
+    """Whether an array of no dimensions is a number that no command computes, which it is from now on."""
+    is_number = not array.shape and isinstance(target.origin, Constant)
+    if is_number:
+        array.settle(target.origin, Made())
+    return is_number
 
 
 def compute(*arrays: Array) -> None:

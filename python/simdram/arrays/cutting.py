@@ -41,6 +41,8 @@ def can_join(step: Step) -> bool:
 def cut(targets: typing.Sequence[Value], statements: int = STATEMENTS) -> typing.List[Part]:
     """The parts that give the targets, in an order in which they can be done, of at most so many statements each."""
     steps = in_order(targets)
+    if not steps:
+        return []
     wanted = {id(target) for target in targets}
     whole = Part(steps, wanted)
     return [whole] if whole.fits(statements) else list(Pieces(steps, wanted, statements))[::-1]

@@ -92,26 +92,3 @@ def in_order(targets: typing.Iterable[Value]) -> typing.List[Step]:
             one = waiting.pop()
             done.setdefault(id(one), one)
     return list(done.values())
-
-
-def merged(targets: typing.Sequence[Value]) -> typing.List[Value]:
-    """The same values, where equal steps and equal constants have become one."""
-    known: typing.Dict[tuple, typing.Union[Step, Value]] = {}
-    now: typing.Dict[int, Value] = {}
-
-    def of(value: Value) -> Value:
-        if isinstance(value.origin, Constant):
-            return known.setdefault((value.kind, value.bits, value.origin.number), value)
-        return now.get(id(value), value) if isinstance(value.origin, Result) else _held(known, value)
-
-    for one in in_order(targets):
-        arguments = tuple(map(of, one.arguments))
-        key = (one.operation.name, id(one.operation), one.width, *map(id, arguments))
-        kept = known.setdefault(key, Step(one.operation, arguments, one.width, [value.kind for value in one.results]))
-        now.update((id(value), kept.results[k]) for k, value in enumerate(one.results))
-    return [of(target) for target in targets]
-
-
-def _held(known: dict, value: Value) -> Value:
-    """The one value of an object."""
-    return known.setdefault(("held", value.origin.name), value)

@@ -4,13 +4,17 @@ from __future__ import annotations
 
 import typing
 
-from .array import Array, results_of
+from .array import Array
 from .operations import OPERATIONS
+from .operators import arrays_of, choice, compared, is_signed, results_of
 from .refusals import Refused
 
 
 def apply(name: str, *operands: typing.Any) -> typing.Union[Array, typing.Tuple[Array, ...]]:
-    """The result of a word operation by its name, such as `relu`; of `divmod` the two."""
+    """The result of a word operation by its name, such as `relu`; of `divmod` the two.
+
+    It is the operation of the language: `gt`, `min`, `div` and the like take the patterns of signed arrays as unsigned.
+    """
     if name not in OPERATIONS:
         raise Refused("unknown", f"no word operation is called {name}: there are {', '.join(sorted(OPERATIONS))}")
     results = results_of(name, *operands)
@@ -19,23 +23,30 @@ def apply(name: str, *operands: typing.Any) -> typing.Union[Array, typing.Tuple[
 
 def where(condition: typing.Any, first: typing.Any, second: typing.Any) -> Array:
     """The elements of the first where the condition holds, and else of the second."""
-    return apply("if_else", first, second, condition)
+    return choice(condition, first, second)
 
 
 def minimum(first: typing.Any, second: typing.Any) -> Array:
     """The lesser of each pair of elements."""
-    return apply("and" if _are_bits(first, second) else "min", first, second)
+    return extreme("and", "min", first, second)
 
 
 def maximum(first: typing.Any, second: typing.Any) -> Array:
     """The greater of each pair of elements."""
-    return apply("or" if _are_bits(first, second) else "max", first, second)
+    return extreme("or", "max", first, second)
+
+
+def extreme(of_bits: str, of_words: str, first: typing.Any, second: typing.Any) -> Array:
+    """The lesser or the greater: by a gate of truth values, by a comparison of signed arrays."""
+    if any(isinstance(one, Array) and one.is_bit for one in (first, second)):
+        return apply(of_bits, first, second)
+    first, second = arrays_of(OPERATIONS[of_words], (first, second))
+    if not is_signed(of_words, (first, second)):
+        return apply(of_words, first, second)
+    is_first_greater = compared("gt", first, second)
+    return choice(is_first_greater, *((first, second) if of_words == "max" else (second, first)))
 
 
 def bitcount(array: Array) -> Array:
-    """The number of ones of each element."""
-    return apply("bitcount", array)
-
-
-def _are_bits(*operands: typing.Any) -> bool:
-    return any(isinstance(one, Array) and one.is_bit for one in operands)
+    """The number of ones of each element, an unsigned number."""
+    return apply("bitcount", array).astype(signed=False)

@@ -2,11 +2,13 @@
 
 from __future__ import annotations
 
+import itertools
 import re
 import typing
 
+from . import blocks
 from .cutting import Part
-from .expressions import Value
+from .expressions import Step, Value
 
 PARAMETERS, RESULTS = "abcd", "yz"
 HEAD = re.compile(r"op (\w+)\(")
@@ -16,15 +18,21 @@ def text_of(name: str, part: Part) -> str:
     """The text, in its canonical form."""
     names = {id(value): letter for value, letter in zip(part.sources, PARAMETERS)}
     names.update((id(value), letter) for value, letter in zip(part.results, RESULTS))
-    given, lines = len(names), []
+    given, states, lines = len(names), map("s{}".format, itertools.count()), []
     for step in part.steps:
         for value in step.results:
             names.setdefault(id(value), f"t{len(names) - given}")
-        targets, arguments = (", ".join(names[id(value)] for value in values)
-                              for values in (step.results, step.arguments))
-        lines.append(f"  {targets} = {step.operation.name}({arguments});\n")
+        lines.append(f"  {_statement(step, names, states)}\n")
     takes, gives = (_listed(values, names) for values in (part.sources, part.results))
     return f"op {name}({takes}) -> {gives} {{\n{''.join(lines)}}}\n"
+
+
+def _statement(step: Step, names: typing.Dict[int, str], states: typing.Iterator[str]) -> str:
+    """A word statement, or the serial block of an operation that is one."""
+    targets, arguments = ([names[id(value)] for value in values] for values in (step.results, step.arguments))
+    if step.operation.block:
+        return blocks.statement(step.operation, targets[0], arguments, states.__next__)
+    return f"{', '.join(targets)} = {step.operation.name}({', '.join(arguments)});"
 
 
 def _listed(values: typing.Iterable[Value], names: typing.Dict[int, str]) -> str:

@@ -12,11 +12,12 @@ SAME = "same"
 
 
 class Operation(typing.NamedTuple):
-    """An operation: its name, and the kinds of its arguments and results."""
+    """An operation: its name, the kinds of its arguments and results, and its text where it is a serial block."""
 
     name: str
     takes: typing.Tuple[str, ...]
     gives: typing.Tuple[str, ...]
+    block: str = ""
 
 
 def _kinds(letters: str) -> typing.Tuple[str, ...]:

@@ -8,10 +8,13 @@ import typing
 
 from .. import run_program
 from ..files.image import Image
+from ..files.program import Entry, Program
 from ..files.store import load, store
+from .costing import Cost
 from .refusals import Refused, Stopped
 
 DONE = re.compile(r"(\d+) ok aap=(\d+) ap=(\d+)")
+TOTAL = re.compile(r"total aap=\d+ ap=\d+ writes=(\d+) reads=(\d+) refused=\d+")
 REFUSED = re.compile(r"(\d+) refused (\w+)(?: (\d+))?")
 OPS_MOST = 32
 # what helps against a refusal
@@ -20,20 +23,6 @@ HELP = {
     "table_full": "; a chip has at most 256 arrays at once: delete some",
     "too_large": "; a chip of more banks or words has more columns",
 }
-
-
-class Cost(typing.NamedTuple):
-    """Row commands, as the program counts them: over all banks together."""
-
-    aap: int = 0
-    ap: int = 0
-
-    def __str__(self) -> str:
-        return f"aap={self.aap} ap={self.ap}"
-
-    def plus(self, other: Cost) -> Cost:
-        """Both together."""
-        return Cost(self.aap + other.aap, self.ap + other.ap)
 
 
 class Made(typing.NamedTuple):
@@ -46,20 +35,27 @@ class Made(typing.NamedTuple):
 
 
 class Script:
-    """Operation texts and lines, in order."""
+    """Operation texts, a designer's own programs with their texts, and lines, in order."""
 
     def __init__(self) -> None:
         self.texts: typing.List[str] = []
+        self.programs: typing.List[str] = []
+        self.entries: typing.List[Entry] = []
         self.lines: typing.List[str] = []
 
     @property
     def counted(self) -> typing.List[int]:
         """The numbers, from 1, of the lines that compute: bbops and fills, not the making and freeing of objects."""
-        return [k for k, line in enumerate(self.lines, 1) if not line.startswith(("bbop_trsp_init ", "free "))]
+        return [k for k, line in enumerate(self.lines, 1) if computes(line)]
+
+
+def computes(line: str) -> bool:
+    """Whether a line computes: a bbop or a fill does, and the making and freeing of objects does not."""
+    return not line.startswith(("bbop_trsp_init ", "free "))
 
 
 class Done(typing.NamedTuple):
-    """A script that was done: the image after it, its report, and what its bbops and fills cost."""
+    """A script that was executed: the image after it, its report, and what its bbops and fills cost."""
 
     image: Image
     report: str
@@ -72,12 +68,28 @@ def run(script: Script, image: Image) -> Done:
         store(f"{folder}/ops", "".join(script.texts).encode())
         store(f"{folder}/script", "".join(f"{line}\n" for line in script.lines).encode())
         image.save(f"{folder}/image")
-        ended = run_program.run(["run", "ops", "prog", "script", "image", "out"], folder)
+        if script.entries:
+            store_program(script, folder)
+            words = ["exec", "prog", "script", "image", "out"]
+        else:
+            words = ["run", "ops", "prog", "script", "image", "out"]
+        ended = run_program.run(words, folder)
         if ended.status == 8:
             raise refusal(script, ended)
         if ended.status:
-            raise Stopped("run", ended)
-        return Done(Image.read(load(f"{folder}/out")), ended.out, cost(ended.out, script.counted))
+            raise Stopped(words[0], ended)
+        return Done(Image.read(load(f"{folder}/out")), ended.out, cost(ended.out, script.counted, image))
+
+
+def store_program(script: Script, folder: str) -> None:
+    """Stores the program of a script: its ops, compiled, and the designer's own programs."""
+    compiled: typing.List[Entry] = []
+    if script.texts:
+        ended = run_program.run(["compile", "ops", "prog"], folder)
+        if ended.status:
+            raise Stopped("compile", ended)
+        compiled = Program.load(f"{folder}/prog").entries
+    store(f"{folder}/prog", Program([*compiled, *script.entries]).file())
 
 
 def refusal(script: Script, ended: run_program.Ended) -> Refused:
@@ -90,10 +102,11 @@ def refusal(script: Script, ended: run_program.Ended) -> Refused:
     raise Stopped("run", ended)
 
 
-def cost(report: str, counted: typing.Iterable[int]) -> Cost:
-    """The row commands of these lines of a report."""
-    kept, total = set(counted), Cost()
-    for match in filter(None, map(DONE.fullmatch, report.splitlines())):
-        if int(match[1]) in kept:
-            total = total.plus(Cost(int(match[2]), int(match[3])))
-    return total
+def cost(report: str, counted: typing.Iterable[int], image: Image) -> Cost:
+    """The row commands of these lines of a report, over all banks, and the rows that the script's lines wrote and read."""
+    kept = set(counted)
+    done = [match for match in filter(None, map(DONE.fullmatch, report.splitlines())) if int(match[1]) in kept]
+    total = TOTAL.fullmatch(report.splitlines()[-1])
+    rows = image.banks * image.rows
+    return Cost(sum(int(match[2]) for match in done), sum(int(match[3]) for match in done),
+                host_writes=int(total[1]) - rows, host_reads=int(total[2]) - rows)

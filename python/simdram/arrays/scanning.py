@@ -16,8 +16,8 @@ from ..files.store import store
 from ..table import Table
 from .array import Array
 from .chip import Chip
+from .costing import Cost
 from .refusals import Refused, Stopped, last_line
-from .running import Cost
 
 COUNTED = re.compile(r"count (\d+) of (\d+) aap=(\d+) ap=(\d+)")
 REFUSED = re.compile(r"query refused (\w+) (\d+)")
@@ -53,7 +53,7 @@ def scan(chip: Chip, query: str, /, **arrays: typing.Any) -> Count:
     counted = COUNTED.fullmatch(last_line(ended.out))
     if ended.status == 0 and counted:
         count, elements, aap, ap = map(int, counted.groups())
-        return Count(count, elements, Cost(aap, ap))
+        return Count(count, elements, Cost(aap, ap, chip.image.banks_of(elements)))
     refused = REFUSED.fullmatch(last_line(ended.out))
     if refused:
         raise Refused(refused[1], refusal(query, image, placed if refused[1] in OF_NAMES else None), int(refused[2]))
@@ -71,6 +71,8 @@ def object_of(chip: Chip, name: str, array: Array) -> str:
     """The object of an array that a query calls by this name."""
     if not NAME.fullmatch(name.encode()):
         raise Refused("bad_name", f"{name} is no name of at most 16 letters, digits and _")
+    if array.signed:
+        raise TypeError(f"{name} is signed, and a query compares unsigned numbers")
     if array.chip is not chip:
         raise ValueError(f"{name} is an array of another chip")
     if not array.shape:

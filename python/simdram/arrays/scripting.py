@@ -3,11 +3,13 @@
 from __future__ import annotations
 
 import collections
+import dataclasses
 import typing
 
 from .cutting import Part, can_join
 from .expressions import Constant, Held, Value
 from .op_text import renamed, text_of
+from .own_programs import OwnProgram
 from .running import OPS_MOST, Script
 
 
@@ -47,8 +49,8 @@ class Scripts:
 
     @property
     def texts(self) -> typing.List[str]:
-        """The texts of all ops, each once."""
-        return list(dict.fromkeys(text for script in self.scripts for text in script.texts))
+        """The texts of all ops and programs, each once."""
+        return list(dict.fromkeys(text for script in self.scripts for text in [*script.texts, *script.programs]))
 
     def object_of(self, value: Value) -> str:
         """The object that holds a value; a constant is filled into a new one."""
@@ -92,12 +94,29 @@ class Scripts:
         if key not in self.ops:
             taken = self.ops.values()
             self.ops[key] = own.name if own and own.name not in taken else self._fresh(taken)
-        named = renamed(text, self.ops[key])
-        if named not in self.scripts[-1].texts:
-            if len(self.scripts[-1].texts) == OPS_MOST:
-                self.scripts.append(Script())
-            self.scripts[-1].texts.append(named)
+        if isinstance(own, OwnProgram):
+            self._add_program(own, self.ops[key])
+        else:
+            self._add_text(renamed(text, self.ops[key]))
         return self.ops[key]
+
+    def _add_text(self, text: str) -> None:
+        """The op of a text is one of the script's."""
+        if text not in self.scripts[-1].texts:
+            self._make_room()
+            self.scripts[-1].texts.append(text)
+
+    def _add_program(self, own: OwnProgram, name: str) -> None:
+        """A program is one of the script's, under a name."""
+        if all(entry.name != name for entry in self.scripts[-1].entries):
+            self._make_room()
+            self.scripts[-1].entries.append(dataclasses.replace(own.entry, name=name))
+            self.scripts[-1].programs.append(own.text)
+
+    def _make_room(self) -> None:
+        """A new script, where the one in hand has as many ops as a program file."""
+        if len(self.scripts[-1].texts) + len(self.scripts[-1].entries) == OPS_MOST:
+            self.scripts.append(Script())
 
     @staticmethod
     def _fresh(taken: typing.Collection[str]) -> str:

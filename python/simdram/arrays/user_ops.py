@@ -2,13 +2,21 @@
 
 from __future__ import annotations
 
+import functools
+import operator
+import os
 import re
 import tempfile
 import typing
 
 from .. import run_program
-from ..files.store import store
-from .array import Array, stepped
+from ..costs import EntryCost, costs_at
+from ..files.store import load, store
+from ..profile import Profile, profiles
+from ..settings import taken
+from .array import Array
+from .cells import checked_width
+from .operators import stepped
 from .refusals import Stopped
 
 HEAD = re.compile(r"^op (\w+)\((.*)\) -> (.*) \{$", re.MULTILINE)
@@ -18,11 +26,8 @@ class Op:
     """An op of the language, which takes and gives arrays; `text` is its canonical form."""
 
     def __init__(self, text: str) -> None:
-        self.text = canonical(text)
-        heads = HEAD.findall(self.text)
-        if len(heads) != 1:
-            raise ValueError(f"simdram.op takes the text of one op, and this has {len(heads)}")
-        self.name, takes, gives = heads[0]
+        self.text = text
+        self.name, takes, gives = HEAD.search(text).groups()
         self.takes, self.gives = ([one.split(": ")[1] for one in part.split(", ")] for part in (takes, gives))
 
     def __call__(self, *operands: typing.Any,
@@ -31,13 +36,63 @@ class Op:
         results = stepped(self, operands, bits)
         return results[0] if len(results) == 1 else results
 
+    def cost(self, bits: int) -> EntryCost:
+        """Its row commands in one bank at a width, and its rows of scratch."""
+        return self.costs([bits])[bits]
+
+    def costs(self, widths: typing.Iterable[int]) -> typing.Dict[int, EntryCost]:
+        """Its cost at each of these widths."""
+        asked = [checked_width(operator.index(bits)) for bits in widths]
+        with tempfile.TemporaryDirectory(prefix="simdram_") as folder:
+            path = os.path.join(folder, "prog")
+            store(path, self.program)
+            found = costs_at([path], asked, taken([])[0])
+        return {bits: found[path, bits][0] for bits in asked}
+
+    def profile(self, bits: int) -> Profile:
+        """Its row commands in one bank at a width, by statement and by loop."""
+        with tempfile.TemporaryDirectory(prefix="simdram_") as folder:
+            path, text = os.path.join(folder, "prog"), os.path.join(folder, "ops")
+            store(path, self.program)
+            store(text, self.text.encode())
+            return profiles(path, [checked_width(operator.index(bits))], taken([])[0], text)[0]
+
+    @functools.cached_property
+    def program(self) -> bytes:
+        """The program file that it is compiled to."""
+        with tempfile.TemporaryDirectory(prefix="simdram_") as folder:
+            store(f"{folder}/ops", self.text.encode())
+            ended = run_program.run(["compile", "ops", "prog"], folder)
+            if ended.status:
+                raise Stopped("compile", ended, "ops", self.text)
+            return load(f"{folder}/prog")
+
     def __repr__(self) -> str:
         return f"<simdram.Op {self.name}({', '.join(self.takes)}) -> {', '.join(self.gives)}>"
 
 
-def op(text: str) -> Op:
-    """The op of a text; a text that the program refuses is raised with its line and kind."""
-    return Op(text)
+def split(text: str) -> typing.List[Op]:
+    """The ops of a text in its canonical form."""
+    starts = [match.start() for match in HEAD.finditer(text)]
+    return [Op(text[start:end]) for start, end in zip(starts, [*starts[1:], len(text)])]
+
+
+def ops(text: str) -> typing.Dict[str, Op]:
+    """The ops of a text, by name and in its order; a text that the program refuses is raised with its line and kind."""
+    return {one.name: one for one in split(canonical(text))}
+
+
+def op(text: str, name: typing.Optional[str] = None) -> Op:
+    """The op of a text: the one of this name, or the only one."""
+    found = ops(text)
+    if name is None and len(found) == 1:
+        return next(iter(found.values()))
+    if name in found:
+        return found[name]
+    there = ", ".join(found) or "none"
+    if name is None:
+        raise ValueError(f"simdram.op takes name= where a text has not one op; this one has {there}")
+    raise ValueError(f"the text has no op {name}; it has {there}")
 
 
 def canonical(text: str) -> str:

@@ -116,6 +116,10 @@ class Image:
         """How many elements a bank has of an object."""
         return 64 * self.words
 
+    def banks_of(self, count: int) -> int:
+        """In how many banks so many elements stand."""
+        return -(-count // self.columns)
+
     def find(self, name: str) -> Object:
         """The object of this name."""
         for found in self.objects:
@@ -150,7 +154,7 @@ class Image:
         if base + width <= self.rows - SPILL_ROWS:
             return base
         longest = max(longest, self.rows - SPILL_ROWS - base)
-        raise NoRoom("no_rows", f"{name} needs {width} neighbouring rows, and the longest free piece has {longest}")
+        raise NoRoom("no_rows", f"{name} needs {width} adjacent rows, and the longest free piece has {longest}")
 
     def free(self, name: str) -> None:
         """Removes an object from the table, and leaves its rows."""
@@ -183,7 +187,7 @@ class Image:
         """Sets the object's elements, given as cells, and the columns past them to 0."""
         found = self.find(name)
         size = columns.size_of(found.width)
-        for bank in range(-(-found.count // self.columns)):
+        for bank in range(self.banks_of(found.count)):
             part = cells[size * bank * self.columns:size * (bank + 1) * self.columns]
             for k, row in enumerate(columns.rows_of(part, size, found.width)):
                 at = self.place(bank, found.base + k)

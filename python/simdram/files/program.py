@@ -5,21 +5,19 @@ from __future__ import annotations
 import dataclasses
 import typing
 
-from . import decode
 from .fields import Fields, name_field
+from .row_rules import (B_ADDRESS, BIT, C_ADDRESS, INDEXED, REGISTERS, RESULT, SOURCE, SPILL, SPILLS, WORD,  # for its readers too
+                        wrong_rows)
 from .store import load
 
 MAGIC = b"SDMP"
 ENTRIES, SOURCES, CODE, LARGEST = 32, (1, 4), (1, 65535), 1023
-REGISTERS, SPILLS = 8, 32
 NAMES = ("DONE", "SETI", "SETN", "SETT", "MOV", "ADD", "ADDI", "SUBI", "BNEZ", "AAP", "AP")
 DONE, SETI, SETN, SETT, MOV, ADD, ADDI, SUBI, BNEZ, AAP, AP = range(len(NAMES))
 # of each instruction, its operands: r a register in byte 1, s one in byte 2, k a number and t a target in bytes 2 and 3
 OPERANDS = ("", "rk", "r", "r", "rs", "rs", "rk", "rk", "rt", "xy", "x")
 # of each instruction, the bytes that are named
 NAMED = (1, 4, 2, 2, 3, 3, 4, 4, 4, 7, 4)
-B_ADDRESS, C_ADDRESS, RESULT, SOURCE, BIT, WORD, SPILL = range(7)
-INDEXED = (RESULT, SOURCE, WORD)
 
 
 class Row(typing.NamedTuple):
@@ -28,6 +26,11 @@ class Row(typing.NamedTuple):
     space: int
     which: int
     index: int
+
+    @property
+    def is_data(self) -> bool:
+        """Whether it is a row of an operand or of scratch, and no address of the designated or the constant rows."""
+        return self.space not in (B_ADDRESS, C_ADDRESS)
 
     @property
     def subscript(self) -> str:
@@ -181,34 +184,27 @@ def read_instruction(fields: Fields, head: Entry, count: int, at: int) -> Instru
     if raw[0] >= len(NAMES):
         raise fields.fault("instruction", f"{where} is of kind {raw[0]}")
     one = Instruction(raw[0], raw)
-    if not operands_fit(one):
-        raise fields.fault("instruction", f"{where}, {one.name}, has a register, number or byte out of range")
+    wrong = wrong_operand(one)
+    if wrong:
+        raise fields.fault("instruction", f"{where}, {one.name}, {wrong}")
     if one.kind == BNEZ and one.number >= count:
         raise fields.fault("target", f"{where} jumps to {one.number}, and the entry has {count} instructions")
-    wrong = next((row for row in one.rows if not row_fits(row, head)), None)
-    if wrong is not None or (one.rows and not places_fit(one.rows)):
-        raise fields.fault("row", f"{where}, {one.name}, has a row that does not stand or may not stand there")
+    wrong = wrong_rows(one.rows, head)
+    if wrong:
+        raise fields.fault("row", f"{where}, {one.name}: {wrong}")
     if at == count - 1 and one.kind != DONE:
         raise fields.fault("no_done", f"{where} is the last and not DONE")
     return one
 
 
-def operands_fit(one: Instruction) -> bool:
-    """Whether registers are below 8, a number is at most 1023, and the bytes that are not named are 0."""
+def wrong_operand(one: Instruction) -> typing.Optional[str]:
+    """What is wrong with the registers, the number or the unnamed bytes of an instruction, or nothing."""
     operands = OPERANDS[one.kind]
-    wide = "r" in operands and one.register >= REGISTERS or "s" in operands and one.other >= REGISTERS
-    return not (wide or "k" in operands and one.number > LARGEST or any(one.raw[NAMED[one.kind]:]))
-
-
-def row_fits(row: Row, head: Entry) -> bool:
-    """Whether the entry has this row."""
-    whiches = (decode.B_ADDRESSES, 2, len(head.results), len(head.sources), head.bits, head.words, SPILLS)
-    if row.space >= len(whiches) or row.which >= whiches[row.space]:
-        return False
-    return row.index <= (REGISTERS if row.space in INDEXED else 0)
-
-
-def places_fit(rows: typing.Sequence[Row]) -> bool:
-    """Whether the first row may be activated first, and the second written."""
-    first_fits = rows[0].space != B_ADDRESS or decode.legal_first("B", rows[0].which)
-    return first_fits and all(row.space not in (C_ADDRESS, SOURCE) for row in rows[1:])
+    for letter, register in (("r", one.register), ("s", one.other)):
+        if letter in operands and register >= REGISTERS:
+            return f"names register {register}; registers are 0 to {REGISTERS - 1}"
+    if "k" in operands and one.number > LARGEST:
+        return f"has the number {one.number}; numbers are 0 to {LARGEST}"
+    named = NAMED[one.kind]
+    spare = next((at for at in range(named, len(one.raw)) if one.raw[at]), None)
+    return None if spare is None else f"has {one.raw[spare]} in byte {spare}, which is not named there and has to be 0"

@@ -1,0 +1,229 @@
+"""The operators of arrays: what each makes of its operands, which are arrays, numbers, or arrays of NumPy."""
+
+from __future__ import annotations
+
+import operator
+import typing
+
+import numpy
+
+from . import expressions
+from .blocks import BLOCKS
+from .operations import BIT, OPERATIONS, WORD
+from .refusals import Refused
+
+
+class Operators:
+    """The operators, for a class that has `chip`, `shape`, `value`, `bits`, `is_bit`, `signed` and `of_value`."""
+
+    # NumPy's operators leave it to those of this class
+    __array_ufunc__ = None
+    __hash__ = object.__hash__
+
+    def __add__(self, other):
+        return binary("add", self, other)
+
+    def __sub__(self, other):
+        return binary("sub", self, other)
+
+    def __mul__(self, other):
+        return binary("mul", self, other)
+
+    def __and__(self, other):
+        return binary("and", self, other)
+
+    def __or__(self, other):
+        return binary("or", self, other)
+
+    def __xor__(self, other):
+        return binary("xor", self, other)
+
+    def __radd__(self, other):
+        return binary("add", other, self)
+
+    def __rsub__(self, other):
+        return binary("sub", other, self)
+
+    def __rmul__(self, other):
+        return binary("mul", other, self)
+
+    __rand__, __ror__, __rxor__ = __and__, __or__, __xor__
+
+    def __floordiv__(self, other):
+        return divided(self, other)[0]
+
+    def __mod__(self, other):
+        return divided(self, other)[1]
+
+    def __rfloordiv__(self, other):
+        return divided(other, self)[0]
+
+    def __rmod__(self, other):
+        return divided(other, self)[1]
+
+    def __divmod__(self, other):
+        return divided(self, other)
+
+    def __rdivmod__(self, other):
+        return divided(other, self)
+
+    def __invert__(self):
+        return results_of("not", self)[0]
+
+    def __neg__(self):
+        return block("negative", self)
+
+    def __pos__(self):
+        return self
+
+    def __abs__(self):
+        return results_of("abs", self)[0] if self.signed else self
+
+    def __lshift__(self, places):
+        return shifted("shl1", self, places)
+
+    def __rshift__(self, places):
+        return shifted_signed(self, places) if self.signed else shifted("shr1", self, places)
+
+    def __eq__(self, other):
+        return ~binary("xor", self, other) if self.is_bit else binary("eq", self, other)
+
+    def __ne__(self, other):
+        return binary("xor", self, other) if self.is_bit else ~binary("eq", self, other)
+
+    def __gt__(self, other):
+        return self & ~both(self, other)[1] if self.is_bit else compared("gt", self, other)
+
+    def __ge__(self, other):
+        return self | ~both(self, other)[1] if self.is_bit else compared("ge", self, other)
+
+    def __lt__(self, other):
+        return ~self & other if self.is_bit else compared("gt", other, self)
+
+    def __le__(self, other):
+        return ~self | other if self.is_bit else compared("ge", other, self)
+
+
+def binary(name: str, first: typing.Any, second: typing.Any) -> typing.Any:
+    """The one result of an operation on two arrays, or on an array and a number."""
+    return results_of(name, first, second)[0]
+
+
+def both(first: typing.Any, second: typing.Any) -> typing.List[typing.Any]:
+    """Two operands as arrays."""
+    return arrays_of(OPERATIONS["and"], (first, second))
+
+
+def block(name: str, *operands: typing.Any) -> typing.Any:
+    """The result of an operation that is a serial block."""
+    return stepped(BLOCKS[name], operands)[0]
+
+
+def compared(name: str, first: typing.Any, second: typing.Any) -> typing.Any:
+    """`gt` or `ge` of two arrays of words, in signed order where they are signed."""
+    arrays = arrays_of(OPERATIONS[name], (first, second))
+    return block(f"signed_{name}", *arrays) if is_signed(name, arrays) else binary(name, *arrays)
+
+
+def divided(first: typing.Any, second: typing.Any) -> typing.Tuple[typing.Any, ...]:
+    """Quotient and remainder; of signed arrays they are rounded as Python's, the remainder has the divisor's sign."""
+    arrays = arrays_of(OPERATIONS["divmod"], (first, second))
+    if not is_signed("divmod", arrays):
+        return results_of("divmod", *arrays)
+    dividend, divisor = arrays
+    is_opposite = block("sign", dividend) ^ block("sign", divisor)
+    quotient, rest = results_of("divmod", *(results_of("abs", one)[0] for one in arrays))
+    is_inexact = rest != 0
+    floor = choice(is_opposite & is_inexact, ~quotient, choice(is_opposite, -quotient, quotient))
+    least = choice(is_opposite & is_inexact, results_of("abs", divisor)[0] - rest, rest)
+    return floor, choice(block("sign", divisor), -least, least)
+
+
+def choice(condition: typing.Any, first: typing.Any, second: typing.Any) -> typing.Any:
+    """The elements of the first where the condition holds, and else of the second."""
+    return results_of("if_else", first, second, condition)[0]
+
+
+def shifted(name: str, array: typing.Any, places: typing.Any) -> typing.Any:
+    """An array after so many shifts by one place; nothing of it is left after as many as it has bits."""
+    count = places_of(places)
+    if count >= array.bits:
+        return array ^ array
+    for _ in range(count):
+        array = results_of(name, array)[0]
+    return array
+
+
+def shifted_signed(array: typing.Any, places: typing.Any) -> typing.Any:
+    """A signed array after a shift to the right, in which the top bit comes in again."""
+    count = min(places_of(places), array.bits)
+    if count < 2:
+        return block("signed_shr1", array) if count else array
+    came_in = array.chip.array((1 << count) - 1 << array.bits - count, bits=array.bits).astype(signed=True)
+    return shifted("shr1", array, count) | block("zero_unless", came_in, block("sign", array))
+
+
+def places_of(places: typing.Any) -> int:
+    """How many places a shift goes."""
+    count = operator.index(places)
+    if count < 0:
+        raise Refused("bad_number", f"a shift by {count} places")
+    return count
+
+
+def results_of(name: str, *operands: typing.Any) -> typing.Tuple[typing.Any, ...]:
+    """The results of a word operation, as arrays that are computed when they are looked at."""
+    return stepped(OPERATIONS[name], operands)
+
+
+def stepped(operation: typing.Any, operands: typing.Sequence[typing.Any],
+            bits: typing.Optional[int] = None) -> typing.Tuple[typing.Any, ...]:
+    """The results of an operation, which has `name`, `takes` and `gives`."""
+    arrays = arrays_of(operation, operands, bits)
+    made = expressions.step(operation, [array.value for array in arrays], bits)
+    shape, signed = shape_of(operation, arrays), is_signed(operation.name, arrays)
+    return tuple(arrays[0].of_value(shape, value, signed and value.kind == WORD) for value in made.results)
+
+
+def arrays_of(operation: typing.Any, operands: typing.Sequence[typing.Any],
+              bits: typing.Optional[int] = None) -> typing.List[typing.Any]:
+    """Operands as arrays of one chip: numbers become constants, and NumPy's arrays are placed."""
+    given = [one for one in operands if isinstance(one, Operators)]
+    if not given:
+        raise TypeError(f"{operation.name} takes an array of a chip, such as chip.array(x, bits=8)")
+    if any(one.chip is not given[0].chip for one in given):
+        raise ValueError(f"the arrays of {operation.name} are of different chips")
+    kinds = [*operation.takes, *[None] * len(operands)]
+    return [one if isinstance(one, Operators) else beside(given, one, kind, bits) for one, kind in zip(operands, kinds)]
+
+
+def beside(given: typing.Sequence[typing.Any], operand: typing.Any, kind: typing.Optional[str],
+           bits: typing.Optional[int]) -> typing.Any:
+    """A number or an array of NumPy as an operand beside arrays: of their width, and of the kind that is taken."""
+    words = [one for one in given if not one.is_bit]
+    numbers = numpy.asarray(operand)
+    is_bit = kind == BIT or kind != WORD and (not words or numbers.dtype == bool)
+    if is_bit and numbers.dtype != bool and numbers.size and 0 <= numbers.min() and numbers.max() <= 1:
+        numbers = numbers.astype(bool)
+    width = 1 if is_bit else bits or (words[0].bits if words else None)
+    is_word_signed = bool(words) and words[0].signed and not is_bit
+    return given[0].chip.array(numbers if numbers.dtype == bool else operand, bits=width, signed=is_word_signed)
+
+
+def is_signed(name: str, arrays: typing.Sequence[typing.Any]) -> bool:
+    """Whether the words among operands are signed, which all are or none."""
+    found = {array.signed for array in arrays if not array.is_bit}
+    if len(found) == 2:
+        raise TypeError(f"{name} of a signed and an unsigned array: astype(signed=True) reads one as signed")
+    return found == {True}
+
+
+def shape_of(operation: typing.Any, arrays: typing.Sequence[typing.Any]) -> typing.Tuple[int, ...]:
+    """The one shape of the operands; an array of no dimensions goes with any."""
+    shapes = [array.shape for array in arrays if array.shape]
+    first = len(operation.gives)
+    for k, array in enumerate(arrays, first):
+        if array.shape and array.shape != shapes[0]:
+            raise Refused("size", f"argument {k - first} of {operation.name} has shape {array.shape}, and others "
+                          f"{shapes[0]}", k)
+    return shapes[0] if shapes else ()

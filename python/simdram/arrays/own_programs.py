@@ -1,0 +1,83 @@
+"""Programs of a designer's own, in the text for microprograms, as functions of arrays (docs/MICROPROGRAMS.md)."""
+
+from __future__ import annotations
+
+import re
+import tempfile
+import typing
+import warnings
+
+from .. import run_program
+from ..assembler import TextFault, assemble
+from ..files.program import Program
+from ..files.store import store
+from ..verdicts import Verdict, verdicts_of
+from .array import Array
+from .operators import stepped
+from .op_text import renamed
+from .refusals import Stopped
+from .user_ops import canonical
+
+# the statuses under which `verify` has a line for each op
+VERIFIED = (0, 19, 20)
+OPS = re.compile(r"^op ", re.MULTILINE)
+
+
+class Unverified(UserWarning):
+    """A program is called at a width at which nothing says that it does what it should."""
+
+
+class OwnProgram:
+    """A program of a text, which takes and gives arrays; `entry` is what the program file has of it."""
+
+    def __init__(self, text: str) -> None:
+        if not isinstance(text, str):
+            raise TypeError(f"a program is a text, and not {type(text).__name__}")
+        try:
+            entries = assemble(text.encode()).entries
+        except TextFault as fault:
+            raise ValueError("\n".join(fault.answer("program", text.encode()).lines())) from None
+        if len(entries) != 1:
+            raise ValueError(f"simdram.program takes the text of one program, and this has {len(entries)}")
+        self.text, self.entry = text, entries[0]
+        self.name, self.takes, self.gives = self.entry.name, list(self.entry.sources), list(self.entry.results)
+        self.verdicts: typing.Dict[int, Verdict] = {}
+
+    def verify(self, op: str, bits: int) -> Verdict:
+        """Whether the program does an op at a width, for all numbers and whatever the cells of the chip hold."""
+        if not 1 <= bits <= 128:
+            raise ValueError(f"a program is verified at a width of 1 to 128, and not {bits}")
+        text = canonical(op)
+        if len(OPS.findall(text)) != 1:
+            raise ValueError("a program is verified against the text of one op")
+        with tempfile.TemporaryDirectory(prefix="simdram_") as folder:
+            store(f"{folder}/ops", renamed(text, self.name).encode())
+            store(f"{folder}/prog", Program([self.entry]).file())
+            ended = run_program.run(["verify", "ops", "prog", bits], folder)
+        if ended.status not in VERIFIED:
+            raise Stopped("verify", ended, "ops", text)
+        self.verdicts[bits] = verdicts_of(ended.out)[0]
+        return self.verdicts[bits]
+
+    def __call__(self, *operands: typing.Any,
+                 bits: typing.Optional[int] = None) -> typing.Union[Array, typing.Tuple[Array, ...]]:
+        """Its result, or its two; `bits` is the width where no operand is a word."""
+        results = stepped(self, operands, bits)
+        self._check(results[0].value.origin.step.width or 1)
+        return results[0] if len(results) == 1 else results
+
+    def _check(self, width: int) -> None:
+        """Warns where the program is not known to be right at this width."""
+        known = self.verdicts.get(width)
+        if not known:
+            said = f"is {known.kind}" if known is not None else "was never verified"
+            warnings.warn(f"{self.name} {said} at width {width}: {self.name}.verify(\"op ..\", {width}) says whether it is right",
+                          Unverified, stacklevel=3)
+
+    def __repr__(self) -> str:
+        return f"<simdram.OwnProgram {self.name}({', '.join(self.takes)}) -> {', '.join(self.gives)}>"
+
+
+def program(text: str) -> OwnProgram:
+    """The program of a text; a text at fault is raised with its line and column."""
+    return OwnProgram(text)

@@ -1,0 +1,79 @@
+"""Where the row commands of a computed array went: by op, by instruction of its script, and by statement of its ops."""
+
+from __future__ import annotations
+
+import dataclasses
+import typing
+
+from ..profile import Row, table
+from .costing import Cost
+from .running import DONE, Made, computes
+from .user_ops import split
+
+HEAD = ("share", "commands", "aap", "ap", "times")
+
+
+@dataclasses.dataclass(frozen=True)
+class ScriptProfile:
+    """The row commands of a script's bbops and fills, over all banks: their sum is `cost`.
+
+    `ops` has a row for each op and one for the fills, `instructions` one for each line, and `statements` one for each
+    statement of each op. A row has `what`, `aap`, `ap`, `commands` and `times`, the number of instructions.
+    """
+
+    cost: Cost
+    ops: typing.Tuple[Row, ...] = ()
+    instructions: typing.Tuple[Row, ...] = ()
+    statements: typing.Tuple[Row, ...] = ()
+
+    def __str__(self) -> str:
+        lines = [f"{self.cost.commands} commands, {self.cost}"]
+        for what, rows in (("op", self.ops), ("instruction", self.instructions), ("statement", self.statements)):
+            lines += table([*HEAD, what], rows, self.cost.commands) if rows else []
+        return "\n".join(lines)
+
+
+def profile(made: Made) -> ScriptProfile:
+    """The profile of how an array was computed."""
+    instructions = counted(made)
+    return ScriptProfile(made.cost, summed((op_of(row.what), row) for row in instructions), tuple(instructions),
+                         by_statement(made, instructions))
+
+
+def counted(made: Made) -> typing.List[Row]:
+    """The lines that compute, each with what the report says of it."""
+    reported = [line for line in made.report.splitlines() if not line.startswith("total ")]
+    rows = []
+    for line, report in zip(made.script.splitlines(), reported):
+        match = DONE.fullmatch(report)
+        if match and computes(line):
+            rows.append(Row(line, int(match[2]), int(match[3]), 1))
+    return rows
+
+
+def op_of(line: str) -> str:
+    """The op of a bbop, or `fill`."""
+    return line.split()[0].replace("bbop_", "", 1)
+
+
+def summed(pairs: typing.Iterable[typing.Tuple[str, Row]]) -> typing.Tuple[Row, ...]:
+    """The sums of rows of one name."""
+    found: typing.Dict[str, Row] = {}
+    for name, row in pairs:
+        before = found.get(name, Row(name, 0, 0))
+        found[name] = Row(name, before.aap + row.aap, before.ap + row.ap, before.times + row.times)
+    return tuple(found.values())
+
+
+def by_statement(made: Made, instructions: typing.Sequence[Row]) -> typing.Tuple[Row, ...]:
+    """The rows of the ops' statements: what each takes in one bank, as often as the op was executed in one."""
+    ops = {one.name: one for one in split(made.text)}
+    done = [(op_of(row.what), int(row.what.rpartition(",")[2]), row) for row in instructions if row.what.startswith("bbop_")]
+    rows: typing.List[Row] = []
+    for name, bits in dict.fromkeys((name, bits) for name, bits, _ in done):
+        found = ops[name].profile(bits)
+        own = [row for other, width, row in done if (other, width) == (name, bits)]
+        # over all bbops of the op and over all their banks
+        times = sum(row.commands for row in own) // max(found.cost.commands, 1)
+        rows += [Row(f"{name} at {bits} bits, {row.what}", times * row.aap, times * row.ap, len(own)) for row in found.statements]
+    return tuple(rows)

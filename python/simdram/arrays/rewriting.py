@@ -1,0 +1,231 @@
+"""The rules by which an operation becomes a simpler one: where an argument is a constant, or two are equal or opposite.
+
+A rule takes the builder and the operation's arguments, and gives its result or results, or None where it says nothing.
+Of a commutative operation a constant is the last argument. Not all arguments are constants.
+"""
+
+from __future__ import annotations
+
+import typing
+
+from .expressions import Value
+from .matching import are_opposite, arguments_of, is_ones, number_of, other_of, under
+from .operations import BIT, OPERATIONS
+from .products import product
+
+COMMUTATIVE = ("add", "mul", "and", "or", "xor", "eq", "min", "max")
+
+
+def with_number(b, name: str, x: Value, y: Value) -> typing.Optional[Value]:
+    """Of an operation on a constant and on a result of the same operation on a constant, one operation on both numbers."""
+    inner = arguments_of(name, x)
+    if inner and number_of(y) is not None and number_of(inner[1]) is not None:
+        return b.do(name, inner[0], b.do("add" if name == "sub" else name, inner[1], y))
+    return None
+
+
+def add(b, x, y):
+    if number_of(y) == 0:
+        return x
+    if x is y:
+        return b.do("shl1", x)
+    for first, second in ((x, y), (y, x)):
+        if under("negative", second) is not None:
+            return b.do("sub", first, under("negative", second))
+        if arguments_of("sub", second)[1:] == (first,):
+            return under("sub", second)
+    # a difference takes fewer commands than a sum
+    return b.do("sub", x, b.like(y, -number_of(y))) if number_of(y) is not None else None
+
+
+def sub(b, x, y):
+    if number_of(y) == 0:
+        return x
+    if x is y:
+        return b.like(x, 0)
+    if is_ones(x):
+        return b.do("not", y)
+    if under("negative", y) is not None:
+        return b.do("add", x, under("negative", y))
+    if number_of(x) == 0:
+        return b.do("negative", y)
+    return cancelled(b, x, y) or with_number(b, "sub", x, y)
+
+
+def cancelled(b, x, y):
+    """A difference in which a summand goes away."""
+    if other_of("add", x, y) is not None:
+        return other_of("add", x, y)
+    if other_of("add", y, x) is not None:
+        return b.do("negative", other_of("add", y, x))
+    if under("sub", y) is x:
+        return arguments_of("sub", y)[1]
+    return b.do("negative", arguments_of("sub", x)[1]) if under("sub", x) is y else None
+
+
+def mul(b, x, y):
+    return product(b, x, number_of(y)) if number_of(y) is not None else None
+
+
+def shifted_down(b, x, places):
+    for _ in range(places):
+        x = b.do("shr1", x)
+    return x
+
+
+def div_and_rem(b, x, y):
+    by = number_of(y)
+    if by == 0:
+        return b.like(x, -1), x
+    if by is not None and by & by - 1 == 0:
+        return shifted_down(b, x, by.bit_length() - 1), b.do("and", x, b.like(x, by - 1))
+    if x is y or number_of(x) == 0:
+        return b.step(OPERATIONS["divmod"], (x, y), x.bits)[0], b.like(x, 0)
+    return None
+
+
+def div(b, x, y):
+    return b.do("divmod", x, y)
+
+
+def rem(b, x, y):
+    return b.results(OPERATIONS["divmod"], (x, y), x.bits)[1]
+
+
+def and_(b, x, y):
+    if x is y or is_ones(y):
+        return x
+    if number_of(y) == 0 or are_opposite(x, y):
+        return b.like(x, 0)
+    return absorbed("and", "or", x, y) or with_number(b, "and", x, y)
+
+
+def or_(b, x, y):
+    if x is y or number_of(y) == 0:
+        return x
+    if is_ones(y) or are_opposite(x, y):
+        return b.like(x, -1)
+    return absorbed("or", "and", x, y) or with_number(b, "or", x, y)
+
+
+def absorbed(name: str, dual: str, x: Value, y: Value) -> typing.Optional[Value]:
+    """`and` of x and of `and` or `or` of x and another, and the same of `or`."""
+    for first, second in ((x, y), (y, x)):
+        if other_of(name, second, first) is not None:
+            return second
+        if other_of(dual, second, first) is not None:
+            return first
+    return None
+
+
+def xor(b, x, y):
+    if x is y:
+        return b.like(x, 0)
+    if are_opposite(x, y):
+        return b.like(x, -1)
+    if number_of(y) == 0:
+        return x
+    if is_ones(y):
+        return b.do("not", x)
+    return other_of("xor", x, y) or other_of("xor", y, x) or with_number(b, "xor", x, y)
+
+
+def not_(_b, x):
+    return under("not", x)
+
+
+def negative(_b, x):
+    return under("negative", x)
+
+
+def eq(b, x, y):
+    if x is y:
+        return b.bit(1)
+    if number_of(y) == 0:
+        return b.do("not", b.do("or_red", x))
+    return b.do("and_red", x) if is_ones(y) else None
+
+
+def gt(b, x, y):
+    if x is y or is_ones(y) or number_of(x) == 0:
+        return b.bit(0)
+    if number_of(y) == 0:
+        return b.do("or_red", x)
+    return b.do("not", b.do("and_red", y)) if is_ones(x) else None
+
+
+def ge(b, x, y):
+    if x is y or is_ones(x) or number_of(y) == 0:
+        return b.bit(1)
+    if number_of(x) == 0:
+        return b.do("not", b.do("or_red", y))
+    return b.do("and_red", x) if is_ones(y) else None
+
+
+def signed_gt(b, x, y):
+    least = 1 << x.bits - 1
+    if x is y or number_of(x) == least or number_of(y) == least - 1:
+        return b.bit(0)
+    return b.do("sign", y) if number_of(x) == 0 else None
+
+
+def signed_ge(b, x, y):
+    least = 1 << x.bits - 1
+    if x is y or number_of(y) == least or number_of(x) == least - 1:
+        return b.bit(1)
+    return b.do("not", b.do("sign", x)) if number_of(y) == 0 else None
+
+
+def if_else(b, x, y, condition):
+    if x is y or number_of(condition) is not None:
+        return x if x is y or number_of(condition) else y
+    if under("not", condition) is not None:
+        return b.do("if_else", y, x, under("not", condition))
+    return if_else_of_bits(b, x, y, condition) if x.kind == BIT else if_else_of_words(b, x, y, condition)
+
+
+def if_else_of_bits(b, x, y, condition):
+    if number_of(x) is not None and number_of(y) is not None:
+        return condition if number_of(x) else b.do("not", condition)
+    if number_of(x) is not None:
+        return b.do("or", condition, y) if number_of(x) else b.do("and", b.do("not", condition), y)
+    if number_of(y) is not None:
+        return b.do("or", b.do("not", condition), x) if number_of(y) else b.do("and", condition, x)
+    return None
+
+
+def if_else_of_words(b, x, y, condition):
+    if number_of(y) == 0:
+        return b.do("zero_unless", x, condition)
+    return b.do("zero_if", y, condition) if number_of(x) == 0 else None
+
+
+def zero_unless(b, x, condition):
+    if number_of(condition) is not None:
+        return x if number_of(condition) else b.like(x, 0)
+    return x if number_of(x) == 0 else None
+
+
+def zero_if(b, x, condition):
+    if number_of(condition) is not None:
+        return b.like(x, 0) if number_of(condition) else x
+    return x if number_of(x) == 0 else None
+
+
+def least(_b, x, y):
+    if x is y or is_ones(y):
+        return x
+    return y if number_of(y) == 0 else None
+
+
+def greatest(_b, x, y):
+    if x is y or number_of(y) == 0:
+        return x
+    return y if is_ones(y) else None
+
+
+RULES: typing.Dict[str, typing.Callable] = {
+    "add": add, "sub": sub, "mul": mul, "div": div, "rem": rem, "divmod": div_and_rem, "and": and_, "or": or_, "xor": xor,
+    "not": not_, "copy": lambda _b, x: x, "eq": eq, "gt": gt, "ge": ge, "signed_gt": signed_gt, "signed_ge": signed_ge,
+    "if_else": if_else, "zero_unless": zero_unless, "zero_if": zero_if, "negative": negative, "min": least, "max": greatest,
+}

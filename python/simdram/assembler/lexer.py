@@ -1,0 +1,91 @@
+"""The tokens of a text for microprograms: as those of an operation text, with more symbols, and the ends of lines."""
+
+from __future__ import annotations
+
+import re
+
+from ..tokens import END, NAME, NUMBER, STRANGER, SYMBOL, Token, no_token
+from .fault import TextFault
+
+NEWLINE = "newline"
+ITEM = re.compile(rb"(?P<gap>[ \t\r]+|#[^\n]*)|(?P<newline>\n)|(?P<name>[A-Za-z_][A-Za-z0-9_]*)|(?P<number>[0-9]+)"
+                  rb"|(?P<symbol>->|\.\.|==|!=|[(){}\[\],;:=+\-*~])|(?P<stranger>.)", re.DOTALL)
+
+
+def tokens(data: bytes) -> list[Token]:
+    """The tokens of a text, and its end; a byte that starts none is a fault."""
+    found = []
+    for match in ITEM.finditer(data):
+        kind = match.lastgroup
+        if kind == "gap":
+            continue
+        token = Token(kind, match.group().decode("ascii", "backslashreplace"), match.start())
+        if kind == STRANGER:
+            raise TextFault(token, "lex", no_token(token))
+        found.append(token)
+    return [*found, Token(END, "", len(data))]
+
+
+class Tokens:
+    """The tokens of a text that are left."""
+
+    def __init__(self, data: bytes) -> None:
+        self.found, self.at = tokens(data), 0
+
+    @property
+    def here(self) -> Token:
+        """The next token."""
+        return self.found[self.at]
+
+    def next(self) -> Token:
+        """Takes a token."""
+        token = self.here
+        self.at += token.kind != END
+        return token
+
+    def is_at(self, *texts: str) -> bool:
+        """Whether the next token is a symbol or a name with one of these texts."""
+        return self.here.kind in (SYMBOL, NAME) and self.here.text in texts
+
+    def took(self, text: str) -> bool:
+        """Takes the next token if it is this one."""
+        is_it = self.is_at(text)
+        if is_it:
+            self.next()
+        return is_it
+
+    def expect(self, text: str, after: str) -> Token:
+        """Takes this token, which has to come."""
+        if not self.is_at(text):
+            raise TextFault(self.here, "syntax", f"{said(self.here)} stands where `{text}` is expected{after}")
+        return self.next()
+
+    def of_kind(self, kind: str, what: str) -> Token:
+        """Takes a token of a kind, which has to come."""
+        if self.here.kind != kind:
+            raise TextFault(self.here, "syntax", f"{said(self.here)} stands where {what} is expected")
+        return self.next()
+
+    def name(self, what: str) -> Token:
+        """Takes a name."""
+        return self.of_kind(NAME, what)
+
+    def number(self, what: str) -> Token:
+        """Takes a number."""
+        return self.of_kind(NUMBER, what)
+
+    def at_line_end(self) -> bool:
+        """Whether a statement ends here."""
+        return self.here.kind in (NEWLINE, END) or self.is_at(";", "}")
+
+    def skip_lines(self) -> None:
+        """Takes the ends of statements."""
+        while self.here.kind == NEWLINE or self.is_at(";"):
+            self.next()
+
+
+def said(token: Token) -> str:
+    """A token as a fault names it."""
+    if token.kind == END:
+        return "the end of the text"
+    return "the end of the line" if token.kind == NEWLINE else f"`{token.text}`"

@@ -1,0 +1,95 @@
+"""The names of a program: those of its head, and those that a listing gives every row."""
+
+from __future__ import annotations
+
+import re
+import typing
+
+from ..files.fields import NAME_BYTES
+from ..files.row_rules import BIT, REGISTERS, RESULT, SOURCE, SPILL, SPILLS, WORD
+from ..tokens import Token
+from .cells import NAMES as CELLS
+from .fault import TextFault
+from .tree import Head
+
+REGISTER = re.compile("r([0-9]+)")
+LISTED = re.compile("([stwpBC])([0-9]+)")
+RESULTS = ("y", "z")
+SPACES = {"s": SOURCE, "t": BIT, "w": WORD, "p": SPILL}
+WORDS = ("n", "for", "in", "if", "else", "next", "program", "scratch", "entry", "version", "word", "bit",
+         "DONE", "SETI", "SETN", "SETT", "MOV", "ADD", "ADDI", "SUBI", "BNEZ", "AAP", "AP", "JMP")
+KINDS = ("word", "bit")
+
+
+class Named(typing.NamedTuple):
+    """What a name means: a space, which row of it, and its kind."""
+
+    space: int
+    which: int
+    kind: str
+
+
+def listed(name: str) -> typing.Optional[typing.Tuple[int, int]]:
+    """The space and which row of it a name of a listing means."""
+    if name in RESULTS:
+        return RESULT, RESULTS.index(name)
+    match = LISTED.fullmatch(name)
+    return (SPACES[match[1]], int(match[2])) if match and match[1] in SPACES else None
+
+
+def register_of(name: str) -> typing.Optional[int]:
+    """The number of a register's name."""
+    match = REGISTER.fullmatch(name)
+    return int(match[1]) if match else None
+
+
+def check_name(token: Token, what: str) -> None:
+    """Refuses a name that is too long, or that means something else already."""
+    if len(token.text) > NAME_BYTES:
+        raise TextFault(token, "name", f"{what} has {len(token.text)} bytes", f"a name has at most {NAME_BYTES}")
+    match = LISTED.fullmatch(token.text)
+    is_cell = token.text in CELLS or bool(match and match[1] in "BCp")
+    if token.text in WORDS or is_cell or register_of(token.text) is not None:
+        means = "a word of the text" if token.text in WORDS else "a cell, an address, a spill row or a register"
+        raise TextFault(token, "name", f"`{token.text}` is {means}, and cannot be the name of {what}", "take another name")
+
+
+class Names:
+    """The rows that a program may name."""
+
+    def __init__(self, head: Head) -> None:
+        self.head, self.known = head, {}
+        for space, kinds in ((SOURCE, head.sources), (RESULT, head.results)):
+            for which, (name, kind) in enumerate(kinds.items()):
+                self.known[name] = Named(space, which, kind)
+        for space, kind, names in ((BIT, "bit", head.bits), (WORD, "word", head.words)):
+            self.known.update({name: Named(space, which, kind) for which, name in enumerate(names)})
+
+    def find(self, token: Token) -> Named:
+        """What a name means: an operand, scratch, or a row by its name in a listing."""
+        if token.text in self.known:
+            return self.known[token.text]
+        place = listed(token.text)
+        if place is None:
+            raise TextFault(token, "name", f"there is no row `{token.text}`", f"the rows are {self.said()}, and the cells "
+                            f"{', '.join(CELLS)}", "scratch is declared below the head, as `scratch c: bit, w: word`")
+        space, which = place
+        kinds = {SOURCE: list(self.head.sources.values()), RESULT: list(self.head.results.values()),
+                 BIT: ["bit"] * len(self.head.bits), WORD: ["word"] * len(self.head.words), SPILL: ["bit"] * SPILLS}[space]
+        if which >= len(kinds):
+            raise TextFault(token, "name", f"there is no row `{token.text}`", f"the rows are {self.said()}")
+        return Named(space, which, kinds[which])
+
+    def said(self) -> str:
+        """The names of the head, with their kinds."""
+        return ", ".join(f"{name} ({one.kind})" for name, one in self.known.items())
+
+
+def check_register(token: Token) -> int:
+    """The number of a register, of which there are eight."""
+    number = register_of(token.text)
+    if number is None:
+        raise TextFault(token, "register", f"`{token.text}` stands where a register is expected", "the registers are r0 to r7")
+    if number >= REGISTERS:
+        raise TextFault(token, "register", f"there is no register {token.text}", "the registers are r0 to r7")
+    return number

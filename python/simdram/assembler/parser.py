@@ -1,0 +1,200 @@
+"""From a text to its tree: programs, statements, loops."""
+
+from __future__ import annotations
+
+import typing
+
+from ..files.program import AAP, AP, BNEZ, ENTRIES, LARGEST, NAMES as INSTRUCTIONS, OPERANDS
+from ..tokens import END, NAME, NUMBER, Token
+from .fault import TextFault
+from .heads import read_entry, read_head
+from .lexer import Tokens, said
+from .names import Names, check_name, check_register, listed
+from .rows import check_places, read_form, read_row
+from .tree import Command, For, If, Jump, Label, Next, Numbered, Plain, ProgramText, Text
+
+STATEMENTS = "an instruction, `for`, `if`, `next`, `JMP` or a label"
+
+
+def parsed(data: bytes) -> Text:
+    """The tree of a text; the first fault is raised."""
+    tokens, text = Tokens(data), Text([])
+    tokens.skip_lines()
+    if tokens.took("version"):
+        token = tokens.number("1 or 2")
+        if token.text not in ("1", "2"):
+            raise TextFault(token, "number", f"there is no version {token.text} of program files", "`version 1` or `version 2`")
+        text.version = int(token.text)
+        tokens.skip_lines()
+    while tokens.here.kind != END:
+        token = tokens.expect("program", ", as in `program xor(a: word, b: word) -> y: word`")
+        if len(text.programs) == ENTRIES:
+            raise TextFault(token, "head", f"this is program {ENTRIES + 1} of the text", f"a program file has at most {ENTRIES}")
+        text.programs.append(Reader(tokens, {one.head.name for one in text.programs}).program())
+        if text.version == 1 and len(text.programs[-1].head.results) == 2:
+            raise TextFault(token, "head", "a program of two results has no file of version 1", "leave out `version 1`")
+    return text
+
+
+class Reader:
+    """Reads one program."""
+
+    def __init__(self, tokens: Tokens, earlier: set[str]) -> None:
+        self.tokens = tokens
+        self.head = read_head(tokens, earlier)
+        self.code = read_entry(tokens, self.head) if tokens.took("entry") else None
+        self.names = Names(self.head)
+        self.loops: list[str] = []
+        self.labels: set[str] = set()
+
+    def program(self) -> ProgramText:
+        """The program."""
+        body: list[typing.Any] = []
+        self.tokens.skip_lines()
+        while self.tokens.here.kind != END and not self.tokens.is_at("program"):
+            self.statement(body)
+        return ProgramText(self.head, body, self.code)
+
+    def block(self) -> list[typing.Any]:
+        """The statements between braces."""
+        opened = self.tokens.expect("{", " before the statements")
+        body: list[typing.Any] = []
+        self.tokens.skip_lines()
+        while not self.tokens.is_at("}"):
+            if self.tokens.here.kind == END or self.tokens.is_at("program"):
+                raise TextFault(opened, "syntax", "this `{` has no `}`", "a block ends with `}`")
+            self.statement(body)
+        self.tokens.next()
+        return body
+
+    def statement(self, body: list[typing.Any]) -> None:
+        """Reads a statement, with its number and its label where there are."""
+        if self.tokens.here.kind == NUMBER:
+            body.append(Numbered(self.tokens.next()))
+        token = self.tokens.next()
+        if token.kind != NAME:
+            raise TextFault(token, "syntax", f"{said(token)} stands where {STATEMENTS} is expected")
+        if self.tokens.is_at(":"):
+            body.append(self.label(token))
+            self.tokens.next()
+            self.tokens.skip_lines()
+            return
+        self.named_statement(token, body)
+        if token.text not in ("for", "if") and not self.tokens.at_line_end():
+            raise TextFault(self.tokens.here, "syntax", f"{said(self.tokens.here)} stands after a whole `{token.text}`",
+                            "a statement ends with its line, or with `;`")
+        self.tokens.skip_lines()
+
+    def label(self, token: Token) -> Label:
+        """A place with a name, which is new in this program."""
+        check_name(token, "a label")
+        if token.text in self.labels:
+            raise TextFault(token, "twice", f"there is a label {token.text} already", "each label of a program has its own name")
+        self.labels.add(token.text)
+        return Label(token)
+
+    def named_statement(self, token: Token, body: list[typing.Any]) -> None:
+        """The statement that begins with this word."""
+        if token.text == "for":
+            body.append(self.loop(token))
+        elif token.text == "if":
+            body.append(self.choice(token))
+        elif token.text == "next":
+            if not self.loops:
+                raise TextFault(token, "loop", "`next` stands in no loop", "it stands in a loop's own body")
+            body.append(Next(token))
+        elif token.text == "JMP":
+            body.append(Jump(token, None, self.target()))
+        elif token.text in INSTRUCTIONS:
+            body.append(self.instruction(token, INSTRUCTIONS.index(token.text)))
+        else:
+            raise TextFault(token, "syntax", f"`{token.text}` stands where {STATEMENTS} is expected",
+                            f"the instructions are {', '.join(INSTRUCTIONS)}")
+
+    def loop(self, token: Token) -> For:
+        """`for i in A..B { .. }`."""
+        variable = self.tokens.name("a loop variable")
+        check_name(variable, "a loop variable")
+        if variable.text in self.loops or variable.text in self.names.known or listed(variable.text):
+            raise TextFault(variable, "twice", f"`{variable.text}` is named already", "a loop variable has its own name")
+        self.tokens.expect("in", f" after {variable.text}")
+        start = read_form(self.tokens, self.loops)
+        self.tokens.expect("..", " between the bounds")
+        end = read_form(self.tokens, self.loops)
+        made = For(token, variable.text, start, end, goes_down(start, end))
+        if not made.count.terms and made.count.number <= 0:
+            raise TextFault(token, "loop", f"the loop has no iteration: {start}..{end}", "upwards A..B ends before B, downwards at B")
+        self.loops.append(variable.text)
+        made.body = self.block()
+        self.loops.pop()
+        return made
+
+    def choice(self, token: Token) -> If:
+        """`if A == B { .. } else { .. }`, or with `!=`."""
+        first = read_form(self.tokens, self.loops)
+        if not self.tokens.is_at("==", "!="):
+            raise TextFault(self.tokens.here, "syntax", f"{said(self.tokens.here)} stands where `==` or `!=` is expected")
+        is_equal = self.tokens.next().text == "=="
+        made = If(token, first.minus(read_form(self.tokens, self.loops)))
+        one = self.block()
+        other = self.block() if self.took_else() else []
+        made.zero, made.other = (one, other) if is_equal else (other, one)
+        return made
+
+    def took_else(self) -> bool:
+        """Takes `else`, which may stand on a line of its own."""
+        at = self.tokens.at
+        self.tokens.skip_lines()
+        if self.tokens.took("else"):
+            return True
+        self.tokens.at = at
+        return False
+
+    def instruction(self, token: Token, kind: int) -> typing.Any:
+        """An instruction of the machine."""
+        if kind in (AAP, AP):
+            rows = [read_row(self.tokens, self.names, self.loops)]
+            if kind == AAP:
+                self.tokens.took(",")
+                rows.append(read_row(self.tokens, self.names, self.loops))
+            check_places(tuple(rows))
+            return Command(token, kind, tuple(rows))
+        if kind == BNEZ:
+            register = self.register()
+            self.tokens.took(",")
+            return Jump(token, register, self.target())
+        made = Plain(token, kind)
+        for operand in OPERANDS[kind]:
+            self.tokens.took(",")
+            if operand == "r":
+                made.register = self.register()
+            elif operand == "s":
+                made.other = self.register()
+            else:
+                made.number = self.number()
+        return made
+
+    def register(self) -> int:
+        """A register's number."""
+        return check_register(self.tokens.name("a register"))
+
+    def number(self) -> int:
+        """A number that an instruction may have."""
+        token = self.tokens.number("a number")
+        if int(token.text) > LARGEST:
+            raise TextFault(token, "number", f"{token.text} is too great", f"a number is at most {LARGEST}")
+        return int(token.text)
+
+    def target(self) -> Token:
+        """Where a jump leads: a label, or the number of an instruction."""
+        token = self.tokens.next()
+        if token.kind not in (NAME, NUMBER):
+            raise TextFault(token, "syntax", f"{said(token)} stands where a label or a number is expected")
+        return token
+
+
+def goes_down(start, end) -> bool:
+    """Whether a loop goes down: from a number to a lesser one, from a variable to a number, or from n to what is without n."""
+    if not end.terms:
+        return bool(start.terms) or start.number > end.number
+    return start.times("n") > end.times("n")

@@ -1,0 +1,81 @@
+"""From a program to a text for a reader: cells and operands by their names, labels, and loops where that is the same."""
+
+from __future__ import annotations
+
+import typing
+
+from ..files.program import B_ADDRESS, BNEZ, C_ADDRESS, INDEXED, OPERANDS, REGISTERS, Entry, Instruction, Program, Row
+from .cells import address_text
+from .fault import TextFault
+from .listing import RESULTS, SOURCES, head_line
+from .walks import Stuck, walk
+
+# at which widths a text with loops is compared with the instructions
+WIDTHS = (*range(1, 13), 31, 32, 64)
+Subscript = typing.Callable[[int], str]
+
+
+def row_text(row: Row, entry: Entry, subscript: Subscript) -> str:
+    """A row by its name; `subscript` says what a register of an index means."""
+    if row.space == B_ADDRESS:
+        return address_text(row.which)
+    if row.space == C_ADDRESS or row.space not in INDEXED:
+        return str(row)
+    kinds = {2: entry.results, 3: entry.sources}.get(row.space, ())
+    name = {2: RESULTS, 3: SOURCES}[row.space][row.which] if kinds else f"w{row.which}"
+    if kinds and kinds[row.which] == "bit" and row.index == REGISTERS:
+        return name
+    return f"{name}[{subscript(row.index)}]"
+
+
+def register_text(register: int) -> str:
+    """A subscript as a register."""
+    return "0" if register == REGISTERS else f"r{register}"
+
+
+def instruction_text(one: Instruction, entry: Entry, labels: dict[int, str], subscript: Subscript = register_text) -> str:
+    """An instruction with names."""
+    if one.rows:
+        return " ".join([one.name, *(row_text(row, entry, subscript) for row in one.rows)])
+    texts = {"r": f"r{one.register}", "s": f"r{one.other}", "k": str(one.number)}
+    texts["t"] = labels[one.number] if one.kind == BNEZ else ""
+    return " ".join([one.name, *(texts[letter] for letter in OPERANDS[one.kind])])
+
+
+def scratch_lines(entry: Entry) -> list[str]:
+    """The declarations of scratch, with the names of listings."""
+    found = [f"t{k}: bit" for k in range(entry.bits)] + [f"w{k}: word" for k in range(entry.words)]
+    return [f"scratch {', '.join(found)}"] if found else []
+
+
+def flat_lines(entry: Entry) -> list[str]:
+    """The instructions one by one, with labels where jumps lead."""
+    targets = sorted({one.number for one in entry.code if one.kind == BNEZ})
+    labels = {at: f"l{k}" for k, at in enumerate(targets)}
+    lines = []
+    for at, one in enumerate(entry.code):
+        lines += [f"{labels[at]}:"] if at in labels else []
+        lines.append(f"  {instruction_text(one, entry, labels)}")
+    return lines
+
+
+def readable_lines(entry: Entry) -> list[str]:
+    """The text of an entry: with loops where that does the same commands at these widths, else with labels."""
+    from . import assemble
+    from .structuring import Unstructured, structured_lines
+    head = [head_line(entry), *scratch_lines(entry)]
+    try:
+        lines = [*head, *structured_lines(entry)]
+        again = assemble("\n".join(lines).encode()).entries[0]
+        if all(walk(again, n) == walk(entry, n) for n in WIDTHS):
+            return lines
+    except (Unstructured, TextFault, Stuck):
+        pass
+    return [*head, *flat_lines(entry)]
+
+
+def readable_text(program: Program) -> str:
+    """The text of a program."""
+    parts = ["".join(f"{line}\n" for line in readable_lines(entry)) for entry in program.entries]
+    version = f"version {program.version}\n\n" if program.version != 2 else ""
+    return version + "\n".join(parts)

@@ -1,0 +1,154 @@
+"""From instructions back to loops: what registers hold is followed as sums of n and loop variables."""
+
+from __future__ import annotations
+
+import typing
+
+from ..files.program import (ADD, ADDI, BNEZ, DONE, MOV, REGISTERS, SETI, SETN, SETT, SUBI, INDEXED, Entry, Instruction)
+from .forms import N, Form
+from .parser import goes_down
+from .reading import instruction_text
+
+VARIABLES = "ijk"
+
+
+class Unstructured(Exception):
+    """The code is no such loops."""
+
+
+class Loop(typing.NamedTuple):
+    """A loop that was found: its first and last instruction, the registers that it steps by how much, and those that it sets."""
+
+    first: int
+    last: int
+    steps: typing.Dict[int, int]
+    set_there: typing.Set[int]
+
+
+class Structuring:
+    """The lines of an entry, loop by loop."""
+
+    def __init__(self, entry: Entry) -> None:
+        self.entry, self.code = entry, entry.code
+        self.held: dict[int, Form | None] = dict.fromkeys(range(REGISTERS), Form())
+        self.lines: list[str] = []
+        self.depth = 0
+
+    def text(self) -> list[str]:
+        """The lines of the whole entry."""
+        self.part(0, len(self.code) - 1)
+        return self.lines
+
+    def put(self, line: str) -> None:
+        """Appends a line."""
+        self.lines.append(f"{'  ' * (self.depth + 1)}{line}")
+
+    def part(self, at: int, end: int) -> None:
+        """The instructions from one place to another."""
+        past: int | None = None
+        while at < end:
+            last = max((k for k in range(at, end) if self.code[k].kind == BNEZ and self.code[k].number == at), default=None)
+            if last is not None:
+                if past not in (None, last + 1):
+                    raise Unstructured
+                self.loop(self.found(at, last))
+                at, past = last + 1, None
+            elif self.code[at].kind == BNEZ:
+                at, past = self.guard(at)
+            else:
+                self.step(self.code[at])
+                at += 1
+        if past is not None:
+            raise Unstructured
+
+    def guard(self, at: int) -> tuple[int, int]:
+        """Where a loop that may have no iteration goes on, and where it ends."""
+        inside = self.code[at].number
+        jump = self.code[inside - 1] if inside in (at + 2, at + 3) else self.code[at]
+        if jump.kind != BNEZ or jump.number <= inside or (inside == at + 3 and self.code[at + 1].kind != SETI):
+            raise Unstructured
+        return inside, jump.number
+
+    def form(self, register: int) -> Form:
+        """What a register holds."""
+        form = self.held[register]
+        if form is None:
+            raise Unstructured
+        return form
+
+    def step(self, one: Instruction) -> None:
+        """An instruction that is no jump."""
+        if one.rows:
+            self.put(instruction_text(one, self.entry, {}, self.subscript))
+        elif one.kind == DONE:
+            raise Unstructured
+        else:
+            self.held[one.register] = self.changed(one)
+
+    def changed(self, one: Instruction) -> Form:
+        """What an instruction leaves in its register."""
+        if one.kind in (SETI, SETN, SETT):
+            return {SETI: Form(one.number), SETN: Form.of(N), SETT: Form.of(N).add(-1)}[one.kind]
+        if one.kind in (ADDI, SUBI):
+            return self.form(one.register).add(one.number if one.kind == ADDI else -one.number)
+        return self.form(one.other).plus(self.form(one.register)) if one.kind == ADD else self.form(one.other)
+
+    def subscript(self, register: int) -> str:
+        """A subscript as a sum."""
+        return "0" if register == REGISTERS else str(self.form(register))
+
+    def found(self, first: int, last: int) -> Loop:
+        """The loop between two places."""
+        set_there, steps, depth = set(), {}, 0
+        heads = {one.number: k for k, one in enumerate(self.code) if first < one.number <= k < last and one.kind == BNEZ}
+        for k in range(first, last):
+            one = self.code[k]
+            depth += k in heads
+            if one.kind in (SETI, SETN, SETT, MOV, ADD):
+                set_there.add(one.register)
+            elif one.kind in (ADDI, SUBI):
+                steps.setdefault(one.register, []).append((depth, one.number if one.kind == ADDI else -one.number))
+            depth -= k in heads.values()
+        if any(depth for register, found in steps.items() if register not in set_there for depth, _ in found):
+            raise Unstructured
+        return Loop(first, last, {register: sum(step for _, step in found) for register, found in steps.items()
+                                  if register not in set_there}, set_there)
+
+    def loop(self, loop: Loop) -> None:
+        """A loop."""
+        counter = self.code[loop.last].register
+        if loop.steps.get(counter) != -1 or self.depth == len(VARIABLES):
+            raise Unstructured
+        count, variable = self.form(counter), Form.of(VARIABLES[self.depth])
+        start, is_down = self.start(loop, counter)
+        end = start.minus(count).add(1) if is_down else start.plus(count)
+        if goes_down(start, end) != is_down:
+            raise Unstructured
+        iteration = start.minus(variable) if is_down else variable.minus(start)
+        after = {register: self.form(register).plus(count, step) for register, step in loop.steps.items()}
+        self.held.update({register: self.form(register).plus(iteration, step) for register, step in loop.steps.items()})
+        self.held.update(dict.fromkeys(loop.set_there))
+        self.put(f"for {variable} in {start}..{end} {{")
+        self.depth += 1
+        self.part(loop.first, loop.last)
+        self.depth -= 1
+        self.put("}")
+        self.held.update(after)
+        self.held.update(dict.fromkeys(loop.set_there))
+
+    def start(self, loop: Loop, counter: int) -> tuple[Form, bool]:
+        """What the loop variable begins with, and whether it goes down: as the first subscript that goes by one."""
+        added = dict.fromkeys(loop.steps, 0)
+        for one in self.code[loop.first:loop.last]:
+            for row in one.rows:
+                step = loop.steps.get(row.index) if row.space in INDEXED and row.index != counter else None
+                if step in (1, -1):
+                    return self.form(row.index).add(added[row.index]), step == -1
+            if one.kind in (ADDI, SUBI) and one.register in added:
+                added[one.register] += one.number if one.kind == ADDI else -one.number
+        return Form(), False
+
+
+def structured_lines(entry: Entry) -> list[str]:
+    """The lines of an entry with loops; code that is no such loops raises `Unstructured`."""
+    return Structuring(entry).text()

@@ -1,0 +1,68 @@
+"""A toolchain of links in which `rt try` compiles at full speed.
+
+`rt try` compiles the program without proofs at -O0 with the address sanitizer, for fast checks of small runs. Here it runs
+from a folder of links to the toolchain whose `clang` is a script: it calls the real one with -O2 in place of -O0 and without
+the sanitizer. The program does the same, some 50 times as fast.
+"""
+
+from __future__ import annotations
+
+import pathlib
+import shlex
+import shutil
+
+SANITIZER = "-fsanitize=address"
+COMMAND = ("rt", "rtlib.py")
+CLANG = """#!/bin/sh
+# calls the real clang, optimizing what would be compiled with the address sanitizer, and notes that it did
+left=$# sanitizer=
+for word in "$@"; do [ "$word" = {sanitizer} ] && sanitizer=yes; done
+while [ "$left" -gt 0 ]; do
+    word=$1 left=$((left - 1))
+    shift
+    case $sanitizer$word in
+        yes-O0) : > {mark}; word=-O2 ;;
+        yes{sanitizer}) continue ;;
+    esac
+    set -- "$@" "$word"
+done
+exec {clang} "$@"
+"""
+
+
+def link_all(source: pathlib.Path, folder: pathlib.Path, but: tuple[str, ...]) -> None:
+    """Makes a folder with a link to each file of another one, but for some names."""
+    folder.mkdir()
+    for path in source.iterdir():
+        if path.name not in but:
+            (folder / path.name).symlink_to(path)
+
+
+class FastToolchain:
+    """The folder of links: its command `rt`, and whether its clang has optimized the program."""
+
+    def __init__(self, folder: pathlib.Path) -> None:
+        self.rt = folder / "bin" / "rt"
+        self.mark = folder / "optimized"
+
+    def was_used(self) -> bool:
+        return self.mark.exists()
+
+
+def made_in(folder: pathlib.Path) -> FastToolchain | None:
+    """Makes the toolchain of links in a folder that is not there yet, if the installed one has the files that it needs."""
+    real = pathlib.Path(shutil.which("rt") or "").resolve()
+    kit, made = real.parent.parent, FastToolchain(folder)
+    clang = kit / "toolchain" / "bin" / "clang"
+    if not clang.is_file() or not all((real.parent / name).is_file() for name in COMMAND):
+        return None
+    link_all(kit, folder, ("bin", "toolchain"))
+    link_all(kit / "bin", folder / "bin", COMMAND)
+    link_all(kit / "toolchain", folder / "toolchain", ("bin",))
+    link_all(kit / "toolchain" / "bin", folder / "toolchain" / "bin", ("clang",))
+    for name in COMMAND:  # `rt` looks for the toolchain beside its real path
+        shutil.copy(real.parent / name, folder / "bin" / name)
+    script = folder / "toolchain" / "bin" / "clang"
+    script.write_text(CLANG.format(sanitizer=SANITIZER, mark=shlex.quote(str(made.mark)), clang=shlex.quote(str(clang))), encoding="utf-8")
+    script.chmod(0o755)
+    return made

@@ -1,0 +1,75 @@
+"""One function on many items, on all processors, with a progress bar on a terminal."""
+
+from __future__ import annotations
+
+import concurrent.futures
+import itertools
+import os
+import shutil
+import sys
+import time
+import typing
+
+from . import run_program
+
+Item = typing.TypeVar("Item")
+Result = typing.TypeVar("Result")
+BAR = 30
+# a bar is first shown after so many seconds
+SHOWN_AFTER = 0.5
+
+
+def processors() -> int:
+    """How many processors this process may use."""
+    return len(os.sched_getaffinity(0)) if hasattr(os, "sched_getaffinity") else os.cpu_count() or 1
+
+
+class Bar:
+    """A progress bar on standard error, where that is a terminal."""
+
+    def __init__(self, what: str, items: int) -> None:
+        self.what, self.items, self.done = what, items, 0
+        self.is_shown = bool(what) and sys.stderr.isatty()
+        self.began = time.monotonic()
+
+    def line(self, seconds: float) -> str:
+        """What is shown after so many seconds."""
+        full = BAR * self.done // self.items
+        left = round(seconds * (self.items - self.done) / self.done) if self.done else 0
+        said = f", about {left} s left" if self.done and left else ""
+        return f"simdram: {self.what} [{'#' * full}{'.' * (BAR - full)}] {self.done} of {self.items}{said}"
+
+    def step(self) -> None:
+        """One more item is done."""
+        self.done += 1
+        seconds = time.monotonic() - self.began
+        if self.is_shown and seconds > SHOWN_AFTER:
+            shown = self.line(seconds)[:shutil.get_terminal_size().columns - 1]
+            print(f"\r{shown}\033[K", end="", file=sys.stderr, flush=True)
+
+    def end(self) -> None:
+        """The bar's line is empty again."""
+        if self.is_shown:
+            print("\r\033[K", end="", file=sys.stderr, flush=True)
+
+
+def in_parallel(work: typing.Callable[[Item], Result], items: typing.Sequence[Item], what: str = "") -> list[Result]:
+    """The results of all items, in their order. The first fault, or Ctrl-C, stops what has not ended yet."""
+    bar, workers = Bar(what, len(items)), processors()
+    left, found = iter(enumerate(items)), {}
+    pool = concurrent.futures.ThreadPoolExecutor(workers)
+    try:
+        waiting = {pool.submit(work, item): k for k, item in itertools.islice(left, 2 * workers)}
+        while waiting:
+            for future in concurrent.futures.wait(waiting, return_when=concurrent.futures.FIRST_COMPLETED).done:
+                found[waiting.pop(future)] = future.result()
+                bar.step()
+                waiting.update((pool.submit(work, item), k) for k, item in itertools.islice(left, 1))
+    except BaseException:
+        pool.shutdown(wait=False, cancel_futures=True)
+        run_program.stop_all()
+        raise
+    finally:
+        pool.shutdown()
+        bar.end()
+    return [found[k] for k in range(len(items))]

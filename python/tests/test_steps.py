@@ -1,0 +1,168 @@
+"""The word steps: frames, old values, subscripts, loops inside loops, and the bits of numbers."""
+
+import json
+import pathlib
+import random
+import subprocess
+import tempfile
+import unittest
+
+import support
+from support import TOP, needs_program
+from test_words import called
+
+from simdram.faults import Fault
+from simdram.files.program import BNEZ, SETI, Entry, Instruction, Program
+from simdram.iterations import execution
+from simdram.one_column import Column, numbers_of
+from simdram.steps import View
+
+OPS = """op sum(a: word, b: word) -> y: word { y = add(a, b); }
+op product(a: word, b: word) -> y: word { y = mul(a, b); }
+op both(a: word, b: word) -> q: word, r: word { q, r = divmod(a, b); }
+op saturated(a: word, b: word) -> y: word {
+  serial up (c = 0) { let x = xor(a, b); t = xor(x, c); c = maj(a, b, c); }
+  o = ones();
+  y = if_else(o, t, c);
+}
+op chosen(a: word, s: bit) -> y: word { t = bitcount(a); y = if_else(t, a, s); }
+op less(a: word, b: word) -> l: bit { serial up (l = 0) { l = maj(not(a), b, l); } }
+"""
+VALUES = {"sum": lambda a, b: [a + b & 255], "product": lambda a, b: [a * b & 255], "both": lambda a, b: [a // b, a % b],
+          "saturated": lambda a, b: [min(255, a + b)], "less": lambda a, b: [int(a < b)]}
+
+
+@needs_program
+class Pages(unittest.TestCase):
+    @classmethod
+    def setUpClass(cls):
+        kept = tempfile.TemporaryDirectory()
+        cls.addClassCleanup(kept.cleanup)
+        cls.folder = pathlib.Path(kept.name)
+        cls.ops = str(cls.folder / "p.ops")
+        (cls.folder / "p.ops").write_text(OPS)
+        subprocess.run([support.program(), "compile", "p.ops", "p"], cwd=cls.folder, check=True, capture_output=True)
+        cls.program = Program.load(str(cls.folder / "p"))
+
+    def call(self, *words):
+        return called(*words, cwd=self.folder)
+
+    def data(self, *words):
+        ended = self.call("steps", "p", *words, "--ops", "p.ops", "--html", "p.html")
+        self.assertEqual(ended.returncode, 0, ended.stderr)
+        return json.loads((self.folder / "p.html").read_text().partition("const parts = ")[2].partition(";\n")[0])
+
+    def test_a_frame_marks_what_a_command_changes(self):
+        for name in VALUES:
+            for one in View(self.program.find(name), self.ops).shown:
+                before = one.start
+                for step in one.done:
+                    words = step.text.replace(",", "").split()
+                    after = {**step.cells, **step.rows}
+                    # what has another text has changed, but for a row that is shown for the first time
+                    self.assertEqual({cell for cell in one.start if before[cell] != after[cell]},
+                                     set(step.changed) & set(one.start), step)
+                    self.assertLessEqual(set(step.changed) - set(one.start), {words[-1]}, step)
+                    before = after
+        # the state is in three cells when the part begins, and the first command changes one other
+        product = View(self.program.find("product"), self.ops).shown[-1]
+        self.assertEqual((product.done[0].text, product.done[0].changed), ("AAP C1, B1", ["T1"]))
+        self.assertEqual((product.start["T3"], product.start["DCC1"]), ("s", "s"))
+
+    def test_what_a_row_held_before(self):
+        accumulated = View(self.program.find("product"), self.ops).shown[-1]
+        rows = [step.rows.get("y[r4]") for step in accumulated.done]
+        self.assertIn("old y[r4]", rows)
+        self.assertNotIn("y[r4]", " ".join(rows[-1:]))
+        self.assertEqual({step.rows["a[r3]"] for step in accumulated.done[1:]}, {"a[r3]"})
+
+    def test_what_a_subscript_is(self):
+        accumulated = View(self.program.find("product"), self.ops).shown[-1]
+        names = [name for name, _ in accumulated.subscripts]
+        self.assertEqual(names, ["r3", "r4"])
+        for name, what in accumulated.subscripts:
+            self.assertRegex(what, r"^set to \w+ at instruction \d+, raised by 1 at \d+ in each iteration of the loop \d+ to \d+$")
+            self.assertIn(f"  {name} is {what}", accumulated.lines)
+        once = View(self.program.find("sum"), self.ops).shown[-1]
+        self.assertEqual([name for name, _ in once.subscripts], ["i"])
+
+    def test_loops_inside_loops(self):
+        data = self.data("product")
+        outer, inner = data[-2:]
+        self.assertEqual((len(outer["loops"]), len(inner["loops"])), (1, 2))
+        self.assertEqual(inner["loops"][0], outer["loops"][0])
+        text = (self.folder / "p.html").read_text()
+        self.assertIn("let part = 0, at = 0, round = 0;", text)
+        self.assertNotIn("NUMBERS", text)
+
+    def test_bits_are_those_of_the_values(self):
+        """Where two cells have one text, they have one bit, and a complement has the other."""
+        for name in VALUES:
+            entry = self.program.find(name)
+            run = execution(entry, self.ops, "a=11,b=6", 8)
+            for one in View(entry, self.ops, run).shown:
+                for each in one.bits:
+                    known = {}
+                    for step, bits in zip(one.done, each["bits"]):
+                        for text, bit in ((text, bits[key]) for key, text in {**step.cells, **step.rows}.items() if bits[key] != "?"):
+                            bare = text.lstrip("~")
+                            bit = int(bit) ^ text.startswith("~")
+                            if bare != "?":
+                                self.assertEqual(known.setdefault(bare, bit), bit, (name, one.part.title(), step, bare))
+                    self.assertEqual((known.get("0", 0), known.get("1", 1)), (0, 1))
+
+    def test_results(self):
+        dice = random.Random(8)
+        for name, function in VALUES.items():
+            entry = self.program.find(name)
+            for _ in range(20):
+                a, b = dice.randrange(256), dice.randrange(1, 256)
+                column = Column(entry, 8, [a, b])
+                self.assertGreater(len(list(column.run())), 0)
+                self.assertEqual([int(column.result(k)) for k in range(len(entry.results))], function(a, b), (name, a, b))
+
+    def test_iterations(self):
+        data = self.data("product", "--with", "a=3,b=5")
+        self.assertEqual([len(part["iterations"]) for part in data], [8, 7, 28])
+        inner = data[-1]
+        self.assertEqual([each["registers"][3] for each in inner["iterations"][:7]], list(range(7)))
+        for each in inner["iterations"]:
+            for step, bits in zip(inner["steps"], each["bits"]):
+                self.assertEqual(len(bits), len(step["cells"]) + len(step["rows"]))
+        ended = self.call("steps", "p", "both", "--ops", "p.ops", "--with", "a=200,b=7", "--iteration", "3")
+        self.assertEqual(ended.stdout.splitlines()[0], "a = 200, b = 7 at the width 8: q = 28, r = 4")
+        self.assertIn("iteration 3 of ", ended.stdout)
+
+    def test_a_bit_among_the_operands(self):
+        ended = self.call("steps", "p", "chosen", "--ops", "p.ops", "--with", "a=6,s=1", "--width", "4")
+        self.assertEqual(ended.stdout.splitlines()[0], "a = 6, s = 1 at the width 4: y = 2")
+        self.assertIn("s=1", ended.stdout)
+
+    def test_wrong_numbers(self):
+        for words, said in ((["--with", "a=3"], "gives no number for b"), (["--with", "a=3,c=4"], "--with takes a=NUMBER,b=NUMBER"),
+                            (["--with", "a=3,b=x"], "and not b=x"), (["--with", "a=300,b=1", "--width", "8"], "8 bits hold 0 to 255"),
+                            (["--width", "8"], "--width goes with --with"), (["--with", "a=1,b=2", "--width", "129"], "is 1 to 128"),
+                            (["--with", "a=1,b=2", "--iteration", "0"], "--iteration is 1 or more")):
+            ended = self.call("steps", "p", "sum", *words)
+            self.assertEqual((ended.returncode, len(ended.stderr.splitlines())), (2, 1), ended.stderr)
+            self.assertIn(said, ended.stderr)
+        self.assertEqual(numbers_of("a=300,b=1", ["a", "b"], ["word", "bit"], None), ([300, 1], 16))
+        with self.assertRaises(Fault):
+            numbers_of("a=1,b=2", ["a", "b"], ["word", "bit"], 8)
+
+    def test_an_endless_loop_ends(self):
+        code = tuple(Instruction(raw[0], bytes(raw)) for raw in ([SETI, 1, 1] + [0] * 5, [BNEZ, 1] + [0] * 6, [0] * 8))
+        with self.assertRaisesRegex(Fault, "executes over 1,000,000 instructions at the width 8"):
+            list(Column(Entry("f", ("word",), ("word",), 0, 0, code), 8, [3]).run())
+
+    def test_an_unset_row_has_no_bit(self):
+        stuck = TOP / "examples" / "exec" / "xor.hex"
+        self.assertEqual(called("from-hex", str(stuck), "x.prog", cwd=self.folder).returncode, 0)
+        entry = Program.load(str(self.folder / "x.prog")).entries[0]
+        column = Column(entry, 4, [3] * len(entry.sources))
+        list(column.run())
+        self.assertRegex(column.result(0), r"^(\d+|[01?]+)$")
+
+
+if __name__ == "__main__":
+    unittest.main()
