@@ -12,10 +12,10 @@ ghost use Rattle.bdd.specs.Graphs.{IsFirst, IsSide};
 ghost use Rattle.bdd.specs.Graphs.{top, value, node_at};
 ghost use Rattle.bdd.specs.Paths.{assigned};
 
-use crate::forms::{normal, settled, simple};
+use crate::forms::{largest_first, normal, ordered, settled, simple};
 use crate::nodes::{cofactor, first_variable, store};
 use crate::path::{evaluate, walk};
-use crate::table::choice_hash;
+use crate::table::{blank, choice_hash, widen_answers};
 use crate::{
     Choice, Computed, Edge, NoMemory, Node, Shortage, complement, complement_if, constant,
     is_choice, is_edge, plain,
@@ -75,21 +75,14 @@ fn parts(nodes: &[Node], c: Choice, variable: u32, value: bool) -> (Edge, Edge, 
 }
 
 impl Diagram {
-    /// The constant alone, with room for so many nodes, slots of the table and answers.
+    /// The constant alone, with a bound on the nodes, so many slots of the table at first, and room
+    /// for so many answers at first.
     pub fn new(bound: u32, slots: usize, answers: usize, alloc: Global) -> Result<Diagram, NoMemory>
         requires { 0 < bound }
         ensures nodes { IfOk result (λ d. AreNodes d.nodes) }
         ensures empty { IfOk result (λ d. d ≡ record { bound = bound; nodes = first_node ∷ [] }) }
     {
         let e = constant(false);
-        let blank = Computed {
-            choice: Choice {
-                test: 0,
-                high: e,
-                low: 0,
-            },
-            result: e,
-        };
         let first = Node {
             variable: u32::MAX,
             low: 0,
@@ -97,7 +90,7 @@ impl Diagram {
         };
         let nodes = vec![in alloc; first; 1]?;
         let slots = vec![in alloc; 0u32; slots]?;
-        let answers = vec![in alloc; blank; answers]?;
+        let answers = vec![in alloc; blank(); answers]?;
         Ok(Diagram {
             bound,
             nodes,
@@ -170,6 +163,7 @@ impl Diagram {
         requires right { IsChoice self.old.nodes answer (plain c.test) c.high (plain c.low) }
         ensures { self.new ≡ self.old }
     {
+        widen_answers(&mut self.answers, self.nodes.len());
         if !self.answers.is_empty() {
             let place = (choice_hash(c) >> 1) as usize % self.answers.len();
             self.answers[place] = Computed {
@@ -255,7 +249,8 @@ impl Diagram {
         if let Some(e) = simple(f, g1, h1) {
             return Ok(e);
         }
-        let (c, inverted) = normal(f, g1, h1);
+        let (f2, g2, h2) = ordered(f, g1, h1);
+        let (c, inverted) = normal(f2, g2, h2);
         let e = self.answer(c, left)?;
         Ok(complement_if(inverted, e))
     }
@@ -301,9 +296,10 @@ impl Diagram {
         ensures full { result ≡ Err Full → self.old.bound ≤ length self.new.nodes }
     {
         let _ = &self.bound;
-        let either = self.ite(b, constant(true), c)?;
-        let both = self.ite(b, c, constant(false))?;
-        let e = self.ite(a, either, both)?;
+        let (f, g, h) = largest_first(a, b, c);
+        let either = self.ite(g, constant(true), h)?;
+        let both = self.ite(g, h, constant(false))?;
+        let e = self.ite(f, either, both)?;
         Ok(e)
     }
 

@@ -22,8 +22,8 @@ const NODES_MAX: u32 = 4_000_000;
 /// How many slots the table of its nodes begins with.
 const SLOTS: usize = 4096;
 
-/// How many answers it keeps.
-const ANSWERS: usize = 1 << 20;
+/// How many answers it has room for at first.
+const ANSWERS: usize = 1 << 17;
 
 /// What is found of the entry of an op's name.
 #[derive(Drop)]
