@@ -1,7 +1,7 @@
 -- The findings of ops, one after another.
-use Rattle.std.proofs.Common.{◌≡◌, ℕ, zero, suc, ◌+◌, ◌<◌, Bool, true, false, List, [], ◌∷◌, ◌++◌}
+use Rattle.std.proofs.Common.{◌≡◌, ℕ, zero, suc, ◌<◌, Bool, true, false, List, [], ◌∷◌, ◌++◌}
 use Rattle.std.proofs.Common.{◌≤◌, length, map, take, refl, sym, ◌∙◌, ap, subst, arith, cond}
-use Rattle.std.proofs.Common.{Option, Some, None}
+use Rattle.std.proofs.Common.{Some, None}
 use Rattle.std.specs.Prelude.{◌&&◌, bytes_eq, nat_lt, position, slice_get, slice_index_or}
 use Rattle.std.specs.List.{AllByRecursion, list_all, position_or_len}
 use Rattle.std.proofs.lemmas.List.Folds.{find_at}
@@ -59,16 +59,16 @@ as_many (e ∷ es) (o ∷ ops) does = ap suc (as_many es ops does.1)
 
 -- what the status 0 says
 
-right_one : (n : ℕ) (program : Program) (o : TextOp) (f : Finding) → is_right f ≡ true
+pub right_one : (n : ℕ) (program : Program) (o : TextOp) (f : Finding) → is_right f ≡ true
     → IsFinding n program o f → HasRight n program o
 right_one n program o NoEntry e is = absurd (cc)
-right_one n program o (Entry head (Right counts)) e is = (is.0, is.1, is.3.2)
+right_one n program o (Entry head (Right counts)) e is = (is.0, is.1, is.3.0, is.3.2)
 right_one n program o (Entry head (Wrong case)) e is = absurd (cc)
 right_one n program o (Entry head (Stuck walk)) e is = absurd (cc)
 right_one n program o (Entry head OtherKinds) e is = absurd (cc)
 right_one n program o (Entry head (Unknown limit)) e is = absurd (cc)
 
-both : (a b : Bool) → a && b ≡ true → (a ≡ true) × (b ≡ true)
+pub both : (a b : Bool) → a && b ≡ true → (a ≡ true) × (b ≡ true)
 both true b e = (refl, e)
 both false b e = absurd (cc)
 
@@ -81,7 +81,7 @@ right_all n program (o ∷ ops) (f ∷ found) e are =
     let parts = both (is_right f) (list_all is_right found) e in
     (right_one n program o f parts.0 are.0, right_all n program ops found parts.1 are.1)
 
-zero_all : (a b : Bool) → ◌≡◌ {A = ℕ} (cond a 0 (cond b 20 19)) 0 → a ≡ true
+pub zero_all : (a b : Bool) → ◌≡◌ {A = ℕ} (cond a 0 (cond b 20 19)) 0 → a ≡ true
 zero_all true b e = refl
 zero_all false true e = absurd (cc)
 zero_all false false e = absurd (cc)

@@ -1,2 +1,3 @@
 mod Written
 pub mod Found
+pub mod Apart

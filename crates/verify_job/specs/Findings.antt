@@ -1,14 +1,13 @@
 -- What is found of a program's entries, one for each op of a text.
 use Rattle.std.specs.Prelude.{◌≡◌, ℕ, Bool, true, false, List, [], ◌∷◌, Some, None}
 use Rattle.std.specs.Prelude.{if◌then◌else◌}
-use Rattle.std.specs.List.{list_all, AllByRecursion}
-use Rattle.uprog_code.specs.declared.code.Head.{Head}
+use Rattle.std.specs.List.{list_all}
 use Rattle.uprog_code.specs.Shape.{Microprogram, shape_of}
 use Rattle.uprog_code.specs.Texts.{TextOp}
 use Rattle.machine_model.specs.Routines.{Program, entry_named}
 use Rattle.verify_core.specs.declared.verdict.Verdict.TheVariants.{Right, Wrong, Stuck, OtherKinds}
 use Rattle.verify_core.specs.declared.verdict.Verdict.TheVariants.{Unknown}
-use Rattle.verify_core.specs.Verdicts.{DoesAt, IsVerdict}
+use Rattle.verify_core.specs.Verdicts.{DoesAt, IsVerdict, SameKinds}
 use Rattle.verify_job.specs.declared.finding.Finding.{Finding}
 use Rattle.verify_job.specs.declared.finding.Finding.TheVariants.{NoEntry, Entry}
 
@@ -25,10 +24,10 @@ AreFindings n program [] (f ∷ fs) = ⊥
 AreFindings n program (o ∷ os) [] = ⊥
 AreFindings n program (o ∷ os) (f ∷ fs) = IsFinding n program o f × AreFindings n program os fs
 
--- the program has an entry of the op's name, which does the op at this width
+-- the program has an entry of the op's name and kinds, which does the op at this width
 abbrev pub HasRight : ℕ → Program → TextOp → Type 0
-HasRight n program o = (e : Microprogram)
-    × (entry_named program o.name ≡ Some e) × DoesAt n e o
+HasRight n program o = (e : Microprogram) × (entry_named program o.name ≡ Some e)
+    × SameKinds e.shape o.shape × DoesAt n e o
 
 -- the op has an entry, which does it
 abbrev pub is_right : Finding → Bool

@@ -9,5 +9,5 @@ mod pieces;
 mod text;
 
 pub use finding::{Finding, verify_all};
-pub use laws::zero_says_right;
+pub use laws::{zero_is_never_nineteen, zero_says_right};
 pub use text::{report, status};
