@@ -161,6 +161,14 @@ impl Carry {
         ]
     }
 
+    /// Whether the least graph of this number is one of the class.
+    pub fn has(&self, number: usize) -> bool {
+        match least_graph(number) {
+            Some(least) => least.function() == self.class,
+            None => false,
+        }
+    }
+
     /// The form over three leaves that a least graph gives, if it is one of the class.
     pub fn form_of(&self, least: Least, leaves: [u8; 3]) -> Option<Form> {
         if least.function() != self.class {

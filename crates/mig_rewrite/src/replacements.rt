@@ -6,7 +6,7 @@
 use crate::draws::Draws;
 use crate::forms::{Carries, Carry, Form, MOST_LEAST, carries, least_graph};
 use crate::sketch::{Sketch, has, with, with_operands};
-use crate::tables::{Table, Tables, care_of, function_of, table_of};
+use crate::tables::{Table, Tables, Turned, function_of, table_of};
 use faults::keep;
 use mig_graph::NoMemory;
 use std::alloc::Global;
@@ -68,6 +68,7 @@ pub struct Replacement {
 pub struct Replacer {
     draws: Draws,
     carries: Carries,
+    turned: Turned,
     /// The literals that may be operands.
     list: Vec<Divisor>,
     /// Those that may be operands of an inner node, each with where it is wrong there.
@@ -79,6 +80,7 @@ impl Drop for Replacer {
         let Replacer {
             draws: _,
             carries: _,
+            turned: _,
             list: _,
             inside: _,
         } = self;
@@ -130,10 +132,10 @@ fn form_at(carry: &Carry, number: usize, leaves: [u8; 3]) -> Option<Form> {
 }
 
 /// How many least graphs the class has.
-fn form_count(carry: &Carry, leaves: [u8; 3]) -> usize {
+fn form_count(carry: &Carry) -> usize {
     let mut count = 0usize;
     for number in carry.row..MOST_LEAST {
-        if form_at(carry, number, leaves).is_none() {
+        if !carry.has(number) {
             return count;
         }
         count = count.saturating_add(1);
@@ -146,6 +148,7 @@ impl Replacer {
         Replacer {
             draws: Draws::new(0),
             carries: carries(),
+            turned: Turned::new(),
             list: Vec::new(alloc),
             inside: Vec::new(alloc),
         }
@@ -179,7 +182,7 @@ impl Replacer {
         }
         let carry = self.carries[function_of(sketch, node, set) as usize];
         let leaves = leaves_of(set);
-        let place = self.draws.below(form_count(&carry, leaves));
+        let place = self.draws.below(form_count(&carry));
         form_at(&carry, carry.row.saturating_add(place), leaves)
     }
 
@@ -192,7 +195,7 @@ impl Replacer {
     ) -> Result<Option<u8>, NoMemory> {
         self.list.clear();
         let above = sketch.above(node);
-        let care = care_of(sketch, tables, node);
+        let care = self.turned.care_of(sketch, tables, node, above);
         let own = table_of(tables, node.saturating_mul(2));
         for literal in 0..sketch.size().saturating_mul(2) {
             if !has(above, literal / 2) {
@@ -329,20 +332,22 @@ impl Replacer {
 
 /// The first of these that joins both.
 fn first_of(list: &[Divisor], a: &Divisor, b: &Divisor) -> Option<Divisor> {
+    let errors = a.or(b);
     for c in list {
-        if a.may_join(c) && b.may_join(c) {
+        let node = c.literal / 2;
+        if node != a.literal / 2 && node != b.literal / 2 && errors.is_apart(&c.errors) {
             return Some(*c);
         }
     }
     None
 }
 
-/// The first from a place on that joins both, or else the first of all.
+/// The first from a place on that joins both, or else the first before it.
 fn third_of(list: &[Divisor], start: usize, a: &Divisor, b: &Divisor) -> Option<Divisor> {
     if let Some(later) = list.get(start..)
         && let Some(c) = first_of(later, a, b)
     {
         return Some(c);
     }
-    first_of(list, a, b)
+    first_of(list.get(..start)?, a, b)
 }

@@ -7,7 +7,7 @@
 use crate::pool::Pool;
 use crate::replacements::Replacer;
 use crate::sketch::Sketch;
-use crate::tables::{self, Tables, agree, tables_of};
+use crate::tables::{self, Tables, agree, complete, tables_of};
 use mig_graph::{Lit, MigOuts, NoMemory};
 use std::alloc::Global;
 
@@ -66,7 +66,8 @@ impl Search {
             return Ok(None);
         };
         let other = at.replaced(&at.base(drawn.node), &drawn.form);
-        Ok(if other.count <= most {
+        let is_right = at.inputs <= tables::MOST_INPUTS || agree(at, &other);
+        Ok(if other.count <= most && is_right {
             Some(other)
         } else {
             None
@@ -89,7 +90,7 @@ impl Search {
             let most = u8::max(at.count, least.saturating_add(SLACK));
             if let Some(other) = self.step(&at, &tables, u8::min(most, MOST_NODES - 1))? {
                 at = other;
-                tables = tables_of(&at);
+                complete(&mut tables, &at);
                 least = u8::min(least, at.count);
                 self.pool.offer(&at)?;
             }

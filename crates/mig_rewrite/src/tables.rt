@@ -115,20 +115,23 @@ fn table_above(sketch: &Sketch, tables: &Tables, node: u8) -> Table {
     Table::majority(&a, &b, &c)
 }
 
-/// The tables of all nodes, from those of the inputs.
-fn completed(sketch: &Sketch, inputs: Tables) -> Tables {
-    let mut tables = inputs;
+/// No tables yet.
+pub fn no_tables() -> Tables {
+    [NONE; 64]
+}
+
+/// Finds the tables of all nodes, from those of the inputs.
+pub fn complete(tables: &mut Tables, sketch: &Sketch) {
     for node in sketch.first()..sketch.size() {
         if (node as usize) < 64 {
-            tables[node as usize] = table_above(sketch, &tables, node);
+            tables[node as usize] = table_above(sketch, tables, node);
         }
     }
-    tables
 }
 
 /// The tables of all nodes: on every assignment of at most 8 inputs, else on 256 drawn ones.
 pub fn tables_of(sketch: &Sketch) -> Tables {
-    let mut tables = [NONE; 64];
+    let mut tables = no_tables();
     for input in 0..sketch.inputs {
         let node = input as usize + 1;
         if node < 64 {
@@ -139,19 +142,21 @@ pub fn tables_of(sketch: &Sketch) -> Tables {
             };
         }
     }
-    completed(sketch, tables)
+    complete(&mut tables, sketch);
+    tables
 }
 
 /// The tables of all nodes on a page of 256 assignments.
 fn tables_on_page(sketch: &Sketch, page: u16) -> Tables {
-    let mut tables = [NONE; 64];
+    let mut tables = no_tables();
     for input in 0..sketch.inputs {
         let node = input as usize + 1;
         if node < 64 {
             tables[node] = Table::on_page(input, page);
         }
     }
-    completed(sketch, tables)
+    complete(&mut tables, sketch);
+    tables
 }
 
 /// Whether both have the same outputs on a page.
@@ -189,32 +194,68 @@ pub fn agree(first: &Sketch, second: &Sketch) -> bool {
     true
 }
 
-/// The tables where a node is turned.
-fn tables_with_turned(sketch: &Sketch, tables: &Tables, node: u8) -> Tables {
-    let mut turned = *tables;
-    if (node as usize) < 64 {
-        turned[node as usize] = tables[node as usize].complement();
-    }
-    let above = sketch.above(node) & !with(0, node);
-    for k in sketch.first()..sketch.size() {
-        if has(above, k) && (k as usize) < 64 {
-            turned[k as usize] = table_above(sketch, &turned, k);
-        }
-    }
-    turned
+/// The tables of a graph in which a node is turned: of the nodes above it, itself among them, its
+/// own, and else those of the graph as it was.
+pub struct Turned {
+    tables: Tables,
+    above: u64,
 }
 
-/// On which assignments some output changes when the node is turned.
-pub fn care_of(sketch: &Sketch, tables: &Tables, node: u8) -> Table {
-    let turned = tables_with_turned(sketch, tables, node);
-    let mut care = NONE;
-    for (k, literal) in sketch.outs.iter().enumerate() {
-        if k < sketch.outputs as usize {
-            let change = table_of(tables, *literal).xor(&table_of(&turned, *literal));
-            care = care.or(&change);
+impl Drop for Turned {
+    fn drop(self) {
+        let Turned {
+            tables: _,
+            above: _,
+        } = self;
+    }
+}
+
+impl Turned {
+    /// No node is turned yet.
+    pub fn new() -> Turned {
+        Turned {
+            tables: no_tables(),
+            above: 0,
         }
     }
-    care
+
+    /// The table of a literal.
+    fn of(&self, tables: &Tables, literal: u8) -> Table {
+        if has(self.above, literal / 2) {
+            table_of(&self.tables, literal)
+        } else {
+            table_of(tables, literal)
+        }
+    }
+
+    /// Turns a node, where these are above it.
+    fn turn(&mut self, sketch: &Sketch, tables: &Tables, node: u8, above: u64) {
+        self.above = above;
+        if (node as usize) < 64 {
+            self.tables[node as usize] = tables[node as usize].complement();
+        }
+        let others = above & !with(0, node);
+        for k in sketch.first()..sketch.size() {
+            if has(others, k) && (k as usize) < 64 {
+                let [a, b, c] = sketch.operands(k);
+                let (a, b, c) = (self.of(tables, a), self.of(tables, b), self.of(tables, c));
+                self.tables[k as usize] = Table::majority(&a, &b, &c);
+            }
+        }
+    }
+
+    /// On which assignments some output changes when the node is turned, where these are above it.
+    pub fn care_of(&mut self, sketch: &Sketch, tables: &Tables, node: u8, above: u64) -> Table {
+        self.turn(sketch, tables, node, above);
+        let mut care = NONE;
+        for (k, literal) in sketch.outs.iter().enumerate() {
+            if k < sketch.outputs as usize && has(above, *literal / 2) {
+                let change = table_of(tables, *literal).xor(&self.of(tables, *literal));
+                care = care.or(&change);
+            }
+        }
+        care
+    }
 }
 
 /// A literal's values on the 8 assignments of three leaves.

@@ -7,9 +7,9 @@
 use crate::body::{BodyCmd, Held, OutRow};
 use crate::bucket::{Bucket, Entry};
 use crate::cells::{Short, lacking};
-use crate::estimate::{bound, estimate, is_ready, points_of_nodes};
+use crate::estimate::{Ahead, estimate, is_ready};
 use crate::idle::without_copies;
-use crate::moves::{Commands, LineUp, Way, complemented, fill_left, writes};
+use crate::moves::{Commands, Job, LineUp, Way, Ways, complemented, fill_left, writes};
 use crate::outlook::{State, Task, in_place};
 use faults::keep;
 use mig_graph::{Mig, NoMemory};
@@ -56,6 +56,9 @@ const FEW_STATES: usize = 5;
 /// How many states are remembered.
 const MOST_SEEN: usize = 256;
 
+/// Of how many sets of nodes that must still be made is remembered what is ahead.
+const MOST_AHEAD: usize = 64;
+
 /// A state that a step has led to, and after how many commands.
 #[derive(Clone, Copy, PartialEq, Eq)]
 struct Seen {
@@ -69,14 +72,16 @@ struct Beam {
     now: Bucket,
     next: Bucket,
     after: Bucket,
-    ways: Vec<Way>,
-    ends: Vec<Way>,
+    ways: Ways,
+    ends: Ways,
     /// States of this step, each at the place that its hash gives.
     seen: Vec<Option<Seen>>,
+    /// What was ahead of states, each at the place that its nodes give.
+    aheads: Vec<Option<Ahead>>,
     breadth: Breadth,
     width: usize,
     /// More commands are not looked for.
-    most: usize,
+    most: u32,
     tried: usize,
 }
 
@@ -90,6 +95,7 @@ impl Drop for Beam {
             ways: _,
             ends: _,
             seen: _,
+            aheads: _,
             breadth: _,
             width: _,
             most: _,
@@ -107,31 +113,39 @@ struct Candidate {
     missing: u32,
 }
 
-fn candidate_of(task: &Task, s: &State, node: u8, inverted: bool) -> Option<Candidate> {
+/// A node that can be made, and its complement.
+fn candidates_of(task: &Task, s: &State, node: u8) -> Option<(Candidate, Candidate)> {
     let operands = task.operands(node)?;
-    if !s.unmade.has(node) || !is_ready(task, s, operands) {
+    if !is_ready(task, s, operands) {
         return None;
     }
     let [straight, complements] = in_place(&s.cells, operands);
-    let (operands, most) = if inverted {
-        (complemented(operands), complements)
-    } else {
-        (operands, straight)
-    };
-    Some(Candidate {
+    let made = Candidate {
         node,
         operands,
-        sensed: task.lit_of(node, inverted),
-        missing: 3u32.saturating_sub(most),
-    })
+        sensed: task.lit_of(node, false),
+        missing: 3u32.saturating_sub(straight),
+    };
+    let turned = Candidate {
+        node,
+        operands: complemented(operands),
+        sensed: task.lit_of(node, true),
+        missing: 3u32.saturating_sub(complements),
+    };
+    Some((made, turned))
 }
 
 /// The nodes that can be made from a state.
 fn candidates(task: &Task, s: &State, alloc: Global) -> Result<Vec<Candidate>, NoMemory> {
+    let mut left = s.unmade;
     let mut candidates = Vec::new(alloc);
-    for k in 0..64u8 {
-        if let Some(candidate) = candidate_of(task, s, k / 2, k % 2 == 1) {
-            keep(&mut candidates, candidate)?;
+    for _ in 0..s.unmade.len() {
+        if let Some(node) = left.first() {
+            left = left.without(node);
+            if let Some((made, turned)) = candidates_of(task, s, node) {
+                keep(&mut candidates, made)?;
+                keep(&mut candidates, turned)?;
+            }
         }
     }
     Ok(candidates)
@@ -145,12 +159,17 @@ impl Beam {
             now: Bucket::new(alloc),
             next: Bucket::new(alloc),
             after: Bucket::new(alloc),
-            ways: Vec::new(alloc),
-            ends: Vec::new(alloc),
+            ways: Ways::new(alloc)?,
+            ends: Ways::new(alloc)?,
             seen: vec![in alloc; None; MOST_SEEN]?,
+            aheads: vec![in alloc; None; MOST_AHEAD]?,
             breadth,
             width: breadth.width,
-            most,
+            most: if most < 0xFFFF_FFFF {
+                most as u32
+            } else {
+                u32::MAX
+            },
             tried: 0,
         };
         let start = Entry {
@@ -183,9 +202,25 @@ impl Beam {
         was_seen
     }
 
+    /// What is ahead of a state.
+    fn ahead_of(&mut self, task: &Task, state: &State) -> Ahead {
+        let place = state.unmade.hash() as usize % MOST_AHEAD;
+        let Some(known) = self.aheads.get_mut(place) else {
+            return Ahead::from(task, state);
+        };
+        match known {
+            Some(ahead) if ahead.unmade == state.unmade => *ahead,
+            _ => {
+                let ahead = Ahead::from(task, state);
+                *known = Some(ahead);
+                ahead
+            }
+        }
+    }
+
     /// Whether more commands than are looked for come to the end from this state.
-    fn is_too_far(&self, task: &Task, state: &State, spent: u32) -> bool {
-        spent.saturating_add(bound(task, state)) as usize > self.most
+    fn is_too_far(&self, ahead: &Ahead, state: &State, spent: u32) -> bool {
+        spent > self.most || ahead.is_above(state, self.most.saturating_sub(spent))
     }
 
     /// Keeps a state that a step has led to, where it is among the best and loses no value.
@@ -194,18 +229,19 @@ impl Beam {
         task: &Task,
         parent: &Entry,
         at: usize,
-        nodes: u32,
+        ahead: &Ahead,
         way: &Way,
     ) -> Result<(), NoMemory> {
         self.tried = self.tried.saturating_add(1);
-        if task.loses(&parent.state.cells, &way.state) {
-            return Ok(());
-        }
-        let state = task.cleared(&way.state);
         let spent = parent.spent.saturating_add(way.cmds.len());
-        if self.is_too_far(task, &state, spent) {
+        if self.is_too_far(ahead, &way.state, spent) {
             return Ok(());
         }
+        let wanted = ahead.read.or(task.named_by(way.state.unwritten));
+        if task.loses(&parent.state.cells, &way.state, wanted) {
+            return Ok(());
+        }
+        let state = task.cleared(&way.state, wanted);
         let mut entry = Entry {
             state,
             spent,
@@ -218,7 +254,7 @@ impl Beam {
             self.offer_again(task, entry, is_next);
             return Ok(());
         }
-        let points = estimate(task, &state, nodes);
+        let points = estimate(task, &state, ahead);
         entry.rank = spent.saturating_mul(20).saturating_add(points);
         self.offer(task, entry, is_next)
     }
@@ -247,15 +283,47 @@ impl Beam {
         task: &Task,
         parent: &Entry,
         at: usize,
-        nodes: u32,
+        ahead: &Ahead,
     ) -> Result<(), NoMemory> {
-        for k in 0..self.ends.len() {
-            if k < self.ends.len() {
-                let way = self.ends[k];
-                self.consider(task, parent, at, nodes, &way)?;
+        for k in 0..self.ends.list.len() {
+            if k < self.ends.list.len() {
+                let way = self.ends.list[k];
+                self.consider(task, parent, at, ahead, &way)?;
             }
         }
         Ok(())
+    }
+
+    /// Finds the ways that make a node after the one of this number, where its operands are in line
+    /// then. Where all of them are too far, they only count as tried.
+    fn find_ends(
+        &mut self,
+        task: &Task,
+        parent: &Entry,
+        ahead: &Ahead,
+        line_up: &LineUp,
+        number: usize,
+    ) -> Result<(), NoMemory> {
+        let Some(way) = self.ways.list.get(number).copied() else {
+            return Ok(());
+        };
+        if !line_up.is_ready(&way.state) {
+            return Ok(());
+        }
+        let after = line_up.activated(&way.state);
+        let spent = parent.spent.saturating_add(way.cmds.len());
+        // The activation is a command more, and may write an output.
+        let spent = if line_up.job.outs.is_empty() {
+            spent.saturating_add(1)
+        } else {
+            spent
+        };
+        if self.is_too_far(ahead, &after, spent) {
+            let count = line_up.end_count(task, &after, &mut self.ends);
+            self.tried = self.tried.saturating_add(count as usize);
+            return Ok(());
+        }
+        line_up.end(task, &way, &after, &mut self.ends)
     }
 
     /// Tries one line-up of a node.
@@ -264,15 +332,15 @@ impl Beam {
         task: &Task,
         parent: &Entry,
         at: usize,
-        nodes: u32,
+        ahead: &Ahead,
         line_up: &LineUp,
     ) -> Result<(), NoMemory> {
         line_up.ways(task, &parent.state, &mut self.ways)?;
-        self.ends.clear();
-        for way in &self.ways {
-            line_up.end(task, way, &mut self.ends)?;
+        self.ends.list.clear();
+        for number in 0..self.ways.list.len() {
+            self.find_ends(task, parent, ahead, line_up, number)?;
         }
-        self.consider_ends(task, parent, at, nodes)
+        self.consider_ends(task, parent, at, ahead)
     }
 
     /// Tries the line-ups of a node that lack least, until so many states have been tried.
@@ -286,12 +354,23 @@ impl Beam {
     ) -> Result<(), NoMemory> {
         let mut made = parent.state;
         made.unmade = made.unmade.without(candidate.node);
-        let nodes = points_of_nodes(task, &made);
+        if self.tried >= most {
+            return Ok(());
+        }
+        let ahead = self.ahead_of(task, &made);
+        let named = task.named_by(parent.state.unwritten);
+        let job = Job {
+            node: candidate.node,
+            sensed: candidate.sensed,
+            outs: task.outs_of(candidate.sensed).and(parent.state.unwritten),
+            wanted: task.read_by(parent.state.unmade).or(named),
+            wanted_after: ahead.read.or(named),
+        };
         for number in 0..24u8 {
-            let line_up = LineUp::new(number, candidate.node, candidate.operands, candidate.sensed);
+            let line_up = LineUp::new(number, &job, candidate.operands);
             let missing = lacking(&line_up.want, &parent.state.cells).len();
             if missing == candidate.missing && self.tried < most {
-                self.try_line_up(task, parent, at, nodes, &line_up)?;
+                self.try_line_up(task, parent, at, &ahead, &line_up)?;
             }
         }
         Ok(())
@@ -317,12 +396,12 @@ impl Beam {
 
     /// Tries to write each output.
     fn try_writes(&mut self, task: &Task, parent: &Entry, at: usize) -> Result<(), NoMemory> {
-        self.ends.clear();
+        self.ends.list.clear();
         for j in 0..8u8 {
-            writes(task, &parent.state, j, &mut self.ends)?;
+            writes(task, &parent.state, j, &mut self.ends.list)?;
         }
-        let nodes = points_of_nodes(task, &parent.state);
-        self.consider_ends(task, parent, at, nodes)
+        let ahead = self.ahead_of(task, &parent.state);
+        self.consider_ends(task, parent, at, &ahead)
     }
 
     /// Tries the steps from one state, of the nodes with the most operands in place first.
@@ -365,7 +444,7 @@ impl Beam {
     /// Whether no state may come to so many commands or fewer.
     fn is_over(&self) -> bool {
         match self.now.best() {
-            Some(best) => best.is_over(self.most),
+            Some(best) => best.is_over(self.most as usize),
             None => self.next.best().is_none(),
         }
     }

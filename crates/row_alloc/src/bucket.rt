@@ -39,6 +39,31 @@ impl Entry {
     }
 }
 
+/// The place of the entry with the greatest estimate, and the estimate.
+#[derive(Clone, Copy)]
+struct Worst {
+    place: usize,
+    rank: u32,
+}
+
+impl Worst {
+    /// None so far.
+    fn new() -> Worst {
+        Worst { place: 0, rank: 0 }
+    }
+}
+
+/// What stands beside a new entry: whether one covers it, and whether it covers one; how many have
+/// the same nodes to make and the same outputs to write, and the worst of these and of all.
+#[derive(Clone, Copy)]
+struct View {
+    is_covered: bool,
+    covers: bool,
+    akin: usize,
+    worst_akin: Worst,
+    worst: Worst,
+}
+
 /// The best states after as many steps, and the best of those whose values all stand in rows, from
 /// which every node can be made.
 pub struct Bucket {
@@ -57,26 +82,6 @@ impl Bucket {
         Bucket {
             kept: Vec::new(alloc),
             safe: None,
-        }
-    }
-
-    /// The place of the entry that a new one replaces: that of the same state, else the worst.
-    fn place_for(&self, new: &Entry, width: usize) -> usize {
-        let mut place = 0;
-        let mut rank = 0;
-        for (k, entry) in self.kept.iter().enumerate() {
-            if entry.state == new.state {
-                return k;
-            }
-            if entry.rank > rank {
-                place = k;
-                rank = entry.rank;
-            }
-        }
-        if self.kept.len() < usize::max(width, 1) {
-            self.kept.len()
-        } else {
-            place
         }
     }
 
@@ -125,11 +130,6 @@ impl Bucket {
         best
     }
 
-    /// Whether an entry can go on as the new one can, after no more commands.
-    fn has_better(&self, new: &Entry) -> bool {
-        self.kept.iter().any(|entry| entry.covers(new))
-    }
-
     /// Drops the entries that the new one covers.
     fn drop_covered(&mut self, new: &Entry) {
         let mut place = self.kept.len();
@@ -141,41 +141,54 @@ impl Bucket {
         }
     }
 
-    /// How many entries have the same nodes to make and the same outputs to write.
-    fn akin_count(&self, new: &Entry) -> usize {
-        let mut count = 0usize;
-        for entry in &self.kept {
-            if entry.is_akin(new) {
-                count = count.saturating_add(1);
-            }
-        }
-        count
-    }
-
-    /// The place of the worst of those.
-    fn worst_akin(&self, new: &Entry) -> usize {
-        let mut place = self.kept.len();
-        let mut rank = 0;
+    /// What there is beside a new entry.
+    fn view(&self, new: &Entry) -> View {
+        let mut view = View {
+            is_covered: false,
+            covers: false,
+            akin: 0,
+            worst_akin: Worst::new(),
+            worst: Worst::new(),
+        };
         for (k, entry) in self.kept.iter().enumerate() {
-            if entry.is_akin(new) && entry.rank >= rank {
-                place = k;
-                rank = entry.rank;
+            if entry.is_akin(new) {
+                view.is_covered |= entry.covers(new);
+                view.covers |= new.covers(entry);
+                view.akin = view.akin.saturating_add(1);
+                if entry.rank >= view.worst_akin.rank {
+                    view.worst_akin = Worst {
+                        place: k,
+                        rank: entry.rank,
+                    };
+                }
+            }
+            if entry.rank > view.worst.rank {
+                view.worst = Worst {
+                    place: k,
+                    rank: entry.rank,
+                };
             }
         }
-        place
+        view
     }
 
     /// Keeps the entry, where it is among the best. Of those with the same nodes to make and the
     /// same outputs to write at most half the width stay.
     pub fn offer(&mut self, task: &Task, new: Entry, width: usize) -> Result<(), NoMemory> {
-        if self.has_better(&new) {
+        let mut view = self.view(&new);
+        if view.is_covered {
             return Ok(());
         }
-        self.drop_covered(&new);
-        let place = if self.akin_count(&new) >= usize::max(width / 2, 1) {
-            self.worst_akin(&new)
+        if view.covers {
+            self.drop_covered(&new);
+            view = self.view(&new);
+        }
+        let place = if view.akin >= usize::max(width / 2, 1) {
+            view.worst_akin.place
+        } else if self.kept.len() < usize::max(width, 1) {
+            self.kept.len()
         } else {
-            self.place_for(&new, width)
+            view.worst.place
         };
         if place >= self.kept.len() {
             return keep(&mut self.kept, new);

@@ -3,7 +3,8 @@
 ghost use Rattle.std.specs.Prelude.{◌<◌};
 
 use crate::set::Set;
-use mig_graph::Lit;
+use mig_graph::{Lit, NoMemory};
+use std::alloc::Global;
 
 /// A literal of a body's graph, or none: twice the number of its node, and one more where it is
 /// inverted.
@@ -102,6 +103,11 @@ impl Cells {
     pub fn with(self, set: Set, l: Short) -> Cells {
         let mask = spread(set.0);
         Cells(self.0 & !mask | u64::from(l.0).wrapping_mul(LOW) & mask)
+    }
+
+    /// The cells that hold other literals than these.
+    pub fn unlike(self, other: Cells) -> Set {
+        Set(gathered(not_zero(self.0 ^ other.0)) & 0x3F)
     }
 
     /// The cells of which something is known.
@@ -211,14 +217,14 @@ pub fn reader(cells: &Cells, l: Short) -> Option<u8> {
 /// A literal that is to be put into cells: what each address would change, and the lines of the
 /// cells in use.
 #[derive(Clone, Copy)]
-pub struct Fill {
+struct Fill {
     changes: [u32; 16],
     used: u32,
 }
 
 impl Fill {
     /// Of a literal that stands there, while these cells are free to take it.
-    pub fn new(there: Lines, free: Set) -> Fill {
+    fn new(there: Lines, free: Set) -> Fill {
         let mut changes = RAISED;
         for y in 0..16usize {
             changes[y] &= !there.0;
@@ -235,7 +241,7 @@ impl Fill {
     }
 
     /// Whether the address changes a cell, and no other does the same and fills more free cells.
-    pub fn is_worth(&self, y: u8) -> bool {
+    fn is_worth(&self, y: u8) -> bool {
         let mine = match self.changes.get(y as usize) {
             Some(mine) => *mine,
             None => 0,
@@ -251,14 +257,74 @@ impl Fill {
         }
         true
     }
+
+    /// The addresses that are worth it.
+    fn worth(&self) -> Set {
+        let mut worth = Set(0);
+        for y in 0..16u8 {
+            if self.is_worth(y) {
+                worth = worth.with(y);
+            }
+        }
+        worth
+    }
 }
 
-/// Whether the address raises the cell's n-wordline, or else its d-wordline.
-pub fn raises(y: u8, k: u8, complemented: bool) -> bool {
-    let lines = lines_of(y);
-    if complemented {
-        lines.complemented().has(k)
-    } else {
-        lines.straight().has(k)
+/// How many cases of a fill there are: which wordlines give the literal, and which cells are free.
+const FILLS: usize = 1 << 14;
+
+/// The addresses that are worth a fill, for each case in which they were asked for, else 0.
+pub struct Fills {
+    worth: Vec<u16>,
+}
+
+impl Drop for Fills {
+    fn drop(self) {
+        let Fills { worth: _ } = self;
+    }
+}
+
+impl Fills {
+    pub fn new(alloc: Global) -> Result<Fills, NoMemory> {
+        Ok(Fills {
+            worth: vec![in alloc; 0; FILLS]?,
+        })
+    }
+
+    /// The addresses that change a cell, where no other does the same and fills more free cells,
+    /// for a literal that stands there while these cells are free.
+    pub fn worth(&mut self, there: Lines, free: Set) -> Set {
+        let lines = there.0 & 0x3F | (there.0 >> 12 & 3) << 6;
+        let case = (lines | (free.0 & 0x3F) << 8) as usize;
+        let Some(known) = self.worth.get_mut(case) else {
+            return Set(0);
+        };
+        if *known == 0 {
+            *known = (Fill::new(there, free).worth().0 & 0xFFFF) as u16;
+        }
+        Set(u32::from(*known))
+    }
+}
+
+/// The addresses that raise the d-wordline of each cell.
+static RAISING: [u32; 6] = [
+    0b1001_1001_0000_0001,
+    0b0111_0010_0000_0010,
+    0b0111_0100_0000_0100,
+    0b1010_1100_0000_1000,
+    0b0100_0000_0001_0000,
+    0b1000_0000_0100_0000,
+];
+
+/// The addresses that raise the cell's n-wordline, or else its d-wordline.
+pub fn raising(k: u8, complemented: bool) -> Set {
+    match (k, complemented) {
+        (4, true) => Set(0b1_0010_0000),
+        (5, true) => Set(0b10_1000_0000),
+        (_, true) => Set(0),
+        (_, false) => match RAISING.get(k as usize) {
+            Some(addresses) => Set(*addresses),
+            None => Set(0),
+        },
     }
 }

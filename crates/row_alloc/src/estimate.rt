@@ -4,8 +4,8 @@
 //! were moved, and a move stayed where the bodies took no more commands. docs/SEARCH.md says how.
 
 use crate::cells::{Short, holders, lacking};
-use crate::outlook::{State, Task, bit, in_place};
-use crate::set::Set;
+use crate::outlook::{State, Task, in_place};
+use crate::set::{Nodes, Set};
 
 /// A node that must still be made.
 const NODE: u32 = 65;
@@ -116,7 +116,7 @@ fn node_points(task: &Task, s: &State, [a, b, c]: [Short; 3]) -> u32 {
 }
 
 /// The nodes that must still be made, wherever the values stand.
-pub fn points_of_nodes(task: &Task, s: &State) -> u32 {
+fn points_of_nodes(task: &Task, s: &State) -> u32 {
     let mut points = 0u32;
     for (k, operands) in task.nodes().iter().enumerate() {
         if k < 32 && s.unmade.has(k as u8) {
@@ -295,39 +295,77 @@ fn points_of_left(task: &Task, s: &State) -> u32 {
     points
 }
 
-/// The whole estimate, where that of the nodes is known.
-pub fn estimate(task: &Task, s: &State, nodes: u32) -> u32 {
-    nodes
+/// The whole estimate, where what is ahead is known.
+pub fn estimate(task: &Task, s: &State, ahead: &Ahead) -> u32 {
+    ahead
+        .points
         .saturating_add(points_of_outputs(task, s))
         .saturating_add(points_of_cells(task, s))
         .saturating_add(points_of_left(task, s))
         .saturating_sub(gains(task, s))
 }
 
-/// How many outputs of nodes that are made must still be written.
-fn writes_left(task: &Task, s: &State) -> u32 {
-    let mut count = 0u32;
-    for (j, out) in task.outs().iter().enumerate() {
-        if j < 8 && s.unwritten.has(j as u8) && !task.is_unmade(s, out.node()) {
-            count = count.saturating_add(1);
-        }
-    }
-    count
+/// What depends on nothing but which nodes must still be made.
+#[derive(Clone, Copy)]
+pub struct Ahead {
+    /// These nodes.
+    pub unmade: Set,
+    /// Their points.
+    points: u32,
+    /// The nodes that they read, or that are left in cells.
+    pub read: Nodes,
+    /// The inputs and constants that they read from their rows.
+    loads: Nodes,
+    /// The outputs of the other nodes.
+    given: Set,
 }
 
-/// A number of commands that the beam's steps take at least from a state: one for each node, one
-/// for the first load of each input or constant that stands in no cell, and one for each output of
-/// a node that is made.
-pub fn bound(task: &Task, s: &State) -> u32 {
-    let mut loads = task.sources(s);
-    for k in 0..6u8 {
-        let l = s.cells.get(k);
-        if l.is_some() {
-            loads &= !bit(l.node());
+/// The outputs of nodes that are made.
+fn given_outs(task: &Task, s: &State) -> Set {
+    let mut given = Set(0);
+    for (j, out) in task.outs().iter().enumerate() {
+        if j < 8 && !task.is_unmade(s, out.node()) {
+            given = given.with(j as u8);
         }
     }
-    s.unmade
-        .len()
-        .saturating_add(loads.count_ones())
-        .saturating_add(writes_left(task, s))
+    given
+}
+
+impl Ahead {
+    /// Of the nodes that must still be made from a state.
+    pub fn from(task: &Task, s: &State) -> Ahead {
+        Ahead {
+            unmade: s.unmade,
+            points: points_of_nodes(task, s),
+            read: task.read_by(s.unmade),
+            loads: task.loads_by(s.unmade),
+            given: given_outs(task, s),
+        }
+    }
+
+    /// A number of commands that the beam's steps take at least from a state: one for each node,
+    /// one for the first load of each input or constant that stands in no cell, and one for each
+    /// output of a node that is made.
+    fn bound(&self, s: &State) -> u32 {
+        let mut loads = self.loads;
+        for k in 0..6u8 {
+            loads = loads.without(s.cells.get(k).node());
+        }
+        self.least(s).saturating_add(loads.len())
+    }
+
+    /// The same without the loads.
+    fn least(&self, s: &State) -> u32 {
+        let writes = self.given.and(s.unwritten).len();
+        self.unmade.len().saturating_add(writes)
+    }
+
+    /// Whether the bound is above so many commands.
+    pub fn is_above(&self, s: &State, most: u32) -> bool {
+        let least = self.least(s);
+        if least > most {
+            return true;
+        }
+        least.saturating_add(self.loads.len()) > most && self.bound(s) > most
+    }
 }

@@ -2,11 +2,12 @@
 
 use crate::body::BodyCmd::{self, Aap, Ap};
 use crate::body::BodyRef::{B, Out, Spill};
-use crate::cells::{Cells, Fill, NONE, Short, address_of, driven, holders, lacking, raises};
-use crate::outlook::{State, Task};
-use crate::set::Set;
+use crate::cells::{Cells, Fills, NONE, Short, address_of, driven, holders, lacking, raising};
+use crate::outlook::{State, Task, free_cells};
+use crate::set::{Nodes, Set};
 use faults::keep;
 use mig_graph::NoMemory;
+use std::alloc::Global;
 
 /// The most ways that are tried to bring the operands of a node in line.
 const MOST_WAYS: usize = 20;
@@ -78,13 +79,64 @@ impl Way {
     }
 }
 
-/// One way to line up a node: what the cells of a triple should hold, and what is sensed then.
+/// Ways that were found, and which addresses were worth a fill on the way.
+pub struct Ways {
+    pub list: Vec<Way>,
+    fills: Fills,
+}
+
+impl Drop for Ways {
+    fn drop(self) {
+        let Ways { list: _, fills: _ } = self;
+    }
+}
+
+impl Ways {
+    pub fn new(alloc: Global) -> Result<Ways, NoMemory> {
+        Ok(Ways {
+            list: Vec::new(alloc),
+            fills: Fills::new(alloc)?,
+        })
+    }
+
+    /// The addresses that are worth it to put the literal into cells of a state.
+    fn worth(&mut self, s: &State, l: Short, free: Set) -> Set {
+        self.fills.worth(holders(&s.cells, l), free)
+    }
+
+    /// Puts a way after the others, where there is room and none has led to the same state.
+    fn add(&mut self, way: Way) -> Result<(), NoMemory> {
+        if self.list.len() >= MOST_WAYS {
+            return Ok(());
+        }
+        for other in self.list.iter() {
+            if other.state == way.state && other.saved == way.saved {
+                return Ok(());
+            }
+        }
+        keep(&mut self.list, way)
+    }
+}
+
+/// A node to be made from a state: itself or its complement.
+#[derive(Clone, Copy)]
+pub struct Job {
+    pub node: u8,
+    /// What the triple senses.
+    pub sensed: Short,
+    /// The outputs that are this and must still be written.
+    pub outs: Set,
+    /// The nodes that are wanted until it is made, and from then on.
+    pub wanted: Nodes,
+    pub wanted_after: Nodes,
+}
+
+/// One way to line up a node: what the cells of a triple should hold.
 #[derive(Clone, Copy)]
 pub struct LineUp {
-    pub node: u8,
+    pub job: Job,
     pub triple: u8,
     pub want: Cells,
-    pub sensed: Short,
 }
 
 /// The three literals in the cells of B12 to B15.
@@ -116,14 +168,13 @@ pub fn complemented([a, b, c]: [Short; 3]) -> [Short; 3] {
 
 impl LineUp {
     /// The line-up of this number below 24, for the node's literals or their complements.
-    pub fn new(number: u8, node: u8, operands: [Short; 3], sensed: Short) -> LineUp {
+    pub fn new(number: u8, job: &Job, operands: [Short; 3]) -> LineUp {
         let triple = 12 + number / 6 % 4;
         let want = placed(triple, ordered(number % 6, operands));
         LineUp {
-            node,
+            job: *job,
             triple,
             want,
-            sensed,
         }
     }
 
@@ -134,10 +185,10 @@ impl LineUp {
     }
 
     /// The state after the triple is activated.
-    fn activated(&self, s: &State) -> State {
+    pub fn activated(&self, s: &State) -> State {
         let mut after = *s;
-        after.cells = s.cells.with(self.want.known(), self.sensed);
-        after.unmade = s.unmade.without(self.node);
+        after.cells = s.cells.with(self.want.known(), self.job.sensed);
+        after.unmade = s.unmade.without(self.job.node);
         after
     }
 
@@ -147,13 +198,16 @@ impl LineUp {
         if !lacks.minus(lacked).is_empty() {
             return false;
         }
-        for k in 0..6u8 {
-            let l = self.want.get(k);
-            if lacks.has(k)
-                && task.source(s, l).is_none()
-                && (k < 4 || task.source(s, l.complement()).is_none())
-            {
-                return false;
+        let mut left = lacks;
+        for _ in 0..lacks.len() {
+            if let Some(k) = left.first() {
+                left = left.without(k);
+                let l = self.want.get(k);
+                if task.source(s, l).is_none()
+                    && (k < 4 || task.source(s, l.complement()).is_none())
+                {
+                    return false;
+                }
             }
         }
         true
@@ -167,20 +221,21 @@ impl LineUp {
         k: u8,
         is_complemented: bool,
         l: Short,
-        ways: &mut Vec<Way>,
+        ways: &mut Ways,
     ) -> Result<(), NoMemory> {
         let Some(from) = task.source(&way.state, l) else {
             return Ok(());
         };
         let lacked = lacking(&self.want, &way.state.cells);
-        let free = task.free_cells(&way.state).or(lacked);
-        let fill = Fill::new(holders(&way.state.cells, l), free);
+        let free = free_cells(&way.state.cells, self.job.wanted).or(lacked);
+        let worth = ways.worth(&way.state, l, free);
+        let addresses = worth.and(raising(k, is_complemented));
         for y in 0..16u8 {
-            if raises(y, k, is_complemented) && fill.is_worth(y) {
+            if addresses.has(y) {
                 let mut state = way.state;
                 state.cells = driven(&state.cells, y, l);
                 if self.fits(task, lacked, &state) {
-                    add(ways, way.then(state, Aap(from, B(y))))?;
+                    ways.add(way.then(state, Aap(from, B(y))))?;
                 }
             }
         }
@@ -188,7 +243,7 @@ impl LineUp {
     }
 
     /// The ways that go on by a load of this cell.
-    fn loads(&self, task: &Task, way: &Way, k: u8, ways: &mut Vec<Way>) -> Result<(), NoMemory> {
+    fn loads(&self, task: &Task, way: &Way, k: u8, ways: &mut Ways) -> Result<(), NoMemory> {
         let Some(l) = self.wanted_of(k) else {
             return Ok(());
         };
@@ -203,9 +258,11 @@ impl LineUp {
     /// a literal that no row has comes before the others, since their loads may take its cells.
     fn next_to_load(&self, task: &Task, s: &State) -> Option<u8> {
         let lacks = lacking(&self.want, &s.cells);
+        if !task.holds_states() {
+            return lacks.first();
+        }
         for k in 0..6u8 {
-            let node = self.want.get(k).node();
-            if task.holds_states() && lacks.has(k) && !task.is_in_rows(s, node) {
+            if lacks.has(k) && !task.is_in_rows(s, self.want.get(k).node()) {
                 return Some(k);
             }
         }
@@ -215,21 +272,21 @@ impl LineUp {
     /// The ways that go on by a copy of one cell of the triple to cells outside of it.
     fn save_in_cells(
         &self,
-        task: &Task,
         way: &Way,
         from: u8,
         l: Short,
-        ways: &mut Vec<Way>,
+        ways: &mut Ways,
     ) -> Result<(), NoMemory> {
-        let fill = Fill::new(holders(&way.state.cells, l), task.free_cells(&way.state));
+        let free = free_cells(&way.state.cells, self.job.wanted);
+        let worth = ways.worth(&way.state, l, free);
         for y in 0..16u8 {
-            if fill.is_worth(y) {
+            if worth.has(y) {
                 let mut state = way.state;
                 state.cells = driven(&state.cells, y, l);
                 if lacking(&self.want, &state.cells).is_empty() {
                     let mut next = way.then(state, Aap(B(from), B(y)));
                     next.saved = true;
-                    add(ways, next)?;
+                    ways.add(next)?;
                 }
             }
         }
@@ -243,29 +300,29 @@ impl LineUp {
         way: &Way,
         k: u8,
         inverted: bool,
-        ways: &mut Vec<Way>,
+        ways: &mut Ways,
     ) -> Result<(), NoMemory> {
         let (Some(l), Some(from)) = (self.wanted_of(k), address_of(k, inverted)) else {
             return Ok(());
         };
         let l = if inverted { l.complement() } else { l };
-        self.save_in_cells(task, way, from, l, ways)?;
+        self.save_in_cells(way, from, l, ways)?;
         if let Some(spill) = task.spill_of(l) {
             let mut state = way.state;
             state.spilled = state.spilled.with(spill);
             let mut next = way.then(state, Aap(B(from), Spill(spill)));
             next.saved = true;
-            add(ways, next)?;
+            ways.add(next)?;
         }
         Ok(())
     }
 
     /// The ways that go on by saving a value of the triple that its activation would lose.
-    fn saves(&self, task: &Task, way: &Way, ways: &mut Vec<Way>) -> Result<(), NoMemory> {
+    fn saves(&self, task: &Task, way: &Way, ways: &mut Ways) -> Result<(), NoMemory> {
         let after = self.activated(&way.state);
         for k in 0..6u8 {
             let l = self.want.get(k);
-            if l.is_some() && task.is_lost(&after, l.node()) {
+            if l.is_some() && task.is_lost(&after, self.job.wanted_after, l.node()) {
                 self.save(task, way, k, false, ways)?;
                 self.save(task, way, k, true, ways)?;
             }
@@ -274,7 +331,7 @@ impl LineUp {
     }
 
     /// The ways that go on by one command, where the triple is not yet ready.
-    fn go_on(&self, task: &Task, way: &Way, ways: &mut Vec<Way>) -> Result<(), NoMemory> {
+    fn go_on(&self, task: &Task, way: &Way, ways: &mut Ways) -> Result<(), NoMemory> {
         match self.next_to_load(task, &way.state) {
             Some(k) => self.loads(task, way, k, ways),
             None if !way.saved => self.saves(task, way, ways),
@@ -283,59 +340,88 @@ impl LineUp {
     }
 
     /// The ways by which the operands are brought in line, and what leads to them.
-    pub fn ways(&self, task: &Task, s: &State, ways: &mut Vec<Way>) -> Result<(), NoMemory> {
-        ways.clear();
-        keep(ways, Way::from(*s))?;
+    pub fn ways(&self, task: &Task, s: &State, ways: &mut Ways) -> Result<(), NoMemory> {
+        ways.list.clear();
+        keep(&mut ways.list, Way::from(*s))?;
         for k in 0..MOST_WAYS {
-            if k >= ways.len() {
+            if k >= ways.list.len() {
                 break;
             }
-            let way = ways[k];
+            let way = ways.list[k];
             self.go_on(task, &way, ways)?;
         }
         Ok(())
     }
 
+    /// The addresses that are worth it for what is sensed.
+    fn worth_after(&self, after: &State, ends: &mut Ways) -> Set {
+        let free = free_cells(&after.cells, self.job.wanted_after);
+        ends.worth(after, self.job.sensed, free)
+    }
+
+    /// Whether the operands are in line.
+    pub fn is_ready(&self, s: &State) -> bool {
+        lacking(&self.want, &s.cells).is_empty()
+    }
+
+    /// How many ways make the node where its operands are in line, with this state after it.
+    pub fn end_count(&self, task: &Task, after: &State, ends: &mut Ways) -> u32 {
+        let worth = self.worth_after(after, ends);
+        let spills = task.spill_of(self.job.sensed).is_some() as u32;
+        let rows = self.job.outs.len().saturating_add(spills);
+        worth.len().saturating_add(rows).saturating_add(1)
+    }
+
     /// The ways that end by the activation, alone or with an address that takes what is sensed.
-    fn end_in_cells(&self, task: &Task, way: &Way, ends: &mut Vec<Way>) -> Result<(), NoMemory> {
-        let after = self.activated(&way.state);
-        keep(ends, way.then(after, Ap(B(self.triple))))?;
-        let fill = Fill::new(holders(&after.cells, self.sensed), task.free_cells(&after));
+    fn end_in_cells(&self, way: &Way, after: &State, ends: &mut Ways) -> Result<(), NoMemory> {
+        keep(&mut ends.list, way.then(*after, Ap(B(self.triple))))?;
+        let worth = self.worth_after(after, ends);
         for y in 0..16u8 {
-            if fill.is_worth(y) {
-                let mut state = after;
-                state.cells = driven(&state.cells, y, self.sensed);
-                keep(ends, way.then(state, Aap(B(self.triple), B(y))))?;
+            if worth.has(y) {
+                let mut state = *after;
+                state.cells = driven(&state.cells, y, self.job.sensed);
+                keep(&mut ends.list, way.then(state, Aap(B(self.triple), B(y))))?;
             }
         }
         Ok(())
     }
 
     /// The ways that end by an activation that an output or the node's spill row takes.
-    fn end_in_rows(&self, task: &Task, way: &Way, ends: &mut Vec<Way>) -> Result<(), NoMemory> {
-        let after = self.activated(&way.state);
-        if let Some(spill) = task.spill_of(self.sensed) {
-            let mut state = after;
+    fn end_in_rows(
+        &self,
+        task: &Task,
+        way: &Way,
+        after: &State,
+        ends: &mut Ways,
+    ) -> Result<(), NoMemory> {
+        if let Some(spill) = task.spill_of(self.job.sensed) {
+            let mut state = *after;
             state.spilled = state.spilled.with(spill);
-            keep(ends, way.then(state, Aap(B(self.triple), Spill(spill))))?;
+            keep(
+                &mut ends.list,
+                way.then(state, Aap(B(self.triple), Spill(spill))),
+            )?;
         }
         for j in 0..8u8 {
-            if after.unwritten.has(j) && task.output(j) == Some(self.sensed) {
-                let mut state = after;
+            if self.job.outs.has(j) {
+                let mut state = *after;
                 state.unwritten = state.unwritten.without(j);
-                keep(ends, way.then(state, Aap(B(self.triple), Out(j))))?;
+                keep(&mut ends.list, way.then(state, Aap(B(self.triple), Out(j))))?;
             }
         }
         Ok(())
     }
 
-    /// The ways that make the node, where its operands are in line.
-    pub fn end(&self, task: &Task, way: &Way, ends: &mut Vec<Way>) -> Result<(), NoMemory> {
-        if !lacking(&self.want, &way.state.cells).is_empty() {
-            return Ok(());
-        }
-        self.end_in_cells(task, way, ends)?;
-        self.end_in_rows(task, way, ends)
+    /// The ways that make the node where its operands are in line, with this state after it.
+    pub fn end(
+        &self,
+        task: &Task,
+        way: &Way,
+        after: &State,
+        ends: &mut Ways,
+    ) -> Result<(), NoMemory> {
+        self.end_in_cells(way, after, ends)?;
+        self.end_in_rows(task, way, after, ends)
     }
 }
 
@@ -379,14 +465,16 @@ pub fn writes(task: &Task, s: &State, j: u8, ends: &mut Vec<Way>) -> Result<(), 
 /// The way that goes on by a load of one cell, and leaves the fewest of the cells at exit lacking.
 fn fill_by(task: &Task, way: &Way, k: u8, is_complemented: bool, l: Short) -> Option<Way> {
     let from = task.source(&way.state, l)?;
+    let wanted = task.wanted(&way.state);
+    let addresses = raising(k, is_complemented);
     let mut best = None;
     let mut least = lacking(task.leave(), &way.state.cells).len();
     for y in 0..16u8 {
-        if raises(y, k, is_complemented) {
+        if addresses.has(y) {
             let mut state = way.state;
             state.cells = driven(&state.cells, y, l);
             let lacks = lacking(task.leave(), &state.cells).len();
-            if lacks < least && !task.loses(&way.state.cells, &state) {
+            if lacks < least && !task.loses(&way.state.cells, &state, wanted) {
                 least = lacks;
                 best = Some(way.then(state, Aap(from, B(y))));
             }
@@ -416,17 +504,4 @@ pub fn fill_left(task: &Task, s: &State) -> Option<Way> {
         }
     }
     None
-}
-
-/// Puts a way after the others, where there is room and none has led to the same state.
-fn add(ways: &mut Vec<Way>, way: Way) -> Result<(), NoMemory> {
-    if ways.len() >= MOST_WAYS {
-        return Ok(());
-    }
-    for other in ways.iter() {
-        if other.state == way.state && other.saved == way.saved {
-            return Ok(());
-        }
-    }
-    keep(ways, way)
 }

@@ -5,7 +5,7 @@ use crate::body::BodyRef::{self, B, C, In, Out, Spill};
 use crate::body::{Held, OutRow};
 use crate::cells::{Cells, NONE, Short, has_node, holders, lacking, reader};
 use crate::layout::{LAYOUT_COUNT, layout};
-use crate::set::Set;
+use crate::set::{Nodes, Set};
 use dram_model::{Cell, Line};
 use faults::keep;
 use mig_graph::{Mig, NoMemory};
@@ -71,8 +71,12 @@ pub struct Task {
     uses: Vec<Uses>,
     /// The inputs in whose rows outputs stand.
     taken: Vec<u8>,
+    /// For each majority node the nodes that it reads.
+    reads: Vec<Nodes>,
     /// For each majority node the inputs and constants that it reads from their rows.
-    sources: Vec<u128>,
+    loads: Vec<Nodes>,
+    /// The nodes that are left in cells at exit.
+    left: Nodes,
     /// What the cells hold at entry.
     enter: Cells,
     /// What the cells are to hold at exit.
@@ -87,7 +91,9 @@ impl Drop for Task {
             outs: _,
             uses: _,
             taken: _,
-            sources: _,
+            reads: _,
+            loads: _,
+            left: _,
             enter: _,
             leave: _,
         } = self;
@@ -184,9 +190,39 @@ fn cells_of(held: &[Held]) -> Cells {
     cells
 }
 
-/// The set with the node alone.
-pub fn bit(node: u8) -> u128 {
-    if node < 128 { 1 << node } else { 0 }
+/// The nodes of three literals.
+fn nodes_in(operands: [Short; 3]) -> Nodes {
+    let mut nodes = Nodes(0);
+    for l in operands {
+        if l.is_some() {
+            nodes = nodes.with(l.node());
+        }
+    }
+    nodes
+}
+
+/// The nodes of these literals.
+fn nodes_held(held: &[Held]) -> Nodes {
+    let mut nodes = Nodes(0);
+    for h in held {
+        nodes = nodes.with(Short::of(h.lit).node());
+    }
+    nodes
+}
+
+/// Those of the sets whose numbers are in another one, in one set.
+fn joined(sets: &[Nodes], numbers: Set) -> Nodes {
+    let mut left = numbers;
+    let mut all = Nodes(0);
+    for _ in 0..numbers.len() {
+        if let Some(k) = left.first() {
+            left = left.without(k);
+            if let Some(nodes) = sets.get(k as usize) {
+                all = all.or(*nodes);
+            }
+        }
+    }
+    all
 }
 
 /// Whether one of the literals is the node or its complement.
@@ -209,7 +245,9 @@ impl Task {
             outs: literals_of(outs, alloc)?,
             uses: Vec::new(alloc),
             taken: taken_of(outs, alloc)?,
-            sources: Vec::new(alloc),
+            reads: Vec::new(alloc),
+            loads: Vec::new(alloc),
+            left: nodes_held(leave),
             enter: cells_of(enter),
             leave: cells_of(leave),
         };
@@ -225,8 +263,10 @@ impl Task {
         }
         for k in 0..task.nodes.len() {
             if k < task.nodes.len() {
-                let sources = task.sources_of(task.nodes[k]);
-                keep(&mut task.sources, sources)?;
+                let operands = task.nodes[k];
+                let loads = task.loads_of(operands);
+                keep(&mut task.reads, nodes_in(operands))?;
+                keep(&mut task.loads, loads)?;
             }
         }
         Ok(task)
@@ -260,6 +300,17 @@ impl Task {
     /// The literal of an output.
     pub fn output(&self, j: u8) -> Option<Short> {
         self.outs.get(j as usize).copied()
+    }
+
+    /// The outputs that are this literal.
+    pub fn outs_of(&self, l: Short) -> Set {
+        let mut set = Set(0);
+        for (j, out) in self.outs.iter().enumerate() {
+            if j < 8 && *out == l {
+                set = set.with(j as u8);
+            }
+        }
+        set
     }
 
     /// The spill row of a majority node that is not complemented.
@@ -374,35 +425,62 @@ impl Task {
         Some(B(y))
     }
 
-    /// Whether the node is wanted and stands nowhere any more.
-    pub fn is_lost(&self, s: &State, node: u8) -> bool {
-        self.is_wanted(s, node) && !has_node(&s.cells, node) && !self.is_in_rows(s, node)
+    /// The nodes that these majority nodes read, or that are left in cells.
+    pub fn read_by(&self, unmade: Set) -> Nodes {
+        joined(&self.reads, unmade).or(self.left)
+    }
+
+    /// The nodes of these outputs.
+    pub fn named_by(&self, unwritten: Set) -> Nodes {
+        let mut nodes = Nodes(0);
+        for (j, out) in self.outs.iter().enumerate() {
+            if j < 8 && unwritten.has(j as u8) {
+                nodes = nodes.with(out.node());
+            }
+        }
+        nodes
+    }
+
+    /// The nodes that are wanted.
+    pub fn wanted(&self, s: &State) -> Nodes {
+        self.read_by(s.unmade).or(self.named_by(s.unwritten))
+    }
+
+    /// Whether the node is among those that are wanted, and stands nowhere any more.
+    pub fn is_lost(&self, s: &State, wanted: Nodes, node: u8) -> bool {
+        wanted.has(node) && !has_node(&s.cells, node) && !self.is_in_rows(s, node)
     }
 
     /// Whether a value is lost that stood in the cells.
-    fn loses_cell(&self, before: &Cells, s: &State) -> bool {
-        for k in 0..6u8 {
-            let l = before.get(k);
-            if l.is_some() && self.is_lost(s, l.node()) {
-                return true;
+    fn loses_cell(&self, before: &Cells, s: &State, wanted: Nodes) -> bool {
+        let changed = before.unlike(s.cells);
+        let mut left = changed;
+        for _ in 0..changed.len() {
+            if let Some(k) = left.first() {
+                left = left.without(k);
+                let l = before.get(k);
+                if l.is_some() && self.is_lost(s, wanted, l.node()) {
+                    return true;
+                }
             }
         }
         false
     }
 
     /// Whether an output has taken the row of an input that is wanted and stands nowhere else.
-    fn loses_input(&self, s: &State) -> bool {
+    fn loses_input(&self, s: &State, wanted: Nodes) -> bool {
         for k in &self.taken {
-            if self.is_lost(s, k.saturating_add(1)) {
+            if self.is_lost(s, wanted, k.saturating_add(1)) {
                 return true;
             }
         }
         false
     }
 
-    /// Whether a value is lost that stood in the cells or in an input's row.
-    pub fn loses(&self, before: &Cells, s: &State) -> bool {
-        self.loses_cell(before, s) || self.loses_input(s)
+    /// Whether a value is lost that stood in the cells or in an input's row, where these are
+    /// wanted.
+    pub fn loses(&self, before: &Cells, s: &State, wanted: Nodes) -> bool {
+        self.loses_cell(before, s, wanted) || self.loses_input(s, wanted)
     }
 
     /// No command yet: the nodes from which an output can be reached are unmade.
@@ -435,26 +513,11 @@ impl Task {
         true
     }
 
-    /// The nodes in spill rows that are wanted.
-    fn wanted_spills(&self, s: &State) -> Set {
-        let mut left = s.spilled;
-        let mut wanted = Set(0);
-        for _ in 0..s.spilled.len() {
-            if let Some(k) = left.first() {
-                left = left.without(k);
-                if self.is_wanted(s, self.lit_of(k, false).node()) {
-                    wanted = wanted.with(k);
-                }
-            }
-        }
-        wanted
-    }
-
-    /// The state without the values that nothing wants: equal states are one then.
-    pub fn cleared(&self, s: &State) -> State {
+    /// The state without the values that are not wanted: equal states are one then.
+    pub fn cleared(&self, s: &State, wanted: Nodes) -> State {
         let mut cleared = *s;
-        cleared.cells = s.cells.with(self.free_cells(s), NONE);
-        cleared.spilled = self.wanted_spills(s);
+        cleared.cells = s.cells.with(free_cells(&s.cells, wanted), NONE);
+        cleared.spilled = s.spilled.and(wanted.from(self.inputs.saturating_add(1)));
         cleared
     }
 
@@ -463,49 +526,33 @@ impl Task {
         self.majority(node).is_none() && !self.uses(node).is_held
     }
 
-    /// The inputs and constants that unmade nodes read from their rows.
-    pub fn sources(&self, s: &State) -> u128 {
-        let mut left = s.unmade;
-        let mut sources = 0u128;
-        for _ in 0..s.unmade.len() {
-            if let Some(k) = left.first() {
-                left = left.without(k);
-                sources |= self.sources_at(k);
-            }
-        }
-        sources
+    /// The inputs and constants that these majority nodes read from their rows.
+    pub fn loads_by(&self, unmade: Set) -> Nodes {
+        joined(&self.loads, unmade)
     }
 
-    /// Those that a majority node reads.
-    fn sources_at(&self, k: u8) -> u128 {
-        match self.sources.get(k as usize) {
-            Some(sources) => *sources,
-            None => 0,
-        }
-    }
-
-    /// Finds those that a majority node reads.
-    fn sources_of(&self, operands: [Short; 3]) -> u128 {
-        let mut sources = 0u128;
+    /// Those among a node's literals.
+    fn loads_of(&self, operands: [Short; 3]) -> Nodes {
+        let mut loads = Nodes(0);
         for l in operands {
             if l.is_some() && self.has_row(l.node()) {
-                sources |= bit(l.node());
+                loads = loads.with(l.node());
             }
         }
-        sources
+        loads
     }
+}
 
-    /// The cells whose value nothing wants.
-    pub fn free_cells(&self, s: &State) -> Set {
-        let mut set = Set(0);
-        for k in 0..6u8 {
-            let l = s.cells.get(k);
-            if !l.is_some() || !self.is_wanted(s, l.node()) {
-                set = set.with(k);
-            }
+/// The cells whose value is not wanted.
+pub fn free_cells(cells: &Cells, wanted: Nodes) -> Set {
+    let mut set = Set(0);
+    for k in 0..6u8 {
+        let l = cells.get(k);
+        if !l.is_some() || !wanted.has(l.node()) {
+            set = set.with(k);
         }
-        set
     }
+    set
 }
 
 /// For each set of cells a digit of four bits for each of B12 to B15: 1 where one of its cells is
