@@ -11,7 +11,7 @@ SECONDS = {
     "simdram": 60, "guard_job": 60, "uprog_code": 60, "transpose_unit": 54, "prog_text": 54, "dram_model": 48,
     "loop_ir": 48, "file_fields": 36, "text_lex": 36, "soak_job": 104, "bit_rows": 24, "scan_model": 24,
     "trace_job": 18, "op_rules": 18, "machine_model": 18, "guard_model": 18, "trace_model": 12, "cli_model": 12,
-    "faults": 14, "loop_laws": 12, "wave_model": 12,
+    "faults": 14, "file_laws": 14, "safety_laws": 16, "loop_laws": 12, "wave_model": 12,
 }
 # of a crate that the table does not have
 OTHER = 60

@@ -1,0 +1,5 @@
+mod Steady
+mod Closing
+mod Programs
+mod Tables
+mod Traces

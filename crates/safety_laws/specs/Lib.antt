@@ -1,0 +1,2 @@
+-- Rows that stay as they were where the chip fails.
+pub mod Stopped
