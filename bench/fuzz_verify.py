@@ -5,8 +5,8 @@ Run it at the top of the repository:
 
     python3 bench/fuzz_verify.py [--seed S] [--mutants N] [--program PATH]
 
-Each word operation's entry, the compiler's and that of examples/fewest, is mutated: an address changed, an instruction taken
-out, put in, or exchanged with the next. All are verified at a width of 1 to 3. What ends the run: a `right` entry that leaves
+Each word operation's entry, the compiler's and that of examples/fewest, is mutated: an address changed, or a row to one of
+another command; an instruction taken out, put in, or exchanged with the next. All are verified at a width of 1 to 3. What ends the run: a `right` entry that leaves
 other results than the compiler's for some numbers and some of the random contents of cells and rows that are tried, or has
 other counts; a `wrong` one whose case does not fail so in `exec`; a `bad_walk` that `cost` says otherwise; an `unknown`. The
 files of the first such case are kept. `--program` names another program.
@@ -14,10 +14,10 @@ files of the first such case are kept. `--program` names another program.
 
 import collections
 import dataclasses
-import os
 import pathlib
 import random
 import re
+import shutil
 import subprocess
 import sys
 import tempfile
@@ -37,7 +37,7 @@ from simdram.verdicts import BAD_WALK, RIGHT, WRONG, verdict_of  # noqa: E402
 
 PROGRAM = TOP / "crates" / "simdram" / "out" / "simdram"  # until the arguments are read
 GATES = "".join(f"op {name}(a: word, b: word) -> y: word {{ y = {name}(a, b); }}\n" for name in ("and", "or", "xor", "add"))
-STARTS = 8
+STARTS, TRIES = 8, 20
 STARTED = re.compile(r"(?P<cell>T[0-3]|DCC[01])|(?P<result>[yz])\[?(?P<row>\d+)?\]?|t(?P<bit>\d+)|w(?P<word>\d+)\[(?P<at>\d+)\]"
                      r"|(?:spill|[ps])(?P<spill>\d+)")
 
@@ -82,7 +82,8 @@ def mutated(entry, maker):
         commands = [k for k, one in enumerate(code) if one.rows]
         at = maker.choice(commands)
         rows = code[at].rows
-        rows[maker.randrange(len(rows))] = Row(B_ADDRESS, maker.randrange(16), 0)
+        other = maker.choice(code[maker.choice(commands)].rows)
+        rows[maker.randrange(len(rows))] = maker.choice((Row(B_ADDRESS, maker.randrange(16), 0), other))
         code[at] = Instruction(code[at].kind, bytes([code[at].kind, *(byte for row in rows for byte in row)]).ljust(8, b"\0"))
     elif change == 1:
         del code[at]
@@ -98,6 +99,11 @@ def mutated(entry, maker):
     except (FileFault, OverflowError):
         return None
     return made
+
+
+def changed(entry, maker):
+    """The entry with a change that leaves it legal, or as it is where none of some does."""
+    return next((made for made in (mutated(entry, maker) for _ in range(TRIES)) if made), entry)
 
 
 def moved_jump(one, at, shift):
@@ -205,11 +211,12 @@ def main():
     own = {entry.name: entry for entry in assemble((TOP / "examples" / "fewest" / "fewest.micro").read_bytes()).entries}
     while sum(counts.values()) < asked.mutants:
         chosen = [own.get(entry.name, entry) if maker.random() < 0.5 else entry for entry in made.entries]
-        entries = [mutated(entry, maker) or entry for entry in chosen]
+        entries = [changed(entry, maker) for entry in chosen]
         try:
             check(runs, entries, made, maker.randint(1, 3), maker, counts)
         except Broken as fault:
-            sys.exit(f"{fault}\nthe files are in {folder}")
+            sys.exit(f"{fault}\nseed {asked.seed}, after {sum(counts.values())} mutants; the files are in {folder}")
+    shutil.rmtree(folder)
     print(", ".join(f"{count} {kind}" for kind, count in sorted(counts.items())))
 
 

@@ -19,6 +19,7 @@ from .table import HEAD_MAX, Table
 AT_FAULT = {4: "OPS", 6: "SCRIPT", 7: "IMAGE", 13: "TRACE", 15: "QUERY"}
 PROGRAMS = ("PROG", "OLD")
 DONE, PROGRAM, REFUSED, SCAN, GUARD, FLIPS = 0, 5, 8, 16, 17, 18
+NOT_VERIFIED = (19, 20)
 # greater texts and traces are not read again
 LARGEST = 4_000_000
 
@@ -38,7 +39,7 @@ class Aftermath:
     """The files of a command as they stood before it, for what is said after it."""
 
     def __init__(self, command: Command, words: list[str], settings: Settings) -> None:
-        self.command, self.settings = command, settings
+        self.command, self.words, self.settings = command, words, settings
         self.paths = {word.name: text for word, text in zip(command.words, words)}
         self.head = head_of(self.paths["IMAGE"]) if "IMAGE" in self.paths else None
 
@@ -89,10 +90,16 @@ class Aftermath:
             return ""
         return f": simdram explain {paths['SCRIPT']} {paths['PROG']} {paths['IMAGE']}"
 
+    def lines(self, status: int) -> list[str]:
+        """What is to be said, as lines; what verdicts mean is told by a call of its own, which verifies again."""
+        if status in NOT_VERIFIED:
+            return [f"simdram explain {' '.join(self.words)} says what these verdicts mean, and what to do"]
+        return answers.printed(self.found(status), self.all_by())
+
     def tell(self, status: int) -> None:
         """Says it, where the files can still be read."""
         try:
-            lines = answers.printed(self.found(status), self.all_by())
+            lines = self.lines(status)
         except (LookupError, FileFault, OSError):
             return
         if lines:

@@ -7,6 +7,8 @@ import re
 import typing
 
 RIGHT, WRONG, UNKNOWN, BAD_WALK, NO_ENTRY, OTHER_KINDS = "right", "wrong", "unknown", "bad_walk", "no_entry", "other_kinds"
+# the statuses under which `verify` prints a line for each op
+VERIFIED = (0, 19, 20)
 LINE = re.compile(r"(?P<name>\w+) (?:(?P<right>right) aap=(?P<aap>\d+) ap=(?P<ap>\d+)"
                   r"|(?P<wrong>wrong)(?P<operands>(?: \w+=\d+)*) gives (?P<gives>\d+(?: \d+)?) not (?P<wanted>\d+(?: \d+)?)"
                   r"(?: from (?P<start>.+))?|(?P<bad_walk>bad_walk) (?P<at>\d+) (?P<why>\w+)"

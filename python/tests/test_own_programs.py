@@ -57,6 +57,17 @@ class OwnPrograms(unittest.TestCase):
         self.assertTrue((z.numpy() == self.x + self.y).all())
         self.assertEqual((str(z.cost), z.text), ("aap=49 ap=8", ADDER))
 
+    def test_its_costs(self):
+        add = simdram.program(ADDER)
+        self.assertEqual((str(add.cost(8)), add.costs([1, 32])[32].commands), ("aap=49 ap=8 rows=0", 225))
+        self.assertEqual([(row.commands, row.times) for row in add.profile(8).parts], [(1, 1), (56, 8)])
+        with warnings.catch_warnings():
+            warnings.simplefilter("ignore")
+            self.assertEqual([row.commands for row in add(self.a, self.b).profile().ops], [57])
+            found = (add(self.a ^ self.b, self.b) & self.a).profile()
+        self.assertEqual([row.what for row in found.ops], ["e0", "add", "e1"])
+        self.assertEqual([row.commands for row in found.statements], [56, 32])
+
     def test_beside_ops(self):
         add = simdram.program(ADDER)
         with warnings.catch_warnings():

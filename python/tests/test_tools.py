@@ -230,7 +230,8 @@ class Texts(Folder):
         for words, said in ((["plot", "p.ops", "x.svg"], "p.ops: byte 0 magic: no program file"),
                             (["cost-table", "none"], "none: cannot read"), (["report", "p"], "p: no report: it holds a program file"),
                             (["report", "p.ops"], "line 1 is no line of a report: 'op f"), (["from-hex", "p", "x"], "p line 1: 'SDMP"),
-                            (["explain", "p.ops", "p"], "p is a program file, which tells nothing about p.ops, an operation text")):
+                            (["explain", "p.ops", "p"], "name a program file and a width"),
+                            (["explain", "p", "p.ops"], "p.ops is an operation text, which tells nothing about p, a program file")):
             ended = self.call(*words)
             self.assertEqual((ended.returncode, len(ended.stderr.splitlines())), (2, 1), ended.stderr)
             self.assertIn(said, ended.stderr)
