@@ -32,6 +32,7 @@ TOOL_MODULES = {
     "assemble": "assemble_tool",
     "disassemble": "disassemble_tool",
     "link": "link_tool",
+    "simplify": "simplify_tool",
     "build": "build_tool",
     "prove": "prove",
 }

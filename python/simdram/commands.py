@@ -101,8 +101,8 @@ PROGRAM = (
 TOOLS = (
     Command("image", (), "makes, shows, reads and changes images: numbers in, numbers out",
             "image make mac.img 1x96x1 a:8=3,10 y:8/2", False, "image make|show|get|put .."),
-    Command("explain", (), "the first fault of a file, where it is and what would be right; with PROG and IMAGE, a script's refusals",
-            "explain mac.ops", False, "explain FILE [BESIDE ..]"),
+    Command("explain", (), "the first fault of a file, where it is and what would be right; with PROG and IMAGE, a script's refusals; with PROG and N, "
+            "what the verdicts of verify mean", "explain mac.ops", False, "explain FILE [BESIDE ..]"),
     Command("report", (), "a report as JSON or as a table: counts of all banks, of one bank, for each element",
             "report --json out.report", False, "report [--json] [--image IMAGE [--script SCRIPT]] [REPORT]"),
     Command("cost-table", (), "what each entry costs at several widths, of one program file or of several side by side",
@@ -136,6 +136,9 @@ TOOLS = (
             "disassemble [--raw] PROG"),
     Command("link", (), "the entries of several program files in one", "link mac.prog adder.prog both.prog", False,
             "link PROG PROG .. OUT"),
+    Command("simplify", (), "writes a text with the same ops for fewer row commands, each compared with what it was for all inputs",
+            "simplify mac.ops simpler.ops", False,
+            "simplify OPS [NEW] [--widths N,N,..] [--seconds S] [--rows] [--unvalidated]"),
     Command("build", (), "builds the program without proofs if none is built, and prints the path of the program that runs", "build",
             False, "build"),
     Command("prove", (), "proves every crate that is not proved yet, builds the proved program, and prints its path", "prove", False,

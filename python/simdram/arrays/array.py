@@ -102,6 +102,11 @@ class Array(Operators):
         return self.chip.made(self).text
 
     @property
+    def text_as_written(self) -> str:
+        """The ops as they were meant, before a chip with `simplify=True` simplified their texts."""
+        return self.chip.made(self).text_as_written
+
+    @property
     def script(self) -> str:
         """The lines that computed it."""
         return self.chip.made(self).script

@@ -17,6 +17,7 @@ from .expressions import Constant, Held, Value
 from .refusals import Refused
 from .running import HELP, Made, run
 from .scripting import Names, Scripts
+from .simpler_texts import Texts
 from .simplify import simplified
 
 
@@ -24,17 +25,18 @@ class Chip:
     """A chip of so many banks of rows of 64-bit words, as `simdram init` makes one.
 
     A bank holds 64 * words elements of an array, one in each column. `host_writes` and `host_reads` count the rows that the
-    host has written to place arrays and has read for `numpy()`, over all banks.
+    host has written to place arrays and has read for `numpy()`, over all banks. With `simplify` the text of each op is
+    simplified at its width and compared with what was meant (docs/NUMPY.md, "Simpler texts").
     """
 
-    def __init__(self, banks: int = 1, rows: int = 1006, words: int = 64) -> None:
+    def __init__(self, banks: int = 1, rows: int = 1006, words: int = 64, simplify: bool = False) -> None:
         try:
             self.image = Image(*map(operator.index, (banks, rows, words)))
         except ValueError as fault:
             raise Refused("geometry", str(fault)) from None
         self.banks, self.rows, self.words = self.image.banks, self.image.rows, self.image.words
         self.host_writes = self.host_reads = 0
-        self._names = Names()
+        self._names, self._texts = Names(), Texts(simplify)
         self._gone: typing.List[str] = []
 
     def __repr__(self) -> str:
@@ -127,7 +129,7 @@ class Chip:
         """As few ops as there are rows for: each has rows of its own for its temporaries, which smaller ones share."""
         statements = STATEMENTS
         while True:
-            scripts = Scripts(cut(list(dict.fromkeys(targets)), statements), targets, count, self._names)
+            scripts = Scripts(cut(list(dict.fromkeys(targets)), statements), targets, count, self._names, self._texts)
             try:
                 return scripts, self._done(scripts)
             except Refused as refused:
@@ -147,7 +149,8 @@ class Chip:
             raise
         cost = total([one.cost for one in done], self.image.banks_of(scripts.count))
         lines = "".join(f"{line}\n" for script in scripts.scripts for line in script.lines)
-        return Made("".join(scripts.texts), lines, "".join(one.report for one in done), cost)
+        report = "".join(one.report for one in done)
+        return Made("".join(scripts.texts), lines, report, cost, "".join(scripts.op_texts), "".join(scripts.written))
 
     def _keep(self, computed: typing.Sequence[typing.Tuple[Array, Value]], scripts: Scripts, made: Made) -> None:
         """The arrays are now what was computed for them; one of no dimensions becomes its number again."""

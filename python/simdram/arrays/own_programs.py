@@ -11,15 +11,14 @@ from .. import run_program
 from ..assembler import TextFault, assemble
 from ..files.program import Program
 from ..files.store import store
-from ..verdicts import Verdict, verdicts_of
+from ..verdicts import VERIFIED, Verdict, verdicts_of
 from .array import Array
+from .counted import Counted
 from .operators import stepped
 from .op_text import renamed
 from .refusals import Stopped
 from .user_ops import canonical
 
-# the statuses under which `verify` has a line for each op
-VERIFIED = (0, 19, 20)
 OPS = re.compile(r"^op ", re.MULTILINE)
 
 
@@ -27,7 +26,7 @@ class Unverified(UserWarning):
     """A program is called at a width at which nothing says that it does what it should."""
 
 
-class OwnProgram:
+class OwnProgram(Counted):
     """A program of a text, which takes and gives arrays; `entry` is what the program file has of it."""
 
     def __init__(self, text: str) -> None:
@@ -41,6 +40,7 @@ class OwnProgram:
             raise ValueError(f"simdram.program takes the text of one program, and this has {len(entries)}")
         self.text, self.entry = text, entries[0]
         self.name, self.takes, self.gives = self.entry.name, list(self.entry.sources), list(self.entry.results)
+        self.program = Program([self.entry]).file()
         self.verdicts: typing.Dict[int, Verdict] = {}
 
     def verify(self, op: str, bits: int) -> Verdict:
@@ -52,7 +52,7 @@ class OwnProgram:
             raise ValueError("a program is verified against the text of one op")
         with tempfile.TemporaryDirectory(prefix="simdram_") as folder:
             store(f"{folder}/ops", renamed(text, self.name).encode())
-            store(f"{folder}/prog", Program([self.entry]).file())
+            store(f"{folder}/prog", self.program)
             ended = run_program.run(["verify", "ops", "prog", bits], folder)
         if ended.status not in VERIFIED:
             raise Stopped("verify", ended, "ops", text)

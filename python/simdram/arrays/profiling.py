@@ -66,9 +66,13 @@ def summed(pairs: typing.Iterable[typing.Tuple[str, Row]]) -> typing.Tuple[Row, 
 
 
 def by_statement(made: Made, instructions: typing.Sequence[Row]) -> typing.Tuple[Row, ...]:
-    """The rows of the ops' statements: what each takes in one bank, as often as the op was executed in one."""
-    ops = {one.name: one for one in split(made.text)}
-    done = [(op_of(row.what), int(row.what.rpartition(",")[2]), row) for row in instructions if row.what.startswith("bbop_")]
+    """The rows of the ops' statements: what each takes in one bank, as often as the op was executed in one.
+
+    A program of a designer's own has no statements.
+    """
+    ops = {one.name: one for one in split(made.ops)}
+    done = [(op_of(row.what), int(row.what.rpartition(",")[2]), row) for row in instructions
+            if row.what.startswith("bbop_") and op_of(row.what) in ops]
     rows: typing.List[Row] = []
     for name, bits in dict.fromkeys((name, bits) for name, bits, _ in done):
         found = ops[name].profile(bits)

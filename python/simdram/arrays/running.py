@@ -26,12 +26,15 @@ HELP = {
 
 
 class Made(typing.NamedTuple):
-    """How an array was computed: its ops, its lines, what was reported of them, and their cost."""
+    """How an array was computed: its ops and programs, its lines, what was reported of them, their cost, the ops alone, and
+    its ops as they were meant."""
 
     text: str = ""
     script: str = ""
     report: str = ""
     cost: Cost = Cost()
+    ops: str = ""
+    text_as_written: str = ""
 
 
 class Script:

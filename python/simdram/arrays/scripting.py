@@ -11,6 +11,7 @@ from .expressions import Constant, Held, Value
 from .op_text import renamed, text_of
 from .own_programs import OwnProgram
 from .running import OPS_MOST, Script
+from .simpler_texts import Texts
 
 
 class Names:
@@ -28,11 +29,14 @@ class Names:
 class Scripts:
     """The scripts that give the targets at a count of elements, one after another; the last may be the only one."""
 
-    def __init__(self, parts: typing.Sequence[Part], targets: typing.Sequence[Value], count: int, names: Names) -> None:
-        self.count, self.names = count, names
+    def __init__(self, parts: typing.Sequence[Part], targets: typing.Sequence[Value], count: int, names: Names,
+                 simpler: Texts) -> None:
+        self.count, self.names, self.simpler = count, names, simpler
         self.scripts = [Script()]
         self.objects: typing.Dict[int, str] = {}
-        self.ops: typing.Dict[str, str] = {}
+        self.ops: typing.Dict[typing.Tuple[str, int], str] = {}
+        # the texts of all ops as they were meant, each once
+        self.written: typing.Dict[str, None] = {}
         self.kept = {id(target) for target in targets}
         self.longest = max((len(part.steps) for part in parts), default=0)
         # of each value, how many parts have still to read it
@@ -51,6 +55,11 @@ class Scripts:
     def texts(self) -> typing.List[str]:
         """The texts of all ops and programs, each once."""
         return list(dict.fromkeys(text for script in self.scripts for text in [*script.texts, *script.programs]))
+
+    @property
+    def op_texts(self) -> typing.List[str]:
+        """The texts of all ops, each once."""
+        return list(dict.fromkeys(text for script in self.scripts for text in script.texts))
 
     def object_of(self, value: Value) -> str:
         """The object that holds a value; a constant is filled into a new one."""
@@ -90,14 +99,19 @@ class Scripts:
         """The name of the op that does a part; equal texts are one op, and a script has at most 32."""
         own = None if can_join(part.steps[0]) else part.steps[0].operation
         text = own.text if own else text_of("e", part)
-        key = renamed(text, "e")
+        # a text that is simplified is so for its width
+        is_simplified = self.simpler.is_simplified and own is None
+        key = renamed(text, "e"), (part.width or 1) if is_simplified else 0
         if key not in self.ops:
             taken = self.ops.values()
             self.ops[key] = own.name if own and own.name not in taken else self._fresh(taken)
         if isinstance(own, OwnProgram):
             self._add_program(own, self.ops[key])
+            self.written[own.text] = None
         else:
-            self._add_text(renamed(text, self.ops[key]))
+            compiled = self.simpler.compiled(*key) if own is None else text
+            self._add_text(renamed(compiled, self.ops[key]))
+            self.written[renamed(text, self.ops[key])] = None
         return self.ops[key]
 
     def _add_text(self, text: str) -> None:

@@ -3,26 +3,21 @@
 from __future__ import annotations
 
 import functools
-import operator
-import os
 import re
 import tempfile
 import typing
 
 from .. import run_program
-from ..costs import EntryCost, costs_at
 from ..files.store import load, store
-from ..profile import Profile, profiles
-from ..settings import taken
 from .array import Array
-from .cells import checked_width
+from .counted import Counted
 from .operators import stepped
 from .refusals import Stopped
 
 HEAD = re.compile(r"^op (\w+)\((.*)\) -> (.*) \{$", re.MULTILINE)
 
 
-class Op:
+class Op(Counted):
     """An op of the language, which takes and gives arrays; `text` is its canonical form."""
 
     def __init__(self, text: str) -> None:
@@ -36,26 +31,9 @@ class Op:
         results = stepped(self, operands, bits)
         return results[0] if len(results) == 1 else results
 
-    def cost(self, bits: int) -> EntryCost:
-        """Its row commands in one bank at a width, and its rows of scratch."""
-        return self.costs([bits])[bits]
-
-    def costs(self, widths: typing.Iterable[int]) -> typing.Dict[int, EntryCost]:
-        """Its cost at each of these widths."""
-        asked = [checked_width(operator.index(bits)) for bits in widths]
-        with tempfile.TemporaryDirectory(prefix="simdram_") as folder:
-            path = os.path.join(folder, "prog")
-            store(path, self.program)
-            found = costs_at([path], asked, taken([])[0])
-        return {bits: found[path, bits][0] for bits in asked}
-
-    def profile(self, bits: int) -> Profile:
-        """Its row commands in one bank at a width, by statement and by loop."""
-        with tempfile.TemporaryDirectory(prefix="simdram_") as folder:
-            path, text = os.path.join(folder, "prog"), os.path.join(folder, "ops")
-            store(path, self.program)
-            store(text, self.text.encode())
-            return profiles(path, [checked_width(operator.index(bits))], taken([])[0], text)[0]
+    def ops_text(self) -> str:
+        """The operation text that it is compiled from."""
+        return self.text
 
     @functools.cached_property
     def program(self) -> bytes:

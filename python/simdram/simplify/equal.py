@@ -1,0 +1,91 @@
+"""Whether two texts of an op are equal at widths: by the program's `verify`, for all inputs."""
+
+from __future__ import annotations
+
+import os
+import subprocess
+import tempfile
+import threading
+import time
+import typing
+
+from .. import run_program
+from ..files.store import store
+from ..verdicts import RIGHT, UNKNOWN, WRONG, verdicts_of
+from .cut import cut, has_nested
+from .op_tree import Op
+
+# the statuses under which `verify` has a line for the op
+SAID = (0, 19, 20)
+# widths at which every new text is compared besides those that are asked for
+ALWAYS = (1, 2, 3, 4)
+
+
+class Equality(typing.NamedTuple):
+    """What is known at each width, whether products and quotients were taken as unknowns, and whether the time was over."""
+
+    verdicts: typing.Dict[int, str]
+    is_cut: bool = False
+    is_late: bool = False
+
+    @property
+    def wrong(self) -> typing.List[int]:
+        """The widths at which the texts differ."""
+        return [width for width, its in self.verdicts.items() if its == WRONG]
+
+    @property
+    def unknown(self) -> typing.List[int]:
+        """The widths at which nothing is known."""
+        return [width for width, its in self.verdicts.items() if its == UNKNOWN]
+
+
+class Comparer:
+    """Compares texts by a program, up to a time."""
+
+    def __init__(self, program: str, until: float = float("inf"), stopped: typing.Optional[threading.Event] = None) -> None:
+        self.program, self.until, self.stopped, self.is_late = program, until, stopped or threading.Event(), False
+
+    def _run(self, words: typing.Sequence[typing.Any], folder: str) -> typing.Optional[run_program.Ended]:
+        """The program's end, or nothing where the time is over."""
+        left = self.until - time.monotonic()
+        try:
+            if left > 0 and not self.stopped.is_set():
+                return run_program.run(words, folder, path=self.program, seconds=None if left == float("inf") else left)
+        except subprocess.TimeoutExpired:
+            pass
+        self.is_late = True
+        return None
+
+    def by_texts(self, meant: str, made: str, widths: typing.Sequence[int], program: bytes = b"") -> typing.Dict[int, str]:
+        """Of one op in two texts, at each width whether the second, whose program file may be known, does what the first means."""
+        with tempfile.TemporaryDirectory(prefix="simdram_") as folder:
+            store(os.path.join(folder, "meant"), meant.encode())
+            if program:
+                store(os.path.join(folder, "prog"), program)
+            else:
+                store(os.path.join(folder, "made"), made.encode())
+                compiled = self._run(["compile", "made", "prog"], folder)
+                if compiled is None or compiled.status:
+                    return dict.fromkeys(widths, UNKNOWN)
+            return {width: self._verdict(folder, width) for width in widths}
+
+    def _verdict(self, folder: str, width: int) -> str:
+        ended = self._run(["verify", "meant", "prog", width], folder)
+        found = verdicts_of(ended.out) if ended is not None and ended.status in SAID else []
+        return found[0].kind if found and found[0].kind in (RIGHT, WRONG) else UNKNOWN
+
+    def equal(self, old: Op, new: Op, widths: typing.Sequence[int], program: bytes = b"") -> Equality:
+        """Whether two ops of the same parameters and results are equal at widths.
+
+        With products and the like as unknowns first, then as they are; what is not known is asked the other way round.
+        """
+        pair = cut(old, new) if has_nested(old.body) else None
+        if pair is not None:
+            found = self.by_texts(*pair, widths)
+            if set(found.values()) == {RIGHT}:
+                return Equality(found, True)
+        found = self.by_texts(old.text(), new.text(), widths, program)
+        unknown = [width for width in widths if found[width] == UNKNOWN]
+        if unknown:
+            found.update(self.by_texts(new.text(), old.text(), unknown))
+        return Equality(found, False, self.is_late)

@@ -1,0 +1,47 @@
+"""Guesses at what statements cost, of a block from its gates and names: they tell which statements are worth measuring."""
+
+from __future__ import annotations
+
+import collections
+import typing
+
+from .op_limits import names_in
+from .op_tree import BIT, WORD, Block, Expr, Statement
+
+# commands of a position, fitted by least squares on measured blocks of bench/kernels
+WEIGHTS = {"and": 0.75, "xor": 1.6, "maj": 0.6, "word": 1.3, "bit": 2.2, "target": 1.0, "state": 2.0, "one": -1.9}
+# commands of a position of word statements of one pass
+WORD_STATEMENTS = {"copy": 1.0, "zero": 1.0, "ones": 1.0, "shl1": 1.0, "shr1": 1.0, "not": 2.0, "and": 4.0, "or": 4.0, "xor": 7.0,
+                   "add": 9.0, "sub": 6.0, "abs": 8.0, "relu": 3.0, "min": 10.0, "max": 10.0, "eq": 4.0, "gt": 3.0, "ge": 3.0,
+                   "if_else": 7.0, "and_red": 2.0, "or_red": 2.0, "xor_red": 3.0}
+# guesses of blocks are taken so much lower, as a block may be cheaper than its gates say
+OPTIMISM = 0.75
+
+
+def gates_of(expr: Expr) -> typing.Iterator[str]:
+    """The gates of an expression; or is counted as and, which it is of complements."""
+    if expr.args and expr.gate != "not":
+        yield "and" if expr.gate == "or" else expr.gate
+    for arg in expr.args:
+        yield from gates_of(arg)
+
+
+def features(block: Block, kinds: typing.Mapping[str, str]) -> typing.Counter[str]:
+    """What a block has at each position: gates, names that it reads, words that it writes, states that change."""
+    found = collections.Counter(gate for expr in block.expressions for gate in gates_of(expr))
+    states, own = dict(block.states), dict(block.states).keys() | dict(block.lets).keys()
+    read = {name for expr in block.expressions for name in names_in(expr)} - own
+    found[WORD] = sum(kinds[name] == WORD for name in read)
+    found[BIT] = len(read) - found[WORD]
+    found["state"] = sum(name in states for name, _ in block.assigns)
+    found["target"] = len(block.assigns) - found["state"]
+    found["one"] = 1
+    return found
+
+
+def guessed(one: Statement, kinds: typing.Mapping[str, str]) -> float:
+    """A low guess at the commands of a position of a statement."""
+    if isinstance(one, Block):
+        found = features(one, kinds)
+        return OPTIMISM * max(1.0, sum(WEIGHTS[name] * count for name, count in found.items()))
+    return WORD_STATEMENTS.get(one.op, 0.0) if all(kinds[arg] == WORD for arg in one.args[:2]) else 0.0

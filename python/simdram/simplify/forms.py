@@ -1,0 +1,159 @@
+"""The word operations as gates and states, and their other forms."""
+
+from __future__ import annotations
+
+import typing
+
+from .gates import STATE, WHOLE, WORD, StateRule
+from .states import replaced
+from .sums import Sums
+
+ALONE = "alone"
+CHAIN_LEAVES = 8
+
+
+class Forms(Sums):
+    """The rule of each word operation: `do_NAME`, from literals to a literal."""
+
+    def value(self, op: str, args: typing.Sequence[int]) -> int:
+        """The value of an operation of one result."""
+        if op in ("and", "or", "xor"):
+            return self.of_two(op, *args)
+        return getattr(self, f"do_{op}")(*args)
+
+    def do_not(self, a: int) -> int:
+        """Inverted bits."""
+        return a ^ 1
+
+    def do_copy(self, a: int) -> int:
+        """The same literal."""
+        return a
+
+    def do_zero(self) -> int:
+        """The constant 0."""
+        return 0
+
+    def do_ones(self) -> int:
+        """The constant 1 at each position."""
+        return 1
+
+    def do_shl1(self, a: int) -> int:
+        """A state that holds the position before."""
+        return self.graph.form(self.graph.state("up", 0, lambda now: a), "shl1", a)
+
+    def do_shr1(self, a: int) -> int:
+        """A state that holds the position above."""
+        return self.graph.form(self.graph.state("down", 0, lambda now: a), "shr1", a)
+
+    def _reduced(self, op: str, gate: str, start: int, a: int) -> int:
+        graph = self.graph
+        return graph.form(graph.last(graph.state("any", start, lambda now: graph.gate(gate, now, a))), op, a)
+
+    def do_and_red(self, a: int) -> int:
+        """Whether all bits are 1."""
+        return self._reduced("and_red", "and", 1, a)
+
+    def do_or_red(self, a: int) -> int:
+        """Whether some bit is 1."""
+        return self._reduced("or_red", "or", 0, a)
+
+    def do_xor_red(self, a: int) -> int:
+        """The parity."""
+        return self._reduced("xor_red", "xor", 0, a)
+
+    def do_if_else(self, a: int, b: int, s: int) -> int:
+        """A choice; between two differences it is their amount, and between a sum and a difference it has one carry."""
+        for found in (self.apart(a, b, s), self.one_carry(a, b, s)):
+            if found is not None:
+                return found
+        return self.graph.gate("mux", s, a, b)
+
+    def do_min(self, a: int, b: int) -> int:
+        """The lesser."""
+        return self._extreme("min", a, b)
+
+    def do_max(self, a: int, b: int) -> int:
+        """The greater."""
+        return self._extreme("max", a, b)
+
+    def _extreme(self, op: str, a: int, b: int) -> int:
+        """The lesser or the greater: whole, a choice by a comparison or by bits of all comparisons, or from the top."""
+        graph, (a, b) = self.graph, sorted((a, b))
+        if a == b:
+            return a
+        if a < 2:
+            return b if (op == "min") == (a == 1) else a
+        how = self.choose(op, (ALONE, "gt", "bits", "down"))
+        if how == ALONE:
+            found = graph.leaf(WHOLE, graph.whole(op, a, b))
+        elif how == "down":
+            found = self._from_the_top(op, a, b)
+        else:
+            bit = self.do_gt(a, b) if how == "gt" else self.greater(a, b)
+            found = graph.gate("mux", bit ^ (op == "min"), a, b)
+        return self.made(found, op, a, b)
+
+    def _from_the_top(self, op: str, a: int, b: int) -> int:
+        """Two states: a is known to be less, or to be greater."""
+        graph = self.graph
+        less, greater = graph.new_state(), graph.new_state()
+        is_less, is_greater = graph.leaf(STATE, less), graph.leaf(STATE, greater)
+        falls, rises = graph.gate("and", a ^ 1, b), graph.gate("and", a, b ^ 1)
+        graph.states[less] = StateRule("down", graph.gate("or", is_less, graph.gate("and", falls, is_greater ^ 1)))
+        graph.states[greater] = StateRule("down", graph.gate("or", is_greater, graph.gate("and", rises, is_less ^ 1)))
+        if op == "min":
+            return graph.gate("and", graph.gate("or", a, is_greater), graph.gate("or", b, is_less))
+        return graph.gate("or", graph.gate("and", a, is_less ^ 1), graph.gate("and", b, is_greater ^ 1))
+
+    def do_abs(self, a: int) -> int:
+        """The amount of a number in two's complement."""
+        return self._of_sign("abs", a)
+
+    def do_relu(self, a: int) -> int:
+        """The number, or 0 where its top bit is 1."""
+        return self._of_sign("relu", a)
+
+    def _of_sign(self, op: str, a: int) -> int:
+        """Whole, or a block by the top bit."""
+        graph, before = self.graph, self.was.get(a)
+        if a == 0 or a == 1 and op == "relu":
+            return 0
+        if before and before.op in (op, "relu"):
+            return a
+        if self.choose(op, (ALONE, "block")) == ALONE:
+            return self.made(graph.leaf(WHOLE, graph.whole(op, a)), op, a)
+        top = graph.last(graph.state("up", 0, lambda now: a))
+        return self.made(graph.gate("and", a, top ^ 1) if op == "relu" else self.negate_if(a, top), op, a)
+
+    # choices among words by bits
+
+    def chain(self, lit: int) -> None:
+        """Makes a choice among words by bits a chain of choices, where it is one: the node's gate is replaced."""
+        graph = self.graph
+        words = [leaf for leaf in sorted(graph.leaves[lit >> 1]) if graph.nodes[leaf].kind in (WORD, WHOLE)]
+        if lit < 2 or graph.node(lit).is_leaf or len(graph.support[lit >> 1]) > CHAIN_LEAVES or len(words) < 2 \
+                or any(graph.nodes[leaf].kind == STATE for leaf in graph.leaves[lit >> 1]):
+            return
+        picks = {word: self._with_leaves(lit, {2 * one: int(one == word) for one in words}) for word in words}
+        found = [one for one in (self._chain_by(lit, words, picks, k) for k in range(len(words))) if one]
+        if found:
+            _, s, x, y = min(found)
+            if lit >> 1 not in graph.cone(s) | graph.cone(x) | graph.cone(y):
+                graph.nodes[lit >> 1] = graph.node(lit)._replace(kind="mux", args=(s, x ^ lit & 1, y ^ lit & 1))
+
+    def _chain_by(self, lit: int, words: typing.List[int], picks: typing.Dict[int, int],
+                  k: int) -> typing.Optional[typing.Tuple[int, int, int, int]]:
+        """The chain that ends with word k: its size, and its first choice."""
+        graph = self.graph
+        others = sorted((word for word in words if word != words[k]), key=lambda word: len(graph.leaves[picks[word] >> 1]))
+        inner = 2 * words[k]
+        for word in others[:0:-1]:
+            inner = graph.gate("mux", picks[word], 2 * word, inner)
+        first = others[0]
+        if inner >> 1 == lit >> 1 or graph.gate("mux", picks[first], 2 * first, inner) != lit:
+            return None
+        return sum(len(graph.cone(picks[word])) for word in others), picks[first], 2 * first, inner
+
+    def _with_leaves(self, lit: int, values: typing.Dict[int, int]) -> int:
+        """The literal with leaves replaced."""
+        return replaced(self.graph, lit, values, {})

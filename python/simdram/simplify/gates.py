@@ -1,0 +1,207 @@
+"""The gates of an op at a bit position, over words, bits and states.
+
+A literal is 2 · node, and one more where it is inverted; literal 0 is the constant 0. Literals of at most `LEAVES` leaves
+that have equal truth tables are one literal.
+"""
+
+from __future__ import annotations
+
+import typing
+
+from .truth_tables import LEAVES, Leaves, full, of_gate, smallest, spread
+
+# the kinds of leaves: a source's word, a bit, a state, its last value, and a result of an operation that stays whole
+WORD, BIT, STATE, LAST, WHOLE, CONST = "word", "bit", "state", "last", "whole", "const"
+LEAF_KINDS = (WORD, BIT, STATE, LAST, WHOLE)
+
+
+class Node(typing.NamedTuple):
+    """A leaf with what it is, or a gate with its arguments."""
+
+    kind: str
+    args: typing.Tuple[int, ...] = ()
+    ident: typing.Any = None
+    place: int = 0
+
+    @property
+    def is_leaf(self) -> bool:
+        return self.kind in LEAF_KINDS
+
+
+class Form(typing.NamedTuple):
+    """An operation on literals."""
+
+    op: str
+    args: typing.Tuple[int, ...]
+
+
+class StateRule(typing.NamedTuple):
+    """The direction of a state ("any" where both do) and its next value; every state begins as 0."""
+
+    direction: str
+    next: int
+
+
+Normal = typing.Union[int, typing.Tuple[typing.Tuple[int, ...], int]]
+
+
+class Graph:
+    """Nodes, states and whole operations, each once."""
+
+    def __init__(self) -> None:
+        self.nodes: typing.List[Node] = [Node(CONST)]
+        # of each node: the leaves that make a difference (or all, where there are many) and the table over them,
+        # and the leaves that its gates reach
+        self.support: typing.List[Leaves] = [()]
+        self.table: typing.List[typing.Optional[int]] = [0]
+        self.leaves: typing.List[typing.FrozenSet[int]] = [frozenset()]
+        self.by_leaf: typing.Dict[tuple, int] = {}
+        self.by_table: typing.Dict[tuple, int] = {((), 0): 0}
+        self.by_gate: typing.Dict[tuple, int] = {}
+        self.states: typing.List[StateRule] = []
+        self.wholes: typing.List[Form] = []
+        self.forms: typing.Dict[int, typing.List[Form]] = {}
+
+    def node(self, lit: int) -> Node:
+        """The node of a literal."""
+        return self.nodes[lit >> 1]
+
+    def leaf(self, kind: str, ident: typing.Any, place: int = 0) -> int:
+        """The literal of a leaf."""
+        key = (kind, ident, place)
+        if key not in self.by_leaf:
+            number = self._new(Node(kind, (), ident, place))
+            self.support[number], self.table[number], self.leaves[number] = (number,), 2, frozenset((number,))
+            self.by_leaf[key] = self.by_table[(number,), 2] = 2 * number
+        return self.by_leaf[key]
+
+    def _new(self, node: Node) -> int:
+        self.nodes.append(node)
+        self.support.append(())
+        self.table.append(None)
+        self.leaves.append(frozenset().union(*(self.leaves[lit >> 1] for lit in node.args)))
+        return len(self.nodes) - 1
+
+    # gates
+
+    def gate(self, kind: str, *args: int) -> int:
+        """The literal of a gate: not, and, or, xor, maj, or mux (the second where the first is 1, else the third)."""
+        if kind == "not":
+            return args[0] ^ 1
+        if kind == "or":
+            return self.gate("and", args[0] ^ 1, args[1] ^ 1) ^ 1
+        normal: Normal = getattr(self, f"_{kind}")(*args)
+        if isinstance(normal, int):
+            return normal
+        ordered, flip = normal
+        key = (kind, *(ordered if kind == "mux" else sorted(ordered)))
+        if key not in self.by_gate:
+            self.by_gate[key] = self._made(kind, ordered)
+        return self.by_gate[key] ^ flip
+
+    @staticmethod
+    def _and(*args: int) -> Normal:
+        a, b = sorted(args)
+        if a == 0 or a == b ^ 1:
+            return 0
+        return b if a in (1, b) else (args, 0)
+
+    @staticmethod
+    def _xor(*args: int) -> Normal:
+        flip, args = (args[0] ^ args[1]) & 1, tuple(lit & ~1 for lit in args)
+        a, b = sorted(args)
+        if a == b:
+            return flip
+        return b ^ flip if a == 0 else (args, flip)
+
+    def _maj(self, *args: int) -> Normal:
+        a, b, c = sorted(args)
+        for x, y, z in ((a, b, c), (a, c, b), (b, c, a)):
+            if x >> 1 == y >> 1:
+                return x if x == y else z
+        if a < 2:
+            return self.gate("or" if a else "and", b, c)
+        if sum(lit & 1 for lit in args) > 1:
+            return tuple(lit ^ 1 for lit in args), 1
+        return args, 0
+
+    def _mux(self, s: int, a: int, b: int) -> Normal:
+        if s & 1:
+            s, a, b = s ^ 1, b, a
+        if s == 0 or a == b:
+            return b
+        if a < 2:
+            return self.gate("or", s, b) if a else self.gate("and", s ^ 1, b)
+        if b < 2:
+            return self.gate("or", s ^ 1, a) if b else self.gate("and", s, a)
+        if a == b ^ 1:
+            return self.gate("xor", s, b)
+        for x, y, turn in ((a, b, s), (b, a, s ^ 1)):  # y xor k or y is y xor (turn and k)
+            if self.node(x).kind == "xor" and y & ~1 in self.node(x).args:
+                k = next(lit for lit in self.node(x).args if lit != y & ~1) ^ (x & 1) ^ (y & 1)
+                return self.gate("xor", y, self.gate("and", turn, k))
+        return (s, a, b), 0
+
+    def _made(self, kind: str, args: typing.Tuple[int, ...]) -> int:
+        """The literal of a gate in its normal form: one that stands, where it has the same truth table."""
+        leaves = tuple(sorted(set().union(*(self.support[lit >> 1] for lit in args))))
+        if len(leaves) > LEAVES:
+            number = self._new(Node(kind, args))
+            self.support[number] = leaves
+            return 2 * number
+        table = of_gate(kind, [self._over(lit, leaves) for lit in args], len(leaves))
+        table, leaves = smallest(table, leaves)
+        flip = table & 1
+        key = leaves, table ^ (full(len(leaves)) if flip else 0)
+        if key in self.by_table:
+            return self.by_table[key] ^ flip
+        number = self._new(Node(kind, args))
+        self.support[number], self.table[number] = leaves, table
+        self.by_table[key] = 2 * number ^ flip
+        return 2 * number
+
+    def _over(self, lit: int, leaves: Leaves) -> int:
+        """The table of a literal over more leaves."""
+        found = spread(self.table[lit >> 1], self.support[lit >> 1], leaves)
+        return found ^ full(len(leaves)) if lit & 1 else found
+
+    # states and operations
+
+    def new_state(self) -> int:
+        """The number of a state whose rule comes later."""
+        self.states.append(StateRule("any", 0))
+        return len(self.states) - 1
+
+    def state(self, direction: str, start: int, next_of: typing.Callable[[int], int]) -> int:
+        """The literal of a state; `next_of` gives its next value from its own literal."""
+        number = self.new_state()
+        now = self.leaf(STATE, number) ^ start
+        self.states[number] = StateRule(direction, next_of(now) ^ start)
+        return now
+
+    def last(self, state: int) -> int:
+        """The last value of a state, by the state's literal."""
+        return self.leaf(LAST, self.node(state).ident) ^ (state & 1)
+
+    def whole(self, op: str, *args: int) -> int:
+        """The number of an operation that stays whole."""
+        form = Form(op, args)
+        if form not in self.wholes:
+            self.wholes.append(form)
+        return self.wholes.index(form)
+
+    def form(self, lit: int, op: str, *args: int) -> int:
+        """Notes that a literal is the value of an operation."""
+        found = self.forms.setdefault(lit, [])
+        if Form(op, args) not in found:
+            found.append(Form(op, args))
+        return lit
+
+    def cone(self, lit: int, seen: typing.Optional[typing.Set[int]] = None) -> typing.Set[int]:
+        """The nodes that a literal reaches through gates."""
+        seen = set() if seen is None else seen
+        if lit >> 1 not in seen:
+            seen.add(lit >> 1)
+            for arg in self.node(lit).args:
+                self.cone(arg, seen)
+        return seen

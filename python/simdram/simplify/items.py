@@ -1,0 +1,111 @@
+"""What an op's text must compute: components of states, whole operations, and words that stand in rows."""
+
+from __future__ import annotations
+
+import typing
+
+from .gates import LAST, STATE, WHOLE
+from .gates import WORD as WORD_LEAF
+from .lowering import Lowered
+from .op_tree import WORD
+
+
+class Item(typing.NamedTuple):
+    """A component of states, a whole operation, or a word that stands in a row of its own, by its number or literal."""
+
+    kind: str
+    number: int
+
+
+STATES, OPERATION, ROW = "states", "whole", "word"
+
+
+class Items:
+    """The items of a graph that its results need, and those words of the text that may stand in rows too."""
+
+    def __init__(self, lowered: Lowered) -> None:
+        self.lowered, self.graph = lowered, lowered.graph
+        self.needed: typing.Set[int] = set()
+        self.read_last: typing.Set[int] = set()
+        self.wholes: typing.Dict[int, typing.Set[int]] = {}
+        self.words = list(dict.fromkeys(self._find()))
+        self.component: typing.Dict[int, int] = {}
+        self.components: typing.List[typing.FrozenSet[int]] = []
+        self._join()
+        # the literals that are read as they are, and not only inverted
+        self.read: typing.Set[int] = set()
+        self.optional = self._optional()
+
+    def rule(self, state: int) -> int:
+        """A state's next value."""
+        return self.graph.states[state].next
+
+    def _find(self) -> typing.Iterator[int]:
+        """Finds the states and operations that are needed, and gives the words that must stand in rows."""
+        graph, results = self.graph, self.lowered.results
+        yield from (lit for _, kind, lit in results if kind == WORD and self.needs_row(lit))
+        todo = [lit for _, _, lit in results]
+        while todo:
+            for leaf in graph.leaves[todo.pop() >> 1]:
+                node = graph.nodes[leaf]
+                if node.kind == LAST:
+                    self.read_last.add(node.ident)
+                if node.kind in (STATE, LAST) and node.ident not in self.needed:
+                    self.needed.add(node.ident)
+                    todo.append(self.rule(node.ident))
+                if node.kind == WHOLE:
+                    if node.ident not in self.wholes:
+                        todo += graph.wholes[node.ident].args
+                        yield from (arg for arg in graph.wholes[node.ident].args if self.needs_row(arg, False))
+                    self.wholes.setdefault(node.ident, set()).add(node.place)
+
+    def needs_row(self, lit: int, is_result: bool = True) -> bool:
+        """Whether a word has to be computed into rows: it is no source's and no operation's, and no constant result."""
+        return not (self.graph.node(lit).kind in (WORD_LEAF, WHOLE) and not lit & 1) and not (is_result and lit < 2)
+
+    def _join(self) -> None:
+        """States that read each other are one component."""
+        graph = self.graph
+        reach = {state: {graph.nodes[leaf].ident for leaf in graph.leaves[self.rule(state) >> 1]
+                         if graph.nodes[leaf].kind == STATE} for state in self.needed}
+        for middle in reach:
+            for state in reach:
+                if middle in reach[state]:
+                    reach[state] |= reach[middle]
+        for state in sorted(self.needed):
+            if state not in self.component:
+                joined = frozenset([state, *(other for other in reach[state] if state in reach.get(other, ()))])
+                self.components.append(joined)
+                self.component.update((one, len(self.components) - 1) for one in joined)
+
+    def _optional(self) -> typing.List[int]:
+        """The words of the text that are on the way to a result."""
+        reached: typing.Set[int] = set()
+        roots = [*self.words, *(lit for _, _, lit in self.lowered.results), *map(self.rule, self.needed)]
+        for lit in roots:
+            self.graph.cone(lit, reached)
+        self._note_read(roots)
+        return [lit for lit in dict.fromkeys(self.lowered.optional)
+                if not {lit, lit ^ 1}.intersection(self.words) and lit >> 1 in reached and self.needs_row(lit)]
+
+    def _note_read(self, roots: typing.List[int]) -> None:
+        """Notes which literals are read: an inverted and is an or of the opposites."""
+        todo = list(roots)
+        while todo:
+            lit = todo.pop()
+            if lit not in self.read:
+                self.read.add(lit)
+                node = self.graph.node(lit)
+                todo += [arg ^ (lit & 1 if node.kind == "and" else 0) for arg in node.args]
+
+    def bits_only(self, lit: int) -> bool:
+        """Whether a literal is of bits and last values alone."""
+        return lit > 1 and all(self.graph.nodes[leaf].kind in ("bit", LAST) for leaf in self.graph.leaves[lit >> 1])
+
+    def states_in(self, number: int) -> typing.FrozenSet[int]:
+        """The states of a component."""
+        return self.components[number]
+
+    def is_read_last(self, number: int) -> bool:
+        """Whether a component has a state whose last value is read."""
+        return any(state in self.read_last for state in self.components[number])

@@ -1,0 +1,114 @@
+"""From an op's statements to its graph."""
+
+from __future__ import annotations
+
+import typing
+
+from .forms import Forms
+from .gates import BIT as BIT_LEAF
+from .gates import STATE, WORD as WORD_LEAF
+from .gates import StateRule
+from .op_tree import ALIKE, BIT, TO_BIT, WORD, Block, Expr, Op, WordStatement
+from .states import equal_states, settle
+
+
+class Lowered(Forms):
+    """The graph of an op: its results, the names of literals, and the words of the text that may stand in rows."""
+
+    def __init__(self, op: Op, choice: typing.Sequence[int] = ()) -> None:
+        super().__init__(choice)
+        self.op = op
+        self.values = {name: (kind, self.graph.leaf(WORD_LEAF if kind == WORD else BIT_LEAF, name)) for name, kind in op.params}
+        self.named: typing.Dict[int, str] = {}
+        self.optional: typing.List[int] = []
+        for one in op.body:
+            if isinstance(one, WordStatement):
+                self._word(one)
+            else:
+                self._block(one)
+        self.results = [(name, kind, self.values[name][1]) for name, kind in op.results]
+        self._settle()
+        has_extremes = any(what in ("min", "max") for what, _ in self.options)
+        if has_extremes and self.choose("chain", ("no", "yes")) == "yes":
+            for _, kind, lit in self.results:
+                if kind == WORD:
+                    self.chain(lit)
+
+    def _settle(self) -> None:
+        if not self.graph.states:
+            return
+        now = settle(self.graph, equal_states(self.graph))
+        self.results = [(name, kind, now(lit)) for name, kind, lit in self.results]
+        self.optional = [now(lit) for lit in self.optional]
+        self.named = {now(lit): name for lit, name in reversed(list(self.named.items()))}
+
+    def _keep(self, name: str, kind: str, lit: int) -> None:
+        self.values[name] = (kind, lit)
+        self.named.setdefault(lit, name)
+        if kind == WORD:
+            self.optional.append(lit)
+
+    def _word(self, one: WordStatement) -> None:
+        kinds, args = zip(*(self.values[arg] for arg in one.args)) if one.args else ((), ())
+        if one.op == "divmod":
+            for name, lit in zip(one.targets, self.divide(*args)):
+                self._keep(name, WORD, lit)
+            return
+        kind = BIT if one.op in TO_BIT else kinds[0] if one.op in ALIKE else WORD
+        self._keep(one.targets[0], kind, self.value(one.op, args))
+
+    def _block(self, block: Block) -> None:
+        graph, now, states = self.graph, {}, {}
+        for name, start in block.states:
+            states[name] = graph.new_state()
+            now[name] = graph.leaf(STATE, states[name]) ^ start
+        inside = dict(now)
+        for name, expr in block.lets:
+            inside[name] = self._expr(expr, inside)
+        nexts = {name: self._expr(expr, inside) for name, expr in block.assigns}
+        roots = dict(nexts)
+        for name, start in block.states:
+            after = nexts.pop(name, now[name]) ^ start
+            others = [lit for other, lit in roots.items() if other != name]
+            direction = "any" if self._is_reduction(states[name], after, others) else block.direction
+            graph.states[states[name]] = StateRule(direction, after)
+            self.values[name] = (BIT, graph.last(now[name]))
+            self.named.setdefault(now[name], name)
+        for name, lit in nexts.items():
+            self._keep(name, WORD, lit)
+
+    def _is_reduction(self, state: int, after: int, others: typing.Iterable[int]) -> bool:
+        """Whether a state's last value is the same in both directions, and nothing else reads the state.
+
+        It is a state of and, or, xor with what has no state.
+        """
+        graph, node, now = self.graph, self.graph.node(after), self.graph.leaf(STATE, state)
+        if node.kind not in ("and", "xor") or not {now, now ^ 1}.intersection(node.args):
+            return False
+        own, other = sorted(node.args, key=lambda arg: arg >> 1 != now >> 1)
+        if any(graph.nodes[leaf].kind == STATE for leaf in graph.leaves[other >> 1]):
+            return False
+        is_read = any(now >> 1 in graph.leaves[lit >> 1] for lit in others)
+        return not is_read and (node.kind == "xor" or (own ^ after) & 1 == 0)
+
+    def _expr(self, expr: Expr, inside: typing.Mapping[str, int]) -> int:
+        if expr.gate in ("0", "1"):
+            return int(expr.gate)
+        if expr.gate == "read":
+            return inside[expr.name] if expr.name in inside else self.values[expr.name][1]
+        chosen = self._choice(expr, inside) if expr.gate == "or" else None
+        if chosen is not None:
+            return chosen
+        return self.graph.gate(expr.gate, *(self._expr(arg, inside) for arg in expr.args))
+
+    def _choice(self, expr: Expr, inside: typing.Mapping[str, int]) -> typing.Optional[int]:
+        """A choice that is written as or(and(s, x), and(not(s), y))."""
+        first, second = expr.args
+        if not first.gate == second.gate == "and":
+            return None
+        one, two = ([self._expr(arg, inside) for arg in part.args] for part in (first, second))
+        for i in (0, 1):
+            for j in (0, 1):
+                if one[i] == two[j] ^ 1:
+                    return self.graph.gate("mux", one[i], one[1 - i], two[1 - j])
+        return None

@@ -1,0 +1,184 @@
+"""What statements cost: each is measured once, in an op of its own, many to a call of the program."""
+
+from __future__ import annotations
+
+import copy
+import os
+import subprocess
+import tempfile
+import threading
+import time
+import typing
+
+from .. import run_program
+from ..costs import cost_of
+from ..faults import Fault
+from ..files.store import load, store
+from ..parallel import in_parallel
+from .estimate import guessed
+from .op_tree import BIT, WORD, Body, Op, made_by
+from .statement_alone import Alone, Cost, Costs, alone
+from .statement_cache import StatementCache
+
+# the status of `compile` where the text is refused
+REFUSED = 4
+# statements to a call of the program; ops of one text are at most 32
+AT_ONCE = 8
+# widths at which a statement is always measured, so that it is known at them from then on
+ALSO = (4, 8, 16, 32)
+
+
+class TimeOver(Exception):
+    """The time that was given is over."""
+
+
+class Compiled(typing.NamedTuple):
+    """Of a text the costs of its ops, and its program file."""
+
+    costs: typing.List[Costs]
+    program: bytes
+
+
+class Parts(typing.NamedTuple):
+    """A body by its statements, a low guess at a position of each block, and how many words and bits it defines in scratch."""
+
+    statements: typing.List[Alone]
+    guesses: typing.List[float]
+    words: int
+    bits: int
+
+
+class Measured:
+    """Costs of a program's compiler at widths, up to a time; what is measured once is kept."""
+
+    def __init__(self, program: str, widths: typing.Sequence[int], workers: int = 1,
+                 cache: typing.Optional[StatementCache] = None) -> None:
+        self.program, self.widths, self.workers = program, list(widths), workers
+        # of each statement its own commands and scratch rows at each width; None where it is refused
+        self.kept: typing.Dict[Alone, typing.Optional[Costs]] = {}
+        self.cache = cache.kept if cache else {}
+        self.until = float("inf")
+        self.stopped = threading.Event()
+        # what this search has asked for: its guesses do not depend on what others have measured
+        self.asked: typing.Set[Alone] = set()
+
+    def until_then(self, until: float) -> Measured:
+        """The same, with what is kept, up to another time, for another search."""
+        other = copy.copy(self)
+        other.until, other.asked = until, set()
+        return other
+
+    # the program
+
+    def run(self, words: typing.Sequence[typing.Any], folder: str) -> run_program.Ended:
+        """Runs the program in the time that is left."""
+        self.check_time()
+        left = self.until - time.monotonic()
+        try:
+            ended = run_program.run(words, folder, path=self.program, seconds=None if left == float("inf") else max(left, 0))
+        except subprocess.TimeoutExpired:
+            raise TimeOver from None
+        if ended.status < 0:
+            raise TimeOver
+        if ended.status not in (0, REFUSED):
+            raise Fault(f"{words[0]} ended with status {ended.status}: {ended.out.strip() or ended.err.strip()}")
+        return ended
+
+    def check_time(self) -> None:
+        """Raises if the time is over, or the work was stopped."""
+        if self.stopped.is_set() or time.monotonic() >= self.until:
+            raise TimeOver
+
+    def of_text(self, text: str, also: typing.Iterable[int] = ()) -> typing.Optional[typing.List[Costs]]:
+        """Of each op of a text its costs; nothing where the text is refused or an op is stuck."""
+        found = self.compiled(text, also)
+        return found.costs if found else None
+
+    def compiled(self, text: str, also: typing.Iterable[int] = ()) -> typing.Optional[Compiled]:
+        """The program file of a text and the costs of its ops; nothing where the text is refused or an op is stuck."""
+        with tempfile.TemporaryDirectory(prefix="simdram_") as folder:
+            store(os.path.join(folder, "ops"), text.encode())
+            if self.run(["compile", "ops", "prog"], folder).status:
+                return None
+            found: typing.List[Costs] = []
+            for width in dict.fromkeys([*self.widths, *also]):
+                lines = self.run(["cost", "prog", width], folder).out.splitlines()
+                costs = [cost_of(line) for line in lines]
+                if any(cost.stuck for cost in costs):
+                    return None
+                found = found or [{} for _ in costs]
+                for its, cost in zip(found, costs):
+                    its[width] = Cost(cost.commands, cost.rows)
+            return Compiled(found, load(os.path.join(folder, "prog")))
+
+    # statements
+
+    def of_parts(self, bodies: typing.Sequence[Parts]) -> typing.List[typing.Optional[Costs]]:
+        """The costs of bodies; nothing where a statement is refused."""
+        self._measure([one for parts in bodies for one in parts.statements])
+        self.asked.update(one for parts in bodies for one in parts.statements)
+        return [self.guess(parts) for parts in bodies]
+
+    def unknown(self, parts: Parts) -> typing.Set[Alone]:
+        """The statements of a body that this search has not asked for."""
+        return set(parts.statements) - self.asked
+
+    def parts(self, op: Op, body: Body) -> Parts:
+        """A body's statements, and how many words and bits they define besides the results."""
+        kinds, found, guesses, counts = dict(op.params + op.results), [], [], {WORD: 0, BIT: 0}
+        for one in body:
+            for name, kind in made_by(one, kinds):
+                counts[kind] += name not in kinds
+                kinds[name] = kind
+            found.append(alone(one, kinds))
+            guesses.append(guessed(one, kinds))
+        return Parts(found, guesses, counts[WORD], counts[BIT])
+
+    def guess(self, parts: Parts) -> typing.Optional[Costs]:
+        """The costs of a body: the sum over its statements, which share scratch rows; what was not measured is guessed, low.
+
+        Nothing where a statement is refused.
+        """
+        total = {n: Cost(0, 0) for n in self.widths}
+        for one, each in zip(parts.statements, parts.guesses):
+            costs = self.kept[one] if one in self.asked else {n: Cost(int(each * n), 0) for n in self.widths}
+            if costs is None:
+                return None
+            total = {n: Cost(its.commands + costs[n].commands, max(its.rows, costs[n].rows)) for n, its in total.items()}
+        return {n: Cost(its.commands, its.rows + parts.words * n + parts.bits) for n, its in total.items()}
+
+    def is_known(self, one: Alone) -> bool:
+        """Whether a statement was measured, now or before."""
+        if one not in self.kept and one.key in self.cache:
+            costs = self.cache[one.key]
+            if costs is None or all(str(n) in costs for n in self.widths):
+                self.kept[one] = costs and {n: Cost(*costs[str(n)]) for n in self.widths}
+        return one in self.kept
+
+    def _measure(self, statements: typing.Iterable[Alone]) -> None:
+        """Measures what is not known yet, on all processors."""
+        new = [one for one in dict.fromkeys(statements) if not self.is_known(one)]
+        size = max(1, min(AT_ONCE, -(-len(new) // self.workers)))
+        batches = [new[k:k + size] for k in range(0, len(new), size)]
+        in_time = in_parallel(self._probed, batches) if self.workers > 1 else map(self._probed, batches)
+        if not all(in_time):
+            raise TimeOver
+
+    def _probed(self, statements: typing.Sequence[Alone]) -> bool:
+        """Whether statements could be measured in the time."""
+        try:
+            self._probe(statements)
+        except TimeOver:
+            return False
+        return True
+
+    def _probe(self, statements: typing.Sequence[Alone]) -> None:
+        """Measures statements together, or one by one where one is refused."""
+        found = self.of_text("".join(one.probe(f"e{k}") for k, one in enumerate(statements)), ALSO)
+        if found is None and len(statements) > 1:
+            for one in statements:
+                self._probe([one])
+            return
+        for one, costs in zip(statements, found or [None]):
+            own = costs and {n: one.own_cost(n, cost) for n, cost in costs.items()}
+            self.kept[one], self.cache[one.key] = own, own and {str(n): list(cost) for n, cost in own.items()}

@@ -1,0 +1,146 @@
+"""Where a search over plans starts, and which plans are next to a plan."""
+
+from __future__ import annotations
+
+import dataclasses
+import itertools
+import typing
+
+from .blocks import written
+from .gates import STATE
+from .items import OPERATION, ROW, STATES, Item, Items
+from .op_limits import fits
+from .plans import Group, NoOp, Plan, is_whole
+
+NONE, TOO_GREAT, FITS = 0, 1, 2
+
+
+def possible(items: Items, plan: Plan) -> int:
+    """Whether a plan is an op, and whether it keeps to the limits."""
+    try:
+        return FITS if fits(written(items, plan, False)) else TOO_GREAT
+    except NoOp:
+        return NONE
+
+
+# starts
+
+
+def starts(items: Items) -> typing.List[Plan]:
+    """The text as it was, only what must stand in rows, and all merged that can be."""
+    base = [frozenset([Item(STATES, one)]) for one in range(len(items.components))]
+    base += [frozenset([Item(OPERATION, one)]) for one in sorted(items.wholes)]
+    required, optional = ([Item(ROW, lit) for lit in lits] for lits in (items.words, items.optional))
+    plans = [_start(items, base, words) for words in ([*optional, *required], required)]
+    return [*plans, merged(items, plans[0])]
+
+
+def _start(items: Items, base: typing.Sequence[Group], words: typing.Sequence[Item]) -> Plan:
+    """A statement for each word, with the states that it alone reads."""
+    plan = Plan((*base, *(frozenset([word]) for word in words)))
+    for word in words:  # a word that is a state at each position stands in its block
+        node = items.graph.node(word.number)
+        if node.kind == STATE:
+            plan = _joined(plan, Item(STATES, items.component[node.ident]), word)
+    for word in words:
+        for leaf in sorted(items.graph.leaves[word.number >> 1]):
+            node = items.graph.nodes[leaf]
+            if node.kind == STATE:
+                state = Item(STATES, items.component[node.ident])
+                home = next((group for group in plan.groups if state in group), frozenset())
+                trial = _joined(plan, state, word)
+                if len(home) == 1 and trial is not plan and possible(items, trial):
+                    plan = trial
+    return plan
+
+
+def _joined(plan: Plan, one: Item, other: Item) -> Plan:
+    """The plan with the groups of two items as one; the same where they are."""
+    first, second = (next(group for group in plan.groups if item in group) for item in (one, other))
+    if first is second:
+        return plan
+    return plan.with_groups([*(group for group in plan.groups if group not in (first, second)), first | second])
+
+
+def merged(items: Items, plan: Plan) -> Plan:
+    """All merged that can be."""
+    while True:
+        least = possible(items, plan)
+        trial = next((one for one in merges(plan) if possible(items, one) >= max(least, TOO_GREAT)), None)
+        if trial is None:
+            return plan
+        plan = trial
+
+
+# moves
+
+
+def merges(plan: Plan) -> typing.Iterator[Plan]:
+    """Two groups as one."""
+    groups = plan.groups
+    for i, j in itertools.combinations(range(len(groups)), 2):
+        if not is_whole(groups[i]) and not is_whole(groups[j]):
+            yield plan.with_groups([*(group for k, group in enumerate(groups) if k not in (i, j)), groups[i] | groups[j]])
+
+
+def _with(groups: typing.Sequence[Group], at: int, group: Group) -> typing.List[Group]:
+    return [group if k == at else its for k, its in enumerate(groups)]
+
+
+def splits(plan: Plan) -> typing.Iterator[Plan]:
+    """An item in a group of its own, or in another group."""
+    groups = plan.groups
+    for i, group in enumerate(groups):
+        if is_whole(group) or len(group) < 2:
+            continue
+        for item in sorted(group):
+            rest = _with(groups, i, group - {item})
+            yield plan.with_groups([*rest, frozenset([item])])
+            for j, other in enumerate(groups):
+                if j != i and not is_whole(other):
+                    yield plan.with_groups(_with(rest, j, other | {item}))
+
+
+def rows(items: Items, plan: Plan) -> typing.Iterator[Plan]:
+    """A word of the text in a row, or in none."""
+    groups = plan.groups
+    for word in (Item(ROW, lit) for lit in items.optional):
+        if any(word in group for group in groups):
+            yield plan.with_groups(group - {word} for group in groups)
+            continue
+        yield plan.with_groups([*groups, frozenset([word])])
+        for j, other in enumerate(groups):
+            if not is_whole(other):
+                yield plan.with_groups(_with(groups, j, other | {word}))
+
+
+def again(items: Items, plan: Plan) -> typing.Iterator[Plan]:
+    """A component that each reader computes for itself, or no longer; its last value then in a pass of its own."""
+    for number in range(len(items.components)):
+        item, groups = Item(STATES, number), plan.groups
+        now = dataclasses.replace(plan, again=plan.again ^ {number})
+        without = [group - {item} for group in groups]
+        if number in now.again and not items.is_read_last(number):
+            groups = without
+        elif number in plan.again and not any(item in group for group in groups):
+            groups = [*groups, frozenset([item])]
+        yield now.with_groups(groups)
+        if number in now.again:
+            yield now.with_groups([*without, frozenset([item])])
+
+
+def moves(items: Items, plan: Plan) -> typing.List[Plan]:
+    """The plans next to a plan, each once."""
+    found = itertools.chain(merges(plan), splits(plan), rows(items, plan), again(items, plan))
+    return list({one.key: one for one in found}.values())
+
+
+def spellings(items: Items, plan: Plan, numbers: typing.Iterable[int]) -> typing.List[Plan]:
+    """The same groups written otherwise."""
+    found, numbers = [], list(numbers)
+    for k, group in enumerate(plan.groups):
+        if not is_whole(group):
+            found += [plan.spelled(k, number) for number in numbers]
+            found.append(dataclasses.replace(plan, blocks=plan.blocks ^ {k}))
+    found += [dataclasses.replace(plan, turned=plan.turned ^ {state}) for one in items.components for state in sorted(one)]
+    return found

@@ -1,0 +1,81 @@
+"""What the limits of the language and the readers of a name ask of a body."""
+
+from __future__ import annotations
+
+import typing
+
+from ..word_ops import WEIGHTS
+from .op_tree import Block, Body, Expr, WordStatement, read
+
+STATEMENTS, STATES, ASSIGNMENTS, LETS, WEIGHT, DEPTH = 16, 8, 8, 16, 24, 32
+
+
+def weight(expr: Expr) -> int:
+    """The weight of an expression's gates."""
+    return WEIGHTS.get(expr.gate, 0) + sum(map(weight, expr.args))
+
+
+def depth(expr: Expr) -> int:
+    """How deep its gates nest."""
+    return 1 + max(map(depth, expr.args)) if expr.args else 0
+
+
+def block_fits(block: Block) -> bool:
+    """Whether a block keeps to the limits."""
+    counts = ((block.states, STATES), (block.assigns, ASSIGNMENTS), (block.lets, LETS))
+    return bool(block.assigns) and all(len(part) <= most for part, most in counts) \
+        and sum(map(weight, block.expressions)) <= WEIGHT and max(map(depth, block.expressions)) <= DEPTH
+
+
+def fits(body: Body) -> bool:
+    """Whether a body keeps to the limits."""
+    return len(body) <= STATEMENTS and all(isinstance(one, WordStatement) or block_fits(one) for one in body)
+
+
+def names_in(expr: Expr) -> typing.Iterator[str]:
+    """The names that an expression reads, in order."""
+    if expr.gate == "read":
+        yield expr.name
+    for arg in expr.args:
+        yield from names_in(arg)
+
+
+def needed_in(block: Block, wanted: typing.Container[str]) -> typing.Set[str]:
+    """Which of a block's own names the wanted ones need."""
+    lets, states, nexts = dict(block.lets), dict(block.states), dict(block.assigns)
+    todo, needed = [name for name in [*states, *nexts] if name in wanted], set()
+    while todo:
+        name = todo.pop()
+        if name not in needed:
+            needed.add(name)
+            todo += [below for part in (nexts, lets) if name in part for below in names_in(part[name])
+                     if below in lets or below in states]
+    return needed
+
+
+def live_block(block: Block, wanted: typing.Set[str]) -> typing.Optional[Block]:
+    """A block without what nothing reads; the names that it reads are wanted from then on."""
+    needed = needed_in(block, wanted)
+    if not needed:
+        return None
+    states = tuple(one for one in block.states if one[0] in needed)
+    lets = tuple(one for one in block.lets if one[0] in needed)
+    assigns = tuple(one for one in block.assigns if one[0] in needed) or ((states[0][0], read(states[0][0])),)
+    own = dict(states).keys() | dict(lets).keys()
+    wanted |= {name for _, expr in lets + assigns for name in names_in(expr)} - own
+    return Block(block.direction, states, lets, assigns)
+
+
+def live(body: Body, results: typing.Iterable[str]) -> Body:
+    """The body without what nothing reads: statements, assignments, states and lets."""
+    wanted, kept = set(results), []
+    for one in reversed(body):
+        if isinstance(one, WordStatement):
+            if wanted.intersection(one.targets):
+                wanted |= set(one.args)
+                kept.append(one)
+            continue
+        block = live_block(one, wanted)
+        if block:
+            kept.append(block)
+    return kept[::-1]

@@ -1,0 +1,228 @@
+"""A plan: which items stand in one statement, in which order the statements run, and what each writes for later ones."""
+
+from __future__ import annotations
+
+import dataclasses
+import typing
+
+from .gates import CONST, LAST, STATE, WHOLE
+from .items import OPERATION, ROW, STATES, Item, Items
+
+Group = typing.FrozenSet[Item]
+
+
+class NoOp(Exception):
+    """A plan that is no op of the language."""
+
+
+@dataclasses.dataclass(frozen=True)
+class Plan:
+    """Groups of items, one statement each, and how blocks are written.
+
+    `again` has the components that each block that reads them computes for itself; `spelling` numbers the spelling of a
+    group's block, `turned` has the states that are kept inverted, and `blocks` the groups that are blocks although a word
+    statement would do.
+    """
+
+    groups: typing.Tuple[Group, ...]
+    again: typing.FrozenSet[int] = frozenset()
+    spelling: typing.Tuple[typing.Tuple[int, int], ...] = ()
+    turned: typing.FrozenSet[int] = frozenset()
+    blocks: typing.FrozenSet[int] = frozenset()
+
+    def with_groups(self, groups: typing.Iterable[Group]) -> Plan:
+        """The same with other groups; an empty one goes."""
+        return dataclasses.replace(self, groups=tuple(filter(None, groups)))
+
+    def spelled(self, group: int, number: int) -> Plan:
+        """The same with another spelling of a group."""
+        return dataclasses.replace(self, spelling=tuple({**dict(self.spelling), group: number}.items()))
+
+    @property
+    def key(self) -> tuple:
+        """What two plans of equal statements have in common."""
+        return frozenset(self.groups), self.again
+
+
+def is_whole(group: typing.Iterable[Item]) -> bool:
+    """Whether a group is an operation that stays whole."""
+    return any(item.kind == OPERATION for item in group)
+
+
+class Order:
+    """The order of a plan's groups, and what each group computes and writes."""
+
+    def __init__(self, items: Items, plan: Plan) -> None:
+        self.items, self.graph, self.plan = items, items.graph, plan
+        self.where = {item: k for k, group in enumerate(plan.groups) for item in group}
+        self.row_of = {item.number >> 1: item for item in self.where if item.kind == ROW}
+        self.order = self._sorted(self._edges())
+        self.rank = {group: rank for rank, group in enumerate(self.order)}
+        self.written = {k: [item.number for item in sorted(plan.groups[k]) if item.kind == ROW] for k in self.order}
+        self.computed = {k: {item.number for item in plan.groups[k] if item.kind == STATES} for k in self.order}
+        self.home = {number: k for k in self.order for number in self.computed[k]}
+        for k in reversed(self.order):
+            if not is_whole(plan.groups[k]):
+                Demand(self, k).settle()
+
+    def _edges(self) -> typing.Dict[int, typing.Set[int]]:
+        """Which groups each group needs before it."""
+        edges: typing.Dict[int, typing.Set[int]] = {k: set() for k in range(len(self.plan.groups))}
+        for item, k in self.where.items():
+            for other, is_strict in Needs(self, item).found:
+                if other not in self.where or is_strict and self.where[other] == k:
+                    raise NoOp("an item's need")
+                if self.where[other] != k:
+                    edges[k].add(self.where[other])
+        return edges
+
+    @staticmethod
+    def _sorted(edges: typing.Dict[int, typing.Set[int]]) -> typing.List[int]:
+        order: typing.List[int] = []
+        while len(order) < len(edges):
+            ready = next((k for k in edges if k not in order and edges[k].issubset(order)), None)
+            if ready is None:
+                raise NoOp("a cycle")
+            order.append(ready)
+        return order
+
+
+class Needs:
+    """The items that an item needs; those of which it needs the last value or the whole word must stand before its group."""
+
+    def __init__(self, order: Order, item: Item) -> None:
+        self.of, self.items, self.graph, self.item = order, order.items, order.graph, item
+        self.found: typing.Set[typing.Tuple[Item, bool]] = set()
+        self.seen: typing.Set[int] = set()
+        if item.kind == OPERATION:
+            for arg in self.graph.wholes[item.number].args:
+                self._argument(arg)
+        else:
+            roots = [self.items.rule(one) for one in self.items.states_in(item.number)] if item.kind == STATES else [item.number]
+            self.root = item.number >> 1 if item.kind == ROW else None
+            for lit in roots:
+                self._go(lit)
+
+    def _argument(self, arg: int) -> None:
+        node = self.graph.node(arg)
+        if node.kind == WHOLE and not arg & 1:
+            self.found.add((Item(OPERATION, node.ident), True))
+        elif self.items.needs_row(arg, False):
+            self.found.add((self.of.row_of.get(arg >> 1, Item(ROW, arg)), True))
+
+    def _go(self, lit: int) -> None:
+        number, node = lit >> 1, self.graph.node(lit)
+        if number in self.seen or node.kind == CONST:
+            return
+        self.seen.add(number)
+        own = node.kind == STATE and self.item == Item(STATES, self.items.component[node.ident])
+        if number in self.of.row_of and number != self.root and not own:
+            self.found.add((self.of.row_of[number], False))
+        elif not node.is_leaf:
+            for arg in node.args:
+                self._go(arg)
+        elif node.kind == STATE and not own:
+            self._state(self.items.component[node.ident])
+        elif node.kind == LAST:
+            self.found.add((Item(STATES, self.items.component[node.ident]), True))
+        elif node.kind == WHOLE:
+            self.found.add((Item(OPERATION, node.ident), True))
+
+    def _state(self, component: int) -> None:
+        if component in self.of.plan.again:
+            for state in self.items.states_in(component):
+                self._go(self.items.rule(state))
+        else:
+            self.found.add((Item(STATES, component), False))
+
+
+class Demand:
+    """What a group's block reads of others: where it needs the states of an earlier block, that one writes a row."""
+
+    def __init__(self, order: Order, group: int) -> None:
+        self.of, self.items, self.graph, self.group = order, order.items, order.graph, group
+        self.seen: typing.Set[int] = set()
+
+    def settle(self) -> None:
+        """Finds all that the group computes and that earlier groups write for it."""
+        written, computed = self.of.written[self.group], self.of.computed[self.group]
+        before = None
+        while before != (len(written), len(computed)):
+            before = len(written), len(computed)
+            for lit in list(written):
+                self._go(lit)
+            for component in list(computed):
+                self._component(component)
+
+    def _component(self, component: int) -> None:
+        for state in self.items.states_in(component):
+            self._go(self.items.rule(state))
+
+    def _other_row(self, number: int) -> typing.Optional[int]:
+        """The other group in which a node stands in a row."""
+        item = self.of.row_of.get(number)
+        return self.of.where[item] if item is not None and self.of.where[item] != self.group else None
+
+    def _go(self, lit: int) -> None:
+        number, node = lit >> 1, self.graph.node(lit)
+        if number in self.seen:
+            return
+        self.seen.add(number)
+        if node.kind == CONST or node.is_leaf and node.kind != STATE:
+            return
+        other = self._other_row(number)
+        if other is not None:
+            if self.of.rank[other] > self.of.rank[self.group]:
+                raise NoOp("a row that comes later")
+            return
+        if self._is_cut(number):
+            return
+        if not node.is_leaf:
+            for arg in node.args:
+                self._go(arg)
+        else:
+            component = self.items.component[node.ident]
+            if component in self.of.plan.again and component not in self.of.computed[self.group]:
+                self.of.computed[self.group].add(component)
+                self._component(component)
+
+    def _is_cut(self, number: int) -> bool:
+        """Whether the node is read from a row that the group of its states writes."""
+        node, computed = self.graph.nodes[number], self.of.computed[self.group]
+        leaves = [self.graph.nodes[leaf] for leaf in self.graph.leaves[number]]
+        read = {self.items.component[leaf.ident] for leaf in leaves if leaf.kind == STATE}
+        if not read or any(one in computed or one in self.of.plan.again for one in read):
+            return False
+        if not node.is_leaf and (self._is_covered(number) or number in self.of.row_of):
+            return False
+        writer = max((self.of.home[one] for one in read), key=self.of.rank.__getitem__)
+        if self.of.rank[writer] < self.of.rank[self.group] and all(self._stands(leaf, writer) for leaf in leaves):
+            if not {2 * number, 2 * number + 1}.intersection(self.of.written[writer]):
+                self.of.written[writer].append(2 * number)
+            return True
+        if node.is_leaf:
+            raise NoOp("a state that no row can hold")
+        return False
+
+    def _stands(self, leaf: typing.Any, writer: int) -> bool:
+        """Whether a leaf is known before the writer's block."""
+        if leaf.kind == LAST:
+            return self.of.rank[self.of.home[self.items.component[leaf.ident]]] < self.of.rank[writer]
+        if leaf.kind == WHOLE:
+            return self.of.rank[self.of.where[Item(OPERATION, leaf.ident)]] < self.of.rank[writer]
+        return True
+
+    def _is_covered(self, number: int, is_top: bool = True) -> bool:
+        """Whether rows already give all that a node needs of other blocks."""
+        if not is_top and self._has_row(number):
+            return True
+        node = self.graph.nodes[number]
+        if node.is_leaf or node.kind == CONST:
+            return node.kind != STATE
+        return all(self._is_covered(arg >> 1, False) for arg in node.args)
+
+    def _has_row(self, number: int) -> bool:
+        if self._other_row(number) is not None:
+            return True
+        return any({2 * number, 2 * number + 1}.intersection(written) for group, written in self.of.written.items()
+                   if self.of.rank[group] < self.of.rank[self.group])

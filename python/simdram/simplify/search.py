@@ -1,0 +1,210 @@
+"""The search for the text of an op that costs the least: over plans, spellings, and other forms of operations."""
+
+from __future__ import annotations
+
+import typing
+
+from .blocks import written
+from .items import Items
+from .lowering import Lowered
+from .measured import AT_ONCE, Compiled, Measured, Parts, TimeOver
+from .moves import moves, spellings, starts
+from .op_tree import Body, Op, body_text
+from .plans import NoOp, Plan
+from .spelling import STYLES
+from .statement_alone import Costs
+
+ROUNDS = 2
+# how many drawn orders of the arguments of and, or are tried for each block of the best plan
+DRAWN = 3
+# a start whose low guess is so many times as dear as the best is not climbed from
+FAR = 1.15
+Score = typing.Tuple[float, ...]
+WORST: Score = (float("inf"),)
+# what is added to the score of a text for each width at which it is dearer
+DEARER = 1000.0
+
+
+class Found(typing.NamedTuple):
+    """A plan with its body and its score."""
+
+    score: Score
+    body: typing.Optional[Body]
+    plan: typing.Optional[Plan]
+
+
+class Candidate(typing.NamedTuple):
+    """A plan that may be better: a low guess at its score, its body, and its statements."""
+
+    guess: float
+    body: Body
+    plan: Plan
+    parts: Parts
+
+
+class Simpler(typing.NamedTuple):
+    """What became of an op: its body, its costs before and after, whether the search came to its end, and the new program file."""
+
+    op: Op
+    body: Body
+    before: Costs
+    after: Costs
+    is_whole: bool
+    program: bytes = b""
+
+    @property
+    def is_changed(self) -> bool:
+        """Whether the body is another one."""
+        return self.body is not self.op.body
+
+    @property
+    def text(self) -> str:
+        """The op with the body."""
+        return self.op.text(self.body)
+
+
+class Search:
+    """The search for one op; no text is taken that is dearer at a width, or, with `keeps_rows`, has more scratch rows.
+
+    `end` is when the text that was found must be measured as a whole.
+    """
+
+    def __init__(self, op: Op, measured: Measured, before: Costs, keeps_rows: bool = False, end: float = float("inf")) -> None:
+        self.op, self.measured, self.before, self.keeps_rows, self.end = op, measured, before, keeps_rows, end
+        self.best = Found(WORST, None, None)
+
+    def score(self, costs: typing.Optional[Costs]) -> Score:
+        """How dear a text is: its commands beside those before, then its rows."""
+        if costs is None:
+            return WORST
+        pairs = [(costs[n], self.before[n]) for n in self.before]
+        dearer = sum(now.commands > old.commands or self.keeps_rows and now.rows > old.rows for now, old in pairs)
+        ratio = sum(now.commands / max(old.commands, 1) for now, old in pairs)
+        return DEARER * dearer + ratio, sum(now.rows for now, _ in pairs)
+
+    def candidates(self, items: Items, plans: typing.Iterable[Plan]) -> typing.List[Candidate]:
+        """The plans that are ops, those first that are guessed to be the least."""
+        found = []
+        for plan in plans:
+            self.measured.check_time()
+            body = body_of(items, plan)
+            if body is not None:
+                parts = self.measured.parts(self.op, body)
+                found.append(Candidate(self.guess(parts), body, plan, parts))
+        return sorted(found, key=lambda one: one.guess)
+
+    def guess(self, parts: Parts) -> float:
+        """How dear a body is guessed to be."""
+        return self.score(self.measured.guess(parts))[0]
+
+    def best_of(self, items: Items, plans: typing.Iterable[Plan], best: Found = Found(WORST, None, None)) -> Found:
+        """A better plan among some, or the one so far: the most promising are measured, a few at a time, up to the first that is."""
+        left = self.candidates(items, plans)
+        while left:
+            left = [one._replace(guess=self.guess(one.parts)) for one in left]
+            left = [one for one in left if one.guess <= best.score[0]]
+            some, left = self._some(left)
+            found = min(self._measured(some), key=lambda one: one.score, default=best)
+            if found.score < best.score:
+                return found
+        return best
+
+    def _some(self, left: typing.List[Candidate]) -> typing.Tuple[typing.List[Candidate], typing.List[Candidate]]:
+        """The first candidates with a few new statements, and the others."""
+        left, new, count = sorted(left, key=lambda one: one.guess), set(), 0
+        while count < len(left) and len(new) < AT_ONCE:
+            new |= self.measured.unknown(left[count].parts)
+            count += 1
+        return left[:count], left[count:]
+
+    def _measured(self, some: typing.Sequence[Candidate]) -> typing.List[Found]:
+        """Candidates, measured as many at once as there are workers; the best so far is known after each."""
+        found = []
+        for k in range(0, len(some), self.measured.workers):
+            part = some[k:k + self.measured.workers]
+            costs = self.measured.of_parts([one.parts for one in part])
+            found += [Found((*self.score(cost), len(body_text(one.body))), one.body, one.plan) for one, cost in zip(part, costs)]
+            self.best = min([self.best, *found], key=lambda one: one.score)
+        return found
+
+    def climb(self, items: Items, best: Found) -> Found:
+        """Goes to a better plan next to a plan as long as there is one."""
+        while best.plan is not None:
+            found = self.best_of(items, moves(items, best.plan), best)
+            if found is best:
+                break
+            best = found
+        return best
+
+    def spelled(self, items: Items, best: Found) -> Found:
+        """The best spelling of a plan: of its choices, of its states' polarity, and as blocks where word statements do."""
+        while best.plan is not None:
+            found = self.best_of(items, spellings(items, best.plan, range(STYLES + DRAWN)), best)
+            if found is best:
+                break
+            best = found
+        return best
+
+    def attempt(self, choice: typing.Sequence[int]) -> typing.Tuple[Found, Lowered]:
+        """The best plan with some forms of the operations; a start that is far from the best so far is left out."""
+        lowered = Lowered(self.op, choice)
+        items, best = Items(lowered), Found(WORST, None, None)
+        near = [one for one in self.candidates(items, starts(items)) if one.guess <= self.best.score[0] * FAR]
+        for start in sorted(self._measured(near), key=lambda one: one.score):
+            best = min(best, self.climb(items, start), key=lambda one: one.score)
+        return best, lowered
+
+    def over_forms(self) -> None:
+        """Tries the forms of operations: one for all, then each by itself."""
+        best, lowered = self.attempt([])
+        choice = [0] * len(lowered.options)
+        most = max((len(names) for _, names in lowered.options), default=1)
+        for number in range(1, most):
+            trial = [min(number, len(names) - 1) for _, names in lowered.options]
+            best, lowered, choice = self._better(trial, best, lowered, choice)
+        for _ in range(ROUNDS):
+            before = best
+            for k in range(len(choice)):
+                for number in range(len(lowered.options[k][1]) if k < min(len(choice), len(lowered.options)) else 0):
+                    if k < len(choice) and number != choice[k]:
+                        trial = [*choice[:k], number, *choice[k + 1:]]
+                        best, lowered, choice = self._better(trial, best, lowered, choice)
+            if best is before:
+                break
+        self.spelled(Items(lowered), best)
+
+    def _better(self, trial: typing.List[int], best: Found, lowered: Lowered,
+                choice: typing.List[int]) -> typing.Tuple[Found, Lowered, typing.List[int]]:
+        """The trial where it is better, else what was found before."""
+        found, other = self.attempt(trial)
+        if found.score >= best.score:
+            return best, lowered, choice
+        return found, other, (trial + [0] * len(other.options))[:len(other.options)]
+
+    def run(self) -> Simpler:
+        """The op with the best text that was found in the time, measured as a whole; else as it was."""
+        is_whole = True
+        try:
+            self.over_forms()
+        except TimeOver:
+            is_whole = False
+        found = self._whole(self.best.body) if self.best.body is not None else None
+        old, new = self.score(self.before), self.score(found.costs[0] if found else None)
+        if new < old or new == old and len(self.best.body) < len(self.op.body):
+            return Simpler(self.op, self.best.body, self.before, found.costs[0], is_whole, found.program)
+        return Simpler(self.op, self.op.body, self.before, self.before, is_whole)
+
+    def _whole(self, body: Body) -> typing.Optional[Compiled]:
+        """A body compiled as a whole, if that can be done in time."""
+        try:
+            return self.measured.until_then(self.end).compiled(self.op.text(body))
+        except TimeOver:
+            return None
+
+
+def body_of(items: Items, plan: Plan) -> typing.Optional[Body]:
+    """The statements of a plan, or nothing where it is no op."""
+    try:
+        return written(items, plan)
+    except NoOp:
+        return None

@@ -1,0 +1,136 @@
+"""A statement by itself, as it is measured: names by their places, and the arguments of xor and maj in one order."""
+
+from __future__ import annotations
+
+import typing
+
+from .op_tree import BIT, WORD, Block, Expr, Statement, WordStatement, body_text, made_by, read
+
+# what a word by `zero` and a bit by `not` take in commands
+ZERO, NOT_BIT = 1, 2
+ASSOCIATIVE, SYMMETRIC = ("xor",), ("maj",)
+
+
+class Cost(typing.NamedTuple):
+    """Row commands and scratch rows."""
+
+    commands: int
+    rows: int
+
+
+Costs = typing.Dict[int, Cost]
+
+
+class Alone(typing.NamedTuple):
+    """A statement with names by their places: its text, and the kinds of what it reads and of what it defines."""
+
+    text: str
+    reads: typing.Tuple[str, ...]
+    makes: typing.Tuple[str, ...]
+
+    @property
+    def key(self) -> str:
+        """What its cost is kept by."""
+        return f"{self.text}# {', '.join(self.reads)}"
+
+    @property
+    def words(self) -> int:
+        """How many words it reads."""
+        return sum(name.endswith(WORD) for name in self.reads)
+
+    @property
+    def bits(self) -> int:
+        """How many bits it reads."""
+        return len(self.reads) - self.words
+
+    def probe(self, name: str) -> str:
+        """An op that does the statement, with words by `zero` and bits by `not`."""
+        pairs = (pair.split(": ") for pair in self.reads)
+        lines = [f"  {what} = {'zero()' if kind == WORD else 'not(s)'};\n" for what, kind in pairs]
+        return f"op {name}(a: word, s: bit) -> y: word {{\n{''.join(lines)}{self.text}  y = zero();\n}}\n"
+
+    def own_cost(self, n: int, cost: Cost) -> Cost:
+        """What the statement itself takes of its probe's cost at a width."""
+        made = self.makes.count(WORD) * n + self.makes.count(BIT)
+        return Cost(cost.commands - (self.words + 1) * ZERO * n - self.bits * NOT_BIT, cost.rows - self.words * n - self.bits - made)
+
+
+def renamed(expr: Expr, names: typing.Callable[[str], str]) -> Expr:
+    """An expression with other names."""
+    return read(names(expr.name)) if expr.gate == "read" else Expr(expr.gate, tuple(renamed(arg, names) for arg in expr.args))
+
+
+def operands(expr: Expr, gate: str) -> typing.Iterator[Expr]:
+    """The operands of nested gates of one kind."""
+    for arg in expr.args:
+        yield from operands(arg, gate) if arg.gate == gate else (arg,)
+
+
+def rank(expr: Expr) -> typing.Tuple[bool, str]:
+    """Where an operand stands among others: complements come last, so that a sum of a carry kept inverted takes the fewest."""
+    return expr.gate == "not", str(expr)
+
+
+def in_order(expr: Expr) -> Expr:
+    """An expression with the arguments of xor and maj in one order, and nested xor associated to the left."""
+    if expr.gate in ASSOCIATIVE:
+        parts = sorted(map(in_order, operands(expr, expr.gate)), key=rank)
+        found = parts[0]
+        for part in parts[1:]:
+            found = Expr(expr.gate, (found, part))
+        return found
+    args = tuple(map(in_order, expr.args))
+    return expr._replace(args=tuple(sorted(args, key=rank)) if expr.gate in SYMMETRIC else args)
+
+
+Pairs = typing.Tuple[typing.Tuple[str, Expr], ...]
+
+
+def by_places(one: Statement, names: typing.Dict[str, str]) -> Statement:
+    """A statement with names by the places where they first stand; `names` gets them."""
+    def again(name: str) -> str:
+        return names.setdefault(name, f"v{len(names)}")
+
+    def of_pairs(pairs: Pairs) -> Pairs:
+        found = [(name, renamed(expr, again)) for name, expr in pairs]
+        return tuple((again(name), expr) for name, expr in found)
+
+    if isinstance(one, WordStatement):
+        args = tuple(map(again, one.args))
+        return WordStatement(tuple(map(again, one.targets)), one.op, args)
+    lets, assigns = of_pairs(one.lets), of_pairs(one.assigns)
+    return Block(one.direction, tuple((again(name), start) for name, start in one.states), lets, assigns)
+
+
+def ordered(one: Statement) -> Statement:
+    """A statement with its gates in one order."""
+    if isinstance(one, WordStatement):
+        return one
+    lets, assigns = (tuple((name, in_order(expr)) for name, expr in pairs) for pairs in (one.lets, one.assigns))
+    return Block(one.direction, one.states, lets, assigns)
+
+
+def normal(one: Statement) -> Statement:
+    """A statement as it is measured, with its own names."""
+    names: typing.Dict[str, str] = {}
+    found = ordered(by_places(one, names))
+    own = {place: name for name, place in names.items()}
+    return with_names(found, own.__getitem__)
+
+
+def with_names(one: Statement, names: typing.Callable[[str], str]) -> Statement:
+    """A statement with other names."""
+    if isinstance(one, WordStatement):
+        return WordStatement(tuple(map(names, one.targets)), one.op, tuple(map(names, one.args)))
+    lets, assigns = (tuple((names(name), renamed(expr, names)) for name, expr in pairs) for pairs in (one.lets, one.assigns))
+    return Block(one.direction, tuple((names(name), start) for name, start in one.states), lets, assigns)
+
+
+def alone(one: Statement, kinds: typing.Mapping[str, str]) -> Alone:
+    """A statement by itself."""
+    names: typing.Dict[str, str] = {}
+    plain = by_places(normal(one), names)
+    made = dict(made_by(one, kinds))
+    own = set(made) if isinstance(one, WordStatement) else {*made, *dict(one.lets)}
+    reads = tuple(f"{place}: {kinds[name]}" for name, place in names.items() if name not in own)
+    return Alone(body_text([plain]), reads, tuple(made.values()))

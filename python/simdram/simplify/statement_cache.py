@@ -1,0 +1,67 @@
+"""What statements cost, kept on disk: one file for each program, since another compiler may find other costs."""
+
+from __future__ import annotations
+
+import hashlib
+import json
+import os
+import pathlib
+import typing
+
+FOLDER = "SIMDRAM_CACHE"
+# by a statement's text, then by width, its commands and scratch rows; None where it is refused
+Kept = typing.Dict[str, typing.Optional[typing.Dict[str, typing.List[int]]]]
+
+
+def folder() -> pathlib.Path:
+    """Where things are kept: SIMDRAM_CACHE, or `simdram` in the user's cache folder."""
+    named = os.environ.get(FOLDER)
+    return pathlib.Path(named) if named else pathlib.Path.home() / ".cache" / "simdram"
+
+
+def sum_of(program: str) -> str:
+    """What tells a program from others."""
+    return hashlib.sha256(pathlib.Path(program).read_bytes()).hexdigest()
+
+
+def load_json(path: pathlib.Path) -> typing.Any:
+    """What a file keeps, or nothing where it cannot be read."""
+    try:
+        return json.loads(path.read_text(encoding="utf-8"))
+    except (OSError, ValueError):
+        return None
+
+
+def store_json(path: pathlib.Path, what: typing.Any) -> None:
+    """Keeps something where that can be done; a reader sees the file as a whole."""
+    beside = path.with_name(f"{path.name}.new{os.getpid()}")
+    try:
+        path.parent.mkdir(parents=True, exist_ok=True)
+        beside.write_text(json.dumps(what), encoding="utf-8")
+        os.replace(beside, path)
+    except OSError:
+        pass
+
+
+def checked(found: typing.Any) -> Kept:
+    """What a file keeps, without what has another form."""
+    def is_cost(costs: typing.Any) -> bool:
+        return costs is None or isinstance(costs, dict) and all(
+            isinstance(one, list) and len(one) == 2 and all(isinstance(number, int) for number in one) for one in costs.values())
+
+    return {key: costs for key, costs in found.items() if is_cost(costs)} if isinstance(found, dict) else {}
+
+
+class StatementCache:
+    """The costs of statements by one program."""
+
+    def __init__(self, program: str) -> None:
+        self.path = folder() / f"statements-{sum_of(program)[:16]}.json"
+        self.kept: Kept = checked(load_json(self.path))
+        self.size = len(self.kept)
+
+    def save(self) -> None:
+        """Stores what is new beside what others have stored meanwhile."""
+        if len(self.kept) > self.size:
+            store_json(self.path, {**checked(load_json(self.path)), **self.kept})
+            self.size = len(self.kept)

@@ -1,0 +1,27 @@
+"""Costs that are guessed instead of measured: a search by them is fast and tries other plans, for tests of what is written."""
+
+import support  # noqa: F401  (the path)
+
+from simdram.simplify.estimate import OPTIMISM, guessed
+from simdram.simplify.measured import Measured
+from simdram.simplify.op_tree import Block, read_ops
+from simdram.simplify.statement_alone import Cost
+
+
+class Guessed(Measured):
+    """Measures nothing."""
+
+    def __init__(self, widths):
+        super().__init__("", widths)
+
+    def _measure(self, statements):
+        for one in statements:
+            if not self.is_known(one):
+                op = read_ops(f"op e({', '.join(one.reads) or 'v99: word'}) -> y: word {{\n{one.text}}}".encode())[0]
+                first = op.body[0]
+                each = guessed(first, dict(op.params)) / (OPTIMISM if isinstance(first, Block) else 1)
+                self.kept[one] = {n: Cost(int(each * n) + 1, 0) for n in self.widths}
+
+    def of_text(self, text, also=()):
+        op = read_ops(text.encode())[0]
+        return self.of_parts([self.parts(op, op.body)])
