@@ -7,7 +7,10 @@ use Rattle.loop_ir.specs.declared.ir.Span.TheVariants.{Full, First, Above}
 use Rattle.loop_ir.specs.declared.ir.Place.{Place}
 use Rattle.loop_ir.specs.Plain.{Block, LevelOf, InnerOf, TurnOf, StepOf}
 use Rattle.loop_ir.specs.Plain.InnerOf.{Alone, Across, AtLevel}
-use Rattle.loop_ir.specs.Plain.StepOf.{Single, Along, Nest, Pairs, Alternate}
+use Rattle.loop_ir.specs.Plain.StepOf.{Single, Along, Nest, Pairs, Alternate, Flowed}
+use Rattle.loop_ir.specs.Flows.{FlowOf}
+use Rattle.loop_ir.specs.FlowTests.{widths}
+use Rattle.loop_ir.specs.Loops.{RoundOf, flow_rounds}
 use Rattle.loop_ir.specs.Spots.{is_state}
 
 -- the states among the places, by their layouts
@@ -87,6 +90,15 @@ turns_find alive [] = true
 turns_find alive (t ∷ ts) = (finds alive t.each && finds alive t.last)
     && turns_find (left_by t.each) ts
 
+-- each round finds the states that it reads among those that the one before it leaves
+abbrev pub chained : List ℕ → List (RoundOf Block) → Bool
+chained alive [] = true
+chained alive (r ∷ rs) = finds alive r.part && chained (left_by r.part) rs
+
+-- so it is in a flow, at each width, where none is found as it begins
+abbrev pub flow_finds : FlowOf Block → Bool
+flow_finds f = list_all (λ n. chained [] (flow_rounds n f)) widths
+
 -- each step finds its states: a loop that may have no round leaves none that is sure, nor does one
 -- whose last body is not always the same
 abbrev pub steps_find : List ℕ → List (StepOf Block) → Bool
@@ -96,5 +108,6 @@ steps_find alive (Along b ∷ ss) = loop_finds alive b && steps_find (left_by b)
 steps_find alive (Pairs b ∷ ss) = loop_finds alive b && steps_find [] ss
 steps_find alive (Alternate ts ∷ ss) = turns_find alive ts && (turns_find (turns_left alive ts) ts
     && steps_find [] ss)
+steps_find alive (Flowed f ∷ ss) = flow_finds f && steps_find [] ss
 steps_find alive (Nest span ps ∷ ss) = inner_finds alive ps && (inner_finds (inner_left alive ps) ps
     && steps_find (surely span (inner_left (inner_left alive ps) ps)) ss)

@@ -12,10 +12,11 @@ use Rattle.loop_ir.specs.declared.ir.Sub.{Sub}
 use Rattle.loop_ir.specs.declared.ir.Sub.TheVariants.{Zero, Top, Inner as At_inner, InnerDown}
 use Rattle.loop_ir.specs.declared.ir.Sub.TheVariants.{Outer, OuterDown, Sum, DownSum, SumTwice}
 use Rattle.loop_ir.specs.declared.ir.Sub.TheVariants.{AboveSumTwice, AboveSum, DownPlusN}
-use Rattle.loop_ir.specs.declared.ir.Sub.TheVariants.{NPlusInner}
+use Rattle.loop_ir.specs.declared.ir.Sub.TheVariants.{NPlusInner, Register}
 use Rattle.loop_ir.specs.Plain.{Block, LevelOf, InnerOf, TurnOf, StepOf}
 use Rattle.loop_ir.specs.Plain.InnerOf.{Alone, Across, AtLevel}
-use Rattle.loop_ir.specs.Plain.StepOf.{Single, Along, Nest, Pairs, Alternate}
+use Rattle.loop_ir.specs.Plain.StepOf.{Single, Along, Nest, Pairs, Alternate, Flowed}
+use Rattle.loop_ir.specs.Flows.{flow_size, flow_bodies}
 use Rattle.row_alloc.specs.HeldBodies.{HeldBody, held_at, held_sequence_for}
 use Rattle.loop_ir.specs.Loops.{RoundOf}
 use Rattle.loop_ir.specs.Same.{is_body}
@@ -117,6 +118,7 @@ sub_code NPlusInner = 9
 sub_code SumTwice = 10
 sub_code AboveSumTwice = 11
 sub_code AboveSum = 12
+sub_code (Register r) = 13 + r
 
 -- both are one subscript
 abbrev pub same_sub : Sub → Sub → Bool
@@ -171,13 +173,15 @@ span_cost Full = 0
 span_cost First = 0
 span_cost Above = 2
 
--- how many instructions a step may take: 3 more for a loop that may have no round
+-- how many instructions a step may take: 3 more for a loop that may have no round, and 7 for the
+-- registers with which a flow begins
 abbrev pub step_cost : StepOf Block → ℕ
 step_cost (Single b) = single_cost b
 step_cost (Along b) = body_cost b + 15
 step_cost (Nest span parts) = span_cost span + sum_by inner_cost parts
 step_cost (Pairs b) = body_cost b + 18
 step_cost (Alternate ts) = turns_cost ts
+step_cost (Flowed f) = 7 + flow_size body_cost f
 
 -- how many instructions a loop program may take, its end aside
 abbrev pub code_cost : List (StepOf Block) → ℕ
@@ -196,6 +200,7 @@ step_bodies (Along b) = 1
 step_bodies (Nest span parts) = sum_by inner_bodies parts
 step_bodies (Pairs b) = 1
 step_bodies (Alternate ts) = 2 * length ts
+step_bodies (Flowed f) = flow_bodies f
 
 -- the number of bodies of a loop program
 abbrev pub bodies : List (StepOf Block) → ℕ

@@ -1,20 +1,23 @@
 -- What a loop program keeps, so that its code is legal and short.
 use Rattle.std.specs.Prelude.{◌≡◌, ℕ, ◌+◌, ◌<◌, ◌≤◌, Bool, true, false, ◌&&◌, ◌||◌, List, []}
 use Rattle.std.specs.Prelude.{◌++◌}
-use Rattle.std.specs.Prelude.{length, not, Option, Some, None}
+use Rattle.std.specs.Prelude.{length, not, nat_lt, Option, Some, None}
 use Rattle.std.specs.List.{AllByRecursion, list_all}
 use Rattle.bit_rows.specs.declared.TheConstants.{WIDTH_MAX}
 use Rattle.mig_graph.specs.Graph.{IsGraph}
+use Rattle.loop_ir.specs.declared.ir.Place.{Place}
 use Rattle.loop_ir.specs.declared.ir.Sub.{Sub}
 use Rattle.loop_ir.specs.declared.ir.Sub.TheVariants.{Zero, Top, Inner as At_inner, InnerDown}
 use Rattle.loop_ir.specs.declared.ir.Sub.TheVariants.{Outer, OuterDown, Sum, DownSum, SumTwice}
 use Rattle.loop_ir.specs.declared.ir.Sub.TheVariants.{AboveSumTwice, AboveSum, DownPlusN}
-use Rattle.loop_ir.specs.declared.ir.Sub.TheVariants.{NPlusInner}
+use Rattle.loop_ir.specs.declared.ir.Sub.TheVariants.{NPlusInner, Register}
 use Rattle.loop_ir.specs.Plain.{Block, LevelOf, InnerOf, StepOf, all_turns, AllParts}
 use Rattle.loop_ir.specs.Plain.InnerOf.{Alone, Across, AtLevel}
-use Rattle.loop_ir.specs.Plain.StepOf.{Single, Along, Nest, Pairs, Alternate}
+use Rattle.loop_ir.specs.Plain.StepOf.{Single, Along, Nest, Pairs, Alternate, Flowed}
+use Rattle.loop_ir.specs.Flows.{FlowOf, AllFlow, all_flow}
+use Rattle.loop_ir.specs.FlowTests.{counts, nests, runs_safely}
 use Rattle.loop_ir.specs.Loops.{RoundOf, all_rounds}
-use Rattle.loop_ir.specs.Spots.{Spot, IsOwn, is_state, nth_place, nth_spot}
+use Rattle.loop_ir.specs.Spots.{Spot, IsOwn, is_state, nth_place, spot_in, nth_spot}
 use Rattle.loop_ir.specs.WellFormed.{IsWellFormed}
 use Rattle.row_alloc.specs.declared.body.OutRow.{OutRow}
 use Rattle.row_alloc.specs.Held.{DoesHeld}
@@ -67,6 +70,7 @@ may_stand inner outer NPlusInner = inner
 may_stand inner outer SumTwice = inner && outer
 may_stand inner outer AboveSumTwice = inner && outer
 may_stand inner outer AboveSum = inner && outer
+may_stand inner outer (Register r) = false
 
 -- every place of the body has such a subscript
 abbrev pub all_stand : Bool → Bool → Block → Bool
@@ -96,6 +100,32 @@ abbrev pub stays_inner : Block → Bool
 stays_inner b = list_all (λ p. same_sub p.sub Zero || (same_sub p.sub At_inner
     || same_sub p.sub InnerDown)) (b.reads ++ b.writes)
 
+-- the subscript is 0 or one of a flow's registers
+abbrev pub is_in_register : Sub → Bool
+is_in_register Zero = true
+is_in_register Top = false
+is_in_register At_inner = false
+is_in_register InnerDown = false
+is_in_register Outer = false
+is_in_register OuterDown = false
+is_in_register Sum = false
+is_in_register DownSum = false
+is_in_register DownPlusN = false
+is_in_register NPlusInner = false
+is_in_register SumTwice = false
+is_in_register AboveSumTwice = false
+is_in_register AboveSum = false
+is_in_register (Register r) = nat_lt r 7
+
+-- every place of the body has such a subscript
+abbrev pub stays_in_registers : Block → Bool
+stays_in_registers b = list_all (λ p. is_in_register p.sub) (b.reads ++ b.writes)
+
+-- a flow that code can be made of: no turn changes its loop's counter, at most two loops stand
+-- inside one another, its places stand in registers, and at each width its run is safe
+abbrev pub flow_stands : FlowOf Block → Bool
+flow_stands f = counts f && (nests 2 f && (all_flow stays_in_registers f && runs_safely f))
+
 -- so it is in a step, whose loops have the indices that its subscripts use
 abbrev pub step_stands : StepOf Block → Bool
 step_stands (Single b) = all_stand false false b
@@ -103,6 +133,7 @@ step_stands (Along b) = all_stand true false b
 step_stands (Nest span parts) = list_all inner_stands parts
 step_stands (Pairs b) = all_stand true true b
 step_stands (Alternate ts) = all_turns stays_inner ts
+step_stands (Flowed f) = flow_stands f
 
 -- In a round the body's places with rows are rows that it may have, and none of its writes is a
 -- source's. The row of a write is that of no other write, and that of at most one read, which is a
@@ -110,20 +141,42 @@ step_stands (Alternate ts) = all_turns stays_inner ts
 pub record IsRound (may_have : Spot → Type 0) (n : ℕ) (r : RoundOf Block) : Type 0 where
   pub reads : (k : ℕ) → k < length r.part.reads
       → is_state (nth_place r.part.reads k).space ≡ false
-      → may_have (nth_spot n r.i r.o r.part.reads k)
+      → may_have (nth_spot n r.i r.o r.regs r.part.reads k)
   pub writes : (j : ℕ) → j < length r.part.writes
       → is_state (nth_place r.part.writes j).space ≡ false
-      → may_have (nth_spot n r.i r.o r.part.writes j)
-  pub own : (j : ℕ) → j < length r.part.writes → IsOwn (nth_spot n r.i r.o r.part.writes j).space
+      → may_have (nth_spot n r.i r.o r.regs r.part.writes j)
+  pub own : (j : ℕ) → j < length r.part.writes → IsOwn (nth_spot n r.i r.o r.regs r.part.writes j).space
   pub apart : (i j : ℕ) → i < length r.part.writes → j < length r.part.writes
-      → nth_spot n r.i r.o r.part.writes i ≡ nth_spot n r.i r.o r.part.writes j → i ≡ j
+      → nth_spot n r.i r.o r.regs r.part.writes i ≡ nth_spot n r.i r.o r.regs r.part.writes j → i ≡ j
   pub same : (j k : ℕ) → j < length r.part.writes → k < length r.part.reads
-      → nth_spot n r.i r.o r.part.writes j ≡ nth_spot n r.i r.o r.part.reads k
+      → nth_spot n r.i r.o r.regs r.part.writes j ≡ nth_spot n r.i r.o r.regs r.part.reads k
       → nth_place r.part.writes j ≡ nth_place r.part.reads k
   pub once : (j k l : ℕ) → j < length r.part.writes → k < length r.part.reads
-      → l < length r.part.reads → nth_spot n r.i r.o r.part.writes j
-      ≡ nth_spot n r.i r.o r.part.reads k → nth_spot n r.i r.o r.part.writes j
-      ≡ nth_spot n r.i r.o r.part.reads l → k ≡ l
+      → l < length r.part.reads → nth_spot n r.i r.o r.regs r.part.writes j
+      ≡ nth_spot n r.i r.o r.regs r.part.reads k → nth_spot n r.i r.o r.regs r.part.writes j
+      ≡ nth_spot n r.i r.o r.regs r.part.reads l → k ≡ l
+
+-- the value has a row, at some width, that may be had
+abbrev pub IsHad : (ℕ → Spot → Type 0) → Place → Type 0
+IsHad may_have p = (n : ℕ) × (v : ℕ) × may_have n (spot_in n p.space p.which v)
+
+-- Whether or not the body is done, the values with rows that it reads and writes are such, and it
+-- writes no source's
+pub record HasValues (may_have : ℕ → Spot → Type 0) (b : Block) : Type 0 where
+  pub reads : (k : ℕ) → k < length b.reads → is_state (nth_place b.reads k).space ≡ false
+      → IsHad may_have (nth_place b.reads k)
+  pub writes : (j : ℕ) → j < length b.writes → is_state (nth_place b.writes j).space ≡ false
+      → IsHad may_have (nth_place b.writes j)
+  pub own : (j : ℕ) → j < length b.writes → IsOwn (nth_place b.writes j).space
+
+-- so it is in a flow, whose branches may never be taken; in any other step each body has a round
+abbrev pub StepHasValues : (ℕ → Spot → Type 0) → StepOf Block → Type 0
+StepHasValues may_have (Single b) = Unit {0}
+StepHasValues may_have (Along b) = Unit {0}
+StepHasValues may_have (Nest span parts) = Unit {0}
+StepHasValues may_have (Pairs b) = Unit {0}
+StepHasValues may_have (Alternate ts) = Unit {0}
+StepHasValues may_have (Flowed f) = AllFlow (HasValues may_have) f
 
 -- At every width code can be made of the loop program: at most 12 bodies, each small, which find
 -- the states that they read, and at most 256 instructions
@@ -132,6 +185,7 @@ pub record CanCompile (may_have : ℕ → Spot → Type 0) (steps : List (StepOf
   pub small : AllParts IsSmall steps
   pub find : steps_find [] steps ≡ true
   pub stand : list_all step_stands steps ≡ true
+  pub values : AllByRecursion (StepHasValues may_have) steps
   pub rounds : (n : ℕ) → 0 < n → n ≤ WIDTH_MAX
       → AllByRecursion (IsRound (may_have n) n) (all_rounds n steps)
   pub size : code_cost steps ≤ 256

@@ -14,7 +14,14 @@ use Rattle.loop_ir.specs.declared.ir.Inner.TheVariants as code_inner
 use Rattle.loop_ir.specs.declared.ir.Turn.{Turn}
 use Rattle.loop_ir.specs.declared.ir.Step.{Step}
 use Rattle.loop_ir.specs.declared.ir.Step.TheVariants as code_step
+use Rattle.loop_ir.specs.declared.ir.Flow as code_flow
+use Rattle.loop_ir.specs.declared.ir.Flow.TheVariants as flow
+use Rattle.loop_ir.specs.declared.ir.Turns as code_turns
+use Rattle.loop_ir.specs.declared.ir.Turns.TheVariants as turns
 use Rattle.loop_ir.specs.declared.ir.LoopProgram.{LoopProgram}
+use Rattle.loop_ir.specs.Flows.{FlowOf, TurnsOf, flow_map, AllFlow}
+use Rattle.loop_ir.specs.Flows.FlowOf.{End, Do, Put, If, Loop}
+use Rattle.loop_ir.specs.Flows.TurnsOf.{Last, Turn as Act}
 
 -- a body: read k is input k of the graph, and write j takes output j. It carries the commands that
 -- were found for it, or none
@@ -48,13 +55,14 @@ pub record TurnOf (A : Type 0) : Type 0 where
   pub last : A
 
 -- a body once, a body at each position, parts at some outer positions, a body at each position that
--- has one above it, or bodies that take turns
+-- has one above it, bodies that take turns, or a flow
 pub data StepOf (A : Type 0) : Type 0 where
   Single : A → StepOf A
   Along : A → StepOf A
   Nest : Span → List (InnerOf A) → StepOf A
   Pairs : A → StepOf A
   Alternate : List (TurnOf A) → StepOf A
+  Flowed : FlowOf A → StepOf A
 
 -- the body that the code built, without where it lies in memory
 abbrev pub block_of : Body → Block
@@ -87,6 +95,19 @@ inner_of (code_inner.Level l) = AtLevel (level_of l)
 abbrev pub turn_of : Turn → TurnOf Block
 turn_of t = record { each = block_of t.each; last = block_of t.last }
 
+abbrev mutual
+  -- a flow that the code built
+  pub flow_of : code_flow.Flow → FlowOf Block
+  flow_of flow.End = End
+  flow_of (flow.Do' b p k) = Do (block_of b) (flow_of k)
+  flow_of (flow.Put' m p k) = Put m (flow_of k)
+  flow_of (flow.If' r p x q y s k) = If r (flow_of x) (flow_of y) (flow_of k)
+  flow_of (flow.Loop' r p ts q k) = Loop r (acts_of ts) (flow_of k)
+
+  pub acts_of : code_turns.Turns → TurnsOf Block
+  acts_of (turns.Last' p x) = Last (flow_of x)
+  acts_of (turns.Turn' p x q ts) = Act (flow_of x) (acts_of ts)
+
 -- a step that the code built
 abbrev pub step_of : Step → StepOf Block
 step_of (code_step.Once b) = Single (block_of b)
@@ -95,7 +116,8 @@ step_of (code_step.Nest parts) = Nest Full (map inner_of parts.items)
 step_of (code_step.First parts) = Nest First (map inner_of parts.items)
 step_of (code_step.Above parts) = Nest Above (map inner_of parts.items)
 step_of (code_step.Pairs b) = Pairs (block_of b)
-step_of (code_step.Alternate turns) = Alternate (map turn_of turns.items)
+step_of (code_step.Alternate ts) = Alternate (map turn_of ts.items)
+step_of (code_step.Flow f) = Flowed (flow_of f)
 
 -- the steps of a loop program that the code built
 abbrev pub steps_of : LoopProgram → List (StepOf Block)
@@ -129,6 +151,7 @@ step_map f (Along a) = Along (f a)
 step_map f (Nest span parts) = Nest span (map (inner_map f) parts)
 step_map f (Pairs a) = Pairs (f a)
 step_map f (Alternate ts) = Alternate (map (turn_map f) ts)
+step_map f (Flowed x) = Flowed (flow_map f x)
 
 -- what holds of every body of a level
 pub record AllLevel {A : Type 0} (P : A → Type 0) (l : LevelOf A) : Type 0 where
@@ -167,6 +190,7 @@ AllStep P (Along a) = P a
 AllStep P (Nest span parts) = AllInner P parts
 AllStep P (Pairs a) = P a
 AllStep P (Alternate ts) = AllTurns P ts
+AllStep P (Flowed x) = AllFlow P x
 
 -- what holds of every body of a loop program
 abbrev pub AllParts : {A : Type 0} → (A → Type 0) → List (StepOf A) → Type 0

@@ -36,6 +36,8 @@ pub enum Sub {
     AboveSumTwice,
     /// o + 1 + i.
     AboveSum,
+    /// What this register holds, in a flow.
+    Register(u8),
 }
 
 /// What a row belongs to: the result, a source, or a bit or word of scratch. A value in cells of
@@ -145,6 +147,47 @@ pub struct Turn {
     pub last: Body,
 }
 
+/// What is done to a register of a flow; these are 0 to 6.
+#[derive(Clone, Copy, PartialEq, Eq)]
+pub enum Move {
+    /// A number.
+    SetI(u8, u16),
+    /// The width n.
+    SetN(u8),
+    /// n - 1.
+    SetT(u8),
+    /// The value of the second register.
+    Mov(u8, u8),
+    /// So much more.
+    AddI(u8, u16),
+    /// So much less.
+    SubI(u8, u16),
+}
+
+/// Bodies, moves, choices and loops, one after another: the last flow of each form is what follows.
+/// The subscripts of the bodies are `Zero` and `Register` alone.
+#[derive(Drop)]
+#[cycle(flow)]
+pub enum Flow {
+    End,
+    /// A body.
+    Do(Body, Box<Flow>),
+    /// A move.
+    Put(Move, Box<Flow>),
+    /// The first flow where the register is not 0, else the second.
+    If(u8, Box<Flow>, Box<Flow>, Box<Flow>),
+    /// As many iterations as the register holds. In each it holds how many come after.
+    Loop(u8, Box<Turns>, Box<Flow>),
+}
+
+/// What a loop does: one flow an iteration, in turn, again from the first after the last.
+#[derive(Drop)]
+#[cycle(flow)]
+pub enum Turns {
+    Last(Box<Flow>),
+    Turn(Box<Flow>, Box<Turns>),
+}
+
 /// A body done once, at each position, or parts done one after another at each outer position.
 #[derive(Drop)]
 pub enum Step {
@@ -161,6 +204,8 @@ pub enum Step {
     /// Bodies that take turns in their order, again from the first after the last. Their subscripts
     /// are `Zero`, `Inner` and `InnerDown` alone.
     Alternate(Vec<Turn>),
+    /// A flow, whose registers hold 0 as it begins.
+    Flow(Flow),
 }
 
 impl Step {

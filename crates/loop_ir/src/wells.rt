@@ -3,11 +3,12 @@
 ghost use Rattle.std.specs.Prelude.{◌≡◌, ◌↔◌, ◌<◌, ℕ, true, length, map, ◌∷◌, []};
 ghost use Rattle.mig_graph.specs.Outputs.{AreNamed};
 ghost use Rattle.loop_ir.specs.Plain.{block_of, level_of, inner_of, turn_of, step_of, steps_of};
-ghost use Rattle.loop_ir.specs.Plain.{AllLevel, AllInner, AllTurns, AllStep};
+ghost use Rattle.loop_ir.specs.Plain.{AllLevel, AllInner, AllTurns, AllStep, flow_of, acts_of};
+ghost use Rattle.loop_ir.specs.Flows.{AllFlow, AllActs};
 ghost use Rattle.loop_ir.specs.Spots.{nth_place};
 ghost use Rattle.loop_ir.specs.WellFormed.{IsOneValue, IsWellFormed, AreWellFormed};
 
-use crate::ir::{Body, Inner, Level, LoopProgram, Place, Step, Turn};
+use crate::ir::{Body, Flow, Inner, Level, LoopProgram, Place, Step, Turn, Turns};
 use mig_graph::MigOuts;
 
 /// Whether the two places are rows of one value.
@@ -152,6 +153,33 @@ fn turns_are_well_formed(turns: &[Turn]) -> bool
     }
 }
 
+/// Whether the bodies of a flow are well formed.
+#[cycle(flows)]
+fn flow_is_well_formed(flow: &Flow) -> bool
+    ensures { (result ≡ true) ↔ AllFlow IsWellFormed (flow_of flow.now) }
+{
+    match flow {
+        Flow::End => true,
+        Flow::Do(body, next) => is_well_formed(body) && flow_is_well_formed(next),
+        Flow::Put(_, next) => flow_is_well_formed(next),
+        Flow::If(_, some, none, next) => {
+            flow_is_well_formed(some) && flow_is_well_formed(none) && flow_is_well_formed(next)
+        }
+        Flow::Loop(_, turns, next) => acts_are_well_formed(turns) && flow_is_well_formed(next),
+    }
+}
+
+/// Whether the bodies of a loop's turns are well formed.
+#[cycle(flows)]
+fn acts_are_well_formed(turns: &Turns) -> bool
+    ensures { (result ≡ true) ↔ AllActs IsWellFormed (acts_of turns.now) }
+{
+    match turns {
+        Turns::Last(flow) => flow_is_well_formed(flow),
+        Turns::Turn(flow, more) => flow_is_well_formed(flow) && acts_are_well_formed(more),
+    }
+}
+
 /// Whether the bodies of a step are well formed.
 fn step_is_well_formed(step: &Step) -> bool
     ensures { (result ≡ true) ↔ AllStep IsWellFormed (step_of step.now) }
@@ -164,6 +192,7 @@ fn step_is_well_formed(step: &Step) -> bool
         Step::Above(parts) => parts_are_well_formed(parts),
         Step::Pairs(body) => is_well_formed(body),
         Step::Alternate(turns) => turns_are_well_formed(turns),
+        Step::Flow(flow) => flow_is_well_formed(flow),
     }
 }
 

@@ -17,7 +17,13 @@ use Rattle.loop_ir.specs.declared.ir.Place.{Place}
 use Rattle.loop_ir.specs.Plain.{Block, LevelOf, InnerOf, TurnOf, StepOf, level_map, inner_map}
 use Rattle.loop_ir.specs.Plain.{turn_map}
 use Rattle.loop_ir.specs.Plain.InnerOf.{Alone, Across, AtLevel}
-use Rattle.loop_ir.specs.Plain.StepOf.{Single, Along, Nest, Pairs, Alternate}
+use Rattle.std.proofs.lemmas.List.Sums.{sum_by-cons}
+use Rattle.loop_ir.specs.Loops.{RoundOf, flow_rounds}
+use Rattle.loop_ir.specs.Chains.{chained, flow_finds}
+use Rattle.loop_ir.specs.Flows.{FlowOf, flow_map}
+use Rattle.loop_ir.specs.FlowTests.{widths}
+use Rattle.loop_laws.proofs.FlowRounds.{round_map, flow_rounds_map}
+use Rattle.loop_ir.specs.Plain.StepOf.{Single, Along, Nest, Pairs, Alternate, Flowed}
 use Rattle.loop_ir.specs.Loops.{elements, all_rounds}
 use Rattle.loop_ir.specs.Spots.{is_state, nth_place}
 use Rattle.loop_ir.specs.Same.{same_lits, same_nodes}
@@ -60,11 +66,11 @@ module _ (rooms : List Room) (rows : HaveRows rooms) where
   pick x y (InRoom k) = ap (λ b. cond b (x (room_at rooms k).which) y) (rows k)
   pick x y (InCells w) = refl
 
-  state_like : (o : Owner) → is_state (room_for rooms o).space ≡ is_state (room_for [] o).space
+  pub state_like : (o : Owner) → is_state (room_for rooms o).space ≡ is_state (room_for [] o).space
   state_like (InRoom k) = rows k
   state_like (InCells w) = refl
 
-  enters_like : (k : ℕ) (ms : List Mark) → enters k (map (placed rooms) ms)
+  pub enters_like : (k : ℕ) (ms : List Mark) → enters k (map (placed rooms) ms)
       ≡ enters k (map (placed []) ms)
   enters_like k [] = refl
   enters_like k (m ∷ ms) =
@@ -75,7 +81,7 @@ module _ (rooms : List Room) (rows : HaveRows rooms) where
       ∙ ap (λ t. cond (is_state (room_for [] m.owner).space) (at (room_for [] m.owner).which ∷ t) t)
       (enters_like (k + 1) ms)
 
-  leaves_like : (ms : List Mark) (ls : List Lit) → leaves (map (placed rooms) ms) ls
+  pub leaves_like : (ms : List Mark) (ls : List Lit) → leaves (map (placed rooms) ms) ls
       ≡ leaves (map (placed []) ms) ls
   leaves_like [] ls = refl
   leaves_like (m ∷ ms) [] = refl
@@ -86,7 +92,7 @@ module _ (rooms : List Room) (rows : HaveRows rooms) where
       ∙ ap (λ t. cond (is_state (room_for [] m.owner).space) (at (room_for [] m.owner).which ∷ t) t)
       (leaves_like ms ls)
 
-  outs_like : (ms : List Mark) (ls : List Lit) → row_outs (map (placed rooms) ms) ls
+  pub outs_like : (ms : List Mark) (ls : List Lit) → row_outs (map (placed rooms) ms) ls
       ≡ row_outs (map (placed []) ms) ls
   outs_like [] ls = refl
   outs_like (m ∷ ms) [] = refl
@@ -111,7 +117,7 @@ module _ (rooms : List Room) (rows : HaveRows rooms) where
       ap (λ b. b && list_all (λ p. is_state p.space) (map (placed rooms) ms)) (state_like m.owner)
       ∙ ap (λ t. is_state (room_for [] m.owner).space && t) (all_like ms)
 
-  first_like : (ms : List Mark) → are_rows_first (map (placed rooms) ms)
+  pub first_like : (ms : List Mark) → are_rows_first (map (placed rooms) ms)
       ≡ are_rows_first (map (placed []) ms)
   first_like [] = refl
   first_like (m ∷ ms) =
@@ -163,11 +169,11 @@ module _ (rooms : List Room) (rows : HaveRows rooms) where
   pub held_like : (b : Marked) → held_of (placed_body rooms b) ≡ held_of (placed_body [] b)
   held_like b = among_like held_bodies b
 
-  finds_like : (alive : List ℕ) (b : Marked) → finds alive (placed_body rooms b)
+  pub finds_like : (alive : List ℕ) (b : Marked) → finds alive (placed_body rooms b)
       ≡ finds alive (placed_body [] b)
   finds_like alive b = ap (list_all (λ w. is_alive w alive)) (states_like b.reads)
 
-  left_like : (b : Marked) → left_by (placed_body rooms b) ≡ left_by (placed_body [] b)
+  pub left_like : (b : Marked) → left_by (placed_body rooms b) ≡ left_by (placed_body [] b)
   left_like b = states_like b.writes
 
   loop_like : (alive : List ℕ) (b : Marked) → loop_finds alive (placed_body rooms b)
@@ -267,6 +273,28 @@ module _ (rooms : List Room) (rows : HaveRows rooms) where
   turns_left_like alive (t ∷ ts) = ap (λ l. turns_left l (turns_on rooms ts)) (left_like t.each)
       ∙ turns_left_like (left_by (placed_body [] t.each)) ts
 
+  rounds_find_like : (alive : List ℕ) (rs : List (RoundOf Marked))
+      → chained alive (map (round_map (placed_body rooms)) rs)
+      ≡ chained alive (map (round_map (placed_body [])) rs)
+  rounds_find_like alive [] = refl
+  rounds_find_like alive (r ∷ rs) = both_like _ _ _ _ (finds_like alive r.part)
+      (ap (λ l. chained l (map (round_map (placed_body rooms)) rs)) (left_like r.part)
+      ∙ rounds_find_like (left_by (placed_body [] r.part)) rs)
+
+  flow_find_like : (x : FlowOf Marked) → flow_finds (flow_map (placed_body rooms) x)
+      ≡ flow_finds (flow_map (placed_body []) x)
+  flow_find_like x = at_widths widths
+    where
+      at_widths : (ns : List ℕ)
+          → list_all (λ n. chained [] (flow_rounds n (flow_map (placed_body rooms) x))) ns
+          ≡ list_all (λ n. chained [] (flow_rounds n (flow_map (placed_body []) x))) ns
+      at_widths [] = refl
+      at_widths (n ∷ ns) = both_like _ _ _ _
+          (ap (chained []) (flow_rounds_map Marked Block (placed_body rooms) n x)
+          ∙ rounds_find_like [] (flow_rounds n x)
+          ∙ ap (chained []) (sym (flow_rounds_map Marked Block (placed_body []) n x)))
+          (at_widths ns)
+
   pub steps_find_like : (alive : List ℕ) (ss : List (StepOf Marked))
       → steps_find alive (placed_steps rooms ss) ≡ steps_find alive (placed_steps [] ss)
   steps_find_like alive [] = refl
@@ -287,6 +315,8 @@ module _ (rooms : List Room) (rows : HaveRows rooms) where
       (both_like _ _ _ _
       (ap (λ l. turns_find l (turns_on rooms ts)) (turns_left_like alive ts)
       ∙ turns_find_like (turns_left alive (turns_on [] ts)) ts) (steps_find_like [] ss))
+  steps_find_like alive (Flowed x ∷ ss) = both_like _ _ _ _ (flow_find_like x)
+      (steps_find_like [] ss)
   steps_find_like alive (Nest span ps ∷ ss) =
       let ts = placed_steps rooms ss in
       let qs = map (inner_map (placed_body rooms)) ps in
@@ -315,7 +345,7 @@ module _ (rooms : List Room) (rows : HaveRows rooms) where
       ap (λ h. cond h (held_cost (held_of (placed_body rooms b))) own) (has_like b)
       ∙ ap (λ h. cond (has_states c) (held_cost h) own) (held_like b)
 
-  plain_like : (b : Marked) → plain_cost (placed_body rooms b) ≡ plain_cost (placed_body [] b)
+  pub plain_like : (b : Marked) → plain_cost (placed_body rooms b) ≡ plain_cost (placed_body [] b)
   plain_like b =
       let c = placed_body [] b in
       ap (λ outs. cond (is_copy c) 1 (cond ((length c.graph.nodes == 0) && ((length outs == 0)
@@ -425,6 +455,17 @@ module _ (f : Block → ℕ) (rooms : List Room)
       ∙ ap (λ x. f (placed_body [] t.each) + x)
       (sym (behind rooms) ∙ turns_like (ts ++ (t ∷ [])) count ∙ behind [])
 
+  mapped_like : (rs : List (RoundOf Marked))
+      → rounds_sum f (map (round_map (placed_body rooms)) rs)
+      ≡ rounds_sum f (map (round_map (placed_body [])) rs)
+  mapped_like [] = refl
+  mapped_like (r ∷ rs) = sum_by-cons (λ (q : RoundOf Block). f q.part)
+      (round_map (placed_body rooms) r) (map (round_map (placed_body rooms)) rs)
+      ∙ ap (λ k. k + rounds_sum f (map (round_map (placed_body rooms)) rs)) (like r.part)
+      ∙ ap (λ k. f (placed_body [] r.part) + k) (mapped_like rs)
+      ∙ sym (sum_by-cons (λ (q : RoundOf Block). f q.part) (round_map (placed_body []) r)
+      (map (round_map (placed_body [])) rs))
+
   sum_like : (n : ℕ) (ss : List (StepOf Marked)) → steps_sum f n (placed_steps rooms ss)
       ≡ steps_sum f n (placed_steps [] ss)
   sum_like n [] = refl
@@ -443,6 +484,13 @@ module _ (f : Block → ℕ) (rooms : List Room)
   sum_like n (Alternate t ∷ ss) =
       ap (λ x. 2 * x + steps_sum f n (placed_steps rooms ss)) (turns_like t (n - 1))
       ∙ ap (λ x. 2 * turns_sum f (map (turn_map (placed_body [])) t) (n - 1) + x) (sum_like n ss)
+  sum_like n (Flowed x ∷ ss) =
+      let to = λ (rs : List Room). flow_rounds_map Marked Block (placed_body rs) n x in
+      ap (λ k. 2 * k + steps_sum f n (placed_steps rooms ss))
+      (ap (rounds_sum f) (to rooms) ∙ mapped_like (flow_rounds n x)
+      ∙ ap (rounds_sum f) (sym (to [])))
+      ∙ ap (λ k. 2 * rounds_sum f (flow_rounds n (flow_map (placed_body []) x)) + k)
+      (sum_like n ss)
 
   pub rounds_like : (n : ℕ) (ss : List (StepOf Marked))
       → rounds_sum f (all_rounds n (placed_steps rooms ss))

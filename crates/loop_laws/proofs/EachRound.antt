@@ -5,9 +5,14 @@ use Rattle.loop_ir.specs.Loops.{step_rounds, first_outer, outer_count}
 use Rattle.loop_ir.specs.Plain.{Block, LevelOf, InnerOf, TurnOf, StepOf, level_map, inner_map}
 use Rattle.loop_ir.specs.Plain.{turn_map, step_map, AllLevel, AllInner, AllTurns, AllParts}
 use Rattle.loop_ir.specs.Plain.InnerOf.{Alone, Across, AtLevel}
-use Rattle.loop_ir.specs.Plain.StepOf.{Single, Along, Nest, Pairs, Alternate}
+use Rattle.loop_ir.specs.Plain.StepOf.{Single, Along, Nest, Pairs, Alternate, Flowed}
 use Rattle.loop_ir.specs.Loops.{RoundOf, one_round, rounds, positions, inner_rounds, turns_from}
 use Rattle.loop_ir.specs.Loops.{level_rounds, all_rounds}
+use Rattle.loop_ir.specs.Loops.{flow_rounds}
+use Rattle.loop_ir.specs.Flows.{FlowOf, TurnsOf, AllFlow, AllActs, flow_map, acts_map, zeros}
+use Rattle.loop_ir.specs.Flows.FlowOf.{End, Do, Put, If, Loop}
+use Rattle.loop_ir.specs.Flows.TurnsOf.{Last, Turn}
+use Rattle.loop_laws.proofs.FlowRounds.{run_all}
 use Rattle.loop_ir.specs.Costs.{rounds_cost, plain_costs}
 use Rattle.loop_laws.specs.Rooms.{Room, Marked, placed_body, placed_steps}
 use Rattle.loop_laws.proofs.EveryRound.{all_append, LevelHolds, level_holds}
@@ -64,6 +69,8 @@ module _ (P : Block → Type 0) where
       (all_rounds n ss) (turns_rounds OfPart t 0 (n - 1) (n - 1) (omega arith)
       (λ j le. all.0))
       (each_round n ss all.1)
+  each_round n (Flowed x ∷ ss) all = all_append OfPart (flow_rounds n x) (all_rounds n ss)
+      (run_all Block P n x all.0 zeros) (each_round n ss all.1)
 
   module _ (f : Marked → Block) (h : (b : Marked) → P (f b)) where
     level_made : (l : LevelOf Marked) → AllLevel P (level_map f l)
@@ -86,6 +93,18 @@ module _ (P : Block → Type 0) where
     turns_made [] = tt
     turns_made (t ∷ ts) = ((h t.each, h t.last), turns_made ts)
 
+    mutual
+      flow_made : (x : FlowOf Marked) → AllFlow P (flow_map f x)
+      flow_made End = tt
+      flow_made (Do b k) = (h b, flow_made k)
+      flow_made (Put m k) = flow_made k
+      flow_made (If r x y k) = (flow_made x, (flow_made y, flow_made k))
+      flow_made (Loop r ts k) = (acts_made ts, flow_made k)
+
+      acts_made : (ts : TurnsOf Marked) → AllActs P (acts_map f ts)
+      acts_made (Last x) = flow_made x
+      acts_made (Turn x ts) = (flow_made x, acts_made ts)
+
     pub all_made : (ss : List (StepOf Marked)) → AllParts P (map (step_map f) ss)
     all_made [] = tt
     all_made (Single b ∷ ss) = (h b, all_made ss)
@@ -93,6 +112,7 @@ module _ (P : Block → Type 0) where
     all_made (Nest span xs ∷ ss) = (inners_made xs, all_made ss)
     all_made (Pairs b ∷ ss) = (h b, all_made ss)
     all_made (Alternate ts ∷ ss) = (turns_made ts, all_made ss)
+    all_made (Flowed x ∷ ss) = (flow_made x, all_made ss)
 
 carries_none : (rooms : List Room) (b : Marked) → CarriesFew (placed_body rooms b)
 carries_none rooms b carried = absurd cc

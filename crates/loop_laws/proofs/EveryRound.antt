@@ -20,14 +20,14 @@ use Rattle.loop_ir.specs.declared.ir.Place.{Place}
 use Rattle.loop_ir.specs.Plain.{Block, LevelOf, InnerOf, StepOf, AllLevel, AllInner, AllParts}
 use Rattle.loop_ir.specs.Plain.{level_map, inner_map, turn_map, all_level, all_turns}
 use Rattle.loop_ir.specs.Plain.InnerOf.{Alone, Across, AtLevel}
-use Rattle.loop_ir.specs.Plain.StepOf.{Single, Along, Nest, Pairs, Alternate}
+use Rattle.loop_ir.specs.Plain.StepOf.{Single, Along, Nest, Pairs, Alternate, Flowed}
 use Rattle.loop_ir.specs.Loops.{RoundOf, round_at, one_round, rounds, positions, sub_value}
 use Rattle.loop_ir.specs.Loops.{elements, two_rounds, filled_rounds, level_rounds}
 use Rattle.loop_ir.specs.Loops.{inner_rounds, turns_from, all_rounds}
 use Rattle.loop_ir.specs.Spots.{Spot, spot_at, spot_in, nth_place, nth_spot, IsOwn, is_state}
 use Rattle.loop_ir.specs.WellFormed.{IsOneValue}
 use Rattle.loop_ir.specs.Costs.{used_subs, code_cost, bodies}
-use Rattle.loop_ir.specs.Limits.{IsRound, step_stands}
+use Rattle.loop_ir.specs.Limits.{IsRound, StepHasValues, step_stands}
 use Rattle.loop_ir.specs.Chains.{steps_find}
 use Rattle.loop_laws.specs.Rooms.{Extent, One, Full, extent, Room, room_at, room_for, Owner}
 use Rattle.loop_laws.specs.Rooms.{InRoom, InCells, Mark, Marked, placed, placed_body, placed_steps}
@@ -44,14 +44,14 @@ use Rattle.loop_laws.proofs.TakingTurns.{turns_tested, turns_mapped, turns_both,
 use Rattle.loop_laws.proofs.Alike.{HaveRows, past_row, states_fit, states_known, steps_find_like}
 use Rattle.loop_laws.proofs.Good.{steps_are_fit}
 
-most_is : (a b : ℕ) → nat_le a b ≡ true → a ≤ b
+pub most_is : (a b : ℕ) → nat_le a b ≡ true → a ≤ b
 most_is a b e = grind arith
 
 long : (n : ℕ) (w : Extent) → is_long w ≡ true → n ≤ extent n w
 long n One e = cc
 long n Full e = omega arith
 
-first : (n : ℕ) (w : Extent) → 0 < n → 0 < extent n w
+pub first : (n : ℕ) (w : Extent) → 0 < n → 0 < extent n w
 first n One h = omega arith
 first n Full h = h
 
@@ -107,7 +107,7 @@ outer_below n o false ok e = cc
 
 -- a subscript that fits stays below the number of rows
 pub within : (n i o : ℕ) (r : Reach) (outer : Bool) (w : Extent) (u : Sub) → 0 < n → InnerOk n i o r
-    → OuterOk n o outer → fits r outer w u ≡ true → sub_value n i o u < extent n w
+    → OuterOk n o outer → fits r outer w u ≡ true → sub_value n i o [] u < extent n w
 within n i o r outer w sub.Zero h ik ok e = first n w h
 within n i o r outer w sub.Top h ik ok e = let a = long n w e in omega arith
 within n i o r outer w sub.Inner h ik ok e = let p = and_parts (is_long w) (has_inner r) e in
@@ -131,19 +131,20 @@ within n i o r outer w sub.SumTwice h ik ok e = paired_fits n i o r outer w _ ik
 within n i o r outer w sub.AboveSumTwice h ik ok e =
     paired_fits n i o r outer w _ ik e (omega arith)
 within n i o r outer w sub.AboveSum h ik ok e = paired_fits n i o r outer w _ ik e (omega arith)
+within n i o r outer w (sub.Register k) h ik ok e = cc
 
-nth_placed : (rooms : List Room) (ms : List Mark) (k : ℕ) → k < length ms
+pub nth_placed : (rooms : List Room) (ms : List Mark) (k : ℕ) → k < length ms
     → nth_place (map (placed rooms) ms) k ≡ placed rooms (mark_at ms k)
 nth_placed rooms [] k lt = absurd (omega arith)
 nth_placed rooms (m ∷ ms) zero lt = refl
 nth_placed rooms (m ∷ ms) (suc k) lt = nth_placed rooms ms k (omega arith)
 
-placed_same : (rooms : List Room) (p m : Mark) → p.owner ≡ m.owner → p.sub ≡ m.sub
+pub placed_same : (rooms : List Room) (p m : Mark) → p.owner ≡ m.owner → p.sub ≡ m.sub
     → placed rooms p ≡ placed rooms m
 placed_same rooms p m e f = ap (λ x. placed rooms (record { owner = x; sub = p.sub })) e
     ∙ ap (λ x. placed rooms (record { owner = m.owner; sub = x })) f
 
-below_map : {A B : Type 0} (f : A → B) (xs : List A) (k : ℕ) → k < length (map f xs) → k < length xs
+pub below_map : {A B : Type 0} (f : A → B) (xs : List A) (k : ℕ) → k < length (map f xs) → k < length xs
 below_map f xs k lt = let e = length-map xs f in omega arith
 
 spot_space : (n : ℕ) (s : Space) (w v : ℕ) → (spot_in n s w v).space ≡ s
@@ -153,7 +154,7 @@ spot_space n ScratchBit w v = refl
 spot_space n ScratchWord w v = refl
 spot_space n Cells w v = refl
 
-own_spot : (n : ℕ) (s : Space) (w v : ℕ) → IsOwn s → IsOwn (spot_in n s w v).space
+pub own_spot : (n : ℕ) (s : Space) (w v : ℕ) → IsOwn s → IsOwn (spot_in n s w v).space
 own_spot n Result w v own = own
 own_spot n Source w v own = own
 own_spot n ScratchBit w v own = own
@@ -165,7 +166,7 @@ number_of (InRoom k) = k
 number_of (InCells w) = w
 
 -- two owners are one or they are not
-owner_cases : (a b : Owner) → (a ≡ b) ⊎ (a ≡ b → ⊥)
+pub owner_cases : (a b : Owner) → (a ≡ b) ⊎ (a ≡ b → ⊥)
 owner_cases (InRoom j) (InRoom k) = elim (cases_eq j k) [
   | inl e ↦ inl (ap InRoom e)
   | inr ne ↦ inr (λ e. ne (ap number_of e))
@@ -186,7 +187,7 @@ not_state n r u w v rows e = let f : r.space ≡ Cells =
 
 module _ (n : ℕ) (rooms : List Room) (are : RoomsApart n rooms) (rows : HaveRows rooms) where
   -- rows of two owners of which one may be written are not the same
-  owners_apart : (a b : Owner) (u v : ℕ) → IsThere rooms a → IsThere rooms b
+  pub owners_apart : (a b : Owner) (u v : ℕ) → IsThere rooms a → IsThere rooms b
       → (room_for rooms a).written ≡ true → (a ≡ b → ⊥) → u < extent n (room_for rooms a).rows
       → v < extent n (room_for rooms b).rows
       → row_in n (room_for rooms a) u ≡ row_in n (room_for rooms b) v → ⊥
@@ -200,13 +201,13 @@ module _ (n : ℕ) (rooms : List Room) (are : RoomsApart n rooms) (rows : HaveRo
       ne (ap InCells (ap (λ (q : Spot). q.which) e))
 
   -- a place with a row is an owner's row
-  owned_at : (a : Owner) (u : ℕ) (q : Spot) → IsThere rooms a
+  pub owned_at : (a : Owner) (u : ℕ) (q : Spot) → IsThere rooms a
       → is_state (room_for rooms a).space ≡ false → u < extent n (room_for rooms a).rows
       → q ≡ row_in n (room_for rooms a) u → IsOwned n rooms q
   owned_at (InRoom k) u q there row lu e = (k, u, there, lu, e)
   owned_at (InCells w) u q there row lu e = cc
 
-  own_of : (a : Owner) → IsThere rooms a → (room_for rooms a).written ≡ true
+  pub own_of : (a : Owner) → IsThere rooms a → (room_for rooms a).written ≡ true
       → IsOwn (room_for rooms a).space
   own_of (InRoom k) there w = are.own k there w
   own_of (InCells x) there w = tt
@@ -215,60 +216,60 @@ module _ (n : ℕ) (rooms : List Room) (some : 0 < n) (are : RoomsApart n rooms)
     (rows : HaveRows rooms) (r : Reach) (outer : Bool) (b : Marked)
     (fit : BodyFits r outer rooms b.reads b.writes) where
   module _ (i o : ℕ) (ik : InnerOk n i o r) (ok : OuterOk n o outer) where
-    read_at : (k : ℕ) → k < length b.reads → nth_spot n i o (map (placed rooms) b.reads) k
+    read_at : (k : ℕ) → k < length b.reads → nth_spot n i o [] (map (placed rooms) b.reads) k
         ≡ row_in n (room_for rooms (mark_at b.reads k).owner)
-        (sub_value n i o (mark_at b.reads k).sub)
-    read_at k lk = ap (spot_at n i o) (nth_placed rooms b.reads k lk)
+        (sub_value n i o [] (mark_at b.reads k).sub)
+    read_at k lk = ap (spot_at n i o []) (nth_placed rooms b.reads k lk)
 
-    write_at : (j : ℕ) → j < length b.writes → nth_spot n i o (map (placed rooms) b.writes) j
+    write_at : (j : ℕ) → j < length b.writes → nth_spot n i o [] (map (placed rooms) b.writes) j
         ≡ row_in n (room_for rooms (mark_at b.writes j).owner)
-        (sub_value n i o (mark_at b.writes j).sub)
-    write_at j lj = ap (spot_at n i o) (nth_placed rooms b.writes j lj)
+        (sub_value n i o [] (mark_at b.writes j).sub)
+    write_at j lj = ap (spot_at n i o []) (nth_placed rooms b.writes j lj)
 
     read_below : (k : ℕ) → k < length b.reads
-        → sub_value n i o (mark_at b.reads k).sub
+        → sub_value n i o [] (mark_at b.reads k).sub
         < extent n (room_for rooms (mark_at b.reads k).owner).rows
     read_below k lk = within n i o r outer (room_for rooms (mark_at b.reads k).owner).rows
         (mark_at b.reads k).sub some ik ok (fit.read_fits k lk)
 
     write_below : (j : ℕ) → j < length b.writes
-        → sub_value n i o (mark_at b.writes j).sub
+        → sub_value n i o [] (mark_at b.writes j).sub
         < extent n (room_for rooms (mark_at b.writes j).owner).rows
     write_below j lj = within n i o r outer (room_for rooms (mark_at b.writes j).owner).rows
         (mark_at b.writes j).sub some ik ok (fit.write_fits j lj)
 
     -- rows that are one have one owner
     writes_meet : (i' j : ℕ) → i' < length b.writes → j < length b.writes
-        → nth_spot n i o (map (placed rooms) b.writes) i'
-        ≡ nth_spot n i o (map (placed rooms) b.writes) j
+        → nth_spot n i o [] (map (placed rooms) b.writes) i'
+        ≡ nth_spot n i o [] (map (placed rooms) b.writes) j
         → (mark_at b.writes i').owner ≡ (mark_at b.writes j).owner
     writes_meet i' j li lj e = ⊎_elim
         (λ (c : (mark_at b.writes i').owner ≡ (mark_at b.writes j).owner). c)
         (λ (c : (mark_at b.writes i').owner ≡ (mark_at b.writes j).owner
         → ⊥). absurd (owners_apart n rooms are rows (mark_at b.writes i').owner (mark_at b.writes j).owner
-        (sub_value n i o (mark_at b.writes i').sub) (sub_value n i o (mark_at b.writes j).sub)
+        (sub_value n i o [] (mark_at b.writes i').sub) (sub_value n i o [] (mark_at b.writes j).sub)
         (fit.write_owner i' li) (fit.write_owner j lj) (fit.written i' li) c (write_below i' li)
         (write_below j lj) (sym (write_at i' li) ∙ e ∙ write_at j lj)))
         (owner_cases (mark_at b.writes i').owner (mark_at b.writes j).owner)
 
     reads_meet : (j k : ℕ) → j < length b.writes → k < length b.reads
-        → nth_spot n i o (map (placed rooms) b.writes) j
-        ≡ nth_spot n i o (map (placed rooms) b.reads) k
+        → nth_spot n i o [] (map (placed rooms) b.writes) j
+        ≡ nth_spot n i o [] (map (placed rooms) b.reads) k
         → (mark_at b.writes j).owner ≡ (mark_at b.reads k).owner
     reads_meet j k lj lk e = ⊎_elim
         (λ (c : (mark_at b.writes j).owner ≡ (mark_at b.reads k).owner). c)
         (λ (c : (mark_at b.writes j).owner ≡ (mark_at b.reads k).owner
         → ⊥). absurd (owners_apart n rooms are rows (mark_at b.writes j).owner (mark_at b.reads k).owner
-        (sub_value n i o (mark_at b.writes j).sub) (sub_value n i o (mark_at b.reads k).sub)
+        (sub_value n i o [] (mark_at b.writes j).sub) (sub_value n i o [] (mark_at b.reads k).sub)
         (fit.write_owner j lj) (fit.read_owner k lk) (fit.written j lj) c (write_below j lj)
         (read_below k lk) (sym (write_at j lj) ∙ e ∙ read_at k lk)))
         (owner_cases (mark_at b.writes j).owner (mark_at b.reads k).owner)
 
     space_of : (j : ℕ) → j < length b.writes
-        → IsOwn (nth_spot n i o (map (placed rooms) b.writes) j).space
+        → IsOwn (nth_spot n i o [] (map (placed rooms) b.writes) j).space
     space_of j lj = let w = (room_for rooms (mark_at b.writes j).owner) in
         subst (λ (q : Spot). IsOwn q.space) (sym (write_at j lj))
-        (own_spot n w.space w.which (sub_value n i o (mark_at b.writes j).sub)
+        (own_spot n w.space w.which (sub_value n i o [] (mark_at b.writes j).sub)
         (own_of n rooms are rows (mark_at b.writes j).owner (fit.write_owner j lj)
         (fit.written j lj)))
 
@@ -278,13 +279,13 @@ module _ (n : ℕ) (rooms : List Room) (some : 0 < n) (are : RoomsApart n rooms)
         let wr = below_map (placed rooms) b.writes in
         record {
           reads = λ k lk row. owned_at n rooms are rows (mark_at b.reads k).owner
-              (sub_value n i o (mark_at b.reads k).sub)
-              (nth_spot n i o (map (placed rooms) b.reads) k) (fit.read_owner k (rd k lk))
+              (sub_value n i o [] (mark_at b.reads k).sub)
+              (nth_spot n i o [] (map (placed rooms) b.reads) k) (fit.read_owner k (rd k lk))
               (sym (ap (λ (p : Place). is_state p.space) (nth_placed rooms b.reads k (rd k lk)))
               ∙ row) (read_below k (rd k lk)) (read_at k (rd k lk));
           writes = λ j lj row. owned_at n rooms are rows (mark_at b.writes j).owner
-              (sub_value n i o (mark_at b.writes j).sub)
-              (nth_spot n i o (map (placed rooms) b.writes) j) (fit.write_owner j (wr j lj))
+              (sub_value n i o [] (mark_at b.writes j).sub)
+              (nth_spot n i o [] (map (placed rooms) b.writes) j) (fit.write_owner j (wr j lj))
               (sym (ap (λ (p : Place). is_state p.space) (nth_placed rooms b.writes j (wr j lj)))
               ∙ row) (write_below j (wr j lj)) (write_at j (wr j lj));
           own = λ j lj. space_of j (wr j lj);
@@ -494,6 +495,7 @@ module _ (n : ℕ) (rooms : List Room) (some : 0 < n) (are : RoomsApart n rooms)
       (λ b h. round_is n rooms some are rows Whole false b h j 0 (omega (arith, le, some)) tt) t
       fit.0))
       (rounds_are ss fit.1)
+  rounds_are (Flowed x ∷ ss) fit = absurd fit
 
   level_slim : (l : LevelOf Marked) → LevelFits rooms l
       → all_level has_room (level_map (placed_body rooms) l) ≡ true
@@ -579,6 +581,7 @@ module _ (n : ℕ) (rooms : List Room) (some : 0 < n) (are : RoomsApart n rooms)
             (turns_tested (placed_body []) has_known_states t k.0))),
         steps_slim ss fit.1 a.1 k.1,
       )
+  steps_slim (Flowed x ∷ ss) fit e h = absurd fit
 
 -- the rows that it may have are among others
 pub round_among : (P Q : Spot → Type 0) → ((q : Spot) → P q → Q q) → (n : ℕ) (r : RoundOf Block)
@@ -610,6 +613,17 @@ rooms_row may_have rooms among rows k = elim (cases_lt k (length rooms)) [
   | inr le ↦ past_row rooms k le
 ]
 
+-- a program that fits has no flow
+values_fit : (may_have : ℕ → Spot → Type 0) (rooms : List Room) (ss : List (StepOf Marked))
+    → StepsFit rooms ss → AllByRecursion (StepHasValues may_have) (placed_steps rooms ss)
+values_fit may_have rooms [] fit = tt
+values_fit may_have rooms (Single b ∷ ss) fit = (tt, values_fit may_have rooms ss fit.1)
+values_fit may_have rooms (Along b ∷ ss) fit = (tt, values_fit may_have rooms ss fit.1)
+values_fit may_have rooms (Nest span ps ∷ ss) fit = (tt, values_fit may_have rooms ss fit.1)
+values_fit may_have rooms (Pairs b ∷ ss) fit = (tt, values_fit may_have rooms ss fit.1)
+values_fit may_have rooms (Alternate t ∷ ss) fit = (tt, values_fit may_have rooms ss fit.1)
+values_fit may_have rooms (Flowed f ∷ ss) fit = absurd fit
+
 -- the tests on the marks say of every round at every width what it has to keep
 pub marks_are_enough : (may_have : ℕ → Spot → Type 0) → MarksAreEnough may_have
 marks_are_enough may_have rooms steps are among rows tested short states =
@@ -628,6 +642,7 @@ marks_are_enough may_have rooms steps are among rows tested short states =
           d.0;
       find = steps_find_like rooms have [] steps ∙ d.1;
       stand = b.0;
+      values = values_fit may_have rooms steps fit;
       rounds = λ n some most. rounds_among (IsOwned n rooms) (may_have n) (among n some most) n
           (all_rounds n ss) (rounds_are n rooms some (are n some most) have steps fit);
       size = most_is (code_cost ss) 256 c.0;

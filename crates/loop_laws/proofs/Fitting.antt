@@ -3,7 +3,7 @@ use Rattle.std.proofs.Common.{◌≡◌, ℕ, zero, suc, ◌+◌, ◌-◌, ◌<�
 use Rattle.loop_ir.specs.declared.ir.Sub.TheVariants as sub
 use Rattle.loop_ir.specs.Plain.{LevelOf, InnerOf, StepOf, AllTurns}
 use Rattle.loop_ir.specs.Plain.InnerOf.{Alone, Across, AtLevel}
-use Rattle.loop_ir.specs.Plain.StepOf.{Single, Along, Nest, Pairs, Alternate}
+use Rattle.loop_ir.specs.Plain.StepOf.{Single, Along, Nest, Pairs, Alternate, Flowed}
 use Rattle.loop_laws.specs.Rooms.{Room, room_for, Owner, InRoom, InCells, Mark, Marked}
 use Rattle.loop_laws.specs.Rooms.{Reach, Nowhere, Whole, Left, Below, Paired, fits, reach_of}
 use Rattle.loop_ir.specs.Loops.{elements}
@@ -79,3 +79,4 @@ StepsFit rooms (Nest span ps ∷ ss) = InnersFit rooms ps × StepsFit rooms ss
 StepsFit rooms (Pairs b ∷ ss) = BodyFits Left true rooms b.reads b.writes × StepsFit rooms ss
 StepsFit rooms (Alternate t ∷ ss) = AllTurns (λ (b : Marked). BodyFits Whole false rooms b.reads b.writes)
     t × StepsFit rooms ss
+StepsFit rooms (Flowed f ∷ ss) = ⊥

@@ -6,7 +6,7 @@ use Rattle.std.proofs.lemmas.Bool.{cases_Bool, and_parts, eqb-true, eq-eqb}
 use Rattle.loop_ir.specs.declared.ir.Sub.{Sub}
 use Rattle.loop_ir.specs.Plain.{LevelOf, InnerOf, StepOf, all_turns}
 use Rattle.loop_ir.specs.Plain.InnerOf.{Alone, Across, AtLevel}
-use Rattle.loop_ir.specs.Plain.StepOf.{Single, Along, Nest, Pairs, Alternate}
+use Rattle.loop_ir.specs.Plain.StepOf.{Single, Along, Nest, Pairs, Alternate, Flowed}
 use Rattle.loop_ir.specs.Costs.{sub_code}
 use Rattle.loop_laws.proofs.Same.{sub_true}
 use Rattle.loop_laws.specs.Rooms.{Room, room_for, Owner, InRoom, InCells, same_owner, Mark, Marked}
@@ -19,7 +19,7 @@ use Rattle.loop_laws.proofs.TakingTurns.{turns_all}
 less_is : (a b : ℕ) → nat_lt a b ≡ true → a < b
 less_is a b e = grind arith
 
-there_is : (rooms : List Room) (o : Owner) → is_there o (length rooms) ≡ true → IsThere rooms o
+pub there_is : (rooms : List Room) (o : Owner) → is_there o (length rooms) ≡ true → IsThere rooms o
 there_is rooms (InRoom k) e = less_is k (length rooms) e
 there_is rooms (InCells w) e = tt
 
@@ -35,7 +35,7 @@ not_true : (b : Bool) → not b ≡ true → b ≡ true → ⊥
 not_true true e f = cc
 not_true false e f = cc
 
-none_at : (owner : Owner) (ms : List Mark) (k : ℕ) → none_like owner ms ≡ true → k < length ms
+pub none_at : (owner : Owner) (ms : List Mark) (k : ℕ) → none_like owner ms ≡ true → k < length ms
     → owner ≡ (mark_at ms k).owner → ⊥
 none_at owner [] k e lt h = absurd (omega arith)
 none_at owner (m ∷ ms) zero e lt h = not_true
@@ -62,7 +62,7 @@ alone_cases p m ms e = ⊎_elim
     ))
     (cases_Bool (same_owner p.owner m.owner))
 
-alone_sub : (p : Mark) (ms : List Mark) (k : ℕ) → alone_in p ms ≡ true → k < length ms
+pub alone_sub : (p : Mark) (ms : List Mark) (k : ℕ) → alone_in p ms ≡ true → k < length ms
     → p.owner ≡ (mark_at ms k).owner → p.sub ≡ (mark_at ms k).sub
 alone_sub p [] k e lt h = absurd (omega arith)
 alone_sub p (m ∷ ms) zero e lt h = ⊎_elim
@@ -75,7 +75,7 @@ alone_sub p (m ∷ ms) (suc k) e lt h = ⊎_elim
     (λ (c : (p.owner ≡ m.owner → ⊥) × (alone_in p ms ≡ true)). alone_sub p ms k c.1 (omega arith) h)
     (alone_cases p m ms e)
 
-alone_once : (p : Mark) (ms : List Mark) (k l : ℕ) → alone_in p ms ≡ true → k < length ms
+pub alone_once : (p : Mark) (ms : List Mark) (k l : ℕ) → alone_in p ms ≡ true → k < length ms
     → l < length ms → p.owner ≡ (mark_at ms k).owner → p.owner ≡ (mark_at ms l).owner → k ≡ l
 alone_once p [] k l e lk ll h g = absurd (omega arith)
 alone_once p (m ∷ ms) zero zero e lk ll h g = refl
@@ -96,9 +96,9 @@ alone_once p (m ∷ ms) (suc k) (suc l) e lk ll h g = ⊎_elim
     (alone_once p ms k l c.1 (omega arith) (omega arith) h g))
     (alone_cases p m ms e)
 
-record WriteAt (rooms : List Room) (reads : List Mark) (p : Mark) : Type 0 where
-  written : (room_for rooms p.owner).written ≡ true
-  alone : alone_in p reads ≡ true
+pub record WriteAt (rooms : List Room) (reads : List Mark) (p : Mark) : Type 0 where
+  pub written : (room_for rooms p.owner).written ≡ true
+  pub alone : alone_in p reads ≡ true
 
 record FirstAt (rooms : List Room) (reads : List Mark) (p : Mark) (ms : List Mark) : Type 0 where
   first : WriteAt rooms reads p
@@ -115,14 +115,14 @@ first_at rooms reads p ms e =
     let c = and_parts (none_like p.owner ms) (alone_in p reads) b.1 in
     record { first = record { written = b.0; alone = c.1 }; none = c.0; more = a.1 }
 
-write_at : (rooms : List Room) (reads ms : List Mark) (j : ℕ) → writes_fit rooms reads ms ≡ true
+pub write_at : (rooms : List Room) (reads ms : List Mark) (j : ℕ) → writes_fit rooms reads ms ≡ true
     → j < length ms → WriteAt rooms reads (mark_at ms j)
 write_at rooms reads [] j e lt = absurd (omega arith)
 write_at rooms reads (p ∷ ms) zero e lt = (first_at rooms reads p ms e).first
 write_at rooms reads (p ∷ ms) (suc j) e lt = write_at rooms reads ms j
     (first_at rooms reads p ms e).more (omega arith)
 
-writes_once : (rooms : List Room) (reads ms : List Mark) (i j : ℕ)
+pub writes_once : (rooms : List Room) (reads ms : List Mark) (i j : ℕ)
     → writes_fit rooms reads ms ≡ true → i < length ms → j < length ms
     → (mark_at ms i).owner ≡ (mark_at ms j).owner → i ≡ j
 writes_once rooms reads [] i j e li lj h = absurd (omega arith)
@@ -223,3 +223,4 @@ steps_are_fit rooms (Alternate t ∷ ss) e = let a =
           (λ b h. body_is_fit Whole false rooms b h) t a.0,
       steps_are_fit rooms ss a.1,
     )
+steps_are_fit rooms (Flowed f ∷ ss) e = cc

@@ -1,3 +1,6 @@
+pub mod FlowLogic
+pub mod FlowFine
+pub mod FlowRounds
 pub mod Levels
 pub mod Same
 pub mod TakingTurns

@@ -1,5 +1,5 @@
 -- Bodies and loop programs of which nothing stands in cells.
-use Rattle.std.proofs.Common.{◌≡◌, ℕ, suc, ◌<◌, true, false, cond, List, [], ◌∷◌, ◌++◌}
+use Rattle.std.proofs.Common.{◌≡◌, ℕ, suc, ◌<◌, true, false, cond, List, [], ◌∷◌, ◌++◌, Bool}
 use Rattle.std.proofs.Common.{length, refl, ap, ◌∙◌, arith}
 use Rattle.std.specs.Prelude.{◌||◌, ◌&&◌}
 use Rattle.std.specs.List.{list_any, list_all}
@@ -9,13 +9,19 @@ use Rattle.loop_ir.specs.declared.ir.Place.{Place}
 use Rattle.loop_ir.specs.Plain.{Block, LevelOf, InnerOf, TurnOf, StepOf, AllLevel, AllInner}
 use Rattle.loop_ir.specs.Plain.{AllTurns, AllParts}
 use Rattle.loop_ir.specs.Plain.InnerOf.{Alone, Across, AtLevel}
-use Rattle.loop_ir.specs.Plain.StepOf.{Single, Along, Nest, Pairs, Alternate}
+use Rattle.loop_ir.specs.Plain.StepOf.{Single, Along, Nest, Pairs, Alternate, Flowed}
 use Rattle.loop_ir.specs.Spots.{is_state, nth_place}
 use Rattle.loop_ir.specs.States.{has_states, StatesFit}
 use Rattle.loop_ir.specs.Chains.{states_in, is_alive, finds, left_by, loop_finds, begun_by}
 use Rattle.loop_ir.specs.Chains.{level_left, pairs_find, level_finds}
 use Rattle.loop_ir.specs.Chains.{inner_left, inner_finds, turns_left, turns_find, steps_find}
 use Rattle.loop_laws.proofs.Alike.{or_parts, none_at, none_first, rows_first}
+use Rattle.std.specs.List.{AllByRecursion}
+use Rattle.loop_ir.specs.Flows.{FlowOf, AllFlow, zeros}
+use Rattle.loop_ir.specs.FlowTests.{widths}
+use Rattle.loop_ir.specs.Loops.{RoundOf, flow_rounds}
+use Rattle.loop_ir.specs.Chains.{chained, flow_finds}
+use Rattle.loop_laws.proofs.FlowRounds.{run_all}
 
 -- nothing of the body stands in cells
 abbrev pub HasRows : Block → Type 0
@@ -99,6 +105,21 @@ turns_rows alive (t ∷ ts) all =
     (and_from (finds alive t.each) (finds alive t.last) (rows_find alive t.each all.0.0)
     (rows_find alive t.last all.0.1)) (turns_rows (left_by t.each) ts all.1)
 
+rounds_rows : (alive : List ℕ) (rs : List (RoundOf Block))
+    → AllByRecursion (λ r. HasRows r.part) rs → chained alive rs ≡ true
+rounds_rows alive [] all = refl
+rounds_rows alive (r ∷ rs) all = and_from (finds alive r.part) (chained (left_by r.part) rs)
+    (rows_find alive r.part all.0) (rounds_rows (left_by r.part) rs all.1)
+
+-- a test that passes on whatever passes on all of these
+passes : (test : ℕ → Bool) → ((n : ℕ) → test n ≡ true) → (ns : List ℕ) → list_all test ns ≡ true
+passes test h [] = refl
+passes test h (n ∷ ns) = and_from (test n) (list_all test ns) (h n) (passes test h ns)
+
+flow_rows : (f : FlowOf Block) → AllFlow HasRows f → flow_finds f ≡ true
+flow_rows f all = passes (λ n. chained [] (flow_rounds n f)) (λ n.
+    rounds_rows [] (flow_rounds n f) (run_all Block HasRows n f all zeros)) widths
+
 -- no body looks for a state
 pub no_state_sought : (alive : List ℕ) (ss : List (StepOf Block)) → AllParts HasRows ss
     → steps_find alive ss ≡ true
@@ -115,6 +136,8 @@ no_state_sought alive (Alternate ts ∷ ss) all =
     (turns_rows alive ts all.0)
     (and_from (turns_find again ts) (steps_find [] ss) (turns_rows again ts all.0)
     (no_state_sought [] ss all.1))
+no_state_sought alive (Flowed f ∷ ss) all = and_from (flow_finds f) (steps_find [] ss)
+    (flow_rows f all.0) (no_state_sought [] ss all.1)
 no_state_sought alive (Nest span ps ∷ ss) all =
     let once = inner_left alive ps in
     and_from (inner_finds alive ps) _ (inner_rows alive ps all.0)

@@ -10,7 +10,8 @@ use Rattle.loop_ir.specs.declared.ir.Span.TheVariants.{Full, First, Above}
 use Rattle.loop_ir.specs.declared.ir.Count.TheVariants.{All, Rest, UpTo}
 use Rattle.loop_ir.specs.Plain.{Block, LevelOf, InnerOf, TurnOf, StepOf}
 use Rattle.loop_ir.specs.Plain.InnerOf.{Alone, Across, AtLevel}
-use Rattle.loop_ir.specs.Plain.StepOf.{Single, Along, Nest, Pairs, Alternate}
+use Rattle.loop_ir.specs.Loops.{flow_rounds}
+use Rattle.loop_ir.specs.Plain.StepOf.{Single, Along, Nest, Pairs, Alternate, Flowed}
 use Rattle.loop_ir.specs.Loops.{RoundOf, round_at, one_round, rounds, inner_rounds}
 use Rattle.loop_ir.specs.Loops.{elements, two_rounds, level_start, filled_rounds, level_rounds}
 use Rattle.loop_ir.specs.Loops.{turns_from, step_rounds, all_rounds}
@@ -77,6 +78,7 @@ steps_sum f n (Along b ∷ ss) = 2 * (n * f b) + steps_sum f n ss
 steps_sum f n (Nest span ps ∷ ss) = span_sum f n span ps + steps_sum f n ss
 steps_sum f n (Pairs b ∷ ss) = 2 * ((n - 1) * f b) + steps_sum f n ss
 steps_sum f n (Alternate t ∷ ss) = 2 * turns_sum f t (n - 1) + steps_sum f n ss
+steps_sum f n (Flowed x ∷ ss) = 2 * rounds_sum f (flow_rounds n x) + steps_sum f n ss
 
 module _ (f : Block → ℕ) where
   more : (r : RoundOf Block) (rs : List (RoundOf Block))
@@ -218,6 +220,8 @@ module _ (f : Block → ℕ) where
   sum_is n (Alternate t ∷ ss) = let e = sum_is n ss in
       let a = sum_append (turns_from t 0 (n - 1)) (all_rounds n ss) in
       let c = turns_is t 0 (n - 1) in omega (arith, e, a, c)
+  sum_is n (Flowed x ∷ ss) = let e = sum_is n ss in
+      let a = sum_append (flow_rounds n x) (all_rounds n ss) in omega (arith, e, a)
 
   -- where the first of them have had their turns
   turned_by : (ts us : List (TurnOf Block)) (count : ℕ) → turns_sum f (ts ++ us) (length ts + count)

@@ -7,7 +7,8 @@ use Rattle.mig_graph.specs.Graph.{IsGraph}
 use Rattle.mig_graph.specs.Outputs.{AreNamed}
 use Rattle.loop_ir.specs.Plain.{Block, InnerOf, StepOf, AllParts, all_level, all_turns}
 use Rattle.loop_ir.specs.Plain.InnerOf.{Alone, Across, AtLevel}
-use Rattle.loop_ir.specs.Plain.StepOf.{Single, Along, Nest, Pairs, Alternate}
+use Rattle.loop_ir.specs.Plain.StepOf.{Single, Along, Nest, Pairs, Alternate, Flowed}
+use Rattle.loop_ir.specs.Flows.{all_flow}
 use Rattle.loop_ir.specs.Loops.{all_rounds}
 use Rattle.loop_ir.specs.declared.ir.Place.{Place}
 use Rattle.loop_ir.specs.Spots.{Spot, is_state, nth_place}
@@ -15,7 +16,7 @@ use Rattle.loop_ir.specs.WellFormed.{IsOneValue}
 use Rattle.loop_ir.specs.States.{StatesFit, has_states, held_of}
 use Rattle.loop_ir.specs.Chains.{steps_find}
 use Rattle.loop_ir.specs.Costs.{carries, used_subs, code_cost, bodies}
-use Rattle.loop_ir.specs.Limits.{IsCarried, IsRound, is_served, step_stands}
+use Rattle.loop_ir.specs.Limits.{IsCarried, IsRound, StepHasValues, is_served, step_stands}
 
 -- a body's places and numbers, but for its nodes
 pub record IsSlim (b : Block) : Type 0 where
@@ -43,6 +44,7 @@ pub record HasForm (may_have : ℕ → Spot → Type 0) (steps : List (StepOf Bl
   pub slim : AllParts IsSlim steps
   pub find : steps_find [] steps ≡ true
   pub stand : list_all step_stands steps ≡ true
+  pub values : AllByRecursion (StepHasValues may_have) steps
   pub rounds : (n : ℕ) → 0 < n → n ≤ WIDTH_MAX
       → AllByRecursion (IsRound (may_have n) n) (all_rounds n steps)
   pub size : code_cost steps ≤ 256
@@ -73,6 +75,7 @@ steps_have_room (Along b ∷ ss) = has_room b && steps_have_room ss
 steps_have_room (Nest span ps ∷ ss) = inners_have_room ps && steps_have_room ss
 steps_have_room (Pairs b ∷ ss) = has_room b && steps_have_room ss
 steps_have_room (Alternate t ∷ ss) = all_turns has_room t && steps_have_room ss
+steps_have_room (Flowed f ∷ ss) = all_flow has_room f && steps_have_room ss
 
 -- a loop program is small enough that its code is within the limits: the test that a written
 -- program is checked by
@@ -107,6 +110,7 @@ steps_have_known (Along b ∷ ss) = has_known_states b && steps_have_known ss
 steps_have_known (Nest span ps ∷ ss) = inners_have_known ps && steps_have_known ss
 steps_have_known (Pairs b ∷ ss) = has_known_states b && steps_have_known ss
 steps_have_known (Alternate t ∷ ss) = all_turns has_known_states t && steps_have_known ss
+steps_have_known (Flowed f ∷ ss) = all_flow has_known_states f && steps_have_known ss
 
 -- each body with states is one of those that hold states, and finds the states that it reads
 abbrev pub keeps_states : List (StepOf Block) → Bool

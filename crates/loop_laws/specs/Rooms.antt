@@ -12,7 +12,7 @@ use Rattle.loop_ir.specs.declared.ir.Count.TheVariants.{All, Rest, UpTo}
 use Rattle.loop_ir.specs.declared.ir.Place.{Place}
 use Rattle.loop_ir.specs.Plain.{Block, LevelOf, InnerOf, StepOf, step_map, all_turns}
 use Rattle.loop_ir.specs.Plain.InnerOf.{Alone, Across, AtLevel}
-use Rattle.loop_ir.specs.Plain.StepOf.{Single, Along, Nest, Pairs, Alternate}
+use Rattle.loop_ir.specs.Plain.StepOf.{Single, Along, Nest, Pairs, Alternate, Flowed}
 use Rattle.loop_ir.specs.Spots.{Spot, spot_in, IsOwn}
 use Rattle.loop_ir.specs.Costs.{sub_code}
 
@@ -166,6 +166,7 @@ fits r outer w sub.NPlusInner = false
 fits r outer w sub.SumTwice = is_long w && (outer && is_paired r)
 fits r outer w sub.AboveSumTwice = is_long w && (outer && is_paired r)
 fits r outer w sub.AboveSum = is_long w && (outer && is_paired r)
+fits r outer w (sub.Register k) = false
 
 -- how far the positions of a nest's part go
 abbrev pub reach_of : Count → Reach
@@ -220,7 +221,8 @@ inners_fit rooms (Alone b ∷ ps) = body_fits Nowhere true rooms b && inners_fit
 inners_fit rooms (Across c b ∷ ps) = body_fits (reach_of c) true rooms b && inners_fit rooms ps
 inners_fit rooms (AtLevel l ∷ ps) = level_fits rooms l && inners_fit rooms ps
 
--- the test of a loop program's bodies: it is run once on each written program
+-- the test of a loop program's bodies: it is run once on each written program; none with a flow
+-- is written so
 abbrev pub steps_fit : List Room → List (StepOf Marked) → Bool
 steps_fit rooms [] = true
 steps_fit rooms (Single b ∷ ss) = body_fits Nowhere false rooms b && steps_fit rooms ss
@@ -228,3 +230,4 @@ steps_fit rooms (Along b ∷ ss) = body_fits Whole false rooms b && steps_fit ro
 steps_fit rooms (Nest span ps ∷ ss) = inners_fit rooms ps && steps_fit rooms ss
 steps_fit rooms (Pairs b ∷ ss) = body_fits Left true rooms b && steps_fit rooms ss
 steps_fit rooms (Alternate t ∷ ss) = all_turns (body_fits Whole false rooms) t && steps_fit rooms ss
+steps_fit rooms (Flowed f ∷ ss) = false

@@ -6,4 +6,6 @@ pub mod Each
 pub mod Nest
 pub mod Held
 pub mod Turns
+pub mod Flowed
+pub mod FlowStep
 pub mod Program

@@ -1,7 +1,7 @@
 -- The code of a loop program, each of whose bodies has its commands.
 -- Private contracts alone speak of this.
-use Rattle.std.specs.Prelude.{◌≡◌, ℕ, ◌+◌, ◌||◌, Bool, true, if◌then◌else◌, List, [], ◌∷◌, ◌++◌}
-use Rattle.std.specs.Prelude.{map, length, filter, slice_index_or}
+use Rattle.std.specs.Prelude.{◌≡◌, ℕ, ◌+◌, ◌||◌, Bool, true, false, if◌then◌else◌, List, [], ◌∷◌}
+use Rattle.std.specs.Prelude.{◌++◌, map, length, filter, nat_lt, slice_index_or}
 use Rattle.uprog_code.specs.declared.code.RowSpace.{RowSpace}
 use Rattle.uprog_code.specs.declared.code.RowSpace.TheVariants as row
 use Rattle.uprog_code.specs.declared.code.RowRef.{RowRef}
@@ -19,7 +19,7 @@ use Rattle.loop_ir.specs.declared.ir.Sub.{Sub}
 use Rattle.loop_ir.specs.declared.ir.Sub.TheVariants.{Zero, Top, Inner as At_inner, InnerDown}
 use Rattle.loop_ir.specs.declared.ir.Sub.TheVariants.{Outer, OuterDown, Sum, DownSum, SumTwice}
 use Rattle.loop_ir.specs.declared.ir.Sub.TheVariants.{AboveSumTwice, AboveSum, DownPlusN}
-use Rattle.loop_ir.specs.declared.ir.Sub.TheVariants.{NPlusInner}
+use Rattle.loop_ir.specs.declared.ir.Sub.TheVariants.{NPlusInner, Register}
 use Rattle.loop_ir.specs.declared.ir.Space.{Space}
 use Rattle.loop_ir.specs.declared.ir.Space.TheVariants.{Result, Source, ScratchBit, ScratchWord}
 use Rattle.loop_ir.specs.declared.ir.Space.TheVariants.{Cells}
@@ -29,9 +29,10 @@ use Rattle.loop_ir.specs.declared.ir.Count.TheVariants.{All, Rest, UpTo}
 use Rattle.uprog_gen.specs.declared.plan.Plan.{Plan}
 use Rattle.loop_ir.specs.Plain.{Block, InnerOf, TurnOf, StepOf, step_map}
 use Rattle.loop_ir.specs.Plain.InnerOf.{Alone, Across, AtLevel}
-use Rattle.loop_ir.specs.Plain.StepOf.{Single, Along, Nest, Pairs, Alternate}
+use Rattle.loop_ir.specs.Plain.StepOf.{Single, Along, Nest, Pairs, Alternate, Flowed}
 use Rattle.loop_ir.specs.Spots.{nth_place}
 use Rattle.loop_ir.specs.Costs.{same_sub, is_used, is_fixed}
+use Rattle.uprog_gen.specs.FlowCode.{code_of}
 
 -- a body, which subscripts its registers hold, its outputs with the inputs whose rows they share,
 -- and its commands
@@ -76,11 +77,46 @@ plan_of b = record {
   first = sub_in (own_subs b) 0;
   second = sub_in (own_subs b) 1;
   third = sub_in (own_subs b) 2;
+  named = false;
 }
 
--- the register of a subscript; 8 stands for the number 0
-abbrev pub register : Plan → Sub → ℕ
-register plan s =
+-- the subscript names a register of a flow
+abbrev pub is_register : Sub → Bool
+is_register Zero = false
+is_register Top = false
+is_register At_inner = false
+is_register InnerDown = false
+is_register Outer = false
+is_register OuterDown = false
+is_register Sum = false
+is_register DownSum = false
+is_register DownPlusN = false
+is_register NPlusInner = false
+is_register SumTwice = false
+is_register AboveSumTwice = false
+is_register AboveSum = false
+is_register (Register r) = true
+
+-- the register that a subscript names; 8 stands for the number 0
+abbrev pub named_register : Sub → ℕ
+named_register Zero = 8
+named_register Top = 8
+named_register At_inner = 8
+named_register InnerDown = 8
+named_register Outer = 8
+named_register OuterDown = 8
+named_register Sum = 8
+named_register DownSum = 8
+named_register DownPlusN = 8
+named_register NPlusInner = 8
+named_register SumTwice = 8
+named_register AboveSumTwice = 8
+named_register AboveSum = 8
+named_register (Register r) = if nat_lt r 8 then r else 8
+
+-- the register of a subscript by the plan's three
+abbrev pub planned_register : Plan → Sub → ℕ
+planned_register plan s =
     if same_sub s Zero then 8
     else if same_sub s Outer then 0
     else if same_sub s OuterDown then 1
@@ -89,14 +125,20 @@ register plan s =
     else if same_sub s plan.third then 5
     else 8
 
--- the plan has the subscript, or it needs no register of the body's own
+-- the register of a subscript; 8 stands for the number 0
+abbrev pub register : Plan → Sub → ℕ
+register plan s = if plan.named then named_register s else planned_register plan s
+
+-- the plan has the subscript, or it needs no register of the body's own. One that names a register
+-- is 0 outside of flows
 abbrev pub is_planned : Plan → Sub → Bool
 is_planned plan s = same_sub s Zero || (same_sub s Outer
     || (same_sub s OuterDown || (same_sub s plan.first
-    || (same_sub s plan.second || same_sub s plan.third))))
+    || (same_sub s plan.second || (same_sub s plan.third || is_register s)))))
 
--- each place of the body is at 0 or has a register
+-- the plan has its own three, and each place of the body is at 0 or has one of their registers
 pub record IsPlanned (plan : Plan) (b : Block) : Type 0 where
+  pub own : plan.named ≡ false
   pub reads : (k : ℕ) → is_planned plan (nth_place b.reads k).sub ≡ true
   pub writes : (k : ℕ) → is_planned plan (nth_place b.writes k).sub ≡ true
 
@@ -144,6 +186,7 @@ init NPlusInner r = SetN r ∷ []
 init SumTwice r = Mov r 0 ∷ []
 init AboveSumTwice r = Mov r 0 ∷ []
 init AboveSum r = Mov r 0 ∷ []
+init (Register q) r = SetI r 0 ∷ []
 
 -- before a turn
 abbrev pub before : Sub → ℕ → List Uop
@@ -160,6 +203,7 @@ before NPlusInner r = []
 before SumTwice r = []
 before AboveSumTwice r = AddI r 1 ∷ []
 before AboveSum r = AddI r 1 ∷ []
+before (Register q) r = []
 
 -- after a turn
 abbrev pub after : Sub → ℕ → List Uop
@@ -176,6 +220,7 @@ after Outer r = []
 after OuterDown r = []
 after DownPlusN r = []
 after AboveSum r = []
+after (Register q) r = []
 
 -- register 2 gets the number of turns: n, what is left of it at an outer position, or the positions
 -- up to the outer one
@@ -243,7 +288,7 @@ skip_code r pc end = Bnez r (pc + 3) ∷ leave_code end
 
 -- the two bodies of a pair have three registers, for the elements and for their carry
 abbrev pub pair_plan : Plan
-pair_plan = record { first = SumTwice; second = AboveSumTwice; third = AboveSum }
+pair_plan = record { first = SumTwice; second = AboveSumTwice; third = AboveSum; named = false }
 
 -- the instructions of the commands of one of them
 abbrev pub pair_uops : Part → List Uop
@@ -330,7 +375,7 @@ span_code Above inner pc = above_code inner pc
 
 -- bodies that take turns have one register for the position, and one for how many come after it
 abbrev pub turn_plan : Plan
-turn_plan = record { first = At_inner; second = Zero; third = InnerDown }
+turn_plan = record { first = At_inner; second = Zero; third = InnerDown; named = false }
 
 -- the instructions of the commands of one of them
 abbrev pub turn_uops : Part → List Uop
@@ -366,6 +411,18 @@ cycle_code ts pc =
     let turns = turns_list ts out head in
     start_code head (head + length turns + 1) ++ (turns ++ (Bnez 4 head ∷ []))
 
+-- the subscripts of a flow's bodies name their registers
+abbrev pub flow_plan : Plan
+flow_plan = record { first = Zero; second = Zero; third = Zero; named = true }
+
+-- the instructions of the commands of one of them
+abbrev pub flow_uops : Part → List Uop
+flow_uops p = map (code_uop flow_plan p.block) p.cmds
+
+-- before a flow its registers get 0
+abbrev pub clear_code : List Uop
+clear_code = SetI 0 0 ∷ SetI 1 0 ∷ SetI 2 0 ∷ SetI 3 0 ∷ SetI 4 0 ∷ SetI 5 0 ∷ SetI 6 0 ∷ []
+
 -- the code of a step, whose first instruction has this place
 abbrev pub step_code : StepOf Part → ℕ → List Uop
 step_code (Single p) pc = if is_fixed p.block then body_uops p else outside ++ once_code p
@@ -375,6 +432,7 @@ step_code (Nest span (x ∷ xs)) pc = span_code span (inner_list span (x ∷ xs)
 step_code (Pairs p) pc = pairs_code p pc
 step_code (Alternate []) pc = []
 step_code (Alternate (t ∷ ts)) pc = cycle_code (t ∷ ts) pc
+step_code (Flowed f) pc = clear_code ++ code_of flow_uops f (pc + 7)
 
 -- the code of the steps, whose first instruction has this place
 abbrev pub program_code : List (StepOf Part) → ℕ → List Uop

@@ -5,11 +5,13 @@ use Rattle.uprog_code.specs.declared.code.Uop.{Uop}
 use Rattle.loop_ir.specs.declared.ir.Span.{Span}
 use Rattle.loop_ir.specs.Plain.{Block, LevelOf, InnerOf, TurnOf, StepOf, inner_map, turn_map}
 use Rattle.loop_ir.specs.Plain.{AllInner, AllTurns, AllParts}
+use Rattle.loop_ir.specs.Flows.{FlowOf, TurnsOf, flow_map, acts_map, AllFlow, AllActs}
 use Rattle.uprog_gen.specs.declared.part.Made.{Made}
 use Rattle.uprog_gen.specs.declared.level.Singles.{Singles}
 use Rattle.uprog_gen.specs.Code.{Part, block_of_part, blocks, once_code, none_code, inner_list}
 use Rattle.uprog_gen.specs.Code.{turns_list}
-use Rattle.uprog_gen.specs.Code.{program_code}
+use Rattle.uprog_gen.specs.Code.{flow_uops, program_code}
+use Rattle.uprog_gen.specs.FlowCode.{code_of, turns_code}
 use Rattle.uprog_gen.specs.Made.{part_of}
 use Rattle.uprog_gen.specs.Parts.{IsPart}
 
@@ -47,6 +49,28 @@ pub record EmitsTurns (ts : List (TurnOf Block)) (out : ℕ) (old new : List Uop
   pub same : map (turn_map block_of_part) coded ≡ ts
   pub parts : AllTurns IsPart coded
   pub code : new ≡ old ++ turns_list coded out (length old)
+
+-- the code of a body of a flow came to the old code, with right commands for it
+pub record EmitsBody (b : Block) (old new : List Uop) : Type 0 where
+  pub made : Part
+  pub right : IsPart made
+  pub same : made.block ≡ b
+  pub code : new ≡ old ++ flow_uops made
+
+-- the code of a flow came to the old code, with right commands for each body
+pub record EmitsFlow (x : FlowOf Block) (old new : List Uop) : Type 0 where
+  pub coded : FlowOf Part
+  pub same : flow_map block_of_part coded ≡ x
+  pub parts : AllFlow IsPart coded
+  pub code : new ≡ old ++ code_of flow_uops coded (length old)
+
+-- the code of a loop's turns came to the old code, with right commands for each body and jumps to
+-- these two places
+pub record EmitsActs (r top out : ℕ) (ts : TurnsOf Block) (old new : List Uop) : Type 0 where
+  pub coded : TurnsOf Part
+  pub same : acts_map block_of_part coded ≡ ts
+  pub parts : AllActs IsPart coded
+  pub code : new ≡ old ++ turns_code flow_uops r top out coded (length old)
 
 -- the code of these steps came to the old code, with right commands for each body
 pub record EmitsSteps (steps : List (StepOf Block)) (old new : List Uop) : Type 0 where

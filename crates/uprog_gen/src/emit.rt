@@ -93,7 +93,7 @@ fn uop_of(plan: Plan, body: &Body, cmd: BodyCmd) -> Uop
 }
 
 /// The body's commands, where registers hold these subscripts.
-fn push_commands(code: &mut Vec<Uop>, plan: Plan, body: &Body, made: &Made) -> Result<(), NoMemory>
+pub fn push_commands(code: &mut Vec<Uop>, plan: Plan, body: &Body, made: &Made) -> Result<(), NoMemory>
     requires { IsPart (part_of (block_of body.now) made.now) }
     ensures { OnOk result (code.new.items ≡ code.old.items
         ++ map (code_uop plan (block_of body.now)) made.now.cmds.items) }
@@ -119,7 +119,7 @@ fn push_init(code: &mut Vec<Uop>, sub: Sub, r: u8) -> Result<(), NoMemory>
     match sub {
         Sub::Zero | Sub::Outer | Sub::OuterDown => Ok(()),
         Sub::Top => keep(code, Uop::SetT(r)),
-        Sub::Inner => keep(code, Uop::SetI(r, 0)),
+        Sub::Inner | Sub::Register(_) => keep(code, Uop::SetI(r, 0)),
         Sub::InnerDown => keep(code, Uop::SetN(r)),
         Sub::Sum | Sub::SumTwice => keep(code, Uop::Mov(r, 0)),
         Sub::AboveSumTwice | Sub::AboveSum => keep(code, Uop::Mov(r, 0)),
@@ -140,7 +140,7 @@ fn push_before(code: &mut Vec<Uop>, sub: Sub, r: u8) -> Result<(), NoMemory>
         Sub::AboveSumTwice | Sub::AboveSum => keep(code, Uop::AddI(r, 1)),
         Sub::Zero | Sub::Outer | Sub::OuterDown | Sub::Top | Sub::Inner => Ok(()),
         Sub::Sum | Sub::DownSum | Sub::DownPlusN => Ok(()),
-        Sub::NPlusInner | Sub::SumTwice => Ok(()),
+        Sub::NPlusInner | Sub::SumTwice | Sub::Register(_) => Ok(()),
     }
 }
 
@@ -154,7 +154,7 @@ fn push_after(code: &mut Vec<Uop>, sub: Sub, r: u8) -> Result<(), NoMemory>
         Sub::NPlusInner => keep(code, Uop::AddI(r, 1)),
         Sub::SumTwice => keep(code, Uop::AddI(r, 2)),
         Sub::AboveSumTwice => keep(code, Uop::AddI(r, 1)),
-        Sub::Zero | Sub::Top | Sub::InnerDown => Ok(()),
+        Sub::Zero | Sub::Top | Sub::InnerDown | Sub::Register(_) => Ok(()),
         Sub::Outer | Sub::OuterDown | Sub::DownPlusN | Sub::AboveSum => Ok(()),
     }
 }
@@ -313,6 +313,7 @@ const PAIR_PLAN: Plan = Plan {
     first: Sub::SumTwice,
     second: Sub::AboveSumTwice,
     third: Sub::AboveSum,
+    named: false,
 };
 
 /// The loop over the pairs of a level's elements.
@@ -388,6 +389,7 @@ const TURN_PLAN: Plan = Plan {
     first: Sub::Inner,
     second: Sub::Zero,
     third: Sub::InnerDown,
+    named: false,
 };
 
 /// One of bodies that take turns, and the one that stands in its place at the top position.

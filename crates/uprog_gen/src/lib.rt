@@ -3,6 +3,7 @@
 
 mod emit;
 mod entry;
+mod flow;
 mod graphs;
 mod head;
 mod layout;

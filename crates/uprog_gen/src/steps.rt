@@ -13,6 +13,7 @@ ghost use Rattle.uprog_gen.specs.Emits.{EmitsInner, EmitsTurns, EmitsSteps};
 use crate::emit::{
     push_body, push_either, push_guard, push_loop, push_once, push_pairs, push_start,
 };
+use crate::flow::emit_flowed;
 use crate::level::emit_level;
 use crate::part::make_part;
 use crate::plan::is_fixed;
@@ -209,6 +210,7 @@ fn emit_step(step: &Step, code: &mut Vec<Uop>, alloc: Global) -> Result<(), NoMe
             Ok(())
         }
         Step::Alternate(turns) => emit_cycle(turns, code, alloc),
+        Step::Flow(flow) => emit_flowed(flow, code, alloc),
     }
 }
 

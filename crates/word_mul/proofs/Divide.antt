@@ -254,7 +254,7 @@ module _ (n : ℕ) (m : Rows) (are : AreRows n 2 2 m) where
       last s1 (suc k) lt = refl
 
       only : (q : Spot) → is_state q.space ≡ false → (q ≡ gp → ⊥) → (j k : ℕ) → k < 2
-          → q ≡ spot_at n j o (nth_place compare_body.writes k) → ⊥
+          → q ≡ spot_at n j o [] (nth_place compare_body.writes k) → ⊥
       only q rows ng j zero lk e = ng e
       only q rows ng j (suc zero) lk e = cell_other n q 0 rows e
       only q rows ng j (suc (suc k)) lk e = absurd (omega arith)
@@ -325,27 +325,27 @@ module _ (n : ℕ) (m : Rows) (are : AreRows n 2 2 m) where
             ∙ at4 q out.has_row out.g;
       }
     where
-      apart_g : (o j k : ℕ) → k < 2 → gp ≡ spot_at n j o (nth_place divide_body.writes k) → ⊥
+      apart_g : (o j k : ℕ) → k < 2 → gp ≡ spot_at n j o [] (nth_place divide_body.writes k) → ⊥
       apart_g o j zero lk e = w_bit (n - 1 - o + j) m.free_bit (sym e)
       apart_g o j (suc zero) lk e = g_cell 4 e
       apart_g o j (suc (suc k)) lk e = absurd (omega arith)
 
       apart_low : (o u : ℕ) → u < n - 1 - o → (j k : ℕ) → k < 2
-          → row n w u ≡ spot_at n j o (nth_place divide_body.writes k) → ⊥
+          → row n w u ≡ spot_at n j o [] (nth_place divide_body.writes k) → ⊥
       apart_low o u lu j zero lk e = let z : u ≡ n - 1 - o + j = w_moves u (n - 1 - o + j) e in
           absurd (omega arith)
       apart_low o u lu j (suc zero) lk e = w_cell u 4 e
       apart_low o u lu j (suc (suc k)) lk e = absurd (omega arith)
 
       apart_high : (o u : ℕ) → o < n → (j k : ℕ) → j < o + 1 → k < 2
-          → above u ≡ spot_at n j o (nth_place divide_body.writes k) → ⊥
+          → above u ≡ spot_at n j o [] (nth_place divide_body.writes k) → ⊥
       apart_high o u lo j zero lj lk e = let z : n - 1 - o + j ≡ n + u =
           w_above (n - 1 - o + j) u (sym e) in absurd (omega (arith, z, lj, lo))
       apart_high o u lo j (suc zero) lj lk e = cell_other n (above u) 4 refl e
       apart_high o u lo j (suc (suc k)) lj lk e = absurd (omega arith)
 
       apart_rest : (o : ℕ) → o < n → (q : Spot) → IsOther q → (j k : ℕ) → j < o + 1 → k < 2
-          → q ≡ spot_at n j o (nth_place divide_body.writes k) → ⊥
+          → q ≡ spot_at n j o [] (nth_place divide_body.writes k) → ⊥
       apart_rest o lo q out j zero lj lk e = out.word (n - 1 - o + j) (omega (arith, lj, lo)) e
       apart_rest o lo q out j (suc zero) lj lk e = cell_other n q 4 out.has_row e
       apart_rest o lo q out j (suc (suc k)) lj lk e = absurd (omega arith)

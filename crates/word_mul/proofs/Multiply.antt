@@ -203,14 +203,14 @@ module _ (n : ℕ) (m : Rows) (are : AreRows n 1 0 m) (bits : Spots) where
       }
     where
       low : (o v : ℕ) → o < n → v < o → (j w : ℕ) → j < n - o → w < 2
-          → row n m.target v ≡ spot_at n j o (nth_place body.writes w) → ⊥
+          → row n m.target v ≡ spot_at n j o [] (nth_place body.writes w) → ⊥
       low o v lo lv j zero lj lw e = let z : v ≡ o + j =
           are.moves.by v (o + j) (omega arith) (omega arith) e in absurd (omega arith)
       low o v lo lv j (suc zero) lj lw e = row_other n m.target v 5 are.target_rows e
       low o v lo lv j (suc (suc w)) lj lw e = absurd (omega arith)
 
       elsewhere : (o : ℕ) → o < n → (q : Spot) → IsElsewhere n 1 0 m q → (j w : ℕ) → j < n - o
-          → w < 2 → q ≡ spot_at n j o (nth_place body.writes w) → ⊥
+          → w < 2 → q ≡ spot_at n j o [] (nth_place body.writes w) → ⊥
       elsewhere o lo q out j zero lj lw e = out.target (o + j) (omega arith) e
       elsewhere o lo q out j (suc zero) lj lw e = cell_other n q 5 out.has_row e
       elsewhere o lo q out j (suc (suc w)) lj lw e = absurd (omega arith)

@@ -226,7 +226,7 @@ level_emits span l s first second old new a is js e =
     }
 
 -- one step
-one_step : (s : StepOf Part) (old new : List Uop) → AllStep IsPart s
+pub one_step : (s : StepOf Part) (old new : List Uop) → AllStep IsPart s
     → new ≡ old ++ step_code s (length old) → EmitsSteps (step_map block_of_part s ∷ []) old new
 one_step s old new is e = record {
   coded = s ∷ [];

@@ -9,7 +9,8 @@ use Rattle.std.specs.Prelude.{slice_get, nat_lt, nat_le, ◌==◌, ◌&&◌, ◌
 use Rattle.std.specs.List.{AllByRecursion, list_all}
 use Rattle.std.proofs.Math.Seq.{get_or-append_seam}
 use Rattle.std.proofs.lemmas.Option.{slice_get-get_or}
-use Rattle.std.proofs.lemmas.Bool.{and_parts, and_from, lt-ltb, cases_lt, eq-eqb, ne_eqb}
+use Rattle.std.proofs.lemmas.Bool.{and_parts, and_from, lt-ltb, ltb-true, le-leb, cases_lt}
+use Rattle.std.proofs.lemmas.Bool.{eq-eqb, ne_eqb}
 use Rattle.std.proofs.Math.Nat.{mul-le-mul_right}
 use Rattle.op_text.specs.declared.tree.Kind.{Kind}
 use Rattle.uprog_code.specs.declared.code.Uop.{Uop}
@@ -34,6 +35,7 @@ use Rattle.loop_ir.specs.declared.ir.Sub.{Sub}
 use Rattle.loop_ir.specs.declared.ir.Sub.TheVariants.{Zero, Top, Inner as At_inner, InnerDown}
 use Rattle.loop_ir.specs.declared.ir.Sub.TheVariants.{Outer, OuterDown, Sum, DownSum}
 use Rattle.loop_ir.specs.declared.ir.Sub.TheVariants.{SumTwice, AboveSumTwice, AboveSum, DownPlusN, NPlusInner}
+use Rattle.loop_ir.specs.declared.ir.Sub.TheVariants.{Register}
 use Rattle.loop_ir.specs.declared.ir.Space.{Space}
 use Rattle.loop_ir.specs.declared.ir.Space.TheVariants.{Result, Source, ScratchBit, ScratchWord}
 use Rattle.loop_ir.specs.declared.ir.Space.TheVariants.{Cells}
@@ -42,21 +44,29 @@ use Rattle.loop_ir.specs.declared.ir.Count.TheVariants.{All as All_of, Rest, UpT
 use Rattle.loop_ir.specs.Plain.{Block, LevelOf, InnerOf, TurnOf, StepOf, turn_map, step_map, AllInner}
 use Rattle.loop_ir.specs.Plain.{AllTurns, AllStep, AllParts}
 use Rattle.loop_ir.specs.Plain.InnerOf.{Alone, Across, AtLevel}
-use Rattle.loop_ir.specs.Plain.StepOf.{Single, Along, Nest, Pairs, Alternate}
+use Rattle.loop_ir.specs.Plain.StepOf.{Single, Along, Nest, Pairs, Alternate, Flowed}
+use Rattle.loop_ir.specs.Flows.{flow_map, AllFlow, all_flow}
+use Rattle.loop_ir.specs.FlowTests.{counts, nests, runs_safely}
 use Rattle.loop_ir.specs.Spots.{nth_place, spot_in, IsOwn}
 use Rattle.uprog_gen.specs.Where.{IsSpot, IsBelow}
 use Rattle.uprog_gen.specs.declared.plan.Plan.{Plan}
-use Rattle.uprog_gen.specs.Code.{Part, row_space, register, place_ref, code_ref, code_uop, init}
+use Rattle.uprog_gen.specs.Code.{Part, row_space, named_register, planned_register, register}
+use Rattle.uprog_gen.specs.Code.{place_ref, code_ref, code_uop, init}
 use Rattle.uprog_gen.specs.Code.{before, after, inits, befores, afters, counter, body_uops}
 use Rattle.uprog_gen.specs.Code.{once_code, turn_code, enter_code, loop_code, inner_list, outside}
 use Rattle.uprog_gen.specs.Code.{turn_plan, turn_uops, either_code, either_size, turns_list}
 use Rattle.uprog_gen.specs.Code.{halve_code, level_code, leave_code, skip_code, pair_plan}
 use Rattle.uprog_gen.specs.Code.{pair_uops, pairing_code, begin_code, finish_code, whole_code}
-use Rattle.uprog_gen.specs.Code.{none_code, step_code, block_of_part, blocks}
+use Rattle.uprog_gen.specs.Code.{none_code, flow_plan, flow_uops, clear_code, step_code}
+use Rattle.uprog_gen.specs.Code.{block_of_part, blocks}
+use Rattle.uprog_gen.specs.FlowCode.{code_of, size as flow_long}
+use Rattle.uprog_gen.proofs.Coding.FlowMaps.{counts_map, flow_made, flow_among}
+use Rattle.uprog_gen.proofs.Coding.FlowSizes.{code_long}
+use Rattle.uprog_gen.proofs.Coding.FlowLegal.{flow_legal}
 use Rattle.uprog_gen.specs.Code.{program_code}
 use Rattle.uprog_gen.proofs.Coding.Sizes.{begin_long, either_long, cycle_long}
 use Rattle.loop_ir.specs.Costs.{is_fixed, same_sub, step_bodies}
-use Rattle.loop_ir.specs.Limits.{IsRound}
+use Rattle.loop_ir.specs.Limits.{IsRound, HasValues, StepHasValues, stays_in_registers, step_stands}
 use Rattle.uprog_gen.proofs.Rows.Rounds.{block_round}
 use Rattle.uprog_gen.specs.Parts.{IsPart}
 use Rattle.loop_ir.specs.States.{enters}
@@ -73,8 +83,7 @@ both P [] ys h k = k
 both P (x ∷ xs) ys h k = (h.0, both P xs ys h.1 k)
 
 register_small : (plan : Plan) (s : Sub) → nat_le (register plan s) 8 ≡ true
-register_small plan s = by (same_sub s Zero) (same_sub s Outer) (same_sub s OuterDown)
-    (same_sub s plan.first) (same_sub s plan.second) (same_sub s plan.third)
+register_small plan s = either plan.named
   where
     by : (a b c d e f : Bool)
         → nat_le (cond a 8 (cond b 0 (cond c 1 (cond d 3 (cond e 4 (cond f 5 8)))))) 8 ≡ true
@@ -85,6 +94,31 @@ register_small plan s = by (same_sub s Zero) (same_sub s Outer) (same_sub s Oute
     by false false false false true f = refl
     by false false false false false true = refl
     by false false false false false false = refl
+
+    low : (r : ℕ) (c : Bool) → nat_lt r 8 ≡ c → nat_le (cond c r 8) 8 ≡ true
+    low r true e = let lt = ltb-true r 8 e in le-leb r 8 (omega (arith, lt))
+    low r false e = refl
+
+    named : (s : Sub) → nat_le (named_register s) 8 ≡ true
+    named Zero = refl
+    named Top = refl
+    named At_inner = refl
+    named InnerDown = refl
+    named Outer = refl
+    named OuterDown = refl
+    named Sum = refl
+    named DownSum = refl
+    named DownPlusN = refl
+    named NPlusInner = refl
+    named SumTwice = refl
+    named AboveSumTwice = refl
+    named AboveSum = refl
+    named (Register r) = low r (nat_lt r 8) refl
+
+    either : (c : Bool) → nat_le (cond c (named_register s) (planned_register plan s)) 8 ≡ true
+    either true = named s
+    either false = by (same_sub s Zero) (same_sub s Outer) (same_sub s OuterDown)
+        (same_sub s plan.first) (same_sub s plan.second) (same_sub s plan.third)
 
 below_length : (ks : List Kind) (w n v : ℕ) → IsBelow (slice_get ks w) n v → w < length ks
 below_length [] w n v h = absurd h
@@ -145,8 +179,18 @@ module _ (head : Shape) where
   abbrev IsRoundAtWidth : ℕ → RoundOf Block → Type 0
   IsRoundAtWidth n r = IsRound (IsSpot head n) n r
 
-  module _ (p : Part) (part : IsPart p) (plan : Plan) (n i o : ℕ)
-      (is : IsRoundAtWidth n (round_at p.block i o)) where
+  -- a body's values are such as the operation has, where it has a round
+  values_of : (b : Block) (n i o : ℕ) → IsRoundAtWidth n (round_at b i o)
+      → HasValues (IsSpot head) b
+  values_of b n i o is = record {
+    reads = λ k lt row. (n, sub_value n i o [] (nth_place b.reads k).sub, is.reads k lt row);
+    writes = λ j lt row. (n, sub_value n i o [] (nth_place b.writes j).sub, is.writes j lt row);
+    own = λ j lt.
+        let q = nth_place b.writes j in
+        subst IsOwn (spot_space n q.space q.which (sub_value n i o [] q.sub)) (is.own j lt);
+  }
+
+  module _ (p : Part) (part : IsPart p) (plan : Plan) (has : HasValues (IsSpot head) p.block) where
     abbrev N : ℕ
     N = p.block.graph.inputs
 
@@ -163,12 +207,12 @@ module _ (head : Shape) where
     row_legal (ref.Spill k) h m = and_from (nat_lt k 32) (0 == 0) h refl
     row_legal (ref.In k) h m =
         let q = nth_place p.block.reads k in
-        place_row_legal n q.space q.which (sub_value n i o q.sub) plan q.sub
-        (is.reads k m.0 m.1)
+        let v = has.reads k m.0 m.1 in
+        place_row_legal v.0 q.space q.which v.1 plan q.sub v.2
     row_legal (ref.Out k) h m =
         let q = nth_place p.block.writes k in
-        place_row_legal n q.space q.which (sub_value n i o q.sub) plan q.sub
-        (is.writes k m.0 m.1)
+        let v = has.writes k m.0 m.1 in
+        place_row_legal v.0 q.space q.which v.1 plan q.sub v.2
 
     first_of_ref : (x : BodyRef) → is_first_ref x ≡ true
         → may_be_first (code_ref plan p.block x).space (code_ref plan p.block x).which ≡ true
@@ -186,8 +230,7 @@ module _ (head : Shape) where
     second_of_ref (ref.In k) m h = absurd (let g : false ≡ true = h in cc)
     second_of_ref (ref.Out k) m h =
         let q = nth_place p.block.writes k in
-        own_second q.space (subst IsOwn (spot_space n q.space q.which (sub_value n i o q.sub))
-        (is.own k m.0))
+        own_second q.space (has.own k m.0)
 
     uop_legal : (size : ℕ) (c : BodyCmd) → is_legal_cmd N M c ≡ true → reads_rows enter c ≡ true
         → IsLegalAt size (code_uop plan p.block c)
@@ -225,10 +268,13 @@ module _ (head : Shape) where
   IsFit p = (plan : Plan) (size : ℕ)
       → AllByRecursion (IsLegalAt size) (map (code_uop plan p.block) p.cmds)
 
+  fit_values : (p : Part) → IsPart p → HasValues (IsSpot head) p.block → IsFit p
+  fit_values p part has plan size = uops_legal p part plan has size p.cmds part.does.legal
+      part.does.unread
+
   fit_part : (p : Part) → IsPart p → (n i o : ℕ) → IsRoundAtWidth n (round_at p.block i o)
       → IsFit p
-  fit_part p part n i o is plan size = uops_legal p part plan n i o is size p.cmds part.does.legal
-      part.does.unread
+  fit_part p part n i o is = fit_values p part (values_of p.block n i o is)
 
   -- rounds, and more of them
   abbrev All_at : ℕ → List (RoundOf Part) → Type 0
@@ -300,6 +346,7 @@ module _ (head : Shape) where
   StepFits (Nest span parts) = InnersFit span parts
   StepFits (Pairs p) = IsFit p
   StepFits (Alternate ts) = AllTurns IsFit ts
+  StepFits (Flowed f) = (counts f ≡ true) × AllFlow IsFit f
 
   abbrev StepsFit : List (StepOf Part) → Type 0
   StepsFit [] = Unit {0}
@@ -408,26 +455,28 @@ module _ (head : Shape) where
       → AllByRecursion (IsRoundAtWidth n) (map block_round (rs n))
 
   fit_step : (s : StepOf Part) → AllStep IsPart s → step_bodies (step_map block_of_part s) ≤ 12
+      → step_stands (step_map block_of_part s) ≡ true
+      → StepHasValues (IsSpot head) (step_map block_of_part s)
       → AtWidths (λ n. step_rounds n s) → StepFits s
-  fit_step (Single p) h few r = fit_part p h 2 0 0 (r 2 (omega arith) (omega arith)).0
-  fit_step (Along p) h few r = fit_part p h 2 0 0 (r 2 (omega arith) (omega arith)).0
-  fit_step (Nest Full parts) h few r =
+  fit_step (Single p) h few stand has r = fit_part p h 2 0 0 (r 2 (omega arith) (omega arith)).0
+  fit_step (Along p) h few stand has r = fit_part p h 2 0 0 (r 2 (omega arith) (omega arith)).0
+  fit_step (Nest Full parts) h few stand has r =
       let three = r 3 (omega arith) (omega arith) in
       fit_inner Full 3 2 0 (omega arith) (omega arith) (omega arith) (omega arith) (omega arith)
       parts h (at_first 3 0 2 parts three)
       (at_first 2 0 1 parts (r 2 (omega arith) (omega arith)))
       (at_first 3 2 0 parts (after_first 3 1 1 parts (after_first 3 0 2 parts three)))
-  fit_step (Nest First parts) h few r =
+  fit_step (Nest First parts) h few stand has r =
       fit_inner First 3 2 0 (omega arith) (omega arith) (omega arith) (omega arith) (omega arith)
       parts h (at_first 3 0 0 parts (r 3 (omega arith) (omega arith)))
       (at_first 2 0 0 parts (r 2 (omega arith) (omega arith))) tt
-  fit_step (Nest Above parts) h few r =
+  fit_step (Nest Above parts) h few stand has r =
       fit_inner Above 6 4 1 (omega arith) (omega arith) (omega arith) (omega arith) (omega arith)
       parts h (at_first 6 1 4 parts (r 6 (omega arith) (omega arith)))
       (at_first 4 1 2 parts (r 4 (omega arith) (omega arith)))
       (at_first 3 2 0 parts (after_first 3 1 1 parts (r 3 (omega arith) (omega arith))))
-  fit_step (Pairs p) h few r = fit_part p h 2 0 1 (r 2 (omega arith) (omega arith)).0
-  fit_step (Alternate ts) h few r =
+  fit_step (Pairs p) h few stand has r = fit_part p h 2 0 1 (r 2 (omega arith) (omega arith)).0
+  fit_step (Alternate ts) h few stand has r =
       let many : 2 * length ts ≤ 12 = omega (
         arith,
         few,
@@ -441,13 +490,24 @@ module _ (head : Shape) where
       (subst (λ c. AllByRecursion (IsRoundAtWidth n) (map block_round (turns_from ts 0 c))) top
       (r n (omega arith) (omega (arith, lt)))))
 
+  fit_step (Flowed f) h few stand has r =
+      let b = flow_map block_of_part f in (
+        sym (counts_map Part Block block_of_part f) ∙ (and_parts (counts b) (nests 2 b
+            && (all_flow stays_in_registers b && runs_safely b)) stand).0,
+        flow_made Part Block block_of_part IsPart (HasValues (IsSpot head)) IsFit fit_values f h has,
+      )
+
   fit_steps : (ss : List (StepOf Part)) → AllParts IsPart ss → AreFew (blocks ss)
+      → list_all step_stands (blocks ss) ≡ true
+      → AllByRecursion (StepHasValues (IsSpot head)) (blocks ss)
       → AtWidths (λ n. all_rounds n ss) → StepsFit ss
-  fit_steps [] h few r = tt
-  fit_steps (s ∷ ss) h few r = (
-    fit_step s h.0 few.0 (λ n some small. first_rounds n (r n some small)),
-    fit_steps ss h.1 few.1 (λ n some small. later_rounds n (r n some small)),
-  )
+  fit_steps [] h few stand has r = tt
+  fit_steps (s ∷ ss) h few stand has r =
+      let t = and_parts (step_stands (step_map block_of_part s)) (list_all step_stands (blocks ss))
+      stand in (
+        fit_step s h.0 few.0 t.0 has.0 (λ n some small. first_rounds n (r n some small)),
+        fit_steps ss h.1 few.1 t.1 has.1 (λ n some small. later_rounds n (r n some small)),
+      )
     where
       apart : (n : ℕ)
           → AllByRecursion (IsRoundAtWidth n) (map block_round (all_rounds n (s ∷ ss)))
@@ -489,6 +549,7 @@ module _ (head : Shape) where
     init_legal SumTwice r h = (and_from (nat_lt r 8) (nat_lt 0 8) h refl, tt)
     init_legal AboveSumTwice r h = (and_from (nat_lt r 8) (nat_lt 0 8) h refl, tt)
     init_legal AboveSum r h = (and_from (nat_lt r 8) (nat_lt 0 8) h refl, tt)
+    init_legal (Register q) r h = (and_from (nat_lt r 8) (nat_le 0 1023) h refl, tt)
 
     before_legal : (u : Sub) (r : ℕ) → nat_lt r 8 ≡ true → L (before u r)
     before_legal InnerDown r h = (and_from (nat_lt r 8) (nat_le 1 1023) h refl, tt)
@@ -504,6 +565,7 @@ module _ (head : Shape) where
     before_legal SumTwice r h = tt
     before_legal AboveSumTwice r h = (and_from (nat_lt r 8) (nat_le 1 1023) h refl, tt)
     before_legal AboveSum r h = (and_from (nat_lt r 8) (nat_le 1 1023) h refl, tt)
+    before_legal (Register q) r h = tt
 
     after_legal : (u : Sub) (r : ℕ) → nat_lt r 8 ≡ true → L (after u r)
     after_legal At_inner r h = (and_from (nat_lt r 8) (nat_le 1 1023) h refl, tt)
@@ -519,6 +581,7 @@ module _ (head : Shape) where
     after_legal OuterDown r h = tt
     after_legal DownPlusN r h = tt
     after_legal AboveSum r h = tt
+    after_legal (Register q) r h = tt
 
     inits_legal : (plan : Plan) → L (inits plan)
     inits_legal plan = join (init plan.first 3) (init plan.second 4 ++ init plan.third 5)
@@ -782,6 +845,17 @@ module _ (head : Shape) where
           ),
         )
 
+    step_legal (Flowed f) pc h le =
+        let is = code_of flow_uops f (pc + 7) in
+        let long : pc + 7 + flow_long flow_uops f < size = omega (
+          arith,
+          le,
+          length-append clear_code is,
+          code_long Part flow_uops f (pc + 7),
+        ) in
+        join clear_code is (refl, (refl, (refl, (refl, (refl, (refl, (refl, tt)))))))
+        (flow_legal head size Part flow_uops f (pc + 7) h.0 (flow_among Part IsFit (λ p. L (flow_uops p)) (λ p fit. fit flow_plan size) f h.1) long)
+
     program_legal : (ss : List (StepOf Part)) (pc : ℕ) → StepsFit ss
         → pc + length (program_code ss pc) < size → L (program_code ss pc)
     program_legal [] pc h le = tt
@@ -792,9 +866,10 @@ module _ (head : Shape) where
         (program_legal ss (pc + length a) h.1 (omega (arith, le, length-append a b)))
 
   pub code_legal : (ss : List (StepOf Part)) → length (program_code ss 0) ≤ 4096
-      → AllParts IsPart ss → AreFew (blocks ss) → AtWidths (λ n. all_rounds n ss)
+      → AllParts IsPart ss → AreFew (blocks ss) → list_all step_stands (blocks ss) ≡ true
+      → AllByRecursion (StepHasValues (IsSpot head)) (blocks ss) → AtWidths (λ n. all_rounds n ss)
       → IsLegalCode head (program_code ss 0 ++ Done ∷ [])
-  code_legal ss short parts few rounds =
+  code_legal ss short parts few stand has rounds =
       let is = program_code ss 0 in
       let size : length (is ++ Done ∷ []) ≡ length is + 1 = length-append is (Done ∷ []) in
       let within : length is < length (is ++ Done ∷ []) = omega (arith, size) in
@@ -805,7 +880,7 @@ module _ (head : Shape) where
       record {
         short = omega (arith, size, short);
         each = both (IsLegalAt (length (is ++ Done ∷ []))) is (Done
-            ∷ []) (program_legal (length (is ++ Done ∷ [])) ss 0 (fit_steps ss parts few rounds)
+            ∷ []) (program_legal (length (is ++ Done ∷ [])) ss 0 (fit_steps ss parts few stand has rounds)
             (omega (arith, size))) (refl, tt);
         last = subst (λ k. slice_get (is ++ Done ∷ []) k ≡ Some Done) e at;
       }

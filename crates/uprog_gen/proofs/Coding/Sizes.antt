@@ -12,13 +12,13 @@ use Rattle.loop_ir.specs.declared.ir.Sub.{Sub}
 use Rattle.loop_ir.specs.declared.ir.Sub.TheVariants.{Zero, Top, Inner as At_inner, InnerDown}
 use Rattle.loop_ir.specs.declared.ir.Sub.TheVariants.{Outer, OuterDown, Sum, DownSum, SumTwice}
 use Rattle.loop_ir.specs.declared.ir.Sub.TheVariants.{AboveSumTwice, AboveSum, DownPlusN}
-use Rattle.loop_ir.specs.declared.ir.Sub.TheVariants.{NPlusInner}
+use Rattle.loop_ir.specs.declared.ir.Sub.TheVariants.{NPlusInner, Register}
 use Rattle.loop_ir.specs.declared.ir.Count.{Count}
 use Rattle.loop_ir.specs.declared.ir.Count.TheVariants.{All as All_of, Rest, UpTo}
 use Rattle.loop_ir.specs.Plain.{InnerOf, StepOf, inner_map, step_map, AllInner, AllStep, TurnOf}
-use Rattle.loop_ir.specs.Plain.{level_map, turn_map, AllTurns, AllParts}
+use Rattle.loop_ir.specs.Plain.{Block, level_map, turn_map, AllTurns, AllParts}
 use Rattle.loop_ir.specs.Plain.InnerOf.{Alone, Across, AtLevel}
-use Rattle.loop_ir.specs.Plain.StepOf.{Single, Along, Nest, Pairs, Alternate}
+use Rattle.loop_ir.specs.Plain.StepOf.{Single, Along, Nest, Pairs, Alternate, Flowed}
 use Rattle.uprog_gen.specs.declared.plan.Plan.{Plan}
 use Rattle.uprog_gen.specs.Code.{Part, block_of_part, blocks, code_uop, init, before, after, inits}
 use Rattle.uprog_gen.specs.Code.{befores, afters, counter, body_uops, once_code, turn_code}
@@ -28,6 +28,9 @@ use Rattle.uprog_gen.specs.Code.{enter_code, loop_code, inner_list, outside, ste
 use Rattle.uprog_gen.specs.Code.{turn_plan, turn_uops, either_code, either_size, turns_list}
 use Rattle.uprog_gen.specs.Code.{cycle_code}
 use Rattle.uprog_gen.specs.Code.{program_code}
+use Rattle.uprog_gen.specs.Code.{flow_plan, flow_uops, clear_code}
+use Rattle.uprog_gen.specs.FlowCode.{code_of}
+use Rattle.uprog_gen.proofs.Coding.FlowSizes.{code_long, flow_few}
 use Rattle.loop_ir.specs.Costs.{is_fixed, body_cost, inner_cost, step_cost}
 use Rattle.loop_ir.specs.Costs.{either_cost, turns_cost}
 use Rattle.loop_ir.specs.Costs.{code_cost}
@@ -47,6 +50,7 @@ init_few NPlusInner r = omega arith
 init_few SumTwice r = omega arith
 init_few AboveSumTwice r = omega arith
 init_few AboveSum r = omega arith
+init_few (Register q) r = omega arith
 
 start_few : (u : Sub) (r : ℕ) → length (init u r) + length (before u r) ≤ 2
 start_few Zero r = omega arith
@@ -62,6 +66,7 @@ start_few NPlusInner r = omega arith
 start_few SumTwice r = omega arith
 start_few AboveSumTwice r = omega arith
 start_few AboveSum r = omega arith
+start_few (Register q) r = omega arith
 
 three_length : (a b c : List Uop) → length (a ++ (b ++ c)) ≡ length a + length b + length c
 three_length a b c = omega (arith, length-append a (b ++ c), length-append b c)
@@ -106,6 +111,13 @@ body_few : (p : Part) → IsPart p → length (body_uops p) ≤ body_cost p.bloc
 body_few p is = omega (
   arith,
   length-map p.cmds (code_uop p.plan p.block),
+  is.short,
+)
+
+pub flow_body_few : (p : Part) → IsPart p → length (flow_uops p) ≤ body_cost p.block
+flow_body_few p is = omega (
+  arith,
+  length-map p.cmds (code_uop flow_plan p.block),
   is.short,
 )
 
@@ -308,6 +320,12 @@ step_few (Nest Above (x ∷ xs)) pc h =
 step_few (Pairs p) pc h = omega (arith, loop_few Rest p (pc + 1 + 1 + 1 + 1 + 1) h)
 step_few (Alternate []) pc h = omega arith
 step_few (Alternate (t ∷ ts)) pc h = cycle_few (t ∷ ts) pc h
+step_few (Flowed f) pc h = omega (
+  arith,
+  length-append clear_code (code_of flow_uops f (pc + 7)),
+  code_long Part flow_uops f (pc + 7),
+  flow_few Part Block flow_uops block_of_part body_cost IsPart flow_body_few f h,
+)
 
 pub program_few : (ss : List (StepOf Part)) (pc : ℕ) → AllParts IsPart ss
     → length (program_code ss pc) ≤ code_cost (blocks ss)

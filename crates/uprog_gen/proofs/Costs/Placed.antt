@@ -8,7 +8,11 @@ use Rattle.row_alloc.specs.declared.body.BodyCmd.{BodyCmd}
 use Rattle.loop_ir.specs.Plain.{Block, InnerOf, StepOf, level_map, inner_map, turn_map, AllInner}
 use Rattle.loop_ir.specs.Plain.{AllParts, all_level, all_turns}
 use Rattle.loop_ir.specs.Plain.InnerOf.{Alone, Across, AtLevel}
-use Rattle.loop_ir.specs.Plain.StepOf.{Single, Along, Nest, Pairs, Alternate}
+use Rattle.loop_ir.specs.Plain.StepOf.{Single, Along, Nest, Pairs, Alternate, Flowed}
+use Rattle.loop_ir.specs.Flows.{FlowOf, TurnsOf, flow_map, acts_map, AllFlow, AllActs, all_flow}
+use Rattle.loop_ir.specs.Flows.FlowOf.{End, Do, Put, If, Loop}
+use Rattle.loop_ir.specs.Flows.TurnsOf.{Last, Turn}
+use Rattle.uprog_gen.proofs.Coding.FlowMaps.{flow_tested}
 use Rattle.loop_ir.specs.Loops.{all_rounds}
 use Rattle.loop_ir.specs.States.{has_states, held_of}
 use Rattle.loop_ir.specs.Costs.{is_copy}
@@ -34,6 +38,7 @@ steps_settle (Along b ∷ ss) = is_settled b && steps_settle ss
 steps_settle (Nest span ps ∷ ss) = inners_settle ps && steps_settle ss
 steps_settle (Pairs b ∷ ss) = is_settled b && steps_settle ss
 steps_settle (Alternate t ∷ ss) = all_turns is_settled t && steps_settle ss
+steps_settle (Flowed f ∷ ss) = all_flow is_settled f && steps_settle ss
 
 module _ (rooms : List Room) (rows : HaveRows rooms) where
   settled_placed : (b : Marked) → is_settled (placed_body [] b) ≡ true
@@ -69,6 +74,21 @@ module _ (rooms : List Room) (rows : HaveRows rooms) where
         inners_settled ps p.1,
       )
 
+  mutual
+    settled_flow : (f : FlowOf Marked) → AllFlow (λ b. is_settled (placed_body [] b) ≡ true) f
+        → AllFlow IsSettled (flow_map (placed_body rooms) f)
+    settled_flow End h = tt
+    settled_flow (Do b k) h = (settled_placed b h.0, settled_flow k h.1)
+    settled_flow (Put m k) h = settled_flow k h
+    settled_flow (If r x y k) h =
+        (settled_flow x h.0, (settled_flow y h.1.0, settled_flow k h.1.1))
+    settled_flow (Loop r ts k) h = (settled_acts ts h.0, settled_flow k h.1)
+
+    settled_acts : (ts : TurnsOf Marked) → AllActs (λ b. is_settled (placed_body [] b) ≡ true) ts
+        → AllActs IsSettled (acts_map (placed_body rooms) ts)
+    settled_acts (Last x) h = settled_flow x h
+    settled_acts (Turn x ts) h = (settled_flow x h.0, settled_acts ts h.1)
+
   pub settled_steps : (ss : List (StepOf Marked)) → steps_settle (placed_steps [] ss) ≡ true
       → AllParts IsSettled (placed_steps rooms ss)
   settled_steps [] h = tt
@@ -86,6 +106,12 @@ module _ (rooms : List Room) (rows : HaveRows rooms) where
       (steps_settle (placed_steps [] ss)) h in (
         turns_mapped (placed_body rooms) (λ b. is_settled (placed_body [] b) ≡ true) IsSettled
             settled_placed t (turns_tested (placed_body []) is_settled t p.0),
+        settled_steps ss p.1,
+      )
+  settled_steps (Flowed f ∷ ss) h =
+      let p = and_parts (all_flow is_settled (flow_map (placed_body []) f))
+      (steps_settle (placed_steps [] ss)) h in (
+        settled_flow f (flow_tested Marked Block (placed_body []) is_settled f p.0),
         settled_steps ss p.1,
       )
   settled_steps (Nest span ps ∷ ss) h =

@@ -13,13 +13,16 @@ use Rattle.loop_ir.specs.declared.ir.Count.{Count}
 use Rattle.loop_ir.specs.declared.ir.Count.TheVariants.{All, Rest, UpTo}
 use Rattle.loop_ir.specs.Plain.{Block, LevelOf, InnerOf, StepOf, TurnOf}
 use Rattle.loop_ir.specs.Plain.InnerOf.{Alone, Across, AtLevel}
-use Rattle.loop_ir.specs.Plain.StepOf.{Single, Along, Nest, Pairs, Alternate}
+use Rattle.loop_ir.specs.Plain.StepOf.{Single, Along, Nest, Pairs, Alternate, Flowed}
 use Rattle.loop_ir.specs.Loops.{RoundOf, one_round, two_rounds, rounds, positions, elements}
 use Rattle.loop_ir.specs.Loops.{filled_rounds, level_rounds, inner_rounds, all_rounds, turns_from}
+use Rattle.loop_ir.specs.Loops.{flow_rounds}
 use Rattle.loop_ir.specs.Chains.{states_in, is_alive, finds, left_by, loop_finds, inner_left}
 use Rattle.loop_ir.specs.Chains.{common, begun_by, level_left, pairs_find, level_finds}
-use Rattle.loop_ir.specs.Chains.{inner_finds, steps_find, turns_left, turns_find}
-use Rattle.uprog_gen.proofs.Rows.Alive.{chained}
+use Rattle.loop_ir.specs.Chains.{inner_finds, steps_find, turns_left, turns_find, chained}
+use Rattle.loop_ir.specs.Chains.{flow_finds}
+use Rattle.uprog_gen.proofs.Coding.FlowMaps.{one_width}
+use Rattle.bit_rows.specs.declared.TheConstants.{WIDTH_MAX}
 
 -- the states that the last of the rounds leaves
 left_after : List ℕ → List (RoundOf Block) → List ℕ
@@ -343,30 +346,30 @@ module _ (n : ℕ) (ps : List (InnerOf Block)) (alive : List ℕ)
   nested First some = passes 0 1 (omega arith) (omega (arith, some))
   nested Above some = maybe_passes 1 (n - 1) (omega (arith, some))
 
-pub steps_chained : (n : ℕ) (ss : List (StepOf Block)) (alive : List ℕ) → 0 < n
+pub steps_chained : (n : ℕ) (ss : List (StepOf Block)) (alive : List ℕ) → 0 < n → n ≤ WIDTH_MAX
     → steps_find alive ss ≡ true → chained alive (all_rounds n ss) ≡ true
-steps_chained n [] alive some h = refl
-steps_chained n (Single b ∷ ss) alive some h =
+steps_chained n [] alive some small h = refl
+steps_chained n (Single b ∷ ss) alive some small h =
     let p = and_parts (finds alive b) (steps_find (left_by b) ss) h in
     let c = once alive b 0 0 p.0 in
     both_chained (one_round b 0 0) (all_rounds n ss) alive c.need
     (more_chained (all_rounds n ss) (left_by b) (left_after alive (one_round b 0 0)) c.left_in
-    (steps_chained n ss (left_by b) some p.1))
-steps_chained n (Along b ∷ ss) alive some h =
+    (steps_chained n ss (left_by b) some small p.1))
+steps_chained n (Along b ∷ ss) alive some small h =
     let p = and_parts (loop_finds alive b) (steps_find (left_by b) ss) h in
     let rs = rounds (λ i. one_round b i 0) 0 n in
     let c = across alive b 0 n p.0 some in
     both_chained rs (all_rounds n ss) alive c.need
     (more_chained (all_rounds n ss) (left_by b) (left_after alive rs) c.left_in
-    (steps_chained n ss (left_by b) some p.1))
-steps_chained n (Pairs b ∷ ss) alive some h =
+    (steps_chained n ss (left_by b) some small p.1))
+steps_chained n (Pairs b ∷ ss) alive some small h =
     let p = and_parts (loop_finds alive b) (steps_find [] ss) h in
     let rs = rounds (λ i. one_round b i 1) 0 (n - 1) in
     let c = maybe alive b 1 (n - 1) p.0 in
     both_chained rs (all_rounds n ss) alive c.need
     (more_chained (all_rounds n ss) [] (left_after alive rs) c.left_in
-    (steps_chained n ss [] some p.1))
-steps_chained n (Alternate t ∷ ss) alive some h =
+    (steps_chained n ss [] some small p.1))
+steps_chained n (Alternate t ∷ ss) alive some small h =
     let p = and_parts (turns_find alive t) (turns_find (turns_left alive t) t && steps_find [] ss) h
     in
     let q = and_parts (turns_find (turns_left alive t) t) (steps_find [] ss) p.1 in
@@ -374,8 +377,8 @@ steps_chained n (Alternate t ∷ ss) alive some h =
     let c = by_turns t 0 (n - 1) alive p.0 q.0 in
     both_chained rs (all_rounds n ss) alive c.need
     (more_chained (all_rounds n ss) [] (left_after alive rs) c.left_in
-    (steps_chained n ss [] some q.1))
-steps_chained n (Nest span ps ∷ ss) alive some h =
+    (steps_chained n ss [] some small q.1))
+steps_chained n (Nest span ps ∷ ss) alive some small h =
     let mid = inner_left alive ps in
     let left = surely span (inner_left mid ps) in
     let rs = step_rounds n (Nest span ps) in
@@ -384,7 +387,14 @@ steps_chained n (Nest span ps ∷ ss) alive some h =
     let c = nested n ps alive p.0 q.0 span some in
     both_chained rs (all_rounds n ss) alive c.need
     (more_chained (all_rounds n ss) left (left_after alive rs) c.left_in
-    (steps_chained n ss left some q.1))
+    (steps_chained n ss left some small q.1))
+steps_chained n (Flowed f ∷ ss) alive some small h =
+    let p = and_parts (flow_finds f) (steps_find [] ss) h in
+    let rs = flow_rounds n f in
+    let c = one_width (λ m. chained [] (flow_rounds m f)) n some small p.0 in
+    both_chained rs (all_rounds n ss) alive (more_chained rs [] alive (none_within alive) c)
+    (more_chained (all_rounds n ss) [] (left_after alive rs) (none_within (left_after alive rs))
+    (steps_chained n ss [] some small p.1))
 
 -- with more alive each step still finds its states
 loop_still : (b : Block) (xs ys : List ℕ) → Within xs ys → loop_finds xs b ≡ true
@@ -480,6 +490,7 @@ still_find (Nest span ps ∷ ss) xs ys w h =
     (and_from (inner_finds k ps) (steps_find b ss) (inner_still ps m k v q.0)
     (still_find ss a b (surely_within span (inner_left m ps) (inner_left k ps)
     (inner_within ps m k v)) q.1))
+still_find (Flowed f ∷ ss) xs ys w h = h
 
 -- steps that need no state from before may stand after any
 pub find_both : (xs ys : List (StepOf Block)) (alive : List ℕ) → steps_find alive xs ≡ true
@@ -509,3 +520,6 @@ find_both (Nest span ps ∷ ss) ys alive h k =
     let q = and_parts (inner_finds m ps) (steps_find left ss) p.1 in
     and_from (inner_finds alive ps) (inner_finds m ps && steps_find left (ss ++ ys)) p.0
     (and_from (inner_finds m ps) (steps_find left (ss ++ ys)) q.0 (find_both ss ys left q.1 k))
+find_both (Flowed f ∷ ss) ys alive h k =
+    let p = and_parts (flow_finds f) (steps_find [] ss) h in
+    and_from (flow_finds f) (steps_find [] (ss ++ ys)) p.0 (find_both ss ys [] p.1 k)

@@ -17,7 +17,8 @@ use Rattle.row_alloc.specs.Known.{Counted, inputs_in, nodes_in, outs_in}
 use Rattle.loop_ir.specs.Plain.{Block, InnerOf, TurnOf, StepOf, inner_map, turn_map, step_map}
 use Rattle.loop_ir.specs.Plain.{AllInner, AllTurns, AllStep, AllParts}
 use Rattle.loop_ir.specs.Plain.InnerOf.{Alone, Across, AtLevel}
-use Rattle.loop_ir.specs.Plain.StepOf.{Single, Along, Nest, Pairs, Alternate}
+use Rattle.loop_ir.specs.Plain.StepOf.{Single, Along, Nest, Pairs, Alternate, Flowed}
+use Rattle.uprog_gen.proofs.Coding.FlowMaps.{flow_parts}
 use Rattle.loop_ir.specs.Loops.{RoundOf}
 use Rattle.loop_ir.specs.States.{has_states, held_of}
 use Rattle.loop_ir.specs.Costs.{carries, is_copy}
@@ -102,6 +103,7 @@ step_parts P (Along p) h = h
 step_parts P (Nest span xs) h = inner_parts P xs h
 step_parts P (Pairs p) h = h
 step_parts P (Alternate ts) h = turns_parts P ts h
+step_parts P (Flowed f) h = flow_parts Part Block block_of_part P f h
 
 pub of_blocks : (P : Block → Type 0) (ss : List (StepOf Part)) → AllParts P (blocks ss)
     → AllParts (λ p. P p.block) ss

@@ -27,7 +27,9 @@ use Rattle.loop_ir.specs.declared.ir.Space.TheVariants.{Cells}
 use Rattle.loop_ir.specs.Plain.{Block, LevelOf, InnerOf, TurnOf, StepOf, level_map, inner_map}
 use Rattle.loop_ir.specs.Plain.{turn_map, step_map, AllInner, AllStep, AllParts}
 use Rattle.loop_ir.specs.Plain.InnerOf.{Alone, Across, AtLevel}
-use Rattle.loop_ir.specs.Plain.StepOf.{Single, Along, Nest, Pairs, Alternate}
+use Rattle.loop_ir.specs.Plain.StepOf.{Single, Along, Nest, Pairs, Alternate, Flowed}
+use Rattle.loop_ir.specs.Flows.{zeros}
+use Rattle.loop_laws.proofs.FlowRounds.{flow_rounds_map, run_all}
 use Rattle.loop_ir.specs.Spots.{Spot, IsOwn, after_rounds}
 use Rattle.uprog_gen.specs.Where.{spot_row, row_in, IsSpot, IsIn, Agree, spots_in}
 use Rattle.uprog_gen.specs.Code.{Part, block_of_part, blocks}
@@ -42,8 +44,7 @@ use Rattle.loop_ir.specs.Costs.{turn_cost, rounds_cost}
 use Rattle.uprog_gen.specs.Settled.{IsSettled, rounds_counts, all_counted}
 use Rattle.uprog_gen.specs.Does.{DoesRounds, IsCheap}
 use Rattle.uprog_gen.proofs.Rows.Settled.{of_blocks, all_aaps, all_aps}
-use Rattle.uprog_gen.proofs.Rows.Alive.{chained}
-use Rattle.loop_ir.specs.Chains.{steps_find}
+use Rattle.loop_ir.specs.Chains.{steps_find, chained}
 use Rattle.uprog_gen.proofs.Rows.Chained.{steps_chained}
 use Rattle.uprog_gen.proofs.Rows.Agree.{AreRounds, IsMine, rounds_agree, rounds_keep}
 use Rattle.uprog_gen.proofs.Rows.Laid.{laid, value_among, bit_among, word_among}
@@ -132,6 +133,7 @@ step_blocks n (Nest span parts) =
     ∙ sym (map_rounds block_round (λ o. inner_rounds n o parts) first count)
 step_blocks n (Pairs p) = sym (map_rounds block_round (λ i. one_round p i 1) 0 (n - 1))
 step_blocks n (Alternate t) = turns_blocks t 0 (n - 1)
+step_blocks n (Flowed f) = flow_rounds_map Part Block block_of_part n f
 
 pub all_blocks : (n : ℕ) (ss : List (StepOf Part))
     → all_rounds n (blocks ss) ≡ map block_round (all_rounds n ss)
@@ -183,6 +185,7 @@ module _ (P : Part → Type 0) where
       inner_parts n o parts h) (first_outer span) (outer_count n span)
   step_parts n (Pairs p) h = all_rounds_of In (λ i. one_round p i 1) (λ i. (h, tt)) 0 (n - 1)
   step_parts n (Alternate t) h = turns_rounds In t 0 (n - 1) (n - 1) (omega arith) (λ j le. h)
+  step_parts n (Flowed f) h = run_all Part P n f h zeros
 
   in_rounds : (n : ℕ) (ss : List (StepOf Part)) → AllParts P ss
       → AllByRecursion In (all_rounds n ss)
@@ -379,7 +382,7 @@ program_does head n ss some small short parts is find stand =
     (rounds_agree rows head n b (laid rows head n b fits) rs [] (spots_in head n b s) s
     (are head n rows b fits rs is' parts')
     (subst (λ (l : List (RoundOf Block)). chained [] l ≡ true) same
-    (steps_chained n (blocks ss) [] some find))
+    (steps_chained n (blocks ss) [] some small find))
     (record { named = λ p h. refl; cells = tt })))
     (λ rows b s fits q out. rounds_keep rows head n b (laid rows head n b fits) rs s
     (are head n rows b fits rs is' parts') q (λ m. out (mine_touched rows head n b fits q m)))

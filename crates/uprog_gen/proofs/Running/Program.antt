@@ -26,10 +26,11 @@ use Rattle.loop_ir.specs.declared.ir.Count.TheVariants.{All as All_of, Rest, UpT
 use Rattle.loop_ir.specs.Plain.{LevelOf, InnerOf, StepOf, inner_map, step_map}
 use Rattle.loop_ir.specs.Limits.{all_stand, stays_inner, stays_in_pair, inner_stands, step_stands}
 use Rattle.loop_ir.specs.Plain.InnerOf.{Alone, Across, AtLevel}
-use Rattle.loop_ir.specs.Plain.StepOf.{Single, Along, Nest, Pairs, Alternate}
+use Rattle.loop_ir.specs.Plain.StepOf.{Single, Along, Nest, Pairs, Alternate, Flowed}
 use Rattle.loop_ir.specs.Spots.{nth_place}
 use Rattle.uprog_gen.specs.Code.{Part, IsPlanned, inits, befores, enter_code, turn_code, body_uops}
-use Rattle.uprog_gen.specs.Code.{is_planned, level_code, leave_code, skip_code, pair_plan}
+use Rattle.uprog_gen.specs.Code.{is_register, is_planned, level_code, leave_code, skip_code}
+use Rattle.uprog_gen.specs.Code.{pair_plan}
 use Rattle.uprog_gen.specs.Code.{pair_uops, pairing_code, begin_code, finish_code}
 use Rattle.uprog_gen.specs.Code.{once_code, loop_code, none_code, inner_code, inner_list}
 use Rattle.uprog_gen.specs.Code.{nest_code, outside}
@@ -44,6 +45,7 @@ use Rattle.loop_ir.specs.Costs.{is_fixed, same_sub}
 use Rattle.uprog_gen.proofs.Running.Runs.{Runs, run_then, run_none, run_weaken, run_at, run_set}
 use Rattle.uprog_gen.proofs.Running.Runs.{run_parts, run_sub, run_jump, run_more}
 use Rattle.uprog_gen.proofs.Running.Turns.{InRange, run_cycle}
+use Rattle.uprog_gen.proofs.Running.FlowStep.{run_flow}
 use Rattle.uprog_gen.proofs.Running.Halving.{run_level}
 use Rattle.uprog_gen.proofs.Running.Each.{AtBody, AtTop, IsOuter, Beside, run_each, run_inits}
 use Rattle.uprog_gen.proofs.Running.Each.{inits_beside, befores_beside}
@@ -117,12 +119,15 @@ zero_back (x ∷ xs) ys h k =
     (list_all (λ p. same_sub p.sub Zero) (xs ++ ys)) h).1 k
 
 -- a subscript of a pair's bodies is planned
-pair_sub : (z o u f s t : Bool) → (z || (f || (s || t))) ≡ true
-    → (z || (o || (u || (f || (s || t))))) ≡ true
-pair_sub true o u f s t h = refl
-pair_sub false true u f s t h = refl
-pair_sub false false true f s t h = refl
-pair_sub false false false f s t h = h
+pair_sub : (z o u f s t r : Bool) → (z || (f || (s || t))) ≡ true
+    → (z || (o || (u || (f || (s || (t || r)))))) ≡ true
+pair_sub true o u f s t r h = refl
+pair_sub false true u f s t r h = refl
+pair_sub false false true f s t r h = refl
+pair_sub false false false true s t r h = refl
+pair_sub false false false false true t r h = refl
+pair_sub false false false false false true r h = refl
+pair_sub false false false false false false r h = cc
 
 abbrev in_pair : Place → Bool
 in_pair p = same_sub p.sub Zero || (same_sub p.sub SumTwice || (same_sub p.sub AboveSumTwice
@@ -131,7 +136,7 @@ in_pair p = same_sub p.sub Zero || (same_sub p.sub SumTwice || (same_sub p.sub A
 planned_place : (p : Place) → in_pair p ≡ true → is_planned pair_plan p.sub ≡ true
 planned_place p h = pair_sub (same_sub p.sub Zero) (same_sub p.sub Outer)
     (same_sub p.sub OuterDown) (same_sub p.sub SumTwice) (same_sub p.sub AboveSumTwice)
-    (same_sub p.sub AboveSum) h
+    (same_sub p.sub AboveSum) (is_register p.sub) h
 
 pair_front : (xs ys : List Place) → list_all in_pair (xs ++ ys) ≡ true → (k : ℕ)
     → is_planned pair_plan (nth_place xs k).sub ≡ true
@@ -150,6 +155,7 @@ pair_back (x ∷ xs) ys h k = pair_back xs ys
 
 pair_planned : (p : Part) → stays_in_pair p.block ≡ true → IsPlanned pair_plan p.block
 pair_planned p h = record {
+  own = refl;
   reads = pair_front p.block.reads p.block.writes h;
   writes = pair_back p.block.reads p.block.writes h;
 }
@@ -177,7 +183,7 @@ module _ (head : Shape) (code : List Uop) (n : ℕ) (some : 0 < n) (small : n �
         record { size = y.0.size; outer = y.0.outer; down = y.0.down },
         y.1,
       ))
-      (run_body head code n p plan 0 o A p.cmds q r
+      (run_body head code n p plan 0 o [] A p.cmds q r
       (names_at head code n plan p.block left 0 o r ok.planned h.0) h ha ok.ranges) in
       let next = λ (q : ℕ) (r : List ℕ) (h : T r) (ha : HasAt code q (befores plan ++ is)).
       run_parts head code n (befores plan) is q r [] cs A O ha
@@ -217,7 +223,7 @@ module _ (head : Shape) (code : List Uop) (n : ℕ) (some : 0 < n) (small : n �
       (sym (append-nil (map (round_command n (round_at p i o)) p.cmds)))
       (let good = (each_all (IsGood head n) (λ j. one_round p j o) 0 m i (omega arith) (omega arith)
       ok).0 in
-      run_body head code n p plan i o (AtBody head code n plan o (m - i) i) p.cmds q r
+      run_body head code n p plan i o [] (AtBody head code n plan o (m - i) i) p.cmds q r
       (names_at head code n plan p.block (m - i) i o r good.planned h) h ha good.ranges)) in
       let le : m * (length t + 1) ≤ n * (length t + 1) =
       mul-le-mul_right (length t + 1) (at_most count) in
@@ -324,10 +330,10 @@ module _ (head : Shape) (code : List Uop) (n : ℕ) (some : 0 < n) (small : n �
       subst (λ c. Runs head code n w x (length us) (ca ++ c) (w + length us) A)
       (sym (append-nil cb))
       (run_parts head code n (pair_uops p) (pair_uops q) w x ca cb A A ha
-      (λ hb. run_body head code n p pair_plan i o A p.cmds w x
+      (λ hb. run_body head code n p pair_plan i o [] A p.cmds w x
       (names_at head code n pair_plan p.block (m - i) i o x (pair_planned p sp) h) h hb
       both.0.ranges)
-      (λ v y k hb. run_body head code n q pair_plan i o A q.cmds v y
+      (λ v y k hb. run_body head code n q pair_plan i o [] A q.cmds v y
       (names_at head code n pair_plan q.block (m - i) i o y (pair_planned q sq) k) k hb
       both.1.0.ranges)))))))
     where
@@ -858,7 +864,7 @@ module _ (head : Shape) (code : List Uop) (n : ℕ) (some : 0 < n) (small : n �
       subst (λ l. Runs head code n pc regs (most_turns * length (body_uops p)) l (pc
       + length (body_uops p)) Eight) (sym (append-nil cs))
       (run_more head code n pc _ regs (length (body_uops p)) _ cs Eight (grow (length (body_uops p)))
-      (run_body head code n p plan 0 0 Eight p.cmds pc regs
+      (run_body head code n p plan 0 0 [] Eight p.cmds pc regs
       (names_fixed head code n plan p.block 0 0 regs size (zero_front rd wr e)
       (zero_back rd wr e)) size has ok.ranges))
     where
@@ -1161,6 +1167,10 @@ module _ (head : Shape) (code : List Uop) (n : ℕ) (some : 0 < n) (small : n �
       grow : (n x : ℕ) → n ≤ WIDTH_MAX → 4 ≤ x → 4 + n * x ≤ most_turns * x
       grow n x h four = let k : n * x ≤ WIDTH_MAX * x = mul-le-mul_right x h in
           omega (arith, k, four)
+
+  run_step (Flowed f) pc regs size short stand has ok =
+      run_flow head code n some small f pc regs size short stand has
+      (ranges_of head n (step_rounds n (Flowed f)) ok)
 
   run_steps : (ss : List (StepOf Part)) (pc : ℕ) (regs : List ℕ) → length regs ≡ 8
       → length (program_code ss pc) ≤ 4096 → list_all step_stands (blocks ss) ≡ true

@@ -17,7 +17,7 @@ use Rattle.loop_ir.specs.declared.ir.Sub.{Sub}
 use Rattle.loop_ir.specs.declared.ir.Sub.TheVariants.{Zero, Top, Inner as At_inner, InnerDown}
 use Rattle.loop_ir.specs.declared.ir.Sub.TheVariants.{Outer, OuterDown, Sum, DownSum, SumTwice}
 use Rattle.loop_ir.specs.declared.ir.Sub.TheVariants.{AboveSumTwice, AboveSum, DownPlusN}
-use Rattle.loop_ir.specs.declared.ir.Sub.TheVariants.{NPlusInner}
+use Rattle.loop_ir.specs.declared.ir.Sub.TheVariants.{NPlusInner, Register as InRegister}
 use Rattle.uprog_gen.specs.Code.{init, before, after}
 use Rattle.bit_rows.specs.declared.TheConstants.{WIDTH_MAX}
 
@@ -169,6 +169,7 @@ module _ (head : Shape) (code : List Uop) (n : ℕ) where
   IsAt SumTwice i o v = v ≡ o + 2 * i
   IsAt AboveSumTwice i o v = v ≡ o + 1 + 2 * i
   IsAt AboveSum i o v = v ≡ o + 1 + i
+  IsAt (InRegister q) i o v = v ≡ 0
 
   -- and before the turn
   abbrev pub IsTop : Sub → ℕ → ℕ → ℕ → Type 0
@@ -185,6 +186,7 @@ module _ (head : Shape) (code : List Uop) (n : ℕ) where
   IsTop SumTwice i o v = v ≡ o + 2 * i
   IsTop AboveSumTwice i o v = v ≡ o + 2 * i
   IsTop AboveSum i o v = v ≡ o + i
+  IsTop (InRegister q) i o v = v ≡ 0
 
   same_regs : (r : ℕ) (P : ℕ → Type 0) (regs : List ℕ) → P (slice_index regs r)
       → Changed r P regs regs
@@ -236,6 +238,8 @@ module _ (head : Shape) (code : List Uop) (n : ℕ) where
       run_set pc r (slice_index regs 0) _ regs (Mov r 0) has.0 (λ left. refl) lt (omega (arith, e0))
   run_init AboveSum r pc o regs small lo lt ne e0 e1 has =
       run_set pc r (slice_index regs 0) _ regs (Mov r 0) has.0 (λ left. refl) lt (omega (arith, e0))
+  run_init (InRegister q) r pc o regs small lo lt ne e0 e1 has =
+      run_set pc r 0 _ regs (SetI r 0) has.0 (λ left. refl) lt refl
 
   pub run_before : (u : Sub) (r pc i o : ℕ) (regs : List ℕ) → n ≤ WIDTH_MAX → i < n → o < n
       → r < length regs
@@ -258,6 +262,7 @@ module _ (head : Shape) (code : List Uop) (n : ℕ) where
       run_add pc r 1 _ regs has.0 (omega (arith, h, small, li, lo)) lt (omega (arith, h))
   run_before AboveSum r pc i o regs small li lo lt h has =
       run_add pc r 1 _ regs has.0 (omega (arith, h, small, li, lo)) lt (omega (arith, h))
+  run_before (InRegister q) r pc i o regs small li lo lt h has = keeps pc r _ regs h
 
   pub run_after : (u : Sub) (r pc i o : ℕ) (regs : List ℕ) → n ≤ WIDTH_MAX → i < n → o < n
       → r < length regs → IsAt u i o (slice_index regs r) → HasAt code pc (after u r)
@@ -282,6 +287,7 @@ module _ (head : Shape) (code : List Uop) (n : ℕ) where
   run_after AboveSumTwice r pc i o regs small li lo lt h has =
       run_add pc r 1 _ regs has.0 (omega (arith, h, small, li, lo)) lt (omega (arith, h))
   run_after AboveSum r pc i o regs small li lo lt h has = keeps pc r _ regs (omega (arith, h))
+  run_after (InRegister q) r pc i o regs small li lo lt h has = keeps pc r _ regs h
 
   -- two stretches of straight code
   pub run_parts : (a b : List Uop) (pc : ℕ) (regs : List ℕ) (cs ds : List Issue) (I J : List ℕ
