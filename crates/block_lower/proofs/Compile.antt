@@ -20,8 +20,7 @@ use Rattle.loop_ir.specs.declared.ir.Space.TheVariants.{Result, Source, ScratchB
 use Rattle.loop_ir.specs.declared.ir.Space.TheVariants.{Cells}
 use Rattle.loop_ir.specs.declared.ir.Sub.{Sub}
 use Rattle.loop_ir.specs.declared.ir.Sub.TheVariants.{Zero, Top, Inner as At_inner, InnerDown}
-use Rattle.loop_ir.specs.declared.ir.Sub.TheVariants.{Outer, OuterDown, Sum, DownSum, SumTwice}
-use Rattle.loop_ir.specs.declared.ir.Sub.TheVariants.{AboveSumTwice, AboveSum, DownPlusN}
+use Rattle.loop_ir.specs.declared.ir.Sub.TheVariants.{Outer, OuterDown, Sum, DownSum, DownPlusN}
 use Rattle.loop_ir.specs.declared.ir.Sub.TheVariants.{NPlusInner}
 use Rattle.loop_ir.specs.declared.ir.Place.{Place}
 use Rattle.loop_ir.specs.declared.names.Slot.{Slot}
@@ -32,7 +31,7 @@ use Rattle.loop_ir.specs.Spots.{Spot, IsOwn, is_state, spot_in, nth_place, nth_s
 use Rattle.loop_ir.specs.WellFormed.{IsOneValue, IsWellFormed, AreWellFormed}
 use Rattle.loop_ir.specs.Costs.{body_cost, same_sub, is_used, used_subs, single_cost, step_cost}
 use Rattle.loop_ir.specs.Costs.{code_cost, step_bodies, bodies}
-use Rattle.loop_ir.specs.Limits.{IsSmall, may_stand, step_stands, IsRound, CanCompile}
+use Rattle.loop_ir.specs.Limits.{IsSmall, may_stand, step_stands, IsRound, StepHasValues, CanCompile}
 use Rattle.loop_ir.specs.Statements.{Slots, holds_kind, targets_of, statement_names}
 use Rattle.loop_ir.specs.Lowered.{IsRowOf, IsStatementRow}
 use Rattle.loop_laws.proofs.NoStates.{HasRows, has_rows, rows_fit, no_state_sought}
@@ -221,7 +220,7 @@ filter-less p q (s ∷ xs) h =
 
 abbrev pub others : List Sub
 others = Top ∷ At_inner ∷ InnerDown ∷ Outer ∷ OuterDown ∷ Sum ∷ DownSum ∷ DownPlusN
-    ∷ NPlusInner ∷ SumTwice ∷ AboveSumTwice ∷ AboveSum ∷ []
+    ∷ NPlusInner ∷ []
 
 pub few-uses : (down : Bool) → length (filter (uses down) others) ≤ 3
 few-uses true = omega arith
@@ -429,8 +428,8 @@ body-round {slots = slots} {fb = fb} {fw = fw} {b = b} {body = body} g is n i lt
 
 start-row : {slots : Slots} {fb fw : ℕ} {b : Block} → Given slots fb fw b → (n : ℕ) → 0 < n
     → (s : State) → is_among (state_names b) s.name ≡ true → (j : ℕ) → j < 1
-    → IsStatementRow slots fb fw (Visit b) n (nth_spot n 0 0 (place_of b.down (slots s.name)
-    ∷ []) j) × IsOwn (nth_spot n 0 0 (place_of b.down (slots s.name) ∷ []) j).space
+    → IsStatementRow slots fb fw (Visit b) n (nth_spot n 0 0 [] (place_of b.down (slots s.name)
+    ∷ []) j) × IsOwn (nth_spot n 0 0 [] (place_of b.down (slots s.name) ∷ []) j).space
 start-row g n lt s e (suc j) l = absurd (omega arith)
 start-row {slots = slots} {fb = fb} {fw = fw} {b = b} g n lt s e zero l =
     let x = slot_or (slots s.name) in
@@ -482,6 +481,11 @@ steps-all P slots b body n [] all h k = subst (AllByRecursion P)
 steps-all P slots b body n (s ∷ ss) all h k =
     (h s (head-state b s ss all), steps-all P slots b body n ss (tail-states b s ss all) h k)
 
+no-flows : (P : ℕ → Spot → Type 0) (slots : Slots) (down : Bool) (body : Body) (ss : List State)
+    → AllByRecursion (StepHasValues P) (map (start slots down) ss ++ Along body ∷ [])
+no-flows P slots down body [] = (tt, tt)
+no-flows P slots down body (s ∷ ss) = (tt, no-flows P slots down body ss)
+
 pub can-compile : {slots : Slots} {fb fw : ℕ} {b : Block} {body : Body} → Given slots fb fw b
     → IsBlockBody slots b body → AreFor body.reads body.writes body.graph body.outs body.found
     → length (block_inputs b) ≤ 80 → CanCompile (IsStatementRow slots fb fw (Visit b)) (map (start slots b.down) b.states
@@ -497,6 +501,7 @@ can-compile {slots = slots} {fb = fb} {fw = fw} {b = b} {body = body} g is for m
       (name-row g b.down s.name (written-named b s.name (state-written b s.name e))))
       (body-rows g is));
   stand = steps-stand g is b.states (λ x e. e);
+  values = no-flows (IsStatementRow slots fb fw (Visit b)) slots b.down body b.states;
   rounds = λ n lt most. steps-all (IsRound (IsStatementRow slots fb fw (Visit b) n) n) slots b body
       n b.states (λ x e. e) (start-round g n lt) (λ j l. body-round g is n j l);
   size = let c = steps-code g body b.states (λ x e. e) in let s = g.meets.states in

@@ -33,7 +33,7 @@ cap b = cond (carries b) (body_cost b) (plain_cost b)
 
 starts-total : (n : ℕ) (slots : Slots) (down : Bool) (ss : List State) (more : List (StepOf Body))
     (f : Body → ℕ) → ((v : Bool) (p : Place) → f (constant v p) ≡ 1)
-    → steps_sum f n (map (start slots down) ss ++ more) ≡ 2 * length ss + steps_sum f n more
+    → steps_sum f n (map (start slots down) ss ++ more) ≡ length ss + steps_sum f n more
 starts-total n slots down [] more f one = omega arith
 starts-total n slots down (s ∷ ss) more f one = let h = starts-total n slots down ss more f one in
     let c = one s.start (place_of down (slots s.name)) in omega (arith, h, c)
@@ -60,7 +60,7 @@ pub one-start : (slots : Slots) (down : Bool) (ss : List State) (w : ℕ) (h : H
     → length ss ≡ 1 → homes slots down ss (w ∷ []) ≡ h ∷ [] → is_state h.place.space ≡ false
     → (n : ℕ) (more : List (StepOf Body))
     → steps_sum turn_cost n (map (start slots down) ss ++ more)
-    ≡ 2 + steps_sum turn_cost n more
+    ≡ 1 + steps_sum turn_cost n more
 one-start slots down [] w h one e row n more = absurd (omega (arith, one))
 one-start slots down (s ∷ []) w h one e row n more =
     let p : place_of down (slots s.name) ≡ h.place = ap (λ hs. (nth_home hs 0).place) e in

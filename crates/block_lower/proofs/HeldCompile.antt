@@ -388,9 +388,9 @@ module _ (n : ℕ) (hs : List Home) (are : AreHomes n hs) where
   -- its round
   module _ (may_have : Spot → Type 0) where
     cell-spot-is : (k : ℕ) → k < length (map (λ (h : Home). cell_place h.cells) hs)
-        → nth_spot n 0 0 (map (λ (h : Home). cell_place h.cells) hs) k
+        → nth_spot n 0 0 [] (map (λ (h : Home). cell_place h.cells) hs) k
         ≡ cell_spot (nth_home hs k).cells
-    cell-spot-is k l = ap (spot_at n 0 0) (nth_cell hs k (omega (arith, l, wide-cells)))
+    cell-spot-is k l = ap (spot_at n 0 0 []) (nth_cell hs k (omega (arith, l, wide-cells)))
 
     cell-is : (k : ℕ) → k < length (map (λ (h : Home). cell_place h.cells) hs)
         → is_state (nth_place (map (λ (h : Home). cell_place h.cells) hs) k).space ≡ true

@@ -66,40 +66,40 @@ place_same p =
     refl)).0 (and_from (p.which == p.which) (same_sub p.sub p.sub) (eq-eqb p.which p.which refl)
     (eq-eqb (sub_code p.sub) (sub_code p.sub) refl))
 
-pub fixed_spot : (n i : ℕ) (p : Place) → p.sub ≡ Zero → spot_at n i 0 p ≡ spot_at n 0 0 p
-fixed_spot n i p e = ap (λ s. spot_in n p.space p.which (sub_value n i 0 s)) e
-    ∙ sym (ap (λ s. spot_in n p.space p.which (sub_value n 0 0 s)) e)
+pub fixed_spot : (n i : ℕ) (p : Place) → p.sub ≡ Zero → spot_at n i 0 [] p ≡ spot_at n 0 0 [] p
+fixed_spot n i p e = ap (λ s. spot_in n p.space p.which (sub_value n i 0 [] s)) e
+    ∙ sym (ap (λ s. spot_in n p.space p.which (sub_value n 0 0 [] s)) e)
 
 -- the states' places are fixed, and no other place that is looked at has their rows
 pub record AreTold (n i : ℕ) (hs : List Home) (p : Place) : Type 0 where
   pub fixed : (a : ℕ) → a < length hs → (nth_home hs a).place.sub ≡ Zero
-  pub told : (a : ℕ) → a < length hs → spot_at n i 0 p ≡ home_spot n (nth_home hs a)
+  pub told : (a : ℕ) → a < length hs → spot_at n i 0 [] p ≡ home_spot n (nth_home hs a)
       → p ≡ (nth_home hs a).place
 
 -- a place that is moved has the moved row
 pub held_spot : (n i : ℕ) (hs : List Home) (p : Place) → AreTold n i hs p
-    → spot_at n i 0 (held_place hs p) ≡ moved n hs (spot_at n i 0 p)
+    → spot_at n i 0 [] (held_place hs p) ≡ moved n hs (spot_at n i 0 [] p)
 held_spot n i [] p are = refl
 held_spot n i (h ∷ hs) p are = elim (cases_Bool (same_place p h.place)) [
   | inl e ↦
       let s = place_true p h.place e in
-      let at : spot_at n i 0 p ≡ home_spot n h = ap (spot_at n i 0) s
+      let at : spot_at n i 0 [] p ≡ home_spot n h = ap (spot_at n i 0 []) s
       ∙ fixed_spot n i h.place (are.fixed 0 (omega arith)) in
-      ap (λ c. spot_at n i 0 (cond c (cell_place h.cells) (held_place hs p))) e
-      ∙ sym (ap (λ c. cond c (cell_spot h.cells) (moved n hs (spot_at n i 0 p)))
-      (spot_same (spot_at n i 0 p) (home_spot n h) at))
-  | inr e ↦ elim (cases_Bool (same_spot (spot_at n i 0 p) (home_spot n h))) [
+      ap (λ c. spot_at n i 0 [] (cond c (cell_place h.cells) (held_place hs p))) e
+      ∙ sym (ap (λ c. cond c (cell_spot h.cells) (moved n hs (spot_at n i 0 [] p)))
+      (spot_same (spot_at n i 0 [] p) (home_spot n h) at))
+  | inr e ↦ elim (cases_Bool (same_spot (spot_at n i 0 [] p) (home_spot n h))) [
     | inl f ↦
-        let s = are.told 0 (omega arith) (spot_true (spot_at n i 0 p) (home_spot n h) f) in
+        let s = are.told 0 (omega arith) (spot_true (spot_at n i 0 [] p) (home_spot n h) f) in
         let t : same_place p h.place ≡ true = ap (same_place p) (sym s) ∙ place_same p in
         absurd (cc)
     | inr f ↦
-        ap (λ c. spot_at n i 0 (cond c (cell_place h.cells) (held_place hs p))) e
+        ap (λ c. spot_at n i 0 [] (cond c (cell_place h.cells) (held_place hs p))) e
         ∙ held_spot n i hs p (record {
           fixed = λ a l. are.fixed (suc a) (omega (arith, l));
           told = λ a l. are.told (suc a) (omega (arith, l));
         })
-        ∙ sym (ap (λ c. cond c (cell_spot h.cells) (moved n hs (spot_at n i 0 p))) f)
+        ∙ sym (ap (λ c. cond c (cell_spot h.cells) (moved n hs (spot_at n i 0 [] p))) f)
   ]
 ]
 
@@ -171,7 +171,7 @@ module _ {slots : Slots} {fb fw : ℕ} {b : Block} (g : Given slots fb fw b) (ws
 
   pub home-row : (n : ℕ) (k : ℕ) → k < length b.states
       → home_spot n (nth_home hs k) ≡ named_row n slots (position b.down n 0) (state_at k)
-  home-row n k l = ap (spot_at n 0 0) (home-place slots b.down b.states ws are.many k l)
+  home-row n k l = ap (spot_at n 0 0 []) (home-place slots b.down b.states ws are.many k l)
       ∙ place-row n 0 b.down (slots (state_at k))
 
   pub home-fixed : (k : ℕ) → k < length hs → (nth_home hs k).place.sub ≡ Zero
@@ -185,8 +185,8 @@ module _ {slots : Slots} {fb fw : ℕ} {b : Block} (g : Given slots fb fw b) (ws
       ∙ name-row g b.down (state_at k) (state-named k m)
 
   spot-row : (n i : ℕ) (p : Place) → is_state p.space ≡ false
-      → is_state (spot_at n i 0 p).space ≡ false
-  spot-row n i p e = ap is_state (spot-space n p.space p.which (sub_value n i 0 p.sub)) ∙ e
+      → is_state (spot_at n i 0 [] p).space ≡ false
+  spot-row n i p e = ap is_state (spot-space n p.space p.which (sub_value n i 0 [] p.sub)) ∙ e
 
   pub are-homes : (n : ℕ) → 0 < n → AreHomes n hs
   are-homes n lt = record {
@@ -240,17 +240,17 @@ module _ {slots : Slots} {fb fw : ℕ} {b : Block} (g : Given slots fb fw b) (ws
         (named-told n i lt (name_at (targets_of b.assigns) j) (target-named b j m))
 
     pub held-read : (cmds : List BodyCmd) (n i : ℕ) → i < n → (k : ℕ) → k < length body.reads
-        → nth_spot n i 0 (held_body hs body cmds).reads k ≡ moved n hs (nth_spot n i 0 body.reads k)
-    held-read cmds n i lt k l = ap (spot_at n i 0) (nth_map (held_place hs) body.reads k l)
+        → nth_spot n i 0 [] (held_body hs body cmds).reads k ≡ moved n hs (nth_spot n i 0 [] body.reads k)
+    held-read cmds n i lt k l = ap (spot_at n i 0 []) (nth_map (held_place hs) body.reads k l)
         ∙ held_spot n i hs (nth_place body.reads k) (read-told n i lt k l)
 
     pub held-write : (cmds : List BodyCmd) (n i : ℕ) → i < n → (j : ℕ) → j < length body.writes
-        → nth_spot n i 0 (held_body hs body cmds).writes j ≡ moved n hs (nth_spot n i 0 body.writes j)
-    held-write cmds n i lt j l = ap (spot_at n i 0) (nth_map (held_place hs) body.writes j l)
+        → nth_spot n i 0 [] (held_body hs body cmds).writes j ≡ moved n hs (nth_spot n i 0 [] body.writes j)
+    held-write cmds n i lt j l = ap (spot_at n i 0 []) (nth_map (held_place hs) body.writes j l)
         ∙ held_spot n i hs (nth_place body.writes j) (write-told n i lt j l)
 
     pub read-rows : (n i k : ℕ) → k < length body.reads
-        → is_state (nth_spot n i 0 body.reads k).space ≡ false
+        → is_state (nth_spot n i 0 [] body.reads k).space ≡ false
     read-rows n i k l =
         let longer = reads-long is in
         let m : k < length (block_inputs b) = omega (arith, l, longer) in
@@ -258,7 +258,7 @@ module _ {slots : Slots} {fb fw : ℕ} {b : Block} (g : Given slots fb fw b) (ws
         (read-place is k m) ∙ name-row g b.down (name_at (block_inputs b) k) (input-at b k m))
 
     pub write-rows : (n i j : ℕ) → j < length body.writes
-        → is_state (nth_spot n i 0 body.writes j).space ≡ false
+        → is_state (nth_spot n i 0 [] body.writes j).space ≡ false
     write-rows n i j l =
         let m : j < length b.assigns = let w = writes-long is in omega (arith, l, w) in
         spot-row n i (nth_place body.writes j) (ap (λ (p : Place). is_state p.space)
@@ -269,13 +269,13 @@ module _ {slots : Slots} {fb fw : ℕ} {b : Block} (g : Given slots fb fw b) (ws
     wide = let w = writes-long is in is.as_many ∙ sym w
 
     pub held-once : (cmds : List BodyCmd) (n i : ℕ) → i < n → (a c : ℕ) → a < length body.writes
-        → c < length body.writes → nth_spot n i 0 (held_body hs body cmds).writes a
-        ≡ nth_spot n i 0 (held_body hs body cmds).writes c → a ≡ c
+        → c < length body.writes → nth_spot n i 0 [] (held_body hs body cmds).writes a
+        ≡ nth_spot n i 0 [] (held_body hs body cmds).writes c → a ≡ c
     held-once cmds n i lt a c la lc e =
         let w = writes-long is in
         writes-once g is n i lt a c (omega (arith, la, w)) (omega (arith, lc, w))
-        (moved_once n hs (are-homes n (omega (arith, lt))) (nth_spot n i 0 body.writes a)
-        (nth_spot n i 0 body.writes c) (write-rows n i a la) (write-rows n i c lc)
+        (moved_once n hs (are-homes n (omega (arith, lt))) (nth_spot n i 0 [] body.writes a)
+        (nth_spot n i 0 [] body.writes c) (write-rows n i a la) (write-rows n i c lc)
         (sym (held-write cmds n i lt a la) ∙ e ∙ held-write cmds n i lt c lc))
 
     is-moved : (cmds : List BodyCmd) (n i : ℕ) → i < n → IsMoved n hs i 0 body (held_body hs body cmds)
@@ -314,9 +314,9 @@ module _ {slots : Slots} {fb fw : ℕ} {b : Block} (g : Given slots fb fw b) (ws
         let z = home-fixed k l in (
           w.0,
           omega (arith, w.1, wide),
-          ap (λ s. spot_in n p.space p.which (sub_value n 0 0 s)) z
-              ∙ sym (ap (λ s. spot_in n p.space p.which (sub_value n i 0 s)) z)
-              ∙ sym (ap (spot_at n i 0) w.2),
+          ap (λ s. spot_in n p.space p.which (sub_value n 0 0 [] s)) z
+              ∙ sym (ap (λ s. spot_in n p.space p.which (sub_value n i 0 [] s)) z)
+              ∙ sym (ap (spot_at n i 0 []) w.2),
         )
 
     -- each row is left as the loop with its states in rows leaves it

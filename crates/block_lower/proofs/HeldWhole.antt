@@ -92,7 +92,7 @@ module _ {slots : Slots} {fb fw : ℕ} {b : Block} {body : Body} (g : Given slot
                     absurd (cc)
                 | inr f ↦
                     subst (IsStatementRow slots fb fw (Visit b) n)
-                    (sym (ap (spot_at n i 0) (moved-place body.reads k l ∙ f)))
+                    (sym (ap (spot_at n i 0 []) (moved-place body.reads k l ∙ f)))
                     (r.reads k m (read-row-is g is (hs g ws are) n homes k m))
               ];
           writes = λ j l row.
@@ -105,24 +105,24 @@ module _ {slots : Slots} {fb fw : ℕ} {b : Block} {body : Body} (g : Given slot
                     absurd (cc)
                 | inr f ↦
                     subst (IsStatementRow slots fb fw (Visit b) n)
-                    (sym (ap (spot_at n i 0) (moved-place body.writes j l ∙ f)))
+                    (sym (ap (spot_at n i 0 []) (moved-place body.writes j l ∙ f)))
                     (r.writes j m (write-row-is g is (hs g ws are) n homes j m))
               ];
           own = λ j l.
               let m : j < length body.writes = omega (arith, l, lw) in
               elim (cases_held (hs g ws are) (nth_place body.writes j)) [
                 | inl f ↦ subst (λ (q : Spot). IsOwn q.space)
-                    (sym (ap (spot_at n i 0) (moved-place body.writes j l ∙ f.3))) tt
+                    (sym (ap (spot_at n i 0 []) (moved-place body.writes j l ∙ f.3))) tt
                 | inr f ↦ subst (λ (q : Spot). IsOwn q.space)
-                    (sym (ap (spot_at n i 0) (moved-place body.writes j l ∙ f))) (r.own j m)
+                    (sym (ap (spot_at n i 0 []) (moved-place body.writes j l ∙ f))) (r.own j m)
               ];
           apart = λ x y lx ly e. held-once g ws are is cmds n i lt x y (omega (arith, lx, lw))
               (omega (arith, ly, lw)) e;
           same = λ j k lj lk e.
               let mj : j < length body.writes = omega (arith, lj, lw) in
               let mk : k < length body.reads = omega (arith, lk, lr) in
-              let s = moved_once n (hs g ws are) homes (nth_spot n i 0 body.writes j)
-              (nth_spot n i 0 body.reads k) (write-rows g ws are is n i j mj)
+              let s = moved_once n (hs g ws are) homes (nth_spot n i 0 [] body.writes j)
+              (nth_spot n i 0 [] body.reads k) (write-rows g ws are is n i j mj)
               (read-rows g ws are is n i k mk) (sym (held-write g ws are is cmds n i lt j mj) ∙ e
               ∙ held-read g ws are is cmds n i lt k mk) in
               moved-place body.writes j lj ∙ ap move (r.same j k mj mk s)
@@ -132,12 +132,12 @@ module _ {slots : Slots} {fb fw : ℕ} {b : Block} {body : Body} (g : Given slot
               let mk : k < length body.reads = omega (arith, lk, lr) in
               let ml : l < length body.reads = omega (arith, ll, lr) in
               let w = held-write g ws are is cmds n i lt j mj in
-              let s = moved_once n (hs g ws are) homes (nth_spot n i 0 body.writes j)
-              (nth_spot n i 0 body.reads k) (write-rows g ws are is n i j mj)
+              let s = moved_once n (hs g ws are) homes (nth_spot n i 0 [] body.writes j)
+              (nth_spot n i 0 [] body.reads k) (write-rows g ws are is n i j mj)
               (read-rows g ws are is n i k mk) (sym w ∙ e
               ∙ held-read g ws are is cmds n i lt k mk) in
-              let t = moved_once n (hs g ws are) homes (nth_spot n i 0 body.writes j)
-              (nth_spot n i 0 body.reads l) (write-rows g ws are is n i j mj)
+              let t = moved_once n (hs g ws are) homes (nth_spot n i 0 [] body.writes j)
+              (nth_spot n i 0 [] body.reads l) (write-rows g ws are is n i j mj)
               (read-rows g ws are is n i l ml) (sym w ∙ f
               ∙ held-read g ws are is cmds n i lt l ml) in
               r.once j k l mj mk ml s t;
@@ -148,14 +148,14 @@ module _ {slots : Slots} {fb fw : ℕ} {b : Block} {body : Body} (g : Given slot
 
     -- a read of the last body that has the row of a write is that of no state
     read-row : (n i : ℕ) → i < n → (j k : ℕ) → j < length body.writes → k < length ended.reads
-        → nth_spot n i 0 body.writes j ≡ nth_spot n i 0 ended.reads k
+        → nth_spot n i 0 [] body.writes j ≡ nth_spot n i 0 [] ended.reads k
         → (k < length body.reads) × (nth_place ended.reads k ≡ nth_place body.reads k)
     read-row n i lt j k lj lk e =
         let m : k < length body.reads = omega (arith, lk, length-map body.reads move) in
         let at = moved-place body.reads k lk in
         elim (cases_held (hs g ws are) (nth_place body.reads k)) [
           | inl f ↦
-              let s = ap (λ (q : Spot). is_state q.space) (e ∙ ap (spot_at n i 0) (at ∙ f.3)) in
+              let s = ap (λ (q : Spot). is_state q.space) (e ∙ ap (spot_at n i 0 []) (at ∙ f.3)) in
               let t : false ≡ true = sym (write-rows g ws are is n i j lj) ∙ s in absurd (cc)
           | inr f ↦ (m, at ∙ f)
         ]
@@ -173,11 +173,11 @@ module _ {slots : Slots} {fb fw : ℕ} {b : Block} {body : Body} (g : Given slot
           apart = r.apart;
           same = λ j k lj lk e.
               let at = read-row n i lt j k lj lk e in
-              r.same j k lj at.0 (e ∙ ap (spot_at n i 0) at.1) ∙ sym at.1;
+              r.same j k lj at.0 (e ∙ ap (spot_at n i 0 []) at.1) ∙ sym at.1;
           once = λ j k l lj lk ll e f.
               let at = read-row n i lt j k lj lk e in
               let to = read-row n i lt j l lj ll f in
-              r.once j k l lj at.0 to.0 (e ∙ ap (spot_at n i 0) at.1) (f ∙ ap (spot_at n i 0) to.1);
+              r.once j k l lj at.0 to.0 (e ∙ ap (spot_at n i 0 []) at.1) (f ∙ ap (spot_at n i 0 []) to.1);
         }
 
 -- subscripts may stand
@@ -427,6 +427,7 @@ module _ {slots : Slots} {fb fw : ℕ} {b : Block} {body : Body} (g : Given slot
         (list_all step_stands (Alternate turns ∷ [])) start-stands
         (and_from (step_stands (Alternate turns)) true
         (and_from _ true (and_from _ _ each-stands last-stands) refl) refl);
+    values = (tt, (tt, tt));
     rounds = λ n lt wide. rounds-are n lt;
     size = size-is;
     few = let e = bodies-are in omega (arith, e);

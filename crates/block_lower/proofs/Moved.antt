@@ -35,18 +35,18 @@ cell_spot w = record { space = Cells; which = w; index = 0 }
 
 -- the row is one of the list's
 abbrev pub IsAt : ℕ → ℕ → ℕ → List Place → ℕ → Spot → Type 0
-IsAt n i o ps m q = (j : ℕ) × (j < m) × (q ≡ nth_spot n i o ps j)
+IsAt n i o ps m q = (j : ℕ) × (j < m) × (q ≡ nth_spot n i o [] ps j)
 
 pub find_at : (n i o : ℕ) (ps : List Place) (m : ℕ) (q : Spot)
     → IsAt n i o ps m q ⊎ (IsAt n i o ps m q → ⊥)
 find_at n i o ps zero q = inr (λ f. omega (arith, f.1))
 find_at n i o ps (suc m) q = elim (find_at n i o ps m q) [
   | inl f ↦ inl (f.0, omega (arith, f.1), f.2)
-  | inr out ↦ elim (cases_Bool (same_spot q (nth_spot n i o ps m))) [
-    | inl e ↦ inl (m, omega arith, spot_true q (nth_spot n i o ps m) e)
+  | inr out ↦ elim (cases_Bool (same_spot q (nth_spot n i o [] ps m))) [
+    | inl e ↦ inl (m, omega arith, spot_true q (nth_spot n i o [] ps m) e)
     | inr e ↦ inr (λ f. elim (cases_eq f.0 m) [
       | inl s ↦
-          let t = spot_same q (nth_spot n i o ps m) (f.2 ∙ ap (nth_spot n i o ps) s) in cc
+          let t = spot_same q (nth_spot n i o [] ps m) (f.2 ∙ ap (nth_spot n i o [] ps) s) in cc
       | inr ne ↦ out (f.0, omega (arith, f.1, ne), f.2)
     ])
   ]
@@ -54,7 +54,7 @@ find_at n i o ps (suc m) q = elim (find_at n i o ps m q) [
 
 module _ (n : ℕ) where
   abbrev pub home_spot : Home → Spot
-  home_spot h = spot_at n 0 0 h.place
+  home_spot h = spot_at n 0 0 [] h.place
 
   -- where the second loop has what the first has in a row
   abbrev pub moved : List Home → Spot → Spot
@@ -125,22 +125,22 @@ module _ (n : ℕ) where
   -- its writes are the first's, with their literals, in any order
   pub record IsMoved (hs : List Home) (i o : ℕ) (b c : Block) : Type 0 where
     pub reads : (k : ℕ) → k < length b.reads
-        → (is_state (nth_spot n i o b.reads k).space ≡ false)
-        × (nth_spot n i o c.reads k ≡ moved hs (nth_spot n i o b.reads k))
+        → (is_state (nth_spot n i o [] b.reads k).space ≡ false)
+        × (nth_spot n i o [] c.reads k ≡ moved hs (nth_spot n i o [] b.reads k))
     pub graph : c.graph ≡ b.graph
     pub follows : (f h : ℕ → Bool) → ((k : ℕ) → k < length b.reads → f k ≡ h k) → (j : ℕ)
         → j < length b.outs → gives b f j ≡ gives b h j
     pub written : (length b.outs ≤ length b.writes) × (length c.outs ≤ length c.writes)
-    pub rows : (j : ℕ) → j < length b.outs → is_state (nth_spot n i o b.writes j).space ≡ false
+    pub rows : (j : ℕ) → j < length b.outs → is_state (nth_spot n i o [] b.writes j).space ≡ false
     pub each : (j : ℕ) → j < length b.outs → (k : ℕ) × (k < length c.outs)
-        × (nth_spot n i o c.writes k ≡ moved hs (nth_spot n i o b.writes j))
+        × (nth_spot n i o [] c.writes k ≡ moved hs (nth_spot n i o [] b.writes j))
         × (lit_at c.outs k ≡ lit_at b.outs j)
     pub alone : (k : ℕ) → k < length c.outs → (j : ℕ) × (j < length b.outs)
-        × (nth_spot n i o c.writes k ≡ moved hs (nth_spot n i o b.writes j))
+        × (nth_spot n i o [] c.writes k ≡ moved hs (nth_spot n i o [] b.writes j))
     pub once : (a d : ℕ) → a < length b.outs → d < length b.outs
-        → nth_spot n i o b.writes a ≡ nth_spot n i o b.writes d → a ≡ d
+        → nth_spot n i o [] b.writes a ≡ nth_spot n i o [] b.writes d → a ≡ d
     pub apart : (a d : ℕ) → a < length c.outs → d < length c.outs
-        → nth_spot n i o c.writes a ≡ nth_spot n i o c.writes d → a ≡ d
+        → nth_spot n i o [] c.writes a ≡ nth_spot n i o [] c.writes d → a ≡ d
 
   pub round_moved : (hs : List Home) → AreHomes hs → (i o : ℕ) (b c : Block) (bits new : Spots)
       → IsMoved hs i o b c → Moved hs bits new
@@ -154,28 +154,28 @@ module _ (n : ℕ) where
             let at : after_round n (round_at c i o) new (moved hs q)
             ≡ lit_value second (lit_at c.outs w.0) =
             ap (after_round n (round_at c i o) new) (ap (moved hs) f.2 ∙ sym w.2)
-            ∙ write_at n i o second c.writes c.outs new is.written.1 is.apart w.0 w.1 in
+            ∙ write_at n i o [] second c.writes c.outs new is.written.1 is.apart w.0 w.1 in
             let one : after_round n (round_at b i o) bits q ≡ lit_value first (lit_at b.outs f.0) =
             ap (after_round n (round_at b i o) bits) f.2
-            ∙ write_at n i o first b.writes b.outs bits is.written.0 is.once f.0 f.1 in
+            ∙ write_at n i o [] first b.writes b.outs bits is.written.0 is.once f.0 f.1 in
             at ∙ ap (lit_value second) w.3
-            ∙ ap (λ (g : Graph). lit_value (values g (λ k. new (nth_spot n i o c.reads k)))
+            ∙ ap (λ (g : Graph). lit_value (values g (λ k. new (nth_spot n i o [] c.reads k)))
             (lit_at b.outs f.0)) is.graph
-            ∙ is.follows (λ k. new (nth_spot n i o c.reads k))
-            (λ k. bits (nth_spot n i o b.reads k)) (λ k l.
-            let r = is.reads k l in ap new r.1 ∙ m (nth_spot n i o b.reads k) r.0) f.0 f.1
+            ∙ is.follows (λ k. new (nth_spot n i o [] c.reads k))
+            (λ k. bits (nth_spot n i o [] b.reads k)) (λ k l.
+            let r = is.reads k l in ap new r.1 ∙ m (nth_spot n i o [] b.reads k) r.0) f.0 f.1
             ∙ sym one
         | inr out ↦
-            write_other n i o second c.writes c.outs new (moved hs q) (λ k l e.
+            write_other n i o [] second c.writes c.outs new (moved hs q) (λ k l e.
             let w = is.alone k l in
             out (
               w.0,
               w.1,
-              moved_once hs are q (nth_spot n i o b.writes w.0) a (is.rows w.0 w.1)
+              moved_once hs are q (nth_spot n i o [] b.writes w.0) a (is.rows w.0 w.1)
                   (e ∙ w.2),
             ))
             ∙ m q a
-            ∙ sym (write_other n i o first b.writes b.outs bits q (λ j l e. out (j, l, e)))
+            ∙ sym (write_other n i o [] first b.writes b.outs bits q (λ j l e. out (j, l, e)))
       ]
 
   -- the second body, but that it writes the first's rows
@@ -204,21 +204,21 @@ module _ (n : ℕ) where
       elim (find_at n i 0 b.writes (length b.outs) q) [
         | inl f ↦
             ap (after_round n (round_at (last_of b c cmds) i 0) new) f.2
-            ∙ write_at n i 0 second b.writes b.outs new is.written.0 is.once f.0 f.1
-            ∙ ap (λ (g : Graph). lit_value (values g (λ k. new (nth_spot n i 0 c.reads k)))
+            ∙ write_at n i 0 [] second b.writes b.outs new is.written.0 is.once f.0 f.1
+            ∙ ap (λ (g : Graph). lit_value (values g (λ k. new (nth_spot n i 0 [] c.reads k)))
             (lit_at b.outs f.0)) is.graph
-            ∙ is.follows (λ k. new (nth_spot n i 0 c.reads k))
-            (λ k. bits (nth_spot n i 0 b.reads k)) (λ k l.
-            let r = is.reads k l in ap new r.1 ∙ m (nth_spot n i 0 b.reads k) r.0) f.0 f.1
+            ∙ is.follows (λ k. new (nth_spot n i 0 [] c.reads k))
+            (λ k. bits (nth_spot n i 0 [] b.reads k)) (λ k l.
+            let r = is.reads k l in ap new r.1 ∙ m (nth_spot n i 0 [] b.reads k) r.0) f.0 f.1
             ∙ sym (ap (after_round n (round_at b i 0) bits) f.2
-            ∙ write_at n i 0 first b.writes b.outs bits is.written.0 is.once f.0 f.1)
+            ∙ write_at n i 0 [] first b.writes b.outs bits is.written.0 is.once f.0 f.1)
         | inr out ↦
             let here : new q ≡ bits q = elim (cases_home hs q) [
               | inl f ↦ let w = set f.0 f.1.0 in absurd (out (w.0, w.1, f.1.1 ∙ w.2))
               | inr f ↦ sym (ap new f.1) ∙ m q a
             ] in
-            write_other n i 0 second b.writes b.outs new q (λ j l e. out (j, l, e)) ∙ here
-            ∙ sym (write_other n i 0 first b.writes b.outs bits q (λ j l e. out (j, l, e)))
+            write_other n i 0 [] second b.writes b.outs new q (λ j l e. out (j, l, e)) ∙ here
+            ∙ sym (write_other n i 0 [] first b.writes b.outs bits q (λ j l e. out (j, l, e)))
       ]
 
   -- the second body at all positions from this one on, and at the last one so
@@ -305,26 +305,26 @@ module _ (n : ℕ) where
             let w = nth_cells hs f.0 f.1.0 in
             let at : after_round n r bits (cell_spot (nth_home hs f.0).cells)
             ≡ (nth_home hs f.0).start =
-            ap (after_round n r bits) (sym (ap (spot_at n 0 0) w))
-            ∙ write_at n 0 0 env (cell_places hs) (start_lits hs) bits (omega (arith, ll, lp))
+            ap (after_round n r bits) (sym (ap (spot_at n 0 0 []) w))
+            ∙ write_at n 0 0 [] env (cell_places hs) (start_lits hs) bits (omega (arith, ll, lp))
             (λ x y lx ly e. are.cells x y (omega (arith, ll, lx)) (omega (arith, ll, ly))
-            (ap (λ (s : Spot). s.which) (sym (ap (spot_at n 0 0) (nth_cells hs x
-            (omega (arith, ll, lx)))) ∙ e ∙ ap (spot_at n 0 0) (nth_cells hs y
+            (ap (λ (s : Spot). s.which) (sym (ap (spot_at n 0 0 []) (nth_cells hs x
+            (omega (arith, ll, lx)))) ∙ e ∙ ap (spot_at n 0 0 []) (nth_cells hs y
             (omega (arith, ll, ly)))))) f.0 (omega (arith, ll, f.1.0))
             ∙ start_value env hs f.0 refl f.1.0 in
             ap (after_round n r bits) f.2 ∙ at
             ∙ sym (ap (rows_started hs bits) f.1.1 ∙ started_at hs bits are.rows f.0 f.1.0)
         | inr f ↦
             ap (after_round n r bits) f.1
-            ∙ write_other n 0 0 env (cell_places hs) (start_lits hs) bits q (λ j l e.
+            ∙ write_other n 0 0 [] env (cell_places hs) (start_lits hs) bits q (λ j l e.
             no_cells hs q a j (omega (arith, ll, l)) e)
             ∙ sym (started_other hs bits q f.0)
       ]
     where
       no_cells : (hs : List Home) (q : Spot) → is_state q.space ≡ false → (j : ℕ) → j < length hs
-          → q ≡ spot_at n 0 0 (nth_place (cell_places hs) j) → ⊥
+          → q ≡ spot_at n 0 0 [] (nth_place (cell_places hs) j) → ⊥
       no_cells hs q a j l e =
-          let s = e ∙ ap (spot_at n 0 0) (nth_cells hs j l) in
+          let s = e ∙ ap (spot_at n 0 0 []) (nth_cells hs j l) in
           let t : true ≡ false = ap (λ (x : Spot). is_state x.space) (sym s) ∙ a in cc
 
   after-append : (xs ys : List (RoundOf Block)) (bits : Spots)

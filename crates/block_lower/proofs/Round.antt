@@ -56,15 +56,15 @@ named-once {slots = slots} g n p q x y lp lq ex ey e =
     (row-below n p (slot_or (slots x)).kind lp) (row-below n q (slot_or (slots y)).kind lq) e
 
 pub write-row : {slots : Slots} {b : Block} {body : Body} → IsBlockBody slots b body → (n i j : ℕ)
-    → j < length b.assigns → nth_spot n i 0 body.writes j
+    → j < length b.assigns → nth_spot n i 0 [] body.writes j
     ≡ named_row n slots (position b.down n i) (name_at (targets_of b.assigns) j)
-write-row {slots = slots} {b = b} is n i j l = ap (λ ps. spot_at n i 0 (nth_place ps j)) is.writes
+write-row {slots = slots} {b = b} is n i j l = ap (λ ps. spot_at n i 0 [] (nth_place ps j)) is.writes
     ∙ nth-row n i slots b.down (targets_of b.assigns) j (omega (arith, targets-long b))
 
 pub read-row : {slots : Slots} {b : Block} {body : Body} → IsBlockBody slots b body → (n i k : ℕ)
-    → k < length (block_inputs b) → nth_spot n i 0 body.reads k
+    → k < length (block_inputs b) → nth_spot n i 0 [] body.reads k
     ≡ named_row n slots (position b.down n i) (name_at (block_inputs b) k)
-read-row {slots = slots} {b = b} is n i k l = ap (λ ps. spot_at n i 0 (nth_place ps k)) is.reads
+read-row {slots = slots} {b = b} is n i k l = ap (λ ps. spot_at n i 0 [] (nth_place ps k)) is.reads
     ∙ nth-row n i slots b.down (block_inputs b) k l
 
 pub writes-long : {slots : Slots} {b : Block} {body : Body} → IsBlockBody slots b body
@@ -79,7 +79,7 @@ target-named b j l = written-named b (name_at (targets_of b.assigns) j)
 
 pub writes-once : {slots : Slots} {fb fw : ℕ} {b : Block} {body : Body} → Given slots fb fw b
     → IsBlockBody slots b body → (n i : ℕ) → i < n → (a c : ℕ) → a < length b.assigns
-    → c < length b.assigns → nth_spot n i 0 body.writes a ≡ nth_spot n i 0 body.writes c → a ≡ c
+    → c < length b.assigns → nth_spot n i 0 [] body.writes a ≡ nth_spot n i 0 [] body.writes c → a ≡ c
 writes-once {b = b} g is n i lt a c la lc e =
     let p = position b.down n i in
     let lp = position-below b.down n i lt in
@@ -93,11 +93,11 @@ writes-once {b = b} g is n i lt a c la lc e =
 pub round-at : {slots : Slots} {fb fw : ℕ} {b : Block} {body : Body} → Given slots fb fw b
     → IsBlockBody slots b body → (n i : ℕ) → i < n → (bits : Spots) (j : ℕ) → j < length b.assigns
     → after_round n (round_at body i 0) bits (named_row n slots (position b.down n i)
-    (name_at (targets_of b.assigns) j)) ≡ gives body (λ k. bits (nth_spot n i 0 body.reads k)) j
+    (name_at (targets_of b.assigns) j)) ≡ gives body (λ k. bits (nth_spot n i 0 [] body.reads k)) j
 round-at {b = b} {body = body} g is n i lt bits j l =
     let m = is.as_many in
     ap (after_round n (round_at body i 0) bits) (sym (write-row is n i j l))
-    ∙ write_at n i 0 (round_env n (round_at body i 0) bits) body.writes body.outs bits
+    ∙ write_at n i 0 [] (round_env n (round_at body i 0) bits) body.writes body.outs bits
     (omega (arith, writes-long is, m)) (λ a c la lc e.
     writes-once g is n i lt a c (omega (arith, m)) (omega (arith, m)) e) j (omega (arith, m))
 
@@ -108,7 +108,7 @@ pub round-other : {slots : Slots} {b : Block} {body : Body} → IsBlockBody slot
     → after_round n (round_at body i 0) bits q ≡ bits q
 round-other {b = b} {body = body} is n i bits q out =
     let m = is.as_many in
-    write_other n i 0 (round_env n (round_at body i 0) bits) body.writes body.outs bits q (λ j l e.
+    write_other n i 0 [] (round_env n (round_at body i 0) bits) body.writes body.outs bits q (λ j l e.
     let k : j < length b.assigns = omega (arith, m) in out j k (e ∙ write-row is n i j k))
 
 -- rows that the block does not set stay

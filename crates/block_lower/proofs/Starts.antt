@@ -26,13 +26,13 @@ use Rattle.block_lower.proofs.Folds.{blanks-other, blanks-at}
 use Rattle.block_lower.proofs.Visits.{Stands, one_bit, row, zero-below}
 
 constant-does : (n : ℕ) (v : Bool) (p : Place) (bits : Spots)
-    → after_round n (round_at (constant v p) 0 0) bits ≡ set_spot bits (spot_at n 0 0 p) v
+    → after_round n (round_at (constant v p) 0 0) bits ≡ set_spot bits (spot_at n 0 0 [] p) v
 unfolding values_from
 constant-does n true p bits = refl
 constant-does n false p bits = refl
 
 abbrev pub state_spot : ℕ → Slots → Bool → State → Spot
-state_spot n slots down s = spot_at n 0 0 (place_of down (slots s.name))
+state_spot n slots down s = spot_at n 0 0 [] (place_of down (slots s.name))
 
 abbrev pub started : ℕ → Slots → Bool → List State → Spots → Spots
 started n slots down [] bits = bits

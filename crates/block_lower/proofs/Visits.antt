@@ -128,7 +128,7 @@ set-target {b = b} {body = body} {n = n} {i = i} {held = held} {bits = bits} g i
       v = term_bit (with_lets env b.lets) (equation_at none j b.assigns).value;
       name = assigned-at (with_lets env b.lets) p held b.assigns none j g.meets.targets_differ l;
       there = round-at g is n i lt bits j l
-          ∙ is.values env (λ k. bits (nth_spot n i 0 body.reads k))
+          ∙ is.values env (λ k. bits (nth_spot n i 0 [] body.reads k))
           (λ k lk. ap bits (read-row is n i k lk)
           ∙ reads-held g all st p (name_at (block_inputs b) k) lp
           (among-at (block_inputs b) k lk)) j (equation_at none j b.assigns)

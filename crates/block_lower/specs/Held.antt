@@ -1,7 +1,7 @@
 -- The loop of a block whose states stand in cells from one position to the next, and in their rows
 -- in the end.
-use Rattle.std.specs.Prelude.{◌≡◌, ℕ, ◌+◌, ◌*◌, ◌<◌, ◌≤◌, ◌==◌, ◌&&◌, Bool, true, false, List}
-use Rattle.std.specs.Prelude.{[], ◌∷◌, map, length, if◌then◌else◌}
+use Rattle.std.specs.Prelude.{◌≡◌, ℕ, ◌+◌, ◌*◌, ◌<◌, ◌≤◌, ◌==◌, ◌&&◌, Bool, true, List, [], ◌∷◌}
+use Rattle.std.specs.Prelude.{map, length, if◌then◌else◌}
 use Rattle.std.specs.List.{list_all}
 use Rattle.mig_graph.specs.declared.Lit.{Lit}
 use Rattle.row_alloc.specs.declared.body.BodyCmd.{BodyCmd}

@@ -204,7 +204,7 @@ fn better(
     Ok(other)
 }
 
-/// The choice with the commands of a search, where these are no more.
+/// The choice with the commands of a search that looks for fewer, where these are no more.
 fn with_fewer(
     choice: Choice,
     reads: &[Place],
@@ -216,7 +216,8 @@ fn with_fewer(
         choice.found.items }
     ensures { IfOk result (HasNoMore reads.now writes.now choice) }
 {
-    let found = found_for(&choice.graph, reads, writes, search, usize::MAX, alloc)?;
+    let fewer = choice.found.len().saturating_sub(1);
+    let found = found_for(&choice.graph, reads, writes, search, fewer, alloc)?;
     if let Some(found) = found {
         if found.len() <= choice.found.len() {
             return Ok(choice.with(found));

@@ -15,17 +15,14 @@ use mig_rewrite::{Sketch, kept};
 use row_alloc::Search;
 use std::alloc::Global;
 
-/// How many pairs are counted by the wide beam, and how many by the broad one: those of six graphs,
-/// and of three.
-const WIDELY: usize = 30;
+/// How many pairs are counted by the wide beam, and how many by the broad one: those of five
+/// graphs, and of three.
+const WIDELY: usize = 25;
 
 const BROADLY: usize = 15;
 
 /// How many loops are tried.
 const TRIES: usize = 6;
-
-/// How many commands more than the fewest so far a pair is counted up to.
-const MARGIN: usize = 1;
 
 /// An offer with its state in these cells, and how many commands a search finds.
 #[derive(Clone, Copy)]
@@ -147,7 +144,7 @@ impl Pairs {
         let mut low = few.saturating_sub(1);
         let mut again = Vec::new(alloc);
         for counted in counts {
-            let most = counted.most(low, MARGIN);
+            let most = counted.most(low, 0);
             let cost = self.cost(counted.number, search, most, alloc)?;
             low = usize::min(low, cost);
             keep(&mut again, counted.with(cost, search))?;

@@ -21,7 +21,7 @@ use Rattle.row_alloc.specs.Numbering.{own_output}
 use Rattle.row_alloc.specs.Length.{plain_length}
 use Rattle.row_alloc.specs.Symbolic.{symbols_after, IsChecked, sense_three, first_node, lit_eq}
 use Rattle.row_alloc.specs.Known.{Serves, IsFirst, known, known_at, WordBody, Inverted, Both, Either}
-use Rattle.row_alloc.specs.Known.{Without, Unlike, Chosen, Added, Counted, graph_in, outs_in}
+use Rattle.row_alloc.specs.Known.{Unlike, Chosen, Added, graph_in, outs_in}
 use Rattle.row_alloc.specs.Known.{sequence_for}
 use Rattle.row_alloc.proofs.Booleans.{and-both}
 use Rattle.row_alloc.proofs.Sound.{lit-eq-true}
@@ -240,10 +240,6 @@ either_first : HasFirst Either
 unfolding sense_three first_node
 either_first = one (graph_in Either) _ 3 refl (omega arith)
 
-without_first : HasFirst Without
-unfolding sense_three first_node
-without_first = one (graph_in Without) _ 4 refl (omega arith)
-
 unlike_first : HasFirst Unlike
 unfolding sense_three first_node
 unlike_first = one (graph_in Unlike) _ 9 refl (omega arith)
@@ -251,10 +247,6 @@ unlike_first = one (graph_in Unlike) _ 9 refl (omega arith)
 chosen_first : HasFirst Chosen
 unfolding sense_three first_node
 chosen_first = one (graph_in Chosen) _ 11 refl (omega arith)
-
-counted_first : HasFirst Counted
-unfolding sense_three first_node
-counted_first = two (graph_in Counted) _ _ 16 nowhere refl (omega arith) (λ outs late. refl)
 
 added_first : HasFirst Added
 unfolding sense_three first_node
@@ -264,11 +256,9 @@ have_first : (b : WordBody) → HasFirst b
 have_first Inverted = inverted_first
 have_first Both = both_first
 have_first Either = either_first
-have_first Without = without_first
 have_first Unlike = unlike_first
 have_first Chosen = chosen_first
 have_first Added = added_first
-have_first Counted = counted_first
 
 abbrev IsShort : WordBody → List OutRow → Type 0
 IsShort b outs = length (known_at (sequence_for b)) ≤ plain_length (graph_in b) outs
@@ -278,26 +268,19 @@ short : (b : WordBody) (outs : List OutRow) → map (λ o. o.lit) outs ≡ outs_
 short Inverted outs e = subst (IsShort Inverted) (sym (single _ outs e)) (omega arith)
 short Both outs e = subst (IsShort Both) (sym (single _ outs e)) (omega arith)
 short Either outs e = subst (IsShort Either) (sym (single _ outs e)) (omega arith)
-short Without outs e = subst (IsShort Without) (sym (single _ outs e)) (omega arith)
 short Unlike outs e = subst (IsShort Unlike) (sym (single _ outs e)) (omega arith)
 short Chosen outs e = subst (IsShort Chosen) (sym (single _ outs e)) (omega arith)
 short Added outs e = subst (IsShort Added) (sym (double _ _ outs e)) (omega arith)
-short Counted outs e = subst (IsShort Counted) (sym (double _ _ outs e)) (omega arith)
 
--- what stands first in one command and second in an earlier one, where f says of an output and an
--- input that they may
-abbrev into : (ℕ → ℕ → Bool) → ℕ → BodyRef → Bool
-into f j (In k) = f j k
-into f j x = true
-
-abbrev allowed : (ℕ → ℕ → Bool) → BodyRef → BodyRef → Bool
-allowed f (Out j) x = into f j x
-allowed f y x = true
+-- where the first is written, and the second read later, they are not an output and an input
+abbrev allowed : BodyRef → BodyRef → Bool
+allowed (Out j) (In k) = false
+allowed y x = true
 
 -- of all commands, each with each later one
-abbrev is_clear : (ℕ → ℕ → Bool) → List BodyCmd → Bool
-is_clear f [] = true
-is_clear f (c ∷ cs) = list_all (λ d. allowed f (written_by c) (read_by d)) cs && is_clear f cs
+abbrev is_clear : List BodyCmd → Bool
+is_clear [] = true
+is_clear (c ∷ cs) = list_all (λ d. allowed (written_by c) (read_by d)) cs && is_clear cs
 
 each_of : (g : BodyCmd → Bool) (cs : List BodyCmd) (i : ℕ) → list_all g cs ≡ true → i < length cs
     → g (command_at cs i) ≡ true
@@ -307,55 +290,32 @@ each_of g cs i h l = by (g (command_at cs i)) refl
     by true e = e
     by false e = let f = list_all_at g cs i _ l e in cc
 
-module _ (f : ℕ → ℕ → Bool) (outs : List OutRow) (kept : (j k : ℕ) → f j k ≡ true
-    → (out_at outs j).same ≡ Some k → ⊥) where
-  clear_late : (cs : List BodyCmd) → is_clear f cs ≡ true → (p q j k : ℕ) → p < q → q < length cs
-      → (out_at outs j).same ≡ Some k → written_by (command_at cs p) ≡ Out j
-      → read_by (command_at cs q) ≡ In k → ⊥
-  clear_late [] h p q j k lp lq s w r = omega (arith, lq)
-  clear_late (c ∷ cs) h p zero j k lp lq s w r = omega (arith, lp)
-  clear_late (c ∷ cs) h zero (suc q) j k lp lq s w r =
-      let t = and_parts (list_all (λ d. allowed f (written_by c) (read_by d)) cs) (is_clear f cs) h
-      in
-      let a = each_of (λ d. allowed f (written_by c) (read_by d)) cs q t.0 (omega (arith, lq)) in
-      let b : f j k ≡ true = sym (ap (λ x. allowed f x (In k)) w)
-      ∙ sym (ap (λ x. allowed f (written_by c) x) r) ∙ a in
-      kept j k b s
-  clear_late (c ∷ cs) h (suc p) (suc q) j k lp lq s w r =
-      let t = and_parts (list_all (λ d. allowed f (written_by c) (read_by d)) cs) (is_clear f cs) h
-      in
-      clear_late cs t.1 p q j k (omega (arith, lp)) (omega (arith, lq)) s w r
+clear_late : (cs : List BodyCmd) → is_clear cs ≡ true → (p q j k : ℕ) → p < q → q < length cs
+    → written_by (command_at cs p) ≡ Out j → read_by (command_at cs q) ≡ In k → ⊥
+clear_late [] h p q j k lp lq w r = omega (arith, lq)
+clear_late (c ∷ cs) h p zero j k lp lq w r = omega (arith, lp)
+clear_late (c ∷ cs) h zero (suc q) j k lp lq w r =
+    let t = and_parts (list_all (λ d. allowed (written_by c) (read_by d)) cs) (is_clear cs) h in
+    let a = each_of (λ d. allowed (written_by c) (read_by d)) cs q t.0 (omega (arith, lq)) in
+    let b : false ≡ true = sym (ap (λ x. allowed x (In k)) w)
+    ∙ sym (ap (λ x. allowed (written_by c) x) r) ∙ a in
+    cc
+clear_late (c ∷ cs) h (suc p) (suc q) j k lp lq w r =
+    let t = and_parts (list_all (λ d. allowed (written_by c) (read_by d)) cs) (is_clear cs) h in
+    clear_late cs t.1 p q j k (omega (arith, lp)) (omega (arith, lq)) w r
 
 -- where no output is written early
-pub never : (outs : List OutRow) (cs : List BodyCmd) → is_clear (λ j k. false) cs ≡ true
-    → WritesLate outs cs
-never outs cs h = record {
-  late = clear_late (λ j k. false) outs (λ j k e s. let z : false ≡ true = e in cc) cs h;
-}
-
--- where this output alone is, which must not stand in the row of this input
-abbrev is_pair : ℕ → ℕ → ℕ → ℕ → Bool
-is_pair i l j k = (j == i) && (k == l)
-
-pub but_one : (i l : ℕ) (outs : List OutRow) (cs : List BodyCmd) → ((out_at outs i).same ≡ Some l → ⊥)
-    → is_clear (is_pair i l) cs ≡ true → WritesLate outs cs
-but_one i l outs cs kept h = record {
-  late = clear_late (is_pair i l) outs (λ j k e s.
-      let t = and_parts (j == i) (k == l) e in
-      kept (ap (λ x. (out_at outs x).same) (sym (eqb-true j i t.0)) ∙ s
-      ∙ ap Some (eqb-true k l t.1))) cs h;
-}
+pub never : (outs : List OutRow) (cs : List BodyCmd) → is_clear cs ≡ true → WritesLate outs cs
+never outs cs h = record { late = λ p q j k lp lq s w r. clear_late cs h p q j k lp lq w r }
 
 -- the known sequence of a body writes each output after it has read what stood there
 word_late : (b : WordBody) (outs : List OutRow) → WritesLate outs (known_at (sequence_for b))
 word_late Inverted outs = never outs (known_at 0) refl
 word_late Both outs = never outs (known_at 2) refl
 word_late Either outs = never outs (known_at 3) refl
-word_late Without outs = never outs (known_at 4) refl
 word_late Unlike outs = never outs (known_at 9) refl
 word_late Chosen outs = never outs (known_at 11) refl
 word_late Added outs = never outs (known_at 20) refl
-word_late Counted outs = never outs (known_at 16) refl
 
 pub words_first : (b : WordBody) (outs : List OutRow) → FitBody (graph_in b) outs
     → map (λ o. o.lit) outs ≡ outs_in b → IsFirst (graph_in b) outs (sequence_for b)

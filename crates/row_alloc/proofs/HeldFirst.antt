@@ -1,8 +1,8 @@
 -- Which known sequence is the first that serves a body of a word operation with its states in cells
-use Rattle.std.proofs.Common.{◌≡◌, ℕ, zero, suc, ◌<◌, Bool, true, false, List, [], ◌∷◌}
-use Rattle.std.proofs.Common.{length, map, refl, sym, subst, ap, ◌∙◌, arith, Option, Some, None}
+use Rattle.std.proofs.Common.{◌≡◌, ℕ, zero, suc, ◌<◌, Bool, true, List, [], ◌∷◌}
+use Rattle.std.proofs.Common.{length, map, refl, sym, subst, ap, ◌∙◌, arith, Option, Some}
 use Rattle.std.proofs.Common.{inl, inr, not}
-use Rattle.std.specs.Prelude.{◌||◌, ◌&&◌}
+use Rattle.std.specs.Prelude.{◌&&◌}
 use Rattle.std.specs.List.{list_all, AllByRecursion}
 use Rattle.std.proofs.lemmas.Bool.{and_parts, cases_eq, cases_lt}
 use Rattle.dram_model.specs.declared.address.Cell.TheVariants.{D}
@@ -20,19 +20,13 @@ use Rattle.row_alloc.specs.Symbolic.{Symbols, sym_read, sense_three, first_node}
 use Rattle.row_alloc.specs.Layouts.{layout}
 use Rattle.row_alloc.specs.Held.{reads_rows, symbols_held, IsLeft, IsHeldChecked}
 use Rattle.row_alloc.specs.HeldBodies.{ServesHeld, IsFirstHeld, held_sequences, held_at, HeldBody}
-use Rattle.row_alloc.specs.HeldBodies.{ZeroInT0, OneInT0, ZeroInT1, OneInT1, OnesInT2AndT3}
-use Rattle.row_alloc.specs.HeldBodies.{ZeroInT3AndDcc1, ZeroInTurnedT3AndDcc1}
-use Rattle.row_alloc.specs.HeldBodies.{HeldCompared, HeldOrdered}
-use Rattle.row_alloc.specs.HeldBodies.{BothInT2, EitherInT2, MajorityInT3, MajorityInT1, MajorityFromT3}
-use Rattle.row_alloc.specs.HeldBodies.{KeptForPair, PairUnlike}
-use Rattle.row_alloc.specs.HeldBodies.{BothAtLast, EitherAtLast, MajorityAtLast, PairUnlikeAtLast}
-use Rattle.row_alloc.specs.HeldBodies.{UnlikeAtLast, NotInT1AndDcc0, BothFromT1, MajorityFromDcc0}
-use Rattle.row_alloc.specs.HeldBodies.{HeldLessened, HeldNegatedIf, HeldMultiplied, HeldDivided}
-use Rattle.row_alloc.specs.HeldBodies.{HeldAgreed, held_graph, held_outs, enter_in, leave_in}
-use Rattle.row_alloc.specs.HeldBodies.{held_sequence_for, ReadTurned, WrittenTurned, HeldCounted}
-use Rattle.row_alloc.specs.HeldBodies.{HeldMoved}
+use Rattle.row_alloc.specs.HeldBodies.{ZeroInT0, OneInT0, OnesInT2AndT3, ZeroInT3AndDcc1}
+use Rattle.row_alloc.specs.HeldBodies.{HeldCompared, HeldOrdered, HeldLessened, HeldAgreed}
+use Rattle.row_alloc.specs.HeldBodies.{held_graph, held_outs, enter_in, leave_in}
+use Rattle.row_alloc.specs.HeldBodies.{held_sequence_for}
 use Rattle.row_alloc.proofs.Booleans.{and-both}
 use Rattle.row_alloc.proofs.First.{out, is_literal, is-literal, literal-is, in_all, in_one, single}
+use Rattle.row_alloc.proofs.First.{never}
 
 abbrev end_at : Graph → List OutRow → List Held → List BodyCmd → ℕ → Option Lit
 end_at g outs enter cmds j = symbols_held g outs enter cmds (D (own_output (out_at outs j).same j))
@@ -181,9 +175,20 @@ first_same g outs enter leave i k p q = elim (cases_lt i k) [
   ]
 ]
 
+-- its sequence writes the outputs late
+held_late : (b : HeldBody) (outs : List OutRow) → WritesLate outs (held_at (held_sequence_for b))
+held_late ZeroInT0 outs = never outs (held_at 0) refl
+held_late OneInT0 outs = never outs (held_at 1) refl
+held_late OnesInT2AndT3 outs = never outs (held_at 2) refl
+held_late ZeroInT3AndDcc1 outs = never outs (held_at 0) refl
+held_late HeldCompared outs = never outs (held_at 4) refl
+held_late HeldOrdered outs = never outs (held_at 5) refl
+held_late HeldLessened outs = never outs (held_at 6) refl
+held_late HeldAgreed outs = never outs (held_at 3) refl
+
 abbrev HasFirst : HeldBody → Type 0
 HasFirst b = (outs : List OutRow) → FitBody (held_graph b) outs
-    → map (λ o. o.lit) outs ≡ held_outs b → WritesLate outs (held_at (held_sequence_for b))
+    → map (λ o. o.lit) outs ≡ held_outs b
     → IsFirstHeld (held_graph b) outs (enter_in b) (leave_in b) (held_sequence_for b)
 
 -- with no output in a row
@@ -194,102 +199,48 @@ no_outs (o ∷ os) e = absurd cc
 none : (b : HeldBody) → held_outs b ≡ []
     → is_first (held_graph b) [] (enter_in b) (leave_in b) (held_sequence_for b) ≡ true
     → held_sequence_for b < length held_sequences → HasFirst b
-none b n h within outs fit e late =
+none b n h within outs fit e =
     let is : outs ≡ [] = no_outs outs (e ∙ n) in
     subst (λ os. IsFirstHeld (held_graph b) os (enter_in b) (leave_in b) (held_sequence_for b))
     (sym is)
     (first (held_graph b) [] (enter_in b) (leave_in b) (held_sequence_for b) within h
-    (subst (λ os. WritesLate os (held_at (held_sequence_for b))) is late))
+    (held_late b []))
 
--- with one, wherever it may stand but for places that are left out
-abbrev is_one : HeldBody → Lit → (Option ℕ → Bool) → Option ℕ → Bool
-is_one b l out_of s = out_of s || is_first (held_graph b) (out l s ∷ []) (enter_in b) (leave_in b)
+-- with one, wherever it may stand
+abbrev is_one : HeldBody → Lit → Option ℕ → Bool
+is_one b l s = is_first (held_graph b) (out l s ∷ []) (enter_in b) (leave_in b)
     (held_sequence_for b)
 
-one : (b : HeldBody) (l : Lit) (out_of : Option ℕ → Bool) → held_outs b ≡ l ∷ []
-    → in_all (held_graph b).inputs (is_one b l out_of) ≡ true
-    → held_sequence_for b < length held_sequences
-    → ((outs : List OutRow) → WritesLate outs (held_at (held_sequence_for b))
-    → out_of (out_at outs 0).same ≡ false) → HasFirst b
-one b l out_of n h within kept outs fit e late =
+one : (b : HeldBody) (l : Lit) → held_outs b ≡ l ∷ []
+    → in_all (held_graph b).inputs (is_one b l) ≡ true
+    → held_sequence_for b < length held_sequences → HasFirst b
+one b l n h within outs fit e =
     let s = (out_at outs 0).same in
     let is = single l outs (e ∙ n) in
     let m = ap length is in
-    let t = in_one (held_graph b).inputs (is_one b l out_of) h s (λ j f.
+    let d = in_one (held_graph b).inputs (is_one b l) h s (λ j f.
     fit.same 0 j (omega (arith, m)) f) in
-    let d : is_first (held_graph b) (out l s ∷ []) (enter_in b) (leave_in b) (held_sequence_for b)
-    ≡ true = rw (kept outs late) at t in
     subst (λ os. IsFirstHeld (held_graph b) os (enter_in b) (leave_in b) (held_sequence_for b))
     (sym is)
     (first (held_graph b) (out l s ∷ []) (enter_in b) (leave_in b) (held_sequence_for b) within d
-    (subst (λ os. WritesLate os (held_at (held_sequence_for b))) is late))
-
-abbrev nowhere : Option ℕ → Bool
-nowhere s = false
-
--- the output stands in the row of input 1
-abbrev at_one : Option ℕ → Bool
-at_one None = false
-at_one (Some zero) = false
-at_one (Some (suc zero)) = true
-at_one (Some (suc (suc k))) = false
-
-not_at_one : (s : Option ℕ) → (s ≡ Some 1 → ⊥) → at_one s ≡ false
-not_at_one None h = refl
-not_at_one (Some zero) h = refl
-not_at_one (Some (suc zero)) h = absurd (h refl)
-not_at_one (Some (suc (suc k))) h = refl
+    (held_late b (out l s ∷ [])))
 
 pub have_first : (b : HeldBody) → HasFirst b
 unfolding sense_three first_node
 have_first ZeroInT0 = none ZeroInT0 refl refl (omega arith)
 have_first OneInT0 = none OneInT0 refl refl (omega arith)
-have_first ZeroInT1 = none ZeroInT1 refl refl (omega arith)
-have_first OneInT1 = none OneInT1 refl refl (omega arith)
 have_first OnesInT2AndT3 = none OnesInT2AndT3 refl refl (omega arith)
 have_first ZeroInT3AndDcc1 = none ZeroInT3AndDcc1 refl refl (omega arith)
-have_first ZeroInTurnedT3AndDcc1 = none ZeroInTurnedT3AndDcc1 refl refl (omega arith)
-have_first HeldCompared = one HeldCompared _ nowhere refl refl (omega arith) (λ outs late. refl)
+have_first HeldCompared = one HeldCompared _ refl refl (omega arith)
 have_first HeldOrdered = none HeldOrdered refl refl (omega arith)
-have_first HeldLessened = one HeldLessened _ nowhere refl refl (omega arith) (λ outs late. refl)
-have_first HeldNegatedIf = one HeldNegatedIf _ at_one refl refl (omega arith) (λ outs late.
-    not_at_one (out_at outs 0).same (λ e. late.late 5 6 0 1 (omega arith) (omega arith) e refl
-    refl))
-have_first HeldMultiplied = one HeldMultiplied _ nowhere refl refl (omega arith) (λ outs late. refl)
-have_first HeldDivided = one HeldDivided _ nowhere refl refl (omega arith) (λ outs late. refl)
-have_first HeldAgreed = one HeldAgreed _ nowhere refl refl (omega arith) (λ outs late. refl)
-have_first BothInT2 = none BothInT2 refl refl (omega arith)
-have_first EitherInT2 = none EitherInT2 refl refl (omega arith)
-have_first MajorityInT3 = none MajorityInT3 refl refl (omega arith)
-have_first MajorityInT1 = none MajorityInT1 refl refl (omega arith)
-have_first KeptForPair = none KeptForPair refl refl (omega arith)
-have_first PairUnlike = none PairUnlike refl refl (omega arith)
-have_first BothAtLast = one BothAtLast _ nowhere refl refl (omega arith)
-    (λ outs late. refl)
-have_first EitherAtLast = one EitherAtLast _ nowhere refl refl (omega arith)
-    (λ outs late. refl)
-have_first MajorityAtLast = one MajorityAtLast _ nowhere refl refl (omega arith)
-    (λ outs late. refl)
-have_first MajorityFromT3 = one MajorityFromT3 _ nowhere refl refl (omega arith)
-    (λ outs late. refl)
-have_first PairUnlikeAtLast = one PairUnlikeAtLast _ nowhere refl refl (omega arith)
-    (λ outs late. refl)
-have_first UnlikeAtLast = one UnlikeAtLast _ nowhere refl refl (omega arith) (λ outs late. refl)
-have_first NotInT1AndDcc0 = none NotInT1AndDcc0 refl refl (omega arith)
-have_first BothFromT1 = one BothFromT1 _ nowhere refl refl (omega arith) (λ outs late. refl)
-have_first MajorityFromDcc0 = one MajorityFromDcc0 _ nowhere refl refl (omega arith)
-    (λ outs late. refl)
-have_first ReadTurned = none ReadTurned refl refl (omega arith)
-have_first WrittenTurned = one WrittenTurned _ nowhere refl refl (omega arith) (λ outs late. refl)
-have_first HeldCounted = one HeldCounted _ nowhere refl refl (omega arith) (λ outs late. refl)
-have_first HeldMoved = one HeldMoved _ nowhere refl refl (omega arith) (λ outs late. refl)
+have_first HeldLessened = one HeldLessened _ refl refl (omega arith)
+have_first HeldAgreed = one HeldAgreed _ refl refl (omega arith)
 
 pub held_first : (g : Graph) (outs : List OutRow) (enter leave : List Held) (b : HeldBody)
     → g ≡ held_graph b → FitBody g outs → map (λ o. o.lit) outs ≡ held_outs b → enter ≡ enter_in b
-    → leave ≡ leave_in b → WritesLate outs (held_at (held_sequence_for b))
-    → IsFirstHeld g outs enter leave (held_sequence_for b)
-held_first g outs enter leave b e fit l n x late =
+    → leave ≡ leave_in b → IsFirstHeld g outs enter leave (held_sequence_for b)
+held_first g outs enter leave b e fit l n x =
     subst (λ h. IsFirstHeld h outs enter leave (held_sequence_for b)) (sym e)
     (subst (λ h. IsFirstHeld (held_graph b) outs h leave (held_sequence_for b)) (sym n)
     (subst (λ h. IsFirstHeld (held_graph b) outs (enter_in b) h (held_sequence_for b)) (sym x)
-    (have_first b outs (subst (λ h. FitBody h outs) e fit) l late)))
+    (have_first b outs (subst (λ h. FitBody h outs) e fit) l)))

@@ -18,4 +18,3 @@ pub mod Values
 pub mod HeldChecked
 pub mod Plainly
 pub mod HeldFirst
-pub mod HeldLate

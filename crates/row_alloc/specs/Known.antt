@@ -67,43 +67,35 @@ add_graph = record {
       ∷ node_of (plain 3) (complemented 4) (plain 5) ∷ [];
 }
 
--- The bodies of the word operations that hold no state in cells and are no copies: the complement,
--- and, or, and-not, exclusive or, choice, addition, and the inner body of bitcount
+-- The bodies of the word operations that hold no state in cells, carry no commands and are no
+-- copies: the complement, and, or, exclusive or, choice and addition
 pub data WordBody : Type 0 where
   Inverted : WordBody
   Both : WordBody
   Either : WordBody
-  Without : WordBody
   Unlike : WordBody
   Chosen : WordBody
   Added : WordBody
-  Counted : WordBody
 
 -- how many inputs the graph of a body has
 abbrev pub inputs_in : WordBody → ℕ
 inputs_in Inverted = 1
 inputs_in Both = 2
 inputs_in Either = 2
-inputs_in Without = 2
 inputs_in Unlike = 2
 inputs_in Chosen = 3
 inputs_in Added = 3
-inputs_in Counted = 2
 
 -- the nodes of a body's graph
 abbrev pub nodes_in : WordBody → List Node
 nodes_in Inverted = []
 nodes_in Both = and_graph.nodes
 nodes_in Either = or_graph.nodes
-nodes_in Without = node_of (plain 0) (plain 1) (complemented 2) ∷ []
 nodes_in Unlike = xor_graph.nodes
 nodes_in Chosen = node_of (plain 0) (plain 1) (plain 3)
     ∷ node_of (plain 2) (complemented 3) (plain 4)
     ∷ node_of (complemented 0) (plain 4) (plain 5) ∷ []
 nodes_in Added = add_graph.nodes
-nodes_in Counted = node_of (complemented 0) (complemented 1) (plain 2)
-    ∷ node_of (plain 0) (plain 1) (plain 2)
-    ∷ node_of (complemented 2) (plain 3) (plain 4) ∷ []
 
 -- the graph of a body
 abbrev pub graph_in : WordBody → Graph
@@ -114,19 +106,15 @@ abbrev pub outs_in : WordBody → List Lit
 outs_in Inverted = complemented 1 ∷ []
 outs_in Both = plain 3 ∷ []
 outs_in Either = plain 3 ∷ []
-outs_in Without = plain 3 ∷ []
 outs_in Unlike = plain 5 ∷ []
 outs_in Chosen = plain 6 ∷ []
 outs_in Added = plain 6 ∷ plain 4 ∷ []
-outs_in Counted = plain 5 ∷ plain 3 ∷ []
 
 -- the number of its sequence in the table
 abbrev pub sequence_for : WordBody → ℕ
 sequence_for Inverted = 0
 sequence_for Both = 2
 sequence_for Either = 3
-sequence_for Without = 4
 sequence_for Unlike = 9
 sequence_for Chosen = 11
-sequence_for Counted = 16
 sequence_for Added = 20

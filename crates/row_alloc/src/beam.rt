@@ -11,6 +11,7 @@ use crate::estimate::{Ahead, estimate, is_ready};
 use crate::idle::without_copies;
 use crate::moves::{Commands, Job, LineUp, Way, Ways, complemented, fill_left, writes};
 use crate::outlook::{State, Task, in_place};
+use crate::set::Set;
 use faults::keep;
 use mig_graph::{Mig, NoMemory};
 use std::alloc::Global;
@@ -343,6 +344,20 @@ impl Beam {
         self.consider_ends(task, parent, at, ahead)
     }
 
+    /// Whether the node is made by more commands than are looked for, or the end is too far then:
+    /// each operand that is not in place takes a command, and so does the activation, which may
+    /// write an output.
+    fn is_far_off(&self, parent: &Entry, ahead: &Ahead, candidate: &Candidate, outs: Set) -> bool {
+        let loaded = parent.spent.saturating_add(candidate.missing);
+        let spent = if outs.is_empty() {
+            loaded.saturating_add(1)
+        } else {
+            loaded
+        };
+        let left = self.most.saturating_sub(spent);
+        spent > self.most || ahead.is_above_beside(&parent.state, candidate.operands, left)
+    }
+
     /// Tries the line-ups of a node that lack least, until so many states have been tried.
     fn try_job(
         &mut self,
@@ -358,11 +373,15 @@ impl Beam {
             return Ok(());
         }
         let ahead = self.ahead_of(task, &made);
+        let outs = task.outs_of(candidate.sensed).and(parent.state.unwritten);
+        if self.is_far_off(parent, &ahead, candidate, outs) {
+            return Ok(());
+        }
         let named = task.named_by(parent.state.unwritten);
         let job = Job {
             node: candidate.node,
             sensed: candidate.sensed,
-            outs: task.outs_of(candidate.sensed).and(parent.state.unwritten),
+            outs,
             wanted: task.read_by(parent.state.unmade).or(named),
             wanted_after: ahead.read.or(named),
         };

@@ -347,17 +347,39 @@ impl Ahead {
     /// one for the first load of each input or constant that stands in no cell, and one for each
     /// output of a node that is made.
     fn bound(&self, s: &State) -> u32 {
+        self.least(s).saturating_add(self.loads_left(s).len())
+    }
+
+    /// The inputs and constants that stand in no cell and must be loaded.
+    fn loads_left(&self, s: &State) -> Nodes {
         let mut loads = self.loads;
         for k in 0..6u8 {
             loads = loads.without(s.cells.get(k).node());
         }
-        self.least(s).saturating_add(loads.len())
+        loads
     }
 
     /// The same without the loads.
     fn least(&self, s: &State) -> u32 {
         let writes = self.given.and(s.unwritten).len();
         self.unmade.len().saturating_add(writes)
+    }
+
+    /// Whether the bound is above so many commands even where these operands stand in cells beside
+    /// the others.
+    pub fn is_above_beside(&self, s: &State, operands: [Short; 3], most: u32) -> bool {
+        let least = self.least(s);
+        if least > most {
+            return true;
+        }
+        if least.saturating_add(self.loads.len()) <= most {
+            return false;
+        }
+        let mut loads = self.loads_left(s);
+        for l in operands {
+            loads = loads.without(l.node());
+        }
+        least.saturating_add(loads.len()) > most
     }
 
     /// Whether the bound is above so many commands.

@@ -14,11 +14,11 @@ ghost use Rattle.row_alloc.specs.Known.{Serves, plain, complemented, not_graph, 
 ghost use Rattle.row_alloc.specs.Known.{or_graph};
 ghost use Rattle.row_alloc.specs.Known.{xor_graph, add_graph};
 ghost use Rattle.row_alloc.specs.Legal.{are_legal};
-ghost use Rattle.row_alloc.specs.Known.{WordBody, graph_in, outs_in, sequence_for, known_at};
+ghost use Rattle.row_alloc.specs.Known.{WordBody, graph_in, outs_in, sequence_for};
 ghost use Rattle.row_alloc.specs.Known.{IsFirst};
 ghost use Rattle.row_alloc.specs.HeldBodies.{HeldBody, held_graph, held_outs, enter_in, leave_in};
-ghost use Rattle.row_alloc.specs.HeldBodies.{held_sequence_for, held_at, IsFirstHeld};
-ghost use Rattle.row_alloc.specs.Body.{FitBody, WritesLate};
+ghost use Rattle.row_alloc.specs.HeldBodies.{held_sequence_for, IsFirstHeld};
+ghost use Rattle.row_alloc.specs.Body.{FitBody};
 ghost use Rattle.row_alloc.specs.Numbering.{own_rows, AreBelow};
 
 /// The rows of a body can stand apart: each at a number of its own.
@@ -67,10 +67,9 @@ pub fn word_bodies_have_sequences()
         → map (λ o. o.lit) outs ≡ outs_in b → IsFirst (graph_in b) outs (sequence_for b) }
 {}
 
-/// As `word_bodies_have_sequences`, of the bodies with states in cells, as long as the sequence
-/// writes the outputs late where they stand.
+/// As `word_bodies_have_sequences`, of the bodies with states in cells.
 pub fn held_bodies_have_sequences()
     ensures { (b : HeldBody) (outs : List OutRow) → FitBody (held_graph b) outs
-        → map (λ o. o.lit) outs ≡ held_outs b → WritesLate outs (held_at (held_sequence_for b))
+        → map (λ o. o.lit) outs ≡ held_outs b
         → IsFirstHeld (held_graph b) outs (enter_in b) (leave_in b) (held_sequence_for b) }
 {}
