@@ -1,4 +1,4 @@
-"""The word operations, read from the sources: their table in `op_text`, and the numbers of `Costs`, there and in `uprog_gen`.
+"""The word operations, read from the sources: their table and ceilings in `op_text`, their costs in `uprog_gen` and `word_flow`.
 
 A name, row or formula that is not of the form known here ends the caller with a line that says so.
 """
@@ -12,6 +12,7 @@ OP_TEXT = pathlib.Path(__file__).resolve().parent.parent / "crates" / "op_text"
 TABLE = OP_TEXT / "src" / "word_ops.rt"
 CEILINGS = OP_TEXT / "specs" / "Costs.antt"
 COSTS = OP_TEXT.parent / "uprog_gen" / "specs" / "Costs.antt"
+FLOWS = OP_TEXT.parent / "word_flow" / "specs" / "Programs.antt"
 
 KINDS = {"Word": "w", "Bit": "b"}
 # of each signature, its first form: the kinds of the arguments, and the result's, or None where the row names it
@@ -74,26 +75,30 @@ def rows():
     return found
 
 
-def filled_levels(n):
-    """How many levels of a count of n bits have an element."""
-    return sum(n >> level > 0 for level in range(n))
+def digits(n):
+    """How many digits the binary form of n has."""
+    return n.bit_length()
 
 
-def odd_levels(n):
-    """How many levels of a count of n bits have an odd number of elements."""
-    return sum((n >> level) % 2 for level in range(n))
+def ones_of(n):
+    """How many of these are ones."""
+    return bin(n).count("1")
 
 
-def pairs_below(n):
-    """How many pairs of elements all levels have together."""
-    return sum(n >> (level + 1) for level in range(n))
-
-
-COUNTS = {"filled_levels": filled_levels, "odd_levels": odd_levels, "pairs_below": pairs_below}
+COUNTS = {"digits": digits, "ones_of": ones_of}
+# what a cost is that is not given here: the flow's
+OF_FLOWS = {"op_aaps": "flow_total p n - flow_aps p n", "op_aps": "flow_aps p n"}
 
 
 def formula(text, path):
-    """A formula of n from 1 on, such as `2 * odd_levels n n + 3 * (n / 2)`, as a function."""
+    """A formula of n from 1 on, such as `if n == 1 then 4 else 2 * digits n n + 3 * (n / 2)`, as a function."""
+    chosen = re.fullmatch(r"if (?:(n) == (\d+)|nat_lt (n|\d+) (n|\d+)) then (.*) else (.*)", text)
+    if chosen:
+        one, other, low, high = (part and formula(part, path) for part in chosen.groups()[:4])
+        first, second = formula(chosen[5], path), formula(chosen[6], path)
+        if one:
+            return lambda n: first(n) if one(n) == other(n) else second(n)
+        return lambda n: first(n) if low(n) < high(n) else second(n)
     names = "|".join(COUNTS)
     if not re.fullmatch(rf"(?:(?:{names}) n n|[n\d +*/%^()-])+", text):
         fail(path, f"no formula of n: {text}")
@@ -102,23 +107,37 @@ def formula(text, path):
 
 
 def formulas(definition, path):
-    """The formula of each variant, and the one for the others, which is None where there is no such clause."""
+    """The formula of each variant, and the one for the others, which is None where it is the flow's or there is none."""
     found, others = {}, None
     for pattern, text in re.findall(rf"^{definition} (\S+) n = (.*)$", path.read_text(), re.MULTILINE):
         if pattern.startswith("o."):
             found[pattern.removeprefix("o.")] = formula(text, path)
-        else:
+        elif text != OF_FLOWS.get(definition):
             others = formula(text, path)
     return found, others
+
+
+def flow_costs():
+    """The AAP and the AP of each operation that is a flow, and of the others none."""
+    totals, none = formulas("flow_total", FLOWS)
+    aps, _ = formulas("flow_aps", FLOWS)
+
+    def less(variant):
+        return lambda n: totals[variant](n) - aps.get(variant, none)(n)
+
+    return {"op_aaps": ({variant: less(variant) for variant in totals}, None), "op_aps": (aps, none)}
 
 
 def word_ops():
     """The word operations, in the order of the table."""
     places = (("op_aaps", COSTS), ("op_aps", COSTS), ("op_ceiling", CEILINGS))
     numbers = [(definition, path, *formulas(definition, path)) for definition, path in places]
+    flows = flow_costs()
 
     def of(variant):
         for definition, path, found, others in numbers:
-            yield found.get(variant, others) or fail(path, f"{definition} has no clause for {variant}")
+            of_flows, of_none = flows.get(definition, ({}, None))
+            given = {**of_flows, **found}.get(variant, others or of_none)
+            yield given or fail(path, f"{definition} has no clause for {variant}")
 
     return [WordOp(name, takes, gives, *of(variant)) for name, variant, takes, gives in rows()]

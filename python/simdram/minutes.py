@@ -5,7 +5,7 @@ They are those of a gate of four jobs, with other work beside it (28 November 20
 
 SECONDS = {
     "simdram_cli": 414, "op_lang": 306, "mig_rewrite": 210, "row_alloc": 204, "sim_machine": 180, "uprog_gen": 150,
-    "scan_query": 138, "tmr_guard": 126, "word_mul": 120, "uprog_bin": 114, "op_text": 114, "host_edge": 108,
+    "scan_query": 138, "tmr_guard": 126, "word_flow": 150, "uprog_bin": 114, "op_text": 114, "host_edge": 108,
     "bbop_isa": 108, "cmd_trace": 96, "block_lower": 90, "object_alloc": 90, "aoi_graph": 90, "word_lower": 84,
     "object_steps": 78, "uprog_ctl": 66, "dram_chip": 66, "op_print": 66, "mig_graph": 66,
     "simdram": 60, "guard_job": 60, "uprog_code": 60, "transpose_unit": 54, "prog_text": 54, "dram_model": 48,

@@ -1,21 +1,18 @@
 -- How many commands and instructions a loop program may take.
-use Rattle.std.specs.Prelude.{ℕ, ◌+◌, ◌*◌, ◌==◌, ◌&&◌, Bool, true, false, not, if◌then◌else◌}
-use Rattle.std.specs.Prelude.{List, [], ◌∷◌}
-use Rattle.std.specs.Prelude.{◌++◌, length, filter, sum_by, nat_lt, Option, Some, None}
+use Rattle.std.specs.Prelude.{ℕ, ◌+◌, ◌*◌, ◌==◌, ◌&&◌, Bool, true, false, not, if◌then◌else◌, List}
+use Rattle.std.specs.Prelude.{[], ◌∷◌, ◌++◌, length, filter, sum_by, nat_lt, Option, Some, None}
 use Rattle.std.specs.List.{list_any, list_all}
 use Rattle.mig_graph.specs.declared.Lit.{Lit}
 use Rattle.mig_graph.specs.Literals.{is_complemented, node_of}
 use Rattle.mig_graph.specs.Outputs.{lit_at}
-use Rattle.loop_ir.specs.declared.ir.Span.{Span}
-use Rattle.loop_ir.specs.declared.ir.Span.TheVariants.{Full, First, Above}
 use Rattle.loop_ir.specs.declared.ir.Sub.{Sub}
 use Rattle.loop_ir.specs.declared.ir.Sub.TheVariants.{Zero, Top, Inner as At_inner, InnerDown}
-use Rattle.loop_ir.specs.declared.ir.Sub.TheVariants.{Outer, OuterDown, Sum, DownSum, SumTwice}
-use Rattle.loop_ir.specs.declared.ir.Sub.TheVariants.{AboveSumTwice, AboveSum, DownPlusN}
-use Rattle.loop_ir.specs.declared.ir.Sub.TheVariants.{NPlusInner}
-use Rattle.loop_ir.specs.Plain.{Block, LevelOf, InnerOf, TurnOf, StepOf}
-use Rattle.loop_ir.specs.Plain.InnerOf.{Alone, Across, AtLevel}
-use Rattle.loop_ir.specs.Plain.StepOf.{Single, Along, Nest, Pairs, Alternate}
+use Rattle.loop_ir.specs.declared.ir.Sub.TheVariants.{Outer, OuterDown, Sum, DownSum, DownPlusN}
+use Rattle.loop_ir.specs.declared.ir.Sub.TheVariants.{NPlusInner, Register}
+use Rattle.loop_ir.specs.Plain.{Block, InnerOf, TurnOf, StepOf}
+use Rattle.loop_ir.specs.Plain.InnerOf.{Alone, Across}
+use Rattle.loop_ir.specs.Plain.StepOf.{Single, Along, Nest, Pairs, Alternate, Flowed}
+use Rattle.loop_ir.specs.Flows.{flow_size, flow_bodies}
 use Rattle.row_alloc.specs.HeldBodies.{HeldBody, held_at, held_sequence_for}
 use Rattle.loop_ir.specs.Loops.{RoundOf}
 use Rattle.loop_ir.specs.Same.{is_body}
@@ -114,9 +111,7 @@ sub_code Sum = 6
 sub_code DownSum = 7
 sub_code DownPlusN = 8
 sub_code NPlusInner = 9
-sub_code SumTwice = 10
-sub_code AboveSumTwice = 11
-sub_code AboveSum = 12
+sub_code (Register r) = 10 + r
 
 -- both are one subscript
 abbrev pub same_sub : Sub → Sub → Bool
@@ -133,28 +128,17 @@ is_fixed b = list_all (λ p. same_sub p.sub Zero) (b.reads ++ b.writes)
 -- the subscripts other than Zero that the body's places have
 abbrev pub used_subs : Block → List Sub
 used_subs b = filter (is_used b) (Top ∷ At_inner ∷ InnerDown ∷ Outer ∷ OuterDown ∷ Sum ∷ DownSum
-    ∷ DownPlusN ∷ NPlusInner ∷ SumTwice ∷ AboveSumTwice ∷ AboveSum ∷ [])
+    ∷ DownPlusN ∷ NPlusInner ∷ [])
 
 -- how many instructions a body may take: 15 for its loop or its subscripts
 abbrev pub single_cost : Block → ℕ
 single_cost b = body_cost b + (if is_fixed b then 0 else 15)
-
--- the commands of all bodies of a level
-abbrev pub level_bodies_cost : LevelOf Block → ℕ
-level_bodies_cost l = body_cost l.none + body_cost l.odd + body_cost l.even + body_cost l.first
-    + body_cost l.second + body_cost l.end
-
--- how many instructions a level may take: 9 for the subscripts of each of its bodies that stands in
--- no loop, 16 to find how many elements it has, 10 to jump, and 9 for the loop over its pairs
-abbrev pub level_cost : LevelOf Block → ℕ
-level_cost l = level_bodies_cost l + 4 * 9 + 16 + 10 + 9
 
 -- how many instructions a part of a nest may take: 15 for its loop or its subscripts, and 3 more
 -- for a loop that counts its rounds anew at each outer position
 abbrev pub inner_cost : InnerOf Block → ℕ
 inner_cost (Alone b) = body_cost b + 15
 inner_cost (Across count b) = body_cost b + 18
-inner_cost (AtLevel l) = level_cost l
 
 -- how many instructions one of bodies that take turns may take, with the one in its place at the
 -- top position: four of them count and jump
@@ -165,19 +149,15 @@ either_cost t = body_cost t.each + body_cost t.last + 4
 abbrev pub turns_cost : List (TurnOf Block) → ℕ
 turns_cost ts = sum_by either_cost ts + 7
 
--- how many instructions a nest may take beside its parts: two jump past one that may have no round
-abbrev pub span_cost : Span → ℕ
-span_cost Full = 0
-span_cost First = 0
-span_cost Above = 2
-
--- how many instructions a step may take: 3 more for a loop that may have no round
+-- how many instructions a step may take: 3 more for a loop that may have no round, and 7 for the
+-- registers with which a flow begins
 abbrev pub step_cost : StepOf Block → ℕ
 step_cost (Single b) = single_cost b
 step_cost (Along b) = body_cost b + 15
-step_cost (Nest span parts) = span_cost span + sum_by inner_cost parts
+step_cost (Nest parts) = sum_by inner_cost parts
 step_cost (Pairs b) = body_cost b + 18
 step_cost (Alternate ts) = turns_cost ts
+step_cost (Flowed f) = 7 + flow_size body_cost f
 
 -- how many instructions a loop program may take, its end aside
 abbrev pub code_cost : List (StepOf Block) → ℕ
@@ -187,15 +167,15 @@ code_cost steps = sum_by step_cost steps
 abbrev pub inner_bodies : InnerOf Block → ℕ
 inner_bodies (Alone b) = 1
 inner_bodies (Across count b) = 1
-inner_bodies (AtLevel l) = 6
 
 -- the number of bodies of a step
 abbrev pub step_bodies : StepOf Block → ℕ
 step_bodies (Single b) = 1
 step_bodies (Along b) = 1
-step_bodies (Nest span parts) = sum_by inner_bodies parts
+step_bodies (Nest parts) = sum_by inner_bodies parts
 step_bodies (Pairs b) = 1
 step_bodies (Alternate ts) = 2 * length ts
+step_bodies (Flowed f) = flow_bodies f
 
 -- the number of bodies of a loop program
 abbrev pub bodies : List (StepOf Block) → ℕ

@@ -1,4 +1,6 @@
 -- Loop programs: what they are, what they do to rows, what they keep, and when they do a statement.
+pub mod Flows
+pub mod FlowTests
 pub mod Plain
 pub mod Loops
 pub mod Spots

@@ -1,36 +1,28 @@
 -- What a loop program keeps, so that its code is legal and short.
-use Rattle.std.specs.Prelude.{◌≡◌, ℕ, ◌+◌, ◌<◌, ◌≤◌, Bool, true, false, ◌&&◌, ◌||◌, List, []}
-use Rattle.std.specs.Prelude.{◌++◌}
-use Rattle.std.specs.Prelude.{length, not, Option, Some, None}
+use Rattle.std.specs.Prelude.{◌≡◌, ℕ, ◌+◌, ◌<◌, ◌≤◌, Bool, true, false, ◌&&◌, ◌||◌, List, [], ◌++◌}
+use Rattle.std.specs.Prelude.{length, nat_lt, is_some}
 use Rattle.std.specs.List.{AllByRecursion, list_all}
 use Rattle.bit_rows.specs.declared.TheConstants.{WIDTH_MAX}
 use Rattle.mig_graph.specs.Graph.{IsGraph}
+use Rattle.loop_ir.specs.declared.ir.Place.{Place}
 use Rattle.loop_ir.specs.declared.ir.Sub.{Sub}
 use Rattle.loop_ir.specs.declared.ir.Sub.TheVariants.{Zero, Top, Inner as At_inner, InnerDown}
-use Rattle.loop_ir.specs.declared.ir.Sub.TheVariants.{Outer, OuterDown, Sum, DownSum, SumTwice}
-use Rattle.loop_ir.specs.declared.ir.Sub.TheVariants.{AboveSumTwice, AboveSum, DownPlusN}
-use Rattle.loop_ir.specs.declared.ir.Sub.TheVariants.{NPlusInner}
-use Rattle.loop_ir.specs.Plain.{Block, LevelOf, InnerOf, StepOf, all_turns, AllParts}
-use Rattle.loop_ir.specs.Plain.InnerOf.{Alone, Across, AtLevel}
-use Rattle.loop_ir.specs.Plain.StepOf.{Single, Along, Nest, Pairs, Alternate}
+use Rattle.loop_ir.specs.declared.ir.Sub.TheVariants.{Outer, OuterDown, Sum, DownSum, DownPlusN}
+use Rattle.loop_ir.specs.declared.ir.Sub.TheVariants.{NPlusInner, Register}
+use Rattle.loop_ir.specs.Plain.{Block, InnerOf, StepOf, all_turns, AllParts}
+use Rattle.loop_ir.specs.Plain.InnerOf.{Alone, Across}
+use Rattle.loop_ir.specs.Plain.StepOf.{Single, Along, Nest, Pairs, Alternate, Flowed}
+use Rattle.loop_ir.specs.Flows.{FlowOf, AllFlow, all_flow}
+use Rattle.loop_ir.specs.FlowTests.{counts, nests, runs_safely}
 use Rattle.loop_ir.specs.Loops.{RoundOf, all_rounds}
-use Rattle.loop_ir.specs.Spots.{Spot, IsOwn, is_state, nth_place, nth_spot}
+use Rattle.loop_ir.specs.Spots.{Spot, IsOwn, is_state, nth_place, spot_in, nth_spot}
 use Rattle.loop_ir.specs.WellFormed.{IsWellFormed}
 use Rattle.row_alloc.specs.declared.body.OutRow.{OutRow}
 use Rattle.row_alloc.specs.Held.{DoesHeld}
-use Rattle.row_alloc.specs.HeldBodies.{HeldBody, HeldNegatedIf}
 use Rattle.loop_ir.specs.Outputs.{IsOuts}
 use Rattle.loop_ir.specs.States.{StatesFit, has_states, held_of, row_count, enters, leaves}
 use Rattle.loop_ir.specs.Chains.{steps_find}
 use Rattle.loop_ir.specs.Costs.{carries, plain_cost, same_sub, used_subs, code_cost, bodies}
-
--- the body's sequence does it wherever its rows lie: that of abs reads its second input after it
--- has written, so that the two must be rows of two positions
-abbrev pub is_served : Option HeldBody → Block → Bool
-is_served None b = false
-is_served (Some HeldNegatedIf) b = not (same_sub (nth_place b.reads 1).sub
-    (nth_place b.writes 0).sub)
-is_served (Some h) b = true
 
 -- the commands that the body carries do it, from the states that it reads to those that it writes
 -- and wherever its rows lie, and are few
@@ -40,12 +32,12 @@ pub record IsCarried (b : Block) : Type 0 where
   pub few : length b.found ≤ plain_cost b
 
 -- a body of which commands can be made: its states fit, and where it carries none and has states it
--- is one of the bodies that hold states, with a sequence that does it
+-- is one of the bodies that hold states
 pub record IsSmall (b : Block) : Type 0 where
   pub well : IsWellFormed b
   pub states : StatesFit b
   pub found : carries b ≡ true → IsCarried b
-  pub known : carries b ≡ false → has_states b ≡ true → is_served (held_of b) b ≡ true
+  pub known : carries b ≡ false → has_states b ≡ true → is_some (held_of b) ≡ true
   pub graph : IsGraph b.graph.inputs b.graph.nodes
   pub inputs : b.graph.inputs ≤ 80
   pub outputs : length b.outs ≤ 8
@@ -64,31 +56,16 @@ may_stand inner outer Sum = inner && outer
 may_stand inner outer DownSum = inner && outer
 may_stand inner outer DownPlusN = outer
 may_stand inner outer NPlusInner = inner
-may_stand inner outer SumTwice = inner && outer
-may_stand inner outer AboveSumTwice = inner && outer
-may_stand inner outer AboveSum = inner && outer
+may_stand inner outer (Register r) = false
 
 -- every place of the body has such a subscript
 abbrev pub all_stand : Bool → Bool → Block → Bool
 all_stand inner outer b = list_all (λ p. may_stand inner outer p.sub) (b.reads ++ b.writes)
 
--- every place of the body is at 0, at an element of a pair, or where a level above has the carry:
--- three registers are enough for the two bodies of a pair
-abbrev pub stays_in_pair : Block → Bool
-stays_in_pair b = list_all (λ p. same_sub p.sub Zero || (same_sub p.sub SumTwice
-    || (same_sub p.sub AboveSumTwice || same_sub p.sub AboveSum))) (b.reads ++ b.writes)
-
--- so it is with the bodies of a level, of which the two of a pair stand in a loop
-abbrev pub level_stands : LevelOf Block → Bool
-level_stands l = all_stand false true l.none && (all_stand false true l.odd
-    && (all_stand false true l.even && (stays_in_pair l.first && (stays_in_pair l.second
-    && all_stand false true l.end))))
-
 -- so it is in a part of a nest
 abbrev pub inner_stands : InnerOf Block → Bool
 inner_stands (Alone b) = all_stand false true b
 inner_stands (Across count b) = all_stand true true b
-inner_stands (AtLevel l) = level_stands l
 
 -- every place of the body is at 0, or at the inner position from below or from above: so it is with
 -- bodies that take turns, for all of which two registers are enough
@@ -96,13 +73,37 @@ abbrev pub stays_inner : Block → Bool
 stays_inner b = list_all (λ p. same_sub p.sub Zero || (same_sub p.sub At_inner
     || same_sub p.sub InnerDown)) (b.reads ++ b.writes)
 
+-- the subscript is 0 or one of a flow's registers
+abbrev pub is_in_register : Sub → Bool
+is_in_register Zero = true
+is_in_register Top = false
+is_in_register At_inner = false
+is_in_register InnerDown = false
+is_in_register Outer = false
+is_in_register OuterDown = false
+is_in_register Sum = false
+is_in_register DownSum = false
+is_in_register DownPlusN = false
+is_in_register NPlusInner = false
+is_in_register (Register r) = nat_lt r 7
+
+-- every place of the body has such a subscript
+abbrev pub stays_in_registers : Block → Bool
+stays_in_registers b = list_all (λ p. is_in_register p.sub) (b.reads ++ b.writes)
+
+-- a flow that code can be made of: no turn changes its loop's counter, at most two loops stand
+-- inside one another, its places stand in registers, and at each width its run is safe
+abbrev pub flow_stands : FlowOf Block → Bool
+flow_stands f = counts f && (nests 2 f && (all_flow stays_in_registers f && runs_safely f))
+
 -- so it is in a step, whose loops have the indices that its subscripts use
 abbrev pub step_stands : StepOf Block → Bool
 step_stands (Single b) = all_stand false false b
 step_stands (Along b) = all_stand true false b
-step_stands (Nest span parts) = list_all inner_stands parts
+step_stands (Nest parts) = list_all inner_stands parts
 step_stands (Pairs b) = all_stand true true b
 step_stands (Alternate ts) = all_turns stays_inner ts
+step_stands (Flowed f) = flow_stands f
 
 -- In a round the body's places with rows are rows that it may have, and none of its writes is a
 -- source's. The row of a write is that of no other write, and that of at most one read, which is a
@@ -110,20 +111,44 @@ step_stands (Alternate ts) = all_turns stays_inner ts
 pub record IsRound (may_have : Spot → Type 0) (n : ℕ) (r : RoundOf Block) : Type 0 where
   pub reads : (k : ℕ) → k < length r.part.reads
       → is_state (nth_place r.part.reads k).space ≡ false
-      → may_have (nth_spot n r.i r.o r.part.reads k)
+      → may_have (nth_spot n r.i r.o r.regs r.part.reads k)
   pub writes : (j : ℕ) → j < length r.part.writes
       → is_state (nth_place r.part.writes j).space ≡ false
-      → may_have (nth_spot n r.i r.o r.part.writes j)
-  pub own : (j : ℕ) → j < length r.part.writes → IsOwn (nth_spot n r.i r.o r.part.writes j).space
+      → may_have (nth_spot n r.i r.o r.regs r.part.writes j)
+  pub own : (j : ℕ) → j < length r.part.writes
+      → IsOwn (nth_spot n r.i r.o r.regs r.part.writes j).space
   pub apart : (i j : ℕ) → i < length r.part.writes → j < length r.part.writes
-      → nth_spot n r.i r.o r.part.writes i ≡ nth_spot n r.i r.o r.part.writes j → i ≡ j
+      → nth_spot n r.i r.o r.regs r.part.writes i ≡ nth_spot n r.i r.o r.regs r.part.writes j
+      → i ≡ j
   pub same : (j k : ℕ) → j < length r.part.writes → k < length r.part.reads
-      → nth_spot n r.i r.o r.part.writes j ≡ nth_spot n r.i r.o r.part.reads k
+      → nth_spot n r.i r.o r.regs r.part.writes j ≡ nth_spot n r.i r.o r.regs r.part.reads k
       → nth_place r.part.writes j ≡ nth_place r.part.reads k
   pub once : (j k l : ℕ) → j < length r.part.writes → k < length r.part.reads
-      → l < length r.part.reads → nth_spot n r.i r.o r.part.writes j
-      ≡ nth_spot n r.i r.o r.part.reads k → nth_spot n r.i r.o r.part.writes j
-      ≡ nth_spot n r.i r.o r.part.reads l → k ≡ l
+      → l < length r.part.reads → nth_spot n r.i r.o r.regs r.part.writes j
+      ≡ nth_spot n r.i r.o r.regs r.part.reads k → nth_spot n r.i r.o r.regs r.part.writes j
+      ≡ nth_spot n r.i r.o r.regs r.part.reads l → k ≡ l
+
+-- the value has a row, at some width, that may be had
+abbrev pub IsHad : (ℕ → Spot → Type 0) → Place → Type 0
+IsHad may_have p = (n : ℕ) × (v : ℕ) × may_have n (spot_in n p.space p.which v)
+
+-- Whether or not the body is done, the values with rows that it reads and writes are such, and it
+-- writes no source's
+pub record HasValues (may_have : ℕ → Spot → Type 0) (b : Block) : Type 0 where
+  pub reads : (k : ℕ) → k < length b.reads → is_state (nth_place b.reads k).space ≡ false
+      → IsHad may_have (nth_place b.reads k)
+  pub writes : (j : ℕ) → j < length b.writes → is_state (nth_place b.writes j).space ≡ false
+      → IsHad may_have (nth_place b.writes j)
+  pub own : (j : ℕ) → j < length b.writes → IsOwn (nth_place b.writes j).space
+
+-- so it is in a flow, whose branches may never be taken; in any other step each body has a round
+abbrev pub StepHasValues : (ℕ → Spot → Type 0) → StepOf Block → Type 0
+StepHasValues may_have (Single b) = Unit {0}
+StepHasValues may_have (Along b) = Unit {0}
+StepHasValues may_have (Nest parts) = Unit {0}
+StepHasValues may_have (Pairs b) = Unit {0}
+StepHasValues may_have (Alternate ts) = Unit {0}
+StepHasValues may_have (Flowed f) = AllFlow (HasValues may_have) f
 
 -- At every width code can be made of the loop program: at most 12 bodies, each small, which find
 -- the states that they read, and at most 256 instructions
@@ -132,6 +157,7 @@ pub record CanCompile (may_have : ℕ → Spot → Type 0) (steps : List (StepOf
   pub small : AllParts IsSmall steps
   pub find : steps_find [] steps ≡ true
   pub stand : list_all step_stands steps ≡ true
+  pub values : AllByRecursion (StepHasValues may_have) steps
   pub rounds : (n : ℕ) → 0 < n → n ≤ WIDTH_MAX
       → AllByRecursion (IsRound (may_have n) n) (all_rounds n steps)
   pub size : code_cost steps ≤ 256

@@ -1,33 +1,32 @@
 -- The rounds of a loop program.
-use Rattle.std.specs.Prelude.{ℕ, zero, suc, ◌+◌, ◌-◌, ◌*◌, ◌/◌, ◌%◌, ◌^◌, ◌==◌, if◌then◌else◌}
-use Rattle.std.specs.Prelude.{List, [], ◌∷◌, ◌++◌}
-use Rattle.loop_ir.specs.declared.ir.Span.{Span}
-use Rattle.loop_ir.specs.declared.ir.Span.TheVariants.{Full, First, Above}
+use Rattle.std.specs.Prelude.{ℕ, zero, suc, ◌+◌, ◌-◌, ◌*◌, List, [], ◌∷◌, ◌++◌, slice_index}
 use Rattle.loop_ir.specs.declared.ir.Sub.{Sub}
 use Rattle.loop_ir.specs.declared.ir.Sub.TheVariants.{Zero, Top, Inner as At_inner, InnerDown}
-use Rattle.loop_ir.specs.declared.ir.Sub.TheVariants.{Outer, OuterDown, Sum, DownSum, SumTwice}
-use Rattle.loop_ir.specs.declared.ir.Sub.TheVariants.{AboveSumTwice, AboveSum, DownPlusN}
-use Rattle.loop_ir.specs.declared.ir.Sub.TheVariants.{NPlusInner}
+use Rattle.loop_ir.specs.declared.ir.Sub.TheVariants.{Outer, OuterDown, Sum, DownSum, DownPlusN}
+use Rattle.loop_ir.specs.declared.ir.Sub.TheVariants.{NPlusInner, Register}
 use Rattle.loop_ir.specs.declared.ir.Count.{Count}
-use Rattle.loop_ir.specs.declared.ir.Count.TheVariants.{All, Rest, UpTo}
-use Rattle.loop_ir.specs.Plain.{LevelOf, InnerOf, TurnOf, StepOf}
-use Rattle.loop_ir.specs.Plain.InnerOf.{Alone, Across, AtLevel}
-use Rattle.loop_ir.specs.Plain.StepOf.{Single, Along, Nest, Pairs, Alternate}
+use Rattle.loop_ir.specs.declared.ir.Count.TheVariants.{All, Rest}
+use Rattle.loop_ir.specs.Plain.{InnerOf, TurnOf, StepOf}
+use Rattle.loop_ir.specs.Plain.InnerOf.{Alone, Across}
+use Rattle.loop_ir.specs.Plain.StepOf.{Single, Along, Nest, Pairs, Alternate, Flowed}
+use Rattle.loop_ir.specs.Flows.{FlowOf, EventOf, run, zeros}
+use Rattle.loop_ir.specs.Flows.EventOf.{Done, Moved, Counted}
 
 -- the lists at i, i + 1 and so on, as many as the count
 abbrev pub rounds : {A : Type 0} → (ℕ → List A) → ℕ → ℕ → List A
 rounds f i zero = []
 rounds f i (suc count) = f i ++ rounds f (i + 1) count
 
--- one body at one inner and one outer position
+-- one body at one inner and one outer position, or with these registers in a flow
 pub record RoundOf (A : Type 0) : Type 0 where
   pub part : A
   pub i : ℕ
   pub o : ℕ
+  pub regs : List ℕ
 
 -- a body at these positions
 abbrev pub round_at : {A : Type 0} → A → ℕ → ℕ → RoundOf A
-round_at b i o = record { part = b; i = i; o = o }
+round_at b i o = record { part = b; i = i; o = o; regs = [] }
 
 -- a body that is done once
 abbrev pub one_round : {A : Type 0} → A → ℕ → ℕ → List (RoundOf A)
@@ -37,41 +36,6 @@ one_round b i o = round_at b i o ∷ []
 abbrev pub positions : ℕ → ℕ → Count → ℕ
 positions n o All = n
 positions n o Rest = n - o
-positions n o UpTo = o + 1
-
--- the first outer position of a nest
-abbrev pub first_outer : Span → ℕ
-first_outer Full = 0
-first_outer First = 0
-first_outer Above = 1
-
--- how many outer positions it has
-abbrev pub outer_count : ℕ → Span → ℕ
-outer_count n Full = n
-outer_count n First = 1
-outer_count n Above = n - 1
-
--- how many elements level o of a count of n bits has
-abbrev pub elements : ℕ → ℕ → ℕ
-elements n o = n / 2 ^ o
-
--- two bodies, one after the other at the same positions
-abbrev pub two_rounds : {A : Type 0} → A → A → ℕ → ℕ → List (RoundOf A)
-two_rounds b c i o = round_at b i o ∷ round_at c i o ∷ []
-
--- how a level's sum begins: by what is done for elements that are odd in number, or even
-abbrev pub level_start : {A : Type 0} → ℕ → ℕ → LevelOf A → A
-level_start n o l = if elements n o % 2 == 0 then l.even else l.odd
-
--- the rounds of a level that has elements: its sum begins, takes the pairs, and ends
-abbrev pub filled_rounds : {A : Type 0} → ℕ → ℕ → LevelOf A → List (RoundOf A)
-filled_rounds n o l = one_round (level_start n o l) 0 o
-    ++ (rounds (λ i. two_rounds l.first l.second i o) 0 (elements n (o + 1))
-    ++ one_round l.end 0 o)
-
--- the rounds of a level
-abbrev pub level_rounds : {A : Type 0} → ℕ → ℕ → LevelOf A → List (RoundOf A)
-level_rounds n o l = if elements n o == 0 then one_round l.none 0 o else filled_rounds n o l
 
 -- the rounds of a nest's parts at one outer position
 abbrev pub inner_rounds : {A : Type 0} → ℕ → ℕ → List (InnerOf A) → List (RoundOf A)
@@ -79,7 +43,6 @@ inner_rounds n o [] = []
 inner_rounds n o (Alone b ∷ more) = one_round b 0 o ++ inner_rounds n o more
 inner_rounds n o (Across count b ∷ more) = rounds (λ i. one_round b i o) 0 (positions n o count)
     ++ inner_rounds n o more
-inner_rounds n o (AtLevel l ∷ more) = level_rounds n o l ++ inner_rounds n o more
 
 -- the rounds from position i on, where the top position comes after so many: the first of the
 -- bodies has its turn, and then stands behind all others
@@ -89,32 +52,41 @@ turns_from (t ∷ ts) i zero = one_round t.last i 0
 turns_from (t ∷ ts) i (suc count) = one_round t.each i 0
     ++ turns_from (ts ++ (t ∷ [])) (i + 1) count
 
+-- the rounds among the events of a run
+abbrev pub rounds_in : {A : Type 0} → List (EventOf A) → List (RoundOf A)
+rounds_in [] = []
+rounds_in (Done b g ∷ es) = record { part = b; i = 0; o = 0; regs = g } ∷ rounds_in es
+rounds_in (Moved m g ∷ es) = rounds_in es
+rounds_in (Counted r g ∷ es) = rounds_in es
+
+-- the rounds of a flow at width n
+abbrev pub flow_rounds : {A : Type 0} → ℕ → FlowOf A → List (RoundOf A)
+flow_rounds n f = rounds_in (run n f zeros).events
+
 -- the rounds of a step at width n
 abbrev pub step_rounds : {A : Type 0} → ℕ → StepOf A → List (RoundOf A)
 step_rounds n (Single b) = one_round b 0 0
 step_rounds n (Along b) = rounds (λ i. one_round b i 0) 0 n
-step_rounds n (Nest span parts) = rounds (λ o. inner_rounds n o parts) (first_outer span)
-    (outer_count n span)
+step_rounds n (Nest parts) = rounds (λ o. inner_rounds n o parts) 0 n
 step_rounds n (Pairs b) = rounds (λ i. one_round b i 1) 0 (n - 1)
 step_rounds n (Alternate ts) = turns_from ts 0 (n - 1)
+step_rounds n (Flowed f) = flow_rounds n f
 
 -- every body at every position, in the order in which they come at width n
 abbrev pub all_rounds : {A : Type 0} → ℕ → List (StepOf A) → List (RoundOf A)
 all_rounds n [] = []
 all_rounds n (s ∷ ss) = step_rounds n s ++ all_rounds n ss
 
--- the row that a subscript means, at width n and these positions
-abbrev pub sub_value : ℕ → ℕ → ℕ → Sub → ℕ
-sub_value n i o Zero = 0
-sub_value n i o Top = n - 1
-sub_value n i o At_inner = i
-sub_value n i o InnerDown = n - 1 - i
-sub_value n i o Outer = o
-sub_value n i o OuterDown = n - 1 - o
-sub_value n i o Sum = o + i
-sub_value n i o DownSum = n - 1 - o + i
-sub_value n i o DownPlusN = 2 * n - 1 - o
-sub_value n i o NPlusInner = n + i
-sub_value n i o SumTwice = o + 2 * i
-sub_value n i o AboveSumTwice = o + 1 + 2 * i
-sub_value n i o AboveSum = o + 1 + i
+-- the row that a subscript means, at width n, these positions and with these registers
+abbrev pub sub_value : ℕ → ℕ → ℕ → List ℕ → Sub → ℕ
+sub_value n i o g Zero = 0
+sub_value n i o g Top = n - 1
+sub_value n i o g At_inner = i
+sub_value n i o g InnerDown = n - 1 - i
+sub_value n i o g Outer = o
+sub_value n i o g OuterDown = n - 1 - o
+sub_value n i o g Sum = o + i
+sub_value n i o g DownSum = n - 1 - o + i
+sub_value n i o g DownPlusN = 2 * n - 1 - o
+sub_value n i o g NPlusInner = n + i
+sub_value n i o g (Register r) = slice_index g r

@@ -3,18 +3,22 @@ use Rattle.std.specs.Prelude.{◌&&◌, Bool, true, List, [], ◌∷◌, map}
 use Rattle.mig_graph.specs.declared.Lit.{Lit}
 use Rattle.mig_graph.specs.Graph.{Graph}
 use Rattle.row_alloc.specs.declared.body.BodyCmd.{BodyCmd}
-use Rattle.loop_ir.specs.declared.ir.Span.{Span}
-use Rattle.loop_ir.specs.declared.ir.Span.TheVariants.{Full, First, Above}
 use Rattle.loop_ir.specs.declared.ir.Place.{Place}
 use Rattle.loop_ir.specs.declared.ir.Count.{Count}
 use Rattle.loop_ir.specs.declared.ir.Body.{Body}
-use Rattle.loop_ir.specs.declared.ir.Level.{Level}
 use Rattle.loop_ir.specs.declared.ir.Inner.{Inner}
 use Rattle.loop_ir.specs.declared.ir.Inner.TheVariants as code_inner
 use Rattle.loop_ir.specs.declared.ir.Turn.{Turn}
 use Rattle.loop_ir.specs.declared.ir.Step.{Step}
 use Rattle.loop_ir.specs.declared.ir.Step.TheVariants as code_step
+use Rattle.loop_ir.specs.declared.ir.Flow as code_flow
+use Rattle.loop_ir.specs.declared.ir.Flow.TheVariants as flow
+use Rattle.loop_ir.specs.declared.ir.Turns as code_turns
+use Rattle.loop_ir.specs.declared.ir.Turns.TheVariants as turns
 use Rattle.loop_ir.specs.declared.ir.LoopProgram.{LoopProgram}
+use Rattle.loop_ir.specs.Flows.{FlowOf, TurnsOf, flow_map, AllFlow}
+use Rattle.loop_ir.specs.Flows.FlowOf.{End, Do, Put, If, Loop}
+use Rattle.loop_ir.specs.Flows.TurnsOf.{Last, Turn as Act}
 
 -- a body: read k is input k of the graph, and write j takes output j. It carries the commands that
 -- were found for it, or none
@@ -25,36 +29,25 @@ pub record Block : Type 0 where
   pub writes : List Place
   pub found : List BodyCmd
 
--- the bodies of a level of a count: what alone is done where it has no element; how its sum begins
--- where its elements are odd in number, and where they are even; the two at each pair; and how it
--- ends
-pub record LevelOf (A : Type 0) : Type 0 where
-  pub none : A
-  pub odd : A
-  pub even : A
-  pub first : A
-  pub second : A
-  pub end : A
-
--- a part of a nest: a body once, or at each inner position, or the bodies of a level
+-- a part of a nest: a body once, or at each inner position
 pub data InnerOf (A : Type 0) : Type 0 where
   Alone : A → InnerOf A
   Across : Count → A → InnerOf A
-  AtLevel : LevelOf A → InnerOf A
 
 -- one of bodies that take turns, and the one that stands in its place at the top position
 pub record TurnOf (A : Type 0) : Type 0 where
   pub each : A
   pub last : A
 
--- a body once, a body at each position, parts at some outer positions, a body at each position that
--- has one above it, or bodies that take turns
+-- a body once, a body at each position, parts at each outer position, a body at each position that
+-- has one above it, bodies that take turns, or a flow
 pub data StepOf (A : Type 0) : Type 0 where
   Single : A → StepOf A
   Along : A → StepOf A
-  Nest : Span → List (InnerOf A) → StepOf A
+  Nest : List (InnerOf A) → StepOf A
   Pairs : A → StepOf A
   Alternate : List (TurnOf A) → StepOf A
+  Flowed : FlowOf A → StepOf A
 
 -- the body that the code built, without where it lies in memory
 abbrev pub block_of : Body → Block
@@ -66,57 +59,45 @@ block_of b = record {
   found = b.found.items;
 }
 
--- the bodies of a level that the code built
-abbrev pub level_of : Level → LevelOf Block
-level_of l = record {
-  none = block_of l.none;
-  odd = block_of l.odd;
-  even = block_of l.even;
-  first = block_of l.first;
-  second = block_of l.second;
-  end = block_of l.end;
-}
-
 -- a part of a nest that the code built
 abbrev pub inner_of : Inner → InnerOf Block
 inner_of (code_inner.Once b) = Alone (block_of b)
 inner_of (code_inner.Each count b) = Across count (block_of b)
-inner_of (code_inner.Level l) = AtLevel (level_of l)
 
 -- one of bodies that take turns
 abbrev pub turn_of : Turn → TurnOf Block
 turn_of t = record { each = block_of t.each; last = block_of t.last }
 
+abbrev mutual
+  -- a flow that the code built
+  pub flow_of : code_flow.Flow → FlowOf Block
+  flow_of flow.End = End
+  flow_of (flow.Do' b p k) = Do (block_of b) (flow_of k)
+  flow_of (flow.Put' m p k) = Put m (flow_of k)
+  flow_of (flow.If' r p x q y s k) = If r (flow_of x) (flow_of y) (flow_of k)
+  flow_of (flow.Loop' r p ts q k) = Loop r (acts_of ts) (flow_of k)
+
+  pub acts_of : code_turns.Turns → TurnsOf Block
+  acts_of (turns.Last' p x) = Last (flow_of x)
+  acts_of (turns.Turn' p x q ts) = Act (flow_of x) (acts_of ts)
+
 -- a step that the code built
 abbrev pub step_of : Step → StepOf Block
 step_of (code_step.Once b) = Single (block_of b)
 step_of (code_step.Each b) = Along (block_of b)
-step_of (code_step.Nest parts) = Nest Full (map inner_of parts.items)
-step_of (code_step.First parts) = Nest First (map inner_of parts.items)
-step_of (code_step.Above parts) = Nest Above (map inner_of parts.items)
+step_of (code_step.Nest parts) = Nest (map inner_of parts.items)
 step_of (code_step.Pairs b) = Pairs (block_of b)
-step_of (code_step.Alternate turns) = Alternate (map turn_of turns.items)
+step_of (code_step.Alternate ts) = Alternate (map turn_of ts.items)
+step_of (code_step.Flow f) = Flowed (flow_of f)
 
 -- the steps of a loop program that the code built
 abbrev pub steps_of : LoopProgram → List (StepOf Block)
 steps_of p = map step_of p.steps.items
 
--- the same level over other things
-abbrev pub level_map : {A B : Type 0} → (A → B) → LevelOf A → LevelOf B
-level_map f l = record {
-  none = f l.none;
-  odd = f l.odd;
-  even = f l.even;
-  first = f l.first;
-  second = f l.second;
-  end = f l.end;
-}
-
 -- the same loop over another thing
 abbrev pub inner_map : {A B : Type 0} → (A → B) → InnerOf A → InnerOf B
 inner_map f (Alone a) = Alone (f a)
 inner_map f (Across count a) = Across count (f a)
-inner_map f (AtLevel l) = AtLevel (level_map f l)
 
 -- the same turn over other things
 abbrev pub turn_map : {A B : Type 0} → (A → B) → TurnOf A → TurnOf B
@@ -126,29 +107,16 @@ turn_map f t = record { each = f t.each; last = f t.last }
 abbrev pub step_map : {A B : Type 0} → (A → B) → StepOf A → StepOf B
 step_map f (Single a) = Single (f a)
 step_map f (Along a) = Along (f a)
-step_map f (Nest span parts) = Nest span (map (inner_map f) parts)
+step_map f (Nest parts) = Nest (map (inner_map f) parts)
 step_map f (Pairs a) = Pairs (f a)
 step_map f (Alternate ts) = Alternate (map (turn_map f) ts)
-
--- what holds of every body of a level
-pub record AllLevel {A : Type 0} (P : A → Type 0) (l : LevelOf A) : Type 0 where
-  pub none : P l.none
-  pub odd : P l.odd
-  pub even : P l.even
-  pub first : P l.first
-  pub second : P l.second
-  pub end : P l.end
-
--- whether a test passes on all bodies of a level
-abbrev pub all_level : {A : Type 0} → (A → Bool) → LevelOf A → Bool
-all_level f l = f l.none && (f l.odd && (f l.even && (f l.first && (f l.second && f l.end))))
+step_map f (Flowed x) = Flowed (flow_map f x)
 
 -- what holds of every body of a nest
 abbrev pub AllInner : {A : Type 0} → (A → Type 0) → List (InnerOf A) → Type 0
 AllInner P [] = Unit {0}
 AllInner P (Alone a ∷ xs) = P a × AllInner P xs
 AllInner P (Across count a ∷ xs) = P a × AllInner P xs
-AllInner P (AtLevel l ∷ xs) = AllLevel P l × AllInner P xs
 
 -- what holds of all bodies that take turns
 abbrev pub AllTurns : {A : Type 0} → (A → Type 0) → List (TurnOf A) → Type 0
@@ -164,9 +132,10 @@ all_turns f (t ∷ ts) = (f t.each && f t.last) && all_turns f ts
 abbrev pub AllStep : {A : Type 0} → (A → Type 0) → StepOf A → Type 0
 AllStep P (Single a) = P a
 AllStep P (Along a) = P a
-AllStep P (Nest span parts) = AllInner P parts
+AllStep P (Nest parts) = AllInner P parts
 AllStep P (Pairs a) = P a
 AllStep P (Alternate ts) = AllTurns P ts
+AllStep P (Flowed x) = AllFlow P x
 
 -- what holds of every body of a loop program
 abbrev pub AllParts : {A : Type 0} → (A → Type 0) → List (StepOf A) → Type 0

@@ -5,15 +5,9 @@ use Rattle.std.specs.Prelude.{◌∷◌, ◌++◌, length, Option, Some, None, i
 use Rattle.std.specs.List.{list_any}
 use Rattle.mig_graph.specs.declared.Lit.{Lit}
 use Rattle.row_alloc.specs.declared.body.Held.{Held}
-use Rattle.row_alloc.specs.HeldBodies.{HeldBody, ZeroInT0, OneInT0, ZeroInT1, OneInT1}
-use Rattle.row_alloc.specs.HeldBodies.{OnesInT2AndT3, ZeroInT3AndDcc1, ZeroInTurnedT3AndDcc1}
-use Rattle.row_alloc.specs.HeldBodies.{HeldCompared, HeldOrdered, HeldLessened, HeldNegatedIf}
-use Rattle.row_alloc.specs.HeldBodies.{HeldMultiplied, HeldDivided, HeldAgreed, BothInT2}
-use Rattle.row_alloc.specs.HeldBodies.{EitherInT2, MajorityInT3, MajorityInT1, MajorityFromT3}
-use Rattle.row_alloc.specs.HeldBodies.{KeptForPair, PairUnlike}
-use Rattle.row_alloc.specs.HeldBodies.{BothAtLast, EitherAtLast, MajorityAtLast, PairUnlikeAtLast}
-use Rattle.row_alloc.specs.HeldBodies.{ReadTurned, WrittenTurned, HeldCounted, HeldMoved}
-use Rattle.row_alloc.specs.HeldBodies.{UnlikeAtLast, NotInT1AndDcc0, BothFromT1, MajorityFromDcc0}
+use Rattle.row_alloc.specs.HeldBodies.{HeldBody, ZeroInT0, OneInT0, OnesInT2AndT3}
+use Rattle.row_alloc.specs.HeldBodies.{ZeroInT3AndDcc1, HeldCompared, HeldOrdered, HeldLessened}
+use Rattle.row_alloc.specs.HeldBodies.{HeldAgreed}
 use Rattle.row_alloc.specs.HeldBodies.{held_inputs, held_nodes, held_outs, enter_in, leave_in}
 use Rattle.loop_ir.specs.declared.ir.Place.{Place}
 use Rattle.loop_ir.specs.Plain.{Block}
@@ -87,13 +81,8 @@ held_among (h ∷ hs) b = if is_held_body h b then Some h else held_among hs b
 
 -- the bodies that hold states
 abbrev pub held_bodies : List HeldBody
-held_bodies = ZeroInT0 ∷ OneInT0 ∷ ZeroInT1 ∷ OneInT1 ∷ OnesInT2AndT3 ∷ ZeroInT3AndDcc1
-    ∷ ZeroInTurnedT3AndDcc1 ∷ HeldCompared ∷ HeldOrdered ∷ HeldLessened ∷ HeldNegatedIf
-    ∷ HeldMultiplied ∷ HeldDivided ∷ HeldAgreed ∷ BothInT2 ∷ EitherInT2 ∷ MajorityInT3
-    ∷ MajorityInT1 ∷ KeptForPair ∷ PairUnlike ∷ BothAtLast ∷ EitherAtLast ∷ MajorityAtLast
-    ∷ MajorityFromT3 ∷ PairUnlikeAtLast
-    ∷ UnlikeAtLast ∷ NotInT1AndDcc0 ∷ BothFromT1 ∷ MajorityFromDcc0 ∷ ReadTurned
-    ∷ WrittenTurned ∷ HeldCounted ∷ HeldMoved ∷ []
+held_bodies = ZeroInT0 ∷ OneInT0 ∷ OnesInT2AndT3 ∷ ZeroInT3AndDcc1 ∷ HeldCompared ∷ HeldOrdered
+    ∷ HeldLessened ∷ HeldAgreed ∷ []
 
 -- which of the bodies that hold states it is
 abbrev pub held_of : Block → Option HeldBody

@@ -1,8 +1,6 @@
 //! Loop programs.
 
-ghost use Rattle.std.specs.Prelude.{◌≡◌, map};
-ghost use Rattle.loop_ir.specs.Plain.{inner_of, step_of};
-ghost use Rattle.loop_ir.specs.Plain.StepOf.{Nest};
+ghost use Rattle.std.specs.Prelude.{◌≡◌};
 
 use mig_graph::MigOuts;
 use row_alloc::BodyCmd;
@@ -30,12 +28,8 @@ pub enum Sub {
     DownPlusN,
     /// n + i.
     NPlusInner,
-    /// o + 2i.
-    SumTwice,
-    /// o + 1 + 2i.
-    AboveSumTwice,
-    /// o + 1 + i.
-    AboveSum,
+    /// What this register holds, in a flow.
+    Register(u8),
 }
 
 /// What a row belongs to: the result, a source, or a bit or word of scratch. A value in cells of
@@ -94,47 +88,18 @@ impl Drop for Body {
     }
 }
 
-/// How far an inner loop runs: from 0 to n - 1, to n - 1 - o, or to o. It is never without a round.
+/// How far an inner loop runs: from 0 to n - 1, or to n - 1 - o. It is never without a round.
 #[derive(Clone, Copy, PartialEq, Eq)]
 pub enum Count {
     All,
     Rest,
-    UpTo,
 }
 
-/// At which outer positions the parts of a nest are done: at all, at 0 alone, or from 1 to n - 1,
-/// which at width 1 is none.
-#[derive(Clone, Copy, PartialEq, Eq)]
-pub enum Span {
-    Full,
-    First,
-    Above,
-}
-
-/// What is done at a level of a count: the outer positions are the levels, and level o has n / 2^o
-/// elements. Their sum begins, takes the elements in pairs, and ends.
-#[derive(Drop)]
-pub struct Level {
-    /// What alone is done at a level that has no element.
-    pub none: Body,
-    /// How the sum begins where the elements are odd in number, and where they are even.
-    pub odd: Body,
-    pub even: Body,
-    /// The two bodies at each pair. Their subscripts are `Zero`, `SumTwice`, `AboveSumTwice` and
-    /// `AboveSum` alone.
-    pub first: Body,
-    pub second: Body,
-    /// How it ends.
-    pub end: Body,
-}
-
-/// A part of a nest: a body at each outer position, once or in a loop of its own, or the bodies of
-/// a level of a count.
+/// A part of a nest: a body at each outer position, once or in a loop of its own.
 #[derive(Drop)]
 pub enum Inner {
     Once(Body),
     Each(Count, Body),
-    Level(Level),
 }
 
 /// One of bodies that take turns from position to position, and the one that stands in its place at
@@ -145,35 +110,61 @@ pub struct Turn {
     pub last: Body,
 }
 
+/// What is done to a register of a flow; these are 0 to 6.
+#[derive(Clone, Copy, PartialEq, Eq)]
+pub enum Move {
+    /// A number.
+    SetI(u8, u16),
+    /// The width n.
+    SetN(u8),
+    /// n - 1.
+    SetT(u8),
+    /// The value of the second register.
+    Mov(u8, u8),
+    /// So much more.
+    AddI(u8, u16),
+    /// So much less.
+    SubI(u8, u16),
+}
+
+/// Bodies, moves, choices and loops, one after another: the last flow of each form is what follows.
+/// The subscripts of the bodies are `Zero` and `Register` alone.
+#[derive(Drop)]
+#[cycle(flow)]
+pub enum Flow {
+    End,
+    /// A body.
+    Do(Body, Box<Flow>),
+    /// A move.
+    Put(Move, Box<Flow>),
+    /// The first flow where the register is not 0, else the second.
+    If(u8, Box<Flow>, Box<Flow>, Box<Flow>),
+    /// As many iterations as the register holds. In each it holds how many come after.
+    Loop(u8, Box<Turns>, Box<Flow>),
+}
+
+/// What a loop does: one flow an iteration, in turn, again from the first after the last.
+#[derive(Drop)]
+#[cycle(flow)]
+pub enum Turns {
+    Last(Box<Flow>),
+    Turn(Box<Flow>, Box<Turns>),
+}
+
 /// A body done once, at each position, or parts done one after another at each outer position.
 #[derive(Drop)]
 pub enum Step {
     Once(Body),
     Each(Body),
     Nest(Vec<Inner>),
-    /// The parts at outer position 0 alone.
-    First(Vec<Inner>),
-    /// The parts at the outer positions from 1 on. At width 1 there is no round.
-    Above(Vec<Inner>),
     /// A body at each position that has one above it: `Inner` is the position, from 0 to n - 2, and
     /// `Sum` the one above. The outer index is 1. At width 1 there is no round.
     Pairs(Body),
     /// Bodies that take turns in their order, again from the first after the last. Their subscripts
     /// are `Zero`, `Inner` and `InnerDown` alone.
     Alternate(Vec<Turn>),
-}
-
-impl Step {
-    /// The parts at these outer positions.
-    pub fn nest(span: Span, parts: Vec<Inner>) -> Step
-        ensures { step_of result ≡ Nest span (map inner_of parts.items) }
-    {
-        match span {
-            Span::Full => Step::Nest(parts),
-            Span::First => Step::First(parts),
-            Span::Above => Step::Above(parts),
-        }
-    }
+    /// A flow, whose registers hold 0 as it begins.
+    Flow(Flow),
 }
 
 /// Steps that are done one after another, the same at every width.

@@ -2,12 +2,13 @@
 
 ghost use Rattle.std.specs.Prelude.{◌≡◌, ◌↔◌, ◌<◌, ℕ, true, length, map, ◌∷◌, []};
 ghost use Rattle.mig_graph.specs.Outputs.{AreNamed};
-ghost use Rattle.loop_ir.specs.Plain.{block_of, level_of, inner_of, turn_of, step_of, steps_of};
-ghost use Rattle.loop_ir.specs.Plain.{AllLevel, AllInner, AllTurns, AllStep};
+ghost use Rattle.loop_ir.specs.Plain.{block_of, inner_of, turn_of, step_of, steps_of, flow_of};
+ghost use Rattle.loop_ir.specs.Plain.{acts_of, AllInner, AllTurns, AllStep};
+ghost use Rattle.loop_ir.specs.Flows.{AllFlow, AllActs};
 ghost use Rattle.loop_ir.specs.Spots.{nth_place};
 ghost use Rattle.loop_ir.specs.WellFormed.{IsOneValue, IsWellFormed, AreWellFormed};
 
-use crate::ir::{Body, Inner, Level, LoopProgram, Place, Step, Turn};
+use crate::ir::{Body, Flow, Inner, LoopProgram, Place, Step, Turn, Turns};
 use mig_graph::MigOuts;
 
 /// Whether the two places are rows of one value.
@@ -105,18 +106,6 @@ fn is_well_formed(b: &Body) -> bool
         && all_agree(&b.writes, &b.reads)
 }
 
-/// Whether the bodies of a level are well formed.
-fn level_is_well_formed(level: &Level) -> bool
-    ensures { (result ≡ true) ↔ AllLevel IsWellFormed (level_of level.now) }
-{
-    is_well_formed(&level.none)
-        && is_well_formed(&level.odd)
-        && is_well_formed(&level.even)
-        && is_well_formed(&level.first)
-        && is_well_formed(&level.second)
-        && is_well_formed(&level.end)
-}
-
 /// Whether the bodies of a part of a nest are well formed.
 fn part_is_well_formed(part: &Inner) -> bool
     ensures { (result ≡ true) ↔ AllInner IsWellFormed (inner_of part.now ∷ []) }
@@ -124,7 +113,6 @@ fn part_is_well_formed(part: &Inner) -> bool
     match part {
         Inner::Once(body) => is_well_formed(body),
         Inner::Each(_, body) => is_well_formed(body),
-        Inner::Level(level) => level_is_well_formed(level),
     }
 }
 
@@ -152,6 +140,33 @@ fn turns_are_well_formed(turns: &[Turn]) -> bool
     }
 }
 
+/// Whether the bodies of a flow are well formed.
+#[cycle(flows)]
+fn flow_is_well_formed(flow: &Flow) -> bool
+    ensures { (result ≡ true) ↔ AllFlow IsWellFormed (flow_of flow.now) }
+{
+    match flow {
+        Flow::End => true,
+        Flow::Do(body, next) => is_well_formed(body) && flow_is_well_formed(next),
+        Flow::Put(_, next) => flow_is_well_formed(next),
+        Flow::If(_, some, none, next) => {
+            flow_is_well_formed(some) && flow_is_well_formed(none) && flow_is_well_formed(next)
+        }
+        Flow::Loop(_, turns, next) => acts_are_well_formed(turns) && flow_is_well_formed(next),
+    }
+}
+
+/// Whether the bodies of a loop's turns are well formed.
+#[cycle(flows)]
+fn acts_are_well_formed(turns: &Turns) -> bool
+    ensures { (result ≡ true) ↔ AllActs IsWellFormed (acts_of turns.now) }
+{
+    match turns {
+        Turns::Last(flow) => flow_is_well_formed(flow),
+        Turns::Turn(flow, more) => flow_is_well_formed(flow) && acts_are_well_formed(more),
+    }
+}
+
 /// Whether the bodies of a step are well formed.
 fn step_is_well_formed(step: &Step) -> bool
     ensures { (result ≡ true) ↔ AllStep IsWellFormed (step_of step.now) }
@@ -160,10 +175,9 @@ fn step_is_well_formed(step: &Step) -> bool
         Step::Once(body) => is_well_formed(body),
         Step::Each(body) => is_well_formed(body),
         Step::Nest(parts) => parts_are_well_formed(parts),
-        Step::First(parts) => parts_are_well_formed(parts),
-        Step::Above(parts) => parts_are_well_formed(parts),
         Step::Pairs(body) => is_well_formed(body),
         Step::Alternate(turns) => turns_are_well_formed(turns),
+        Step::Flow(flow) => flow_is_well_formed(flow),
     }
 }
 

@@ -1,40 +1,39 @@
 -- Which rows the owners have plays no part in what is said of states.
-use Rattle.std.proofs.Common.{◌≡◌, ℕ, zero, suc, ◌+◌, ◌-◌, ◌*◌, ◌<◌, ◌≤◌, Bool, true, false, not}
-use Rattle.std.proofs.Common.{cond, List, [], ◌∷◌, ◌++◌, map, length, Option, Some, None, refl, sym}
+use Rattle.std.proofs.Common.{◌≡◌, ℕ, zero, suc, ◌+◌, ◌*◌, ◌<◌, ◌≤◌, Bool, true, false}
+use Rattle.std.proofs.Common.{cond, List, [], ◌∷◌, ◌++◌, map, length, Some, refl, sym}
 use Rattle.std.proofs.Common.{ap, ◌∙◌, ⊎_elim, arith}
-use Rattle.std.specs.Prelude.{◌==◌, ◌&&◌, ◌||◌, ◌%◌, nat_le, nat_lt}
+use Rattle.std.specs.Prelude.{◌==◌, ◌&&◌, ◌||◌, nat_le, nat_lt, is_some}
 use Rattle.std.specs.List.{list_any, list_all}
 use Rattle.std.proofs.lemmas.Bool.{cases_Bool, and_parts}
-use Rattle.std.proofs.lemmas.List.{length-map, map-append}
+use Rattle.std.proofs.lemmas.List.{length-map}
 use Rattle.mig_graph.specs.declared.Lit.{Lit}
 use Rattle.row_alloc.specs.HeldBodies.{HeldBody, held_inputs, held_nodes, held_outs, enter_in}
-use Rattle.row_alloc.specs.HeldBodies.{leave_in, HeldNegatedIf}
+use Rattle.row_alloc.specs.HeldBodies.{leave_in}
 use Rattle.row_alloc.specs.declared.body.Held.{Held}
-use Rattle.loop_ir.specs.declared.ir.Span.{Span}
-use Rattle.loop_ir.specs.declared.ir.Span.TheVariants.{Full, First, Above}
-use Rattle.loop_ir.specs.declared.ir.Count.TheVariants.{All, Rest, UpTo}
 use Rattle.loop_ir.specs.declared.ir.Place.{Place}
-use Rattle.loop_ir.specs.Plain.{Block, LevelOf, InnerOf, TurnOf, StepOf, level_map, inner_map}
-use Rattle.loop_ir.specs.Plain.{turn_map}
-use Rattle.loop_ir.specs.Plain.InnerOf.{Alone, Across, AtLevel}
-use Rattle.loop_ir.specs.Plain.StepOf.{Single, Along, Nest, Pairs, Alternate}
-use Rattle.loop_ir.specs.Loops.{elements, all_rounds}
+use Rattle.loop_ir.specs.Plain.{Block, InnerOf, TurnOf, StepOf, inner_map, turn_map}
+use Rattle.loop_ir.specs.Plain.InnerOf.{Alone, Across}
+use Rattle.std.proofs.lemmas.List.Sums.{sum_by-cons}
+use Rattle.loop_ir.specs.Loops.{RoundOf, flow_rounds, all_rounds}
+use Rattle.loop_ir.specs.Chains.{chained, flow_finds, states_in, is_alive, finds, left_by}
+use Rattle.loop_ir.specs.Chains.{loop_finds, inner_left, inner_finds, turns_left, turns_find}
+use Rattle.loop_ir.specs.Chains.{steps_find}
+use Rattle.loop_ir.specs.Flows.{FlowOf, flow_map}
+use Rattle.loop_ir.specs.FlowTests.{widths}
+use Rattle.loop_laws.proofs.FlowRounds.{round_map, flow_rounds_map}
+use Rattle.loop_laws.proofs.RoundsMap.{all_rounds_map}
+use Rattle.loop_ir.specs.Plain.StepOf.{Single, Along, Nest, Pairs, Alternate, Flowed}
 use Rattle.loop_ir.specs.Spots.{is_state, nth_place}
 use Rattle.loop_ir.specs.Same.{same_lits, same_nodes}
 use Rattle.loop_ir.specs.States.{has_states, row_count, RowsFirst, enters, leaves, row_outs}
 use Rattle.loop_ir.specs.States.{StatesFit, same_helds, is_held_body, held_among, held_bodies}
 use Rattle.loop_ir.specs.States.{held_of}
-use Rattle.loop_ir.specs.Chains.{states_in, is_alive, finds, left_by, loop_finds, common}
-use Rattle.loop_ir.specs.Chains.{begun_by, level_left, pairs_find, level_finds, inner_left}
-use Rattle.loop_ir.specs.Chains.{inner_finds, surely, turns_left, turns_find, steps_find}
-use Rattle.loop_ir.specs.Costs.{is_copy, is_not, is_and, is_or, is_xor, is_add, body_cost, held_cost}
-use Rattle.loop_ir.specs.Costs.{turn_cost, plain_cost, rounds_cost, plain_costs, same_sub}
-use Rattle.loop_ir.specs.Limits.{is_served}
+use Rattle.loop_ir.specs.Costs.{is_copy, is_not, is_and, is_or, is_xor, is_add, body_cost}
+use Rattle.loop_ir.specs.Costs.{held_cost, turn_cost, plain_cost, rounds_cost, plain_costs}
 use Rattle.loop_laws.specs.Rooms.{Room, room_at, room_for, Owner, InRoom, InCells, Mark, Marked}
 use Rattle.loop_laws.specs.Rooms.{placed, placed_body, placed_steps}
 use Rattle.loop_laws.specs.Forms.{are_rows_first, has_known_states}
-use Rattle.loop_laws.proofs.Summed.{nest_sum, turns_sum, steps_sum, rounds_sum, sum_is, level_sum}
-use Rattle.loop_laws.proofs.Summed.{levels_sum, inner_sum, span_sum}
+use Rattle.loop_laws.proofs.Summed.{rounds_sum}
 
 -- no room stands in cells
 abbrev pub HaveRows : List Room → Type 0
@@ -60,11 +59,11 @@ module _ (rooms : List Room) (rows : HaveRows rooms) where
   pick x y (InRoom k) = ap (λ b. cond b (x (room_at rooms k).which) y) (rows k)
   pick x y (InCells w) = refl
 
-  state_like : (o : Owner) → is_state (room_for rooms o).space ≡ is_state (room_for [] o).space
+  pub state_like : (o : Owner) → is_state (room_for rooms o).space ≡ is_state (room_for [] o).space
   state_like (InRoom k) = rows k
   state_like (InCells w) = refl
 
-  enters_like : (k : ℕ) (ms : List Mark) → enters k (map (placed rooms) ms)
+  pub enters_like : (k : ℕ) (ms : List Mark) → enters k (map (placed rooms) ms)
       ≡ enters k (map (placed []) ms)
   enters_like k [] = refl
   enters_like k (m ∷ ms) =
@@ -75,7 +74,7 @@ module _ (rooms : List Room) (rows : HaveRows rooms) where
       ∙ ap (λ t. cond (is_state (room_for [] m.owner).space) (at (room_for [] m.owner).which ∷ t) t)
       (enters_like (k + 1) ms)
 
-  leaves_like : (ms : List Mark) (ls : List Lit) → leaves (map (placed rooms) ms) ls
+  pub leaves_like : (ms : List Mark) (ls : List Lit) → leaves (map (placed rooms) ms) ls
       ≡ leaves (map (placed []) ms) ls
   leaves_like [] ls = refl
   leaves_like (m ∷ ms) [] = refl
@@ -86,7 +85,7 @@ module _ (rooms : List Room) (rows : HaveRows rooms) where
       ∙ ap (λ t. cond (is_state (room_for [] m.owner).space) (at (room_for [] m.owner).which ∷ t) t)
       (leaves_like ms ls)
 
-  outs_like : (ms : List Mark) (ls : List Lit) → row_outs (map (placed rooms) ms) ls
+  pub outs_like : (ms : List Mark) (ls : List Lit) → row_outs (map (placed rooms) ms) ls
       ≡ row_outs (map (placed []) ms) ls
   outs_like [] ls = refl
   outs_like (m ∷ ms) [] = refl
@@ -111,7 +110,7 @@ module _ (rooms : List Room) (rows : HaveRows rooms) where
       ap (λ b. b && list_all (λ p. is_state p.space) (map (placed rooms) ms)) (state_like m.owner)
       ∙ ap (λ t. is_state (room_for [] m.owner).space && t) (all_like ms)
 
-  first_like : (ms : List Mark) → are_rows_first (map (placed rooms) ms)
+  pub first_like : (ms : List Mark) → are_rows_first (map (placed rooms) ms)
       ≡ are_rows_first (map (placed []) ms)
   first_like [] = refl
   first_like (m ∷ ms) =
@@ -163,11 +162,11 @@ module _ (rooms : List Room) (rows : HaveRows rooms) where
   pub held_like : (b : Marked) → held_of (placed_body rooms b) ≡ held_of (placed_body [] b)
   held_like b = among_like held_bodies b
 
-  finds_like : (alive : List ℕ) (b : Marked) → finds alive (placed_body rooms b)
+  pub finds_like : (alive : List ℕ) (b : Marked) → finds alive (placed_body rooms b)
       ≡ finds alive (placed_body [] b)
   finds_like alive b = ap (list_all (λ w. is_alive w alive)) (states_like b.reads)
 
-  left_like : (b : Marked) → left_by (placed_body rooms b) ≡ left_by (placed_body [] b)
+  pub left_like : (b : Marked) → left_by (placed_body rooms b) ≡ left_by (placed_body [] b)
   left_like b = states_like b.writes
 
   loop_like : (alive : List ℕ) (b : Marked) → loop_finds alive (placed_body rooms b)
@@ -179,17 +178,6 @@ module _ (rooms : List Room) (rows : HaveRows rooms) where
       (ap (λ l. finds l (placed_body rooms b)) (left_like b)
       ∙ finds_like (left_by (placed_body [] b)) b)
 
-  common_like : (a b c d : List ℕ) → a ≡ c → b ≡ d → common a b ≡ common c d
-  common_like a b c d e f = ap (λ x. common x b) e ∙ ap (λ x. common c x) f
-
-  begun_like : (l : LevelOf Marked) → begun_by (level_map (placed_body rooms) l)
-      ≡ begun_by (level_map (placed_body []) l)
-  begun_like l = common_like _ _ _ _ (left_like l.odd) (left_like l.even)
-
-  level_left_like : (l : LevelOf Marked) → level_left (level_map (placed_body rooms) l)
-      ≡ level_left (level_map (placed_body []) l)
-  level_left_like l = common_like _ _ _ _ (left_like l.none) (left_like l.end)
-
   inner_left_like : (alive : List ℕ) (ps : List (InnerOf Marked))
       → inner_left alive (map (inner_map (placed_body rooms)) ps)
       ≡ inner_left alive (map (inner_map (placed_body [])) ps)
@@ -200,34 +188,9 @@ module _ (rooms : List Room) (rows : HaveRows rooms) where
   inner_left_like alive (Across c b ∷ ps) =
       ap (λ l. inner_left l (map (inner_map (placed_body rooms)) ps)) (left_like b)
       ∙ inner_left_like (left_by (placed_body [] b)) ps
-  inner_left_like alive (AtLevel l ∷ ps) =
-      ap (λ x. inner_left x (map (inner_map (placed_body rooms)) ps)) (level_left_like l)
-      ∙ inner_left_like (level_left (level_map (placed_body []) l)) ps
-
-  finds_among : (x y : List ℕ) (b : Marked) → x ≡ y → finds x (placed_body rooms b)
-      ≡ finds y (placed_body [] b)
-  finds_among x y b e = ap (λ l. finds l (placed_body rooms b)) e ∙ finds_like y b
-
-  after_like : (a b : Marked) → finds (left_by (placed_body rooms a)) (placed_body rooms b)
-      ≡ finds (left_by (placed_body [] a)) (placed_body [] b)
-  after_like a b = finds_among _ _ b (left_like a)
 
   both_like : (a b c d : Bool) → a ≡ c → b ≡ d → (a && b) ≡ (c && d)
   both_like a b c d e f = ap (λ x. x && b) e ∙ ap (λ x. c && x) f
-
-  pairs_find_like : (l : LevelOf Marked) → pairs_find (level_map (placed_body rooms) l)
-      ≡ pairs_find (level_map (placed_body []) l)
-  pairs_find_like l = both_like _ _ _ _
-      (both_like _ _ _ _ (finds_among _ _ l.first (begun_like l))
-      (both_like _ _ _ _ (after_like l.first l.second) (after_like l.second l.first)))
-      (both_like _ _ _ _ (finds_among _ _ l.end (begun_like l)) (after_like l.second l.end))
-
-  level_finds_like : (alive : List ℕ) (l : LevelOf Marked)
-      → level_finds alive (level_map (placed_body rooms) l)
-      ≡ level_finds alive (level_map (placed_body []) l)
-  level_finds_like alive l = both_like _ _ _ _
-      (both_like _ _ _ _ (finds_like alive l.none)
-      (both_like _ _ _ _ (finds_like alive l.odd) (finds_like alive l.even))) (pairs_find_like l)
 
   inner_finds_like : (alive : List ℕ) (ps : List (InnerOf Marked))
       → inner_finds alive (map (inner_map (placed_body rooms)) ps)
@@ -244,11 +207,6 @@ module _ (rooms : List Room) (rows : HaveRows rooms) where
       ∙ ap (λ c. loop_finds alive (placed_body [] b) && c)
       (ap (λ l. inner_finds l qs) (left_like b)
       ∙ inner_finds_like (left_by (placed_body [] b)) ps)
-  inner_finds_like alive (AtLevel l ∷ ps) =
-      let qs = map (inner_map (placed_body rooms)) ps in
-      both_like _ _ _ _ (level_finds_like alive l)
-      (ap (λ x. inner_finds x qs) (level_left_like l)
-      ∙ inner_finds_like (level_left (level_map (placed_body []) l)) ps)
 
   abbrev turns_on : List Room → List (TurnOf Marked) → List (TurnOf Block)
   turns_on rs ts = map (turn_map (placed_body rs)) ts
@@ -266,6 +224,28 @@ module _ (rooms : List Room) (rows : HaveRows rooms) where
   turns_left_like alive [] = refl
   turns_left_like alive (t ∷ ts) = ap (λ l. turns_left l (turns_on rooms ts)) (left_like t.each)
       ∙ turns_left_like (left_by (placed_body [] t.each)) ts
+
+  rounds_find_like : (alive : List ℕ) (rs : List (RoundOf Marked))
+      → chained alive (map (round_map (placed_body rooms)) rs)
+      ≡ chained alive (map (round_map (placed_body [])) rs)
+  rounds_find_like alive [] = refl
+  rounds_find_like alive (r ∷ rs) = both_like _ _ _ _ (finds_like alive r.part)
+      (ap (λ l. chained l (map (round_map (placed_body rooms)) rs)) (left_like r.part)
+      ∙ rounds_find_like (left_by (placed_body [] r.part)) rs)
+
+  flow_find_like : (x : FlowOf Marked) → flow_finds (flow_map (placed_body rooms) x)
+      ≡ flow_finds (flow_map (placed_body []) x)
+  flow_find_like x = at_widths widths
+    where
+      at_widths : (ns : List ℕ)
+          → list_all (λ n. chained [] (flow_rounds n (flow_map (placed_body rooms) x))) ns
+          ≡ list_all (λ n. chained [] (flow_rounds n (flow_map (placed_body []) x))) ns
+      at_widths [] = refl
+      at_widths (n ∷ ns) = both_like _ _ _ _
+          (ap (chained []) (flow_rounds_map Marked Block (placed_body rooms) n x)
+          ∙ rounds_find_like [] (flow_rounds n x)
+          ∙ ap (chained []) (sym (flow_rounds_map Marked Block (placed_body []) n x)))
+          (at_widths ns)
 
   pub steps_find_like : (alive : List ℕ) (ss : List (StepOf Marked))
       → steps_find alive (placed_steps rooms ss) ≡ steps_find alive (placed_steps [] ss)
@@ -287,25 +267,25 @@ module _ (rooms : List Room) (rows : HaveRows rooms) where
       (both_like _ _ _ _
       (ap (λ l. turns_find l (turns_on rooms ts)) (turns_left_like alive ts)
       ∙ turns_find_like (turns_left alive (turns_on [] ts)) ts) (steps_find_like [] ss))
-  steps_find_like alive (Nest span ps ∷ ss) =
+  steps_find_like alive (Flowed x ∷ ss) = both_like _ _ _ _ (flow_find_like x)
+      (steps_find_like [] ss)
+  steps_find_like alive (Nest ps ∷ ss) =
       let ts = placed_steps rooms ss in
       let qs = map (inner_map (placed_body rooms)) ps in
       let q0 = map (inner_map (placed_body [])) ps in
       let l0 = inner_left alive q0 in
       ap (λ c. c && (inner_finds (inner_left alive qs) qs
-      && steps_find (surely span (inner_left (inner_left alive qs) qs)) ts))
+      && steps_find (inner_left (inner_left alive qs) qs) ts))
       (inner_finds_like alive ps)
       ∙ ap (λ l. inner_finds alive q0 && (inner_finds l qs
-      && steps_find (surely span (inner_left l qs)) ts))
+      && steps_find (inner_left l qs) ts))
       (inner_left_like alive ps)
-      ∙ ap (λ c. inner_finds alive q0 && (c
-      && steps_find (surely span (inner_left l0 qs)) ts))
+      ∙ ap (λ c. inner_finds alive q0 && (c && steps_find (inner_left l0 qs) ts))
       (inner_finds_like l0 ps)
-      ∙ ap (λ l. inner_finds alive q0 && (inner_finds l0 q0
-      && steps_find (surely span l) ts))
+      ∙ ap (λ l. inner_finds alive q0 && (inner_finds l0 q0 && steps_find l ts))
       (inner_left_like l0 ps)
       ∙ ap (λ c. inner_finds alive q0 && (inner_finds l0 q0 && c))
-      (steps_find_like (surely span (inner_left l0 q0)) ss)
+      (steps_find_like (inner_left l0 q0) ss)
 
   turn_like : (b : Marked) → turn_cost (placed_body rooms b) ≡ turn_cost (placed_body [] b)
   turn_like b =
@@ -315,7 +295,7 @@ module _ (rooms : List Room) (rows : HaveRows rooms) where
       ap (λ h. cond h (held_cost (held_of (placed_body rooms b))) own) (has_like b)
       ∙ ap (λ h. cond (has_states c) (held_cost h) own) (held_like b)
 
-  plain_like : (b : Marked) → plain_cost (placed_body rooms b) ≡ plain_cost (placed_body [] b)
+  pub plain_like : (b : Marked) → plain_cost (placed_body rooms b) ≡ plain_cost (placed_body [] b)
   plain_like b =
       let c = placed_body [] b in
       ap (λ outs. cond (is_copy c) 1 (cond ((length c.graph.nodes == 0) && ((length outs == 0)
@@ -327,131 +307,24 @@ module _ (rooms : List Room) (rows : HaveRows rooms) where
 -- a count of each body that is the same wherever the rows lie is the same of all steps
 module _ (f : Block → ℕ) (rooms : List Room)
     (like : (b : Marked) → f (placed_body rooms b) ≡ f (placed_body [] b)) where
-  level_like : (n o : ℕ) (l : LevelOf Marked) → level_sum f n o (level_map (placed_body rooms) l)
-      ≡ level_sum f n o (level_map (placed_body []) l)
-  level_like n o l =
-      let old = λ (b : Marked). f (placed_body rooms b) in
-      let new = λ (b : Marked). f (placed_body [] b) in
-      let sum = λ (none odd even first second end : ℕ). cond (elements n o == 0) none
-      (cond (elements n o % 2 == 0) even odd + (elements n (o + 1) * (first + second) + end)) in
-      ap (λ x. sum x (old l.odd) (old l.even) (old l.first) (old l.second) (old l.end))
-      (like l.none)
-      ∙ ap (λ x. sum (new l.none) x (old l.even) (old l.first) (old l.second) (old l.end))
-      (like l.odd)
-      ∙ ap (λ x. sum (new l.none) (new l.odd) x (old l.first) (old l.second) (old l.end))
-      (like l.even)
-      ∙ ap (λ x. sum (new l.none) (new l.odd) (new l.even) x (old l.second) (old l.end))
-      (like l.first)
-      ∙ ap (λ x. sum (new l.none) (new l.odd) (new l.even) (new l.first) x (old l.end))
-      (like l.second)
-      ∙ ap (λ x. sum (new l.none) (new l.odd) (new l.even) (new l.first) (new l.second) x)
-      (like l.end)
-
-  levels_like : (n o count : ℕ) (l : LevelOf Marked)
-      → levels_sum f n o count (level_map (placed_body rooms) l)
-      ≡ levels_sum f n o count (level_map (placed_body []) l)
-  levels_like n o zero l = refl
-  levels_like n o (suc count) l =
-      ap (λ x. x + levels_sum f n (o + 1) count (level_map (placed_body rooms) l))
-      (level_like n o l)
-      ∙ ap (λ x. level_sum f n o (level_map (placed_body []) l) + x) (levels_like n (o + 1) count l)
-
-  nest_like : (n o count : ℕ) (ps : List (InnerOf Marked))
-      → nest_sum f n o count (map (inner_map (placed_body rooms)) ps)
-      ≡ nest_sum f n o count (map (inner_map (placed_body [])) ps)
-  nest_like n o count [] = refl
-  nest_like n o count (Alone b ∷ ps) =
-      let e = nest_like n o count ps in
-      ap (λ x. 2 * (count * x) + nest_sum f n o count (map (inner_map (placed_body rooms)) ps))
-      (like b) ∙ ap (λ x. 2 * (count * f (placed_body [] b)) + x) e
-  nest_like n o count (Across All b ∷ ps) =
-      let e = nest_like n o count ps in
-      ap (λ x. 2 * (count * (n * x)) + nest_sum f n o count (map (inner_map (placed_body rooms))
-      ps)) (like b) ∙ ap (λ x. 2 * (count * (n * f (placed_body [] b))) + x) e
-  nest_like n o count (Across Rest b ∷ ps) =
-      let e = nest_like n o count ps in
-      ap (λ x. (count * count + count) * x + nest_sum f n o count
-      (map (inner_map (placed_body rooms)) ps)) (like b)
-      ∙ ap (λ x. (count * count + count) * f (placed_body [] b) + x) e
-  nest_like n o count (Across UpTo b ∷ ps) =
-      let e = nest_like n o count ps in
-      let times = 2 * (o * count) + (count * count + count) in
-      ap (λ x. times * x + nest_sum f n o count (map (inner_map (placed_body rooms)) ps)) (like b)
-      ∙ ap (λ x. times * f (placed_body [] b) + x) e
-  nest_like n o count (AtLevel l ∷ ps) =
-      let e = nest_like n o count ps in
-      ap (λ x. 2 * x + nest_sum f n o count (map (inner_map (placed_body rooms)) ps))
-      (levels_like n o count l)
-      ∙ ap (λ x. 2 * levels_sum f n o count (level_map (placed_body []) l) + x) e
-
-  inner_like : (n o left : ℕ) (ps : List (InnerOf Marked))
-      → inner_sum f n o left (map (inner_map (placed_body rooms)) ps)
-      ≡ inner_sum f n o left (map (inner_map (placed_body [])) ps)
-  inner_like n o left [] = refl
-  inner_like n o left (Alone b ∷ ps) =
-      ap (λ x. x + inner_sum f n o left (map (inner_map (placed_body rooms)) ps)) (like b)
-      ∙ ap (λ x. f (placed_body [] b) + x) (inner_like n o left ps)
-  inner_like n o left (Across All b ∷ ps) =
-      ap (λ x. n * x + inner_sum f n o left (map (inner_map (placed_body rooms)) ps)) (like b)
-      ∙ ap (λ x. n * f (placed_body [] b) + x) (inner_like n o left ps)
-  inner_like n o left (Across Rest b ∷ ps) =
-      ap (λ x. left * x + inner_sum f n o left (map (inner_map (placed_body rooms)) ps)) (like b)
-      ∙ ap (λ x. left * f (placed_body [] b) + x) (inner_like n o left ps)
-  inner_like n o left (Across UpTo b ∷ ps) =
-      ap (λ x. (o + 1) * x + inner_sum f n o left (map (inner_map (placed_body rooms)) ps)) (like b)
-      ∙ ap (λ x. (o + 1) * f (placed_body [] b) + x) (inner_like n o left ps)
-  inner_like n o left (AtLevel l ∷ ps) =
-      ap (λ x. x + inner_sum f n o left (map (inner_map (placed_body rooms)) ps))
-      (level_like n o l)
-      ∙ ap (λ x. level_sum f n o (level_map (placed_body []) l) + x) (inner_like n o left ps)
-
-  span_like : (n : ℕ) (span : Span) (ps : List (InnerOf Marked))
-      → span_sum f n span (map (inner_map (placed_body rooms)) ps)
-      ≡ span_sum f n span (map (inner_map (placed_body [])) ps)
-  span_like n Full ps = nest_like n 0 n ps
-  span_like n First ps = ap (λ x. 2 * x) (inner_like n 0 n ps)
-  span_like n Above ps = nest_like n 1 (n - 1) ps
-
-  turns_like : (ts : List (TurnOf Marked)) (count : ℕ)
-      → turns_sum f (map (turn_map (placed_body rooms)) ts) count
-      ≡ turns_sum f (map (turn_map (placed_body [])) ts) count
-  turns_like [] count = refl
-  turns_like (t ∷ ts) zero = like t.last
-  turns_like (t ∷ ts) (suc count) =
-      let behind = λ (rs : List Room). ap (λ l. turns_sum f l count)
-      (map-append (turn_map (placed_body rs)) ts (t ∷ [])) in
-      ap (λ x. x + turns_sum f (map (turn_map (placed_body rooms)) ts
-      ++ (turn_map (placed_body rooms) t ∷ [])) count) (like t.each)
-      ∙ ap (λ x. f (placed_body [] t.each) + x)
-      (sym (behind rooms) ∙ turns_like (ts ++ (t ∷ [])) count ∙ behind [])
-
-  sum_like : (n : ℕ) (ss : List (StepOf Marked)) → steps_sum f n (placed_steps rooms ss)
-      ≡ steps_sum f n (placed_steps [] ss)
-  sum_like n [] = refl
-  sum_like n (Single b ∷ ss) =
-      ap (λ x. 2 * x + steps_sum f n (placed_steps rooms ss)) (like b)
-      ∙ ap (λ x. 2 * f (placed_body [] b) + x) (sum_like n ss)
-  sum_like n (Along b ∷ ss) =
-      ap (λ x. 2 * (n * x) + steps_sum f n (placed_steps rooms ss)) (like b)
-      ∙ ap (λ x. 2 * (n * f (placed_body [] b)) + x) (sum_like n ss)
-  sum_like n (Nest span ps ∷ ss) =
-      ap (λ x. x + steps_sum f n (placed_steps rooms ss)) (span_like n span ps)
-      ∙ ap (λ x. span_sum f n span (map (inner_map (placed_body [])) ps) + x) (sum_like n ss)
-  sum_like n (Pairs b ∷ ss) =
-      ap (λ x. 2 * ((n - 1) * x) + steps_sum f n (placed_steps rooms ss)) (like b)
-      ∙ ap (λ x. 2 * ((n - 1) * f (placed_body [] b)) + x) (sum_like n ss)
-  sum_like n (Alternate t ∷ ss) =
-      ap (λ x. 2 * x + steps_sum f n (placed_steps rooms ss)) (turns_like t (n - 1))
-      ∙ ap (λ x. 2 * turns_sum f (map (turn_map (placed_body [])) t) (n - 1) + x) (sum_like n ss)
+  mapped_like : (rs : List (RoundOf Marked))
+      → rounds_sum f (map (round_map (placed_body rooms)) rs)
+      ≡ rounds_sum f (map (round_map (placed_body [])) rs)
+  mapped_like [] = refl
+  mapped_like (r ∷ rs) = sum_by-cons (λ (q : RoundOf Block). f q.part)
+      (round_map (placed_body rooms) r) (map (round_map (placed_body rooms)) rs)
+      ∙ ap (λ k. k + rounds_sum f (map (round_map (placed_body rooms)) rs)) (like r.part)
+      ∙ ap (λ k. f (placed_body [] r.part) + k) (mapped_like rs)
+      ∙ sym (sum_by-cons (λ (q : RoundOf Block). f q.part) (round_map (placed_body []) r)
+      (map (round_map (placed_body [])) rs))
 
   pub rounds_like : (n : ℕ) (ss : List (StepOf Marked))
       → rounds_sum f (all_rounds n (placed_steps rooms ss))
       ≡ rounds_sum f (all_rounds n (placed_steps [] ss))
   rounds_like n ss =
-      let a = sum_is f n (placed_steps rooms ss) in
-      let b = sum_is f n (placed_steps [] ss) in
-      let c = sum_like n ss in
-      omega (arith, a, b, c)
+      let to = λ (rs : List Room). all_rounds_map Marked Block (placed_body rs) n ss in
+      ap (rounds_sum f) (to rooms) ∙ mapped_like (all_rounds n ss)
+      ∙ ap (rounds_sum f) (sym (to []))
 
 -- what all rounds may take doesn't depend on where the rows lie
 pub rounds_cost_like : (rooms : List Room) → HaveRows rooms → (n : ℕ) (ss : List (StepOf Marked))
@@ -531,33 +404,16 @@ none_first (p ∷ ps) qs none = none_first ps qs (or_parts (is_state p.space) _ 
 most_is : (a b : ℕ) → nat_le a b ≡ true → a ≤ b
 most_is a b e = grind arith
 
--- a place's subscript is its mark's
-pub sub_like : (rooms : List Room) (ms : List Mark) (k : ℕ)
-    → (nth_place (map (placed rooms) ms) k).sub ≡ (nth_place (map (placed []) ms) k).sub
-sub_like rooms [] k = refl
-sub_like rooms (m ∷ ms) zero = refl
-sub_like rooms (m ∷ ms) (suc k) = sub_like rooms ms k
-
-served_like : (rooms : List Room) (b : Marked) (o : Option HeldBody)
-    → is_served o (placed_body rooms b) ≡ is_served o (placed_body [] b)
-served_like rooms b None = refl
-served_like rooms b (Some HeldNegatedIf) =
-    ap (λ s. not (same_sub s (nth_place (map (placed rooms) b.writes) 0).sub))
-    (sub_like rooms b.reads 1)
-    ∙ ap (λ s. not (same_sub (nth_place (map (placed []) b.reads) 1).sub s))
-    (sub_like rooms b.writes 0)
-served_like rooms b (Some h) = refl
-
 -- what the test says of a body with states
 record IsKnown (b : Block) : Type 0 where
   reads : length b.reads ≤ b.graph.inputs
   first : are_rows_first b.writes ≡ true
-  held : is_served (held_of b) b ≡ true
+  held : is_some (held_of b) ≡ true
 
 known_is : (b : Block) → has_states b ≡ true → has_known_states b ≡ true → IsKnown b
 known_is b has h =
     let e = sym (ap (λ c. cond c (nat_le (length b.reads) b.graph.inputs
-    && (are_rows_first b.writes && is_served (held_of b) b)) true) has) ∙ h in
+    && (are_rows_first b.writes && is_some (held_of b))) true) has) ∙ h in
     let x = and_parts (nat_le (length b.reads) b.graph.inputs) _ e in
     let y = and_parts (are_rows_first b.writes) _ x.1 in
     record { reads = most_is (length b.reads) b.graph.inputs x.0; first = y.0; held = y.1 }
@@ -565,9 +421,8 @@ known_is b has h =
 module _ (rooms : List Room) (rows : HaveRows rooms) (b : Marked)
     (h : has_known_states (placed_body [] b) ≡ true) where
   pub states_known : has_states (placed_body rooms b) ≡ true
-      → is_served (held_of (placed_body rooms b)) (placed_body rooms b) ≡ true
-  states_known has = ap (λ o. is_served o (placed_body rooms b)) (held_like rooms rows b)
-      ∙ served_like rooms b (held_of (placed_body [] b))
+      → is_some (held_of (placed_body rooms b)) ≡ true
+  states_known has = ap is_some (held_like rooms rows b)
       ∙ (known_is (placed_body [] b) (sym (has_like rooms rows b) ∙ has) h).held
 
   pub states_fit : length b.outs ≡ length (map (placed rooms) b.writes)

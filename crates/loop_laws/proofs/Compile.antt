@@ -1,9 +1,11 @@
 -- Code can be made of a program of such a form, whose graphs are such as `Mig` makes.
 use Rattle.std.proofs.Common.{ℕ, List, [], ◌∷◌, arith}
-use Rattle.loop_ir.specs.Plain.{Block, LevelOf, InnerOf, StepOf, AllLevel, AllInner, AllStep}
-use Rattle.loop_ir.specs.Plain.{AllParts}
-use Rattle.loop_ir.specs.Plain.InnerOf.{Alone, Across, AtLevel}
-use Rattle.loop_ir.specs.Plain.StepOf.{Single, Along, Nest, Pairs, Alternate}
+use Rattle.loop_ir.specs.Plain.{Block, InnerOf, StepOf, AllInner, AllStep, AllParts}
+use Rattle.loop_ir.specs.Plain.InnerOf.{Alone, Across}
+use Rattle.loop_ir.specs.Plain.StepOf.{Single, Along, Nest, Pairs, Alternate, Flowed}
+use Rattle.loop_ir.specs.Flows.{FlowOf, TurnsOf, AllFlow, AllActs}
+use Rattle.loop_ir.specs.Flows.FlowOf.{End, Do, Put, If, Loop}
+use Rattle.loop_ir.specs.Flows.TurnsOf.{Last, Turn}
 use Rattle.loop_ir.specs.Spots.{Spot}
 use Rattle.loop_ir.specs.WellFormed.{IsWellFormed}
 use Rattle.loop_ir.specs.Limits.{IsSmall}
@@ -13,28 +15,31 @@ use Rattle.loop_laws.proofs.TakingTurns.{turns_both}
 
 -- what follows for each body from two facts of it
 module _ (P Q R : Block → Type 0) (f : (b : Block) → P b → Q b → R b) where
-  level_both : (l : LevelOf Block) → AllLevel P l → AllLevel Q l → AllLevel R l
-  level_both l p q = record {
-    none = f l.none p.none q.none;
-    odd = f l.odd p.odd q.odd;
-    even = f l.even p.even q.even;
-    first = f l.first p.first q.first;
-    second = f l.second p.second q.second;
-    end = f l.end p.end q.end;
-  }
-
   inner_both : (xs : List (InnerOf Block)) → AllInner P xs → AllInner Q xs → AllInner R xs
   inner_both [] p q = tt
   inner_both (Alone b ∷ xs) p q = (f b p.0 q.0, inner_both xs p.1 q.1)
   inner_both (Across c b ∷ xs) p q = (f b p.0 q.0, inner_both xs p.1 q.1)
-  inner_both (AtLevel l ∷ xs) p q = (level_both l p.0 q.0, inner_both xs p.1 q.1)
+
+  mutual
+    flow_both : (x : FlowOf Block) → AllFlow P x → AllFlow Q x → AllFlow R x
+    flow_both End p q = tt
+    flow_both (Do b k) p q = (f b p.0 q.0, flow_both k p.1 q.1)
+    flow_both (Put m k) p q = flow_both k p q
+    flow_both (If r x y k) p q =
+        (flow_both x p.0 q.0, (flow_both y p.1.0 q.1.0, flow_both k p.1.1 q.1.1))
+    flow_both (Loop r ts k) p q = (acts_both ts p.0 q.0, flow_both k p.1 q.1)
+
+    acts_both : (ts : TurnsOf Block) → AllActs P ts → AllActs Q ts → AllActs R ts
+    acts_both (Last x) p q = flow_both x p q
+    acts_both (Turn x ts) p q = (flow_both x p.0 q.0, acts_both ts p.1 q.1)
 
   step_both : (s : StepOf Block) → AllStep P s → AllStep Q s → AllStep R s
   step_both (Single b) p q = f b p q
   step_both (Along b) p q = f b p q
-  step_both (Nest span xs) p q = inner_both xs p q
+  step_both (Nest xs) p q = inner_both xs p q
   step_both (Pairs b) p q = f b p q
   step_both (Alternate ts) p q = turns_both P Q R f ts p q
+  step_both (Flowed x) p q = flow_both x p q
 
   parts_both : (ss : List (StepOf Block)) → AllParts P ss → AllParts Q ss → AllParts R ss
   parts_both [] p q = tt
@@ -70,6 +75,7 @@ made_compile may_have ss made form = (
     small = parts_both IsMade IsSlim IsSmall small ss made form.slim;
     find = form.find;
     stand = form.stand;
+    values = form.values;
     rounds = form.rounds;
     size = form.size;
     few = form.few;

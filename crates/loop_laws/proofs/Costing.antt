@@ -10,15 +10,9 @@ use Rattle.mig_graph.specs.declared.Node.{Node}
 use Rattle.mig_graph.specs.Literals.{is_complemented}
 use Rattle.mig_graph.specs.Outputs.{lit_at}
 use Rattle.row_alloc.specs.declared.body.Held.{Held}
-use Rattle.row_alloc.specs.HeldBodies.{ReadTurned, WrittenTurned, HeldCounted, HeldMoved}
-use Rattle.row_alloc.specs.HeldBodies.{HeldBody, ZeroInT0, OneInT0, ZeroInT1, OneInT1}
-use Rattle.row_alloc.specs.HeldBodies.{OnesInT2AndT3, ZeroInT3AndDcc1, ZeroInTurnedT3AndDcc1}
-use Rattle.row_alloc.specs.HeldBodies.{HeldCompared, HeldOrdered, HeldLessened, HeldNegatedIf}
-use Rattle.row_alloc.specs.HeldBodies.{BothInT2, EitherInT2, MajorityInT3, MajorityInT1, MajorityFromT3}
-use Rattle.row_alloc.specs.HeldBodies.{KeptForPair, PairUnlike}
-use Rattle.row_alloc.specs.HeldBodies.{BothAtLast, EitherAtLast, MajorityAtLast, PairUnlikeAtLast}
-use Rattle.row_alloc.specs.HeldBodies.{UnlikeAtLast, NotInT1AndDcc0, BothFromT1, MajorityFromDcc0}
-use Rattle.row_alloc.specs.HeldBodies.{HeldMultiplied, HeldDivided, HeldAgreed}
+use Rattle.row_alloc.specs.HeldBodies.{HeldBody, ZeroInT0, OneInT0, OnesInT2AndT3}
+use Rattle.row_alloc.specs.HeldBodies.{ZeroInT3AndDcc1, HeldCompared, HeldOrdered, HeldLessened}
+use Rattle.row_alloc.specs.HeldBodies.{HeldAgreed}
 use Rattle.row_alloc.specs.HeldBodies.{held_inputs, held_nodes, held_outs, enter_in, leave_in}
 use Rattle.row_alloc.specs.HeldBodies.{held_at, held_sequence_for}
 use Rattle.loop_ir.specs.Plain.{Block}
@@ -155,24 +149,6 @@ start-most false nodes outs all inputs n o some =
     at-least true = omega arith
     at-least false = omega (arith, some)
 
--- what is kept takes a command for each state
-kept-most : (copy : Bool) (nodes outs all inputs : ℕ) → (copy ≡ true → all ≡ 1) → nodes ≡ 0
-    → outs ≡ 0 → 2 ≤ all → 0 < inputs → 2 ≤ shape-cost copy nodes outs all inputs
-kept-most true nodes outs all inputs one n o two some = absurd (omega (arith, one refl, two))
-kept-most false nodes outs all inputs one n o two some =
-    let e = cells-cost nodes outs all inputs n o (omega (arith, two)) in
-    let f = ap (λ b. cond b 1 all) (ne_eqb inputs 0 (λ g. absurd (omega (arith, g, some)))) in
-    omega (arith, e, f, two)
-
--- what has no node, and one output in a row
-row-most : (copy : Bool) (nodes outs all inputs : ℕ) → nodes ≡ 0 → outs ≡ 1
-    → 1 ≤ shape-cost copy nodes outs all inputs
-row-most true nodes outs all inputs n o = omega arith
-row-most false nodes outs all inputs n o =
-    let e = ap (λ x. shape-cost false x outs all inputs) n
-    ∙ ap (λ x. shape-cost false 0 x all inputs) o in
-    omega (arith, e)
-
 round-most : (copy : Bool) (nodes outs all inputs k : ℕ) → (copy ≡ true → nodes ≡ 0) → 0 < nodes
     → k ≤ 4 * nodes + 3 * outs → k ≤ shape-cost copy nodes outs all inputs
 round-most true nodes outs all inputs k none some le = absurd (omega (arith, none refl, some))
@@ -183,72 +159,24 @@ round-most false nodes outs all inputs k none some le =
     omega (arith, e, le)
 
 sequence-most : (h : HeldBody) (copy : Bool) (nodes outs all inputs : ℕ)
-    → (copy ≡ true → nodes ≡ 0) → (copy ≡ true → all ≡ 1) → nodes ≡ length (held_nodes h)
-    → outs ≡ length (held_outs h) → length (leave_in h) ≤ all → inputs ≡ held_inputs h
+    → (copy ≡ true → nodes ≡ 0) → nodes ≡ length (held_nodes h) → outs ≡ length (held_outs h)
+    → length (leave_in h) ≤ all
     → length (held_at (held_sequence_for h)) ≤ shape-cost copy nodes outs all inputs
-sequence-most ZeroInT0 c n o a r hc ha en eo la lr = start-most c n o a r en eo
+sequence-most ZeroInT0 c n o a r hc en eo la = start-most c n o a r en eo
     (omega (arith, la))
-sequence-most OneInT0 c n o a r hc ha en eo la lr = start-most c n o a r en eo
+sequence-most OneInT0 c n o a r hc en eo la = start-most c n o a r en eo
     (omega (arith, la))
-sequence-most ZeroInT1 c n o a r hc ha en eo la lr = start-most c n o a r en eo
+sequence-most OnesInT2AndT3 c n o a r hc en eo la = start-most c n o a r en eo
     (omega (arith, la))
-sequence-most OneInT1 c n o a r hc ha en eo la lr = start-most c n o a r en eo
+sequence-most ZeroInT3AndDcc1 c n o a r hc en eo la = start-most c n o a r en eo
     (omega (arith, la))
-sequence-most OnesInT2AndT3 c n o a r hc ha en eo la lr = start-most c n o a r en eo
-    (omega (arith, la))
-sequence-most ZeroInT3AndDcc1 c n o a r hc ha en eo la lr = start-most c n o a r en eo
-    (omega (arith, la))
-sequence-most ZeroInTurnedT3AndDcc1 c n o a r hc ha en eo la lr = start-most c n o a r en eo
-    (omega (arith, la))
-sequence-most HeldCompared c n o a r hc ha en eo la lr = round-most c n o a r 3 hc
+sequence-most HeldCompared c n o a r hc en eo la = round-most c n o a r 3 hc
     (omega (arith, en)) (omega (arith, en, eo))
-sequence-most HeldOrdered c n o a r hc ha en eo la lr = round-most c n o a r 4 hc
+sequence-most HeldOrdered c n o a r hc en eo la = round-most c n o a r 4 hc
     (omega (arith, en)) (omega (arith, en, eo))
-sequence-most HeldLessened c n o a r hc ha en eo la lr = round-most c n o a r 6 hc
+sequence-most HeldLessened c n o a r hc en eo la = round-most c n o a r 6 hc
     (omega (arith, en)) (omega (arith, en, eo))
-sequence-most HeldNegatedIf c n o a r hc ha en eo la lr = round-most c n o a r 8 hc
-    (omega (arith, en)) (omega (arith, en, eo))
-sequence-most HeldMultiplied c n o a r hc ha en eo la lr = round-most c n o a r 9 hc
-    (omega (arith, en)) (omega (arith, en, eo))
-sequence-most HeldDivided c n o a r hc ha en eo la lr = round-most c n o a r 9 hc
-    (omega (arith, en)) (omega (arith, en, eo))
-sequence-most HeldAgreed c n o a r hc ha en eo la lr = round-most c n o a r 2 hc
-    (omega (arith, en)) (omega (arith, en, eo))
-sequence-most BothInT2 c n o a r hc ha en eo la lr = round-most c n o a r 3 hc
-    (omega (arith, en)) (omega (arith, en, eo))
-sequence-most EitherInT2 c n o a r hc ha en eo la lr = round-most c n o a r 3 hc
-    (omega (arith, en)) (omega (arith, en, eo))
-sequence-most MajorityInT3 c n o a r hc ha en eo la lr = round-most c n o a r 2 hc
-    (omega (arith, en)) (omega (arith, en, eo))
-sequence-most MajorityInT1 c n o a r hc ha en eo la lr = round-most c n o a r 2 hc
-    (omega (arith, en)) (omega (arith, en, eo))
-sequence-most NotInT1AndDcc0 c n o a r hc ha en eo la lr = kept-most c n o a r ha en eo
-    (omega (arith, la)) (omega (arith, lr))
-sequence-most BothFromT1 c n o a r hc ha en eo la lr = round-most c n o a r 3 hc
-    (omega (arith, en)) (omega (arith, en, eo))
-sequence-most MajorityFromDcc0 c n o a r hc ha en eo la lr = round-most c n o a r 3 hc
-    (omega (arith, en)) (omega (arith, en, eo))
-sequence-most KeptForPair c n o a r hc ha en eo la lr = kept-most c n o a r ha en eo
-    (omega (arith, la)) (omega (arith, lr))
-sequence-most PairUnlike c n o a r hc ha en eo la lr = round-most c n o a r 4 hc
-    (omega (arith, en)) (omega (arith, en, eo))
-sequence-most BothAtLast c n o a r hc ha en eo la lr = round-most c n o a r 3 hc
-    (omega (arith, en)) (omega (arith, en, eo))
-sequence-most EitherAtLast c n o a r hc ha en eo la lr = round-most c n o a r 3 hc
-    (omega (arith, en)) (omega (arith, en, eo))
-sequence-most MajorityAtLast c n o a r hc ha en eo la lr = round-most c n o a r 2 hc
-    (omega (arith, en)) (omega (arith, en, eo))
-sequence-most MajorityFromT3 c n o a r hc ha en eo la lr = round-most c n o a r 2 hc
-    (omega (arith, en)) (omega (arith, en, eo))
-sequence-most PairUnlikeAtLast c n o a r hc ha en eo la lr = round-most c n o a r 4 hc
-    (omega (arith, en)) (omega (arith, en, eo))
-sequence-most ReadTurned c n o a r hc ha en eo la lr = kept-most c n o a r ha en eo
-    (omega (arith, la)) (omega (arith, lr))
-sequence-most WrittenTurned c n o a r hc ha en eo la lr = row-most c n o a r en eo
-sequence-most HeldCounted c n o a r hc ha en eo la lr = round-most c n o a r 6 hc
-    (omega (arith, en)) (omega (arith, en, eo))
-sequence-most HeldMoved c n o a r hc ha en eo la lr = row-most c n o a r en eo
-sequence-most UnlikeAtLast c n o a r hc ha en eo la lr = round-most c n o a r 6 hc
+sequence-most HeldAgreed c n o a r hc en eo la = round-most c n o a r 2 hc
     (omega (arith, en)) (omega (arith, en, eo))
 
 some-same : (x h : HeldBody) → Some x ≡ Some h → x ≡ h
@@ -270,11 +198,6 @@ copy-none : (b : Block) → is_copy b ≡ true → length b.graph.nodes ≡ 0
 copy-none b h = eqb-true (length b.graph.nodes) 0 (and_parts (length b.graph.nodes == 0)
     ((length b.outs == 1) && not (is_complemented (lit_at b.outs 0))) h).0
 
-copy-one : (b : Block) → is_copy b ≡ true → length b.outs ≡ 1
-copy-one b h = eqb-true (length b.outs) 1 (and_parts (length b.outs == 1)
-    (not (is_complemented (lit_at b.outs 0))) (and_parts (length b.graph.nodes == 0)
-    ((length b.outs == 1) && not (is_complemented (lit_at b.outs 0))) h).1).0
-
 held-most : (b : Block) (o : Option HeldBody)
     → ((h : HeldBody) → o ≡ Some h → is_held_body h b ≡ true) → held_cost o ≤ plain_cost b
 held-most b None is = omega arith
@@ -286,9 +209,9 @@ held-most b (Some h) is =
     let k = helds-long (leaves b.writes b.outs) (leave_in h) s.1 in
     let f = fewer-held b.writes b.outs in
     sequence-most h (is_copy b) (length b.graph.nodes) (length (row_outs b.writes b.outs))
-    (length b.outs) b.graph.inputs (copy-none b) (copy-one b) (nodes-long b.graph.nodes (held_nodes h) q.0)
+    (length b.outs) b.graph.inputs (copy-none b)
+    (nodes-long b.graph.nodes (held_nodes h) q.0)
     (lits-long (row_outs b.writes b.outs) (held_outs h) r.0) (omega (arith, k, f))
-    (eqb-true b.graph.inputs (held_inputs h) p.0)
 
 never : (n : Bool) (k : ℕ) → (n && ((k == 0) && nat_lt 0 k)) ≡ false
 never n zero = and-false n

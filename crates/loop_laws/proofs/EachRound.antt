@@ -1,16 +1,19 @@
 -- What holds of every body holds of every round.
 use Rattle.std.proofs.Common.{ℕ, zero, suc, ◌+◌, ◌-◌, ◌≤◌, List, [], ◌∷◌, map, arith}
 use Rattle.std.specs.List.{AllByRecursion}
-use Rattle.loop_ir.specs.Loops.{step_rounds, first_outer, outer_count}
-use Rattle.loop_ir.specs.Plain.{Block, LevelOf, InnerOf, TurnOf, StepOf, level_map, inner_map}
-use Rattle.loop_ir.specs.Plain.{turn_map, step_map, AllLevel, AllInner, AllTurns, AllParts}
-use Rattle.loop_ir.specs.Plain.InnerOf.{Alone, Across, AtLevel}
-use Rattle.loop_ir.specs.Plain.StepOf.{Single, Along, Nest, Pairs, Alternate}
-use Rattle.loop_ir.specs.Loops.{RoundOf, one_round, rounds, positions, inner_rounds, turns_from}
-use Rattle.loop_ir.specs.Loops.{level_rounds, all_rounds}
+use Rattle.loop_ir.specs.Loops.{step_rounds, RoundOf, one_round, rounds, positions, inner_rounds}
+use Rattle.loop_ir.specs.Loops.{turns_from, all_rounds, flow_rounds}
+use Rattle.loop_ir.specs.Plain.{Block, InnerOf, TurnOf, StepOf, inner_map, turn_map, step_map}
+use Rattle.loop_ir.specs.Plain.{AllInner, AllTurns, AllParts}
+use Rattle.loop_ir.specs.Plain.InnerOf.{Alone, Across}
+use Rattle.loop_ir.specs.Plain.StepOf.{Single, Along, Nest, Pairs, Alternate, Flowed}
+use Rattle.loop_ir.specs.Flows.{FlowOf, TurnsOf, AllFlow, AllActs, flow_map, acts_map, zeros}
+use Rattle.loop_ir.specs.Flows.FlowOf.{End, Do, Put, If, Loop}
+use Rattle.loop_ir.specs.Flows.TurnsOf.{Last, Turn}
+use Rattle.loop_laws.proofs.FlowRounds.{run_all}
 use Rattle.loop_ir.specs.Costs.{rounds_cost, plain_costs}
 use Rattle.loop_laws.specs.Rooms.{Room, Marked, placed_body, placed_steps}
-use Rattle.loop_laws.proofs.EveryRound.{all_append, LevelHolds, level_holds}
+use Rattle.loop_laws.proofs.EveryRound.{all_append}
 use Rattle.loop_laws.proofs.Costing.{CarriesFew, rounds-plain}
 use Rattle.loop_laws.proofs.TakingTurns.{turns_rounds}
 
@@ -28,16 +31,6 @@ module _ (P : Block → Type 0) where
       → AllByRecursion OfPart (rounds (λ j. one_round b j o) i count)
   each b o i count p = over (λ j. one_round b j o) (λ j. (p, tt)) i count
 
-  level : (n o : ℕ) (l : LevelOf Block) → AllLevel P l → LevelHolds OfPart n o l
-  level n o l all = record {
-    none = all.none;
-    odd = all.odd;
-    even = all.even;
-    first = λ i lt. all.first;
-    second = λ i lt. all.second;
-    end = all.end;
-  }
-
   inners : (n o : ℕ) (xs : List (InnerOf Block)) → AllInner P xs
       → AllByRecursion OfPart (inner_rounds n o xs)
   inners n o [] all = tt
@@ -45,8 +38,6 @@ module _ (P : Block → Type 0) where
   inners n o (Across c b ∷ xs) all = all_append OfPart
       (rounds (λ i. one_round b i o) 0 (positions n o c)) (inner_rounds n o xs)
       (each b o 0 (positions n o c) all.0) (inners n o xs all.1)
-  inners n o (AtLevel l ∷ xs) all = all_append OfPart (level_rounds n o l) (inner_rounds n o xs)
-      (level_holds OfPart n o l (level n o l all.0)) (inners n o xs all.1)
 
   pub each_round : (n : ℕ) (ss : List (StepOf Block)) → AllParts P ss
       → AllByRecursion OfPart (all_rounds n ss)
@@ -54,9 +45,8 @@ module _ (P : Block → Type 0) where
   each_round n (Single b ∷ ss) all = (all.0, each_round n ss all.1)
   each_round n (Along b ∷ ss) all = all_append OfPart (rounds (λ i. one_round b i 0) 0 n)
       (all_rounds n ss) (each b 0 0 n all.0) (each_round n ss all.1)
-  each_round n (Nest span xs ∷ ss) all = all_append OfPart (step_rounds n (Nest span xs))
-      (all_rounds n ss) (over (λ o. inner_rounds n o xs) (λ o. inners n o xs all.0)
-      (first_outer span) (outer_count n span))
+  each_round n (Nest xs ∷ ss) all = all_append OfPart (step_rounds n (Nest xs))
+      (all_rounds n ss) (over (λ o. inner_rounds n o xs) (λ o. inners n o xs all.0) 0 n)
       (each_round n ss all.1)
   each_round n (Pairs b ∷ ss) all = all_append OfPart (rounds (λ i. one_round b i 1) 0 (n - 1))
       (all_rounds n ss) (each b 1 0 (n - 1) all.0) (each_round n ss all.1)
@@ -64,35 +54,39 @@ module _ (P : Block → Type 0) where
       (all_rounds n ss) (turns_rounds OfPart t 0 (n - 1) (n - 1) (omega arith)
       (λ j le. all.0))
       (each_round n ss all.1)
+  each_round n (Flowed x ∷ ss) all = all_append OfPart (flow_rounds n x) (all_rounds n ss)
+      (run_all Block P n x all.0 zeros) (each_round n ss all.1)
 
   module _ (f : Marked → Block) (h : (b : Marked) → P (f b)) where
-    level_made : (l : LevelOf Marked) → AllLevel P (level_map f l)
-    level_made l = record {
-      none = h l.none;
-      odd = h l.odd;
-      even = h l.even;
-      first = h l.first;
-      second = h l.second;
-      end = h l.end;
-    }
-
     inners_made : (xs : List (InnerOf Marked)) → AllInner P (map (inner_map f) xs)
     inners_made [] = tt
     inners_made (Alone b ∷ xs) = (h b, inners_made xs)
     inners_made (Across c b ∷ xs) = (h b, inners_made xs)
-    inners_made (AtLevel l ∷ xs) = (level_made l, inners_made xs)
 
     turns_made : (ts : List (TurnOf Marked)) → AllTurns P (map (turn_map f) ts)
     turns_made [] = tt
     turns_made (t ∷ ts) = ((h t.each, h t.last), turns_made ts)
 
+    mutual
+      flow_made : (x : FlowOf Marked) → AllFlow P (flow_map f x)
+      flow_made End = tt
+      flow_made (Do b k) = (h b, flow_made k)
+      flow_made (Put m k) = flow_made k
+      flow_made (If r x y k) = (flow_made x, (flow_made y, flow_made k))
+      flow_made (Loop r ts k) = (acts_made ts, flow_made k)
+
+      acts_made : (ts : TurnsOf Marked) → AllActs P (acts_map f ts)
+      acts_made (Last x) = flow_made x
+      acts_made (Turn x ts) = (flow_made x, acts_made ts)
+
     pub all_made : (ss : List (StepOf Marked)) → AllParts P (map (step_map f) ss)
     all_made [] = tt
     all_made (Single b ∷ ss) = (h b, all_made ss)
     all_made (Along b ∷ ss) = (h b, all_made ss)
-    all_made (Nest span xs ∷ ss) = (inners_made xs, all_made ss)
+    all_made (Nest xs ∷ ss) = (inners_made xs, all_made ss)
     all_made (Pairs b ∷ ss) = (h b, all_made ss)
     all_made (Alternate ts ∷ ss) = (turns_made ts, all_made ss)
+    all_made (Flowed x ∷ ss) = (flow_made x, all_made ss)
 
 carries_none : (rooms : List Room) (b : Marked) → CarriesFew (placed_body rooms b)
 carries_none rooms b carried = absurd cc

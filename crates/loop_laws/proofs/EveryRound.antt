@@ -1,105 +1,63 @@
 -- Every round of a loop program by owners keeps the rules.
-use Rattle.std.proofs.Common.{◌≡◌, ℕ, zero, suc, ◌+◌, ◌-◌, ◌*◌, ◌<◌, ◌≤◌, Bool, true, false, List}
-use Rattle.std.proofs.Common.{[], ◌∷◌, ◌++◌, map, length, refl, sym, ap, ◌∙◌, subst, ⊎_elim, arith}
-use Rattle.std.proofs.Common.{◌⊎◌, inl, inr, cond}
-use Rattle.std.specs.Prelude.{◌%◌, ◌&&◌, ◌==◌, nat_le}
+use Rattle.std.proofs.Common.{◌≡◌, ℕ, zero, suc, ◌+◌, ◌-◌, ◌<◌, ◌≤◌, Bool, true, false, List, []}
+use Rattle.std.proofs.Common.{◌∷◌, ◌++◌, map, length, refl, sym, ap, ◌∙◌, subst, ⊎_elim, arith, ◌⊎◌}
+use Rattle.std.proofs.Common.{inl, inr}
+use Rattle.std.specs.Prelude.{◌&&◌, ◌==◌, nat_le}
 use Rattle.std.specs.List.{AllByRecursion, list_all}
 use Rattle.std.proofs.lemmas.Bool.{cases_eq, cases_lt, and_parts, eqb-true}
 use Rattle.std.proofs.lemmas.List.{length-map}
-use Rattle.loop_ir.specs.declared.ir.Span.{Span}
-use Rattle.loop_ir.specs.declared.ir.Span.TheVariants.{Full, First, Above}
-use Rattle.loop_ir.specs.Loops.{step_rounds, first_outer, outer_count}
+use Rattle.loop_ir.specs.Loops.{step_rounds, RoundOf, round_at, one_round, rounds, positions}
+use Rattle.loop_ir.specs.Loops.{sub_value, inner_rounds, turns_from, all_rounds}
 use Rattle.loop_ir.specs.declared.ir.Space.{Space}
 use Rattle.loop_ir.specs.declared.ir.Space.TheVariants.{Result, Source, ScratchBit, ScratchWord}
 use Rattle.loop_ir.specs.declared.ir.Space.TheVariants.{Cells}
 use Rattle.loop_ir.specs.declared.ir.Sub.{Sub}
 use Rattle.loop_ir.specs.declared.ir.Sub.TheVariants as sub
 use Rattle.loop_ir.specs.declared.ir.Count.{Count}
-use Rattle.loop_ir.specs.declared.ir.Count.TheVariants.{All, Rest, UpTo}
+use Rattle.loop_ir.specs.declared.ir.Count.TheVariants.{All, Rest}
 use Rattle.loop_ir.specs.declared.ir.Place.{Place}
-use Rattle.loop_ir.specs.Plain.{Block, LevelOf, InnerOf, StepOf, AllLevel, AllInner, AllParts}
-use Rattle.loop_ir.specs.Plain.{level_map, inner_map, turn_map, all_level, all_turns}
-use Rattle.loop_ir.specs.Plain.InnerOf.{Alone, Across, AtLevel}
-use Rattle.loop_ir.specs.Plain.StepOf.{Single, Along, Nest, Pairs, Alternate}
-use Rattle.loop_ir.specs.Loops.{RoundOf, round_at, one_round, rounds, positions, sub_value}
-use Rattle.loop_ir.specs.Loops.{elements, two_rounds, filled_rounds, level_rounds}
-use Rattle.loop_ir.specs.Loops.{inner_rounds, turns_from, all_rounds}
+use Rattle.loop_ir.specs.Plain.{Block, InnerOf, StepOf, AllInner, AllParts, inner_map, turn_map}
+use Rattle.loop_ir.specs.Plain.{all_turns}
+use Rattle.loop_ir.specs.Plain.InnerOf.{Alone, Across}
+use Rattle.loop_ir.specs.Plain.StepOf.{Single, Along, Nest, Pairs, Alternate, Flowed}
 use Rattle.loop_ir.specs.Spots.{Spot, spot_at, spot_in, nth_place, nth_spot, IsOwn, is_state}
 use Rattle.loop_ir.specs.WellFormed.{IsOneValue}
 use Rattle.loop_ir.specs.Costs.{used_subs, code_cost, bodies}
-use Rattle.loop_ir.specs.Limits.{IsRound, step_stands}
+use Rattle.loop_ir.specs.Limits.{IsRound, StepHasValues, step_stands}
 use Rattle.loop_ir.specs.Chains.{steps_find}
-use Rattle.loop_laws.specs.Rooms.{Extent, One, Full, extent, Room, room_at, room_for, Owner}
-use Rattle.loop_laws.specs.Rooms.{InRoom, InCells, Mark, Marked, placed, placed_body, placed_steps}
-use Rattle.loop_laws.specs.Rooms.{row_in, IsOwned, RoomsApart, Reach, Nowhere, Whole, Left, Below}
-use Rattle.loop_laws.specs.Rooms.{Paired, is_paired}
-use Rattle.loop_laws.specs.Rooms.{is_long, has_inner, is_left, is_below, fits, reach_of}
+use Rattle.loop_laws.specs.Rooms.{Extent, One, Full, extent, Room, room_at, room_for, Owner, InRoom}
+use Rattle.loop_laws.specs.Rooms.{InCells, Mark, Marked, placed, placed_body, placed_steps, row_in}
+use Rattle.loop_laws.specs.Rooms.{IsOwned, RoomsApart, Reach, Nowhere, Whole, Left, is_long}
+use Rattle.loop_laws.specs.Rooms.{has_inner, is_left, fits, reach_of}
 use Rattle.loop_laws.specs.Forms.{IsSlim, has_room, inners_have_room, steps_have_room}
 use Rattle.loop_laws.specs.Forms.{has_known_states, inners_have_known, steps_have_known}
 use Rattle.loop_laws.specs.Laws.{MarksAreEnough}
-use Rattle.loop_laws.proofs.Levels.{pairs_of, room_for_level}
 use Rattle.loop_laws.proofs.Fitting.{mark_at, IsThere, InnerOk, OuterOk, BodyFits, InnersFit}
-use Rattle.loop_laws.proofs.Fitting.{LevelFits, StepsFit}
+use Rattle.loop_laws.proofs.Fitting.{StepsFit}
 use Rattle.loop_laws.proofs.TakingTurns.{turns_tested, turns_mapped, turns_both, turns_rounds}
 use Rattle.loop_laws.proofs.Alike.{HaveRows, past_row, states_fit, states_known, steps_find_like}
 use Rattle.loop_laws.proofs.Good.{steps_are_fit}
 
-most_is : (a b : ℕ) → nat_le a b ≡ true → a ≤ b
+pub most_is : (a b : ℕ) → nat_le a b ≡ true → a ≤ b
 most_is a b e = grind arith
 
 long : (n : ℕ) (w : Extent) → is_long w ≡ true → n ≤ extent n w
 long n One e = cc
 long n Full e = omega arith
 
-first : (n : ℕ) (w : Extent) → 0 < n → 0 < extent n w
+pub first : (n : ℕ) (w : Extent) → 0 < n → 0 < extent n w
 first n One h = omega arith
 first n Full h = h
-
--- the elements of a pair lie below n
-pair_below : (n i o : ℕ) → i < elements n (o + 1) → o < n → o + 1 + 2 * i < n
-pair_below n i o lt lo = let a = pairs_of n o in let b = room_for_level n o (omega (arith, lo)) in
-    omega (arith, a, b, lt)
 
 inner_below : (n i o : ℕ) (r : Reach) → InnerOk n i o r → has_inner r ≡ true → i < n
 inner_below n i o Nowhere ok e = cc
 inner_below n i o Whole ok e = ok
 inner_below n i o Left ok e = omega (arith, ok)
-inner_below n i o Below ok e = omega (arith, ok.0, ok.1)
-inner_below n i o Paired ok e = let a = pair_below n i o ok.0 ok.1 in omega (arith, a)
 
 left_below : (n i o : ℕ) (r : Reach) → InnerOk n i o r → is_left r ≡ true → i < n - o
 left_below n i o Nowhere ok e = cc
 left_below n i o Whole ok e = cc
 left_below n i o Left ok e = ok
-left_below n i o Below ok e = cc
-left_below n i o Paired ok e = cc
-
--- the place that is as far from an outer position as the inner one is from the start
-down_below : (n i o : ℕ) (r : Reach) → InnerOk n i o r → is_below r ≡ true → o < n
-    → n - 1 - o + i < n
-down_below n i o Nowhere ok e lo = cc
-down_below n i o Whole ok e lo = cc
-down_below n i o Left ok e lo = cc
-down_below n i o Below ok e lo = omega (arith, ok.0, ok.1)
-down_below n i o Paired ok e lo = cc
-
--- the second element of a pair, at the most
-paired_below : (n i o : ℕ) (r : Reach) → InnerOk n i o r → is_paired r ≡ true
-    → o + 1 + 2 * i < n
-paired_below n i o Nowhere ok e = cc
-paired_below n i o Whole ok e = cc
-paired_below n i o Left ok e = cc
-paired_below n i o Below ok e = cc
-paired_below n i o Paired ok e = pair_below n i o ok.0 ok.1
-
-paired_fits : (n i o : ℕ) (r : Reach) (outer : Bool) (w : Extent) (v : ℕ) → InnerOk n i o r
-    → (is_long w && (outer && is_paired r)) ≡ true → v ≤ o + 1 + 2 * i → v < extent n w
-paired_fits n i o r outer w v ik e le =
-    let p = and_parts (is_long w) (outer && is_paired r) e in
-    let q = and_parts outer (is_paired r) p.1 in
-    let a = long n w p.0 in
-    let b = paired_below n i o r ik q.1 in
-    omega (arith, a, b, le)
 
 outer_below : (n o : ℕ) (b : Bool) → OuterOk n o b → b ≡ true → o < n
 outer_below n o true ok e = ok
@@ -107,7 +65,7 @@ outer_below n o false ok e = cc
 
 -- a subscript that fits stays below the number of rows
 pub within : (n i o : ℕ) (r : Reach) (outer : Bool) (w : Extent) (u : Sub) → 0 < n → InnerOk n i o r
-    → OuterOk n o outer → fits r outer w u ≡ true → sub_value n i o u < extent n w
+    → OuterOk n o outer → fits r outer w u ≡ true → sub_value n i o [] u < extent n w
 within n i o r outer w sub.Zero h ik ok e = first n w h
 within n i o r outer w sub.Top h ik ok e = let a = long n w e in omega arith
 within n i o r outer w sub.Inner h ik ok e = let p = and_parts (is_long w) (has_inner r) e in
@@ -121,29 +79,23 @@ within n i o r outer w sub.OuterDown h ik ok e = let p = and_parts (is_long w) o
 within n i o r outer w sub.Sum h ik ok e = let p = and_parts (is_long w) (outer && is_left r) e in
     let q = and_parts outer (is_left r) p.1 in let a = long n w p.0 in
     let b = left_below n i o r ik q.1 in omega arith
-within n i o r outer w sub.DownSum h ik ok e = let p =
-    and_parts (is_long w) (outer && is_below r) e in
-    let q = and_parts outer (is_below r) p.1 in let a = long n w p.0 in
-    let b = down_below n i o r ik q.1 (outer_below n o outer ok q.0) in omega arith
+within n i o r outer w sub.DownSum h ik ok e = cc
 within n i o r outer w sub.DownPlusN h ik ok e = cc
 within n i o r outer w sub.NPlusInner h ik ok e = cc
-within n i o r outer w sub.SumTwice h ik ok e = paired_fits n i o r outer w _ ik e (omega arith)
-within n i o r outer w sub.AboveSumTwice h ik ok e =
-    paired_fits n i o r outer w _ ik e (omega arith)
-within n i o r outer w sub.AboveSum h ik ok e = paired_fits n i o r outer w _ ik e (omega arith)
+within n i o r outer w (sub.Register k) h ik ok e = cc
 
-nth_placed : (rooms : List Room) (ms : List Mark) (k : ℕ) → k < length ms
+pub nth_placed : (rooms : List Room) (ms : List Mark) (k : ℕ) → k < length ms
     → nth_place (map (placed rooms) ms) k ≡ placed rooms (mark_at ms k)
 nth_placed rooms [] k lt = absurd (omega arith)
 nth_placed rooms (m ∷ ms) zero lt = refl
 nth_placed rooms (m ∷ ms) (suc k) lt = nth_placed rooms ms k (omega arith)
 
-placed_same : (rooms : List Room) (p m : Mark) → p.owner ≡ m.owner → p.sub ≡ m.sub
+pub placed_same : (rooms : List Room) (p m : Mark) → p.owner ≡ m.owner → p.sub ≡ m.sub
     → placed rooms p ≡ placed rooms m
 placed_same rooms p m e f = ap (λ x. placed rooms (record { owner = x; sub = p.sub })) e
     ∙ ap (λ x. placed rooms (record { owner = m.owner; sub = x })) f
 
-below_map : {A B : Type 0} (f : A → B) (xs : List A) (k : ℕ) → k < length (map f xs) → k < length xs
+pub below_map : {A B : Type 0} (f : A → B) (xs : List A) (k : ℕ) → k < length (map f xs) → k < length xs
 below_map f xs k lt = let e = length-map xs f in omega arith
 
 spot_space : (n : ℕ) (s : Space) (w v : ℕ) → (spot_in n s w v).space ≡ s
@@ -153,7 +105,7 @@ spot_space n ScratchBit w v = refl
 spot_space n ScratchWord w v = refl
 spot_space n Cells w v = refl
 
-own_spot : (n : ℕ) (s : Space) (w v : ℕ) → IsOwn s → IsOwn (spot_in n s w v).space
+pub own_spot : (n : ℕ) (s : Space) (w v : ℕ) → IsOwn s → IsOwn (spot_in n s w v).space
 own_spot n Result w v own = own
 own_spot n Source w v own = own
 own_spot n ScratchBit w v own = own
@@ -165,7 +117,7 @@ number_of (InRoom k) = k
 number_of (InCells w) = w
 
 -- two owners are one or they are not
-owner_cases : (a b : Owner) → (a ≡ b) ⊎ (a ≡ b → ⊥)
+pub owner_cases : (a b : Owner) → (a ≡ b) ⊎ (a ≡ b → ⊥)
 owner_cases (InRoom j) (InRoom k) = elim (cases_eq j k) [
   | inl e ↦ inl (ap InRoom e)
   | inr ne ↦ inr (λ e. ne (ap number_of e))
@@ -186,7 +138,7 @@ not_state n r u w v rows e = let f : r.space ≡ Cells =
 
 module _ (n : ℕ) (rooms : List Room) (are : RoomsApart n rooms) (rows : HaveRows rooms) where
   -- rows of two owners of which one may be written are not the same
-  owners_apart : (a b : Owner) (u v : ℕ) → IsThere rooms a → IsThere rooms b
+  pub owners_apart : (a b : Owner) (u v : ℕ) → IsThere rooms a → IsThere rooms b
       → (room_for rooms a).written ≡ true → (a ≡ b → ⊥) → u < extent n (room_for rooms a).rows
       → v < extent n (room_for rooms b).rows
       → row_in n (room_for rooms a) u ≡ row_in n (room_for rooms b) v → ⊥
@@ -200,13 +152,13 @@ module _ (n : ℕ) (rooms : List Room) (are : RoomsApart n rooms) (rows : HaveRo
       ne (ap InCells (ap (λ (q : Spot). q.which) e))
 
   -- a place with a row is an owner's row
-  owned_at : (a : Owner) (u : ℕ) (q : Spot) → IsThere rooms a
+  pub owned_at : (a : Owner) (u : ℕ) (q : Spot) → IsThere rooms a
       → is_state (room_for rooms a).space ≡ false → u < extent n (room_for rooms a).rows
       → q ≡ row_in n (room_for rooms a) u → IsOwned n rooms q
   owned_at (InRoom k) u q there row lu e = (k, u, there, lu, e)
   owned_at (InCells w) u q there row lu e = cc
 
-  own_of : (a : Owner) → IsThere rooms a → (room_for rooms a).written ≡ true
+  pub own_of : (a : Owner) → IsThere rooms a → (room_for rooms a).written ≡ true
       → IsOwn (room_for rooms a).space
   own_of (InRoom k) there w = are.own k there w
   own_of (InCells x) there w = tt
@@ -215,60 +167,60 @@ module _ (n : ℕ) (rooms : List Room) (some : 0 < n) (are : RoomsApart n rooms)
     (rows : HaveRows rooms) (r : Reach) (outer : Bool) (b : Marked)
     (fit : BodyFits r outer rooms b.reads b.writes) where
   module _ (i o : ℕ) (ik : InnerOk n i o r) (ok : OuterOk n o outer) where
-    read_at : (k : ℕ) → k < length b.reads → nth_spot n i o (map (placed rooms) b.reads) k
+    read_at : (k : ℕ) → k < length b.reads → nth_spot n i o [] (map (placed rooms) b.reads) k
         ≡ row_in n (room_for rooms (mark_at b.reads k).owner)
-        (sub_value n i o (mark_at b.reads k).sub)
-    read_at k lk = ap (spot_at n i o) (nth_placed rooms b.reads k lk)
+        (sub_value n i o [] (mark_at b.reads k).sub)
+    read_at k lk = ap (spot_at n i o []) (nth_placed rooms b.reads k lk)
 
-    write_at : (j : ℕ) → j < length b.writes → nth_spot n i o (map (placed rooms) b.writes) j
+    write_at : (j : ℕ) → j < length b.writes → nth_spot n i o [] (map (placed rooms) b.writes) j
         ≡ row_in n (room_for rooms (mark_at b.writes j).owner)
-        (sub_value n i o (mark_at b.writes j).sub)
-    write_at j lj = ap (spot_at n i o) (nth_placed rooms b.writes j lj)
+        (sub_value n i o [] (mark_at b.writes j).sub)
+    write_at j lj = ap (spot_at n i o []) (nth_placed rooms b.writes j lj)
 
     read_below : (k : ℕ) → k < length b.reads
-        → sub_value n i o (mark_at b.reads k).sub
+        → sub_value n i o [] (mark_at b.reads k).sub
         < extent n (room_for rooms (mark_at b.reads k).owner).rows
     read_below k lk = within n i o r outer (room_for rooms (mark_at b.reads k).owner).rows
         (mark_at b.reads k).sub some ik ok (fit.read_fits k lk)
 
     write_below : (j : ℕ) → j < length b.writes
-        → sub_value n i o (mark_at b.writes j).sub
+        → sub_value n i o [] (mark_at b.writes j).sub
         < extent n (room_for rooms (mark_at b.writes j).owner).rows
     write_below j lj = within n i o r outer (room_for rooms (mark_at b.writes j).owner).rows
         (mark_at b.writes j).sub some ik ok (fit.write_fits j lj)
 
     -- rows that are one have one owner
     writes_meet : (i' j : ℕ) → i' < length b.writes → j < length b.writes
-        → nth_spot n i o (map (placed rooms) b.writes) i'
-        ≡ nth_spot n i o (map (placed rooms) b.writes) j
+        → nth_spot n i o [] (map (placed rooms) b.writes) i'
+        ≡ nth_spot n i o [] (map (placed rooms) b.writes) j
         → (mark_at b.writes i').owner ≡ (mark_at b.writes j).owner
     writes_meet i' j li lj e = ⊎_elim
         (λ (c : (mark_at b.writes i').owner ≡ (mark_at b.writes j).owner). c)
         (λ (c : (mark_at b.writes i').owner ≡ (mark_at b.writes j).owner
         → ⊥). absurd (owners_apart n rooms are rows (mark_at b.writes i').owner (mark_at b.writes j).owner
-        (sub_value n i o (mark_at b.writes i').sub) (sub_value n i o (mark_at b.writes j).sub)
+        (sub_value n i o [] (mark_at b.writes i').sub) (sub_value n i o [] (mark_at b.writes j).sub)
         (fit.write_owner i' li) (fit.write_owner j lj) (fit.written i' li) c (write_below i' li)
         (write_below j lj) (sym (write_at i' li) ∙ e ∙ write_at j lj)))
         (owner_cases (mark_at b.writes i').owner (mark_at b.writes j).owner)
 
     reads_meet : (j k : ℕ) → j < length b.writes → k < length b.reads
-        → nth_spot n i o (map (placed rooms) b.writes) j
-        ≡ nth_spot n i o (map (placed rooms) b.reads) k
+        → nth_spot n i o [] (map (placed rooms) b.writes) j
+        ≡ nth_spot n i o [] (map (placed rooms) b.reads) k
         → (mark_at b.writes j).owner ≡ (mark_at b.reads k).owner
     reads_meet j k lj lk e = ⊎_elim
         (λ (c : (mark_at b.writes j).owner ≡ (mark_at b.reads k).owner). c)
         (λ (c : (mark_at b.writes j).owner ≡ (mark_at b.reads k).owner
         → ⊥). absurd (owners_apart n rooms are rows (mark_at b.writes j).owner (mark_at b.reads k).owner
-        (sub_value n i o (mark_at b.writes j).sub) (sub_value n i o (mark_at b.reads k).sub)
+        (sub_value n i o [] (mark_at b.writes j).sub) (sub_value n i o [] (mark_at b.reads k).sub)
         (fit.write_owner j lj) (fit.read_owner k lk) (fit.written j lj) c (write_below j lj)
         (read_below k lk) (sym (write_at j lj) ∙ e ∙ read_at k lk)))
         (owner_cases (mark_at b.writes j).owner (mark_at b.reads k).owner)
 
     space_of : (j : ℕ) → j < length b.writes
-        → IsOwn (nth_spot n i o (map (placed rooms) b.writes) j).space
+        → IsOwn (nth_spot n i o [] (map (placed rooms) b.writes) j).space
     space_of j lj = let w = (room_for rooms (mark_at b.writes j).owner) in
         subst (λ (q : Spot). IsOwn q.space) (sym (write_at j lj))
-        (own_spot n w.space w.which (sub_value n i o (mark_at b.writes j).sub)
+        (own_spot n w.space w.which (sub_value n i o [] (mark_at b.writes j).sub)
         (own_of n rooms are rows (mark_at b.writes j).owner (fit.write_owner j lj)
         (fit.written j lj)))
 
@@ -278,13 +230,13 @@ module _ (n : ℕ) (rooms : List Room) (some : 0 < n) (are : RoomsApart n rooms)
         let wr = below_map (placed rooms) b.writes in
         record {
           reads = λ k lk row. owned_at n rooms are rows (mark_at b.reads k).owner
-              (sub_value n i o (mark_at b.reads k).sub)
-              (nth_spot n i o (map (placed rooms) b.reads) k) (fit.read_owner k (rd k lk))
+              (sub_value n i o [] (mark_at b.reads k).sub)
+              (nth_spot n i o [] (map (placed rooms) b.reads) k) (fit.read_owner k (rd k lk))
               (sym (ap (λ (p : Place). is_state p.space) (nth_placed rooms b.reads k (rd k lk)))
               ∙ row) (read_below k (rd k lk)) (read_at k (rd k lk));
           writes = λ j lj row. owned_at n rooms are rows (mark_at b.writes j).owner
-              (sub_value n i o (mark_at b.writes j).sub)
-              (nth_spot n i o (map (placed rooms) b.writes) j) (fit.write_owner j (wr j lj))
+              (sub_value n i o [] (mark_at b.writes j).sub)
+              (nth_spot n i o [] (map (placed rooms) b.writes) j) (fit.write_owner j (wr j lj))
               (sym (ap (λ (p : Place). is_state p.space) (nth_placed rooms b.writes j (wr j lj)))
               ∙ row) (write_below j (wr j lj)) (write_at j (wr j lj));
           own = λ j lj. space_of j (wr j lj);
@@ -362,75 +314,13 @@ all_rounds_of P f i zero limit e h = tt
 all_rounds_of P f i (suc count) limit e h = all_append P (f i) (rounds f (i + 1) count)
     (h i (omega arith)) (all_rounds_of P f (i + 1) count limit (omega arith) h)
 
--- what holds of each round that the bodies of a level may have
-pub record LevelHolds {A : Type 0} (P : RoundOf A → Type 0) (n o : ℕ) (l : LevelOf A) : Type 0 where
-  pub none : P (round_at l.none 0 o)
-  pub odd : P (round_at l.odd 0 o)
-  pub even : P (round_at l.even 0 o)
-  pub first : (i : ℕ) → i < elements n (o + 1) → P (round_at l.first i o)
-  pub second : (i : ℕ) → i < elements n (o + 1) → P (round_at l.second i o)
-  pub end : P (round_at l.end 0 o)
-
-either_start : {A : Type 0} (P : RoundOf A → Type 0) (o : ℕ) (c : Bool) (a b : A)
-    → P (round_at a 0 o) → P (round_at b 0 o) → P (round_at (cond c a b) 0 o)
-either_start P o true a b p q = p
-either_start P o false a b p q = q
-
-either_rounds : {A : Type 0} (P : A → Type 0) (c : Bool) (xs ys : List A)
-    → AllByRecursion P xs → AllByRecursion P ys → AllByRecursion P (cond c xs ys)
-either_rounds P true xs ys p q = p
-either_rounds P false xs ys p q = q
-
--- it holds of all rounds of the level
-pub level_holds : {A : Type 0} (P : RoundOf A → Type 0) (n o : ℕ) (l : LevelOf A)
-    → LevelHolds P n o l → AllByRecursion P (level_rounds n o l)
-level_holds P n o l h =
-    let count = elements n (o + 1) in
-    let pairs = λ (i : ℕ). two_rounds l.first l.second i o in
-    either_rounds P (elements n o == 0) (one_round l.none 0 o) (filled_rounds n o l) (h.none, tt) (
-      either_start P o (elements n o % 2 == 0) l.even l.odd h.even h.odd,
-      all_append P (rounds pairs 0 count) (one_round l.end 0 o)
-          (all_rounds_of P pairs 0 count count (omega arith)
-          (λ i lt. (h.first i lt, (h.second i lt, tt))))
-          (h.end, tt),
-    )
-
--- the outer positions of a nest are below n
-span_fits : (n : ℕ) (span : Span) → 0 < n → first_outer span + outer_count n span ≤ n
-span_fits n Full some = omega arith
-span_fits n First some = omega arith
-span_fits n Above some = omega arith
-
 reach_ok : (n : ℕ) (c : Count) (i o : ℕ) → o < n → i < positions n o c
     → InnerOk n i o (reach_of c)
 reach_ok n All i o lo lt = lt
 reach_ok n Rest i o lo lt = lt
-reach_ok n UpTo i o lo lt = (omega (arith, lt), lo)
-
--- a test that passes on all bodies of a level passes on each
-pub level_tested : {A : Type 0} (f : A → Bool) (l : LevelOf A) → all_level f l ≡ true
-    → AllLevel (λ a. f a ≡ true) l
-level_tested f l e =
-    let a = and_parts (f l.none) _ e in
-    let b = and_parts (f l.odd) _ a.1 in
-    let c = and_parts (f l.even) _ b.1 in
-    let d = and_parts (f l.first) _ c.1 in
-    let g = and_parts (f l.second) (f l.end) d.1 in
-    record { none = a.0; odd = b.0; even = c.0; first = d.0; second = g.0; end = g.1 }
 
 module _ (n : ℕ) (rooms : List Room) (some : 0 < n) (are : RoomsApart n rooms)
     (rows : HaveRows rooms) where
-  level_is : (l : LevelOf Marked) (o : ℕ) → o < n → LevelFits rooms l
-      → LevelHolds (IsRound (IsOwned n rooms) n) n o (level_map (placed_body rooms) l)
-  level_is l o lo fit = record {
-    none = round_is n rooms some are rows Nowhere true l.none fit.none 0 o tt lo;
-    odd = round_is n rooms some are rows Nowhere true l.odd fit.odd 0 o tt lo;
-    even = round_is n rooms some are rows Nowhere true l.even fit.even 0 o tt lo;
-    first = λ i lt. round_is n rooms some are rows Paired true l.first fit.first i o (lt, lo) lo;
-    second = λ i lt. round_is n rooms some are rows Paired true l.second fit.second i o (lt, lo) lo;
-    end = round_is n rooms some are rows Nowhere true l.end fit.end 0 o tt lo;
-  }
-
   inners_are : (ps : List (InnerOf Marked)) (o : ℕ) → o < n → InnersFit rooms ps
       → AllByRecursion (IsRound (IsOwned n rooms) n)
       (inner_rounds n o (map (inner_map (placed_body rooms)) ps))
@@ -450,12 +340,6 @@ module _ (n : ℕ) (rooms : List Room) (some : 0 < n) (are : RoomsApart n rooms)
         tt,
       )))
       (inners_are ps o lo fit.1)
-  inners_are (AtLevel l ∷ ps) o lo fit = all_append (IsRound (IsOwned n rooms) n)
-      (level_rounds n o (level_map (placed_body rooms) l))
-      (inner_rounds n o (map (inner_map (placed_body rooms)) ps))
-      (level_holds (IsRound (IsOwned n rooms) n) n o (level_map (placed_body rooms) l)
-      (level_is l o lo fit.0))
-      (inners_are ps o lo fit.1)
 
   pub rounds_are : (ss : List (StepOf Marked)) → StepsFit rooms ss
       → AllByRecursion (IsRound (IsOwned n rooms) n) (all_rounds n (placed_steps rooms ss))
@@ -469,13 +353,12 @@ module _ (n : ℕ) (rooms : List Room) (some : 0 < n) (are : RoomsApart n rooms)
       (all_rounds_of (IsRound (IsOwned n rooms) n) (λ i. one_round (placed_body rooms b) i 0) 0 n n
       (omega arith) (λ i lt. (round_is n rooms some are rows Whole false b fit.0 i 0 lt tt, tt)))
       (rounds_are ss fit.1)
-  rounds_are (Nest span ps ∷ ss) fit =
+  rounds_are (Nest ps ∷ ss) fit =
       let qs = map (inner_map (placed_body rooms)) ps in
-      all_append (IsRound (IsOwned n rooms) n) (step_rounds n (Nest span qs))
+      all_append (IsRound (IsOwned n rooms) n) (step_rounds n (Nest qs))
       (all_rounds n (placed_steps rooms ss))
-      (all_rounds_of (IsRound (IsOwned n rooms) n) (λ o. inner_rounds n o qs) (first_outer span)
-      (outer_count n span) (first_outer span + outer_count n span) refl
-      (λ o lt. inners_are ps o (omega (arith, lt, span_fits n span some)) fit.0))
+      (all_rounds_of (IsRound (IsOwned n rooms) n) (λ o. inner_rounds n o qs) 0 n n (omega arith)
+      (λ o lt. inners_are ps o lt fit.0))
       (rounds_are ss fit.1)
   rounds_are (Pairs b ∷ ss) fit = all_append (IsRound (IsOwned n rooms) n)
       (rounds (λ i. one_round (placed_body rooms b) i 1) 0 (n - 1))
@@ -494,23 +377,7 @@ module _ (n : ℕ) (rooms : List Room) (some : 0 < n) (are : RoomsApart n rooms)
       (λ b h. round_is n rooms some are rows Whole false b h j 0 (omega (arith, le, some)) tt) t
       fit.0))
       (rounds_are ss fit.1)
-
-  level_slim : (l : LevelOf Marked) → LevelFits rooms l
-      → all_level has_room (level_map (placed_body rooms) l) ≡ true
-      → all_level has_known_states (level_map (placed_body []) l) ≡ true
-      → AllLevel IsSlim (level_map (placed_body rooms) l)
-  level_slim l fit e h =
-      let room = level_tested has_room (level_map (placed_body rooms) l) e in
-      let known = level_tested has_known_states (level_map (placed_body []) l) h in
-      record {
-        none = slim_is n rooms some are rows Nowhere true l.none fit.none room.none known.none;
-        odd = slim_is n rooms some are rows Nowhere true l.odd fit.odd room.odd known.odd;
-        even = slim_is n rooms some are rows Nowhere true l.even fit.even room.even known.even;
-        first = slim_is n rooms some are rows Paired true l.first fit.first room.first known.first;
-        second = slim_is n rooms some are rows Paired true l.second fit.second room.second
-            known.second;
-        end = slim_is n rooms some are rows Nowhere true l.end fit.end room.end known.end;
-      }
+  rounds_are (Flowed x ∷ ss) fit = absurd fit
 
   inners_slim : (ps : List (InnerOf Marked)) → InnersFit rooms ps
       → inners_have_room (map (inner_map (placed_body rooms)) ps) ≡ true
@@ -528,10 +395,6 @@ module _ (n : ℕ) (rooms : List Room) (some : 0 < n) (are : RoomsApart n rooms)
         inners_slim ps fit.1 a.1
             k.1,
       )
-  inners_slim (AtLevel l ∷ ps) fit e h =
-      let a = and_parts (all_level has_room (level_map (placed_body rooms) l)) _ e in
-      let k = and_parts (all_level has_known_states (level_map (placed_body []) l)) _ h in
-      (level_slim l fit.0 a.0 k.0, inners_slim ps fit.1 a.1 k.1)
 
   abbrev FitsWhole : Marked → Type 0
   FitsWhole b = BodyFits Whole false rooms b.reads b.writes
@@ -560,7 +423,7 @@ module _ (n : ℕ) (rooms : List Room) (some : 0 < n) (are : RoomsApart n rooms)
       let a = and_parts (has_room (placed_body rooms b)) _ e in
       let k = and_parts (has_known_states (placed_body [] b)) _ h in
       (slim_is n rooms some are rows Whole false b fit.0 a.0 k.0, steps_slim ss fit.1 a.1 k.1)
-  steps_slim (Nest span ps ∷ ss) fit e h =
+  steps_slim (Nest ps ∷ ss) fit e h =
       let a = and_parts (inners_have_room (map (inner_map (placed_body rooms)) ps)) _ e in
       let k = and_parts (inners_have_known (map (inner_map (placed_body [])) ps)) _ h in
       (inners_slim ps fit.0 a.0 k.0, steps_slim ss fit.1 a.1 k.1)
@@ -579,6 +442,7 @@ module _ (n : ℕ) (rooms : List Room) (some : 0 < n) (are : RoomsApart n rooms)
             (turns_tested (placed_body []) has_known_states t k.0))),
         steps_slim ss fit.1 a.1 k.1,
       )
+  steps_slim (Flowed x ∷ ss) fit e h = absurd fit
 
 -- the rows that it may have are among others
 pub round_among : (P Q : Spot → Type 0) → ((q : Spot) → P q → Q q) → (n : ℕ) (r : RoundOf Block)
@@ -610,6 +474,17 @@ rooms_row may_have rooms among rows k = elim (cases_lt k (length rooms)) [
   | inr le ↦ past_row rooms k le
 ]
 
+-- a program that fits has no flow
+values_fit : (may_have : ℕ → Spot → Type 0) (rooms : List Room) (ss : List (StepOf Marked))
+    → StepsFit rooms ss → AllByRecursion (StepHasValues may_have) (placed_steps rooms ss)
+values_fit may_have rooms [] fit = tt
+values_fit may_have rooms (Single b ∷ ss) fit = (tt, values_fit may_have rooms ss fit.1)
+values_fit may_have rooms (Along b ∷ ss) fit = (tt, values_fit may_have rooms ss fit.1)
+values_fit may_have rooms (Nest ps ∷ ss) fit = (tt, values_fit may_have rooms ss fit.1)
+values_fit may_have rooms (Pairs b ∷ ss) fit = (tt, values_fit may_have rooms ss fit.1)
+values_fit may_have rooms (Alternate t ∷ ss) fit = (tt, values_fit may_have rooms ss fit.1)
+values_fit may_have rooms (Flowed f ∷ ss) fit = absurd fit
+
 -- the tests on the marks say of every round at every width what it has to keep
 pub marks_are_enough : (may_have : ℕ → Spot → Type 0) → MarksAreEnough may_have
 marks_are_enough may_have rooms steps are among rows tested short states =
@@ -628,6 +503,7 @@ marks_are_enough may_have rooms steps are among rows tested short states =
           d.0;
       find = steps_find_like rooms have [] steps ∙ d.1;
       stand = b.0;
+      values = values_fit may_have rooms steps fit;
       rounds = λ n some most. rounds_among (IsOwned n rooms) (may_have n) (among n some most) n
           (all_rounds n ss) (rounds_are n rooms some (are n some most) have steps fit);
       size = most_is (code_cost ss) 256 c.0;

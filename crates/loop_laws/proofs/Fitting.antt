@@ -1,12 +1,11 @@
 -- What a body's places keep where the test on owners and subscripts passes.
-use Rattle.std.proofs.Common.{◌≡◌, ℕ, zero, suc, ◌+◌, ◌-◌, ◌<◌, ◌≤◌, Bool, true, false, List, [], ◌∷◌, length}
+use Rattle.std.proofs.Common.{◌≡◌, ℕ, zero, suc, ◌-◌, ◌<◌, Bool, true, false, List, [], ◌∷◌, length}
 use Rattle.loop_ir.specs.declared.ir.Sub.TheVariants as sub
-use Rattle.loop_ir.specs.Plain.{LevelOf, InnerOf, StepOf, AllTurns}
-use Rattle.loop_ir.specs.Plain.InnerOf.{Alone, Across, AtLevel}
-use Rattle.loop_ir.specs.Plain.StepOf.{Single, Along, Nest, Pairs, Alternate}
-use Rattle.loop_laws.specs.Rooms.{Room, room_for, Owner, InRoom, InCells, Mark, Marked}
-use Rattle.loop_laws.specs.Rooms.{Reach, Nowhere, Whole, Left, Below, Paired, fits, reach_of}
-use Rattle.loop_ir.specs.Loops.{elements}
+use Rattle.loop_ir.specs.Plain.{InnerOf, StepOf, AllTurns}
+use Rattle.loop_ir.specs.Plain.InnerOf.{Alone, Across}
+use Rattle.loop_ir.specs.Plain.StepOf.{Single, Along, Nest, Pairs, Alternate, Flowed}
+use Rattle.loop_laws.specs.Rooms.{Room, room_for, Owner, InRoom, InCells, Mark, Marked, Reach}
+use Rattle.loop_laws.specs.Rooms.{Nowhere, Whole, Left, fits, reach_of}
 
 -- a place of a body, by its number
 abbrev pub mark_at : List Mark → ℕ → Mark
@@ -24,8 +23,6 @@ abbrev pub InnerOk : ℕ → ℕ → ℕ → Reach → Type 0
 InnerOk n i o Nowhere = Unit {0}
 InnerOk n i o Whole = i < n
 InnerOk n i o Left = i < n - o
-InnerOk n i o Below = (i ≤ o) × (o < n)
-InnerOk n i o Paired = (i < elements n (o + 1)) × (o < n)
 
 -- the outer index is one, where the body stands in a nest
 abbrev pub OuterOk : ℕ → ℕ → Bool → Type 0
@@ -53,29 +50,20 @@ pub record BodyFits (r : Reach) (outer : Bool) (rooms : List Room) (reads writes
       → (mark_at writes j).owner ≡ (mark_at reads k).owner
       → (mark_at writes j).owner ≡ (mark_at reads l).owner → k ≡ l
 
--- so it is in every body of a level
-pub record LevelFits (rooms : List Room) (l : LevelOf Marked) : Type 0 where
-  pub none : BodyFits Nowhere true rooms l.none.reads l.none.writes
-  pub odd : BodyFits Nowhere true rooms l.odd.reads l.odd.writes
-  pub even : BodyFits Nowhere true rooms l.even.reads l.even.writes
-  pub first : BodyFits Paired true rooms l.first.reads l.first.writes
-  pub second : BodyFits Paired true rooms l.second.reads l.second.writes
-  pub end : BodyFits Nowhere true rooms l.end.reads l.end.writes
-
 -- so it is in every body of a nest
 abbrev pub InnersFit : List Room → List (InnerOf Marked) → Type 0
 InnersFit rooms [] = Unit {0}
 InnersFit rooms (Alone b ∷ ps) = BodyFits Nowhere true rooms b.reads b.writes × InnersFit rooms ps
 InnersFit rooms (Across c b ∷ ps) = BodyFits (reach_of c) true rooms b.reads b.writes
     × InnersFit rooms ps
-InnersFit rooms (AtLevel l ∷ ps) = LevelFits rooms l × InnersFit rooms ps
 
 -- so it is in every body of a loop program
 abbrev pub StepsFit : List Room → List (StepOf Marked) → Type 0
 StepsFit rooms [] = Unit {0}
 StepsFit rooms (Single b ∷ ss) = BodyFits Nowhere false rooms b.reads b.writes × StepsFit rooms ss
 StepsFit rooms (Along b ∷ ss) = BodyFits Whole false rooms b.reads b.writes × StepsFit rooms ss
-StepsFit rooms (Nest span ps ∷ ss) = InnersFit rooms ps × StepsFit rooms ss
+StepsFit rooms (Nest ps ∷ ss) = InnersFit rooms ps × StepsFit rooms ss
 StepsFit rooms (Pairs b ∷ ss) = BodyFits Left true rooms b.reads b.writes × StepsFit rooms ss
 StepsFit rooms (Alternate t ∷ ss) = AllTurns (λ (b : Marked). BodyFits Whole false rooms b.reads b.writes)
     t × StepsFit rooms ss
+StepsFit rooms (Flowed f ∷ ss) = ⊥

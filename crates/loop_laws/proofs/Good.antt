@@ -4,22 +4,21 @@ use Rattle.std.proofs.Common.{length, refl, sym, ap, subst, ◌∙◌, ⊎_elim,
 use Rattle.std.specs.Prelude.{◌==◌, ◌&&◌, nat_lt}
 use Rattle.std.proofs.lemmas.Bool.{cases_Bool, and_parts, eqb-true, eq-eqb}
 use Rattle.loop_ir.specs.declared.ir.Sub.{Sub}
-use Rattle.loop_ir.specs.Plain.{LevelOf, InnerOf, StepOf, all_turns}
-use Rattle.loop_ir.specs.Plain.InnerOf.{Alone, Across, AtLevel}
-use Rattle.loop_ir.specs.Plain.StepOf.{Single, Along, Nest, Pairs, Alternate}
+use Rattle.loop_ir.specs.Plain.{InnerOf, StepOf, all_turns}
+use Rattle.loop_ir.specs.Plain.InnerOf.{Alone, Across}
+use Rattle.loop_ir.specs.Plain.StepOf.{Single, Along, Nest, Pairs, Alternate, Flowed}
 use Rattle.loop_ir.specs.Costs.{sub_code}
 use Rattle.loop_laws.proofs.Same.{sub_true}
 use Rattle.loop_laws.specs.Rooms.{Room, room_for, Owner, InRoom, InCells, same_owner, Mark, Marked}
-use Rattle.loop_laws.specs.Rooms.{Reach, Nowhere, Whole, Left, Paired, fits, reach_of, is_there, all_fit}
-use Rattle.loop_laws.specs.Rooms.{none_like, alone_in, writes_fit, body_fits, level_fits}
-use Rattle.loop_laws.specs.Rooms.{inners_fit, steps_fit}
-use Rattle.loop_laws.proofs.Fitting.{mark_at, IsThere, BodyFits, LevelFits, InnersFit, StepsFit}
+use Rattle.loop_laws.specs.Rooms.{Reach, Nowhere, Whole, Left, fits, reach_of, is_there, all_fit}
+use Rattle.loop_laws.specs.Rooms.{none_like, alone_in, writes_fit, body_fits, inners_fit, steps_fit}
+use Rattle.loop_laws.proofs.Fitting.{mark_at, IsThere, BodyFits, InnersFit, StepsFit}
 use Rattle.loop_laws.proofs.TakingTurns.{turns_all}
 
 less_is : (a b : ℕ) → nat_lt a b ≡ true → a < b
 less_is a b e = grind arith
 
-there_is : (rooms : List Room) (o : Owner) → is_there o (length rooms) ≡ true → IsThere rooms o
+pub there_is : (rooms : List Room) (o : Owner) → is_there o (length rooms) ≡ true → IsThere rooms o
 there_is rooms (InRoom k) e = less_is k (length rooms) e
 there_is rooms (InCells w) e = tt
 
@@ -35,7 +34,7 @@ not_true : (b : Bool) → not b ≡ true → b ≡ true → ⊥
 not_true true e f = cc
 not_true false e f = cc
 
-none_at : (owner : Owner) (ms : List Mark) (k : ℕ) → none_like owner ms ≡ true → k < length ms
+pub none_at : (owner : Owner) (ms : List Mark) (k : ℕ) → none_like owner ms ≡ true → k < length ms
     → owner ≡ (mark_at ms k).owner → ⊥
 none_at owner [] k e lt h = absurd (omega arith)
 none_at owner (m ∷ ms) zero e lt h = not_true
@@ -62,7 +61,7 @@ alone_cases p m ms e = ⊎_elim
     ))
     (cases_Bool (same_owner p.owner m.owner))
 
-alone_sub : (p : Mark) (ms : List Mark) (k : ℕ) → alone_in p ms ≡ true → k < length ms
+pub alone_sub : (p : Mark) (ms : List Mark) (k : ℕ) → alone_in p ms ≡ true → k < length ms
     → p.owner ≡ (mark_at ms k).owner → p.sub ≡ (mark_at ms k).sub
 alone_sub p [] k e lt h = absurd (omega arith)
 alone_sub p (m ∷ ms) zero e lt h = ⊎_elim
@@ -75,7 +74,7 @@ alone_sub p (m ∷ ms) (suc k) e lt h = ⊎_elim
     (λ (c : (p.owner ≡ m.owner → ⊥) × (alone_in p ms ≡ true)). alone_sub p ms k c.1 (omega arith) h)
     (alone_cases p m ms e)
 
-alone_once : (p : Mark) (ms : List Mark) (k l : ℕ) → alone_in p ms ≡ true → k < length ms
+pub alone_once : (p : Mark) (ms : List Mark) (k l : ℕ) → alone_in p ms ≡ true → k < length ms
     → l < length ms → p.owner ≡ (mark_at ms k).owner → p.owner ≡ (mark_at ms l).owner → k ≡ l
 alone_once p [] k l e lk ll h g = absurd (omega arith)
 alone_once p (m ∷ ms) zero zero e lk ll h g = refl
@@ -96,9 +95,9 @@ alone_once p (m ∷ ms) (suc k) (suc l) e lk ll h g = ⊎_elim
     (alone_once p ms k l c.1 (omega arith) (omega arith) h g))
     (alone_cases p m ms e)
 
-record WriteAt (rooms : List Room) (reads : List Mark) (p : Mark) : Type 0 where
-  written : (room_for rooms p.owner).written ≡ true
-  alone : alone_in p reads ≡ true
+pub record WriteAt (rooms : List Room) (reads : List Mark) (p : Mark) : Type 0 where
+  pub written : (room_for rooms p.owner).written ≡ true
+  pub alone : alone_in p reads ≡ true
 
 record FirstAt (rooms : List Room) (reads : List Mark) (p : Mark) (ms : List Mark) : Type 0 where
   first : WriteAt rooms reads p
@@ -115,14 +114,14 @@ first_at rooms reads p ms e =
     let c = and_parts (none_like p.owner ms) (alone_in p reads) b.1 in
     record { first = record { written = b.0; alone = c.1 }; none = c.0; more = a.1 }
 
-write_at : (rooms : List Room) (reads ms : List Mark) (j : ℕ) → writes_fit rooms reads ms ≡ true
+pub write_at : (rooms : List Room) (reads ms : List Mark) (j : ℕ) → writes_fit rooms reads ms ≡ true
     → j < length ms → WriteAt rooms reads (mark_at ms j)
 write_at rooms reads [] j e lt = absurd (omega arith)
 write_at rooms reads (p ∷ ms) zero e lt = (first_at rooms reads p ms e).first
 write_at rooms reads (p ∷ ms) (suc j) e lt = write_at rooms reads ms j
     (first_at rooms reads p ms e).more (omega arith)
 
-writes_once : (rooms : List Room) (reads ms : List Mark) (i j : ℕ)
+pub writes_once : (rooms : List Room) (reads ms : List Mark) (i j : ℕ)
     → writes_fit rooms reads ms ≡ true → i < length ms → j < length ms
     → (mark_at ms i).owner ≡ (mark_at ms j).owner → i ≡ j
 writes_once rooms reads [] i j e li lj h = absurd (omega arith)
@@ -171,23 +170,6 @@ body_is_fit r outer rooms b e =
           (write_at rooms b.reads b.writes j c.1 lj).alone lk ll h g;
     }
 
-level_is_fit : (rooms : List Room) (l : LevelOf Marked) → level_fits rooms l ≡ true
-    → LevelFits rooms l
-level_is_fit rooms l e =
-    let a = and_parts (body_fits Nowhere true rooms l.none) _ e in
-    let b = and_parts (body_fits Nowhere true rooms l.odd) _ a.1 in
-    let c = and_parts (body_fits Nowhere true rooms l.even) _ b.1 in
-    let d = and_parts (body_fits Paired true rooms l.first) _ c.1 in
-    let g = and_parts (body_fits Paired true rooms l.second) _ d.1 in
-    record {
-      none = body_is_fit Nowhere true rooms l.none a.0;
-      odd = body_is_fit Nowhere true rooms l.odd b.0;
-      even = body_is_fit Nowhere true rooms l.even c.0;
-      first = body_is_fit Paired true rooms l.first d.0;
-      second = body_is_fit Paired true rooms l.second g.0;
-      end = body_is_fit Nowhere true rooms l.end g.1;
-    }
-
 inners_are_fit : (rooms : List Room) (ps : List (InnerOf Marked)) → inners_fit rooms ps ≡ true
     → InnersFit rooms ps
 inners_are_fit rooms [] e = tt
@@ -197,9 +179,6 @@ inners_are_fit rooms (Alone b ∷ ps) e = let a =
 inners_are_fit rooms (Across c b ∷ ps) e = let a =
     and_parts (body_fits (reach_of c) true rooms b) (inners_fit rooms ps) e in
     (body_is_fit (reach_of c) true rooms b a.0, inners_are_fit rooms ps a.1)
-inners_are_fit rooms (AtLevel l ∷ ps) e =
-    let a = and_parts (level_fits rooms l) (inners_fit rooms ps) e in
-    (level_is_fit rooms l a.0, inners_are_fit rooms ps a.1)
 
 pub steps_are_fit : (rooms : List Room) (ss : List (StepOf Marked)) → steps_fit rooms ss ≡ true
     → StepsFit rooms ss
@@ -210,7 +189,7 @@ steps_are_fit rooms (Single b ∷ ss) e = let a =
 steps_are_fit rooms (Along b ∷ ss) e = let a =
     and_parts (body_fits Whole false rooms b) (steps_fit rooms ss) e in
     (body_is_fit Whole false rooms b a.0, steps_are_fit rooms ss a.1)
-steps_are_fit rooms (Nest span ps ∷ ss) e = let a =
+steps_are_fit rooms (Nest ps ∷ ss) e = let a =
     and_parts (inners_fit rooms ps) (steps_fit rooms ss) e in
     (inners_are_fit rooms ps a.0, steps_are_fit rooms ss a.1)
 steps_are_fit rooms (Pairs b ∷ ss) e = let a =
@@ -223,3 +202,4 @@ steps_are_fit rooms (Alternate t ∷ ss) e = let a =
           (λ b h. body_is_fit Whole false rooms b h) t a.0,
       steps_are_fit rooms ss a.1,
     )
+steps_are_fit rooms (Flowed f ∷ ss) e = cc

@@ -1,4 +1,7 @@
-pub mod Levels
+pub mod FlowLogic
+pub mod FlowFine
+pub mod FlowRounds
+pub mod RoundsMap
 pub mod Same
 pub mod TakingTurns
 pub mod Loop

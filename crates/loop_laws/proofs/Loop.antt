@@ -1,5 +1,5 @@
 -- A loop over positions gives what its graph does by positions.
-use Rattle.std.proofs.Common.{◌≡◌, ℕ, zero, suc, ◌+◌, ◌<◌, ◌≤◌, List, length, refl, sym, ap, ◌∙◌}
+use Rattle.std.proofs.Common.{◌≡◌, ℕ, zero, suc, ◌+◌, ◌<◌, ◌≤◌, List, length, refl, sym, ap, ◌∙◌, []}
 use Rattle.std.proofs.Common.{subst, ⊎_elim, arith}
 use Rattle.std.proofs.lemmas.Bool.{cases_eq}
 use Rattle.std.proofs.Math.Path.{fun_ext}
@@ -54,19 +54,19 @@ module _ (n o count : ℕ) (b : Block) (origins : List Origin) (is : IsLoop n o 
       record {
         last = λ j w lj lw later.
             ⊎_elim
-            (λ (e : j ≡ i). subst (λ x. write_all n i o env b.writes b.outs new
+            (λ (e : j ≡ i). subst (λ x. write_all n i o [] env b.writes b.outs new
             (write_spot n o b x w) ≡ turn n o b origins bits (suc x) w) (sym e)
-            (write_at n i o env b.writes b.outs new is.enough (λ a c la lc h.
+            (write_at n i o [] env b.writes b.outs new is.enough (λ a c la lc h.
             is.apart i i a c lt lt la lc h) w lw ∙ ap (λ u. gives b u w) all))
             (λ (ne : j ≡ i → ⊥).
             let low : j < i = omega arith in
-            write_other n i o env b.writes b.outs new (write_spot n o b j w)
+            write_other n i o [] env b.writes b.outs new (write_spot n o b j w)
             (λ x lx h. let same : w ≡ x = is.apart j i w x (omega arith) lt lw lx h in
             later i low (omega arith) (sym (h ∙ ap (write_spot n o b i) (sym same))))
             ∙ t.last j w low lw (λ k lk ki h. later k lk (omega arith) h))
             (cases_eq j i);
         rest = λ q out.
-            write_other n i o env b.writes b.outs new q (λ x lx h. out i x (omega arith) lx h)
+            write_other n i o [] env b.writes b.outs new q (λ x lx h. out i x (omega arith) lx h)
             ∙ t.rest q (λ j w lj lw h. out j w (omega arith) lw h);
       }
 

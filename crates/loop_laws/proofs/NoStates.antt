@@ -1,21 +1,23 @@
 -- Bodies and loop programs of which nothing stands in cells.
-use Rattle.std.proofs.Common.{◌≡◌, ℕ, suc, ◌<◌, true, false, cond, List, [], ◌∷◌, ◌++◌}
+use Rattle.std.proofs.Common.{◌≡◌, ℕ, suc, ◌<◌, true, false, cond, List, [], ◌∷◌, ◌++◌, Bool}
 use Rattle.std.proofs.Common.{length, refl, ap, ◌∙◌, arith}
 use Rattle.std.specs.Prelude.{◌||◌, ◌&&◌}
-use Rattle.std.specs.List.{list_any, list_all}
+use Rattle.std.specs.List.{list_any, list_all, AllByRecursion}
 use Rattle.std.proofs.lemmas.Bool.{and_from}
-use Rattle.loop_ir.specs.Chains.{surely}
 use Rattle.loop_ir.specs.declared.ir.Place.{Place}
-use Rattle.loop_ir.specs.Plain.{Block, LevelOf, InnerOf, TurnOf, StepOf, AllLevel, AllInner}
-use Rattle.loop_ir.specs.Plain.{AllTurns, AllParts}
-use Rattle.loop_ir.specs.Plain.InnerOf.{Alone, Across, AtLevel}
-use Rattle.loop_ir.specs.Plain.StepOf.{Single, Along, Nest, Pairs, Alternate}
+use Rattle.loop_ir.specs.Plain.{Block, InnerOf, TurnOf, StepOf, AllInner, AllTurns, AllParts}
+use Rattle.loop_ir.specs.Plain.InnerOf.{Alone, Across}
+use Rattle.loop_ir.specs.Plain.StepOf.{Single, Along, Nest, Pairs, Alternate, Flowed}
 use Rattle.loop_ir.specs.Spots.{is_state, nth_place}
 use Rattle.loop_ir.specs.States.{has_states, StatesFit}
-use Rattle.loop_ir.specs.Chains.{states_in, is_alive, finds, left_by, loop_finds, begun_by}
-use Rattle.loop_ir.specs.Chains.{level_left, pairs_find, level_finds}
-use Rattle.loop_ir.specs.Chains.{inner_left, inner_finds, turns_left, turns_find, steps_find}
+use Rattle.loop_ir.specs.Chains.{states_in, is_alive, finds, left_by, loop_finds, inner_left}
+use Rattle.loop_ir.specs.Chains.{inner_finds, turns_left, turns_find, steps_find, chained}
+use Rattle.loop_ir.specs.Chains.{flow_finds}
 use Rattle.loop_laws.proofs.Alike.{or_parts, none_at, none_first, rows_first}
+use Rattle.loop_ir.specs.Flows.{FlowOf, AllFlow, zeros}
+use Rattle.loop_ir.specs.FlowTests.{widths}
+use Rattle.loop_ir.specs.Loops.{RoundOf, flow_rounds}
+use Rattle.loop_laws.proofs.FlowRounds.{run_all}
 
 -- nothing of the body stands in cells
 abbrev pub HasRows : Block → Type 0
@@ -61,26 +63,6 @@ loop_rows : (alive : List ℕ) (b : Block) → HasRows b → loop_finds alive b 
 loop_rows alive b none = and_from (finds alive b) (finds (left_by b) b) (rows_find alive b none)
     (rows_find (left_by b) b none)
 
-pairs_rows : (l : LevelOf Block) → AllLevel HasRows l → pairs_find l ≡ true
-pairs_rows l all =
-    let begun = begun_by l in
-    and_from (finds begun l.first && (finds (left_by l.first) l.second
-    && finds (left_by l.second) l.first)) (finds begun l.end && finds (left_by l.second) l.end)
-    (and_from (finds begun l.first) _ (rows_find begun l.first all.first)
-    (and_from (finds (left_by l.first) l.second) (finds (left_by l.second) l.first)
-    (rows_find (left_by l.first) l.second all.second)
-    (rows_find (left_by l.second) l.first all.first)))
-    (and_from (finds begun l.end) (finds (left_by l.second) l.end)
-    (rows_find begun l.end all.end) (rows_find (left_by l.second) l.end all.end))
-
-level_rows : (alive : List ℕ) (l : LevelOf Block) → AllLevel HasRows l
-    → level_finds alive l ≡ true
-level_rows alive l all =
-    and_from (finds alive l.none && (finds alive l.odd && finds alive l.even)) (pairs_find l)
-    (and_from (finds alive l.none) _ (rows_find alive l.none all.none)
-    (and_from (finds alive l.odd) (finds alive l.even) (rows_find alive l.odd all.odd)
-    (rows_find alive l.even all.even))) (pairs_rows l all)
-
 inner_rows : (alive : List ℕ) (ps : List (InnerOf Block)) → AllInner HasRows ps
     → inner_finds alive ps ≡ true
 inner_rows alive [] all = refl
@@ -88,8 +70,6 @@ inner_rows alive (Alone b ∷ ps) all = and_from (finds alive b) (inner_finds (l
     (rows_find alive b all.0) (inner_rows (left_by b) ps all.1)
 inner_rows alive (Across c b ∷ ps) all = and_from (loop_finds alive b) (inner_finds (left_by b) ps)
     (loop_rows alive b all.0) (inner_rows (left_by b) ps all.1)
-inner_rows alive (AtLevel l ∷ ps) all = and_from (level_finds alive l)
-    (inner_finds (level_left l) ps) (level_rows alive l all.0) (inner_rows (level_left l) ps all.1)
 
 turns_rows : (alive : List ℕ) (ts : List (TurnOf Block)) → AllTurns HasRows ts
     → turns_find alive ts ≡ true
@@ -98,6 +78,21 @@ turns_rows alive (t ∷ ts) all =
     and_from (finds alive t.each && finds alive t.last) (turns_find (left_by t.each) ts)
     (and_from (finds alive t.each) (finds alive t.last) (rows_find alive t.each all.0.0)
     (rows_find alive t.last all.0.1)) (turns_rows (left_by t.each) ts all.1)
+
+rounds_rows : (alive : List ℕ) (rs : List (RoundOf Block))
+    → AllByRecursion (λ r. HasRows r.part) rs → chained alive rs ≡ true
+rounds_rows alive [] all = refl
+rounds_rows alive (r ∷ rs) all = and_from (finds alive r.part) (chained (left_by r.part) rs)
+    (rows_find alive r.part all.0) (rounds_rows (left_by r.part) rs all.1)
+
+-- a test that passes on whatever passes on all of these
+passes : (test : ℕ → Bool) → ((n : ℕ) → test n ≡ true) → (ns : List ℕ) → list_all test ns ≡ true
+passes test h [] = refl
+passes test h (n ∷ ns) = and_from (test n) (list_all test ns) (h n) (passes test h ns)
+
+flow_rows : (f : FlowOf Block) → AllFlow HasRows f → flow_finds f ≡ true
+flow_rows f all = passes (λ n. chained [] (flow_rounds n f)) (λ n.
+    rounds_rows [] (flow_rounds n f) (run_all Block HasRows n f all zeros)) widths
 
 -- no body looks for a state
 pub no_state_sought : (alive : List ℕ) (ss : List (StepOf Block)) → AllParts HasRows ss
@@ -115,8 +110,10 @@ no_state_sought alive (Alternate ts ∷ ss) all =
     (turns_rows alive ts all.0)
     (and_from (turns_find again ts) (steps_find [] ss) (turns_rows again ts all.0)
     (no_state_sought [] ss all.1))
-no_state_sought alive (Nest span ps ∷ ss) all =
+no_state_sought alive (Flowed f ∷ ss) all = and_from (flow_finds f) (steps_find [] ss)
+    (flow_rows f all.0) (no_state_sought [] ss all.1)
+no_state_sought alive (Nest ps ∷ ss) all =
     let once = inner_left alive ps in
     and_from (inner_finds alive ps) _ (inner_rows alive ps all.0)
     (and_from (inner_finds once ps) _ (inner_rows once ps all.0)
-    (no_state_sought (surely span (inner_left once ps)) ss all.1))
+    (no_state_sought (inner_left once ps) ss all.1))

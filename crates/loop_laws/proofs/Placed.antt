@@ -10,13 +10,13 @@ use Rattle.loop_ir.specs.Spots.{Spot, spot_in, spot_at, nth_place, IsOwn}
 use Rattle.loop_laws.specs.Turns.{Origin, Standing, Carried, nth_origin, IsLoop, ReadIs}
 
 abbrev pub Before : ℕ → ℕ → ℕ → Place → Place → Type 0
-Before n o count p q = (i j : ℕ) → i < count → j < i → spot_at n i o p ≡ spot_at n j o q → ⊥
+Before n o count p q = (i j : ℕ) → i < count → j < i → spot_at n i o [] p ≡ spot_at n j o [] q → ⊥
 
 abbrev pub Apart : ℕ → ℕ → ℕ → Place → Place → Type 0
-Apart n o count p q = (i j : ℕ) → i < count → j < count → spot_at n i o p ≡ spot_at n j o q → ⊥
+Apart n o count p q = (i j : ℕ) → i < count → j < count → spot_at n i o [] p ≡ spot_at n j o [] q → ⊥
 
 abbrev pub Same : ℕ → ℕ → ℕ → Place → Place → Type 0
-Same n o count p q = (i j : ℕ) → i < count → j < count → spot_at n i o p ≡ spot_at n j o q
+Same n o count p q = (i j : ℕ) → i < count → j < count → spot_at n i o [] p ≡ spot_at n j o [] q
 
 -- the row of a place at a position is none that one of these places had at an earlier position
 abbrev pub AllBefore : ℕ → ℕ → ℕ → Place → List Place → Type 0
@@ -61,7 +61,7 @@ apart_nth n o count p (q ∷ qs) all (suc w) lt = apart_nth n o count p qs all.1
 
 are_apart : (n o count : ℕ) (ws : List Place) → AreApart n o count ws → (i j w x : ℕ) → i < count
     → j < count → w < length ws → x < length ws
-    → spot_at n i o (nth_place ws w) ≡ spot_at n j o (nth_place ws x) → w ≡ x
+    → spot_at n i o [] (nth_place ws w) ≡ spot_at n j o [] (nth_place ws x) → w ≡ x
 are_apart n o count [] all i j w x li lj lw lx e = absurd (omega arith)
 are_apart n o count (p ∷ ps) all i j zero zero li lj lw lx e = refl
 are_apart n o count (p ∷ ps) all i j zero (suc x) li lj lw lx e =
@@ -92,9 +92,9 @@ own_nth (p ∷ ps) all (suc w) lt = own_nth ps all.1 w (omega arith)
 
 abbrev pub ReadAt : ℕ → ℕ → ℕ → List Place → Place → ℕ → Origin → Type 0
 ReadAt n o count ws p i Standing = (j w : ℕ) → j < i → w < length ws
-    → spot_at n i o p ≡ spot_at n j o (nth_place ws w) → ⊥
+    → spot_at n i o [] p ≡ spot_at n j o [] (nth_place ws w) → ⊥
 ReadAt n o count ws p i (Carried w) = (w < length ws)
-    × ((j : ℕ) → j < count → spot_at n i o p ≡ spot_at n j o (nth_place ws w))
+    × ((j : ℕ) → j < count → spot_at n i o [] p ≡ spot_at n j o [] (nth_place ws w))
 
 one_read : (n o count : ℕ) (ws : List Place) (p : Place) (x : Origin) → ReadPlace n o count ws p x
     → (i : ℕ) → i < count → ReadAt n o count ws p i x

@@ -1,8 +1,8 @@
 -- Named rows that are the same, and writes to them.
-use Rattle.std.proofs.Common.{◌≡◌, ℕ, zero, suc, ◌<◌, ◌≤◌, Bool, true, false, cond, List, [], ◌∷◌}
-use Rattle.std.proofs.Common.{length, refl, sym, ap, ◌∙◌, ⊎_elim, arith}
-use Rattle.std.specs.Prelude.{◌==◌, ◌&&◌, slice_index_or}
-use Rattle.std.proofs.lemmas.Bool.{cases_Bool, and_parts, and_from, eqb-true, eq-eqb}
+use Rattle.std.proofs.Common.{◌≡◌, ℕ, zero, suc, ◌+◌, ◌-◌, ◌<◌, ◌≤◌, Bool, true, false, cond, List}
+use Rattle.std.proofs.Common.{[], ◌∷◌, length, refl, sym, ap, ◌∙◌, ⊎_elim, arith}
+use Rattle.std.specs.Prelude.{◌==◌, ◌&&◌, nat_lt, slice_index_or}
+use Rattle.std.proofs.lemmas.Bool.{cases_Bool, and_parts, and_from, eqb-true, eq-eqb, ltb-true}
 use Rattle.mig_graph.specs.declared.Lit.{Lit}
 use Rattle.mig_graph.specs.Literals.{lit_value}
 use Rattle.mig_graph.specs.Outputs.{lit_at}
@@ -11,18 +11,24 @@ use Rattle.loop_ir.specs.declared.ir.Space.TheVariants.{Result, Source, ScratchB
 use Rattle.loop_ir.specs.declared.ir.Space.TheVariants.{Cells}
 use Rattle.loop_ir.specs.declared.ir.Sub.{Sub}
 use Rattle.loop_ir.specs.declared.ir.Sub.TheVariants.{Zero, Top, Inner as At_inner, InnerDown}
-use Rattle.loop_ir.specs.declared.ir.Sub.TheVariants.{Outer, OuterDown, Sum, DownSum, SumTwice}
-use Rattle.loop_ir.specs.declared.ir.Sub.TheVariants.{AboveSumTwice, AboveSum, DownPlusN}
-use Rattle.loop_ir.specs.declared.ir.Sub.TheVariants.{NPlusInner}
+use Rattle.loop_ir.specs.declared.ir.Sub.TheVariants.{Outer, OuterDown, Sum, DownSum, DownPlusN}
+use Rattle.loop_ir.specs.declared.ir.Sub.TheVariants.{NPlusInner, Register}
 use Rattle.loop_ir.specs.declared.ir.Place.{Place}
 use Rattle.loop_ir.specs.Spots.{Spot, Spots, same_space, same_spot, set_spot, spot_at, nth_place}
 use Rattle.loop_ir.specs.Spots.{write_all}
 use Rattle.loop_ir.specs.Costs.{sub_code, same_sub}
 
+not_low : (r : ℕ) → nat_lt (10 + r) 10 ≡ false
+not_low r = by (nat_lt (10 + r) 10) refl
+  where
+    by : (b : Bool) → nat_lt (10 + r) 10 ≡ b → b ≡ false
+    by true e = let lt = ltb-true (10 + r) 10 e in absurd (omega (arith, lt))
+    by false e = refl
+
 -- a number's subscript
 sub_at : ℕ → Sub
-sub_at k = slice_index_or (Zero ∷ Top ∷ At_inner ∷ InnerDown ∷ Outer ∷ OuterDown ∷ Sum ∷ DownSum
-    ∷ DownPlusN ∷ NPlusInner ∷ SumTwice ∷ AboveSumTwice ∷ AboveSum ∷ []) k Zero
+sub_at k = cond (nat_lt k 10) (slice_index_or (Zero ∷ Top ∷ At_inner ∷ InnerDown ∷ Outer ∷ OuterDown
+    ∷ Sum ∷ DownSum ∷ DownPlusN ∷ NPlusInner ∷ []) k Zero) (Register (k - 10))
 
 sub_back : (s : Sub) → sub_at (sub_code s) ≡ s
 unfolding sub_at
@@ -36,9 +42,10 @@ sub_back Sum = refl
 sub_back DownSum = refl
 sub_back DownPlusN = refl
 sub_back NPlusInner = refl
-sub_back SumTwice = refl
-sub_back AboveSumTwice = refl
-sub_back AboveSum = refl
+sub_back (Register r) = let e : 10 + r - 10 ≡ r = omega arith in
+    ap (λ b. cond b (slice_index_or (Zero ∷ Top ∷ At_inner ∷ InnerDown ∷ Outer ∷ OuterDown ∷ Sum
+    ∷ DownSum ∷ DownPlusN ∷ NPlusInner ∷ []) (10 + r) Zero) (Register (10 + r - 10))) (not_low r)
+    ∙ ap Register e
 
 pub sub_true : (s t : Sub) → same_sub s t ≡ true → s ≡ t
 sub_true s t e = sym (sub_back s) ∙ ap sub_at (eqb-true (sub_code s) (sub_code t) e) ∙ sub_back t
@@ -107,30 +114,30 @@ set_other bits p v q ne =
     (λ (e : same_spot q p ≡ false). ap (λ b. cond b v (bits q)) e)
     (cases_Bool (same_spot q p))
 
-module _ (n i o : ℕ) (env : ℕ → Bool) where
+module _ (n i o : ℕ) (g : List ℕ) (env : ℕ → Bool) where
   pub write_other : (ps : List Place) (ls : List Lit) (bits : Spots) (q : Spot)
-      → ((j : ℕ) → j < length ls → q ≡ spot_at n i o (nth_place ps j) → ⊥)
-      → write_all n i o env ps ls bits q ≡ bits q
+      → ((j : ℕ) → j < length ls → q ≡ spot_at n i o g (nth_place ps j) → ⊥)
+      → write_all n i o g env ps ls bits q ≡ bits q
   write_other [] ls bits q out = refl
   write_other (p ∷ ps) [] bits q out = refl
   write_other (p ∷ ps) (l ∷ ls) bits q out =
-      write_other ps ls (set_spot bits (spot_at n i o p) (lit_value env l)) q
+      write_other ps ls (set_spot bits (spot_at n i o g p) (lit_value env l)) q
       (λ j lt. out (suc j) (omega arith))
-      ∙ set_other bits (spot_at n i o p) (lit_value env l) q (out 0 (omega arith))
+      ∙ set_other bits (spot_at n i o g p) (lit_value env l) q (out 0 (omega arith))
 
   pub write_at : (ps : List Place) (ls : List Lit) (bits : Spots) → length ls ≤ length ps
       → ((a b : ℕ) → a < length ls → b < length ls
-      → spot_at n i o (nth_place ps a) ≡ spot_at n i o (nth_place ps b) → a ≡ b) → (j : ℕ)
-      → j < length ls → write_all n i o env ps ls bits (spot_at n i o (nth_place ps j))
+      → spot_at n i o g (nth_place ps a) ≡ spot_at n i o g (nth_place ps b) → a ≡ b) → (j : ℕ)
+      → j < length ls → write_all n i o g env ps ls bits (spot_at n i o g (nth_place ps j))
       ≡ lit_value env (lit_at ls j)
   write_at ps [] bits enough apart j lt = absurd (omega arith)
   write_at [] (k ∷ ls) bits enough apart j lt = absurd (omega arith)
   write_at (p ∷ ps) (k ∷ ls) bits enough apart zero lt =
-      write_other ps ls (set_spot bits (spot_at n i o p) (lit_value env k)) (spot_at n i o p)
+      write_other ps ls (set_spot bits (spot_at n i o g p) (lit_value env k)) (spot_at n i o g p)
       (λ j lt h. let z : 0 ≡ suc j = apart 0 (suc j) (omega arith) (omega arith) h in
       absurd (omega arith))
-      ∙ set_same bits (spot_at n i o p) (lit_value env k) (spot_at n i o p) refl
+      ∙ set_same bits (spot_at n i o g p) (lit_value env k) (spot_at n i o g p) refl
   write_at (p ∷ ps) (k ∷ ls) bits enough apart (suc j) lt =
-      write_at ps ls (set_spot bits (spot_at n i o p) (lit_value env k)) (omega arith)
+      write_at ps ls (set_spot bits (spot_at n i o g p) (lit_value env k)) (omega arith)
       (λ a b la lb h. let z : suc a ≡ suc b =
       apart (suc a) (suc b) (omega arith) (omega arith) h in omega arith) j (omega arith)

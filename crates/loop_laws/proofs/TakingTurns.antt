@@ -87,13 +87,3 @@ module _ (n top : ℕ) (R : Spots → Type 0) where
   two_give t u P Q f g i (suc count) bits h p =
       two_give u t Q P g f (i + 1) count (after_round n (round_at t.each i 0) bits)
       (omega (arith, h)) (at_next t P Q f i bits (omega (arith, h)) p)
-
-  -- three of them
-  pub three_give : (t u v : TurnOf Block) (P Q S : ℕ → Spots → Type 0) → Leads n top R t P Q
-      → Leads n top R u Q S → Leads n top R v S P → (i count : ℕ) (bits : Spots)
-      → i + count ≡ top → P i bits
-      → R (after_rounds n (turns_from (t ∷ u ∷ v ∷ []) i count) bits)
-  three_give t u v P Q S f g k i zero bits h p = at_end t P Q f i bits (omega (arith, h)) p
-  three_give t u v P Q S f g k i (suc count) bits h p =
-      three_give u v t Q S P g k f (i + 1) count (after_round n (round_at t.each i 0) bits)
-      (omega (arith, h)) (at_next t P Q f i bits (omega (arith, h)) p)

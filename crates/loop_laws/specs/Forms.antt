@@ -1,13 +1,14 @@
 -- What a loop program has to keep, so that it can be compiled.
 use Rattle.std.specs.Prelude.{◌≡◌, ℕ, ◌+◌, ◌<◌, ◌≤◌, ◌==◌, Bool, true, false, ◌&&◌, nat_le, List}
-use Rattle.std.specs.Prelude.{[], ◌∷◌, length, if◌then◌else◌}
+use Rattle.std.specs.Prelude.{[], ◌∷◌, length, is_some, if◌then◌else◌}
 use Rattle.std.specs.List.{AllByRecursion, list_all}
 use Rattle.bit_rows.specs.declared.TheConstants.{WIDTH_MAX}
 use Rattle.mig_graph.specs.Graph.{IsGraph}
 use Rattle.mig_graph.specs.Outputs.{AreNamed}
-use Rattle.loop_ir.specs.Plain.{Block, InnerOf, StepOf, AllParts, all_level, all_turns}
-use Rattle.loop_ir.specs.Plain.InnerOf.{Alone, Across, AtLevel}
-use Rattle.loop_ir.specs.Plain.StepOf.{Single, Along, Nest, Pairs, Alternate}
+use Rattle.loop_ir.specs.Plain.{Block, InnerOf, StepOf, AllParts, all_turns}
+use Rattle.loop_ir.specs.Plain.InnerOf.{Alone, Across}
+use Rattle.loop_ir.specs.Plain.StepOf.{Single, Along, Nest, Pairs, Alternate, Flowed}
+use Rattle.loop_ir.specs.Flows.{all_flow}
 use Rattle.loop_ir.specs.Loops.{all_rounds}
 use Rattle.loop_ir.specs.declared.ir.Place.{Place}
 use Rattle.loop_ir.specs.Spots.{Spot, is_state, nth_place}
@@ -15,14 +16,14 @@ use Rattle.loop_ir.specs.WellFormed.{IsOneValue}
 use Rattle.loop_ir.specs.States.{StatesFit, has_states, held_of}
 use Rattle.loop_ir.specs.Chains.{steps_find}
 use Rattle.loop_ir.specs.Costs.{carries, used_subs, code_cost, bodies}
-use Rattle.loop_ir.specs.Limits.{IsCarried, IsRound, is_served, step_stands}
+use Rattle.loop_ir.specs.Limits.{IsCarried, IsRound, StepHasValues, step_stands}
 
 -- a body's places and numbers, but for its nodes
 pub record IsSlim (b : Block) : Type 0 where
   pub reads : b.graph.inputs ≤ length b.reads
   pub states : StatesFit b
   pub found : carries b ≡ true → IsCarried b
-  pub known : carries b ≡ false → has_states b ≡ true → is_served (held_of b) b ≡ true
+  pub known : carries b ≡ false → has_states b ≡ true → is_some (held_of b) ≡ true
   pub apart : (i j : ℕ) → i < length b.writes → j < length b.writes
       → IsOneValue (nth_place b.writes i) (nth_place b.writes j) → i ≡ j
   pub same : (j k : ℕ) → j < length b.writes → k < length b.reads
@@ -43,6 +44,7 @@ pub record HasForm (may_have : ℕ → Spot → Type 0) (steps : List (StepOf Bl
   pub slim : AllParts IsSlim steps
   pub find : steps_find [] steps ≡ true
   pub stand : list_all step_stands steps ≡ true
+  pub values : AllByRecursion (StepHasValues may_have) steps
   pub rounds : (n : ℕ) → 0 < n → n ≤ WIDTH_MAX
       → AllByRecursion (IsRound (may_have n) n) (all_rounds n steps)
   pub size : code_cost steps ≤ 256
@@ -63,16 +65,16 @@ abbrev pub inners_have_room : List (InnerOf Block) → Bool
 inners_have_room [] = true
 inners_have_room (Alone b ∷ ps) = has_room b && inners_have_room ps
 inners_have_room (Across c b ∷ ps) = has_room b && inners_have_room ps
-inners_have_room (AtLevel l ∷ ps) = all_level has_room l && inners_have_room ps
 
 -- every body of a loop program keeps these bounds
 abbrev pub steps_have_room : List (StepOf Block) → Bool
 steps_have_room [] = true
 steps_have_room (Single b ∷ ss) = has_room b && steps_have_room ss
 steps_have_room (Along b ∷ ss) = has_room b && steps_have_room ss
-steps_have_room (Nest span ps ∷ ss) = inners_have_room ps && steps_have_room ss
+steps_have_room (Nest ps ∷ ss) = inners_have_room ps && steps_have_room ss
 steps_have_room (Pairs b ∷ ss) = has_room b && steps_have_room ss
 steps_have_room (Alternate t ∷ ss) = all_turns has_room t && steps_have_room ss
+steps_have_room (Flowed f ∷ ss) = all_flow has_room f && steps_have_room ss
 
 -- a loop program is small enough that its code is within the limits: the test that a written
 -- program is checked by
@@ -87,26 +89,26 @@ are_rows_first (p ∷ ps) = if is_state p.space then list_all (λ q. is_state q.
     else are_rows_first ps
 
 -- where the body has states, each read is an input, the rows are written first, and the body is one
--- of those that hold states, with a sequence that does it
+-- of those that hold states
 abbrev pub has_known_states : Block → Bool
 has_known_states b = if has_states b then nat_le (length b.reads) b.graph.inputs
-    && (are_rows_first b.writes && is_served (held_of b) b) else true
+    && (are_rows_first b.writes && is_some (held_of b)) else true
 
 -- so it is in every body of a nest
 abbrev pub inners_have_known : List (InnerOf Block) → Bool
 inners_have_known [] = true
 inners_have_known (Alone b ∷ ps) = has_known_states b && inners_have_known ps
 inners_have_known (Across c b ∷ ps) = has_known_states b && inners_have_known ps
-inners_have_known (AtLevel l ∷ ps) = all_level has_known_states l && inners_have_known ps
 
 -- so it is in every body of a loop program
 abbrev pub steps_have_known : List (StepOf Block) → Bool
 steps_have_known [] = true
 steps_have_known (Single b ∷ ss) = has_known_states b && steps_have_known ss
 steps_have_known (Along b ∷ ss) = has_known_states b && steps_have_known ss
-steps_have_known (Nest span ps ∷ ss) = inners_have_known ps && steps_have_known ss
+steps_have_known (Nest ps ∷ ss) = inners_have_known ps && steps_have_known ss
 steps_have_known (Pairs b ∷ ss) = has_known_states b && steps_have_known ss
 steps_have_known (Alternate t ∷ ss) = all_turns has_known_states t && steps_have_known ss
+steps_have_known (Flowed f ∷ ss) = all_flow has_known_states f && steps_have_known ss
 
 -- each body with states is one of those that hold states, and finds the states that it reads
 abbrev pub keeps_states : List (StepOf Block) → Bool

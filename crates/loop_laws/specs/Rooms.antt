@@ -8,11 +8,11 @@ use Rattle.loop_ir.specs.declared.ir.Space.TheVariants.{Source, Cells}
 use Rattle.loop_ir.specs.declared.ir.Sub.{Sub}
 use Rattle.loop_ir.specs.declared.ir.Sub.TheVariants as sub
 use Rattle.loop_ir.specs.declared.ir.Count.{Count}
-use Rattle.loop_ir.specs.declared.ir.Count.TheVariants.{All, Rest, UpTo}
+use Rattle.loop_ir.specs.declared.ir.Count.TheVariants.{All, Rest}
 use Rattle.loop_ir.specs.declared.ir.Place.{Place}
-use Rattle.loop_ir.specs.Plain.{Block, LevelOf, InnerOf, StepOf, step_map, all_turns}
-use Rattle.loop_ir.specs.Plain.InnerOf.{Alone, Across, AtLevel}
-use Rattle.loop_ir.specs.Plain.StepOf.{Single, Along, Nest, Pairs, Alternate}
+use Rattle.loop_ir.specs.Plain.{Block, InnerOf, StepOf, step_map, all_turns}
+use Rattle.loop_ir.specs.Plain.InnerOf.{Alone, Across}
+use Rattle.loop_ir.specs.Plain.StepOf.{Single, Along, Nest, Pairs, Alternate, Flowed}
 use Rattle.loop_ir.specs.Spots.{Spot, spot_in, IsOwn}
 use Rattle.loop_ir.specs.Costs.{sub_code}
 
@@ -105,14 +105,11 @@ pub record RoomsApart (n : ℕ) (rooms : List Room) : Type 0 where
   pub own : (k : ℕ) → k < length rooms → (room_at rooms k).written ≡ true
       → IsOwn (room_at rooms k).space
 
--- how far the inner index goes: there is none, up to n, up to what is left of the outer index, up
--- to the outer index itself, or over the pairs of a level's elements
+-- how far the inner index goes: there is none, up to n, or up to what is left of the outer index
 pub data Reach : Type 0 where
   Nowhere : Reach
   Whole : Reach
   Left : Reach
-  Below : Reach
-  Paired : Reach
 
 -- an owner with a row at each position of a word
 abbrev pub is_long : Extent → Bool
@@ -124,32 +121,12 @@ abbrev pub has_inner : Reach → Bool
 has_inner Nowhere = false
 has_inner Whole = true
 has_inner Left = true
-has_inner Below = true
-has_inner Paired = true
 
 -- the inner positions are those that are left of the outer one
 abbrev pub is_left : Reach → Bool
 is_left Nowhere = false
 is_left Whole = false
 is_left Left = true
-is_left Below = false
-is_left Paired = false
-
--- no inner position is above the outer one
-abbrev pub is_below : Reach → Bool
-is_below Nowhere = false
-is_below Whole = false
-is_below Left = false
-is_below Below = true
-is_below Paired = false
-
--- the inner positions are those of the pairs of a level's elements
-abbrev pub is_paired : Reach → Bool
-is_paired Nowhere = false
-is_paired Whole = false
-is_paired Left = false
-is_paired Below = false
-is_paired Paired = true
 
 -- the subscript stays within so many rows: no owner has the rows from n on
 abbrev pub fits : Reach → Bool → Extent → Sub → Bool
@@ -160,18 +137,15 @@ fits r outer w sub.InnerDown = is_long w && has_inner r
 fits r outer w sub.Outer = is_long w && outer
 fits r outer w sub.OuterDown = is_long w && outer
 fits r outer w sub.Sum = is_long w && (outer && is_left r)
-fits r outer w sub.DownSum = is_long w && (outer && is_below r)
+fits r outer w sub.DownSum = false
 fits r outer w sub.DownPlusN = false
 fits r outer w sub.NPlusInner = false
-fits r outer w sub.SumTwice = is_long w && (outer && is_paired r)
-fits r outer w sub.AboveSumTwice = is_long w && (outer && is_paired r)
-fits r outer w sub.AboveSum = is_long w && (outer && is_paired r)
+fits r outer w (sub.Register k) = false
 
 -- how far the positions of a nest's part go
 abbrev pub reach_of : Count → Reach
 reach_of All = Whole
 reach_of Rest = Left
-reach_of UpTo = Below
 
 -- there is such an owner among so many
 abbrev pub is_there : Owner → ℕ → Bool
@@ -206,25 +180,19 @@ abbrev pub body_fits : Reach → Bool → List Room → Marked → Bool
 body_fits r outer rooms b = all_fit r outer rooms b.reads
     && (all_fit r outer rooms b.writes && writes_fit rooms b.reads b.writes)
 
--- the test of a level's bodies
-abbrev pub level_fits : List Room → LevelOf Marked → Bool
-level_fits rooms l = body_fits Nowhere true rooms l.none
-    && (body_fits Nowhere true rooms l.odd && (body_fits Nowhere true rooms l.even
-    && (body_fits Paired true rooms l.first && (body_fits Paired true rooms l.second
-    && body_fits Nowhere true rooms l.end))))
-
 -- the test of a nest's bodies
 abbrev pub inners_fit : List Room → List (InnerOf Marked) → Bool
 inners_fit rooms [] = true
 inners_fit rooms (Alone b ∷ ps) = body_fits Nowhere true rooms b && inners_fit rooms ps
 inners_fit rooms (Across c b ∷ ps) = body_fits (reach_of c) true rooms b && inners_fit rooms ps
-inners_fit rooms (AtLevel l ∷ ps) = level_fits rooms l && inners_fit rooms ps
 
--- the test of a loop program's bodies: it is run once on each written program
+-- the test of a loop program's bodies: it is run once on each written program; none with a flow
+-- is written so
 abbrev pub steps_fit : List Room → List (StepOf Marked) → Bool
 steps_fit rooms [] = true
 steps_fit rooms (Single b ∷ ss) = body_fits Nowhere false rooms b && steps_fit rooms ss
 steps_fit rooms (Along b ∷ ss) = body_fits Whole false rooms b && steps_fit rooms ss
-steps_fit rooms (Nest span ps ∷ ss) = inners_fit rooms ps && steps_fit rooms ss
+steps_fit rooms (Nest ps ∷ ss) = inners_fit rooms ps && steps_fit rooms ss
 steps_fit rooms (Pairs b ∷ ss) = body_fits Left true rooms b && steps_fit rooms ss
 steps_fit rooms (Alternate t ∷ ss) = all_turns (body_fits Whole false rooms) t && steps_fit rooms ss
+steps_fit rooms (Flowed f ∷ ss) = false

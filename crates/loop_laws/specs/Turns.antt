@@ -37,11 +37,11 @@ turned origins values stands start (suc i) = values
 
 -- the row of read k at a position
 abbrev pub read_spot : ℕ → ℕ → Block → ℕ → ℕ → Spot
-read_spot n o b i k = nth_spot n i o b.reads k
+read_spot n o b i k = nth_spot n i o [] b.reads k
 
 -- the row of write w at a position
 abbrev pub write_spot : ℕ → ℕ → Block → ℕ → ℕ → Spot
-write_spot n o b i w = nth_spot n i o b.writes w
+write_spot n o b i w = nth_spot n i o [] b.writes w
 
 -- what output w has given after i positions, from the bits at the start
 abbrev pub turn : ℕ → ℕ → Block → List Origin → Spots → ℕ → ℕ → Bool

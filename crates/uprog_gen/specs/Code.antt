@@ -1,7 +1,7 @@
 -- The code of a loop program, each of whose bodies has its commands.
 -- Private contracts alone speak of this.
-use Rattle.std.specs.Prelude.{◌≡◌, ℕ, ◌+◌, ◌||◌, Bool, true, if◌then◌else◌, List, [], ◌∷◌, ◌++◌}
-use Rattle.std.specs.Prelude.{map, length, filter, slice_index_or}
+use Rattle.std.specs.Prelude.{◌≡◌, ℕ, ◌+◌, ◌||◌, Bool, true, false, if◌then◌else◌, List, [], ◌∷◌}
+use Rattle.std.specs.Prelude.{◌++◌, map, length, filter, nat_lt, slice_index_or}
 use Rattle.uprog_code.specs.declared.code.RowSpace.{RowSpace}
 use Rattle.uprog_code.specs.declared.code.RowSpace.TheVariants as row
 use Rattle.uprog_code.specs.declared.code.RowRef.{RowRef}
@@ -13,25 +13,23 @@ use Rattle.row_alloc.specs.declared.body.BodyRef.TheVariants as ref
 use Rattle.row_alloc.specs.declared.body.BodyCmd.{BodyCmd}
 use Rattle.row_alloc.specs.declared.body.BodyCmd.TheVariants as cmd
 use Rattle.row_alloc.specs.declared.body.OutRow.{OutRow}
-use Rattle.loop_ir.specs.declared.ir.Span.{Span}
-use Rattle.loop_ir.specs.declared.ir.Span.TheVariants.{Full, First, Above}
 use Rattle.loop_ir.specs.declared.ir.Sub.{Sub}
 use Rattle.loop_ir.specs.declared.ir.Sub.TheVariants.{Zero, Top, Inner as At_inner, InnerDown}
-use Rattle.loop_ir.specs.declared.ir.Sub.TheVariants.{Outer, OuterDown, Sum, DownSum, SumTwice}
-use Rattle.loop_ir.specs.declared.ir.Sub.TheVariants.{AboveSumTwice, AboveSum, DownPlusN}
-use Rattle.loop_ir.specs.declared.ir.Sub.TheVariants.{NPlusInner}
+use Rattle.loop_ir.specs.declared.ir.Sub.TheVariants.{Outer, OuterDown, Sum, DownSum, DownPlusN}
+use Rattle.loop_ir.specs.declared.ir.Sub.TheVariants.{NPlusInner, Register}
 use Rattle.loop_ir.specs.declared.ir.Space.{Space}
 use Rattle.loop_ir.specs.declared.ir.Space.TheVariants.{Result, Source, ScratchBit, ScratchWord}
 use Rattle.loop_ir.specs.declared.ir.Space.TheVariants.{Cells}
 use Rattle.loop_ir.specs.declared.ir.Place.{Place}
 use Rattle.loop_ir.specs.declared.ir.Count.{Count}
-use Rattle.loop_ir.specs.declared.ir.Count.TheVariants.{All, Rest, UpTo}
+use Rattle.loop_ir.specs.declared.ir.Count.TheVariants.{All, Rest}
 use Rattle.uprog_gen.specs.declared.plan.Plan.{Plan}
 use Rattle.loop_ir.specs.Plain.{Block, InnerOf, TurnOf, StepOf, step_map}
-use Rattle.loop_ir.specs.Plain.InnerOf.{Alone, Across, AtLevel}
-use Rattle.loop_ir.specs.Plain.StepOf.{Single, Along, Nest, Pairs, Alternate}
+use Rattle.loop_ir.specs.Plain.InnerOf.{Alone, Across}
+use Rattle.loop_ir.specs.Plain.StepOf.{Single, Along, Nest, Pairs, Alternate, Flowed}
 use Rattle.loop_ir.specs.Spots.{nth_place}
 use Rattle.loop_ir.specs.Costs.{same_sub, is_used, is_fixed}
+use Rattle.uprog_gen.specs.FlowCode.{code_of}
 
 -- a body, which subscripts its registers hold, its outputs with the inputs whose rows they share,
 -- and its commands
@@ -51,16 +49,8 @@ row_space Cells = row.ScratchBit
 
 -- Registers 0 and 1 hold o and n - 1 - o, and 2 counts an inner loop down. The other subscripts
 -- that a body uses have registers 3 to 5
-abbrev pub plain_subs : List Sub
-plain_subs = Top ∷ At_inner ∷ InnerDown ∷ Sum ∷ DownSum ∷ DownPlusN ∷ NPlusInner ∷ []
-
--- those of the elements of a pair and of their carry
-abbrev pub pair_subs : List Sub
-pair_subs = SumTwice ∷ AboveSumTwice ∷ AboveSum ∷ []
-
--- all that have registers 3 to 5
 abbrev pub loop_subs : List Sub
-loop_subs = plain_subs ++ pair_subs
+loop_subs = Top ∷ At_inner ∷ InnerDown ∷ Sum ∷ DownSum ∷ DownPlusN ∷ NPlusInner ∷ []
 
 -- the subscripts of a body that need a register of its own; a plan has room for three
 abbrev pub own_subs : Block → List Sub
@@ -76,11 +66,40 @@ plan_of b = record {
   first = sub_in (own_subs b) 0;
   second = sub_in (own_subs b) 1;
   third = sub_in (own_subs b) 2;
+  named = false;
 }
 
--- the register of a subscript; 8 stands for the number 0
-abbrev pub register : Plan → Sub → ℕ
-register plan s =
+-- the subscript names a register of a flow
+abbrev pub is_register : Sub → Bool
+is_register Zero = false
+is_register Top = false
+is_register At_inner = false
+is_register InnerDown = false
+is_register Outer = false
+is_register OuterDown = false
+is_register Sum = false
+is_register DownSum = false
+is_register DownPlusN = false
+is_register NPlusInner = false
+is_register (Register r) = true
+
+-- the register that a subscript names; 8 stands for the number 0
+abbrev pub named_register : Sub → ℕ
+named_register Zero = 8
+named_register Top = 8
+named_register At_inner = 8
+named_register InnerDown = 8
+named_register Outer = 8
+named_register OuterDown = 8
+named_register Sum = 8
+named_register DownSum = 8
+named_register DownPlusN = 8
+named_register NPlusInner = 8
+named_register (Register r) = if nat_lt r 8 then r else 8
+
+-- the register of a subscript by the plan's three
+abbrev pub planned_register : Plan → Sub → ℕ
+planned_register plan s =
     if same_sub s Zero then 8
     else if same_sub s Outer then 0
     else if same_sub s OuterDown then 1
@@ -89,14 +108,20 @@ register plan s =
     else if same_sub s plan.third then 5
     else 8
 
--- the plan has the subscript, or it needs no register of the body's own
+-- the register of a subscript; 8 stands for the number 0
+abbrev pub register : Plan → Sub → ℕ
+register plan s = if plan.named then named_register s else planned_register plan s
+
+-- the plan has the subscript, or it needs no register of the body's own. One that names a register
+-- is 0 outside of flows
 abbrev pub is_planned : Plan → Sub → Bool
 is_planned plan s = same_sub s Zero || (same_sub s Outer
     || (same_sub s OuterDown || (same_sub s plan.first
-    || (same_sub s plan.second || same_sub s plan.third))))
+    || (same_sub s plan.second || (same_sub s plan.third || is_register s)))))
 
--- each place of the body is at 0 or has a register
+-- the plan has its own three, and each place of the body is at 0 or has one of their registers
 pub record IsPlanned (plan : Plan) (b : Block) : Type 0 where
+  pub own : plan.named ≡ false
   pub reads : (k : ℕ) → is_planned plan (nth_place b.reads k).sub ≡ true
   pub writes : (k : ℕ) → is_planned plan (nth_place b.writes k).sub ≡ true
 
@@ -141,9 +166,7 @@ init Sum r = Mov r 0 ∷ []
 init DownSum r = Mov r 1 ∷ []
 init DownPlusN r = SetN r ∷ Add r 1 ∷ []
 init NPlusInner r = SetN r ∷ []
-init SumTwice r = Mov r 0 ∷ []
-init AboveSumTwice r = Mov r 0 ∷ []
-init AboveSum r = Mov r 0 ∷ []
+init (Register q) r = SetI r 0 ∷ []
 
 -- before a turn
 abbrev pub before : Sub → ℕ → List Uop
@@ -157,9 +180,7 @@ before Sum r = []
 before DownSum r = []
 before DownPlusN r = []
 before NPlusInner r = []
-before SumTwice r = []
-before AboveSumTwice r = AddI r 1 ∷ []
-before AboveSum r = AddI r 1 ∷ []
+before (Register q) r = []
 
 -- after a turn
 abbrev pub after : Sub → ℕ → List Uop
@@ -167,22 +188,18 @@ after At_inner r = AddI r 1 ∷ []
 after Sum r = AddI r 1 ∷ []
 after DownSum r = AddI r 1 ∷ []
 after NPlusInner r = AddI r 1 ∷ []
-after SumTwice r = AddI r 2 ∷ []
-after AboveSumTwice r = AddI r 1 ∷ []
 after Zero r = []
 after Top r = []
 after InnerDown r = []
 after Outer r = []
 after OuterDown r = []
 after DownPlusN r = []
-after AboveSum r = []
+after (Register q) r = []
 
--- register 2 gets the number of turns: n, what is left of it at an outer position, or the positions
--- up to the outer one
+-- register 2 gets the number of turns: n, or what is left of it at an outer position
 abbrev pub counter : Count → List Uop
 counter All = SetN 2 ∷ []
 counter Rest = Mov 2 1 ∷ AddI 2 1 ∷ []
-counter UpTo = Mov 2 0 ∷ AddI 2 1 ∷ []
 
 -- the body's registers before its first turn
 abbrev pub inits : Plan → List Uop
@@ -217,84 +234,15 @@ abbrev pub loop_code : Count → Part → ℕ → List Uop
 loop_code count p pc = enter_code p.plan count
     ++ (turn_code p.plan (body_uops p) ++ (Bnez 2 (pc + length (enter_code p.plan count)) ∷ []))
 
--- two are taken away from register 6 for each that register 7 counts, as long as there are two; one
--- that is left makes register 5 a 1. Register 2 isn't 0, and serves to jump
-abbrev pub take_code : ℕ → List Uop
-take_code pc = SubI 6 1 ∷ Bnez 6 (pc + 10) ∷ SetI 5 1 ∷ Bnez 2 (pc + 13)
-    ∷ SubI 6 1 ∷ AddI 7 1 ∷ Bnez 6 (pc + 6) ∷ []
-
--- one turn of what halves register 6: it begins where that is tested
-abbrev pub halve_code : ℕ → List Uop
-halve_code pc = SetI 5 0 ∷ SetI 7 0 ∷ Bnez 2 (pc + 12) ∷ take_code pc
-
--- register 6 gets the number of pairs of elements at level o, and 5 whether one is left: n is
--- halved o + 1 times, which register 2 counts
-abbrev pub level_code : ℕ → List Uop
-level_code pc = Mov 2 0 ∷ AddI 2 1 ∷ SetN 6
-    ∷ (halve_code pc ++ (Mov 6 7 ∷ SubI 2 1 ∷ Bnez 2 (pc + 3) ∷ []))
-
--- a jump, by register 7
-abbrev pub leave_code : ℕ → List Uop
-leave_code to = SetI 7 1 ∷ Bnez 7 to ∷ []
-
--- where the register is 0, a jump past what comes next
-abbrev pub skip_code : ℕ → ℕ → ℕ → List Uop
-skip_code r pc end = Bnez r (pc + 3) ∷ leave_code end
-
--- the two bodies of a pair have three registers, for the elements and for their carry
-abbrev pub pair_plan : Plan
-pair_plan = record { first = SumTwice; second = AboveSumTwice; third = AboveSum }
-
--- the instructions of the commands of one of them
-abbrev pub pair_uops : Part → List Uop
-pair_uops p = map (code_uop pair_plan p.block) p.cmds
-
--- the loop over the pairs, where register 2 holds how many there are
-abbrev pub pairing_code : Part → Part → ℕ → List Uop
-pairing_code p q pc = inits pair_plan ++ (turn_code pair_plan (pair_uops p ++ pair_uops q)
-    ++ (Bnez 2 (pc + length (inits pair_plan)) ∷ []))
-
--- how a level begins, where these are the codes of what is done without elements, with an odd
--- number of them and with an even one: the first leads to the level's end, the second past the
--- third
-abbrev pub begin_code : List Uop → List Uop → List Uop → ℕ → ℕ → List Uop
-begin_code none odd even pc end =
-    let odd_at = pc + 4 + length none in
-    let even_at = odd_at + 2 + length odd in
-    Bnez 5 odd_at ∷ Bnez 6 even_at ∷ (none ++ (leave_code end
-    ++ (odd ++ (leave_code (even_at + length even) ++ even))))
-
--- how a level with elements goes on: the loop over its pairs, if there are any, and its end
-abbrev pub finish_code : Part → Part → List Uop → ℕ → List Uop
-finish_code p q last pc =
-    let pairing = pairing_code p q (pc + 4) in
-    Mov 2 6 ∷ (skip_code 2 (pc + 1) (pc + 4 + length pairing) ++ (pairing ++ last))
-
--- the code of a level whose bodies have these codes
-abbrev pub whole_code : List Uop → List Uop → List Uop → Part → Part → List Uop → ℕ → List Uop
-whole_code none odd even p q last pc =
-    let finish_at = pc + 22 + length none + length odd + length even in
-    let finish = finish_code p q last finish_at in
-    level_code pc ++ (begin_code none odd even (pc + 16) (finish_at + length finish) ++ finish)
-
--- what alone is done at a level without elements: at the first outer position there always is one
-abbrev pub none_code : Span → Part → List Uop
-none_code Full p = once_code p
-none_code First p = []
-none_code Above p = once_code p
-
--- a part of a nest at these outer positions, whose first instruction has this place
-abbrev pub inner_code : Span → InnerOf Part → ℕ → List Uop
-inner_code span (Alone p) pc = once_code p
-inner_code span (Across count p) pc = loop_code count p pc
-inner_code span (AtLevel l) pc = whole_code (none_code span l.none) (once_code l.odd)
-    (once_code l.even) l.first l.second (once_code l.end) pc
+-- a part of a nest, whose first instruction has this place
+abbrev pub inner_code : InnerOf Part → ℕ → List Uop
+inner_code (Alone p) pc = once_code p
+inner_code (Across count p) pc = loop_code count p pc
 
 -- the parts of a nest, one after another
-abbrev pub inner_list : Span → List (InnerOf Part) → ℕ → List Uop
-inner_list span [] pc = []
-inner_list span (x ∷ xs) pc = inner_code span x pc
-    ++ inner_list span xs (pc + length (inner_code span x pc))
+abbrev pub inner_list : List (InnerOf Part) → ℕ → List Uop
+inner_list [] pc = []
+inner_list (x ∷ xs) pc = inner_code x pc ++ inner_list xs (pc + length (inner_code x pc))
 
 -- an outer loop
 abbrev pub nest_code : (ℕ → List Uop) → ℕ → List Uop
@@ -315,22 +263,9 @@ abbrev pub pairs_code : Part → ℕ → List Uop
 pairs_code p pc = let q = pc + 1 + 1 + 1 + 1 + 1 in
     guard_code pc (q + length (loop_code Rest p q)) ++ loop_code Rest p q
 
--- an outer loop from the second position on
-abbrev pub above_code : (ℕ → List Uop) → ℕ → List Uop
-above_code inner pc =
-    let q = pc + 1 + 1 + 1 + 1 + 1 in
-    guard_code pc (q + length (inner q) + 1 + 1)
-    ++ (inner q ++ (AddI 0 1 ∷ Bnez 1 (pc + 1 + 1 + 1 + 1) ∷ []))
-
--- the parts of a nest at these outer positions
-abbrev pub span_code : Span → (ℕ → List Uop) → ℕ → List Uop
-span_code Full inner pc = nest_code inner pc
-span_code First inner pc = outside ++ inner (pc + 1 + 1)
-span_code Above inner pc = above_code inner pc
-
 -- bodies that take turns have one register for the position, and one for how many come after it
 abbrev pub turn_plan : Plan
-turn_plan = record { first = At_inner; second = Zero; third = InnerDown }
+turn_plan = record { first = At_inner; second = Zero; third = InnerDown; named = false }
 
 -- the instructions of the commands of one of them
 abbrev pub turn_uops : Part → List Uop
@@ -366,15 +301,28 @@ cycle_code ts pc =
     let turns = turns_list ts out head in
     start_code head (head + length turns + 1) ++ (turns ++ (Bnez 4 head ∷ []))
 
+-- the subscripts of a flow's bodies name their registers
+abbrev pub flow_plan : Plan
+flow_plan = record { first = Zero; second = Zero; third = Zero; named = true }
+
+-- the instructions of the commands of one of them
+abbrev pub flow_uops : Part → List Uop
+flow_uops p = map (code_uop flow_plan p.block) p.cmds
+
+-- before a flow its registers get 0
+abbrev pub clear_code : List Uop
+clear_code = SetI 0 0 ∷ SetI 1 0 ∷ SetI 2 0 ∷ SetI 3 0 ∷ SetI 4 0 ∷ SetI 5 0 ∷ SetI 6 0 ∷ []
+
 -- the code of a step, whose first instruction has this place
 abbrev pub step_code : StepOf Part → ℕ → List Uop
 step_code (Single p) pc = if is_fixed p.block then body_uops p else outside ++ once_code p
 step_code (Along p) pc = outside ++ loop_code All p (pc + 1 + 1)
-step_code (Nest span []) pc = []
-step_code (Nest span (x ∷ xs)) pc = span_code span (inner_list span (x ∷ xs)) pc
+step_code (Nest []) pc = []
+step_code (Nest (x ∷ xs)) pc = nest_code (inner_list (x ∷ xs)) pc
 step_code (Pairs p) pc = pairs_code p pc
 step_code (Alternate []) pc = []
 step_code (Alternate (t ∷ ts)) pc = cycle_code (t ∷ ts) pc
+step_code (Flowed f) pc = clear_code ++ code_of flow_uops f (pc + 7)
 
 -- the code of the steps, whose first instruction has this place
 abbrev pub program_code : List (StepOf Part) → ℕ → List Uop

@@ -2,43 +2,20 @@
 -- Private contracts alone speak of this.
 use Rattle.std.specs.Prelude.{◌≡◌, ℕ, List, ◌++◌, length, map}
 use Rattle.uprog_code.specs.declared.code.Uop.{Uop}
-use Rattle.loop_ir.specs.declared.ir.Span.{Span}
-use Rattle.loop_ir.specs.Plain.{Block, LevelOf, InnerOf, TurnOf, StepOf, inner_map, turn_map}
+use Rattle.loop_ir.specs.Plain.{Block, InnerOf, TurnOf, StepOf, inner_map, turn_map}
 use Rattle.loop_ir.specs.Plain.{AllInner, AllTurns, AllParts}
-use Rattle.uprog_gen.specs.declared.part.Made.{Made}
-use Rattle.uprog_gen.specs.declared.level.Singles.{Singles}
-use Rattle.uprog_gen.specs.Code.{Part, block_of_part, blocks, once_code, none_code, inner_list}
-use Rattle.uprog_gen.specs.Code.{turns_list}
+use Rattle.loop_ir.specs.Flows.{FlowOf, TurnsOf, flow_map, acts_map, AllFlow, AllActs}
+use Rattle.uprog_gen.specs.Code.{Part, block_of_part, blocks, inner_list, turns_list, flow_uops}
 use Rattle.uprog_gen.specs.Code.{program_code}
-use Rattle.uprog_gen.specs.Made.{part_of}
+use Rattle.uprog_gen.specs.FlowCode.{code_of, turns_code}
 use Rattle.uprog_gen.specs.Parts.{IsPart}
 
--- the code of a body that is done once, with right commands for it
-pub record OnceOf (b : Block) (code : List Uop) : Type 0 where
-  pub made : Made
-  pub right : IsPart (part_of b made)
-  pub is : code ≡ once_code (part_of b made)
-
--- the code of what is done at a level without elements
-pub record NoneOf (span : Span) (b : Block) (code : List Uop) : Type 0 where
-  pub made : Made
-  pub right : IsPart (part_of b made)
-  pub is : code ≡ none_code span (part_of b made)
-
--- the codes of those bodies of a level that stand in no loop
-pub record AreSingles (span : Span) (l : LevelOf Block) (s : Singles) : Type 0 where
-  pub none : NoneOf span l.none s.none.items
-  pub odd : OnceOf l.odd s.odd.items
-  pub even : OnceOf l.even s.even.items
-  pub end : OnceOf l.end s.end.items
-
--- the code of these inner steps, at these outer positions, came to the old code, with right
--- commands for each body
-pub record EmitsInner (span : Span) (xs : List (InnerOf Block)) (old new : List Uop) : Type 0 where
+-- the code of these inner steps came to the old code, with right commands for each body
+pub record EmitsInner (xs : List (InnerOf Block)) (old new : List Uop) : Type 0 where
   pub coded : List (InnerOf Part)
   pub same : map (inner_map block_of_part) coded ≡ xs
   pub parts : AllInner IsPart coded
-  pub code : new ≡ old ++ inner_list span coded (length old)
+  pub code : new ≡ old ++ inner_list coded (length old)
 
 -- the code of bodies that take turns came to the old code, with right commands for each body and
 -- jumps to this place
@@ -47,6 +24,28 @@ pub record EmitsTurns (ts : List (TurnOf Block)) (out : ℕ) (old new : List Uop
   pub same : map (turn_map block_of_part) coded ≡ ts
   pub parts : AllTurns IsPart coded
   pub code : new ≡ old ++ turns_list coded out (length old)
+
+-- the code of a body of a flow came to the old code, with right commands for it
+pub record EmitsBody (b : Block) (old new : List Uop) : Type 0 where
+  pub made : Part
+  pub right : IsPart made
+  pub same : made.block ≡ b
+  pub code : new ≡ old ++ flow_uops made
+
+-- the code of a flow came to the old code, with right commands for each body
+pub record EmitsFlow (x : FlowOf Block) (old new : List Uop) : Type 0 where
+  pub coded : FlowOf Part
+  pub same : flow_map block_of_part coded ≡ x
+  pub parts : AllFlow IsPart coded
+  pub code : new ≡ old ++ code_of flow_uops coded (length old)
+
+-- the code of a loop's turns came to the old code, with right commands for each body and jumps to
+-- these two places
+pub record EmitsActs (r top out : ℕ) (ts : TurnsOf Block) (old new : List Uop) : Type 0 where
+  pub coded : TurnsOf Part
+  pub same : acts_map block_of_part coded ≡ ts
+  pub parts : AllActs IsPart coded
+  pub code : new ≡ old ++ turns_code flow_uops r top out coded (length old)
 
 -- the code of these steps came to the old code, with right commands for each body
 pub record EmitsSteps (steps : List (StepOf Block)) (old new : List Uop) : Type 0 where

@@ -15,7 +15,7 @@ use Rattle.mig_graph.specs.Reduced.{IsReduced}
 use Rattle.uprog_code.specs.Machine.{trace, issues_of}
 use Rattle.uprog_code.specs.Shape.{Microprogram}
 use Rattle.loop_ir.specs.Plain.{Block as Body, TurnOf, StepOf}
-use Rattle.loop_ir.specs.Plain.StepOf.{Single, Along, Nest, Pairs, Alternate}
+use Rattle.loop_ir.specs.Plain.StepOf.{Single, Along, Nest, Pairs, Alternate, Flowed}
 use Rattle.block_lower.specs.Inputs.{block_inputs, name_at}
 use Rattle.uprog_gen.specs.Costs.{op_aaps, op_aps}
 use Rattle.uprog_gen.specs.Totals.{IsExact}
@@ -108,9 +108,10 @@ turns_graph (t ∷ ts) = later (body_graph t.each ∷ []) (turns_graph ts)
 abbrev pub step_graph : StepOf Body → List Graphed
 step_graph (Single b) = []
 step_graph (Along b) = body_graph b ∷ []
-step_graph (Nest span parts) = []
+step_graph (Nest parts) = []
 step_graph (Pairs b) = []
 step_graph (Alternate ts) = turns_graph ts
+step_graph (Flowed f) = []
 
 -- the graph of the last of the steps that does one at each position
 abbrev pub last_graph : List (StepOf Body) → List Graphed

@@ -1,6 +1,7 @@
 -- From operations to microprograms: the code of loop programs, what it does, and where the names of
 -- an operation lie.
 pub mod Where
+pub mod FlowCode
 pub mod Code
 pub mod Parts
 pub mod Does

@@ -12,8 +12,8 @@ use Rattle.loop_ir.specs.Plain.{StepOf, Block}
 use Rattle.loop_ir.specs.Statements.{Slots}
 use Rattle.loop_ir.specs.Lowered.{IsLowered}
 use Rattle.word_lower.specs.Forms.{HasForm, IsWritten}
-use Rattle.word_mul.specs.Programs.{is_nested_statement}
-use Rattle.word_mul.specs.Places.{IsNestWritten}
+use Rattle.word_flow.specs.Programs.{is_flow_statement}
+use Rattle.word_flow.specs.Places.{IsFlowWritten}
 use Rattle.uprog_gen.specs.Does.{DoesRounds, joined}
 use Rattle.uprog_gen.specs.Layout.{IsLayout}
 
@@ -35,8 +35,8 @@ HaveForms slots (s ∷ body) (p ∷ ps) = HasForm slots s p × HaveForms slots b
 -- the program of a word operation is its written one
 pub record IsAsWritten (slots : Slots) (free_bit free_word : ℕ) (s : Statement)
     (p : List (StepOf Block)) : Type 0 where
-  pub nested : is_nested_statement s ≡ true → IsNestWritten slots free_bit free_word s p
-  pub linear : is_nested_statement s ≡ false → IsWritten slots free_bit s p
+  pub flow : is_flow_statement s ≡ true → IsFlowWritten slots free_bit free_word s p
+  pub linear : is_flow_statement s ≡ false → IsWritten slots free_bit s p
 
 -- so it is of each statement
 abbrev pub AreWritten : Slots → ℕ → ℕ → List Statement → List (List (StepOf Block)) → Type 0
@@ -62,18 +62,28 @@ pub record HasParts (count : ℕ) (head : Shape) (statements : List (List (StepO
   pub each : (k n : ℕ) → 0 < n → n ≤ WIDTH_MAX
       → DoesRounds head n (joined (take k statements)) (together (take k parts) ++ Done ∷ [])
 
--- An operation's entry: it does the operation, its code is legal, and over the places of the names
--- each statement has a loop program that does it, and a part of the code that does its rounds
-pub record IsCompiled (e : Microprogram) (op : Operation) : Type 0 where
+-- An operation's entry over these places of the names and these loop programs of the statements:
+-- it does the operation, its code is legal, each loop program does its statement, and a part of the
+-- code does its rounds
+pub record IsCompiledFrom (e : Microprogram) (op : Operation) (slots : Slots)
+    (free_bit free_word : ℕ) (statements : List (List (StepOf Block))) : Type 0 where
   pub does : EntryDoes e (text_op op)
   pub legal : IsLegalCode e.shape e.code
+  pub laid : IsLayout op slots free_bit free_word
+  pub lowered : AreLowered slots free_bit free_word op.body statements
+  pub parts : HasParts (length op.body) e.shape statements e.code
+
+-- An operation's entry: so it is over loop programs of which each block's is its states' starts
+-- and the graph that was taken, with the commands found for it, and each word operation's is its
+-- written one
+pub record IsCompiled (e : Microprogram) (op : Operation) : Type 0 where
   pub slots : Slots
   pub free_bit : ℕ
   pub free_word : ℕ
-  pub laid : IsLayout op slots free_bit free_word
   pub statements : List (List (StepOf Block))
-  pub lowered : AreLowered slots free_bit free_word op.body statements
-  pub parts : HasParts (length op.body) e.shape statements e.code
+  pub from : IsCompiledFrom e op slots free_bit free_word statements
+  pub forms : HaveForms slots op.body statements
+  pub written : AreWritten slots free_bit free_word op.body statements
 
 -- an entry for each operation, in order
 abbrev pub AreCompiled : List Microprogram → List Operation → Type 0

@@ -5,9 +5,8 @@ use Rattle.std.specs.Prelude.{◌≡◌, ℕ, ◌+◌, Bool, true, false, ◌||�
 use Rattle.std.specs.Prelude.{sum_by, count_by, Option, Some, None}
 use Rattle.uprog_code.specs.declared.walker.Counts.{Counts}
 use Rattle.row_alloc.specs.declared.body.BodyCmd.{BodyCmd}
-use Rattle.row_alloc.specs.declared.body.BodyCmd.TheVariants.{Aap, Ap}
-use Rattle.row_alloc.specs.Known.{known_at, WordBody, Inverted, Both, Either, Without, Unlike}
-use Rattle.row_alloc.specs.Known.{Chosen, Added, Counted, inputs_in, nodes_in, outs_in}
+use Rattle.row_alloc.specs.Known.{known_at, WordBody, Inverted, Both, Either, Unlike}
+use Rattle.row_alloc.specs.Known.{Chosen, Added, inputs_in, nodes_in, outs_in}
 use Rattle.row_alloc.specs.Known.{sequence_for}
 use Rattle.row_alloc.specs.HeldBodies.{HeldBody, held_at, held_sequence_for}
 use Rattle.loop_ir.specs.Plain.{Block}
@@ -15,16 +14,7 @@ use Rattle.loop_ir.specs.Loops.{RoundOf}
 use Rattle.loop_ir.specs.Same.{is_body}
 use Rattle.loop_ir.specs.States.{has_states, held_of}
 use Rattle.loop_ir.specs.Costs.{carries, is_copy}
-
--- the command copies a row, and counts as an AAP
-abbrev pub is_aap : BodyCmd → Bool
-is_aap (Aap x y) = true
-is_aap (Ap x) = false
-
--- the command activates a triple alone, and counts as an AP
-abbrev pub is_ap : BodyCmd → Bool
-is_ap (Aap x y) = false
-is_ap (Ap x) = true
+use Rattle.word_flow.specs.Coded.{is_aap, is_ap}
 
 -- the body is this one of the word operations, node for node
 abbrev pub is_word_body : WordBody → Block → Bool
@@ -37,8 +27,7 @@ word_among (w ∷ ws) b = if is_word_body w b then Some w else word_among ws b
 
 -- which body of the word operations it is
 abbrev pub word_of : Block → Option WordBody
-word_of b = word_among (Inverted ∷ Both ∷ Either ∷ Without ∷ Unlike ∷ Chosen ∷ Added ∷ Counted
-    ∷ []) b
+word_of b = word_among (Inverted ∷ Both ∷ Either ∷ Unlike ∷ Chosen ∷ Added ∷ []) b
 
 -- the known sequence of a body of the word operations
 abbrev pub word_commands : Option WordBody → List BodyCmd

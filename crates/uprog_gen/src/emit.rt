@@ -7,8 +7,7 @@ ghost use Rattle.loop_ir.specs.Plain.{block_of};
 ghost use Rattle.loop_ir.specs.Costs.{body_cost};
 ghost use Rattle.uprog_gen.specs.Code.{row_space, index_in, place_ref, code_ref, code_uop, init};
 ghost use Rattle.uprog_gen.specs.Code.{before, after, inits, befores, afters};
-ghost use Rattle.uprog_gen.specs.Code.{counter, body_uops, take_code, halve_code, level_code};
-ghost use Rattle.uprog_gen.specs.Code.{leave_code, skip_code, pairing_code};
+ghost use Rattle.uprog_gen.specs.Code.{counter, body_uops};
 ghost use Rattle.uprog_gen.specs.Code.{once_code, turn_code, enter_code, loop_code, guard_code};
 ghost use Rattle.uprog_gen.specs.Code.{pairs_code, start_code, either_code};
 ghost use Rattle.uprog_gen.specs.Made.{part_of, is_ref_of, are_refs_of};
@@ -93,7 +92,12 @@ fn uop_of(plan: Plan, body: &Body, cmd: BodyCmd) -> Uop
 }
 
 /// The body's commands, where registers hold these subscripts.
-fn push_commands(code: &mut Vec<Uop>, plan: Plan, body: &Body, made: &Made) -> Result<(), NoMemory>
+pub fn push_commands(
+    code: &mut Vec<Uop>,
+    plan: Plan,
+    body: &Body,
+    made: &Made,
+) -> Result<(), NoMemory>
     requires { IsPart (part_of (block_of body.now) made.now) }
     ensures { OnOk result (code.new.items ≡ code.old.items
         ++ map (code_uop plan (block_of body.now)) made.now.cmds.items) }
@@ -119,10 +123,9 @@ fn push_init(code: &mut Vec<Uop>, sub: Sub, r: u8) -> Result<(), NoMemory>
     match sub {
         Sub::Zero | Sub::Outer | Sub::OuterDown => Ok(()),
         Sub::Top => keep(code, Uop::SetT(r)),
-        Sub::Inner => keep(code, Uop::SetI(r, 0)),
+        Sub::Inner | Sub::Register(_) => keep(code, Uop::SetI(r, 0)),
         Sub::InnerDown => keep(code, Uop::SetN(r)),
-        Sub::Sum | Sub::SumTwice => keep(code, Uop::Mov(r, 0)),
-        Sub::AboveSumTwice | Sub::AboveSum => keep(code, Uop::Mov(r, 0)),
+        Sub::Sum => keep(code, Uop::Mov(r, 0)),
         Sub::DownSum => keep(code, Uop::Mov(r, 1)),
         Sub::NPlusInner => keep(code, Uop::SetN(r)),
         Sub::DownPlusN => {
@@ -137,10 +140,9 @@ fn push_before(code: &mut Vec<Uop>, sub: Sub, r: u8) -> Result<(), NoMemory>
 {
     match sub {
         Sub::InnerDown => keep(code, Uop::SubI(r, 1)),
-        Sub::AboveSumTwice | Sub::AboveSum => keep(code, Uop::AddI(r, 1)),
         Sub::Zero | Sub::Outer | Sub::OuterDown | Sub::Top | Sub::Inner => Ok(()),
         Sub::Sum | Sub::DownSum | Sub::DownPlusN => Ok(()),
-        Sub::NPlusInner | Sub::SumTwice => Ok(()),
+        Sub::NPlusInner | Sub::Register(_) => Ok(()),
     }
 }
 
@@ -152,14 +154,12 @@ fn push_after(code: &mut Vec<Uop>, sub: Sub, r: u8) -> Result<(), NoMemory>
         Sub::Sum => keep(code, Uop::AddI(r, 1)),
         Sub::DownSum => keep(code, Uop::AddI(r, 1)),
         Sub::NPlusInner => keep(code, Uop::AddI(r, 1)),
-        Sub::SumTwice => keep(code, Uop::AddI(r, 2)),
-        Sub::AboveSumTwice => keep(code, Uop::AddI(r, 1)),
-        Sub::Zero | Sub::Top | Sub::InnerDown => Ok(()),
-        Sub::Outer | Sub::OuterDown | Sub::DownPlusN | Sub::AboveSum => Ok(()),
+        Sub::Zero | Sub::Top | Sub::InnerDown | Sub::Register(_) => Ok(()),
+        Sub::Outer | Sub::OuterDown | Sub::DownPlusN => Ok(()),
     }
 }
 
-pub fn push_inits(code: &mut Vec<Uop>, plan: Plan) -> Result<(), NoMemory>
+fn push_inits(code: &mut Vec<Uop>, plan: Plan) -> Result<(), NoMemory>
     ensures { OnOk result (code.new.items ≡ code.old.items ++ inits plan) }
 {
     push_init(code, plan.first, 3)?;
@@ -167,7 +167,7 @@ pub fn push_inits(code: &mut Vec<Uop>, plan: Plan) -> Result<(), NoMemory>
     push_init(code, plan.third, 5)
 }
 
-pub fn push_befores(code: &mut Vec<Uop>, plan: Plan) -> Result<(), NoMemory>
+fn push_befores(code: &mut Vec<Uop>, plan: Plan) -> Result<(), NoMemory>
     ensures { OnOk result (code.new.items ≡ code.old.items ++ befores plan) }
 {
     push_before(code, plan.first, 3)?;
@@ -192,10 +192,6 @@ fn push_counter(code: &mut Vec<Uop>, count: Count) -> Result<(), NoMemory>
             keep(code, Uop::Mov(2, 1))?;
             keep(code, Uop::AddI(2, 1))
         }
-        Count::UpTo => {
-            keep(code, Uop::Mov(2, 0))?;
-            keep(code, Uop::AddI(2, 1))
-        }
     }
 }
 
@@ -205,47 +201,6 @@ fn push_enter(code: &mut Vec<Uop>, plan: Plan, count: Count) -> Result<(), NoMem
 {
     push_counter(code, count)?;
     push_inits(code, plan)
-}
-
-/// The code that counts pairs, in the code of a level whose first instruction has this place.
-fn push_taking(code: &mut Vec<Uop>, pc: u16) -> Result<(), NoMemory>
-    requires { pc + 16 < 2 ^ 16 }
-    ensures { OnOk result (code.new.items ≡ code.old.items ++ take_code pc) }
-{
-    keep(code, Uop::SubI(6, 1))?;
-    keep(code, Uop::Bnez(6, pc + 10))?;
-    keep(code, Uop::SetI(5, 1))?;
-    keep(code, Uop::Bnez(2, pc + 13))?;
-    keep(code, Uop::SubI(6, 1))?;
-    keep(code, Uop::AddI(7, 1))?;
-    keep(code, Uop::Bnez(6, pc + 6))
-}
-
-/// One turn of the code of a level: a number is halved.
-fn push_halving(code: &mut Vec<Uop>, pc: u16) -> Result<(), NoMemory>
-    requires { pc + 16 < 2 ^ 16 }
-    ensures { OnOk result (code.new.items ≡ code.old.items ++ halve_code pc) }
-{
-    keep(code, Uop::SetI(5, 0))?;
-    keep(code, Uop::SetI(7, 0))?;
-    keep(code, Uop::Bnez(2, pc + 12))?;
-    push_taking(code, pc)?;
-    Ok(())
-}
-
-/// The code that finds how many pairs of elements a level has, and whether one is left.
-pub fn push_level(code: &mut Vec<Uop>) -> Result<(), NoMemory>
-    requires { length code.old.items + 32 < 2 ^ 16 }
-    ensures { OnOk result (code.new.items ≡ code.old.items ++ level_code (length code.old.items)) }
-{
-    let pc = code.len() as u16;
-    push_counter(code, Count::UpTo)?;
-    keep(code, Uop::SetN(6))?;
-    push_halving(code, pc)?;
-    keep(code, Uop::Mov(6, 7))?;
-    keep(code, Uop::SubI(2, 1))?;
-    keep(code, Uop::Bnez(2, pc + 3))?;
-    Ok(())
 }
 
 /// A turn of a loop, up to the jump.
@@ -289,59 +244,8 @@ pub fn push_loop(
     keep(code, Uop::Bnez(2, top))
 }
 
-/// A jump, by register 7.
-pub fn push_leave(code: &mut Vec<Uop>, to: u16) -> Result<(), NoMemory>
-    ensures { OnOk result (code.new.items ≡ code.old.items ++ leave_code to) }
-{
-    keep(code, Uop::SetI(7, 1))?;
-    keep(code, Uop::Bnez(7, to))
-}
-
-/// A jump past what comes next, where a register is 0.
-pub fn push_skip(code: &mut Vec<Uop>, r: u8, end: u16) -> Result<(), NoMemory>
-    requires { length code.old.items + 8 < 2 ^ 16 }
-    ensures { OnOk result (code.new.items ≡ code.old.items
-        ++ skip_code r (length code.old.items) end) }
-{
-    let next = code.len() as u16 + 3;
-    keep(code, Uop::Bnez(r, next))?;
-    push_leave(code, end)
-}
-
-/// The subscripts of the two bodies of a pair.
-const PAIR_PLAN: Plan = Plan {
-    first: Sub::SumTwice,
-    second: Sub::AboveSumTwice,
-    third: Sub::AboveSum,
-};
-
-/// The loop over the pairs of a level's elements.
-pub fn push_pairing(
-    code: &mut Vec<Uop>,
-    first: &Body,
-    first_made: &Made,
-    second: &Body,
-    second_made: &Made,
-) -> Result<(), NoMemory>
-    requires first { IsPart (part_of (block_of first.now) first_made.now) }
-    requires second { IsPart (part_of (block_of second.now) second_made.now) }
-    requires room { length code.old.items + 32 < 2 ^ 16 }
-    ensures { OnOk result (code.new.items ≡ code.old.items
-        ++ pairing_code (part_of (block_of first.now) first_made.now)
-        (part_of (block_of second.now) second_made.now) (length code.old.items)) }
-{
-    push_inits(code, PAIR_PLAN)?;
-    let top = code.len() as u16;
-    push_befores(code, PAIR_PLAN)?;
-    push_commands(code, PAIR_PLAN, first, first_made)?;
-    push_commands(code, PAIR_PLAN, second, second_made)?;
-    push_afters(code, PAIR_PLAN)?;
-    keep(code, Uop::SubI(2, 1))?;
-    keep(code, Uop::Bnez(2, top))
-}
-
 /// What stands before a loop that has no round at width 1 and ends at this place.
-pub fn push_guard(code: &mut Vec<Uop>, end: u16) -> Result<(), NoMemory>
+fn push_guard(code: &mut Vec<Uop>, end: u16) -> Result<(), NoMemory>
     requires { length code.old.items + 8 < 2 ^ 16 }
     ensures { OnOk result (code.new.items ≡ code.old.items
         ++ guard_code (length code.old.items) end) }
@@ -388,6 +292,7 @@ const TURN_PLAN: Plan = Plan {
     first: Sub::Inner,
     second: Sub::Zero,
     third: Sub::InnerDown,
+    named: false,
 };
 
 /// One of bodies that take turns, and the one that stands in its place at the top position.

@@ -31,8 +31,7 @@ fn step_graph(step: Step) -> Option<MigOuts>
     match step {
         Step::Each(body) => Some(body.into_graph()),
         Step::Alternate(turns) => turns_graph(turns),
-        Step::Nest(_) | Step::First(_) | Step::Above(_) => None,
-        Step::Once(_) | Step::Pairs(_) => None,
+        Step::Once(_) | Step::Nest(_) | Step::Pairs(_) | Step::Flow(_) => None,
     }
 }
 

@@ -3,10 +3,10 @@
 
 mod emit;
 mod entry;
+mod flow;
 mod graphs;
 mod head;
 mod layout;
-mod level;
 mod lowering;
 mod ops;
 mod part;

@@ -8,7 +8,7 @@ ghost use Rattle.loop_ir.specs.Statements.{slots_of, StatementMeets, IsPlaced};
 ghost use Rattle.loop_ir.specs.Lowered.{IsLowered};
 ghost use Rattle.uprog_gen.specs.Layout.{IsLayoutMap};
 ghost use Rattle.word_lower.specs.Forms.{HasForm};
-ghost use Rattle.word_mul.specs.Programs.{is_nested_statement};
+ghost use Rattle.word_flow.specs.Programs.{is_flow_statement};
 ghost use Rattle.uprog_gen.specs.Programs.{AreLowered, HaveForms, IsAsWritten, AreWritten};
 
 use crate::layout::lay_out;
@@ -18,20 +18,19 @@ use loop_ir::{LoopProgram, NameMap};
 use mig_graph::NoMemory;
 use op_text::{Op, Stmt, WordOp};
 use std::alloc::Global;
+use word_flow::lower_flow;
 use word_lower::lower_linear;
-use word_mul::lower_nested;
 
-/// Whether it is a word operation that takes nested loops.
-fn is_nested(s: &Stmt) -> bool
-    ensures { result ≡ is_nested_statement (statement s.now) }
+/// Whether it is a word operation that is a flow.
+fn is_flow(s: &Stmt) -> bool
+    ensures { result ≡ is_flow_statement (statement s.now) }
 {
     match s {
-        Stmt::Word { op, .. } => {
-            matches!(
-                op,
-                WordOp::Mul | WordOp::Div | WordOp::Rem | WordOp::Bitcount | WordOp::Divmod
-            )
-        }
+        Stmt::Word { op, .. } => match op {
+            WordOp::Mul | WordOp::Div | WordOp::Rem | WordOp::Divmod | WordOp::Bitcount => true,
+            WordOp::Abs | WordOp::Relu | WordOp::AndRed | WordOp::OrRed | WordOp::XorRed => true,
+            _ => false,
+        },
         Stmt::Serial { .. } => false,
     }
 }
@@ -47,8 +46,8 @@ fn lower_statement(s: &Stmt, names: &NameMap, alloc: Global) -> Result<LoopProgr
     ensures written { IfOk result (λ p. IsAsWritten (slots_of names.now) names.now.free_bit
         names.now.free_word (statement s.now) (steps_of p)) }
 {
-    if is_nested(s) {
-        lower_nested(s, names, alloc)
+    if is_flow(s) {
+        lower_flow(s, names, alloc)
     } else {
         lower_linear(s, names, alloc)
     }

@@ -18,7 +18,8 @@ ghost use Rattle.uprog_gen.specs.Settled.{IsSettled, rounds_counts};
 ghost use Rattle.uprog_gen.specs.Totals.{AreExact};
 ghost use Rattle.uprog_gen.specs.Graphs.{graphed_of, AddsGraphs, AreGraphed};
 ghost use Rattle.uprog_gen.specs.Layout.{IsLayoutMap};
-ghost use Rattle.uprog_gen.specs.Programs.{AreLowered, IsCompiled, AreCompiled};
+ghost use Rattle.uprog_gen.specs.Programs.{AreLowered, IsCompiledFrom, IsCompiled};
+ghost use Rattle.uprog_gen.specs.Programs.{AreCompiled};
 
 use crate::entry::compile_entry;
 use crate::graphs::take_graphs;
@@ -56,8 +57,9 @@ pub fn compile_lowered(op: &Op, lowered: &Lowered, alloc: Global) -> Result<Entr
     requires lowered { AreLowered (slots_of lowered.now.names) lowered.now.names.free_bit
         lowered.now.names.free_word (operation op.now).body
         (map steps_of lowered.now.programs.items) }
-    ensures compiled { IfOk result (λ entry.
-        IsCompiled (microprogram_of entry) (operation op.now)) }
+    ensures compiled { IfOk result (λ entry. IsCompiledFrom (microprogram_of entry)
+        (operation op.now) (slots_of lowered.now.names) lowered.now.names.free_bit
+        lowered.now.names.free_word (map steps_of lowered.now.programs.items)) }
     // No more commands than the sum of what each statement takes at most.
     ensures few { IfOk result (λ entry. (n : ℕ) → 0 < n → n ≤ WIDTH_MAX
         → (ceilings : List (ℕ → ℕ))

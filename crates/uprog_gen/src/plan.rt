@@ -1,27 +1,30 @@
 //! Which subscripts a body's registers hold.
 
-ghost use Rattle.std.specs.Prelude.{◌≡◌, ◌<◌, ◌≤◌, ◌++◌, [], ◌∷◌, length, filter, OnOk, IfOk};
+ghost use Rattle.std.specs.Prelude.{◌≡◌, ◌<◌, ◌≤◌, ◌++◌, [], ◌∷◌, length, OnOk, IfOk};
 ghost use Rattle.std.specs.Prelude.{if◌then◌else◌};
 ghost use Rattle.std.specs.List.{list_any, list_all};
 ghost use Rattle.loop_ir.specs.Plain.{block_of};
 ghost use Rattle.loop_ir.specs.declared.ir.Sub.TheVariants.{Zero};
 ghost use Rattle.loop_ir.specs.Costs.{sub_code, same_sub, is_used, is_fixed};
-ghost use Rattle.uprog_gen.specs.Code.{plain_subs, pair_subs, own_subs, sub_in, plan_of, register};
+ghost use Rattle.uprog_gen.specs.Code.{own_subs, sub_in, plan_of};
+ghost use Rattle.uprog_gen.specs.Code.{named_register, planned_register, register};
 
 use faults::keep;
 use loop_ir::{Body, Place, Sub};
 use mig_graph::NoMemory;
 use std::alloc::Global;
 
-/// The subscripts that registers 3, 4 and 5 hold; one of `Zero` holds none.
+/// The subscripts that registers 3, 4 and 5 hold; one of `Zero` holds none. In a flow the
+/// subscripts name their registers, and these hold none.
 #[derive(Clone, Copy, PartialEq, Eq)]
 pub struct Plan {
     pub first: Sub,
     pub second: Sub,
     pub third: Sub,
+    pub named: bool,
 }
 
-fn sub_code(s: Sub) -> u8
+fn sub_code(s: Sub) -> u16
     ensures { result ≡ sub_code s }
 {
     match s {
@@ -35,9 +38,7 @@ fn sub_code(s: Sub) -> u8
         Sub::DownSum => 7,
         Sub::DownPlusN => 8,
         Sub::NPlusInner => 9,
-        Sub::SumTwice => 10,
-        Sub::AboveSumTwice => 11,
-        Sub::AboveSum => 12,
+        Sub::Register(r) => 10 + r as u16,
     }
 }
 
@@ -87,9 +88,9 @@ fn push_used(subs: &mut Vec<Sub>, body: &Body, s: Sub) -> Result<(), NoMemory>
     }
 }
 
-/// The subscripts that the body uses and that need a register of its own, but for those of pairs.
-fn plain_subs(body: &Body, alloc: Global) -> Result<Vec<Sub>, NoMemory>
-    ensures { IfOk result (λ subs. subs.items ≡ filter (is_used (block_of body.now)) plain_subs) }
+/// The subscripts that the body uses and that need a register of its own.
+fn own_subs(body: &Body, alloc: Global) -> Result<Vec<Sub>, NoMemory>
+    ensures { IfOk result (λ subs. subs.items ≡ own_subs (block_of body.now)) }
 {
     let mut subs = Vec::new(alloc);
     push_used(&mut subs, body, Sub::Top)?;
@@ -99,25 +100,6 @@ fn plain_subs(body: &Body, alloc: Global) -> Result<Vec<Sub>, NoMemory>
     push_used(&mut subs, body, Sub::DownSum)?;
     push_used(&mut subs, body, Sub::DownPlusN)?;
     push_used(&mut subs, body, Sub::NPlusInner)?;
-    Ok(subs)
-}
-
-/// Those of pairs.
-fn push_pair_subs(subs: &mut Vec<Sub>, body: &Body) -> Result<(), NoMemory>
-    ensures { OnOk result (subs.new.items ≡ subs.old.items
-        ++ filter (is_used (block_of body.now)) pair_subs) }
-{
-    push_used(subs, body, Sub::SumTwice)?;
-    push_used(subs, body, Sub::AboveSumTwice)?;
-    push_used(subs, body, Sub::AboveSum)
-}
-
-/// The subscripts that the body uses and that need a register of its own.
-fn own_subs(body: &Body, alloc: Global) -> Result<Vec<Sub>, NoMemory>
-    ensures { IfOk result (λ subs. subs.items ≡ own_subs (block_of body.now)) }
-{
-    let mut subs = plain_subs(body, alloc)?;
-    push_pair_subs(&mut subs, body)?;
     Ok(subs)
 }
 
@@ -136,12 +118,24 @@ pub fn plan_of(body: &Body, alloc: Global) -> Result<Plan, NoMemory>
         first: sub_in(&subs, 0),
         second: sub_in(&subs, 1),
         third: sub_in(&subs, 2),
+        named: false,
     })
 }
 
-/// The register that holds the subscript; 8 stands for the number 0.
-pub fn register(plan: Plan, s: Sub) -> u8
-    ensures { result ≡ register plan s }
+/// The register that the subscript names; 8 stands for the number 0.
+fn named_register(s: Sub) -> u8
+    ensures { result ≡ named_register s }
+{
+    match s {
+        Sub::Register(r) => if r < 8 { r } else { 8 },
+        Sub::Zero | Sub::Top | Sub::Inner | Sub::InnerDown | Sub::Outer | Sub::OuterDown => 8,
+        Sub::Sum | Sub::DownSum | Sub::DownPlusN | Sub::NPlusInner => 8,
+    }
+}
+
+/// The register that holds the subscript by the plan's three.
+fn planned_register(plan: Plan, s: Sub) -> u8
+    ensures { result ≡ planned_register plan s }
 {
     if same_sub(s, Sub::Zero) {
         8
@@ -157,5 +151,16 @@ pub fn register(plan: Plan, s: Sub) -> u8
         5
     } else {
         8
+    }
+}
+
+/// The register that holds the subscript; 8 stands for the number 0.
+pub fn register(plan: Plan, s: Sub) -> u8
+    ensures { result ≡ register plan s }
+{
+    if plan.named {
+        named_register(s)
+    } else {
+        planned_register(plan, s)
     }
 }

@@ -5,28 +5,25 @@ ghost use Rattle.loop_ir.specs.Plain.{block_of, inner_of, turn_of, step_of, AllI
 ghost use Rattle.loop_ir.specs.Plain.{AllStep, AllParts};
 ghost use Rattle.loop_ir.specs.Plain.StepOf.{Single as SingleOf, Nest as NestOf};
 ghost use Rattle.loop_ir.specs.Plain.StepOf.{Alternate as AlternateOf};
-ghost use Rattle.loop_ir.specs.declared.ir.Span.TheVariants.{Full, First, Above};
 ghost use Rattle.loop_ir.specs.Limits.{IsSmall};
 ghost use Rattle.loop_ir.specs.Costs.{inner_cost, either_cost, turns_cost, step_cost, code_cost};
 ghost use Rattle.uprog_gen.specs.Emits.{EmitsInner, EmitsTurns, EmitsSteps};
 
-use crate::emit::{
-    push_body, push_either, push_guard, push_loop, push_once, push_pairs, push_start,
-};
-use crate::level::emit_level;
+use crate::emit::{push_body, push_either, push_loop, push_once, push_pairs, push_start};
+use crate::flow::emit_flowed;
 use crate::part::make_part;
 use crate::plan::is_fixed;
 use faults::keep;
-use loop_ir::{Body, Count, Inner, Span, Step, Turn};
+use loop_ir::{Body, Count, Inner, Step, Turn};
 use mig_graph::NoMemory;
 use std::alloc::Global;
 use uprog_code::Uop;
 
 /// One step of a nest.
-fn emit_inner(inner: &Inner, span: Span, code: &mut Vec<Uop>, alloc: Global) -> Result<(), NoMemory>
+fn emit_inner(inner: &Inner, code: &mut Vec<Uop>, alloc: Global) -> Result<(), NoMemory>
     requires small { AllInner IsSmall (inner_of inner.now ∷ []) }
     requires room { length code.old.items + inner_cost (inner_of inner.now) + 32 < 2 ^ 16 }
-    ensures { OnOk result (EmitsInner span (inner_of inner.now ∷ []) code.old.items
+    ensures { OnOk result (EmitsInner (inner_of inner.now ∷ []) code.old.items
         code.new.items) }
 {
     match inner {
@@ -40,25 +37,19 @@ fn emit_inner(inner: &Inner, span: Span, code: &mut Vec<Uop>, alloc: Global) -> 
             push_loop(code, *count, body, &made)?;
             Ok(())
         }
-        Inner::Level(level) => emit_level(level, span, code, alloc),
     }
 }
 
 /// The steps of a nest.
-fn emit_inners(
-    parts: &[Inner],
-    span: Span,
-    code: &mut Vec<Uop>,
-    alloc: Global,
-) -> Result<(), NoMemory>
+fn emit_inners(parts: &[Inner], code: &mut Vec<Uop>, alloc: Global) -> Result<(), NoMemory>
     requires small { AllInner IsSmall (map inner_of parts.now) }
     requires room { length code.old.items + sum_by inner_cost (map inner_of parts.now) + 32
         < 2 ^ 16 }
-    ensures { OnOk result (EmitsInner span (map inner_of parts.now) code.old.items
+    ensures { OnOk result (EmitsInner (map inner_of parts.now) code.old.items
         code.new.items) }
 {
     for inner in parts {
-        emit_inner(inner, span, code, alloc)?;
+        emit_inner(inner, code, alloc)?;
     }
     Ok(())
 }
@@ -85,7 +76,7 @@ fn emit_nest(parts: &[Inner], code: &mut Vec<Uop>, alloc: Global) -> Result<(), 
     requires small { AllInner IsSmall (map inner_of parts.now) }
     requires room { length code.old.items + sum_by inner_cost (map inner_of parts.now) + 64
         < 2 ^ 16 }
-    ensures { OnOk result (EmitsSteps (NestOf Full (map inner_of parts.now) ∷ []) code.old.items
+    ensures { OnOk result (EmitsSteps (NestOf (map inner_of parts.now) ∷ []) code.old.items
         code.new.items) }
 {
     if parts.is_empty() {
@@ -95,48 +86,9 @@ fn emit_nest(parts: &[Inner], code: &mut Vec<Uop>, alloc: Global) -> Result<(), 
     keep(code, Uop::SetN(1))?;
     let top = code.len() as u16;
     keep(code, Uop::SubI(1, 1))?;
-    emit_inners(parts, Span::Full, code, alloc)?;
+    emit_inners(parts, code, alloc)?;
     keep(code, Uop::AddI(0, 1))?;
     keep(code, Uop::Bnez(1, top))?;
-    Ok(())
-}
-
-/// A nest at the first outer position alone.
-fn emit_first(parts: &[Inner], code: &mut Vec<Uop>, alloc: Global) -> Result<(), NoMemory>
-    requires small { AllInner IsSmall (map inner_of parts.now) }
-    requires room { length code.old.items + sum_by inner_cost (map inner_of parts.now) + 64
-        < 2 ^ 16 }
-    ensures { OnOk result (EmitsSteps (NestOf First (map inner_of parts.now) ∷ []) code.old.items
-        code.new.items) }
-{
-    if parts.is_empty() {
-        return Ok(());
-    }
-    keep(code, Uop::SetI(0, 0))?;
-    keep(code, Uop::SetT(1))?;
-    emit_inners(parts, Span::First, code, alloc)?;
-    Ok(())
-}
-
-/// A nest from the second outer position on. The jump past it gets its target when it stands.
-fn emit_above(parts: &[Inner], code: &mut Vec<Uop>, alloc: Global) -> Result<(), NoMemory>
-    requires small { AllInner IsSmall (map inner_of parts.now) }
-    requires room { length code.old.items + sum_by inner_cost (map inner_of parts.now) + 64
-        < 2 ^ 16 }
-    ensures { OnOk result (EmitsSteps (NestOf Above (map inner_of parts.now) ∷ []) code.old.items
-        code.new.items) }
-{
-    if parts.is_empty() {
-        return Ok(());
-    }
-    let past = code.len() + 3;
-    let top = past as u16 + 1;
-    push_guard(code, 0)?;
-    emit_inners(parts, Span::Above, code, alloc)?;
-    keep(code, Uop::AddI(0, 1))?;
-    keep(code, Uop::Bnez(1, top))?;
-    let end = code.len() as u16;
-    code[past] = Uop::Bnez(0, end);
     Ok(())
 }
 
@@ -194,8 +146,6 @@ fn emit_step(step: &Step, code: &mut Vec<Uop>, alloc: Global) -> Result<(), NoMe
     match step {
         Step::Once(body) => emit_single(body, code, alloc),
         Step::Nest(parts) => emit_nest(parts, code, alloc),
-        Step::First(parts) => emit_first(parts, code, alloc),
-        Step::Above(parts) => emit_above(parts, code, alloc),
         Step::Each(body) => {
             let made = make_part(body, alloc)?;
             keep(code, Uop::SetI(0, 0))?;
@@ -209,6 +159,7 @@ fn emit_step(step: &Step, code: &mut Vec<Uop>, alloc: Global) -> Result<(), NoMe
             Ok(())
         }
         Step::Alternate(turns) => emit_cycle(turns, code, alloc),
+        Step::Flow(flow) => emit_flowed(flow, code, alloc),
     }
 }
 

@@ -1,17 +1,12 @@
 -- Programs that grow step by step.
 use Rattle.std.proofs.Common.{◌≡◌, ℕ, zero, suc, ◌+◌, ◌<◌, List, [], ◌∷◌, ◌++◌, map, take, length}
 use Rattle.std.proofs.Common.{slice_index_or, Option, Some, None, refl, sym, ap, ◌∙◌, subst, arith}
-use Rattle.std.proofs.lemmas.List.{map_more}
 use Rattle.loop_ir.specs.declared.ir.Step.{Step}
-use Rattle.loop_ir.specs.declared.ir.Turn.{Turn}
 use Rattle.loop_ir.specs.declared.names.Slot.{Slot}
-use Rattle.loop_ir.specs.Plain.{Block, TurnOf, StepOf, turn_map, AllParts, AllStep, AllTurns}
-use Rattle.loop_ir.specs.Plain.{turn_of, step_of}
+use Rattle.loop_ir.specs.Plain.{Block, StepOf, AllParts, AllStep, step_of}
 use Rattle.loop_laws.specs.Forms.{IsMade}
 use Rattle.word_lower.specs.declared.shapes.ProgramLine.{ProgramLine}
-use Rattle.word_lower.specs.declared.shapes.TurnForm.{TurnForm}
-use Rattle.word_lower.specs.Places.{body_on, program_on}
-use Rattle.word_lower.specs.Programs.{turn_bodies}
+use Rattle.word_lower.specs.Places.{program_on}
 use Rattle.word_lower.specs.Shapes.{lines_steps}
 
 pub map_last : {A B : Type 0} (f : A → B) (xs : List A) (x : A)
@@ -35,31 +30,6 @@ pub made_push : (steps new : List Step) (s : Step) → new ≡ steps ++ s ∷ []
     → AllParts IsMade (map step_of new)
 made_push steps new s e all h = subst (AllParts IsMade) (sym (ap (map step_of) e
     ∙ map_last step_of steps s)) (made_last (map step_of steps) (step_of s) all h)
-
--- bodies that take turns, one after another
-pub turns_push : (o : ℕ → Slot) (all new : List Turn) (t : Turn) (forms : List TurnForm) (i : ℕ)
-    (d : TurnForm) → i < length forms → new ≡ all ++ t ∷ []
-    → turn_of t ≡ turn_map (body_on o) (turn_bodies (slice_index_or forms i d))
-    → map turn_of all ≡ map (turn_map (body_on o)) (map turn_bodies (take i forms))
-    → map turn_of new ≡ map (turn_map (body_on o)) (map turn_bodies (take (i + 1) forms))
-turns_push o all new t forms i d lt en et so =
-    let f = turn_map (body_on o) in
-    let some = take i forms in
-    ap (map turn_of) en ∙ map_last turn_of all t ∙ ap (λ l. l ++ turn_of t ∷ []) so
-    ∙ ap (λ x. map f (map turn_bodies some) ++ x ∷ []) et
-    ∙ sym (map_last f (map turn_bodies some) (turn_bodies (slice_index_or forms i d)))
-    ∙ ap (map f) (sym (map_more turn_bodies forms i d lt))
-
-turns_last : (ts : List (TurnOf Block)) (t : TurnOf Block) → AllTurns IsMade ts
-    → AllTurns IsMade (t ∷ []) → AllTurns IsMade (ts ++ t ∷ [])
-turns_last [] t all h = h
-turns_last (x ∷ xs) t all h = (all.0, turns_last xs t all.1 h)
-
-pub turns_made : (all new : List Turn) (t : Turn) → new ≡ all ++ t ∷ []
-    → AllTurns IsMade (map turn_of all) → AllTurns IsMade (turn_of t ∷ [])
-    → AllTurns IsMade (map turn_of new)
-turns_made all new t e so h = subst (AllTurns IsMade) (sym (ap (map turn_of) e
-    ∙ map_last turn_of all t)) (turns_last (map turn_of all) (turn_of t) so h)
 
 pub append_over : {A : Type 0} (xs ys zs : List A) → xs ++ (ys ++ zs) ≡ (xs ++ ys) ++ zs
 append_over [] ys zs = refl

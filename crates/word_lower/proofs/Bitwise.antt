@@ -1,14 +1,13 @@
 -- Bit by bit, and all bits of a word, as numbers.
-use Rattle.std.proofs.Common.{◌≡◌, ℕ, zero, suc, ◌+◌, ◌-◌, ◌*◌, ◌^◌, ◌%◌, ◌<◌, ◌≤◌, Bool, true}
-use Rattle.std.proofs.Common.{false, not, cond, refl, sym, ap, ◌∙◌, ⊎_elim, arith, min, max}
-use Rattle.std.specs.Prelude.{nat_lt, nat_le, ◌==◌, ◌&&◌, ◌||◌}
+use Rattle.std.proofs.Common.{◌≡◌, ℕ, suc, ◌+◌, ◌-◌, ◌^◌, ◌<◌, ◌≤◌, Bool, true, false}
+use Rattle.std.proofs.Common.{not, cond, refl, sym, ap, ◌∙◌, ⊎_elim, arith, min, max}
+use Rattle.std.specs.Prelude.{nat_lt, nat_le, ◌&&◌, ◌||◌}
 use Rattle.std.proofs.lemmas.Bool.{cases_lt, cases_Bool, lt-ltb}
 use Rattle.bit_rows.specs.Bits.{majority}
-use Rattle.word_lower.proofs.Setting.{bit, number}
-use Rattle.op_text.specs.Values.{differ, bit_by_bit, ones_of}
-use Rattle.word_lower.proofs.Lists.{by_bits, ones_of_none, ones_of_more}
-use Rattle.word_lower.proofs.Sums.{value_same, value_below, value_not, value_false, xor2}
-use Rattle.word_lower.proofs.Sums.{same_gives, top_half}
+use Rattle.word_lower.proofs.Setting.{number}
+use Rattle.op_text.specs.Values.{differ, bit_by_bit}
+use Rattle.word_lower.proofs.Lists.{by_bits}
+use Rattle.word_lower.proofs.Sums.{value_same, value_not, value_false, xor2, top_half}
 
 -- a majority with a constant
 pub and_bit : (x y : Bool) → majority false x y ≡ (x && y)
@@ -43,48 +42,6 @@ value_inverted a n = let e = value_not a n in omega (arith, e)
 
 pub value_true : (n : ℕ) → number (λ i. true) n ≡ 2 ^ n - 1
 value_true n = let e = value_not (λ i. false) n in let f = value_false n in omega (arith, e, f)
-
--- a state that is set once a bit is
-pub any_gives : (a e : ℕ → Bool) (n : ℕ) → e 0 ≡ false
-    → ((i : ℕ) → i < n → e (suc i) ≡ majority true (a i) (e i)) → e n ≡ nat_lt 0 (number a n)
-unfolding majority
-any_gives a e zero start h = start
-any_gives a e (suc n) start h =
-    h n (omega arith) ∙ ap (majority true (a n)) (any_gives a e n start (λ i lt. h i (omega arith)))
-    ∙ by (a n) (number a n) (2 ^ n) (value_below a n)
-  where
-    by : (b : Bool) (v p : ℕ) → v < p → majority true b (nat_lt 0 v) ≡ nat_lt 0 (v + bit b * p)
-    by true v p lt = sym (lt-ltb 0 (v + 1 * p) (omega arith))
-    by false v p lt = let e : v ≡ v + 0 * p = omega arith in ap (nat_lt 0) e
-
--- a state that stays set while each bit is
-pub all_gives : (a e : ℕ → Bool) (n : ℕ) → e 0 ≡ true
-    → ((i : ℕ) → i < n → e (suc i) ≡ majority false (a i) (e i)) → e n ≡ (number a n == 2 ^ n - 1)
-unfolding majority
-all_gives a e n start h =
-    same_gives a (λ i. true) e n start (λ i lt. h i lt ∙ by (a i) (e i))
-    ∙ ap (λ x. number a n == x) (value_true n)
-  where
-    by : (a e : Bool) → majority false a e ≡ e && not (xor2 a true)
-    by true true = refl
-    by true false = refl
-    by false true = refl
-    by false false = refl
-
-pub parity_gives : (a e : ℕ → Bool) (n : ℕ) → e 0 ≡ false
-    → ((i : ℕ) → i < n → e (suc i) ≡ xor2 (a i) (e i)) → bit (e n) ≡ ones_of n (number a n) % 2
-parity_gives a e zero start h = ap bit start ∙ (let z = ones_of_none a in
-    let e : 0 ≡ 0 % 2 = omega arith in e ∙ ap (λ x. x % 2) (sym z))
-parity_gives a e (suc n) start h =
-    ap bit (h n (omega arith)) ∙ by (a n) (e n) (ones_of n (number a n))
-    (parity_gives a e n start (λ i lt. h i (omega arith)))
-    ∙ ap (λ x. x % 2) (sym (ones_of_more a n))
-  where
-    by : (a e : Bool) (k : ℕ) → bit e ≡ k % 2 → bit (xor2 a e) ≡ (k + bit a) % 2
-    by true true k h = omega (arith, h)
-    by true false k h = omega (arith, h)
-    by false true k h = omega (arith, h)
-    by false false k h = omega (arith, h)
 
 -- a word without its bits where its top bit is set
 pub relu_gives : (a : ℕ → Bool) (m : ℕ) → number (λ i. majority false (a i) (not (a m))) (suc m)

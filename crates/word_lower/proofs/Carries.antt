@@ -1,14 +1,11 @@
--- add, sub and abs.
-use Rattle.std.proofs.Common.{◌≡◌, ℕ, ◌+◌, ◌-◌, ◌*◌, Bool, true, false}
-use Rattle.std.proofs.Common.{not, List, [], ◌∷◌, refl, arith}
-use Rattle.std.specs.Prelude.{◌&&◌, ◌||◌}
+-- add and sub.
+use Rattle.std.proofs.Common.{◌≡◌, ℕ, ◌+◌, ◌*◌, Bool, true, false, not, List, [], ◌∷◌, refl, arith}
 use Rattle.bit_rows.specs.Bits.{majority}
 use Rattle.loop_ir.specs.declared.ir.Sub.TheVariants as sub
 use Rattle.loop_ir.specs.declared.ir.Place.{Place}
 use Rattle.loop_laws.proofs.Placed.{AllBefore}
 use Rattle.loop_ir.specs.declared.names.Slot.{Slot}
 use Rattle.word_lower.proofs.Setting.{bit, Slots, at, IsFree, AreSlots}
-use Rattle.word_lower.proofs.Sums.{xor2}
 
 pub added_digit : (x y c : Bool) → bit (majority c (not (majority x y c)) (majority x y (not c)))
     + 2 * bit (majority x y c) ≡ bit x + bit y + bit c
@@ -37,26 +34,6 @@ lessened_digit false true false = refl
 lessened_digit false false true = refl
 lessened_digit false false false = refl
 
-pub negated_bit : (x c : Bool) → majority false (majority true x c) (not (majority false x c))
-    ≡ xor2 c x
-unfolding majority
-negated_bit true true = refl
-negated_bit true false = refl
-negated_bit false true = refl
-negated_bit false false = refl
-
-pub negated_state : (x t c : Bool) → majority t (majority false x c)
-    (majority false (majority true x c) (not (majority false x c))) ≡ (t && (c || x))
-unfolding majority
-negated_state true true true = refl
-negated_state true true false = refl
-negated_state true false true = refl
-negated_state true false false = refl
-negated_state false true true = refl
-negated_state false true false = refl
-negated_state false false true = refl
-negated_state false false false = refl
-
 module _ (n : ℕ) (m : Slots) (are : AreSlots n n n 1 m) (t : Slot) (f : IsFree n n n m t 1) where
   abbrev writes : List Place
   writes = at m.target sub.Inner ∷ (at t sub.Zero ∷ [])
@@ -65,12 +42,6 @@ module _ (n : ℕ) (m : Slots) (are : AreSlots n n n 1 m) (t : Slot) (f : IsFree
   a_by_carry = (
     (λ i j li lj e. are.a.by i j li (omega arith) e),
     ((λ i j li lj e. f.a.by i 0 li (omega arith) e), tt),
-  )
-
-  pub top_by_carry : AllBefore n 0 n (at m.a sub.Top) writes
-  top_by_carry = (
-    (λ i j li lj e. are.a.by (n - 1) j (omega arith) (omega arith) e),
-    ((λ i j li lj e. f.a.by (n - 1) 0 (omega arith) (omega arith) e), tt),
   )
 
   pub b_by_carry : AllBefore n 0 n (at m.b sub.Inner) writes

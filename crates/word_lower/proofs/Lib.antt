@@ -8,8 +8,6 @@ pub mod Shifts
 pub mod Words
 pub mod Carries
 pub mod States
-pub mod ByTurns
-pub mod Rectified
 pub mod Pieces
 pub mod Filled
 pub mod Operations

@@ -1,9 +1,7 @@
 -- Where the arguments fill a form of an operation, its loop program does it, keeps its ceiling, and
 -- passes the tests.
-use Rattle.std.proofs.Common.{◌≡◌, ℕ, suc, ◌+◌, ◌-◌, ◌*◌, ◌<◌, ◌≤◌, true, false, List, [], ◌∷◌}
-use Rattle.std.proofs.Common.{map}
-use Rattle.std.proofs.Common.{Some, refl}
-use Rattle.std.proofs.Common.{sym, ap, ◌∙◌, subst, arith, ◌⊎◌, inl, inr}
+use Rattle.std.proofs.Common.{◌≡◌, ℕ, suc, ◌+◌, ◌<◌, ◌≤◌, true, false, List, [], ◌∷◌, map}
+use Rattle.std.proofs.Common.{Some, refl, sym, ap, ◌∙◌, subst, arith, ◌⊎◌, inl, inr}
 use Rattle.op_text.specs.declared.tree.Kind.{Kind}
 use Rattle.op_text.specs.declared.tree.Kind.TheVariants.{Word, Bit}
 use Rattle.op_text.specs.declared.word_ops.WordOp.{WordOp}
@@ -17,14 +15,14 @@ use Rattle.op_text.specs.Scratch.{bits_inside}
 use Rattle.op_text.specs.Costs.{op_ceiling}
 use Rattle.loop_ir.specs.declared.ir.Space.TheVariants.{ScratchBit}
 use Rattle.loop_ir.specs.declared.names.Slot.{Slot}
-use Rattle.loop_ir.specs.Plain.{Block, TurnOf, StepOf, turn_map}
+use Rattle.loop_ir.specs.Plain.{Block, StepOf}
 use Rattle.loop_ir.specs.Loops.{all_rounds}
 use Rattle.loop_ir.specs.Spots.{Spot, Spots, spot_in, after_rounds, is_state}
 use Rattle.loop_ir.specs.Costs.{turn_cost, rounds_cost, plain_cost, plain_costs}
 use Rattle.loop_ir.specs.Lowered.{slot_spot, slot_bits, op_plain_ceiling}
-use Rattle.loop_laws.specs.Rooms.{Marked, steps_fit, placed_body, placed_steps}
+use Rattle.loop_laws.specs.Rooms.{steps_fit, placed_steps}
 use Rattle.loop_laws.specs.Forms.{is_short, keeps_states}
-use Rattle.loop_laws.proofs.Summed.{steps_sum, sum_is, turns_sum, turns_most}
+use Rattle.loop_laws.proofs.Summed.{steps_sum, sum_is}
 use Rattle.loop_laws.proofs.EachRound.{placed-plain}
 use Rattle.word_lower.specs.Places.{scratch_from, rooms_of, program_on}
 use Rattle.word_lower.specs.Programs.{program, is_linear}
@@ -34,8 +32,6 @@ use Rattle.word_lower.proofs.Lists.{bits_of_number, value_of_list}
 use Rattle.word_lower.proofs.Pieces.{slot, slot_at, Pieces, names, are_slots}
 use Rattle.word_lower.proofs.Filled.{arg_kind, gives_kind, takes_kinds, form_of, slot_is}
 use Rattle.word_lower.proofs.Operations.{op_gives}
-use Rattle.word_lower.proofs.ByTurns.{and_turns, or_turns, xor_turns}
-use Rattle.word_lower.proofs.Rectified.{relu_turns}
 
 -- the width of the first argument, or n where there is none
 abbrev pub slots_width : ℕ → List Slot → ℕ
@@ -172,7 +168,7 @@ ComputesIn p c t f free = let sh = (row_of p).signature in
 -- it keeps the ceiling, or has no other one where no body has a sequence of its own
 abbrev IsCheap : WordOp → List (StepOf Block) → List Slot → Type 0
 IsCheap p steps args =
-    ((n : ℕ) → 0 < n → steps_sum turn_cost n steps ≤ 2 * op_ceiling p (slots_width n args))
+    ((n : ℕ) → 0 < n → steps_sum turn_cost n steps ≤ op_ceiling p (slots_width n args))
     ⊎ ((m : ℕ) → op_plain_ceiling p m ≡ op_ceiling p m)
 
 computed : (p : WordOp) (k : Kind) (t : Slot) (args : List Slot) (free : ℕ)
@@ -181,7 +177,7 @@ computed : (p : WordOp) (k : Kind) (t : Slot) (args : List Slot) (free : ℕ)
     → is_short (steps_on p k t args free) ≡ true
     → keeps_states (placed_steps [] (program p k)) ≡ true
     → ((n : ℕ) → 0 < n → steps_sum plain_cost n (placed_steps [] (program p k))
-    ≤ 2 * op_plain_ceiling p (slots_width n args)) → IsCheap p (placed_steps [] (program p k)) args
+    ≤ op_plain_ceiling p (slots_width n args)) → IsCheap p (placed_steps [] (program p k)) args
     → Computes p k t args free
 computed p k t args free fit same short states plain cheap =
     let steps = placed_steps [] (program p k) in
@@ -208,26 +204,6 @@ computed p k t args free fit same short states plain cheap =
         let r = placed-plain [] (program p k) n in
         let s = same (slots_width n args) in omega (arith, r, f, s)
 
--- what bodies that take turns may take
-abbrev Turned : List (TurnOf Marked) → List (TurnOf Block)
-Turned ts = map (turn_map (placed_body [])) ts
-
-relu_few : (n : ℕ) → turns_sum plain_cost (Turned relu_turns) (n - 1) ≤ (n - 1) * 7 + 1
-relu_few n = turns_most plain_cost 7 1 (Turned relu_turns)
-    ((omega arith, omega arith), ((omega arith, omega arith), tt)) (n - 1)
-
-and_few : (n : ℕ) → turns_sum plain_cost (Turned and_turns) (n - 1) ≤ (n - 1) * 7 + 7
-and_few n = turns_most plain_cost 7 7 (Turned and_turns)
-    ((omega arith, omega arith), ((omega arith, omega arith), ((omega arith, omega arith), tt))) (n - 1)
-
-or_few : (n : ℕ) → turns_sum plain_cost (Turned or_turns) (n - 1) ≤ (n - 1) * 7 + 7
-or_few n = turns_most plain_cost 7 7 (Turned or_turns)
-    ((omega arith, omega arith), ((omega arith, omega arith), ((omega arith, omega arith), tt))) (n - 1)
-
-xor_few : (n : ℕ) → turns_sum plain_cost (Turned xor_turns) (n - 1) ≤ (n - 1) * 15 + 15
-xor_few n = turns_most plain_cost 15 15 (Turned xor_turns)
-    ((omega arith, omega arith), ((omega arith, omega arith), tt)) (n - 1)
-
 computes : (c : Kind) (p : WordOp) (t : Slot) (f : ℕ → Slot) (free : ℕ) → ComputesIn p c t f free
 computes Word op.Not t f free = computed _ _ _ _ _ refl refl refl refl (λ n some. omega (arith, some))
     (inl (λ n some. omega (arith, some)))
@@ -249,23 +225,7 @@ computes Bit op.Xor t f free = computed _ _ _ _ _ refl refl refl refl (λ n some
     (inl (λ n some. omega (arith, some)))
 computes Bit op.Add t f free = computed _ _ _ _ _ refl refl refl refl (λ n some. omega (arith, some))
     (inl (λ n some. omega (arith, some)))
-computes Word op.Relu t f free = computed _ _ _ _ _ refl refl refl refl
-    (λ n some. omega (arith, some, relu_few n)) (inr (λ m. refl))
-computes Word op.AndRed t f free = computed _ _ _ _ _ refl refl refl refl
-    (λ n some. omega (arith, some, and_few n)) (inr (λ m. refl))
-computes Word op.OrRed t f free = computed _ _ _ _ _ refl refl refl refl
-    (λ n some. omega (arith, some, or_few n)) (inr (λ m. refl))
-computes Word op.XorRed t f free = computed _ _ _ _ _ refl refl refl refl
-    (λ n some. omega (arith, some, xor_few n)) (inr (λ m. refl))
 computes Word p t f free = computed _ _ _ _ _ refl refl refl refl (λ n some. omega (arith, some)) (inr (λ m. refl))
-computes Bit op.Relu t f free = computed _ _ _ _ _ refl refl refl refl
-    (λ n some. omega (arith, some, relu_few n)) (inr (λ m. refl))
-computes Bit op.AndRed t f free = computed _ _ _ _ _ refl refl refl refl
-    (λ n some. omega (arith, some, and_few n)) (inr (λ m. refl))
-computes Bit op.OrRed t f free = computed _ _ _ _ _ refl refl refl refl
-    (λ n some. omega (arith, some, or_few n)) (inr (λ m. refl))
-computes Bit op.XorRed t f free = computed _ _ _ _ _ refl refl refl refl
-    (λ n some. omega (arith, some, xor_few n)) (inr (λ m. refl))
 computes Bit p t f free = computed _ _ _ _ _ refl refl refl refl (λ n some. omega (arith, some)) (inr (λ m. refl))
 
 -- in each form the program does the operation

@@ -1,7 +1,6 @@
 -- Each operation's loop program gives its value.
-use Rattle.std.proofs.Common.{◌≡◌, ℕ, suc, ◌+◌, ◌-◌, ◌^◌, ◌%◌, ◌/◌, ◌<◌, Bool, true, false}
-use Rattle.std.proofs.Common.{not, cond, List, [], ◌∷◌, map, refl, sym, ap, ◌∙◌, subst}
-use Rattle.std.proofs.Common.{arith}
+use Rattle.std.proofs.Common.{◌≡◌, ℕ, suc, ◌+◌, ◌-◌, ◌^◌, ◌/◌, ◌<◌, Bool, true, false, not, List}
+use Rattle.std.proofs.Common.{[], ◌∷◌, refl, sym, ap, ◌∙◌, subst, arith}
 use Rattle.std.specs.Prelude.{nat_lt, ◌==◌}
 use Rattle.bit_rows.specs.Bits.{majority}
 use Rattle.mig_graph.specs.Graph.{values_from}
@@ -15,48 +14,34 @@ use Rattle.op_text.specs.WordOps.{number as place_of, row_of}
 use Rattle.op_text.specs.Meaning.{width}
 use Rattle.loop_ir.specs.declared.ir.Sub.TheVariants as sub
 use Rattle.loop_ir.specs.Loops.{all_rounds}
-use Rattle.loop_ir.specs.Plain.{turn_map}
 use Rattle.loop_ir.specs.Plain.StepOf.{Single}
 use Rattle.loop_ir.specs.Spots.{Spot, Spots, set_spot, after_rounds}
 use Rattle.loop_laws.specs.Turns.{Origin, Standing, Carried, turn, after_many}
 use Rattle.loop_laws.specs.Rooms.{placed_body}
 use Rattle.loop_laws.proofs.Same.{set_same, set_other}
-use Rattle.loop_laws.proofs.Steps.{steps_each, steps_pairs, steps_turns}
+use Rattle.loop_laws.proofs.Steps.{steps_each, steps_pairs}
 use Rattle.word_lower.specs.Places.{scratch_bit, cells}
-use Rattle.word_lower.specs.Programs.{plain, complemented, off, up}
-use Rattle.word_lower.proofs.Marks.{target, first, second, third, state}
-use Rattle.word_lower.specs.Programs.{constant, moved, inverted, joined, unlike, chosen}
-use Rattle.word_lower.specs.Programs.{added, lessened, negated_if, compared}
-use Rattle.word_lower.specs.Programs.{ordered}
+use Rattle.word_lower.specs.Programs.{plain, complemented, off, up, constant, moved, inverted}
+use Rattle.word_lower.specs.Programs.{joined, unlike, chosen, added, lessened, compared, ordered}
 use Rattle.word_lower.specs.Programs.{is_linear, program_at}
+use Rattle.word_lower.proofs.Marks.{target, first, second, third, state}
 use Rattle.word_lower.proofs.Setting.{bit, number, operation, Slots, rooms_for, steps_for, row}
 use Rattle.word_lower.proofs.Setting.{number_at, AreSlots, Gives, DoesWords, DoesBits}
-use Rattle.word_lower.proofs.Sums.{value_same, value_false, value_pick, compare}
-use Rattle.word_lower.proofs.Sums.{xor2, add_gives, sub_gives, shl1_gives, shr1_gives, abs_gives}
+use Rattle.word_lower.proofs.Sums.{value_same, value_false, value_pick, compare, add_gives}
+use Rattle.word_lower.proofs.Sums.{sub_gives, shl1_gives, shr1_gives}
 use Rattle.word_lower.proofs.Bitwise.{value_and, value_or, value_xor, value_inverted, value_true}
-use Rattle.word_lower.proofs.Bitwise.{least, greatest, any_gives, all_gives}
-use Rattle.word_lower.proofs.Bitwise.{parity_gives, at_least}
+use Rattle.word_lower.proofs.Bitwise.{least, greatest, at_least}
 use Rattle.word_lower.proofs.Passes.{bit_free, bit_else, cell_else, carry_does, pair_loop, upwards}
 use Rattle.word_lower.proofs.Passes.{set_number}
 use Rattle.word_lower.proofs.Shifts.{shifts}
-use Rattle.word_lower.proofs.Words.{word_does, unlike_bit, chosen_bit, by_bit, a_read}
-use Rattle.word_lower.proofs.Words.{b_read, s_read, choice_does, bit_does}
-use Rattle.word_lower.proofs.Carries.{added_digit, lessened_digit, negated_bit, negated_state}
-use Rattle.word_lower.proofs.Carries.{a_by_carry, top_by_carry, b_by_carry}
-use Rattle.word_lower.proofs.States.{one_bit, held_does, turned_bit, both_least}
-use Rattle.word_lower.proofs.States.{a_by_held, b_by_held}
-use Rattle.word_lower.proofs.ByTurns.{joined_up, two_does, three_does, Parity, Kept, kept_takes}
-use Rattle.word_lower.proofs.ByTurns.{three_takes, odd_closes, three_closes, Alone, Beside}
-use Rattle.word_lower.proofs.ByTurns.{gathered_takes, beside_takes}
-use Rattle.word_lower.proofs.ByTurns.{agreed_takes, joined_closes, agreed_closes, and_turns}
-use Rattle.word_lower.proofs.ByTurns.{or_turns, xor_turns}
-use Rattle.word_lower.proofs.Rectified.{relu_turns, relu_by_turns}
+use Rattle.word_lower.proofs.Words.{word_does, unlike_bit, chosen_bit, by_bit, a_read, b_read}
+use Rattle.word_lower.proofs.Words.{s_read, choice_does, bit_does}
+use Rattle.word_lower.proofs.Carries.{added_digit, lessened_digit, a_by_carry, b_by_carry}
+use Rattle.word_lower.proofs.States.{one_bit, held_does, turned_bit, both_least, a_by_held}
+use Rattle.word_lower.proofs.States.{b_by_held}
 use Rattle.word_lower.proofs.Filled.{arg_kind, gives_kind}
 
--- one or two reads that no turn changes, and then what the turn before wrote in this place
-abbrev after_one : ℕ → List Origin
-after_one w = Standing ∷ (Carried w ∷ [])
-
+-- two reads that no turn changes, and then what the turn before wrote in this place
 abbrev after_two : ℕ → List Origin
 after_two w = Standing ∷ (Standing ∷ (Carried w ∷ []))
 
@@ -125,15 +110,6 @@ module _ (n : ℕ) (m : Slots) (are : AreSlots n n n 0 m) where
       (word_does op.Xor n m are b.reads b.graph.inputs b.graph.nodes (plain 5) (Standing
       ∷ (Standing ∷ [])) before (a_read n m are, (b_read n m are, tt))
       (value_same _ _ n (λ i lt. unlike_bit (a i) (c i)) ∙ value_xor a c n))
-
-  relu_does : 0 < n → DoesWords op.Relu Word n n 0 m
-  unfolding values_from
-  relu_does some before =
-      let t = map (turn_map (placed_body (rooms_for op.Relu m))) relu_turns in
-      let low = not (before (row n m.a (n - 1))) in
-      let start = set_spot (set_spot before (row n (cells 1) 0) low) (row n (cells 11) 0) low in
-      subst (Gives op.Relu n n n 0 m before) (sym (steps_turns n t [] start))
-      (relu_by_turns n some m are before)
 
   if_else_does : DoesWords op.IfElse Word n n 0 m
   unfolding values_from
@@ -236,43 +212,6 @@ module _ (n : ℕ) (m : Slots) (are : AreSlots n n n 1 m) where
       turn n 0 b (after_two 1) start (suc i) 0) (λ i. not (c i)) n (ap not (set_same before p false
       p refl))
       (λ i lt. lessened_digit (start (row n m.a i)) (start (row n m.b i)) (c i))))
-
-  abs_does : 0 < n → DoesWords op.Abs Word n n 1 m
-  unfolding values_from
-  abs_does some before =
-      let free = are.cells 4 in
-      let b = placed_body (rooms_for op.Abs m)
-      (negated_if (first sub.Inner) (first sub.Top) (state 4) (target sub.Inner)) in
-      let p = row n (cells 4) 0 in
-      let start = set_spot before p false in
-      let c = λ (i : ℕ). turn n 0 b (after_two 1) start i 1 in
-      let y = λ (i : ℕ). turn n 0 b (after_two 1) start (suc i) 0 in
-      let a = λ (i : ℕ). start (row n m.a i) in
-      let e : n ≡ suc (n - 1) = omega arith in
-      let gives : (k : ℕ) → k ≡ suc (n - 1) → k ≡ n
-      → number y k ≡ cond (nat_lt (number a k) (2 ^ (n - 1))) (number a k)
-      ((2 ^ k - number a k) % 2 ^ k) =
-      λ k g h. subst (λ (k : ℕ). number y k ≡ cond (nat_lt (number a k) (2 ^ (n - 1))) (number a k)
-      ((2 ^ k - number a k) % 2 ^ k)) (sym g)
-      (abs_gives a y c (n - 1) (set_same before p false p refl) (λ i lt. negated_bit (a i) (c i))
-      (λ i lt. negated_state (a i) (a (n - 1)) (c i))) in
-      subst (Gives op.Abs n n n 1 m before) (sym (steps_each n b [] start))
-      (carry_does op.Abs n m are (cells 4) tt free (cell_else n n 1 m 4) sub.Inner (λ v. v)
-      (upwards n 0) b.reads b.graph.inputs b.graph.nodes (plain 6) (plain 7) (after_two 1) false
-      before (
-        a_by_carry n m are (cells 4) free,
-        (
-          top_by_carry n m are (cells 4) free,
-          (
-            (
-              omega arith,
-              λ i j li lj. refl,
-            ),
-            tt,
-          ),
-        ),
-      )
-      (gives n e refl))
 
 -- one position up or down: the one row that is left is off
 module _ (n : ℕ) (m : Slots) (are : AreSlots n n n 1 m) (some : 0 < n) where
@@ -410,52 +349,6 @@ module _ (n : ℕ) (m : Slots) (are : AreSlots n 1 n 0 m) (some : 0 < n) where
       ∙ ap (λ x. nat_lt (number c n) (number a n + bit x)) (set_same before p true p refl)
       ∙ at_least (number a n) (number c n))))
 
-  and_red_does : DoesWords op.AndRed Bit n 1 0 m
-  unfolding values_from
-  and_red_does before =
-      let p = row n (cells 1) 0 in
-      let start = set_spot before p true in
-      let a = λ (i : ℕ). before (row n m.a i) in
-      let t = map (turn_map (placed_body (rooms_for op.AndRed m))) and_turns in
-      subst (Gives op.AndRed n 1 n 0 m before) (sym (steps_turns n t [] start))
-      (three_does op.AndRed n some m are (majority false) true before _ _ _ (Alone n m false)
-      (Beside n m false 2 4) (Beside n m false 3 12)
-      (record { takes = gathered_takes n m false; closes = joined_closes n m false })
-      (record { takes = beside_takes n m false; closes = agreed_closes n m false 2 4 })
-      (record { takes = agreed_takes n m false; closes = agreed_closes n m false 3 12 }) start (set_same before p true p refl)
-      (λ q out. set_other before p true q (out 1))
-      (ap bit (all_gives a (joined_up (majority false) a true) n refl (λ i lt. refl))))
-
-  or_red_does : DoesWords op.OrRed Bit n 1 0 m
-  unfolding values_from
-  or_red_does before =
-      let p = row n (cells 1) 0 in
-      let start = set_spot before p false in
-      let a = λ (i : ℕ). before (row n m.a i) in
-      let t = map (turn_map (placed_body (rooms_for op.OrRed m))) or_turns in
-      subst (Gives op.OrRed n 1 n 0 m before) (sym (steps_turns n t [] start))
-      (three_does op.OrRed n some m are (majority true) false before _ _ _ (Alone n m true)
-      (Beside n m true 2 4) (Beside n m true 3 12)
-      (record { takes = gathered_takes n m true; closes = joined_closes n m true })
-      (record { takes = beside_takes n m true; closes = agreed_closes n m true 2 4 })
-      (record { takes = agreed_takes n m true; closes = agreed_closes n m true 3 12 }) start (set_same before p false p refl)
-      (λ q out. set_other before p false q (out 1))
-      (ap bit (any_gives a (joined_up (majority true) a false) n refl (λ i lt. refl))))
-
-  xor_red_does : DoesWords op.XorRed Bit n 1 0 m
-  unfolding values_from
-  xor_red_does before =
-      let p = row n (cells 4) 0 in
-      let start = set_spot before p false in
-      let a = λ (i : ℕ). before (row n m.a i) in
-      let t = map (turn_map (placed_body (rooms_for op.XorRed m))) xor_turns in
-      subst (Gives op.XorRed n 1 n 0 m before) (sym (steps_turns n t [] start))
-      (two_does op.XorRed n some m are xor2 false before _ _ (Parity n m) (Kept n m)
-      (record { takes = kept_takes n m; closes = odd_closes n m })
-      (record { takes = three_takes n m; closes = three_closes n m }) start
-      (set_same before p false p refl) (λ q out. set_other before p false q (out 4))
-      (parity_gives a (joined_up xor2 a false) n refl (λ i lt. refl)))
-
 -- on bits
 not_bit_does : (n : ℕ) (m : Slots) → DoesBits op.Not n m
 unfolding values_from
@@ -563,14 +456,9 @@ op_gives op.Shl1 c l n m some are = shl1_does n m are some
 op_gives op.Shr1 c l n m some are = shr1_does n m are some
 op_gives op.Add c l n m some are = add_does n m are
 op_gives op.Sub c l n m some are = sub_does n m are
-op_gives op.Abs c l n m some are = abs_does n m are some
-op_gives op.Relu c l n m some are = relu_does n m are some
 op_gives op.Min c l n m some are = min_does n some m are
 op_gives op.Max c l n m some are = max_does n some m are
 op_gives op.Eq c l n m some are = eq_does n m are some
 op_gives op.Gt c l n m some are = gt_does n m are some
 op_gives op.Ge c l n m some are = ge_does n m are some
-op_gives op.AndRed c l n m some are = and_red_does n m are some
-op_gives op.OrRed c l n m some are = or_red_does n m are some
-op_gives op.XorRed c l n m some are = xor_red_does n m are some
 op_gives p c l n m some are = cc

@@ -57,10 +57,10 @@ set_operation o n k l m bits t v fa fb fs =
 
 -- a subscript that meets each position once, and the turn at which it meets it
 pub record Meets (n o : ℕ) (u : Sub) (turn_of : ℕ → ℕ) : Type 0 where
-  pub below : (i : ℕ) → i < n → sub_value n i o u < n
-  pub once : (i j : ℕ) → i < n → j < n → sub_value n i o u ≡ sub_value n j o u → i ≡ j
+  pub below : (i : ℕ) → i < n → sub_value n i o [] u < n
+  pub once : (i j : ℕ) → i < n → j < n → sub_value n i o [] u ≡ sub_value n j o [] u → i ≡ j
   pub turn_below : (v : ℕ) → v < n → turn_of v < n
-  pub meets : (v : ℕ) → v < n → sub_value n (turn_of v) o u ≡ v
+  pub meets : (v : ℕ) → v < n → sub_value n (turn_of v) o [] u ≡ v
 
 -- positions upwards meet each row of a word once
 pub upwards : (n o : ℕ) → Meets n o sub.Inner (λ v. v)
@@ -104,7 +104,7 @@ module _ (o : WordOp) (n : ℕ) (m : Slots) (are : AreSlots n n n 1 m) (t : Slot
         (own, tt),
       ) (
         (
-          (λ i j li lj e. f.target.by 0 (sub_value n i 0 u) (omega arith) (meets.below i li)
+          (λ i j li lj e. f.target.by 0 (sub_value n i 0 [] u) (omega arith) (meets.below i li)
               (sym e)),
           tt,
         ),
@@ -115,7 +115,7 @@ module _ (o : WordOp) (n : ℕ) (m : Slots) (are : AreSlots n n n 1 m) (t : Slot
             value_same _ _ n (λ j lj.
             ap (λ x. new (row n m.target x)) (sym (meets.meets j lj))
             ∙ loop_word n 0 n b xs is start 0 (omega arith) (λ i k li lk e.
-            meets.once i k li lk (are.moves.by (sub_value n i 0 u) (sub_value n k 0 u)
+            meets.once i k li lk (are.moves.by (sub_value n i 0 [] u) (sub_value n k 0 [] u)
             (meets.below i li) (meets.below k lk) e)) (turn_of j) (meets.turn_below j lj))
             ∙ gives
             ∙ set_operation o n n n m bits t v f.a f.b f.s;
@@ -124,43 +124,10 @@ module _ (o : WordOp) (n : ℕ) (m : Slots) (are : AreSlots n n n 1 m) (t : Slot
       }
     where
       elsewhere : (q : Spot) → IsElsewhere n n 1 m q → (j w : ℕ) → j < n → w < 2
-          → q ≡ spot_at n j 0 (nth_place (at m.target u ∷ (at t sub.Zero ∷ [])) w) → ⊥
-      elsewhere q out j zero lj lw e = out.target (sub_value n j 0 u) (meets.below j lj) e
+          → q ≡ spot_at n j 0 [] (nth_place (at m.target u ∷ (at t sub.Zero ∷ [])) w) → ⊥
+      elsewhere q out j zero lj lw e = out.target (sub_value n j 0 [] u) (meets.below j lj) e
       elsewhere q out j (suc zero) lj lw e = other q out e
       elsewhere q out j (suc (suc w)) lj lw e = absurd (omega arith)
-
--- a state alone
-abbrev pub state_body : Slot → List Place → ℕ → List Node → Lit → Block
-state_body t reads inputs nodes c = record {
-  reads = reads;
-  graph = record { inputs = inputs; nodes = nodes };
-  outs = c ∷ [];
-  writes = at t sub.Zero ∷ [];
-  found = [];
-}
-
-pub record Leaves (n o : ℕ) (b : Block) (xs : List Origin) (t : Slot) (bits new : Spots) : Type 0
-  where
-    pub state : new (row n t 0) ≡ turn n o b xs bits n 0
-    pub rest : (q : Spot) → (q ≡ row n t 0 → ⊥) → new q ≡ bits q
-
-module _ (n o : ℕ) (t : Slot) (own : IsOwn t.space) (reads : List Place) (inputs : ℕ)
-    (nodes : List Node) (c : Lit) (xs : List Origin) (bits : Spots) where
-  pub state_loop : ReadPlaces n o n (at t sub.Zero ∷ []) reads xs
-      → Leaves n o (state_body t reads inputs nodes c) xs t bits
-      (after_many n o (state_body t reads inputs nodes c) n bits)
-  state_loop are_read =
-      let b = state_body t reads inputs nodes c in
-      let is : IsLoop n o n b xs = loop_of n o n b xs refl (own, tt) (tt, tt) are_read in
-      record {
-        state = loop_state n o n b xs is bits 0 (omega arith) (λ i j. refl);
-        rest = λ q out. (loop_turns n o n b xs is bits).rest q (λ j w lj lw e. only q out j w lw e);
-      }
-    where
-      only : (q : Spot) → (q ≡ row n t 0 → ⊥) → (j w : ℕ) → w < 1
-          → q ≡ spot_at n j o (nth_place (at t sub.Zero ∷ []) w) → ⊥
-      only q out j zero lw e = out e
-      only q out j (suc w) lw e = absurd (omega arith)
 
 -- a state in cells, which is written to a row too
 abbrev pub held_body : Slot → ℕ → List Place → ℕ → List Node → Lit → Block
@@ -200,7 +167,7 @@ module _ (n o : ℕ) (some : 0 < n) (t : Slot) (own : IsOwn t.space) (w : ℕ)
       last (suc k) lt = refl
 
       only : (q : Spot) → (q ≡ row n t 0 → ⊥) → (q ≡ row n (cells w) 0 → ⊥) → (j x : ℕ) → x < 2
-          → q ≡ spot_at n j o (nth_place (at t sub.Zero ∷ at (cells w) sub.Zero ∷ []) x) → ⊥
+          → q ≡ spot_at n j o [] (nth_place (at t sub.Zero ∷ at (cells w) sub.Zero ∷ []) x) → ⊥
       only q out held j zero lx e = out e
       only q out held j (suc zero) lx e = held e
       only q out held j (suc (suc x)) lx e = absurd (omega arith)
@@ -240,7 +207,7 @@ module _ (n o v w : ℕ) (differ : v ≡ w → ⊥) (reads : List Place) (inputs
     where
       only : (q : Spot) → (q ≡ row n (cells v) 0 → ⊥) → (q ≡ row n (cells w) 0 → ⊥) → (j x : ℕ)
           → x < 2
-          → q ≡ spot_at n j o (nth_place (at (cells v) sub.Zero ∷ at (cells w) sub.Zero ∷ []) x)
+          → q ≡ spot_at n j o [] (nth_place (at (cells v) sub.Zero ∷ at (cells w) sub.Zero ∷ []) x)
           → ⊥
       only q out held j zero lx e = out e
       only q out held j (suc zero) lx e = held e
@@ -275,13 +242,13 @@ module _ (n o : ℕ) (t : Slot) (own : IsOwn t.space) (moves : Moves n t n) (u :
         word = λ v lv.
             ap (λ x. new (row n t x)) (sym (meets.meets v lv))
             ∙ loop_word n o n b xs is bits 0 (omega arith) (λ i k li lk e.
-            meets.once i k li lk (moves.by (sub_value n i o u) (sub_value n k o u)
+            meets.once i k li lk (moves.by (sub_value n i o [] u) (sub_value n k o [] u)
             (meets.below i li) (meets.below k lk) e)) (turn_of v) (meets.turn_below v lv);
         rest = λ q out. (loop_turns n o n b xs is bits).rest q (λ j w lj lw e.
             only q out j w lj lw e);
       }
     where
       only : (q : Spot) → ((v : ℕ) → v < n → q ≡ row n t v → ⊥) → (j w : ℕ) → j < n → w < 1
-          → q ≡ spot_at n j o (nth_place (at t u ∷ []) w) → ⊥
-      only q out j zero lj lw e = out (sub_value n j o u) (meets.below j lj) e
+          → q ≡ spot_at n j o [] (nth_place (at t u ∷ []) w) → ⊥
+      only q out j zero lj lw e = out (sub_value n j o [] u) (meets.below j lj) e
       only q out j (suc w) lj lw e = absurd (omega arith)

@@ -1,4 +1,4 @@
--- Comparisons and reductions: a state in cells, which is written to the target's row too.
+-- Comparisons: a state in cells, which is written to the target's row too.
 use Rattle.std.proofs.Common.{◌≡◌, ℕ, ◌+◌, ◌<◌, Bool, true, false, not, List, [], ◌∷◌, refl, ap}
 use Rattle.std.proofs.Common.{◌∙◌, ⊎_elim, ◌⊎◌, inl, inr, arith}
 use Rattle.std.specs.Prelude.{◌==◌, nat_lt}

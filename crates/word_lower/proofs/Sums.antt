@@ -1,8 +1,8 @@
 -- Loops with a carry, as numbers.
 use Rattle.std.proofs.Common.{◌≡◌, ℕ, zero, suc, ◌+◌, ◌-◌, ◌*◌, ◌/◌, ◌^◌, ◌%◌, ◌<◌, ◌≤◌, Bool, true}
-use Rattle.std.proofs.Common.{false, not, cond, refl, sym, ap, ◌∙◌, ⊎_elim, arith, ◌⊎◌, inl, inr}
-use Rattle.std.specs.Prelude.{nat_lt, ◌==◌, ◌&&◌, ◌||◌}
-use Rattle.std.proofs.lemmas.Bool.{cases_eq, cases_Bool, eq-eqb, ne_eqb, lt-ltb}
+use Rattle.std.proofs.Common.{false, not, cond, refl, sym, ap, ◌∙◌, ⊎_elim, arith}
+use Rattle.std.specs.Prelude.{nat_lt}
+use Rattle.std.proofs.lemmas.Bool.{cases_Bool, lt-ltb}
 use Rattle.std.proofs.lemmas.Nat.{mod-mul-add}
 use Rattle.std.proofs.Math.Nat.{pow-suc}
 use Rattle.bit_rows.specs.Bits.{majority}
@@ -46,11 +46,6 @@ pub digits_two : (f g : ℕ → Bool) (n : ℕ) → digits (λ i. bit (f i) + bi
     ≡ number f n + number g n
 digits_two f g zero = refl
 digits_two f g (suc n) = let e = digits_two f g n in omega (arith, e)
-
--- digits that are bits spell what the bits do
-pub digits_one : (f : ℕ → Bool) (n : ℕ) → digits (λ i. bit (f i)) n ≡ number f n
-digits_one f zero = refl
-digits_one f (suc n) = let e = digits_one f n in omega (arith, e)
 
 pub digits_double : (f : ℕ → Bool) (n : ℕ) → digits (λ i. 2 * bit (f i)) n ≡ 2 * number f n
 digits_double f zero = refl
@@ -173,41 +168,6 @@ abbrev pub xor2 : Bool → Bool → Bool
 xor2 true b = not b
 xor2 false b = b
 
--- The complement and one more, where the top bit is set: all bits above the lowest that is set are
--- inverted, and the state is whether there was one
-pub abs_gives : (a y d : ℕ → Bool) (m : ℕ) → d 0 ≡ false
-    → ((i : ℕ) → i < suc m → y i ≡ xor2 (d i) (a i))
-    → ((i : ℕ) → i < suc m → d (suc i) ≡ (a m && (d i || a i)))
-    → number y (suc m) ≡ cond (nat_lt (number a (suc m)) (2 ^ m)) (number a (suc m))
-    ((2 ^ suc m - number a (suc m)) % 2 ^ suc m)
-abs_gives a y d m start hy hd = rw (top_half a m) (by (a m) hd)
-  where
-    digit : (x d w e : Bool) → w ≡ xor2 d x → e ≡ (true && (d || x))
-        → bit w + 2 * bit (not e) ≡ bit (not x) + bit (not d)
-    digit true true w e p q = rw (p, q) refl
-    digit true false w e p q = rw (p, q) refl
-    digit false true w e p q = rw (p, q) refl
-    digit false false w e p q = rw (p, q) refl
-
-    never : ((i : ℕ) → i < suc m → d (suc i) ≡ (false && (d i || a i))) → (i : ℕ) → i ≤ suc m
-        → d i ≡ false
-    never k zero l = start
-    never k (suc i) l = k i (omega (arith, l))
-
-    by : (t : Bool) → ((i : ℕ) → i < suc m → d (suc i) ≡ (t && (d i || a i)))
-        → number y (suc m) ≡ cond (not t) (number a (suc m))
-        ((2 ^ suc m - number a (suc m)) % 2 ^ suc m)
-    by true k =
-        let e = carry_sum (λ i. bit (not (a i))) y (λ i. not (d i)) (suc m)
-        (λ i l. digit (a i) (d i) (y i) (d (suc i)) (hy i l) (k i l)) in
-        let f = value_not a (suc m) in
-        let g = digits_one (λ i. not (a i)) (suc m) in
-        let z = ap (λ b. bit (not b)) start in
-        last_sum (number y (suc m)) (bit (not (d (suc m)))) (2 ^ suc m)
-        (2 ^ suc m - number a (suc m)) (value_below y (suc m)) (omega (arith, e, f, g, z))
-    by false k = value_same y a (suc m) (λ i l. hy i l
-        ∙ ap (λ b. xor2 b (a i)) (never k i (omega (arith, l))))
-
 -- each bit one position up, and none in the lowest place
 lifted : (ℕ → Bool) → ℕ → Bool
 lifted a zero = false
@@ -247,42 +207,3 @@ shr1_gives a y m top h =
   where
     half : (b : Bool) (v : ℕ) → v ≡ (bit b + 2 * v) / 2
     half b v = let le = bit_le b in omega (arith, le)
-
--- a state that stays set while two words agree
-pub same_gives : (a b e : ℕ → Bool) (n : ℕ) → e 0 ≡ true
-    → ((i : ℕ) → i < n → e (suc i) ≡ e i && not (xor2 (a i) (b i)))
-    → e n ≡ (number a n == number b n)
-same_gives a b e zero start h = start
-same_gives a b e (suc n) start h =
-    h n (omega arith) ∙ ap (λ x. x && not (xor2 (a n) (b n)))
-    (same_gives a b e n start (λ i lt. h i (omega arith)))
-    ∙ by (a n) (b n) (number a n) (number b n) (2 ^ n) (value_below a n) (value_below b n)
-  where
-    by : (s t : Bool) (x y p : ℕ) → x < p → y < p
-        → ((x == y) && not (xor2 s t)) ≡ (x + bit s * p == y + bit t * p)
-    by s t x y p lx ly = by_eq s t x y p lx ly (cases_eq x y)
-      where
-        at_eq : (u v : ℕ) → u ≡ v → true ≡ (u == v)
-        at_eq u v h = sym (eq-eqb u v h)
-
-        at_ne : (u v : ℕ) → (u ≡ v → ⊥) → false ≡ (u == v)
-        at_ne u v h = sym (ne_eqb u v h)
-
-        by_eq : (s t : Bool) (x y p : ℕ) → x < p → y < p → (x ≡ y) ⊎ (x ≡ y → ⊥)
-            → ((x == y) && not (xor2 s t)) ≡ (x + bit s * p == y + bit t * p)
-        by_eq true true x y p lx ly (inl h) =
-            rw (eq-eqb x y h) (at_eq (x + 1 * p) (y + 1 * p) (omega (arith, h)))
-        by_eq false false x y p lx ly (inl h) =
-            rw (eq-eqb x y h) (at_eq (x + 0 * p) (y + 0 * p) (omega (arith, h)))
-        by_eq true false x y p lx ly (inl h) =
-            rw (eq-eqb x y h) (at_ne (x + 1 * p) (y + 0 * p) (λ g. absurd (omega (arith, g))))
-        by_eq false true x y p lx ly (inl h) =
-            rw (eq-eqb x y h) (at_ne (x + 0 * p) (y + 1 * p) (λ g. absurd (omega (arith, g))))
-        by_eq true true x y p lx ly (inr h) =
-            rw (ne_eqb x y h) (at_ne (x + 1 * p) (y + 1 * p) (λ g. h (omega (arith, g))))
-        by_eq false false x y p lx ly (inr h) =
-            rw (ne_eqb x y h) (at_ne (x + 0 * p) (y + 0 * p) (λ g. h (omega (arith, g))))
-        by_eq true false x y p lx ly (inr h) =
-            rw (ne_eqb x y h) (at_ne (x + 1 * p) (y + 0 * p) (λ g. absurd (omega (arith, g))))
-        by_eq false true x y p lx ly (inr h) =
-            rw (ne_eqb x y h) (at_ne (x + 0 * p) (y + 1 * p) (λ g. absurd (omega (arith, g))))

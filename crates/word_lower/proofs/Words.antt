@@ -1,6 +1,6 @@
 -- Operations that write each bit of a word without a carry, and the lesser and the greater.
-use Rattle.std.proofs.Common.{◌≡◌, ℕ, suc, ◌+◌, ◌-◌, ◌*◌, ◌^◌, ◌<◌, Bool, true, false, not, cond}
-use Rattle.std.proofs.Common.{List, [], ◌∷◌, refl, sym, ap, ◌∙◌, subst, arith}
+use Rattle.std.proofs.Common.{◌≡◌, ℕ, suc, ◌+◌, ◌*◌, ◌^◌, ◌<◌, Bool, true, false, not, cond, List}
+use Rattle.std.proofs.Common.{[], ◌∷◌, refl, sym, ap, ◌∙◌, subst, arith}
 use Rattle.std.specs.Prelude.{nat_lt, ◌==◌}
 use Rattle.bit_rows.specs.Bits.{majority}
 use Rattle.mig_graph.specs.declared.Lit.{Lit}
@@ -19,14 +19,12 @@ use Rattle.loop_laws.proofs.Steps.{after_steps, steps_each}
 use Rattle.loop_laws.proofs.Placed.{AllBefore, ReadPlaces}
 use Rattle.loop_ir.specs.declared.ir.Space.TheVariants.{ScratchBit, Cells}
 use Rattle.word_lower.specs.Places.{scratch_bit, cells}
-use Rattle.word_lower.specs.Programs.{plain}
+use Rattle.word_lower.specs.Programs.{plain, chosen, compared}
 use Rattle.word_lower.proofs.Marks.{target, first, second, third, state}
-use Rattle.word_lower.specs.Programs.{chosen}
-use Rattle.word_lower.specs.Programs.{compared}
-use Rattle.word_lower.proofs.Setting.{bit, number, operation, Slots, at, row, number_at}
-use Rattle.word_lower.proofs.Setting.{SlotsApart, IsFree, AreSlots, Gives}
-use Rattle.word_lower.proofs.Passes.{bit_free, bit_else, cell_else, held_body, held_loop}
-use Rattle.word_lower.proofs.Passes.{word_body, word_loop, upwards, set_number}
+use Rattle.word_lower.proofs.Setting.{bit, number, operation, Slots, at, row, number_at, SlotsApart}
+use Rattle.word_lower.proofs.Setting.{IsFree, AreSlots, Gives}
+use Rattle.word_lower.proofs.Passes.{bit_free, bit_else, cell_else, held_body, held_loop, word_body}
+use Rattle.word_lower.proofs.Passes.{word_loop, upwards, set_number}
 use Rattle.word_lower.proofs.Sums.{value_same, value_pick, compare, xor2, pick}
 
 module _ (o : WordOp) (n : ℕ) (m : Slots) (are : AreSlots n n n 0 m) (reads : List Place)
@@ -69,9 +67,6 @@ by_bit false a b = refl
 module _ (n : ℕ) (m : Slots) (are : AreSlots n n n 0 m) where
   pub a_read : AllBefore n 0 n (at m.a sub.Inner) (at m.target sub.Inner ∷ [])
   a_read = ((λ i j li lj e. are.a.by i j li (omega arith) e), tt)
-
-  pub top_read : AllBefore n 0 n (at m.a sub.Top) (at m.target sub.Inner ∷ [])
-  top_read = ((λ i j li lj e. are.a.by (n - 1) j (omega arith) (omega arith) e), tt)
 
   pub b_read : AllBefore n 0 n (at m.b sub.Inner) (at m.target sub.Inner ∷ [])
   b_read = ((λ i j li lj e. are.b.by i j li (omega arith) e), tt)

@@ -1,4 +1,4 @@
--- The loop programs of the word operations that take one pass over a word.
+-- The loop programs of the word operations that are no flows.
 use Rattle.std.specs.Prelude.{ℕ, Bool, true, false, not, List, [], ◌∷◌, length, slice_index_or}
 use Rattle.mig_graph.specs.declared.Lit.{Lit}
 use Rattle.mig_graph.specs.declared.Node.{Node}
@@ -10,8 +10,8 @@ use Rattle.op_text.specs.declared.word_ops.WordOp.TheVariants as o
 use Rattle.op_text.specs.WordOps.{number}
 use Rattle.op_text.specs.Language.{Statement, Compute, Visit}
 use Rattle.loop_ir.specs.declared.ir.Sub.{Sub}
-use Rattle.loop_ir.specs.Plain.{TurnOf, StepOf}
-use Rattle.loop_ir.specs.Plain.StepOf.{Single, Along, Pairs, Alternate}
+use Rattle.loop_ir.specs.Plain.{StepOf}
+use Rattle.loop_ir.specs.Plain.StepOf.{Single, Along, Pairs}
 use Rattle.loop_laws.specs.Rooms as rooms
 use Rattle.loop_laws.specs.Rooms.{InRoom, InCells, Mark, Marked}
 use Rattle.word_lower.specs.declared.shapes.Owner.{Owner}
@@ -19,20 +19,15 @@ use Rattle.word_lower.specs.declared.shapes.Owner.TheVariants.{Target, First, Se
 use Rattle.word_lower.specs.declared.shapes.Mark as code
 use Rattle.word_lower.specs.declared.shapes.BodyForm.{BodyForm}
 use Rattle.word_lower.specs.declared.shapes.BodyForm.TheVariants.{Off, On, Moved, Inverted, Both}
-use Rattle.word_lower.specs.declared.shapes.BodyForm.TheVariants.{Either, Unlike, Chosen}
-use Rattle.word_lower.specs.declared.shapes.BodyForm.TheVariants.{Added, Lessened}
-use Rattle.word_lower.specs.declared.shapes.BodyForm.TheVariants.{NegatedIf, Compared, AllSet}
-use Rattle.word_lower.specs.declared.shapes.BodyForm.TheVariants.{AnySet, Majority, Kept, Odd}
-use Rattle.word_lower.specs.declared.shapes.BodyForm.TheVariants.{OddOfThree, InvertedInBoth}
-use Rattle.word_lower.specs.declared.shapes.BodyForm.TheVariants.{BothKeeping, MajorityBeside}
-use Rattle.word_lower.specs.declared.shapes.BodyForm.TheVariants.{MajorityKeeping}
-use Rattle.word_lower.specs.declared.shapes.BodyForm.TheVariants.{OnBoth, Ordered}
-use Rattle.word_lower.specs.declared.shapes.TurnForm.{TurnForm}
+use Rattle.word_lower.specs.declared.shapes.BodyForm.TheVariants.{Either, Unlike, Chosen, Added}
+use Rattle.word_lower.specs.declared.shapes.BodyForm.TheVariants.{Lessened, Compared, OnBoth}
+use Rattle.word_lower.specs.declared.shapes.BodyForm.TheVariants.{Ordered}
 use Rattle.word_lower.specs.declared.shapes.ProgramLine.{ProgramLine}
 use Rattle.word_lower.specs.declared.shapes.ProgramLine.TheVariants as line
 use Rattle.word_lower.specs.declared.shapes.ProgramLine.TheVariants.{Once, Each}
 use Rattle.word_lower.specs.declared.table.ProgramRow.{ProgramRow}
-use Rattle.word_lower.specs.declared.table.ProgramRow.TheVariants.{Spread, One, Two, Three, Nested}
+use Rattle.word_lower.specs.declared.table.ProgramRow.TheVariants.{Spread, One, Two, Three}
+use Rattle.word_lower.specs.declared.table.ProgramRow.TheVariants.{Elsewhere}
 use Rattle.word_lower.specs.declared.table.TheConstants.{PROGRAMS}
 
 -- a place of an owner by its number: 0 is the target, then come the arguments, then the scratch
@@ -108,65 +103,10 @@ lessened x y c z = template (x ∷ y ∷ c ∷ [])
     ∷ node_of (complemented 2) (plain 4) (plain 5) ∷ [])
     (plain 6 ∷ plain 5 ∷ []) (z ∷ c ∷ [])
 
--- x, inverted above the lowest bit that is set under t: the state is whether there was one
-abbrev pub negated_if : Mark → Mark → Mark → Mark → Marked
-negated_if x t c z = template (x ∷ t ∷ c ∷ [])
-    (node_of up (plain 1) (plain 3) ∷ node_of off (plain 1) (plain 3)
-    ∷ node_of off (plain 4) (complemented 5) ∷ node_of (plain 2) (plain 5) (plain 6) ∷ [])
-    (plain 6 ∷ plain 7 ∷ []) (z ∷ c ∷ [])
-
 -- the state is whether what was read of x is over what was read of y; it is written to z too
 abbrev pub compared : Mark → Mark → Mark → Mark → Marked
 compared x y g z = template (x ∷ y ∷ g ∷ []) (node_of (plain 1) (complemented 2) (plain 3) ∷ [])
     (plain 4 ∷ plain 4 ∷ []) (z ∷ g ∷ [])
-
--- the state is whether all that was read of x is set, or any of it; the constant stays beside it
-abbrev pub gathered : Lit → Mark → Mark → Mark → Mark → Marked
-gathered l x c z k = template (x ∷ c ∷ []) (node_of l (plain 1) (plain 2) ∷ [])
-    (plain 3 ∷ l ∷ []) (z ∷ k ∷ [])
-
--- the majority of x, a state and what stays beside it: where that is a constant, an and or an or
-abbrev pub agreed : Mark → Mark → Mark → Mark → Marked
-agreed x c k z = template (x ∷ c ∷ k ∷ []) (node_of (plain 1) (plain 2) (plain 3) ∷ [])
-    (plain 4 ∷ []) (z ∷ [])
-
--- the same, and what stays beside the state is kept
-abbrev pub agreed_beside : Mark → Mark → Mark → Mark → Mark → Marked
-agreed_beside x c k z h = template (x ∷ c ∷ k ∷ []) (node_of (plain 1) (plain 2) (plain 3) ∷ [])
-    (plain 4 ∷ plain 3 ∷ []) (z ∷ h ∷ [])
-
--- what was read of x, and the state beside it
-abbrev pub kept : Mark → Mark → Mark → Mark → Marked
-kept x c e s = template (x ∷ c ∷ []) [] (plain 1 ∷ plain 2 ∷ []) (e ∷ s ∷ [])
-
--- whether an odd number of x and a state is set
-abbrev pub odd : Mark → Mark → Mark → Marked
-odd x c z = template (x ∷ c ∷ [])
-    (node_of off (plain 1) (complemented 2) ∷ node_of up (plain 2) (plain 3)
-    ∷ node_of (complemented 1) (plain 3) (plain 4) ∷ [])
-    (plain 5 ∷ []) (z ∷ [])
-
--- whether an odd number of x, an element that was kept and a state is set
-abbrev pub odd_of_three : Mark → Mark → Mark → Mark → Marked
-odd_of_three x e s z = template (x ∷ e ∷ s ∷ [])
-    (node_of (plain 1) (plain 2) (complemented 3) ∷ node_of (complemented 1) (plain 3) (plain 4)
-    ∷ node_of (complemented 2) (plain 4) (plain 5) ∷ [])
-    (plain 6 ∷ []) (z ∷ [])
-
--- two states get the complement of x
-abbrev pub inverted_in_both : Mark → Mark → Mark → Marked
-inverted_in_both x g h = template (x ∷ []) [] (complemented 1 ∷ complemented 1 ∷ []) (g ∷ h ∷ [])
-
--- x and a state; another state stays, and beside it the constant
-abbrev pub both_keeping : Mark → Mark → Mark → Mark → Mark → Mark → Marked
-both_keeping x c d z e k = template (x ∷ c ∷ d ∷ []) (node_of off (plain 1) (plain 2) ∷ [])
-    (plain 4 ∷ plain 3 ∷ off ∷ []) (z ∷ e ∷ k ∷ [])
-
--- the majority of x, a state and what stays beside it; the state stands in two again
-abbrev pub agreed_keeping : Mark → Mark → Mark → Mark → Mark → Mark → Marked
-agreed_keeping x c k z g h = template (x ∷ c ∷ k ∷ [])
-    (node_of (plain 1) (plain 2) (plain 3) ∷ [])
-    (plain 4 ∷ plain 2 ∷ plain 2 ∷ []) (z ∷ g ∷ h ∷ [])
 
 -- two states get the constant 1
 abbrev pub on_both : Mark → Mark → Marked
@@ -203,35 +143,15 @@ form_body (Unlike x y z) = unlike (mark_of x) (mark_of y) (mark_of z)
 form_body (Chosen x y s z) = chosen (mark_of x) (mark_of y) (mark_of s) (mark_of z)
 form_body (Added x y c z) = added (mark_of x) (mark_of y) (mark_of c) (mark_of z)
 form_body (Lessened x y c z) = lessened (mark_of x) (mark_of y) (mark_of c) (mark_of z)
-form_body (NegatedIf x t c z) = negated_if (mark_of x) (mark_of t) (mark_of c) (mark_of z)
 form_body (Compared x y g z) = compared (mark_of x) (mark_of y) (mark_of g) (mark_of z)
-form_body (AllSet x c z k) = gathered off (mark_of x) (mark_of c) (mark_of z) (mark_of k)
-form_body (AnySet x c z k) = gathered up (mark_of x) (mark_of c) (mark_of z) (mark_of k)
-form_body (Majority x c k z) = agreed (mark_of x) (mark_of c) (mark_of k) (mark_of z)
-form_body (Kept x c e s) = kept (mark_of x) (mark_of c) (mark_of e) (mark_of s)
-form_body (Odd x c z) = odd (mark_of x) (mark_of c) (mark_of z)
-form_body (OddOfThree x e s z) = odd_of_three (mark_of x) (mark_of e) (mark_of s) (mark_of z)
-form_body (InvertedInBoth x g h) = inverted_in_both (mark_of x) (mark_of g) (mark_of h)
-form_body (BothKeeping x c d z e k) = both_keeping (mark_of x) (mark_of c) (mark_of d) (mark_of z)
-    (mark_of e) (mark_of k)
-form_body (MajorityBeside x c k z h) = agreed_beside (mark_of x) (mark_of c) (mark_of k) (mark_of z)
-    (mark_of h)
-form_body (MajorityKeeping x c k z g h) = agreed_keeping (mark_of x) (mark_of c) (mark_of k)
-    (mark_of z) (mark_of g) (mark_of h)
 form_body (OnBoth g h) = on_both (mark_of g) (mark_of h)
 form_body (Ordered x y g h) = ordered (mark_of x) (mark_of y) (mark_of g) (mark_of h)
 
--- one of bodies that take turns
-abbrev pub turn_bodies : TurnForm → TurnOf Marked
-turn_bodies t = record { each = form_body t.each; last = form_body t.last }
-
--- and the step that a line does
+-- the step that a line does
 abbrev pub line_step : ProgramLine → StepOf Marked
 line_step (Once s) = Single (form_body s)
 line_step (Each s) = Along (form_body s)
 line_step (line.Pairs s) = Pairs (form_body s)
-line_step (line.InTwo t u) = Alternate (turn_bodies t ∷ turn_bodies u ∷ [])
-line_step (line.InThree t u v) = Alternate (turn_bodies t ∷ turn_bodies u ∷ turn_bodies v ∷ [])
 
 -- the steps of a row of the table. The kind is the target's
 abbrev pub row_steps : ProgramRow → Kind → List (StepOf Marked)
@@ -240,16 +160,16 @@ row_steps (Spread word bit) Bit = Single (form_body bit) ∷ []
 row_steps (One a) k = line_step a ∷ []
 row_steps (Two a b) k = line_step a ∷ line_step b ∷ []
 row_steps (Three a b c) k = line_step a ∷ line_step b ∷ line_step c ∷ []
-row_steps Nested k = []
+row_steps Elsewhere k = []
 
--- a row of an operation that takes a pass for each position
-abbrev pub is_nest : ProgramRow → Bool
-is_nest Nested = true
-is_nest r = false
+-- the row of an operation that is a flow
+abbrev pub is_elsewhere : ProgramRow → Bool
+is_elsewhere Elsewhere = true
+is_elsewhere r = false
 
 -- an operation's row of the table
 abbrev pub program_at : ℕ → WordOp × ProgramRow
-program_at k = slice_index_or PROGRAMS k (o.Not, Nested)
+program_at k = slice_index_or PROGRAMS k (o.Not, Elsewhere)
 
 -- what the table has of an operation
 abbrev pub program_of : WordOp → ProgramRow
@@ -259,9 +179,9 @@ program_of p = (program_at (number p)).1
 abbrev pub program : WordOp → Kind → List (StepOf Marked)
 program p k = row_steps (program_of p) k
 
--- the operations that take one pass over a word
+-- the operations that have a program in the table
 abbrev pub is_linear : WordOp → Bool
-is_linear p = not (is_nest (program_of p))
+is_linear p = not (is_elsewhere (program_of p))
 
 -- the statement is a serial block, or one of these
 abbrev pub is_linear_statement : Statement → Bool

@@ -2,22 +2,20 @@
 
 ghost use Rattle.std.specs.Prelude.{◌≡◌, ◌<◌, ◌≤◌, ◌+◌, ◌++◌, ◌∷◌, [], ℕ, List, length, map, IfOk};
 ghost use Rattle.std.specs.Prelude.{OnOk, Some, None, true};
-ghost use Rattle.loop_ir.specs.Plain.{block_of, turn_of, step_of, steps_of, turn_map, step_map};
-ghost use Rattle.loop_ir.specs.Plain.{Block, StepOf, AllParts, AllTurns, AllStep};
+ghost use Rattle.loop_ir.specs.Plain.{block_of, step_of, steps_of, step_map};
+ghost use Rattle.loop_ir.specs.Plain.{Block, StepOf, AllParts, AllStep};
 ghost use Rattle.loop_laws.specs.Forms.{IsMade};
 ghost use Rattle.word_lower.specs.Places.{place_on, body_on, program_on};
-ghost use Rattle.word_lower.specs.Programs.{mark_of, form_body, turn_bodies, line_step};
+ghost use Rattle.word_lower.specs.Programs.{mark_of, form_body, line_step};
 ghost use Rattle.word_lower.specs.Shapes.{rows_at, lines_steps};
 
 use crate::graphs::templated;
-use crate::literals::{N1, OFF, ON, P1, P2, P3, P4, P5, P6, P7};
-use crate::shapes::{BodyForm, Mark, Owner, Owners, ProgramLine, TurnForm};
+use crate::literals::{N1, OFF, ON, P1, P3, P4, P5, P6};
+use crate::shapes::{BodyForm, Mark, Owner, Owners, ProgramLine};
 use crate::slots::{cells, place_in};
-use crate::templates::{
-    ADDED, BOTH, CHOSEN, COMPARED, EITHER, LESSENED, MAJORITY, ODD, ORDERED, TURNED_BY, UNLIKE,
-};
+use crate::templates::{ADDED, BOTH, CHOSEN, COMPARED, EITHER, LESSENED, ORDERED, UNLIKE};
 use faults::keep;
-use loop_ir::{Body, LoopProgram, Place, Step, Turn};
+use loop_ir::{Body, LoopProgram, Place, Step};
 use mig_graph::NoMemory;
 use std::alloc::Global;
 
@@ -72,82 +70,11 @@ fn body(shape: BodyForm, owners: Owners, alloc: Global) -> Result<Body, NoMemory
             &[z.at(o), c.at(o)],
             a,
         ),
-        BodyForm::NegatedIf(x, t, c, z) => templated(
-            &[x.at(o), t.at(o), c.at(o)],
-            &TURNED_BY,
-            &[P6, P7],
-            &[z.at(o), c.at(o)],
-            a,
-        ),
         BodyForm::Compared(x, y, g, z) => templated(
             &[x.at(o), y.at(o), g.at(o)],
             &COMPARED,
             &[P4, P4],
             &[z.at(o), g.at(o)],
-            a,
-        ),
-        BodyForm::AllSet(x, c, z, k) => templated(
-            &[x.at(o), c.at(o)],
-            &BOTH,
-            &[P3, OFF],
-            &[z.at(o), k.at(o)],
-            a,
-        ),
-        BodyForm::AnySet(x, c, z, k) => templated(
-            &[x.at(o), c.at(o)],
-            &EITHER,
-            &[P3, ON],
-            &[z.at(o), k.at(o)],
-            a,
-        ),
-        BodyForm::Majority(x, c, k, z) => templated(
-            &[x.at(o), c.at(o), k.at(o)],
-            &MAJORITY,
-            &[P4],
-            &[z.at(o)],
-            a,
-        ),
-        BodyForm::Kept(x, c, e, s) => templated(
-            &[x.at(o), c.at(o)],
-            &[],
-            &[P1, P2],
-            &[e.at(o), s.at(o)],
-            a,
-        ),
-        BodyForm::Odd(x, c, z) => templated(&[x.at(o), c.at(o)], &ODD, &[P5], &[z.at(o)], a),
-        BodyForm::OddOfThree(x, e, s, z) => templated(
-            &[x.at(o), e.at(o), s.at(o)],
-            &LESSENED,
-            &[P6],
-            &[z.at(o)],
-            a,
-        ),
-        BodyForm::InvertedInBoth(x, g, h) => templated(
-            &[x.at(o)],
-            &[],
-            &[N1, N1],
-            &[g.at(o), h.at(o)],
-            a,
-        ),
-        BodyForm::BothKeeping(x, c, d, z, e, k) => templated(
-            &[x.at(o), c.at(o), d.at(o)],
-            &BOTH,
-            &[P4, P3, OFF],
-            &[z.at(o), e.at(o), k.at(o)],
-            a,
-        ),
-        BodyForm::MajorityBeside(x, c, k, z, h) => templated(
-            &[x.at(o), c.at(o), k.at(o)],
-            &MAJORITY,
-            &[P4, P3],
-            &[z.at(o), h.at(o)],
-            a,
-        ),
-        BodyForm::MajorityKeeping(x, c, k, z, g, h) => templated(
-            &[x.at(o), c.at(o), k.at(o)],
-            &MAJORITY,
-            &[P4, P2, P2],
-            &[z.at(o), g.at(o), h.at(o)],
             a,
         ),
         BodyForm::OnBoth(g, h) => templated(&[], &[], &[ON, ON], &[g.at(o), h.at(o)], a),
@@ -161,32 +88,6 @@ fn body(shape: BodyForm, owners: Owners, alloc: Global) -> Result<Body, NoMemory
     }
 }
 
-/// One of bodies that take turns.
-fn turn(form: TurnForm, owners: Owners, alloc: Global) -> Result<Turn, NoMemory>
-    ensures same { IfOk result (λ t. turn_of t ≡ turn_map (body_on (rows_at owners))
-        (turn_bodies form)) }
-    ensures made { IfOk result (λ t. AllTurns IsMade (turn_of t ∷ [])) }
-{
-    Ok(Turn {
-        each: body(form.each, owners, alloc)?,
-        last: body(form.last, owners, alloc)?,
-    })
-}
-
-/// The bodies that take turns.
-fn turns(forms: &[TurnForm], owners: Owners, alloc: Global) -> Result<Vec<Turn>, NoMemory>
-    ensures same { IfOk result (λ ts. map turn_of ts.items
-        ≡ map (turn_map (body_on (rows_at owners))) (map turn_bodies forms.now)) }
-    ensures made { IfOk result (λ ts. AllTurns IsMade (map turn_of ts.items)) }
-{
-    let mut all = Vec::new(alloc);
-    for form in forms {
-        let next = turn(*form, owners, alloc)?;
-        keep(&mut all, next)?;
-    }
-    Ok(all)
-}
-
 /// The step of a line.
 fn step(line: ProgramLine, owners: Owners, alloc: Global) -> Result<Step, NoMemory>
     ensures same { IfOk result (λ s. step_of s ∷ []
@@ -197,8 +98,6 @@ fn step(line: ProgramLine, owners: Owners, alloc: Global) -> Result<Step, NoMemo
         ProgramLine::Once(shape) => Ok(Step::Once(body(shape, owners, alloc)?)),
         ProgramLine::Each(shape) => Ok(Step::Each(body(shape, owners, alloc)?)),
         ProgramLine::Pairs(shape) => Ok(Step::Pairs(body(shape, owners, alloc)?)),
-        ProgramLine::InTwo(t, u) => Ok(Step::Alternate(turns(&[t, u], owners, alloc)?)),
-        ProgramLine::InThree(t, u, v) => Ok(Step::Alternate(turns(&[t, u, v], owners, alloc)?)),
     }
 }
 

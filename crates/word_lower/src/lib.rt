@@ -1,4 +1,4 @@
-//! Loop programs of the word operations that take one pass over a word.
+//! Loop programs of word operations, as rows of a table; the operations that are flows have none.
 #![tactic(auto)]
 
 mod bodies;
@@ -8,7 +8,7 @@ pub mod literals;
 mod shapes;
 mod slots;
 mod table;
-pub mod templates;
+mod templates;
 
 pub use graphs::templated;
 pub use linear::{lower_linear, slot_of};

@@ -1,4 +1,4 @@
-//! The lowering of statements that take one pass.
+//! The lowering of serial blocks and of the operations of the table.
 
 ghost use Rattle.std.specs.Prelude.{◌≡◌, ℕ, List, map, IfOk, Some, None, true};
 ghost use Rattle.op_text.specs.Language.{statement, Compute};
@@ -58,7 +58,7 @@ fn owners(names: &NameMap, target: &Name, args: &[Name]) -> Owners
     }
 }
 
-/// The loop program of a word operation that takes one pass over a word. It has no second target.
+/// The loop program of a word operation of the table. It has no second target.
 fn lower_word(
     target: &Name,
     _second: &Option<Name>,
@@ -81,7 +81,7 @@ fn lower_word(
     Ok(p)
 }
 
-/// The loop program of a serial block, or of a word operation that takes one pass over a word.
+/// The loop program of a serial block, or of a word operation of the table.
 ///
 /// Only want of memory is an `Err`.
 pub fn lower_linear(s: &Stmt, names: &NameMap, alloc: Global) -> Result<LoopProgram, NoMemory>

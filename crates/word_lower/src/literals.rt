@@ -53,11 +53,6 @@ pub const P8: Lit = Lit {
     inverted: false,
 };
 
-pub const P9: Lit = Lit {
-    node: 9,
-    inverted: false,
-};
-
 pub const N1: Lit = Lit {
     node: 1,
     inverted: true,
@@ -90,10 +85,5 @@ pub const N6: Lit = Lit {
 
 pub const N7: Lit = Lit {
     node: 7,
-    inverted: true,
-};
-
-pub const N8: Lit = Lit {
-    node: 8,
     inverted: true,
 };

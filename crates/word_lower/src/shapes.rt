@@ -43,44 +43,17 @@ pub enum BodyForm {
     Chosen(Mark, Mark, Mark, Mark),
     Added(Mark, Mark, Mark, Mark),
     Lessened(Mark, Mark, Mark, Mark),
-    NegatedIf(Mark, Mark, Mark, Mark),
     Compared(Mark, Mark, Mark, Mark),
-    /// The state, and beside it the constant.
-    AllSet(Mark, Mark, Mark, Mark),
-    AnySet(Mark, Mark, Mark, Mark),
-    Majority(Mark, Mark, Mark, Mark),
-    /// What is read, and beside it the state.
-    Kept(Mark, Mark, Mark, Mark),
-    Odd(Mark, Mark, Mark),
-    OddOfThree(Mark, Mark, Mark, Mark),
-    /// The complement, in two states.
-    InvertedInBoth(Mark, Mark, Mark),
-    /// What is read and the first state; the second one stays, and beside it the constant.
-    BothKeeping(Mark, Mark, Mark, Mark, Mark, Mark),
-    /// What is read and two states, of which the second one stays.
-    MajorityBeside(Mark, Mark, Mark, Mark, Mark),
-    /// What is read and two states; the first one stands in two again.
-    MajorityKeeping(Mark, Mark, Mark, Mark, Mark, Mark),
     /// Two states, of which each is set.
     OnBoth(Mark, Mark),
     /// Two states: of either word, whether it is at least the other.
     Ordered(Mark, Mark, Mark, Mark),
 }
 
-/// One of bodies that take turns, and the one in its place at the top position.
-#[derive(Clone, Copy)]
-pub struct TurnForm {
-    pub each: BodyForm,
-    pub last: BodyForm,
-}
-
-/// A body done once, at each position, or at each position that has one above it; or two or three
-/// bodies in turn.
+/// A body done once, at each position, or at each position that has one above it.
 #[derive(Clone, Copy)]
 pub enum ProgramLine {
     Once(BodyForm),
     Each(BodyForm),
     Pairs(BodyForm),
-    InTwo(TurnForm, TurnForm),
-    InThree(TurnForm, TurnForm, TurnForm),
 }

@@ -5,13 +5,12 @@ ghost use Rattle.word_lower.specs.Programs.{program, program_of, row_steps};
 ghost use Rattle.word_lower.specs.Shapes.{lines_steps};
 
 use crate::shapes::BodyForm::{
-    Added, AllSet, AnySet, Both, BothKeeping, Chosen, Compared, Either, Inverted, InvertedInBoth,
-    Kept, Lessened, Majority, MajorityBeside, MajorityKeeping, Moved, NegatedIf, Odd, OddOfThree,
-    Off, On, OnBoth, Ordered, Unlike,
+    Added, Both, Chosen, Compared, Either, Inverted, Lessened, Moved, Off, On, OnBoth, Ordered,
+    Unlike,
 };
-use crate::shapes::ProgramLine::{Each, InThree, InTwo, Once, Pairs};
-use crate::shapes::{BodyForm, Mark, Owner, ProgramLine, TurnForm};
-use ProgramRow::{Nested, One, Spread, Three, Two};
+use crate::shapes::ProgramLine::{Each, Once, Pairs};
+use crate::shapes::{BodyForm, Mark, Owner, ProgramLine};
+use ProgramRow::{Elsewhere, One, Spread, Three, Two};
 use loop_ir::Sub;
 use op_text::{Kind, WordOp};
 
@@ -23,8 +22,8 @@ pub enum ProgramRow {
     One(ProgramLine),
     Two(ProgramLine, ProgramLine),
     Three(ProgramLine, ProgramLine, ProgramLine),
-    /// A pass for each position: such programs are none of this table's.
-    Nested,
+    /// A flow of `word_flow`: its program is none of this table's.
+    Elsewhere,
 }
 
 // the rows at the position: of the target, and of the first and the second argument
@@ -58,10 +57,6 @@ const Z_TOP: Mark = Mark {
     sub: Sub::Top,
 };
 
-const X_TOP: Mark = Mark {
-    owner: Owner::First,
-    sub: Sub::Top,
-};
 // the lowest row, which is the one of a bit
 const Z_BIT: Mark = Mark {
     owner: Owner::Target,
@@ -89,11 +84,6 @@ const T0: Mark = Mark {
     sub: Sub::Zero,
 };
 
-const T1: Mark = Mark {
-    owner: Owner::Cells(1),
-    sub: Sub::Zero,
-};
-
 const T2: Mark = Mark {
     owner: Owner::Cells(2),
     sub: Sub::Zero,
@@ -106,26 +96,6 @@ const T3: Mark = Mark {
 
 const T3_DCC1: Mark = Mark {
     owner: Owner::Cells(4),
-    sub: Sub::Zero,
-};
-
-const T0_NOT_DCC0: Mark = Mark {
-    owner: Owner::Cells(9),
-    sub: Sub::Zero,
-};
-
-const T3_NOT_T2: Mark = Mark {
-    owner: Owner::Cells(10),
-    sub: Sub::Zero,
-};
-
-const DCC0: Mark = Mark {
-    owner: Owner::Cells(11),
-    sub: Sub::Zero,
-};
-
-const DCC1: Mark = Mark {
-    owner: Owner::Cells(12),
     sub: Sub::Zero,
 };
 
@@ -157,29 +127,11 @@ pub static PROGRAMS: [(WordOp, ProgramRow); 27] = [
         WordOp::Sub,
         Two(Once(Off(T3_DCC1)), Each(Lessened(X, Y, T3_DCC1, Z))),
     ),
-    (WordOp::Mul, Nested),
-    (WordOp::Div, Nested),
-    (WordOp::Rem, Nested),
-    (
-        WordOp::Abs,
-        Two(Once(Off(T3_DCC1)), Each(NegatedIf(X, X_TOP, T3_DCC1, Z))),
-    ),
-    (
-        WordOp::Relu,
-        Two(
-            Once(InvertedInBoth(X_TOP, T1, DCC0)),
-            InTwo(
-                TurnForm {
-                    each: BothKeeping(X, T1, DCC0, Z, DCC0, T3),
-                    last: Off(Z),
-                },
-                TurnForm {
-                    each: MajorityKeeping(X, DCC0, T3, Z, T1, DCC0),
-                    last: Off(Z),
-                },
-            ),
-        ),
-    ),
+    (WordOp::Mul, Elsewhere),
+    (WordOp::Div, Elsewhere),
+    (WordOp::Rem, Elsewhere),
+    (WordOp::Abs, Elsewhere),
+    (WordOp::Relu, Elsewhere),
     (
         WordOp::Min,
         Three(
@@ -216,64 +168,11 @@ pub static PROGRAMS: [(WordOp, ProgramRow); 27] = [
         WordOp::IfElse,
         Spread(Chosen(X, Y, S_BIT, Z), Chosen(X_BIT, Y_BIT, S_BIT, Z_BIT)),
     ),
-    (WordOp::Bitcount, Nested),
-    (
-        WordOp::AndRed,
-        Two(
-            Once(On(T1)),
-            InThree(
-                TurnForm {
-                    each: AllSet(X, T1, T2, T3_DCC1),
-                    last: Both(X, T1, Z_BIT),
-                },
-                TurnForm {
-                    each: MajorityBeside(X, T2, T3_DCC1, T3, DCC1),
-                    last: Majority(X, T2, T3_DCC1, Z_BIT),
-                },
-                TurnForm {
-                    each: Majority(X, T3, DCC1, T1),
-                    last: Majority(X, T3, DCC1, Z_BIT),
-                },
-            ),
-        ),
-    ),
-    (
-        WordOp::OrRed,
-        Two(
-            Once(Off(T1)),
-            InThree(
-                TurnForm {
-                    each: AnySet(X, T1, T2, T3_DCC1),
-                    last: Either(X, T1, Z_BIT),
-                },
-                TurnForm {
-                    each: MajorityBeside(X, T2, T3_DCC1, T3, DCC1),
-                    last: Majority(X, T2, T3_DCC1, Z_BIT),
-                },
-                TurnForm {
-                    each: Majority(X, T3, DCC1, T1),
-                    last: Majority(X, T3, DCC1, Z_BIT),
-                },
-            ),
-        ),
-    ),
-    (
-        WordOp::XorRed,
-        Two(
-            Once(Off(T3_DCC1)),
-            InTwo(
-                TurnForm {
-                    each: Kept(X, T3_DCC1, T0_NOT_DCC0, T3_NOT_T2),
-                    last: Odd(X, T3_DCC1, Z_BIT),
-                },
-                TurnForm {
-                    each: OddOfThree(X, T0_NOT_DCC0, T3_NOT_T2, T3_DCC1),
-                    last: OddOfThree(X, T0_NOT_DCC0, T3_NOT_T2, Z_BIT),
-                },
-            ),
-        ),
-    ),
-    (WordOp::Divmod, Nested),
+    (WordOp::Bitcount, Elsewhere),
+    (WordOp::AndRed, Elsewhere),
+    (WordOp::OrRed, Elsewhere),
+    (WordOp::XorRed, Elsewhere),
+    (WordOp::Divmod, Elsewhere),
 ];
 
 fn program_of(op: WordOp) -> ProgramRow
@@ -282,7 +181,7 @@ fn program_of(op: WordOp) -> ProgramRow
     PROGRAMS[op as usize].1
 }
 
-/// The lines of a row, of which there are none where an operation takes more than one pass.
+/// The lines of a row, of which there are none where the operation is a flow.
 fn row_lines(row: ProgramRow, kind: Kind) -> [Option<ProgramLine>; 3]
     ensures { lines_steps result ≡ row_steps row kind }
 {
@@ -294,7 +193,7 @@ fn row_lines(row: ProgramRow, kind: Kind) -> [Option<ProgramLine>; 3]
         One(line) => [Some(line), None, None],
         Two(first, second) => [Some(first), Some(second), None],
         Three(first, second, third) => [Some(first), Some(second), Some(third)],
-        Nested => [None, None, None],
+        Elsewhere => [None, None, None],
     }
 }
 

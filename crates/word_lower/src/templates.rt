@@ -1,6 +1,6 @@
 //! The nodes of the templates, over the constant, the inputs and lower nodes.
 
-use crate::literals::{N1, N2, N3, N4, N5, OFF, ON, P1, P2, P3, P4, P5, P6};
+use crate::literals::{N1, N2, N3, N4, OFF, ON, P1, P2, P3, P4, P5};
 use mig_graph::Node;
 
 pub const BOTH: [Node; 1] = [Node {
@@ -13,12 +13,6 @@ pub const EITHER: [Node; 1] = [Node {
     a: ON,
     b: P1,
     c: P2,
-}];
-
-pub const WITHOUT: [Node; 1] = [Node {
-    a: OFF,
-    b: P1,
-    c: N2,
 }];
 
 pub const UNLIKE: [Node; 3] = [
@@ -93,58 +87,11 @@ pub const LESSENED: [Node; 3] = [
     },
 ];
 
-pub const TURNED_BY: [Node; 4] = [
-    Node {
-        a: ON,
-        b: P1,
-        c: P3,
-    },
-    Node {
-        a: OFF,
-        b: P1,
-        c: P3,
-    },
-    Node {
-        a: OFF,
-        b: P4,
-        c: N5,
-    },
-    Node {
-        a: P2,
-        b: P5,
-        c: P6,
-    },
-];
-
 pub const COMPARED: [Node; 1] = [Node {
     a: P1,
     b: N2,
     c: P3,
 }];
-
-pub const MAJORITY: [Node; 1] = [Node {
-    a: P1,
-    b: P2,
-    c: P3,
-}];
-
-pub const ODD: [Node; 3] = [
-    Node {
-        a: OFF,
-        b: P1,
-        c: N2,
-    },
-    Node {
-        a: ON,
-        b: P2,
-        c: P3,
-    },
-    Node {
-        a: N1,
-        b: P3,
-        c: P4,
-    },
-];
 
 pub const ORDERED: [Node; 2] = [
     Node {

@@ -1,33 +1,29 @@
 -- Bodies with states are of the table, and their sequences serve them.
-use Rattle.std.proofs.Common.{◌≡◌, ℕ, suc, ◌<◌, ◌≤◌, Bool, true, false, cond, not}
+use Rattle.std.proofs.Common.{◌≡◌, ℕ, suc, ◌<◌, ◌≤◌, Bool, true, false, cond}
 use Rattle.std.proofs.Common.{List, [], ◌∷◌, map, length, refl, sym, ap, ◌∙◌, arith}
 use Rattle.std.proofs.Common.{Option, Some, None}
-use Rattle.std.specs.Prelude.{◌==◌, ◌&&◌}
+use Rattle.std.specs.Prelude.{◌==◌, ◌&&◌, is_some}
 use Rattle.std.proofs.lemmas.Bool.{and_parts, eqb-true}
 use Rattle.mig_graph.specs.declared.Lit.{Lit}
 use Rattle.mig_graph.specs.Outputs.{lit_at}
 use Rattle.row_alloc.specs.declared.body.OutRow.{OutRow}
 use Rattle.row_alloc.specs.declared.body.Held.{Held}
 use Rattle.row_alloc.specs.Rows.{out_at}
-use Rattle.row_alloc.specs.Body.{WritesLate}
 use Rattle.row_alloc.specs.Held.{have_layouts}
-use Rattle.row_alloc.specs.HeldBodies.{HeldBody, ZeroInT0, HeldNegatedIf, held_graph}
+use Rattle.row_alloc.specs.HeldBodies.{HeldBody, ZeroInT0, held_graph}
 use Rattle.row_alloc.specs.HeldBodies.{held_inputs, held_nodes, held_outs, enter_in, leave_in}
 use Rattle.row_alloc.specs.HeldBodies.{held_at, held_sequence_for}
-use Rattle.row_alloc.proofs.HeldLate.{KeepsHeld, held_late}
 use Rattle.loop_ir.specs.declared.ir.Place.{Place}
 use Rattle.loop_ir.specs.Plain.{Block}
 use Rattle.loop_ir.specs.Spots.{nth_place, is_state}
 use Rattle.loop_ir.specs.Same.{same_lit, same_lits, same_nodes}
 use Rattle.loop_ir.specs.States.{has_states, row_count, RowsFirst, enters, leaves}
 use Rattle.loop_ir.specs.States.{row_outs, same_held, same_helds, is_held_body, held_bodies, held_of}
-use Rattle.loop_ir.specs.Costs.{carries, same_sub, turn_cost, held_cost}
-use Rattle.loop_ir.specs.Limits.{IsSmall, is_served}
+use Rattle.loop_ir.specs.Costs.{carries, turn_cost, held_cost}
+use Rattle.loop_ir.specs.Limits.{IsSmall}
 use Rattle.loop_laws.proofs.Costing.{found-is}
 use Rattle.loop_ir.specs.Outputs.{IsOuts}
 use Rattle.uprog_gen.proofs.Bodies.Fixed.{lits-eq, all-lits, all-nodes, graph-made}
-use Rattle.uprog_gen.proofs.Bodies.Planned.{same_self}
-use Rattle.uprog_gen.proofs.Rows.Settled.{some_out}
 
 helds-eq : (x y : Held) → same_held x y ≡ true → x ≡ y
 helds-eq x y h =
@@ -121,33 +117,18 @@ row_lits (p ∷ ps) (l ∷ ls) outs n first m h = by (is_state p.space) refl out
         ∙ ap (λ xs. l ∷ xs) (more (rest e) os (omega (arith, m))
         (λ j lt. h (suc j) (omega (arith, lt))))
 
-pub not_same : (c : Bool) → not c ≡ true → c ≡ true → ⊥
-not_same true h e = cc
-not_same false h e = cc
-
--- its sequence keeps what it has still to read
-kept_held : (b : Block) (m : ℕ) (outs : List OutRow) (h : HeldBody) → IsOuts b m outs
-    → is_served (Some h) b ≡ true → KeepsHeld h outs
-kept_held b m outs HeldNegatedIf is s = λ e.
-    let f = (is.found 0 1 (some_out outs 0 1 e) e).1 in
-    not_same (same_sub (nth_place b.reads 1).sub (nth_place b.writes 0).sub) s
-    (ap (λ (p : Place). same_sub p.sub (nth_place b.writes 0).sub) f
-    ∙ same_self (nth_place b.writes 0).sub)
-kept_held b m outs h is s = tt
-
 -- what is known of a body with states
 pub record IsServed (b : Block) (outs : List OutRow) : Type 0 where
   pub body : HeldBody
   pub is : held_of b ≡ Some body
   pub same : IsHeldBody body b
   pub lits : map (λ o. o.lit) outs ≡ held_outs body
-  pub late : WritesLate outs (held_at (held_sequence_for body))
 
 pub served : (b : Block) (outs : List OutRow) → IsSmall b → carries b ≡ false → has_states b ≡ true
     → IsOuts b (row_count b.writes) outs → IsServed b outs
 served b outs small bare states is = by (held_of b) refl (small.known bare states)
   where
-    by : (o : Option HeldBody) → held_of b ≡ o → is_served o b ≡ true → IsServed b outs
+    by : (o : Option HeldBody) → held_of b ≡ o → is_some o ≡ true → IsServed b outs
     by None e s = absurd (cc)
     by (Some h) e s =
         let same = held_body_is h b (found-is held_bodies b h e) in
@@ -157,7 +138,6 @@ served b outs small bare states is = by (held_of b) refl (small.known bare state
           same = same;
           lits = row_lits b.writes b.outs outs small.states.written small.states.first is.size
               is.lits ∙ same.outs;
-          late = held_late h outs (kept_held b (row_count b.writes) outs h is s);
         }
 
 -- the layouts of its states are of the list

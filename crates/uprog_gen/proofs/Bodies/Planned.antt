@@ -6,14 +6,14 @@ use Rattle.std.specs.List.{list_any}
 use Rattle.std.proofs.lemmas.Bool.{eq-eqb}
 use Rattle.loop_ir.specs.declared.ir.Sub.{Sub}
 use Rattle.loop_ir.specs.declared.ir.Sub.TheVariants.{Zero, Top, Inner as At_inner, InnerDown}
-use Rattle.loop_ir.specs.declared.ir.Sub.TheVariants.{Outer, OuterDown, Sum, DownSum, SumTwice}
-use Rattle.loop_ir.specs.declared.ir.Sub.TheVariants.{AboveSumTwice, AboveSum, DownPlusN}
-use Rattle.loop_ir.specs.declared.ir.Sub.TheVariants.{NPlusInner}
+use Rattle.loop_ir.specs.declared.ir.Sub.TheVariants.{Outer, OuterDown, Sum, DownSum, DownPlusN}
+use Rattle.loop_ir.specs.declared.ir.Sub.TheVariants.{NPlusInner, Register}
 use Rattle.loop_ir.specs.declared.ir.Place.{Place}
 use Rattle.loop_ir.specs.Plain.{Block}
 use Rattle.loop_ir.specs.Spots.{nth_place}
 use Rattle.loop_ir.specs.Costs.{sub_code, same_sub, is_used, used_subs}
-use Rattle.uprog_gen.specs.Code.{own_subs, loop_subs, sub_in, plan_of, is_planned, IsPlanned}
+use Rattle.uprog_gen.specs.Code.{own_subs, loop_subs, sub_in, plan_of, is_register, is_planned}
+use Rattle.uprog_gen.specs.Code.{IsPlanned}
 use Rattle.loop_laws.proofs.Same.{sub_true}
 
 member : Sub → List Sub → Bool
@@ -85,13 +85,33 @@ module _ (p : Sub → Bool) where
 
 own_few : (b : Block) → length (own_subs b) ≤ length (used_subs b)
 own_few b = more_filtered (is_used b) (Top ∷ At_inner ∷ InnerDown ∷ []) (Outer ∷ OuterDown
-    ∷ []) (Sum ∷ DownSum ∷ DownPlusN ∷ NPlusInner ∷ SumTwice ∷ AboveSumTwice ∷ AboveSum ∷ [])
+    ∷ []) (Sum ∷ DownSum ∷ DownPlusN ∷ NPlusInner ∷ [])
+
+own_three : (a b c d e f r : Bool) → (d || (e || f)) ≡ true
+    → (a || (b || (c || (d || (e || (f || r)))))) ≡ true
+own_three true b c d e f r h = refl
+own_three false true c d e f r h = refl
+own_three false false true d e f r h = refl
+own_three false false false true e f r h = refl
+own_three false false false false true f r h = refl
+own_three false false false false false true r h = refl
+own_three false false false false false false r h = cc
+
+last_true : (a b c d e f : Bool) → (a || (b || (c || (d || (e || (f || true)))))) ≡ true
+last_true true b c d e f = refl
+last_true false true c d e f = refl
+last_true false false true d e f = refl
+last_true false false false true e f = refl
+last_true false false false false true f = refl
+last_true false false false false false true = refl
+last_true false false false false false false = refl
 
 in_loop : (b : Block) (s : Sub) → length (used_subs b) ≤ 3 → is_used b s ≡ true
-    → member s loop_subs ≡ true → (same_sub s (plan_of b).first
-    || (same_sub s (plan_of b).second || same_sub s (plan_of b).third)) ≡ true
-in_loop b s few used m = small_member s (own_subs b) (omega (arith, own_few b, few))
-    (member_filter (is_used b) s loop_subs used m)
+    → member s loop_subs ≡ true → is_planned (plan_of b) s ≡ true
+in_loop b s few used m = own_three (same_sub s Zero) (same_sub s Outer) (same_sub s OuterDown)
+    (same_sub s (plan_of b).first) (same_sub s (plan_of b).second) (same_sub s (plan_of b).third)
+    (is_register s) (small_member s (own_subs b) (omega (arith, own_few b, few))
+    (member_filter (is_used b) s loop_subs used m))
 
 planned_sub : (b : Block) (s : Sub) → length (used_subs b) ≤ 3 → is_used b s ≡ true
     → is_planned (plan_of b) s ≡ true
@@ -106,9 +126,10 @@ planned_sub b Sum few used = in_loop b Sum few used refl
 planned_sub b DownSum few used = in_loop b DownSum few used refl
 planned_sub b DownPlusN few used = in_loop b DownPlusN few used refl
 planned_sub b NPlusInner few used = in_loop b NPlusInner few used refl
-planned_sub b SumTwice few used = in_loop b SumTwice few used refl
-planned_sub b AboveSumTwice few used = in_loop b AboveSumTwice few used refl
-planned_sub b AboveSum few used = in_loop b AboveSum few used refl
+planned_sub b (Register r) few used =
+    let s = Register r in
+    last_true (same_sub s Zero) (same_sub s Outer) (same_sub s OuterDown)
+    (same_sub s (plan_of b).first) (same_sub s (plan_of b).second) (same_sub s (plan_of b).third)
 
 pub same_self : (s : Sub) → same_sub s s ≡ true
 same_self s = eq-eqb (sub_code s) (sub_code s) refl
@@ -134,6 +155,7 @@ module _ (b : Block) (few : length (used_subs b) ≤ 3) where
 
   pub plans : IsPlanned (plan_of b) b
   plans = record {
+    own = refl;
     reads = λ k. place_front (λ s. is_planned (plan_of b) s
         ≡ true) (λ s p. same_sub p.sub s) b.reads b.writes passes refl (λ s e.
         planned_sub b s few e) k;

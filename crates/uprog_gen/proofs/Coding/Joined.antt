@@ -30,7 +30,7 @@ use Rattle.loop_ir.specs.Spots.{Spots, after_round, after_rounds}
 use Rattle.uprog_gen.specs.Where.{Agree, spots_in, IsSpot, IsBelow}
 use Rattle.uprog_gen.specs.Code.{Part, blocks, program_code}
 use Rattle.uprog_gen.specs.Parts.{IsPart}
-use Rattle.loop_ir.specs.Limits.{IsRound, CanCompile, step_stands}
+use Rattle.loop_ir.specs.Limits.{IsRound, StepHasValues, CanCompile, step_stands}
 use Rattle.loop_ir.specs.Costs.{step_cost, code_cost, step_bodies}
 use Rattle.uprog_gen.specs.Emits.{EmitsSteps}
 use Rattle.uprog_gen.specs.Does.{DoesRounds, Means, AreCheap, joined, total, after_statements}
@@ -97,6 +97,13 @@ stand_joined head (p ∷ ps) h = all_stand p (joined ps) h.0.stand (stand_joined
     all_stand (x ∷ xs) ys a b =
         let q = and_parts (step_stands x) (list_all step_stands xs) a in
         and_from (step_stands x) (list_all step_stands (xs ++ ys)) q.0 (all_stand xs ys q.1 b)
+
+values_joined : (head : Shape) (ps : List Statement)
+    → AllByRecursion (CanCompile (IsSpot head)) ps
+    → AllByRecursion (StepHasValues (IsSpot head)) (joined ps)
+values_joined head [] h = tt
+values_joined head (p ∷ ps) h = both (StepHasValues (IsSpot head)) p (joined ps) h.0.values
+    (values_joined head ps h.1)
 
 cost_joined : (head : Shape) (ps : List Statement) → AllByRecursion (CanCompile (IsSpot head)) ps
     → code_cost (joined ps) ≤ 256 * length ps
@@ -263,6 +270,9 @@ is_entry head ps mid code can few emits e = subst (IsEntry head ps)
         record {
           legal = code_legal head emits.coded short emits.parts
               (subst (AreFew) (sym emits.same) (few_joined head ps can))
+              (stands ps emits.coded can emits.same)
+              (subst (AllByRecursion (StepHasValues (IsSpot head))) (sym emits.same)
+              (values_joined head ps can))
               (λ n some small. subst (AllByRecursion (IsRound (IsSpot head n) n))
               (all_blocks n emits.coded) (rounds ps emits.coded n some small can emits.same));
           parts = record {

@@ -3,26 +3,22 @@ use Rattle.std.proofs.Common.{◌≡◌, ℕ, zero, suc, ◌+◌, ◌-◌, ◌*�
 use Rattle.std.proofs.Common.{List, ⊎_elim}
 use Rattle.std.proofs.Common.{[], ◌∷◌, ◌++◌, map, length, refl, ap, ◌∙◌, subst, arith, Some}
 use Rattle.std.proofs.Common.{length-append, append-nil, append_assoc, sym}
-use Rattle.std.proofs.lemmas.List.{length-map}
+use Rattle.std.proofs.lemmas.List.{length-map, map-append}
 use Rattle.bit_rows.specs.declared.TheConstants.{WIDTH_MAX}
-use Rattle.std.specs.Prelude.{slice_get, nat_lt, nat_le, ◌==◌, ◌&&◌, ◌%◌}
+use Rattle.std.specs.Prelude.{slice_get, nat_lt, nat_le, ◌==◌, ◌&&◌}
 use Rattle.std.specs.List.{AllByRecursion, list_all}
 use Rattle.std.proofs.Math.Seq.{get_or-append_seam}
 use Rattle.std.proofs.lemmas.Option.{slice_get-get_or}
-use Rattle.std.proofs.lemmas.Bool.{and_parts, and_from, lt-ltb, cases_lt, eq-eqb, ne_eqb}
+use Rattle.std.proofs.lemmas.Bool.{and_parts, and_from, lt-ltb, ltb-true, le-leb, cases_lt}
 use Rattle.std.proofs.Math.Nat.{mul-le-mul_right}
 use Rattle.op_text.specs.declared.tree.Kind.{Kind}
 use Rattle.uprog_code.specs.declared.code.Uop.{Uop}
-use Rattle.uprog_code.specs.declared.code.Uop.TheVariants.{Done, SetI, SetN, Mov, SubI, AddI, Bnez}
+use Rattle.uprog_code.specs.declared.code.Uop.TheVariants.{Done, SubI, AddI, Bnez}
 use Rattle.uprog_code.specs.Shape.{Shape, results}
 use Rattle.uprog_code.specs.Legal.{is_row, is_first, is_second, may_be_first, may_be_second}
 use Rattle.uprog_code.specs.Legal.{is_legal, IsLegalCode}
-use Rattle.loop_ir.specs.declared.ir.Span.{Span}
-use Rattle.loop_ir.specs.declared.ir.Span.TheVariants.{Full, First, Above}
-use Rattle.loop_ir.specs.Loops.{rounds, RoundOf, round_at, one_round, two_rounds, positions}
-use Rattle.loop_ir.specs.Loops.{elements, filled_rounds, level_rounds, inner_rounds, step_rounds}
-use Rattle.loop_ir.specs.Loops.{all_rounds}
-use Rattle.loop_ir.specs.Loops.{sub_value, turns_from}
+use Rattle.loop_ir.specs.Loops.{rounds, RoundOf, round_at, one_round, positions, inner_rounds}
+use Rattle.loop_ir.specs.Loops.{step_rounds, all_rounds, sub_value, turns_from}
 use Rattle.row_alloc.specs.declared.body.BodyRef.{BodyRef}
 use Rattle.row_alloc.specs.declared.body.BodyRef.TheVariants as ref
 use Rattle.row_alloc.specs.declared.body.BodyCmd.{BodyCmd}
@@ -32,31 +28,36 @@ use Rattle.row_alloc.specs.Legal.{is_ref, is_first_ref, is_second_ref, is_legal_
 use Rattle.row_alloc.specs.Held.{is_read, reads_rows}
 use Rattle.loop_ir.specs.declared.ir.Sub.{Sub}
 use Rattle.loop_ir.specs.declared.ir.Sub.TheVariants.{Zero, Top, Inner as At_inner, InnerDown}
-use Rattle.loop_ir.specs.declared.ir.Sub.TheVariants.{Outer, OuterDown, Sum, DownSum}
-use Rattle.loop_ir.specs.declared.ir.Sub.TheVariants.{SumTwice, AboveSumTwice, AboveSum, DownPlusN, NPlusInner}
+use Rattle.loop_ir.specs.declared.ir.Sub.TheVariants.{Outer, OuterDown, Sum, DownSum, DownPlusN}
+use Rattle.loop_ir.specs.declared.ir.Sub.TheVariants.{NPlusInner, Register}
 use Rattle.loop_ir.specs.declared.ir.Space.{Space}
 use Rattle.loop_ir.specs.declared.ir.Space.TheVariants.{Result, Source, ScratchBit, ScratchWord}
 use Rattle.loop_ir.specs.declared.ir.Space.TheVariants.{Cells}
 use Rattle.loop_ir.specs.declared.ir.Count.{Count}
-use Rattle.loop_ir.specs.declared.ir.Count.TheVariants.{All as All_of, Rest, UpTo}
-use Rattle.loop_ir.specs.Plain.{Block, LevelOf, InnerOf, TurnOf, StepOf, turn_map, step_map, AllInner}
+use Rattle.loop_ir.specs.declared.ir.Count.TheVariants.{All as All_of, Rest}
+use Rattle.loop_ir.specs.Plain.{Block, InnerOf, TurnOf, StepOf, turn_map, step_map, AllInner}
 use Rattle.loop_ir.specs.Plain.{AllTurns, AllStep, AllParts}
-use Rattle.loop_ir.specs.Plain.InnerOf.{Alone, Across, AtLevel}
-use Rattle.loop_ir.specs.Plain.StepOf.{Single, Along, Nest, Pairs, Alternate}
+use Rattle.loop_ir.specs.Plain.InnerOf.{Alone, Across}
+use Rattle.loop_ir.specs.Plain.StepOf.{Single, Along, Nest, Pairs, Alternate, Flowed}
+use Rattle.loop_ir.specs.Flows.{flow_map, AllFlow, all_flow}
+use Rattle.loop_ir.specs.FlowTests.{counts, nests, runs_safely}
 use Rattle.loop_ir.specs.Spots.{nth_place, spot_in, IsOwn}
 use Rattle.uprog_gen.specs.Where.{IsSpot, IsBelow}
 use Rattle.uprog_gen.specs.declared.plan.Plan.{Plan}
-use Rattle.uprog_gen.specs.Code.{Part, row_space, register, place_ref, code_ref, code_uop, init}
+use Rattle.uprog_gen.specs.Code.{Part, row_space, named_register, planned_register, register}
+use Rattle.uprog_gen.specs.Code.{place_ref, code_ref, code_uop, init}
 use Rattle.uprog_gen.specs.Code.{before, after, inits, befores, afters, counter, body_uops}
 use Rattle.uprog_gen.specs.Code.{once_code, turn_code, enter_code, loop_code, inner_list, outside}
 use Rattle.uprog_gen.specs.Code.{turn_plan, turn_uops, either_code, either_size, turns_list}
-use Rattle.uprog_gen.specs.Code.{halve_code, level_code, leave_code, skip_code, pair_plan}
-use Rattle.uprog_gen.specs.Code.{pair_uops, pairing_code, begin_code, finish_code, whole_code}
-use Rattle.uprog_gen.specs.Code.{none_code, step_code, block_of_part, blocks}
-use Rattle.uprog_gen.specs.Code.{program_code}
-use Rattle.uprog_gen.proofs.Coding.Sizes.{begin_long, either_long, cycle_long}
+use Rattle.uprog_gen.specs.Code.{flow_plan, flow_uops, clear_code, step_code, program_code}
+use Rattle.uprog_gen.specs.Code.{block_of_part, blocks}
+use Rattle.uprog_gen.specs.FlowCode.{code_of, size as flow_long}
+use Rattle.uprog_gen.proofs.Coding.FlowMaps.{counts_map, flow_made, flow_among}
+use Rattle.uprog_gen.proofs.Coding.FlowSizes.{code_long}
+use Rattle.uprog_gen.proofs.Coding.FlowLegal.{flow_legal}
+use Rattle.uprog_gen.proofs.Coding.Sizes.{either_long, cycle_long}
 use Rattle.loop_ir.specs.Costs.{is_fixed, same_sub, step_bodies}
-use Rattle.loop_ir.specs.Limits.{IsRound}
+use Rattle.loop_ir.specs.Limits.{IsRound, HasValues, StepHasValues, stays_in_registers, step_stands}
 use Rattle.uprog_gen.proofs.Rows.Rounds.{block_round}
 use Rattle.uprog_gen.specs.Parts.{IsPart}
 use Rattle.loop_ir.specs.States.{enters}
@@ -73,8 +74,7 @@ both P [] ys h k = k
 both P (x ∷ xs) ys h k = (h.0, both P xs ys h.1 k)
 
 register_small : (plan : Plan) (s : Sub) → nat_le (register plan s) 8 ≡ true
-register_small plan s = by (same_sub s Zero) (same_sub s Outer) (same_sub s OuterDown)
-    (same_sub s plan.first) (same_sub s plan.second) (same_sub s plan.third)
+register_small plan s = either plan.named
   where
     by : (a b c d e f : Bool)
         → nat_le (cond a 8 (cond b 0 (cond c 1 (cond d 3 (cond e 4 (cond f 5 8)))))) 8 ≡ true
@@ -86,6 +86,28 @@ register_small plan s = by (same_sub s Zero) (same_sub s Outer) (same_sub s Oute
     by false false false false false true = refl
     by false false false false false false = refl
 
+    low : (r : ℕ) (c : Bool) → nat_lt r 8 ≡ c → nat_le (cond c r 8) 8 ≡ true
+    low r true e = let lt = ltb-true r 8 e in le-leb r 8 (omega (arith, lt))
+    low r false e = refl
+
+    named : (s : Sub) → nat_le (named_register s) 8 ≡ true
+    named Zero = refl
+    named Top = refl
+    named At_inner = refl
+    named InnerDown = refl
+    named Outer = refl
+    named OuterDown = refl
+    named Sum = refl
+    named DownSum = refl
+    named DownPlusN = refl
+    named NPlusInner = refl
+    named (Register r) = low r (nat_lt r 8) refl
+
+    either : (c : Bool) → nat_le (cond c (named_register s) (planned_register plan s)) 8 ≡ true
+    either true = named s
+    either false = by (same_sub s Zero) (same_sub s Outer) (same_sub s OuterDown)
+        (same_sub s plan.first) (same_sub s plan.second) (same_sub s plan.third)
+
 below_length : (ks : List Kind) (w n v : ℕ) → IsBelow (slice_get ks w) n v → w < length ks
 below_length [] w n v h = absurd h
 below_length (k ∷ ks) zero n v h = omega arith
@@ -95,11 +117,6 @@ word_below : (n w v words : ℕ) → w * n + v < n * words → w < words
 word_below n w v words h = ⊎_elim (λ (lt : w < words). lt)
     (λ (le : words ≤ w). let k : words * n ≤ w * n = mul-le-mul_right n le in
     absurd (omega (arith, h, k))) (cases_lt w words)
-
-blocks-append : (xs ys : List (RoundOf Part))
-    → map block_round (xs ++ ys) ≡ map block_round xs ++ map block_round ys
-blocks-append [] ys = refl
-blocks-append (x ∷ xs) ys = ap (λ l. block_round x ∷ l) (blocks-append xs ys)
 
 module _ (head : Shape) where
   place_row_legal : (n : ℕ) (s : Space) (w v : ℕ) (plan : Plan) (u : Sub) → IsSpot head n (spot_in n s w v)
@@ -145,8 +162,18 @@ module _ (head : Shape) where
   abbrev IsRoundAtWidth : ℕ → RoundOf Block → Type 0
   IsRoundAtWidth n r = IsRound (IsSpot head n) n r
 
-  module _ (p : Part) (part : IsPart p) (plan : Plan) (n i o : ℕ)
-      (is : IsRoundAtWidth n (round_at p.block i o)) where
+  -- a body's values are such as the operation has, where it has a round
+  values_of : (b : Block) (n i o : ℕ) → IsRoundAtWidth n (round_at b i o)
+      → HasValues (IsSpot head) b
+  values_of b n i o is = record {
+    reads = λ k lt row. (n, sub_value n i o [] (nth_place b.reads k).sub, is.reads k lt row);
+    writes = λ j lt row. (n, sub_value n i o [] (nth_place b.writes j).sub, is.writes j lt row);
+    own = λ j lt.
+        let q = nth_place b.writes j in
+        subst IsOwn (spot_space n q.space q.which (sub_value n i o [] q.sub)) (is.own j lt);
+  }
+
+  module _ (p : Part) (part : IsPart p) (plan : Plan) (has : HasValues (IsSpot head) p.block) where
     abbrev N : ℕ
     N = p.block.graph.inputs
 
@@ -163,12 +190,12 @@ module _ (head : Shape) where
     row_legal (ref.Spill k) h m = and_from (nat_lt k 32) (0 == 0) h refl
     row_legal (ref.In k) h m =
         let q = nth_place p.block.reads k in
-        place_row_legal n q.space q.which (sub_value n i o q.sub) plan q.sub
-        (is.reads k m.0 m.1)
+        let v = has.reads k m.0 m.1 in
+        place_row_legal v.0 q.space q.which v.1 plan q.sub v.2
     row_legal (ref.Out k) h m =
         let q = nth_place p.block.writes k in
-        place_row_legal n q.space q.which (sub_value n i o q.sub) plan q.sub
-        (is.writes k m.0 m.1)
+        let v = has.writes k m.0 m.1 in
+        place_row_legal v.0 q.space q.which v.1 plan q.sub v.2
 
     first_of_ref : (x : BodyRef) → is_first_ref x ≡ true
         → may_be_first (code_ref plan p.block x).space (code_ref plan p.block x).which ≡ true
@@ -186,8 +213,7 @@ module _ (head : Shape) where
     second_of_ref (ref.In k) m h = absurd (let g : false ≡ true = h in cc)
     second_of_ref (ref.Out k) m h =
         let q = nth_place p.block.writes k in
-        own_second q.space (subst IsOwn (spot_space n q.space q.which (sub_value n i o q.sub))
-        (is.own k m.0))
+        own_second q.space (has.own k m.0)
 
     uop_legal : (size : ℕ) (c : BodyCmd) → is_legal_cmd N M c ≡ true → reads_rows enter c ≡ true
         → IsLegalAt size (code_uop plan p.block c)
@@ -225,10 +251,13 @@ module _ (head : Shape) where
   IsFit p = (plan : Plan) (size : ℕ)
       → AllByRecursion (IsLegalAt size) (map (code_uop plan p.block) p.cmds)
 
+  fit_values : (p : Part) → IsPart p → HasValues (IsSpot head) p.block → IsFit p
+  fit_values p part has plan size = uops_legal p part plan has size p.cmds part.does.legal
+      part.does.unread
+
   fit_part : (p : Part) → IsPart p → (n i o : ℕ) → IsRoundAtWidth n (round_at p.block i o)
       → IsFit p
-  fit_part p part n i o is plan size = uops_legal p part plan n i o is size p.cmds part.does.legal
-      part.does.unread
+  fit_part p part n i o is = fit_values p part (values_of p.block n i o is)
 
   -- rounds, and more of them
   abbrev All_at : ℕ → List (RoundOf Part) → Type 0
@@ -236,7 +265,7 @@ module _ (head : Shape) where
 
   apart : (n : ℕ) (xs ys : List (RoundOf Part)) → All_at n (xs ++ ys) → All_at n xs × All_at n ys
   apart n xs ys r =
-      let all = subst (AllByRecursion (IsRoundAtWidth n)) (blocks-append xs ys) r in (
+      let all = subst (AllByRecursion (IsRoundAtWidth n)) (map-append block_round xs ys) r in (
         front_all (IsRoundAtWidth n) (map block_round xs) (map block_round ys) all,
         back_all (IsRoundAtWidth n) (map block_round xs) (map block_round ys) all,
       )
@@ -247,59 +276,13 @@ module _ (head : Shape) where
   first_of n f zero some r = absurd (omega arith)
   first_of n f (suc count) some r = (apart n (f 0) (rounds f (0 + 1) count) r).0
 
-  -- what alone is done at a level without elements
-  none_round : (n o : ℕ) (l : LevelOf Part) → elements n o ≡ 0 → All_at n (level_rounds n o l)
-      → IsRoundAtWidth n (round_at l.none.block 0 o)
-  none_round n o l none r = (subst (λ z. All_at n (cond z (one_round l.none 0 o)
-      (filled_rounds n o l))) (eq-eqb (elements n o) 0 none) r).0
-
-  -- the rounds of a level that has elements
-  some_rounds : (n o : ℕ) (l : LevelOf Part) → 0 < elements n o → All_at n (level_rounds n o l)
-      → All_at n (filled_rounds n o l)
-  some_rounds n o l some r = subst (λ z. All_at n (cond z (one_round l.none 0 o)
-      (filled_rounds n o l))) (ne_eqb (elements n o) 0 (λ e. absurd (omega (arith, e, some)))) r
-
-  abbrev Started : LevelOf Part → ℕ → ℕ → Bool → Type 0
-  Started l n o z = All_at n (one_round (cond z l.even l.odd) 0 o
-      ++ (rounds (λ i. two_rounds l.first l.second i o) 0 (elements n (o + 1))
-      ++ one_round l.end 0 o))
-
-  even_round : (n o : ℕ) (l : LevelOf Part) → 0 < elements n o → elements n o % 2 ≡ 0
-      → All_at n (level_rounds n o l) → IsRoundAtWidth n (round_at l.even.block 0 o)
-  even_round n o l some even r = (subst (Started l n o) (eq-eqb (elements n o % 2) 0 even)
-      (some_rounds n o l some r)).0
-
-  odd_rounds : (n o : ℕ) (l : LevelOf Part) → elements n o % 2 ≡ 1 → All_at n (level_rounds n o l)
-      → Started l n o false
-  odd_rounds n o l odd r = subst (Started l n o) (ne_eqb (elements n o % 2) 0 (λ e.
-      absurd (omega (arith, e, odd)))) (some_rounds n o l (omega (arith, odd)) r)
-
-  -- what alone is done without elements has no code at the first outer position
-  abbrev NoneFits : Span → Part → Type 0
-  NoneFits Full p = IsFit p
-  NoneFits First p = Unit {0}
-  NoneFits Above p = IsFit p
-
-  record LevelFits (span : Span) (l : LevelOf Part) : Type 0 where
-    none : NoneFits span l.none
-    odd : IsFit l.odd
-    even : IsFit l.even
-    first : IsFit l.first
-    second : IsFit l.second
-    end : IsFit l.end
-
-  abbrev InnersFit : Span → List (InnerOf Part) → Type 0
-  InnersFit span [] = Unit {0}
-  InnersFit span (Alone p ∷ xs) = IsFit p × InnersFit span xs
-  InnersFit span (Across count p ∷ xs) = IsFit p × InnersFit span xs
-  InnersFit span (AtLevel l ∷ xs) = LevelFits span l × InnersFit span xs
-
   abbrev StepFits : StepOf Part → Type 0
   StepFits (Single p) = IsFit p
   StepFits (Along p) = IsFit p
-  StepFits (Nest span parts) = InnersFit span parts
+  StepFits (Nest parts) = AllInner IsFit parts
   StepFits (Pairs p) = IsFit p
   StepFits (Alternate ts) = AllTurns IsFit ts
+  StepFits (Flowed f) = (counts f ≡ true) × AllFlow IsFit f
 
   abbrev StepsFit : List (StepOf Part) → Type 0
   StepsFit [] = Unit {0}
@@ -308,67 +291,21 @@ module _ (head : Shape) where
   some_positions : (n o : ℕ) (count : Count) → o < n → 0 < positions n o count
   some_positions n o All_of below = omega (arith, below)
   some_positions n o Rest below = omega (arith, below)
-  some_positions n o UpTo below = omega arith
 
-  -- a level without elements, if there is one among the outer positions
-  abbrev NoneAt : Span → List (InnerOf Part) → Type 0
-  NoneAt Full xs = All_at 3 (inner_rounds 3 2 xs)
-  NoneAt First xs = Unit {0}
-  NoneAt Above xs = All_at 3 (inner_rounds 3 2 xs)
-
-  none_past : (span : Span) (rs : List (RoundOf Part)) (x : InnerOf Part) (xs : List (InnerOf Part))
-      → inner_rounds 3 2 (x ∷ xs) ≡ rs ++ inner_rounds 3 2 xs → NoneAt span (x ∷ xs) → NoneAt span xs
-  none_past Full rs x xs e r = (apart 3 rs (inner_rounds 3 2 xs) (subst (All_at 3) e r)).1
-  none_past First rs x xs e r = tt
-  none_past Above rs x xs e r = (apart 3 rs (inner_rounds 3 2 xs) (subst (All_at 3) e r)).1
-
-  none_fits : (span : Span) (l : LevelOf Part) (xs : List (InnerOf Part)) → IsPart l.none
-      → NoneAt span (AtLevel l ∷ xs) → NoneFits span l.none
-  none_fits Full l xs h r = fit_part l.none h 3 0 2 (none_round 3 2 l (omega arith)
-      (apart 3 (level_rounds 3 2 l) (inner_rounds 3 2 xs) r).0)
-  none_fits First l xs h r = tt
-  none_fits Above l xs h r = fit_part l.none h 3 0 2 (none_round 3 2 l (omega arith)
-      (apart 3 (level_rounds 3 2 l) (inner_rounds 3 2 xs) r).0)
-
-  -- Each body has a round at width 2, those that take turns where there are positions enough, and
-  -- those of a nest where one level is odd and has a pair, where one is even and has elements, and
-  -- where one has none
-  module _ (span : Span) (n m o : ℕ) (below : o < n) (odd : elements n o % 2 ≡ 1)
-      (pair : 0 < elements n (o + 1)) (some : 0 < elements m o) (even : elements m o % 2 ≡ 0) where
-    fit_inner : (xs : List (InnerOf Part)) → AllInner IsPart xs → All_at n (inner_rounds n o xs)
-        → All_at m (inner_rounds m o xs) → NoneAt span xs → InnersFit span xs
-    fit_inner [] h r q z = tt
-    fit_inner (Alone p ∷ xs) h r q z = (
-      fit_part p h.0 n 0 o r.0,
-      fit_inner xs h.1 r.1 q.1 (none_past span (one_round p 0 2) (Alone p) xs refl z),
-    )
-    fit_inner (Across count p ∷ xs) h r q z =
-        let a = apart n (rounds (λ i. one_round p i o) 0 (positions n o count))
-        (inner_rounds n o xs) r in
-        let b = apart m (rounds (λ i. one_round p i o) 0 (positions m o count))
-        (inner_rounds m o xs) q in (
-          fit_part p h.0 n 0 o (first_of n (λ i. one_round p i o) (positions n o count)
-              (some_positions n o count below) a.0).0,
-          fit_inner xs h.1 a.1 b.1 (none_past span
-              (rounds (λ i. one_round p i 2) 0 (positions 3 2 count)) (Across count p) xs refl z),
-        )
-    fit_inner (AtLevel l ∷ xs) h r q z =
-        let a = apart n (level_rounds n o l) (inner_rounds n o xs) r in
-        let b = apart m (level_rounds m o l) (inner_rounds m o xs) q in
-        let c = odd_rounds n o l odd a.0 in
-        let pairs = rounds (λ i. two_rounds l.first l.second i o) 0 (elements n (o + 1)) in
-        let d = apart n pairs (one_round l.end 0 o) c.1 in
-        let two = first_of n (λ i. two_rounds l.first l.second i o) (elements n (o + 1)) pair d.0 in (
-          record {
-            none = none_fits span l xs h.0.none z;
-            odd = fit_part l.odd h.0.odd n 0 o c.0;
-            even = fit_part l.even h.0.even m 0 o (even_round m o l some even b.0);
-            first = fit_part l.first h.0.first n 0 o two.0;
-            second = fit_part l.second h.0.second n 0 o two.1.0;
-            end = fit_part l.end h.0.end n 0 o d.1.0;
-          },
-          fit_inner xs h.1 a.1 b.1 (none_past span (level_rounds 3 2 l) (AtLevel l) xs refl z),
-        )
+  -- Each body has a round at width 2; those that take turns have one where there are positions
+  -- enough
+  fit_inner : (n o : ℕ) → o < n → (xs : List (InnerOf Part)) → AllInner IsPart xs
+      → All_at n (inner_rounds n o xs) → AllInner IsFit xs
+  fit_inner n o below [] h r = tt
+  fit_inner n o below (Alone p ∷ xs) h r =
+      (fit_part p h.0 n 0 o r.0, fit_inner n o below xs h.1 r.1)
+  fit_inner n o below (Across count p ∷ xs) h r =
+      let a = apart n (rounds (λ i. one_round p i o) 0 (positions n o count))
+      (inner_rounds n o xs) r in (
+        fit_part p h.0 n 0 o (first_of n (λ i. one_round p i o) (positions n o count)
+            (some_positions n o count below) a.0).0,
+        fit_inner n o below xs h.1 a.1,
+      )
 
   fit_turns : (ts us : List (TurnOf Part)) (i : ℕ) → AllTurns IsPart ts
       → i + length ts < WIDTH_MAX
@@ -389,45 +326,21 @@ module _ (head : Shape) where
         (r (suc count) (omega (arith, le))).1)),
   )
 
-  -- the rounds of a nest at the first of some outer positions, and at the third
-  at_first : (n o count : ℕ) (parts : List (InnerOf Part))
-      → All_at n (rounds (λ j. inner_rounds n j parts) o (suc count))
-      → All_at n (inner_rounds n o parts)
-  at_first n o count parts r =
-      (apart n (inner_rounds n o parts) (rounds (λ j. inner_rounds n j parts) (o + 1) count) r).0
-
-  after_first : (n o count : ℕ) (parts : List (InnerOf Part))
-      → All_at n (rounds (λ j. inner_rounds n j parts) o (suc count))
-      → All_at n (rounds (λ j. inner_rounds n j parts) (o + 1) count)
-  after_first n o count parts r =
-      (apart n (inner_rounds n o parts) (rounds (λ j. inner_rounds n j parts) (o + 1) count) r).1
-
   -- at each width the rounds are such
   abbrev AtWidths : (ℕ → List (RoundOf Part)) → Type 0
   AtWidths rs = (n : ℕ) → 0 < n → n ≤ WIDTH_MAX
       → AllByRecursion (IsRoundAtWidth n) (map block_round (rs n))
 
   fit_step : (s : StepOf Part) → AllStep IsPart s → step_bodies (step_map block_of_part s) ≤ 12
+      → step_stands (step_map block_of_part s) ≡ true
+      → StepHasValues (IsSpot head) (step_map block_of_part s)
       → AtWidths (λ n. step_rounds n s) → StepFits s
-  fit_step (Single p) h few r = fit_part p h 2 0 0 (r 2 (omega arith) (omega arith)).0
-  fit_step (Along p) h few r = fit_part p h 2 0 0 (r 2 (omega arith) (omega arith)).0
-  fit_step (Nest Full parts) h few r =
-      let three = r 3 (omega arith) (omega arith) in
-      fit_inner Full 3 2 0 (omega arith) (omega arith) (omega arith) (omega arith) (omega arith)
-      parts h (at_first 3 0 2 parts three)
-      (at_first 2 0 1 parts (r 2 (omega arith) (omega arith)))
-      (at_first 3 2 0 parts (after_first 3 1 1 parts (after_first 3 0 2 parts three)))
-  fit_step (Nest First parts) h few r =
-      fit_inner First 3 2 0 (omega arith) (omega arith) (omega arith) (omega arith) (omega arith)
-      parts h (at_first 3 0 0 parts (r 3 (omega arith) (omega arith)))
-      (at_first 2 0 0 parts (r 2 (omega arith) (omega arith))) tt
-  fit_step (Nest Above parts) h few r =
-      fit_inner Above 6 4 1 (omega arith) (omega arith) (omega arith) (omega arith) (omega arith)
-      parts h (at_first 6 1 4 parts (r 6 (omega arith) (omega arith)))
-      (at_first 4 1 2 parts (r 4 (omega arith) (omega arith)))
-      (at_first 3 2 0 parts (after_first 3 1 1 parts (r 3 (omega arith) (omega arith))))
-  fit_step (Pairs p) h few r = fit_part p h 2 0 1 (r 2 (omega arith) (omega arith)).0
-  fit_step (Alternate ts) h few r =
+  fit_step (Single p) h few stand has r = fit_part p h 2 0 0 (r 2 (omega arith) (omega arith)).0
+  fit_step (Along p) h few stand has r = fit_part p h 2 0 0 (r 2 (omega arith) (omega arith)).0
+  fit_step (Nest parts) h few stand has r = fit_inner 2 0 (omega arith) parts h
+      (first_of 2 (λ o. inner_rounds 2 o parts) 2 (omega arith) (r 2 (omega arith) (omega arith)))
+  fit_step (Pairs p) h few stand has r = fit_part p h 2 0 1 (r 2 (omega arith) (omega arith)).0
+  fit_step (Alternate ts) h few stand has r =
       let many : 2 * length ts ≤ 12 = omega (
         arith,
         few,
@@ -440,21 +353,31 @@ module _ (head : Shape) where
       (sym (append-nil ts))
       (subst (λ c. AllByRecursion (IsRoundAtWidth n) (map block_round (turns_from ts 0 c))) top
       (r n (omega arith) (omega (arith, lt)))))
+  fit_step (Flowed f) h few stand has r =
+      let b = flow_map block_of_part f in (
+        sym (counts_map Part Block block_of_part f) ∙ (and_parts (counts b) (nests 2 b
+            && (all_flow stays_in_registers b && runs_safely b)) stand).0,
+        flow_made Part Block block_of_part IsPart (HasValues (IsSpot head)) IsFit fit_values f h has,
+      )
 
   fit_steps : (ss : List (StepOf Part)) → AllParts IsPart ss → AreFew (blocks ss)
+      → list_all step_stands (blocks ss) ≡ true
+      → AllByRecursion (StepHasValues (IsSpot head)) (blocks ss)
       → AtWidths (λ n. all_rounds n ss) → StepsFit ss
-  fit_steps [] h few r = tt
-  fit_steps (s ∷ ss) h few r = (
-    fit_step s h.0 few.0 (λ n some small. first_rounds n (r n some small)),
-    fit_steps ss h.1 few.1 (λ n some small. later_rounds n (r n some small)),
-  )
+  fit_steps [] h few stand has r = tt
+  fit_steps (s ∷ ss) h few stand has r =
+      let t = and_parts (step_stands (step_map block_of_part s)) (list_all step_stands (blocks ss))
+      stand in (
+        fit_step s h.0 few.0 t.0 has.0 (λ n some small. first_rounds n (r n some small)),
+        fit_steps ss h.1 few.1 t.1 has.1 (λ n some small. later_rounds n (r n some small)),
+      )
     where
       apart : (n : ℕ)
           → AllByRecursion (IsRoundAtWidth n) (map block_round (all_rounds n (s ∷ ss)))
           → AllByRecursion (IsRoundAtWidth n) (map block_round (step_rounds n s)
           ++ map block_round (all_rounds n ss))
       apart n x = subst (AllByRecursion (IsRoundAtWidth n))
-          (blocks-append (step_rounds n s) (all_rounds n ss)) x
+          (map-append block_round (step_rounds n s) (all_rounds n ss)) x
 
       first_rounds : (n : ℕ)
           → AllByRecursion (IsRoundAtWidth n) (map block_round (all_rounds n (s ∷ ss)))
@@ -486,9 +409,7 @@ module _ (head : Shape) where
     init_legal DownSum r h = (and_from (nat_lt r 8) (nat_lt 1 8) h refl, tt)
     init_legal NPlusInner r h = (h, tt)
     init_legal DownPlusN r h = (h, (and_from (nat_lt r 8) (nat_lt 1 8) h refl, tt))
-    init_legal SumTwice r h = (and_from (nat_lt r 8) (nat_lt 0 8) h refl, tt)
-    init_legal AboveSumTwice r h = (and_from (nat_lt r 8) (nat_lt 0 8) h refl, tt)
-    init_legal AboveSum r h = (and_from (nat_lt r 8) (nat_lt 0 8) h refl, tt)
+    init_legal (Register q) r h = (and_from (nat_lt r 8) (nat_le 0 1023) h refl, tt)
 
     before_legal : (u : Sub) (r : ℕ) → nat_lt r 8 ≡ true → L (before u r)
     before_legal InnerDown r h = (and_from (nat_lt r 8) (nat_le 1 1023) h refl, tt)
@@ -501,24 +422,20 @@ module _ (head : Shape) where
     before_legal DownSum r h = tt
     before_legal DownPlusN r h = tt
     before_legal NPlusInner r h = tt
-    before_legal SumTwice r h = tt
-    before_legal AboveSumTwice r h = (and_from (nat_lt r 8) (nat_le 1 1023) h refl, tt)
-    before_legal AboveSum r h = (and_from (nat_lt r 8) (nat_le 1 1023) h refl, tt)
+    before_legal (Register q) r h = tt
 
     after_legal : (u : Sub) (r : ℕ) → nat_lt r 8 ≡ true → L (after u r)
     after_legal At_inner r h = (and_from (nat_lt r 8) (nat_le 1 1023) h refl, tt)
     after_legal Sum r h = (and_from (nat_lt r 8) (nat_le 1 1023) h refl, tt)
     after_legal DownSum r h = (and_from (nat_lt r 8) (nat_le 1 1023) h refl, tt)
     after_legal NPlusInner r h = (and_from (nat_lt r 8) (nat_le 1 1023) h refl, tt)
-    after_legal SumTwice r h = (and_from (nat_lt r 8) (nat_le 2 1023) h refl, tt)
-    after_legal AboveSumTwice r h = (and_from (nat_lt r 8) (nat_le 1 1023) h refl, tt)
     after_legal Zero r h = tt
     after_legal Top r h = tt
     after_legal InnerDown r h = tt
     after_legal Outer r h = tt
     after_legal OuterDown r h = tt
     after_legal DownPlusN r h = tt
-    after_legal AboveSum r h = tt
+    after_legal (Register q) r h = tt
 
     inits_legal : (plan : Plan) → L (inits plan)
     inits_legal plan = join (init plan.first 3) (init plan.second 4 ++ init plan.third 5)
@@ -538,7 +455,6 @@ module _ (head : Shape) where
     counter_legal : (count : Count) → L (counter count)
     counter_legal All_of = (refl, tt)
     counter_legal Rest = (refl, (refl, tt))
-    counter_legal UpTo = (refl, (refl, tt))
 
     once_legal : (p : Part) → IsFit p → L (once_code p)
     once_legal p fit = join (inits p.plan) (befores p.plan ++ body_uops p) (inits_legal p.plan)
@@ -562,114 +478,19 @@ module _ (head : Shape) where
         (join turn jump (turn_legal p.plan (body_uops p) (fit p.plan size))
         (lt-ltb (pc + length enter) size target, tt))
 
-    level_legal : (pc : ℕ) → pc + 16 < size → L (level_code pc)
-    level_legal pc lt =
-        let to = λ (t : ℕ) (h : t ≤ pc + 16). lt-ltb t size (omega (arith, lt, h)) in
-        join (Mov 2 0 ∷ AddI 2 1 ∷ SetN 6 ∷ []) (halve_code pc ++ (Mov 6 7 ∷ SubI 2 1
-        ∷ Bnez 2 (pc + 3) ∷ [])) (refl, (refl, (refl, tt)))
-        (join (halve_code pc) (Mov 6 7 ∷ SubI 2 1 ∷ Bnez 2 (pc + 3) ∷ [])
-        (join (SetI 5 0 ∷ SetI 7 0 ∷ Bnez 2 (pc + 12) ∷ SubI 6 1 ∷ Bnez 6 (pc + 10) ∷ [])
-        (SetI 5 1 ∷ Bnez 2 (pc + 13) ∷ SubI 6 1 ∷ AddI 7 1 ∷ Bnez 6 (pc + 6) ∷ [])
-        (refl, (refl, (to (pc + 12) (omega arith), (refl, (to (pc + 10) (omega arith), tt)))))
-        (refl, (to (pc + 13) (omega arith), (refl, (refl, (to (pc + 6) (omega arith), tt))))))
-        (refl, (refl, (to (pc + 3) (omega arith), tt))))
-
-    pairing_legal : (p q : Part) (pc : ℕ) → IsFit p → IsFit q
-        → pc + length (pairing_code p q pc) < size → L (pairing_code p q pc)
-    pairing_legal p q pc fit_p fit_q lt =
-        let enter = inits pair_plan in
-        let turn = turn_code pair_plan (pair_uops p ++ pair_uops q) in
-        let jump = Bnez 2 (pc + length enter) ∷ [] in
-        let target : pc + length enter < size =
-        omega (arith, lt, length-append enter (turn ++ jump), length-append turn jump) in
-        join enter (turn ++ jump) (inits_legal pair_plan)
-        (join turn jump
-        (turn_legal pair_plan (pair_uops p ++ pair_uops q)
-        (join (pair_uops p) (pair_uops q) (fit_p pair_plan size) (fit_q pair_plan size)))
-        (lt-ltb (pc + length enter) size target, tt))
-
-    leave_legal : (to : ℕ) → to < size → L (leave_code to)
-    leave_legal to lt = (refl, (lt-ltb to size lt, tt))
-
-    begin_legal : (none odd even : List Uop) (pc end : ℕ) → L none → L odd → L even → end < size
-        → pc + length (begin_code none odd even pc end) < size → L (begin_code none odd even pc end)
-    begin_legal none odd even pc end h k m at_end lt =
-        let odd_at = pc + 4 + length none in
-        let even_at = odd_at + 2 + length odd in
-        let next = even_at + length even in
-        let long = begin_long none odd even pc end in
-        let rest = leave_code next ++ even in (
-          lt-ltb odd_at size (omega (arith, lt, long)),
-          (
-            lt-ltb even_at size (omega (arith, lt, long)),
-            join none (leave_code end ++ (odd ++ rest)) h
-                (join (leave_code end) (odd ++ rest) (leave_legal end at_end)
-                (join odd rest k (join (leave_code next) even
-                (leave_legal next (omega (arith, lt, long))) m))),
-          ),
-        )
-
-    finish_legal : (p q : Part) (last : List Uop) (pc : ℕ) → IsFit p → IsFit q → L last
-        → pc + length (finish_code p q last pc) < size → L (finish_code p q last pc)
-    finish_legal p q last pc fit_p fit_q h lt =
-        let loop = pairing_code p q (pc + 4) in
-        let end = pc + 4 + length loop in
-        let skip = skip_code 2 (pc + 1) end in
-        let all = length-append loop last in
-        let at_end : end < size = omega (arith, lt, all) in (
-          refl,
-          join skip (loop ++ last) (
-            lt-ltb (pc + 1 + 3) size (omega (arith, at_end)),
-            leave_legal end at_end,
-          )
-              (join loop last (pairing_legal p q (pc + 4) fit_p fit_q at_end) h),
-        )
-
-    whole_legal : (none odd even : List Uop) (p q : Part) (last : List Uop) (pc : ℕ) → L none
-        → L odd → L even → IsFit p → IsFit q → L last
-        → pc + length (whole_code none odd even p q last pc) < size
-        → L (whole_code none odd even p q last pc)
-    whole_legal none odd even p q last pc h k m fit_p fit_q z lt =
-        let at = pc + 22 + length none + length odd + length even in
-        let finish = finish_code p q last at in
-        let begin = begin_code none odd even (pc + 16) (at + length finish) in
-        let long = length-append begin finish in
-        let first = begin_long none odd even (pc + 16) (at + length finish) in
-        join (level_code pc) (begin ++ finish) (level_legal pc (omega (arith, lt)))
-        (join begin finish
-        (begin_legal none odd even (pc + 16) (at + length finish) h k m
-        (omega (arith, lt, long, first)) (omega (arith, lt, long, first)))
-        (finish_legal p q last at fit_p fit_q z (omega (arith, lt, long, first))))
-
-    none_legal : (span : Span) (p : Part) → NoneFits span p → L (none_code span p)
-    none_legal Full p fit = once_legal p fit
-    none_legal First p fit = tt
-    none_legal Above p fit = once_legal p fit
-
-    inner_legal : (span : Span) (xs : List (InnerOf Part)) (pc : ℕ) → InnersFit span xs
-        → pc + length (inner_list span xs pc) < size → L (inner_list span xs pc)
-    inner_legal span [] pc h le = tt
-    inner_legal span (Alone p ∷ xs) pc h le =
+    inner_legal : (xs : List (InnerOf Part)) (pc : ℕ) → AllInner IsFit xs
+        → pc + length (inner_list xs pc) < size → L (inner_list xs pc)
+    inner_legal [] pc h le = tt
+    inner_legal (Alone p ∷ xs) pc h le =
         let a = once_code p in
-        let b = inner_list span xs (pc + length a) in
-        join a b (once_legal p h.0) (inner_legal span xs (pc + length a) h.1
+        let b = inner_list xs (pc + length a) in
+        join a b (once_legal p h.0) (inner_legal xs (pc + length a) h.1
         (omega (arith, le, length-append a b)))
-    inner_legal span (Across count p ∷ xs) pc h le =
+    inner_legal (Across count p ∷ xs) pc h le =
         let a = loop_code count p pc in
-        let b = inner_list span xs (pc + length a) in
+        let b = inner_list xs (pc + length a) in
         join a b (loop_legal count p pc h.0 (omega (arith, le, length-append a b)))
-        (inner_legal span xs (pc + length a) h.1 (omega (arith, le, length-append a b)))
-    inner_legal span (AtLevel l ∷ xs) pc h le =
-        let none = none_code span l.none in
-        let odd = once_code l.odd in
-        let even = once_code l.even in
-        let last = once_code l.end in
-        let a = whole_code none odd even l.first l.second last pc in
-        let b = inner_list span xs (pc + length a) in
-        join a b (whole_legal none odd even l.first l.second last pc
-        (none_legal span l.none h.0.none) (once_legal l.odd h.0.odd) (once_legal l.even h.0.even)
-        h.0.first h.0.second (once_legal l.end h.0.end) (omega (arith, le, length-append a b)))
-        (inner_legal span xs (pc + length a) h.1 (omega (arith, le, length-append a b)))
+        (inner_legal xs (pc + length a) h.1 (omega (arith, le, length-append a b)))
 
     single_legal : (p : Part) (fixed : Bool) → IsFit p
         → L (cond fixed (body_uops p) (outside ++ once_code p))
@@ -704,30 +525,10 @@ module _ (head : Shape) where
     step_legal (Single p) pc h le = single_legal p (is_fixed p.block) h
     step_legal (Along p) pc h le =
         (refl, (refl, loop_legal All_of p (pc + 1 + 1) h (omega (arith, le))))
-    step_legal (Nest span []) pc h le = tt
-    step_legal (Nest First (x ∷ xs)) pc h le =
-        (refl, (refl, inner_legal First (x ∷ xs) (pc + 1 + 1) h (omega (arith, le))))
-    step_legal (Nest Above (x ∷ xs)) pc h le =
-        let top = pc + 1 + 1 + 1 + 1 in
-        let a = inner_list Above (x ∷ xs) (top + 1) in
-        let post = AddI 0 1 ∷ Bnez 1 top ∷ [] in
-        let all = length-append a post in
-        let target : top < size = omega (arith, le, all) in
-        let end : top + 1 + length a + 1 + 1 < size = omega (arith, le, all) in
-        let rest = join a post (inner_legal Above (x ∷ xs) (top + 1) h (omega (arith, le, all)))
-        (refl, (lt-ltb top size target, tt)) in (
-          refl,
-          (
-            refl,
-            (
-              lt-ltb top size target,
-              (lt-ltb (top + 1 + length a + 1 + 1) size end, (refl, rest)),
-            ),
-          ),
-        )
-    step_legal (Nest Full (x ∷ xs)) pc h le =
+    step_legal (Nest []) pc h le = tt
+    step_legal (Nest (x ∷ xs)) pc h le =
         let q = pc + 1 + 1 + 1 in
-        let a = inner_list Full (x ∷ xs) q in
+        let a = inner_list (x ∷ xs) q in
         let post = AddI 0 1 ∷ Bnez 1 (pc + 1 + 1) ∷ [] in
         let target : pc + 1 + 1 < size = omega (arith, le, length-append a post) in (
           refl,
@@ -735,7 +536,7 @@ module _ (head : Shape) where
             refl,
             (
               refl,
-              join a post (inner_legal Full (x ∷ xs) q h (omega (arith, le, length-append a post)))
+              join a post (inner_legal (x ∷ xs) q h (omega (arith, le, length-append a post)))
                   (refl, (lt-ltb (pc + 1 + 1) size target, tt)),
             ),
           ),
@@ -781,6 +582,16 @@ module _ (head : Shape) where
             ),
           ),
         )
+    step_legal (Flowed f) pc h le =
+        let is = code_of flow_uops f (pc + 7) in
+        let long : pc + 7 + flow_long flow_uops f < size = omega (
+          arith,
+          le,
+          length-append clear_code is,
+          code_long Part flow_uops f (pc + 7),
+        ) in
+        join clear_code is (refl, (refl, (refl, (refl, (refl, (refl, (refl, tt)))))))
+        (flow_legal head size Part flow_uops f (pc + 7) h.0 (flow_among Part IsFit (λ p. L (flow_uops p)) (λ p fit. fit flow_plan size) f h.1) long)
 
     program_legal : (ss : List (StepOf Part)) (pc : ℕ) → StepsFit ss
         → pc + length (program_code ss pc) < size → L (program_code ss pc)
@@ -792,9 +603,10 @@ module _ (head : Shape) where
         (program_legal ss (pc + length a) h.1 (omega (arith, le, length-append a b)))
 
   pub code_legal : (ss : List (StepOf Part)) → length (program_code ss 0) ≤ 4096
-      → AllParts IsPart ss → AreFew (blocks ss) → AtWidths (λ n. all_rounds n ss)
+      → AllParts IsPart ss → AreFew (blocks ss) → list_all step_stands (blocks ss) ≡ true
+      → AllByRecursion (StepHasValues (IsSpot head)) (blocks ss) → AtWidths (λ n. all_rounds n ss)
       → IsLegalCode head (program_code ss 0 ++ Done ∷ [])
-  code_legal ss short parts few rounds =
+  code_legal ss short parts few stand has rounds =
       let is = program_code ss 0 in
       let size : length (is ++ Done ∷ []) ≡ length is + 1 = length-append is (Done ∷ []) in
       let within : length is < length (is ++ Done ∷ []) = omega (arith, size) in
@@ -805,7 +617,7 @@ module _ (head : Shape) where
       record {
         short = omega (arith, size, short);
         each = both (IsLegalAt (length (is ++ Done ∷ []))) is (Done
-            ∷ []) (program_legal (length (is ++ Done ∷ [])) ss 0 (fit_steps ss parts few rounds)
+            ∷ []) (program_legal (length (is ++ Done ∷ [])) ss 0 (fit_steps ss parts few stand has rounds)
             (omega (arith, size))) (refl, tt);
         last = subst (λ k. slice_get (is ++ Done ∷ []) k ≡ Some Done) e at;
       }

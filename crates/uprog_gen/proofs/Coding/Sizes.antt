@@ -6,28 +6,26 @@ use Rattle.std.proofs.lemmas.List.{length-map}
 use Rattle.std.proofs.lemmas.List.Sums.{sum_by-cons}
 use Rattle.uprog_code.specs.declared.code.Uop.{Uop}
 use Rattle.uprog_code.specs.declared.code.Uop.TheVariants.{SubI, AddI, Bnez}
-use Rattle.loop_ir.specs.declared.ir.Span.{Span}
-use Rattle.loop_ir.specs.declared.ir.Span.TheVariants.{Full, First, Above}
 use Rattle.loop_ir.specs.declared.ir.Sub.{Sub}
 use Rattle.loop_ir.specs.declared.ir.Sub.TheVariants.{Zero, Top, Inner as At_inner, InnerDown}
-use Rattle.loop_ir.specs.declared.ir.Sub.TheVariants.{Outer, OuterDown, Sum, DownSum, SumTwice}
-use Rattle.loop_ir.specs.declared.ir.Sub.TheVariants.{AboveSumTwice, AboveSum, DownPlusN}
-use Rattle.loop_ir.specs.declared.ir.Sub.TheVariants.{NPlusInner}
+use Rattle.loop_ir.specs.declared.ir.Sub.TheVariants.{Outer, OuterDown, Sum, DownSum, DownPlusN}
+use Rattle.loop_ir.specs.declared.ir.Sub.TheVariants.{NPlusInner, Register}
 use Rattle.loop_ir.specs.declared.ir.Count.{Count}
-use Rattle.loop_ir.specs.declared.ir.Count.TheVariants.{All as All_of, Rest, UpTo}
+use Rattle.loop_ir.specs.declared.ir.Count.TheVariants.{All as All_of, Rest}
 use Rattle.loop_ir.specs.Plain.{InnerOf, StepOf, inner_map, step_map, AllInner, AllStep, TurnOf}
-use Rattle.loop_ir.specs.Plain.{level_map, turn_map, AllTurns, AllParts}
-use Rattle.loop_ir.specs.Plain.InnerOf.{Alone, Across, AtLevel}
-use Rattle.loop_ir.specs.Plain.StepOf.{Single, Along, Nest, Pairs, Alternate}
+use Rattle.loop_ir.specs.Plain.{Block, turn_map, AllTurns, AllParts}
+use Rattle.loop_ir.specs.Plain.InnerOf.{Alone, Across}
+use Rattle.loop_ir.specs.Plain.StepOf.{Single, Along, Nest, Pairs, Alternate, Flowed}
 use Rattle.uprog_gen.specs.declared.plan.Plan.{Plan}
 use Rattle.uprog_gen.specs.Code.{Part, block_of_part, blocks, code_uop, init, before, after, inits}
 use Rattle.uprog_gen.specs.Code.{befores, afters, counter, body_uops, once_code, turn_code}
-use Rattle.uprog_gen.specs.Code.{leave_code, pair_plan, pair_uops, pairing_code, begin_code}
-use Rattle.uprog_gen.specs.Code.{finish_code, whole_code, none_code}
 use Rattle.uprog_gen.specs.Code.{enter_code, loop_code, inner_list, outside, step_code}
 use Rattle.uprog_gen.specs.Code.{turn_plan, turn_uops, either_code, either_size, turns_list}
 use Rattle.uprog_gen.specs.Code.{cycle_code}
 use Rattle.uprog_gen.specs.Code.{program_code}
+use Rattle.uprog_gen.specs.Code.{flow_plan, flow_uops, clear_code}
+use Rattle.uprog_gen.specs.FlowCode.{code_of}
+use Rattle.uprog_gen.proofs.Coding.FlowSizes.{code_long, flow_few}
 use Rattle.loop_ir.specs.Costs.{is_fixed, body_cost, inner_cost, step_cost}
 use Rattle.loop_ir.specs.Costs.{either_cost, turns_cost}
 use Rattle.loop_ir.specs.Costs.{code_cost}
@@ -44,9 +42,7 @@ init_few Sum r = omega arith
 init_few DownSum r = omega arith
 init_few DownPlusN r = omega arith
 init_few NPlusInner r = omega arith
-init_few SumTwice r = omega arith
-init_few AboveSumTwice r = omega arith
-init_few AboveSum r = omega arith
+init_few (Register q) r = omega arith
 
 start_few : (u : Sub) (r : ℕ) → length (init u r) + length (before u r) ≤ 2
 start_few Zero r = omega arith
@@ -59,9 +55,7 @@ start_few Sum r = omega arith
 start_few DownSum r = omega arith
 start_few DownPlusN r = omega arith
 start_few NPlusInner r = omega arith
-start_few SumTwice r = omega arith
-start_few AboveSumTwice r = omega arith
-start_few AboveSum r = omega arith
+start_few (Register q) r = omega arith
 
 three_length : (a b c : List Uop) → length (a ++ (b ++ c)) ≡ length a + length b + length c
 three_length a b c = omega (arith, length-append a (b ++ c), length-append b c)
@@ -92,7 +86,6 @@ first_few plan = omega (
 counter_few : (count : Count) → length (counter count) ≤ 2
 counter_few All_of = omega arith
 counter_few Rest = omega arith
-counter_few UpTo = omega arith
 
 pub enter_few : (plan : Plan) (count : Count) → length (enter_code plan count) ≤ 11
 enter_few plan count = omega (
@@ -106,6 +99,13 @@ body_few : (p : Part) → IsPart p → length (body_uops p) ≤ body_cost p.bloc
 body_few p is = omega (
   arith,
   length-map p.cmds (code_uop p.plan p.block),
+  is.short,
+)
+
+pub flow_body_few : (p : Part) → IsPart p → length (flow_uops p) ≤ body_cost p.block
+flow_body_few p is = omega (
+  arith,
+  length-map p.cmds (code_uop flow_plan p.block),
   is.short,
 )
 
@@ -135,102 +135,26 @@ loop_few count p pc is =
       body_few p is,
     )
 
-pub pairing_long : (p q : Part) (pc : ℕ)
-    → length (pairing_code p q pc) ≡ 9 + length p.cmds + length q.cmds
-pairing_long p q pc =
-    let us = pair_uops p ++ pair_uops q in
-    let turn = turn_code pair_plan us in
-    let jump = Bnez 2 (pc + length (inits pair_plan)) ∷ [] in
-    omega (
-      arith,
-      length-append (inits pair_plan) (turn ++ jump),
-      length-append turn jump,
-      length-append (befores pair_plan) (us ++ (afters pair_plan ++ (SubI 2 1 ∷ []))),
-      length-append us (afters pair_plan ++ (SubI 2 1 ∷ [])),
-      length-append (pair_uops p) (pair_uops q),
-      length-map p.cmds (code_uop pair_plan p.block),
-      length-map q.cmds (code_uop pair_plan q.block),
-    )
-
-pub begin_long : (none odd even : List Uop) (pc end : ℕ)
-    → length (begin_code none odd even pc end) ≡ 6 + length none + length odd + length even
-begin_long none odd even pc end =
-    let next = pc + 4 + length none + 2 + length odd + length even in
-    let c = odd ++ (leave_code next ++ even) in
-    omega (
-      arith,
-      length-append none (leave_code end ++ c),
-      length-append odd (leave_code next ++ even),
-    )
-
-pub finish_long : (p q : Part) (last : List Uop) (pc : ℕ)
-    → length (finish_code p q last pc) ≡ 13 + length p.cmds + length q.cmds + length last
-finish_long p q last pc = omega (
-  arith,
-  length-append (pairing_code p q (pc + 4)) last,
-  pairing_long p q (pc + 4),
-)
-
-pub whole_long : (none odd even : List Uop) (p q : Part) (last : List Uop) (pc : ℕ)
-    → length (whole_code none odd even p q last pc) ≡ 35 + length none + length odd + length even
-    + length p.cmds + length q.cmds + length last
-whole_long none odd even p q last pc =
-    let at = pc + 22 + length none + length odd + length even in
-    let finish = finish_code p q last at in
-    let begin = begin_code none odd even (pc + 16) (at + length finish) in
-    omega (
-      arith,
-      length-append begin finish,
-      begin_long none odd even (pc + 16) (at + length finish),
-      finish_long p q last at,
-    )
-
-pub none_few : (span : Span) (p : Part) → IsPart p
-    → length (none_code span p) ≤ body_cost p.block + 6
-none_few Full p is = once_few p is
-none_few First p is = omega arith
-none_few Above p is = once_few p is
-
-pub inner_few : (span : Span) (xs : List (InnerOf Part)) (pc : ℕ) → AllInner IsPart xs
-    → length (inner_list span xs pc) + 5 * length xs
+pub inner_few : (xs : List (InnerOf Part)) (pc : ℕ) → AllInner IsPart xs
+    → length (inner_list xs pc) + 5 * length xs
     ≤ sum_by inner_cost (map (inner_map block_of_part) xs)
-inner_few span [] pc h = omega arith
-inner_few span (Alone p ∷ xs) pc h =
+inner_few [] pc h = omega arith
+inner_few (Alone p ∷ xs) pc h =
     omega (
       arith,
-      length-append (once_code p) (inner_list span xs (pc + length (once_code p))),
+      length-append (once_code p) (inner_list xs (pc + length (once_code p))),
       once_few p h.0,
-      inner_few span xs (pc + length (once_code p)) h.1,
+      inner_few xs (pc + length (once_code p)) h.1,
       sum_by-cons inner_cost (Alone p.block) (map (inner_map block_of_part) xs),
     )
-inner_few span (Across count p ∷ xs) pc h =
+inner_few (Across count p ∷ xs) pc h =
     let a = loop_code count p pc in
     omega (
       arith,
-      length-append a (inner_list span xs (pc + length a)),
+      length-append a (inner_list xs (pc + length a)),
       loop_few count p pc h.0,
-      inner_few span xs (pc + length a) h.1,
+      inner_few xs (pc + length a) h.1,
       sum_by-cons inner_cost (Across count p.block)
-          (map (inner_map block_of_part) xs),
-    )
-inner_few span (AtLevel l ∷ xs) pc h =
-    let none = none_code span l.none in
-    let odd = once_code l.odd in
-    let even = once_code l.even in
-    let last = once_code l.end in
-    let a = whole_code none odd even l.first l.second last pc in
-    omega (
-      arith,
-      length-append a (inner_list span xs (pc + length a)),
-      whole_long none odd even l.first l.second last pc,
-      none_few span l.none h.0.none,
-      once_few l.odd h.0.odd,
-      once_few l.even h.0.even,
-      h.0.first.short,
-      h.0.second.short,
-      once_few l.end h.0.end,
-      inner_few span xs (pc + length a) h.1,
-      sum_by-cons inner_cost (AtLevel (level_map block_of_part l))
           (map (inner_map block_of_part) xs),
     )
 
@@ -289,25 +213,23 @@ pub step_few : (s : StepOf Part) (pc : ℕ) → AllStep IsPart s
     → length (step_code s pc) ≤ step_cost (step_map block_of_part s)
 step_few (Single p) pc h = single_few p h (is_fixed p.block)
 step_few (Along p) pc h = omega (arith, loop_few All_of p (pc + 1 + 1) h)
-step_few (Nest span []) pc h = omega arith
-step_few (Nest Full (x ∷ xs)) pc h =
+step_few (Nest []) pc h = omega arith
+step_few (Nest (x ∷ xs)) pc h =
     let q = pc + 1 + 1 + 1 in
     omega (
       arith,
-      length-append (inner_list Full (x ∷ xs) q) (AddI 0 1 ∷ Bnez 1 (pc + 1 + 1) ∷ []),
-      inner_few Full (x ∷ xs) q h,
-    )
-step_few (Nest First (x ∷ xs)) pc h = omega (arith, inner_few First (x ∷ xs) (pc + 1 + 1) h)
-step_few (Nest Above (x ∷ xs)) pc h =
-    let q = pc + 1 + 1 + 1 + 1 + 1 in
-    omega (
-      arith,
-      length-append (inner_list Above (x ∷ xs) q) (AddI 0 1 ∷ Bnez 1 (pc + 1 + 1 + 1 + 1) ∷ []),
-      inner_few Above (x ∷ xs) q h,
+      length-append (inner_list (x ∷ xs) q) (AddI 0 1 ∷ Bnez 1 (pc + 1 + 1) ∷ []),
+      inner_few (x ∷ xs) q h,
     )
 step_few (Pairs p) pc h = omega (arith, loop_few Rest p (pc + 1 + 1 + 1 + 1 + 1) h)
 step_few (Alternate []) pc h = omega arith
 step_few (Alternate (t ∷ ts)) pc h = cycle_few (t ∷ ts) pc h
+step_few (Flowed f) pc h = omega (
+  arith,
+  length-append clear_code (code_of flow_uops f (pc + 7)),
+  code_long Part flow_uops f (pc + 7),
+  flow_few Part Block flow_uops block_of_part body_cost IsPart flow_body_few f h,
+)
 
 pub program_few : (ss : List (StepOf Part)) (pc : ℕ) → AllParts IsPart ss
     → length (program_code ss pc) ≤ code_cost (blocks ss)

@@ -1,7 +1,8 @@
 -- The commands of an operation whose statements are all word operations.
-use Rattle.std.proofs.Common.{◌≡◌, ℕ, ◌+◌, ◌<◌, Bool, true, false, List, [], ◌∷◌, ◌++◌}
-use Rattle.std.proofs.Common.{not, cond, Option, Some, refl, sym, ap, ◌∙◌}
+use Rattle.std.proofs.Common.{◌≡◌, ℕ, ◌+◌, ◌<◌, ◌≤◌, Bool, true, false, List, [], ◌∷◌, ◌++◌, Option}
+use Rattle.std.proofs.Common.{Some, refl, sym, ap, ◌∙◌}
 use Rattle.std.specs.List.{list_all}
+use Rattle.bit_rows.specs.declared.TheConstants.{WIDTH_MAX}
 use Rattle.op_text.specs.declared.tree.Kind.{Kind}
 use Rattle.op_text.specs.declared.word_ops.WordOp.{WordOp}
 use Rattle.op_text.specs.declared.word_ops.WordOp.TheVariants as op
@@ -14,11 +15,10 @@ use Rattle.loop_ir.specs.Plain.{Block, StepOf, AllParts}
 use Rattle.loop_ir.specs.Loops.{all_rounds}
 use Rattle.loop_ir.specs.Statements.{Slots, IsPlaced, ComputeMeets, HaveKinds}
 use Rattle.loop_ir.specs.Lowered.{kind_at, args_width}
-use Rattle.loop_laws.proofs.Alike.{InRooms}
-use Rattle.word_lower.specs.Programs.{program, is_linear}
+use Rattle.word_lower.specs.Programs.{is_linear}
 use Rattle.word_lower.proofs.Statements.{written_in_rooms}
-use Rattle.word_mul.specs.Programs.{is_nested, nested}
-use Rattle.word_mul.proofs.Statements.{nest_in_rooms}
+use Rattle.word_flow.specs.Programs.{is_flow}
+use Rattle.word_flow.proofs.Exactly.{flow_exactly}
 use Rattle.uprog_gen.specs.Costs.{op_aaps, op_aps}
 use Rattle.uprog_gen.specs.Does.{joined}
 use Rattle.uprog_gen.specs.Layout.{IsLayout}
@@ -31,7 +31,8 @@ use Rattle.uprog_gen.proofs.Naming.Stage.{Stage, next_stage}
 use Rattle.uprog_gen.proofs.Meaning.Meant.{args_same}
 use Rattle.uprog_gen.proofs.Naming.Ready.{statement_meets, is_placed}
 use Rattle.loop_laws.proofs.Summed.{rounds_sum, sum_append}
-use Rattle.uprog_gen.proofs.Costs.Exact.{IsExactly, is_exactly, op_width, first_width, width_is}
+use Rattle.uprog_gen.proofs.Costs.Exact.{IsExactly, is_exactly, flow_is_exactly, op_width}
+use Rattle.uprog_gen.proofs.Costs.Exact.{first_width, width_is}
 
 have_first : (slots : Slots) (n : ℕ) (args : List (List ℕ)) (ks : List Kind)
     → HaveKinds slots args ks → args_width slots n args ≡ first_width n ks
@@ -41,10 +42,20 @@ have_first slots n (a ∷ args) [] h = absurd h
 have_first slots n (a ∷ args) (k ∷ ks) h = ap (λ o. width n (kind_at o)) h.0.found
     ∙ ap (width n) h.0.kind
 
--- an operation takes one pass, or a pass for each position
-one_of : (p : WordOp) → is_linear p ≡ not (is_nested p)
-one_of op.Not = refl
-one_of p = refl
+-- an operation that is no flow takes a pass or two
+one_of : (p : WordOp) → is_flow p ≡ false → is_linear p ≡ true
+one_of op.Not other = refl
+one_of op.Mul other = cc
+one_of op.Div other = cc
+one_of op.Rem other = cc
+one_of op.Divmod other = cc
+one_of op.Bitcount other = cc
+one_of op.Abs other = cc
+one_of op.Relu other = cc
+one_of op.AndRed other = cc
+one_of op.OrRed other = cc
+one_of op.XorRed other = cc
+one_of p other = refl
 
 -- a statement's written program takes the operation's commands
 exactly : (slots : Slots) (free_bit free_word : ℕ) (target : List ℕ) (second : Option (List ℕ))
@@ -53,15 +64,14 @@ exactly : (slots : Slots) (free_bit free_word : ℕ) (target : List ℕ) (second
     → (steps : List (StepOf Block))
     → IsAsWritten slots free_bit free_word (Compute target second p args) steps
     → IsExactly p (λ n. op_width p meets.gives.slot.kind n) steps
-exactly slots free_bit free_word target second p args meets placed steps w =
-    is_exactly p meets.gives.slot.kind steps (by (is_nested p) refl)
+exactly slots free_bit free_word target second p args meets placed steps w = by (is_flow p) refl
   where
-    by : (b : Bool) → is_nested p ≡ b
-        → InRooms (cond b (nested p) (program p meets.gives.slot.kind)) steps
-    by true e = nest_in_rooms slots free_bit free_word target second p args e meets placed steps
-        (w.nested e)
-    by false e = written_in_rooms slots free_bit free_word target second p args
-        (one_of p ∙ ap not e) meets placed steps (w.linear e)
+    by : (b : Bool) → is_flow p ≡ b → IsExactly p (λ n. op_width p meets.gives.slot.kind n) steps
+    by true e = flow_is_exactly p meets.gives.slot.kind steps e
+        (flow_exactly slots free_bit free_word target second p args steps e meets placed (w.flow e))
+    by false e = is_exactly p meets.gives.slot.kind steps e
+        (written_in_rooms slots free_bit free_word target second p args (one_of p e) meets
+        placed steps (w.linear e))
 
 -- the rounds of one statement and of those after it
 sum_joined : (f : Block → ℕ) (n : ℕ) (q : List (StepOf Block)) (ps : List (List (StepOf Block)))
@@ -73,10 +83,10 @@ sum_joined f n q ps = ap (rounds_sum f) (all_rounds-append n q (joined ps))
 pub record AreExactly (known : List Param) (body : List Statement)
     (ps : List (List (StepOf Block))) : Type 0 where
   pub settled : AllParts IsSettled (joined ps)
-  pub aaps : (n : ℕ) → 0 < n → rounds_sum turn_aaps (all_rounds n (joined ps))
-      ≡ words_total op_aaps known n body
-  pub aps : (n : ℕ) → 0 < n → rounds_sum turn_aps (all_rounds n (joined ps))
-      ≡ words_total op_aps known n body
+  pub aaps : (n : ℕ) → 0 < n → n ≤ WIDTH_MAX
+      → rounds_sum turn_aaps (all_rounds n (joined ps)) ≡ words_total op_aaps known n body
+  pub aps : (n : ℕ) → 0 < n → n ≤ WIDTH_MAX
+      → rounds_sum turn_aps (all_rounds n (joined ps)) ≡ words_total op_aps known n body
 
 module _ (o : Operation) (meets : OperationMeets o) (slots : Slots) (free_bit free_word : ℕ)
     (is : IsLayout o slots free_bit free_word) where
@@ -96,8 +106,8 @@ module _ (o : Operation) (meets : OperationMeets o) (slots : Slots) (free_bit fr
       ∙ width_is p m.kinds m.gives.slot.kind n (m.form ∙ ap Some (sym m.gives.kind)) in
       record {
         settled = one.settled;
-        aaps = λ n some. one.aaps n some ∙ ap (op_aaps p) (sym (wide n));
-        aps = λ n some. one.aps n some ∙ ap (op_aps p) (sym (wide n));
+        aaps = λ n some small. one.aaps n some small ∙ ap (op_aaps p) (sym (wide n));
+        aps = λ n some small. one.aps n some small ∙ ap (op_aps p) (sym (wide n));
       }
 
   pub all_exactly : (rest : List Statement) (c : Context) → Stage o c rest
@@ -105,8 +115,8 @@ module _ (o : Operation) (meets : OperationMeets o) (slots : Slots) (free_bit fr
       → list_all is_word rest ≡ true → AreExactly c.known rest ps
   all_exactly [] c st [] w h = record {
     settled = tt;
-    aaps = λ n some. refl;
-    aps = λ n some. refl;
+    aaps = λ n some small. refl;
+    aps = λ n some small. refl;
   }
   all_exactly [] c st (q ∷ ps) w h = absurd w
   all_exactly (s ∷ rest) c st [] w h = absurd w
@@ -117,10 +127,10 @@ module _ (o : Operation) (meets : OperationMeets o) (slots : Slots) (free_bit fr
       let more = all_exactly rest (next_context c s) (next_stage o c s rest st) ps w.1 h in
       record {
         settled = parts_both IsSettled q (joined ps) one.settled more.settled;
-        aaps = λ n some. sum_joined turn_aaps n q ps
-            ∙ ap (λ x. x + rounds_sum turn_aaps (all_rounds n (joined ps))) (one.aaps n some)
-            ∙ ap (λ x. op_aaps p (names_width c.known n args) + x) (more.aaps n some);
-        aps = λ n some. sum_joined turn_aps n q ps
-            ∙ ap (λ x. x + rounds_sum turn_aps (all_rounds n (joined ps))) (one.aps n some)
-            ∙ ap (λ x. op_aps p (names_width c.known n args) + x) (more.aps n some);
+        aaps = λ n some small. sum_joined turn_aaps n q ps
+            ∙ ap (λ x. x + rounds_sum turn_aaps (all_rounds n (joined ps))) (one.aaps n some small)
+            ∙ ap (λ x. op_aaps p (names_width c.known n args) + x) (more.aaps n some small);
+        aps = λ n some small. sum_joined turn_aps n q ps
+            ∙ ap (λ x. x + rounds_sum turn_aps (all_rounds n (joined ps))) (one.aps n some small)
+            ∙ ap (λ x. op_aps p (names_width c.known n args) + x) (more.aps n some small);
       }

@@ -1,39 +1,32 @@
 -- Where the rows of the owners lie plays no part in what a body's commands count, nor in whether they
 -- are settled.
-use Rattle.std.proofs.Common.{◌≡◌, ℕ, Bool, true, cond, List, [], ◌∷◌, map, ap}
+use Rattle.std.proofs.Common.{◌≡◌, ℕ, Bool, true, false, cond, List, [], ◌∷◌, map, ap}
 use Rattle.std.proofs.Common.{◌∙◌}
 use Rattle.std.specs.Prelude.{◌&&◌, ◌||◌, count_by}
 use Rattle.std.proofs.lemmas.Bool.{and_parts}
 use Rattle.row_alloc.specs.declared.body.BodyCmd.{BodyCmd}
-use Rattle.loop_ir.specs.Plain.{Block, InnerOf, StepOf, level_map, inner_map, turn_map, AllInner}
-use Rattle.loop_ir.specs.Plain.{AllParts, all_level, all_turns}
-use Rattle.loop_ir.specs.Plain.InnerOf.{Alone, Across, AtLevel}
-use Rattle.loop_ir.specs.Plain.StepOf.{Single, Along, Nest, Pairs, Alternate}
+use Rattle.loop_ir.specs.Plain.{Block, StepOf, turn_map, AllParts, all_turns}
+use Rattle.loop_ir.specs.Plain.StepOf.{Single, Along, Nest, Pairs, Alternate, Flowed}
 use Rattle.loop_ir.specs.Loops.{all_rounds}
 use Rattle.loop_ir.specs.States.{has_states, held_of}
 use Rattle.loop_ir.specs.Costs.{is_copy}
 use Rattle.loop_laws.specs.Rooms.{Room, Marked, placed_body, placed_steps}
 use Rattle.loop_laws.proofs.Alike.{HaveRows, has_like, held_like, rounds_like}
-use Rattle.loop_laws.proofs.EveryRound.{level_tested}
 use Rattle.loop_laws.proofs.Summed.{rounds_sum}
 use Rattle.loop_laws.proofs.TakingTurns.{turns_tested, turns_mapped}
-use Rattle.uprog_gen.specs.Settled.{word_of, word_commands, held_commands, turn_count, is_aap}
-use Rattle.uprog_gen.specs.Settled.{is_ap, turn_aaps, turn_aps, is_known, is_settled, IsSettled}
+use Rattle.word_flow.specs.Coded.{is_aap, is_ap}
+use Rattle.uprog_gen.specs.Settled.{word_of, word_commands, held_commands, turn_count, turn_aaps}
+use Rattle.uprog_gen.specs.Settled.{turn_aps, is_known, is_settled, IsSettled}
 
-abbrev inners_settle : List (InnerOf Block) → Bool
-inners_settle [] = true
-inners_settle (Alone b ∷ ps) = is_settled b && inners_settle ps
-inners_settle (Across c b ∷ ps) = is_settled b && inners_settle ps
-inners_settle (AtLevel l ∷ ps) = all_level is_settled l && inners_settle ps
-
--- and those of every body of a loop program
+-- each body of a loop program is settled: those of one pass have no nest and no flow
 abbrev pub steps_settle : List (StepOf Block) → Bool
 steps_settle [] = true
 steps_settle (Single b ∷ ss) = is_settled b && steps_settle ss
 steps_settle (Along b ∷ ss) = is_settled b && steps_settle ss
-steps_settle (Nest span ps ∷ ss) = inners_settle ps && steps_settle ss
+steps_settle (Nest ps ∷ ss) = false
 steps_settle (Pairs b ∷ ss) = is_settled b && steps_settle ss
 steps_settle (Alternate t ∷ ss) = all_turns is_settled t && steps_settle ss
+steps_settle (Flowed f ∷ ss) = false
 
 module _ (rooms : List Room) (rows : HaveRows rooms) where
   settled_placed : (b : Marked) → is_settled (placed_body [] b) ≡ true
@@ -41,33 +34,6 @@ module _ (rooms : List Room) (rows : HaveRows rooms) where
   settled_placed b h =
       let c = placed_body [] b in
       ap (λ x. x || (is_copy c || is_known (word_of c))) (has_like rooms rows b) ∙ h
-
-  inners_settled : (ps : List (InnerOf Marked))
-      → inners_settle (map (inner_map (placed_body [])) ps) ≡ true
-      → AllInner IsSettled (map (inner_map (placed_body rooms)) ps)
-  inners_settled [] h = tt
-  inners_settled (Alone b ∷ ps) h =
-      let p = and_parts (is_settled (placed_body [] b))
-      (inners_settle (map (inner_map (placed_body [])) ps)) h in
-      (settled_placed b p.0, inners_settled ps p.1)
-  inners_settled (Across c b ∷ ps) h =
-      let p = and_parts (is_settled (placed_body [] b))
-      (inners_settle (map (inner_map (placed_body [])) ps)) h in
-      (settled_placed b p.0, inners_settled ps p.1)
-  inners_settled (AtLevel l ∷ ps) h =
-      let p = and_parts (all_level is_settled (level_map (placed_body []) l))
-      (inners_settle (map (inner_map (placed_body [])) ps)) h in
-      let t = level_tested is_settled (level_map (placed_body []) l) p.0 in (
-        record {
-          none = settled_placed l.none t.none;
-          odd = settled_placed l.odd t.odd;
-          even = settled_placed l.even t.even;
-          first = settled_placed l.first t.first;
-          second = settled_placed l.second t.second;
-          end = settled_placed l.end t.end;
-        },
-        inners_settled ps p.1,
-      )
 
   pub settled_steps : (ss : List (StepOf Marked)) → steps_settle (placed_steps [] ss) ≡ true
       → AllParts IsSettled (placed_steps rooms ss)
@@ -88,10 +54,8 @@ module _ (rooms : List Room) (rows : HaveRows rooms) where
             settled_placed t (turns_tested (placed_body []) is_settled t p.0),
         settled_steps ss p.1,
       )
-  settled_steps (Nest span ps ∷ ss) h =
-      let p = and_parts (inners_settle (map (inner_map (placed_body [])) ps))
-      (steps_settle (placed_steps [] ss)) h in
-      (inners_settled ps p.0, settled_steps ss p.1)
+  settled_steps (Flowed f ∷ ss) h = cc
+  settled_steps (Nest ps ∷ ss) h = cc
 
   count_like : (f : BodyCmd → Bool) (copy : ℕ) (b : Marked)
       → turn_count f copy (placed_body rooms b) ≡ turn_count f copy (placed_body [] b)

@@ -34,7 +34,8 @@ use Rattle.loop_ir.specs.Statements.{Slots}
 use Rattle.uprog_gen.specs.Settled.{IsSettled, rounds_counts}
 use Rattle.uprog_gen.specs.Does.{DoesRounds, Means, joined, total}
 use Rattle.uprog_gen.specs.Layout.{IsLayout}
-use Rattle.uprog_gen.specs.Programs.{AreLowered, HasParts, IsCompiled, AreCompiled}
+use Rattle.uprog_gen.specs.Programs.{AreLowered, HasParts, IsCompiledFrom, IsCompiled}
+use Rattle.uprog_gen.specs.Programs.{AreCompiled}
 use Rattle.uprog_gen.proofs.Coding.Joined.{IsWithin}
 use Rattle.uprog_gen.proofs.Meaning.Meant.{ceilings, lower_ceiling, total_ceilings, statements_mean}
 
@@ -87,17 +88,14 @@ pub entry_compiled : (op : Operation) (meets : OperationMeets op) (slots : Slots
     → Means (shape_of head) ps ceilings meaning
     → Implements (shape_of head) entry.code.items (total ceilings) meaning)
     → IsLegalCode (shape_of head) entry.code.items
-    → HasParts (length ps) (shape_of head) ps entry.code.items → IsCompiled (microprogram_of entry) op
+    → HasParts (length ps) (shape_of head) ps entry.code.items
+    → IsCompiledFrom (microprogram_of entry) op slots free_bit free_word ps
 entry_compiled op meets slots free_bit free_word is ps low head entry name shape same implements
     legal parts = record {
       does = entry_does op meets slots free_bit free_word is ps low head entry name shape same
           implements;
       legal = subst (λ (s : Shape). IsLegalCode s entry.code.items) (sym (ap shape_of same)) legal;
-      slots = slots;
-      free_bit = free_bit;
-      free_word = free_word;
       laid = is;
-      statements = ps;
       lowered = low;
       parts = subst (λ (s : Shape). HasParts (length op.body) s ps entry.code.items)
           (sym (ap shape_of same)) (subst (λ k. HasParts k (shape_of head) ps entry.code.items)
@@ -155,7 +153,7 @@ pub compiled_implement : (es : List Microprogram) (ops : List Operation) → Are
 compiled_implement [] [] h = tt
 compiled_implement [] (op ∷ ops) h = absurd h
 compiled_implement (e ∷ es) [] h = absurd h
-compiled_implement (e ∷ es) (op ∷ ops) h = (h.0.does, compiled_implement es ops h.1)
+compiled_implement (e ∷ es) (op ∷ ops) h = (h.0.from.does, compiled_implement es ops h.1)
 
 pub op_at : (P : Operation → Type 0) (items : List Op) (k : ℕ) (x : Op)
     → Each P (map operation items) → k < length items → x ≡ slice_index_or items k x
@@ -170,18 +168,18 @@ good_fits name e = (and_parts (fits_name name) (is_plain (spelling_of name)) e).
 entry_is : (e : Microprogram) (op : Operation) → OperationMeets op → IsCompiled e op → IsEntry e
 entry_is e op meets c =
     let few = scratch_is_small op meets in
-    let shape = c.does.shape in
+    let shape = c.from.does.shape in
     let sources = ap (λ (s : Shape). length s.sources) shape
     ∙ length-map op.params (λ (p : Param). p.kind) in
     let bits = ap (λ (s : Shape). s.bits) shape in
     let words = ap (λ (s : Shape). s.words) shape in
     record {
-      name = ap fits_name c.does.name ∙ (good_fits op.name meets.name);
+      name = ap fits_name c.from.does.name ∙ (good_fits op.name meets.name);
       some = omega (arith, sources, meets.has_params);
       few = omega (arith, sources, meets.few_params);
       bits = omega (arith, bits, few.bits);
       words = omega (arith, words, few.words);
-      code = c.legal;
+      code = c.from.legal;
     }
 
 entries_are : (es : List Microprogram) (ops : List Operation) → AreCompiled es ops
@@ -211,7 +209,7 @@ others_differ e name is (m ∷ es) [] c new = absurd c
 others_differ e name is (m ∷ es) (op ∷ ops) c new =
     let parts = or_parts (bytes_eq op.name name)
     (is_among (map (λ (op : Operation). op.name) ops) name) new in (
-      λ same. differ_names name op.name parts.0 (sym is ∙ same ∙ c.0.does.name),
+      λ same. differ_names name op.name parts.0 (sym is ∙ same ∙ c.0.from.does.name),
       others_differ e name is es ops c.1 parts.1,
     )
 
@@ -224,7 +222,7 @@ names_differ (e ∷ es) [] c d = absurd c
 names_differ (e ∷ es) (op ∷ ops) c d =
     AllPairs-cons (λ (m n : Microprogram). m.name ≢ n.name) e es
     (All-from_recursion (λ (m : Microprogram). e.name ≢ m.name) es
-    (others_differ e op.name c.0.does.name es ops c.1 d.0)) (names_differ es ops c.1 d.1)
+    (others_differ e op.name c.0.from.does.name es ops c.1 d.0)) (names_differ es ops c.1 d.1)
 
 -- a file can hold the entries
 pub compiled_program : (es : List Microprogram) (ops : List Operation) → AreCompiled es ops

@@ -33,9 +33,11 @@ use Rattle.uprog_code.specs.Implements.{Implements}
 use Rattle.loop_ir.specs.declared.ir.Space.TheVariants.{Result, Source}
 use Rattle.loop_ir.specs.declared.names.Slot.{Slot}
 use Rattle.loop_ir.specs.Plain.{StepOf, Block}
+use Rattle.loop_ir.specs.Plain.StepOf.{Single, Along, Nest, Pairs, Alternate, Flowed}
+use Rattle.uprog_gen.proofs.Coding.FlowMaps.{flow_among}
 use Rattle.loop_ir.specs.Loops.{RoundOf, all_rounds}
 use Rattle.loop_ir.specs.Spots.{Spot, Spots, IsOwn}
-use Rattle.loop_ir.specs.Limits.{IsRound, CanCompile}
+use Rattle.loop_ir.specs.Limits.{IsRound, HasValues, StepHasValues, CanCompile}
 use Rattle.loop_ir.specs.Statements.{Slots}
 use Rattle.loop_ir.specs.Lowered.{HoldsAt, IsStatementRow, kind_at, args_width, ceiling_of}
 use Rattle.uprog_gen.specs.Where.{IsSpot}
@@ -126,12 +128,35 @@ rounds_more : (P Q : Spot → Type 0) → ((q : Spot) → P q → Q q) → (n : 
 rounds_more P Q f n [] h = tt
 rounds_more P Q f n (r ∷ rs) h = (round_more P Q f n r h.0, rounds_more P Q f n rs h.1)
 
+values_more : (P Q : ℕ → Spot → Type 0) → ((n : ℕ) (q : Spot) → P n q → Q n q) → (b : Block)
+    → HasValues P b → HasValues Q b
+values_more P Q f b has = record {
+  reads = λ k lt row. let v = has.reads k lt row in (v.0, v.1, f v.0 _ v.2);
+  writes = λ j lt row. let v = has.writes j lt row in (v.0, v.1, f v.0 _ v.2);
+  own = has.own;
+}
+
+steps_more : (P Q : ℕ → Spot → Type 0) → ((n : ℕ) (q : Spot) → P n q → Q n q)
+    → (ss : List (StepOf Block)) → AllByRecursion (StepHasValues P) ss
+    → AllByRecursion (StepHasValues Q) ss
+steps_more P Q f [] h = tt
+steps_more P Q f (Single b ∷ ss) h = (tt, steps_more P Q f ss h.1)
+steps_more P Q f (Along b ∷ ss) h = (tt, steps_more P Q f ss h.1)
+steps_more P Q f (Nest ps ∷ ss) h = (tt, steps_more P Q f ss h.1)
+steps_more P Q f (Pairs b ∷ ss) h = (tt, steps_more P Q f ss h.1)
+steps_more P Q f (Alternate ts ∷ ss) h = (tt, steps_more P Q f ss h.1)
+steps_more P Q f (Flowed x ∷ ss) h = (
+  flow_among Block (HasValues P) (HasValues Q) (values_more P Q f) x h.0,
+  steps_more P Q f ss h.1,
+)
+
 can_more : (P Q : ℕ → Spot → Type 0) → ((n : ℕ) (q : Spot) → P n q → Q n q)
     → (steps : List (StepOf Block)) → CanCompile P steps → CanCompile Q steps
 can_more P Q f steps can = record {
   small = can.small;
   find = can.find;
   stand = can.stand;
+  values = steps_more P Q f steps can.values;
   rounds = λ n some small. rounds_more (P n) (Q n) (f n) n (all_rounds n steps)
       (can.rounds n some small);
   size = can.size;

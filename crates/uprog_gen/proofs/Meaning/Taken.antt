@@ -152,22 +152,22 @@ one_more n q ps one more h k = record {
 module _ (op : Operation) (meets : OperationMeets op) (slots : Slots) (free_bit free_word : ℕ)
     (is : IsLayout op slots free_bit free_word) where
   -- each statement keeps its part of the ceiling that the graphs give
-  few_rounds : (n : ℕ) → 0 < n → (rest : List Statement) (c : Context) → Stage op c rest
+  few_rounds : (n : ℕ) → 0 < n → n ≤ WIDTH_MAX → (rest : List Statement) (c : Context) → Stage op c rest
       → (ps : List (List (StepOf Block))) → HaveForms slots rest ps
       → AreWritten slots free_bit free_word rest ps
       → KeepsGraphs n ps (graphed_ceiling c.known n rest (graphs_in rest ps))
-  few_rounds n some [] c st [] h w = record { ceilings = []; cheap = tt; total = refl }
-  few_rounds n some [] c st (q ∷ ps) h w = absurd h
-  few_rounds n some (s ∷ rest) c st [] h w = absurd h
-  few_rounds n some (Compute target second p args ∷ rest) c st (q ∷ ps) h w =
+  few_rounds n some small [] c st [] h w = record { ceilings = []; cheap = tt; total = refl }
+  few_rounds n some small [] c st (q ∷ ps) h w = absurd h
+  few_rounds n some small (s ∷ rest) c st [] h w = absurd h
+  few_rounds n some small (Compute target second p args ∷ rest) c st (q ∷ ps) h w =
       let s = Compute target second p args in
       let one = one_exactly op meets slots free_bit free_word is c target second p args rest st q
       w.0 in
       let most = op_commands p (names_width c.known n args) in
       one_more n q ps most (graphed_ceiling (next_context c s).known n rest (graphs_in rest ps))
-      (inr (one.settled, omega (arith, one.aaps n some, one.aps n some)))
-      (few_rounds n some rest (next_context c s) (next_stage op c s rest st) ps h.1 w.1)
-  few_rounds n some (Visit b ∷ rest) c st (q ∷ ps) h w =
+      (inr (one.settled, omega (arith, one.aaps n some small, one.aps n some small)))
+      (few_rounds n some small rest (next_context c s) (next_stage op c s rest st) ps h.1 w.1)
+  few_rounds n some small (Visit b ∷ rest) c st (q ∷ ps) h w =
       let s = Visit b in
       let g = the_graph slots b q h.0 in
       let most = n * (4 * length g.graph.nodes + 3 * length b.assigns) + length b.states in
@@ -176,7 +176,7 @@ module _ (op : Operation) (meets : OperationMeets op) (slots : Slots) (free_bit 
       (sym (form_graph slots b q h.0))
       (one_more n q ps most (graphed_ceiling (next_context c s).known n rest (graphs_in rest ps))
       (inl (h.0.cost n some))
-      (few_rounds n some rest (next_context c s) (next_stage op c s rest st) ps h.1 w.1))
+      (few_rounds n some small rest (next_context c s) (next_stage op c s rest st) ps h.1 w.1))
 
   pub entry_graphed : (ps : List (List (StepOf Block))) → HaveForms slots op.body ps
       → AreWritten slots free_bit free_word op.body ps → (e : Microprogram)
@@ -186,14 +186,14 @@ module _ (op : Operation) (meets : OperationMeets op) (slots : Slots) (free_bit 
       → IsGraphed e op (graphs_in op.body ps)
   entry_graphed ps h written e few exact = record {
     graphs = are_graphs slots op.body ps h;
-    few = λ n some small. (let k = few_rounds n some op.body (at_start op) (first_stage op meets)
+    few = λ n some small. (let k = few_rounds n some small op.body (at_start op) (first_stage op meets)
         ps h written in
         omega (arith, few n some small k.ceilings k.cheap, k.total));
     exact = record {
       exact = λ words n some small.
           (let all = all_exactly op meets slots free_bit free_word is op.body (at_start op)
           (first_stage op meets) ps written words in
-          exact n some small all.settled ∙ both_counts (all.aaps n some) (all.aps n some));
+          exact n some small all.settled ∙ both_counts (all.aaps n some small) (all.aps n some small));
     };
   }
 

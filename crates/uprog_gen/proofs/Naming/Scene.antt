@@ -174,9 +174,6 @@ module _ (op : Operation) (meets : OperationMeets op) (slots : Slots) (free_bit 
   results_known = each_known op.params (body_defines op.params op.body) (results op)
       meets.results_new meets.results_given
 
-  some_kind : (a b : Kind) → Some a ≡ Some b → a ≡ b
-  some_kind a b e = cc
-
   in_source : (n v : ℕ) (x : Slot) → slice_get (kinds_of op.params) x.which ≡ Some x.kind
       → v < width n x.kind → IsSpot (op_shape op) n (spot_in n Source x.which v)
   in_source n v x e lt = subst (λ (o : Option Kind). IsBelow o n v) (sym e)

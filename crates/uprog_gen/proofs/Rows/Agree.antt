@@ -40,10 +40,10 @@ use Rattle.row_alloc.specs.Legal.{is_ref, is_first_ref, is_second_ref, is_legal_
 use Rattle.row_alloc.specs.Held.{Enters, is_held, is_read, reads_rows}
 use Rattle.row_alloc.specs.Layouts.{StandsIn}
 use Rattle.loop_ir.specs.States.{row_count, enters}
-use Rattle.loop_ir.specs.Chains.{states_in, finds, left_by}
+use Rattle.loop_ir.specs.Chains.{states_in, finds, left_by, chained}
 use Rattle.row_alloc.specs.declared.body.Held.{Held}
 use Rattle.uprog_gen.proofs.Rows.Named.{few, IsNamed, named_ref}
-use Rattle.uprog_gen.proofs.Rows.Alive.{state_spot, AreStanding, chained}
+use Rattle.uprog_gen.proofs.Rows.Alive.{state_spot, AreStanding}
 use Rattle.uprog_gen.proofs.Rows.States.{are_among, held_is, enter_cells, leave_cells}
 
 -- one of the first places has a number, or none has
@@ -62,12 +62,12 @@ find f q (suc count) =
     (find f q count)
 
 -- a state is no row
-no_row : (n i o : ℕ) (q : Place) → is_state q.space ≡ true → (head : Shape) (p : Spot)
-    → IsSpot head n p → p ≡ spot_at n i o q → ⊥
-no_row n i o q e head p spot same = by q.space e (subst (IsSpot head n) same spot)
+no_row : (n i o : ℕ) (regs : List ℕ) (q : Place) → is_state q.space ≡ true → (head : Shape) (p : Spot)
+    → IsSpot head n p → p ≡ spot_at n i o regs q → ⊥
+no_row n i o regs q e head p spot same = by q.space e (subst (IsSpot head n) same spot)
   where
     by : (x : Space) → is_state x ≡ true → IsSpot head n
-        (spot_in n x q.which (sub_value n i o q.sub)) → ⊥
+        (spot_in n x q.which (sub_value n i o regs q.sub)) → ⊥
     by Cells e h = h
     by Result e h = absurd (cc)
     by Source e h = absurd (cc)
@@ -90,9 +90,9 @@ module _ (rows : ℕ) (head : Shape) (n : ℕ) (b : Bound) where
 
   input_row : (r : RoundOf Part) (k : ℕ) → is_state (nth_place r.part.block.reads k).space ≡ false
       → (round_rows rows head n b r).input k
-      ≡ spot_row head n b (nth_spot n r.i r.o r.part.block.reads k)
+      ≡ spot_row head n b (nth_spot n r.i r.o r.regs r.part.block.reads k)
   input_row r k e = ap (λ c. cond c (rows + 32)
-      (spot_row head n b (nth_spot n r.i r.o r.part.block.reads k))) e
+      (spot_row head n b (nth_spot n r.i r.o r.regs r.part.block.reads k))) e
 
   ref_place : (r : RoundOf Part) (x : BodyRef) → IsNamed r.part x
       → address rows head n b (round_ref n r x) ≡ place (round_rows rows head n b r) x
@@ -100,9 +100,9 @@ module _ (rows : ℕ) (head : Shape) (n : ℕ) (b : Bound) where
   ref_place r (ref.C k) h = refl
   ref_place r (ref.Spill k) h = refl
   ref_place r (ref.In k) h = let p = nth_place r.part.block.reads k in
-      space_is p.space p.which (sub_value n r.i r.o p.sub) h.1 ∙ ap AddrD (sym (input_row r k h.1))
+      space_is p.space p.which (sub_value n r.i r.o r.regs p.sub) h.1 ∙ ap AddrD (sym (input_row r k h.1))
   ref_place r (ref.Out k) h = let p = nth_place r.part.block.writes k in
-      space_is p.space p.which (sub_value n r.i r.o p.sub) h.1
+      space_is p.space p.which (sub_value n r.i r.o r.regs p.sub) h.1
 
   module _ (r : RoundOf Part) (part : IsPart r.part) where
     abbrev inputs : ℕ
@@ -166,7 +166,7 @@ module _ (rows : ℕ) (head : Shape) (n : ℕ) (b : Bound) (laid : IsLaid rows h
 
   own_row : (r : RoundOf Part) → IsRound (IsSpot head n) n (block_round r) → IsPart r.part
       → (j : ℕ) → j < length r.part.outs
-      → IsSpot head n (nth_spot n r.i r.o r.part.block.writes j)
+      → IsSpot head n (nth_spot n r.i r.o r.regs r.part.block.writes j)
   own_row r is part j lj = let l = few r.part part j lj in
       is.writes j l.1 (part.states.first.row j l.0)
 
@@ -175,7 +175,7 @@ module _ (rows : ℕ) (head : Shape) (n : ℕ) (b : Bound) (laid : IsLaid rows h
       → (j k : ℕ) → j < length r.part.outs → k < r.part.block.graph.inputs → (c : Bool)
       → is_state (nth_place r.part.block.reads k).space ≡ c
       → (round_rows rows head n b r).output j
-      ≡ cond c (rows + 32) (spot_row head n b (nth_spot n r.i r.o r.part.block.reads k))
+      ≡ cond c (rows + 32) (spot_row head n b (nth_spot n r.i r.o r.regs r.part.block.reads k))
       → (out_at r.part.outs j).same ≡ Some k
   same_row r is part j k lj lk true st e =
       absurd (omega (arith, e, laid.low _ (own_row r is part j lj)))
@@ -187,7 +187,7 @@ module _ (rows : ℕ) (head : Shape) (n : ℕ) (b : Bound) (laid : IsLaid rows h
       lr : k < length r.part.block.reads
       lr = omega (arith, lk, part.well.reads)
 
-      spots : nth_spot n r.i r.o r.part.block.writes j ≡ nth_spot n r.i r.o r.part.block.reads k
+      spots : nth_spot n r.i r.o r.regs r.part.block.writes j ≡ nth_spot n r.i r.o r.regs r.part.block.reads k
       spots = laid.own _ _ (own_row r is part j lj) (is.reads k lr st) (is.own j lw) e
 
       decide : (o : Option ℕ) → (out_at r.part.outs j).same ≡ o
@@ -196,13 +196,13 @@ module _ (rows : ℕ) (head : Shape) (n : ℕ) (b : Bound) (laid : IsLaid rows h
       decide (Some l) h =
           let f = part.outs.found j l lj h in
           let ll : l < length r.part.block.reads = omega (arith, f.0, part.well.reads) in
-          let e : l ≡ k = is.once j l k lw ll lr (ap (spot_at n r.i r.o) (sym f.1)) spots in
+          let e : l ≡ k = is.once j l k lw ll lr (ap (spot_at n r.i r.o r.regs) (sym f.1)) spots in
           h ∙ ap Some e
 
   away : (r : RoundOf Part) (i k : ℕ) → i < 32 → IsRound (IsSpot head n) n (block_round r)
       → k < length r.part.block.reads → (c : Bool)
       → is_state (nth_place r.part.block.reads k).space ≡ c → rows - 32 + i
-      ≡ cond c (rows + 32) (spot_row head n b (nth_spot n r.i r.o r.part.block.reads k)) → ⊥
+      ≡ cond c (rows + 32) (spot_row head n b (nth_spot n r.i r.o r.regs r.part.block.reads k)) → ⊥
   away r i k li is lk true st e = omega (arith, e)
   away r i k li is lk false st e = omega (arith, e, laid.low _ (is.reads k lk st))
 
@@ -228,7 +228,7 @@ module _ (rows : ℕ) (head : Shape) (n : ℕ) (b : Bound) (laid : IsLaid rows h
       λ h. let f = (part.outs.found j k lj h).1 in
           let st = ap (λ (p : Place). is_state p.space) f
           ∙ part.states.first.row j (few r.part part j lj).0 in
-          ap (λ p. spot_row head n b (spot_at n r.i r.o p)) (sym f)
+          ap (λ p. spot_row head n b (spot_at n r.i r.o r.regs p)) (sym f)
           ∙ sym (input_row rows head n b r k st),
     );
   }
@@ -237,7 +237,7 @@ module _ (rows : ℕ) (head : Shape) (n : ℕ) (b : Bound) (laid : IsLaid rows h
   entering : (r : RoundOf Part) (alive : List ℕ) (bits : Spots) (s : Column)
       → IsRound (IsSpot head n) n (block_round r) → IsPart r.part
       → finds alive r.part.block ≡ true → AgreeHeld alive bits s → Enters r.part.block.graph
-      (λ k. bits (nth_spot n r.i r.o r.part.block.reads k)) (enters 0 r.part.block.reads)
+      (λ k. bits (nth_spot n r.i r.o r.regs r.part.block.reads k)) (enters 0 r.part.block.reads)
       (round_rows rows head n b r) s
   entering r alive bits s is part live agree = record {
     read = λ k l h.
@@ -246,24 +246,24 @@ module _ (rows : ℕ) (head : Shape) (n : ℕ) (b : Bound) (laid : IsLaid rows h
         let st = held_is r.part.block.reads 0 k lk
         ∙ ap (is_held (enters 0 r.part.block.reads)) z ∙ h in
         ap (λ q. s (D q)) (input_row rows head n b r k st) ∙ agree.named _ (is.reads k lk st);
-    held = enter_cells r.part.block.graph (λ k. bits (nth_spot n r.i r.o r.part.block.reads k)) s
-        n r.i r.o bits r.part.block.reads 0
+    held = enter_cells r.part.block.graph (λ k. bits (nth_spot n r.i r.o r.regs r.part.block.reads k)) s
+        n r.i r.o r.regs bits r.part.block.reads 0
         (λ j l e. let m : j < r.part.block.graph.inputs = part.states.read j l e in
         omega (arith, m))
         (λ j l. let z : 0 + j ≡ j = omega arith in
-        ap (λ k. bits (nth_spot n r.i r.o r.part.block.reads k)) z)
+        ap (λ k. bits (nth_spot n r.i r.o r.regs r.part.block.reads k)) z)
         (are_among (λ w. StandsIn s w (bits (state_spot w))) alive
         (states_in r.part.block.reads) live agree.cells);
   }
 
   written : (r : RoundOf Part) (bits : Spots) → IsRound (IsSpot head n) n (block_round r)
       → IsPart r.part → (j : ℕ) → j < length r.part.block.outs
-      → after_round n (block_round r) bits (nth_spot n r.i r.o r.part.block.writes j)
-      ≡ value r.part.block.graph (λ k. bits (nth_spot n r.i r.o r.part.block.reads k))
+      → after_round n (block_round r) bits (nth_spot n r.i r.o r.regs r.part.block.writes j)
+      ≡ value r.part.block.graph (λ k. bits (nth_spot n r.i r.o r.regs r.part.block.reads k))
       (lit_at r.part.block.outs j)
   written r bits is part j lo =
       let k = r.part.block in
-      write_at n r.i r.o (round_env n (block_round r) bits) k.writes k.outs bits
+      write_at n r.i r.o r.regs (round_env n (block_round r) bits) k.writes k.outs bits
       part.well.writes (λ i m li lm e. is.apart i m (omega (arith, li, part.well.writes))
       (omega (arith, lm, part.well.writes)) e) j lo
 
@@ -279,19 +279,19 @@ module _ (rows : ℕ) (head : Shape) (n : ℕ) (b : Bound) (laid : IsLaid rows h
       let j = h.0 in
       let lw : j < length k.writes = (few r.part part j h.1).1 in
       let lo : j < length k.outs = omega (arith, lw, part.states.written) in
-      let same : nth_spot n r.i r.o k.writes j ≡ p =
+      let same : nth_spot n r.i r.o r.regs k.writes j ≡ p =
       laid.own _ p (own_row r is part j h.1) spot (is.own j lw) (sym h.2) in
       ap (λ q. s' (D q)) h.2
-      ∙ part.does.values w s (λ i. bits (nth_spot n r.i r.o k.reads i)) (are_apart r is part)
+      ∙ part.does.values w s (λ i. bits (nth_spot n r.i r.o r.regs k.reads i)) (are_apart r is part)
       (entering r alive bits s is part live agree) j h.1
-      ∙ ap (value k.graph (λ i. bits (nth_spot n r.i r.o k.reads i))) (part.outs.lits j h.1)
+      ∙ ap (value k.graph (λ i. bits (nth_spot n r.i r.o r.regs k.reads i))) (part.outs.lits j h.1)
       ∙ sym (written r bits is part j lo)
       ∙ ap (after_round n (block_round r) bits) same)
       (λ (none : (j : ℕ) → j < length r.part.outs → spot_row head n b p ≡ w.output j → ⊥).
       part.does.others w s (are_apart r is part) (spot_row head n b p) (λ j lt e. none j lt (sym e))
       (λ i li e. absurd (omega (arith, e, laid.low p spot)))
       ∙ agree.named p spot
-      ∙ sym (write_other n r.i r.o (round_env n (block_round r) bits) k.writes k.outs bits p
+      ∙ sym (write_other n r.i r.o r.regs (round_env n (block_round r) bits) k.writes k.outs bits p
       (λ j lt e. other none j (omega (arith, lt, part.states.written)) e)))
       (find w.output (spot_row head n b p) (length r.part.outs))
     where
@@ -305,11 +305,11 @@ module _ (rows : ℕ) (head : Shape) (n : ℕ) (b : Bound) (laid : IsLaid rows h
       s' = run_body w r.part.cmds s
 
       other : ((j : ℕ) → j < length r.part.outs → spot_row head n b p ≡ w.output j → ⊥) → (j : ℕ)
-          → j < length k.writes → p ≡ nth_spot n r.i r.o k.writes j → ⊥
+          → j < length k.writes → p ≡ nth_spot n r.i r.o r.regs k.writes j → ⊥
       other none j lt e = ⊎_elim
           (λ (l : j < row_count k.writes). none j (omega (arith, l, part.outs.size))
           (ap (spot_row head n b) e))
-          (λ (l : row_count k.writes ≤ j). no_row n r.i r.o (nth_place k.writes j)
+          (λ (l : row_count k.writes ≤ j). no_row n r.i r.o r.regs (nth_place k.writes j)
           (part.states.first.state j l lt) head p spot e)
           (cases_lt j (row_count k.writes))
 
@@ -321,9 +321,9 @@ module _ (rows : ℕ) (head : Shape) (n : ℕ) (b : Bound) (laid : IsLaid rows h
   round_agrees r alive bits s is part live agree = record {
     named = round_rows_agree r alive bits s is part live agree;
     cells =
-        let f = λ (k : ℕ). bits (nth_spot n r.i r.o r.part.block.reads k) in
+        let f = λ (k : ℕ). bits (nth_spot n r.i r.o r.regs r.part.block.reads k) in
         let w = round_rows rows head n b r in
-        leave_cells r.part.block.graph f (run_body w r.part.cmds s) n r.i r.o
+        leave_cells r.part.block.graph f (run_body w r.part.cmds s) n r.i r.o r.regs
         (after_round n (block_round r) bits) r.part.block.writes r.part.block.outs
         part.states.written (λ j l. written r bits is part j l)
         (part.does.leaves w s f (are_apart r is part)
@@ -337,7 +337,7 @@ module _ (rows : ℕ) (head : Shape) (n : ℕ) (b : Bound) (laid : IsLaid rows h
   round_keeps r s is part q other =
       part.does.others (round_rows rows head n b r) s (are_apart r is part) q
       (λ j lt e. other (inl (
-        nth_spot n r.i r.o r.part.block.writes j,
+        nth_spot n r.i r.o r.regs r.part.block.writes j,
         own_row r is part j lt,
         is.own j (few r.part part j lt).1,
         sym e,

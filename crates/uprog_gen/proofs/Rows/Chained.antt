@@ -1,25 +1,21 @@
 -- Where each body finds its states by the test, it does in every round.
-use Rattle.std.proofs.Common.{◌≡◌, ℕ, zero, suc, ◌+◌, ◌-◌, ◌<◌, ◌≤◌, Bool, true, false, List, []}
-use Rattle.std.proofs.Common.{◌∷◌, ◌++◌, cond, refl, sym, ap, ◌∙◌, subst, arith, ◌⊎◌, inl, inr}
-use Rattle.std.proofs.Common.{⊎_elim}
-use Rattle.std.specs.Prelude.{◌&&◌, ◌||◌, ◌==◌, ◌%◌}
+use Rattle.std.proofs.Common.{◌≡◌, ℕ, zero, suc, ◌+◌, ◌-◌, ◌<◌, ◌≤◌, true, List, [], ◌∷◌, ◌++◌}
+use Rattle.std.proofs.Common.{refl, sym, subst, arith, ◌⊎◌, inl, inr}
+use Rattle.std.specs.Prelude.{◌&&◌}
 use Rattle.std.specs.List.{list_all}
-use Rattle.std.proofs.lemmas.Bool.{and_parts, and_from, cases_Bool, eqb-true}
-use Rattle.loop_ir.specs.declared.ir.Span.{Span}
-use Rattle.loop_ir.specs.declared.ir.Span.TheVariants.{Full, First, Above}
-use Rattle.loop_ir.specs.Chains.{surely}
-use Rattle.loop_ir.specs.Loops.{step_rounds}
+use Rattle.std.proofs.lemmas.Bool.{and_parts, and_from}
 use Rattle.loop_ir.specs.declared.ir.Count.{Count}
-use Rattle.loop_ir.specs.declared.ir.Count.TheVariants.{All, Rest, UpTo}
-use Rattle.loop_ir.specs.Plain.{Block, LevelOf, InnerOf, StepOf, TurnOf}
-use Rattle.loop_ir.specs.Plain.InnerOf.{Alone, Across, AtLevel}
-use Rattle.loop_ir.specs.Plain.StepOf.{Single, Along, Nest, Pairs, Alternate}
-use Rattle.loop_ir.specs.Loops.{RoundOf, one_round, two_rounds, rounds, positions, elements}
-use Rattle.loop_ir.specs.Loops.{filled_rounds, level_rounds, inner_rounds, all_rounds, turns_from}
+use Rattle.loop_ir.specs.declared.ir.Count.TheVariants.{All, Rest}
+use Rattle.loop_ir.specs.Plain.{Block, InnerOf, StepOf, TurnOf}
+use Rattle.loop_ir.specs.Plain.InnerOf.{Alone, Across}
+use Rattle.loop_ir.specs.Plain.StepOf.{Single, Along, Nest, Pairs, Alternate, Flowed}
+use Rattle.loop_ir.specs.Loops.{RoundOf, one_round, rounds, positions, inner_rounds, all_rounds}
+use Rattle.loop_ir.specs.Loops.{turns_from, step_rounds, flow_rounds}
 use Rattle.loop_ir.specs.Chains.{states_in, is_alive, finds, left_by, loop_finds, inner_left}
-use Rattle.loop_ir.specs.Chains.{common, begun_by, level_left, pairs_find, level_finds}
-use Rattle.loop_ir.specs.Chains.{inner_finds, steps_find, turns_left, turns_find}
-use Rattle.uprog_gen.proofs.Rows.Alive.{chained}
+use Rattle.loop_ir.specs.Chains.{inner_finds, steps_find, turns_left, turns_find, chained}
+use Rattle.loop_ir.specs.Chains.{flow_finds}
+use Rattle.uprog_gen.proofs.Coding.FlowMaps.{one_width}
+use Rattle.bit_rows.specs.declared.TheConstants.{WIDTH_MAX}
 
 -- the states that the last of the rounds leaves
 left_after : List ℕ → List (RoundOf Block) → List ℕ
@@ -119,38 +115,6 @@ across alive b o count h some =
     many (λ i. one_round b i o) count alive (left_by b) (λ i l. once alive b i o p.0)
     (λ i l. once (left_by b) b i o p.1) 0 count some (omega arith)
 
--- the states that two lists have in common
-or_to : (a b c : Bool) → (b ≡ true → c ≡ true) → (a || b) ≡ true → (a || c) ≡ true
-or_to true b c h e = refl
-or_to false b c h e = h e
-
-or_more : (a b : Bool) → b ≡ true → (a || b) ≡ true
-or_more true b e = refl
-or_more false b e = e
-
-front_by : (b : Bool) (x : ℕ) (ys xs : List ℕ) (w : ℕ) → Within ys xs
-    → is_alive w (cond b (x ∷ ys) ys) ≡ true → is_alive w (x ∷ xs) ≡ true
-front_by true x ys xs w h e = or_to (x == w) (is_alive w ys) (is_alive w xs) (h w) e
-front_by false x ys xs w h e = or_more (x == w) (is_alive w xs) (h w e)
-
-common_front : (xs ls : List ℕ) → Within (common xs ls) xs
-common_front [] ls w e = e
-common_front (x ∷ xs) ls w e =
-    front_by (is_alive x ls) x (common xs ls) xs w (common_front xs ls) e
-
-back_by : (b : Bool) (x : ℕ) (ys ls : List ℕ) (w : ℕ) → is_alive x ls ≡ b → Within ys ls
-    → is_alive w (cond b (x ∷ ys) ys) ≡ true → is_alive w ls ≡ true
-back_by true x ys ls w is h e = ⊎_elim
-    (λ (t : (x == w) ≡ true). subst (λ v. is_alive v ls ≡ true) (eqb-true x w t) is)
-    (λ (f : (x == w) ≡ false). h w (sym (ap (λ b. b || is_alive w ys) f) ∙ e))
-    (cases_Bool (x == w))
-back_by false x ys ls w is h e = h w e
-
-common_back : (xs ls : List ℕ) → Within (common xs ls) ls
-common_back [] ls w e = absurd cc
-common_back (x ∷ xs) ls w e =
-    back_by (is_alive x ls) x (common xs ls) ls w refl (common_back xs ls) e
-
 -- a nest leaves always the same, or nothing new
 left_kind : (ps : List (InnerOf Block))
     → ((xs ys : List ℕ) → inner_left xs ps ≡ inner_left ys ps)
@@ -158,7 +122,6 @@ left_kind : (ps : List (InnerOf Block))
 left_kind [] = inr (λ xs w e. e)
 left_kind (Alone b ∷ ps) = inl (λ xs ys. refl)
 left_kind (Across c b ∷ ps) = inl (λ xs ys. refl)
-left_kind (AtLevel l ∷ ps) = inl (λ xs ys. refl)
 
 -- what it leaves is left again where that is found
 left_from : (ps : List (InnerOf Block)) (xs ys : List ℕ) → Within (inner_left xs ps) ys
@@ -166,7 +129,6 @@ left_from : (ps : List (InnerOf Block)) (xs ys : List ℕ) → Within (inner_lef
 left_from [] xs ys h = h
 left_from (Alone b ∷ ps) xs ys h = λ w e. e
 left_from (Across c b ∷ ps) xs ys h = λ w e. e
-left_from (AtLevel l ∷ ps) xs ys h = λ w e. e
 
 left_again : (ps : List (InnerOf Block)) (alive : List ℕ)
     → Within (inner_left alive ps) (inner_left (inner_left alive ps) ps)
@@ -184,7 +146,6 @@ across_count : (n o : ℕ) (c : Count) (alive : List ℕ) (b : Block) → o < n
     → Chains alive (left_by b) (rounds (λ i. one_round b i o) 0 (positions n o c))
 across_count n o All alive b l h = across alive b o n h (omega arith)
 across_count n o Rest alive b l h = across alive b o (n - o) h (omega arith)
-across_count n o UpTo alive b l h = across alive b o (o + 1) h (omega arith)
 
 -- a loop that may have no round
 maybe : (alive : List ℕ) (b : Block) (o count : ℕ) → loop_finds alive b ≡ true
@@ -192,72 +153,6 @@ maybe : (alive : List ℕ) (b : Block) (o count : ℕ) → loop_finds alive b �
 maybe alive b o zero h = fewer alive alive [] [] (none_within alive) (nothing alive)
 maybe alive b o (suc m) h = fewer alive (left_by b) [] (rounds (λ i. one_round b i o) 0 (suc m))
     (none_within (left_by b)) (across alive b o (suc m) h (omega arith))
-
--- two bodies at each of some pairs, and what ends their level
-paired : (alive : List ℕ) (b c d : Block) (o count : ℕ) → finds alive b ≡ true
-    → finds (left_by b) c ≡ true → finds (left_by c) b ≡ true → finds alive d ≡ true
-    → finds (left_by c) d ≡ true
-    → Chains alive (left_by d) (rounds (λ i. two_rounds b c i o) 0 count ++ one_round d 0 o)
-paired alive b c d o zero h k again none more = once alive d 0 o none
-paired alive b c d o (suc count) h k again none more =
-    let both = λ (xs : List ℕ) (f : finds xs b ≡ true) (i : ℕ). join xs (left_by b) (left_by c)
-    (one_round b i o) (one_round c i o) (once xs b i o f) (once (left_by b) c i o k) in
-    join alive (left_by c) (left_by d) (rounds (λ i. two_rounds b c i o) 0 (suc count))
-    (one_round d 0 o)
-    (many (λ i. two_rounds b c i o) (suc count) alive (left_by c) (λ i l. both alive h i)
-    (λ i l. both (left_by c) again i) 0 (suc count) (omega arith) (omega arith))
-    (once (left_by c) d 0 o more)
-
--- how a level's sum begins
-begun : (alive : List ℕ) (l : LevelOf Block) (o : ℕ) (z : Bool) → finds alive l.odd ≡ true
-    → finds alive l.even ≡ true
-    → Chains alive (begun_by l) (one_round (cond z l.even l.odd) 0 o)
-begun alive l o true h k = fewer alive (left_by l.even) (begun_by l) (one_round l.even 0 o)
-    (common_back (left_by l.odd) (left_by l.even)) (once alive l.even 0 o k)
-begun alive l o false h k = fewer alive (left_by l.odd) (begun_by l) (one_round l.odd 0 o)
-    (common_front (left_by l.odd) (left_by l.even)) (once alive l.odd 0 o h)
-
--- a level with elements
-filled : (n o : ℕ) (alive : List ℕ) (l : LevelOf Block) → finds alive l.odd ≡ true
-    → finds alive l.even ≡ true → pairs_find l ≡ true
-    → Chains alive (left_by l.end) (filled_rounds n o l)
-filled n o alive l odd even h =
-    let start = begun_by l in
-    let count = elements n (o + 1) in
-    let again = finds (left_by l.first) l.second && finds (left_by l.second) l.first in
-    let last = finds start l.end && finds (left_by l.second) l.end in
-    let p = and_parts (finds start l.first && again) last h in
-    let q = and_parts (finds start l.first) again p.0 in
-    let r = and_parts (finds (left_by l.first) l.second) (finds (left_by l.second) l.first) q.1 in
-    let s = and_parts (finds start l.end) (finds (left_by l.second) l.end) p.1 in
-    let z = elements n o % 2 == 0 in
-    join alive start (left_by l.end) (one_round (cond z l.even l.odd) 0 o)
-    (rounds (λ i. two_rounds l.first l.second i o) 0 count ++ one_round l.end 0 o)
-    (begun alive l o z odd even)
-    (paired start l.first l.second l.end o count q.0 r.0 r.1 s.0 s.1)
-
--- a level
-levelled : (n o : ℕ) (alive : List ℕ) (l : LevelOf Block) → level_finds alive l ≡ true
-    → Chains alive (level_left l) (level_rounds n o l)
-levelled n o alive l h = by (elements n o == 0)
-  where
-    none : List (RoundOf Block)
-    none = one_round l.none 0 o
-
-    by : (z : Bool) → Chains alive (level_left l) (cond z none (filled_rounds n o l))
-    by true =
-        let p = and_parts (finds alive l.none && (finds alive l.odd && finds alive l.even))
-        (pairs_find l) h in
-        let q = and_parts (finds alive l.none) (finds alive l.odd && finds alive l.even) p.0 in
-        fewer alive (left_by l.none) (level_left l) none
-        (common_front (left_by l.none) (left_by l.end)) (once alive l.none 0 o q.0)
-    by false =
-        let p = and_parts (finds alive l.none && (finds alive l.odd && finds alive l.even))
-        (pairs_find l) h in
-        let q = and_parts (finds alive l.none) (finds alive l.odd && finds alive l.even) p.0 in
-        let r = and_parts (finds alive l.odd) (finds alive l.even) q.1 in
-        fewer alive (left_by l.end) (level_left l) (filled_rounds n o l)
-        (common_back (left_by l.none) (left_by l.end)) (filled n o alive l r.0 r.1 p.1)
 
 inners : (n o : ℕ) (ps : List (InnerOf Block)) (alive : List ℕ) → o < n
     → inner_finds alive ps ≡ true → Chains alive (inner_left alive ps) (inner_rounds n o ps)
@@ -271,10 +166,6 @@ inners n o (Across c b ∷ ps) alive l h =
     join alive (left_by b) (inner_left (left_by b) ps)
     (rounds (λ i. one_round b i o) 0 (positions n o c)) (inner_rounds n o ps)
     (across_count n o c alive b l p.0) (inners n o ps (left_by b) l p.1)
-inners n o (AtLevel v ∷ ps) alive l h =
-    let p = and_parts (level_finds alive v) (inner_finds (level_left v) ps) h in
-    join alive (level_left v) (inner_left (level_left v) ps) (level_rounds n o v)
-    (inner_rounds n o ps) (levelled n o alive v p.0) (inners n o ps (level_left v) l p.1)
 
 -- bodies that take turns: one that has had its turn stands behind the others
 left_behind : (ts : List (TurnOf Block)) (t : TurnOf Block) (alive : List ℕ)
@@ -320,53 +211,37 @@ module _ (n : ℕ) (ps : List (InnerOf Block)) (alive : List ℕ)
   abbrev Mid : List ℕ
   Mid = inner_left alive ps
 
-  -- the parts of a nest at some outer positions
-  passes : (o count : ℕ) → 0 < count → o + count ≤ n
-      → Chains alive (inner_left Mid ps) (rounds (λ j. inner_rounds n j ps) o count)
-  passes o count some le = fewer alive Mid (inner_left Mid ps)
-      (rounds (λ j. inner_rounds n j ps) o count) (left_back ps alive)
+  nested : 0 < n → Chains alive (inner_left Mid ps) (step_rounds n (Nest ps))
+  nested some = fewer alive Mid (inner_left Mid ps) (rounds (λ j. inner_rounds n j ps) 0 n)
+      (left_back ps alive)
       (many (λ j. inner_rounds n j ps) n alive Mid (λ j l. inners n j ps alive l finds_first)
       (λ j l. fewer Mid (inner_left Mid ps) Mid (inner_rounds n j ps) (left_again ps alive)
-      (inners n j ps Mid l finds_again)) o count some le)
+      (inners n j ps Mid l finds_again)) 0 n some (omega arith))
 
-  -- at some outer positions or none
-  maybe_passes : (o count : ℕ) → o + count ≤ n
-      → Chains alive [] (rounds (λ j. inner_rounds n j ps) o count)
-  maybe_passes o zero le = fewer alive alive [] [] (none_within alive) (nothing alive)
-  maybe_passes o (suc m) le = fewer alive (inner_left Mid ps) []
-      (rounds (λ j. inner_rounds n j ps) o (suc m)) (none_within (inner_left Mid ps))
-      (passes o (suc m) (omega arith) le)
-
-  nested : (span : Span) → 0 < n
-      → Chains alive (surely span (inner_left Mid ps)) (step_rounds n (Nest span ps))
-  nested Full some = passes 0 n some (omega arith)
-  nested First some = passes 0 1 (omega arith) (omega (arith, some))
-  nested Above some = maybe_passes 1 (n - 1) (omega (arith, some))
-
-pub steps_chained : (n : ℕ) (ss : List (StepOf Block)) (alive : List ℕ) → 0 < n
+pub steps_chained : (n : ℕ) (ss : List (StepOf Block)) (alive : List ℕ) → 0 < n → n ≤ WIDTH_MAX
     → steps_find alive ss ≡ true → chained alive (all_rounds n ss) ≡ true
-steps_chained n [] alive some h = refl
-steps_chained n (Single b ∷ ss) alive some h =
+steps_chained n [] alive some small h = refl
+steps_chained n (Single b ∷ ss) alive some small h =
     let p = and_parts (finds alive b) (steps_find (left_by b) ss) h in
     let c = once alive b 0 0 p.0 in
     both_chained (one_round b 0 0) (all_rounds n ss) alive c.need
     (more_chained (all_rounds n ss) (left_by b) (left_after alive (one_round b 0 0)) c.left_in
-    (steps_chained n ss (left_by b) some p.1))
-steps_chained n (Along b ∷ ss) alive some h =
+    (steps_chained n ss (left_by b) some small p.1))
+steps_chained n (Along b ∷ ss) alive some small h =
     let p = and_parts (loop_finds alive b) (steps_find (left_by b) ss) h in
     let rs = rounds (λ i. one_round b i 0) 0 n in
     let c = across alive b 0 n p.0 some in
     both_chained rs (all_rounds n ss) alive c.need
     (more_chained (all_rounds n ss) (left_by b) (left_after alive rs) c.left_in
-    (steps_chained n ss (left_by b) some p.1))
-steps_chained n (Pairs b ∷ ss) alive some h =
+    (steps_chained n ss (left_by b) some small p.1))
+steps_chained n (Pairs b ∷ ss) alive some small h =
     let p = and_parts (loop_finds alive b) (steps_find [] ss) h in
     let rs = rounds (λ i. one_round b i 1) 0 (n - 1) in
     let c = maybe alive b 1 (n - 1) p.0 in
     both_chained rs (all_rounds n ss) alive c.need
     (more_chained (all_rounds n ss) [] (left_after alive rs) c.left_in
-    (steps_chained n ss [] some p.1))
-steps_chained n (Alternate t ∷ ss) alive some h =
+    (steps_chained n ss [] some small p.1))
+steps_chained n (Alternate t ∷ ss) alive some small h =
     let p = and_parts (turns_find alive t) (turns_find (turns_left alive t) t && steps_find [] ss) h
     in
     let q = and_parts (turns_find (turns_left alive t) t) (steps_find [] ss) p.1 in
@@ -374,17 +249,24 @@ steps_chained n (Alternate t ∷ ss) alive some h =
     let c = by_turns t 0 (n - 1) alive p.0 q.0 in
     both_chained rs (all_rounds n ss) alive c.need
     (more_chained (all_rounds n ss) [] (left_after alive rs) c.left_in
-    (steps_chained n ss [] some q.1))
-steps_chained n (Nest span ps ∷ ss) alive some h =
+    (steps_chained n ss [] some small q.1))
+steps_chained n (Nest ps ∷ ss) alive some small h =
     let mid = inner_left alive ps in
-    let left = surely span (inner_left mid ps) in
-    let rs = step_rounds n (Nest span ps) in
+    let left = inner_left mid ps in
+    let rs = step_rounds n (Nest ps) in
     let p = and_parts (inner_finds alive ps) (inner_finds mid ps && steps_find left ss) h in
     let q = and_parts (inner_finds mid ps) (steps_find left ss) p.1 in
-    let c = nested n ps alive p.0 q.0 span some in
+    let c = nested n ps alive p.0 q.0 some in
     both_chained rs (all_rounds n ss) alive c.need
     (more_chained (all_rounds n ss) left (left_after alive rs) c.left_in
-    (steps_chained n ss left some q.1))
+    (steps_chained n ss left some small q.1))
+steps_chained n (Flowed f ∷ ss) alive some small h =
+    let p = and_parts (flow_finds f) (steps_find [] ss) h in
+    let rs = flow_rounds n f in
+    let c = one_width (λ m. chained [] (flow_rounds m f)) n some small p.0 in
+    both_chained rs (all_rounds n ss) alive (more_chained rs [] alive (none_within alive) c)
+    (more_chained (all_rounds n ss) [] (left_after alive rs) (none_within (left_after alive rs))
+    (steps_chained n ss [] some small p.1))
 
 -- with more alive each step still finds its states
 loop_still : (b : Block) (xs ys : List ℕ) → Within xs ys → loop_finds xs b ≡ true
@@ -392,18 +274,6 @@ loop_still : (b : Block) (xs ys : List ℕ) → Within xs ys → loop_finds xs b
 loop_still b xs ys w h =
     let p = and_parts (finds xs b) (finds (left_by b) b) h in
     and_from (finds ys b) (finds (left_by b) b) (more_find (states_in b.reads) xs ys w p.0) p.1
-
-level_still : (l : LevelOf Block) (xs ys : List ℕ) → Within xs ys → level_finds xs l ≡ true
-    → level_finds ys l ≡ true
-level_still l xs ys w h =
-    let p = and_parts (finds xs l.none && (finds xs l.odd && finds xs l.even)) (pairs_find l) h in
-    let q = and_parts (finds xs l.none) (finds xs l.odd && finds xs l.even) p.0 in
-    let r = and_parts (finds xs l.odd) (finds xs l.even) q.1 in
-    and_from (finds ys l.none && (finds ys l.odd && finds ys l.even)) (pairs_find l)
-    (and_from (finds ys l.none) (finds ys l.odd && finds ys l.even)
-    (more_find (states_in l.none.reads) xs ys w q.0)
-    (and_from (finds ys l.odd) (finds ys l.even) (more_find (states_in l.odd.reads) xs ys w r.0)
-    (more_find (states_in l.even.reads) xs ys w r.1))) p.1
 
 inner_still : (ps : List (InnerOf Block)) (xs ys : List ℕ) → Within xs ys
     → inner_finds xs ps ≡ true → inner_finds ys ps ≡ true
@@ -415,22 +285,12 @@ inner_still (Alone b ∷ ps) xs ys w h =
 inner_still (Across c b ∷ ps) xs ys w h =
     let p = and_parts (loop_finds xs b) (inner_finds (left_by b) ps) h in
     and_from (loop_finds ys b) (inner_finds (left_by b) ps) (loop_still b xs ys w p.0) p.1
-inner_still (AtLevel l ∷ ps) xs ys w h =
-    let p = and_parts (level_finds xs l) (inner_finds (level_left l) ps) h in
-    and_from (level_finds ys l) (inner_finds (level_left l) ps) (level_still l xs ys w p.0) p.1
 
 inner_within : (ps : List (InnerOf Block)) (xs ys : List ℕ) → Within xs ys
     → Within (inner_left xs ps) (inner_left ys ps)
 inner_within [] xs ys w = w
 inner_within (Alone b ∷ ps) xs ys w = λ v e. e
 inner_within (Across c b ∷ ps) xs ys w = λ v e. e
-inner_within (AtLevel l ∷ ps) xs ys w = λ v e. e
-
-surely_within : (span : Span) (xs ys : List ℕ) → Within xs ys
-    → Within (surely span xs) (surely span ys)
-surely_within Full xs ys w = w
-surely_within First xs ys w = w
-surely_within Above xs ys w = none_within []
 
 turns_still : (ts : List (TurnOf Block)) (xs ys : List ℕ) → Within xs ys
     → turns_find xs ts ≡ true → turns_find ys ts ≡ true
@@ -468,18 +328,18 @@ still_find (Alternate ts ∷ ss) xs ys w h =
     and_from (turns_find ys ts) (turns_find k ts && steps_find [] ss) (turns_still ts xs ys w p.0)
     (and_from (turns_find k ts) (steps_find [] ss)
     (turns_still ts m k (turns_within ts xs ys w) q.0) q.1)
-still_find (Nest span ps ∷ ss) xs ys w h =
+still_find (Nest ps ∷ ss) xs ys w h =
     let m = inner_left xs ps in
     let k = inner_left ys ps in
     let v = inner_within ps xs ys w in
-    let a = surely span (inner_left m ps) in
-    let b = surely span (inner_left k ps) in
+    let a = inner_left m ps in
+    let b = inner_left k ps in
     let p = and_parts (inner_finds xs ps) (inner_finds m ps && steps_find a ss) h in
     let q = and_parts (inner_finds m ps) (steps_find a ss) p.1 in
     and_from (inner_finds ys ps) (inner_finds k ps && steps_find b ss) (inner_still ps xs ys w p.0)
     (and_from (inner_finds k ps) (steps_find b ss) (inner_still ps m k v q.0)
-    (still_find ss a b (surely_within span (inner_left m ps) (inner_left k ps)
-    (inner_within ps m k v)) q.1))
+    (still_find ss a b (inner_within ps m k v) q.1))
+still_find (Flowed f ∷ ss) xs ys w h = h
 
 -- steps that need no state from before may stand after any
 pub find_both : (xs ys : List (StepOf Block)) (alive : List ℕ) → steps_find alive xs ≡ true
@@ -502,10 +362,13 @@ find_both (Alternate ts ∷ ss) ys alive h k =
     let q = and_parts (turns_find m ts) (steps_find [] ss) p.1 in
     and_from (turns_find alive ts) (turns_find m ts && steps_find [] (ss ++ ys)) p.0
     (and_from (turns_find m ts) (steps_find [] (ss ++ ys)) q.0 (find_both ss ys [] q.1 k))
-find_both (Nest span ps ∷ ss) ys alive h k =
+find_both (Nest ps ∷ ss) ys alive h k =
     let m = inner_left alive ps in
-    let left = surely span (inner_left m ps) in
+    let left = inner_left m ps in
     let p = and_parts (inner_finds alive ps) (inner_finds m ps && steps_find left ss) h in
     let q = and_parts (inner_finds m ps) (steps_find left ss) p.1 in
     and_from (inner_finds alive ps) (inner_finds m ps && steps_find left (ss ++ ys)) p.0
     (and_from (inner_finds m ps) (steps_find left (ss ++ ys)) q.0 (find_both ss ys left q.1 k))
+find_both (Flowed f ∷ ss) ys alive h k =
+    let p = and_parts (flow_finds f) (steps_find [] ss) h in
+    and_from (flow_finds f) (steps_find [] (ss ++ ys)) p.0 (find_both ss ys [] p.1 k)

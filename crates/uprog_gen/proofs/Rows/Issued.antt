@@ -13,19 +13,19 @@ use Rattle.loop_ir.specs.Spots.{nth_place}
 use Rattle.uprog_gen.specs.Code.{Part, row_space}
 
 -- a place's row, in a command of the trace
-abbrev pub place_row : ℕ → ℕ → ℕ → Place → RowRef
-place_row n i o p = record {
+abbrev pub place_row : ℕ → ℕ → ℕ → List ℕ → Place → RowRef
+place_row n i o g p = record {
   space = row_space p.space;
   which = p.which;
-  index = position (row_space p.space) (sub_value n i o p.sub);
+  index = position (row_space p.space) (sub_value n i o g p.sub);
 }
 
 -- a body's row in a round, in a command of the trace
 abbrev pub round_ref : ℕ → RoundOf Part → BodyRef → RowRef
 round_ref n r (ref.B k) = record { space = row.B; which = k; index = 0 }
 round_ref n r (ref.C k) = record { space = row.C; which = k; index = 0 }
-round_ref n r (ref.In k) = place_row n r.i r.o (nth_place r.part.block.reads k)
-round_ref n r (ref.Out k) = place_row n r.i r.o (nth_place r.part.block.writes k)
+round_ref n r (ref.In k) = place_row n r.i r.o r.regs (nth_place r.part.block.reads k)
+round_ref n r (ref.Out k) = place_row n r.i r.o r.regs (nth_place r.part.block.writes k)
 round_ref n r (ref.Spill k) = record { space = row.Spill; which = k; index = 0 }
 
 -- a body's command in a round, as a command of the trace

@@ -21,11 +21,11 @@ pub record IsLaid (rows : ℕ) (head : Shape) (n : ℕ) (b : Bound) : Type 0 whe
 abbrev pub round_rows : ℕ → Shape → ℕ → Bound → RoundOf Part → Rows
 round_rows rows head n b r = record {
   input = λ k. if is_state (nth_place r.part.block.reads k).space then rows + 32
-      else spot_row head n b (nth_spot n r.i r.o r.part.block.reads k);
-  output = λ j. spot_row head n b (nth_spot n r.i r.o r.part.block.writes j);
+      else spot_row head n b (nth_spot n r.i r.o r.regs r.part.block.reads k);
+  output = λ j. spot_row head n b (nth_spot n r.i r.o r.regs r.part.block.writes j);
   spill = λ i. rows - 32 + i;
 }
 
 -- the round of the body alone
 abbrev pub block_round : RoundOf Part → RoundOf Block
-block_round r = record { part = r.part.block; i = r.i; o = r.o }
+block_round r = record { part = r.part.block; i = r.i; o = r.o; regs = r.regs }

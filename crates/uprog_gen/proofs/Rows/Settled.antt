@@ -1,6 +1,6 @@
 -- Where bodies are settled, so are the numbers of all commands.
-use Rattle.std.proofs.Common.{◌≡◌, ℕ, zero, suc, ◌+◌, ◌<◌, Bool, true, false, cond, List, [], ◌∷◌}
-use Rattle.std.proofs.Common.{map, length, refl, sym, ap, ◌∙◌, subst, arith, Option, Some}
+use Rattle.std.proofs.Common.{◌≡◌, ℕ, ◌+◌, Bool, true, false, cond, List, [], ◌∷◌}
+use Rattle.std.proofs.Common.{map, refl, sym, ap, ◌∙◌, subst, arith, Option, Some}
 use Rattle.std.proofs.Common.{None}
 use Rattle.std.specs.Prelude.{◌||◌, count_by, sum_by}
 use Rattle.std.specs.List.{AllByRecursion}
@@ -10,22 +10,21 @@ use Rattle.uprog_code.specs.Count.{issues_aap, issues_ap}
 use Rattle.row_alloc.specs.declared.body.BodyRef.{BodyRef}
 use Rattle.row_alloc.specs.declared.body.BodyCmd.{BodyCmd}
 use Rattle.row_alloc.specs.declared.body.BodyCmd.TheVariants.{Aap, Ap}
-use Rattle.row_alloc.specs.declared.body.OutRow.{OutRow}
-use Rattle.row_alloc.specs.Rows.{out_at}
-use Rattle.row_alloc.specs.Known.{WordBody, Inverted, Both, Either, Without, Unlike, Chosen, Added}
-use Rattle.row_alloc.specs.Known.{Counted, inputs_in, nodes_in, outs_in}
+use Rattle.row_alloc.specs.Known.{WordBody, Inverted, Both, Either, Unlike, Chosen, Added}
+use Rattle.row_alloc.specs.Known.{inputs_in, nodes_in, outs_in}
 use Rattle.loop_ir.specs.Plain.{Block, InnerOf, TurnOf, StepOf, inner_map, turn_map, step_map}
 use Rattle.loop_ir.specs.Plain.{AllInner, AllTurns, AllStep, AllParts}
-use Rattle.loop_ir.specs.Plain.InnerOf.{Alone, Across, AtLevel}
-use Rattle.loop_ir.specs.Plain.StepOf.{Single, Along, Nest, Pairs, Alternate}
+use Rattle.loop_ir.specs.Plain.InnerOf.{Alone, Across}
+use Rattle.loop_ir.specs.Plain.StepOf.{Single, Along, Nest, Pairs, Alternate, Flowed}
+use Rattle.uprog_gen.proofs.Coding.FlowMaps.{flow_parts}
 use Rattle.loop_ir.specs.Loops.{RoundOf}
 use Rattle.loop_ir.specs.States.{has_states, held_of}
 use Rattle.loop_ir.specs.Costs.{carries, is_copy}
 use Rattle.uprog_gen.specs.Code.{Part, block_of_part, blocks}
 use Rattle.uprog_gen.proofs.Rows.Issued.{round_command, rounds_commands}
 use Rattle.uprog_gen.specs.Parts.{IsPart}
-use Rattle.uprog_gen.specs.Settled.{is_aap, is_ap, is_word_body, word_among, word_of, word_commands}
-use Rattle.uprog_gen.specs.Settled.{held_commands}
+use Rattle.word_flow.specs.Coded.{is_aap, is_ap}
+use Rattle.uprog_gen.specs.Settled.{is_word_body, word_among, word_of, word_commands, held_commands}
 use Rattle.uprog_gen.specs.Settled.{turn_count, turn_aaps, turn_aps, is_known, IsSettled}
 use Rattle.uprog_gen.proofs.Bodies.Fixed.{body_is}
 use Rattle.uprog_gen.proofs.Rows.Rounds.{block_round}
@@ -40,12 +39,6 @@ found_word (v ∷ ws) b w e = by (is_word_body v b) refl e (found_word ws b w)
         → (word_among ws b ≡ Some w → is_word_body w b ≡ true) → is_word_body w b ≡ true
     by true t f more = let s : v ≡ w = cc in subst (λ x. is_word_body x b ≡ true) s t
     by false t f more = more f
-
--- only an output names an input
-pub some_out : (outs : List OutRow) (j k : ℕ) → (out_at outs j).same ≡ Some k → j < length outs
-some_out [] j k e = absurd (let f : ◌≡◌ {A = Option ℕ} None (Some k) = e in cc)
-some_out (o ∷ outs) zero k e = omega arith
-some_out (o ∷ outs) (suc j) k e = let h = some_out outs j k e in omega (arith, h)
 
 -- a settled part's commands
 part_count : (f : BodyCmd → Bool) (one : ℕ) → ((x y : BodyRef) → count_by f (Aap x y ∷ []) ≡ one)
@@ -68,7 +61,7 @@ part_count f one copies p is settled =
     by false bare false e false g None h s = absurd (let z : false ≡ true = s in cc)
     by false bare false e false g (Some w) h s =
         let same = body_is (inputs_in w) (nodes_in w) (outs_in w) p.block
-        (found_word (Inverted ∷ Both ∷ Either ∷ Without ∷ Unlike ∷ Chosen ∷ Added ∷ Counted ∷ [])
+        (found_word (Inverted ∷ Both ∷ Either ∷ Unlike ∷ Chosen ∷ Added ∷ [])
         p.block w h) in
         ap (count_by f) (is.word bare e w same.0 same.1)
 
@@ -78,17 +71,6 @@ inner_parts : (P : Block → Type 0) (xs : List (InnerOf Part))
 inner_parts P [] h = tt
 inner_parts P (Alone p ∷ xs) h = (h.0, inner_parts P xs h.1)
 inner_parts P (Across c p ∷ xs) h = (h.0, inner_parts P xs h.1)
-inner_parts P (AtLevel l ∷ xs) h = (
-  record {
-    none = h.0.none;
-    odd = h.0.odd;
-    even = h.0.even;
-    first = h.0.first;
-    second = h.0.second;
-    end = h.0.end;
-  },
-  inner_parts P xs h.1,
-)
 
 turns_parts : (P : Block → Type 0) (ts : List (TurnOf Part))
     → AllTurns P (map (turn_map block_of_part) ts) → AllTurns (λ p. P p.block) ts
@@ -99,9 +81,10 @@ step_parts : (P : Block → Type 0) (s : StepOf Part) → AllStep P (step_map bl
     → AllStep (λ p. P p.block) s
 step_parts P (Single p) h = h
 step_parts P (Along p) h = h
-step_parts P (Nest span xs) h = inner_parts P xs h
+step_parts P (Nest xs) h = inner_parts P xs h
 step_parts P (Pairs p) h = h
 step_parts P (Alternate ts) h = turns_parts P ts h
+step_parts P (Flowed f) h = flow_parts Part Block block_of_part P f h
 
 pub of_blocks : (P : Block → Type 0) (ss : List (StepOf Part)) → AllParts P (blocks ss)
     → AllParts (λ p. P p.block) ss

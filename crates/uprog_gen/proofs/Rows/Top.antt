@@ -1,11 +1,9 @@
 -- The code of a loop program does to every column what its rounds do to the named rows.
-use Rattle.std.proofs.Common.{◌≡◌, ℕ, zero, suc, ◌+◌, ◌-◌, ◌%◌, ◌<◌, ◌≤◌, Bool, true, false, List}
-use Rattle.std.proofs.Common.{[], ◌∷◌, ◌++◌, map}
-use Rattle.std.specs.Prelude.{◌==◌}
+use Rattle.std.proofs.Common.{◌≡◌, ℕ, zero, suc, ◌+◌, ◌-◌, ◌<◌, ◌≤◌, true, List, [], ◌∷◌, ◌++◌, map}
 use Rattle.std.proofs.Common.{length, refl, sym, ap, ◌∙◌, subst, ⊎_elim, arith, inl, inr, cond}
 use Rattle.std.proofs.Common.{length-append, append_assoc}
 use Rattle.std.specs.List.{AllByRecursion, list_all}
-use Rattle.std.proofs.lemmas.List.{map-append, length-map}
+use Rattle.std.proofs.lemmas.List.{length-map}
 use Rattle.std.proofs.lemmas.List.Sums.{sum_by-cons}
 use Rattle.dram_model.specs.declared.address.Cell.TheVariants.{D}
 use Rattle.dram_model.specs.Column.{Column, run}
@@ -16,25 +14,24 @@ use Rattle.uprog_code.specs.declared.walker.Counts.{Counts}
 use Rattle.uprog_code.specs.Count.{counts_of, issues_aap, issues_ap}
 use Rattle.uprog_code.specs.Bound.{Bound, bound}
 use Rattle.uprog_code.specs.Machine.{Issue, IssueAap, IssueAp, Ended, trace, HasEnded, issues_of}
-use Rattle.loop_ir.specs.Loops.{first_outer, outer_count}
-use Rattle.loop_ir.specs.Loops.{rounds, RoundOf, round_at, one_round, positions, inner_rounds}
-use Rattle.loop_ir.specs.Loops.{turns_from, step_rounds, all_rounds, elements, two_rounds}
-use Rattle.loop_ir.specs.Loops.{filled_rounds, level_rounds}
+use Rattle.loop_ir.specs.Loops.{rounds, RoundOf, one_round, positions, inner_rounds, step_rounds}
+use Rattle.loop_ir.specs.Loops.{all_rounds}
 use Rattle.uprog_code.specs.Fits.{Fits, IsTouched}
 use Rattle.loop_ir.specs.declared.ir.Space.{Space}
 use Rattle.loop_ir.specs.declared.ir.Space.TheVariants.{Result, Source, ScratchBit, ScratchWord}
 use Rattle.loop_ir.specs.declared.ir.Space.TheVariants.{Cells}
-use Rattle.loop_ir.specs.Plain.{Block, LevelOf, InnerOf, TurnOf, StepOf, level_map, inner_map}
-use Rattle.loop_ir.specs.Plain.{turn_map, step_map, AllInner, AllStep, AllParts}
-use Rattle.loop_ir.specs.Plain.InnerOf.{Alone, Across, AtLevel}
-use Rattle.loop_ir.specs.Plain.StepOf.{Single, Along, Nest, Pairs, Alternate}
+use Rattle.loop_ir.specs.Plain.{Block, InnerOf, StepOf, AllInner, AllStep, AllParts}
+use Rattle.loop_ir.specs.Plain.InnerOf.{Alone, Across}
+use Rattle.loop_ir.specs.Plain.StepOf.{Single, Along, Nest, Pairs, Alternate, Flowed}
+use Rattle.loop_ir.specs.Flows.{zeros}
+use Rattle.loop_laws.proofs.FlowRounds.{run_all}
+use Rattle.loop_laws.proofs.RoundsMap.{all_rounds_map}
 use Rattle.loop_ir.specs.Spots.{Spot, IsOwn, after_rounds}
 use Rattle.uprog_gen.specs.Where.{spot_row, row_in, IsSpot, IsIn, Agree, spots_in}
 use Rattle.uprog_gen.specs.Code.{Part, block_of_part, blocks}
 use Rattle.uprog_gen.proofs.Rows.Issued.{round_command, rounds_commands}
 use Rattle.uprog_gen.specs.Code.{program_code}
 use Rattle.loop_ir.specs.Limits.{IsRound, step_stands}
-use Rattle.loop_laws.proofs.EveryRound.{level_holds}
 use Rattle.loop_laws.proofs.TakingTurns.{turns_rounds}
 use Rattle.uprog_gen.proofs.Rows.Rounds.{block_round}
 use Rattle.uprog_gen.specs.Parts.{IsPart}
@@ -42,8 +39,7 @@ use Rattle.loop_ir.specs.Costs.{turn_cost, rounds_cost}
 use Rattle.uprog_gen.specs.Settled.{IsSettled, rounds_counts, all_counted}
 use Rattle.uprog_gen.specs.Does.{DoesRounds, IsCheap}
 use Rattle.uprog_gen.proofs.Rows.Settled.{of_blocks, all_aaps, all_aps}
-use Rattle.uprog_gen.proofs.Rows.Alive.{chained}
-use Rattle.loop_ir.specs.Chains.{steps_find}
+use Rattle.loop_ir.specs.Chains.{steps_find, chained}
 use Rattle.uprog_gen.proofs.Rows.Chained.{steps_chained}
 use Rattle.uprog_gen.proofs.Rows.Agree.{AreRounds, IsMine, rounds_agree, rounds_keep}
 use Rattle.uprog_gen.proofs.Rows.Laid.{laid, value_among, bit_among, word_among}
@@ -51,95 +47,9 @@ use Rattle.uprog_gen.proofs.Rows.Ranges.{commands_range}
 use Rattle.uprog_gen.proofs.Running.Program.{IsGood, program_trace}
 use Rattle.bit_rows.specs.declared.TheConstants.{WIDTH_MAX}
 
-map_rounds : {A B : Type 0} (g : A → B) (f : ℕ → List A) (i count : ℕ)
-    → map g (rounds f i count) ≡ rounds (λ j. map g (f j)) i count
-map_rounds g f i zero = refl
-map_rounds g f i (suc count) = map-append g (f i) (rounds f (i + 1) count)
-    ∙ ap (λ l. map g (f i) ++ l) (map_rounds g f (i + 1) count)
-
-rounds_same : {A : Type 0} (f h : ℕ → List A) → ((j : ℕ) → f j ≡ h j) → (i count : ℕ)
-    → rounds f i count ≡ rounds h i count
-rounds_same f h e i zero = refl
-rounds_same f h e i (suc count) = ap (λ l. l ++ rounds f (i + 1) count) (e i)
-    ∙ ap (λ l. h i ++ l) (rounds_same f h e (i + 1) count)
-
-filled_blocks : (n o : ℕ) (l : LevelOf Part)
-    → filled_rounds n o (level_map block_of_part l) ≡ map block_round (filled_rounds n o l)
-filled_blocks n o l = by (elements n o % 2 == 0)
-  where
-    count : ℕ
-    count = elements n (o + 1)
-
-    pairs : List (RoundOf Part)
-    pairs = rounds (λ i. two_rounds l.first l.second i o) 0 count
-
-    rest : rounds (λ i. two_rounds l.first.block l.second.block i o) 0 count
-        ++ one_round l.end.block 0 o ≡ map block_round (pairs ++ one_round l.end 0 o)
-    rest = ap (λ r. r ++ one_round l.end.block 0 o)
-        (sym (map_rounds block_round (λ i. two_rounds l.first l.second i o) 0 count))
-        ∙ sym (map-append block_round pairs (one_round l.end 0 o))
-
-    by : (z : Bool) → one_round (cond z l.even.block l.odd.block) 0 o
-        ++ (rounds (λ i. two_rounds l.first.block l.second.block i o) 0 count
-        ++ one_round l.end.block 0 o)
-        ≡ map block_round (one_round (cond z l.even l.odd) 0 o ++ (pairs ++ one_round l.end 0 o))
-    by true = ap (λ r. round_at l.even.block 0 o ∷ r) rest
-    by false = ap (λ r. round_at l.odd.block 0 o ∷ r) rest
-
-level_blocks : (n o : ℕ) (l : LevelOf Part)
-    → level_rounds n o (level_map block_of_part l) ≡ map block_round (level_rounds n o l)
-level_blocks n o l = by (elements n o == 0)
-  where
-    by : (z : Bool) → cond z (one_round l.none.block 0 o) (filled_rounds n o
-        (level_map block_of_part l))
-        ≡ map block_round (cond z (one_round l.none 0 o) (filled_rounds n o l))
-    by true = refl
-    by false = filled_blocks n o l
-
-inner_blocks : (n o : ℕ) (xs : List (InnerOf Part))
-    → inner_rounds n o (map (inner_map block_of_part) xs) ≡ map block_round (inner_rounds n o xs)
-inner_blocks n o [] = refl
-inner_blocks n o (Alone p ∷ xs) = ap (λ l. round_at p.block 0 o ∷ l) (inner_blocks n o xs)
-inner_blocks n o (Across count p ∷ xs) =
-    let rs : List (RoundOf Part) = rounds (λ i. one_round p i o) 0 (positions n o count) in
-    ap (λ l. rounds (λ i. one_round p.block i o) 0 (positions n o count) ++ l) (inner_blocks n o xs)
-    ∙ ap (λ l. l ++ map block_round (inner_rounds n o xs))
-    (sym (map_rounds block_round (λ i. one_round p i o) 0 (positions n o count)))
-    ∙ sym (map-append block_round rs (inner_rounds n o xs))
-inner_blocks n o (AtLevel l ∷ xs) =
-    ap (λ r. level_rounds n o (level_map block_of_part l) ++ r) (inner_blocks n o xs)
-    ∙ ap (λ r. r ++ map block_round (inner_rounds n o xs)) (level_blocks n o l)
-    ∙ sym (map-append block_round (level_rounds n o l) (inner_rounds n o xs))
-
-turns_blocks : (ts : List (TurnOf Part)) (i count : ℕ)
-    → turns_from (map (turn_map block_of_part) ts) i count ≡ map block_round (turns_from ts i count)
-turns_blocks [] i count = refl
-turns_blocks (t ∷ ts) i zero = refl
-turns_blocks (t ∷ ts) i (suc count) =
-    ap (λ l. round_at t.each.block i 0 ∷ turns_from l (i + 1) count)
-    (sym (map-append (turn_map block_of_part) ts (t ∷ [])))
-    ∙ ap (λ l. round_at t.each.block i 0 ∷ l) (turns_blocks (ts ++ (t ∷ [])) (i + 1) count)
-
-step_blocks : (n : ℕ) (s : StepOf Part) → step_rounds n (step_map block_of_part s)
-    ≡ map block_round (step_rounds n s)
-step_blocks n (Single p) = refl
-step_blocks n (Along p) = sym (map_rounds block_round (λ i. one_round p i 0) 0 n)
-step_blocks n (Nest span parts) =
-    let first = first_outer span in
-    let count = outer_count n span in
-    rounds_same (λ o. inner_rounds n o (map (inner_map block_of_part) parts)) (λ o.
-    map block_round (inner_rounds n o parts)) (λ o. inner_blocks n o parts) first count
-    ∙ sym (map_rounds block_round (λ o. inner_rounds n o parts) first count)
-step_blocks n (Pairs p) = sym (map_rounds block_round (λ i. one_round p i 1) 0 (n - 1))
-step_blocks n (Alternate t) = turns_blocks t 0 (n - 1)
-
 pub all_blocks : (n : ℕ) (ss : List (StepOf Part))
     → all_rounds n (blocks ss) ≡ map block_round (all_rounds n ss)
-all_blocks n [] = refl
-all_blocks n (s ∷ ss) =
-    ap (λ l. l ++ all_rounds n (blocks ss)) (step_blocks n s)
-    ∙ ap (λ l. map block_round (step_rounds n s) ++ l) (all_blocks n ss)
-    ∙ sym (map-append block_round (step_rounds n s) (all_rounds n ss))
+all_blocks n ss = all_rounds_map Part Block block_of_part n ss
 
 -- what holds of every part holds in every round
 all_both : {X : Type 0} (P : X → Type 0) (xs ys : List X) → AllByRecursion P xs
@@ -153,11 +63,11 @@ all_rounds_of P f h i zero = tt
 all_rounds_of P f h i (suc count) = all_both P (f i) (rounds f (i + 1) count) (h i)
     (all_rounds_of P f h (i + 1) count)
 
-module _ (P : Part → Type 0) where
-  abbrev In : RoundOf Part → Type 0
+module _ (A : Type 0) (P : A → Type 0) where
+  abbrev In : RoundOf A → Type 0
   In r = P r.part
 
-  inner_parts : (n o : ℕ) (xs : List (InnerOf Part)) → AllInner P xs
+  inner_parts : (n o : ℕ) (xs : List (InnerOf A)) → AllInner P xs
       → AllByRecursion In (inner_rounds n o xs)
   inner_parts n o [] h = tt
   inner_parts n o (Alone p ∷ xs) h = (h.0, inner_parts n o xs h.1)
@@ -165,26 +75,17 @@ module _ (P : Part → Type 0) where
       (rounds (λ i. one_round p i o) 0 (positions n o count)) (inner_rounds n o xs)
       (all_rounds_of In (λ i. one_round p i o) (λ i. (h.0, tt)) 0 (positions n o count))
       (inner_parts n o xs h.1)
-  inner_parts n o (AtLevel l ∷ xs) h = all_both In (level_rounds n o l) (inner_rounds n o xs)
-      (level_holds In n o l (record {
-        none = h.0.none;
-        odd = h.0.odd;
-        even = h.0.even;
-        first = λ i lt. h.0.first;
-        second = λ i lt. h.0.second;
-        end = h.0.end;
-      }))
-      (inner_parts n o xs h.1)
 
-  step_parts : (n : ℕ) (s : StepOf Part) → AllStep P s → AllByRecursion In (step_rounds n s)
+  step_parts : (n : ℕ) (s : StepOf A) → AllStep P s → AllByRecursion In (step_rounds n s)
   step_parts n (Single p) h = (h, tt)
   step_parts n (Along p) h = all_rounds_of In (λ i. one_round p i 0) (λ i. (h, tt)) 0 n
-  step_parts n (Nest span parts) h = all_rounds_of In (λ o. inner_rounds n o parts) (λ o.
-      inner_parts n o parts h) (first_outer span) (outer_count n span)
+  step_parts n (Nest parts) h = all_rounds_of In (λ o. inner_rounds n o parts) (λ o.
+      inner_parts n o parts h) 0 n
   step_parts n (Pairs p) h = all_rounds_of In (λ i. one_round p i 1) (λ i. (h, tt)) 0 (n - 1)
   step_parts n (Alternate t) h = turns_rounds In t 0 (n - 1) (n - 1) (omega arith) (λ j le. h)
+  step_parts n (Flowed f) h = run_all A P n f h zeros
 
-  in_rounds : (n : ℕ) (ss : List (StepOf Part)) → AllParts P ss
+  pub in_rounds : (n : ℕ) (ss : List (StepOf A)) → AllParts P ss
       → AllByRecursion In (all_rounds n ss)
   in_rounds n [] h = tt
   in_rounds n (s ∷ ss) h = all_both In (step_rounds n s) (all_rounds n ss) (step_parts n s h.0)
@@ -286,7 +187,7 @@ pub program_issues : (head : Shape) (n : ℕ) (ss : List (StepOf Part)) → 0 < 
 program_issues head n ss some small short parts is stand =
     let rs = all_rounds n ss in
     let is' = subst (AllByRecursion (IsRound (IsSpot head n) n)) (all_blocks n ss) is in
-    program_trace head n ss some small short (good head n rs is' (in_rounds IsPart n ss parts))
+    program_trace head n ss some small short (good head n rs is' (in_rounds Part IsPart n ss parts))
     stand
 
 pub all_rounds-append : {A : Type 0} (n : ℕ) (xs ys : List (StepOf A))
@@ -339,8 +240,8 @@ settled_counts : (n : ℕ) (ss : List (StepOf Part)) → AllParts IsPart ss
     ≡ rounds_counts (all_rounds n (blocks ss))
 settled_counts n ss parts settled =
     let rs = all_rounds n ss in
-    let parts' = in_rounds IsPart n ss parts in
-    let settled' = in_rounds (λ p. IsSettled p.block) n ss (of_blocks IsSettled ss settled) in
+    let parts' = in_rounds Part IsPart n ss parts in
+    let settled' = in_rounds Part (λ p. IsSettled p.block) n ss (of_blocks IsSettled ss settled) in
     both_counts (all_aaps n rs parts' settled') (all_aps n rs parts' settled')
     ∙ ap rounds_counts (sym (all_blocks n ss))
 
@@ -349,7 +250,7 @@ pub statement_most : (head : Shape) (n : ℕ) (ss : List (StepOf Part)) (most : 
     → AllParts IsPart ss → IsCheap n (blocks ss) most
     → length (rounds_commands n (all_rounds n ss)) ≤ most
 statement_most head n ss most parts (inl h) =
-    let few = few_commands head n (all_rounds n ss) (in_rounds IsPart n ss parts) in
+    let few = few_commands head n (all_rounds n ss) (in_rounds Part IsPart n ss parts) in
     omega (arith, few, ap rounds_cost (all_blocks n ss), h)
 statement_most head n ss most parts (inr h) = omega (
   arith,
@@ -367,7 +268,7 @@ program_does head n ss some small short parts is find stand =
     let rs = all_rounds n ss in
     let same = all_blocks n ss in
     let is' = subst (AllByRecursion (IsRound (IsSpot head n) n)) same is in
-    let parts' = in_rounds IsPart n ss parts in
+    let parts' = in_rounds Part IsPart n ss parts in
     let t = program_issues head n ss some small short parts is stand in
     by_trace head n ss (program_code ss 0 ++ Done ∷ []) (rounds_commands n rs) t
     (subst (λ (l : List (RoundOf Block)). length (rounds_commands n rs)
@@ -379,7 +280,7 @@ program_does head n ss some small short parts is find stand =
     (rounds_agree rows head n b (laid rows head n b fits) rs [] (spots_in head n b s) s
     (are head n rows b fits rs is' parts')
     (subst (λ (l : List (RoundOf Block)). chained [] l ≡ true) same
-    (steps_chained n (blocks ss) [] some find))
+    (steps_chained n (blocks ss) [] some small find))
     (record { named = λ p h. refl; cells = tt })))
     (λ rows b s fits q out. rounds_keep rows head n b (laid rows head n b fits) rs s
     (are head n rows b fits rs is' parts') q (λ m. out (mine_touched rows head n b fits q m)))

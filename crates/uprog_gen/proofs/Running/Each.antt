@@ -11,7 +11,7 @@ use Rattle.uprog_code.specs.Shape.{Shape}
 use Rattle.loop_ir.specs.Loops.{rounds, positions}
 use Rattle.uprog_gen.proofs.Running.Goes.{HasAt, has_front, has_back}
 use Rattle.loop_ir.specs.declared.ir.Count.{Count}
-use Rattle.loop_ir.specs.declared.ir.Count.TheVariants.{All as All_of, Rest, UpTo}
+use Rattle.loop_ir.specs.declared.ir.Count.TheVariants.{All as All_of, Rest}
 use Rattle.uprog_gen.specs.declared.plan.Plan.{Plan}
 use Rattle.uprog_gen.specs.Code.{init, before, after, inits, befores, afters, counter, enter_code}
 use Rattle.uprog_gen.specs.Code.{turn_code}
@@ -28,10 +28,6 @@ pub record IsOuter (n o : ℕ) (regs : List ℕ) : Type 0 where
   pub size : length regs ≡ 8
   pub outer : slice_index regs 0 ≡ o
   pub down : slice_index regs 1 ≡ n - 1 - o
-
--- and what register 6 holds beside that
-abbrev pub Beside : ℕ → (List ℕ → Type 0) → List ℕ → Type 0
-Beside six I regs = I regs × (slice_index regs 6 ≡ six)
 
 module _ (head : Shape) (code : List Uop) (n : ℕ) where
   -- the registers as the body is reached, and before the turn
@@ -53,41 +49,35 @@ module _ (head : Shape) (code : List Uop) (n : ℕ) where
       → IsOuter n o regs
   outer_of F S T left o regs g = record { size = g.size; outer = g.outer; down = g.down }
 
-  -- code for the three registers of subscripts, one after another: it leaves register 6
-  pub run_three : (a b c : List Uop) (F F' S S' T T' : ℕ → Type 0) (left o six : ℕ)
+  -- code for the three registers of subscripts, one after another
+  run_three : (a b c : List Uop) (F F' S S' T T' : ℕ → Type 0) (left o : ℕ)
       → Sets a 3 o F F' → Sets b 4 o S S' → Sets c 5 o T T' → (pc : ℕ) (regs : List ℕ)
-      → Beside six (Regs head code n F S T left o) regs → HasAt code pc (a ++ (b ++ c))
+      → Regs head code n F S T left o regs → HasAt code pc (a ++ (b ++ c))
       → Runs head code n pc regs (length (a ++ (b ++ c))) [] (pc + length (a ++ (b ++ c)))
-      (Beside six (Regs head code n F' S' T' left o))
-  run_three a b c F F' S S' T T' left o six f g h pc regs at has =
-      let G = λ (F S T : ℕ → Type 0). Beside six (Regs head code n F S T left o) in
+      (Regs head code n F' S' T' left o)
+  run_three a b c F F' S S' T T' left o f g h pc regs at has =
+      let G = λ (F S T : ℕ → Type 0). Regs head code n F S T left o in
       let p3 = λ (q : ℕ) (r : List ℕ) (t : G F' S' T r) (ha : HasAt code q c).
-      run_weaken head code n q _ r _ [] _ (G F' S' T') (λ x d. (
-        change5 head code n F' S' T T' left o r x d t.0,
-        d.others 6 (λ e. absurd (omega arith)) ∙ t.1,
-      ))
-      (h q r (outer_of F' S' T left o r t.0) t.0.third ha) in
+      run_weaken head code n q _ r _ [] _ (G F' S' T')
+      (λ x d. change5 head code n F' S' T T' left o r x d t)
+      (h q r (outer_of F' S' T left o r t) t.third ha) in
       let p2 = λ (q : ℕ) (r : List ℕ) (t : G F' S T r) (ha : HasAt code q (b ++ c)).
       run_parts head code n b c q r [] [] (G F' S' T) (G F' S' T') ha
-      (λ hb. run_weaken head code n q _ r _ [] _ (G F' S' T) (λ x d. (
-        change4 head code n F' S S' T left o r x d t.0,
-        d.others 6 (λ e. absurd (omega arith)) ∙ t.1,
-      ))
-      (g q r (outer_of F' S T left o r t.0) t.0.second hb)) p3 in
+      (λ hb. run_weaken head code n q _ r _ [] _ (G F' S' T)
+      (λ x d. change4 head code n F' S S' T left o r x d t)
+      (g q r (outer_of F' S T left o r t) t.second hb)) p3 in
       run_parts head code n a (b ++ c) pc regs [] [] (G F' S T) (G F' S' T') has
-      (λ hb. run_weaken head code n pc _ regs _ [] _ (G F' S T) (λ x d. (
-        change3 head code n F F' S T left o regs x d at.0,
-        d.others 6 (λ e. absurd (omega arith)) ∙ at.1,
-      ))
-      (f pc regs (outer_of F S T left o regs at.0) at.0.first hb)) p2
+      (λ hb. run_weaken head code n pc _ regs _ [] _ (G F' S T)
+      (λ x d. change3 head code n F F' S T left o regs x d at)
+      (f pc regs (outer_of F S T left o regs at) at.first hb)) p2
 
-  pub befores_beside : (plan : Plan) (i o left six : ℕ) → n ≤ WIDTH_MAX → i < n → o < n → (pc : ℕ)
-      (regs : List ℕ) → Beside six (AtTop plan o left i) regs → HasAt code pc (befores plan)
+  pub run_befores : (plan : Plan) (i o left : ℕ) → n ≤ WIDTH_MAX → i < n → o < n → (pc : ℕ)
+      (regs : List ℕ) → AtTop plan o left i regs → HasAt code pc (befores plan)
       → Runs head code n pc regs (length (befores plan)) [] (pc + length (befores plan))
-      (Beside six (AtBody plan o left i))
-  befores_beside plan i o left six small li lo pc regs at has =
+      (AtBody plan o left i)
+  run_befores plan i o left small li lo pc regs at has =
       run_three (before plan.first 3) (before plan.second 4) (before plan.third 5) _ _ _ _ _ _ left
-      o six
+      o
       (λ q r t h ha. run_before head code n plan.first 3 q i o r small li lo
       (omega (arith, t.size)) h ha)
       (λ q r t h ha. run_before head code n plan.second 4 q i o r small li lo
@@ -95,73 +85,44 @@ module _ (head : Shape) (code : List Uop) (n : ℕ) where
       (λ q r t h ha. run_before head code n plan.third 5 q i o r small li lo
       (omega (arith, t.size)) h ha) pc regs at has
 
-  pub run_befores : (plan : Plan) (i o left : ℕ) → n ≤ WIDTH_MAX → i < n → o < n → (pc : ℕ)
-      (regs : List ℕ)
-      → AtTop plan o left i regs → HasAt code pc (befores plan)
-      → Runs head code n pc regs (length (befores plan)) [] (pc + length (befores plan))
-      (AtBody plan o left i)
-  run_befores plan i o left small li lo pc regs at has =
-      let six = slice_index regs 6 in
-      run_weaken head code n pc (pc + length (befores plan)) regs (length (befores plan)) []
-      (Beside six (AtBody plan o left i)) (AtBody plan o left i) (λ x h. h.0)
-      (befores_beside plan i o left six small li lo pc regs (at, refl) has)
-
-  pub run_afters : (plan : Plan) (i o left : ℕ) → n ≤ WIDTH_MAX → i < n → o < n
+  run_afters : (plan : Plan) (i o left : ℕ) → n ≤ WIDTH_MAX → i < n → o < n
       → (pc : ℕ) (regs : List ℕ) → AtBody plan o left i regs → HasAt code pc (afters plan)
       → Runs head code n pc regs (length (afters plan)) [] (pc + length (afters plan))
       (AtTop plan o left (i + 1))
   run_afters plan i o left small li lo pc regs at has =
-      let six = slice_index regs 6 in
-      run_weaken head code n pc (pc + length (afters plan)) regs (length (afters plan)) []
-      (Beside six (AtTop plan o left (i + 1))) (AtTop plan o left (i + 1)) (λ x h. h.0)
-      (run_three (after plan.first 3) (after plan.second 4) (after plan.third 5) _ _ _ _ _ _ left o
-      six
+      run_three (after plan.first 3) (after plan.second 4) (after plan.third 5) _ _ _ _ _ _ left o
       (λ q r t h ha. run_after head code n plan.first 3 q i o r small li lo (omega (arith, t.size))
       h ha)
       (λ q r t h ha. run_after head code n plan.second 4 q i o r small li lo (omega (arith, t.size))
       h ha)
       (λ q r t h ha. run_after head code n plan.third 5 q i o r small li lo (omega (arith, t.size))
-      h ha) pc regs (at, refl) has)
+      h ha) pc regs at has
 
   abbrev Any : ℕ → Type 0
   Any v = Unit {0}
-
-  pub inits_beside : (plan : Plan) (o left six : ℕ) → n ≤ WIDTH_MAX → o < n → (pc : ℕ)
-      (regs : List ℕ) → Beside six (IsOuter n o) regs → slice_index regs 2 ≡ left
-      → HasAt code pc (inits plan)
-      → Runs head code n pc regs (length (inits plan)) [] (pc + length (inits plan))
-      (Beside six (AtTop plan o left 0))
-  inits_beside plan o left six small lo pc regs at two has =
-      run_three (init plan.first 3) (init plan.second 4) (init plan.third 5) Any _ Any _ Any _ left
-      o six
-      (λ q r t h ha. run_init head code n plan.first 3 q o r small lo (omega (arith, t.size)) (λ e.
-      absurd (omega arith)) t.outer t.down ha)
-      (λ q r t h ha. run_init head code n plan.second 4 q o r small lo (omega (arith, t.size)) (λ e.
-      absurd (omega arith)) t.outer t.down ha)
-      (λ q r t h ha. run_init head code n plan.third 5 q o r small lo (omega (arith, t.size)) (λ e.
-      absurd (omega arith)) t.outer t.down ha)
-      pc regs (
-        record {
-          size = at.0.size;
-          outer = at.0.outer;
-          down = at.0.down;
-          left_is = two;
-          first = tt;
-          second = tt;
-          third = tt;
-        },
-        at.1,
-      ) has
 
   pub run_inits : (plan : Plan) (o left : ℕ) → n ≤ WIDTH_MAX → o < n → (pc : ℕ) (regs : List ℕ)
       → IsOuter n o regs → slice_index regs 2 ≡ left → HasAt code pc (inits plan)
       → Runs head code n pc regs (length (inits plan)) [] (pc + length (inits plan))
       (AtTop plan o left 0)
   run_inits plan o left small lo pc regs at two has =
-      let six = slice_index regs 6 in
-      run_weaken head code n pc (pc + length (inits plan)) regs (length (inits plan)) []
-      (Beside six (AtTop plan o left 0)) (AtTop plan o left 0) (λ x h. h.0)
-      (inits_beside plan o left six small lo pc regs (at, refl) two has)
+      run_three (init plan.first 3) (init plan.second 4) (init plan.third 5) Any _ Any _ Any _ left
+      o
+      (λ q r t h ha. run_init head code n plan.first 3 q o r small lo (omega (arith, t.size)) (λ e.
+      absurd (omega arith)) t.outer t.down ha)
+      (λ q r t h ha. run_init head code n plan.second 4 q o r small lo (omega (arith, t.size)) (λ e.
+      absurd (omega arith)) t.outer t.down ha)
+      (λ q r t h ha. run_init head code n plan.third 5 q o r small lo (omega (arith, t.size)) (λ e.
+      absurd (omega arith)) t.outer t.down ha)
+      pc regs (record {
+        size = at.size;
+        outer = at.outer;
+        down = at.down;
+        left_is = two;
+        first = tt;
+        second = tt;
+        third = tt;
+      }) has
 
   -- one turn, up to the jump
   run_turn : (plan : Plan) (body : List Uop) (o m i pc : ℕ) (regs : List ℕ) (cs : List Issue)
@@ -249,8 +210,6 @@ module _ (head : Shape) (code : List Uop) (n : ℕ) where
   run_counter Rest pc o regs small lo g has = run_straight 2 pc o (n - o) regs lo g
       (run_one_more 1 (n - 1 - o) (n - o) pc regs g.size g.down (omega (arith, lo))
       (omega (arith, small)) has)
-  run_counter UpTo pc o regs small lo g has = run_straight 2 pc o (o + 1) regs lo g
-      (run_one_more 0 o (o + 1) pc regs g.size g.outer (omega arith) (omega (arith, small, lo)) has)
 
   pub run_enter : (plan : Plan) (count : Count) (pc o : ℕ) (regs : List ℕ) → n ≤ WIDTH_MAX → o < n
       → IsOuter n o regs → HasAt code pc (enter_code plan count)
@@ -282,7 +241,7 @@ module _ (head : Shape) (code : List Uop) (n : ℕ) where
       ++ (turn_code plan body ++ (Bnez 2 (pc + length (enter_code plan count)) ∷ []))
 
   -- all turns, from the first one on
-  pub run_rounds : (plan : Plan) (body : List Uop) (m l o : ℕ) (regs : List ℕ) (cs : ℕ
+  run_rounds : (plan : Plan) (body : List Uop) (m l o : ℕ) (regs : List ℕ) (cs : ℕ
       → List Issue) → n ≤ WIDTH_MAX → o < n → 0 < m → m ≤ n → AtTop plan o m 0 regs
       → HasAt code l (turn_code plan body ++ (Bnez 2 l ∷ []))
       → ((i q : ℕ) (r : List ℕ) → i < m → AtBody plan o (m - i) i r → HasAt code q body
@@ -350,9 +309,7 @@ module _ (head : Shape) (code : List Uop) (n : ℕ) where
       positive : (c : Count) → 0 < positions n o c
       positive All_of = omega arith
       positive Rest = omega arith
-      positive UpTo = omega arith
 
       at_most : (c : Count) → positions n o c ≤ n
       at_most All_of = omega arith
       at_most Rest = omega arith
-      at_most UpTo = omega arith

@@ -67,7 +67,7 @@ module _ (head : Shape) (code : List Uop) (n : ℕ) where
       }) down) p1)
 
   -- the outer turns from one position on
-  pub run_from : (l k o count : ℕ) (body : List Uop) (regs : List ℕ) (cs : ℕ → List Issue)
+  run_from : (l k o count : ℕ) (body : List Uop) (regs : List ℕ) (cs : ℕ → List Issue)
       → n ≤ WIDTH_MAX → o + suc count ≡ n → IsNext n o regs
       → HasAt code l (SubI 1 1 ∷ (body ++ (AddI 0 1 ∷ Bnez 1 l ∷ [])))
       → ((j : ℕ) (r : List ℕ) → o ≤ j → j < n → IsOuter n j r → HasAt code (l + 1) body

@@ -15,9 +15,8 @@ use Rattle.loop_ir.specs.Loops.{rounds}
 use Rattle.uprog_gen.proofs.Running.Goes.{HasAt, has_front, has_back, Goes, stays, then_goes, moves}
 use Rattle.loop_ir.specs.declared.ir.Sub.{Sub}
 use Rattle.loop_ir.specs.declared.ir.Sub.TheVariants.{Zero, Top, Inner as At_inner, InnerDown}
-use Rattle.loop_ir.specs.declared.ir.Sub.TheVariants.{Outer, OuterDown, Sum, DownSum, SumTwice}
-use Rattle.loop_ir.specs.declared.ir.Sub.TheVariants.{AboveSumTwice, AboveSum, DownPlusN}
-use Rattle.loop_ir.specs.declared.ir.Sub.TheVariants.{NPlusInner}
+use Rattle.loop_ir.specs.declared.ir.Sub.TheVariants.{Outer, OuterDown, Sum, DownSum, DownPlusN}
+use Rattle.loop_ir.specs.declared.ir.Sub.TheVariants.{NPlusInner, Register as InRegister}
 use Rattle.uprog_gen.specs.Code.{init, before, after}
 use Rattle.bit_rows.specs.declared.TheConstants.{WIDTH_MAX}
 
@@ -166,9 +165,7 @@ module _ (head : Shape) (code : List Uop) (n : ℕ) where
   IsAt DownSum i o v = v ≡ n - 1 - o + i
   IsAt DownPlusN i o v = v ≡ 2 * n - 1 - o
   IsAt NPlusInner i o v = v ≡ n + i
-  IsAt SumTwice i o v = v ≡ o + 2 * i
-  IsAt AboveSumTwice i o v = v ≡ o + 1 + 2 * i
-  IsAt AboveSum i o v = v ≡ o + 1 + i
+  IsAt (InRegister q) i o v = v ≡ 0
 
   -- and before the turn
   abbrev pub IsTop : Sub → ℕ → ℕ → ℕ → Type 0
@@ -182,9 +179,7 @@ module _ (head : Shape) (code : List Uop) (n : ℕ) where
   IsTop DownSum i o v = v ≡ n - 1 - o + i
   IsTop DownPlusN i o v = v ≡ 2 * n - 1 - o
   IsTop NPlusInner i o v = v ≡ n + i
-  IsTop SumTwice i o v = v ≡ o + 2 * i
-  IsTop AboveSumTwice i o v = v ≡ o + 2 * i
-  IsTop AboveSum i o v = v ≡ o + i
+  IsTop (InRegister q) i o v = v ≡ 0
 
   same_regs : (r : ℕ) (P : ℕ → Type 0) (regs : List ℕ) → P (slice_index regs r)
       → Changed r P regs regs
@@ -230,12 +225,8 @@ module _ (head : Shape) (code : List Uop) (n : ℕ) where
       (λ left. ap (λ b. cond b (issue head code n left (pc + 1 + 1) (slice_set q r v))
       (Stuck (pc + 1) Register)) (le-leb v 1023 (omega arith))) (omega (arith, c.size))
       (omega arith))))
-  run_init SumTwice r pc o regs small lo lt ne e0 e1 has =
-      run_set pc r (slice_index regs 0) _ regs (Mov r 0) has.0 (λ left. refl) lt (omega (arith, e0))
-  run_init AboveSumTwice r pc o regs small lo lt ne e0 e1 has =
-      run_set pc r (slice_index regs 0) _ regs (Mov r 0) has.0 (λ left. refl) lt (omega (arith, e0))
-  run_init AboveSum r pc o regs small lo lt ne e0 e1 has =
-      run_set pc r (slice_index regs 0) _ regs (Mov r 0) has.0 (λ left. refl) lt (omega (arith, e0))
+  run_init (InRegister q) r pc o regs small lo lt ne e0 e1 has =
+      run_set pc r 0 _ regs (SetI r 0) has.0 (λ left. refl) lt refl
 
   pub run_before : (u : Sub) (r pc i o : ℕ) (regs : List ℕ) → n ≤ WIDTH_MAX → i < n → o < n
       → r < length regs
@@ -253,11 +244,7 @@ module _ (head : Shape) (code : List Uop) (n : ℕ) where
   run_before DownSum r pc i o regs small li lo lt h has = keeps pc r _ regs h
   run_before NPlusInner r pc i o regs small li lo lt h has = keeps pc r _ regs h
   run_before DownPlusN r pc i o regs small li lo lt h has = keeps pc r _ regs h
-  run_before SumTwice r pc i o regs small li lo lt h has = keeps pc r _ regs h
-  run_before AboveSumTwice r pc i o regs small li lo lt h has =
-      run_add pc r 1 _ regs has.0 (omega (arith, h, small, li, lo)) lt (omega (arith, h))
-  run_before AboveSum r pc i o regs small li lo lt h has =
-      run_add pc r 1 _ regs has.0 (omega (arith, h, small, li, lo)) lt (omega (arith, h))
+  run_before (InRegister q) r pc i o regs small li lo lt h has = keeps pc r _ regs h
 
   pub run_after : (u : Sub) (r pc i o : ℕ) (regs : List ℕ) → n ≤ WIDTH_MAX → i < n → o < n
       → r < length regs → IsAt u i o (slice_index regs r) → HasAt code pc (after u r)
@@ -277,11 +264,7 @@ module _ (head : Shape) (code : List Uop) (n : ℕ) where
   run_after NPlusInner r pc i o regs small li lo lt h has =
       run_add pc r 1 _ regs has.0 (omega arith) lt (omega arith)
   run_after DownPlusN r pc i o regs small li lo lt h has = keeps pc r _ regs h
-  run_after SumTwice r pc i o regs small li lo lt h has =
-      run_add pc r 2 _ regs has.0 (omega (arith, h, small, li, lo)) lt (omega (arith, h))
-  run_after AboveSumTwice r pc i o regs small li lo lt h has =
-      run_add pc r 1 _ regs has.0 (omega (arith, h, small, li, lo)) lt (omega (arith, h))
-  run_after AboveSum r pc i o regs small li lo lt h has = keeps pc r _ regs (omega (arith, h))
+  run_after (InRegister q) r pc i o regs small li lo lt h has = keeps pc r _ regs h
 
   -- two stretches of straight code
   pub run_parts : (a b : List Uop) (pc : ℕ) (regs : List ℕ) (cs ds : List Issue) (I J : List ℕ

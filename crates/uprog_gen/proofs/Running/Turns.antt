@@ -75,18 +75,18 @@ module _ (head : Shape) (code : List Uop) (n : ℕ) where
   Eight r = length r ≡ 8
 
   register_holds : (s : Sub) (left i : ℕ) (regs : List ℕ) → AtTurn left i regs → IsInner s
-      → slice_index regs (register turn_plan s) ≡ sub_value n i 0 s
+      → slice_index regs (register turn_plan s) ≡ sub_value n i 0 [] s
   register_holds s left i regs g (inl e) = subst (λ u. slice_index regs (register turn_plan u)
-      ≡ sub_value n i 0 u) (sym e) (get_or_past regs 8 0 (omega (arith, g.size)))
+      ≡ sub_value n i 0 [] u) (sym e) (get_or_past regs 8 0 (omega (arith, g.size)))
   register_holds s left i regs g (inr (inl e)) = subst (λ u. slice_index regs (register turn_plan u)
-      ≡ sub_value n i 0 u) (sym e) g.at
+      ≡ sub_value n i 0 [] u) (sym e) g.at
   register_holds s left i regs g (inr (inr e)) =
       let here : left ≡ n - 1 - i = let a = g.all in omega (arith, a) in
-      subst (λ u. slice_index regs (register turn_plan u) ≡ sub_value n i 0 u) (sym e)
+      subst (λ u. slice_index regs (register turn_plan u) ≡ sub_value n i 0 [] u) (sym e)
       (g.left_is ∙ here)
 
   names : (b : Block) (left i : ℕ) (regs : List ℕ) → stays_inner b ≡ true → AtTurn left i regs
-      → Names n turn_plan b i 0 regs
+      → Names n turn_plan b i 0 [] regs
   names b left i regs stays g = record {
     reads = λ k. register_holds (nth_place b.reads k).sub left i regs g
         (inner_front b.reads b.writes stays k);
@@ -101,7 +101,7 @@ module _ (head : Shape) (code : List Uop) (n : ℕ) where
       → InRange head n (round_at p i 0) → HasAt code pc (turn_uops p) → AtTurn left i regs
       → Runs head code n pc regs (length (turn_uops p)) (commands p i)
       (pc + length (turn_uops p)) (AtTurn left i)
-  run_uops p left i pc regs stays ok has g = run_body head code n p turn_plan i 0 (AtTurn left i)
+  run_uops p left i pc regs stays ok has g = run_body head code n p turn_plan i 0 [] (AtTurn left i)
       p.cmds pc regs (names p.block left i regs stays g) g has ok
 
   module _ (p last : Part) (out pc i : ℕ) (has : HasAt code pc (either_code p last out pc)) where

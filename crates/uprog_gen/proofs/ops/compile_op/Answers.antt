@@ -19,3 +19,17 @@ returns-clause-graphs c =
           is.names ps is.forms is.written (microprogram_of c.in_ok-entry.entry)
           c.in_ok-entry.ensures.few c.in_ok-entry.ensures.exact,
     )
+
+pub returns-clause-compiled : goal.returns-clause-compiled
+returns-clause-compiled c =
+    let l = c.in_ok-lowered.lowered in
+    let is = c.in_ok-lowered.ensures in
+    record {
+      slots = slots_of l.names;
+      free_bit = l.names.free_bit;
+      free_word = l.names.free_word;
+      statements = map steps_of l.programs.items;
+      from = c.in_ok-entry.ensures.compiled;
+      forms = is.forms;
+      written = is.written;
+    }

@@ -28,7 +28,7 @@ unreachable-requires c =
     let s = served b c.args.outs.now c.requires.small c.requires.bare c.requires.states c.requires.outs in
     c.in-None.ensures.word s.body s.same.graph s.lits
     (c.deref.ensures.value ∙ c.in_ok-enter.ensures ∙ s.same.enter)
-    (c.deref-2.ensures.value ∙ c.in_ok-leave.ensures ∙ s.same.leave) s.late
+    (c.deref-2.ensures.value ∙ c.in_ok-leave.ensures ∙ s.same.leave)
 
 pub returns-clause-held : goal.returns-clause-held
 returns-clause-held c =
@@ -36,6 +36,6 @@ returns-clause-held c =
     let s = served b c.args.outs.now c.requires.small c.requires.bare c.requires.states c.requires.outs in
     let w = c.in-Some.ensures.word s.body s.same.graph s.lits
     (c.deref.ensures.value ∙ c.in_ok-enter.ensures ∙ s.same.enter)
-    (c.deref-2.ensures.value ∙ c.in_ok-leave.ensures ∙ s.same.leave) s.late in
+    (c.deref-2.ensures.value ∙ c.in_ok-leave.ensures ∙ s.same.leave) in
     let e : c.in_ok-to_vec-in-Some.field-0.items ≡ c.in-Some.cmds.now = search rules in
     (s.body, s.is, e ∙ w)

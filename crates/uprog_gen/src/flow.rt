@@ -1,0 +1,163 @@
+//! The code of flows.
+
+ghost use Rattle.std.specs.Prelude.{◌≡◌, ◌<◌, ◌≤◌, ◌+◌, ◌^◌, ◌++◌, ◌∷◌, [], length, OnOk};
+ghost use Rattle.loop_ir.specs.Plain.{block_of, flow_of, acts_of};
+ghost use Rattle.loop_ir.specs.Plain.StepOf.{Flowed as FlowedOf};
+ghost use Rattle.loop_ir.specs.Flows.{flow_size, acts_size, AllFlow, AllActs};
+ghost use Rattle.loop_ir.specs.Costs.{body_cost};
+ghost use Rattle.loop_ir.specs.Limits.{IsSmall};
+ghost use Rattle.uprog_gen.specs.FlowCode.{uop_of, leave};
+ghost use Rattle.uprog_gen.specs.Code.{clear_code};
+ghost use Rattle.uprog_gen.specs.Emits.{EmitsBody, EmitsFlow, EmitsActs, EmitsSteps};
+
+use crate::emit::push_commands;
+use crate::part::make_part;
+use crate::plan::Plan;
+use faults::keep;
+use loop_ir::{Body, Flow, Move, Sub, Turns};
+use mig_graph::NoMemory;
+use std::alloc::Global;
+use uprog_code::Uop;
+
+/// The instruction of a move.
+fn uop_of(m: Move) -> Uop
+    ensures { result ≡ uop_of m }
+{
+    match m {
+        Move::SetI(r, k) => Uop::SetI(r, k),
+        Move::SetN(r) => Uop::SetN(r),
+        Move::SetT(r) => Uop::SetT(r),
+        Move::Mov(r, s) => Uop::Mov(r, s),
+        Move::AddI(r, k) => Uop::AddI(r, k),
+        Move::SubI(r, k) => Uop::SubI(r, k),
+    }
+}
+
+/// The subscripts of a flow's bodies name their registers.
+const FLOW_PLAN: Plan = Plan {
+    first: Sub::Zero,
+    second: Sub::Zero,
+    third: Sub::Zero,
+    named: true,
+};
+
+/// A jump, by register 7.
+fn push_leave(code: &mut Vec<Uop>, to: u16) -> Result<(), NoMemory>
+    ensures { OnOk result (code.new.items ≡ code.old.items ++ leave to) }
+{
+    keep(code, Uop::SetI(7, 1))?;
+    keep(code, Uop::Bnez(7, to))
+}
+
+/// The commands of a body of a flow.
+fn push_done(code: &mut Vec<Uop>, body: &Body, alloc: Global) -> Result<(), NoMemory>
+    requires { IsSmall (block_of body.now) }
+    ensures { OnOk result (EmitsBody (block_of body.now) code.old.items code.new.items) }
+{
+    let made = make_part(body, alloc)?;
+    push_commands(code, FLOW_PLAN, body, &made)?;
+    Ok(())
+}
+
+/// The code of a flow. The jumps past a branch or a loop get their targets when it stands.
+#[cycle(flows)]
+fn emit_flow(flow: &Flow, code: &mut Vec<Uop>, alloc: Global) -> Result<(), NoMemory>
+    requires small { AllFlow IsSmall (flow_of flow.now) }
+    requires room { length code.old.items + flow_size body_cost (flow_of flow.now) + 8 < 2 ^ 16 }
+    ensures emits { OnOk result (EmitsFlow (flow_of flow.now) code.old.items code.new.items) }
+    ensures short { OnOk result (length code.new.items
+        ≤ length code.old.items + flow_size body_cost (flow_of flow.now)) }
+{
+    match flow {
+        Flow::End => Ok(()),
+        Flow::Do(body, next) => {
+            push_done(code, body, alloc)?;
+            emit_flow(next, code, alloc)
+        }
+        Flow::Put(m, next) => {
+            keep(code, uop_of(*m))?;
+            emit_flow(next, code, alloc)
+        }
+        Flow::If(r, some, none, next) => {
+            let test = code.len();
+            keep(code, Uop::Bnez(*r, 0))?;
+            emit_flow(none, code, alloc)?;
+            let jump = code.len() + 1;
+            push_leave(code, 0)?;
+            let there = code.len() as u16;
+            code[test] = Uop::Bnez(*r, there);
+            emit_flow(some, code, alloc)?;
+            let past = code.len() as u16;
+            code[jump] = Uop::Bnez(7, past);
+            emit_flow(next, code, alloc)
+        }
+        Flow::Loop(r, turns, next) => {
+            let out = code.len() + 1;
+            let top = out + 2;
+            keep(code, Uop::Bnez(*r, top as u16))?;
+            push_leave(code, 0)?;
+            emit_acts(turns, *r, top as u16, out as u16, code, alloc)?;
+            let past = code.len() as u16;
+            code[out + 1] = Uop::Bnez(7, past);
+            emit_flow(next, code, alloc)
+        }
+    }
+}
+
+/// The code of a loop's turns, which come back to these two places.
+#[cycle(flows)]
+fn emit_acts(
+    turns: &Turns,
+    r: u8,
+    top: u16,
+    out: u16,
+    code: &mut Vec<Uop>,
+    alloc: Global,
+) -> Result<(), NoMemory>
+    requires small { AllActs IsSmall (acts_of turns.now) }
+    requires room { length code.old.items + acts_size body_cost (acts_of turns.now) + 8 < 2 ^ 16 }
+    ensures emits { OnOk result (EmitsActs r top out (acts_of turns.now) code.old.items
+        code.new.items) }
+    ensures short { OnOk result (length code.new.items
+        ≤ length code.old.items + acts_size body_cost (acts_of turns.now)) }
+{
+    keep(code, Uop::SubI(r, 1))?;
+    match turns {
+        Turns::Last(flow) => {
+            emit_flow(flow, code, alloc)?;
+            keep(code, Uop::Bnez(r, top))
+        }
+        Turns::Turn(flow, more) => {
+            emit_flow(flow, code, alloc)?;
+            let next = code.len() as u16 + 3;
+            keep(code, Uop::Bnez(r, next))?;
+            push_leave(code, out)?;
+            emit_acts(more, r, top, out, code, alloc)
+        }
+    }
+}
+
+/// Before a flow its registers get 0.
+fn push_clear(code: &mut Vec<Uop>) -> Result<(), NoMemory>
+    ensures { OnOk result (code.new.items ≡ code.old.items ++ clear_code) }
+{
+    keep(code, Uop::SetI(0, 0))?;
+    keep(code, Uop::SetI(1, 0))?;
+    keep(code, Uop::SetI(2, 0))?;
+    keep(code, Uop::SetI(3, 0))?;
+    keep(code, Uop::SetI(4, 0))?;
+    keep(code, Uop::SetI(5, 0))?;
+    keep(code, Uop::SetI(6, 0))
+}
+
+/// The code of a step that is a flow.
+pub fn emit_flowed(flow: &Flow, code: &mut Vec<Uop>, alloc: Global) -> Result<(), NoMemory>
+    requires small { AllFlow IsSmall (flow_of flow.now) }
+    requires room { length code.old.items + flow_size body_cost (flow_of flow.now) + 32 < 2 ^ 16 }
+    ensures { OnOk result (EmitsSteps (FlowedOf (flow_of flow.now) ∷ []) code.old.items
+        code.new.items) }
+{
+    push_clear(code)?;
+    emit_flow(flow, code, alloc)?;
+    Ok(())
+}

@@ -1,0 +1,287 @@
+-- and_red and or_red: three elements in turn.
+use Rattle.std.proofs.Common.{◌≡◌, ℕ, zero, suc, ◌+◌, ◌-◌, ◌*◌, ◌<◌, ◌≤◌, Bool, true, false}
+use Rattle.std.proofs.Common.{List, [], ◌∷◌, refl, sym, ap, ◌∙◌, subst, arith}
+use Rattle.std.specs.Prelude.{slice_set, slice_index}
+use Rattle.bit_rows.specs.Bits.{majority}
+use Rattle.loop_ir.specs.declared.ir.Move.TheVariants.{AddI}
+use Rattle.loop_ir.specs.Flows.{FlowOf, TurnsOf, EventOf}
+use Rattle.loop_ir.specs.Flows.FlowOf.{End, Do, Put, If, Loop}
+use Rattle.loop_ir.specs.Flows.TurnsOf.{Last, Turn}
+use Rattle.word_flow.proofs.Reductions.{Part, Alone, Begun, One, Two, Three, Ended, one, two, three}
+use Rattle.word_flow.proofs.Reductions.{reduction, joined, reduction_total}
+use Rattle.loop_laws.proofs.FlowLogic.{Claim, wp, wp_some, wp_none, wp_loop}
+use Rattle.loop_laws.proofs.FlowFine.{Fine}
+
+-- the target's bit, the four cells, the states that a body may read, and the commands so far
+pub record State : Type 0 where
+  pub y : Bool
+  pub t1 : Bool
+  pub t2 : Bool
+  pub t3 : Bool
+  pub d1 : Bool
+  pub alive : List ℕ
+  pub cost : ℕ
+
+abbrev pub first_left : List ℕ
+first_left = 1 ∷ []
+
+abbrev pub one_left : List ℕ
+one_left = 2 ∷ 3 ∷ 12 ∷ []
+
+abbrev pub two_left : List ℕ
+two_left = 3 ∷ 12 ∷ []
+
+abbrev pub at : List ℕ → ℕ → ℕ
+at g r = slice_index g r
+
+abbrev pub does : Bool → (ℕ → Bool) → Part → List ℕ → State → State
+does c x Alone g s = record {
+  y = x 0;
+  t1 = s.t1;
+  t2 = s.t2;
+  t3 = s.t3;
+  d1 = s.d1;
+  alive = [];
+  cost = s.cost + 1;
+}
+does c x Begun g s = record {
+  y = s.y;
+  t1 = x 0;
+  t2 = s.t2;
+  t3 = s.t3;
+  d1 = s.d1;
+  alive = first_left;
+  cost = s.cost + 1;
+}
+does c x One g s = let v = majority c (x (at g 1)) s.t1 in record {
+  y = v;
+  t1 = s.t1;
+  t2 = v;
+  t3 = c;
+  d1 = c;
+  alive = one_left;
+  cost = s.cost + 3;
+}
+does c x Two g s = let v = majority (x (at g 1)) s.t2 s.t3 in record {
+  y = v;
+  t1 = s.t1;
+  t2 = s.t2;
+  t3 = v;
+  d1 = s.d1;
+  alive = two_left;
+  cost = s.cost + 2;
+}
+does c x Three g s = record {
+  y = s.y;
+  t1 = majority (x (at g 1)) s.t3 s.d1;
+  t2 = s.t2;
+  t3 = s.t3;
+  d1 = s.d1;
+  alive = first_left;
+  cost = s.cost + 2;
+}
+does c x Ended g s = record {
+  y = majority (x (at g 1)) s.t3 s.d1;
+  t1 = s.t1;
+  t2 = s.t2;
+  t3 = s.t3;
+  d1 = s.d1;
+  alive = [];
+  cost = s.cost + 2;
+}
+
+abbrev pub InRange : ℕ → Part → List ℕ → State → Type 0
+InRange n Alone g s = 0 < n
+InRange n Begun g s = 0 < n
+InRange n One g s = (at g 1 < n) × (s.alive ≡ first_left)
+InRange n Two g s = (at g 1 < n) × (s.alive ≡ one_left)
+InRange n Three g s = (at g 1 < n) × (s.alive ≡ two_left)
+InRange n Ended g s = (at g 1 < n) × (s.alive ≡ two_left)
+
+-- in whichever order
+turned : (a g c : Bool) → majority a g c ≡ majority c a g
+unfolding majority
+turned true true true = refl
+turned true true false = refl
+turned true false true = refl
+turned true false false = refl
+turned false true true = refl
+turned false true false = refl
+turned false false true = refl
+turned false false false = refl
+
+-- one element more
+joins : (c : Bool) (x : ℕ → Bool) (i : ℕ) (g : Bool) → 0 < i → g ≡ joined c x i
+    → majority c (x i) g ≡ joined c x (i + 1)
+joins c x zero g some e = absurd (omega (arith, some))
+joins c x (suc i) g some e = let one : suc (suc i) ≡ suc i + 1 = omega arith in
+    ap (majority c (x (suc i))) e ∙ ap (joined c x) one
+
+module _ (n : ℕ) (some : 0 < n) (small : n ≤ 128) (c : Bool) (x : ℕ → Bool) where
+  abbrev F : EventOf Part → State → Type 0
+  F = Fine Part State n (InRange n)
+
+  abbrev W : FlowOf Part → Claim Part State n F (does c x) → Claim Part State n F (does c x)
+  W f = wp Part State n F (does c x) f
+
+  abbrev Asked : Type 1
+  Asked = Claim Part State n F (does c x)
+
+  abbrev regs : ℕ → ℕ → ℕ → ℕ → ℕ → ℕ → ℕ → ℕ → List ℕ
+  regs m i a b d e f v = m ∷ i ∷ a ∷ b ∷ d ∷ e ∷ f ∷ v ∷ []
+
+  abbrev Over : State → Type 0
+  Over s = (s.y ≡ joined c x n) × (s.cost ≡ reduction_total n)
+
+  turns_do : (a b d e f v : ℕ) (Q : Asked) (s : State) → 1 < n → s.t1 ≡ x 0 → s.alive ≡ first_left
+      → s.cost ≡ 1 → ((g : List ℕ) (s : State) → Over s → Q g s)
+      → W (Loop 0 (Turn one (Turn two (Last three))) End) Q (regs (n - 1) 1 a b d e f v) s
+  turns_do a b d e f v Q s many t1_is alive paid done = wp_loop Part State n F (does c x) 0 all I End Q
+      (regs (n - 1) 1 a b d e f v) s (omega arith) (one_does, (two_does, three_does)) (
+        1,
+        0,
+        refl,
+        omega arith,
+        omega (arith, some),
+        omega (arith, paid),
+        λ more. (t1_is, alive),
+        λ none. absurd (omega (arith, none, many)),
+      ) ends
+    where
+      all : TurnsOf Part
+      all = Turn one (Turn two (Last three))
+
+      I : TurnsOf Part → ℕ → Asked
+      I (Turn y (Turn z ts)) m g s = (i : ℕ) × (h : ℕ) × (g ≡ regs m i a b d e f v) × (i ≡ 3 * h + 1)
+          × (i + m ≡ n) × (s.cost ≡ 7 * h + 1)
+          × (0 < m → (s.t1 ≡ joined c x i) × (s.alive ≡ first_left)) × (m ≡ 0 → s.y ≡ joined c x i)
+      I (Turn y (Last z)) m g s = (i : ℕ) × (h : ℕ) × (g ≡ regs m i a b d e f v) × (i ≡ 3 * h + 2)
+          × (i + m ≡ n) × (s.cost ≡ 7 * h + 4) × (s.y ≡ joined c x i) × (s.t2 ≡ joined c x i)
+          × (s.t3 ≡ c) × (s.d1 ≡ c) × (s.alive ≡ one_left)
+      I (Last y) m g s = (i : ℕ) × (h : ℕ) × (g ≡ regs m i a b d e f v) × (i ≡ 3 * h + 3)
+          × (i + m ≡ n) × (s.cost ≡ 7 * h + 6) × (s.y ≡ joined c x i) × (s.t3 ≡ joined c x i)
+          × (s.d1 ≡ c) × (s.alive ≡ two_left)
+
+      one_does : (m : ℕ) (g : List ℕ) (s : State) (R : Asked) → I all (suc m) g s
+          → ((h : List ℕ) (s : State) → I (Turn two (Last three)) m h s → R h s)
+          → W one R (slice_set g 0 m) s
+      one_does m g s R i go =
+          let k = i.0 in
+          let p = i.6 (omega arith) in
+          let u = joins c x k s.t1 (omega (arith, i.3)) p.0 in
+          subst (λ l. W one R (slice_set l 0 m) s) (sym i.2) (
+            (omega (arith, i.4), p.1),
+            (
+              omega (arith, i.4, small),
+              go (regs m (k + 1) a b d e f v) (does c x One (regs m k a b d e f v) s) (
+                k + 1,
+                i.1,
+                refl,
+                omega (arith, i.3),
+                omega (arith, i.4),
+                omega (arith, i.5),
+                u,
+                u,
+                refl,
+                refl,
+                refl,
+              ),
+            ),
+          )
+
+      two_does : (m : ℕ) (g : List ℕ) (s : State) (R : Asked)
+          → I (Turn two (Last three)) (suc m) g s
+          → ((h : List ℕ) (s : State) → I (Last three) m h s → R h s) → W two R (slice_set g 0 m) s
+      two_does m g s R i go =
+          let k = i.0 in
+          let u = ap (majority (x k) s.t2) i.8 ∙ turned (x k) s.t2 c
+          ∙ joins c x k s.t2 (omega (arith, i.3)) i.7 in
+          subst (λ l. W two R (slice_set l 0 m) s) (sym i.2) (
+            (omega (arith, i.4), i.10),
+            (
+              omega (arith, i.4, small),
+              go (regs m (k + 1) a b d e f v) (does c x Two (regs m k a b d e f v) s)
+                  (k + 1, i.1, refl, omega (arith, i.3), omega (arith, i.4), omega (arith, i.5), u, u, i.9, refl),
+            ),
+          )
+
+      three_is : (m k : ℕ) (s : State) (R : Asked) (h : ℕ) → k ≡ 3 * h + 3 → k + suc m ≡ n
+          → s.cost ≡ 7 * h + 6 → majority (x k) s.t3 s.d1 ≡ joined c x (k + 1)
+          → s.alive ≡ two_left → ((h : List ℕ) (s : State) → I all m h s → R h s)
+          → W three R (regs m k a b d e f v) s
+      three_is zero k s R h is ends paid u alive go = wp_none Part State n F (does c x) 0 (Do Three End)
+          (Do Ended End) (Put (AddI 1 1) End) R (regs 0 k a b d e f v) s refl (
+            (omega (arith, ends), alive),
+            (
+              omega (arith, ends, small),
+              go (regs 0 (k + 1) a b d e f v) (does c x Ended (regs 0 k a b d e f v) s) (
+                k + 1,
+                h + 1,
+                refl,
+                omega (arith, is),
+                omega (arith, ends),
+                omega (arith, paid),
+                λ more. absurd (omega (arith, more)),
+                λ none. u,
+              ),
+            ),
+          )
+      three_is (suc m) k s R h is ends paid u alive go = wp_some Part State n F (does c x) 0 m
+          (Do Three End) (Do Ended End) (Put (AddI 1 1) End) R (regs (suc m) k a b d e f v) s refl (
+            (omega (arith, ends), alive),
+            (
+              omega (arith, ends, small),
+              go (regs (suc m) (k + 1) a b d e f v) (does c x Three (regs (suc m) k a b d e f v) s) (
+                k + 1,
+                h + 1,
+                refl,
+                omega (arith, is),
+                omega (arith, ends),
+                omega (arith, paid),
+                λ more. (u, refl),
+                λ none. absurd (omega (arith, none)),
+              ),
+            ),
+          )
+
+      three_does : (m : ℕ) (g : List ℕ) (s : State) (R : Asked) → I (Last three) (suc m) g s
+          → ((h : List ℕ) (s : State) → I all m h s → R h s) → W three R (slice_set g 0 m) s
+      three_does m g s R i go =
+          let k = i.0 in
+          let u = ap (majority (x k) s.t3) i.8 ∙ turned (x k) s.t3 c
+          ∙ joins c x k s.t3 (omega (arith, i.3)) i.7 in
+          subst (λ l. W three R (slice_set l 0 m) s) (sym i.2)
+          (three_is m k s R i.1 i.3 i.4 i.5 u i.9 go)
+
+      ends : (ts : TurnsOf Part) (g : List ℕ) (s : State) → I ts 0 g s → Q g s
+      ends (Turn y (Turn z ts)) g s i = let full : i.0 ≡ n = omega (arith, i.4) in
+          done g s (i.7 refl ∙ ap (joined c x) full, omega (arith, i.5, i.3, full))
+      ends (Turn y (Last z)) g s i = let full : i.0 ≡ n = omega (arith, i.4) in
+          done g s (i.6 ∙ ap (joined c x) full, omega (arith, i.5, i.3, full))
+      ends (Last y) g s i = let full : i.0 ≡ n = omega (arith, i.4) in
+          done g s (i.6 ∙ ap (joined c x) full, omega (arith, i.5, i.3, full))
+
+  -- the whole, wherever the registers begin
+  pub reduction_does : (m i a b d e f v : ℕ) (s : State) → s.cost ≡ 0
+      → W reduction (λ g s. (s.y ≡ joined c x n) × (s.cost ≡ reduction_total n)) (regs m i a b d e f v) s
+  reduction_does m i a b d e f v s free = (tt, (tt, by (n - 1) refl))
+    where
+      Q : Asked
+      Q = λ g s. (s.y ≡ joined c x n) × (s.cost ≡ reduction_total n)
+
+      loop : FlowOf Part
+      loop = Do Begun (Loop 0 (Turn one (Turn two (Last three))) End)
+
+      by : (z : ℕ) → n - 1 ≡ z → W (If 0 loop (Do Alone End) End) Q (regs (n - 1) 1 a b d e f v) s
+      by zero is = wp_none Part State n F (does c x) 0 loop (Do Alone End) End Q
+          (regs (n - 1) 1 a b d e f v) s is (
+            some,
+            (let one_bit : n ≡ 1 = omega (arith, is, some) in
+                (ap (joined c x) (sym one_bit), omega (arith, free, one_bit))),
+          )
+      by (suc z) is = wp_some Part State n F (does c x) 0 z loop (Do Alone End) End Q
+          (regs (n - 1) 1 a b d e f v) s is (
+            some,
+            turns_do a b d e f v Q (does c x Begun (regs (n - 1) 1 a b d e f v) s)
+                (omega (arith, is)) refl refl (omega (arith, free)) (λ g s o. o),
+          )

@@ -1,0 +1,10 @@
+use Rattle.std.proofs.Common.{◌≡◌, map, take}
+use Rattle.word_lower.specs.Places.{place_on}
+use Rattle.word_flow.specs.Plans.{mark_of}
+use Rattle.word_flow.specs.Bodies.{slot_at}
+use Rattle.word_flow.proofs.bodies.places.Given as goal
+
+-- the places so far
+abbrev pub invariant-loop-mark : goal.invariant-loop-mark
+invariant-loop-mark l = l.all.items
+    ≡ map (place_on (slot_at l.owners)) (map mark_of (take l.mark-index l.marks))

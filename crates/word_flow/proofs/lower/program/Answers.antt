@@ -1,0 +1,14 @@
+use Rattle.std.proofs.Common.{◌∙◌, ◌∷◌, [], ap}
+use Rattle.loop_ir.specs.Plain.StepOf.{Flowed}
+use Rattle.word_flow.specs.Plans.{first_of, flows_on}
+use Rattle.word_flow.specs.Programs.{lines_for}
+use Rattle.word_flow.specs.Bodies.{coded_on}
+use Rattle.word_flow.proofs.Placed.{placed}
+use Rattle.word_flow.proofs.lower.program.Goals as goal
+
+pub returns : goal.returns
+returns c =
+    let p = c.args.op in
+    c.in_ok-p.ensures ∙ ap (λ x. Flowed x ∷ []) (c.in_ok-f.ensures
+    ∙ ap (λ ss. first_of (flows_on (coded_on ss) (lines_for p))) c.owners.ensures
+    ∙ placed p c.args.m)

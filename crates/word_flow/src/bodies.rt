@@ -1,0 +1,110 @@
+//! Bodies with their commands.
+
+ghost use Rattle.std.specs.Prelude.{◌≡◌, ◌++◌, map, IfOk, OnOk, true};
+ghost use Rattle.std.specs.Option.{option_to_list};
+ghost use Rattle.loop_ir.specs.Plain.{block_of};
+ghost use Rattle.word_lower.specs.Places.{place_on};
+ghost use Rattle.word_flow.specs.Plans.{mark_of, four_of, nine_of};
+ghost use Rattle.word_flow.specs.Bodies.{slot_at, coded_on, is_coded};
+
+use crate::shapes::{CodedBody, Four, Mark, Nine, Owner};
+use faults::keep;
+use loop_ir::{Body, Place, Slot, Space};
+use mig_graph::NoMemory;
+use op_text::Kind;
+use std::alloc::Global;
+use word_lower::{cells, place_in, templated};
+
+/// The slot of this number; where there is none, that of no name.
+fn slot_at(owners: &[Slot], k: u8) -> Slot
+    ensures { result ≡ slot_at owners.now k }
+{
+    let k = usize::from(k);
+    if k < owners.len() {
+        owners[k]
+    } else {
+        Slot {
+            space: Space::Source,
+            which: 0,
+            kind: Kind::Bit,
+        }
+    }
+}
+
+impl Mark {
+    /// The place that it is, where the owners have these rows.
+    fn at(self, owners: &[Slot]) -> Place
+        ensures { result ≡ place_on (slot_at owners.now) (mark_of self) }
+    {
+        let slot = match self.owner {
+            Owner::Row(k) => slot_at(owners, k),
+            Owner::Cells(layout) => cells(layout),
+        };
+        place_in(slot, self.sub)
+    }
+}
+
+/// One more, where there is one.
+fn add<T: Copy>(all: &mut Vec<T>, item: Option<T>) -> Result<(), NoMemory>
+    ensures { OnOk result (all.new.items ≡ all.old.items ++ option_to_list item) }
+{
+    match item {
+        Some(item) => keep(all, item),
+        None => Ok(()),
+    }
+}
+
+/// Those that there are.
+fn four<T: Copy>(x: &Four<T>, alloc: Global) -> Result<Vec<T>, NoMemory>
+    ensures { IfOk result (λ v. v.items ≡ four_of x.now) }
+{
+    let mut all = Vec::new(alloc);
+    add(&mut all, x.a)?;
+    add(&mut all, x.b)?;
+    add(&mut all, x.c)?;
+    add(&mut all, x.d)?;
+    Ok(all)
+}
+
+/// The same of nine.
+fn nine<T: Copy>(x: &Nine<T>, alloc: Global) -> Result<Vec<T>, NoMemory>
+    ensures { IfOk result (λ v. v.items ≡ nine_of x.now) }
+{
+    let mut all = Vec::new(alloc);
+    add(&mut all, x.a)?;
+    add(&mut all, x.b)?;
+    add(&mut all, x.c)?;
+    add(&mut all, x.d)?;
+    add(&mut all, x.e)?;
+    add(&mut all, x.f)?;
+    add(&mut all, x.g)?;
+    add(&mut all, x.h)?;
+    add(&mut all, x.i)?;
+    Ok(all)
+}
+
+/// The places of marks.
+fn places(marks: &[Mark], owners: &[Slot], alloc: Global) -> Result<Vec<Place>, NoMemory>
+    ensures { IfOk result (λ v. v.items
+        ≡ map (place_on (slot_at owners.now)) (map mark_of marks.now)) }
+{
+    let mut all = Vec::new(alloc);
+    for mark in marks {
+        keep(&mut all, mark.at(owners))?;
+    }
+    Ok(all)
+}
+
+/// The body of a table's entry.
+pub fn body(c: &CodedBody, owners: &[Slot], alloc: Global) -> Result<Body, NoMemory>
+    requires { is_coded c.now ≡ true }
+    ensures { IfOk result (λ b. block_of b ≡ coded_on owners.now c.now) }
+{
+    let reads = places(&four(&c.reads, alloc)?, owners, alloc)?;
+    let nodes = four(&c.nodes, alloc)?;
+    let outs = four(&c.outs, alloc)?;
+    let writes = places(&four(&c.writes, alloc)?, owners, alloc)?;
+    let mut made = templated(&reads, &nodes, &outs, &writes, alloc)?;
+    made.found = nine(&c.cmds, alloc)?;
+    Ok(made)
+}

@@ -1,3 +1,0 @@
-pub mod Programs
-pub mod Places
-pub mod Bodies
