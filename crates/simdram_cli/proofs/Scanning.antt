@@ -406,7 +406,7 @@ small_of g e =
     record { banks = leb-true g.banks 16 banks.1; rows = leb-true g.rows 1006 rows.1 }
 
 pub room_opened : (i : Image) (chip : ChipView) → is_geometry i.geometry ≡ true → OpenedOn i chip
-    → AreBelow (2 ^ 61) chip.counters
+    → AreBelow (2 ^ 62) chip.counters
 room_opened i chip ok o =
     let small = small_of i.geometry ok in
     let all : i.geometry.banks * i.geometry.rows ≤ 16 * 1006 =
