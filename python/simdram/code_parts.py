@@ -5,18 +5,20 @@ from __future__ import annotations
 import dataclasses
 
 from .files.program import AAP, ADDI, BNEZ, INDEXED, SUBI, Instruction
+from .loops_and_ways import Outline, outline
 from .op_shapes import OpShape
 from .row_names import ZERO_INDEX, RowNames
 from .tokens import line_of
 
 WIDEST = 100
+LONGEST_TITLE = 160
 STATEMENT_SHOWN = 60
 
 
 @dataclasses.dataclass(frozen=True)
 class Part:
     """A part of the code: its first instruction, its instructions, how it is repeated, whether it alone follows itself, whether
-    the part before stands in its place at the last position, of which statements it is, and the loops around it, each from
+    the part before stands in its place in the last round, of which statements it is, and the loops around it, each from
     its first instruction to its last, the outermost first."""
 
     first: int
@@ -31,57 +33,41 @@ class Part:
     def title(self) -> str:
         """Its first line, cut where it is long."""
         text = f"from instruction {self.first}, {self.said}{': ' if self.what else ''}{self.what}"
-        return text if len(text) <= WIDEST else text[:WIDEST - 2] + ".."
+        return text if len(text) <= LONGEST_TITLE else text[:LONGEST_TITLE - 2] + ".."
 
 
-def direction(code) -> str:
-    """Whether a part goes up or down: what it adds to the registers that are subscripts in it."""
-    used = {row.index for one in code for row in one.rows if row.space in INDEXED and row.index < ZERO_INDEX}
+def direction(code, used: set[int]) -> list[str]:
+    """Whether a loop goes up or down: what it adds to the registers that are subscripts in it."""
     kinds = {one.kind for one in code if one.kind in (ADDI, SUBI) and one.register in used}
-    return {frozenset((ADDI,)): ", upwards", frozenset((SUBI,)): ", downwards"}.get(frozenset(kinds), "")
+    return {frozenset((ADDI,)): ["upwards"], frozenset((SUBI,)): ["downwards"]}.get(frozenset(kinds), [])
 
 
-def leaves(code, k: int) -> bool:
-    """Whether an instruction jumps back to a jump that leads past it."""
-    one = code[k]
-    return one.kind == BNEZ and one.number <= k and code[one.number].kind == BNEZ and code[one.number].number > k
+def part_at(code, found: Outline, first: int, past: int) -> Part:
+    """The part between two places."""
+    around, said = found.around(first, past), found.said(first, past)
+    if not around:
+        return Part(first, code[first:past], ", ".join(said) or "once", False)
+    inner = around[-1]
+    if not inner.is_last(first):
+        used = {row.index for one in code[first:past] for row in one.rows if row.space in INDEXED and row.index < ZERO_INDEX}
+        said += direction(code[inner.first:inner.last + 1], used)
+    has_last = any(first == to for _, to in inner.ends)
+    again = len(inner.turns) == 1 and inner.last == past - 1 and (has_last or inner.first == first)
+    return Part(first, code[first:past], ", ".join(said), again, has_last, loops=tuple((one.first, one.last) for one in around))
 
 
-def asked(code, loops) -> dict[int, int]:
-    """Where bodies take turns: of each question whether the last position is reached, its place, and where the body for the
-    other positions begins. Between them is the one for the last position, which leaves the loop."""
-    return {k: one.number for k, one in enumerate(code)
-            if one.kind == BNEZ and k < one.number and leaves(code, one.number - 1)
-            and any(start <= k and one.number <= end for start, end in loops)}
-
-
-def passed(ahead: dict[int, int], around, first: int, past: int) -> bool:
-    """Whether a jump of the same loop leads past a part."""
-    start = max(around, default=(0, 0))[0]
-    return any(start <= k < first and past <= to for k, to in ahead.items())
+def pieces(code) -> list[tuple[int, int]]:
+    """The code cut where it can jump or be jumped to: from where to where."""
+    jumps = [(at, one.number) for at, one in enumerate(code) if one.kind == BNEZ]
+    places = sorted({0, len(code), *(to for _, to in jumps), *(at + 1 for at, _ in jumps)})
+    return list(zip(places, places[1:]))
 
 
 def parts(code) -> list[Part]:
-    """The code cut where it can jump or be jumped to."""
-    loops = [(one.number, k) for k, one in enumerate(code) if one.kind == BNEZ and one.number <= k and not leaves(code, k)]
-    turns = asked(code, loops)
-    ahead = {k: one.number for k, one in enumerate(code) if one.kind == BNEZ and k < one.number}
-    places = sorted({0, len(code), *ahead.values()} | {k + 1 for k in ahead} | {at for start, end in loops for at in (start, end + 1)})
-    found = []
-    for first, past in zip(places, places[1:]):
-        around = sorted(((start, end) for start, end in loops if start <= first and past <= end + 1), key=lambda one: (one[0], -one[1]))
-        said = ("once", "at each position", "at each position of each position")[min(len(around), 2)]
-        said += ", or not" if passed(ahead, around, first, past) else ""
-        said += direction(code[first:past]) if around else ""
-        in_turn = ", in its turn" if sum(start <= k < end for start, end in around for k in turns) > 1 else ""
-        has_last = first in turns.values()
-        if has_last:
-            said = f"at each position but the last{direction(code[first:past])}{in_turn}"
-        elif first - 1 in turns:
-            said = f"at the last position{in_turn}"
-        again = bool(around) and (around[-1][0] == first or has_last) and around[-1][1] == past - 1 and not in_turn
-        found.append(Part(first, code[first:past], said, again, has_last, loops=tuple(around)))
-    return [part for part in found if any(one.rows for one in part.code)]
+    """The pieces of the code that have row commands."""
+    found = outline(code)
+    made = [part_at(code, found, first, past) for first, past in pieces(code)]
+    return [part for part in made if any(one.rows for one in part.code)]
 
 
 def written(part: Part, names: RowNames) -> set[str]:

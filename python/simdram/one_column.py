@@ -15,22 +15,26 @@ MOST_INSTRUCTIONS = 1_000_000
 
 
 class Moment(typing.NamedTuple):
-    """After a row command: its place in the code, the cells' bits, the bits of the command's rows, and the registers."""
+    """After a row command: its place in the code, the cells' bits, the bits of the command's rows, the registers, and how many
+    instructions were executed before it."""
 
     at: int
     cells: typing.Tuple[Bit, ...]
     rows: typing.Tuple[Bit, ...]
     registers: typing.Tuple[int, ...]
+    when: int
 
 
 class Column:
-    """The cells and rows of a column; a bit that nothing has set is None."""
+    """The cells and rows of a column, and the places of the instructions that were executed; a bit that nothing has set is
+    None."""
 
     def __init__(self, entry: Entry, width: int, numbers: typing.Sequence[int]) -> None:
         self.entry, self.width = entry, width
         self.cells: typing.Dict[str, Bit] = dict.fromkeys(CELLS)
         self.rows: typing.Dict[Place, Bit] = {}
         self.registers = Registers(width)
+        self.path: typing.List[int] = []
         for which, number in enumerate(numbers):
             self.rows.update(((SOURCE, which, k), number >> k & 1) for k in range(width))
 
@@ -67,14 +71,15 @@ class Column:
 
     def run(self) -> typing.Iterator[Moment]:
         """Executes the code, and gives what stands after each row command."""
-        at, left = 0, MOST_INSTRUCTIONS
+        at = 0
         while self.entry.code[at].kind != DONE:
-            one, left = self.entry.code[at], left - 1
-            if left == 0:
+            one = self.entry.code[at]
+            self.path.append(at)
+            if len(self.path) == MOST_INSTRUCTIONS:
                 raise Fault(f"{self.entry.name} executes over {MOST_INSTRUCTIONS:,} instructions at the width {self.width}")
             if one.kind in (AAP, AP):
                 rows = self.command(one)
-                yield Moment(at, tuple(self.cells.values()), rows, tuple(self.registers.held))
+                yield Moment(at, tuple(self.cells.values()), rows, tuple(self.registers.held), len(self.path) - 1)
             elif one.kind != BNEZ:
                 self.registers.do(one)
             at = one.number if one.kind == BNEZ and self.registers.held[one.register] else at + 1

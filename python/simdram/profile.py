@@ -30,7 +30,6 @@ from .steps import Part, parts, with_statements
 from .words import RANGES
 
 CSV_HEAD = ("name", "width", "kind", "what", "times", "aap", "ap", "commands", "share")
-WHATS = 100
 
 
 @dataclasses.dataclass(frozen=True)
@@ -90,7 +89,7 @@ def row_of(part: Part, times: list[int]) -> Row:
     """What a part takes."""
     commands = [(one.kind == AAP, times[part.first + k]) for k, one in enumerate(part.code) if one.rows]
     aap, ap = (sum(count for is_aap, count in commands if is_aap == kind) for kind in (True, False))
-    return Row(part.title()[:WHATS], aap, ap, times[part.first])
+    return Row(part.title(), aap, ap, times[part.first])
 
 
 def by_statement(found: list[Part], rows: list[Row]) -> tuple[Row, ...]:

@@ -1,16 +1,20 @@
 """What each cell holds after each command of an operation, in the operands' names.
 
 PROG is a program file and OP one of its entries. The code is shown part by part, a part being the instructions between two
-places where it can jump: what is executed once, what at each position, upwards or downwards, and what stands in its place at
-the last position; `or not` says that a jump of the same loop leads past it, and a loop may have no iteration.
+places where it can jump. Its title says in which loops it stands, the outermost first, each by its first instruction, and
+whether what it reads and writes goes upwards or downwards; `turn 1 of 2` of a loop whose rounds take turns; `in its last
+round`, where another body stands in the others; `if r2 > 0 at 24` for what is done where register 2 is over 0 when the jump
+at instruction 24 asks. What has none of these is done once. A loop may have no iteration.
 With --ops, sources, results, states and temporaries have the names of the operation text, and it is said which statement a
 part is of. Without it, sources are a, b, c, d, results y and z, scratch bits t0, t1, .., scratch words w0, .. and spill rows
 p0, ..; [i] is the position where one register counts it, and else the register's name, and below the table stands what the
 register is. A cell that the part has not written yet holds ?; `old t` is what the row t held before the part writes it, or,
-where a position takes the value over from the one before in cells, what these hold; a value that goes to no row is s.
+where a loop takes the value over from one iteration to the next in cells, what these hold; a value that goes to no row is s.
+`old T1` is what a part finds in cell T1, and in every other cell that always holds the same then; what is always 0 or 1, is so.
 `~x` is the complement of x, M(x, y, z) the majority; and(x, y) and or(x, y) are majorities with 0 and with 1. A long value
 gets a number, as v1, which stands below its table with its value.
-With --with, a number for each operand, each cell shows its bit too, in the first iteration, or in iteration K.
+With --with, a number for each operand, each cell shows its bit too, in the first iteration of the part, or in iteration K, and
+it is said which iteration of each loop that is. An iteration of a loop with turns has each of them once; the last may end early.
 
 It prints a table for each part. With --html it writes one page instead that steps through the commands by the arrow keys,
 with cells coloured by what they hold; the page loads nothing.
@@ -22,18 +26,19 @@ import argparse
 import textwrap
 import typing
 
-from .board import Board, over
+from .board import Board
 from .cell_values import Names, Value
+from .cells_before import before
 from .code_parts import WIDEST, Part, parts, with_statements
 from .faults import Fault
 from .files.decode import CELLS
 from .files.program import Program
 from .files.store import load
-from .iterations import Execution, execution
+from .iterations import Execution, counted, execution
 from .op_shapes import OpShape
 from .ops_rules import op_shape
 from .overwrite import check_tool
-from .registers import legend
+from .registers import Held
 from .row_names import RowNames, let_patterns
 from .settings import Settings
 from .steps_page import page
@@ -89,6 +94,14 @@ def table(done: list[Step], bits: list[dict[str, str]] | None = None) -> list[st
     return lines
 
 
+def title_lines(part: Part) -> list[str]:
+    """A part's title, with its statements below where it is long."""
+    if len(part.title()) <= WIDEST:
+        return [part.title()]
+    head = textwrap.wrap(f"from instruction {part.first}, {part.said}{':' * bool(part.what)}", WIDEST, subsequent_indent="  ")
+    return head + textwrap.wrap(part.what, WIDEST, initial_indent="  ", subsequent_indent="    ")
+
+
 class Shown(typing.NamedTuple):
     """A part as it is shown: its steps, its table, what its numbered values and its subscripts are, what its cells hold
     at its start, and the bits of its iterations."""
@@ -111,24 +124,28 @@ class View:
         self.shape: OpShape | None = op_shape(ops, data, entry.name) if ops else None
         self.rows, found = RowNames(self.shape), parts(entry.code)
         found = with_statements(found, self.rows, self.shape, data) if self.shape else found
-        self.shown = [self.part_shown(part, taken) for part, taken in zip(found, over(found, self.rows))]
+        self.held = Held(entry.code)
+        self.shown = [self.part_shown(part, cells) for part, cells in zip(found, before(entry.code, found, self.rows))]
 
     def part_shown(self, part: Part, taken: dict[str, Value]) -> Shown:
         """A part with its long values numbered, so that no line is over 100 characters."""
         lets: dict[str, int] = {}
         for number in part.statements if self.shape else ():
             lets.update(let_patterns(self.shape, self.shape.statements[number]))
+        title = title_lines(part)
         for longest in LENGTHS:
             names = Names(lets, longest)
             done = steps(part, self.rows, names, taken)
             bits = self.run.iterations(part, done) if self.run else []
             chosen = bits[min(self.iteration, len(bits)) - 1]["bits"] if bits else None
-            lines = [part.title(), *table(done, chosen), *(f"  {name} = {value}" for name, value in names.said)]
+            lines = [*title, *table(done, chosen), *(f"  {name} = {value}" for name, value in names.said)]
             if max(map(len, lines)) <= WIDEST:
                 break
-        subscripts = legend(self.entry.code, part)
+        subscripts = self.held.legend(part)
         if bits:
-            lines.insert(1, f"iteration {min(self.iteration, len(bits))} of {len(bits)}")
+            one = min(self.iteration, len(bits))
+            inside = bits[one - 1]["inside"]
+            lines.insert(len(title), f"iteration {one} of {counted(bits)}{': ' if inside else ''}{inside}")
         for name, what in subscripts:
             lines += textwrap.wrap(f"{name} is {what}", WIDEST, initial_indent="  ", subsequent_indent="    ")
         start = {cell: value.text for cell, value in Board(part.code, self.rows, names, taken).cells.items()}

@@ -5,6 +5,7 @@ from __future__ import annotations
 import html
 import json
 
+from .iterations import counted
 from .page_template import PAGE
 
 
@@ -13,9 +14,13 @@ def part_data(one) -> dict:
     return {"title": one.part.title(), "said": one.part.said + (f": {one.part.what}" if one.part.what else ""),
             "first": one.part.first, "loops": one.part.loops, "start": {**one.start}, "named": one.said,
             "subscripts": one.subscripts, "steps": [step._asdict() for step in one.done],
-            "iterations": [{"registers": each["registers"], "bits": ["".join(bits[name] for name in names(step))
-                                                                     for step, bits in zip(one.done, each["bits"])]}
-                           for each in one.bits]}
+            "counted": counted(one.bits), "iterations": [iteration(one, each) for each in one.bits]}
+
+
+def iteration(one, each: dict) -> dict:
+    """An iteration of a part as the page has it: a digit for each value that is shown after a command."""
+    bits = ["".join(bits[name] for name in names(step)) for step, bits in zip(one.done, each["bits"])]
+    return {"registers": each["registers"], "inside": each["inside"], "bits": bits}
 
 
 def names(step) -> list[str]:

@@ -19,7 +19,7 @@ class Ops(unittest.TestCase):
         a = chip.array(x)
         mac = simdram.op("op mac(a: word, b: word, c: word) -> y: word { t = mul(a, b); y = add(t, c); }")
         z = mac(a, a, chip.array(1, bits=8))
-        self.assertEqual((z.numpy().tolist(), str(z.cost)), ((x * x + 1).tolist(), "aap=350 ap=36"))
+        self.assertEqual((z.numpy().tolist(), str(z.cost)), ((x * x + 1).tolist(), "aap=335 ap=36"))
         self.assertEqual(mac(a, 3, 2).numpy().tolist(), (x * 3 + 2).tolist())
         both = simdram.op("op both(a: word, s: bit) -> q: word, r: bit "
                           "{ t = not(a); q = if_else(a, t, s); r = not(s); }")

@@ -8,6 +8,8 @@ import unittest
 
 import support
 from support import TOP, needs_program
+from test_profile import every_op
+from test_tools import Folder
 from test_words import called
 
 from simdram.assembler import TextFault, assemble
@@ -21,6 +23,7 @@ from simdram.from_hex import bytes_in
 
 CASE_HEX = re.compile(r"^hex \S+((?: [0-9A-Fa-f ]+)?(?:\n\|[0-9A-Fa-f ]*(?:#.*)?)*)$", re.MULTILINE)
 FEWEST = TOP / "examples" / "fewest"
+FLOWS = ("mul", "div", "rem", "divmod", "bitcount", "abs", "relu", "and_red", "or_red", "xor_red")
 HEAD = "program f(a: word, b: word, s: bit) -> y: word, z: bit\nscratch c: bit, w: word\n"
 
 
@@ -200,6 +203,23 @@ class Reading(unittest.TestCase):
         first, second = (assemble(text.encode()).entries[0] for text in texts)
         self.assertEqual([len(walk(first, n)) for n in (1, 8)], [10, 73])
         self.assertEqual([len(walk(second, n)) for n in (1, 8)], [8, 57])
+
+
+@needs_program
+class Compiled(Folder):
+    def test_there_and_back(self):
+        """The compiler's programs as text: in loops, or with labels where they are flows."""
+        (self.folder / "all.ops").write_text(every_op())
+        self.assertEqual(self.call("compile", "all.ops", "p").returncode, 0)
+        program, data = Program.load(str(self.folder / "p")), (self.folder / "p").read_bytes()
+        self.assertEqual(assemble(raw_text(program).encode()).file(), data)
+        again = assemble(readable_text(program).encode())
+        for one, other in zip(program.entries, again.entries):
+            has_labels = "BNEZ" in readable_text(Program([one]))
+            self.assertEqual(has_labels, one.name in {f"o_{name}" for name in FLOWS}, one.name)
+            self.assertEqual(one.code == other.code, has_labels, one.name)
+            for n in (1, 2, 3, 4, 9, 20):
+                self.assertEqual(walk(one, n), walk(other, n), (one.name, n))
 
 
 class Forms(unittest.TestCase):

@@ -27,7 +27,7 @@ class Page(unittest.TestCase):
                 exec(block, names)
         shown = re.search(r"\n\n((?:    .*\n)+)\n## Chips", text)[1].replace("\n    ", "\n")[4:]
         self.assertEqual(put.getvalue(), f"[[  2   0]\n [100 252]]\naap=163 ap=16\n{shown}\n")
-        self.assertEqual((str(names["z"].cost), names["found"]), ("aap=350 ap=36", (2, 4, simdram.Cost(86, 16))))
+        self.assertEqual((str(names["z"].cost), names["found"]), ("aap=335 ap=36", (2, 4, simdram.Cost(86, 16))))
         shells = doctest.DocTestParser().get_doctest(text, names, "NUMPY.md", None, 0)
         self.assertGreaterEqual(len(shells.examples), 4)
         self.assertEqual(doctest.DocTestRunner(optionflags=doctest.NORMALIZE_WHITESPACE).run(shells).failed, 0)

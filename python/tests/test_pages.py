@@ -53,12 +53,16 @@ def own_op(name):
 
 
 def value(formula, n):
-    """The value of a formula of the table at width n."""
-    names = {"n": n, "p": bin(n).count("1"), "L": n.bit_length(), "k": -(-n // 2), "t": -(-n // 3)}
-    text = formula.replace("−", "-").replace("²", "**2").replace(" / ", " // ")
+    """The value of a formula of the table at width n: after it, in brackets, stand the widths at which it is another."""
+    formula, _, cases = formula.partition(" (n = ")
+    others = dict(re.findall(r"(\d+): (\d+)", cases))
+    if str(n) in others:
+        return int(others[str(n)])
+    names = {"n": n, "p": bin(n).count("1"), "L": n.bit_length()}
+    text = formula.replace("−", "-").replace("²", "**2").replace(" / ", " // ").replace(" mod ", " % ")
     text = re.sub(r"(\d)([a-z(])", r"\1*\2", text)
     text = re.sub(r"([a-z])\(", r"\1*(", text)
-    assert re.fullmatch(r"[\dnpLkt+\-*/() ]+", text), formula
+    assert re.fullmatch(r"[\dnpL+\-*/%() ]+", text), formula
     return eval(text, {"__builtins__": {}}, names)  # letters, digits and signs alone, by the line above
 
 

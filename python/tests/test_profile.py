@@ -41,10 +41,12 @@ class Counts(Folder):
     def test_statements_and_parts(self):
         (self.folder / "mac.ops").write_text(MAC)
         found = of_file(str(self.folder / "mac.ops"), [8], Settings())[0]
-        self.assertEqual([(row.what, row.commands) for row in found.statements], [("line 2, t = mul(a, b);", 305), ("line 3, y = add(t, c);", 73)])
+        self.assertEqual([(row.what, row.commands) for row in found.statements], [("line 2, t = mul(a, b);", 290), ("line 3, y = add(t, c);", 73)])
         inner = max(found.parts, key=lambda row: row.commands)
-        self.assertEqual((inner.times, inner.aap, inner.ap), (28, 224, 28))
-        self.assertIn("at each position of each position", inner.what)
+        self.assertEqual((inner.times, inner.aap, inner.ap), (21, 168, 21))
+        self.assertRegex(inner.what, r"in the loop at \d+, in the loop at \d+, upwards: line 2")
+        turns = [row for row in found.parts if "turn" in row.what]
+        self.assertEqual([(row.times, row.what.partition("turn ")[2][:6]) for row in turns], [(4, "1 of 2"), (4, "2 of 2")])
 
     def test_instructions(self):
         code = self.compiled("op f(a: word, b: word) -> y: word { y = add(a, b); }").find("f").code
@@ -54,12 +56,12 @@ class Counts(Folder):
     def test_words(self):
         self.compiled(MAC, "mac")
         text = self.call("profile", "mac.ops", "8").stdout
-        self.assertEqual(text.splitlines()[:3], ["mac at n = 8: 378 commands, aap=342 ap=36", "  share  commands  aap  ap  statement",
-                                                 "  80.7%       305  277  28  line 2, t = mul(a, b);"])
+        self.assertEqual(text.splitlines()[:3], ["mac at n = 8: 363 commands, aap=327 ap=36", "  share  commands  aap  ap  statement",
+                                                 "  79.9%       290  262  28  line 2, t = mul(a, b);"])
         self.assertEqual(self.call("profile", "mac", "8", "--ops", "mac.ops").stdout, text)
         self.assertNotIn("statement", self.call("profile", "mac", "8").stdout)
         rows = list(csv.DictReader(io.StringIO(self.call("profile", "mac.ops", "8", "--csv", "--op", "mac", "16").stdout, newline="")))
-        self.assertEqual([row["commands"] for row in rows if row["kind"] == "statement"], ["305", "73", "1189", "145"])
+        self.assertEqual([row["commands"] for row in rows if row["kind"] == "statement"], ["290", "73", "1158", "145"])
         self.assertAlmostEqual(sum(float(row["share"]) for row in rows if row["kind"] == "part" and row["width"] == "8"), 1, 4)
 
     def test_stuck(self):
@@ -100,7 +102,7 @@ class Arrays(unittest.TestCase):
 
     def test_of_an_op(self):
         mac = simdram.op(MAC)
-        self.assertEqual([row.commands for row in mac.profile(8).statements], [305, 73])
+        self.assertEqual([row.commands for row in mac.profile(8).statements], [290, 73])
 
 
 if __name__ == "__main__":

@@ -9,6 +9,7 @@ import unittest
 
 import support
 from support import TOP, needs_program
+from test_profile import every_op
 from test_words import called
 
 from simdram.faults import Fault
@@ -81,8 +82,9 @@ class Pages(unittest.TestCase):
         names = [name for name, _ in accumulated.subscripts]
         self.assertEqual(names, ["r3", "r4"])
         for name, what in accumulated.subscripts:
-            self.assertRegex(what, r"^set to \w+ at instruction \d+, raised by 1 at \d+ in each iteration of the loop \d+ to \d+$")
-            self.assertIn(f"  {name} is {what}", accumulated.lines)
+            self.assertRegex(what, r"^set to \w+ at instruction \d+( and raised by 1 at \d+)?, raised by 1 at \d+ in each iteration "
+                                   r"of the loop \d+ to \d+$")
+            self.assertIn(f" {name} is {what}", " ".join(" ".join(accumulated.lines).split()))
         once = View(self.program.find("sum"), self.ops).shown[-1]
         self.assertEqual([name for name, _ in once.subscripts], ["i"])
 
@@ -99,17 +101,32 @@ class Pages(unittest.TestCase):
         """Where two cells have one text, they have one bit, and a complement has the other."""
         for name in VALUES:
             entry = self.program.find(name)
-            run = execution(entry, self.ops, "a=11,b=6", 8)
-            for one in View(entry, self.ops, run).shown:
-                for each in one.bits:
-                    known = {}
-                    for step, bits in zip(one.done, each["bits"]):
-                        for text, bit in ((text, bits[key]) for key, text in {**step.cells, **step.rows}.items() if bits[key] != "?"):
-                            bare = text.lstrip("~")
-                            bit = int(bit) ^ text.startswith("~")
-                            if bare != "?":
-                                self.assertEqual(known.setdefault(bare, bit), bit, (name, one.part.title(), step, bare))
-                    self.assertEqual((known.get("0", 0), known.get("1", 1)), (0, 1))
+            self.agree(name, View(entry, self.ops, execution(entry, self.ops, "a=11,b=6", 8)).shown)
+
+    def agree(self, name, shown):
+        """The bits of an operation's parts are those of the values that are shown."""
+        for one in shown:
+            for each in one.bits:
+                known = {}
+                for step, bits in zip(one.done, each["bits"]):
+                    for text, bit in ((text, bits[key]) for key, text in {**step.cells, **step.rows}.items() if bits[key] != "?"):
+                        bare = text.lstrip("~")
+                        bit = int(bit) ^ text.startswith("~")
+                        if bare != "?":
+                            self.assertEqual(known.setdefault(bare, bit), bit, (name, one.part.title(), step, bare))
+                self.assertEqual((known.get("0", 0), known.get("1", 1)), (0, 1))
+
+    def test_bits_of_every_operation(self):
+        """The same of each word operation, at widths where loops have no iteration, one, and several."""
+        (self.folder / "all.ops").write_text(every_op())
+        subprocess.run([support.program(), "compile", "all.ops", "all"], cwd=self.folder, check=True, capture_output=True)
+        dice = random.Random(9)
+        for entry in Program.load(str(self.folder / "all")).entries:
+            for width in (1, 2, 3, 7):
+                given = ",".join(f"{name}={dice.randrange(1, 2 if kind == 'bit' else 1 << width)}"
+                                 for name, kind in zip("abc", entry.sources))
+                run = execution(entry, str(self.folder / "all.ops"), given, width)
+                self.agree(entry.name, View(entry, str(self.folder / "all.ops"), run).shown)
 
     def test_results(self):
         dice = random.Random(8)
@@ -123,12 +140,20 @@ class Pages(unittest.TestCase):
 
     def test_iterations(self):
         data = self.data("product", "--with", "a=3,b=5")
-        self.assertEqual([len(part["iterations"]) for part in data], [8, 7, 28])
+        self.assertEqual([len(part["iterations"]) for part in data], [4, 4, 7, 21])
+        self.assertEqual([part["title"].partition("turn ")[2][:6] for part in data], ["1 of 2", "2 of 2", "", ""])
+        self.assertEqual({each["inside"] for part in data[:-1] for each in part["iterations"]}, {""})
         inner = data[-1]
-        self.assertEqual([each["registers"][3] for each in inner["iterations"][:7]], list(range(7)))
+        self.assertEqual([each["registers"][3] for each in inner["iterations"][:6]], list(range(1, 7)))
+        (outer, _), (first, _) = inner["loops"]
+        self.assertEqual([each["inside"] for each in inner["iterations"]],
+                         [f"{k} of 7 of the loop at {outer}, {i} of {7 - k} of the loop at {first}"
+                          for k in range(1, 8) for i in range(1, 8 - k)])
         for each in inner["iterations"]:
             for step, bits in zip(inner["steps"], each["bits"]):
                 self.assertEqual(len(bits), len(step["cells"]) + len(step["rows"]))
+        self.assertEqual(inner["counted"], "21")
+        self.assertEqual(self.data("product", "--with", "a=3,b=5", "--width", "32")[-1]["counted"], "the first 300")
         ended = self.call("steps", "p", "both", "--ops", "p.ops", "--with", "a=200,b=7", "--iteration", "3")
         self.assertEqual(ended.stdout.splitlines()[0], "a = 200, b = 7 at the width 8: q = 28, r = 4")
         self.assertIn("iteration 3 of ", ended.stdout)

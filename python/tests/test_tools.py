@@ -135,8 +135,8 @@ class Steps(Folder):
         entry = self.compiled(SERIAL.read_text()).find("maj_add")
         once, last, each = all_shown(entry, str(SERIAL))
         self.assertEqual(once.lines[0], "from instruction 0, once: line 25, serial up (c = 0) { .. }")
-        self.assertIn("at the last position: line 25", last.lines[0])
-        self.assertIn("at each position but the last, upwards: line 25", each.lines[0])
+        self.assertIn("in the loop at 6, in its last round: line 25", last.lines[0])
+        self.assertIn("in the loop at 6, in each round but the last, upwards:\n  line 25", "\n".join(each.lines))
         # the carry stands in cells from one position to the next, and goes to its row at the last one
         for one in (last, each):
             self.assertTrue({"old c", "~old c"} & set(one.done[0].cells.values()), one.done[0].cells)
@@ -155,22 +155,38 @@ class Steps(Folder):
             self.assertEqual(len(last.done), 3)
 
     def test_bodies_that_take_turns(self):
-        entry = self.compiled("op odd(a: word) -> y: bit {\n  y = xor_red(a);\n}\n").find("odd")
-        titles = [one.lines[0] for one in all_shown(entry, str(self.folder / "p.ops"))]
-        self.assertIn("once", titles[0])
-        self.assertEqual(sum("at the last position, in its turn" in title for title in titles), 2)
-        self.assertEqual(sum("at each position but the last, upwards, in its turn" in title for title in titles), 2)
+        entry = self.compiled("op every(a: word) -> y: bit {\n  y = and_red(a);\n}\n").find("every")
+        found = all_shown(entry, str(self.folder / "p.ops"))
+        titles = [one.part.said for one in found]
+        for turn, times in ((1, 1), (2, 1), (3, 2)):
+            self.assertEqual(sum(f"turn {turn} of 3" in title for title in titles), times, titles)
+        self.assertEqual([title.rpartition("turn 3 of 3, ")[2][:9] for title in titles[-2:]], ["if r0 = 0", "if r0 > 0"])
+        # what a turn finds in a cell is what the one before has left there, whichever way it took
+        for one, held in ((found[2], "and(a[i], old T1)"), (found[3], "and(a[i], old T0)"), (found[4], "and(a[i], old T1)")):
+            self.assertEqual([text for _, text in one.said], [held])
+
+    def test_turns_each_with_a_last_round(self):
+        turn = "BNEZ r5 on{0}\nAAP a[r3] y[r3]\nBNEZ r4 out\non{0}: AAP a[r3] T{0}\nADDI r3 1\nSUBI r5 1\n"
+        (self.folder / "t").write_text("program f(a: word) -> y: word\nSETT r5\nSETI r3 0\nSETI r4 1\ntop: " + turn.format(1)
+                                       + turn.format(2) + "BNEZ r4 top\nout: DONE\n")
+        self.assertEqual(self.call("assemble", "t", "p").returncode, 0)
+        found = all_shown(Program.load(str(self.folder / "p")).find("f"), None)
+        self.assertEqual([one.part.said for one in found], [f"in the loop at 3, turn {turn} of 2, {which}" for turn in (1, 2)
+                                                            for which in ("in its last round", "in each round but the last, upwards")])
 
     def test_bodies_between_jumps(self):
         entry = self.compiled("op ones(a: word) -> y: word {\n  y = bitcount(a);\n}\n").find("ones")
         found = all_shown(entry, str(self.folder / "p.ops"))
-        # of a level: where it has no element (but at the lowest), an odd or an even number, at each pair, and the end
-        self.assertEqual([", or not" in one.lines[0] for one in found], [True, True, False, True, True, True, True, False, True])
-        pair, end = found[-2:]
-        self.assertIn("at each position of each position, upwards", pair.lines[0])
-        # the sum stands in cells from pair to pair, and goes to its row at the end
-        for one in (pair, end):
-            self.assertIn("~old y[i]", one.done[0].cells.values())
+        # of a level: where it has no pair, an even or an odd number of elements, two parts of a pair, and the end; the lowest level
+        # stands for itself, and the others in a loop
+        level = [(0, 1), (0, 2), (0, 2), (1, 1), (1, 2), (0, 1)]
+        inside = [(1, 2), *((loops + 1, ways) for loops, ways in level[1:])]
+        self.assertEqual([(one.part.said.count("in the loop at"), one.part.said.count("if r")) for one in found], level + inside)
+        self.assertRegex(found[-3].part.said, r"^in the loop at \d+, if r2 > 0 at \d+, in the loop at (\d+), upwards$")
+        # the sum stands in a cell from pair to pair, and goes to its row at the end
+        for one in (found[-3], found[-1]):
+            self.assertEqual(one.start["DCC0"], "old DCC0")
+        self.assertEqual(found[-1].done[-1].rows["y[i]"], "~old DCC0")
 
     def test_lines_are_short_and_values_have_numbers(self):
         entry = self.compiled(BIG).find("big")
@@ -178,8 +194,8 @@ class Steps(Folder):
             parts = all_shown(entry, ops)
             self.assertLessEqual(max(len(line) for one in parts for line in one.lines), WIDEST)
             self.assertTrue(parts[-1].said)
-        self.assertIn("downwards: line 3", parts[-1].lines[0])
-        self.assertIn("upwards: line 2", parts[0].lines[0])
+        self.assertIn("downwards:\n  line 3", "\n".join(parts[-1].lines))
+        self.assertIn("upwards:\n  line 2", "\n".join(parts[0].lines))
         names = {value.lstrip("~") for step in parts[-1].done for value in step.cells.values()}
         self.assertTrue({"x", "y", "z", "w"} & names, names)
 

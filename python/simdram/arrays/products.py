@@ -12,7 +12,7 @@ from .expressions import Value
 # the commands of each operation at a width n, as README's table of operations has them; of a block at most so many
 COMMANDS: typing.Dict[str, typing.Callable[[int], int]] = {
     "fill": lambda n: n, "shl1": lambda n: n, "add": lambda n: 9 * n + 1, "sub": lambda n: 6 * n + 1,
-    "mul": lambda n: 4 * n * n + 3 * n - 3 + n * (n - 1) // 2, "negative": lambda n: 6 * n + 2,
+    "mul": lambda n: (9 * n * n + n) // 2 - 2 + n % 2, "negative": lambda n: 6 * n + 2,
 }
 
 
