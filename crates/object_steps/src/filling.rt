@@ -83,7 +83,7 @@ pub(crate) fn fill_object<D: Dram>(
     requires passes { is_geometry g ≡ true }
     requires object { IsObject g o }
     requires rows { end_of o ≤ limit_of g }
-    requires room { (D.view dram.old).counters.aap < 2 ^ 62 }
+    requires room { (D.view dram.old).counters.aap < 2 ^ 62 + 2 ^ 60 }
     ensures borrow { D.borrow dram.new ≡ D.borrow dram.old }
     ensures kept { Kept (D.view dram.old) (D.view dram.new) }
     ensures did { OnOk result (Did (fill_events g o value) (D.view dram.old) (D.view dram.new)) }
@@ -147,7 +147,7 @@ pub fn fill<D: Dram>(
     requires begun { HasBegun (D.view dram.old) }
     requires geometry { (D.view dram.old).geometry ≡ g }
     requires lies { LiesOn g table.now }
-    requires room { (D.view dram.old).counters.aap < 2 ^ 62 }
+    requires room { (D.view dram.old).counters.aap < 2 ^ 62 + 2 ^ 60 }
     ensures borrow { D.borrow dram.new ≡ D.borrow dram.old }
     ensures kept { Kept (D.view dram.old) (D.view dram.new) }
     ensures reply { (operations : Routines) → IfOk result (λ reply. reply

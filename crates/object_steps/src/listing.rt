@@ -73,7 +73,7 @@ pub fn trsp_init<D: Dram>(
     requires geometry { (D.view dram.old).geometry ≡ g }
     requires lies { LiesOn g table.old }
     requires plain { IsPlain (Init name.now count n) }
-    requires room { (D.view dram.old).counters.aap < 2 ^ 62 }
+    requires room { (D.view dram.old).counters.aap < 2 ^ 62 + 2 ^ 60 }
     ensures borrow { D.borrow dram.new ≡ D.borrow dram.old }
     ensures kept { Kept (D.view dram.old) (D.view dram.new) }
     ensures reply { (operations : Routines) → IfOk result (λ reply. reply

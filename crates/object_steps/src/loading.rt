@@ -79,7 +79,7 @@ pub fn load<D: Dram>(
     requires geometry { (D.view dram.old).geometry ≡ g }
     requires lies { LiesOn g table.now }
     requires stage { length stage.old ≡ 128 * g.words }
-    requires room { (D.view dram.old).counters.writes < 2 ^ 62 }
+    requires room { (D.view dram.old).counters.writes < 2 ^ 62 + 2 ^ 60 }
     ensures borrow { D.borrow dram.new ≡ D.borrow dram.old }
     ensures kept { Kept (D.view dram.old) (D.view dram.new) }
     ensures stage { length stage.new ≡ length stage.old }

@@ -164,7 +164,7 @@ fn add_values<D: Dram, S: Sink>(
     requires rows { end_of o ≤ limit_of g }
     requires stage { length stage.old ≡ stage_rows o.width * g.words }
     requires room { length text.old.items < PIECE_BYTES }
-    requires reads { (D.view dram.old).counters.reads < 2 ^ 62 }
+    requires reads { (D.view dram.old).counters.reads < 2 ^ 62 + 2 ^ 60 }
     ensures borrow { D.borrow dram.new ≡ D.borrow dram.old }
     ensures kept { Kept (D.view dram.old) (D.view dram.new) }
     ensures sink_faults { (S.view out.old).faults ≤ (S.view out.new).faults }
@@ -231,7 +231,7 @@ pub fn print<D: Dram, S: Sink>(
     requires geometry { (D.view dram.old).geometry ≡ g }
     requires lies { LiesOn g table.now }
     requires stage { length stage.old ≡ 128 * g.words }
-    requires room { (D.view dram.old).counters.reads < 2 ^ 62 }
+    requires room { (D.view dram.old).counters.reads < 2 ^ 62 + 2 ^ 60 }
     ensures borrow { D.borrow dram.new ≡ D.borrow dram.old }
     ensures kept { Kept (D.view dram.old) (D.view dram.new) }
     ensures stage { length stage.new ≡ length stage.old }

@@ -331,8 +331,8 @@ all_done a b s t u nodes n ran read =
     } in d)
 
 pub room_left : (a b : Machine) (s t : ChipView) (nodes : List Node) → length nodes ≤ 64
-    → NodesRan nodes a b s t → AreBelow (2 ^ 61) s.counters
-    → AreBelow (2 ^ 61 + 2 ^ 60) t.counters
+    → NodesRan nodes a b s t → AreBelow (2 ^ 62) s.counters
+    → AreBelow (2 ^ 62 + 2 ^ 59) t.counters
 room_left a b s t nodes few ran room = node_room (table_in a) (free_name (table_in a))
     (count_of (table_in a) nodes) nodes a b s t few ran.ran room
 

@@ -205,8 +205,8 @@ node_refused start names count j front back node a b s t r why e p q =
 -- there is room for a node more
 pub node_room : (start : List Named) (names : ℕ → List ℕ) (count : ℕ) (front : List Node)
     (a b : Machine) (s t : ChipView) → length front ≤ 64
-    → Ran (script_from start names count 0 front) a b s t → AreBelow (2 ^ 61) s.counters
-    → AreBelow (2 ^ 61 + 2 ^ 60) t.counters
+    → Ran (script_from start names count 0 front) a b s t → AreBelow (2 ^ 62) s.counters
+    → AreBelow (2 ^ 62 + 2 ^ 59) t.counters
 node_room start names count front a b s t l p r =
     let n = script_length start names count 0 front in
     let m : length (script_from start names count 0 front) * (16 * WALK_MAX) ≤ 320

@@ -171,7 +171,7 @@ stopped_at script i a b s t u why p q =
     (stopped_then (take i script) (take 1 (drop i script)) a b s t u why p q))
 
 -- the instructions of nodes, and then of others
-script_more : (start : List Named) (names : ℕ → List ℕ) (count k : ℕ) (xs ys : List Node)
+pub script_more : (start : List Named) (names : ℕ → List ℕ) (count k : ℕ) (xs ys : List Node)
     → script_from start names count k (xs ++ ys)
     ≡ script_from start names count k xs ++ script_from start names count (k + length xs) ys
 script_more start names count k [] ys =

@@ -4,6 +4,7 @@ use Rattle.std.specs.Prelude.{Result, Ok, Err}
 use Rattle.dram_model.specs.View.{ChipView, Kept, Did}
 use Rattle.dram_model.specs.declared.dram.Counters.{Counters}
 use Rattle.dram_model.specs.declared.dram.ChipFault.{ChipFault}
+use Rattle.transpose_unit.specs.Stopped.{StoppedWithin}
 use Rattle.faults.specs.Counts.{Rose}
 use Rattle.uprog_code.specs.declared.TheConstants.{WALK_MAX}
 use Rattle.bbop_isa.specs.Forms.{Instruction}
@@ -54,6 +55,14 @@ pub record StoppedAt (why : Why) (script : List Instruction) (m : Machine) (chip
   pub did : Did (events_of_pieces (geometry_of m) (operations_by m) (turn_in m) (table_in m)
       (map piece_of before)) chip chip'
 
+-- the chip failed at one of them: every bank but one stands where a first part of their events
+-- leaves it
+pub record FailedAmong (script : List Instruction) (m : Machine) (chip chip' : ChipView) : Type 0
+  where
+    pub rose : Rose chip.faults chip'.faults
+    pub left : StoppedWithin (events_of_pieces (geometry_of m) (operations_by m) (turn_in m)
+        (table_in m) (map piece_of script)) chip.banks chip'.banks
+
 -- the instructions were done, or one was refused, or the chip failed
 abbrev pub Runs : List Instruction → Machine → Machine → ChipView → ChipView
     → Result (Option Why) ChipFault → Type 0
@@ -61,7 +70,7 @@ Runs script old new chip chip' (Ok None) = Ran script old new chip chip'
 Runs script old new chip chip' (Ok (Some why)) =
     (refused_in (geometry_of old) (operations_by old) (table_in old) script ≡ Some why)
     × StoppedAt why script old chip chip'
-Runs script old new chip chip' (Err fault) = Rose chip.faults chip'.faults
+Runs script old new chip chip' (Err fault) = FailedAmong script old chip chip'
 
 -- the first refused node of a query on a machine
 abbrev pub refused_node : Machine → List Node → Option (Why × ℕ)
@@ -80,4 +89,5 @@ abbrev pub NodesRun : List Node → Machine → Machine → ChipView → ChipVie
 NodesRun nodes old new chip chip' (Ok None) = NodesRan nodes old new chip chip'
 NodesRun nodes old new chip chip' (Ok (Some refused)) = (refused_node old nodes ≡ Some refused)
     × StoppedAt refused.0 (scan_script (table_in old) nodes) old chip chip'
-NodesRun nodes old new chip chip' (Err fault) = Rose chip.faults chip'.faults
+NodesRun nodes old new chip chip' (Err fault) =
+    FailedAmong (scan_script (table_in old) nodes) old chip chip'

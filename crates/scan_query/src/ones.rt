@@ -1,10 +1,11 @@
 //! The ones of a bit object, counted a word at a time.
 
 ghost use Rattle.std.specs.Prelude.{◌≡◌, ◌<◌, ◌≤◌, ◌-◌, ◌*◌, ◌^◌, ◌==◌, min, length, take, true};
-ghost use Rattle.std.specs.Prelude.{count_by, IfOk, OnOk, OnErr};
+ghost use Rattle.std.specs.Prelude.{◌+◌, [], count_by, IfOk, OnOk, OnErr};
 ghost use Rattle.bit_rows.specs.Bits.{bits, bits_of_words};
 ghost use Rattle.faults.specs.Counts.{Rose};
-ghost use Rattle.dram_model.specs.View.{DidRead, HasBegun, Kept};
+ghost use Rattle.transpose_unit.specs.Stopped.{StoppedWithin};
+ghost use Rattle.dram_model.specs.View.{DidRead, FailedIn, HasBegun, Kept};
 ghost use Rattle.dram_model.specs.Chip.{row_in};
 ghost use Rattle.dram_model.specs.Geometry.{is_geometry};
 ghost use Rattle.object_alloc.specs.Spelling.{IsObject};
@@ -76,7 +77,7 @@ fn ones_of_row<D: Dram>(
         (take columns (row_in row ((D.view dram.old).banks bank)))) }
     ensures few { IfOk result (λ n. n ≤ 65536) }
     ensures did { OnOk result (DidRead 1 (D.view dram.old) (D.view dram.new)) }
-    ensures failed { OnErr result (Rose (D.view dram.old).faults (D.view dram.new).faults) }
+    ensures failed { OnErr result (FailedIn bank (D.view dram.old) (D.view dram.new)) }
 {
     dram.read_row(bank, row, words)?;
     Ok(ones_below(words, columns))
@@ -96,7 +97,7 @@ pub(crate) fn ones_of<D: Dram>(
     requires object { IsObject g object }
     requires narrow { object.width ≡ 1 }
     requires stage { length stage.old ≡ 64 * g.words }
-    requires room { (D.view dram.old).counters.reads < 2 ^ 62 }
+    requires room { (D.view dram.old).counters.reads < 2 ^ 62 + 2 ^ 60 }
     ensures borrow { D.borrow dram.new ≡ D.borrow dram.old }
     ensures kept { Kept (D.view dram.old) (D.view dram.new) }
     ensures stage { length stage.new ≡ length stage.old }
@@ -104,6 +105,8 @@ pub(crate) fn ones_of<D: Dram>(
         (take object.count (columns g (D.view dram.old).banks object))) }
     ensures did { OnOk result (DidRead (segments g object) (D.view dram.old) (D.view dram.new)) }
     ensures failed { OnErr result (Rose (D.view dram.old).faults (D.view dram.new).faults) }
+    ensures left { OnErr result (StoppedWithin [] (D.view dram.old).banks
+        (D.view dram.new).banks) }
 {
     let words = usize::from(g.words);
     let columns = 64 * u32::from(g.words);

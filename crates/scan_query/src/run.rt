@@ -5,6 +5,7 @@ ghost use Rattle.std.specs.Prelude.{true, Some, None, IfOk, OnErr};
 ghost use Rattle.std.specs.List.{AllByRecursion};
 ghost use Rattle.std.specs.Result.{IsOkAnd};
 ghost use Rattle.faults.specs.Counts.{Rose};
+ghost use Rattle.transpose_unit.specs.Stopped.{StoppedWithin};
 ghost use Rattle.dram_model.specs.View.{HasBegun, Kept};
 ghost use Rattle.dram_model.specs.Elements.{segments_of};
 ghost use Rattle.object_alloc.specs.Listed.{Named};
@@ -47,7 +48,7 @@ pub(crate) fn run_nodes<D: Dram>(
     requires sources { AllByRecursion (sources_fit 64) (map node_of nodes.now) }
     requires plain { AllByRecursion IsPlain (scan_script (table_in machine.old)
         (map node_of nodes.now)) }
-    requires room { AreBelow (2 ^ 61) (D.view dram.old).counters }
+    requires room { AreBelow (2 ^ 62) (D.view dram.old).counters }
     ensures borrow { D.borrow dram.new ≡ D.borrow dram.old }
     ensures kept { Kept (D.view dram.old) (D.view dram.new) }
     ensures runs { NodesRun (map node_of nodes.now) machine.old machine.new (D.view dram.old)
@@ -103,7 +104,7 @@ pub fn run_query<D: Dram>(
     requires program { ImplementsAll (program_of machine.old) scan_text }
     requires query { IsScan (nodes_in query.now) }
     requires stage { length stage.old ≡ 64 * (geometry_of machine.old).words }
-    requires room { AreBelow (2 ^ 61) (D.view dram.old).counters }
+    requires room { AreBelow (2 ^ 62) (D.view dram.old).counters }
     ensures borrow { D.borrow dram.new ≡ D.borrow dram.old }
     ensures kept { Kept (D.view dram.old) (D.view dram.new) }
     ensures stage { length stage.new ≡ length stage.old }
@@ -132,6 +133,11 @@ pub fn run_query<D: Dram>(
         → StoppedAt why (scan_script (table_in machine.old) (nodes_in query.now)) machine.old
         (D.view dram.old) (D.view dram.new)) }
     ensures failed { OnErr result (Rose (D.view dram.old).faults (D.view dram.new).faults) }
+    // Where the chip fails, every bank but one stands where a first part of the events leaves it.
+    ensures left { OnErr result (StoppedWithin (events_of_pieces (geometry_of machine.old)
+        (operations_by machine.old) (turn_in machine.old) (table_in machine.old)
+        (pieces (scan_script (table_in machine.old) (nodes_in query.now))))
+        (D.view dram.old).banks (D.view dram.new).banks) }
 {
     let nodes = query.nodes.as_slice();
     let count = count_of(machine.table(), nodes);

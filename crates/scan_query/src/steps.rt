@@ -88,7 +88,7 @@ pub(crate) fn do_node<D: Dram>(
     requires sources { sources_fit 64 (node_of node.now) }
     requires plain { AllByRecursion IsPlain (instructions_for (names_in names.now) size.count
         size.width k (node_of node.now)) }
-    requires room { AreBelow (2 ^ 61 + 2 ^ 60) (D.view dram.old).counters }
+    requires room { AreBelow (2 ^ 62 + 2 ^ 59) (D.view dram.old).counters }
     ensures borrow { D.borrow dram.new ≡ D.borrow dram.old }
     ensures kept { Kept (D.view dram.old) (D.view dram.new) }
     ensures runs { Runs (instructions_for (names_in names.now) size.count size.width k

@@ -1,5 +1,5 @@
 -- What a step does to a chip.
-use Rattle.std.specs.Prelude.{◌≡◌, ℕ, ◌<◌, ◌^◌, List}
+use Rattle.std.specs.Prelude.{◌≡◌, ℕ, ◌+◌, ◌<◌, ◌^◌, List}
 use Rattle.dram_model.specs.declared.dram.Counters.{Counters}
 use Rattle.dram_model.specs.Chip.{Event, after, all_counted, Grew}
 use Rattle.dram_model.specs.View.{ChipView, with_reads}
@@ -11,9 +11,9 @@ pub record DidAndRead (events : List Event) (n : ℕ) (old new : ChipView) : Typ
   pub counters : new.counters ≡ with_reads n (all_counted events old.counters)
   pub log : Grew old.log new.log events
 
--- each counter is below 2^62
+-- each counter is below 2^62, or above it by what the steps before in one call may have added
 pub record HasRoom (counters : Counters) : Type 0 where
-  pub aap : counters.aap < 2 ^ 62
-  pub ap : counters.ap < 2 ^ 62
-  pub writes : counters.writes < 2 ^ 62
-  pub reads : counters.reads < 2 ^ 62
+  pub aap : counters.aap < 2 ^ 62 + 2 ^ 60
+  pub ap : counters.ap < 2 ^ 62 + 2 ^ 60
+  pub writes : counters.writes < 2 ^ 62 + 2 ^ 60
+  pub reads : counters.reads < 2 ^ 62 + 2 ^ 60

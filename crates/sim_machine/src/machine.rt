@@ -1,7 +1,7 @@
 //! The machine.
 
 ghost use Rattle.std.specs.Prelude.{◌≡◌, ℕ, ◌*◌, ◌<◌, ◌≤◌, ◌^◌, ◌∷◌, ◌++◌, [], length, map};
-ghost use Rattle.std.specs.Prelude.{true, false, Ok, OnOk, OnErr, ◌⊎◌, IfOk, IsErrOf};
+ghost use Rattle.std.specs.Prelude.{◌+◌, true, false, Ok, OnOk, OnErr, ◌⊎◌, IfOk, IsErrOf};
 ghost use Rattle.std.specs.List.{AllByRecursion};
 ghost use Rattle.host_edge.specs.Views.{Known, AppendsPart};
 ghost use Rattle.faults.specs.Counts.{Rose};
@@ -295,7 +295,7 @@ impl<'a> Machine<'a> {
         requires begun { HasBegun (D.view dram.old) }
         requires geometry { (D.view dram.old).geometry ≡ geometry_of self.old }
         requires stands { has_name (table_in self.old) name.now ≡ true }
-        requires room { (D.view dram.old).counters.reads < 2 ^ 62 }
+        requires room { (D.view dram.old).counters.reads < 2 ^ 62 + 2 ^ 60 }
         ensures borrow { D.borrow dram.new ≡ D.borrow dram.old }
         ensures kept { Kept (D.view dram.old) (D.view dram.new) }
         ensures sink_faults { (S.view out.old).faults ≤ (S.view out.new).faults }
@@ -343,7 +343,7 @@ impl<'a> Machine<'a> {
     ) -> Result<Reply, ChipFault>
         requires begun { HasBegun (D.view dram.old) }
         requires geometry { (D.view dram.old).geometry ≡ geometry_of self.old }
-        requires room { (D.view dram.old).counters.writes < 2 ^ 62 }
+        requires room { (D.view dram.old).counters.writes < 2 ^ 62 + 2 ^ 60 }
         ensures borrow { D.borrow dram.new ≡ D.borrow dram.old }
         ensures kept { Kept (D.view dram.old) (D.view dram.new) }
         ensures same { self.new ≡ self.old }

@@ -138,8 +138,8 @@ pub(crate) fn do_wave<D: Dram>(
     requires few { length instrs.now ≤ 16 }
     requires bbops { AreBbops (map view_of instrs.now) }
     requires plain { AllByRecursion IsPlain (map view_of instrs.now) }
-    requires aap_room { (D.view dram.old).counters.aap < 2 ^ 62 }
-    requires ap_room { (D.view dram.old).counters.ap < 2 ^ 62 }
+    requires aap_room { (D.view dram.old).counters.aap < 2 ^ 62 + 2 ^ 60 }
+    requires ap_room { (D.view dram.old).counters.ap < 2 ^ 62 + 2 ^ 60 }
     ensures borrow { D.borrow dram.new ≡ D.borrow dram.old }
     ensures kept { Kept (D.view dram.old) (D.view dram.new) }
     ensures replies { IfOk result (λ replies. replies.items ≡ map (reply_to setting.now.geometry

@@ -1,6 +1,7 @@
 pub mod Rounds
 pub mod Runs
 pub mod Exits
+pub mod Left
 pub mod Columns
 pub mod Strangers
 pub mod Flipping

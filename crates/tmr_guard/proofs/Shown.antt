@@ -4,6 +4,8 @@ use Rattle.std.proofs.Common.{Some, None, refl, sym, ◌∙◌, ap, subst, arith
 use Rattle.host_edge.specs.Views.{SinkView, Known, AppendsPart}
 use Rattle.faults.specs.Counts.{Rose}
 use Rattle.dram_model.specs.View.{ChipView, DidRead}
+use Rattle.transpose_unit.specs.Stopped.{StoppedWithin}
+use Rattle.transpose_unit.proofs.Stopping.{stopped_before}
 use Rattle.object_steps.specs.Lines.{DidReadAtMost}
 use Rattle.bit_rows.specs.declared.TheConstants.{WIDTH_MAX}
 use Rattle.uprog_code.specs.declared.TheConstants.{WALK_MAX}
@@ -144,11 +146,12 @@ module _ (m new : Machine) (number : ℕ) (name : List ℕ) (chip chip' : ChipVi
     pub shown_broke : (k : List ℕ) (fault : StepFault) → k ≡ copy
         → has_name (table_in m) k ≡ true
         → (fault ≡ ChipFault → Rose chip.faults chip'.faults)
+        → (fault ≡ ChipFault → StoppedWithin [] chip.banks chip'.banks)
         → (fault ≡ WriteFault → Rose sink.faults sink'.faults)
         → (fault ≡ WriteFault → DidReadAtMost (reads_by m (Print k)) chip chip')
         → Known (AppendsPart (line_shown m number chip.banks k name)) sink.sent sink'.sent
         → Broke m number (Print name) chip chip' sink sink' fault
-    shown_broke k fault is stands chip_rose sink_rose read part =
+    shown_broke k fault is stands chip_rose left sink_rose read part =
         let g = geometry_of m in
         let o = operations_by m in
         let has : has_name (table_in m) copy ≡ true =
@@ -169,6 +172,7 @@ module _ (m new : Machine) (number : ℕ) (name : List ℕ) (chip chip' : ChipVi
         ∙ sym (ap (λ n. reads_by m (Print n)) is) in
         record {
           chip_rose = chip_rose;
+          left = λ e. stopped_before [] (events_by m (Print name)) chip.banks chip'.banks (left e);
           sink_rose = sink_rose;
           unsent = λ e p. absurd (cc);
           done = λ e p. absurd (cc);
@@ -191,6 +195,7 @@ module _ (m new : Machine) (number : ℕ) (name : List ℕ) (chip chip' : ChipVi
         ap (λ r. joined none_yet (reply_by r (record { aap = 0; ap = 0 }) ∷ [])) refused in
         record {
           chip_rose = λ e. absurd (cc);
+          left = λ e. absurd (cc);
           sink_rose = λ e. rose;
           unsent = λ e. absurd (cc);
           done = λ e p. absurd (cc);
@@ -228,9 +233,11 @@ line_is m number chip instr reply h e =
 -- the chip failed, and nothing was put
 pub silent_broke : (m : Machine) (number : ℕ) (instr : Instruction) (chip chip' : ChipView)
     (sink : SinkView) → Rose chip.faults chip'.faults
+    → StoppedWithin (events_by m instr) chip.banks chip'.banks
     → Broke m number instr chip chip' sink sink ChipFault
-silent_broke m number instr chip chip' sink rose = record {
+silent_broke m number instr chip chip' sink rose left = record {
   chip_rose = λ e. rose;
+  left = λ e. left;
   sink_rose = λ e. absurd (cc);
   unsent = λ e h. refl;
   done = λ e. absurd (cc);
@@ -247,6 +254,7 @@ pub reply_broke : (m : Machine) (number : ℕ) (instr : Instruction) (reply : Re
     → Broke m number instr chip chip' sink sink' WriteFault
 reply_broke m number instr reply chip chip' sink sink' h e did rose part = record {
   chip_rose = λ f. absurd (cc);
+  left = λ f. absurd (cc);
   sink_rose = λ f. rose;
   unsent = λ f. absurd (cc);
   done = λ f p. did;

@@ -7,6 +7,7 @@ use Rattle.dram_model.specs.declared.geometry.Geometry.{Geometry}
 use Rattle.dram_model.specs.declared.dram.Counters.{Counters}
 use Rattle.dram_model.specs.Chip.{Banks, Event}
 use Rattle.dram_model.specs.View.{ChipView}
+use Rattle.transpose_unit.specs.Stopped.{StoppedWithin}
 use Rattle.wave_model.specs.Schedule.{Turn}
 use Rattle.object_alloc.specs.Listed.{Named}
 use Rattle.bbop_isa.specs.Forms.{Instruction}
@@ -114,12 +115,12 @@ abbrev pub RepliedBy : Machine → Machine → Instruction → Reply → ChipVie
 RepliedBy old new instr reply chip chip' = Replied (geometry_of old) (program_of old) (turn_in old)
     (turn_in new) (table_in old) (table_in new) instr reply chip chip'
 
--- each counter is below 2^61
+-- each counter is below 2^62
 pub record HasMoreRoom (counters : Counters) : Type 0 where
-  pub aap : counters.aap < 2 ^ 61
-  pub ap : counters.ap < 2 ^ 61
-  pub writes : counters.writes < 2 ^ 61
-  pub reads : counters.reads < 2 ^ 61
+  pub aap : counters.aap < 2 ^ 62
+  pub ap : counters.ap < 2 ^ 62
+  pub writes : counters.writes < 2 ^ 62
+  pub reads : counters.reads < 2 ^ 62
 
 -- a guarded instruction was done, and its line was put
 pub record Guarded (old new : Machine) (number : ℕ) (instr : Instruction) (chip chip' : ChipView)
@@ -130,11 +131,14 @@ pub record Guarded (old new : Machine) (number : ℕ) (instr : Instruction) (chi
   pub sent : Known (λ before after. after ≡ before ++ line_by old number chip.banks instr)
       sink.sent sink'.sent
 
--- A count of faults rose. Where that is the chip's, of no line but a print's a part was put. Where
--- it is the sink's, all was done, but of a print perhaps not each row was read.
+-- A count of faults rose. Where that is the chip's, every bank but one stands where a first part of
+-- the instruction's events leaves it, and of no line but a print's a part was put. Where it is the
+-- sink's, all was done, but of a print perhaps not each row was read.
 pub record Broke (old : Machine) (number : ℕ) (instr : Instruction) (chip chip' : ChipView)
     (sink sink' : SinkView) (fault : StepFault) : Type 0 where
   pub chip_rose : fault ≡ ChipFault → Rose chip.faults chip'.faults
+  pub left : fault ≡ ChipFault
+      → StoppedWithin (events_by old instr) chip.banks chip'.banks
   pub sink_rose : fault ≡ WriteFault → Rose sink.faults sink'.faults
   pub unsent : fault ≡ ChipFault → is_print instr ≡ false → sink' ≡ sink
   pub done : fault ≡ WriteFault → is_print instr ≡ false

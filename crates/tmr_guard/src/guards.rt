@@ -12,11 +12,12 @@ ghost use Rattle.object_alloc.specs.Spelling.{image_bytes};
 ghost use Rattle.bbop_isa.specs.Forms.{view_of, Print};
 ghost use Rattle.machine_model.specs.Agrees.{IsPlain};
 ghost use Rattle.machine_model.specs.Opened.{rows_in_banks};
+ghost use Rattle.machine_model.specs.Pieces.{piece_of};
 ghost use Rattle.machine_model.specs.Script.{counted_in, plus as sum};
 ghost use Rattle.object_steps.specs.Lines.{DidReadAtMost};
 ghost use Rattle.object_steps.specs.Objects.{RisesAtMost};
 ghost use Rattle.sim_machine.specs.Machine.{GoesOn, IsLaidOut, file_of, geometry_of, is_print};
-ghost use Rattle.sim_machine.specs.Machine.{table_in, turn_in};
+ghost use Rattle.sim_machine.specs.Machine.{events_by as plain_events, table_in, turn_in};
 ghost use Rattle.sim_machine.specs.Steps.{DidAndRead, HasRoom};
 ghost use Rattle.guard_model.specs.Guarded.{on_copies, on_copy, plain_ones, removal};
 ghost use Rattle.guard_model.specs.Named.{has_long_name};
@@ -69,6 +70,8 @@ fn done<D: Dram>(m: &mut Machine<'_>, instr: &Instr, dram: &mut D) -> Result<Rep
     ensures rises { OnOk result (RisesAtMost (16 * WALK_MAX) (D.view dram.old).counters
         (D.view dram.new).counters) }
     ensures failed { OnErr result (Rose (D.view dram.old).faults (D.view dram.new).faults) }
+    ensures left { OnErr result (StoppedWithin (plain_events m.old (piece_of (view_of instr.now)))
+        (D.view dram.old).banks (D.view dram.new).banks) }
 {
     match m.step(0, instr, dram, &mut Dropped) {
         Ok(reply) => Ok(reply),
@@ -122,6 +125,9 @@ impl<'a> Guard<'a> {
         ensures rises { OnOk result (RisesAtMost (16 * WALK_MAX) (D.view dram.old).counters
             (D.view dram.new).counters) }
         ensures failed { OnErr result (Rose (D.view dram.old).faults (D.view dram.new).faults) }
+        ensures left { OnErr result (StoppedWithin (plain_events (machine_in self.old)
+            (piece_of (on_copy letter (view_of instr.now)))) (D.view dram.old).banks
+            (D.view dram.new).banks) }
     {
         accepted_programs_are_safe();
         match instr {
@@ -159,6 +165,8 @@ impl<'a> Guard<'a> {
         ensures rises { OnOk result (RisesAtMost (16 * WALK_MAX) (D.view dram.old).counters
             (D.view dram.new).counters) }
         ensures failed { OnErr result (Rose (D.view dram.old).faults (D.view dram.new).faults) }
+        ensures left { OnErr result (StoppedWithin [] (D.view dram.old).banks
+            (D.view dram.new).banks) }
     {
         match instr {
             Instr::Init { name, .. } => {
@@ -190,6 +198,8 @@ impl<'a> Guard<'a> {
         ensures rises { OnOk result (RisesAtMost (80 * WALK_MAX) (D.view dram.old).counters
             (D.view dram.new).counters) }
         ensures failed { OnErr result (Rose (D.view dram.old).faults (D.view dram.new).faults) }
+        ensures left { OnErr result (StoppedWithin (events_by (machine_in self.old)
+            (view_of instr.now)) (D.view dram.old).banks (D.view dram.new).banks) }
     {
         let x = match self.plain(b'x', instr, dram)? {
             Reply::Done(counts) => counts,
@@ -229,6 +239,8 @@ impl<'a> Guard<'a> {
         ensures rises { OnOk result (RisesAtMost (80 * WALK_MAX) (D.view dram.old).counters
             (D.view dram.new).counters) }
         ensures failed { OnErr result (Rose (D.view dram.old).faults (D.view dram.new).faults) }
+        ensures left { OnErr result (StoppedWithin (events_by (machine_in self.old)
+            (view_of instr.now)) (D.view dram.old).banks (D.view dram.new).banks) }
     {
         match instr {
             Instr::Order(_) => match self.plain(b'x', instr, dram) {
@@ -371,11 +383,14 @@ impl<'a> Guard<'a> {
             ++ line_by (machine_in self.old) number (D.view dram.old).banks (view_of instr.now))
             (S.view out.old).sent (S.view out.new).sent) }
 
-        // After a fault nothing is said of the table. Of no line but a print's is a part put where
-        // the chip fails. Where the sink fails, all was done, but of a print perhaps not each row
-        // was read.
+        // After a fault nothing is said of the table. Where the chip fails, every bank but one
+        // stands where a first part of the events leaves it, and of no line but a print's a part is
+        // put. Where the sink fails, all was done, but of a print perhaps not each row was read.
         ensures chip_fault { IsErrOf result StepFault.ChipFault
             → Rose (D.view dram.old).faults (D.view dram.new).faults }
+        ensures left { IsErrOf result StepFault.ChipFault
+            → StoppedWithin (events_by (machine_in self.old) (view_of instr.now))
+            (D.view dram.old).banks (D.view dram.new).banks }
         ensures unsent { IsErrOf result StepFault.ChipFault
             → is_print (view_of instr.now) ≡ false → S.view out.new ≡ S.view out.old }
         ensures write_fault { IsErrOf result StepFault.WriteFault

@@ -76,6 +76,17 @@ stopped_later es fs a b c did s = record {
       ∙ ap (λ (banks : Banks). banks i) (sym (after-append es s.done a));
 }
 
+-- and before others
+pub stopped_before : (es fs : List Event) (a b : Banks) → StoppedWithin es a b
+    → StoppedWithin (es ++ fs) a b
+stopped_before es fs a b s = record {
+  done = s.done;
+  left = s.left ++ fs;
+  all = sym (append_assoc s.done s.left fs) ∙ ap (λ (l : List Event). l ++ fs) s.all;
+  bank = s.bank;
+  others = s.others;
+}
+
 -- where it is known at which event
 pub stopped_at_event : (events : List Event) (a b : ChipView) → StoppedIn events a b
     → StoppedWithin events a.banks b.banks

@@ -63,7 +63,7 @@ pub fn write_object<D: Dram>(
     requires small { All (λ v. v < 2 ^ n) values.now }
     requires some { 0 < length values.now }
     requires fits { length values.now ≤ column_count g * g.banks }
-    requires room { (D.view dram.old).counters.writes < 2 ^ 62 }
+    requires room { (D.view dram.old).counters.writes < 2 ^ 62 + 2 ^ 60 }
     ensures borrow { D.borrow dram.new ≡ D.borrow dram.old }
     ensures kept { Kept (D.view dram.old) (D.view dram.new) }
 

@@ -1,6 +1,6 @@
 //! Runs microprograms on several banks at once.
 
-ghost use Rattle.std.specs.Prelude.{◌≡◌, ℕ, ◌<◌, ◌≤◌, ◌^◌, length, map, All, OnOk, OnErr};
+ghost use Rattle.std.specs.Prelude.{◌≡◌, ℕ, ◌+◌, ◌<◌, ◌≤◌, ◌^◌, length, map, All, OnOk, OnErr};
 ghost use Rattle.dram_model.specs.Column.{run};
 ghost use Rattle.dram_model.specs.View.{HasBegun, Kept, Did};
 ghost use Rattle.uprog_ctl.specs.Events.{risen};
@@ -52,8 +52,8 @@ pub fn run_wave<D: Dram, F: Fetch, P: Picker>(
     requires few_jobs { length jobs.now ≤ 16 }
     requires jobs { All (CanRun (D.view dram.old).geometry)
         (bound_jobs F.shape F.code jobs.now) }
-    requires aap_room { (D.view dram.old).counters.aap < 2 ^ 62 }
-    requires ap_room { (D.view dram.old).counters.ap < 2 ^ 62 }
+    requires aap_room { (D.view dram.old).counters.aap < 2 ^ 62 + 2 ^ 60 }
+    requires ap_room { (D.view dram.old).counters.ap < 2 ^ 62 + 2 ^ 60 }
     ensures borrow { D.borrow dram.new ≡ D.borrow dram.old }
     ensures kept { Kept (D.view dram.old) (D.view dram.new) }
     ensures did { OnOk result (Did (wave_events P.rule (D.view dram.old).geometry.banks

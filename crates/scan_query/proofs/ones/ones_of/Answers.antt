@@ -2,7 +2,9 @@ use Rattle.std.proofs.Common.{◌≡◌, ◌∙◌, ◌<◌, ℕ, ap, arith, len
 use Rattle.dram_model.specs.declared.geometry.Geometry.{Geometry}
 use Rattle.dram_model.specs.Elements.{column_count}
 use Rattle.dram_model.proofs.EventLaws.{Kept-more, DidRead-more}
+use Rattle.std.proofs.lemmas.Result.{err_from_is_err_and}
 use Rattle.scan_query.proofs.Counting.{banks_counted, length_put_back}
+use Rattle.scan_query.proofs.Failing.{read_failed}
 use Rattle.scan_query.proofs.ones.ones_of.Goals as goal
 
 pub banks-preserved : goal.banks-preserved
@@ -37,3 +39,10 @@ banks-preserved g c =
           → (g.D.Dram.view c.args.dram.now).geometry ≡ c.args.g
           → b < (g.D.Dram.view c.args.dram.now).geometry.banks
       below_all b l m e = let same = ap (λ (s : Geometry). s.banks) e in omega (arith, l, m, same)
+
+pub returns-in_err-found-clause-left : goal.returns-in_err-found-clause-left
+returns-in_err-found-clause-left g c =
+    let view = g.D.Dram.view in
+    let p = err_from_is_err_and c.from_residual.result c.from_residual.ensures.1 in
+    rw p.1 (read_failed c.banks.bank c.banks.bank (view c.args.dram.now) (view c.banks.dram)
+    (view c.ones_of_row.new.dram) c.banks.invariant.did c.in_err-found.ensures.failed.others)

@@ -2,6 +2,7 @@ use Rattle.std.proofs.Common.{◌∙◌, ap, sym, subst, take, drop, map, length
 use Rattle.std.proofs.Common.{arith}
 use Rattle.std.proofs.Common.{◌<◌, ◌+◌, ℕ, None, get_or}
 use Rattle.std.specs.List.{AllByRecursion}
+use Rattle.std.proofs.lemmas.Result.{err_from_is_err_and}
 use Rattle.object_alloc.specs.Listed.{Named}
 use Rattle.bbop_isa.specs.Forms.{Instruction}
 use Rattle.machine_model.specs.Agrees.{IsPlain}
@@ -12,11 +13,12 @@ use Rattle.scan_model.specs.Instructions.{count_of, script_from, node_instructio
 use Rattle.scan_model.specs.Names.{free_name}
 use Rattle.scan_query.specs.Queries.{node_of, names_in, sources_fit, width_in}
 use Rattle.scan_query.specs.Queries.{instructions_for}
-use Rattle.scan_query.specs.Running.{Ran, Runs}
+use Rattle.scan_query.specs.Running.{FailedAmong, Ran, Runs}
 use Rattle.scan_query.proofs.Nodewise.{next_instructions, left_with, front_with, front_length}
 use Rattle.scan_query.proofs.Nodewise.{all_front}
 use Rattle.scan_query.proofs.Nodewise.{all_back, node_done, node_allowed, node_refused, node_room}
 use Rattle.scan_query.proofs.Nodewise.{at_of}
+use Rattle.scan_query.proofs.Failing.{failed_node}
 use Rattle.scan_query.proofs.Stopping.{stopped_node}
 use Rattle.scan_query.proofs.run.run_nodes.Goals as goal
 
@@ -171,3 +173,41 @@ nodes-preserved g c =
           (node_done start names count j front node m0 m m2 s t u size c.nodes.invariant.ran
           runs);
     }
+
+pub returns-in_err-why-clause-runs : goal.returns-in_err-why-clause-runs
+returns-in_err-why-clause-runs g c =
+    let start = table_in c.args.machine.now in
+    let xs = c.args.nodes.now in
+    let j = c.nodes.node-index in
+    let node = node_of c.node-item.result in
+    let count = count_of start (map node_of xs) in
+    let names = free_name start in
+    let below : j < length xs = omega (arith, c.nodes-test.true, c.nodes.auto.node-index-end) in
+    let at = at_of xs j c.node-item.result c.node-item.result below c.node-item.is in
+    let left = left_with node_of xs j c.node-item.result at in
+    let sources = subst (AllByRecursion (sources_fit 64)) left c.nodes.invariant.sources in
+    let plain = subst (λ (ns : List Node). AllByRecursion IsPlain
+    (script_from start names count j ns)) left c.nodes.invariant.plain in
+    let same = next_instructions node_of xs j c.nodes.k c.node-item.result c.as_slice.result.now
+    c.deref.result.now start count c.count_of-count.result c.from.result
+    at (omega (arith, below, c.requires.few)) c.nodes.invariant.place c.from.ensures
+    (λ i l. ap (λ (ns : List (List ℕ)). names_in ns i) c.as_slice.ensures.value
+    ∙ c.free_names-names.ensures.free i l
+    ∙ ap (λ (t : List Named). free_name t i) c.table-2.ensures.objects)
+    (c.deref.ensures.0 ∙ c.widths_of-widths.ensures.widths
+    ∙ ap (λ (t : List Named). map (width_in t) (map node_of xs)) c.table-3.ensures.objects)
+    (c.count_of-count.ensures ∙ ap (λ (t : List Named). count_of t (map node_of xs))
+    c.table.ensures.objects) sources.0 in
+    let view = g.D.Dram.view in
+    let m0 = c.args.machine.now in
+    let m = c.nodes.machine in
+    let m2 = c.do_node.new.machine in
+    let s = view c.args.dram.now in
+    let t = view c.nodes.dram in
+    let u = view c.do_node.new.dram in
+    let size = front_length node_of xs j c.node-item.result at in
+    let p = err_from_is_err_and c.from_residual.result c.from_residual.ensures.1 in
+    let failed = subst (λ (script : List Instruction). FailedAmong script m t u) same
+    c.in_err-why.ensures.runs in
+    rw p.1 (failed_node node_of xs start names count j c.node-item.result m0 m s t u size
+    (front_with node_of xs j c.node-item.result at) c.nodes.invariant.ran failed)

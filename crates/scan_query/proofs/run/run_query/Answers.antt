@@ -16,7 +16,9 @@ use Rattle.scan_model.specs.Checks.{checked}
 use Rattle.scan_model.specs.Names.{free_name}
 use Rattle.scan_model.specs.Queries.{Node, size}
 use Rattle.scan_query.specs.Queries.{node_of, nodes_in, sources_fit}
-use Rattle.scan_query.specs.Running.{NodesRan, NodesRun, StoppedAt, refused_node}
+use Rattle.std.proofs.lemmas.Result.{err_from_is_err_and}
+use Rattle.scan_query.specs.Running.{FailedAmong, NodesRan, NodesRun, StoppedAt, refused_node}
+use Rattle.scan_query.proofs.Failing.{failed_after, failed_in}
 use Rattle.scan_query.proofs.Answering.{all_done, answer_checked, answer_done, answer_refused}
 use Rattle.scan_query.proofs.Answering.{asked}
 use Rattle.scan_query.proofs.Answering.{check_says, counters_end, counts_after, few_nodes, goes_on}
@@ -412,3 +414,36 @@ returns-clause-stopped g c why k none refused =
     (subst (λ r. NodesRun (map node_of c.as_slice-nodes.result.now) a b s t (Ok r))
     c.in_default-2.is c.in_ok-why.ensures.runs) in
     absurd (not_both (refused_node a nodes) (why, k) refused ran.allowed)
+
+pub returns-in_err-why-clause-failed : goal.returns-in_err-why-clause-failed
+returns-in_err-why-clause-failed g c =
+    let p = err_from_is_err_and c.from_residual.result c.from_residual.ensures.1 in
+    rw p.1 c.in_err-why.ensures.runs.rose
+
+pub returns-in_err-why-clause-left : goal.returns-in_err-why-clause-left
+returns-in_err-why-clause-left g c =
+    let a = c.args.machine.now in
+    let s = g.D.Dram.view c.args.dram.now in
+    let t = g.D.Dram.view c.run_nodes.new.dram in
+    let nodes = nodes_in c.args.query.now in
+    let same = ap (map node_of) c.as_slice-nodes.ensures.value in
+    let failed = subst (λ (ns : List Node). FailedAmong (scan_script (table_in a) ns) a s t) same
+    c.in_err-why.ensures.runs in
+    let p = err_from_is_err_and c.from_residual.result c.from_residual.ensures.1 in
+    rw p.1 (failed_in a s t nodes failed)
+
+pub returns-in_err-found-clause-left : goal.returns-in_err-found-clause-left
+returns-in_err-found-clause-left g c =
+    let a = c.args.machine.now in
+    let b = c.run_nodes.new.machine in
+    let s = g.D.Dram.view c.args.dram.now in
+    let t = g.D.Dram.view c.run_nodes.new.dram in
+    let u = g.D.Dram.view c.ones_of.new.dram in
+    let nodes = nodes_in c.args.query.now in
+    let same = ap (map node_of) c.as_slice-nodes.ensures.value in
+    let ran : NodesRan nodes a b s t = subst (λ (ns : List Node). NodesRan ns a b s t) same
+    (subst (λ r. NodesRun (map node_of c.as_slice-nodes.result.now) a b s t (Ok r))
+    c.in_default-2.is c.in_ok-why.ensures.runs) in
+    let p = err_from_is_err_and c.from_residual-in_err-found.result
+    c.from_residual-in_err-found.ensures.1 in
+    rw p.1 (failed_after a b s t u nodes ran c.in_err-found.ensures.left)

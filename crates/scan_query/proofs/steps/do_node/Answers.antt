@@ -1,7 +1,9 @@
 use Rattle.std.proofs.Common.{◌∙◌, subst, take, drop, Ok}
+use Rattle.std.proofs.lemmas.Result.{err_from_is_err_and}
 use Rattle.scan_query.specs.Queries.{instructions_for, names_in, node_of}
 use Rattle.scan_query.specs.Running.{Runs}
 use Rattle.scan_query.proofs.Running.{refused_at, took_one}
+use Rattle.scan_query.proofs.Failing.{failed_at}
 use Rattle.scan_query.proofs.Stopping.{stopped_at}
 use Rattle.scan_query.proofs.steps.do_node.Goals as goal
 
@@ -33,3 +35,13 @@ instrs-preserved g c =
           (view c.args.dram.now) (view c.instrs.dram) (view c.do_at.new.dram)
           c.instrs.invariant.ran runs;
     }
+
+pub returns-in_err-why-clause-runs : goal.returns-in_err-why-clause-runs
+returns-in_err-why-clause-runs g c =
+    let view = g.D.Dram.view in
+    let script = instructions_for (names_in c.args.names.now) c.args.size.count c.args.size.width
+    c.args.k (node_of c.args.node.now) in
+    let p = err_from_is_err_and c.from_residual.result c.from_residual.ensures.1 in
+    rw p.1 (failed_at script c.instrs.i c.args.machine.now c.instrs.machine
+    (view c.args.dram.now) (view c.instrs.dram) (view c.do_at.new.dram) c.instrs.invariant.ran
+    c.in_err-why.ensures.runs)

@@ -1,5 +1,6 @@
-use Rattle.std.proofs.Common.{sym, ◌∙◌}
+use Rattle.std.proofs.Common.{refl, sym, ◌∙◌}
 use Rattle.bbop_isa.specs.Forms.{view_of}
+use Rattle.scan_query.proofs.Failing.{failed_one}
 use Rattle.scan_query.proofs.Stopping.{runs_refused}
 use Rattle.scan_query.proofs.steps.do_one.Goals as goal
 
@@ -9,3 +10,10 @@ returns-in-Ok-Refused-clause-runs g c =
     (g.D.Dram.view c.args.dram.now) (g.D.Dram.view c.step.new.dram) c.in-Ok-Refused.why
     (sym c.in-Ok-Refused.field-0-is ∙ c.in-Ok-Refused.ensures.reply) c.requires.silent
     c.in-Ok-Refused.ensures.did
+
+pub returns-in-Err-ChipFault-clause-runs : goal.returns-in-Err-ChipFault-clause-runs
+returns-in-Err-ChipFault-clause-runs g c =
+    failed_one (view_of c.args.instr.now) c.args.machine.now (g.D.Dram.view c.args.dram.now)
+    (g.D.Dram.view c.step.new.dram)
+    (c.in-Err-ChipFault.ensures.chip_fault (rw c.in-Err-ChipFault.field-0-is refl)).rose
+    (c.in-Err-ChipFault.ensures.left (rw c.in-Err-ChipFault.field-0-is refl))

@@ -15,7 +15,7 @@ returns-in_default-do_case-clause-stopped g c files cases =
     c.args.out.now)
     (g.D.Dram.view c.args.chip.now) (g.D.Dram.view c.do_case.new.chip)
     (program_is c.args.case c.deref.result.now f) c.do_case.ensures.kept.faults
-    c.in_default-do_case.ensures.failed
+    c.in_default-do_case.ensures.failed (c.in_default-do_case.ensures.left f)
 
 pub returns-then-is_err-clause-stopped : goal.returns-then-is_err-clause-stopped
 returns-then-is_err-clause-stopped g c files cases =

@@ -1,4 +1,4 @@
-use Rattle.std.proofs.Common.{ap}
+use Rattle.std.proofs.Common.{ap, refl}
 use Rattle.bbop_isa.specs.Forms.{view_of}
 use Rattle.sim_machine.specs.Machine.{geometry_of, program_of, table_in, turn_in}
 use Rattle.tmr_guard.proofs.Runs.{ran_one}
@@ -15,3 +15,7 @@ returns-in-Ok-clause-did g c =
           (ap turn_in c.in-Ok.ensures.machine) c.in-Ok.ensures.did;
       answer = c.in-Ok.ensures.reply;
     }
+
+pub returns-in-Err-ChipFault-clause-left : goal.returns-in-Err-ChipFault-clause-left
+returns-in-Err-ChipFault-clause-left g c =
+    c.in-Err-ChipFault.ensures.left (rw c.in-Err-ChipFault.field-0-is refl)

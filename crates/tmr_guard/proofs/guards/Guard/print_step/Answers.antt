@@ -38,6 +38,7 @@ returns-in-Err-clause-came g c =
     (g.S.Sink.view c.args.out.now) (g.S.Sink.view c.print_as.new.out)
     k c.in-Err.fault c.copy_name-copy.ensures has
     (λ e. (c.in-Err.ensures.chip_fault (ap Err e)).rose)
+    (λ e. c.in-Err.ensures.left (ap Err e))
     (λ e. c.in-Err.ensures.write_fault (ap Err e)) (λ e. c.in-Err.ensures.read (ap Err e))
     c.in-Err.ensures.part
 

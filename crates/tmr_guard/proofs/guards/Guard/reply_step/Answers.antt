@@ -7,7 +7,7 @@ pub returns-in-Err-clause-came : goal.returns-in-Err-clause-came
 returns-in-Err-clause-came g c =
     silent_broke (machine_in c.args.self.now) c.args.number (view_of c.args.instr.now)
     (g.D.Dram.view c.args.dram.now) (g.D.Dram.view c.reply_to.new.dram)
-    (g.S.Sink.view c.args.out.now) c.in-Err.ensures.failed
+    (g.S.Sink.view c.args.out.now) c.in-Err.ensures.failed c.in-Err.ensures.left
 
 pub returns-in-Ok-put_reply-clause-came : goal.returns-in-Ok-put_reply-clause-came
 returns-in-Ok-put_reply-clause-came g c =

@@ -66,3 +66,8 @@ returns-clause-read g c =
 pub returns-clause-part : goal.returns-clause-part
 returns-clause-part g c =
     when_err _ _ _ _ _ _ _ _ c.step_of.result (λ f h. h.part) c.step_of.ensures.came
+
+pub returns-clause-left : goal.returns-clause-left
+returns-clause-left g c =
+    when_fault _ _ _ _ _ _ _ _ c.step_of.result ChipFault (λ f e h. h.left e)
+    c.step_of.ensures.came
