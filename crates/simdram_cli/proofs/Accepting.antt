@@ -33,9 +33,10 @@ together_short (p ∷ ps) all =
 code_short : (e : Microprogram) (op : Operation) → length op.body ≤ 16 → IsCompiled e op
     → length e.code ≤ 4097
 code_short e op few c =
-    let parts = together_short c.parts.parts c.parts.short in
-    let size = ap length c.parts.whole ∙ length-append (together c.parts.parts) (Done ∷ []) in
-    let many = c.parts.many in omega (arith, parts, size, many, few)
+    let parts = together_short c.from.parts.parts c.from.parts.short in
+    let size = ap length c.from.parts.whole
+    ∙ length-append (together c.from.parts.parts) (Done ∷ []) in
+    let many = c.from.parts.many in omega (arith, parts, size, many, few)
 
 instructions_few : (es : List Microprogram) (ops : List Operation) → AreCompiled es ops
     → Each OperationMeets ops → instructions es ≤ 4097 * length es
