@@ -162,6 +162,8 @@ impl<'a, D: Dram> Dram for Recorder<'a, D> {
         ensures faults { (⟦<Self as Dram>⟧.view self.old).faults
             ≤ (⟦<Self as Dram>⟧.view self.new).faults }
         ensures began { OnOk result (Began g (⟦<Self as Dram>⟧.view self.new)) }
+        ensures unfailed { OnOk result ((⟦<Self as Dram>⟧.view self.new).faults
+            ≡ (⟦<Self as Dram>⟧.view self.old).faults) }
         ensures failed { IfErr result (λ e. e ≡ BeginNo.Failed
             → Rose (⟦<Self as Dram>⟧.view self.old).faults
             (⟦<Self as Dram>⟧.view self.new).faults) }

@@ -134,7 +134,12 @@ Grew-none (Some known) = with_events-none known
 
 -- no event
 pub Did-none : (chip : ChipView) → Did [] chip chip
-Did-none chip = record { banks = refl; counters = refl; log = Grew-none chip.log }
+Did-none chip = record {
+  banks = refl;
+  counters = refl;
+  faults = refl;
+  log = Grew-none chip.log;
+}
 
 -- some events, and then others
 pub Did-more : (es fs : List Event) (a b c : ChipView) → Did es a b → Did fs b c
@@ -143,6 +148,7 @@ Did-more es fs a b c d e = record {
   banks = e.banks ∙ ap (after fs) d.banks ∙ sym (after-append es fs a.banks);
   counters = e.counters ∙ ap (all_counted fs) d.counters
       ∙ sym (all_counted-append es fs a.counters);
+  faults = e.faults ∙ d.faults;
   log = Grew-more a.log b.log c.log es fs d.log e.log;
 }
 
@@ -167,5 +173,6 @@ pub DidRead-more : (m n : ℕ) (a b c : ChipView) → DidRead m a b → DidRead 
 DidRead-more m n a b c d e = record {
   banks = e.banks ∙ d.banks;
   counters = e.counters ∙ ap (with_reads n) d.counters ∙ more_reads m n a.counters;
+  faults = e.faults ∙ d.faults;
   log = Grew-more a.log b.log c.log [] [] d.log e.log;
 }

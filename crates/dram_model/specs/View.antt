@@ -35,16 +35,18 @@ pub record Kept (old new : ChipView) : Type 0 where
   pub geometry : new.geometry ≡ old.geometry
   pub faults : old.faults ≤ new.faults
 
--- exactly these events happened, in this order
+-- exactly these events happened, in this order, and no call failed
 pub record Did (events : List Event) (old new : ChipView) : Type 0 where
   pub banks : new.banks ≡ after events old.banks
   pub counters : new.counters ≡ all_counted events old.counters
+  pub faults : new.faults ≡ old.faults
   pub log : Grew old.log new.log events
 
 -- so many data rows were read, and nothing else happened
 pub record DidRead (n : ℕ) (old new : ChipView) : Type 0 where
   pub banks : new.banks ≡ old.banks
   pub counters : new.counters ≡ with_reads n old.counters
+  pub faults : new.faults ≡ old.faults
   pub log : Grew old.log new.log []
 
 -- a call on this bank failed: what stands in it is unspecified, and the other banks are as they
