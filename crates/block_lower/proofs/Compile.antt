@@ -144,7 +144,7 @@ body-well {slots = slots} {b = b} {body = body} g is =
 one-only : (i j : ℕ) → i < 1 → j < 1 → i ≡ j
 one-only i j li lj = omega arith
 
-empty-graph : IsGraph 0 []
+pub empty-graph : IsGraph 0 []
 empty-graph = record {
   small = omega arith;
   lower = λ k l. absurd (omega arith);

@@ -18,10 +18,8 @@ use Rattle.loop_laws.proofs.Summed.{sum_most}
 use Rattle.loop_laws.proofs.EachRound.{each_round}
 use Rattle.block_lower.proofs.Carried.{carried-most}
 use Rattle.block_lower.specs.Choice.{AreFor}
-use Rattle.block_lower.specs.Form.{place_of, constant, start, homes, IsBlockBody}
-use Rattle.block_lower.specs.declared.home.Home.{Home}
+use Rattle.block_lower.specs.Form.{place_of, constant, start, IsBlockBody}
 use Rattle.loop_ir.specs.Spots.{is_state}
-use Rattle.block_lower.proofs.Moved.{nth_home}
 
 constant-cost : (v : Bool) (p : Place) → plain_cost (constant v p) ≡ 1
 constant-cost true p = refl
@@ -56,18 +54,14 @@ constant-turn true p e = rw e refl
 constant-turn false p e = rw e refl
 
 -- what the rounds take with one state in a row
-pub one-start : (slots : Slots) (down : Bool) (ss : List State) (w : ℕ) (h : Home)
-    → length ss ≡ 1 → homes slots down ss (w ∷ []) ≡ h ∷ [] → is_state h.place.space ≡ false
-    → (n : ℕ) (more : List (StepOf Body))
-    → steps_sum turn_cost n (map (start slots down) ss ++ more)
-    ≡ 1 + steps_sum turn_cost n more
-one-start slots down [] w h one e row n more = absurd (omega (arith, one))
-one-start slots down (s ∷ []) w h one e row n more =
-    let p : place_of down (slots s.name) ≡ h.place = ap (λ hs. (nth_home hs 0).place) e in
-    let c = constant-turn s.start (place_of down (slots s.name))
-    (ap (λ (q : Place). is_state q.space) p ∙ row) in
-    omega (arith, c)
-one-start slots down (s ∷ t ∷ ss) w h one e row n more = absurd (omega (arith, one))
+pub one-start : (slots : Slots) (down : Bool) (ss : List State) (s : State) → ss ≡ s ∷ []
+    → is_state (place_of down (slots s.name)).space ≡ false → (n : ℕ) (more : List (StepOf Body))
+    → steps_sum turn_cost n (map (start slots down) ss ++ more) ≡ 1 + steps_sum turn_cost n more
+one-start slots down ss s one row n more =
+    let c = constant-turn s.start (place_of down (slots s.name)) row in
+    let t : steps_sum turn_cost n (map (start slots down) (s ∷ []) ++ more)
+    ≡ 1 + steps_sum turn_cost n more = omega (arith, c) in
+    ap (λ l. steps_sum turn_cost n (map (start slots down) l ++ more)) one ∙ t
 
 constant-cap : (v : Bool) (p : Place) → cap (constant v p) ≡ 1
 constant-cap true p = refl

@@ -1,8 +1,8 @@
--- A block's loop with its states in cells does what the loop with its states in rows does.
-use Rattle.std.proofs.Common.{◌≡◌, ℕ, zero, suc, ◌<◌, Bool, true, false, cond, List, []}
+-- A block's loop with its one state in cells does what the loop with its state in a row does.
+use Rattle.std.proofs.Common.{◌≡◌, ℕ, ◌+◌, ◌<◌, true, false, cond, List, []}
 use Rattle.std.proofs.Common.{◌∷◌, map, length, refl, sym, ap, ◌∙◌, subst, arith, inl, inr}
-use Rattle.std.proofs.Common.{get_or, Option, Some, None}
-use Rattle.std.specs.Prelude.{◌==◌, ◌&&◌}
+use Rattle.std.proofs.Common.{Option, Some, None}
+use Rattle.std.specs.Prelude.{◌==◌, ◌&&◌, if◌then◌else◌}
 use Rattle.std.specs.List.{range_with_len}
 use Rattle.std.proofs.lemmas.Bool.{cases_Bool, and_parts, and_from, eqb-true, eq-eqb}
 use Rattle.std.proofs.lemmas.List.{length-map}
@@ -20,29 +20,52 @@ use Rattle.loop_ir.specs.declared.ir.Place.{Place}
 use Rattle.loop_ir.specs.declared.names.Slot.{Slot}
 use Rattle.loop_ir.specs.Plain.{Block as Body}
 use Rattle.loop_ir.specs.Plain.StepOf.{Along}
-use Rattle.loop_ir.specs.Loops.{all_rounds, sub_value}
+use Rattle.loop_ir.specs.Loops.{round_at, all_rounds, sub_value}
 use Rattle.loop_ir.specs.Costs.{sub_code, same_sub}
-use Rattle.loop_ir.specs.Spots.{Spot, Spots, is_state, same_space, same_spot, set_spot}
+use Rattle.loop_ir.specs.Spots.{Spot, Spots, is_state, same_space, same_spot}
 use Rattle.loop_ir.specs.Spots.{spot_at, spot_in, nth_place, nth_spot, after_rounds}
 use Rattle.loop_ir.specs.Statements.{Slots, statement_names, targets_of}
 use Rattle.loop_ir.specs.Lowered.{Holds, HoldsAt, slot_spot}
 use Rattle.loop_laws.proofs.Same.{spot_true, spot_same, sub_true}
 use Rattle.block_lower.specs.Inputs.{block_inputs, name_at}
-use Rattle.block_lower.specs.Form.{place_of, homes, IsBlockBody}
+use Rattle.block_lower.specs.Form.{place_of, home, IsBlockBody}
 use Rattle.block_lower.specs.declared.home.Home.{Home}
-use Rattle.block_lower.specs.Held.{cell_place, same_place, held_place, held_body}
-use Rattle.block_lower.specs.Held.{HeldCommands, held_steps}
-use Rattle.block_lower.proofs.Folds.{names_of}
-use Rattle.block_lower.proofs.Rows.{slot_or, position, position-below, named_row, place-row}
-use Rattle.block_lower.proofs.Facts.{Given, once-distinct, state-written, written-named}
-use Rattle.block_lower.proofs.Names.{among-at}
+use Rattle.block_lower.specs.Held.{cell_place, same_place, held_start}
+use Rattle.block_lower.proofs.Rows.{slot_or, position, position-below, place-row}
+use Rattle.block_lower.proofs.Facts.{Given, state-written, written-named}
+use Rattle.block_lower.proofs.Names.{among-here}
 use Rattle.block_lower.proofs.Round.{named-once, writes-long, writes-once}
 use Rattle.block_lower.proofs.Round.{target-named}
-use Rattle.block_lower.proofs.Starts.{started, state_spot}
+use Rattle.block_lower.proofs.Starts.{started}
 use Rattle.block_lower.proofs.Compile.{state-sub, name-row, reads-long, read-place, write-place}
 use Rattle.block_lower.proofs.Compile.{input-at, spot-space}
-use Rattle.block_lower.proofs.Moved.{nth_home, home_spot, cell_spot, moved, moved_once, AreHomes}
-use Rattle.block_lower.proofs.Moved.{IsMoved, AreSet, rows_started, promoted}
+use Rattle.block_lower.proofs.InFlow.{nth_map}
+use Rattle.block_lower.proofs.Moved.{home_spot, cell_spot, moved, moved_once, fronts}
+use Rattle.block_lower.proofs.Moved.{IsMoved, IsSet, promoted}
+
+-- the place, or in place of the state's row its cells
+abbrev pub front_place : Home → Place → Place
+front_place h p = if same_place p h.place then cell_place h.cells else p
+
+-- the body with its state in cells, at positions
+abbrev pub front_body : Home → Body → List BodyCmd → Body
+front_body h b cmds = record {
+  reads = map (front_place h) b.reads;
+  graph = b.graph;
+  outs = b.outs;
+  writes = map (front_place h) b.writes;
+  found = cmds;
+}
+
+-- and the one that leaves it in its row
+abbrev pub front_last : Home → Body → List BodyCmd → Body
+front_last h b cmds = record {
+  reads = map (front_place h) b.reads;
+  graph = b.graph;
+  outs = b.outs;
+  writes = b.writes;
+  found = cmds;
+}
 
 abbrev at_zero : Space → Spot
 at_zero s = record { space = s; which = 0; index = 0 }
@@ -70,184 +93,93 @@ pub fixed_spot : (n i : ℕ) (p : Place) → p.sub ≡ Zero → spot_at n i 0 []
 fixed_spot n i p e = ap (λ s. spot_in n p.space p.which (sub_value n i 0 [] s)) e
     ∙ sym (ap (λ s. spot_in n p.space p.which (sub_value n 0 0 [] s)) e)
 
--- the states' places are fixed, and no other place that is looked at has their rows
-pub record AreTold (n i : ℕ) (hs : List Home) (p : Place) : Type 0 where
-  pub fixed : (a : ℕ) → a < length hs → (nth_home hs a).place.sub ≡ Zero
-  pub told : (a : ℕ) → a < length hs → spot_at n i 0 [] p ≡ home_spot n (nth_home hs a)
-      → p ≡ (nth_home hs a).place
+-- the state's place is fixed, and no other place that is looked at has its row
+pub record IsTold (n i : ℕ) (h : Home) (p : Place) : Type 0 where
+  pub fixed : h.place.sub ≡ Zero
+  pub told : spot_at n i 0 [] p ≡ home_spot n h → p ≡ h.place
 
 -- a place that is moved has the moved row
-pub held_spot : (n i : ℕ) (hs : List Home) (p : Place) → AreTold n i hs p
-    → spot_at n i 0 [] (held_place hs p) ≡ moved n hs (spot_at n i 0 [] p)
-held_spot n i [] p are = refl
-held_spot n i (h ∷ hs) p are = elim (cases_Bool (same_place p h.place)) [
+pub held_spot : (n i : ℕ) (h : Home) (p : Place) → IsTold n i h p
+    → spot_at n i 0 [] (front_place h p) ≡ moved n h (spot_at n i 0 [] p)
+held_spot n i h p is = elim (cases_Bool (same_place p h.place)) [
   | inl e ↦
-      let s = place_true p h.place e in
-      let at : spot_at n i 0 [] p ≡ home_spot n h = ap (spot_at n i 0 []) s
-      ∙ fixed_spot n i h.place (are.fixed 0 (omega arith)) in
-      ap (λ c. spot_at n i 0 [] (cond c (cell_place h.cells) (held_place hs p))) e
-      ∙ sym (ap (λ c. cond c (cell_spot h.cells) (moved n hs (spot_at n i 0 [] p)))
+      let at : spot_at n i 0 [] p ≡ home_spot n h = ap (spot_at n i 0 []) (place_true p h.place e)
+      ∙ fixed_spot n i h.place is.fixed in
+      ap (λ c. spot_at n i 0 [] (cond c (cell_place h.cells) p)) e
+      ∙ sym (ap (λ c. cond c (cell_spot h.cells) (spot_at n i 0 [] p))
       (spot_same (spot_at n i 0 [] p) (home_spot n h) at))
   | inr e ↦ elim (cases_Bool (same_spot (spot_at n i 0 [] p) (home_spot n h))) [
     | inl f ↦
-        let s = are.told 0 (omega arith) (spot_true (spot_at n i 0 [] p) (home_spot n h) f) in
+        let s = is.told (spot_true (spot_at n i 0 [] p) (home_spot n h) f) in
         let t : same_place p h.place ≡ true = ap (same_place p) (sym s) ∙ place_same p in
         absurd (cc)
     | inr f ↦
-        ap (λ c. spot_at n i 0 [] (cond c (cell_place h.cells) (held_place hs p))) e
-        ∙ held_spot n i hs p (record {
-          fixed = λ a l. are.fixed (suc a) (omega (arith, l));
-          told = λ a l. are.told (suc a) (omega (arith, l));
-        })
-        ∙ sym (ap (λ c. cond c (cell_spot h.cells) (moved n hs (spot_at n i 0 [] p))) f)
+        ap (λ c. spot_at n i 0 [] (cond c (cell_place h.cells) p)) e
+        ∙ sym (ap (λ c. cond c (cell_spot h.cells) (spot_at n i 0 [] p)) f)
   ]
 ]
 
-pub nth_map : (f : Place → Place) (ps : List Place) (k : ℕ) → k < length ps
-    → nth_place (map f ps) k ≡ f (nth_place ps k)
-nth_map f [] k l = absurd (omega arith)
-nth_map f (p ∷ ps) zero l = refl
-nth_map f (p ∷ ps) (suc k) l = nth_map f ps k (omega arith)
+module _ {slots : Slots} {fb fw : ℕ} {b : Block} (g : Given slots fb fw b) (s : State)
+    (one : b.states ≡ s ∷ []) (w : ℕ) where
+  -- where the state stands
+  abbrev pub own : Home
+  own = home slots b.down s w
 
--- the states' homes
-pub homes-long : (slots : Slots) (down : Bool) (ss : List State) (ws : List ℕ)
-    → length ws ≡ length ss → length (homes slots down ss ws) ≡ length ss
-homes-long slots down [] ws e = refl
-homes-long slots down (s ∷ ss) [] e = absurd (omega (arith, e))
-homes-long slots down (s ∷ ss) (w ∷ ws) e = ap suc (homes-long slots down ss ws (omega (arith, e)))
+  state-is : is_among (state_names b) s.name ≡ true
+  state-is = subst (λ ss. is_among (map (λ (t : State). t.name) ss) s.name ≡ true) (sym one)
+      (among-here s.name)
 
-pub home-place : (slots : Slots) (down : Bool) (ss : List State) (ws : List ℕ)
-    → length ws ≡ length ss → (k : ℕ) → k < length ss → (nth_home (homes slots down ss ws) k).place
-    ≡ place_of down (slots (name_at (names_of ss) k))
-home-place slots down [] ws e k l = absurd (omega arith)
-home-place slots down (s ∷ ss) [] e k l = absurd (omega (arith, e))
-home-place slots down (s ∷ ss) (w ∷ ws) e zero l = refl
-home-place slots down (s ∷ ss) (w ∷ ws) e (suc k) l =
-    home-place slots down ss ws (omega (arith, e)) k (omega arith)
+  state-named : is_among (statement_names (Visit b)) s.name ≡ true
+  state-named = written-named b s.name (state-written b s.name state-is)
 
-pub home-cells : (slots : Slots) (down : Bool) (ss : List State) (ws : List ℕ)
-    → length ws ≡ length ss → (k : ℕ) → k < length ss
-    → (nth_home (homes slots down ss ws) k).cells ≡ get_or ws k 0
-home-cells slots down [] ws e k l = absurd (omega arith)
-home-cells slots down (s ∷ ss) [] e k l = absurd (omega (arith, e))
-home-cells slots down (s ∷ ss) (w ∷ ws) e zero l = refl
-home-cells slots down (s ∷ ss) (w ∷ ws) e (suc k) l =
-    home-cells slots down ss ws (omega (arith, e)) k (omega arith)
+  pub home-fixed : own.place.sub ≡ Zero
+  home-fixed = state-sub g b.down s.name state-is
 
-rows-are : (n : ℕ) (slots : Slots) (down : Bool) (ss : List State) (ws : List ℕ) (bits : Spots)
-    → length ws ≡ length ss
-    → rows_started n (homes slots down ss ws) bits ≡ started n slots down ss bits
-rows-are n slots down [] ws bits e = refl
-rows-are n slots down (s ∷ ss) [] bits e = absurd (omega (arith, e))
-rows-are n slots down (s ∷ ss) (w ∷ ws) bits e =
-    rows-are n slots down ss ws (set_spot bits (state_spot n slots down s) s.start)
-    (omega (arith, e))
-
--- each state has cells of its own
-pub record AreCells (b : Block) (ws : List ℕ) : Type 0 where
-  pub many : length ws ≡ length b.states
-  pub once : (x y : ℕ) → x < length ws → y < length ws → get_or ws x 0 ≡ get_or ws y 0 → x ≡ y
-
-module _ {slots : Slots} {fb fw : ℕ} {b : Block} (g : Given slots fb fw b) (ws : List ℕ)
-    (are : AreCells b ws) where
-  abbrev pub hs : List Home
-  hs = homes slots b.down b.states ws
-
-  abbrev pub state_at : ℕ → List ℕ
-  state_at k = name_at (names_of b.states) k
-
-  pub long : length hs ≡ length b.states
-  long = homes-long slots b.down b.states ws are.many
-
-  names-long : length (names_of b.states) ≡ length b.states
-  names-long = length-map b.states (λ (s : State). s.name)
-
-  pub state-is : (k : ℕ) → k < length b.states → is_among (state_names b) (state_at k) ≡ true
-  state-is k l = among-at (names_of b.states) k (omega (arith, l, names-long))
-
-  pub state-named : (k : ℕ) → k < length b.states
-      → is_among (statement_names (Visit b)) (state_at k) ≡ true
-  state-named k l = written-named b (state_at k) (state-written b (state_at k) (state-is k l))
-
-  pub home-row : (n : ℕ) (k : ℕ) → k < length b.states
-      → home_spot n (nth_home hs k) ≡ named_row n slots (position b.down n 0) (state_at k)
-  home-row n k l = ap (spot_at n 0 0 []) (home-place slots b.down b.states ws are.many k l)
-      ∙ place-row n 0 b.down (slots (state_at k))
-
-  pub home-fixed : (k : ℕ) → k < length hs → (nth_home hs k).place.sub ≡ Zero
-  home-fixed k l = let m : k < length b.states = omega (arith, l, long) in
-      ap (λ (p : Place). p.sub) (home-place slots b.down b.states ws are.many k m)
-      ∙ state-sub g b.down (state_at k) (state-is k m)
-
-  pub home-rows : (k : ℕ) → k < length hs → is_state (nth_home hs k).place.space ≡ false
-  home-rows k l = let m : k < length b.states = omega (arith, l, long) in
-      ap (λ (p : Place). is_state p.space) (home-place slots b.down b.states ws are.many k m)
-      ∙ name-row g b.down (state_at k) (state-named k m)
+  pub home-row : is_state own.place.space ≡ false
+  home-row = name-row g b.down s.name state-named
 
   spot-row : (n i : ℕ) (p : Place) → is_state p.space ≡ false
       → is_state (spot_at n i 0 [] p).space ≡ false
   spot-row n i p e = ap is_state (spot-space n p.space p.which (sub_value n i 0 [] p.sub)) ∙ e
 
-  pub are-homes : (n : ℕ) → 0 < n → AreHomes n hs
-  are-homes n lt = record {
-    cells = λ x y lx ly e.
-        let mx : x < length b.states = omega (arith, lx, long) in
-        let my : y < length b.states = omega (arith, ly, long) in
-        let wide = are.many in
-        are.once x y (omega (arith, mx, wide)) (omega (arith, my, wide))
-        (sym (home-cells slots b.down b.states ws are.many x mx) ∙ e
-        ∙ home-cells slots b.down b.states ws are.many y my);
-    rows = λ x y lx ly e.
-        let mx : x < length b.states = omega (arith, lx, long) in
-        let my : y < length b.states = omega (arith, ly, long) in
-        let p = position b.down n 0 in
-        let lp = position-below b.down n 0 lt in
-        let h = named-once g n p p (state_at x) (state_at y) lp lp (state-named x mx)
-        (state-named y my) (sym (home-row n x mx) ∙ e ∙ home-row n y my) in
-        once-distinct (names_of b.states) g.meets.states_differ x y
-        (omega (arith, mx, names-long)) (omega (arith, my, names-long)) h.0;
-    are = λ k l. spot-row n 0 (nth_home hs k).place (home-rows k l);
-  }
-
-  -- a name's place is told from the states'
+  -- a name's place is told from the state's
   named-told : (n i : ℕ) → i < n → (x : List ℕ) → is_among (statement_names (Visit b)) x ≡ true
-      → AreTold n i hs (place_of b.down (slots x))
+      → IsTold n i own (place_of b.down (slots x))
   named-told n i lt x e = record {
     fixed = home-fixed;
-    told = λ a l s.
-        let m : a < length b.states = omega (arith, l, long) in
-        let h = named-once g n (position b.down n i) (position b.down n 0) x (state_at a)
+    told = λ t.
+        let h = named-once g n (position b.down n i) (position b.down n 0) x s.name
         (position-below b.down n i lt) (position-below b.down n 0 (omega (arith, lt))) e
-        (state-named a m) (sym (place-row n i b.down (slots x)) ∙ s ∙ home-row n a m) in
-        ap (λ y. place_of b.down (slots y)) h.0
-        ∙ sym (home-place slots b.down b.states ws are.many a m);
+        state-named (sym (place-row n i b.down (slots x)) ∙ t
+        ∙ place-row n 0 b.down (slots s.name)) in
+        ap (λ y. place_of b.down (slots y)) h.0;
   }
 
   module _ {body : Body} (is : IsBlockBody slots b body) where
     read-told : (n i : ℕ) → i < n → (k : ℕ) → k < length body.reads
-        → AreTold n i hs (nth_place body.reads k)
+        → IsTold n i own (nth_place body.reads k)
     read-told n i lt k l =
         let longer = reads-long is in
         let m : k < length (block_inputs b) = omega (arith, l, longer) in
-        subst (AreTold n i hs) (sym (read-place is k m))
+        subst (IsTold n i own) (sym (read-place is k m))
         (named-told n i lt (name_at (block_inputs b) k) (input-at b k m))
 
     write-told : (n i : ℕ) → i < n → (j : ℕ) → j < length body.writes
-        → AreTold n i hs (nth_place body.writes j)
+        → IsTold n i own (nth_place body.writes j)
     write-told n i lt j l =
         let m : j < length b.assigns = let w = writes-long is in omega (arith, l, w) in
-        subst (AreTold n i hs) (sym (write-place is j m))
+        subst (IsTold n i own) (sym (write-place is j m))
         (named-told n i lt (name_at (targets_of b.assigns) j) (target-named b j m))
 
     pub held-read : (cmds : List BodyCmd) (n i : ℕ) → i < n → (k : ℕ) → k < length body.reads
-        → nth_spot n i 0 [] (held_body hs body cmds).reads k ≡ moved n hs (nth_spot n i 0 [] body.reads k)
-    held-read cmds n i lt k l = ap (spot_at n i 0 []) (nth_map (held_place hs) body.reads k l)
-        ∙ held_spot n i hs (nth_place body.reads k) (read-told n i lt k l)
+        → nth_spot n i 0 [] (front_body own body cmds).reads k ≡ moved n own (nth_spot n i 0 [] body.reads k)
+    held-read cmds n i lt k l = ap (spot_at n i 0 []) (nth_map (front_place own) body.reads k l)
+        ∙ held_spot n i own (nth_place body.reads k) (read-told n i lt k l)
 
     pub held-write : (cmds : List BodyCmd) (n i : ℕ) → i < n → (j : ℕ) → j < length body.writes
-        → nth_spot n i 0 [] (held_body hs body cmds).writes j ≡ moved n hs (nth_spot n i 0 [] body.writes j)
-    held-write cmds n i lt j l = ap (spot_at n i 0 []) (nth_map (held_place hs) body.writes j l)
-        ∙ held_spot n i hs (nth_place body.writes j) (write-told n i lt j l)
+        → nth_spot n i 0 [] (front_body own body cmds).writes j ≡ moved n own (nth_spot n i 0 [] body.writes j)
+    held-write cmds n i lt j l = ap (spot_at n i 0 []) (nth_map (front_place own) body.writes j l)
+        ∙ held_spot n i own (nth_place body.writes j) (write-told n i lt j l)
 
     pub read-rows : (n i k : ℕ) → k < length body.reads
         → is_state (nth_spot n i 0 [] body.reads k).space ≡ false
@@ -269,16 +201,16 @@ module _ {slots : Slots} {fb fw : ℕ} {b : Block} (g : Given slots fb fw b) (ws
     wide = let w = writes-long is in is.as_many ∙ sym w
 
     pub held-once : (cmds : List BodyCmd) (n i : ℕ) → i < n → (a c : ℕ) → a < length body.writes
-        → c < length body.writes → nth_spot n i 0 [] (held_body hs body cmds).writes a
-        ≡ nth_spot n i 0 [] (held_body hs body cmds).writes c → a ≡ c
+        → c < length body.writes → nth_spot n i 0 [] (front_body own body cmds).writes a
+        ≡ nth_spot n i 0 [] (front_body own body cmds).writes c → a ≡ c
     held-once cmds n i lt a c la lc e =
         let w = writes-long is in
         writes-once g is n i lt a c (omega (arith, la, w)) (omega (arith, lc, w))
-        (moved_once n hs (are-homes n (omega (arith, lt))) (nth_spot n i 0 [] body.writes a)
+        (moved_once n own (nth_spot n i 0 [] body.writes a)
         (nth_spot n i 0 [] body.writes c) (write-rows n i a la) (write-rows n i c lc)
         (sym (held-write cmds n i lt a la) ∙ e ∙ held-write cmds n i lt c lc))
 
-    is-moved : (cmds : List BodyCmd) (n i : ℕ) → i < n → IsMoved n hs i 0 body (held_body hs body cmds)
+    is-moved : (cmds : List BodyCmd) (n i : ℕ) → i < n → IsMoved n own i 0 body (front_body own body cmds)
     is-moved cmds n i lt = record {
       reads = λ k l. (read-rows n i k l, held-read cmds n i lt k l);
       graph = refl;
@@ -290,7 +222,7 @@ module _ {slots : Slots} {fb fw : ℕ} {b : Block} (g : Given slots fb fw b) (ws
         omega (
           arith,
           wide,
-          length-map body.writes (held_place hs),
+          length-map body.writes (front_place own),
         ),
       );
       rows = λ j l. write-rows n i j (omega (arith, l, wide));
@@ -302,33 +234,28 @@ module _ {slots : Slots} {fb fw : ℕ} {b : Block} (g : Given slots fb fw b) (ws
           (omega (arith, lc, wide)) e;
     }
 
-    -- the block assigns each state
-    abbrev pub AreWritten : Type 0
-    AreWritten = (k : ℕ) → k < length hs → (j : ℕ) × (j < length body.writes)
-        × (nth_place body.writes j ≡ (nth_home hs k).place)
+    -- the block assigns the state
+    abbrev pub IsWritten : Type 0
+    IsWritten = (j : ℕ) × (j < length body.writes) × (nth_place body.writes j ≡ own.place)
 
-    are-set : AreWritten → (n i : ℕ) → AreSet n hs i body
-    are-set written n i k l =
-        let w = written k l in
-        let p = (nth_home hs k).place in
-        let z = home-fixed k l in (
-          w.0,
-          omega (arith, w.1, wide),
-          ap (λ s. spot_in n p.space p.which (sub_value n 0 0 [] s)) z
-              ∙ sym (ap (λ s. spot_in n p.space p.which (sub_value n i 0 [] s)) z)
-              ∙ sym (ap (spot_at n i 0 []) w.2),
-        )
+    is-set : IsWritten → (n i : ℕ) → IsSet n own i body
+    is-set written n i = (
+      written.0,
+      omega (arith, written.1, wide),
+      sym (fixed_spot n i own.place home-fixed) ∙ sym (ap (spot_at n i 0 []) written.2),
+    )
 
-    -- each row is left as the loop with its states in rows leaves it
-    pub held-alike : AreWritten → (cmds : HeldCommands) (n : ℕ) → 0 < n → (bits : Spots) (q : Spot)
-        → is_state q.space ≡ false
-        → after_rounds n (all_rounds n (held_steps hs body cmds)) bits q
+    -- each row is left as the loop with its state in a row leaves it
+    pub held-alike : IsWritten → (start each last : List BodyCmd) (n m : ℕ) → m + 1 ≡ n
+        → (bits : Spots) (q : Spot) → is_state q.space ≡ false
+        → after_rounds n (round_at (held_start own start) 0 0
+        ∷ fronts (front_body own body each) (front_last own body last) 0 m) bits q
         ≡ after_rounds n (all_rounds n (Along body ∷ [])) (started n slots b.down b.states bits) q
-    held-alike written cmds n lt bits q e =
-        promoted n lt hs (are-homes n lt) body (held_body hs body cmds.each) cmds.start cmds.last
-        (λ i l. is-moved cmds.each n i l) (λ i l. are-set written n i) bits q e
-        ∙ ap (λ (s : Spots). after_rounds n (all_rounds n (Along body ∷ [])) s q)
-        (rows-are n slots b.down b.states ws bits are.many)
+    held-alike written start each last n m at bits q e =
+        promoted n own m at body (front_body own body each) start last
+        (λ i l. is-moved each n i l) (λ i l. is-set written n i) bits q e
+        ∙ ap (λ ss. after_rounds n (all_rounds n (Along body ∷ [])) (started n slots b.down ss bits) q)
+        (sym one)
 
 -- what rows hold, where both have the same bits in rows
 pub holds-alike : (n : ℕ) (slots : Slots) (held : List ℕ → NameValue) (old new : Spots)

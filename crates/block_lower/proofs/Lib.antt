@@ -15,7 +15,9 @@ mod Carried
 mod Costs
 mod Compile
 mod Whole
+mod EachLast
 mod Moved
+mod InFlow
 mod HeldDoes
 mod HeldCompile
 mod HeldWhole

@@ -1,4 +1,5 @@
--- The loop of a block with one state in cells: what its code looked at says that it does the block.
+-- The loop of a block with its one state in cells: what its code looked at says that it does the
+-- block.
 use Rattle.std.proofs.Common.{◌≡◌, ℕ, zero, suc, ◌+◌, ◌*◌, ◌<◌, ◌≤◌, Bool, true, false, cond, List}
 use Rattle.std.proofs.Common.{[], ◌∷◌, ◌++◌, map, length, drop, refl, sym, ap, ◌∙◌, subst, arith}
 use Rattle.std.proofs.Common.{append_assoc, ◌⊎◌, inl, inr, IfSome}
@@ -13,31 +14,32 @@ use Rattle.op_text.specs.declared.tree.State.{State}
 use Rattle.op_text.specs.Language.{Block, Equation, Visit}
 use Rattle.loop_ir.specs.declared.ir.Place.{Place}
 use Rattle.loop_ir.specs.Plain.{Block as Body, StepOf}
-use Rattle.loop_ir.specs.Plain.StepOf.{Along}
+use Rattle.loop_ir.specs.Plain.StepOf.{Along, Flowed}
 use Rattle.loop_ir.specs.Loops.{all_rounds}
 use Rattle.loop_ir.specs.Spots.{nth_place, is_state}
 use Rattle.loop_ir.specs.States.{RowsFirst, leaves, row_count, row_outs}
-use Rattle.loop_ir.specs.Chains.{states_in, is_alive, steps_find}
-use Rattle.loop_ir.specs.Costs.{carries, turn_cost, plain_cost, rounds_cost}
+use Rattle.loop_ir.specs.Chains.{states_in, is_alive}
+use Rattle.loop_ir.specs.Costs.{carries, is_copy, turn_cost, plain_cost, rounds_cost}
 use Rattle.loop_ir.specs.Statements.{Slots}
 use Rattle.loop_ir.specs.Lowered.{IsLowered}
 use Rattle.loop_laws.proofs.Summed.{sum_is}
 use Rattle.block_lower.specs.Inputs.{block_inputs}
 use Rattle.block_lower.specs.declared.home.Home.{Home}
-use Rattle.block_lower.specs.Held.{held_place, held_start, held_body, held_last, held_steps}
 use Rattle.block_lower.specs.declared.held.HeldLoop.{HeldLoop}
-use Rattle.block_lower.specs.Held.{HeldCommands, CarriesRight, IsHeldOne, IsLoopFor}
-use Rattle.block_lower.specs.Held.{commands_in, stand_in}
+use Rattle.block_lower.specs.Held.{HeldCommands, CarriesRight, IsHeldOne, IsLoopFor, flow_place}
+use Rattle.block_lower.specs.Held.{held_place, held_start, held_steps, commands_in, stand_in}
 use Rattle.block_lower.specs.Choice.{AreFor, IsOther}
-use Rattle.block_lower.specs.Form.{place_of, homes, row_steps, IsBlockBody, IsInCells}
+use Rattle.block_lower.specs.Form.{place_of, home, row_steps, IsBlockBody, IsInCells, IsChosen}
 use Rattle.block_lower.specs.Form.{IsBlockProgram}
 use Rattle.block_lower.proofs.Facts.{Given}
 use Rattle.block_lower.proofs.Costs.{one-start}
-use Rattle.block_lower.proofs.Moved.{nth_home}
-use Rattle.block_lower.proofs.HeldDoes.{AreCells, hs, long, home-rows, are-homes, nth_map}
+use Rattle.block_lower.proofs.InFlow.{in_flow, nth_map, count-flow, states-flow, outs-flow}
+use Rattle.block_lower.proofs.Whole.{row-lowered, row-program}
+use Rattle.block_lower.proofs.HeldDoes.{front_place, front_body, front_last, own, home-row}
 use Rattle.block_lower.proofs.HeldCompile.{cases_held, write-row-is}
 use Rattle.block_lower.proofs.HeldWhole.{DoesCarry, HeldFits, node-plain, turn-carried, held-cost}
-use Rattle.block_lower.proofs.HeldWhole.{held-sum, held-lowered}
+use Rattle.block_lower.proofs.HeldWhole.{flow-sum, held-lowered, front_flow, steps-are, held-is}
+use Rattle.block_lower.proofs.HeldWhole.{last-is, in-places}
 
 -- the first of what is left
 pub front_or : {A : Type 0} (xs : List A) (j : ℕ) (d : A) → j < length xs
@@ -202,21 +204,18 @@ count-most (p ∷ ps) = elim (cases_Bool (is_state p.space)) [
 -- the row that stands in cells is the state's
 written-last : (h : Home) (ps : List Place)
     → ((k : ℕ) → k < length ps → is_state (nth_place ps k).space ≡ false)
-    → row_count (map (held_place (h ∷ [])) ps) + 1 ≡ length (map (held_place (h ∷ [])) ps)
-    → (k : ℕ) → k < length (h ∷ []) → (j : ℕ) × (j < length ps)
-    × (nth_place ps j ≡ (nth_home (h ∷ []) k).place)
-written-last h ps rows last (suc k) l = absurd (omega (arith, l))
-written-last h ps rows last zero l =
-    let move = held_place (h ∷ []) in
+    → row_count (map (front_place h) ps) + 1 ≡ length (map (front_place h) ps)
+    → (j : ℕ) × (j < length ps) × (nth_place ps j ≡ h.place)
+written-last h ps rows last =
+    let move = front_place h in
     let j = row_count (map move ps) in
     let m : j < length ps = omega (arith, last, length-map ps move) in
     let st = after (map move ps) last j (omega arith) (omega (arith, last)) in
     let at = nth_map move ps j m in (
       j,
       m,
-      elim (cases_held (h ∷ []) (nth_place ps j)) [
-        | inl f ↦ let z : f.0 ≡ 0 = omega (arith, f.1) in
-            f.2 ∙ ap (λ i. (nth_home (h ∷ []) i).place) z
+      elim (cases_held h (nth_place ps j)) [
+        | inl f ↦ f.0
         | inr f ↦
             let t : true ≡ false = sym st ∙ ap (λ (p : Place). is_state p.space) (at ∙ f)
             ∙ rows j m in
@@ -224,167 +223,76 @@ written-last h ps rows last zero l =
       ],
     )
 
--- all of it but that the state is written, for any list of homes
-record FitsFor (b : Block) (body : Body) (cmds : HeldCommands) (own : List Home) : Type 0 where
-  one : length b.states ≡ 1
-  nodes : 0 < length body.graph.nodes
-  full : body.graph.inputs ≡ length body.reads
-  first : RowsFirst (held_body own body cmds.each).writes
-  split : length (row_outs (map (held_place own) body.writes) body.outs) + length b.states
-      ≡ length b.assigns
-  find : steps_find [] (held_steps own body cmds) ≡ true
-  start : DoesCarry (held_start own cmds.start)
-  each : DoesCarry (held_body own body cmds.each)
-  last : DoesCarry (held_last own body cmds.last)
-  begins : length cmds.start ≤ 1
-  round : length cmds.each ≤ 4 * length body.graph.nodes + 3 * length b.assigns
-  ends : length cmds.last ≤ 4 * length body.graph.nodes + 3 * length b.assigns
+-- so it is with what its code looked at
+module _ {slots : Slots} {fb fw : ℕ} {b : Block} {body : Body} (g : Given slots fb fw b)
+    (is : IsBlockBody slots b body) (h : Home) (cmds : HeldCommands)
+    (held : IsHeldOne h body cmds) where
+  abbrev each : Body
+  each = front_body h body cmds.each
 
-module _ {slots : Slots} {b : Block} {body : Body} (is : IsBlockBody slots b body) (h : Home)
-    (one : length b.states ≡ 1) (cmds : HeldCommands) (held : IsHeldOne h body cmds) where
-  start-one : 1 ≤ plain_cost (held_start (h ∷ []) cmds.start)
-  start-one = at h.start
+  -- the state in cells is written last
+  ends-in : row_count each.writes + 1 ≡ length each.writes
+  ends-in =
+      let e = held.holds.last in
+      let p = in-places h body.writes in
+      let r = ap row_count p ∙ count-flow each.writes in
+      let l = ap length p ∙ length-map each.writes flow_place in
+      omega (arith, e, r, l)
+
+  as-long : length body.outs ≡ length each.writes
+  as-long = held.holds.long ∙ ap length (in-places h body.writes)
+      ∙ length-map each.writes flow_place
+
+  stand-front : (ps : List Place) → stand_in h.cells (map (held_place h) ps) ≡ true
+      → stand_in h.cells (map (front_place h) ps) ≡ true
+  stand-front ps e = ap (list_all (λ v. v == h.cells)) (sym (states-flow (map (front_place h) ps)))
+      ∙ ap (stand_in h.cells) (sym (in-places h ps)) ∙ e
+
+  start-one : 1 ≤ plain_cost (held_start h cmds.start)
+  start-one = at (is_copy (held_start h cmds.start))
     where
-      at : (v : Bool) → 1 ≤ plain_cost (held_start (record {
-        place = h.place;
-        cells = h.cells;
-        start = v;
-      } ∷ []) cmds.start)
+      at : (v : Bool) → 1 ≤ cond v 1 1
       at true = omega arith
       at false = omega arith
 
-  finds-it : steps_find [] (held_steps (h ∷ []) body cmds) ≡ true
-  finds-it =
+  pub fits : HeldFits b body h cmds
+  fits =
       let w = h.cells in
-      let each = held_body (h ∷ []) body cmds.each in
-      let last = held.holds.last in
-      let alive = one-alive w each.writes (omega (arith, last)) held.holds.writes in
-      let before = all-alive w (states_in each.reads) (w ∷ []) held.holds.reads (same-alive w) in
-      let after = all-alive w (states_in each.reads) (states_in each.writes) held.holds.reads
-      alive in
-      and_from _ _ (and_from _ _ (and_from _ _ before before) refl)
-      (and_from _ _ (and_from _ _ (and_from _ _ after after) refl) refl)
-
-  fits-for : FitsFor b body cmds (h ∷ [])
-  fits-for =
-      let lw = length-map body.writes (held_place (h ∷ [])) in
-      let out = rows-out (map (held_place (h ∷ [])) body.writes) body.outs held.holds.last
-      held.holds.long in
-      let last = held.holds.last in
-      let long = held.holds.long in
-      let many = is.as_many in
-      let a = held.start.few in
-      let c = held.last.few in
-      let e = held.each.few in
-      let rows = rows-most body.writes body.outs (omega (arith, lw, long)) in
+      let lw = length-map body.writes (front_place h) in
+      let out = rows-out each.writes body.outs ends-in as-long in
+      let row = ap row_count (in-places h body.writes) ∙ count-flow each.writes in
+      let flow = ap length (outs-flow each.writes body.outs) in
+      let here = ap length (outs-flow body.writes body.outs) in
+      let rows = rows-most body.writes body.outs (omega (arith, lw, as-long)) in
       let count = count-most body.writes in
+      let many = is.as_many in
+      let reads = stand-front body.reads held.holds.reads in
+      let a = held.start.few in
+      let l = held.last.few in
+      let e = held.each.few in
       record {
-        one = one;
         nodes = held.holds.nodes;
-        full = held.holds.full ∙ length-map body.reads (held_place (h ∷ []));
-        first = rows-first (map (held_place (h ∷ [])) body.writes) held.holds.last;
-        split = omega (arith, out, last, long, many, one);
-        find = finds-it;
-        start = does-carry (held_start (h ∷ []) cmds.start) 1 held.start start-one;
-        each = does-carry (held_body (h ∷ []) body cmds.each) _ held.each
-            (let n = node-plain (held_body (h ∷ []) body cmds.each) held.holds.nodes in
-            omega (arith, n, out));
-        last = does-carry (held_last (h ∷ []) body cmds.last) _ held.last
-            (let n = node-plain (held_last (h ∷ []) body cmds.last) held.holds.nodes in
-            omega (arith, n, rows));
+        full = held.holds.full ∙ length-map body.reads (held_place h);
+        first = rows-first each.writes ends-in;
+        split = omega (arith, out, ends-in, as-long, many);
+        written = written-last h body.writes (write-row-is g is) ends-in;
+        begin = all-alive w (states_in each.reads) (w ∷ []) reads (same-alive w);
+        again = all-alive w (states_in each.reads) (states_in each.writes) reads
+            (one-alive w each.writes (omega (arith, ends-in))
+            (stand-front body.writes held.holds.writes));
+        start = does-carry (held_start h cmds.start) 1 held.start start-one;
+        each = does-carry (in_flow each) _ (subst (λ c. CarriesRight c (4 * length body.graph.nodes
+            + 3 * row_count (map (held_place h) body.writes))) (held-is h body cmds.each) held.each)
+            (let n = node-plain (in_flow each) held.holds.nodes in
+            omega (arith, n, out, row, flow));
+        last = does-carry (in_flow (front_last h body cmds.last)) _
+            (subst (λ c. CarriesRight c (4 * length body.graph.nodes + 3 * row_count body.writes))
+            (last-is h body cmds.last) held.last)
+            (let n = node-plain (in_flow (front_last h body cmds.last)) held.holds.nodes in
+            omega (arith, n, rows, here));
         begins = a;
-        round = omega (arith, e, last, long, many);
-        ends = omega (arith, c, count, lw, long, many);
-      }
-
-  module _ (own : homes slots b.down b.states (h.cells ∷ []) ≡ h ∷ []) where
-    cells-are : AreCells b (h.cells ∷ [])
-    cells-are = record {
-      many = sym one;
-      once = λ x y lx ly e. omega (arith, lx, ly);
-    }
-
-    module _ {fb fw : ℕ} (g : Given slots fb fw b) where
-      fits : HeldFits g body (h.cells ∷ []) cells-are cmds
-      fits =
-          let f = subst (FitsFor b body cmds) (sym own) fits-for in
-          let homes-are = are-homes g (h.cells ∷ []) cells-are 1 (omega arith) in
-          let rows = write-row-is g is (hs g (h.cells ∷ []) cells-are) 1 homes-are in
-          record {
-            one = f.one;
-            nodes = f.nodes;
-            full = f.full;
-            first = f.first;
-            split = f.split;
-            written = subst (λ own. (k : ℕ) → k < length own → (j : ℕ) × (j < length body.writes)
-                × (nth_place body.writes j ≡ (nth_home own k).place)) (sym own)
-                (written-last h body.writes rows held.holds.last);
-            find = f.find;
-            start = f.start;
-            each = f.each;
-            last = f.last;
-            begins = f.begins;
-            round = f.round;
-            ends = f.ends;
-          }
-
-      pub cells-lowered : (steps : List (StepOf Body)) → length (block_inputs b) ≤ 80
-          → steps ≡ held_steps (h ∷ []) body cmds → IsLowered slots fb fw (Visit b) steps
-      cells-lowered steps most e =
-          subst (IsLowered slots fb fw (Visit b))
-          (ap (λ hs. held_steps hs body cmds) own ∙ sym e)
-          (held-lowered g is (h.cells ∷ []) cells-are cmds fits most)
-
-      no-dearer : (row : Body) → length cmds.each + 1 ≤ length row.found
-          → length cmds.last ≤ length row.found → (n : ℕ) → 0 < n
-          → rounds_cost (all_rounds n (held_steps (h ∷ []) body cmds))
-          ≤ rounds_cost (all_rounds n (row_steps slots b row))
-      no-dearer row fewer ends zero lt = absurd (omega (arith, lt))
-      no-dearer row fewer ends (suc n) lt =
-          let f = fits-for in
-          let t = held-sum turn_cost (h ∷ []) body cmds n in
-          let a = turn-carried (held_start (h ∷ []) cmds.start) f.start.some in
-          let e = turn-carried (held_body (h ∷ []) body cmds.each) f.each.some in
-          let c = turn-carried (held_last (h ∷ []) body cmds.last) f.last.some in
-          let r = turn-carried row (some-carried row (omega (arith, fewer))) in
-          let place : is_state h.place.space ≡ false =
-          ap (λ hs. is_state (nth_home hs 0).place.space) (sym own)
-          ∙ home-rows g (h.cells ∷ []) cells-are 0 (let w = long g (h.cells ∷ []) cells-are in
-          omega (arith, w, one)) in
-          let k = sum_is turn_cost (suc n) (row_steps slots b row) in
-          let s = one-start slots b.down b.states h.cells h one own place (suc n) (Along row ∷ [])
-          in
-          let begins = held.start.few in
-          let l : turn_cost (held_body (h ∷ []) body cmds.each) ≤ turn_cost row =
-          omega (arith, e, r, fewer) in
-          let m = mul-le-mul_left n l in
-          omega (arith, t, a, c, r, k, s, begins, ends, m)
-
-      pub cells-program : (row : Body) → IsBlockBody slots b row
-          → AreFor row.reads row.writes row.graph row.outs row.found
-          → length cmds.each + 1 ≤ length row.found → length cmds.last ≤ length row.found
-          → (steps : List (StepOf Body)) → steps ≡ held_steps (h ∷ []) body cmds
-          → IsBlockProgram slots b steps
-      cells-program row row_is for fewer ends steps e = record {
-        row = row;
-        row_is = row_is;
-        found = for;
-        body = body;
-        is = is;
-        form = inr (record {
-          cells = h.cells ∷ [];
-          many = sym one;
-          once = λ x y lx ly s. omega (arith, lx, ly);
-          cmds = cmds;
-          form = e ∙ ap (λ hs. held_steps hs body cmds) (sym own);
-        });
-        cost = λ n lt. subst (λ ss. rounds_cost (all_rounds n ss)
-            ≤ n * (4 * length body.graph.nodes + 3 * length b.assigns) + length b.states)
-            (ap (λ hs. held_steps hs body cmds) own ∙ sym e)
-            (held-cost g is (h.cells ∷ []) cells-are cmds fits n lt);
-        no_dearer = λ n lt. subst (λ ss. rounds_cost (all_rounds n ss)
-            ≤ rounds_cost (all_rounds n (row_steps slots b row))) (sym e)
-            (no-dearer row fewer ends n lt);
+        round = omega (arith, e, ends-in, row, as-long, many);
+        ends = omega (arith, l, count, lw, as-long, many);
       }
 
 equation-below : (es : List Equation) (j : ℕ) (e : Equation) → slice_get es j ≡ Some e
@@ -394,7 +302,7 @@ equation-below (x ∷ xs) zero e at = omega arith
 equation-below (x ∷ xs) (suc j) e at = let l = equation-below xs j e at in omega (arith, l)
 
 -- a body at the same places of a graph that may stand for the block's is one of the block
-pub other-is : {slots : Slots} {b : Block} {body other : Body} → IsBlockBody slots b body
+other-is : {slots : Slots} {b : Block} {body other : Body} → IsBlockBody slots b body
     → IsOther body other → IsBlockBody slots b other
 other-is {b = b} {body = body} {other = other} is o = record {
   reads = o.reads ∙ is.reads;
@@ -411,40 +319,115 @@ other-is {b = b} {body = body} {other = other} is o = record {
   reduced = o.stands.reduced;
 }
 
--- so the body of a loop in cells is one of the block
-pub loop-body : {slots : Slots} {b : Block} {body : Body} {down : Bool} {states : List State}
-    {steps : List (StepOf Body)} → IsBlockBody slots b body
-    → (t : IsInCells slots down states body steps) → IsBlockBody slots b t.body
-loop-body {slots = slots} {b = b} is t = elim t.other [
+-- so is the one that the steps for a body do
+chosen-is : {slots : Slots} {b : Block} {row : Body} {steps : List (StepOf Body)}
+    → IsBlockBody slots b row → (t : IsChosen slots b.down b.states row steps)
+    → IsBlockBody slots b t.body
+chosen-is {slots = slots} {b = b} is t = elim t.other [
   | inl e ↦ subst (IsBlockBody slots b) (sym e) is
   | inr o ↦ other-is is o
 ]
 
--- the home of a block's one state
-one-home : (slots : Slots) (down : Bool) (ss : List State) (s : State) (h : Home) → ss ≡ s ∷ []
-    → h.place ≡ place_of down (slots s.name) → h.start ≡ s.start
-    → homes slots down ss (h.cells ∷ []) ≡ h ∷ []
-one-home slots down ss s h e p t = ap (λ l. homes slots down l (h.cells ∷ [])) e
-    ∙ ap (λ x. record { place = x; cells = h.cells; start = s.start } ∷ []) (sym p)
-    ∙ ap (λ x. record { place = h.place; cells = h.cells; start = x } ∷ []) (sym t)
+-- with its state in cells
+module _ {slots : Slots} {fb fw : ℕ} {b : Block} {row body : Body} (g : Given slots fb fw b)
+    (is : IsBlockBody slots b body) (steps : List (StepOf Body))
+    (t : IsInCells slots b.down b.states row body steps) (most : length (block_inputs b) ≤ 80) where
+  flow : steps ≡ Flowed (front_flow (own g t.state t.one t.cells) body t.cmds) ∷ []
+  flow = t.form ∙ steps-are (own g t.state t.one t.cells) body t.cmds
+
+  fit : HeldFits b body (own g t.state t.one t.cells) t.cmds
+  fit = fits g is (own g t.state t.one t.cells) t.cmds t.held
+
+  no-dearer : (n : ℕ) → 0 < n
+      → rounds_cost (all_rounds n (Flowed (front_flow (own g t.state t.one t.cells) body t.cmds)
+      ∷ [])) ≤ rounds_cost (all_rounds n (row_steps slots b.down b.states row))
+  no-dearer zero lt = absurd (omega (arith, lt))
+  no-dearer (suc m) lt =
+      let h = own g t.state t.one t.cells in
+      let f = fit in
+      let fewer = t.fewer in
+      let ends = t.last in
+      let z = flow-sum turn_cost h body t.cmds m in
+      let a = turn-carried (held_start h t.cmds.start) f.start.some in
+      let e = turn-carried (in_flow (front_body h body t.cmds.each)) f.each.some in
+      let c = turn-carried (in_flow (front_last h body t.cmds.last)) f.last.some in
+      let r = turn-carried row (some-carried row (omega (arith, fewer))) in
+      let k = sum_is turn_cost (suc m) (row_steps slots b.down b.states row) in
+      let s = one-start slots b.down b.states t.state t.one (home-row g t.state t.one t.cells)
+      (suc m) (Along row ∷ []) in
+      let begins = f.begins in
+      let l : turn_cost (in_flow (front_body h body t.cmds.each)) ≤ turn_cost row =
+      omega (arith, e, r, fewer) in
+      let p = mul-le-mul_left m l in
+      omega (arith, z, a, c, r, k, s, begins, ends, p)
+
+  cells-lowered : IsLowered slots fb fw (Visit b) steps
+  cells-lowered = subst (IsLowered slots fb fw (Visit b)) (sym flow)
+      (held-lowered g is t.state t.one t.cells t.cmds fit most)
+
+  cells-program : IsBlockBody slots b row → AreFor row.reads row.writes row.graph row.outs row.found
+      → IsBlockProgram slots b steps
+  cells-program row_is for = record {
+    row = row;
+    row_is = row_is;
+    found = for;
+    body = body;
+    is = is;
+    form = inr t;
+    cost = λ n lt. subst (λ ss. rounds_cost (all_rounds n ss)
+        ≤ n * (4 * length body.graph.nodes + 3 * length b.assigns) + length b.states) (sym flow)
+        (held-cost g is t.state t.one t.cells t.cmds fit most n lt);
+    no_dearer = λ n lt. subst (λ ss. rounds_cost (all_rounds n ss)
+        ≤ rounds_cost (all_rounds n (row_steps slots b.down b.states row))) (sym flow)
+        (no-dearer n lt);
+  }
+
+-- the chosen steps do the block
+module _ {slots : Slots} {fb fw : ℕ} {b : Block} {row : Body} (g : Given slots fb fw b)
+    (is : IsBlockBody slots b row) (for : AreFor row.reads row.writes row.graph row.outs row.found)
+    (most : length (block_inputs b) ≤ 80) (steps : List (StepOf Body))
+    (t : IsChosen slots b.down b.states row steps) where
+  pub chosen-lowered : IsLowered slots fb fw (Visit b) steps
+  chosen-lowered = elim t.form [
+    | inl e ↦ row-lowered g most is for e.1
+    | inr c ↦ cells-lowered g (chosen-is is t) steps c most
+  ]
+
+  pub chosen-program : IsBlockProgram slots b steps
+  chosen-program = elim t.form [
+    | inl e ↦ row-program row steps is for g.meets.some e.1
+    | inr c ↦ cells-program g (chosen-is is t) steps c most is for
+  ]
 
 -- what is known of a loop in cells
-pub loop-in-cells : (slots : Slots) (down : Bool) (ss : List State) (s : State) (b body : Body)
+pub loop-chosen : (slots : Slots) (down : Bool) (ss : List State) (s : State) (row body : Body)
     (r : HeldLoop) (steps : List (StepOf Body)) → ss ≡ s ∷ []
-    → IsLoopFor (place_of down (slots s.name)) s.start body (length b.found) r
-    → (body ≡ b) ⊎ IsOther b body → steps ≡ held_steps (r.home ∷ []) body (commands_in r)
-    → IsInCells slots down ss b steps
-loop-in-cells slots down ss s b body r steps e l o f = record {
-  one = ap length e;
-  body = body;
-  other = o;
-  loop = r;
-  home = one-home slots down ss s r.home e l.row l.begins;
-  held = l.held;
-  fewer = l.fewer;
-  last = l.last;
-  form = f;
-}
+    → IsLoopFor (place_of down (slots s.name)) s.start body (length row.found) r
+    → (body ≡ row) ⊎ IsOther row body → steps ≡ held_steps r.home body (commands_in r)
+    → IsChosen slots down ss row steps
+loop-chosen slots down ss s row body r steps e l o f =
+    let home-is : r.home ≡ home slots down s r.home.cells =
+    ap (λ p. record { place = p; cells = r.home.cells; start = r.home.start }) l.row
+    ∙ ap (λ v. record {
+      place = place_of down (slots s.name);
+      cells = r.home.cells;
+      start = v;
+    }) l.begins in
+    let fewer = l.fewer in
+    record {
+      body = body;
+      other = o;
+      form = inr (record {
+        state = s;
+        one = e;
+        cells = r.home.cells;
+        cmds = commands_in r;
+        held = subst (λ h. IsHeldOne h body (commands_in r)) home-is l.held;
+        fewer = omega (arith, fewer);
+        last = l.last;
+        form = f ∙ ap (λ h. held_steps h body (commands_in r)) home-is;
+      });
+    }
 
 pub some-weaker : {A : Type 0} (o : Option A) (P Q : A → Type 0) → ((x : A) → P x → Q x)
     → IfSome o P → IfSome o Q

@@ -62,7 +62,7 @@ block-keeps {slots = slots} {b = b} {body = body} g is n lt bits q out =
 pub row-lowered : {slots : Slots} {fb fw : ℕ} {b : Block} {body : Body} {steps : List (StepOf Body)}
     → Given slots fb fw b → length (block_inputs b) ≤ 80 → IsBlockBody slots b body
     → AreFor body.reads body.writes body.graph body.outs body.found
-    → steps ≡ row_steps slots b body → IsLowered slots fb fw (Visit b) steps
+    → steps ≡ row_steps slots b.down b.states body → IsLowered slots fb fw (Visit b) steps
 row-lowered {slots = slots} {fb = fb} {fw = fw} {b = b} {body = body} {steps = steps} g most is for e =
     subst (IsLowered slots fb fw (Visit b)) (sym e) (record {
       well = are-well g is;
@@ -71,15 +71,15 @@ row-lowered {slots = slots} {fb = fb} {fw = fw} {b = b} {body = body} {steps = s
         gives = block-gives g is n lt;
         keeps = λ bits q row out. block-keeps g is n lt bits q (λ r. out (inl r));
       };
-      cheap = λ n lt wide. within-ceiling is n (rounds_cost (all_rounds n (row_steps slots b body)))
+      cheap = λ n lt wide. within-ceiling is n (rounds_cost (all_rounds n (row_steps slots b.down b.states body)))
           (program-cost is for g.meets.some n);
-      plain = λ n lt wide. within-ceiling is n (plain_costs (all_rounds n (row_steps slots b body)))
+      plain = λ n lt wide. within-ceiling is n (plain_costs (all_rounds n (row_steps slots b.down b.states body)))
           (program-plain is g.meets.some n);
     })
 
 pub row-program : {slots : Slots} {b : Block} (body : Body) (steps : List (StepOf Body))
     → IsBlockBody slots b body → AreFor body.reads body.writes body.graph body.outs body.found
-    → 0 < length b.assigns → steps ≡ row_steps slots b body → IsBlockProgram slots b steps
+    → 0 < length b.assigns → steps ≡ row_steps slots b.down b.states body → IsBlockProgram slots b steps
 row-program {slots = slots} {b = b} body steps is for some e = record {
   row = body;
   row_is = is;
@@ -91,5 +91,5 @@ row-program {slots = slots} {b = b} body steps is for some e = record {
       ≤ n * (4 * length body.graph.nodes + 3 * length b.assigns) + length b.states) (sym e)
       (program-cost is for some n);
   no_dearer = λ n lt. subst (λ ss. rounds_cost (all_rounds n ss)
-      ≤ rounds_cost (all_rounds n (row_steps slots b body))) (sym e) (omega arith);
+      ≤ rounds_cost (all_rounds n (row_steps slots b.down b.states body))) (sym e) (omega arith);
 }

@@ -1,9 +1,9 @@
 -- The loop program of a serial block: the states get their starts, then the block's graph is done
--- at each position. The states stand in rows, or in cells from one position to the next and in rows
--- in the end.
+-- at each position. The states stand in rows, or one state in cells from one position to the next
+-- and in its row in the end.
 use Rattle.std.specs.Prelude.{◌≡◌, ◌⊎◌, ℕ, ◌+◌, ◌*◌, ◌<◌, ◌≤◌, Bool, if◌then◌else◌, List, [], ◌∷◌}
 use Rattle.std.specs.Prelude.{◌++◌}
-use Rattle.std.specs.Prelude.{map, length, slice_get, slice_index_or, Option, Some, None}
+use Rattle.std.specs.Prelude.{map, length, slice_get, Option, Some, None}
 use Rattle.mig_graph.specs.declared.Lit.{Lit}
 use Rattle.mig_graph.specs.Graph.{IsGraph}
 use Rattle.mig_graph.specs.Outputs.{AreNamed}
@@ -27,9 +27,8 @@ use Rattle.loop_ir.specs.Spots.{gives}
 use Rattle.loop_ir.specs.Statements.{Slots, targets_of}
 use Rattle.block_lower.specs.Inputs.{block_inputs, name_at}
 use Rattle.block_lower.specs.Choice.{AreFor, IsOther}
-use Rattle.block_lower.specs.declared.held.HeldLoop.{HeldLoop}
 use Rattle.block_lower.specs.declared.home.Home.{Home}
-use Rattle.block_lower.specs.Held.{HeldCommands, commands_in, held_steps, IsHeldOne}
+use Rattle.block_lower.specs.Held.{HeldCommands, held_steps, IsHeldOne}
 
 -- a word is read and written at the position, from above where the block goes down; a bit has one
 -- row
@@ -79,48 +78,46 @@ pub record IsBlockBody (slots : Slots) (b : Block) (body : Body) : Type 0 where
   pub named : AreNamed body.graph body.outs
   pub reduced : IsReduced body.graph body.outs
 
--- the block's states, each with the number of its cells
-abbrev pub homes : Slots → Bool → List State → List ℕ → List Home
-homes slots down [] ws = []
-homes slots down (s ∷ ss) [] = []
-homes slots down (s ∷ ss) (w ∷ ws) = record {
+-- the state, with the number of its cells
+abbrev pub home : Slots → Bool → State → ℕ → Home
+home slots down s w = record {
   place = place_of down (slots s.name);
   cells = w;
   start = s.start;
-} ∷ homes slots down ss ws
+}
 
--- first the states' starts, in their order, and then the block's body at each position
-abbrev pub row_steps : Slots → Block → Body → List (StepOf Body)
-row_steps slots b body = map (start slots b.down) b.states ++ Along body ∷ []
+-- first the states' starts, in their order, and then the body at each position
+abbrev pub row_steps : Slots → Bool → List State → Body → List (StepOf Body)
+row_steps slots down states body = map (start slots down) states ++ Along body ∷ []
 
--- the starts into cells, each state's its own; and the body at each position, with the cells in
--- place of the states' rows, but that it writes these rows at the top position
-pub record IsHeldLoop (slots : Slots) (b : Block) (body : Body) (steps : List (StepOf Body)) : Type
-    0 where
-  pub cells : List ℕ
-  pub many : length cells ≡ length b.states
-  pub once : (x y : ℕ) → x < length cells → y < length cells
-      → slice_index_or cells x 0 ≡ slice_index_or cells y 0 → x ≡ y
-  pub cmds : HeldCommands
-  pub form : steps ≡ held_steps (homes slots b.down b.states cells) body cmds
-
--- The one state of a block stands in cells, in a loop of the body or of another that may stand for
--- it. Each body of the loop carries its commands: fewer than the body carries, or at the top
--- position no more
-pub record IsInCells (slots : Slots) (down : Bool) (states : List State) (b : Body)
+-- The one state of a block stands in cells: its start goes into them, and the body is done at each
+-- position, which at the top one leaves the state in its row. Each of these carries its commands:
+-- fewer than the body with its state in a row carries, or at the top position no more
+pub record IsInCells (slots : Slots) (down : Bool) (states : List State) (row body : Body)
     (steps : List (StepOf Body)) : Type 0 where
-  pub one : length states ≡ 1
+  pub state : State
+  pub one : states ≡ state ∷ []
+  pub cells : ℕ
+  pub cmds : HeldCommands
+  pub held : IsHeldOne (home slots down state cells) body cmds
+  pub fewer : length cmds.each < length row.found
+  pub last : length cmds.last ≤ length row.found
+  pub form : steps ≡ held_steps (home slots down state cells) body cmds
+
+-- the body with its states in rows is done, or another one with its one state in cells
+abbrev pub AreStepsOf : Slots → Bool → List State → Body → Body → List (StepOf Body) → Type 0
+AreStepsOf slots down states row body steps = ((body ≡ row)
+    × (steps ≡ row_steps slots down states row)) ⊎ IsInCells slots down states row body steps
+
+-- the steps chosen for a body: they do it, or another that may stand for it
+pub record IsChosen (slots : Slots) (down : Bool) (states : List State) (row : Body)
+    (steps : List (StepOf Body)) : Type 0 where
   pub body : Body
-  pub other : (body ≡ b) ⊎ IsOther b body
-  pub loop : HeldLoop
-  pub home : homes slots down states (loop.home.cells ∷ []) ≡ loop.home ∷ []
-  pub held : IsHeldOne loop.home body (commands_in loop)
-  pub fewer : length loop.each.items + 1 ≤ length b.found
-  pub last : length loop.last.items ≤ length b.found
-  pub form : steps ≡ held_steps (loop.home ∷ []) body (commands_in loop)
+  pub other : (body ≡ row) ⊎ IsOther row body
+  pub form : AreStepsOf slots down states row body steps
 
 -- A body of the block carries the commands that were found for it with the states in rows. It is
--- what the loop does at each position, or else a body of the block with its states in cells. There
+-- what the loop does at each position, or else a body of the block with its state in cells. There
 -- are no more commands than the graph says that is done, and at no width more than with the states
 -- in rows
 pub record IsBlockProgram (slots : Slots) (b : Block) (steps : List (StepOf Body)) : Type 0 where
@@ -129,8 +126,9 @@ pub record IsBlockProgram (slots : Slots) (b : Block) (steps : List (StepOf Body
   pub found : AreFor row.reads row.writes row.graph row.outs row.found
   pub body : Body
   pub is : IsBlockBody slots b body
-  pub form : ((body ≡ row) × (steps ≡ row_steps slots b row)) ⊎ IsHeldLoop slots b body steps
+  pub form : AreStepsOf slots b.down b.states row body steps
   pub cost : (n : ℕ) → 0 < n → rounds_cost (all_rounds n steps)
       ≤ n * (4 * length body.graph.nodes + 3 * length b.assigns) + length b.states
   pub no_dearer : (n : ℕ) → 0 < n
-      → rounds_cost (all_rounds n steps) ≤ rounds_cost (all_rounds n (row_steps slots b row))
+      → rounds_cost (all_rounds n steps)
+      ≤ rounds_cost (all_rounds n (row_steps slots b.down b.states row))

@@ -1,15 +1,20 @@
--- The loop of a block whose states stand in cells from one position to the next, and in their rows
+-- The loop of a block whose one state stands in cells from one position to the next, and in its row
 -- in the end.
 use Rattle.std.specs.Prelude.{◌≡◌, ℕ, ◌+◌, ◌*◌, ◌<◌, ◌≤◌, ◌==◌, ◌&&◌, Bool, true, List, [], ◌∷◌}
 use Rattle.std.specs.Prelude.{map, length, if◌then◌else◌}
 use Rattle.std.specs.List.{list_all}
 use Rattle.mig_graph.specs.declared.Lit.{Lit}
 use Rattle.row_alloc.specs.declared.body.BodyCmd.{BodyCmd}
+use Rattle.loop_ir.specs.declared.ir.Move.TheVariants.{SetN, AddI}
 use Rattle.loop_ir.specs.declared.ir.Space.TheVariants.{Cells}
-use Rattle.loop_ir.specs.declared.ir.Sub.TheVariants.{Zero}
+use Rattle.loop_ir.specs.declared.ir.Sub.{Sub}
+use Rattle.loop_ir.specs.declared.ir.Sub.TheVariants.{Zero, Inner as At_inner, InnerDown, Register}
 use Rattle.loop_ir.specs.declared.ir.Place.{Place}
 use Rattle.loop_ir.specs.Plain.{Block as Body, StepOf}
-use Rattle.loop_ir.specs.Plain.StepOf.{Single, Alternate}
+use Rattle.loop_ir.specs.Plain.StepOf.{Flowed}
+use Rattle.loop_ir.specs.Flows.{FlowOf}
+use Rattle.loop_ir.specs.Flows.FlowOf.{End, Do, Put, If, Loop}
+use Rattle.loop_ir.specs.Flows.TurnsOf.{Last}
 use Rattle.row_alloc.specs.declared.body.OutRow.{OutRow}
 use Rattle.row_alloc.specs.Held.{DoesHeld}
 use Rattle.loop_ir.specs.Spots.{same_space}
@@ -28,15 +33,19 @@ cell_place w = record { space = Cells; which = w; sub = Zero }
 abbrev pub same_place : Place → Place → Bool
 same_place p q = same_space p.space q.space && (p.which == q.which && same_sub p.sub q.sub)
 
--- the place, or in place of a state's row its cells
-abbrev pub held_place : List Home → Place → Place
-held_place [] p = p
-held_place (h ∷ hs) p = if same_place p h.place then cell_place h.cells else held_place hs p
+-- the subscript in a flow: register 0 holds the position, and register 1 how many come after it
+abbrev pub in_register : Sub → Sub
+in_register At_inner = Register 0
+in_register InnerDown = Register 1
+in_register s = s
 
--- the literals of the states' starts
-abbrev pub start_lits : List Home → List Lit
-start_lits [] = []
-start_lits (h ∷ hs) = record { node = 0; inverted = h.start } ∷ start_lits hs
+-- the place in a flow
+abbrev pub flow_place : Place → Place
+flow_place p = record { space = p.space; which = p.which; sub = in_register p.sub }
+
+-- the place in a flow, or in place of the state's row its cells
+abbrev pub held_place : Home → Place → Place
+held_place h p = if same_place p h.place then cell_place h.cells else flow_place p
 
 -- the commands of the three bodies
 pub record HeldCommands : Type 0 where
@@ -44,42 +53,46 @@ pub record HeldCommands : Type 0 where
   pub each : List BodyCmd
   pub last : List BodyCmd
 
--- all starts, into cells
-abbrev pub held_start : List Home → List BodyCmd → Body
-held_start hs cmds = record {
-  reads = [];
-  graph = record { inputs = 0; nodes = [] };
-  outs = start_lits hs;
-  writes = map (λ h. cell_place h.cells) hs;
-  found = cmds;
-}
+-- the start, into cells
+abbrev pub held_start : Home → List BodyCmd → Body
+held_start h cmds = let l : Lit = record { node = 0; inverted = h.start } in
+    record {
+      reads = [];
+      graph = record { inputs = 0; nodes = [] };
+      outs = l ∷ [];
+      writes = cell_place h.cells ∷ [];
+      found = cmds;
+    }
 
--- the body, with its states in cells
-abbrev pub held_body : List Home → Body → List BodyCmd → Body
-held_body hs b cmds = record {
-  reads = map (held_place hs) b.reads;
+-- the body, with its state in cells
+abbrev pub held_body : Home → Body → List BodyCmd → Body
+held_body h b cmds = record {
+  reads = map (held_place h) b.reads;
   graph = b.graph;
   outs = b.outs;
-  writes = map (held_place hs) b.writes;
+  writes = map (held_place h) b.writes;
   found = cmds;
 }
 
--- the body that finds its states in cells, and leaves them in their rows
-abbrev pub held_last : List Home → Body → List BodyCmd → Body
-held_last hs b cmds = record {
-  reads = map (held_place hs) b.reads;
+-- the body that finds its state in cells, and leaves it in its row
+abbrev pub held_last : Home → Body → List BodyCmd → Body
+held_last h b cmds = record {
+  reads = map (held_place h) b.reads;
   graph = b.graph;
   outs = b.outs;
-  writes = b.writes;
+  writes = map flow_place b.writes;
   found = cmds;
 }
 
--- the starts, and the body at each position: at the top position it leaves the states in their rows
-abbrev pub held_steps : List Home → Body → HeldCommands → List (StepOf Body)
-held_steps hs b cmds = Single (held_start hs cmds.start) ∷ Alternate (record {
-  each = held_body hs b cmds.each;
-  last = held_last hs b cmds.last;
-} ∷ []) ∷ []
+-- first a start; then one body at each position but the top one, and another one there
+abbrev pub each_last : {A : Type 0} → A → A → A → FlowOf A
+each_last start each last = Do start (Put (SetN 1) (Loop 1 (Last (If 1 (Do each End) (Do last End)
+    (Put (AddI 0 1) End))) End))
+
+-- the start, and the body at each position: at the top position it leaves the state in its row
+abbrev pub held_steps : Home → Body → HeldCommands → List (StepOf Body)
+held_steps h b cmds = Flowed (each_last (held_start h cmds.start) (held_body h b cmds.each)
+    (held_last h b cmds.last)) ∷ []
 
 -- the body carries commands, at most so many, and they do it wherever its rows lie
 pub record CarriesRight (b : Body) (most : ℕ) : Type 0 where
@@ -104,11 +117,11 @@ pub record HoldsOne (w : ℕ) (b : Body) : Type 0 where
 
 -- The loop of a body with one state in cells: each of its bodies carries its commands
 pub record IsHeldOne (h : Home) (b : Body) (cmds : HeldCommands) : Type 0 where
-  pub holds : HoldsOne h.cells (held_body (h ∷ []) b cmds.each)
-  pub start : CarriesRight (held_start (h ∷ []) cmds.start) 1
-  pub each : CarriesRight (held_body (h ∷ []) b cmds.each) (4 * length b.graph.nodes
-      + 3 * row_count (map (held_place (h ∷ [])) b.writes))
-  pub last : CarriesRight (held_last (h ∷ []) b cmds.last) (4 * length b.graph.nodes
+  pub holds : HoldsOne h.cells (held_body h b cmds.each)
+  pub start : CarriesRight (held_start h cmds.start) 1
+  pub each : CarriesRight (held_body h b cmds.each) (4 * length b.graph.nodes
+      + 3 * row_count (map (held_place h) b.writes))
+  pub last : CarriesRight (held_last h b cmds.last) (4 * length b.graph.nodes
       + 3 * row_count b.writes)
 
 -- what the search has found for the three bodies

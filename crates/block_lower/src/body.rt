@@ -40,11 +40,12 @@ pub(crate) fn constant(value: bool, place: Place, alloc: Global) -> Result<Body,
     })
 }
 
-/// The body of a block at a position, and other graphs that may be right for it.
+/// The body of a block at a position, with its states in rows, and other graphs that may be right
+/// for it.
 #[derive(Drop)]
-pub(crate) struct BlockBody {
+pub struct BlockBody {
     pub body: Body,
-    pub offers: Vec<Ranked>,
+    pub(crate) offers: Vec<Ranked>,
 }
 
 /// The body that does the chosen graph at these places.
@@ -62,8 +63,8 @@ fn body_at(least: Least, reads: Vec<Place>, writes: Vec<Place>) -> BlockBody
     BlockBody { body, offers }
 }
 
-/// The body of a block at a position, whatever its states are.
-pub(crate) fn block_body(
+/// The body of a block at a position, whatever its states are, with the commands found for it.
+pub fn block_body(
     down: bool,
     lets: &[Assign],
     assigns: &[Assign],

@@ -11,11 +11,14 @@ ghost use Rattle.block_lower.specs.Held.{CarriesRight, HoldsOne, IsHeldOne, comm
 ghost use Rattle.block_lower.specs.Held.{IsLoopFor};
 
 use crate::copied::copied;
+use crate::flow::each_last;
 use crate::held_rounds::{HeldTry, held_tries};
-use crate::home::{Home, cell_place, enters, held_places, leaves, row_count, stand_in};
+use crate::home::{
+    Home, cell_place, enters, flow_places, held_places, leaves, row_count, stand_in,
+};
 use crate::rounds::Ranked;
 use faults::keep;
-use loop_ir::{Body, LoopProgram, Place, Step, Turn, out_rows};
+use loop_ir::{Body, LoopProgram, Place, Step, out_rows};
 use mig_graph::{Lit, Mig, MigOuts, NoMemory};
 use mig_rewrite::kept;
 use row_alloc::{BodyCmd, Search, held_commands_of};
@@ -74,7 +77,7 @@ fn commands_for(
 
 /// The body that gives the state its start in cells.
 fn start_body(home: Home, found: Vec<BodyCmd>, alloc: Global) -> Result<Body, NoMemory>
-    ensures { IfOk result (λ r. block_of r ≡ held_start (home ∷ []) found.items) }
+    ensures { IfOk result (λ r. block_of r ≡ held_start home found.items) }
 {
     let mut outs = Vec::new(alloc);
     let mut writes = Vec::new(alloc);
@@ -130,11 +133,11 @@ pub(crate) fn each_commands(
     most: usize,
     alloc: Global,
 ) -> Result<Option<Vec<BodyCmd>>, NoMemory>
-    ensures holds { IfOk result (λ o. IfSome o (λ cmds. HoldsOne home.cells (held_body (home ∷ [])
+    ensures holds { IfOk result (λ o. IfSome o (λ cmds. HoldsOne home.cells (held_body home
         (block_of body.now) cmds.items))) }
-    ensures right { IfOk result (λ o. IfSome o (λ cmds. CarriesRight (held_body (home ∷ [])
+    ensures right { IfOk result (λ o. IfSome o (λ cmds. CarriesRight (held_body home
         (block_of body.now) cmds.items) (4 * length body.now.graph.mig.nodes
-        + 3 * row_count (map (held_place (home ∷ [])) body.now.writes.items)))) }
+        + 3 * row_count (map (held_place home) body.now.writes.items)))) }
     ensures few { IfOk result (λ o. IfSome o (λ cmds. length cmds.items ≤ most)) }
 {
     let reads = held_places(home, &body.reads, alloc)?;
@@ -154,7 +157,7 @@ fn last_commands(
     most: usize,
     alloc: Global,
 ) -> Result<Option<Vec<BodyCmd>>, NoMemory>
-    ensures right { IfOk result (λ o. IfSome o (λ cmds. CarriesRight (held_last (home ∷ [])
+    ensures right { IfOk result (λ o. IfSome o (λ cmds. CarriesRight (held_last home
         (block_of body.now) cmds.items) (4 * length body.now.graph.mig.nodes
         + 3 * row_count body.now.writes.items))) }
     ensures few { IfOk result (λ o. IfSome o (λ cmds. length cmds.items ≤ most)) }
@@ -163,11 +166,12 @@ fn last_commands(
     if reads.len() > 255 || body.graph.outs.len() != body.writes.len() {
         return Ok(None);
     }
+    let writes = flow_places(&body.writes, alloc)?;
     let few = most.min(plain_most(&body.graph, &body.writes));
-    let (graph, writes) = (&body.graph, &body.writes);
-    match commands_for(graph, &reads, writes, Search::Narrow, few, alloc)? {
+    let graph = &body.graph;
+    match commands_for(graph, &reads, &writes, Search::Narrow, few, alloc)? {
         Some(cmds) => Ok(Some(cmds)),
-        None => commands_for(graph, &reads, writes, Search::Broad, few, alloc),
+        None => commands_for(graph, &reads, &writes, Search::Broad, few, alloc),
     }
 }
 
@@ -371,7 +375,7 @@ fn held_body(
     alloc: Global,
 ) -> Result<Option<Body>, NoMemory>
     ensures { IfOk result (λ o. IfSome o (λ r. block_of r ≡ record {
-      reads = map (held_place (home ∷ [])) body.now.reads.items;
+      reads = map (held_place home) body.now.reads.items;
       graph = body.now.graph.mig;
       outs = body.now.graph.outs.items;
       writes = writes.items;
@@ -390,14 +394,14 @@ fn held_body(
 }
 
 impl HeldLoop {
-    /// The loop's steps: the start, and the body at each position. There are none where the body's
-    /// graph isn't copied.
+    /// The loop's one step: the start, and the body at each position. There is none where the
+    /// body's graph isn't copied.
     pub(crate) fn into_program(
         self,
         body: &Body,
         alloc: Global,
     ) -> Result<Option<LoopProgram>, NoMemory>
-        ensures { IfOk result (λ o. IfSome o (λ p. steps_of p ≡ held_steps (self.home ∷ [])
+        ensures { IfOk result (λ o. IfSome o (λ p. steps_of p ≡ held_steps self.home
             (block_of body.now) (commands_in self))) }
     {
         let HeldLoop {
@@ -407,7 +411,7 @@ impl HeldLoop {
             last,
         } = self;
         let cells = held_places(home, &body.writes, alloc)?;
-        let rows = body.writes.to_vec(alloc)?;
+        let rows = flow_places(&body.writes, alloc)?;
         let Some(each) = held_body(home, body, cells, each, alloc)? else {
             return Ok(None);
         };
@@ -415,11 +419,9 @@ impl HeldLoop {
             return Ok(None);
         };
         let first = start_body(home, start, alloc)?;
-        let mut turns = Vec::new(alloc);
-        keep(&mut turns, Turn { each, last })?;
+        let flow = each_last(first, each, last, alloc)?;
         let mut steps = Vec::new(alloc);
-        keep(&mut steps, Step::Once(first))?;
-        keep(&mut steps, Step::Alternate(turns))?;
+        keep(&mut steps, Step::Flow(flow))?;
         Ok(Some(LoopProgram { steps }))
     }
 }
@@ -427,7 +429,7 @@ impl HeldLoop {
 impl OtherLoop {
     /// The steps of the loop that does the other body, so too.
     pub(crate) fn into_program(self, alloc: Global) -> Result<Option<LoopProgram>, NoMemory>
-        ensures { IfOk result (λ o. IfSome o (λ p. steps_of p ≡ held_steps (self.held.home ∷ [])
+        ensures { IfOk result (λ o. IfSome o (λ p. steps_of p ≡ held_steps self.held.home
             (block_of self.body) (commands_in self.held))) }
     {
         let OtherLoop { body, held } = self;

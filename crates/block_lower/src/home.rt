@@ -1,9 +1,9 @@
 //! The places of a body whose state stands in cells.
 
-ghost use Rattle.std.specs.Prelude.{◌≡◌, ◌<◌, ◌≤◌, ◌^◌, [], ◌∷◌, length, map, IfOk};
+ghost use Rattle.std.specs.Prelude.{◌≡◌, ◌<◌, ◌≤◌, ◌^◌, length, map, IfOk};
 ghost use Rattle.loop_ir.specs.Spots.{is_state};
 ghost use Rattle.loop_ir.specs.States.{row_count, enters, leaves};
-ghost use Rattle.block_lower.specs.Held.{cell_place, held_place, stand_in};
+ghost use Rattle.block_lower.specs.Held.{cell_place, flow_place, held_place, stand_in};
 
 use faults::keep;
 use loop_ir::{Place, Space, Sub};
@@ -30,14 +30,49 @@ pub(crate) fn cell_place(cells: u8) -> Place
     }
 }
 
-/// The place, or in place of the state's row its cells.
+/// The place in a flow: register 0 holds the position, and register 1 how many come after it.
+fn flow_place(place: Place) -> Place
+    ensures { result ≡ flow_place place }
+{
+    let sub = match place.sub {
+        Sub::Inner => Sub::Register(0),
+        Sub::InnerDown => Sub::Register(1),
+        Sub::Zero
+        | Sub::Top
+        | Sub::Outer
+        | Sub::OuterDown
+        | Sub::Sum
+        | Sub::DownSum
+        | Sub::DownPlusN
+        | Sub::NPlusInner
+        | Sub::Register(_) => place.sub,
+    };
+    Place {
+        space: place.space,
+        which: place.which,
+        sub,
+    }
+}
+
+/// So for each place.
+pub(crate) fn flow_places(places: &[Place], alloc: Global) -> Result<Vec<Place>, NoMemory>
+    ensures { IfOk result (λ r. r.items ≡ map flow_place places.now) }
+{
+    let mut flow = Vec::new(alloc);
+    for place in places {
+        keep(&mut flow, flow_place(*place))?;
+    }
+    Ok(flow)
+}
+
+/// The place in a flow, or in place of the state's row its cells.
 fn held_place(home: Home, place: Place) -> Place
-    ensures { result ≡ held_place (home ∷ []) place }
+    ensures { result ≡ held_place home place }
 {
     if place == home.place {
         cell_place(home.cells)
     } else {
-        place
+        flow_place(place)
     }
 }
 
@@ -47,7 +82,7 @@ pub(crate) fn held_places(
     places: &[Place],
     alloc: Global,
 ) -> Result<Vec<Place>, NoMemory>
-    ensures { IfOk result (λ r. r.items ≡ map (held_place (home ∷ [])) places.now) }
+    ensures { IfOk result (λ r. r.items ≡ map (held_place home) places.now) }
 {
     let mut held = Vec::new(alloc);
     for place in places {

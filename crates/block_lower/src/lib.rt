@@ -4,6 +4,7 @@
 mod body;
 mod choice;
 mod copied;
+mod flow;
 mod held;
 mod held_rounds;
 mod home;
@@ -12,5 +13,6 @@ mod lower;
 mod places;
 mod rounds;
 
-pub use lower::lower_block;
+pub use body::{BlockBody, block_body};
+pub use lower::{block_loop, lower_block};
 pub use mig_graph::NoMemory;

@@ -1,14 +1,13 @@
 //! The loop program of a serial block.
 
-ghost use Rattle.std.specs.Prelude.{◌≡◌, ◌++◌, ◌∷◌, [], map, IfOk, IfSome};
+ghost use Rattle.std.specs.Prelude.{◌≡◌, map, IfOk, IfSome};
 ghost use Rattle.mig_graph.specs.Outputs.{AreNamed};
 ghost use Rattle.op_text.specs.Language.{Visit};
 ghost use Rattle.loop_ir.specs.Plain.{block_of, step_of, steps_of};
-ghost use Rattle.loop_ir.specs.Plain.StepOf.{Along};
 ghost use Rattle.loop_ir.specs.Statements.{slots_of, BlockMeets, IsPlaced};
 ghost use Rattle.loop_ir.specs.Lowered.{IsLowered};
 ghost use Rattle.block_lower.specs.Inputs.{block_from};
-ghost use Rattle.block_lower.specs.Form.{start, IsInCells, IsBlockProgram};
+ghost use Rattle.block_lower.specs.Form.{start, row_steps, IsChosen, IsBlockProgram};
 
 use crate::body::{BlockBody, block_body, constant};
 use crate::held::{commands_of, fewer_loop, own_loop};
@@ -46,8 +45,8 @@ fn row_loop(
     names: &NameMap,
     alloc: Global,
 ) -> Result<LoopProgram, NoMemory>
-    ensures { IfOk result (λ p. steps_of p ≡ map (start (slots_of names.now) down) states.now
-        ++ Along (block_of body) ∷ []) }
+    ensures { IfOk result (λ p. steps_of p
+        ≡ row_steps (slots_of names.now) down states.now (block_of body)) }
 {
     let mut steps = starts(down, states, names, alloc)?;
     keep(&mut steps, Step::Each(body))?;
@@ -65,7 +64,7 @@ fn in_cells(
     alloc: Global,
 ) -> Result<Option<LoopProgram>, NoMemory>
     requires { AreNamed body.now.graph.mig body.now.graph.outs.items }
-    ensures { IfOk result (λ o. IfSome o (λ p. IsInCells (slots_of names.now) down states.now
+    ensures { IfOk result (λ o. IfSome o (λ p. IsChosen (slots_of names.now) down states.now
         (block_of body.now) (steps_of p))) }
 {
     match states {
@@ -83,6 +82,26 @@ fn in_cells(
             }
         }
         _ => Ok(None),
+    }
+}
+
+/// The loop program that does a block's body at each position: with its states in rows, or its one
+/// state in cells, where that was found to take fewer commands than the body carries.
+pub fn block_loop(
+    down: bool,
+    states: &[State],
+    block: BlockBody,
+    names: &NameMap,
+    alloc: Global,
+) -> Result<LoopProgram, NoMemory>
+    requires { AreNamed block.body.graph.mig block.body.graph.outs.items }
+    ensures { IfOk result (λ p. IsChosen (slots_of names.now) down states.now
+        (block_of block.body) (steps_of p)) }
+{
+    let BlockBody { body, offers } = block;
+    match in_cells(down, states, &body, &offers, names, alloc)? {
+        Some(program) => Ok(program),
+        None => row_loop(down, states, body, names, alloc),
     }
 }
 
@@ -105,9 +124,6 @@ pub fn lower_block(
         names.now.free_word (Visit (block_from down states.now lets.now assigns.now))
         (steps_of p)) }
 {
-    let BlockBody { body, offers } = block_body(down, lets, assigns, names, alloc)?;
-    match in_cells(down, states, &body, &offers, names, alloc)? {
-        Some(program) => Ok(program),
-        None => row_loop(down, states, body, names, alloc),
-    }
+    let block = block_body(down, lets, assigns, names, alloc)?;
+    block_loop(down, states, block, names, alloc)
 }

@@ -2,9 +2,9 @@
 use Rattle.std.specs.Prelude.{ℕ, ◌==◌, ◌&&◌, Bool, true, List, [], ◌∷◌, if◌then◌else◌}
 use Rattle.std.specs.List.{list_any, list_all}
 use Rattle.loop_ir.specs.declared.ir.Place.{Place}
-use Rattle.loop_ir.specs.Plain.{Block, InnerOf, TurnOf, StepOf}
+use Rattle.loop_ir.specs.Plain.{Block, InnerOf, StepOf}
 use Rattle.loop_ir.specs.Plain.InnerOf.{Alone, Across}
-use Rattle.loop_ir.specs.Plain.StepOf.{Single, Along, Nest, Pairs, Alternate, Flowed}
+use Rattle.loop_ir.specs.Plain.StepOf.{Single, Along, Nest, Flowed}
 use Rattle.loop_ir.specs.Flows.{FlowOf}
 use Rattle.loop_ir.specs.FlowTests.{widths}
 use Rattle.loop_ir.specs.Loops.{RoundOf, flow_rounds}
@@ -43,18 +43,6 @@ inner_finds alive [] = true
 inner_finds alive (Alone b ∷ ps) = finds alive b && inner_finds (left_by b) ps
 inner_finds alive (Across c b ∷ ps) = loop_finds alive b && inner_finds (left_by b) ps
 
--- what bodies that take turns leave, each done once
-abbrev pub turns_left : List ℕ → List (TurnOf Block) → List ℕ
-turns_left alive [] = alive
-turns_left alive (t ∷ ts) = turns_left (left_by t.each) ts
-
--- each of them finds what the one before it leaves, and so does the one in its place at the top
--- position
-abbrev pub turns_find : List ℕ → List (TurnOf Block) → Bool
-turns_find alive [] = true
-turns_find alive (t ∷ ts) = (finds alive t.each && finds alive t.last)
-    && turns_find (left_by t.each) ts
-
 -- each round finds the states that it reads among those that the one before it leaves
 abbrev pub chained : List ℕ → List (RoundOf Block) → Bool
 chained alive [] = true
@@ -64,15 +52,11 @@ chained alive (r ∷ rs) = finds alive r.part && chained (left_by r.part) rs
 abbrev pub flow_finds : FlowOf Block → Bool
 flow_finds f = list_all (λ n. chained [] (flow_rounds n f)) widths
 
--- each step finds its states: a loop that may have no round leaves none that is sure, nor does one
--- whose last body is not always the same
+-- each step finds its states: a flow leaves none that is sure
 abbrev pub steps_find : List ℕ → List (StepOf Block) → Bool
 steps_find alive [] = true
 steps_find alive (Single b ∷ ss) = finds alive b && steps_find (left_by b) ss
 steps_find alive (Along b ∷ ss) = loop_finds alive b && steps_find (left_by b) ss
-steps_find alive (Pairs b ∷ ss) = loop_finds alive b && steps_find [] ss
-steps_find alive (Alternate ts ∷ ss) = turns_find alive ts && (turns_find (turns_left alive ts) ts
-    && steps_find [] ss)
 steps_find alive (Flowed f ∷ ss) = flow_finds f && steps_find [] ss
 steps_find alive (Nest ps ∷ ss) = inner_finds alive ps && (inner_finds (inner_left alive ps) ps
     && steps_find (inner_left (inner_left alive ps) ps) ss)

@@ -9,10 +9,11 @@ use Rattle.loop_ir.specs.declared.ir.Sub.{Sub}
 use Rattle.loop_ir.specs.declared.ir.Sub.TheVariants.{Zero, Top, Inner as At_inner, InnerDown}
 use Rattle.loop_ir.specs.declared.ir.Sub.TheVariants.{Outer, OuterDown, Sum, DownSum, DownPlusN}
 use Rattle.loop_ir.specs.declared.ir.Sub.TheVariants.{NPlusInner, Register}
-use Rattle.loop_ir.specs.Plain.{Block, InnerOf, TurnOf, StepOf}
+use Rattle.loop_ir.specs.Plain.{Block, InnerOf, StepOf}
 use Rattle.loop_ir.specs.Plain.InnerOf.{Alone, Across}
-use Rattle.loop_ir.specs.Plain.StepOf.{Single, Along, Nest, Pairs, Alternate, Flowed}
+use Rattle.loop_ir.specs.Plain.StepOf.{Single, Along, Nest, Flowed}
 use Rattle.loop_ir.specs.Flows.{flow_size, flow_bodies}
+use Rattle.loop_ir.specs.FlowTests.{cleared}
 use Rattle.row_alloc.specs.HeldBodies.{HeldBody, held_at, held_sequence_for}
 use Rattle.loop_ir.specs.Loops.{RoundOf}
 use Rattle.loop_ir.specs.Same.{is_body}
@@ -140,24 +141,12 @@ abbrev pub inner_cost : InnerOf Block → ℕ
 inner_cost (Alone b) = body_cost b + 15
 inner_cost (Across count b) = body_cost b + 18
 
--- how many instructions one of bodies that take turns may take, with the one in its place at the
--- top position: four of them count and jump
-abbrev pub either_cost : TurnOf Block → ℕ
-either_cost t = body_cost t.each + body_cost t.last + 4
-
--- and how many all of them may take
-abbrev pub turns_cost : List (TurnOf Block) → ℕ
-turns_cost ts = sum_by either_cost ts + 7
-
--- how many instructions a step may take: 3 more for a loop that may have no round, and 7 for the
--- registers with which a flow begins
+-- how many instructions a step may take: one for each register that gets 0 before a flow
 abbrev pub step_cost : StepOf Block → ℕ
 step_cost (Single b) = single_cost b
 step_cost (Along b) = body_cost b + 15
 step_cost (Nest parts) = sum_by inner_cost parts
-step_cost (Pairs b) = body_cost b + 18
-step_cost (Alternate ts) = turns_cost ts
-step_cost (Flowed f) = 7 + flow_size body_cost f
+step_cost (Flowed f) = length (cleared f) + flow_size body_cost f
 
 -- how many instructions a loop program may take, its end aside
 abbrev pub code_cost : List (StepOf Block) → ℕ
@@ -173,8 +162,6 @@ abbrev pub step_bodies : StepOf Block → ℕ
 step_bodies (Single b) = 1
 step_bodies (Along b) = 1
 step_bodies (Nest parts) = sum_by inner_bodies parts
-step_bodies (Pairs b) = 1
-step_bodies (Alternate ts) = 2 * length ts
 step_bodies (Flowed f) = flow_bodies f
 
 -- the number of bodies of a loop program

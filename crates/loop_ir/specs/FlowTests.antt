@@ -1,6 +1,6 @@
 -- What a flow keeps, so that its code does its run.
 use Rattle.std.specs.Prelude.{ℕ, zero, suc, ◌+◌, ◌==◌, ◌&&◌, nat_lt, nat_le, Bool, true, false, not}
-use Rattle.std.specs.Prelude.{List, slice_index}
+use Rattle.std.specs.Prelude.{◌||◌, List, [], ◌∷◌, filter, slice_index}
 use Rattle.loop_ir.specs.declared.ir.Move.{Move}
 use Rattle.loop_ir.specs.declared.ir.Move.TheVariants.{SetI, SetN, SetT, Mov, AddI, SubI}
 use Rattle.std.specs.List.{list_all, range_with_len}
@@ -27,6 +27,32 @@ is_low (SetT r) = nat_lt r 7
 is_low (Mov r s) = nat_lt r 7 && nat_lt s 7
 is_low (AddI r k) = nat_lt r 7 && nat_le k 1023
 is_low (SubI r k) = nat_lt r 7 && nat_le k 1023
+
+-- the register is one that a move sets or reads
+abbrev pub is_moved : ℕ → Move → Bool
+is_moved r (SetI s k) = s == r
+is_moved r (SetN s) = s == r
+is_moved r (SetT s) = s == r
+is_moved r (Mov s t) = s == r || t == r
+is_moved r (AddI s k) = s == r
+is_moved r (SubI s k) = s == r
+
+abbrev mutual
+  -- the register stands in some form of the flow, the places of its bodies aside
+  pub names : {A : Type 0} → ℕ → FlowOf A → Bool
+  names r End = false
+  names r (Do b k) = names r k
+  names r (Put m k) = is_moved r m || names r k
+  names r (If s x y k) = s == r || (names r x || (names r y || names r k))
+  names r (Loop s ts k) = s == r || (any_names r ts || names r k)
+
+  pub any_names : {A : Type 0} → ℕ → TurnsOf A → Bool
+  any_names r (Last x) = names r x
+  any_names r (Turn x ts) = names r x || any_names r ts
+
+-- the registers that stand in its forms: they get 0 before it
+abbrev pub cleared : {A : Type 0} → FlowOf A → List ℕ
+cleared f = filter (λ r. names r f) (0 ∷ 1 ∷ 2 ∷ 3 ∷ 4 ∷ 5 ∷ 6 ∷ [])
 
 abbrev mutual
   -- no form changes the register

@@ -1,5 +1,5 @@
 -- What a loop program keeps, so that its code is legal and short.
-use Rattle.std.specs.Prelude.{◌≡◌, ℕ, ◌+◌, ◌<◌, ◌≤◌, Bool, true, false, ◌&&◌, ◌||◌, List, [], ◌++◌}
+use Rattle.std.specs.Prelude.{◌≡◌, ℕ, ◌+◌, ◌<◌, ◌≤◌, Bool, true, false, ◌&&◌, List, [], ◌++◌}
 use Rattle.std.specs.Prelude.{length, nat_lt, is_some}
 use Rattle.std.specs.List.{AllByRecursion, list_all}
 use Rattle.bit_rows.specs.declared.TheConstants.{WIDTH_MAX}
@@ -9,11 +9,11 @@ use Rattle.loop_ir.specs.declared.ir.Sub.{Sub}
 use Rattle.loop_ir.specs.declared.ir.Sub.TheVariants.{Zero, Top, Inner as At_inner, InnerDown}
 use Rattle.loop_ir.specs.declared.ir.Sub.TheVariants.{Outer, OuterDown, Sum, DownSum, DownPlusN}
 use Rattle.loop_ir.specs.declared.ir.Sub.TheVariants.{NPlusInner, Register}
-use Rattle.loop_ir.specs.Plain.{Block, InnerOf, StepOf, all_turns, AllParts}
+use Rattle.loop_ir.specs.Plain.{Block, InnerOf, StepOf, AllParts}
 use Rattle.loop_ir.specs.Plain.InnerOf.{Alone, Across}
-use Rattle.loop_ir.specs.Plain.StepOf.{Single, Along, Nest, Pairs, Alternate, Flowed}
+use Rattle.loop_ir.specs.Plain.StepOf.{Single, Along, Nest, Flowed}
 use Rattle.loop_ir.specs.Flows.{FlowOf, AllFlow, all_flow}
-use Rattle.loop_ir.specs.FlowTests.{counts, nests, runs_safely}
+use Rattle.loop_ir.specs.FlowTests.{names, counts, nests, runs_safely}
 use Rattle.loop_ir.specs.Loops.{RoundOf, all_rounds}
 use Rattle.loop_ir.specs.Spots.{Spot, IsOwn, is_state, nth_place, spot_in, nth_spot}
 use Rattle.loop_ir.specs.WellFormed.{IsWellFormed}
@@ -22,7 +22,7 @@ use Rattle.row_alloc.specs.Held.{DoesHeld}
 use Rattle.loop_ir.specs.Outputs.{IsOuts}
 use Rattle.loop_ir.specs.States.{StatesFit, has_states, held_of, row_count, enters, leaves}
 use Rattle.loop_ir.specs.Chains.{steps_find}
-use Rattle.loop_ir.specs.Costs.{carries, plain_cost, same_sub, used_subs, code_cost, bodies}
+use Rattle.loop_ir.specs.Costs.{carries, plain_cost, used_subs, code_cost, bodies}
 
 -- the commands that the body carries do it, from the states that it reads to those that it writes
 -- and wherever its rows lie, and are few
@@ -67,42 +67,36 @@ abbrev pub inner_stands : InnerOf Block → Bool
 inner_stands (Alone b) = all_stand false true b
 inner_stands (Across count b) = all_stand true true b
 
--- every place of the body is at 0, or at the inner position from below or from above: so it is with
--- bodies that take turns, for all of which two registers are enough
-abbrev pub stays_inner : Block → Bool
-stays_inner b = list_all (λ p. same_sub p.sub Zero || (same_sub p.sub At_inner
-    || same_sub p.sub InnerDown)) (b.reads ++ b.writes)
-
--- the subscript is 0 or one of a flow's registers
-abbrev pub is_in_register : Sub → Bool
-is_in_register Zero = true
-is_in_register Top = false
-is_in_register At_inner = false
-is_in_register InnerDown = false
-is_in_register Outer = false
-is_in_register OuterDown = false
-is_in_register Sum = false
-is_in_register DownSum = false
-is_in_register DownPlusN = false
-is_in_register NPlusInner = false
-is_in_register (Register r) = nat_lt r 7
+-- the subscript is 0 or one of these registers of a flow
+abbrev pub is_in_register : (ℕ → Bool) → Sub → Bool
+is_in_register named Zero = true
+is_in_register named Top = false
+is_in_register named At_inner = false
+is_in_register named InnerDown = false
+is_in_register named Outer = false
+is_in_register named OuterDown = false
+is_in_register named Sum = false
+is_in_register named DownSum = false
+is_in_register named DownPlusN = false
+is_in_register named NPlusInner = false
+is_in_register named (Register r) = nat_lt r 7 && named r
 
 -- every place of the body has such a subscript
-abbrev pub stays_in_registers : Block → Bool
-stays_in_registers b = list_all (λ p. is_in_register p.sub) (b.reads ++ b.writes)
+abbrev pub stays_in_registers : (ℕ → Bool) → Block → Bool
+stays_in_registers named b = list_all (λ p. is_in_register named p.sub) (b.reads ++ b.writes)
 
 -- a flow that code can be made of: no turn changes its loop's counter, at most two loops stand
--- inside one another, its places stand in registers, and at each width its run is safe
+-- inside one another, its places stand in registers that its forms name, and at each width its run
+-- is safe
 abbrev pub flow_stands : FlowOf Block → Bool
-flow_stands f = counts f && (nests 2 f && (all_flow stays_in_registers f && runs_safely f))
+flow_stands f = counts f && (nests 2 f && (all_flow (stays_in_registers (λ r. names r f)) f
+    && runs_safely f))
 
 -- so it is in a step, whose loops have the indices that its subscripts use
 abbrev pub step_stands : StepOf Block → Bool
 step_stands (Single b) = all_stand false false b
 step_stands (Along b) = all_stand true false b
 step_stands (Nest parts) = list_all inner_stands parts
-step_stands (Pairs b) = all_stand true true b
-step_stands (Alternate ts) = all_turns stays_inner ts
 step_stands (Flowed f) = flow_stands f
 
 -- In a round the body's places with rows are rows that it may have, and none of its writes is a
@@ -146,8 +140,6 @@ abbrev pub StepHasValues : (ℕ → Spot → Type 0) → StepOf Block → Type 0
 StepHasValues may_have (Single b) = Unit {0}
 StepHasValues may_have (Along b) = Unit {0}
 StepHasValues may_have (Nest parts) = Unit {0}
-StepHasValues may_have (Pairs b) = Unit {0}
-StepHasValues may_have (Alternate ts) = Unit {0}
 StepHasValues may_have (Flowed f) = AllFlow (HasValues may_have) f
 
 -- At every width code can be made of the loop program: at most 12 bodies, each small, which find

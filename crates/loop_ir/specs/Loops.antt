@@ -6,9 +6,9 @@ use Rattle.loop_ir.specs.declared.ir.Sub.TheVariants.{Outer, OuterDown, Sum, Dow
 use Rattle.loop_ir.specs.declared.ir.Sub.TheVariants.{NPlusInner, Register}
 use Rattle.loop_ir.specs.declared.ir.Count.{Count}
 use Rattle.loop_ir.specs.declared.ir.Count.TheVariants.{All, Rest}
-use Rattle.loop_ir.specs.Plain.{InnerOf, TurnOf, StepOf}
+use Rattle.loop_ir.specs.Plain.{InnerOf, StepOf}
 use Rattle.loop_ir.specs.Plain.InnerOf.{Alone, Across}
-use Rattle.loop_ir.specs.Plain.StepOf.{Single, Along, Nest, Pairs, Alternate, Flowed}
+use Rattle.loop_ir.specs.Plain.StepOf.{Single, Along, Nest, Flowed}
 use Rattle.loop_ir.specs.Flows.{FlowOf, EventOf, run, zeros}
 use Rattle.loop_ir.specs.Flows.EventOf.{Done, Moved, Counted}
 
@@ -44,14 +44,6 @@ inner_rounds n o (Alone b ∷ more) = one_round b 0 o ++ inner_rounds n o more
 inner_rounds n o (Across count b ∷ more) = rounds (λ i. one_round b i o) 0 (positions n o count)
     ++ inner_rounds n o more
 
--- the rounds from position i on, where the top position comes after so many: the first of the
--- bodies has its turn, and then stands behind all others
-abbrev pub turns_from : {A : Type 0} → List (TurnOf A) → ℕ → ℕ → List (RoundOf A)
-turns_from [] i count = []
-turns_from (t ∷ ts) i zero = one_round t.last i 0
-turns_from (t ∷ ts) i (suc count) = one_round t.each i 0
-    ++ turns_from (ts ++ (t ∷ [])) (i + 1) count
-
 -- the rounds among the events of a run
 abbrev pub rounds_in : {A : Type 0} → List (EventOf A) → List (RoundOf A)
 rounds_in [] = []
@@ -68,8 +60,6 @@ abbrev pub step_rounds : {A : Type 0} → ℕ → StepOf A → List (RoundOf A)
 step_rounds n (Single b) = one_round b 0 0
 step_rounds n (Along b) = rounds (λ i. one_round b i 0) 0 n
 step_rounds n (Nest parts) = rounds (λ o. inner_rounds n o parts) 0 n
-step_rounds n (Pairs b) = rounds (λ i. one_round b i 1) 0 (n - 1)
-step_rounds n (Alternate ts) = turns_from ts 0 (n - 1)
 step_rounds n (Flowed f) = flow_rounds n f
 
 -- every body at every position, in the order in which they come at width n

@@ -1,5 +1,5 @@
 -- Loop programs as plain data, over bodies or over what is made of them.
-use Rattle.std.specs.Prelude.{◌&&◌, Bool, true, List, [], ◌∷◌, map}
+use Rattle.std.specs.Prelude.{List, [], ◌∷◌, map}
 use Rattle.mig_graph.specs.declared.Lit.{Lit}
 use Rattle.mig_graph.specs.Graph.{Graph}
 use Rattle.row_alloc.specs.declared.body.BodyCmd.{BodyCmd}
@@ -8,7 +8,6 @@ use Rattle.loop_ir.specs.declared.ir.Count.{Count}
 use Rattle.loop_ir.specs.declared.ir.Body.{Body}
 use Rattle.loop_ir.specs.declared.ir.Inner.{Inner}
 use Rattle.loop_ir.specs.declared.ir.Inner.TheVariants as code_inner
-use Rattle.loop_ir.specs.declared.ir.Turn.{Turn}
 use Rattle.loop_ir.specs.declared.ir.Step.{Step}
 use Rattle.loop_ir.specs.declared.ir.Step.TheVariants as code_step
 use Rattle.loop_ir.specs.declared.ir.Flow as code_flow
@@ -18,7 +17,7 @@ use Rattle.loop_ir.specs.declared.ir.Turns.TheVariants as turns
 use Rattle.loop_ir.specs.declared.ir.LoopProgram.{LoopProgram}
 use Rattle.loop_ir.specs.Flows.{FlowOf, TurnsOf, flow_map, AllFlow}
 use Rattle.loop_ir.specs.Flows.FlowOf.{End, Do, Put, If, Loop}
-use Rattle.loop_ir.specs.Flows.TurnsOf.{Last, Turn as Act}
+use Rattle.loop_ir.specs.Flows.TurnsOf.{Last, Turn}
 
 -- a body: read k is input k of the graph, and write j takes output j. It carries the commands that
 -- were found for it, or none
@@ -34,19 +33,11 @@ pub data InnerOf (A : Type 0) : Type 0 where
   Alone : A → InnerOf A
   Across : Count → A → InnerOf A
 
--- one of bodies that take turns, and the one that stands in its place at the top position
-pub record TurnOf (A : Type 0) : Type 0 where
-  pub each : A
-  pub last : A
-
--- a body once, a body at each position, parts at each outer position, a body at each position that
--- has one above it, bodies that take turns, or a flow
+-- a body once, a body at each position, parts at each outer position, or a flow
 pub data StepOf (A : Type 0) : Type 0 where
   Single : A → StepOf A
   Along : A → StepOf A
   Nest : List (InnerOf A) → StepOf A
-  Pairs : A → StepOf A
-  Alternate : List (TurnOf A) → StepOf A
   Flowed : FlowOf A → StepOf A
 
 -- the body that the code built, without where it lies in memory
@@ -64,10 +55,6 @@ abbrev pub inner_of : Inner → InnerOf Block
 inner_of (code_inner.Once b) = Alone (block_of b)
 inner_of (code_inner.Each count b) = Across count (block_of b)
 
--- one of bodies that take turns
-abbrev pub turn_of : Turn → TurnOf Block
-turn_of t = record { each = block_of t.each; last = block_of t.last }
-
 abbrev mutual
   -- a flow that the code built
   pub flow_of : code_flow.Flow → FlowOf Block
@@ -79,15 +66,13 @@ abbrev mutual
 
   pub acts_of : code_turns.Turns → TurnsOf Block
   acts_of (turns.Last' p x) = Last (flow_of x)
-  acts_of (turns.Turn' p x q ts) = Act (flow_of x) (acts_of ts)
+  acts_of (turns.Turn' p x q ts) = Turn (flow_of x) (acts_of ts)
 
 -- a step that the code built
 abbrev pub step_of : Step → StepOf Block
 step_of (code_step.Once b) = Single (block_of b)
 step_of (code_step.Each b) = Along (block_of b)
 step_of (code_step.Nest parts) = Nest (map inner_of parts.items)
-step_of (code_step.Pairs b) = Pairs (block_of b)
-step_of (code_step.Alternate ts) = Alternate (map turn_of ts.items)
 step_of (code_step.Flow f) = Flowed (flow_of f)
 
 -- the steps of a loop program that the code built
@@ -99,17 +84,11 @@ abbrev pub inner_map : {A B : Type 0} → (A → B) → InnerOf A → InnerOf B
 inner_map f (Alone a) = Alone (f a)
 inner_map f (Across count a) = Across count (f a)
 
--- the same turn over other things
-abbrev pub turn_map : {A B : Type 0} → (A → B) → TurnOf A → TurnOf B
-turn_map f t = record { each = f t.each; last = f t.last }
-
 -- the same loops over other things, made of each body
 abbrev pub step_map : {A B : Type 0} → (A → B) → StepOf A → StepOf B
 step_map f (Single a) = Single (f a)
 step_map f (Along a) = Along (f a)
 step_map f (Nest parts) = Nest (map (inner_map f) parts)
-step_map f (Pairs a) = Pairs (f a)
-step_map f (Alternate ts) = Alternate (map (turn_map f) ts)
 step_map f (Flowed x) = Flowed (flow_map f x)
 
 -- what holds of every body of a nest
@@ -118,23 +97,11 @@ AllInner P [] = Unit {0}
 AllInner P (Alone a ∷ xs) = P a × AllInner P xs
 AllInner P (Across count a ∷ xs) = P a × AllInner P xs
 
--- what holds of all bodies that take turns
-abbrev pub AllTurns : {A : Type 0} → (A → Type 0) → List (TurnOf A) → Type 0
-AllTurns P [] = Unit {0}
-AllTurns P (t ∷ ts) = (P t.each × P t.last) × AllTurns P ts
-
--- whether a test passes on all of them
-abbrev pub all_turns : {A : Type 0} → (A → Bool) → List (TurnOf A) → Bool
-all_turns f [] = true
-all_turns f (t ∷ ts) = (f t.each && f t.last) && all_turns f ts
-
 -- what holds of every body of a step
 abbrev pub AllStep : {A : Type 0} → (A → Type 0) → StepOf A → Type 0
 AllStep P (Single a) = P a
 AllStep P (Along a) = P a
 AllStep P (Nest parts) = AllInner P parts
-AllStep P (Pairs a) = P a
-AllStep P (Alternate ts) = AllTurns P ts
 AllStep P (Flowed x) = AllFlow P x
 
 -- what holds of every body of a loop program

@@ -102,14 +102,6 @@ pub enum Inner {
     Each(Count, Body),
 }
 
-/// One of bodies that take turns from position to position, and the one that stands in its place at
-/// the top position.
-#[derive(Drop)]
-pub struct Turn {
-    pub each: Body,
-    pub last: Body,
-}
-
 /// What is done to a register of a flow; these are 0 to 6.
 #[derive(Clone, Copy, PartialEq, Eq)]
 pub enum Move {
@@ -157,12 +149,6 @@ pub enum Step {
     Once(Body),
     Each(Body),
     Nest(Vec<Inner>),
-    /// A body at each position that has one above it: `Inner` is the position, from 0 to n - 2, and
-    /// `Sum` the one above. The outer index is 1. At width 1 there is no round.
-    Pairs(Body),
-    /// Bodies that take turns in their order, again from the first after the last. Their subscripts
-    /// are `Zero`, `Inner` and `InnerDown` alone.
-    Alternate(Vec<Turn>),
     /// A flow, whose registers hold 0 as it begins.
     Flow(Flow),
 }

@@ -6,7 +6,7 @@ mod names;
 mod rows;
 mod wells;
 
-pub use ir::{Body, Count, Flow, Inner, LoopProgram, Move, Place, Space, Step, Sub, Turn, Turns};
+pub use ir::{Body, Count, Flow, Inner, LoopProgram, Move, Place, Space, Step, Sub, Turns};
 pub use names::{NameMap, Slot};
 pub use rows::{out_rows, place_at};
 pub use wells::well_formed;

@@ -2,13 +2,13 @@
 
 ghost use Rattle.std.specs.Prelude.{◌≡◌, ◌↔◌, ◌<◌, ℕ, true, length, map, ◌∷◌, []};
 ghost use Rattle.mig_graph.specs.Outputs.{AreNamed};
-ghost use Rattle.loop_ir.specs.Plain.{block_of, inner_of, turn_of, step_of, steps_of, flow_of};
-ghost use Rattle.loop_ir.specs.Plain.{acts_of, AllInner, AllTurns, AllStep};
+ghost use Rattle.loop_ir.specs.Plain.{block_of, inner_of, step_of, steps_of, flow_of};
+ghost use Rattle.loop_ir.specs.Plain.{acts_of, AllInner, AllStep};
 ghost use Rattle.loop_ir.specs.Flows.{AllFlow, AllActs};
 ghost use Rattle.loop_ir.specs.Spots.{nth_place};
 ghost use Rattle.loop_ir.specs.WellFormed.{IsOneValue, IsWellFormed, AreWellFormed};
 
-use crate::ir::{Body, Flow, Inner, LoopProgram, Place, Step, Turn, Turns};
+use crate::ir::{Body, Flow, Inner, LoopProgram, Place, Step, Turns};
 use mig_graph::MigOuts;
 
 /// Whether the two places are rows of one value.
@@ -126,20 +126,6 @@ fn parts_are_well_formed(parts: &[Inner]) -> bool
     }
 }
 
-/// Whether bodies that take turns are well formed.
-fn turns_are_well_formed(turns: &[Turn]) -> bool
-    ensures { (result ≡ true) ↔ AllTurns IsWellFormed (map turn_of turns.now) }
-{
-    match turns {
-        [] => true,
-        [first, rest @ ..] => {
-            is_well_formed(&first.each)
-                && is_well_formed(&first.last)
-                && turns_are_well_formed(rest)
-        }
-    }
-}
-
 /// Whether the bodies of a flow are well formed.
 #[cycle(flows)]
 fn flow_is_well_formed(flow: &Flow) -> bool
@@ -175,8 +161,6 @@ fn step_is_well_formed(step: &Step) -> bool
         Step::Once(body) => is_well_formed(body),
         Step::Each(body) => is_well_formed(body),
         Step::Nest(parts) => parts_are_well_formed(parts),
-        Step::Pairs(body) => is_well_formed(body),
-        Step::Alternate(turns) => turns_are_well_formed(turns),
         Step::Flow(flow) => flow_is_well_formed(flow),
     }
 }

@@ -11,18 +11,17 @@ use Rattle.row_alloc.specs.HeldBodies.{HeldBody, held_inputs, held_nodes, held_o
 use Rattle.row_alloc.specs.HeldBodies.{leave_in}
 use Rattle.row_alloc.specs.declared.body.Held.{Held}
 use Rattle.loop_ir.specs.declared.ir.Place.{Place}
-use Rattle.loop_ir.specs.Plain.{Block, InnerOf, TurnOf, StepOf, inner_map, turn_map}
+use Rattle.loop_ir.specs.Plain.{Block, InnerOf, StepOf, inner_map}
 use Rattle.loop_ir.specs.Plain.InnerOf.{Alone, Across}
 use Rattle.std.proofs.lemmas.List.Sums.{sum_by-cons}
 use Rattle.loop_ir.specs.Loops.{RoundOf, flow_rounds, all_rounds}
 use Rattle.loop_ir.specs.Chains.{chained, flow_finds, states_in, is_alive, finds, left_by}
-use Rattle.loop_ir.specs.Chains.{loop_finds, inner_left, inner_finds, turns_left, turns_find}
-use Rattle.loop_ir.specs.Chains.{steps_find}
+use Rattle.loop_ir.specs.Chains.{loop_finds, inner_left, inner_finds, steps_find}
 use Rattle.loop_ir.specs.Flows.{FlowOf, flow_map}
 use Rattle.loop_ir.specs.FlowTests.{widths}
 use Rattle.loop_laws.proofs.FlowRounds.{round_map, flow_rounds_map}
 use Rattle.loop_laws.proofs.RoundsMap.{all_rounds_map}
-use Rattle.loop_ir.specs.Plain.StepOf.{Single, Along, Nest, Pairs, Alternate, Flowed}
+use Rattle.loop_ir.specs.Plain.StepOf.{Single, Along, Nest, Flowed}
 use Rattle.loop_ir.specs.Spots.{is_state, nth_place}
 use Rattle.loop_ir.specs.Same.{same_lits, same_nodes}
 use Rattle.loop_ir.specs.States.{has_states, row_count, RowsFirst, enters, leaves, row_outs}
@@ -208,23 +207,6 @@ module _ (rooms : List Room) (rows : HaveRows rooms) where
       (ap (λ l. inner_finds l qs) (left_like b)
       ∙ inner_finds_like (left_by (placed_body [] b)) ps)
 
-  abbrev turns_on : List Room → List (TurnOf Marked) → List (TurnOf Block)
-  turns_on rs ts = map (turn_map (placed_body rs)) ts
-
-  turns_find_like : (alive : List ℕ) (ts : List (TurnOf Marked))
-      → turns_find alive (turns_on rooms ts) ≡ turns_find alive (turns_on [] ts)
-  turns_find_like alive [] = refl
-  turns_find_like alive (t ∷ ts) = both_like _ _ _ _
-      (both_like _ _ _ _ (finds_like alive t.each) (finds_like alive t.last))
-      (ap (λ l. turns_find l (turns_on rooms ts)) (left_like t.each)
-      ∙ turns_find_like (left_by (placed_body [] t.each)) ts)
-
-  turns_left_like : (alive : List ℕ) (ts : List (TurnOf Marked))
-      → turns_left alive (turns_on rooms ts) ≡ turns_left alive (turns_on [] ts)
-  turns_left_like alive [] = refl
-  turns_left_like alive (t ∷ ts) = ap (λ l. turns_left l (turns_on rooms ts)) (left_like t.each)
-      ∙ turns_left_like (left_by (placed_body [] t.each)) ts
-
   rounds_find_like : (alive : List ℕ) (rs : List (RoundOf Marked))
       → chained alive (map (round_map (placed_body rooms)) rs)
       ≡ chained alive (map (round_map (placed_body [])) rs)
@@ -260,13 +242,6 @@ module _ (rooms : List Room) (rows : HaveRows rooms) where
       ap (λ c. c && steps_find (left_by (placed_body rooms b)) ts) (loop_like alive b)
       ∙ ap (λ c. loop_finds alive (placed_body [] b) && c) (ap (λ l. steps_find l ts) (left_like b)
       ∙ steps_find_like (left_by (placed_body [] b)) ss)
-  steps_find_like alive (Pairs b ∷ ss) =
-      ap (λ c. c && steps_find [] (placed_steps rooms ss)) (loop_like alive b)
-      ∙ ap (λ c. loop_finds alive (placed_body [] b) && c) (steps_find_like [] ss)
-  steps_find_like alive (Alternate ts ∷ ss) = both_like _ _ _ _ (turns_find_like alive ts)
-      (both_like _ _ _ _
-      (ap (λ l. turns_find l (turns_on rooms ts)) (turns_left_like alive ts)
-      ∙ turns_find_like (turns_left alive (turns_on [] ts)) ts) (steps_find_like [] ss))
   steps_find_like alive (Flowed x ∷ ss) = both_like _ _ _ _ (flow_find_like x)
       (steps_find_like [] ss)
   steps_find_like alive (Nest ps ∷ ss) =

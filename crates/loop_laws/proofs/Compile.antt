@@ -2,7 +2,7 @@
 use Rattle.std.proofs.Common.{ℕ, List, [], ◌∷◌, arith}
 use Rattle.loop_ir.specs.Plain.{Block, InnerOf, StepOf, AllInner, AllStep, AllParts}
 use Rattle.loop_ir.specs.Plain.InnerOf.{Alone, Across}
-use Rattle.loop_ir.specs.Plain.StepOf.{Single, Along, Nest, Pairs, Alternate, Flowed}
+use Rattle.loop_ir.specs.Plain.StepOf.{Single, Along, Nest, Flowed}
 use Rattle.loop_ir.specs.Flows.{FlowOf, TurnsOf, AllFlow, AllActs}
 use Rattle.loop_ir.specs.Flows.FlowOf.{End, Do, Put, If, Loop}
 use Rattle.loop_ir.specs.Flows.TurnsOf.{Last, Turn}
@@ -11,7 +11,6 @@ use Rattle.loop_ir.specs.WellFormed.{IsWellFormed}
 use Rattle.loop_ir.specs.Limits.{IsSmall}
 use Rattle.loop_laws.specs.Forms.{IsSlim, IsMade}
 use Rattle.loop_laws.specs.Laws.{MadeCompile}
-use Rattle.loop_laws.proofs.TakingTurns.{turns_both}
 
 -- what follows for each body from two facts of it
 module _ (P Q R : Block → Type 0) (f : (b : Block) → P b → Q b → R b) where
@@ -37,8 +36,6 @@ module _ (P Q R : Block → Type 0) (f : (b : Block) → P b → Q b → R b) wh
   step_both (Single b) p q = f b p q
   step_both (Along b) p q = f b p q
   step_both (Nest xs) p q = inner_both xs p q
-  step_both (Pairs b) p q = f b p q
-  step_both (Alternate ts) p q = turns_both P Q R f ts p q
   step_both (Flowed x) p q = flow_both x p q
 
   parts_both : (ss : List (StepOf Block)) → AllParts P ss → AllParts Q ss → AllParts R ss

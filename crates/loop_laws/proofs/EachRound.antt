@@ -1,12 +1,12 @@
 -- What holds of every body holds of every round.
-use Rattle.std.proofs.Common.{ℕ, zero, suc, ◌+◌, ◌-◌, ◌≤◌, List, [], ◌∷◌, map, arith}
+use Rattle.std.proofs.Common.{ℕ, zero, suc, ◌+◌, ◌≤◌, List, [], ◌∷◌, map}
 use Rattle.std.specs.List.{AllByRecursion}
 use Rattle.loop_ir.specs.Loops.{step_rounds, RoundOf, one_round, rounds, positions, inner_rounds}
-use Rattle.loop_ir.specs.Loops.{turns_from, all_rounds, flow_rounds}
-use Rattle.loop_ir.specs.Plain.{Block, InnerOf, TurnOf, StepOf, inner_map, turn_map, step_map}
-use Rattle.loop_ir.specs.Plain.{AllInner, AllTurns, AllParts}
+use Rattle.loop_ir.specs.Loops.{all_rounds, flow_rounds}
+use Rattle.loop_ir.specs.Plain.{Block, InnerOf, StepOf, inner_map, step_map}
+use Rattle.loop_ir.specs.Plain.{AllInner, AllParts}
 use Rattle.loop_ir.specs.Plain.InnerOf.{Alone, Across}
-use Rattle.loop_ir.specs.Plain.StepOf.{Single, Along, Nest, Pairs, Alternate, Flowed}
+use Rattle.loop_ir.specs.Plain.StepOf.{Single, Along, Nest, Flowed}
 use Rattle.loop_ir.specs.Flows.{FlowOf, TurnsOf, AllFlow, AllActs, flow_map, acts_map, zeros}
 use Rattle.loop_ir.specs.Flows.FlowOf.{End, Do, Put, If, Loop}
 use Rattle.loop_ir.specs.Flows.TurnsOf.{Last, Turn}
@@ -15,7 +15,6 @@ use Rattle.loop_ir.specs.Costs.{rounds_cost, plain_costs}
 use Rattle.loop_laws.specs.Rooms.{Room, Marked, placed_body, placed_steps}
 use Rattle.loop_laws.proofs.EveryRound.{all_append}
 use Rattle.loop_laws.proofs.Costing.{CarriesFew, rounds-plain}
-use Rattle.loop_laws.proofs.TakingTurns.{turns_rounds}
 
 module _ (P : Block → Type 0) where
   abbrev OfPart : RoundOf Block → Type 0
@@ -48,12 +47,6 @@ module _ (P : Block → Type 0) where
   each_round n (Nest xs ∷ ss) all = all_append OfPart (step_rounds n (Nest xs))
       (all_rounds n ss) (over (λ o. inner_rounds n o xs) (λ o. inners n o xs all.0) 0 n)
       (each_round n ss all.1)
-  each_round n (Pairs b ∷ ss) all = all_append OfPart (rounds (λ i. one_round b i 1) 0 (n - 1))
-      (all_rounds n ss) (each b 1 0 (n - 1) all.0) (each_round n ss all.1)
-  each_round n (Alternate t ∷ ss) all = all_append OfPart (turns_from t 0 (n - 1))
-      (all_rounds n ss) (turns_rounds OfPart t 0 (n - 1) (n - 1) (omega arith)
-      (λ j le. all.0))
-      (each_round n ss all.1)
   each_round n (Flowed x ∷ ss) all = all_append OfPart (flow_rounds n x) (all_rounds n ss)
       (run_all Block P n x all.0 zeros) (each_round n ss all.1)
 
@@ -62,10 +55,6 @@ module _ (P : Block → Type 0) where
     inners_made [] = tt
     inners_made (Alone b ∷ xs) = (h b, inners_made xs)
     inners_made (Across c b ∷ xs) = (h b, inners_made xs)
-
-    turns_made : (ts : List (TurnOf Marked)) → AllTurns P (map (turn_map f) ts)
-    turns_made [] = tt
-    turns_made (t ∷ ts) = ((h t.each, h t.last), turns_made ts)
 
     mutual
       flow_made : (x : FlowOf Marked) → AllFlow P (flow_map f x)
@@ -84,8 +73,6 @@ module _ (P : Block → Type 0) where
     all_made (Single b ∷ ss) = (h b, all_made ss)
     all_made (Along b ∷ ss) = (h b, all_made ss)
     all_made (Nest xs ∷ ss) = (inners_made xs, all_made ss)
-    all_made (Pairs b ∷ ss) = (h b, all_made ss)
-    all_made (Alternate ts ∷ ss) = (turns_made ts, all_made ss)
     all_made (Flowed x ∷ ss) = (flow_made x, all_made ss)
 
 carries_none : (rooms : List Room) (b : Marked) → CarriesFew (placed_body rooms b)

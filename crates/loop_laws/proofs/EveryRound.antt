@@ -7,7 +7,7 @@ use Rattle.std.specs.List.{AllByRecursion, list_all}
 use Rattle.std.proofs.lemmas.Bool.{cases_eq, cases_lt, and_parts, eqb-true}
 use Rattle.std.proofs.lemmas.List.{length-map}
 use Rattle.loop_ir.specs.Loops.{step_rounds, RoundOf, round_at, one_round, rounds, positions}
-use Rattle.loop_ir.specs.Loops.{sub_value, inner_rounds, turns_from, all_rounds}
+use Rattle.loop_ir.specs.Loops.{sub_value, inner_rounds, all_rounds}
 use Rattle.loop_ir.specs.declared.ir.Space.{Space}
 use Rattle.loop_ir.specs.declared.ir.Space.TheVariants.{Result, Source, ScratchBit, ScratchWord}
 use Rattle.loop_ir.specs.declared.ir.Space.TheVariants.{Cells}
@@ -16,10 +16,9 @@ use Rattle.loop_ir.specs.declared.ir.Sub.TheVariants as sub
 use Rattle.loop_ir.specs.declared.ir.Count.{Count}
 use Rattle.loop_ir.specs.declared.ir.Count.TheVariants.{All, Rest}
 use Rattle.loop_ir.specs.declared.ir.Place.{Place}
-use Rattle.loop_ir.specs.Plain.{Block, InnerOf, StepOf, AllInner, AllParts, inner_map, turn_map}
-use Rattle.loop_ir.specs.Plain.{all_turns}
+use Rattle.loop_ir.specs.Plain.{Block, InnerOf, StepOf, AllInner, AllParts, inner_map}
 use Rattle.loop_ir.specs.Plain.InnerOf.{Alone, Across}
-use Rattle.loop_ir.specs.Plain.StepOf.{Single, Along, Nest, Pairs, Alternate, Flowed}
+use Rattle.loop_ir.specs.Plain.StepOf.{Single, Along, Nest, Flowed}
 use Rattle.loop_ir.specs.Spots.{Spot, spot_at, spot_in, nth_place, nth_spot, IsOwn, is_state}
 use Rattle.loop_ir.specs.WellFormed.{IsOneValue}
 use Rattle.loop_ir.specs.Costs.{used_subs, code_cost, bodies}
@@ -34,7 +33,6 @@ use Rattle.loop_laws.specs.Forms.{has_known_states, inners_have_known, steps_hav
 use Rattle.loop_laws.specs.Laws.{MarksAreEnough}
 use Rattle.loop_laws.proofs.Fitting.{mark_at, IsThere, InnerOk, OuterOk, BodyFits, InnersFit}
 use Rattle.loop_laws.proofs.Fitting.{StepsFit}
-use Rattle.loop_laws.proofs.TakingTurns.{turns_tested, turns_mapped, turns_both, turns_rounds}
 use Rattle.loop_laws.proofs.Alike.{HaveRows, past_row, states_fit, states_known, steps_find_like}
 use Rattle.loop_laws.proofs.Good.{steps_are_fit}
 
@@ -360,23 +358,6 @@ module _ (n : ℕ) (rooms : List Room) (some : 0 < n) (are : RoomsApart n rooms)
       (all_rounds_of (IsRound (IsOwned n rooms) n) (λ o. inner_rounds n o qs) 0 n n (omega arith)
       (λ o lt. inners_are ps o lt fit.0))
       (rounds_are ss fit.1)
-  rounds_are (Pairs b ∷ ss) fit = all_append (IsRound (IsOwned n rooms) n)
-      (rounds (λ i. one_round (placed_body rooms b) i 1) 0 (n - 1))
-      (all_rounds n (placed_steps rooms ss))
-      (all_rounds_of (IsRound (IsOwned n rooms) n) (λ i. one_round (placed_body rooms b) i 1) 0
-      (n - 1) (n - 1) (omega arith)
-      (λ i lt. (round_is n rooms some are rows Left true b fit.0 i 1 lt (omega (arith, lt)), tt)))
-      (rounds_are ss fit.1)
-  rounds_are (Alternate t ∷ ss) fit = all_append (IsRound (IsOwned n rooms) n)
-      (turns_from (map (turn_map (placed_body rooms)) t) 0 (n - 1))
-      (all_rounds n (placed_steps rooms ss))
-      (turns_rounds (IsRound (IsOwned n rooms) n) (map (turn_map (placed_body rooms)) t) 0 (n - 1)
-      (n - 1) (omega arith) (λ j le. turns_mapped (placed_body rooms)
-      (λ (b : Marked). BodyFits Whole false rooms b.reads b.writes)
-      (λ (b : Block). IsRound (IsOwned n rooms) n (round_at b j 0))
-      (λ b h. round_is n rooms some are rows Whole false b h j 0 (omega (arith, le, some)) tt) t
-      fit.0))
-      (rounds_are ss fit.1)
   rounds_are (Flowed x ∷ ss) fit = absurd fit
 
   inners_slim : (ps : List (InnerOf Marked)) → InnersFit rooms ps
@@ -396,21 +377,6 @@ module _ (n : ℕ) (rooms : List Room) (some : 0 < n) (are : RoomsApart n rooms)
             k.1,
       )
 
-  abbrev FitsWhole : Marked → Type 0
-  FitsWhole b = BodyFits Whole false rooms b.reads b.writes
-
-  abbrev HasRoom : Marked → Type 0
-  HasRoom b = has_room (placed_body rooms b) ≡ true
-
-  abbrev HasKnown : Marked → Type 0
-  HasKnown b = has_known_states (placed_body [] b) ≡ true
-
-  abbrev HasBoth : Marked → Type 0
-  HasBoth b = HasRoom b × HasKnown b
-
-  abbrev TurnFits : Marked → Type 0
-  TurnFits b = FitsWhole b × HasBoth b
-
   pub steps_slim : (ss : List (StepOf Marked)) → StepsFit rooms ss
       → steps_have_room (placed_steps rooms ss) ≡ true
       → steps_have_known (placed_steps [] ss) ≡ true → AllParts IsSlim (placed_steps rooms ss)
@@ -427,21 +393,6 @@ module _ (n : ℕ) (rooms : List Room) (some : 0 < n) (are : RoomsApart n rooms)
       let a = and_parts (inners_have_room (map (inner_map (placed_body rooms)) ps)) _ e in
       let k = and_parts (inners_have_known (map (inner_map (placed_body [])) ps)) _ h in
       (inners_slim ps fit.0 a.0 k.0, steps_slim ss fit.1 a.1 k.1)
-  steps_slim (Pairs b ∷ ss) fit e h =
-      let a = and_parts (has_room (placed_body rooms b)) _ e in
-      let k = and_parts (has_known_states (placed_body [] b)) _ h in
-      (slim_is n rooms some are rows Left true b fit.0 a.0 k.0, steps_slim ss fit.1 a.1 k.1)
-  steps_slim (Alternate t ∷ ss) fit e h =
-      let a = and_parts (all_turns has_room (map (turn_map (placed_body rooms)) t)) _ e in
-      let k = and_parts (all_turns has_known_states (map (turn_map (placed_body [])) t)) _ h in (
-        turns_mapped (placed_body rooms) TurnFits IsSlim
-            (λ b f. slim_is n rooms some are rows Whole false b f.0 f.1.0 f.1.1) t
-            (turns_both FitsWhole HasBoth TurnFits (λ b f x. (f, x)) t fit.0
-            (turns_both HasRoom HasKnown HasBoth (λ b x y. (x, y)) t
-            (turns_tested (placed_body rooms) has_room t a.0)
-            (turns_tested (placed_body []) has_known_states t k.0))),
-        steps_slim ss fit.1 a.1 k.1,
-      )
   steps_slim (Flowed x ∷ ss) fit e h = absurd fit
 
 -- the rows that it may have are among others
@@ -481,8 +432,6 @@ values_fit may_have rooms [] fit = tt
 values_fit may_have rooms (Single b ∷ ss) fit = (tt, values_fit may_have rooms ss fit.1)
 values_fit may_have rooms (Along b ∷ ss) fit = (tt, values_fit may_have rooms ss fit.1)
 values_fit may_have rooms (Nest ps ∷ ss) fit = (tt, values_fit may_have rooms ss fit.1)
-values_fit may_have rooms (Pairs b ∷ ss) fit = (tt, values_fit may_have rooms ss fit.1)
-values_fit may_have rooms (Alternate t ∷ ss) fit = (tt, values_fit may_have rooms ss fit.1)
 values_fit may_have rooms (Flowed f ∷ ss) fit = absurd fit
 
 -- the tests on the marks say of every round at every width what it has to keep

@@ -1,9 +1,9 @@
 -- What a body's places keep where the test on owners and subscripts passes.
 use Rattle.std.proofs.Common.{◌≡◌, ℕ, zero, suc, ◌-◌, ◌<◌, Bool, true, false, List, [], ◌∷◌, length}
 use Rattle.loop_ir.specs.declared.ir.Sub.TheVariants as sub
-use Rattle.loop_ir.specs.Plain.{InnerOf, StepOf, AllTurns}
+use Rattle.loop_ir.specs.Plain.{InnerOf, StepOf}
 use Rattle.loop_ir.specs.Plain.InnerOf.{Alone, Across}
-use Rattle.loop_ir.specs.Plain.StepOf.{Single, Along, Nest, Pairs, Alternate, Flowed}
+use Rattle.loop_ir.specs.Plain.StepOf.{Single, Along, Nest, Flowed}
 use Rattle.loop_laws.specs.Rooms.{Room, room_for, Owner, InRoom, InCells, Mark, Marked, Reach}
 use Rattle.loop_laws.specs.Rooms.{Nowhere, Whole, Left, fits, reach_of}
 
@@ -63,7 +63,4 @@ StepsFit rooms [] = Unit {0}
 StepsFit rooms (Single b ∷ ss) = BodyFits Nowhere false rooms b.reads b.writes × StepsFit rooms ss
 StepsFit rooms (Along b ∷ ss) = BodyFits Whole false rooms b.reads b.writes × StepsFit rooms ss
 StepsFit rooms (Nest ps ∷ ss) = InnersFit rooms ps × StepsFit rooms ss
-StepsFit rooms (Pairs b ∷ ss) = BodyFits Left true rooms b.reads b.writes × StepsFit rooms ss
-StepsFit rooms (Alternate t ∷ ss) = AllTurns (λ (b : Marked). BodyFits Whole false rooms b.reads b.writes)
-    t × StepsFit rooms ss
 StepsFit rooms (Flowed f ∷ ss) = ⊥

@@ -4,16 +4,15 @@ use Rattle.std.proofs.Common.{length, refl, sym, ap, subst, ◌∙◌, ⊎_elim,
 use Rattle.std.specs.Prelude.{◌==◌, ◌&&◌, nat_lt}
 use Rattle.std.proofs.lemmas.Bool.{cases_Bool, and_parts, eqb-true, eq-eqb}
 use Rattle.loop_ir.specs.declared.ir.Sub.{Sub}
-use Rattle.loop_ir.specs.Plain.{InnerOf, StepOf, all_turns}
+use Rattle.loop_ir.specs.Plain.{InnerOf, StepOf}
 use Rattle.loop_ir.specs.Plain.InnerOf.{Alone, Across}
-use Rattle.loop_ir.specs.Plain.StepOf.{Single, Along, Nest, Pairs, Alternate, Flowed}
+use Rattle.loop_ir.specs.Plain.StepOf.{Single, Along, Nest, Flowed}
 use Rattle.loop_ir.specs.Costs.{sub_code}
 use Rattle.loop_laws.proofs.Same.{sub_true}
 use Rattle.loop_laws.specs.Rooms.{Room, room_for, Owner, InRoom, InCells, same_owner, Mark, Marked}
-use Rattle.loop_laws.specs.Rooms.{Reach, Nowhere, Whole, Left, fits, reach_of, is_there, all_fit}
+use Rattle.loop_laws.specs.Rooms.{Reach, Nowhere, Whole, fits, reach_of, is_there, all_fit}
 use Rattle.loop_laws.specs.Rooms.{none_like, alone_in, writes_fit, body_fits, inners_fit, steps_fit}
 use Rattle.loop_laws.proofs.Fitting.{mark_at, IsThere, BodyFits, InnersFit, StepsFit}
-use Rattle.loop_laws.proofs.TakingTurns.{turns_all}
 
 less_is : (a b : ℕ) → nat_lt a b ≡ true → a < b
 less_is a b e = grind arith
@@ -192,14 +191,4 @@ steps_are_fit rooms (Along b ∷ ss) e = let a =
 steps_are_fit rooms (Nest ps ∷ ss) e = let a =
     and_parts (inners_fit rooms ps) (steps_fit rooms ss) e in
     (inners_are_fit rooms ps a.0, steps_are_fit rooms ss a.1)
-steps_are_fit rooms (Pairs b ∷ ss) e = let a =
-    and_parts (body_fits Left true rooms b) (steps_fit rooms ss) e in
-    (body_is_fit Left true rooms b a.0, steps_are_fit rooms ss a.1)
-steps_are_fit rooms (Alternate t ∷ ss) e = let a =
-    and_parts (all_turns (body_fits Whole false rooms) t) (steps_fit rooms ss) e in (
-      turns_all (body_fits Whole false rooms)
-          (λ (b : Marked). BodyFits Whole false rooms b.reads b.writes)
-          (λ b h. body_is_fit Whole false rooms b h) t a.0,
-      steps_are_fit rooms ss a.1,
-    )
 steps_are_fit rooms (Flowed f ∷ ss) e = cc

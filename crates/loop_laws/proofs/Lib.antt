@@ -3,7 +3,6 @@ pub mod FlowFine
 pub mod FlowRounds
 pub mod RoundsMap
 pub mod Same
-pub mod TakingTurns
 pub mod Loop
 pub mod Steps
 pub mod Placed

@@ -1,17 +1,17 @@
 -- Bodies and loop programs of which nothing stands in cells.
 use Rattle.std.proofs.Common.{◌≡◌, ℕ, suc, ◌<◌, true, false, cond, List, [], ◌∷◌, ◌++◌, Bool}
 use Rattle.std.proofs.Common.{length, refl, ap, ◌∙◌, arith}
-use Rattle.std.specs.Prelude.{◌||◌, ◌&&◌}
+use Rattle.std.specs.Prelude.{◌||◌}
 use Rattle.std.specs.List.{list_any, list_all, AllByRecursion}
 use Rattle.std.proofs.lemmas.Bool.{and_from}
 use Rattle.loop_ir.specs.declared.ir.Place.{Place}
-use Rattle.loop_ir.specs.Plain.{Block, InnerOf, TurnOf, StepOf, AllInner, AllTurns, AllParts}
+use Rattle.loop_ir.specs.Plain.{Block, InnerOf, StepOf, AllInner, AllParts}
 use Rattle.loop_ir.specs.Plain.InnerOf.{Alone, Across}
-use Rattle.loop_ir.specs.Plain.StepOf.{Single, Along, Nest, Pairs, Alternate, Flowed}
+use Rattle.loop_ir.specs.Plain.StepOf.{Single, Along, Nest, Flowed}
 use Rattle.loop_ir.specs.Spots.{is_state, nth_place}
 use Rattle.loop_ir.specs.States.{has_states, StatesFit}
 use Rattle.loop_ir.specs.Chains.{states_in, is_alive, finds, left_by, loop_finds, inner_left}
-use Rattle.loop_ir.specs.Chains.{inner_finds, turns_left, turns_find, steps_find, chained}
+use Rattle.loop_ir.specs.Chains.{inner_finds, steps_find, chained}
 use Rattle.loop_ir.specs.Chains.{flow_finds}
 use Rattle.loop_laws.proofs.Alike.{or_parts, none_at, none_first, rows_first}
 use Rattle.loop_ir.specs.Flows.{FlowOf, AllFlow, zeros}
@@ -71,14 +71,6 @@ inner_rows alive (Alone b ∷ ps) all = and_from (finds alive b) (inner_finds (l
 inner_rows alive (Across c b ∷ ps) all = and_from (loop_finds alive b) (inner_finds (left_by b) ps)
     (loop_rows alive b all.0) (inner_rows (left_by b) ps all.1)
 
-turns_rows : (alive : List ℕ) (ts : List (TurnOf Block)) → AllTurns HasRows ts
-    → turns_find alive ts ≡ true
-turns_rows alive [] all = refl
-turns_rows alive (t ∷ ts) all =
-    and_from (finds alive t.each && finds alive t.last) (turns_find (left_by t.each) ts)
-    (and_from (finds alive t.each) (finds alive t.last) (rows_find alive t.each all.0.0)
-    (rows_find alive t.last all.0.1)) (turns_rows (left_by t.each) ts all.1)
-
 rounds_rows : (alive : List ℕ) (rs : List (RoundOf Block))
     → AllByRecursion (λ r. HasRows r.part) rs → chained alive rs ≡ true
 rounds_rows alive [] all = refl
@@ -102,14 +94,6 @@ no_state_sought alive (Single b ∷ ss) all = and_from (finds alive b) (steps_fi
     (rows_find alive b all.0) (no_state_sought (left_by b) ss all.1)
 no_state_sought alive (Along b ∷ ss) all = and_from (loop_finds alive b)
     (steps_find (left_by b) ss) (loop_rows alive b all.0) (no_state_sought (left_by b) ss all.1)
-no_state_sought alive (Pairs b ∷ ss) all = and_from (loop_finds alive b) (steps_find [] ss)
-    (loop_rows alive b all.0) (no_state_sought [] ss all.1)
-no_state_sought alive (Alternate ts ∷ ss) all =
-    let again = turns_left alive ts in
-    and_from (turns_find alive ts) (turns_find again ts && steps_find [] ss)
-    (turns_rows alive ts all.0)
-    (and_from (turns_find again ts) (steps_find [] ss) (turns_rows again ts all.0)
-    (no_state_sought [] ss all.1))
 no_state_sought alive (Flowed f ∷ ss) all = and_from (flow_finds f) (steps_find [] ss)
     (flow_rows f all.0) (no_state_sought [] ss all.1)
 no_state_sought alive (Nest ps ∷ ss) all =

@@ -1,12 +1,12 @@
 -- The rounds of a loop program over other things.
-use Rattle.std.proofs.Common.{◌≡◌, ℕ, zero, suc, ◌+◌, ◌-◌, List, [], ◌∷◌, ◌++◌, map, refl, sym, ap}
+use Rattle.std.proofs.Common.{◌≡◌, ℕ, zero, suc, ◌+◌, List, [], ◌∷◌, ◌++◌, map, refl, sym, ap}
 use Rattle.std.proofs.Common.{◌∙◌}
 use Rattle.std.proofs.lemmas.List.{map-append}
-use Rattle.loop_ir.specs.Plain.{InnerOf, TurnOf, StepOf, inner_map, turn_map, step_map}
+use Rattle.loop_ir.specs.Plain.{InnerOf, StepOf, inner_map, step_map}
 use Rattle.loop_ir.specs.Plain.InnerOf.{Alone, Across}
-use Rattle.loop_ir.specs.Plain.StepOf.{Single, Along, Nest, Pairs, Alternate, Flowed}
+use Rattle.loop_ir.specs.Plain.StepOf.{Single, Along, Nest, Flowed}
 use Rattle.loop_ir.specs.Loops.{RoundOf, round_at, one_round, rounds, positions, inner_rounds}
-use Rattle.loop_ir.specs.Loops.{turns_from, step_rounds, all_rounds}
+use Rattle.loop_ir.specs.Loops.{step_rounds, all_rounds}
 use Rattle.loop_laws.proofs.FlowRounds.{round_map, flow_rounds_map}
 
 module _ (A B : Type 0) (h : A → B) (n : ℕ) where
@@ -37,21 +37,11 @@ module _ (A B : Type 0) (h : A → B) (n : ℕ) where
       (inner_rounds n o (map (inner_map h) ps)) (rounds (λ i. one_round b i o) 0 (positions n o c))
       (inner_rounds n o ps) (each b o (positions n o c)) (inners o ps)
 
-  turns : (ts : List (TurnOf A)) (i count : ℕ)
-      → Mapped (turns_from (map (turn_map h) ts) i count) (turns_from ts i count)
-  turns [] i count = refl
-  turns (t ∷ ts) i zero = refl
-  turns (t ∷ ts) i (suc count) = ap (λ l. round_at (h t.each) i 0 ∷ l)
-      (ap (λ l. turns_from l (i + 1) count) (sym (map-append (turn_map h) ts (t ∷ [])))
-      ∙ turns (ts ++ (t ∷ [])) (i + 1) count)
-
   one_step : (s : StepOf A) → Mapped (step_rounds n (step_map h s)) (step_rounds n s)
   one_step (Single b) = refl
   one_step (Along b) = each b 0 n
   one_step (Nest ps) = over (λ o. inner_rounds n o (map (inner_map h) ps))
       (λ o. inner_rounds n o ps) (λ o. inners o ps) 0 n
-  one_step (Pairs b) = each b 1 (n - 1)
-  one_step (Alternate ts) = turns ts 0 (n - 1)
   one_step (Flowed x) = flow_rounds_map A B h n x
 
   -- they are the same rounds, of other bodies

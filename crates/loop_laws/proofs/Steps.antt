@@ -1,8 +1,8 @@
 -- Steps one after another.
-use Rattle.std.proofs.Common.{◌≡◌, ℕ, ◌-◌, List, [], ◌∷◌, ◌++◌, refl, ap, ◌∙◌}
-use Rattle.loop_ir.specs.Plain.{Block, TurnOf, StepOf}
-use Rattle.loop_ir.specs.Plain.StepOf.{Along, Pairs, Alternate}
-use Rattle.loop_ir.specs.Loops.{RoundOf, one_round, rounds, turns_from, all_rounds}
+use Rattle.std.proofs.Common.{◌≡◌, ℕ, List, [], ◌∷◌, ◌++◌, refl, ap, ◌∙◌}
+use Rattle.loop_ir.specs.Plain.{Block, StepOf}
+use Rattle.loop_ir.specs.Plain.StepOf.{Along}
+use Rattle.loop_ir.specs.Loops.{RoundOf, one_round, rounds, all_rounds}
 use Rattle.loop_ir.specs.Spots.{Spots, after_round, after_rounds}
 use Rattle.loop_laws.specs.Turns.{after_many}
 use Rattle.loop_laws.proofs.Loop.{many_is}
@@ -22,15 +22,3 @@ pub steps_each : (n : ℕ) (b : Block) (ss : List (StepOf Block)) (bits : Spots)
 steps_each n b ss bits =
     rounds_append n (rounds (λ i. one_round b i 0) 0 n) (all_rounds n ss) bits
     ∙ ap (after_rounds n (all_rounds n ss)) (many_is n 0 b n bits)
-
-pub steps_pairs : (n : ℕ) (b : Block) (ss : List (StepOf Block)) (bits : Spots)
-    → after_steps n (Pairs b ∷ ss) bits ≡ after_steps n ss (after_many n 1 b (n - 1) bits)
-steps_pairs n b ss bits =
-    rounds_append n (rounds (λ i. one_round b i 1) 0 (n - 1)) (all_rounds n ss) bits
-    ∙ ap (after_rounds n (all_rounds n ss)) (many_is n 1 b (n - 1) bits)
-
--- bodies that take turns, and then the steps after them
-pub steps_turns : (n : ℕ) (ts : List (TurnOf Block)) (ss : List (StepOf Block)) (bits : Spots)
-    → after_steps n (Alternate ts ∷ ss) bits
-    ≡ after_steps n ss (after_rounds n (turns_from ts 0 (n - 1)) bits)
-steps_turns n ts ss bits = rounds_append n (turns_from ts 0 (n - 1)) (all_rounds n ss) bits

@@ -5,9 +5,9 @@ use Rattle.std.specs.List.{AllByRecursion, list_all}
 use Rattle.bit_rows.specs.declared.TheConstants.{WIDTH_MAX}
 use Rattle.mig_graph.specs.Graph.{IsGraph}
 use Rattle.mig_graph.specs.Outputs.{AreNamed}
-use Rattle.loop_ir.specs.Plain.{Block, InnerOf, StepOf, AllParts, all_turns}
+use Rattle.loop_ir.specs.Plain.{Block, InnerOf, StepOf, AllParts}
 use Rattle.loop_ir.specs.Plain.InnerOf.{Alone, Across}
-use Rattle.loop_ir.specs.Plain.StepOf.{Single, Along, Nest, Pairs, Alternate, Flowed}
+use Rattle.loop_ir.specs.Plain.StepOf.{Single, Along, Nest, Flowed}
 use Rattle.loop_ir.specs.Flows.{all_flow}
 use Rattle.loop_ir.specs.Loops.{all_rounds}
 use Rattle.loop_ir.specs.declared.ir.Place.{Place}
@@ -72,8 +72,6 @@ steps_have_room [] = true
 steps_have_room (Single b ∷ ss) = has_room b && steps_have_room ss
 steps_have_room (Along b ∷ ss) = has_room b && steps_have_room ss
 steps_have_room (Nest ps ∷ ss) = inners_have_room ps && steps_have_room ss
-steps_have_room (Pairs b ∷ ss) = has_room b && steps_have_room ss
-steps_have_room (Alternate t ∷ ss) = all_turns has_room t && steps_have_room ss
 steps_have_room (Flowed f ∷ ss) = all_flow has_room f && steps_have_room ss
 
 -- a loop program is small enough that its code is within the limits: the test that a written
@@ -106,8 +104,6 @@ steps_have_known [] = true
 steps_have_known (Single b ∷ ss) = has_known_states b && steps_have_known ss
 steps_have_known (Along b ∷ ss) = has_known_states b && steps_have_known ss
 steps_have_known (Nest ps ∷ ss) = inners_have_known ps && steps_have_known ss
-steps_have_known (Pairs b ∷ ss) = has_known_states b && steps_have_known ss
-steps_have_known (Alternate t ∷ ss) = all_turns has_known_states t && steps_have_known ss
 steps_have_known (Flowed f ∷ ss) = all_flow has_known_states f && steps_have_known ss
 
 -- each body with states is one of those that hold states, and finds the states that it reads

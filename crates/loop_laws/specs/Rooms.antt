@@ -10,9 +10,9 @@ use Rattle.loop_ir.specs.declared.ir.Sub.TheVariants as sub
 use Rattle.loop_ir.specs.declared.ir.Count.{Count}
 use Rattle.loop_ir.specs.declared.ir.Count.TheVariants.{All, Rest}
 use Rattle.loop_ir.specs.declared.ir.Place.{Place}
-use Rattle.loop_ir.specs.Plain.{Block, InnerOf, StepOf, step_map, all_turns}
+use Rattle.loop_ir.specs.Plain.{Block, InnerOf, StepOf, step_map}
 use Rattle.loop_ir.specs.Plain.InnerOf.{Alone, Across}
-use Rattle.loop_ir.specs.Plain.StepOf.{Single, Along, Nest, Pairs, Alternate, Flowed}
+use Rattle.loop_ir.specs.Plain.StepOf.{Single, Along, Nest, Flowed}
 use Rattle.loop_ir.specs.Spots.{Spot, spot_in, IsOwn}
 use Rattle.loop_ir.specs.Costs.{sub_code}
 
@@ -193,6 +193,4 @@ steps_fit rooms [] = true
 steps_fit rooms (Single b ∷ ss) = body_fits Nowhere false rooms b && steps_fit rooms ss
 steps_fit rooms (Along b ∷ ss) = body_fits Whole false rooms b && steps_fit rooms ss
 steps_fit rooms (Nest ps ∷ ss) = inners_fit rooms ps && steps_fit rooms ss
-steps_fit rooms (Pairs b ∷ ss) = body_fits Left true rooms b && steps_fit rooms ss
-steps_fit rooms (Alternate t ∷ ss) = all_turns (body_fits Whole false rooms) t && steps_fit rooms ss
 steps_fit rooms (Flowed f ∷ ss) = false

@@ -4,7 +4,6 @@ pub mod Runs
 pub mod Each
 pub mod Nest
 pub mod Held
-pub mod Turns
 pub mod Flowed
 pub mod FlowStep
 pub mod Program

@@ -24,9 +24,11 @@ use Rattle.loop_ir.specs.declared.ir.Place.{Place}
 use Rattle.loop_ir.specs.declared.ir.Count.{Count}
 use Rattle.loop_ir.specs.declared.ir.Count.TheVariants.{All, Rest}
 use Rattle.uprog_gen.specs.declared.plan.Plan.{Plan}
-use Rattle.loop_ir.specs.Plain.{Block, InnerOf, TurnOf, StepOf, step_map}
+use Rattle.loop_ir.specs.Plain.{Block, InnerOf, StepOf, step_map}
 use Rattle.loop_ir.specs.Plain.InnerOf.{Alone, Across}
-use Rattle.loop_ir.specs.Plain.StepOf.{Single, Along, Nest, Pairs, Alternate, Flowed}
+use Rattle.loop_ir.specs.Plain.StepOf.{Single, Along, Nest, Flowed}
+use Rattle.loop_ir.specs.Flows.{FlowOf}
+use Rattle.loop_ir.specs.FlowTests.{cleared}
 use Rattle.loop_ir.specs.Spots.{nth_place}
 use Rattle.loop_ir.specs.Costs.{same_sub, is_used, is_fixed}
 use Rattle.uprog_gen.specs.FlowCode.{code_of}
@@ -253,54 +255,6 @@ nest_code inner pc = SetI 0 0 ∷ SetN 1 ∷ SubI 1 1
 abbrev pub outside : List Uop
 outside = SetI 0 0 ∷ SetT 1 ∷ []
 
--- before a loop that has no round at width 1 and ends at this place: o is 1, and a jump leads past
--- the loop where there is none
-abbrev pub guard_code : ℕ → ℕ → List Uop
-guard_code pc end = SetI 0 1 ∷ SetT 1 ∷ Bnez 1 (pc + 1 + 1 + 1 + 1) ∷ Bnez 0 end ∷ SubI 1 1 ∷ []
-
--- the code of such a loop
-abbrev pub pairs_code : Part → ℕ → List Uop
-pairs_code p pc = let q = pc + 1 + 1 + 1 + 1 + 1 in
-    guard_code pc (q + length (loop_code Rest p q)) ++ loop_code Rest p q
-
--- bodies that take turns have one register for the position, and one for how many come after it
-abbrev pub turn_plan : Plan
-turn_plan = record { first = At_inner; second = Zero; third = InnerDown; named = false }
-
--- the instructions of the commands of one of them
-abbrev pub turn_uops : Part → List Uop
-turn_uops p = map (code_uop turn_plan p.block) p.cmds
-
--- One of bodies that take turns, whose first instruction has this place. Register 5 holds how many
--- positions come after this one, and 4 holds 1: where none comes, the other body stands in its
--- place and a jump leads out of the loop
-abbrev pub either_code : Part → Part → ℕ → ℕ → List Uop
-either_code p last out pc = Bnez 5 (pc + 1 + length last.cmds + 1)
-    ∷ (turn_uops last ++ (Bnez 4 out ∷ (turn_uops p ++ (AddI 3 1 ∷ SubI 5 1 ∷ []))))
-
--- how many instructions it has
-abbrev pub either_size : Part → Part → ℕ
-either_size p last = length p.cmds + length last.cmds + 4
-
--- bodies that take turns, one after another
-abbrev pub turns_list : List (TurnOf Part) → ℕ → ℕ → List Uop
-turns_list [] out pc = []
-turns_list (t ∷ ts) out pc = either_code t.each t.last out pc
-    ++ turns_list ts out (pc + either_size t.each t.last)
-
--- before the loop of bodies that take turns, whose first instruction has this place: the last of
--- these leads out of it, to the end
-abbrev pub start_code : ℕ → ℕ → List Uop
-start_code head end = SetT 5 ∷ SetI 3 0 ∷ SetI 4 1 ∷ Bnez 4 head ∷ Bnez 4 end ∷ []
-
--- the loop of bodies that take turns, in which each jumps back to the way out
-abbrev pub cycle_code : List (TurnOf Part) → ℕ → List Uop
-cycle_code ts pc =
-    let out = pc + 1 + 1 + 1 + 1 in
-    let head = out + 1 in
-    let turns = turns_list ts out head in
-    start_code head (head + length turns + 1) ++ (turns ++ (Bnez 4 head ∷ []))
-
 -- the subscripts of a flow's bodies name their registers
 abbrev pub flow_plan : Plan
 flow_plan = record { first = Zero; second = Zero; third = Zero; named = true }
@@ -309,9 +263,9 @@ flow_plan = record { first = Zero; second = Zero; third = Zero; named = true }
 abbrev pub flow_uops : Part → List Uop
 flow_uops p = map (code_uop flow_plan p.block) p.cmds
 
--- before a flow its registers get 0
-abbrev pub clear_code : List Uop
-clear_code = SetI 0 0 ∷ SetI 1 0 ∷ SetI 2 0 ∷ SetI 3 0 ∷ SetI 4 0 ∷ SetI 5 0 ∷ SetI 6 0 ∷ []
+-- before a flow the registers that its forms name get 0
+abbrev pub clear_code : {A : Type 0} → FlowOf A → List Uop
+clear_code f = map (λ r. SetI r 0) (cleared f)
 
 -- the code of a step, whose first instruction has this place
 abbrev pub step_code : StepOf Part → ℕ → List Uop
@@ -319,10 +273,7 @@ step_code (Single p) pc = if is_fixed p.block then body_uops p else outside ++ o
 step_code (Along p) pc = outside ++ loop_code All p (pc + 1 + 1)
 step_code (Nest []) pc = []
 step_code (Nest (x ∷ xs)) pc = nest_code (inner_list (x ∷ xs)) pc
-step_code (Pairs p) pc = pairs_code p pc
-step_code (Alternate []) pc = []
-step_code (Alternate (t ∷ ts)) pc = cycle_code (t ∷ ts) pc
-step_code (Flowed f) pc = clear_code ++ code_of flow_uops f (pc + 7)
+step_code (Flowed f) pc = clear_code f ++ code_of flow_uops f (pc + length (cleared f))
 
 -- the code of the steps, whose first instruction has this place
 abbrev pub program_code : List (StepOf Part) → ℕ → List Uop

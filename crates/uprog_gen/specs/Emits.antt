@@ -2,11 +2,9 @@
 -- Private contracts alone speak of this.
 use Rattle.std.specs.Prelude.{◌≡◌, ℕ, List, ◌++◌, length, map}
 use Rattle.uprog_code.specs.declared.code.Uop.{Uop}
-use Rattle.loop_ir.specs.Plain.{Block, InnerOf, TurnOf, StepOf, inner_map, turn_map}
-use Rattle.loop_ir.specs.Plain.{AllInner, AllTurns, AllParts}
+use Rattle.loop_ir.specs.Plain.{Block, InnerOf, StepOf, inner_map, AllInner, AllParts}
 use Rattle.loop_ir.specs.Flows.{FlowOf, TurnsOf, flow_map, acts_map, AllFlow, AllActs}
-use Rattle.uprog_gen.specs.Code.{Part, block_of_part, blocks, inner_list, turns_list, flow_uops}
-use Rattle.uprog_gen.specs.Code.{program_code}
+use Rattle.uprog_gen.specs.Code.{Part, block_of_part, blocks, inner_list, flow_uops, program_code}
 use Rattle.uprog_gen.specs.FlowCode.{code_of, turns_code}
 use Rattle.uprog_gen.specs.Parts.{IsPart}
 
@@ -16,14 +14,6 @@ pub record EmitsInner (xs : List (InnerOf Block)) (old new : List Uop) : Type 0 
   pub same : map (inner_map block_of_part) coded ≡ xs
   pub parts : AllInner IsPart coded
   pub code : new ≡ old ++ inner_list coded (length old)
-
--- the code of bodies that take turns came to the old code, with right commands for each body and
--- jumps to this place
-pub record EmitsTurns (ts : List (TurnOf Block)) (out : ℕ) (old new : List Uop) : Type 0 where
-  pub coded : List (TurnOf Part)
-  pub same : map (turn_map block_of_part) coded ≡ ts
-  pub parts : AllTurns IsPart coded
-  pub code : new ≡ old ++ turns_list coded out (length old)
 
 -- the code of a body of a flow came to the old code, with right commands for it
 pub record EmitsBody (b : Block) (old new : List Uop) : Type 0 where

@@ -14,8 +14,11 @@ use Rattle.mig_graph.specs.Outputs.{lit_at, AreNamed}
 use Rattle.mig_graph.specs.Reduced.{IsReduced}
 use Rattle.uprog_code.specs.Machine.{trace, issues_of}
 use Rattle.uprog_code.specs.Shape.{Microprogram}
-use Rattle.loop_ir.specs.Plain.{Block as Body, TurnOf, StepOf}
-use Rattle.loop_ir.specs.Plain.StepOf.{Single, Along, Nest, Pairs, Alternate, Flowed}
+use Rattle.loop_ir.specs.Plain.{Block as Body, StepOf}
+use Rattle.loop_ir.specs.Plain.StepOf.{Single, Along, Nest, Flowed}
+use Rattle.loop_ir.specs.Flows.{FlowOf, TurnsOf}
+use Rattle.loop_ir.specs.Flows.FlowOf.{End, Do, Put, If, Loop}
+use Rattle.loop_ir.specs.Flows.TurnsOf.{Last, Turn}
 use Rattle.block_lower.specs.Inputs.{block_inputs, name_at}
 use Rattle.uprog_gen.specs.Costs.{op_aaps, op_aps}
 use Rattle.uprog_gen.specs.Totals.{IsExact}
@@ -99,19 +102,25 @@ abbrev pub later : List Graphed → List Graphed → List Graphed
 later own [] = own
 later own (g ∷ gs) = g ∷ gs
 
--- the graph of the last of bodies that take turns
-abbrev pub turns_graph : List (TurnOf Body) → List Graphed
-turns_graph [] = []
-turns_graph (t ∷ ts) = later (body_graph t.each ∷ []) (turns_graph ts)
+abbrev mutual
+  -- the graph of the body of a flow that comes last in the text
+  pub flow_graph : FlowOf Body → List Graphed
+  flow_graph End = []
+  flow_graph (Do b k) = later (body_graph b ∷ []) (flow_graph k)
+  flow_graph (Put m k) = flow_graph k
+  flow_graph (If r x y k) = later (later (flow_graph x) (flow_graph y)) (flow_graph k)
+  flow_graph (Loop r ts k) = later (acts_graph ts) (flow_graph k)
 
--- the graph that a step does at each position, if it does one
+  pub acts_graph : TurnsOf Body → List Graphed
+  acts_graph (Last x) = flow_graph x
+  acts_graph (Turn x ts) = later (flow_graph x) (acts_graph ts)
+
+-- the graph that a step does at each position, if it does one: a flow does that of its last body
 abbrev pub step_graph : StepOf Body → List Graphed
 step_graph (Single b) = []
 step_graph (Along b) = body_graph b ∷ []
 step_graph (Nest parts) = []
-step_graph (Pairs b) = []
-step_graph (Alternate ts) = turns_graph ts
-step_graph (Flowed f) = []
+step_graph (Flowed f) = flow_graph f
 
 -- the graph of the last of the steps that does one at each position
 abbrev pub last_graph : List (StepOf Body) → List Graphed

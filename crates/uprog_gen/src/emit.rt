@@ -4,12 +4,10 @@ ghost use Rattle.std.specs.Prelude.{◌≡◌, ◌<◌, ◌≤◌, ◌+◌, ◌^
 ghost use Rattle.std.specs.Prelude.{true};
 ghost use Rattle.row_alloc.specs.declared.body.BodyRef.{BodyRef};
 ghost use Rattle.loop_ir.specs.Plain.{block_of};
-ghost use Rattle.loop_ir.specs.Costs.{body_cost};
 ghost use Rattle.uprog_gen.specs.Code.{row_space, index_in, place_ref, code_ref, code_uop, init};
 ghost use Rattle.uprog_gen.specs.Code.{before, after, inits, befores, afters};
 ghost use Rattle.uprog_gen.specs.Code.{counter, body_uops};
-ghost use Rattle.uprog_gen.specs.Code.{once_code, turn_code, enter_code, loop_code, guard_code};
-ghost use Rattle.uprog_gen.specs.Code.{pairs_code, start_code, either_code};
+ghost use Rattle.uprog_gen.specs.Code.{once_code, turn_code, enter_code, loop_code};
 ghost use Rattle.uprog_gen.specs.Made.{part_of, is_ref_of, are_refs_of};
 ghost use Rattle.uprog_gen.specs.Parts.{IsPart};
 
@@ -242,80 +240,4 @@ pub fn push_loop(
     let top = code.len() as u16;
     push_turn(code, body, made)?;
     keep(code, Uop::Bnez(2, top))
-}
-
-/// What stands before a loop that has no round at width 1 and ends at this place.
-fn push_guard(code: &mut Vec<Uop>, end: u16) -> Result<(), NoMemory>
-    requires { length code.old.items + 8 < 2 ^ 16 }
-    ensures { OnOk result (code.new.items ≡ code.old.items
-        ++ guard_code (length code.old.items) end) }
-{
-    let first = code.len() as u16 + 4;
-    keep(code, Uop::SetI(0, 1))?;
-    keep(code, Uop::SetT(1))?;
-    keep(code, Uop::Bnez(1, first))?;
-    keep(code, Uop::Bnez(0, end))?;
-    keep(code, Uop::SubI(1, 1))
-}
-
-/// A body at each position that has one above it. The jump past the loop gets its target when the
-/// loop stands.
-pub fn push_pairs(code: &mut Vec<Uop>, body: &Body, made: &Made) -> Result<(), NoMemory>
-    requires part { IsPart (part_of (block_of body.now) made.now) }
-    requires room { length code.old.items + body_cost (block_of body.now) + 64 < 2 ^ 16 }
-    ensures { OnOk result (code.new.items ≡ code.old.items
-        ++ pairs_code (part_of (block_of body.now) made.now) (length code.old.items)) }
-{
-    let past = code.len() + 3;
-    push_guard(code, 0)?;
-    push_loop(code, Count::Rest, body, made)?;
-    let end = code.len() as u16;
-    code[past] = Uop::Bnez(0, end);
-    Ok(())
-}
-
-/// What stands before the loop of bodies that take turns, whose first instruction has this place.
-/// The jump out of the loop gets its target when the loop stands.
-pub fn push_start(code: &mut Vec<Uop>, head: u16) -> Result<(), NoMemory>
-    ensures { OnOk result (code.new.items ≡ code.old.items ++ start_code head 0) }
-{
-    keep(code, Uop::SetT(5))?;
-    keep(code, Uop::SetI(3, 0))?;
-    keep(code, Uop::SetI(4, 1))?;
-    keep(code, Uop::Bnez(4, head))?;
-    keep(code, Uop::Bnez(4, 0))
-}
-
-/// The subscripts of bodies that take turns: register 3 holds the position, and 5 how many come
-/// after it.
-const TURN_PLAN: Plan = Plan {
-    first: Sub::Inner,
-    second: Sub::Zero,
-    third: Sub::InnerDown,
-    named: false,
-};
-
-/// One of bodies that take turns, and the one that stands in its place at the top position.
-pub fn push_either(
-    code: &mut Vec<Uop>,
-    body: &Body,
-    made: &Made,
-    last: &Body,
-    last_made: &Made,
-    out: u16,
-) -> Result<(), NoMemory>
-    requires part { IsPart (part_of (block_of body.now) made.now) }
-    requires last { IsPart (part_of (block_of last.now) last_made.now) }
-    requires room { length code.old.items + length last_made.now.cmds.items + 2 < 2 ^ 16 }
-    ensures { OnOk result (code.new.items ≡ code.old.items
-        ++ either_code (part_of (block_of body.now) made.now)
-        (part_of (block_of last.now) last_made.now) out (length code.old.items)) }
-{
-    let more = code.len() as u16 + 1 + last_made.cmds.len() as u16 + 1;
-    keep(code, Uop::Bnez(5, more))?;
-    push_commands(code, TURN_PLAN, last, last_made)?;
-    keep(code, Uop::Bnez(4, out))?;
-    push_commands(code, TURN_PLAN, body, made)?;
-    keep(code, Uop::AddI(3, 1))?;
-    keep(code, Uop::SubI(5, 1))
 }

@@ -4,6 +4,7 @@ ghost use Rattle.std.specs.Prelude.{◌≡◌, ◌<◌, ◌≤◌, ◌+◌, ◌^
 ghost use Rattle.loop_ir.specs.Plain.{block_of, flow_of, acts_of};
 ghost use Rattle.loop_ir.specs.Plain.StepOf.{Flowed as FlowedOf};
 ghost use Rattle.loop_ir.specs.Flows.{flow_size, acts_size, AllFlow, AllActs};
+ghost use Rattle.loop_ir.specs.FlowTests.{is_moved, names, any_names};
 ghost use Rattle.loop_ir.specs.Costs.{body_cost};
 ghost use Rattle.loop_ir.specs.Limits.{IsSmall};
 ghost use Rattle.uprog_gen.specs.FlowCode.{uop_of, leave};
@@ -137,17 +138,54 @@ fn emit_acts(
     }
 }
 
-/// Before a flow its registers get 0.
-fn push_clear(code: &mut Vec<Uop>) -> Result<(), NoMemory>
-    ensures { OnOk result (code.new.items ≡ code.old.items ++ clear_code) }
+/// Whether the move sets or reads the register.
+fn is_moved(r: u8, m: Move) -> bool
+    ensures { result ≡ is_moved r m }
 {
-    keep(code, Uop::SetI(0, 0))?;
-    keep(code, Uop::SetI(1, 0))?;
-    keep(code, Uop::SetI(2, 0))?;
-    keep(code, Uop::SetI(3, 0))?;
-    keep(code, Uop::SetI(4, 0))?;
-    keep(code, Uop::SetI(5, 0))?;
-    keep(code, Uop::SetI(6, 0))
+    match m {
+        Move::SetI(s, _) | Move::AddI(s, _) | Move::SubI(s, _) => s == r,
+        Move::SetN(s) | Move::SetT(s) => s == r,
+        Move::Mov(s, t) => s == r || t == r,
+    }
+}
+
+/// Whether the register stands in some form of the flow.
+#[cycle(names)]
+fn names(r: u8, flow: &Flow) -> bool
+    ensures { result ≡ names r (flow_of flow.now) }
+{
+    match flow {
+        Flow::End => false,
+        Flow::Do(_, next) => names(r, next),
+        Flow::Put(m, next) => is_moved(r, *m) || names(r, next),
+        Flow::If(s, some, none, next) => {
+            *s == r || (names(r, some) || (names(r, none) || names(r, next)))
+        }
+        Flow::Loop(s, turns, next) => *s == r || (any_names(r, turns) || names(r, next)),
+    }
+}
+
+/// Whether it stands in some form of what a loop does.
+#[cycle(names)]
+fn any_names(r: u8, turns: &Turns) -> bool
+    ensures { result ≡ any_names r (acts_of turns.now) }
+{
+    match turns {
+        Turns::Last(flow) => names(r, flow),
+        Turns::Turn(flow, more) => names(r, flow) || any_names(r, more),
+    }
+}
+
+/// Before a flow the registers that its forms name get 0.
+fn push_clear(flow: &Flow, code: &mut Vec<Uop>) -> Result<(), NoMemory>
+    ensures { OnOk result (code.new.items ≡ code.old.items ++ clear_code (flow_of flow.now)) }
+{
+    for r in 0..7 {
+        if names(r, flow) {
+            keep(code, Uop::SetI(r, 0))?;
+        }
+    }
+    Ok(())
 }
 
 /// The code of a step that is a flow.
@@ -157,7 +195,7 @@ pub fn emit_flowed(flow: &Flow, code: &mut Vec<Uop>, alloc: Global) -> Result<()
     ensures { OnOk result (EmitsSteps (FlowedOf (flow_of flow.now) ∷ []) code.old.items
         code.new.items) }
 {
-    push_clear(code)?;
+    push_clear(flow, code)?;
     emit_flow(flow, code, alloc)?;
     Ok(())
 }

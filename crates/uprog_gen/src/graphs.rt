@@ -2,36 +2,70 @@
 
 ghost use Rattle.std.specs.Prelude.{◌≡◌, ◌++◌, ◌∷◌, [], map, option_to_list, OnOk};
 ghost use Rattle.op_text.specs.Language.{statement, operation};
-ghost use Rattle.loop_ir.specs.Plain.{turn_of, step_of, steps_of};
-ghost use Rattle.uprog_gen.specs.Graphs.{graphed_of, turns_graph, step_graph, last_graph};
-ghost use Rattle.uprog_gen.specs.Graphs.{statement_graph, graphs_in};
+ghost use Rattle.loop_ir.specs.Plain.{flow_of, acts_of, step_of, steps_of};
+ghost use Rattle.uprog_gen.specs.Graphs.{graphed_of, later, flow_graph, acts_graph, step_graph};
+ghost use Rattle.uprog_gen.specs.Graphs.{last_graph, statement_graph, graphs_in};
 
 use crate::ops::Lowered;
 use faults::keep;
-use loop_ir::{LoopProgram, Step, Turn};
+use loop_ir::{Flow, LoopProgram, Step, Turns};
 use mig_graph::{MigOuts, NoMemory};
 use op_text::{Op, Stmt};
 
-/// The graph of the last of bodies that take turns.
-fn turns_graph(mut turns: Vec<Turn>) -> Option<MigOuts>
-    ensures { map graphed_of (option_to_list result) ≡ turns_graph (map turn_of turns.items) }
+/// The second, if there is one, or else the first.
+fn later(own: Option<MigOuts>, more: Option<MigOuts>) -> Option<MigOuts>
+    ensures { map graphed_of (option_to_list result)
+        ≡ later (map graphed_of (option_to_list own)) (map graphed_of (option_to_list more)) }
 {
-    match turns.pop() {
-        None => None,
-        Some(turn) => {
-            let Turn { each, last: _ } = turn;
-            Some(each.into_graph())
+    match more {
+        None => own,
+        Some(graph) => Some(graph),
+    }
+}
+
+/// The graph of the body of a flow that comes last in the text.
+#[cycle(graphs)]
+fn flow_graph(flow: Flow) -> Option<MigOuts>
+    ensures { map graphed_of (option_to_list result) ≡ flow_graph (flow_of flow) }
+{
+    match flow {
+        Flow::End => None,
+        Flow::Do(body, next) => later(Some(body.into_graph()), flow_graph(Box::into_inner(next))),
+        Flow::Put(_, next) => flow_graph(Box::into_inner(next)),
+        Flow::If(_, some, none, next) => {
+            let some = flow_graph(Box::into_inner(some));
+            let none = flow_graph(Box::into_inner(none));
+            later(later(some, none), flow_graph(Box::into_inner(next)))
+        }
+        Flow::Loop(_, turns, next) => {
+            let turns = acts_graph(Box::into_inner(turns));
+            later(turns, flow_graph(Box::into_inner(next)))
         }
     }
 }
 
+/// So it is of what a loop does.
+#[cycle(graphs)]
+fn acts_graph(turns: Turns) -> Option<MigOuts>
+    ensures { map graphed_of (option_to_list result) ≡ acts_graph (acts_of turns) }
+{
+    match turns {
+        Turns::Last(flow) => flow_graph(Box::into_inner(flow)),
+        Turns::Turn(flow, more) => {
+            let flow = flow_graph(Box::into_inner(flow));
+            later(flow, acts_graph(Box::into_inner(more)))
+        }
+    }
+}
+
+/// The graph that a step does at each position, if it does one.
 fn step_graph(step: Step) -> Option<MigOuts>
     ensures { map graphed_of (option_to_list result) ≡ step_graph (step_of step) }
 {
     match step {
         Step::Each(body) => Some(body.into_graph()),
-        Step::Alternate(turns) => turns_graph(turns),
-        Step::Once(_) | Step::Nest(_) | Step::Pairs(_) | Step::Flow(_) => None,
+        Step::Flow(flow) => flow_graph(flow),
+        Step::Once(_) | Step::Nest(_) => None,
     }
 }
 

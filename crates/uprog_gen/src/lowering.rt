@@ -27,6 +27,7 @@ fn is_flow(s: &Stmt) -> bool
 {
     match s {
         Stmt::Word { op, .. } => match op {
+            WordOp::Shl1 | WordOp::Shr1 => true,
             WordOp::Mul | WordOp::Div | WordOp::Rem | WordOp::Divmod | WordOp::Bitcount => true,
             WordOp::Abs | WordOp::Relu | WordOp::AndRed | WordOp::OrRed | WordOp::XorRed => true,
             _ => false,

@@ -1,20 +1,18 @@
 //! The code of steps.
 
 ghost use Rattle.std.specs.Prelude.{◌≡◌, ◌<◌, ◌≤◌, ◌+◌, ◌^◌, ◌∷◌, [], length, map, sum_by, OnOk};
-ghost use Rattle.loop_ir.specs.Plain.{block_of, inner_of, turn_of, step_of, AllInner, AllTurns};
-ghost use Rattle.loop_ir.specs.Plain.{AllStep, AllParts};
+ghost use Rattle.loop_ir.specs.Plain.{block_of, inner_of, step_of, AllInner, AllStep, AllParts};
 ghost use Rattle.loop_ir.specs.Plain.StepOf.{Single as SingleOf, Nest as NestOf};
-ghost use Rattle.loop_ir.specs.Plain.StepOf.{Alternate as AlternateOf};
 ghost use Rattle.loop_ir.specs.Limits.{IsSmall};
-ghost use Rattle.loop_ir.specs.Costs.{inner_cost, either_cost, turns_cost, step_cost, code_cost};
-ghost use Rattle.uprog_gen.specs.Emits.{EmitsInner, EmitsTurns, EmitsSteps};
+ghost use Rattle.loop_ir.specs.Costs.{inner_cost, step_cost, code_cost};
+ghost use Rattle.uprog_gen.specs.Emits.{EmitsInner, EmitsSteps};
 
-use crate::emit::{push_body, push_either, push_loop, push_once, push_pairs, push_start};
+use crate::emit::{push_body, push_loop, push_once};
 use crate::flow::emit_flowed;
 use crate::part::make_part;
 use crate::plan::is_fixed;
 use faults::keep;
-use loop_ir::{Body, Count, Inner, Step, Turn};
+use loop_ir::{Body, Count, Inner, Step};
 use mig_graph::NoMemory;
 use std::alloc::Global;
 use uprog_code::Uop;
@@ -92,51 +90,6 @@ fn emit_nest(parts: &[Inner], code: &mut Vec<Uop>, alloc: Global) -> Result<(), 
     Ok(())
 }
 
-/// One of bodies that take turns, from which a jump leads out of the loop.
-fn emit_turn(turn: &Turn, out: u16, code: &mut Vec<Uop>, alloc: Global) -> Result<(), NoMemory>
-    requires small { AllTurns IsSmall (turn_of turn.now ∷ []) }
-    requires room { length code.old.items + either_cost (turn_of turn.now) + 32 < 2 ^ 16 }
-    ensures { OnOk result (EmitsTurns (turn_of turn.now ∷ []) out code.old.items code.new.items) }
-{
-    let each = make_part(&turn.each, alloc)?;
-    let last = make_part(&turn.last, alloc)?;
-    push_either(code, &turn.each, &each, &turn.last, &last, out)?;
-    Ok(())
-}
-
-/// Bodies that take turns.
-fn emit_turns(turns: &[Turn], out: u16, code: &mut Vec<Uop>, alloc: Global) -> Result<(), NoMemory>
-    requires small { AllTurns IsSmall (map turn_of turns.now) }
-    requires room { length code.old.items + sum_by either_cost (map turn_of turns.now) + 32
-        < 2 ^ 16 }
-    ensures { OnOk result (EmitsTurns (map turn_of turns.now) out code.old.items code.new.items) }
-{
-    for turn in turns {
-        emit_turn(turn, out, code, alloc)?;
-    }
-    Ok(())
-}
-
-/// The loop of bodies that take turns. The jump out of it gets its target when the loop stands.
-fn emit_cycle(turns: &[Turn], code: &mut Vec<Uop>, alloc: Global) -> Result<(), NoMemory>
-    requires small { AllTurns IsSmall (map turn_of turns.now) }
-    requires room { length code.old.items + turns_cost (map turn_of turns.now) + 64 < 2 ^ 16 }
-    ensures { OnOk result (EmitsSteps (AlternateOf (map turn_of turns.now) ∷ []) code.old.items
-        code.new.items) }
-{
-    if turns.is_empty() {
-        return Ok(());
-    }
-    let out = code.len() + 4;
-    let head = out as u16 + 1;
-    push_start(code, head)?;
-    emit_turns(turns, out as u16, code, alloc)?;
-    keep(code, Uop::Bnez(4, head))?;
-    let end = code.len() as u16;
-    code[out] = Uop::Bnez(4, end);
-    Ok(())
-}
-
 /// One step.
 fn emit_step(step: &Step, code: &mut Vec<Uop>, alloc: Global) -> Result<(), NoMemory>
     requires small { AllStep IsSmall (step_of step.now) }
@@ -153,12 +106,6 @@ fn emit_step(step: &Step, code: &mut Vec<Uop>, alloc: Global) -> Result<(), NoMe
             push_loop(code, Count::All, body, &made)?;
             Ok(())
         }
-        Step::Pairs(body) => {
-            let made = make_part(body, alloc)?;
-            push_pairs(code, body, &made)?;
-            Ok(())
-        }
-        Step::Alternate(turns) => emit_cycle(turns, code, alloc),
         Step::Flow(flow) => emit_flowed(flow, code, alloc),
     }
 }

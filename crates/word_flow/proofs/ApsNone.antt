@@ -1,26 +1,12 @@
--- bitcount, and_red and or_red have no AP.
+-- and_red and or_red have no AP.
 use Rattle.std.proofs.Common.{◌≡◌, ℕ, Bool, true, false, List, refl}
 use Rattle.loop_ir.specs.Flows.{flow_map}
 use Rattle.loop_ir.specs.Loops.{flow_rounds}
 use Rattle.loop_laws.specs.Rooms.{Room}
 use Rattle.word_flow.specs.Coded.{coded_body, aps_of}
-use Rattle.word_flow.proofs.Counts.{Part as Count, Copied, Three as Odd, Two as Even, Next, Carried}
-use Rattle.word_flow.proofs.Counts.{Summed, Cleared, code as count_code, bitcount}
 use Rattle.word_flow.proofs.Reductions.{Part as Reduction, Alone, Begun, One, Two, Three, Ended}
 use Rattle.word_flow.proofs.Reductions.{code as reduction_code, reduction}
 use Rattle.word_flow.proofs.FlowAps.{round_aps, no_aps}
-
-count_are : (rooms : List Room) (b : Count) → aps_of (coded_body rooms (count_code b)) ≡ 0
-count_are rooms Copied = refl
-count_are rooms (Odd true) = refl
-count_are rooms (Odd false) = refl
-count_are rooms (Even true) = refl
-count_are rooms (Even false) = refl
-count_are rooms (Next true) = refl
-count_are rooms (Next false) = refl
-count_are rooms Carried = refl
-count_are rooms Summed = refl
-count_are rooms Cleared = refl
 
 reduction_are : (c : Bool) (rooms : List Room) (b : Reduction)
     → aps_of (coded_body rooms (reduction_code c b)) ≡ 0
@@ -31,10 +17,6 @@ reduction_are c rooms Begun = refl
 reduction_are c rooms Two = refl
 reduction_are c rooms Three = refl
 reduction_are c rooms Ended = refl
-
-pub count_aps : (n : ℕ) (rooms : List Room)
-    → round_aps (flow_rounds n (flow_map (λ b. coded_body rooms (count_code b)) bitcount)) ≡ 0
-count_aps n rooms = no_aps Count (λ b. coded_body rooms (count_code b)) (count_are rooms) n bitcount
 
 pub reduction_aps : (n : ℕ) (c : Bool) (rooms : List Room)
     → round_aps (flow_rounds n (flow_map (λ b. coded_body rooms (reduction_code c b)) reduction)) ≡ 0

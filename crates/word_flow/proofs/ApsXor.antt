@@ -1,4 +1,4 @@
--- The AP of xor_red: one a pair, where they are two or more; and relu has none.
+-- The AP of xor_red: one a pair, where they are two or more.
 use Rattle.std.proofs.Common.{◌≡◌, ℕ, zero, suc, ◌+◌, ◌-◌, ◌*◌, ◌<◌, ◌≤◌, Bool, true, false, cond, List}
 use Rattle.std.proofs.Common.{[], ◌∷◌, refl, sym, subst, arith}
 use Rattle.std.specs.Prelude.{slice_set, ◌/◌, nat_lt}
@@ -11,22 +11,10 @@ use Rattle.loop_ir.specs.Loops.{flow_rounds}
 use Rattle.loop_laws.specs.Rooms.{Room}
 use Rattle.loop_laws.proofs.FlowLogic.{Claim, wp, wp_some, wp_none, wp_loop}
 use Rattle.word_flow.specs.Coded.{coded_body, aps_of}
-use Rattle.word_flow.proofs.FlowAps.{round_aps, Free, adds, aps_hold, no_aps}
+use Rattle.word_flow.proofs.FlowAps.{round_aps, Free, adds, aps_hold}
 use Rattle.word_flow.proofs.Halving.{halved}
 use Rattle.word_flow.proofs.Parities.{Part, Alone, LoneTwo, LoneThree, OpenTwo, OpenThree, Pair, Ended}
 use Rattle.word_flow.proofs.Parities.{code, two_more, few, many, xor_red, parity_aps}
-use Rattle.word_flow.proofs.Rectified.{Part as Row, Turned, Both, Agreed, Cleared, code as row_code}
-use Rattle.word_flow.proofs.Rectified.{relu}
-
-relu_are : (rooms : List Room) (b : Row) → aps_of (coded_body rooms (row_code b)) ≡ 0
-relu_are rooms Turned = refl
-relu_are rooms Both = refl
-relu_are rooms Agreed = refl
-relu_are rooms Cleared = refl
-
-pub relu_aps : (n : ℕ) (rooms : List Room)
-    → round_aps (flow_rounds n (flow_map (λ b. coded_body rooms (row_code b)) relu)) ≡ 0
-relu_aps n rooms = no_aps Row (λ b. coded_body rooms (row_code b)) (relu_are rooms) n relu
 
 -- how many AP a body has
 abbrev aps : Part → ℕ

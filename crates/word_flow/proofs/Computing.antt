@@ -4,7 +4,6 @@ use Rattle.std.proofs.Common.{false, List, map, length, Option, Some, None, refl
 use Rattle.std.proofs.Common.{◌∙◌, subst}
 use Rattle.std.specs.Prelude.{◌||◌, bytes_eq, if◌then◌else◌}
 use Rattle.std.proofs.lemmas.Slice.Eq.{bytes_eq-Decides}
-use Rattle.op_text.specs.declared.tree.Kind.TheVariants.{Word}
 use Rattle.op_text.specs.declared.word_ops.WordOp.{WordOp}
 use Rattle.op_text.specs.Values.{bits, value, op_value, second_value}
 use Rattle.op_text.specs.WordOps.{second_gives}
@@ -12,26 +11,18 @@ use Rattle.op_text.specs.Language.{Compute}
 use Rattle.op_text.specs.Rules.{is_among}
 use Rattle.op_text.specs.Meaning.{NameValue, width, number, args_width, computed, second_computed}
 use Rattle.op_text.specs.Meaning.{after_statement}
-use Rattle.loop_ir.specs.declared.ir.Space.{Space}
 use Rattle.loop_ir.specs.declared.names.Slot.{Slot}
-use Rattle.loop_ir.specs.Spots.{Spots, spot_in, is_state}
+use Rattle.loop_ir.specs.Spots.{Spots}
 use Rattle.loop_ir.specs.Statements.{Slots, IsPlaced, ComputeMeets}
 use Rattle.loop_ir.specs.Lowered.{slot_bits, HoldsAt, Holds}
 use Rattle.word_lower.specs.Places.{AreAt}
-use Rattle.word_lower.proofs.Setting as set
-use Rattle.word_lower.proofs.Lists.{bits_of_number, value_of_list}
-use Rattle.word_lower.proofs.Pieces.{slot, slot_at}
+use Rattle.word_lower.proofs.Pieces.{slot_at}
 use Rattle.word_lower.proofs.Lowering.{slots_width}
-use Rattle.word_lower.proofs.Statements.{space_is, name_at, at_place, among_like, among_target, among_arg}
+use Rattle.word_lower.proofs.Statements.{name_at, at_place, among_like, among_target, among_arg}
 use Rattle.word_lower.proofs.Statements.{or_left, or_right, same_name, written}
 use Rattle.word_lower.proofs.Statements.{form_filled, held_args, held_numbers, held_width, answer}
 use Rattle.word_lower.proofs.Statements.{by_name}
 use Rattle.word_flow.proofs.Placing.{Name, Stands, not_same}
-
--- a place that has rows, so that each of its spots is one
-pub row_stands : (n : ℕ) (s : Space) (w : ℕ) → is_state s ≡ false → (v : ℕ)
-    → is_state (spot_in n s w v).space ≡ false
-row_stands n s w e v = ap is_state (space_is n s w v) ∙ e
 
 -- a name that is none of these is not the same as one of them
 pub fresh_at : (names : List (List ℕ)) (name : List ℕ) (i : ℕ) → i < length names
@@ -163,15 +154,3 @@ module _ (slots : Slots) (free_bit free_word : ℕ) (target name : List ℕ) (p 
       | inr c ↦ subst (λ y. Holds n slots left after y) ((bytes_eq-Decides name x).0 c)
           (subst (λ (z : Option Slot). HoldsAt n z (left name) after) (sym near) held_other)
     ]
-
--- a word has the bits of the number that its rows spell
-pub word_bits : (n : ℕ) (space : Space) (which : ℕ) (after : Spots) (x : ℕ)
-    → set.number (λ v. after (spot_in n space which v)) n ≡ x
-    → slot_bits n after (slot space which Word) ≡ bits x n
-word_bits n space which after x e = sym (bits_of_number (λ v. after (spot_in n space which v)) n)
-    ∙ ap (λ z. bits z n) e
-
-pub word_value : (n : ℕ) (space : Space) (which : ℕ) (before : Spots)
-    → value (slot_bits n before (slot space which Word))
-    ≡ set.number (λ v. before (spot_in n space which v)) n
-word_value n space which before = value_of_list (λ v. before (spot_in n space which v)) n

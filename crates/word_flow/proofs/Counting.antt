@@ -9,21 +9,14 @@ use Rattle.loop_ir.specs.declared.ir.Move.TheVariants.{SetT, Mov}
 use Rattle.loop_ir.specs.Flows.{FlowOf, TurnsOf, EventOf}
 use Rattle.loop_ir.specs.Flows.FlowOf.{End, Do, Put, If, Loop}
 use Rattle.loop_ir.specs.Flows.TurnsOf.{Last}
+pub use Rattle.word_lower.proofs.Setting.{bit, number}
+pub use Rattle.word_lower.proofs.Sums.{value_same as number_same}
 use Rattle.word_flow.proofs.Halving as halving
 use Rattle.word_flow.proofs.Halving.{halve}
 use Rattle.word_flow.proofs.Counts.{Part, Copied, Three, Two, Next, Carried, Summed, Cleared}
 use Rattle.word_flow.proofs.Counts.{load_next, next_pair, filled, level, above, bitcount}
 use Rattle.loop_laws.proofs.FlowLogic.{Claim, wp, wp_some, wp_none, wp_loop}
 use Rattle.loop_laws.proofs.FlowFine.{Fine}
-
-abbrev pub bit : Bool → ℕ
-bit true = 1
-bit false = 0
-
--- the number that the first rows spell
-abbrev pub number : (ℕ → Bool) → ℕ → ℕ
-number f zero = 0
-number f (suc k) = number f k + bit (f k) * 2 ^ k
 
 -- the target's rows, the cells in which two bits, the complement of the second and that of a third
 -- one are added, that of their sum, the states that a body may read, and the commands so far
@@ -105,13 +98,6 @@ tally_two f a k =
     let e : a + 1 + 1 ≡ a + 2 = omega arith in
     let b = ap (λ v. tally f v k) e in
     omega (arith, h, g, b)
-
-pub number_same : (f g : ℕ → Bool) (k : ℕ) → ((j : ℕ) → j < k → f j ≡ g j) → number f k ≡ number g k
-number_same f g zero h = refl
-number_same f g (suc k) h =
-    let e = number_same f g k (λ j lj. h j (omega (arith, lj))) in
-    let b = ap (λ v. bit v * 2 ^ k) (h k (omega arith)) in
-    omega (arith, e, b)
 
 -- a level's sum and its carries, as its elements
 level_sum : (low b t e p q : ℕ) → b + 2 * t ≡ e → q ≡ p * 2

@@ -68,15 +68,15 @@ keeps rooms b = all_there rooms b.reads && (all_there rooms b.writes
     && (writes_fit rooms b.reads b.writes && (has_room (placed_body rooms b)
     && (are_rows_first (map (placed []) b.writes) && nat_le (length b.reads) b.graph.inputs))))
 
-record Kept (rooms : List Room) (b : Marked) : Type 0 where
-  reads : all_there rooms b.reads ≡ true
-  writes : all_there rooms b.writes ≡ true
-  fit : writes_fit rooms b.reads b.writes ≡ true
-  room : has_room (placed_body rooms b) ≡ true
-  first : are_rows_first (map (placed []) b.writes) ≡ true
-  inputs : nat_le (length b.reads) b.graph.inputs ≡ true
+pub record Kept (rooms : List Room) (b : Marked) : Type 0 where
+  pub reads : all_there rooms b.reads ≡ true
+  pub writes : all_there rooms b.writes ≡ true
+  pub fit : writes_fit rooms b.reads b.writes ≡ true
+  pub room : has_room (placed_body rooms b) ≡ true
+  pub first : are_rows_first (map (placed []) b.writes) ≡ true
+  pub inputs : nat_le (length b.reads) b.graph.inputs ≡ true
 
-kept_is : (rooms : List Room) (b : Marked) → keeps rooms b ≡ true → Kept rooms b
+pub kept_is : (rooms : List Room) (b : Marked) → keeps rooms b ≡ true → Kept rooms b
 kept_is rooms b e =
     let p = and_parts (all_there rooms b.reads) _ e in
     let q = and_parts (all_there rooms b.writes) _ p.1 in
@@ -111,7 +111,7 @@ pub record Works (c : Coded) (same : Option ℕ) : Type 0 where
   pub few : length c.cmds ≤ plain_cost (coded_body [] c)
   pub some : nat_lt 0 (length c.cmds) ≡ true
 
-owner_true : (a b : Owner) → same_owner a b ≡ true → a ≡ b
+pub owner_true : (a b : Owner) → same_owner a b ≡ true → a ≡ b
 owner_true (InRoom j) (InRoom k) e = ap InRoom (eqb-true j k e)
 owner_true (InRoom j) (InCells w) e = cc
 owner_true (InCells v) (InRoom k) e = cc

@@ -1,9 +1,9 @@
 -- What an operation's flow does, by states that stand for the rows: its rounds keep the rules and
 -- find their states, it takes so many commands, and leaves rows that are like its last state.
-use Rattle.std.proofs.Common.{◌≡◌, ℕ, zero, suc, ◌+◌, ◌*◌, ◌<◌, ◌≤◌, Bool, true, List, [], ◌∷◌, map}
+use Rattle.std.proofs.Common.{◌≡◌, ℕ, zero, suc, ◌+◌, ◌<◌, ◌≤◌, Bool, true, List, [], ◌∷◌, map}
 use Rattle.std.proofs.Common.{refl}
-use Rattle.std.proofs.Common.{sym, ap, subst, arith}
-use Rattle.std.specs.Prelude.{slice_index}
+use Rattle.std.proofs.Common.{sym, subst, arith}
+use Rattle.std.specs.Prelude.{slice_index, sum_by}
 use Rattle.std.specs.List.{AllByRecursion, list_all, range_with_len}
 use Rattle.std.proofs.lemmas.Bool.{and_from, le-leb}
 use Rattle.std.proofs.lemmas.List.Sums.{sum_by-cons}
@@ -16,7 +16,6 @@ use Rattle.loop_ir.specs.Flows.EventOf.{Done, Moved, Counted}
 use Rattle.loop_ir.specs.FlowTests.{is_event_safe, is_safe, widths}
 use Rattle.loop_ir.specs.Loops.{RoundOf, rounds_in, flow_rounds}
 use Rattle.loop_ir.specs.Spots.{Spot, Spots, after_round, after_rounds}
-use Rattle.loop_ir.specs.Costs.{turn_cost, rounds_cost, plain_cost, plain_costs}
 use Rattle.loop_ir.specs.Chains.{finds, left_by, chained}
 use Rattle.loop_ir.specs.Limits.{IsRound}
 use Rattle.loop_laws.proofs.FlowRounds.{event_map, run_map}
@@ -25,7 +24,10 @@ use Rattle.loop_laws.proofs.FlowFine.{Fine, safe_is}
 
 module _ (A S : Type 0) (block : A → Block) (n : ℕ) (may_have : Spot → Type 0)
     (InRange : A → List ℕ → S → Type 0) (does : A → List ℕ → S → S) (Like : S → Spots → Type 0)
-    (cost : S → ℕ) (alive : S → List ℕ) where
+    (weight : Block → ℕ) (cost : S → ℕ) (alive : S → List ℕ) where
+  abbrev weigh : List (RoundOf Block) → ℕ
+  weigh rs = sum_by (λ (r : RoundOf Block). weight r.part) rs
+
   abbrev pub round_of : A → List ℕ → RoundOf Block
   round_of b g = record { part = block b; i = 0; o = 0; regs = g }
 
@@ -33,7 +35,7 @@ module _ (A S : Type 0) (block : A → Block) (n : ℕ) (may_have : Spot → Typ
   pub record Does (b : A) (g : List ℕ) (s : S) (bits : Spots) : Type 0 where
     pub keeps : IsRound may_have n (round_of b g)
     pub like : Like (does b g s) (after_round n (round_of b g) bits)
-    pub paid : cost (does b g s) ≡ cost s + turn_cost (block b)
+    pub paid : cost (does b g s) ≡ cost s + weight (block b)
     pub found : finds (alive s) (block b) ≡ true
     pub left : alive (does b g s) ≡ left_by (block b)
 
@@ -49,7 +51,7 @@ module _ (A S : Type 0) (block : A → Block) (n : ℕ) (may_have : Spot → Typ
     record Ran (es : List (EventOf A)) (s : S) (bits : Spots) : Type 0 where
       keeps : AllByRecursion (IsRound may_have n) (rounds es)
       like : Like (after A S n F does es s) (after_rounds n (rounds es) bits)
-      paid : cost (after A S n F does es s) ≡ cost s + rounds_cost (rounds es)
+      paid : cost (after A S n F does es s) ≡ cost s + weigh (rounds es)
       found : chained (alive s) (rounds es) ≡ true
       safe : list_all (is_event_safe n) (map (event_map A Block block n) es) ≡ true
 
@@ -60,7 +62,7 @@ module _ (A S : Type 0) (block : A → Block) (n : ℕ) (may_have : Spot → Typ
     ran (Done b g ∷ es) s bits f l =
         let d = each b g s bits f.0 l in
         let r = ran es (does b g s) (after_round n (round_of b g) bits) f.1 d.like in
-        let k = sum_by-cons (λ (r : RoundOf Block). turn_cost r.part) (round_of b g) (rounds es) in
+        let k = sum_by-cons (λ (r : RoundOf Block). weight r.part) (round_of b g) (rounds es) in
         record {
           keeps = (d.keeps, r.keeps);
           like = r.like;
@@ -95,7 +97,7 @@ module _ (A S : Type 0) (block : A → Block) (n : ℕ) (may_have : Spot → Typ
       pub end : S
       pub post : Q regs end
       pub like : Like end (after_rounds n (flow_rounds n (flow_map block f)) bits)
-      pub paid : cost end ≡ cost s + rounds_cost (flow_rounds n (flow_map block f))
+      pub paid : cost end ≡ cost s + weigh (flow_rounds n (flow_map block f))
       pub found : chained (alive s) (flow_rounds n (flow_map block f)) ≡ true
       pub safe : list_all (is_event_safe n) (run n (flow_map block f) zeros).events ≡ true
 
@@ -113,7 +115,7 @@ module _ (A S : Type 0) (block : A → Block) (n : ℕ) (may_have : Spot → Typ
           post = g.post;
           like = subst (λ xs. Like (after A S n F does es s) (after_rounds n (rounds_in xs) bits)) e
               r.like;
-          paid = subst (λ xs. cost (after A S n F does es s) ≡ cost s + rounds_cost (rounds_in xs))
+          paid = subst (λ xs. cost (after A S n F does es s) ≡ cost s + weigh (rounds_in xs))
               e r.paid;
           found = subst (λ xs. chained (alive s) (rounds_in xs) ≡ true) e r.found;
           safe = subst (λ xs. list_all (is_event_safe n) xs ≡ true) e r.safe;
@@ -144,15 +146,3 @@ range_all p a (suc k) h = and_from (p a) (list_all p (range_with_len (a + 1) k))
 pub all_widths : (p : ℕ → Bool) → ((n : ℕ) → 0 < n → n ≤ WIDTH_MAX → p n ≡ true)
     → list_all p widths ≡ true
 all_widths p h = range_all p 1 WIDTH_MAX (λ n le lt. h n le (omega (arith, lt)))
-
--- rounds of which each takes at most so many times its commands where no body has a sequence
-pub plain_most : (c : ℕ) (rs : List (RoundOf Block))
-    → AllByRecursion (λ (r : RoundOf Block). plain_cost r.part ≤ c * turn_cost r.part) rs
-    → plain_costs rs ≤ c * rounds_cost rs
-plain_most c [] all = omega arith
-plain_most c (r ∷ rs) all =
-    let h = plain_most c rs all.1 in
-    let p = sum_by-cons (λ (r : RoundOf Block). plain_cost r.part) r rs in
-    let q = sum_by-cons (λ (r : RoundOf Block). turn_cost r.part) r rs in
-    let m = ap (λ x. c * x) q in
-    omega (arith, h, p, m, all.0)

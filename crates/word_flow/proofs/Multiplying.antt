@@ -17,7 +17,7 @@ use Rattle.loop_laws.proofs.FlowFine.{Fine}
 use Rattle.word_flow.proofs.Counting.{bit, number, put, put_same, put_other, number_same}
 
 -- the target's rows, the scratch bit, a zero and a bit of the second argument in cells, the
--- complement of a carry, the states that a body may read, and the commands so far
+-- complement of a carry, the states that a body may read, and the commands and AP so far
 pub record State : Type 0 where
   pub y : ℕ → Bool
   pub t : Bool
@@ -26,6 +26,7 @@ pub record State : Type 0 where
   pub w : Bool
   pub alive : List ℕ
   pub cost : ℕ
+  pub aps : ℕ
 
 -- the complement of what is added; what a carry is read from; the next carry's complement; the sum
 abbrev pub kept_out : Bool → Bool → Bool
@@ -149,6 +150,7 @@ does x z Joined g s = record {
   w = s.w;
   alive = pair_left;
   cost = s.cost + 4;
+  aps = s.aps;
 }
 does x z JoinedToo g s = record {
   y = put s.y (at g 1) (majority (x (at g 1)) s.k s.g);
@@ -158,6 +160,7 @@ does x z JoinedToo g s = record {
   w = s.w;
   alive = [];
   cost = s.cost + 2;
+  aps = s.aps;
 }
 does x z Turned g s = record {
   y = s.y;
@@ -167,6 +170,7 @@ does x z Turned g s = record {
   w = s.w;
   alive = [];
   cost = s.cost + 2;
+  aps = s.aps;
 }
 does x z First g s = let m = kept_out (x 0) s.t in record {
   y = put s.y (at g 1) (first_sum (s.y (at g 1)) m);
@@ -176,6 +180,7 @@ does x z First g s = let m = kept_out (x 0) s.t in record {
   w = first_carry (s.y (at g 1)) m;
   alive = carry_left;
   cost = s.cost + 9;
+  aps = s.aps + 1;
 }
 does x z Added g s = let m = kept_out (x (at g 3)) s.t in record {
   y = put s.y (at g 4) (sum_out (s.y (at g 4)) s.w m);
@@ -185,6 +190,7 @@ does x z Added g s = let m = kept_out (x (at g 3)) s.t in record {
   w = carry_out (s.y (at g 4)) s.w m;
   alive = carry_left;
   cost = s.cost + 9;
+  aps = s.aps + 1;
 }
 
 abbrev pub InRange : ℕ → Part → List ℕ → State → Type 0
@@ -209,11 +215,11 @@ module _ (n : ℕ) (some : 0 < n) (small : n ≤ 128) (x z : ℕ → Bool) where
 
   -- the first row, two positions at a time
   first_rows : (p e a c f v : ℕ) (Q : Asked) (k : FlowOf Part) (s : State) → s.cost ≡ 0
-      → ((s : State) → ((j : ℕ) → j < n → s.y j ≡ majority false (x j) (z 0))
-      → s.cost ≡ 3 * n + n % 2 → W k Q (regs 0 n p e a c f v) s)
+      → s.aps ≡ 0 → ((s : State) → ((j : ℕ) → j < n → s.y j ≡ majority false (x j) (z 0))
+      → s.cost ≡ 3 * n + n % 2 → s.aps ≡ 0 → W k Q (regs 0 n p e a c f v) s)
       → W (Loop 0 (Turn (Do Joined (Put (AddI 1 1) End)) (Last (Do JoinedToo (Put (AddI 1 1) End)))) k) Q
       (regs n 0 p e a c f v) s
-  first_rows p e a c f v Q k s free done = wp_loop Part State n F (does x z) 0 turns I k Q
+  first_rows p e a c f v Q k s free none done = wp_loop Part State n F (does x z) 0 turns I k Q
       (regs n 0 p e a c f v) s (omega arith) (one, two) (
         0,
         0,
@@ -221,7 +227,8 @@ module _ (n : ℕ) (some : 0 < n) (small : n ≤ 128) (x z : ℕ → Bool) where
         refl,
         omega arith,
         omega (arith, free),
-        λ j lj. absurd (omega (arith, lj)),
+        (λ j lj. absurd (omega (arith, lj))),
+        none,
       ) ends
     where
       second : FlowOf Part
@@ -232,10 +239,10 @@ module _ (n : ℕ) (some : 0 < n) (small : n ≤ 128) (x z : ℕ → Bool) where
 
       I : TurnsOf Part → ℕ → Asked
       I (Turn y ts) m g s = (i : ℕ) × (h : ℕ) × (g ≡ regs m i p e a c f v) × (i ≡ 2 * h) × (i + m ≡ n)
-          × (s.cost ≡ 3 * i) × ((j : ℕ) → j < i → s.y j ≡ majority false (x j) (z 0))
+          × (s.cost ≡ 3 * i) × ((j : ℕ) → j < i → s.y j ≡ majority false (x j) (z 0)) × (s.aps ≡ 0)
       I (Last y) m g s = (i : ℕ) × (h : ℕ) × (g ≡ regs m i p e a c f v) × (i ≡ 2 * h + 1) × (i + m ≡ n)
           × (s.cost ≡ 3 * i + 1) × (s.k ≡ false) × (s.g ≡ z 0) × (s.alive ≡ pair_left)
-          × ((j : ℕ) → j < i → s.y j ≡ majority false (x j) (z 0))
+          × ((j : ℕ) → j < i → s.y j ≡ majority false (x j) (z 0)) × (s.aps ≡ 0)
 
       more : (y : ℕ → Bool) (i : ℕ) (b : Bool) → b ≡ majority false (x i) (z 0)
           → ((j : ℕ) → j < i → y j ≡ majority false (x j) (z 0))
@@ -264,6 +271,7 @@ module _ (n : ℕ) (some : 0 < n) (small : n ≤ 128) (x z : ℕ → Bool) where
             refl,
             refl,
             more s.y i.0 (majority false (x i.0) (z 0)) refl i.6,
+            i.7,
           ),
         ),
       )
@@ -284,6 +292,7 @@ module _ (n : ℕ) (some : 0 < n) (small : n ≤ 128) (x z : ℕ → Bool) where
             more s.y i.0 (majority (x i.0) s.k s.g)
                 (ap (λ q. majority (x i.0) q s.g) i.6 ∙ ap (majority (x i.0) false) i.7 ∙ swapped (x i.0) (z 0))
                 i.9,
+            i.10,
           ),
         ),
       )
@@ -294,22 +303,23 @@ module _ (n : ℕ) (some : 0 < n) (small : n ≤ 128) (x z : ℕ → Bool) where
           let even : n % 2 ≡ 0 = omega (arith, all, i.3) in
           subst (λ l. W k Q l s) (sym i.2)
           (subst (λ r. W k Q (regs 0 r p e a c f v) s) (sym all)
-          (done s (λ j lj. i.6 j (omega (arith, lj, all))) (omega (arith, i.5, all, even))))
+          (done s (λ j lj. i.6 j (omega (arith, lj, all))) (omega (arith, i.5, all, even)) i.7))
       ends (Last y) g s i =
           let all : i.0 ≡ n = omega (arith, i.4) in
           let odd : n % 2 ≡ 1 = omega (arith, all, i.3) in
           subst (λ l. W k Q l s) (sym i.2)
           (subst (λ r. W k Q (regs 0 r p e a c f v) s) (sym all)
-          (done s (λ j lj. i.9 j (omega (arith, lj, all))) (omega (arith, i.5, all, odd))))
+          (done s (λ j lj. i.9 j (omega (arith, lj, all))) (omega (arith, i.5, all, odd)) i.10))
 
   -- so many positions of a row are added to the target's rows, which were those
-  record Adding (o : ℕ) (y0 : ℕ → Bool) (due i p : ℕ) (s : State) : Type 0 where
+  record Adding (o : ℕ) (y0 : ℕ → Bool) (due all i p : ℕ) (s : State) : Type 0 where
     sum : val s.y o i + bit (not s.w) * 2 ^ i ≡ val y0 o i + bit (z o) * val x 0 i
     t_is : s.t ≡ not (z o)
     low : (j : ℕ) → j < o → s.y j ≡ y0 j
     rest : (j : ℕ) → o + i ≤ j → s.y j ≡ y0 j
     alive : s.alive ≡ carry_left
     paid : s.cost + 9 * p ≡ due
+    counted : s.aps + p ≡ all
     ends : o + i + p ≡ n
 
   add_step : (v v0 a bz w y0 bx y1 w1 p q : ℕ) → q ≡ p * 2 → y1 + 2 * w1 ≡ y0 + bz * bx + w
@@ -318,16 +328,16 @@ module _ (n : ℕ) (some : 0 < n) (small : n ≤ 128) (x z : ℕ → Bool) where
       let f : p * (y1 + 2 * w1) ≡ p * (y0 + bz * bx + w) = ap (λ t. p * t) d in
       rw e (omega (arith, f, h))
 
-  adds : (o : ℕ) (y0 : ℕ → Bool) (due m i p a e f v : ℕ) (Q : Asked) (k : FlowOf Part) (s : State)
-      → Adding o y0 due i p s → a ≡ o + i
-      → ((i a : ℕ) (s : State) → Adding o y0 due i 0 s → W k Q (regs m o 0 i a e f v) s)
+  adds : (o : ℕ) (y0 : ℕ → Bool) (due all m i p a e f v : ℕ) (Q : Asked) (k : FlowOf Part) (s : State)
+      → Adding o y0 due all i p s → a ≡ o + i
+      → ((i a : ℕ) (s : State) → Adding o y0 due all i 0 s → W k Q (regs m o 0 i a e f v) s)
       → W (Loop 2 (Last next_add) k) Q (regs m o p i a e f v) s
-  adds o y0 due m i p a e f v Q k s begun place done = wp_loop Part State n F (does x z) 2 (Last next_add)
+  adds o y0 due all m i p a e f v Q k s begun place done = wp_loop Part State n F (does x z) 2 (Last next_add)
       I k Q (regs m o p i a e f v) s (omega (arith, begun.ends)) step (i, a, refl, place, begun)
       (λ ts g t i. subst (λ l. W k Q l t) (sym i.2) (done i.0 i.1 t i.4))
     where
       I : TurnsOf Part → ℕ → Asked
-      I ts p g s = (i : ℕ) × (a : ℕ) × (g ≡ regs m o p i a e f v) × (a ≡ o + i) × Adding o y0 due i p s
+      I ts p g s = (i : ℕ) × (a : ℕ) × (g ≡ regs m o p i a e f v) × (a ≡ o + i) × Adding o y0 due all i p s
 
       step : (p : ℕ) (g : List ℕ) (s : State) (R : Asked) → I (Last next_add) (suc p) g s
           → ((h : List ℕ) (s : State) → I (Last next_add) p h s → R h s)
@@ -380,6 +390,7 @@ module _ (n : ℕ) (some : 0 < n) (small : n ≤ 128) (x z : ℕ → Bool) where
                             ∙ c.rest j (omega (arith, lj));
                         alive = refl;
                         paid = omega (arith, c.paid);
+                        counted = omega (arith, c.counted);
                         ends = omega (arith, c.ends);
                       },
                     ),
@@ -393,9 +404,9 @@ module _ (n : ℕ) (some : 0 < n) (small : n ≤ 128) (x z : ℕ → Bool) where
     product : number s.y n + over * 2 ^ n ≡ number x n * number z o
 
   -- a row
-  added : (o m : ℕ) (s t : State) (due : ℕ) (i : ℕ) → o + suc m ≡ n → Multiplied o s
-      → Adding o s.y due i 0 t → Multiplied (o + 1) t
-  added o m s t due i is before c =
+  added : (o m : ℕ) (s t : State) (due all : ℕ) (i : ℕ) → o + suc m ≡ n → Multiplied o s
+      → Adding o s.y due all i 0 t → Multiplied (o + 1) t
+  added o m s t due all i is before c =
       let r = i in
       let rows : o + r ≡ n = omega (arith, c.ends) in
       let back : r + o ≡ n = omega (arith, c.ends) in
@@ -425,16 +436,27 @@ module _ (n : ℕ) (some : 0 < n) (small : n ≤ 128) (x z : ℕ → Bool) where
       }
 
   rows_do : (p i a e f v : ℕ) (Q : Asked) (s : State) → Multiplied 1 s
-      → s.cost ≡ 3 * n + n % 2
-      → ((g : List ℕ) (s : State) → Multiplied n s → 2 * s.cost + 4 ≡ 9 * (n * n) + n + 2 * (n % 2) → Q g s)
+      → s.cost ≡ 3 * n + n % 2 → s.aps ≡ 0
+      → ((g : List ℕ) (s : State) → Multiplied n s → 2 * s.cost + 4 ≡ 9 * (n * n) + n + 2 * (n % 2)
+      → 2 * s.aps ≡ (n - 1) * (n - 1) + (n - 1) → Q g s)
       → W (Loop 0 (Last add_row) End) Q (regs (n - 1) 1 p i a e f v) s
-  rows_do p i a e f v Q s first paid done = wp_loop Part State n F (does x z) 0 (Last add_row) I End Q
-      (regs (n - 1) 1 p i a e f v) s (omega arith) step
-      (1, p, i, a, refl, omega (arith, some), first, start (n - 1) (omega (arith, some))) ends
+  rows_do p i a e f v Q s first paid none done = wp_loop Part State n F (does x z) 0 (Last add_row) I End Q
+      (regs (n - 1) 1 p i a e f v) s (omega arith) step (
+        1,
+        p,
+        i,
+        a,
+        refl,
+        omega (arith, some),
+        first,
+        start (n - 1) (omega (arith, some)),
+        omega (arith, none),
+      ) ends
     where
       I : TurnsOf Part → ℕ → Asked
       I ts m g s = (o : ℕ) × (p : ℕ) × (i : ℕ) × (a : ℕ) × (g ≡ regs m o p i a e f v) × (o + m ≡ n)
           × Multiplied o s × (2 * s.cost + 13 * m + 9 * (m * m) + 4 ≡ 9 * (n * n) + n + 2 * (n % 2))
+          × (2 * s.aps + (m * m + m) ≡ (n - 1) * (n - 1) + (n - 1))
 
       start : (k : ℕ) → suc k ≡ n
           → 2 * s.cost + 13 * k + 9 * (k * k) + 4 ≡ 9 * (n * n) + n + 2 * (n % 2)
@@ -460,7 +482,7 @@ module _ (n : ℕ) (some : 0 < n) (small : n ≤ 128) (x z : ℕ → Bool) where
           let unit : 2 ^ 0 ≡ 1 = refl in
           let two : 2 ^ 1 ≡ 2 = refl in
           let k = 2 * s.cost in
-          let begun : Adding o s.y (s2.cost + 9 * m) 1 m s2 = record {
+          let begun : Adding o s.y (s2.cost + 9 * m) (s2.aps + m) 1 m s2 = record {
             sum = (let q : bit b + 2 * bit (not (first_carry (s.y o) kept)) ≡ bit (s.y o)
                 + bit (z o) * bit (x 0) = omega (arith, d, gate) in omega (arith, q, here, old));
             t_is = refl;
@@ -468,6 +490,7 @@ module _ (n : ℕ) (some : 0 < n) (small : n ≤ 128) (x z : ℕ → Bool) where
             rest = λ j lj. put_other s.y o b j (λ q. absurd (omega (arith, q, lj)));
             alive = refl;
             paid = refl;
+            counted = refl;
             ends = omega (arith, h.5);
           } in
           subst (λ l. W add_row R (slice_set l 0 m) s) (sym h.4) (
@@ -482,7 +505,7 @@ module _ (n : ℕ) (some : 0 < n) (small : n ≤ 128) (x z : ℕ → Bool) where
                     tt,
                     (
                       omega (arith, h.5, small),
-                      adds o s.y (s2.cost + 9 * m) m 1 m (o + 1) e f v R (Put (AddI 1 1) End) s2 begun refl
+                      adds o s.y (s2.cost + 9 * m) (s2.aps + m) m 1 m (o + 1) e f v R (Put (AddI 1 1) End) s2 begun refl
                           (λ i a t c. (
                             omega (arith, h.5, small),
                             go (regs m (o + 1) 0 i a e f v) t (
@@ -492,8 +515,9 @@ module _ (n : ℕ) (some : 0 < n) (small : n ≤ 128) (x z : ℕ → Bool) where
                               a,
                               refl,
                               omega (arith, h.5),
-                              added o m s t (s2.cost + 9 * m) i (omega (arith, h.5)) h.6 c,
+                              added o m s t (s2.cost + 9 * m) (s2.aps + m) i (omega (arith, h.5)) h.6 c,
                               omega (arith, h.7, c.paid),
+                              omega (arith, h.8, c.counted),
                             ),
                           )),
                     ),
@@ -505,23 +529,24 @@ module _ (n : ℕ) (some : 0 < n) (small : n ≤ 128) (x z : ℕ → Bool) where
 
       ends : (ts : TurnsOf Part) (g : List ℕ) (s : State) → I ts 0 g s → Q g s
       ends ts g s i = let all : i.0 ≡ n = omega (arith, i.5) in
-          done g s (subst (λ o. Multiplied o s) all i.6) (omega (arith, i.7))
+          done g s (subst (λ o. Multiplied o s) all i.6) (omega (arith, i.7)) (omega (arith, i.8))
 
   -- the whole, wherever the registers begin
-  pub mul_does : (m o p i a e f v : ℕ) (s : State) → s.cost ≡ 0
+  pub mul_does : (m o p i a e f v : ℕ) (s : State) → s.cost ≡ 0 → s.aps ≡ 0
       → W mul (λ g s. ((over : ℕ) × (number s.y n + over * 2 ^ n ≡ number x n * number z n))
-      × (2 * s.cost + 4 ≡ 9 * (n * n) + n + 2 * (n % 2))) (regs m o p i a e f v) s
-  mul_does m o p i a e f v s free = (
+      × (2 * s.cost + 4 ≡ 9 * (n * n) + n + 2 * (n % 2))
+      × (2 * s.aps ≡ (n - 1) * (n - 1) + (n - 1))) (regs m o p i a e f v) s
+  mul_does m o p i a e f v s free none = (
     tt,
     (
       tt,
-      first_rows p i a e f v Q rest s free
-          (λ t rows paid. (
+      first_rows p i a e f v Q rest s free none
+          (λ t rows paid light. (
             tt,
             (
               tt,
-              rows_do p i a e f v Q t (first t rows) paid
-                  (λ g s k c. ((k.over, k.product), c)),
+              rows_do p i a e f v Q t (first t rows) paid light
+                  (λ g s k c d. ((k.over, k.product), c, d)),
             ),
           )),
     ),
@@ -530,6 +555,7 @@ module _ (n : ℕ) (some : 0 < n) (small : n ≤ 128) (x z : ℕ → Bool) where
       Q : Asked
       Q = λ g s. ((over : ℕ) × (number s.y n + over * 2 ^ n ≡ number x n * number z n))
           × (2 * s.cost + 4 ≡ 9 * (n * n) + n + 2 * (n % 2))
+          × (2 * s.aps ≡ (n - 1) * (n - 1) + (n - 1))
 
       rest : FlowOf Part
       rest = Put (SetT 0) (Put (SetI 1 1) (Loop 0 (Last add_row) End))

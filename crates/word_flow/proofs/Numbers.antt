@@ -2,7 +2,7 @@
 use Rattle.std.proofs.Common.{◌≡◌, ◌⊎◌, inl, inr, ℕ, zero, suc, ◌+◌, ◌-◌, ◌*◌, ◌^◌, ◌<◌, Bool}
 use Rattle.std.proofs.Common.{true, false, refl, sym, ap, ◌∙◌, cond, arith}
 use Rattle.std.specs.Prelude.{◌==◌, ◌/◌, ◌%◌, nat_lt}
-use Rattle.std.proofs.lemmas.Bool.{cases_eq, eq-eqb, ne_eqb, lt-ltb, ltb-true}
+use Rattle.std.proofs.lemmas.Bool.{cases_eq, eq-eqb, ne_eqb, lt-ltb}
 use Rattle.std.proofs.lemmas.Nat.{mod-mul-add, div-mul-add}
 use Rattle.std.proofs.Math.Nat.{pow-suc, pow-zero}
 use Rattle.bit_rows.specs.Bits.{majority}
@@ -13,27 +13,18 @@ use Rattle.word_lower.proofs.Sums.{value_below, last_sum}
 use Rattle.word_flow.proofs.Counting.{bit, number, tally}
 use Rattle.word_flow.proofs.Dividing.{val}
 
-pub same_bit : (b : Bool) → set.bit b ≡ bit b
-same_bit true = refl
-same_bit false = refl
-
-pub agree : (f : ℕ → Bool) (n : ℕ) → set.number f n ≡ number f n
-agree f zero = refl
-agree f (suc n) = ap (λ x. x + set.bit (f n) * 2 ^ n) (agree f n)
-    ∙ ap (λ x. number f n + x * 2 ^ n) (same_bit (f n))
+-- one bit spells itself
+pub one_bit : (b : Bool) → set.number (λ v. b) 1 ≡ set.bit b
+one_bit true = refl
+one_bit false = refl
 
 -- the number of ones is that of the number that the bits spell
 pub tally_ones : (f : ℕ → Bool) (n : ℕ) → tally f 0 n ≡ ones_of n (number f n)
 unfolding tally
-tally_ones f zero = sym (ones_of_none f) ∙ ap (ones_of 0) (agree f 0)
+tally_ones f zero = sym (ones_of_none f)
 tally_ones f (suc n) = let e : 0 + n ≡ n = omega arith in
     ap (λ x. x + bit (f (0 + n))) (tally_ones f n) ∙ ap (λ x. ones_of n (number f n) + bit (f x)) e
-    ∙ ap (λ x. ones_of n x + bit (f n)) (sym (agree f n)) ∙ one (f n)
-    ∙ sym (ones_of_more f n) ∙ ap (ones_of (suc n)) (agree f (suc n))
-  where
-    one : (b : Bool) → ones_of n (set.number f n) + bit b ≡ ones_of n (set.number f n) + set.bit b
-    one true = refl
-    one false = refl
+    ∙ sym (ones_of_more f n)
 
 pub agree_val : (f : ℕ → Bool) (n : ℕ) → set.number f n ≡ val f 0 n
 unfolding val
@@ -41,16 +32,13 @@ agree_val f zero = refl
 agree_val f (suc n) =
     let e : 0 + n ≡ n = omega arith in
     let h = agree_val f n in
-    let b = same_bit (f n) in
     let c = ap (λ x. 2 ^ n * bit (f x)) e in
-    let d = ap (λ x. 2 ^ n * x) b in
-    omega (arith, h, c, d)
+    omega (arith, h, c)
 
 -- what is left below 2 ^ n of a product
 pub product_low : (f : ℕ → Bool) (n over x : ℕ) → number f n + over * 2 ^ n ≡ x
     → set.number f n ≡ x % 2 ^ n
-product_low f n over x e = last_sum (set.number f n) over (2 ^ n) x (value_below f n)
-    (ap (λ z. z + over * 2 ^ n) (agree f n) ∙ e)
+product_low f n over x e = last_sum (set.number f n) over (2 ^ n) x (value_below f n) e
 
 -- a quotient and what is left, as the operations have them
 pub quotient_is : (a b q r p : ℕ) → a ≡ q * b + r → (0 < b → r < b) → (b ≡ 0 → q + 1 ≡ p)
@@ -104,11 +92,6 @@ all_gives a e (suc n) start h =
           ∙ sym (ne_eqb (v + 1 * p) (2 * p - 1) (λ z. ne (omega (arith, z, lt))))
     ]
     by false v p lt = sym (ne_eqb (v + 0 * p) (2 * p - 1) (λ z. absurd (omega (arith, z, lt))))
-
--- so many inputs are few enough for a graph
-pub few_inputs : (k : ℕ) → nat_lt k 256 ≡ true → k < 2 ^ 32
-few_inputs k e = let l = ltb-true k 256 e in
-    let p : 2 ^ 32 ≡ 4294967296 = refl in omega (arith, l, p)
 
 -- a square, as the ceilings have it
 pub square : (n : ℕ) → n ^ 2 ≡ n * n

@@ -12,6 +12,8 @@ use Rattle.word_flow.specs.Bodies.{slots_for, coded_on}
 
 pub placed : (p : WordOp) (m : Rows) → first_of (flows_on (coded_on (slots_for p m)) (lines_for p))
     ≡ flow_map (coded_body (rooms_for p m)) (flow_for p)
+placed op.Shl1 m = refl
+placed op.Shr1 m = refl
 placed op.Mul m = refl
 placed op.Div m = refl
 placed op.Rem m = refl

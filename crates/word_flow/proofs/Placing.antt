@@ -17,7 +17,7 @@ use Rattle.loop_ir.specs.Statements.{Slots, holds_kind, statement_names, written
 use Rattle.loop_ir.specs.Lowered.{IsStatementRow, IsChanged}
 use Rattle.loop_laws.specs.Rooms.{Room, room_at, row_in, extent, RoomsApart, IsOwned}
 use Rattle.word_lower.specs.Places.{room_of, scratch_bit}
-use Rattle.word_lower.proofs.Pieces.{slot, AreApart, extent_is}
+use Rattle.word_lower.proofs.Pieces.{slot, AreApart, extent_is, moves_in}
 use Rattle.word_lower.proofs.Statements.{one_place, same_name, same_slot}
 
 -- whose a room is: a name's, which has this place and may be written or not, a bit's of scratch, or
@@ -240,6 +240,23 @@ module _ (slots : Slots) (free_bit free_word : ℕ) (s : Statement)
         let e = room_at_is ws o.0 lk in
         row_of n (whose_at ws o.0) o.1 q (stands_at ws o.0 stand lk)
         (subst (λ (r : Room). o.1 < extent n r.rows) e o.3) (o.4 ∙ ap (λ r. row_in n r o.1) e)
+
+    -- each row of a room is another
+    pub rows_move : (n k u v : ℕ) → k < length (rooms_whose ws)
+        → u < extent n (room_at (rooms_whose ws) k).rows
+        → v < extent n (room_at (rooms_whose ws) k).rows
+        → row_in n (room_at (rooms_whose ws) k) u ≡ row_in n (room_at (rooms_whose ws) k) v → u ≡ v
+    rows_move n k u v lk lu lv e =
+        let l = below ws k lk in
+        let r = room_at_is ws k l in
+        let w = whose_at ws k in
+        let p = place_of w in
+        let x = extent_is n p.kind in
+        let hu = subst (λ (r : Room). u < extent n r.rows) r lu in
+        let hv = subst (λ (r : Room). v < extent n r.rows) r lv in
+        moves_in n p.space p.which p.kind (holds_whose w (stands_at ws k stand l)) u v
+        (omega (arith, hu, x)) (omega (arith, hv, x))
+        (sym (ap (λ r. row_in n r u) r) ∙ e ∙ ap (λ r. row_in n r v) r)
 
     -- what the statement does not change is none of the rows that may be written
     changed : (n : ℕ) (w : Whose) (v : ℕ) (q : Spot) → Stands w → may_write w ≡ true

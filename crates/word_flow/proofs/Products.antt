@@ -1,5 +1,5 @@
 -- `mul` as a flow: its bodies, and how they follow one another.
-use Rattle.std.specs.Prelude.{ℕ, ◌+◌, ◌-◌, ◌*◌, ◌/◌, ◌%◌, List, [], ◌∷◌}
+use Rattle.std.specs.Prelude.{List, [], ◌∷◌}
 use Rattle.mig_graph.specs.declared.Node.{Node}
 use Rattle.mig_graph.specs.Literals.{node_of}
 use Rattle.row_alloc.specs.declared.body.BodyCmd.TheVariants.{Aap, Ap}
@@ -68,8 +68,3 @@ add_row = Do Turned (Do First (Put (Mov 2 0) (Put (SetI 3 1) (Put (Mov 4 1) (Put
 
 abbrev pub mul : FlowOf Part
 mul = Put (SetN 0) (Put (SetI 1 0) (row_one (Put (SetT 0) (Put (SetI 1 1) (Loop 0 (Last add_row) End)))))
-
--- the commands of a product of n bits: 6 two positions of the first row, 9 a position of the
--- others, and 2 a row
-abbrev pub product_total : ℕ → ℕ
-product_total n = 9 * (n * (n - 1) / 2) + 5 * n + n % 2 - 2

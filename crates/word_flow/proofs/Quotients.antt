@@ -1,5 +1,5 @@
 -- `div`, `rem` and `divmod` as flows: their bodies, and how they follow one another.
-use Rattle.std.specs.Prelude.{ℕ, ◌+◌, ◌-◌, ◌*◌, ◌==◌, if◌then◌else◌, [], ◌∷◌}
+use Rattle.std.specs.Prelude.{[], ◌∷◌}
 use Rattle.mig_graph.specs.Literals.{node_of}
 use Rattle.row_alloc.specs.declared.body.BodyCmd.TheVariants.{Aap, Ap}
 use Rattle.row_alloc.specs.declared.body.BodyRef.TheVariants.{B, C, In, Out}
@@ -102,11 +102,3 @@ div = division step_lone
 
 abbrev pub divmod : FlowOf Part
 divmod = division step_left
-
--- the commands of a division of n bits: 12 a position of a step's window, and 3 a step's comparison
--- and a bit of the divisor
-abbrev pub quotient_total : ℕ → ℕ
-quotient_total n = if n == 1 then 4 else 6 * (n * n) + 3 * n - 6
-
-abbrev pub remainder_total : ℕ → ℕ
-remainder_total n = if n == 1 then 13 else 6 * (n * n) + 12 * n - 6

@@ -12,7 +12,8 @@ use Rattle.word_flow.proofs.Reductions.{reduction, joined, reduction_total}
 use Rattle.loop_laws.proofs.FlowLogic.{Claim, wp, wp_some, wp_none, wp_loop}
 use Rattle.loop_laws.proofs.FlowFine.{Fine}
 
--- the target's bit, the four cells, the states that a body may read, and the commands so far
+-- the target's bit, the four cells, the states that a body may read, and the commands and
+-- rounds so far
 pub record State : Type 0 where
   pub y : Bool
   pub t1 : Bool
@@ -21,6 +22,7 @@ pub record State : Type 0 where
   pub d1 : Bool
   pub alive : List ℕ
   pub cost : ℕ
+  pub rounds : ℕ
 
 abbrev pub first_left : List ℕ
 first_left = 1 ∷ []
@@ -43,6 +45,7 @@ does c x Alone g s = record {
   d1 = s.d1;
   alive = [];
   cost = s.cost + 1;
+  rounds = s.rounds + 1;
 }
 does c x Begun g s = record {
   y = s.y;
@@ -52,6 +55,7 @@ does c x Begun g s = record {
   d1 = s.d1;
   alive = first_left;
   cost = s.cost + 1;
+  rounds = s.rounds + 1;
 }
 does c x One g s = let v = majority c (x (at g 1)) s.t1 in record {
   y = v;
@@ -61,6 +65,7 @@ does c x One g s = let v = majority c (x (at g 1)) s.t1 in record {
   d1 = c;
   alive = one_left;
   cost = s.cost + 3;
+  rounds = s.rounds + 1;
 }
 does c x Two g s = let v = majority (x (at g 1)) s.t2 s.t3 in record {
   y = v;
@@ -70,6 +75,7 @@ does c x Two g s = let v = majority (x (at g 1)) s.t2 s.t3 in record {
   d1 = s.d1;
   alive = two_left;
   cost = s.cost + 2;
+  rounds = s.rounds + 1;
 }
 does c x Three g s = record {
   y = s.y;
@@ -79,6 +85,7 @@ does c x Three g s = record {
   d1 = s.d1;
   alive = first_left;
   cost = s.cost + 2;
+  rounds = s.rounds + 1;
 }
 does c x Ended g s = record {
   y = majority (x (at g 1)) s.t3 s.d1;
@@ -88,6 +95,7 @@ does c x Ended g s = record {
   d1 = s.d1;
   alive = [];
   cost = s.cost + 2;
+  rounds = s.rounds + 1;
 }
 
 abbrev pub InRange : ℕ → Part → List ℕ → State → Type 0
@@ -131,12 +139,12 @@ module _ (n : ℕ) (some : 0 < n) (small : n ≤ 128) (c : Bool) (x : ℕ → Bo
   regs m i a b d e f v = m ∷ i ∷ a ∷ b ∷ d ∷ e ∷ f ∷ v ∷ []
 
   abbrev Over : State → Type 0
-  Over s = (s.y ≡ joined c x n) × (s.cost ≡ reduction_total n)
+  Over s = (s.y ≡ joined c x n) × (s.cost ≡ reduction_total n) × (s.rounds ≡ n)
 
   turns_do : (a b d e f v : ℕ) (Q : Asked) (s : State) → 1 < n → s.t1 ≡ x 0 → s.alive ≡ first_left
-      → s.cost ≡ 1 → ((g : List ℕ) (s : State) → Over s → Q g s)
+      → s.cost ≡ 1 → s.rounds ≡ 1 → ((g : List ℕ) (s : State) → Over s → Q g s)
       → W (Loop 0 (Turn one (Turn two (Last three))) End) Q (regs (n - 1) 1 a b d e f v) s
-  turns_do a b d e f v Q s many t1_is alive paid done = wp_loop Part State n F (does c x) 0 all I End Q
+  turns_do a b d e f v Q s many t1_is alive paid counted done = wp_loop Part State n F (does c x) 0 all I End Q
       (regs (n - 1) 1 a b d e f v) s (omega arith) (one_does, (two_does, three_does)) (
         1,
         0,
@@ -144,8 +152,9 @@ module _ (n : ℕ) (some : 0 < n) (small : n ≤ 128) (c : Bool) (x : ℕ → Bo
         omega arith,
         omega (arith, some),
         omega (arith, paid),
-        λ more. (t1_is, alive),
-        λ none. absurd (omega (arith, none, many)),
+        (λ more. (t1_is, alive)),
+        (λ none. absurd (omega (arith, none, many))),
+        counted,
       ) ends
     where
       all : TurnsOf Part
@@ -155,12 +164,13 @@ module _ (n : ℕ) (some : 0 < n) (small : n ≤ 128) (c : Bool) (x : ℕ → Bo
       I (Turn y (Turn z ts)) m g s = (i : ℕ) × (h : ℕ) × (g ≡ regs m i a b d e f v) × (i ≡ 3 * h + 1)
           × (i + m ≡ n) × (s.cost ≡ 7 * h + 1)
           × (0 < m → (s.t1 ≡ joined c x i) × (s.alive ≡ first_left)) × (m ≡ 0 → s.y ≡ joined c x i)
+          × (s.rounds ≡ i)
       I (Turn y (Last z)) m g s = (i : ℕ) × (h : ℕ) × (g ≡ regs m i a b d e f v) × (i ≡ 3 * h + 2)
           × (i + m ≡ n) × (s.cost ≡ 7 * h + 4) × (s.y ≡ joined c x i) × (s.t2 ≡ joined c x i)
-          × (s.t3 ≡ c) × (s.d1 ≡ c) × (s.alive ≡ one_left)
+          × (s.t3 ≡ c) × (s.d1 ≡ c) × (s.alive ≡ one_left) × (s.rounds ≡ i)
       I (Last y) m g s = (i : ℕ) × (h : ℕ) × (g ≡ regs m i a b d e f v) × (i ≡ 3 * h + 3)
           × (i + m ≡ n) × (s.cost ≡ 7 * h + 6) × (s.y ≡ joined c x i) × (s.t3 ≡ joined c x i)
-          × (s.d1 ≡ c) × (s.alive ≡ two_left)
+          × (s.d1 ≡ c) × (s.alive ≡ two_left) × (s.rounds ≡ i)
 
       one_does : (m : ℕ) (g : List ℕ) (s : State) (R : Asked) → I all (suc m) g s
           → ((h : List ℕ) (s : State) → I (Turn two (Last three)) m h s → R h s)
@@ -185,6 +195,7 @@ module _ (n : ℕ) (some : 0 < n) (small : n ≤ 128) (c : Bool) (x : ℕ → Bo
                 refl,
                 refl,
                 refl,
+                omega (arith, i.8),
               ),
             ),
           )
@@ -200,16 +211,27 @@ module _ (n : ℕ) (some : 0 < n) (small : n ≤ 128) (c : Bool) (x : ℕ → Bo
             (omega (arith, i.4), i.10),
             (
               omega (arith, i.4, small),
-              go (regs m (k + 1) a b d e f v) (does c x Two (regs m k a b d e f v) s)
-                  (k + 1, i.1, refl, omega (arith, i.3), omega (arith, i.4), omega (arith, i.5), u, u, i.9, refl),
+              go (regs m (k + 1) a b d e f v) (does c x Two (regs m k a b d e f v) s) (
+                k + 1,
+                i.1,
+                refl,
+                omega (arith, i.3),
+                omega (arith, i.4),
+                omega (arith, i.5),
+                u,
+                u,
+                i.9,
+                refl,
+                omega (arith, i.11),
+              ),
             ),
           )
 
       three_is : (m k : ℕ) (s : State) (R : Asked) (h : ℕ) → k ≡ 3 * h + 3 → k + suc m ≡ n
           → s.cost ≡ 7 * h + 6 → majority (x k) s.t3 s.d1 ≡ joined c x (k + 1)
-          → s.alive ≡ two_left → ((h : List ℕ) (s : State) → I all m h s → R h s)
+          → s.alive ≡ two_left → s.rounds ≡ k → ((h : List ℕ) (s : State) → I all m h s → R h s)
           → W three R (regs m k a b d e f v) s
-      three_is zero k s R h is ends paid u alive go = wp_none Part State n F (does c x) 0 (Do Three End)
+      three_is zero k s R h is ends paid u alive counted go = wp_none Part State n F (does c x) 0 (Do Three End)
           (Do Ended End) (Put (AddI 1 1) End) R (regs 0 k a b d e f v) s refl (
             (omega (arith, ends), alive),
             (
@@ -221,12 +243,13 @@ module _ (n : ℕ) (some : 0 < n) (small : n ≤ 128) (c : Bool) (x : ℕ → Bo
                 omega (arith, is),
                 omega (arith, ends),
                 omega (arith, paid),
-                λ more. absurd (omega (arith, more)),
-                λ none. u,
+                (λ more. absurd (omega (arith, more))),
+                (λ none. u),
+                omega (arith, counted),
               ),
             ),
           )
-      three_is (suc m) k s R h is ends paid u alive go = wp_some Part State n F (does c x) 0 m
+      three_is (suc m) k s R h is ends paid u alive counted go = wp_some Part State n F (does c x) 0 m
           (Do Three End) (Do Ended End) (Put (AddI 1 1) End) R (regs (suc m) k a b d e f v) s refl (
             (omega (arith, ends), alive),
             (
@@ -238,8 +261,9 @@ module _ (n : ℕ) (some : 0 < n) (small : n ≤ 128) (c : Bool) (x : ℕ → Bo
                 omega (arith, is),
                 omega (arith, ends),
                 omega (arith, paid),
-                λ more. (u, refl),
-                λ none. absurd (omega (arith, none)),
+                (λ more. (u, refl)),
+                (λ none. absurd (omega (arith, none))),
+                omega (arith, counted),
               ),
             ),
           )
@@ -251,23 +275,23 @@ module _ (n : ℕ) (some : 0 < n) (small : n ≤ 128) (c : Bool) (x : ℕ → Bo
           let u = ap (majority (x k) s.t3) i.8 ∙ turned (x k) s.t3 c
           ∙ joins c x k s.t3 (omega (arith, i.3)) i.7 in
           subst (λ l. W three R (slice_set l 0 m) s) (sym i.2)
-          (three_is m k s R i.1 i.3 i.4 i.5 u i.9 go)
+          (three_is m k s R i.1 i.3 i.4 i.5 u i.9 i.10 go)
 
       ends : (ts : TurnsOf Part) (g : List ℕ) (s : State) → I ts 0 g s → Q g s
       ends (Turn y (Turn z ts)) g s i = let full : i.0 ≡ n = omega (arith, i.4) in
-          done g s (i.7 refl ∙ ap (joined c x) full, omega (arith, i.5, i.3, full))
+          done g s (i.7 refl ∙ ap (joined c x) full, omega (arith, i.5, i.3, full), i.8 ∙ full)
       ends (Turn y (Last z)) g s i = let full : i.0 ≡ n = omega (arith, i.4) in
-          done g s (i.6 ∙ ap (joined c x) full, omega (arith, i.5, i.3, full))
+          done g s (i.6 ∙ ap (joined c x) full, omega (arith, i.5, i.3, full), i.11 ∙ full)
       ends (Last y) g s i = let full : i.0 ≡ n = omega (arith, i.4) in
-          done g s (i.6 ∙ ap (joined c x) full, omega (arith, i.5, i.3, full))
+          done g s (i.6 ∙ ap (joined c x) full, omega (arith, i.5, i.3, full), i.10 ∙ full)
 
   -- the whole, wherever the registers begin
-  pub reduction_does : (m i a b d e f v : ℕ) (s : State) → s.cost ≡ 0
-      → W reduction (λ g s. (s.y ≡ joined c x n) × (s.cost ≡ reduction_total n)) (regs m i a b d e f v) s
-  reduction_does m i a b d e f v s free = (tt, (tt, by (n - 1) refl))
+  pub reduction_does : (m i a b d e f v : ℕ) (s : State) → s.cost ≡ 0 → s.rounds ≡ 0
+      → W reduction (λ g s. Over s) (regs m i a b d e f v) s
+  reduction_does m i a b d e f v s free none = (tt, (tt, by (n - 1) refl))
     where
       Q : Asked
-      Q = λ g s. (s.y ≡ joined c x n) × (s.cost ≡ reduction_total n)
+      Q = λ g s. Over s
 
       loop : FlowOf Part
       loop = Do Begun (Loop 0 (Turn one (Turn two (Last three))) End)
@@ -277,11 +301,11 @@ module _ (n : ℕ) (some : 0 < n) (small : n ≤ 128) (c : Bool) (x : ℕ → Bo
           (regs (n - 1) 1 a b d e f v) s is (
             some,
             (let one_bit : n ≡ 1 = omega (arith, is, some) in
-                (ap (joined c x) (sym one_bit), omega (arith, free, one_bit))),
+                (ap (joined c x) (sym one_bit), omega (arith, free, one_bit), omega (arith, none, one_bit))),
           )
       by (suc z) is = wp_some Part State n F (does c x) 0 z loop (Do Alone End) End Q
           (regs (n - 1) 1 a b d e f v) s is (
             some,
             turns_do a b d e f v Q (does c x Begun (regs (n - 1) 1 a b d e f v) s)
-                (omega (arith, is)) refl refl (omega (arith, free)) (λ g s o. o),
+                (omega (arith, is)) refl refl (omega (arith, free)) (omega (arith, none)) (λ g s o. o),
           )

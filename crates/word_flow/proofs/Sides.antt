@@ -1,8 +1,7 @@
 -- The rows of a statement, by its arguments.
 use Rattle.std.proofs.Common.{◌≡◌, ℕ, suc, ◌<◌, ◌≤◌, true, false, List, [], ◌∷◌, length, refl, sym}
 use Rattle.std.proofs.Common.{ap, ◌∙◌, ⊎_elim, arith}
-use Rattle.std.specs.Prelude.{nat_lt, Option, Some, None, unwrap_or, if◌then◌else◌}
-use Rattle.std.specs.Option.{option_to_list}
+use Rattle.std.specs.Prelude.{nat_lt, Option, unwrap_or, if◌then◌else◌}
 use Rattle.std.proofs.lemmas.Bool.{cases_Bool, lt-ltb}
 use Rattle.loop_ir.specs.declared.names.Slot.{Slot}
 use Rattle.loop_ir.specs.Statements.{Slots}
@@ -42,14 +41,3 @@ pub rows_are : (t : Slot) (u : Option Slot) (ss : List Slot) (free_bit free_word
       free_word = free_word;
     }) (rows_on t u ss free_bit free_word)
 rows_are t u ss free_bit free_word x w y z last ex ew ey ez el = rw (ex, ew, ey, ez, el) refl
-
--- the place of a second target, or else of the target
-pub second_named : (slots : Slots) (name : List ℕ) (t r : Slot) (u : Option Slot) → ((s : Slot)
-    → slots name ≡ Some s → r ≡ s) → AreAt slots (name ∷ []) (option_to_list u) → r ≡ unwrap_or u t
-second_named slots name t r None h at = absurd at
-second_named slots name t r (Some s) h at = h s at.0
-
-pub second_alone : (slots : Slots) (t r : Slot) (u : Option Slot) → r ≡ t
-    → AreAt slots [] (option_to_list u) → r ≡ unwrap_or u t
-second_alone slots t r None e at = e
-second_alone slots t r (Some s) e at = absurd at

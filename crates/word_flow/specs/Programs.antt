@@ -13,12 +13,15 @@ use Rattle.word_flow.specs.declared.bitcount.TheConstants.{BITCOUNT}
 use Rattle.word_flow.specs.declared.reduction.TheConstants.{AND_RED, OR_RED}
 use Rattle.word_flow.specs.declared.parity.TheConstants.{XOR_RED}
 use Rattle.word_flow.specs.declared.relu.TheConstants.{RELU}
+use Rattle.word_flow.specs.declared.shift.TheConstants.{SHL1, SHR1}
 use Rattle.word_flow.specs.declared.shapes.Line.{Line}
 use Rattle.word_flow.specs.Coded.{Coded}
 use Rattle.word_flow.specs.Plans.{plan_of}
 
 -- the operations that are flows
 abbrev pub is_flow : WordOp → Bool
+is_flow o.Shl1 = true
+is_flow o.Shr1 = true
 is_flow o.Mul = true
 is_flow o.Div = true
 is_flow o.Rem = true
@@ -38,6 +41,8 @@ is_flow_statement (Visit block) = false
 
 -- the lines of an operation's flow
 abbrev pub lines_for : WordOp → List Line
+lines_for o.Shl1 = SHL1
+lines_for o.Shr1 = SHR1
 lines_for o.Mul = MUL
 lines_for o.Div = DIV
 lines_for o.Rem = REM
@@ -61,6 +66,8 @@ digits (suc k) e = if e == 0 then 0 else 1 + digits k (e / 2)
 
 -- the commands of an operation's flow at width n
 abbrev pub flow_total : WordOp → ℕ → ℕ
+flow_total o.Shl1 n = n
+flow_total o.Shr1 n = n
 flow_total o.Mul n = 9 * (n * (n - 1) / 2) + 5 * n + n % 2 - 2
 flow_total o.Div n = if n == 1 then 4 else 6 * (n * n) + 3 * n - 6
 flow_total o.Rem n = if n == 1 then 13 else 6 * (n * n) + 12 * n - 6

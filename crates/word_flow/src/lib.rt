@@ -13,5 +13,6 @@ mod reduction;
 mod relu;
 mod rows;
 mod shapes;
+mod shift;
 
 pub use lower::lower_flow;

@@ -29,6 +29,7 @@ use crate::parity::XOR_RED;
 use crate::reduction::{AND_RED, OR_RED};
 use crate::relu::RELU;
 use crate::rows::{Rows, word};
+use crate::shift::{SHL1, SHR1};
 use faults::keep;
 use loop_ir::{Flow, LoopProgram, NameMap, Slot, Step};
 use mig_graph::NoMemory;
@@ -105,6 +106,8 @@ fn flow_for(op: WordOp, owners: &[Slot], alloc: Global) -> Result<Flow, NoMemory
         (lines_for op))) }
 {
     match op {
+        WordOp::Shl1 => flow(&SHL1, owners, alloc),
+        WordOp::Shr1 => flow(&SHR1, owners, alloc),
         WordOp::Mul => flow(&MUL, owners, alloc),
         WordOp::Div => flow(&DIV, owners, alloc),
         WordOp::Rem => flow(&REM, owners, alloc),
@@ -141,7 +144,7 @@ fn program(op: WordOp, m: Rows, alloc: Global) -> Result<LoopProgram, NoMemory>
 
 /// The loop program of an operation that is a flow.
 ///
-/// Only want of memory is an `Err`.
+/// It is an `Err` only where it runs out of memory.
 pub fn lower_flow(s: &Stmt, names: &NameMap, alloc: Global) -> Result<LoopProgram, NoMemory>
     requires meets { StatementMeets (slots_of names.now) (statement s.now) }
     requires placed { IsPlaced (slots_of names.now) names.now.free_bit names.now.free_word

@@ -4,7 +4,6 @@ pub mod Sums
 pub mod Lists
 pub mod Bitwise
 pub mod Passes
-pub mod Shifts
 pub mod Words
 pub mod Carries
 pub mod States

@@ -1,5 +1,5 @@
 -- Each operation's loop program gives its value.
-use Rattle.std.proofs.Common.{◌≡◌, ℕ, suc, ◌+◌, ◌-◌, ◌^◌, ◌/◌, ◌<◌, Bool, true, false, not, List}
+use Rattle.std.proofs.Common.{◌≡◌, ℕ, suc, ◌+◌, ◌-◌, ◌^◌, ◌<◌, Bool, true, false, not, List}
 use Rattle.std.proofs.Common.{[], ◌∷◌, refl, sym, ap, ◌∙◌, subst, arith}
 use Rattle.std.specs.Prelude.{nat_lt, ◌==◌}
 use Rattle.bit_rows.specs.Bits.{majority}
@@ -19,7 +19,7 @@ use Rattle.loop_ir.specs.Spots.{Spot, Spots, set_spot, after_rounds}
 use Rattle.loop_laws.specs.Turns.{Origin, Standing, Carried, turn, after_many}
 use Rattle.loop_laws.specs.Rooms.{placed_body}
 use Rattle.loop_laws.proofs.Same.{set_same, set_other}
-use Rattle.loop_laws.proofs.Steps.{steps_each, steps_pairs}
+use Rattle.loop_laws.proofs.Steps.{steps_each}
 use Rattle.word_lower.specs.Places.{scratch_bit, cells}
 use Rattle.word_lower.specs.Programs.{plain, complemented, off, up, constant, moved, inverted}
 use Rattle.word_lower.specs.Programs.{joined, unlike, chosen, added, lessened, compared, ordered}
@@ -28,12 +28,11 @@ use Rattle.word_lower.proofs.Marks.{target, first, second, third, state}
 use Rattle.word_lower.proofs.Setting.{bit, number, operation, Slots, rooms_for, steps_for, row}
 use Rattle.word_lower.proofs.Setting.{number_at, AreSlots, Gives, DoesWords, DoesBits}
 use Rattle.word_lower.proofs.Sums.{value_same, value_false, value_pick, compare, add_gives}
-use Rattle.word_lower.proofs.Sums.{sub_gives, shl1_gives, shr1_gives}
+use Rattle.word_lower.proofs.Sums.{sub_gives}
 use Rattle.word_lower.proofs.Bitwise.{value_and, value_or, value_xor, value_inverted, value_true}
 use Rattle.word_lower.proofs.Bitwise.{least, greatest, at_least}
 use Rattle.word_lower.proofs.Passes.{bit_free, bit_else, cell_else, carry_does, pair_loop, upwards}
 use Rattle.word_lower.proofs.Passes.{set_number}
-use Rattle.word_lower.proofs.Shifts.{shifts}
 use Rattle.word_lower.proofs.Words.{word_does, unlike_bit, chosen_bit, by_bit, a_read, b_read}
 use Rattle.word_lower.proofs.Words.{s_read, choice_does, bit_does}
 use Rattle.word_lower.proofs.Carries.{added_digit, lessened_digit, a_by_carry, b_by_carry}
@@ -212,40 +211,6 @@ module _ (n : ℕ) (m : Slots) (are : AreSlots n n n 1 m) where
       turn n 0 b (after_two 1) start (suc i) 0) (λ i. not (c i)) n (ap not (set_same before p false
       p refl))
       (λ i lt. lessened_digit (start (row n m.a i)) (start (row n m.b i)) (c i))))
-
--- one position up or down: the one row that is left is off
-module _ (n : ℕ) (m : Slots) (are : AreSlots n n n 1 m) (some : 0 < n) where
-  shl1_does : DoesWords op.Shl1 Word n n 1 m
-  unfolding values_from
-  shl1_does before =
-      let b = placed_body (rooms_for op.Shl1 m) (moved (first sub.Inner) (target sub.Sum)) in
-      let start = set_spot before (row n m.target 0) false in
-      let y = λ (v : ℕ). after_many n 1 b (n - 1) start (row n m.target v) in
-      let s = shifts n 0 m are sub.Inner sub.Sum some (λ i lt. omega (arith, lt))
-      (λ i lt. omega (arith, lt)) (λ i j e. omega (arith, e)) (λ i lt e. omega (arith, e)) before in
-      subst (Gives op.Shl1 n n n 1 m before) (sym (steps_pairs n b [] start)) record {
-        gives = shl1_gives (λ i. before (row n m.a i)) y n s.off (λ i lt.
-            let e : suc i ≡ 1 + i = omega arith in ap y e ∙ s.word i (omega (arith, lt)));
-        keeps = s.keeps;
-      }
-
-  shr1_does : DoesWords op.Shr1 Word n n 1 m
-  unfolding values_from
-  shr1_does before =
-      let b = placed_body (rooms_for op.Shr1 m) (moved (first sub.Sum) (target sub.Inner)) in
-      let start = set_spot before (row n m.target (n - 1)) false in
-      let y = λ (v : ℕ). after_many n 1 b (n - 1) start (row n m.target v) in
-      let a = λ (v : ℕ). before (row n m.a v) in
-      let s = shifts n (n - 1) m are sub.Sum sub.Inner (omega (arith, some))
-      (λ i lt. omega (arith, lt)) (λ i lt. omega (arith, lt)) (λ i j e. e)
-      (λ i lt e. omega (arith, lt, e)) before in
-      let all : n ≡ suc (n - 1) = omega (arith, some) in
-      subst (Gives op.Shr1 n n n 1 m before) (sym (steps_pairs n b [] start)) record {
-        gives = subst (λ k. number y k ≡ number a k / 2) (sym all)
-            (shr1_gives a y (n - 1) s.off (λ i lt. s.word i lt
-            ∙ (let e : 1 + i ≡ suc i = omega arith in ap a e)));
-        keeps = s.keeps;
-      }
 
 -- a state in cells, written to the target's row
 module _ (n : ℕ) (m : Slots) (are : AreSlots n 1 n 0 m) (some : 0 < n) where
@@ -452,8 +417,6 @@ op_gives op.IfElse Word l n m some are = if_else_does n m are
 op_gives op.IfElse Bit l n m some are = if_else_bit_does n m
 op_gives op.Zero c l n m some are = zero_does n m are
 op_gives op.Ones c l n m some are = ones_does n m are
-op_gives op.Shl1 c l n m some are = shl1_does n m are some
-op_gives op.Shr1 c l n m some are = shr1_does n m are some
 op_gives op.Add c l n m some are = add_does n m are
 op_gives op.Sub c l n m some are = sub_does n m are
 op_gives op.Min c l n m some are = min_does n some m are

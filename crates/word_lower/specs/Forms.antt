@@ -9,7 +9,7 @@ use Rattle.word_lower.specs.Places.{AreAt, program_on}
 use Rattle.word_lower.specs.Programs.{program}
 use Rattle.word_lower.specs.Shapes.{rows_at, owners_of}
 
--- a block's steps are its states' starts and then its graph at each position
+-- a block's steps are a loop program of it: its states' starts, and then a body at each position
 abbrev pub HasForm : Slots → Statement → List (StepOf Block) → Type 0
 HasForm slots (Compute target second p args) steps = Unit {0}
 HasForm slots (Visit block) steps = IsBlockProgram slots block steps

@@ -11,7 +11,7 @@ use Rattle.op_text.specs.WordOps.{number}
 use Rattle.op_text.specs.Language.{Statement, Compute, Visit}
 use Rattle.loop_ir.specs.declared.ir.Sub.{Sub}
 use Rattle.loop_ir.specs.Plain.{StepOf}
-use Rattle.loop_ir.specs.Plain.StepOf.{Single, Along, Pairs}
+use Rattle.loop_ir.specs.Plain.StepOf.{Single, Along}
 use Rattle.loop_laws.specs.Rooms as rooms
 use Rattle.loop_laws.specs.Rooms.{InRoom, InCells, Mark, Marked}
 use Rattle.word_lower.specs.declared.shapes.Owner.{Owner}
@@ -23,7 +23,6 @@ use Rattle.word_lower.specs.declared.shapes.BodyForm.TheVariants.{Either, Unlike
 use Rattle.word_lower.specs.declared.shapes.BodyForm.TheVariants.{Lessened, Compared, OnBoth}
 use Rattle.word_lower.specs.declared.shapes.BodyForm.TheVariants.{Ordered}
 use Rattle.word_lower.specs.declared.shapes.ProgramLine.{ProgramLine}
-use Rattle.word_lower.specs.declared.shapes.ProgramLine.TheVariants as line
 use Rattle.word_lower.specs.declared.shapes.ProgramLine.TheVariants.{Once, Each}
 use Rattle.word_lower.specs.declared.table.ProgramRow.{ProgramRow}
 use Rattle.word_lower.specs.declared.table.ProgramRow.TheVariants.{Spread, One, Two, Three}
@@ -151,7 +150,6 @@ form_body (Ordered x y g h) = ordered (mark_of x) (mark_of y) (mark_of g) (mark_
 abbrev pub line_step : ProgramLine → StepOf Marked
 line_step (Once s) = Single (form_body s)
 line_step (Each s) = Along (form_body s)
-line_step (line.Pairs s) = Pairs (form_body s)
 
 -- the steps of a row of the table. The kind is the target's
 abbrev pub row_steps : ProgramRow → Kind → List (StepOf Marked)

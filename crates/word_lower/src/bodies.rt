@@ -97,7 +97,6 @@ fn step(line: ProgramLine, owners: Owners, alloc: Global) -> Result<Step, NoMemo
     match line {
         ProgramLine::Once(shape) => Ok(Step::Once(body(shape, owners, alloc)?)),
         ProgramLine::Each(shape) => Ok(Step::Each(body(shape, owners, alloc)?)),
-        ProgramLine::Pairs(shape) => Ok(Step::Pairs(body(shape, owners, alloc)?)),
     }
 }
 

@@ -50,10 +50,9 @@ pub enum BodyForm {
     Ordered(Mark, Mark, Mark, Mark),
 }
 
-/// A body done once, at each position, or at each position that has one above it.
+/// A body done once, or at each position.
 #[derive(Clone, Copy)]
 pub enum ProgramLine {
     Once(BodyForm),
     Each(BodyForm),
-    Pairs(BodyForm),
 }

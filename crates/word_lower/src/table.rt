@@ -8,7 +8,7 @@ use crate::shapes::BodyForm::{
     Added, Both, Chosen, Compared, Either, Inverted, Lessened, Moved, Off, On, OnBoth, Ordered,
     Unlike,
 };
-use crate::shapes::ProgramLine::{Each, Once, Pairs};
+use crate::shapes::ProgramLine::{Each, Once};
 use crate::shapes::{BodyForm, Mark, Owner, ProgramLine};
 use ProgramRow::{Elsewhere, One, Spread, Three, Two};
 use loop_ir::Sub;
@@ -41,22 +41,6 @@ const Y: Mark = Mark {
     owner: Owner::Second,
     sub: Sub::Inner,
 };
-// the same one above the position, and the top row
-const Z_UP: Mark = Mark {
-    owner: Owner::Target,
-    sub: Sub::Sum,
-};
-
-const X_UP: Mark = Mark {
-    owner: Owner::First,
-    sub: Sub::Sum,
-};
-
-const Z_TOP: Mark = Mark {
-    owner: Owner::Target,
-    sub: Sub::Top,
-};
-
 // the lowest row, which is the one of a bit
 const Z_BIT: Mark = Mark {
     owner: Owner::Target,
@@ -117,8 +101,8 @@ pub static PROGRAMS: [(WordOp, ProgramRow); 27] = [
     (WordOp::Copy, Spread(Moved(X, Z), Moved(X_BIT, Z_BIT))),
     (WordOp::Zero, One(Each(Off(Z)))),
     (WordOp::Ones, One(Each(On(Z)))),
-    (WordOp::Shl1, Two(Once(Off(Z_BIT)), Pairs(Moved(X, Z_UP)))),
-    (WordOp::Shr1, Two(Once(Off(Z_TOP)), Pairs(Moved(X_UP, Z)))),
+    (WordOp::Shl1, Elsewhere),
+    (WordOp::Shr1, Elsewhere),
     (
         WordOp::Add,
         Two(Once(Off(S_BIT)), Each(Added(X, Y, S_BIT, Z))),

@@ -2,32 +2,27 @@
 use Rattle.std.proofs.Common.{◌≡◌, ℕ, zero, suc, ◌+◌, ◌<◌, ◌≤◌, true, false, cond, List, [], ◌∷◌}
 use Rattle.std.proofs.Common.{◌++◌, map, length, refl, sym, ap, ◌∙◌, subst, arith, append-nil}
 use Rattle.std.proofs.Common.{append_assoc, length-append}
-use Rattle.std.specs.Prelude.{slice_index_or, sum_by, take, set}
-use Rattle.std.proofs.Math.Seq.{set-append_seam}
+use Rattle.std.specs.Prelude.{slice_index_or, sum_by, take}
 use Rattle.std.proofs.lemmas.List.{map-append, map_more}
 use Rattle.std.proofs.lemmas.List.Sums.{sum_by-cons}
 use Rattle.std.proofs.lemmas.Grind.{common_steps}
 use Rattle.uprog_code.specs.declared.code.Uop.{Uop}
-use Rattle.uprog_code.specs.declared.code.Uop.TheVariants.{SetI, SetN, SetT, SubI, AddI, Bnez}
+use Rattle.uprog_code.specs.declared.code.Uop.TheVariants.{SetI, SetN, SubI, AddI, Bnez}
 use Rattle.loop_ir.specs.declared.ir.Count.{Count}
-use Rattle.loop_ir.specs.declared.ir.Count.TheVariants.{All as All_of, Rest}
+use Rattle.loop_ir.specs.declared.ir.Count.TheVariants.{All as All_of}
 use Rattle.loop_ir.specs.declared.ir.Inner.{Inner}
 use Rattle.loop_ir.specs.declared.ir.Step.{Step}
-use Rattle.loop_ir.specs.declared.ir.Turn.{Turn}
-use Rattle.loop_ir.specs.Plain.{Block, InnerOf, TurnOf, StepOf, inner_map, turn_map, step_map}
-use Rattle.loop_ir.specs.Plain.{inner_of, turn_of, step_of}
-use Rattle.loop_ir.specs.Plain.{AllInner, AllTurns, AllStep, AllParts}
+use Rattle.loop_ir.specs.Plain.{Block, InnerOf, StepOf, inner_map, step_map, inner_of, step_of}
+use Rattle.loop_ir.specs.Plain.{AllInner, AllStep, AllParts}
 use Rattle.loop_ir.specs.Plain.InnerOf.{Alone, Across}
-use Rattle.loop_ir.specs.Plain.StepOf.{Single, Along, Nest, Pairs, Alternate}
+use Rattle.loop_ir.specs.Plain.StepOf.{Single, Along, Nest}
 use Rattle.uprog_gen.specs.Code.{Part, block_of_part, blocks, body_uops, once_code, loop_code}
-use Rattle.uprog_gen.specs.Code.{inner_code, inner_list, outside, guard_code, pairs_code, nest_code}
-use Rattle.uprog_gen.specs.Code.{either_code, either_size, turns_list, start_code, cycle_code}
+use Rattle.uprog_gen.specs.Code.{inner_code, inner_list, outside, nest_code}
 use Rattle.uprog_gen.specs.Code.{step_code, program_code}
-use Rattle.loop_ir.specs.Costs.{is_fixed, inner_cost, either_cost, step_cost, code_cost}
+use Rattle.loop_ir.specs.Costs.{is_fixed, inner_cost, step_cost, code_cost}
 use Rattle.uprog_gen.specs.Parts.{IsPart}
-use Rattle.uprog_gen.proofs.Coding.Sizes.{inner_few}
-use Rattle.uprog_gen.proofs.Coding.Sizes.{either_long, turns_few, program_few}
-use Rattle.uprog_gen.specs.Emits.{EmitsInner, EmitsTurns, EmitsSteps}
+use Rattle.uprog_gen.proofs.Coding.Sizes.{inner_few, program_few}
+use Rattle.uprog_gen.specs.Emits.{EmitsInner, EmitsSteps}
 
 -- what holds of all holds of one
 pub inner_at : (P : Block → Type 0) (xs : List Inner) (k : ℕ) (x : Inner)
@@ -181,10 +176,6 @@ along_emits p old mid new is m e =
     ∙ append_assoc old outside (loop_code All_of p (length mid))
     ∙ ap (λ q. old ++ (outside ++ loop_code All_of p q)) size)
 
-pub pairs_emits : (p : Part) (old new : List Uop) → IsPart p
-    → new ≡ old ++ pairs_code p (length old) → EmitsSteps (Pairs p.block ∷ []) old new
-pairs_emits p old new is e = one_step (Pairs p) old new is e
-
 empty_emits : (old : List Uop) → EmitsSteps (Nest [] ∷ []) old old
 empty_emits old = one_step (Nest []) old old tt (sym (append-nil old))
 
@@ -303,209 +294,6 @@ two_pushes old a b x y e f = f ∙ ap (λ l. l ++ y ∷ []) e ∙ append_assoc o
 pub outside_then : (old mid new more : List Uop) → mid ≡ old ++ outside → new ≡ mid ++ more
     → new ≡ old ++ (outside ++ more)
 outside_then old mid new more e f = f ∙ ap (λ l. l ++ more) e ∙ append_assoc old outside more
-
--- the jump past the loop, once the loop stands
-pub pairs_made : (p : Part) (old mid all : List Uop) (past end : ℕ) → past ≡ length old + 3
-    → mid ≡ old ++ guard_code (length old) 0 → all ≡ mid ++ loop_code Rest p (length mid)
-    → end ≡ length all → set all past (Bnez 0 end) ≡ old ++ pairs_code p (length old)
-pairs_made p old mid all past end ep em ea ee =
-    let q = length old + 1 + 1 + 1 + 1 + 1 in
-    let loop = loop_code Rest p q in
-    let first = SetI 0 1 ∷ SetT 1 ∷ Bnez 1 (length old + 1 + 1 + 1 + 1) ∷ [] in
-    let long : length mid ≡ q = omega (
-      arith,
-      ap length em,
-      length-append old (guard_code (length old) 0),
-    ) in
-    let whole : all ≡ (old ++ first) ++ Bnez 0 0 ∷ (SubI 1 1 ∷ loop) =
-    ea ∙ ap (λ l. mid ++ loop_code Rest p l) long ∙ ap (λ l. l ++ loop) em
-    ∙ append_assoc old (guard_code (length old) 0) loop
-    ∙ sym (append_assoc old first (Bnez 0 0 ∷ (SubI 1 1 ∷ loop))) in
-    let at : past ≡ length (old ++ first) = omega (arith, ep, length-append old first) in
-    let here : end ≡ q + length loop = omega (
-      arith,
-      ee,
-      ap length whole,
-      length-append (old ++ first) (Bnez 0 0 ∷ (SubI 1 1 ∷ loop)),
-      length-append old first,
-    ) in
-    ap (λ l. set l past (Bnez 0 end)) whole
-    ∙ ap (λ k. set ((old ++ first) ++ Bnez 0 0 ∷ (SubI 1 1 ∷ loop)) k (Bnez 0 end)) at
-    ∙ set-append_seam (old ++ first) (Bnez 0 0) (SubI 1 1 ∷ loop) (Bnez 0 end)
-    ∙ append_assoc old first (Bnez 0 end ∷ (SubI 1 1 ∷ loop))
-    ∙ ap (λ t. old ++ (first ++ Bnez 0 t ∷ (SubI 1 1 ∷ loop))) here
-
--- the turns that are emitted
-pub turn_at : (P : Block → Type 0) (xs : List Turn) (k : ℕ) (x : Turn)
-    → AllTurns P (map turn_of xs) → k < length xs → x ≡ slice_index_or xs k x
-    → AllTurns P (turn_of x ∷ [])
-turn_at P [] k x h lt e = absurd (omega arith)
-turn_at P (y ∷ ys) zero x h lt e = subst (λ z. AllTurns P (turn_of z ∷ [])) (sym e) (h.0, tt)
-turn_at P (y ∷ ys) (suc k) x h lt e = turn_at P ys k x h.1 (omega arith) e
-
-turns_too : (P : Part → Type 0) (xs ys : List (TurnOf Part)) → AllTurns P xs → AllTurns P ys
-    → AllTurns P (xs ++ ys)
-turns_too P [] ys h k = k
-turns_too P (x ∷ xs) ys h k = (h.0, turns_too P xs ys h.1 k)
-
-turns_list-append : (xs ys : List (TurnOf Part)) (out pc : ℕ) → turns_list (xs ++ ys) out pc
-    ≡ turns_list xs out pc ++ turns_list ys out (pc + length (turns_list xs out pc))
-turns_list-append [] ys out pc = at_place (turns_list ys out) pc (pc + 0) (omega arith)
-turns_list-append (x ∷ xs) ys out pc =
-    let a = either_code x.each x.last out pc in
-    let b = turns_list xs out (pc + either_size x.each x.last) in
-    let e : pc + either_size x.each x.last + length b ≡ pc + length (a ++ b) =
-    omega (arith, length-append a b, either_long x.each x.last out pc) in
-    ap (λ l. a ++ l) (turns_list-append xs ys out (pc + either_size x.each x.last)
-    ∙ ap (λ q. b ++ turns_list ys out q) e)
-    ∙ sym (append_assoc a b (turns_list ys out (pc + length (a ++ b))))
-
-pub no_turns : (out : ℕ) (old : List Uop) → EmitsTurns [] out old old
-no_turns out old = record { coded = []; same = refl; parts = tt; code = sym (append-nil old) }
-
-more_turns : (xs ys : List (TurnOf Block)) (out : ℕ) (old mid new : List Uop)
-    → EmitsTurns xs out old mid → EmitsTurns ys out mid new → EmitsTurns (xs ++ ys) out old new
-more_turns xs ys out old mid new a b =
-    let c = turns_list a.coded out (length old) in
-    let size : length mid ≡ length old + length c =
-    omega (arith, ap length a.code, length-append old c) in
-    record {
-      coded = a.coded ++ b.coded;
-      same = map-append (turn_map block_of_part) a.coded b.coded
-          ∙ ap (λ l. l ++ map (turn_map block_of_part) b.coded) a.same ∙ ap (λ l. xs ++ l) b.same;
-      parts = turns_too IsPart a.coded b.coded a.parts b.parts;
-      code = b.code ∙ ap (λ l. l ++ turns_list b.coded out (length mid)) a.code
-          ∙ append_assoc old c (turns_list b.coded out (length mid))
-          ∙ ap (λ q. old ++ (c ++ turns_list b.coded out q)) size
-          ∙ ap (λ l. old ++ l) (sym (turns_list-append a.coded b.coded out (length old)));
-    }
-
-pub next_turns : (xs : List Turn) (k : ℕ) (x : Turn) (out : ℕ) (old mid new : List Uop)
-    → k < length xs → x ≡ slice_index_or xs k x → EmitsTurns (map turn_of (take k xs)) out old mid
-    → EmitsTurns (turn_of x ∷ []) out mid new
-    → EmitsTurns (map turn_of (take (k + 1) xs)) out old new
-next_turns xs k x out old mid new lt e a b =
-    let f : map turn_of (take (k + 1) xs) ≡ map turn_of (take k xs) ++ turn_of x ∷ [] =
-    map_more turn_of xs k x lt ∙ ap (λ y. map turn_of (take k xs) ++ turn_of y ∷ []) (sym e) in
-    subst (λ l. EmitsTurns l out old new) (sym f)
-    (more_turns (map turn_of (take k xs)) (turn_of x ∷ []) out old mid new a b)
-
-pub all_turns_emitted : (xs : List Turn) (k out : ℕ) (old new : List Uop) → k ≡ length xs
-    → EmitsTurns (map turn_of (take k xs)) out old new → EmitsTurns (map turn_of xs) out old new
-all_turns_emitted xs k out old new e a = subst (λ l. EmitsTurns (map turn_of l) out old new)
-    (let f : take k xs ≡ xs = grind (arith, common_steps) in f) a
-
--- the turn and those before it take no more than all
-turn_taken : (xs : List Turn) (k : ℕ) (x : Turn) → k < length xs → x ≡ slice_index_or xs k x
-    → sum_by either_cost (map turn_of (take k xs)) + either_cost (turn_of x)
-    ≤ sum_by either_cost (map turn_of xs)
-turn_taken [] k x lt e = absurd (omega arith)
-turn_taken (y ∷ ys) zero x lt e = omega (
-  arith,
-  ap (λ z. either_cost (turn_of z)) e,
-  sum_by-cons either_cost (turn_of y) (map turn_of ys),
-)
-turn_taken (y ∷ ys) (suc k) x lt e = omega (
-  arith,
-  turn_taken ys k x (omega arith) e,
-  sum_by-cons either_cost (turn_of y) (map turn_of ys),
-  sum_by-cons either_cost (turn_of y) (map turn_of (take k ys)),
-)
-
-pub turns_short : (ts : List (TurnOf Block)) (out : ℕ) (old new : List Uop)
-    → EmitsTurns ts out old new → length new ≤ length old + sum_by either_cost ts
-turns_short ts out old new a = omega (
-  arith,
-  ap length a.code,
-  length-append old (turns_list a.coded out (length old)),
-  turns_few a.coded out (length old) a.parts,
-  ap (sum_by either_cost) a.same,
-)
-
-pub turn_room : (xs : List Turn) (k : ℕ) (x : Turn) (out : ℕ) (old mid : List Uop)
-    → k < length xs → x ≡ slice_index_or xs k x → EmitsTurns (map turn_of (take k xs)) out old mid
-    → length mid + either_cost (turn_of x) ≤ length old + sum_by either_cost (map turn_of xs)
-turn_room xs k x out old mid lt e a = omega (
-  arith,
-  turns_short (map turn_of (take k xs)) out old mid a,
-  turn_taken xs k x lt e,
-)
-
--- one of them
-pub either_emits : (p last : Part) (out : ℕ) (old new : List Uop) → IsPart p → IsPart last
-    → new ≡ old ++ either_code p last out (length old)
-    → EmitsTurns ((record { each = p.block; last = last.block }) ∷ []) out old new
-either_emits p last out old new is is_last e = record {
-  coded = (record { each = p; last = last }) ∷ [];
-  same = refl;
-  parts = ((is, is_last), tt);
-  code = e ∙ ap (λ l. old ++ l) (sym (append-nil (either_code p last out (length old))));
-}
-
-pub empty_cycle : (xs : List Turn) (old : List Uop) → length xs ≡ 0
-    → EmitsSteps (Alternate (map turn_of xs) ∷ []) old old
-empty_cycle [] old e = one_step (Alternate []) old old tt (sym (append-nil old))
-empty_cycle (x ∷ xs) old e = absurd (omega arith)
-
--- the jump out of the loop, once the loop stands
-cycle_made : (ts : List (TurnOf Part)) (old a b c : List Uop) (out head end : ℕ)
-    → out ≡ length old + 4 → head ≡ out + 1 → a ≡ old ++ start_code head 0
-    → b ≡ a ++ turns_list ts out (length a) → c ≡ b ++ Bnez 4 head ∷ [] → end ≡ length c
-    → set c out (Bnez 4 end) ≡ old ++ cycle_code ts (length old)
-cycle_made ts old a b c out head end eo eh ea eb ec ee =
-    let way = length old + 1 + 1 + 1 + 1 in
-    let h = way + 1 in
-    let turns = turns_list ts way h in
-    let first = SetT 5 ∷ SetI 3 0 ∷ SetI 4 1 ∷ Bnez 4 h ∷ [] in
-    let back = Bnez 4 h ∷ [] in
-    let o : out ≡ way = omega (arith, eo) in
-    let g : head ≡ h = omega (arith, eo, eh) in
-    let la : length a ≡ h = omega (
-      arith,
-      ap length ea,
-      length-append old (start_code head 0),
-    ) in
-    let whole : c ≡ (old ++ first) ++ Bnez 4 0 ∷ (turns ++ back) =
-    ec ∙ ap (λ k. b ++ Bnez 4 k ∷ []) g
-    ∙ ap (λ l. l ++ back) (eb ∙ ap (λ k. a ++ turns_list ts k (length a)) o
-    ∙ ap (λ k. a ++ turns_list ts way k) la)
-    ∙ append_assoc a turns back
-    ∙ ap (λ l. l ++ (turns ++ back)) (ea ∙ ap (λ k. old ++ start_code k 0) g)
-    ∙ append_assoc old (start_code h 0) (turns ++ back)
-    ∙ sym (append_assoc old first (Bnez 4 0 ∷ (turns ++ back))) in
-    let at : out ≡ length (old ++ first) = omega (arith, eo, length-append old first) in
-    let here : end ≡ h + length turns + 1 = omega (
-      arith,
-      ee,
-      ap length whole,
-      length-append (old ++ first) (Bnez 4 0 ∷ (turns ++ back)),
-      length-append old first,
-      length-append turns back,
-    ) in
-    ap (λ l. set l out (Bnez 4 end)) whole
-    ∙ ap (λ k. set ((old ++ first) ++ Bnez 4 0 ∷ (turns ++ back)) k (Bnez 4 end)) at
-    ∙ set-append_seam (old ++ first) (Bnez 4 0) (turns ++ back) (Bnez 4 end)
-    ∙ append_assoc old first (Bnez 4 end ∷ (turns ++ back))
-    ∙ ap (λ t. old ++ (first ++ Bnez 4 t ∷ (turns ++ back))) here
-
-pub cycle_emits : (xs : List Turn) (old a b c : List Uop) (out head end : ℕ) → 0 < length xs
-    → out ≡ length old + 4 → head ≡ out + 1 → a ≡ old ++ start_code head 0
-    → EmitsTurns (map turn_of xs) out a b → c ≡ b ++ Bnez 4 head ∷ [] → end ≡ length c
-    → EmitsSteps (Alternate (map turn_of xs) ∷ []) old (set c out (Bnez 4 end))
-cycle_emits [] old a b c out head end some eo eh ea eb ec ee = absurd (omega arith)
-cycle_emits (x ∷ xs) old a b c out head end some eo eh ea eb ec ee =
-    by eb.coded eb.same eb.parts
-    (cycle_made eb.coded old a b c out head end eo eh ea eb.code ec ee)
-  where
-    new : List Uop
-    new = set c out (Bnez 4 end)
-
-    by : (ts : List (TurnOf Part)) → map (turn_map block_of_part) ts ≡ map turn_of (x ∷ xs)
-        → AllTurns IsPart ts → new ≡ old ++ cycle_code ts (length old)
-        → EmitsSteps (Alternate (map turn_of (x ∷ xs)) ∷ []) old new
-    by [] same is e = absurd (let g : [] ≡ turn_of x ∷ map turn_of xs = same in cc)
-    by (t ∷ ts) same is e = subst (λ l. EmitsSteps (Alternate l ∷ []) old new) same
-        (one_step (Alternate (t ∷ ts)) old new is e)
 
 -- a nest, instruction by instruction
 pub nest_made : (ps : List Inner) (old a b c d e f : List Uop) (top : ℕ) → 0 < length ps

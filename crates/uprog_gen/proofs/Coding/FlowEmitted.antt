@@ -1,8 +1,12 @@
 -- The code that the emitters of flows add.
-use Rattle.std.proofs.Common.{◌≡◌, ℕ, ◌+◌, ◌-◌, ◌≤◌, List, [], ◌∷◌, ◌++◌, length, refl, sym, ap}
+use Rattle.std.proofs.Common.{◌≡◌, ℕ, ◌+◌, ◌≤◌, Bool, true, false, cond, List, [], ◌∷◌, ◌++◌}
+use Rattle.std.proofs.Common.{map, length, refl, sym, ap}
 use Rattle.std.proofs.Common.{◌∙◌, subst, arith, length-append, append_assoc, append-nil}
 use Rattle.std.proofs.Common.{length-set}
-use Rattle.std.specs.Prelude.{slice_set}
+use Rattle.std.specs.Prelude.{slice_set, filter}
+use Rattle.std.specs.List.{range_with_len}
+use Rattle.std.proofs.lemmas.List.{map-append, length-map}
+use Rattle.std.proofs.lemmas.List.FromFn.{filter_of_map_range_with_len_more}
 use Rattle.std.proofs.Math.Seq.{set-append_seam}
 use Rattle.uprog_code.specs.declared.code.Uop.{Uop}
 use Rattle.uprog_code.specs.declared.code.Uop.TheVariants as uop
@@ -18,6 +22,8 @@ use Rattle.loop_ir.specs.Costs.{body_cost}
 use Rattle.uprog_gen.specs.Code.{Part, block_of_part, flow_uops, clear_code}
 use Rattle.uprog_gen.specs.Parts.{IsPart}
 use Rattle.uprog_gen.specs.Emits.{EmitsBody, EmitsFlow, EmitsActs, EmitsSteps}
+use Rattle.loop_ir.specs.FlowTests.{cleared}
+use Rattle.uprog_gen.proofs.Coding.FlowMaps.{cleared_map}
 use Rattle.uprog_gen.proofs.Coding.Sizes.{flow_body_few}
 use Rattle.uprog_gen.proofs.Coding.Emitted.{one_step}
 use Rattle.uprog_gen.proofs.Coding.FlowSizes.{code_long, turns_long}
@@ -320,13 +326,44 @@ turn_emits r top out x ts old a b c d new next ea bx en ec ed bt = record {
     all x ts x' ts' f g = rw (f, g) refl
 
 -- a flow, after its registers got 0
-pub flowed_emits : (x : FlowOf Block) (old mid new : List Uop) → mid ≡ old ++ clear_code
+pub flowed_emits : (x : FlowOf Block) (old mid new : List Uop) → mid ≡ old ++ clear_code x
     → EmitsFlow x mid new → EmitsSteps (Flowed x ∷ []) old new
 flowed_emits x old mid new em a =
-    let long : length mid ≡ length old + 7 =
-    omega (arith, ap length em, length-append old clear_code) in
+    let f = a.coded in
+    let same : clear_code x ≡ clear_code f = ap (map (λ r. uop.SetI r 0))
+    (sym (ap cleared a.same) ∙ cleared_map Part Block block_of_part f) in
+    let at = length old + length (cleared f) in
+    let long : length mid ≡ at = omega (
+      arith,
+      ap length em,
+      ap length same,
+      length-append old (clear_code x),
+      length-map (cleared f) (λ r. uop.SetI r 0),
+    ) in
     subst (λ y. EmitsSteps (Flowed y ∷ []) old new) a.same
-    (one_step (Flowed a.coded) old new a.parts
-    (a.code ∙ ap (λ q. mid ++ code_of flow_uops a.coded q) long
-    ∙ ap (λ l. l ++ code_of flow_uops a.coded (length old + 7)) em
-    ∙ append_assoc old clear_code (code_of flow_uops a.coded (length old + 7))))
+    (one_step (Flowed f) old new a.parts
+    (a.code ∙ ap (λ q. mid ++ code_of flow_uops f q) long
+    ∙ ap (λ l. l ++ code_of flow_uops f at) (em ∙ ap (λ l. old ++ l) same)
+    ∙ append_assoc old (clear_code f) (code_of flow_uops f at)))
+
+-- of the first registers those that pass a test get 0
+abbrev pub zeros_to : (ℕ → Bool) → ℕ → List Uop
+zeros_to t k = map (λ r. uop.SetI r 0) (filter t (map (λ r. r) (range_with_len 0 k)))
+
+-- and so of one more
+pub one_zero : (t : ℕ → Bool) (k : ℕ) (b : Bool) (old now new : List Uop) → t k ≡ b
+    → now ≡ old ++ zeros_to t k → new ≡ now ++ cond b (uop.SetI k 0 ∷ []) []
+    → new ≡ old ++ zeros_to t (k + 1)
+one_zero t k b old now new is at more =
+    let ks = filter t (map (λ r. r) (range_with_len 0 k)) in
+    let all : zeros_to t (k + 1) ≡ zeros_to t k ++ cond b (uop.SetI k 0 ∷ []) [] =
+    ap (map (λ r. uop.SetI r 0))
+    (filter_of_map_range_with_len_more t (λ r. r) 0 k k (omega arith)
+    ∙ ap (λ c. ks ++ cond c (k ∷ []) []) is)
+    ∙ map-append (λ r. uop.SetI r 0) ks (cond b (k ∷ []) []) ∙ ap (λ l. zeros_to t k ++ l) (by b) in
+    more ∙ ap (λ l. l ++ cond b (uop.SetI k 0 ∷ []) []) at
+    ∙ append_assoc old (zeros_to t k) (cond b (uop.SetI k 0 ∷ []) []) ∙ ap (λ l. old ++ l) (sym all)
+  where
+    by : (b : Bool) → map (λ r. uop.SetI r 0) (cond b (k ∷ []) []) ≡ cond b (uop.SetI k 0 ∷ []) []
+    by true = refl
+    by false = refl

@@ -1,7 +1,7 @@
 -- Flows over other things: what holds of their bodies, and the tests that they pass.
 use Rattle.std.proofs.Common.{◌≡◌, ℕ, zero, suc, ◌+◌, ◌<◌, ◌≤◌, Bool, true, List, [], ◌∷◌, map}
-use Rattle.std.proofs.Common.{refl, ap, subst, ⊎_elim, arith}
-use Rattle.std.specs.Prelude.{◌&&◌, ◌==◌, nat_lt, not}
+use Rattle.std.proofs.Common.{refl, ap, ◌∙◌, subst, ⊎_elim, arith, cond}
+use Rattle.std.specs.Prelude.{◌&&◌, ◌||◌, ◌==◌, nat_lt, not, filter}
 use Rattle.std.specs.List.{list_all, range_with_len}
 use Rattle.std.proofs.lemmas.Bool.{and_parts, cases_eq}
 use Rattle.bit_rows.specs.declared.TheConstants.{WIDTH_MAX}
@@ -10,12 +10,21 @@ use Rattle.loop_ir.specs.Flows.{all_flow, all_acts}
 use Rattle.loop_ir.specs.Flows.FlowOf.{End, Do, Put, If, Loop}
 use Rattle.loop_ir.specs.Flows.TurnsOf.{Last, Turn}
 use Rattle.loop_ir.specs.Flows.EventOf.{Done, Moved, Counted}
-use Rattle.loop_ir.specs.FlowTests.{target, is_low, keeps, all_keep, counts, all_count, nests}
+use Rattle.loop_ir.specs.FlowTests.{target, is_low, is_moved, names, any_names, cleared, keeps}
+use Rattle.loop_ir.specs.FlowTests.{all_keep, counts, all_count, nests}
 use Rattle.loop_ir.specs.FlowTests.{all_nest, is_event_safe, widths}
 use Rattle.loop_laws.proofs.FlowRounds.{event_map}
 
 same_and : {a b c d : Bool} → a ≡ b → c ≡ d → (a && c) ≡ (b && d)
 same_and e f = rw (e, f) refl
+
+same_or : {a b c d : Bool} → a ≡ b → c ≡ d → (a || c) ≡ (b || d)
+same_or e f = rw (e, f) refl
+
+same_filter : (t u : ℕ → Bool) → ((r : ℕ) → t r ≡ u r) → (rs : List ℕ) → filter t rs ≡ filter u rs
+same_filter t u e [] = refl
+same_filter t u e (r ∷ rs) = ap (λ b. cond b (r ∷ filter t rs) (filter t rs)) (e r)
+    ∙ ap (λ l. cond (u r) (r ∷ l) l) (same_filter t u e rs)
 
 -- what follows for each body
 module _ (A : Type 0) (P Q : A → Type 0) (by : (a : A) → P a → Q a) where
@@ -74,6 +83,23 @@ module _ (A B : Type 0) (h : A → B) where
     all_nest_map : (d : ℕ) (ts : TurnsOf A) → all_nest d (acts_map h ts) ≡ all_nest d ts
     all_nest_map d (Last x) = nests_map d x
     all_nest_map d (Turn x ts) = same_and (nests_map d x) (all_nest_map d ts)
+
+  mutual
+    pub names_map : (r : ℕ) (f : FlowOf A) → names r (flow_map h f) ≡ names r f
+    names_map r End = refl
+    names_map r (Do b k) = names_map r k
+    names_map r (Put m k) = ap (λ x. is_moved r m || x) (names_map r k)
+    names_map r (If s x y k) = ap (λ a. s == r || a)
+        (same_or (names_map r x) (same_or (names_map r y) (names_map r k)))
+    names_map r (Loop s ts k) = ap (λ a. s == r || a) (same_or (any_names_map r ts) (names_map r k))
+
+    any_names_map : (r : ℕ) (ts : TurnsOf A) → any_names r (acts_map h ts) ≡ any_names r ts
+    any_names_map r (Last x) = names_map r x
+    any_names_map r (Turn x ts) = same_or (names_map r x) (any_names_map r ts)
+
+  pub cleared_map : (f : FlowOf A) → cleared (flow_map h f) ≡ cleared f
+  cleared_map f = same_filter (λ r. names r (flow_map h f)) (λ r. names r f) (λ r. names_map r f)
+      (0 ∷ 1 ∷ 2 ∷ 3 ∷ 4 ∷ 5 ∷ 6 ∷ [])
 
   -- what holds of every body
   mutual

@@ -2,11 +2,11 @@
 use Rattle.std.proofs.Common.{◌≡◌, ℕ, zero, suc, ◌+◌, ◌*◌, ◌<◌, ◌≤◌, Bool, true, List, [], ◌∷◌}
 use Rattle.std.proofs.Common.{◌++◌, map}
 use Rattle.std.proofs.Common.{length, refl, sym, ap, ◌∙◌, subst, arith, append_assoc, append-nil}
-use Rattle.std.specs.Prelude.{slice_get, slice_index, slice_index_or, take, sum_by}
+use Rattle.std.specs.Prelude.{slice_get, slice_index, slice_index_or, take}
 use Rattle.std.specs.List.{AllByRecursion, list_all, range_with_len}
 use Rattle.std.proofs.lemmas.Bool.{and_parts, and_from}
 use Rattle.std.proofs.lemmas.List.{map_more, length-map}
-use Rattle.std.proofs.lemmas.List.Sums.{sum_by-append, sum_by-cons}
+use Rattle.std.proofs.lemmas.List.Sums.{sum_by-append}
 use Rattle.std.proofs.lemmas.Grind.{common_steps}
 use Rattle.dram_model.specs.declared.address.Cell.TheVariants.{D}
 use Rattle.bit_rows.specs.Bits.{value}
@@ -31,7 +31,7 @@ use Rattle.uprog_gen.specs.Where.{Agree, spots_in, IsSpot, IsBelow}
 use Rattle.uprog_gen.specs.Code.{Part, blocks, program_code}
 use Rattle.uprog_gen.specs.Parts.{IsPart}
 use Rattle.loop_ir.specs.Limits.{IsRound, StepHasValues, CanCompile, step_stands}
-use Rattle.loop_ir.specs.Costs.{step_cost, code_cost, step_bodies}
+use Rattle.loop_ir.specs.Costs.{step_cost, code_cost}
 use Rattle.uprog_gen.specs.Emits.{EmitsSteps}
 use Rattle.uprog_gen.specs.Does.{DoesRounds, Means, AreCheap, joined, total, after_statements}
 use Rattle.uprog_gen.specs.Does.{numbers_in}
@@ -42,7 +42,7 @@ use Rattle.uprog_gen.proofs.Coding.Emitted.{more_steps}
 use Rattle.loop_ir.specs.Chains.{steps_find}
 use Rattle.uprog_gen.proofs.Rows.Chained.{find_both}
 use Rattle.uprog_gen.proofs.Rows.Top.{program_does, program_issues, all_blocks, all_rounds-append}
-use Rattle.uprog_gen.proofs.Coding.Legal.{AreFew, code_legal}
+use Rattle.uprog_gen.proofs.Coding.Legal.{code_legal}
 use Rattle.bit_rows.specs.declared.TheConstants.{WIDTH_MAX}
 
 abbrev pub Statement : Type 0
@@ -114,19 +114,6 @@ cost_joined head (p ∷ ps) h = omega (
   h.0.size,
   cost_joined head ps h.1,
 )
-
-few_joined : (head : Shape) (ps : List Statement) → AllByRecursion (CanCompile (IsSpot head)) ps
-    → AreFew (joined ps)
-few_joined head [] h = tt
-few_joined head (p ∷ ps) h = both (λ s. step_bodies s ≤ 12) p (joined ps) (each_few p h.0.few)
-    (few_joined head ps h.1)
-  where
-    each_few : (ss : Statement) → sum_by step_bodies ss ≤ 12
-        → AllByRecursion (λ s. step_bodies s ≤ 12) ss
-    each_few [] le = tt
-    each_few (s ∷ ss) le =
-        let c = sum_by-cons step_bodies s ss in
-        (omega (arith, c, le), each_few ss (omega (arith, c, le)))
 
 each_taken : (P : Statement → Type 0) (k : ℕ) (ps : List Statement) → AllByRecursion P ps
     → AllByRecursion P (take k ps)
@@ -269,7 +256,6 @@ is_entry head ps mid code can few emits e = subst (IsEntry head ps)
         let cut = pieces head ps emits.coded 0 emits.same emits.parts can in
         record {
           legal = code_legal head emits.coded short emits.parts
-              (subst (AreFew) (sym emits.same) (few_joined head ps can))
               (stands ps emits.coded can emits.same)
               (subst (AllByRecursion (StepHasValues (IsSpot head))) (sym emits.same)
               (values_joined head ps can))

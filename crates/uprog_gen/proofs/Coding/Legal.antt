@@ -2,10 +2,10 @@
 use Rattle.std.proofs.Common.{◌≡◌, ℕ, zero, suc, ◌+◌, ◌-◌, ◌*◌, ◌<◌, ◌≤◌, Bool, true, false, cond}
 use Rattle.std.proofs.Common.{List, ⊎_elim}
 use Rattle.std.proofs.Common.{[], ◌∷◌, ◌++◌, map, length, refl, ap, ◌∙◌, subst, arith, Some}
-use Rattle.std.proofs.Common.{length-append, append-nil, append_assoc, sym}
+use Rattle.std.proofs.Common.{length-append, sym}
 use Rattle.std.proofs.lemmas.List.{length-map, map-append}
 use Rattle.bit_rows.specs.declared.TheConstants.{WIDTH_MAX}
-use Rattle.std.specs.Prelude.{slice_get, nat_lt, nat_le, ◌==◌, ◌&&◌}
+use Rattle.std.specs.Prelude.{slice_get, nat_lt, nat_le, ◌==◌, ◌&&◌, filter}
 use Rattle.std.specs.List.{AllByRecursion, list_all}
 use Rattle.std.proofs.Math.Seq.{get_or-append_seam}
 use Rattle.std.proofs.lemmas.Option.{slice_get-get_or}
@@ -13,12 +13,12 @@ use Rattle.std.proofs.lemmas.Bool.{and_parts, and_from, lt-ltb, ltb-true, le-leb
 use Rattle.std.proofs.Math.Nat.{mul-le-mul_right}
 use Rattle.op_text.specs.declared.tree.Kind.{Kind}
 use Rattle.uprog_code.specs.declared.code.Uop.{Uop}
-use Rattle.uprog_code.specs.declared.code.Uop.TheVariants.{Done, SubI, AddI, Bnez}
+use Rattle.uprog_code.specs.declared.code.Uop.TheVariants.{Done, SetI, SubI, AddI, Bnez}
 use Rattle.uprog_code.specs.Shape.{Shape, results}
 use Rattle.uprog_code.specs.Legal.{is_row, is_first, is_second, may_be_first, may_be_second}
 use Rattle.uprog_code.specs.Legal.{is_legal, IsLegalCode}
 use Rattle.loop_ir.specs.Loops.{rounds, RoundOf, round_at, one_round, positions, inner_rounds}
-use Rattle.loop_ir.specs.Loops.{step_rounds, all_rounds, sub_value, turns_from}
+use Rattle.loop_ir.specs.Loops.{step_rounds, all_rounds, sub_value}
 use Rattle.row_alloc.specs.declared.body.BodyRef.{BodyRef}
 use Rattle.row_alloc.specs.declared.body.BodyRef.TheVariants as ref
 use Rattle.row_alloc.specs.declared.body.BodyCmd.{BodyCmd}
@@ -35,12 +35,11 @@ use Rattle.loop_ir.specs.declared.ir.Space.TheVariants.{Result, Source, ScratchB
 use Rattle.loop_ir.specs.declared.ir.Space.TheVariants.{Cells}
 use Rattle.loop_ir.specs.declared.ir.Count.{Count}
 use Rattle.loop_ir.specs.declared.ir.Count.TheVariants.{All as All_of, Rest}
-use Rattle.loop_ir.specs.Plain.{Block, InnerOf, TurnOf, StepOf, turn_map, step_map, AllInner}
-use Rattle.loop_ir.specs.Plain.{AllTurns, AllStep, AllParts}
+use Rattle.loop_ir.specs.Plain.{Block, InnerOf, StepOf, step_map, AllInner, AllStep, AllParts}
 use Rattle.loop_ir.specs.Plain.InnerOf.{Alone, Across}
-use Rattle.loop_ir.specs.Plain.StepOf.{Single, Along, Nest, Pairs, Alternate, Flowed}
+use Rattle.loop_ir.specs.Plain.StepOf.{Single, Along, Nest, Flowed}
 use Rattle.loop_ir.specs.Flows.{flow_map, AllFlow, all_flow}
-use Rattle.loop_ir.specs.FlowTests.{counts, nests, runs_safely}
+use Rattle.loop_ir.specs.FlowTests.{names, cleared, counts, nests, runs_safely}
 use Rattle.loop_ir.specs.Spots.{nth_place, spot_in, IsOwn}
 use Rattle.uprog_gen.specs.Where.{IsSpot, IsBelow}
 use Rattle.uprog_gen.specs.declared.plan.Plan.{Plan}
@@ -48,25 +47,19 @@ use Rattle.uprog_gen.specs.Code.{Part, row_space, named_register, planned_regist
 use Rattle.uprog_gen.specs.Code.{place_ref, code_ref, code_uop, init}
 use Rattle.uprog_gen.specs.Code.{before, after, inits, befores, afters, counter, body_uops}
 use Rattle.uprog_gen.specs.Code.{once_code, turn_code, enter_code, loop_code, inner_list, outside}
-use Rattle.uprog_gen.specs.Code.{turn_plan, turn_uops, either_code, either_size, turns_list}
 use Rattle.uprog_gen.specs.Code.{flow_plan, flow_uops, clear_code, step_code, program_code}
 use Rattle.uprog_gen.specs.Code.{block_of_part, blocks}
 use Rattle.uprog_gen.specs.FlowCode.{code_of, size as flow_long}
 use Rattle.uprog_gen.proofs.Coding.FlowMaps.{counts_map, flow_made, flow_among}
 use Rattle.uprog_gen.proofs.Coding.FlowSizes.{code_long}
 use Rattle.uprog_gen.proofs.Coding.FlowLegal.{flow_legal}
-use Rattle.uprog_gen.proofs.Coding.Sizes.{either_long, cycle_long}
-use Rattle.loop_ir.specs.Costs.{is_fixed, same_sub, step_bodies}
+use Rattle.loop_ir.specs.Costs.{is_fixed, same_sub}
 use Rattle.loop_ir.specs.Limits.{IsRound, HasValues, StepHasValues, stays_in_registers, step_stands}
 use Rattle.uprog_gen.proofs.Rows.Rounds.{block_round}
 use Rattle.uprog_gen.specs.Parts.{IsPart}
 use Rattle.loop_ir.specs.States.{enters}
 use Rattle.uprog_gen.proofs.Rows.Named.{IsNamed, named_ref}
 use Rattle.uprog_gen.proofs.Running.Program.{front_all, back_all}
-
--- no step has too many bodies
-abbrev pub AreFew : List (StepOf Block) → Type 0
-AreFew ss = AllByRecursion (λ s. step_bodies s ≤ 12) ss
 
 both : {X : Type 0} (P : X → Type 0) (xs ys : List X) → AllByRecursion P xs → AllByRecursion P ys
     → AllByRecursion P (xs ++ ys)
@@ -280,8 +273,6 @@ module _ (head : Shape) where
   StepFits (Single p) = IsFit p
   StepFits (Along p) = IsFit p
   StepFits (Nest parts) = AllInner IsFit parts
-  StepFits (Pairs p) = IsFit p
-  StepFits (Alternate ts) = AllTurns IsFit ts
   StepFits (Flowed f) = (counts f ≡ true) × AllFlow IsFit f
 
   abbrev StepsFit : List (StepOf Part) → Type 0
@@ -292,8 +283,7 @@ module _ (head : Shape) where
   some_positions n o All_of below = omega (arith, below)
   some_positions n o Rest below = omega (arith, below)
 
-  -- Each body has a round at width 2; those that take turns have one where there are positions
-  -- enough
+  -- each body has a round at width 2
   fit_inner : (n o : ℕ) → o < n → (xs : List (InnerOf Part)) → AllInner IsPart xs
       → All_at n (inner_rounds n o xs) → AllInner IsFit xs
   fit_inner n o below [] h r = tt
@@ -307,69 +297,36 @@ module _ (head : Shape) where
         fit_inner n o below xs h.1 a.1,
       )
 
-  fit_turns : (ts us : List (TurnOf Part)) (i : ℕ) → AllTurns IsPart ts
-      → i + length ts < WIDTH_MAX
-      → ((count : ℕ) → i + count < WIDTH_MAX → AllByRecursion (IsRoundAtWidth (i + count + 1))
-      (map block_round (turns_from (ts ++ us) i count))) → AllTurns IsFit ts
-  fit_turns [] us i h lt r = tt
-  fit_turns (t ∷ ts) us i h lt r = (
-    (
-      fit_part t.each h.0.0 (i + 1 + 1) i 0 (r 1 (omega (arith, lt))).0,
-      fit_part t.last h.0.1 (i + 0 + 1) i 0 (r 0 (omega (arith, lt))).0,
-    ),
-    fit_turns ts (us ++ (t ∷ [])) (i + 1) h.1 (omega (arith, lt)) (λ count le.
-        let w : i + suc count + 1 ≡ i + 1 + count + 1 = omega arith in
-        subst (λ l. AllByRecursion (IsRoundAtWidth (i + 1 + count + 1))
-        (map block_round (turns_from l (i + 1) count))) (append_assoc ts us (t ∷ []))
-        (subst (λ n. AllByRecursion (IsRoundAtWidth n)
-        (map block_round (turns_from ((ts ++ us) ++ (t ∷ [])) (i + 1) count))) w
-        (r (suc count) (omega (arith, le))).1)),
-  )
-
   -- at each width the rounds are such
   abbrev AtWidths : (ℕ → List (RoundOf Part)) → Type 0
   AtWidths rs = (n : ℕ) → 0 < n → n ≤ WIDTH_MAX
       → AllByRecursion (IsRoundAtWidth n) (map block_round (rs n))
 
-  fit_step : (s : StepOf Part) → AllStep IsPart s → step_bodies (step_map block_of_part s) ≤ 12
+  fit_step : (s : StepOf Part) → AllStep IsPart s
       → step_stands (step_map block_of_part s) ≡ true
       → StepHasValues (IsSpot head) (step_map block_of_part s)
       → AtWidths (λ n. step_rounds n s) → StepFits s
-  fit_step (Single p) h few stand has r = fit_part p h 2 0 0 (r 2 (omega arith) (omega arith)).0
-  fit_step (Along p) h few stand has r = fit_part p h 2 0 0 (r 2 (omega arith) (omega arith)).0
-  fit_step (Nest parts) h few stand has r = fit_inner 2 0 (omega arith) parts h
+  fit_step (Single p) h stand has r = fit_part p h 2 0 0 (r 2 (omega arith) (omega arith)).0
+  fit_step (Along p) h stand has r = fit_part p h 2 0 0 (r 2 (omega arith) (omega arith)).0
+  fit_step (Nest parts) h stand has r = fit_inner 2 0 (omega arith) parts h
       (first_of 2 (λ o. inner_rounds 2 o parts) 2 (omega arith) (r 2 (omega arith) (omega arith)))
-  fit_step (Pairs p) h few stand has r = fit_part p h 2 0 1 (r 2 (omega arith) (omega arith)).0
-  fit_step (Alternate ts) h few stand has r =
-      let many : 2 * length ts ≤ 12 = omega (
-        arith,
-        few,
-        length-map ts (turn_map block_of_part),
-      ) in
-      fit_turns ts [] 0 h (omega (arith, many)) (λ count lt.
-      let n = 0 + count + 1 in
-      let top : n - 1 ≡ count = omega arith in
-      subst (λ l. AllByRecursion (IsRoundAtWidth n) (map block_round (turns_from l 0 count)))
-      (sym (append-nil ts))
-      (subst (λ c. AllByRecursion (IsRoundAtWidth n) (map block_round (turns_from ts 0 c))) top
-      (r n (omega arith) (omega (arith, lt)))))
-  fit_step (Flowed f) h few stand has r =
+  fit_step (Flowed f) h stand has r =
       let b = flow_map block_of_part f in (
         sym (counts_map Part Block block_of_part f) ∙ (and_parts (counts b) (nests 2 b
-            && (all_flow stays_in_registers b && runs_safely b)) stand).0,
+            && (all_flow (stays_in_registers (λ r. names r b)) b && runs_safely b)) stand).0,
         flow_made Part Block block_of_part IsPart (HasValues (IsSpot head)) IsFit fit_values f h has,
       )
 
-  fit_steps : (ss : List (StepOf Part)) → AllParts IsPart ss → AreFew (blocks ss)
+  fit_steps : (ss : List (StepOf Part)) → AllParts IsPart ss
       → list_all step_stands (blocks ss) ≡ true
       → AllByRecursion (StepHasValues (IsSpot head)) (blocks ss)
       → AtWidths (λ n. all_rounds n ss) → StepsFit ss
-  fit_steps [] h few stand has r = tt
-  fit_steps (s ∷ ss) h few stand has r =
+  fit_steps [] h stand has r = tt
+  fit_steps (s ∷ ss) h stand has r =
       let t = and_parts (step_stands (step_map block_of_part s)) (list_all step_stands (blocks ss))
       stand in (
-        fit_step s h.0 few.0 t.0 has.0 (λ n some small. first_rounds n (r n some small)),
-        fit_steps ss h.1 few.1 t.1 has.1 (λ n some small. later_rounds n (r n some small)),
+        fit_step s h.0 t.0 has.0 (λ n some small. first_rounds n (r n some small)),
+        fit_steps ss h.1 t.1 has.1 (λ n some small. later_rounds n (r n some small)),
       )
     where
       apart : (n : ℕ)
@@ -497,28 +454,16 @@ module _ (head : Shape) where
     single_legal p true fit = fit p.plan size
     single_legal p false fit = (refl, (refl, once_legal p fit))
 
-    either_legal : (p last : Part) (end pc : ℕ) → IsFit p → IsFit last → end < size
-        → pc + either_size p last ≤ size → L (either_code p last end pc)
-    either_legal p last end pc fit fit_last le room =
-        let post = AddI 3 1 ∷ SubI 5 1 ∷ [] in
-        let more : pc + 1 + length last.cmds + 1 < size = omega (arith, room) in (
-          lt-ltb (pc + 1 + length last.cmds + 1) size more,
-          join (turn_uops last) (Bnez 4 end ∷ (turn_uops p ++ post)) (fit_last turn_plan size)
-              (lt-ltb end size le, join (turn_uops p) post (fit turn_plan size) (refl, (refl, tt))),
-        )
-
-    turns_legal : (ts : List (TurnOf Part)) (out pc : ℕ) → AllTurns IsFit ts → out < size
-        → pc + length (turns_list ts out pc) ≤ size → L (turns_list ts out pc)
-    turns_legal [] out pc h lt le = tt
-    turns_legal (t ∷ ts) out pc h lt le =
-        let a = either_code t.each t.last out pc in
-        let b = turns_list ts out (pc + either_size t.each t.last) in
-        let long = either_long t.each t.last out pc in
-        let both_long = length-append a b in
-        join a b (either_legal t.each t.last out pc h.0.0 h.0.1 lt
-        (omega (arith, le, long, both_long)))
-        (turns_legal ts out (pc + either_size t.each t.last) h.1 lt
-        (omega (arith, le, long, both_long)))
+    -- of some registers those that pass a test get 0
+    clear_legal : (t : ℕ → Bool) (rs : List ℕ) → AllByRecursion (λ r. nat_lt r 8 ≡ true) rs
+        → L (map (λ r. SetI r 0) (filter t rs))
+    clear_legal t [] h = tt
+    clear_legal t (r ∷ rs) h = by (t r) (clear_legal t rs h.1)
+      where
+        by : (b : Bool) → L (map (λ r. SetI r 0) (filter t rs))
+            → L (map (λ r. SetI r 0) (cond b (r ∷ filter t rs) (filter t rs)))
+        by true more = (and_from (nat_lt r 8) true h.0 refl, more)
+        by false more = more
 
     step_legal : (s : StepOf Part) (pc : ℕ) → StepFits s → pc + length (step_code s pc) < size
         → L (step_code s pc)
@@ -541,57 +486,19 @@ module _ (head : Shape) where
             ),
           ),
         )
-    step_legal (Pairs p) pc h le =
-        let q = pc + 1 + 1 + 1 + 1 + 1 in
-        let a = loop_code Rest p q in
-        let first : pc + 1 + 1 + 1 + 1 < size = omega (arith, le) in
-        let end : q + length a < size = omega (arith, le) in
-        let loop = loop_legal Rest p q h (omega (arith, le)) in (
-          refl,
-          (
-            refl,
-            (
-              lt-ltb (pc + 1 + 1 + 1 + 1) size first,
-              (lt-ltb (q + length a) size end, (refl, loop)),
-            ),
-          ),
-        )
-    step_legal (Alternate []) pc h le = tt
-    step_legal (Alternate (t ∷ ts)) pc h le =
-        let out = pc + 1 + 1 + 1 + 1 in
-        let first = out + 1 in
-        let turns = turns_list (t ∷ ts) out first in
-        let end = first + length turns + 1 in
-        let all = cycle_long (t ∷ ts) pc in
-        let at_end : end < size = omega (arith, le, all) in
-        let at_first : first < size = omega (arith, le, all) in (
-          refl,
-          (
-            refl,
-            (
-              refl,
-              (
-                lt-ltb first size at_first,
-                (
-                  lt-ltb end size at_end,
-                  join turns (Bnez 4 first ∷ [])
-                      (turns_legal (t ∷ ts) out first h (omega (arith, at_first))
-                      (omega (arith, at_end))) (lt-ltb first size at_first, tt),
-                ),
-              ),
-            ),
-          ),
-        )
     step_legal (Flowed f) pc h le =
-        let is = code_of flow_uops f (pc + 7) in
-        let long : pc + 7 + flow_long flow_uops f < size = omega (
+        let at = pc + length (cleared f) in
+        let is = code_of flow_uops f at in
+        let long : at + flow_long flow_uops f < size = omega (
           arith,
           le,
-          length-append clear_code is,
-          code_long Part flow_uops f (pc + 7),
+          length-append (clear_code f) is,
+          length-map (cleared f) (λ r. SetI r 0),
+          code_long Part flow_uops f at,
         ) in
-        join clear_code is (refl, (refl, (refl, (refl, (refl, (refl, (refl, tt)))))))
-        (flow_legal head size Part flow_uops f (pc + 7) h.0 (flow_among Part IsFit (λ p. L (flow_uops p)) (λ p fit. fit flow_plan size) f h.1) long)
+        join (clear_code f) is (clear_legal (λ r. names r f) (0 ∷ 1 ∷ 2 ∷ 3 ∷ 4 ∷ 5 ∷ 6 ∷ [])
+        (refl, (refl, (refl, (refl, (refl, (refl, (refl, tt))))))))
+        (flow_legal head size Part flow_uops f at h.0 (flow_among Part IsFit (λ p. L (flow_uops p)) (λ p fit. fit flow_plan size) f h.1) long)
 
     program_legal : (ss : List (StepOf Part)) (pc : ℕ) → StepsFit ss
         → pc + length (program_code ss pc) < size → L (program_code ss pc)
@@ -603,10 +510,10 @@ module _ (head : Shape) where
         (program_legal ss (pc + length a) h.1 (omega (arith, le, length-append a b)))
 
   pub code_legal : (ss : List (StepOf Part)) → length (program_code ss 0) ≤ 4096
-      → AllParts IsPart ss → AreFew (blocks ss) → list_all step_stands (blocks ss) ≡ true
+      → AllParts IsPart ss → list_all step_stands (blocks ss) ≡ true
       → AllByRecursion (StepHasValues (IsSpot head)) (blocks ss) → AtWidths (λ n. all_rounds n ss)
       → IsLegalCode head (program_code ss 0 ++ Done ∷ [])
-  code_legal ss short parts few stand has rounds =
+  code_legal ss short parts stand has rounds =
       let is = program_code ss 0 in
       let size : length (is ++ Done ∷ []) ≡ length is + 1 = length-append is (Done ∷ []) in
       let within : length is < length (is ++ Done ∷ []) = omega (arith, size) in
@@ -617,7 +524,7 @@ module _ (head : Shape) where
       record {
         short = omega (arith, size, short);
         each = both (IsLegalAt (length (is ++ Done ∷ []))) is (Done
-            ∷ []) (program_legal (length (is ++ Done ∷ [])) ss 0 (fit_steps ss parts few stand has rounds)
+            ∷ []) (program_legal (length (is ++ Done ∷ [])) ss 0 (fit_steps ss parts stand has rounds)
             (omega (arith, size))) (refl, tt);
         last = subst (λ k. slice_get (is ++ Done ∷ []) k ≡ Some Done) e at;
       }

@@ -1,33 +1,31 @@
 -- How many instructions there are.
 use Rattle.std.proofs.Common.{◌≡◌, ℕ, ◌+◌, ◌*◌, ◌≤◌, Bool, true, false, cond, List, [], ◌∷◌, ◌++◌}
-use Rattle.std.proofs.Common.{map, length, arith, length-append}
+use Rattle.std.proofs.Common.{map, length, ap, arith, length-append}
 use Rattle.std.specs.Prelude.{sum_by}
 use Rattle.std.proofs.lemmas.List.{length-map}
 use Rattle.std.proofs.lemmas.List.Sums.{sum_by-cons}
 use Rattle.uprog_code.specs.declared.code.Uop.{Uop}
-use Rattle.uprog_code.specs.declared.code.Uop.TheVariants.{SubI, AddI, Bnez}
+use Rattle.uprog_code.specs.declared.code.Uop.TheVariants.{SetI, SubI, AddI, Bnez}
 use Rattle.loop_ir.specs.declared.ir.Sub.{Sub}
 use Rattle.loop_ir.specs.declared.ir.Sub.TheVariants.{Zero, Top, Inner as At_inner, InnerDown}
 use Rattle.loop_ir.specs.declared.ir.Sub.TheVariants.{Outer, OuterDown, Sum, DownSum, DownPlusN}
 use Rattle.loop_ir.specs.declared.ir.Sub.TheVariants.{NPlusInner, Register}
 use Rattle.loop_ir.specs.declared.ir.Count.{Count}
 use Rattle.loop_ir.specs.declared.ir.Count.TheVariants.{All as All_of, Rest}
-use Rattle.loop_ir.specs.Plain.{InnerOf, StepOf, inner_map, step_map, AllInner, AllStep, TurnOf}
-use Rattle.loop_ir.specs.Plain.{Block, turn_map, AllTurns, AllParts}
+use Rattle.loop_ir.specs.Plain.{Block, InnerOf, StepOf, inner_map, step_map, AllInner, AllStep}
+use Rattle.loop_ir.specs.Plain.{AllParts}
 use Rattle.loop_ir.specs.Plain.InnerOf.{Alone, Across}
-use Rattle.loop_ir.specs.Plain.StepOf.{Single, Along, Nest, Pairs, Alternate, Flowed}
+use Rattle.loop_ir.specs.Plain.StepOf.{Single, Along, Nest, Flowed}
 use Rattle.uprog_gen.specs.declared.plan.Plan.{Plan}
 use Rattle.uprog_gen.specs.Code.{Part, block_of_part, blocks, code_uop, init, before, after, inits}
 use Rattle.uprog_gen.specs.Code.{befores, afters, counter, body_uops, once_code, turn_code}
 use Rattle.uprog_gen.specs.Code.{enter_code, loop_code, inner_list, outside, step_code}
-use Rattle.uprog_gen.specs.Code.{turn_plan, turn_uops, either_code, either_size, turns_list}
-use Rattle.uprog_gen.specs.Code.{cycle_code}
-use Rattle.uprog_gen.specs.Code.{program_code}
-use Rattle.uprog_gen.specs.Code.{flow_plan, flow_uops, clear_code}
+use Rattle.uprog_gen.specs.Code.{program_code, flow_plan, flow_uops, clear_code}
 use Rattle.uprog_gen.specs.FlowCode.{code_of}
+use Rattle.loop_ir.specs.FlowTests.{cleared}
+use Rattle.uprog_gen.proofs.Coding.FlowMaps.{cleared_map}
 use Rattle.uprog_gen.proofs.Coding.FlowSizes.{code_long, flow_few}
 use Rattle.loop_ir.specs.Costs.{is_fixed, body_cost, inner_cost, step_cost}
-use Rattle.loop_ir.specs.Costs.{either_cost, turns_cost}
 use Rattle.loop_ir.specs.Costs.{code_cost}
 use Rattle.uprog_gen.specs.Parts.{IsPart}
 
@@ -164,51 +162,6 @@ single_few : (p : Part) → IsPart p → (fixed : Bool)
 single_few p is true = omega (arith, body_few p is)
 single_few p is false = omega (arith, once_few p is)
 
-pub either_long : (p last : Part) (end pc : ℕ)
-    → length (either_code p last end pc) ≡ either_size p last
-either_long p last end pc =
-    let post = AddI 3 1 ∷ SubI 5 1 ∷ [] in
-    omega (
-      arith,
-      length-append (turn_uops last) (Bnez 4 end ∷ (turn_uops p ++ post)),
-      length-append (turn_uops p) post,
-      length-map last.cmds (code_uop turn_plan last.block),
-      length-map p.cmds (code_uop turn_plan p.block),
-    )
-
-cmds_few : (p : Part) → IsPart p → length p.cmds ≤ body_cost p.block
-cmds_few p is = is.short
-
-pub turns_few : (ts : List (TurnOf Part)) (out pc : ℕ) → AllTurns IsPart ts
-    → length (turns_list ts out pc) ≤ sum_by either_cost (map (turn_map block_of_part) ts)
-turns_few [] out pc h = omega arith
-turns_few (t ∷ ts) out pc h =
-    let more = turns_list ts out (pc + either_size t.each t.last) in
-    omega (
-      arith,
-      length-append (either_code t.each t.last out pc) more,
-      either_long t.each t.last out pc,
-      cmds_few t.each h.0.0,
-      cmds_few t.last h.0.1,
-      turns_few ts out (pc + either_size t.each t.last) h.1,
-      sum_by-cons either_cost (turn_map block_of_part t) (map (turn_map block_of_part) ts),
-    )
-
-pub cycle_long : (ts : List (TurnOf Part)) (pc : ℕ) → length (cycle_code ts pc)
-    ≡ length (turns_list ts (pc + 1 + 1 + 1 + 1) (pc + 1 + 1 + 1 + 1 + 1)) + 6
-cycle_long ts pc =
-    let head = pc + 1 + 1 + 1 + 1 + 1 in
-    let turns = turns_list ts (pc + 1 + 1 + 1 + 1) head in
-    omega (arith, length-append turns (Bnez 4 head ∷ []))
-
-cycle_few : (ts : List (TurnOf Part)) (pc : ℕ) → AllTurns IsPart ts
-    → length (cycle_code ts pc) ≤ turns_cost (map (turn_map block_of_part) ts)
-cycle_few ts pc h = omega (
-  arith,
-  cycle_long ts pc,
-  turns_few ts (pc + 1 + 1 + 1 + 1) (pc + 1 + 1 + 1 + 1 + 1) h,
-)
-
 pub step_few : (s : StepOf Part) (pc : ℕ) → AllStep IsPart s
     → length (step_code s pc) ≤ step_cost (step_map block_of_part s)
 step_few (Single p) pc h = single_few p h (is_fixed p.block)
@@ -221,13 +174,12 @@ step_few (Nest (x ∷ xs)) pc h =
       length-append (inner_list (x ∷ xs) q) (AddI 0 1 ∷ Bnez 1 (pc + 1 + 1) ∷ []),
       inner_few (x ∷ xs) q h,
     )
-step_few (Pairs p) pc h = omega (arith, loop_few Rest p (pc + 1 + 1 + 1 + 1 + 1) h)
-step_few (Alternate []) pc h = omega arith
-step_few (Alternate (t ∷ ts)) pc h = cycle_few (t ∷ ts) pc h
 step_few (Flowed f) pc h = omega (
   arith,
-  length-append clear_code (code_of flow_uops f (pc + 7)),
-  code_long Part flow_uops f (pc + 7),
+  length-append (clear_code f) (code_of flow_uops f (pc + length (cleared f))),
+  length-map (cleared f) (λ r. SetI r 0),
+  ap length (cleared_map Part Block block_of_part f),
+  code_long Part flow_uops f (pc + length (cleared f)),
   flow_few Part Block flow_uops block_of_part body_cost IsPart flow_body_few f h,
 )
 

@@ -6,10 +6,9 @@ use Rattle.std.specs.List.{AllByRecursion}
 use Rattle.std.proofs.lemmas.List.Sums.{sum_by-cons}
 use Rattle.row_alloc.specs.declared.body.BodyCmd.{BodyCmd}
 use Rattle.row_alloc.specs.declared.body.BodyCmd.TheVariants.{Aap, Ap}
-use Rattle.loop_ir.specs.Plain.{Block, InnerOf, TurnOf, StepOf, AllInner, AllTurns, AllStep}
-use Rattle.loop_ir.specs.Plain.{AllParts}
+use Rattle.loop_ir.specs.Plain.{Block, InnerOf, StepOf, AllInner, AllStep, AllParts}
 use Rattle.loop_ir.specs.Plain.InnerOf.{Alone, Across}
-use Rattle.loop_ir.specs.Plain.StepOf.{Single, Along, Nest, Pairs, Alternate, Flowed}
+use Rattle.loop_ir.specs.Plain.StepOf.{Single, Along, Nest, Flowed}
 use Rattle.loop_ir.specs.Loops.{RoundOf}
 use Rattle.loop_ir.specs.States.{has_states}
 use Rattle.loop_ir.specs.Costs.{carries, is_copy, turn_cost, rounds_cost}
@@ -80,17 +79,10 @@ inners_settled [] h = tt
 inners_settled (Alone b ∷ xs) h = (settled b h.0, inners_settled xs h.1)
 inners_settled (Across c b ∷ xs) h = (settled b h.0, inners_settled xs h.1)
 
-turns_settled : (ts : List (TurnOf Block)) → AllTurns Carried ts → AllTurns IsSettled ts
-turns_settled [] h = tt
-turns_settled (t ∷ ts) h =
-    ((settled t.each h.0.0, settled t.last h.0.1), turns_settled ts h.1)
-
 step_settled : (s : StepOf Block) → AllStep Carried s → AllStep IsSettled s
 step_settled (Single b) h = settled b h
 step_settled (Along b) h = settled b h
 step_settled (Nest xs) h = inners_settled xs h
-step_settled (Pairs b) h = settled b h
-step_settled (Alternate ts) h = turns_settled ts h
 step_settled (Flowed f) h = flow_among Block Carried IsSettled settled f h
 
 pub all_settled : (ss : List (StepOf Block)) → AllParts Carried ss → AllParts IsSettled ss

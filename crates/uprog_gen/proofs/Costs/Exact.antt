@@ -51,6 +51,8 @@ op_width p k n = cond (spreads p) (width n k) n
 numbered_aaps : (p : WordOp) (k : Kind) (n : ℕ) → 0 < n → is_flow p ≡ false
     → rounds_sum turn_aaps (all_rounds n (placed_steps [] (program p k)))
     ≡ op_aaps p (op_width p k n)
+numbered_aaps op.Shl1 k n some other = cc
+numbered_aaps op.Shr1 k n some other = cc
 numbered_aaps op.Mul k n some other = cc
 numbered_aaps op.Div k n some other = cc
 numbered_aaps op.Rem k n some other = cc
@@ -69,6 +71,8 @@ numbered_aaps p Bit n some other = let h = sum_is turn_aaps n (placed_steps [] (
 numbered_aps : (p : WordOp) (k : Kind) (n : ℕ) → 0 < n → is_flow p ≡ false
     → rounds_sum turn_aps (all_rounds n (placed_steps [] (program p k)))
     ≡ op_aps p (op_width p k n)
+numbered_aps op.Shl1 k n some other = cc
+numbered_aps op.Shr1 k n some other = cc
 numbered_aps op.Mul k n some other = cc
 numbered_aps op.Div k n some other = cc
 numbered_aps op.Rem k n some other = cc
@@ -111,6 +115,8 @@ record TakesFlow (p : WordOp) : Type 0 where
   aps : (n : ℕ) → op_aps p n ≡ flow_aps p n
 
 takes_flow : (p : WordOp) → is_flow p ≡ true → TakesFlow p
+takes_flow op.Shl1 is = record { wide = refl; aaps = λ n. omega arith; aps = λ n. refl }
+takes_flow op.Shr1 is = record { wide = refl; aaps = λ n. omega arith; aps = λ n. refl }
 takes_flow op.Mul is = record { wide = refl; aaps = λ n. refl; aps = λ n. refl }
 takes_flow op.Div is = record { wide = refl; aaps = λ n. refl; aps = λ n. refl }
 takes_flow op.Rem is = record { wide = refl; aaps = λ n. refl; aps = λ n. refl }

@@ -1,19 +1,18 @@
 -- Where the rows of the owners lie plays no part in what a body's commands count, nor in whether they
 -- are settled.
-use Rattle.std.proofs.Common.{◌≡◌, ℕ, Bool, true, false, cond, List, [], ◌∷◌, map, ap}
+use Rattle.std.proofs.Common.{◌≡◌, ℕ, Bool, true, false, cond, List, [], ◌∷◌, ap}
 use Rattle.std.proofs.Common.{◌∙◌}
 use Rattle.std.specs.Prelude.{◌&&◌, ◌||◌, count_by}
 use Rattle.std.proofs.lemmas.Bool.{and_parts}
 use Rattle.row_alloc.specs.declared.body.BodyCmd.{BodyCmd}
-use Rattle.loop_ir.specs.Plain.{Block, StepOf, turn_map, AllParts, all_turns}
-use Rattle.loop_ir.specs.Plain.StepOf.{Single, Along, Nest, Pairs, Alternate, Flowed}
+use Rattle.loop_ir.specs.Plain.{Block, StepOf, AllParts}
+use Rattle.loop_ir.specs.Plain.StepOf.{Single, Along, Nest, Flowed}
 use Rattle.loop_ir.specs.Loops.{all_rounds}
 use Rattle.loop_ir.specs.States.{has_states, held_of}
 use Rattle.loop_ir.specs.Costs.{is_copy}
 use Rattle.loop_laws.specs.Rooms.{Room, Marked, placed_body, placed_steps}
 use Rattle.loop_laws.proofs.Alike.{HaveRows, has_like, held_like, rounds_like}
 use Rattle.loop_laws.proofs.Summed.{rounds_sum}
-use Rattle.loop_laws.proofs.TakingTurns.{turns_tested, turns_mapped}
 use Rattle.word_flow.specs.Coded.{is_aap, is_ap}
 use Rattle.uprog_gen.specs.Settled.{word_of, word_commands, held_commands, turn_count, turn_aaps}
 use Rattle.uprog_gen.specs.Settled.{turn_aps, is_known, is_settled, IsSettled}
@@ -24,8 +23,6 @@ steps_settle [] = true
 steps_settle (Single b ∷ ss) = is_settled b && steps_settle ss
 steps_settle (Along b ∷ ss) = is_settled b && steps_settle ss
 steps_settle (Nest ps ∷ ss) = false
-steps_settle (Pairs b ∷ ss) = is_settled b && steps_settle ss
-steps_settle (Alternate t ∷ ss) = all_turns is_settled t && steps_settle ss
 steps_settle (Flowed f ∷ ss) = false
 
 module _ (rooms : List Room) (rows : HaveRows rooms) where
@@ -44,16 +41,6 @@ module _ (rooms : List Room) (rows : HaveRows rooms) where
   settled_steps (Along b ∷ ss) h =
       let p = and_parts (is_settled (placed_body [] b)) (steps_settle (placed_steps [] ss)) h in
       (settled_placed b p.0, settled_steps ss p.1)
-  settled_steps (Pairs b ∷ ss) h =
-      let p = and_parts (is_settled (placed_body [] b)) (steps_settle (placed_steps [] ss)) h in
-      (settled_placed b p.0, settled_steps ss p.1)
-  settled_steps (Alternate t ∷ ss) h =
-      let p = and_parts (all_turns is_settled (map (turn_map (placed_body [])) t))
-      (steps_settle (placed_steps [] ss)) h in (
-        turns_mapped (placed_body rooms) (λ b. is_settled (placed_body [] b) ≡ true) IsSettled
-            settled_placed t (turns_tested (placed_body []) is_settled t p.0),
-        settled_steps ss p.1,
-      )
   settled_steps (Flowed f ∷ ss) h = cc
   settled_steps (Nest ps ∷ ss) h = cc
 

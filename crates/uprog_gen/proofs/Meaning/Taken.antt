@@ -21,8 +21,7 @@ use Rattle.uprog_code.specs.Shape.{Microprogram, microprogram_of}
 use Rattle.loop_ir.specs.declared.ir.LoopProgram.{LoopProgram}
 use Rattle.loop_ir.specs.declared.ir.Step.{Step}
 use Rattle.uprog_code.specs.Count.{counts_of}
-use Rattle.loop_ir.specs.declared.ir.Turn.{Turn}
-use Rattle.loop_ir.specs.Plain.{StepOf, TurnOf, Block, AllParts, block_of, turn_of, step_of, steps_of}
+use Rattle.loop_ir.specs.Plain.{StepOf, Block, AllParts, step_of, steps_of}
 use Rattle.loop_ir.specs.Plain.StepOf.{Along}
 use Rattle.loop_ir.specs.Loops.{all_rounds}
 use Rattle.loop_ir.specs.Statements.{Slots}
@@ -31,13 +30,15 @@ use Rattle.uprog_gen.specs.Does.{joined, IsCheap, AreCheap}
 use Rattle.uprog_gen.specs.Does.{total as sum_of}
 use Rattle.uprog_gen.specs.Layout.{IsLayout}
 use Rattle.uprog_gen.specs.Programs.{HaveForms, AreWritten}
-use Rattle.uprog_gen.specs.Totals.{AreExact}
-use Rattle.uprog_gen.specs.Settled.{IsSettled, rounds_counts}
-use Rattle.uprog_gen.proofs.Costs.Counted.{one_exactly, all_exactly}
+use Rattle.uprog_gen.specs.Costs.{op_aaps, op_aps}
+use Rattle.uprog_gen.specs.Totals.{AreExact, IsExactOver}
+use Rattle.uprog_gen.specs.Settled.{turn_aaps, turn_aps, IsSettled, rounds_counts}
+use Rattle.uprog_gen.proofs.Costs.Counted.{one_exactly, all_exactly, as_many, words_alone}
+use Rattle.uprog_gen.proofs.Costs.Counted.{none_to_settle}
 use Rattle.uprog_gen.proofs.Rows.Top.{both_counts}
 use Rattle.uprog_gen.specs.Graphs.{Graphed, IsGraphOf, AreGraphsOf, op_commands, graphed_ceiling}
 use Rattle.uprog_gen.specs.Graphs.{IsGraphed}
-use Rattle.uprog_gen.specs.Graphs.{AreGraphed, body_graph, turns_graph, step_graph, later, last_graph}
+use Rattle.uprog_gen.specs.Graphs.{AreGraphed, step_graph, later, last_graph}
 use Rattle.uprog_gen.specs.Graphs.{statement_graph, graphs_in}
 use Rattle.uprog_gen.proofs.Naming.Stage.{Stage, first_stage, next_stage}
 use Rattle.uprog_gen.proofs.Coding.Joined.{IsWithin}
@@ -62,18 +63,6 @@ pub last_popped : (items rest : List Step) (step : Step) → items ≡ rest ++ s
 last_popped items rest step e = ap (λ l. last_graph (map step_of l)) e
     ∙ ap last_graph (map-append step_of rest (step ∷ []))
     ∙ last_of (map step_of rest) (step_of step)
-
-turns_of_more : (turns : List (TurnOf Block)) (t : TurnOf Block)
-    → turns_graph (turns ++ t ∷ []) ≡ later (turns_graph turns) (body_graph t.each ∷ [])
-turns_of_more [] t = refl
-turns_of_more (u ∷ turns) t = ap (later (body_graph u.each ∷ [])) (turns_of_more turns t)
-    ∙ later-twice (body_graph u.each ∷ []) (turns_graph turns) (body_graph t.each ∷ [])
-
-pub turn_popped : (items rest : List Turn) (turn : Turn) → items ≡ rest ++ turn ∷ []
-    → turns_graph (map turn_of items) ≡ body_graph (block_of turn.each) ∷ []
-turn_popped items rest turn e = ap (λ l. turns_graph (map turn_of l)) e
-    ∙ ap turns_graph (map-append turn_of rest (turn ∷ []))
-    ∙ turns_of_more (map turn_of rest) (turn_of turn)
 
 -- statement after statement
 abbrev pub pair_graphs : List (Stmt × LoopProgram) → List Graphed
@@ -178,6 +167,19 @@ module _ (op : Operation) (meets : OperationMeets op) (slots : Slots) (free_bit 
       (inl (h.0.cost n some))
       (few_rounds n some small rest (next_context c s) (next_stage op c s rest st) ps h.1 w.1))
 
+  -- the entry takes the commands of its parts
+  pub entry_exact : (ps : List (List (StepOf Block)))
+      → AreWritten slots free_bit free_word op.body ps → (e : Microprogram)
+      → ((n : ℕ) → 0 < n → n ≤ WIDTH_MAX → AllParts IsSettled (joined ps)
+      → counts_of (issues_of (trace e.shape e.code n)) ≡ rounds_counts (all_rounds n (joined ps)))
+      → IsExactOver e op ps
+  entry_exact ps written e exact = record {
+    exact = λ settled n some small.
+        (let all = all_exactly op meets slots free_bit free_word is op.body (at_start op)
+        (first_stage op meets) ps written settled in
+        exact n some small all.settled ∙ both_counts (all.aaps n some small) (all.aps n some small));
+  }
+
   pub entry_graphed : (ps : List (List (StepOf Block))) → HaveForms slots op.body ps
       → AreWritten slots free_bit free_word op.body ps → (e : Microprogram)
       → IsWithin e.shape ps e.code
@@ -191,9 +193,10 @@ module _ (op : Operation) (meets : OperationMeets op) (slots : Slots) (free_bit 
         omega (arith, few n some small k.ceilings k.cheap, k.total));
     exact = record {
       exact = λ words n some small.
-          (let all = all_exactly op meets slots free_bit free_word is op.body (at_start op)
-          (first_stage op meets) ps written words in
-          exact n some small all.settled ∙ both_counts (all.aaps n some small) (all.aps n some small));
+          (let many = as_many slots free_bit free_word op.body ps written in
+          (entry_exact ps written e exact).exact (none_to_settle op.body ps words) n some small
+          ∙ both_counts (words_alone op_aaps turn_aaps op.params n op.body ps many words)
+          (words_alone op_aps turn_aps op.params n op.body ps many words));
     };
   }
 

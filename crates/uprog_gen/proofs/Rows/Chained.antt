@@ -6,14 +6,13 @@ use Rattle.std.specs.List.{list_all}
 use Rattle.std.proofs.lemmas.Bool.{and_parts, and_from}
 use Rattle.loop_ir.specs.declared.ir.Count.{Count}
 use Rattle.loop_ir.specs.declared.ir.Count.TheVariants.{All, Rest}
-use Rattle.loop_ir.specs.Plain.{Block, InnerOf, StepOf, TurnOf}
+use Rattle.loop_ir.specs.Plain.{Block, InnerOf, StepOf}
 use Rattle.loop_ir.specs.Plain.InnerOf.{Alone, Across}
-use Rattle.loop_ir.specs.Plain.StepOf.{Single, Along, Nest, Pairs, Alternate, Flowed}
+use Rattle.loop_ir.specs.Plain.StepOf.{Single, Along, Nest, Flowed}
 use Rattle.loop_ir.specs.Loops.{RoundOf, one_round, rounds, positions, inner_rounds, all_rounds}
-use Rattle.loop_ir.specs.Loops.{turns_from, step_rounds, flow_rounds}
+use Rattle.loop_ir.specs.Loops.{step_rounds, flow_rounds}
 use Rattle.loop_ir.specs.Chains.{states_in, is_alive, finds, left_by, loop_finds, inner_left}
-use Rattle.loop_ir.specs.Chains.{inner_finds, steps_find, turns_left, turns_find, chained}
-use Rattle.loop_ir.specs.Chains.{flow_finds}
+use Rattle.loop_ir.specs.Chains.{inner_finds, steps_find, chained, flow_finds}
 use Rattle.uprog_gen.proofs.Coding.FlowMaps.{one_width}
 use Rattle.bit_rows.specs.declared.TheConstants.{WIDTH_MAX}
 
@@ -147,13 +146,6 @@ across_count : (n o : ℕ) (c : Count) (alive : List ℕ) (b : Block) → o < n
 across_count n o All alive b l h = across alive b o n h (omega arith)
 across_count n o Rest alive b l h = across alive b o (n - o) h (omega arith)
 
--- a loop that may have no round
-maybe : (alive : List ℕ) (b : Block) (o count : ℕ) → loop_finds alive b ≡ true
-    → Chains alive [] (rounds (λ i. one_round b i o) 0 count)
-maybe alive b o zero h = fewer alive alive [] [] (none_within alive) (nothing alive)
-maybe alive b o (suc m) h = fewer alive (left_by b) [] (rounds (λ i. one_round b i o) 0 (suc m))
-    (none_within (left_by b)) (across alive b o (suc m) h (omega arith))
-
 inners : (n o : ℕ) (ps : List (InnerOf Block)) (alive : List ℕ) → o < n
     → inner_finds alive ps ≡ true → Chains alive (inner_left alive ps) (inner_rounds n o ps)
 inners n o [] alive l h = nothing alive
@@ -166,44 +158,6 @@ inners n o (Across c b ∷ ps) alive l h =
     join alive (left_by b) (inner_left (left_by b) ps)
     (rounds (λ i. one_round b i o) 0 (positions n o c)) (inner_rounds n o ps)
     (across_count n o c alive b l p.0) (inners n o ps (left_by b) l p.1)
-
--- bodies that take turns: one that has had its turn stands behind the others
-left_behind : (ts : List (TurnOf Block)) (t : TurnOf Block) (alive : List ℕ)
-    → turns_left alive (ts ++ (t ∷ [])) ≡ left_by t.each
-left_behind [] t alive = refl
-left_behind (u ∷ us) t alive = left_behind us t (left_by u.each)
-
-find_behind : (ts : List (TurnOf Block)) (t : TurnOf Block) (alive : List ℕ)
-    → turns_find alive ts ≡ true
-    → (finds (turns_left alive ts) t.each && finds (turns_left alive ts) t.last) ≡ true
-    → turns_find alive (ts ++ (t ∷ [])) ≡ true
-find_behind [] t alive h k = and_from (finds alive t.each && finds alive t.last) true k refl
-find_behind (u ∷ us) t alive h k =
-    let p = and_parts (finds alive u.each && finds alive u.last) (turns_find (left_by u.each) us) h
-    in
-    and_from (finds alive u.each && finds alive u.last) _ p.0
-    (find_behind us t (left_by u.each) p.1 k)
-
-by_turns : (ts : List (TurnOf Block)) (i count : ℕ) (alive : List ℕ) → turns_find alive ts ≡ true
-    → turns_find (turns_left alive ts) ts ≡ true → Chains alive [] (turns_from ts i count)
-by_turns [] i count alive h k = fewer alive alive [] [] (none_within alive) (nothing alive)
-by_turns (t ∷ ts) i zero alive h k =
-    let p = and_parts (finds alive t.each && finds alive t.last) _ h in
-    let q = and_parts (finds alive t.each) (finds alive t.last) p.0 in
-    fewer alive (left_by t.last) [] (one_round t.last i 0)
-    (none_within (left_by t.last)) (once alive t.last i 0 q.1)
-by_turns (t ∷ ts) i (suc count) alive h k =
-    let left = left_by t.each in
-    let more = ts ++ (t ∷ []) in
-    let p = and_parts (finds alive t.each && finds alive t.last) (turns_find left ts) h in
-    let q = and_parts (finds alive t.each) (finds alive t.last) p.0 in
-    let r = and_parts (finds (turns_left left ts) t.each && finds (turns_left left ts) t.last) _ k
-    in
-    let next : turns_find left more ≡ true = find_behind ts t left p.1 r.0 in
-    join alive left [] (one_round t.each i 0) (turns_from more (i + 1) count)
-    (once alive t.each i 0 q.0)
-    (by_turns more (i + 1) count left next
-    (subst (λ l. turns_find l more ≡ true) (sym (left_behind ts t left)) next))
 
 module _ (n : ℕ) (ps : List (InnerOf Block)) (alive : List ℕ)
     (finds_first : inner_finds alive ps ≡ true)
@@ -234,22 +188,6 @@ steps_chained n (Along b ∷ ss) alive some small h =
     both_chained rs (all_rounds n ss) alive c.need
     (more_chained (all_rounds n ss) (left_by b) (left_after alive rs) c.left_in
     (steps_chained n ss (left_by b) some small p.1))
-steps_chained n (Pairs b ∷ ss) alive some small h =
-    let p = and_parts (loop_finds alive b) (steps_find [] ss) h in
-    let rs = rounds (λ i. one_round b i 1) 0 (n - 1) in
-    let c = maybe alive b 1 (n - 1) p.0 in
-    both_chained rs (all_rounds n ss) alive c.need
-    (more_chained (all_rounds n ss) [] (left_after alive rs) c.left_in
-    (steps_chained n ss [] some small p.1))
-steps_chained n (Alternate t ∷ ss) alive some small h =
-    let p = and_parts (turns_find alive t) (turns_find (turns_left alive t) t && steps_find [] ss) h
-    in
-    let q = and_parts (turns_find (turns_left alive t) t) (steps_find [] ss) p.1 in
-    let rs = turns_from t 0 (n - 1) in
-    let c = by_turns t 0 (n - 1) alive p.0 q.0 in
-    both_chained rs (all_rounds n ss) alive c.need
-    (more_chained (all_rounds n ss) [] (left_after alive rs) c.left_in
-    (steps_chained n ss [] some small q.1))
 steps_chained n (Nest ps ∷ ss) alive some small h =
     let mid = inner_left alive ps in
     let left = inner_left mid ps in
@@ -292,21 +230,6 @@ inner_within [] xs ys w = w
 inner_within (Alone b ∷ ps) xs ys w = λ v e. e
 inner_within (Across c b ∷ ps) xs ys w = λ v e. e
 
-turns_still : (ts : List (TurnOf Block)) (xs ys : List ℕ) → Within xs ys
-    → turns_find xs ts ≡ true → turns_find ys ts ≡ true
-turns_still [] xs ys w h = refl
-turns_still (t ∷ ts) xs ys w h =
-    let p = and_parts (finds xs t.each && finds xs t.last) (turns_find (left_by t.each) ts) h in
-    let q = and_parts (finds xs t.each) (finds xs t.last) p.0 in
-    and_from (finds ys t.each && finds ys t.last) (turns_find (left_by t.each) ts)
-    (and_from (finds ys t.each) (finds ys t.last) (more_find (states_in t.each.reads) xs ys w q.0)
-    (more_find (states_in t.last.reads) xs ys w q.1)) p.1
-
-turns_within : (ts : List (TurnOf Block)) (xs ys : List ℕ) → Within xs ys
-    → Within (turns_left xs ts) (turns_left ys ts)
-turns_within [] xs ys w = w
-turns_within (t ∷ ts) xs ys w = λ v e. e
-
 still_find : (ss : List (StepOf Block)) (xs ys : List ℕ) → Within xs ys
     → steps_find xs ss ≡ true → steps_find ys ss ≡ true
 still_find [] xs ys w h = refl
@@ -317,17 +240,6 @@ still_find (Single b ∷ ss) xs ys w h =
 still_find (Along b ∷ ss) xs ys w h =
     let p = and_parts (loop_finds xs b) (steps_find (left_by b) ss) h in
     and_from (loop_finds ys b) (steps_find (left_by b) ss) (loop_still b xs ys w p.0) p.1
-still_find (Pairs b ∷ ss) xs ys w h =
-    let p = and_parts (loop_finds xs b) (steps_find [] ss) h in
-    and_from (loop_finds ys b) (steps_find [] ss) (loop_still b xs ys w p.0) p.1
-still_find (Alternate ts ∷ ss) xs ys w h =
-    let m = turns_left xs ts in
-    let k = turns_left ys ts in
-    let p = and_parts (turns_find xs ts) (turns_find m ts && steps_find [] ss) h in
-    let q = and_parts (turns_find m ts) (steps_find [] ss) p.1 in
-    and_from (turns_find ys ts) (turns_find k ts && steps_find [] ss) (turns_still ts xs ys w p.0)
-    (and_from (turns_find k ts) (steps_find [] ss)
-    (turns_still ts m k (turns_within ts xs ys w) q.0) q.1)
 still_find (Nest ps ∷ ss) xs ys w h =
     let m = inner_left xs ps in
     let k = inner_left ys ps in
@@ -353,15 +265,6 @@ find_both (Along b ∷ ss) ys alive h k =
     let p = and_parts (loop_finds alive b) (steps_find (left_by b) ss) h in
     and_from (loop_finds alive b) (steps_find (left_by b) (ss ++ ys)) p.0
     (find_both ss ys (left_by b) p.1 k)
-find_both (Pairs b ∷ ss) ys alive h k =
-    let p = and_parts (loop_finds alive b) (steps_find [] ss) h in
-    and_from (loop_finds alive b) (steps_find [] (ss ++ ys)) p.0 (find_both ss ys [] p.1 k)
-find_both (Alternate ts ∷ ss) ys alive h k =
-    let m = turns_left alive ts in
-    let p = and_parts (turns_find alive ts) (turns_find m ts && steps_find [] ss) h in
-    let q = and_parts (turns_find m ts) (steps_find [] ss) p.1 in
-    and_from (turns_find alive ts) (turns_find m ts && steps_find [] (ss ++ ys)) p.0
-    (and_from (turns_find m ts) (steps_find [] (ss ++ ys)) q.0 (find_both ss ys [] q.1 k))
 find_both (Nest ps ∷ ss) ys alive h k =
     let m = inner_left alive ps in
     let left = inner_left m ps in

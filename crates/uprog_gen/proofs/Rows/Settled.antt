@@ -1,6 +1,6 @@
 -- Where bodies are settled, so are the numbers of all commands.
 use Rattle.std.proofs.Common.{◌≡◌, ℕ, ◌+◌, Bool, true, false, cond, List, [], ◌∷◌}
-use Rattle.std.proofs.Common.{map, refl, sym, ap, ◌∙◌, subst, arith, Option, Some}
+use Rattle.std.proofs.Common.{map, refl, sym, ap, ◌∙◌, subst, Option, Some}
 use Rattle.std.proofs.Common.{None}
 use Rattle.std.specs.Prelude.{◌||◌, count_by, sum_by}
 use Rattle.std.specs.List.{AllByRecursion}
@@ -12,10 +12,10 @@ use Rattle.row_alloc.specs.declared.body.BodyCmd.{BodyCmd}
 use Rattle.row_alloc.specs.declared.body.BodyCmd.TheVariants.{Aap, Ap}
 use Rattle.row_alloc.specs.Known.{WordBody, Inverted, Both, Either, Unlike, Chosen, Added}
 use Rattle.row_alloc.specs.Known.{inputs_in, nodes_in, outs_in}
-use Rattle.loop_ir.specs.Plain.{Block, InnerOf, TurnOf, StepOf, inner_map, turn_map, step_map}
-use Rattle.loop_ir.specs.Plain.{AllInner, AllTurns, AllStep, AllParts}
+use Rattle.loop_ir.specs.Plain.{Block, InnerOf, StepOf, inner_map, step_map, AllInner, AllStep}
+use Rattle.loop_ir.specs.Plain.{AllParts}
 use Rattle.loop_ir.specs.Plain.InnerOf.{Alone, Across}
-use Rattle.loop_ir.specs.Plain.StepOf.{Single, Along, Nest, Pairs, Alternate, Flowed}
+use Rattle.loop_ir.specs.Plain.StepOf.{Single, Along, Nest, Flowed}
 use Rattle.uprog_gen.proofs.Coding.FlowMaps.{flow_parts}
 use Rattle.loop_ir.specs.Loops.{RoundOf}
 use Rattle.loop_ir.specs.States.{has_states, held_of}
@@ -72,18 +72,11 @@ inner_parts P [] h = tt
 inner_parts P (Alone p ∷ xs) h = (h.0, inner_parts P xs h.1)
 inner_parts P (Across c p ∷ xs) h = (h.0, inner_parts P xs h.1)
 
-turns_parts : (P : Block → Type 0) (ts : List (TurnOf Part))
-    → AllTurns P (map (turn_map block_of_part) ts) → AllTurns (λ p. P p.block) ts
-turns_parts P [] h = tt
-turns_parts P (t ∷ ts) h = (h.0, turns_parts P ts h.1)
-
 step_parts : (P : Block → Type 0) (s : StepOf Part) → AllStep P (step_map block_of_part s)
     → AllStep (λ p. P p.block) s
 step_parts P (Single p) h = h
 step_parts P (Along p) h = h
 step_parts P (Nest xs) h = inner_parts P xs h
-step_parts P (Pairs p) h = h
-step_parts P (Alternate ts) h = turns_parts P ts h
 step_parts P (Flowed f) h = flow_parts Part Block block_of_part P f h
 
 pub of_blocks : (P : Block → Type 0) (ss : List (StepOf Part)) → AllParts P (blocks ss)

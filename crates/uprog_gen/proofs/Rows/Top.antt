@@ -22,7 +22,7 @@ use Rattle.loop_ir.specs.declared.ir.Space.TheVariants.{Result, Source, ScratchB
 use Rattle.loop_ir.specs.declared.ir.Space.TheVariants.{Cells}
 use Rattle.loop_ir.specs.Plain.{Block, InnerOf, StepOf, AllInner, AllStep, AllParts}
 use Rattle.loop_ir.specs.Plain.InnerOf.{Alone, Across}
-use Rattle.loop_ir.specs.Plain.StepOf.{Single, Along, Nest, Pairs, Alternate, Flowed}
+use Rattle.loop_ir.specs.Plain.StepOf.{Single, Along, Nest, Flowed}
 use Rattle.loop_ir.specs.Flows.{zeros}
 use Rattle.loop_laws.proofs.FlowRounds.{run_all}
 use Rattle.loop_laws.proofs.RoundsMap.{all_rounds_map}
@@ -32,7 +32,6 @@ use Rattle.uprog_gen.specs.Code.{Part, block_of_part, blocks}
 use Rattle.uprog_gen.proofs.Rows.Issued.{round_command, rounds_commands}
 use Rattle.uprog_gen.specs.Code.{program_code}
 use Rattle.loop_ir.specs.Limits.{IsRound, step_stands}
-use Rattle.loop_laws.proofs.TakingTurns.{turns_rounds}
 use Rattle.uprog_gen.proofs.Rows.Rounds.{block_round}
 use Rattle.uprog_gen.specs.Parts.{IsPart}
 use Rattle.loop_ir.specs.Costs.{turn_cost, rounds_cost}
@@ -81,8 +80,6 @@ module _ (A : Type 0) (P : A → Type 0) where
   step_parts n (Along p) h = all_rounds_of In (λ i. one_round p i 0) (λ i. (h, tt)) 0 n
   step_parts n (Nest parts) h = all_rounds_of In (λ o. inner_rounds n o parts) (λ o.
       inner_parts n o parts h) 0 n
-  step_parts n (Pairs p) h = all_rounds_of In (λ i. one_round p i 1) (λ i. (h, tt)) 0 (n - 1)
-  step_parts n (Alternate t) h = turns_rounds In t 0 (n - 1) (n - 1) (omega arith) (λ j le. h)
   step_parts n (Flowed f) h = run_all A P n f h zeros
 
   pub in_rounds : (n : ℕ) (ss : List (StepOf A)) → AllParts P ss

@@ -41,6 +41,11 @@ pub record Names (n : ℕ) (plan : Plan) (b : Block) (i o : ℕ) (g regs : List 
   pub writes : (k : ℕ) → slice_index regs (register plan (nth_place b.writes k).sub)
       ≡ sub_value n i o g (nth_place b.writes k).sub
 
+-- the round's commands are in range
+abbrev pub InRange : Shape → ℕ → RoundOf Part → Type 0
+InRange head n r = AllByRecursion (λ c. all_in_range head n c ≡ true)
+    (map (round_command n r) r.part.cmds)
+
 module _ (head : Shape) (code : List Uop) (n : ℕ) where
   at_value : (s : Sub) (i o v : ℕ) → same_sub s Zero ≡ false → same_sub s Outer ≡ false
       → same_sub s OuterDown ≡ false → IsAt head code n s i o v → v ≡ sub_value n i o [] s

@@ -2,10 +2,10 @@
 use Rattle.std.proofs.Common.{◌≡◌, ℕ, zero, suc, ◌+◌, ◌-◌, ◌*◌, ◌<◌, ◌≤◌, Bool, true, false}
 use Rattle.std.proofs.Common.{cond, List, [], ◌∷◌, ◌++◌, map, length, Some, refl, sym, ap, ◌∙◌}
 use Rattle.std.proofs.Common.{subst, ⊎_elim, arith, append-nil, append_assoc, length-append}
-use Rattle.std.specs.Prelude.{slice_get, slice_index, ◌==◌}
+use Rattle.std.specs.Prelude.{slice_get, slice_index}
 use Rattle.std.specs.List.{AllByRecursion, list_all}
 use Rattle.std.proofs.Math.Nat.{mul-le-mul_right}
-use Rattle.std.proofs.lemmas.Bool.{cases_eq, and_parts, eq-eqb, ne_eqb}
+use Rattle.std.proofs.lemmas.Bool.{cases_eq, and_parts}
 use Rattle.uprog_code.specs.Machine.{Issue, Ended, issue, act_at, onto, trace, start}
 use Rattle.uprog_code.specs.declared.code.Uop.{Uop}
 use Rattle.uprog_code.specs.declared.code.Uop.TheVariants.{Done, SetI, SetT, AddI, Bnez}
@@ -18,28 +18,24 @@ use Rattle.loop_ir.specs.declared.ir.Place.{Place}
 use Rattle.loop_ir.specs.declared.ir.Count.{Count}
 use Rattle.loop_ir.specs.declared.ir.Count.TheVariants.{All as All_of, Rest}
 use Rattle.loop_ir.specs.Plain.{InnerOf, StepOf, step_map}
-use Rattle.loop_ir.specs.Limits.{stays_inner, step_stands}
+use Rattle.loop_ir.specs.Limits.{step_stands}
 use Rattle.loop_ir.specs.Plain.InnerOf.{Alone, Across}
-use Rattle.loop_ir.specs.Plain.StepOf.{Single, Along, Nest, Pairs, Alternate, Flowed}
+use Rattle.loop_ir.specs.Plain.StepOf.{Single, Along, Nest, Flowed}
 use Rattle.loop_ir.specs.Spots.{nth_place}
 use Rattle.uprog_gen.specs.Code.{Part, IsPlanned, inits, befores, enter_code, turn_code, body_uops}
 use Rattle.uprog_gen.specs.Code.{once_code, loop_code, inner_code, inner_list, nest_code, outside}
-use Rattle.uprog_gen.specs.Code.{block_of_part, blocks, guard_code, pairs_code, cycle_code}
-use Rattle.uprog_gen.specs.Code.{step_code, program_code}
-use Rattle.uprog_gen.proofs.Coding.Sizes.{cycle_long}
-use Rattle.loop_laws.proofs.TakingTurns.{turns_tested}
+use Rattle.uprog_gen.specs.Code.{block_of_part, blocks, step_code, program_code}
 use Rattle.uprog_gen.proofs.Rows.Issued.{round_command}
 use Rattle.uprog_gen.proofs.Rows.Issued.{rounds_commands}
 use Rattle.loop_ir.specs.Costs.{is_fixed, same_sub}
 use Rattle.uprog_gen.proofs.Running.Runs.{Runs, run_then, run_none, run_weaken, run_at, run_set}
-use Rattle.uprog_gen.proofs.Running.Runs.{run_parts, run_sub, run_jump, run_more}
-use Rattle.uprog_gen.proofs.Running.Turns.{InRange, run_cycle}
+use Rattle.uprog_gen.proofs.Running.Runs.{run_parts, run_more}
 use Rattle.uprog_gen.proofs.Running.FlowStep.{run_flow}
 use Rattle.uprog_gen.proofs.Running.Each.{AtBody, AtTop, IsOuter, run_each, run_inits}
 use Rattle.uprog_gen.proofs.Running.Each.{run_befores}
 use Rattle.uprog_gen.proofs.Running.Nest.{run_nest}
 use Rattle.loop_laws.proofs.Same.{sub_true}
-use Rattle.uprog_gen.proofs.Running.Held.{names_at, names_fixed, run_body}
+use Rattle.uprog_gen.proofs.Running.Held.{InRange, names_at, names_fixed, run_body}
 use Rattle.bit_rows.specs.declared.TheConstants.{WIDTH_MAX}
 use Rattle.uprog_code.specs.declared.TheConstants.{WALK_MAX}
 
@@ -285,119 +281,6 @@ module _ (head : Shape) (code : List Uop) (n : ℕ) (some : 0 < n) (small : n �
       grow : (x : ℕ) → 2 + x ≤ most_turns * suc (suc x)
       grow x = omega arith
 
-  -- register 0 has 1, and register 1 the top position
-  abbrev Ready : List ℕ → Type 0
-  Ready r = (length r ≡ 8) × (slice_index r 0 ≡ 1) × (slice_index r 1 ≡ n - 1)
-
-  run_ready : (pc : ℕ) (regs : List ℕ) → length regs ≡ 8 → slice_get code pc ≡ Some (SetI 0 1)
-      → slice_get code (pc + 1) ≡ Some (SetT 1)
-      → Runs head code n pc regs 2 [] (pc + 1 + 1) Ready
-  run_ready pc regs size at0 at1 =
-      run_then head code n pc (pc + 1) (pc + 1 + 1) 1 1 2 regs [] [] _ Ready refl
-      (run_set head code n pc 0 1 (λ v. v ≡ 1) regs (SetI 0 1) at0 (λ left. refl)
-      (omega (arith, size)) refl)
-      (λ r c. run_weaken head code n (pc + 1) (pc + 1 + 1) r 1 [] _ Ready (λ x d. (
-        d.size ∙ c.size ∙ size,
-        d.others 0 (λ e. absurd (omega arith)) ∙ c.this,
-        d.this,
-      ))
-      (run_set head code n (pc + 1) 1 (n - 1) (λ v. v ≡ n - 1) r (SetT 1) at1 (λ left. refl)
-      (omega (arith, c.size, size)) refl))
-
-  -- past a loop that has no round
-  guard_past : (pc end : ℕ) (regs : List ℕ) (rest : List Uop) → length regs ≡ 8 → n ≡ 1
-      → HasAt code pc (guard_code pc end ++ rest) → Runs head code n pc regs 4 [] end Eight
-  guard_past pc end regs rest size one has =
-      let q = pc + 1 + 1 in
-      run_then head code n pc q end 2 2 4 regs [] [] Ready Eight refl
-      (run_ready pc regs size has.0 has.1.0)
-      (λ r h. run_then head code n q (q + 1) end 1 1 2 r [] [] Ready Eight refl
-      (run_jump head code n q 1 (q + 1 + 1) r true Ready has.1.1.0
-      (ap (λ v. v == 0) h.2 ∙ eq-eqb (n - 1) 0 (omega (arith, one))) h)
-      (λ x k. run_weaken head code n (q + 1) end x 1 [] Ready Eight (λ y l. l.0)
-      (run_jump head code n (q + 1) 0 end x false Ready has.1.1.1.0
-      (ap (λ v. v == 0) k.1) k)))
-
-  -- on to one that has rounds
-  guard_on : (pc end : ℕ) (regs : List ℕ) (rest : List Uop) → length regs ≡ 8 → 1 < n
-      → HasAt code pc (guard_code pc end ++ rest)
-      → Runs head code n pc regs 3 [] (pc + 1 + 1 + 1 + 1) Ready
-  guard_on pc end regs rest size two has =
-      let q = pc + 1 + 1 in
-      run_then head code n pc q (q + 1 + 1) 2 1 3 regs [] [] Ready Ready refl
-      (run_ready pc regs size has.0 has.1.0)
-      (λ r h. run_jump head code n q 1 (q + 1 + 1) r false Ready has.1.1.0
-      (ap (λ v. v == 0) h.2 ∙ ne_eqb (n - 1) 0 (λ e. omega (arith, e, two))) h)
-
-  -- a body at each position that has one above it
-  module _ (p : Part) (pc : ℕ) (regs : List ℕ) (size : length regs ≡ 8)
-      (has : HasAt code pc (pairs_code p pc)) where
-    abbrev Loop : List Uop
-    Loop = loop_code Rest p (pc + 1 + 1 + 1 + 1 + 1)
-
-    abbrev Rounds : List (RoundOf Part)
-    Rounds = rounds (λ i. one_round p i 1) 0 (n - 1)
-
-    -- there is one: on to the loop
-    run_on : 1 < n → AllByRecursion (IsGood head n) Rounds
-        → Runs head code n pc regs (4 + n * length Loop) (rounds_commands n Rounds)
-        (pc + 1 + 1 + 1 + 1 + 1 + length Loop) (IsOuter n 1)
-    run_on two ok =
-        let first = pc + 1 + 1 + 1 + 1 in
-        let loop = first + 1 in
-        let end = loop + length Loop in
-        let cs = rounds_commands n Rounds in
-        run_then head code n pc first end 3 (1 + n * length Loop) (4 + n * length Loop) regs [] cs
-        Ready (IsOuter n 1) (omega arith) (guard_on pc end regs Loop size two has)
-        (λ x k. run_then head code n first loop end 1 (n * length Loop) (1 + n * length Loop) x []
-        cs (IsOuter n 1) (IsOuter n 1) refl
-        (run_weaken head code n first loop x 1 [] _ (IsOuter n 1) (λ y d. record {
-          size = d.size ∙ k.0;
-          outer = d.others 0 (λ e. absurd (omega arith)) ∙ k.1;
-          down = d.this;
-        })
-        (run_sub head code n first 1 1 (λ v. v ≡ n - 1 - 1) x has.1.1.1.1.0
-        (omega (arith, k.2, two)) (omega (arith, k.0)) (omega (arith, k.2))))
-        (λ y g. run_loop_of Rest p loop 1 y two g has.1.1.1.1.1 ok))
-
-    -- there is none: past the loop
-    run_past : n ≡ 1 → Runs head code n pc regs 4 [] (pc + 1 + 1 + 1 + 1 + 1 + length Loop) Eight
-    run_past one = guard_past pc (pc + 1 + 1 + 1 + 1 + 1 + length Loop) regs Loop size one has
-
-    run_pairs : AllByRecursion (IsGood head n) Rounds
-        → Runs head code n pc regs (most_turns * length (pairs_code p pc))
-        (rounds_commands n Rounds) (pc + length (pairs_code p pc)) Eight
-    run_pairs ok = ⊎_elim
-        (λ (one : n ≡ 1). let none : n - 1 ≡ 0 = omega (arith, one) in
-        subst (λ l. Runs head code n pc regs (most_turns * length (pairs_code p pc)) l
-        (pc + length (pairs_code p pc)) Eight)
-        (ap (λ k. rounds_commands n (rounds (λ i. one_round p i 1) 0 k)) (sym none))
-        (run_at head code n pc (pc + 1 + 1 + 1 + 1 + 1 + length Loop)
-        (pc + length (pairs_code p pc)) regs (most_turns * length (pairs_code p pc)) [] Eight at_end
-        (run_more head code n pc (pc + 1 + 1 + 1 + 1 + 1 + length Loop) regs 4
-        (most_turns * length (pairs_code p pc)) [] Eight (few (length Loop)) (run_past one))))
-        (λ (more : n ≡ 1 → ⊥).
-        run_at head code n pc (pc + 1 + 1 + 1 + 1 + 1 + length Loop)
-        (pc + length (pairs_code p pc)) regs (most_turns * length (pairs_code p pc))
-        (rounds_commands n Rounds) Eight at_end
-        (run_more head code n pc (pc + 1 + 1 + 1 + 1 + 1 + length Loop) regs (4 + n * length Loop)
-        (most_turns * length (pairs_code p pc)) (rounds_commands n Rounds) Eight
-        (grow (length Loop) small)
-        (run_weaken head code n pc (pc + 1 + 1 + 1 + 1 + 1 + length Loop) regs
-        (4 + n * length Loop) (rounds_commands n Rounds) (IsOuter n 1) Eight (λ x y. y.size)
-        (run_on (omega (arith, some, more)) ok))))
-        (cases_eq n 1)
-      where
-        at_end : pc + 1 + 1 + 1 + 1 + 1 + length Loop
-            ≡ pc + suc (suc (suc (suc (suc (length Loop)))))
-        at_end = omega arith
-
-        few : (x : ℕ) → 4 ≤ most_turns * suc (suc (suc (suc (suc x))))
-        few x = omega arith
-
-        grow : (x : ℕ) → n ≤ WIDTH_MAX → 4 + n * x ≤ most_turns * suc (suc (suc (suc (suc x))))
-        grow x h = let k : n * x ≤ WIDTH_MAX * x = mul-le-mul_right x h in omega (arith, k)
-
   run_step : (s : StepOf Part) (pc : ℕ) (regs : List ℕ) → length regs ≡ 8
       → length (step_code s pc) ≤ 4096 → step_stands (step_map block_of_part s) ≡ true
       → HasAt code pc (step_code s pc) → AllByRecursion (IsGood head n) (step_rounds n s)
@@ -447,20 +330,6 @@ module _ (head : Shape) (code : List Uop) (n : ℕ) (some : 0 < n) (small : n �
       grow n x size h e s = rw e (let k : n * x ≤ WIDTH_MAX * x = mul-le-mul_right x h in
           let l : n * (n * x + 3) ≤ WIDTH_MAX * (n * x + 3) = mul-le-mul_right (n * x + 3) h in
           omega (arith, k, l, e, s))
-  run_step (Pairs p) pc regs size short stand has ok = run_pairs p pc regs size has ok
-  run_step (Alternate []) pc regs size short stand has ok =
-      run_none head code n pc (pc + 0) regs Eight (omega arith) size
-  run_step (Alternate (t ∷ ts)) pc regs size short stand has ok =
-      let long = length (cycle_code (t ∷ ts) pc) in
-      let stays = turns_tested block_of_part stays_inner (t ∷ ts) stand in
-      run_more head code n pc (pc + long) regs (4 + n * long) (most_turns * long) _ Eight
-      (grow n long small (omega (arith, cycle_long (t ∷ ts) pc)))
-      (run_cycle head code n some small t ts pc regs size stays has
-      (ranges_of head n (step_rounds n (Alternate (t ∷ ts))) ok))
-    where
-      grow : (n x : ℕ) → n ≤ WIDTH_MAX → 4 ≤ x → 4 + n * x ≤ most_turns * x
-      grow n x h four = let k : n * x ≤ WIDTH_MAX * x = mul-le-mul_right x h in
-          omega (arith, k, four)
   run_step (Flowed f) pc regs size short stand has ok =
       run_flow head code n some small f pc regs size short stand has
       (ranges_of head n (step_rounds n (Flowed f)) ok)

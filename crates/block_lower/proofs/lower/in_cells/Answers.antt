@@ -4,7 +4,7 @@ use Rattle.loop_ir.specs.Statements.{slots_of}
 use Rattle.loop_ir.specs.Plain.{block_of, steps_of}
 use Rattle.block_lower.specs.Choice.{IsOther}
 use Rattle.block_lower.specs.Held.{IsLoopFor}
-use Rattle.block_lower.proofs.OneCell.{loop-in-cells, some-weaker, one-item}
+use Rattle.block_lower.proofs.OneCell.{loop-chosen, some-weaker, one-item}
 use Rattle.block_lower.proofs.lower.in_cells.Goals as goal
 
 -- that of another
@@ -28,7 +28,7 @@ returns-in-Some c =
     c.in-Some.is e.held) in
     let here = subst (λ p. IsLoopFor p s.start (block_of r.body) (length body.found) r.held)
     c.place_of-place.ensures l in
-    IfOk-weaker c.into_program.result _ _ (λ o. some-weaker o _ _ (λ p f. loop-in-cells
+    IfOk-weaker c.into_program.result _ _ (λ o. some-weaker o _ _ (λ p f. loop-chosen
     (slots_of c.args.names.now) c.args.down c.args.states.now s body (block_of r.body) r.held
     (steps_of p) one here (inr is) f)) c.into_program.ensures
 
@@ -50,6 +50,6 @@ returns-in-Some-own c =
     c.in_ok-own-in-len1.ensures) in
     let here = subst (λ p. IsLoopFor p s.start body (length body.found) c.in-Some-own.own)
     c.place_of-place.ensures l in
-    IfOk-weaker c.into_program-in-Some-own.result _ _ (λ o. some-weaker o _ _ (λ p f. loop-in-cells
+    IfOk-weaker c.into_program-in-Some-own.result _ _ (λ o. some-weaker o _ _ (λ p f. loop-chosen
     (slots_of c.args.names.now) c.args.down c.args.states.now s body body c.in-Some-own.own (steps_of p)
     one here (inl refl) f)) c.into_program-in-Some-own.ensures

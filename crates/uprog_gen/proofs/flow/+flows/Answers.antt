@@ -7,7 +7,7 @@ use Rattle.loop_ir.specs.declared.ir.Turns.{Turns}
 use Rattle.loop_ir.specs.Plain.{block_of, flow_of, acts_of}
 use Rattle.loop_ir.specs.Flows.{flow_size, acts_size}
 use Rattle.loop_ir.specs.Costs.{body_cost}
-use Rattle.uprog_gen.specs.FlowCode.{uop_of, leave}
+use Rattle.uprog_gen.specs.FlowCode.{leave}
 use Rattle.uprog_gen.proofs.Coding.FlowEmitted.{flow_short, acts_short, end_emits, do_emits, put_emits}
 use Rattle.uprog_gen.proofs.Coding.FlowEmitted.{if_emits, loop_emits, last_emits, turn_emits}
 use Rattle.uprog_gen.proofs.flow.+flows.Goals as goal

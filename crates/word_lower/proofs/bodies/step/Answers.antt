@@ -1,5 +1,5 @@
 use Rattle.std.proofs.Common.{ap, ◌∷◌, []}
-use Rattle.loop_ir.specs.Plain.StepOf.{Single, Along, Pairs}
+use Rattle.loop_ir.specs.Plain.StepOf.{Single, Along}
 use Rattle.word_lower.proofs.bodies.step.Goals as goal
 
 pub returns-in_ok-body-in-Once-clause-same : goal.returns-in_ok-body-in-Once-clause-same
@@ -9,7 +9,3 @@ returns-in_ok-body-in-Once-clause-same c = rw c.in-Once.is
 pub returns-in_ok-body-in-Each-clause-same : goal.returns-in_ok-body-in-Each-clause-same
 returns-in_ok-body-in-Each-clause-same c = rw c.in-Each.is
     (ap (λ b. Along b ∷ []) c.in_ok-body-in-Each.ensures.same)
-
-pub returns-in_ok-body-in-Pairs-clause-same : goal.returns-in_ok-body-in-Pairs-clause-same
-returns-in_ok-body-in-Pairs-clause-same c = rw c.in-Pairs.is
-    (ap (λ b. Pairs b ∷ []) c.in_ok-body-in-Pairs.ensures.same)
