@@ -1,4 +1,5 @@
 pub mod Images
 pub mod Replays
 pub mod Scans
+pub mod Soaks
 pub mod Unique

@@ -9,3 +9,4 @@ mod Summing
 mod Making
 mod Going
 mod Fitting
+pub mod Same
