@@ -10,7 +10,7 @@ from .cell_values import ALL, ONE, ZERO, Names, Value, complemented, drawn
 from .code_parts import WIDEST, Part, pieces
 from .files.decode import CELLS
 from .files.program import BNEZ, DONE
-from .loops_and_ways import Code, Jumps, outline
+from .loops_and_ways import Code, Jumps
 from .row_names import RowNames
 
 CONSTANT = "0"
@@ -50,22 +50,15 @@ def both(one: Known, other: Known) -> Known:
                   for (left, left_turned), (right, right_turned) in zip(one, other)], (CONSTANT, CONSTANT, False))
 
 
-def after_last_rounds(code: Code) -> dict[int, int]:
-    """Where what follows the last round of a loop goes on, by where its instructions end: after the loop, where the rest of it
-    has no row commands."""
-    return {past - 1: one.last + 1 for one in outline(code).loops for _, past in one.ends
-            if code[past - 1].number <= one.last and not any(each.rows for each in code[code[past - 1].number:one.last])}
-
-
 def known_at(code: Code, rows: RowNames) -> dict[int, Known]:
     """What is known of the cells where each piece of the code begins."""
-    jumps, ends, on = Jumps(code), dict(pieces(code)), after_last_rounds(code)
+    jumps, ends = Jumps(code), dict(pieces(code))
     found, left = {0: START}, [0]
     while left:
         first = left.pop()
         last = ends[first] - 1
         is_jump, is_done = (code[last].kind == kind for kind in (BNEZ, DONE))
-        follow = [on.get(last, code[last].number)] * is_jump + [last + 1] * (not is_done and not jumps.is_always(last))
+        follow = [code[last].number] * is_jump + [last + 1] * (not is_done and not jumps.is_always(last))
         known = after(code[first:last + 1], rows, found[first])
         for place in follow:
             made = both(found[place], known) if place in found else known

@@ -52,8 +52,7 @@ def part_at(code, found: Outline, first: int, past: int) -> Part:
         used = {row.index for one in code[first:past] for row in one.rows if row.space in INDEXED and row.index < ZERO_INDEX}
         said += direction(code[inner.first:inner.last + 1], used)
     has_last = any(first == to for _, to in inner.ends)
-    ends_it = not any(one.rows for one in code[past:inner.last])
-    again = len(inner.turns) == 1 and ends_it and (has_last or inner.first == first)
+    again = len(inner.turns) == 1 and inner.last == past - 1 and (has_last or inner.first == first)
     return Part(first, code[first:past], ", ".join(said), again, has_last, loops=tuple((one.first, one.last) for one in around))
 
 

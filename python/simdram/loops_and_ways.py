@@ -142,18 +142,12 @@ def outline(code: Code) -> Outline:
     for one in jumps.asked():
         around = [span for span in spans if span[0] <= one.at and one.to <= span[1]]
         inner = min(around, key=lambda span: span[1] - span[0], default=None)
-        if inner and (one.past > inner[1] or is_of_rounds(code, one, inner)):
+        if inner and one.past > inner[1]:
             leaving[inner].append(one)
         elif not (one.is_bare and (one.to, jumps.led_to(one.past)) in whole):
             ways += [Way(one.at + 1, one.to, one.at, one.register, True)] * (not one.is_bare)
             ways += [Way(one.to, one.past, one.at, one.register, False)] * (one.past > one.to)
     return Outline(tuple(loop_of(code, span, leaving[span]) for span in spans), tuple(ways))
-
-
-def is_of_rounds(code: Code, one: Asked, loop: tuple[int, int]) -> bool:
-    """Whether a jump asks whether this is the loop's last round: by its counter, with a body for each answer and none after both."""
-    return one.register == code[loop[1]].register and one.past > one.to and not one.is_bare \
-        and not any(each.rows for each in code[one.past:loop[1]])
 
 
 def loop_of(code: Code, span: tuple[int, int], leaving: list[Asked]) -> Loop:

@@ -135,8 +135,8 @@ class Steps(Folder):
         entry = self.compiled(SERIAL.read_text()).find("maj_add")
         once, last, each = all_shown(entry, str(SERIAL))
         self.assertEqual(once.lines[0], "from instruction 0, once: line 25, serial up (c = 0) { .. }")
-        self.assertIn("in the loop at 7, in its last round: line 25", last.lines[0])
-        self.assertIn("in the loop at 7, in each round but the last, upwards:\n  line 25", "\n".join(each.lines))
+        self.assertIn("in the loop at 6, in its last round: line 25", last.lines[0])
+        self.assertIn("in the loop at 6, in each round but the last, upwards:\n  line 25", "\n".join(each.lines))
         # the carry stands in cells from one position to the next, and goes to its row at the last one
         for one in (last, each):
             self.assertTrue({"old c", "~old c"} & set(one.done[0].cells.values()), one.done[0].cells)
@@ -160,7 +160,7 @@ class Steps(Folder):
         titles = [one.part.said for one in found]
         for turn, times in ((1, 1), (2, 1), (3, 2)):
             self.assertEqual(sum(f"turn {turn} of 3" in title for title in titles), times, titles)
-        self.assertEqual([title.rpartition("turn 3 of 3, ")[2][:13] for title in titles[-2:]], ["in its last r", "in each round"])
+        self.assertEqual([title.rpartition("turn 3 of 3, ")[2][:9] for title in titles[-2:]], ["if r0 = 0", "if r0 > 0"])
         # what a turn finds in a cell is what the one before has left there, whichever way it took
         for one, held in ((found[2], "and(a[i], old T1)"), (found[3], "and(a[i], old T0)"), (found[4], "and(a[i], old T1)")):
             self.assertEqual([text for _, text in one.said], [held])

@@ -18,10 +18,7 @@ use Rattle.op_text.specs.Scratch.{state_names}
 use Rattle.loop_ir.specs.declared.ir.Space.{Space}
 use Rattle.loop_ir.specs.declared.ir.Space.TheVariants.{Result, Source, ScratchBit, ScratchWord}
 use Rattle.loop_ir.specs.declared.ir.Space.TheVariants.{Cells}
-use Rattle.loop_ir.specs.declared.ir.Sub.{Sub}
-use Rattle.loop_ir.specs.declared.ir.Sub.TheVariants.{Zero, Top, Inner as At_inner, InnerDown}
-use Rattle.loop_ir.specs.declared.ir.Sub.TheVariants.{Outer, OuterDown, Sum, DownSum, DownPlusN}
-use Rattle.loop_ir.specs.declared.ir.Sub.TheVariants.{NPlusInner}
+use Rattle.loop_ir.specs.declared.ir.Sub.TheVariants.{Zero}
 use Rattle.loop_ir.specs.declared.ir.Place.{Place}
 use Rattle.loop_ir.specs.declared.names.Slot.{Slot}
 use Rattle.loop_ir.specs.Plain.{Block as Body, AllParts}
@@ -29,8 +26,7 @@ use Rattle.loop_ir.specs.Plain.StepOf.{Single, Along}
 use Rattle.loop_ir.specs.Loops.{RoundOf, round_at, one_round, rounds, all_rounds}
 use Rattle.loop_ir.specs.Spots.{Spot, IsOwn, is_state, spot_in, nth_place, nth_spot}
 use Rattle.loop_ir.specs.WellFormed.{IsOneValue, IsWellFormed, AreWellFormed}
-use Rattle.loop_ir.specs.Costs.{body_cost, same_sub, is_used, used_subs, single_cost, step_cost}
-use Rattle.loop_ir.specs.Costs.{code_cost, step_bodies, bodies}
+use Rattle.loop_ir.specs.Costs.{body_cost, step_cost, code_cost}
 use Rattle.loop_ir.specs.Limits.{IsSmall, may_stand, step_stands, IsRound, StepHasValues, CanCompile}
 use Rattle.loop_ir.specs.Statements.{Slots, holds_kind, targets_of, statement_names}
 use Rattle.loop_ir.specs.Lowered.{IsRowOf, IsStatementRow}
@@ -167,65 +163,6 @@ constant-well v p = record {
   same = λ j k lj lk e. absurd (omega arith);
 }
 
--- which subscripts are used
-abbrev pub uses : Bool → Sub → Bool
-uses down s = same_sub (kind_sub down Word) s || same_sub Zero s
-
-kind-used : (down : Bool) (k : Kind) (s : Sub) → same_sub (kind_sub down k) s ≡ true
-    → uses down s ≡ true
-kind-used down Word s e = or_left (same_sub (kind_sub down Word) s) (same_sub Zero s) e
-kind-used down Bit s e = or_right (same_sub (kind_sub down Word) s) (same_sub Zero s) e
-
-pub place-used : (down : Bool) (o : Option Slot) (s : Sub) → same_sub (place_of down o).sub s ≡ true
-    → uses down s ≡ true
-place-used down None s e = or_right (same_sub (kind_sub down Word) s) (same_sub Zero s) e
-place-used down (Some x) s e = kind-used down x.kind s e
-
-places-used : (slots : Slots) (down : Bool) (names : List (List ℕ)) (s : Sub)
-    → list_any (λ (p : Place). same_sub p.sub s) (places_of slots down names) ≡ true
-    → uses down s ≡ true
-places-used slots down [] s e = absurd (cc)
-places-used slots down (x ∷ xs) s e =
-    elim (or_cases (same_sub (place_of down (slots x)).sub s)
-    (list_any (λ (p : Place). same_sub p.sub s) (places_of slots down xs)) e) [
-      | inl h ↦
-          place-used down (slots x) s h
-      | inr h ↦ places-used slots down xs s h
-    ]
-
-body-uses : {slots : Slots} {b : Block} {body : Body} → IsBlockBody slots b body → (s : Sub)
-    → is_used body s ≡ true → uses b.down s ≡ true
-body-uses {slots = slots} {b = b} {body = body} is s e =
-    elim (or_cases (list_any (λ (p : Place). same_sub p.sub s) body.reads)
-    (list_any (λ (p : Place). same_sub p.sub s) body.writes)
-    (sym (list_any-append (λ (p : Place). same_sub p.sub s) body.reads body.writes) ∙ e)) [
-      | inl h ↦ places-used slots b.down (block_inputs b) s
-          (subst (λ ps. list_any (λ (p : Place). same_sub p.sub s) ps ≡ true) is.reads h)
-      | inr h ↦ places-used slots b.down (targets_of b.assigns) s
-          (subst (λ ps. list_any (λ (p : Place). same_sub p.sub s) ps ≡ true) is.writes h)
-    ]
-
-pub filter-less : (p q : Sub → Bool) (xs : List Sub) → ((s : Sub) → p s ≡ true → q s ≡ true)
-    → length (filter p xs) ≤ length (filter q xs)
-filter-less p q [] h = omega arith
-filter-less p q (s ∷ xs) h =
-    let m = filter-less p q xs h in
-    elim (cases_Bool (p s)) [
-      | inl e ↦ rw (e, h s e) (omega (arith, m))
-      | inr e ↦ elim (cases_Bool (q s)) [
-        | inl f ↦ rw (e, f) (omega (arith, m))
-        | inr f ↦ rw (e, f) m
-      ]
-    ]
-
-abbrev pub others : List Sub
-others = Top ∷ At_inner ∷ InnerDown ∷ Outer ∷ OuterDown ∷ Sum ∷ DownSum ∷ DownPlusN
-    ∷ NPlusInner ∷ []
-
-pub few-uses : (down : Bool) → length (filter (uses down) others) ≤ 3
-few-uses true = omega arith
-few-uses false = omega arith
-
 -- its places are rows
 body-rows : {slots : Slots} {fb fw : ℕ} {b : Block} {body : Body} → Given slots fb fw b
     → IsBlockBody slots b body → HasRows body
@@ -258,12 +195,7 @@ body-small {b = b} {body = body} g is for most =
       inputs = let i = is.inputs in omega (arith, i, most);
       outputs = omega (arith, m, a);
       rows = omega (arith, m, a, w, k);
-      subs = let f = filter-less (is_used body) (uses b.down) others (body-uses is) in
-          let u = few-uses b.down in omega (arith, f, u);
     }
-
-constant-subs : (v : Bool) (p : Place) → p.sub ≡ Zero → length (used_subs (constant v p)) ≤ 3
-constant-subs v p e = rw e (omega arith)
 
 constant-row : (v : Bool) (p : Place) → is_state p.space ≡ false → (j : ℕ) → j < 1
     → is_state (nth_place (p ∷ []) j).space ≡ false
@@ -284,7 +216,6 @@ constant-small v p e r = record {
   inputs = omega arith;
   outputs = omega arith;
   rows = omega arith;
-  subs = constant-subs v p e;
 }
 
 -- what holds of all bodies
@@ -299,27 +230,27 @@ parts-all P slots b body (s ∷ ss) all h k = (
 )
 
 -- the subscripts may stand
-kind-stands : (down : Bool) (k : Kind) → may_stand true false (kind_sub down k) ≡ true
+kind-stands : (down : Bool) (k : Kind) → may_stand true (kind_sub down k) ≡ true
 kind-stands true Word = refl
 kind-stands false Word = refl
 kind-stands true Bit = refl
 kind-stands false Bit = refl
 
-pub place-stands : (down : Bool) (o : Option Slot) → may_stand true false (place_of down o).sub ≡ true
+pub place-stands : (down : Bool) (o : Option Slot) → may_stand true (place_of down o).sub ≡ true
 place-stands down None = refl
 place-stands down (Some x) = kind-stands down x.kind
 
 places-stand : (slots : Slots) (down : Bool) (names : List (List ℕ))
-    → list_all (λ (p : Place). may_stand true false p.sub) (places_of slots down names) ≡ true
+    → list_all (λ (p : Place). may_stand true p.sub) (places_of slots down names) ≡ true
 places-stand slots down [] = refl
-places-stand slots down (x ∷ xs) = and_from (may_stand true false (place_of down (slots x)).sub)
-    (list_all (λ (p : Place). may_stand true false p.sub) (places_of slots down xs))
+places-stand slots down (x ∷ xs) = and_from (may_stand true (place_of down (slots x)).sub)
+    (list_all (λ (p : Place). may_stand true p.sub) (places_of slots down xs))
     (place-stands down (slots x)) (places-stand slots down xs)
 
 body-stands : {slots : Slots} {b : Block} {body : Body} → IsBlockBody slots b body
     → step_stands (Along body) ≡ true
 body-stands {slots = slots} {b = b} {body = body} is =
-    let test = λ (p : Place). may_stand true false p.sub in
+    let test = λ (p : Place). may_stand true p.sub in
     list_all-append test body.reads body.writes
     ∙ and_from (list_all test body.reads) (list_all test body.writes) (ap (list_all test) is.reads
     ∙ places-stand slots b.down (block_inputs b)) (ap (list_all test) is.writes
@@ -341,28 +272,12 @@ steps-stand {slots = slots} {b = b} {body = body} g is (s ∷ ss) all =
     (steps-stand g is ss (tail-states b s ss all))
 
 -- the size of the code
-constant-code : (v : Bool) (p : Place) → p.sub ≡ Zero → single_cost (constant v p) ≡ 3
-constant-code v p e = rw e refl
-
-steps-code : {slots : Slots} {fb fw : ℕ} {b : Block} → Given slots fb fw b
-    → (body : Body) (ss : List State) → AreStates b ss
-    → code_cost (map (start slots b.down) ss ++ Along body ∷ [])
-    ≡ 3 * length ss + (body_cost body + 15)
-steps-code g body [] all = sum_by-cons step_cost (Along body) [] ∙ omega arith
-steps-code {slots = slots} {b = b} g body (s ∷ ss) all =
-    let h = steps-code g body ss (tail-states b s ss all) in
-    let c = constant-code s.start (place_of b.down (slots s.name))
-    (state-sub g b.down s.name (head-state b s ss all)) in
-    let m = sum_by-cons step_cost (start slots b.down s) (map (start slots b.down) ss ++ Along body
-    ∷ []) in
-    omega (arith, h, c, m)
-
-steps-bodies : (slots : Slots) (down : Bool) (body : Body) (ss : List State)
-    → bodies (map (start slots down) ss ++ Along body ∷ []) ≡ length ss + 1
-steps-bodies slots down body [] = sum_by-cons step_bodies (Along body) []
-steps-bodies slots down body (s ∷ ss) =
-    let h = steps-bodies slots down body ss in
-    let m = sum_by-cons step_bodies (start slots down s) (map (start slots down) ss ++ Along body
+steps-code : (slots : Slots) (down : Bool) (body : Body) (ss : List State)
+    → code_cost (map (start slots down) ss ++ Along body ∷ []) ≡ 3 * length ss + (body_cost body + 8)
+steps-code slots down body [] = sum_by-cons step_cost (Along body) [] ∙ omega arith
+steps-code slots down body (s ∷ ss) =
+    let h = steps-code slots down body ss in
+    let m = sum_by-cons step_cost (start slots down s) (map (start slots down) ss ++ Along body
     ∷ []) in
     omega (arith, h, m)
 
@@ -504,11 +419,9 @@ can-compile {slots = slots} {fb = fb} {fw = fw} {b = b} {body = body} g is for m
   values = no-flows (IsStatementRow slots fb fw (Visit b)) slots b.down body b.states;
   rounds = λ n lt most. steps-all (IsRound (IsStatementRow slots fb fw (Visit b) n) n) slots b body
       n b.states (λ x e. e) (start-round g n lt) (λ j l. body-round g is n j l);
-  size = let c = steps-code g body b.states (λ x e. e) in let s = g.meets.states in
+  size = let c = steps-code slots b.down body b.states in let s = g.meets.states in
       let m = is.as_many in let a = g.meets.assigns in let w = g.meets.weight in let k = is.nodes in
       omega (arith, c, s, m, a, w, k);
-  few = let c = steps-bodies slots b.down body b.states in let s = g.meets.states in
-      omega (arith, c, s);
 }
 
 pub are-well : {slots : Slots} {fb fw : ℕ} {b : Block} {body : Body} → Given slots fb fw b

@@ -24,7 +24,7 @@ use Rattle.loop_ir.specs.WellFormed.{IsWellFormed}
 use Rattle.loop_ir.specs.States.{RowsFirst, row_outs}
 use Rattle.loop_ir.specs.Chains.{chained, finds, left_by, flow_finds}
 use Rattle.loop_ir.specs.Costs.{carries, turn_cost, plain_cost, is_copy}
-use Rattle.loop_ir.specs.Costs.{rounds_cost, plain_costs, step_cost, code_cost, step_bodies, bodies}
+use Rattle.loop_ir.specs.Costs.{rounds_cost, plain_costs, step_cost, code_cost}
 use Rattle.loop_ir.specs.Limits.{IsCarried, IsSmall, IsRound, CanCompile, HasValues}
 use Rattle.loop_ir.specs.Limits.{stays_in_registers, flow_stands, step_stands}
 use Rattle.loop_ir.specs.Statements.{Slots}
@@ -372,9 +372,6 @@ module _ {slots : Slots} {fb fw : ℕ} {b : Block} {body : Body} (g : Given slot
       let k = is.nodes in
       omega (arith, x, m, t, w, k)
 
-  bodies-are : bodies (Flowed flow ∷ []) ≤ 12
-  bodies-are = let x = sum_by-cons step_bodies (Flowed flow) [] in omega (arith, x)
-
   can : CanCompile row (Flowed flow ∷ [])
   can = record {
     small = (
@@ -394,7 +391,6 @@ module _ {slots : Slots} {fb fw : ℕ} {b : Block} {body : Body} (g : Given slot
     );
     rounds = λ n lt wide. rounds-keep n lt;
     size = size-is;
-    few = bodies-are;
   }
 
   -- what the rounds take

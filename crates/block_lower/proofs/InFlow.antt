@@ -11,9 +11,7 @@ use Rattle.mig_graph.specs.declared.Lit.{Lit}
 use Rattle.mig_graph.specs.Literals.{lit_value}
 use Rattle.mig_graph.specs.Graph.{IsGraph, values}
 use Rattle.loop_ir.specs.declared.ir.Sub.{Sub}
-use Rattle.loop_ir.specs.declared.ir.Sub.TheVariants.{Zero, Top, Inner as At_inner, InnerDown}
-use Rattle.loop_ir.specs.declared.ir.Sub.TheVariants.{Outer, OuterDown, Sum, DownSum, DownPlusN}
-use Rattle.loop_ir.specs.declared.ir.Sub.TheVariants.{NPlusInner, Register}
+use Rattle.loop_ir.specs.declared.ir.Sub.TheVariants.{Zero, Inner as At_inner, InnerDown, Register}
 use Rattle.loop_ir.specs.declared.ir.Place.{Place}
 use Rattle.loop_ir.specs.Plain.{Block as Body}
 use Rattle.loop_ir.specs.Loops.{round_at, sub_value}
@@ -22,11 +20,11 @@ use Rattle.loop_ir.specs.Spots.{set_spot, write_all, after_round, after_rounds}
 use Rattle.loop_ir.specs.WellFormed.{IsOneValue, IsWellFormed}
 use Rattle.loop_ir.specs.States.{StatesFit, row_count, row_outs}
 use Rattle.loop_ir.specs.Chains.{states_in, is_alive, finds}
-use Rattle.loop_ir.specs.Costs.{same_sub, is_used, used_subs, carries}
+use Rattle.loop_ir.specs.Costs.{carries}
 use Rattle.loop_ir.specs.Limits.{IsCarried, IsSmall, IsRound, HasValues, is_in_register}
 use Rattle.loop_ir.specs.Limits.{stays_in_registers}
 use Rattle.block_lower.specs.Held.{in_register, flow_place}
-use Rattle.block_lower.proofs.Compile.{filter-less, others, spot-space}
+use Rattle.block_lower.proofs.Compile.{spot-space}
 use Rattle.block_lower.proofs.EachLast.{regs_at, round_with, from_on}
 use Rattle.block_lower.proofs.Moved.{fronts}
 
@@ -64,13 +62,6 @@ front-cases : (P : Sub → Type 0) → P Zero → P At_inner → P InnerDown →
 front-cases P a b c Zero e = a
 front-cases P a b c At_inner e = b
 front-cases P a b c InnerDown e = c
-front-cases P a b c Top e = absurd (cc)
-front-cases P a b c Outer e = absurd (cc)
-front-cases P a b c OuterDown e = absurd (cc)
-front-cases P a b c Sum e = absurd (cc)
-front-cases P a b c DownSum e = absurd (cc)
-front-cases P a b c DownPlusN e = absurd (cc)
-front-cases P a b c NPlusInner e = absurd (cc)
 front-cases P a b c (Register r) e = absurd (cc)
 
 -- places of a list
@@ -222,38 +213,6 @@ stays-flow named a c b h =
     list_all-append test (map flow_place b.reads) (map flow_place b.writes)
     ∙ and_from _ _ (list-front P refl a c b.reads h.reads) (list-front P refl a c b.writes h.writes)
 
--- those that its places may have
-abbrev flow_subs : Sub → Bool
-flow_subs s = same_sub Zero s || (same_sub (Register 0) s || same_sub (Register 1) s)
-
-place-subs : (s t : Sub) → is_front s ≡ true → same_sub (in_register s) t ≡ true → flow_subs t ≡ true
-place-subs s t e = front-cases (λ s. same_sub (in_register s) t ≡ true → flow_subs t ≡ true)
-    (λ f. or_left (same_sub Zero t) _ f)
-    (λ f. or_right (same_sub Zero t) _ (or_left (same_sub (Register 0) t) _ f))
-    (λ f. or_right (same_sub Zero t) _ (or_right (same_sub (Register 0) t) _ f)) s e
-
-list-subs : (ps : List Place) → AllFront ps → (t : Sub)
-    → list_any (λ (p : Place). same_sub p.sub t) (map flow_place ps) ≡ true → flow_subs t ≡ true
-list-subs [] h t e = absurd (cc)
-list-subs (p ∷ ps) h t e =
-    elim (or_cases (same_sub (in_register p.sub) t)
-    (list_any (λ (q : Place). same_sub q.sub t) (map flow_place ps)) e) [
-      | inl f ↦ place-subs p.sub t (h 0 (omega arith)) f
-      | inr f ↦ list-subs ps (rest-front p ps h) t f
-    ]
-
-subs-flow : (b : Body) → AreFront b → length (used_subs (in_flow b)) ≤ 3
-subs-flow b h =
-    let f = filter-less (is_used (in_flow b)) flow_subs others (λ t e.
-    let test = λ (p : Place). same_sub p.sub t in
-    elim (or_cases (list_any test (map flow_place b.reads)) (list_any test (map flow_place b.writes))
-    (sym (list_any-append test (map flow_place b.reads) (map flow_place b.writes)) ∙ e)) [
-      | inl f ↦ list-subs b.reads h.reads t f
-      | inr f ↦ list-subs b.writes h.writes t f
-    ]) in
-    let few : length (filter flow_subs others) ≤ 3 = omega arith in
-    omega (arith, f, few)
-
 -- it is well formed
 one-flow : (ps qs : List Place) (j k : ℕ) → j < length ps → k < length qs
     → IsOneValue (nth_place (map flow_place ps) j) (nth_place (map flow_place qs) k)
@@ -321,5 +280,4 @@ small-flow b s has carried = record {
   inputs = s.inputs;
   outputs = s.outputs;
   rows = s.rows;
-  subs = subs-flow b s.front;
 }

@@ -80,17 +80,6 @@ pub(crate) fn other_body(
     }))
 }
 
-/// Those for which a beam has found commands.
-fn counted_ones(counts: &[Counted], alloc: Global) -> Result<Vec<Counted>, NoMemory> {
-    let mut found = Vec::new(alloc);
-    for counted in counts {
-        if counted.cost < usize::MAX {
-            keep(&mut found, *counted)?;
-        }
-    }
-    Ok(found)
-}
-
 impl Pairs {
     fn new(place: Place, start: bool, alloc: Global) -> Pairs {
         Pairs {
@@ -193,7 +182,6 @@ impl Pairs {
         let counts = self.uncounted(alloc)?;
         let narrow = self.round(&counts, Search::Narrow, few, WIDELY, alloc)?;
         let wide = self.round(&narrow, Search::Wide, few, BROADLY, alloc)?;
-        let wide = counted_ones(&wide, alloc)?;
         self.round(&wide, Search::Broad, few, TRIES, alloc)
     }
 }

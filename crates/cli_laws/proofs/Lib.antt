@@ -1,5 +1,4 @@
 pub mod Images
 pub mod Replays
 pub mod Scans
-pub mod Soaks
 pub mod Unique

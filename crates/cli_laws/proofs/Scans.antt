@@ -40,7 +40,6 @@ use Rattle.cli_model.specs.Runs.{EndsBy, LeavesAt, TellsLast}
 use Rattle.cli_model.specs.Stands.{sent_by}
 use Rattle.cli_model.specs.Status.{Says}
 use Rattle.cli_model.specs.Steps.{Done, Load, Take}
-use Rattle.cli_model.specs.Waves.{ChipUse}
 use Rattle.cli_model.proofs.Delivering.{load_there}
 use Rattle.cli_model.proofs.Giving.{refused_so}
 use Rattle.cli_model.proofs.Going.{known_sent, within}
@@ -53,7 +52,7 @@ use Rattle.simdram_cli.specs.Job.{opening}
 use Rattle.simdram_cli.specs.Queries.{Asks, AsksIn, query_in, scan_refusal, unless_broken}
 use Rattle.simdram_cli.specs.Scan.{DoesScans, ScanLeft, Scanned, answer_on, answer_plan}
 use Rattle.simdram_cli.specs.Scan.{count_line, number_found, scan_counters, scan_counts}
-use Rattle.simdram_cli.specs.Scan.{query_use, scan_plan, use_steps}
+use Rattle.simdram_cli.specs.Scan.{scan_plan, use_steps}
 use Rattle.simdram_cli.proofs.JobPlans.{image_refuses}
 use Rattle.cli_laws.specs.Unique.{OneAnswered, OneScanned, Tells}
 use Rattle.cli_laws.proofs.Images.{image_objects}
@@ -205,10 +204,9 @@ broken_so : (P : ℕ → Type 0) (fault : Option QueryFault) → P 15
 broken_so P None fifteen = tt
 broken_so P (Some fault) fifteen = fifteen
 
-use_so : (P : ℕ → Type 0) (on : Option ChipUse) (fault : Option (ScanWhy × ℕ)) → P 9
-    → OfSteps P (use_steps on fault)
-use_so P on None nine = (nine, tt)
-use_so P on (Some fault) nine = tt
+use_so : (P : ℕ → Type 0) (fault : Option (ScanWhy × ℕ)) → P 9 → OfSteps P (use_steps fault)
+use_so P None nine = (nine, tt)
+use_so P (Some fault) nine = tt
 
 answer_so : (P : ℕ → Type 0) (left : ChipView → Type 0) (a : Answer)
     (way : Way (answer_plan left a)) → P 3 → OfSteps P (steps_of (answer_plan left a) way)
@@ -243,9 +241,8 @@ scan_so status names
     let checks = checked i.table (nodes_of q) in
     let left = ScanLeft p q i in
     let x = answer_on p q i in
-    let on = query_use p q i in
-    let last = of_more (IsOther status) (use_steps on checks) (steps_of (answer_plan left x) way)
-    (use_so (IsOther status) on checks n.nine) (answer_so (IsOther status) left x way n.three) in
+    let last = of_more (IsOther status) (use_steps checks) (steps_of (answer_plan left x) way)
+    (use_so (IsOther status) checks n.nine) (answer_so (IsOther status) left x way n.three) in
     ((n.two, n.eleven, n.ten, tt), ((n.two, n.eleven, n.ten, tt), (n.ten, ((n.nine, n.ten), last))))
 
 -- and tells its answer
@@ -275,21 +272,20 @@ counted_sent line a b c sent same =
     (subst (λ (w : World). Known (λ x y. y ≡ x ++ (line ++ [])) a.sink.sent w.sink.sent)
     (sym same) sent)
 
-tells_so : (left : ChipView → Type 0) (x : Answer) (on : Option ChipUse)
-    (fault : Option (ScanWhy × ℕ))
+tells_so : (left : ChipView → Type 0) (x : Answer) (fault : Option (ScanWhy × ℕ))
     (way : Way (answer_plan left x)) (a b c : World) (status : ℕ)
     → status ≡ last_status (answer_plan left x) way
-    → Known (λ y z. z ≡ y ++ sent_by (use_steps on fault ++ steps_of (answer_plan left x) way))
+    → Known (λ y z. z ≡ y ++ sent_by (use_steps fault ++ steps_of (answer_plan left x) way))
     a.sink.sent b.sink.sent
     → a.sink.faults ≤ b.sink.faults → TellsLast All (refused_last (answer_plan left x) way) b c
     → Tells x a c status
-tells_so left (Found found of counts) on None way a b c status is sent less same =
+tells_so left (Found found of counts) None way a b c status is sent less same =
     (is, counted_sent (count_line found of counts) a b c sent same)
-tells_so left (Found found of counts) on (Some fault) way a b c status is sent less same =
+tells_so left (Found found of counts) (Some fault) way a b c status is sent less same =
     (is, counted_sent (count_line found of counts) a b c sent same)
-tells_so left (NotFound why k) on None way a b c status is sent less says =
+tells_so left (NotFound why k) None way a b c status is sent less says =
     (is, line_sent (scan_refusal why k).line a b c sent less says)
-tells_so left (NotFound why k) on (Some fault) way a b c status is sent less says =
+tells_so left (NotFound why k) (Some fault) way a b c status is sent less says =
     (is, line_sent (scan_refusal why k).line a b c sent less says)
 
 -- what a scan tells
@@ -335,8 +331,7 @@ told names before a b c status
     let shown = ScanLeft program q i in
     let x = answer_on program q i in
     let fault = checked i.table (nodes_of q) in
-    let on = query_use program q i in
-    let steps = Take ∷ opening i ∷ (use_steps on fault ++ steps_of (answer_plan shown x) way) in
+    let steps = Take ∷ opening i ∷ (use_steps fault ++ steps_of (answer_plan shown x) way) in
     let asked = load_there names.query.now QUERY_MAX None (before names.query.now)
     (foreseen (Load names.image.now IMAGE_MAX bytes None ∷ steps) before) f in
     let found = load_there names.image.now IMAGE_MAX None (before names.image.now)
@@ -350,7 +345,7 @@ told names before a b c status
       query_is = asks_at (before names.query.now) text q query_there asks;
       image_is = ap (read_as image_of) image_there ∙ ap result_ok image;
       does = does;
-      tells = tells_so shown x on fault way a b c status so.answers so.sent less last;
+      tells = tells_so shown x fault way a b c status so.answers so.sent less last;
     }
 
 at_end : (names : ScanNames) (before : Files) (a c : World) (status : ℕ)

@@ -8,8 +8,6 @@ use Rattle.scan_model.specs.Answers.{Answer, Found, Refused as NotFound, query_c
 use Rattle.scan_model.specs.Queries.{Query}
 use Rattle.cli_model.specs.World.{World}
 use Rattle.cli_model.specs.Ends.{Sends}
-use Rattle.cli_model.specs.Stands.{sent_by}
-use Rattle.soak_job.specs.Steps.{soak_steps}
 use Rattle.simdram_cli.specs.declared.words.ExecNames.{ExecNames}
 use Rattle.simdram_cli.specs.declared.words.GuardNames.{GuardNames}
 use Rattle.simdram_cli.specs.declared.words.ReplayNames.{ReplayNames}
@@ -23,7 +21,6 @@ use Rattle.simdram_cli.specs.Queries.{AsksIn, scan_refusal}
 use Rattle.simdram_cli.specs.Replay.{Replayed}
 use Rattle.simdram_cli.specs.Scan.{DoesScans, ScanEnds, Scanned, answer_on, count_line}
 use Rattle.simdram_cli.specs.Scan.{number_found, scan_counts}
-use Rattle.simdram_cli.specs.Soak.{Soaked}
 use Rattle.simdram_cli.specs.Tracing.{Traced, trace_of}
 
 -- two executions do one script on one image, with one program
@@ -132,18 +129,6 @@ OneAnswered =
     → ScanEnds names a b status → ScanEnds names c d other
     → (status ≡ 0) ⊎ (status ≡ 16) → (other ≡ 0) ⊎ (other ≡ 16)
     → SameAnswer names before a b c d status other
-
--- two soaks of one seed that are done sent the same lines, and the chip's counters are the same
-pub record SameSoak {seed : ℕ} {a b c d : World} (s : Soaked seed a b) (t : Soaked seed c d)
-    : Type 0 where
-  pub lines : sent_by (soak_steps seed s.programs) ≡ sent_by (soak_steps seed t.programs)
-  pub counters : b.chip.counters ≡ d.chip.counters
-
--- SEED decides the lines of a soak that is done, and so its sums and its counts of row commands:
--- its programs are any that do their operations by exactly their commands
-abbrev pub OneSoaked : Type 0
-OneSoaked =
-    (seed : ℕ) (a b c d : World) (s : Soaked seed a b) (t : Soaked seed c d) → SameSoak s t
 
 -- two guarded runs have the ops of one text, one script, one image and one list of flips
 pub record SameInputs {names : GuardNames} {before after later : Files} {a b c d : World}

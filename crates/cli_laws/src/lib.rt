@@ -3,7 +3,7 @@
 
 ghost use Rattle.cli_laws.specs.Replays.{TracesAreAccepted, TracesReplay};
 ghost use Rattle.cli_laws.specs.Unique.{OneExecuted, OneGuardedJob, OneRecorded, OneReplayed};
-ghost use Rattle.cli_laws.specs.Unique.{OneAnswered, OneScanned, OneSoaked};
+ghost use Rattle.cli_laws.specs.Unique.{OneAnswered, OneScanned};
 
 /// A replay of what an execution recorded, on the image that it read, writes the same image.
 pub fn traces_replay()
@@ -36,11 +36,6 @@ pub fn one_replayed()
 pub fn one_scanned()
     ensures counted { OneScanned }
     ensures told { OneAnswered }
-{}
-
-/// Two soaks of one seed tell the same lines, and leave the same counters.
-pub fn one_soaked()
-    ensures { OneSoaked }
 {}
 
 /// Two guarded runs of the same files have the ops of one text, one script, one image and one list

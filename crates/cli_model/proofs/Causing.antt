@@ -99,9 +99,9 @@ step_fails (UseFor wave) steps (Stopped reason) a b files f e =
     inr (reason, refl, fault_of reason ChipFailed f.0 tt)
 step_fails (Put bytes) steps (Stopped reason) a b files f e =
     inr (reason, refl, fault_of reason PutFailed f.0 tt)
-step_fails (Print on bytes) steps (Stopped reason) a b files (inl f) e =
+step_fails (Print on bytes) steps (Stopped reason) a b files (p, inl f) e =
     inr (reason, refl, fault_of reason PutFailed f.0 tt)
-step_fails (Print on bytes) steps (Stopped reason) a b files (inr f) e =
+step_fails (Print on bytes) steps (Stopped reason) a b files (p, inr f) e =
     inr (reason, refl, fault_of reason ChipFailed f.0 tt)
 
 -- what is known before is known afterwards

@@ -5,7 +5,7 @@ use Rattle.std.specs.Prelude.{IfSome}
 use Rattle.host_edge.specs.Views.{Files, Known, AppendsPart, IsPrefix}
 use Rattle.faults.specs.Counts.{Rose, RoseBy}
 use Rattle.cli_model.specs.World.{World}
-use Rattle.cli_model.specs.Waves.{IsDoneBy, IsLeftBy, StoppedIn}
+use Rattle.cli_model.specs.Waves.{IsLeftBy, StoppedIn}
 use Rattle.cli_model.specs.Steps.{IsLeftUnopened}
 use Rattle.cli_model.specs.Steps.{Step, Load, Take, Store, Open, Use, UseFor, Put, Print, Reason}
 use Rattle.cli_model.specs.Steps.{CannotRead, TooLong, Refused, NoMemory, CannotWrite, PutFailed}
@@ -19,7 +19,7 @@ use Rattle.cli_model.specs.Ends.{Sends, IsStoreOf, LeavesFiles, IsFault, IsForet
 use Rattle.cli_model.specs.Laws.{FirstDecides}
 use Rattle.cli_model.proofs.Causing.{Decided, files_decide}
 use Rattle.cli_model.proofs.Going.{within, more_counts, known_sent, all_stand}
-use Rattle.cli_model.proofs.Going.{all_faults, all_off, stopped_at}
+use Rattle.cli_model.proofs.Going.{all_off, stopped_at}
 
 -- why a step fails
 
@@ -45,8 +45,7 @@ fails_causes (Open on) reason a b (inr f) = inr (f.0, f.2, f.3)
 fails_causes (Use on) reason a b f = (f.0, f.2, f.3)
 fails_causes (UseFor wave) reason a b f = (f.0, f.2, f.3)
 fails_causes (Put bytes) reason a b f = (f.0, f.2)
-fails_causes (Print on bytes) reason a b (inl f) = inl (f.0, f.2, f.3)
-fails_causes (Print on bytes) reason a b (inr f) = inr (f.0, f.2, f.3)
+fails_causes (Print on bytes) reason a b f = f.1
 
 -- a count that rose between two moments rose between moments around them
 around : (a b c d n : ℕ) → a ≤ b → RoseBy n b c → c ≤ d → RoseBy n a d
@@ -90,11 +89,8 @@ causes_around (UseFor wave) reason a b c d p q e f = (
   subst (λ (v : ChipView). StoppedIn wave v.banks) (sym e) f.2,
 )
 causes_around (Put bytes) reason a b c d p q e f = (f.0, around _ _ _ _ 1 p.sink f.1 q.sink)
-causes_around (Print on bytes) reason a b c d p q e (inl f) = inl (
-  f.0,
-  around _ _ _ _ 1 p.sink f.1 q.sink,
-  subst (λ (v : ChipView). IsDoneBy on v.banks) (sym e) f.2,
-)
+causes_around (Print on bytes) reason a b c d p q e (inl f) =
+    inl (f.0, around _ _ _ _ 1 p.sink f.1 q.sink)
 causes_around (Print on bytes) reason a b c d p q e (inr f) = inr (
   f.0,
   around _ _ _ _ 1 p.chip f.1 q.chip,
@@ -256,16 +252,16 @@ stop_sent certain (UseFor wave) reason a b c d t l f s =
     (reason_line reason, refl, line_sent certain (reason_line reason) a b c d t l f.1.sink s)
 stop_sent certain (Put bytes) reason a b c d t l f s =
     (bytes, refl, put_sent certain bytes reason a b c d t l f.2 f.1.sent f.0 s)
-stop_sent certain (Print on bytes) reason a b c d t l (inl f) s = (
+stop_sent certain (Print on bytes) reason a b c d t l (p, inl f) s = (
   bytes,
   subst (λ (r : Reason). LastOfPrint bytes r bytes) (sym f.0) refl,
-  put_sent certain bytes reason a b c d t l f.2 f.1.sent f.0 s,
+  put_sent certain bytes reason a b c d t l f.1 p.sent f.0 s,
 )
-stop_sent certain (Print on bytes) reason a b c d t l (inr f) s =
+stop_sent certain (Print on bytes) reason a b c d t l (p, inr f) s =
     let says : Says (reason_line ChipFailed) c d =
     subst (λ (r : Reason). Says (reason_line r) c d) f.0 s in
     let said = print_sent certain bytes (reason_line ChipFailed) a b c d t
-    (no_more_than _ _ _ l f.1.faults) f.1.sent says in (
+    (no_more_than _ _ _ l p.faults) p.sent says in (
       said.0 ++ reason_line ChipFailed,
       subst (λ (r : Reason). LastOfPrint bytes r (said.0 ++ reason_line ChipFailed)) (sym f.0)
           (said.0, said.1, refl),
@@ -305,10 +301,8 @@ fails_files (Use on) reason a b f = known_kept (Use on) _ _ (ap (λ k. k.holds) 
 fails_files (UseFor wave) reason a b f =
     known_kept (UseFor wave) _ _ (ap (λ k. k.holds) f.1.files)
 fails_files (Put bytes) reason a b f = known_kept (Put bytes) _ _ (ap (λ k. k.holds) f.1.files)
-fails_files (Print on bytes) reason a b (inl f) =
-    known_kept (Print on bytes) _ _ (ap (λ k. k.holds) f.1.files)
-fails_files (Print on bytes) reason a b (inr f) =
-    known_kept (Print on bytes) _ _ (ap (λ k. k.holds) f.1.files)
+fails_files (Print on bytes) reason a b f =
+    known_kept (Print on bytes) _ _ (ap (λ k. k.holds) f.0.files)
 
 known_left : (stop : Stop) (a b c d : Option Files)
     → Known (λ x y. y ≡ files_after stop.before x) a b → Known (KeepsBut stop.failed) b c → d ≡ c
@@ -380,9 +374,9 @@ fails_unopened (Use on) reason a b f e = let no : ChipFailed ≡ NoMemory = sym 
 fails_unopened (UseFor wave) reason a b f e =
     let no : ChipFailed ≡ NoMemory = sym f.0 ∙ e in absurd (cc)
 fails_unopened (Put bytes) reason a b f e = inl f.1.chip
-fails_unopened (Print on bytes) reason a b (inl f) e =
+fails_unopened (Print on bytes) reason a b (p, inl f) e =
     let no : PutFailed ≡ NoMemory = sym f.0 ∙ e in absurd (cc)
-fails_unopened (Print on bytes) reason a b (inr f) e =
+fails_unopened (Print on bytes) reason a b (p, inr f) e =
     let no : ChipFailed ≡ NoMemory = sym f.0 ∙ e in absurd (cc)
 
 unopened_around : (a b c d : ChipView) → b ≡ a → Unopened b c → d ≡ c → Unopened a d
@@ -400,7 +394,6 @@ all_ends steps done a b c status g e answers =
       foretold = if_known a.files.holds (IsForetold steps All)
           (λ files there. done_foretold steps files (files_decide steps Done a b files g there));
       counts = stands.counts;
-      faults = λ none. ap (λ w. w.chip.faults) e ∙ all_faults steps a b g;
       chip = λ off. ap (λ w. w.chip) e ∙ all_off steps a b g off;
       unopened = λ off w. elim w [ ];
     } in
@@ -431,7 +424,6 @@ stop_ends steps done reason a b c status g says answers =
           (files_decide s.front Done a s.failing files s.goes there)
           (files_decide steps (Stopped reason) a b files g there));
       counts = more_counts a b c s.counts (says_counts _ b c says);
-      faults = λ none. ap (λ v. v.faults) says.chip ∙ s.faults none;
       chip = λ off. says.chip ∙ s.off off;
       unopened = λ off w. unopened_around a.chip s.failing.chip b.chip c.chip
           (all_off s.front a s.failing s.goes off)

@@ -10,10 +10,10 @@ use Rattle.cli_model.specs.Steps.{Step, Load, Take, Store, Open, Use, UseFor, Pu
 use Rattle.cli_model.specs.Steps.{CannotRead, TooLong, Refused, NoMemory, CannotWrite, PutFailed}
 use Rattle.cli_model.specs.Steps.{ChipFailed}
 use Rattle.cli_model.specs.Steps.{End, Done, Stopped, Goes, StepDone, Fails, ReadsOnly, Stored}
-use Rattle.cli_model.specs.Steps.{Used, UseFailed, PrintFailed}
+use Rattle.cli_model.specs.Steps.{Used}
 use Rattle.cli_model.specs.Steps.{Sent, Printed, Unstored}
 use Rattle.cli_model.specs.Stands.{files_after, sent_by, CountsOn, Stands}
-use Rattle.cli_model.specs.Ends.{is_on_chip, may_fault}
+use Rattle.cli_model.specs.Ends.{is_on_chip}
 
 -- steps, and then others
 pub goes_on : (xs ys : List Step) (end : End) (a b c : World) → Goes xs Done a b → Goes ys end b c
@@ -74,13 +74,6 @@ used_count : (a b : World) → Used a b → CountsOn a b
 used_count a b u = record {
   files = rw u.files (no_falls a.files);
   sink = rw u.sink (omega arith);
-  chip = rw u.chip (omega arith);
-}
-
-unused_count : (a b : World) → UseFailed a b → CountsOn a b
-unused_count a b u = record {
-  files = rw u.files (no_falls a.files);
-  sink = rw u.sink (omega arith);
   chip = u.chip;
 }
 
@@ -93,13 +86,6 @@ sent_count R a b s = record {
 
 pub printed_count : (R : List ℕ → List ℕ → Type 0) (a b : World) → Printed R a b → CountsOn a b
 printed_count R a b p = record {
-  files = rw p.files (no_falls a.files);
-  sink = p.faults;
-  chip = rw p.chip (omega arith);
-}
-
-unprinted_count : (bytes : List ℕ) (a b : World) → PrintFailed bytes a b → CountsOn a b
-unprinted_count bytes a b p = record {
   files = rw p.files (no_falls a.files);
   sink = p.faults;
   chip = p.chip;
@@ -145,13 +131,12 @@ fails_count (Load name limit text refusal) reason a b f =
     load_fails_count name limit text refusal reason a b f
 fails_count Take reason a b f = reads_count a b f.1
 fails_count (Store name bytes) reason a b f = unstored_count name a b f.1
-fails_count (Open on) reason a b (inl f) = unused_count a b f.1
-fails_count (Open on) reason a b (inr f) = unused_count a b f.1
-fails_count (Use on) reason a b f = unused_count a b f.1
-fails_count (UseFor wave) reason a b f = unused_count a b f.1
+fails_count (Open on) reason a b (inl f) = used_count a b f.1
+fails_count (Open on) reason a b (inr f) = used_count a b f.1
+fails_count (Use on) reason a b f = used_count a b f.1
+fails_count (UseFor wave) reason a b f = used_count a b f.1
 fails_count (Put bytes) reason a b f = sent_count _ a b f.1
-fails_count (Print on bytes) reason a b (inl f) = printed_count _ a b f.1
-fails_count (Print on bytes) reason a b (inr f) = unprinted_count bytes a b f.1
+fails_count (Print on bytes) reason a b f = printed_count _ a b f.0
 
 pub known_same : {A : Type 0} (a b : Option A) → b ≡ a → Known (λ x y. y ≡ x) a b
 known_same None b e = tt
@@ -271,24 +256,6 @@ all_stand (step ∷ steps) a b (inl (mid, (d, g))) =
     more_stand step steps a mid b d (all_stand steps mid b g)
 all_stand (step ∷ steps) a b (inr f) = elim f [ ]
 
--- a step that was done leaves the count of the chip's faults
-does_faults : (step : Step) (a b : World) → StepDone step a b → b.chip.faults ≡ a.chip.faults
-does_faults (Load name limit text refusal) a b d = ap (λ v. v.faults) d.1.reads.chip
-does_faults Take a b d = ap (λ v. v.faults) d.chip
-does_faults (Store name bytes) a b d = ap (λ v. v.faults) d.chip
-does_faults (Open on) a b d = d.chip
-does_faults (Use on) a b d = d.chip
-does_faults (UseFor wave) a b d = d.chip
-does_faults (Put bytes) a b d = ap (λ v. v.faults) d.chip
-does_faults (Print on bytes) a b d = d.chip
-
-pub all_faults : (steps : List Step) (a b : World) → Goes steps Done a b
-    → b.chip.faults ≡ a.chip.faults
-all_faults [] a b e = ap (λ w. w.chip.faults) e
-all_faults (step ∷ steps) a b (inl (mid, (d, g))) =
-    all_faults steps mid b g ∙ does_faults step a mid d
-all_faults (step ∷ steps) a b (inr f) = elim f [ ]
-
 -- a step that is not on the chip leaves it
 does_chip : (step : Step) (a b : World) → is_on_chip step ≡ false → StepDone step a b
     → b.chip ≡ a.chip
@@ -323,21 +290,6 @@ fails_chip (UseFor wave) reason a b off f = absurd (cc)
 fails_chip (Put bytes) reason a b off f = f.1.chip
 fails_chip (Print on bytes) reason a b off f = absurd (cc)
 
--- and so does one that failed for another reason than the chip
-fails_faults : (step : Step) (reason : Reason) (a b : World) → may_fault step reason ≡ false
-    → Fails step reason a b → b.chip.faults ≡ a.chip.faults
-fails_faults (Load name limit text refusal) reason a b none f =
-    ap (λ v. v.faults) (load_chip name limit text refusal reason a b f)
-fails_faults Take reason a b none f = ap (λ v. v.faults) f.1.chip
-fails_faults (Store name bytes) reason a b none f = ap (λ v. v.faults) f.1.chip
-fails_faults (Open on) reason a b none (inl f) = absurd (cc (none, f.0))
-fails_faults (Open on) reason a b none (inr f) = absurd (cc (none, f.0))
-fails_faults (Use on) reason a b none f = absurd (cc (none, f.0))
-fails_faults (UseFor wave) reason a b none f = absurd (cc (none, f.0))
-fails_faults (Put bytes) reason a b none f = ap (λ v. v.faults) f.1.chip
-fails_faults (Print on bytes) reason a b none (inl f) = f.1.chip
-fails_faults (Print on bytes) reason a b none (inr f) = absurd (cc (none, f.0))
-
 -- the first step is off the chip, and so are the others
 first_off : (step : Step) (steps : List Step) → list_any is_on_chip (step ∷ steps) ≡ false
     → (is_on_chip step ≡ false) × (list_any is_on_chip steps ≡ false)
@@ -369,7 +321,6 @@ pub record StoppedAt (steps : List Step) (reason : Reason) (old new : World) : T
   pub stands : Stands front old failing
   pub fails : Fails at reason failing new
   pub counts : CountsOn old new
-  pub faults : may_fault at reason ≡ false → new.chip.faults ≡ old.chip.faults
   pub off : list_any is_on_chip (front ++ at ∷ []) ≡ false → new.chip ≡ old.chip
 
 pub stopped_at : (steps : List Step) (reason : Reason) (a b : World)
@@ -387,7 +338,6 @@ stopped_at (step ∷ steps) reason a b (inl (mid, (d, g))) =
       stands = more_stand step s.front a mid s.failing d s.stands;
       fails = s.fails;
       counts = more_counts a mid b (does_count step a mid d) s.counts;
-      faults = λ none. s.faults none ∙ does_faults step a mid d;
       off = λ o. let parts = first_off step (s.front ++ s.at ∷ []) o in
           s.off parts.1 ∙ does_chip step a mid parts.0 d;
     }
@@ -401,6 +351,5 @@ stopped_at (step ∷ steps) reason a b (inr f) = record {
   stands = none_stand a a refl;
   fails = f;
   counts = fails_count step reason a b f;
-  faults = λ none. fails_faults step reason a b none f;
   off = λ o. fails_chip step reason a b (first_off step [] o).0 f;
 }

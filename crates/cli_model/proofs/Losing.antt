@@ -1,7 +1,8 @@
 -- A fault of the chip loses one bank at most.
-use Rattle.std.proofs.Common.{◌≢◌, ◌⊎◌, ℕ, sym, ◌∙◌, inl, inr}
+use Rattle.std.proofs.Common.{◌≡◌, ◌≢◌, ◌⊎◌, ℕ, true, false, Some, sym, ◌∙◌, inl, inr}
 use Rattle.std.proofs.lemmas.Bool.{cases_eq}
 use Rattle.dram_model.specs.Chip.{Banks}
+use Rattle.cli_model.specs.World.{World}
 use Rattle.cli_model.specs.Waves.{ChipUse, StoppedWithin}
 use Rattle.cli_model.specs.Laws.{HoldsPart, OneBankIsLost}
 

@@ -5,7 +5,7 @@ use Rattle.std.specs.List.{list_any}
 use Rattle.host_edge.specs.Views.{Files, Known, IsPrefix}
 use Rattle.faults.specs.Counts.{Rose, RoseBy}
 use Rattle.cli_model.specs.World.{World}
-use Rattle.cli_model.specs.Waves.{IsDoneBy, IsLeftBy, StoppedIn}
+use Rattle.cli_model.specs.Waves.{IsLeftBy, StoppedIn}
 use Rattle.cli_model.specs.Steps.{Step, Load, Take, Store, Open, Use, UseFor, Put, Print, Reason}
 use Rattle.cli_model.specs.Steps.{CannotRead, TooLong, Refused, NoMemory, CannotWrite, PutFailed}
 use Rattle.cli_model.specs.Steps.{ChipFailed}
@@ -49,7 +49,7 @@ Causes (UseFor wave) reason old new = (reason ≡ ChipFailed)
 Causes (Put bytes) reason old new =
     (reason ≡ PutFailed) × Rose old.sink.faults new.sink.faults
 Causes (Print on bytes) reason old new =
-    ((reason ≡ PutFailed) × Rose old.sink.faults new.sink.faults × IsDoneBy on new.chip.banks)
+    ((reason ≡ PutFailed) × Rose old.sink.faults new.sink.faults)
     ⊎ ((reason ≡ ChipFailed) × Rose old.chip.faults new.chip.faults × IsLeftBy on new.chip.banks)
 
 -- what is sent last of a line that is sent while the chip is read: the line, or the part of it that
@@ -166,27 +166,14 @@ abbrev pub Wants : Ended → Type 0
 Wants All = ⊥
 Wants (At stop) = stop.reason ≡ NoMemory
 
--- a call of the chip may have failed in a step that failed for this reason
-abbrev pub may_fault : Step → Reason → Bool
-may_fault (Open on) NoMemory = true
-may_fault step ChipFailed = true
-may_fault step reason = false
-
--- it stopped in such a step
-abbrev pub is_chip_fault : Ended → Bool
-is_chip_fault All = false
-is_chip_fault (At stop) = may_fault stop.failed stop.reason
-
 -- A command of these steps ends with this status, and with `done` where all of them were done. No
--- count of faults falls, and the chip's rises in the step alone where it stopped. The chip is as it
--- was where no step on it was begun, and where none was done, a command out of memory leaves it as
--- it was or not begun
+-- count of faults falls. The chip is as it was where no step on it was begun, and where none was
+-- done, want of memory leaves it as it was or not begun
 pub record Ends (steps : List Step) (done : ℕ) (old new : World) (status : ℕ) : Type 0 where
   pub ended : Ended
   pub so : EndsSo steps done ended old new status
   pub foretold : IfSome old.files.holds (IsForetold steps ended)
   pub counts : CountsOn old new
-  pub faults : is_chip_fault ended ≡ false → new.chip.faults ≡ old.chip.faults
   pub chip : list_any is_on_chip (begun_steps steps ended) ≡ false → new.chip ≡ old.chip
   pub unopened : list_any is_on_chip (done_steps steps ended) ≡ false → Wants ended
       → Unopened old.chip new.chip

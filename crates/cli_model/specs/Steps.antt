@@ -6,7 +6,7 @@ use Rattle.faults.specs.Counts.{Rose, RoseBy}
 use Rattle.host_edge.specs.Views.{AppendsPart}
 use Rattle.dram_model.specs.View.{ChipView, NotBegun}
 use Rattle.cli_model.specs.World.{World, with_file}
-use Rattle.cli_model.specs.Waves.{ChipUse, ChipWave, IsDoneBy, IsLeftBy, StoppedIn}
+use Rattle.cli_model.specs.Waves.{ChipUse, ChipWave, IsLeftBy, StoppedIn}
 
 -- why a text is not accepted: the status, and the line that tells it
 pub record Refusal : Type 0 where
@@ -75,15 +75,8 @@ pub record Stored (name bytes : List ℕ) (old new : World) : Type 0 where
   pub sink : new.sink ≡ old.sink
   pub chip : new.chip ≡ old.chip
 
--- the chip was used, no call of it failed, and all else is as it was
+-- the chip was used, and all else is as it was
 pub record Used (old new : World) : Type 0 where
-  pub files : new.files ≡ old.files
-  pub sink : new.sink ≡ old.sink
-  pub chip : new.chip.faults ≡ old.chip.faults
-
--- the opening or another use of the chip failed: its count of faults does not fall, and all else is
--- as it was
-pub record UseFailed (old new : World) : Type 0 where
   pub files : new.files ≡ old.files
   pub sink : new.sink ≡ old.sink
   pub chip : old.chip.faults ≤ new.chip.faults
@@ -95,18 +88,11 @@ pub record Sent (R : List ℕ → List ℕ → Type 0) (old new : World) : Type 
   pub faults : old.sink.faults ≤ new.sink.faults
   pub chip : new.chip ≡ old.chip
 
--- the chip was read and bytes were sent, related so to what was sent before; no call of the chip
--- failed, and all else is as it was
+-- the chip was used and bytes were sent, related so to what was sent before, and all else is as it
+-- was
 pub record Printed (R : List ℕ → List ℕ → Type 0) (old new : World) : Type 0 where
   pub files : new.files ≡ old.files
   pub sent : Known R old.sink.sent new.sink.sent
-  pub faults : old.sink.faults ≤ new.sink.faults
-  pub chip : new.chip.faults ≡ old.chip.faults
-
--- the chip failed while these bytes were sent: a part of them was, and all else is as it was
-pub record PrintFailed (bytes : List ℕ) (old new : World) : Type 0 where
-  pub files : new.files ≡ old.files
-  pub sent : Known (AppendsPart bytes) old.sink.sent new.sink.sent
   pub faults : old.sink.faults ≤ new.sink.faults
   pub chip : old.chip.faults ≤ new.chip.faults
 
@@ -155,20 +141,19 @@ Fails (Load name limit text refusal) reason old new =
 Fails Take reason old new = (reason ≡ NoMemory) × ReadsOnly old new
 Fails (Store name bytes) reason old new = (reason ≡ CannotWrite name) × Unstored name old new
 Fails (Open on) reason old new =
-    ((reason ≡ NoMemory) × UseFailed old new × Unopened old.chip new.chip)
-    ⊎ ((reason ≡ ChipFailed) × UseFailed old new × Rose old.chip.faults new.chip.faults
+    ((reason ≡ NoMemory) × Used old new × Unopened old.chip new.chip)
+    ⊎ ((reason ≡ ChipFailed) × Used old new × Rose old.chip.faults new.chip.faults
     × IsLeftUnopened on new.chip)
-Fails (Use on) reason old new = (reason ≡ ChipFailed) × UseFailed old new
+Fails (Use on) reason old new = (reason ≡ ChipFailed) × Used old new
     × Rose old.chip.faults new.chip.faults × IsLeftBy on new.chip.banks
-Fails (UseFor wave) reason old new = (reason ≡ ChipFailed) × UseFailed old new
+Fails (UseFor wave) reason old new = (reason ≡ ChipFailed) × Used old new
     × Rose old.chip.faults new.chip.faults × StoppedIn wave new.chip.banks
 Fails (Put bytes) reason old new = (reason ≡ PutFailed) × Sent (AppendsPart bytes) old new
     × Rose old.sink.faults new.sink.faults
-Fails (Print on bytes) reason old new =
-    ((reason ≡ PutFailed) × Printed (AppendsPart bytes) old new
-    × Rose old.sink.faults new.sink.faults × IsDoneBy on new.chip.banks)
-    ⊎ ((reason ≡ ChipFailed) × PrintFailed bytes old new
-    × Rose old.chip.faults new.chip.faults × IsLeftBy on new.chip.banks)
+Fails (Print on bytes) reason old new = Printed (AppendsPart bytes) old new
+    × (((reason ≡ PutFailed) × Rose old.sink.faults new.sink.faults)
+    ⊎ ((reason ≡ ChipFailed) × Rose old.chip.faults new.chip.faults
+    × IsLeftBy on new.chip.banks))
 
 -- the step failed, and this is the end that tells why
 abbrev pub FailsBy : Step → End → World → World → Type 0

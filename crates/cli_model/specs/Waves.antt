@@ -47,8 +47,3 @@ pub record StoppedWithin (on : ChipUse) (left : Banks) : Type 0 where
 -- and where it is not known which use that was, nothing is said
 abbrev pub IsLeftBy : Option ChipUse → Banks → Type 0
 IsLeftBy known left = IfSome known (λ on. StoppedWithin on left)
-
--- the use was done: the banks stand where its events leave them, and where it is not known which
--- use that was, nothing is said
-abbrev pub IsDoneBy : Option ChipUse → Banks → Type 0
-IsDoneBy known left = IfSome known (λ on. left ≡ after on.events on.banks)

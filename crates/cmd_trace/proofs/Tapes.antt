@@ -416,7 +416,6 @@ did_recorded event old new tape after h is kept did e =
       did = record {
         banks = did.banks;
         counters = did.counters;
-        faults = did.faults;
         log = subst (λ (g : Geometry). Grew (log_shown old.geometry tape) (log_shown g same)
             (event ∷ [])) (sym kept.geometry) known.grew;
       };

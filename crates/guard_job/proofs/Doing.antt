@@ -1,20 +1,15 @@
 -- One instruction with the flips and the vote before it.
-use Rattle.std.proofs.Common.{◌≡◌, ℕ, ◌+◌, ◌<◌, Bool, true, false, cond, List, [], ◌∷◌, ◌++◌}
-use Rattle.std.proofs.Common.{length, map, refl, sym, ◌∙◌, ap, subst, append_assoc}
-use Rattle.std.proofs.Common.{Option, Some, None}
+use Rattle.std.proofs.Common.{◌≡◌, ℕ, ◌+◌, ◌<◌, Bool, true, false, cond, List, ◌++◌, length}
+use Rattle.std.proofs.Common.{refl, sym, ◌∙◌, ap, subst, append_assoc}
 use mir.Val.{bool_byte}
 use Rattle.dram_model.specs.declared.dram.Counters.{Counters}
 use Rattle.dram_model.specs.declared.geometry.Geometry.{Geometry}
-use Rattle.dram_model.specs.Chip.{Banks, Event, Grew, after}
+use Rattle.dram_model.specs.Chip.{Event, Grew}
 use Rattle.dram_model.specs.View.{ChipView, Did, with_reads}
 use Rattle.dram_model.proofs.EventLaws.{Grew-more}
 use Rattle.object_alloc.specs.Listed.{Named}
-use Rattle.bbop_isa.specs.Forms.{Instruction, Init, Bbop, Load, Fill, Print, Free, Order}
+use Rattle.bbop_isa.specs.Forms.{Instruction}
 use Rattle.machine_model.specs.declared.Reply.{Reply}
-use Rattle.machine_model.specs.declared.Why.{Why}
-use Rattle.machine_model.specs.Pieces.{events_of_pieces, piece_of}
-use Rattle.machine_model.specs.Refusals.{refusal}
-use Rattle.machine_model.specs.Steps.{if_done}
 use Rattle.machine_model.specs.Laws.{FitsBanks}
 use Rattle.machine_model.specs.Routines.{Routines}
 use Rattle.machine_model.specs.Script.{counters_at_end, is_refused}
@@ -22,19 +17,11 @@ use Rattle.machine_model.proofs.Bounds.{geometry_parts}
 use Rattle.machine_model.proofs.Tables.{fits_banks}
 use Rattle.sim_machine.specs.declared.machine.Machine.{Machine}
 use Rattle.sim_machine.specs.Machine.{IsLaidOut, geometry_of, operations_by, table_in, turn_in}
-use Rattle.sim_machine.specs.Machine.{is_print}
 use Rattle.sim_machine.specs.Steps.{DidAndRead}
-use Rattle.sim_machine.proofs.Stepping.{if_same}
-use Rattle.object_steps.specs.Lines.{DidReadAtMost}
-use Rattle.wave_model.specs.Schedule.{Turn}
-use Rattle.cli_model.specs.Waves.{IsDoneBy, doing}
 use Rattle.guard_model.specs.declared.Flip.{Flip}
 use Rattle.guard_model.specs.Flips.{all_flipped}
 use Rattle.guard_model.specs.Votes.{vote_count, vote_events, voted}
-use Rattle.guard_model.specs.Guarded.{guarded_events, guarded_reads, guarded_reply, guarded_rows}
-use Rattle.guard_model.specs.Guarded.{plain_script}
-use Rattle.guard_model.specs.Triples.{x_letter}
-use Rattle.guard_model.proofs.Runs.{script_by}
+use Rattle.guard_model.specs.Guarded.{guarded_events, guarded_reads, guarded_rows, plain_script}
 use Rattle.guard_model.proofs.Commands.{vote_is_counted, vote_is_events}
 use Rattle.guard_model.proofs.Pieces.{step_is_counted, step_is_events}
 use Rattle.tmr_guard.specs.Steps.{events_by, reads_by, reply_by, table_by, turn_by}
@@ -45,15 +32,14 @@ use Rattle.guard_job.proofs.Tallies.{count_one}
 -- flips, and then a vote
 pub mended_by : (g : Geometry) (now : List Flip) (table : List Named) (n : ℕ) (a b c : ChipView)
     → b.banks ≡ all_flipped now a.banks → b.counters ≡ after_flips n a.counters
-    → b.faults ≡ a.faults → Grew a.log b.log (flip_events now a.banks) → n ≡ length now
+    → Grew a.log b.log (flip_events now a.banks) → n ≡ length now
     → Did (vote_events g table) b c → Mended g now table a c
-mended_by g now table n a b c banks counters faults log count did = record {
+mended_by g now table n a b c banks counters log count did = record {
   banks = did.banks ∙ vote_is_events g table b.banks ∙ ap (voted g table) banks;
   counters = did.counters ∙ vote_is_counted g table b.counters
       ∙ ap (λ (k : Counters). let d : Counters = record k { aap = k.aap + vote_count g table } in d)
       counters
       ∙ ap (λ (m : ℕ). mended_tally m (vote_count g table) a.counters) count;
-  faults = did.faults ∙ faults;
   log = Grew-more a.log b.log c.log (flip_events now a.banks) (vote_events g table) log did.log;
 }
 
@@ -67,41 +53,6 @@ holds_of m laid = record {
   words = (geometry_parts (geometry_of m) laid.shape).0;
   fits = fits_banks (geometry_of m) (table_in m) laid.table;
 }
-
--- a print has no event of its own
-quiet : (g : Geometry) (o : Routines) (turn : Turn) (table : List Named) (copy : List ℕ)
-    (refused : Bool) (r : Option Why)
-    → events_of_pieces g o turn table (map piece_of (script_by refused
-    (if_done r (Print copy ∷ []) []))) ≡ []
-quiet g o turn table copy true None =
-    ap (λ (es : List Event). es ++ []) (if_same (refusal g o table (Print copy)) [])
-quiet g o turn table copy false None =
-    ap (λ (es : List Event). es ++ []) (if_same (refusal g o table (Print copy)) [])
-quiet g o turn table copy true (Some why) = refl
-quiet g o turn table copy false (Some why) = refl
-
-print_is_quiet : (g : Geometry) (o : Routines) (turn : Turn) (table : List Named)
-    (instr : Instruction) → is_print instr ≡ true → guarded_events g o turn table instr ≡ []
-print_is_quiet g o turn table (Print name) is =
-    quiet g o turn table (x_letter ∷ name) (is_refused (guarded_reply g o table (Print name)))
-    (refusal g o table (Print (x_letter ∷ name)))
-print_is_quiet g o turn table (Init name count n) is = absurd (cc)
-print_is_quiet g o turn table (Bbop op dst srcs count n) is = absurd (cc)
-print_is_quiet g o turn table (Load name values) is = absurd (cc)
-print_is_quiet g o turn table (Fill name value) is = absurd (cc)
-print_is_quiet g o turn table (Free name) is = absurd (cc)
-print_is_quiet g o turn table (Order order) is = absurd (cc)
-
--- what stands where the chip was read for a print
-pub read_by : (g : Geometry) (o : Routines) (turn : Turn) (table : List Named)
-    (instr : Instruction) (n : ℕ) (now : Banks) (a b : ChipView) → is_print instr ≡ true
-    → a.banks ≡ now → DidReadAtMost n a b
-    → (b.faults ≡ a.faults) × IsDoneBy (doing now (guarded_events g o turn table instr)) b.banks
-read_by g o turn table instr n now a b is e read = (
-  read.did.faults,
-  read.did.banks ∙ e
-      ∙ ap (λ (es : List Event). after es now) (sym (print_is_quiet g o turn table instr is)),
-)
 
 -- a test as a number
 as_number : (b : Bool) → bool_byte b ≡ cond b 1 0

@@ -11,19 +11,21 @@ use Rattle.dram_model.specs.View.{ChipView}
 use Rattle.object_alloc.specs.Listed.{Named}
 use Rattle.bbop_isa.specs.declared.instr.Instr.{Instr}
 use Rattle.bbop_isa.specs.Forms.{Instruction, view_of}
-use Rattle.wave_model.specs.Schedule.{Turn}
 use Rattle.machine_model.specs.Routines.{Routines}
+use Rattle.machine_model.specs.Report.{line}
 use Rattle.machine_model.proofs.Parts.{all_parted}
 use Rattle.object_steps.specs.declared.fault.StepFault.{StepFault}
 use Rattle.object_steps.specs.Objects.{RisesAtMost}
 use Rattle.cli_model.specs.World.{World}
-use Rattle.cli_model.specs.Steps.{Goes}
+use Rattle.cli_model.specs.Steps.{Use, Goes}
+use Rattle.sim_machine.specs.Machine.{is_print}
 use Rattle.guard_model.specs.declared.Flip.{Flip}
-use Rattle.guard_model.specs.Flips.{due}
+use Rattle.guard_model.specs.Flips.{all_flipped, due}
 use Rattle.guard_model.specs.FlipText.{AreSorted, IsFlip}
-use Rattle.guard_model.specs.Guarded.{guarded_rows, guarded_table, guarded_tally, guarded_turn}
-use Rattle.guard_model.specs.Guarded.{mended}
-use Rattle.guard_job.specs.Steps.{end_by, guarded_steps, instr_steps}
+use Rattle.guard_model.specs.Votes.{voted}
+use Rattle.guard_model.specs.Guarded.{guarded_rows, guarded_said_by}
+use Rattle.guard_model.specs.Guarded.{guarded_table, guarded_tally, mended}
+use Rattle.guard_job.specs.Steps.{end_by, guarded_steps, line_steps}
 use Rattle.guard_job.specs.Parts.{IsCell, Mended}
 use Rattle.guard_job.proofs.Due.{all_due, following, cells_of, lasts_of}
 use Rattle.guard_job.proofs.Sending.{stops_by}
@@ -49,18 +51,20 @@ flips_after P n at flips all = subst (AllByRecursion P) (drop-drop n at flips)
 
 -- a script whose first instruction was not done
 pub stops_here : (X : Type 0) (fault : StepFault) (g : Geometry) (o : Routines)
-    (flips now : List Flip) (k : ℕ) (turn : Turn) (table : List Named) (banks : Banks)
-    (instr : Instruction) (others left : List Instruction) (a b : World) → left ≡ instr ∷ others
+    (flips now : List Flip) (k : ℕ) (table : List Named) (banks : Banks) (instr : Instruction)
+    (others left : List Instruction) (a b : World) → left ≡ instr ∷ others
     → due k now ≡ due k flips
-    → Goes (instr_steps g o (due k now) k turn table banks instr) (end_by {X = X} (Err fault)) a b
-    → Goes (guarded_steps g o flips k turn table banks left) (end_by {X = X} (Err fault)) a b
-stops_here X fault g o flips now k turn table banks instr others left a b e same go =
-    let here = subst (λ (ds : List Flip). Goes (instr_steps g o ds k turn table banks instr)
+    → Goes (Use None ∷ line_steps (is_print instr) (line k (guarded_said_by g o table
+    (mended g now k table banks) instr))) (end_by {X = X} (Err fault)) a b
+    → Goes (guarded_steps g o flips k table banks left) (end_by {X = X} (Err fault)) a b
+stops_here X fault g o flips now k table banks instr others left a b e same go =
+    let here = subst (λ (ds : List Flip). Goes (Use None ∷ line_steps (is_print instr)
+    (line k (guarded_said_by g o table (voted g table (all_flipped ds banks)) instr)))
     (end_by {X = X} (Err fault)) a b) same go in
-    subst (λ (script : List Instruction). Goes (guarded_steps g o flips k turn table banks script)
+    subst (λ (script : List Instruction). Goes (guarded_steps g o flips k table banks script)
     (end_by {X = X} (Err fault)) a b) (sym e)
-    (stops_by X fault (instr_steps g o (due k flips) k turn table banks instr)
-    (guarded_steps g o flips (k + 1) (guarded_turn g o turn table instr)
+    (stops_by X fault (Use None ∷ line_steps (is_print instr) (line k (guarded_said_by g o table
+    (mended g flips k table banks) instr))) (guarded_steps g o flips (k + 1)
     (guarded_table g o table instr)
     (guarded_rows g o table (mended g flips k table banks) instr) others) a b here)
 

@@ -11,17 +11,20 @@ use Rattle.object_alloc.specs.Listed.{Named}
 use Rattle.bbop_isa.specs.Forms.{Instruction}
 use Rattle.wave_model.specs.Schedule.{Turn}
 use Rattle.machine_model.specs.Routines.{Program, Routines, routines_in}
+use Rattle.machine_model.specs.Report.{line}
 use Rattle.machine_model.specs.Script.{is_refused}
 use Rattle.cli_model.specs.World.{World, world}
-use Rattle.cli_model.specs.Steps.{Step, End, Done, Goes}
+use Rattle.cli_model.specs.Steps.{Step, Use, End, Done, Goes}
 use Rattle.cli_model.proofs.Going.{goes_on}
+use Rattle.sim_machine.specs.Machine.{is_print}
 use Rattle.guard_model.specs.declared.Flip.{Flip}
-use Rattle.guard_model.specs.Flips.{due}
-use Rattle.guard_model.specs.Guarded.{guarded_reply, guarded_replies, guarded_rows}
+use Rattle.guard_model.specs.Flips.{all_flipped, due}
+use Rattle.guard_model.specs.Votes.{voted}
+use Rattle.guard_model.specs.Guarded.{guarded_reply, guarded_replies, guarded_rows, guarded_said_by}
 use Rattle.guard_model.specs.Guarded.{guarded_rows_at_end, guarded_table, guarded_table_at_end}
 use Rattle.guard_model.specs.Guarded.{guarded_tally, guarded_turn, mended, votes_at_end}
 use Rattle.guard_job.specs.Events.{instr_events, run_events}
-use Rattle.guard_job.specs.Steps.{guarded_steps, instr_steps}
+use Rattle.guard_job.specs.Steps.{guarded_steps, line_steps}
 use Rattle.guard_job.specs.Parts.{InstrDone}
 use Rattle.guard_job.proofs.Tallies.{count_more, tally_goes_on}
 
@@ -91,28 +94,24 @@ module _ (g : Geometry) (operations : Routines) (flips : List Flip) (k : ℕ) (i
         (guarded_replies g operations (guarded_table g operations table instr) others) in
         omega (arith, e, d.refused_is, more)
 
-    steps_are : guarded_steps g operations flips (k + 1) turn' table' b.banks others
-        ≡ guarded_steps g operations flips (k + 1) (guarded_turn g operations turn table instr)
-        (guarded_table g operations table instr)
+    steps_are : guarded_steps g operations flips (k + 1) table' b.banks others
+        ≡ guarded_steps g operations flips (k + 1) (guarded_table g operations table instr)
         (guarded_rows g operations table (mended g flips k table a.banks) instr) others
     steps_are =
-        ap (λ (t : Turn). guarded_steps g operations flips (k + 1) t table' b.banks others) d.turns
-        ∙ ap (λ (t : List Named). guarded_steps g operations flips (k + 1)
-        (guarded_turn g operations turn table instr) t b.banks others) d.tables
+        ap (λ (t : List Named). guarded_steps g operations flips (k + 1) t b.banks others) d.tables
         ∙ ap (λ (x : Banks). guarded_steps g operations flips (k + 1)
-        (guarded_turn g operations turn table instr) (guarded_table g operations table instr) x
-        others) d.banks
+        (guarded_table g operations table instr) x others) d.banks
 
     pub goes_goes : (files : FolderView) (s t : SinkView) (end : End) (w : World)
-        → Goes (instr_steps g operations (due k flips) k turn table a.banks instr) Done
-        (world files s a) (world files t b)
-        → Goes (guarded_steps g operations flips (k + 1) turn' table' b.banks others) end
+        → Goes (Use None ∷ line_steps (is_print instr) (line k (guarded_said_by g operations table
+        (mended g flips k table a.banks) instr))) Done (world files s a) (world files t b)
+        → Goes (guarded_steps g operations flips (k + 1) table' b.banks others) end
         (world files t b) w
-        → Goes (guarded_steps g operations flips k turn table a.banks (instr ∷ others)) end
+        → Goes (guarded_steps g operations flips k table a.banks (instr ∷ others)) end
         (world files s a) w
     goes_goes files s t end w one more =
-        goes_on (instr_steps g operations (due k flips) k turn table a.banks instr)
-        (guarded_steps g operations flips (k + 1) (guarded_turn g operations turn table instr)
+        goes_on (Use None ∷ line_steps (is_print instr) (line k (guarded_said_by g operations table
+        (mended g flips k table a.banks) instr))) (guarded_steps g operations flips (k + 1)
         (guarded_table g operations table instr)
         (guarded_rows g operations table (mended g flips k table a.banks) instr) others) end
         (world files s a) (world files t b) w one
@@ -132,15 +131,18 @@ moved h g q p now flips instr turn turn' table table' a b votes refused e f s d 
     (subst (λ (x : List Flip). InstrDone h (routines_in q) x instr turn turn' table table' a b
     votes refused) s d))
 
+abbrev pub one_steps : Geometry → Routines → List Flip → ℕ → List Named → Banks → Instruction
+    → List Step
+one_steps g o due_now k table banks instr = Use None ∷ line_steps (is_print instr)
+    (line k (guarded_said_by g o table (voted g table (all_flipped due_now banks)) instr))
+
 pub line_moved : (h g : Geometry) (q p : Program) (now flips : List Flip) (k : ℕ)
-    (turn : Turn) (table : List Named) (banks : Banks) (instr : Instruction) (end : End)
-    (a b : World) → h ≡ g → q ≡ p → now ≡ flips
-    → Goes (instr_steps h (routines_in q) now k turn table banks instr) end a b
-    → Goes (instr_steps g (routines_in p) flips k turn table banks instr) end a b
-line_moved h g q p now flips k turn table banks instr end a b e f s d =
-    subst (λ (x : Geometry). Goes (instr_steps x (routines_in p) flips k turn table banks instr)
-    end a b) e
-    (subst (λ (x : Program). Goes (instr_steps h (routines_in x) flips k turn table banks instr)
-    end a b) f
-    (subst (λ (x : List Flip). Goes (instr_steps h (routines_in q) x k turn table banks instr)
-    end a b) s d))
+    (table : List Named) (banks : Banks) (instr : Instruction) (end : End) (a b : World) → h ≡ g
+    → q ≡ p → now ≡ flips
+    → Goes (one_steps h (routines_in q) now k table banks instr) end a b
+    → Goes (one_steps g (routines_in p) flips k table banks instr) end a b
+line_moved h g q p now flips k table banks instr end a b e f s d =
+    subst (λ (x : Geometry). Goes (one_steps x (routines_in p) flips k table banks instr) end a b)
+    e (subst (λ (x : Program). Goes (one_steps h (routines_in x) flips k table banks instr) end a
+    b) f (subst (λ (x : List Flip). Goes (one_steps h (routines_in q) x k table banks instr) end
+    a b) s d))

@@ -20,10 +20,6 @@ flip_events (f ∷ flips) banks =
     Write f.bank f.row (with_bit_inverted f.column (row_in f.row (banks f.bank)))
     ∷ flip_events flips (flipped f banks)
 
--- flips, and then the votes
-abbrev pub mend_events : Geometry → List Flip → List Named → Banks → List Event
-mend_events g now table banks = flip_events now banks ++ vote_events g table
-
 -- flips, the votes, and an instruction's own commands under the order in force
 abbrev pub instr_events : Geometry → Routines → List Flip → Turn → List Named → Banks
     → Instruction → List Event

@@ -38,12 +38,11 @@ instr_tally g operations table n instr k =
     (counters_at_end g operations table (plain_script g operations table instr)
     (mended_tally n (vote_count g table) k))
 
--- flips were done, then the triples of a table were voted, and no call failed
+-- flips were done, and then the triples of a table were voted
 pub record Mended (g : Geometry) (now : List Flip) (table : List Named) (a b : ChipView) : Type 0
   where
     pub banks : b.banks ≡ voted g table (all_flipped now a.banks)
     pub counters : b.counters ≡ mended_tally (length now) (vote_count g table) a.counters
-    pub faults : b.faults ≡ a.faults
     pub log : Grew a.log b.log (flip_events now a.banks ++ vote_events g table)
 
 -- flips were done, the triples were voted, and then an instruction was done

@@ -4,7 +4,6 @@ ghost use Rattle.std.specs.Prelude.{◌≡◌, ◌<◌, ◌≤◌, ◌^◌, leng
 ghost use Rattle.std.specs.List.{AllByRecursion};
 ghost use Rattle.dram_model.specs.Chip.{Grew};
 ghost use Rattle.dram_model.specs.View.{HasBegun, Kept};
-ghost use Rattle.transpose_unit.specs.Stopped.{StoppedWithin};
 ghost use Rattle.faults.specs.Counts.{Rose};
 ghost use Rattle.guard_model.specs.Flips.{all_flipped, due};
 ghost use Rattle.guard_model.specs.FlipText.{AreSorted};
@@ -40,10 +39,7 @@ pub(crate) fn flip_due<D: Dram>(
         ≡ after_flips n (D.view chip.old).counters) }
     ensures log { OnOk result (Grew (D.view chip.old).log (D.view chip.new).log
         (flip_events (due k flips.now) (D.view chip.old).banks)) }
-    ensures faults { OnOk result ((D.view chip.new).faults ≡ (D.view chip.old).faults) }
     ensures failed { OnErr result (Rose (D.view chip.old).faults (D.view chip.new).faults) }
-    ensures left { OnErr result (StoppedWithin (flip_events (due k flips.now)
-        (D.view chip.old).banks) (D.view chip.old).banks (D.view chip.new).banks) }
 {
     let mut done = 0;
     'flips: while done < flips.len() && flips[done].before == k {

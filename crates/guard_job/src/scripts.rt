@@ -7,27 +7,27 @@ ghost use Rattle.host_edge.specs.Views.{FolderView};
 ghost use Rattle.faults.specs.Counts.{Rose};
 ghost use Rattle.dram_model.specs.Chip.{Grew};
 ghost use Rattle.dram_model.specs.View.{HasBegun, Kept};
-ghost use Rattle.transpose_unit.specs.Stopped.{StoppedWithin};
 ghost use Rattle.bbop_isa.specs.Forms.{view_of};
 ghost use Rattle.machine_model.specs.Agrees.{IsPlain};
+ghost use Rattle.machine_model.specs.Report.{line};
 ghost use Rattle.machine_model.specs.Script.{is_refused};
 ghost use Rattle.object_steps.specs.Objects.{RisesAtMost};
 ghost use Rattle.cli_model.specs.World.{world};
-ghost use Rattle.cli_model.specs.Steps.{Goes};
-ghost use Rattle.sim_machine.specs.Machine.{GoesOn, IsLaidOut, geometry_of};
+ghost use Rattle.cli_model.specs.Steps.{Goes, Use};
+ghost use Rattle.sim_machine.specs.Machine.{GoesOn, IsLaidOut, geometry_of, is_print};
 ghost use Rattle.sim_machine.specs.Machine.{operations_by, table_in, turn_in};
 ghost use Rattle.guard_model.specs.Flips.{due};
 ghost use Rattle.guard_model.specs.FlipText.{AreSorted, IsFlip};
 ghost use Rattle.guard_model.specs.Named.{has_long_name};
 ghost use Rattle.guard_model.specs.Triples.{first_stranger};
 ghost use Rattle.guard_model.specs.Votes.{vote_count};
-ghost use Rattle.guard_model.specs.Guarded.{guarded_replies, guarded_rows_at_end};
-ghost use Rattle.guard_model.specs.Guarded.{guarded_table_at_end, guarded_tally};
+ghost use Rattle.guard_model.specs.Guarded.{guarded_replies, guarded_rows_at_end, guarded_said_by};
+ghost use Rattle.guard_model.specs.Guarded.{guarded_table_at_end, guarded_tally, mended};
 ghost use Rattle.guard_model.specs.Guarded.{votes_at_end};
 ghost use Rattle.tmr_guard.specs.Steps.{machine_in};
-ghost use Rattle.guard_job.specs.Events.{mend_events, run_events};
+ghost use Rattle.guard_job.specs.Events.{run_events};
 ghost use Rattle.guard_job.specs.Parts.{InstrDone, IsCell, Mended as IsMended};
-ghost use Rattle.guard_job.specs.Steps.{end_by, guarded_steps, instr_steps};
+ghost use Rattle.guard_job.specs.Steps.{end_by, guarded_steps, line_steps};
 
 use crate::flipping::flip_due;
 use bbop_isa::Instr;
@@ -84,9 +84,6 @@ fn mend<D: Dram>(
     ensures done { OnOk result (IsMended (geometry_of (machine_in guard.old)) (due k flips.now)
         (table_in (machine_in guard.old)) (D.view chip.old) (D.view chip.new)) }
     ensures failed { OnErr result (Rose (D.view chip.old).faults (D.view chip.new).faults) }
-    ensures left { OnErr result (StoppedWithin (mend_events (geometry_of (machine_in guard.old))
-        (due k flips.now) (table_in (machine_in guard.old)) (D.view chip.old).banks)
-        (D.view chip.old).banks (D.view chip.new).banks) }
 {
     let flips = flip_due(flips, k, stage, chip)?;
     let votes = guard.vote(chip)?;
@@ -147,9 +144,11 @@ fn do_one<D: Dram, S: Sink>(
         (D.view chip.old) (D.view chip.new) one.votes one.refused) }
     ensures rises { IfOk result (λ one. RisesAtMost (2 ^ 33 + one.flips)
         (D.view chip.old).counters (D.view chip.new).counters) }
-    ensures goes { (files : FolderView) → Goes (instr_steps (geometry_of (machine_in guard.old))
-        (operations_by (machine_in guard.old)) (due k flips.now) k (turn_in (machine_in guard.old))
-        (table_in (machine_in guard.old)) (D.view chip.old).banks (view_of instr.now))
+    ensures goes { (files : FolderView) → Goes (Use None ∷ line_steps (is_print (view_of instr.now))
+        (line k (guarded_said_by (geometry_of (machine_in guard.old))
+        (operations_by (machine_in guard.old)) (table_in (machine_in guard.old))
+        (mended (geometry_of (machine_in guard.old)) flips.now k
+        (table_in (machine_in guard.old)) (D.view chip.old).banks) (view_of instr.now))))
         (end_by result) (world files (S.view out.old) (D.view chip.old))
         (world files (S.view out.new) (D.view chip.new)) }
 {
@@ -222,9 +221,8 @@ pub fn guard_script<D: Dram, S: Sink>(
         (operations_by (machine_in guard.old)) (table_in (machine_in guard.old))
         (map view_of script.now))) }
     ensures goes { (files : FolderView) → Goes (guarded_steps (geometry_of (machine_in guard.old))
-        (operations_by (machine_in guard.old)) flips.now 1 (turn_in (machine_in guard.old))
-        (table_in (machine_in guard.old)) (D.view chip.old).banks (map view_of script.now))
-        (end_by result)
+        (operations_by (machine_in guard.old)) flips.now 1 (table_in (machine_in guard.old))
+        (D.view chip.old).banks (map view_of script.now)) (end_by result)
         (world files (S.view out.old) (D.view chip.old))
         (world files (S.view out.new) (D.view chip.new)) }
 {

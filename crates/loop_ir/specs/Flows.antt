@@ -134,16 +134,3 @@ abbrev mutual
   pub all_acts : {A : Type 0} → (A → Bool) → TurnsOf A → Bool
   all_acts t (Last x) = all_flow t x
   all_acts t (Turn x ts) = all_flow t x && all_acts t ts
-
-abbrev mutual
-  -- the number of bodies of a flow
-  pub flow_bodies : {A : Type 0} → FlowOf A → ℕ
-  flow_bodies End = 0
-  flow_bodies (Do b k) = 1 + flow_bodies k
-  flow_bodies (Put m k) = flow_bodies k
-  flow_bodies (If r x y k) = flow_bodies x + flow_bodies y + flow_bodies k
-  flow_bodies (Loop r ts k) = acts_bodies ts + flow_bodies k
-
-  pub acts_bodies : {A : Type 0} → TurnsOf A → ℕ
-  acts_bodies (Last x) = flow_bodies x
-  acts_bodies (Turn x ts) = flow_bodies x + acts_bodies ts

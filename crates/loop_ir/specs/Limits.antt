@@ -6,12 +6,9 @@ use Rattle.bit_rows.specs.declared.TheConstants.{WIDTH_MAX}
 use Rattle.mig_graph.specs.Graph.{IsGraph}
 use Rattle.loop_ir.specs.declared.ir.Place.{Place}
 use Rattle.loop_ir.specs.declared.ir.Sub.{Sub}
-use Rattle.loop_ir.specs.declared.ir.Sub.TheVariants.{Zero, Top, Inner as At_inner, InnerDown}
-use Rattle.loop_ir.specs.declared.ir.Sub.TheVariants.{Outer, OuterDown, Sum, DownSum, DownPlusN}
-use Rattle.loop_ir.specs.declared.ir.Sub.TheVariants.{NPlusInner, Register}
-use Rattle.loop_ir.specs.Plain.{Block, InnerOf, StepOf, AllParts}
-use Rattle.loop_ir.specs.Plain.InnerOf.{Alone, Across}
-use Rattle.loop_ir.specs.Plain.StepOf.{Single, Along, Nest, Flowed}
+use Rattle.loop_ir.specs.declared.ir.Sub.TheVariants.{Zero, Inner as At_inner, InnerDown, Register}
+use Rattle.loop_ir.specs.Plain.{Block, StepOf, AllParts}
+use Rattle.loop_ir.specs.Plain.StepOf.{Single, Along, Flowed}
 use Rattle.loop_ir.specs.Flows.{FlowOf, AllFlow, all_flow}
 use Rattle.loop_ir.specs.FlowTests.{names, counts, nests, runs_safely}
 use Rattle.loop_ir.specs.Loops.{RoundOf, all_rounds}
@@ -22,7 +19,7 @@ use Rattle.row_alloc.specs.Held.{DoesHeld}
 use Rattle.loop_ir.specs.Outputs.{IsOuts}
 use Rattle.loop_ir.specs.States.{StatesFit, has_states, held_of, row_count, enters, leaves}
 use Rattle.loop_ir.specs.Chains.{steps_find}
-use Rattle.loop_ir.specs.Costs.{carries, plain_cost, used_subs, code_cost, bodies}
+use Rattle.loop_ir.specs.Costs.{carries, plain_cost, code_cost}
 
 -- the commands that the body carries do it, from the states that it reads to those that it writes
 -- and wherever its rows lie, and are few
@@ -42,43 +39,23 @@ pub record IsSmall (b : Block) : Type 0 where
   pub inputs : b.graph.inputs ≤ 80
   pub outputs : length b.outs ≤ 8
   pub rows : length b.graph.nodes + length b.outs ≤ 32
-  pub subs : length (used_subs b) ≤ 3
 
--- the subscript uses only the indices of the loops in which it stands: an inner one, an outer one
-abbrev pub may_stand : Bool → Bool → Sub → Bool
-may_stand inner outer Zero = true
-may_stand inner outer Top = true
-may_stand inner outer At_inner = inner
-may_stand inner outer InnerDown = inner
-may_stand inner outer Outer = outer
-may_stand inner outer OuterDown = outer
-may_stand inner outer Sum = inner && outer
-may_stand inner outer DownSum = inner && outer
-may_stand inner outer DownPlusN = outer
-may_stand inner outer NPlusInner = inner
-may_stand inner outer (Register r) = false
+-- the subscript is 0, or that of a loop's position in a loop
+abbrev pub may_stand : Bool → Sub → Bool
+may_stand looped Zero = true
+may_stand looped At_inner = looped
+may_stand looped InnerDown = looped
+may_stand looped (Register r) = false
 
 -- every place of the body has such a subscript
-abbrev pub all_stand : Bool → Bool → Block → Bool
-all_stand inner outer b = list_all (λ p. may_stand inner outer p.sub) (b.reads ++ b.writes)
-
--- so it is in a part of a nest
-abbrev pub inner_stands : InnerOf Block → Bool
-inner_stands (Alone b) = all_stand false true b
-inner_stands (Across count b) = all_stand true true b
+abbrev pub all_stand : Bool → Block → Bool
+all_stand looped b = list_all (λ p. may_stand looped p.sub) (b.reads ++ b.writes)
 
 -- the subscript is 0 or one of these registers of a flow
 abbrev pub is_in_register : (ℕ → Bool) → Sub → Bool
 is_in_register named Zero = true
-is_in_register named Top = false
 is_in_register named At_inner = false
 is_in_register named InnerDown = false
-is_in_register named Outer = false
-is_in_register named OuterDown = false
-is_in_register named Sum = false
-is_in_register named DownSum = false
-is_in_register named DownPlusN = false
-is_in_register named NPlusInner = false
 is_in_register named (Register r) = nat_lt r 7 && named r
 
 -- every place of the body has such a subscript
@@ -92,11 +69,10 @@ abbrev pub flow_stands : FlowOf Block → Bool
 flow_stands f = counts f && (nests 2 f && (all_flow (stays_in_registers (λ r. names r f)) f
     && runs_safely f))
 
--- so it is in a step, whose loops have the indices that its subscripts use
+-- so it is in a step: a body that stands in no loop has all its places at 0
 abbrev pub step_stands : StepOf Block → Bool
-step_stands (Single b) = all_stand false false b
-step_stands (Along b) = all_stand true false b
-step_stands (Nest parts) = list_all inner_stands parts
+step_stands (Single b) = all_stand false b
+step_stands (Along b) = all_stand true b
 step_stands (Flowed f) = flow_stands f
 
 -- In a round the body's places with rows are rows that it may have, and none of its writes is a
@@ -139,11 +115,10 @@ pub record HasValues (may_have : ℕ → Spot → Type 0) (b : Block) : Type 0 w
 abbrev pub StepHasValues : (ℕ → Spot → Type 0) → StepOf Block → Type 0
 StepHasValues may_have (Single b) = Unit {0}
 StepHasValues may_have (Along b) = Unit {0}
-StepHasValues may_have (Nest parts) = Unit {0}
 StepHasValues may_have (Flowed f) = AllFlow (HasValues may_have) f
 
--- At every width code can be made of the loop program: at most 12 bodies, each small, which find
--- the states that they read, and at most 256 instructions
+-- At every width code can be made of the loop program: each body is small, they find the states that
+-- they read, and there are at most 256 instructions
 pub record CanCompile (may_have : ℕ → Spot → Type 0) (steps : List (StepOf Block)) : Type
     0 where
   pub small : AllParts IsSmall steps
@@ -153,4 +128,3 @@ pub record CanCompile (may_have : ℕ → Spot → Type 0) (steps : List (StepOf
   pub rounds : (n : ℕ) → 0 < n → n ≤ WIDTH_MAX
       → AllByRecursion (IsRound (may_have n) n) (all_rounds n steps)
   pub size : code_cost steps ≤ 256
-  pub few : bodies steps ≤ 12

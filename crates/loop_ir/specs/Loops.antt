@@ -1,14 +1,9 @@
 -- The rounds of a loop program.
 use Rattle.std.specs.Prelude.{ℕ, zero, suc, ◌+◌, ◌-◌, ◌*◌, List, [], ◌∷◌, ◌++◌, slice_index}
 use Rattle.loop_ir.specs.declared.ir.Sub.{Sub}
-use Rattle.loop_ir.specs.declared.ir.Sub.TheVariants.{Zero, Top, Inner as At_inner, InnerDown}
-use Rattle.loop_ir.specs.declared.ir.Sub.TheVariants.{Outer, OuterDown, Sum, DownSum, DownPlusN}
-use Rattle.loop_ir.specs.declared.ir.Sub.TheVariants.{NPlusInner, Register}
-use Rattle.loop_ir.specs.declared.ir.Count.{Count}
-use Rattle.loop_ir.specs.declared.ir.Count.TheVariants.{All, Rest}
-use Rattle.loop_ir.specs.Plain.{InnerOf, StepOf}
-use Rattle.loop_ir.specs.Plain.InnerOf.{Alone, Across}
-use Rattle.loop_ir.specs.Plain.StepOf.{Single, Along, Nest, Flowed}
+use Rattle.loop_ir.specs.declared.ir.Sub.TheVariants.{Zero, Inner as At_inner, InnerDown, Register}
+use Rattle.loop_ir.specs.Plain.{StepOf}
+use Rattle.loop_ir.specs.Plain.StepOf.{Single, Along, Flowed}
 use Rattle.loop_ir.specs.Flows.{FlowOf, EventOf, run, zeros}
 use Rattle.loop_ir.specs.Flows.EventOf.{Done, Moved, Counted}
 
@@ -32,18 +27,6 @@ round_at b i o = record { part = b; i = i; o = o; regs = [] }
 abbrev pub one_round : {A : Type 0} → A → ℕ → ℕ → List (RoundOf A)
 one_round b i o = round_at b i o ∷ []
 
--- how many inner positions there are
-abbrev pub positions : ℕ → ℕ → Count → ℕ
-positions n o All = n
-positions n o Rest = n - o
-
--- the rounds of a nest's parts at one outer position
-abbrev pub inner_rounds : {A : Type 0} → ℕ → ℕ → List (InnerOf A) → List (RoundOf A)
-inner_rounds n o [] = []
-inner_rounds n o (Alone b ∷ more) = one_round b 0 o ++ inner_rounds n o more
-inner_rounds n o (Across count b ∷ more) = rounds (λ i. one_round b i o) 0 (positions n o count)
-    ++ inner_rounds n o more
-
 -- the rounds among the events of a run
 abbrev pub rounds_in : {A : Type 0} → List (EventOf A) → List (RoundOf A)
 rounds_in [] = []
@@ -59,7 +42,6 @@ flow_rounds n f = rounds_in (run n f zeros).events
 abbrev pub step_rounds : {A : Type 0} → ℕ → StepOf A → List (RoundOf A)
 step_rounds n (Single b) = one_round b 0 0
 step_rounds n (Along b) = rounds (λ i. one_round b i 0) 0 n
-step_rounds n (Nest parts) = rounds (λ o. inner_rounds n o parts) 0 n
 step_rounds n (Flowed f) = flow_rounds n f
 
 -- every body at every position, in the order in which they come at width n
@@ -70,13 +52,6 @@ all_rounds n (s ∷ ss) = step_rounds n s ++ all_rounds n ss
 -- the row that a subscript means, at width n, these positions and with these registers
 abbrev pub sub_value : ℕ → ℕ → ℕ → List ℕ → Sub → ℕ
 sub_value n i o g Zero = 0
-sub_value n i o g Top = n - 1
 sub_value n i o g At_inner = i
 sub_value n i o g InnerDown = n - 1 - i
-sub_value n i o g Outer = o
-sub_value n i o g OuterDown = n - 1 - o
-sub_value n i o g Sum = o + i
-sub_value n i o g DownSum = n - 1 - o + i
-sub_value n i o g DownPlusN = 2 * n - 1 - o
-sub_value n i o g NPlusInner = n + i
 sub_value n i o g (Register r) = slice_index g r

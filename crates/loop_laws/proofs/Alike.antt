@@ -11,17 +11,16 @@ use Rattle.row_alloc.specs.HeldBodies.{HeldBody, held_inputs, held_nodes, held_o
 use Rattle.row_alloc.specs.HeldBodies.{leave_in}
 use Rattle.row_alloc.specs.declared.body.Held.{Held}
 use Rattle.loop_ir.specs.declared.ir.Place.{Place}
-use Rattle.loop_ir.specs.Plain.{Block, InnerOf, StepOf, inner_map}
-use Rattle.loop_ir.specs.Plain.InnerOf.{Alone, Across}
+use Rattle.loop_ir.specs.Plain.{Block, StepOf}
 use Rattle.std.proofs.lemmas.List.Sums.{sum_by-cons}
 use Rattle.loop_ir.specs.Loops.{RoundOf, flow_rounds, all_rounds}
 use Rattle.loop_ir.specs.Chains.{chained, flow_finds, states_in, is_alive, finds, left_by}
-use Rattle.loop_ir.specs.Chains.{loop_finds, inner_left, inner_finds, steps_find}
+use Rattle.loop_ir.specs.Chains.{loop_finds, steps_find}
 use Rattle.loop_ir.specs.Flows.{FlowOf, flow_map}
 use Rattle.loop_ir.specs.FlowTests.{widths}
 use Rattle.loop_laws.proofs.FlowRounds.{round_map, flow_rounds_map}
 use Rattle.loop_laws.proofs.RoundsMap.{all_rounds_map}
-use Rattle.loop_ir.specs.Plain.StepOf.{Single, Along, Nest, Flowed}
+use Rattle.loop_ir.specs.Plain.StepOf.{Single, Along, Flowed}
 use Rattle.loop_ir.specs.Spots.{is_state, nth_place}
 use Rattle.loop_ir.specs.Same.{same_lits, same_nodes}
 use Rattle.loop_ir.specs.States.{has_states, row_count, RowsFirst, enters, leaves, row_outs}
@@ -177,35 +176,8 @@ module _ (rooms : List Room) (rows : HaveRows rooms) where
       (ap (λ l. finds l (placed_body rooms b)) (left_like b)
       ∙ finds_like (left_by (placed_body [] b)) b)
 
-  inner_left_like : (alive : List ℕ) (ps : List (InnerOf Marked))
-      → inner_left alive (map (inner_map (placed_body rooms)) ps)
-      ≡ inner_left alive (map (inner_map (placed_body [])) ps)
-  inner_left_like alive [] = refl
-  inner_left_like alive (Alone b ∷ ps) =
-      ap (λ l. inner_left l (map (inner_map (placed_body rooms)) ps)) (left_like b)
-      ∙ inner_left_like (left_by (placed_body [] b)) ps
-  inner_left_like alive (Across c b ∷ ps) =
-      ap (λ l. inner_left l (map (inner_map (placed_body rooms)) ps)) (left_like b)
-      ∙ inner_left_like (left_by (placed_body [] b)) ps
-
   both_like : (a b c d : Bool) → a ≡ c → b ≡ d → (a && b) ≡ (c && d)
   both_like a b c d e f = ap (λ x. x && b) e ∙ ap (λ x. c && x) f
-
-  inner_finds_like : (alive : List ℕ) (ps : List (InnerOf Marked))
-      → inner_finds alive (map (inner_map (placed_body rooms)) ps)
-      ≡ inner_finds alive (map (inner_map (placed_body [])) ps)
-  inner_finds_like alive [] = refl
-  inner_finds_like alive (Alone b ∷ ps) =
-      let qs = map (inner_map (placed_body rooms)) ps in
-      ap (λ c. c && inner_finds (left_by (placed_body rooms b)) qs) (finds_like alive b)
-      ∙ ap (λ c. finds alive (placed_body [] b) && c) (ap (λ l. inner_finds l qs) (left_like b)
-      ∙ inner_finds_like (left_by (placed_body [] b)) ps)
-  inner_finds_like alive (Across k b ∷ ps) =
-      let qs = map (inner_map (placed_body rooms)) ps in
-      ap (λ c. c && inner_finds (left_by (placed_body rooms b)) qs) (loop_like alive b)
-      ∙ ap (λ c. loop_finds alive (placed_body [] b) && c)
-      (ap (λ l. inner_finds l qs) (left_like b)
-      ∙ inner_finds_like (left_by (placed_body [] b)) ps)
 
   rounds_find_like : (alive : List ℕ) (rs : List (RoundOf Marked))
       → chained alive (map (round_map (placed_body rooms)) rs)
@@ -244,23 +216,6 @@ module _ (rooms : List Room) (rows : HaveRows rooms) where
       ∙ steps_find_like (left_by (placed_body [] b)) ss)
   steps_find_like alive (Flowed x ∷ ss) = both_like _ _ _ _ (flow_find_like x)
       (steps_find_like [] ss)
-  steps_find_like alive (Nest ps ∷ ss) =
-      let ts = placed_steps rooms ss in
-      let qs = map (inner_map (placed_body rooms)) ps in
-      let q0 = map (inner_map (placed_body [])) ps in
-      let l0 = inner_left alive q0 in
-      ap (λ c. c && (inner_finds (inner_left alive qs) qs
-      && steps_find (inner_left (inner_left alive qs) qs) ts))
-      (inner_finds_like alive ps)
-      ∙ ap (λ l. inner_finds alive q0 && (inner_finds l qs
-      && steps_find (inner_left l qs) ts))
-      (inner_left_like alive ps)
-      ∙ ap (λ c. inner_finds alive q0 && (c && steps_find (inner_left l0 qs) ts))
-      (inner_finds_like l0 ps)
-      ∙ ap (λ l. inner_finds alive q0 && (inner_finds l0 q0 && steps_find l ts))
-      (inner_left_like l0 ps)
-      ∙ ap (λ c. inner_finds alive q0 && (inner_finds l0 q0 && c))
-      (steps_find_like (inner_left l0 q0) ss)
 
   turn_like : (b : Marked) → turn_cost (placed_body rooms b) ≡ turn_cost (placed_body [] b)
   turn_like b =

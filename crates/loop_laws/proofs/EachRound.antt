@@ -1,12 +1,9 @@
 -- What holds of every body holds of every round.
 use Rattle.std.proofs.Common.{ℕ, zero, suc, ◌+◌, ◌≤◌, List, [], ◌∷◌, map}
 use Rattle.std.specs.List.{AllByRecursion}
-use Rattle.loop_ir.specs.Loops.{step_rounds, RoundOf, one_round, rounds, positions, inner_rounds}
-use Rattle.loop_ir.specs.Loops.{all_rounds, flow_rounds}
-use Rattle.loop_ir.specs.Plain.{Block, InnerOf, StepOf, inner_map, step_map}
-use Rattle.loop_ir.specs.Plain.{AllInner, AllParts}
-use Rattle.loop_ir.specs.Plain.InnerOf.{Alone, Across}
-use Rattle.loop_ir.specs.Plain.StepOf.{Single, Along, Nest, Flowed}
+use Rattle.loop_ir.specs.Loops.{RoundOf, one_round, rounds, all_rounds, flow_rounds}
+use Rattle.loop_ir.specs.Plain.{Block, StepOf, step_map, AllParts}
+use Rattle.loop_ir.specs.Plain.StepOf.{Single, Along, Flowed}
 use Rattle.loop_ir.specs.Flows.{FlowOf, TurnsOf, AllFlow, AllActs, flow_map, acts_map, zeros}
 use Rattle.loop_ir.specs.Flows.FlowOf.{End, Do, Put, If, Loop}
 use Rattle.loop_ir.specs.Flows.TurnsOf.{Last, Turn}
@@ -30,32 +27,16 @@ module _ (P : Block → Type 0) where
       → AllByRecursion OfPart (rounds (λ j. one_round b j o) i count)
   each b o i count p = over (λ j. one_round b j o) (λ j. (p, tt)) i count
 
-  inners : (n o : ℕ) (xs : List (InnerOf Block)) → AllInner P xs
-      → AllByRecursion OfPart (inner_rounds n o xs)
-  inners n o [] all = tt
-  inners n o (Alone b ∷ xs) all = (all.0, inners n o xs all.1)
-  inners n o (Across c b ∷ xs) all = all_append OfPart
-      (rounds (λ i. one_round b i o) 0 (positions n o c)) (inner_rounds n o xs)
-      (each b o 0 (positions n o c) all.0) (inners n o xs all.1)
-
   pub each_round : (n : ℕ) (ss : List (StepOf Block)) → AllParts P ss
       → AllByRecursion OfPart (all_rounds n ss)
   each_round n [] all = tt
   each_round n (Single b ∷ ss) all = (all.0, each_round n ss all.1)
   each_round n (Along b ∷ ss) all = all_append OfPart (rounds (λ i. one_round b i 0) 0 n)
       (all_rounds n ss) (each b 0 0 n all.0) (each_round n ss all.1)
-  each_round n (Nest xs ∷ ss) all = all_append OfPart (step_rounds n (Nest xs))
-      (all_rounds n ss) (over (λ o. inner_rounds n o xs) (λ o. inners n o xs all.0) 0 n)
-      (each_round n ss all.1)
   each_round n (Flowed x ∷ ss) all = all_append OfPart (flow_rounds n x) (all_rounds n ss)
       (run_all Block P n x all.0 zeros) (each_round n ss all.1)
 
   module _ (f : Marked → Block) (h : (b : Marked) → P (f b)) where
-    inners_made : (xs : List (InnerOf Marked)) → AllInner P (map (inner_map f) xs)
-    inners_made [] = tt
-    inners_made (Alone b ∷ xs) = (h b, inners_made xs)
-    inners_made (Across c b ∷ xs) = (h b, inners_made xs)
-
     mutual
       flow_made : (x : FlowOf Marked) → AllFlow P (flow_map f x)
       flow_made End = tt
@@ -72,7 +53,6 @@ module _ (P : Block → Type 0) where
     all_made [] = tt
     all_made (Single b ∷ ss) = (h b, all_made ss)
     all_made (Along b ∷ ss) = (h b, all_made ss)
-    all_made (Nest xs ∷ ss) = (inners_made xs, all_made ss)
     all_made (Flowed x ∷ ss) = (flow_made x, all_made ss)
 
 carries_none : (rooms : List Room) (b : Marked) → CarriesFew (placed_body rooms b)

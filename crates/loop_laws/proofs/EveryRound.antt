@@ -6,33 +6,27 @@ use Rattle.std.specs.Prelude.{◌&&◌, ◌==◌, nat_le}
 use Rattle.std.specs.List.{AllByRecursion, list_all}
 use Rattle.std.proofs.lemmas.Bool.{cases_eq, cases_lt, and_parts, eqb-true}
 use Rattle.std.proofs.lemmas.List.{length-map}
-use Rattle.loop_ir.specs.Loops.{step_rounds, RoundOf, round_at, one_round, rounds, positions}
-use Rattle.loop_ir.specs.Loops.{sub_value, inner_rounds, all_rounds}
+use Rattle.loop_ir.specs.Loops.{RoundOf, round_at, one_round, rounds, sub_value, all_rounds}
 use Rattle.loop_ir.specs.declared.ir.Space.{Space}
 use Rattle.loop_ir.specs.declared.ir.Space.TheVariants.{Result, Source, ScratchBit, ScratchWord}
 use Rattle.loop_ir.specs.declared.ir.Space.TheVariants.{Cells}
 use Rattle.loop_ir.specs.declared.ir.Sub.{Sub}
 use Rattle.loop_ir.specs.declared.ir.Sub.TheVariants as sub
-use Rattle.loop_ir.specs.declared.ir.Count.{Count}
-use Rattle.loop_ir.specs.declared.ir.Count.TheVariants.{All, Rest}
 use Rattle.loop_ir.specs.declared.ir.Place.{Place}
-use Rattle.loop_ir.specs.Plain.{Block, InnerOf, StepOf, AllInner, AllParts, inner_map}
-use Rattle.loop_ir.specs.Plain.InnerOf.{Alone, Across}
-use Rattle.loop_ir.specs.Plain.StepOf.{Single, Along, Nest, Flowed}
+use Rattle.loop_ir.specs.Plain.{Block, StepOf, AllParts}
+use Rattle.loop_ir.specs.Plain.StepOf.{Single, Along, Flowed}
 use Rattle.loop_ir.specs.Spots.{Spot, spot_at, spot_in, nth_place, nth_spot, IsOwn, is_state}
 use Rattle.loop_ir.specs.WellFormed.{IsOneValue}
-use Rattle.loop_ir.specs.Costs.{used_subs, code_cost, bodies}
+use Rattle.loop_ir.specs.Costs.{code_cost}
 use Rattle.loop_ir.specs.Limits.{IsRound, StepHasValues, step_stands}
 use Rattle.loop_ir.specs.Chains.{steps_find}
 use Rattle.loop_laws.specs.Rooms.{Extent, One, Full, extent, Room, room_at, room_for, Owner, InRoom}
 use Rattle.loop_laws.specs.Rooms.{InCells, Mark, Marked, placed, placed_body, placed_steps, row_in}
-use Rattle.loop_laws.specs.Rooms.{IsOwned, RoomsApart, Reach, Nowhere, Whole, Left, is_long}
-use Rattle.loop_laws.specs.Rooms.{has_inner, is_left, fits, reach_of}
-use Rattle.loop_laws.specs.Forms.{IsSlim, has_room, inners_have_room, steps_have_room}
-use Rattle.loop_laws.specs.Forms.{has_known_states, inners_have_known, steps_have_known}
+use Rattle.loop_laws.specs.Rooms.{IsOwned, RoomsApart, is_long, fits}
+use Rattle.loop_laws.specs.Forms.{IsSlim, has_room, steps_have_room}
+use Rattle.loop_laws.specs.Forms.{has_known_states, steps_have_known}
 use Rattle.loop_laws.specs.Laws.{MarksAreEnough}
-use Rattle.loop_laws.proofs.Fitting.{mark_at, IsThere, InnerOk, OuterOk, BodyFits, InnersFit}
-use Rattle.loop_laws.proofs.Fitting.{StepsFit}
+use Rattle.loop_laws.proofs.Fitting.{mark_at, IsThere, IsPosition, BodyFits, StepsFit}
 use Rattle.loop_laws.proofs.Alike.{HaveRows, past_row, states_fit, states_known, steps_find_like}
 use Rattle.loop_laws.proofs.Good.{steps_are_fit}
 
@@ -47,40 +41,19 @@ pub first : (n : ℕ) (w : Extent) → 0 < n → 0 < extent n w
 first n One h = omega arith
 first n Full h = h
 
-inner_below : (n i o : ℕ) (r : Reach) → InnerOk n i o r → has_inner r ≡ true → i < n
-inner_below n i o Nowhere ok e = cc
-inner_below n i o Whole ok e = ok
-inner_below n i o Left ok e = omega (arith, ok)
-
-left_below : (n i o : ℕ) (r : Reach) → InnerOk n i o r → is_left r ≡ true → i < n - o
-left_below n i o Nowhere ok e = cc
-left_below n i o Whole ok e = cc
-left_below n i o Left ok e = ok
-
-outer_below : (n o : ℕ) (b : Bool) → OuterOk n o b → b ≡ true → o < n
-outer_below n o true ok e = ok
-outer_below n o false ok e = cc
+position : (n i : ℕ) (looped : Bool) → IsPosition n i looped → looped ≡ true → i < n
+position n i true h e = h
+position n i false h e = cc
 
 -- a subscript that fits stays below the number of rows
-pub within : (n i o : ℕ) (r : Reach) (outer : Bool) (w : Extent) (u : Sub) → 0 < n → InnerOk n i o r
-    → OuterOk n o outer → fits r outer w u ≡ true → sub_value n i o [] u < extent n w
-within n i o r outer w sub.Zero h ik ok e = first n w h
-within n i o r outer w sub.Top h ik ok e = let a = long n w e in omega arith
-within n i o r outer w sub.Inner h ik ok e = let p = and_parts (is_long w) (has_inner r) e in
-    let a = long n w p.0 in let b = inner_below n i o r ik p.1 in omega arith
-within n i o r outer w sub.InnerDown h ik ok e = let p = and_parts (is_long w) (has_inner r) e in
+pub within : (n i o : ℕ) (looped : Bool) (w : Extent) (u : Sub) → 0 < n → IsPosition n i looped
+    → fits looped w u ≡ true → sub_value n i o [] u < extent n w
+within n i o looped w sub.Zero h ik e = first n w h
+within n i o looped w sub.Inner h ik e = let p = and_parts (is_long w) looped e in
+    let a = long n w p.0 in let b = position n i looped ik p.1 in omega arith
+within n i o looped w sub.InnerDown h ik e = let p = and_parts (is_long w) looped e in
     let a = long n w p.0 in omega arith
-within n i o r outer w sub.Outer h ik ok e = let p = and_parts (is_long w) outer e in
-    let a = long n w p.0 in let b = outer_below n o outer ok p.1 in omega arith
-within n i o r outer w sub.OuterDown h ik ok e = let p = and_parts (is_long w) outer e in
-    let a = long n w p.0 in omega arith
-within n i o r outer w sub.Sum h ik ok e = let p = and_parts (is_long w) (outer && is_left r) e in
-    let q = and_parts outer (is_left r) p.1 in let a = long n w p.0 in
-    let b = left_below n i o r ik q.1 in omega arith
-within n i o r outer w sub.DownSum h ik ok e = cc
-within n i o r outer w sub.DownPlusN h ik ok e = cc
-within n i o r outer w sub.NPlusInner h ik ok e = cc
-within n i o r outer w (sub.Register k) h ik ok e = cc
+within n i o looped w (sub.Register k) h ik e = cc
 
 pub nth_placed : (rooms : List Room) (ms : List Mark) (k : ℕ) → k < length ms
     → nth_place (map (placed rooms) ms) k ≡ placed rooms (mark_at ms k)
@@ -162,9 +135,9 @@ module _ (n : ℕ) (rooms : List Room) (are : RoomsApart n rooms) (rows : HaveRo
   own_of (InCells x) there w = tt
 
 module _ (n : ℕ) (rooms : List Room) (some : 0 < n) (are : RoomsApart n rooms)
-    (rows : HaveRows rooms) (r : Reach) (outer : Bool) (b : Marked)
-    (fit : BodyFits r outer rooms b.reads b.writes) where
-  module _ (i o : ℕ) (ik : InnerOk n i o r) (ok : OuterOk n o outer) where
+    (rows : HaveRows rooms) (looped : Bool) (b : Marked)
+    (fit : BodyFits looped rooms b.reads b.writes) where
+  module _ (i o : ℕ) (ik : IsPosition n i looped) where
     read_at : (k : ℕ) → k < length b.reads → nth_spot n i o [] (map (placed rooms) b.reads) k
         ≡ row_in n (room_for rooms (mark_at b.reads k).owner)
         (sub_value n i o [] (mark_at b.reads k).sub)
@@ -178,14 +151,14 @@ module _ (n : ℕ) (rooms : List Room) (some : 0 < n) (are : RoomsApart n rooms)
     read_below : (k : ℕ) → k < length b.reads
         → sub_value n i o [] (mark_at b.reads k).sub
         < extent n (room_for rooms (mark_at b.reads k).owner).rows
-    read_below k lk = within n i o r outer (room_for rooms (mark_at b.reads k).owner).rows
-        (mark_at b.reads k).sub some ik ok (fit.read_fits k lk)
+    read_below k lk = within n i o looped (room_for rooms (mark_at b.reads k).owner).rows
+        (mark_at b.reads k).sub some ik (fit.read_fits k lk)
 
     write_below : (j : ℕ) → j < length b.writes
         → sub_value n i o [] (mark_at b.writes j).sub
         < extent n (room_for rooms (mark_at b.writes j).owner).rows
-    write_below j lj = within n i o r outer (room_for rooms (mark_at b.writes j).owner).rows
-        (mark_at b.writes j).sub some ik ok (fit.write_fits j lj)
+    write_below j lj = within n i o looped (room_for rooms (mark_at b.writes j).owner).rows
+        (mark_at b.writes j).sub some ik (fit.write_fits j lj)
 
     -- rows that are one have one owner
     writes_meet : (i' j : ℕ) → i' < length b.writes → j < length b.writes
@@ -273,7 +246,6 @@ module _ (n : ℕ) (rooms : List Room) (some : 0 < n) (are : RoomsApart n rooms)
       let a2 = and_parts (length c.outs == length c.writes) _ a1.1 in
       let a3 = and_parts (nat_le c.graph.inputs 80) _ a2.1 in
       let a4 = and_parts (nat_le (length c.outs) 8) _ a3.1 in
-      let a5 = and_parts (nat_le (length c.graph.nodes + length c.outs) 32) _ a4.1 in
       let rd = below_map (placed rooms) b.reads in
       let wr = below_map (placed rooms) b.writes in
       record {
@@ -296,8 +268,7 @@ module _ (n : ℕ) (rooms : List Room) (some : 0 < n) (are : RoomsApart n rooms)
             ∙ sym (ap (λ (p : Place). p.sub) (nth_placed rooms b.reads k (rd k lk)));
         inputs = most_is c.graph.inputs 80 a3.0;
         outputs = most_is (length c.outs) 8 a4.0;
-        rows = most_is (length c.graph.nodes + length c.outs) 32 a5.0;
-        subs = most_is (length (used_subs c)) 3 a5.1;
+        rows = most_is (length c.graph.nodes + length c.outs) 32 a4.1;
       }
 
 pub all_append : {A : Type 0} (P : A → Type 0) (xs ys : List A) → AllByRecursion P xs
@@ -312,70 +283,21 @@ all_rounds_of P f i zero limit e h = tt
 all_rounds_of P f i (suc count) limit e h = all_append P (f i) (rounds f (i + 1) count)
     (h i (omega arith)) (all_rounds_of P f (i + 1) count limit (omega arith) h)
 
-reach_ok : (n : ℕ) (c : Count) (i o : ℕ) → o < n → i < positions n o c
-    → InnerOk n i o (reach_of c)
-reach_ok n All i o lo lt = lt
-reach_ok n Rest i o lo lt = lt
-
 module _ (n : ℕ) (rooms : List Room) (some : 0 < n) (are : RoomsApart n rooms)
     (rows : HaveRows rooms) where
-  inners_are : (ps : List (InnerOf Marked)) (o : ℕ) → o < n → InnersFit rooms ps
-      → AllByRecursion (IsRound (IsOwned n rooms) n)
-      (inner_rounds n o (map (inner_map (placed_body rooms)) ps))
-  inners_are [] o lo fit = tt
-  inners_are (Alone b ∷ ps) o lo fit = (
-    round_is n rooms some are rows Nowhere true b fit.0 0 o tt lo,
-    inners_are ps o lo fit.1,
-  )
-  inners_are (Across c b ∷ ps) o lo fit = all_append (IsRound (IsOwned n rooms) n)
-      (rounds (λ i. one_round (placed_body rooms b) i o) 0 (positions n o c))
-      (inner_rounds n o (map (inner_map (placed_body rooms)) ps))
-      (all_rounds_of (IsRound (IsOwned n rooms) n) (λ i. one_round (placed_body rooms b) i o) 0
-      (positions n o c) (positions n o c) (omega arith)
-      (λ i lt. (
-        round_is n rooms some are rows (reach_of c) true b fit.0 i o (reach_ok n c i o lo lt)
-            lo,
-        tt,
-      )))
-      (inners_are ps o lo fit.1)
-
   pub rounds_are : (ss : List (StepOf Marked)) → StepsFit rooms ss
       → AllByRecursion (IsRound (IsOwned n rooms) n) (all_rounds n (placed_steps rooms ss))
   rounds_are [] fit = tt
   rounds_are (Single b ∷ ss) fit = (
-    round_is n rooms some are rows Nowhere false b fit.0 0 0 tt tt,
+    round_is n rooms some are rows false b fit.0 0 0 tt,
     rounds_are ss fit.1,
   )
   rounds_are (Along b ∷ ss) fit = all_append (IsRound (IsOwned n rooms) n)
       (rounds (λ i. one_round (placed_body rooms b) i 0) 0 n) (all_rounds n (placed_steps rooms ss))
       (all_rounds_of (IsRound (IsOwned n rooms) n) (λ i. one_round (placed_body rooms b) i 0) 0 n n
-      (omega arith) (λ i lt. (round_is n rooms some are rows Whole false b fit.0 i 0 lt tt, tt)))
-      (rounds_are ss fit.1)
-  rounds_are (Nest ps ∷ ss) fit =
-      let qs = map (inner_map (placed_body rooms)) ps in
-      all_append (IsRound (IsOwned n rooms) n) (step_rounds n (Nest qs))
-      (all_rounds n (placed_steps rooms ss))
-      (all_rounds_of (IsRound (IsOwned n rooms) n) (λ o. inner_rounds n o qs) 0 n n (omega arith)
-      (λ o lt. inners_are ps o lt fit.0))
+      (omega arith) (λ i lt. (round_is n rooms some are rows true b fit.0 i 0 lt, tt)))
       (rounds_are ss fit.1)
   rounds_are (Flowed x ∷ ss) fit = absurd fit
-
-  inners_slim : (ps : List (InnerOf Marked)) → InnersFit rooms ps
-      → inners_have_room (map (inner_map (placed_body rooms)) ps) ≡ true
-      → inners_have_known (map (inner_map (placed_body [])) ps) ≡ true
-      → AllInner IsSlim (map (inner_map (placed_body rooms)) ps)
-  inners_slim [] fit e h = tt
-  inners_slim (Alone b ∷ ps) fit e h =
-      let a = and_parts (has_room (placed_body rooms b)) _ e in
-      let k = and_parts (has_known_states (placed_body [] b)) _ h in
-      (slim_is n rooms some are rows Nowhere true b fit.0 a.0 k.0, inners_slim ps fit.1 a.1 k.1)
-  inners_slim (Across c b ∷ ps) fit e h =
-      let a = and_parts (has_room (placed_body rooms b)) _ e in
-      let k = and_parts (has_known_states (placed_body [] b)) _ h in (
-        slim_is n rooms some are rows (reach_of c) true b fit.0 a.0 k.0,
-        inners_slim ps fit.1 a.1
-            k.1,
-      )
 
   pub steps_slim : (ss : List (StepOf Marked)) → StepsFit rooms ss
       → steps_have_room (placed_steps rooms ss) ≡ true
@@ -384,15 +306,11 @@ module _ (n : ℕ) (rooms : List Room) (some : 0 < n) (are : RoomsApart n rooms)
   steps_slim (Single b ∷ ss) fit e h =
       let a = and_parts (has_room (placed_body rooms b)) _ e in
       let k = and_parts (has_known_states (placed_body [] b)) _ h in
-      (slim_is n rooms some are rows Nowhere false b fit.0 a.0 k.0, steps_slim ss fit.1 a.1 k.1)
+      (slim_is n rooms some are rows false b fit.0 a.0 k.0, steps_slim ss fit.1 a.1 k.1)
   steps_slim (Along b ∷ ss) fit e h =
       let a = and_parts (has_room (placed_body rooms b)) _ e in
       let k = and_parts (has_known_states (placed_body [] b)) _ h in
-      (slim_is n rooms some are rows Whole false b fit.0 a.0 k.0, steps_slim ss fit.1 a.1 k.1)
-  steps_slim (Nest ps ∷ ss) fit e h =
-      let a = and_parts (inners_have_room (map (inner_map (placed_body rooms)) ps)) _ e in
-      let k = and_parts (inners_have_known (map (inner_map (placed_body [])) ps)) _ h in
-      (inners_slim ps fit.0 a.0 k.0, steps_slim ss fit.1 a.1 k.1)
+      (slim_is n rooms some are rows true b fit.0 a.0 k.0, steps_slim ss fit.1 a.1 k.1)
   steps_slim (Flowed x ∷ ss) fit e h = absurd fit
 
 -- the rows that it may have are among others
@@ -431,7 +349,6 @@ values_fit : (may_have : ℕ → Spot → Type 0) (rooms : List Room) (ss : List
 values_fit may_have rooms [] fit = tt
 values_fit may_have rooms (Single b ∷ ss) fit = (tt, values_fit may_have rooms ss fit.1)
 values_fit may_have rooms (Along b ∷ ss) fit = (tt, values_fit may_have rooms ss fit.1)
-values_fit may_have rooms (Nest ps ∷ ss) fit = (tt, values_fit may_have rooms ss fit.1)
 values_fit may_have rooms (Flowed f ∷ ss) fit = absurd fit
 
 -- the tests on the marks say of every round at every width what it has to keep
@@ -440,11 +357,9 @@ marks_are_enough may_have rooms steps are among rows tested short states =
     let ss = placed_steps rooms steps in
     let fit = steps_are_fit rooms steps tested in
     let have = rooms_row may_have rooms (among 1 (omega arith) (omega arith)) (rows 1) in
-    let a = and_parts (steps_have_room ss) (list_all step_stands ss
-    && (nat_le (code_cost ss) 256 && nat_le (bodies ss) 12)) short in
-    let b = and_parts (list_all step_stands ss) (nat_le (code_cost ss) 256 && nat_le (bodies ss) 12)
-    a.1 in
-    let c = and_parts (nat_le (code_cost ss) 256) (nat_le (bodies ss) 12) b.1 in
+    let a = and_parts (steps_have_room ss) (list_all step_stands ss && nat_le (code_cost ss) 256)
+    short in
+    let b = and_parts (list_all step_stands ss) (nat_le (code_cost ss) 256) a.1 in
     let d = and_parts (steps_have_known (placed_steps [] steps))
     (steps_find [] (placed_steps [] steps)) states in
     record {
@@ -455,6 +370,5 @@ marks_are_enough may_have rooms steps are among rows tested short states =
       values = values_fit may_have rooms steps fit;
       rounds = λ n some most. rounds_among (IsOwned n rooms) (may_have n) (among n some most) n
           (all_rounds n ss) (rounds_are n rooms some (are n some most) have steps fit);
-      size = most_is (code_cost ss) 256 c.0;
-      few = most_is (bodies ss) 12 c.1;
+      size = most_is (code_cost ss) 256 b.1;
     }

@@ -1,11 +1,9 @@
 -- What a body's places keep where the test on owners and subscripts passes.
-use Rattle.std.proofs.Common.{◌≡◌, ℕ, zero, suc, ◌-◌, ◌<◌, Bool, true, false, List, [], ◌∷◌, length}
+use Rattle.std.proofs.Common.{◌≡◌, ℕ, zero, suc, ◌<◌, Bool, true, false, List, [], ◌∷◌, length}
 use Rattle.loop_ir.specs.declared.ir.Sub.TheVariants as sub
-use Rattle.loop_ir.specs.Plain.{InnerOf, StepOf}
-use Rattle.loop_ir.specs.Plain.InnerOf.{Alone, Across}
-use Rattle.loop_ir.specs.Plain.StepOf.{Single, Along, Nest, Flowed}
-use Rattle.loop_laws.specs.Rooms.{Room, room_for, Owner, InRoom, InCells, Mark, Marked, Reach}
-use Rattle.loop_laws.specs.Rooms.{Nowhere, Whole, Left, fits, reach_of}
+use Rattle.loop_ir.specs.Plain.{StepOf}
+use Rattle.loop_ir.specs.Plain.StepOf.{Single, Along, Flowed}
+use Rattle.loop_laws.specs.Rooms.{Room, room_for, Owner, InRoom, InCells, Mark, Marked, fits}
 
 -- a place of a body, by its number
 abbrev pub mark_at : List Mark → ℕ → Mark
@@ -18,27 +16,20 @@ abbrev pub IsThere : List Room → Owner → Type 0
 IsThere rooms (InRoom k) = k < length rooms
 IsThere rooms (InCells w) = Unit {0}
 
--- the inner index is one that the loop reaches
-abbrev pub InnerOk : ℕ → ℕ → ℕ → Reach → Type 0
-InnerOk n i o Nowhere = Unit {0}
-InnerOk n i o Whole = i < n
-InnerOk n i o Left = i < n - o
-
--- the outer index is one, where the body stands in a nest
-abbrev pub OuterOk : ℕ → ℕ → Bool → Type 0
-OuterOk n o true = o < n
-OuterOk n o false = Unit {0}
+-- the position is one of the loop, where there is one
+abbrev pub IsPosition : ℕ → ℕ → Bool → Type 0
+IsPosition n i true = i < n
+IsPosition n i false = Unit {0}
 
 -- In a body: each place has an owner and stays in its rows; what is written may be, and has owners
 -- that differ; and of the reads at most one has a write's owner, with the write's subscript
-pub record BodyFits (r : Reach) (outer : Bool) (rooms : List Room) (reads writes : List Mark) : Type
-    0 where
+pub record BodyFits (looped : Bool) (rooms : List Room) (reads writes : List Mark) : Type 0 where
   pub read_owner : (k : ℕ) → k < length reads → IsThere rooms (mark_at reads k).owner
   pub read_fits : (k : ℕ) → k < length reads
-      → fits r outer (room_for rooms (mark_at reads k).owner).rows (mark_at reads k).sub ≡ true
+      → fits looped (room_for rooms (mark_at reads k).owner).rows (mark_at reads k).sub ≡ true
   pub write_owner : (j : ℕ) → j < length writes → IsThere rooms (mark_at writes j).owner
   pub write_fits : (j : ℕ) → j < length writes
-      → fits r outer (room_for rooms (mark_at writes j).owner).rows (mark_at writes j).sub ≡ true
+      → fits looped (room_for rooms (mark_at writes j).owner).rows (mark_at writes j).sub ≡ true
   pub written : (j : ℕ) → j < length writes → (room_for rooms (mark_at writes j).owner).written
       ≡ true
   pub differ : (i j : ℕ) → i < length writes → j < length writes
@@ -50,17 +41,9 @@ pub record BodyFits (r : Reach) (outer : Bool) (rooms : List Room) (reads writes
       → (mark_at writes j).owner ≡ (mark_at reads k).owner
       → (mark_at writes j).owner ≡ (mark_at reads l).owner → k ≡ l
 
--- so it is in every body of a nest
-abbrev pub InnersFit : List Room → List (InnerOf Marked) → Type 0
-InnersFit rooms [] = Unit {0}
-InnersFit rooms (Alone b ∷ ps) = BodyFits Nowhere true rooms b.reads b.writes × InnersFit rooms ps
-InnersFit rooms (Across c b ∷ ps) = BodyFits (reach_of c) true rooms b.reads b.writes
-    × InnersFit rooms ps
-
 -- so it is in every body of a loop program
 abbrev pub StepsFit : List Room → List (StepOf Marked) → Type 0
 StepsFit rooms [] = Unit {0}
-StepsFit rooms (Single b ∷ ss) = BodyFits Nowhere false rooms b.reads b.writes × StepsFit rooms ss
-StepsFit rooms (Along b ∷ ss) = BodyFits Whole false rooms b.reads b.writes × StepsFit rooms ss
-StepsFit rooms (Nest ps ∷ ss) = InnersFit rooms ps × StepsFit rooms ss
+StepsFit rooms (Single b ∷ ss) = BodyFits false rooms b.reads b.writes × StepsFit rooms ss
+StepsFit rooms (Along b ∷ ss) = BodyFits true rooms b.reads b.writes × StepsFit rooms ss
 StepsFit rooms (Flowed f ∷ ss) = ⊥

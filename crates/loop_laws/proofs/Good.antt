@@ -4,15 +4,14 @@ use Rattle.std.proofs.Common.{length, refl, sym, ap, subst, ◌∙◌, ⊎_elim,
 use Rattle.std.specs.Prelude.{◌==◌, ◌&&◌, nat_lt}
 use Rattle.std.proofs.lemmas.Bool.{cases_Bool, and_parts, eqb-true, eq-eqb}
 use Rattle.loop_ir.specs.declared.ir.Sub.{Sub}
-use Rattle.loop_ir.specs.Plain.{InnerOf, StepOf}
-use Rattle.loop_ir.specs.Plain.InnerOf.{Alone, Across}
-use Rattle.loop_ir.specs.Plain.StepOf.{Single, Along, Nest, Flowed}
+use Rattle.loop_ir.specs.Plain.{StepOf}
+use Rattle.loop_ir.specs.Plain.StepOf.{Single, Along, Flowed}
 use Rattle.loop_ir.specs.Costs.{sub_code}
 use Rattle.loop_laws.proofs.Same.{sub_true}
 use Rattle.loop_laws.specs.Rooms.{Room, room_for, Owner, InRoom, InCells, same_owner, Mark, Marked}
-use Rattle.loop_laws.specs.Rooms.{Reach, Nowhere, Whole, fits, reach_of, is_there, all_fit}
-use Rattle.loop_laws.specs.Rooms.{none_like, alone_in, writes_fit, body_fits, inners_fit, steps_fit}
-use Rattle.loop_laws.proofs.Fitting.{mark_at, IsThere, BodyFits, InnersFit, StepsFit}
+use Rattle.loop_laws.specs.Rooms.{fits, is_there, all_fit, none_like, alone_in, writes_fit}
+use Rattle.loop_laws.specs.Rooms.{body_fits, steps_fit}
+use Rattle.loop_laws.proofs.Fitting.{mark_at, IsThere, BodyFits, StepsFit}
 
 less_is : (a b : ℕ) → nat_lt a b ≡ true → a < b
 less_is a b e = grind arith
@@ -133,34 +132,34 @@ writes_once rooms reads (p ∷ ms) (suc i) (suc j) e li lj h =
     ap suc (writes_once rooms reads ms i j (first_at rooms reads p ms e).more (omega arith)
     (omega arith) h)
 
-record FitAt (r : Reach) (outer : Bool) (rooms : List Room) (p : Mark) : Type 0 where
+record FitAt (looped : Bool) (rooms : List Room) (p : Mark) : Type 0 where
   there : IsThere rooms p.owner
-  fit : fits r outer (room_for rooms p.owner).rows p.sub ≡ true
+  fit : fits looped (room_for rooms p.owner).rows p.sub ≡ true
 
-fit_at : (r : Reach) (outer : Bool) (rooms : List Room) (ms : List Mark) (k : ℕ)
-    → all_fit r outer rooms ms ≡ true → k < length ms → FitAt r outer rooms (mark_at ms k)
-fit_at r outer rooms [] k e lt = absurd (omega arith)
-fit_at r outer rooms (p ∷ ms) zero e lt =
+fit_at : (looped : Bool) (rooms : List Room) (ms : List Mark) (k : ℕ)
+    → all_fit looped rooms ms ≡ true → k < length ms → FitAt looped rooms (mark_at ms k)
+fit_at looped rooms [] k e lt = absurd (omega arith)
+fit_at looped rooms (p ∷ ms) zero e lt =
     let a = and_parts (is_there p.owner (length rooms)
-    && fits r outer (room_for rooms p.owner).rows p.sub) (all_fit r outer rooms ms) e in
+    && fits looped (room_for rooms p.owner).rows p.sub) (all_fit looped rooms ms) e in
     let b = and_parts (is_there p.owner (length rooms))
-    (fits r outer (room_for rooms p.owner).rows p.sub) a.0 in
+    (fits looped (room_for rooms p.owner).rows p.sub) a.0 in
     record { there = there_is rooms p.owner b.0; fit = b.1 }
-fit_at r outer rooms (p ∷ ms) (suc k) e lt = fit_at r outer rooms ms k
-    (and_parts (is_there p.owner (length rooms) && fits r outer (room_for rooms p.owner).rows p.sub)
-    (all_fit r outer rooms ms) e).1 (omega arith)
+fit_at looped rooms (p ∷ ms) (suc k) e lt = fit_at looped rooms ms k
+    (and_parts (is_there p.owner (length rooms) && fits looped (room_for rooms p.owner).rows p.sub)
+    (all_fit looped rooms ms) e).1 (omega arith)
 
-pub body_is_fit : (r : Reach) (outer : Bool) (rooms : List Room) (b : Marked)
-    → body_fits r outer rooms b ≡ true → BodyFits r outer rooms b.reads b.writes
-body_is_fit r outer rooms b e =
-    let a = and_parts (all_fit r outer rooms b.reads) (all_fit r outer rooms b.writes
+pub body_is_fit : (looped : Bool) (rooms : List Room) (b : Marked)
+    → body_fits looped rooms b ≡ true → BodyFits looped rooms b.reads b.writes
+body_is_fit looped rooms b e =
+    let a = and_parts (all_fit looped rooms b.reads) (all_fit looped rooms b.writes
     && writes_fit rooms b.reads b.writes) e in
-    let c = and_parts (all_fit r outer rooms b.writes) (writes_fit rooms b.reads b.writes) a.1 in
+    let c = and_parts (all_fit looped rooms b.writes) (writes_fit rooms b.reads b.writes) a.1 in
     record {
-      read_owner = λ k lk. (fit_at r outer rooms b.reads k a.0 lk).there;
-      read_fits = λ k lk. (fit_at r outer rooms b.reads k a.0 lk).fit;
-      write_owner = λ j lj. (fit_at r outer rooms b.writes j c.0 lj).there;
-      write_fits = λ j lj. (fit_at r outer rooms b.writes j c.0 lj).fit;
+      read_owner = λ k lk. (fit_at looped rooms b.reads k a.0 lk).there;
+      read_fits = λ k lk. (fit_at looped rooms b.reads k a.0 lk).fit;
+      write_owner = λ j lj. (fit_at looped rooms b.writes j c.0 lj).there;
+      write_fits = λ j lj. (fit_at looped rooms b.writes j c.0 lj).fit;
       written = λ j lj. (write_at rooms b.reads b.writes j c.1 lj).written;
       differ = λ i j li lj h. writes_once rooms b.reads b.writes i j c.1 li lj h;
       same = λ j k lj lk h. alone_sub (mark_at b.writes j) b.reads k
@@ -169,26 +168,13 @@ body_is_fit r outer rooms b e =
           (write_at rooms b.reads b.writes j c.1 lj).alone lk ll h g;
     }
 
-inners_are_fit : (rooms : List Room) (ps : List (InnerOf Marked)) → inners_fit rooms ps ≡ true
-    → InnersFit rooms ps
-inners_are_fit rooms [] e = tt
-inners_are_fit rooms (Alone b ∷ ps) e = let a =
-    and_parts (body_fits Nowhere true rooms b) (inners_fit rooms ps) e in
-    (body_is_fit Nowhere true rooms b a.0, inners_are_fit rooms ps a.1)
-inners_are_fit rooms (Across c b ∷ ps) e = let a =
-    and_parts (body_fits (reach_of c) true rooms b) (inners_fit rooms ps) e in
-    (body_is_fit (reach_of c) true rooms b a.0, inners_are_fit rooms ps a.1)
-
 pub steps_are_fit : (rooms : List Room) (ss : List (StepOf Marked)) → steps_fit rooms ss ≡ true
     → StepsFit rooms ss
 steps_are_fit rooms [] e = tt
 steps_are_fit rooms (Single b ∷ ss) e = let a =
-    and_parts (body_fits Nowhere false rooms b) (steps_fit rooms ss) e in
-    (body_is_fit Nowhere false rooms b a.0, steps_are_fit rooms ss a.1)
+    and_parts (body_fits false rooms b) (steps_fit rooms ss) e in
+    (body_is_fit false rooms b a.0, steps_are_fit rooms ss a.1)
 steps_are_fit rooms (Along b ∷ ss) e = let a =
-    and_parts (body_fits Whole false rooms b) (steps_fit rooms ss) e in
-    (body_is_fit Whole false rooms b a.0, steps_are_fit rooms ss a.1)
-steps_are_fit rooms (Nest ps ∷ ss) e = let a =
-    and_parts (inners_fit rooms ps) (steps_fit rooms ss) e in
-    (inners_are_fit rooms ps a.0, steps_are_fit rooms ss a.1)
+    and_parts (body_fits true rooms b) (steps_fit rooms ss) e in
+    (body_is_fit true rooms b a.0, steps_are_fit rooms ss a.1)
 steps_are_fit rooms (Flowed f ∷ ss) e = cc

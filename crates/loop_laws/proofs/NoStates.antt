@@ -5,14 +5,12 @@ use Rattle.std.specs.Prelude.{◌||◌}
 use Rattle.std.specs.List.{list_any, list_all, AllByRecursion}
 use Rattle.std.proofs.lemmas.Bool.{and_from}
 use Rattle.loop_ir.specs.declared.ir.Place.{Place}
-use Rattle.loop_ir.specs.Plain.{Block, InnerOf, StepOf, AllInner, AllParts}
-use Rattle.loop_ir.specs.Plain.InnerOf.{Alone, Across}
-use Rattle.loop_ir.specs.Plain.StepOf.{Single, Along, Nest, Flowed}
+use Rattle.loop_ir.specs.Plain.{Block, StepOf, AllParts}
+use Rattle.loop_ir.specs.Plain.StepOf.{Single, Along, Flowed}
 use Rattle.loop_ir.specs.Spots.{is_state, nth_place}
 use Rattle.loop_ir.specs.States.{has_states, StatesFit}
-use Rattle.loop_ir.specs.Chains.{states_in, is_alive, finds, left_by, loop_finds, inner_left}
-use Rattle.loop_ir.specs.Chains.{inner_finds, steps_find, chained}
-use Rattle.loop_ir.specs.Chains.{flow_finds}
+use Rattle.loop_ir.specs.Chains.{states_in, is_alive, finds, left_by, loop_finds, steps_find}
+use Rattle.loop_ir.specs.Chains.{chained, flow_finds}
 use Rattle.loop_laws.proofs.Alike.{or_parts, none_at, none_first, rows_first}
 use Rattle.loop_ir.specs.Flows.{FlowOf, AllFlow, zeros}
 use Rattle.loop_ir.specs.FlowTests.{widths}
@@ -63,14 +61,6 @@ loop_rows : (alive : List ℕ) (b : Block) → HasRows b → loop_finds alive b 
 loop_rows alive b none = and_from (finds alive b) (finds (left_by b) b) (rows_find alive b none)
     (rows_find (left_by b) b none)
 
-inner_rows : (alive : List ℕ) (ps : List (InnerOf Block)) → AllInner HasRows ps
-    → inner_finds alive ps ≡ true
-inner_rows alive [] all = refl
-inner_rows alive (Alone b ∷ ps) all = and_from (finds alive b) (inner_finds (left_by b) ps)
-    (rows_find alive b all.0) (inner_rows (left_by b) ps all.1)
-inner_rows alive (Across c b ∷ ps) all = and_from (loop_finds alive b) (inner_finds (left_by b) ps)
-    (loop_rows alive b all.0) (inner_rows (left_by b) ps all.1)
-
 rounds_rows : (alive : List ℕ) (rs : List (RoundOf Block))
     → AllByRecursion (λ r. HasRows r.part) rs → chained alive rs ≡ true
 rounds_rows alive [] all = refl
@@ -96,8 +86,3 @@ no_state_sought alive (Along b ∷ ss) all = and_from (loop_finds alive b)
     (steps_find (left_by b) ss) (loop_rows alive b all.0) (no_state_sought (left_by b) ss all.1)
 no_state_sought alive (Flowed f ∷ ss) all = and_from (flow_finds f) (steps_find [] ss)
     (flow_rows f all.0) (no_state_sought [] ss all.1)
-no_state_sought alive (Nest ps ∷ ss) all =
-    let once = inner_left alive ps in
-    and_from (inner_finds alive ps) _ (inner_rows alive ps all.0)
-    (and_from (inner_finds once ps) _ (inner_rows once ps all.0)
-    (no_state_sought (inner_left once ps) ss all.1))

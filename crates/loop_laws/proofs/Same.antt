@@ -10,42 +10,32 @@ use Rattle.loop_ir.specs.declared.ir.Space.{Space}
 use Rattle.loop_ir.specs.declared.ir.Space.TheVariants.{Result, Source, ScratchBit, ScratchWord}
 use Rattle.loop_ir.specs.declared.ir.Space.TheVariants.{Cells}
 use Rattle.loop_ir.specs.declared.ir.Sub.{Sub}
-use Rattle.loop_ir.specs.declared.ir.Sub.TheVariants.{Zero, Top, Inner as At_inner, InnerDown}
-use Rattle.loop_ir.specs.declared.ir.Sub.TheVariants.{Outer, OuterDown, Sum, DownSum, DownPlusN}
-use Rattle.loop_ir.specs.declared.ir.Sub.TheVariants.{NPlusInner, Register}
+use Rattle.loop_ir.specs.declared.ir.Sub.TheVariants.{Zero, Inner as At_inner, InnerDown, Register}
 use Rattle.loop_ir.specs.declared.ir.Place.{Place}
 use Rattle.loop_ir.specs.Spots.{Spot, Spots, same_space, same_spot, set_spot, spot_at, nth_place}
 use Rattle.loop_ir.specs.Spots.{write_all}
 use Rattle.loop_ir.specs.Costs.{sub_code, same_sub}
 
-not_low : (r : ℕ) → nat_lt (10 + r) 10 ≡ false
-not_low r = by (nat_lt (10 + r) 10) refl
+not_low : (r : ℕ) → nat_lt (3 + r) 3 ≡ false
+not_low r = by (nat_lt (3 + r) 3) refl
   where
-    by : (b : Bool) → nat_lt (10 + r) 10 ≡ b → b ≡ false
-    by true e = let lt = ltb-true (10 + r) 10 e in absurd (omega (arith, lt))
+    by : (b : Bool) → nat_lt (3 + r) 3 ≡ b → b ≡ false
+    by true e = let lt = ltb-true (3 + r) 3 e in absurd (omega (arith, lt))
     by false e = refl
 
 -- a number's subscript
 sub_at : ℕ → Sub
-sub_at k = cond (nat_lt k 10) (slice_index_or (Zero ∷ Top ∷ At_inner ∷ InnerDown ∷ Outer ∷ OuterDown
-    ∷ Sum ∷ DownSum ∷ DownPlusN ∷ NPlusInner ∷ []) k Zero) (Register (k - 10))
+sub_at k = cond (nat_lt k 3) (slice_index_or (Zero ∷ At_inner ∷ InnerDown ∷ []) k Zero)
+    (Register (k - 3))
 
 sub_back : (s : Sub) → sub_at (sub_code s) ≡ s
 unfolding sub_at
 sub_back Zero = refl
-sub_back Top = refl
 sub_back At_inner = refl
 sub_back InnerDown = refl
-sub_back Outer = refl
-sub_back OuterDown = refl
-sub_back Sum = refl
-sub_back DownSum = refl
-sub_back DownPlusN = refl
-sub_back NPlusInner = refl
-sub_back (Register r) = let e : 10 + r - 10 ≡ r = omega arith in
-    ap (λ b. cond b (slice_index_or (Zero ∷ Top ∷ At_inner ∷ InnerDown ∷ Outer ∷ OuterDown ∷ Sum
-    ∷ DownSum ∷ DownPlusN ∷ NPlusInner ∷ []) (10 + r) Zero) (Register (10 + r - 10))) (not_low r)
-    ∙ ap Register e
+sub_back (Register r) = let e : 3 + r - 3 ≡ r = omega arith in
+    ap (λ b. cond b (slice_index_or (Zero ∷ At_inner ∷ InnerDown ∷ []) (3 + r) Zero)
+    (Register (3 + r - 3))) (not_low r) ∙ ap Register e
 
 pub sub_true : (s t : Sub) → same_sub s t ≡ true → s ≡ t
 sub_true s t e = sym (sub_back s) ∙ ap sub_at (eqb-true (sub_code s) (sub_code t) e) ∙ sub_back t

@@ -5,9 +5,8 @@ use Rattle.std.specs.Prelude.{sum_by}
 use Rattle.std.specs.List.{AllByRecursion}
 use Rattle.std.proofs.lemmas.List.Sums.{sum_by-cons, sum_by-append}
 use Rattle.loop_ir.specs.Plain.{Block, StepOf}
-use Rattle.loop_ir.specs.Plain.StepOf.{Single, Along, Nest, Flowed}
-use Rattle.loop_ir.specs.Loops.{RoundOf, round_at, one_round, rounds, step_rounds}
-use Rattle.loop_ir.specs.Loops.{all_rounds, flow_rounds}
+use Rattle.loop_ir.specs.Plain.StepOf.{Single, Along, Flowed}
+use Rattle.loop_ir.specs.Loops.{RoundOf, round_at, one_round, rounds, all_rounds, flow_rounds}
 
 -- a number of each body, summed over all rounds
 abbrev pub rounds_sum : (Block → ℕ) → List (RoundOf Block) → ℕ
@@ -18,7 +17,6 @@ abbrev pub steps_sum : (Block → ℕ) → ℕ → List (StepOf Block) → ℕ
 steps_sum f n [] = 0
 steps_sum f n (Single b ∷ ss) = f b + steps_sum f n ss
 steps_sum f n (Along b ∷ ss) = n * f b + steps_sum f n ss
-steps_sum f n (Nest ps ∷ ss) = rounds_sum f (step_rounds n (Nest ps)) + steps_sum f n ss
 steps_sum f n (Flowed x ∷ ss) = rounds_sum f (flow_rounds n x) + steps_sum f n ss
 
 module _ (f : Block → ℕ) where
@@ -46,8 +44,6 @@ module _ (f : Block → ℕ) where
   sum_is n (Along b ∷ ss) = let e = sum_is n ss in
       let a = sum_append (rounds (λ j. one_round b j 0) 0 n) (all_rounds n ss) in
       let c = sum_each b 0 0 n in omega (arith, e, a, c)
-  sum_is n (Nest ps ∷ ss) = let e = sum_is n ss in
-      let a = sum_append (step_rounds n (Nest ps)) (all_rounds n ss) in omega (arith, e, a)
   sum_is n (Flowed x ∷ ss) = let e = sum_is n ss in
       let a = sum_append (flow_rounds n x) (all_rounds n ss) in omega (arith, e, a)
 

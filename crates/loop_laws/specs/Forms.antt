@@ -5,9 +5,8 @@ use Rattle.std.specs.List.{AllByRecursion, list_all}
 use Rattle.bit_rows.specs.declared.TheConstants.{WIDTH_MAX}
 use Rattle.mig_graph.specs.Graph.{IsGraph}
 use Rattle.mig_graph.specs.Outputs.{AreNamed}
-use Rattle.loop_ir.specs.Plain.{Block, InnerOf, StepOf, AllParts}
-use Rattle.loop_ir.specs.Plain.InnerOf.{Alone, Across}
-use Rattle.loop_ir.specs.Plain.StepOf.{Single, Along, Nest, Flowed}
+use Rattle.loop_ir.specs.Plain.{Block, StepOf, AllParts}
+use Rattle.loop_ir.specs.Plain.StepOf.{Single, Along, Flowed}
 use Rattle.loop_ir.specs.Flows.{all_flow}
 use Rattle.loop_ir.specs.Loops.{all_rounds}
 use Rattle.loop_ir.specs.declared.ir.Place.{Place}
@@ -15,7 +14,7 @@ use Rattle.loop_ir.specs.Spots.{Spot, is_state, nth_place}
 use Rattle.loop_ir.specs.WellFormed.{IsOneValue}
 use Rattle.loop_ir.specs.States.{StatesFit, has_states, held_of}
 use Rattle.loop_ir.specs.Chains.{steps_find}
-use Rattle.loop_ir.specs.Costs.{carries, used_subs, code_cost, bodies}
+use Rattle.loop_ir.specs.Costs.{carries, code_cost}
 use Rattle.loop_ir.specs.Limits.{IsCarried, IsRound, StepHasValues, step_stands}
 
 -- a body's places and numbers, but for its nodes
@@ -32,7 +31,6 @@ pub record IsSlim (b : Block) : Type 0 where
   pub inputs : b.graph.inputs ≤ 80
   pub outputs : length b.outs ≤ 8
   pub rows : length b.graph.nodes + length b.outs ≤ 32
-  pub subs : length (used_subs b) ≤ 3
 
 -- a body's graph is one that `Mig` makes
 pub record IsMade (b : Block) : Type 0 where
@@ -48,7 +46,6 @@ pub record HasForm (may_have : ℕ → Spot → Type 0) (steps : List (StepOf Bl
   pub rounds : (n : ℕ) → 0 < n → n ≤ WIDTH_MAX
       → AllByRecursion (IsRound (may_have n) n) (all_rounds n steps)
   pub size : code_cost steps ≤ 256
-  pub few : bodies steps ≤ 12
 
 -- the numbers of these bounds, as a test
 abbrev pub has_room : Block → Bool
@@ -57,28 +54,20 @@ has_room b =
     && (length b.outs == length b.writes
     && (nat_le b.graph.inputs 80
     && (nat_le (length b.outs) 8
-    && (nat_le (length b.graph.nodes + length b.outs) 32
-    && nat_le (length (used_subs b)) 3))))
-
--- every body of a nest keeps these bounds
-abbrev pub inners_have_room : List (InnerOf Block) → Bool
-inners_have_room [] = true
-inners_have_room (Alone b ∷ ps) = has_room b && inners_have_room ps
-inners_have_room (Across c b ∷ ps) = has_room b && inners_have_room ps
+    && nat_le (length b.graph.nodes + length b.outs) 32)))
 
 -- every body of a loop program keeps these bounds
 abbrev pub steps_have_room : List (StepOf Block) → Bool
 steps_have_room [] = true
 steps_have_room (Single b ∷ ss) = has_room b && steps_have_room ss
 steps_have_room (Along b ∷ ss) = has_room b && steps_have_room ss
-steps_have_room (Nest ps ∷ ss) = inners_have_room ps && steps_have_room ss
 steps_have_room (Flowed f ∷ ss) = all_flow has_room f && steps_have_room ss
 
 -- a loop program is small enough that its code is within the limits: the test that a written
 -- program is checked by
 abbrev pub is_short : List (StepOf Block) → Bool
 is_short steps = steps_have_room steps && (list_all step_stands steps
-    && (nat_le (code_cost steps) 256 && nat_le (bodies steps) 12))
+    && nat_le (code_cost steps) 256)
 
 -- all places from the first state on are states
 abbrev pub are_rows_first : List Place → Bool
@@ -92,18 +81,11 @@ abbrev pub has_known_states : Block → Bool
 has_known_states b = if has_states b then nat_le (length b.reads) b.graph.inputs
     && (are_rows_first b.writes && is_some (held_of b)) else true
 
--- so it is in every body of a nest
-abbrev pub inners_have_known : List (InnerOf Block) → Bool
-inners_have_known [] = true
-inners_have_known (Alone b ∷ ps) = has_known_states b && inners_have_known ps
-inners_have_known (Across c b ∷ ps) = has_known_states b && inners_have_known ps
-
 -- so it is in every body of a loop program
 abbrev pub steps_have_known : List (StepOf Block) → Bool
 steps_have_known [] = true
 steps_have_known (Single b ∷ ss) = has_known_states b && steps_have_known ss
 steps_have_known (Along b ∷ ss) = has_known_states b && steps_have_known ss
-steps_have_known (Nest ps ∷ ss) = inners_have_known ps && steps_have_known ss
 steps_have_known (Flowed f ∷ ss) = all_flow has_known_states f && steps_have_known ss
 
 -- each body with states is one of those that hold states, and finds the states that it reads

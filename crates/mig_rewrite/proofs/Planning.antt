@@ -3,8 +3,6 @@ use Rattle.std.proofs.Common.{◌≡◌, ◌≢◌, ℕ, ◌<◌, ◌==◌, Bool
 use Rattle.std.proofs.Common.{inl, inr, sym, ◌∙◌, subst, slice_set, if◌then◌else◌, eqb-true, eq-eqb}
 use Rattle.std.proofs.Common.{get_or-set_other, get_or-set_same, length-set}
 use Rattle.std.specs.Prelude.{Some}
-use Rattle.std.proofs.lemmas.Bool.{cases_eq, cases_lt}
-use Rattle.std.proofs.lemmas.List.{set_past}
 use Rattle.mig_graph.specs.declared.Lit.{Lit}
 use Rattle.mig_graph.specs.Graph.{Graph, size_of, IsGraph}
 use Rattle.mig_graph.specs.Outputs.{lit_at}
@@ -13,8 +11,7 @@ use Rattle.mig_rewrite.specs.declared.merges.Merge.{Merge}
 use Rattle.mig_rewrite.specs.declared.rebuild.Part.{Part}
 use Rattle.mig_rewrite.specs.declared.rebuild.Part.TheVariants.{Nothing, One, Two}
 use Rattle.mig_rewrite.specs.Merge.{IsMerge, straight}
-use Rattle.mig_rewrite.specs.Plan.{is_marked, EachLit, whole_part, IsPlan}
-use Rattle.mig_rewrite.specs.Reach.{IsClosed}
+use Rattle.mig_rewrite.specs.Plan.{is_marked, EachLit, whole_part, IsReached, IsPlan}
 use Rattle.mig_rewrite.proofs.Once.{Names, once-node, once-output}
 use Rattle.mig_rewrite.proofs.Numbered.{numbered-lower, numbered-three, any-each, any-names}
 use Rattle.mig_rewrite.proofs.Numbered.{any-three}
@@ -50,23 +47,6 @@ cleared-second : (marks : List Bool) (p q : ℕ) → q < length marks
     → is_marked (cleared marks p q) q ≡ false
 cleared-second marks p q b = get_or-set_same (slice_set marks p false) q false false
     (omega (arith, length-set marks p false))
-
-set-marked : (marks : List Bool) (p k : ℕ) → is_marked (slice_set marks p false) k ≡ true
-    → is_marked marks k ≡ true
-set-marked marks p k e = elim (cases_eq k p) [
-  | inl s ↦ elim (cases_lt p (length marks)) [
-    | inl b ↦ absurd (not-both _ (subst (λ j. is_marked (slice_set marks p false) j ≡ true) s e)
-        (get_or-set_same marks p false false b))
-    | inr past ↦ subst (λ (m : List Bool). is_marked m k ≡ true) (set_past marks p false past) e
-  ]
-  | inr d ↦ sym (get_or-set_other marks p k false false d) ∙ e
-]
-
--- clearing marks none
-
-pub was-marked : (marks : List Bool) (p q k : ℕ) → is_marked (cleared marks p q) k ≡ true
-    → is_marked marks k ≡ true
-was-marked marks p q k e = set-marked marks p k (set-marked (slice_set marks p false) q k e)
 
 -- the places of a merge
 pub record IsPlaced (g : Graph) (m : Merge) : Type 0 where
@@ -174,7 +154,7 @@ each-map P Q (Two x y u v z) f a = (f x a.0, f y a.1, f u a.2, f v a.3, f z a.4)
 
 -- with a merge
 pub plan-merge : (g : Graph) (outs : List Lit) (m : Merge) (marks : List Bool)
-    → IsGraph g.inputs g.nodes → IsMerge g outs m → IsClosed g outs marks
+    → IsGraph g.inputs g.nodes → IsMerge g outs m → IsReached g outs marks
     → IsPlan g outs (Some m) (cleared marks m.first m.second)
 plan-merge g outs m marks graph h r =
     let p = merge-placed g outs m graph h in

@@ -179,10 +179,3 @@ spared-none g outs None h = refl
 spared-none g outs (Some m) h = let x = below-no m.first (g.inputs + 1)
     (omega (arith, h.first_above)) in let y =
     below-no m.second (g.inputs + 1) (omega (arith, h.second_above)) in omega arith
-
--- where each node so far is made, and one more, that one is marked
-pub marked-more : (g : Graph) (marks : List Bool) (k n next : ℕ) → n ≤ k → next ≡ k + 1
-    → next ≤ n + cost (part_of g marks None k) → (n ≡ k) × (is_marked marks k ≡ true)
-marked-more g marks k n next few all made = if-cases (λ p. next ≤ n + cost p
-    → (n ≡ k) × (is_marked marks k ≡ true)) (is_marked marks k) (whole_part g None k) Nothing
-    (λ e m. (omega arith, e)) (λ _ m. absurd (omega arith)) made

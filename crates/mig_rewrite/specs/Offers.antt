@@ -7,7 +7,6 @@ use Rattle.mig_graph.specs.Graph.{Graph, start, value}
 use Rattle.mig_graph.specs.Outputs.{lit_at}
 use Rattle.mig_graph.specs.Reduced.{IsReduced}
 use Rattle.mig_rewrite.specs.declared.sketch.Sketch.{Sketch}
-use Rattle.mig_rewrite.specs.Reach.{AreReached}
 
 -- the value of a literal: twice the number of its node, and one more where it is inverted
 abbrev pub short_value : (ℕ → Bool) → ℕ → Bool
@@ -51,7 +50,6 @@ pub record IsLarger (g : Graph) (s : Sketch) : Type 0 where
   pub outs : List Lit
   pub offered : IsOffered s graph outs
   pub reduced : IsReduced graph outs
-  pub reached : AreReached graph outs
   pub more : length g.nodes < length graph.nodes
 
 -- the literals have the values of the constant, the inputs and the first k nodes

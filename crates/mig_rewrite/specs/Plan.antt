@@ -3,6 +3,7 @@ use Rattle.std.specs.Prelude.{◌≡◌, ℕ, ◌<◌, ◌==◌, Bool, true, fal
 use Rattle.std.specs.Prelude.{slice_index_or, if◌then◌else◌, Option, Some, None}
 use Rattle.bit_rows.specs.Bits.{majority}
 use Rattle.mig_graph.specs.declared.Lit.{Lit}
+use Rattle.mig_graph.specs.declared.Node.{Node}
 use Rattle.mig_graph.specs.Literals.{lit_value}
 use Rattle.mig_graph.specs.Graph.{Graph, size_of}
 use Rattle.mig_graph.specs.Reduced.{node_numbered}
@@ -58,6 +59,18 @@ pub record IsPlan (g : Graph) (outs : List Lit) (merge : Option Merge) (marks : 
     pub closed : (k : ℕ) → g.inputs < k → k < size_of g
         → EachLit (λ l. is_marked marks l.node ≡ true) (part_of g marks merge k)
     pub spared : AreSpared marks merge
+
+-- what the node reads is marked
+abbrev pub ReadsMarked : List Bool → Node → Type 0
+ReadsMarked marks n = (is_marked marks n.a.node ≡ true) × (is_marked marks n.b.node ≡ true)
+    × (is_marked marks n.c.node ≡ true)
+
+-- the marked nodes are all that the outputs reach, and perhaps more
+pub record IsReached (g : Graph) (outs : List Lit) (marks : List Bool) : Type 0 where
+  pub long : length marks ≡ size_of g
+  pub outputs : (k : ℕ) → k < length outs → is_marked marks (lit_at outs k).node ≡ true
+  pub closed : (k : ℕ) → g.inputs < k → k < size_of g → is_marked marks k ≡ true
+      → ReadsMarked marks (node_numbered g k)
 
 -- a merge, if there is one, is right
 abbrev pub MayMerge : Graph → List Lit → Option Merge → Type 0

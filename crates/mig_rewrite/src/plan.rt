@@ -1,12 +1,10 @@
 //! Which nodes are made again.
 
-ghost use Rattle.std.specs.Prelude.{◌≡◌, ◌≢◌, ◌⊎◌, ◌<◌, ◌≤◌, ℕ, Bool, List, IfOk, true, false};
-ghost use Rattle.std.specs.Prelude.{length, replicate};
+ghost use Rattle.std.specs.Prelude.{◌≡◌, ◌≢◌, ◌<◌, ◌≤◌, ℕ, IfOk, true, false, length, replicate};
 ghost use Rattle.mig_graph.specs.Graph.{size_of};
 ghost use Rattle.mig_graph.specs.Outputs.{AreNamed};
 ghost use Rattle.mig_graph.specs.Reduced.{node_numbered};
-ghost use Rattle.mig_rewrite.specs.Plan.{is_marked, IsPlan, MayMerge};
-ghost use Rattle.mig_rewrite.specs.Reach.{ReadsMarked, IsClosed, IsReached};
+ghost use Rattle.mig_rewrite.specs.Plan.{is_marked, IsPlan, MayMerge, ReadsMarked, IsReached};
 
 use crate::merges::Merge;
 use mig_graph::{Lit, Mig, MigOuts, NoMemory};
@@ -25,8 +23,6 @@ fn mark(marks: &mut [bool], l: Lit)
     ensures here { is_marked marks.new l.node ≡ true }
     ensures others { (k : ℕ) → k ≢ l.node → is_marked marks.new k ≡ is_marked marks.old k }
     ensures grew { (k : ℕ) → is_marked marks.old k ≡ true → is_marked marks.new k ≡ true }
-    ensures only { (k : ℕ) → is_marked marks.new k ≡ true
-        → (k ≡ l.node) ⊎ (is_marked marks.old k ≡ true) }
 {
     marks[l.node as usize] = true;
 }
@@ -39,10 +35,6 @@ fn mark_read(marks: &mut [bool], mig: &Mig, k: u32)
     ensures read { is_marked marks.new k ≡ true → ReadsMarked marks.new (node_numbered mig.now k) }
     ensures others { (j : ℕ) → k ≤ j → is_marked marks.new j ≡ is_marked marks.old j }
     ensures grew { (j : ℕ) → is_marked marks.old j ≡ true → is_marked marks.new j ≡ true }
-    ensures only { (others : List Bool) → (is_marked marks.old k ≡ true
-        → ReadsMarked others (node_numbered mig.now k))
-        → ((j : ℕ) → is_marked marks.old j ≡ true → is_marked others j ≡ true)
-        → (j : ℕ) → is_marked marks.new j ≡ true → is_marked others j ≡ true }
 {
     let _ = mig.inputs();
     if marks[k as usize] {
@@ -56,9 +48,7 @@ fn mark_read(marks: &mut [bool], mig: &Mig, k: u32)
 /// Marks all that the outputs reach.
 fn reached(m: &MigOuts, alloc: Global) -> Result<Vec<bool>, NoMemory>
     requires { AreNamed m.now.mig m.now.outs.items }
-    ensures closed { IfOk result (λ v. IsClosed m.now.mig m.now.outs.items v.items) }
-    ensures only { IfOk result (λ v. (k : ℕ) → is_marked v.items k ≡ true
-        → IsReached m.now.mig m.now.outs.items k) }
+    ensures { IfOk result (λ v. IsReached m.now.mig m.now.outs.items v.items) }
 {
     let first = m.mig.inputs() as u32 + 1;
     let size = m.mig.size();
@@ -82,9 +72,7 @@ pub(crate) fn planned(
 ) -> Result<Vec<bool>, NoMemory>
     requires named { AreNamed m.now.mig m.now.outs.items }
     requires merge { MayMerge m.now.mig m.now.outs.items merge }
-    ensures plan { IfOk result (λ v. IsPlan m.now.mig m.now.outs.items merge v.items) }
-    ensures only { IfOk result (λ v. (k : ℕ) → is_marked v.items k ≡ true
-        → IsReached m.now.mig m.now.outs.items k) }
+    ensures { IfOk result (λ v. IsPlan m.now.mig m.now.outs.items merge v.items) }
 {
     let _ = m.mig.inputs();
     let mut marks = reached(m, alloc)?;

@@ -1,13 +1,12 @@
 //! The graph made again.
 
 ghost use Rattle.std.specs.Prelude.{◌≡◌, ◌<◌, ◌≤◌, ◌+◌, ◌^◌, ◌++◌, ◌∷◌, [], ℕ, Bool, IfOk, OnOk};
-ghost use Rattle.std.specs.Prelude.{length, None};
+ghost use Rattle.std.specs.Prelude.{length};
 ghost use Rattle.mig_graph.specs.declared.Lit.{Lit};
 ghost use Rattle.mig_graph.specs.Literals.{complement_if};
 ghost use Rattle.mig_graph.specs.Graph.{size_of, value};
 ghost use Rattle.mig_graph.specs.Outputs.{lit_at, AreNamed, KeepsOutputs};
 ghost use Rattle.mig_rewrite.specs.Merge.{straight};
-ghost use Rattle.mig_rewrite.specs.Reach.{AreReached};
 ghost use Rattle.mig_rewrite.specs.Plan.{part_value, EachLit, cost, part_of, saving, MayMerge};
 
 use crate::merges::Merge;
@@ -125,16 +124,13 @@ fn translated_all(lits: &[Lit], old: &[Lit], alloc: Global) -> Result<Vec<Lit>, 
     Ok(made)
 }
 
-/// The graph made again, with the merge. Without one it has fewer nodes where the outputs do not
-/// reach all.
+/// The graph made again, with the merge.
 pub(crate) fn remade(m: &MigOuts, merge: Option<Merge>, alloc: Global) -> Result<MigOuts, NoMemory>
     requires named { AreNamed m.now.mig m.now.outs.items }
     requires merge { MayMerge m.now.mig m.now.outs.items merge }
     ensures keeps { IfOk result (λ r. KeepsOutputs m.now.mig m.now.outs.items r.mig r.outs.items) }
     ensures named { IfOk result (λ r. AreNamed r.mig r.outs.items) }
     ensures count { IfOk result (λ r. length r.mig.nodes + saving merge ≤ length m.now.mig.nodes) }
-    ensures reached { merge ≡ None → IfOk result (λ r. length r.mig.nodes ≡ length m.now.mig.nodes
-        → AreReached m.now.mig m.now.outs.items) }
 {
     let marks = planned(m, merge, alloc)?;
     let inputs = m.mig.inputs();

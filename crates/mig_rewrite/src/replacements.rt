@@ -42,19 +42,16 @@ impl Divisor {
     }
 
     /// Whether it is wrong nowhere.
-    #[inline(always)]
     fn is_right(&self) -> bool {
         self.errors.is_zero()
     }
 
     /// Where one of both is wrong.
-    #[inline(always)]
     fn or(&self, other: &Divisor) -> Table {
         self.errors.or(&other.errors)
     }
 
     /// Whether the other one is of another node, and where one is wrong the other is right.
-    #[inline(always)]
     fn may_join(&self, other: &Divisor) -> bool {
         self.literal / 2 != other.literal / 2 && self.errors.is_apart(&other.errors)
     }
@@ -189,26 +186,6 @@ impl Replacer {
         form_at(&carry, carry.row.saturating_add(place), leaves)
     }
 
-    /// Adds a literal and its complement, which is wrong where it matters and the other is right,
-    /// or returns the one of both that is right.
-    fn add_both(
-        &mut self,
-        literal: u8,
-        errors: Table,
-        care: &Table,
-    ) -> Result<Option<u8>, NoMemory> {
-        if errors.is_zero() {
-            return Ok(Some(literal));
-        }
-        keep(&mut self.list, Divisor { literal, errors })?;
-        let (literal, errors) = (literal ^ 1, care.xor(&errors));
-        if errors.is_zero() {
-            return Ok(Some(literal));
-        }
-        keep(&mut self.list, Divisor { literal, errors })?;
-        Ok(None)
-    }
-
     /// Finds the literals that are not above the node, or returns one that may stand for it alone.
     fn find_divisors(
         &mut self,
@@ -220,20 +197,19 @@ impl Replacer {
         let above = sketch.above(node);
         let care = self.turned.care_of(sketch, tables, node, above);
         let own = table_of(tables, node.saturating_mul(2));
-        for other in 0..sketch.size() {
-            if !has(above, other) {
-                let literal = other.saturating_mul(2);
+        for literal in 0..sketch.size().saturating_mul(2) {
+            if !has(above, literal / 2) {
                 let errors = table_of(tables, literal).xor(&own).and(&care);
-                if let Some(right) = self.add_both(literal, errors, &care)? {
-                    return Ok(Some(right));
+                if errors.is_zero() {
+                    return Ok(Some(literal));
                 }
+                keep(&mut self.list, Divisor { literal, errors })?;
             }
         }
         Ok(None)
     }
 
     /// A drawn literal.
-    #[inline(always)]
     fn operand(&mut self) -> Option<Divisor> {
         let place = self.draws.below(self.list.len());
         self.list.get(place).copied()

@@ -8,7 +8,6 @@ ghost use Rattle.mig_graph.specs.Outputs.{lit_at, AreNamed, KeepsOutputs};
 ghost use Rattle.mig_graph.specs.Reduced.{IsReduced};
 ghost use Rattle.mig_rewrite.specs.Offers.{operand, output_value, Stands, IsRight, IsOffered};
 ghost use Rattle.mig_rewrite.specs.Offers.{IsLarger};
-ghost use Rattle.mig_rewrite.specs.Reach.{AreReached};
 
 use crate::agree::keeps_outputs;
 use crate::rebuild::{Part, first_literals, make, translated};
@@ -120,7 +119,6 @@ pub fn kept(m: &MigOuts, offer: &Sketch, alloc: Global) -> Result<Option<MigOuts
     ensures named { IfOk result (λ o. IfSome o (λ r. AreNamed r.mig r.outs.items)) }
     ensures count { IfOk result (λ o. IfSome o (λ r. length r.mig.nodes ≤ length m.now.mig.nodes)) }
     ensures reduced { IfOk result (λ o. IfSome o (λ r. IsReduced r.mig r.outs.items)) }
-    ensures reached { IfOk result (λ o. IfSome o (λ r. AreReached r.mig r.outs.items)) }
     ensures offered { IfOk result (λ o. IfSome o (λ r. IsOffered offer.now r.mig r.outs.items)) }
     // None of a sketch that keeps the outputs only where what it is reduced to has more nodes.
     ensures dropped { IfOk result (λ o. IfNone o (IsRight m.now.mig m.now.outs.items offer.now

@@ -57,53 +57,45 @@ impl Table {
         }
     }
 
-    #[inline(always)]
     fn complement(&self) -> Table {
         let Table([a, b, c, d]) = *self;
         Table([!a, !b, !c, !d])
     }
 
-    #[inline(always)]
     pub fn xor(&self, other: &Table) -> Table {
         let Table([a, b, c, d]) = *self;
         let Table([e, f, g, h]) = *other;
         Table([a ^ e, b ^ f, c ^ g, d ^ h])
     }
 
-    #[inline(always)]
     pub fn and(&self, other: &Table) -> Table {
         let Table([a, b, c, d]) = *self;
         let Table([e, f, g, h]) = *other;
         Table([a & e, b & f, c & g, d & h])
     }
 
-    #[inline(always)]
     pub fn or(&self, other: &Table) -> Table {
         let Table([a, b, c, d]) = *self;
         let Table([e, f, g, h]) = *other;
         Table([a | e, b | f, c | g, d | h])
     }
 
-    #[inline(always)]
     pub fn is_zero(&self) -> bool {
         let Table([a, b, c, d]) = *self;
         a | b | c | d == 0
     }
 
     /// Whether no assignment is in both.
-    #[inline(always)]
     pub fn is_apart(&self, other: &Table) -> bool {
         self.and(other).is_zero()
     }
 
-    #[inline(always)]
     fn majority(a: &Table, b: &Table, c: &Table) -> Table {
         a.and(b).or(&c.and(&a.or(b)))
     }
 }
 
 /// The table of a literal.
-#[inline(always)]
 pub fn table_of(tables: &Tables, literal: u8) -> Table {
     match tables.get(literal as usize / 2) {
         Some(table) if literal & 1 == 1 => table.complement(),

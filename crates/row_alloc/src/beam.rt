@@ -61,11 +61,10 @@ const MOST_SEEN: usize = 256;
 const MOST_AHEAD: usize = 64;
 
 /// A state that a step has led to, and after how many commands.
-#[derive(Clone, Copy)]
+#[derive(Clone, Copy, PartialEq, Eq)]
 struct Seen {
     state: State,
     spent: u32,
-    step: u32,
 }
 
 /// The search: the entries that have gone on, the states after this step and the two next ones.
@@ -75,10 +74,9 @@ struct Beam {
     next: Bucket,
     after: Bucket,
     ways: Ways,
-    /// States of this step and of those before it, each at the place that its hash gives.
+    ends: Ways,
+    /// States of this step, each at the place that its hash gives.
     seen: Vec<Option<Seen>>,
-    /// The number of this step.
-    step: u32,
     /// What was ahead of states, each at the place that its nodes give.
     aheads: Vec<Option<Ahead>>,
     breadth: Breadth,
@@ -96,8 +94,8 @@ impl Drop for Beam {
             next: _,
             after: _,
             ways: _,
+            ends: _,
             seen: _,
-            step: _,
             aheads: _,
             breadth: _,
             width: _,
@@ -163,8 +161,8 @@ impl Beam {
             next: Bucket::new(alloc),
             after: Bucket::new(alloc),
             ways: Ways::new(alloc)?,
+            ends: Ways::new(alloc)?,
             seen: vec![in alloc; None; MOST_SEEN]?,
-            step: 0,
             aheads: vec![in alloc; None; MOST_AHEAD]?,
             breadth,
             width: breadth.width,
@@ -189,19 +187,17 @@ impl Beam {
     /// Whether the state was met in this step after as many commands or fewer. It is remembered.
     fn was_seen(&mut self, state: &State, spent: u32) -> bool {
         let place = state.hash() as usize % MOST_SEEN;
-        let step = self.step;
         let Some(seen) = self.seen.get_mut(place) else {
             return false;
         };
         let was_seen = match seen {
-            Some(old) => old.step == step && old.spent <= spent && old.state == *state,
+            Some(old) => old.state == *state && old.spent <= spent,
             None => false,
         };
         if !was_seen {
             *seen = Some(Seen {
                 state: *state,
                 spent,
-                step,
             });
         }
         was_seen
@@ -290,9 +286,9 @@ impl Beam {
         at: usize,
         ahead: &Ahead,
     ) -> Result<(), NoMemory> {
-        for k in 0..self.ways.ends.len() {
-            if k < self.ways.ends.len() {
-                let way = self.ways.ends[k];
+        for k in 0..self.ends.list.len() {
+            if k < self.ends.list.len() {
+                let way = self.ends.list[k];
                 self.consider(task, parent, at, ahead, &way)?;
             }
         }
@@ -324,11 +320,11 @@ impl Beam {
             spent
         };
         if self.is_too_far(ahead, &after, spent) {
-            let count = line_up.end_count(task, &after, &mut self.ways);
+            let count = line_up.end_count(task, &after, &mut self.ends);
             self.tried = self.tried.saturating_add(count as usize);
             return Ok(());
         }
-        line_up.end(task, &way, &after, &mut self.ways)
+        line_up.end(task, &way, &after, &mut self.ends)
     }
 
     /// Tries one line-up of a node.
@@ -341,7 +337,7 @@ impl Beam {
         line_up: &LineUp,
     ) -> Result<(), NoMemory> {
         line_up.ways(task, &parent.state, &mut self.ways)?;
-        self.ways.ends.clear();
+        self.ends.list.clear();
         for number in 0..self.ways.list.len() {
             self.find_ends(task, parent, ahead, line_up, number)?;
         }
@@ -419,9 +415,9 @@ impl Beam {
 
     /// Tries to write each output.
     fn try_writes(&mut self, task: &Task, parent: &Entry, at: usize) -> Result<(), NoMemory> {
-        self.ways.ends.clear();
+        self.ends.list.clear();
         for j in 0..8u8 {
-            writes(task, &parent.state, j, &mut self.ways.ends)?;
+            writes(task, &parent.state, j, &mut self.ends.list)?;
         }
         let ahead = self.ahead_of(task, &parent.state);
         self.consider_ends(task, parent, at, &ahead)
@@ -452,7 +448,7 @@ impl Beam {
         let states = self.breadth.most_states.saturating_sub(self.tried) / usize::max(left, 1);
         self.width = usize::min(states / FEW_STATES, self.breadth.width);
         let share = states / usize::max(now.kept.len(), 1);
-        self.step = self.step.saturating_add(1);
+        self.seen.fill(None);
         for entry in &now.kept {
             self.go_on(task, entry, share, alloc)?;
         }

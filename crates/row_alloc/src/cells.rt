@@ -270,20 +270,12 @@ impl Fill {
     }
 }
 
-/// How many cases of a fill are remembered.
-const MOST_FILLS: usize = 512;
+/// How many cases of a fill there are: which wordlines give the literal, and which cells are free.
+const FILLS: usize = 1 << 14;
 
-/// The addresses that are worth a fill, and in which case: which wordlines give the literal, and
-/// which cells are free.
-#[derive(Clone, Copy)]
-struct Worth {
-    case: u16,
-    addresses: u16,
-}
-
-/// The fills that were asked for, each at the place that its case gives.
+/// The addresses that are worth a fill, for each case in which they were asked for, else 0.
 pub struct Fills {
-    worth: Vec<Worth>,
+    worth: Vec<u16>,
 }
 
 impl Drop for Fills {
@@ -294,13 +286,8 @@ impl Drop for Fills {
 
 impl Fills {
     pub fn new(alloc: Global) -> Result<Fills, NoMemory> {
-        // A case has 14 bits.
-        let none = Worth {
-            case: u16::MAX,
-            addresses: 0,
-        };
         Ok(Fills {
-            worth: vec![in alloc; none; MOST_FILLS]?,
+            worth: vec![in alloc; 0; FILLS]?,
         })
     }
 
@@ -308,18 +295,14 @@ impl Fills {
     /// for a literal that stands there while these cells are free.
     pub fn worth(&mut self, there: Lines, free: Set) -> Set {
         let lines = there.0 & 0x3F | (there.0 >> 12 & 3) << 6;
-        let case = ((lines | free.0 << 8) & 0x3FFF) as u16;
-        let place = (u32::from(case).wrapping_mul(0x9E3779B1) >> 16) as usize % MOST_FILLS;
-        let Some(known) = self.worth.get_mut(place) else {
+        let case = (lines | (free.0 & 0x3F) << 8) as usize;
+        let Some(known) = self.worth.get_mut(case) else {
             return Set(0);
         };
-        if known.case != case {
-            *known = Worth {
-                case,
-                addresses: (Fill::new(there, free).worth().0 & 0xFFFF) as u16,
-            };
+        if *known == 0 {
+            *known = (Fill::new(there, free).worth().0 & 0xFFFF) as u16;
         }
-        Set(u32::from(known.addresses))
+        Set(u32::from(*known))
     }
 }
 

@@ -79,20 +79,15 @@ impl Way {
     }
 }
 
-/// Ways that were found, those of them that end a step, and which addresses were worth a fill.
+/// Ways that were found, and which addresses were worth a fill on the way.
 pub struct Ways {
     pub list: Vec<Way>,
-    pub ends: Vec<Way>,
     fills: Fills,
 }
 
 impl Drop for Ways {
     fn drop(self) {
-        let Ways {
-            list: _,
-            ends: _,
-            fills: _,
-        } = self;
+        let Ways { list: _, fills: _ } = self;
     }
 }
 
@@ -100,7 +95,6 @@ impl Ways {
     pub fn new(alloc: Global) -> Result<Ways, NoMemory> {
         Ok(Ways {
             list: Vec::new(alloc),
-            ends: Vec::new(alloc),
             fills: Fills::new(alloc)?,
         })
     }
@@ -360,9 +354,9 @@ impl LineUp {
     }
 
     /// The addresses that are worth it for what is sensed.
-    fn worth_after(&self, after: &State, ways: &mut Ways) -> Set {
+    fn worth_after(&self, after: &State, ends: &mut Ways) -> Set {
         let free = free_cells(&after.cells, self.job.wanted_after);
-        ways.worth(after, self.job.sensed, free)
+        ends.worth(after, self.job.sensed, free)
     }
 
     /// Whether the operands are in line.
@@ -371,22 +365,22 @@ impl LineUp {
     }
 
     /// How many ways make the node where its operands are in line, with this state after it.
-    pub fn end_count(&self, task: &Task, after: &State, ways: &mut Ways) -> u32 {
-        let worth = self.worth_after(after, ways);
+    pub fn end_count(&self, task: &Task, after: &State, ends: &mut Ways) -> u32 {
+        let worth = self.worth_after(after, ends);
         let spills = task.spill_of(self.job.sensed).is_some() as u32;
         let rows = self.job.outs.len().saturating_add(spills);
         worth.len().saturating_add(rows).saturating_add(1)
     }
 
     /// The ways that end by the activation, alone or with an address that takes what is sensed.
-    fn end_in_cells(&self, way: &Way, after: &State, ways: &mut Ways) -> Result<(), NoMemory> {
-        keep(&mut ways.ends, way.then(*after, Ap(B(self.triple))))?;
-        let worth = self.worth_after(after, ways);
+    fn end_in_cells(&self, way: &Way, after: &State, ends: &mut Ways) -> Result<(), NoMemory> {
+        keep(&mut ends.list, way.then(*after, Ap(B(self.triple))))?;
+        let worth = self.worth_after(after, ends);
         for y in 0..16u8 {
             if worth.has(y) {
                 let mut state = *after;
                 state.cells = driven(&state.cells, y, self.job.sensed);
-                keep(&mut ways.ends, way.then(state, Aap(B(self.triple), B(y))))?;
+                keep(&mut ends.list, way.then(state, Aap(B(self.triple), B(y))))?;
             }
         }
         Ok(())
@@ -398,13 +392,13 @@ impl LineUp {
         task: &Task,
         way: &Way,
         after: &State,
-        ways: &mut Ways,
+        ends: &mut Ways,
     ) -> Result<(), NoMemory> {
         if let Some(spill) = task.spill_of(self.job.sensed) {
             let mut state = *after;
             state.spilled = state.spilled.with(spill);
             keep(
-                &mut ways.ends,
+                &mut ends.list,
                 way.then(state, Aap(B(self.triple), Spill(spill))),
             )?;
         }
@@ -412,7 +406,7 @@ impl LineUp {
             if self.job.outs.has(j) {
                 let mut state = *after;
                 state.unwritten = state.unwritten.without(j);
-                keep(&mut ways.ends, way.then(state, Aap(B(self.triple), Out(j))))?;
+                keep(&mut ends.list, way.then(state, Aap(B(self.triple), Out(j))))?;
             }
         }
         Ok(())
@@ -424,10 +418,10 @@ impl LineUp {
         task: &Task,
         way: &Way,
         after: &State,
-        ways: &mut Ways,
+        ends: &mut Ways,
     ) -> Result<(), NoMemory> {
-        self.end_in_cells(way, after, ways)?;
-        self.end_in_rows(task, way, after, ways)
+        self.end_in_cells(way, after, ends)?;
+        self.end_in_rows(task, way, after, ends)
     }
 }
 

@@ -324,7 +324,6 @@ all_done a b s t u nodes n ran read =
     (let d : DidAndRead (events (map piece_of script)) n s u = record {
       banks = read.banks ∙ ran.ran.did.banks;
       counters = read.counters ∙ ap (with_reads n) ran.ran.did.counters;
-      faults = read.faults ∙ ran.ran.did.faults;
       log = subst (λ (es : List Event). Grew s.log u.log es)
           (append-nil (events (map piece_of script)))
           (Grew-more s.log t.log u.log (events (map piece_of script)) [] ran.ran.did.log

@@ -154,7 +154,6 @@ silent_did events n s t e d = record {
   counters = d.counters
       ∙ ap (λ k. with_reads k (all_counted events s.counters)) e
       ∙ no_reads (all_counted events s.counters);
-  faults = d.faults;
   log = d.log;
 }
 

@@ -1,7 +1,7 @@
 //! A query on a machine.
 
 ghost use Rattle.std.specs.Prelude.{◌≡◌, ◌<◌, ◌≤◌, ◌*◌, ◌++◌, ◌^◌, ◌∷◌, [], List, length, map};
-ghost use Rattle.std.specs.Prelude.{true, Some, None, IfOk, OnErr, OnOk};
+ghost use Rattle.std.specs.Prelude.{true, Some, None, IfOk, OnErr};
 ghost use Rattle.std.specs.List.{AllByRecursion};
 ghost use Rattle.std.specs.Result.{IsOkAnd};
 ghost use Rattle.faults.specs.Counts.{Rose};
@@ -111,7 +111,6 @@ pub fn run_query<D: Dram>(
     ensures answer { IfOk result (λ reply. (t : model.Query) → IsNodesOf t (nodes_in query.now)
         → answer_of reply ≡ answer (geometry_of machine.old) (operations_by machine.old)
         (D.view dram.old).banks (table_in machine.old) t) }
-    ensures faults { OnOk result ((D.view dram.new).faults ≡ (D.view dram.old).faults) }
     // Where a check fails, it is refused, and the chip is as it was.
     ensures unused { (found : _) → checked (table_in machine.old) (nodes_in query.now) ≡ Some found
         → IsOkAnd result (λ reply. D.view dram.new ≡ D.view dram.old) }

@@ -73,12 +73,7 @@ module _ (old new : Machine) (number : ℕ) (name : List ℕ) (chip chip' : Chip
     did_read : DidRead (reads_by old (Print name)) chip chip'
         → DidAndRead (events_by old (piece_of (Print name))) (reads_by old (Print name)) chip chip'
     did_read did = subst (λ events. DidAndRead events (reads_by old (Print name)) chip chip')
-        (sym none_else) (record {
-          banks = did.banks;
-          counters = did.counters;
-          faults = did.faults;
-          log = did.log;
-        })
+        (sym none_else) (record { banks = did.banks; counters = did.counters; log = did.log })
 
     whole_line : refusal (geometry_of old) (operations_by old) (table_in old) (Print name) ≡ None
         → shown_line ≡ reply_line old number chip.banks (Print name)

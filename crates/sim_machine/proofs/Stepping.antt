@@ -81,7 +81,6 @@ did_only events n a b e did = record {
   banks = did.banks;
   counters = did.counters ∙ no_reads (all_counted events a.counters)
       ∙ ap (λ k. with_reads k (all_counted events a.counters)) (sym e);
-  faults = did.faults;
   log = did.log;
 }
 
@@ -195,7 +194,6 @@ nothing_done g operations table name chip = subst (λ events. Did events chip ch
     (sym (if_same (refusal g operations table (Free name)) [])) (record {
       banks = refl;
       counters = refl;
-      faults = refl;
       log = Grew-none chip.log;
     })
 

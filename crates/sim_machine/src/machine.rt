@@ -109,7 +109,6 @@ impl<'a> Machine<'a> {
         ensures faults { (D.view dram.old).faults ≤ (D.view dram.new).faults }
         ensures opened { OnOk result (Opened image.entry.geometry image.entry.rows.now
             (D.view dram.new)) }
-        ensures unfailed { OnOk result ((D.view dram.new).faults ≡ (D.view dram.old).faults) }
         ensures machine { IfOk result (λ machine. machine ≡ machine_on image.entry.geometry
             prog.entry.programs image.entry.table.pairs) }
         ensures failed { IsErrOf result StartNo.ChipFault

@@ -167,7 +167,6 @@ pub(crate) fn begin<D: Dram>(
     ensures stage { length stage.new ≡ length stage.old }
     ensures faults { (D.view dram.old).faults ≤ (D.view dram.new).faults }
     ensures opened { OnOk result (Opened g rows.now (D.view dram.new)) }
-    ensures unfailed { OnOk result ((D.view dram.new).faults ≡ (D.view dram.old).faults) }
     ensures failed { IsErrOf result StartNo.ChipFault
         → Rose (D.view dram.old).faults (D.view dram.new).faults }
     ensures left { IsErrOf result StartNo.ChipFault

@@ -33,7 +33,7 @@ use Rattle.guard_model.specs.Guarded.{plain_ones}
 use Rattle.guard_model.specs.Guarded.{guarded_said_by, guarded_said_in_rows}
 use Rattle.guard_model.specs.Guarded.{guarded_table, guarded_table_at_end}
 use Rattle.guard_model.specs.Guarded.{guarded_words, guarded_words_at_end, lone_words_at_end}
-use Rattle.guard_model.specs.Guarded.{guarded_turn, mended}
+use Rattle.guard_model.specs.Guarded.{mended}
 use Rattle.guard_model.specs.Laws.{HasName, IsGuarded}
 use Rattle.guard_model.specs.Named.{first_long_name}
 use Rattle.guard_model.specs.Report.{guarded_report, vote_line}
@@ -42,9 +42,7 @@ use Rattle.guard_model.proofs.Adding.{accepted_has_names}
 use Rattle.guard_model.proofs.Whole.{guarded_table_is, guarded_text, triples_kept}
 use Rattle.guard_job.specs.Steps.{guarded_steps, line_steps}
 use Rattle.cli_model.specs.World.{World, with_file}
-use Rattle.wave_model.specs.Schedule.{Ahead, Turn}
-use Rattle.cli_model.specs.Waves.{ChipUse}
-use Rattle.cli_model.specs.Steps.{Step, Refusal}
+use Rattle.cli_model.specs.Steps.{Step, Use, Refusal}
 use Rattle.cli_model.specs.Stands.{files_after, sent_by}
 use Rattle.sim_machine.specs.Machine.{is_print}
 use Rattle.simdram_cli.specs.declared.words.GuardNames.{GuardNames}
@@ -71,47 +69,44 @@ use Rattle.cli_model.proofs.Files.{at_other, at_own}
 
 -- what the steps send and store
 
-line_sent : (on : Option ChipUse) (prints : Bool) (bytes : List ℕ) (rest more : List Step)
-    → sent_by ((line_steps on prints bytes ++ rest) ++ more) ≡ bytes ++ sent_by (rest ++ more)
-line_sent on true bytes rest more = refl
-line_sent on false bytes rest more = refl
+line_sent : (prints : Bool) (bytes : List ℕ) (rest more : List Step)
+    → sent_by (((Use None ∷ line_steps prints bytes) ++ rest) ++ more)
+    ≡ bytes ++ sent_by (rest ++ more)
+line_sent true bytes rest more = refl
+line_sent false bytes rest more = refl
 
-script_sent : (g : Geometry) (o : Routines) (flips : List Flip) (k : ℕ) (turn : Turn)
-    (table : List Named) (banks : Banks) (script : List Instruction) (more : List Step)
-    → sent_by (guarded_steps g o flips k turn table banks script ++ more)
+script_sent : (g : Geometry) (o : Routines) (flips : List Flip) (k : ℕ) (table : List Named)
+    (banks : Banks) (script : List Instruction) (more : List Step)
+    → sent_by (guarded_steps g o flips k table banks script ++ more)
     ≡ lines k (guarded_said_in_rows g o flips k table banks script) ++ sent_by more
-script_sent g o flips k turn table banks [] more = refl
-script_sent g o flips k turn table banks (instr ∷ script) more =
+script_sent g o flips k table banks [] more = refl
+script_sent g o flips k table banks (instr ∷ script) more =
     let now = mended g flips k table banks in
     let bytes = line k (guarded_said_by g o table now instr) in
-    let after = guarded_turn g o turn table instr in
     let next = guarded_table g o table instr in
     let rows = guarded_rows g o table now instr in
-    line_sent _ (is_print instr) bytes (guarded_steps g o flips (k + 1) after next rows script)
-    more
-    ∙ ap (λ w. bytes ++ w) (script_sent g o flips (k + 1) after next rows script more)
+    line_sent (is_print instr) bytes (guarded_steps g o flips (k + 1) next rows script) more
+    ∙ ap (λ w. bytes ++ w) (script_sent g o flips (k + 1) next rows script more)
     ∙ sym (append_assoc bytes (lines (k + 1)
     (guarded_said_in_rows g o flips (k + 1) next rows script)) (sent_by more))
 
-line_files : (on : Option ChipUse) (prints : Bool) (bytes : List ℕ) (rest more : List Step)
-    (f : Files) → files_after ((line_steps on prints bytes ++ rest) ++ more) f
+line_files : (prints : Bool) (bytes : List ℕ) (rest more : List Step) (f : Files)
+    → files_after (((Use None ∷ line_steps prints bytes) ++ rest) ++ more) f
     ≡ files_after (rest ++ more) f
-line_files on true bytes rest more f = refl
-line_files on false bytes rest more f = refl
+line_files true bytes rest more f = refl
+line_files false bytes rest more f = refl
 
-script_files : (g : Geometry) (o : Routines) (flips : List Flip) (k : ℕ) (turn : Turn)
-    (table : List Named) (banks : Banks) (script : List Instruction) (more : List Step) (f : Files)
-    → files_after (guarded_steps g o flips k turn table banks script ++ more) f
-    ≡ files_after more f
-script_files g o flips k turn table banks [] more f = refl
-script_files g o flips k turn table banks (instr ∷ script) more f =
+script_files : (g : Geometry) (o : Routines) (flips : List Flip) (k : ℕ) (table : List Named)
+    (banks : Banks) (script : List Instruction) (more : List Step) (f : Files)
+    → files_after (guarded_steps g o flips k table banks script ++ more) f ≡ files_after more f
+script_files g o flips k table banks [] more f = refl
+script_files g o flips k table banks (instr ∷ script) more f =
     let now = mended g flips k table banks in
-    let after = guarded_turn g o turn table instr in
     let next = guarded_table g o table instr in
     let rows = guarded_rows g o table now instr in
-    line_files _ (is_print instr) (line k (guarded_said_by g o table now instr))
-    (guarded_steps g o flips (k + 1) after next rows script) more f
-    ∙ script_files g o flips (k + 1) after next rows script more f
+    line_files (is_print instr) (line k (guarded_said_by g o table now instr))
+    (guarded_steps g o flips (k + 1) next rows script) more f
+    ∙ script_files g o flips (k + 1) next rows script more f
 
 work_sent : (out : List ℕ) (job : GuardJob) → sent_by (work_steps out job)
     ≡ guarded_report (said_of job) (votes_of job) (length job.flips) (tally_of job)
@@ -119,7 +114,7 @@ work_sent : (out : List ℕ) (job : GuardJob) → sent_by (work_steps out job)
 work_sent out job =
     let total = total_line (tally_of job) (refused_of job) in
     let votes = vote_line (votes_of job) (length job.flips) in
-    script_sent job.image.geometry (routines_in job.program) job.flips 1 Ahead job.image.table
+    script_sent job.image.geometry (routines_in job.program) job.flips 1 job.image.table
     (opened job.image) job.script (last_steps out job)
     ∙ ap (λ w. lines 1 (said_of job) ++ (votes ++ w)) (append-nil total)
     ∙ sym (append_assoc (lines 1 (said_of job)) votes total)
@@ -127,7 +122,7 @@ work_sent out job =
 work_files : (out : List ℕ) (job : GuardJob) (f : Files) → files_after (work_steps out job) f
     ≡ with_file out (image_at_last job) f
 work_files out job f = script_files job.image.geometry (routines_in job.program) job.flips 1
-    Ahead job.image.table (opened job.image) job.script (last_steps out job) f
+    job.image.table (opened job.image) job.script (last_steps out job) f
 
 -- the image at the end, with these banks
 abbrev image_spelled : GuardJob → Banks → List ℕ

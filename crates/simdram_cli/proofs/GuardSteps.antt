@@ -8,20 +8,17 @@ use Rattle.object_alloc.specs.Listed.{Named}
 use Rattle.object_alloc.specs.Reading.{Found, ImageFault}
 use Rattle.bbop_isa.specs.declared.instr.ScriptFault.{ScriptFault}
 use Rattle.bbop_isa.specs.Forms.{Instruction}
-use Rattle.wave_model.specs.Schedule.{Ahead, Turn}
 use Rattle.machine_model.specs.Opened.{Image, opened}
 use Rattle.machine_model.specs.Routines.{Routines, routines_in}
 use Rattle.machine_model.specs.Report.{line}
 use Rattle.guard_model.specs.declared.Flip.{Flip}
 use Rattle.guard_model.specs.declared.FlipsFault.{FlipsFault}
-use Rattle.guard_model.specs.Flips.{due}
-use Rattle.guard_model.specs.Guarded.{guarded_events, guarded_rows, guarded_said_by, guarded_table}
-use Rattle.guard_model.specs.Guarded.{guarded_turn, mended}
+use Rattle.guard_model.specs.Guarded.{guarded_rows, guarded_said_by, guarded_table, mended}
 use Rattle.guard_model.specs.Named.{first_long_name}
 use Rattle.guard_model.specs.Triples.{first_stranger}
-use Rattle.guard_job.specs.Steps.{guarded_steps, instr_steps, line_steps}
+use Rattle.guard_job.specs.Steps.{guarded_steps, line_steps}
 use Rattle.sim_machine.specs.Machine.{is_print}
-use Rattle.cli_model.specs.Waves.{ChipUse, doing}
+use Rattle.cli_model.specs.Steps.{Use}
 use Rattle.cli_model.proofs.Statuses.{OfSteps, of_more}
 use Rattle.simdram_cli.specs.Flips.{flips_or_refusal}
 use Rattle.simdram_cli.specs.Flips.{in_triples, name_refusal, table_refusal}
@@ -55,33 +52,31 @@ pub flips_are : (P : ℕ → Type 0) (read : Result (List Flip) FlipsFault) → 
 flips_are P (Ok flips) eighteen = tt
 flips_are P (Err fault) eighteen = eighteen
 
-line_are : (P : ℕ → Type 0) (on : Option ChipUse) (prints : Bool) (bytes : List ℕ) → P 3 → P 9
-    → OfSteps P (line_steps on prints bytes)
-line_are P on true bytes three nine = ((three, nine), tt)
-line_are P on false bytes three nine = (nine, (three, tt))
+line_are : (P : ℕ → Type 0) (prints : Bool) (bytes : List ℕ) → P 3 → P 9
+    → OfSteps P (line_steps prints bytes)
+line_are P true bytes three nine = ((three, nine), tt)
+line_are P false bytes three nine = (nine, (three, tt))
 
 script_are : (P : ℕ → Type 0) (g : Geometry) (o : Routines) (flips : List Flip) (k : ℕ)
-    (turn : Turn) (table : List Named) (banks : Banks) (script : List Instruction) → P 3 → P 9
-    → OfSteps P (guarded_steps g o flips k turn table banks script)
-script_are P g o flips k turn table banks [] three nine = (nine, tt)
-script_are P g o flips k turn table banks (instr ∷ script) three nine =
+    (table : List Named) (banks : Banks) (script : List Instruction) → P 3 → P 9
+    → OfSteps P (guarded_steps g o flips k table banks script)
+script_are P g o flips k table banks [] three nine = (nine, tt)
+script_are P g o flips k table banks (instr ∷ script) three nine =
     let now = mended g flips k table banks in
     let bytes = line k (guarded_said_by g o table now instr) in
-    let on = doing now (guarded_events g o turn table instr) in
-    let after = guarded_turn g o turn table instr in
     let next = guarded_table g o table instr in
     let rows = guarded_rows g o table now instr in
-    of_more P (instr_steps g o (due k flips) k turn table banks instr)
-    (guarded_steps g o flips (k + 1) after next rows script)
-    (nine, line_are P on (is_print instr) bytes three nine)
-    (script_are P g o flips (k + 1) after next rows script three nine)
+    of_more P (Use None ∷ line_steps (is_print instr) bytes)
+    (guarded_steps g o flips (k + 1) next rows script)
+    (nine, line_are P (is_print instr) bytes three nine)
+    (script_are P g o flips (k + 1) next rows script three nine)
 
 -- the steps after the opening
 pub opened_are : (P : ℕ → Type 0) (out : List ℕ) (job : GuardJob) → P 3 → P 9
-    → OfSteps P (guarded_steps job.image.geometry (routines_in job.program) job.flips 1 Ahead
+    → OfSteps P (guarded_steps job.image.geometry (routines_in job.program) job.flips 1
     job.image.table (opened job.image) job.script ++ last_steps out job)
 opened_are P out job three nine =
-    of_more P (guarded_steps job.image.geometry (routines_in job.program) job.flips 1 Ahead
+    of_more P (guarded_steps job.image.geometry (routines_in job.program) job.flips 1
     job.image.table (opened job.image) job.script) (last_steps out job)
-    (script_are P job.image.geometry (routines_in job.program) job.flips 1 Ahead job.image.table
+    (script_are P job.image.geometry (routines_in job.program) job.flips 1 job.image.table
     (opened job.image) job.script three nine) (nine, (three, (three, (three, tt))))

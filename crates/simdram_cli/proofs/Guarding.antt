@@ -32,7 +32,6 @@ use Rattle.machine_model.specs.Routines.{routines_in}
 use Rattle.machine_model.specs.Report.{total_line}
 use Rattle.machine_model.specs.Script.{is_refused}
 use Rattle.sim_machine.specs.declared.machine.Machine.{Machine}
-use Rattle.wave_model.specs.Schedule.{Ahead}
 use Rattle.sim_machine.specs.Machine.{geometry_of, operations_by, table_in, turn_in}
 use Rattle.sim_machine.specs.Opening.{machine_on}
 use Rattle.guard_model.specs.declared.Flip.{Flip}
@@ -319,9 +318,9 @@ module _ (job : GuardJob) (shape : Geometry) (table : List Named) (now : ChipVie
 -- the steps of the script on a machine that was opened on the image are those of the job
 pub script_are : (job : GuardJob) (m : Machine) (start : ChipView) (end : End) (a b : World)
     → (k : Begins job m start)
-    → Goes (guarded_steps (geometry_of m) (operations_by m) job.flips 1 (turn_in m) (table_in m)
-    start.banks job.script) end a b
-    → Goes (guarded_steps job.image.geometry (routines_in job.program) job.flips 1 Ahead
+    → Goes (guarded_steps (geometry_of m) (operations_by m) job.flips 1 (table_in m) start.banks
+    job.script) end a b
+    → Goes (guarded_steps job.image.geometry (routines_in job.program) job.flips 1
     job.image.table (opened job.image) job.script) end a b
 script_are job m start end a b k g = rw (k.machine_is, k.opened_on.banks) at g
 
@@ -329,7 +328,7 @@ script_are job m start end a b k g = rw (k.machine_is, k.opened_on.banks) at g
 pub stopped_open : (name : List ℕ) (job : GuardJob) (reason : Reason) (a b : World)
     → Goes (opening job.image ∷ []) (Stopped reason) a b → Goes (work_steps name job) (Stopped reason) a b
 stopped_open name job reason a b g = stops (opening job.image ∷ []) (guarded_steps job.image.geometry
-    (routines_in job.program) job.flips 1 Ahead job.image.table (opened job.image) job.script
+    (routines_in job.program) job.flips 1 job.image.table (opened job.image) job.script
     ++ last_steps name job) reason a b g
 
 fault_end : (X : Type 0) (fault : StepFault) (reason : Reason) → reason ≡ fault_reason fault
@@ -339,11 +338,11 @@ fault_end X step_fault.WriteFault reason e = ap Stopped (sym e)
 
 pub stopped_work : (X : Type 0) (name : List ℕ) (job : GuardJob) (fault : StepFault)
     (reason : Reason) (a b c : World) → reason ≡ fault_reason fault → Goes (opening job.image ∷ []) Done a b
-    → Goes (guarded_steps job.image.geometry (routines_in job.program) job.flips 1 Ahead
+    → Goes (guarded_steps job.image.geometry (routines_in job.program) job.flips 1
     job.image.table (opened job.image) job.script) (end_by {X = X} (Err fault)) b c
     → Goes (work_steps name job) (Stopped reason) a c
 stopped_work X name job fault reason a b c e g h =
-    let steps = guarded_steps job.image.geometry (routines_in job.program) job.flips 1 Ahead
+    let steps = guarded_steps job.image.geometry (routines_in job.program) job.flips 1
     job.image.table (opened job.image) job.script in
     goes_on (opening job.image ∷ []) (steps ++ last_steps name job) (Stopped reason) a b c g
     (stops steps (last_steps name job) reason b c
@@ -351,11 +350,11 @@ stopped_work X name job fault reason a b c e g h =
 
 pub worked_on : (name : List ℕ) (job : GuardJob) (end : End) (a b c d : World)
     → Goes (opening job.image ∷ []) Done a b
-    → Goes (guarded_steps job.image.geometry (routines_in job.program) job.flips 1 Ahead
+    → Goes (guarded_steps job.image.geometry (routines_in job.program) job.flips 1
     job.image.table (opened job.image) job.script) Done b c
     → Goes (last_steps name job) end c d → Goes (work_steps name job) end a d
 worked_on name job end a b c d g h k =
-    let steps = guarded_steps job.image.geometry (routines_in job.program) job.flips 1 Ahead
+    let steps = guarded_steps job.image.geometry (routines_in job.program) job.flips 1
     job.image.table (opened job.image) job.script in
     goes_on (opening job.image ∷ []) (steps ++ last_steps name job) end a b d g
     (goes_on steps (last_steps name job) end b c d h k)
@@ -391,13 +390,13 @@ puts_done first second files s t u chip p n q m = inl (
 )
 
 pub not_stored : (on : Option ChipUse) (name bytes : List ℕ) (steps : List Step) (f g : FolderView) (s : SinkView)
-    (a b : ChipView) → b.faults ≡ a.faults → Unstored name (world f s b) (world g s b)
+    (a b : ChipView) → a.faults ≤ b.faults → Unstored name (world f s b) (world g s b)
     → Goes (Use on ∷ Store name bytes ∷ steps) (Stopped (CannotWrite name)) (world f s a) (world g s b)
 not_stored on name bytes steps f g s a b l u =
     inl (world f s b, (used f s a b l, inr (refl, u)))
 
 pub stored_then : (on : Option ChipUse) (name bytes : List ℕ) (steps : List Step) (end : End) (f g : FolderView)
-    (s : SinkView) (a b : ChipView) (w : World) → b.faults ≡ a.faults
+    (s : SinkView) (a b : ChipView) (w : World) → a.faults ≤ b.faults
     → Stored name bytes (world f s b) (world g s b) → Goes steps end (world g s b) w
     → Goes (Use on ∷ Store name bytes ∷ steps) end (world f s a) w
 stored_then on name bytes steps end f g s a b w l u h =

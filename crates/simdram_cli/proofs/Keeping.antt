@@ -59,8 +59,7 @@ fails_keep (Open on) reason a b n (inr f) = ap (λ (w : FolderView). w.holds) f.
 fails_keep (Use on) reason a b n f = ap (λ (w : FolderView). w.holds) f.1.files
 fails_keep (UseFor wave) reason a b n f = ap (λ (w : FolderView). w.holds) f.1.files
 fails_keep (Put bytes) reason a b n f = ap (λ (w : FolderView). w.holds) f.1.files
-fails_keep (Print on bytes) reason a b n (inl f) = ap (λ (w : FolderView). w.holds) f.1.files
-fails_keep (Print on bytes) reason a b n (inr f) = ap (λ (w : FolderView). w.holds) f.1.files
+fails_keep (Print on bytes) reason a b n f = ap (λ (w : FolderView). w.holds) f.0.files
 
 goes_keep : (steps : List Step) (end : End) (a b : World) → StoreNone steps → Goes steps end a b
     → b.files.holds ≡ a.files.holds

@@ -191,7 +191,6 @@ did_more es fs n m a b c d e = record {
       ∙ ap (with_reads m) (reads_apart fs n (all_counted es a.counters))
       ∙ more_reads n m (all_counted fs (all_counted es a.counters))
       ∙ ap (with_reads (n + m)) (sym (all_counted-append es fs a.counters));
-  faults = e.faults ∙ d.faults;
   log = Grew-more a.log b.log c.log es fs d.log e.log;
 }
 
@@ -199,7 +198,6 @@ pub did_none : (a : ChipView) → DidAndRead [] 0 a a
 did_none a = record {
   banks = refl;
   counters = let e : a.counters.reads ≡ a.counters.reads + 0 = omega arith in rw (← e) refl;
-  faults = refl;
   log = Grew-none a.log;
 }
 

@@ -66,7 +66,7 @@ use Rattle.simdram_cli.proofs.Completes.{IsOneOf}
 use Rattle.simdram_cli.proofs.JobPlans.{good_file}
 use Rattle.simdram_cli.proofs.Planned.{GivesOwn, IsFailing}
 use Rattle.simdram_cli.proofs.Sending.{left_by}
-use Rattle.simdram_cli.proofs.Stores.{sent, use_broke, used}
+use Rattle.simdram_cli.proofs.Stores.{sent, used}
 use Rattle.simdram_cli.proofs.Tallies.{both, log_is}
 
 -- two geometries with equal fields are one
@@ -196,7 +196,7 @@ events_failed t i files sink before a b g l o s =
     goes_on (opening i ∷ []) (rest_of t i) (Stopped ChipFailed) (world files sink before)
     (world files sink a) (world files sink b) g (inr (
       refl,
-      use_broke files sink a b l,
+      used files sink a b l,
       s.rose,
       left_by t.events (opened i) b.banks
           (subst (λ (banks : Banks). StoppedWithin t.events banks b.banks) o.banks
@@ -206,18 +206,18 @@ events_failed t i files sink before a b g l o s =
 pub reads_failed : (t : Trace) (i : Image) (files : FolderView) (sink : SinkView)
     (before a b c : ChipView)
     → Goes (opening i ∷ []) Done (world files sink before) (world files sink a)
-    → b.faults ≤ c.faults → OpenedOn i a → Did t.events a b
+    → a.faults ≤ b.faults → b.faults ≤ c.faults → OpenedOn i a → Did t.events a b
     → Rose b.faults c.faults → StoppedWithin [] b.banks c.banks
     → Goes (replay_steps t i) (Stopped ChipFailed) (world files sink before) (world files sink c)
-reads_failed t i files sink before a b c g m o did r s =
+reads_failed t i files sink before a b c g l m o did r s =
     goes_on (opening i ∷ []) (rest_of t i) (Stopped ChipFailed) (world files sink before)
     (world files sink a) (world files sink c) g (inl (
       world files sink b,
       (
-        used files sink a b did.faults,
+        used files sink a b l,
         inr (
           refl,
-          use_broke files sink b c m,
+          used files sink b c m,
           r,
           left_by [] (replayed t.events i) c.banks
               (subst (λ (banks : Banks). StoppedWithin [] banks c.banks)
@@ -229,7 +229,7 @@ reads_failed t i files sink before a b c g m o did r s =
 pub rows_read : (t : Trace) (i : Image) (files : FolderView) (sink : SinkView)
     (before a b c : ChipView)
     → Goes (opening i ∷ []) Done (world files sink before) (world files sink a)
-    → b.faults ≡ a.faults → c.faults ≡ b.faults
+    → a.faults ≤ b.faults → b.faults ≤ c.faults
     → Goes (replay_steps t i) Done (world files sink before) (world files sink c)
 rows_read t i files sink before a b c g l m =
     goes_on (opening i ∷ []) (rest_of t i) Done (world files sink before) (world files sink a)

@@ -13,7 +13,6 @@ use mathlib.Core.Path.{fun_ext}
 use Rattle.dram_model.specs.declared.dram.Counters.{Counters}
 use Rattle.dram_model.specs.declared.geometry.Geometry.{Geometry}
 use Rattle.dram_model.specs.Chip.{Banks, after}
-use Rattle.transpose_unit.specs.Stopped.{StoppedWithin}
 use Rattle.dram_model.proofs.EventLaws.{LogIs-more}
 use Rattle.dram_model.specs.Elements.{segments_of}
 use Rattle.dram_model.specs.Geometry.{is_geometry, is_between, fits_size}
@@ -55,7 +54,6 @@ use Rattle.scan_query.specs.Running.{AreBelow}
 use Rattle.scan_query.specs.declared.query.ScanReply.{ScanReply}
 use Rattle.scan_query.specs.declared.query.ScanReply.TheVariants as reply
 use Rattle.cli_model.specs.World.{World, world}
-use Rattle.cli_model.specs.Waves.{ChipUse, IsLeftBy}
 use Rattle.cli_model.specs.Steps.{Step, Take, Refusal, Reason}
 use Rattle.cli_model.specs.Steps.{ChipFailed, End, Done, Stopped, Goes}
 use Rattle.cli_model.specs.Stands.{sent_by}
@@ -85,8 +83,7 @@ use Rattle.simdram_cli.specs.Queries.{unless_broken}
 use Rattle.simdram_cli.specs.Scan.{AnswerGoes, DoesScans, IsScanFile, QueryDone, QueryRead}
 use Rattle.simdram_cli.specs.Scan.{QueryStopped, ScanLeft, Scanned, answer_on, answer_plan}
 use Rattle.simdram_cli.specs.Scan.{count_line, number_found, query_plan, scan_counters, scan_counts}
-use Rattle.simdram_cli.specs.Scan.{query_use, scan_image_plan, scan_plan, use_steps}
-use Rattle.simdram_cli.proofs.Sending.{left_by}
+use Rattle.simdram_cli.specs.Scan.{scan_image_plan, scan_plan, use_steps}
 use Rattle.simdram_cli.specs.Stops.{reason_of}
 use Rattle.simdram_cli.specs.Works.{OpenedOn}
 use Rattle.simdram_cli.proofs.Completes.{IsOneOf}
@@ -94,7 +91,7 @@ use Rattle.simdram_cli.proofs.JobPlans.{good_file, image_refuses}
 use Rattle.simdram_cli.proofs.Keeping.{StoreNone, StoresNone}
 use Rattle.simdram_cli.proofs.Planned.{GivesOwn, IsFailing}
 use Rattle.simdram_cli.proofs.Progress.{Holds}
-use Rattle.simdram_cli.proofs.Stores.{nothing_read, use_broke, used}
+use Rattle.simdram_cli.proofs.Stores.{nothing_read, used}
 use Rattle.simdram_cli.proofs.Tallies.{both}
 
 -- a query text
@@ -209,30 +206,29 @@ not_opened program q i why a b g = inl (
   a,
   (
     nothing_read a,
-    stops (opening i ∷ []) (use_steps (query_use program q i) (checked i.table (nodes_of q)))
-        (reason_of why) a b g,
+    stops (opening i ∷ []) (use_steps (checked i.table (nodes_of q))) (reason_of why) a b
+        g,
   ),
 )
 
 -- the chip is used where no comparison is at fault
-use_failed : (on : Option ChipUse) (o : Option (ScanWhy × ℕ)) (files : FolderView)
-    (sink : SinkView) (a b : ChipView) → a.faults ≤ b.faults → Rose a.faults b.faults
-    → IsLeftBy on b.banks → ((fault : ScanWhy × ℕ) → o ≡ Some fault → ⊥)
-    → Goes (use_steps on o) (Stopped ChipFailed) (world files sink a) (world files sink b)
-use_failed on None files sink a b l r left none = inr (refl, use_broke files sink a b l, r, left)
-use_failed on (Some fault) files sink a b l r left none = absurd (none fault refl)
+use_failed : (o : Option (ScanWhy × ℕ)) (files : FolderView) (sink : SinkView) (a b : ChipView)
+    → a.faults ≤ b.faults → Rose a.faults b.faults → ((fault : ScanWhy × ℕ) → o ≡ Some fault → ⊥)
+    → Goes (use_steps o) (Stopped ChipFailed) (world files sink a) (world files sink b)
+use_failed None files sink a b l r none = inr (refl, used files sink a b l, r, tt)
+use_failed (Some fault) files sink a b l r none = absurd (none fault refl)
 
-use_done : (on : Option ChipUse) (o : Option (ScanWhy × ℕ)) (files : FolderView) (sink : SinkView)
-    (a b : ChipView) → b.faults ≡ a.faults → ((fault : ScanWhy × ℕ) → o ≡ Some fault → b ≡ a)
-    → Goes (use_steps on o) Done (world files sink a) (world files sink b)
-use_done on None files sink a b e same = inl (world files sink b, (used files sink a b e, refl))
-use_done on (Some fault) files sink a b e same = ap (world files sink) (same fault refl)
+use_done : (o : Option (ScanWhy × ℕ)) (files : FolderView) (sink : SinkView) (a b : ChipView)
+    → a.faults ≤ b.faults → ((fault : ScanWhy × ℕ) → o ≡ Some fault → b ≡ a)
+    → Goes (use_steps o) Done (world files sink a) (world files sink b)
+use_done None files sink a b l same = inl (world files sink b, (used files sink a b l, refl))
+use_done (Some fault) files sink a b l same = ap (world files sink) (same fault refl)
 
-taken_open : (i : Image) (on : Option ChipUse) (o : Option (ScanWhy × ℕ)) (end : End)
-    (a b c : World) → Goes (opening i ∷ []) Done a b
-    → Goes (use_steps on o) end b c → Goes (Take ∷ opening i ∷ use_steps on o) end a c
-taken_open i on o end a b c g h =
-    inl (a, (nothing_read a, goes_on (opening i ∷ []) (use_steps on o) end a b c g h))
+taken_open : (i : Image) (o : Option (ScanWhy × ℕ)) (end : End) (a b c : World)
+    → Goes (opening i ∷ []) Done a b
+    → Goes (use_steps o) end b c → Goes (Take ∷ opening i ∷ use_steps o) end a c
+taken_open i o end a b c g h =
+    inl (a, (nothing_read a, goes_on (opening i ∷ []) (use_steps o) end a b c g h))
 
 not_ok : {T E : Type 0} (r : Result T E) (e : E) (P : T → Type 0) → r ≡ Err e → IsOkAnd r P → ⊥
 not_ok (Ok x) e P is ok = absurd (cc)
@@ -250,6 +246,7 @@ pub record RanOn (program : Program) (q : Query) (i : Image) (nodes : List Node)
   pub table_is : table ≡ i.table
   pub nodes_are : IsNodesOf q nodes
   pub opened_on : OpenedOn i old
+  pub faults : old.faults ≤ new.faults
 
 pub checks_are : (program : Program) (q : Query) (i : Image) (nodes : List Node)
     (table : List Named) (old new : ChipView) → RanOn program q i nodes table old new
@@ -262,16 +259,14 @@ pub asked_failed : {E : Type 0} (program : Program) (q : Query) (i : Image) (nod
     (table : List Named) (files : FolderView) (sink : SinkView) (before old new : ChipView)
     (r : Result ScanReply E) (e : E) → RanOn program q i nodes table old new
     → Goes (opening i ∷ []) Done (world files sink before) (world files sink old)
-    → r ≡ Err e → old.faults ≤ new.faults → Rose old.faults new.faults
-    → IsLeftBy (query_use program q i) new.banks
+    → r ≡ Err e → Rose old.faults new.faults
     → ((found : ScanWhy × ℕ) → checked table nodes ≡ Some found → IsOkAnd r (λ said. new ≡ old))
     → AnswerGoes program q i (Err stop.ChipFailed) (world files sink before) (world files sink new)
-asked_failed program q i nodes table files sink before old new r e ran g is l rose left unused =
-    let on = query_use program q i in
+asked_failed program q i nodes table files sink before old new r e ran g is rose unused =
     let o = checked i.table (nodes_of q) in
-    taken_open i on o (Stopped ChipFailed) (world files sink before) (world files sink old)
+    taken_open i o (Stopped ChipFailed) (world files sink before) (world files sink old)
     (world files sink new) g
-    (use_failed on o files sink old new l rose left (λ fault some.
+    (use_failed o files sink old new ran.faults rose (λ fault some.
     not_ok r e (λ said. new ≡ old) is (unused fault
     (sym (checks_are program q i nodes table old new ran) ∙ some))))
 
@@ -349,28 +344,6 @@ query_done program p q i nodes shape table turn reads old new ran holds e f o ra
       log = LogIs-more (row_writes i) events old.log new.log ran.opened_on.log did.log;
     }
 
--- and what the chip has where it failed among them
-left_events : (program p : Program) (i : Image) (shape : Geometry) (table : List Named)
-    (turn : Turn) (script own : List Instruction) (a b : Banks) → shape ≡ i.geometry
-    → p ≡ program → table ≡ i.table → turn ≡ Ahead → script ≡ own
-    → StoppedWithin (events_of_pieces shape (routines_in p) turn table (pieces script)) a b
-    → StoppedWithin (script_events i.geometry (routines_in program) i.table own) a b
-left_events program p i shape table turn script own a b e f t o s left = rw (e, f, t, o, s) at left
-
-pub query_left : (program p : Program) (q : Query) (i : Image) (nodes : List Node)
-    (shape : Geometry) (table : List Named) (turn : Turn) (old new : ChipView)
-    → RanOn program q i nodes table old new → shape ≡ i.geometry → p ≡ program → turn ≡ Ahead
-    → StoppedWithin (events_of_pieces shape (routines_in p) turn table
-    (pieces (scan_script table nodes))) old.banks new.banks
-    → IsLeftBy (query_use program q i) new.banks
-query_left program p q i nodes shape table turn old new ran e f o left =
-    let events = script_events i.geometry (routines_in program) i.table
-    (query_script i.table q) in
-    left_by events (opened i) new.banks
-    (subst (λ (banks : Banks). StoppedWithin events banks new.banks) ran.opened_on.banks
-    (left_events program p i shape table turn (scan_script table nodes) (query_script i.table q)
-    old.banks new.banks e f ran.table_is o (own_script program q i nodes table old new ran) left))
-
 pub asked_done : {E : Type 0} (program : Program) (q : Query) (i : Image) (nodes : List Node)
     (table : List Named) (files : FolderView) (sink : SinkView) (before old new : ChipView)
     (r : Result ScanReply E) (said : ScanReply) (g : Geometry)
@@ -379,21 +352,21 @@ pub asked_done : {E : Type 0} (program : Program) (q : Query) (i : Image) (nodes
     → g ≡ i.geometry → answer_of said ≡ answer_on program q i
     → CountersRose said (segments_of g (count_of table nodes)) old.counters new.counters
     → ((found : ScanWhy × ℕ) → checked table nodes ≡ Some found → IsOkAnd r (λ said. new ≡ old))
-    → (is_done said ≡ true → QueryDone program q i new) → Kept old new → new.faults ≡ old.faults
+    → (is_done said ≡ true → QueryDone program q i new) → Kept old new
     → ((reason : Why) (k : ℕ) → checked i.table (nodes_of q) ≡ None
     → scan_refused i.geometry (routines_in program) i.table q ≡ Some (reason, k)
     → QueryStopped program q i reason new)
     → AnswerGoes program q i (Ok said) (world files sink before) (world files sink new)
 asked_done program q i nodes table files sink before old new r said g ran opens is shape says rose
-    unused did kept unfailed stopped =
+    unused did kept stopped =
     let o = checked i.table (nodes_of q) in
     let stays : (fault : ScanWhy × ℕ) → o ≡ Some fault → new ≡ old = λ fault some.
     ok_and r said (new ≡ old) is (unused fault
     (sym (checks_are program q i nodes table old new ran) ∙ some)) in (
       says,
-      taken_open i (query_use program q i) o Done (world files sink before)
-          (world files sink old) (world files sink new) opens
-          (use_done (query_use program q i) o files sink old new unfailed stays),
+      taken_open i o Done (world files sink before) (world files sink old) (world files sink new)
+          opens
+          (use_done o files sink old new ran.faults stays),
       record {
         begun = kept.begun ∙ ran.opened_on.begun;
         geometry = kept.geometry ∙ ran.opened_on.geometry;
@@ -496,8 +469,7 @@ pub query_unasked : (program : Program) (q : Query) (i : Image) (why : Stop) (ol
 query_unasked program q i why old new does (inl (mid, (d, g))) =
     runs_then (Take ∷ []) _ _ old mid new (inl (mid, (d, refl)))
     (runs_made _ _ program _ _ _ does
-    (runs_stopped (opening i ∷ use_steps (query_use program q i) (checked i.table (nodes_of q))) _
-    (reason_of why) mid new g))
+    (runs_stopped (opening i ∷ use_steps (checked i.table (nodes_of q))) _ (reason_of why) mid new g))
 query_unasked program q i why old new does (inr f) =
     runs_stopped (Take ∷ []) _ (reason_of why) old new (inr f)
 
@@ -520,7 +492,7 @@ query_asked program q i said result files sink after before chip does g r =
     let a = world files sink before in
     let b = world files sink chip in
     let c = world files after chip in
-    let steps = opening i ∷ use_steps (query_use program q i) (checked i.table (nodes_of q)) in
+    let steps = opening i ∷ use_steps (checked i.table (nodes_of q)) in
     let left = ScanLeft program q i in
     let answered : Runs (answer_plan left (answer_on program q i)) b c (said_of result) =
     with_left left (answer_on program q i) (said_of result) b c g.2
@@ -539,10 +511,9 @@ query_refuses : (P : ℕ → Type 0) → P 15 → (text : List ℕ)
     → IfErr (query_in text) (λ refusal. P refusal.status)
 query_refuses P fifteen text = broken_so P (fault_in text) fifteen
 
-use_of : (P : ℕ → Type 0) (on : Option ChipUse) (fault : Option (ScanWhy × ℕ)) → P 9
-    → OfSteps P (use_steps on fault)
-use_of P on None nine = (nine, tt)
-use_of P on (Some fault) nine = tt
+use_of : (P : ℕ → Type 0) (fault : Option (ScanWhy × ℕ)) → P 9 → OfSteps P (use_steps fault)
+use_of P None nine = (nine, tt)
+use_of P (Some fault) nine = tt
 
 answer_gives : (F D : ℕ → Type 0) (left : ChipView → Type 0) (a : Answer) → F 3 → F 16 → D 0
     → Gives F D (answer_plan left a)
@@ -564,7 +535,7 @@ scan_gives names =
         λ own i. (
           (refl, tt),
           λ program. (
-            ((refl, refl), use_of F (query_use program q i) (checked i.table (nodes_of q)) refl),
+            ((refl, refl), use_of F (checked i.table (nodes_of q)) refl),
             answer_gives F (CanAnswer (Scan names)) (ScanLeft program q i) (answer_on program q i) refl refl
                 refl,
           ),
@@ -578,7 +549,7 @@ scan_takes names = (
   λ text u q. (
     image_refuses NotTen (λ e. cc),
     λ own i program. (
-      use_of NotTen (query_use program q i) (checked i.table (nodes_of q)) (λ e. cc),
+      use_of NotTen (checked i.table (nodes_of q)) (λ e. cc),
       answer_gives NotTen NotTen (ScanLeft program q i) (answer_on program q i) (λ e. cc) (λ e. cc)
           (λ e. cc),
     ),
@@ -601,8 +572,7 @@ scan_good names holds good =
       λ program does. (
         (
           ((λ e. cc), (λ e. cc)),
-          use_of (λ s. s ≡ 2 → ⊥) (query_use program q good.1.value)
-              (checked good.1.value.table (nodes_of q))
+          use_of (λ s. s ≡ 2 → ⊥) (checked good.1.value.table (nodes_of q))
               (λ e. cc),
         ),
         answer_good P (ScanLeft program q good.1.value)
@@ -612,9 +582,9 @@ scan_good names holds good =
 
 -- no file changes
 
-use_none : (on : Option ChipUse) (fault : Option (ScanWhy × ℕ)) → StoreNone (use_steps on fault)
-use_none on None = (tt, tt)
-use_none on (Some fault) = tt
+use_none : (fault : Option (ScanWhy × ℕ)) → StoreNone (use_steps fault)
+use_none None = (tt, tt)
+use_none (Some fault) = tt
 
 answer_none : (left : ChipView → Type 0) (a : Answer) → StoresNone (answer_plan left a)
 answer_none left (Found found of counts) = ((tt, tt), tt)
@@ -624,7 +594,7 @@ pub scan_none : (names : ScanNames) → StoresNone (scan_plan names)
 scan_none names = λ text u q own i. (
   (tt, tt),
   λ program. (
-    (tt, use_none (query_use program q i) (checked i.table (nodes_of q))),
+    (tt, use_none (checked i.table (nodes_of q))),
     answer_none (ScanLeft program q i) (answer_on program q i),
   ),
 )
@@ -656,10 +626,9 @@ counted_by left (Found found of counts) before after said chip status
     }
 counted_by left (NotFound why k) before after said chip status d = absurd d
 
-use_quiet : (on : Option ChipUse) (fault : Option (ScanWhy × ℕ))
-    → sent_by (use_steps on fault) ≡ []
-use_quiet on None = refl
-use_quiet on (Some fault) = refl
+use_quiet : (fault : Option (ScanWhy × ℕ)) → sent_by (use_steps fault) ≡ []
+use_quiet None = refl
+use_quiet (Some fault) = refl
 
 asks_at : (file : Option (List ℕ)) (text : List ℕ) (q : Query) → file ≡ Some text → Asks text q
     → AsksIn file q
@@ -699,7 +668,7 @@ scanned names old new status files d =
     ∙ ap (count_line (number_found q i) (query_count i.table q)) o.counts_are in
     let sends : said ≡ count_line (number_found q i) (query_count i.table q)
     (scan_counts program q i) =
-    e ∙ f ∙ ap (λ w. w ++ two) (use_quiet (query_use program q i) (checked i.table (nodes_of q))) ∙ c.sends ∙ line in
+    e ∙ f ∙ ap (λ w. w ++ two) (use_quiet (checked i.table (nodes_of q))) ∙ c.sends ∙ line in
     record {
       query = q;
       image = i;

@@ -7,36 +7,30 @@ use Rattle.host_edge.specs.Views.{FolderView, SinkView, Known, IsPrefix, Appends
 use Rattle.faults.specs.Counts.{Rose}
 use Rattle.dram_model.specs.declared.dram.Counters.{Counters}
 use Rattle.dram_model.specs.declared.geometry.Geometry.{Geometry}
-use Rattle.dram_model.specs.Chip.{Banks, Event, after, all_counted, blank_banks}
+use Rattle.dram_model.specs.Chip.{Banks, Event, all_counted, blank_banks}
 use Rattle.dram_model.specs.View.{ChipView, Did, with_reads}
 use Rattle.object_alloc.specs.Listed.{Named}
 use Rattle.bbop_isa.specs.Forms.{Instruction}
-use Rattle.bbop_isa.specs.Forms as instruction
 use Rattle.wave_model.specs.Schedule.{Turn}
 use Rattle.machine_model.specs.Routines.{Routines}
-use Rattle.machine_model.specs.Refusals.{refusal}
-use Rattle.machine_model.specs.Pieces.{Alone, AreBbops, Wave}
+use Rattle.machine_model.specs.Pieces.{AreBbops, Wave}
 use Rattle.machine_model.specs.Report.{Said, Answered, line, lines, said_in_rows}
 use Rattle.machine_model.specs.Script.{rows_printed, sum_done}
 use Rattle.machine_model.specs.Steps.{reply_to}
 use Rattle.machine_model.proofs.Parts.{waves_are_answered}
 use Rattle.object_steps.specs.declared.fault.StepFault.{StepFault}
 use Rattle.object_steps.specs.declared.fault.StepFault.TheVariants as step_fault
-use Rattle.object_steps.specs.Lines.{DidReadAtMost}
-use Rattle.sim_machine.specs.declared.machine.Machine.{Machine}
-use Rattle.sim_machine.specs.Machine.{events_by, geometry_of, is_print, operations_by, table_in}
 use Rattle.sim_machine.specs.Steps.{DidAndRead}
-use Rattle.sim_machine.proofs.Stepping.{if_same}
 use Rattle.cli_model.specs.World.{world}
-use Rattle.cli_model.specs.Waves.{ChipUse, ChipWave, IsDoneBy, IsLeftBy, StoppedIn, doing}
+use Rattle.cli_model.specs.Waves.{ChipUse, ChipWave, IsLeftBy, StoppedIn, doing}
 use Rattle.transpose_unit.specs.Stopped.{StoppedWithin}
 use Rattle.sim_machine.specs.Opening.{IsLeftUnopened, all_writes}
 use Rattle.cli_model.specs.Steps.{IsLeftUnopened as IsUnopened}
 use Rattle.cli_model.specs.Steps.{Step, Use, UseFor, Put, Print, Goes, Printed, PutFailed}
-use Rattle.cli_model.specs.Steps.{ChipFailed, Done, PrintFailed, Stopped}
+use Rattle.cli_model.specs.Steps.{ChipFailed, Done, Stopped}
 use Rattle.simdram_cli.specs.Job.{put_lines, instr_steps, piece_steps, wave_on}
 use Rattle.simdram_cli.specs.Stops.{fault_reason}
-use Rattle.simdram_cli.proofs.Stores.{used, use_broke, sent, line_done, line_unput}
+use Rattle.simdram_cli.proofs.Stores.{used, sent, line_done, line_unput}
 
 -- a sink that was sent these bytes, and counted no fault
 abbrev more_sent : Option (List ℕ) → List ℕ → Option (List ℕ)
@@ -151,63 +145,56 @@ lines_cut number said (next ∷ rest) files s t chip known l rose =
 -- a line is sent while the chip is read
 
 printed : (R : List ℕ → List ℕ → Type 0) (files : FolderView) (s t : SinkView) (a b : ChipView)
-    → Known R s.sent t.sent → s.faults ≤ t.faults → b.faults ≡ a.faults
+    → Known R s.sent t.sent → s.faults ≤ t.faults → a.faults ≤ b.faults
     → Printed R (world files s a) (world files t b)
-printed R files s t a b known l e = record { files = refl; sent = known; faults = l; chip = e }
-
--- and perhaps not to its end
-half_printed : (bytes : List ℕ) (files : FolderView) (s t : SinkView) (a b : ChipView)
-    → Known (AppendsPart bytes) s.sent t.sent → s.faults ≤ t.faults → a.faults ≤ b.faults
-    → PrintFailed bytes (world files s a) (world files t b)
-half_printed bytes files s t a b known l m =
-    record { files = refl; sent = known; faults = l; chip = m }
+printed R files s t a b known l m = record { files = refl; sent = known; faults = l; chip = m }
 
 pub print_done : (on : Option ChipUse) (bytes : List ℕ) (files : FolderView) (s t : SinkView) (a b : ChipView)
     → Known (λ before after. after ≡ before ++ bytes) s.sent t.sent → s.faults ≤ t.faults
-    → b.faults ≡ a.faults
+    → a.faults ≤ b.faults
     → Goes (Print on bytes ∷ []) Done (world files s a) (world files t b)
-print_done on bytes files s t a b known l e =
+print_done on bytes files s t a b known l m =
     inl (
       world files t b,
       (
-        printed (λ before after. after ≡ before ++ bytes) files s t a b known l e,
+        printed (λ before after. after ≡ before ++ bytes) files s t a b known l m,
         refl,
       ),
     )
 
 pub print_unput : (on : Option ChipUse) (bytes : List ℕ) (files : FolderView) (s t : SinkView) (a b : ChipView)
-    → Known (AppendsPart bytes) s.sent t.sent → s.faults ≤ t.faults → b.faults ≡ a.faults
-    → Rose s.faults t.faults → IsDoneBy on b.banks
+    → Known (AppendsPart bytes) s.sent t.sent → s.faults ≤ t.faults → a.faults ≤ b.faults
+    → Rose s.faults t.faults
     → Goes (Print on bytes ∷ []) (Stopped PutFailed) (world files s a) (world files t b)
-print_unput on bytes files s t a b known l e rose done =
-    inr (inl (refl, printed (AppendsPart bytes) files s t a b known l e, rose, done))
+print_unput on bytes files s t a b known l m rose =
+    inr (printed (AppendsPart bytes) files s t a b known l m, inl (refl, rose))
 
 pub print_unread : (on : Option ChipUse) (bytes : List ℕ) (files : FolderView) (s t : SinkView) (a b : ChipView)
     → Known (AppendsPart bytes) s.sent t.sent → s.faults ≤ t.faults → a.faults ≤ b.faults
     → Rose a.faults b.faults → IsLeftBy on b.banks
     → Goes (Print on bytes ∷ []) (Stopped ChipFailed) (world files s a) (world files t b)
 print_unread on bytes files s t a b known l m rose left =
-    inr (inr (refl, half_printed bytes files s t a b known l m, rose, left))
+    inr (printed (AppendsPart bytes) files s t a b known l m, inr (refl, rose, left))
 
 -- a wave
 
 pub wave_done : (wave : ChipWave) (number : ℕ) (said : Said) (rest : List Said) (files : FolderView)
-    (s t : SinkView) (a b : ChipView) → b.faults ≡ a.faults
+    (s t : SinkView) (a b : ChipView) → a.faults ≤ b.faults
     → Known (λ before after. after ≡ before ++ lines number (said ∷ rest)) s.sent t.sent
     → s.faults ≤ t.faults
     → Goes (UseFor wave ∷ put_lines number (said ∷ rest)) Done (world files s a) (world files t b)
-wave_done wave number said rest files s t a b e known l =
-    inl (world files s b, (used files s a b e, lines_sent number said rest files s t b known l))
+wave_done wave number said rest files s t a b m known l =
+    inl (world files s b, (used files s a b m, lines_sent number said rest files s t b known l))
 
 pub wave_unput : (wave : ChipWave) (number : ℕ) (said : Said) (rest : List Said)
     (files : FolderView)
-    (s t : SinkView) (a b : ChipView) → b.faults ≡ a.faults
+    (s t : SinkView) (a b : ChipView) → a.faults ≤ b.faults
     → Known (AppendsPart (lines number (said ∷ rest))) s.sent t.sent
     → s.faults ≤ t.faults → Rose s.faults t.faults
     → Goes (UseFor wave ∷ put_lines number (said ∷ rest)) (Stopped PutFailed) (world files s a)
     (world files t b)
-wave_unput wave number said rest files s t a b e known l rose =
-    inl (world files s b, (used files s a b e, lines_cut number said rest files s t b known l rose))
+wave_unput wave number said rest files s t a b m known l rose =
+    inl (world files s b, (used files s a b m, lines_cut number said rest files s t b known l rose))
 
 -- as the machine says it
 pub left_by : (events : List Event) (old new : Banks) → StoppedWithin events old new
@@ -231,7 +218,7 @@ pub unused : (on : Option ChipUse) (steps : List Step) (files : FolderView) (s t
     → Goes (Use on ∷ steps) (Stopped ChipFailed) (world files s a) (world files t b)
 unused on steps files s t a b m rose left e =
     subst (λ (x : SinkView). Goes (Use on ∷ steps) (Stopped ChipFailed) (world files s a)
-    (world files x b)) (sym e) (inr (refl, use_broke files s a b m, rose, left))
+    (world files x b)) (sym e) (inr (refl, used files s a b m, rose, left))
 
 -- and of a wave what then stands
 unwaved : (wave : ChipWave) (steps : List Step) (files : FolderView) (s t : SinkView)
@@ -240,36 +227,15 @@ unwaved : (wave : ChipWave) (steps : List Step) (files : FolderView) (s t : Sink
     → Goes (UseFor wave ∷ steps) (Stopped ChipFailed) (world files s a) (world files t b)
 unwaved wave steps files s t a b m rose stopped e =
     subst (λ (x : SinkView). Goes (UseFor wave ∷ steps) (Stopped ChipFailed) (world files s a)
-    (world files x b)) (sym e) (inr (refl, use_broke files s a b m, rose, stopped))
+    (world files x b)) (sym e) (inr (refl, used files s a b m, rose, stopped))
 
 -- one instruction's line
 pub instr_done : (on : Option ChipUse) (prints : Bool) (bytes : List ℕ) (files : FolderView) (s t : SinkView)
     (a b : ChipView) → Known (λ before after. after ≡ before ++ bytes) s.sent t.sent
-    → s.faults ≤ t.faults → b.faults ≡ a.faults
+    → s.faults ≤ t.faults → a.faults ≤ b.faults
     → Goes (instr_steps on prints bytes) Done (world files s a) (world files t b)
 instr_done on true bytes files s t a b known l m = print_done on bytes files s t a b known l m
 instr_done on false bytes files s t a b known l m = line_done on bytes files s t a b m known l
-
--- a print has no event, and where the chip was read for it the banks stand as they were
-print_is_quiet : (m : Machine) (instr : Instruction) → is_print instr ≡ true
-    → events_by m (Alone instr) ≡ []
-print_is_quiet m (instruction.Print name) is =
-    if_same (refusal (geometry_of m) (operations_by m) (table_in m) (instruction.Print name)) []
-print_is_quiet m (instruction.Init name count n) is = absurd (cc)
-print_is_quiet m (instruction.Bbop op dst srcs count n) is = absurd (cc)
-print_is_quiet m (instruction.Load name values) is = absurd (cc)
-print_is_quiet m (instruction.Fill name value) is = absurd (cc)
-print_is_quiet m (instruction.Free name) is = absurd (cc)
-print_is_quiet m (instruction.Order order) is = absurd (cc)
-
-pub shown_by : (m : Machine) (instr : Instruction) (n : ℕ) (a b : ChipView)
-    → is_print instr ≡ true → DidReadAtMost n a b
-    → (b.faults ≡ a.faults) × IsDoneBy (doing a.banks (events_by m (Alone instr))) b.banks
-shown_by m instr n a b is read = (
-  read.did.faults,
-  read.did.banks
-      ∙ ap (λ (es : List Event). after es a.banks) (sym (print_is_quiet m instr is)),
-)
 
 -- what is known where an instruction was not done
 pub record Failed (on : Option ChipUse) (fault : StepFault) (prints : Bool) (bytes : List ℕ)
@@ -277,9 +243,6 @@ pub record Failed (on : Option ChipUse) (fault : StepFault) (prints : Bool) (byt
   pub sink : s.faults ≤ t.faults
   pub chip : a.faults ≤ b.faults
   pub chip_rose : fault ≡ step_fault.ChipFault → Rose a.faults b.faults
-  pub unfailed : fault ≡ step_fault.WriteFault → prints ≡ false → b.faults ≡ a.faults
-  pub read : fault ≡ step_fault.WriteFault → prints ≡ true
-      → (b.faults ≡ a.faults) × IsDoneBy on b.banks
   pub left : fault ≡ step_fault.ChipFault → IsLeftBy on b.banks
   pub unsent : fault ≡ step_fault.ChipFault → prints ≡ false → t ≡ s
   pub sink_rose : fault ≡ step_fault.WriteFault → Rose s.faults t.faults
@@ -293,13 +256,12 @@ pub instr_failed : (on : Option ChipUse) (fault : StepFault) (prints : Bool) (by
 instr_failed on step_fault.ChipFault true bytes files s t a b f =
     print_unread on bytes files s t a b (f.cut refl) f.sink f.chip (f.chip_rose refl) (f.left refl)
 instr_failed on step_fault.WriteFault true bytes files s t a b f =
-    print_unput on bytes files s t a b (f.cut refl) f.sink (f.read refl refl).0 (f.sink_rose refl)
-    (f.read refl refl).1
+    print_unput on bytes files s t a b (f.cut refl) f.sink f.chip (f.sink_rose refl)
 instr_failed on step_fault.ChipFault false bytes files s t a b f =
     unused on (Put bytes ∷ []) files s t a b f.chip (f.chip_rose refl) (f.left refl)
     (f.unsent refl refl)
 instr_failed on step_fault.WriteFault false bytes files s t a b f =
-    line_unput on bytes files s t a b (f.unfailed refl refl) (f.part refl) f.sink (f.sink_rose refl)
+    line_unput on bytes files s t a b f.chip (f.part refl) f.sink (f.sink_rose refl)
 
 -- a wave's lines
 abbrev answers_of : Geometry → Routines → List Named → List Instruction → List Said
@@ -316,7 +278,7 @@ answers_sent : (on : ChipWave) (g : Geometry) (o : Routines) (table : List Named
     (wave : List Instruction) (files : FolderView) (s t : SinkView) (a b : ChipView)
     → 0 < length wave
     → Known (λ before after. after ≡ before ++ lines number (answers_of g o table wave)) s.sent
-    t.sent → s.faults ≤ t.faults → b.faults ≡ a.faults
+    t.sent → s.faults ≤ t.faults → a.faults ≤ b.faults
     → Goes (UseFor on ∷ put_lines number (answers_of g o table wave)) Done (world files s a)
     (world files t b)
 answers_sent on g o table number [] files s t a b some known l m = absurd (omega (arith, some))
@@ -328,7 +290,7 @@ pub wave_sent : (g : Geometry) (o : Routines) (turn : Turn) (table : List Named)
     (number : ℕ) (wave : List Instruction) (files : FolderView) (s t : SinkView) (a b : ChipView)
     → AreBbops wave → 0 < length wave
     → Known (λ before after. after ≡ before ++ lines number (answers_of g o table wave)) s.sent
-    t.sent → s.faults ≤ t.faults → b.faults ≡ a.faults
+    t.sent → s.faults ≤ t.faults → a.faults ≤ b.faults
     → Goes (piece_steps g o turn table banks number (Wave wave)) Done (world files s a)
     (world files t b)
 wave_sent g o turn table banks number wave files s t a b bbops some known l m =
@@ -342,7 +304,6 @@ pub record WaveFailed (fault : StepFault) (wave : ChipWave) (bytes : List ℕ) (
   pub sink : s.faults ≤ t.faults
   pub chip : a.faults ≤ b.faults
   pub chip_rose : fault ≡ step_fault.ChipFault → Rose a.faults b.faults
-  pub unfailed : fault ≡ step_fault.WriteFault → b.faults ≡ a.faults
   pub stopped : fault ≡ step_fault.ChipFault → StoppedIn wave b.banks
   pub unsent : fault ≡ step_fault.ChipFault → t ≡ s
   pub sink_rose : fault ≡ step_fault.WriteFault → Rose s.faults t.faults
@@ -361,7 +322,7 @@ answers_cut step_fault.ChipFault on g o table number (instr ∷ wave) files s t 
     (f.chip_rose refl) (f.stopped refl) (f.unsent refl)
 answers_cut step_fault.WriteFault on g o table number (instr ∷ wave) files s t a b some f =
     wave_unput on number (Answered (reply_to g o table instr)) (answers_of g o table wave) files s t a
-    b (f.unfailed refl) (f.part refl) f.sink (f.sink_rose refl)
+    b f.chip (f.part refl) f.sink (f.sink_rose refl)
 
 pub wave_failed : (fault : StepFault) (g : Geometry) (o : Routines) (turn : Turn)
     (table : List Named) (banks : Banks) (number : ℕ) (wave : List Instruction)
@@ -384,7 +345,6 @@ wave_did g o table wave events a b bbops did =
     rw (waves_are_answered g o table wave bbops).printed (record {
       banks = did.banks;
       counters = did.counters ∙ nothing_more (all_counted events a.counters);
-      faults = did.faults;
       log = did.log;
     }) where
       nothing_more : (k : Counters) → k ≡ with_reads 0 k

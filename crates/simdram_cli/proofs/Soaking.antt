@@ -3,7 +3,6 @@ use Rattle.std.proofs.Common.{◌≡◌, ◌⊎◌, ℕ, List, [], ◌∷◌, �
 use Rattle.std.proofs.Common.{refl, subst, sym}
 use Rattle.std.specs.Prelude.{Result, Ok, Err}
 use Rattle.host_edge.specs.Views.{Files, Known}
-use Rattle.dram_model.specs.Chip.{Banks, after, blank_banks}
 use Rattle.uprog_code.specs.Shape.{Microprogram}
 use Rattle.cli_model.specs.World.{World}
 use Rattle.cli_model.specs.Steps.{ChipFailed, NoMemory, PutFailed, Reason, Step}
@@ -18,7 +17,6 @@ use Rattle.cli_model.proofs.Statuses.{OfSteps}
 use Rattle.soak_job.specs.declared.cases.Case.{Case}
 use Rattle.soak_job.specs.Cases.{soak_cases, source_kinds}
 use Rattle.soak_job.specs.Words.{after_all}
-use Rattle.soak_job.specs.Layout.{case_events, soak_chip}
 use Rattle.soak_job.specs.Steps.{cases_steps, soak_steps}
 use Rattle.soak_job.specs.Done.{SoakGoes, SoakLeft}
 use Rattle.soak_job.specs.declared.job.SoakError.{SoakError}
@@ -50,26 +48,22 @@ soak_runs seed old new (Err no.PutFailed) g = runs_made _ _ g.programs _ _ _ g.a
 
 -- the statuses that its steps can give
 
-cases_of : (P : ℕ → Type 0) (state : ℕ) (banks : Banks) (cs : List Case) (ms : List Microprogram)
-    → P 3 → P 9 → P 10 → OfSteps P (cases_steps state banks cs ms)
-cases_of P state banks [] ms three nine ten = (three, tt)
-cases_of P state banks (c ∷ cs) [] three nine ten = (ten, tt)
-cases_of P state banks (c ∷ cs) (m ∷ ms) three nine ten = (
+cases_of : (P : ℕ → Type 0) (state : ℕ) (cs : List Case) (ms : List Microprogram) → P 3 → P 9
+    → P 10 → OfSteps P (cases_steps state cs ms)
+cases_of P state [] ms three nine ten = (three, tt)
+cases_of P state (c ∷ cs) [] three nine ten = (ten, tt)
+cases_of P state (c ∷ cs) (m ∷ ms) three nine ten = (
   ten,
   (
     nine,
-    (
-      three,
-      cases_of P (after_all state (source_kinds c.op)) (after (case_events state c m) banks) cs ms
-          three nine ten,
-    ),
+    (three, cases_of P (after_all state (source_kinds c.op)) cs ms three nine ten),
   ),
 )
 
 pub soak_of : (P : ℕ → Type 0) (seed : ℕ) (ms : List Microprogram) → P 3 → P 9 → P 10
     → OfSteps P (soak_steps seed ms)
 soak_of P seed ms three nine ten =
-    ((nine, ten), cases_of P seed (blank_banks soak_chip) soak_cases ms three nine ten)
+    ((nine, ten), cases_of P seed soak_cases ms three nine ten)
 
 pub soak_gives : (seed : ℕ) → GivesOwn (Soak seed) (soak_plan seed)
 soak_gives seed = λ programs. (soak_of (IsFailing (Soak seed)) seed programs refl refl refl, refl)

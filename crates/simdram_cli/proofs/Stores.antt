@@ -11,7 +11,7 @@ use Rattle.host_edge.specs.Views.{KeepsOthers, HasBytes, AppendsPart}
 use Rattle.cli_model.specs.Waves.{ChipUse}
 use Rattle.cli_model.specs.World.{World, world, with_file}
 use Rattle.cli_model.specs.Steps.{Take, Use, Store, Put, ReadsOnly, CannotWrite, PutFailed, Done}
-use Rattle.cli_model.specs.Steps.{Stopped, Goes, Used, UseFailed, Stored, Sent, Unstored}
+use Rattle.cli_model.specs.Steps.{Stopped, Goes, Used, Stored, Sent, Unstored}
 
 different : (other name : List ℕ) → bytes_eq other name ≡ false → other ≡ name → ⊥
 different other name e is = let same = (bytes_eq-Decides other name).1 is in cc
@@ -49,14 +49,9 @@ unstored name old new sink chip t r n = record {
   chip = refl;
 }
 
-pub used : (files : FolderView) (sink : SinkView) (a b : ChipView) → b.faults ≡ a.faults
+pub used : (files : FolderView) (sink : SinkView) (a b : ChipView) → a.faults ≤ b.faults
     → Used (world files sink a) (world files sink b)
-used files sink a b e = record { files = refl; sink = refl; chip = e }
-
--- the use of the chip failed
-pub use_broke : (files : FolderView) (sink : SinkView) (a b : ChipView) → a.faults ≤ b.faults
-    → UseFailed (world files sink a) (world files sink b)
-use_broke files sink a b l = record { files = refl; sink = refl; chip = l }
+used files sink a b l = record { files = refl; sink = refl; chip = l }
 
 pub sent : (R : List ℕ → List ℕ → Type 0) (files : FolderView) (old new : SinkView)
     (chip : ChipView)
@@ -65,21 +60,21 @@ pub sent : (R : List ℕ → List ℕ → Type 0) (files : FolderView) (old new 
 sent R files old new chip t l = record { files = refl; sent = t; faults = l; chip = refl }
 
 pub finish_unstored : (on : Option ChipUse) (name bytes total : List ℕ) (f g : FolderView) (s : SinkView) (a b : ChipView)
-    → b.faults ≡ a.faults → Unstored name (world f s b) (world g s b)
+    → a.faults ≤ b.faults → Unstored name (world f s b) (world g s b)
     → Goes (Use on ∷ Store name bytes ∷ Put total ∷ []) (Stopped (CannotWrite name)) (world f s a)
     (world g s b)
-finish_unstored on name bytes total f g s a b e u = inl (world f s b, (used f s a b e, inr (refl, u)))
+finish_unstored on name bytes total f g s a b l u = inl (world f s b, (used f s a b l, inr (refl, u)))
 
 pub finish_unput : (on : Option ChipUse) (name bytes total : List ℕ) (f g : FolderView) (s t : SinkView) (a b : ChipView)
-    → b.faults ≡ a.faults
+    → a.faults ≤ b.faults
     → Stored name bytes (world f s b) (world g s b) → Known (AppendsPart total) s.sent t.sent
     → s.faults ≤ t.faults → Rose s.faults t.faults
     → Goes (Use on ∷ Store name bytes ∷ Put total ∷ []) (Stopped PutFailed) (world f s a) (world g t b)
-finish_unput on name bytes total f g s t a b e u p n r =
+finish_unput on name bytes total f g s t a b l u p n r =
     inl (
       world f s b,
       (
-        used f s a b e,
+        used f s a b l,
         inl (
           world g s b,
           (u, inr (refl, sent (AppendsPart total) g s t b p n, r)),
@@ -88,15 +83,15 @@ finish_unput on name bytes total f g s t a b e u p n r =
     )
 
 pub finish_done : (on : Option ChipUse) (name bytes total : List ℕ) (f g : FolderView) (s t : SinkView) (a b : ChipView)
-    → b.faults ≡ a.faults
+    → a.faults ≤ b.faults
     → Stored name bytes (world f s b) (world g s b)
     → Known (λ before after. after ≡ before ++ total) s.sent t.sent → s.faults ≤ t.faults
     → Goes (Use on ∷ Store name bytes ∷ Put total ∷ []) Done (world f s a) (world g t b)
-finish_done on name bytes total f g s t a b e u p n =
+finish_done on name bytes total f g s t a b l u p n =
     inl (
       world f s b,
       (
-        used f s a b e,
+        used f s a b l,
         inl (
           world g s b,
           (
@@ -139,13 +134,13 @@ pub take_unstored : (name bytes : List ℕ) (f g : FolderView) (s : SinkView) (k
 take_unstored name bytes f g s k t = inl (world f s k, (nothing_read (world f s k), inr (refl, t)))
 
 pub line_done : (on : Option ChipUse) (bytes : List ℕ) (files : FolderView) (s t : SinkView) (a b : ChipView)
-    → b.faults ≡ a.faults
+    → a.faults ≤ b.faults
     → Known (λ before after. after ≡ before ++ bytes) s.sent t.sent → s.faults ≤ t.faults
     → Goes (Use on ∷ Put bytes ∷ []) Done (world files s a) (world files t b)
-line_done on bytes files s t a b e p n = inl (
+line_done on bytes files s t a b l p n = inl (
   world files s b,
   (
-    used files s a b e,
+    used files s a b l,
     inl (
       world files t b,
       (sent (λ before after. after ≡ before ++ bytes) files s t b p n, refl),
@@ -154,12 +149,12 @@ line_done on bytes files s t a b e p n = inl (
 )
 
 pub line_unput : (on : Option ChipUse) (bytes : List ℕ) (files : FolderView) (s t : SinkView) (a b : ChipView)
-    → b.faults ≡ a.faults
+    → a.faults ≤ b.faults
     → Known (AppendsPart bytes) s.sent t.sent → s.faults ≤ t.faults → Rose s.faults t.faults
     → Goes (Use on ∷ Put bytes ∷ []) (Stopped PutFailed) (world files s a) (world files t b)
-line_unput on bytes files s t a b e p n r = inl (
+line_unput on bytes files s t a b l p n r = inl (
   world files s b,
-  (used files s a b e, inr (refl, sent (AppendsPart bytes) files s t b p n, r)),
+  (used files s a b l, inr (refl, sent (AppendsPart bytes) files s t b p n, r)),
 )
 
 -- a clause at the answer that a test showed

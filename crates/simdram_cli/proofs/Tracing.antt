@@ -63,7 +63,7 @@ use Rattle.simdram_cli.specs.Tracing.{recorded_steps, steps_on}
 use Rattle.simdram_cli.specs.Tracing.{store_steps, total_steps, traced_plan, traced_steps}
 use Rattle.simdram_cli.specs.Tracing.{unless_fits, unlogged}
 use Rattle.simdram_cli.proofs.Progress.{Holds, holds_of}
-use Rattle.simdram_cli.proofs.Stores.{nothing_read, sent, use_broke, used}
+use Rattle.simdram_cli.proofs.Stores.{nothing_read, sent, used}
 use Rattle.simdram_cli.proofs.Tallies.{tally_is}
 
 -- a script is done, and the image after it stored
@@ -71,17 +71,17 @@ use Rattle.simdram_cli.proofs.Tallies.{tally_is}
 pub image_failed : (on : Option ChipUse) (name bytes : List ℕ) (f : FolderView) (s : SinkView)
     (a b : ChipView) → a.faults ≤ b.faults → Rose a.faults b.faults → IsLeftBy on b.banks
     → Goes (Use on ∷ Store name bytes ∷ []) (Stopped ChipFailed) (world f s a) (world f s b)
-image_failed on name bytes f s a b l r left = inr (refl, use_broke f s a b l, r, left)
+image_failed on name bytes f s a b l r left = inr (refl, used f s a b l, r, left)
 
 pub image_unstored : (on : Option ChipUse) (name bytes : List ℕ) (f g : FolderView)
-    (s : SinkView) (a b : ChipView) → b.faults ≡ a.faults
+    (s : SinkView) (a b : ChipView) → a.faults ≤ b.faults
     → Unstored name (world f s b) (world g s b)
     → Goes (Use on ∷ Store name bytes ∷ []) (Stopped (CannotWrite name)) (world f s a)
     (world g s b)
 image_unstored on name bytes f g s a b l u = inl (world f s b, (used f s a b l, inr (refl, u)))
 
 pub image_stored : (on : Option ChipUse) (name bytes : List ℕ) (f g : FolderView) (s : SinkView)
-    (a b : ChipView) → b.faults ≡ a.faults → Stored name bytes (world f s b) (world g s b)
+    (a b : ChipView) → a.faults ≤ b.faults → Stored name bytes (world f s b) (world g s b)
     → Goes (Use on ∷ Store name bytes ∷ []) Done (world f s a) (world g s b)
 image_stored on name bytes f g s a b l t =
     inl (world f s b, (used f s a b l, inl (world g s b, (t, refl))))
@@ -123,7 +123,6 @@ did_read_more events m n a b c did read = record {
   banks = read.banks ∙ did.banks;
   counters = read.counters ∙ ap (with_reads n) did.counters
       ∙ reads_twice m n (all_counted events a.counters);
-  faults = read.faults ∙ did.faults;
   log = subst (Grew a.log c.log) (append-nil events)
       (Grew-more a.log b.log c.log events [] did.log read.log);
 }

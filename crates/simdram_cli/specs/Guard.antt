@@ -113,7 +113,7 @@ last_steps out job = reading (banks_at_last job) ∷ Store out (image_at_last jo
 abbrev pub work_steps : List ℕ → GuardJob → List Step
 work_steps out job =
     opening job.image ∷ guarded_steps job.image.geometry (routines_in job.program) job.flips 1
-    Ahead job.image.table (opened job.image) job.script
+    job.image.table (opened job.image) job.script
     ++ last_steps out job
 
 -- The job was done, row by row, with so many instructions refused: the chip has begun with the

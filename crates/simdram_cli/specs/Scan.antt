@@ -31,7 +31,6 @@ use Rattle.scan_query.specs.Answers.{answer_of}
 use Rattle.scan_query.specs.Queries.{IsNodesOf}
 use Rattle.scan_query.specs.declared.query.ScanReply.{ScanReply}
 use Rattle.cli_model.specs.World.{World}
-use Rattle.cli_model.specs.Waves.{ChipUse, doing}
 use Rattle.cli_model.specs.Steps.{Step, Take, Use, Put, Done, Stopped, Goes}
 use Rattle.cli_model.specs.Plan.{Answers, Loads, Makes, Plan, Refuses, Then}
 use Rattle.cli_model.specs.Runs.{EndsBy}
@@ -73,15 +72,10 @@ abbrev pub count_line : (found of : ℕ) → Counts → List ℕ
 count_line found of counts = codes "count " ++ decimal found ++ codes " of " ++ decimal of
     ++ codes " aap=" ++ decimal counts.aap ++ codes " ap=" ++ decimal counts.ap ++ codes "\n"
 
--- what the chip is used for by a query: the events of its instructions, on the image
-abbrev pub query_use : Program → Query → Image → Option ChipUse
-query_use program q i = doing (opened i)
-    (script_events i.geometry (routines_in program) i.table (query_script i.table q))
-
 -- a query whose comparisons are at fault does not use the chip
-abbrev pub use_steps : Option ChipUse → Option (ScanWhy × ℕ) → List Step
-use_steps on (Some fault) = []
-use_steps on None = Use on ∷ []
+abbrev pub use_steps : Option (ScanWhy × ℕ) → List Step
+use_steps (Some fault) = []
+use_steps None = Use None ∷ []
 
 -- the counters after a scan: each row of every bank was written at the opening, and of the last
 -- object, whose width is 1, one row was read for each segment
@@ -146,7 +140,7 @@ answer_plan left (NotFound why k) = Refuses (scan_refusal why k) left
 -- image, the query's instructions are done, and it is answered
 abbrev pub query_plan : Query → Image → Plan
 query_plan q i = Then (Take ∷ []) (Makes DoesScans (λ program.
-    Then (opening i ∷ use_steps (query_use program q i) (checked i.table (nodes_of q)))
+    Then (opening i ∷ use_steps (checked i.table (nodes_of q)))
     (answer_plan (ScanLeft program q i) (answer_on program q i))))
 
 -- IMAGE is loaded, and the query is done on it
@@ -203,9 +197,8 @@ pub record IsScanFile (bytes : List ℕ) : Type 0 where
 -- the chip has begun, and the query was answered
 abbrev pub AnswerGoes : Program → Query → Image → Result ScanReply Stop → World → World → Type 0
 AnswerGoes program q i (Ok reply) old new = (answer_of reply ≡ answer_on program q i)
-    × Goes (Take ∷ opening i ∷ use_steps (query_use program q i) (checked i.table (nodes_of q)))
-    Done old new
+    × Goes (Take ∷ opening i ∷ use_steps (checked i.table (nodes_of q))) Done old new
     × ScanLeft program q i new.chip
 AnswerGoes program q i (Err stop) old new =
-    Goes (Take ∷ opening i ∷ use_steps (query_use program q i) (checked i.table (nodes_of q)))
+    Goes (Take ∷ opening i ∷ use_steps (checked i.table (nodes_of q)))
     (Stopped (reason_of stop)) old new

@@ -1,19 +1,16 @@
 -- How a soak goes through its steps.
 use Rattle.std.proofs.Common.{◌≡◌, ℕ, ◌≤◌, List, [], ◌∷◌, ◌++◌, length, refl, ap}
-use Rattle.std.proofs.Common.{◌∙◌, subst}
+use Rattle.std.proofs.Common.{◌∙◌}
 use Rattle.std.proofs.Common.{inl, inr, arith}
 use Rattle.std.specs.Prelude.{Result, Ok, Err, IfOk}
 use Rattle.host_edge.specs.Views.{FolderView, SinkView, Known, AppendsPart}
 use Rattle.faults.specs.Counts.{Rose}
 use Rattle.dram_model.specs.declared.dram.Counters.{Counters}
-use Rattle.dram_model.specs.Chip.{Banks, Event, after}
 use Rattle.dram_model.specs.View.{Began, ChipView, Kept}
-use Rattle.transpose_unit.specs.Stopped.{StoppedWithin}
 use Rattle.dram_model.proofs.EventLaws.{Did-none, Grew-more, LogIs-more}
 use Rattle.uprog_code.specs.Shape.{Microprogram}
 use Rattle.cli_model.specs.World.{World, world}
-use Rattle.cli_model.specs.Waves.{IsLeftBy, doing}
-use Rattle.cli_model.specs.Steps.{Goes, ReadsOnly, Sent, UseFailed, Used}
+use Rattle.cli_model.specs.Steps.{ReadsOnly, Used, Sent}
 use Rattle.soak_job.specs.declared.cases.Case.{Case}
 use Rattle.soak_job.specs.Cases.{soak_cases, source_kinds}
 use Rattle.soak_job.specs.Words.{after_all}
@@ -39,14 +36,9 @@ nothing_read w = record {
   chip = refl;
 }
 
-chip_used : (files : FolderView) (s : SinkView) (a b : ChipView) → b.faults ≡ a.faults
+pub chip_used : (files : FolderView) (s : SinkView) (a b : ChipView) → a.faults ≤ b.faults
     → Used (world files s a) (world files s b)
-chip_used files s a b e = record { files = refl; sink = refl; chip = e }
-
--- the use of the chip failed
-pub chip_broke : (files : FolderView) (s : SinkView) (a b : ChipView) → a.faults ≤ b.faults
-    → UseFailed (world files s a) (world files s b)
-chip_broke files s a b l = record { files = refl; sink = refl; chip = l }
+chip_used files s a b l = record { files = refl; sink = refl; chip = l }
 
 pub bytes_sent : (R : List ℕ → List ℕ → Type 0) (files : FolderView) (s t : SinkView) (chip :
     ChipView)
@@ -55,14 +47,14 @@ pub bytes_sent : (R : List ℕ → List ℕ → Type 0) (files : FolderView) (s 
 bytes_sent R files s t chip known l = record { files = refl; sent = known; faults = l; chip = refl }
 
 pub program_is : (c : Case) (bytes : List ℕ) → (f : IsFileOf c.op bytes) → IsProgramOf c f.program
-program_is c bytes f = record { legal = f.legal.entries.0; does = f.does; exact = f.exact }
+program_is c bytes f = record { legal = f.legal.entries.0; does = f.does }
 
 pub case_went : (state : ℕ) (c : Case) (m : Microprogram) (files : FolderView) (s t : SinkView)
-    (a b : ChipView) → IsProgramOf c m
+    (a b : ChipView) → IsProgramOf c m → a.faults ≤ b.faults
     → Known (λ before after. after ≡ before ++ case_line state c m) s.sent t.sent
     → s.faults ≤ t.faults → CaseDone state c m a b → RisesLittle a.counters b.counters
     → CaseWent state c (world files s a) (world files t b)
-case_went state c m files s t a b is known k done few = record {
+case_went state c m files s t a b is l known k done few = record {
   program = m;
   is = is;
   does = λ rest end last g. inl (
@@ -72,7 +64,7 @@ case_went state c m files s t a b is known k done few = record {
       inl (
         world files s b,
         (
-          chip_used files s a b done.faults,
+          chip_used files s a b l,
           inl (
             world files t b,
             (
@@ -89,47 +81,27 @@ case_went state c m files s t a b is known k done few = record {
   few = few;
 }
 
--- what stands where the chip failed in a case, as its step says it
-left_by : (events : List Event) (a b : Banks) → StoppedWithin events a b
-    → IsLeftBy (doing a events) b
-left_by events a b s = record {
-  done = s.done;
-  rest = s.left;
-  all = s.all;
-  bank = s.bank;
-  others = s.others;
-}
-
 -- the chip failed in a case
 pub stops_at_use : (state : ℕ) (c : Case) (cs : List Case) (m : Microprogram) (files : FolderView)
     (s : SinkView) (a b : ChipView) → IsProgramOf c m → a.faults ≤ b.faults → Rose a.faults b.faults
-    → StoppedWithin (case_events state c m) a.banks b.banks
     → CasesGo state (c ∷ cs) (world files s a) (world files s b) (Err no.ChipFailed)
-stops_at_use state c cs m files s a b is l rose left = record {
+stops_at_use state c cs m files s a b is l rose = record {
   programs = m ∷ [];
   are = (is, tt);
   goes = inl (
     world files s a,
-    (
-      nothing_read (world files s a),
-      inr (
-        refl,
-        chip_broke files s a b l,
-        rose,
-        left_by (case_events state c m) a.banks b.banks left,
-      ),
-    ),
+    (nothing_read (world files s a), inr (refl, chip_used files s a b l, rose, tt)),
   );
   done = tt;
 }
 
 -- the line of a case could not be put
 pub stops_at_put : (state : ℕ) (c : Case) (cs : List Case) (m : Microprogram) (files : FolderView)
-    (s t : SinkView) (a b : ChipView) → IsProgramOf c m → b.faults ≡ a.faults
+    (s t : SinkView) (a b : ChipView) → IsProgramOf c m → a.faults ≤ b.faults
     → Known (AppendsPart (case_line state c m)) s.sent t.sent → s.faults ≤ t.faults
     → Rose s.faults t.faults
     → CasesGo state (c ∷ cs) (world files s a) (world files t b) (Err no.PutFailed)
-stops_at_put state c cs m files s t a b is e known k rose = record {
+stops_at_put state c cs m files s t a b is l known k rose = record {
   programs = m ∷ [];
   are = (is, tt);
   goes = inl (
@@ -139,7 +111,7 @@ stops_at_put state c cs m files s t a b is e known k rose = record {
       inl (
         world files s b,
         (
-          chip_used files s a b e,
+          chip_used files s a b l,
           inr (refl, bytes_sent (AppendsPart (case_line state c m)) files s t b known k, rose),
         ),
       ),
@@ -148,7 +120,7 @@ stops_at_put state c cs m files s t a b is e known k rose = record {
   done = tt;
 }
 
-pub counters_same : (a b c d e f g h : ℕ) → a ≡ e → b ≡ f → c ≡ g → d ≡ h
+counters_same : (a b c d e f g h : ℕ) → a ≡ e → b ≡ f → c ≡ g → d ≡ h
     → ◌≡◌ {A = Counters} (record { aap = a; ap = b; writes = c; reads = d })
     (record { aap = e; ap = f; writes = g; reads = h })
 counters_same a b c d e f g h p q r s = rw (p, q, r, s) refl
@@ -188,12 +160,8 @@ pub goes_on : (state : ℕ) (c : Case) (cs : List Case) (old mid last : World)
 goes_on state c cs old mid last result one more = record {
   programs = one.program ∷ more.programs;
   are = (one.is, more.are);
-  goes = (
-      let next = after_all state (source_kinds c.op) in
-      let banks = after (case_events state c one.program) old.chip.banks in
-      one.does (cases_steps next banks cs more.programs) (end_of result) last
-      (subst (λ (b : Banks). Goes (cases_steps next b cs more.programs) (end_of result) mid last)
-      one.done.banks more.goes));
+  goes = one.does (cases_steps (after_all state (source_kinds c.op)) cs more.programs)
+      (end_of result) last more.goes;
   done = done_more state c cs one.program more.programs old.chip mid.chip last.chip result one.done
       more.done;
 }
@@ -252,19 +220,12 @@ left_of seed ms begun last (Ok u) began kept done =
 
 -- the chip began, and the cases followed
 pub soak_goes : (seed : ℕ) (files : FolderView) (s : SinkView) (a b : ChipView) (last : World)
-    (result : Result Unit SoakError) → Began soak_chip b → b.faults ≡ a.faults
+    (result : Result Unit SoakError) → Began soak_chip b → a.faults ≤ b.faults
     → Kept b last.chip → CasesGo seed soak_cases (world files s b) last result
     → SoakGoes seed (world files s a) last result
-soak_goes seed files s a b last result began e kept go = record {
+soak_goes seed files s a b last result began l kept go = record {
   programs = go.programs;
   are = go.are;
-  goes = inl (
-    world files s b,
-    (
-      chip_used files s a b e,
-      subst (λ (banks : Banks). Goes (cases_steps seed banks soak_cases go.programs)
-          (end_of result) (world files s b) last) began.banks go.goes,
-    ),
-  );
+  goes = inl (world files s b, (chip_used files s a b l, go.goes));
   left = left_of seed go.programs b last.chip result began kept go.done;
 }

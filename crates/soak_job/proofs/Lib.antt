@@ -9,4 +9,3 @@ mod Summing
 mod Making
 mod Going
 mod Fitting
-pub mod Same

@@ -6,18 +6,17 @@ use Rattle.op_text.specs.declared.word_ops.WordOp.{WordOp}
 use Rattle.uprog_code.specs.Shape.{Microprogram}
 use Rattle.uprog_code.specs.Programs.{IsProgram}
 use Rattle.uprog_code.specs.Texts.{ImplementsAll, text_op}
-use Rattle.uprog_gen.specs.Totals.{AreExact}
 use Rattle.uprog_bin.specs.Spelling.{program_bytes}
 use Rattle.soak_job.specs.Cases.{one_statement}
 use Rattle.soak_job.specs.OneCase.{IsFileOf}
 
 pub made : (op : WordOp) (ms : List Microprogram) (bytes : List ℕ)
-    → ImplementsAll ms (text_op (one_statement op) ∷ []) → AreExact ms (one_statement op ∷ [])
-    → IsProgram ms → bytes ≡ program_bytes 2 ms → IsFileOf op bytes
-made op [] bytes does exact legal is = absurd does
-made op (m ∷ []) bytes does exact legal is =
-    record { program = m; is = is; legal = legal; does = does.0; exact = exact.0 }
-made op (m ∷ n ∷ ms) bytes does exact legal is = absurd does.1
+    → ImplementsAll ms (text_op (one_statement op) ∷ []) → IsProgram ms
+    → bytes ≡ program_bytes 2 ms → IsFileOf op bytes
+made op [] bytes does legal is = absurd does
+made op (m ∷ []) bytes does legal is =
+    record { program = m; is = is; legal = legal; does = does.0 }
+made op (m ∷ n ∷ ms) bytes does legal is = absurd does.1
 
 pub if_ok : {T E : Type 0} {P Q : T → Type 0} (r : Result T E) → IfOk r P
     → ((x : T) → P x → Q x) → IfOk r Q

@@ -1,28 +1,24 @@
 -- A case's program in both banks.
 use Rattle.std.proofs.Common.{◌≡◌, ℕ, zero, suc, ◌*◌, ◌<◌, ◌≤◌, List, [], ◌∷◌, ◌++◌, ap, ◌∙◌}
 use Rattle.std.proofs.Common.{subst, sym, arith, append-nil}
-use Rattle.std.proofs.Common.{take, drop}
-use Rattle.std.specs.Prelude.{Result, Ok, Err, OnOk, OnErr, All}
-use Rattle.std.proofs.lemmas.List.{take-append-drop}
+use Rattle.std.specs.Prelude.{Result, Ok, Err, OnOk, All}
 use Rattle.std.proofs.lemmas.List.Elements.{All-cons, All-nil}
 use Rattle.bit_rows.specs.declared.TheConstants.{WIDTH_MAX}
 use Rattle.dram_model.specs.declared.geometry.Geometry.{Geometry}
-use Rattle.dram_model.specs.Chip.{Banks, Event, Grew, after}
+use Rattle.dram_model.specs.Chip.{Event, Grew}
 use Rattle.dram_model.specs.View.{ChipView, Did, DidRead, with_reads}
-use Rattle.dram_model.proofs.EventLaws.{Grew-more, after-append}
-use Rattle.transpose_unit.specs.Stopped.{StoppedWithin}
-use Rattle.transpose_unit.proofs.Stopping.{stopped_before, stopped_later}
+use Rattle.dram_model.proofs.EventLaws.{Grew-more}
 use Rattle.uprog_code.specs.declared.binding.Binding.{Binding}
 use Rattle.uprog_code.specs.Fits.{Fits}
 use Rattle.uprog_code.specs.Shape.{Microprogram, Shape}
 use Rattle.uprog_code.specs.Bound.{Bound, bound, bound_of}
 use Rattle.uprog_code.specs.Machine.{HasEnded, trace, issues_of}
 use Rattle.uprog_ctl.specs.Events.{risen}
-use Rattle.uprog_ctl.specs.Waves.{BoundJob, CanRun, StoppedAmong, job_queues, wave_events}
+use Rattle.uprog_ctl.specs.Waves.{BoundJob, CanRun, job_queues, wave_events}
 use Rattle.wave_model.specs.Schedule.{Queues, queues, in_turn, Ahead}
 use Rattle.soak_job.specs.declared.cases.Case.{Case}
 use Rattle.soak_job.specs.Layout.{FitsChip, case_queues, issues_at, layout, soak_chip, source_rows}
-use Rattle.soak_job.specs.Layout.{case_events, result_rows, source_writes}
+use Rattle.soak_job.specs.Layout.{result_rows, source_writes}
 use Rattle.soak_job.specs.Cases.{source_kinds}
 use Rattle.soak_job.specs.Sums.{in_both_banks}
 use Rattle.soak_job.specs.OneCase.{CaseDone, IsProgramOf, WritesMore}
@@ -83,61 +79,12 @@ case_done state c m a b d e wrote writes ran counts read =
     let writes_are : List Event = source_writes state 0 c.n (source_kinds c.op) in
     let wave : List Event = wave_events in_turn 2 Ahead (case_queues c m) in
     record {
-      banks = read.banks ∙ ran.banks ∙ ap (after wave) wrote.banks
-          ∙ sym (after-append writes_are wave a.banks);
       counters = read.counters ∙ ap (with_reads (2 * result_rows c))
           (counts ∙ ap (risen (in_both_banks c m)) writes);
-      faults = read.faults ∙ ran.faults ∙ wrote.faults;
       log = subst (Grew a.log e.log) (append-nil (writes_are ++ wave))
           (Grew-more a.log d.log e.log (writes_are ++ wave) []
           (Grew-more a.log b.log d.log writes_are wave wrote.log ran.log) read.log);
     }
-
--- where the chip fails in its wave, every bank but one stands where a first part of it leaves it
-pub within_wave : (events : List Event) (qs : Queues) (a b : ChipView)
-    → StoppedAmong events qs a b → StoppedWithin events a.banks b.banks
-within_wave events qs a b s = record {
-  done = take s.done events;
-  left = drop s.done events;
-  all = take-append-drop s.done events;
-  bank = s.bank;
-  others = s.others;
-}
-
-abbrev case_wave : Case → Microprogram → List Event
-case_wave c m = wave_events in_turn 2 Ahead (case_queues c m)
-
--- and so in the writes of its sources, in the wave after them, or in the reading
-pub writes_failed : (state : ℕ) (c : Case) (m : Microprogram) (a b : Banks)
-    → StoppedWithin (source_writes state 0 c.n (source_kinds c.op)) a b
-    → StoppedWithin (case_events state c m) a b
-writes_failed state c m a b s = stopped_before (source_writes state 0 c.n (source_kinds c.op))
-    (case_wave c m) a b s
-
-pub wave_failed : (state : ℕ) (c : Case) (m : Microprogram) (a b : ChipView) (d : Banks)
-    → Did (source_writes state 0 c.n (source_kinds c.op)) a b
-    → StoppedWithin (case_wave c m) b.banks d
-    → StoppedWithin (case_events state c m) a.banks d
-wave_failed state c m a b d wrote s =
-    stopped_later (source_writes state 0 c.n (source_kinds c.op)) (case_wave c m) a.banks b.banks
-    d wrote.banks s
-
-pub reading_failed : (state : ℕ) (c : Case) (m : Microprogram) (a b d : ChipView) (e : Banks)
-    → Did (source_writes state 0 c.n (source_kinds c.op)) a b → Did (case_wave c m) b d
-    → StoppedWithin [] d.banks e → StoppedWithin (case_events state c m) a.banks e
-reading_failed state c m a b d e wrote ran s =
-    wave_failed state c m a b e wrote
-    (subst (λ (es : List Event). StoppedWithin es b.banks e) (append-nil (case_wave c m))
-    (stopped_later (case_wave c m) [] b.banks d.banks e ran.banks s))
-
-pub on_err : {T E P Q : Type 0} (r : Result T E) → OnErr r P → (P → Q) → OnErr r Q
-on_err (Ok x) p f = tt
-on_err (Err e) p f = f p
-
--- where it fails, and so whatever it answers
-pub on_err_always : {T E P : Type 0} (r : Result T E) → P → OnErr r P
-on_err_always (Ok x) p = tt
-on_err_always (Err e) p = p
 
 pub on_ok : {T E P Q : Type 0} (r : Result T E) → OnOk r P → (P → Q) → OnOk r Q
 on_ok (Ok x) p f = f p

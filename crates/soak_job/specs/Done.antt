@@ -6,7 +6,6 @@ use Rattle.dram_model.specs.View.{ChipView, HasBegun}
 use Rattle.op_text.specs.WordOps.{second_kind}
 use Rattle.uprog_code.specs.Shape.{Microprogram}
 use Rattle.cli_model.specs.World.{World}
-use Rattle.cli_model.specs.Waves.{doing}
 use Rattle.cli_model.specs.Steps.{Step, Take, Use, Put, End, Done, Stopped, NoMemory, ChipFailed}
 use Rattle.cli_model.specs.Steps.{PutFailed, Goes}
 use Rattle.soak_job.specs.declared.job.SoakError.{SoakError}
@@ -94,8 +93,7 @@ pub record CaseWent (state : ℕ) (c : Case) (old new : World) : Type 0 where
   pub program : Microprogram
   pub is : IsProgramOf c program
   pub does : (rest : List Step) (end : End) (last : World) → Goes rest end new last
-      → Goes (Take ∷ Use (doing old.chip.banks (case_events state c program))
-      ∷ Put (case_line state c program) ∷ rest) end old last
+      → Goes (Take ∷ Use None ∷ Put (case_line state c program) ∷ rest) end old last
   pub done : CaseDone state c program old.chip new.chip
   pub few : RisesLittle old.chip.counters new.chip.counters
 
@@ -104,5 +102,5 @@ pub record CasesGo (state : ℕ) (cs : List Case) (old new : World) (result : Re
     Type 0 where
   pub programs : List Microprogram
   pub are : AreProgramsOf cs programs
-  pub goes : Goes (cases_steps state old.chip.banks cs programs) (end_of result) old new
+  pub goes : Goes (cases_steps state cs programs) (end_of result) old new
   pub done : IfOk result (λ u. CasesDone state cs programs old.chip new.chip)

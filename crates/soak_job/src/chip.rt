@@ -5,7 +5,6 @@ ghost use Rattle.std.specs.Prelude.{OnOk, OnErr, IfOk};
 ghost use Rattle.dram_model.specs.Column.{run};
 ghost use Rattle.dram_model.specs.View.{HasBegun, Kept, Did};
 ghost use Rattle.faults.specs.Counts.{Rose};
-ghost use Rattle.transpose_unit.specs.Stopped.{StoppedWithin};
 ghost use Rattle.uprog_code.specs.Shape.{Microprogram};
 ghost use Rattle.uprog_code.specs.Bound.{bound, bound_of};
 ghost use Rattle.uprog_code.specs.Legal.{IsLegalCode};
@@ -18,7 +17,7 @@ ghost use Rattle.wave_model.specs.Schedule.{in_turn, Ahead};
 ghost use Rattle.soak_job.specs.Cases.{source_kinds};
 ghost use Rattle.soak_job.specs.Words.{after_all};
 ghost use Rattle.soak_job.specs.Layout.{bases_from, source_row_count, soak_chip, source_rows};
-ghost use Rattle.soak_job.specs.Layout.{layout, case_events, case_queues, issues_at, FitsChip};
+ghost use Rattle.soak_job.specs.Layout.{layout, case_queues, issues_at, FitsChip};
 ghost use Rattle.soak_job.specs.Sums.{case_sum, in_both_banks};
 ghost use Rattle.soak_job.specs.OneCase.{CaseDone, IsFileOf, IsProgramOf, RisesLittle};
 
@@ -112,9 +111,6 @@ fn run_case<D: Dram>(chip: &mut D, case: Case, entry: Entry<'_>) -> Result<(), C
         ≡ map (run (bound 512 entry.entry.shape case.n (layout case)
         (issues_at case (program_of entry.entry)))) ((D.view chip.old).banks bank)) }
     ensures failed { OnErr result (Rose (D.view chip.old).faults (D.view chip.new).faults) }
-    ensures left { OnErr result (StoppedWithin (wave_events in_turn 2 Ahead
-        (case_queues case (program_of entry.entry))) (D.view chip.old).banks
-        (D.view chip.new).banks) }
 {
     let jobs = [Job {
         entry,
@@ -157,9 +153,6 @@ pub fn do_case<D: Dram>(
     ensures following { OnOk result (generator.new ≡ after_all generator.old
         (source_kinds case.op)) }
     ensures failed { OnErr result (Rose (D.view chip.old).faults (D.view chip.new).faults) }
-    ensures left { OnErr result ((f : IsFileOf case.op file.now)
-        → StoppedWithin (case_events generator.old case f.program) (D.view chip.old).banks
-        (D.view chip.new).banks) }
 {
     let entry = own_entry(file);
     let counts = count_both(case, &entry);

@@ -5,7 +5,6 @@ ghost use Rattle.std.specs.List.{range_with_len};
 ghost use Rattle.dram_model.specs.View.{HasBegun, Kept, Did};
 ghost use Rattle.dram_model.specs.Elements.{below};
 ghost use Rattle.faults.specs.Counts.{Rose};
-ghost use Rattle.transpose_unit.specs.Stopped.{StoppedWithin};
 ghost use Rattle.uprog_code.specs.Implements.{numbers};
 ghost use Rattle.soak_job.specs.Layout.{bases_from, source_row_count, soak_chip, source_writes};
 ghost use Rattle.soak_job.specs.Words.{after_all, elements, sources_at};
@@ -54,8 +53,6 @@ pub(crate) fn load_sources<D: Dram>(
         (D.view chip.old).counters (D.view chip.new).counters) }
     ensures following { OnOk result (generator.new ≡ after_all generator.old kinds.now) }
     ensures failed { OnErr result (Rose (D.view chip.old).faults (D.view chip.new).faults) }
-    ensures left { OnErr result (StoppedWithin (source_writes generator.old 0 n kinds.now)
-        (D.view chip.old).banks (D.view chip.new).banks) }
 {
     let mut row = 0;
     for kind in kinds {

@@ -1,14 +1,13 @@
 //! The sum of a result's numbers.
 
 ghost use Rattle.std.specs.Prelude.{◌≡◌, ℕ, ◌+◌, ◌*◌, ◌<◌, ◌≤◌, ◌%◌, ◌^◌, length, map, OnOk};
-ghost use Rattle.std.specs.Prelude.{OnErr, IfOk, []};
+ghost use Rattle.std.specs.Prelude.{OnErr, IfOk};
 ghost use Rattle.std.specs.Prelude.{sum_by};
 ghost use Rattle.std.specs.List.{range_with_len};
 ghost use Rattle.dram_model.specs.Chip.{Grew};
 ghost use Rattle.dram_model.specs.View.{HasBegun, Kept, DidRead, FailedIn};
 ghost use Rattle.dram_model.specs.Elements.{below, number};
 ghost use Rattle.faults.specs.Counts.{Rose};
-ghost use Rattle.transpose_unit.specs.Stopped.{StoppedWithin};
 ghost use Rattle.transpose_unit.specs.Stage.{stage_number};
 ghost use Rattle.soak_job.specs.Layout.{soak_chip};
 
@@ -43,8 +42,6 @@ fn add_bank<D: Dram>(chip: &mut D, bank: u16, base: u16, n: u8, sum: u64) -> Res
     ensures sum { IfOk result (λ all. all ≡ (sum + sum_by (number base n)
         ((D.view chip.old).banks bank)) % 2 ^ 64) }
     ensures failed { OnErr result (Rose (D.view chip.old).faults (D.view chip.new).faults) }
-    ensures left { OnErr result (StoppedWithin [] (D.view chip.old).banks
-        (D.view chip.new).banks) }
 {
     let mut stage = [0; STAGE_WORDS];
     read_segment(chip, CHIP, bank, base, n, &mut stage)?;
@@ -64,8 +61,6 @@ pub(crate) fn sum_of<D: Dram>(chip: &mut D, base: u16, n: u8) -> Result<u64, Chi
     ensures sum { IfOk result (λ all. all ≡ sum_by (number base n)
         (below 2 (D.view chip.old).banks) % 2 ^ 64) }
     ensures failed { OnErr result (Rose (D.view chip.old).faults (D.view chip.new).faults) }
-    ensures left { OnErr result (StoppedWithin [] (D.view chip.old).banks
-        (D.view chip.new).banks) }
 {
     let first = add_bank(chip, 0, base, n, 0)?;
     add_bank(chip, 1, base, n, first)

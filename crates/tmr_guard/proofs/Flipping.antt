@@ -24,12 +24,6 @@ pub banks_of : {T E : Type 0} (r : Result T E) (es : List Event) (a b : ChipView
 banks_of (Ok x) es a b banks d e = d.banks ∙ e
 banks_of (Err x) es a b banks d e = tt
 
--- and no call failed
-pub unfailed_of : {T E : Type 0} (r : Result T E) (es : List Event) (a b c : ChipView)
-    → DidRead 1 a b → OnOk r (Did es b c) → OnOk r (c.faults ≡ a.faults)
-unfailed_of (Ok x) es a b c read wrote = wrote.faults ∙ read.faults
-unfailed_of (Err x) es a b c read wrote = tt
-
 -- the log of a read and a write
 pub log_of : {T E : Type 0} (r : Result T E) (bank row : ℕ) (bits other : List Bool)
     (a b c : ChipView) → DidRead 1 a b → OnOk r (Did (Write bank row bits ∷ []) b c)

@@ -54,7 +54,6 @@ did_more es fs n m a b c d e = record {
       ∙ ap (with_reads m) (reads_apart fs n (all_counted es a.counters))
       ∙ more_reads n m (all_counted fs (all_counted es a.counters))
       ∙ ap (with_reads (n + m)) (sym (all_counted-append es fs a.counters));
-  faults = e.faults ∙ d.faults;
   log = Grew-more a.log b.log c.log es fs d.log e.log;
 }
 
@@ -62,12 +61,7 @@ no_reads : (k : Counters) → k ≡ with_reads 0 k
 no_reads k = let e : k.reads ≡ k.reads + 0 = omega arith in rw (← e) refl
 
 pub did_none : (a : ChipView) → DidAndRead [] 0 a a
-did_none a = record {
-  banks = refl;
-  counters = no_reads a.counters;
-  faults = refl;
-  log = Grew-none a.log;
-}
+did_none a = record { banks = refl; counters = no_reads a.counters; log = Grew-none a.log }
 
 -- none
 pub ran_none : (g : Geometry) (p : Program) (turn : Turn) (table : List Named) (a : ChipView)

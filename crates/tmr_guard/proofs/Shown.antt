@@ -64,12 +64,7 @@ module _ (m new : Machine) (number : ℕ) (name : List ℕ) (chip chip' : ChipVi
         (piece_of (Print copy))) (reads_by m (Print copy)) chip chip'
     print_events did = subst (λ es. DidAndRead es (reads_by m (Print copy)) chip chip')
         (sym (if_same (refusal (geometry_of m) (operations_by m) (table_in m) (Print copy)) []))
-        (record {
-          banks = did.banks;
-          counters = did.counters;
-          faults = did.faults;
-          log = did.log;
-        })
+        (record { banks = did.banks; counters = did.counters; log = did.log })
 
     pub print_shown : has_name (table_in m) copy ≡ true → table_in new ≡ table_in m
         → turn_in new ≡ turn_in m → DidRead (reads_by m (Print copy)) chip chip'
@@ -213,12 +208,7 @@ module _ (m new : Machine) (number : ℕ) (name : List ℕ) (chip chip' : ChipVi
             rows = 0;
             few = omega arith;
             did = subst (DidRead 0 chip) (sym same)
-                (record {
-                  banks = none.banks;
-                  counters = none.counters;
-                  faults = none.faults;
-                  log = none.log;
-                });
+                (record { banks = none.banks; counters = none.counters; log = none.log });
           }
 
 -- of an instruction but a print the reply is said

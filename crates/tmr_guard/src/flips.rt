@@ -45,7 +45,6 @@ pub fn do_flip<D: Dram>(f: &Flip, dram: &mut D, stage: &mut [u64]) -> Result<(),
       writes = (D.view dram.old).counters.writes + 1;
       reads = (D.view dram.old).counters.reads + 1;
     }) }
-    ensures faults { OnOk result ((D.view dram.new).faults ≡ (D.view dram.old).faults) }
     ensures log { OnOk result (Grew (D.view dram.old).log (D.view dram.new).log
         (Event.Write f.now.bank f.now.row (with_bit_inverted f.now.column
         (row_in f.now.row ((D.view dram.old).banks f.now.bank))) ∷ [])) }

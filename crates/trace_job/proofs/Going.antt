@@ -5,10 +5,10 @@ use Rattle.std.specs.List.{AllByRecursion}
 use Rattle.dram_model.specs.View.{ChipView}
 use Rattle.faults.specs.Counts.{Rose}
 use Rattle.cli_model.specs.World.{World}
-use Rattle.cli_model.specs.Waves.{IsDoneBy, IsLeftBy, StoppedIn}
+use Rattle.cli_model.specs.Waves.{IsLeftBy, StoppedIn}
 use Rattle.cli_model.specs.Steps.{Step, Load, Take, Store, Open, Use, UseFor, Put, Print, End, Done}
 use Rattle.cli_model.specs.Steps.{Stopped}
-use Rattle.cli_model.specs.Steps.{Goes, Used, UseFailed, Sent, Printed, PrintFailed, Stored}
+use Rattle.cli_model.specs.Steps.{Goes, Used, Sent, Printed, Stored}
 use Rattle.cli_model.specs.Steps.{Unstored}
 use Rattle.trace_job.specs.Below.{IsLate, with_chip, StepsAreBelow}
 
@@ -24,28 +24,10 @@ used_below a b old new p q u = record {
   chip = rw (p, q) u.chip;
 }
 
-unused_below : (a b : World) (old new : ChipView) → old.faults ≡ a.chip.faults
-    → new.faults ≡ b.chip.faults → UseFailed a b → UseFailed (with_chip old a) (with_chip new b)
-unused_below a b old new p q u = record {
-  files = u.files;
-  sink = u.sink;
-  chip = rw (p, q) u.chip;
-}
-
 printed_below : (R : List ℕ → List ℕ → Type 0) (a b : World) (old new : ChipView)
     → old.faults ≡ a.chip.faults → new.faults ≡ b.chip.faults → Printed R a b
     → Printed R (with_chip old a) (with_chip new b)
 printed_below R a b old new p q u = record {
-  files = u.files;
-  sent = u.sent;
-  faults = u.faults;
-  chip = rw (p, q) u.chip;
-}
-
-unprinted_below : (bytes : List ℕ) (a b : World) (old new : ChipView) → old.faults ≡ a.chip.faults
-    → new.faults ≡ b.chip.faults → PrintFailed bytes a b
-    → PrintFailed bytes (with_chip old a) (with_chip new b)
-unprinted_below bytes a b old new p q u = record {
   files = u.files;
   sent = u.sent;
   faults = u.faults;
@@ -140,7 +122,7 @@ goes_below (Use on ∷ steps) Done a b old new late p q r same (inr f) = absurd 
 goes_below (Use on ∷ steps) (Stopped reason) a b old new late p q r same (inr f) =
     inr (
       f.0,
-      unused_below a b old new p q f.1,
+      used_below a b old new p q f.1,
       rose_below old.faults new.faults a.chip.faults b.chip.faults p q f.2,
       subst (IsLeftBy on) (sym r) f.3,
     )
@@ -157,7 +139,7 @@ goes_below (UseFor wave ∷ steps) Done a b old new late p q r same (inr f) = ab
 goes_below (UseFor wave ∷ steps) (Stopped reason) a b old new late p q r same (inr f) =
     inr (
       f.0,
-      unused_below a b old new p q f.1,
+      used_below a b old new p q f.1,
       rose_below old.faults new.faults a.chip.faults b.chip.faults p q f.2,
       subst (StoppedIn wave) (sym r) f.3,
     )
@@ -171,15 +153,17 @@ goes_below (Print on bytes ∷ steps) end a b old new late p q r same (inl (mid,
       ),
     )
 goes_below (Print on bytes ∷ steps) Done a b old new late p q r same (inr f) = absurd f
-goes_below (Print on bytes ∷ steps) (Stopped reason) a b old new late p q r same (inr (inl f)) =
-    inr (inl (f.0, printed_below _ a b old new p q f.1, f.2, subst (IsDoneBy on) (sym r) f.3))
-goes_below (Print on bytes ∷ steps) (Stopped reason) a b old new late p q r same (inr (inr f)) =
-    inr (inr (
-      f.0,
-      unprinted_below bytes a b old new p q f.1,
-      rose_below old.faults new.faults a.chip.faults b.chip.faults p q f.2,
-      subst (IsLeftBy on) (sym r) f.3,
-    ))
+goes_below (Print on bytes ∷ steps) (Stopped reason) a b old new late p q r same (inr (f, inl rose)) =
+    inr (printed_below _ a b old new p q f, inl rose)
+goes_below (Print on bytes ∷ steps) (Stopped reason) a b old new late p q r same (inr (f, inr rose)) =
+    inr (
+      printed_below _ a b old new p q f,
+      inr (
+        rose.0,
+        rose_below old.faults new.faults a.chip.faults b.chip.faults p q rose.1,
+        subst (IsLeftBy on) (sym r) rose.2,
+      ),
+    )
 
 -- where the first step uses the chip, nothing of it has to be the same
 pub steps_are_below : StepsAreBelow
@@ -202,7 +186,7 @@ steps_are_below (Use on ∷ steps) Done a b old new late first p q r (inr f) = a
 steps_are_below (Use on ∷ steps) (Stopped reason) a b old new late first p q r (inr f) =
     inr (
       f.0,
-      unused_below a b old new p q f.1,
+      used_below a b old new p q f.1,
       rose_below old.faults new.faults a.chip.faults b.chip.faults p q f.2,
       subst (IsLeftBy on) (sym r) f.3,
     )
@@ -219,7 +203,7 @@ steps_are_below (UseFor wave ∷ steps) Done a b old new late first p q r (inr f
 steps_are_below (UseFor wave ∷ steps) (Stopped reason) a b old new late first p q r (inr f) =
     inr (
       f.0,
-      unused_below a b old new p q f.1,
+      used_below a b old new p q f.1,
       rose_below old.faults new.faults a.chip.faults b.chip.faults p q f.2,
       subst (StoppedIn wave) (sym r) f.3,
     )
@@ -233,12 +217,14 @@ steps_are_below (Print on bytes ∷ steps) end a b old new late first p q r (inl
       ),
     )
 steps_are_below (Print on bytes ∷ steps) Done a b old new late first p q r (inr f) = absurd f
-steps_are_below (Print on bytes ∷ steps) (Stopped reason) a b old new late first p q r (inr (inl f)) =
-    inr (inl (f.0, printed_below _ a b old new p q f.1, f.2, subst (IsDoneBy on) (sym r) f.3))
-steps_are_below (Print on bytes ∷ steps) (Stopped reason) a b old new late first p q r (inr (inr f)) =
-    inr (inr (
-      f.0,
-      unprinted_below bytes a b old new p q f.1,
-      rose_below old.faults new.faults a.chip.faults b.chip.faults p q f.2,
-      subst (IsLeftBy on) (sym r) f.3,
-    ))
+steps_are_below (Print on bytes ∷ steps) (Stopped reason) a b old new late first p q r (inr (f, inl rose)) =
+    inr (printed_below _ a b old new p q f, inl rose)
+steps_are_below (Print on bytes ∷ steps) (Stopped reason) a b old new late first p q r (inr (f, inr rose)) =
+    inr (
+      printed_below _ a b old new p q f,
+      inr (
+        rose.0,
+        rose_below old.faults new.faults a.chip.faults b.chip.faults p q rose.1,
+        subst (IsLeftBy on) (sym r) rose.2,
+      ),
+    )

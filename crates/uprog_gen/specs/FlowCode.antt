@@ -56,3 +56,8 @@ abbrev mutual
       let test = pc + 1 + size u x in
       uop.SubI r 1 ∷ (code_of u x (pc + 1) ++ (uop.Bnez r (test + 1 + 2) ∷ (leave out
       ++ turns_code u r top out ts (test + 1 + 2))))
+
+-- a body at each position: register 0 has the position, and register 1 counts those that come after
+-- it
+abbrev pub each_flow : {A : Type 0} → A → FlowOf A
+each_flow b = Put (SetI 0 0) (Put (SetN 1) (Loop 1 (Last (Do b (Put (AddI 0 1) End))) End))

@@ -16,7 +16,6 @@ use Rattle.word_flow.specs.Programs.{is_flow_statement}
 use Rattle.word_flow.specs.Places.{IsFlowWritten}
 use Rattle.uprog_gen.specs.Does.{DoesRounds, joined}
 use Rattle.uprog_gen.specs.Layout.{IsLayout}
-use Rattle.uprog_gen.specs.Totals.{IsExactOver}
 
 -- each statement has a loop program that does it, with all names at these places
 abbrev pub AreLowered : Slots → ℕ → ℕ → List Statement → List (List (StepOf Block)) → Type 0
@@ -76,7 +75,7 @@ pub record IsCompiledFrom (e : Microprogram) (op : Operation) (slots : Slots)
 
 -- An operation's entry: so it is over loop programs of which each block's is its states' starts
 -- and the graph that was taken, with the commands found for it, and each word operation's is its
--- written one, and takes exactly the commands of these
+-- written one
 pub record IsCompiled (e : Microprogram) (op : Operation) : Type 0 where
   pub slots : Slots
   pub free_bit : ℕ
@@ -85,7 +84,6 @@ pub record IsCompiled (e : Microprogram) (op : Operation) : Type 0 where
   pub from : IsCompiledFrom e op slots free_bit free_word statements
   pub forms : HaveForms slots op.body statements
   pub written : AreWritten slots free_bit free_word op.body statements
-  pub exact : IsExactOver e op statements
 
 -- an entry for each operation, in order
 abbrev pub AreCompiled : List Microprogram → List Operation → Type 0

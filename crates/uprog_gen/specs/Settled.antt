@@ -1,5 +1,6 @@
 -- Bodies whose commands are settled: those that carry them, those with states in cells, copies, and
 -- the bodies of the word operations.
+-- Only the compiler's own calls on one op speak of this.
 use Rattle.std.specs.Prelude.{◌≡◌, ℕ, ◌+◌, Bool, true, false, ◌||◌, if◌then◌else◌, List, [], ◌∷◌}
 use Rattle.std.specs.Prelude.{sum_by, count_by, Option, Some, None}
 use Rattle.uprog_code.specs.declared.walker.Counts.{Counts}

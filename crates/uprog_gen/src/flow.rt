@@ -2,6 +2,7 @@
 
 ghost use Rattle.std.specs.Prelude.{◌≡◌, ◌<◌, ◌≤◌, ◌+◌, ◌^◌, ◌++◌, ◌∷◌, [], length, OnOk};
 ghost use Rattle.loop_ir.specs.Plain.{block_of, flow_of, acts_of};
+ghost use Rattle.loop_ir.specs.Plain.StepOf.{Single as SingleOf, Along as AlongOf};
 ghost use Rattle.loop_ir.specs.Plain.StepOf.{Flowed as FlowedOf};
 ghost use Rattle.loop_ir.specs.Flows.{flow_size, acts_size, AllFlow, AllActs};
 ghost use Rattle.loop_ir.specs.FlowTests.{is_moved, names, any_names};
@@ -13,9 +14,8 @@ ghost use Rattle.uprog_gen.specs.Emits.{EmitsBody, EmitsFlow, EmitsActs, EmitsSt
 
 use crate::emit::push_commands;
 use crate::part::make_part;
-use crate::plan::Plan;
 use faults::keep;
-use loop_ir::{Body, Flow, Move, Sub, Turns};
+use loop_ir::{Body, Flow, Move, Turns};
 use mig_graph::NoMemory;
 use std::alloc::Global;
 use uprog_code::Uop;
@@ -34,14 +34,6 @@ fn uop_of(m: Move) -> Uop
     }
 }
 
-/// The subscripts of a flow's bodies name their registers.
-const FLOW_PLAN: Plan = Plan {
-    first: Sub::Zero,
-    second: Sub::Zero,
-    third: Sub::Zero,
-    named: true,
-};
-
 /// A jump, by register 7.
 fn push_leave(code: &mut Vec<Uop>, to: u16) -> Result<(), NoMemory>
     ensures { OnOk result (code.new.items ≡ code.old.items ++ leave to) }
@@ -50,13 +42,13 @@ fn push_leave(code: &mut Vec<Uop>, to: u16) -> Result<(), NoMemory>
     keep(code, Uop::Bnez(7, to))
 }
 
-/// The commands of a body of a flow.
+/// The commands of a body.
 fn push_done(code: &mut Vec<Uop>, body: &Body, alloc: Global) -> Result<(), NoMemory>
     requires { IsSmall (block_of body.now) }
     ensures { OnOk result (EmitsBody (block_of body.now) code.old.items code.new.items) }
 {
     let made = make_part(body, alloc)?;
-    push_commands(code, FLOW_PLAN, body, &made)?;
+    push_commands(code, body, &made)?;
     Ok(())
 }
 
@@ -197,5 +189,37 @@ pub fn emit_flowed(flow: &Flow, code: &mut Vec<Uop>, alloc: Global) -> Result<()
 {
     push_clear(flow, code)?;
     emit_flow(flow, code, alloc)?;
+    Ok(())
+}
+
+/// The code of a body that stands in no loop.
+pub fn emit_single(body: &Body, code: &mut Vec<Uop>, alloc: Global) -> Result<(), NoMemory>
+    requires { IsSmall (block_of body.now) }
+    ensures { OnOk result (EmitsSteps (SingleOf (block_of body.now) ∷ []) code.old.items
+        code.new.items) }
+{
+    push_done(code, body, alloc)?;
+    Ok(())
+}
+
+/// The code of a body at each position. The jump past the loop gets its target when it stands.
+pub fn emit_each(body: &Body, code: &mut Vec<Uop>, alloc: Global) -> Result<(), NoMemory>
+    requires small { IsSmall (block_of body.now) }
+    requires room { length code.old.items + body_cost (block_of body.now) + 32 < 2 ^ 16 }
+    ensures { OnOk result (EmitsSteps (AlongOf (block_of body.now) ∷ []) code.old.items
+        code.new.items) }
+{
+    keep(code, Uop::SetI(0, 0))?;
+    keep(code, Uop::SetN(1))?;
+    let out = code.len() + 1;
+    let top = out + 2;
+    keep(code, Uop::Bnez(1, top as u16))?;
+    push_leave(code, 0)?;
+    keep(code, Uop::SubI(1, 1))?;
+    push_done(code, body, alloc)?;
+    keep(code, Uop::AddI(0, 1))?;
+    keep(code, Uop::Bnez(1, top as u16))?;
+    let past = code.len() as u16;
+    code[out + 1] = Uop::Bnez(7, past);
     Ok(())
 }

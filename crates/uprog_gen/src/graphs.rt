@@ -65,7 +65,7 @@ fn step_graph(step: Step) -> Option<MigOuts>
     match step {
         Step::Each(body) => Some(body.into_graph()),
         Step::Flow(flow) => flow_graph(flow),
-        Step::Once(_) | Step::Nest(_) => None,
+        Step::Once(_) => None,
     }
 }
 

@@ -10,7 +10,6 @@ mod layout;
 mod lowering;
 mod ops;
 mod part;
-mod plan;
 mod states;
 mod steps;
 

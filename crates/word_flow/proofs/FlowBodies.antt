@@ -20,7 +20,7 @@ use Rattle.loop_ir.specs.Spots.{Spot, spot_at, spot_in, nth_place, nth_spot, IsO
 use Rattle.loop_ir.specs.WellFormed.{IsOneValue}
 use Rattle.loop_ir.specs.Outputs.{AreRows, IsOuts}
 use Rattle.loop_ir.specs.States.{row_count, enters, leaves}
-use Rattle.loop_ir.specs.Costs.{plain_cost, used_subs}
+use Rattle.loop_ir.specs.Costs.{plain_cost}
 use Rattle.loop_ir.specs.Limits.{IsCarried, IsRound, HasValues}
 use Rattle.loop_ir.proofs.Outs.{one-rows}
 use Rattle.loop_laws.specs.Rooms.{Room, room_for, extent, Owner, InRoom, InCells, Mark}
@@ -420,7 +420,6 @@ module _ (n : ℕ) (rooms : List Room) (some : 0 < n) (are : RoomsApart n rooms)
         let a2 = and_parts (length d.outs == length d.writes) _ a1.1 in
         let a3 = and_parts (nat_le d.graph.inputs 80) _ a2.1 in
         let a4 = and_parts (nat_le (length d.outs) 8) _ a3.1 in
-        let a5 = and_parts (nat_le (length d.graph.nodes + length d.outs) 32) _ a4.1 in
         record {
           reads = most_is d.graph.inputs (length d.reads) a1.0;
           states = record {
@@ -449,8 +448,7 @@ module _ (n : ℕ) (rooms : List Room) (some : 0 < n) (are : RoomsApart n rooms)
               ∙ sym (ap (λ (p : Place). p.sub) (nth_placed rooms b.reads k (rd k lk)));
           inputs = most_is d.graph.inputs 80 a3.0;
           outputs = most_is (length d.outs) 8 a4.0;
-          rows = most_is (length d.graph.nodes + length d.outs) 32 a5.0;
-          subs = most_is (length (used_subs d)) 3 a5.1;
+          rows = most_is (length d.graph.nodes + length d.outs) 32 a4.1;
         }
 
     pub made_is : IsMade (coded_body rooms c)

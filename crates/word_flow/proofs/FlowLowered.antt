@@ -47,8 +47,7 @@ stays f = all_flow (stays_in_registers (λ r. names r f)) f
 
 -- a flow has the form that code is made of
 abbrev pub flow_holds : FlowOf Block → Bool
-flow_holds f = counts f && (nests 2 f && (stays f
-    && (nat_le (code_cost (Flowed f ∷ [])) 256 && nat_le (cost.bodies (Flowed f ∷ [])) 12)))
+flow_holds f = counts f && (nests 2 f && (stays f && nat_le (code_cost (Flowed f ∷ [])) 256))
 
 -- the weights of rounds
 weigh : (x : List BodyCmd → ℕ) (a b d e : ℕ) (rs : List (RoundOf Block)) → AllByRecursion
@@ -135,7 +134,6 @@ module _ (slots : Slots) (free_bit free_word : ℕ) (s : Statement)
       let p = and_parts (counts flow) _ sized in
       let q = and_parts (nests 2 flow) _ p.1 in
       let r = and_parts (stays flow) _ q.1 in
-      let z = and_parts (nat_le (code_cost steps) 256) _ r.1 in
       record {
         slim = (
           flow_each A block IsSlim (λ b. slim_is 1 rooms (omega arith) (apart 1) have_rows
@@ -152,8 +150,7 @@ module _ (slots : Slots) (free_bit free_word : ℕ) (s : Statement)
         values = (flow_each A block (HasValues row) values_all f, tt);
         rounds = λ n some small. subst (AllByRecursion (IsRound (row n) n)) (sym (append-nil _))
             (rounds_among (IsOwned n rooms) (row n) (owned n) n _ (runs n some small dark).keeps);
-        size = most_is (code_cost steps) 256 z.0;
-        few = most_is (cost.bodies steps) 12 z.1;
+        size = most_is (code_cost steps) 256 r.1;
       }
 
   made : AllParts IsMade steps

@@ -1,7 +1,7 @@
 //! `shl1` and `shr1` as flows.
 //!
-//! One row is cleared, and each other one takes its neighbour's bit, from above. Register 0 is the
-//! number of rows that are left, and so the lower of two neighbours; register 1 is the upper one.
+//! One row is cleared, and each other one takes its neighbour's bit, from above. Registers: 0 is how
+//! many rows are left, and the lower of two neighbours, of which 1 is the upper one.
 
 use crate::shapes::Line::{Do, Done, Loop, Put};
 use crate::shapes::{CodedBody, Four, Line, Mark, Nine, Owner, four, lowest, nine, row};

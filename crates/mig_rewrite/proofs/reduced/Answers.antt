@@ -12,5 +12,4 @@ loop-now-preserved c =
           new.outs.items so.keeps c.in_ok-now-in-Some.ensures.keeps;
       named = c.in_ok-now-in-Some.ensures.named;
       count = omega (arith, c.in_ok-now-in-Some.ensures.count, so.count);
-      reached = c.in_ok-now-in-Some.ensures.reached;
     }

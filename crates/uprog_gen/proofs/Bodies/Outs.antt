@@ -27,9 +27,6 @@ use Rattle.loop_ir.specs.Costs.{held_cost, carries}
 use Rattle.uprog_gen.proofs.Bodies.Fixed.{IsLeast, by_cases, body_is, not_few, and_few, or_few}
 use Rattle.uprog_gen.proofs.Bodies.Fixed.{xor_few}
 use Rattle.uprog_gen.proofs.Bodies.Fixed.{add_few}
-use Rattle.uprog_gen.specs.Code.{IsPlanned, plan_of}
-use Rattle.uprog_gen.specs.declared.plan.Plan.{Plan}
-use Rattle.uprog_gen.proofs.Bodies.Planned.{plans}
 use Rattle.loop_ir.specs.Limits.{IsSmall}
 use Rattle.row_alloc.specs.Held.{DoesHeld}
 use Rattle.row_alloc.proofs.Plainly.{plainly}
@@ -171,9 +168,9 @@ few_cmds b outs k bare none fits is few one least =
         )))
         ∙ not_true (is_complemented (lit_at b.outs 0)) g.1)
 
--- a plan, outputs and commands make a part of a body without states
-pub is_part : (b : Block) (plan : Plan) (outs : List OutRow) (cmds : List BodyCmd) → IsSmall b
-    → carries b ≡ false → has_states b ≡ false → plan ≡ plan_of b → IsOuts b (row_count b.writes) outs
+-- outputs and commands make a part of a body without states
+pub is_part : (b : Block) (outs : List OutRow) (cmds : List BodyCmd) → IsSmall b
+    → carries b ≡ false → has_states b ≡ false → IsOuts b (row_count b.writes) outs
     → DoesBody b.graph outs cmds → length cmds ≤ 4 * length b.graph.nodes + 3 * length outs
     → (length b.graph.nodes ≡ 0 → length outs ≡ 1 → is_complemented (out_at outs 0).lit ≡ false
     → length cmds ≤ 1) → IsLeast b.graph outs (length cmds)
@@ -181,15 +178,14 @@ pub is_part : (b : Block) (plan : Plan) (outs : List OutRow) (cmds : List BodyCm
     → cmds ≡ Aap (source_of b.graph.inputs (out_at outs 0).lit) (Out 0) ∷ [])
     → ((w : WordBody) → b.graph ≡ graph_in w → map (λ o. o.lit) outs ≡ outs_in w
     → cmds ≡ known_at (sequence_for w))
-    → IsPart (record { block = b; plan = plan; outs = outs; cmds = cmds })
-is_part b plan outs cmds small bare none e is does few one least copy word =
+    → IsPart (record { block = b; outs = outs; cmds = cmds })
+is_part b outs cmds small bare none is does few one least copy word =
     let rows = have_rows b none in
     let all : IsOuts b (length b.outs) outs = subst (λ m. IsOuts b m outs)
     (all_count b.writes rows.1 ∙ sym small.states.written) is in
     record {
       well = small.well;
       graph = small.graph;
-      planned = subst (λ p. IsPlanned p b) (sym e) (plans b small.subs);
       states = small.states;
       outs = is;
       does = subst (λ hs. DoesHeld b.graph outs hs (leaves b.writes b.outs) cmds)
@@ -210,15 +206,14 @@ is_part b plan outs cmds small bare none e is does few one least copy word =
     }
 
 -- and of one with states
-pub is_held_part : (b : Block) (plan : Plan) (outs : List OutRow) (cmds : List BodyCmd)
-    → IsSmall b → carries b ≡ false → has_states b ≡ true → plan ≡ plan_of b → IsOuts b (row_count b.writes) outs
+pub is_held_part : (b : Block) (outs : List OutRow) (cmds : List BodyCmd)
+    → IsSmall b → carries b ≡ false → has_states b ≡ true → IsOuts b (row_count b.writes) outs
     → DoesHeld b.graph outs (enters 0 b.reads) (leaves b.writes b.outs) cmds
     → (h : HeldBody) × (held_of b ≡ Some h) × (cmds ≡ held_at (held_sequence_for h))
-    → IsPart (record { block = b; plan = plan; outs = outs; cmds = cmds })
-is_held_part b plan outs cmds small bare states e is does own = record {
+    → IsPart (record { block = b; outs = outs; cmds = cmds })
+is_held_part b outs cmds small bare states is does own = record {
   well = small.well;
   graph = small.graph;
-  planned = subst (λ p. IsPlanned p b) (sym e) (plans b small.subs);
   states = small.states;
   outs = is;
   does = does;
@@ -233,15 +228,14 @@ is_held_part b plan outs cmds small bare states e is does own = record {
 }
 
 -- and of one that carries its commands
-pub is_carried_part : (b : Block) (plan : Plan) (outs : List OutRow) (cmds : List BodyCmd)
-    → IsSmall b → carries b ≡ true → plan ≡ plan_of b → IsOuts b (row_count b.writes) outs
-    → cmds ≡ b.found → IsPart (record { block = b; plan = plan; outs = outs; cmds = cmds })
-is_carried_part b plan outs cmds small carried e is own =
+pub is_carried_part : (b : Block) (outs : List OutRow) (cmds : List BodyCmd)
+    → IsSmall b → carries b ≡ true → IsOuts b (row_count b.writes) outs
+    → cmds ≡ b.found → IsPart (record { block = b; outs = outs; cmds = cmds })
+is_carried_part b outs cmds small carried is own =
     let found = small.found carried in
     record {
       well = small.well;
       graph = small.graph;
-      planned = subst (λ p. IsPlanned p b) (sym e) (plans b small.subs);
       states = small.states;
       outs = is;
       does = subst (λ cs. DoesHeld b.graph outs (enters 0 b.reads) (leaves b.writes b.outs) cs)

@@ -11,20 +11,21 @@ use Rattle.std.proofs.Math.Seq.{set-append_seam}
 use Rattle.uprog_code.specs.declared.code.Uop.{Uop}
 use Rattle.uprog_code.specs.declared.code.Uop.TheVariants as uop
 use Rattle.loop_ir.specs.declared.ir.Move.{Move}
+use Rattle.loop_ir.specs.declared.ir.Move.TheVariants.{SetI, SetN, AddI}
 use Rattle.loop_ir.specs.Flows.{FlowOf, TurnsOf}
 use Rattle.loop_ir.specs.Flows.FlowOf.{End, Do, Put, If, Loop}
 use Rattle.loop_ir.specs.Flows.TurnsOf.{Last, Turn}
 use Rattle.loop_ir.specs.Flows.{flow_map, acts_map, flow_size, acts_size}
 use Rattle.uprog_gen.specs.FlowCode.{uop_of, leave, size, turns_size, code_of, turns_code}
 use Rattle.loop_ir.specs.Plain.{Block}
-use Rattle.loop_ir.specs.Plain.StepOf.{Flowed}
+use Rattle.loop_ir.specs.Plain.StepOf.{Single, Along, Flowed}
 use Rattle.loop_ir.specs.Costs.{body_cost}
-use Rattle.uprog_gen.specs.Code.{Part, block_of_part, flow_uops, clear_code}
+use Rattle.uprog_gen.specs.Code.{Part, block_of_part, body_uops, clear_code}
 use Rattle.uprog_gen.specs.Parts.{IsPart}
 use Rattle.uprog_gen.specs.Emits.{EmitsBody, EmitsFlow, EmitsActs, EmitsSteps}
 use Rattle.loop_ir.specs.FlowTests.{cleared}
 use Rattle.uprog_gen.proofs.Coding.FlowMaps.{cleared_map}
-use Rattle.uprog_gen.proofs.Coding.Sizes.{flow_body_few}
+use Rattle.uprog_gen.proofs.Coding.Sizes.{body_few}
 use Rattle.uprog_gen.proofs.Coding.Emitted.{one_step}
 use Rattle.uprog_gen.proofs.Coding.FlowSizes.{code_long, turns_long}
 use Rattle.uprog_gen.proofs.Coding.FlowSizes.{flow_few, acts_few}
@@ -43,9 +44,9 @@ pub flow_short : (x : FlowOf Block) (old new : List Uop) → EmitsFlow x old new
 flow_short x old new a = omega (
   arith,
   ap length a.code,
-  length-append old (code_of flow_uops a.coded (length old)),
-  code_long Part flow_uops a.coded (length old),
-  flow_few Part Block flow_uops block_of_part body_cost IsPart flow_body_few a.coded a.parts,
+  length-append old (code_of body_uops a.coded (length old)),
+  code_long Part body_uops a.coded (length old),
+  flow_few Part Block body_uops block_of_part body_cost IsPart body_few a.coded a.parts,
   ap (flow_size body_cost) a.same,
 )
 
@@ -54,9 +55,9 @@ pub acts_short : (r top out : ℕ) (ts : TurnsOf Block) (old new : List Uop)
 acts_short r top out ts old new a = omega (
   arith,
   ap length a.code,
-  length-append old (turns_code flow_uops r top out a.coded (length old)),
-  turns_long Part flow_uops r top out a.coded (length old),
-  acts_few Part Block flow_uops block_of_part body_cost IsPart flow_body_few a.coded a.parts,
+  length-append old (turns_code body_uops r top out a.coded (length old)),
+  turns_long Part body_uops r top out a.coded (length old),
+  acts_few Part Block body_uops block_of_part body_cost IsPart body_few a.coded a.parts,
   ap (acts_size body_cost) a.same,
 )
 
@@ -71,16 +72,16 @@ end_emits old = record {
 pub do_emits : (b : Block) (k : FlowOf Block) (old mid new : List Uop) → EmitsBody b old mid
     → EmitsFlow k mid new → EmitsFlow (Do b k) old new
 do_emits b k old mid new h a =
-    let c = flow_uops h.made in
+    let c = body_uops h.made in
     let long : length mid ≡ length old + length c =
     omega (arith, ap length h.code, length-append old c) in
     record {
       coded = Do h.made a.coded;
       same = both b (h.made.block) k (flow_map block_of_part a.coded) h.same a.same;
       parts = (h.right, a.parts);
-      code = a.code ∙ ap (λ q. mid ++ code_of flow_uops a.coded q) long
-          ∙ ap (λ l. l ++ code_of flow_uops a.coded (length old + length c)) h.code
-          ∙ append_assoc old c (code_of flow_uops a.coded (length old + length c));
+      code = a.code ∙ ap (λ q. mid ++ code_of body_uops a.coded q) long
+          ∙ ap (λ l. l ++ code_of body_uops a.coded (length old + length c)) h.code
+          ∙ append_assoc old c (code_of body_uops a.coded (length old + length c));
     }
   where
     both : (b c : Block) (k l : FlowOf Block) → c ≡ b → l ≡ k → Do c l ≡ Do b k
@@ -92,22 +93,22 @@ put_emits m k old mid new e a = record {
   coded = Put m a.coded;
   same = ap (Put m) a.same;
   parts = a.parts;
-  code = after_one old mid new (uop_of m) (code_of flow_uops a.coded) e a.code;
+  code = after_one old mid new (uop_of m) (code_of body_uops a.coded) e a.code;
 }
 
 -- the branches, once both jumps have their targets
 module _ (r : ℕ) (x y : FlowOf Part) (old a b c : List Uop) (test there jump past : ℕ)
-    (ea : a ≡ old ++ uop.Bnez r 0 ∷ []) (eb : b ≡ a ++ code_of flow_uops y (length a))
+    (ea : a ≡ old ++ uop.Bnez r 0 ∷ []) (eb : b ≡ a ++ code_of body_uops y (length a))
     (ec : c ≡ b ++ leave 0) (et : test ≡ length old) (eh : there ≡ length c)
     (ej : jump ≡ length b + 1) where
   abbrev at_x : ℕ
-  at_x = length old + 1 + size flow_uops y + 2
+  at_x = length old + 1 + size body_uops y + 2
 
   abbrev cy : List Uop
-  cy = code_of flow_uops y (length old + 1)
+  cy = code_of body_uops y (length old + 1)
 
   abbrev cx : List Uop
-  cx = code_of flow_uops x at_x
+  cx = code_of body_uops x at_x
 
   abbrev first : Uop
   first = uop.Bnez r there
@@ -115,17 +116,17 @@ module _ (r : ℕ) (x y : FlowOf Part) (old a b c : List Uop) (test there jump p
   abbrev front : List Uop
   front = old ++ first ∷ (cy ++ uop.SetI 7 1 ∷ [])
 
-  long_y : length cy ≡ size flow_uops y
-  long_y = code_long Part flow_uops y (length old + 1)
+  long_y : length cy ≡ size body_uops y
+  long_y = code_long Part body_uops y (length old + 1)
 
   up_to : c ≡ old ++ uop.Bnez r 0 ∷ (cy ++ leave 0)
-  up_to = ec ∙ ap (λ l. l ++ leave 0) (after_one old a b (uop.Bnez r 0) (code_of flow_uops y) ea eb)
+  up_to = ec ∙ ap (λ l. l ++ leave 0) (after_one old a b (uop.Bnez r 0) (code_of body_uops y) ea eb)
       ∙ append_assoc old (uop.Bnez r 0 ∷ cy) (leave 0)
 
-  long_b : length b ≡ length old + 1 + size flow_uops y
+  long_b : length b ≡ length old + 1 + size body_uops y
   long_b = omega (
     arith,
-    ap length (after_one old a b (uop.Bnez r 0) (code_of flow_uops y) ea eb),
+    ap length (after_one old a b (uop.Bnez r 0) (code_of body_uops y) ea eb),
     length-append old (uop.Bnez r 0 ∷ cy),
     long_y,
   )
@@ -139,18 +140,18 @@ module _ (r : ℕ) (x y : FlowOf Part) (old a b c : List Uop) (test there jump p
       ∙ set-append_seam old (uop.Bnez r 0) (cy ++ leave 0) first
 
   module _ (e : List Uop) (ee : e ≡ slice_set c test first
-      ++ code_of flow_uops x (length (slice_set c test first))) (ep : past ≡ length e) where
+      ++ code_of body_uops x (length (slice_set c test first))) (ep : past ≡ length e) where
     long_d : length (slice_set c test first) ≡ at_x
     long_d = length-set c test first ∙ long_c
 
     with_some : e ≡ front ++ uop.Bnez 7 0 ∷ cx
-    with_some = ee ∙ ap (λ q. slice_set c test first ++ code_of flow_uops x q) long_d
+    with_some = ee ∙ ap (λ q. slice_set c test first ++ code_of body_uops x q) long_d
         ∙ ap (λ l. l ++ cx) aimed ∙ append_assoc old (first ∷ (cy ++ leave 0)) cx
         ∙ ap (λ l. old ++ first ∷ l) (append_assoc cy (leave 0) cx
         ∙ sym (append_assoc cy (uop.SetI 7 1 ∷ []) (uop.Bnez 7 0 ∷ cx)))
         ∙ sym (append_assoc old (first ∷ (cy ++ uop.SetI 7 1 ∷ [])) (uop.Bnez 7 0 ∷ cx))
 
-    long_front : length front ≡ length old + 1 + size flow_uops y + 1
+    long_front : length front ≡ length old + 1 + size body_uops y + 1
     long_front = omega (
       arith,
       length-append old (first ∷ (cy ++ uop.SetI 7 1 ∷ [])),
@@ -158,32 +159,32 @@ module _ (r : ℕ) (x y : FlowOf Part) (old a b c : List Uop) (test there jump p
       long_y,
     )
 
-    pub long_e : past ≡ at_x + size flow_uops x
+    pub long_e : past ≡ at_x + size body_uops x
     long_e = omega (
       arith,
       ep,
       ap length with_some,
       length-append front (uop.Bnez 7 0 ∷ cx),
       long_front,
-      code_long Part flow_uops x at_x,
+      code_long Part body_uops x at_x,
     )
 
     pub if_made : (k : FlowOf Part) (new : List Uop)
         → new ≡ slice_set e jump (uop.Bnez 7 past)
-        ++ code_of flow_uops k (length (slice_set e jump (uop.Bnez 7 past)))
-        → new ≡ old ++ code_of flow_uops (If r x y k) (length old)
+        ++ code_of body_uops k (length (slice_set e jump (uop.Bnez 7 past)))
+        → new ≡ old ++ code_of body_uops (If r x y k) (length old)
     if_made k new en =
         let there_is : there ≡ at_x = eh ∙ long_c in
         let jump_is : jump ≡ length front = omega (arith, ej, long_b, long_front) in
         let f = slice_set e jump (uop.Bnez 7 past) in
-        let long_f : length f ≡ at_x + size flow_uops x =
+        let long_f : length f ≡ at_x + size body_uops x =
         length-set e jump (uop.Bnez 7 past) ∙ sym ep ∙ long_e in
-        let ck = code_of flow_uops k (at_x + size flow_uops x) in
+        let ck = code_of body_uops k (at_x + size body_uops x) in
         let is : f ≡ front ++ uop.Bnez 7 past ∷ cx =
         ap (λ l. slice_set l jump (uop.Bnez 7 past)) with_some
         ∙ ap (λ q. slice_set (front ++ uop.Bnez 7 0 ∷ cx) q (uop.Bnez 7 past)) jump_is
         ∙ set-append_seam front (uop.Bnez 7 0) cx (uop.Bnez 7 past) in
-        en ∙ ap (λ q. f ++ code_of flow_uops k q) long_f ∙ ap (λ l. l ++ ck) is
+        en ∙ ap (λ q. f ++ code_of body_uops k q) long_f ∙ ap (λ l. l ++ ck) is
         ∙ append_assoc front (uop.Bnez 7 past ∷ cx) ck
         ∙ append_assoc old (first ∷ (cy ++ uop.SetI 7 1 ∷ [])) (uop.Bnez 7 past ∷ (cx ++ ck))
         ∙ ap (λ l. old ++ first ∷ l)
@@ -221,11 +222,11 @@ loop_emits r top out ts k old a b c new past eo et ea eb bt ep bk = record {
   parts = (bt.parts, bk.parts);
   code =
       let q = length old + 1 + 2 in
-      let cs = λ (t o p : ℕ). turns_code flow_uops r t o bt.coded p in
+      let cs = λ (t o p : ℕ). turns_code body_uops r t o bt.coded p in
       let ct = cs q (length old + 1) q in
       let front = λ (t : ℕ). old ++ uop.Bnez r t ∷ uop.SetI 7 1 ∷ [] in
-      let end = q + turns_size flow_uops bt.coded in
-      let ck = code_of flow_uops bk.coded end in
+      let end = q + turns_size body_uops bt.coded in
+      let ck = code_of body_uops bk.coded end in
       let top_is : top ≡ q = omega (arith, et, eo) in
       let start : b ≡ front top ++ uop.Bnez 7 0 ∷ [] =
       eb ∙ ap (λ l. l ++ leave 0) ea ∙ append_assoc old (uop.Bnez r top ∷ []) (leave 0)
@@ -251,7 +252,7 @@ loop_emits r top out ts k old a b c new past eo et ea eb bt ep bk = record {
         ap length whole,
         length-append (front q) (uop.Bnez 7 0 ∷ ct),
         long_front,
-        turns_long Part flow_uops r q (length old + 1) bt.coded q,
+        turns_long Part body_uops r q (length old + 1) bt.coded q,
       ) in
       let d = slice_set c (out + 1) (uop.Bnez 7 past) in
       let long_d : length d ≡ end = length-set c (out + 1) (uop.Bnez 7 past) ∙ sym ep ∙ past_is in
@@ -260,7 +261,7 @@ loop_emits r top out ts k old a b c new past eo et ea eb bt ep bk = record {
       ∙ ap (λ p. slice_set (front q ++ uop.Bnez 7 0 ∷ ct) p (uop.Bnez 7 past)) at
       ∙ set-append_seam (front q) (uop.Bnez 7 0) ct (uop.Bnez 7 past)
       ∙ ap (λ t. front q ++ uop.Bnez 7 t ∷ ct) past_is in
-      bk.code ∙ ap (λ p. d ++ code_of flow_uops bk.coded p) long_d ∙ ap (λ l. l ++ ck) is
+      bk.code ∙ ap (λ p. d ++ code_of body_uops bk.coded p) long_d ∙ ap (λ l. l ++ ck) is
       ∙ append_assoc (front q) (uop.Bnez 7 end ∷ ct) ck
       ∙ append_assoc old (uop.Bnez r q ∷ uop.SetI 7 1 ∷ []) (uop.Bnez 7 end ∷ (ct ++ ck));
 }
@@ -276,9 +277,9 @@ last_emits r top out x old a b c ea bx ec = record {
   coded = Last bx.coded;
   same = ap Last bx.same;
   parts = bx.parts;
-  code = let cx = code_of flow_uops bx.coded (length old + 1) in
+  code = let cx = code_of body_uops bx.coded (length old + 1) in
       ec ∙ ap (λ l. l ++ uop.Bnez r top ∷ [])
-      (after_one old a b (uop.SubI r 1) (code_of flow_uops bx.coded) ea bx.code)
+      (after_one old a b (uop.SubI r 1) (code_of body_uops bx.coded) ea bx.code)
       ∙ append_assoc old (uop.SubI r 1 ∷ cx) (uop.Bnez r top ∷ []);
 }
 
@@ -292,16 +293,16 @@ turn_emits r top out x ts old a b c d new next ea bx en ec ed bt = record {
       bt.same;
   parts = (bx.parts, bt.parts);
   code =
-      let cx = code_of flow_uops bx.coded (length old + 1) in
-      let test = length old + 1 + size flow_uops bx.coded in
+      let cx = code_of body_uops bx.coded (length old + 1) in
+      let test = length old + 1 + size body_uops bx.coded in
       let q = test + 1 + 2 in
-      let ct = turns_code flow_uops r top out bt.coded q in
-      let eb = after_one old a b (uop.SubI r 1) (code_of flow_uops bx.coded) ea bx.code in
+      let ct = turns_code body_uops r top out bt.coded q in
+      let eb = after_one old a b (uop.SubI r 1) (code_of body_uops bx.coded) ea bx.code in
       let long_b : length b ≡ test = omega (
         arith,
         ap length eb,
         length-append old (uop.SubI r 1 ∷ cx),
-        code_long Part flow_uops bx.coded (length old + 1),
+        code_long Part body_uops bx.coded (length old + 1),
       ) in
       let next_is : next ≡ q = omega (arith, en, long_b) in
       let long_d : length d ≡ q = omega (
@@ -313,7 +314,7 @@ turn_emits r top out x ts old a b c d new next ea bx en ec ed bt = record {
         long_b,
       ) in
       let jump = uop.Bnez r q ∷ [] in
-      bt.code ∙ ap (λ p. d ++ turns_code flow_uops r top out bt.coded p) long_d
+      bt.code ∙ ap (λ p. d ++ turns_code body_uops r top out bt.coded p) long_d
       ∙ ap (λ l. l ++ ct) (ed ∙ ap (λ l. l ++ leave out) (ec
       ∙ ap (λ t. b ++ uop.Bnez r t ∷ []) next_is))
       ∙ append_assoc (b ++ jump) (leave out) ct ∙ append_assoc b jump (leave out ++ ct)
@@ -342,9 +343,9 @@ flowed_emits x old mid new em a =
     ) in
     subst (λ y. EmitsSteps (Flowed y ∷ []) old new) a.same
     (one_step (Flowed f) old new a.parts
-    (a.code ∙ ap (λ q. mid ++ code_of flow_uops f q) long
-    ∙ ap (λ l. l ++ code_of flow_uops f at) (em ∙ ap (λ l. old ++ l) same)
-    ∙ append_assoc old (clear_code f) (code_of flow_uops f at)))
+    (a.code ∙ ap (λ q. mid ++ code_of body_uops f q) long
+    ∙ ap (λ l. l ++ code_of body_uops f at) (em ∙ ap (λ l. old ++ l) same)
+    ∙ append_assoc old (clear_code f) (code_of body_uops f at)))
 
 -- of the first registers those that pass a test get 0
 abbrev pub zeros_to : (ℕ → Bool) → ℕ → List Uop
@@ -367,3 +368,40 @@ one_zero t k b old now new is at more =
     by : (b : Bool) → map (λ r. uop.SetI r 0) (cond b (k ∷ []) []) ≡ cond b (uop.SetI k 0 ∷ []) []
     by true = refl
     by false = refl
+
+-- how much longer a body's code is
+pub body_short : (b : Block) (old new : List Uop) → EmitsBody b old new
+    → length new ≤ length old + body_cost b
+body_short b old new a = omega (
+  arith,
+  ap length a.code,
+  length-append old (body_uops a.made),
+  body_few a.made a.right,
+  ap body_cost a.same,
+)
+
+-- a body that stands in no loop
+pub single_emits : (b : Block) (old new : List Uop) → EmitsBody b old new
+    → EmitsSteps (Single b ∷ []) old new
+single_emits b old new a = subst (λ c. EmitsSteps (Single c ∷ []) old new) a.same
+    (one_step (Single a.made) old new a.right a.code)
+
+-- a body at each position, instruction by instruction
+pub each_emits : (b : Block) (old a c d e f g h i : List Uop) (top out past : ℕ)
+    → a ≡ old ++ uop.SetI 0 0 ∷ [] → c ≡ a ++ uop.SetN 1 ∷ [] → out ≡ length c + 1
+    → top ≡ out + 2 → d ≡ c ++ uop.Bnez 1 top ∷ [] → e ≡ d ++ leave 0
+    → f ≡ e ++ uop.SubI 1 1 ∷ [] → EmitsBody b f g → h ≡ g ++ uop.AddI 0 1 ∷ []
+    → i ≡ h ++ uop.Bnez 1 top ∷ [] → past ≡ length i
+    → EmitsSteps (Along b ∷ []) old (slice_set i (out + 1) (uop.Bnez 7 past))
+unfolding end_emits do_emits put_emits loop_emits last_emits
+each_emits b old a c d e f g h i top out past ea ec eo et ed ee ef bb eh ei ep =
+    let new = slice_set i (out + 1) (uop.Bnez 7 past) in
+    let up = Put (AddI 0 1) End in
+    let turn = do_emits b up f g h bb (put_emits (AddI 0 1) End g h h eh (end_emits h)) in
+    let loop = loop_emits 1 top out (Last (Do b up)) End c d e i new past eo et ed ee
+    (last_emits 1 top out (Do b up) e f h i ef turn ei) ep (end_emits new) in
+    let rest = Loop 1 (Last (Do b up)) End in
+    let all = put_emits (SetI 0 0) (Put (SetN 1) rest) old a new ea
+    (put_emits (SetN 1) rest a c new ec loop) in
+    subst (λ x. EmitsSteps (Along x ∷ []) old new) bb.same
+    (one_step (Along bb.made) old new bb.right all.code)

@@ -6,9 +6,8 @@ use Rattle.std.specs.List.{AllByRecursion}
 use Rattle.std.proofs.lemmas.List.Sums.{sum_by-cons}
 use Rattle.row_alloc.specs.declared.body.BodyCmd.{BodyCmd}
 use Rattle.row_alloc.specs.declared.body.BodyCmd.TheVariants.{Aap, Ap}
-use Rattle.loop_ir.specs.Plain.{Block, InnerOf, StepOf, AllInner, AllStep, AllParts}
-use Rattle.loop_ir.specs.Plain.InnerOf.{Alone, Across}
-use Rattle.loop_ir.specs.Plain.StepOf.{Single, Along, Nest, Flowed}
+use Rattle.loop_ir.specs.Plain.{Block, StepOf, AllStep, AllParts}
+use Rattle.loop_ir.specs.Plain.StepOf.{Single, Along, Flowed}
 use Rattle.loop_ir.specs.Loops.{RoundOf}
 use Rattle.loop_ir.specs.States.{has_states}
 use Rattle.loop_ir.specs.Costs.{carries, is_copy, turn_cost, rounds_cost}
@@ -74,15 +73,9 @@ settled b h = ap (λ c. c || (has_states b || (is_copy b || is_known (word_of b)
 abbrev Carried : Block → Type 0
 Carried b = carries b ≡ true
 
-inners_settled : (xs : List (InnerOf Block)) → AllInner Carried xs → AllInner IsSettled xs
-inners_settled [] h = tt
-inners_settled (Alone b ∷ xs) h = (settled b h.0, inners_settled xs h.1)
-inners_settled (Across c b ∷ xs) h = (settled b h.0, inners_settled xs h.1)
-
 step_settled : (s : StepOf Block) → AllStep Carried s → AllStep IsSettled s
 step_settled (Single b) h = settled b h
 step_settled (Along b) h = settled b h
-step_settled (Nest xs) h = inners_settled xs h
 step_settled (Flowed f) h = flow_among Block Carried IsSettled settled f h
 
 pub all_settled : (ss : List (StepOf Block)) → AllParts Carried ss → AllParts IsSettled ss

@@ -1,4 +1,4 @@
--- The commands of an operation: of each word operation its own, of each block its bodies'.
+-- The commands of an operation whose statements are all word operations.
 use Rattle.std.proofs.Common.{◌≡◌, ℕ, ◌+◌, ◌<◌, ◌≤◌, Bool, true, false, List, [], ◌∷◌, ◌++◌, Option}
 use Rattle.std.proofs.Common.{Some, refl, sym, ap, ◌∙◌}
 use Rattle.std.specs.List.{list_all}
@@ -8,7 +8,7 @@ use Rattle.op_text.specs.declared.word_ops.WordOp.{WordOp}
 use Rattle.op_text.specs.declared.word_ops.WordOp.TheVariants as op
 use Rattle.op_text.specs.Language.{Statement, Compute, Visit, Operation}
 use Rattle.op_text.specs.Meaning.{width}
-use Rattle.op_text.specs.Scratch.{names_width, defines}
+use Rattle.op_text.specs.Scratch.{names_width}
 use Rattle.op_text.specs.declared.tree.Param.{Param}
 use Rattle.op_rules.specs.Meets.{Context, next_context, OperationMeets}
 use Rattle.loop_ir.specs.Plain.{Block, StepOf, AllParts}
@@ -23,7 +23,7 @@ use Rattle.uprog_gen.specs.Costs.{op_aaps, op_aps}
 use Rattle.uprog_gen.specs.Does.{joined}
 use Rattle.uprog_gen.specs.Layout.{IsLayout}
 use Rattle.uprog_gen.specs.Programs.{IsAsWritten, AreWritten}
-use Rattle.uprog_gen.specs.Totals.{is_word, words_total, parts_total, BlocksSettled}
+use Rattle.uprog_gen.specs.Totals.{is_word, words_total}
 use Rattle.uprog_gen.specs.Settled.{turn_aaps, turn_aps, IsSettled}
 use Rattle.uprog_gen.proofs.Coding.Emitted.{parts_both}
 use Rattle.uprog_gen.proofs.Rows.Top.{all_rounds-append}
@@ -85,45 +85,10 @@ sum_joined f n q ps = ap (rounds_sum f) (all_rounds-append n q (joined ps))
 pub record AreExactly (known : List Param) (body : List Statement)
     (ps : List (List (StepOf Block))) : Type 0 where
   pub settled : AllParts IsSettled (joined ps)
-  pub aaps : (n : ℕ) → 0 < n → n ≤ WIDTH_MAX → rounds_sum turn_aaps (all_rounds n (joined ps))
-      ≡ parts_total op_aaps turn_aaps known n body ps
-  pub aps : (n : ℕ) → 0 < n → n ≤ WIDTH_MAX → rounds_sum turn_aps (all_rounds n (joined ps))
-      ≡ parts_total op_aps turn_aps known n body ps
-
--- as many loop programs as statements
-abbrev AsMany : List Statement → List (List (StepOf Block)) → Type 0
-AsMany [] [] = Unit {0}
-AsMany [] (q ∷ ps) = ⊥
-AsMany (s ∷ body) [] = ⊥
-AsMany (s ∷ body) (q ∷ ps) = AsMany body ps
-
-pub as_many : (slots : Slots) (free_bit free_word : ℕ) (body : List Statement)
-    (ps : List (List (StepOf Block))) → AreWritten slots free_bit free_word body ps
-    → AsMany body ps
-as_many slots free_bit free_word [] [] w = tt
-as_many slots free_bit free_word [] (q ∷ ps) w = w
-as_many slots free_bit free_word (s ∷ body) [] w = w
-as_many slots free_bit free_word (s ∷ body) (q ∷ ps) w =
-    as_many slots free_bit free_word body ps w.1
-
--- without blocks it is the word operations' sum, and nothing is to be settled
-pub words_alone : (f : WordOp → ℕ → ℕ) (g : Block → ℕ) (known : List Param) (n : ℕ)
-    (body : List Statement) (ps : List (List (StepOf Block))) → AsMany body ps
-    → list_all is_word body ≡ true
-    → parts_total f g known n body ps ≡ words_total f known n body
-words_alone f g known n [] ps m h = refl
-words_alone f g known n (s ∷ body) [] m h = absurd m
-words_alone f g known n (Visit b ∷ body) (q ∷ ps) m h = absurd (let z : false ≡ true = h in cc)
-words_alone f g known n (Compute target second p args ∷ body) (q ∷ ps) m h =
-    ap (λ x. f p (names_width known n args) + x)
-    (words_alone f g (known ++ defines known (Compute target second p args)) n body ps m h)
-
-pub none_to_settle : (body : List Statement) (ps : List (List (StepOf Block)))
-    → list_all is_word body ≡ true → BlocksSettled body ps
-none_to_settle [] ps h = tt
-none_to_settle (s ∷ body) [] h = tt
-none_to_settle (Visit b ∷ body) (q ∷ ps) h = absurd (let z : false ≡ true = h in cc)
-none_to_settle (Compute target second p args ∷ body) (q ∷ ps) h = none_to_settle body ps h
+  pub aaps : (n : ℕ) → 0 < n → n ≤ WIDTH_MAX
+      → rounds_sum turn_aaps (all_rounds n (joined ps)) ≡ words_total op_aaps known n body
+  pub aps : (n : ℕ) → 0 < n → n ≤ WIDTH_MAX
+      → rounds_sum turn_aps (all_rounds n (joined ps)) ≡ words_total op_aps known n body
 
 module _ (o : Operation) (meets : OperationMeets o) (slots : Slots) (free_bit free_word : ℕ)
     (is : IsLayout o slots free_bit free_word) where
@@ -149,7 +114,7 @@ module _ (o : Operation) (meets : OperationMeets o) (slots : Slots) (free_bit fr
 
   pub all_exactly : (rest : List Statement) (c : Context) → Stage o c rest
       → (ps : List (List (StepOf Block))) → AreWritten slots free_bit free_word rest ps
-      → BlocksSettled rest ps → AreExactly c.known rest ps
+      → list_all is_word rest ≡ true → AreExactly c.known rest ps
   all_exactly [] c st [] w h = record {
     settled = tt;
     aaps = λ n some small. refl;
@@ -157,16 +122,7 @@ module _ (o : Operation) (meets : OperationMeets o) (slots : Slots) (free_bit fr
   }
   all_exactly [] c st (q ∷ ps) w h = absurd w
   all_exactly (s ∷ rest) c st [] w h = absurd w
-  all_exactly (Visit b ∷ rest) c st (q ∷ ps) w h =
-      let s = Visit b in
-      let more = all_exactly rest (next_context c s) (next_stage o c s rest st) ps w.1 h.1 in
-      record {
-        settled = parts_both IsSettled q (joined ps) h.0 more.settled;
-        aaps = λ n some small. sum_joined turn_aaps n q ps
-            ∙ ap (λ x. rounds_sum turn_aaps (all_rounds n q) + x) (more.aaps n some small);
-        aps = λ n some small. sum_joined turn_aps n q ps
-            ∙ ap (λ x. rounds_sum turn_aps (all_rounds n q) + x) (more.aps n some small);
-      }
+  all_exactly (Visit b ∷ rest) c st (q ∷ ps) w h = absurd (let z : false ≡ true = h in cc)
   all_exactly (Compute target second p args ∷ rest) c st (q ∷ ps) w h =
       let s = Compute target second p args in
       let one = one_exactly c target second p args rest st q w.0 in

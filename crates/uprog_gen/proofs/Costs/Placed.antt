@@ -6,7 +6,7 @@ use Rattle.std.specs.Prelude.{◌&&◌, ◌||◌, count_by}
 use Rattle.std.proofs.lemmas.Bool.{and_parts}
 use Rattle.row_alloc.specs.declared.body.BodyCmd.{BodyCmd}
 use Rattle.loop_ir.specs.Plain.{Block, StepOf, AllParts}
-use Rattle.loop_ir.specs.Plain.StepOf.{Single, Along, Nest, Flowed}
+use Rattle.loop_ir.specs.Plain.StepOf.{Single, Along, Flowed}
 use Rattle.loop_ir.specs.Loops.{all_rounds}
 use Rattle.loop_ir.specs.States.{has_states, held_of}
 use Rattle.loop_ir.specs.Costs.{is_copy}
@@ -17,12 +17,11 @@ use Rattle.word_flow.specs.Coded.{is_aap, is_ap}
 use Rattle.uprog_gen.specs.Settled.{word_of, word_commands, held_commands, turn_count, turn_aaps}
 use Rattle.uprog_gen.specs.Settled.{turn_aps, is_known, is_settled, IsSettled}
 
--- each body of a loop program is settled: those of one pass have no nest and no flow
+-- each body of a loop program is settled: those of one pass have no flow
 abbrev pub steps_settle : List (StepOf Block) → Bool
 steps_settle [] = true
 steps_settle (Single b ∷ ss) = is_settled b && steps_settle ss
 steps_settle (Along b ∷ ss) = is_settled b && steps_settle ss
-steps_settle (Nest ps ∷ ss) = false
 steps_settle (Flowed f ∷ ss) = false
 
 module _ (rooms : List Room) (rows : HaveRows rooms) where
@@ -42,7 +41,6 @@ module _ (rooms : List Room) (rows : HaveRows rooms) where
       let p = and_parts (is_settled (placed_body [] b)) (steps_settle (placed_steps [] ss)) h in
       (settled_placed b p.0, settled_steps ss p.1)
   settled_steps (Flowed f ∷ ss) h = cc
-  settled_steps (Nest ps ∷ ss) h = cc
 
   count_like : (f : BodyCmd → Bool) (copy : ℕ) (b : Marked)
       → turn_count f copy (placed_body rooms b) ≡ turn_count f copy (placed_body [] b)

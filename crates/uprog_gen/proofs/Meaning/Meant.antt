@@ -33,7 +33,7 @@ use Rattle.uprog_code.specs.Implements.{Implements}
 use Rattle.loop_ir.specs.declared.ir.Space.TheVariants.{Result, Source}
 use Rattle.loop_ir.specs.declared.names.Slot.{Slot}
 use Rattle.loop_ir.specs.Plain.{StepOf, Block}
-use Rattle.loop_ir.specs.Plain.StepOf.{Single, Along, Nest, Flowed}
+use Rattle.loop_ir.specs.Plain.StepOf.{Single, Along, Flowed}
 use Rattle.uprog_gen.proofs.Coding.FlowMaps.{flow_among}
 use Rattle.loop_ir.specs.Loops.{RoundOf, all_rounds}
 use Rattle.loop_ir.specs.Spots.{Spot, Spots, IsOwn}
@@ -142,7 +142,6 @@ steps_more : (P Q : ℕ → Spot → Type 0) → ((n : ℕ) (q : Spot) → P n q
 steps_more P Q f [] h = tt
 steps_more P Q f (Single b ∷ ss) h = (tt, steps_more P Q f ss h.1)
 steps_more P Q f (Along b ∷ ss) h = (tt, steps_more P Q f ss h.1)
-steps_more P Q f (Nest ps ∷ ss) h = (tt, steps_more P Q f ss h.1)
 steps_more P Q f (Flowed x ∷ ss) h = (
   flow_among Block (HasValues P) (HasValues Q) (values_more P Q f) x h.0,
   steps_more P Q f ss h.1,
@@ -158,7 +157,6 @@ can_more P Q f steps can = record {
   rounds = λ n some small. rounds_more (P n) (Q n) (f n) n (all_rounds n steps)
       (can.rounds n some small);
   size = can.size;
-  few = can.few;
 }
 
 -- the ceiling of each statement, where these names are known

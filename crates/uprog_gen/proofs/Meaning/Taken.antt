@@ -30,11 +30,9 @@ use Rattle.uprog_gen.specs.Does.{joined, IsCheap, AreCheap}
 use Rattle.uprog_gen.specs.Does.{total as sum_of}
 use Rattle.uprog_gen.specs.Layout.{IsLayout}
 use Rattle.uprog_gen.specs.Programs.{HaveForms, AreWritten}
-use Rattle.uprog_gen.specs.Costs.{op_aaps, op_aps}
-use Rattle.uprog_gen.specs.Totals.{AreExact, IsExactOver}
-use Rattle.uprog_gen.specs.Settled.{turn_aaps, turn_aps, IsSettled, rounds_counts}
-use Rattle.uprog_gen.proofs.Costs.Counted.{one_exactly, all_exactly, as_many, words_alone}
-use Rattle.uprog_gen.proofs.Costs.Counted.{none_to_settle}
+use Rattle.uprog_gen.specs.Totals.{AreExact}
+use Rattle.uprog_gen.specs.Settled.{IsSettled, rounds_counts}
+use Rattle.uprog_gen.proofs.Costs.Counted.{one_exactly, all_exactly}
 use Rattle.uprog_gen.proofs.Rows.Top.{both_counts}
 use Rattle.uprog_gen.specs.Graphs.{Graphed, IsGraphOf, AreGraphsOf, op_commands, graphed_ceiling}
 use Rattle.uprog_gen.specs.Graphs.{IsGraphed}
@@ -167,19 +165,6 @@ module _ (op : Operation) (meets : OperationMeets op) (slots : Slots) (free_bit 
       (inl (h.0.cost n some))
       (few_rounds n some small rest (next_context c s) (next_stage op c s rest st) ps h.1 w.1))
 
-  -- the entry takes the commands of its parts
-  pub entry_exact : (ps : List (List (StepOf Block)))
-      → AreWritten slots free_bit free_word op.body ps → (e : Microprogram)
-      → ((n : ℕ) → 0 < n → n ≤ WIDTH_MAX → AllParts IsSettled (joined ps)
-      → counts_of (issues_of (trace e.shape e.code n)) ≡ rounds_counts (all_rounds n (joined ps)))
-      → IsExactOver e op ps
-  entry_exact ps written e exact = record {
-    exact = λ settled n some small.
-        (let all = all_exactly op meets slots free_bit free_word is op.body (at_start op)
-        (first_stage op meets) ps written settled in
-        exact n some small all.settled ∙ both_counts (all.aaps n some small) (all.aps n some small));
-  }
-
   pub entry_graphed : (ps : List (List (StepOf Block))) → HaveForms slots op.body ps
       → AreWritten slots free_bit free_word op.body ps → (e : Microprogram)
       → IsWithin e.shape ps e.code
@@ -193,10 +178,9 @@ module _ (op : Operation) (meets : OperationMeets op) (slots : Slots) (free_bit 
         omega (arith, few n some small k.ceilings k.cheap, k.total));
     exact = record {
       exact = λ words n some small.
-          (let many = as_many slots free_bit free_word op.body ps written in
-          (entry_exact ps written e exact).exact (none_to_settle op.body ps words) n some small
-          ∙ both_counts (words_alone op_aaps turn_aaps op.params n op.body ps many words)
-          (words_alone op_aps turn_aps op.params n op.body ps many words));
+          (let all = all_exactly op meets slots free_bit free_word is op.body (at_start op)
+          (first_stage op meets) ps written words in
+          exact n some small all.settled ∙ both_counts (all.aaps n some small) (all.aps n some small));
     };
   }
 

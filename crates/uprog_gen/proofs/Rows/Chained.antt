@@ -4,15 +4,11 @@ use Rattle.std.proofs.Common.{refl, sym, subst, arith, ◌⊎◌, inl, inr}
 use Rattle.std.specs.Prelude.{◌&&◌}
 use Rattle.std.specs.List.{list_all}
 use Rattle.std.proofs.lemmas.Bool.{and_parts, and_from}
-use Rattle.loop_ir.specs.declared.ir.Count.{Count}
-use Rattle.loop_ir.specs.declared.ir.Count.TheVariants.{All, Rest}
-use Rattle.loop_ir.specs.Plain.{Block, InnerOf, StepOf}
-use Rattle.loop_ir.specs.Plain.InnerOf.{Alone, Across}
-use Rattle.loop_ir.specs.Plain.StepOf.{Single, Along, Nest, Flowed}
-use Rattle.loop_ir.specs.Loops.{RoundOf, one_round, rounds, positions, inner_rounds, all_rounds}
-use Rattle.loop_ir.specs.Loops.{step_rounds, flow_rounds}
-use Rattle.loop_ir.specs.Chains.{states_in, is_alive, finds, left_by, loop_finds, inner_left}
-use Rattle.loop_ir.specs.Chains.{inner_finds, steps_find, chained, flow_finds}
+use Rattle.loop_ir.specs.Plain.{Block, StepOf}
+use Rattle.loop_ir.specs.Plain.StepOf.{Single, Along, Flowed}
+use Rattle.loop_ir.specs.Loops.{RoundOf, one_round, rounds, all_rounds, flow_rounds}
+use Rattle.loop_ir.specs.Chains.{states_in, is_alive, finds, left_by, loop_finds, steps_find}
+use Rattle.loop_ir.specs.Chains.{chained, flow_finds}
 use Rattle.uprog_gen.proofs.Coding.FlowMaps.{one_width}
 use Rattle.bit_rows.specs.declared.TheConstants.{WIDTH_MAX}
 
@@ -83,13 +79,6 @@ nothing alive = record { need = refl; left_in = λ w e. e }
 none_within : (ys : List ℕ) → Within [] ys
 none_within ys w e = absurd (cc)
 
-fewer : (alive left less : List ℕ) (rs : List (RoundOf Block)) → Within less left
-    → Chains alive left rs → Chains alive less rs
-fewer alive left less rs h c = record {
-  need = c.need;
-  left_in = λ w e. c.left_in w (h w e);
-}
-
 once : (alive : List ℕ) (b : Block) (i o : ℕ) → finds alive b ≡ true
     → Chains alive (left_by b) (one_round b i o)
 unfolding left_after
@@ -114,64 +103,6 @@ across alive b o count h some =
     many (λ i. one_round b i o) count alive (left_by b) (λ i l. once alive b i o p.0)
     (λ i l. once (left_by b) b i o p.1) 0 count some (omega arith)
 
--- a nest leaves always the same, or nothing new
-left_kind : (ps : List (InnerOf Block))
-    → ((xs ys : List ℕ) → inner_left xs ps ≡ inner_left ys ps)
-    ⊎ ((xs : List ℕ) → Within (inner_left xs ps) xs)
-left_kind [] = inr (λ xs w e. e)
-left_kind (Alone b ∷ ps) = inl (λ xs ys. refl)
-left_kind (Across c b ∷ ps) = inl (λ xs ys. refl)
-
--- what it leaves is left again where that is found
-left_from : (ps : List (InnerOf Block)) (xs ys : List ℕ) → Within (inner_left xs ps) ys
-    → Within (inner_left xs ps) (inner_left ys ps)
-left_from [] xs ys h = h
-left_from (Alone b ∷ ps) xs ys h = λ w e. e
-left_from (Across c b ∷ ps) xs ys h = λ w e. e
-
-left_again : (ps : List (InnerOf Block)) (alive : List ℕ)
-    → Within (inner_left alive ps) (inner_left (inner_left alive ps) ps)
-left_again ps alive = left_from ps alive (inner_left alive ps) (λ w e. e)
-
-left_back : (ps : List (InnerOf Block)) (alive : List ℕ)
-    → Within (inner_left (inner_left alive ps) ps) (inner_left alive ps)
-left_back ps alive = elim (left_kind ps) [
-  | inl same ↦ (λ w e. subst (λ l. is_alive w l ≡ true) (same (inner_left alive ps) alive) e)
-  | inr old ↦ old (inner_left alive ps)
-]
-
-across_count : (n o : ℕ) (c : Count) (alive : List ℕ) (b : Block) → o < n
-    → loop_finds alive b ≡ true
-    → Chains alive (left_by b) (rounds (λ i. one_round b i o) 0 (positions n o c))
-across_count n o All alive b l h = across alive b o n h (omega arith)
-across_count n o Rest alive b l h = across alive b o (n - o) h (omega arith)
-
-inners : (n o : ℕ) (ps : List (InnerOf Block)) (alive : List ℕ) → o < n
-    → inner_finds alive ps ≡ true → Chains alive (inner_left alive ps) (inner_rounds n o ps)
-inners n o [] alive l h = nothing alive
-inners n o (Alone b ∷ ps) alive l h =
-    let p = and_parts (finds alive b) (inner_finds (left_by b) ps) h in
-    join alive (left_by b) (inner_left (left_by b) ps) (one_round b 0 o) (inner_rounds n o ps)
-    (once alive b 0 o p.0) (inners n o ps (left_by b) l p.1)
-inners n o (Across c b ∷ ps) alive l h =
-    let p = and_parts (loop_finds alive b) (inner_finds (left_by b) ps) h in
-    join alive (left_by b) (inner_left (left_by b) ps)
-    (rounds (λ i. one_round b i o) 0 (positions n o c)) (inner_rounds n o ps)
-    (across_count n o c alive b l p.0) (inners n o ps (left_by b) l p.1)
-
-module _ (n : ℕ) (ps : List (InnerOf Block)) (alive : List ℕ)
-    (finds_first : inner_finds alive ps ≡ true)
-    (finds_again : inner_finds (inner_left alive ps) ps ≡ true) where
-  abbrev Mid : List ℕ
-  Mid = inner_left alive ps
-
-  nested : 0 < n → Chains alive (inner_left Mid ps) (step_rounds n (Nest ps))
-  nested some = fewer alive Mid (inner_left Mid ps) (rounds (λ j. inner_rounds n j ps) 0 n)
-      (left_back ps alive)
-      (many (λ j. inner_rounds n j ps) n alive Mid (λ j l. inners n j ps alive l finds_first)
-      (λ j l. fewer Mid (inner_left Mid ps) Mid (inner_rounds n j ps) (left_again ps alive)
-      (inners n j ps Mid l finds_again)) 0 n some (omega arith))
-
 pub steps_chained : (n : ℕ) (ss : List (StepOf Block)) (alive : List ℕ) → 0 < n → n ≤ WIDTH_MAX
     → steps_find alive ss ≡ true → chained alive (all_rounds n ss) ≡ true
 steps_chained n [] alive some small h = refl
@@ -188,16 +119,6 @@ steps_chained n (Along b ∷ ss) alive some small h =
     both_chained rs (all_rounds n ss) alive c.need
     (more_chained (all_rounds n ss) (left_by b) (left_after alive rs) c.left_in
     (steps_chained n ss (left_by b) some small p.1))
-steps_chained n (Nest ps ∷ ss) alive some small h =
-    let mid = inner_left alive ps in
-    let left = inner_left mid ps in
-    let rs = step_rounds n (Nest ps) in
-    let p = and_parts (inner_finds alive ps) (inner_finds mid ps && steps_find left ss) h in
-    let q = and_parts (inner_finds mid ps) (steps_find left ss) p.1 in
-    let c = nested n ps alive p.0 q.0 some in
-    both_chained rs (all_rounds n ss) alive c.need
-    (more_chained (all_rounds n ss) left (left_after alive rs) c.left_in
-    (steps_chained n ss left some small q.1))
 steps_chained n (Flowed f ∷ ss) alive some small h =
     let p = and_parts (flow_finds f) (steps_find [] ss) h in
     let rs = flow_rounds n f in
@@ -213,23 +134,6 @@ loop_still b xs ys w h =
     let p = and_parts (finds xs b) (finds (left_by b) b) h in
     and_from (finds ys b) (finds (left_by b) b) (more_find (states_in b.reads) xs ys w p.0) p.1
 
-inner_still : (ps : List (InnerOf Block)) (xs ys : List ℕ) → Within xs ys
-    → inner_finds xs ps ≡ true → inner_finds ys ps ≡ true
-inner_still [] xs ys w h = refl
-inner_still (Alone b ∷ ps) xs ys w h =
-    let p = and_parts (finds xs b) (inner_finds (left_by b) ps) h in
-    and_from (finds ys b) (inner_finds (left_by b) ps)
-    (more_find (states_in b.reads) xs ys w p.0) p.1
-inner_still (Across c b ∷ ps) xs ys w h =
-    let p = and_parts (loop_finds xs b) (inner_finds (left_by b) ps) h in
-    and_from (loop_finds ys b) (inner_finds (left_by b) ps) (loop_still b xs ys w p.0) p.1
-
-inner_within : (ps : List (InnerOf Block)) (xs ys : List ℕ) → Within xs ys
-    → Within (inner_left xs ps) (inner_left ys ps)
-inner_within [] xs ys w = w
-inner_within (Alone b ∷ ps) xs ys w = λ v e. e
-inner_within (Across c b ∷ ps) xs ys w = λ v e. e
-
 still_find : (ss : List (StepOf Block)) (xs ys : List ℕ) → Within xs ys
     → steps_find xs ss ≡ true → steps_find ys ss ≡ true
 still_find [] xs ys w h = refl
@@ -240,17 +144,6 @@ still_find (Single b ∷ ss) xs ys w h =
 still_find (Along b ∷ ss) xs ys w h =
     let p = and_parts (loop_finds xs b) (steps_find (left_by b) ss) h in
     and_from (loop_finds ys b) (steps_find (left_by b) ss) (loop_still b xs ys w p.0) p.1
-still_find (Nest ps ∷ ss) xs ys w h =
-    let m = inner_left xs ps in
-    let k = inner_left ys ps in
-    let v = inner_within ps xs ys w in
-    let a = inner_left m ps in
-    let b = inner_left k ps in
-    let p = and_parts (inner_finds xs ps) (inner_finds m ps && steps_find a ss) h in
-    let q = and_parts (inner_finds m ps) (steps_find a ss) p.1 in
-    and_from (inner_finds ys ps) (inner_finds k ps && steps_find b ss) (inner_still ps xs ys w p.0)
-    (and_from (inner_finds k ps) (steps_find b ss) (inner_still ps m k v q.0)
-    (still_find ss a b (inner_within ps m k v) q.1))
 still_find (Flowed f ∷ ss) xs ys w h = h
 
 -- steps that need no state from before may stand after any
@@ -265,13 +158,6 @@ find_both (Along b ∷ ss) ys alive h k =
     let p = and_parts (loop_finds alive b) (steps_find (left_by b) ss) h in
     and_from (loop_finds alive b) (steps_find (left_by b) (ss ++ ys)) p.0
     (find_both ss ys (left_by b) p.1 k)
-find_both (Nest ps ∷ ss) ys alive h k =
-    let m = inner_left alive ps in
-    let left = inner_left m ps in
-    let p = and_parts (inner_finds alive ps) (inner_finds m ps && steps_find left ss) h in
-    let q = and_parts (inner_finds m ps) (steps_find left ss) p.1 in
-    and_from (inner_finds alive ps) (inner_finds m ps && steps_find left (ss ++ ys)) p.0
-    (and_from (inner_finds m ps) (steps_find left (ss ++ ys)) q.0 (find_both ss ys left q.1 k))
 find_both (Flowed f ∷ ss) ys alive h k =
     let p = and_parts (flow_finds f) (steps_find [] ss) h in
     and_from (flow_finds f) (steps_find [] (ss ++ ys)) p.0 (find_both ss ys [] p.1 k)

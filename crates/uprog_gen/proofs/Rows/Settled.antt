@@ -12,10 +12,8 @@ use Rattle.row_alloc.specs.declared.body.BodyCmd.{BodyCmd}
 use Rattle.row_alloc.specs.declared.body.BodyCmd.TheVariants.{Aap, Ap}
 use Rattle.row_alloc.specs.Known.{WordBody, Inverted, Both, Either, Unlike, Chosen, Added}
 use Rattle.row_alloc.specs.Known.{inputs_in, nodes_in, outs_in}
-use Rattle.loop_ir.specs.Plain.{Block, InnerOf, StepOf, inner_map, step_map, AllInner, AllStep}
-use Rattle.loop_ir.specs.Plain.{AllParts}
-use Rattle.loop_ir.specs.Plain.InnerOf.{Alone, Across}
-use Rattle.loop_ir.specs.Plain.StepOf.{Single, Along, Nest, Flowed}
+use Rattle.loop_ir.specs.Plain.{Block, StepOf, step_map, AllStep, AllParts}
+use Rattle.loop_ir.specs.Plain.StepOf.{Single, Along, Flowed}
 use Rattle.uprog_gen.proofs.Coding.FlowMaps.{flow_parts}
 use Rattle.loop_ir.specs.Loops.{RoundOf}
 use Rattle.loop_ir.specs.States.{has_states, held_of}
@@ -66,17 +64,10 @@ part_count f one copies p is settled =
         ap (count_by f) (is.word bare e w same.0 same.1)
 
 -- what holds of the bodies holds of the parts
-inner_parts : (P : Block → Type 0) (xs : List (InnerOf Part))
-    → AllInner P (map (inner_map block_of_part) xs) → AllInner (λ p. P p.block) xs
-inner_parts P [] h = tt
-inner_parts P (Alone p ∷ xs) h = (h.0, inner_parts P xs h.1)
-inner_parts P (Across c p ∷ xs) h = (h.0, inner_parts P xs h.1)
-
 step_parts : (P : Block → Type 0) (s : StepOf Part) → AllStep P (step_map block_of_part s)
     → AllStep (λ p. P p.block) s
 step_parts P (Single p) h = h
 step_parts P (Along p) h = h
-step_parts P (Nest xs) h = inner_parts P xs h
 step_parts P (Flowed f) h = flow_parts Part Block block_of_part P f h
 
 pub of_blocks : (P : Block → Type 0) (ss : List (StepOf Part)) → AllParts P (blocks ss)

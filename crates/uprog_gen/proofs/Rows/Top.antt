@@ -14,15 +14,13 @@ use Rattle.uprog_code.specs.declared.walker.Counts.{Counts}
 use Rattle.uprog_code.specs.Count.{counts_of, issues_aap, issues_ap}
 use Rattle.uprog_code.specs.Bound.{Bound, bound}
 use Rattle.uprog_code.specs.Machine.{Issue, IssueAap, IssueAp, Ended, trace, HasEnded, issues_of}
-use Rattle.loop_ir.specs.Loops.{rounds, RoundOf, one_round, positions, inner_rounds, step_rounds}
-use Rattle.loop_ir.specs.Loops.{all_rounds}
+use Rattle.loop_ir.specs.Loops.{rounds, RoundOf, one_round, step_rounds, all_rounds}
 use Rattle.uprog_code.specs.Fits.{Fits, IsTouched}
 use Rattle.loop_ir.specs.declared.ir.Space.{Space}
 use Rattle.loop_ir.specs.declared.ir.Space.TheVariants.{Result, Source, ScratchBit, ScratchWord}
 use Rattle.loop_ir.specs.declared.ir.Space.TheVariants.{Cells}
-use Rattle.loop_ir.specs.Plain.{Block, InnerOf, StepOf, AllInner, AllStep, AllParts}
-use Rattle.loop_ir.specs.Plain.InnerOf.{Alone, Across}
-use Rattle.loop_ir.specs.Plain.StepOf.{Single, Along, Nest, Flowed}
+use Rattle.loop_ir.specs.Plain.{Block, StepOf, AllStep, AllParts}
+use Rattle.loop_ir.specs.Plain.StepOf.{Single, Along, Flowed}
 use Rattle.loop_ir.specs.Flows.{zeros}
 use Rattle.loop_laws.proofs.FlowRounds.{run_all}
 use Rattle.loop_laws.proofs.RoundsMap.{all_rounds_map}
@@ -43,7 +41,8 @@ use Rattle.uprog_gen.proofs.Rows.Chained.{steps_chained}
 use Rattle.uprog_gen.proofs.Rows.Agree.{AreRounds, IsMine, rounds_agree, rounds_keep}
 use Rattle.uprog_gen.proofs.Rows.Laid.{laid, value_among, bit_among, word_among}
 use Rattle.uprog_gen.proofs.Rows.Ranges.{commands_range}
-use Rattle.uprog_gen.proofs.Running.Program.{IsGood, program_trace}
+use Rattle.uprog_gen.proofs.Running.Held.{InRange}
+use Rattle.uprog_gen.proofs.Running.Program.{program_trace}
 use Rattle.bit_rows.specs.declared.TheConstants.{WIDTH_MAX}
 
 pub all_blocks : (n : ℕ) (ss : List (StepOf Part))
@@ -66,20 +65,9 @@ module _ (A : Type 0) (P : A → Type 0) where
   abbrev In : RoundOf A → Type 0
   In r = P r.part
 
-  inner_parts : (n o : ℕ) (xs : List (InnerOf A)) → AllInner P xs
-      → AllByRecursion In (inner_rounds n o xs)
-  inner_parts n o [] h = tt
-  inner_parts n o (Alone p ∷ xs) h = (h.0, inner_parts n o xs h.1)
-  inner_parts n o (Across count p ∷ xs) h = all_both In
-      (rounds (λ i. one_round p i o) 0 (positions n o count)) (inner_rounds n o xs)
-      (all_rounds_of In (λ i. one_round p i o) (λ i. (h.0, tt)) 0 (positions n o count))
-      (inner_parts n o xs h.1)
-
   step_parts : (n : ℕ) (s : StepOf A) → AllStep P s → AllByRecursion In (step_rounds n s)
   step_parts n (Single p) h = (h, tt)
   step_parts n (Along p) h = all_rounds_of In (λ i. one_round p i 0) (λ i. (h, tt)) 0 n
-  step_parts n (Nest parts) h = all_rounds_of In (λ o. inner_rounds n o parts) (λ o.
-      inner_parts n o parts h) 0 n
   step_parts n (Flowed f) h = run_all A P n f h zeros
 
   pub in_rounds : (n : ℕ) (ss : List (StepOf A)) → AllParts P ss
@@ -89,17 +77,13 @@ module _ (A : Type 0) (P : A → Type 0) where
       (in_rounds n ss h.1)
 
 module _ (head : Shape) (n : ℕ) where
-  good : (rs : List (RoundOf Part)) → AllByRecursion (IsRound (IsSpot head n) n)
+  ranges : (rs : List (RoundOf Part)) → AllByRecursion (IsRound (IsSpot head n) n)
       (map block_round rs) → AllByRecursion (λ r. IsPart r.part) rs
-      → AllByRecursion (IsGood head n) rs
-  good [] is part = tt
-  good (r ∷ rs) is part = (
-    record {
-      planned = part.0.planned;
-      ranges =
-          commands_range head n r is.0 part.0 r.part.cmds part.0.does.legal part.0.does.unread;
-    },
-    good rs is.1 part.1,
+      → AllByRecursion (InRange head n) rs
+  ranges [] is part = tt
+  ranges (r ∷ rs) is part = (
+    commands_range head n r is.0 part.0 r.part.cmds part.0.does.legal part.0.does.unread,
+    ranges rs is.1 part.1,
   )
 
   are : (rows : ℕ) (b : Bound) (fits : Fits rows head n b) (rs : List (RoundOf Part))
@@ -184,7 +168,7 @@ pub program_issues : (head : Shape) (n : ℕ) (ss : List (StepOf Part)) → 0 < 
 program_issues head n ss some small short parts is stand =
     let rs = all_rounds n ss in
     let is' = subst (AllByRecursion (IsRound (IsSpot head n) n)) (all_blocks n ss) is in
-    program_trace head n ss some small short (good head n rs is' (in_rounds Part IsPart n ss parts))
+    program_trace head n ss some small short (ranges head n rs is' (in_rounds Part IsPart n ss parts))
     stand
 
 pub all_rounds-append : {A : Type 0} (n : ℕ) (xs ys : List (StepOf A))

@@ -13,9 +13,7 @@ use Rattle.uprog_code.specs.declared.code.Uop.{Uop}
 use Rattle.uprog_code.specs.declared.code.Uop.TheVariants.{SetI}
 use Rattle.loop_ir.specs.declared.ir.Place.{Place}
 use Rattle.loop_ir.specs.declared.ir.Sub.{Sub}
-use Rattle.loop_ir.specs.declared.ir.Sub.TheVariants.{Zero, Top, Inner as At_inner, InnerDown}
-use Rattle.loop_ir.specs.declared.ir.Sub.TheVariants.{Outer, OuterDown, Sum, DownSum, DownPlusN}
-use Rattle.loop_ir.specs.declared.ir.Sub.TheVariants.{NPlusInner, Register}
+use Rattle.loop_ir.specs.declared.ir.Sub.TheVariants.{Zero, Inner as At_inner, InnerDown, Register}
 use Rattle.loop_ir.specs.Plain.{Block}
 use Rattle.loop_ir.specs.Plain.StepOf.{Flowed}
 use Rattle.loop_ir.specs.Flows.{FlowOf, EventOf, flow_map, zeros, run, all_flow}
@@ -25,8 +23,7 @@ use Rattle.loop_ir.specs.Loops.{RoundOf, sub_value, rounds_in, flow_rounds}
 use Rattle.loop_ir.specs.Limits.{is_in_register, stays_in_registers, flow_stands}
 use Rattle.loop_ir.specs.Spots.{nth_place}
 use Rattle.loop_laws.proofs.FlowRounds.{run_map, run_all}
-use Rattle.uprog_gen.specs.Code.{Part, block_of_part, named_register, flow_plan, flow_uops}
-use Rattle.uprog_gen.specs.Code.{clear_code, step_code}
+use Rattle.uprog_gen.specs.Code.{Part, block_of_part, register, body_uops, clear_code, step_code}
 use Rattle.uprog_gen.specs.FlowCode.{code_of, size as flow_long}
 use Rattle.uprog_gen.proofs.Coding.FlowSizes.{limit, code_long, twice}
 use Rattle.uprog_gen.proofs.Coding.FlowMaps.{one_width, counts_map, nests_map, names_map, cleared_map}
@@ -44,21 +41,14 @@ IsOf t q = (q < 7) × (t q ≡ true)
 
 -- the register of a place's subscript holds it
 in_register : (t : ℕ → Bool) (n : ℕ) (g h : List ℕ) (s : Sub) → Alike (IsOf t) g h
-    → is_in_register t s ≡ true → slice_index h (named_register s) ≡ sub_value n 0 0 g s
+    → is_in_register t s ≡ true → slice_index h (register s) ≡ sub_value n 0 0 g s
 in_register t n g h Zero a e = get_or_past h 8 0 (omega (arith, a.code))
 in_register t n g h (Register r) a e =
     let p = and_parts (nat_lt r 7) (t r) e in
     let lt = ltb-true r 7 p.0 in
     ap (λ c. slice_index h (cond c r 8)) (lt-ltb r 8 (omega (arith, lt))) ∙ a.same r (lt, p.1)
-in_register t n g h Top a e = cc
 in_register t n g h At_inner a e = cc
 in_register t n g h InnerDown a e = cc
-in_register t n g h Outer a e = cc
-in_register t n g h OuterDown a e = cc
-in_register t n g h Sum a e = cc
-in_register t n g h DownSum a e = cc
-in_register t n g h DownPlusN a e = cc
-in_register t n g h NPlusInner a e = cc
 
 module _ (t : ℕ → Bool) where
   abbrev is_there : Place → Bool
@@ -79,7 +69,7 @@ module _ (t : ℕ → Bool) where
       (and_parts (is_there x) (list_all is_there (xs ++ ys)) h).1 k
 
   named : (n : ℕ) (b : Block) (g h : List ℕ) → stays_in_registers t b ≡ true
-      → Alike (IsOf t) g h → Names n flow_plan b 0 0 g h
+      → Alike (IsOf t) g h → Names n b 0 0 g h
   named n b g h stays a = record {
     reads = λ k. in_register t n g h (nth_place b.reads k).sub a
         (there_front b.reads b.writes stays k);
@@ -183,7 +173,7 @@ module _ (head : Shape) (code : List Uop) (n : ℕ) (t : ℕ → Bool) where
   of_low q of = of.0
 
   issues_rounds : (es : List (EventOf Part))
-      → issues head Part flow_uops issued_by n code (IsOf t) of_low es
+      → issues head Part body_uops issued_by n code (IsOf t) of_low es
       ≡ rounds_commands n (rounds_in es)
   unfolding issues
   issues_rounds [] = refl
@@ -196,10 +186,10 @@ module _ (head : Shape) (code : List Uop) (n : ℕ) (t : ℕ → Bool) where
 
   fine : (es : List (EventOf Part)) → AllByRecursion (InRange head n) (rounds_in es)
       → AllByRecursion Stays (rounds_in es) → list_all (is_event_safe n) es ≡ true
-      → AllByRecursion (IsFine head Part flow_uops issued_by n code (IsOf t) of_low) es
+      → AllByRecursion (IsFine head Part body_uops issued_by n code (IsOf t) of_low) es
   fine [] ok stays safe = tt
   fine (Done p g ∷ es) ok stays safe = (
-    λ h pc a has. run_body head code n p flow_plan 0 0 g (Alike (IsOf t) g) p.cmds pc h
+    λ h pc a has. run_body head code n p 0 0 g (Alike (IsOf t) g) p.cmds pc h
         (named t n p.block g h stays.0 a) a has ok.0,
     fine es ok.1 stays.1 safe,
   )
@@ -230,7 +220,7 @@ run_flow head code n some small f pc regs size_is short stand has ok =
     let zs = zero_code head code n t 0 7 in
     let z = length zs in
     let start = pc + length (cleared f) in
-    let is = code_of flow_uops f start in
+    let is = code_of body_uops f start in
     let here : clear_code f ≡ zs = ap (map (λ r. SetI r 0)) (sym same) in
     let z_is : z ≡ length (cleared f) = omega (
       arith,
@@ -238,13 +228,13 @@ run_flow head code n some small f pc regs size_is short stand has ok =
       length-map (cleared f) (λ r. SetI r 0),
     ) in
     let at : pc + z ≡ start = omega (arith, z_is) in
-    let long : length (step_code (Flowed f) pc) ≡ z + flow_long flow_uops f = omega (
+    let long : length (step_code (Flowed f) pc) ≡ z + flow_long body_uops f = omega (
       arith,
       length-append (clear_code f) is,
       ap length here,
-      code_long Part flow_uops f start,
+      code_long Part body_uops f start,
     ) in
-    let most = twice Part flow_uops n small f (sym (nests_map Part Block block_of_part 2 f) ∙ v.0)
+    let most = twice Part body_uops n small f (sym (nests_map Part Block block_of_part 2 f) ∙ v.0)
     (omega (arith, long, short)) in
     let safe : list_all (is_event_safe n) es ≡ true =
     sym (safe_map Part Block block_of_part n es)
@@ -254,26 +244,26 @@ run_flow head code n some small f pc regs size_is short stand has ok =
     (flow_tested Part Block block_of_part (stays_in_registers t) f w.0) zeros in
     let forms = of_named Part (IsOf t) f (sym (counts_map Part Block block_of_part f) ∙ s.0)
     (λ r lt e. (lt, names_map Part Block block_of_part r f ∙ e)) in
-    let end : start + flow_long flow_uops f ≡ pc + length (step_code (Flowed f) pc) =
+    let end : start + flow_long body_uops f ≡ pc + length (step_code (Flowed f) pc) =
     omega (arith, long, z_is) in
     let has_is = has_back code pc (clear_code f) is has in
     let at_is : pc + length (clear_code f) ≡ start = omega (
       arith,
       length-map (cleared f) (λ r. SetI r 0),
     ) in
-    run_at head code n pc (start + flow_long flow_uops f) (pc + length (step_code (Flowed f) pc)) regs
+    run_at head code n pc (start + flow_long body_uops f) (pc + length (step_code (Flowed f) pc)) regs
     _ _ _ end
-    (run_more head code n pc (start + flow_long flow_uops f) regs (z + limit flow_uops n f) _ _ _
+    (run_more head code n pc (start + flow_long body_uops f) regs (z + limit body_uops n f) _ _ _
     (omega (arith, most, long))
-    (subst (λ l. Runs head code n pc regs (z + limit flow_uops n f) l
-    (start + flow_long flow_uops f) (λ r. length r ≡ 8)) (issues_rounds head code n t es)
-    (run_then head code n pc start (start + flow_long flow_uops f) z (limit flow_uops n f)
-    (z + limit flow_uops n f) regs [] _ (Alike (IsOf t) zeros) (λ r. length r ≡ 8) refl
+    (subst (λ l. Runs head code n pc regs (z + limit body_uops n f) l
+    (start + flow_long body_uops f) (λ r. length r ≡ 8)) (issues_rounds head code n t es)
+    (run_then head code n pc start (start + flow_long body_uops f) z (limit body_uops n f)
+    (z + limit body_uops n f) regs [] _ (Alike (IsOf t) zeros) (λ r. length r ≡ 8) refl
     (run_at head code n pc (pc + z) start regs z [] (Alike (IsOf t) zeros) at
     (run_clear head code n t pc regs size_is
     (subst (HasAt code pc) here (has_front code pc (clear_code f) is has))))
-    (λ r a. run_weaken head code n start (start + flow_long flow_uops f) r (limit flow_uops n f) _
+    (λ r a. run_weaken head code n start (start + flow_long body_uops f) r (limit body_uops n f) _
     (Alike (IsOf t) (run n f zeros).regs) (λ r. length r ≡ 8) (λ x y. y.code)
-    (flow_runs head Part flow_uops (issued_by head code n t) n code (IsOf t) (of_low head code n t) f
+    (flow_runs head Part body_uops (issued_by head code n t) n code (IsOf t) (of_low head code n t) f
     start zeros r forms a
     (subst (λ q. HasAt code q is) at_is has_is) (fine head code n t es ok stays safe))))))

@@ -3,9 +3,6 @@ use Rattle.guard_model.specs.declared.Flip.{Flip}
 use Rattle.guard_model.specs.Flips.{all_flipped, due}
 use Rattle.guard_job.proofs.Due.{cells_after, log_goes_on, no_more_log, not_due}
 use Rattle.guard_job.proofs.Due.{one_due, sorted_after}
-use Rattle.tmr_guard.proofs.Left.{on_err_always}
-use Rattle.transpose_unit.proofs.Stopping.{stopped_first}
-use Rattle.guard_job.proofs.Left.{flip_failed}
 use Rattle.guard_job.specs.Parts.{IsCell}
 use Rattle.guard_job.proofs.flipping.flip_due.Goals as goal
 
@@ -41,7 +38,6 @@ flips-preserved g c =
       stage = search rules;
       borrow = search rules;
       kept = search rules;
-      faults = search rules;
       counters = search rules;
       count = search rules;
       banks = search rules;
@@ -49,18 +45,8 @@ flips-preserved g c =
           (g.D.Dram.view c.args.chip.now) (g.D.Dram.view c.flips.chip)
           (g.D.Dram.view c.do_flip.new.dram) left c.in_ok-do_flip.ensures.banks
           c.in_ok-do_flip.ensures.log c.flips.invariant.log;
-      stops = λ last s. flip_failed (get_or flips c.flips.done any)
-          (due c.args.k (drop (c.flips.done + 1) flips)) _
-          (g.D.Dram.view c.args.chip.now).banks (g.D.Dram.view c.flips.chip).banks
-          (g.D.Dram.view c.do_flip.new.dram).banks last _ left c.in_ok-do_flip.ensures.banks
-          (c.flips.invariant.stops last) s;
       sorted = sorted_after c.args.k flips c.flips.done _ c.flips-test.true c.if-flips-done.true
           c.flips.invariant.sorted;
       cells = cells_after (IsCell (g.D.Dram.view c.args.chip.now).geometry) flips c.flips.done any
           c.flips-test.true c.flips.invariant.cells;
     }
-
-pub returns-in_err-do_flip-clause-left : goal.returns-in_err-do_flip-clause-left
-returns-in_err-do_flip-clause-left g c =
-    on_err_always _ (c.flips.invariant.stops _ (stopped_first _ _ (g.D.Dram.view c.flips.chip).banks
-    (g.D.Dram.view c.do_flip.new.dram).banks c.in_err-do_flip.ensures.others))

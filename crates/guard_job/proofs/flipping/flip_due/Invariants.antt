@@ -1,7 +1,6 @@
 use Rattle.std.proofs.Common.{◌≡◌, ◌+◌, ◌≤◌, ◌-◌, drop, length}
 use Rattle.std.specs.List.{AllByRecursion}
-use Rattle.dram_model.specs.Chip.{Banks, Grew}
-use Rattle.transpose_unit.specs.Stopped.{StoppedWithin}
+use Rattle.dram_model.specs.Chip.{Grew}
 use Rattle.dram_model.specs.View.{ChipView, Kept}
 use Rattle.guard_model.specs.Flips.{all_flipped, due}
 use Rattle.guard_model.specs.FlipText.{AreSorted}
@@ -21,14 +20,11 @@ invariant-flips g l =
       stage : length l.stage ≡ length l.initial.stage;
       borrow : D.borrow l.chip ≡ D.borrow l.initial.chip;
       kept : Kept start now;
-      faults : now.faults ≡ start.faults;
       counters : now.counters ≡ after_flips l.done start.counters;
       count : l.done + length (due l.k left) ≡ length (due l.k l.flips);
       banks : all_flipped (due l.k left) now.banks ≡ all_flipped (due l.k l.flips) start.banks;
       log : (new : ChipView) → Grew now.log new.log (flip_events (due l.k left) now.banks)
           → Grew start.log new.log (flip_events (due l.k l.flips) start.banks);
-      stops : (last : Banks) → StoppedWithin (flip_events (due l.k left) now.banks) now.banks last
-          → StoppedWithin (flip_events (due l.k l.flips) start.banks) start.banks last;
       sorted : AreSorted l.k left;
       cells : AllByRecursion (IsCell start.geometry) left;
     }

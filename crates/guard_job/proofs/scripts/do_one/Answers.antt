@@ -1,28 +1,18 @@
-use Rattle.std.proofs.Common.{ℕ, List, refl}
-use Rattle.std.specs.Prelude.{Err, Option}
-use Rattle.dram_model.specs.View.{ChipView}
-use Rattle.bbop_isa.specs.Forms.{Instruction, view_of}
+use Rattle.std.proofs.Common.{refl}
+use Rattle.std.specs.Prelude.{Err}
+use Rattle.bbop_isa.specs.Forms.{view_of}
 use Rattle.cli_model.specs.Steps.{Done}
-use Rattle.cli_model.specs.Waves.{ChipUse, doing}
 use Rattle.machine_model.specs.Report.{line}
 use Rattle.machine_model.specs.Script.{is_refused}
-use Rattle.sim_machine.specs.declared.machine.Machine.{Machine}
-use Rattle.sim_machine.specs.Machine.{geometry_of, is_print, operations_by, table_in, turn_in}
-use Rattle.guard_model.specs.declared.Flip.{Flip}
+use Rattle.sim_machine.specs.Machine.{geometry_of, is_print, operations_by, table_in}
 use Rattle.guard_model.specs.Flips.{due}
-use Rattle.guard_model.specs.Guarded.{guarded_events, guarded_said_by, mended}
+use Rattle.guard_model.specs.Guarded.{guarded_said_by, mended}
 use Rattle.tmr_guard.specs.Steps.{machine_in}
 use Rattle.guard_job.specs.declared.scripts.One.{One}
-use Rattle.guard_job.specs.Events.{mend_events}
 use Rattle.guard_job.specs.Steps.{end_by, line_steps}
-use Rattle.guard_job.proofs.Doing.{Stepped, byte_is, done_by, holds_of, read_by}
-use Rattle.guard_job.proofs.Sending.{and_then, left_by, line_done, line_failed, unused}
+use Rattle.guard_job.proofs.Doing.{Stepped, byte_is, done_by, holds_of}
+use Rattle.guard_job.proofs.Sending.{and_then, line_done, line_failed}
 use Rattle.guard_job.proofs.scripts.do_one.Goals as goal
-
--- what the chip is used for by the instruction itself
-abbrev own_use : Machine → ℕ → List Flip → Instruction → ChipView → Option ChipUse
-own_use m k flips i old = doing (mended (geometry_of m) flips k (table_in m) old.banks)
-    (guarded_events (geometry_of m) (operations_by m) (turn_in m) (table_in m) i)
 
 pub returns-in-Ok-step-clause-done : goal.returns-in-Ok-step-clause-done
 returns-in-Ok-step-clause-done g c =
@@ -54,14 +44,10 @@ returns-in-Ok-step-clause-goes g c files =
     let said = rw (c.mend.ensures.same, c.in-Ok.ensures.done.banks) at s.sent in
     let bytes = line k (guarded_said_by (geometry_of m) (operations_by m) (table_in m)
     (mended (geometry_of m) c.args.flips.now k (table_in m) (V c.args.chip.now).banks) i) in
-    let now = due k c.args.flips.now in
-    let old = V c.args.chip.now in
-    let on = own_use m k c.args.flips.now i old in
-    and_then (doing old.banks (mend_events (geometry_of m) now (table_in m) old.banks))
-    (line_steps on (is_print i) bytes) Done files (W c.args.out.now) (W c.step.new.out)
-    old (V c.mend.new.chip) (V c.step.new.dram) c.in-Ok.ensures.done.faults
-    (line_done on (is_print i) bytes files (W c.args.out.now) (W c.step.new.out)
-    (V c.mend.new.chip) (V c.step.new.dram) said s.sink_faults c.in-Ok-step.ensures.did.faults)
+    and_then (line_steps (is_print i) bytes) Done files (W c.args.out.now) (W c.step.new.out)
+    (V c.args.chip.now) (V c.mend.new.chip) (V c.step.new.dram) c.mend.ensures.kept.faults
+    (line_done (is_print i) bytes files (W c.args.out.now) (W c.step.new.out) (V c.mend.new.chip)
+    (V c.step.new.dram) said s.sink_faults s.kept.faults)
 
 pub returns-in-Err-step-clause-goes : goal.returns-in-Err-step-clause-goes
 returns-in-Err-step-clause-goes g c files =
@@ -74,40 +60,15 @@ returns-in-Err-step-clause-goes g c files =
     let part = rw (c.mend.ensures.same, c.in-Ok.ensures.done.banks) at s.part in
     let bytes = line k (guarded_said_by (geometry_of m) (operations_by m) (table_in m)
     (mended (geometry_of m) c.args.flips.now k (table_in m) (V c.args.chip.now).banks) i) in
-    let now = due k c.args.flips.now in
-    let old = V c.args.chip.now in
-    let on = own_use m k c.args.flips.now i old in
-    and_then (doing old.banks (mend_events (geometry_of m) now (table_in m) old.banks))
-    (line_steps on (is_print i) bytes) (end_by {X = One} (Err c.in-Err-step.fault)) files
-    (W c.args.out.now) (W c.step.new.out) old (V c.mend.new.chip)
-    (V c.step.new.dram) c.in-Ok.ensures.done.faults
-    (line_failed One on c.in-Err-step.fault (is_print i) bytes files (W c.args.out.now)
+    and_then (line_steps (is_print i) bytes) (end_by {X = One} (Err c.in-Err-step.fault)) files
+    (W c.args.out.now) (W c.step.new.out) (V c.args.chip.now) (V c.mend.new.chip)
+    (V c.step.new.dram) c.mend.ensures.kept.faults
+    (line_failed One c.in-Err-step.fault (is_print i) bytes files (W c.args.out.now)
     (W c.step.new.out) (V c.mend.new.chip) (V c.step.new.dram) (record {
       sink = s.sink_faults;
       chip = s.kept.faults;
       chip_rose = λ e. s.chip_fault (rw e refl);
-      unfailed = λ e other. (s.done (rw e refl) other).faults;
-      read = λ e is. read_by (geometry_of m) (operations_by m) (turn_in m) (table_in m) i _ _
-          (V c.mend.new.chip) (V c.step.new.dram) is c.in-Ok.ensures.done.banks
-          (s.read (rw e refl) is);
-      left = λ e. left_by (guarded_events (geometry_of m) (operations_by m) (turn_in m)
-          (table_in m) i) _ (V c.mend.new.chip).banks (V c.step.new.dram).banks
-          c.in-Ok.ensures.done.banks (rw c.mend.ensures.same at (s.left (rw e refl)));
       unsent = λ e other. s.unsent (rw e refl) other;
       sink_rose = λ e. s.write_fault (rw e refl);
       part = part;
     }))
-
-pub returns-in-Err-clause-goes : goal.returns-in-Err-clause-goes
-returns-in-Err-clause-goes g c files =
-    let m = machine_in c.args.guard.now in
-    let V = g.D.Dram.view in
-    let W = g.S.Sink.view in
-    let i = view_of c.args.instr.now in
-    let k = c.args.k in
-    let old = V c.args.chip.now in
-    let events = mend_events (geometry_of m) (due k c.args.flips.now) (table_in m) old.banks in
-    unused (doing old.banks events) (line_steps (own_use m k c.args.flips.now i old) (is_print i) _)
-    files (W c.args.out.now) old (V c.mend.new.chip) c.mend.ensures.kept.faults
-    c.in-Err.ensures.failed
-    (left_by events old.banks old.banks (V c.mend.new.chip).banks refl c.in-Err.ensures.left)

@@ -5,16 +5,13 @@ use Rattle.bbop_isa.specs.declared.instr.Instr.{Instr}
 use Rattle.std.proofs.lemmas.Result.{err_from_is_err_and}
 use Rattle.std.proofs.lemmas.List.{drop_all, length-drop}
 use Rattle.std.specs.Prelude.{count_by}
-use Rattle.dram_model.specs.declared.geometry.Geometry.{Geometry}
 use Rattle.dram_model.specs.Chip.{Grew}
-use Rattle.transpose_unit.specs.Stopped.{StoppedWithin}
 use Rattle.dram_model.proofs.EventLaws.{Kept-more}
 use Rattle.bbop_isa.specs.Forms.{Instruction, view_of}
 use Rattle.machine_model.specs.Agrees.{IsPlain}
 use Rattle.machine_model.specs.Script.{is_refused}
 use Rattle.cli_model.specs.World.{world}
-use Rattle.cli_model.specs.Waves.{doing}
-use Rattle.cli_model.specs.Steps.{ChipFailed, Done, Goes, Stopped}
+use Rattle.cli_model.specs.Steps.{Done, Goes}
 use Rattle.sim_machine.specs.Machine.{geometry_of, operations_by, program_of, table_in, turn_in}
 use Rattle.guard_model.specs.declared.Flip.{Flip}
 use Rattle.guard_model.specs.Flips.{due}
@@ -23,14 +20,13 @@ use Rattle.guard_model.specs.Named.{has_long_name}
 use Rattle.guard_model.specs.Guarded.{guarded_replies, guarded_rows_at_end, guarded_table_at_end}
 use Rattle.guard_model.specs.Guarded.{guarded_tally, votes_at_end}
 use Rattle.tmr_guard.specs.Steps.{machine_in}
-use Rattle.guard_job.specs.Events.{mend_events, run_events}
+use Rattle.guard_job.specs.Events.{run_events}
 use Rattle.guard_job.specs.Steps.{end_by, guarded_steps}
 use Rattle.guard_job.specs.declared.scripts.One.{One}
 use Rattle.guard_job.proofs.Ending.{all_here, cells_on, flips_after, left_is, mended_moved}
 use Rattle.guard_job.proofs.Ending.{next_flips, others_of}
 use Rattle.guard_job.proofs.Ending.{rises_more, stops_here, tally_last}
 use Rattle.guard_job.proofs.Walking.{banks_go, goes_goes, line_moved, log_goes, moved, refused_goes}
-use Rattle.guard_job.proofs.Sending.{and_then, left_by, unused}
 use Rattle.guard_job.proofs.Walking.{table_goes, tally_goes, votes_go}
 use Rattle.sim_machine.proofs.Keeping.{goes_more}
 use Rattle.guard_job.proofs.scripts.guard_script.Goals as goal
@@ -120,11 +116,11 @@ instrs-preserved g c =
       goes = λ files end w more.
           (let went = rw c.split_at.ensures.back at (c.in_ok-one.ensures.goes files) in
           let line = line_moved (geometry_of before) shape (program_of before) p (due k left)
-          (due k flips) k (turn_in before) table a.banks i Done (world files (W c.instrs.out) a)
+          (due k flips) k table a.banks i Done (world files (W c.instrs.out) a)
           (world files (W c.do_one.new.out) b) (ap geometry_of inv.goes_on)
           (ap program_of inv.goes_on) same went in
           inv.goes files end w (subst (λ (s : List Instruction).
-          Goes (guarded_steps shape o flips k (turn_in before) table a.banks s) end
+          Goes (guarded_steps shape o flips k table a.banks s) end
           (world files (W c.instrs.out) a) w) (sym is)
           (goes_goes shape o flips k i others (turn_in before) (turn_in after) table
           (table_in after) a b one.votes one.refused d files (W c.instrs.out)
@@ -156,12 +152,12 @@ returns-in_err-one-clause-goes g c files =
     let fault = c.in_err-one.field-0.0 in
     let went = rw c.split_at.ensures.back at (c.in_err-one.ensures.goes files) in
     let line = line_moved (geometry_of before) (geometry_of first) (program_of before)
-    (program_of first) (due k left) (due k left) k (turn_in before) (table_in before) a.banks i
+    (program_of first) (due k left) (due k left) k (table_in before) a.banks i
     (end_by {X = One} (Err fault)) start last (ap geometry_of inv.goes_on)
     (ap program_of inv.goes_on) refl went in
     rw (q.1, q.2) (inv.goes files _ last (stops_here One fault (geometry_of first)
-    (operations_by first) flips left k (turn_in before) (table_in before) a.banks i others rest
-    start last is same line))
+    (operations_by first) flips left k (table_in before) a.banks i others rest start last is same
+    line))
 
 pub mend-requires-clause-cells : goal.mend-requires-clause-cells
 mend-requires-clause-cells g c =
@@ -262,54 +258,3 @@ returns-in-Ok-clause-votes g c =
     ap (λ (n : ℕ). c.instrs.votes + n) votes
     ∙ ap (λ (s : List Instruction). c.instrs.votes + votes_at_end shape o (table_in last) s)
     (sym none) ∙ inv.votes_end
-
-pub returns-in-Ok-clause-goes : goal.returns-in-Ok-clause-goes
-returns-in-Ok-clause-goes g c files =
-    let V = g.D.Dram.view in
-    let flips = c.args.flips.now in
-    let k = c.instrs.done + 1 in
-    let inv = c.instrs.invariant in
-    let first = machine_in c.args.guard.now in
-    let last = machine_in c.instrs.guard in
-    let shape = geometry_of first in
-    let table = table_in last in
-    let now = V c.instrs.chip in
-    let new = V c.mend.new.chip in
-    let sink = g.S.Sink.view c.instrs.out in
-    let none : map view_of (drop c.instrs.done c.args.script.now) ≡ [] =
-    ap (map view_of) (drop_all c.instrs.done c.args.script.now (omega arith)) in
-    let events = mend_events shape (due k flips) table now.banks in
-    inv.goes files Done (world files sink new)
-    (subst (λ (s : List Instruction). Goes (guarded_steps shape (operations_by first) flips k
-    (turn_in last) table now.banks s) Done (world files sink now) (world files sink new)) (sym none)
-    (and_then (doing now.banks events) [] Done files sink sink now new new
-    c.in-Ok.ensures.done.faults refl))
-
-pub returns-in-Err-clause-goes : goal.returns-in-Err-clause-goes
-returns-in-Err-clause-goes g c files =
-    let V = g.D.Dram.view in
-    let flips = c.args.flips.now in
-    let k = c.instrs.done + 1 in
-    let inv = c.instrs.invariant in
-    let first = machine_in c.args.guard.now in
-    let last = machine_in c.instrs.guard in
-    let shape = geometry_of first in
-    let table = table_in last in
-    let now = V c.instrs.chip in
-    let new = V c.mend.new.chip in
-    let sink = g.S.Sink.view c.instrs.out in
-    let none : map view_of (drop c.instrs.done c.args.script.now) ≡ [] =
-    ap (map view_of) (drop_all c.instrs.done c.args.script.now (omega arith)) in
-    let events = mend_events shape (due k flips) table now.banks in
-    let known = rw c.split_at-2.ensures.back at c.in-Err.ensures.left in
-    let stopped : StoppedWithin events now.banks new.banks =
-    subst (λ (x : Geometry). StoppedWithin (mend_events x (due k flips) table now.banks)
-    now.banks new.banks) (ap geometry_of inv.goes_on)
-    (subst (λ (fs : List Flip). StoppedWithin (mend_events (geometry_of last) fs table now.banks)
-    now.banks new.banks) (inv.later k (omega arith)) known) in
-    inv.goes files (Stopped ChipFailed) (world files sink new)
-    (subst (λ (s : List Instruction). Goes (guarded_steps shape (operations_by first) flips k
-    (turn_in last) table now.banks s) (Stopped ChipFailed) (world files sink now)
-    (world files sink new)) (sym none)
-    (unused (doing now.banks events) [] files sink now new c.mend.ensures.kept.faults
-    c.in-Err.ensures.failed (left_by events now.banks now.banks new.banks refl stopped)))

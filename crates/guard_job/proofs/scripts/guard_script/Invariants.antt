@@ -70,10 +70,10 @@ invariant-instrs g l =
           + count_by is_refused (guarded_replies shape operations (table_in machine) rest)
           ≡ count_by is_refused (guarded_replies shape operations (table_in first) script);
       goes : (files : FolderView) (end : End) (w : World)
-          → Goes (guarded_steps shape operations l.flips (l.done + 1) (turn_in machine)
-          (table_in machine) now.banks rest) end (world files (g.S.Sink.view l.out) now) w
-          → Goes (guarded_steps shape operations l.flips 1 (turn_in first) (table_in first)
-          start.banks script) end (world files (g.S.Sink.view l.initial.out) start) w;
+          → Goes (guarded_steps shape operations l.flips (l.done + 1) (table_in machine) now.banks
+          rest) end (world files (g.S.Sink.view l.out) now) w
+          → Goes (guarded_steps shape operations l.flips 1 (table_in first) start.banks script) end
+          (world files (g.S.Sink.view l.initial.out) start) w;
     }
 
 abbrev pub decreases-instrs : goal.decreases-instrs

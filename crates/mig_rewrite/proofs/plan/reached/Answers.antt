@@ -1,7 +1,5 @@
-use Rattle.std.proofs.Common.{◌≡◌, ℕ, List, Bool, ◌-◌, ◌≤◌, true, ◌++◌, length, arith, sym, ap, ◌∙◌, take, drop}
+use Rattle.std.proofs.Common.{◌≡◌, ℕ, ◌-◌, ◌≤◌, true, ◌++◌, length, arith, sym, ap, ◌∙◌, take, drop}
 use Rattle.mig_rewrite.specs.Plan.{is_marked}
-use Rattle.mig_rewrite.specs.Reach.{ReadsMarked}
-use Rattle.mig_graph.specs.Reduced.{node_numbered}
 use Rattle.mig_rewrite.proofs.Marks.{written, closed-more}
 use Rattle.mig_rewrite.proofs.plan.reached.Goals as goal
 
@@ -18,11 +16,6 @@ loop-k-preserved c =
     rw same at c.mark_read.ensures.grew in
     let others : (j : ℕ) → c.loop-k.k - 1 ≤ j → is_marked new j ≡ is_marked old j =
     rw same at c.mark_read.ensures.others in
-    let only : (set : List Bool) → (is_marked old (c.loop-k.k - 1) ≡ true
-    → ReadsMarked set (node_numbered c.args.m.now.mig (c.loop-k.k - 1)))
-    → ((j : ℕ) → is_marked old j ≡ true → is_marked set j ≡ true)
-    → (j : ℕ) → is_marked new j ≡ true → is_marked set j ≡ true =
-    rw same at c.mark_read.ensures.only in
     record {
       long = ap length e ∙ long ∙ so.long;
       least = omega arith;
@@ -30,6 +23,4 @@ loop-k-preserved c =
       outputs = rw e (λ j b. grew _ (so.outputs j b));
       closed = rw e (closed-more c.args.m.now.mig old new c.loop-k.k (omega arith) so.closed
           c.mark_read.ensures.read others grew);
-      only = rw e (λ j marked set closed. only set (λ k. closed.closed (c.loop-k.k - 1) (omega arith)
-          (omega arith) (so.only _ k set closed)) (λ i m. so.only i m set closed) j marked);
     }

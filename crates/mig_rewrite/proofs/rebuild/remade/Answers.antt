@@ -1,7 +1,5 @@
 use Rattle.std.proofs.Common.{◌≡◌, ℕ, ◌+◌, ◌<◌, ◌≤◌, Bool, [], ◌∷◌, length, length-append, arith}
-use Rattle.std.proofs.Common.{sym, ◌∙◌, subst, ap, true, inl, inr}
-use Rattle.std.specs.Prelude.{None}
-use Rattle.std.proofs.lemmas.Bool.{cases_lt}
+use Rattle.std.proofs.Common.{sym, ◌∙◌, subst, ap}
 use Rattle.mig_graph.specs.declared.Lit.{Lit}
 use Rattle.mig_graph.specs.Literals.{complement_if}
 use Rattle.bit_rows.specs.Bits.{flip_if}
@@ -9,9 +7,9 @@ use Rattle.mig_graph.specs.Graph.{Graph, size_of, value, values, start}
 use Rattle.mig_graph.proofs.Laws.{values-below}
 use Rattle.mig_graph.specs.Outputs.{lit_at}
 use Rattle.mig_graph.proofs.OutputLaws.{each-more, value-complemented}
-use Rattle.mig_rewrite.specs.Plan.{part_of, cost, is_marked}
+use Rattle.mig_rewrite.specs.Plan.{part_of}
 use Rattle.mig_rewrite.proofs.Steps.{part-lower, values-more, count-more, merged-spared}
-use Rattle.mig_rewrite.proofs.Steps.{spared-none, marked-more}
+use Rattle.mig_rewrite.proofs.Steps.{spared-none}
 use Rattle.mig_rewrite.proofs.Planning.{each-map}
 use Rattle.mig_rewrite.proofs.rebuild.remade.Goals as goal
 
@@ -50,7 +48,6 @@ loop-k-init c =
       values = λ bits j b _. ap (value mig bits) (c.in_ok-lits.ensures.each j b)
           ∙ start-same g mig bits j inputs (omega arith);
       count = rw same (omega arith);
-      marked = λ _ _ j a b. absurd (omega arith);
     }
 
 pub make-requires-clause-within : goal.make-requires-clause-within
@@ -79,7 +76,7 @@ make-requires-clause-room c =
     let same = c.inputs-inputs.ensures.inputs in
     let so = c.loop-k.invariant in
     let n = c.inputs-inputs.result + 1 + length c.loop-k.mig.nodes in
-    let more = count-more g outs marks c.args.merge k n c.requires.merge c.in_ok-marks.ensures.plan
+    let more = count-more g outs marks c.args.merge k n c.requires.merge c.in_ok-marks.ensures
     so.count in
     let spared = merged-spared g outs c.args.merge (k + 1) c.inputs-inputs.ensures.graph
     c.requires.merge in
@@ -104,7 +101,7 @@ loop-k-preserved c =
     let long = so.long in
     let e = c.in_ok-keep.ensures in
     let n = c.inputs-inputs.result + 1 + length c.loop-k.mig.nodes in
-    let more = count-more g outs marks c.args.merge k n c.requires.merge c.in_ok-marks.ensures.plan
+    let more = count-more g outs marks c.args.merge k n c.requires.merge c.in_ok-marks.ensures
     so.count in
     let now : length c.keep.new.items.items ≡ k + 1 =
     rw e (omega (arith, length-append lits (l ∷ []))) in
@@ -118,23 +115,11 @@ loop-k-preserved c =
           (λ j b. grown h next (lit_at lits j).node c.make.ensures.inputs c.make.ensures.least
           (so.named j (omega arith))) c.in_ok-l.ensures.named j (omega arith);
       values = λ bits. values-more g outs marks c.args.merge h next lits c.keep.new.items.items l k
-          bits c.inputs-inputs.ensures.graph c.requires.merge c.in_ok-marks.ensures.plan (omega arith)
+          bits c.inputs-inputs.ensures.graph c.requires.merge c.in_ok-marks.ensures (omega arith)
           (omega arith) long e
           (λ j b. so.named j (omega arith)) (so.values bits) (c.in_ok-l.ensures.kept bits)
           (new bits);
       count = omega arith;
-      marked = λ none full j a b.
-          let few : n ≤ k = let s = rw none at so.count in omega (arith, s) in
-          let room : c.inputs-inputs.result + 1 + length next.nodes
-          ≤ n + cost (part_of g marks c.args.merge k) = omega (arith, count) in
-          let most : c.inputs-inputs.result + 1 + length next.nodes
-          ≤ n + cost (part_of g marks None k) = rw none at room in
-          let last = marked-more g marks k n (c.inputs-inputs.result + 1 + length next.nodes) few
-          full most in
-          elim (cases_lt j k) [
-            | inl l ↦ so.marked none last.0 j a l
-            | inr l ↦ let e : k ≡ j = omega arith in subst (λ i. is_marked marks i ≡ true) e last.1
-          ];
     }
 
 pub returns-clause-keeps : goal.returns-clause-keeps
@@ -154,13 +139,5 @@ returns-clause-keeps c =
       values = λ bits j b. let d : (lit_at outs j).node < size_of g = c.requires.named j b in
           output g c.loop-k.mig bits (lit_at made j) (lit_at lits (lit_at outs j).node)
           (lit_at outs j) (each j b) (so.values bits (lit_at outs j).node (omega arith)
-          (c.in_ok-marks.ensures.plan.outputs j b));
+          (c.in_ok-marks.ensures.outputs j b));
     }
-
-pub returns-clause-reached : goal.returns-clause-reached
-returns-clause-reached c = λ none full k a b set closed.
-    let same = c.inputs-inputs.ensures.inputs in
-    let done : c.loop-k.k ≡ size_of c.args.m.now.mig =
-    omega (arith, c.loop-k-test.false, c.loop-k.auto.k-end) in
-    c.in_ok-marks.ensures.only k (c.loop-k.invariant.marked none (omega (arith, full, done, same)) k
-    (omega (arith, a, same)) (omega (arith, b, done))) set closed

@@ -1,5 +1,4 @@
 use Rattle.std.proofs.Common.{◌≡◌, ◌<◌, ◌≤◌, ◌+◌, ℕ, Bool, true, length}
-use Rattle.std.specs.Prelude.{None}
 use Rattle.mig_graph.specs.Graph.{value, values}
 use Rattle.mig_graph.specs.Outputs.{lit_at, AreNamed}
 use Rattle.mig_rewrite.specs.Plan.{is_marked}
@@ -16,6 +15,4 @@ invariant-loop-k l = record {
       → value l.mig bits (lit_at l.lits.items j) ≡ values l.m.mig bits j;
   count : l.inputs + 1 + length l.mig.nodes + spared_below l.merge l.k
       ≤ l.k + merged_below l.merge l.k;
-  marked : l.merge ≡ None → l.inputs + 1 + length l.mig.nodes ≡ l.k
-      → (j : ℕ) → l.inputs < j → j < l.k → is_marked l.marks.items j ≡ true;
 }

@@ -1,6 +1,7 @@
-use Rattle.std.proofs.Common.{◌∙◌, ◌≤◌, length, sym, arith}
+use Rattle.std.proofs.Common.{◌∙◌, ◌<◌, ◌≤◌, length, sym, arith}
 use Rattle.std.proofs.lemmas.Bool.{false≢true}
 use Rattle.mig_graph.specs.Outputs.{KeepsOutputs}
+use Rattle.mig_rewrite.specs.Offers.{IsOffered}
 use Rattle.mig_rewrite.proofs.Keeping.{keeps-twice}
 use Rattle.mig_rewrite.proofs.standing.kept.Goals as goal
 
@@ -32,7 +33,6 @@ returns-clause-dropped c = λ right.
             (omega (arith, b, c.in_ok-new.ensures.keeps.long, c.in_ok-made.ensures.long));
       };
       reduced = c.in_ok-new.ensures.reduced;
-      reached = c.in_ok-new.ensures.reached;
       more = omega (arith, no);
     }
 

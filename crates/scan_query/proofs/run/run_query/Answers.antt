@@ -289,19 +289,6 @@ returns-clause-did g c done =
     (reads_are a s nodes q c.geometry.result c.last_object-object.result h k.leaves shown object)
     c.in_ok-found.ensures.did)
 
-pub returns-in-Some-2-clause-faults : goal.returns-in-Some-2-clause-faults
-returns-in-Some-2-clause-faults g c =
-    (subst (λ r. NodesRun (map node_of c.as_slice-nodes.result.now) c.args.machine.now
-    c.run_nodes.new.machine (g.D.Dram.view c.args.dram.now) (g.D.Dram.view c.run_nodes.new.dram)
-    (Ok r)) c.in-Some-2.is c.in_ok-why.ensures.runs).1.did.faults
-
-pub returns-clause-faults : goal.returns-clause-faults
-returns-clause-faults g c =
-    let ran = subst (λ r. NodesRun (map node_of c.as_slice-nodes.result.now) c.args.machine.now
-    c.run_nodes.new.machine (g.D.Dram.view c.args.dram.now) (g.D.Dram.view c.run_nodes.new.dram)
-    (Ok r)) c.in_default-2.is c.in_ok-why.ensures.runs in
-    c.in_ok-found.ensures.did.faults ∙ ran.ran.did.faults
-
 pub returns-clause-counted : goal.returns-clause-counted
 returns-clause-counted g c =
     let a = c.args.machine.now in

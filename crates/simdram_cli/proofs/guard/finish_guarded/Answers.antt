@@ -12,7 +12,7 @@ use Rattle.simdram_cli.specs.Stops.{end_of}
 use Rattle.simdram_cli.proofs.Guarding.{not_stored, stored_then}
 use Rattle.cli_model.specs.Waves.{doing}
 use Rattle.simdram_cli.proofs.Sending.{left_by}
-use Rattle.simdram_cli.proofs.Stores.{at_err, at_ok, stored, use_broke, unstored}
+use Rattle.simdram_cli.proofs.Stores.{at_err, at_ok, stored, unstored, used}
 use Rattle.simdram_cli.proofs.guard.finish_guarded.Goals as goal
 
 pub returns-then-is_err-clause-goes : goal.returns-then-is_err-clause-goes
@@ -20,7 +20,7 @@ returns-then-is_err-clause-goes g c =
     let bad = sym c.is_err.ensures.value ∙ c.if-is_err.true in
     inr (
       refl,
-      use_broke (g.F.Folder.view c.args.files.now) (g.S.Sink.view c.args.out.now)
+      used (g.F.Folder.view c.args.files.now) (g.S.Sink.view c.args.out.now)
           (g.D.Dram.view c.args.chip.now) (g.D.Dram.view c.image.new.dram)
           c.image.ensures.kept.faults,
       at_err c.image.result bad c.image.ensures.failed,
@@ -32,8 +32,6 @@ returns-then-is_err-2-clause-goes g c =
     let m = machine_in c.args.guard.now in
     let shape = geometry_of m in
     let start = g.D.Dram.view c.args.chip.now in
-    let did = at_ok c.image.result (sym c.is_err.ensures.value
-    ∙ c.if-is_err.false) c.image.ensures.did in
     let rose = at_err c.store.result (sym c.is_err-2.ensures.value
     ∙ c.if-is_err-2.true) c.store.ensures.failed in
     not_stored (doing start.banks []) c.args.name.now (image_bytes shape (table_in m) (rows_in_banks start.banks))
@@ -42,7 +40,7 @@ returns-then-is_err-2-clause-goes g c =
     c.args.outcome.refused) ∷ [])
     (g.F.Folder.view c.args.files.now) (g.F.Folder.view c.store.new.self)
     (g.S.Sink.view c.args.out.now) start (g.D.Dram.view c.image.new.dram)
-    did.faults
+    c.image.ensures.kept.faults
     (unstored c.args.name.now (g.F.Folder.view c.args.files.now) (g.F.Folder.view c.store.new.self)
     (g.S.Sink.view c.args.out.now) (g.D.Dram.view c.image.new.dram) c.store.ensures.others
     rose c.store.ensures.counts)
@@ -66,7 +64,7 @@ returns-clause-goes g c =
     c.args.outcome.refused) ∷ [])
     (end_of c.put_totals.result) (g.F.Folder.view c.args.files.now) files
     (g.S.Sink.view c.args.out.now) start last
-    (world files (g.S.Sink.view c.put_totals.new.out) last) did.faults
+    (world files (g.S.Sink.view c.put_totals.new.out) last) c.image.ensures.kept.faults
     (stored c.args.name.now bytes (g.F.Folder.view c.args.files.now) files
     (g.S.Sink.view c.args.out.now) last c.store.ensures.others
     (rw (c.file.ensures, c.machine.ensures, file) at there) c.store.ensures.counts)

@@ -1,10 +1,9 @@
-use Rattle.std.proofs.Common.{◌∙◌, ap, inl, inr, refl}
+use Rattle.std.proofs.Common.{◌∙◌, ap, inr, refl}
 use Rattle.std.specs.Prelude.{Err}
 use Rattle.object_alloc.specs.Exact.{found_in}
-use Rattle.cli_model.specs.World.{world}
 use Rattle.simdram_cli.specs.Inputs.{image_found}
 use Rattle.simdram_cli.proofs.Sending.{unopened_by}
-use Rattle.simdram_cli.proofs.Stores.{use_broke, used}
+use Rattle.simdram_cli.proofs.Stores.{used}
 use Rattle.simdram_cli.proofs.Tallies.{opened_counted}
 use Rattle.simdram_cli.proofs.perform.open.Goals as goal
 
@@ -19,21 +18,13 @@ returns-in-Ok-clause-opened g c =
       log = o.log;
     }
 
-pub returns-in-Ok-clause-goes : goal.returns-in-Ok-clause-goes
-returns-in-Ok-clause-goes g c files sink =
-    let last = g.D.Dram.view c.open.new.dram in
-    inl (
-      world files sink last,
-      (used files sink (g.D.Dram.view c.args.chip.now) last c.in-Ok.ensures.unfailed, refl),
-    )
-
 pub returns-in-Err-ChipFault-clause-goes : goal.returns-in-Err-ChipFault-clause-goes
 returns-in-Err-ChipFault-clause-goes g c files sink =
     let last = g.D.Dram.view c.open.new.dram in
     let is = ap Err c.in-Err-ChipFault.field-0-is in
     inr (inr (
       refl,
-      use_broke files sink (g.D.Dram.view c.args.chip.now) last c.open.ensures.faults,
+      used files sink (g.D.Dram.view c.args.chip.now) last c.open.ensures.faults,
       c.in-Err-ChipFault.ensures.failed is,
       unopened_by c.args.image.geometry c.args.image.rows.now last
           (c.in-Err-ChipFault.ensures.left is),

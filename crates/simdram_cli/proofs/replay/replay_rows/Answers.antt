@@ -42,21 +42,18 @@ returns-then-is_err-2-clause-goes g c files sink =
     let last = g.D.Dram.view c.image_with.new.dram in
     let bad = sym c.is_err-2.ensures.value ∙ c.if-is_err-2.true in
     reads_failed c.args.trace.now (image_found (found_in c.args.image)) files sink before a b last
-    (c.in_ok-machine.ensures.goes files sink) c.image_with.ensures.kept.faults
-    c.in_ok-machine.ensures.opened
+    (c.in_ok-machine.ensures.goes files sink) c.replay_events.ensures.kept.faults
+    c.image_with.ensures.kept.faults c.in_ok-machine.ensures.opened
     (at_ok c.replay_events.result (sym c.is_err.ensures.value ∙ c.if-is_err.false)
     c.replay_events.ensures.did) (at_err c.image_with.result bad c.image_with.ensures.failed)
     (at_err c.image_with.result bad c.image_with.ensures.left)
 
 pub returns-clause-goes : goal.returns-clause-goes
 returns-clause-goes g c files sink =
-    let did = at_ok c.replay_events.result (sym c.is_err.ensures.value ∙ c.if-is_err.false)
-    c.replay_events.ensures.did in
-    let read = at_ok c.image_with.result (sym c.is_err-2.ensures.value ∙ c.if-is_err-2.false)
-    c.image_with.ensures.did in
     rows_read c.args.trace.now (image_found (found_in c.args.image)) files sink (g.D.Dram.view c.args.chip.now) (g.D.Dram.view c.open.new.chip)
     (g.D.Dram.view c.replay_events.new.dram) (g.D.Dram.view c.image_with.new.dram)
-    (c.in_ok-machine.ensures.goes files sink) did.faults read.faults
+    (c.in_ok-machine.ensures.goes files sink) c.replay_events.ensures.kept.faults
+    c.image_with.ensures.kept.faults
 
 pub returns-clause-done : goal.returns-clause-done
 returns-clause-done g c =

@@ -9,7 +9,7 @@ use Rattle.sim_machine.specs.Machine.{geometry_of, program_of, table_in, turn_in
 use Rattle.cli_model.specs.World.{world}
 use Rattle.simdram_cli.specs.Inputs.{image_found}
 use Rattle.simdram_cli.proofs.Scanning.{RanOn, asked_done, asked_failed, answer_moves, no_stage}
-use Rattle.simdram_cli.proofs.Scanning.{checks_are, not_opened, query_done, query_left, room_opened}
+use Rattle.simdram_cli.proofs.Scanning.{checks_are, not_opened, query_done, room_opened}
 use Rattle.simdram_cli.proofs.Stopping.{query_stopped, refused_moves}
 use Rattle.simdram_cli.proofs.Progress.{Holds, holds_on}
 use Rattle.simdram_cli.proofs.scan.ask.Goals as goal
@@ -50,6 +50,7 @@ returns-in-Ok-run_query-clause-goes g c files sink t h =
       table_is = ap table_in opened.machine;
       nodes_are = h;
       opened_on = opened.opened;
+      faults = c.run_query.ensures.kept.faults;
     } in
     let holds : Holds i.geometry i.table =
     holds_on c.args.image.geometry c.args.image.table c.requires.lies in
@@ -68,7 +69,7 @@ returns-in-Ok-run_query-clause-goes g c files sink t h =
     machine)
     (turn_in machine) _ old new ran holds shape_is program_is turn_is
     (c.in-Ok-run_query.ensures.did is))
-    c.run_query.ensures.kept c.in-Ok-run_query.ensures.faults
+    c.run_query.ensures.kept
     (λ reason k none refused. query_stopped program t i nodes machine reason old new ran holds
     shape_is program_is turn_is (c.in-Ok-run_query.ensures.stopped reason k
     (sym (checks_are program t i nodes (table_in machine) old new ran) ∙ none)
@@ -88,11 +89,8 @@ returns-clause-goes g c files sink t h =
       table_is = ap table_in opened.machine;
       nodes_are = h;
       opened_on = opened.opened;
+      faults = c.run_query.ensures.kept.faults;
     } in
     asked_failed program t i nodes (table_in machine) files sink before old new c.run_query.result
-    _ ran (opened.goes files sink) c.in-Err.is c.run_query.ensures.kept.faults
-    c.in-Err.ensures.failed
-    (query_left program (program_of machine) t i nodes (geometry_of machine) (table_in machine)
-    (turn_in machine) old new ran (ap geometry_of opened.machine) (ap program_of opened.machine)
-    (ap turn_in opened.machine) c.in-Err.ensures.left)
+    _ ran (opened.goes files sink) c.in-Err.is c.in-Err.ensures.failed
     c.run_query.ensures.unused

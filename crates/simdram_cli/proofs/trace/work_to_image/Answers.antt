@@ -62,8 +62,6 @@ returns-then-is_err-2-clause-goes g c =
     let last = g.D.Dram.view c.image.new.dram in
     let script = map view_of c.args.script.now in
     let banks = (g.D.Dram.view c.args.chip.now).banks in
-    let read = at_ok c.image.result (sym c.is_err.ensures.value
-    ∙ c.if-is_err.false) c.image.ensures.did in
     let rose = at_err c.store.result (sym c.is_err-2.ensures.value
     ∙ c.if-is_err-2.true) c.store.ensures.failed in
     then_image c.args.machine.now banks script c.args.name.now
@@ -72,7 +70,7 @@ returns-then-is_err-2-clause-goes g c =
     (world files out mid) (world stores out last) (c.in_ok-refused.ensures.goes files)
     (image_unstored (doing (after (events_on c.args.machine.now script) banks) [])
     c.args.name.now (image_on c.args.machine.now banks script) files stores out mid
-    last read.faults (unstored c.args.name.now files stores out last
+    last c.image.ensures.kept.faults (unstored c.args.name.now files stores out last
     c.store.ensures.others rose c.store.ensures.counts))
 
 pub returns-clause-kept : goal.returns-clause-kept
@@ -107,8 +105,6 @@ returns-clause-goes g c =
     let is = image_is_on machine c.work.new.machine script start mid
     (ap geometry_of c.work.ensures.goes_on)
     c.in_ok-refused.ensures.table c.in_ok-refused.ensures.did.banks in
-    let read = at_ok c.image.result (sym c.is_err.ensures.value
-    ∙ c.if-is_err.false) c.image.ensures.did in
     let there = at_ok c.store.result (sym c.is_err-2.ensures.value
     ∙ c.if-is_err-2.false) c.store.ensures.stored in
     then_image machine start.banks script c.args.name.now Done
@@ -116,5 +112,5 @@ returns-clause-goes g c =
     (c.in_ok-refused.ensures.goes files)
     (image_stored (doing (after (events_on machine script) start.banks) [])
     c.args.name.now (image_on machine start.banks script) files stores out mid
-    last read.faults (stored c.args.name.now _ files stores out last
+    last c.image.ensures.kept.faults (stored c.args.name.now _ files stores out last
     c.store.ensures.others (rw (c.file.ensures, file, is) at there) c.store.ensures.counts))

@@ -5,7 +5,7 @@ use Rattle.machine_model.specs.Pieces.{Alone, Piece}
 use Rattle.cli_model.specs.Waves.{doing}
 use Rattle.sim_machine.specs.Machine.{events_by, is_print}
 use Rattle.sim_machine.proofs.Stepping.{alone}
-use Rattle.simdram_cli.proofs.Sending.{instr_done, instr_failed, left_by, shown_by}
+use Rattle.simdram_cli.proofs.Sending.{instr_done, instr_failed, left_by}
 use Rattle.simdram_cli.proofs.work.work_line.Goals as goal
 
 pub returns-in-Ok-clause-goes : goal.returns-in-Ok-clause-goes
@@ -14,7 +14,7 @@ returns-in-Ok-clause-goes g c files =
     (events_by c.args.machine.now (Alone (view_of c.args.instr.now))))
     (is_print (view_of c.args.instr.now)) _ files (g.S.Sink.view c.args.out.now)
     (g.S.Sink.view c.step.new.out) (g.D.Dram.view c.args.chip.now) (g.D.Dram.view c.step.new.dram)
-    c.in-Ok.ensures.sent c.step.ensures.sink_faults c.in-Ok.ensures.did.faults
+    c.in-Ok.ensures.sent c.step.ensures.sink_faults c.step.ensures.kept.faults
 
 pub returns-in-Err-clause-goes : goal.returns-in-Err-clause-goes
 returns-in-Err-clause-goes g c files =
@@ -25,10 +25,6 @@ returns-in-Err-clause-goes g c files =
       sink = c.step.ensures.sink_faults;
       chip = c.step.ensures.kept.faults;
       chip_rose = λ e. (c.in-Err.ensures.chip_fault (rw e refl)).rose;
-      unfailed = λ e other. (c.in-Err.ensures.done (rw e refl) other).faults;
-      read = λ e is. shown_by c.args.machine.now (view_of c.args.instr.now) _
-          (g.D.Dram.view c.args.chip.now) (g.D.Dram.view c.step.new.dram) is
-          (c.in-Err.ensures.read (rw e refl) is);
       left = λ e. left_by _ _ _ (subst (λ (p : Piece). StoppedWithin (events_by c.args.machine.now p)
           (g.D.Dram.view c.args.chip.now).banks (g.D.Dram.view c.step.new.dram).banks)
           (alone (view_of c.args.instr.now) c.requires.alone) (c.in-Err.ensures.left (rw e refl)));

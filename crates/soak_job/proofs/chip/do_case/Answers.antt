@@ -1,7 +1,6 @@
-use Rattle.std.proofs.Common.{◌≡◌, ℕ, ◌*◌, ◌%◌, ◌^◌, List, map, sym, ap, ◌∙◌, subst}
+use Rattle.std.proofs.Common.{◌≡◌, ◌*◌, ◌%◌, ◌^◌, List, map, sym, ap, ◌∙◌, subst}
 use Rattle.std.specs.Prelude.{sum_by}
 use Rattle.std.specs.List.{range_with_len}
-use Rattle.dram_model.specs.Chip.{Banks}
 use Rattle.dram_model.specs.Elements.{below, number}
 use Rattle.dram_model.specs.View.{Did, DidRead}
 use Rattle.op_text.specs.declared.tree.Kind.{Kind}
@@ -9,28 +8,19 @@ use Rattle.uprog_code.specs.Shape.{Microprogram, width}
 use Rattle.uprog_code.specs.Implements.{numbers}
 use Rattle.uprog_code.specs.Texts.{EntryDoes, text_op}
 use Rattle.uprog_bin.specs.Opened.{program_of}
-use Rattle.soak_job.specs.declared.cases.Case.{Case}
 use Rattle.soak_job.specs.Cases.{one_statement}
 use Rattle.soak_job.specs.Words.{elements, sources_at}
-use Rattle.transpose_unit.specs.Stopped.{StoppedWithin}
-use Rattle.soak_job.specs.Layout.{bases_from, case_events, result_rows, source_row_count}
-use Rattle.soak_job.specs.Layout.{source_rows, source_writes}
-use Rattle.soak_job.specs.OneCase.{CaseDone, IsFileOf, IsProgramOf, WritesMore}
-use Rattle.soak_job.proofs.Running.{case_done, on_err_always, reading_failed, wave_failed}
-use Rattle.soak_job.proofs.Running.{writes_failed}
+use Rattle.soak_job.specs.Layout.{bases_from, result_rows, source_row_count, source_rows, source_writes}
+use Rattle.soak_job.specs.OneCase.{CaseDone, IsProgramOf, WritesMore}
+use Rattle.soak_job.proofs.Running.{case_done}
 use Rattle.soak_job.proofs.Summing.{sum_is}
 use Rattle.soak_job.proofs.chip.do_case.Goals as goal
-
--- a case whose program is in this file failed on the chip
-abbrev FailsWithin : ℕ → Case → List ℕ → Banks → Banks → Type 0
-FailsWithin state c file a b = (f : IsFileOf c.op file)
-    → StoppedWithin (case_events state c f.program) a b
 
 pub run_case-requires-clause-does : goal.run_case-requires-clause-does
 run_case-requires-clause-does g c =
     let f = c.requires.file in
     subst (IsProgramOf c.args.case) (sym (c.own_entry-entry.ensures.program f.program f.legal f.is))
-    (record { legal = f.legal.entries.0; does = f.does; exact = f.exact })
+    (record { legal = f.legal.entries.0; does = f.does })
 
 pub returns-clause-sum : goal.returns-clause-sum
 returns-clause-sum g c =
@@ -78,47 +68,3 @@ returns-clause-done g c f =
     c.in_ok-load_sources.ensures.writes)
     c.in_ok-run_case.ensures.did c.in_ok-run_case.ensures.counters
     (subst (λ w. DidRead (2 * w) d e) rows c.in_ok-sum.ensures.did))
-
-pub returns-in_err-load_sources-clause-left : goal.returns-in_err-load_sources-clause-left
-returns-in_err-load_sources-clause-left g c =
-    let case = c.args.case in
-    let state = c.args.generator.now in
-    let a = (g.D.Dram.view c.args.chip.now).banks in
-    let b = (g.D.Dram.view c.load_sources.new.chip).banks in
-    on_err_always {P = FailsWithin state case c.args.file.now a b} _
-    (λ f. writes_failed state case f.program a b
-    (subst (λ (ks : List Kind). StoppedWithin (source_writes state 0 case.n ks) a b)
-    c.sources_of-kinds.ensures.kinds c.in_err-load_sources.ensures.left))
-
-pub returns-in_err-run_case-clause-left : goal.returns-in_err-run_case-clause-left
-returns-in_err-run_case-clause-left g c =
-    let case = c.args.case in
-    let state = c.args.generator.now in
-    let a = g.D.Dram.view c.args.chip.now in
-    let b = g.D.Dram.view c.load_sources.new.chip in
-    let d = g.D.Dram.view c.run_case.new.chip in
-    let m = program_of c.own_entry-entry.result in
-    on_err_always {P = FailsWithin state case c.args.file.now a.banks d.banks} _
-    (λ f. subst (λ (x : Microprogram). StoppedWithin (case_events state case x) a.banks d.banks)
-    (c.own_entry-entry.ensures.program f.program f.legal f.is)
-    (wave_failed state case m a b d.banks
-    (subst (λ (ks : List Kind). Did (source_writes state 0 case.n ks) a b)
-    c.sources_of-kinds.ensures.kinds c.in_ok-load_sources.ensures.did)
-    c.in_err-run_case.ensures.left))
-
-pub returns-in_err-sum-clause-left : goal.returns-in_err-sum-clause-left
-returns-in_err-sum-clause-left g c =
-    let case = c.args.case in
-    let state = c.args.generator.now in
-    let a = g.D.Dram.view c.args.chip.now in
-    let b = g.D.Dram.view c.load_sources.new.chip in
-    let d = g.D.Dram.view c.run_case.new.chip in
-    let e = g.D.Dram.view c.sum_of.new.chip in
-    let m = program_of c.own_entry-entry.result in
-    on_err_always {P = FailsWithin state case c.args.file.now a.banks e.banks} _
-    (λ f. subst (λ (x : Microprogram). StoppedWithin (case_events state case x) a.banks e.banks)
-    (c.own_entry-entry.ensures.program f.program f.legal f.is)
-    (reading_failed state case m a b d e.banks
-    (subst (λ (ks : List Kind). Did (source_writes state 0 case.n ks) a b)
-    c.sources_of-kinds.ensures.kinds c.in_ok-load_sources.ensures.did)
-    c.in_ok-run_case.ensures.did c.in_err-sum.ensures.left))

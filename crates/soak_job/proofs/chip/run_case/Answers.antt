@@ -1,12 +1,12 @@
 use Rattle.std.proofs.Common.{◌≡◌, ◌<◌, ◌∙◌, ap, subst, map, List, ℕ}
-use Rattle.std.specs.Prelude.{OnErr, OnOk}
+use Rattle.std.specs.Prelude.{OnOk}
 use Rattle.dram_model.specs.declared.address.Command.{Command}
 use Rattle.dram_model.specs.Column.{run}
 use Rattle.dram_model.specs.View.{Did}
 use Rattle.uprog_bin.specs.Opened.{program_of}
-use Rattle.uprog_ctl.specs.Waves.{StoppedAmong, wave_events}
+use Rattle.uprog_ctl.specs.Waves.{wave_events}
 use Rattle.wave_model.specs.Schedule.{Queues, in_turn, Ahead}
-use Rattle.soak_job.proofs.Running.{case_runs, on_err, on_ok, own_queue, queues_are, within_wave}
+use Rattle.soak_job.proofs.Running.{case_runs, on_ok, own_queue, queues_are}
 use Rattle.soak_job.proofs.chip.run_case.Goals as goal
 
 pub run_wave-requires-clause-jobs : goal.run_wave-requires-clause-jobs
@@ -34,14 +34,3 @@ returns-clause-alone g c =
     on_ok c.run_wave.result alone (λ all bank l. all bank l
     ∙ ap (λ (commands : List Command). map (run commands) (old.banks bank))
     (own_queue m c.args.case bank l))
-
-pub returns-clause-left : goal.returns-clause-left
-returns-clause-left g c =
-    let m = program_of c.args.entry in
-    let same = queues_are m c.bind.result c.args.case c.bind.ensures.width c.bind.ensures.rows in
-    let old = g.D.Dram.view c.args.chip.now in
-    let new = g.D.Dram.view c.run_wave.new.dram in
-    let stopped = rw c.requires.geometry at c.run_wave.ensures.stopped in
-    let moved = subst (λ (q : Queues). OnErr c.run_wave.result
-    (StoppedAmong (wave_events in_turn 2 Ahead q) q old new)) same stopped in
-    on_err c.run_wave.result moved (within_wave _ _ old new)

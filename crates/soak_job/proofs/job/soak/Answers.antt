@@ -5,7 +5,7 @@ use Rattle.soak_job.specs.declared.cases.Case.{Case}
 use Rattle.soak_job.specs.Cases.{soak_cases}
 use Rattle.soak_job.specs.Done.{CanBeDone, CasesGo}
 use Rattle.soak_job.proofs.Fitting.{all_done}
-use Rattle.soak_job.proofs.Going.{chip_broke, soak_goes}
+use Rattle.soak_job.proofs.Going.{chip_used, soak_goes}
 use Rattle.soak_job.proofs.job.soak.Goals as goal
 
 pub soak_cases-requires-clause-can : goal.soak_cases-requires-clause-can
@@ -24,7 +24,7 @@ returns-clause-goes g c files =
     c.soak_cases.new.chip)
     in
     soak_goes c.args.seed files sink (g.D.Dram.view c.args.chip.now) begun last c.soak_cases.result
-    c.in-Ok.ensures.began c.in-Ok.ensures.unfailed c.soak_cases.ensures.kept
+    c.in-Ok.ensures.began c.begin.ensures.faults c.soak_cases.ensures.kept
     (subst (λ (cs : List Case). CasesGo c.args.seed cs (world files sink begun) last
     c.soak_cases.result) same
     (subst (λ s. CasesGo s c.as_slice.result.now (world files sink begun) last c.soak_cases.result)
@@ -36,7 +36,7 @@ returns-in-Err-Failed-clause-goes g c files = record {
   are = tt;
   goes = inr (inr (
     refl,
-    chip_broke files (g.S.Sink.view c.args.out.now) (g.D.Dram.view c.args.chip.now)
+    chip_used files (g.S.Sink.view c.args.out.now) (g.D.Dram.view c.args.chip.now)
         (g.D.Dram.view c.begin.new.self) c.begin.ensures.faults,
     c.in-Err-Failed.ensures.failed c.in-Err-Failed.field-0-is,
     inl c.in-Err-Failed.ensures.err,

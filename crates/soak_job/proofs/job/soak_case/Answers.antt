@@ -15,7 +15,7 @@ returns-in_default-do_case-clause-stopped g c files cases =
     c.args.out.now)
     (g.D.Dram.view c.args.chip.now) (g.D.Dram.view c.do_case.new.chip)
     (program_is c.args.case c.deref.result.now f) c.do_case.ensures.kept.faults
-    c.in_default-do_case.ensures.failed (c.in_default-do_case.ensures.left f)
+    c.in_default-do_case.ensures.failed
 
 pub returns-then-is_err-clause-stopped : goal.returns-then-is_err-clause-stopped
 returns-then-is_err-clause-stopped g c files cases =
@@ -32,7 +32,7 @@ returns-then-is_err-clause-stopped g c files cases =
     let is = sym c.is_err.ensures.value ∙ c.if-is_err.true in
     stops_at_put c.args.generator.now c.args.case cases f.program files old new
     (g.D.Dram.view c.args.chip.now) (g.D.Dram.view c.do_case.new.chip)
-    (program_is c.args.case c.deref.result.now f) (c.in-Ok-do_case.ensures.done f).faults
+    (program_is c.args.case c.deref.result.now f) c.do_case.ensures.kept.faults
     (subst (λ (bytes : List ℕ). Known (AppendsPart bytes) old.sent new.sent) line
     (at_err c.put.result is c.put.ensures.part)) c.put.ensures.counts
     (at_err c.put.result is c.put.ensures.failed)
@@ -52,7 +52,7 @@ returns-clause-went g c files =
     let is = sym c.is_err.ensures.value ∙ c.if-is_err.false in
     case_went c.args.generator.now c.args.case f.program files old new
     (g.D.Dram.view c.args.chip.now) (g.D.Dram.view c.do_case.new.chip)
-    (program_is c.args.case c.deref.result.now f)
+    (program_is c.args.case c.deref.result.now f) c.do_case.ensures.kept.faults
     (subst (λ (bytes : List ℕ). Known (λ before after. after ≡ before ++ bytes) old.sent new.sent)
     line (at_ok c.put.result is c.put.ensures.sent)) c.put.ensures.counts
     (c.in-Ok-do_case.ensures.done f) c.in-Ok-do_case.ensures.few

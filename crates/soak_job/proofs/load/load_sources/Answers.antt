@@ -7,8 +7,7 @@ use Rattle.std.proofs.lemmas.List.{drop_all}
 use Rattle.op_text.specs.declared.tree.Kind.TheVariants.{Word}
 use Rattle.dram_model.proofs.EventLaws.{Kept-more}
 use Rattle.soak_job.proofs.Counting.{values_small}
-use Rattle.soak_job.proofs.Running.{on_err_always}
-use Rattle.soak_job.proofs.Loading.{all_loaded, has_rows, source_failed, step_as}
+use Rattle.soak_job.proofs.Loading.{all_loaded, has_rows, step_as}
 use Rattle.soak_job.proofs.load.load_sources.Goals as goal
 
 pub write_object-requires-clause-rows : goal.write_object-requires-clause-rows
@@ -69,15 +68,3 @@ returns-clause-numbers g c =
     (width 0 (rw shape (omega arith)) ∙ ap (λ (x : Geometry). 64 * x.words) shape)
     (width 1 (rw shape (omega arith)) ∙ ap (λ (x : Geometry). 64 * x.words) shape)
     c.loop-kind.invariant.so_far).1
-
-pub returns-in_err-write_object-clause-left : goal.returns-in_err-write_object-clause-left
-returns-in_err-write_object-clause-left g c =
-    let i = c.loop-kind.kind-index in
-    let start = g.D.Dram.view c.args.chip.now in
-    let now = g.D.Dram.view c.loop-kind.chip in
-    on_err_always _ (source_failed c.args.n c.args.kinds.now (drop i c.args.kinds.now)
-    (drop (suc i) c.args.kinds.now) c.draw-values.result (get_or c.args.kinds.now i Word)
-    c.args.generator.now c.loop-kind.generator c.loop-kind.row c.rows_of-rows.result start now
-    (g.D.Dram.view c.write_object.new.dram).banks (drop-cons c.args.kinds.now i Word (omega arith))
-    c.rows_of-rows.ensures c.draw-values.ensures.values c.loop-kind.invariant.so_far
-    c.in_err-write_object.ensures.stopped)

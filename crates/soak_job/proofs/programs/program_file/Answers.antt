@@ -2,7 +2,6 @@ use Rattle.std.proofs.Common.{List, map, subst}
 use Rattle.op_text.specs.Language.{Operation}
 use Rattle.uprog_code.specs.Shape.{microprograms_of}
 use Rattle.uprog_code.specs.Texts.{ImplementsAll, text_op}
-use Rattle.uprog_gen.specs.Totals.{AreExact}
 use Rattle.soak_job.proofs.Making.{if_ok, made}
 use Rattle.soak_job.proofs.programs.program_file.Goals as goal
 
@@ -11,6 +10,5 @@ returns c =
     let ms = microprograms_of c.in-Ok.compiled.program in
     let implements = subst (λ (ops : List Operation). ImplementsAll ms (map text_op ops))
     c.in_ok-ops.ensures c.in-Ok.ensures.implements in
-    let exact = subst (AreExact ms) c.in_ok-ops.ensures c.in-Ok.ensures.exact in
     if_ok c.encode.result c.encode.ensures
-    (λ file is. made c.args.op ms file.items implements exact c.in-Ok.ensures.program is)
+    (λ file is. made c.args.op ms file.items implements c.in-Ok.ensures.program is)

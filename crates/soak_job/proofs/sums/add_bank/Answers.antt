@@ -1,11 +1,9 @@
-use Rattle.std.proofs.Common.{◌+◌, ◌%◌, ◌^◌, ◌∙◌, ap, sym, []}
+use Rattle.std.proofs.Common.{◌+◌, ◌%◌, ◌^◌, ◌∙◌, ap, sym}
 use Rattle.std.specs.Prelude.{sum}
 use Rattle.std.specs.List.{range_with_len}
 use Rattle.std.proofs.lemmas.List.Sums.{sum-map}
 use Rattle.dram_model.specs.Elements.{number}
 use Rattle.transpose_unit.specs.Stage.{stage_number}
-use Rattle.transpose_unit.proofs.Stopping.{stopped_first}
-use Rattle.soak_job.proofs.Running.{on_err_always}
 use Rattle.soak_job.proofs.sums.add_bank.Goals as goal
 
 pub returns-clause-sum : goal.returns-clause-sum
@@ -15,8 +13,3 @@ returns-clause-sum g c =
     c.add_numbers.ensures ∙ ap (λ x. (c.args.sum + x) % 2 ^ 64)
     (sym (sum-map read (range_with_len 0 128)) ∙ ap sum c.in_ok-read_segment.ensures.numbers
     ∙ sum-map (number c.args.base c.args.n) columns)
-
-pub returns-in_err-read_segment-clause-left : goal.returns-in_err-read_segment-clause-left
-returns-in_err-read_segment-clause-left g c =
-    on_err_always _ (stopped_first [] c.args.bank (g.D.Dram.view c.args.chip.now).banks
-    (g.D.Dram.view c.read_segment.new.dram).banks c.in_err-read_segment.ensures.failed.others)

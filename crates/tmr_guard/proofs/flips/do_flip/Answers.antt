@@ -1,7 +1,6 @@
 use Rattle.std.proofs.Common.{◌∙◌, ap}
 use Rattle.guard_model.specs.Flips.{with_bit_inverted}
 use Rattle.tmr_guard.proofs.Flipping.{banks_of, flip_done, log_of, no_event_of, others_of}
-use Rattle.tmr_guard.proofs.Flipping.{unfailed_of}
 use Rattle.tmr_guard.proofs.flips.do_flip.Goals as goal
 
 pub returns-clause-banks : goal.returns-clause-banks
@@ -13,12 +12,6 @@ returns-clause-banks g c =
     let b = c.in_ok-read_row.ensures.did.banks in
     let e = flip_done c.args.f.now (V c.args.dram.now).banks _ _ _ b r i in
     banks_of c.write_row.result _ _ _ _ h e
-
-pub returns-clause-faults : goal.returns-clause-faults
-returns-clause-faults g c =
-    let V = g.D.Dram.view in
-    unfailed_of c.write_row.result _ (V c.args.dram.now) _ (V c.write_row.new.self)
-    c.in_ok-read_row.ensures.did c.write_row.ensures.did
 
 pub returns-clause-log : goal.returns-clause-log
 returns-clause-log g c =

@@ -4,7 +4,7 @@ use Rattle.uprog_code.specs.Shape.{microprogram_of}
 use Rattle.loop_ir.specs.Plain.{steps_of}
 use Rattle.loop_ir.specs.Statements.{slots_of}
 use Rattle.uprog_gen.specs.Graphs.{graphs_in}
-use Rattle.uprog_gen.proofs.Meaning.Taken.{entry_graphed, entry_exact}
+use Rattle.uprog_gen.proofs.Meaning.Taken.{entry_graphed}
 use Rattle.uprog_gen.proofs.ops.compile_op.Goals as goal
 
 pub returns-clause-graphs : goal.returns-clause-graphs
@@ -24,7 +24,6 @@ pub returns-clause-compiled : goal.returns-clause-compiled
 returns-clause-compiled c =
     let l = c.in_ok-lowered.lowered in
     let is = c.in_ok-lowered.ensures in
-    let op = operation c.args.op.now in
     record {
       slots = slots_of l.names;
       free_bit = l.names.free_bit;
@@ -33,7 +32,4 @@ returns-clause-compiled c =
       from = c.in_ok-entry.ensures.compiled;
       forms = is.forms;
       written = is.written;
-      exact = entry_exact op c.requires.meets (slots_of l.names) l.names.free_bit l.names.free_word
-          is.names (map steps_of l.programs.items) is.written (microprogram_of c.in_ok-entry.entry)
-          c.in_ok-entry.ensures.exact;
     }
