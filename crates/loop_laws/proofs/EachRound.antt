@@ -1,20 +1,15 @@
 -- What holds of every body holds of every round.
-use Rattle.std.proofs.Common.{ℕ, zero, suc, ◌+◌, ◌≤◌, List, [], ◌∷◌, map}
+use Rattle.std.proofs.Common.{ℕ, zero, suc, ◌+◌, List, [], ◌∷◌}
 use Rattle.std.specs.List.{AllByRecursion}
 use Rattle.loop_ir.specs.Loops.{step_rounds, RoundOf, one_round, rounds, positions, inner_rounds}
 use Rattle.loop_ir.specs.Loops.{all_rounds, flow_rounds}
-use Rattle.loop_ir.specs.Plain.{Block, InnerOf, StepOf, inner_map, step_map}
+use Rattle.loop_ir.specs.Plain.{Block, InnerOf, StepOf}
 use Rattle.loop_ir.specs.Plain.{AllInner, AllParts}
 use Rattle.loop_ir.specs.Plain.InnerOf.{Alone, Across}
 use Rattle.loop_ir.specs.Plain.StepOf.{Single, Along, Nest, Flowed}
-use Rattle.loop_ir.specs.Flows.{FlowOf, TurnsOf, AllFlow, AllActs, flow_map, acts_map, zeros}
-use Rattle.loop_ir.specs.Flows.FlowOf.{End, Do, Put, If, Loop}
-use Rattle.loop_ir.specs.Flows.TurnsOf.{Last, Turn}
+use Rattle.loop_ir.specs.Flows.{zeros}
 use Rattle.loop_laws.proofs.FlowRounds.{run_all}
-use Rattle.loop_ir.specs.Costs.{rounds_cost, plain_costs}
-use Rattle.loop_laws.specs.Rooms.{Room, Marked, placed_body, placed_steps}
 use Rattle.loop_laws.proofs.EveryRound.{all_append}
-use Rattle.loop_laws.proofs.Costing.{CarriesFew, rounds-plain}
 
 module _ (P : Block → Type 0) where
   abbrev OfPart : RoundOf Block → Type 0
@@ -49,39 +44,3 @@ module _ (P : Block → Type 0) where
       (each_round n ss all.1)
   each_round n (Flowed x ∷ ss) all = all_append OfPart (flow_rounds n x) (all_rounds n ss)
       (run_all Block P n x all.0 zeros) (each_round n ss all.1)
-
-  module _ (f : Marked → Block) (h : (b : Marked) → P (f b)) where
-    inners_made : (xs : List (InnerOf Marked)) → AllInner P (map (inner_map f) xs)
-    inners_made [] = tt
-    inners_made (Alone b ∷ xs) = (h b, inners_made xs)
-    inners_made (Across c b ∷ xs) = (h b, inners_made xs)
-
-    mutual
-      flow_made : (x : FlowOf Marked) → AllFlow P (flow_map f x)
-      flow_made End = tt
-      flow_made (Do b k) = (h b, flow_made k)
-      flow_made (Put m k) = flow_made k
-      flow_made (If r x y k) = (flow_made x, (flow_made y, flow_made k))
-      flow_made (Loop r ts k) = (acts_made ts, flow_made k)
-
-      acts_made : (ts : TurnsOf Marked) → AllActs P (acts_map f ts)
-      acts_made (Last x) = flow_made x
-      acts_made (Turn x ts) = (flow_made x, acts_made ts)
-
-    pub all_made : (ss : List (StepOf Marked)) → AllParts P (map (step_map f) ss)
-    all_made [] = tt
-    all_made (Single b ∷ ss) = (h b, all_made ss)
-    all_made (Along b ∷ ss) = (h b, all_made ss)
-    all_made (Nest xs ∷ ss) = (inners_made xs, all_made ss)
-    all_made (Flowed x ∷ ss) = (flow_made x, all_made ss)
-
-carries_none : (rooms : List Room) (b : Marked) → CarriesFew (placed_body rooms b)
-carries_none rooms b carried = absurd cc
-
--- no sequence of its own makes a round of a written program dearer
-pub placed-plain : (rooms : List Room) (ss : List (StepOf Marked)) (n : ℕ)
-    → rounds_cost (all_rounds n (placed_steps rooms ss))
-    ≤ plain_costs (all_rounds n (placed_steps rooms ss))
-placed-plain rooms ss n = rounds-plain (all_rounds n (placed_steps rooms ss))
-    (each_round CarriesFew n (placed_steps rooms ss)
-    (all_made CarriesFew (placed_body rooms) (carries_none rooms) ss))

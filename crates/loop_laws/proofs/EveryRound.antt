@@ -1,18 +1,19 @@
 -- Every round of a loop program by owners keeps the rules.
 use Rattle.std.proofs.Common.{◌≡◌, ℕ, zero, suc, ◌+◌, ◌-◌, ◌<◌, ◌≤◌, Bool, true, false, List, []}
-use Rattle.std.proofs.Common.{◌∷◌, ◌++◌, map, length, refl, sym, ap, ◌∙◌, subst, ⊎_elim, arith, ◌⊎◌}
+use Rattle.std.proofs.Common.{◌∷◌, ◌++◌, map, length, refl, sym, ap, ◌∙◌, subst, arith, ◌⊎◌}
 use Rattle.std.proofs.Common.{inl, inr}
-use Rattle.std.specs.Prelude.{◌&&◌, ◌==◌, nat_le}
-use Rattle.std.specs.List.{AllByRecursion, list_all}
-use Rattle.std.proofs.lemmas.Bool.{cases_eq, cases_lt, and_parts, eqb-true}
+use Rattle.std.specs.Prelude.{nat_le}
+use Rattle.std.specs.List.{AllByRecursion}
+use Rattle.std.proofs.lemmas.Bool.Decides.{nat_tests}
+use Rattle.std.proofs.lemmas.Bool.{cases_eq, cases_lt, and_parts}
 use Rattle.std.proofs.lemmas.List.{length-map}
-use Rattle.loop_ir.specs.Loops.{step_rounds, RoundOf, round_at, one_round, rounds, positions}
+use Rattle.bit_rows.specs.declared.TheConstants.{WIDTH_MAX}
+use Rattle.loop_ir.specs.Loops.{RoundOf, round_at, one_round, rounds, positions}
 use Rattle.loop_ir.specs.Loops.{sub_value, inner_rounds, all_rounds}
 use Rattle.loop_ir.specs.declared.ir.Space.{Space}
 use Rattle.loop_ir.specs.declared.ir.Space.TheVariants.{Result, Source, ScratchBit, ScratchWord}
 use Rattle.loop_ir.specs.declared.ir.Space.TheVariants.{Cells}
 use Rattle.loop_ir.specs.declared.ir.Sub.{Sub}
-use Rattle.loop_ir.specs.declared.ir.Sub.TheVariants as sub
 use Rattle.loop_ir.specs.declared.ir.Count.{Count}
 use Rattle.loop_ir.specs.declared.ir.Count.TheVariants.{All, Rest}
 use Rattle.loop_ir.specs.declared.ir.Place.{Place}
@@ -21,41 +22,33 @@ use Rattle.loop_ir.specs.Plain.InnerOf.{Alone, Across}
 use Rattle.loop_ir.specs.Plain.StepOf.{Single, Along, Nest, Flowed}
 use Rattle.loop_ir.specs.Spots.{Spot, spot_at, spot_in, nth_place, nth_spot, IsOwn, is_state}
 use Rattle.loop_ir.specs.WellFormed.{IsOneValue}
-use Rattle.loop_ir.specs.Costs.{used_subs, code_cost, bodies}
-use Rattle.loop_ir.specs.Limits.{IsRound, StepHasValues, step_stands}
-use Rattle.loop_ir.specs.Chains.{steps_find}
-use Rattle.loop_laws.specs.Rooms.{Extent, One, Full, extent, Room, room_at, room_for, Owner, InRoom}
+use Rattle.loop_ir.specs.Limits.{IsRound, StepHasValues}
+use Rattle.loop_laws.specs.Rooms.{Extent, extent, Room, room_at, room_for, Owner, InRoom}
 use Rattle.loop_laws.specs.Rooms.{InCells, Mark, Marked, placed, placed_body, placed_steps, row_in}
 use Rattle.loop_laws.specs.Rooms.{IsOwned, RoomsApart, Reach, Nowhere, Whole, Left, is_long}
-use Rattle.loop_laws.specs.Rooms.{has_inner, is_left, fits, reach_of}
+use Rattle.loop_laws.specs.Rooms.{has_inner, is_left, fits, reach_of, all_fit, writes_fit}
+use Rattle.loop_laws.specs.Rooms.{body_fits, inners_fit, steps_fit}
 use Rattle.loop_laws.specs.Forms.{IsSlim, has_room, inners_have_room, steps_have_room}
 use Rattle.loop_laws.specs.Forms.{has_known_states, inners_have_known, steps_have_known}
 use Rattle.loop_laws.specs.Laws.{MarksAreEnough}
-use Rattle.loop_laws.proofs.Fitting.{mark_at, IsThere, InnerOk, OuterOk, BodyFits, InnersFit}
-use Rattle.loop_laws.proofs.Fitting.{StepsFit}
+use Rattle.loop_laws.proofs.Fitting.{mark_at, IsThere, InnerOk, OuterOk}
 use Rattle.loop_laws.proofs.Alike.{HaveRows, past_row, states_fit, states_known, steps_find_like}
-use Rattle.loop_laws.proofs.Good.{steps_are_fit}
+use Rattle.loop_laws.proofs.Good.{WriteAt, fit_at, write_at, writes_once, alone_sub, alone_once}
 
 pub most_is : (a b : ℕ) → nat_le a b ≡ true → a ≤ b
 most_is a b e = grind arith
 
 long : (n : ℕ) (w : Extent) → is_long w ≡ true → n ≤ extent n w
-long n One e = cc
-long n Full e = omega arith
+long n w e = grind arith
 
 pub first : (n : ℕ) (w : Extent) → 0 < n → 0 < extent n w
-first n One h = omega arith
-first n Full h = h
+first n w h = grind arith
 
-inner_below : (n i o : ℕ) (r : Reach) → InnerOk n i o r → has_inner r ≡ true → i < n
-inner_below n i o Nowhere ok e = cc
-inner_below n i o Whole ok e = ok
-inner_below n i o Left ok e = omega (arith, ok)
-
-left_below : (n i o : ℕ) (r : Reach) → InnerOk n i o r → is_left r ≡ true → i < n - o
-left_below n i o Nowhere ok e = cc
-left_below n i o Whole ok e = cc
-left_below n i o Left ok e = ok
+inner_ok : (n i o : ℕ) (r : Reach) → InnerOk n i o r
+    → (has_inner r ≡ true → i < n) × (is_left r ≡ true → i < n - o)
+inner_ok n i o Nowhere ok = ((λ e. cc), (λ e. cc))
+inner_ok n i o Whole ok = ((λ e. ok), (λ e. cc))
+inner_ok n i o Left ok = ((λ e. omega (arith, ok)), (λ e. ok))
 
 outer_below : (n o : ℕ) (b : Bool) → OuterOk n o b → b ≡ true → o < n
 outer_below n o true ok e = ok
@@ -64,23 +57,13 @@ outer_below n o false ok e = cc
 -- a subscript that fits stays below the number of rows
 pub within : (n i o : ℕ) (r : Reach) (outer : Bool) (w : Extent) (u : Sub) → 0 < n → InnerOk n i o r
     → OuterOk n o outer → fits r outer w u ≡ true → sub_value n i o [] u < extent n w
-within n i o r outer w sub.Zero h ik ok e = first n w h
-within n i o r outer w sub.Top h ik ok e = let a = long n w e in omega arith
-within n i o r outer w sub.Inner h ik ok e = let p = and_parts (is_long w) (has_inner r) e in
-    let a = long n w p.0 in let b = inner_below n i o r ik p.1 in omega arith
-within n i o r outer w sub.InnerDown h ik ok e = let p = and_parts (is_long w) (has_inner r) e in
-    let a = long n w p.0 in omega arith
-within n i o r outer w sub.Outer h ik ok e = let p = and_parts (is_long w) outer e in
-    let a = long n w p.0 in let b = outer_below n o outer ok p.1 in omega arith
-within n i o r outer w sub.OuterDown h ik ok e = let p = and_parts (is_long w) outer e in
-    let a = long n w p.0 in omega arith
-within n i o r outer w sub.Sum h ik ok e = let p = and_parts (is_long w) (outer && is_left r) e in
-    let q = and_parts outer (is_left r) p.1 in let a = long n w p.0 in
-    let b = left_below n i o r ik q.1 in omega arith
-within n i o r outer w sub.DownSum h ik ok e = cc
-within n i o r outer w sub.DownPlusN h ik ok e = cc
-within n i o r outer w sub.NPlusInner h ik ok e = cc
-within n i o r outer w (sub.Register k) h ik ok e = cc
+within n i o r outer w u h ik ok e = by n i o r outer w u h (inner_ok n i o r ik)
+    (outer_below n o outer ok) e
+  where
+    by : (n i o : ℕ) (r : Reach) (outer : Bool) (w : Extent) (u : Sub) → 0 < n
+        → (has_inner r ≡ true → i < n) × (is_left r ≡ true → i < n - o)
+        → (outer ≡ true → o < n) → fits r outer w u ≡ true → sub_value n i o [] u < extent n w
+    by n i o r outer w u h x y e = grind arith
 
 pub nth_placed : (rooms : List Room) (ms : List Mark) (k : ℕ) → k < length ms
     → nth_place (map (placed rooms) ms) k ≡ placed rooms (mark_at ms k)
@@ -96,7 +79,7 @@ placed_same rooms p m e f = ap (λ x. placed rooms (record { owner = x; sub = p.
 pub below_map : {A B : Type 0} (f : A → B) (xs : List A) (k : ℕ) → k < length (map f xs) → k < length xs
 below_map f xs k lt = let e = length-map xs f in omega arith
 
-spot_space : (n : ℕ) (s : Space) (w v : ℕ) → (spot_in n s w v).space ≡ s
+pub spot_space : (n : ℕ) (s : Space) (w v : ℕ) → (spot_in n s w v).space ≡ s
 spot_space n Result w v = refl
 spot_space n Source w v = refl
 spot_space n ScratchBit w v = refl
@@ -104,27 +87,19 @@ spot_space n ScratchWord w v = refl
 spot_space n Cells w v = refl
 
 pub own_spot : (n : ℕ) (s : Space) (w v : ℕ) → IsOwn s → IsOwn (spot_in n s w v).space
-own_spot n Result w v own = own
-own_spot n Source w v own = own
-own_spot n ScratchBit w v own = own
-own_spot n ScratchWord w v own = own
-own_spot n Cells w v own = own
-
-abbrev number_of : Owner → ℕ
-number_of (InRoom k) = k
-number_of (InCells w) = w
+own_spot n s w v own = subst IsOwn (sym (spot_space n s w v)) own
 
 -- two owners are one or they are not
 pub owner_cases : (a b : Owner) → (a ≡ b) ⊎ (a ≡ b → ⊥)
 owner_cases (InRoom j) (InRoom k) = elim (cases_eq j k) [
   | inl e ↦ inl (ap InRoom e)
-  | inr ne ↦ inr (λ e. ne (ap number_of e))
+  | inr ne ↦ inr (λ e. ne (cc))
 ]
 owner_cases (InRoom j) (InCells w) = inr (λ e. cc)
 owner_cases (InCells w) (InRoom k) = inr (λ e. cc)
 owner_cases (InCells v) (InCells w) = elim (cases_eq v w) [
   | inl e ↦ inl (ap InCells e)
-  | inr ne ↦ inr (λ e. ne (ap number_of e))
+  | inr ne ↦ inr (λ e. ne (cc))
 ]
 
 -- a row of a room of rows is no state
@@ -161,144 +136,141 @@ module _ (n : ℕ) (rooms : List Room) (are : RoomsApart n rooms) (rows : HaveRo
   own_of (InRoom k) there w = are.own k there w
   own_of (InCells x) there w = tt
 
-module _ (n : ℕ) (rooms : List Room) (some : 0 < n) (are : RoomsApart n rooms)
-    (rows : HaveRows rooms) (r : Reach) (outer : Bool) (b : Marked)
-    (fit : BodyFits r outer rooms b.reads b.writes) where
-  module _ (i o : ℕ) (ik : InnerOk n i o r) (ok : OuterOk n o outer) where
-    read_at : (k : ℕ) → k < length b.reads → nth_spot n i o [] (map (placed rooms) b.reads) k
-        ≡ row_in n (room_for rooms (mark_at b.reads k).owner)
-        (sub_value n i o [] (mark_at b.reads k).sub)
-    read_at k lk = ap (spot_at n i o []) (nth_placed rooms b.reads k lk)
+first_ok : (n : ℕ) (r : Reach) → 0 < n → InnerOk n 0 0 r
+first_ok n Nowhere some = tt
+first_ok n Whole some = some
+first_ok n Left some = omega arith
 
-    write_at : (j : ℕ) → j < length b.writes → nth_spot n i o [] (map (placed rooms) b.writes) j
-        ≡ row_in n (room_for rooms (mark_at b.writes j).owner)
-        (sub_value n i o [] (mark_at b.writes j).sub)
-    write_at j lj = ap (spot_at n i o []) (nth_placed rooms b.writes j lj)
+outer_ok : (n : ℕ) (outer : Bool) → 0 < n → OuterOk n 0 outer
+outer_ok n true some = some
+outer_ok n false some = tt
 
-    read_below : (k : ℕ) → k < length b.reads
-        → sub_value n i o [] (mark_at b.reads k).sub
-        < extent n (room_for rooms (mark_at b.reads k).owner).rows
-    read_below k lk = within n i o r outer (room_for rooms (mark_at b.reads k).owner).rows
-        (mark_at b.reads k).sub some ik ok (fit.read_fits k lk)
+-- a place that fits has a row of its owner
+record Lies (n i o : ℕ) (rooms : List Room) (ms : List Mark) (k : ℕ) : Type 0 where
+  there : IsThere rooms (mark_at ms k).owner
+  below : sub_value n i o [] (mark_at ms k).sub < extent n (room_for rooms (mark_at ms k).owner).rows
+  place : nth_place (map (placed rooms) ms) k ≡ placed rooms (mark_at ms k)
 
-    write_below : (j : ℕ) → j < length b.writes
-        → sub_value n i o [] (mark_at b.writes j).sub
-        < extent n (room_for rooms (mark_at b.writes j).owner).rows
-    write_below j lj = within n i o r outer (room_for rooms (mark_at b.writes j).owner).rows
-        (mark_at b.writes j).sub some ik ok (fit.write_fits j lj)
+lies : (n i o : ℕ) (r : Reach) (outer : Bool) (rooms : List Room) (ms : List Mark) → 0 < n
+    → InnerOk n i o r → OuterOk n o outer → all_fit r outer rooms ms ≡ true → (k : ℕ)
+    → k < length (map (placed rooms) ms) → Lies n i o rooms ms k
+lies n i o r outer rooms ms some ik ok e k lt =
+    let l = below_map (placed rooms) ms k lt in
+    let f = fit_at r outer rooms ms k e l in
+    record {
+      there = f.there;
+      below = within n i o r outer _ (mark_at ms k).sub some ik ok f.fit;
+      place = nth_placed rooms ms k l;
+    }
+
+module _ (n : ℕ) (rooms : List Room) (are : RoomsApart n rooms) (rows : HaveRows rooms) where
+  module _ (i o : ℕ) where
+    abbrev Row : List Mark → ℕ → Spot
+    Row ms k = nth_spot n i o [] (map (placed rooms) ms) k
 
     -- rows that are one have one owner
-    writes_meet : (i' j : ℕ) → i' < length b.writes → j < length b.writes
-        → nth_spot n i o [] (map (placed rooms) b.writes) i'
-        ≡ nth_spot n i o [] (map (placed rooms) b.writes) j
-        → (mark_at b.writes i').owner ≡ (mark_at b.writes j).owner
-    writes_meet i' j li lj e = ⊎_elim
-        (λ (c : (mark_at b.writes i').owner ≡ (mark_at b.writes j).owner). c)
-        (λ (c : (mark_at b.writes i').owner ≡ (mark_at b.writes j).owner
-        → ⊥). absurd (owners_apart n rooms are rows (mark_at b.writes i').owner (mark_at b.writes j).owner
-        (sub_value n i o [] (mark_at b.writes i').sub) (sub_value n i o [] (mark_at b.writes j).sub)
-        (fit.write_owner i' li) (fit.write_owner j lj) (fit.written i' li) c (write_below i' li)
-        (write_below j lj) (sym (write_at i' li) ∙ e ∙ write_at j lj)))
-        (owner_cases (mark_at b.writes i').owner (mark_at b.writes j).owner)
+    meets : (ms ns : List Mark) (j k : ℕ) → Lies n i o rooms ms j → Lies n i o rooms ns k
+        → (room_for rooms (mark_at ms j).owner).written ≡ true → Row ms j ≡ Row ns k
+        → (mark_at ms j).owner ≡ (mark_at ns k).owner
+    meets ms ns j k x y w e = elim (owner_cases (mark_at ms j).owner (mark_at ns k).owner) [
+      | inl c ↦ c
+      | inr ne ↦ absurd (owners_apart n rooms are rows _ _ _ _ x.there y.there w ne x.below y.below
+          (sym (ap (spot_at n i o []) x.place) ∙ e ∙ ap (spot_at n i o []) y.place))
+    ]
 
-    reads_meet : (j k : ℕ) → j < length b.writes → k < length b.reads
-        → nth_spot n i o [] (map (placed rooms) b.writes) j
-        ≡ nth_spot n i o [] (map (placed rooms) b.reads) k
-        → (mark_at b.writes j).owner ≡ (mark_at b.reads k).owner
-    reads_meet j k lj lk e = ⊎_elim
-        (λ (c : (mark_at b.writes j).owner ≡ (mark_at b.reads k).owner). c)
-        (λ (c : (mark_at b.writes j).owner ≡ (mark_at b.reads k).owner
-        → ⊥). absurd (owners_apart n rooms are rows (mark_at b.writes j).owner (mark_at b.reads k).owner
-        (sub_value n i o [] (mark_at b.writes j).sub) (sub_value n i o [] (mark_at b.reads k).sub)
-        (fit.write_owner j lj) (fit.read_owner k lk) (fit.written j lj) c (write_below j lj)
-        (read_below k lk) (sym (write_at j lj) ∙ e ∙ read_at k lk)))
-        (owner_cases (mark_at b.writes j).owner (mark_at b.reads k).owner)
-
-    space_of : (j : ℕ) → j < length b.writes
-        → IsOwn (nth_spot n i o [] (map (placed rooms) b.writes) j).space
-    space_of j lj = let w = (room_for rooms (mark_at b.writes j).owner) in
-        subst (λ (q : Spot). IsOwn q.space) (sym (write_at j lj))
-        (own_spot n w.space w.which (sub_value n i o [] (mark_at b.writes j).sub)
-        (own_of n rooms are rows (mark_at b.writes j).owner (fit.write_owner j lj)
-        (fit.written j lj)))
-
-    round_is : IsRound (IsOwned n rooms) n (round_at (placed_body rooms b) i o)
-    round_is =
-        let rd = below_map (placed rooms) b.reads in
-        let wr = below_map (placed rooms) b.writes in
-        record {
-          reads = λ k lk row. owned_at n rooms are rows (mark_at b.reads k).owner
-              (sub_value n i o [] (mark_at b.reads k).sub)
-              (nth_spot n i o [] (map (placed rooms) b.reads) k) (fit.read_owner k (rd k lk))
-              (sym (ap (λ (p : Place). is_state p.space) (nth_placed rooms b.reads k (rd k lk)))
-              ∙ row) (read_below k (rd k lk)) (read_at k (rd k lk));
-          writes = λ j lj row. owned_at n rooms are rows (mark_at b.writes j).owner
-              (sub_value n i o [] (mark_at b.writes j).sub)
-              (nth_spot n i o [] (map (placed rooms) b.writes) j) (fit.write_owner j (wr j lj))
-              (sym (ap (λ (p : Place). is_state p.space) (nth_placed rooms b.writes j (wr j lj)))
-              ∙ row) (write_below j (wr j lj)) (write_at j (wr j lj));
-          own = λ j lj. space_of j (wr j lj);
-          apart = λ i' j li lj e. fit.differ i' j (wr i' li) (wr j lj)
-              (writes_meet i' j (wr i' li) (wr j lj) e);
-          same = λ j k lj lk e. (let c = reads_meet j k (wr j lj) (rd k lk) e in
-              nth_placed rooms b.writes j (wr j lj)
-              ∙ placed_same rooms (mark_at b.writes j) (mark_at b.reads k) c
-              (fit.same j k (wr j lj) (rd k lk) c) ∙ sym (nth_placed rooms b.reads k (rd k lk)));
-          once = λ j k l lj lk ll e f. fit.once j k l (wr j lj) (rd k lk) (rd l ll)
-              (reads_meet j k (wr j lj) (rd k lk) e) (reads_meet j l (wr j lj) (rd l ll) f);
-        }
+    had : (ms : List Mark) (k : ℕ) → Lies n i o rooms ms k
+        → is_state (nth_place (map (placed rooms) ms) k).space ≡ false → IsOwned n rooms (Row ms k)
+    had ms k x row = owned_at n rooms are rows _ _ _ x.there
+        (sym (ap (λ (p : Place). is_state p.space) x.place) ∙ row) x.below
+        (ap (spot_at n i o []) x.place)
 
   -- places of one value have one owner
-  one_owner : (p q : Place) (x y : Mark) → p ≡ placed rooms x → q ≡ placed rooms y
-      → IsThere rooms x.owner → IsThere rooms y.owner → (room_for rooms x.owner).written ≡ true
-      → IsOneValue p q → x.owner ≡ y.owner
-  one_owner p q x y ep eq lx ly w e = ⊎_elim
-      (λ (c : x.owner ≡ y.owner). c)
-      (λ (c : x.owner ≡ y.owner → ⊥).
-      let a = room_for rooms x.owner in
-      let b = room_for rooms y.owner in
-      let s : a.space ≡ b.space = sym (ap (λ (p : Place). p.space) ep) ∙ e.0
-      ∙ ap (λ (p : Place). p.space) eq in
-      let t : a.which ≡ b.which = sym (ap (λ (p : Place). p.which) ep) ∙ e.1
-      ∙ ap (λ (p : Place). p.which) eq in
-      absurd (owners_apart n rooms are rows x.owner y.owner 0 0 lx ly w c (first n a.rows some) (first n b.rows some)
-      (ap (λ z. spot_in n z a.which 0) s ∙ ap (λ z. spot_in n b.space z 0) t)))
-      (owner_cases x.owner y.owner)
+  one_owner : (ms ns : List Mark) (j k : ℕ) → Lies n 0 0 rooms ms j → Lies n 0 0 rooms ns k → 0 < n
+      → (room_for rooms (mark_at ms j).owner).written ≡ true
+      → IsOneValue (nth_place (map (placed rooms) ms) j) (nth_place (map (placed rooms) ns) k)
+      → (mark_at ms j).owner ≡ (mark_at ns k).owner
+  one_owner ms ns j k x y some w e = elim (owner_cases (mark_at ms j).owner (mark_at ns k).owner) [
+    | inl c ↦ c
+    | inr ne ↦
+        let a = room_for rooms (mark_at ms j).owner in
+        let b = room_for rooms (mark_at ns k).owner in
+        let ex = x.place in
+        let ey = y.place in
+        let s : a.space ≡ b.space = cc (e.0) in
+        let t : a.which ≡ b.which = cc (e.1) in
+        absurd (owners_apart n rooms are rows _ _ 0 0 x.there y.there w ne (first n a.rows some)
+        (first n b.rows some) (cc (s, t)))
+  ]
 
-  pub slim_is : has_room (placed_body rooms b) ≡ true
-      → has_known_states (placed_body [] b) ≡ true → IsSlim (placed_body rooms b)
-  slim_is e h =
-      let c = placed_body rooms b in
-      let a1 = and_parts (nat_le c.graph.inputs (length c.reads)) _ e in
-      let a2 = and_parts (length c.outs == length c.writes) _ a1.1 in
-      let a3 = and_parts (nat_le c.graph.inputs 80) _ a2.1 in
-      let a4 = and_parts (nat_le (length c.outs) 8) _ a3.1 in
-      let a5 = and_parts (nat_le (length c.graph.nodes + length c.outs) 32) _ a4.1 in
-      let rd = below_map (placed rooms) b.reads in
-      let wr = below_map (placed rooms) b.writes in
-      record {
-        reads = most_is c.graph.inputs (length c.reads) a1.0;
-        states = states_fit rooms rows b h (eqb-true (length c.outs) (length c.writes) a2.0);
-        found = λ carried. absurd (cc);
-        known = λ bare. states_known rooms rows b h;
-        apart = λ i j li lj h. fit.differ i j (wr i li) (wr j lj)
-            (one_owner (nth_place c.writes i) (nth_place c.writes j) (mark_at b.writes i)
-            (mark_at b.writes j) (nth_placed rooms b.writes i (wr i li))
-            (nth_placed rooms b.writes j (wr j lj)) (fit.write_owner i (wr i li))
-            (fit.write_owner j (wr j lj)) (fit.written i (wr i li)) h);
-        same = λ j k lj lk h.
-            ap (λ (p : Place). p.sub) (nth_placed rooms b.writes j (wr j lj))
-            ∙ fit.same j k (wr j lj) (rd k lk)
-            (one_owner (nth_place c.writes j) (nth_place c.reads k) (mark_at b.writes j)
-            (mark_at b.reads k) (nth_placed rooms b.writes j (wr j lj))
-            (nth_placed rooms b.reads k (rd k lk)) (fit.write_owner j (wr j lj))
-            (fit.read_owner k (rd k lk)) (fit.written j (wr j lj)) h)
-            ∙ sym (ap (λ (p : Place). p.sub) (nth_placed rooms b.reads k (rd k lk)));
-        inputs = most_is c.graph.inputs 80 a3.0;
-        outputs = most_is (length c.outs) 8 a4.0;
-        rows = most_is (length c.graph.nodes + length c.outs) 32 a5.0;
-        subs = most_is (length (used_subs c)) 3 a5.1;
-      }
+  module _ (some : 0 < n) (r : Reach) (outer : Bool) (b : Marked)
+      (e : body_fits r outer rooms b ≡ true) where
+    reads : all_fit r outer rooms b.reads ≡ true
+    reads = grind arith
+
+    writes : all_fit r outer rooms b.writes ≡ true
+    writes = grind arith
+
+    fit : writes_fit rooms b.reads b.writes ≡ true
+    fit = grind arith
+
+    at : (j : ℕ) → j < length (map (placed rooms) b.writes)
+        → WriteAt rooms b.reads (mark_at b.writes j)
+    at j lj = write_at rooms b.reads b.writes j fit (below_map (placed rooms) b.writes j lj)
+
+    round_is : (i o : ℕ) → InnerOk n i o r → OuterOk n o outer
+        → IsRound (IsOwned n rooms) n (round_at (placed_body rooms b) i o)
+    round_is i o ik ok =
+        let rd = below_map (placed rooms) b.reads in
+        let wr = below_map (placed rooms) b.writes in
+        let x = lies n i o r outer rooms b.reads some ik ok reads in
+        let y = lies n i o r outer rooms b.writes some ik ok writes in
+        record {
+          reads = λ k lk row. had i o b.reads k (x k lk) row;
+          writes = λ j lj row. had i o b.writes j (y j lj) row;
+          own = λ j lj. (let w = room_for rooms (mark_at b.writes j).owner in
+              subst (λ (q : Spot). IsOwn q.space) (sym (ap (spot_at n i o []) (y j lj).place))
+              (own_spot n w.space w.which _
+              (own_of n rooms are rows _ (y j lj).there (at j lj).written)));
+          apart = λ i' j li lj h. writes_once rooms b.reads b.writes i' j fit (wr i' li) (wr j lj)
+              (meets i o b.writes b.writes i' j (y i' li) (y j lj) (at i' li).written h);
+          same = λ j k lj lk h.
+              (let c = meets i o b.writes b.reads j k (y j lj) (x k lk) (at j lj).written h in
+              (y j lj).place ∙ placed_same rooms (mark_at b.writes j) (mark_at b.reads k) c
+              (alone_sub (mark_at b.writes j) b.reads k (at j lj).alone (rd k lk) c)
+              ∙ sym (x k lk).place);
+          once = λ j k l lj lk ll h g. alone_once (mark_at b.writes j) b.reads k l (at j lj).alone
+              (rd k lk) (rd l ll)
+              (meets i o b.writes b.reads j k (y j lj) (x k lk) (at j lj).written h)
+              (meets i o b.writes b.reads j l (y j lj) (x l ll) (at j lj).written g);
+        }
+
+    slim_is : has_room (placed_body rooms b) ≡ true → has_known_states (placed_body [] b) ≡ true
+        → IsSlim (placed_body rooms b)
+    slim_is h k =
+        let c = placed_body rooms b in
+        let rd = below_map (placed rooms) b.reads in
+        let wr = below_map (placed rooms) b.writes in
+        let x = lies n 0 0 r outer rooms b.reads some (first_ok n r some) (outer_ok n outer some)
+        reads in
+        let y = lies n 0 0 r outer rooms b.writes some (first_ok n r some) (outer_ok n outer some)
+        writes in
+        record {
+          reads = grind (arith, nat_tests);
+          states = states_fit rooms rows b k (grind (arith, nat_tests));
+          found = λ carried. absurd (cc);
+          known = λ bare. states_known rooms rows b k;
+          apart = λ i j li lj h. writes_once rooms b.reads b.writes i j fit (wr i li) (wr j lj)
+              (one_owner b.writes b.writes i j (y i li) (y j lj) some (at i li).written h);
+          same = λ j k lj lk h.
+              ap (λ (p : Place). p.sub) (y j lj).place
+              ∙ alone_sub (mark_at b.writes j) b.reads k (at j lj).alone (rd k lk)
+              (one_owner b.writes b.reads j k (y j lj) (x k lk) some (at j lj).written h)
+              ∙ sym (ap (λ (p : Place). p.sub) (x k lk).place);
+          inputs = grind (arith, nat_tests);
+          outputs = grind (arith, nat_tests);
+          rows = grind (arith, nat_tests);
+          subs = grind (arith, nat_tests);
+        }
 
 pub all_append : {A : Type 0} (P : A → Type 0) (xs ys : List A) → AllByRecursion P xs
     → AllByRecursion P ys → AllByRecursion P (xs ++ ys)
@@ -316,84 +288,6 @@ reach_ok : (n : ℕ) (c : Count) (i o : ℕ) → o < n → i < positions n o c
     → InnerOk n i o (reach_of c)
 reach_ok n All i o lo lt = lt
 reach_ok n Rest i o lo lt = lt
-
-module _ (n : ℕ) (rooms : List Room) (some : 0 < n) (are : RoomsApart n rooms)
-    (rows : HaveRows rooms) where
-  inners_are : (ps : List (InnerOf Marked)) (o : ℕ) → o < n → InnersFit rooms ps
-      → AllByRecursion (IsRound (IsOwned n rooms) n)
-      (inner_rounds n o (map (inner_map (placed_body rooms)) ps))
-  inners_are [] o lo fit = tt
-  inners_are (Alone b ∷ ps) o lo fit = (
-    round_is n rooms some are rows Nowhere true b fit.0 0 o tt lo,
-    inners_are ps o lo fit.1,
-  )
-  inners_are (Across c b ∷ ps) o lo fit = all_append (IsRound (IsOwned n rooms) n)
-      (rounds (λ i. one_round (placed_body rooms b) i o) 0 (positions n o c))
-      (inner_rounds n o (map (inner_map (placed_body rooms)) ps))
-      (all_rounds_of (IsRound (IsOwned n rooms) n) (λ i. one_round (placed_body rooms b) i o) 0
-      (positions n o c) (positions n o c) (omega arith)
-      (λ i lt. (
-        round_is n rooms some are rows (reach_of c) true b fit.0 i o (reach_ok n c i o lo lt)
-            lo,
-        tt,
-      )))
-      (inners_are ps o lo fit.1)
-
-  pub rounds_are : (ss : List (StepOf Marked)) → StepsFit rooms ss
-      → AllByRecursion (IsRound (IsOwned n rooms) n) (all_rounds n (placed_steps rooms ss))
-  rounds_are [] fit = tt
-  rounds_are (Single b ∷ ss) fit = (
-    round_is n rooms some are rows Nowhere false b fit.0 0 0 tt tt,
-    rounds_are ss fit.1,
-  )
-  rounds_are (Along b ∷ ss) fit = all_append (IsRound (IsOwned n rooms) n)
-      (rounds (λ i. one_round (placed_body rooms b) i 0) 0 n) (all_rounds n (placed_steps rooms ss))
-      (all_rounds_of (IsRound (IsOwned n rooms) n) (λ i. one_round (placed_body rooms b) i 0) 0 n n
-      (omega arith) (λ i lt. (round_is n rooms some are rows Whole false b fit.0 i 0 lt tt, tt)))
-      (rounds_are ss fit.1)
-  rounds_are (Nest ps ∷ ss) fit =
-      let qs = map (inner_map (placed_body rooms)) ps in
-      all_append (IsRound (IsOwned n rooms) n) (step_rounds n (Nest qs))
-      (all_rounds n (placed_steps rooms ss))
-      (all_rounds_of (IsRound (IsOwned n rooms) n) (λ o. inner_rounds n o qs) 0 n n (omega arith)
-      (λ o lt. inners_are ps o lt fit.0))
-      (rounds_are ss fit.1)
-  rounds_are (Flowed x ∷ ss) fit = absurd fit
-
-  inners_slim : (ps : List (InnerOf Marked)) → InnersFit rooms ps
-      → inners_have_room (map (inner_map (placed_body rooms)) ps) ≡ true
-      → inners_have_known (map (inner_map (placed_body [])) ps) ≡ true
-      → AllInner IsSlim (map (inner_map (placed_body rooms)) ps)
-  inners_slim [] fit e h = tt
-  inners_slim (Alone b ∷ ps) fit e h =
-      let a = and_parts (has_room (placed_body rooms b)) _ e in
-      let k = and_parts (has_known_states (placed_body [] b)) _ h in
-      (slim_is n rooms some are rows Nowhere true b fit.0 a.0 k.0, inners_slim ps fit.1 a.1 k.1)
-  inners_slim (Across c b ∷ ps) fit e h =
-      let a = and_parts (has_room (placed_body rooms b)) _ e in
-      let k = and_parts (has_known_states (placed_body [] b)) _ h in (
-        slim_is n rooms some are rows (reach_of c) true b fit.0 a.0 k.0,
-        inners_slim ps fit.1 a.1
-            k.1,
-      )
-
-  pub steps_slim : (ss : List (StepOf Marked)) → StepsFit rooms ss
-      → steps_have_room (placed_steps rooms ss) ≡ true
-      → steps_have_known (placed_steps [] ss) ≡ true → AllParts IsSlim (placed_steps rooms ss)
-  steps_slim [] fit e h = tt
-  steps_slim (Single b ∷ ss) fit e h =
-      let a = and_parts (has_room (placed_body rooms b)) _ e in
-      let k = and_parts (has_known_states (placed_body [] b)) _ h in
-      (slim_is n rooms some are rows Nowhere false b fit.0 a.0 k.0, steps_slim ss fit.1 a.1 k.1)
-  steps_slim (Along b ∷ ss) fit e h =
-      let a = and_parts (has_room (placed_body rooms b)) _ e in
-      let k = and_parts (has_known_states (placed_body [] b)) _ h in
-      (slim_is n rooms some are rows Whole false b fit.0 a.0 k.0, steps_slim ss fit.1 a.1 k.1)
-  steps_slim (Nest ps ∷ ss) fit e h =
-      let a = and_parts (inners_have_room (map (inner_map (placed_body rooms)) ps)) _ e in
-      let k = and_parts (inners_have_known (map (inner_map (placed_body [])) ps)) _ h in
-      (inners_slim ps fit.0 a.0 k.0, steps_slim ss fit.1 a.1 k.1)
-  steps_slim (Flowed x ∷ ss) fit e h = absurd fit
 
 -- the rows that it may have are among others
 pub round_among : (P Q : Spot → Type 0) → ((q : Spot) → P q → Q q) → (n : ℕ) (r : RoundOf Block)
@@ -425,36 +319,123 @@ rooms_row may_have rooms among rows k = elim (cases_lt k (length rooms)) [
   | inr le ↦ past_row rooms k le
 ]
 
--- a program that fits has no flow
-values_fit : (may_have : ℕ → Spot → Type 0) (rooms : List Room) (ss : List (StepOf Marked))
-    → StepsFit rooms ss → AllByRecursion (StepHasValues may_have) (placed_steps rooms ss)
-values_fit may_have rooms [] fit = tt
-values_fit may_have rooms (Single b ∷ ss) fit = (tt, values_fit may_have rooms ss fit.1)
-values_fit may_have rooms (Along b ∷ ss) fit = (tt, values_fit may_have rooms ss fit.1)
-values_fit may_have rooms (Nest ps ∷ ss) fit = (tt, values_fit may_have rooms ss fit.1)
-values_fit may_have rooms (Flowed f ∷ ss) fit = absurd fit
+-- what the tests say of every body and every round
+module _ (may_have : ℕ → Spot → Type 0) (rooms : List Room) (rows : HaveRows rooms)
+    (are : (n : ℕ) → 0 < n → n ≤ WIDTH_MAX → RoomsApart n rooms)
+    (among : (n : ℕ) → 0 < n → n ≤ WIDTH_MAX → (q : Spot) → IsOwned n rooms q → may_have n q) where
+  abbrev Rounds : (ℕ → List (RoundOf Block)) → Type 0
+  Rounds f = (n : ℕ) → 0 < n → n ≤ WIDTH_MAX → AllByRecursion (IsRound (may_have n) n) (f n)
+
+  round : (n i o : ℕ) → 0 < n → n ≤ WIDTH_MAX → (r : Reach) (outer : Bool) (b : Marked)
+      → body_fits r outer rooms b ≡ true → InnerOk n i o r → OuterOk n o outer
+      → IsRound (may_have n) n (round_at (placed_body rooms b) i o)
+  round n i o some most r outer b e ik ok = round_among (IsOwned n rooms) (may_have n)
+      (among n some most) n _ (round_is n rooms (are n some most) rows some r outer b e i o ik ok)
+
+  slim : (r : Reach) (outer : Bool) (b : Marked) → body_fits r outer rooms b ≡ true
+      → has_room (placed_body rooms b) ≡ true → has_known_states (placed_body [] b) ≡ true
+      → IsSlim (placed_body rooms b)
+  slim r outer b = slim_is 1 rooms (are 1 (omega arith) (omega arith)) rows (omega arith) r outer b
+
+  loop : (n o : ℕ) → 0 < n → n ≤ WIDTH_MAX → (r : Reach) (outer : Bool) (b : Marked)
+      → body_fits r outer rooms b ≡ true → OuterOk n o outer → (count : ℕ)
+      → ((i : ℕ) → i < count → InnerOk n i o r) → AllByRecursion (IsRound (may_have n) n)
+      (rounds (λ i. one_round (placed_body rooms b) i o) 0 count)
+  loop n o some most r outer b e ok count ik = all_rounds_of (IsRound (may_have n) n)
+      (λ i. one_round (placed_body rooms b) i o) 0 count count (omega arith)
+      (λ i lt. (round n i o some most r outer b e (ik i lt) ok, tt))
+
+  record InnersFine (ps : List (InnerOf Block)) : Type 0 where
+    slim : AllInner IsSlim ps
+    rounds : (n o : ℕ) → 0 < n → n ≤ WIDTH_MAX → o < n
+        → AllByRecursion (IsRound (may_have n) n) (inner_rounds n o ps)
+
+  inners_fine : (ps : List (InnerOf Marked)) → inners_fit rooms ps ≡ true
+      → inners_have_room (map (inner_map (placed_body rooms)) ps) ≡ true
+      → inners_have_known (map (inner_map (placed_body [])) ps) ≡ true
+      → InnersFine (map (inner_map (placed_body rooms)) ps)
+  inners_fine [] e h k = record { slim = tt; rounds = λ n o some most lo. tt }
+  inners_fine (Alone b ∷ ps) e h k =
+      let x = and_parts (body_fits Nowhere true rooms b) _ e in
+      let y = and_parts (has_room (placed_body rooms b)) _ h in
+      let z = and_parts (has_known_states (placed_body [] b)) _ k in
+      let more = inners_fine ps x.1 y.1 z.1 in
+      record {
+        slim = (slim Nowhere true b x.0 y.0 z.0, more.slim);
+        rounds = λ n o some most lo.
+            (round n 0 o some most Nowhere true b x.0 tt lo, more.rounds n o some most lo);
+      }
+  inners_fine (Across c b ∷ ps) e h k =
+      let x = and_parts (body_fits (reach_of c) true rooms b) _ e in
+      let y = and_parts (has_room (placed_body rooms b)) _ h in
+      let z = and_parts (has_known_states (placed_body [] b)) _ k in
+      let more = inners_fine ps x.1 y.1 z.1 in
+      record {
+        slim = (slim (reach_of c) true b x.0 y.0 z.0, more.slim);
+        rounds = λ n o some most lo. all_append _ _ _
+            (loop n o some most (reach_of c) true b x.0 lo (positions n o c)
+            (λ i lt. reach_ok n c i o lo lt)) (more.rounds n o some most lo);
+      }
+
+  record StepsFine (ss : List (StepOf Block)) : Type 0 where
+    slim : AllParts IsSlim ss
+    values : AllByRecursion (StepHasValues may_have) ss
+    rounds : Rounds (λ n. all_rounds n ss)
+
+  steps_fine : (ss : List (StepOf Marked)) → steps_fit rooms ss ≡ true
+      → steps_have_room (placed_steps rooms ss) ≡ true
+      → steps_have_known (placed_steps [] ss) ≡ true → StepsFine (placed_steps rooms ss)
+  steps_fine [] e h k = record { slim = tt; values = tt; rounds = λ n some most. tt }
+  steps_fine (Single b ∷ ss) e h k =
+      let x = and_parts (body_fits Nowhere false rooms b) _ e in
+      let y = and_parts (has_room (placed_body rooms b)) _ h in
+      let z = and_parts (has_known_states (placed_body [] b)) _ k in
+      let more = steps_fine ss x.1 y.1 z.1 in
+      record {
+        slim = (slim Nowhere false b x.0 y.0 z.0, more.slim);
+        values = (tt, more.values);
+        rounds = λ n some most.
+            (round n 0 0 some most Nowhere false b x.0 tt tt, more.rounds n some most);
+      }
+  steps_fine (Along b ∷ ss) e h k =
+      let x = and_parts (body_fits Whole false rooms b) _ e in
+      let y = and_parts (has_room (placed_body rooms b)) _ h in
+      let z = and_parts (has_known_states (placed_body [] b)) _ k in
+      let more = steps_fine ss x.1 y.1 z.1 in
+      record {
+        slim = (slim Whole false b x.0 y.0 z.0, more.slim);
+        values = (tt, more.values);
+        rounds = λ n some most. all_append _ _ _
+            (loop n 0 some most Whole false b x.0 tt n (λ i lt. lt)) (more.rounds n some most);
+      }
+  steps_fine (Nest ps ∷ ss) e h k =
+      let x = and_parts (inners_fit rooms ps) _ e in
+      let y = and_parts (inners_have_room (map (inner_map (placed_body rooms)) ps)) _ h in
+      let z = and_parts (inners_have_known (map (inner_map (placed_body [])) ps)) _ k in
+      let here = inners_fine ps x.0 y.0 z.0 in
+      let more = steps_fine ss x.1 y.1 z.1 in
+      record {
+        slim = (here.slim, more.slim);
+        values = (tt, more.values);
+        rounds = λ n some most. all_append _ _ _
+            (all_rounds_of (IsRound (may_have n) n)
+            (λ o. inner_rounds n o (map (inner_map (placed_body rooms)) ps)) 0 n n (omega arith)
+            (λ o lt. here.rounds n o some most lt)) (more.rounds n some most);
+      }
+  steps_fine (Flowed x ∷ ss) e h k = cc
 
 -- the tests on the marks say of every round at every width what it has to keep
 pub marks_are_enough : (may_have : ℕ → Spot → Type 0) → MarksAreEnough may_have
 marks_are_enough may_have rooms steps are among rows tested short states =
     let ss = placed_steps rooms steps in
-    let fit = steps_are_fit rooms steps tested in
     let have = rooms_row may_have rooms (among 1 (omega arith) (omega arith)) (rows 1) in
-    let a = and_parts (steps_have_room ss) (list_all step_stands ss
-    && (nat_le (code_cost ss) 256 && nat_le (bodies ss) 12)) short in
-    let b = and_parts (list_all step_stands ss) (nat_le (code_cost ss) 256 && nat_le (bodies ss) 12)
-    a.1 in
-    let c = and_parts (nat_le (code_cost ss) 256) (nat_le (bodies ss) 12) b.1 in
-    let d = and_parts (steps_have_known (placed_steps [] steps))
-    (steps_find [] (placed_steps [] steps)) states in
+    let fine = steps_fine may_have rooms have are among steps tested (grind arith) (grind arith) in
     record {
-      slim = steps_slim 1 rooms (omega arith) (are 1 (omega arith) (omega arith)) have steps fit a.0
-          d.0;
-      find = steps_find_like rooms have [] steps ∙ d.1;
-      stand = b.0;
-      values = values_fit may_have rooms steps fit;
-      rounds = λ n some most. rounds_among (IsOwned n rooms) (may_have n) (among n some most) n
-          (all_rounds n ss) (rounds_are n rooms some (are n some most) have steps fit);
-      size = most_is (code_cost ss) 256 c.0;
-      few = most_is (bodies ss) 12 c.1;
+      slim = fine.slim;
+      find = steps_find_like rooms have [] steps ∙ (grind arith);
+      stand = grind arith;
+      values = fine.values;
+      rounds = fine.rounds;
+      size = grind (arith, nat_tests);
+      few = grind (arith, nat_tests);
     }

@@ -1,11 +1,8 @@
 -- What a body's places keep where the test on owners and subscripts passes.
-use Rattle.std.proofs.Common.{◌≡◌, ℕ, zero, suc, ◌-◌, ◌<◌, Bool, true, false, List, [], ◌∷◌, length}
+use Rattle.std.proofs.Common.{ℕ, zero, suc, ◌-◌, ◌<◌, Bool, true, false, List, [], ◌∷◌, length}
 use Rattle.loop_ir.specs.declared.ir.Sub.TheVariants as sub
-use Rattle.loop_ir.specs.Plain.{InnerOf, StepOf}
-use Rattle.loop_ir.specs.Plain.InnerOf.{Alone, Across}
-use Rattle.loop_ir.specs.Plain.StepOf.{Single, Along, Nest, Flowed}
-use Rattle.loop_laws.specs.Rooms.{Room, room_for, Owner, InRoom, InCells, Mark, Marked, Reach}
-use Rattle.loop_laws.specs.Rooms.{Nowhere, Whole, Left, fits, reach_of}
+use Rattle.loop_laws.specs.Rooms.{Room, Owner, InRoom, InCells, Mark, Reach}
+use Rattle.loop_laws.specs.Rooms.{Nowhere, Whole, Left}
 
 -- a place of a body, by its number
 abbrev pub mark_at : List Mark → ℕ → Mark
@@ -28,39 +25,3 @@ InnerOk n i o Left = i < n - o
 abbrev pub OuterOk : ℕ → ℕ → Bool → Type 0
 OuterOk n o true = o < n
 OuterOk n o false = Unit {0}
-
--- In a body: each place has an owner and stays in its rows; what is written may be, and has owners
--- that differ; and of the reads at most one has a write's owner, with the write's subscript
-pub record BodyFits (r : Reach) (outer : Bool) (rooms : List Room) (reads writes : List Mark) : Type
-    0 where
-  pub read_owner : (k : ℕ) → k < length reads → IsThere rooms (mark_at reads k).owner
-  pub read_fits : (k : ℕ) → k < length reads
-      → fits r outer (room_for rooms (mark_at reads k).owner).rows (mark_at reads k).sub ≡ true
-  pub write_owner : (j : ℕ) → j < length writes → IsThere rooms (mark_at writes j).owner
-  pub write_fits : (j : ℕ) → j < length writes
-      → fits r outer (room_for rooms (mark_at writes j).owner).rows (mark_at writes j).sub ≡ true
-  pub written : (j : ℕ) → j < length writes → (room_for rooms (mark_at writes j).owner).written
-      ≡ true
-  pub differ : (i j : ℕ) → i < length writes → j < length writes
-      → (mark_at writes i).owner ≡ (mark_at writes j).owner → i ≡ j
-  pub same : (j k : ℕ) → j < length writes → k < length reads
-      → (mark_at writes j).owner ≡ (mark_at reads k).owner
-      → (mark_at writes j).sub ≡ (mark_at reads k).sub
-  pub once : (j k l : ℕ) → j < length writes → k < length reads → l < length reads
-      → (mark_at writes j).owner ≡ (mark_at reads k).owner
-      → (mark_at writes j).owner ≡ (mark_at reads l).owner → k ≡ l
-
--- so it is in every body of a nest
-abbrev pub InnersFit : List Room → List (InnerOf Marked) → Type 0
-InnersFit rooms [] = Unit {0}
-InnersFit rooms (Alone b ∷ ps) = BodyFits Nowhere true rooms b.reads b.writes × InnersFit rooms ps
-InnersFit rooms (Across c b ∷ ps) = BodyFits (reach_of c) true rooms b.reads b.writes
-    × InnersFit rooms ps
-
--- so it is in every body of a loop program
-abbrev pub StepsFit : List Room → List (StepOf Marked) → Type 0
-StepsFit rooms [] = Unit {0}
-StepsFit rooms (Single b ∷ ss) = BodyFits Nowhere false rooms b.reads b.writes × StepsFit rooms ss
-StepsFit rooms (Along b ∷ ss) = BodyFits Whole false rooms b.reads b.writes × StepsFit rooms ss
-StepsFit rooms (Nest ps ∷ ss) = InnersFit rooms ps × StepsFit rooms ss
-StepsFit rooms (Flowed f ∷ ss) = ⊥

@@ -19,12 +19,9 @@ IsSafe (AddI r k) g = slice_index g r + k ≤ 1023
 IsSafe (SubI r k) g = k ≤ slice_index g r
 
 pub safe_is : (m : Move) (g : List ℕ) → IsSafe m g → is_safe m g ≡ true
-safe_is (SetI r k) g h = refl
-safe_is (SetN r) g h = refl
-safe_is (SetT r) g h = refl
-safe_is (Mov r s) g h = refl
 safe_is (AddI r k) g h = le-leb (slice_index g r + k) 1023 h
 safe_is (SubI r k) g h = le-leb k (slice_index g r) h
+safe_is m g h = refl
 
 module _ (A S : Type 0) (n : ℕ) (InRange : A → List ℕ → S → Type 0) where
   abbrev pub Fine : EventOf A → S → Type 0

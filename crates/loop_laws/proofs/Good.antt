@@ -1,33 +1,23 @@
 -- The test on owners and subscripts is enough for a body.
-use Rattle.std.proofs.Common.{◌≡◌, ℕ, zero, suc, ◌<◌, Bool, true, false, not, cond, List, [], ◌∷◌}
-use Rattle.std.proofs.Common.{length, refl, sym, ap, subst, ◌∙◌, ⊎_elim, arith, ◌⊎◌, inl, inr}
-use Rattle.std.specs.Prelude.{◌==◌, ◌&&◌, nat_lt}
-use Rattle.std.proofs.lemmas.Bool.{cases_Bool, and_parts, eqb-true, eq-eqb}
-use Rattle.loop_ir.specs.declared.ir.Sub.{Sub}
-use Rattle.loop_ir.specs.Plain.{InnerOf, StepOf}
-use Rattle.loop_ir.specs.Plain.InnerOf.{Alone, Across}
-use Rattle.loop_ir.specs.Plain.StepOf.{Single, Along, Nest, Flowed}
+use Rattle.std.proofs.Common.{◌≡◌, ℕ, zero, suc, ◌<◌, Bool, true, false, not, List, [], ◌∷◌}
+use Rattle.std.proofs.Common.{length, refl, sym, ap, subst, arith, ◌⊎◌, inl, inr}
+use Rattle.std.specs.Prelude.{◌==◌}
+use Rattle.std.proofs.lemmas.Bool.Decides.{nat_tests}
+use Rattle.std.proofs.lemmas.Bool.{cases_Bool, and_parts, eq-eqb}
 use Rattle.loop_ir.specs.Costs.{sub_code}
 use Rattle.loop_laws.proofs.Same.{sub_true}
-use Rattle.loop_laws.specs.Rooms.{Room, room_for, Owner, InRoom, InCells, same_owner, Mark, Marked}
-use Rattle.loop_laws.specs.Rooms.{Reach, Nowhere, Whole, fits, reach_of, is_there, all_fit}
-use Rattle.loop_laws.specs.Rooms.{none_like, alone_in, writes_fit, body_fits, inners_fit, steps_fit}
-use Rattle.loop_laws.proofs.Fitting.{mark_at, IsThere, BodyFits, InnersFit, StepsFit}
-
-less_is : (a b : ℕ) → nat_lt a b ≡ true → a < b
-less_is a b e = grind arith
+use Rattle.loop_laws.specs.Rooms.{Room, room_for, Owner, InRoom, InCells, same_owner, Mark}
+use Rattle.loop_laws.specs.Rooms.{Reach, fits, is_there, all_fit}
+use Rattle.loop_laws.specs.Rooms.{none_like, alone_in, writes_fit}
+use Rattle.loop_laws.proofs.Fitting.{mark_at, IsThere}
 
 pub there_is : (rooms : List Room) (o : Owner) → is_there o (length rooms) ≡ true → IsThere rooms o
-there_is rooms (InRoom k) e = less_is k (length rooms) e
+there_is rooms (InRoom k) e = grind (arith, nat_tests)
 there_is rooms (InCells w) e = tt
 
 owner_same : (a b : Owner) → a ≡ b → same_owner a b ≡ true
 owner_same (InRoom j) b e = subst (λ o. same_owner (InRoom j) o ≡ true) e (eq-eqb j j refl)
 owner_same (InCells w) b e = subst (λ o. same_owner (InCells w) o ≡ true) e (eq-eqb w w refl)
-
--- a subscript is known by its number
-pub subs_same : (u v : Sub) → sub_code u ≡ sub_code v → u ≡ v
-subs_same u v e = sub_true u v (eq-eqb (sub_code u) (sub_code v) e)
 
 not_true : (b : Bool) → not b ≡ true → b ≡ true → ⊥
 not_true true e f = cc
@@ -36,63 +26,57 @@ not_true false e f = cc
 pub none_at : (owner : Owner) (ms : List Mark) (k : ℕ) → none_like owner ms ≡ true → k < length ms
     → owner ≡ (mark_at ms k).owner → ⊥
 none_at owner [] k e lt h = absurd (omega arith)
-none_at owner (m ∷ ms) zero e lt h = not_true
-    (same_owner owner m.owner) (and_parts (not (same_owner owner m.owner)) (none_like owner ms) e).0
-    (owner_same owner m.owner h)
-none_at owner (m ∷ ms) (suc k) e lt h = none_at owner ms k
-    (and_parts (not (same_owner owner m.owner)) (none_like owner ms) e).1 (omega arith) h
+none_at owner (m ∷ ms) zero e lt h = let f = owner_same owner m.owner h in
+    let g : not (same_owner owner m.owner) ≡ true = grind arith in not_true _ g f
+none_at owner (m ∷ ms) (suc k) e lt h = none_at owner ms k (grind arith) (omega arith) h
 
 -- of a list of reads, the first has the owner and no other, or it has not
 alone_cases : (p m : Mark) (ms : List Mark) → alone_in p (m ∷ ms) ≡ true
     → ((p.sub ≡ m.sub) × (none_like p.owner ms ≡ true))
     ⊎ ((p.owner ≡ m.owner → ⊥) × (alone_in p ms ≡ true))
-alone_cases p m ms e = ⊎_elim
-    (λ (h : same_owner p.owner m.owner ≡ true).
-    let f : ((sub_code p.sub == sub_code m.sub) && none_like p.owner ms) ≡ true =
-    sym (ap (λ b. cond b ((sub_code p.sub == sub_code m.sub) && none_like p.owner ms)
-    (alone_in p ms)) h) ∙ e in
-    let g = and_parts (sub_code p.sub == sub_code m.sub) (none_like p.owner ms) f in
-    inl (subs_same p.sub m.sub (eqb-true (sub_code p.sub) (sub_code m.sub) g.0), g.1))
-    (λ (h : same_owner p.owner m.owner ≡ false). inr (
-      (λ g. let f : true ≡ false = sym (owner_same p.owner m.owner g) ∙ h in cc),
-      sym (ap (λ b. cond b ((sub_code p.sub == sub_code m.sub) && none_like p.owner ms)
-          (alone_in p ms)) h) ∙ e,
-    ))
-    (cases_Bool (same_owner p.owner m.owner))
+alone_cases p m ms e = elim (cases_Bool (same_owner p.owner m.owner)) [
+  | inl h ↦
+      let g = and_parts (sub_code p.sub == sub_code m.sub) (none_like p.owner ms) (rw h at e) in
+      inl (sub_true p.sub m.sub g.0, g.1)
+  | inr h ↦ inr ((λ g. let f = owner_same p.owner m.owner g in cc), rw h at e)
+]
+
+-- a read with the owner is the very place, and no other read has the owner
+abbrev IsAlone : Mark → List Mark → ℕ → Type 0
+IsAlone p ms k = k < length ms → p.owner ≡ (mark_at ms k).owner → (p.sub ≡ (mark_at ms k).sub)
+    × ((l : ℕ) → l < length ms → p.owner ≡ (mark_at ms l).owner → k ≡ l)
+
+alone_at : (p : Mark) (ms : List Mark) (k : ℕ) → alone_in p ms ≡ true → IsAlone p ms k
+alone_at p [] k e = λ lk h. absurd (omega arith)
+alone_at p (m ∷ ms) k e = by k (alone_cases p m ms e) (alone_at p ms)
+  where
+    by : (k : ℕ) → ((p.sub ≡ m.sub) × (none_like p.owner ms ≡ true))
+        ⊎ ((p.owner ≡ m.owner → ⊥) × (alone_in p ms ≡ true))
+        → ((j : ℕ) → alone_in p ms ≡ true → IsAlone p ms j) → IsAlone p (m ∷ ms) k
+    by zero (inl c) more lk h = (
+      c.0,
+      elim [
+        | zero ↦ λ ll g. refl
+        | suc l ↦ λ ll g. absurd (none_at p.owner ms l c.1 (omega arith) g)
+      ],
+    )
+    by zero (inr c) more lk h = absurd (c.0 h)
+    by (suc k) (inl c) more lk h = absurd (none_at p.owner ms k c.1 (omega arith) h)
+    by (suc k) (inr c) more lk h = let a = more k c.1 (omega arith) h in (
+      a.0,
+      elim [
+        | zero ↦ λ ll g. absurd (c.0 g)
+        | suc l ↦ λ ll g. ap suc (a.1 l (omega arith) g)
+      ],
+    )
 
 pub alone_sub : (p : Mark) (ms : List Mark) (k : ℕ) → alone_in p ms ≡ true → k < length ms
     → p.owner ≡ (mark_at ms k).owner → p.sub ≡ (mark_at ms k).sub
-alone_sub p [] k e lt h = absurd (omega arith)
-alone_sub p (m ∷ ms) zero e lt h = ⊎_elim
-    (λ (c : (p.sub ≡ m.sub) × (none_like p.owner ms ≡ true)). c.0)
-    (λ (c : (p.owner ≡ m.owner → ⊥) × (alone_in p ms ≡ true)). absurd (c.0 h))
-    (alone_cases p m ms e)
-alone_sub p (m ∷ ms) (suc k) e lt h = ⊎_elim
-    (λ (c : (p.sub ≡ m.sub) × (none_like p.owner ms ≡ true)). absurd
-    (none_at p.owner ms k c.1 (omega arith) h))
-    (λ (c : (p.owner ≡ m.owner → ⊥) × (alone_in p ms ≡ true)). alone_sub p ms k c.1 (omega arith) h)
-    (alone_cases p m ms e)
+alone_sub p ms k e lt h = (alone_at p ms k e lt h).0
 
 pub alone_once : (p : Mark) (ms : List Mark) (k l : ℕ) → alone_in p ms ≡ true → k < length ms
     → l < length ms → p.owner ≡ (mark_at ms k).owner → p.owner ≡ (mark_at ms l).owner → k ≡ l
-alone_once p [] k l e lk ll h g = absurd (omega arith)
-alone_once p (m ∷ ms) zero zero e lk ll h g = refl
-alone_once p (m ∷ ms) zero (suc l) e lk ll h g = ⊎_elim
-    (λ (c : (p.sub ≡ m.sub) × (none_like p.owner ms ≡ true)). absurd
-    (none_at p.owner ms l c.1 (omega arith) g))
-    (λ (c : (p.owner ≡ m.owner → ⊥) × (alone_in p ms ≡ true)). absurd (c.0 h))
-    (alone_cases p m ms e)
-alone_once p (m ∷ ms) (suc k) zero e lk ll h g = ⊎_elim
-    (λ (c : (p.sub ≡ m.sub) × (none_like p.owner ms ≡ true)). absurd
-    (none_at p.owner ms k c.1 (omega arith) h))
-    (λ (c : (p.owner ≡ m.owner → ⊥) × (alone_in p ms ≡ true)). absurd (c.0 g))
-    (alone_cases p m ms e)
-alone_once p (m ∷ ms) (suc k) (suc l) e lk ll h g = ⊎_elim
-    (λ (c : (p.sub ≡ m.sub) × (none_like p.owner ms ≡ true)). absurd
-    (none_at p.owner ms k c.1 (omega arith) h))
-    (λ (c : (p.owner ≡ m.owner → ⊥) × (alone_in p ms ≡ true)). ap suc
-    (alone_once p ms k l c.1 (omega arith) (omega arith) h g))
-    (alone_cases p m ms e)
+alone_once p ms k l e lk ll h g = (alone_at p ms k e lk h).1 l ll g
 
 pub record WriteAt (rooms : List Room) (reads : List Mark) (p : Mark) : Type 0 where
   pub written : (room_for rooms p.owner).written ≡ true
@@ -106,12 +90,11 @@ record FirstAt (rooms : List Room) (reads : List Mark) (p : Mark) (ms : List Mar
 first_at : (rooms : List Room) (reads : List Mark) (p : Mark) (ms : List Mark)
     → writes_fit rooms reads (p ∷ ms) ≡ true → FirstAt rooms reads p ms
 first_at rooms reads p ms e =
-    let a = and_parts ((room_for rooms p.owner).written
-    && (none_like p.owner ms && alone_in p reads)) (writes_fit rooms reads ms) e in
-    let b = and_parts (room_for rooms p.owner).written (none_like p.owner ms && alone_in p reads) a.0
-    in
-    let c = and_parts (none_like p.owner ms) (alone_in p reads) b.1 in
-    record { first = record { written = b.0; alone = c.1 }; none = c.0; more = a.1 }
+    record {
+      first = record { written = grind arith; alone = grind arith };
+      none = grind arith;
+      more = grind arith;
+    }
 
 pub write_at : (rooms : List Room) (reads ms : List Mark) (j : ℕ) → writes_fit rooms reads ms ≡ true
     → j < length ms → WriteAt rooms reads (mark_at ms j)
@@ -133,62 +116,13 @@ writes_once rooms reads (p ∷ ms) (suc i) (suc j) e li lj h =
     ap suc (writes_once rooms reads ms i j (first_at rooms reads p ms e).more (omega arith)
     (omega arith) h)
 
-record FitAt (r : Reach) (outer : Bool) (rooms : List Room) (p : Mark) : Type 0 where
-  there : IsThere rooms p.owner
-  fit : fits r outer (room_for rooms p.owner).rows p.sub ≡ true
+pub record FitAt (r : Reach) (outer : Bool) (rooms : List Room) (p : Mark) : Type 0 where
+  pub there : IsThere rooms p.owner
+  pub fit : fits r outer (room_for rooms p.owner).rows p.sub ≡ true
 
-fit_at : (r : Reach) (outer : Bool) (rooms : List Room) (ms : List Mark) (k : ℕ)
+pub fit_at : (r : Reach) (outer : Bool) (rooms : List Room) (ms : List Mark) (k : ℕ)
     → all_fit r outer rooms ms ≡ true → k < length ms → FitAt r outer rooms (mark_at ms k)
 fit_at r outer rooms [] k e lt = absurd (omega arith)
 fit_at r outer rooms (p ∷ ms) zero e lt =
-    let a = and_parts (is_there p.owner (length rooms)
-    && fits r outer (room_for rooms p.owner).rows p.sub) (all_fit r outer rooms ms) e in
-    let b = and_parts (is_there p.owner (length rooms))
-    (fits r outer (room_for rooms p.owner).rows p.sub) a.0 in
-    record { there = there_is rooms p.owner b.0; fit = b.1 }
-fit_at r outer rooms (p ∷ ms) (suc k) e lt = fit_at r outer rooms ms k
-    (and_parts (is_there p.owner (length rooms) && fits r outer (room_for rooms p.owner).rows p.sub)
-    (all_fit r outer rooms ms) e).1 (omega arith)
-
-pub body_is_fit : (r : Reach) (outer : Bool) (rooms : List Room) (b : Marked)
-    → body_fits r outer rooms b ≡ true → BodyFits r outer rooms b.reads b.writes
-body_is_fit r outer rooms b e =
-    let a = and_parts (all_fit r outer rooms b.reads) (all_fit r outer rooms b.writes
-    && writes_fit rooms b.reads b.writes) e in
-    let c = and_parts (all_fit r outer rooms b.writes) (writes_fit rooms b.reads b.writes) a.1 in
-    record {
-      read_owner = λ k lk. (fit_at r outer rooms b.reads k a.0 lk).there;
-      read_fits = λ k lk. (fit_at r outer rooms b.reads k a.0 lk).fit;
-      write_owner = λ j lj. (fit_at r outer rooms b.writes j c.0 lj).there;
-      write_fits = λ j lj. (fit_at r outer rooms b.writes j c.0 lj).fit;
-      written = λ j lj. (write_at rooms b.reads b.writes j c.1 lj).written;
-      differ = λ i j li lj h. writes_once rooms b.reads b.writes i j c.1 li lj h;
-      same = λ j k lj lk h. alone_sub (mark_at b.writes j) b.reads k
-          (write_at rooms b.reads b.writes j c.1 lj).alone lk h;
-      once = λ j k l lj lk ll h g. alone_once (mark_at b.writes j) b.reads k l
-          (write_at rooms b.reads b.writes j c.1 lj).alone lk ll h g;
-    }
-
-inners_are_fit : (rooms : List Room) (ps : List (InnerOf Marked)) → inners_fit rooms ps ≡ true
-    → InnersFit rooms ps
-inners_are_fit rooms [] e = tt
-inners_are_fit rooms (Alone b ∷ ps) e = let a =
-    and_parts (body_fits Nowhere true rooms b) (inners_fit rooms ps) e in
-    (body_is_fit Nowhere true rooms b a.0, inners_are_fit rooms ps a.1)
-inners_are_fit rooms (Across c b ∷ ps) e = let a =
-    and_parts (body_fits (reach_of c) true rooms b) (inners_fit rooms ps) e in
-    (body_is_fit (reach_of c) true rooms b a.0, inners_are_fit rooms ps a.1)
-
-pub steps_are_fit : (rooms : List Room) (ss : List (StepOf Marked)) → steps_fit rooms ss ≡ true
-    → StepsFit rooms ss
-steps_are_fit rooms [] e = tt
-steps_are_fit rooms (Single b ∷ ss) e = let a =
-    and_parts (body_fits Nowhere false rooms b) (steps_fit rooms ss) e in
-    (body_is_fit Nowhere false rooms b a.0, steps_are_fit rooms ss a.1)
-steps_are_fit rooms (Along b ∷ ss) e = let a =
-    and_parts (body_fits Whole false rooms b) (steps_fit rooms ss) e in
-    (body_is_fit Whole false rooms b a.0, steps_are_fit rooms ss a.1)
-steps_are_fit rooms (Nest ps ∷ ss) e = let a =
-    and_parts (inners_fit rooms ps) (steps_fit rooms ss) e in
-    (inners_are_fit rooms ps a.0, steps_are_fit rooms ss a.1)
-steps_are_fit rooms (Flowed f ∷ ss) e = cc
+    record { there = there_is rooms p.owner (grind arith); fit = grind arith }
+fit_at r outer rooms (p ∷ ms) (suc k) e lt = fit_at r outer rooms ms k (grind arith) (omega arith)

@@ -4,7 +4,6 @@ pub mod FlowRounds
 pub mod RoundsMap
 pub mod Same
 pub mod Loop
-pub mod Steps
 pub mod Placed
 pub mod Summed
 pub mod Costing

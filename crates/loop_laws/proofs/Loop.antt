@@ -1,34 +1,16 @@
 -- A loop over positions gives what its graph does by positions.
-use Rattle.std.proofs.Common.{◌≡◌, ℕ, zero, suc, ◌+◌, ◌<◌, ◌≤◌, List, length, refl, sym, ap, ◌∙◌, []}
+use Rattle.std.proofs.Common.{◌≡◌, ℕ, zero, suc, ◌<◌, ◌≤◌, List, refl, sym, ap, ◌∙◌, []}
 use Rattle.std.proofs.Common.{subst, ⊎_elim, arith}
 use Rattle.std.proofs.lemmas.Bool.{cases_eq}
 use Rattle.std.proofs.Math.Path.{fun_ext}
 use Rattle.mig_graph.specs.Graph.{values}
 use Rattle.loop_ir.specs.Plain.{Block}
-use Rattle.loop_ir.specs.Loops.{round_at, one_round, rounds}
-use Rattle.loop_ir.specs.Spots.{Spots, write_all, after_round, after_rounds}
+use Rattle.loop_ir.specs.Loops.{round_at}
+use Rattle.loop_ir.specs.Spots.{Spots, write_all, after_round}
 use Rattle.loop_ir.specs.Spots.{gives}
 use Rattle.loop_laws.specs.Turns.{Origin, Standing, Carried, nth_origin, from_origin, seen}
 use Rattle.loop_laws.specs.Turns.{read_spot, write_spot, turn, after_many, ReadIs, IsLoop, Turns}
 use Rattle.loop_laws.proofs.Same.{write_other, write_at}
-
-many_more : (n o : ℕ) (b : Block) (i count : ℕ) (bits : Spots)
-    → after_rounds n (rounds (λ j. one_round b j o) i count) (after_many n o b i bits)
-    ≡ after_many n o b (i + count) bits
-many_more n o b i zero bits = let e : i + 0 ≡ i = omega arith in
-    ap (λ x. after_many n o b x bits) (sym e)
-many_more n o b i (suc count) bits =
-    let e : i + 1 ≡ suc i = omega arith in
-    let f : suc i + count ≡ i + suc count = omega arith in
-    ap (λ x. after_rounds n (rounds (λ j. one_round b j o) x count) (after_many n o b (suc i) bits))
-    e
-    ∙ many_more n o b (suc i) count bits
-    ∙ ap (λ x. after_many n o b x bits) f
-
-pub many_is : (n o : ℕ) (b : Block) (count : ℕ) (bits : Spots)
-    → after_rounds n (rounds (λ j. one_round b j o) 0 count) bits ≡ after_many n o b count bits
-many_is n o b count bits = let e : 0 + count ≡ count = omega arith in
-    many_more n o b 0 count bits ∙ ap (λ x. after_many n o b x bits) e
 
 module _ (n o count : ℕ) (b : Block) (origins : List Origin) (is : IsLoop n o count b origins)
     (bits : Spots) where
@@ -75,28 +57,5 @@ module _ (n o count : ℕ) (b : Block) (origins : List Origin) (is : IsLoop n o 
   turns_to (suc i) le = one_turn i (after_many n o b i bits) (omega arith) (λ e.
       ap (λ x. after_many n o b x bits) e) (turns_to i (omega arith))
 
-  -- what the loop leaves
-  abbrev pub looped : Spots
-  looped = after_many n o b count bits
-
-  pub loop_turns : Turns n o b origins bits looped count
+  pub loop_turns : Turns n o b origins bits (after_many n o b count bits) count
   loop_turns = turns_to count (omega arith)
-
-  -- an output whose row moves with the position
-  pub loop_word : (w : ℕ) → w < length b.outs
-      → ((i j : ℕ) → i < count → j < count → write_spot n o b i w ≡ write_spot n o b j w → i ≡ j)
-      → (j : ℕ) → j < count → looped (write_spot n o b j w) ≡ turn n o b origins bits (suc j) w
-  loop_word w lw moves j lj = loop_turns.last j w lj lw (λ k lk kc h. let e : k
-      ≡ j = moves k j kc lj h in absurd (omega arith))
-
-  -- an output whose row stays
-  pub loop_state : (w : ℕ) → w < length b.outs
-      → ((i j : ℕ) → write_spot n o b i w ≡ write_spot n o b j w)
-      → looped (write_spot n o b 0 w) ≡ turn n o b origins bits count w
-  loop_state w lw stays = by count refl
-    where
-      by : (m : ℕ) → count ≡ m → looped (write_spot n o b 0 w) ≡ turn n o b origins bits count w
-      by zero e = loop_turns.rest (write_spot n o b 0 w) (λ j x lj lx h. absurd (omega arith))
-          ∙ ap (λ m. turn n o b origins bits m w) (sym e)
-      by (suc m) e = ap looped (stays 0 m) ∙ loop_turns.last m w (omega arith) lw (λ k lk kc h.
-          absurd (omega arith)) ∙ ap (λ x. turn n o b origins bits x w) (sym e)

@@ -1,6 +1,5 @@
 -- The rounds of a loop program over other things.
-use Rattle.std.proofs.Common.{◌≡◌, ℕ, zero, suc, ◌+◌, List, [], ◌∷◌, ◌++◌, map, refl, sym, ap}
-use Rattle.std.proofs.Common.{◌∙◌}
+use Rattle.std.proofs.Common.{◌≡◌, ℕ, zero, suc, ◌+◌, List, [], ◌∷◌, ◌++◌, map, refl, ap}
 use Rattle.std.proofs.lemmas.List.{map-append}
 use Rattle.loop_ir.specs.Plain.{InnerOf, StepOf, inner_map, step_map}
 use Rattle.loop_ir.specs.Plain.InnerOf.{Alone, Across}
@@ -16,14 +15,12 @@ module _ (A B : Type 0) (h : A → B) (n : ℕ) where
 
   both : (rs qs : List (RoundOf B)) (ss ts : List (RoundOf A)) → Mapped rs ss → Mapped qs ts
       → Mapped (rs ++ qs) (ss ++ ts)
-  both rs qs ss ts e f = ap (λ l. l ++ qs) e ∙ ap (λ l. map (round_map h) ss ++ l) f
-      ∙ sym (map-append (round_map h) ss ts)
+  both rs qs ss ts e f = rw (e, f, map-append (round_map h) ss ts)
 
   over : (f : ℕ → List (RoundOf B)) (g : ℕ → List (RoundOf A)) → ((i : ℕ) → Mapped (f i) (g i))
       → (i count : ℕ) → Mapped (rounds f i count) (rounds g i count)
   over f g e i zero = refl
-  over f g e i (suc count) = both (f i) (rounds f (i + 1) count) (g i) (rounds g (i + 1) count)
-      (e i) (over f g e (i + 1) count)
+  over f g e i (suc count) = both _ _ _ _ (e i) (over f g e (i + 1) count)
 
   each : (b : A) (o count : ℕ)
       → Mapped (rounds (λ i. one_round (h b) i o) 0 count) (rounds (λ i. one_round b i o) 0 count)
@@ -33,9 +30,7 @@ module _ (A B : Type 0) (h : A → B) (n : ℕ) where
       → Mapped (inner_rounds n o (map (inner_map h) ps)) (inner_rounds n o ps)
   inners o [] = refl
   inners o (Alone b ∷ ps) = ap (λ l. round_at (h b) 0 o ∷ l) (inners o ps)
-  inners o (Across c b ∷ ps) = both (rounds (λ i. one_round (h b) i o) 0 (positions n o c))
-      (inner_rounds n o (map (inner_map h) ps)) (rounds (λ i. one_round b i o) 0 (positions n o c))
-      (inner_rounds n o ps) (each b o (positions n o c)) (inners o ps)
+  inners o (Across c b ∷ ps) = both _ _ _ _ (each b o (positions n o c)) (inners o ps)
 
   one_step : (s : StepOf A) → Mapped (step_rounds n (step_map h s)) (step_rounds n s)
   one_step (Single b) = refl
@@ -48,5 +43,4 @@ module _ (A B : Type 0) (h : A → B) (n : ℕ) where
   pub all_rounds_map : (ss : List (StepOf A))
       → all_rounds n (map (step_map h) ss) ≡ map (round_map h) (all_rounds n ss)
   all_rounds_map [] = refl
-  all_rounds_map (s ∷ ss) = both (step_rounds n (step_map h s)) (all_rounds n (map (step_map h) ss))
-      (step_rounds n s) (all_rounds n ss) (one_step s) (all_rounds_map ss)
+  all_rounds_map (s ∷ ss) = both _ _ _ _ (one_step s) (all_rounds_map ss)

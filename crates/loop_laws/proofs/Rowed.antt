@@ -1,13 +1,13 @@
 -- Bodies whose places all have rows.
-use Rattle.std.proofs.Common.{◌≡◌, ℕ, zero, suc, ◌+◌, ◌<◌, Bool, false, cond, List, [], ◌∷◌}
-use Rattle.std.proofs.Common.{◌++◌, length, refl, ap, ◌∙◌, arith}
+use Rattle.std.proofs.Common.{◌≡◌, ℕ, zero, suc, ◌+◌, ◌<◌, Bool, false, List, [], ◌∷◌}
+use Rattle.std.proofs.Common.{◌++◌, length, refl, arith}
 use Rattle.std.specs.List.{list_any}
 use Rattle.mig_graph.specs.declared.Lit.{Lit}
 use Rattle.loop_ir.specs.declared.ir.Place.{Place}
 use Rattle.loop_ir.specs.Plain.{Block}
 use Rattle.loop_ir.specs.Spots.{nth_place, is_state}
 use Rattle.loop_ir.specs.States.{has_states, row_count, enters, leaves}
-use Rattle.loop_laws.proofs.Alike.{or_parts, none_at}
+use Rattle.loop_laws.proofs.Alike.{none_at}
 
 abbrev pub HaveRows : List Place → Type 0
 HaveRows ps = (k : ℕ) → k < length ps → is_state (nth_place ps k).space ≡ false
@@ -17,35 +17,28 @@ later p ps h = λ k l. h (suc k) (omega arith)
 
 pub all_count : (ps : List Place) → HaveRows ps → row_count ps ≡ length ps
 all_count [] h = refl
-all_count (p ∷ ps) h = ap (λ c. cond c 0 (suc (row_count ps))) (h 0 (omega arith))
-    ∙ ap suc (all_count ps (later p ps h))
+all_count (p ∷ ps) h = rw (h 0 (omega arith), all_count ps (later p ps h))
 
 pub no_enters : (ps : List Place) (k : ℕ) → HaveRows ps → enters k ps ≡ []
 no_enters [] k h = refl
-no_enters (p ∷ ps) k h =
-    ap (λ c. cond c (record { lit = record { node = k + 1; inverted = false }; layout = p.which }
-    ∷ enters (k + 1) ps) (enters (k + 1) ps)) (h 0 (omega arith))
-    ∙ no_enters ps (k + 1) (later p ps h)
+no_enters (p ∷ ps) k h = rw (h 0 (omega arith)) (no_enters ps (k + 1) (later p ps h))
 
 pub no_leaves : (ps : List Place) (ls : List Lit) → HaveRows ps → leaves ps ls ≡ []
 no_leaves [] ls h = refl
 no_leaves (p ∷ ps) [] h = refl
-no_leaves (p ∷ ps) (l ∷ ls) h =
-    ap (λ c. cond c (record { lit = l; layout = p.which } ∷ leaves ps ls) (leaves ps ls))
-    (h 0 (omega arith)) ∙ no_leaves ps ls (later p ps h)
+no_leaves (p ∷ ps) (l ∷ ls) h = rw (h 0 (omega arith)) (no_leaves ps ls (later p ps h))
 
 abbrev any_state : List Place → Bool
 any_state ps = list_any (λ p. is_state p.space) ps
 
 none_state : (ps : List Place) → any_state ps ≡ false → HaveRows ps
 none_state [] h k l = absurd (omega arith)
-none_state (p ∷ ps) h zero l = (or_parts (is_state p.space) (any_state ps) h).0
-none_state (p ∷ ps) h (suc k) l = none_state ps (or_parts (is_state p.space) (any_state ps) h).1 k
-    (omega arith)
+none_state (p ∷ ps) h zero l = grind arith
+none_state (p ∷ ps) h (suc k) l = none_state ps (grind arith) k (omega arith)
 
 back_none : (ps qs : List Place) → any_state (ps ++ qs) ≡ false → any_state qs ≡ false
 back_none [] qs h = h
-back_none (p ∷ ps) qs h = back_none ps qs (or_parts (is_state p.space) (any_state (ps ++ qs)) h).1
+back_none (p ∷ ps) qs h = back_none ps qs (grind arith)
 
 -- a body without states
 pub have_rows : (b : Block) → has_states b ≡ false → HaveRows b.reads × HaveRows b.writes

@@ -1,105 +1,41 @@
 -- Named rows that are the same, and writes to them.
-use Rattle.std.proofs.Common.{◌≡◌, ℕ, zero, suc, ◌+◌, ◌-◌, ◌<◌, ◌≤◌, Bool, true, false, cond, List}
-use Rattle.std.proofs.Common.{[], ◌∷◌, length, refl, sym, ap, ◌∙◌, ⊎_elim, arith}
-use Rattle.std.specs.Prelude.{◌==◌, ◌&&◌, nat_lt, slice_index_or}
-use Rattle.std.proofs.lemmas.Bool.{cases_Bool, and_parts, and_from, eqb-true, eq-eqb, ltb-true}
+use Rattle.std.proofs.Common.{◌≡◌, ℕ, zero, suc, ◌<◌, ◌≤◌, Bool, true, cond, List}
+use Rattle.std.proofs.Common.{[], ◌∷◌, length, refl, ap, ◌∙◌, inl, inr, arith}
+use Rattle.std.proofs.lemmas.Bool.Decides.{nat_tests}
+use Rattle.std.proofs.lemmas.Bool.{cases_Bool, and_parts}
 use Rattle.mig_graph.specs.declared.Lit.{Lit}
 use Rattle.mig_graph.specs.Literals.{lit_value}
 use Rattle.mig_graph.specs.Outputs.{lit_at}
 use Rattle.loop_ir.specs.declared.ir.Space.{Space}
-use Rattle.loop_ir.specs.declared.ir.Space.TheVariants.{Result, Source, ScratchBit, ScratchWord}
-use Rattle.loop_ir.specs.declared.ir.Space.TheVariants.{Cells}
 use Rattle.loop_ir.specs.declared.ir.Sub.{Sub}
-use Rattle.loop_ir.specs.declared.ir.Sub.TheVariants.{Zero, Top, Inner as At_inner, InnerDown}
-use Rattle.loop_ir.specs.declared.ir.Sub.TheVariants.{Outer, OuterDown, Sum, DownSum, DownPlusN}
-use Rattle.loop_ir.specs.declared.ir.Sub.TheVariants.{NPlusInner, Register}
 use Rattle.loop_ir.specs.declared.ir.Place.{Place}
 use Rattle.loop_ir.specs.Spots.{Spot, Spots, same_space, same_spot, set_spot, spot_at, nth_place}
 use Rattle.loop_ir.specs.Spots.{write_all}
-use Rattle.loop_ir.specs.Costs.{sub_code, same_sub}
-
-not_low : (r : ℕ) → nat_lt (10 + r) 10 ≡ false
-not_low r = by (nat_lt (10 + r) 10) refl
-  where
-    by : (b : Bool) → nat_lt (10 + r) 10 ≡ b → b ≡ false
-    by true e = let lt = ltb-true (10 + r) 10 e in absurd (omega (arith, lt))
-    by false e = refl
-
--- a number's subscript
-sub_at : ℕ → Sub
-sub_at k = cond (nat_lt k 10) (slice_index_or (Zero ∷ Top ∷ At_inner ∷ InnerDown ∷ Outer ∷ OuterDown
-    ∷ Sum ∷ DownSum ∷ DownPlusN ∷ NPlusInner ∷ []) k Zero) (Register (k - 10))
-
-sub_back : (s : Sub) → sub_at (sub_code s) ≡ s
-unfolding sub_at
-sub_back Zero = refl
-sub_back Top = refl
-sub_back At_inner = refl
-sub_back InnerDown = refl
-sub_back Outer = refl
-sub_back OuterDown = refl
-sub_back Sum = refl
-sub_back DownSum = refl
-sub_back DownPlusN = refl
-sub_back NPlusInner = refl
-sub_back (Register r) = let e : 10 + r - 10 ≡ r = omega arith in
-    ap (λ b. cond b (slice_index_or (Zero ∷ Top ∷ At_inner ∷ InnerDown ∷ Outer ∷ OuterDown ∷ Sum
-    ∷ DownSum ∷ DownPlusN ∷ NPlusInner ∷ []) (10 + r) Zero) (Register (10 + r - 10))) (not_low r)
-    ∙ ap Register e
+use Rattle.loop_ir.specs.Costs.{same_sub}
 
 pub sub_true : (s t : Sub) → same_sub s t ≡ true → s ≡ t
-sub_true s t e = sym (sub_back s) ∙ ap sub_at (eqb-true (sub_code s) (sub_code t) e) ∙ sub_back t
+sub_true s t e = grind (arith, nat_tests)
 
 space_true : (a b : Space) → same_space a b ≡ true → a ≡ b
-space_true Result Result e = refl
-space_true Source Source e = refl
-space_true ScratchBit ScratchBit e = refl
-space_true ScratchWord ScratchWord e = refl
-space_true Cells Cells e = refl
-space_true Result Source e = cc
-space_true Result ScratchBit e = cc
-space_true Result ScratchWord e = cc
-space_true Source Result e = cc
-space_true Source ScratchBit e = cc
-space_true Source ScratchWord e = cc
-space_true ScratchBit Result e = cc
-space_true ScratchBit Source e = cc
-space_true ScratchBit ScratchWord e = cc
-space_true ScratchWord Result e = cc
-space_true ScratchWord Source e = cc
-space_true ScratchWord ScratchBit e = cc
-space_true Result Cells e = cc
-space_true Source Cells e = cc
-space_true ScratchBit Cells e = cc
-space_true ScratchWord Cells e = cc
-space_true Cells Result e = cc
-space_true Cells Source e = cc
-space_true Cells ScratchBit e = cc
-space_true Cells ScratchWord e = cc
+space_true a b e = grind arith
 
 space_same : (a : Space) → same_space a a ≡ true
-space_same Result = refl
-space_same Source = refl
-space_same ScratchBit = refl
-space_same ScratchWord = refl
-space_same Cells = refl
+space_same a = grind arith
+
+same_parts : (a b : Space) (v w x y : ℕ) → a ≡ b → v ≡ w → x ≡ y
+    → ◌≡◌ {A = Spot} (record { space = a; which = v; index = x })
+    (record { space = b; which = w; index = y })
+same_parts a b v w x y e f g = cc
 
 pub spot_true : (p q : Spot) → same_spot p q ≡ true → p ≡ q
 spot_true p q e =
-    let h = and_parts (same_space p.space q.space) (p.which == q.which && p.index == q.index) e in
-    let k = and_parts (p.which == q.which) (p.index == q.index) h.1 in
+    let h = and_parts (same_space p.space q.space) _ e in
     let a = space_true p.space q.space h.0 in
-    let b = eqb-true p.which q.which k.0 in
-    let c = eqb-true p.index q.index k.1 in
-    ap (λ x. record { space = x; which = p.which; index = p.index }) a
-    ∙ ap (λ x. record { space = q.space; which = x; index = p.index }) b
-    ∙ ap (λ x. record { space = q.space; which = q.which; index = x }) c
+    let k : (p.which ≡ q.which) × (p.index ≡ q.index) = grind (arith, nat_tests) in
+    same_parts p.space q.space p.which q.which p.index q.index a k.0 k.1
 
 pub spot_same : (p q : Spot) → p ≡ q → same_spot p q ≡ true
-spot_same p q e = ap (λ x. same_spot p x) (sym e)
-    ∙ and_from (same_space p.space p.space) (p.which == p.which && p.index
-    == p.index) (space_same p.space) (and_from (p.which == p.which) (p.index
-    == p.index) (eq-eqb p.which p.which refl) (eq-eqb p.index p.index refl))
+spot_same p q e = rw (← e, space_same p.space) (grind (arith, nat_tests))
 
 -- a row that is set has the bit it was set to
 pub set_same : (bits : Spots) (p : Spot) (v : Bool) (q : Spot) → q ≡ p → set_spot bits p v q ≡ v
@@ -108,11 +44,10 @@ set_same bits p v q e = ap (λ b. cond b v (bits q)) (spot_same q p e)
 -- a row that is set leaves every other
 pub set_other : (bits : Spots) (p : Spot) (v : Bool) (q : Spot) → (q ≡ p → ⊥)
     → set_spot bits p v q ≡ bits q
-set_other bits p v q ne =
-    ⊎_elim
-    (λ (e : same_spot q p ≡ true). absurd (ne (spot_true q p e)))
-    (λ (e : same_spot q p ≡ false). ap (λ b. cond b v (bits q)) e)
-    (cases_Bool (same_spot q p))
+set_other bits p v q ne = elim (cases_Bool (same_spot q p)) [
+  | inl e ↦ absurd (ne (spot_true q p e))
+  | inr e ↦ rw e
+]
 
 module _ (n i o : ℕ) (g : List ℕ) (env : ℕ → Bool) where
   pub write_other : (ps : List Place) (ls : List Lit) (bits : Spots) (q : Spot)

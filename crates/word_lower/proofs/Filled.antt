@@ -1,6 +1,6 @@
 -- The kinds that fill the forms of each shape, and places of these kinds.
-use Rattle.std.proofs.Common.{◌≡◌, ◌⊎◌, inl, inr, ℕ, List, [], ◌∷◌, map, Option, Some, None}
-use Rattle.std.proofs.Common.{refl, sym, ap}
+use Rattle.std.proofs.Common.{◌≡◌, ◌⊎◌, inl, inr, ℕ, List, [], ◌∷◌, map, Some}
+use Rattle.std.proofs.Common.{refl, ap}
 use Rattle.op_text.specs.declared.tree.Kind.{Kind}
 use Rattle.op_text.specs.declared.tree.Kind.TheVariants.{Word, Bit}
 use Rattle.op_text.specs.declared.word_ops.WordOp.TheVariants as op
@@ -13,97 +13,48 @@ use Rattle.loop_ir.specs.declared.names.Slot.{Slot}
 use Rattle.word_lower.proofs.Setting.{taken}
 use Rattle.word_lower.proofs.Pieces.{slot}
 
-kind_in : Option Kind → Kind
-kind_in None = Word
-kind_in (Some k) = k
-
 same_kinds : (j k : Kind) → Some j ≡ Some k → k ≡ j
-unfolding kind_in
-same_kinds j k e = sym (ap kind_in e)
+same_kinds j k e = cc
 
 -- the kinds that fill a form
 pub filled_none : (ks : List Kind) (k : Kind) → filled (form [] Word ∷ []) ks ≡ Some k
     → (ks ≡ []) × (k ≡ Word)
 filled_none [] k e = (refl, same_kinds Word k e)
-filled_none (x ∷ ks) k e = cc
+filled_none ks k e = cc
 
 -- an operation on a word takes just a word
 pub filled_word : (g : Kind) (ks : List Kind) (k : Kind) → filled (word_to g) ks ≡ Some k
     → (ks ≡ Word ∷ []) × (k ≡ g)
-filled_word g [] k e = cc
 filled_word g (Word ∷ []) k e = (refl, same_kinds g k e)
-filled_word g (Bit ∷ []) k e = cc
-filled_word g (Word ∷ (x ∷ ks)) k e = cc
-filled_word g (Bit ∷ (x ∷ ks)) k e = cc
+filled_word g ks k e = cc
 
 -- an operation on two words takes just two words
 pub filled_words : (g : Kind) (ks : List Kind) (k : Kind) → filled (words_to g) ks ≡ Some k
     → (ks ≡ Word ∷ Word ∷ []) × (k ≡ g)
-filled_words g [] k e = cc
-filled_words g (Word ∷ []) k e = cc
-filled_words g (Bit ∷ []) k e = cc
 filled_words g (Word ∷ (Word ∷ [])) k e = (refl, same_kinds g k e)
-filled_words g (Word ∷ (Bit ∷ [])) k e = cc
-filled_words g (Bit ∷ (x ∷ [])) k e = cc
-filled_words g (Word ∷ (Word ∷ (y ∷ ks))) k e = cc
-filled_words g (Word ∷ (Bit ∷ (y ∷ ks))) k e = cc
-filled_words g (Bit ∷ (x ∷ (y ∷ ks))) k e = cc
+filled_words g ks k e = cc
 
 pub filled_one : (ks : List Kind) (k : Kind) → filled of_one ks ≡ Some k
     → ((ks ≡ Word ∷ []) × (k ≡ Word)) ⊎ ((ks ≡ Bit ∷ []) × (k ≡ Bit))
-filled_one [] k e = cc
 filled_one (Word ∷ []) k e = inl (refl, same_kinds Word k e)
 filled_one (Bit ∷ []) k e = inr (refl, same_kinds Bit k e)
-filled_one (Word ∷ (x ∷ ks)) k e = cc
-filled_one (Bit ∷ (x ∷ ks)) k e = cc
+filled_one ks k e = cc
 
 pub filled_two : (ks : List Kind) (k : Kind) → filled of_two ks ≡ Some k
     → ((ks ≡ Word ∷ Word ∷ []) × (k ≡ Word)) ⊎ ((ks ≡ Bit ∷ Bit ∷ []) × (k ≡ Bit))
-filled_two [] k e = cc
-filled_two (Word ∷ []) k e = cc
-filled_two (Bit ∷ []) k e = cc
 filled_two (Word ∷ (Word ∷ [])) k e = inl (refl, same_kinds Word k e)
-filled_two (Word ∷ (Bit ∷ [])) k e = cc
-filled_two (Bit ∷ (Word ∷ [])) k e = cc
 filled_two (Bit ∷ (Bit ∷ [])) k e = inr (refl, same_kinds Bit k e)
-filled_two (Word ∷ (Word ∷ (y ∷ ks))) k e = cc
-filled_two (Word ∷ (Bit ∷ (y ∷ ks))) k e = cc
-filled_two (Bit ∷ (Word ∷ (y ∷ ks))) k e = cc
-filled_two (Bit ∷ (Bit ∷ (y ∷ ks))) k e = cc
+filled_two ks k e = cc
 
 pub filled_choice : (ks : List Kind) (k : Kind) → filled (forms op.IfElse) ks ≡ Some k
     → ((ks ≡ Word ∷ Word ∷ Bit ∷ []) × (k ≡ Word)) ⊎ ((ks ≡ Bit ∷ Bit ∷ Bit ∷ []) × (k ≡ Bit))
-filled_choice [] k e = cc
-filled_choice (Word ∷ []) k e = cc
-filled_choice (Bit ∷ []) k e = cc
-filled_choice (Word ∷ (Word ∷ [])) k e = cc
-filled_choice (Word ∷ (Bit ∷ [])) k e = cc
-filled_choice (Bit ∷ (Word ∷ [])) k e = cc
-filled_choice (Bit ∷ (Bit ∷ [])) k e = cc
 filled_choice (Word ∷ (Word ∷ (Bit ∷ []))) k e = inl (refl, same_kinds Word k e)
-filled_choice (Word ∷ (Word ∷ (Word ∷ []))) k e = cc
-filled_choice (Word ∷ (Bit ∷ (y ∷ []))) k e = cc
-filled_choice (Bit ∷ (Word ∷ (y ∷ []))) k e = cc
 filled_choice (Bit ∷ (Bit ∷ (Bit ∷ []))) k e = inr (refl, same_kinds Bit k e)
-filled_choice (Bit ∷ (Bit ∷ (Word ∷ []))) k e = cc
-filled_choice (Word ∷ (Word ∷ (Word ∷ (z ∷ ks)))) k e = cc
-filled_choice (Word ∷ (Word ∷ (Bit ∷ (z ∷ ks)))) k e = cc
-filled_choice (Word ∷ (Bit ∷ (y ∷ (z ∷ ks)))) k e = cc
-filled_choice (Bit ∷ (Word ∷ (y ∷ (z ∷ ks)))) k e = cc
-filled_choice (Bit ∷ (Bit ∷ (Word ∷ (z ∷ ks)))) k e = cc
-filled_choice (Bit ∷ (Bit ∷ (Bit ∷ (z ∷ ks)))) k e = cc
+filled_choice ks k e = cc
 
 -- a place of a known kind
 pub slot_is : (t : Slot) (k : Kind) → t.kind ≡ k → t ≡ slot t.space t.which k
 slot_is t k e = ap (slot t.space t.which) e
-
-first_kind : List Kind → Kind
-first_kind [] = Word
-first_kind (k ∷ ks) = k
-
-rest_kinds : List Kind → List Kind
-rest_kinds [] = []
-rest_kinds (k ∷ ks) = ks
 
 -- without kinds there is no argument
 pub no_slots : (ss : List Slot) → map (λ (s : Slot). s.kind) ss ≡ [] → ss ≡ []
@@ -120,14 +71,13 @@ pub record More (ss : List Slot) (k : Kind) (ks : List Kind) : Type 0 where
 -- with a kind there is an argument of this kind, and those after it
 pub one_slot : (ss : List Slot) (k : Kind) (ks : List Kind) → map (λ (s : Slot). s.kind) ss ≡ k ∷ ks
     → More ss k ks
-unfolding first_kind rest_kinds
 one_slot [] k ks e = cc
 one_slot (s ∷ ss) k ks e = record {
   space = s.space;
   which = s.which;
   more = ss;
-  is = ap (λ x. x ∷ ss) (slot_is s k (ap first_kind e));
-  others = ap rest_kinds e;
+  is = ap (λ x. x ∷ ss) (slot_is s k (cc));
+  others = cc;
 }
 
 -- The two forms of a shape that takes words or bits, by which of the two it takes. Other shapes

@@ -1,12 +1,8 @@
 pub mod Setting
-pub mod Marks
 pub mod Sums
 pub mod Lists
 pub mod Bitwise
 pub mod Passes
-pub mod Words
-pub mod Carries
-pub mod States
 pub mod Pieces
 pub mod Filled
 pub mod Operations

@@ -1,8 +1,7 @@
 -- Bodies that are built by a template are those of the template.
 use Rattle.std.proofs.Common.{◌≡◌, ℕ, zero, suc, ◌+◌, ◌<◌, true, List}
 use Rattle.std.proofs.Common.{[], ◌∷◌, length, refl, arith}
-use Rattle.std.specs.Prelude.{nat_lt}
-use Rattle.std.proofs.lemmas.Bool.{and_parts}
+use Rattle.std.proofs.lemmas.Bool.Decides.{nat_tests}
 use Rattle.mig_graph.specs.declared.Lit.{Lit}
 use Rattle.mig_graph.specs.declared.Node.{Node}
 use Rattle.mig_graph.specs.Graph.{Graph, IsGraph}
@@ -14,16 +13,12 @@ use Rattle.loop_laws.specs.Forms.{IsMade}
 use Rattle.word_lower.specs.Places.{template_at}
 use Rattle.word_lower.specs.Shapes.{are_below}
 
-less_is : (a b : ℕ) → nat_lt a b ≡ true → a < b
-less_is a b e = grind arith
-
 -- each output that passes the test names a node that there is
 pub all_below : (k : ℕ) (ls : List Lit) → are_below k ls ≡ true → (j : ℕ) → j < length ls
     → (lit_at ls j).node < k
 all_below k [] e j lt = absurd (omega arith)
-all_below k (l ∷ ls) e zero lt = less_is l.node k (and_parts (nat_lt l.node k) (are_below k ls) e).0
-all_below k (l ∷ ls) e (suc j) lt = all_below k ls
-    (and_parts (nat_lt l.node k) (are_below k ls) e).1 j (omega arith)
+all_below k (l ∷ ls) e zero lt = grind (arith, nat_tests)
+all_below k (l ∷ ls) e (suc j) lt = all_below k ls (grind arith) j (omega arith)
 
 -- a body put together
 abbrev block_of_parts : List Place → Graph → List Lit → List Place → List BodyCmd → Block

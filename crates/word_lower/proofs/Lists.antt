@@ -1,8 +1,9 @@
 -- The number that bits spell, by their list and by their positions.
-use Rattle.std.proofs.Common.{◌≡◌, ℕ, zero, suc, ◌+◌, ◌*◌, ◌/◌, ◌%◌, Bool, true, false, List, []}
+use Rattle.std.proofs.Common.{◌≡◌, ℕ, zero, suc, ◌+◌, ◌*◌, ◌/◌, ◌%◌, Bool, List, []}
 use Rattle.std.proofs.Common.{◌∷◌, map, refl, sym, ap, ◌∙◌, arith}
 use Rattle.std.specs.Prelude.{◌==◌, count_by, cond}
 use Rattle.std.specs.List.{range_with_len}
+use Rattle.std.proofs.lemmas.Bool.Decides.{nat_tests}
 use Rattle.std.proofs.lemmas.List.Sums.{sum_by-cons}
 use Rattle.op_text.specs.Values.{value, bits, both, bit_by_bit, ones_of}
 use Rattle.word_lower.proofs.Setting.{bit, number}
@@ -13,12 +14,10 @@ abbrev pub listed : (ℕ → Bool) → ℕ → ℕ → List Bool
 listed f a n = map f (range_with_len a n)
 
 low_bit : (b : Bool) (w : ℕ) → ((bit b + 2 * w) % 2 == 1) ≡ b
-low_bit true w = let e : (bit true + 2 * w) % 2 ≡ 1 = omega arith in ap (λ x. x == 1) e
-low_bit false w = let e : (bit false + 2 * w) % 2 ≡ 0 = omega arith in ap (λ x. x == 1) e
+low_bit b w = grind (arith, nat_tests)
 
 high_bits : (b : Bool) (w : ℕ) → (bit b + 2 * w) / 2 ≡ w
-high_bits true w = omega arith
-high_bits false w = omega arith
+high_bits b w = grind arith
 
 shift : (f : ℕ → Bool) (a n : ℕ) → number (λ i. f (a + suc i)) n ≡ number (λ i. f (a + 1 + i)) n
 shift f a n = value_same (λ i. f (a + suc i)) (λ i. f (a + 1 + i)) n (λ i lt. let e : a + suc i
@@ -70,8 +69,7 @@ by_bits g f h n = sym (
     ∙ value_of_list (λ i. g (f i) (h i)) n)
 
 one_if : (b : Bool) → cond b 1 0 ≡ bit b
-one_if true = refl
-one_if false = refl
+one_if b = grind arith
 
 -- how many of the bits at positions a and on are set
 ones : (ℕ → Bool) → ℕ → ℕ → ℕ

@@ -1,7 +1,7 @@
 -- Where the arguments fill a form of an operation, its loop program does it, keeps its ceiling, and
 -- passes the tests.
 use Rattle.std.proofs.Common.{◌≡◌, ℕ, suc, ◌+◌, ◌<◌, ◌≤◌, true, false, List, [], ◌∷◌, map}
-use Rattle.std.proofs.Common.{Some, refl, sym, ap, ◌∙◌, subst, arith, ◌⊎◌, inl, inr}
+use Rattle.std.proofs.Common.{Some, refl, sym, ap, ◌∙◌, subst, arith}
 use Rattle.op_text.specs.declared.tree.Kind.{Kind}
 use Rattle.op_text.specs.declared.tree.Kind.TheVariants.{Word, Bit}
 use Rattle.op_text.specs.declared.word_ops.WordOp.{WordOp}
@@ -18,16 +18,15 @@ use Rattle.loop_ir.specs.declared.names.Slot.{Slot}
 use Rattle.loop_ir.specs.Plain.{Block, StepOf}
 use Rattle.loop_ir.specs.Loops.{all_rounds}
 use Rattle.loop_ir.specs.Spots.{Spot, Spots, spot_in, after_rounds, is_state}
-use Rattle.loop_ir.specs.Costs.{turn_cost, rounds_cost, plain_cost, plain_costs}
+use Rattle.loop_ir.specs.Costs.{turn_cost, plain_cost}
 use Rattle.loop_ir.specs.Lowered.{slot_spot, slot_bits, op_plain_ceiling}
 use Rattle.loop_laws.specs.Rooms.{steps_fit, placed_steps}
 use Rattle.loop_laws.specs.Forms.{is_short, keeps_states}
-use Rattle.loop_laws.proofs.Summed.{steps_sum, sum_is}
-use Rattle.loop_laws.proofs.EachRound.{placed-plain}
+use Rattle.loop_laws.proofs.Summed.{steps_sum}
 use Rattle.word_lower.specs.Places.{scratch_from, rooms_of, program_on}
 use Rattle.word_lower.specs.Programs.{program, is_linear}
 use Rattle.word_lower.specs.Shapes.{rows_at, owners_of}
-use Rattle.word_lower.proofs.Setting.{taken, operation, Slots, row, number_at, IsElsewhere, Gives}
+use Rattle.word_lower.proofs.Setting.{taken, Slots, row, number_at, Gives}
 use Rattle.word_lower.proofs.Lists.{bits_of_number, value_of_list}
 use Rattle.word_lower.proofs.Pieces.{slot, slot_at, Pieces, names, are_slots}
 use Rattle.word_lower.proofs.Filled.{arg_kind, gives_kind, takes_kinds, form_of, slot_is}
@@ -48,8 +47,8 @@ pub record DoesOp (p : WordOp) (n : ℕ) (k : Kind) (t : Slot) (args : List Slot
         → slot_bits n (after_rounds n (all_rounds n (steps_on p k t args free)) before) t
         ≡ bits (op_value p (slots_width n args) (map (λ a. value (slot_bits n before a)) args))
         (width n t.kind)
-    pub keeps : (before : Spots) (q : Spot) → is_state q.space ≡ false → ((v : ℕ) → v < width n t.kind → q ≡ slot_spot n t v
-        → ⊥)
+    pub keeps : (before : Spots) (q : Spot) → is_state q.space ≡ false
+        → ((v : ℕ) → v < width n t.kind → q ≡ slot_spot n t v → ⊥)
         → ((j : ℕ) → j < bits_inside p → q ≡ spot_in n ScratchBit (free + j) 0 → ⊥)
         → after_rounds n (all_rounds n (steps_on p k t args free)) before q ≡ before q
 
@@ -57,12 +56,10 @@ pub record Lowers (p : WordOp) (k : Kind) (t : Slot) (args : List Slot) (free : 
   pub fit : steps_fit (rooms_of t args (scratch_from free (bits_inside p))) (program p k) ≡ true
   pub same : program_on (rows_at (owners_of t args free)) (program p k) ≡ steps_on p k t args free
   pub short : is_short (steps_on p k t args free) ≡ true
-  pub does : (n : ℕ) → 0 < n → Pieces n t args (scratch_from free (bits_inside p))
-      → DoesOp p n k t args free
   pub states : keeps_states (placed_steps [] (program p k)) ≡ true
-  pub cheap : (n : ℕ) → 0 < n → rounds_cost (all_rounds n (placed_steps [] (program p k)))
+  pub cheap : (n : ℕ) → 0 < n → steps_sum turn_cost n (placed_steps [] (program p k))
       ≤ op_ceiling p (slots_width n args)
-  pub plain : (n : ℕ) → 0 < n → plain_costs (all_rounds n (placed_steps [] (program p k)))
+  pub plain : (n : ℕ) → 0 < n → steps_sum plain_cost n (placed_steps [] (program p k))
       ≤ op_plain_ceiling p (slots_width n args)
 
 -- a place with another kind, and places of these kinds
@@ -73,22 +70,14 @@ abbrev of_kinds : List Kind → (ℕ → Slot) → List Slot
 of_kinds [] f = []
 of_kinds (k ∷ ks) f = of_kind (f 0) k ∷ of_kinds ks (λ i. f (suc i))
 
-first_kind : List Kind → Kind
-first_kind [] = Word
-first_kind (k ∷ ks) = k
-
-rest_kinds : List Kind → List Kind
-rest_kinds [] = []
-rest_kinds (k ∷ ks) = ks
-
 are_of_kinds : (ss : List Slot) (ks : List Kind) → map (λ (s : Slot). s.kind) ss ≡ ks
     → ss ≡ of_kinds ks (slot_at ss)
-unfolding first_kind rest_kinds
 are_of_kinds [] [] e = refl
 are_of_kinds [] (k ∷ ks) e = cc
 are_of_kinds (s ∷ ss) [] e = cc
-are_of_kinds (s ∷ ss) (k ∷ ks) e = ap (λ x. x ∷ ss) (slot_is s k (ap first_kind e))
-    ∙ ap (λ xs. of_kind s k ∷ xs) (are_of_kinds ss ks (ap rest_kinds e))
+are_of_kinds (s ∷ ss) (k ∷ ks) e =
+    let f : map (λ (s : Slot). s.kind) ss ≡ ks = cc in
+    ap (λ x. x ∷ ss) (slot_is s k (cc)) ∙ ap (λ xs. of_kind s k ∷ xs) (are_of_kinds ss ks f)
 
 -- the arguments of a form
 abbrev args_in : Signature → Kind → (ℕ → Slot) → List Slot
@@ -129,104 +118,30 @@ numbers_taken : (sh : Signature) (c : Kind) (f : ℕ → Slot) (n : ℕ) (before
 numbers_taken shape.Nothing c f n before = refl
 numbers_taken sh c f n before = refl
 
--- from numbers to bits
-number_answer : (p : WordOp) (n l bound : ℕ) (t : Slot) (m : Slots) (before after : Spots) (x : ℕ)
-    → m.target ≡ t → Gives p n (width n t.kind) l bound m before after
-    → operation p l (number_at n before m.a l) (number_at n before m.b l) (number_at n before m.s 1)
-    ≡ x → slot_bits n after t ≡ bits x (width n t.kind)
-number_answer p n l bound t m before after x e g h =
-    sym (bits_of_number (λ v. after (row n t v)) (width n t.kind))
-    ∙ ap (λ y. bits y (width n t.kind)) (sym (ap
-    (λ (z : Slot). number_at n after z (width n t.kind)) e) ∙ g.gives ∙ h)
-
-elsewhere : (n bound : ℕ) (m : Slots) (q : Spot) → is_state q.space ≡ false
-    → ((v : ℕ) → v < width n m.target.kind → q ≡ slot_spot n m.target v → ⊥)
-    → ((j : ℕ) → j < bound → q ≡ spot_in n ScratchBit (m.free_bit + j) 0 → ⊥)
-    → IsElsewhere n (width n m.target.kind) bound m q
-elsewhere n bound m q row out free = record {
-  no_state = row;
-  target = out;
-  bit = λ h e. free 0 h (let f : m.free_bit ≡ m.free_bit + 0 = omega arith in
-      e ∙ ap (λ z. spot_in n ScratchBit z 0) f);
-}
-
 -- what computes, in each form
-record Computes (p : WordOp) (k : Kind) (t : Slot) (args : List Slot) (free : ℕ) : Type 0 where
-  fit : steps_fit (rooms_of t args (scratch_from free (bits_inside p))) (program p k) ≡ true
-  same : program_on (rows_at (owners_of t args free)) (program p k) ≡ steps_on p k t args free
-  short : is_short (steps_on p k t args free) ≡ true
-  states : keeps_states (placed_steps [] (program p k)) ≡ true
-  cheap : (n : ℕ) → 0 < n → rounds_cost (all_rounds n (placed_steps [] (program p k)))
-      ≤ op_ceiling p (slots_width n args)
-  plain : (n : ℕ) → 0 < n → plain_costs (all_rounds n (placed_steps [] (program p k)))
-      ≤ op_plain_ceiling p (slots_width n args)
-
-abbrev ComputesIn : WordOp → Kind → Slot → (ℕ → Slot) → ℕ → Type 0
-ComputesIn p c t f free = let sh = (row_of p).signature in
-    Computes p (gives_kind sh c) (of_kind t (gives_kind sh c)) (args_in sh c f) free
-
--- it keeps the ceiling, or has no other one where no body has a sequence of its own
-abbrev IsCheap : WordOp → List (StepOf Block) → List Slot → Type 0
-IsCheap p steps args =
-    ((n : ℕ) → 0 < n → steps_sum turn_cost n steps ≤ op_ceiling p (slots_width n args))
-    ⊎ ((m : ℕ) → op_plain_ceiling p m ≡ op_ceiling p m)
-
-computed : (p : WordOp) (k : Kind) (t : Slot) (args : List Slot) (free : ℕ)
+tested : (p : WordOp) (k : Kind) (t : Slot) (args : List Slot) (free : ℕ)
     → steps_fit (rooms_of t args (scratch_from free (bits_inside p))) (program p k) ≡ true
     → program_on (rows_at (owners_of t args free)) (program p k) ≡ steps_on p k t args free
     → is_short (steps_on p k t args free) ≡ true
     → keeps_states (placed_steps [] (program p k)) ≡ true
+    → ((n : ℕ) → 0 < n → steps_sum turn_cost n (placed_steps [] (program p k))
+    ≤ op_ceiling p (slots_width n args))
     → ((n : ℕ) → 0 < n → steps_sum plain_cost n (placed_steps [] (program p k))
-    ≤ op_plain_ceiling p (slots_width n args)) → IsCheap p (placed_steps [] (program p k)) args
-    → Computes p k t args free
-computed p k t args free fit same short states plain cheap =
-    let steps = placed_steps [] (program p k) in
-    let few : (n : ℕ) → 0 < n → plain_costs (all_rounds n steps)
-    ≤ op_plain_ceiling p (slots_width n args) =
-    λ n some. let e = sum_is plain_cost n steps in let h = plain n some in omega (arith, e, h) in
-    record {
-      fit = fit;
-      same = same;
-      short = short;
-      states = states;
-      cheap = λ n some. kept n some (few n some) cheap;
-      plain = few;
-    }
-  where
-    kept : (n : ℕ) → 0 < n → plain_costs (all_rounds n (placed_steps [] (program p k)))
-        ≤ op_plain_ceiling p (slots_width n args) → IsCheap p (placed_steps [] (program p k)) args
-        → rounds_cost (all_rounds n (placed_steps [] (program p k)))
-        ≤ op_ceiling p (slots_width n args)
-    kept n some f (inl h) =
-        let e = sum_is turn_cost n (placed_steps [] (program p k)) in let c = h n some in
-        omega (arith, e, c)
-    kept n some f (inr same) =
-        let r = placed-plain [] (program p k) n in
-        let s = same (slots_width n args) in omega (arith, r, f, s)
+    ≤ op_plain_ceiling p (slots_width n args)) → Lowers p k t args free
+tested p k t args free a b c d e f =
+    record { fit = a; same = b; short = c; states = d; cheap = e; plain = f }
 
-computes : (c : Kind) (p : WordOp) (t : Slot) (f : ℕ → Slot) (free : ℕ) → ComputesIn p c t f free
-computes Word op.Not t f free = computed _ _ _ _ _ refl refl refl refl (λ n some. omega (arith, some))
-    (inl (λ n some. omega (arith, some)))
-computes Word op.And t f free = computed _ _ _ _ _ refl refl refl refl (λ n some. omega (arith, some))
-    (inl (λ n some. omega (arith, some)))
-computes Word op.Or t f free = computed _ _ _ _ _ refl refl refl refl (λ n some. omega (arith, some))
-    (inl (λ n some. omega (arith, some)))
-computes Word op.Xor t f free = computed _ _ _ _ _ refl refl refl refl (λ n some. omega (arith, some))
-    (inl (λ n some. omega (arith, some)))
-computes Word op.Add t f free = computed _ _ _ _ _ refl refl refl refl (λ n some. omega (arith, some))
-    (inl (λ n some. omega (arith, some)))
-computes Bit op.Not t f free = computed _ _ _ _ _ refl refl refl refl (λ n some. omega (arith, some))
-    (inl (λ n some. omega (arith, some)))
-computes Bit op.And t f free = computed _ _ _ _ _ refl refl refl refl (λ n some. omega (arith, some))
-    (inl (λ n some. omega (arith, some)))
-computes Bit op.Or t f free = computed _ _ _ _ _ refl refl refl refl (λ n some. omega (arith, some))
-    (inl (λ n some. omega (arith, some)))
-computes Bit op.Xor t f free = computed _ _ _ _ _ refl refl refl refl (λ n some. omega (arith, some))
-    (inl (λ n some. omega (arith, some)))
-computes Bit op.Add t f free = computed _ _ _ _ _ refl refl refl refl (λ n some. omega (arith, some))
-    (inl (λ n some. omega (arith, some)))
-computes Word p t f free = computed _ _ _ _ _ refl refl refl refl (λ n some. omega (arith, some)) (inr (λ m. refl))
-computes Bit p t f free = computed _ _ _ _ _ refl refl refl refl (λ n some. omega (arith, some)) (inr (λ m. refl))
+computes : (c : Kind) (p : WordOp) (t : Slot) (f : ℕ → Slot) (free : ℕ)
+    → (let sh = (row_of p).signature in let k = gives_kind sh c in
+    Lowers p k (of_kind t k) (args_in sh c f) free)
+computes Word op.Not t f free = tested _ _ _ _ _ refl refl refl refl
+    (λ n some. omega (arith, some)) (λ n some. omega (arith, some))
+computes Word p t f free = tested _ _ _ _ _ refl refl refl refl
+    (λ n some. omega (arith, some)) (λ n some. omega (arith, some))
+computes Bit op.Not t f free = tested _ _ _ _ _ refl refl refl refl
+    (λ n some. omega (arith, some)) (λ n some. omega (arith, some))
+computes Bit p t f free = tested _ _ _ _ _ refl refl refl refl
+    (λ n some. omega (arith, some)) (λ n some. omega (arith, some))
 
 -- in each form the program does the operation
 module _ (p : WordOp) (c : Kind) (t : Slot) (f : ℕ → Slot) (free : ℕ) (linear : is_linear p ≡ true)
@@ -258,45 +173,39 @@ module _ (p : WordOp) (c : Kind) (t : Slot) (f : ℕ → Slot) (free : ℕ) (lin
         subst (λ ss. Gives p n (width n k) (width n (arg_kind sh c)) (bits_inside p) m before
         (after_rounds n (all_rounds n (placed_steps (rooms_of target ss (scratch_from free
         (bits_inside p))) (program p k))) before)) (args_are sh c f)
-        (op_gives p c linear n m some (are_slots n (width n (arg_kind sh c)) target args free some
-        enough.0 enough.1 (bits_inside p) are) before)
+        (op_gives p c linear n m some (are_slots n (bits_inside p) target args free are
+        (width n (arg_kind sh c)) some enough.0 enough.1) before)
 
     does : (n : ℕ) → 0 < n → Pieces n target args (scratch_from free (bits_inside p))
         → DoesOp p n k target args free
     does n some are = record {
-      gives = λ before. number_answer p n (width n (arg_kind sh c)) (bits_inside p) target m before
-          (left n before) _ refl (gives n some are before)
-          (ap (op_value p (width n (arg_kind sh c)))
+      gives = λ before. sym (bits_of_number (λ v. left n before (row n target v)) (width n k))
+          ∙ ap (λ y. bits y (width n k)) ((gives n some are before).gives
+          ∙ ap (op_value p (width n (arg_kind sh c)))
           (sym (numbers_are n before args ∙ numbers_taken sh c f n before))
           ∙ ap (λ l. op_value p l (map (λ s. value (slot_bits n before s)) args))
           (sym (width_is sh c f n)));
-      keeps = λ before q row out free_out. (gives n some are before).keeps q
-          (elsewhere n (bits_inside p) m q row out free_out);
+      keeps = λ before q row out other. (gives n some are before).keeps q record {
+        no_state = row;
+        target = out;
+        bit = λ h e. other 0 h (let f : free ≡ free + 0 = omega arith in
+            e ∙ ap (λ z. spot_in n ScratchBit z 0) f);
+      };
     }
 
-    lowers_in : Lowers p k target args free
-    lowers_in =
-        let is = computes c p t f free in
-        record {
-          fit = is.fit;
-          same = is.same;
-          short = is.short;
-          states = is.states;
-          does = does;
-          cheap = is.cheap;
-          plain = is.plain;
-        }
-
--- where the arguments fill a form of a linear operation, its program does it
+-- where the arguments fill a form of a linear operation, its program passes the tests, and does it
 pub op_lowers : (p : WordOp) (k : Kind) (t : Slot) (args : List Slot) (free : ℕ)
     → is_linear p ≡ true → filled (forms p) (map (λ (s : Slot). s.kind) args) ≡ Some k → t.kind ≡ k
-    → Lowers p k t args free
+    → Lowers p k t args free × ((n : ℕ) → 0 < n
+    → Pieces n t args (scratch_from free (bits_inside p)) → DoesOp p n k t args free)
 op_lowers p k t args free linear e h =
     let sh = (row_of p).signature in
     let form = form_of sh (map (λ (s : Slot). s.kind) args) k e in
     let g = gives_kind sh form.which in
-    subst (λ j. Lowers p j t args free) (sym form.gives)
-    (subst (λ x. Lowers p g x args free) (sym (slot_is t g (h ∙ form.gives)))
-    (subst (λ ss. Lowers p g (of_kind t g) ss free)
-    (sym (are_of_kinds args (takes_kinds sh form.which) form.takes))
-    (lowers_in p form.which t (slot_at args) free linear)))
+    let Does = λ (j : Kind) (x : Slot) (ss : List Slot). Lowers p j x ss free × ((n : ℕ) → 0 < n
+    → Pieces n x ss (scratch_from free (bits_inside p)) → DoesOp p n j x ss free) in
+    subst (λ j. Does j t args) (sym form.gives)
+    (subst (λ x. Does g x args) (sym (slot_is t g (h ∙ form.gives)))
+    (subst (λ ss. Does g (of_kind t g) ss) (sym (are_of_kinds args (takes_kinds sh form.which)
+    form.takes))
+    (computes form.which p t (slot_at args) free, does p form.which t (slot_at args) free linear)))

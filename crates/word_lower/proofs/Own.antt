@@ -1,10 +1,10 @@
 -- Templates whose nodes are as `Mig` keeps them.
-use Rattle.std.proofs.Common.{◌≡◌, ◌≢◌, ℕ, zero, suc, ◌+◌, ◌<◌, ◌≤◌, ◌^◌, Bool, true, false, not}
+use Rattle.std.proofs.Common.{◌≡◌, ◌≢◌, ℕ, zero, suc, ◌+◌, ◌<◌, ◌≤◌, ◌^◌, Bool, true, not}
 use Rattle.std.proofs.Common.{List, [], ◌∷◌, ◌++◌, length, take, refl, sym, ap, ◌∙◌, subst, inl}
 use Rattle.std.proofs.Common.{arith}
-use Rattle.std.specs.Prelude.{nat_lt, ◌&&◌}
 use Rattle.std.specs.List.{list_any}
-use Rattle.std.proofs.lemmas.Bool.{and_parts, eq-eqb}
+use Rattle.std.proofs.lemmas.Bool.{eq-eqb}
+use Rattle.std.proofs.lemmas.Bool.Decides.{nat_tests}
 use Rattle.std.proofs.lemmas.List.{take_more, get_or-take, length-take-le}
 use Rattle.std.proofs.lemmas.List.Folds.{list_any_at}
 use mathlib.Core.Bool.{beq}
@@ -16,45 +16,31 @@ use Rattle.mig_graph.proofs.InOrder.{sorted-same, sorted-three}
 use Rattle.loop_ir.specs.Same.{same_lit, same_node}
 use Rattle.word_lower.specs.Shapes.{is_own, are_own}
 
-less : (a b : ℕ) → nat_lt a b ≡ true → a < b
-less a b e = grind arith
-
 record Own (k : ℕ) (n : Node) : Type 0 where
   sorted : IsSorted n
   last : n.c.node < k
   form : inversions n ≤ 1
 
 own : (k : ℕ) (n : Node) → is_own k n ≡ true → Own k n
-own k n h =
-    let a = and_parts (nat_lt n.a.node n.b.node) (nat_lt n.b.node n.c.node && (nat_lt n.c.node k
-    && nat_lt (inversions n) 2)) h in
-    let b = and_parts (nat_lt n.b.node n.c.node) (nat_lt n.c.node k && nat_lt (inversions n) 2) a.1
-    in
-    let c = and_parts (nat_lt n.c.node k) (nat_lt (inversions n) 2) b.1 in
-    let f = less (inversions n) 2 c.1 in
-    record {
-      sorted = (less n.a.node n.b.node a.0, less n.b.node n.c.node b.0);
-      last = less n.c.node k c.0;
-      form = omega (arith, f);
-    }
+own k n h = record {
+  sorted = (grind (arith, nat_tests), grind (arith, nat_tests));
+  last = grind (arith, nat_tests);
+  form = grind (arith, nat_tests);
+}
 
 each : (k : ℕ) (ns : List Node) → are_own k ns ≡ true → (j : ℕ) → j < length ns
     → Own (k + j) (node_at ns j)
 each k [] h j l = absurd (omega (arith, l))
 each k (n ∷ ns) h zero l = let e : k ≡ k + 0 = omega arith in
-    subst (λ k. Own k n) e (own k n (and_parts (is_own k n) _ h).0)
-each k (n ∷ ns) h (suc j) l =
-    let e : k + 1 + j ≡ k + suc j = omega arith in
-    let t = and_parts (not (list_any (λ m. same_node n m) ns)) (are_own (k + 1) ns)
-    (and_parts (is_own k n) _ h).1 in
-    subst (λ k. Own k (node_at ns j)) e (each (k + 1) ns t.1 j (omega (arith, l)))
+    subst (λ k. Own k n) e (own k n (grind arith))
+each k (n ∷ ns) h (suc j) l = let e : k + 1 + j ≡ k + suc j = omega arith in
+    subst (λ k. Own k (node_at ns j)) e (each (k + 1) ns (grind arith) j (omega (arith, l)))
 
 lit-self : (x : Lit) → same_lit x x ≡ true
 lit-self x = rw (eq-eqb x.node x.node refl) (beq-self x.inverted)
   where
     beq-self : (i : Bool) → beq i i ≡ true
-    beq-self true = refl
-    beq-self false = refl
+    beq-self i = grind arith
 
 node-self : (m n : Node) → m ≡ n → same_node m n ≡ true
 node-self m n e = rw (← e, lit-self m.a, lit-self m.b, lit-self m.c) refl
@@ -70,17 +56,11 @@ differ : (k : ℕ) (ns : List Node) → are_own k ns ≡ true → (i j : ℕ) �
 differ k [] h i j li lj e = absurd (omega (arith, li))
 differ k (n ∷ ns) h zero zero li lj e = refl
 differ k (n ∷ ns) h zero (suc j) li lj e =
-    let t = and_parts (not (list_any (λ m. same_node n m) ns)) (are_own (k + 1) ns)
-    (and_parts (is_own k n) _ h).1 in
-    absurd (first-differs n ns j t.0 (omega (arith, lj)) e)
+    absurd (first-differs n ns j (grind arith) (omega (arith, lj)) e)
 differ k (n ∷ ns) h (suc i) zero li lj e =
-    let t = and_parts (not (list_any (λ m. same_node n m) ns)) (are_own (k + 1) ns)
-    (and_parts (is_own k n) _ h).1 in
-    absurd (first-differs n ns i t.0 (omega (arith, li)) (sym e))
+    absurd (first-differs n ns i (grind arith) (omega (arith, li)) (sym e))
 differ k (n ∷ ns) h (suc i) (suc j) li lj e =
-    let t = and_parts (not (list_any (λ m. same_node n m) ns)) (are_own (k + 1) ns)
-    (and_parts (is_own k n) _ h).1 in
-    let f = differ (k + 1) ns t.1 i j (omega (arith, li)) (omega (arith, lj)) e in
+    let f = differ (k + 1) ns (grind arith) i j (omega (arith, li)) (omega (arith, lj)) e in
     omega (arith, f)
 
 -- the nodes of a written body are in order

@@ -1,254 +1,219 @@
--- Operations of one loop with a carry.
-use Rattle.std.proofs.Common.{◌≡◌, ℕ, zero, suc, ◌<◌, Bool, true, List, [], ◌∷◌, refl, sym, ap, ◌∙◌}
-use Rattle.std.proofs.Common.{arith}
-use Rattle.mig_graph.specs.declared.Lit.{Lit}
-use Rattle.mig_graph.specs.declared.Node.{Node}
+-- Loop programs that go over all positions: an invariant of their bodies, and what they keep.
+use Rattle.std.proofs.Common.{◌≡◌, ℕ, zero, suc, ◌+◌, ◌<◌, ◌≤◌, Bool, List, [], ◌∷◌, ◌++◌, refl}
+use Rattle.std.proofs.Common.{true, sym, ap, ◌∙◌, subst, ⊎_elim, arith}
+use Rattle.std.proofs.lemmas.Bool.{cases_eq}
 use Rattle.op_text.specs.declared.word_ops.WordOp.{WordOp}
-use Rattle.loop_ir.specs.declared.ir.Sub.{Sub}
-use Rattle.loop_ir.specs.declared.ir.Sub.TheVariants as sub
-use Rattle.loop_ir.specs.declared.ir.Place.{Place}
-use Rattle.loop_ir.specs.declared.names.Slot.{Slot}
-use Rattle.loop_ir.specs.Plain.{Block}
-use Rattle.loop_ir.specs.Loops.{sub_value}
-use Rattle.loop_ir.specs.Spots.{Spot, Spots, set_spot, spot_at, nth_place, IsOwn, is_state}
-use Rattle.loop_laws.specs.Turns.{Origin, turn, IsLoop, after_many}
-use Rattle.loop_laws.proofs.Same.{set_other}
-use Rattle.loop_laws.proofs.Loop.{loop_word, loop_state, loop_turns}
-use Rattle.loop_laws.proofs.Placed.{ReadPlaces, loop_of}
+use Rattle.loop_ir.specs.Plain.{Block, StepOf}
+use Rattle.loop_ir.specs.Plain.StepOf.{Along}
+use Rattle.loop_ir.specs.Loops.{round_at, one_round, rounds, all_rounds}
+use Rattle.loop_ir.specs.Spots.{Spot, Spots, set_spot, after_round, after_rounds, is_state}
+use Rattle.loop_laws.proofs.Same.{set_same, set_other}
 use Rattle.word_lower.specs.Places.{scratch_bit, cells}
-use Rattle.word_lower.proofs.Setting.{number, operation, Slots, at, row, number_at, SlotsApart}
-use Rattle.word_lower.proofs.Setting.{Moves, IsFree, AreSlots, IsElsewhere, Gives}
+use Rattle.word_lower.proofs.Setting.{value_of, number, Slots, row, AreSlots}
+use Rattle.word_lower.proofs.Setting.{IsElsewhere, Gives}
 use Rattle.word_lower.proofs.Sums.{value_same}
 
-pub bit_free : (n k l bits : ℕ) (m : Slots) → AreSlots n k l (suc bits) m
-    → IsFree n k l m (scratch_bit m.free_bit) 1
-bit_free n k l bits m are = are.bit (omega arith)
+module _ (n : ℕ) (b : Block) (ss : List (StepOf Block)) (I : ℕ → Spots → Type 0)
+    (step : (i : ℕ) → i < n → (s : Spots) → I i s → I (suc i) (after_round n (round_at b i 0) s))
+    (P : Spots → Type 0) (end : (s : Spots) → I n s → P (after_rounds n (all_rounds n ss) s)) where
+  rest : (i count : ℕ) → i + count ≡ n → (s : Spots) → I i s
+      → P (after_rounds n (rounds (λ j. one_round b j 0) i count ++ all_rounds n ss) s)
+  rest i zero e s h = let f : i ≡ n = omega arith in end s (subst (λ x. I x s) f h)
+  rest i (suc count) e s h =
+      let new = after_round n (round_at b i 0) s in
+      let f : suc i ≡ i + 1 = omega arith in
+      rest (i + 1) count (omega arith) new
+      (subst (λ x. I x new) f (step i (omega arith) s h))
 
-pub bit_else : (n k bits : ℕ) (m : Slots) (q : Spot) → IsElsewhere n k (suc bits) m q
-    → q ≡ row n (scratch_bit m.free_bit) 0 → ⊥
-bit_else n k bits m q is e = is.bit (omega arith) e
+  -- what a body keeps at each position holds after all of them
+  pub each : (s : Spots) → I 0 s → P (after_rounds n (all_rounds n (Along b ∷ ss)) s)
+  each s h = rest 0 n (omega arith) s h
 
--- a row is no state's cells
-pub cell_else : (n k bits : ℕ) (m : Slots) (w : ℕ) (q : Spot) → IsElsewhere n k bits m q
-    → q ≡ row n (cells w) 0 → ⊥
-cell_else n k bits m w q is e = let f : is_state q.space ≡ true =
-    ap (λ (s : Spot). is_state s.space) e in let g = is.no_state in cc
+-- it is no row that stays as it is
+abbrev pub IsFree : ℕ → ℕ → ℕ → Slots → Spot → Type 0
+IsFree n k bits m p = (q : Spot) → IsElsewhere n k bits m q → q ≡ p → ⊥
 
--- the numbers of the arguments stay where one row that is apart from them is set
-pub set_number : (n l : ℕ) (bits : Spots) (s t : Slot) (v : Bool) → SlotsApart n s l t 1
-    → number_at n (set_spot bits (row n t 0) v) s l ≡ number_at n bits s l
-set_number n l bits s t v apart = value_same _ _ l
-    (λ j lj. set_other bits (row n t 0) v (row n s j) (λ e. apart.by j 0 lj (omega arith) e))
+-- all other rows are as before
+abbrev pub IsKept : ℕ → ℕ → ℕ → Slots → Spots → Spots → Type 0
+IsKept n k bits m before s = (q : Spot) → IsElsewhere n k bits m q → s q ≡ before q
 
-pub set_operation : (o : WordOp) (n k l : ℕ) (m : Slots) (bits : Spots) (t : Slot) (v : Bool)
-    → SlotsApart n m.a l t 1 → SlotsApart n m.b l t 1 → SlotsApart n m.s 1 t 1
-    → operation o l (number_at n (set_spot bits (row n t 0) v) m.a l)
-    (number_at n (set_spot bits (row n t 0) v) m.b l)
-    (number_at n (set_spot bits (row n t 0) v) m.s 1)
-    ≡ operation o l (number_at n bits m.a l) (number_at n bits m.b l) (number_at n bits m.s 1)
-set_operation o n k l m bits t v fa fb fs =
-    let new = set_spot bits (row n t 0) v in
-    let a = set_number n l bits m.a t v fa in
-    let b = set_number n l bits m.b t v fb in
-    let s = set_number n 1 bits m.s t v fs in
-    ap (λ x. operation o l x (number_at n new m.b l) (number_at n new m.s 1)) a
-    ∙ ap (λ x. operation o l (number_at n bits m.a l) x (number_at n new m.s 1)) b
-    ∙ ap (λ x. operation o l (number_at n bits m.a l) (number_at n bits m.b l) x) s
+-- the target's lowest rows have these bits
+abbrev pub Has : ℕ → Slots → (ℕ → Bool) → ℕ → Spots → Type 0
+Has n m y i s = (v : ℕ) → v < i → s (row n m.target v) ≡ y v
 
--- a subscript that meets each position once, and the turn at which it meets it
-pub record Meets (n o : ℕ) (u : Sub) (turn_of : ℕ → ℕ) : Type 0 where
-  pub below : (i : ℕ) → i < n → sub_value n i o [] u < n
-  pub once : (i j : ℕ) → i < n → j < n → sub_value n i o [] u ≡ sub_value n j o [] u → i ≡ j
-  pub turn_below : (v : ℕ) → v < n → turn_of v < n
-  pub meets : (v : ℕ) → v < n → sub_value n (turn_of v) o [] u ≡ v
+module _ (n k l bits : ℕ) (m : Slots) (are : AreSlots n k l bits m) where
+  pub cell_free : (w : ℕ) → IsFree n k bits m (row n (cells w) 0)
+  cell_free w q e f = let g : is_state q.space ≡ true = ap (λ (s : Spot). is_state s.space) f in
+      let h = e.no_state in cc
 
--- positions upwards meet each row of a word once
-pub upwards : (n o : ℕ) → Meets n o sub.Inner (λ v. v)
-upwards n o = record {
-  below = λ i lt. lt;
-  once = λ i j li lj e. e;
-  turn_below = λ v lt. lt;
-  meets = λ v lt. refl;
-}
+  pub cell_apart : (w v : ℕ) → row n m.target v ≡ row n (cells w) 0 → ⊥
+  cell_apart w v f = let g : is_state (row n m.target v).space ≡ true =
+      ap (λ (s : Spot). is_state s.space) f in let h = are.no_state v in cc
 
--- a carry in a bit, which is of the scratch or a state in cells, and a word
-abbrev pub carry_body : Slots → Slot → Sub → List Place → ℕ → List Node → Lit → Lit → Block
-carry_body m t u reads inputs nodes y c = record {
-  reads = reads;
-  graph = record { inputs = inputs; nodes = nodes };
-  outs = y ∷ (c ∷ []);
-  writes = at m.target u ∷ (at t sub.Zero ∷ []);
-  found = [];
-}
+  pub bit_free : 0 < bits → IsFree n k bits m (row n (scratch_bit m.free_bit) 0)
+  bit_free some q e f = e.bit some f
 
-module _ (o : WordOp) (n : ℕ) (m : Slots) (are : AreSlots n n n 1 m) (t : Slot)
-    (own : IsOwn t.space) (f : IsFree n n n m t 1)
-    (other : (q : Spot) → IsElsewhere n n 1 m q → q ≡ row n t 0 → ⊥) (u : Sub) (turn_of : ℕ
-    → ℕ) (meets : Meets n 0 u turn_of) (reads : List Place) (inputs : ℕ) (nodes : List Node)
-    (y c : Lit) (xs : List Origin) (v : Bool) (bits : Spots) where
-  pub carry_does : ReadPlaces n 0 n (at m.target u ∷ (at t sub.Zero ∷ [])) reads xs
-      → (let b = carry_body m t u reads inputs nodes y c in
-      let start = set_spot bits (row n t 0) v in
-      number (λ j. turn n 0 b xs start (suc (turn_of j)) 0) n
-      ≡ operation o n (number_at n start m.a n) (number_at n start m.b n)
-      (number_at n start m.s 1))
-      → Gives o n n n 1 m bits (after_many n 0 (carry_body m t u reads inputs nodes y c) n
-      (set_spot bits (row n t 0) v))
-  carry_does are_read gives =
-      let b = carry_body m t u reads inputs nodes y c in
-      let p = row n t 0 in
-      let start = set_spot bits p v in
-      let new = after_many n 0 b n start in
-      let is : IsLoop n 0 n b xs = loop_of n 0 n b xs refl (
-        are.own,
-        (own, tt),
-      ) (
-        (
-          (λ i j li lj e. f.target.by 0 (sub_value n i 0 [] u) (omega arith) (meets.below i li)
-              (sym e)),
-          tt,
-        ),
-        (tt, tt),
-      ) are_read in
-      record {
-        gives =
-            value_same _ _ n (λ j lj.
-            ap (λ x. new (row n m.target x)) (sym (meets.meets j lj))
-            ∙ loop_word n 0 n b xs is start 0 (omega arith) (λ i k li lk e.
-            meets.once i k li lk (are.moves.by (sub_value n i 0 [] u) (sub_value n k 0 [] u)
-            (meets.below i li) (meets.below k lk) e)) (turn_of j) (meets.turn_below j lj))
-            ∙ gives
-            ∙ set_operation o n n n m bits t v f.a f.b f.s;
-        keeps = λ q out. (loop_turns n 0 n b xs is start).rest q (λ j w lj lw e.
-            elsewhere q out j w lj lw e) ∙ set_other bits p v q (other q out);
-      }
-    where
-      elsewhere : (q : Spot) → IsElsewhere n n 1 m q → (j w : ℕ) → j < n → w < 2
-          → q ≡ spot_at n j 0 [] (nth_place (at m.target u ∷ (at t sub.Zero ∷ [])) w) → ⊥
-      elsewhere q out j zero lj lw e = out.target (sub_value n j 0 [] u) (meets.below j lj) e
-      elsewhere q out j (suc zero) lj lw e = other q out e
-      elsewhere q out j (suc (suc w)) lj lw e = absurd (omega arith)
+  pub kept_set : (before s : Spots) (p : Spot) (x : Bool) → IsFree n k bits m p
+      → IsKept n k bits m before s → IsKept n k bits m before (set_spot s p x)
+  kept_set before s p x free h q e = set_other s p x q (free q e) ∙ h q e
 
--- a state in cells, which is written to a row too
-abbrev pub held_body : Slot → ℕ → List Place → ℕ → List Node → Lit → Block
-held_body t w reads inputs nodes c = record {
-  reads = reads;
-  graph = record { inputs = inputs; nodes = nodes };
-  outs = c ∷ c ∷ [];
-  writes = at t sub.Zero ∷ at (cells w) sub.Zero ∷ [];
-  found = [];
-}
+  pub has_set : (y : ℕ → Bool) (i : ℕ) (s : Spots) (p : Spot) (x : Bool) → i ≤ k
+      → ((v : ℕ) → v < k → row n m.target v ≡ p → ⊥) → Has n m y i s
+      → Has n m y i (set_spot s p x)
+  has_set y i s p x le apart h v lv =
+      set_other s p x (row n m.target v) (apart v (omega arith)) ∙ h v lv
 
-pub record HeldLeaves (n o : ℕ) (b : Block) (xs : List Origin) (t : Slot) (w : ℕ)
-    (bits new : Spots) : Type 0 where
-  pub state : new (row n t 0) ≡ turn n o b xs bits n 1
-  pub rest : (q : Spot) → (q ≡ row n t 0 → ⊥) → (q ≡ row n (cells w) 0 → ⊥) → new q ≡ bits q
+  pub has_next : (y : ℕ → Bool) (i : ℕ) (s : Spots) (x : Bool) → i < k → x ≡ y i
+      → Has n m y i s → Has n m y (suc i) (set_spot s (row n m.target i) x)
+  has_next y i s x li e h v lv = ⊎_elim
+      (λ (f : v ≡ i). set_same s (row n m.target i) x (row n m.target v) (ap (row n m.target) f)
+      ∙ e ∙ ap y (sym f))
+      (λ (ne : v ≡ i → ⊥). set_other s (row n m.target i) x (row n m.target v)
+      (λ f. ne (are.moves v i (omega arith) li f)) ∙ h v (omega arith))
+      (cases_eq v i)
 
-module _ (n o : ℕ) (some : 0 < n) (t : Slot) (own : IsOwn t.space) (w : ℕ)
-    (apart : SlotsApart n (cells w) 1 t 1) (reads : List Place) (inputs : ℕ) (nodes : List Node)
-    (c : Lit) (xs : List Origin) (bits : Spots) where
-  pub held_loop : ReadPlaces n o n (at t sub.Zero ∷ at (cells w) sub.Zero ∷ []) reads xs
-      → HeldLeaves n o (held_body t w reads inputs nodes c) xs t w bits
-      (after_many n o (held_body t w reads inputs nodes c) n bits)
-  held_loop are_read =
-      let b = held_body t w reads inputs nodes c in
-      let is : IsLoop n o n b xs = loop_of n o n b xs refl (own, (tt, tt))
-      (((λ i j li lj e. apart.by 0 0 (omega arith) (omega arith) (sym e)), tt), (tt, tt)) are_read
-      in
-      record {
-        state = loop_state n o n b xs is bits 0 (omega arith) (λ i j. refl) ∙ last n some;
-        rest = λ q out held. (loop_turns n o n b xs is bits).rest q (λ j x lj lx e.
-            only q out held j x lx e);
-      }
-    where
-      last : (k : ℕ) → 0 < k → turn n o (held_body t w reads inputs nodes c) xs bits k 0
-          ≡ turn n o (held_body t w reads inputs nodes c) xs bits k 1
-      last zero lt = absurd (omega arith)
-      last (suc k) lt = refl
+  -- the target has all bits of the value
+  pub done : (o : WordOp) (y : ℕ → Bool) (before s : Spots) → IsKept n k bits m before s
+      → Has n m y k s → number y k ≡ value_of o n m before l → Gives o n k l bits m before s
+  done o y before s kept has e = record { gives = value_same _ _ k has ∙ e; keeps = kept }
 
-      only : (q : Spot) → (q ≡ row n t 0 → ⊥) → (q ≡ row n (cells w) 0 → ⊥) → (j x : ℕ) → x < 2
-          → q ≡ spot_at n j o [] (nth_place (at t sub.Zero ∷ at (cells w) sub.Zero ∷ []) x) → ⊥
-      only q out held j zero lx e = out e
-      only q out held j (suc zero) lx e = held e
-      only q out held j (suc (suc x)) lx e = absurd (omega arith)
+-- a body that writes a bit of the target, made of the arguments' bits there and of one row's bit
+module _ (o : WordOp) (n k bits : ℕ) (m : Slots) (are : AreSlots n k k bits m)
+    (before start : Spots) (kept : IsKept n k bits m before start) (r : Spot)
+    (apart : (v : ℕ) → v < k → row n m.target v ≡ r → ⊥) (F : Bool → Bool → Bool → Bool)
+    (e : number (λ i. F (before (row n m.a i)) (before (row n m.b i)) (start r)) k
+    ≡ value_of o n m before k) where
+  abbrev all : ℕ → Bool
+  all i = F (before (row n m.a i)) (before (row n m.b i)) (start r)
 
--- two states in cells
-abbrev pub pair_body : ℕ → ℕ → List Place → ℕ → List Node → Lit → Lit → Block
-pair_body v w reads inputs nodes g h = record {
-  reads = reads;
-  graph = record { inputs = inputs; nodes = nodes };
-  outs = g ∷ h ∷ [];
-  writes = at (cells v) sub.Zero ∷ at (cells w) sub.Zero ∷ [];
-  found = [];
-}
+  abbrev after : ℕ → Spots → Spots
+  after i s = set_spot s (row n m.target i) (F (s (row n m.a i)) (s (row n m.b i)) (s r))
 
-pub record PairLeaves (n o : ℕ) (b : Block) (xs : List Origin) (v w : ℕ) (bits new : Spots) : Type 0
-  where
-    pub first : new (row n (cells v) 0) ≡ turn n o b xs bits n 0
-    pub second : new (row n (cells w) 0) ≡ turn n o b xs bits n 1
-    pub rest : (q : Spot) → (q ≡ row n (cells v) 0 → ⊥) → (q ≡ row n (cells w) 0 → ⊥)
-        → new q ≡ bits q
+  abbrev Keeps : ℕ → Spots → Type 0
+  Keeps i s = IsKept n k bits m before s × Has n m all i s × (s r ≡ start r)
 
-module _ (n o v w : ℕ) (differ : v ≡ w → ⊥) (reads : List Place) (inputs : ℕ) (nodes : List Node)
-    (g h : Lit) (xs : List Origin) (bits : Spots) where
-  pub pair_loop : ReadPlaces n o n (at (cells v) sub.Zero ∷ at (cells w) sub.Zero ∷ []) reads xs
-      → PairLeaves n o (pair_body v w reads inputs nodes g h) xs v w bits
-      (after_many n o (pair_body v w reads inputs nodes g h) n bits)
-  pair_loop are_read =
-      let b = pair_body v w reads inputs nodes g h in
-      let is : IsLoop n o n b xs = loop_of n o n b xs refl (tt, (tt, tt))
-      (((λ i j li lj e. differ (ap (λ (q : Spot). q.which) e)), tt), (tt, tt)) are_read in
-      record {
-        first = loop_state n o n b xs is bits 0 (omega arith) (λ i j. refl);
-        second = loop_state n o n b xs is bits 1 (omega arith) (λ i j. refl);
-        rest = λ q out held. (loop_turns n o n b xs is bits).rest q (λ j x lj lx e.
-            only q out held j x lx e);
-      }
-    where
-      only : (q : Spot) → (q ≡ row n (cells v) 0 → ⊥) → (q ≡ row n (cells w) 0 → ⊥) → (j x : ℕ)
-          → x < 2
-          → q ≡ spot_at n j o [] (nth_place (at (cells v) sub.Zero ∷ at (cells w) sub.Zero ∷ []) x)
-          → ⊥
-      only q out held j zero lx e = out e
-      only q out held j (suc zero) lx e = held e
-      only q out held j (suc (suc x)) lx e = absurd (omega arith)
+  next : (i : ℕ) → i < k → (s : Spots) → Keeps i s → Keeps (suc i) (after i s)
+  next i lt s h =
+      let x = F (s (row n m.a i)) (s (row n m.b i)) (s r) in
+      let fa = h.0 _ (are.a i lt) in
+      let fb = h.0 _ (are.b i lt) in
+      let fr = h.2 in
+      let ex : x ≡ all i = cc in (
+        kept_set n k k bits m are before s (row n m.target i) x (λ q f. f.target i lt) h.0,
+        has_next n k k bits m are all i s x lt ex h.1,
+        set_other s (row n m.target i) x r (λ f. apart i lt (sym f)) ∙ h.2,
+      )
 
--- a word alone
-abbrev pub word_body : Slot → Sub → List Place → ℕ → List Node → Lit → Block
-word_body t u reads inputs nodes y = record {
-  reads = reads;
-  graph = record { inputs = inputs; nodes = nodes };
-  outs = y ∷ [];
-  writes = at t u ∷ [];
-  found = [];
-}
+  first : Keeps 0 start
+  first = (kept, (λ v lt. absurd (omega arith)), refl)
 
-pub record Writes (n o : ℕ) (b : Block) (xs : List Origin) (t : Slot) (turn_of : ℕ
-    → ℕ) (bits new : Spots) : Type 0 where
-  pub word : (v : ℕ) → v < n → new (row n t v) ≡ turn n o b xs bits (suc (turn_of v)) 0
-  pub rest : (q : Spot) → ((v : ℕ) → v < n → q ≡ row n t v → ⊥) → new q ≡ bits q
+  pub at_bit : k ≡ 1 → Gives o n k k bits m before (after 0 start)
+  at_bit one = let h = subst (λ i. Keeps i (after 0 start)) (sym one)
+      (next 0 (omega arith) start first) in
+      done n k k bits m are o all before (after 0 start) h.0 h.1 e
 
-module _ (n o : ℕ) (t : Slot) (own : IsOwn t.space) (moves : Moves n t n) (u : Sub) (turn_of : ℕ
-    → ℕ) (meets : Meets n o u turn_of) (reads : List Place) (inputs : ℕ) (nodes : List Node)
-    (y : Lit) (xs : List Origin) (bits : Spots) where
-  pub word_loop : ReadPlaces n o n (at t u ∷ []) reads xs
-      → Writes n o (word_body t u reads inputs nodes y) xs t turn_of bits
-      (after_many n o (word_body t u reads inputs nodes y) n bits)
-  word_loop are_read =
-      let b = word_body t u reads inputs nodes y in
-      let new = after_many n o b n bits in
-      let is : IsLoop n o n b xs = loop_of n o n b xs refl (own, tt) (tt, tt) are_read in
-      record {
-        word = λ v lv.
-            ap (λ x. new (row n t x)) (sym (meets.meets v lv))
-            ∙ loop_word n o n b xs is bits 0 (omega arith) (λ i k li lk e.
-            meets.once i k li lk (moves.by (sub_value n i o [] u) (sub_value n k o [] u)
-            (meets.below i li) (meets.below k lk) e)) (turn_of v) (meets.turn_below v lv);
-        rest = λ q out. (loop_turns n o n b xs is bits).rest q (λ j w lj lw e.
-            only q out j w lj lw e);
-      }
-    where
-      only : (q : Spot) → ((v : ℕ) → v < n → q ≡ row n t v → ⊥) → (j w : ℕ) → j < n → w < 1
-          → q ≡ spot_at n j o [] (nth_place (at t u ∷ []) w) → ⊥
-      only q out j zero lj lw e = out (sub_value n j o [] u) (meets.below j lj) e
-      only q out j (suc w) lj lw e = absurd (omega arith)
+  pub at_each : (b : Block) → k ≡ n
+      → ((i : ℕ) (s : Spots) → after_round n (round_at b i 0) s ≡ after i s)
+      → Gives o n k k bits m before (after_rounds n (all_rounds n (Along b ∷ [])) start)
+  at_each b full round = each n b [] Keeps
+      (λ i lt s h. subst (Keeps (suc i)) (sym (round i s)) (next i (omega arith) s h))
+      (Gives o n k k bits m before) (λ s h. let g = subst (λ i. Keeps i s) (sym full) h in
+      done n k k bits m are o all before s g.0 g.1 e) start first
+
+-- the target's bits, and a state in a row or in cells
+module _ (o : WordOp) (n bits : ℕ) (m : Slots) (are : AreSlots n n n bits m) (before : Spots)
+    (b : Block) (p : Spot) (free : IsFree n n bits m p)
+    (apart : (v : ℕ) → v < n → row n m.target v ≡ p → ⊥) (x : Bool)
+    (Y C : Bool → Bool → Bool → Bool)
+    (round : (i : ℕ) (s : Spots) → after_round n (round_at b i 0) s
+    ≡ set_spot (set_spot s (row n m.target i) (Y (s (row n m.a i)) (s (row n m.b i)) (s p))) p
+    (C (s (row n m.a i)) (s (row n m.b i)) (s p))) where
+  -- the state before a position
+  abbrev carry : ℕ → Bool
+  carry zero = x
+  carry (suc i) = C (before (row n m.a i)) (before (row n m.b i)) (carry i)
+
+  abbrev digit : ℕ → Bool
+  digit i = Y (before (row n m.a i)) (before (row n m.b i)) (carry i)
+
+  abbrev Holds : ℕ → Spots → Type 0
+  Holds i s = IsKept n n bits m before s × Has n m digit i s × (s p ≡ carry i)
+
+  on : (i : ℕ) → i < n → (s : Spots) → Holds i s
+      → Holds (suc i) (after_round n (round_at b i 0) s)
+  on i lt s h =
+      let fa = h.0 _ (are.a i lt) in
+      let fb = h.0 _ (are.b i lt) in
+      let fc = h.2 in
+      let t = row n m.target i in
+      let y = Y (s (row n m.a i)) (s (row n m.b i)) (s p) in
+      let c = C (s (row n m.a i)) (s (row n m.b i)) (s p) in
+      let ey : y ≡ digit i = cc in
+      let ec : c ≡ carry (suc i) = cc in
+      subst (Holds (suc i)) (sym (round i s)) (
+        kept_set n n n bits m are before (set_spot s t y) p c free
+            (kept_set n n n bits m are before s t y (λ q f. f.target i lt) h.0),
+        has_set n n n bits m are digit (suc i) (set_spot s t y) p c (omega arith) apart
+            (has_next n n n bits m are digit i s y lt ey h.1),
+        set_same (set_spot s t y) p c p refl ∙ ec,
+      )
+
+  pub carry_does : ((y c : ℕ → Bool) → c 0 ≡ x
+      → ((i : ℕ) → y i ≡ Y (before (row n m.a i)) (before (row n m.b i)) (c i))
+      → ((i : ℕ) → c (suc i) ≡ C (before (row n m.a i)) (before (row n m.b i)) (c i))
+      → number y n ≡ value_of o n m before n) → Gives o n n n bits m before
+      (after_rounds n (all_rounds n (Along b ∷ [])) (set_spot before p x))
+  carry_does e = each n b [] Holds on (Gives o n n n bits m before)
+      (λ s h. done n n n bits m are o digit before s h.0 h.1
+      (e digit carry refl (λ i. refl) (λ i. refl))) (set_spot before p x) (
+        kept_set n n n bits m are before before p x free (λ q f. refl),
+        (λ v lt. absurd (omega arith)),
+        set_same before p x p refl,
+      )
+
+-- two states
+module _ (n k bits : ℕ) (m : Slots) (are : AreSlots n k n bits m) (before : Spots) (b : Block)
+    (p q : Spot) (ne : p ≡ q → ⊥) (pf : IsFree n k bits m p) (qf : IsFree n k bits m q)
+    (G H : Bool → Bool → Bool → Bool → Bool)
+    (round : (i : ℕ) (s : Spots) → after_round n (round_at b i 0) s
+    ≡ set_spot (set_spot s p (G (s (row n m.a i)) (s (row n m.b i)) (s p) (s q))) q
+    (H (s (row n m.a i)) (s (row n m.b i)) (s p) (s q))) (start : Spots) where
+  abbrev pub states : ℕ → Bool × Bool
+  states zero = (start p, start q)
+  states (suc i) = (
+    G (before (row n m.a i)) (before (row n m.b i)) (states i).0 (states i).1,
+    H (before (row n m.a i)) (before (row n m.b i)) (states i).0 (states i).1,
+  )
+
+  -- states that get the same stay the same
+  pub level : ((x y u v : Bool) → G x y u v ≡ H x y u v) → (i : ℕ) → 0 < i
+      → (states i).0 ≡ (states i).1
+  level h zero lt = absurd (omega arith)
+  level h (suc i) lt = h _ _ _ _
+
+  abbrev Are : ℕ → Spots → Type 0
+  Are i s = IsKept n k bits m before s × (s p ≡ (states i).0) × (s q ≡ (states i).1)
+
+  go : (i : ℕ) → i < n → (s : Spots) → Are i s → Are (suc i) (after_round n (round_at b i 0) s)
+  go i lt s h =
+      let fa = h.0 _ (are.a i lt) in
+      let fb = h.0 _ (are.b i lt) in
+      let fp = h.1 in
+      let fq = h.2 in
+      let x = G (s (row n m.a i)) (s (row n m.b i)) (s p) (s q) in
+      let y = H (s (row n m.a i)) (s (row n m.b i)) (s p) (s q) in
+      let ex : x ≡ (states (suc i)).0 = cc in
+      let ey : y ≡ (states (suc i)).1 = cc in
+      subst (Are (suc i)) (sym (round i s)) (
+        kept_set n k n bits m are before (set_spot s p x) q y qf
+            (kept_set n k n bits m are before s p x pf h.0),
+        set_other (set_spot s p x) q y p ne ∙ set_same s p x p refl ∙ ex,
+        set_same (set_spot s p x) q y q refl ∙ ey,
+      )
+
+  pub states_does : (ss : List (StepOf Block)) (P : Spots → Type 0) → IsKept n k bits m before start
+      → ((s : Spots) → IsKept n k bits m before s → s p ≡ (states n).0 → s q ≡ (states n).1
+      → P (after_rounds n (all_rounds n ss) s))
+      → P (after_rounds n (all_rounds n (Along b ∷ ss)) start)
+  states_does ss P kept end = each n b ss Are go P (λ s h. end s h.0 h.1 h.2) start
+      (kept, refl, refl)

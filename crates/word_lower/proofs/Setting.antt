@@ -1,21 +1,17 @@
 -- When a loop program does a word operation: the places of its names, and what it leaves.
 use Rattle.std.specs.Prelude.{◌≡◌, ℕ, zero, suc, ◌+◌, ◌*◌, ◌^◌, ◌<◌, Bool, false, List, [], ◌∷◌}
 use Rattle.op_text.specs.declared.tree.Kind.{Kind}
-use Rattle.op_text.specs.declared.tree.Kind.TheVariants.{Bit}
 use Rattle.op_text.specs.declared.word_ops.WordOp.{WordOp}
 use Rattle.op_text.specs.declared.word_ops.Signature.{Signature}
 use Rattle.op_text.specs.declared.word_ops.Signature.TheVariants as shape
 use Rattle.op_text.specs.WordOps.{row_of}
 use Rattle.op_text.specs.Values.{bit_number, op_value}
 use Rattle.op_text.specs.Scratch.{bits_inside}
-use Rattle.loop_ir.specs.declared.ir.Sub.{Sub}
-use Rattle.loop_ir.specs.declared.ir.Place.{Place}
 use Rattle.loop_ir.specs.declared.names.Slot.{Slot}
 use Rattle.loop_ir.specs.Plain.{StepOf, Block}
-use Rattle.loop_ir.specs.Loops.{all_rounds}
-use Rattle.loop_ir.specs.Spots.{Spot, Spots, spot_in, after_rounds, IsOwn, is_state}
+use Rattle.loop_ir.specs.Spots.{Spot, Spots, spot_in, is_state}
 use Rattle.loop_laws.specs.Rooms.{Room, placed_steps}
-use Rattle.word_lower.specs.Places.{scratch_bit, cells, scratch_from, rooms_of, place_in}
+use Rattle.word_lower.specs.Places.{scratch_bit, scratch_from, rooms_of}
 use Rattle.word_lower.specs.Programs.{program}
 
 -- a bit as a number
@@ -57,10 +53,6 @@ rooms_for p m = rooms_of m.target (args_of p m) (scratch_from m.free_bit (bits_i
 abbrev pub steps_for : WordOp → Kind → Slots → List (StepOf Block)
 steps_for p k m = placed_steps (rooms_for p m) (program p k)
 
--- a row of a place, by its subscript
-abbrev pub at : Slot → Sub → Place
-at s u = place_in s u
-
 -- a row of a name
 abbrev pub row : ℕ → Slot → ℕ → Spot
 row n s v = spot_in n s.space s.which v
@@ -69,31 +61,14 @@ row n s v = spot_in n s.space s.which v
 abbrev pub number_at : ℕ → Spots → Slot → ℕ → ℕ
 number_at n bits s k = number (λ v. bits (row n s v)) k
 
+-- the operation's value from so many rows of the arguments
+abbrev pub value_of : WordOp → ℕ → Slots → Spots → ℕ → ℕ
+value_of p n m before l = operation p l (number_at n before m.a l) (number_at n before m.b l)
+    (number_at n before m.s 1)
+
 -- no row of one is a row of the other
 pub record SlotsApart (n : ℕ) (s : Slot) (k : ℕ) (t : Slot) (l : ℕ) : Type 0 where
   pub by : (u v : ℕ) → u < k → v < l → row n s u ≡ row n t v → ⊥
-
--- each position has a row of its own
-pub record Moves (n : ℕ) (s : Slot) (k : ℕ) : Type 0 where
-  pub by : (u v : ℕ) → u < k → v < k → row n s u ≡ row n s v → u ≡ v
-
--- apart from the target and from all arguments
-pub record IsFree (n k l : ℕ) (m : Slots) (t : Slot) (j : ℕ) : Type 0 where
-  pub target : SlotsApart n t j m.target k
-  pub a : SlotsApart n m.a l t j
-  pub b : SlotsApart n m.b l t j
-  pub s : SlotsApart n m.s 1 t j
-
--- a target of k rows, arguments of l rows, and so many bits of internal scratch lie apart, and no
--- row of theirs stands in cells; arguments may be the same
-pub record AreSlots (n k l bits : ℕ) (m : Slots) : Type 0 where
-  pub own : IsOwn m.target.space
-  pub moves : Moves n m.target k
-  pub a : SlotsApart n m.a l m.target k
-  pub b : SlotsApart n m.b l m.target k
-  pub s : SlotsApart n m.s 1 m.target k
-  pub bit : 0 < bits → IsFree n k l m (scratch_bit m.free_bit) 1
-  pub cells : (layout : ℕ) → IsFree n k l m (cells layout) 1
 
 -- it is a row, and none of the target or of the internal scratch
 pub record IsElsewhere (n k bits : ℕ) (m : Slots) (q : Spot) : Type 0 where
@@ -101,18 +76,17 @@ pub record IsElsewhere (n k bits : ℕ) (m : Slots) (q : Spot) : Type 0 where
   pub target : (v : ℕ) → v < k → q ≡ row n m.target v → ⊥
   pub bit : 0 < bits → q ≡ row n (scratch_bit m.free_bit) 0 → ⊥
 
+-- a target of k rows, arguments of l rows, and so many bits of internal scratch lie apart, and no
+-- row of theirs stands in cells; arguments may be the same
+pub record AreSlots (n k l bits : ℕ) (m : Slots) : Type 0 where
+  pub moves : (u v : ℕ) → u < k → v < k → row n m.target u ≡ row n m.target v → u ≡ v
+  pub no_state : (v : ℕ) → is_state (row n m.target v).space ≡ false
+  pub a : (v : ℕ) → v < l → IsElsewhere n k bits m (row n m.a v)
+  pub b : (v : ℕ) → v < l → IsElsewhere n k bits m (row n m.b v)
+  pub s : IsElsewhere n k bits m (row n m.s 0)
+  pub bit : 0 < bits → (v : ℕ) → v < k → row n m.target v ≡ row n (scratch_bit m.free_bit) 0 → ⊥
+
 -- the target has the operation's value, and no other row but the internal scratch has changed
 pub record Gives (p : WordOp) (n k l bits : ℕ) (m : Slots) (before after : Spots) : Type 0 where
-  pub gives : number_at n after m.target k ≡ operation p l (number_at n before m.a l)
-      (number_at n before m.b l) (number_at n before m.s 1)
+  pub gives : number_at n after m.target k ≡ value_of p n m before l
   pub keeps : (q : Spot) → IsElsewhere n k bits m q → after q ≡ before q
-
--- the operation's loop program on words does it, from every content
-abbrev pub DoesWords : WordOp → Kind → ℕ → ℕ → ℕ → Slots → Type 0
-DoesWords p kind n k bits m = (before : Spots)
-    → Gives p n k n bits m before (after_rounds n (all_rounds n (steps_for p kind m)) before)
-
--- and on bits
-abbrev pub DoesBits : WordOp → ℕ → Slots → Type 0
-DoesBits p n m = (before : Spots) → Gives p n 1 1 0 m before
-    (after_rounds n (all_rounds n (steps_for p Bit m)) before)

@@ -1,8 +1,8 @@
 -- An operation's loop program does the statement.
-use Rattle.std.proofs.Common.{◌≡◌, inl, inr, ℕ, zero, suc, ◌+◌, ◌*◌, ◌/◌, ◌<◌, ◌≤◌, Bool, true}
+use Rattle.std.proofs.Common.{◌≡◌, inl, inr, ℕ, zero, suc, ◌+◌, ◌*◌, ◌/◌, ◌<◌, Bool, true}
 use Rattle.std.proofs.Common.{false, List, [], ◌∷◌, ◌++◌, map, length, Option, Some, None, refl}
 use Rattle.std.proofs.Common.{sym, ap}
-use Rattle.std.proofs.Common.{◌∙◌, subst, ⊎_elim, arith}
+use Rattle.std.proofs.Common.{◌∙◌, subst, arith}
 use Rattle.std.specs.Prelude.{◌||◌, bytes_eq, unwrap_or, if◌then◌else◌}
 use Rattle.std.specs.Option.{option_to_list}
 use Rattle.std.proofs.lemmas.Nat.{div-mul-add}
@@ -24,14 +24,16 @@ use Rattle.loop_ir.specs.declared.ir.Space.TheVariants.{Cells}
 use Rattle.loop_ir.specs.declared.names.Slot.{Slot}
 use Rattle.loop_ir.specs.Plain.{Block, StepOf, AllParts}
 use Rattle.loop_ir.specs.Loops.{all_rounds}
-use Rattle.loop_ir.specs.Spots.{Spot, Spots, spot_in, after_rounds, IsOwn, is_state}
+use Rattle.loop_ir.specs.Spots.{Spot, Spots, spot_in, after_rounds, is_state}
 use Rattle.loop_ir.specs.Statements.{Slots, holds_kind, statement_names, IsPlaced, HaveKinds}
 use Rattle.loop_ir.specs.Statements.{SecondMeets, ComputeMeets}
 use Rattle.loop_ir.specs.Lowered.{slot_spot, slot_bits, HoldsAt, Holds, IsStatementRow}
 use Rattle.loop_ir.specs.Lowered.{Does, IsLowered}
 use Rattle.loop_ir.specs.Lowered as l
-use Rattle.loop_laws.specs.Rooms.{Room, room_at, IsOwned, extent}
-use Rattle.loop_laws.specs.Forms.{IsMade, HasForm}
+use Rattle.loop_ir.specs.Costs.{turn_cost, plain_cost}
+use Rattle.loop_laws.specs.Rooms.{Room, room_at, IsOwned, extent, placed_steps}
+use Rattle.loop_laws.specs.Forms.{IsMade}
+use Rattle.loop_laws.proofs.Summed.{sum_is}
 use Rattle.loop_laws.proofs.Alike.{HaveRows, InRooms, rounds_cost_like, plain_costs_like}
 use Rattle.loop_laws.proofs.EveryRound.{marks_are_enough, rooms_row}
 use Rattle.loop_laws.proofs.Compile.{made_compile}
@@ -39,7 +41,7 @@ use Rattle.word_lower.specs.Places.{rooms_of, scratch_bit, scratch_from, AreAt, 
 use Rattle.word_lower.specs.Forms.{IsWritten}
 use Rattle.word_lower.specs.Programs.{program, is_linear}
 use Rattle.word_lower.specs.Shapes.{rows_at, owners_of}
-use Rattle.word_lower.proofs.Pieces.{no_slot, slot_at, AreApart, Pieces, RoomView, is_target}
+use Rattle.word_lower.proofs.Pieces.{slot_at, AreApart, Pieces, RoomView, is_target, spot_space}
 use Rattle.word_lower.proofs.Pieces.{is_arg, is_scratch, room_view, rooms_apart, extent_is, kind_row}
 use Rattle.word_lower.proofs.Lowering.{slots_width, steps_on, DoesOp, Lowers, op_lowers}
 
@@ -47,14 +49,6 @@ use Rattle.word_lower.proofs.Lowering.{slots_width, steps_on, DoesOp, Lowers, op
 pub record OnePlace (s t : Space) (w x : ℕ) : Type 0 where
   pub space : s ≡ t
   pub which : w ≡ x
-
--- a row lies in the space of its place
-pub space_is : (n : ℕ) (s : Space) (w v : ℕ) → (spot_in n s w v).space ≡ s
-space_is n Result w v = refl
-space_is n Source w v = refl
-space_is n ScratchBit w v = refl
-space_is n ScratchWord w v = refl
-space_is n Cells w v = refl
 
 same_which : (n : ℕ) (s : Space) (w x u v : ℕ) (j k : Kind) → u < width n j → v < width n k
     → holds_kind s j ≡ true → holds_kind s k ≡ true → spot_in n s w u ≡ spot_in n s x v → w ≡ x
@@ -73,14 +67,13 @@ pub one_place : (n : ℕ) (s t : Slot) (u v : ℕ) → u < width n s.kind → v 
     → holds_kind s.space s.kind ≡ true → holds_kind t.space t.kind ≡ true
     → slot_spot n s u ≡ slot_spot n t v → OnePlace s.space t.space s.which t.which
 one_place n s t u v lu lv hs ht e =
-    let f : s.space ≡ t.space = sym (space_is n s.space s.which u) ∙ ap (λ (q : Spot). q.space) e
-    ∙ space_is n t.space t.which v in
-    let g : spot_in n t.space s.which u ≡ spot_in n t.space t.which v =
-    sym (ap (λ z. spot_in n z s.which u) f) ∙ e in
+    let f : s.space ≡ t.space = sym (spot_space n s.space s.which u)
+    ∙ ap (λ (q : Spot). q.space) e ∙ spot_space n t.space t.which v in
     record {
       space = f;
       which = same_which n t.space s.which t.which u v s.kind t.kind lu lv
-          (sym (ap (λ z. holds_kind z s.kind) f) ∙ hs) ht g;
+          (sym (ap (λ z. holds_kind z s.kind) f) ∙ hs) ht
+          (sym (ap (λ z. spot_in n z s.which u) f) ∙ e);
     }
 
 -- so many bits of scratch are so many
@@ -134,24 +127,18 @@ pub at_place : (slots : Slots) (names : List (List ℕ)) (ss : List Slot) (i : �
     × (slots (name_at names i) ≡ Some (slot_at ss i))
 unfolding name_at
 at_place slots [] [] i at lt = absurd (omega arith)
-at_place slots [] (s ∷ ss) i at lt = absurd at
-at_place slots (n ∷ ns) [] i at lt = absurd at
 at_place slots (n ∷ ns) (s ∷ ss) zero at lt = (omega arith, at.0)
 at_place slots (n ∷ ns) (s ∷ ss) (suc i) at lt = let h =
     at_place slots ns ss i at.1 (omega arith) in ((let l = h.0 in omega arith), h.1)
-
-slot_in : Option Slot → Slot
-slot_in None = no_slot
-slot_in (Some x) = x
+at_place slots names ss i at lt = absurd at
 
 -- a name has one place
 pub same_slot : (x y : Slot) → Some x ≡ Some y → x ≡ y
-unfolding slot_in
-same_slot x y e = ap slot_in e
+same_slot x y e = cc
 
 spot_row : (n : ℕ) (s : Space) (w v : ℕ) (k : Kind) → holds_kind s k ≡ true
     → is_state (spot_in n s w v).space ≡ false
-spot_row n s w v k h = ap is_state (space_is n s w v) ∙ kind_row s k h
+spot_row n s w v k h = ap is_state (spot_space n s w v) ∙ kind_row s k h
 
 -- nothing of a statement stands in cells
 pub statement_rows : (slots : Slots) (free_bit free_word : ℕ) (s : Statement)
@@ -184,6 +171,121 @@ among_after : (second : Option (List ℕ)) (args : List (List ℕ)) (name : List
     → is_among args name ≡ true → is_among (option_to_list second ++ args) name ≡ true
 among_after None args name e = e
 among_after (Some x) args name e = or_right (bytes_eq x name) (is_among args name) e
+
+-- the names hold what the rows at their places hold
+pub HeldAt : ℕ → (List ℕ → NameValue) → Spots → List (List ℕ) → List Slot → Type 0
+HeldAt n held rows [] [] = Unit {0}
+HeldAt n held rows [] (s ∷ ss) = ⊥
+HeldAt n held rows (name ∷ names) [] = ⊥
+HeldAt n held rows (name ∷ names) (s ∷ ss) = ((held name).kind ≡ s.kind)
+    × ((held name).bits ≡ slot_bits n rows s) × HeldAt n held rows names ss
+
+-- the arguments' rows hold the arguments' values
+pub held_args : (n : ℕ) (slots : Slots) (held : List ℕ
+    → NameValue) (rows : Spots) (names : List (List ℕ)) (ss : List Slot) → AreAt slots names ss
+    → ((name : List ℕ) → is_among names name ≡ true → Holds n slots held rows name)
+    → HeldAt n held rows names ss
+unfolding HeldAt
+held_args n slots held rows [] [] at h = tt
+held_args n slots held rows (name ∷ names) (s ∷ ss) at h =
+    let a : HoldsAt n (Some s) (held name) rows =
+    subst (λ (x : Option Slot). HoldsAt n x (held name) rows) at.0
+    (h name (or_left (bytes_eq name name) (is_among names name) (same_name name name refl))) in (
+      a.0,
+      a.1,
+      held_args n slots held rows names ss at.1 (λ x e.
+          h x (or_right (bytes_eq name x) (is_among names x) e)),
+    )
+held_args n slots held rows names ss at h = absurd at
+
+-- the values held have the kinds of their places
+pub held_kinds : (n : ℕ) (held : List ℕ → NameValue) (rows : Spots) (names : List (List ℕ))
+    (ss : List Slot) → HeldAt n held rows names ss
+    → map (λ (h : NameValue). h.kind) (map held names) ≡ map (λ (s : Slot). s.kind) ss
+unfolding HeldAt
+held_kinds n held rows [] [] at = refl
+held_kinds n held rows (name ∷ names) (s ∷ ss) at =
+    ap (λ k. k ∷ map (λ (h : NameValue). h.kind) (map held names)) at.0
+    ∙ ap (λ ks. s.kind ∷ ks) (held_kinds n held rows names ss at.2)
+held_kinds n held rows names ss at = absurd at
+
+-- the values held are what their rows spell
+pub held_numbers : (n : ℕ) (held : List ℕ → NameValue) (rows : Spots) (names : List (List ℕ))
+    (ss : List Slot) → HeldAt n held rows names ss
+    → map number (map held names) ≡ map (λ s. value (slot_bits n rows s)) ss
+unfolding HeldAt
+held_numbers n held rows [] [] at = refl
+held_numbers n held rows (name ∷ names) (s ∷ ss) at =
+    ap (λ bs. value bs ∷ map number (map held names)) at.1
+    ∙ ap (λ vs. value (slot_bits n rows s) ∷ vs) (held_numbers n held rows names ss at.2)
+held_numbers n held rows names ss at = absurd at
+
+-- the values held are as wide as their places
+pub held_width : (n : ℕ) (held : List ℕ → NameValue) (rows : Spots) (names : List (List ℕ))
+    (ss : List Slot) → HeldAt n held rows names ss
+    → args_width n (map held names) ≡ slots_width n ss
+unfolding HeldAt
+held_width n held rows [] [] at = refl
+held_width n held rows (name ∷ names) (s ∷ ss) at = ap (width n) at.0
+held_width n held rows names ss at = absurd at
+
+-- the arguments are as wide as their places
+pub named_width : (n : ℕ) (slots : Slots) (names : List (List ℕ)) (ss : List Slot)
+    → AreAt slots names ss → l.args_width slots n names ≡ slots_width n ss
+named_width n slots [] [] at = refl
+named_width n slots (name ∷ names) (s ∷ ss) at = ap (λ x. width n (l.kind_at x)) at.0
+named_width n slots names ss at = absurd at
+
+module _ (slots : Slots) (p : WordOp) (args : List (List ℕ)) (ss : List Slot)
+    (at : AreAt slots args ss) (t : Slot) where
+  -- what a target holds after the statement
+  pub answer : (n : ℕ) (held : List ℕ → NameValue) (before after : Spots)
+      → filled (forms p) (map (λ (s : Slot). s.kind) ss) ≡ Some t.kind
+      → ((name : List ℕ) → is_among args name ≡ true → Holds n slots held before name)
+      → slot_bits n after t ≡ bits (op_value p (slots_width n ss)
+      (map (λ s. value (slot_bits n before s)) ss)) (width n t.kind)
+      → HoldsAt n (Some t) (computed n p (map held args)) after
+  answer n held before after filled_form h gives =
+      let a = held_args n slots held before args ss at h in
+      let k : unwrap_or (filled (forms p) (map (λ (h : NameValue). h.kind) (map held args))) Word
+      ≡ t.kind = ap (λ ks. unwrap_or (filled (forms p) ks) Word)
+      (held_kinds n held before args ss a) ∙ ap (λ x. unwrap_or x Word) filled_form in
+      let v : op_value p (args_width n (map held args)) (map number (map held args))
+      ≡ op_value p (slots_width n ss) (map (λ s. value (slot_bits n before s)) ss) =
+      ap (λ x. op_value p x (map number (map held args))) (held_width n held before args ss a)
+      ∙ ap (λ xs. op_value p (slots_width n ss) xs) (held_numbers n held before args ss a) in (
+        k,
+        ap (λ x. bits (op_value p (args_width n (map held args)) (map number (map held args)))
+            (width n x)) k ∙ ap (λ x. bits x (width n t.kind)) v ∙ sym gives,
+      )
+
+  -- and so each name that is a target, where there is one alone
+  pub by_name : (target : List ℕ) → slots target ≡ Some t → (n : ℕ) (held : List ℕ → NameValue)
+      (after : Spots) → HoldsAt n (Some t) (computed n p (map held args)) after
+      → (name : List ℕ) → (bytes_eq target name || false) ≡ true
+      → Holds n slots (after_statement n held (Compute target None p args)) after name
+  by_name target found n held after h name e =
+      let s = Compute target None p args in
+      let same : target ≡ name = (bytes_eq-Decides target name).0 (only (bytes_eq target name) e)
+      in
+      let one : HoldsAt n (Some t) (after_statement n held s target) after =
+      subst (λ (c : Bool). HoldsAt n (Some t) (if c then computed n p (map held args)
+      else held target) after) (sym (same_name target target refl)) h in
+      subst (λ x. Holds n slots (after_statement n held s) after x) same
+      (subst (λ (x : Option Slot). HoldsAt n x (after_statement n held s target) after) (sym found)
+      one)
+    where
+      only : (b : Bool) → (b || false) ≡ true → b ≡ true
+      only true e = refl
+      only false e = cc
+
+-- an operation that takes one pass has no second target
+pub alone : (slots : Slots) (target : List ℕ) (second : Option (List ℕ)) (args : List (List ℕ))
+    (p : WordOp) → is_linear p ≡ true → SecondMeets slots target args second (second_kind p)
+    → second ≡ None
+alone slots target None args p linear h = refl
+alone slots target (Some x) args op.Divmod linear h = cc
+alone slots target (Some x) args p linear h = absurd h
 
 module _ (slots : Slots) (free_bit free_word : ℕ) (target : List ℕ)
     (second : Option (List ℕ)) (p : WordOp) (args : List (List ℕ))
@@ -232,14 +334,8 @@ module _ (slots : Slots) (free_bit free_word : ℕ) (target : List ℕ)
   scratch_apart n j name x lj a f = record {
     by = λ u v lu lv e.
         (let one = one_place n x (scratch_bit (free_bit + j)) u v lu lv (holds name x a f) refl e in
-        let w = one.which in
-        ⊎_elim (λ (h : x.which < free_bit). absurd (omega arith))
-        (λ (h : free_bit + bits_inside p ≤ x.which). absurd (omega arith))
-        (placed.bit name x a f one.space));
+        absurd (omega (arith, placed.bit name x a f one.space, one.which)));
   }
-
-  complemented : (n : ℕ) (s r : Slot) → AreApart n s r → AreApart n r s
-  complemented n s r a = record { by = λ u v lu lv e. a.by v u lv lu (sym e) }
 
   scratch_each : (n i j : ℕ) → (i ≡ j → ⊥) → AreApart n (scratch_bit (free_bit + i))
       (scratch_bit (free_bit + j))
@@ -261,17 +357,14 @@ module _ (slots : Slots) (free_bit free_word : ℕ) (target : List ℕ)
             (let h = at_place slots args ss i at lt in
             kind_row (slot_at ss i).space (slot_at ss i).kind
             (holds (name_at args i) (slot_at ss i) (among_arg i h.0) h.1));
-        owned = λ j lt. subst (λ (s : Slot). IsOwn s.space) (sym (is j lt)) tt;
-        free = λ j lt. subst (λ (s : Slot). AreApart n s t) (sym (is j lt))
-            (complemented n t (scratch_bit (free_bit + j))
-            (scratch_apart n j target t (omega arith) among_target found));
-        others = λ i j li lj. subst (λ (s : Slot). AreApart n (slot_at ss i) s) (sym (is j lj))
-            (let h = at_place slots args ss i at li in
+        owned = λ j lt. rw (is j lt) tt;
+        free = λ j lt. rw (is j lt) (record {
+          by = λ u v lu lv e.
+              (scratch_apart n j target t (omega arith) among_target found).by v u lv lu (sym e);
+        });
+        others = λ i j li lj. rw (is j lj) (let h = at_place slots args ss i at li in
             scratch_apart n j (name_at args i) (slot_at ss i) (omega arith) (among_arg i h.0) h.1);
-        each = λ i j li lj ne. subst (λ (s : Slot). AreApart n s
-            (slot_at (scratch_from free_bit (bits_inside p)) j)) (sym (is i li))
-            (subst (λ (s : Slot). AreApart n (scratch_bit (free_bit + i)) s) (sym (is j lj))
-            (scratch_each n i j ne));
+        each = λ i j li lj ne. rw (is i li, is j lj) (scratch_each n i j ne);
       }
 
   -- the rooms' rows are the statement's
@@ -279,44 +372,16 @@ module _ (slots : Slots) (free_bit free_word : ℕ) (target : List ℕ)
       → RoomView t ss (scratch_from free_bit (bits_inside p)) k r → v < extent n r.rows
       → q ≡ spot_in n r.space r.which v → IsStatementRow slots free_bit free_word
       (Compute target second p args) n q
-  view_row n k v q r (is_target e f) lt g =
-      let x : extent n r.rows ≡ width n t.kind = ap (λ (z : Room). extent n z.rows) f
-      ∙ extent_is n t.kind in
-      inl (
-        target,
-        t,
-        v,
-        among_target,
-        found,
-        (omega arith),
-        g
-            ∙ ap (λ (z : Room). spot_in n z.space z.which v) f,
-      )
-  view_row n k v q r (is_arg i l e f) lt g =
-      let x : extent n r.rows ≡ width n (slot_at ss i).kind = ap (λ (z : Room). extent n z.rows) f
-      ∙ extent_is n (slot_at ss i).kind in
+  view_row n k v q r is_target lt g = let x = extent_is n t.kind in
+      inl (target, t, v, among_target, found, omega arith, g)
+  view_row n k v q r (is_arg i l) lt g =
+      let x = extent_is n (slot_at ss i).kind in
       let h = at_place slots args ss i at l in
-      inl (
-        name_at args i,
-        slot_at ss i,
-        v,
-        among_arg i h.0,
-        h.1,
-        (omega arith),
-        g
-            ∙ ap (λ (z : Room). spot_in n z.space z.which v) f,
-      )
-  view_row n k v q r (is_scratch j l e f) lt g =
+      inl (name_at args i, slot_at ss i, v, among_arg i h.0, h.1, omega arith, g)
+  view_row n k v q r (is_scratch j l) lt g =
       let len = length_scratch free_bit (bits_inside p) in
-      let s = slot_at (scratch_from free_bit (bits_inside p)) j in
-      let is : s ≡ scratch_bit (free_bit + j) =
-      scratch_at free_bit (bits_inside p) j (omega arith) in
-      inr (inl (
-        j,
-        (omega arith),
-        g ∙ ap (λ (z : Room). spot_in n z.space z.which v) f
-            ∙ ap (λ (z : Slot). spot_in n z.space z.which v) is,
-      ))
+      let is = scratch_at free_bit (bits_inside p) j (omega arith) in
+      inr (inl (j, omega arith, g ∙ ap (λ (z : Slot). spot_in n z.space z.which v) is))
 
   pub row_of : (n : ℕ) (q : Spot)
       → IsOwned n (rooms_of t ss (scratch_from free_bit (bits_inside p))) q
@@ -324,17 +389,6 @@ module _ (slots : Slots) (free_bit free_word : ℕ) (target : List ℕ)
   row_of n q o =
       view_row n o.0 o.1 q (room_at (rooms_of t ss (scratch_from free_bit (bits_inside p))) o.0)
       (room_view t ss (scratch_from free_bit (bits_inside p)) o.0 o.2) o.3 o.4
-
-  pub form : (k : Kind) → is_linear p ≡ true → Lowers p k t ss free_bit
-      → HasForm (IsStatementRow slots free_bit free_word (Compute target second p args))
-      (steps_on p k t ss free_bit)
-  form k linear lowers =
-      marks_are_enough (IsStatementRow slots free_bit free_word (Compute target second p args))
-      (rooms_of t ss (scratch_from free_bit (bits_inside p))) (program p k)
-      (λ n some most. rooms_apart n t ss (scratch_from free_bit (bits_inside p)) (pieces n))
-      (λ n some most. row_of n)
-      (statement_rows slots free_bit free_word (Compute target second p args) placed) lowers.fit
-      lowers.short lowers.states
 
   -- none of the rooms stands in cells
   pub have_rows : HaveRows (rooms_of t ss (scratch_from free_bit (bits_inside p)))
@@ -354,210 +408,61 @@ module _ (slots : Slots) (free_bit free_word : ℕ) (target : List ℕ)
   pub form_filled : filled (forms p) (map (λ (s : Slot). s.kind) ss) ≡ Some t.kind
   form_filled = ap (filled (forms p)) arg_kinds ∙ meets.form ∙ ap (λ k. Some k) target_kind
 
--- the names hold what the rows at their places hold
-pub HeldAt : ℕ → (List ℕ → NameValue) → Spots → List (List ℕ) → List Slot → Type 0
-HeldAt n held rows [] [] = Unit {0}
-HeldAt n held rows [] (s ∷ ss) = ⊥
-HeldAt n held rows (name ∷ names) [] = ⊥
-HeldAt n held rows (name ∷ names) (s ∷ ss) = ((held name).kind ≡ s.kind)
-    × ((held name).bits ≡ slot_bits n rows s) × HeldAt n held rows names ss
+  module _ (linear : is_linear p ≡ true) where
+    abbrev steps : List (StepOf Block)
+    steps = steps_on p t.kind t ss free_bit
 
--- the arguments' rows hold the arguments' values
-pub held_args : (n : ℕ) (slots : Slots) (held : List ℕ
-    → NameValue) (rows : Spots) (names : List (List ℕ)) (ss : List Slot) → AreAt slots names ss
-    → ((name : List ℕ) → is_among names name ≡ true → Holds n slots held rows name)
-    → HeldAt n held rows names ss
-unfolding HeldAt
-held_args n slots held rows [] [] at h = tt
-held_args n slots held rows [] (s ∷ ss) at h = absurd at
-held_args n slots held rows (name ∷ names) [] at h = absurd at
-held_args n slots held rows (name ∷ names) (s ∷ ss) at h =
-    let a : HoldsAt n (Some s) (held name) rows =
-    subst (λ (x : Option Slot). HoldsAt n x (held name) rows) at.0
-    (h name (or_left (bytes_eq name name) (is_among names name) (same_name name name refl))) in (
-      a.0,
-      a.1,
-      held_args n slots held rows names ss at.1 (λ x e.
-          h x (or_right (bytes_eq name x) (is_among names x) e)),
-    )
+    abbrev lowers : Lowers p t.kind t ss free_bit × ((n : ℕ) → 0 < n
+        → Pieces n t ss (scratch_from free_bit (bits_inside p)) → DoesOp p n t.kind t ss free_bit)
+    lowers = op_lowers p t.kind t ss free_bit linear form_filled refl
 
--- the values held have the kinds of their places
-pub held_kinds : (n : ℕ) (held : List ℕ → NameValue) (rows : Spots) (names : List (List ℕ))
-    (ss : List Slot) → HeldAt n held rows names ss
-    → map (λ (h : NameValue). h.kind) (map held names) ≡ map (λ (s : Slot). s.kind) ss
-unfolding HeldAt
-held_kinds n held rows [] [] at = refl
-held_kinds n held rows [] (s ∷ ss) at = absurd at
-held_kinds n held rows (name ∷ names) [] at = absurd at
-held_kinds n held rows (name ∷ names) (s ∷ ss) at =
-    ap (λ k. k ∷ map (λ (h : NameValue). h.kind) (map held names)) at.0
-    ∙ ap (λ ks. s.kind ∷ ks) (held_kinds n held rows names ss at.2)
+    none : second ≡ None
+    none = alone slots target second args p linear meets.others
 
--- the values held are what their rows spell
-pub held_numbers : (n : ℕ) (held : List ℕ → NameValue) (rows : Spots) (names : List (List ℕ))
-    (ss : List Slot) → HeldAt n held rows names ss
-    → map number (map held names) ≡ map (λ s. value (slot_bits n rows s)) ss
-unfolding HeldAt
-held_numbers n held rows [] [] at = refl
-held_numbers n held rows [] (s ∷ ss) at = absurd at
-held_numbers n held rows (name ∷ names) [] at = absurd at
-held_numbers n held rows (name ∷ names) (s ∷ ss) at =
-    ap (λ bs. value bs ∷ map number (map held names)) at.1
-    ∙ ap (λ vs. value (slot_bits n rows s) ∷ vs) (held_numbers n held rows names ss at.2)
+    does : (n : ℕ) → 0 < n → Does slots free_bit free_word (Compute target second p args) n steps
+    does n some = let op = lowers.1 n some (pieces n) in record {
+      gives = λ held rows h name e.
+          (let new = after_rounds n (all_rounds n steps) rows in
+          subst (λ x. Holds n slots (after_statement n held (Compute target x p args)) new name)
+          (sym none) (by_name slots p args ss at t target found n held new
+          (answer slots p args ss at t n held rows new form_filled h (op.gives rows)) name
+          (subst (λ x. is_among (target ∷ option_to_list x) name ≡ true) none e)));
+      keeps = λ rows q row out. op.keeps rows q row
+          (λ v lv e. out (inl (target, t, v, written, found, lv, e)))
+          (λ j lj e. out (inr (inl (j, lj, e))));
+    }
 
--- the values held are as wide as their places
-pub held_width : (n : ℕ) (held : List ℕ → NameValue) (rows : Spots) (names : List (List ℕ))
-    (ss : List Slot) → HeldAt n held rows names ss
-    → args_width n (map held names) ≡ slots_width n ss
-unfolding HeldAt
-held_width n held rows [] [] at = refl
-held_width n held rows [] (s ∷ ss) at = absurd at
-held_width n held rows (name ∷ names) [] at = absurd at
-held_width n held rows (name ∷ names) (s ∷ ss) at = ap (width n) at.0
-
--- the arguments are as wide as their places
-pub named_width : (n : ℕ) (slots : Slots) (names : List (List ℕ)) (ss : List Slot)
-    → AreAt slots names ss → l.args_width slots n names ≡ slots_width n ss
-named_width n slots [] [] at = refl
-named_width n slots [] (s ∷ ss) at = absurd at
-named_width n slots (name ∷ names) [] at = absurd at
-named_width n slots (name ∷ names) (s ∷ ss) at = ap (λ x. width n (l.kind_at x)) at.0
-
-module _ (slots : Slots) (p : WordOp) (args : List (List ℕ)) (ss : List Slot)
-    (at : AreAt slots args ss) (t : Slot) where
-  -- what a target holds after the statement
-  pub answer : (n : ℕ) (held : List ℕ → NameValue) (before after : Spots)
-      → filled (forms p) (map (λ (s : Slot). s.kind) ss) ≡ Some t.kind
-      → ((name : List ℕ) → is_among args name ≡ true → Holds n slots held before name)
-      → slot_bits n after t ≡ bits (op_value p (slots_width n ss)
-      (map (λ s. value (slot_bits n before s)) ss)) (width n t.kind)
-      → HoldsAt n (Some t) (computed n p (map held args)) after
-  answer n held before after filled_form h gives =
-      let a = held_args n slots held before args ss at h in
-      let k : unwrap_or (filled (forms p) (map (λ (h : NameValue). h.kind) (map held args))) Word
-      ≡ t.kind = ap (λ ks. unwrap_or (filled (forms p) ks) Word)
-      (held_kinds n held before args ss a) ∙ ap (λ x. unwrap_or x Word) filled_form in
-      let v : op_value p (args_width n (map held args)) (map number (map held args))
-      ≡ op_value p (slots_width n ss) (map (λ s. value (slot_bits n before s)) ss) =
-      ap (λ x. op_value p x (map number (map held args))) (held_width n held before args ss a)
-      ∙ ap (λ xs. op_value p (slots_width n ss) xs) (held_numbers n held before args ss a) in (
-        k,
-        ap (λ x. bits (op_value p (args_width n (map held args)) (map number (map held args)))
-            (width n x)) k ∙ ap (λ x. bits x (width n t.kind)) v ∙ sym gives,
-      )
-
-  -- and so each name that is a target, where there is one alone
-  pub by_name : (target : List ℕ) → slots target ≡ Some t → (n : ℕ) (held : List ℕ → NameValue)
-      (after : Spots) → HoldsAt n (Some t) (computed n p (map held args)) after
-      → (name : List ℕ) → (bytes_eq target name || false) ≡ true
-      → Holds n slots (after_statement n held (Compute target None p args)) after name
-  by_name target found n held after h name e =
-      let s = Compute target None p args in
-      let same : target ≡ name = (bytes_eq-Decides target name).0 (only (bytes_eq target name) e)
-      in
-      let one : HoldsAt n (Some t) (after_statement n held s target) after =
-      subst (λ (c : Bool). HoldsAt n (Some t) (if c then computed n p (map held args)
-      else held target) after) (sym (same_name target target refl)) h in
-      subst (λ x. Holds n slots (after_statement n held s) after x) same
-      (subst (λ (x : Option Slot). HoldsAt n x (after_statement n held s target) after) (sym found)
-      one)
-    where
-      only : (b : Bool) → (b || false) ≡ true → b ≡ true
-      only true e = refl
-      only false e = cc
-
-module _ (slots : Slots) (free_bit free_word : ℕ) (target : List ℕ) (p : WordOp)
-    (args : List (List ℕ)) (linear : is_linear p ≡ true) (meets : ComputeMeets slots target
-    None p args)
-    (placed : IsPlaced slots free_bit free_word (Compute target None p args)) (t : Slot)
-    (found : slots target ≡ Some t) (ss : List Slot) (at : AreAt slots args ss) where
-  filled_form : filled (forms p) (map (λ (s : Slot). s.kind) ss) ≡ Some t.kind
-  filled_form = form_filled slots free_bit free_word target None p args meets placed t found ss at
-
-  lowers : Lowers p t.kind t ss free_bit
-  lowers = op_lowers p t.kind t ss free_bit linear filled_form refl
-
-  does_op : (n : ℕ) → 0 < n → DoesOp p n t.kind t ss free_bit
-  does_op n some = lowers.does n some (pieces slots free_bit free_word target None p args meets
-      placed t
-      found ss at n)
-
-  abbrev steps : List (StepOf Block)
-  steps = steps_on p t.kind t ss free_bit
-
-  does : (n : ℕ) → 0 < n → Does slots free_bit free_word (Compute target None p args) n steps
-  does n some = record {
-    gives = λ held rows h name e.
-        (let new = after_rounds n (all_rounds n steps) rows in
-        by_name slots p args ss at t target found n held new
-        (answer slots p args ss at t n held rows new filled_form h ((does_op n some).gives rows))
-        name e);
-    keeps = λ rows q row out.
-        (does_op n some).keeps rows q row (λ v lv e.
-        out (inl (
-          target,
-          t,
-          v,
-          written slots free_bit free_word target None p args meets placed t
-              found ss at,
-          found,
-          lv,
-          e,
-        ))) (λ j lj e. out (inr (inl (j, lj, e))));
-  }
-
-  pub lowered : AllParts IsMade steps → IsLowered slots free_bit free_word
-      (Compute target None p args)
-      steps
-  lowered made =
-      let c = made_compile (IsStatementRow slots free_bit free_word (Compute target None p args))
-      steps made
-      (form slots free_bit free_word target None p args meets placed t found ss at t.kind linear
-      lowers) in
-      let rooms = rooms_of t ss (scratch_from free_bit (bits_inside p)) in
-      let have = have_rows slots free_bit free_word target None p args meets placed t found ss at in
-      record {
-        well = c.0;
-        can = c.1;
-        does = λ n some most. does n some;
-        cheap = λ n some most. (let b = lowers.cheap n some in
-            let w = ap (op_ceiling p) (named_width n slots args ss at) in
-            let like = rounds_cost_like rooms have n (program p t.kind) in
-            omega (arith, b, w, like));
-        plain = λ n some most. (let b = lowers.plain n some in
-            let w = ap (l.op_plain_ceiling p) (named_width n slots args ss at) in
-            let like = plain_costs_like rooms have n (program p t.kind) in
-            omega (arith, b, w, like));
-      }
-
--- an operation that takes one pass has no second target
-pub alone : (slots : Slots) (target : List ℕ) (second : Option (List ℕ)) (args : List (List ℕ))
-    (p : WordOp) → is_linear p ≡ true → SecondMeets slots target args second (second_kind p)
-    → second ≡ None
-alone slots target None args p linear h = refl
-alone slots target (Some x) args op.Divmod linear h = cc
-alone slots target (Some x) args p linear h = absurd h
-
--- the program on the owners' places does the statement
-pub lowered_on : (slots : Slots) (free_bit free_word : ℕ) (target : List ℕ)
-    (second : Option (List ℕ)) (p : WordOp) (args : List (List ℕ)) (linear : is_linear p ≡ true)
-    (meets : ComputeMeets slots target second p args)
-    (placed : IsPlaced slots free_bit free_word (Compute target second p args)) (t : Slot)
-    (found : slots target ≡ Some t) (ss : List Slot) (at : AreAt slots args ss)
-    (steps : List (StepOf Block))
-    → steps ≡ program_on (rows_at (owners_of t ss free_bit)) (program p t.kind)
-    → AllParts IsMade steps
-    → IsLowered slots free_bit free_word (Compute target second p args) steps
-lowered_on slots free_bit free_word target second p args linear meets placed t found ss at steps
-    same made =
-    let none = alone slots target second args p linear meets.others in
-    let m = subst (λ x. ComputeMeets slots target x p args) none meets in
-    let q = subst (λ x. IsPlaced slots free_bit free_word (Compute target x p args)) none placed in
-    let e = same ∙ (lowers slots free_bit free_word target p args linear m q t found ss at).same in
-    subst (λ x. IsLowered slots free_bit free_word (Compute target x p args) steps) (sym none)
-    (subst (IsLowered slots free_bit free_word (Compute target None p args)) (sym e)
-    (lowered slots free_bit free_word target p args linear m q t found ss at
-    (subst (AllParts IsMade) e made)))
+    -- the program on the owners' places does the statement
+    pub lowered_on : (built : List (StepOf Block))
+        → built ≡ program_on (rows_at (owners_of t ss free_bit)) (program p t.kind)
+        → AllParts IsMade built
+        → IsLowered slots free_bit free_word (Compute target second p args) built
+    lowered_on built same made =
+        let row = IsStatementRow slots free_bit free_word (Compute target second p args) in
+        let rooms = rooms_of t ss (scratch_from free_bit (bits_inside p)) in
+        let tests = lowers.0 in
+        let e = same ∙ tests.same in
+        let c = made_compile row steps (subst (AllParts IsMade) e made)
+        (marks_are_enough row rooms (program p t.kind)
+        (λ n some most. rooms_apart n t ss (scratch_from free_bit (bits_inside p)) (pieces n))
+        (λ n some most. row_of n)
+        (statement_rows slots free_bit free_word (Compute target second p args) placed) tests.fit
+        tests.short tests.states) in
+        subst (IsLowered slots free_bit free_word (Compute target second p args)) (sym e) record {
+          well = c.0;
+          can = c.1;
+          does = λ n some most. does n some;
+          cheap = λ n some most. (let b = tests.cheap n some in
+              let w = ap (op_ceiling p) (named_width n slots args ss at) in
+              let like = rounds_cost_like rooms have_rows n (program p t.kind) in
+              let sum = sum_is turn_cost n (placed_steps [] (program p t.kind)) in
+              omega (arith, b, w, like, sum));
+          plain = λ n some most. (let b = tests.plain n some in
+              let w = ap (l.op_plain_ceiling p) (named_width n slots args ss at) in
+              let like = plain_costs_like rooms have_rows n (program p t.kind) in
+              let sum = sum_is plain_cost n (placed_steps [] (program p t.kind)) in
+              omega (arith, b, w, like, sum));
+        }
 
 -- the arguments have places
 pub record Places (slots : Slots) (names : List (List ℕ)) : Type 0 where
@@ -584,12 +489,11 @@ written_in_rooms slots free_bit free_word target second p args linear meets plac
     let t = meets.gives.slot in
     let found = meets.gives.found in
     let ss = places_of slots args meets.kinds meets.have in
-    let filled_form = form_filled slots free_bit free_word target second p args meets placed t found
-    ss.list ss.at in
+    let given = op_lowers p t.kind t ss.list free_bit linear (form_filled slots free_bit free_word
+    target second p args meets placed t found ss.list ss.at) refl in
     record {
       rooms = rooms_of t ss.list (scratch_from free_bit (bits_inside p));
       rows = have_rows slots free_bit free_word target second p args meets placed t found ss.list
           ss.at;
-      same = written t ss.list found ss.at
-          ∙ (op_lowers p t.kind t ss.list free_bit linear filled_form refl).same;
+      same = written t ss.list found ss.at ∙ given.0.same;
     }

@@ -1,11 +1,12 @@
 -- Loops with a carry, as numbers.
 use Rattle.std.proofs.Common.{◌≡◌, ℕ, zero, suc, ◌+◌, ◌-◌, ◌*◌, ◌/◌, ◌^◌, ◌%◌, ◌<◌, ◌≤◌, Bool, true}
-use Rattle.std.proofs.Common.{false, not, cond, refl, sym, ap, ◌∙◌, ⊎_elim, arith}
+use Rattle.std.proofs.Common.{false, not, refl, sym, ap, ◌∙◌, arith}
 use Rattle.std.specs.Prelude.{nat_lt}
-use Rattle.std.proofs.lemmas.Bool.{cases_Bool, lt-ltb}
+use Rattle.std.proofs.lemmas.Bool.Decides.{nat_tests}
 use Rattle.std.proofs.lemmas.Nat.{mod-mul-add}
 use Rattle.std.proofs.Math.Nat.{pow-suc}
 use Rattle.bit_rows.specs.Bits.{majority}
+use Rattle.op_text.specs.Values.{differ}
 use Rattle.word_lower.proofs.Setting.{bit, number}
 
 abbrev pub digits : (ℕ → ℕ) → ℕ → ℕ
@@ -39,8 +40,7 @@ value_below f zero = omega arith
 value_below f (suc n) = rw pow-suc (step_below (f n) (number f n) (2 ^ n) (value_below f n))
   where
     step_below : (b : Bool) (v p : ℕ) → v < p → v + bit b * p < p * 2
-    step_below true v p h = omega arith
-    step_below false v p h = omega arith
+    step_below b v p h = grind arith
 
 pub digits_two : (f g : ℕ → Bool) (n : ℕ) → digits (λ i. bit (f i) + bit (g i)) n
     ≡ number f n + number g n
@@ -52,8 +52,7 @@ digits_double f zero = refl
 digits_double f (suc n) = let e = digits_double f n in omega (arith, e)
 
 bit_not : (b : Bool) → bit (not b) + bit b ≡ 1
-bit_not true = refl
-bit_not false = refl
+bit_not b = grind arith
 
 pub value_not : (f : ℕ → Bool) (n : ℕ) → number (λ i. not (f i)) n + number f n + 1 ≡ 2 ^ n
 value_not f zero = refl
@@ -100,35 +99,19 @@ sub_gives a b y c n start h =
     last_sum (number y n) (bit (c n)) (2 ^ n) (number a n + 2 ^ n - number b n) (value_below y n)
     (omega (arith, e, s, lb))
 
-abbrev pub xor3 : Bool → Bool → Bool → Bool
-xor3 true true c = c
-xor3 true false c = not c
-xor3 false true c = not c
-xor3 false false c = c
+abbrev xor3 : Bool → Bool → Bool → Bool
+xor3 a b c = differ (differ a b) c
 
 pub full : (a b c : Bool) → bit (xor3 a b c) + 2 * bit (majority a b c) ≡ bit a + bit b + bit c
 unfolding majority
-full true true true = refl
-full true true false = refl
-full true false true = refl
-full true false false = refl
-full false true true = refl
-full false true false = refl
-full false false true = refl
-full false false false = refl
+full a b c = grind arith
 
 carry_says : (c : Bool) (y a b p s : ℕ) → y < p → b < p → a < p → y + bit c * p + b + 1 ≡ a + p + s
     → s ≤ 1 → c ≡ nat_lt b (a + s)
-carry_says true y a b p s ly lb la e ls = sym (lt-ltb b (a + s) (omega (arith, e)))
-carry_says false y a b p s ly lb la e ls = sym (not_lt b (a + s) (omega (arith, e)))
-  where
-    not_lt : (x z : ℕ) → z ≤ x → nat_lt x z ≡ false
-    not_lt x z h = ⊎_elim (λ (t : nat_lt x z ≡ true). absurd (grind arith))
-        (λ (f : nat_lt x z ≡ false). f) (cases_Bool (nat_lt x z))
+carry_says c y a b p s ly lb la e ls = grind (arith, nat_tests)
 
 bit_le : (b : Bool) → bit b ≤ 1
-bit_le true = omega arith
-bit_le false = omega arith
+bit_le b = grind arith
 
 -- the last carry of a and the complement of b compares them
 pub compare : (a b c : ℕ → Bool) (n : ℕ) → ((i : ℕ) → i < n
@@ -146,27 +129,12 @@ pub top_half : (a : ℕ → Bool) (m : ℕ) → nat_lt (number a (suc m)) (2 ^ m
 top_half a m = by (a m) (number a m) (2 ^ m) (value_below a m)
   where
     by : (b : Bool) (v p : ℕ) → v < p → nat_lt (v + bit b * p) p ≡ not b
-    by true v p h = ⊎_elim (λ (t : nat_lt (v + bit true * p) p ≡ true). absurd (grind arith))
-        (λ (f : nat_lt (v + bit true * p) p ≡ false). f) (cases_Bool (nat_lt (v + bit true * p) p))
-    by false v p h = lt-ltb (v + bit false * p) p (omega arith)
-
-abbrev pub pick : Bool → Bool → Bool → Bool
-pick true a b = a
-pick false a b = b
-
-pub value_pick : (g : Bool) (a b : ℕ → Bool) (n : ℕ)
-    → number (λ i. pick g (a i) (b i)) n ≡ cond g (number a n) (number b n)
-value_pick true a b n = refl
-value_pick false a b n = refl
+    by b v p h = grind (arith, nat_tests)
 
 -- bits that are all 0 spell 0
 pub value_false : (n : ℕ) → number (λ i. false) n ≡ 0
 value_false zero = refl
 value_false (suc n) = let e = value_false n in omega (arith, e)
-
-abbrev pub xor2 : Bool → Bool → Bool
-xor2 true b = not b
-xor2 false b = b
 
 -- each bit one position up, and none in the lowest place
 lifted : (ℕ → Bool) → ℕ → Bool

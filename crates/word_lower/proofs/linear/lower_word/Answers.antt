@@ -20,9 +20,8 @@ returns-clause-lowered c =
     let same = c.in_ok-p.ensures.same ∙ ap (program_on (rows_at r)) c.lines.ensures
     ∙ ap (λ (r : Owners). program_on (rows_at r) (program c.args.op r.target.kind)) o in
     lowered_on slots names.free_bit names.free_word c.args.target.now c.args._second.now
-    c.args.op c.args.args.now c.requires.linear meets c.requires.placed t meets.gives.found
-    ss.list ss.at
-    (steps_of c.in_ok-p.p) same c.in_ok-p.ensures.made
+    c.args.op c.args.args.now meets c.requires.placed t meets.gives.found ss.list ss.at
+    c.requires.linear (steps_of c.in_ok-p.p) same c.in_ok-p.ensures.made
 
 pub returns-clause-written : goal.returns-clause-written
 returns-clause-written c =
