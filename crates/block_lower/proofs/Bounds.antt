@@ -77,25 +77,14 @@ names-most (Parity a b) = let h = names-most a in let k = names-most b in
     omega (arith, h, k, length-append (term_names a) (term_names b))
 names-most (Majority a b c) =
     let h = names-most a in let k = names-most b in let j = names-most c in
-    omega (
-      arith,
-      h,
-      k,
-      j,
-      length-append (term_names a ++ term_names b) (term_names c),
-      length-append (term_names a) (term_names b),
-    )
+    let x = length-append (term_names a ++ term_names b) (term_names c) in
+    let y = length-append (term_names a) (term_names b) in omega (arith, h, k, j, x, y)
 
 pub equations-most : (xs : List Equation) → length (equation_names xs)
     ≤ length xs + 2 * sum (map (λ (e : Equation). term_weight e.value) xs)
 equations-most [] = omega arith
 equations-most (e ∷ xs) =
     let h = names-most e.value in let k = equations-most xs in
-    omega (
-      arith,
-      h,
-      k,
-      length-append (term_names e.value) (equation_names xs),
-      sum_by-cons (λ (x : ℕ). x) (term_weight e.value)
-          (map (λ (e : Equation). term_weight e.value) xs),
-    )
+    let l = length-append (term_names e.value) (equation_names xs) in
+    let s = sum_by-cons (λ (x : ℕ). x) (term_weight e.value)
+    (map (λ (e : Equation). term_weight e.value) xs) in omega (arith, h, k, l, s)

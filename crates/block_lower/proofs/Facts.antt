@@ -1,10 +1,11 @@
 -- The names of a block and their places.
-use Rattle.std.proofs.Common.{◌≡◌, ℕ, zero, suc, ◌<◌, true, false, not, List, [], ◌∷◌, Option, Some}
+use Rattle.std.proofs.Common.{◌≡◌, ℕ, zero, suc, ◌<◌, true, false, not, List, [], ◌∷◌, Some, length}
 use Rattle.std.proofs.Common.{refl, sym, ap, ◌∙◌, subst, arith, ◌⊎◌, inl, inr}
-use Rattle.std.proofs.lemmas.Bool.{cases_Bool, not_from_false}
+use Rattle.std.proofs.lemmas.Bool.{cases_Bool, not_from_false, not-true}
+use Rattle.std.proofs.lemmas.List.{length-map}
 use Rattle.op_text.specs.declared.tree.Kind.{Kind}
 use Rattle.op_text.specs.declared.tree.Kind.TheVariants.{Word, Bit}
-use Rattle.op_text.specs.Language.{Block, Visit}
+use Rattle.op_text.specs.Language.{Equation, Block, Visit}
 use Rattle.op_text.specs.Meaning.{width}
 use Rattle.op_text.specs.Rules.{is_among}
 use Rattle.op_text.specs.Scratch.{state_names, word_names}
@@ -13,10 +14,10 @@ use Rattle.loop_ir.specs.Spots.{IsOwn}
 use Rattle.loop_ir.specs.Statements.{Slots, HasKind, holds_kind, BlockMeets, IsPlaced, AreDistinct}
 use Rattle.loop_ir.specs.Statements.{block_reads, read_names, written_names, statement_names}
 use Rattle.loop_ir.specs.Statements.{targets_of}
-use Rattle.loop_ir.specs.Lowered.{slot_spot}
-use Rattle.block_lower.specs.Inputs.{block_inputs}
+use Rattle.loop_ir.specs.Lowered.{slot_spot, IsRowOf}
+use Rattle.block_lower.specs.Inputs.{block_inputs, name_at}
 use Rattle.block_lower.proofs.Names.{name-true, among-left, among-right, among-kept, among-filtered}
-use Rattle.block_lower.proofs.Names.{among-is, AreOnce}
+use Rattle.block_lower.proofs.Names.{among-at, among-is, AreOnce}
 use Rattle.block_lower.proofs.Gathering.{gathered-from, gathered-once}
 use Rattle.block_lower.proofs.Rows.{slot_or, slots-once}
 
@@ -25,8 +26,27 @@ pub record Given (slots : Slots) (free_bit free_word : ℕ) (b : Block) : Type 0
   pub meets : BlockMeets slots b
   pub placed : IsPlaced slots free_bit free_word (Visit b)
 
-pub is-slot : (o : Option Slot) (x : Slot) → o ≡ Some x → slot_or o ≡ x
-is-slot o x e = ap slot_or e
+-- which names are which
+abbrev pub IsState : Block → List ℕ → Type 0
+IsState b x = is_among (state_names b) x ≡ true
+
+abbrev pub IsWord : Block → List ℕ → Type 0
+IsWord b x = is_among (word_names b) x ≡ true
+
+abbrev pub IsTarget : Block → List ℕ → Type 0
+IsTarget b x = is_among (targets_of b.assigns) x ≡ true
+
+abbrev pub IsInput : Block → List ℕ → Type 0
+IsInput b x = is_among (block_inputs b) x ≡ true
+
+abbrev pub IsRead : Block → List ℕ → Type 0
+IsRead b x = is_among (read_names (Visit b)) x ≡ true
+
+abbrev pub IsWritten : Block → List ℕ → Type 0
+IsWritten b x = is_among (written_names (Visit b)) x ≡ true
+
+abbrev pub IsNamed : Block → List ℕ → Type 0
+IsNamed b x = is_among (statement_names (Visit b)) x ≡ true
 
 pub once-distinct : (names : List (List ℕ)) → AreDistinct names → AreOnce names
 once-distinct [] d i j li lj e = absurd (omega arith)
@@ -41,143 +61,128 @@ once-distinct (x ∷ xs) d (suc i) (suc j) li lj e =
 pub inputs-once : (b : Block) → AreOnce (block_inputs b)
 inputs-once b = gathered-once [] (block_reads b) (λ i j li lj e. absurd (omega arith))
 
--- which names are the statement's
-pub is-read : (b : Block) (x : List ℕ) → is_among (block_reads b) x ≡ true
-    → is_among (state_names b) x ≡ false → is_among (read_names (Visit b)) x ≡ true
-is-read b x e f = among-kept (λ name. not (is_among (state_names b) name)) (block_reads b) x e
-    (not_from_false (is_among (state_names b) x) f)
+module _ (b : Block) (x : List ℕ) where
+  pub state-written : IsState b x → IsWritten b x
+  state-written e = among-left (state_names b) (word_names b) x e
 
-pub state-written : (b : Block) (x : List ℕ) → is_among (state_names b) x ≡ true
-    → is_among (written_names (Visit b)) x ≡ true
-state-written b x e = among-left (state_names b) (word_names b) x e
+  pub word-written : IsWord b x → IsWritten b x
+  word-written e = among-right (state_names b) (word_names b) x e
 
-pub word-written : (b : Block) (x : List ℕ) → is_among (word_names b) x ≡ true
-    → is_among (written_names (Visit b)) x ≡ true
-word-written b x e = among-right (state_names b) (word_names b) x e
+  pub written-named : IsWritten b x → IsNamed b x
+  written-named e = among-left (written_names (Visit b)) (read_names (Visit b)) x e
 
-pub written-named : (b : Block) (x : List ℕ) → is_among (written_names (Visit b)) x ≡ true
-    → is_among (statement_names (Visit b)) x ≡ true
-written-named b x e = among-left (written_names (Visit b)) (read_names (Visit b)) x e
+  pub read-named : IsRead b x → IsNamed b x
+  read-named e = among-right (written_names (Visit b)) (read_names (Visit b)) x e
 
-pub read-named : (b : Block) (x : List ℕ) → is_among (read_names (Visit b)) x ≡ true
-    → is_among (statement_names (Visit b)) x ≡ true
-read-named b x e = among-right (written_names (Visit b)) (read_names (Visit b)) x e
+  pub state-named : IsState b x → IsNamed b x
+  state-named e = written-named (state-written e)
 
--- a target is a state or a word
-pub target-is : (b : Block) (x : List ℕ) → is_among (targets_of b.assigns) x ≡ true
-    → (is_among (state_names b) x ≡ true) ⊎ (is_among (word_names b) x ≡ true)
-target-is b x e = elim (cases_Bool (is_among (state_names b) x)) [
-  | inl s ↦ inl s
-  | inr f ↦ inr (among-kept (λ name. not (is_among (state_names b) name)) (targets_of b.assigns) x e
-      (not_from_false (is_among (state_names b) x) f))
-]
+  -- a target is a state or a word
+  pub target-is : IsTarget b x → IsState b x ⊎ IsWord b x
+  target-is e = elim (cases_Bool (is_among (state_names b) x)) [
+    | inl s ↦ inl s
+    | inr f ↦ inr (among-kept (λ name. not (is_among (state_names b) name)) (targets_of b.assigns) x
+        e (not_from_false (is_among (state_names b) x) f))
+  ]
 
-pub target-written : (b : Block) (x : List ℕ) → is_among (targets_of b.assigns) x ≡ true
-    → is_among (written_names (Visit b)) x ≡ true
-target-written b x e = elim (target-is b x e) [
-  | inl s ↦ state-written b x s
-  | inr w ↦ word-written b x w
-]
+  pub target-written : IsTarget b x → IsWritten b x
+  target-written e = elim (target-is e) [ inl s ↦ state-written s | inr w ↦ word-written w ]
 
-pub word-target : (b : Block) (x : List ℕ) → is_among (word_names b) x ≡ true
-    → (is_among (targets_of b.assigns) x ≡ true) × (is_among (state_names b) x ≡ false)
-word-target b x e =
-    let h = among-filtered (λ name. not (is_among (state_names b) name)) (targets_of b.assigns) x e
-    in (
-      h.0,
-      elim (cases_Bool (is_among (state_names b) x)) [
-        | inl t ↦
-            (let k : not (is_among (state_names b) x) ≡ true = h.1 in
-            let m : not true ≡ true = rw t at k in absurd (cc))
-        | inr f ↦ f
-      ],
-    )
+  pub word-target : IsWord b x → IsTarget b x × (is_among (state_names b) x ≡ false)
+  word-target e =
+      let h = among-filtered (λ name. not (is_among (state_names b) name)) (targets_of b.assigns) x
+      e in
+      (h.0, not-true (is_among (state_names b) x) h.1)
 
-pub input-read : (b : Block) (x : List ℕ) → is_among (block_inputs b) x ≡ true
-    → is_among (block_reads b) x ≡ true
-input-read b x e = elim (gathered-from [] (block_reads b) x e) [ inl h ↦ absurd (cc) | inr h ↦ h ]
+  -- an input is a state, or one that is read as it stands
+  pub input-is : IsInput b x → IsState b x ⊎ IsRead b x
+  input-is e = elim (cases_Bool (is_among (state_names b) x)) [
+    | inl s ↦ inl s
+    | inr f ↦ elim (gathered-from [] (block_reads b) x e) [
+      | inl h ↦ absurd (cc)
+      | inr h ↦ inr (among-kept (λ name. not (is_among (state_names b) name)) (block_reads b) x h
+          (not_from_false (is_among (state_names b) x) f))
+    ]
+  ]
 
--- an input is a state, or one that is read as it stands
-pub input-is : (b : Block) (x : List ℕ) → is_among (block_inputs b) x ≡ true
-    → (is_among (state_names b) x ≡ true) ⊎ (is_among (read_names (Visit b)) x ≡ true)
-input-is b x e = elim (cases_Bool (is_among (state_names b) x)) [
-  | inl s ↦ inl s
-  | inr f ↦ inr (is-read b x (input-read b x e) f)
-]
+  pub input-named : IsInput b x → IsNamed b x
+  input-named e = elim (input-is e) [ inl s ↦ state-named s | inr r ↦ read-named r ]
 
-pub input-named : (b : Block) (x : List ℕ) → is_among (block_inputs b) x ≡ true
-    → is_among (statement_names (Visit b)) x ≡ true
-input-named b x e = elim (input-is b x e) [
-  | inl s ↦ written-named b x (state-written b x s)
-  | inr r ↦ read-named b x r
-]
+-- the targets and the inputs by their numbers
+module _ (b : Block) where
+  pub targets-long : length (targets_of b.assigns) ≡ length b.assigns
+  targets-long = length-map b.assigns (λ (e : Equation). e.name)
 
--- a name that is read as it stands is neither a state nor a target
-pub read-is : {slots : Slots} {fb fw : ℕ} {b : Block} → Given slots fb fw b → (x : List ℕ)
-    → is_among (read_names (Visit b)) x ≡ true → (is_among (state_names b) x ≡ false)
-    × (is_among (targets_of b.assigns) x ≡ false)
-read-is {b = b} g x e =
-    let h = among-filtered (λ name. not (is_among (state_names b) name)) (block_reads b) x e in
-    let other : is_among (state_names b) x ≡ false =
-    elim (cases_Bool (is_among (state_names b) x)) [
-      | inl t ↦
-          (let k : not (is_among (state_names b) x) ≡ true = h.1 in
-          let m : not true ≡ true = rw t at k in absurd (cc))
-      | inr f ↦ f
-    ] in (
-      other,
-      elim (cases_Bool (is_among (targets_of b.assigns) x)) [
-        | inl t ↦ elim (target-is b x t) [
-          | inl s ↦ absurd (cc)
-          | inr w ↦ (let f = g.meets.fresh x w in let r = h.0 in absurd (cc))
-        ]
-        | inr f ↦ f
-      ],
-    )
+  abbrev pub target : ℕ → List ℕ
+  target j = name_at (targets_of b.assigns) j
 
--- a name's place
-pub found : {slots : Slots} {fb fw : ℕ} {b : Block} → Given slots fb fw b → (x : List ℕ)
-    → is_among (statement_names (Visit b)) x ≡ true → slots x ≡ Some (slot_or (slots x))
-found {slots = slots} g x e = let h = g.placed.there x e in
-    h.1 ∙ ap Some (sym (is-slot (slots x) h.0 h.1))
+  abbrev pub input : ℕ → List ℕ
+  input k = name_at (block_inputs b) k
 
-pub held-kind : {slots : Slots} {fb fw : ℕ} {b : Block} → Given slots fb fw b → (x : List ℕ)
-    → is_among (statement_names (Visit b)) x ≡ true
-    → holds_kind (slot_or (slots x)).space (slot_or (slots x)).kind ≡ true
-held-kind {slots = slots} g x e = let h = g.placed.there x e in
-    subst (λ (y : Slot). holds_kind y.space y.kind ≡ true) (sym (is-slot (slots x) h.0 h.1)) h.2
+  pub target-among : (j : ℕ) → j < length b.assigns → IsTarget b (target j)
+  target-among j l = among-at (targets_of b.assigns) j (omega (arith, targets-long))
 
-kind-is : (slots : Slots) (x : List ℕ) (k : Kind) → HasKind slots x k → (slot_or (slots x)).kind ≡ k
-kind-is slots x k h = ap (λ (y : Slot). y.kind) (is-slot (slots x) h.slot h.found) ∙ h.kind
+  pub target-named : (j : ℕ) → j < length b.assigns → IsNamed b (target j)
+  target-named j l = written-named b (target j) (target-written b (target j) (target-among j l))
 
-pub state-kind : {slots : Slots} {fb fw : ℕ} {b : Block} → Given slots fb fw b → (x : List ℕ)
-    → is_among (state_names b) x ≡ true → (slot_or (slots x)).kind ≡ Bit
-state-kind {slots = slots} g x e = kind-is slots x Bit (g.meets.bits x e)
+  pub input-at : (k : ℕ) → k < length (block_inputs b) → IsNamed b (input k)
+  input-at k l = input-named b (input k) (among-at (block_inputs b) k l)
 
-pub word-kind : {slots : Slots} {fb fw : ℕ} {b : Block} → Given slots fb fw b → (x : List ℕ)
-    → is_among (word_names b) x ≡ true → (slot_or (slots x)).kind ≡ Word
-word-kind {slots = slots} g x e = kind-is slots x Word (g.meets.words x e)
+module _ {slots : Slots} {fb fw : ℕ} {b : Block} (g : Given slots fb fw b) where
+  -- a name that is read as it stands is neither a state nor a target
+  pub read-is : (x : List ℕ) → IsRead b x
+      → (is_among (state_names b) x ≡ false) × (is_among (targets_of b.assigns) x ≡ false)
+  read-is x e =
+      let h = among-filtered (λ name. not (is_among (state_names b) name)) (block_reads b) x e in
+      let other = not-true (is_among (state_names b) x) h.1 in (
+        other,
+        elim (cases_Bool (is_among (targets_of b.assigns) x)) [
+          | inl t ↦ elim (target-is b x t) [
+            | inl s ↦ absurd (cc)
+            | inr w ↦ (let f = g.meets.fresh x w in let r = h.0 in absurd (cc))
+          ]
+          | inr f ↦ f
+        ],
+      )
 
-pub same-place : {slots : Slots} {fb fw : ℕ} {b : Block} → Given slots fb fw b → (x y : List ℕ)
-    → is_among (statement_names (Visit b)) x ≡ true → is_among (statement_names (Visit b)) y ≡ true
-    → (slot_or (slots x)).space ≡ (slot_or (slots y)).space
-    → (slot_or (slots x)).which ≡ (slot_or (slots y)).which → x ≡ y
-same-place {slots = slots} g x y ex ey s w = name-true x y
-    (g.placed.differ x y (slot_or (slots x)) (slot_or (slots y)) ex ey (found g x ex) (found g y ey)
-    s w)
+  -- a name's place
+  pub found : (x : List ℕ) → IsNamed b x → slots x ≡ Some (slot_or (slots x))
+  found x e = let h = g.placed.there x e in h.1 ∙ ap Some (sym (ap slot_or h.1))
 
--- a row is of one name, at one index
-pub rows-once : {slots : Slots} {fb fw : ℕ} {b : Block} → Given slots fb fw b
-    → (n : ℕ) (x y : List ℕ) (v w : ℕ) → is_among (statement_names (Visit b)) x ≡ true
-    → is_among (statement_names (Visit b)) y ≡ true
-    → v < width n (slot_or (slots x)).kind → w < width n (slot_or (slots y)).kind
-    → slot_spot n (slot_or (slots x)) v ≡ slot_spot n (slot_or (slots y)) w → (x ≡ y) × (v ≡ w)
-rows-once {slots = slots} g n x y v w ex ey lv lw e =
-    let h = slots-once n (slot_or (slots x)) (slot_or (slots y)) v w (held-kind g x ex)
-    (held-kind g y ey) lv lw e in
-    (same-place g x y ex ey h.0 h.1, h.2)
+  pub held-kind : (x : List ℕ) → IsNamed b x
+      → holds_kind (slot_or (slots x)).space (slot_or (slots x)).kind ≡ true
+  held-kind x e = let h = g.placed.there x e in
+      subst (λ (y : Slot). holds_kind y.space y.kind ≡ true) (sym (ap slot_or h.1)) h.2
 
-pub own-row : {slots : Slots} {fb fw : ℕ} {b : Block} → Given slots fb fw b → (x : List ℕ)
-    → is_among (written_names (Visit b)) x ≡ true → IsOwn (slot_or (slots x)).space
-own-row {slots = slots} {b = b} g x e = g.placed.own x (slot_or (slots x)) e
-    (found g x (written-named b x e))
+  kind-is : (x : List ℕ) (k : Kind) → HasKind slots x k → (slot_or (slots x)).kind ≡ k
+  kind-is x k h = ap (λ o. (slot_or o).kind) h.found ∙ h.kind
+
+  pub state-kind : (x : List ℕ) → IsState b x → (slot_or (slots x)).kind ≡ Bit
+  state-kind x e = kind-is x Bit (g.meets.bits x e)
+
+  pub word-kind : (x : List ℕ) → IsWord b x → (slot_or (slots x)).kind ≡ Word
+  word-kind x e = kind-is x Word (g.meets.words x e)
+
+  pub same-place : (x y : List ℕ) → IsNamed b x → IsNamed b y
+      → (slot_or (slots x)).space ≡ (slot_or (slots y)).space
+      → (slot_or (slots x)).which ≡ (slot_or (slots y)).which → x ≡ y
+  same-place x y ex ey s w = name-true x y (g.placed.differ x y (slot_or (slots x))
+      (slot_or (slots y)) ex ey (found x ex) (found y ey) s w)
+
+  -- a row is of one name, at one index
+  pub rows-once : (n : ℕ) (x y : List ℕ) (v w : ℕ) → IsNamed b x → IsNamed b y
+      → v < width n (slot_or (slots x)).kind → w < width n (slot_or (slots y)).kind
+      → slot_spot n (slot_or (slots x)) v ≡ slot_spot n (slot_or (slots y)) w → (x ≡ y) × (v ≡ w)
+  rows-once n x y v w ex ey lv lw e =
+      let h = slots-once n (slot_or (slots x)) (slot_or (slots y)) v w (held-kind x ex)
+      (held-kind y ey) lv lw e in
+      (same-place x y ex ey h.0 h.1, h.2)
+
+  pub own-row : (x : List ℕ) → IsWritten b x → IsOwn (slot_or (slots x)).space
+  own-row x e = g.placed.own x (slot_or (slots x)) e (found x (written-named b x e))
+
+  -- a name's row at an index is one of its rows
+  pub row-is : (names : List (List ℕ)) (n v : ℕ) (x : List ℕ)
+      → v < width n (slot_or (slots x)).kind → is_among names x ≡ true → IsNamed b x
+      → IsRowOf n slots names (slot_spot n (slot_or (slots x)) v)
+  row-is names n v x lt e s = (x, slot_or (slots x), v, e, found x s, lt, refl)

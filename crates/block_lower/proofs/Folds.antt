@@ -1,7 +1,7 @@
 -- What a block's visits do to the names.
 use Rattle.std.proofs.Common.{◌≡◌, ℕ, zero, suc, ◌+◌, ◌-◌, ◌<◌, Bool, true, false, List, [], ◌∷◌}
 use Rattle.std.proofs.Common.{◌++◌, map, length, replicate, bytes_eq, refl, sym, ap, ◌∙◌, arith}
-use Rattle.std.proofs.Common.{◌⊎◌, inl, inr}
+use Rattle.std.proofs.Common.{◌⊎◌, inl, inr, slice_get, Some}
 use Rattle.std.proofs.lemmas.Bool.{or_cases, or_parts, cond-true, cond-false}
 use Rattle.op_text.specs.declared.tree.Kind.TheVariants.{Word, Bit}
 use Rattle.op_text.specs.declared.tree.State.{State}
@@ -44,6 +44,12 @@ abbrev pub equation_at : Equation → ℕ → List Equation → Equation
 equation_at d k [] = d
 equation_at d zero (e ∷ es) = e
 equation_at d (suc k) (e ∷ es) = equation_at d k es
+
+pub equation-got : (d : Equation) (es : List Equation) (j : ℕ) → j < length es
+    → slice_get es j ≡ Some (equation_at d j es)
+equation-got d [] j l = absurd (omega arith)
+equation-got d (e ∷ es) zero l = refl
+equation-got d (e ∷ es) (suc j) l = equation-got d es j (omega arith)
 
 -- the target of an assignment has its value written
 pub assigned-at : (r : List ℕ → Bool) (p : ℕ) (names : List ℕ

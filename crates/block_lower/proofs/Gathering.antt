@@ -1,7 +1,6 @@
 -- Names gathered once each, and their numbers.
 use Rattle.std.proofs.Common.{◌≡◌, ◌≢◌, ℕ, ◌+◌, ◌≤◌, true, false, cond, List, [], ◌∷◌, ◌++◌, length}
-use Rattle.std.proofs.Common.{refl, sym, ap, ◌∙◌, subst, arith, ◌⊎◌, inl, inr, bytes_eq, Some}
-use Rattle.std.proofs.Common.{is_some}
+use Rattle.std.proofs.Common.{sym, ap, ◌∙◌, subst, arith, ◌⊎◌, inl, inr, bytes_eq, Some, is_some}
 use Rattle.std.proofs.lemmas.Bool.{or_cases, or_left, or_right, cases_Bool, cases_lt, cond-true}
 use Rattle.std.proofs.lemmas.Bool.{cond-false, cond_both, false_from_ne_true}
 use Rattle.std.proofs.lemmas.List.{get_or_append_left, get_or_push, length_push}
@@ -11,12 +10,6 @@ use Rattle.aoi_graph.specs.Blocks.{Numbers}
 use Rattle.block_lower.specs.Inputs.{gathered, AreNumbered}
 use Rattle.block_lower.proofs.Names.{name-true, name-same, cases_name, among-is, among-left}
 use Rattle.block_lower.proofs.Names.{among-right, among-either, among-here, among-one, AreOnce}
-
-pub gathered-append : (known xs ys : List (List ℕ))
-    → gathered known (xs ++ ys) ≡ gathered (gathered known xs) ys
-gathered-append known [] ys = refl
-gathered-append known (x ∷ xs) ys = gathered-append
-    (cond (is_among known x) known (known ++ x ∷ [])) xs ys
 
 pub gathered-length : (known xs : List (List ℕ))
     → length (gathered known xs) ≤ length known + length xs

@@ -1,9 +1,10 @@
 -- The graph of a block is made for its inputs.
-use Rattle.std.proofs.Common.{◌≡◌, ℕ, zero, suc, ◌+◌, ◌^◌, ◌<◌, ◌≤◌, Bool, true, not, List}
-use Rattle.std.proofs.Common.{[], ◌∷◌, ◌++◌, map, filter, length, refl, sym, ap, ◌∙◌, arith, Some}
-use Rattle.std.proofs.Common.{is_some, slice_get, slice_index, length-append}
+use Rattle.std.proofs.Common.{◌≡◌, ℕ, zero, suc, ◌+◌, ◌^◌, ◌<◌, ◌≤◌, Bool, true, not, List, [], ◌∷◌}
+use Rattle.std.proofs.Common.{◌++◌, map, filter, length, refl, sym, ap, ◌∙◌, arith, Some, is_some}
+use Rattle.std.proofs.Common.{slice_get, slice_index, length-append}
 use Rattle.std.proofs.lemmas.Bool.{and_parts}
 use Rattle.std.proofs.lemmas.List.{length-map}
+use Rattle.std.proofs.lemmas.Option.{slice_get_within}
 use Rattle.std.proofs.lemmas.List.Sums.{length-filter, count_by-le-length}
 use Rattle.op_text.specs.declared.tree.State.{State}
 use Rattle.op_text.specs.declared.tree.Assign.{Assign}
@@ -32,32 +33,29 @@ equation-at [] j e h = absurd (cc)
 equation-at (x ∷ xs) zero e h = (x, refl, (cc))
 equation-at (x ∷ xs) (suc j) e h = equation-at xs j e h
 
-slice-below : (xs : List Assign) (j : ℕ) (a : Assign) → slice_get xs j ≡ Some a → j < length xs
-slice-below [] j a h = absurd (cc)
-slice-below (x ∷ xs) zero a h = omega arith
-slice-below (x ∷ xs) (suc j) a h = let l = slice-below xs j a h in omega (arith, l)
-
-module _ (slots : Slots) (down : Bool) (states : List State) (lets assigns : List Assign)
+module _ {slots : Slots} {down : Bool} {states : List State} (lets assigns : List Assign)
     (meets : BlockMeets slots (block_from down states lets assigns)) where
-  names-few : length (equation_names (map equation lets) ++ equation_names (map equation assigns))
-      ≤ 72
+  abbrev inputs : List (List ℕ)
+  inputs = block_inputs (block_from down states lets assigns)
+
+  -- the names that are read
+  abbrev let_names : List (List ℕ)
+  let_names = equation_names (map equation lets)
+
+  abbrev read_names : List (List ℕ)
+  read_names = equation_names (map equation assigns)
+
+  abbrev is_other : List ℕ → Bool
+  is_other name = not (is_among (targets_of (map equation lets)) name)
+
+  names-few : length (let_names ++ read_names) ≤ 72
   names-few =
       let l = equations-most (map equation lets) in
       let a = equations-most (map equation assigns) in
       let w = meets.weight in let m = meets.lets in let k = meets.assigns in
-      omega (
-        arith,
-        l,
-        a,
-        w,
-        m,
-        k,
-        length-append (equation_names (map equation lets))
-            (equation_names (map equation assigns)),
-      )
+      omega (arith, l, a, w, m, k, length-append let_names read_names)
 
-  pub room : length (equation_names (map equation lets) ++ equation_names (map equation assigns))
-      < 256
+  pub room : length (let_names ++ read_names) < 256
   room = let h = names-few in omega (arith, h)
 
   pub parts-few : all_parts lets + all_parts assigns < 2 ^ 28
@@ -68,50 +66,47 @@ module _ (slots : Slots) (down : Bool) (states : List State) (lets assigns : Lis
       let a : length assigns ≤ 8 = omega (arith, length-map assigns equation, meets.assigns) in
       omega (arith, h, w, l, a)
 
-  pub inputs-few : length (block_inputs (block_from down states lets assigns)) ≤ 72
+  pub inputs-few : length inputs ≤ 72
   inputs-few =
-      let all = equation_names (map equation lets) ++ equation_names (map equation assigns) in
-      let p = λ (name : List ℕ). not (is_among (targets_of (map equation lets)) name) in
-      let g = gathered-length [] (filter p all) in
-      let f = length-filter p all in let k = count_by-le-length p all in let n = names-few in
-      omega (arith, g, f, k, n)
+      let all = let_names ++ read_names in
+      omega (
+        arith,
+        gathered-length [] (filter is_other all),
+        length-filter is_other all,
+        count_by-le-length is_other all,
+        names-few,
+      )
 
   knows : (names : List (List ℕ)) (numbers : Numbers)
-      → AreNumbered (block_inputs (block_from down states lets assigns)) numbers
+      → AreNumbered inputs numbers
       → ((name : List ℕ) → is_among names name ≡ true
-      → is_among (equation_names (map equation lets) ++ equation_names (map equation assigns)) name
-      ≡ true) → Knows (is_readable slots (map equation lets)) (is_input numbers) names
+      → is_among (let_names ++ read_names) name ≡ true)
+      → Knows (is_readable slots (map equation lets)) (is_input numbers) names
   knows names numbers num inside name e r =
-      let all = equation_names (map equation lets) ++ equation_names (map equation assigns) in
-      let p = λ (name : List ℕ). not (is_among (targets_of (map equation lets)) name) in
-      num.some name ∙ gathered-all [] (filter p all) name
-      (among-kept p all name (inside name e) (and_parts (is_some (slots name)) (p name) r).1)
+      let all = let_names ++ read_names in
+      num.some name ∙ gathered-all [] (filter is_other all) name (among-kept is_other all name
+      (inside name e) (and_parts (is_some (slots name)) (is_other name) r).1)
 
-  pub reads-inputs : (numbers : Numbers)
-      → AreNumbered (block_inputs (block_from down states lets assigns)) numbers
+  reads-inputs : (numbers : Numbers) → AreNumbered inputs numbers
       → BlockReads (is_input numbers) lets assigns
   reads-inputs numbers num =
-      let l = equation_names (map equation lets) in let a = equation_names (map equation assigns) in
       block-reads (is_readable slots (map equation lets)) (is_input numbers) lets assigns meets.meet
-      (knows l numbers num (λ name e. among-left l a name e))
-      (knows a numbers num (λ name e. among-right l a name e))
+      (knows let_names numbers num (λ name e. among-left let_names read_names name e))
+      (knows read_names numbers num (λ name e. among-right let_names read_names name e))
 
-  module _ (numbers : Numbers) (num : AreNumbered
-      (block_inputs (block_from down states lets assigns)) numbers) (nodes : List AoiNode)
+  module _ (numbers : Numbers) (num : AreNumbered inputs numbers) (nodes : List AoiNode)
       (held : AreHeld numbers nodes) where
-    has-inputs : (limit : ℕ) → length (block_inputs (block_from down states lets assigns)) ≤ limit
-        → (k : ℕ) → k < length nodes → HasInput limit (aoi_at nodes k)
+    has-inputs : (limit : ℕ) → length inputs ≤ limit → (k : ℕ) → k < length nodes
+        → HasInput limit (aoi_at nodes k)
     has-inputs limit most = held-inputs numbers limit nodes (λ name i e.
         let l = (num.place name i e).0 in omega (arith, l, most)) held
 
     pub inputs-below : (k : ℕ) → k < length nodes → HasInput 255 (aoi_at nodes k)
     inputs-below = has-inputs 255 (let h = inputs-few in omega (arith, h))
 
-    pub inputs-most : (count : ℕ) → IsInputCount nodes count
-        → count ≤ length (block_inputs (block_from down states lets assigns))
-    inputs-most count c = count-most nodes count
-        (length (block_inputs (block_from down states lets assigns))) c
-        (has-inputs (length (block_inputs (block_from down states lets assigns))) (omega arith))
+    pub inputs-most : (count : ℕ) → IsInputCount nodes count → count ≤ length inputs
+    inputs-most count c = count-most nodes count (length inputs) c
+        (has-inputs (length inputs) (omega arith))
 
     -- the values of the outputs through all graphs
     pub output-values : (gates : List ℕ) (first last : Graph) (outs made : List Lit)
@@ -123,13 +118,12 @@ module _ (slots : Slots) (down : Bool) (states : List State) (lets assigns : Lis
         → KeepsOutputs first outs last made → length outs ≡ length gates
         → length gates ≡ length assigns
         → (env : List ℕ → Bool) (v : ℕ → Bool)
-        → ((k : ℕ) → k < length (block_inputs (block_from down states lets assigns))
-        → v k ≡ env (name_at (block_inputs (block_from down states lets assigns)) k))
+        → ((k : ℕ) → k < length inputs → v k ≡ env (name_at inputs k))
         → (j : ℕ) (e : Equation) → slice_get (map equation assigns) j ≡ Some e
         → value last v (lit_at made j) ≡ term_bit (with_lets env (map equation lets)) e.value
     output-values gates first last outs made built through keeps long all env v same j e at =
         let a = equation-at assigns j e at in
-        let below : j < length assigns = slice-below assigns j a.0 a.1 in
+        let below : j < length assigns = slice_get_within assigns j a.0 a.1 in
         keeps.values v j (omega (arith, below))
         ∙ through v j (omega (arith, below))
         ∙ built v env (reads-inputs numbers num) (λ name i h. let p = num.place name i h in

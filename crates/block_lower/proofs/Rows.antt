@@ -1,20 +1,20 @@
 -- The rows of places.
 use Rattle.std.proofs.Common.{◌≡◌, ℕ, zero, suc, ◌+◌, ◌-◌, ◌*◌, ◌<◌, Bool, true, false, cond, List}
-use Rattle.std.proofs.Common.{[], ◌∷◌, length, Option, Some, None, refl, ap, ◌∙◌, arith}
+use Rattle.std.proofs.Common.{[], ◌∷◌, map, length, Option, Some, None, refl, sym, ap, ◌∙◌, arith}
 use Rattle.op_text.specs.declared.tree.Kind.{Kind}
 use Rattle.op_text.specs.declared.tree.Kind.TheVariants.{Word, Bit}
 use Rattle.op_text.specs.Meaning.{width}
 use Rattle.loop_ir.specs.declared.ir.Space.{Space}
 use Rattle.loop_ir.specs.declared.ir.Space.TheVariants.{Result, Source, ScratchBit, ScratchWord}
 use Rattle.loop_ir.specs.declared.ir.Space.TheVariants.{Cells}
+use Rattle.loop_ir.specs.declared.ir.Place.{Place}
 use Rattle.loop_ir.specs.declared.names.Slot.{Slot}
 use Rattle.loop_ir.specs.Loops.{sub_value}
 use Rattle.loop_ir.specs.Spots.{Spot, spot_in, spot_at, nth_place}
 use Rattle.loop_ir.specs.Statements.{Slots, holds_kind}
 use Rattle.loop_ir.specs.Lowered.{slot_spot}
-use Rattle.loop_laws.proofs.Placed.{space_other}
 use Rattle.block_lower.specs.Inputs.{name_at}
-use Rattle.block_lower.specs.Form.{kind_sub, place_of, places_of}
+use Rattle.block_lower.specs.Form.{kind_sub, place_of}
 
 abbrev pub slot_or : Option Slot → Slot
 slot_or None = record { space = Source; which = 0; kind = Bit }
@@ -63,17 +63,12 @@ pub place-row : (n i : ℕ) (down : Bool) (o : Option Slot)
 place-row n i down None = refl
 place-row n i down (Some x) = ap (λ v. spot_in n x.space x.which v) (sub-is n i down x.kind)
 
-pub nth-place : (slots : Slots) (down : Bool) (names : List (List ℕ)) (k : ℕ) → k < length names
-    → nth_place (places_of slots down names) k ≡ place_of down (slots (name_at names k))
-nth-place slots down [] k l = absurd (omega arith)
-nth-place slots down (x ∷ xs) zero l = refl
-nth-place slots down (x ∷ xs) (suc k) l = nth-place slots down xs k (omega arith)
-
-pub nth-row : (n i : ℕ) (slots : Slots) (down : Bool) (names : List (List ℕ)) (k : ℕ)
-    → k < length names → spot_at n i 0 [] (nth_place (places_of slots down names) k)
-    ≡ named_row n slots (position down n i) (name_at names k)
-nth-row n i slots down names k l = ap (spot_at n i 0 []) (nth-place slots down names k l)
-    ∙ place-row n i down (slots (name_at names k))
+-- place k of those of names
+pub nth-map : (f : List ℕ → Place) (names : List (List ℕ)) (k : ℕ) → k < length names
+    → nth_place (map f names) k ≡ f (name_at names k)
+nth-map f [] k l = absurd (omega arith)
+nth-map f (x ∷ xs) zero l = refl
+nth-map f (x ∷ xs) (suc k) l = nth-map f xs k (omega arith)
 
 word-once : (n a b v w : ℕ) → v < n → w < n → a * n + v ≡ b * n + w → (a ≡ b) × (v ≡ w)
 word-once n zero zero v w lv lw e = (refl, omega (arith, e))
@@ -82,77 +77,36 @@ word-once n (suc a) zero v w lv lw e = absurd (omega (arith, e))
 word-once n (suc a) (suc b) v w lv lw e = let h = word-once n a b v w lv lw (omega (arith, e)) in
     (ap suc h.0, h.1)
 
-which-is : (p q : Spot) → p ≡ q → p.which ≡ q.which
-which-is p q e = ap (λ (s : Spot). s.which) e
+-- a row lies in its space
+pub spot-space : (n : ℕ) (s : Space) (w v : ℕ) → (spot_in n s w v).space ≡ s
+spot-space n Result w v = refl
+spot-space n Source w v = refl
+spot-space n ScratchBit w v = refl
+spot-space n ScratchWord w v = refl
+spot-space n Cells w v = refl
 
-index-is : (p q : Spot) → p ≡ q → p.index ≡ q.index
-index-is p q e = ap (λ (s : Spot). s.index) e
-
-bits-once : (a b : ℕ) (k l : Kind) (n v w : ℕ) → holds_kind ScratchBit k ≡ true
-    → holds_kind ScratchBit l ≡ true → v < width n k → w < width n l → a ≡ b → (a ≡ b) × (v ≡ w)
-bits-once a b Word l n v w hk hl lv lw e = absurd (cc)
-bits-once a b Bit Word n v w hk hl lv lw e = absurd (cc)
-bits-once a b Bit Bit n v w hk hl lv lw e = (e, omega arith)
-
-words-once : (a b : ℕ) (k l : Kind) (n v w : ℕ) → holds_kind ScratchWord k ≡ true
-    → holds_kind ScratchWord l ≡ true → v < width n k → w < width n l → a * n + v ≡ b * n + w
+-- two rows of values of one space are the same only as the same row of one place
+one-space : (n : ℕ) (s : Space) (a b : ℕ) (k l : Kind) (v w : ℕ) → holds_kind s k ≡ true
+    → holds_kind s l ≡ true → v < width n k → w < width n l → spot_in n s a v ≡ spot_in n s b w
     → (a ≡ b) × (v ≡ w)
-words-once a b Bit l n v w hk hl lv lw e = absurd (cc)
-words-once a b Word Bit n v w hk hl lv lw e = absurd (cc)
-words-once a b Word Word n v w hk hl lv lw e = word-once n a b v w lv lw e
-
--- two rows of values are the same only as the same row of one place
-spots-once : (n : ℕ) (s t : Space) (a b : ℕ) (k l : Kind) (v w : ℕ) → holds_kind s k ≡ true
-    → holds_kind t l ≡ true → v < width n k → w < width n l → spot_in n s a v ≡ spot_in n t b w
-    → (s ≡ t) × (a ≡ b) × (v ≡ w)
-spots-once n Result Result a b k l v w hk hl lv lw e = (
-  refl,
-  which-is (spot_in n Result a v) (spot_in n Result b w) e,
-  index-is (spot_in n Result a v) (spot_in n Result b w) e,
-)
-spots-once n Source Source a b k l v w hk hl lv lw e = (
-  refl,
-  which-is (spot_in n Source a v) (spot_in n Source b w) e,
-  index-is (spot_in n Source a v) (spot_in n Source b w) e,
-)
-spots-once n ScratchBit ScratchBit a b k l v w hk hl lv lw e = let h =
-    bits-once a b k l n v w hk hl lv lw (which-is (spot_in n ScratchBit a v)
-    (spot_in n ScratchBit b w) e) in (refl, h.0, h.1)
-spots-once n ScratchWord ScratchWord a b k l v w hk hl lv lw e = let h =
-    words-once a b k l n v w hk hl lv lw (index-is (spot_in n ScratchWord a v)
-    (spot_in n ScratchWord b w) e) in (refl, h.0, h.1)
-spots-once n Result Source a b k l v w hk hl lv lw e =
-    absurd (space_other Result Source a v b w (λ h. cc) e)
-spots-once n Result ScratchBit a b k l v w hk hl lv lw e =
-    absurd (space_other Result ScratchBit a v b 0 (λ h. cc) e)
-spots-once n Result ScratchWord a b k l v w hk hl lv lw e =
-    absurd (space_other Result ScratchWord a v 0 (b * n + w) (λ h. cc) e)
-spots-once n Source Result a b k l v w hk hl lv lw e =
-    absurd (space_other Source Result a v b w (λ h. cc) e)
-spots-once n Source ScratchBit a b k l v w hk hl lv lw e =
-    absurd (space_other Source ScratchBit a v b 0 (λ h. cc) e)
-spots-once n Source ScratchWord a b k l v w hk hl lv lw e =
-    absurd (space_other Source ScratchWord a v 0 (b * n + w) (λ h. cc) e)
-spots-once n ScratchBit Result a b k l v w hk hl lv lw e =
-    absurd (space_other ScratchBit Result a 0 b w (λ h. cc) e)
-spots-once n ScratchBit Source a b k l v w hk hl lv lw e =
-    absurd (space_other ScratchBit Source a 0 b w (λ h. cc) e)
-spots-once n ScratchBit ScratchWord a b k l v w hk hl lv lw e =
-    absurd (space_other ScratchBit ScratchWord a 0 0 (b * n + w) (λ h. cc) e)
-spots-once n ScratchWord Result a b k l v w hk hl lv lw e =
-    absurd (space_other ScratchWord Result 0 (a * n + v) b w (λ h. cc) e)
-spots-once n ScratchWord Source a b k l v w hk hl lv lw e =
-    absurd (space_other ScratchWord Source 0 (a * n + v) b w (λ h. cc) e)
-spots-once n ScratchWord ScratchBit a b k l v w hk hl lv lw e =
-    absurd (space_other ScratchWord ScratchBit 0 (a * n + v) b 0 (λ h. cc) e)
-spots-once n Cells t a b k l v w hk hl lv lw e = absurd (cc)
-spots-once n Result Cells a b k l v w hk hl lv lw e = absurd (cc)
-spots-once n Source Cells a b k l v w hk hl lv lw e = absurd (cc)
-spots-once n ScratchBit Cells a b k l v w hk hl lv lw e = absurd (cc)
-spots-once n ScratchWord Cells a b k l v w hk hl lv lw e = absurd (cc)
+one-space n Result a b k l v w hk hl lv lw e = (ap (λ (q : Spot). q.which) e, ap (λ (q : Spot). q.index) e)
+one-space n Source a b k l v w hk hl lv lw e = (ap (λ (q : Spot). q.which) e, ap (λ (q : Spot). q.index) e)
+one-space n ScratchBit a b Word l v w hk hl lv lw e = absurd (cc)
+one-space n ScratchBit a b Bit Word v w hk hl lv lw e = absurd (cc)
+one-space n ScratchBit a b Bit Bit v w hk hl lv lw e = (ap (λ (q : Spot). q.which) e, omega arith)
+one-space n ScratchWord a b Bit l v w hk hl lv lw e = absurd (cc)
+one-space n ScratchWord a b Word Bit v w hk hl lv lw e = absurd (cc)
+one-space n ScratchWord a b Word Word v w hk hl lv lw e = word-once n a b v w lv lw
+    (ap (λ (q : Spot). q.index) e)
+one-space n Cells a b k l v w hk hl lv lw e = absurd (cc)
 
 pub slots-once : (n : ℕ) (x y : Slot) (v w : ℕ) → holds_kind x.space x.kind ≡ true
     → holds_kind y.space y.kind ≡ true → v < width n x.kind → w < width n y.kind
     → slot_spot n x v ≡ slot_spot n y w → (x.space ≡ y.space) × (x.which ≡ y.which) × (v ≡ w)
-slots-once n x y v w hx hy lv lw e = spots-once n x.space y.space x.which y.which x.kind y.kind v w
-    hx hy lv lw e
+slots-once n x y v w hx hy lv lw e =
+    let s : x.space ≡ y.space = sym (spot-space n x.space x.which v)
+    ∙ ap (λ (q : Spot). q.space) e ∙ spot-space n y.space y.which w in
+    let h = one-space n x.space x.which y.which x.kind y.kind v w hx
+    (ap (λ t. holds_kind t y.kind) s ∙ hy) lv lw
+    (e ∙ ap (λ t. spot_in n t y.which w) (sym s)) in
+    (s, h.0, h.1)

@@ -1,142 +1,140 @@
--- The rows after the states have their starts.
+-- The states get their starts where they stand.
 use Rattle.std.proofs.Common.{◌≡◌, ℕ, ◌<◌, Bool, true, false, List, [], ◌∷◌, ◌++◌, map, length}
-use Rattle.std.proofs.Common.{bytes_eq, refl, sym, ap, ◌∙◌, subst, arith, ◌⊎◌, inl, inr}
+use Rattle.std.proofs.Common.{bytes_eq, refl, sym, ap, ◌∙◌, arith, ◌⊎◌, inl, inr}
 use Rattle.std.proofs.lemmas.Bool.{or_cases, or_left, or_right}
 use Rattle.std.proofs.lemmas.List.{length-replicate}
 use Rattle.mig_graph.specs.Graph.{values_from}
+use Rattle.mig_graph.specs.declared.Lit.{Lit}
+use Rattle.row_alloc.specs.declared.body.BodyCmd.{BodyCmd}
 use Rattle.op_text.specs.declared.tree.State.{State}
 use Rattle.op_text.specs.Language.{Block, Visit}
 use Rattle.op_text.specs.Meaning.{NameValue, changed, with_states, with_blanks}
 use Rattle.op_text.specs.Rules.{is_among}
-use Rattle.op_text.specs.Scratch.{state_names}
 use Rattle.loop_ir.specs.declared.ir.Place.{Place}
 use Rattle.loop_ir.specs.Plain.{Block as Body, StepOf}
-use Rattle.loop_ir.specs.Loops.{round_at, all_rounds}
-use Rattle.loop_ir.specs.Spots.{Spot, Spots, set_spot, spot_at, after_round, after_rounds}
+use Rattle.loop_ir.specs.Loops.{RoundOf, all_rounds}
+use Rattle.loop_ir.specs.Spots.{Spot, Spots, is_state, set_spot, spot_at, after_round, after_rounds}
 use Rattle.loop_ir.specs.Statements.{Slots, written_names}
 use Rattle.loop_ir.specs.Lowered.{IsRowOf}
 use Rattle.loop_laws.proofs.Same.{set_same, set_other}
-use Rattle.block_lower.specs.Form.{place_of, constant, start}
+use Rattle.block_lower.specs.Form.{place_of, start}
 use Rattle.block_lower.proofs.Names.{name-true, name-same, cases_name}
-use Rattle.block_lower.proofs.Rows.{slot_or, row_of, position, place-row}
-use Rattle.block_lower.proofs.Facts.{Given, state-written, written-named, word-target, read-is}
-use Rattle.block_lower.proofs.Facts.{found, state-kind, rows-once}
+use Rattle.block_lower.proofs.Rows.{position, place-row}
+use Rattle.block_lower.proofs.Facts.{Given, IsState, IsWord, state-written, state-named}
+use Rattle.block_lower.proofs.Facts.{word-target, read-is}
 use Rattle.block_lower.proofs.Folds.{changed-same, changed-other, names_of, states-other}
 use Rattle.block_lower.proofs.Folds.{blanks-other, blanks-at}
-use Rattle.block_lower.proofs.Visits.{Stands, one_bit, row, zero-below}
+use Rattle.block_lower.proofs.Stand.{Away, in_rows, stand, stand-still, stand-once, stand-rest}
+use Rattle.block_lower.proofs.Visits.{Stands, one_bit}
 
-constant-does : (n : ℕ) (v : Bool) (p : Place) (bits : Spots)
-    → after_round n (round_at (constant v p) 0 0) bits ≡ set_spot bits (spot_at n 0 0 [] p) v
+-- the body that writes one constant
+abbrev pub lone : Bool → Place → List BodyCmd → Body
+lone v p cmds = let l : Lit = record { node = 0; inverted = v } in
+    record {
+      reads = [];
+      graph = record { inputs = 0; nodes = [] };
+      outs = l ∷ [];
+      writes = p ∷ [];
+      found = cmds;
+    }
+
+-- its round
+abbrev pub lone_round : Bool → Place → List BodyCmd → List ℕ → RoundOf Body
+lone_round v p cmds regs = record { part = lone v p cmds; i = 0; o = 0; regs = regs }
+
+pub lone-does : (n : ℕ) (v : Bool) (p : Place) (cmds : List BodyCmd) (regs : List ℕ) (bits : Spots)
+    → after_round n (lone_round v p cmds regs) bits ≡ set_spot bits (spot_at n 0 0 regs p) v
 unfolding values_from
-constant-does n true p bits = refl
-constant-does n false p bits = refl
-
-abbrev pub state_spot : ℕ → Slots → Bool → State → Spot
-state_spot n slots down s = spot_at n 0 0 [] (place_of down (slots s.name))
-
-abbrev pub started : ℕ → Slots → Bool → List State → Spots → Spots
-started n slots down [] bits = bits
-started n slots down (s ∷ ss) bits = started n slots down ss
-    (set_spot bits (state_spot n slots down s) s.start)
-
-pub starts-do : (n : ℕ) (slots : Slots) (down : Bool) (ss : List State) (more : List (StepOf Body))
-    (bits : Spots) → after_rounds n (all_rounds n (map (start slots down) ss ++ more)) bits
-    ≡ after_rounds n (all_rounds n more) (started n slots down ss bits)
-starts-do n slots down [] more bits = refl
-starts-do n slots down (s ∷ ss) more bits =
-    ap (after_rounds n (all_rounds n (map (start slots down) ss ++ more)))
-    (constant-does n s.start (place_of down (slots s.name)) bits)
-    ∙ starts-do n slots down ss more (set_spot bits (state_spot n slots down s) s.start)
+lone-does n true p cmds regs bits = refl
+lone-does n false p cmds regs bits = refl
 
 -- the states of the list are the block's
 abbrev pub AreStates : Block → List State → Type 0
-AreStates b ss = (x : List ℕ) → is_among (names_of ss) x ≡ true → is_among (state_names b) x ≡ true
+AreStates b ss = (x : List ℕ) → is_among (names_of ss) x ≡ true → IsState b x
 
 pub head-state : (b : Block) (s : State) (ss : List State) → AreStates b (s ∷ ss)
-    → is_among (state_names b) s.name ≡ true
+    → IsState b s.name
 head-state b s ss all = all s.name (or_left (bytes_eq s.name s.name) (is_among (names_of ss) s.name)
     (name-same s.name s.name refl))
 
 pub tail-states : (b : Block) (s : State) (ss : List State) → AreStates b (s ∷ ss) → AreStates b ss
 tail-states b s ss all x e = all x (or_right (bytes_eq s.name x) (is_among (names_of ss) x) e)
 
-pub state-spot : {slots : Slots} {fb fw : ℕ} {b : Block} → Given slots fb fw b
-    → (n : ℕ) (down : Bool) (s : State) → is_among (state_names b) s.name ≡ true
-    → state_spot n slots down s ≡ row n slots s.name 0
-state-spot {slots = slots} g n down s e = place-row n 0 down (slots s.name)
-    ∙ ap (λ k. row n slots s.name (row_of (position down n 0) k)) (state-kind g s.name e)
+abbrev pub started : {b : Block} → Away b → Slots → ℕ → List State → Spots → Spots
+started a slots n [] bits = bits
+started a slots n (s ∷ ss) bits = started a slots n ss
+    (set_spot bits (stand a slots n 0 s.name) s.start)
 
-pub state-row-is : {slots : Slots} {fb fw : ℕ} {b : Block} → Given slots fb fw b → (n : ℕ) → 0 < n
-    → (x : List ℕ) → is_among (state_names b) x ≡ true
-    → IsRowOf n slots (written_names (Visit b)) (row n slots x 0)
-state-row-is {slots = slots} {b = b} g n lt x e = (
-  x,
-  slot_or (slots x),
-  0,
-  state-written b x e,
-  found g x (written-named b x (state-written b x e)),
-  zero-below n (slot_or (slots x)).kind lt,
-  refl,
-)
+module _ {slots : Slots} {fb fw : ℕ} {b : Block} (g : Given slots fb fw b) (n : ℕ) where
+  -- a state's row as the loop's program finds it
+  pub state-at : (x : List ℕ) → IsState b x
+      → spot_at n 0 0 [] (place_of b.down (slots x)) ≡ stand (in_rows b) slots n 0 x
+  state-at x e = place-row n 0 b.down (slots x)
+      ∙ stand-still g (in_rows b) n (position b.down n 0) 0 x e
 
-pub started-rest : {slots : Slots} {fb fw : ℕ} {b : Block} → Given slots fb fw b → (n : ℕ) → 0 < n
-    → (down : Bool) (ss : List State) → AreStates b ss → (bits : Spots) (q : Spot)
-    → (IsRowOf n slots (written_names (Visit b)) q → ⊥) → started n slots down ss bits q ≡ bits q
-started-rest g n lt down [] all bits q out = refl
-started-rest {slots = slots} {b = b} g n lt down (s ∷ ss) all bits q out =
-    let h = head-state b s ss all in
-    started-rest g n lt down ss (tail-states b s ss all)
-    (set_spot bits (state_spot n slots down s) s.start) q out
-    ∙ set_other bits (state_spot n slots down s) s.start q (λ e.
-    out (subst (IsRowOf n slots (written_names (Visit b))) (sym (e ∙ state-spot g n down s h))
-    (state-row-is g n lt s.name h)))
+  pub starts-do : (ss : List State) → AreStates b ss → (more : List (StepOf Body)) (bits : Spots)
+      → after_rounds n (all_rounds n (map (start slots b.down) ss ++ more)) bits
+      ≡ after_rounds n (all_rounds n more) (started (in_rows b) slots n ss bits)
+  starts-do [] all more bits = refl
+  starts-do (s ∷ ss) all more bits =
+      ap (after_rounds n (all_rounds n (map (start slots b.down) ss ++ more)))
+      (lone-does n s.start (place_of b.down (slots s.name)) [] [] bits
+      ∙ ap (λ q. set_spot bits q s.start) (state-at s.name (head-state b s ss all)))
+      ∙ starts-do ss (tail-states b s ss all) more
+      (set_spot bits (stand (in_rows b) slots n 0 s.name) s.start)
 
--- names and rows get the same starts
-states-match : {slots : Slots} {fb fw : ℕ} {b : Block} → Given slots fb fw b → (n : ℕ) → 0 < n
-    → (down : Bool) (ss : List State) → AreStates b ss
-    → (names : List ℕ → NameValue) (bits : Spots) (x : List ℕ) → is_among (state_names b) x ≡ true
-    → (is_among (names_of ss) x ≡ true) ⊎ (names x ≡ one_bit (bits (row n slots x 0)))
-    → with_states names ss x ≡ one_bit (started n slots down ss bits (row n slots x 0))
-states-match g n lt down [] all names bits x e (inl m) = absurd (cc)
-states-match g n lt down [] all names bits x e (inr m) = m
-states-match {slots = slots} {b = b} g n lt down (s ∷ ss) all names bits x e m =
-    let h = head-state b s ss all in
-    let spot = state_spot n slots down s in
-    states-match g n lt down ss (tail-states b s ss all) (changed names s.name (one_bit s.start))
-    (set_spot bits spot s.start) x e (elim (cases_name x s.name) [
-      | inl same ↦ inr (changed-same names s.name (one_bit s.start) x same
-          ∙ ap one_bit (sym (set_same bits spot s.start (row n slots x 0)
-          (ap (λ y. row n slots y 0) same ∙ sym (state-spot g n down s h)))))
-      | inr ne ↦ elim m [
-        | inl t ↦ elim (or_cases (bytes_eq s.name x) (is_among (names_of ss) x) t) [
-          | inl u ↦
-              absurd (ne (sym (name-true s.name x u)))
-          | inr u ↦ inl u
-        ]
-        | inr t ↦ inr (changed-other names s.name (one_bit s.start) x ne ∙ t
-            ∙ ap one_bit (sym (set_other bits spot s.start (row n slots x 0) (λ q.
-            ne (rows-once g n x s.name 0 0 (written-named b x (state-written b x e))
-            (written-named b s.name (state-written b s.name h))
-            (zero-below n (slot_or (slots x)).kind lt)
-            (zero-below n (slot_or (slots s.name)).kind lt) (q ∙ state-spot g n down s h)).0))))
-      ]
-    ])
+  module _ (a : Away b) (lt : 0 < n) where
+    started-rest : (ss : List State) → AreStates b ss → (bits : Spots) (q : Spot)
+        → is_state q.space ≡ false → (IsRowOf n slots (written_names (Visit b)) q → ⊥)
+        → started a slots n ss bits q ≡ bits q
+    started-rest [] all bits q r out = refl
+    started-rest (s ∷ ss) all bits q r out =
+        let spot = stand a slots n 0 s.name in
+        started-rest ss (tail-states b s ss all) (set_spot bits spot s.start) q r out
+        ∙ set_other bits spot s.start q (stand-rest g a n 0 s.name lt
+        (state-written b s.name (head-state b s ss all)) q r out)
 
-pub begins : {slots : Slots} {fb fw : ℕ} {b : Block} → Given slots fb fw b → (n : ℕ) → 0 < n
-    → (old : List ℕ → NameValue) (before : Spots) → Stands slots b n old before 0
-    (with_states (with_blanks n old b.assigns) b.states) (started n slots b.down b.states before)
-begins {slots = slots} {b = b} g n lt old before =
-    let blanked = with_blanks n old b.assigns in
-    record {
-      states = λ x e. states-match g n lt b.down b.states (λ y h. h) blanked before x e (inl e);
-      kinds = λ x e. let w = word-target b x e in
-          ap (λ (h : NameValue). h.kind) (states-other blanked b.states x w.1
-          ∙ blanks-at n old b.assigns x (inl w.0));
-      long = λ x e. let w = word-target b x e in
-          ap (λ (h : NameValue). length h.bits) (states-other blanked b.states x w.1
-          ∙ blanks-at n old b.assigns x (inl w.0)) ∙ length-replicate n false;
-      words = λ x e j l. absurd (omega arith);
-      reads = λ x e. let r = read-is g x e in states-other blanked b.states x r.0
-          ∙ blanks-other n old b.assigns x r.1;
-      rest = λ q out. started-rest g n lt b.down b.states (λ y h. h) before q out;
-    }
+    -- names and places get the same starts
+    states-match : (ss : List State) → AreStates b ss → (names : List ℕ → NameValue) (bits : Spots)
+        (x : List ℕ) → IsState b x
+        → (is_among (names_of ss) x ≡ true) ⊎ (names x ≡ one_bit (bits (stand a slots n 0 x)))
+        → with_states names ss x ≡ one_bit (started a slots n ss bits (stand a slots n 0 x))
+    states-match [] all names bits x e (inl m) = absurd (cc)
+    states-match [] all names bits x e (inr m) = m
+    states-match (s ∷ ss) all names bits x e m =
+        let h = head-state b s ss all in
+        let spot = stand a slots n 0 s.name in
+        states-match ss (tail-states b s ss all) (changed names s.name (one_bit s.start))
+        (set_spot bits spot s.start) x e (elim (cases_name x s.name) [
+          | inl same ↦ inr (changed-same names s.name (one_bit s.start) x same
+              ∙ ap one_bit (sym (set_same bits spot s.start (stand a slots n 0 x)
+              (ap (stand a slots n 0) same))))
+          | inr ne ↦ elim m [
+            | inl t ↦ elim (or_cases (bytes_eq s.name x) (is_among (names_of ss) x) t) [
+              | inl u ↦ absurd (ne (sym (name-true s.name x u)))
+              | inr u ↦ inl u
+            ]
+            | inr t ↦ inr (changed-other names s.name (one_bit s.start) x ne ∙ t
+                ∙ ap one_bit (sym (set_other bits spot s.start (stand a slots n 0 x) (λ q.
+                ne (stand-once g a a n 0 x s.name lt (state-named b x e) (state-named b s.name h)
+                q).0))))
+          ]
+        ])
+
+    pub begins : (old : List ℕ → NameValue) (before : Spots) → Stands slots a n old before 0
+        (with_states (with_blanks n old b.assigns) b.states) (started a slots n b.states before)
+    begins old before =
+        let blanked = with_blanks n old b.assigns in
+        let first = λ (x : List ℕ) (e : IsWord b x).
+        let w = word-target b x e in
+        states-other blanked b.states x w.1 ∙ blanks-at n old b.assigns x (inl w.0) in
+        record {
+          states = λ x e. states-match b.states (λ y h. h) blanked before x e (inl e);
+          kinds = λ x e. ap (λ (h : NameValue). h.kind) (first x e);
+          long = λ x e. ap (λ (h : NameValue). length h.bits) (first x e)
+              ∙ length-replicate n false;
+          words = λ x e j l. absurd (omega arith);
+          reads = λ x e. let r = read-is g x e in states-other blanked b.states x r.0
+              ∙ blanks-other n old b.assigns x r.1;
+          rest = λ q r out. started-rest b.states (λ y h. h) before q r out;
+        }

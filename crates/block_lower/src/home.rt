@@ -1,6 +1,6 @@
 //! The places of a body whose state stands in cells.
 
-ghost use Rattle.std.specs.Prelude.{◌≡◌, ◌<◌, ◌≤◌, ◌^◌, length, map, IfOk};
+ghost use Rattle.std.specs.Prelude.{◌≡◌, ◌<◌, ◌≤◌, ◌^◌, ◌++◌, length, map, IfOk, OnOk};
 ghost use Rattle.loop_ir.specs.Spots.{is_state};
 ghost use Rattle.loop_ir.specs.States.{row_count, enters, leaves};
 ghost use Rattle.block_lower.specs.Held.{cell_place, flow_place, held_place, stand_in};
@@ -154,19 +154,33 @@ pub(crate) fn enters(reads: &[Place], alloc: Global) -> Result<Vec<Held>, NoMemo
     Ok(enter)
 }
 
+/// The outputs that are left in cells, after those that were found.
+fn leave(left: &mut Vec<Held>, writes: &[Place], outs: &[Lit]) -> Result<(), NoMemory>
+    ensures { OnOk result (left.new.items ≡ left.old.items ++ leaves writes.now outs.now) }
+{
+    match writes {
+        [] => Ok(()),
+        [place, places @ ..] => match outs {
+            [] => Ok(()),
+            [lit, lits @ ..] => {
+                if is_cells(*place) {
+                    let lit = *lit;
+                    let layout = place.which;
+                    keep(left, Held { lit, layout })?;
+                    leave(left, places, lits)
+                } else {
+                    leave(left, places, lits)
+                }
+            }
+        },
+    }
+}
+
 /// The outputs that are left in cells.
 pub(crate) fn leaves(writes: &[Place], outs: &[Lit], alloc: Global) -> Result<Vec<Held>, NoMemory>
-    requires { length outs.now ≡ length writes.now }
-    ensures { IfOk result (λ leave. leave.items ≡ leaves writes.now outs.now) }
+    ensures { IfOk result (λ left. left.items ≡ leaves writes.now outs.now) }
 {
-    let mut leave = Vec::new(alloc);
-    for j in 0..writes.len() {
-        let place = writes[j];
-        let lit = outs[j];
-        if is_cells(place) {
-            let layout = place.which;
-            keep(&mut leave, Held { lit, layout })?;
-        }
-    }
-    Ok(leave)
+    let mut left = Vec::new(alloc);
+    leave(&mut left, writes, outs)?;
+    Ok(left)
 }

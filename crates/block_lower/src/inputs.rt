@@ -66,22 +66,23 @@ fn find_all(found: &mut Vec<Name>, assigns: &[Assign]) -> Result<(), NoMemory>
     ensures { OnOk result (found.new.items ≡ found.old.items
         ++ equation_names (map equation assigns.now)) }
 {
-    for a in assigns {
-        find(found, &a.value)?;
+    match assigns {
+        [] => Ok(()),
+        [a, rest @ ..] => {
+            find(found, &a.value)?;
+            find_all(found, rest)
+        }
     }
-    Ok(())
 }
 
 /// Whether a let has the name.
 fn is_let(lets: &[Assign], name: &Name) -> bool
     ensures { result ≡ is_among (targets_of (map equation lets.now)) name.now }
 {
-    for l in lets {
-        if l.name == *name {
-            return true;
-        }
+    match lets {
+        [] => false,
+        [l, rest @ ..] => l.name == *name || is_let(rest, name),
     }
-    false
 }
 
 /// Notes the number of a name.
@@ -135,10 +136,13 @@ fn number_all(inputs: &mut Inputs, found: &[Name], lets: &[Assign]) -> Result<()
         ≡ gathered inputs.old.order.items (filter
         (λ name. not (is_among (targets_of (map equation lets.now)) name)) found.now)) }
 {
-    for name in found {
-        number_other(inputs, lets, name)?;
+    match found {
+        [] => Ok(()),
+        [name, rest @ ..] => {
+            number_other(inputs, lets, name)?;
+            number_all(inputs, rest, lets)
+        }
     }
-    Ok(())
 }
 
 /// The inputs of a block.

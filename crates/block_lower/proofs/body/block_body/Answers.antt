@@ -10,27 +10,18 @@ use Rattle.block_lower.proofs.Making.{room, parts-few, inputs-below, inputs-most
 use Rattle.block_lower.proofs.body.block_body.Goals as goal
 
 pub inputs_of-requires : goal.inputs_of-requires
-inputs_of-requires c =
-    record {
-      room = room (slots_of c.args.names.now) c.args.down c.requires.meets.0 c.args.lets.now
-          c.args.assigns.now c.requires.meets.1;
-    }
+inputs_of-requires c = record { room = room c.args.lets.now c.args.assigns.now c.requires.meets.1 }
 
 pub build-requires : goal.build-requires
-build-requires c =
-    record {
-      room = parts-few (slots_of c.args.names.now) c.args.down c.requires.meets.0
-          c.args.lets.now c.args.assigns.now c.requires.meets.1;
-    }
+build-requires c = record { room = parts-few c.args.lets.now c.args.assigns.now c.requires.meets.1 }
 
 pub from_aoi-requires-clause-input : goal.from_aoi-requires-clause-input
 from_aoi-requires-clause-input c =
     let inputs = c.in_ok-inputs.inputs in
     let num = subst (λ names. AreNumbered names inputs.numbers) c.in_ok-inputs.ensures.order
     c.in_ok-inputs.ensures.numbered in
-    inputs-below (slots_of c.args.names.now) c.args.down c.requires.meets.0 c.args.lets.now
-    c.args.assigns.now c.requires.meets.1 inputs.numbers num c.in_ok-gates.gates.nodes.items
-    c.in_ok-gates.ensures.held
+    inputs-below c.args.lets.now c.args.assigns.now c.requires.meets.1 inputs.numbers num
+    c.in_ok-gates.gates.nodes.items c.in_ok-gates.ensures.held
 
 pub returns-clause-is : goal.returns-clause-is
 returns-clause-is c = λ s.
@@ -51,14 +42,12 @@ returns-clause-is c = λ s.
       writes = c.in_ok-writes.ensures;
       as_many = made.keeps.long ∙ c.in_ok-from_aoi.ensures.long ∙ c.in_ok-gates.ensures.long
           ∙ sym (length-map assigns equation);
-      inputs = let m = inputs-most slots c.args.down c.requires.meets.0 lets assigns
-          c.requires.meets.1 inputs.numbers num gates.nodes.items c.in_ok-gates.ensures.held
-          first.mig.inputs c.in_ok-from_aoi.ensures.inputs in let e = made.keeps.inputs in
-          omega (arith, m, e);
-      values = output-values slots c.args.down c.requires.meets.0 lets assigns c.requires.meets.1
-          inputs.numbers num gates.nodes.items c.in_ok-gates.ensures.held gates.outs.items first.mig
-          graph.mig first.outs.items graph.outs.items
-          c.in_ok-gates.ensures.value c.in_ok-from_aoi.ensures.value made.keeps
+      inputs = let m = inputs-most lets assigns c.requires.meets.1 inputs.numbers num
+          gates.nodes.items c.in_ok-gates.ensures.held first.mig.inputs
+          c.in_ok-from_aoi.ensures.inputs in let e = made.keeps.inputs in omega (arith, m, e);
+      values = output-values lets assigns c.requires.meets.1 inputs.numbers num gates.nodes.items
+          c.in_ok-gates.ensures.held gates.outs.items first.mig graph.mig first.outs.items
+          graph.outs.items c.in_ok-gates.ensures.value c.in_ok-from_aoi.ensures.value made.keeps
           c.in_ok-from_aoi.ensures.long c.in_ok-gates.ensures.long;
       nodes = let a = made.count in let b = c.in_ok-from_aoi.ensures.count in
           let d = c.in_ok-gates.ensures.gates in omega (arith, a, b, d);

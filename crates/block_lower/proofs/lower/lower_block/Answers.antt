@@ -1,6 +1,5 @@
 use Rattle.std.proofs.Common.{arith}
 use Rattle.std.proofs.lemmas.Result.{IfOk-weaker}
-use Rattle.loop_ir.specs.Statements.{slots_of}
 use Rattle.loop_ir.specs.Plain.{steps_of}
 use Rattle.block_lower.proofs.Making.{inputs-few}
 use Rattle.block_lower.proofs.OneCell.{chosen-lowered, chosen-program}
@@ -11,8 +10,7 @@ block_loop-requires c = (c.in_ok-block.ensures.is c.args.states.now).named
 
 pub returns-clause-form : goal.returns-clause-form
 returns-clause-form c =
-    let few = inputs-few (slots_of c.args.names.now) c.args.down c.args.states.now c.args.lets.now
-    c.args.assigns.now c.requires.meets in
+    let few = inputs-few c.args.lets.now c.args.assigns.now c.requires.meets in
     IfOk-weaker c.block_loop.result _ _ (λ p t. chosen-program (record {
       meets = c.requires.meets;
       placed = c.requires.placed;
@@ -21,8 +19,7 @@ returns-clause-form c =
 
 pub returns-clause-lowered : goal.returns-clause-lowered
 returns-clause-lowered c =
-    let few = inputs-few (slots_of c.args.names.now) c.args.down c.args.states.now c.args.lets.now
-    c.args.assigns.now c.requires.meets in
+    let few = inputs-few c.args.lets.now c.args.assigns.now c.requires.meets in
     IfOk-weaker c.block_loop.result _ _ (λ p t. chosen-lowered (record {
       meets = c.requires.meets;
       placed = c.requires.placed;
