@@ -1,26 +1,16 @@
 -- The flow of abs does a statement of it.
-use Rattle.std.proofs.Common.{◌≡◌, ℕ, zero, suc, ◌+◌, ◌-◌, ◌*◌, ◌^◌, ◌<◌, ◌≤◌, Bool, true, false, cond}
-use Rattle.std.proofs.Common.{List, [], ◌∷◌, not, None, refl, sym, ap, ◌∙◌, arith}
-use Rattle.std.specs.Prelude.{◌==◌, ◌%◌, nat_lt}
-use Rattle.std.proofs.lemmas.Bool.{ne_eqb}
-use Rattle.mig_graph.specs.Graph.{values_from}
-use Rattle.row_alloc.specs.Symbolic.{sense_three, first_node}
-use Rattle.row_alloc.specs.declared.body.BodyCmd.{BodyCmd}
-use Rattle.op_text.specs.declared.tree.Kind.TheVariants.{Word}
-use Rattle.op_text.specs.declared.word_ops.WordOp.TheVariants as op
-use Rattle.op_text.specs.Values.{half}
-use Rattle.loop_ir.specs.declared.ir.Space.{Space}
-use Rattle.loop_laws.specs.Rooms.{Extent, Full, Owner, InRoom, InCells}
-use Rattle.word_lower.proofs.Setting as set
-use Rattle.word_lower.proofs.Sums.{value_below, last_sum, top_half}
-use Rattle.word_flow.specs.Programs.{flow_total}
+use Rattle.word_flow.proofs.Common.{◌≡◌, ℕ, zero, suc, ◌+◌, ◌-◌, ◌*◌, ◌^◌, ◌<◌, ◌≤◌, Bool, true}
+use Rattle.word_flow.proofs.Common.{false, cond, List, [], ◌∷◌, not, None, refl, sym, ap, ◌∙◌}
+use Rattle.word_flow.proofs.Common.{arith, ◌==◌, ◌%◌, nat_lt, Word, half, Space, Extent, Full}
+use Rattle.word_flow.proofs.Common.{Owner, InRoom, InCells, value_below, last_sum, top_half}
+use Rattle.word_flow.proofs.Common.{flow_aps, flow_total, values_from, sense_three, first_node}
 use Rattle.word_flow.proofs.Absolutes.{Part, Copied, Seen, SeenLast, Negated, NegatedLast, Top}
 use Rattle.word_flow.proofs.Absolutes.{code, abs}
-use Rattle.word_flow.proofs.Absolute.{State, InRange, does, seen_left, last_left, abs_does}
-use Rattle.word_flow.proofs.ApsAbs.{abs_aps}
-use Rattle.word_flow.proofs.Checks.{Weights, body_holds}
-use Rattle.word_flow.proofs.Targets.{Operation, Value, OneDone, word_rooms, of_word}
-use Rattle.word_flow.proofs.Views.{View, Step, stepped}
+use Rattle.word_flow.proofs.Absolute.{State, InRange, does, seen_left, last_left, Over, abs_does}
+use Rattle.word_flow.proofs.Targets.{answers_of, Weights, aps_in, body_holds, Operation, Value}
+use Rattle.word_flow.proofs.Targets.{OneDone, word_rooms, of_word, View, Step, stepped}
+use Rattle.op_text.specs.declared.word_ops.WordOp.TheVariants as op
+use Rattle.word_lower.proofs.Setting as set
 
 abbrev known : List Owner
 known = InRoom 0 ∷ InRoom 1 ∷ InCells 4 ∷ InCells 12 ∷ []
@@ -28,12 +18,8 @@ known = InRoom 0 ∷ InRoom 1 ∷ InCells 4 ∷ InCells 12 ∷ []
 abbrev es : List Extent
 es = Full ∷ Full ∷ []
 
--- no weight is counted
-abbrev nothing : List BodyCmd → ℕ
-nothing cmds = 0
-
 abbrev w : Weights
-w = record { plain = 1; less = 0; cost = 3; more = 0 }
+w = record { plain = 1; less = 0; cost = 3; more = 0; aps = 1 }
 
 abbrev view : (ℕ → Bool) → State → View
 view x s (InRoom zero) v = s.y v
@@ -47,10 +33,11 @@ start c = record {
   nc = c (InCells 12) 0;
   alive = [];
   cost = 0;
+  aps = 0;
 }
 
 holds : (s0 : Space) (w0 : ℕ) (s1 : Space) (w1 : ℕ) (b : Part)
-    → body_holds (word_rooms Word s0 w0 s1 w1) known nothing w None (code b) ≡ true
+    → body_holds (word_rooms Word s0 w0 s1 w1) known aps_in w None (code b) ≡ true
 unfolding sense_three first_node
 holds s0 w0 s1 w1 Copied = refl
 holds s0 w0 s1 w1 Seen = refl
@@ -61,27 +48,23 @@ holds s0 w0 s1 w1 Top = refl
 
 module _ (n : ℕ) (x : ℕ → Bool) where
   step : (b : Part) (g : List ℕ) (s : State) → InRange n b g s → Step n es known (code b) g
-      (view x s) (view x (does n x b g s)) s.cost (does n x b g s).cost 0 0 s.alive
-      (does n x b g s).alive nothing
+      (view x s) (view x (does n x b g s)) s.cost (does n x b g s).cost s.aps (does n x b g s).aps
+      s.alive (does n x b g s).alive aps_in
   unfolding values_from
-  step Copied g s r = stepped (r, tt) (r, tt) s.alive refl refl refl (λ d. refl) refl refl
+  step Copied g s r = stepped (r, tt) (r, tt) s.alive refl refl refl (λ d. refl) refl (omega arith)
   step Seen g s r = stepped (r.0, (r.1, tt)) (omega arith, tt) s.alive refl refl refl (λ d. refl)
       refl refl
   step SeenLast g s r = stepped (r.0, (r.1, tt)) (omega arith, tt) s.alive refl refl refl
-      (λ d. refl) refl refl
+      (λ d. refl) refl (omega arith)
   step Negated g s r = stepped (r.0, (r.1, (omega arith, tt))) (r.0, (omega arith, tt)) seen_left r.2
-      refl refl (λ d. refl) refl refl
+      refl refl (λ d. refl) refl (omega arith)
   step NegatedLast g s r = stepped (r.0, (r.1, (omega arith, tt))) (r.0, (omega arith, tt)) seen_left
-      r.2 refl refl (λ d. refl) refl refl
-  step Top g s r = stepped (r.0, (omega arith, tt)) (r.0, tt) last_left r.1 refl refl (λ d. refl) refl refl
+      r.2 refl refl (λ d. refl) refl (omega arith)
+  step Top g s r = stepped (r.0, (omega arith, tt)) (r.0, tt) last_left r.1 refl refl (λ d. refl) refl
+      (omega arith)
 
 few : (n : ℕ) → 0 < n → 3 * flow_total op.Abs n ≤ 34 * n + 1
-few zero some = absurd (omega (arith, some))
-few (suc zero) some = omega arith
-few (suc (suc k)) some = let n = suc (suc k) in
-    let e : flow_total op.Abs n ≡ 8 * n - 8 =
-    ap (λ b. cond b 1 (8 * n - 8)) (ne_eqb n 1 (λ z. absurd (omega (arith, z)))) in
-    omega (arith, e)
+few n some = grind (arith, some)
 
 -- the number itself below the half, and else its complement to 2 ^ n
 abs_is : (y x : ℕ → Bool) (n : ℕ) → 0 < n
@@ -111,35 +94,19 @@ abs_is y x (suc m) some turned kept = by (x (suc m - 1)) refl
         ∙ ap (λ c. cond c v ((p - v) % p)) (sym (top ∙ ap not e))
     by false e = kept e ∙ ap (λ c. cond c v ((p - v) % p)) (sym (top ∙ ap not e))
 
-operation : Operation op.Abs Part code abs es known nothing (λ n. 0) w (Value op.Abs Word 0 (1 ∷ []))
+operation : Operation op.Abs Part code abs es known aps_in (flow_aps op.Abs) w
+    (Value op.Abs Word 0 (1 ∷ []))
 operation = record {
-  answers = λ n some small c. (let x = c (InRoom 1) in record {
-    S = State;
-    InRange = InRange n;
-    does = does n x;
-    view = view x;
-    cost = λ (s : State). s.cost;
-    more = λ (s : State). 0;
-    alive = λ (s : State). s.alive;
-    step = step n x;
-    start = start c;
-    begins = refl;
-    fresh = refl;
-    free = refl;
-    light = refl;
-    Q = λ g s. (x (n - 1) ≡ true → set.number s.y n + set.number x n ≡ 2 ^ n)
-        × (x (n - 1) ≡ false → set.number s.y n ≡ set.number x n) × (s.cost ≡ flow_total op.Abs n);
-    whole = abs_does n some small x 0 0 0 0 0 0 0 0 (start c)
-        (λ g s. (x (n - 1) ≡ true → set.number s.y n + set.number x n ≡ 2 ^ n)
-        × (x (n - 1) ≡ false → set.number s.y n ≡ set.number x n) × (s.cost ≡ flow_total op.Abs n))
-        refl (λ g s a b d. (a, b, d));
-    gives = λ g s q. (abs_is s.y x n some q.0 q.1, q.2, refl);
-  });
-  aps = λ n some rooms e. abs_aps n rooms;
-  plain = λ n some y h. (let f = few n some in omega (arith, h, f));
+  answers = λ n some small c. (let x = c (InRoom 1) in
+      answers_of State (InRange n) (does n x) (view x) (λ s. s.cost) (λ s. s.aps) (λ s. s.alive)
+      (step n x) (start c) refl refl refl refl (λ g s. Over n some small x s)
+      (abs_does n some small x (start c) (λ g s. Over n some small x s) refl refl (λ g s o. o))
+      (λ g s q. (abs_is s.y x n some q.0 q.1, q.2, q.3)));
+  aps = λ n. omega arith;
+  plain = λ n some y h. omega (arith, h, few n some);
   ceilings = λ n. refl;
 }
 
 pub abs_done : OneDone op.Abs
-abs_done = of_word op.Abs Word Part code abs known nothing (λ n. 0) w (λ b. None) holds (λ s0 w0 s1 w1. refl)
-    operation refl refl (λ s0 w0 s1 w1 fb fw. refl)
+abs_done = of_word Word operation holds (λ s0 w0 s1 w1. refl) refl refl
+    (λ s0 w0 s1 w1 fb fw. refl)

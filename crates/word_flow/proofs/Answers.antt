@@ -1,28 +1,16 @@
 -- What a flow does at a width, by states that stand for its rows and cells.
-use Rattle.std.proofs.Common.{◌≡◌, ℕ, ◌<◌, true, false, List, [], refl, subst, arith}
-use Rattle.std.proofs.Common.{Option, map, length}
-use Rattle.std.specs.List.{AllByRecursion, list_all}
-use Rattle.loop_ir.specs.Plain.{Block}
-use Rattle.loop_ir.specs.Flows.{FlowOf, flow_map, run, zeros}
+use Rattle.word_flow.proofs.Common.{AllByRecursion, after_rounds, flow_rounds, rounds_cost, RoundOf}
+use Rattle.word_flow.proofs.Common.{RoomsApart, coded_body, turn_cost, list_all, flow_map, is_state}
+use Rattle.word_flow.proofs.Common.{room_for, HaveRows, BodyCmd, chained, IsRound, room_at, IsOwned}
+use Rattle.word_flow.proofs.Common.{IsThere, Option, length, FlowOf, sum_by, row_in, Extent, extent}
+use Rattle.word_flow.proofs.Common.{false, subst, arith, Block, zeros, Spots, Owner, Coded, true, ℕ}
+use Rattle.word_flow.proofs.Common.{List, refl, Spot, Room, Fine, ◌≡◌, ◌<◌, map, run, [], wp}
 use Rattle.loop_ir.specs.FlowTests.{is_event_safe}
-use Rattle.loop_ir.specs.Loops.{RoundOf, flow_rounds}
-use Rattle.row_alloc.specs.declared.body.BodyCmd.{BodyCmd}
-use Rattle.std.specs.Prelude.{sum_by}
-use Rattle.loop_ir.specs.Spots.{Spot, Spots, after_rounds, is_state}
-use Rattle.loop_ir.specs.Costs.{rounds_cost, turn_cost}
-use Rattle.loop_ir.specs.Chains.{chained}
-use Rattle.loop_ir.specs.Limits.{IsRound}
-use Rattle.loop_laws.specs.Rooms.{Room, room_for, room_at, row_in, Extent, extent, Owner, RoomsApart}
-use Rattle.loop_laws.specs.Rooms.{IsOwned}
-use Rattle.loop_laws.proofs.Fitting.{IsThere}
-use Rattle.loop_laws.proofs.Alike.{HaveRows}
-use Rattle.loop_laws.proofs.FlowLogic.{wp}
-use Rattle.loop_laws.proofs.FlowFine.{Fine}
-use Rattle.word_flow.specs.Coded.{Coded, coded_body}
 use Rattle.word_flow.proofs.Checks.{Weights, body_holds, held_is}
 use Rattle.word_flow.proofs.FlowOps.{flow_does}
 use Rattle.word_flow.proofs.Placing.{IsFree}
-use Rattle.word_flow.proofs.Views.{View, Step, shown, is_known, Like, Likes, same_like, each, weighed}
+use Rattle.word_flow.proofs.Views.{View, Step, shown, is_known, Like, Likes, same_like, each}
+use Rattle.word_flow.proofs.Views.{weighed}
 
 -- a flow over states, from what stands in rows and cells, with its commands and what holds after it
 pub record Answers (A : Type 0) (code : A → Coded) (f : FlowOf A) (es : List Extent)
@@ -46,6 +34,35 @@ pub record Answers (A : Type 0) (code : A → Coded) (f : FlowOf A) (es : List E
   pub Q : List ℕ → S → Type 0
   pub whole : wp A S n (Fine A S n InRange) does f Q zeros start
   pub gives : (g : List ℕ) (s : S) → Q g s → Post (view s) × (cost s ≡ total) × (more s ≡ weight)
+
+pub answers_of : {A : Type 0} {code : A → Coded} {f : FlowOf A} {es : List Extent} {known : List Owner}
+    {x : List BodyCmd → ℕ} {n : ℕ} {c : View} {total weight : ℕ} {Post : View → Type 0} (S : Type 0)
+    (InRange : A → List ℕ → S → Type 0) (does : A → List ℕ → S → S) (view : S → View) (cost more : S → ℕ)
+    (alive : S → List ℕ) → ((b : A) (g : List ℕ) (s : S) → InRange b g s → Step n es known (code b) g
+    (view s) (view (does b g s)) (cost s) (cost (does b g s)) (more s) (more (does b g s)) (alive s)
+    (alive (does b g s)) x) → (start : S) → shown es known c ≡ shown es known (view start)
+    → alive start ≡ [] → cost start ≡ 0 → more start ≡ 0 → (Q : List ℕ → S → Type 0)
+    → wp A S n (Fine A S n InRange) does f Q zeros start
+    → ((g : List ℕ) (s : S) → Q g s → Post (view s) × (cost s ≡ total) × (more s ≡ weight))
+    → Answers A code f es known x n c total weight Post
+answers_of S InRange does view cost more alive step start begins fresh free light Q whole gives = record {
+  S = S;
+  InRange = InRange;
+  does = does;
+  view = view;
+  cost = cost;
+  more = more;
+  alive = alive;
+  step = step;
+  start = start;
+  begins = begins;
+  fresh = fresh;
+  free = free;
+  light = light;
+  Q = Q;
+  whole = whole;
+  gives = gives;
+}
 
 -- what its rounds do to rows and cells
 pub record Answered (n : ℕ) (rooms : List Room) (known : List Owner) (f : FlowOf Block) (total : ℕ)
@@ -83,13 +100,15 @@ answered n rooms some are have moves es shape known A code x w same holds f tota
     a.begins like in
     let r = flow_does A a.S (λ b. coded_body rooms (code b)) n (IsOwned n rooms) a.InRange a.does
     (Likes n rooms some are have moves es shape known before A a.S code a.InRange a.does a.view a.cost
-    a.more a.alive x (λ b. (at b).keeps) same (λ b. (at b).works) (λ b. (at b).knows) a.step) turn_cost a.cost a.alive
+    a.more a.alive x (λ b. (at b).keeps) same (λ b. (at b).works) (λ b. (at b).knows) a.step) turn_cost
+    a.cost a.alive
     (each n rooms some are have moves es shape known before A a.S code a.InRange a.does a.view a.cost
     a.more a.alive x (λ b. (at b).keeps) same (λ b. (at b).works) (λ b. (at b).knows) a.step) f
     a.Q a.start before a.whole begun in
     let t = flow_does A a.S (λ b. coded_body rooms (code b)) n (IsOwned n rooms) a.InRange a.does
     (Likes n rooms some are have moves es shape known before A a.S code a.InRange a.does a.view a.cost
-    a.more a.alive x (λ b. (at b).keeps) same (λ b. (at b).works) (λ b. (at b).knows) a.step) (λ b. x b.found) a.more a.alive
+    a.more a.alive x (λ b. (at b).keeps) same (λ b. (at b).works) (λ b. (at b).knows) a.step)
+    (λ b. x b.found) a.more a.alive
     (weighed n rooms some are have moves es shape known before A a.S code a.InRange a.does a.view a.cost
     a.more a.alive x (λ b. (at b).keeps) same (λ b. (at b).works) (λ b. (at b).knows) a.step) f
     a.Q a.start before a.whole begun in

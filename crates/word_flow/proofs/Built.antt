@@ -1,17 +1,14 @@
 -- The flows of a table's lines, one line more.
-use Rattle.std.proofs.Common.{◌≡◌, ℕ, zero, suc, ◌+◌, ◌-◌, ◌<◌, ◌≤◌, List, [], ◌∷◌, ◌++◌, map, drop, length}
-use Rattle.std.proofs.Common.{reverse, slice_index_or, refl, sym, ap, ◌∙◌, arith}
-use Rattle.std.specs.Prelude.{◌&&◌, Bool, true, false}
-use Rattle.std.proofs.lemmas.List.{map-append, reverse-append, drop_more}
-use Rattle.loop_ir.specs.declared.ir.Flow as code
-use Rattle.loop_ir.specs.declared.names.Slot.{Slot}
-use Rattle.loop_ir.specs.Plain.{flow_of, Block}
-use Rattle.loop_ir.specs.Flows.{FlowOf}
+use Rattle.word_flow.proofs.Common.{◌≡◌, ℕ, zero, suc, ◌+◌, ◌-◌, ◌<◌, ◌≤◌, List, [], ◌∷◌, ◌++◌, map}
+use Rattle.word_flow.proofs.Common.{drop, length, reverse, slice_index_or, refl, sym, ap, ◌∙◌}
+use Rattle.word_flow.proofs.Common.{arith, ◌&&◌, map-append, reverse-append, drop_more, Slot}
+use Rattle.word_flow.proofs.Common.{flow_of, Block, FlowOf, first_of, others_of, line_on, flows_on}
+use Rattle.word_flow.proofs.Common.{coded_on, line_holds, lines_hold}
+use Rattle.std.specs.Prelude.{Bool, true, false}
 use Rattle.word_flow.specs.declared.shapes.Line.{Line}
-use Rattle.word_flow.specs.declared.shapes.Line.TheVariants as line
 use Rattle.word_flow.specs.declared.shapes.CodedBody.{CodedBody}
-use Rattle.word_flow.specs.Plans.{first_of, others_of, line_on, flows_on}
-use Rattle.word_flow.specs.Bodies.{coded_on, line_holds, lines_hold}
+use Rattle.loop_ir.specs.declared.ir.Flow as code
+use Rattle.word_flow.specs.declared.shapes.Line.TheVariants as line
 
 -- a line leaves a flow first
 line_first : (g : CodedBody → Block) (l : Line) (fs : List (FlowOf Block))

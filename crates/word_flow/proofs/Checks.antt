@@ -1,35 +1,21 @@
 -- A test of a body of a table, after which its commands do it and code can be made of it.
-use Rattle.std.proofs.Common.{◌≡◌, ℕ, zero, suc, ◌+◌, ◌*◌, ◌^◌, ◌<◌, ◌≤◌, Bool, true, List, []}
-use Rattle.std.proofs.Common.{◌∷◌, map, length, Option, Some, None, refl, arith}
-use Rattle.std.specs.Prelude.{count_by, ◌&&◌, nat_lt, nat_le}
-use Rattle.std.specs.List.{AllByRecursion, list_all}
-use Rattle.std.proofs.lemmas.Bool.{and_parts, ltb-true}
+use Rattle.word_flow.proofs.Common.{AllByRecursion, symbols_held, reads_rows, plain_cost, and_parts}
+use Rattle.word_flow.proofs.Common.{coded_body, row_count, are_below, count_by, list_all, ltb-true}
+use Rattle.word_flow.proofs.Common.{eqb-true, sym_read, size_of, BodyCmd, FitBody, mark_at, are_own}
+use Rattle.word_flow.proofs.Common.{Symbols, length, Option, nat_lt, nat_le, lit_at, OutRow, out_at}
+use Rattle.word_flow.proofs.Common.{IsLeft, enters, leaves, placed, arith, Graph, Owner, Coded, ◌≡◌}
+use Rattle.word_flow.proofs.Common.{is_ap, zero, Bool, true, List, Some, None, refl, ◌&&◌, ◌==◌, []}
+use Rattle.word_flow.proofs.Common.{Room, suc, ◌+◌, ◌*◌, ◌^◌, ◌<◌, ◌≤◌, ◌∷◌, map, Lit, ℕ, most_is}
 use Rattle.dram_model.specs.declared.address.Cell.TheVariants.{D}
 use Rattle.dram_model.specs.declared.address.Line.{Line}
-use Rattle.mig_graph.specs.declared.Lit.{Lit}
-use Rattle.mig_graph.specs.Graph.{Graph, size_of}
-use Rattle.mig_graph.specs.Outputs.{lit_at}
-use Rattle.row_alloc.specs.declared.body.BodyCmd.{BodyCmd}
 use Rattle.row_alloc.specs.declared.body.Held.{Held}
-use Rattle.row_alloc.specs.declared.body.OutRow.{OutRow}
-use Rattle.row_alloc.specs.Rows.{out_at}
-use Rattle.row_alloc.specs.Body.{FitBody}
 use Rattle.row_alloc.specs.Layouts.{layout}
 use Rattle.row_alloc.specs.Legal.{are_legal}
 use Rattle.row_alloc.specs.Numbering.{own_rows}
-use Rattle.row_alloc.specs.Symbolic.{Symbols, sym_read}
-use Rattle.row_alloc.specs.Held.{reads_rows, symbols_held, IsLeft}
 use Rattle.row_alloc.proofs.First.{is_literal, is-literal}
-use Rattle.loop_ir.specs.States.{row_count, enters, leaves}
-use Rattle.loop_ir.specs.Costs.{plain_cost}
-use Rattle.loop_laws.specs.Rooms.{Room, Owner, placed}
-use Rattle.loop_laws.proofs.Fitting.{mark_at}
-use Rattle.loop_laws.proofs.EveryRound.{most_is}
-use Rattle.word_lower.specs.Shapes.{are_own, are_below}
 use Rattle.word_lower.proofs.Own.{own_graph}
 use Rattle.word_lower.proofs.LikeTemplates.{all_below}
-use Rattle.word_flow.specs.Coded.{Coded, coded_body, is_ap}
-use Rattle.word_flow.proofs.FlowBodies.{keeps, is_same, outs_with, Works}
+use Rattle.word_flow.proofs.FlowBodies.{only, keeps, is_same, outs_with, Works}
 use Rattle.word_flow.proofs.Views.{all_known}
 
 -- the first output's row ends with its literal
@@ -98,21 +84,11 @@ fits g lits same (suc zero) le inputs nodes named there = record {
   inputs = inputs;
   outputs = omega arith;
   rows = omega (arith, nodes);
-  named = name;
-  same = inside;
+  named = only (λ j. (out_at (outs_with same lits 1) j).lit.node < size_of g) named;
+  same = λ j k lt. only (λ j. (out_at (outs_with same lits 1) j).same ≡ Some k → k < g.inputs)
+      (there k) j lt;
   once = λ i j k li lj e f. omega (arith, li, lj);
 }
-  where
-    row : List OutRow
-    row = record { lit = lit_at lits 0; same = same } ∷ []
-
-    name : (j : ℕ) → j < 1 → (out_at row j).lit.node < size_of g
-    name zero lt = named
-    name (suc j) lt = absurd (omega (arith, lt))
-
-    inside : (j k : ℕ) → j < 1 → (out_at row j).same ≡ Some k → k < g.inputs
-    inside zero k lt e = there k e
-    inside (suc j) k lt e = absurd (omega (arith, lt))
 fits g lits same (suc (suc m)) le inputs nodes named there = absurd (omega (arith, le))
 
 ends : (g : Graph) (lits : List Lit) (same : Option ℕ) (enter : List Held) (cmds : List BodyCmd)
@@ -184,37 +160,43 @@ abbrev pub aps_in : List BodyCmd → ℕ
 aps_in cmds = count_by is_ap cmds
 
 -- So many times what it takes where no body has a sequence, and its weight, are no more than so many
--- times its commands, and its weight
+-- times its commands, and its weight; and so many times its weight are its AP
 pub record Weights : Type 0 where
   pub plain : ℕ
   pub less : ℕ
   pub cost : ℕ
   pub more : ℕ
+  pub aps : ℕ
 
 -- the body keeps the rules, its commands do it, and its weights are in this relation
 abbrev pub body_holds : List Room → List Owner → (List BodyCmd → ℕ) → Weights → Option ℕ → Coded
     → Bool
 body_holds rooms known x w same c = keeps rooms c.body && (all_known known c.body.reads
-    && (does_body c same && nat_le (w.plain * plain_cost (coded_body [] c)
-    + w.less * x c.cmds) (w.cost * length c.cmds + w.more * x c.cmds)))
+    && (does_body c same && (nat_le (w.plain * plain_cost (coded_body [] c) + w.less * x c.cmds)
+    (w.cost * length c.cmds + w.more * x c.cmds) && aps_in c.cmds == w.aps * x c.cmds)))
 
-pub record Stands (rooms : List Room) (known : List Owner) (x : List BodyCmd → ℕ) (w : Weights) (same : Option ℕ)
+pub record Stands (rooms : List Room) (known : List Owner) (x : List BodyCmd → ℕ) (w : Weights)
+    (same : Option ℕ)
     (c : Coded) : Type 0 where
   pub keeps : keeps rooms c.body ≡ true
   pub knows : all_known known c.body.reads ≡ true
   pub works : Works c same
   pub most : w.plain * plain_cost (coded_body [] c) + w.less * x c.cmds
       ≤ w.cost * length c.cmds + w.more * x c.cmds
+  pub counts : aps_in c.cmds ≡ w.aps * x c.cmds
 
-pub held_is : (rooms : List Room) (known : List Owner) (x : List BodyCmd → ℕ) (w : Weights) (same : Option ℕ) (c : Coded)
+pub held_is : (rooms : List Room) (known : List Owner) (x : List BodyCmd → ℕ) (w : Weights)
+    (same : Option ℕ) (c : Coded)
     → body_holds rooms known x w same c ≡ true → Stands rooms known x w same c
 held_is rooms known x w same c h =
     let p = and_parts (keeps rooms c.body) _ h in
     let q = and_parts (all_known known c.body.reads) _ p.1 in
     let r = and_parts (does_body c same) _ q.1 in
+    let s = and_parts (nat_le (w.plain * plain_cost (coded_body [] c) + w.less * x c.cmds) _) _ r.1 in
     record {
       keeps = p.0;
       knows = q.0;
       works = works_is c same r.0;
-      most = most_is _ _ r.1;
+      most = most_is _ _ s.0;
+      counts = eqb-true _ _ s.1;
     }

@@ -1,27 +1,15 @@
 -- The names of a word statement as owners of rooms, and what its targets hold.
-use Rattle.std.proofs.Common.{◌≡◌, ◌⊎◌, inl, inr, ℕ, ◌<◌, Bool, true}
-use Rattle.std.proofs.Common.{false, List, map, length, Option, Some, None, refl, sym, ap}
-use Rattle.std.proofs.Common.{◌∙◌, subst}
-use Rattle.std.specs.Prelude.{◌||◌, bytes_eq, if◌then◌else◌}
-use Rattle.std.proofs.lemmas.Slice.Eq.{bytes_eq-Decides}
-use Rattle.op_text.specs.declared.word_ops.WordOp.{WordOp}
-use Rattle.op_text.specs.Values.{bits, value, op_value, second_value}
-use Rattle.op_text.specs.WordOps.{second_gives}
-use Rattle.op_text.specs.Language.{Compute}
-use Rattle.op_text.specs.Rules.{is_among}
-use Rattle.op_text.specs.Meaning.{NameValue, width, number, args_width, computed, second_computed}
-use Rattle.op_text.specs.Meaning.{after_statement}
-use Rattle.loop_ir.specs.declared.names.Slot.{Slot}
-use Rattle.loop_ir.specs.Spots.{Spots}
-use Rattle.loop_ir.specs.Statements.{Slots, IsPlaced, ComputeMeets}
-use Rattle.loop_ir.specs.Lowered.{slot_bits, HoldsAt, Holds}
-use Rattle.word_lower.specs.Places.{AreAt}
+use Rattle.word_flow.proofs.Common.{◌≡◌, ◌⊎◌, inl, inr, ℕ, ◌<◌, Bool, true, false, List, map}
+use Rattle.word_flow.proofs.Common.{length, Option, Some, None, refl, sym, ap, ◌∙◌, subst, ◌||◌}
+use Rattle.word_flow.proofs.Common.{bytes_eq, if◌then◌else◌, bytes_eq-Decides, WordOp, bits, value}
+use Rattle.word_flow.proofs.Common.{op_value, second_value, second_gives, Compute, is_among, Slot}
+use Rattle.word_flow.proofs.Common.{Spots, Slots, IsPlaced, ComputeMeets, slot_bits, HoldsAt, Holds}
+use Rattle.word_flow.proofs.Common.{AreAt, slots_width, name_at, at_place, among_like, among_target}
+use Rattle.word_flow.proofs.Common.{among_arg, or_left, or_right, same_name, written, form_filled}
+use Rattle.word_flow.proofs.Common.{held_args, held_numbers, held_width, answer, by_name, NameValue}
+use Rattle.word_flow.proofs.Common.{width, args_width, computed, second_computed, after_statement}
+use Rattle.op_text.specs.Meaning.{number}
 use Rattle.word_lower.proofs.Pieces.{slot_at}
-use Rattle.word_lower.proofs.Lowering.{slots_width}
-use Rattle.word_lower.proofs.Statements.{name_at, at_place, among_like, among_target, among_arg}
-use Rattle.word_lower.proofs.Statements.{or_left, or_right, same_name, written}
-use Rattle.word_lower.proofs.Statements.{form_filled, held_args, held_numbers, held_width, answer}
-use Rattle.word_lower.proofs.Statements.{by_name}
 use Rattle.word_flow.proofs.Placing.{Name, Stands, not_same}
 
 -- a name that is none of these is not the same as one of them

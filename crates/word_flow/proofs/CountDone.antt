@@ -1,24 +1,17 @@
 -- The flow of bitcount does a statement of it.
-use Rattle.std.proofs.Common.{◌≡◌, ℕ, zero, suc, ◌+◌, ◌-◌, ◌*◌, ◌<◌, ◌≤◌, Bool, true, false, cond}
-use Rattle.std.proofs.Common.{List, [], ◌∷◌, None, refl, sym, ap, ◌∙◌, arith}
-use Rattle.std.specs.Prelude.{◌==◌, ◌/◌}
-use Rattle.std.proofs.lemmas.Bool.{ne_eqb}
-use Rattle.mig_graph.specs.Graph.{values_from}
-use Rattle.row_alloc.specs.Symbolic.{sense_three, first_node}
-use Rattle.op_text.specs.declared.tree.Kind.TheVariants.{Word}
-use Rattle.op_text.specs.declared.word_ops.WordOp.TheVariants as op
-use Rattle.op_text.specs.Values.{ones_of}
-use Rattle.loop_ir.specs.declared.ir.Space.{Space}
-use Rattle.loop_laws.specs.Rooms.{Extent, Full, Owner, InRoom, InCells}
-use Rattle.word_flow.specs.Programs.{flow_aps, flow_total, digits}
-use Rattle.word_flow.proofs.Checks.{Weights, aps_in, body_holds}
-use Rattle.word_flow.proofs.Counting.{State, InRange, does, loads, left, number, tally, bitcount_does}
+use Rattle.word_flow.proofs.Common.{◌≡◌, ℕ, zero, suc, ◌+◌, ◌*◌, ◌<◌, ◌≤◌, Bool, true, false, cond}
+use Rattle.word_flow.proofs.Common.{List, [], ◌∷◌, None, refl, sym, ap, ◌∙◌, arith, ◌==◌, ◌/◌, Word}
+use Rattle.word_flow.proofs.Common.{Space, Extent, Full, Owner, InRoom, InCells, flow_aps}
+use Rattle.word_flow.proofs.Common.{flow_total, digits, values_from, sense_three, first_node}
+use Rattle.word_flow.proofs.Targets.{answers_of, Weights, aps_in, body_holds, Operation, Value}
+use Rattle.word_flow.proofs.Targets.{OneDone, word_rooms, of_word, View, Step, stepped}
+use Rattle.word_flow.proofs.Counting.{State, InRange, does, loads, left, number, tally}
+use Rattle.word_flow.proofs.Counting.{bitcount_does}
 use Rattle.word_flow.proofs.Counts.{Part, Copied, Three, Two, Next, Carried, Summed, Cleared, code}
 use Rattle.word_flow.proofs.Counts.{bitcount}
-use Rattle.word_flow.proofs.Numbers.{tally_ones, square}
-use Rattle.word_flow.proofs.Targets.{Operation, Value, OneDone, word_rooms, of_word}
+use Rattle.word_flow.proofs.Numbers.{twice_below, tally_ones, square}
 use Rattle.word_flow.proofs.Totals.{total_is}
-use Rattle.word_flow.proofs.Views.{View, Step, stepped}
+use Rattle.op_text.specs.declared.word_ops.WordOp.TheVariants as op
 
 abbrev known : List Owner
 known = InRoom 0 ∷ InRoom 1 ∷ InCells 9 ∷ InCells 10 ∷ InCells 1 ∷ InCells 12 ∷ InCells 6 ∷ []
@@ -27,7 +20,7 @@ abbrev es : List Extent
 es = Full ∷ Full ∷ []
 
 abbrev w : Weights
-w = record { plain = 1; less = 0; cost = 5; more = 0 }
+w = record { plain = 1; less = 0; cost = 5; more = 0; aps = 1 }
 
 abbrev view : (ℕ → Bool) → State → View
 view x s (InRoom zero) v = s.y v
@@ -99,49 +92,25 @@ digits_few (suc k) e = by (e == 0) (digits_few k (e / 2))
     by false h = omega (arith, h)
 
 few : (n : ℕ) → 0 < n → 5 * flow_total op.Bitcount n ≤ 22 * (n * n) + 4 * n
-few zero some = absurd (omega (arith, some))
-few (suc zero) some = omega arith
-few (suc (suc n)) some =
-    let m = suc (suc n) in
-    let d = digits_few m m in
-    let t : flow_total op.Bitcount m ≡ 7 * m + digits m m - 2 - 6 * ones_of m m =
-    ap (λ b. cond b 1 (7 * m + digits m m - 2 - 6 * ones_of m m))
-    (ne_eqb m 1 (λ z. absurd (omega (arith, z)))) in
-    let q : m * m ≡ n * n + 4 * n + 4 = grind arith in
-    omega (arith, d, t, q)
+few n some = grind (arith, some, digits_few n n, twice_below n)
 
 at_least : (n : ℕ) → 0 < n → (n ≡ 1 → ⊥) → 1 < n
-at_least zero some ne = absurd (omega (arith, some))
-at_least (suc zero) some ne = absurd (ne refl)
-at_least (suc (suc n)) some ne = omega arith
+at_least n some ne = grind (arith, some, ne)
 
-operation : Operation op.Bitcount Part code bitcount es known aps_in (flow_aps op.Bitcount) w (Value op.Bitcount Word 0 (1 ∷ []))
+operation : Operation op.Bitcount Part code bitcount es known aps_in (flow_aps op.Bitcount) w
+    (Value op.Bitcount Word 0 (1 ∷ []))
 operation = record {
-  answers = λ n some small c. (let x = c (InRoom 1) in record {
-    S = State;
-    InRange = InRange n;
-    does = does x;
-    view = view x;
-    cost = λ (s : State). s.cost;
-    more = λ (s : State). 0;
-    alive = λ (s : State). s.alive;
-    step = step n x;
-    start = start c;
-    begins = refl;
-    fresh = refl;
-    free = refl;
-    light = refl;
-    Q = λ g s. (number s.y n ≡ tally x 0 n) × (s.cost ≡ flow_total op.Bitcount n);
-    whole = bitcount_does n some small x (flow_total op.Bitcount n) 0 0 0 0 0 0 0 0 (start c)
-        (λ many. (let e = total_is n (at_least n some many) in omega (arith, e)))
-        (λ one. ap (flow_total op.Bitcount) (sym one));
-    gives = λ g s q. (q.0 ∙ tally_ones x n, q.1, refl);
-  });
-  aps = λ n some rooms e. e;
-  plain = λ n some y h. (let f = few n some in let s = square n in omega (arith, h, f, s));
+  answers = λ n some small c. (let x = c (InRoom 1) in let total = flow_total op.Bitcount n in
+      answers_of State (InRange n) (does x) (view x) (λ s. s.cost) (λ s. 0) (λ s. s.alive) (step n x)
+      (start c) refl refl refl refl (λ g s. (number s.y n ≡ tally x 0 n) × (s.cost ≡ total))
+      (bitcount_does n some small x total 0 0 0 0 0 0 0 0 (start c)
+      (λ many. (let e = total_is n (at_least n some many) in omega (arith, e)))
+      (λ one. ap (flow_total op.Bitcount) (sym one))) (λ g s q. (q.0 ∙ tally_ones x n, q.1, refl)));
+  aps = λ n. omega arith;
+  plain = λ n some y h. omega (arith, h, few n some, square n);
   ceilings = λ n. refl;
 }
 
 pub count_done : OneDone op.Bitcount
-count_done = of_word op.Bitcount Word Part code bitcount known aps_in (flow_aps op.Bitcount) w (λ b. None) holds
-    (λ s0 w0 s1 w1. refl) operation refl refl (λ s0 w0 s1 w1 fb fw. refl)
+count_done = of_word Word operation holds (λ s0 w0 s1 w1. refl) refl refl
+    (λ s0 w0 s1 w1 fb fw. refl)

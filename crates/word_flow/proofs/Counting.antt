@@ -1,22 +1,16 @@
 -- bitcount: the elements of a level are added in pairs, and their carries are the next level's.
-use Rattle.std.proofs.Common.{◌≡◌, ℕ, zero, suc, ◌+◌, ◌-◌, ◌*◌, ◌^◌, ◌<◌, ◌≤◌, Bool, true, false}
-use Rattle.std.proofs.Common.{not, cond, List, [], ◌∷◌, refl, sym, ap, ◌∙◌, subst, arith}
-use Rattle.std.specs.Prelude.{slice_set, slice_index, ◌==◌, ◌/◌}
-use Rattle.std.proofs.lemmas.Bool.{eq-eqb, ne_eqb}
-use Rattle.std.proofs.Math.Nat.{pow-suc}
-use Rattle.bit_rows.specs.Bits.{majority}
-use Rattle.loop_ir.specs.declared.ir.Move.TheVariants.{SetT, Mov}
-use Rattle.loop_ir.specs.Flows.{FlowOf, TurnsOf, EventOf}
-use Rattle.loop_ir.specs.Flows.FlowOf.{End, Do, Put, If, Loop}
-use Rattle.loop_ir.specs.Flows.TurnsOf.{Last}
-pub use Rattle.word_lower.proofs.Setting.{bit, number}
-pub use Rattle.word_lower.proofs.Sums.{value_same as number_same}
-use Rattle.word_flow.proofs.Halving as halving
+use Rattle.word_flow.proofs.Common.{◌≡◌, ℕ, zero, suc, ◌+◌, ◌-◌, ◌*◌, ◌^◌, ◌<◌, ◌≤◌, Bool, true}
+use Rattle.word_flow.proofs.Common.{false, not, cond, List, [], ◌∷◌, refl, sym, ap, ◌∙◌, subst}
+use Rattle.word_flow.proofs.Common.{arith, slice_index, ◌==◌, ◌/◌, eq-eqb, ne_eqb, pow-suc, SetT}
+use Rattle.word_flow.proofs.Common.{Mov, FlowOf, EventOf, End, Do, Put, If, Loop, Last, wp_some}
+use Rattle.word_flow.proofs.Common.{Fine, majority}
 use Rattle.word_flow.proofs.Halving.{halve}
 use Rattle.word_flow.proofs.Counts.{Part, Copied, Three, Two, Next, Carried, Summed, Cleared}
 use Rattle.word_flow.proofs.Counts.{load_next, next_pair, filled, level, above, bitcount}
-use Rattle.loop_laws.proofs.FlowLogic.{Claim, wp, wp_some, wp_none, wp_loop}
-use Rattle.loop_laws.proofs.FlowFine.{Fine}
+use Rattle.word_flow.proofs.Loops.{◌▹◌, regs, before, each}
+pub use Rattle.word_lower.proofs.Setting.{bit, number}
+pub use Rattle.word_lower.proofs.Sums.{value_same as number_same}
+use Rattle.word_flow.proofs.Halving as halving
 
 -- the target's rows, the cells in which two bits, the complement of the second and that of a third
 -- one are added, that of their sum, the states that a body may read, and the commands so far
@@ -49,22 +43,10 @@ sum_of b a na nc = majority (not b) (carry_of b a nc) (majority nc na (carry_of 
 digit : (b a na nc : Bool) → na ≡ not a → bit (not (sum_of b a na nc)) + 2 * bit (carry_of b a nc)
     ≡ bit b + bit a + bit (not nc)
 unfolding majority
-digit true true true nc e = absurd (cc)
-digit true true false true e = refl
-digit true true false false e = refl
-digit true false true true e = refl
-digit true false true false e = refl
-digit true false false nc e = absurd (cc)
-digit false true true nc e = absurd (cc)
-digit false true false true e = refl
-digit false true false false e = refl
-digit false false true true e = refl
-digit false false true false e = refl
-digit false false false nc e = absurd (cc)
+digit b a na nc e = grind (arith, e)
 
 not_not : (b : Bool) → not (not b) ≡ b
-not_not true = refl
-not_not false = refl
+not_not b = grind arith
 
 -- how many of so many bits from a place on are set
 unfoldable pub tally : (ℕ → Bool) → ℕ → ℕ → ℕ
@@ -115,8 +97,7 @@ levels_cost (suc k) e = level_cost e + levels_cost k (e / 2)
 
 filled_cost : (e h : ℕ) → e / 2 ≡ suc h → level_cost e ≡ 6 * suc h + 2
 unfolding level_cost
-filled_cost e h is = ap (λ v. cond (v == 0) (cond (e == 0) 1 0) (6 * v + 2)) is
-    ∙ ap (λ b. cond b (cond (e == 0) 1 0) (6 * suc h + 2)) (ne_eqb (suc h) 0 (λ z. absurd (omega (arith, z))))
+filled_cost e h is = grind (arith, is)
 
 -- the states that a sum is made of, and the one that it leaves
 abbrev pub loads : List ℕ
@@ -135,41 +116,26 @@ from x false t = t.y
 
 -- bits and the complement of a sum come into cells
 abbrev pub loaded : State → Bool → Bool → Bool → ℕ → State
-loaded t b a nc cost = record {
-  y = t.y;
+loaded t b a nc cost = record t {
   b = b;
   a = a;
   na = not a;
   nc = nc;
-  ns = t.ns;
   alive = loads;
   cost = t.cost + cost;
 }
 
 -- a bit goes into a row of the target
 abbrev pub stored : State → ℕ → Bool → State
-stored t c v = record {
-  y = put t.y c v;
-  b = t.b;
-  a = t.a;
-  na = t.na;
-  nc = t.nc;
-  ns = t.ns;
-  alive = [];
-  cost = t.cost + 1;
-}
+stored t c v = record t { y = put t.y c v; alive = []; cost = t.cost + 1 }
 
 abbrev pub does : (ℕ → Bool) → Part → List ℕ → State → State
 does x Copied g t = stored t 0 (x 0)
 does x (Three f) g t = loaded t (from x f t (at g 3)) (from x f t (at g 4)) (not (from x f t (at g 0))) 4
 does x (Two f) g t = loaded t (from x f t (at g 0)) (from x f t (at g 4)) true 4
 does x (Next f) g t = loaded t (from x f t (at g 3)) (from x f t (at g 4)) t.ns 3
-does x Carried g t = record {
+does x Carried g t = record t {
   y = put t.y (at g 5) (carry_of t.b t.a t.nc);
-  b = t.b;
-  a = t.a;
-  na = t.na;
-  nc = t.nc;
   ns = sum_of t.b t.a t.na t.nc;
   alive = left;
   cost = t.cost + 3;
@@ -190,14 +156,11 @@ module _ (n : ℕ) (some : 0 < n) (small : n ≤ 128) (x : ℕ → Bool) (total 
   abbrev F : EventOf Part → State → Type 0
   F = Fine Part State n (InRange n)
 
-  abbrev W : FlowOf Part → Claim Part State n F (does x) → Claim Part State n F (does x)
-  W f = wp Part State n F (does x) f
-
   abbrev Asked : Type 1
-  Asked = Claim Part State n F (does x)
+  Asked = List ℕ → State → Type 0
 
-  abbrev regs : ℕ → ℕ → ℕ → ℕ → ℕ → ℕ → ℕ → ℕ → List ℕ
-  regs o e h p a c w j = o ∷ e ∷ h ∷ p ∷ a ∷ c ∷ w ∷ j ∷ []
+  abbrev W : FlowOf Part → Asked → Asked
+  W f = before Part State n (InRange n) (does x) f
 
   -- half of the elements, and whether one is left
   halved : (o e h0 p0 a c w j : ℕ) (k : FlowOf Part) (Q : Asked) (s : State) → e ≤ n
@@ -256,8 +219,8 @@ module _ (n : ℕ) (some : 0 < n) (small : n ≤ 128) (x : ℕ → Bool) (total 
       let lt = l.behind in
       let one : suc j ≡ j + 1 = omega arith in
       let at_c : o + 1 + j ≡ c = sym place in
-      let carries : tally y (o + 1) j ≡ tally t.y (o + 1) j = tally_same y t.y (o + 1) j (λ i li.
-      put_other t.y c v (o + 1 + i) (λ e. absurd (omega (arith, e, place, li)))) in
+      let carries : tally y (o + 1) j ≡ tally t.y (o + 1) j = tally_same y t.y (o + 1) j
+      (λ i li. grind (arith, place, li)) in
       let last : y (o + 1 + j) ≡ v = ap y at_c ∙ put_same t.y c v in
       let top = ap bit last in
       let more : tally y (o + 1) (j + 1) ≡ tally t.y (o + 1) j + bit v =
@@ -269,8 +232,7 @@ module _ (n : ℕ) (some : 0 < n) (small : n ≤ 128) (x : ℕ → Bool) (total 
         alive = refl;
         paid = omega (arith, l.paid);
         full = omega (arith, l.full);
-        low_is = number_same y t.y o (λ i li. put_other t.y c v i
-            (λ e. absurd (omega (arith, e, place, li)))) ∙ l.low_is;
+        low_is = number_same y t.y o (λ i li. grind (arith, place, li)) ∙ l.low_is;
         sum = omega (arith, more, rest, d, l.sum);
         place = omega (arith, place);
         behind = omega (arith, lt);
@@ -282,41 +244,31 @@ module _ (n : ℕ) (some : 0 < n) (small : n ≤ 128) (x : ℕ → Bool) (total 
           → tally (from x b (does x Carried (regs o0 e0 h0 p0 a0 c w0 j0) t)) a k
           ≡ tally (from x b t) a k
       kept true t a c k lt = refl
-      kept false t a c k lt = tally_same (put t.y c (carry_of t.b t.a t.nc)) t.y a k (λ i li.
-          put_other t.y c (carry_of t.b t.a t.nc) (a + i) (λ e. absurd (omega (arith, e, lt))))
+      kept false t a c k lt = tally_same (put t.y c (carry_of t.b t.a t.nc)) t.y a k
+          (λ i li. grind (arith, lt))
 
-  from_same : (b : Bool) (t s : State) (a k : ℕ) → s.y ≡ t.y → tally (from x b s) a k ≡ tally (from x b t) a k
+  from_same : (b : Bool) (t s : State) (a k : ℕ) → s.y ≡ t.y → tally (from x b s) a k
+      ≡ tally (from x b t) a k
   from_same true t s a k e = refl
   from_same false t s a k e = ap (λ y. tally y a k) e
 
   -- the loop over the pairs
   pairs : (b : Bool) (o e h low all due j a c m w v : ℕ) (Q : Asked) (k : FlowOf Part) (t : State)
       → m ≤ n → Before b o h low all due j m a c t
-      → ((j a c : ℕ) (s : State) → Paired b o h low all due j 0 a c s → W k Q (regs o e 0 (a + 1) a c w v) s)
+      → ((j a c : ℕ) (s : State) → Paired b o h low all due j 0 a c s
+      → W k Q (regs o e 0 (a + 1) a c w v) s)
       → W (Loop 2 (Last (next_pair b)) k) Q (regs o e m (a + 1) a c w v) t
   unfolding tally
-  pairs b o e h low all due j a c m w v Q k t le i f =
-      wp_loop Part State n F (does x) 2 (Last (next_pair b)) I k Q (regs o e m (a + 1) a c w v) t le
-      step (j, a, c, refl, i) (λ ts g t i. subst (λ l. W k Q l t) (sym i.3) (f i.0 i.1 i.2 t i.4))
+  pairs b o e h low all due j a c m w v Q k t le i f = each Part State n (InRange n) (does x) 2
+      (next_pair b) k Q (ℕ × ℕ × ℕ) (λ y m. regs o e m (y.1 + 1) y.1 y.2 w v)
+      (λ y m t. Before b o h low all due y.0 m y.1 y.2 t) (λ y m. refl)
+      (λ y m t R l go. turn m y.0 y.1 y.2 t R l go) (λ y t l. f y.0 y.1 y.2 t l) (j, a, c) m t refl le i
     where
-      I : TurnsOf Part → ℕ → Asked
-      I ts m g t = (j : ℕ) × (a : ℕ) × (c : ℕ) × (g ≡ regs o e m (a + 1) a c w v)
-          × Before b o h low all due j m a c t
-
       turn : (m j a c : ℕ) (t : State) (R : Asked) → Loaded b o h low all due j m a c t
-          → ((h : List ℕ) (t : State) → I (Last (next_pair b)) m h t → R h t)
-          → W (next_pair b) R (regs o e m (a + 1) a c w v) t
-      turn zero j a c t R l f =
-          let p = carried b t o h low all due j 0 a c o e 0 (a + 1) a w v l in (
-            (omega (arith, l.up), l.alive),
-            (
-              omega (arith, l.up, small),
-              wp_none Part State n F (does x) 2 (load_next b) End End R
-                  (regs o e 0 (a + 1) a (c + 1) w v) (does x Carried (regs o e 0 (a + 1) a c w v) t) refl
-                  (f (regs o e 0 (a + 1) a (c + 1) w v) (does x Carried (regs o e 0 (a + 1) a c w v) t)
-                  (j + 1, a, c + 1, refl, p)),
-            ),
-          )
+          → ((y : ℕ × ℕ × ℕ) (t : State) → Before b o h low all due y.0 m y.1 y.2 t
+          → R (regs o e m (y.1 + 1) y.1 y.2 w v) t) → W (next_pair b) R (regs o e m (a + 1) a c w v) t
+      turn zero j a c t R l f = (omega (arith, l.up), l.alive) ▹ omega (arith, l.up, small)
+          ▹ f (j + 1, a, c + 1) _ (carried b t o h low all due j 0 a c o e 0 (a + 1) a w v l)
       turn (suc m) j a c t R l f =
           let p = carried b t o h low all due j (suc m) a c o e (suc m) (a + 1) a w v l in
           let t1 = does x Carried (regs o e (suc m) (a + 1) a c w v) t in
@@ -337,30 +289,12 @@ module _ (n : ℕ) (some : 0 < n) (small : n ≤ 128) (x : ℕ → Bool) (total 
             behind = omega (arith, p.behind);
             room = omega (arith, r);
             up = omega (arith, p.up);
-          } in (
-            (omega (arith, l.up), l.alive),
-            (
-              omega (arith, l.up, small),
-              wp_some Part State n F (does x) 2 m (load_next b) End End R
-                  (regs o e (suc m) (a + 1) a (c + 1) w v) t1 refl (
-                    (omega (arith, r), omega (arith, r), refl),
-                    (
-                      omega (arith, r, small),
-                      (
-                        omega (arith, r, small),
-                        f (regs o e (suc m) (a + 1 + 2) (a + 2) (c + 1) w v) t2
-                            (j + 1, a + 2, c + 1, ap (λ z. regs o e (suc m) z (a + 2) (c + 1) w v) (sym swap), q),
-                      ),
-                    ),
-                  ),
-            ),
-          )
-
-      step : (m : ℕ) (g : List ℕ) (t : State) (R : Asked) → I (Last (next_pair b)) (suc m) g t
-          → ((h : List ℕ) (t : State) → I (Last (next_pair b)) m h t → R h t)
-          → W (next_pair b) R (slice_set g 2 m) t
-      step m g t R i f = subst (λ l. W (next_pair b) R (slice_set l 2 m) t) (sym i.3)
-          (turn m i.0 i.1 i.2 t R i.4 f)
+          } in
+          (omega (arith, l.up), l.alive) ▹ omega (arith, l.up, small)
+          ▹ wp_some Part State n F (does x) 2 m (load_next b) End End R
+          (regs o e (suc m) (a + 1) a (c + 1) w v) t1 refl ((omega (arith, r), omega (arith, r), refl)
+          ▹ omega (arith, r, small) ▹ omega (arith, r, small)
+          ▹ subst (λ z. R (regs o e (suc m) z (a + 2) (c + 1) w v) t2) swap (f (j + 1, a + 2, c + 1) t2 q))
 
   -- a level with pairs: its bit of the target, and the elements of the level above
   filled_level : (b : Bool) (o e h p a0 c0 w v : ℕ) (Q : Asked) (t : State) → 0 < h → p ≤ 1
@@ -407,10 +341,9 @@ module _ (n : ℕ) (some : 0 < n) (small : n ≤ 128) (x : ℕ → Bool) (total 
           let y = put s.y o bit_o in
           let one : suc o ≡ o + 1 = omega arith in
           let js : j ≡ h = omega (arith, i.full) in
-          let carries : tally y (o + 1) h ≡ tally s.y (o + 1) h = tally_same y s.y (o + 1) h (λ q lq.
-          put_other s.y o bit_o (o + 1 + q) (λ z. absurd (omega (arith, z)))) in
-          let lower : number y o ≡ number s.y o = number_same y s.y o (λ q lq.
-          put_other s.y o bit_o q (λ z. absurd (omega (arith, z, lq)))) in
+          let carries : tally y (o + 1) h ≡ tally s.y (o + 1) h = tally_same y s.y (o + 1) h
+          (λ q lq. grind arith) in
+          let lower : number y o ≡ number s.y o = number_same y s.y o (λ q lq. grind (arith, lq)) in
           let here = ap (λ z. bit z * 2 ^ o) (put_same s.y o bit_o) in
           let sum : bit bit_o + 2 * tally s.y (o + 1) h ≡ all =
           ap (λ z. bit bit_o + 2 * tally s.y (o + 1) z) (sym js) ∙ (let z : bit bit_o
@@ -459,30 +392,13 @@ module _ (n : ℕ) (some : 0 < n) (small : n ≤ 128) (x : ℕ → Bool) (total 
           let place : o + 1 + 1 ≡ o + 2 + 0 = omega arith in
           let none : o + 2 ≡ o + 2 + 0 = omega arith in
           let there = ap (λ z. tally (from x b t) z (2 * (h - 1))) none in
-          let i = first 0 c d true is (omega (arith, front, there)) in (
-            tt,
-            (
-              omega (arith, r, is, many, small),
-              (
-                tt,
-                (
-                  (omega (arith, r, is, many), omega (arith, r, is, many)),
-                  (
-                    omega (arith, r, is, many, small),
-                    (
-                      tt,
-                      (
-                        omega (arith, r, is, many, small),
-                        subst (λ z. W (Loop 2 (Last (next_pair b)) (Do Summed End)) Q
-                            (regs o h h (z + 1) z (o + 1) w v) (loaded t c d true 4)) (sym place)
-                            (begun (o + 2 + 0) (loaded t c d true 4) i),
-                      ),
-                    ),
-                  ),
-                ),
-              ),
-            ),
-          )
+          let i = first 0 c d true is (omega (arith, front, there)) in
+          tt ▹ omega (arith, r, is, many, small) ▹ tt
+          ▹ (omega (arith, r, is, many), omega (arith, r, is, many))
+          ▹ omega (arith, r, is, many, small) ▹ tt ▹ omega (arith, r, is, many, small)
+          ▹ subst (λ z. W (Loop 2 (Last (next_pair b)) (Do Summed End)) Q
+          (regs o h h (z + 1) z (o + 1) w v) (loaded t c d true 4)) (sym place)
+          (begun (o + 2 + 0) (loaded t c d true 4) i)
       by (suc zero) le is =
           let c = from x b t o in
           let d = from x b t (o + 1) in
@@ -490,45 +406,21 @@ module _ (n : ℕ) (some : 0 < n) (small : n ≤ 128) (x : ℕ → Bool) (total 
           let three : e ≡ suc (suc (suc (2 * (h - 1)))) = omega (arith, is, hs) in
           let up : o + 1 + 2 ≡ o + 2 + 1 = omega arith in
           let next : o + 1 + 1 + 2 ≡ o + 2 + 1 + 1 = omega arith in
-          let front = ap (tally (from x b t) o) three ∙ tally_front (from x b t) o (suc (suc (2 * (h - 1)))) in
+          let front = ap (tally (from x b t) o) three ∙ tally_front (from x b t) o (suc (suc (2 * (h - 1))))
+          in
           let more = tally_two (from x b t) (o + 1) (2 * (h - 1)) in
           let there = ap (λ z. tally (from x b t) z (2 * (h - 1))) up in
           let twice : bit (not (not c)) ≡ bit c = ap bit (not_not c) in
           let r = l.room in
           let i = first 1 g d (not c) is (omega (arith, front, more, there, twice)) in
-          let new = loaded t g d (not c) 4 in (
-            tt,
-            (
-              omega (arith, r, is, many, small),
-              (
-                tt,
-                (
-                  tt,
-                  (
-                    omega (arith, r, is, many, small),
-                    (
-                      (
-                        omega (arith, r, is, many),
-                        omega (arith, r, is, many),
-                        omega (arith, r, is, many),
-                      ),
-                      (
-                        omega (arith, r, is, many, small),
-                        (
-                          omega (arith, r, is, many, small),
-                          subst (λ z. W (Loop 2 (Last (next_pair b)) (Do Summed End)) Q
-                              (regs o h h z (o + 1 + 2) (o + 1) w v) new) (sym next)
-                              (subst (λ z. W (Loop 2 (Last (next_pair b)) (Do Summed End)) Q
-                              (regs o h h (o + 2 + 1 + 1) z (o + 1) w v) new) (sym up)
-                              (begun (o + 2 + 1) new i)),
-                        ),
-                      ),
-                    ),
-                  ),
-                ),
-              ),
-            ),
-          )
+          let new = loaded t g d (not c) 4 in
+          tt ▹ omega (arith, r, is, many, small) ▹ tt ▹ tt ▹ omega (arith, r, is, many, small)
+          ▹ (omega (arith, r, is, many), omega (arith, r, is, many), omega (arith, r, is, many))
+          ▹ omega (arith, r, is, many, small) ▹ omega (arith, r, is, many, small)
+          ▹ subst (λ z. W (Loop 2 (Last (next_pair b)) (Do Summed End)) Q
+          (regs o h h z (o + 1 + 2) (o + 1) w v) new) (sym next)
+          (subst (λ z. W (Loop 2 (Last (next_pair b)) (Do Summed End)) Q
+          (regs o h h (o + 2 + 1 + 1) z (o + 1) w v) new) (sym up) (begun (o + 2 + 1) new i))
       by (suc (suc p)) le is = absurd (omega (arith, le))
 
   -- a level: with pairs, or else what is done for one element or none
@@ -564,15 +456,19 @@ module _ (n : ℕ) (some : 0 < n) (small : n ≤ 128) (x : ℕ → Bool) (total 
       let y = put t.y o false in
       let one : suc o ≡ o + 1 = omega arith in
       let here = ap (λ z. bit z * 2 ^ o) (put_same t.y o false) in
-      let lower : number y o ≡ number t.y o = number_same y t.y o (λ q lq.
-      put_other t.y o false q (λ z. absurd (omega (arith, z, lq)))) in
+      let lower : number y o ≡ number t.y o = number_same y t.y o (λ q lq. grind (arith, lq)) in
       let spelled : number y (suc o) + 2 ^ suc o * 0 ≡ tally x 0 n = omega (arith, here, lower, l.counted)
       in (
         lo,
         f (stored t o false) (record {
           levels = l.levels - 1;
           there = omega (arith, l.there, lo);
-          paid = λ z. omega (arith, l.paid (λ e k. absurd (cc)), later l.levels 0 1 refl (omega (arith, l.there, lo)));
+          paid = λ z. omega (
+            arith,
+            l.paid (λ e k. absurd (cc)),
+            later l.levels 0 1 refl
+                (omega (arith, l.there, lo)),
+          );
           room = omega (arith, lo);
           counted = subst (λ z. number y z + 2 ^ z * 0 ≡ tally x 0 n) one spelled;
         }),
@@ -588,7 +484,12 @@ module _ (n : ℕ) (some : 0 < n) (small : n ≤ 128) (x : ℕ → Bool) (total 
       f t (record {
         levels = l.levels - 1;
         there = omega (arith, l.there, lo);
-        paid = λ z. omega (arith, l.paid (λ e k. absurd (cc)), later l.levels 1 0 refl (omega (arith, l.there, lo)));
+        paid = λ z. omega (
+          arith,
+          l.paid (λ e k. absurd (cc)),
+          later l.levels 1 0 refl
+              (omega (arith, l.there, lo)),
+        );
         room = omega (arith, lo);
         counted = subst (λ z. number t.y z + 2 ^ z * 0 ≡ tally x 0 n) one spelled;
       })
@@ -603,43 +504,36 @@ module _ (n : ℕ) (some : 0 < n) (small : n ≤ 128) (x : ℕ → Bool) (total 
       → ((g : List ℕ) (s : State) → number s.y n ≡ tally x 0 n → s.cost ≡ total → Q g s)
       → W (Loop 6 (Last above) End) Q (regs o e h p a c w v) t
   unfolding tally levels_cost
-  levels o e h p a c w v Q t is le lt l f =
-      wp_loop Part State n F (does x) 6 (Last above) I End Q (regs o e h p a c w v) t le step
-      (o, e, h, p, a, c, refl, omega (arith, is, lt), l) ends
+  levels o e h p a c w v Q t is le lt l f = each Part State n (InRange n) (does x) 6 above End Q
+      (ℕ × ℕ × ℕ × ℕ × ℕ × ℕ) (λ y m. regs y.0 y.1 y.2 y.3 y.4 y.5 m v)
+      (λ y m t. (y.0 + 1 + m ≡ n) × Levelled false (y.0 + 1) y.1 t) (λ y m. refl) step ends
+      (o, e, h, p, a, c) w t refl le (omega (arith, is, lt), l)
     where
-      I : TurnsOf Part → ℕ → Asked
-      I ts m g t = (o : ℕ) × (e : ℕ) × (h : ℕ) × (p : ℕ) × (a : ℕ) × (c : ℕ)
-          × (g ≡ regs o e h p a c m v) × (o + 1 + m ≡ n) × Levelled false (o + 1) e t
+      step : (y : ℕ × ℕ × ℕ × ℕ × ℕ × ℕ) (m : ℕ) (t : State) (R : Asked)
+          → (y.0 + 1 + suc m ≡ n) × Levelled false (y.0 + 1) y.1 t
+          → ((z : ℕ × ℕ × ℕ × ℕ × ℕ × ℕ) (t : State) → (z.0 + 1 + m ≡ n) × Levelled false (z.0 + 1) z.1 t
+          → R (regs z.0 z.1 z.2 z.3 z.4 z.5 m v) t) → W above R (regs y.0 y.1 y.2 y.3 y.4 y.5 m v) t
+      step y m t R i f =
+          let o = y.0 in
+          let k = i.0 in
+          omega (arith, k, small) ▹ level_does false (o + 1) y.1 y.2 y.3 y.4 y.5 m v
+          (If 3 End (Do Cleared End) End) End R t i.1
+          (λ p a c is le. lone (o + 1) p a c m v R t (omega (arith, k)) le
+          (subst (λ z. Levelled false (o + 1) z t) is i.1)
+          (λ s j. f (o + 1, 0, 0, p, a, c) s (omega (arith, k), j)))
+          (λ h p a c s j. f (o + 1, h, 0, p, a, c) s (omega (arith, k), j))
 
-      step : (m : ℕ) (g : List ℕ) (t : State) (R : Asked) → I (Last above) (suc m) g t
-          → ((h : List ℕ) (t : State) → I (Last above) m h t → R h t) → W above R (slice_set g 6 m) t
-      step m g t R i f =
-          let o = i.0 in
-          let e = i.1 in
-          let k = i.7 in
-          let l = i.8 in
-          subst (λ g. W above R (slice_set g 6 m) t) (sym i.6) (
-            omega (arith, k, small),
-            level_does false (o + 1) e i.2 i.3 i.4 i.5 m v
-                (If 3 End (Do Cleared End) End) End R t l
-                (λ p a c is le. lone (o + 1) p a c m v R t (omega (arith, k)) le
-                (subst (λ z. Levelled false (o + 1) z t) is l)
-                (λ s j. f (regs (o + 1) 0 0 p a c m v) s
-                (o + 1, 0, 0, p, a, c, refl, omega (arith, k), j)))
-                (λ h p a c s j. f (regs (o + 1) h 0 p a c m v) s
-                (o + 1, h, 0, p, a, c, refl, omega (arith, k), j)),
-          )
-
-      ends : (ts : TurnsOf Part) (g : List ℕ) (t : State) → I ts 0 g t → Q g t
-      ends ts g t i =
-          let l = i.8 in
-          let k : i.0 + 1 ≡ n = omega (arith, i.7) in
-          let none : i.1 ≡ 0 = omega (arith, l.room, i.7) in
-          let over : l.levels ≡ 0 = omega (arith, l.there, i.7) in
+      ends : (y : ℕ × ℕ × ℕ × ℕ × ℕ × ℕ) (t : State) → (y.0 + 1 + 0 ≡ n) × Levelled false (y.0 + 1) y.1 t
+          → Q (regs y.0 y.1 y.2 y.3 y.4 y.5 0 v) t
+      ends y t i =
+          let l = i.1 in
+          let k : y.0 + 1 ≡ n = omega (arith, i.0) in
+          let none : y.1 ≡ 0 = omega (arith, l.room, i.0) in
+          let over : l.levels ≡ 0 = omega (arith, l.there, i.0) in
           let paid = l.paid (λ e k. absurd (cc)) in
-          let nothing = ap (λ z. levels_cost z i.1) over in
-          f g t (subst (λ z. number t.y z ≡ tally x 0 n) k
-          (let s = ap (λ z. 2 ^ (i.0 + 1) * tally t.y (i.0 + 1) z) none in
+          let nothing = ap (λ z. levels_cost z y.1) over in
+          f _ t (subst (λ z. number t.y z ≡ tally x 0 n) k
+          (let s = ap (λ z. 2 ^ (y.0 + 1) * tally t.y (y.0 + 1) z) none in
           omega (arith, s, l.counted))) (omega (arith, paid, nothing))
 
   -- the whole: wherever the registers begin
@@ -647,26 +541,12 @@ module _ (n : ℕ) (some : 0 < n) (small : n ≤ 128) (x : ℕ → Bool) (total 
       → ((n ≡ 1 → ⊥) → t.cost + levels_cost n n ≡ total) → (n ≡ 1 → t.cost + 1 ≡ total)
       → W bitcount (λ g s. (number s.y n ≡ tally x 0 n) × (s.cost ≡ total)) (regs o e h p a c w v) t
   unfolding tally levels_cost
-  bitcount_does o e h p a c w v t pays pays_one = (
-    tt,
-    (
-      tt,
-      level_does true 0 n h p a c w v (Do Copied End) up Q t start
-          (λ p a c is le. (
-            some,
-            (
-              tt,
-              levels 0 0 0 p a c (n - 1) v Q copied (omega (arith, some))
-                  (omega arith) (omega (arith, some)) (one p is le) (λ g s k j. (k, j)),
-            ),
-          ))
-          (λ h p a c s l. (
-            tt,
-            levels 0 h 0 p a c (n - 1) v Q s (omega (arith, some)) (omega arith)
-                (omega (arith, some)) l (λ g s k j. (k, j)),
-          )),
-    ),
-  )
+  bitcount_does o e h p a c w v t pays pays_one = tt ▹ tt
+      ▹ level_does true 0 n h p a c w v (Do Copied End) up Q t start
+      (λ p a c is le. some ▹ tt ▹ levels 0 0 0 p a c (n - 1) v Q copied (omega (arith, some))
+      (omega arith) (omega (arith, some)) (one p is le) (λ g s k j. (k, j)))
+      (λ h p a c s l. tt ▹ levels 0 h 0 p a c (n - 1) v Q s (omega (arith, some)) (omega arith)
+      (omega (arith, some)) l (λ g s k j. (k, j)))
     where
       Q : Asked
       Q = λ g s. (number s.y n ≡ tally x 0 n) × (s.cost ≡ total)

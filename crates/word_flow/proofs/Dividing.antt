@@ -1,25 +1,19 @@
 -- Divisions: a window of the dividend's bits, from which the divisor is taken where it fits.
-use Rattle.std.proofs.Common.{◌≡◌, ℕ, zero, suc, ◌+◌, ◌-◌, ◌*◌, ◌^◌, ◌<◌, ◌≤◌, Bool, true, false, not}
-use Rattle.std.proofs.Common.{List, [], ◌∷◌, refl, sym, ap, ◌∙◌, subst, ⊎_elim, arith}
-use Rattle.std.specs.Prelude.{slice_set, slice_index}
-use Rattle.std.proofs.lemmas.Bool.{cases_lt}
-use Rattle.std.proofs.lemmas.Nat.{pow-add}
-use Rattle.std.proofs.Math.Nat.{pow-suc}
-use Rattle.bit_rows.specs.Bits.{majority}
-use Rattle.loop_ir.specs.declared.ir.Move.TheVariants.{SetI, SetN, AddI, SubI}
-use Rattle.loop_ir.specs.Flows.{FlowOf, TurnsOf, EventOf}
-use Rattle.loop_ir.specs.Flows.FlowOf.{End, Do, Put, If, Loop}
-use Rattle.loop_ir.specs.Flows.TurnsOf.{Last}
+use Rattle.word_flow.proofs.Common.{◌≡◌, ℕ, zero, suc, ◌+◌, ◌-◌, ◌*◌, ◌^◌, ◌<◌, ◌≤◌, Bool, true}
+use Rattle.word_flow.proofs.Common.{false, not, cond, List, [], ◌∷◌, refl, sym, ap, ◌∙◌, subst}
+use Rattle.word_flow.proofs.Common.{arith, slice_index, SetI, SetN, AddI, SubI, FlowOf, EventOf}
+use Rattle.word_flow.proofs.Common.{End, Do, Put, If, Loop, Last, wp_some, wp_none, Fine, majority}
 use Rattle.word_flow.proofs.Quotients.{Part, GatherTop, Gather, First, Over, Above, Kept, TakeFirst}
 use Rattle.word_flow.proofs.Quotients.{Take, gather_next, gathers, over, take, takes, compares}
-use Rattle.word_flow.proofs.Quotients.{step_left, step_lone, div, divmod}
-use Rattle.loop_laws.proofs.FlowLogic.{Claim, wp, wp_some, wp_none, wp_loop}
-use Rattle.loop_laws.proofs.FlowFine.{Fine}
+use Rattle.word_flow.proofs.Quotients.{step_of, division}
 use Rattle.word_flow.proofs.Counting.{bit, put, put_same, put_other}
+use Rattle.word_flow.proofs.Loops.{◌▹◌, regs, before, each}
+use Rattle.word_flow.proofs.Slices.{val, val_same, val_below, val_none, val_one, val_more}
+use Rattle.word_flow.proofs.Slices.{val_front, val_split, power}
 
 -- the window's rows, the quotient's, and those of the higher bits; the bit of the quotient that was
 -- written last; what is found, a zero, and a borrow in cells; the states that a body may read, and
--- the commands so far
+-- the commands and AP so far
 pub record State : Type 0 where
   pub w : ℕ → Bool
   pub q : ℕ → Bool
@@ -30,6 +24,7 @@ pub record State : Type 0 where
   pub b : Bool
   pub alive : List ℕ
   pub cost : ℕ
+  pub aps : ℕ
 
 abbrev pub found_left : List ℕ
 found_left = 0 ∷ []
@@ -66,21 +61,11 @@ less_first r y = majority (not y) (half_first r y) (lent_first r y)
 
 taken : (r b y : Bool) → bit (less r b y) + bit y + bit b ≡ bit r + 2 * bit (lent r b y)
 unfolding majority
-taken true true true = refl
-taken true true false = refl
-taken true false true = refl
-taken true false false = refl
-taken false true true = refl
-taken false true false = refl
-taken false false true = refl
-taken false false false = refl
+taken r b y = grind arith
 
 taken_first : (r y : Bool) → bit (less_first r y) + bit y ≡ bit r + 2 * bit (lent_first r y)
 unfolding majority
-taken_first true true = refl
-taken_first true false = refl
-taken_first false true = refl
-taken_first false false = refl
+taken_first r y = grind arith
 
 -- the divisor's bit where it is taken away
 abbrev both : Bool → Bool → Bool
@@ -89,168 +74,73 @@ both false y = false
 
 both_is : (d q : Bool) → majority false d q ≡ both q d
 unfolding majority
-both_is true true = refl
-both_is true false = refl
-both_is false true = refl
-both_is false false = refl
+both_is d q = grind arith
 
 both_first : (q d : Bool) → majority q false d ≡ both q d
 unfolding majority
-both_first true true = refl
-both_first true false = refl
-both_first false true = refl
-both_first false false = refl
+both_first q d = grind arith
 
 and_not : (h g : Bool) → majority false (not h) g ≡ both g (not h)
 unfolding majority
-and_not true true = refl
-and_not true false = refl
-and_not false true = refl
-and_not false false = refl
-
--- the number of so many bits from a place on
-unfoldable pub val : (ℕ → Bool) → ℕ → ℕ → ℕ
-val f a zero = 0
-val f a (suc k) = val f a k + 2 ^ k * bit (f (a + k))
-
-pub val_same : (f g : ℕ → Bool) (a k : ℕ) → ((j : ℕ) → j < k → f (a + j) ≡ g (a + j)) → val f a k ≡ val g a k
-unfolding val
-val_same f g a zero h = refl
-val_same f g a (suc k) h =
-    let e = val_same f g a k (λ j lj. h j (omega (arith, lj))) in
-    let b = ap (λ v. 2 ^ k * bit v) (h k (omega arith)) in
-    omega (arith, e, b)
-
-power : (k : ℕ) → 2 ^ suc k ≡ 2 * 2 ^ k
-power k = let e = pow-suc 2 k in omega (arith, e)
-
-val_below : (f : ℕ → Bool) (a k : ℕ) → val f a k < 2 ^ k
-unfolding val
-val_below f a zero = omega (arith, let z : 2 ^ 0 ≡ 1 = refl in z)
-val_below f a (suc k) = by (f (a + k)) (val_below f a k) (power k)
-  where
-    by : (b : Bool) → val f a k < 2 ^ k → 2 ^ suc k ≡ 2 * 2 ^ k → val f a k + 2 ^ k * bit b < 2 ^ suc k
-    by true h p = omega (arith, h, p)
-    by false h p = omega (arith, h, p)
-
--- the lowest bit first
-val_front : (f : ℕ → Bool) (a k : ℕ) → val f a (suc k) ≡ bit (f a) + 2 * val f (a + 1) k
-unfolding val
-val_front f a zero = let z : 2 ^ 0 ≡ 1 = refl in let e : a + 0 ≡ a = omega arith in
-    ap (λ p. 0 + p * bit (f (a + 0))) z ∙ (let b = ap (λ v. bit (f v)) e in omega (arith, b))
-val_front f a (suc k) =
-    let h = val_front f a k in
-    let e : a + 1 + k ≡ a + suc k = omega arith in
-    let b = ap (λ v. 2 ^ suc k * bit (f v)) e in
-    let p = ap (λ z. z * bit (f (a + 1 + k))) (power k) in
-    omega (arith, h, b, p)
+and_not h g = grind arith
 
 -- whether a number is at most another
-record Says (g : Bool) (y x : ℕ) : Type 0 where
-  yes : g ≡ true → y ≤ x
-  no : g ≡ false → x < y
+abbrev Says : Bool → ℕ → ℕ → Type 0
+Says true y x = y ≤ x
+Says false y x = x < y
 
-says_more : (g d r : Bool) (y x p : ℕ) → Says g y x → x < p → y < p
-    → Says (over_of r d g) (y + p * bit d) (x + p * bit r)
+says_first : (d a : Bool) (y x : ℕ) → y ≡ bit d → x ≡ bit a → Says (majority true a (not d)) y x
 unfolding majority
-says_more true true true y x p s lx ly = record { yes = λ e. omega (arith, s.yes refl); no = λ e. absurd (cc) }
-says_more true true false y x p s lx ly = record { yes = λ e. absurd (cc); no = λ e. omega (arith, lx, ly) }
-says_more true false true y x p s lx ly = record { yes = λ e. omega (arith, lx, ly); no = λ e. absurd (cc) }
-says_more true false false y x p s lx ly = record { yes = λ e. omega (arith, s.yes refl); no = λ e. absurd (cc) }
-says_more false true true y x p s lx ly = record { yes = λ e. absurd (cc); no = λ e. omega (arith, s.no refl) }
-says_more false true false y x p s lx ly = record { yes = λ e. absurd (cc); no = λ e. omega (arith, lx, ly) }
-says_more false false true y x p s lx ly = record { yes = λ e. omega (arith, lx, ly); no = λ e. absurd (cc) }
-says_more false false false y x p s lx ly = record { yes = λ e. absurd (cc); no = λ e. omega (arith, s.no refl) }
+says_first d a y x e f = grind (arith, e, f)
 
-scale : (p l y b r c : ℕ) → l + y + b ≡ r + 2 * c → p * l + p * y + p * b ≡ p * r + 2 * (p * c)
-scale p l y b r c h = let e : p * (l + y + b) ≡ p * (r + 2 * c) = ap (λ z. p * z) h in grind (arith, e)
+says_more : (g d r : Bool) (y x p y' x' : ℕ) → Says g y x → y < p → x < p → y' ≡ y + p * bit d
+    → x' ≡ x + p * bit r → Says (over_of r d g) y' x'
+unfolding majority
+says_more g d r y x p y' x' s l m e f = grind (arith, s, l, m, e, f)
 
-twice_bit : (p : ℕ) (b : Bool) → 2 * p * bit b ≡ 2 * (p * bit b)
-twice_bit p true = omega arith
-twice_bit p false = omega arith
-
-unlent : (b : Bool) (w z x p : ℕ) → w + z ≡ x + 2 * (p * bit b) → z ≤ x → w < 2 * p → w + z ≡ x
-unlent true w z x p h le lt = absurd (omega (arith, h, le, lt))
-unlent false w z x p h le lt = omega (arith, h)
+unlent : (b : Bool) (w z x p : ℕ) → w + z ≡ x + p * bit b → z ≤ x → w < p → w + z ≡ x
+unlent b w z x p h le lt = grind (arith, h, le, lt)
 
 bit_small : (b : Bool) → bit b ≤ 1
-bit_small true = omega arith
-bit_small false = omega arith
-
-spread : (b q d : ℕ) → (b + 2 * q) * d ≡ b * d + 2 * (q * d)
-spread b q d = grind arith
+bit_small b = grind arith
 
 abbrev pub at : List ℕ → ℕ → ℕ
 at g r = slice_index g r
 
 -- a bit of the quotient is found
 abbrev pub finds_bit : State → ℕ → Bool → ℕ → State
-finds_bit t j v c = record {
-  w = t.w;
+finds_bit t j v c = record t {
   q = put t.q j v;
-  h = t.h;
   f = v;
   g = v;
-  k = t.k;
-  b = t.b;
   alive = found_left;
   cost = t.cost + c;
 }
 
 -- a row of the window is what is left
 abbrev pub leaves_row : State → ℕ → Bool → Bool → ℕ → State
-leaves_row t x v b c = record {
+leaves_row t x v b c = record t {
   w = put t.w x v;
-  q = t.q;
-  h = t.h;
-  f = t.f;
-  g = t.g;
-  k = t.k;
   b = b;
   alive = borrow_left;
   cost = t.cost + c;
+  aps = t.aps + 1;
 }
 
 abbrev pub gathered : State → ℕ → Bool → ℕ → State
-gathered t r v c = record {
-  w = t.w;
-  q = t.q;
-  h = put t.h r v;
-  f = t.f;
-  g = v;
-  k = t.k;
-  b = t.b;
-  alive = found_left;
-  cost = t.cost + c;
-}
+gathered t r v c = record t { h = put t.h r v; g = v; alive = found_left; cost = t.cost + c }
+
+-- a subtraction can begin
+abbrev pub ready : State → State
+ready t = record t { k = false; alive = zero_left }
 
 abbrev pub does : (ℕ → Bool) → (ℕ → Bool) → Part → List ℕ → State → State
 does a d GatherTop g t = gathered t (at g 3) (d (at g 3)) 2
 does a d Gather g t = gathered t (at g 3) (majority true (d (at g 3)) t.g) 3
 does a d First g t = finds_bit t (at g 0) (majority true (a (at g 0)) (not (d 0))) 4
 does a d Over g t = finds_bit t (at g 0) (over_of (t.w (at g 4)) (d (at g 3)) t.g) 3
-does a d Above g t = let v = majority false (not (t.h (at g 1))) t.g in record {
-  w = t.w;
-  q = put t.q (at g 0) v;
-  h = t.h;
-  f = v;
-  g = v;
-  k = false;
-  b = t.b;
-  alive = zero_left;
-  cost = t.cost + 3;
-}
-does a d Kept g t = record {
-  w = t.w;
-  q = t.q;
-  h = t.h;
-  f = t.f;
-  g = t.g;
-  k = false;
-  b = t.b;
-  alive = zero_left;
-  cost = t.cost + 1;
-}
+does a d Above g t = ready (finds_bit t (at g 0) (majority false (not (t.h (at g 1))) t.g) 3)
+does a d Kept g t = ready (record t { cost = t.cost + 1 })
 does a d TakeFirst g t = let y = majority t.g t.k (d 0) in
     leaves_row t (at g 0) (less_first (a (at g 0)) y) (lent_first (a (at g 0)) y) 8
 does a d Take g t = let y = majority false (d (at g 3)) t.f in
@@ -267,818 +157,519 @@ InRange n TakeFirst g t = (at g 0 < n) × (0 < n) × (t.alive ≡ zero_left)
 InRange n Take g t = (at g 0 < n) × (at g 3 < n) × (at g 4 < n) × (t.alive ≡ borrow_left)
     × (t.q (at g 0) ≡ t.f)
 
+-- So many digits are what a quotient, a divisor and what is left make; with the divisor 0 the quotient
+-- is all ones. What is left stands in the window, but where the quotient alone is wanted
+pub record Divided (lone : Bool) (a : ℕ → Bool) (dv m k left : ℕ) (t : State) : Type 0 where
+  pub rem : val a m k ≡ val t.q m k * dv + left
+  pub small_rem : 0 < dv → left < dv
+  pub ones : dv ≡ 0 → val t.q m k + 1 ≡ 2 ^ k
+  pub kept : lone ≡ false → val t.w m k ≡ left
+
+-- the commands and AP of the last step
+abbrev pub last_cost : Bool → ℕ → ℕ
+last_cost true k = 4 + 3 * k
+last_cost false k = 13 + 12 * k
+
+abbrev pub last_aps : Bool → ℕ → ℕ
+last_aps true k = 0
+last_aps false k = k + 1
+
+-- what is to hold of registers and state, and before a flow, so that it holds after it
+abbrev pub Asked : Type 1
+Asked = List ℕ → State → Type 0
+
+abbrev pub walks : ℕ → (ℕ → Bool) → (ℕ → Bool) → FlowOf Part → Asked → Asked
+walks n a d f = before Part State n (InRange n) (does a d) f
+
 module _ (n : ℕ) (small : n ≤ 128) (a d hi : ℕ → Bool)
     (low : (k : ℕ) → k < n → hi k ≡ false → val d 0 n ≡ val d 0 k)
     (high : (k : ℕ) → k < n → hi k ≡ true → 2 ^ k ≤ val d 0 n) where
   abbrev F : EventOf Part → State → Type 0
   F = Fine Part State n (InRange n)
 
-  abbrev D0 : Part → List ℕ → State → State
-  D0 = does a d
-
-  abbrev Asked : Type 1
-  Asked = Claim Part State n F D0
-
   abbrev W : FlowOf Part → Asked → Asked
-  W f = wp Part State n F D0 f
-
-  abbrev regs : ℕ → ℕ → ℕ → ℕ → ℕ → ℕ → ℕ → ℕ → List ℕ
-  regs j k m p x e f v = j ∷ k ∷ m ∷ p ∷ x ∷ e ∷ f ∷ v ∷ []
+  W = walks n a d
 
   abbrev pub D : ℕ
   D = val d 0 n
 
-  -- one step, of a window whose upper rows and a quotient whose upper bits were these
-  module _ (j k' e f v : ℕ) (w0 q0 : ℕ → Bool) (is : j + 1 + k' ≡ n) where
-    -- the window's and the divisor's first digits, and the divisor's where it is taken away
-    X : ℕ → ℕ
-    X i = bit (a j) + 2 * val w0 (j + 1) i
+  -- one step, from this state
+  module _ (j k e f v left0 : ℕ) (t0 : State) (is : j + 1 + k ≡ n)
+      (was : Divided false a D (j + 1) k left0 t0)
+      (highest : (r : ℕ) → 0 < r → r < n → t0.h r ≡ hi r) where
+    -- the window with the dividend's next bit
+    x0 : ℕ → Bool
+    x0 = put t0.w j (a j)
 
-    Y : ℕ → ℕ
-    Y i = bit (d 0) + 2 * val d 1 i
+    -- the divisor where it is taken away
+    abbrev z0 : Bool → ℕ → Bool
+    z0 fit r = both fit (d r)
 
-    Z : Bool → ℕ → ℕ
-    Z b i = bit (both b (d 0)) + 2 * val (λ r. both b (d r)) 1 i
+    x_other : (r : ℕ) → j < r → x0 r ≡ t0.w r
+    unfolding x0
+    x_other r lt = put_other t0.w j (a j) r (λ z. absurd (omega (arith, z, lt)))
 
-    z_is : (i : ℕ) → (Z true i ≡ Y i) × (Z false i ≡ 0)
-    unfolding Z Y val
-    z_is zero = (refl, refl)
-    z_is (suc i) = let h = z_is i in (omega (arith, h.0), omega (arith, h.1))
-
-    next_y : (i p : ℕ) → p ≡ 1 + i → Y i + 2 * 2 ^ i * bit (d p) ≡ Y (i + 1)
-    unfolding Y val
-    next_y i p e = let one : suc i ≡ i + 1 = omega arith in
-        ap (λ r. bit (d 0) + 2 * val d 1 i + 2 * 2 ^ i * bit (d r)) e
-        ∙ (let z : bit (d 0) + 2 * val d 1 i + 2 * 2 ^ i * bit (d (1 + i)) ≡ bit (d 0) + 2 * val d 1 (suc i) =
-        by (d (1 + i)) (val d 1 i) (2 ^ i) in z) ∙ ap (λ r. bit (d 0) + 2 * val d 1 r) one
-      where
-        by : (b : Bool) (x q : ℕ) → bit (d 0) + 2 * x + 2 * q * bit b ≡ bit (d 0) + 2 * (x + q * bit b)
-        by true x q = omega arith
-        by false x q = omega arith
-
-    next_x : (i x : ℕ) (t : State) → x ≡ j + 1 + i → ((r : ℕ) → t.w r ≡ w0 r)
-        → X i + 2 * 2 ^ i * bit (t.w x) ≡ X (i + 1)
-    unfolding X val
-    next_x i x t e w = let one : suc i ≡ i + 1 = omega arith in
-        ap (λ r. X i + 2 * 2 ^ i * bit (t.w r)) e
-        ∙ ap (λ b. X i + 2 * 2 ^ i * bit b) (w (j + 1 + i))
-        ∙ by (w0 (j + 1 + i)) (val w0 (j + 1) i) (2 ^ i) ∙ ap (λ r. bit (a j) + 2 * val w0 (j + 1) r) one
-      where
-        by : (b : Bool) (x q : ℕ) → bit (a j) + 2 * x + 2 * q * bit b ≡ bit (a j) + 2 * (x + q * bit b)
-        by true x q = omega arith
-        by false x q = omega arith
+    x_is : val x0 j (k + 1) ≡ bit (a j) + 2 * left0
+    unfolding x0
+    x_is =
+        let b = ap bit (put_same t0.w j (a j)) in
+        let e = val_same x0 t0.w (j + 1) k (λ u lu. x_other (j + 1 + u) (omega arith)) in
+        let l = was.kept refl in
+        omega (arith, val_front x0 j k, b, e, l)
 
     -- what a step leaves as it was
-    record Same (t : State) : Type 0 where
-      above : (r : ℕ) → j < r → t.q r ≡ q0 r
-      higher : (r : ℕ) → 0 < r → r < n → t.h r ≡ hi r
+    record Same (q h : ℕ → Bool) : Type 0 where
+      above : (r : ℕ) → j < r → q r ≡ t0.q r
+      higher : (r : ℕ) → 0 < r → r < n → h r ≡ hi r
 
-    record Compared (due i m p x : ℕ) (t : State) : Type 0 where
-      says : Says t.g (Y i) (X i)
-      q_is : t.q j ≡ t.g
-      f_is : t.f ≡ t.g
-      w_is : (r : ℕ) → t.w r ≡ w0 r
-      same : Same t
-      p_is : p ≡ 1 + i
-      x_is : x ≡ j + 1 + i
-      ends : i + m ≡ k'
-      alive : t.alive ≡ found_left
-      paid : t.cost + 3 * m ≡ due
-
-    compares_on : (Q : Asked) (k : FlowOf Part) (due i m p x : ℕ) (t : State) → Compared due i m p x t
-        → ((i p x : ℕ) (t : State) → Compared due i 0 p x t → W k Q (regs j (suc k') 0 p x e f v) t)
-        → W (Loop 2 (Last over) k) Q (regs j (suc k') m p x e f v) t
-    unfolding X Y val
-    compares_on Q k due i m p x t c done = wp_loop Part State n F D0 2 (Last over) I k Q
-        (regs j (suc k') m p x e f v) t (omega (arith, c.ends, is)) step (i, p, x, refl, c)
-        (λ ts g t i. subst (λ l. W k Q l t) (sym i.3) (done i.0 i.1 i.2 t i.4))
-      where
-        I : TurnsOf Part → ℕ → Asked
-        I ts m g t = (i : ℕ) × (p : ℕ) × (x : ℕ) × (g ≡ regs j (suc k') m p x e f v)
-            × Compared due i m p x t
-
-        step : (m : ℕ) (g : List ℕ) (t : State) (R : Asked) → I (Last over) (suc m) g t
-            → ((h : List ℕ) (t : State) → I (Last over) m h t → R h t) → W over R (slice_set g 2 m) t
-        step m g t R h go =
-            let i = h.0 in
-            let p = h.1 in
-            let x = h.2 in
-            let c = h.4 in
-            let u = over_of (t.w x) (d p) t.g in
-            let lx = val_below w0 (j + 1) i in
-            let ly = val_below d 1 i in
-            let bx : bit (a j) ≤ 1 = bit_small (a j) in
-            let by : bit (d 0) ≤ 1 = bit_small (d 0) in
-            let s = says_more t.g (d p) (t.w x) (Y i) (X i) (2 * 2 ^ i) c.says (omega (arith, lx, bx))
-            (omega (arith, ly, by)) in
-            let ey : Y i + 2 * 2 ^ i * bit (d p) ≡ Y (i + 1) = next_y i p c.p_is in
-            let ex : X i + 2 * 2 ^ i * bit (t.w x) ≡ X (i + 1) = next_x i x t c.x_is c.w_is in
-            subst (λ l. W over R (slice_set l 2 m) t) (sym h.3) (
-              (omega (arith, is), omega (arith, c.p_is, c.ends, is), omega (arith, c.x_is, c.ends, is), c.alive),
-              (
-                omega (arith, c.p_is, c.ends, is, small),
-                (
-                  omega (arith, c.x_is, c.ends, is, small),
-                  go (regs j (suc k') m (p + 1) (x + 1) e f v) (D0 Over (regs j (suc k') m p x e f v) t) (
-                    i + 1,
-                    p + 1,
-                    x + 1,
-                    refl,
-                    record {
-                      says = subst (λ r. Says u r (X (i + 1))) ey
-                          (subst (λ r. Says u (Y i + 2 * 2 ^ i * bit (d p)) r) ex s);
-                      q_is = put_same t.q j u;
-                      f_is = refl;
-                      w_is = c.w_is;
-                      same = record {
-                        above = λ r lr. put_other t.q j u r (λ z. absurd (omega (arith, z, lr))) ∙ c.same.above r lr;
-                        higher = c.same.higher;
-                      };
-                      p_is = omega (arith, c.p_is);
-                      x_is = omega (arith, c.x_is);
-                      ends = omega (arith, c.ends);
-                      alive = refl;
-                      paid = omega (arith, c.paid);
-                    },
-                  ),
-                ),
-              ),
-            )
-
-    record Taken (fit : Bool) (due i m p x : ℕ) (t : State) : Type 0 where
-      sum : bit (t.w j) + 2 * val t.w (j + 1) i + Z fit i ≡ X i + 2 * (2 ^ i * bit t.b)
-      q_is : t.q j ≡ fit
-      f_is : t.f ≡ fit
-      same : Same t
-      rest : (r : ℕ) → j + 1 + i ≤ r → t.w r ≡ w0 r
-      p_is : p ≡ 1 + i
-      x_is : x ≡ j + 1 + i
-      ends : i + m ≡ k'
-      alive : t.alive ≡ borrow_left
-      paid : t.cost + 9 * m ≡ due
-
-    subtracts : (fit : Bool) (Q : Asked) (k : FlowOf Part) (due i m p x : ℕ) (t : State)
-        → Taken fit due i m p x t
-        → ((i p x : ℕ) (t : State) → Taken fit due i 0 p x t → W k Q (regs j (suc k') 0 p x e f v) t)
-        → W (Loop 2 (Last take) k) Q (regs j (suc k') m p x e f v) t
-    unfolding X Z val
-    subtracts fit Q k due i m p x t c done = wp_loop Part State n F D0 2 (Last take) I k Q
-        (regs j (suc k') m p x e f v) t (omega (arith, c.ends, is)) step (i, p, x, refl, c)
-        (λ ts g t i. subst (λ l. W k Q l t) (sym i.3) (done i.0 i.1 i.2 t i.4))
-      where
-        I : TurnsOf Part → ℕ → Asked
-        I ts m g t = (i : ℕ) × (p : ℕ) × (x : ℕ) × (g ≡ regs j (suc k') m p x e f v)
-            × Taken fit due i m p x t
-
-        step : (m : ℕ) (g : List ℕ) (t : State) (R : Asked) → I (Last take) (suc m) g t
-            → ((h : List ℕ) (t : State) → I (Last take) m h t → R h t) → W take R (slice_set g 2 m) t
-        step m g t R h go =
-            let i = h.0 in
-            let p = h.1 in
-            let x = h.2 in
-            let c = h.4 in
-            let y = majority false (d p) t.f in
-            let r = t.w x in
-            let l = less r t.b y in
-            let o = lent r t.b y in
-            let w = put t.w x l in
-            let place : j + 1 + i ≡ x = sym c.x_is in
-            let here : w (j + 1 + i) ≡ l = ap w place ∙ put_same t.w x l in
-            let same_j : w j ≡ t.w j = put_other t.w x l j (λ z. absurd (omega (arith, z, c.x_is))) in
-            let below : val w (j + 1) i ≡ val t.w (j + 1) i = val_same w t.w (j + 1) i (λ u lu.
-            put_other t.w x l (j + 1 + u) (λ z. absurd (omega (arith, z, c.x_is, lu)))) in
-            let scaled = scale (2 ^ i) (bit l) (bit y) (bit t.b) (bit r) (bit o) (taken r t.b y) in
-            let digit = ap (λ b. 2 ^ i * bit b) here in
-            let low_digit = ap bit same_j in
-            let old = ap (λ z. 2 ^ i * bit (t.w z)) c.x_is ∙ ap (λ b. 2 ^ i * bit b) (c.rest (j + 1 + i) (omega arith)) in
-            let masked = ap (λ b. 2 ^ i * bit b) (both_is (d p) t.f)
-            ∙ ap (λ z. 2 ^ i * bit (both t.f (d z))) c.p_is
-            ∙ ap (λ b. 2 ^ i * bit (both b (d (1 + i)))) c.f_is in
-            let up = ap (λ z. z * bit o) (power i) ∙ twice_bit (2 ^ i) o in
-            subst (λ l. W take R (slice_set l 2 m) t) (sym h.3) (
-              (
-                omega (arith, is),
-                omega (arith, c.p_is, c.ends, is),
-                omega (arith, c.x_is, c.ends, is),
-                c.alive,
-                c.q_is ∙ sym c.f_is,
-              ),
-              (
-                omega (arith, c.p_is, c.ends, is, small),
-                (
-                  omega (arith, c.x_is, c.ends, is, small),
-                  go (regs j (suc k') m (p + 1) (x + 1) e f v) (D0 Take (regs j (suc k') m p x e f v) t) (
-                    suc i,
-                    p + 1,
-                    x + 1,
-                    refl,
-                    record {
-                      sum = omega (arith, c.sum, below, scaled, digit, low_digit, old, masked, up);
-                      q_is = c.q_is;
-                      f_is = c.f_is;
-                      same = record { above = c.same.above; higher = c.same.higher };
-                      rest = λ u lu. put_other t.w x l u (λ z. absurd (omega (arith, z, c.x_is, lu)))
-                          ∙ c.rest u (omega (arith, lu));
-                      p_is = omega (arith, c.p_is);
-                      x_is = omega (arith, c.x_is);
-                      ends = omega (arith, c.ends);
-                      alive = refl;
-                      paid = omega (arith, c.paid);
-                    },
-                  ),
-                ),
-              ),
-            )
-
-    -- the divisor fits just where the quotient's bit says so
-    record Fits (fit : Bool) : Type 0 where
-      yes : fit ≡ true → (D ≡ Y k') × (Y k' ≤ X k')
-      no : fit ≡ false → X k' < D
-
-    -- the quotient's bits from position j on are right, and the window has what is left
-    record Stepped (total : ℕ) (t : State) : Type 0 where
-      rem : val a j (suc k') ≡ val t.q j (suc k') * D + val t.w j (suc k')
-      small_rem : 0 < D → val t.w j (suc k') < D
-      ones : D ≡ 0 → val t.q j (suc k') + 1 ≡ 2 ^ suc k'
-      higher : (r : ℕ) → 0 < r → r < n → t.h r ≡ hi r
-      paid : t.cost ≡ total
-
-    -- the same of the quotient alone
-    record Quoted (total : ℕ) (t : State) : Type 0 where
-      left : ℕ
-      rem : val a j (suc k') ≡ val t.q j (suc k') * D + left
-      small_rem : 0 < D → left < D
-      ones : D ≡ 0 → val t.q j (suc k') + 1 ≡ 2 ^ suc k'
-      higher : (r : ℕ) → 0 < r → r < n → t.h r ≡ hi r
-      paid : t.cost ≡ total
-
-    module _ (before : val a (j + 1) k' ≡ val q0 (j + 1) k' * D + val w0 (j + 1) k')
-        (less_is : 0 < D → val w0 (j + 1) k' < D)
-        (ones_are : D ≡ 0 → val q0 (j + 1) k' + 1 ≡ 2 ^ k') where
-      upper : (t : State) → Same t → val t.q (j + 1) k' ≡ val q0 (j + 1) k'
-      upper t s = val_same t.q q0 (j + 1) k' (λ u lu. s.above (j + 1 + u) (omega arith))
-
-      -- where the divisor is 0 it fits
-      all_ones : (fit : Bool) (t : State) → Fits fit → t.q j ≡ fit → Same t → D ≡ 0
-          → val t.q j (suc k') + 1 ≡ 2 ^ suc k'
-      all_ones true t s q same none =
-          let fq = val_front t.q j k' in
-          let b = ap bit q in
-          let o = ones_are none in
-          omega (arith, fq, b, o, upper t same, power k')
-      all_ones false t s q same none = absurd (let l = s.no refl in omega (arith, l, none))
-
-      quoted : (fit : Bool) (t : State) → Fits fit → t.q j ≡ fit → Same t → Quoted t.cost t
-      unfolding X Y val
-      quoted true t s q same =
-          let y = s.yes refl in
-          let fq = ap (λ r. r * D) (val_front t.q j k') ∙ spread (bit (t.q j)) (val t.q (j + 1) k') D in
-          let up = ap (λ r. r * D) (upper t same) in
-          let one = ap (λ r. bit r * D) q in
-          let fa = val_front a j k' in
-          record {
-            left = X k' - D;
-            rem = omega (arith, fq, up, one, fa, before, y.0, y.1);
-            small_rem = λ some. omega (arith, less_is some, y.0, y.1, bit_small (a j));
-            ones = all_ones true t s q same;
-            higher = same.higher;
-            paid = refl;
-          }
-      quoted false t s q same =
-          let fq = ap (λ r. r * D) (val_front t.q j k') ∙ spread (bit (t.q j)) (val t.q (j + 1) k') D in
-          let up = ap (λ r. r * D) (upper t same) in
-          let one = ap (λ r. bit r * D) q in
-          let fa = val_front a j k' in
-          record {
-            left = X k';
-            rem = omega (arith, fq, up, one, fa, before);
-            small_rem = λ some. s.no refl;
-            ones = all_ones false t s q same;
-            higher = same.higher;
-            paid = refl;
-          }
-
-      stepped : (fit : Bool) (due i p x : ℕ) (t : State) → Fits fit → Taken fit due i 0 p x t
-          → Stepped due t
-      unfolding X Y Z val
-      stepped fit due i p x t fits c = by fit fits c.q_is (c.sum) (z_is k')
-        where
-          all : i ≡ k'
-          all = omega (arith, c.ends)
-
-          whole : val t.w j (suc k') ≡ bit (t.w j) + 2 * val t.w (j + 1) k'
-          whole = val_front t.w j k'
-
-          by : (b : Bool) → Fits b → t.q j ≡ b
-              → bit (t.w j) + 2 * val t.w (j + 1) i + Z b i ≡ X i + 2 * (2 ^ i * bit t.b)
-              → (Z true k' ≡ Y k') × (Z false k' ≡ 0) → Stepped due t
-          by true s q sum z =
-              let full = subst (λ r. bit (t.w j) + 2 * val t.w (j + 1) r + Z true r
-              ≡ X r + 2 * (2 ^ r * bit t.b)) all sum in
-              let y = s.yes refl in
-              let exact = unlent t.b (bit (t.w j) + 2 * val t.w (j + 1) k') (Z true k') (X k') (2 ^ k') full
-              (omega (arith, z.0, y.1)) (omega (arith, whole, val_below t.w j (suc k'), power k')) in
-              let fq = ap (λ r. r * D) (val_front t.q j k') ∙ spread (bit (t.q j)) (val t.q (j + 1) k') D in
-              let up = ap (λ r. r * D) (upper t c.same) in
-              let one = ap (λ r. bit r * D) q in
-              let fa = val_front a j k' in
-              record {
-                rem = omega (arith, fq, up, one, fa, before, exact, whole, z.0, y.0);
-                small_rem = λ some. omega (arith, less_is some, exact, whole, z.0, y.0, bit_small (a j));
-                ones = all_ones true t s q c.same;
-                higher = c.same.higher;
-                paid = omega (arith, c.paid);
-              }
-          by false s q sum z =
-              let full = subst (λ r. bit (t.w j) + 2 * val t.w (j + 1) r + Z false r
-              ≡ X r + 2 * (2 ^ r * bit t.b)) all sum in
-              let exact = unlent t.b (bit (t.w j) + 2 * val t.w (j + 1) k') (Z false k') (X k') (2 ^ k') full
-              (omega (arith, z.1)) (omega (arith, whole, val_below t.w j (suc k'), power k')) in
-              let fq = ap (λ r. r * D) (val_front t.q j k') ∙ spread (bit (t.q j)) (val t.q (j + 1) k') D in
-              let up = ap (λ r. r * D) (upper t c.same) in
-              let one = ap (λ r. bit r * D) q in
-              let fa = val_front a j k' in
-              record {
-                rem = omega (arith, fq, up, one, fa, before, exact, whole, z.1);
-                small_rem = λ some. omega (arith, s.no refl, exact, whole, z.1);
-                ones = all_ones false t s q c.same;
-                higher = c.same.higher;
-                paid = omega (arith, c.paid);
-              }
-
-      -- the divisor is taken from the window where it fits
-      takes_do : (fit : Bool) (Q : Asked) (k : FlowOf Part) (m p x : ℕ) (t : State) → Fits fit
-          → t.g ≡ fit → t.f ≡ fit → t.k ≡ false → t.q j ≡ fit → Same t → ((r : ℕ) → t.w r ≡ w0 r)
-          → t.alive ≡ zero_left
-          → ((p x : ℕ) (s : State) → Stepped (t.cost + 8 + 9 * k') s → W k Q (regs j (suc k') 0 p x e f v) s)
-          → W (takes k) Q (regs j (suc k') m p x e f v) t
-      unfolding X Z val
-      takes_do fit Q k m p x t fits g_is f_is k_is q_is same w_is alive done =
-          let y = majority t.g t.k (d 0) in
-          let l = less_first (a j) y in
-          let o = lent_first (a j) y in
-          let s = D0 TakeFirst (regs j (suc k') m p x e f v) t in
-          let less_one : suc k' - 1 ≡ k' = omega arith in
-          let here = ap bit (put_same t.w j l) in
-          let digit = taken_first (a j) y in
-          let mask = ap (λ z. bit (majority t.g z (d 0))) k_is ∙ ap bit (both_first t.g (d 0))
-          ∙ ap (λ b. bit (both b (d 0))) g_is in
-          let unit : 2 ^ 0 * bit o ≡ bit o = once o in (
-            (omega (arith, is), omega (arith, is), alive),
-            (
-              tt,
-              (
-                omega arith,
-                (
-                  tt,
-                  (
-                    tt,
-                    (
-                      omega (arith, is, small),
-                      subst (λ r. W (Loop 2 (Last take) k) Q (regs j (suc k') r 1 (j + 1) e f v) s) (sym less_one)
-                          (subtracts fit Q k (t.cost + 8 + 9 * k') 0 k' 1 (j + 1) s (record {
-                            sum = omega (arith, here, digit, mask, unit);
-                            q_is = q_is;
-                            f_is = f_is;
-                            same = record { above = same.above; higher = same.higher };
-                            rest = λ r lr. put_other t.w j l r (λ z. absurd (omega (arith, z, lr))) ∙ w_is r;
-                            p_is = omega arith;
-                            x_is = omega arith;
-                            ends = omega arith;
-                            alive = refl;
-                            paid = refl;
-                          }) (λ i p x s c. done p x s (stepped fit (t.cost + 8 + 9 * k') i p x s fits c))),
-                    ),
-                  ),
-                ),
-              ),
-            ),
-          )
-        where
-          once : (o : Bool) → 2 ^ 0 * bit o ≡ bit o
-          once true = refl
-          once false = refl
-
-      front : val d 0 (suc k') ≡ Y k'
-      unfolding Y
-      front = val_front d 0 k'
-
-      -- what was found is that the divisor fits, in the last step and where no higher bit is set
-      fits_last : (g : Bool) → suc k' ≡ n → Says g (Y k') (X k') → Fits g
-      fits_last g all s = let whole : D ≡ Y k' = ap (val d 0) (sym all) ∙ front in
-          record { yes = λ e. (whole, s.yes e); no = λ e. omega (arith, s.no e, whole) }
-
-      fits_above : (g h : Bool) → hi (suc k') ≡ h → Says g (Y k') (X k') → suc k' < n
-          → Fits (both g (not h))
-      unfolding X
-      fits_above true false eh s lt = record {
-        yes = λ z. (low (suc k') lt eh ∙ front, s.yes refl);
-        no = λ z. absurd (cc);
-      }
-      fits_above true true eh s lt = record {
-        yes = λ z. absurd (cc);
-        no = λ z. omega (arith, high (suc k') lt eh, val_below w0 (j + 1) k', power k', bit_small (a j));
-      }
-      fits_above false true eh s lt = record {
-        yes = λ z. absurd (cc);
-        no = λ z. omega (arith, high (suc k') lt eh, val_below w0 (j + 1) k', power k', bit_small (a j));
-      }
-      fits_above false false eh s lt = record {
-        yes = λ z. absurd (cc);
-        no = λ z. omega (arith, s.no refl, low (suc k') lt eh, front);
-      }
-
-      -- a comparison
-      compares_do : (Q : Asked) (k : FlowOf Part) (m p x : ℕ) (t : State)
-          → ((r : ℕ) → t.w r ≡ w0 r) → Same t
-          → ((p x : ℕ) (s : State) → Compared (t.cost + 4 + 3 * k') k' 0 p x s
-          → W k Q (regs j (suc k') 0 p x e f v) s)
-          → W (compares k) Q (regs j (suc k') m p x e f v) t
-      unfolding X Y val majority
-      compares_do Q k m p x t w_is same done =
-          let g = majority true (a j) (not (d 0)) in
-          let s = D0 First (regs j (suc k') m p x e f v) t in
-          let less_one : suc k' - 1 ≡ k' = omega arith in (
-            (omega (arith, is), omega (arith, is)),
-            (
-              tt,
-              (
-                omega arith,
-                (
-                  tt,
-                  (
-                    tt,
-                    (
-                      omega (arith, is, small),
-                      subst (λ r. W (Loop 2 (Last over) k) Q (regs j (suc k') r 1 (j + 1) e f v) s) (sym less_one)
-                          (compares_on Q k (t.cost + 4 + 3 * k') 0 k' 1 (j + 1) s (record {
-                            says = first (d 0) (a j);
-                            q_is = put_same t.q j g;
-                            f_is = refl;
-                            w_is = w_is;
-                            same = record {
-                              above = λ r lr. put_other t.q j g r (λ z. absurd (omega (arith, z, lr))) ∙ same.above r lr;
-                              higher = same.higher;
-                            };
-                            p_is = omega arith;
-                            x_is = omega arith;
-                            ends = omega arith;
-                            alive = refl;
-                            paid = refl;
-                          }) (λ i p x s c. (let all : i ≡ k' = omega (arith, c.ends) in
-                          done p x s (subst (λ r. Compared (t.cost + 4 + 3 * k') r 0 p x s) all c)))),
-                    ),
-                  ),
-                ),
-              ),
-            ),
-          )
-        where
-          first : (y x : Bool) → Says (majority true x (not y)) (bit y + 2 * 0) (bit x + 2 * 0)
-          first true true = record { yes = λ e. omega arith; no = λ e. absurd (cc) }
-          first true false = record { yes = λ e. absurd (cc); no = λ e. omega arith }
-          first false true = record { yes = λ e. omega arith; no = λ e. absurd (cc) }
-          first false false = record { yes = λ e. omega arith; no = λ e. absurd (cc) }
-
-      -- whether a higher bit of the divisor is set
-      above_does : (Q : Asked) (k : FlowOf Part) (due m p x : ℕ) (t : State) → suc k' < n
-          → Compared due k' 0 p x t
-          → ((fit : Bool) (s : State) → Fits fit → s.g ≡ fit → s.f ≡ fit → s.k ≡ false → s.q j ≡ fit
-          → Same s → ((r : ℕ) → s.w r ≡ w0 r) → s.alive ≡ zero_left → s.cost ≡ t.cost + 3
-          → W k Q (regs j (suc k') m p x e f v) s)
-          → W (Do Above k) Q (regs j (suc k') m p x e f v) t
-      above_does Q k due m p x t lt c done =
-          let h = hi (suc k') in
-          let u = majority false (not (t.h (suc k'))) t.g in
-          let fit = both t.g (not h) in
-          let u_is : u ≡ fit = ap (λ z. majority false (not z) t.g) (c.same.higher (suc k') (omega arith) lt)
-          ∙ and_not h t.g in (
-            (omega (arith, is), lt, c.alive),
-            done fit (D0 Above (regs j (suc k') m p x e f v) t) (fits_above t.g h refl c.says lt) u_is u_is refl
-                (put_same t.q j u ∙ u_is)
-                (record {
-                  above = λ r lr. put_other t.q j u r (λ z. absurd (omega (arith, z, lr))) ∙ c.same.above r lr;
-                  higher = c.same.higher;
-                }) c.w_is refl refl,
-          )
-
-      -- a step that leaves the remainder
-      left_does : (Q : Asked) (m p x : ℕ) (t : State) → ((r : ℕ) → t.w r ≡ w0 r) → Same t
-          → ((p x : ℕ) (s : State) → (j ≡ 0 → Stepped (t.cost + 13 + 12 * k') s)
-          → (0 < j → Stepped (t.cost + 15 + 12 * k') s) → Q (regs j (suc k' + 1) 0 p x e f v) s)
-          → W step_left Q (regs j (suc k') m p x e f v) t
-      left_does Q m p x t w_is same done =
-          compares_do Q (If 0 (Do Above End) (Do Kept End) rest) m p x t w_is same
-          (λ p x s c. by j refl p x s c)
-        where
-          rest : FlowOf Part
-          rest = takes (Put (AddI 1 1) End)
-
-          due : ℕ
-          due = t.cost + 4 + 3 * k'
-
-          to : (fit : Bool) (p x c : ℕ) (s : State) → Fits fit → s.g ≡ fit → s.f ≡ fit → s.k ≡ false
-              → s.q j ≡ fit → Same s → ((r : ℕ) → s.w r ≡ w0 r) → s.alive ≡ zero_left
-              → s.cost ≡ due + c → (j ≡ 0 → c ≡ 1) → (0 < j → c ≡ 3)
-              → W rest Q (regs j (suc k') 0 p x e f v) s
-          to fit p x c s fits g_is f_is k_is q_is same w_is alive paid last more =
-              takes_do fit Q (Put (AddI 1 1) End) 0 p x s fits g_is f_is k_is q_is same w_is alive
-              (λ p x r z. (
-                omega (arith, is, small),
-                done p x r
-                    (λ none. subst (λ y. Stepped y r) (let k = last none in omega (arith, paid, k)) z)
-                    (λ some. subst (λ y. Stepped y r) (let k = more some in omega (arith, paid, k)) z),
-              ))
-
-          by : (z : ℕ) → j ≡ z → (p x : ℕ) (s : State) → Compared due k' 0 p x s
-              → W (If 0 (Do Above End) (Do Kept End) rest) Q (regs j (suc k') 0 p x e f v) s
-          by zero none p x s c = wp_none Part State n F D0 0 (Do Above End) (Do Kept End) rest Q
-              (regs j (suc k') 0 p x e f v) s none (
-                c.alive,
-                to s.g p x 1 (D0 Kept (regs j (suc k') 0 p x e f v) s)
-                    (fits_last s.g (omega (arith, none, is)) c.says) refl c.f_is refl c.q_is
-                    (record { above = c.same.above; higher = c.same.higher }) c.w_is refl
-                    (omega (arith, c.paid)) (λ z. refl) (λ some. absurd (omega (arith, some, none))),
-              )
-          by (suc z) some p x s c = wp_some Part State n F D0 0 z (Do Above End) (Do Kept End) rest Q
-              (regs j (suc k') 0 p x e f v) s some
-              (above_does (W rest Q) End due 0 p x s (omega (arith, some, is)) c
-              (λ fit r fits g_is f_is k_is q_is same w_is alive paid.
-              to fit p x 3 r fits g_is f_is k_is q_is same w_is alive (omega (arith, paid, c.paid))
-              (λ none. absurd (omega (arith, some, none))) (λ z. refl)))
-
-      -- a step for the quotient alone
-      lone_does : (Q : Asked) (m p x : ℕ) (t : State) → ((r : ℕ) → t.w r ≡ w0 r) → Same t
-          → ((p x : ℕ) (s : State) → j ≡ 0 → Quoted (t.cost + 4 + 3 * k') s
-          → Q (regs j (suc k' + 1) 0 p x e f v) s)
-          → ((p x : ℕ) (s : State) → 0 < j → Stepped (t.cost + 15 + 12 * k') s
-          → Q (regs j (suc k' + 1) 0 p x e f v) s)
-          → W step_lone Q (regs j (suc k') m p x e f v) t
-      lone_does Q m p x t w_is same last done =
-          compares_do Q (If 0 (Do Above (takes End)) End (Put (AddI 1 1) End)) m p x t w_is same
-          (λ p x s c. by j refl p x s c)
-        where
-          rest : FlowOf Part
-          rest = Put (AddI 1 1) End
-
-          due : ℕ
-          due = t.cost + 4 + 3 * k'
-
-          by : (z : ℕ) → j ≡ z → (p x : ℕ) (s : State) → Compared due k' 0 p x s
-              → W (If 0 (Do Above (takes End)) End rest) Q (regs j (suc k') 0 p x e f v) s
-          by zero none p x s c = wp_none Part State n F D0 0 (Do Above (takes End)) End rest Q
-              (regs j (suc k') 0 p x e f v) s none (
-                omega (arith, is, small),
-                last p x s none (subst (λ y. Quoted y s) (omega (arith, c.paid))
-                    (quoted s.g s (fits_last s.g (omega (arith, none, is)) c.says) c.q_is c.same)),
-              )
-          by (suc z) some p x s c = wp_some Part State n F D0 0 z (Do Above (takes End)) End rest Q
-              (regs j (suc k') 0 p x e f v) s some
-              (above_does (W rest Q) (takes End) due 0 p x s (omega (arith, some, is)) c
-              (λ fit r fits g_is f_is k_is q_is same w_is alive paid.
-              takes_do fit (W rest Q) End 0 p x r fits g_is f_is k_is q_is same w_is alive
-              (λ p x y z. (
-                omega (arith, is, small),
-                done p x y (omega (arith, some))
-                    (subst (λ u. Stepped u y) (omega (arith, paid, c.paid)) z),
-              ))))
-
-  square : (k : ℕ) → suc k * suc k ≡ k * k + 2 * k + 1
-  square k = grind arith
-
-  -- all steps, where the rows of the higher bits are right
-  module _ (some : 0 < n) (base : ℕ) where
-    -- what the quotient and the remainder are in the end
-    pub record Divided (t : State) (left : ℕ) : Type 0 where
-      pub rem : val a 0 n ≡ val t.q 0 n * D + left
-      pub small_rem : 0 < D → left < D
-      pub ones : D ≡ 0 → val t.q 0 n + 1 ≡ 2 ^ n
-
-    record Before (m k : ℕ) (t : State) : Type 0 where
-      ends : m + k ≡ n
-      rem : val a m k ≡ val t.q m k * D + val t.w m k
-      small_rem : 0 < D → val t.w m k < D
-      ones : D ≡ 0 → val t.q m k + 1 ≡ 2 ^ k
-      higher : (r : ℕ) → 0 < r → r < n → t.h r ≡ hi r
-      paid : t.cost ≡ base + 9 * k + 6 * (k * k)
-
-    begins : (t : State) → t.cost ≡ base → ((r : ℕ) → 0 < r → r < n → t.h r ≡ hi r) → Before n 0 t
-    unfolding val
-    begins t paid higher = record {
-      ends = omega arith;
-      rem = omega arith;
-      small_rem = λ z. z;
-      ones = λ z. (let u : 2 ^ 0 ≡ 1 = refl in omega (arith, u));
-      higher = higher;
-      paid = omega (arith, paid);
+    put_above : (q h : ℕ → Bool) (u : Bool) → Same q h → Same (put q j u) h
+    put_above q h u s = record {
+      above = λ r lr. put_other q j u r (λ z. absurd (omega (arith, z, lr))) ∙ s.above r lr;
+      higher = s.higher;
     }
 
-    lefts_do : (c p x e f v : ℕ) (t : State) (Q : Asked) → t.cost ≡ base
-        → ((r : ℕ) → 0 < r → r < n → t.h r ≡ hi r)
-        → ((g : List ℕ) (s : State) → Divided s (val s.w 0 n) → s.cost + 2 ≡ base + 9 * n + 6 * (n * n)
-        → Q g s) → W (Loop 0 (Last step_left) End) Q (regs n 1 c p x e f v) t
-    lefts_do c p x e f v t Q paid higher done = wp_loop Part State n F D0 0 (Last step_left) I End Q
-        (regs n 1 c p x e f v) t (omega arith) step
-        (0, c, p, x, refl, λ more. begins t paid higher, λ none. absurd (omega (arith, none, some))) ends
+    -- so many digits are compared
+    record Compared (i x m : ℕ) (t : State) : Type 0 where
+      says : Says t.g (val d 0 i) (val x0 j i)
+      q_is : t.q j ≡ t.g
+      f_is : t.f ≡ t.g
+      w_is : (r : ℕ) → t.w r ≡ t0.w r
+      same : Same t.q t.h
+      some : 0 < i
+      place : x ≡ j + i
+      ends : i + m ≡ k + 1
+      alive : t.alive ≡ found_left
+      paid : t.cost + 3 * m ≡ t0.cost + 4 + 3 * k
+      counted : t.aps ≡ t0.aps
+
+    compares_do : (Q : Asked) (r : FlowOf Part) → ((x : ℕ) (t : State) → Compared (k + 1) x 0 t
+        → W r Q (regs j (k + 1) 0 (k + 1) x e f v) t) → (m p x : ℕ)
+        → W (compares r) Q (regs j (k + 1) m p x e f v) t0
+    unfolding x0
+    compares_do Q r done m p x = (omega (arith, is), omega (arith, is)) ▹ tt ▹ omega arith ▹ tt ▹ tt
+        ▹ omega (arith, is, small) ▹ each Part State n (InRange n) (does a d) 2 over r Q (ℕ × ℕ)
+        (λ y m. regs j (k + 1) m y.0 y.1 e f v) (λ y m t. Compared y.0 y.1 m t) (λ y m. refl) step
+        (λ y t c. (let all : k + 1 ≡ y.0 = omega (arith, c.ends) in
+        subst (λ i. W r Q (regs j (k + 1) 0 i y.1 e f v) t) all
+        (done y.1 t (subst (λ i. Compared i y.1 0 t) (sym all) c)))) (1, j + 1) (k + 1 - 1) _ refl
+        (omega (arith, is)) (record {
+          says = says_first (d 0) (a j) _ _ (val_one d 0) (val_one x0 j ∙ ap bit (put_same t0.w j (a j)));
+          q_is = put_same t0.q j (majority true (a j) (not (d 0)));
+          f_is = refl;
+          w_is = λ r. refl;
+          same = put_above t0.q t0.h _ (record { above = λ r lr. refl; higher = highest });
+          some = omega arith;
+          place = refl;
+          ends = omega arith;
+          alive = refl;
+          paid = omega arith;
+          counted = refl;
+        })
       where
-        Over_all : State → Type 0
-        Over_all s = Divided s (val s.w 0 n) × (s.cost + 2 ≡ base + 9 * n + 6 * (n * n))
+        step : (y : ℕ × ℕ) (m : ℕ) (t : State) (R : Asked) → Compared y.0 y.1 (suc m) t
+            → ((z : ℕ × ℕ) (t : State) → Compared z.0 z.1 m t → R (regs j (k + 1) m z.0 z.1 e f v) t)
+            → W over R (regs j (k + 1) m y.0 y.1 e f v) t
+        step y m t R c go =
+            let i = y.0 in
+            let x = y.1 in
+            let u = over_of (t.w x) (d i) t.g in
+            let old = ap (λ b. 2 ^ i * bit b) (x_other x (omega (arith, c.place, c.some)) ∙ sym (c.w_is x))
+            in
+            let mx = val_more x0 j i x (sym c.place) in
+            (omega (arith, is), omega (arith, c.ends, is), omega (arith, c.place, c.ends, is), c.alive)
+            ▹ omega (arith, c.ends, is, small) ▹ omega (arith, c.place, c.ends, is, small)
+            ▹ go (i + 1, x + 1) _ (record {
+              says = says_more t.g (d i) (t.w x) (val d 0 i) (val x0 j i) (2 ^ i) _ _ c.says
+                  (val_below d 0 i) (val_below x0 j i) (val_more d 0 i i (omega arith))
+                  (omega (arith, mx, old));
+              q_is = put_same t.q j u;
+              f_is = refl;
+              w_is = c.w_is;
+              same = put_above t.q t.h u c.same;
+              some = omega arith;
+              place = omega (arith, c.place);
+              ends = omega (arith, c.ends);
+              alive = refl;
+              paid = omega (arith, c.paid);
+              counted = c.counted;
+            })
 
-        I : TurnsOf Part → ℕ → Asked
-        I ts m g t = (k : ℕ) × (c : ℕ) × (p : ℕ) × (x : ℕ) × (g ≡ regs m (suc k) c p x e f v)
-            × (0 < m → Before m k t) × (m ≡ 0 → Over_all t)
+    -- the divisor fits just where the quotient's bit says so
+    abbrev Fits : Bool → Type 0
+    Fits true = (D ≡ val d 0 (k + 1)) × (val d 0 (k + 1) ≤ val x0 j (k + 1))
+    Fits false = val x0 j (k + 1) < D
 
-        whole : (m k : ℕ) (q s : State) → m ≡ 0 → suc k ≡ n → q.cost ≡ base + 9 * k + 6 * (k * k)
-            → val a m (suc k) ≡ val s.q m (suc k) * D + val s.w m (suc k)
-            → (0 < D → val s.w m (suc k) < D) → (D ≡ 0 → val s.q m (suc k) + 1 ≡ 2 ^ suc k)
-            → s.cost ≡ q.cost + 13 + 12 * k → Over_all s
-        whole m k q s none all before rem small_rem ones paid =
-            let sq = square k in
-            let nn : n * n ≡ suc k * suc k = ap (λ z. z * z) (sym all) in (
-              record {
-                rem = subst (λ z. val a z n ≡ val s.q z n * D + val s.w z n) none
-                    (subst (λ z. val a m z ≡ val s.q m z * D + val s.w m z) all rem);
-                small_rem = subst (λ z. 0 < D → val s.w z n < D) none
-                    (subst (λ z. 0 < D → val s.w m z < D) all small_rem);
-                ones = subst (λ z. D ≡ 0 → val s.q z n + 1 ≡ 2 ^ n) none
-                    (subst (λ z. D ≡ 0 → val s.q m z + 1 ≡ 2 ^ z) all ones);
-              },
-              omega (arith, paid, before, sq, nn, all),
-            )
+    -- what was found is that the divisor fits, in the last step and where no higher bit is set
+    fits_last : (g : Bool) → k + 1 ≡ n → Says g (val d 0 (k + 1)) (val x0 j (k + 1)) → Fits g
+    fits_last g all s = grind (arith, s, ap (val d 0) all)
 
-        step : (m : ℕ) (g : List ℕ) (t : State) (R : Asked) → I (Last step_left) (suc m) g t
-            → ((h : List ℕ) (t : State) → I (Last step_left) m h t → R h t)
-            → W step_left R (slice_set g 0 m) t
-        step m g t R i go =
-            let k = i.0 in
-            let b = i.5 (omega arith) in
-            let up : suc m ≡ m + 1 = omega arith in
-            let next : suc k + 1 ≡ suc (suc k) = omega arith in
-            let sq = square k in
-            let q = t.cost in
-            subst (λ l. W step_left R (slice_set l 0 m) t) (sym i.4)
-            (left_does m k e f v t.w t.q (omega (arith, b.ends))
-            (subst (λ r. val a r k ≡ val t.q r k * D + val t.w r k) up b.rem)
-            (subst (λ r. 0 < D → val t.w r k < D) up b.small_rem)
-            (subst (λ r. D ≡ 0 → val t.q r k + 1 ≡ 2 ^ k) up b.ones) R i.1 i.2 i.3 t (λ r. refl)
-            (record { above = λ r lr. refl; higher = b.higher })
-            (λ p x s last more. subst (λ r. R (regs m r 0 p x e f v) s) (sym next)
-            (go (regs m (suc (suc k)) 0 p x e f v) s (
-              suc k,
-              0,
-              p,
-              x,
-              refl,
-              λ some. (let z = more some in record {
-                ends = omega (arith, b.ends);
-                rem = z.rem;
-                small_rem = z.small_rem;
-                ones = z.ones;
-                higher = z.higher;
-                paid = omega (arith, z.paid, b.paid, sq);
-              }),
-              λ none. (let z = last none in
-                  whole m k t s none (omega (arith, b.ends, none)) b.paid z.rem z.small_rem z.ones z.paid),
-            ))))
+    fits_above : (g h : Bool) → hi (k + 1) ≡ h → Says g (val d 0 (k + 1)) (val x0 j (k + 1)) → k + 1 < n
+        → Fits (both g (not h))
+    fits_above g h eh s lt =
+        grind (arith, eh, s, low (k + 1) lt, high (k + 1) lt, val_below x0 j (k + 1))
 
-        ends : (ts : TurnsOf Part) (g : List ℕ) (t : State) → I ts 0 g t → Q g t
-        ends ts g t i = let o = i.6 refl in done g t o.0 o.1
+    -- what a step leaves
+    record After (lone : Bool) (cost aps : ℕ) (t : State) : Type 0 where
+      left : ℕ
+      divided : Divided lone a D j (k + 1) left t
+      higher : (r : ℕ) → 0 < r → r < n → t.h r ≡ hi r
+      paid : t.cost ≡ t0.cost + cost
+      counted : t.aps ≡ t0.aps + aps
 
-    lones_do : (c p x e f v : ℕ) (t : State) (Q : Asked) → t.cost ≡ base
-        → ((r : ℕ) → 0 < r → r < n → t.h r ≡ hi r)
-        → ((g : List ℕ) (s : State) (left : ℕ) → Divided s left → s.cost + 2 ≡ base + 6 * (n * n)
-        → Q g s) → W (Loop 0 (Last step_lone) End) Q (regs n 1 c p x e f v) t
-    lones_do c p x e f v t Q paid higher done = wp_loop Part State n F D0 0 (Last step_lone) I End Q
-        (regs n 1 c p x e f v) t (omega arith) step
-        (0, c, p, x, refl, λ more. begins t paid higher, λ none. absurd (omega (arith, none, some))) ends
+    divided : (lone fit : Bool) (left : ℕ) (t : State) → Fits fit → t.q j ≡ fit → Same t.q t.h
+        → left + val (z0 fit) 0 (k + 1) ≡ val x0 j (k + 1)
+        → (lone ≡ false → val t.w j (k + 1) ≡ left) → Divided lone a D j (k + 1) left t
+    divided lone fit left t fits q same sum kept = by fit fits sum
+        (front ∙ ap (λ b. bit b + 2 * val t0.q (j + 1) k) q)
       where
-        Over_all : State → Type 0
-        Over_all s = (left : ℕ) × Divided s left × (s.cost + 2 ≡ base + 6 * (n * n))
+        front : val t.q j (k + 1) ≡ bit (t.q j) + 2 * val t0.q (j + 1) k
+        front = let u = val_same t.q t0.q (j + 1) k (λ u lu. same.above (j + 1 + u) (omega arith)) in
+            omega (arith, val_front t.q j k, u)
 
-        I : TurnsOf Part → ℕ → Asked
-        I ts m g t = (k : ℕ) × (c : ℕ) × (p : ℕ) × (x : ℕ) × (g ≡ regs m (suc k) c p x e f v)
-            × (0 < m → Before m k t) × (m ≡ 0 → Over_all t)
+        by : (b : Bool) → Fits b → left + val (z0 b) 0 (k + 1) ≡ val x0 j (k + 1)
+            → val t.q j (k + 1) ≡ bit b + 2 * val t0.q (j + 1) k → Divided lone a D j (k + 1) left t
+        by true fits sum q = let m = ap (λ r. r * D) q in record {
+          rem = omega (arith, m, val_front a j k, was.rem, x_is, sum, fits.0);
+          small_rem = λ some. (let l = was.small_rem some in
+              omega (arith, l, x_is, sum, fits.0, bit_small (a j)));
+          ones = λ none. (let o = was.ones none in omega (arith, q, o, power k));
+          kept = kept;
+        }
+        by false fits sum q = let m = ap (λ r. r * D) q in let z = val_none 0 (k + 1) in record {
+          rem = omega (arith, m, val_front a j k, was.rem, x_is, sum, z);
+          small_rem = λ some. omega (arith, fits, sum, z);
+          ones = λ none. absurd (omega (arith, fits, none));
+          kept = kept;
+        }
 
-        whole : (m k left : ℕ) (q s : State) → m ≡ 0 → suc k ≡ n → q.cost ≡ base + 9 * k + 6 * (k * k)
-            → val a m (suc k) ≡ val s.q m (suc k) * D + left
-            → (0 < D → left < D) → (D ≡ 0 → val s.q m (suc k) + 1 ≡ 2 ^ suc k)
-            → s.cost ≡ q.cost + 4 + 3 * k → Over_all s
-        whole m k left q s none all before rem small_rem ones paid =
-            let sq = square k in
-            let nn : n * n ≡ suc k * suc k = ap (λ z. z * z) (sym all) in (
-              left,
-              record {
-                rem = subst (λ z. val a z n ≡ val s.q z n * D + left) none
-                    (subst (λ z. val a m z ≡ val s.q m z * D + left) all rem);
-                small_rem = small_rem;
-                ones = subst (λ z. D ≡ 0 → val s.q z n + 1 ≡ 2 ^ n) none
-                    (subst (λ z. D ≡ 0 → val s.q m z + 1 ≡ 2 ^ z) all ones);
+    -- the divisor is taken from so many digits where it fits
+    record Taken (fit : Bool) (due i x m : ℕ) (t : State) : Type 0 where
+      sum : val t.w j i + val (z0 fit) 0 i ≡ val x0 j i + 2 ^ i * bit t.b
+      q_is : t.q j ≡ fit
+      f_is : t.f ≡ fit
+      same : Same t.q t.h
+      rest : (r : ℕ) → x ≤ r → t.w r ≡ t0.w r
+      some : 0 < i
+      place : x ≡ j + i
+      ends : i + m ≡ k + 1
+      alive : t.alive ≡ borrow_left
+      paid : t.cost + 9 * m ≡ due
+      counted : t.aps + m ≡ t0.aps + (k + 1)
+
+    -- before that
+    record Ready (fit : Bool) (c : ℕ) (t : State) : Type 0 where
+      fits : Fits fit
+      g_is : t.g ≡ fit
+      f_is : t.f ≡ fit
+      k_is : t.k ≡ false
+      q_is : t.q j ≡ fit
+      same : Same t.q t.h
+      w_is : (r : ℕ) → t.w r ≡ t0.w r
+      alive : t.alive ≡ zero_left
+      paid : t.cost ≡ t0.cost + c
+      counted : t.aps ≡ t0.aps
+
+    takes_do : (fit : Bool) (c : ℕ) (Q : Asked) (r : FlowOf Part) → ((x : ℕ) (s : State)
+        → After false (c + 8 + 9 * k) (k + 1) s → W r Q (regs j (k + 1) 0 (k + 1) x e f v) s)
+        → (m p x : ℕ) (t : State) → Ready fit c t → W (takes r) Q (regs j (k + 1) m p x e f v) t
+    unfolding x0
+    takes_do fit c Q r done m p x t b =
+        let y = majority t.g t.k (d 0) in
+        let l = less_first (a j) y in
+        let o = lent_first (a j) y in
+        let w = put t.w j l in
+        let here = ap bit (put_same t.w j l) in
+        let digit = taken_first (a j) y in
+        let mask = ap (λ z. bit (majority t.g z (d 0))) b.k_is ∙ ap bit (both_first t.g (d 0))
+        ∙ ap (λ z. bit (both z (d 0))) b.g_is in
+        let xs = val_one x0 j ∙ ap bit (put_same t0.w j (a j)) in
+        let one : 2 ^ 1 ≡ 2 = refl in
+        let carry = ap (λ z. z * bit o) one in
+        (omega (arith, is), omega (arith, is), b.alive) ▹ tt ▹ omega arith ▹ tt ▹ tt
+        ▹ omega (arith, is, small) ▹ each Part State n (InRange n) (does a d) 2 take r Q (ℕ × ℕ)
+        (λ y m. regs j (k + 1) m y.0 y.1 e f v) (λ y m t. Taken fit due y.0 y.1 m t) (λ y m. refl) step
+        ends (1, j + 1) (k + 1 - 1) _ refl (omega (arith, is)) (record {
+          sum = omega (arith, val_one w j, val_one (z0 fit) 0, here, digit, mask, xs, carry);
+          q_is = b.q_is;
+          f_is = b.f_is;
+          same = b.same;
+          rest = λ r lr. put_other t.w j l r (λ z. absurd (omega (arith, z, lr))) ∙ b.w_is r;
+          some = omega arith;
+          place = refl;
+          ends = omega arith;
+          alive = refl;
+          paid = omega (arith, b.paid);
+          counted = omega (arith, b.counted);
+        })
+      where
+        due : ℕ
+        due = t0.cost + (c + 8 + 9 * k)
+
+        step : (y : ℕ × ℕ) (m : ℕ) (t : State) (R : Asked) → Taken fit due y.0 y.1 (suc m) t
+            → ((z : ℕ × ℕ) (t : State) → Taken fit due z.0 z.1 m t
+            → R (regs j (k + 1) m z.0 z.1 e f v) t) → W take R (regs j (k + 1) m y.0 y.1 e f v) t
+        step y m t R c go =
+            let i = y.0 in
+            let x = y.1 in
+            let z = majority false (d i) t.f in
+            let l = less (t.w x) t.b z in
+            let o = lent (t.w x) t.b z in
+            let w = put t.w x l in
+            let below = val_same w t.w j i (λ u lu. grind (arith, c.place, lu)) in
+            let mw = val_more w j i x (sym c.place) in
+            let mz = val_more (z0 fit) 0 i i (omega arith) in
+            let mx = val_more x0 j i x (sym c.place) in
+            let digit = ap (λ b. 2 ^ i * bit b) (put_same t.w x l) in
+            let old = ap (λ b. 2 ^ i * bit b) (x_other x (omega (arith, c.place, c.some))
+            ∙ sym (c.rest x (omega arith))) in
+            let masked = ap (λ b. 2 ^ i * bit b) (both_is (d i) t.f ∙ ap (λ f. both f (d i)) c.f_is) in
+            let scaled = ap (λ z. 2 ^ i * z) (taken (t.w x) t.b z) in
+            let up = ap (λ z. z * bit o) (power i) in (
+              omega (arith, is),
+              omega (arith, c.ends, is),
+              omega (arith, c.place, c.ends, is),
+              c.alive,
+              c.q_is ∙ sym c.f_is,
+            ) ▹ omega (arith, c.ends, is, small) ▹ omega (arith, c.place, c.ends, is, small)
+            ▹ go (i + 1, x + 1) _ (record {
+              sum = omega (arith, c.sum, below, mw, mz, mx, digit, old, masked, scaled, up);
+              q_is = c.q_is;
+              f_is = c.f_is;
+              same = c.same;
+              rest = λ u lu. put_other t.w x l u (λ z. absurd (omega (arith, z, lu)))
+                  ∙ c.rest u (omega (arith, lu));
+              some = omega arith;
+              place = omega (arith, c.place);
+              ends = omega (arith, c.ends);
+              alive = refl;
+              paid = omega (arith, c.paid);
+              counted = omega (arith, c.counted);
+            })
+
+        fitting : (fit : Bool) → Fits fit → val (z0 fit) 0 (k + 1) ≤ val x0 j (k + 1)
+        fitting fit s = grind (arith, s, val_none 0 (k + 1))
+
+        ends : (y : ℕ × ℕ) (t : State) → Taken fit due y.0 y.1 0 t
+            → W r Q (regs j (k + 1) 0 y.0 y.1 e f v) t
+        ends y t c =
+            let all : k + 1 ≡ y.0 = omega (arith, c.ends) in
+            let full = subst (λ i. val t.w j i + val (z0 fit) 0 i ≡ val x0 j i + 2 ^ i * bit t.b) (sym all)
+            c.sum in
+            let exact = unlent t.b _ _ _ _ full (fitting fit b.fits) (val_below t.w j (k + 1)) in
+            subst (λ i. W r Q (regs j (k + 1) 0 i y.1 e f v) t) all (done y.1 t (record {
+              left = val t.w j (k + 1);
+              divided = divided false fit _ t b.fits c.q_is c.same exact (λ z. refl);
+              higher = c.same.higher;
+              paid = omega (arith, c.paid);
+              counted = omega (arith, c.counted);
+            }))
+
+    -- whether a higher bit of the divisor is set
+    above_does : (Q : Asked) (r : FlowOf Part) (x : ℕ) (t : State) → k + 1 < n → Compared (k + 1) x 0 t
+        → ((fit : Bool) (s : State) → Ready fit (7 + 3 * k) s → W r Q (regs j (k + 1) 0 (k + 1) x e f v) s)
+        → W (Do Above r) Q (regs j (k + 1) 0 (k + 1) x e f v) t
+    above_does Q r x t lt c done =
+        let h = hi (k + 1) in
+        let u = majority false (not (t.h (k + 1))) t.g in
+        let u_is : u ≡ both t.g (not h) = ap (λ z. majority false (not z) t.g)
+        (c.same.higher (k + 1) (omega arith) lt) ∙ and_not h t.g in
+        (omega (arith, is), lt, c.alive) ▹ done (both t.g (not h)) _ (record {
+          fits = fits_above t.g h refl c.says lt;
+          g_is = u_is;
+          f_is = u_is;
+          k_is = refl;
+          q_is = put_same t.q j u ∙ u_is;
+          same = put_above t.q t.h u c.same;
+          w_is = c.w_is;
+          alive = refl;
+          paid = omega (arith, c.paid);
+          counted = c.counted;
+        })
+
+    -- what the last step leaves
+    left_of : Bool → ℕ
+    left_of true = val x0 j (k + 1) - D
+    left_of false = val x0 j (k + 1)
+
+    left_is : (fit : Bool) → Fits fit → left_of fit + val (z0 fit) 0 (k + 1) ≡ val x0 j (k + 1)
+    unfolding left_of
+    left_is fit s = grind (arith, s, val_none 0 (k + 1))
+
+    -- a step
+    abbrev Outcome : Bool → State → Type 0
+    Outcome lone s = (j ≡ 0 → After lone (last_cost lone k) (last_aps lone k) s)
+        × (0 < j → After false (15 + 12 * k) (k + 1) s)
+
+    -- before the last one, where a higher bit may be set
+    some_does : (lone : Bool) (Q : Asked) → ((p x : ℕ) (s : State) → Outcome lone s
+        → Q (regs j (k + 1 + 1) 0 p x e f v) s) → (x : ℕ) (s : State) → 0 < j → Compared (k + 1) x 0 s
+        → W (Do Above (takes (Put (AddI 1 1) End))) Q (regs j (k + 1) 0 (k + 1) x e f v) s
+    some_does lone Q done x s some c =
+        above_does Q (takes (Put (AddI 1 1) End)) x s (omega (arith, some, is)) c
+        (λ fit r b. takes_do fit (7 + 3 * k) Q (Put (AddI 1 1) End) (λ x y o. omega (arith, is, small)
+        ▹ done (k + 1) x y (
+          λ z. absurd (omega (arith, some, z)),
+          λ z. subst (λ c. After false c (k + 1) y) (omega arith) o,
+        )) 0 (k + 1) x r b)
+
+    step_does : (lone : Bool) (Q : Asked) → ((p x : ℕ) (s : State) → Outcome lone s
+        → Q (regs j (k + 1 + 1) 0 p x e f v) s) → (m p x : ℕ)
+        → W (step_of lone) Q (regs j (k + 1) m p x e f v) t0
+    step_does true Q done m p x = compares_do Q (If 0 (Do Above (takes End)) End rest)
+        (λ x s c. by j refl x s c) m p x
+      where
+        rest : FlowOf Part
+        rest = Put (AddI 1 1) End
+
+        by : (z : ℕ) → j ≡ z → (x : ℕ) (s : State) → Compared (k + 1) x 0 s
+            → W (If 0 (Do Above (takes End)) End rest) Q (regs j (k + 1) 0 (k + 1) x e f v) s
+        by zero none x s c =
+            let fits = fits_last s.g (omega (arith, none, is)) c.says in
+            wp_none Part State n F (does a d) 0 (Do Above (takes End)) End rest Q
+            (regs j (k + 1) 0 (k + 1) x e f v) s none (omega (arith, is, small) ▹ done (k + 1) x s (
+              λ z. record {
+                left = left_of s.g;
+                divided = divided true s.g _ s fits c.q_is c.same (left_is s.g fits) (λ z. absurd (cc));
+                higher = c.same.higher;
+                paid = omega (arith, c.paid);
+                counted = omega (arith, c.counted);
               },
-              omega (arith, paid, before, sq, nn, all),
-            )
-
-        step : (m : ℕ) (g : List ℕ) (t : State) (R : Asked) → I (Last step_lone) (suc m) g t
-            → ((h : List ℕ) (t : State) → I (Last step_lone) m h t → R h t)
-            → W step_lone R (slice_set g 0 m) t
-        step m g t R i go =
-            let k = i.0 in
-            let b = i.5 (omega arith) in
-            let up : suc m ≡ m + 1 = omega arith in
-            let next : suc k + 1 ≡ suc (suc k) = omega arith in
-            let sq = square k in
-            subst (λ l. W step_lone R (slice_set l 0 m) t) (sym i.4)
-            (lone_does m k e f v t.w t.q (omega (arith, b.ends))
-            (subst (λ r. val a r k ≡ val t.q r k * D + val t.w r k) up b.rem)
-            (subst (λ r. 0 < D → val t.w r k < D) up b.small_rem)
-            (subst (λ r. D ≡ 0 → val t.q r k + 1 ≡ 2 ^ k) up b.ones) R i.1 i.2 i.3 t (λ r. refl)
-            (record { above = λ r lr. refl; higher = b.higher })
-            (λ p x s none z. subst (λ r. R (regs m r 0 p x e f v) s) (sym next)
-            (go (regs m (suc (suc k)) 0 p x e f v) s (
-              suc k,
-              0,
-              p,
-              x,
-              refl,
               λ some. absurd (omega (arith, some, none)),
-              λ n0. whole m k z.left t s none (omega (arith, b.ends, none)) b.paid z.rem z.small_rem z.ones
-                  z.paid,
-            )))
-            (λ p x s some z. subst (λ r. R (regs m r 0 p x e f v) s) (sym next)
-            (go (regs m (suc (suc k)) 0 p x e f v) s (
-              suc k,
-              0,
-              p,
-              x,
-              refl,
-              λ more. record {
-                ends = omega (arith, b.ends);
-                rem = z.rem;
-                small_rem = z.small_rem;
-                ones = z.ones;
-                higher = z.higher;
-                paid = omega (arith, z.paid, b.paid, sq);
-              },
-              λ none. absurd (omega (arith, some, none)),
-            ))))
+            ))
+        by (suc z) some x s c = wp_some Part State n F (does a d) 0 z (Do Above (takes End)) End rest Q
+            (regs j (k + 1) 0 (k + 1) x e f v) s some
+            (some_does true Q done x s (omega (arith, some)) c)
+    step_does false Q done m p x = compares_do Q (If 0 (Do Above End) (Do Kept End) rest)
+        (λ x s c. by j refl x s c) m p x
+      where
+        rest : FlowOf Part
+        rest = takes (Put (AddI 1 1) End)
 
-        ends : (ts : TurnsOf Part) (g : List ℕ) (t : State) → I ts 0 g t → Q g t
-        ends ts g t i = let o = i.6 refl in done g t o.0 o.1 o.2
+        by : (z : ℕ) → j ≡ z → (x : ℕ) (s : State) → Compared (k + 1) x 0 s
+            → W (If 0 (Do Above End) (Do Kept End) rest) Q (regs j (k + 1) 0 (k + 1) x e f v) s
+        by zero none x s c = wp_none Part State n F (does a d) 0 (Do Above End) (Do Kept End) rest Q
+            (regs j (k + 1) 0 (k + 1) x e f v) s none (c.alive ▹ takes_do s.g (5 + 3 * k) Q
+            (Put (AddI 1 1) End) (λ x y o. omega (arith, is, small)
+            ▹ done (k + 1) x y (
+              λ z. subst (λ c. After false c (k + 1) y) (omega arith) o,
+              λ some. absurd (omega (arith, some, none)),
+            )) 0 (k + 1) x (ready (record s { cost = s.cost + 1 })) (record {
+              fits = fits_last s.g (omega (arith, none, is)) c.says;
+              g_is = refl;
+              f_is = c.f_is;
+              k_is = refl;
+              q_is = c.q_is;
+              same = c.same;
+              w_is = c.w_is;
+              alive = refl;
+              paid = omega (arith, c.paid);
+              counted = c.counted;
+            }))
+        by (suc z) some x s c = wp_some Part State n F (does a d) 0 z (Do Above End) (Do Kept End) rest Q
+            (regs j (k + 1) 0 (k + 1) x e f v) s some
+            (some_does false Q done x s (omega (arith, some)) c)
+
+  -- all steps, where the rows of the higher bits are right
+  module _ (some : 0 < n) (lone : Bool) (base : ℕ) where
+    record Before (m k : ℕ) (t : State) : Type 0 where
+      ends : m + k ≡ n
+      left : ℕ
+      divided : Divided false a D m k left t
+      higher : (r : ℕ) → 0 < r → r < n → t.h r ≡ hi r
+      paid : t.cost ≡ base + 9 * k + 6 * (k * k)
+      counted : 2 * t.aps ≡ k * k + k
+
+    begins : (t : State) → t.cost ≡ base → t.aps ≡ 0 → ((r : ℕ) → 0 < r → r < n → t.h r ≡ hi r)
+        → Before n 0 t
+    unfolding val
+    begins t paid none higher = record {
+      ends = omega arith;
+      left = 0;
+      divided = record {
+        rem = omega arith;
+        small_rem = λ z. z;
+        ones = λ z. (let u : 2 ^ 0 ≡ 1 = refl in omega (arith, u));
+        kept = λ z. refl;
+      };
+      higher = higher;
+      paid = omega (arith, paid);
+      counted = omega (arith, none);
+    }
+
+    -- what holds in the end
+    pub record Whole (t : State) : Type 0 where
+      pub left : ℕ
+      pub divided : Divided lone a D 0 n left t
+      pub k : ℕ
+      pub all : k + 1 ≡ n
+      pub paid : t.cost ≡ base + 9 * k + 6 * (k * k) + last_cost lone k
+      pub counted : 2 * t.aps ≡ k * k + k + 2 * last_aps lone k
+
+    steps_do : (Q : Asked) → ((g : List ℕ) (s : State) → Whole s → Q g s) → (c p x e f v : ℕ) (t : State)
+        → t.cost ≡ base → t.aps ≡ 0 → ((r : ℕ) → 0 < r → r < n → t.h r ≡ hi r)
+        → W (Loop 0 (Last (step_of lone)) End) Q (regs n 1 c p x e f v) t
+    steps_do Q done c p x e f v t paid none higher = each Part State n (InRange n) (does a d) 0
+        (step_of lone) End Q (ℕ × ℕ × ℕ × ℕ) (λ y m. regs m (y.0 + 1) y.1 y.2 y.3 e f v)
+        (λ y m t. (0 < m → Before m y.0 t) × (m ≡ 0 → Whole t)) (λ y m. refl) step
+        (λ y t o. done _ t (o.1 refl)) (0, c, p, x) n t refl (omega arith)
+        (λ z. begins t paid none higher, λ z. absurd (omega (arith, z, some)))
+      where
+        step : (y : ℕ × ℕ × ℕ × ℕ) (m : ℕ) (t : State) (R : Asked)
+            → ((0 < suc m → Before (suc m) y.0 t) × (suc m ≡ 0 → Whole t))
+            → ((z : ℕ × ℕ × ℕ × ℕ) (t : State) → ((0 < m → Before m z.0 t) × (m ≡ 0 → Whole t))
+            → R (regs m (z.0 + 1) z.1 z.2 z.3 e f v) t)
+            → W (step_of lone) R (regs m (y.0 + 1) y.1 y.2 y.3 e f v) t
+        step y m t R o go =
+            let k = y.0 in
+            let b = o.0 (omega arith) in
+            let up : suc m ≡ m + 1 = omega arith in
+            let is : m + 1 + k ≡ n = omega (arith, b.ends) in
+            step_does m k e f v b.left t is (subst (λ r. Divided false a D r k b.left t) up b.divided)
+            b.higher
+            lone R (λ p x s h. go (k + 1, 0, p, x) s (
+              λ z. (let r = h.1 z in record {
+                ends = omega (arith, is);
+                left = r.left;
+                divided = r.divided;
+                higher = r.higher;
+                paid = omega (arith, r.paid, b.paid);
+                counted = omega (arith, r.counted, b.counted);
+              }),
+              λ z. (let r = h.0 z in let all : k + 1 ≡ n = omega (arith, is, z) in record {
+                left = r.left;
+                divided = subst (λ m. Divided lone a D m n r.left s) z
+                    (subst (λ q. Divided lone a D m q r.left s) all r.divided);
+                k = k;
+                all = all;
+                paid = omega (arith, r.paid, b.paid);
+                counted = omega (arith, r.counted, b.counted);
+              }),
+            )) y.1 y.2 y.3
 
 -- whether one of so many bits from a place on is set
 unfoldable some_set : (ℕ → Bool) → ℕ → ℕ → Bool
 some_set f a zero = false
 some_set f a (suc k) = majority true (f a) (some_set f (a + 1) k)
 
-or_none : (b r : Bool) → majority true b r ≡ false → (b ≡ false) × (r ≡ false)
-unfolding majority
-or_none true r e = absurd (cc)
-or_none false true e = absurd (cc)
-or_none false false e = (refl, refl)
-
-or_some : (b r : Bool) → majority true b r ≡ true → b ≡ false → r ≡ true
-unfolding majority
-or_some true r e f = absurd (cc)
-or_some false true e f = refl
-or_some false false e f = absurd (cc)
-
 or_off : (b : Bool) → majority true b false ≡ b
 unfolding majority
-or_off true = refl
-or_off false = refl
+or_off b = grind arith
 
-none_set : (f : ℕ → Bool) (a k : ℕ) → some_set f a k ≡ false → val f a k ≡ 0
-unfolding some_set val
-none_set f a zero e = refl
-none_set f a (suc k) e =
-    let p = or_none (f a) (some_set f (a + 1) k) e in
-    let h = none_set f (a + 1) k p.1 in
-    let b = ap bit p.0 in
-    omega (arith, val_front f a k, h, b)
-
-one_set : (f : ℕ → Bool) (a k : ℕ) → some_set f a k ≡ true → 1 ≤ val f a k
-unfolding some_set val
-one_set f a zero e = absurd (cc)
-one_set f a (suc k) e = by (f a) refl (val_front f a k) e (λ h. one_set f (a + 1) k h)
+-- it is, just where they spell no 0
+some_is : (f : ℕ → Bool) (a k : ℕ) → (some_set f a k ≡ false → val f a k ≡ 0)
+    × (some_set f a k ≡ true → 1 ≤ val f a k)
+unfolding some_set val majority
+some_is f a zero = (λ e. refl, λ e. absurd (cc))
+some_is f a (suc k) = by (f a) (some_set f (a + 1) k) refl (some_is f (a + 1) k)
+    (let z : suc k ≡ k + 1 = omega arith in ap (val f a) z ∙ val_front f a k)
   where
-    by : (b : Bool) → f a ≡ b → val f a (suc k) ≡ bit (f a) + 2 * val f (a + 1) k
-        → majority true (f a) (some_set f (a + 1) k) ≡ true
-        → (some_set f (a + 1) k ≡ true → 1 ≤ val f (a + 1) k) → 1 ≤ val f a (suc k)
-    by true eb v e more = let b = ap bit eb in omega (arith, v, b)
-    by false eb v e more = let h = more (or_some (f a) (some_set f (a + 1) k) e eb) in
-        omega (arith, v, h)
-
--- the low positions and the others
-val_split : (f : ℕ → Bool) (k m : ℕ) → val f 0 (k + m) ≡ val f 0 k + 2 ^ k * val f k m
-unfolding val
-val_split f k zero = let e : k + 0 ≡ k = omega arith in ap (val f 0) e ∙ (omega arith)
-val_split f k (suc m) =
-    let e : k + suc m ≡ suc (k + m) = omega arith in
-    let h = val_split f k m in
-    let p : 2 ^ (k + m) ≡ 2 ^ k * 2 ^ m = pow-add 2 k m in
-    let q = ap (λ z. z * bit (f (k + m))) p in
-    let w : 2 ^ (k + m) * bit (f (0 + (k + m))) ≡ 2 ^ (k + m) * bit (f (k + m)) =
-    ap (λ z. 2 ^ (k + m) * bit (f z)) (let u : 0 + (k + m) ≡ k + m = omega arith in u) in
-    ap (val f 0) e ∙ omega (arith, h, q, w)
+    by : (b r : Bool) → f a ≡ b → (r ≡ false → val f (a + 1) k ≡ 0) × (r ≡ true → 1 ≤ val f (a + 1) k)
+        → val f a (suc k) ≡ bit (f a) + 2 * val f (a + 1) k
+        → (majority true b r ≡ false → val f a (suc k) ≡ 0)
+        × (majority true b r ≡ true → 1 ≤ val f a (suc k))
+    by true r e h v = let b = ap bit e in (λ z. absurd (cc), λ z. omega (arith, v, b))
+    by false true e h v = (λ z. absurd (cc), λ z. omega (arith, v, h.1 refl))
+    by false false e h v = let b = ap bit e in (λ z. omega (arith, v, b, h.0 refl), λ z. absurd (cc))
 
 module _ (n : ℕ) (d : ℕ → Bool) where
   pub higher : ℕ → Bool
@@ -1090,7 +681,7 @@ module _ (n : ℕ) (d : ℕ → Bool) where
 
   pub higher_low : (k : ℕ) → k < n → higher k ≡ false → val d 0 n ≡ val d 0 k
   unfolding higher
-  higher_low k lt e = let z = ap (λ v. 2 ^ k * v) (none_set d k (n - k) e) in
+  higher_low k lt e = let z = ap (λ v. 2 ^ k * v) ((some_is d k (n - k)).0 e) in
       omega (arith, split_at k lt, z)
 
   most : (v p w l : ℕ) → 1 ≤ v → w ≡ l + p * v → p ≤ w
@@ -1100,7 +691,7 @@ module _ (n : ℕ) (d : ℕ → Bool) where
   pub higher_high : (k : ℕ) → k < n → higher k ≡ true → 2 ^ k ≤ val d 0 n
   unfolding higher
   higher_high k lt e = most (val d k (n - k)) (2 ^ k) (val d 0 n) (val d 0 k)
-      (one_set d k (n - k) e) (split_at k lt)
+      ((some_is d k (n - k)).1 e) (split_at k lt)
 
   pub higher_top : 0 < n → higher (n - 1) ≡ d (n - 1)
   unfolding higher some_set
@@ -1116,145 +707,81 @@ module _ (n : ℕ) (d : ℕ → Bool) where
 
   -- the bits of the divisor are gathered
   module _ (small : n ≤ 128) (some : 0 < n) (a : ℕ → Bool) where
+    abbrev WG : FlowOf Part → Asked → Asked
+    WG = walks n a d
+
     abbrev FG : EventOf Part → State → Type 0
     FG = Fine Part State n (InRange n)
 
-    abbrev WG : FlowOf Part → Claim Part State n FG (does a d) → Claim Part State n FG (does a d)
-    WG f = wp Part State n FG (does a d) f
-
-    abbrev AskedG : Type 1
-    AskedG = Claim Part State n FG (does a d)
-
-    abbrev regs_of : ℕ → ℕ → ℕ → ℕ → ℕ → ℕ → ℕ → ℕ → List ℕ
-    regs_of j k m p x e f v = j ∷ k ∷ m ∷ p ∷ x ∷ e ∷ f ∷ v ∷ []
-
-    record Gathered (m : ℕ) (t : State) : Type 0 where
-      right : (r : ℕ) → m + 1 ≤ r → r < n → t.h r ≡ higher r
-      found : t.g ≡ higher (m + 1)
+    record Gathered (r m : ℕ) (t : State) : Type 0 where
+      place : r ≡ m + 1
+      right : (q : ℕ) → r ≤ q → q < n → t.h q ≡ higher q
+      found : t.g ≡ higher r
       alive : t.alive ≡ found_left
       paid : t.cost + 3 * m + 4 ≡ 3 * n
-      room : m + 1 < n
+      none : t.aps ≡ 0
+      room : r < n
 
-    gathers_do : (j k0 m0 p0 x e f v : ℕ) (k : FlowOf Part) (Q : AskedG) (t : State) → t.cost ≡ 0
-        → ((p : ℕ) (s : State) → ((r : ℕ) → 0 < r → r < n → s.h r ≡ higher r)
-        → (n ≡ 1 → s.cost ≡ 0) → (1 < n → s.cost + 4 ≡ 3 * n)
-        → WG k Q (regs_of 0 k0 m0 p x e f v) s) → WG (gathers k) Q (regs_of j k0 m0 p0 x e f v) t
-    gathers_do j k0 m0 p0 x e f v k Q t free done = (tt, (tt, by (n - 1) refl))
+    gathers_do : (k0 m0 x e f v : ℕ) (k : FlowOf Part) (Q : Asked) → ((p : ℕ) (s : State)
+        → ((r : ℕ) → 0 < r → r < n → s.h r ≡ higher r) → s.aps ≡ 0 → (n ≡ 1 → s.cost ≡ 0)
+        → (1 < n → s.cost + 4 ≡ 3 * n) → WG k Q (regs 0 k0 m0 p x e f v) s) → (j p : ℕ) (t : State)
+        → t.cost ≡ 0 → t.aps ≡ 0 → WG (gathers k) Q (regs j k0 m0 p x e f v) t
+    gathers_do k0 m0 x e f v k Q done j p t free none = tt ▹ tt ▹ by (n - 1) refl
       where
         top : FlowOf Part
         top = Do GatherTop (Put (SubI 0 1) (Loop 0 (Last gather_next) End))
 
-        I : TurnsOf Part → ℕ → AskedG
-        I ts m g t = (r : ℕ) × (g ≡ regs_of m k0 m0 r x e f v) × (r ≡ m + 1) × Gathered m t
-
-        step : (m : ℕ) (g : List ℕ) (t : State) (R : AskedG) → I (Last gather_next) (suc m) g t
-            → ((h : List ℕ) (t : State) → I (Last gather_next) m h t → R h t)
-            → WG gather_next R (slice_set g 0 m) t
-        step m g t R i go =
-            let r = i.0 in
-            let c = i.3 in
-            let low : r - 1 ≡ m + 1 = omega (arith, i.2) in
-            let up : suc m + 1 ≡ suc (m + 1) = omega arith in
+        step : (r m : ℕ) (t : State) (R : Asked) → Gathered r (suc m) t
+            → ((r : ℕ) (t : State) → Gathered r m t → R (regs m k0 m0 r x e f v) t)
+            → WG gather_next R (regs m k0 m0 r x e f v) t
+        step r m t R c go =
             let u = majority true (d (r - 1)) t.g in
-            let u_is : u ≡ higher (m + 1) = ap (λ z. majority true (d z) t.g) low
-            ∙ ap (majority true (d (m + 1))) (c.found ∙ ap higher up)
-            ∙ sym (higher_next (m + 1) (omega (arith, c.room))) in
-            subst (λ l. WG gather_next R (slice_set l 0 m) t) (sym i.1) (
-              omega (arith, i.2),
-              (
-                (omega (arith, low, c.room), c.alive),
-                go (regs_of m k0 m0 (r - 1) x e f v)
-                    (does a d Gather (regs_of m k0 m0 (r - 1) x e f v) t) (
-                      r - 1,
-                      refl,
-                      low,
-                      record {
-                        right = λ q le lt. ⊎_elim
-                            (λ (l : m + 1 < q). put_other t.h (r - 1) u q
-                            (λ z. absurd (omega (arith, z, low, l))) ∙ c.right q (omega (arith, l)) lt)
-                            (λ (l : q ≤ m + 1). (let here : q ≡ r - 1 = omega (arith, l, le, low) in
-                            ap (put t.h (r - 1) u) here ∙ put_same t.h (r - 1) u ∙ u_is
-                            ∙ ap higher (let z : m + 1 ≡ q = omega (arith, l, le) in z)))
-                            (cases_lt (m + 1) q);
-                        found = u_is;
-                        alive = refl;
-                        paid = omega (arith, c.paid);
-                        room = omega (arith, c.room);
-                      },
-                    ),
-              ),
-            )
+            let up : suc (r - 1) ≡ r = omega (arith, c.place) in
+            let u_is : u ≡ higher (r - 1) = ap (majority true (d (r - 1))) (c.found ∙ ap higher (sym up))
+            ∙ sym (higher_next (r - 1) (omega (arith, up, c.room))) in
+            omega (arith, c.place) ▹ (omega (arith, c.room), c.alive) ▹ go (r - 1) _ (record {
+              place = omega (arith, c.place);
+              right = λ q le lt. grind (arith, u_is, c.right q, le, lt);
+              found = u_is;
+              alive = refl;
+              paid = omega (arith, c.paid);
+              none = c.none;
+              room = omega (arith, c.room);
+            })
 
-        by : (z : ℕ) → n - 1 ≡ z
-            → WG (If 0 top End k) Q (regs_of (n - 1) k0 m0 (n - 1) x e f v) t
+        by : (z : ℕ) → n - 1 ≡ z → WG (If 0 top End k) Q (regs (n - 1) k0 m0 (n - 1) x e f v) t
         by zero is = wp_none Part State n FG (does a d) 0 top End k Q
-            (regs_of (n - 1) k0 m0 (n - 1) x e f v) t is
-            (subst (λ j. WG k Q (regs_of j k0 m0 (n - 1) x e f v) t) (sym is)
-            (done (n - 1) t (λ r lo hi. absurd (omega (arith, lo, hi, is))) (λ one. free)
+            (regs (n - 1) k0 m0 (n - 1) x e f v) t is
+            (subst (λ j. WG k Q (regs j k0 m0 (n - 1) x e f v) t) (sym is)
+            (done (n - 1) t (λ r lo hi. absurd (omega (arith, lo, hi, is))) none (λ one. free)
             (λ more. absurd (omega (arith, more, is)))))
         by (suc z) is = wp_some Part State n FG (does a d) 0 z top End k Q
-            (regs_of (n - 1) k0 m0 (n - 1) x e f v) t is (
-              omega (arith, some),
-              (
-                omega (arith, is),
-                wp_loop Part State n FG (does a d) 0 (Last gather_next) I End (WG k Q)
-                    (regs_of (n - 1 - 1) k0 m0 (n - 1) x e f v)
-                    (does a d GatherTop (regs_of (n - 1) k0 m0 (n - 1) x e f v) t) (omega arith) step (
-                      n - 1,
-                      refl,
-                      omega (arith, is),
-                      record {
-                        right = λ r le lt. (let here : r ≡ n - 1 = omega (arith, le, lt, is) in
-                            ap (put t.h (n - 1) (d (n - 1))) here ∙ put_same t.h (n - 1) (d (n - 1))
-                            ∙ sym (higher_top some) ∙ ap higher (sym here));
-                        found = sym (higher_top some)
-                            ∙ ap higher (let q : n - 1 ≡ n - 1 - 1 + 1 = omega (arith, is) in q);
-                        alive = refl;
-                        paid = omega (arith, free, is);
-                        room = omega (arith, is);
-                      },
-                    ) (λ ts g s i. subst (λ l. WG k Q l s) (sym i.1)
-                    (done i.0 s (λ r lo lt. i.3.right r (omega (arith, lo)) lt)
-                    (λ one. absurd (omega (arith, one, is)))
-                    (λ more. (let c = i.3 in omega (arith, c.paid))))),
-              ),
-            )
+            (regs (n - 1) k0 m0 (n - 1) x e f v) t is (omega (arith, some) ▹ omega (arith, is)
+            ▹ each Part State n (InRange n) (does a d) 0 gather_next End (WG k Q) ℕ
+            (λ r m. regs m k0 m0 r x e f v) Gathered (λ r m. refl) step
+            (λ r s c. done r s (λ q lo lt. c.right q (omega (arith, lo, c.place)) lt) c.none
+            (λ one. absurd (omega (arith, one, is))) (λ more. (let p = c.paid in omega (arith, p))))
+            (n - 1) (n - 1 - 1) _ refl (omega arith) (record {
+              place = omega (arith, is);
+              right = λ r le lt. grind (arith, higher_top some, le, lt);
+              found = sym (higher_top some);
+              alive = refl;
+              paid = omega (arith, free, is);
+              none = none;
+              room = omega (arith, some);
+            }))
 
     -- the whole, wherever the registers begin
-    pub divmod_does : (j k m p x e f v : ℕ) (t : State) (Q : AskedG) → t.cost ≡ 0
-        → ((g : List ℕ) (s : State) (base : ℕ)
-        → Divided n small a d higher higher_low higher_high some base s (val s.w 0 n)
-        → (n ≡ 1 → s.cost ≡ 13) → (1 < n → s.cost + 6 ≡ 6 * (n * n) + 12 * n) → Q g s)
-        → WG divmod Q (regs_of j k m p x e f v) t
-    divmod_does j k m p x e f v t Q free done =
-        gathers_do j k m p x e f v (Put (SetN 0) (Put (SetI 1 1) (Loop 0 (Last step_left) End))) Q t
-        free (λ p s right one more. (
-          tt,
-          (
-            tt,
-            lefts_do n small a d higher higher_low higher_high some s.cost m p x e f v s Q refl right
-                (λ g r z paid. done g r s.cost z
-                (λ o. (let nn : n * n ≡ 1 = ap (λ y. y * y) o in let c = one o in
-                omega (arith, paid, c, nn, o)))
-                (λ l. (let c = more l in omega (arith, paid, c)))),
-          ),
-        ))
-
-    pub div_does : (j k m p x e f v : ℕ) (t : State) (Q : AskedG) → t.cost ≡ 0
-        → ((g : List ℕ) (s : State) (base left : ℕ)
-        → Divided n small a d higher higher_low higher_high some base s left
-        → (n ≡ 1 → s.cost ≡ 4) → (1 < n → s.cost + 6 ≡ 6 * (n * n) + 3 * n) → Q g s)
-        → WG div Q (regs_of j k m p x e f v) t
-    div_does j k m p x e f v t Q free done =
-        gathers_do j k m p x e f v (Put (SetN 0) (Put (SetI 1 1) (Loop 0 (Last step_lone) End))) Q t
-        free (λ p s right one more. (
-          tt,
-          (
-            tt,
-            lones_do n small a d higher higher_low higher_high some s.cost m p x e f v s Q refl right
-                (λ g r left z paid. done g r s.cost left z
-                (λ o. (let nn : n * n ≡ 1 = ap (λ y. y * y) o in let c = one o in
-                omega (arith, paid, c, nn, o)))
-                (λ l. (let c = more l in omega (arith, paid, c)))),
-          ),
-        ))
+    pub division_does : (lone : Bool) (Q : Asked) → ((g : List ℕ) (s : State) (left : ℕ)
+        → Divided lone a (val d 0 n) 0 n left s → (n ≡ 1 → s.cost ≡ cond lone 4 13)
+        → (1 < n → s.cost + 6 ≡ 6 * (n * n) + cond lone 3 12 * n)
+        → (2 * s.aps + cond lone n 0 ≡ n * n + cond lone 0 n) → Q g s)
+        → (j k m p x e f v : ℕ) (t : State) → t.cost ≡ 0 → t.aps ≡ 0
+        → WG (division lone) Q (regs j k m p x e f v) t
+    division_does lone Q done j k m p x e f v t free none =
+        gathers_do k m x e f v (Put (SetN 0) (Put (SetI 1 1) (Loop 0 (Last (step_of lone)) End))) Q
+        (λ p s right none one more. tt ▹ tt ▹ steps_do n small a d higher higher_low higher_high some lone
+        s.cost Q (λ g r h. (let nn : n * n ≡ (h.k + 1) * (h.k + 1) = ap (λ z. z * z) (sym h.all) in
+        done g r h.left h.divided (λ o. grind (arith, h.paid, one o, h.all, nn, o))
+        (λ l. grind (arith, h.paid, more l, nn, h.all)) (grind (arith, h.counted, nn, h.all))))
+        m p x e f v s refl none right) j p t free none

@@ -1,19 +1,8 @@
 -- Each flow does a statement of its operation, in exactly so many commands.
-use Rattle.std.proofs.Common.{◌≡◌, ℕ, true, List, Option, Some}
-use Rattle.std.proofs.Common.{None, sym, subst}
-use Rattle.std.specs.Option.{option_to_list}
-use Rattle.op_text.specs.declared.tree.Kind.{Kind}
-use Rattle.op_text.specs.declared.word_ops.WordOp.{WordOp}
-use Rattle.op_text.specs.declared.word_ops.WordOp.TheVariants as op
-use Rattle.op_text.specs.WordOps.{second_kind}
-use Rattle.op_text.specs.Language.{Compute}
-use Rattle.loop_ir.specs.declared.names.Slot.{Slot}
-use Rattle.loop_ir.specs.Plain.{Block, StepOf}
-use Rattle.loop_ir.specs.Statements.{Slots, IsPlaced, SecondMeets, ComputeMeets}
-use Rattle.word_lower.specs.Places.{AreAt}
-use Rattle.word_lower.proofs.Statements.{places_of}
-use Rattle.word_flow.specs.Programs.{is_flow}
-use Rattle.word_flow.specs.Places.{rows_on, steps_for, IsFlowWritten}
+use Rattle.word_flow.proofs.Common.{◌≡◌, ℕ, true, List, Option, Some, None, sym, subst}
+use Rattle.word_flow.proofs.Common.{option_to_list, Kind, WordOp, second_kind, Compute, Slot, Block}
+use Rattle.word_flow.proofs.Common.{StepOf, Slots, IsPlaced, SecondMeets, ComputeMeets, AreAt}
+use Rattle.word_flow.proofs.Common.{places_of, is_flow, rows_on, steps_for, IsFlowWritten}
 use Rattle.word_flow.proofs.AbsDone.{abs_done}
 use Rattle.word_flow.proofs.CountDone.{count_done}
 use Rattle.word_flow.proofs.DivDone.{div_done, rem_done, divmod_done}
@@ -22,6 +11,7 @@ use Rattle.word_flow.proofs.RedDone.{and_red_done, or_red_done}
 use Rattle.word_flow.proofs.ReluDone.{relu_done}
 use Rattle.word_flow.proofs.ShiftDone.{shl1_done, shr1_done}
 use Rattle.word_flow.proofs.XorDone.{xor_red_done}
+use Rattle.op_text.specs.declared.word_ops.WordOp.TheVariants as op
 pub use Rattle.word_flow.proofs.Targets.{IsExact, IsDone}
 
 one_done : (slots : Slots) (fb fw : ℕ) (target : List ℕ) (p : WordOp) (args : List (List ℕ))

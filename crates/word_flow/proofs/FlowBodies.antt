@@ -1,40 +1,25 @@
 -- Bodies of flows: their rounds keep the rules where their rows are in range, and code can be made
 -- of them where their commands do them.
-use Rattle.std.proofs.Common.{◌≡◌, ◌≢◌, ℕ, zero, suc, ◌+◌, ◌<◌, ◌≤◌, Bool, true, false, cond, List}
-use Rattle.std.proofs.Common.{[], ◌∷◌, map, length, refl, sym, ap, ◌∙◌, subst, ⊎_elim, arith}
-use Rattle.std.proofs.Common.{Option, Some, None}
-use Rattle.std.specs.Prelude.{◌&&◌, ◌==◌, nat_lt, nat_le}
-use Rattle.std.proofs.lemmas.Bool.{and_parts, eqb-true, ltb-true}
-use Rattle.std.proofs.lemmas.List.{length-map}
-use Rattle.mig_graph.specs.declared.Lit.{Lit}
-use Rattle.mig_graph.specs.Graph.{IsGraph}
-use Rattle.mig_graph.specs.Outputs.{AreNamed, lit_at}
-use Rattle.row_alloc.specs.declared.body.OutRow.{OutRow}
-use Rattle.row_alloc.specs.Rows.{out_at}
-use Rattle.row_alloc.specs.Body.{FitBody}
-use Rattle.row_alloc.specs.Held.{DoesHeld, IsHeldChecked}
+use Rattle.word_flow.proofs.Common.{are_rows_first, IsHeldChecked, owners_apart, placed_body, false}
+use Rattle.word_flow.proofs.Common.{enters_like, leaves_like, placed_same, owner_cases, length-map}
+use Rattle.word_flow.proofs.Common.{plain_cost, RoomsApart, same_owner, writes_fit, rows_first, ◌≡◌}
+use Rattle.word_flow.proofs.Common.{first_like, plain_like, state_like, coded_body, nth_placed, ◌≢◌}
+use Rattle.word_flow.proofs.Common.{and_parts, sub_value, nth_place, row_count, used_subs, eqb-true}
+use Rattle.word_flow.proofs.Common.{IsCarried, HasValues, none_like, below_map, ltb-true, AreNamed}
+use Rattle.word_flow.proofs.Common.{DoesHeld, nth_spot, is_state, room_for, is_there, has_room, suc}
+use Rattle.word_flow.proofs.Common.{HaveRows, own_spot, owned_at, IsGraph, FitBody, spot_at, length}
+use Rattle.word_flow.proofs.Common.{spot_in, IsRound, InCells, IsOwned, mark_at, IsThere, most_is}
+use Rattle.word_flow.proofs.Common.{⊎_elim, Option, nat_lt, nat_le, lit_at, OutRow, out_at, enters}
+use Rattle.word_flow.proofs.Common.{leaves, extent, InRoom, Marked, placed, row_in, IsSlim, IsMade}
+use Rattle.word_flow.proofs.Common.{own_of, subst, arith, IsOwn, Owner, Coded, IsHad, first, zero}
+use Rattle.word_flow.proofs.Common.{Bool, true, cond, List, refl, Some, None, ◌&&◌, ◌==◌, Spot, ◌+◌}
+use Rattle.word_flow.proofs.Common.{Room, Mark, ◌<◌, ◌≤◌, ◌∷◌, map, sym, ◌∙◌, Lit, [], ap, ℕ}
 use Rattle.row_alloc.proofs.HeldChecked.{held-does}
 use Rattle.loop_ir.specs.declared.ir.Place.{Place}
-use Rattle.loop_ir.specs.Loops.{sub_value}
-use Rattle.loop_ir.specs.Spots.{Spot, spot_at, spot_in, nth_place, nth_spot, IsOwn, is_state}
 use Rattle.loop_ir.specs.WellFormed.{IsOneValue}
 use Rattle.loop_ir.specs.Outputs.{AreRows, IsOuts}
-use Rattle.loop_ir.specs.States.{row_count, enters, leaves}
-use Rattle.loop_ir.specs.Costs.{plain_cost, used_subs}
-use Rattle.loop_ir.specs.Limits.{IsCarried, IsRound, HasValues}
 use Rattle.loop_ir.proofs.Outs.{one-rows}
-use Rattle.loop_laws.specs.Rooms.{Room, room_for, extent, Owner, InRoom, InCells, Mark}
-use Rattle.loop_laws.specs.Rooms.{Marked, placed, placed_body, row_in, IsOwned, RoomsApart}
-use Rattle.loop_laws.specs.Rooms.{same_owner, is_there, none_like, writes_fit}
-use Rattle.loop_laws.specs.Forms.{IsSlim, IsMade, has_room, are_rows_first}
-use Rattle.loop_laws.proofs.Fitting.{mark_at, IsThere}
-use Rattle.loop_laws.proofs.Alike.{HaveRows, rows_first, first_like, enters_like, leaves_like}
-use Rattle.loop_laws.proofs.Alike.{plain_like, state_like}
-use Rattle.loop_laws.proofs.Good.{there_is, none_at, alone_sub, alone_once, write_at}
-use Rattle.loop_laws.proofs.Good.{writes_once}
-use Rattle.loop_laws.proofs.EveryRound.{most_is, first, nth_placed, placed_same, below_map, own_spot}
-use Rattle.loop_laws.proofs.EveryRound.{owner_cases, owners_apart, owned_at, own_of}
-use Rattle.word_flow.specs.Coded.{Coded, coded_body}
+use Rattle.loop_laws.proofs.Good.{there_is, none_at, alone_sub, alone_once, write_at, writes_once}
 
 -- the place has an owner
 abbrev pub all_there : List Room → List Mark → Bool
@@ -117,41 +102,29 @@ owner_true (InRoom j) (InCells w) e = cc
 owner_true (InCells v) (InRoom k) e = cc
 owner_true (InCells v) (InCells w) e = ap InCells (eqb-true v w e)
 
+-- what holds of 0 holds below 1
+pub only : (P : ℕ → Type 0) → P 0 → (j : ℕ) → j < 1 → P j
+only P h zero lt = h
+only P h (suc j) lt = absurd (omega (arith, lt))
+
 -- a body's only output with a row
 one_row : (reads writes : List Place) (inputs : ℕ) (outs : List Lit) (same : Option ℕ)
     → ((k : ℕ) → same ≡ Some k → (k < inputs) × (nth_place reads k ≡ nth_place writes 0))
     → ((i k : ℕ) → same ≡ Some k → i < k → nth_place reads i ≢ nth_place writes 0)
     → (same ≡ None → (k : ℕ) → k < inputs → nth_place reads k ≢ nth_place writes 0)
     → AreRows reads writes inputs outs 1 (record { lit = lit_at outs 0; same = same } ∷ [])
-one_row reads writes inputs outs same found first none = record {
-  size = refl;
-  lits = lits;
-  found = finds;
-  first = firsts;
-  none = nones;
-}
-  where
-    row : List OutRow
-    row = record { lit = lit_at outs 0; same = same } ∷ []
-
-    lits : (j : ℕ) → j < 1 → (out_at row j).lit ≡ lit_at outs j
-    lits zero lt = refl
-    lits (suc j) lt = absurd (omega (arith, lt))
-
-    finds : (j k : ℕ) → j < 1 → (out_at row j).same ≡ Some k → (k < inputs)
-        × (nth_place reads k ≡ nth_place writes j)
-    finds zero k lt e = found k e
-    finds (suc j) k lt e = absurd (omega (arith, lt))
-
-    firsts : (i j k : ℕ) → j < 1 → (out_at row j).same ≡ Some k → i < k
-        → nth_place reads i ≢ nth_place writes j
-    firsts i zero k lt e l = first i k e l
-    firsts i (suc j) k lt e l = absurd (omega (arith, lt))
-
-    nones : (j : ℕ) → j < 1 → (out_at row j).same ≡ None → (k : ℕ) → k < inputs
-        → nth_place reads k ≢ nth_place writes j
-    nones zero lt e k l = none e k l
-    nones (suc j) lt e k l = absurd (omega (arith, lt))
+one_row reads writes inputs outs same found first none =
+    let row : List OutRow = record { lit = lit_at outs 0; same = same } ∷ [] in
+    record {
+      size = refl;
+      lits = only (λ j. (out_at row j).lit ≡ lit_at outs j) refl;
+      found = λ j k lt. only (λ j. (out_at row j).same ≡ Some k → (k < inputs)
+          × (nth_place reads k ≡ nth_place writes j)) (found k) j lt;
+      first = λ i j k lt. only (λ j. (out_at row j).same ≡ Some k → i < k
+          → nth_place reads i ≢ nth_place writes j) (λ e l. first i k e l) j lt;
+      none = only (λ j. (out_at row j).same ≡ None → (k : ℕ) → k < inputs
+          → nth_place reads k ≢ nth_place writes j) none;
+    }
 
 count_like : (rooms : List Room) → HaveRows rooms → (ms : List Mark)
     → row_count (map (placed rooms) ms) ≡ row_count (map (placed []) ms)
@@ -180,23 +153,32 @@ module _ (n : ℕ) (rooms : List Room) (some : 0 < n) (are : RoomsApart n rooms)
       ≡ true
   written j lj = (write_at rooms b.reads b.writes j kept.fit lj).written
 
-  -- places of one value have one owner
-  one_owner : (p q : Place) (x y : Mark) → p ≡ placed rooms x → q ≡ placed rooms y
-      → IsThere rooms x.owner → IsThere rooms y.owner → (room_for rooms x.owner).written ≡ true
-      → IsOneValue p q → x.owner ≡ y.owner
-  one_owner p q x y ep eq lx ly w e = ⊎_elim
-      (λ (c : x.owner ≡ y.owner). c)
-      (λ (c : x.owner ≡ y.owner → ⊥).
-      let a = room_for rooms x.owner in
-      let b = room_for rooms y.owner in
-      let s : a.space ≡ b.space = sym (ap (λ (p : Place). p.space) ep) ∙ e.0
-      ∙ ap (λ (p : Place). p.space) eq in
-      let t : a.which ≡ b.which = sym (ap (λ (p : Place). p.which) ep) ∙ e.1
-      ∙ ap (λ (p : Place). p.which) eq in
-      absurd (owners_apart n rooms are rows x.owner y.owner 0 0 lx ly w c (first n a.rows some)
-      (first n b.rows some)
-      (ap (λ z. spot_in n z a.which 0) s ∙ ap (λ z. spot_in n b.space z 0) t)))
-      (owner_cases x.owner y.owner)
+  -- rows that are one have one owner, where one of them may be written
+  meet : (x y : Owner) (u v : ℕ) → IsThere rooms x → IsThere rooms y
+      → (room_for rooms x).written ≡ true → u < extent n (room_for rooms x).rows
+      → v < extent n (room_for rooms y).rows
+      → row_in n (room_for rooms x) u ≡ row_in n (room_for rooms y) v → x ≡ y
+  meet x y u v lx ly w lu lv e = ⊎_elim (λ (c : x ≡ y). c)
+      (λ (c : x ≡ y → ⊥). absurd (owners_apart n rooms are rows x y u v lx ly w c lu lv e))
+      (owner_cases x y)
+
+  -- so have places of one value
+  one_owner : (ms : List Mark) → all_there rooms ms ≡ true → (j k : ℕ) → j < length b.writes
+      → k < length ms
+      → IsOneValue (nth_place (map (placed rooms) b.writes) j) (nth_place (map (placed rooms) ms) k)
+      → (mark_at b.writes j).owner ≡ (mark_at ms k).owner
+  one_owner ms t j k lj lk e =
+      let p = nth_placed rooms b.writes j lj in
+      let q = nth_placed rooms ms k lk in
+      let x = room_for rooms (mark_at b.writes j).owner in
+      let y = room_for rooms (mark_at ms k).owner in
+      meet (mark_at b.writes j).owner (mark_at ms k).owner 0 0
+      (there_at rooms b.writes j kept.writes lj) (there_at rooms ms k t lk) (written j lj)
+      (first n x.rows some) (first n y.rows some)
+      (ap (λ z. spot_in n z x.which 0)
+      (sym (ap (λ (p : Place). p.space) p) ∙ e.0 ∙ ap (λ (p : Place). p.space) q)
+      ∙ ap (λ z. spot_in n y.space z 0)
+      (sym (ap (λ (p : Place). p.which) p) ∙ e.1 ∙ ap (λ (p : Place). p.which) q))
 
   rd : (k : ℕ) → k < length (map (placed rooms) b.reads) → k < length b.reads
   rd = below_map (placed rooms) b.reads
@@ -207,51 +189,33 @@ module _ (n : ℕ) (rooms : List Room) (some : 0 < n) (are : RoomsApart n rooms)
   -- a round with registers for which all rows are in range
   module _ (g : List ℕ) (reads : AllIn n g rooms c.body.reads)
       (writes : AllIn n g rooms c.body.writes) where
-    spot_read : (k : ℕ) → k < length b.reads → nth_spot n 0 0 g (map (placed rooms) b.reads) k
-        ≡ row_in n (room_for rooms (mark_at b.reads k).owner)
-        (sub_value n 0 0 g (mark_at b.reads k).sub)
-    spot_read k lk = ap (spot_at n 0 0 g) (nth_placed rooms b.reads k lk)
+    spot : (ms : List Mark) (k : ℕ) → k < length ms → nth_spot n 0 0 g (map (placed rooms) ms) k
+        ≡ row_in n (room_for rooms (mark_at ms k).owner) (sub_value n 0 0 g (mark_at ms k).sub)
+    spot ms k lk = ap (spot_at n 0 0 g) (nth_placed rooms ms k lk)
 
-    spot_written : (j : ℕ) → j < length b.writes
-        → nth_spot n 0 0 g (map (placed rooms) b.writes) j
-        ≡ row_in n (room_for rooms (mark_at b.writes j).owner)
-        (sub_value n 0 0 g (mark_at b.writes j).sub)
-    spot_written j lj = ap (spot_at n 0 0 g) (nth_placed rooms b.writes j lj)
+    met : (ms : List Mark) → all_there rooms ms ≡ true → AllIn n g rooms ms → (j k : ℕ)
+        → j < length b.writes → k < length ms → nth_spot n 0 0 g (map (placed rooms) b.writes) j
+        ≡ nth_spot n 0 0 g (map (placed rooms) ms) k
+        → (mark_at b.writes j).owner ≡ (mark_at ms k).owner
+    met ms t a j k lj lk e = meet (mark_at b.writes j).owner (mark_at ms k).owner _ _
+        (there_at rooms b.writes j kept.writes lj) (there_at rooms ms k t lk) (written j lj)
+        (in_at n g rooms b.writes j writes lj) (in_at n g rooms ms k a lk)
+        (sym (spot b.writes j lj) ∙ e ∙ spot ms k lk)
 
-    writes_meet : (i j : ℕ) → i < length b.writes → j < length b.writes
-        → nth_spot n 0 0 g (map (placed rooms) b.writes) i
-        ≡ nth_spot n 0 0 g (map (placed rooms) b.writes) j
-        → (mark_at b.writes i).owner ≡ (mark_at b.writes j).owner
-    writes_meet i j li lj e = ⊎_elim
-        (λ (c : (mark_at b.writes i).owner ≡ (mark_at b.writes j).owner). c)
-        (λ (c : (mark_at b.writes i).owner ≡ (mark_at b.writes j).owner → ⊥).
-        absurd (owners_apart n rooms are rows (mark_at b.writes i).owner (mark_at b.writes j).owner
-        (sub_value n 0 0 g (mark_at b.writes i).sub) (sub_value n 0 0 g (mark_at b.writes j).sub)
-        (there_at rooms b.writes i kept.writes li) (there_at rooms b.writes j kept.writes lj)
-        (written i li) c (in_at n g rooms b.writes i writes li)
-        (in_at n g rooms b.writes j writes lj)
-        (sym (spot_written i li) ∙ e ∙ spot_written j lj)))
-        (owner_cases (mark_at b.writes i).owner (mark_at b.writes j).owner)
-
-    reads_meet : (j k : ℕ) → j < length b.writes → k < length b.reads
-        → nth_spot n 0 0 g (map (placed rooms) b.writes) j
-        ≡ nth_spot n 0 0 g (map (placed rooms) b.reads) k
-        → (mark_at b.writes j).owner ≡ (mark_at b.reads k).owner
-    reads_meet j k lj lk e = ⊎_elim
-        (λ (c : (mark_at b.writes j).owner ≡ (mark_at b.reads k).owner). c)
-        (λ (c : (mark_at b.writes j).owner ≡ (mark_at b.reads k).owner → ⊥).
-        absurd (owners_apart n rooms are rows (mark_at b.writes j).owner (mark_at b.reads k).owner
-        (sub_value n 0 0 g (mark_at b.writes j).sub) (sub_value n 0 0 g (mark_at b.reads k).sub)
-        (there_at rooms b.writes j kept.writes lj) (there_at rooms b.reads k kept.reads lk)
-        (written j lj) c (in_at n g rooms b.writes j writes lj)
-        (in_at n g rooms b.reads k reads lk)
-        (sym (spot_written j lj) ∙ e ∙ spot_read k lk)))
-        (owner_cases (mark_at b.writes j).owner (mark_at b.reads k).owner)
+    owned : (ms : List Mark) → all_there rooms ms ≡ true → AllIn n g rooms ms → (k : ℕ)
+        → k < length (map (placed rooms) ms)
+        → is_state (nth_place (map (placed rooms) ms) k).space ≡ false
+        → IsOwned n rooms (nth_spot n 0 0 g (map (placed rooms) ms) k)
+    owned ms t a k lk row = let l = below_map (placed rooms) ms k lk in
+        owned_at n rooms are rows (mark_at ms k).owner (sub_value n 0 0 g (mark_at ms k).sub) _
+        (there_at rooms ms k t l)
+        (sym (ap (λ (p : Place). is_state p.space) (nth_placed rooms ms k l)) ∙ row)
+        (in_at n g rooms ms k a l) (spot ms k l)
 
     space_of : (j : ℕ) → j < length b.writes
         → IsOwn (nth_spot n 0 0 g (map (placed rooms) b.writes) j).space
     space_of j lj = let w = room_for rooms (mark_at b.writes j).owner in
-        subst (λ (q : Spot). IsOwn q.space) (sym (spot_written j lj))
+        subst (λ (q : Spot). IsOwn q.space) (sym (spot b.writes j lj))
         (own_spot n w.space w.which (sub_value n 0 0 g (mark_at b.writes j).sub)
         (own_of n rooms are rows (mark_at b.writes j).owner
         (there_at rooms b.writes j kept.writes lj) (written j lj)))
@@ -259,22 +223,12 @@ module _ (n : ℕ) (rooms : List Room) (some : 0 < n) (are : RoomsApart n rooms)
     pub round_is : IsRound (IsOwned n rooms) n
         (record { part = coded_body rooms c; i = 0; o = 0; regs = g })
     round_is = record {
-      reads = λ k lk row. owned_at n rooms are rows (mark_at b.reads k).owner
-          (sub_value n 0 0 g (mark_at b.reads k).sub)
-          (nth_spot n 0 0 g (map (placed rooms) b.reads) k)
-          (there_at rooms b.reads k kept.reads (rd k lk))
-          (sym (ap (λ (p : Place). is_state p.space) (nth_placed rooms b.reads k (rd k lk))) ∙ row)
-          (in_at n g rooms b.reads k reads (rd k lk)) (spot_read k (rd k lk));
-      writes = λ j lj row. owned_at n rooms are rows (mark_at b.writes j).owner
-          (sub_value n 0 0 g (mark_at b.writes j).sub)
-          (nth_spot n 0 0 g (map (placed rooms) b.writes) j)
-          (there_at rooms b.writes j kept.writes (wr j lj))
-          (sym (ap (λ (p : Place). is_state p.space) (nth_placed rooms b.writes j (wr j lj))) ∙ row)
-          (in_at n g rooms b.writes j writes (wr j lj)) (spot_written j (wr j lj));
+      reads = owned b.reads kept.reads reads;
+      writes = owned b.writes kept.writes writes;
       own = λ j lj. space_of j (wr j lj);
       apart = λ i j li lj e. writes_once rooms b.reads b.writes i j kept.fit (wr i li) (wr j lj)
-          (writes_meet i j (wr i li) (wr j lj) e);
-      same = λ j k lj lk e. (let o = reads_meet j k (wr j lj) (rd k lk) e in
+          (met b.writes kept.writes writes i j (wr i li) (wr j lj) e);
+      same = λ j k lj lk e. (let o = met b.reads kept.reads reads j k (wr j lj) (rd k lk) e in
           nth_placed rooms b.writes j (wr j lj)
           ∙ placed_same rooms (mark_at b.writes j) (mark_at b.reads k) o
           (alone_sub (mark_at b.writes j) b.reads k
@@ -282,34 +236,29 @@ module _ (n : ℕ) (rooms : List Room) (some : 0 < n) (are : RoomsApart n rooms)
           ∙ sym (nth_placed rooms b.reads k (rd k lk)));
       once = λ j k l lj lk ll e f. alone_once (mark_at b.writes j) b.reads k l
           (write_at rooms b.reads b.writes j kept.fit (wr j lj)).alone (rd k lk) (rd l ll)
-          (reads_meet j k (wr j lj) (rd k lk) e) (reads_meet j l (wr j lj) (rd l ll) f);
+          (met b.reads kept.reads reads j k (wr j lj) (rd k lk) e)
+          (met b.reads kept.reads reads j l (wr j lj) (rd l ll) f);
     }
 
   -- the values of its places are had
+  had : (ms : List Mark) → all_there rooms ms ≡ true → (k : ℕ)
+      → k < length (map (placed rooms) ms)
+      → is_state (nth_place (map (placed rooms) ms) k).space ≡ false
+      → IsHad (λ m. IsOwned m rooms) (nth_place (map (placed rooms) ms) k)
+  had ms t k lk row = let l = below_map (placed rooms) ms k lk in
+      let p = nth_placed rooms ms k l in
+      let o = (mark_at ms k).owner in (
+        n,
+        0,
+        owned_at n rooms are rows o 0 _ (there_at rooms ms k t l)
+            (sym (ap (λ (p : Place). is_state p.space) p) ∙ row) (first n (room_for rooms o).rows some)
+            (ap (λ (p : Place). spot_in n p.space p.which 0) p),
+      )
+
   pub values_are : HasValues (λ m. IsOwned m rooms) (coded_body rooms c)
   values_are = record {
-    reads = λ k lk row. (
-      n,
-      0,
-      owned_at n rooms are rows (mark_at b.reads k).owner 0
-          (spot_in n (nth_place (map (placed rooms) b.reads) k).space
-          (nth_place (map (placed rooms) b.reads) k).which 0)
-          (there_at rooms b.reads k kept.reads (rd k lk))
-          (sym (ap (λ (p : Place). is_state p.space) (nth_placed rooms b.reads k (rd k lk))) ∙ row)
-          (first n (room_for rooms (mark_at b.reads k).owner).rows some)
-          (ap (λ (p : Place). spot_in n p.space p.which 0) (nth_placed rooms b.reads k (rd k lk))),
-    );
-    writes = λ j lj row. (
-      n,
-      0,
-      owned_at n rooms are rows (mark_at b.writes j).owner 0
-          (spot_in n (nth_place (map (placed rooms) b.writes) j).space
-          (nth_place (map (placed rooms) b.writes) j).which 0)
-          (there_at rooms b.writes j kept.writes (wr j lj))
-          (sym (ap (λ (p : Place). is_state p.space) (nth_placed rooms b.writes j (wr j lj))) ∙ row)
-          (first n (room_for rooms (mark_at b.writes j).owner).rows some)
-          (ap (λ (p : Place). spot_in n p.space p.which 0) (nth_placed rooms b.writes j (wr j lj))),
-    );
+    reads = had b.reads kept.reads;
+    writes = had b.writes kept.writes;
     own = λ j lj. subst (λ (p : Place). IsOwn p.space)
         (sym (nth_placed rooms b.writes j (wr j lj)))
         (own_of n rooms are rows (mark_at b.writes j).owner
@@ -334,11 +283,7 @@ module _ (n : ℕ) (rooms : List Room) (some : 0 < n) (are : RoomsApart n rooms)
     meets : (k : ℕ) → k < length b.reads → 0 < length b.writes
         → nth_place (map (placed rooms) b.reads) k ≡ nth_place (map (placed rooms) b.writes) 0
         → (mark_at b.writes 0).owner ≡ (mark_at b.reads k).owner
-    meets k lk lw e = one_owner (nth_place (map (placed rooms) b.writes) 0)
-        (nth_place (map (placed rooms) b.reads) k) (mark_at b.writes 0) (mark_at b.reads k)
-        (nth_placed rooms b.writes 0 lw) (nth_placed rooms b.reads k lk)
-        (there_at rooms b.writes 0 kept.writes lw) (there_at rooms b.reads k kept.reads lk)
-        (written 0 lw)
+    meets k lk lw e = one_owner b.reads kept.reads 0 k lw lk
         (ap (λ (p : Place). p.space) (sym e), ap (λ (p : Place). p.which) (sym e))
 
     row_is : (same : Option ℕ) → is_same same (mark_at b.writes 0) b.reads ≡ true
@@ -432,20 +377,12 @@ module _ (n : ℕ) (rooms : List Room) (some : 0 < n) (are : RoomsApart n rooms)
           found = λ carried_some. carried;
           known = λ bare. absurd (let e = works.some in cc);
           apart = λ i j li lj h. writes_once rooms b.reads b.writes i j kept.fit (wr i li) (wr j lj)
-              (one_owner (nth_place d.writes i) (nth_place d.writes j) (mark_at b.writes i)
-              (mark_at b.writes j) (nth_placed rooms b.writes i (wr i li))
-              (nth_placed rooms b.writes j (wr j lj))
-              (there_at rooms b.writes i kept.writes (wr i li))
-              (there_at rooms b.writes j kept.writes (wr j lj)) (written i (wr i li)) h);
+              (one_owner b.writes kept.writes i j (wr i li) (wr j lj) h);
           same = λ j k lj lk h.
               ap (λ (p : Place). p.sub) (nth_placed rooms b.writes j (wr j lj))
               ∙ alone_sub (mark_at b.writes j) b.reads k
               (write_at rooms b.reads b.writes j kept.fit (wr j lj)).alone (rd k lk)
-              (one_owner (nth_place d.writes j) (nth_place d.reads k) (mark_at b.writes j)
-              (mark_at b.reads k) (nth_placed rooms b.writes j (wr j lj))
-              (nth_placed rooms b.reads k (rd k lk))
-              (there_at rooms b.writes j kept.writes (wr j lj))
-              (there_at rooms b.reads k kept.reads (rd k lk)) (written j (wr j lj)) h)
+              (one_owner b.reads kept.reads j k (wr j lj) (rd k lk) h)
               ∙ sym (ap (λ (p : Place). p.sub) (nth_placed rooms b.reads k (rd k lk)));
           inputs = most_is d.graph.inputs 80 a3.0;
           outputs = most_is (length d.outs) 8 a4.0;

@@ -1,45 +1,31 @@
 -- A flow does a statement, where its bodies have their commands, and where it is known at each width
 -- what it does to its rows.
-use Rattle.std.proofs.Common.{◌≡◌, ℕ, ◌+◌, ◌*◌, ◌<◌, ◌≤◌, Bool, true, false, List, [], ◌∷◌, map, length}
-use Rattle.std.proofs.Common.{Option, refl, sym, ap, ◌∙◌, subst, arith}
-use Rattle.std.specs.Prelude.{◌&&◌, nat_le, sum_by}
-use Rattle.std.specs.List.{AllByRecursion, list_all}
-use Rattle.std.proofs.lemmas.Bool.{and_from, and_parts}
-use Rattle.std.proofs.lemmas.List.{append-nil}
-use Rattle.std.proofs.lemmas.List.Sums.{sum_by-cons}
-use Rattle.bit_rows.specs.declared.TheConstants.{WIDTH_MAX}
-use Rattle.op_text.specs.Language.{Statement}
-use Rattle.op_text.specs.Rules.{is_among}
-use Rattle.op_text.specs.Meaning.{NameValue, after_statement}
-use Rattle.loop_ir.specs.Plain.{Block, StepOf, AllParts}
-use Rattle.loop_ir.specs.Plain.StepOf.{Flowed}
-use Rattle.loop_ir.specs.Flows.{FlowOf, flow_map, run, zeros, all_flow}
+use Rattle.word_flow.proofs.Common.{stays_in_registers, op_plain_ceiling, after_statement, list_all}
+use Rattle.word_flow.proofs.Common.{AllByRecursion, IsStatementRow, statement_rows, written_names}
+use Rattle.word_flow.proofs.Common.{after_rounds, sum_by-cons, flow_rounds, rounds_cost, append-nil}
+use Rattle.word_flow.proofs.Common.{plain_costs, all_rounds, plain_cost, read_names, RoomsApart, []}
+use Rattle.word_flow.proofs.Common.{plain_like, coded_body, op_ceiling, flow_total, and_parts, Bool}
+use Rattle.word_flow.proofs.Common.{WIDTH_MAX, Statement, turn_cost, code_cost, HasValues, and_from}
+use Rattle.word_flow.proofs.Common.{IsLowered, NameValue, is_among, AllParts, flow_map, all_flow, ℕ}
+use Rattle.word_flow.proofs.Common.{IsPlaced, room_for, HaveRows, flow_aps, RoundOf, carries, false}
+use Rattle.word_flow.proofs.Common.{chained, IsRound, IsOwned, HasForm, run_all, BodyCmd, Compute}
+use Rattle.word_flow.proofs.Common.{length, Option, nat_le, sum_by, StepOf, Flowed, FlowOf, row_in}
+use Rattle.word_flow.proofs.Common.{Extent, IsSlim, IsMade, aps_of, WordOp, subst, arith, Block, ap}
+use Rattle.word_flow.proofs.Common.{zeros, Spots, Slots, Holds, Owner, Coded, true, List, refl, ◌≡◌}
+use Rattle.word_flow.proofs.Common.{◌&&◌, Spot, Room, ◌+◌, ◌*◌, ◌<◌, ◌≤◌, ◌∷◌, map, sym, ◌∙◌, run}
+use Rattle.word_flow.proofs.Common.{most_is, rounds_among, rooms_row}
 use Rattle.loop_ir.specs.FlowTests.{names, counts, nests, runs_safely, is_event_safe}
-use Rattle.loop_ir.specs.Loops.{RoundOf, all_rounds, flow_rounds}
-use Rattle.loop_ir.specs.Spots.{Spot, Spots, after_rounds}
-use Rattle.loop_ir.specs.Costs.{rounds_cost, plain_cost, plain_costs, turn_cost, code_cost, carries}
-use Rattle.loop_ir.specs.Costs as cost
-use Rattle.loop_ir.specs.Chains.{chained}
-use Rattle.loop_ir.specs.Limits.{IsRound, HasValues, stays_in_registers}
-use Rattle.loop_ir.specs.Statements.{Slots, IsPlaced, read_names, written_names}
-use Rattle.loop_ir.specs.Lowered.{Holds, IsStatementRow, IsLowered, ceiling_of, plain_ceiling}
-use Rattle.loop_laws.specs.Rooms.{Room, room_for, row_in, Extent, Owner, RoomsApart, IsOwned}
-use Rattle.loop_laws.specs.Forms.{IsSlim, IsMade, HasForm}
-use Rattle.loop_laws.proofs.Alike.{HaveRows, plain_like}
-use Rattle.loop_laws.proofs.FlowRounds.{run_all}
-use Rattle.loop_laws.proofs.EveryRound.{most_is, rounds_among, rooms_row}
 use Rattle.loop_laws.proofs.Compile.{made_compile}
 use Rattle.loop_laws.proofs.Costing.{CarriesFew, rounds-plain}
-use Rattle.word_lower.proofs.Statements.{statement_rows}
-use Rattle.word_flow.specs.Coded.{Coded, coded_body}
-use Rattle.row_alloc.specs.declared.body.BodyCmd.{BodyCmd}
 use Rattle.word_flow.proofs.Answers.{Answers, Answered, answered}
 use Rattle.word_flow.proofs.Checks.{Weights, Stands, body_holds, held_is}
 use Rattle.word_flow.proofs.FlowBodies.{slim_is, made_is, values_are}
 use Rattle.word_flow.proofs.FlowOps.{flow_each, all_widths}
-use Rattle.word_flow.proofs.Placing.{Whose, rooms_whose, AllStand, AllDiffer, among, free_of, rows_move}
-use Rattle.word_flow.proofs.Placing.{rooms_apart}
+use Rattle.word_flow.proofs.Placing.{Whose, rooms_whose, AllStand, AllDiffer, among, free_of}
+use Rattle.word_flow.proofs.Placing.{rows_move, rooms_apart}
 use Rattle.word_flow.proofs.Views.{View, first_of}
+use Rattle.loop_ir.specs.Lowered.{args_width}
+use Rattle.loop_ir.specs.Costs as cost
 
 -- each place of its bodies is 0, or in a register that its forms name
 abbrev stays : FlowOf Block → Bool
@@ -66,17 +52,53 @@ weigh x a b d e (r ∷ rs) all =
     let t = ap (λ x. d * x) (sum_by-cons (λ (r : RoundOf Block). turn_cost r.part) r rs) in
     omega (arith, h, p, q, z, t, all.0)
 
-module _ (slots : Slots) (free_bit free_word : ℕ) (s : Statement)
-    (placed : IsPlaced slots free_bit free_word s) (ws : List Whose)
-    (stand : AllStand slots free_bit free_word s placed ws) (differ : AllDiffer ws) (A : Type 0)
-    (code : A → Coded) (f : FlowOf A) (es : List Extent)
+in_all : (x : List BodyCmd → ℕ) (a : ℕ) (rs : List (RoundOf Block)) → AllByRecursion
+    (λ (r : RoundOf Block). aps_of r.part ≡ a * x r.part.found) rs
+    → sum_by (λ (r : RoundOf Block). aps_of r.part) rs
+    ≡ a * sum_by (λ (r : RoundOf Block). x r.part.found) rs
+in_all x a [] all = omega arith
+in_all x a (r ∷ rs) all =
+    let p = sum_by-cons (λ (r : RoundOf Block). aps_of r.part) r rs in
+    let s = ap (λ z. a * z) (sum_by-cons (λ (r : RoundOf Block). x r.part.found) r rs) in
+    omega (arith, in_all x a rs all.1, p, s, all.0)
+
+-- each body has its commands, and all rounds take exactly so many, of which so many are AP
+pub record IsExact (p : WordOp) (steps : List (StepOf Block)) : Type 0 where
+  pub carried : AllParts (λ b. carries b ≡ true) steps
+  pub total : (n : ℕ) → 0 < n → n ≤ WIDTH_MAX → rounds_cost (all_rounds n steps) ≡ flow_total p n
+  pub aps : (n : ℕ) → 0 < n → n ≤ WIDTH_MAX
+      → sum_by (λ (r : RoundOf Block). aps_of r.part) (all_rounds n steps) ≡ flow_aps p n
+
+-- the loop program of a statement does it, and is exact
+pub record IsDone (slots : Slots) (fb fw : ℕ) (target : List ℕ) (second : Option (List ℕ))
+    (p : WordOp) (args : List (List ℕ)) (steps : List (StepOf Block)) : Type 0 where
+  pub lowered : IsLowered slots fb fw (Compute target second p args) steps
+  pub exact : IsExact p steps
+
+-- What is known of an operation's flow: what it does at each width, its AP, and that without
+-- sequences of their own its bodies take no more than its ceiling
+pub record Operation (p : WordOp) (A : Type 0) (code : A → Coded) (f : FlowOf A) (es : List Extent)
+    (known : List Owner) (x : List BodyCmd → ℕ) (weight : ℕ → ℕ) (w : Weights)
+    (Post : ℕ → View → View → Type 0) : Type 1 where
+  pub answers : (n : ℕ) → 0 < n → n ≤ WIDTH_MAX → (c : View)
+      → Answers A code f es known x n c (flow_total p n) (weight n) (Post n c)
+  pub aps : (n : ℕ) → w.aps * weight n ≡ flow_aps p n
+  pub plain : (n : ℕ) → 0 < n → (y : ℕ) → w.plain * y + w.less * weight n
+      ≤ w.cost * flow_total p n + w.more * weight n → y ≤ op_plain_ceiling p n
+  pub ceilings : (n : ℕ) → op_plain_ceiling p n ≡ op_ceiling p n
+
+module _ (slots : Slots) (fb fw : ℕ) (target : List ℕ) (second : Option (List ℕ)) (p : WordOp)
+    (args : List (List ℕ)) (placed : IsPlaced slots fb fw (Compute target second p args))
+    (ws : List Whose) (stand : AllStand slots fb fw (Compute target second p args) placed ws)
+    (differ : AllDiffer ws) (A : Type 0) (code : A → Coded) (f : FlowOf A) (es : List Extent)
     (shape : map (λ (r : Room). r.rows) (rooms_whose ws) ≡ es) (known : List Owner)
-    (x : List BodyCmd → ℕ) (w : Weights) (same : A → Option ℕ)
+    (x : List BodyCmd → ℕ) (weight : ℕ → ℕ) (w : Weights) (same : A → Option ℕ)
     (holds : (b : A) → body_holds (rooms_whose ws) known x w (same b) (code b) ≡ true)
     (sized : flow_holds (flow_map (λ b. coded_body (rooms_whose ws) (code b)) f) ≡ true)
-    (total weight : ℕ → ℕ) (Post : ℕ → View → View → Type 0)
-    (answers : (n : ℕ) → 0 < n → n ≤ WIDTH_MAX → (c : View)
-    → Answers A code f es known x n c (total n) (weight n) (Post n c)) where
+    (Post : ℕ → View → View → Type 0) (o : Operation p A code f es known x weight w Post) where
+  abbrev s : Statement
+  s = Compute target second p args
+
   abbrev rooms : List Room
   rooms = rooms_whose ws
 
@@ -90,16 +112,16 @@ module _ (slots : Slots) (free_bit free_word : ℕ) (s : Statement)
   steps = Flowed flow ∷ []
 
   abbrev row : ℕ → Spot → Type 0
-  row = IsStatementRow slots free_bit free_word s
+  row = IsStatementRow slots fb fw s
 
   apart : (n : ℕ) → RoomsApart n rooms
-  apart n = rooms_apart slots free_bit free_word s placed ws stand differ n
+  apart n = rooms_apart slots fb fw s placed ws stand differ n
 
   owned : (n : ℕ) (q : Spot) → IsOwned n rooms q → row n q
-  owned n q o = among slots free_bit free_word s placed ws stand n q o
+  owned n q o = among slots fb fw s placed ws stand n q o
 
   have_rows : HaveRows rooms
-  have_rows = rooms_row row rooms (owned 1) (statement_rows slots free_bit free_word s placed 1)
+  have_rows = rooms_row row rooms (owned 1) (statement_rows slots fb fw s placed 1)
 
   alone : (n : ℕ) → all_rounds n steps ≡ flow_rounds n flow
   alone n = append-nil (flow_rounds n flow)
@@ -107,16 +129,16 @@ module _ (slots : Slots) (free_bit free_word : ℕ) (s : Statement)
   at : (b : A) → Stands rooms known x w (same b) (code b)
   at b = held_is rooms known x w (same b) (code b) (holds b)
 
-  pub carried : AllParts (λ b. carries b ≡ true) steps
+  carried : AllParts (λ b. carries b ≡ true) steps
   carried = (flow_each A block (λ b. carries b ≡ true) (λ b. (at b).works.some) f, tt)
 
   -- what it does at a width, from every content
-  pub runs : (n : ℕ) → 0 < n → n ≤ WIDTH_MAX → (before : Spots) → Answered n rooms known flow
-      (total n) x (weight n) (Post n (λ a v. before (row_in n (room_for rooms a) v))) before
+  runs : (n : ℕ) → 0 < n → n ≤ WIDTH_MAX → (before : Spots) → Answered n rooms known flow
+      (flow_total p n) x (weight n) (Post n (λ a v. before (row_in n (room_for rooms a) v))) before
   runs n some small before = answered n rooms some (apart n) have_rows
-      (rows_move slots free_bit free_word s placed ws stand n) es shape known A code x w same holds f
-      (total n) (weight n) (Post n (λ a v. before (row_in n (room_for rooms a) v))) before
-      (answers n some small (λ a v. before (row_in n (room_for rooms a) v)))
+      (rows_move slots fb fw s placed ws stand n) es shape known A code x w same holds f
+      (flow_total p n) (weight n) (Post n (λ a v. before (row_in n (room_for rooms a) v))) before
+      (o.answers n some small (λ a v. before (row_in n (room_for rooms a) v)))
 
   dark : Spots
   dark q = false
@@ -164,26 +186,28 @@ module _ (slots : Slots) (free_bit free_word : ℕ) (s : Statement)
   )
 
   -- the commands at a width
-  pub total_is : (n : ℕ) → 0 < n → n ≤ WIDTH_MAX → rounds_cost (all_rounds n steps) ≡ total n
+  total_is : (n : ℕ) → 0 < n → n ≤ WIDTH_MAX → rounds_cost (all_rounds n steps) ≡ flow_total p n
   total_is n some small = ap rounds_cost (alone n) ∙ (runs n some small dark).paid
 
-  -- what its rounds weigh
-  pub weighs : (n : ℕ) → 0 < n → n ≤ WIDTH_MAX
-      → sum_by (λ (r : RoundOf Block). x r.part.found) (all_rounds n steps) ≡ weight n
-  weighs n some small = ap (λ rs. sum_by (λ (r : RoundOf Block). x r.part.found) rs) (alone n)
-      ∙ (runs n some small dark).weighed
+  -- the AP at a width
+  aps_are : (n : ℕ) → 0 < n → n ≤ WIDTH_MAX
+      → sum_by (λ (r : RoundOf Block). aps_of r.part) (all_rounds n steps) ≡ flow_aps p n
+  aps_are n some small = ap (λ rs. sum_by (λ (r : RoundOf Block). aps_of r.part) rs) (alone n)
+      ∙ in_all x w.aps (flow_rounds n flow) (run_all Block (λ b. aps_of b ≡ w.aps * x b.found) n flow
+      (flow_each A block (λ b. aps_of b ≡ w.aps * x b.found) (λ b. (at b).counts) f) zeros)
+      ∙ ap (λ z. w.aps * z) (runs n some small dark).weighed ∙ o.aps n
 
   -- what its rounds would take without sequences of their own
   plain_is : (n : ℕ) → 0 < n → n ≤ WIDTH_MAX
       → w.plain * plain_costs (flow_rounds n flow) + w.less * weight n
-      ≤ w.cost * total n + w.more * weight n
+      ≤ w.cost * flow_total p n + w.more * weight n
   plain_is n some small =
       let r = runs n some small dark in
       let s = sum_by (λ (r : RoundOf Block). x r.part.found) (flow_rounds n flow) in
       let h = weigh x w.plain w.less w.cost w.more (flow_rounds n flow)
       (run_all Block Most n flow (flow_each A block Most each f) zeros) in
       subst (λ z. w.plain * plain_costs (flow_rounds n flow) + w.less * z
-      ≤ w.cost * total n + w.more * z) r.weighed
+      ≤ w.cost * flow_total p n + w.more * z) r.weighed
       (subst (λ c. w.plain * plain_costs (flow_rounds n flow) + w.less * s
       ≤ w.cost * c + w.more * s) r.paid h)
     where
@@ -204,35 +228,41 @@ module _ (slots : Slots) (free_bit free_word : ℕ) (s : Statement)
   few b e = let m = (at b).works.few in let p = plain_like rooms have_rows (code b).body in
       omega (arith, m, p)
 
-  -- what the rows hold after it
-  module _ (gives : (n : ℕ) → 0 < n → n ≤ WIDTH_MAX → (held : List ℕ → NameValue) (before : Spots)
+  -- it is done and exact, where its rows hold what the targets are to have
+  pub done : ((n : ℕ) → args_width slots n args ≡ n)
+      → ((n : ℕ) → 0 < n → n ≤ WIDTH_MAX → (held : List ℕ → NameValue) (before : Spots)
+      → Answered n rooms known flow (flow_total p n) x (weight n)
+      (Post n (λ a v. before (row_in n (room_for rooms a) v))) before
       → ((name : List ℕ) → is_among (read_names s) name ≡ true → Holds n slots held before name)
       → (name : List ℕ) → is_among (written_names s) name ≡ true
       → Holds n slots (after_statement n held s) (after_rounds n (flow_rounds n flow) before) name)
-      (ceilings : (n : ℕ) → plain_ceiling slots s n ≡ ceiling_of slots s n)
-      (plain : (n : ℕ) → 0 < n → n ≤ WIDTH_MAX → (y : ℕ)
-      → w.plain * y + w.less * weight n ≤ w.cost * total n + w.more * weight n
-      → y ≤ plain_ceiling slots s n) where
-    pub lowered : IsLowered slots free_bit free_word s steps
-    lowered =
-        let c = made_compile row steps made form in
-        record {
+      → IsDone slots fb fw target second p args steps
+  done width_is gives =
+      let c = made_compile row steps made form in
+      record {
+        lowered = record {
           well = c.0;
           can = c.1;
           does = λ n some small. record {
             gives = λ held rows h name e. subst (λ rs. Holds n slots (after_statement n held s)
                 (after_rounds n rs rows) name) (sym (alone n))
-                (gives n some small held rows h name e);
+                (gives n some small held rows (runs n some small rows) h name e);
             keeps = λ rows q r out. ap (λ rs. after_rounds n rs rows q) (alone n)
                 ∙ (runs n some small rows).rest q r
-                (free_of slots free_bit free_word s placed ws stand n q out);
+                (free_of slots fb fw s placed ws stand n q out);
           };
-          cheap = λ n some small. (let e = ap rounds_cost (alone n) in let z = ceilings n in
-              let c = plain n some small (plain_costs (flow_rounds n flow))
-              (plain_is n some small) in
+          cheap = λ n some small. (let e = ap rounds_cost (alone n) in
+              let z = o.ceilings (args_width slots n args) in
+              let c = ceiling n some small in
               let m = rounds-plain (flow_rounds n flow) (run_all Block CarriesFew n flow
               (flow_each A block CarriesFew few f) zeros) in omega (arith, e, z, c, m));
           plain = λ n some small. (let e = ap plain_costs (alone n) in
-              let c = plain n some small (plain_costs (flow_rounds n flow))
-              (plain_is n some small) in omega (arith, e, c));
-        }
+              let c = ceiling n some small in omega (arith, e, c));
+        };
+        exact = record { carried = carried; total = total_is; aps = aps_are };
+      }
+    where
+      ceiling : (n : ℕ) → 0 < n → n ≤ WIDTH_MAX
+          → plain_costs (flow_rounds n flow) ≤ op_plain_ceiling p (args_width slots n args)
+      ceiling n some small = subst (λ z. plain_costs (flow_rounds n flow) ≤ op_plain_ceiling p z)
+          (sym (width_is n)) (o.plain n some _ (plain_is n some small))

@@ -1,26 +1,14 @@
 -- What an operation's flow does, by states that stand for the rows: its rounds keep the rules and
 -- find their states, it takes so many commands, and leaves rows that are like its last state.
-use Rattle.std.proofs.Common.{◌≡◌, ℕ, zero, suc, ◌+◌, ◌<◌, ◌≤◌, Bool, true, List, [], ◌∷◌, map}
-use Rattle.std.proofs.Common.{refl}
-use Rattle.std.proofs.Common.{sym, subst, arith}
-use Rattle.std.specs.Prelude.{slice_index, sum_by}
-use Rattle.std.specs.List.{AllByRecursion, list_all, range_with_len}
-use Rattle.std.proofs.lemmas.Bool.{and_from, le-leb}
-use Rattle.std.proofs.lemmas.List.Sums.{sum_by-cons}
-use Rattle.bit_rows.specs.declared.TheConstants.{WIDTH_MAX}
-use Rattle.loop_ir.specs.Plain.{Block}
-use Rattle.loop_ir.specs.Flows.{FlowOf, TurnsOf, EventOf, AllFlow, AllActs, flow_map, acts_map, run, zeros}
-use Rattle.loop_ir.specs.Flows.FlowOf.{End, Do, Put, If, Loop}
-use Rattle.loop_ir.specs.Flows.TurnsOf.{Last, Turn}
-use Rattle.loop_ir.specs.Flows.EventOf.{Done, Moved, Counted}
+use Rattle.word_flow.proofs.Common.{AllByRecursion, range_with_len, after_rounds, slice_index, zero}
+use Rattle.word_flow.proofs.Common.{sum_by-cons, flow_rounds, after_round, WIDTH_MAX, rounds_in, []}
+use Rattle.word_flow.proofs.Common.{event_map, list_all, and_from, flow_map, acts_map, TurnsOf, ◌≡◌}
+use Rattle.word_flow.proofs.Common.{EventOf, AllFlow, AllActs, Counted, RoundOf, left_by, chained}
+use Rattle.word_flow.proofs.Common.{IsRound, run_map, safe_is, AllFine, sum_by, le-leb, FlowOf, suc}
+use Rattle.word_flow.proofs.Common.{subst, arith, Block, zeros, Moved, Spots, finds, sound, after}
+use Rattle.word_flow.proofs.Common.{Bool, true, List, refl, Loop, Last, Turn, Done, Spot, Fine, ◌+◌}
+use Rattle.word_flow.proofs.Common.{◌<◌, ◌≤◌, ◌∷◌, map, sym, run, End, Put, Do, If, wp, ℕ}
 use Rattle.loop_ir.specs.FlowTests.{is_event_safe, is_safe, widths}
-use Rattle.loop_ir.specs.Loops.{RoundOf, rounds_in, flow_rounds}
-use Rattle.loop_ir.specs.Spots.{Spot, Spots, after_round, after_rounds}
-use Rattle.loop_ir.specs.Chains.{finds, left_by, chained}
-use Rattle.loop_ir.specs.Limits.{IsRound}
-use Rattle.loop_laws.proofs.FlowRounds.{event_map, run_map}
-use Rattle.loop_laws.proofs.FlowLogic.{wp, after, AllFine, sound}
-use Rattle.loop_laws.proofs.FlowFine.{Fine, safe_is}
 
 module _ (A S : Type 0) (block : A → Block) (n : ℕ) (may_have : Spot → Type 0)
     (InRange : A → List ℕ → S → Type 0) (does : A → List ℕ → S → S) (Like : S → Spots → Type 0)

@@ -1,3 +1,4 @@
+pub mod Common
 pub mod Counts
 pub mod Products
 pub mod Quotients
@@ -5,6 +6,8 @@ pub mod Reductions
 pub mod Absolutes
 pub mod FlowBodies
 pub mod FlowOps
+pub mod Loops
+pub mod Slices
 pub mod Counting
 pub mod Totals
 pub mod Multiplying
@@ -15,15 +18,9 @@ pub mod Placing
 pub mod Computing
 pub mod FlowLowered
 pub mod Numbers
-pub mod FlowWeights
-pub mod FlowAps
-pub mod ApsDiv
-pub mod ApsAbs
-pub mod ApsNone
 pub mod Halving
 pub mod Parities
 pub mod Pairing
-pub mod ApsXor
 pub mod Rectified
 pub mod Rectifying
 pub mod Shifting

@@ -1,11 +1,6 @@
 -- Lists in which something may be wanting.
-use Rattle.std.proofs.Common.{◌≡◌, ℕ, zero, suc, ◌<◌, ◌≤◌, List, [], ◌∷◌}
-use Rattle.std.proofs.Common.{length}
-use Rattle.std.proofs.Common.{slice_index_or, refl, arith}
-use Rattle.op_text.specs.declared.tree.Kind.TheVariants.{Bit}
-use Rattle.loop_ir.specs.declared.ir.Space.TheVariants.{Source}
-use Rattle.loop_ir.specs.declared.names.Slot.{Slot}
-use Rattle.word_flow.specs.Bodies.{slot_at}
+use Rattle.word_flow.proofs.Common.{◌≡◌, ℕ, zero, suc, ◌<◌, ◌≤◌, List, [], ◌∷◌, length}
+use Rattle.word_flow.proofs.Common.{slice_index_or, refl, arith, Bit, Source, Slot, slot_at}
 
 -- the slot of a number, and where there is none
 pub slot_is : (ss : List Slot) (k : ℕ) (d : Slot) → k < length ss

@@ -1,27 +1,21 @@
 -- The flow of mul does a statement of it.
-use Rattle.std.proofs.Common.{◌≡◌, ℕ, zero, suc, ◌+◌, ◌-◌, ◌*◌, ◌^◌, ◌<◌, ◌≤◌, Bool, true, false, cond}
-use Rattle.std.proofs.Common.{List, [], ◌∷◌, Option, Some, None, refl, sym, ap, ◌∙◌, arith}
-use Rattle.std.specs.Prelude.{◌==◌, ◌/◌, ◌%◌}
-use Rattle.mig_graph.specs.Graph.{values_from}
-use Rattle.row_alloc.specs.Symbolic.{sense_three, first_node}
-use Rattle.op_text.specs.declared.tree.Kind.TheVariants.{Word}
-use Rattle.op_text.specs.declared.word_ops.WordOp.TheVariants as op
-use Rattle.loop_ir.specs.declared.ir.Space.{Space}
-use Rattle.loop_laws.specs.Rooms.{Room, Extent, Full, One, Owner, InRoom, InCells}
-use Rattle.word_lower.specs.Places.{room_of, scratch_bit}
-use Rattle.word_lower.proofs.Pieces.{slot}
-use Rattle.word_lower.proofs.Statements.{name_at}
-use Rattle.word_flow.specs.Programs.{flow_total, flow_aps}
-use Rattle.word_flow.proofs.Checks.{Weights, aps_in, body_holds}
+use Rattle.word_flow.proofs.Common.{◌≡◌, ℕ, zero, suc, ◌+◌, ◌-◌, ◌*◌, ◌<◌, ◌≤◌, Bool, true, false}
+use Rattle.word_flow.proofs.Common.{cond, List, [], ◌∷◌, Option, Some, None, refl, sym, ap, ◌∙◌}
+use Rattle.word_flow.proofs.Common.{arith, ◌==◌, ◌/◌, ◌%◌, Word, Space, Room, Extent, Full, One}
+use Rattle.word_flow.proofs.Common.{Owner, InRoom, InCells, room_of, scratch_bit, slot, name_at}
+use Rattle.word_flow.proofs.Common.{flow_total, flow_aps, values_from, sense_three, first_node}
+use Rattle.word_flow.proofs.Targets.{answers_of, Weights, aps_in, body_holds, Operation, Value}
+use Rattle.word_flow.proofs.Targets.{OneDone, of_words, one_target, word_value, two_values, View}
+use Rattle.word_flow.proofs.Targets.{Step, stepped}
 use Rattle.word_flow.proofs.Computing.{stands_target, stands_arg, target_fresh}
-use Rattle.word_flow.proofs.Multiplying.{State, InRange, does, pair_left, carry_left, mul_does}
-use Rattle.word_flow.proofs.Numbers.{product_low, square}
+use Rattle.word_flow.proofs.Multiplying.{State, InRange, does, pair_left, carry_left, Over}
+use Rattle.word_flow.proofs.Multiplying.{mul_does}
+use Rattle.word_flow.proofs.Loops.{◌▹◌}
+use Rattle.word_flow.proofs.Numbers.{product_low, half_below, square}
 use Rattle.word_flow.proofs.Placing.{Name, BitAt}
 use Rattle.word_flow.proofs.Products.{Part, Joined, JoinedToo, Turned, First, Added, code, mul}
 use Rattle.word_flow.proofs.Counting.{number}
-use Rattle.word_flow.proofs.Targets.{Operation, Value, OneDone, of_words, one_target, word_value}
-use Rattle.word_flow.proofs.Targets.{two_values}
-use Rattle.word_flow.proofs.Views.{View, Step, stepped}
+use Rattle.op_text.specs.declared.word_ops.WordOp.TheVariants as op
 
 abbrev known : List Owner
 known = InRoom 0 ∷ InRoom 1 ∷ InRoom 2 ∷ InRoom 3 ∷ InCells 0 ∷ InCells 3 ∷ InCells 4 ∷ []
@@ -30,7 +24,7 @@ abbrev es : List Extent
 es = Full ∷ Full ∷ Full ∷ One ∷ []
 
 abbrev w : Weights
-w = record { plain = 2; less = 25; cost = 7; more = 0 }
+w = record { plain = 2; less = 25; cost = 7; more = 0; aps = 1 }
 
 abbrev same_row : Part → Option ℕ
 same_row Joined = None
@@ -77,9 +71,9 @@ module _ (n : ℕ) (x z : ℕ → Bool) where
       (does x z b g s).aps s.alive (does x z b g s).alive aps_in
   unfolding values_from
   step Joined g s r = stepped (r.0, (r.1, tt)) (r.0, (omega arith, (omega arith, tt))) s.alive refl
-      refl refl (λ d. refl) refl (omega arith)
+      refl refl (λ d. refl) refl refl
   step JoinedToo g s r = stepped (r.0, (omega arith, (omega arith, tt))) (r.0, tt) pair_left r.1 refl
-      refl (λ d. refl) refl (omega arith)
+      refl (λ d. refl) refl refl
   step Turned g s r = stepped (r, tt) (omega arith, tt) s.alive refl refl refl (λ d. refl) refl
       (omega arith)
   step First g s r = stepped (r.0, (omega arith, (r.1, tt))) (r.1, (omega arith, tt)) s.alive refl
@@ -111,16 +105,6 @@ total_is (suc k) c some e =
     let g : suc k * (suc k - 1) ≡ suc k * k = ap (λ x. suc k * x) one in
     omega (arith, e, h, g)
 
--- the AP in closed form
-half_of : (n c : ℕ) → 2 * c ≡ (n - 1) * (n - 1) + (n - 1) → c ≡ (n - 1) * n / 2
-half_of zero c e = omega (arith, e)
-half_of (suc k) c e =
-    let one : suc k - 1 ≡ k = omega arith in
-    let g : (suc k - 1) * suc k ≡ k * suc k = ap (λ x. x * suc k) one in
-    let h : (suc k - 1) * (suc k - 1) ≡ k * k = ap (λ x. x * x) one in
-    let d : (suc k - 1) * suc k ≡ 2 * c = omega (arith, e, g, h, one) in
-    sym (ap (λ x. x / 2) d ∙ omega arith)
-
 -- where no body has its sequence, 19 a position of a row but the first
 few_plain : (n c : ℕ) → 0 < n → 2 * c + 25 * ((n - 1) * n / 2) ≤ 7 * flow_total op.Mul n
     → c ≤ 11 * (n * n) + 15 * n
@@ -131,34 +115,19 @@ few_plain (suc k) c some h =
     let g : (suc k - 1) * suc k ≡ k * suc k = ap (λ x. x * suc k) e in
     omega (arith, f, g, h)
 
-operation : Operation op.Mul Part code mul es known aps_in (flow_aps op.Mul) w (Value op.Mul Word 0 (1 ∷ 2 ∷ []))
+operation : Operation op.Mul Part code mul es known aps_in (flow_aps op.Mul) w
+    (Value op.Mul Word 0 (1 ∷ 2 ∷ []))
 operation = record {
-  answers = λ n some small c. (let x = c (InRoom 1) in let z = c (InRoom 2) in record {
-    S = State;
-    InRange = InRange n;
-    does = does x z;
-    view = view x z;
-    cost = λ (s : State). s.cost;
-    more = λ (s : State). s.aps;
-    alive = λ (s : State). s.alive;
-    step = step n x z;
-    start = start c;
-    begins = refl;
-    fresh = refl;
-    free = refl;
-    light = refl;
-    Q = λ g s. ((over : ℕ) × (number s.y n + over * 2 ^ n ≡ number x n * number z n))
-        × (2 * s.cost + 4 ≡ 9 * (n * n) + n + 2 * (n % 2))
-        × (2 * s.aps ≡ (n - 1) * (n - 1) + (n - 1));
-    whole = mul_does n some small x z 0 0 0 0 0 0 0 0 (start c) refl refl;
-    gives = λ g s q. (
-      product_low s.y n q.0.0 (number x n * number z n) q.0.1,
-      total_is n s.cost some q.1,
-      half_of n s.aps q.2,
-    );
-  });
-  aps = λ n some rooms e. e;
-  plain = λ n some y h. (let f = few_plain n y some (omega (arith, h)) in let s = square n in omega (arith, f, s));
+  answers = λ n some small c. (let x = c (InRoom 1) in let z = c (InRoom 2) in
+      answers_of State (InRange n) (does x z) (view x z) (λ s. s.cost) (λ s. s.aps) (λ s. s.alive)
+      (step n x z) (start c) refl refl refl refl (Over n some small x z)
+      (mul_does n some small x z (start c) refl refl) (λ g s q. (
+        product_low s.y n q.0.0 (number x n * number z n) q.0.1,
+        total_is n s.cost some q.1,
+        half_below n s.aps q.2,
+      )));
+  aps = λ n. omega arith;
+  plain = λ n some y h. (let f = few_plain n y some (omega (arith, h)) in omega (arith, f, square n));
   ceilings = λ n. refl;
 }
 
@@ -171,12 +140,11 @@ mul_done = of_words op.Mul refl (λ slots fb fw target args meets placed s0 w0 s
     in
     let arg = stands_arg slots fb fw target None op.Mul args meets placed t found (a ∷ b ∷ []) at in
     one_target slots fb fw target op.Mul args meets placed t found (a ∷ b ∷ []) at
-    (Name true target t ∷ Name false (name_at args 0) a ∷ Name false (name_at args 1) b ∷ BitAt fb ∷ []) (
-      stands_target slots fb fw target None op.Mul args meets placed t found (a ∷ b ∷ []) at,
-      (arg 0 (omega arith), (arg 1 (omega arith), ((0, omega arith, omega arith), tt))),
-    ) (
-      (λ e. fresh 0 (omega arith), (λ e. fresh 1 (omega arith), (λ e. tt, tt))),
-      ((λ e. absurd (cc), (λ e. tt, tt)), ((λ e. tt, tt), (tt, tt))),
-    ) Part code mul es refl known aps_in (flow_aps op.Mul) w same_row (holds s0 w0 s1 w1 s2 w2 fb) refl 0 (1 ∷ 2 ∷ []) operation
+    (Name true target t ∷ Name false (name_at args 0) a ∷ Name false (name_at args 1) b ∷ BitAt fb ∷ [])
+    (stands_target slots fb fw target None op.Mul args meets placed t found (a ∷ b ∷ []) at
+    ▹ arg 0 (omega arith) ▹ arg 1 (omega arith) ▹ (0, omega arith, omega arith) ▹ tt)
+    ((λ e. fresh 0 (omega arith), (λ e. fresh 1 (omega arith), (λ e. tt, tt)))
+    ▹ (λ e. absurd (cc), (λ e. tt, tt)) ▹ (λ e. tt, tt) ▹ tt ▹ tt) Part code mul es refl known aps_in
+    (flow_aps op.Mul) w same_row (holds s0 w0 s1 w1 s2 w2 fb) refl 0 (1 ∷ 2 ∷ []) operation
     (omega arith) refl (λ n v. refl) (λ n. refl) (λ n. refl)
     (λ n bits. two_values _ _ _ _ (word_value n s1 w1 bits) (word_value n s2 w2 bits))))

@@ -1,22 +1,15 @@
 -- The numbers of the flows' proofs are those of the statements.
-use Rattle.std.proofs.Common.{◌≡◌, ◌⊎◌, inl, inr, ℕ, zero, suc, ◌+◌, ◌-◌, ◌*◌, ◌^◌, ◌<◌, Bool}
-use Rattle.std.proofs.Common.{true, false, refl, sym, ap, ◌∙◌, cond, arith}
-use Rattle.std.specs.Prelude.{◌==◌, ◌/◌, ◌%◌, nat_lt}
-use Rattle.std.proofs.lemmas.Bool.{cases_eq, eq-eqb, ne_eqb, lt-ltb}
-use Rattle.std.proofs.lemmas.Nat.{mod-mul-add, div-mul-add}
-use Rattle.std.proofs.Math.Nat.{pow-suc, pow-zero}
-use Rattle.bit_rows.specs.Bits.{majority}
-use Rattle.op_text.specs.Values.{ones_of}
-use Rattle.word_lower.proofs.Setting as set
-use Rattle.word_lower.proofs.Lists.{ones_of_none, ones_of_more}
-use Rattle.word_lower.proofs.Sums.{value_below, last_sum}
+use Rattle.word_flow.proofs.Common.{◌≡◌, ◌⊎◌, inl, inr, ℕ, zero, suc, ◌+◌, ◌-◌, ◌*◌, ◌^◌, ◌<◌, ◌≤◌}
+use Rattle.word_flow.proofs.Common.{Bool, true, false, sym, ap, ◌∙◌, cond, arith, ◌==◌, ◌/◌, ◌%◌}
+use Rattle.word_flow.proofs.Common.{nat_lt, cases_eq, eq-eqb, ne_eqb, lt-ltb, mod-mul-add}
+use Rattle.word_flow.proofs.Common.{div-mul-add, pow-suc, pow-zero, ones_of, ones_of_none}
+use Rattle.word_flow.proofs.Common.{ones_of_more, value_below, last_sum, majority}
 use Rattle.word_flow.proofs.Counting.{bit, number, tally}
-use Rattle.word_flow.proofs.Dividing.{val}
+use Rattle.word_lower.proofs.Setting as set
 
 -- one bit spells itself
 pub one_bit : (b : Bool) → set.number (λ v. b) 1 ≡ set.bit b
-one_bit true = refl
-one_bit false = refl
+one_bit b = grind arith
 
 -- the number of ones is that of the number that the bits spell
 pub tally_ones : (f : ℕ → Bool) (n : ℕ) → tally f 0 n ≡ ones_of n (number f n)
@@ -25,15 +18,6 @@ tally_ones f zero = sym (ones_of_none f)
 tally_ones f (suc n) = let e : 0 + n ≡ n = omega arith in
     ap (λ x. x + bit (f (0 + n))) (tally_ones f n) ∙ ap (λ x. ones_of n (number f n) + bit (f x)) e
     ∙ sym (ones_of_more f n)
-
-pub agree_val : (f : ℕ → Bool) (n : ℕ) → set.number f n ≡ val f 0 n
-unfolding val
-agree_val f zero = refl
-agree_val f (suc n) =
-    let e : 0 + n ≡ n = omega arith in
-    let h = agree_val f n in
-    let c = ap (λ x. 2 ^ n * bit (f x)) e in
-    omega (arith, h, c)
 
 -- what is left below 2 ^ n of a product
 pub product_low : (f : ℕ → Bool) (n over x : ℕ) → number f n + over * 2 ^ n ≡ x
@@ -92,6 +76,18 @@ all_gives a e (suc n) start h =
           ∙ sym (ne_eqb (v + 1 * p) (2 * p - 1) (λ z. ne (omega (arith, z, lt))))
     ]
     by false v p lt = sym (ne_eqb (v + 0 * p) (2 * p - 1) (λ z. absurd (omega (arith, z, lt))))
+
+pub twice_below : (n : ℕ) → 2 * n ≤ n * n + 1
+twice_below zero = omega arith
+twice_below (suc n) = grind arith
+
+pub half_below : (n c : ℕ) → 2 * c + n ≡ n * n → c ≡ (n - 1) * n / 2
+half_below zero c e = omega (arith, e)
+half_below (suc k) c e =
+    let one : suc k - 1 ≡ k = omega arith in
+    let g = ap (λ x. x * suc k) one in
+    let d : (suc k - 1) * suc k ≡ 2 * c = omega (arith, e, g) in
+    sym (ap (λ x. x / 2) d ∙ omega arith)
 
 -- a square, as the ceilings have it
 pub square : (n : ℕ) → n ^ 2 ≡ n * n

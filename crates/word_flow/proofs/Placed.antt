@@ -1,14 +1,7 @@
 -- The flow of a table's lines at the slots of an operation's owners is its flow in its rooms.
-use Rattle.std.proofs.Common.{◌≡◌, refl}
-use Rattle.op_text.specs.declared.word_ops.WordOp.{WordOp}
+use Rattle.word_flow.proofs.Common.{◌≡◌, refl, WordOp, flow_map, Rows, coded_body, first_of}
+use Rattle.word_flow.proofs.Common.{flows_on, lines_for, flow_for, rooms_for, slots_for, coded_on}
 use Rattle.op_text.specs.declared.word_ops.WordOp.TheVariants as op
-use Rattle.loop_ir.specs.Flows.{flow_map}
-use Rattle.word_flow.specs.declared.rows.Rows.{Rows}
-use Rattle.word_flow.specs.Coded.{coded_body}
-use Rattle.word_flow.specs.Plans.{first_of, flows_on}
-use Rattle.word_flow.specs.Programs.{lines_for, flow_for}
-use Rattle.word_flow.specs.Places.{rooms_for}
-use Rattle.word_flow.specs.Bodies.{slots_for, coded_on}
 
 pub placed : (p : WordOp) (m : Rows) → first_of (flows_on (coded_on (slots_for p m)) (lines_for p))
     ≡ flow_map (coded_body (rooms_for p m)) (flow_for p)

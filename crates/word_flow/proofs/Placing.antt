@@ -1,24 +1,14 @@
 -- Rooms that are the places of a statement's names and of its internal scratch: they lie apart, and
 -- their rows are the statement's.
-use Rattle.std.proofs.Common.{◌≡◌, inl, inr, ℕ, zero, suc, ◌+◌, ◌*◌, ◌<◌, ◌≤◌, Bool, true}
-use Rattle.std.proofs.Common.{false, List, [], ◌∷◌, map, length, Some, refl, sym, ap}
-use Rattle.std.proofs.Common.{◌∙◌, subst, ⊎_elim, arith}
-use Rattle.std.specs.Prelude.{◌||◌, bytes_eq}
-use Rattle.std.proofs.lemmas.List.{length-map}
-use Rattle.std.proofs.lemmas.Slice.Eq.{bytes_eq-Decides}
-use Rattle.op_text.specs.declared.tree.Kind.TheVariants.{Word}
-use Rattle.op_text.specs.Language.{Statement}
-use Rattle.op_text.specs.Rules.{is_among}
-use Rattle.op_text.specs.Scratch.{bits_inside, words_inside, need_inside}
-use Rattle.loop_ir.specs.declared.ir.Space.TheVariants.{ScratchBit, ScratchWord}
-use Rattle.loop_ir.specs.declared.names.Slot.{Slot}
-use Rattle.loop_ir.specs.Spots.{Spot, spot_in, IsOwn}
-use Rattle.loop_ir.specs.Statements.{Slots, holds_kind, statement_names, written_names, IsPlaced}
-use Rattle.loop_ir.specs.Lowered.{IsStatementRow, IsChanged}
-use Rattle.loop_laws.specs.Rooms.{Room, room_at, row_in, extent, RoomsApart, IsOwned}
-use Rattle.word_lower.specs.Places.{room_of, scratch_bit}
-use Rattle.word_lower.proofs.Pieces.{slot, AreApart, extent_is, moves_in}
-use Rattle.word_lower.proofs.Statements.{one_place, same_name, same_slot}
+use Rattle.word_flow.proofs.Common.{bytes_eq-Decides, statement_names, IsStatementRow, words_inside}
+use Rattle.word_flow.proofs.Common.{written_names, ScratchWord, scratch_bit, bits_inside, Statement}
+use Rattle.word_flow.proofs.Common.{need_inside, length-map, ScratchBit, holds_kind, RoomsApart, []}
+use Rattle.word_flow.proofs.Common.{IsChanged, extent_is, one_place, same_name, same_slot, bytes_eq}
+use Rattle.word_flow.proofs.Common.{is_among, IsPlaced, AreApart, moves_in, spot_in, room_at, false}
+use Rattle.word_flow.proofs.Common.{IsOwned, room_of, length, ⊎_elim, row_in, extent, subst, arith}
+use Rattle.word_flow.proofs.Common.{IsOwn, Slots, zero, Bool, true, List, Some, refl, ◌||◌, Word, ℕ}
+use Rattle.word_flow.proofs.Common.{Slot, Spot, Room, slot, ◌≡◌, inl, inr, suc, ◌+◌, ◌*◌, ◌<◌, ◌≤◌}
+use Rattle.word_flow.proofs.Common.{◌∷◌, map, sym, ◌∙◌, ap}
 
 -- whose a room is: a name's, which has this place and may be written or not, a bit's of scratch, or
 -- a word's of scratch

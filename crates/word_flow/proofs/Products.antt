@@ -1,16 +1,7 @@
 -- `mul` as a flow: its bodies, and how they follow one another.
-use Rattle.std.specs.Prelude.{List, [], ◌∷◌}
-use Rattle.mig_graph.specs.declared.Node.{Node}
-use Rattle.mig_graph.specs.Literals.{node_of}
-use Rattle.row_alloc.specs.declared.body.BodyCmd.TheVariants.{Aap, Ap}
-use Rattle.row_alloc.specs.declared.body.BodyRef.TheVariants.{B, C, In, Out}
-use Rattle.loop_ir.specs.declared.ir.Move.TheVariants.{SetI, SetN, SetT, Mov, AddI}
-use Rattle.loop_ir.specs.declared.ir.Sub.TheVariants.{Zero, Register}
-use Rattle.loop_ir.specs.Flows.{FlowOf}
-use Rattle.loop_ir.specs.Flows.FlowOf.{End, Do, Put, Loop}
-use Rattle.loop_ir.specs.Flows.TurnsOf.{Last, Turn}
-use Rattle.word_flow.specs.Coded.{Coded}
-use Rattle.word_flow.proofs.Counts.{plain, complemented, on, state, coded}
+use Rattle.word_flow.proofs.Common.{SetI, SetN, SetT, Mov, AddI, FlowOf, End, Do, Put, Loop, Last}
+use Rattle.word_flow.proofs.Common.{Turn, Coded, coded_of}
+use Rattle.word_flow.specs.declared.mul.TheConstants.{JOINS, JOINS_TOO, TURNS, ADDS_FIRST, ADDS}
 
 -- The bodies: two positions of the first row, where the second has the constant and the bit in
 -- cells; the complement of a bit comes into the scratch; the first position of a row, and each other
@@ -21,37 +12,13 @@ pub data Part : Type 0 where
   First : Part
   Added : Part
 
--- the complement of what is added of the first argument, then a carry and the sum
-abbrev pub first_nodes : List Node
-first_nodes = node_of (complemented 0) (complemented 1) (plain 2)
-    ∷ node_of (plain 0) (plain 3) (plain 4) ∷ node_of (complemented 0) (complemented 3) (plain 5)
-    ∷ node_of (complemented 4) (plain 5) (plain 6) ∷ []
-
-abbrev pub added_nodes : List Node
-added_nodes = node_of (complemented 0) (complemented 1) (plain 2)
-    ∷ node_of (plain 3) (complemented 4) (plain 5) ∷ node_of (complemented 3) (plain 4) (plain 6)
-    ∷ node_of (complemented 5) (plain 6) (plain 7) ∷ []
-
--- what each body reads, computes and writes, and its commands: owner 0 is the target, 1 and 2 are
--- the arguments, and 3 is a bit of scratch
+-- what each reads, computes and writes, and its commands, as the table has them
 abbrev pub code : Part → Coded
-code Joined = coded (on 1 (Register 1) ∷ on 2 Zero ∷ [])
-    (node_of (plain 0) (plain 1) (plain 2) ∷ []) (plain 3 ∷ plain 0 ∷ plain 2 ∷ [])
-    (on 0 (Register 1) ∷ state 0 ∷ state 3 ∷ [])
-    (Aap (C 0) (B 12) ∷ Aap (In 1) (B 10) ∷ Aap (In 0) (B 4) ∷ Aap (B 14) (Out 0) ∷ [])
-code JoinedToo = coded (on 1 (Register 1) ∷ state 0 ∷ state 3 ∷ [])
-    (node_of (plain 1) (plain 2) (plain 3) ∷ []) (plain 4 ∷ []) (on 0 (Register 1) ∷ [])
-    (Aap (In 0) (B 6) ∷ Aap (B 15) (Out 0) ∷ [])
-code Turned = coded (on 2 (Register 1) ∷ []) [] (complemented 1 ∷ []) (on 3 Zero ∷ [])
-    (Aap (In 0) (B 5) ∷ Aap (B 4) (Out 0) ∷ [])
-code First = coded (on 1 Zero ∷ on 3 Zero ∷ on 0 (Register 1) ∷ []) first_nodes
-    (plain 7 ∷ plain 6 ∷ []) (on 0 (Register 1) ∷ state 4 ∷ [])
-    (Aap (C 1) (B 13) ∷ Aap (In 0) (B 5) ∷ Aap (In 1) (B 2) ∷ Aap (B 14) (B 8) ∷ Aap (C 0) (B 2)
-    ∷ Aap (In 2) (B 9) ∷ Ap (B 12) ∷ Aap (B 15) (B 1) ∷ Aap (B 14) (Out 0) ∷ [])
-code Added = coded (on 1 (Register 3) ∷ on 3 Zero ∷ on 0 (Register 4) ∷ state 4 ∷ []) added_nodes
-    (plain 8 ∷ plain 7 ∷ []) (on 0 (Register 4) ∷ state 4 ∷ [])
-    (Aap (C 1) (B 1) ∷ Aap (In 0) (B 5) ∷ Aap (In 1) (B 2) ∷ Aap (B 14) (B 8) ∷ Aap (B 7) (B 2)
-    ∷ Aap (In 2) (B 9) ∷ Ap (B 12) ∷ Aap (B 15) (B 1) ∷ Aap (B 14) (Out 0) ∷ [])
+code Joined = coded_of JOINS
+code JoinedToo = coded_of JOINS_TOO
+code Turned = coded_of TURNS
+code First = coded_of ADDS_FIRST
+code Added = coded_of ADDS
 
 -- the first row, in which register 1 is the position
 abbrev pub row_one : FlowOf Part → FlowOf Part

@@ -1,16 +1,11 @@
 -- `div`, `rem` and `divmod` as flows: their bodies, and how they follow one another.
-use Rattle.std.specs.Prelude.{[], ◌∷◌}
-use Rattle.mig_graph.specs.Literals.{node_of}
-use Rattle.row_alloc.specs.declared.body.BodyCmd.TheVariants.{Aap, Ap}
-use Rattle.row_alloc.specs.declared.body.BodyRef.TheVariants.{B, C, In, Out}
-use Rattle.loop_ir.specs.declared.ir.Move.TheVariants.{SetI, SetN, SetT, Mov, AddI, SubI}
-use Rattle.loop_ir.specs.declared.ir.Sub.TheVariants.{Zero, Register}
-use Rattle.loop_ir.specs.Flows.{FlowOf}
-use Rattle.loop_ir.specs.Flows.FlowOf.{End, Do, Put, If, Loop}
-use Rattle.loop_ir.specs.Flows.TurnsOf.{Last}
-use Rattle.loop_laws.specs.Rooms.{Mark}
-use Rattle.word_flow.specs.Coded.{Coded}
-use Rattle.word_flow.proofs.Counts.{plain, complemented, on, state, coded}
+use Rattle.word_flow.proofs.Common.{SetI, SetN, SetT, Mov, AddI, SubI, FlowOf, End, Do, Put, If}
+use Rattle.word_flow.proofs.Common.{Loop, Last, Coded, coded_of}
+use Rattle.std.specs.Prelude.{Bool, true, false}
+use Rattle.word_flow.specs.declared.division.TheConstants.{COMPARES_FIRST_ALONE, LOOKS_ABOVE_ALONE}
+use Rattle.word_flow.specs.declared.division.TheConstants.{COMPARES_FIRST, COMPARES_ALONE, COMPARES}
+use Rattle.word_flow.specs.declared.division.TheConstants.{GATHERS_TOP, LOOKS_ABOVE, TAKES_FIRST}
+use Rattle.word_flow.specs.declared.division.TheConstants.{TAKES_ALONE, GATHERS, KEEPS, TAKES}
 
 -- The bodies. From the top position down: whether a bit of the divisor from the position on is
 -- set. Of a step: the first position of a comparison, and each other; whether a higher bit is set,
@@ -25,40 +20,21 @@ pub data Part : Type 0 where
   TakeFirst : Part
   Take : Part
 
--- What each reads, computes and writes, and its commands. Owner 1 is the dividend, 2 the divisor, 3
--- the word of the higher bits, 4 the window, and q the row of the quotient's bit
-abbrev pub code : Mark → Part → Coded
-code q GatherTop = coded (on 2 (Register 3) ∷ []) [] (plain 1 ∷ plain 1 ∷ [])
-    (on 3 (Register 3) ∷ state 0 ∷ []) (Aap (In 0) (Out 0) ∷ Aap (In 0) (B 0) ∷ [])
-code q Gather = coded (on 2 (Register 3) ∷ state 0 ∷ [])
-    (node_of (complemented 0) (plain 1) (plain 2) ∷ []) (plain 3 ∷ plain 3 ∷ [])
-    (on 3 (Register 3) ∷ state 0 ∷ [])
-    (Aap (C 1) (B 6) ∷ Aap (In 0) (B 3) ∷ Aap (B 15) (Out 0) ∷ [])
-code q First = coded (on 1 (Register 0) ∷ on 2 Zero ∷ [])
-    (node_of (complemented 0) (plain 1) (complemented 2) ∷ []) (plain 3 ∷ plain 3 ∷ [])
-    (q ∷ state 0 ∷ [])
-    (Aap (C 1) (B 0) ∷ Aap (In 0) (B 3) ∷ Aap (In 1) (B 7) ∷ Aap (B 15) (Out 0) ∷ [])
-code q Over = coded (on 4 (Register 4) ∷ on 2 (Register 3) ∷ state 0 ∷ [])
-    (node_of (plain 1) (complemented 2) (plain 3) ∷ []) (plain 4 ∷ plain 4 ∷ []) (q ∷ state 0 ∷ [])
-    (Aap (In 0) (B 3) ∷ Aap (In 1) (B 7) ∷ Aap (B 15) (Out 0) ∷ [])
-code q Above = coded (on 3 (Register 1) ∷ state 0 ∷ [])
-    (node_of (plain 0) (complemented 1) (plain 2) ∷ []) (plain 3 ∷ plain 3 ∷ plain 0 ∷ [])
-    (q ∷ state 0 ∷ state 2 ∷ [])
-    (Aap (C 0) (B 10) ∷ Aap (In 0) (B 7) ∷ Aap (B 15) (Out 0) ∷ [])
-code q Kept = coded (state 0 ∷ []) [] (plain 1 ∷ plain 0 ∷ []) (state 0 ∷ state 2 ∷ [])
-    (Aap (C 0) (B 2) ∷ [])
-code q TakeFirst = coded (state 0 ∷ state 2 ∷ on 2 Zero ∷ on 1 (Register 0) ∷ [])
-    (node_of (plain 1) (plain 2) (plain 3) ∷ node_of (complemented 0) (plain 4) (plain 5)
-    ∷ node_of (plain 0) (complemented 4) (plain 6) ∷ node_of (complemented 5) (plain 6) (plain 7)
-    ∷ []) (plain 8 ∷ plain 7 ∷ []) (on 4 (Register 0) ∷ state 4 ∷ [])
-    (Aap (In 2) (B 1) ∷ Aap (B 12) (B 8) ∷ Aap (C 0) (B 3) ∷ Aap (C 1) (B 2) ∷ Aap (In 3) (B 9)
-    ∷ Ap (B 12) ∷ Aap (B 15) (B 1) ∷ Aap (B 14) (Out 0) ∷ [])
-code q Take = coded (on 2 (Register 3) ∷ q ∷ on 4 (Register 4) ∷ state 4 ∷ [])
-    (node_of (plain 0) (plain 1) (plain 2) ∷ node_of (plain 3) (complemented 4) (plain 5)
-    ∷ node_of (complemented 3) (plain 4) (plain 6) ∷ node_of (complemented 5) (plain 6) (plain 7)
-    ∷ []) (plain 8 ∷ plain 7 ∷ []) (on 4 (Register 4) ∷ state 4 ∷ [])
-    (Aap (C 0) (B 4) ∷ Aap (In 0) (B 1) ∷ Aap (In 1) (B 2) ∷ Aap (B 14) (B 8) ∷ Aap (B 7) (B 2)
-    ∷ Aap (In 2) (B 9) ∷ Ap (B 12) ∷ Aap (B 15) (B 1) ∷ Aap (B 14) (Out 0) ∷ [])
+-- what each reads, computes and writes, and its commands, as the tables have them: the bits of the
+-- quotient have a row each, or one in turn
+abbrev pub code : Bool → Part → Coded
+code row GatherTop = coded_of GATHERS_TOP
+code row Gather = coded_of GATHERS
+code true First = coded_of COMPARES_FIRST
+code false First = coded_of COMPARES_FIRST_ALONE
+code true Over = coded_of COMPARES
+code false Over = coded_of COMPARES_ALONE
+code true Above = coded_of LOOKS_ABOVE
+code false Above = coded_of LOOKS_ABOVE_ALONE
+code row Kept = coded_of KEEPS
+code row TakeFirst = coded_of TAKES_FIRST
+code true Take = coded_of TAKES
+code false Take = coded_of TAKES_ALONE
 
 -- from the top position down to 1, in register 3
 abbrev pub gather_next : FlowOf Part
@@ -85,20 +61,12 @@ takes k = Do TakeFirst (setup (Loop 2 (Last take) k))
 abbrev pub compares : FlowOf Part → FlowOf Part
 compares k = Do First (setup (Loop 2 (Last over) k))
 
--- a step of a division whose remainder is wanted, and of one whose quotient alone is: its last step
--- takes nothing away
-abbrev pub step_left : FlowOf Part
-step_left = compares (If 0 (Do Above End) (Do Kept End) (takes (Put (AddI 1 1) End)))
-
-abbrev pub step_lone : FlowOf Part
-step_lone = compares (If 0 (Do Above (takes End)) End (Put (AddI 1 1) End))
+-- a step of a division whose quotient alone is wanted, whose last step takes nothing away, and of one
+-- whose remainder is wanted
+abbrev pub step_of : Bool → FlowOf Part
+step_of true = compares (If 0 (Do Above (takes End)) End (Put (AddI 1 1) End))
+step_of false = compares (If 0 (Do Above End) (Do Kept End) (takes (Put (AddI 1 1) End)))
 
 -- Register 0 is the position of a step's window and counts the steps left, and 1 its length
-abbrev pub division : FlowOf Part → FlowOf Part
-division step = gathers (Put (SetN 0) (Put (SetI 1 1) (Loop 0 (Last step) End)))
-
-abbrev pub div : FlowOf Part
-div = division step_lone
-
-abbrev pub divmod : FlowOf Part
-divmod = division step_left
+abbrev pub division : Bool → FlowOf Part
+division lone = gathers (Put (SetN 0) (Put (SetI 1 1) (Loop 0 (Last (step_of lone)) End)))

@@ -1,30 +1,19 @@
 -- The flows of and_red and or_red do statements of them.
-use Rattle.std.proofs.Common.{◌≡◌, ℕ, zero, suc, ◌+◌, ◌*◌, Bool, true, false, cond, List, []}
-use Rattle.std.proofs.Common.{◌∷◌, not, None, refl, sym, ap, ◌∙◌, arith}
-use Rattle.std.specs.Prelude.{◌==◌}
-use Rattle.bit_rows.specs.Bits.{majority}
-use Rattle.mig_graph.specs.Graph.{values_from}
-use Rattle.row_alloc.specs.Symbolic.{sense_three, first_node}
-use Rattle.row_alloc.specs.declared.body.BodyCmd.{BodyCmd}
-use Rattle.op_text.specs.declared.tree.Kind.TheVariants.{Bit}
-use Rattle.op_text.specs.declared.word_ops.WordOp.{WordOp}
-use Rattle.op_text.specs.declared.word_ops.WordOp.TheVariants as op
-use Rattle.op_text.specs.Costs.{op_ceiling}
-use Rattle.op_text.specs.Values.{op_value}
-use Rattle.loop_ir.specs.declared.ir.Space.{Space}
-use Rattle.loop_ir.specs.Lowered.{op_plain_ceiling}
-use Rattle.loop_laws.specs.Rooms.{Extent, Full, One as OneRow, Owner, InRoom, InCells}
-use Rattle.word_lower.proofs.Setting as set
-use Rattle.word_flow.specs.Programs.{flow_total, flow_aps}
-use Rattle.word_flow.proofs.ApsNone.{reduction_aps}
-use Rattle.word_flow.proofs.Checks.{Weights, body_holds}
+use Rattle.word_flow.proofs.Common.{◌≡◌, ℕ, zero, suc, ◌+◌, ◌*◌, Bool, true, false, cond, List, []}
+use Rattle.word_flow.proofs.Common.{◌∷◌, not, None, refl, sym, ap, ◌∙◌, arith, ◌==◌, BodyCmd, Bit}
+use Rattle.word_flow.proofs.Common.{WordOp, op_ceiling, op_value, Space, op_plain_ceiling, Extent}
+use Rattle.word_flow.proofs.Common.{Full, Owner, InRoom, InCells, flow_total, flow_aps, majority}
+use Rattle.word_flow.proofs.Common.{values_from, sense_three, first_node}
+use Rattle.loop_laws.specs.Rooms.{One as OneRow}
+use Rattle.word_flow.proofs.Targets.{answers_of, Weights, body_holds, Operation, Value, OneDone}
+use Rattle.word_flow.proofs.Targets.{word_rooms, of_word, View, Step, stepped}
 use Rattle.word_flow.proofs.Numbers.{one_bit, any_gives, all_gives}
 use Rattle.word_flow.proofs.Reducing.{State, InRange, does, first_left, one_left, two_left}
 use Rattle.word_flow.proofs.Reducing.{reduction_does}
 use Rattle.word_flow.proofs.Reductions.{Part, Alone, Begun, One, Two, Three, Ended, code, reduction}
 use Rattle.word_flow.proofs.Reductions.{joined, reduction_total}
-use Rattle.word_flow.proofs.Targets.{Operation, Value, OneDone, word_rooms, of_word}
-use Rattle.word_flow.proofs.Views.{View, Step, stepped}
+use Rattle.op_text.specs.declared.word_ops.WordOp.TheVariants as op
+use Rattle.word_lower.proofs.Setting as set
 
 abbrev known : List Owner
 known = InRoom 0 ∷ InRoom 1 ∷ InCells 1 ∷ InCells 2 ∷ InCells 3 ∷ InCells 12 ∷ []
@@ -37,7 +26,7 @@ abbrev each_one : List BodyCmd → ℕ
 each_one cmds = 1
 
 abbrev w : Weights
-w = record { plain = 1; less = 0; cost = 0; more = 7 }
+w = record { plain = 1; less = 0; cost = 0; more = 7; aps = 0 }
 
 abbrev view : (ℕ → Bool) → State → View
 view x s (InRoom zero) v = s.y
@@ -98,10 +87,7 @@ red_op false = op.AndRed
 
 first_joins : (c b : Bool) → majority c b (not c) ≡ b
 unfolding majority
-first_joins true true = refl
-first_joins true false = refl
-first_joins false true = refl
-first_joins false false = refl
+first_joins c b = grind arith
 
 next_joins : (c : Bool) (x : ℕ → Bool) (i : ℕ) → joined c x (suc i) ≡ majority c (x i) (joined c x i)
 next_joins c x zero = sym (first_joins c (x 0))
@@ -114,41 +100,27 @@ value_is true x n = ap set.bit (any_gives x (joined true x) n refl (λ i lt. nex
 value_is false x n = ap set.bit (all_gives x (joined false x) n refl (λ i lt. next_joins false x i))
 
 module _ (c : Bool) (total : (n : ℕ) → reduction_total n ≡ flow_total (red_op c) n)
-    (aps : (n : ℕ) → 0 ≡ flow_aps (red_op c) n)
+    (aps : (n : ℕ) → 0 * n ≡ flow_aps (red_op c) n)
     (ceiling : (n : ℕ) → op_plain_ceiling (red_op c) n ≡ 7 * n + 1)
     (ceilings : (n : ℕ) → op_plain_ceiling (red_op c) n ≡ op_ceiling (red_op c) n) where
   operation : Operation (red_op c) Part (code c) reduction es known each_one (λ n. n) w
       (Value (red_op c) Bit 0 (1 ∷ []))
   operation = record {
-    answers = λ n some small v. (let x = v (InRoom 1) in record {
-      S = State;
-      InRange = InRange n;
-      does = does c x;
-      view = view x;
-      cost = λ (s : State). s.cost;
-      more = λ (s : State). s.rounds;
-      alive = λ (s : State). s.alive;
-      step = step n x c;
-      start = start v;
-      begins = refl;
-      fresh = refl;
-      free = refl;
-      light = refl;
-      Q = λ g s. (s.y ≡ joined c x n) × (s.cost ≡ reduction_total n) × (s.rounds ≡ n);
-      whole = reduction_does n some small c x 0 0 0 0 0 0 0 0 (start v) refl refl;
-      gives = λ g s q. (one_bit s.y ∙ ap set.bit q.0 ∙ value_is c x n, q.1 ∙ total n, q.2);
-    });
-    aps = λ n some rooms e. reduction_aps n c rooms ∙ aps n;
-    plain = λ n some y h. (let f = ceiling n in omega (arith, h, f));
+    answers = λ n some small v. (let x = v (InRoom 1) in
+        answers_of State (InRange n) (does c x) (view x) (λ s. s.cost) (λ s. s.rounds) (λ s. s.alive)
+        (step n x c) (start v) refl refl refl refl
+        (λ g s. (s.y ≡ joined c x n) × (s.cost ≡ reduction_total n) × (s.rounds ≡ n))
+        (reduction_does n some small c x (start v) refl refl)
+        (λ g s q. (one_bit s.y ∙ ap set.bit q.0 ∙ value_is c x n, q.1 ∙ total n, q.2)));
+    aps = aps;
+    plain = λ n some y h. omega (arith, h, ceiling n);
     ceilings = ceilings;
   }
 
 pub and_red_done : OneDone op.AndRed
-and_red_done = of_word op.AndRed Bit Part (code false) reduction known each_one (λ n. n) w (λ b. None) (holds false)
-    (λ s0 w0 s1 w1. refl) (operation false (λ n. refl) (λ n. refl) (λ n. refl) (λ n. refl)) refl refl
-    (λ s0 w0 s1 w1 fb fw. refl)
+and_red_done = of_word Bit (operation false (λ n. refl) (λ n. omega arith) (λ n. refl) (λ n. refl))
+    (holds false) (λ s0 w0 s1 w1. refl) refl refl (λ s0 w0 s1 w1 fb fw. refl)
 
 pub or_red_done : OneDone op.OrRed
-or_red_done = of_word op.OrRed Bit Part (code true) reduction known each_one (λ n. n) w (λ b. None) (holds true)
-    (λ s0 w0 s1 w1. refl) (operation true (λ n. refl) (λ n. refl) (λ n. refl) (λ n. refl)) refl refl
-    (λ s0 w0 s1 w1 fb fw. refl)
+or_red_done = of_word Bit (operation true (λ n. refl) (λ n. omega arith) (λ n. refl) (λ n. refl))
+    (holds true) (λ s0 w0 s1 w1. refl) refl refl (λ s0 w0 s1 w1 fb fw. refl)

@@ -1,16 +1,11 @@
 -- and_red and or_red: three elements in turn.
-use Rattle.std.proofs.Common.{◌≡◌, ℕ, zero, suc, ◌+◌, ◌-◌, ◌*◌, ◌<◌, ◌≤◌, Bool, true, false}
-use Rattle.std.proofs.Common.{List, [], ◌∷◌, refl, sym, ap, ◌∙◌, subst, arith}
-use Rattle.std.specs.Prelude.{slice_set, slice_index}
-use Rattle.bit_rows.specs.Bits.{majority}
-use Rattle.loop_ir.specs.declared.ir.Move.TheVariants.{AddI}
-use Rattle.loop_ir.specs.Flows.{FlowOf, TurnsOf, EventOf}
-use Rattle.loop_ir.specs.Flows.FlowOf.{End, Do, Put, If, Loop}
-use Rattle.loop_ir.specs.Flows.TurnsOf.{Last, Turn}
+use Rattle.word_flow.proofs.Common.{◌≡◌, ℕ, zero, suc, ◌+◌, ◌-◌, ◌*◌, ◌<◌, ◌≤◌, Bool, List, [], ◌∷◌}
+use Rattle.word_flow.proofs.Common.{refl, sym, ap, ◌∙◌, subst, arith, slice_set, slice_index, AddI}
+use Rattle.word_flow.proofs.Common.{FlowOf, TurnsOf, EventOf, End, Do, Put, If, Loop, Last, Turn}
+use Rattle.word_flow.proofs.Common.{wp_some, wp_none, wp_loop, Fine, majority}
 use Rattle.word_flow.proofs.Reductions.{Part, Alone, Begun, One, Two, Three, Ended, one, two, three}
 use Rattle.word_flow.proofs.Reductions.{reduction, joined, reduction_total}
-use Rattle.loop_laws.proofs.FlowLogic.{Claim, wp, wp_some, wp_none, wp_loop}
-use Rattle.loop_laws.proofs.FlowFine.{Fine}
+use Rattle.word_flow.proofs.Loops.{◌▹◌, regs, before}
 
 -- the target's bit, the four cells, the states that a body may read, and the commands and
 -- rounds so far
@@ -36,67 +31,19 @@ two_left = 3 ∷ 12 ∷ []
 abbrev pub at : List ℕ → ℕ → ℕ
 at g r = slice_index g r
 
+-- a round of so many commands leaves these states
+abbrev pub spent : State → List ℕ → ℕ → State
+spent s l k = record s { alive = l; cost = s.cost + k; rounds = s.rounds + 1 }
+
 abbrev pub does : Bool → (ℕ → Bool) → Part → List ℕ → State → State
-does c x Alone g s = record {
-  y = x 0;
-  t1 = s.t1;
-  t2 = s.t2;
-  t3 = s.t3;
-  d1 = s.d1;
-  alive = [];
-  cost = s.cost + 1;
-  rounds = s.rounds + 1;
-}
-does c x Begun g s = record {
-  y = s.y;
-  t1 = x 0;
-  t2 = s.t2;
-  t3 = s.t3;
-  d1 = s.d1;
-  alive = first_left;
-  cost = s.cost + 1;
-  rounds = s.rounds + 1;
-}
-does c x One g s = let v = majority c (x (at g 1)) s.t1 in record {
-  y = v;
-  t1 = s.t1;
-  t2 = v;
-  t3 = c;
-  d1 = c;
-  alive = one_left;
-  cost = s.cost + 3;
-  rounds = s.rounds + 1;
-}
-does c x Two g s = let v = majority (x (at g 1)) s.t2 s.t3 in record {
-  y = v;
-  t1 = s.t1;
-  t2 = s.t2;
-  t3 = v;
-  d1 = s.d1;
-  alive = two_left;
-  cost = s.cost + 2;
-  rounds = s.rounds + 1;
-}
-does c x Three g s = record {
-  y = s.y;
-  t1 = majority (x (at g 1)) s.t3 s.d1;
-  t2 = s.t2;
-  t3 = s.t3;
-  d1 = s.d1;
-  alive = first_left;
-  cost = s.cost + 2;
-  rounds = s.rounds + 1;
-}
-does c x Ended g s = record {
-  y = majority (x (at g 1)) s.t3 s.d1;
-  t1 = s.t1;
-  t2 = s.t2;
-  t3 = s.t3;
-  d1 = s.d1;
-  alive = [];
-  cost = s.cost + 2;
-  rounds = s.rounds + 1;
-}
+does c x Alone g s = record (spent s [] 1) { y = x 0 }
+does c x Begun g s = record (spent s first_left 1) { t1 = x 0 }
+does c x One g s = let v = majority c (x (at g 1)) s.t1 in
+    record (spent s one_left 3) { y = v; t2 = v; t3 = c; d1 = c }
+does c x Two g s = let v = majority (x (at g 1)) s.t2 s.t3 in
+    record (spent s two_left 2) { y = v; t3 = v }
+does c x Three g s = record (spent s first_left 2) { t1 = majority (x (at g 1)) s.t3 s.d1 }
+does c x Ended g s = record (spent s [] 2) { y = majority (x (at g 1)) s.t3 s.d1 }
 
 abbrev pub InRange : ℕ → Part → List ℕ → State → Type 0
 InRange n Alone g s = 0 < n
@@ -109,14 +56,7 @@ InRange n Ended g s = (at g 1 < n) × (s.alive ≡ two_left)
 -- in whichever order
 turned : (a g c : Bool) → majority a g c ≡ majority c a g
 unfolding majority
-turned true true true = refl
-turned true true false = refl
-turned true false true = refl
-turned true false false = refl
-turned false true true = refl
-turned false true false = refl
-turned false false true = refl
-turned false false false = refl
+turned a g c = grind arith
 
 -- one element more
 joins : (c : Bool) (x : ℕ → Bool) (i : ℕ) (g : Bool) → 0 < i → g ≡ joined c x i
@@ -129,23 +69,20 @@ module _ (n : ℕ) (some : 0 < n) (small : n ≤ 128) (c : Bool) (x : ℕ → Bo
   abbrev F : EventOf Part → State → Type 0
   F = Fine Part State n (InRange n)
 
-  abbrev W : FlowOf Part → Claim Part State n F (does c x) → Claim Part State n F (does c x)
-  W f = wp Part State n F (does c x) f
-
   abbrev Asked : Type 1
-  Asked = Claim Part State n F (does c x)
+  Asked = List ℕ → State → Type 0
 
-  abbrev regs : ℕ → ℕ → ℕ → ℕ → ℕ → ℕ → ℕ → ℕ → List ℕ
-  regs m i a b d e f v = m ∷ i ∷ a ∷ b ∷ d ∷ e ∷ f ∷ v ∷ []
+  abbrev W : FlowOf Part → Asked → Asked
+  W f = before Part State n (InRange n) (does c x) f
 
   abbrev Over : State → Type 0
   Over s = (s.y ≡ joined c x n) × (s.cost ≡ reduction_total n) × (s.rounds ≡ n)
 
-  turns_do : (a b d e f v : ℕ) (Q : Asked) (s : State) → 1 < n → s.t1 ≡ x 0 → s.alive ≡ first_left
+  turns_do : (Q : Asked) (s : State) → 1 < n → s.t1 ≡ x 0 → s.alive ≡ first_left
       → s.cost ≡ 1 → s.rounds ≡ 1 → ((g : List ℕ) (s : State) → Over s → Q g s)
-      → W (Loop 0 (Turn one (Turn two (Last three))) End) Q (regs (n - 1) 1 a b d e f v) s
-  turns_do a b d e f v Q s many t1_is alive paid counted done = wp_loop Part State n F (does c x) 0 all I End Q
-      (regs (n - 1) 1 a b d e f v) s (omega arith) (one_does, (two_does, three_does)) (
+      → W (Loop 0 (Turn one (Turn two (Last three))) End) Q (regs (n - 1) 1 0 0 0 0 0 0) s
+  turns_do Q s many t1_is alive paid counted done = wp_loop Part State n F (does c x) 0 all I End Q
+      (regs (n - 1) 1 0 0 0 0 0 0) s (omega arith) (one_does, (two_does, three_does)) (
         1,
         0,
         refl,
@@ -161,14 +98,14 @@ module _ (n : ℕ) (some : 0 < n) (small : n ≤ 128) (c : Bool) (x : ℕ → Bo
       all = Turn one (Turn two (Last three))
 
       I : TurnsOf Part → ℕ → Asked
-      I (Turn y (Turn z ts)) m g s = (i : ℕ) × (h : ℕ) × (g ≡ regs m i a b d e f v) × (i ≡ 3 * h + 1)
+      I (Turn y (Turn z ts)) m g s = (i : ℕ) × (h : ℕ) × (g ≡ regs m i 0 0 0 0 0 0) × (i ≡ 3 * h + 1)
           × (i + m ≡ n) × (s.cost ≡ 7 * h + 1)
           × (0 < m → (s.t1 ≡ joined c x i) × (s.alive ≡ first_left)) × (m ≡ 0 → s.y ≡ joined c x i)
           × (s.rounds ≡ i)
-      I (Turn y (Last z)) m g s = (i : ℕ) × (h : ℕ) × (g ≡ regs m i a b d e f v) × (i ≡ 3 * h + 2)
+      I (Turn y (Last z)) m g s = (i : ℕ) × (h : ℕ) × (g ≡ regs m i 0 0 0 0 0 0) × (i ≡ 3 * h + 2)
           × (i + m ≡ n) × (s.cost ≡ 7 * h + 4) × (s.y ≡ joined c x i) × (s.t2 ≡ joined c x i)
           × (s.t3 ≡ c) × (s.d1 ≡ c) × (s.alive ≡ one_left) × (s.rounds ≡ i)
-      I (Last y) m g s = (i : ℕ) × (h : ℕ) × (g ≡ regs m i a b d e f v) × (i ≡ 3 * h + 3)
+      I (Last y) m g s = (i : ℕ) × (h : ℕ) × (g ≡ regs m i 0 0 0 0 0 0) × (i ≡ 3 * h + 3)
           × (i + m ≡ n) × (s.cost ≡ 7 * h + 6) × (s.y ≡ joined c x i) × (s.t3 ≡ joined c x i)
           × (s.d1 ≡ c) × (s.alive ≡ two_left) × (s.rounds ≡ i)
 
@@ -179,26 +116,21 @@ module _ (n : ℕ) (some : 0 < n) (small : n ≤ 128) (c : Bool) (x : ℕ → Bo
           let k = i.0 in
           let p = i.6 (omega arith) in
           let u = joins c x k s.t1 (omega (arith, i.3)) p.0 in
-          subst (λ l. W one R (slice_set l 0 m) s) (sym i.2) (
-            (omega (arith, i.4), p.1),
-            (
-              omega (arith, i.4, small),
-              go (regs m (k + 1) a b d e f v) (does c x One (regs m k a b d e f v) s) (
-                k + 1,
-                i.1,
-                refl,
-                omega (arith, i.3),
-                omega (arith, i.4),
-                omega (arith, i.5),
-                u,
-                u,
-                refl,
-                refl,
-                refl,
-                omega (arith, i.8),
-              ),
-            ),
-          )
+          subst (λ l. W one R (slice_set l 0 m) s) (sym i.2) ((omega (arith, i.4), p.1)
+          ▹ omega (arith, i.4, small) ▹ go (regs m (k + 1) 0 0 0 0 0 0) _ (
+            k + 1,
+            i.1,
+            refl,
+            omega (arith, i.3),
+            omega (arith, i.4),
+            omega (arith, i.5),
+            u,
+            u,
+            refl,
+            refl,
+            refl,
+            omega (arith, i.8),
+          ))
 
       two_does : (m : ℕ) (g : List ℕ) (s : State) (R : Asked)
           → I (Turn two (Last three)) (suc m) g s
@@ -207,66 +139,51 @@ module _ (n : ℕ) (some : 0 < n) (small : n ≤ 128) (c : Bool) (x : ℕ → Bo
           let k = i.0 in
           let u = ap (majority (x k) s.t2) i.8 ∙ turned (x k) s.t2 c
           ∙ joins c x k s.t2 (omega (arith, i.3)) i.7 in
-          subst (λ l. W two R (slice_set l 0 m) s) (sym i.2) (
-            (omega (arith, i.4), i.10),
-            (
-              omega (arith, i.4, small),
-              go (regs m (k + 1) a b d e f v) (does c x Two (regs m k a b d e f v) s) (
-                k + 1,
-                i.1,
-                refl,
-                omega (arith, i.3),
-                omega (arith, i.4),
-                omega (arith, i.5),
-                u,
-                u,
-                i.9,
-                refl,
-                omega (arith, i.11),
-              ),
-            ),
-          )
+          subst (λ l. W two R (slice_set l 0 m) s) (sym i.2) ((omega (arith, i.4), i.10)
+          ▹ omega (arith, i.4, small) ▹ go (regs m (k + 1) 0 0 0 0 0 0) _ (
+            k + 1,
+            i.1,
+            refl,
+            omega (arith, i.3),
+            omega (arith, i.4),
+            omega (arith, i.5),
+            u,
+            u,
+            i.9,
+            refl,
+            omega (arith, i.11),
+          ))
 
       three_is : (m k : ℕ) (s : State) (R : Asked) (h : ℕ) → k ≡ 3 * h + 3 → k + suc m ≡ n
           → s.cost ≡ 7 * h + 6 → majority (x k) s.t3 s.d1 ≡ joined c x (k + 1)
           → s.alive ≡ two_left → s.rounds ≡ k → ((h : List ℕ) (s : State) → I all m h s → R h s)
-          → W three R (regs m k a b d e f v) s
-      three_is zero k s R h is ends paid u alive counted go = wp_none Part State n F (does c x) 0 (Do Three End)
-          (Do Ended End) (Put (AddI 1 1) End) R (regs 0 k a b d e f v) s refl (
-            (omega (arith, ends), alive),
-            (
-              omega (arith, ends, small),
-              go (regs 0 (k + 1) a b d e f v) (does c x Ended (regs 0 k a b d e f v) s) (
-                k + 1,
-                h + 1,
-                refl,
-                omega (arith, is),
-                omega (arith, ends),
-                omega (arith, paid),
-                (λ more. absurd (omega (arith, more))),
-                (λ none. u),
-                omega (arith, counted),
-              ),
-            ),
+          → W three R (regs m k 0 0 0 0 0 0) s
+      three_is zero k s R h is ends paid u alive counted go = (omega (arith, ends), alive)
+          ▹ omega (arith, ends, small) ▹ go (regs 0 (k + 1) 0 0 0 0 0 0) _ (
+            k + 1,
+            h + 1,
+            refl,
+            omega (arith, is),
+            omega (arith, ends),
+            omega (arith, paid),
+            (λ more. absurd (omega (arith, more))),
+            (λ none. u),
+            omega (arith, counted),
           )
       three_is (suc m) k s R h is ends paid u alive counted go = wp_some Part State n F (does c x) 0 m
-          (Do Three End) (Do Ended End) (Put (AddI 1 1) End) R (regs (suc m) k a b d e f v) s refl (
-            (omega (arith, ends), alive),
-            (
-              omega (arith, ends, small),
-              go (regs (suc m) (k + 1) a b d e f v) (does c x Three (regs (suc m) k a b d e f v) s) (
-                k + 1,
-                h + 1,
-                refl,
-                omega (arith, is),
-                omega (arith, ends),
-                omega (arith, paid),
-                (λ more. (u, refl)),
-                (λ none. absurd (omega (arith, none))),
-                omega (arith, counted),
-              ),
-            ),
-          )
+          (Do Three End) (Do Ended End) (Put (AddI 1 1) End) R (regs (suc m) k 0 0 0 0 0 0) s refl
+          ((omega (arith, ends), alive) ▹ omega (arith, ends, small)
+          ▹ go (regs (suc m) (k + 1) 0 0 0 0 0 0) _ (
+            k + 1,
+            h + 1,
+            refl,
+            omega (arith, is),
+            omega (arith, ends),
+            omega (arith, paid),
+            (λ more. (u, refl)),
+            (λ none. absurd (omega (arith, none))),
+            omega (arith, counted),
+          ))
 
       three_does : (m : ℕ) (g : List ℕ) (s : State) (R : Asked) → I (Last three) (suc m) g s
           → ((h : List ℕ) (s : State) → I all m h s → R h s) → W three R (slice_set g 0 m) s
@@ -285,10 +202,10 @@ module _ (n : ℕ) (some : 0 < n) (small : n ≤ 128) (c : Bool) (x : ℕ → Bo
       ends (Last y) g s i = let full : i.0 ≡ n = omega (arith, i.4) in
           done g s (i.6 ∙ ap (joined c x) full, omega (arith, i.5, i.3, full), i.10 ∙ full)
 
-  -- the whole, wherever the registers begin
-  pub reduction_does : (m i a b d e f v : ℕ) (s : State) → s.cost ≡ 0 → s.rounds ≡ 0
-      → W reduction (λ g s. Over s) (regs m i a b d e f v) s
-  reduction_does m i a b d e f v s free none = (tt, (tt, by (n - 1) refl))
+  -- the whole
+  pub reduction_does : (s : State) → s.cost ≡ 0 → s.rounds ≡ 0
+      → W reduction (λ g s. Over s) (regs 0 0 0 0 0 0 0 0) s
+  reduction_does s free none = tt ▹ tt ▹ by (n - 1) refl
     where
       Q : Asked
       Q = λ g s. Over s
@@ -296,16 +213,20 @@ module _ (n : ℕ) (some : 0 < n) (small : n ≤ 128) (c : Bool) (x : ℕ → Bo
       loop : FlowOf Part
       loop = Do Begun (Loop 0 (Turn one (Turn two (Last three))) End)
 
-      by : (z : ℕ) → n - 1 ≡ z → W (If 0 loop (Do Alone End) End) Q (regs (n - 1) 1 a b d e f v) s
+      by : (z : ℕ) → n - 1 ≡ z → W (If 0 loop (Do Alone End) End) Q (regs (n - 1) 1 0 0 0 0 0 0) s
       by zero is = wp_none Part State n F (does c x) 0 loop (Do Alone End) End Q
-          (regs (n - 1) 1 a b d e f v) s is (
+          (regs (n - 1) 1 0 0 0 0 0 0) s is (
             some,
-            (let one_bit : n ≡ 1 = omega (arith, is, some) in
-                (ap (joined c x) (sym one_bit), omega (arith, free, one_bit), omega (arith, none, one_bit))),
+            (let one_bit : n ≡ 1 = omega (arith, is, some) in (
+              ap (joined c x) (sym one_bit),
+              omega (arith, free, one_bit),
+              omega
+                  (arith, none, one_bit),
+            )),
           )
       by (suc z) is = wp_some Part State n F (does c x) 0 z loop (Do Alone End) End Q
-          (regs (n - 1) 1 a b d e f v) s is (
+          (regs (n - 1) 1 0 0 0 0 0 0) s is (
             some,
-            turns_do a b d e f v Q (does c x Begun (regs (n - 1) 1 a b d e f v) s)
+            turns_do Q (does c x Begun (regs (n - 1) 1 0 0 0 0 0 0) s)
                 (omega (arith, is)) refl refl (omega (arith, free)) (omega (arith, none)) (λ g s o. o),
           )

@@ -1,18 +1,9 @@
 -- `and_red` and `or_red` as flows: their bodies, and how they follow one another.
-use Rattle.std.specs.Prelude.{ℕ, zero, suc, ◌+◌, ◌-◌, ◌*◌, ◌/◌, Bool, true, false, not, [], ◌∷◌}
-use Rattle.bit_rows.specs.Bits.{majority}
-use Rattle.mig_graph.specs.declared.Lit.{Lit}
-use Rattle.mig_graph.specs.Literals.{node_of}
-use Rattle.row_alloc.specs.declared.body.BodyCmd.TheVariants.{Aap}
-use Rattle.row_alloc.specs.declared.body.BodyRef.{BodyRef}
-use Rattle.row_alloc.specs.declared.body.BodyRef.TheVariants.{B, C, In, Out}
-use Rattle.loop_ir.specs.declared.ir.Move.TheVariants.{SetI, SetT, AddI}
-use Rattle.loop_ir.specs.declared.ir.Sub.TheVariants.{Zero, Register}
-use Rattle.loop_ir.specs.Flows.{FlowOf}
-use Rattle.loop_ir.specs.Flows.FlowOf.{End, Do, Put, If, Loop}
-use Rattle.loop_ir.specs.Flows.TurnsOf.{Last, Turn}
-use Rattle.word_flow.specs.Coded.{Coded}
-use Rattle.word_flow.proofs.Counts.{plain, complemented, on, state, coded}
+use Rattle.word_flow.proofs.Common.{◌/◌, majority, SetI, SetT, AddI, FlowOf, End, Do, Put, If, Loop}
+use Rattle.word_flow.proofs.Common.{Last, Turn, Coded, coded_of}
+use Rattle.std.specs.Prelude.{ℕ, zero, suc, ◌+◌, ◌-◌, ◌*◌, Bool, true, false, not}
+use Rattle.word_flow.specs.declared.reduction.TheConstants.{COPIES, BEGINS, JOINS_AND, JOINS_OR}
+use Rattle.word_flow.specs.declared.reduction.TheConstants.{JOINS_TWO, JOINS_THREE, ENDS}
 
 -- The bodies: the only element; the first; the first of three that join it, with the constant in
 -- cells, the second and the third; and the third where none comes after
@@ -24,31 +15,15 @@ pub data Part : Type 0 where
   Three : Part
   Ended : Part
 
--- the constant with which a majority is an and, or an or
-abbrev pub constant : Bool → Lit
-constant true = complemented 0
-constant false = plain 0
-
-abbrev pub constant_row : Bool → BodyRef
-constant_row true = C 1
-constant_row false = C 0
-
--- what each reads, computes and writes, and its commands
+-- what each reads, computes and writes, and its commands, as the table has them
 abbrev pub code : Bool → Part → Coded
-code c Alone = coded (on 1 Zero ∷ []) [] (plain 1 ∷ []) (on 0 Zero ∷ []) (Aap (In 0) (Out 0) ∷ [])
-code c Begun = coded (on 1 Zero ∷ []) [] (plain 1 ∷ []) (state 1 ∷ []) (Aap (In 0) (B 1) ∷ [])
-code c One = coded (on 1 (Register 1) ∷ state 1 ∷ []) (node_of (constant c) (plain 1) (plain 2) ∷ [])
-    (plain 3 ∷ plain 3 ∷ constant c ∷ constant c ∷ []) (on 0 Zero ∷ state 2 ∷ state 3 ∷ state 12 ∷ [])
-    (Aap (constant_row c) (B 15) ∷ Aap (In 0) (B 2) ∷ Aap (B 12) (Out 0) ∷ [])
-code c Two = coded (on 1 (Register 1) ∷ state 2 ∷ state 3 ∷ state 12 ∷ [])
-    (node_of (plain 1) (plain 2) (plain 3) ∷ []) (plain 5 ∷ plain 5 ∷ plain 4 ∷ [])
-    (on 0 Zero ∷ state 3 ∷ state 12 ∷ []) (Aap (In 0) (B 1) ∷ Aap (B 13) (Out 0) ∷ [])
-code c Three = coded (on 1 (Register 1) ∷ state 3 ∷ state 12 ∷ [])
-    (node_of (plain 1) (plain 2) (plain 3) ∷ []) (plain 4 ∷ []) (state 1 ∷ [])
-    (Aap (In 0) (B 0) ∷ Aap (B 15) (B 1) ∷ [])
-code c Ended = coded (on 1 (Register 1) ∷ state 3 ∷ state 12 ∷ [])
-    (node_of (plain 1) (plain 2) (plain 3) ∷ []) (plain 4 ∷ []) (on 0 Zero ∷ [])
-    (Aap (In 0) (B 0) ∷ Aap (B 15) (Out 0) ∷ [])
+code c Alone = coded_of COPIES
+code c Begun = coded_of BEGINS
+code true One = coded_of JOINS_OR
+code false One = coded_of JOINS_AND
+code c Two = coded_of JOINS_TWO
+code c Three = coded_of JOINS_THREE
+code c Ended = coded_of ENDS
 
 abbrev pub one : FlowOf Part
 one = Do One (Put (AddI 1 1) End)

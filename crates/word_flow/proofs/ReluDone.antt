@@ -1,25 +1,17 @@
 -- The flow of relu does a statement of it.
-use Rattle.std.proofs.Common.{◌≡◌, ℕ, zero, suc, ◌-◌, ◌*◌, ◌^◌, ◌<◌, ◌≤◌, Bool, true, false, cond, List, []}
-use Rattle.std.proofs.Common.{◌∷◌, not, None, refl, sym, ap, ◌∙◌, arith}
-use Rattle.std.specs.Prelude.{◌==◌, nat_lt}
-use Rattle.std.proofs.lemmas.Bool.{ne_eqb}
-use Rattle.bit_rows.specs.Bits.{majority}
-use Rattle.mig_graph.specs.Graph.{values_from}
-use Rattle.row_alloc.specs.Symbolic.{sense_three, first_node}
-use Rattle.op_text.specs.declared.tree.Kind.TheVariants.{Word}
-use Rattle.op_text.specs.declared.word_ops.WordOp.TheVariants as op
-use Rattle.op_text.specs.Values.{half}
-use Rattle.loop_ir.specs.declared.ir.Space.{Space}
-use Rattle.loop_laws.specs.Rooms.{Extent, Full, Owner, InRoom, InCells}
+use Rattle.word_flow.proofs.Common.{◌≡◌, ℕ, zero, suc, ◌-◌, ◌*◌, ◌^◌, ◌<◌, ◌≤◌, Bool, true, false}
+use Rattle.word_flow.proofs.Common.{cond, List, [], ◌∷◌, not, None, refl, sym, ap, ◌∙◌, arith, ◌==◌}
+use Rattle.word_flow.proofs.Common.{nat_lt, majority, Word, half, Space, Extent, Full, Owner}
+use Rattle.word_flow.proofs.Common.{InRoom, InCells, value_same, flow_aps, flow_total, values_from}
+use Rattle.word_flow.proofs.Common.{sense_three, first_node}
 use Rattle.word_lower.proofs.Bitwise.{relu_gives}
-use Rattle.word_lower.proofs.Setting as set
-use Rattle.word_lower.proofs.Sums.{value_same}
-use Rattle.word_flow.specs.Programs.{flow_aps, flow_total}
-use Rattle.word_flow.proofs.Checks.{Weights, aps_in, body_holds}
+use Rattle.word_flow.proofs.Targets.{answers_of, Weights, aps_in, body_holds, Operation, Value}
+use Rattle.word_flow.proofs.Targets.{OneDone, word_rooms, of_word, View, Step, stepped}
 use Rattle.word_flow.proofs.Rectified.{Part, Turned, Both, Agreed, Cleared, code, relu}
-use Rattle.word_flow.proofs.Rectifying.{State, InRange, does, turned_left, both_left, relu_does}
-use Rattle.word_flow.proofs.Targets.{Operation, Value, OneDone, word_rooms, of_word}
-use Rattle.word_flow.proofs.Views.{View, Step, stepped}
+use Rattle.word_flow.proofs.Rectifying.{State, InRange, does, turned_left, both_left, Over}
+use Rattle.word_flow.proofs.Rectifying.{relu_does}
+use Rattle.op_text.specs.declared.word_ops.WordOp.TheVariants as op
+use Rattle.word_lower.proofs.Setting as set
 
 abbrev known : List Owner
 known = InRoom 0 ∷ InRoom 1 ∷ InCells 1 ∷ InCells 3 ∷ InCells 11 ∷ []
@@ -28,7 +20,7 @@ abbrev es : List Extent
 es = Full ∷ Full ∷ []
 
 abbrev w : Weights
-w = record { plain = 3; less = 0; cost = 7; more = 0 }
+w = record { plain = 3; less = 0; cost = 7; more = 0; aps = 1 }
 
 abbrev view : (ℕ → Bool) → State → View
 view x s (InRoom zero) v = s.y v
@@ -79,39 +71,21 @@ relu_is y x (suc m) some h =
     ∙ ap (λ k. cond (nat_lt (set.number x (suc m)) (2 ^ k)) (set.number x (suc m)) 0) (sym one)
 
 few : (n : ℕ) → 0 < n → flow_total op.Relu n ≤ 3 * n
-few zero some = absurd (omega (arith, some))
-few (suc zero) some = omega arith
-few (suc (suc k)) some = let n = suc (suc k) in
-    let e : flow_total op.Relu n ≡ 3 * n =
-    ap (λ b. cond b 1 (3 * n)) (ne_eqb n 1 (λ z. absurd (omega (arith, z)))) in
-    omega (arith, e)
+few n some = grind (arith, some)
 
-operation : Operation op.Relu Part code relu es known aps_in (flow_aps op.Relu) w (Value op.Relu Word 0 (1 ∷ []))
+operation : Operation op.Relu Part code relu es known aps_in (flow_aps op.Relu) w
+    (Value op.Relu Word 0 (1 ∷ []))
 operation = record {
-  answers = λ n some small c. (let x = c (InRoom 1) in record {
-    S = State;
-    InRange = InRange n;
-    does = does x;
-    view = view x;
-    cost = λ (s : State). s.cost;
-    more = λ (s : State). 0;
-    alive = λ (s : State). s.alive;
-    step = step n x;
-    start = start c;
-    begins = refl;
-    fresh = refl;
-    free = refl;
-    light = refl;
-    Q = λ g s. ((j : ℕ) → j < n → s.y j ≡ majority false (x j) (not (x (n - 1))))
-        × (s.cost ≡ flow_total op.Relu n);
-    whole = relu_does n some small x 0 0 0 0 0 0 0 0 (start c) refl;
-    gives = λ g s q. (relu_is s.y x n some q.0, q.1, refl);
-  });
-  aps = λ n some rooms e. e;
-  plain = λ n some y h. (let f = few n some in omega (arith, h, f));
+  answers = λ n some small c. (let x = c (InRoom 1) in
+      answers_of State (InRange n) (does x) (view x) (λ s. s.cost) (λ s. 0) (λ s. s.alive) (step n x)
+      (start c) refl refl refl refl (λ g s. Over n some small x s)
+      (relu_does n some small x (start c) refl)
+      (λ g s q. (relu_is s.y x n some q.0, q.1, refl)));
+  aps = λ n. omega arith;
+  plain = λ n some y h. omega (arith, h, few n some);
   ceilings = λ n. refl;
 }
 
 pub relu_done : OneDone op.Relu
-relu_done = of_word op.Relu Word Part code relu known aps_in (flow_aps op.Relu) w (λ b. None) holds (λ s0 w0 s1 w1. refl)
-    operation refl refl (λ s0 w0 s1 w1 fb fw. refl)
+relu_done = of_word Word operation holds (λ s0 w0 s1 w1. refl) refl refl
+    (λ s0 w0 s1 w1 fb fw. refl)

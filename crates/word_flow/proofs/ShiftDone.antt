@@ -1,21 +1,15 @@
 -- The flows of shl1 and shr1 do statements of them.
-use Rattle.std.proofs.Common.{◌≡◌, ℕ, zero, suc, ◌-◌, ◌/◌, ◌<◌, Bool, true, false, List, [], ◌∷◌}
-use Rattle.std.proofs.Common.{None, refl, sym, subst, arith}
-use Rattle.mig_graph.specs.Graph.{values_from}
-use Rattle.row_alloc.specs.Symbolic.{sense_three, first_node}
-use Rattle.op_text.specs.declared.tree.Kind.TheVariants.{Word}
-use Rattle.op_text.specs.declared.word_ops.WordOp.TheVariants as op
-use Rattle.loop_ir.specs.declared.ir.Space.{Space}
-use Rattle.loop_laws.specs.Rooms.{Extent, Full, Owner, InRoom, InCells}
-use Rattle.word_lower.proofs.Setting.{number}
-use Rattle.word_lower.proofs.Sums.{shl1_gives, shr1_gives}
-use Rattle.word_flow.specs.Programs.{flow_aps}
+use Rattle.word_flow.proofs.Common.{◌≡◌, ℕ, zero, suc, ◌-◌, ◌<◌, Bool, true, false, List, [], ◌∷◌}
+use Rattle.word_flow.proofs.Common.{None, refl, sym, subst, arith, Word, Space, Extent, Full, Owner}
+use Rattle.word_flow.proofs.Common.{InRoom, InCells, number, shl1_gives, shr1_gives, flow_aps}
+use Rattle.word_flow.proofs.Common.{values_from, sense_three, first_node}
+use Rattle.std.proofs.Common.{◌/◌}
 use Rattle.word_flow.proofs.Answers.{Answers}
-use Rattle.word_flow.proofs.Checks.{Weights, aps_in, body_holds}
+use Rattle.word_flow.proofs.Targets.{answers_of, Weights, aps_in, body_holds, Operation, Value}
+use Rattle.word_flow.proofs.Targets.{OneDone, word_rooms, of_word, View, Step, stepped}
 use Rattle.word_flow.proofs.Shifting.{Part, Cleared, Moved, code, shift, State, InRange, does}
 use Rattle.word_flow.proofs.Shifting.{Shifted, shift_does}
-use Rattle.word_flow.proofs.Targets.{Operation, Value, OneDone, word_rooms, of_word}
-use Rattle.word_flow.proofs.Views.{View, Step, stepped}
+use Rattle.op_text.specs.declared.word_ops.WordOp.TheVariants as op
 
 abbrev known : List Owner
 known = InRoom 0 ∷ InRoom 1 ∷ []
@@ -24,7 +18,7 @@ abbrev es : List Extent
 es = Full ∷ Full ∷ []
 
 abbrev w : Weights
-w = record { plain = 1; less = 0; cost = 1; more = 0 }
+w = record { plain = 1; less = 0; cost = 1; more = 0; aps = 1 }
 
 abbrev view : (ℕ → Bool) → State → View
 view x s (InRoom zero) v = s.y v
@@ -51,31 +45,18 @@ step n false x Moved g s r = stepped (r.0, tt) (r.1, tt) [] refl refl refl (λ d
 answers : (up : Bool) (n : ℕ) → 0 < n → (c : View) (Post : View → Type 0)
     → ((s : State) → Shifted n up (c (InRoom 1)) 0 s → Post (view (c (InRoom 1)) s))
     → Answers Part (code up) shift es known aps_in n c n 0 Post
-answers up n some c Post gives = let x = c (InRoom 1) in record {
-  S = State;
-  InRange = InRange n up;
-  does = does up x;
-  view = view x;
-  cost = λ (s : State). s.cost;
-  more = λ s. 0;
-  alive = λ s. [];
-  step = step n up x;
-  start = record { y = c (InRoom 0); cost = 0 };
-  begins = refl;
-  fresh = refl;
-  free = refl;
-  light = refl;
-  Q = λ g s. Shifted n up x 0 s × (s.cost ≡ n);
-  whole = shift_does n some up x (record { y = c (InRoom 0); cost = 0 }) refl;
-  gives = λ g s q. (gives s q.0, q.1, refl);
-}
+answers up n some c Post gives = let x = c (InRoom 1) in
+    answers_of State (InRange n up) (does up x) (view x) (λ s. s.cost) (λ s. 0) (λ s. []) (step n up x)
+    (record { y = c (InRoom 0); cost = 0 }) refl refl refl refl
+    (λ g s. Shifted n up x 0 s × (s.cost ≡ n)) (shift_does n some up x _ refl)
+    (λ g s q. (gives s q.0, q.1, refl))
 
 shl1 : Operation op.Shl1 Part (code true) shift es known aps_in (flow_aps op.Shl1) w
     (Value op.Shl1 Word 0 (1 ∷ []))
 shl1 = record {
   answers = λ n some small c. answers true n some c (Value op.Shl1 Word 0 (1 ∷ []) n c) (λ s h.
       shl1_gives (c (InRoom 1)) s.y n h.cleared (λ i lt. h.moved i (omega arith) lt));
-  aps = λ n some rooms e. e;
+  aps = λ n. omega arith;
   plain = λ n some y h. omega (arith, h);
   ceilings = λ n. refl;
 }
@@ -88,15 +69,15 @@ shr1 = record {
       let x = c (InRoom 1) in
       subst (λ k. number s.y k ≡ number x k / 2) (sym all)
       (shr1_gives x s.y (n - 1) h.cleared (λ i lt. h.moved i (omega arith) (omega (arith, lt))))));
-  aps = λ n some rooms e. e;
+  aps = λ n. omega arith;
   plain = λ n some y h. omega (arith, h);
   ceilings = λ n. refl;
 }
 
 pub shl1_done : OneDone op.Shl1
-shl1_done = of_word op.Shl1 Word Part (code true) shift known aps_in (flow_aps op.Shl1) w (λ b. None) (holds true)
-    (λ s0 w0 s1 w1. refl) shl1 refl refl (λ s0 w0 s1 w1 fb fw. refl)
+shl1_done = of_word Word shl1 (holds true) (λ s0 w0 s1 w1. refl) refl refl
+    (λ s0 w0 s1 w1 fb fw. refl)
 
 pub shr1_done : OneDone op.Shr1
-shr1_done = of_word op.Shr1 Word Part (code false) shift known aps_in (flow_aps op.Shr1) w (λ b. None) (holds false)
-    (λ s0 w0 s1 w1. refl) shr1 refl refl (λ s0 w0 s1 w1 fb fw. refl)
+shr1_done = of_word Word shr1 (holds false) (λ s0 w0 s1 w1. refl) refl refl
+    (λ s0 w0 s1 w1 fb fw. refl)

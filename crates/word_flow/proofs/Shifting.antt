@@ -1,20 +1,10 @@
 -- shl1 and shr1 as one flow: its bodies, how they follow one another, and what they do.
-use Rattle.std.proofs.Common.{◌≡◌, ℕ, suc, ◌+◌, ◌-◌, ◌<◌, ◌≤◌, Bool, true, false, List, [], ◌∷◌}
-use Rattle.std.proofs.Common.{refl, sym, ap, ◌∙◌, subst, ⊎_elim, arith}
-use Rattle.std.specs.Prelude.{slice_set, slice_index}
-use Rattle.std.proofs.lemmas.Bool.{cases_lt}
-use Rattle.row_alloc.specs.declared.body.BodyCmd.TheVariants.{Aap}
-use Rattle.row_alloc.specs.declared.body.BodyRef.TheVariants.{C, In, Out}
-use Rattle.loop_ir.specs.declared.ir.Move.TheVariants.{SetT, SubI}
-use Rattle.loop_ir.specs.declared.ir.Sub.TheVariants.{Zero, Register}
-use Rattle.loop_ir.specs.Flows.{FlowOf, TurnsOf, EventOf, zeros}
-use Rattle.loop_ir.specs.Flows.FlowOf.{End, Do, Put, Loop}
-use Rattle.loop_ir.specs.Flows.TurnsOf.{Last}
-use Rattle.loop_laws.proofs.FlowLogic.{Claim, wp, wp_loop}
-use Rattle.loop_laws.proofs.FlowFine.{Fine}
-use Rattle.word_flow.specs.Coded.{Coded}
+use Rattle.word_flow.proofs.Common.{◌≡◌, ℕ, suc, ◌+◌, ◌-◌, ◌<◌, ◌≤◌, Bool, true, false, List, []}
+use Rattle.word_flow.proofs.Common.{◌∷◌, refl, sym, ◌∙◌, subst, arith, slice_index, SetT, SubI}
+use Rattle.word_flow.proofs.Common.{FlowOf, zeros, End, Do, Put, Loop, Last, Coded, coded_of}
+use Rattle.word_flow.specs.declared.shift.TheConstants.{CLEARS_LOWEST, CLEARS_TOP, UP, DOWN}
 use Rattle.word_flow.proofs.Counting.{put, put_same, put_other}
-use Rattle.word_flow.proofs.Counts.{plain, on, coded}
+use Rattle.word_flow.proofs.Loops.{◌▹◌, before, each}
 
 -- the bodies: a row is cleared, and a bit comes into the next row
 pub data Part : Type 0 where
@@ -30,14 +20,12 @@ abbrev pub into : Bool → ℕ
 into true = 1
 into false = 0
 
--- what each body reads, computes and writes, and its command, where bits go up or down
+-- what each reads, computes and writes, and its command, where bits go up or down
 abbrev pub code : Bool → Part → Coded
-code true Cleared = coded [] [] (plain 0 ∷ []) (on 0 Zero ∷ []) (Aap (C 0) (Out 0) ∷ [])
-code false Cleared = coded [] [] (plain 0 ∷ []) (on 0 (Register 1) ∷ []) (Aap (C 0) (Out 0) ∷ [])
-code true Moved = coded (on 1 (Register 0) ∷ []) [] (plain 1 ∷ []) (on 0 (Register 1) ∷ [])
-    (Aap (In 0) (Out 0) ∷ [])
-code false Moved = coded (on 1 (Register 1) ∷ []) [] (plain 1 ∷ []) (on 0 (Register 0) ∷ [])
-    (Aap (In 0) (Out 0) ∷ [])
+code true Cleared = coded_of CLEARS_LOWEST
+code false Cleared = coded_of CLEARS_TOP
+code true Moved = coded_of UP
+code false Moved = coded_of DOWN
 
 abbrev pub moves : FlowOf Part
 moves = Do Moved (Put (SubI 1 1) End)
@@ -103,14 +91,11 @@ edge_apart n true i lt e = absurd (omega (arith, e))
 edge_apart n false i lt e = absurd (omega (arith, e, lt))
 
 module _ (n : ℕ) (some : 0 < n) (up : Bool) (x : ℕ → Bool) where
-  abbrev F : EventOf Part → State → Type 0
-  F = Fine Part State n (InRange n up)
-
   abbrev Asked : Type 1
-  Asked = Claim Part State n F (does up x)
+  Asked = List ℕ → State → Type 0
 
   abbrev W : FlowOf Part → Asked → Asked
-  W f = wp Part State n F (does up x) f
+  W f = before Part State n (InRange n up) (does up x) f
 
   -- one bit more
   more : (m : ℕ) (t : State) → suc m < n → Shifted n up x (suc m) t
@@ -118,37 +103,24 @@ module _ (n : ℕ) (some : 0 < n) (up : Bool) (x : ℕ → Bool) where
   more m t lt old = record {
     cleared = put_other t.y (target up m) (x (source up m)) (edge up (regs (n - 1) (n - 1)))
         (edge_apart n up m lt) ∙ old.cleared;
-    moved = λ i le li. ⊎_elim
-        (λ (l : m < i). put_other t.y (target up m) (x (source up m)) (target up i)
-        (λ e. (let s = target_once up i m e in absurd (omega (arith, s, l)))) ∙ old.moved i l li)
-        (λ (l : i ≤ m). (let s : m ≡ i = omega (arith, l, le) in
-        subst (λ j. put t.y (target up m) (x (source up m)) (target up j) ≡ x (source up j)) s
-        (put_same t.y (target up m) (x (source up m)))))
-        (cases_lt m i);
+    moved = λ i le li. grind (arith, old.moved i, target_once up i m, le, li);
   }
 
   pub shift_does : (t : State) → t.cost ≡ 0
       → W shift (λ g t. Shifted n up x 0 t × (t.cost ≡ n)) zeros t
-  shift_does t free = (
-    tt,
-    (
-      tt,
-      (
-        edge_below n up some,
-        wp_loop Part State n F (does up x) 0
-            (Last moves) I End Q (regs (n - 1) (n - 1)) start (omega (arith, some)) step (
-              refl,
-              omega (arith, some),
-              omega (arith, free, some),
-              record {
-                cleared = put_same t.y (edge up (regs (n - 1) (n - 1))) false;
-                moved = λ i le lt. absurd (omega (arith, le, lt));
-              },
-            )
-            (λ ts g t i. ends ts g t i),
-      ),
-    ),
-  )
+  shift_does t free = tt ▹ tt ▹ edge_below n up some ▹ each Part State n (InRange n up) (does up x) 0 moves
+      End
+      Q ℕ (λ i m. regs m i) I (λ i m. refl) step (λ i t h. (h.3, omega (arith, h.2))) (n - 1)
+      (n - 1) start refl
+      (omega arith) (
+        refl,
+        omega (arith, some),
+        omega (arith, free, some),
+        record {
+          cleared = put_same t.y (edge up (regs (n - 1) (n - 1))) false;
+          moved = λ i le lt. absurd (omega (arith, le, lt));
+        },
+      )
     where
       Q : Asked
       Q = λ g t. Shifted n up x 0 t × (t.cost ≡ n)
@@ -156,26 +128,15 @@ module _ (n : ℕ) (some : 0 < n) (up : Bool) (x : ℕ → Bool) where
       start : State
       start = does up x Cleared (regs (n - 1) (n - 1)) t
 
-      I : TurnsOf Part → ℕ → Asked
-      I ts m g t = (g ≡ regs m m) × (m < n) × (t.cost + m ≡ n) × Shifted n up x m t
+      I : ℕ → ℕ → State → Type 0
+      I i m t = (i ≡ m) × (m < n) × (t.cost + m ≡ n) × Shifted n up x m t
 
-      step : (m : ℕ) (g : List ℕ) (t : State) (R : Asked) → I (Last moves) (suc m) g t
-          → ((h : List ℕ) (t : State) → I (Last moves) m h t → R h t)
-          → W moves R (slice_set g 0 m) t
-      step m g t R h go =
-          let back : suc m - 1 ≡ m = omega arith in
-          subst (λ l. W moves R (slice_set l 0 m) t) (sym h.0) (
-            (source_below n up m h.1, target_below n up m h.1),
-            (
-              omega arith,
-              go (regs m (suc m - 1)) (does up x Moved (regs m (suc m)) t) (
-                ap (regs m) back,
-                omega (arith, h.1),
-                omega (arith, h.2),
-                more m t h.1 h.3,
-              ),
-            ),
-          )
-
-      ends : (ts : TurnsOf Part) (g : List ℕ) (t : State) → I ts 0 g t → Q g t
-      ends ts g t h = (h.3, omega (arith, h.2))
+      step : (i m : ℕ) (t : State) (R : Asked) → I i (suc m) t
+          → ((j : ℕ) (t : State) → I j m t → R (regs m j) t) → W moves R (regs m i) t
+      step i m t R h go = subst (λ k. W moves R (regs m k) t) (sym h.0)
+          ((source_below n up m h.1, target_below n up m h.1) ▹ omega arith ▹ go (suc m - 1) _ (
+            omega arith,
+            omega (arith, h.1),
+            omega (arith, h.2),
+            more m t h.1 h.3,
+          ))

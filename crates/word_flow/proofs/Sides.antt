@@ -1,14 +1,8 @@
 -- The rows of a statement, by its arguments.
-use Rattle.std.proofs.Common.{◌≡◌, ℕ, suc, ◌<◌, ◌≤◌, true, false, List, [], ◌∷◌, length, refl, sym}
-use Rattle.std.proofs.Common.{ap, ◌∙◌, ⊎_elim, arith}
-use Rattle.std.specs.Prelude.{nat_lt, Option, unwrap_or, if◌then◌else◌}
-use Rattle.std.proofs.lemmas.Bool.{cases_Bool, lt-ltb}
-use Rattle.loop_ir.specs.declared.names.Slot.{Slot}
-use Rattle.loop_ir.specs.Statements.{Slots}
-use Rattle.word_lower.specs.Places.{AreAt}
-use Rattle.word_lower.specs.Shapes.{following}
-use Rattle.word_flow.specs.declared.rows.Rows.{Rows}
-use Rattle.word_flow.specs.Places.{rows_on}
+use Rattle.word_flow.proofs.Common.{if◌then◌else◌, cases_Bool, unwrap_or, following, rows_on, false}
+use Rattle.word_flow.proofs.Common.{length, ⊎_elim, nat_lt, lt-ltb, arith, Slots, AreAt, true, List}
+use Rattle.word_flow.proofs.Common.{refl, Slot, Rows, ◌≡◌, suc, ◌<◌, ◌≤◌, ◌∷◌, sym, ◌∙◌, [], ap, ℕ}
+use Rattle.std.specs.Prelude.{Option}
 
 pub as_many : (slots : Slots) (names : List (List ℕ)) (ss : List Slot) → AreAt slots names ss
     → length names ≡ length ss

@@ -1,22 +1,10 @@
 -- A loop program that is built on a statement's rows does it, with one target or two, and is exact.
-use Rattle.std.proofs.Common.{◌≡◌, ℕ, ◌+◌, ◌<◌, ◌≤◌, true, List, Option, Some, sym, ap, ◌∙◌, subst}
-use Rattle.std.specs.Option.{option_to_list}
-use Rattle.bit_rows.specs.declared.TheConstants.{WIDTH_MAX}
-use Rattle.op_text.specs.declared.word_ops.WordOp.{WordOp}
-use Rattle.op_text.specs.WordOps.{second_kind}
-use Rattle.op_text.specs.Language.{Statement, Compute}
-use Rattle.op_text.specs.Scratch.{words_inside}
-use Rattle.loop_ir.specs.declared.names.Slot.{Slot}
-use Rattle.loop_ir.specs.Plain.{Block, StepOf}
-use Rattle.loop_ir.specs.Loops.{all_rounds}
-use Rattle.loop_ir.specs.Costs.{rounds_cost}
-use Rattle.loop_ir.specs.Statements.{Slots, IsPlaced, ComputeMeets, StatementMeets}
-use Rattle.loop_ir.specs.Lowered.{IsLowered}
-use Rattle.word_lower.specs.Places.{AreAt}
-use Rattle.word_lower.proofs.Statements.{Places, places_of}
-use Rattle.word_flow.specs.declared.rows.Rows.{Rows}
-use Rattle.word_flow.specs.Places.{steps_for, rows_on, IsFlowWritten}
-use Rattle.word_flow.specs.Programs.{is_flow, is_flow_statement, statement_total}
+use Rattle.word_flow.proofs.Common.{is_flow_statement, statement_total, option_to_list, second_kind}
+use Rattle.word_flow.proofs.Common.{StatementMeets, IsFlowWritten, ComputeMeets, words_inside, true}
+use Rattle.word_flow.proofs.Common.{rounds_cost, all_rounds, WIDTH_MAX, Statement, IsLowered, subst}
+use Rattle.word_flow.proofs.Common.{places_of, steps_for, IsPlaced, Compute, rows_on, is_flow, List}
+use Rattle.word_flow.proofs.Common.{Option, WordOp, StepOf, Places, Block, Slots, AreAt, Some, Slot}
+use Rattle.word_flow.proofs.Common.{Rows, ◌≡◌, ◌+◌, ◌<◌, ◌≤◌, sym, ◌∙◌, ap, ℕ}
 use Rattle.word_flow.proofs.Exactly.{IsDone, flow_done, SecondPlace, second_place}
 
 module _ (slots : Slots) (free_bit free_word : ℕ) (s : Statement) (target : List ℕ)

@@ -1,11 +1,7 @@
 -- What a count takes, in closed form.
-use Rattle.std.proofs.Common.{◌≡◌, ℕ, zero, suc, ◌+◌, ◌-◌, ◌*◌, ◌^◌, ◌<◌, Bool}
-use Rattle.std.proofs.Common.{cond, refl, sym, ap, ◌∙◌, subst, arith}
-use Rattle.std.specs.Prelude.{◌==◌, ◌/◌, ◌%◌}
-use Rattle.std.proofs.lemmas.Bool.{ne_eqb}
-use Rattle.std.proofs.lemmas.List.Sums.{sum_by-cons}
-use Rattle.std.proofs.Math.Nat.{pow-suc}
-use Rattle.op_text.specs.Values.{bits, ones_of}
+use Rattle.word_flow.proofs.Common.{◌≡◌, ℕ, zero, suc, ◌+◌, ◌-◌, ◌*◌, ◌^◌, ◌<◌, Bool, cond, refl}
+use Rattle.word_flow.proofs.Common.{sym, ap, ◌∙◌, subst, arith, ◌==◌, ◌/◌, ◌%◌, ne_eqb, sum_by-cons}
+use Rattle.word_flow.proofs.Common.{pow-suc, ones_of, bits}
 use Rattle.word_flow.proofs.Counts.{digits, count_total}
 use Rattle.word_flow.proofs.Counting.{level_cost, levels_cost}
 
@@ -32,10 +28,12 @@ levels_none (suc k) = let h = levels_none k in omega (arith, h)
 filled : (e h : ℕ) → e / 2 ≡ suc h → level_cost e ≡ 6 * suc h + 2
 unfolding level_cost
 filled e h is = ap (λ v. cond (v == 0) (cond (e == 0) 1 0) (6 * v + 2)) is
-    ∙ ap (λ b. cond b (cond (e == 0) 1 0) (6 * suc h + 2)) (ne_eqb (suc h) 0 (λ z. absurd (omega (arith, z))))
+    ∙ ap (λ b. cond b (cond (e == 0) 1 0) (6 * suc h + 2))
+    (ne_eqb (suc h) 0 (λ z. absurd (omega (arith, z))))
 
 digits_more : (k e : ℕ) → digits (suc k) (suc e) ≡ 1 + digits k (suc e / 2)
-digits_more k e = ap (λ b. cond b 0 (1 + digits k (suc e / 2))) (ne_eqb (suc e) 0 (λ z. absurd (omega (arith, z))))
+digits_more k e = ap (λ b. cond b 0 (1 + digits k (suc e / 2)))
+    (ne_eqb (suc e) 0 (λ z. absurd (omega (arith, z))))
 
 digits_none : (k : ℕ) → digits k 0 ≡ 0
 digits_none zero = refl

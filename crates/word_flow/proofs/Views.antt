@@ -1,32 +1,20 @@
 -- What bodies do to rows and cells, by what stands in those of their owners.
-use Rattle.std.proofs.Common.{◌≡◌, ℕ, zero, suc, ◌+◌, ◌<◌, Bool, true, false, cond, List, []}
-use Rattle.std.proofs.Common.{Option}
-use Rattle.std.proofs.Common.{◌∷◌, map, length, refl, sym, ap, ◌∙◌, subst, ⊎_elim, arith}
-use Rattle.std.specs.Prelude.{◌&&◌, ◌||◌, ◌==◌, nat_lt}
-use Rattle.std.proofs.lemmas.Bool.{cases_Bool, and_parts, and_from, eqb-true, eq-eqb}
-use Rattle.bit_rows.specs.Bits.{flip_if}
-use Rattle.mig_graph.specs.declared.Lit.{Lit}
+use Rattle.word_flow.proofs.Common.{owners_apart, placed_body, values_from, owner_cases, cases_Bool}
+use Rattle.word_flow.proofs.Common.{same_owner, writes_fit, RoomsApart, finds_like, coded_body, ◌≡◌}
+use Rattle.word_flow.proofs.Common.{and_parts, sub_value, write_all, turn_cost, left_like, and_from}
+use Rattle.word_flow.proofs.Common.{eqb-true, set_spot, nth_spot, is_state, room_for, is_there, suc}
+use Rattle.word_flow.proofs.Common.{HaveRows, flip_if, spot_in, left_by, BodyCmd, room_at, InCells}
+use Rattle.word_flow.proofs.Common.{IsOwned, IsThere, Option, length, ⊎_elim, nat_lt, eq-eqb, false}
+use Rattle.word_flow.proofs.Common.{values, Source, row_in, Extent, extent, InRoom, Marked, placed}
+use Rattle.word_flow.proofs.Common.{subst, arith, start, Block, Spots, finds, Owner, Coded, zero, ℕ}
+use Rattle.word_flow.proofs.Common.{Bool, true, cond, List, refl, ◌&&◌, ◌||◌, ◌==◌, Spot, Room, ◌+◌}
+use Rattle.word_flow.proofs.Common.{Full, Mark, ◌<◌, ◌∷◌, map, sym, ◌∙◌, Lit, One, [], ap}
 use Rattle.mig_graph.specs.declared.Node.{Node}
 use Rattle.mig_graph.specs.Literals.{lit_value, node_value}
-use Rattle.mig_graph.specs.Graph.{values, values_from, start}
-use Rattle.loop_ir.specs.declared.ir.Space.TheVariants.{Source}
-use Rattle.loop_ir.specs.Plain.{Block}
-use Rattle.loop_ir.specs.Loops.{sub_value}
-use Rattle.loop_ir.specs.Spots.{Spot, Spots, spot_in, set_spot, nth_spot, write_all}
-use Rattle.loop_ir.specs.Spots.{is_state}
-use Rattle.loop_ir.specs.Costs.{turn_cost}
-use Rattle.loop_ir.specs.Chains.{finds, left_by}
-use Rattle.row_alloc.specs.declared.body.BodyCmd.{BodyCmd}
-use Rattle.loop_laws.specs.Rooms.{Room, room_for, room_at, row_in, Extent, One, Full, extent}
-use Rattle.loop_laws.specs.Rooms.{Owner, InRoom, InCells, Mark, Marked, placed, placed_body}
-use Rattle.loop_laws.specs.Rooms.{same_owner, is_there, writes_fit, RoomsApart, IsOwned}
-use Rattle.loop_laws.proofs.Fitting.{IsThere}
-use Rattle.loop_laws.proofs.Alike.{HaveRows, finds_like, left_like}
 use Rattle.loop_laws.proofs.Same.{set_same, set_other}
 use Rattle.loop_laws.proofs.Good.{there_is}
-use Rattle.loop_laws.proofs.EveryRound.{owner_cases, owners_apart}
-use Rattle.word_flow.specs.Coded.{Coded, coded_body}
-use Rattle.word_flow.proofs.FlowBodies.{all_there, AllIn, keeps, kept_is, Works, owner_true, round_is}
+use Rattle.word_flow.proofs.FlowBodies.{all_there, AllIn, keeps, kept_is, Works, owner_true}
+use Rattle.word_flow.proofs.FlowBodies.{round_is}
 use Rattle.word_flow.proofs.FlowOps.{Does}
 use Rattle.word_flow.proofs.Placing.{IsFree}
 
@@ -102,7 +90,8 @@ pub record Step (n : ℕ) (es : List Extent) (known : List Owner) (c : Coded) (g
   pub weighed : sum ≡ more + x c.cmds
 
 pub stepped : {n : ℕ} {es : List Extent} {known : List Owner} {c : Coded} {g : List ℕ}
-    {view after : View} {cost spent more sum : ℕ} {alive left : List ℕ} {x : List BodyCmd → ℕ} → Within n g es c.body.reads
+    {view after : View} {cost spent more sum : ℕ} {alive left : List ℕ} {x : List BodyCmd → ℕ}
+    → Within n g es c.body.reads
     → Within n g es c.body.writes → (states : List ℕ) → alive ≡ states
     → finds states (placed_body [] c.body) ≡ true → left ≡ left_by (placed_body [] c.body)
     → ((d : Bool) → shown es known (after_body n g d c.body view) ≡ shown es known after)

@@ -86,6 +86,19 @@ macro_rules! loads_next {
     };
 }
 
+// elements of the lowest level, and of those above it
+const LOADS_THREE_BITS: CodedBody = loads_three!(FIRST);
+
+const LOADS_TWO_BITS: CodedBody = loads_two!(FIRST);
+
+const LOADS_NEXT_BITS: CodedBody = loads_next!(FIRST);
+
+const LOADS_THREE: CodedBody = loads_three!(TARGET);
+
+const LOADS_TWO: CodedBody = loads_two!(TARGET);
+
+const LOADS_NEXT: CodedBody = loads_next!(TARGET);
+
 // they are added: the carry goes into the target, and the sum stays in cells
 const ADDS: CodedBody = CodedBody {
     reads: SUMMANDS,
@@ -134,11 +147,11 @@ pub const BITCOUNT: [Line; 88] = [
     If(3),
     Put(Mov(3, 4)),
     Put(AddI(3, 1)),
-    Do(loads_three!(FIRST)),
+    Do(LOADS_THREE_BITS),
     Put(AddI(3, 2)),
     Put(AddI(4, 2)),
     Done,
-    Do(loads_two!(FIRST)),
+    Do(LOADS_TWO_BITS),
     Put(AddI(4, 1)),
     Put(Mov(3, 4)),
     Put(AddI(3, 1)),
@@ -147,7 +160,7 @@ pub const BITCOUNT: [Line; 88] = [
     Do(ADDS),
     Put(AddI(5, 1)),
     If(2),
-    Do(loads_next!(FIRST)),
+    Do(LOADS_NEXT_BITS),
     Put(AddI(4, 2)),
     Put(AddI(3, 2)),
     Done,
@@ -179,11 +192,11 @@ pub const BITCOUNT: [Line; 88] = [
     If(3),
     Put(Mov(3, 4)),
     Put(AddI(3, 1)),
-    Do(loads_three!(TARGET)),
+    Do(LOADS_THREE),
     Put(AddI(3, 2)),
     Put(AddI(4, 2)),
     Done,
-    Do(loads_two!(TARGET)),
+    Do(LOADS_TWO),
     Put(AddI(4, 1)),
     Put(Mov(3, 4)),
     Put(AddI(3, 1)),
@@ -192,7 +205,7 @@ pub const BITCOUNT: [Line; 88] = [
     Do(ADDS),
     Put(AddI(5, 1)),
     If(2),
-    Do(loads_next!(TARGET)),
+    Do(LOADS_NEXT),
     Put(AddI(4, 2)),
     Put(AddI(3, 2)),
     Done,

@@ -156,9 +156,30 @@ macro_rules! takes {
     };
 }
 
+// the bodies where each bit of the quotient has a row, and where one row has them in turn
+const BIT: Mark = row!(QUOTIENT, 0);
+
+const COMPARES_FIRST: CodedBody = compares_first!(BIT);
+
+const COMPARES: CodedBody = compares!(BIT);
+
+const LOOKS_ABOVE: CodedBody = looks_above!(BIT);
+
+const TAKES: CodedBody = takes!(BIT);
+
+const BIT_ALONE: Mark = lowest!(QUOTIENT);
+
+const COMPARES_FIRST_ALONE: CodedBody = compares_first!(BIT_ALONE);
+
+const COMPARES_ALONE: CodedBody = compares!(BIT_ALONE);
+
+const LOOKS_ABOVE_ALONE: CodedBody = looks_above!(BIT_ALONE);
+
+const TAKES_ALONE: CodedBody = takes!(BIT_ALONE);
+
 // a division whose remainder is wanted
 macro_rules! division {
-    ($quotient:expr) => {
+    ($compares_first:expr, $compares:expr, $looks_above:expr, $takes:expr) => {
         [
             // whether a bit of the divisor from a position on is set
             Put(SetT(0)),
@@ -176,19 +197,19 @@ macro_rules! division {
             Put(SetN(0)),
             Put(SetI(1, 1)),
             Loop(0),
-            Do(compares_first!($quotient)),
+            Do($compares_first),
             Put(Mov(2, 1)),
             Put(SubI(2, 1)),
             Put(SetI(3, 1)),
             Put(Mov(4, 0)),
             Put(AddI(4, 1)),
             Loop(2),
-            Do(compares!($quotient)),
+            Do($compares),
             Put(AddI(3, 1)),
             Put(AddI(4, 1)),
             Done,
             If(0),
-            Do(looks_above!($quotient)),
+            Do($looks_above),
             Done,
             Do(KEEPS),
             Done,
@@ -199,7 +220,7 @@ macro_rules! division {
             Put(Mov(4, 0)),
             Put(AddI(4, 1)),
             Loop(2),
-            Do(takes!($quotient)),
+            Do($takes),
             Put(AddI(3, 1)),
             Put(AddI(4, 1)),
             Done,
@@ -211,13 +232,15 @@ macro_rules! division {
 }
 
 /// Of `rem`: one row has the bits of the quotient in turn.
-pub const REM: [Line; 44] = division!(lowest!(QUOTIENT));
+pub const REM: [Line; 44] = division!(
+    COMPARES_FIRST_ALONE,
+    COMPARES_ALONE,
+    LOOKS_ABOVE_ALONE,
+    TAKES_ALONE
+);
 
 /// Of `divmod`.
-pub const DIVMOD: [Line; 44] = division!(row!(QUOTIENT, 0));
-
-// the row of the quotient's bit, where the quotient is wanted
-const BIT: Mark = row!(QUOTIENT, 0);
+pub const DIVMOD: [Line; 44] = division!(COMPARES_FIRST, COMPARES, LOOKS_ABOVE, TAKES);
 
 /// Of `div`: its last step takes nothing away.
 pub const DIV: [Line; 43] = [
@@ -237,19 +260,19 @@ pub const DIV: [Line; 43] = [
     Put(SetN(0)),
     Put(SetI(1, 1)),
     Loop(0),
-    Do(compares_first!(BIT)),
+    Do(COMPARES_FIRST),
     Put(Mov(2, 1)),
     Put(SubI(2, 1)),
     Put(SetI(3, 1)),
     Put(Mov(4, 0)),
     Put(AddI(4, 1)),
     Loop(2),
-    Do(compares!(BIT)),
+    Do(COMPARES),
     Put(AddI(3, 1)),
     Put(AddI(4, 1)),
     Done,
     If(0),
-    Do(looks_above!(BIT)),
+    Do(LOOKS_ABOVE),
     Do(TAKES_FIRST),
     Put(Mov(2, 1)),
     Put(SubI(2, 1)),
@@ -257,7 +280,7 @@ pub const DIV: [Line; 43] = [
     Put(Mov(4, 0)),
     Put(AddI(4, 1)),
     Loop(2),
-    Do(takes!(BIT)),
+    Do(TAKES),
     Put(AddI(3, 1)),
     Put(AddI(4, 1)),
     Done,

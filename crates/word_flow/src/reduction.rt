@@ -59,6 +59,10 @@ macro_rules! joins_one {
     };
 }
 
+const JOINS_AND: CodedBody = joins_one!(OFF, 0);
+
+const JOINS_OR: CodedBody = joins_one!(ON, 1);
+
 // the second, and the third, or the third where none comes after it
 const JOINS_TWO: CodedBody = CodedBody {
     reads: four!(row!(FIRST, 1), IN_T2, IN_T3, IN_DCC1),
@@ -85,14 +89,14 @@ const ENDS: CodedBody = CodedBody {
 };
 
 macro_rules! reduction {
-    ($constant:expr, $row:expr) => {
+    ($joins_one:expr) => {
         [
             Put(SetT(0)),
             Put(SetI(1, 1)),
             If(0),
             Do(BEGINS),
             LoopThree(0),
-            Do(joins_one!($constant, $row)),
+            Do($joins_one),
             Put(AddI(1, 1)),
             Done,
             Do(JOINS_TWO),
@@ -114,7 +118,7 @@ macro_rules! reduction {
 }
 
 /// Of `and_red`.
-pub const AND_RED: [Line; 22] = reduction!(OFF, 0);
+pub const AND_RED: [Line; 22] = reduction!(JOINS_AND);
 
 /// Of `or_red`.
-pub const OR_RED: [Line; 22] = reduction!(ON, 1);
+pub const OR_RED: [Line; 22] = reduction!(JOINS_OR);

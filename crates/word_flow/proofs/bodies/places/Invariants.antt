@@ -1,7 +1,4 @@
-use Rattle.std.proofs.Common.{◌≡◌, map, take}
-use Rattle.word_lower.specs.Places.{place_on}
-use Rattle.word_flow.specs.Plans.{mark_of}
-use Rattle.word_flow.specs.Bodies.{slot_at}
+use Rattle.word_flow.proofs.Common.{◌≡◌, map, take, place_on, mark_of, slot_at}
 use Rattle.word_flow.proofs.bodies.places.Given as goal
 
 -- the places so far

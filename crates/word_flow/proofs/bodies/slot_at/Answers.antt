@@ -1,5 +1,4 @@
-use Rattle.std.proofs.Common.{ap, ◌∙◌}
-use Rattle.word_flow.specs.Bodies.{slot_at}
+use Rattle.word_flow.proofs.Common.{ap, ◌∙◌, slot_at}
 use Rattle.word_flow.proofs.Listed.{slot_is, slot_none}
 use Rattle.word_flow.proofs.bodies.slot_at.Goals as goal
 

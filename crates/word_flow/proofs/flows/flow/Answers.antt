@@ -1,4 +1,4 @@
-use Rattle.std.proofs.Common.{◌-◌, arith}
+use Rattle.word_flow.proofs.Common.{◌-◌, arith}
 use Rattle.word_flow.proofs.Built.{flows_more, line_at}
 use Rattle.word_flow.proofs.flows.flow.Goals as goal
 

@@ -1,7 +1,5 @@
-use Rattle.std.proofs.Common.{◌≡◌, ◌≤◌, map, drop, reverse, length}
-use Rattle.loop_ir.specs.Plain.{flow_of}
-use Rattle.word_flow.specs.Plans.{flows_on}
-use Rattle.word_flow.specs.Bodies.{coded_on}
+use Rattle.word_flow.proofs.Common.{◌≡◌, ◌≤◌, map, drop, reverse, length, flow_of, flows_on}
+use Rattle.word_flow.proofs.Common.{coded_on}
 use Rattle.word_flow.proofs.flows.flow.Given as goal
 
 -- the flows of the lines from one on

@@ -1,5 +1,4 @@
-use Rattle.loop_ir.specs.Statements.{slots_of}
-use Rattle.word_lower.specs.Shapes.{following}
+use Rattle.word_flow.proofs.Common.{slots_of, following}
 use Rattle.word_lower.proofs.Owners.{owner_is}
 use Rattle.word_flow.proofs.lower.argument.Goals as goal
 

@@ -1,8 +1,4 @@
-use Rattle.std.proofs.Common.{sym, ap, subst}
-use Rattle.op_text.specs.Language.{statement}
-use Rattle.loop_ir.specs.Plain.{steps_of}
-use Rattle.loop_ir.specs.Statements.{slots_of}
-use Rattle.word_lower.specs.Places.{AreAt}
+use Rattle.word_flow.proofs.Common.{sym, ap, subst, statement, steps_of, slots_of, AreAt}
 use Rattle.word_flow.proofs.Statements.{has_words, statement_lowered, statement_exact}
 use Rattle.word_flow.proofs.Statements.{statement_written}
 use Rattle.word_flow.proofs.lower.lower_flow.Goals as goal

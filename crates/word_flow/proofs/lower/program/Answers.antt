@@ -1,8 +1,5 @@
-use Rattle.std.proofs.Common.{◌∙◌, ◌∷◌, [], ap}
-use Rattle.loop_ir.specs.Plain.StepOf.{Flowed}
-use Rattle.word_flow.specs.Plans.{first_of, flows_on}
-use Rattle.word_flow.specs.Programs.{lines_for}
-use Rattle.word_flow.specs.Bodies.{coded_on}
+use Rattle.word_flow.proofs.Common.{◌∙◌, ◌∷◌, [], ap, Flowed, first_of, flows_on, lines_for}
+use Rattle.word_flow.proofs.Common.{coded_on}
 use Rattle.word_flow.proofs.Placed.{placed}
 use Rattle.word_flow.proofs.lower.program.Goals as goal
 

@@ -1,9 +1,7 @@
-use Rattle.std.proofs.Common.{◌≡◌, length, arith}
-use Rattle.std.specs.Prelude.{nat_lt, if◌then◌else◌}
-use Rattle.loop_ir.specs.Statements.{slots_of}
+use Rattle.word_flow.proofs.Common.{◌≡◌, length, arith, nat_lt, if◌then◌else◌, slots_of}
 use Rattle.word_flow.proofs.Sides.{as_many, second_one, second_none, rows_are}
-use Rattle.word_flow.proofs.lower.rows.Goals as goal
 use Rattle.word_flow.proofs.lower.rows.Goals.{then-args-gt1, else-args-gt1}
+use Rattle.word_flow.proofs.lower.rows.Goals as goal
 
 pub returns : goal.returns
 returns c = λ t u ss found near at.
