@@ -141,11 +141,12 @@ abbrev pub inner_cost : InnerOf Block → ℕ
 inner_cost (Alone b) = body_cost b + 15
 inner_cost (Across count b) = body_cost b + 18
 
--- how many instructions a step may take: one for each register that gets 0 before a flow
+-- how many instructions a step may take: eight for an outer loop, and one for each register that
+-- gets 0 before a flow
 abbrev pub step_cost : StepOf Block → ℕ
 step_cost (Single b) = single_cost b
 step_cost (Along b) = body_cost b + 15
-step_cost (Nest parts) = sum_by inner_cost parts
+step_cost (Nest parts) = 8 + sum_by inner_cost parts
 step_cost (Flowed f) = length (cleared f) + flow_size body_cost f
 
 -- how many instructions a loop program may take, its end aside

@@ -2,7 +2,7 @@
 use Rattle.std.specs.Prelude.{ℕ, zero, suc, ◌+◌, ◌==◌, ◌&&◌, nat_lt, nat_le, Bool, true, false, not}
 use Rattle.std.specs.Prelude.{◌||◌, List, [], ◌∷◌, filter, slice_index}
 use Rattle.loop_ir.specs.declared.ir.Move.{Move}
-use Rattle.loop_ir.specs.declared.ir.Move.TheVariants.{SetI, SetN, SetT, Mov, AddI, SubI}
+use Rattle.loop_ir.specs.declared.ir.Move.TheVariants.{SetI, SetN, SetT, Mov, AddI, SubI, Add}
 use Rattle.std.specs.List.{list_all, range_with_len}
 use Rattle.bit_rows.specs.declared.TheConstants.{WIDTH_MAX}
 use Rattle.loop_ir.specs.Flows.{FlowOf, TurnsOf, EventOf, run, zeros}
@@ -18,6 +18,7 @@ target (SetT r) = r
 target (Mov r s) = r
 target (AddI r k) = r
 target (SubI r k) = r
+target (Add r s) = r
 
 -- its registers are below 7, and its number is one that a register can hold
 abbrev pub is_low : Move → Bool
@@ -27,6 +28,7 @@ is_low (SetT r) = nat_lt r 7
 is_low (Mov r s) = nat_lt r 7 && nat_lt s 7
 is_low (AddI r k) = nat_lt r 7 && nat_le k 1023
 is_low (SubI r k) = nat_lt r 7 && nat_le k 1023
+is_low (Add r s) = nat_lt r 7 && nat_lt s 7
 
 -- the register is one that a move sets or reads
 abbrev pub is_moved : ℕ → Move → Bool
@@ -36,6 +38,7 @@ is_moved r (SetT s) = s == r
 is_moved r (Mov s t) = s == r || t == r
 is_moved r (AddI s k) = s == r
 is_moved r (SubI s k) = s == r
+is_moved r (Add s t) = s == r || t == r
 
 abbrev mutual
   -- the register stands in some form of the flow, the places of its bodies aside
@@ -102,6 +105,7 @@ is_safe (SetT r) g = true
 is_safe (Mov r s) g = true
 is_safe (AddI r k) g = nat_le (slice_index g r + k) 1023
 is_safe (SubI r k) g = nat_le k (slice_index g r)
+is_safe (Add r s) g = nat_le (slice_index g r + slice_index g s) 1023
 
 -- whether a move is safe, and a loop has at most n iterations
 abbrev pub is_event_safe : {A : Type 0} → ℕ → EventOf A → Bool

@@ -2,7 +2,7 @@
 use Rattle.std.specs.Prelude.{ℕ, zero, suc, ◌+◌, ◌-◌, ◌==◌, if◌then◌else◌, List, [], ◌∷◌, ◌++◌}
 use Rattle.std.specs.Prelude.{slice_index, slice_set, ◌&&◌, Bool, true}
 use Rattle.loop_ir.specs.declared.ir.Move.{Move}
-use Rattle.loop_ir.specs.declared.ir.Move.TheVariants.{SetI, SetN, SetT, Mov, AddI, SubI}
+use Rattle.loop_ir.specs.declared.ir.Move.TheVariants.{SetI, SetN, SetT, Mov, AddI, SubI, Add}
 
 mutual
   -- one after another: a body, a move, a choice by whether a register is not 0, and a loop whose
@@ -43,6 +43,7 @@ moved n (SetT r) g = slice_set g r (n - 1)
 moved n (Mov r s) g = slice_set g r (slice_index g s)
 moved n (AddI r k) g = slice_set g r (slice_index g r + k)
 moved n (SubI r k) g = slice_set g r (slice_index g r - k)
+moved n (Add r s) g = slice_set g r (slice_index g r + slice_index g s)
 
 -- a run without events
 abbrev pub nothing : {A : Type 0} → List ℕ → RunOf A

@@ -117,6 +117,8 @@ pub enum Move {
     AddI(u8, u16),
     /// So much less.
     SubI(u8, u16),
+    /// What the second register holds more.
+    Add(u8, u8),
 }
 
 /// Bodies, moves, choices and loops, one after another: the last flow of each form is what follows.

@@ -4,7 +4,7 @@ use Rattle.std.proofs.Common.{◌≡◌, ℕ, ◌+◌, ◌≤◌, true, List, re
 use Rattle.std.specs.Prelude.{slice_index}
 use Rattle.std.proofs.lemmas.Bool.{le-leb}
 use Rattle.loop_ir.specs.declared.ir.Move.{Move}
-use Rattle.loop_ir.specs.declared.ir.Move.TheVariants.{SetI, SetN, SetT, Mov, AddI, SubI}
+use Rattle.loop_ir.specs.declared.ir.Move.TheVariants.{SetI, SetN, SetT, Mov, AddI, SubI, Add}
 use Rattle.loop_ir.specs.Flows.{EventOf}
 use Rattle.loop_ir.specs.Flows.EventOf.{Done, Moved, Counted}
 use Rattle.loop_ir.specs.FlowTests.{is_safe}
@@ -17,10 +17,12 @@ IsSafe (SetT r) g = Unit {0}
 IsSafe (Mov r s) g = Unit {0}
 IsSafe (AddI r k) g = slice_index g r + k ≤ 1023
 IsSafe (SubI r k) g = k ≤ slice_index g r
+IsSafe (Add r s) g = slice_index g r + slice_index g s ≤ 1023
 
 pub safe_is : (m : Move) (g : List ℕ) → IsSafe m g → is_safe m g ≡ true
 safe_is (AddI r k) g h = le-leb (slice_index g r + k) 1023 h
 safe_is (SubI r k) g h = le-leb k (slice_index g r) h
+safe_is (Add r s) g h = le-leb (slice_index g r + slice_index g s) 1023 h
 safe_is m g h = refl
 
 module _ (A S : Type 0) (n : ℕ) (InRange : A → List ℕ → S → Type 0) where

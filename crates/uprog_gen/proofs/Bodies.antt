@@ -1,5 +1,4 @@
 -- The registers, rows and commands of a body.
-pub mod Planned
 pub mod Fixed
 pub mod Held
 pub mod Outs

@@ -1,10 +1,6 @@
 -- The code as it is emitted: its pieces, their sizes, and that it is legal.
 pub mod FlowMaps
 pub mod FlowSizes
-pub mod Sizes
 pub mod Emitted
-pub mod FlowEmitted
-pub mod Pieces
-pub mod FlowLegal
 pub mod Legal
 pub mod Joined

@@ -3,6 +3,7 @@ pub mod Issued
 pub mod Rounds
 pub mod Alive
 pub mod Chained
+pub mod Like
 pub mod States
 pub mod Named
 pub mod Ranges

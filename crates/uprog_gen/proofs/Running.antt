@@ -1,8 +1,6 @@
 -- How the code of loop programs runs, from one place to the next.
 pub mod Goes
 pub mod Runs
-pub mod Each
-pub mod Nest
 pub mod Held
 pub mod Flowed
 pub mod FlowStep

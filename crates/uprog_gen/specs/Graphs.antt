@@ -14,8 +14,7 @@ use Rattle.mig_graph.specs.Outputs.{lit_at, AreNamed}
 use Rattle.mig_graph.specs.Reduced.{IsReduced}
 use Rattle.uprog_code.specs.Machine.{trace, issues_of}
 use Rattle.uprog_code.specs.Shape.{Microprogram}
-use Rattle.loop_ir.specs.Plain.{Block as Body, StepOf}
-use Rattle.loop_ir.specs.Plain.StepOf.{Single, Along, Nest, Flowed}
+use Rattle.loop_ir.specs.Plain.{Block as Body}
 use Rattle.loop_ir.specs.Flows.{FlowOf, TurnsOf}
 use Rattle.loop_ir.specs.Flows.FlowOf.{End, Do, Put, If, Loop}
 use Rattle.loop_ir.specs.Flows.TurnsOf.{Last, Turn}
@@ -115,25 +114,13 @@ abbrev mutual
   acts_graph (Last x) = flow_graph x
   acts_graph (Turn x ts) = later (flow_graph x) (acts_graph ts)
 
--- the graph that a step does at each position, if it does one: a flow does that of its last body
-abbrev pub step_graph : StepOf Body → List Graphed
-step_graph (Single b) = []
-step_graph (Along b) = body_graph b ∷ []
-step_graph (Nest parts) = []
-step_graph (Flowed f) = flow_graph f
-
--- the graph of the last of the steps that does one at each position
-abbrev pub last_graph : List (StepOf Body) → List Graphed
-last_graph [] = []
-last_graph (s ∷ ss) = later (step_graph s) (last_graph ss)
-
--- that of a serial block's loop program, and none of a word statement's
-abbrev pub statement_graph : Statement → List (StepOf Body) → List Graphed
-statement_graph (Compute target second p args) q = []
-statement_graph (Visit b) q = last_graph q
+-- that of a serial block's flow, and none of a word statement's
+abbrev pub statement_graph : Statement → FlowOf Body → List Graphed
+statement_graph (Compute target second p args) f = []
+statement_graph (Visit b) f = flow_graph f
 
 -- the graphs of all blocks of a body
-abbrev pub graphs_in : List Statement → List (List (StepOf Body)) → List Graphed
-graphs_in [] ps = []
+abbrev pub graphs_in : List Statement → List (FlowOf Body) → List Graphed
+graphs_in [] fs = []
 graphs_in (s ∷ body) [] = []
-graphs_in (s ∷ body) (q ∷ ps) = statement_graph s q ++ graphs_in body ps
+graphs_in (s ∷ body) (f ∷ fs) = statement_graph s f ++ graphs_in body fs

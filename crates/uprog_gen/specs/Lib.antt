@@ -14,3 +14,4 @@ pub mod Costs
 pub mod Graphs
 pub mod Totals
 pub mod Settled
+pub mod Entries

@@ -13,7 +13,6 @@ use Rattle.uprog_gen.specs.Code.{Part}
 abbrev pub part_of : Block → Made → Part
 part_of b made = record {
   block = b;
-  plan = made.plan;
   outs = made.outs.items;
   cmds = made.cmds.items;
 }

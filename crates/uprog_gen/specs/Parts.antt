@@ -11,7 +11,7 @@ use Rattle.loop_ir.specs.Outputs.{IsOuts}
 use Rattle.loop_ir.specs.WellFormed.{IsWellFormed}
 use Rattle.loop_ir.specs.States.{StatesFit, has_states, held_of, row_count, enters, leaves}
 use Rattle.loop_ir.specs.Costs.{body_cost, carries, turn_cost, is_copy}
-use Rattle.uprog_gen.specs.Code.{Part, IsPlanned}
+use Rattle.uprog_gen.specs.Code.{Part}
 
 -- a part whose commands do its body, from the states that it reads to those that it writes: one
 -- that carries commands takes those; of the rest one with states takes its own sequence, a copy one
@@ -19,7 +19,6 @@ use Rattle.uprog_gen.specs.Code.{Part, IsPlanned}
 pub record IsPart (p : Part) : Type 0 where
   pub well : IsWellFormed p.block
   pub graph : IsGraph p.block.graph.inputs p.block.graph.nodes
-  pub planned : IsPlanned p.plan p.block
   pub states : StatesFit p.block
   pub outs : IsOuts p.block (row_count p.block.writes) p.outs
   pub does : DoesHeld p.block.graph p.outs (enters 0 p.block.reads)

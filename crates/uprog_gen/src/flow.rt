@@ -2,20 +2,16 @@
 
 ghost use Rattle.std.specs.Prelude.{◌≡◌, ◌<◌, ◌≤◌, ◌+◌, ◌^◌, ◌++◌, ◌∷◌, [], length, OnOk};
 ghost use Rattle.loop_ir.specs.Plain.{block_of, flow_of, acts_of};
-ghost use Rattle.loop_ir.specs.Plain.StepOf.{Flowed as FlowedOf};
 ghost use Rattle.loop_ir.specs.Flows.{flow_size, acts_size, AllFlow, AllActs};
-ghost use Rattle.loop_ir.specs.FlowTests.{is_moved, names, any_names};
 ghost use Rattle.loop_ir.specs.Costs.{body_cost};
 ghost use Rattle.loop_ir.specs.Limits.{IsSmall};
 ghost use Rattle.uprog_gen.specs.FlowCode.{uop_of, leave};
-ghost use Rattle.uprog_gen.specs.Code.{clear_code};
-ghost use Rattle.uprog_gen.specs.Emits.{EmitsBody, EmitsFlow, EmitsActs, EmitsSteps};
+ghost use Rattle.uprog_gen.specs.Emits.{EmitsBody, EmitsFlow, EmitsActs};
 
 use crate::emit::push_commands;
 use crate::part::make_part;
-use crate::plan::Plan;
 use faults::keep;
-use loop_ir::{Body, Flow, Move, Sub, Turns};
+use loop_ir::{Body, Flow, Move, Turns};
 use mig_graph::NoMemory;
 use std::alloc::Global;
 use uprog_code::Uop;
@@ -31,16 +27,9 @@ fn uop_of(m: Move) -> Uop
         Move::Mov(r, s) => Uop::Mov(r, s),
         Move::AddI(r, k) => Uop::AddI(r, k),
         Move::SubI(r, k) => Uop::SubI(r, k),
+        Move::Add(r, s) => Uop::Add(r, s),
     }
 }
-
-/// The subscripts of a flow's bodies name their registers.
-const FLOW_PLAN: Plan = Plan {
-    first: Sub::Zero,
-    second: Sub::Zero,
-    third: Sub::Zero,
-    named: true,
-};
 
 /// A jump, by register 7.
 fn push_leave(code: &mut Vec<Uop>, to: u16) -> Result<(), NoMemory>
@@ -50,19 +39,19 @@ fn push_leave(code: &mut Vec<Uop>, to: u16) -> Result<(), NoMemory>
     keep(code, Uop::Bnez(7, to))
 }
 
-/// The commands of a body of a flow.
+/// The commands of a body.
 fn push_done(code: &mut Vec<Uop>, body: &Body, alloc: Global) -> Result<(), NoMemory>
     requires { IsSmall (block_of body.now) }
     ensures { OnOk result (EmitsBody (block_of body.now) code.old.items code.new.items) }
 {
     let made = make_part(body, alloc)?;
-    push_commands(code, FLOW_PLAN, body, &made)?;
+    push_commands(code, body, &made)?;
     Ok(())
 }
 
 /// The code of a flow. The jumps past a branch or a loop get their targets when it stands.
 #[cycle(flows)]
-fn emit_flow(flow: &Flow, code: &mut Vec<Uop>, alloc: Global) -> Result<(), NoMemory>
+pub fn emit_flow(flow: &Flow, code: &mut Vec<Uop>, alloc: Global) -> Result<(), NoMemory>
     requires small { AllFlow IsSmall (flow_of flow.now) }
     requires room { length code.old.items + flow_size body_cost (flow_of flow.now) + 8 < 2 ^ 16 }
     ensures emits { OnOk result (EmitsFlow (flow_of flow.now) code.old.items code.new.items) }
@@ -136,66 +125,4 @@ fn emit_acts(
             emit_acts(more, r, top, out, code, alloc)
         }
     }
-}
-
-/// Whether the move sets or reads the register.
-fn is_moved(r: u8, m: Move) -> bool
-    ensures { result ≡ is_moved r m }
-{
-    match m {
-        Move::SetI(s, _) | Move::AddI(s, _) | Move::SubI(s, _) => s == r,
-        Move::SetN(s) | Move::SetT(s) => s == r,
-        Move::Mov(s, t) => s == r || t == r,
-    }
-}
-
-/// Whether the register stands in some form of the flow.
-#[cycle(names)]
-fn names(r: u8, flow: &Flow) -> bool
-    ensures { result ≡ names r (flow_of flow.now) }
-{
-    match flow {
-        Flow::End => false,
-        Flow::Do(_, next) => names(r, next),
-        Flow::Put(m, next) => is_moved(r, *m) || names(r, next),
-        Flow::If(s, some, none, next) => {
-            *s == r || (names(r, some) || (names(r, none) || names(r, next)))
-        }
-        Flow::Loop(s, turns, next) => *s == r || (any_names(r, turns) || names(r, next)),
-    }
-}
-
-/// Whether it stands in some form of what a loop does.
-#[cycle(names)]
-fn any_names(r: u8, turns: &Turns) -> bool
-    ensures { result ≡ any_names r (acts_of turns.now) }
-{
-    match turns {
-        Turns::Last(flow) => names(r, flow),
-        Turns::Turn(flow, more) => names(r, flow) || any_names(r, more),
-    }
-}
-
-/// Before a flow the registers that its forms name get 0.
-fn push_clear(flow: &Flow, code: &mut Vec<Uop>) -> Result<(), NoMemory>
-    ensures { OnOk result (code.new.items ≡ code.old.items ++ clear_code (flow_of flow.now)) }
-{
-    for r in 0..7 {
-        if names(r, flow) {
-            keep(code, Uop::SetI(r, 0))?;
-        }
-    }
-    Ok(())
-}
-
-/// The code of a step that is a flow.
-pub fn emit_flowed(flow: &Flow, code: &mut Vec<Uop>, alloc: Global) -> Result<(), NoMemory>
-    requires small { AllFlow IsSmall (flow_of flow.now) }
-    requires room { length code.old.items + flow_size body_cost (flow_of flow.now) + 32 < 2 ^ 16 }
-    ensures { OnOk result (EmitsSteps (FlowedOf (flow_of flow.now) ∷ []) code.old.items
-        code.new.items) }
-{
-    push_clear(flow, code)?;
-    emit_flow(flow, code, alloc)?;
-    Ok(())
 }

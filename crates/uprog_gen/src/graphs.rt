@@ -2,13 +2,13 @@
 
 ghost use Rattle.std.specs.Prelude.{◌≡◌, ◌++◌, ◌∷◌, [], map, option_to_list, OnOk};
 ghost use Rattle.op_text.specs.Language.{statement, operation};
-ghost use Rattle.loop_ir.specs.Plain.{flow_of, acts_of, step_of, steps_of};
-ghost use Rattle.uprog_gen.specs.Graphs.{graphed_of, later, flow_graph, acts_graph, step_graph};
-ghost use Rattle.uprog_gen.specs.Graphs.{last_graph, statement_graph, graphs_in};
+ghost use Rattle.loop_ir.specs.Plain.{flow_of, acts_of};
+ghost use Rattle.uprog_gen.specs.Graphs.{graphed_of, later, flow_graph, acts_graph};
+ghost use Rattle.uprog_gen.specs.Graphs.{statement_graph, graphs_in};
 
 use crate::ops::Lowered;
 use faults::keep;
-use loop_ir::{Flow, LoopProgram, Step, Turns};
+use loop_ir::{Flow, Turns};
 use mig_graph::{MigOuts, NoMemory};
 use op_text::{Op, Stmt};
 
@@ -58,53 +58,28 @@ fn acts_graph(turns: Turns) -> Option<MigOuts>
     }
 }
 
-/// The graph that a step does at each position, if it does one.
-fn step_graph(step: Step) -> Option<MigOuts>
-    ensures { map graphed_of (option_to_list result) ≡ step_graph (step_of step) }
-{
-    match step {
-        Step::Each(body) => Some(body.into_graph()),
-        Step::Flow(flow) => flow_graph(flow),
-        Step::Once(_) | Step::Nest(_) => None,
-    }
-}
-
-/// The graph of the last of the steps that does one at each position.
-fn last_graph(mut steps: Vec<Step>) -> Option<MigOuts>
-    ensures { map graphed_of (option_to_list result) ≡ last_graph (map step_of steps.items) }
-{
-    match steps.pop() {
-        None => None,
-        Some(step) => match step_graph(step) {
-            None => last_graph(steps),
-            Some(graph) => Some(graph),
-        },
-    }
-}
-
 /// The graph of a statement that is a serial block.
-fn take_statement(s: &Stmt, program: LoopProgram, graphs: &mut Vec<MigOuts>) -> Result<(), NoMemory>
+fn take_statement(s: &Stmt, flow: Flow, graphs: &mut Vec<MigOuts>) -> Result<(), NoMemory>
     ensures { OnOk result (map graphed_of graphs.new.items ≡ map graphed_of graphs.old.items
-        ++ statement_graph (statement s.now) (steps_of program)) }
+        ++ statement_graph (statement s.now) (flow_of flow)) }
 {
-    let LoopProgram { steps } = program;
     match s {
         Stmt::Word { .. } => Ok(()),
-        Stmt::Serial { .. } => match last_graph(steps) {
+        Stmt::Serial { .. } => match flow_graph(flow) {
             None => Ok(()),
             Some(graph) => keep(graphs, graph),
         },
     }
 }
 
-/// The graphs of an operation's serial blocks, in the order of the text, out of the loop programs
-/// of its statements.
+/// The graphs of an operation's serial blocks, in the order of the text, out of the flows of its
+/// statements.
 pub fn take_graphs(op: &Op, lowered: Lowered, graphs: &mut Vec<MigOuts>) -> Result<(), NoMemory>
     ensures { OnOk result (map graphed_of graphs.new.items ≡ map graphed_of graphs.old.items
-        ++ graphs_in (operation op.now).body (map steps_of lowered.programs.items)) }
+        ++ graphs_in (operation op.now).body (map flow_of lowered.flows.items)) }
 {
-    for (s, program) in op.body.iter().zip(lowered.programs) {
-        take_statement(s, program, graphs)?;
+    for (s, flow) in op.body.iter().zip(lowered.flows) {
+        take_statement(s, flow, graphs)?;
     }
     Ok(())
 }

@@ -10,12 +10,10 @@ mod layout;
 mod lowering;
 mod ops;
 mod part;
-mod plan;
 mod states;
-mod steps;
 
 pub use entry::compile_entry;
 pub use layout::lay_out;
 pub use lowering::lower;
-pub use ops::{Compiled, Lowered, compile_lowered, compile_ops};
+pub use ops::{Compiled, Lowered, compile_ops};
 pub use uprog_code::EntryCode;

@@ -1,19 +1,21 @@
-//! The loop programs of operations.
+//! The flows of operations.
 
 ghost use Rattle.std.specs.Prelude.{◌≡◌, ◌++◌, ◌∷◌, [], map, OnOk, IfOk};
 ghost use Rattle.op_text.specs.Language.{statement, operation};
 ghost use Rattle.op_rules.specs.Meets.{OperationMeets};
-ghost use Rattle.loop_ir.specs.Plain.{steps_of};
+ghost use Rattle.loop_ir.specs.Plain.{steps_of, flow_of};
 ghost use Rattle.loop_ir.specs.Statements.{slots_of, StatementMeets, IsPlaced};
 ghost use Rattle.loop_ir.specs.Lowered.{IsLowered};
 ghost use Rattle.uprog_gen.specs.Layout.{IsLayoutMap};
 ghost use Rattle.word_lower.specs.Forms.{HasForm};
 ghost use Rattle.word_flow.specs.Programs.{is_flow_statement};
-ghost use Rattle.uprog_gen.specs.Programs.{AreLowered, HaveForms, IsAsWritten, AreWritten};
+ghost use Rattle.uprog_gen.specs.Programs.{IsAsWritten};
+ghost use Rattle.uprog_gen.specs.Entries.{AreFronts};
 
 use crate::layout::lay_out;
 use crate::ops::Lowered;
 use faults::keep;
+use loop_front::front;
 use loop_ir::{LoopProgram, NameMap};
 use mig_graph::NoMemory;
 use op_text::{Op, Stmt, WordOp};
@@ -54,23 +56,19 @@ fn lower_statement(s: &Stmt, names: &NameMap, alloc: Global) -> Result<LoopProgr
     }
 }
 
-/// The places of an operation's names, and the loop programs of its statements.
+/// The places of an operation's names, and the flows of its statements.
 pub fn lower(op: &Op, alloc: Global) -> Result<Lowered, NoMemory>
     requires meets { OperationMeets (operation op.now) }
     ensures names { IfOk result (λ l. IsLayoutMap (operation op.now) l.names) }
-    ensures lowered { IfOk result (λ l. AreLowered (slots_of l.names) l.names.free_bit
-        l.names.free_word (operation op.now).body (map steps_of l.programs.items)) }
-    ensures forms { IfOk result (λ l. HaveForms (slots_of l.names) (operation op.now).body
-        (map steps_of l.programs.items)) }
-    // A word operation's is its written program.
-    ensures written { IfOk result (λ l. AreWritten (slots_of l.names) l.names.free_bit
-        l.names.free_word (operation op.now).body (map steps_of l.programs.items)) }
+    ensures fronts { IfOk result (λ l. AreFronts (slots_of l.names) l.names.free_bit
+        l.names.free_word (operation op.now).body (map flow_of l.flows.items)) }
 {
     let names = lay_out(op, alloc)?;
-    let mut programs = Vec::new(alloc);
+    let mut flows = Vec::new(alloc);
     for s in &op.body {
         let program = lower_statement(s, &names, alloc)?;
-        keep(&mut programs, program)?;
+        let flow = front(program, alloc)?;
+        keep(&mut flows, flow)?;
     }
-    Ok(Lowered { names, programs })
+    Ok(Lowered { names, flows })
 }

@@ -1,43 +1,33 @@
 //! The code of whole operations.
 
-ghost use Rattle.std.specs.Prelude.{◌≡◌, ℕ, ◌<◌, ◌≤◌, ◌++◌, ◌∷◌, [], List, map, length, OnOk, IfOk};
-ghost use Rattle.bit_rows.specs.declared.TheConstants.{WIDTH_MAX};
+ghost use Rattle.std.specs.Prelude.{◌≡◌, ◌++◌, map, IfOk};
 ghost use Rattle.op_text.specs.Language.{operation, operations};
 ghost use Rattle.op_text.specs.Spelling.{Each, MeetRules};
 ghost use Rattle.op_rules.specs.Meets.{OperationMeets, OpsMeet};
 ghost use Rattle.uprog_code.specs.Shape.{microprogram_of, microprograms_of};
 ghost use Rattle.uprog_code.specs.Programs.{IsProgram};
-ghost use Rattle.uprog_code.specs.Machine.{trace, issues_of};
 ghost use Rattle.uprog_code.specs.Texts.{text_op, ImplementsAll};
-ghost use Rattle.uprog_code.specs.Count.{counts_of};
-ghost use Rattle.loop_ir.specs.Plain.{steps_of, AllParts};
-ghost use Rattle.loop_ir.specs.Loops.{all_rounds};
-ghost use Rattle.loop_ir.specs.Statements.{slots_of};
-ghost use Rattle.uprog_gen.specs.Does.{joined, AreCheap, total};
-ghost use Rattle.uprog_gen.specs.Settled.{IsSettled, rounds_counts};
 ghost use Rattle.uprog_gen.specs.Totals.{AreExact};
 ghost use Rattle.uprog_gen.specs.Graphs.{graphed_of, AddsGraphs, AreGraphed};
-ghost use Rattle.uprog_gen.specs.Layout.{IsLayoutMap};
-ghost use Rattle.uprog_gen.specs.Programs.{AreLowered, IsCompiledFrom, IsCompiled};
-ghost use Rattle.uprog_gen.specs.Programs.{AreCompiled};
+ghost use Rattle.uprog_gen.specs.Programs.{IsCompiled, AreCompiled};
 
 use crate::entry::compile_entry;
 use crate::graphs::take_graphs;
 use crate::head::head_of;
 use crate::lowering::lower;
 use faults::keep;
-use loop_ir::{LoopProgram, NameMap};
+use loop_ir::{Flow, NameMap};
 use mig_graph::{MigOuts, NoMemory};
 use op_rules::ops_meet;
 use op_text::{Op, Ops};
 use std::alloc::Global;
 use uprog_code::{EntryCode, Program};
 
-/// Where the names of an operation lie, and the loop programs of its statements in order.
+/// Where the names of an operation lie, and the flows of its statements in order.
 #[derive(Drop)]
 pub struct Lowered {
     pub names: NameMap,
-    pub programs: Vec<LoopProgram>,
+    pub flows: Vec<Flow>,
 }
 
 /// The program of a text's operations, and the graphs of their serial blocks in the order of the
@@ -46,32 +36,6 @@ pub struct Lowered {
 pub struct Compiled {
     pub program: Program,
     pub graphs: Vec<MigOuts>,
-}
-
-/// The code of an operation that meets the rules, from the loop programs of its statements.
-///
-/// Only want of memory is an `Err`.
-pub fn compile_lowered(op: &Op, lowered: &Lowered, alloc: Global) -> Result<EntryCode, NoMemory>
-    requires meets { OperationMeets (operation op.now) }
-    requires names { IsLayoutMap (operation op.now) lowered.now.names }
-    requires lowered { AreLowered (slots_of lowered.now.names) lowered.now.names.free_bit
-        lowered.now.names.free_word (operation op.now).body
-        (map steps_of lowered.now.programs.items) }
-    ensures compiled { IfOk result (λ entry. IsCompiledFrom (microprogram_of entry)
-        (operation op.now) (slots_of lowered.now.names) lowered.now.names.free_bit
-        lowered.now.names.free_word (map steps_of lowered.now.programs.items)) }
-    // No more commands than the sum of what each statement takes at most.
-    ensures few { IfOk result (λ entry. (n : ℕ) → 0 < n → n ≤ WIDTH_MAX
-        → (ceilings : List (ℕ → ℕ))
-        → AreCheap n (map steps_of lowered.now.programs.items) ceilings
-        → length (issues_of (trace (microprogram_of entry).shape entry.code.items n))
-        ≤ total ceilings n) }
-    ensures exact { IfOk result (λ entry. (n : ℕ) → 0 < n → n ≤ WIDTH_MAX
-        → AllParts IsSettled (joined (map steps_of lowered.now.programs.items))
-        → counts_of (issues_of (trace (microprogram_of entry).shape entry.code.items n))
-        ≡ rounds_counts (all_rounds n (joined (map steps_of lowered.now.programs.items)))) }
-{
-    compile_entry(head_of(op, &lowered.names), &lowered.programs, alloc)
 }
 
 /// The code of an operation that meets the rules, and after other graphs those of its serial
@@ -84,7 +48,7 @@ fn compile_op(op: &Op, graphs: &mut Vec<MigOuts>, alloc: Global) -> Result<Entry
         (map graphed_of graphs.old.items) (map graphed_of graphs.new.items)) }
 {
     let lowered = lower(op, alloc)?;
-    let entry = compile_lowered(op, &lowered, alloc)?;
+    let entry = compile_entry(head_of(op, &lowered.names), &lowered.flows, alloc)?;
     take_graphs(op, lowered, graphs)?;
     Ok(entry)
 }

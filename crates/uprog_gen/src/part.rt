@@ -9,27 +9,21 @@ ghost use Rattle.uprog_gen.specs.Parts.{IsPart};
 ghost use Rattle.loop_ir.specs.Limits.{IsSmall};
 ghost use Rattle.uprog_gen.specs.Made.{part_of};
 
-use crate::plan::{Plan, plan_of};
 use crate::states::{has_states, held_commands, row_count};
 use loop_ir::{Body, out_rows};
 use mig_graph::NoMemory;
 use row_alloc::{BodyCmd, OutRow, greedy_body};
 use std::alloc::Global;
 
-/// What is made of a body: its plan, its outputs' rows and its commands.
+/// What is made of a body: its outputs' rows and its commands.
 pub struct Made {
-    pub plan: Plan,
     pub outs: Vec<OutRow>,
     pub cmds: Vec<BodyCmd>,
 }
 
 impl Drop for Made {
     fn drop(self) {
-        let Made {
-            plan: _,
-            outs: _,
-            cmds: _,
-        } = self;
+        let Made { outs: _, cmds: _ } = self;
     }
 }
 
@@ -62,16 +56,15 @@ pub fn make_part(body: &Body, alloc: Global) -> Result<Made, NoMemory>
     requires { IsSmall (block_of body.now) }
     ensures { IfOk result (λ made. IsPart (part_of (block_of body.now) made)) }
 {
-    let plan = plan_of(body, alloc)?;
     let outs = outs_of(body, alloc)?;
     if carries(body) {
         let cmds = carried(body, alloc)?;
-        return Ok(Made { plan, outs, cmds });
+        return Ok(Made { outs, cmds });
     }
     if has_states(body) {
         let cmds = held_commands(body, &outs, alloc)?;
-        return Ok(Made { plan, outs, cmds });
+        return Ok(Made { outs, cmds });
     }
     let cmds = greedy_body(&body.graph.mig, &outs, alloc)?;
-    Ok(Made { plan, outs, cmds })
+    Ok(Made { outs, cmds })
 }

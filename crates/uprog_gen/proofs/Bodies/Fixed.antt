@@ -11,9 +11,11 @@ use Rattle.mig_graph.specs.Outputs.{lit_at}
 use Rattle.row_alloc.specs.declared.body.OutRow.{OutRow}
 use Rattle.row_alloc.specs.Rows.{out_at}
 use Rattle.row_alloc.specs.Body.{FitBody}
-use Rattle.row_alloc.specs.Known.{Serves, known, known_at, not_graph, and_graph, or_graph}
-use Rattle.row_alloc.specs.Known.{xor_graph, add_graph, plain, complemented}
-use Rattle.row_alloc.proofs.Fixed.{not_serves, and_serves, or_serves, xor_serves, add_serves}
+use Rattle.row_alloc.specs.Known.{Serves, known, known_at}
+use Rattle.row_alloc.specs.Known.{plain}
+use Rattle.row_alloc.proofs.Fixed.{add_serves}
+use Rattle.loop_ir.specs.Costs.{is_add}
+use Rattle.loop_ir.specs.Outputs.{IsOuts}
 use Rattle.loop_ir.specs.Plain.{Block}
 use Rattle.loop_ir.specs.Same.{same_lit, same_lits, same_node, same_nodes, is_body}
 
@@ -32,22 +34,16 @@ bits-eq true false h = sym h
 bits-eq false true h = h
 bits-eq false false h = refl
 
-lit-made : (x y : Lit) → x.node ≡ y.node → x.inverted ≡ y.inverted → x ≡ y
-lit-made x y e f = rw (e, f) refl
-
 pub lits-eq : (x y : Lit) → same_lit x y ≡ true → x ≡ y
 lits-eq x y h =
     let p = and_parts (x.node == y.node) (beq x.inverted y.inverted) h in
-    lit-made x y (eqb-true x.node y.node p.0) (bits-eq x.inverted y.inverted p.1)
-
-node-made : (m n : Node) → m.a ≡ n.a → m.b ≡ n.b → m.c ≡ n.c → m ≡ n
-node-made m n e f g = rw (e, f, g) refl
+    rw (eqb-true x.node y.node p.0, bits-eq x.inverted y.inverted p.1) refl
 
 nodes-eq : (m n : Node) → same_node m n ≡ true → m ≡ n
 nodes-eq m n h =
     let p = and_parts (same_lit m.a n.a) (same_lit m.b n.b && same_lit m.c n.c) h in
     let q = and_parts (same_lit m.b n.b) (same_lit m.c n.c) p.1 in
-    node-made m n (lits-eq m.a n.a p.0) (lits-eq m.b n.b q.0) (lits-eq m.c n.c q.1)
+    rw (lits-eq m.a n.a p.0, lits-eq m.b n.b q.0, lits-eq m.c n.c q.1) refl
 
 pub all-lits : (xs ys : List Lit) → same_lits xs ys ≡ true → xs ≡ ys
 all-lits [] [] h = refl
@@ -55,7 +51,7 @@ all-lits [] (y ∷ ys) h = absurd cc
 all-lits (x ∷ xs) [] h = absurd cc
 all-lits (x ∷ xs) (y ∷ ys) h =
     let p = and_parts (same_lit x y) (same_lits xs ys) h in
-    ap (λ z. z ∷ xs) (lits-eq x y p.0) ∙ ap (λ zs. y ∷ zs) (all-lits xs ys p.1)
+    rw (lits-eq x y p.0, all-lits xs ys p.1) refl
 
 pub all-nodes : (ms ns : List Node) → same_nodes ms ns ≡ true → ms ≡ ns
 all-nodes [] [] h = refl
@@ -63,7 +59,7 @@ all-nodes [] (n ∷ ns) h = absurd cc
 all-nodes (m ∷ ms) [] h = absurd cc
 all-nodes (m ∷ ms) (n ∷ ns) h =
     let p = and_parts (same_node m n) (same_nodes ms ns) h in
-    ap (λ z. z ∷ ms) (nodes-eq m n p.0) ∙ ap (λ zs. n ∷ zs) (all-nodes ms ns p.1)
+    rw (nodes-eq m n p.0, all-nodes ms ns p.1) refl
 
 pub graph-made : (g : Graph) (i : ℕ) (ns : List Node) → g.inputs ≡ i → g.nodes ≡ ns
     → g ≡ record { inputs = i; nodes = ns }
@@ -81,51 +77,28 @@ body_is i nodes outs b h =
       all-lits b.outs outs q.1,
     )
 
--- the outputs have these literals
-abbrev AreFor : List Lit → List OutRow → Type 0
-AreFor ls outs = (j : ℕ) → j < length outs → (out_at outs j).lit ≡ lit_at ls j
+module _ (b : Block) (outs : List OutRow) (k : ℕ) (fits : FitBody b.graph outs)
+    (is : IsOuts b (length b.outs) outs) (least : IsLeast b.graph outs k) where
+  -- a body with one output that a known sequence serves
+  pub one_few : (i : ℕ) (nodes : List Node) (l : Lit) (m : ℕ) → m < length known
+      → ((os : List OutRow) → FitBody (record { inputs = i; nodes = nodes }) os → length os ≡ 1
+      → (out_at os 0).lit ≡ l → Serves (record { inputs = i; nodes = nodes }) os (known_at m))
+      → is_body i nodes (l ∷ []) b ≡ true → k ≤ length (known_at m)
+  one_few i nodes l m within serves e =
+      let h = body_is i nodes (l ∷ []) b e in
+      let size : length outs ≡ 1 = is.size ∙ ap length h.1 in
+      let first : (out_at outs 0).lit ≡ l = is.lits 0 (omega arith) ∙ ap (λ ls. lit_at ls 0) h.1 in
+      let s = serves outs (subst (λ g. FitBody g outs) h.0 fits) size first in
+      least m within (subst (λ g. Serves g outs (known_at m)) (sym h.0) s)
 
--- a graph with one output that a known sequence serves
-one_few : (h : Graph) (l : Lit) (i : ℕ) → i < length known
-    → ((outs : List OutRow) → FitBody h outs → length outs ≡ 1 → (out_at outs 0).lit ≡ l
-    → Serves h outs (known_at i))
-    → (g : Graph) (ls : List Lit) (outs : List OutRow) (k : ℕ) → g ≡ h → ls ≡ l ∷ []
-    → FitBody g outs → length outs ≡ length ls → AreFor ls outs → IsLeast g outs k
-    → k ≤ length (known_at i)
-one_few h l i within serves g ls outs k e f fit n lits least =
-    let size : length outs ≡ 1 = n ∙ ap length f in
-    let first : (out_at outs 0).lit ≡ l = lits 0 (omega (arith, size)) ∙ ap (λ ls. lit_at ls 0) f in
-    let s = serves outs (subst (λ g. FitBody g outs) e fit) size first in
-    least i within (subst (λ g. Serves g outs (known_at i)) (sym e) s)
-
-pub not_few : (g : Graph) (ls : List Lit) (outs : List OutRow) (k : ℕ) → g ≡ not_graph
-    → ls ≡ complemented 1 ∷ [] → FitBody g outs → length outs ≡ length ls → AreFor ls outs
-    → IsLeast g outs k → k ≤ 2
-not_few = one_few not_graph (complemented 1) 0 (omega arith) not_serves
-
-pub and_few : (g : Graph) (ls : List Lit) (outs : List OutRow) (k : ℕ) → g ≡ and_graph
-    → ls ≡ plain 3 ∷ [] → FitBody g outs → length outs ≡ length ls → AreFor ls outs
-    → IsLeast g outs k → k ≤ 4
-and_few = one_few and_graph (plain 3) 2 (omega arith) and_serves
-
-pub or_few : (g : Graph) (ls : List Lit) (outs : List OutRow) (k : ℕ) → g ≡ or_graph
-    → ls ≡ plain 3 ∷ [] → FitBody g outs → length outs ≡ length ls → AreFor ls outs
-    → IsLeast g outs k → k ≤ 4
-or_few = one_few or_graph (plain 3) 3 (omega arith) or_serves
-
-pub xor_few : (g : Graph) (ls : List Lit) (outs : List OutRow) (k : ℕ) → g ≡ xor_graph
-    → ls ≡ plain 5 ∷ [] → FitBody g outs → length outs ≡ length ls → AreFor ls outs
-    → IsLeast g outs k → k ≤ 7
-xor_few = one_few xor_graph (plain 5) 9 (omega arith) xor_serves
-
-pub add_few : (g : Graph) (ls : List Lit) (outs : List OutRow) (k : ℕ) → g ≡ add_graph
-    → ls ≡ plain 6 ∷ plain 4 ∷ [] → FitBody g outs → length outs ≡ length ls → AreFor ls outs
-    → IsLeast g outs k → k ≤ 9
-add_few g ls outs k e f fit n lits least =
-    let size : length outs ≡ 2 = n ∙ ap length f in
-    let a : (out_at outs 0).lit ≡ plain 6 = lits 0 (omega (arith, size))
-    ∙ ap (λ ls. lit_at ls 0) f in
-    let b : (out_at outs 1).lit ≡ plain 4 = lits 1 (omega (arith, size))
-    ∙ ap (λ ls. lit_at ls 1) f in
-    let s = add_serves outs (subst (λ g. FitBody g outs) e fit) size a b in
-    least 20 (omega arith) (subst (λ g. Serves g outs (known_at 20)) (sym e) s)
+  -- and that of addition
+  pub add_few : is_add b ≡ true → k ≤ 9
+  add_few e =
+      let h = body_is 3 _ _ b e in
+      let size : length outs ≡ 2 = is.size ∙ ap length h.1 in
+      let x : (out_at outs 0).lit ≡ plain 6 = is.lits 0 (omega arith)
+      ∙ ap (λ ls. lit_at ls 0) h.1 in
+      let y : (out_at outs 1).lit ≡ plain 4 = is.lits 1 (omega arith)
+      ∙ ap (λ ls. lit_at ls 1) h.1 in
+      let s = add_serves outs (subst (λ g. FitBody g outs) h.0 fits) size x y in
+      least 20 (omega arith) (subst (λ g. Serves g outs (known_at 20)) (sym h.0) s)

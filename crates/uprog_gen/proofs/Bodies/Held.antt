@@ -19,7 +19,7 @@ use Rattle.loop_ir.specs.Spots.{nth_place, is_state}
 use Rattle.loop_ir.specs.Same.{same_lit, same_lits, same_nodes}
 use Rattle.loop_ir.specs.States.{has_states, row_count, RowsFirst, enters, leaves}
 use Rattle.loop_ir.specs.States.{row_outs, same_held, same_helds, is_held_body, held_bodies, held_of}
-use Rattle.loop_ir.specs.Costs.{carries, turn_cost, held_cost}
+use Rattle.loop_ir.specs.Costs.{carries, turn_cost}
 use Rattle.loop_ir.specs.Limits.{IsSmall}
 use Rattle.loop_laws.proofs.Costing.{found-is}
 use Rattle.loop_ir.specs.Outputs.{IsOuts}
@@ -36,7 +36,7 @@ all-helds [] (y ∷ ys) h = absurd cc
 all-helds (x ∷ xs) [] h = absurd cc
 all-helds (x ∷ xs) (y ∷ ys) h =
     let p = and_parts (same_held x y) (same_helds xs ys) h in
-    ap (λ z. z ∷ xs) (helds-eq x y p.0) ∙ ap (λ zs. y ∷ zs) (all-helds xs ys p.1)
+    rw (helds-eq x y p.0, all-helds xs ys p.1) refl
 
 -- the body is this one of the table
 pub record IsHeldBody (h : HeldBody) (b : Block) : Type 0 where
@@ -74,11 +74,11 @@ layouts_listed h = (refl, refl)
 all_states : (ps : List Place) (ls : List Lit) → length ls ≡ length ps → ((k : ℕ) → k < length ps
     → is_state (nth_place ps k).space ≡ true) → row_outs ps ls ≡ []
 all_states [] [] n h = refl
-all_states [] (l ∷ ls) n h = absurd (omega (arith, n))
+all_states [] (l ∷ ls) n h = absurd (omega arith)
 all_states (p ∷ ps) [] n h = refl
 all_states (p ∷ ps) (l ∷ ls) n h =
     ap (λ c. cond c (row_outs ps ls) (l ∷ row_outs ps ls)) (h 0 (omega arith))
-    ∙ all_states ps ls (omega (arith, n)) (λ k lt. h (suc k) (omega arith))
+    ∙ all_states ps ls (omega arith) (λ k lt. h (suc k) (omega arith))
 
 -- the literals of the outputs in rows, in order
 pub row_lits : (ps : List Place) (ls : List Lit) (outs : List OutRow) → length ls ≡ length ps
@@ -86,17 +86,17 @@ pub row_lits : (ps : List Place) (ls : List Lit) (outs : List OutRow) → length
     → ((j : ℕ) → j < length outs → (out_at outs j).lit ≡ lit_at ls j)
     → map (λ o. o.lit) outs ≡ row_outs ps ls
 row_lits [] [] [] n first m h = refl
-row_lits [] [] (o ∷ outs) n first m h = absurd (omega (arith, m))
-row_lits [] (l ∷ ls) outs n first m h = absurd (omega (arith, n))
-row_lits (p ∷ ps) [] outs n first m h = absurd (omega (arith, n))
-row_lits (p ∷ ps) (l ∷ ls) outs n first m h = by (is_state p.space) refl outs m h (λ r os.
-    row_lits ps ls os (omega (arith, n)) r)
+row_lits [] [] (o ∷ outs) n first m h = absurd (omega arith)
+row_lits [] (l ∷ ls) outs n first m h = absurd (omega arith)
+row_lits (p ∷ ps) [] outs n first m h = absurd (omega arith)
+row_lits (p ∷ ps) (l ∷ ls) outs n first m h =
+    by (is_state p.space) refl outs m h (λ r os. row_lits ps ls os (omega arith) r)
   where
     rest : is_state p.space ≡ false → RowsFirst ps
     rest e = let c : row_count (p ∷ ps) ≡ suc (row_count ps) =
         ap (λ c. cond c 0 (suc (row_count ps))) e in record {
-          row = λ k lt. first.row (suc k) (omega (arith, lt, c));
-          state = λ k le lt. first.state (suc k) (omega (arith, le, c)) (omega (arith, lt));
+          row = λ k lt. first.row (suc k) (omega arith);
+          state = λ k le lt. first.state (suc k) (omega arith) (omega arith);
         }
 
     by : (c : Bool) → is_state p.space ≡ c → (os : List OutRow)
@@ -108,14 +108,11 @@ row_lits (p ∷ ps) (l ∷ ls) outs n first m h = by (is_state p.space) refl out
         → map (λ o. o.lit) os ≡ cond c (row_outs ps ls) (l ∷ row_outs ps ls)
     by true e [] m h more = let c : row_count (p ∷ ps) ≡ 0 =
         ap (λ c. cond c 0 (suc (row_count ps))) e in
-        sym (all_states ps ls (omega (arith, n)) (λ k lt. first.state (suc k)
-        (omega (arith, c)) (omega (arith, lt))))
-    by true e (o ∷ os) m h more = absurd (omega (arith, m))
-    by false e [] m h more = absurd (omega (arith, m))
+        sym (all_states ps ls (omega arith) (λ k lt. first.state (suc k) (omega arith) (omega arith)))
+    by true e (o ∷ os) m h more = absurd (omega arith)
+    by false e [] m h more = absurd (omega arith)
     by false e (o ∷ os) m h more =
-        ap (λ x. x ∷ map (λ (o : OutRow). o.lit) os) (h 0 (omega arith))
-        ∙ ap (λ xs. l ∷ xs) (more (rest e) os (omega (arith, m))
-        (λ j lt. h (suc j) (omega (arith, lt))))
+        rw (h 0 (omega arith), more (rest e) os (omega arith) (λ j lt. h (suc j) (omega arith))) refl
 
 -- what is known of a body with states
 pub record IsServed (b : Block) (outs : List OutRow) : Type 0 where
@@ -129,7 +126,7 @@ pub served : (b : Block) (outs : List OutRow) → IsSmall b → carries b ≡ fa
 served b outs small bare states is = by (held_of b) refl (small.known bare states)
   where
     by : (o : Option HeldBody) → held_of b ≡ o → is_some o ≡ true → IsServed b outs
-    by None e s = absurd (cc)
+    by None e s = absurd cc
     by (Some h) e s =
         let same = held_body_is h b (found-is held_bodies b h e) in
         record {
@@ -140,25 +137,7 @@ served b outs small bare states is = by (held_of b) refl (small.known bare state
               is.lits ∙ same.outs;
         }
 
--- the layouts of its states are of the list
-pub entering_listed : (b : Block) (h : HeldBody) (hs : List Held) → IsHeldBody h b
-    → hs ≡ enters 0 b.reads → have_layouts hs ≡ true
-entering_listed b h hs is e = ap have_layouts (e ∙ is.enter) ∙ (layouts_listed h).0
-
-pub leaving_listed : (b : Block) (h : HeldBody) (hs : List Held) → IsHeldBody h b
-    → hs ≡ leaves b.writes b.outs → have_layouts hs ≡ true
-leaving_listed b h hs is e = ap have_layouts (e ∙ is.leave) ∙ (layouts_listed h).1
-
-pub at_true : (c : Bool) (x y k : ℕ) → c ≡ true → k ≤ x → k ≤ cond c x y
-at_true true x y k h l = l
-at_true false x y k h l = absurd (cc)
-
 -- its sequence has the length that is counted for a round
-pub at_false : (c : Bool) (x y k : ℕ) → c ≡ false → k ≤ y → k ≤ cond c x y
-at_false true x y k h l = absurd (cc)
-at_false false x y k h l = l
-
-pub held_few : (b : Block) (h : HeldBody) (k : ℕ) → carries b ≡ false → has_states b ≡ true → held_of b ≡ Some h
-    → k ≡ length (held_at (held_sequence_for h)) → k ≤ turn_cost b
-held_few b h k bare states e n = at_false (carries b) (length b.found) _ k bare
-    (at_true (has_states b) (held_cost (held_of b)) _ k states (omega (arith, n, ap held_cost e)))
+pub held_few : (b : Block) (h : HeldBody) (k : ℕ) → carries b ≡ false → has_states b ≡ true
+    → held_of b ≡ Some h → k ≡ length (held_at (held_sequence_for h)) → k ≤ turn_cost b
+held_few b h k bare states e n = rw (bare, states, e) (omega arith)

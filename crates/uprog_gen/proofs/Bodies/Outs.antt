@@ -1,12 +1,11 @@
 -- The rows of a body's outputs, one after another.
-use Rattle.std.proofs.Common.{◌≡◌, ℕ, zero, suc, ◌+◌, ◌<◌, ◌≤◌, List, [], ◌∷◌, ◌++◌, length}
+use Rattle.std.proofs.Common.{◌≡◌, ℕ, suc, ◌+◌, ◌<◌, ◌≤◌, List, [], ◌∷◌, ◌++◌, length}
 use Rattle.std.proofs.Common.{Some, refl, sym, ap, ◌∙◌, subst, arith}
-use Rattle.std.proofs.Common.{append_assoc, drop, map, Bool, true, false, cond, ◌*◌}
+use Rattle.std.proofs.Common.{append_assoc, add-one, drop-cons, drop, map, Bool, true, false, cond, ◌*◌}
 use Rattle.std.specs.Prelude.{slice_index_or, not, ◌==◌, ◌&&◌}
 use Rattle.std.proofs.lemmas.Bool.{and_parts, eqb-true}
 use Rattle.mig_graph.specs.declared.Lit.{Lit}
 use Rattle.mig_graph.specs.Literals.{is_complemented}
-use Rattle.mig_graph.specs.Graph.{size_of}
 use Rattle.row_alloc.specs.declared.body.OutRow.{OutRow}
 use Rattle.row_alloc.specs.declared.body.Held.{Held}
 use Rattle.row_alloc.specs.Rows.{out_at}
@@ -20,31 +19,22 @@ use Rattle.loop_ir.specs.declared.ir.Place.{Place}
 use Rattle.loop_ir.specs.Plain.{Block}
 use Rattle.loop_ir.specs.Spots.{nth_place, is_state}
 use Rattle.loop_ir.specs.Outputs.{IsOuts}
+use Rattle.loop_ir.proofs.Outs.{nth-at}
 use Rattle.uprog_gen.specs.Parts.{IsPart}
 use Rattle.mig_graph.specs.Outputs.{lit_at}
 use Rattle.loop_ir.specs.Costs.{is_copy, is_not, is_and, is_or, is_xor, is_add, turn_cost}
-use Rattle.loop_ir.specs.Costs.{held_cost, carries}
-use Rattle.uprog_gen.proofs.Bodies.Fixed.{IsLeast, by_cases, body_is, not_few, and_few, or_few}
-use Rattle.uprog_gen.proofs.Bodies.Fixed.{xor_few}
-use Rattle.uprog_gen.proofs.Bodies.Fixed.{add_few}
-use Rattle.uprog_gen.specs.Code.{IsPlanned, plan_of}
-use Rattle.uprog_gen.specs.declared.plan.Plan.{Plan}
-use Rattle.uprog_gen.proofs.Bodies.Planned.{plans}
+use Rattle.loop_ir.specs.Costs.{carries}
+use Rattle.uprog_gen.proofs.Bodies.Fixed.{IsLeast, by_cases, one_few, add_few}
+use Rattle.row_alloc.proofs.Fixed.{not_serves, and_serves, or_serves, xor_serves}
 use Rattle.loop_ir.specs.Limits.{IsSmall}
 use Rattle.row_alloc.specs.Held.{DoesHeld}
 use Rattle.row_alloc.proofs.Plainly.{plainly}
 use Rattle.row_alloc.specs.HeldBodies.{HeldBody, held_at, held_sequence_for}
 use Rattle.loop_ir.specs.States.{has_states, held_of, row_count, enters, leaves}
-use Rattle.uprog_gen.proofs.Bodies.Held.{held_few, at_true, at_false}
+use Rattle.uprog_gen.proofs.Bodies.Held.{held_few}
 use Rattle.loop_laws.proofs.Costing.{turn-most, plain-most}
 use Rattle.uprog_gen.proofs.Rows.Named.{row_few}
 use Rattle.loop_laws.proofs.Rowed.{have_rows, all_count, no_enters, no_leaves}
-
-pub nth-at : (places : List Place) (k : ℕ) (d : Place) → k < length places
-    → slice_index_or places k d ≡ nth_place places k
-nth-at [] k d lt = absurd (omega arith)
-nth-at (p ∷ ps) zero d lt = refl
-nth-at (p ∷ ps) (suc k) d lt = nth-at ps k d (omega arith)
 
 -- a state that is read is an input of the graph
 pub state_input : (b : Block) (k : ℕ) (p : Place) → IsSmall b → k < length b.reads
@@ -55,11 +45,7 @@ state_input b k p small lt e st = small.states.read k lt
 -- the first of what is left
 front_is : {A : Type 0} (xs : List A) (j : ℕ) (x : A) → j < length xs → x ≡ slice_index_or xs j x
     → drop j xs ≡ x ∷ drop (j + 1) xs
-front_is [] j x lt e = absurd (omega arith)
-front_is (y ∷ ys) zero x lt e = ap (λ z. z ∷ ys) (sym e)
-front_is (y ∷ ys) (suc j) x lt e =
-    let z : suc (j + 1) ≡ suc j + 1 = omega arith in
-    front_is ys j x (omega arith) e ∙ ap (λ k. x ∷ drop k (y ∷ ys)) z
+front_is xs j x lt e = rw (add-one, drop-cons xs j x) (ap (λ y. y ∷ drop (suc j) xs) (sym e))
 
 -- the outputs that are left in cells, one place after another
 module _ (ps : List Place) (ls : List Lit) (j : ℕ) (p : Place) (l : Lit) (hs : List Held)
@@ -71,44 +57,34 @@ module _ (ps : List Place) (ls : List Lit) (j : ℕ) (p : Place) (l : Lit) (hs :
 
   left_here : leaves (drop j ps) (drop j ls)
       ≡ cond (is_state p.space) (record { lit = l; layout = p.which } ∷ rest) rest
-  left_here = ap (λ qs. leaves qs (drop j ls)) (front_is ps j p lt at)
-      ∙ ap (λ ms. leaves (p ∷ drop (j + 1) ps) ms) (front_is ls j l (omega (arith, lt, size)) out)
+  left_here = rw (front_is ps j p lt at, front_is ls j l (omega arith) out)
 
   pub state_left : is_state p.space ≡ true
       → (hs ++ record { lit = l; layout = p.which } ∷ []) ++ rest ≡ leaves ps ls
-  state_left st = append_assoc hs (record { lit = l; layout = p.which } ∷ []) rest
-      ∙ ap (λ t. hs ++ t) (sym (left_here
-      ∙ ap (λ c. cond c (record { lit = l; layout = p.which } ∷ rest) rest) st)) ∙ is
+  state_left st = let here = rw st at left_here in rw (append_assoc, ← here) is
 
   pub row_left : is_state p.space ≡ false → hs ++ rest ≡ leaves ps ls
-  row_left st = ap (λ t. hs ++ t) (sym (left_here
-      ∙ ap (λ c. cond c (record { lit = l; layout = p.which } ∷ rest) rest) st)) ∙ is
+  row_left st = let here = rw st at left_here in rw (← here) is
 
 -- the conditions on a body
 pub fit : (b : Block) (outs : List OutRow) → IsSmall b → IsOuts b (row_count b.writes) outs
     → FitBody b.graph outs
-fit b outs small is = record {
-  inputs = small.inputs;
-  outputs = omega (arith, small.outputs, is.size, row_few b.writes, small.states.written);
-  rows = omega (arith, small.rows, is.size, row_few b.writes, small.states.written);
-  named = λ j lt. subst (λ (l : Lit). l.node < size_of b.graph) (sym (is.lits j lt))
-      (small.well.named j (omega (
-        arith,
-        lt,
-        is.size,
-        row_few b.writes,
-        small.states.written,
-      )));
-  same = λ j k lt e. (is.found j k lt e).0;
-  once = λ i j k li lj e f.
-      let p : nth_place b.writes i ≡ nth_place b.writes j = sym (is.found i k li e).1
-      ∙ (is.found j k lj f).1 in
-      small.well.apart i j (omega (arith, li, is.size, row_few b.writes))
-      (omega (arith, lj, is.size, row_few b.writes)) (
-        ap (λ (x : Place). x.space) p,
-        ap (λ (x : Place). x.which) p,
-      );
-}
+fit b outs small is =
+    let few = row_few b.writes in
+    record {
+      inputs = small.inputs;
+      outputs = omega arith;
+      rows = omega arith;
+      named = λ j lt. rw (is.lits j lt) (small.well.named j (omega arith));
+      same = λ j k lt e. (is.found j k lt e).0;
+      once = λ i j k li lj e f.
+          let p : nth_place b.writes i ≡ nth_place b.writes j = sym (is.found i k li e).1
+          ∙ (is.found j k lj f).1 in
+          small.well.apart i j (omega arith) (omega arith) (
+            ap (λ (x : Place). x.space) p,
+            ap (λ (x : Place). x.which) p,
+          );
+    }
 
 not_true : (c : Bool) → not c ≡ true → c ≡ false
 not_true true h = cc
@@ -132,11 +108,10 @@ copied_one b outs is e =
 lits_of : (ls : List Lit) (outs : List OutRow) → length outs ≡ length ls
     → ((j : ℕ) → j < length outs → (out_at outs j).lit ≡ lit_at ls j) → map (λ o. o.lit) outs ≡ ls
 lits_of [] [] n h = refl
-lits_of [] (o ∷ outs) n h = absurd (omega (arith, n))
-lits_of (l ∷ ls) [] n h = absurd (omega (arith, n))
+lits_of [] (o ∷ outs) n h = absurd (omega arith)
+lits_of (l ∷ ls) [] n h = absurd (omega arith)
 lits_of (l ∷ ls) (o ∷ outs) n h =
-    ap (λ x. x ∷ map (λ (o : OutRow). o.lit) outs) (h 0 (omega arith))
-    ∙ ap (λ xs. l ∷ xs) (lits_of ls outs (omega (arith, n)) (λ j lt. h (suc j) (omega (arith, lt))))
+    rw (h 0 (omega arith), lits_of ls outs (omega arith) (λ j lt. h (suc j) (omega arith))) refl
 
 few_cmds : (b : Block) (outs : List OutRow) (k : ℕ) → carries b ≡ false → has_states b ≡ false → FitBody b.graph outs
     → IsOuts b (length b.outs) outs → k ≤ 4 * length b.graph.nodes + 3 * length outs
@@ -144,36 +119,18 @@ few_cmds : (b : Block) (outs : List OutRow) (k : ℕ) → carries b ≡ false �
     → k ≤ 1)
     → IsLeast b.graph outs k → k ≤ turn_cost b
 few_cmds b outs k bare none fits is few one least =
-    at_false (carries b) (length b.found) _ k bare
-    (at_false (has_states b) (held_cost (held_of b)) _ k none
-    (by_cases (is_copy b) 1 _ k copied
-    (by_cases (is_not b) 2 _ k (λ e. let h = body_is 1 _ _ b e in
-    not_few b.graph b.outs outs k h.0 h.1 fits is.size is.lits least)
-    (by_cases (is_and b) 4 _ k (λ e. let h = body_is 2 _ _ b e in
-    and_few b.graph b.outs outs k h.0 h.1 fits is.size is.lits least)
-    (by_cases (is_or b) 4 _ k (λ e. let h = body_is 2 _ _ b e in
-    or_few b.graph b.outs outs k h.0 h.1 fits is.size is.lits least)
-    (by_cases (is_xor b) 7 _ k (λ e. let h = body_is 2 _ _ b e in
-    xor_few b.graph b.outs outs k h.0 h.1 fits is.size is.lits least)
-    (by_cases (is_add b) 9 _ k (λ e. let h = body_is 3 _ _ b e in
-    add_few b.graph b.outs outs k h.0 h.1 fits is.size is.lits least)
-    (omega (arith, few, is.size)))))))))
-  where
-    copied : is_copy b ≡ true → k ≤ 1
-    copied e =
-        let h = and_parts (length b.graph.nodes == 0) ((length b.outs == 1)
-        && not (is_complemented (lit_at b.outs 0))) e in
-        let g = and_parts (length b.outs == 1) (not (is_complemented (lit_at b.outs 0))) h.1 in
-        let l : length outs ≡ 1 = is.size ∙ eqb-true (length b.outs) 1 g.0 in
-        one (eqb-true (length b.graph.nodes) 0 h.0) l (ap is_complemented (is.lits 0 (omega (
-          arith,
-          l,
-        )))
-        ∙ not_true (is_complemented (lit_at b.outs 0)) g.1)
+    let served = one_few b outs k fits is least in
+    rw (bare, none)
+    (by_cases (is_copy b) 1 _ k (λ e. let h = copied_one b outs is e in one h.0 h.1 h.2)
+    (by_cases (is_not b) 2 _ k (served 1 _ _ 0 (omega arith) not_serves)
+    (by_cases (is_and b) 4 _ k (served 2 _ _ 2 (omega arith) and_serves)
+    (by_cases (is_or b) 4 _ k (served 2 _ _ 3 (omega arith) or_serves)
+    (by_cases (is_xor b) 7 _ k (served 2 _ _ 9 (omega arith) xor_serves)
+    (by_cases (is_add b) 9 _ k (add_few b outs k fits is least) (omega arith)))))))
 
--- a plan, outputs and commands make a part of a body without states
-pub is_part : (b : Block) (plan : Plan) (outs : List OutRow) (cmds : List BodyCmd) → IsSmall b
-    → carries b ≡ false → has_states b ≡ false → plan ≡ plan_of b → IsOuts b (row_count b.writes) outs
+-- outputs and commands make a part of a body without states
+pub is_part : (b : Block) (outs : List OutRow) (cmds : List BodyCmd) → IsSmall b
+    → carries b ≡ false → has_states b ≡ false → IsOuts b (row_count b.writes) outs
     → DoesBody b.graph outs cmds → length cmds ≤ 4 * length b.graph.nodes + 3 * length outs
     → (length b.graph.nodes ≡ 0 → length outs ≡ 1 → is_complemented (out_at outs 0).lit ≡ false
     → length cmds ≤ 1) → IsLeast b.graph outs (length cmds)
@@ -181,26 +138,22 @@ pub is_part : (b : Block) (plan : Plan) (outs : List OutRow) (cmds : List BodyCm
     → cmds ≡ Aap (source_of b.graph.inputs (out_at outs 0).lit) (Out 0) ∷ [])
     → ((w : WordBody) → b.graph ≡ graph_in w → map (λ o. o.lit) outs ≡ outs_in w
     → cmds ≡ known_at (sequence_for w))
-    → IsPart (record { block = b; plan = plan; outs = outs; cmds = cmds })
-is_part b plan outs cmds small bare none e is does few one least copy word =
+    → IsPart (record { block = b; outs = outs; cmds = cmds })
+is_part b outs cmds small bare none is does few one least copy word =
     let rows = have_rows b none in
     let all : IsOuts b (length b.outs) outs = subst (λ m. IsOuts b m outs)
     (all_count b.writes rows.1 ∙ sym small.states.written) is in
     record {
       well = small.well;
       graph = small.graph;
-      planned = subst (λ p. IsPlanned p b) (sym e) (plans b small.subs);
       states = small.states;
       outs = is;
-      does = subst (λ hs. DoesHeld b.graph outs hs (leaves b.writes b.outs) cmds)
-          (sym (no_enters b.reads 0 rows.0))
-          (subst (λ hs. DoesHeld b.graph outs [] hs cmds)
-          (sym (no_leaves b.writes b.outs rows.1))
-          (plainly b.graph outs cmds small.graph (fit b outs small is) does));
+      does = rw (no_enters b.reads 0 rows.0, no_leaves b.writes b.outs rows.1)
+          (plainly b.graph outs cmds small.graph (fit b outs small is) does);
       few = few_cmds b outs (length cmds) bare none (fit b outs small is) all few one least;
-      short = omega (arith, few, all.size);
-      found = λ carried. absurd (let f : true ≡ false = sym carried ∙ bare in cc);
-      held = λ bare' states. absurd (let f : true ≡ false = sym states ∙ none in cc);
+      short = omega (arith, all.size);
+      found = λ carried. absurd cc;
+      held = λ bare' states. absurd cc;
       copy = λ bare' n c. let h = copied_one b outs all c in (
         source_of b.graph.inputs (out_at outs 0).lit,
         Out 0,
@@ -210,46 +163,45 @@ is_part b plan outs cmds small bare none e is does few one least copy word =
     }
 
 -- and of one with states
-pub is_held_part : (b : Block) (plan : Plan) (outs : List OutRow) (cmds : List BodyCmd)
-    → IsSmall b → carries b ≡ false → has_states b ≡ true → plan ≡ plan_of b → IsOuts b (row_count b.writes) outs
+pub is_held_part : (b : Block) (outs : List OutRow) (cmds : List BodyCmd)
+    → IsSmall b → carries b ≡ false → has_states b ≡ true → IsOuts b (row_count b.writes) outs
     → DoesHeld b.graph outs (enters 0 b.reads) (leaves b.writes b.outs) cmds
     → (h : HeldBody) × (held_of b ≡ Some h) × (cmds ≡ held_at (held_sequence_for h))
-    → IsPart (record { block = b; plan = plan; outs = outs; cmds = cmds })
-is_held_part b plan outs cmds small bare states e is does own = record {
+    → IsPart (record { block = b; outs = outs; cmds = cmds })
+is_held_part b outs cmds small bare states is does own = record {
   well = small.well;
   graph = small.graph;
-  planned = subst (λ p. IsPlanned p b) (sym e) (plans b small.subs);
   states = small.states;
   outs = is;
   does = does;
   few = held_few b own.0 (length cmds) bare states own.1 (ap length own.2);
-  short = let f = held_few b own.0 (length cmds) bare states own.1 (ap length own.2) in
-      let m = turn-most b (λ carried. absurd (let f : true ≡ false = sym carried ∙ bare in cc)) in
-      omega (arith, f, m);
-  found = λ carried. absurd (let f : true ≡ false = sym carried ∙ bare in cc);
+  short = omega (
+    arith,
+    held_few b own.0 (length cmds) bare states own.1 (ap length own.2),
+    turn-most b (λ carried. absurd cc),
+  );
+  found = λ carried. absurd cc;
   held = λ bare' s. own;
-  copy = λ bare' none c. absurd (let f : true ≡ false = sym states ∙ none in cc);
-  word = λ bare' none w g o. absurd (let f : true ≡ false = sym states ∙ none in cc);
+  copy = λ bare' none c. absurd cc;
+  word = λ bare' none w g o. absurd cc;
 }
 
 -- and of one that carries its commands
-pub is_carried_part : (b : Block) (plan : Plan) (outs : List OutRow) (cmds : List BodyCmd)
-    → IsSmall b → carries b ≡ true → plan ≡ plan_of b → IsOuts b (row_count b.writes) outs
-    → cmds ≡ b.found → IsPart (record { block = b; plan = plan; outs = outs; cmds = cmds })
-is_carried_part b plan outs cmds small carried e is own =
+pub is_carried_part : (b : Block) (outs : List OutRow) (cmds : List BodyCmd)
+    → IsSmall b → carries b ≡ true → IsOuts b (row_count b.writes) outs
+    → cmds ≡ b.found → IsPart (record { block = b; outs = outs; cmds = cmds })
+is_carried_part b outs cmds small carried is own =
     let found = small.found carried in
     record {
       well = small.well;
       graph = small.graph;
-      planned = subst (λ p. IsPlanned p b) (sym e) (plans b small.subs);
       states = small.states;
       outs = is;
-      does = subst (λ cs. DoesHeld b.graph outs (enters 0 b.reads) (leaves b.writes b.outs) cs)
-          (sym own) (found.does outs is);
-      few = at_true (carries b) (length b.found) _ (length cmds) carried (omega (arith, ap length own));
-      short = let f = found.few in omega (arith, ap length own, f, plain-most b);
+      does = rw own (found.does outs is);
+      few = rw carried (omega (arith, ap length own));
+      short = omega (arith, ap length own, plain-most b);
       found = λ c. own;
-      held = λ bare. absurd (let f : true ≡ false = sym carried ∙ bare in cc);
-      copy = λ bare. absurd (let f : true ≡ false = sym carried ∙ bare in cc);
-      word = λ bare. absurd (let f : true ≡ false = sym carried ∙ bare in cc);
+      held = λ bare states. absurd cc;
+      copy = λ bare none c. absurd cc;
+      word = λ bare none w g o. absurd cc;
     }

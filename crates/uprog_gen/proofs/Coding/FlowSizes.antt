@@ -1,18 +1,26 @@
 -- How long the code of a flow is, and how many instructions of it are walked.
 use Rattle.std.proofs.Common.{◌≡◌, ℕ, ◌+◌, ◌-◌, ◌*◌, ◌≤◌, true, List, [], ◌∷◌, ◌++◌, length, refl}
-use Rattle.std.proofs.Common.{ap, ◌∙◌, arith, length-append}
+use Rattle.std.proofs.Common.{arith, length-append}
 use Rattle.std.specs.Prelude.{◌&&◌}
 use Rattle.std.proofs.lemmas.Bool.{and_parts}
+use Rattle.std.proofs.lemmas.List.{length-map}
 use Rattle.std.proofs.Math.Nat.{mul-le-mul_right}
 use Rattle.bit_rows.specs.declared.TheConstants.{WIDTH_MAX}
 use Rattle.uprog_code.specs.declared.code.Uop.{Uop}
-use Rattle.uprog_code.specs.declared.code.Uop.TheVariants as uop
 use Rattle.loop_ir.specs.Flows.{FlowOf, TurnsOf}
 use Rattle.loop_ir.specs.Flows.FlowOf.{End, Do, Put, If, Loop}
 use Rattle.loop_ir.specs.Flows.TurnsOf.{Last, Turn}
 use Rattle.loop_ir.specs.Flows.{AllFlow, AllActs, flow_map, acts_map, flow_size, acts_size}
 use Rattle.loop_ir.specs.FlowTests.{nests, all_nest}
-use Rattle.uprog_gen.specs.FlowCode.{leave, size, turns_size, code_of, turns_code}
+use Rattle.loop_ir.specs.Costs.{body_cost}
+use Rattle.uprog_gen.specs.Code.{Part, block_of_part, code_uop, body_uops}
+use Rattle.uprog_gen.specs.FlowCode.{size, turns_size, code_of, turns_code}
+use Rattle.uprog_gen.specs.Parts.{IsPart}
+
+-- the code of flows, one after another, whose first instruction has this place
+abbrev pub flows_code : {A : Type 0} → (A → List Uop) → List (FlowOf A) → ℕ → List Uop
+flows_code u [] pc = []
+flows_code u (f ∷ fs) pc = code_of u f pc ++ flows_code u fs (pc + size u f)
 
 abbrev mutual
   -- how many instructions are walked at most, where no loop has more than n iterations
@@ -31,56 +39,63 @@ module _ (A : Type 0) (u : A → List Uop) where
   mutual
     pub code_long : (f : FlowOf A) (pc : ℕ) → length (code_of u f pc) ≡ size u f
     code_long End pc = refl
-    code_long (Do b k) pc = length-append (u b) (code_of u k (pc + length (u b)))
-        ∙ ap (λ l. length (u b) + l) (code_long k (pc + length (u b)))
-    code_long (Put m k) pc = let ek = code_long k (pc + 1) in omega (arith, ek)
+    code_long (Do b k) pc =
+        omega (arith, length-append {A = Uop}, code_long k (pc + length (u b)))
+    code_long (Put m k) pc = omega (arith, code_long k (pc + 1))
     code_long (If r x y k) pc =
         let at_x = pc + 1 + size u y + 2 in
-        let end = at_x + size u x in
-        let ey = code_long y (pc + 1) in
-        let ex = code_long x at_x in
-        let ek = code_long k end in
-        let a = length-append (code_of u y (pc + 1)) (leave end ++ (code_of u x at_x
-        ++ code_of u k end)) in
-        let b = length-append (code_of u x at_x) (code_of u k end) in
-        omega (arith, ey, ex, ek, a, b)
+        omega (
+          arith,
+          length-append {A = Uop},
+          code_long y (pc + 1),
+          code_long x at_x,
+          code_long k (at_x + size u x),
+        )
     code_long (Loop r ts k) pc =
         let top = pc + 1 + 2 in
-        let end = top + turns_size u ts in
-        let et = turns_long r top (pc + 1) ts top in
-        let ek = code_long k end in
-        let a = length-append (turns_code u r top (pc + 1) ts top) (code_of u k end) in
-        omega (arith, et, ek, a)
+        omega (
+          arith,
+          length-append {A = Uop},
+          turns_long r top (pc + 1) ts top,
+          code_long k (top + turns_size u ts),
+        )
 
     pub turns_long : (r top out : ℕ) (ts : TurnsOf A) (pc : ℕ)
         → length (turns_code u r top out ts pc) ≡ turns_size u ts
     turns_long r top out (Last x) pc =
-        let ex = code_long x (pc + 1) in
-        let a = length-append (code_of u x (pc + 1)) (uop.Bnez r top ∷ []) in
-        omega (arith, ex, a)
+        omega (arith, length-append {A = Uop}, code_long x (pc + 1))
     turns_long r top out (Turn x ts) pc =
-        let test = pc + 1 + size u x in
-        let ex = code_long x (pc + 1) in
-        let et = turns_long r top out ts (test + 1 + 2) in
-        let a = length-append (code_of u x (pc + 1)) (uop.Bnez r (test + 1 + 2) ∷ (leave out
-        ++ turns_code u r top out ts (test + 1 + 2))) in
-        omega (arith, ex, et, a)
+        let next = pc + 1 + size u x + 1 + 2 in
+        omega (
+          arith,
+          length-append {A = Uop},
+          code_long x (pc + 1),
+          turns_long r top out ts next,
+        )
+
+-- the code of one flow, and that of more
+pub flows_long : (f : FlowOf Part) (fs : List (FlowOf Part)) (pc : ℕ)
+    → length (flows_code body_uops (f ∷ fs) pc)
+    ≡ size body_uops f + length (flows_code body_uops fs (pc + size body_uops f))
+flows_long f fs pc = omega (arith, length-append {A = Uop}, code_long Part body_uops f pc)
 
 -- a part takes no more instructions than its body may
-module _ (A B : Type 0) (u : A → List Uop) (block : A → B) (cost : B → ℕ) (P : A → Type 0)
-    (few : (a : A) → P a → length (u a) ≤ cost (block a)) where
-  mutual
-    pub flow_few : (f : FlowOf A) → AllFlow P f → size u f ≤ flow_size cost (flow_map block f)
-    flow_few End h = omega arith
-    flow_few (Do b k) h = omega (arith, few b h.0, flow_few k h.1)
-    flow_few (Put m k) h = omega (arith, flow_few k h)
-    flow_few (If r x y k) h = omega (arith, flow_few x h.0, flow_few y h.1.0, flow_few k h.1.1)
-    flow_few (Loop r ts k) h = omega (arith, acts_few ts h.0, flow_few k h.1)
+body_few : (p : Part) → IsPart p → length (body_uops p) ≤ body_cost p.block
+body_few p is = omega (arith, length-map p.cmds (code_uop p.block), is.short)
 
-    pub acts_few : (ts : TurnsOf A) → AllActs P ts
-        → turns_size u ts ≤ acts_size cost (acts_map block ts)
-    acts_few (Last x) h = omega (arith, flow_few x h)
-    acts_few (Turn x ts) h = omega (arith, flow_few x h.0, acts_few ts h.1)
+mutual
+  pub flow_few : (f : FlowOf Part) → AllFlow IsPart f
+      → size body_uops f ≤ flow_size body_cost (flow_map block_of_part f)
+  flow_few End h = omega arith
+  flow_few (Do b k) h = omega (arith, body_few b h.0, flow_few k h.1)
+  flow_few (Put m k) h = omega (arith, flow_few k h)
+  flow_few (If r x y k) h = omega (arith, flow_few x h.0, flow_few y h.1.0, flow_few k h.1.1)
+  flow_few (Loop r ts k) h = omega (arith, acts_few ts h.0, flow_few k h.1)
+
+  pub acts_few : (ts : TurnsOf Part) → AllActs IsPart ts
+      → turns_size body_uops ts ≤ acts_size body_cost (acts_map block_of_part ts)
+  acts_few (Last x) h = omega (arith, flow_few x h)
+  acts_few (Turn x ts) h = omega (arith, flow_few x h.0, acts_few ts h.1)
 
 -- Walks: as many instructions as stand in the code, times the greatest width for each of two loops
 -- that stand inside one another

@@ -1,7 +1,6 @@
 -- Where each body carries its commands, all are settled, and those of all rounds are AAP and AP.
-use Rattle.std.proofs.Common.{◌≡◌, ℕ, ◌+◌, Bool, true, false, cond, List, [], ◌∷◌, length, refl}
-use Rattle.std.proofs.Common.{ap, arith}
-use Rattle.std.specs.Prelude.{◌||◌, count_by, sum_by}
+use Rattle.std.proofs.Common.{◌≡◌, ◌+◌, true, cond, List, [], ◌∷◌, length, refl, arith}
+use Rattle.std.specs.Prelude.{count_by, sum_by}
 use Rattle.std.specs.List.{AllByRecursion}
 use Rattle.std.proofs.lemmas.List.Sums.{sum_by-cons}
 use Rattle.row_alloc.specs.declared.body.BodyCmd.{BodyCmd}
@@ -10,39 +9,23 @@ use Rattle.loop_ir.specs.Plain.{Block, InnerOf, StepOf, AllInner, AllStep, AllPa
 use Rattle.loop_ir.specs.Plain.InnerOf.{Alone, Across}
 use Rattle.loop_ir.specs.Plain.StepOf.{Single, Along, Nest, Flowed}
 use Rattle.loop_ir.specs.Loops.{RoundOf}
-use Rattle.loop_ir.specs.States.{has_states}
-use Rattle.loop_ir.specs.Costs.{carries, is_copy, turn_cost, rounds_cost}
+use Rattle.loop_ir.specs.Costs.{carries, turn_cost, rounds_cost}
 use Rattle.loop_laws.proofs.Summed.{rounds_sum}
 use Rattle.word_flow.specs.Coded.{is_aap, is_ap, aps_of}
-use Rattle.uprog_gen.specs.Settled.{turn_count, turn_aaps, turn_aps, is_known, word_of, IsSettled}
+use Rattle.uprog_gen.specs.Settled.{turn_aaps, turn_aps, IsSettled}
 use Rattle.uprog_gen.proofs.Coding.FlowMaps.{flow_among}
 
 -- a command is an AAP or an AP
+one_kind : (c : BodyCmd) → cond (is_aap c) 1 0 + cond (is_ap c) 1 0 ≡ 1
+one_kind (Aap x y) = refl
+one_kind (Ap x) = refl
+
 both_kinds : (cs : List BodyCmd) → count_by is_aap cs + count_by is_ap cs ≡ length cs
 both_kinds [] = refl
-both_kinds (Aap x y ∷ cs) =
-    let e = both_kinds cs in
-    let a = sum_by-cons (λ (c : BodyCmd). cond (is_aap c) 1 0) (Aap x y) cs in
-    let b = sum_by-cons (λ (c : BodyCmd). cond (is_ap c) 1 0) (Aap x y) cs in
-    omega (arith, e, a, b)
-both_kinds (Ap x ∷ cs) =
-    let e = both_kinds cs in
-    let a = sum_by-cons (λ (c : BodyCmd). cond (is_aap c) 1 0) (Ap x) cs in
-    let b = sum_by-cons (λ (c : BodyCmd). cond (is_ap c) 1 0) (Ap x) cs in
-    omega (arith, e, a, b)
-
--- the first, where the test passes
-pick : {A : Type 0} (c : Bool) (x y : A) → c ≡ true → cond c x y ≡ x
-pick true x y e = refl
-pick false x y e = cc
-
--- a round's commands are those that its body carries
-carried_count : (f : BodyCmd → Bool) (copy : ℕ) (b : Block) → carries b ≡ true
-    → turn_count f copy b ≡ count_by f b.found
-carried_count f copy b h = pick (carries b) (count_by f b.found) _ h
-
-carried_cost : (b : Block) → carries b ≡ true → turn_cost b ≡ length b.found
-carried_cost b h = pick (carries b) (length b.found) _ h
+both_kinds (c ∷ cs) =
+    let a = sum_by-cons (λ (c : BodyCmd). cond (is_aap c) 1 0) c cs in
+    let b = sum_by-cons (λ (c : BodyCmd). cond (is_ap c) 1 0) c cs in
+    omega (arith, both_kinds cs, one_kind c, a, b)
 
 -- the AAP and AP of rounds together, and the AP
 pub record Counted (rs : List (RoundOf Block)) : Type 0 where
@@ -59,9 +42,9 @@ counted (r ∷ rs) h =
     let p = sum_by-cons (λ (r : RoundOf Block). turn_aps r.part) r rs in
     let c = sum_by-cons (λ (r : RoundOf Block). turn_cost r.part) r rs in
     let d = sum_by-cons (λ (r : RoundOf Block). aps_of r.part) r rs in
-    let one = carried_count is_aap 1 b h.0 in
-    let two = carried_count is_ap 0 b h.0 in
-    let all = carried_cost b h.0 in
+    let one : turn_aaps b ≡ count_by is_aap b.found = rw h.0 refl in
+    let two : turn_aps b ≡ count_by is_ap b.found = rw h.0 refl in
+    let all : turn_cost b ≡ length b.found = rw h.0 refl in
     record {
       all = omega (arith, more.all, a, p, c, one, two, all, both_kinds b.found);
       aps = omega (arith, more.aps, p, d, two);
@@ -69,7 +52,7 @@ counted (r ∷ rs) h =
 
 -- such a body is settled
 settled : (b : Block) → carries b ≡ true → IsSettled b
-settled b h = ap (λ c. c || (has_states b || (is_copy b || is_known (word_of b)))) h
+settled b h = rw h refl
 
 abbrev Carried : Block → Type 0
 Carried b = carries b ≡ true

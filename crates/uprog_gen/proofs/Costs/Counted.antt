@@ -7,14 +7,13 @@ use Rattle.op_text.specs.declared.tree.Kind.{Kind}
 use Rattle.op_text.specs.declared.word_ops.WordOp.{WordOp}
 use Rattle.op_text.specs.declared.word_ops.WordOp.TheVariants as op
 use Rattle.op_text.specs.Language.{Statement, Compute, Visit, Operation}
-use Rattle.op_text.specs.Meaning.{width}
 use Rattle.op_text.specs.Scratch.{names_width, defines}
 use Rattle.op_text.specs.declared.tree.Param.{Param}
 use Rattle.op_rules.specs.Meets.{Context, next_context, OperationMeets}
 use Rattle.loop_ir.specs.Plain.{Block, StepOf, AllParts}
 use Rattle.loop_ir.specs.Loops.{all_rounds}
 use Rattle.loop_ir.specs.Statements.{Slots, IsPlaced, ComputeMeets, HaveKinds}
-use Rattle.loop_ir.specs.Lowered.{kind_at, args_width}
+use Rattle.loop_ir.specs.Lowered.{args_width}
 use Rattle.word_lower.specs.Programs.{is_linear}
 use Rattle.word_lower.proofs.Statements.{written_in_rooms}
 use Rattle.word_flow.specs.Programs.{is_flow}
@@ -25,7 +24,6 @@ use Rattle.uprog_gen.specs.Layout.{IsLayout}
 use Rattle.uprog_gen.specs.Programs.{IsAsWritten, AreWritten}
 use Rattle.uprog_gen.specs.Totals.{is_word, words_total, parts_total, BlocksSettled}
 use Rattle.uprog_gen.specs.Settled.{turn_aaps, turn_aps, IsSettled}
-use Rattle.uprog_gen.proofs.Coding.Emitted.{parts_both}
 use Rattle.uprog_gen.proofs.Rows.Top.{all_rounds-append}
 use Rattle.uprog_gen.proofs.Naming.Stage.{Stage, next_stage}
 use Rattle.uprog_gen.proofs.Meaning.Meant.{args_same}
@@ -37,27 +35,13 @@ use Rattle.uprog_gen.proofs.Costs.Exact.{first_width, width_is}
 have_first : (slots : Slots) (n : ℕ) (args : List (List ℕ)) (ks : List Kind)
     → HaveKinds slots args ks → args_width slots n args ≡ first_width n ks
 have_first slots n [] [] h = refl
-have_first slots n [] (k ∷ ks) h = absurd h
-have_first slots n (a ∷ args) [] h = absurd h
-have_first slots n (a ∷ args) (k ∷ ks) h = ap (λ o. width n (kind_at o)) h.0.found
-    ∙ ap (width n) h.0.kind
+have_first slots n (a ∷ args) (k ∷ ks) h = rw (h.0.found, h.0.kind) refl
+have_first slots n args ks h = absurd h
 
 -- an operation that is no flow takes a pass or two
 one_of : (p : WordOp) → is_flow p ≡ false → is_linear p ≡ true
 one_of op.Not other = refl
-one_of op.Shl1 other = cc
-one_of op.Shr1 other = cc
-one_of op.Mul other = cc
-one_of op.Div other = cc
-one_of op.Rem other = cc
-one_of op.Divmod other = cc
-one_of op.Bitcount other = cc
-one_of op.Abs other = cc
-one_of op.Relu other = cc
-one_of op.AndRed other = cc
-one_of op.OrRed other = cc
-one_of op.XorRed other = cc
-one_of p other = refl
+one_of p other = cc
 
 -- a statement's written program takes the operation's commands
 exactly : (slots : Slots) (free_bit free_word : ℕ) (target : List ℕ) (second : Option (List ℕ))
@@ -74,6 +58,11 @@ exactly slots free_bit free_word target second p args meets placed steps w = by 
     by false e = is_exactly p meets.gives.slot.kind steps e
         (written_in_rooms slots free_bit free_word target second p args (one_of p e) meets
         placed steps (w.linear e))
+
+parts_both : (P : Block → Type 0) (xs ys : List (StepOf Block)) → AllParts P xs → AllParts P ys
+    → AllParts P (xs ++ ys)
+parts_both P [] ys h k = k
+parts_both P (x ∷ xs) ys h k = (h.0, parts_both P xs ys h.1 k)
 
 -- the rounds of one statement and of those after it
 sum_joined : (f : Block → ℕ) (n : ℕ) (q : List (StepOf Block)) (ps : List (List (StepOf Block)))
@@ -101,10 +90,9 @@ pub as_many : (slots : Slots) (free_bit free_word : ℕ) (body : List Statement)
     (ps : List (List (StepOf Block))) → AreWritten slots free_bit free_word body ps
     → AsMany body ps
 as_many slots free_bit free_word [] [] w = tt
-as_many slots free_bit free_word [] (q ∷ ps) w = w
-as_many slots free_bit free_word (s ∷ body) [] w = w
 as_many slots free_bit free_word (s ∷ body) (q ∷ ps) w =
     as_many slots free_bit free_word body ps w.1
+as_many slots free_bit free_word body ps w = w
 
 -- without blocks it is the word operations' sum, and nothing is to be settled
 pub words_alone : (f : WordOp → ℕ → ℕ) (g : Block → ℕ) (known : List Param) (n : ℕ)
@@ -155,17 +143,13 @@ module _ (o : Operation) (meets : OperationMeets o) (slots : Slots) (free_bit fr
     aaps = λ n some small. refl;
     aps = λ n some small. refl;
   }
-  all_exactly [] c st (q ∷ ps) w h = absurd w
-  all_exactly (s ∷ rest) c st [] w h = absurd w
   all_exactly (Visit b ∷ rest) c st (q ∷ ps) w h =
       let s = Visit b in
       let more = all_exactly rest (next_context c s) (next_stage o c s rest st) ps w.1 h.1 in
       record {
         settled = parts_both IsSettled q (joined ps) h.0 more.settled;
-        aaps = λ n some small. sum_joined turn_aaps n q ps
-            ∙ ap (λ x. rounds_sum turn_aaps (all_rounds n q) + x) (more.aaps n some small);
-        aps = λ n some small. sum_joined turn_aps n q ps
-            ∙ ap (λ x. rounds_sum turn_aps (all_rounds n q) + x) (more.aps n some small);
+        aaps = λ n some small. rw (sum_joined turn_aaps n q ps, more.aaps n some small) refl;
+        aps = λ n some small. rw (sum_joined turn_aps n q ps, more.aps n some small) refl;
       }
   all_exactly (Compute target second p args ∷ rest) c st (q ∷ ps) w h =
       let s = Compute target second p args in
@@ -173,10 +157,9 @@ module _ (o : Operation) (meets : OperationMeets o) (slots : Slots) (free_bit fr
       let more = all_exactly rest (next_context c s) (next_stage o c s rest st) ps w.1 h in
       record {
         settled = parts_both IsSettled q (joined ps) one.settled more.settled;
-        aaps = λ n some small. sum_joined turn_aaps n q ps
-            ∙ ap (λ x. x + rounds_sum turn_aaps (all_rounds n (joined ps))) (one.aaps n some small)
-            ∙ ap (λ x. op_aaps p (names_width c.known n args) + x) (more.aaps n some small);
-        aps = λ n some small. sum_joined turn_aps n q ps
-            ∙ ap (λ x. x + rounds_sum turn_aps (all_rounds n (joined ps))) (one.aps n some small)
-            ∙ ap (λ x. op_aps p (names_width c.known n args) + x) (more.aps n some small);
+        aaps = λ n some small.
+            rw (sum_joined turn_aaps n q ps, one.aaps n some small, more.aaps n some small) refl;
+        aps = λ n some small.
+            rw (sum_joined turn_aps n q ps, one.aps n some small, more.aps n some small) refl;
       }
+  all_exactly rest c st ps w h = absurd w

@@ -17,6 +17,7 @@ use Rattle.loop_ir.specs.Loops.{all_rounds}
 use Rattle.loop_ir.specs.Costs.{carries}
 use Rattle.loop_laws.specs.Rooms.{placed_steps}
 use Rattle.loop_laws.proofs.Alike.{InRooms}
+use Rattle.loop_laws.proofs.EachRound.{each_round}
 use Rattle.loop_laws.proofs.Summed.{rounds_sum, sum_is}
 use Rattle.word_lower.specs.declared.table.ProgramRow.{ProgramRow}
 use Rattle.word_lower.specs.declared.table.ProgramRow.TheVariants.{Spread}
@@ -25,7 +26,6 @@ use Rattle.word_flow.specs.Programs.{is_flow, flow_total, flow_aps}
 use Rattle.word_flow.proofs.Exactly.{IsExact}
 use Rattle.uprog_gen.specs.Costs.{op_aaps, op_aps}
 use Rattle.uprog_gen.specs.Settled.{turn_aaps, turn_aps, IsSettled}
-use Rattle.uprog_gen.proofs.Rows.Top.{in_rounds}
 use Rattle.uprog_gen.proofs.Costs.Carried.{counted, all_settled}
 use Rattle.uprog_gen.proofs.Costs.Placed.{steps_settle, settled_steps, aaps_like, aps_like}
 
@@ -48,45 +48,31 @@ abbrev pub op_width : WordOp → Kind → ℕ → ℕ
 op_width p k n = cond (spreads p) (width n k) n
 
 -- those that are no flows, by the numbers of their owners
-numbered_aaps : (p : WordOp) (k : Kind) (n : ℕ) → 0 < n → is_flow p ≡ false
-    → rounds_sum turn_aaps (all_rounds n (placed_steps [] (program p k)))
-    ≡ op_aaps p (op_width p k n)
-numbered_aaps op.Shl1 k n some other = cc
-numbered_aaps op.Shr1 k n some other = cc
-numbered_aaps op.Mul k n some other = cc
-numbered_aaps op.Div k n some other = cc
-numbered_aaps op.Rem k n some other = cc
-numbered_aaps op.Divmod k n some other = cc
-numbered_aaps op.Bitcount k n some other = cc
-numbered_aaps op.Abs k n some other = cc
-numbered_aaps op.AndRed k n some other = cc
-numbered_aaps op.OrRed k n some other = cc
-numbered_aaps op.Relu k n some other = cc
-numbered_aaps op.XorRed k n some other = cc
-numbered_aaps p Word n some other = let h = sum_is turn_aaps n (placed_steps [] (program p Word)) in
-    omega (arith, h, some)
-numbered_aaps p Bit n some other = let h = sum_is turn_aaps n (placed_steps [] (program p Bit)) in
-    omega (arith, h, some)
-
-numbered_aps : (p : WordOp) (k : Kind) (n : ℕ) → 0 < n → is_flow p ≡ false
-    → rounds_sum turn_aps (all_rounds n (placed_steps [] (program p k)))
-    ≡ op_aps p (op_width p k n)
-numbered_aps op.Shl1 k n some other = cc
-numbered_aps op.Shr1 k n some other = cc
-numbered_aps op.Mul k n some other = cc
-numbered_aps op.Div k n some other = cc
-numbered_aps op.Rem k n some other = cc
-numbered_aps op.Divmod k n some other = cc
-numbered_aps op.Bitcount k n some other = cc
-numbered_aps op.Abs k n some other = cc
-numbered_aps op.AndRed k n some other = cc
-numbered_aps op.OrRed k n some other = cc
-numbered_aps op.Relu k n some other = cc
-numbered_aps op.XorRed k n some other = cc
-numbered_aps p Word n some other = let h = sum_is turn_aps n (placed_steps [] (program p Word)) in
-    omega (arith, h, some)
-numbered_aps p Bit n some other = let h = sum_is turn_aps n (placed_steps [] (program p Bit)) in
-    omega (arith, h, some)
+numbered : (p : WordOp) (k : Kind) (n : ℕ) → 0 < n → is_flow p ≡ false
+    → (rounds_sum turn_aaps (all_rounds n (placed_steps [] (program p k)))
+    ≡ op_aaps p (op_width p k n))
+    × (rounds_sum turn_aps (all_rounds n (placed_steps [] (program p k)))
+    ≡ op_aps p (op_width p k n))
+numbered op.Shl1 k n some other = cc
+numbered op.Shr1 k n some other = cc
+numbered op.Mul k n some other = cc
+numbered op.Div k n some other = cc
+numbered op.Rem k n some other = cc
+numbered op.Divmod k n some other = cc
+numbered op.Bitcount k n some other = cc
+numbered op.Abs k n some other = cc
+numbered op.AndRed k n some other = cc
+numbered op.OrRed k n some other = cc
+numbered op.Relu k n some other = cc
+numbered op.XorRed k n some other = cc
+numbered p Word n some other =
+    let a = sum_is turn_aaps n (placed_steps [] (program p Word)) in
+    let b = sum_is turn_aps n (placed_steps [] (program p Word)) in
+    (omega (arith, a, some), omega (arith, b, some))
+numbered p Bit n some other =
+    let a = sum_is turn_aaps n (placed_steps [] (program p Bit)) in
+    let b = sum_is turn_aps n (placed_steps [] (program p Bit)) in
+    (omega (arith, a, some), omega (arith, b, some))
 
 -- what is known of a statement's program
 pub record IsExactly (p : WordOp) (w : ℕ → ℕ) (steps : List (StepOf Block)) : Type 0 where
@@ -103,9 +89,9 @@ is_exactly p k steps other r = record {
   settled = subst (AllParts IsSettled) (sym r.same)
       (settled_steps r.rooms r.rows (program p k) (all_settle p k));
   aaps = λ n some small. ap (λ ss. rounds_sum turn_aaps (all_rounds n ss)) r.same
-      ∙ aaps_like r.rooms r.rows n (program p k) ∙ numbered_aaps p k n some other;
+      ∙ aaps_like r.rooms r.rows n (program p k) ∙ (numbered p k n some other).0;
   aps = λ n some small. ap (λ ss. rounds_sum turn_aps (all_rounds n ss)) r.same
-      ∙ aps_like r.rooms r.rows n (program p k) ∙ numbered_aps p k n some other;
+      ∙ aps_like r.rooms r.rows n (program p k) ∙ (numbered p k n some other).1;
 }
 
 -- the operation of a flow takes the flow's commands, on words
@@ -117,17 +103,7 @@ record TakesFlow (p : WordOp) : Type 0 where
 takes_flow : (p : WordOp) → is_flow p ≡ true → TakesFlow p
 takes_flow op.Shl1 is = record { wide = refl; aaps = λ n. omega arith; aps = λ n. refl }
 takes_flow op.Shr1 is = record { wide = refl; aaps = λ n. omega arith; aps = λ n. refl }
-takes_flow op.Mul is = record { wide = refl; aaps = λ n. refl; aps = λ n. refl }
-takes_flow op.Div is = record { wide = refl; aaps = λ n. refl; aps = λ n. refl }
-takes_flow op.Rem is = record { wide = refl; aaps = λ n. refl; aps = λ n. refl }
-takes_flow op.Divmod is = record { wide = refl; aaps = λ n. refl; aps = λ n. refl }
-takes_flow op.Bitcount is = record { wide = refl; aaps = λ n. refl; aps = λ n. refl }
-takes_flow op.Abs is = record { wide = refl; aaps = λ n. refl; aps = λ n. refl }
-takes_flow op.AndRed is = record { wide = refl; aaps = λ n. refl; aps = λ n. refl }
-takes_flow op.OrRed is = record { wide = refl; aaps = λ n. refl; aps = λ n. refl }
-takes_flow op.Relu is = record { wide = refl; aaps = λ n. refl; aps = λ n. refl }
-takes_flow op.XorRed is = record { wide = refl; aaps = λ n. refl; aps = λ n. refl }
-takes_flow p is = cc
+takes_flow p is = record { wide = cc; aaps = λ n. cc; aps = λ n. cc }
 
 -- the program of a flow, whose bodies carry their commands
 pub flow_is_exactly : (p : WordOp) (k : Kind) (steps : List (StepOf Block)) → is_flow p ≡ true
@@ -136,7 +112,7 @@ flow_is_exactly p k steps is e =
     let takes = takes_flow p is in
     let wide = λ (n : ℕ). ap (λ c. cond c (width n k) n) takes.wide in
     let all = λ (n : ℕ). counted (all_rounds n steps)
-    (in_rounds Block (λ b. carries b ≡ true) n steps e.carried) in
+    (each_round (λ b. carries b ≡ true) n steps e.carried) in
     record {
       settled = all_settled steps e.carried;
       aaps = λ n some small.
@@ -169,16 +145,10 @@ shape_width : (s : Signature) (ks : List Kind) (k : Kind) (n : ℕ)
     → given_first (signature_forms s) (first_of ks) ≡ k
     → first_width n ks ≡ cond (keeps_kind s) (width n k) n
 shape_width shape.OneOf [] k n e f = cc
-shape_width shape.TwoOf [] k n e f = cc
-shape_width shape.Choice [] k n e f = cc
-shape_width s [] k n e f = refl
-shape_width shape.OneOf (Word ∷ ks) k n e f = ap (width n) f
-shape_width shape.OneOf (Bit ∷ ks) k n e f = ap (width n) f
-shape_width shape.TwoOf (Word ∷ ks) k n e f = ap (width n) f
-shape_width shape.TwoOf (Bit ∷ ks) k n e f = ap (width n) f
-shape_width shape.Choice (Word ∷ ks) k n e f = ap (width n) f
-shape_width shape.Choice (Bit ∷ ks) k n e f = ap (width n) f
-shape_width s (Word ∷ ks) k n e f = refl
+shape_width s [] k n e f = cc
+shape_width shape.OneOf (Word ∷ ks) k n e f = cc
+shape_width s (Word ∷ ks) k n e f = cc
+shape_width shape.OneOf (Bit ∷ ks) k n e f = cc
 shape_width s (Bit ∷ ks) k n e f = cc
 
 pub width_is : (p : WordOp) (ks : List Kind) (k : Kind) (n : ℕ) → filled (forms p) ks ≡ Some k

@@ -1,21 +1,19 @@
 -- Where the rows of the owners lie plays no part in what a body's commands count, nor in whether they
 -- are settled.
-use Rattle.std.proofs.Common.{◌≡◌, ℕ, Bool, true, false, cond, List, [], ◌∷◌, ap}
-use Rattle.std.proofs.Common.{◌∙◌}
-use Rattle.std.specs.Prelude.{◌&&◌, ◌||◌, count_by}
+use Rattle.std.proofs.Common.{◌≡◌, ℕ, Bool, true, false, List, [], ◌∷◌, ap, ◌∙◌, refl}
+use Rattle.std.specs.Prelude.{◌&&◌, ◌||◌}
 use Rattle.std.proofs.lemmas.Bool.{and_parts}
 use Rattle.row_alloc.specs.declared.body.BodyCmd.{BodyCmd}
 use Rattle.loop_ir.specs.Plain.{Block, StepOf, AllParts}
 use Rattle.loop_ir.specs.Plain.StepOf.{Single, Along, Nest, Flowed}
 use Rattle.loop_ir.specs.Loops.{all_rounds}
-use Rattle.loop_ir.specs.States.{has_states, held_of}
 use Rattle.loop_ir.specs.Costs.{is_copy}
 use Rattle.loop_laws.specs.Rooms.{Room, Marked, placed_body, placed_steps}
 use Rattle.loop_laws.proofs.Alike.{HaveRows, has_like, held_like, rounds_like}
 use Rattle.loop_laws.proofs.Summed.{rounds_sum}
 use Rattle.word_flow.specs.Coded.{is_aap, is_ap}
-use Rattle.uprog_gen.specs.Settled.{word_of, word_commands, held_commands, turn_count, turn_aaps}
-use Rattle.uprog_gen.specs.Settled.{turn_aps, is_known, is_settled, IsSettled}
+use Rattle.uprog_gen.specs.Settled.{word_of, turn_count, turn_aaps, turn_aps, is_known, is_settled}
+use Rattle.uprog_gen.specs.Settled.{IsSettled}
 
 -- each body of a loop program is settled: those of one pass have no nest and no flow
 abbrev pub steps_settle : List (StepOf Block) → Bool
@@ -46,12 +44,7 @@ module _ (rooms : List Room) (rows : HaveRows rooms) where
 
   count_like : (f : BodyCmd → Bool) (copy : ℕ) (b : Marked)
       → turn_count f copy (placed_body rooms b) ≡ turn_count f copy (placed_body [] b)
-  count_like f copy b =
-      let c = placed_body [] b in
-      let own = cond (is_copy c) copy (count_by f (word_commands (word_of c))) in
-      ap (λ x. cond x (count_by f (held_commands (held_of (placed_body rooms b)))) own)
-      (has_like rooms rows b)
-      ∙ ap (λ o. cond (has_states c) (count_by f (held_commands o)) own) (held_like rooms rows b)
+  count_like f copy b = rw (has_like rooms rows b, held_like rooms rows b) refl
 
   pub aaps_like : (n : ℕ) (ss : List (StepOf Marked))
       → rounds_sum turn_aaps (all_rounds n (placed_steps rooms ss))

@@ -1,6 +1,6 @@
 -- The greatest need of statements, one statement after another.
-use Rattle.std.proofs.Common.{◌≡◌, ℕ, ◌+◌, ◌<◌, List, [], ◌∷◌, ◌++◌, take, map, length}
-use Rattle.std.proofs.Common.{sym, ap, ◌∙◌, arith}
+use Rattle.std.proofs.Common.{◌≡◌, ℕ, ◌+◌, ◌<◌, List, [], ◌∷◌, ◌++◌, take, map, length, sym, ap}
+use Rattle.std.proofs.Common.{◌∙◌, arith}
 use Rattle.std.specs.Prelude.{max, slice_index_or}
 use Rattle.std.proofs.lemmas.List.{map-append, map_more}
 use Rattle.op_text.specs.declared.tree.Stmt.{Stmt}

@@ -100,7 +100,7 @@ tested false = inr refl
 module _ (op : Operation) (meets : OperationMeets op) (slots : Slots) (free_bit free_word : ℕ)
     (is : IsLayout op slots free_bit free_word) where
   holds : (name : List ℕ) (x : Slot) → slots name ≡ Some x → holds_kind x.space x.kind ≡ true
-  holds name x e = slot_holds op meets slots free_bit free_word is name x e
+  holds name x e = slot_holds _ meets _ _ _ is name x e
 
   -- no row of a name is one of another's
   other_row : (n : ℕ) (names : List (List ℕ)) (name : List ℕ) (x : Slot) (v : ℕ)
@@ -112,10 +112,9 @@ module _ (op : Operation) (meets : OperationMeets op) (slots : Slots) (free_bit 
       let u = r.2 in
       let f : slots m ≡ Some y = r.4 in
       let q : slot_spot n x v ≡ slot_spot n y u = r.6 in
-      let same : name ≡ m = slots_apart op meets slots free_bit free_word is name m x y e f
+      let same : name ≡ m = slots_apart _ meets _ _ _ is name m x y e f
       (same_spaces n x y v u q) (same_places n x y v u (holds name x e) (holds m y f) lt r.5 q)
-      in
-      absurd (cc (subst (λ (a : List ℕ). is_among names a ≡ true) (sym same) r.3, out))
+      in absurd (cc (subst (λ (a : List ℕ). is_among names a ≡ true) (sym same) r.3, out))
 
   -- nor of the internal scratch
   inner_row : (n : ℕ) (s : Statement) (name : List ℕ) (x : Slot) (v : ℕ) → slots name ≡ Some x
@@ -125,11 +124,7 @@ module _ (op : Operation) (meets : OperationMeets op) (slots : Slots) (free_bit 
       ∙ ap (λ (p : Spot). p.space) h.2 in
       let q : spot_in n ScratchBit x.which v ≡ spot_in n ScratchBit (free_bit + h.0) 0 =
       ap (λ (t : Space). spot_in n t x.which v) (sym sp) ∙ h.2 in
-      absurd (omega (
-        arith,
-        ap (λ (p : Spot). p.which) q,
-        slot_bit op meets slots free_bit free_word is name x e sp,
-      ))
+      absurd (omega (arith, ap (λ (p : Spot). p.which) q, slot_bit _ meets _ _ _ is name x e sp))
   inner_row n s name x v e lt (inr h) =
       let sp : x.space ≡ ScratchWord = sym (spot_space n x.space x.which v)
       ∙ ap (λ (p : Spot). p.space) h.2 in
@@ -140,8 +135,7 @@ module _ (op : Operation) (meets : OperationMeets op) (slots : Slots) (free_bit 
       absurd (omega (
         arith,
         ap (λ (p : Spot). p.index) q,
-        mul-add-lt x.which n v free_word (slot_word op meets slots free_bit free_word is name x e
-            sp) l,
+        mul-add-lt x.which n v free_word (slot_word _ meets _ _ _ is name x e sp) l,
         mul_comm free_word n,
       ))
 
@@ -160,11 +154,9 @@ module _ (op : Operation) (meets : OperationMeets op) (slots : Slots) (free_bit 
       let new = after_rounds n (all_rounds n steps) bits in
       same_bits (λ v. bits (slot_spot n x v)) (λ v. new (slot_spot n x v)) 0 0 (width n x.kind)
       (λ v lt. let z : 0 + v ≡ v = omega arith in
-      ap (λ u. bits (slot_spot n x u)) z ∙ sym
-      (does.keeps bits (slot_spot n x v)
+      ap (λ u. bits (slot_spot n x u)) z ∙ sym (does.keeps bits (slot_spot n x v)
       (ap is_state (spot_space n x.space x.which v) ∙ no_state x.space x.kind (holds name x e))
-      (unchanged n s name x v out e lt))
-      ∙ ap (λ u. new (slot_spot n x u)) (sym z))
+      (unchanged n s name x v out e lt)) ∙ ap (λ u. new (slot_spot n x u)) (sym z))
 
   kept_holds : (n : ℕ) (s : Statement) (steps : List (StepOf Block)) (held : List ℕ
       → NameValue) (bits : Spots) (name : List ℕ) → Does slots free_bit free_word s n steps
@@ -178,26 +170,20 @@ module _ (op : Operation) (meets : OperationMeets op) (slots : Slots) (free_bit 
       by : (o : Option Slot) → slots name ≡ o → HoldsAt n o (held name) bits
           → HoldsAt n (slots name) (after_statement n held s name) new
       by None e k = absurd k
-      by (Some x) e k =
-          subst (λ (o : Option Slot). HoldsAt n o (after_statement n held s name) new) (sym e)
-          (subst (λ (w : NameValue). HoldsAt n (Some x) w new) (sym (statement_other n held s name
-          out))
-          (k.0, k.1 ∙ kept_bits n s steps bits name x does out e))
+      by (Some x) e k = rw (e, statement_other n held s name out)
+          (k.0, k.1 ∙ kept_bits n s steps bits name x does out e)
 
   -- one statement
   step_holds : (c : Context) (s : Statement) (rest : List Statement) → Stage op c (s ∷ rest)
       → (n : ℕ) (steps : List (StepOf Block)) (held : List ℕ → NameValue) (bits : Spots)
-      → Does slots free_bit free_word s n steps
-      → HoldsAll n slots held bits (names_of c.known)
+      → Does slots free_bit free_word s n steps → HoldsAll n slots held bits (names_of c.known)
       → HoldsAll n slots (after_statement n held s) (after_rounds n (all_rounds n steps) bits)
       (names_of (next_context c s).known)
-  step_holds c s rest st n steps held bits does all name h =
-      ⊎_elim
+  step_holds c s rest st n steps held bits does all name h = ⊎_elim
       (λ (w : is_among (written_names s) name
       ≡ true). does.gives held bits (λ r hr. let k = read_known c s r st.body.0 hr in
       all r (known_among c.known r k.0 k.1)) name w)
-      (λ (w : is_among (written_names s) name ≡ false).
-      kept_holds n s steps held bits name does w
+      (λ (w : is_among (written_names s) name ≡ false). kept_holds n s steps held bits name does w
       (⊎_elim (all name) (λ (d : is_among (names_of (defines c.known s)) name
       ≡ true). absurd (cc (d, w, written_defined c.known s name)))
       (among_split (names_of c.known) (names_of (defines c.known s)) name
@@ -214,14 +200,12 @@ module _ (op : Operation) (meets : OperationMeets op) (slots : Slots) (free_bit 
   body_holds [] c st [] low n some small held bits all =
       subst (λ (l : List Param). HoldsAll n slots held bits (names_of l)) (sym (append-nil c.known))
       all
-  body_holds [] c st (p ∷ ps) low n some small held bits all = absurd low
-  body_holds (s ∷ rest) c st [] low n some small held bits all = absurd low
   body_holds (s ∷ rest) c st (p ∷ ps) low n some small held bits all =
       let held' = after_statement n held s in
       let bits' = after_rounds n (all_rounds n p) bits in
       subst (λ (l : List Param). HoldsAll n slots (after_body n rest held')
-      (after_statements n ps bits') (names_of l))
-      (append_assoc c.known (defines c.known s)
+      (after_statements n ps bits') (names_of l)) (append_assoc c.known (defines c.known s)
       (body_defines (c.known ++ defines c.known s) rest))
-      (body_holds rest (next_context c s) (next_stage op c s rest st) ps low.1 n some small held' bits'
-      (step_holds c s rest st n p held bits (low.0.does n some small) all))
+      (body_holds rest (next_context c s) (next_stage op _ _ _ st) ps low.1 n some small held' bits'
+      (step_holds _ _ _ st n p held bits (low.0.does n some small) all))
+  body_holds _ _ _ _ low _ _ _ _ _ _ = absurd low

@@ -1,6 +1,6 @@
 -- Names among others, and what a statement leaves of the others.
 use Rattle.std.proofs.Common.{◌≡◌, ℕ, Bool, true, false, not, ◌||◌, cond, List, [], ◌∷◌, ◌++◌, map}
-use Rattle.std.proofs.Common.{Some, None, refl, sym, ap, ◌∙◌, subst, bytes_eq, ◌⊎◌, inl, inr}
+use Rattle.std.proofs.Common.{Some, None, refl, sym, ap, ◌∙◌, subst, bytes_eq, ◌⊎◌, inl, inr, arith}
 use Rattle.std.specs.Prelude.{fold}
 use Rattle.std.specs.List.{filter}
 use Rattle.op_text.specs.declared.tree.Kind.{Kind}
@@ -8,12 +8,12 @@ use Rattle.op_text.specs.declared.tree.State.{State}
 use Rattle.op_text.specs.Language.{Equation, Block, Statement, Compute, Visit}
 use Rattle.op_text.specs.Rules.{is_among, kind_among}
 use Rattle.op_text.specs.Meaning.{NameValue, changed, bit_written, term_bit, bit_read, with_lets}
-use Rattle.op_text.specs.Meaning.{assigned, visited, positions, with_blanks, with_states}
-use Rattle.op_text.specs.Meaning.{computed, after_statement}
+use Rattle.op_text.specs.Meaning.{assigned, visited, positions, with_blanks, with_states, computed}
+use Rattle.op_text.specs.Meaning.{after_statement}
 use Rattle.op_text.specs.Scratch.{param, state_names, word_names}
 use Rattle.op_text.specs.Spelling.{Each}
 use Rattle.op_rules.specs.Meets.{targets}
-use Rattle.op_rules.proofs.Names.{same_name, other_way, among-append, or_first, or_second}
+use Rattle.op_rules.proofs.Names.{same_name, other_way, among-append, or_first}
 use Rattle.loop_ir.specs.Statements.{written_names}
 use Rattle.uprog_gen.proofs.Naming.Lays.{by_bool}
 
@@ -22,19 +22,16 @@ or_split true b h = inl refl
 or_split false b h = inr h
 
 pub or_left : (a b : Bool) → a ≡ true → (a || b) ≡ true
-or_left true b h = refl
-or_left false b h = absurd (cc)
+or_left a b h = grind (arith, h)
 
 pub or_right : (a b : Bool) → b ≡ true → (a || b) ≡ true
-or_right true b h = refl
-or_right false b h = h
+or_right a b h = grind (arith, h)
 
 -- what holds of each of the names
 pub each_among : (P : List ℕ → Type 0) (ns : List (List ℕ)) (name : List ℕ) → Each P ns
     → is_among ns name ≡ true → P name
 each_among P [] name h e = absurd (cc)
-each_among P (n ∷ ns) name h e =
-    by_bool (λ b. (b || is_among ns name) ≡ true
+each_among P (n ∷ ns) name h e = by_bool (λ b. (b || is_among ns name) ≡ true
     → P name) (bytes_eq n name) (λ s f. subst P (same_name n name s) h.0) (λ s f.
     each_among P ns name h.1 f) e
 
@@ -57,41 +54,23 @@ pub filter_among : (q : List ℕ → Bool) (ns : List (List ℕ)) (name : List �
     → is_among (filter q ns) name ≡ true → (is_among ns name ≡ true) × (q name ≡ true)
 filter_among q [] name h = absurd (cc)
 filter_among q (n ∷ ns) name h =
-    by_bool (λ b. is_among (cond b (n ∷ filter q ns) (filter q ns)) name ≡ true
-    → ((bytes_eq n name || is_among ns name) ≡ true) × (q name ≡ true)) (q n)
-    (λ t f.
-    by_bool (λ c. (c || is_among (filter q ns) name) ≡ true → ((c || is_among ns name) ≡ true)
-    × (q name ≡ true)) (bytes_eq n name)
-    (λ s g. (refl, subst (λ (m : List ℕ). q m ≡ true) (same_name n name s) t))
-    (λ s g. filter_among q ns name g)
-    f)
-    (λ t f. let r = filter_among q ns name f in
-    (or_right (bytes_eq n name) (is_among ns name) r.0, r.1))
-    h
+    let more = filter_among q ns name in
+    let same = λ (e : bytes_eq n name ≡ true). ap q (same_name n name e) in
+    (grind (arith, h, more), grind (arith, h, more, same))
 
 pub among_filter : (q : List ℕ → Bool) (ns : List (List ℕ)) (name : List ℕ)
     → is_among ns name ≡ true → q name ≡ true → is_among (filter q ns) name ≡ true
 among_filter q [] name h t = h
 among_filter q (n ∷ ns) name h t =
-    by_bool (λ c. bytes_eq n name ≡ c → (c || is_among ns name) ≡ true
-    → is_among (cond (q n) (n ∷ filter q ns) (filter q ns)) name ≡ true) (bytes_eq n name)
-    (λ s e f. subst (λ (d : Bool). is_among (cond d (n ∷ filter q ns) (filter q ns)) name
-    ≡ true) (sym (subst (λ (m : List ℕ). q m ≡ true) (sym (same_name n name s)) t))
-    (or_left (bytes_eq n name) (is_among (filter q ns) name) s))
-    (λ s e f.
-    let more : is_among (filter q ns) name ≡ true = among_filter q ns name f t in
-    by_bool (λ d. is_among (cond d (n ∷ filter q ns) (filter q ns)) name ≡ true) (q n) (λ u.
-    or_right (bytes_eq n name) (is_among (filter q ns) name) more) (λ u. more))
-    refl h
+    let more = λ (e : is_among ns name ≡ true). among_filter q ns name e t in
+    let same = λ (e : bytes_eq n name ≡ true). ap q (same_name n name e) in
+    grind (arith, h, t, more, same)
 
 -- names that are given one kind
 pub one_kind : (k : Kind) (ns : List (List ℕ)) (name : List ℕ) → is_among ns name ≡ true
     → kind_among (map (λ n. param n k) ns) name ≡ Some k
 one_kind k [] name h = absurd (cc)
-one_kind k (n ∷ ns) name h =
-    by_bool (λ b. (b || is_among ns name) ≡ true
-    → cond b (Some k) (kind_among (map (λ n. param n k) ns) name)
-    ≡ Some k) (bytes_eq n name) (λ s f. refl) (λ s f. one_kind k ns name f) h
+one_kind k (n ∷ ns) name h = let more = one_kind k ns name in grind (arith, h, more)
 
 -- the names that are not set
 pub changed_other : {V : Type 0} (names : List ℕ → V) (m name : List ℕ) (v : V)
@@ -105,16 +84,13 @@ assigned_other : (r : List ℕ → Bool) (i : ℕ) (names : List ℕ
 assigned_other r i names [] name h = refl
 assigned_other r i names (e ∷ es) name h =
     let v = bit_written i (names e.name) (term_bit r e.value) in
-    assigned_other r i (changed names e.name v) es name
-    (or_second (bytes_eq e.name name) (is_among (map (λ (e : Equation). e.name) es) name) h)
-    ∙ changed_other names e.name name v (or_first (bytes_eq e.name name)
-    (is_among (map (λ (e : Equation). e.name) es) name) h)
+    assigned_other r i (changed names e.name v) es name (grind (arith, h))
+    ∙ changed_other names e.name name v (grind (arith, h))
 
 visits_other : (b : Block) (ps : List ℕ) (names : List ℕ → NameValue) (name : List ℕ)
     → is_among (targets b) name ≡ false → fold (visited b) names ps name ≡ names name
 visits_other b [] names name h = refl
-visits_other b (i ∷ ps) names name h =
-    visits_other b ps (visited b names i) name h
+visits_other b (i ∷ ps) names name h = visits_other b ps (visited b names i) name h
     ∙ assigned_other (with_lets (λ n. bit_read i (names n)) b.lets) i names b.assigns name h
 
 blanks_other : (n : ℕ) (names : List ℕ → NameValue) (es : List Equation) (name : List ℕ)
@@ -122,49 +98,37 @@ blanks_other : (n : ℕ) (names : List ℕ → NameValue) (es : List Equation) (
     → with_blanks n names es name ≡ names name
 blanks_other n names [] name h = refl
 blanks_other n names (e ∷ es) name h =
-    let h0 = or_first (bytes_eq e.name name) (is_among (map (λ (e : Equation). e.name) es) name) h
-    in
-    let h1 = or_second (bytes_eq e.name name) (is_among (map (λ (e : Equation). e.name) es) name) h
-    in
-    blanks_other n (changed names e.name _) es name h1 ∙ changed_other names e.name name _ h0
+    blanks_other n (changed names e.name _) es name (grind (arith, h))
+    ∙ changed_other names e.name name _ (grind (arith, h))
 
 states_other : (names : List ℕ → NameValue) (ss : List State) (name : List ℕ)
     → is_among (map (λ (s : State). s.name) ss) name ≡ false
     → with_states names ss name ≡ names name
 states_other names [] name h = refl
 states_other names (s ∷ ss) name h =
-    let h0 = or_first (bytes_eq s.name name) (is_among (map (λ (s : State). s.name) ss) name) h in
-    let h1 = or_second (bytes_eq s.name name) (is_among (map (λ (s : State). s.name) ss) name) h in
-    states_other (changed names s.name _) ss name h1 ∙ changed_other names s.name name _ h0
+    states_other (changed names s.name _) ss name (grind (arith, h))
+    ∙ changed_other names s.name name _ (grind (arith, h))
 
 -- a target is a state or a word
 no_target : (b : Block) (name : List ℕ) → is_among (state_names b) name ≡ false
     → is_among (word_names b) name ≡ false → is_among (targets b) name ≡ false
 no_target b name s w =
-    by_bool (λ c. is_among (targets b) name ≡ c → c ≡ false) (is_among (targets b) name)
-    (λ e f. absurd (cc (
-      w,
-      among_filter (λ n. not (is_among (state_names b) n)) (targets b) name e
-          (ap not s),
-    )))
-    (λ e f. refl)
-    refl
+    let f = λ (e : is_among (targets b) name ≡ true).
+    among_filter (λ n. not (is_among (state_names b) n)) (targets b) name e (ap not s) in
+    grind (arith, w, f)
 
 pub statement_other : (n : ℕ) (held : List ℕ → NameValue) (s : Statement) (name : List ℕ)
     → is_among (written_names s) name ≡ false → after_statement n held s name ≡ held name
 statement_other n held (Compute target None p args) name h =
     changed_other held target name _ (or_first (bytes_eq target name) false h)
 statement_other n held (Compute target (Some x) p args) name h =
-    let rest = or_second (bytes_eq target name) (is_among (x ∷ []) name) h in
     let first = computed n p (map held args) in
-    changed_other (changed held target first) x name _ (or_first (bytes_eq x name) false rest)
-    ∙ changed_other held target name first
-    (or_first (bytes_eq target name) (is_among (x ∷ []) name) h)
+    changed_other (changed held target first) x name _ (grind (arith, h))
+    ∙ changed_other held target name first (grind (arith, h))
 statement_other n held (Visit b) name h =
-    let e = sym (among-append (state_names b) (word_names b) name) ∙ h in
-    let s = or_first (is_among (state_names b) name) (is_among (word_names b) name) e in
-    let t = no_target b name s (or_second (is_among (state_names b) name)
-    (is_among (word_names b) name) e) in
+    let e = among-append (state_names b) (word_names b) name in
+    let s : is_among (state_names b) name ≡ false = grind (arith, e, h) in
+    let t = no_target b name s (grind (arith, e, h)) in
     visits_other b (positions b.down n) (with_states (with_blanks n held b.assigns) b.states) name t
     ∙ states_other (with_blanks n held b.assigns) b.states name s
     ∙ blanks_other n held b.assigns name t

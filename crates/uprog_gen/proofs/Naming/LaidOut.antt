@@ -3,7 +3,7 @@ use Rattle.std.proofs.Common.{◌≡◌, ℕ, zero, suc, ◌+◌, ◌<◌, ◌�
 use Rattle.std.proofs.Common.{length, take, drop, Option, Some, None, refl, sym, ap, ◌∙◌, subst}
 use Rattle.std.proofs.Common.{arith, append_assoc, append-nil}
 use Rattle.std.specs.Prelude.{count_by, slice_index_or}
-use Rattle.std.proofs.lemmas.List.{map-append, map_more, take-map, take-append-drop, take_all}
+use Rattle.std.proofs.lemmas.List.{map_more, take-map, take-append-drop, take_all}
 use Rattle.std.proofs.lemmas.List.Sums.{sum_by-append}
 use Rattle.op_text.specs.declared.tree.Kind.{Kind}
 use Rattle.op_text.specs.declared.tree.Kind.TheVariants.{Word, Bit}
@@ -23,8 +23,7 @@ use Rattle.loop_ir.specs.declared.names.NameMap.{NameMap}
 use Rattle.loop_ir.specs.Statements.{slots_of}
 use Rattle.uprog_gen.specs.Layout.{Lay, is_scratch, source_lays, defined_lays, found, IsLayoutMap}
 use Rattle.uprog_gen.specs.Laying.{placed, Lays, kind_in, Knows, IsShort}
-use Rattle.uprog_gen.proofs.Naming.Lays.{params_of, or_else, found_kind, source_params}
-use Rattle.uprog_gen.proofs.Naming.Lays.{defined_params}
+use Rattle.uprog_gen.proofs.Naming.Lays.{params_of, or_else, found_kind, lays_params}
 use Rattle.uprog_gen.proofs.Naming.Placed.{placed_same, placed-append, placed_found}
 use Rattle.uprog_gen.proofs.Naming.Placed.{defined_lays-append}
 
@@ -79,12 +78,7 @@ module _ (op : Operation) (meets : OperationMeets op) where
   first_lays k = source_lays 0 op.params ++ defined_lays (result_names op) 0 0 (front k)
 
   front_params : (k : ℕ) → params_of (first_lays k) ≡ op.params ++ front k
-  front_params k =
-      map-append (λ (l : Lay). record { name = l.name; kind = l.slot.kind })
-      (source_lays 0 op.params) (defined_lays (result_names op) 0 0 (front k))
-      ∙ ap (λ l. l ++ params_of (defined_lays (result_names op) 0 0 (front k)))
-      (source_params 0 op.params)
-      ∙ ap (λ l. op.params ++ l) (defined_params (result_names op) 0 0 (front k))
+  front_params k = lays_params (result_names op) op.params (front k)
 
   -- the rest
   abbrev back : ℕ → List Param
@@ -115,14 +109,12 @@ module _ (op : Operation) (meets : OperationMeets op) where
       ∙ sym (found_kind (first_lays k) name) ∙ ap (λ ps. kind_among ps name) (front_params k)
 
   few : (k : Kind) (j : ℕ) → count_by (is_scratch (result_names op) k) (front j) ≤ 128
-  few k j =
-      omega (
-        arith,
-        (scratch_is_small op meets).names k,
-        ap (count_by (is_scratch (result_names op) k)) (whole j),
-        sum_by-append (λ (q : Param). cond (is_scratch (result_names op) k q) 1 0) (front j)
-            (back j),
-      )
+  few k j = omega (
+    arith,
+    (scratch_is_small op meets).names k,
+    ap (count_by (is_scratch (result_names op) k)) (whole j),
+    sum_by-append (λ (q : Param). cond (is_scratch (result_names op) k q) 1 0) (front j) (back j),
+  )
 
   pub laid_bits : (k : ℕ) (m : NameMap) → IsLaidTo op k m → m.free_bit ≤ 128
   laid_bits k m is = omega (arith, is.bits, few Bit k)
@@ -146,22 +138,16 @@ module _ (op : Operation) (meets : OperationMeets op) where
       let b0 = 0 + count_by (is_scratch (result_names op) Bit) (front k) in
       let w0 = 0 + count_by (is_scratch (result_names op) Word) (front k) in
       record {
-        at = λ n.
-            h.at n
-            ∙ placed_same (slots_of old) (placed (λ m. None) (first_lays k))
-            (defined_lays (result_names op) old.free_bit old.free_word d) is.at n
-            ∙ ap (λ b. placed (placed (λ m. None) (first_lays k))
-            (defined_lays (result_names op) b old.free_word d) n) bits'
-            ∙ ap (λ w. placed (placed (λ m. None) (first_lays k))
-            (defined_lays (result_names op) b0 w d) n) words'
-            ∙ sym (placed-append (λ m. None) (first_lays k) (defined_lays (result_names op) b0
-            w0 d) n)
-            ∙ ap (λ l. placed (λ m. None) l n)
-            (append_assoc (source_lays 0 op.params) (defined_lays (result_names op) 0 0 (front k))
-            (defined_lays (result_names op) b0 w0 d)
-            ∙ ap (λ l. source_lays 0 op.params
-            ++ l) (sym (defined_lays-append (result_names op) 0 0 (front k) d)
-            ∙ ap (defined_lays (result_names op) 0 0) (sym more)));
+        at = λ n. h.at n ∙ placed_same (slots_of old) (placed (λ m. None) (first_lays k))
+            (defined_lays (result_names op) old.free_bit old.free_word d) is.at n ∙ rw (
+              bits',
+              words',
+              more,
+              defined_lays-append (result_names op) 0 0 (front k) d,
+              ← append_assoc (source_lays 0 op.params) (defined_lays (result_names op) 0 0 (front k))
+                  (defined_lays (result_names op) b0 w0 d),
+              placed-append (λ m. None) (first_lays k) (defined_lays (result_names op) b0 w0 d) n,
+            ) refl;
         bits = omega (
           arith,
           h.bits,
@@ -200,7 +186,6 @@ statement_short op items k x meets e lt is = short_at (at_start op) items k x
 pub body_more : (items : List Stmt) (k : ℕ) (x : Stmt) → k < length items
     → x ≡ slice_index_or items k x → take (k + 1) (map statement items)
     ≡ take k (map statement items) ++ statement x ∷ []
-body_more items k x lt e =
-    take-map statement (k + 1) items ∙ map_more statement items k x lt
+body_more items k x lt e = take-map statement (k + 1) items ∙ map_more statement items k x lt
     ∙ ap (λ y. map statement (take k items) ++ statement y ∷ []) (sym e)
     ∙ ap (λ l. l ++ statement x ∷ []) (sym (take-map statement k items))

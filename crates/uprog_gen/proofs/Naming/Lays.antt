@@ -1,13 +1,14 @@
 -- Names and their places.
 use Rattle.std.proofs.Common.{◌≡◌, ℕ, ◌+◌, Bool, true, false, cond, List, [], ◌∷◌, ◌++◌, map}
-use Rattle.std.proofs.Common.{Option, Some, None, refl, sym, ap, ◌∙◌, subst, bytes_eq}
+use Rattle.std.proofs.Common.{Option, Some, None, refl, ap, ◌∙◌, subst, bytes_eq, arith}
+use Rattle.std.proofs.lemmas.List.{map-append}
 use Rattle.op_text.specs.declared.tree.Kind.{Kind}
 use Rattle.op_text.specs.declared.tree.Kind.TheVariants.{Word, Bit}
 use Rattle.op_text.specs.declared.tree.Param.{Param}
 use Rattle.op_text.specs.Rules.{is_among, kind_among}
 use Rattle.op_text.specs.Spelling.{Each}
 use Rattle.op_rules.specs.Meets.{names_of}
-use Rattle.op_rules.proofs.Names.{same_name, or_first, or_second}
+use Rattle.op_rules.proofs.Names.{same_name}
 use Rattle.loop_ir.specs.declared.ir.Space.TheVariants.{Result}
 use Rattle.loop_ir.specs.declared.names.Slot.{Slot}
 use Rattle.uprog_gen.specs.Laying.{kind_in}
@@ -29,13 +30,11 @@ some_is x y e = cc
 pub found_each : (P : Lay → Type 0) (ls : List Lay) (name : List ℕ) (x : Slot) → Each P ls
     → found ls name ≡ Some x → P (lay name x)
 found_each P [] name x h e = absurd (cc)
-found_each P (l ∷ ls) name x h e =
-    by_bool (λ b. cond b (Some l.slot) (found ls name) ≡ Some x
+found_each P (l ∷ ls) name x h e = by_bool (λ b. cond b (Some l.slot) (found ls name) ≡ Some x
     → P (lay name x)) (bytes_eq l.name name)
     (λ s f. subst (λ (z : Slot). P (lay name z)) (some_is l.slot x f)
     (subst (λ (m : List ℕ). P (lay m l.slot)) (same_name l.name name s) h.0))
-    (λ s f. found_each P ls name x h.1 f)
-    e
+    (λ s f. found_each P ls name x h.1 f) e
 
 -- two names at one place
 abbrev pub IsShared : Lay → Lay → Type 0
@@ -51,26 +50,14 @@ pub found_apart : (ls : List Lay) (a b : List ℕ) (x y : Slot) → AreApartLays
 found_apart [] a b x y h e f s w = absurd (cc)
 found_apart (l ∷ ls) a b x y h e f s w =
     let Shares : Lay → Type 0 = λ m. IsShared l m → l.name ≡ m.name in
-    by_bool (λ c. cond c (Some l.slot) (found ls a) ≡ Some x → a ≡ b) (bytes_eq l.name a)
-    (λ p e'.
-    let z : l.slot ≡ x = some_is l.slot x e' in
-    by_bool (λ d. cond d (Some l.slot) (found ls b) ≡ Some y → a ≡ b) (bytes_eq l.name b)
-    (λ q f'. sym (same_name l.name a p) ∙ same_name l.name b q)
-    (λ q f'. sym (same_name l.name a p) ∙ found_each Shares ls b y h.0 f'
-    (ap (λ (v : Slot). v.space) z ∙ s, ap (λ (v : Slot). v.which) z ∙ w))
-    f)
-    (λ p e'.
-    by_bool (λ d. cond d (Some l.slot) (found ls b) ≡ Some y → a ≡ b) (bytes_eq l.name b)
-    (λ q f'.
-    let z : l.slot ≡ y = some_is l.slot y f' in
-    sym (found_each Shares ls a x h.0 e' (
-      ap (λ (v : Slot). v.space) z
-          ∙ sym s,
-      ap (λ (v : Slot). v.which) z ∙ sym w,
-    )) ∙ same_name l.name b q)
-    (λ q f'. found_apart ls a b x y h.1 e' f' s w)
-    f)
-    e
+    let left = same_name l.name a in
+    let right = same_name l.name b in
+    let one = λ (g : found ls a ≡ Some x) (i : l.slot.space ≡ x.space)
+    (j : l.slot.which ≡ x.which). found_each Shares ls a x h.0 g (i, j) in
+    let two = λ (g : found ls b ≡ Some y) (i : l.slot.space ≡ y.space)
+    (j : l.slot.which ≡ y.which). found_each Shares ls b y h.0 g (i, j) in
+    let more = found_apart ls a b x y h.1 in
+    grind (arith, e, f, s, w, left, right, one, two, more)
 
 -- the names and kinds of the list
 abbrev pub params_of : List Lay → List Param
@@ -79,20 +66,12 @@ params_of ls = map (λ (l : Lay). record { name = l.name; kind = l.slot.kind }) 
 pub found_kind : (ls : List Lay) (name : List ℕ)
     → kind_among (params_of ls) name ≡ kind_in (found ls name)
 found_kind [] name = refl
-found_kind (l ∷ ls) name =
-    by_bool (λ b. cond b (Some l.slot.kind) (kind_among (params_of ls) name)
-    ≡ kind_in (cond b (Some l.slot) (found ls name))) (bytes_eq l.name name) (λ e. refl) (λ e.
-    found_kind ls name)
+found_kind (l ∷ ls) name = let more = found_kind ls name in grind (arith, more)
 
 pub found_new : (ls : List Lay) (name : List ℕ) → is_among (names_of (params_of ls)) name ≡ false
     → found ls name ≡ None
 found_new [] name h = refl
-found_new (l ∷ ls) name h =
-    let f = or_first (bytes_eq l.name name) (is_among (names_of (params_of ls)) name) h in
-    by_bool (λ b. b ≡ false → cond b (Some l.slot) (found ls name)
-    ≡ None) (bytes_eq l.name name) (λ e g. absurd (cc)) (λ e g.
-    found_new ls name (or_second (bytes_eq l.name name)
-    (is_among (names_of (params_of ls)) name) h)) f
+found_new (l ∷ ls) name h = let more = found_new ls name in grind (arith, h, more)
 
 abbrev pub or_else : Option Slot → Option Slot → Option Slot
 or_else (Some x) y = Some x
@@ -101,17 +80,13 @@ or_else None y = y
 pub found-append : (ls ms : List Lay) (name : List ℕ)
     → found (ls ++ ms) name ≡ or_else (found ls name) (found ms name)
 found-append [] ms name = refl
-found-append (l ∷ ls) ms name =
-    by_bool (λ b. cond b (Some l.slot) (found (ls ++ ms) name)
-    ≡ or_else (cond b (Some l.slot) (found ls name)) (found ms name)) (bytes_eq l.name name)
-    (λ e. refl) (λ e. found-append ls ms name)
+found-append (l ∷ ls) ms name = let more = found-append ls ms name in grind (arith, more)
 
 -- the kinds
 own_kind : (results : List (List ℕ)) (b w : ℕ) (p : Param) → (own_slot results b w p).kind ≡ p.kind
 own_kind results b w p = cases (is_among results p.name) (place_in results p.name) p.kind
   where
-    cases : (c : Bool) (j : ℕ) (k : Kind)
-        → (cond c (slot Result j k) (scratch_slot b w k)).kind ≡ k
+    cases : (c : Bool) (j : ℕ) (k : Kind) → (cond c (slot Result j k) (scratch_slot b w k)).kind ≡ k
     cases true j k = refl
     cases false j Word = refl
     cases false j Bit = refl
@@ -127,6 +102,11 @@ defined_params results b w (p ∷ ps) =
     let b' = cond (is_scratch results Bit p) (b + 1) b in
     let w' = cond (is_scratch results Word p) (w + 1) w in
     ap (λ (k : Kind). record { name = p.name; kind = k } ∷ params_of (defined_lays results b'
-    w' ps))
-    (own_kind results b w p)
-    ∙ ap (λ l. p ∷ l) (defined_params results b' w' ps)
+    w' ps)) (own_kind results b w p) ∙ ap (λ l. p ∷ l) (defined_params results b' w' ps)
+
+-- the sources and the defined names are the names of all places
+pub lays_params : (results : List (List ℕ)) (ps ds : List Param)
+    → params_of (source_lays 0 ps ++ defined_lays results 0 0 ds) ≡ ps ++ ds
+lays_params results ps ds =
+    map-append (λ (l : Lay). record { name = l.name; kind = l.slot.kind }) (source_lays 0 ps)
+    (defined_lays results 0 0 ds) ∙ rw (source_params 0 ps, defined_params results 0 0 ds) refl

@@ -1,9 +1,8 @@
 -- Where the names of an operation lie: in places of their own.
 use Rattle.std.proofs.Common.{◌≡◌, ℕ, suc, ◌+◌, ◌<◌, ◌≤◌, Bool, true, false, not, ◌&&◌, cond, List}
-use Rattle.std.proofs.Common.{[], ◌∷◌, ◌++◌, map, Some, refl, sym, ap, ◌∙◌, arith, bytes_eq, ◌⊎◌}
-use Rattle.std.proofs.Common.{inl, inr}
+use Rattle.std.proofs.Common.{[], ◌∷◌, ◌++◌, map, Some, refl, sym, ap, ◌∙◌, arith, ◌⊎◌, inl, inr}
 use Rattle.std.proofs.lemmas.List.Sums.{sum_by-cons}
-use Rattle.std.specs.Prelude.{◌||◌, slice_get, count_by}
+use Rattle.std.specs.Prelude.{slice_get, count_by}
 use Rattle.op_text.specs.declared.tree.Kind.{Kind}
 use Rattle.op_text.specs.declared.tree.Kind.TheVariants.{Word, Bit}
 use Rattle.op_text.specs.declared.tree.Param.{Param}
@@ -46,20 +45,12 @@ source_apart k (p ∷ ps) = (
 )
 
 -- two names at one place among others are one
-one_place : (r a b : List ℕ) (rs : List (List ℕ)) (x y : Bool) → bytes_eq r a ≡ x
-    → bytes_eq r b ≡ y → (x || is_among rs a) ≡ true → (y || is_among rs b) ≡ true
-    → cond x 0 (suc (place_in rs a)) ≡ cond y 0 (suc (place_in rs b))
-    → (is_among rs a ≡ true → is_among rs b ≡ true → place_in rs a ≡ place_in rs b → a ≡ b) → a ≡ b
-one_place r a b rs true true p q h g e more = sym (same_name r a p) ∙ same_name r b q
-one_place r a b rs true false p q h g e more = absurd (omega (arith, e))
-one_place r a b rs false true p q h g e more = absurd (omega (arith, e))
-one_place r a b rs false false p q h g e more = more h g (omega (arith, e))
-
 place_same : (rs : List (List ℕ)) (a b : List ℕ) → is_among rs a ≡ true → is_among rs b ≡ true
     → place_in rs a ≡ place_in rs b → a ≡ b
 place_same [] a b h g e = absurd (cc)
-place_same (r ∷ rs) a b h g e = one_place r a b rs (bytes_eq r a) (bytes_eq r b) refl refl h g e
-    (place_same rs a b)
+place_same (r ∷ rs) a b h g e =
+    let more = place_same rs a b in let x = same_name r a in let y = same_name r b in
+    grind (arith, h, g, e, more, x, y)
 
 -- a name that the body defines: a results, or one in the scratch of these bits and words
 abbrev pub IsDefinedLay : List (List ℕ) → ℕ → ℕ → ℕ → ℕ → Lay → Type 0
@@ -78,18 +69,9 @@ head results c b w name k = lay name (cond c (slot Result (place_in results name
 abbrev next : Kind → Bool → ℕ → Kind → ℕ
 next j c b k = cond (same_kind k j && not c) (b + 1) b
 
-next_count : (t : Bool) (b x : ℕ) → cond t (b + 1) b + x ≡ b + (cond t 1 0 + x)
-next_count true b x = omega arith
-next_count false b x = omega arith
-
-next_more : (t : Bool) (b : ℕ) → b ≤ cond t (b + 1) b
-next_more true b = omega arith
-next_more false b = omega arith
-
 head_is : (c : Bool) (k : Kind) (name : List ℕ) (results : List (List ℕ))
     (b w bits words x y : ℕ) → is_among results name ≡ c → next Bit c b k + x ≤ bits → next
-    Word c w k + y ≤ words
-    → IsDefinedLay results b w bits words (head results c b w name k)
+    Word c w k + y ≤ words → IsDefinedLay results b w bits words (head results c b w name k)
 head_is true k name results b w bits words x y e f g = inl (refl, refl, e)
 head_is false Bit name results b w bits words x y e f g =
     inr (inl (refl, refl, omega arith, omega (arith, f), e))
@@ -98,20 +80,11 @@ head_is false Word name results b w bits words x y e f g =
 
 head_apart : (c : Bool) (k : Kind) (name : List ℕ) (results : List (List ℕ))
     (b w bits words : ℕ) (m : Lay) → is_among results name ≡ c → IsDefinedLay results (next Bit
-    c b k) (next Word c w k) bits words m
-    → IsShared (head results c b w name k) m → name ≡ m.name
-head_apart true k name results b w bits words m e (inl h) s = place_same results name m.name e h.2
-    (s.1 ∙ h.1)
-head_apart true k name results b w bits words m e (inr (inl h)) s = absurd (cc (s.0, h.0))
-head_apart true k name results b w bits words m e (inr (inr h)) s = absurd (cc (s.0, h.0))
-head_apart false Bit name results b w bits words m e (inl h) s = absurd (cc (s.0, h.0))
-head_apart false Bit name results b w bits words m e (inr (inl h)) s =
-    absurd (omega (arith, s.1, h.2))
-head_apart false Bit name results b w bits words m e (inr (inr h)) s = absurd (cc (s.0, h.0))
-head_apart false Word name results b w bits words m e (inl h) s = absurd (cc (s.0, h.0))
-head_apart false Word name results b w bits words m e (inr (inl h)) s = absurd (cc (s.0, h.0))
-head_apart false Word name results b w bits words m e (inr (inr h)) s =
-    absurd (omega (arith, s.1, h.2))
+    c b k) (next Word c w k) bits words m → IsShared (head results c b w name k) m → name ≡ m.name
+head_apart true k name results b w bits words m e h s =
+    let same = place_same results name m.name e in grind (arith, h, s, same)
+head_apart false Bit name results b w bits words m e h s = grind (arith, h, s)
+head_apart false Word name results b w bits words m e h s = grind (arith, h, s)
 
 -- further on
 wider : (results : List (List ℕ)) (b w b' w' bits words : ℕ) (m : Lay) → b ≤ b' → w ≤ w'
@@ -128,44 +101,35 @@ module _ (results : List (List ℕ)) (bits words : ℕ) where
 
   fits_rest : (k : Kind) (p : Param) (ps : List Param) (b limit : ℕ) → fits k (p ∷ ps) b limit
       → cond (is_scratch results k p) (b + 1) b + count_by (is_scratch results k) ps ≤ limit
-  fits_rest k p ps b limit h = omega (
-    arith,
-    h,
-    next_count (is_scratch results k p) b (count_by (is_scratch results k) ps),
-    sum_by-cons (λ (q : Param). cond (is_scratch results k q) 1 0) p ps,
-  )
+  fits_rest k p ps b limit h =
+      let cons = sum_by-cons (λ (q : Param). cond (is_scratch results k q) 1 0) p ps in
+      grind (arith, h, cons)
 
-  pub defined_each : (b w : ℕ) (ps : List Param) → fits Bit ps b bits → fits Word ps w words
+  pub defined_lie : (b w : ℕ) (ps : List Param) → fits Bit ps b bits → fits Word ps w words
       → Each (IsDefinedLay results b w bits words) (defined_lays results b w ps)
-  defined_each b w [] f g = tt
-  defined_each b w (p ∷ ps) f g =
+      × AreApartLays (defined_lays results b w ps)
+  defined_lie b w [] f g = (tt, tt)
+  defined_lie b w (p ∷ ps) f g =
       let c = is_among results p.name in
       let f' = fits_rest Bit p ps b bits f in
       let g' = fits_rest Word p ps w words g in
       let b' = next Bit c b p.kind in
-      let w' = next Word c w p.kind in (
-        head_is c p.kind p.name results b w bits words (count_by (is_scratch results Bit) ps)
-            (count_by (is_scratch results Word) ps) refl f' g',
-        each_map (IsDefinedLay results b' w' bits words) (IsDefinedLay results b w bits words)
-            (λ m h. wider results b w b' w' bits words m (next_more (is_scratch results Bit p) b)
-            (next_more (is_scratch results Word p) w) h)
-            (defined_lays results b' w' ps) (defined_each b' w' ps f' g'),
-      )
-
-  pub defined_apart : (b w : ℕ) (ps : List Param) → fits Bit ps b bits → fits Word ps w words
-      → AreApartLays (defined_lays results b w ps)
-  defined_apart b w [] f g = tt
-  defined_apart b w (p ∷ ps) f g =
-      let c = is_among results p.name in
-      let f' = fits_rest Bit p ps b bits f in
-      let g' = fits_rest Word p ps w words g in
-      let b' = next Bit c b p.kind in
-      let w' = next Word c w p.kind in (
-        each_map (IsDefinedLay results b' w' bits words) (λ m. IsShared (head results c b w
-            p.name p.kind) m
-            → p.name ≡ m.name) (λ m h s. head_apart c p.kind p.name results b w bits words m refl h
-            s) (defined_lays results b' w' ps) (defined_each b' w' ps f' g'),
-        defined_apart b' w' ps f' g',
+      let w' = next Word c w p.kind in
+      let rest = defined_lays results b' w' ps in
+      let more = defined_lie b' w' ps f' g' in
+      let Was = IsDefinedLay results b' w' bits words in
+      let first = head results c b w p.name p.kind in (
+        (
+          head_is c p.kind p.name results b w bits words (count_by (is_scratch results Bit) ps)
+              (count_by (is_scratch results Word) ps) refl f' g',
+          each_map Was (IsDefinedLay results b w bits words) (λ m h. wider results b w b' w' bits
+              words m (grind arith) (grind arith) h) rest more.0,
+        ),
+        (
+          each_map Was (λ m. IsShared first m → p.name ≡ m.name)
+              (λ m h s. head_apart c p.kind p.name results b w bits words m refl h s) rest more.0,
+          more.1,
+        ),
       )
 
 apart-append : (ls ms : List Lay) → AreApartLays ls → AreApartLays ms
@@ -194,9 +158,8 @@ module _ (op : Operation) where
 
   pub own_each : Each (IsDefinedLay (result_names op) 0 0 (scratch_names Bit op)
       (scratch_names Word op)) own
-  own_each = defined_each (result_names op) (scratch_names Bit op) (scratch_names Word op) 0 0
-      defined
-      (omega arith) (omega arith)
+  own_each = (defined_lie (result_names op) (scratch_names Bit op) (scratch_names Word op) 0 0
+      defined (omega arith) (omega arith)).0
 
   source_lies : (m : Lay) → IsSourceLay 0 op.params m → LiesIn op m
   source_lies m h = inl (
@@ -206,8 +169,7 @@ module _ (op : Operation) where
   )
 
   pub all_lie : Each (LiesIn op) (lays op)
-  all_lie =
-      each_append (LiesIn op) sources own (each_map (IsSourceLay 0 op.params) (LiesIn op)
+  all_lie = each_append (LiesIn op) sources own (each_map (IsSourceLay 0 op.params) (LiesIn op)
       source_lies sources (source_each 0 op.params))
       (each_map (IsDefinedLay (result_names op) 0 0 (scratch_names Bit op) (scratch_names Word op))
       (LiesIn op) (λ m h. inr h) own own_each)
@@ -216,15 +178,12 @@ module _ (op : Operation) where
   other_space : (l m : Lay) → IsSourceLay 0 op.params l
       → IsDefinedLay (result_names op) 0 0 (scratch_names Bit op) (scratch_names Word op) m
       → IsShared l m → l.name ≡ m.name
-  other_space l m h (inl d) s = absurd (cc (s.0, h.1, d.0))
-  other_space l m h (inr (inl d)) s = absurd (cc (s.0, h.1, d.0))
-  other_space l m h (inr (inr d)) s = absurd (cc (s.0, h.1, d.0))
+  other_space l m h d s = let space = h.1 in grind (arith, space, d, s)
 
   pub all_apart : AreApartLays (lays op)
-  all_apart =
-      apart-append sources own (source_apart 0 op.params)
-      (defined_apart (result_names op) (scratch_names Bit op) (scratch_names Word op) 0 0 defined
-      (omega arith) (omega arith))
+  all_apart = apart-append sources own (source_apart 0 op.params)
+      (defined_lie (result_names op) (scratch_names Bit op) (scratch_names Word op) 0 0 defined
+      (omega arith) (omega arith)).1
       (each_map (IsSourceLay 0 op.params) (λ l. Each (λ m. IsShared l m → l.name ≡ m.name) own)
       (λ l h. each_map (IsDefinedLay (result_names op) 0 0 (scratch_names Bit op)
       (scratch_names Word op)) (λ m. IsShared l m

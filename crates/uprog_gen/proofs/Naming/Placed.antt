@@ -1,7 +1,7 @@
 -- Names that come to their places one after another.
 use Rattle.std.proofs.Common.{◌≡◌, ℕ, ◌+◌, ◌<◌, ◌≤◌, Bool, true, false, not, ◌||◌, cond, List, []}
-use Rattle.std.proofs.Common.{◌∷◌, ◌++◌, map, length, take, Some, None, refl, sym, ap, ◌∙◌, subst}
-use Rattle.std.proofs.Common.{arith, bytes_eq}
+use Rattle.std.proofs.Common.{◌∷◌, ◌++◌, map, length, take, Some, refl, sym, ap, ◌∙◌, subst, arith}
+use Rattle.std.proofs.Common.{bytes_eq}
 use Rattle.std.specs.Prelude.{count_by, slice_index_or}
 use Rattle.std.specs.List.{filter, list_any}
 use Rattle.std.proofs.lemmas.List.{map-append, take_more}
@@ -14,16 +14,15 @@ use Rattle.op_text.specs.declared.tree.Assign.{Assign}
 use Rattle.op_text.specs.Language.{Equation, Visit, equation}
 use Rattle.op_text.specs.Meaning.{changed}
 use Rattle.op_text.specs.Rules.{is_among}
+use Rattle.op_text.specs.WordOps.{same_kind}
 use Rattle.op_text.specs.Scratch.{param, defines}
 use Rattle.op_rules.specs.Meets.{names_of, Differ}
 use Rattle.op_rules.proofs.Names.{same_name, other_way}
 use Rattle.loop_ir.specs.declared.names.NameMap.{NameMap}
 use Rattle.loop_ir.specs.Statements.{Slots, slots_of}
-use Rattle.uprog_gen.specs.Layout.{Lay, own_slot, is_scratch, defined_lays}
-use Rattle.uprog_gen.specs.Layout.{found}
+use Rattle.uprog_gen.specs.Layout.{Lay, is_scratch, defined_lays, found}
 use Rattle.uprog_gen.specs.Laying.{placed, Lays, states_defined, words_defined}
-use Rattle.uprog_gen.proofs.Naming.Lays.{by_bool, params_of, found_new, or_else}
-use Rattle.uprog_gen.proofs.Naming.Among.{changed_other}
+use Rattle.uprog_gen.proofs.Naming.Lays.{params_of, found_new, or_else}
 
 pub placed_same : (f g : Slots) (ls : List Lay) → ((n : List ℕ) → f n ≡ g n) → (n : List ℕ)
     → placed f ls n ≡ placed g ls n
@@ -42,17 +41,10 @@ pub placed_found : (f : Slots) (ls : List Lay) → Differ (names_of (params_of l
     → placed f ls n ≡ or_else (found ls n) (f n)
 placed_found f [] d n = refl
 placed_found f (l ∷ ls) d n =
-    placed_found (changed f l.name (Some l.slot)) ls d.1 n
-    ∙ by_bool (λ b. bytes_eq l.name n ≡ b → or_else (found ls n) (changed f l.name (Some l.slot) n)
-    ≡ or_else (cond b (Some l.slot) (found ls n)) (f n)) (bytes_eq l.name n)
-    (λ e h.
-    let m : l.name ≡ n = same_name l.name n e in
-    let none : found ls n ≡ None = found_new ls n
-    (ap (λ x. is_among (names_of (params_of ls)) x) (sym m) ∙ d.0) in
-    ap (λ o. or_else o (changed f l.name (Some l.slot) n)) none
-    ∙ ap (λ b. cond b (Some l.slot) (f n)) (other_way n l.name ∙ e))
-    (λ e h. ap (or_else (found ls n)) (changed_other f l.name n (Some l.slot) e))
-    refl
+    let more = placed_found (changed f l.name (Some l.slot)) ls d.1 n in
+    let none = λ (e : bytes_eq l.name n ≡ true). found_new ls n
+    (ap (is_among (names_of (params_of ls))) (sym (same_name l.name n e)) ∙ d.0) in
+    let turn = other_way n l.name in grind (arith, more, none, turn)
 
 module _ (results : List (List ℕ)) where
   abbrev bits_in : List Param → ℕ
@@ -60,10 +52,6 @@ module _ (results : List (List ℕ)) where
 
   abbrev words_in : List Param → ℕ
   words_in ps = count_by (is_scratch results Word) ps
-
-  stepped : (t : Bool) (b x : ℕ) → cond t (b + 1) b + x ≡ b + (cond t 1 0 + x)
-  stepped true b x = omega arith
-  stepped false b x = omega arith
 
   pub defined_lays-append : (b w : ℕ) (ps qs : List Param)
       → defined_lays results b w (ps ++ qs) ≡ defined_lays results b w ps
@@ -75,19 +63,11 @@ module _ (results : List (List ℕ)) where
   defined_lays-append b w (p ∷ ps) qs =
       let b' = cond (is_scratch results Bit p) (b + 1) b in
       let w' = cond (is_scratch results Word p) (w + 1) w in
-      let e : b' + bits_in ps ≡ b + bits_in (p ∷ ps) =
-      stepped (is_scratch results Bit p) b (bits_in ps)
-      ∙ ap (λ x. b + x) (sym (sum_by-cons (λ (q : Param). cond (is_scratch results Bit q) 1 0) p
-      ps)) in
-      let f : w' + words_in ps ≡ w + words_in (p ∷ ps) =
-      stepped (is_scratch results Word p) w (words_in ps)
-      ∙ ap (λ x. w + x) (sym (sum_by-cons (λ (q : Param). cond (is_scratch results Word q) 1 0) p
-      ps)) in
-      ap (λ (l : List Lay). record { name = p.name; slot = own_slot results b w p }
-      ∷ l) (defined_lays-append b' w' ps qs
-      ∙ ap (λ x. defined_lays results b' w' ps ++ defined_lays results x (w' + words_in ps) qs) e
-      ∙ ap (λ y. defined_lays results b' w' ps
-      ++ defined_lays results (b + bits_in (p ∷ ps)) y qs) f)
+      let bits = sum_by-cons (λ (q : Param). cond (is_scratch results Bit q) 1 0) p ps in
+      let words = sum_by-cons (λ (q : Param). cond (is_scratch results Word q) 1 0) p ps in
+      let e : b' + bits_in ps ≡ b + bits_in (p ∷ ps) = grind (arith, bits) in
+      let f : w' + words_in ps ≡ w + words_in (p ∷ ps) = grind (arith, words) in
+      rw (defined_lays-append b' w' ps qs, e, f) refl
 
   pub lays_none : (m : NameMap) → Lays results [] m m
   lays_none m = record { at = λ n. refl; bits = omega arith; words = omega arith }
@@ -95,32 +75,26 @@ module _ (results : List (List ℕ)) where
   pub lays_then : (ps qs : List Param) (a b c : NameMap) → Lays results ps a b → Lays results qs b c
       → Lays results (ps ++ qs) a c
   lays_then ps qs a b c f g = record {
-    at = λ n.
-        g.at n
-        ∙ placed_same (slots_of b) (placed (slots_of a)
+    at = λ n. g.at n ∙ placed_same (slots_of b) (placed (slots_of a)
         (defined_lays results a.free_bit a.free_word ps))
-        (defined_lays results b.free_bit b.free_word qs) f.at n
-        ∙ ap (λ x. placed (placed (slots_of a) (defined_lays results a.free_bit a.free_word ps))
-        (defined_lays results x b.free_word qs) n) f.bits
-        ∙ ap (λ x. placed (placed (slots_of a) (defined_lays results a.free_bit a.free_word ps))
-        (defined_lays results (a.free_bit + bits_in ps) x qs) n) f.words
-        ∙ sym (placed-append (slots_of a) (defined_lays results a.free_bit a.free_word ps)
-        (defined_lays results (a.free_bit + bits_in ps) (a.free_word + words_in ps) qs) n)
-        ∙ ap (λ l. placed (slots_of a) l n) (sym
-        (defined_lays-append a.free_bit a.free_word ps qs));
+        (defined_lays results b.free_bit b.free_word qs) f.at n ∙ rw (
+          f.bits,
+          f.words,
+          defined_lays-append a.free_bit a.free_word ps qs,
+          placed-append (slots_of a) (defined_lays results a.free_bit a.free_word ps)
+              (defined_lays results (a.free_bit + bits_in ps) (a.free_word + words_in ps) qs) n,
+        ) refl;
     bits = omega (
       arith,
       g.bits,
       f.bits,
-      sum_by-append
-          (λ (q : Param). cond (is_scratch results Bit q) 1 0) ps qs,
+      sum_by-append (λ (q : Param). cond (is_scratch results Bit q) 1 0) ps qs,
     );
     words = omega (
       arith,
       g.words,
       f.words,
-      sum_by-append
-          (λ (q : Param). cond (is_scratch results Word q) 1 0) ps qs,
+      sum_by-append (λ (q : Param). cond (is_scratch results Word q) 1 0) ps qs,
     );
   }
 
@@ -148,16 +122,8 @@ is_word states n = not (is_among (map (λ (s : State). s.name) states) n)
 filter_map-append : (states : List State) (xs : List Assign) (a : Assign)
     → words_defined states (xs ++ a ∷ []) ≡ words_defined states xs ++ words_defined states (a ∷ [])
 filter_map-append states [] a = refl
-filter_map-append states (x ∷ xs) a =
-    by_bool (λ b. map (λ n. param n Word) (cond b (x.name
-    ∷ filter (is_word states) (map (λ (y : Assign). y.name) (xs ++ a ∷ [])))
-    (filter (is_word states) (map (λ (y : Assign). y.name) (xs ++ a ∷ []))))
-    ≡ map (λ n. param n Word) (cond b (x.name
-    ∷ filter (is_word states) (map (λ (y : Assign). y.name) xs))
-    (filter (is_word states) (map (λ (y : Assign). y.name) xs)))
-    ++ words_defined states (a ∷ [])) (is_word states x.name)
-    (λ e. ap (λ l. param x.name Word ∷ l) (filter_map-append states xs a)) (λ e.
-    filter_map-append states xs a)
+filter_map-append states (x ∷ xs) a = let more = filter_map-append states xs a in
+    grind (arith, more)
 
 pub words_more : (states : List State) (assigns : List Assign) (k : ℕ) (a : Assign)
     → k < length assigns → a ≡ slice_index_or assigns k a
@@ -185,53 +151,39 @@ one_name results k p = omega (arith, count_by-le-length (is_scratch results k) (
 
 pub one_word : (results : List (List ℕ)) (k : Kind) (states : List State) (a : Assign)
     → count_by (is_scratch results k) (words_defined states (a ∷ [])) ≤ 1
-one_word results k states a = by (list_any (λ (s : State). bytes_eq s.name a.name) states) refl
-  where
-    by : (b : Bool) → list_any (λ (s : State). bytes_eq s.name a.name) states ≡ b
-        → count_by (is_scratch results k) (words_defined states (a ∷ [])) ≤ 1
-    by true e = omega (arith, ap (count_by (is_scratch results k)) (no_word states a e))
-    by false e = omega (
-      arith,
-      ap (count_by (is_scratch results k)) (a_word states a e),
-      one_name results k (param a.name Word),
-    )
+one_word results k states a =
+    let short : length (words_defined states (a ∷ [])) ≤ 1 = grind arith in
+    omega (arith, count_by-le-length (is_scratch results k) (words_defined states (a ∷ [])), short)
 
-no_bits : (results : List (List ℕ)) (ns : List (List ℕ))
-    → count_by (is_scratch results Bit) (map (λ n. param n Word) ns) ≡ 0
-no_bits results [] = refl
-no_bits results (n ∷ ns) =
-    omega (
-      arith,
-      sum_by-cons (λ (q : Param). cond (is_scratch results Bit q) 1 0) (param n Word)
-          (map (λ m. param m Word) ns),
-      no_bits results ns,
-    )
+state_params : (states : List State) → states_defined states
+    ≡ map (λ n. param n Bit) (map (λ (s : State). s.name) states)
+state_params [] = refl
+state_params (s ∷ states) = ap (λ l. param s.name Bit ∷ l) (state_params states)
+
+-- names of one kind take no scratch of the other
+none_of : (results : List (List ℕ)) (j k : Kind) → same_kind k j ≡ false → (ns : List (List ℕ))
+    → count_by (is_scratch results j) (map (λ n. param n k) ns) ≡ 0
+none_of results j k e [] = refl
+none_of results j k e (n ∷ ns) =
+    let cons = sum_by-cons (λ (q : Param). cond (is_scratch results j q) 1 0) (param n k)
+    (map (λ m. param m k) ns) in
+    let more = none_of results j k e ns in grind (arith, cons, e, more)
 
 pub words_no_bits : (results : List (List ℕ)) (states : List State) (assigns : List Assign)
     → count_by (is_scratch results Bit) (words_defined states assigns) ≡ 0
-words_no_bits results states assigns = no_bits results
+words_no_bits results states assigns = none_of results Bit Word refl
     (filter (is_word states) (map (λ (a : Assign). a.name) assigns))
 
 pub states_no_words : (results : List (List ℕ)) (states : List State)
     → count_by (is_scratch results Word) (states_defined states) ≡ 0
-states_no_words results [] = refl
-states_no_words results (s ∷ states) = omega (
-  arith,
-  sum_by-cons (λ (q : Param). cond (is_scratch results Word q) 1 0) (param s.name Bit)
-      (states_defined states),
-  states_no_words results states,
-)
+states_no_words results states = ap (count_by (is_scratch results Word)) (state_params states)
+    ∙ none_of results Word Bit refl (map (λ (s : State). s.name) states)
 
 -- what a block defines
 equation_names : (assigns : List Assign) → map (λ (e : Equation). e.name) (map equation assigns)
     ≡ map (λ (a : Assign). a.name) assigns
 equation_names [] = refl
 equation_names (a ∷ assigns) = ap (λ l. a.name ∷ l) (equation_names assigns)
-
-state_params : (states : List State) → states_defined states
-    ≡ map (λ n. param n Bit) (map (λ (s : State). s.name) states)
-state_params [] = refl
-state_params (s ∷ states) = ap (λ l. param s.name Bit ∷ l) (state_params states)
 
 pub block_defined : (known : List Param) (down : Bool) (states : List State)
     (lets assigns : List Assign) → states_defined states ++ words_defined states assigns
@@ -247,10 +199,8 @@ block_defined known down states lets assigns =
     ++ map (λ n. param n Word) (filter (is_word states) ns)) (sym (equation_names assigns))
 
 pub block_lays : (results : List (List ℕ)) (down : Bool) (states : List State) (lets assigns :
-    List Assign)
-    (old mid new : NameMap) → Lays results (states_defined states) old mid
-    → Lays results (words_defined states assigns) mid new
-    → (known : List Param)
+    List Assign) (old mid new : NameMap) → Lays results (states_defined states) old mid
+    → Lays results (words_defined states assigns) mid new → (known : List Param)
     → Lays results (defines known (Visit (record {
       down = down;
       states = states;

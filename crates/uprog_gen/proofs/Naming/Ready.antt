@@ -1,9 +1,8 @@
 -- Each statement of an operation that meets the rules meets them at its names' places.
 use Rattle.std.proofs.Common.{◌≡◌, ℕ, ◌+◌, ◌<◌, Bool, true, false, ◌||◌, cond, List, [], ◌∷◌, ◌++◌}
 use Rattle.std.proofs.Common.{map, Option, Some, None, refl, sym, ap, ◌∙◌, subst, arith, bytes_eq}
-use Rattle.std.proofs.Common.{◌⊎◌, inl, inr, ⊎_elim, append_assoc, append-nil}
-use Rattle.std.specs.Prelude.{is_some, unwrap_or, not}
-use Rattle.std.proofs.lemmas.Bool.{and_from}
+use Rattle.std.proofs.Common.{inl, inr, ⊎_elim, append_assoc, append-nil}
+use Rattle.std.specs.Prelude.{is_some, unwrap_or}
 use Rattle.std.specs.Option.{option_to_list}
 use Rattle.std.specs.List.{AllByRecursion}
 use Rattle.op_text.specs.declared.tree.Kind.{Kind}
@@ -16,16 +15,15 @@ use Rattle.op_text.specs.Language.{Operation}
 use Rattle.op_text.specs.Rules.{is_among, kind_among, is_known, second_of}
 use Rattle.op_text.specs.WordOps.{second_kind, second_gives}
 use Rattle.op_text.specs.Scratch.{param, state_names, word_names, defines, body_defines, kind_of}
-use Rattle.op_text.specs.Scratch.{result_kind, scratch_names}
+use Rattle.op_text.specs.Scratch.{result_kind}
 use Rattle.op_text.specs.Spelling.{Each, TermMeets}
 use Rattle.op_rules.specs.Meets.{IsNewLet, IsNewOf, IsKnown, Differ, names_of, let_names, used}
 use Rattle.op_rules.specs.Meets.{can_read, LetsRead, Context, next_context, OperationMeets}
 use Rattle.op_rules.specs.Meets as rules
 use Rattle.op_rules.specs.Laws.{all_names}
-use Rattle.op_rules.proofs.Names.{is_same, other_way, new-left, new-right, new-append}
+use Rattle.op_rules.proofs.Names.{is_same, other_way, new-left, new-right, new-append, among-append}
 use Rattle.op_rules.proofs.Standing.{names-append}
 use Rattle.op_rules.proofs.Few.{scratch_is_small}
-use Rattle.loop_ir.specs.declared.ir.Space.{Space}
 use Rattle.loop_ir.specs.declared.ir.Space.TheVariants.{ScratchBit, ScratchWord}
 use Rattle.loop_ir.specs.declared.names.Slot.{Slot}
 use Rattle.loop_ir.specs.Statements as there
@@ -35,83 +33,42 @@ use Rattle.loop_ir.specs.Statements.{read_names, written_names, statement_names,
 use Rattle.uprog_gen.specs.Layout.{IsLayout}
 use Rattle.uprog_gen.proofs.Naming.Lays.{lay}
 use Rattle.uprog_gen.proofs.Naming.Lies.{LiesIn}
-use Rattle.uprog_gen.proofs.Naming.Among.{or_split, or_left, or_right, each_among, among_left}
-use Rattle.uprog_gen.proofs.Naming.Among.{among_right}
+use Rattle.uprog_gen.proofs.Naming.Among.{or_left, or_right, each_among, among_left, among_right}
 use Rattle.uprog_gen.proofs.Naming.Among.{among_split}
 use Rattle.uprog_gen.proofs.Naming.Scene.{known_among, slot_none, slot_lies, slots_apart}
 use Rattle.uprog_gen.proofs.Naming.Stage.{Stage, word_other, written_unknown, written_defined}
-use Rattle.uprog_gen.proofs.Naming.Stage.{state_kind}
-use Rattle.uprog_gen.proofs.Naming.Stage.{word_kind, block_stand, lets_stay, bits_need, words_need}
-use Rattle.uprog_gen.proofs.Naming.Stage.{known_slot, defined_slot, written_slot, read_slot}
-use Rattle.uprog_gen.proofs.Naming.Stage.{written_own}
-
-tested : (b : Bool) → (b ≡ true) ⊎ (b ≡ false)
-tested true = inl refl
-tested false = inr refl
+use Rattle.uprog_gen.proofs.Naming.Stage.{state_kind, known_kind, word_kind, block_stand, lets_stay}
+use Rattle.uprog_gen.proofs.Naming.Stage.{bits_need, words_need, known_slot, defined_slot}
+use Rattle.uprog_gen.proofs.Naming.Stage.{written_slot, read_slot, written_own}
 
 -- a place holds values of its kind
 lies_holds : (op : Operation) (name : List ℕ) (x : Slot) → LiesIn op (lay name x)
     → holds_kind x.space x.kind ≡ true
-lies_holds op name x (inl h) = subst (λ (s : Space). holds_kind s x.kind ≡ true) (sym h.0) refl
-lies_holds op name x (inr (inl h)) = subst (λ (s : Space). holds_kind s x.kind
-    ≡ true) (sym h.0) refl
-lies_holds op name x (inr (inr (inl h))) = subst (λ (s : Space). holds_kind s x.kind
-    ≡ true) (sym h.0) (subst (λ (k : Kind). holds_kind ScratchBit k ≡ true) (sym h.1) refl)
-lies_holds op name x (inr (inr (inr h))) = subst (λ (s : Space). holds_kind s x.kind
-    ≡ true) (sym h.0) (subst (λ (k : Kind). holds_kind ScratchWord k ≡ true) (sym h.1) refl)
+lies_holds op name x (inl h) = rw (h.0) refl
+lies_holds op name x (inr (inl h)) = rw (h.0) refl
+lies_holds op name x (inr (inr (inl h))) = rw (h.0, h.1) refl
+lies_holds op name x (inr (inr (inr h))) = rw (h.0, h.1) refl
 
-lies_bit : (op : Operation) (name : List ℕ) (x : Slot) → LiesIn op (lay name x)
-    → x.space ≡ ScratchBit → x.which < scratch_names Bit op
-lies_bit op name x (inl h) e = absurd (cc (h.0, e))
-lies_bit op name x (inr (inl h)) e = absurd (cc (h.0, e))
-lies_bit op name x (inr (inr (inl h))) e = h.3
-lies_bit op name x (inr (inr (inr h))) e = absurd (cc (h.0, e))
+module _ (r q : List ℕ → Bool) (f : (name : List ℕ) → r name ≡ true → q name ≡ true) where
+  term_more : (d : ℕ) (t : Term) → TermMeets r d t → TermMeets q d t
+  term_more d Nought h = tt
+  term_more d Unity h = tt
+  term_more d (Named m) h = (h.0, f m h.1)
+  term_more d (Negation a) h = (h.0, term_more (d + 1) a h.1)
+  term_more d (Conjunction a b) h = (h.0, term_more (d + 1) a h.1, term_more (d + 1) b h.2)
+  term_more d (Disjunction a b) h = (h.0, term_more (d + 1) a h.1, term_more (d + 1) b h.2)
+  term_more d (Parity a b) h = (h.0, term_more (d + 1) a h.1, term_more (d + 1) b h.2)
+  term_more d (Majority a b c) h =
+      (h.0, term_more (d + 1) a h.1, term_more (d + 1) b h.2, term_more (d + 1) c h.3)
 
-lies_word : (op : Operation) (name : List ℕ) (x : Slot) → LiesIn op (lay name x)
-    → x.space ≡ ScratchWord → x.which < scratch_names Word op
-lies_word op name x (inl h) e = absurd (cc (h.0, e))
-lies_word op name x (inr (inl h)) e = absurd (cc (h.0, e))
-lies_word op name x (inr (inr (inl h))) e = absurd (cc (h.0, e))
-lies_word op name x (inr (inr (inr h))) e = h.3
-
-term_more : (r q : List ℕ → Bool) → ((name : List ℕ) → r name ≡ true → q name ≡ true)
-    → (depth : ℕ) (t : Term) → TermMeets r depth t → TermMeets q depth t
-term_more r q f depth Nought h = tt
-term_more r q f depth Unity h = tt
-term_more r q f depth (Named m) h = (h.0, f m h.1)
-term_more r q f depth (Negation a) h = (h.0, term_more r q f (depth + 1) a h.1)
-term_more r q f depth (Conjunction a b) h = (
-  h.0,
-  term_more r q f (depth + 1) a h.1,
-  term_more r q f (depth + 1) b h.2,
-)
-term_more r q f depth (Disjunction a b) h = (
-  h.0,
-  term_more r q f (depth + 1) a h.1,
-  term_more r q f (depth + 1) b h.2,
-)
-term_more r q f depth (Parity a b) h = (
-  h.0,
-  term_more r q f (depth + 1) a h.1,
-  term_more r q f (depth + 1) b h.2,
-)
-term_more r q f depth (Majority a b d) h = (
-  h.0,
-  term_more r q f (depth + 1) a h.1,
-  term_more r q f (depth + 1) b h.2,
-  term_more r q f (depth + 1) d h.3,
-)
-
-values_meet : (r q : List ℕ → Bool) → ((name : List ℕ) → r name ≡ true → q name ≡ true)
-    → (es : List Equation) → Each (λ (e : Equation). TermMeets r 0 e.value) es
-    → AllByRecursion (λ (e : Equation). TermMeets q 0 e.value) es
-values_meet r q f [] h = tt
-values_meet r q f (e ∷ es) h = (term_more r q f 0 e.value h.0, values_meet r q f es h.1)
+  values_meet : (es : List Equation) → Each (λ (e : Equation). TermMeets r 0 e.value) es
+      → AllByRecursion (λ (e : Equation). TermMeets q 0 e.value) es
+  values_meet [] h = tt
+  values_meet (e ∷ es) h = (term_more 0 e.value h.0, values_meet es h.1)
 
 lets_meet : (known : List Param) (inside : List (List ℕ)) (readable : List ℕ
     → Bool) (lets assigns : List Equation) → ((name : List ℕ) → can_read known inside name ≡ true
-    → readable name ≡ true)
-    → LetsRead known inside lets
+    → readable name ≡ true) → LetsRead known inside lets
     → Each (λ (e : Equation). TermMeets (can_read known (inside
     ++ map (λ (l : Equation). l.name) lets)) 0 e.value) assigns → LetsMeet readable lets assigns
 lets_meet known inside readable [] assigns f h g =
@@ -121,20 +78,8 @@ lets_meet known inside readable [] assigns f h g =
 lets_meet known inside readable (l ∷ lets) assigns f h g = (
   term_more (can_read known inside) readable f 0 l.value h.0,
   lets_meet known (inside ++ l.name ∷ []) (λ name. bytes_eq name l.name || readable name) lets
-      assigns
-      (λ name e.
-      ⊎_elim (λ (k : is_known (kind_among known name) ≡ true). or_right (bytes_eq name l.name)
-      (readable name) (f name (or_left (is_known (kind_among known name)) (is_among inside name)
-      k)))
-      (λ (k : is_among (inside ++ l.name ∷ []) name ≡ true).
-      ⊎_elim (λ (i : is_among inside name ≡ true). or_right (bytes_eq name l.name) (readable name)
-      (f name (or_right (is_known (kind_among known name)) (is_among inside name) i)))
-      (λ (i : is_among (l.name ∷ []) name ≡ true). ⊎_elim
-      (λ (j : bytes_eq l.name name ≡ true). or_left (bytes_eq name l.name) (readable name)
-      (other_way name l.name ∙ j)) (λ (j : false ≡ true). absurd (cc))
-      (or_split (bytes_eq l.name name) false i))
-      (among_split inside (l.name ∷ []) name k))
-      (or_split (is_known (kind_among known name)) (is_among (inside ++ l.name ∷ []) name) e))
+      assigns (λ name e. let m = among-append inside (l.name ∷ []) name in
+      let o = other_way name l.name in let g = f name in grind (arith, e, m, o, g))
       h.1 (subst (λ (ns : List (List ℕ)). Each
       (λ (e : Equation). TermMeets (can_read known ns) 0 e.value) assigns)
       (sym (append_assoc inside (l.name ∷ []) (map (λ (l : Equation). l.name) lets))) g),
@@ -144,33 +89,26 @@ distinct : (ns : List (List ℕ)) → Differ ns → AreDistinct ns
 distinct [] h = tt
 distinct (n ∷ ns) h = (h.0, distinct ns h.1)
 
-some_slot : (o : Option Slot) (x : Slot) → o ≡ Some x → is_some o ≡ true
-some_slot o x e = ap is_some e
+known_is : (ps : List Param) (name : List ℕ) → is_known (kind_among ps name) ≡ true
+    → is_among (names_of ps) name ≡ true
+known_is [] name h = absurd (cc)
+known_is (p ∷ ps) name h = let more = known_is ps name in grind (arith, h, more)
 
 module _ (op : Operation) (meets : OperationMeets op) (slots : Slots) (free_bit free_word : ℕ)
     (is : IsLayout op slots free_bit free_word) where
   pub slot_holds : (name : List ℕ) (x : Slot) → slots name ≡ Some x
       → holds_kind x.space x.kind ≡ true
-  slot_holds name x e = lies_holds op name x (slot_lies op meets slots free_bit free_word is name x
-      e)
+  slot_holds name x e = lies_holds op name x (slot_lies _ meets _ _ _ is name x e)
 
   pub slot_bit : (name : List ℕ) (x : Slot) → slots name ≡ Some x → x.space ≡ ScratchBit
       → x.which < free_bit
-  slot_bit name x e s =
-      omega (
-        arith,
-        lies_bit op name x (slot_lies op meets slots free_bit free_word is name x e) s,
-        is.bits,
-      )
+  slot_bit name x e s = let l = slot_lies _ meets _ _ _ is name x e in let few = is.bits in
+      grind (arith, l, s, few)
 
   pub slot_word : (name : List ℕ) (x : Slot) → slots name ≡ Some x → x.space ≡ ScratchWord
       → x.which < free_word
-  slot_word name x e s =
-      omega (
-        arith,
-        lies_word op name x (slot_lies op meets slots free_bit free_word is name x e) s,
-        is.words,
-      )
+  slot_word name x e s = let l = slot_lies _ meets _ _ _ is name x e in let few = is.words in
+      grind (arith, l, s, few)
 
   pub has_kind : (name : List ℕ) (k : Kind) → (x : Slot) × (slots name ≡ Some x) × (x.kind ≡ k)
       → HasKind slots name k
@@ -183,13 +121,11 @@ module _ (op : Operation) (meets : OperationMeets op) (slots : Slots) (free_bit 
 
   module _ (c : Context) (s : Statement) (rest : List Statement) (st : Stage op c (s ∷ rest)) where
     of_known : (name : List ℕ) (k : Kind) → kind_among c.known name ≡ Some k → HasKind slots name k
-    of_known name k h = has_kind name k (known_slot op meets slots free_bit free_word is c s rest st
-        name k h)
+    of_known name k h = has_kind name k (known_slot _ meets _ _ _ is _ _ _ st name k h)
 
     of_new : (name : List ℕ) (k : Kind) → is_among (written_names s) name ≡ true
         → kind_among (defines c.known s) name ≡ Some k → HasKind slots name k
-    of_new name k w h = has_kind name k (defined_slot op meets slots free_bit free_word is c s rest
-        st name k w h)
+    of_new name k w h = has_kind name k (defined_slot _ meets _ _ _ is c s rest st name k w h)
 
     args_have : (args : List (List ℕ)) → Each (IsKnown c.known) args
         → HaveKinds slots args (map (kind_of c.known) args)
@@ -199,24 +135,17 @@ module _ (op : Operation) (meets : OperationMeets op) (slots : Slots) (free_bit 
     -- a name that is known has a place
     known_some : (name : List ℕ) → is_known (kind_among c.known name) ≡ true
         → is_some (slots name) ≡ true
-    known_some name h = by (kind_among c.known name) refl h
-      where
-        by : (o : Option Kind) → kind_among c.known name ≡ o → is_known o ≡ true
-            → is_some (slots name) ≡ true
-        by None e k = absurd (cc)
-        by (Some k) e g = let x = known_slot op meets slots free_bit free_word is c s rest st name k
-            e in some_slot (slots name) x.0 x.1
+    known_some name h = let k = known_kind (kind_among c.known name) h in
+        ap is_some (known_slot _ meets _ _ _ is _ _ _ st name k.0 k.1).1
 
     written_some : (name : List ℕ) → is_among (written_names s) name ≡ true
         → is_some (slots name) ≡ true
-    written_some name w = let x = written_slot op meets slots free_bit free_word is c s rest st name
-        w in some_slot (slots name) x.0 x.1
+    written_some name w = ap is_some (written_slot _ meets _ _ _ is _ _ _ st name w).1
 
     statement_slot : (name : List ℕ) → is_among (statement_names s) name ≡ true
         → (x : Slot) × (slots name ≡ Some x)
-    statement_slot name h =
-        ⊎_elim (written_slot op meets slots free_bit free_word is c s rest st name)
-        (read_slot op meets slots free_bit free_word is c s rest st name)
+    statement_slot name h = ⊎_elim (written_slot _ meets _ _ _ is _ _ _ st name)
+        (read_slot _ meets _ _ _ is _ _ _ st name)
         (among_split (written_names s) (read_names s) name h)
 
     pub is_placed : IsPlaced slots free_bit free_word s
@@ -225,13 +154,12 @@ module _ (op : Operation) (meets : OperationMeets op) (slots : Slots) (free_bit 
         record {
           there = λ name h. let x = statement_slot name h in (x.0, x.1, slot_holds name x.0 x.1);
           differ = λ a b x y ha hb ea eb s' w.
-              is_same a b (slots_apart op meets slots free_bit free_word is a b x y ea eb s' w);
-          own = λ name x w e. written_own op meets slots free_bit free_word is c s rest st name x w
-              e;
+              is_same a b (slots_apart _ meets _ _ _ is a b x y ea eb s' w);
+          own = λ name x w e. written_own _ meets _ _ _ is _ _ _ st name x w e;
           bit = λ name x h e s'. inl (slot_bit name x e s');
           word = λ name x h e s'. inl (slot_word name x e s');
-          bits = omega (arith, few.bits, is.bits, bits_need op c s rest st);
-          words = omega (arith, few.words, is.words, words_need op c s rest st);
+          bits = omega (arith, few.bits, is.bits, bits_need op _ _ _ st);
+          words = omega (arith, few.words, is.words, words_need op _ _ _ st);
         }
 
     -- what is set is not known
@@ -249,8 +177,7 @@ module _ (op : Operation) (meets : OperationMeets op) (slots : Slots) (free_bit 
       let_unplaced name h =
           let m = st.body.0 in
           let l = each_among (IsNewLet (used c ++ state_names b) c.results) (let_names b) name
-          m.lets
-          h
+          m.lets h
           in
           let more = body_defines (c.known ++ defines c.known (Visit b)) rest in
           let old : is_among (names_of c.known) name ≡ false =
@@ -258,17 +185,10 @@ module _ (op : Operation) (meets : OperationMeets op) (slots : Slots) (free_bit 
           in
           let state : is_among (state_names b) name ≡ false =
           new-right (used c) (state_names b) name l.new in
-          let word : is_among (word_names b) name ≡ false =
-          ⊎_elim (λ (w : is_among (word_names b) name
-          ≡ true). absurd (cc (
-            h,
-            new-right (used c) (let_names b) name
-                (each_among (IsNewOf (used c ++ let_names b) c.results Word) (word_names b) name
-                m.words
-                w).new,
-          )))
-          (λ (w : is_among (word_names b) name ≡ false). w) (tested (is_among (word_names b) name))
-          in
+          let clash = λ (w : is_among (word_names b) name ≡ true). new-right (used c) (let_names b)
+          name (each_among (IsNewOf (used c ++ let_names b) c.results Word) (word_names b) name
+          m.words w).new in
+          let word : is_among (word_names b) name ≡ false = grind (arith, h, clash) in
           let new : is_among (names_of (defines c.known (Visit b))) name ≡ false =
           written_defined c.known (Visit b) name
           ∙ new-append (state_names b) (word_names b) name state word in
@@ -282,47 +202,36 @@ module _ (op : Operation) (meets : OperationMeets op) (slots : Slots) (free_bit 
           ∙ new-append (names_of c.known) (names_of (defines c.known (Visit b)) ++ names_of more)
           name
           old (new-append (names_of (defines c.known (Visit b))) (names_of more) name new later)
-          in
-          slot_none op meets slots free_bit free_word is name whole
+          in slot_none _ meets _ _ _ is name whole
 
       -- what the block can read has a place
       readable_some : (name : List ℕ) → can_read c.known (state_names b) name ≡ true
           → is_some (slots name) ≡ true
       readable_some name h =
-          ⊎_elim (known_some c (Visit b) rest st name) (λ (e : is_among (state_names b) name
-          ≡ true). written_some c (Visit b) rest st name
-          (among_left (state_names b) (word_names b) name e))
-          (or_split (is_known (kind_among c.known name)) (is_among (state_names b) name) h)
+          let known = known_some _ _ _ st name in
+          let state = λ (e : is_among (state_names b) name ≡ true). written_some _ _ _ st
+          name (among_left (state_names b) (word_names b) name e) in
+          grind (arith, h, known, state)
 
       -- and is no let
       readable : (name : List ℕ) → can_read c.known (state_names b) name ≡ true
           → is_readable slots b.lets name ≡ true
       readable name h =
           let some = readable_some name h in
-          ⊎_elim
-          (λ (l : is_among (let_names b) name ≡ true). let none : is_some (slots name) ≡ false =
-          ap is_some (let_unplaced name l) in absurd (cc))
-          (λ (l : is_among (let_names b) name ≡ false). and_from (is_some (slots name)) _ some
-          (ap not l)) (tested (is_among (let_names b) name))
+          let none = λ (l : is_among (let_names b) name ≡ true). ap is_some (let_unplaced name l) in
+          grind (arith, some, none)
 
       -- and no word that it sets
       word_unread : (name : List ℕ) → is_among (word_names b) name ≡ true
           → is_among (block_reads b) name ≡ false
       word_unread name w =
-          ⊎_elim
-          (λ (r : is_among (block_reads b) name ≡ true).
-          ⊎_elim
-          (λ (k : is_known (kind_among c.known name)
-          ≡ true). absurd (known_clash (kind_among c.known name) refl k))
-          (λ (k : is_among (state_names b) name ≡ true). absurd (cc (k, word_other b name w)))
-          (block_stand c b name st.body.0 r))
-          (λ (r : is_among (block_reads b) name ≡ false). r)
-          (tested (is_among (block_reads b) name))
-        where
-          known_clash : (o : Option Kind) → kind_among c.known name ≡ o → is_known o ≡ true → ⊥
-          known_clash None e k = absurd (cc)
-          known_clash (Some k) e g = unknown c (Visit b) rest st name k
-              (among_right (state_names b) (word_names b) name w) e
+          let new = written_unknown c (Visit b) name st.body.0
+          (among_right (state_names b) (word_names b) name w) in
+          let other = word_other b name w in
+          let stands = λ (r : is_among (block_reads b) name ≡ true).
+          block_stand c b name st.body.0 r in
+          let known = known_is c.known name in
+          grind (arith, new, other, stands, known)
 
       block_meets : BlockMeets slots b
       block_meets =
@@ -338,9 +247,9 @@ module _ (op : Operation) (meets : OperationMeets op) (slots : Slots) (free_bit 
             states_differ = distinct (state_names b) m.states_differ;
             lets_differ = distinct (let_names b) m.lets_differ;
             targets_differ = distinct (targets_of b.assigns) m.targets_differ;
-            bits = λ name h. of_new c (Visit b) rest st name Bit
+            bits = λ name h. of_new _ _ _ st name Bit
                 (among_left (state_names b) (word_names b) name h) (state_kind c.known b name h);
-            words = λ name h. of_new c (Visit b) rest st name Word
+            words = λ name h. of_new _ _ _ st name Word
                 (among_right (state_names b) (word_names b) name h) (word_kind c.known b name h);
             fresh = word_unread;
           }
@@ -362,10 +271,9 @@ module _ (op : Operation) (meets : OperationMeets op) (slots : Slots) (free_bit 
         → is_among (written_names (Compute target second p args)) name ≡ true
         → is_among args name ≡ false
     target_fresh name w =
-        ⊎_elim (λ (h : is_among args name ≡ true). absurd
-        (unknown c (Compute target second p args) rest st name (kind_of c.known name)
-        w (each_among (IsKnown c.known) args name st.body.0.known h)))
-        (λ (h : is_among args name ≡ false). h) (tested (is_among args name))
+        let clash = λ (h : is_among args name ≡ true). unknown c (Compute target second p args) rest
+        st name (kind_of c.known name) w (each_among (IsKnown c.known) args name st.body.0.known h)
+        in grind (arith, clash)
 
     second_written : (x : List ℕ) → second ≡ Some x
         → is_among (written_names (Compute target second p args)) x ≡ true
@@ -386,25 +294,22 @@ module _ (op : Operation) (meets : OperationMeets op) (slots : Slots) (free_bit 
     second_meets : (o : Option (List ℕ)) (k : Option Kind) → second ≡ o → second_kind p ≡ k
         → rules.SecondMeets c target o k → there.SecondMeets slots target args o k
     second_meets None None e f h = tt
-    second_meets None (Some k) e f h = absurd h
-    second_meets (Some x) None e f h = absurd h
     second_meets (Some x) (Some k) e f h =
         let w = second_written x e in
         record {
-          gives = of_new c (Compute target second p args) rest st x k w
-              (second_given x k e f h.other);
+          gives = of_new _ _ _ st x k w (second_given x k e f h.other);
           fresh = target_fresh x w;
           other = h.other;
         }
+    second_meets _ _ _ _ h = absurd h
 
     compute_meets : ComputeMeets slots target second p args
     compute_meets = record {
       kinds = map (kind_of c.known) args;
       kind = result_kind c.known p args;
-      have = args_have c (Compute target second p args) rest st args st.body.0.known;
+      have = args_have _ _ _ st args st.body.0.known;
       form = st.body.0.takes;
-      gives = of_new c (Compute target second p args) rest st target (result_kind c.known p args)
-          target_written target_kind;
+      gives = of_new _ _ _ st target (result_kind c.known p args) target_written target_kind;
       fresh = target_fresh target target_written;
       others = second_meets second (second_kind p) refl refl st.body.0.others;
     }

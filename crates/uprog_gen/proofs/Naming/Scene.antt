@@ -1,8 +1,7 @@
 -- What is true of the names of an operation that meets the rules, where each has its place.
-use Rattle.std.proofs.Common.{◌≡◌, ℕ, suc, ◌<◌, map, true, false, ◌||◌, cond, List, [], ◌∷◌}
-use Rattle.std.proofs.Common.{◌++◌, Option}
-use Rattle.std.proofs.Common.{Some, None, refl, sym, ap, ◌∙◌, subst, arith, bytes_eq, inl, inr}
-use Rattle.std.proofs.lemmas.List.{map-append}
+use Rattle.std.proofs.Common.{◌≡◌, ℕ, ◌<◌, map, true, false, ◌||◌, cond, List, [], ◌∷◌, ◌++◌}
+use Rattle.std.proofs.Common.{Option, Some, None, refl, sym, ap, ◌∙◌, subst, arith, bytes_eq, inl}
+use Rattle.std.proofs.Common.{inr}
 use Rattle.std.proofs.lemmas.Nat.{mul-add-lt}
 use Rattle.std.specs.Prelude.{slice_get}
 use Rattle.std.specs.Option.{option_to_list, option_map}
@@ -16,23 +15,20 @@ use Rattle.op_text.specs.Meaning.{width}
 use Rattle.op_text.specs.Scratch.{body_defines, scratch_names, scratch_words}
 use Rattle.op_rules.specs.Meets.{IsNew, names_of, OperationMeets}
 use Rattle.op_rules.specs.Laws.{all_names}
-use Rattle.op_rules.proofs.Names.{same_name, or_first, or_second}
+use Rattle.op_rules.proofs.Names.{same_name}
 use Rattle.uprog_code.specs.Shape as shape
 use Rattle.uprog_code.specs.Texts.{op_shape}
-use Rattle.loop_ir.specs.declared.ir.Space.{Space}
-use Rattle.loop_ir.specs.declared.ir.Space.TheVariants.{Result, Source, ScratchBit, ScratchWord}
+use Rattle.loop_ir.specs.declared.ir.Space.TheVariants.{Source}
 use Rattle.loop_ir.specs.declared.names.Slot.{Slot}
 use Rattle.loop_ir.specs.Spots.{IsOwn, spot_in}
 use Rattle.loop_ir.specs.Statements.{Slots}
 use Rattle.loop_ir.specs.Lowered.{slot_spot}
 use Rattle.uprog_gen.specs.Where.{IsSpot, IsBelow}
-use Rattle.uprog_gen.specs.Layout.{Lay, IsLayout, source_lays, place_in, defined_lays, lays}
-use Rattle.uprog_gen.specs.Layout.{found}
+use Rattle.uprog_gen.specs.Layout.{Lay, IsLayout, source_lays, place_in, defined_lays, lays, found}
 use Rattle.uprog_gen.specs.Laying.{kind_in}
 use Rattle.uprog_gen.proofs.Naming.Lays.{lay, by_bool, params_of, found_each, found_apart}
-use Rattle.uprog_gen.proofs.Naming.Lays.{found_kind}
-use Rattle.uprog_gen.proofs.Naming.Lays.{found_new, found-append, or_else, source_params}
-use Rattle.uprog_gen.proofs.Naming.Lays.{defined_params}
+use Rattle.uprog_gen.proofs.Naming.Lays.{found_kind, found_new, found-append, or_else}
+use Rattle.uprog_gen.proofs.Naming.Lays.{source_params, lays_params}
 use Rattle.uprog_gen.proofs.Naming.Lies.{IsDefinedLay, LiesIn, kinds_of, all_lie, all_apart}
 use Rattle.uprog_gen.proofs.Naming.Lies.{own_each}
 
@@ -40,41 +36,30 @@ use Rattle.uprog_gen.proofs.Naming.Lies.{own_each}
 pub kind_skip : (ps qs : List Param) (name : List ℕ) → is_among (names_of ps) name ≡ false
     → kind_among (ps ++ qs) name ≡ kind_among qs name
 kind_skip [] qs name h = refl
-kind_skip (p ∷ ps) qs name h =
-    by_bool (λ b. b ≡ false → cond b (Some p.kind) (kind_among (ps ++ qs) name)
-    ≡ kind_among qs name) (bytes_eq p.name name) (λ e f. absurd (cc)) (λ e f.
-    kind_skip ps qs name (or_second (bytes_eq p.name name) (is_among (names_of ps) name) h))
-    (or_first (bytes_eq p.name name) (is_among (names_of ps) name) h)
+kind_skip (p ∷ ps) qs name h = let more = kind_skip ps qs name in grind (arith, h, more)
 
 pub kind_first : (ps qs : List Param) (name : List ℕ) (k : Kind) → kind_among ps name ≡ Some k
     → kind_among (ps ++ qs) name ≡ Some k
 kind_first [] qs name k h = absurd (cc)
-kind_first (p ∷ ps) qs name k h =
-    by_bool (λ b. cond b (Some p.kind) (kind_among ps name) ≡ Some k
-    → cond b (Some p.kind) (kind_among (ps ++ qs) name) ≡ Some k) (bytes_eq p.name name) (λ e f.
-    f) (λ e f. kind_first ps qs name k f) h
+kind_first (p ∷ ps) qs name k h = let more = kind_first ps qs name k in grind (arith, h, more)
 
 pub kind_known : (ps : List Param) (name : List ℕ) → is_among (names_of ps) name ≡ true
     → (k : Kind) × (kind_among ps name ≡ Some k)
 kind_known [] name h = absurd (cc)
-kind_known (p ∷ ps) name h =
-    by_bool (λ b. (b || is_among (names_of ps) name) ≡ true
+kind_known (p ∷ ps) name h = by_bool (λ b. (b || is_among (names_of ps) name) ≡ true
     → (k : Kind) × (cond b (Some p.kind) (kind_among ps name) ≡ Some k)) (bytes_eq p.name name)
     (λ e f. (p.kind, refl)) (λ e f. kind_known ps name f) h
 
 pub known_among : (ps : List Param) (name : List ℕ) (k : Kind) → kind_among ps name ≡ Some k
     → is_among (names_of ps) name ≡ true
 known_among [] name k h = absurd (cc)
-known_among (p ∷ ps) name k h =
-    by_bool (λ b. cond b (Some p.kind) (kind_among ps name) ≡ Some k
-    → (b || is_among (names_of ps) name) ≡ true) (bytes_eq p.name name) (λ e f. refl) (λ e f.
-    known_among ps name k f) h
+known_among (p ∷ ps) name k h = let more = known_among ps name k in grind (arith, h, more)
 
 pub width_same : (k : Kind) (n : ℕ) → width n k ≡ shape.width k n
 width_same Word n = refl
 width_same Bit n = refl
 
-kind_back : (o : Option Slot) (k : Kind) → kind_in o ≡ Some k → (x : Slot) × (o ≡ Some x)
+pub kind_back : (o : Option Slot) (k : Kind) → kind_in o ≡ Some k → (x : Slot) × (o ≡ Some x)
     × (x.kind ≡ k)
 kind_back None k h = absurd (cc)
 kind_back (Some x) k h = (x, refl, cc)
@@ -96,11 +81,9 @@ kind_at_place : (all ps : List Param) (name : List ℕ) (k : Kind)
     → slice_get (kinds_of ps) (place_in (map (λ (p : Param). p.name) ps) name) ≡ Some k
 kind_at_place all [] name k known h e = absurd (cc)
 kind_at_place all (p ∷ ps) name k known h e =
-    by_bool (λ b. (b || is_among (map (λ (p : Param). p.name) ps) name) ≡ true
-    → slice_get (kinds_of (p ∷ ps)) (cond b 0
-    (suc (place_in (map (λ (p : Param). p.name) ps) name))) ≡ Some k) (bytes_eq p.name name)
-    (λ s f. sym known.0 ∙ ap (kind_among all) (same_name p.name name s) ∙ e)
-    (λ s f. kind_at_place all ps name k known.1 f e) h
+    let more = kind_at_place all ps name k known.1 in
+    let same = λ (s : bytes_eq p.name name ≡ true). ap (kind_among all) (same_name p.name name s) in
+    let first = known.0 in grind (arith, h, e, first, same, more)
 
 second_kinds : (o : Option Param) → option_to_list (option_map (λ (p : Param). p.kind) o)
     ≡ kinds_of (option_to_list o)
@@ -119,15 +102,7 @@ defined_own op m (inr (inr h)) = subst IsOwn (sym h.0) tt
 module _ (op : Operation) (meets : OperationMeets op) (slots : Slots) (free_bit free_word : ℕ)
     (is : IsLayout op slots free_bit free_word) where
   all_params : params_of (lays op) ≡ all_names op
-  all_params =
-      map-append (λ (l : Lay). record { name = l.name; kind = l.slot.kind })
-      (source_lays 0 op.params) (defined_lays (result_names op) 0 0
-      (body_defines op.params op.body))
-      ∙ ap (λ l. l ++ params_of (defined_lays (result_names op) 0 0 (body_defines op.params
-      op.body)))
-      (source_params 0 op.params)
-      ∙ ap (λ l. op.params ++ l) (defined_params (result_names op) 0 0
-      (body_defines op.params op.body))
+  all_params = lays_params (result_names op) op.params (body_defines op.params op.body)
 
   all_kinds : (name : List ℕ) → kind_among (all_names op) name ≡ kind_in (slots name)
   all_kinds name = ap (λ ps. kind_among ps name) (sym all_params) ∙ found_kind (lays op) name
@@ -161,8 +136,7 @@ module _ (op : Operation) (meets : OperationMeets op) (slots : Slots) (free_bit 
       let none : found (source_lays 0 op.params) name ≡ None =
       found_new (source_lays 0 op.params) name
       (ap (λ ps. is_among (names_of ps) name) (source_params 0 op.params) ∙ h) in
-      let f : found own name ≡ Some x =
-      sym (ap (λ o. or_else o (found own name)) none)
+      let f : found own name ≡ Some x = sym (ap (λ o. or_else o (found own name)) none)
       ∙ sym (found-append (source_lays 0 op.params) own name) ∙ sym (is.at name) ∙ e in
       defined_own op (lay name x) (found_each
       (IsDefinedLay (result_names op) 0 0 (scratch_names Bit op) (scratch_names Word op)) own name
@@ -183,35 +157,20 @@ module _ (op : Operation) (meets : OperationMeets op) (slots : Slots) (free_bit 
       → IsSpot (op_shape op) n (slot_spot n x v)
   slot_spots name x e n v lt = by (slot_lies name x e)
     where
-      at_space : (s : Space) → x.space ≡ s → IsSpot (op_shape op) n (spot_in n s x.which v)
-          → IsSpot (op_shape op) n (spot_in n x.space x.which v)
-      at_space s f h = subst (λ (t : Space). IsSpot (op_shape op) n (spot_in n t x.which v)) (sym f)
-          h
-
-      of_bit : x.kind ≡ Bit → x.which < scratch_names Bit op
-          → IsSpot (op_shape op) n (spot_in n ScratchBit x.which v)
-      of_bit k h = (omega (arith, h), refl)
-
-      of_word : x.kind ≡ Word → x.which < scratch_names Word op
-          → IsSpot (op_shape op) n (spot_in n ScratchWord x.which v)
-      of_word k h =
-          let l : v < n = subst (λ (j : Kind). v < width n j) k lt in
-          (refl, mul-add-lt x.which n v (scratch_words op) (omega (arith, h)) l)
-
-      of_result : x.which ≡ place_in (result_names op) name
-          → is_among (result_names op) name ≡ true
-          → IsSpot (op_shape op) n (spot_in n Result x.which v)
-      of_result w m =
-          let k : slice_get (shape.results (op_shape op)) x.which ≡ Some x.kind =
-          ap (λ l. slice_get l x.which) (shape_results op)
+      kind : x.which ≡ place_in (result_names op) name → is_among (result_names op) name ≡ true
+          → slice_get (shape.results (op_shape op)) x.which ≡ Some x.kind
+      kind w m = ap (λ l. slice_get l x.which) (shape_results op)
           ∙ ap (slice_get (kinds_of (results op))) w
           ∙ kind_at_place (all_names op) (results op) name x.kind results_known m
-          (kind_of_slot name x e) in
-          subst (λ (o : Option Kind). IsBelow o n v) (sym k)
-          (subst (λ (l : ℕ). v < l) (width_same x.kind n) lt)
+          (kind_of_slot name x e)
 
-      by : LiesIn op (lay name x) → IsSpot (op_shape op) n (slot_spot n x v)
-      by (inl h) = at_space Source h.0 (in_source n v x h.1 lt)
-      by (inr (inl h)) = at_space Result h.0 (of_result h.1 h.2)
-      by (inr (inr (inl h))) = at_space ScratchBit h.0 (of_bit h.1 h.3)
-      by (inr (inr (inr h))) = at_space ScratchWord h.0 (of_word h.1 h.3)
+      by : LiesIn op (lay name x) → IsSpot (op_shape op) n (spot_in n x.space x.which v)
+      by (inl h) = rw (h.0) (in_source n v x h.1 lt)
+      by (inr (inl h)) = rw (h.0) (subst (λ (o : Option Kind). IsBelow o n v) (sym (kind h.1 h.2))
+          (subst (λ (l : ℕ). v < l) (width_same x.kind n) lt))
+      by (inr (inr (inl h))) = rw (h.0) (omega (arith, h.3), refl)
+      by (inr (inr (inr h))) = rw (h.0) (
+        refl,
+        mul-add-lt x.which n v (scratch_words op) (omega (arith, h.3))
+            (subst (λ (j : Kind). v < width n j) h.1 lt),
+      )

@@ -1,9 +1,8 @@
 -- What stands before a statement of an operation that meets the rules, and what the statement reads
 -- and sets.
 use Rattle.std.proofs.Common.{◌≡◌, ℕ, ◌+◌, ◌≤◌, Bool, true, false, not, List, [], ◌∷◌, ◌++◌, map}
-use Rattle.std.proofs.Common.{Option, Some, None, refl, sym, ap, ◌∙◌, subst, arith, bytes_eq, ◌⊎◌}
-use Rattle.std.proofs.Common.{inl, inr, ⊎_elim, append_assoc, append-nil}
-use Rattle.std.specs.Prelude.{max}
+use Rattle.std.proofs.Common.{Option, Some, None, refl, sym, ap, ◌∙◌, subst, arith, bytes_eq}
+use Rattle.std.proofs.Common.{⊎_elim, append_assoc, append-nil}
 use Rattle.std.proofs.lemmas.Bool.{not-true}
 use Rattle.op_text.specs.declared.tree.Kind.{Kind}
 use Rattle.op_text.specs.declared.tree.Kind.TheVariants.{Word, Bit}
@@ -16,11 +15,11 @@ use Rattle.op_text.specs.Scratch.{param, state_names, word_names, defines, body_
 use Rattle.op_text.specs.Scratch.{greatest, need_inside, bits_inside, words_inside}
 use Rattle.op_text.specs.Spelling.{Each, TermMeets}
 use Rattle.op_rules.specs.Meets.{IsNew, IsNewOf, IsKnown, names_of, let_names, targets, used}
-use Rattle.op_rules.specs.Meets.{can_read, LetsRead, Context, next_context, at_start, StatementMeets}
-use Rattle.op_rules.specs.Meets.{SecondMeets, BodyMeets, OperationMeets}
+use Rattle.op_rules.specs.Meets.{can_read, LetsRead, Context, next_context, at_start}
+use Rattle.op_rules.specs.Meets.{StatementMeets, SecondMeets, BodyMeets, OperationMeets}
 use Rattle.op_text.specs.WordOps.{second_kind}
 use Rattle.op_rules.specs.Laws.{all_names}
-use Rattle.op_rules.proofs.Names.{same_name, new-left, new-right, new-append}
+use Rattle.op_rules.proofs.Names.{same_name, new-left, new-right, new-append, among-append}
 use Rattle.op_rules.proofs.Standing.{names-append}
 use Rattle.op_rules.proofs.Blocks.{block_names}
 use Rattle.loop_ir.specs.declared.names.Slot.{Slot}
@@ -28,8 +27,7 @@ use Rattle.loop_ir.specs.Spots.{IsOwn}
 use Rattle.loop_ir.specs.Statements.{Slots, term_names, equation_names, targets_of, block_reads}
 use Rattle.loop_ir.specs.Statements.{read_names, written_names}
 use Rattle.uprog_gen.specs.Layout.{IsLayout}
-use Rattle.uprog_gen.proofs.Naming.Among.{or_split, each_among, among_left, among_split}
-use Rattle.uprog_gen.proofs.Naming.Among.{filter_among}
+use Rattle.uprog_gen.proofs.Naming.Among.{each_among, among_left, among_split, filter_among}
 use Rattle.uprog_gen.proofs.Naming.Among.{one_kind}
 use Rattle.uprog_gen.proofs.Naming.Scene.{kind_skip, kind_first, kind_known, slot_there, slot_own}
 
@@ -54,33 +52,16 @@ first_stage op meets = record {
   body = meets.body;
 }
 
-max_second : (a b : ℕ) → b ≤ max a b
-max_second a b = grind arith
-
-max_first : (a b : ℕ) → a ≤ max a b
-max_first a b = grind arith
-
 pub next_stage : (op : Operation) (c : Context) (s : Statement) (rest : List Statement)
     → Stage op c (s ∷ rest) → Stage op (next_context c s) rest
 next_stage op c s rest st = record {
   before = st.before ++ defines c.known s;
   known = ap (λ l. l ++ defines c.known s) st.known
       ∙ append_assoc op.params st.before (defines c.known s);
-  all = st.all
-      ∙ sym (append_assoc c.known (defines c.known s)
+  all = st.all ∙ sym (append_assoc c.known (defines c.known s)
       (body_defines (c.known ++ defines c.known s) rest));
-  bits = omega (
-    arith,
-    st.bits,
-    max_second (need_inside bits_inside s)
-        (greatest (map (need_inside bits_inside) rest)),
-  );
-  words = omega (
-    arith,
-    st.words,
-    max_second (need_inside words_inside s)
-        (greatest (map (need_inside words_inside) rest)),
-  );
+  bits = grind (arith, st.bits);
+  words = grind (arith, st.words);
   body = st.body.1;
 }
 
@@ -88,20 +69,12 @@ next_stage op c s rest st = record {
 pub bits_need : (op : Operation) (c : Context) (s : Statement) (rest : List Statement)
     → Stage op c (s ∷ rest) → need_inside bits_inside s
     ≤ greatest (map (need_inside bits_inside) op.body)
-bits_need op c s rest st = omega (
-  arith,
-  st.bits,
-  max_first (need_inside bits_inside s) (greatest (map (need_inside bits_inside) rest)),
-)
+bits_need op c s rest st = grind (arith, st.bits)
 
 pub words_need : (op : Operation) (c : Context) (s : Statement) (rest : List Statement)
     → Stage op c (s ∷ rest) → need_inside words_inside s
     ≤ greatest (map (need_inside words_inside) op.body)
-words_need op c s rest st = omega (
-  arith,
-  st.words,
-  max_first (need_inside words_inside s) (greatest (map (need_inside words_inside) rest)),
-)
+words_need op c s rest st = grind (arith, st.words)
 
 -- what a statement sets is what it defines
 pub written_defined : (known : List Param) (s : Statement) (name : List ℕ)
@@ -129,22 +102,18 @@ first_new c target name new f = subst (IsNew (used c)) (same_name target name f)
 pub written_new : (c : Context) (s : Statement) (name : List ℕ) → StatementMeets c s
     → is_among (written_names s) name ≡ true → is_among (used c) name ≡ false
 written_new c (Compute target None p args) name h e =
-    ⊎_elim (λ (f : bytes_eq target name ≡ true). first_new c target name h.gives.new f)
-    (λ (f : false ≡ true). absurd (cc)) (or_split (bytes_eq target name) false e)
+    let new = first_new c target name h.gives.new in grind (arith, e, new)
 written_new c (Compute target (Some x) p args) name h e =
-    ⊎_elim (λ (f : bytes_eq target name ≡ true). first_new c target name h.gives.new f)
-    (λ (g : is_among (x ∷ []) name ≡ true).
-    ⊎_elim (λ (f : bytes_eq x name ≡ true). first_new c x name
-    (second_new c target x (second_kind p) h.others) f)
-    (λ (f : false ≡ true). absurd (cc)) (or_split (bytes_eq x name) false g))
-    (or_split (bytes_eq target name) (is_among (x ∷ []) name) e)
+    let new = first_new c target name h.gives.new in
+    let more = first_new c x name (second_new c target x (second_kind p) h.others) in
+    grind (arith, e, new, more)
 written_new c (Visit b) name h e =
-    ⊎_elim (λ (f : is_among (state_names b) name
-    ≡ true). (each_among (IsNewOf (used c) c.results Bit) (state_names b) name h.states f).new)
-    (λ (f : is_among (word_names b) name ≡ true). new-left (used c) (let_names b) name
-    (each_among (IsNewOf (used c ++ let_names b) c.results Word) (word_names b) name h.words
-    f).new)
-    (among_split (state_names b) (word_names b) name e)
+    let state = λ (f : is_among (state_names b) name ≡ true).
+    (each_among (IsNewOf (used c) c.results Bit) (state_names b) name h.states f).new in
+    let word = λ (f : is_among (word_names b) name ≡ true). new-left (used c) (let_names b) name
+    (each_among (IsNewOf (used c ++ let_names b) c.results Word) (word_names b) name h.words f).new
+    in let both = among-append (state_names b) (word_names b) name in
+    grind (arith, e, both, state, word)
 
 pub written_unknown : (c : Context) (s : Statement) (name : List ℕ) → StatementMeets c s
     → is_among (written_names s) name ≡ true → is_among (names_of c.known) name ≡ false
@@ -167,86 +136,66 @@ word_kind known b name h =
     (ap (λ l. is_among l name) (names_param Bit (state_names b)) ∙ word_other b name h)
     ∙ one_kind Word (word_names b) name h
 
+-- what holds where a name is in either list
+in_either : {P : Type 0} (xs ys : List (List ℕ)) (name : List ℕ) → (is_among xs name ≡ true → P)
+    → (is_among ys name ≡ true → P) → is_among (xs ++ ys) name ≡ true → P
+in_either xs ys name f g h = ⊎_elim f g (among_split xs ys name h)
+
 -- an expression reads what it can
 pub term_reads : (readable : List ℕ → Bool) (depth : ℕ) (t : Term) (name : List ℕ)
     → TermMeets readable depth t → is_among (term_names t) name ≡ true → readable name ≡ true
 term_reads readable depth Nought name h e = absurd (cc)
 term_reads readable depth Unity name h e = absurd (cc)
 term_reads readable depth (Named m) name h e =
-    ⊎_elim (λ (f : bytes_eq m name ≡ true). subst (λ (x : List ℕ). readable x
-    ≡ true) (same_name m name f) h.1) (λ (f : false ≡ true). absurd (cc))
-    (or_split (bytes_eq m name) false e)
+    let same = λ (f : bytes_eq m name ≡ true). ap readable (same_name m name f) in
+    let reads = h.1 in grind (arith, e, same, reads)
 term_reads readable depth (Negation a) name h e = term_reads readable (depth + 1) a name h.1 e
-term_reads readable depth (Conjunction a b) name h e =
-    ⊎_elim (term_reads readable (depth + 1) a name h.1) (term_reads readable (depth + 1) b name h.2)
-    (among_split (term_names a) (term_names b) name e)
-term_reads readable depth (Disjunction a b) name h e =
-    ⊎_elim (term_reads readable (depth + 1) a name h.1) (term_reads readable (depth + 1) b name h.2)
-    (among_split (term_names a) (term_names b) name e)
-term_reads readable depth (Parity a b) name h e =
-    ⊎_elim (term_reads readable (depth + 1) a name h.1) (term_reads readable (depth + 1) b name h.2)
-    (among_split (term_names a) (term_names b) name e)
+term_reads readable depth (Conjunction a b) name h e = in_either (term_names a) (term_names b) name
+    (term_reads readable (depth + 1) a name h.1) (term_reads readable (depth + 1) b name h.2) e
+term_reads readable depth (Disjunction a b) name h e = in_either (term_names a) (term_names b) name
+    (term_reads readable (depth + 1) a name h.1) (term_reads readable (depth + 1) b name h.2) e
+term_reads readable depth (Parity a b) name h e = in_either (term_names a) (term_names b) name
+    (term_reads readable (depth + 1) a name h.1) (term_reads readable (depth + 1) b name h.2) e
 term_reads readable depth (Majority a b d) name h e =
-    ⊎_elim (λ (f : is_among (term_names a ++ term_names b) name
-    ≡ true). ⊎_elim (term_reads readable (depth + 1) a name h.1)
-    (term_reads readable (depth + 1) b name h.2)
-    (among_split (term_names a) (term_names b) name f))
-    (term_reads readable (depth + 1) d name h.3)
-    (among_split (term_names a ++ term_names b) (term_names d) name e)
-
--- the names that can be read stand in the list or are known
-abbrev pub CanStand : List Param → List (List ℕ) → List ℕ → Type 0
-CanStand known inside name = (is_known (kind_among known name) ≡ true)
-    ⊎ (is_among inside name ≡ true)
+    in_either (term_names a ++ term_names b) (term_names d) name
+    (in_either (term_names a) (term_names b) name (term_reads readable (depth + 1) a name h.1)
+    (term_reads readable (depth + 1) b name h.2)) (term_reads readable (depth + 1) d name h.3) e
 
 pub lets_stand : (known : List Param) (inside : List (List ℕ)) (lets : List Equation)
     (name : List ℕ) → LetsRead known inside lets → is_among (equation_names lets) name ≡ true
-    → CanStand known (inside ++ map (λ (e : Equation). e.name) lets) name
+    → can_read known (inside ++ map (λ (e : Equation). e.name) lets) name ≡ true
 lets_stand known inside [] name h e = absurd (cc)
 lets_stand known inside (l ∷ lets) name h e =
     let rest = map (λ (e : Equation). e.name) lets in
-    ⊎_elim
-    (λ (f : is_among (term_names l.value) name ≡ true).
-    ⊎_elim (λ (g : is_known (kind_among known name) ≡ true). inl g)
-    (λ (g : is_among inside name ≡ true). inr (among_left inside (l.name ∷ rest) name g))
-    (or_split (is_known (kind_among known name)) (is_among inside name)
-    (term_reads (can_read known inside) 0 l.value name h.0 f)))
-    (λ (f : is_among (equation_names lets) name
-    ≡ true). subst (λ (ns : List (List ℕ)). CanStand known ns name)
-    (append_assoc inside (l.name ∷ []) rest)
-    (lets_stand known (inside ++ l.name ∷ []) lets name h.1 f))
-    (among_split (term_names l.value) (equation_names lets) name e)
+    let more = among_left inside (l.name ∷ rest) name in
+    in_either (term_names l.value) (equation_names lets) name
+    (λ f. let reads = term_reads (can_read known inside) 0 l.value name h.0 f in
+    grind (arith, reads, more)) (λ f. rw (← append_assoc inside (l.name ∷ []) rest)
+    (lets_stand known (inside ++ l.name ∷ []) lets name h.1 f)) e
 
 pub values_stand : (known : List Param) (inside : List (List ℕ)) (es : List Equation)
     (name : List ℕ) → Each (λ (e : Equation). TermMeets (can_read known inside) 0 e.value) es
-    → is_among (equation_names es) name ≡ true → CanStand known inside name
+    → is_among (equation_names es) name ≡ true → can_read known inside name ≡ true
 values_stand known inside [] name h e = absurd (cc)
 values_stand known inside (l ∷ es) name h e =
-    ⊎_elim
-    (λ (f : is_among (term_names l.value) name ≡ true). or_split (is_known (kind_among known name))
-    (is_among inside name) (term_reads (can_read known inside) 0 l.value name h.0 f))
-    (λ (f : is_among (equation_names es) name ≡ true). values_stand known inside es name h.1 f)
-    (among_split (term_names l.value) (equation_names es) name e)
+    in_either (term_names l.value) (equation_names es) name
+    (term_reads (can_read known inside) 0 l.value name h.0) (values_stand known inside es name h.1) e
 
-known_some : (o : Option Kind) → is_known o ≡ true → (k : Kind) × (o ≡ Some k)
-known_some None h = absurd (cc)
-known_some (Some k) h = (k, refl)
+pub known_kind : (o : Option Kind) → is_known o ≡ true → (k : Kind) × (o ≡ Some k)
+known_kind None h = absurd (cc)
+known_kind (Some k) h = (k, refl)
 
 -- the names other than lets that a block's expressions read
 pub block_stand : (c : Context) (b : Block) (name : List ℕ) → StatementMeets c (Visit b)
-    → is_among (block_reads b) name ≡ true → CanStand c.known (state_names b) name
+    → is_among (block_reads b) name ≡ true → can_read c.known (state_names b) name ≡ true
 block_stand c b name h e =
     let f = filter_among (λ n. not (is_among (targets_of b.lets) n)) (equation_names b.lets
     ++ equation_names b.assigns) name e in
-    let g : CanStand c.known (state_names b ++ let_names b) name =
-    ⊎_elim (lets_stand c.known (state_names b) b.lets name h.lets_read)
-    (values_stand c.known (state_names b ++ let_names b) b.assigns name h.values_read)
-    (among_split (equation_names b.lets) (equation_names b.assigns) name f.0) in
-    ⊎_elim (λ (k : is_known (kind_among c.known name) ≡ true). inl k)
-    (λ (k : is_among (state_names b ++ let_names b) name ≡ true).
-    ⊎_elim (λ (l : is_among (state_names b) name ≡ true). inr l) (λ (l : is_among (let_names b) name
-    ≡ true). absurd (cc (l, f.1))) (among_split (state_names b) (let_names b) name k))
-    g
+    let g = in_either (equation_names b.lets) (equation_names b.assigns) name
+    (lets_stand c.known (state_names b) b.lets name h.lets_read)
+    (values_stand c.known (state_names b ++ let_names b) b.assigns name h.values_read) f.0 in
+    let out = f.1 in let both = among-append (state_names b) (let_names b) name in
+    grind (arith, g, both, out)
 
 -- what a statement reads is known
 pub read_known : (c : Context) (s : Statement) (name : List ℕ) → StatementMeets c s
@@ -255,36 +204,23 @@ read_known c (Compute target second p args) name h e =
     (kind_of c.known name, each_among (IsKnown c.known) args name h.known e)
 read_known c (Visit b) name h e =
     let f = filter_among (λ n. not (is_among (state_names b) n)) (block_reads b) name e in
-    ⊎_elim (λ (k : is_known (kind_among c.known name) ≡ true). known_some (kind_among c.known name)
-    k) (λ (k : is_among (state_names b) name ≡ true). absurd (cc (k, f.1)))
-    (block_stand c b name h f.0)
+    let reads = block_stand c b name h f.0 in let out = f.1 in
+    known_kind (kind_among c.known name) (grind (arith, reads, out))
 
 -- lets stay: no later name is one of them
 lets_unset : (c : Context) (s : Statement) (name : List ℕ) → StatementMeets c s
     → is_among c.lets name ≡ true → is_among (names_of (defines c.known s)) name ≡ false
 lets_unset c s name h e =
-    written_defined c.known s name
-    ∙ ⊎_elim (λ (f : is_among (written_names s) name
-    ≡ true). absurd (cc (
-      e,
-      new-right (names_of c.known) c.lets name
-          (written_new c s name h f),
-    ))) (λ (f : is_among (written_names s) name ≡ false). f)
-    (tested (is_among (written_names s) name))
-  where
-    tested : (b : Bool) → (b ≡ true) ⊎ (b ≡ false)
-    tested true = inl refl
-    tested false = inr refl
+    let new = λ (f : is_among (written_names s) name ≡ true).
+    new-right (names_of c.known) c.lets name (written_new c s name h f) in
+    let same = written_defined c.known s name in grind (arith, e, new, same)
 
 pub lets_stay : (c : Context) (rest : List Statement) (name : List ℕ) → BodyMeets c rest
     → is_among c.lets name ≡ true → is_among (names_of (body_defines c.known rest)) name ≡ false
 lets_stay c [] name h e = refl
-lets_stay c (s ∷ rest) name h e =
-    ap (λ l. is_among l name) (names-append (defines c.known s)
-    (body_defines (c.known ++ defines c.known s) rest))
-    ∙ new-append (names_of (defines c.known s))
-    (names_of (body_defines (c.known ++ defines c.known s) rest)) name
-    (lets_unset c s name h.0 e)
+lets_stay c (s ∷ rest) name h e = ap (λ l. is_among l name) (names-append (defines c.known s)
+    (body_defines (c.known ++ defines c.known s) rest)) ∙ new-append (names_of (defines c.known s))
+    (names_of (body_defines (c.known ++ defines c.known s) rest)) name (lets_unset c s name h.0 e)
     (lets_stay (next_context c s) rest name h.1 (among_left c.lets _ name e))
 
 module _ (op : Operation) (meets : OperationMeets op) (slots : Slots) (free_bit free_word : ℕ)
@@ -293,7 +229,7 @@ module _ (op : Operation) (meets : OperationMeets op) (slots : Slots) (free_bit 
   -- the places of known and of new names
   pub known_slot : (name : List ℕ) (k : Kind) → kind_among c.known name ≡ Some k
       → (x : Slot) × (slots name ≡ Some x) × (x.kind ≡ k)
-  known_slot name k h = slot_there op meets slots free_bit free_word is name k
+  known_slot name k h = slot_there _ meets _ _ _ is name k
       (ap (λ ps. kind_among ps name) st.all ∙ kind_first c.known (body_defines c.known (s ∷ rest))
       name k h)
 
@@ -302,7 +238,7 @@ module _ (op : Operation) (meets : OperationMeets op) (slots : Slots) (free_bit 
       × (x.kind ≡ k)
   defined_slot name k w h =
       let u = written_unknown c s name st.body.0 w in
-      slot_there op meets slots free_bit free_word is name k
+      slot_there _ meets _ _ _ is name k
       (ap (λ ps. kind_among ps name) st.all ∙ kind_skip c.known (body_defines c.known (s ∷ rest))
       name u ∙ kind_first (defines c.known s) (body_defines (c.known ++ defines c.known s) rest)
       name k h)
@@ -326,5 +262,4 @@ module _ (op : Operation) (meets : OperationMeets op) (slots : Slots) (free_bit 
       let v : is_among (names_of op.params ++ names_of st.before) name ≡ false =
       ap (λ l. is_among l name) (sym (names-append op.params st.before))
       ∙ ap (λ ps. is_among (names_of ps) name) (sym st.known) ∙ u in
-      slot_own op meets slots free_bit free_word is name x
-      (new-left (names_of op.params) (names_of st.before) name v) e
+      slot_own _ meets _ _ _ is name x (new-left (names_of op.params) (names_of st.before) name v) e

@@ -1,4 +1,4 @@
--- What stands before each statement of an operation, and the loop programs so far.
+-- What stands before each statement of an operation, and the flows so far.
 use Rattle.std.proofs.Common.{◌≡◌, ℕ, zero, suc, ◌+◌, ◌<◌, List, [], ◌∷◌, ◌++◌, map, length, take}
 use Rattle.std.proofs.Common.{sym, ap, ◌∙◌, subst, arith}
 use Rattle.std.specs.Prelude.{slice_index_or}
@@ -6,13 +6,15 @@ use Rattle.std.proofs.lemmas.List.{map-append}
 use Rattle.op_text.specs.declared.tree.Stmt.{Stmt}
 use Rattle.op_text.specs.Language.{Statement, Operation, statement}
 use Rattle.op_rules.specs.Meets.{Context, next_context, at_start, OperationMeets}
-use Rattle.loop_ir.specs.declared.ir.LoopProgram.{LoopProgram}
-use Rattle.loop_ir.specs.Plain.{StepOf, Block, steps_of}
+use Rattle.loop_ir.specs.declared.ir.Flow.{Flow}
+use Rattle.loop_ir.specs.Plain.{StepOf, Block, flow_of}
 use Rattle.loop_ir.specs.Statements.{Slots, StatementMeets, IsPlaced}
 use Rattle.loop_ir.specs.Lowered.{IsLowered}
 use Rattle.uprog_gen.specs.Layout.{IsLayout}
 use Rattle.word_lower.specs.Forms.{HasForm}
+use Rattle.loop_front.specs.Front.{front}
 use Rattle.uprog_gen.specs.Programs.{AreLowered, HaveForms, IsAsWritten, AreWritten}
+use Rattle.uprog_gen.specs.Entries.{AreFronts}
 use Rattle.uprog_gen.proofs.Naming.Stage.{Stage, first_stage, next_stage}
 use Rattle.uprog_gen.proofs.Naming.Ready.{statement_meets, is_placed}
 use Rattle.uprog_gen.proofs.Naming.LaidOut.{body_more}
@@ -29,12 +31,9 @@ module _ (op : Operation) (meets : OperationMeets op) (slots : Slots) (free_bit 
       → IsReady slots free_bit free_word (statement x)
   ready_at c [] st k x lt e = absurd (omega arith)
   ready_at c (y ∷ items) st zero x lt e =
-      subst (λ (z : Stmt). IsReady slots free_bit free_word (statement z)) (sym e)
-      (record {
-        meets = statement_meets op meets slots free_bit free_word is c (statement y)
-            (map statement items) st;
-        placed = is_placed op meets slots free_bit free_word is c (statement y)
-            (map statement items) st;
+      subst (λ (z : Stmt). IsReady slots free_bit free_word (statement z)) (sym e) (record {
+        meets = statement_meets _ meets _ _ _ is c (statement y) (map statement items) st;
+        placed = is_placed _ meets _ _ _ is c (statement y) (map statement items) st;
       })
   ready_at c (y ∷ items) st (suc k) x lt e = ready_at (next_context c (statement y)) items
       (next_stage op c (statement y) (map statement items) st) k x (omega arith) e
@@ -45,73 +44,40 @@ module _ (op : Operation) (meets : OperationMeets op) (slots : Slots) (free_bit 
   statement_ready items e k x lt f = ready_at (at_start op) items
       (subst (Stage op (at_start op)) e (first_stage op meets)) k x lt f
 
-lowered-append : (slots : Slots) (free_bit free_word : ℕ) (body : List Statement)
+-- one statement's program more
+all-append : (slots : Slots) (free_bit free_word : ℕ) (body : List Statement)
     (ps : List (List (StepOf Block))) (s : Statement) (p : List (StepOf Block))
-    → AreLowered slots free_bit free_word body ps → IsLowered slots free_bit free_word s p
+    → AreLowered slots free_bit free_word body ps → HaveForms slots body ps
+    → AreWritten slots free_bit free_word body ps → IsLowered slots free_bit free_word s p
+    → HasForm slots s p → IsAsWritten slots free_bit free_word s p
     → AreLowered slots free_bit free_word (body ++ s ∷ []) (ps ++ p ∷ [])
-lowered-append slots free_bit free_word [] [] s p h i = (i, tt)
-lowered-append slots free_bit free_word [] (q ∷ ps) s p h i = absurd h
-lowered-append slots free_bit free_word (t ∷ body) [] s p h i = absurd h
-lowered-append slots free_bit free_word (t ∷ body) (q ∷ ps) s p h i =
-    (h.0, lowered-append slots free_bit free_word body ps s p h.1 i)
+    × HaveForms slots (body ++ s ∷ []) (ps ++ p ∷ [])
+    × AreWritten slots free_bit free_word (body ++ s ∷ []) (ps ++ p ∷ [])
+all-append slots free_bit free_word [] [] s p l f w i j k = ((i, tt), (j, tt), (k, tt))
+all-append slots free_bit free_word (t ∷ body) (q ∷ ps) s p l f w i j k =
+    let more = all-append slots free_bit free_word body ps s p l.1 f.1 w.1 i j k in
+    ((l.0, more.0), (f.0, more.1), (w.0, more.2))
+all-append _ _ _ _ _ _ _ l _ _ _ _ _ = absurd l
 
 -- one statement more
-pub lowered_more : (slots : Slots) (free_bit free_word : ℕ) (items : List Stmt) (k : ℕ) (x : Stmt)
-    (old new : List LoopProgram) (p : LoopProgram) → k < length items → x ≡ slice_index_or items k x
-    → new ≡ old ++ p ∷ []
-    → AreLowered slots free_bit free_word (take k (map statement items)) (map steps_of old)
-    → IsLowered slots free_bit free_word (statement x) (steps_of p)
-    → AreLowered slots free_bit free_word (take (k + 1) (map statement items))
-    (map steps_of new)
-lowered_more slots free_bit free_word items k x old new p lt e f h i =
-    subst (λ l. AreLowered slots free_bit free_word l (map steps_of new))
-    (sym (body_more items k x lt e))
-    (subst (AreLowered slots free_bit free_word (take k (map statement items) ++ statement x ∷ []))
-    (sym (ap (map steps_of) f ∙ map-append steps_of old (p ∷ [])))
-    (lowered-append slots free_bit free_word (take k (map statement items)) (map steps_of old)
-    (statement x) (steps_of p) h i))
-
-forms-append : (slots : Slots) (body : List Statement) (ps : List (List (StepOf Block)))
-    (s : Statement) (p : List (StepOf Block)) → HaveForms slots body ps → HasForm slots s p
-    → HaveForms slots (body ++ s ∷ []) (ps ++ p ∷ [])
-forms-append slots [] [] s p h i = (i, tt)
-forms-append slots [] (q ∷ ps) s p h i = absurd h
-forms-append slots (t ∷ body) [] s p h i = absurd h
-forms-append slots (t ∷ body) (q ∷ ps) s p h i = (h.0, forms-append slots body ps s p h.1 i)
-
-pub forms_more : (slots : Slots) (items : List Stmt) (k : ℕ) (x : Stmt) (old new : List LoopProgram)
-    (p : LoopProgram) → k < length items → x ≡ slice_index_or items k x → new ≡ old ++ p ∷ []
-    → HaveForms slots (take k (map statement items)) (map steps_of old)
-    → HasForm slots (statement x) (steps_of p)
-    → HaveForms slots (take (k + 1) (map statement items)) (map steps_of new)
-forms_more slots items k x old new p lt e f h i =
-    subst (λ l. HaveForms slots l (map steps_of new)) (sym (body_more items k x lt e))
-    (subst (HaveForms slots (take k (map statement items) ++ statement x ∷ []))
-    (sym (ap (map steps_of) f ∙ map-append steps_of old (p ∷ [])))
-    (forms-append slots (take k (map statement items)) (map steps_of old) (statement x) (steps_of p)
-    h i))
-
-written-append : (slots : Slots) (free_bit free_word : ℕ) (body : List Statement)
-    (ps : List (List (StepOf Block))) (s : Statement) (p : List (StepOf Block))
-    → AreWritten slots free_bit free_word body ps → IsAsWritten slots free_bit free_word s p
-    → AreWritten slots free_bit free_word (body ++ s ∷ []) (ps ++ p ∷ [])
-written-append slots free_bit free_word [] [] s p h i = (i, tt)
-written-append slots free_bit free_word [] (q ∷ ps) s p h i = absurd h
-written-append slots free_bit free_word (t ∷ body) [] s p h i = absurd h
-written-append slots free_bit free_word (t ∷ body) (q ∷ ps) s p h i =
-    (h.0, written-append slots free_bit free_word body ps s p h.1 i)
-
-pub written_more : (slots : Slots) (free_bit free_word : ℕ) (items : List Stmt) (k : ℕ) (x : Stmt)
-    (old new : List LoopProgram) (p : LoopProgram) → k < length items → x ≡ slice_index_or items k x
-    → new ≡ old ++ p ∷ []
-    → AreWritten slots free_bit free_word (take k (map statement items)) (map steps_of old)
-    → IsAsWritten slots free_bit free_word (statement x) (steps_of p)
-    → AreWritten slots free_bit free_word (take (k + 1) (map statement items))
-    (map steps_of new)
-written_more slots free_bit free_word items k x old new p lt e f h i =
-    subst (λ l. AreWritten slots free_bit free_word l (map steps_of new))
-    (sym (body_more items k x lt e))
-    (subst (AreWritten slots free_bit free_word (take k (map statement items) ++ statement x ∷ []))
-    (sym (ap (map steps_of) f ∙ map-append steps_of old (p ∷ [])))
-    (written-append slots free_bit free_word (take k (map statement items)) (map steps_of old)
-    (statement x) (steps_of p) h i))
+pub fronts_more : (slots : Slots) (free_bit free_word : ℕ) (items : List Stmt) (k : ℕ) (x : Stmt)
+    (old new : List Flow) (f : Flow) (p : List (StepOf Block)) → k < length items
+    → x ≡ slice_index_or items k x → new ≡ old ++ f ∷ [] → flow_of f ≡ front p
+    → AreFronts slots free_bit free_word (take k (map statement items)) (map flow_of old)
+    → IsLowered slots free_bit free_word (statement x) p → HasForm slots (statement x) p
+    → IsAsWritten slots free_bit free_word (statement x) p
+    → AreFronts slots free_bit free_word (take (k + 1) (map statement items)) (map flow_of new)
+fronts_more slots free_bit free_word items k x old new f p lt e g is h low form written =
+    let body = take k (map statement items) in
+    let all = all-append _ _ _ body h.statements (statement x) p h.lowered h.forms h.written low form
+    written in
+    subst (λ l. AreFronts slots free_bit free_word l (map flow_of new))
+    (sym (body_more items k x lt e)) (record {
+      statements = h.statements ++ p ∷ [];
+      fronts = ap (map flow_of) g ∙ map-append flow_of old (f ∷ [])
+          ∙ ap (λ l. l ++ flow_of f ∷ []) h.fronts ∙ ap (λ y. map front h.statements ++ y ∷ []) is
+          ∙ sym (map-append front h.statements (p ∷ []));
+      lowered = all.0;
+      forms = all.1;
+      written = all.2;
+    })

@@ -8,7 +8,7 @@ use Rattle.std.proofs.lemmas.Bool.{cases_eq, cases_lt, and_parts}
 use Rattle.std.proofs.lemmas.List.{map-append}
 use Rattle.dram_model.specs.declared.address.Addr.TheVariants.{D as AddrD}
 use Rattle.dram_model.specs.declared.address.Cell.TheVariants.{D}
-use Rattle.dram_model.specs.declared.address.Command.TheVariants.{Ap as RowAp, Aap as RowAap}
+use Rattle.dram_model.specs.declared.address.Command.TheVariants.{Ap as RowAp}
 use Rattle.dram_model.specs.Column.{Column, run}
 use Rattle.dram_model.proofs.ColumnLaws.{run-append}
 use Rattle.mig_graph.specs.Graph.{value}
@@ -22,8 +22,7 @@ use Rattle.row_alloc.specs.declared.body.BodyCmd.TheVariants as cmd
 use Rattle.row_alloc.specs.Rows.{Rows, place, bound as placed, run_body, out_at, AreApart}
 use Rattle.loop_ir.specs.declared.ir.Place.{Place}
 use Rattle.loop_ir.specs.declared.ir.Space.{Space}
-use Rattle.loop_ir.specs.declared.ir.Space.TheVariants.{Result, Source, ScratchBit, ScratchWord}
-use Rattle.loop_ir.specs.declared.ir.Space.TheVariants.{Cells}
+use Rattle.loop_ir.specs.declared.ir.Space.TheVariants.{ScratchWord, Cells}
 use Rattle.loop_ir.specs.Plain.{Block}
 use Rattle.loop_ir.specs.Loops.{RoundOf, sub_value}
 use Rattle.loop_ir.specs.Spots.{Spot, Spots, nth_place, spot_at, spot_in, nth_spot, IsOwn}
@@ -69,10 +68,7 @@ no_row n i o regs q e head p spot same = by q.space e (subst (IsSpot head n) sam
     by : (x : Space) → is_state x ≡ true → IsSpot head n
         (spot_in n x q.which (sub_value n i o regs q.sub)) → ⊥
     by Cells e h = h
-    by Result e h = absurd (cc)
-    by Source e h = absurd (cc)
-    by ScratchBit e h = absurd (cc)
-    by ScratchWord e h = absurd (cc)
+    by x e h = absurd (cc)
 
 module _ (rows : ℕ) (head : Shape) (n : ℕ) (b : Bound) where
   -- a command of the trace, at its addresses, is the body's command on its rows
@@ -81,12 +77,10 @@ module _ (rows : ℕ) (head : Shape) (n : ℕ) (b : Bound) where
     which = w;
     index = position (row_space s) v;
   }) ≡ AddrD (spot_row head n b (spot_in n s w v))
-  space_is Result w v h = refl
-  space_is Source w v h = refl
-  space_is ScratchBit w v h = refl
   space_is ScratchWord w v h = let e : b.scratch + head.bits + w * n + v
       ≡ b.scratch + head.bits + (w * n + v) = omega arith in ap AddrD e
   space_is Cells w v h = absurd (cc)
+  space_is s w v h = refl
 
   input_row : (r : RoundOf Part) (k : ℕ) → is_state (nth_place r.part.block.reads k).space ≡ false
       → (round_rows rows head n b r).input k
@@ -96,13 +90,11 @@ module _ (rows : ℕ) (head : Shape) (n : ℕ) (b : Bound) where
 
   ref_place : (r : RoundOf Part) (x : BodyRef) → IsNamed r.part x
       → address rows head n b (round_ref n r x) ≡ place (round_rows rows head n b r) x
-  ref_place r (ref.B k) h = refl
-  ref_place r (ref.C k) h = refl
-  ref_place r (ref.Spill k) h = refl
   ref_place r (ref.In k) h = let p = nth_place r.part.block.reads k in
       space_is p.space p.which (sub_value n r.i r.o r.regs p.sub) h.1 ∙ ap AddrD (sym (input_row r k h.1))
   ref_place r (ref.Out k) h = let p = nth_place r.part.block.writes k in
       space_is p.space p.which (sub_value n r.i r.o r.regs p.sub) h.1
+  ref_place r x h = refl
 
   module _ (r : RoundOf Part) (part : IsPart r.part) where
     abbrev inputs : ℕ
@@ -114,6 +106,10 @@ module _ (rows : ℕ) (head : Shape) (n : ℕ) (b : Bound) where
     abbrev enter : List Held
     enter = enters 0 r.part.block.reads
 
+    named_one : (x : BodyRef) → is_ref inputs outputs x ≡ true → is_read enter x ≡ true
+        → address rows head n b (round_ref n r x) ≡ place (round_rows rows head n b r) x
+    named_one x h u = ref_place r x (named_ref r.part part x h u)
+
     command_is : (c : BodyCmd) → is_legal_cmd inputs outputs c ≡ true → reads_rows enter c ≡ true
         → bound_command rows head n b (round_command n r c)
         ≡ placed (round_rows rows head n b r) c
@@ -121,14 +117,12 @@ module _ (rows : ℕ) (head : Shape) (n : ℕ) (b : Bound) where
         let p = and_parts (is_ref inputs outputs x && is_first_ref x)
         (is_ref inputs outputs y && is_second_ref y) h in
         let v = and_parts (is_read enter x) (is_read enter y) u in
-        let hx = named_ref r.part part x
-        (and_parts (is_ref inputs outputs x) (is_first_ref x) p.0).0 v.0 in
-        let hy = named_ref r.part part y
-        (and_parts (is_ref inputs outputs y) (is_second_ref y) p.1).0 v.1 in
-        ap (λ a. RowAap a (address rows head n b (round_ref n r y))) (ref_place r x hx)
-        ∙ ap (λ a. RowAap (place (round_rows rows head n b r) x) a) (ref_place r y hy)
-    command_is (cmd.Ap x) h u = ap RowAp (ref_place r x (named_ref r.part part x
-        (and_parts (is_ref inputs outputs x) (is_first_ref x) h).0 u))
+        rw (
+          named_one x (and_parts (is_ref inputs outputs x) (is_first_ref x) p.0).0 v.0,
+          named_one y (and_parts (is_ref inputs outputs y) (is_second_ref y) p.1).0 v.1,
+        ) refl
+    command_is (cmd.Ap x) h u = ap RowAp
+        (named_one x (and_parts (is_ref inputs outputs x) (is_first_ref x) h).0 u)
 
     commands_are : (cs : List BodyCmd) → are_legal inputs outputs cs ≡ true
         → list_all (reads_rows enter) cs ≡ true → bound rows head n b (map (round_command n r) cs)
@@ -137,8 +131,7 @@ module _ (rows : ℕ) (head : Shape) (n : ℕ) (b : Bound) where
     commands_are (c ∷ cs) h u =
         let p = and_parts (is_legal_cmd inputs outputs c) (are_legal inputs outputs cs) h in
         let v = and_parts (reads_rows enter c) (list_all (reads_rows enter) cs) u in
-        ap (λ x. x ∷ bound rows head n b (map (round_command n r) cs)) (command_is c p.0 v.0)
-        ∙ ap (λ l. placed (round_rows rows head n b r) c ∷ l) (commands_are cs p.1 v.1)
+        rw (command_is c p.0 v.0, commands_are cs p.1 v.1) refl
 
   pub round_first : (r : RoundOf Part) (rs : List (RoundOf Part)) (s : Column) → IsPart r.part
       → run (bound rows head n b (rounds_commands n (r ∷ rs))) s

@@ -18,8 +18,7 @@ use Rattle.uprog_gen.proofs.Rows.Rounds.{IsLaid}
 spot_of : (s : Space) (w v i j : ℕ) → w ≡ v → i ≡ j
     → (let p : Spot = record { space = s; which = w; index = i } in p)
     ≡ record { space = s; which = v; index = j }
-spot_of s w v i j e f = ap (λ x. record { space = s; which = x; index = i }) e
-    ∙ ap (λ x. record { space = s; which = v; index = x }) f
+spot_of s w v i j e f = rw (e, f) refl
 
 module _ (rows n : ℕ) where
   -- a value's row lies in the value's range, of which holds what holds of all
@@ -128,9 +127,7 @@ module _ (rows : ℕ) (head : Shape) (n : ℕ) (b : Bound) (fits : Fits rows hea
   own_in ScratchWord ScratchWord w i v j p q own e =
       spot_of ScratchWord w v i j (p.0 ∙ sym q.0) (omega arith)
   own_in Cells t w i v j p q own e = absurd p
-  own_in Result Cells w i v j p q own e = absurd q
-  own_in ScratchBit Cells w i v j p q own e = absurd q
-  own_in ScratchWord Cells w i v j p q own e = absurd q
+  own_in s Cells w i v j p q own e = absurd q
 
   low_in : (s : Space) (w i : ℕ) → IsIn head n s w i → row_in head n b s w i < rows - 32
   low_in Result w i p = value_low rows n (results head) b.results fits.results w i p

@@ -55,15 +55,13 @@ module _ (head : Shape) (n : ℕ) where
     enter = enters 0 r.part.block.reads
 
     ref_range : (x : BodyRef) → IsNamed r.part x → in_range head n (round_ref n r x) ≡ true
-    ref_range (ref.B k) h = refl
-    ref_range (ref.C k) h = refl
-    ref_range (ref.Spill k) h = refl
     ref_range (ref.In k) h =
         let p = nth_place r.part.block.reads k in
         space_range p.space p.which (sub_value n r.i r.o r.regs p.sub) (is.reads k h.0 h.1)
     ref_range (ref.Out k) h =
         let p = nth_place r.part.block.writes k in
         space_range p.space p.which (sub_value n r.i r.o r.regs p.sub) (is.writes k h.0 h.1)
+    ref_range x h = refl
 
     command_range : (c : BodyCmd) → is_legal_cmd inputs outputs c ≡ true
         → reads_rows enter c ≡ true → all_in_range head n (round_command n r c) ≡ true

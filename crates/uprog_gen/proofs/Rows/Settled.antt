@@ -1,7 +1,6 @@
 -- Where bodies are settled, so are the numbers of all commands.
-use Rattle.std.proofs.Common.{◌≡◌, ℕ, ◌+◌, Bool, true, false, cond, List, [], ◌∷◌}
-use Rattle.std.proofs.Common.{map, refl, sym, ap, ◌∙◌, subst, Option, Some}
-use Rattle.std.proofs.Common.{None}
+use Rattle.std.proofs.Common.{◌≡◌, ℕ, ◌+◌, Bool, true, false, cond, List, [], ◌∷◌, map, refl, sym}
+use Rattle.std.proofs.Common.{ap, ◌∙◌, subst, Option, Some, None}
 use Rattle.std.specs.Prelude.{◌||◌, count_by, sum_by}
 use Rattle.std.specs.List.{AllByRecursion}
 use Rattle.std.proofs.lemmas.List.Sums.{sum_by-cons, sum_by-append}
@@ -12,20 +11,16 @@ use Rattle.row_alloc.specs.declared.body.BodyCmd.{BodyCmd}
 use Rattle.row_alloc.specs.declared.body.BodyCmd.TheVariants.{Aap, Ap}
 use Rattle.row_alloc.specs.Known.{WordBody, Inverted, Both, Either, Unlike, Chosen, Added}
 use Rattle.row_alloc.specs.Known.{inputs_in, nodes_in, outs_in}
-use Rattle.loop_ir.specs.Plain.{Block, InnerOf, StepOf, inner_map, step_map, AllInner, AllStep}
-use Rattle.loop_ir.specs.Plain.{AllParts}
-use Rattle.loop_ir.specs.Plain.InnerOf.{Alone, Across}
-use Rattle.loop_ir.specs.Plain.StepOf.{Single, Along, Nest, Flowed}
-use Rattle.uprog_gen.proofs.Coding.FlowMaps.{flow_parts}
+use Rattle.loop_ir.specs.Plain.{Block}
 use Rattle.loop_ir.specs.Loops.{RoundOf}
 use Rattle.loop_ir.specs.States.{has_states, held_of}
 use Rattle.loop_ir.specs.Costs.{carries, is_copy}
-use Rattle.uprog_gen.specs.Code.{Part, block_of_part, blocks}
+use Rattle.uprog_gen.specs.Code.{Part}
 use Rattle.uprog_gen.proofs.Rows.Issued.{round_command, rounds_commands}
 use Rattle.uprog_gen.specs.Parts.{IsPart}
 use Rattle.word_flow.specs.Coded.{is_aap, is_ap}
 use Rattle.uprog_gen.specs.Settled.{is_word_body, word_among, word_of, word_commands, held_commands}
-use Rattle.uprog_gen.specs.Settled.{turn_count, turn_aaps, turn_aps, is_known, IsSettled}
+use Rattle.uprog_gen.specs.Settled.{turn_count, is_known, IsSettled}
 use Rattle.uprog_gen.proofs.Bodies.Fixed.{body_is}
 use Rattle.uprog_gen.proofs.Rows.Rounds.{block_round}
 
@@ -65,78 +60,40 @@ part_count f one copies p is settled =
         p.block w h) in
         ap (count_by f) (is.word bare e w same.0 same.1)
 
--- what holds of the bodies holds of the parts
-inner_parts : (P : Block → Type 0) (xs : List (InnerOf Part))
-    → AllInner P (map (inner_map block_of_part) xs) → AllInner (λ p. P p.block) xs
-inner_parts P [] h = tt
-inner_parts P (Alone p ∷ xs) h = (h.0, inner_parts P xs h.1)
-inner_parts P (Across c p ∷ xs) h = (h.0, inner_parts P xs h.1)
+-- the kinds of commands in a round
+pub aap_same : (n : ℕ) (r : RoundOf Part) (c : BodyCmd)
+    → issues_aap (round_command n r c) ≡ is_aap c
+aap_same n r (Aap x y) = refl
+aap_same n r (Ap x) = refl
 
-step_parts : (P : Block → Type 0) (s : StepOf Part) → AllStep P (step_map block_of_part s)
-    → AllStep (λ p. P p.block) s
-step_parts P (Single p) h = h
-step_parts P (Along p) h = h
-step_parts P (Nest xs) h = inner_parts P xs h
-step_parts P (Flowed f) h = flow_parts Part Block block_of_part P f h
+pub ap_same : (n : ℕ) (r : RoundOf Part) (c : BodyCmd)
+    → issues_ap (round_command n r c) ≡ is_ap c
+ap_same n r (Aap x y) = refl
+ap_same n r (Ap x) = refl
 
-pub of_blocks : (P : Block → Type 0) (ss : List (StepOf Part)) → AllParts P (blocks ss)
-    → AllParts (λ p. P p.block) ss
-of_blocks P [] h = tt
-of_blocks P (s ∷ ss) h = (step_parts P s h.0, of_blocks P ss h.1)
+-- so many of one kind come from settled rounds
+module _ (f : BodyCmd → Bool) (g : Issue → Bool) (one n : ℕ)
+    (copies : (x y : BodyRef) → count_by f (Aap x y ∷ []) ≡ one)
+    (same : (r : RoundOf Part) (c : BodyCmd) → g (round_command n r c) ≡ f c) where
+  round_counts : (r : RoundOf Part) (cmds : List BodyCmd)
+      → count_by g (map (round_command n r) cmds) ≡ count_by f cmds
+  round_counts r [] = refl
+  round_counts r (c ∷ cmds) =
+      sum_by-cons (λ (i : Issue). cond (g i) 1 0) (round_command n r c)
+      (map (round_command n r) cmds)
+      ∙ ap (λ b. cond b 1 0 + count_by g (map (round_command n r) cmds)) (same r c)
+      ∙ ap (λ k. cond (f c) 1 0 + k) (round_counts r cmds)
+      ∙ sym (sum_by-cons (λ (c : BodyCmd). cond (f c) 1 0) c cmds)
 
--- commands in a round
-twice_same : (n : ℕ) (r : RoundOf Part) (cmds : List BodyCmd)
-    → count_by issues_aap (map (round_command n r) cmds) ≡ count_by is_aap cmds
-twice_same n r [] = refl
-twice_same n r (Aap x y ∷ cmds) =
-    let e = twice_same n r cmds in
-    sum_by-cons (λ (i : Issue). cond (issues_aap i) 1 0) (round_command n r (Aap x y))
-    (map (round_command n r) cmds) ∙ ap (λ k. 1 + k) e
-    ∙ sym (sum_by-cons (λ (c : BodyCmd). cond (is_aap c) 1 0) (Aap x y) cmds)
-twice_same n r (Ap x ∷ cmds) =
-    let e = twice_same n r cmds in
-    sum_by-cons (λ (i : Issue). cond (issues_aap i) 1 0) (round_command n r (Ap x))
-    (map (round_command n r) cmds) ∙ ap (λ k. 0 + k) e
-    ∙ sym (sum_by-cons (λ (c : BodyCmd). cond (is_aap c) 1 0) (Ap x) cmds)
-
-once_same : (n : ℕ) (r : RoundOf Part) (cmds : List BodyCmd)
-    → count_by issues_ap (map (round_command n r) cmds) ≡ count_by is_ap cmds
-once_same n r [] = refl
-once_same n r (Aap x y ∷ cmds) =
-    let e = once_same n r cmds in
-    sum_by-cons (λ (i : Issue). cond (issues_ap i) 1 0) (round_command n r (Aap x y))
-    (map (round_command n r) cmds) ∙ ap (λ k. 0 + k) e
-    ∙ sym (sum_by-cons (λ (c : BodyCmd). cond (is_ap c) 1 0) (Aap x y) cmds)
-once_same n r (Ap x ∷ cmds) =
-    let e = once_same n r cmds in
-    sum_by-cons (λ (i : Issue). cond (issues_ap i) 1 0) (round_command n r (Ap x))
-    (map (round_command n r) cmds) ∙ ap (λ k. 1 + k) e
-    ∙ sym (sum_by-cons (λ (c : BodyCmd). cond (is_ap c) 1 0) (Ap x) cmds)
-
-pub all_aaps : (n : ℕ) (rs : List (RoundOf Part)) → AllByRecursion (λ r. IsPart r.part) rs
-    → AllByRecursion (λ r. IsSettled r.part.block) rs
-    → count_by issues_aap (rounds_commands n rs)
-    ≡ sum_by (λ (r : RoundOf Block). turn_aaps r.part) (map block_round rs)
-all_aaps n [] h k = refl
-all_aaps n (r ∷ rs) h k =
-    sum_by-append (λ (i : Issue). cond (issues_aap i) 1 0) (map (round_command n r) r.part.cmds)
-    (rounds_commands n rs)
-    ∙ ap (λ m. m + count_by issues_aap (rounds_commands n rs)) (twice_same n r r.part.cmds
-    ∙ part_count is_aap 1 (λ x y. refl) r.part h.0 k.0)
-    ∙ ap (λ m. turn_aaps r.part.block + m) (all_aaps n rs h.1 k.1)
-    ∙ sym (sum_by-cons (λ (r : RoundOf Block). turn_aaps r.part) (block_round r)
-    (map block_round rs))
-
-pub all_aps : (n : ℕ) (rs : List (RoundOf Part)) → AllByRecursion (λ r. IsPart r.part) rs
-    → AllByRecursion (λ r. IsSettled r.part.block) rs
-    → count_by issues_ap (rounds_commands n rs)
-    ≡ sum_by (λ (r : RoundOf Block). turn_aps r.part) (map block_round rs)
-all_aps n [] h k = refl
-all_aps n (r ∷ rs) h k =
-    sum_by-append (λ (i : Issue). cond (issues_ap i) 1 0) (map (round_command n r) r.part.cmds)
-    (rounds_commands n rs)
-    ∙ ap (λ m. m + count_by issues_ap (rounds_commands n rs)) (once_same n r r.part.cmds
-    ∙ part_count is_ap 0 (λ x y. refl) r.part h.0 k.0)
-    ∙ ap (λ m. turn_aps r.part.block + m) (all_aps n rs h.1 k.1)
-    ∙ sym (sum_by-cons (λ (r : RoundOf Block). turn_aps r.part) (block_round r)
-    (map block_round rs))
+  pub all_counts : (rs : List (RoundOf Part)) → AllByRecursion (λ r. IsPart r.part) rs
+      → AllByRecursion (λ r. IsSettled r.part.block) rs → count_by g (rounds_commands n rs)
+      ≡ sum_by (λ (r : RoundOf Block). turn_count f one r.part) (map block_round rs)
+  all_counts [] h k = refl
+  all_counts (r ∷ rs) h k =
+      sum_by-append (λ (i : Issue). cond (g i) 1 0) (map (round_command n r) r.part.cmds)
+      (rounds_commands n rs)
+      ∙ ap (λ m. m + count_by g (rounds_commands n rs)) (round_counts r r.part.cmds
+      ∙ part_count f one copies r.part h.0 k.0)
+      ∙ ap (λ m. turn_count f one r.part.block + m) (all_counts rs h.1 k.1)
+      ∙ sym (sum_by-cons (λ (r : RoundOf Block). turn_count f one r.part) (block_round r)
+      (map block_round rs))

@@ -3,14 +3,13 @@ use Rattle.std.proofs.Common.{◌≡◌, ℕ, zero, suc, ◌+◌, ◌<◌, Bool,
 use Rattle.std.proofs.Common.{◌∷◌, length, refl, sym, ap, ◌∙◌, subst, arith}
 use Rattle.std.specs.Prelude.{◌==◌, ◌||◌}
 use Rattle.std.specs.List.{AllByRecursion, list_all}
-use Rattle.std.proofs.lemmas.Bool.{eqb-true, eq-eqb, ne_eqb, and_parts}
+use Rattle.std.proofs.lemmas.Bool.{eqb-true, and_parts}
 use Rattle.dram_model.specs.Column.{Column}
 use Rattle.mig_graph.specs.declared.Lit.{Lit}
 use Rattle.mig_graph.specs.Graph.{Graph, value}
 use Rattle.mig_graph.specs.Outputs.{lit_at}
 use Rattle.mig_graph.proofs.Laws.{value-input}
 use Rattle.loop_ir.specs.declared.ir.Space.{Space}
-use Rattle.loop_ir.specs.declared.ir.Space.TheVariants.{Result, Source, ScratchBit, ScratchWord}
 use Rattle.loop_ir.specs.declared.ir.Space.TheVariants.{Cells}
 use Rattle.loop_ir.specs.declared.ir.Place.{Place}
 use Rattle.row_alloc.specs.Held.{CellsHold, is_held}
@@ -38,43 +37,18 @@ are_among P alive (w ∷ ws) e h =
     let f = and_parts (is_alive w alive) (list_all (λ w. is_alive w alive) ws) e in
     (among P alive w f.0 h, are_among P alive ws f.1 h)
 
+not_before : (k : ℕ) (qs : List Place) (m : ℕ) → k < m → is_held (enters m qs) (k + 0) ≡ false
+not_before k [] m h = refl
+not_before k (q ∷ qs) m h = grind (arith, not_before k qs (m + 1) (omega (arith, h)), h)
+
 -- an input that stands in a row isn't held
 pub held_is : (ps : List Place) (k j : ℕ) → j < length ps
     → is_state (nth_place ps j).space ≡ is_held (enters k ps) (k + j)
 held_is [] k j l = absurd (omega arith)
-held_is (p ∷ ps) k zero l = by (is_state p.space) refl
-  where
-    none : (qs : List Place) (m : ℕ) → k < m → is_held (enters m qs) (k + 0) ≡ false
-    none [] m h = refl
-    none (q ∷ qs) m h = other (is_state q.space) (none qs (m + 1) (omega (arith, h)))
-      where
-        other : (c : Bool) → is_held (enters (m + 1) qs) (k + 0) ≡ false → is_held (cond c (record {
-          lit = record { node = m + 1; inverted = false };
-          layout = q.which;
-        } ∷ enters (m + 1) qs) (enters (m + 1) qs)) (k + 0) ≡ false
-        other true e = let d : (m + 1 == k + 0 + 1) ≡ false = ne_eqb (m + 1) (k + 0 + 1) (λ x.
-            omega (arith, x, h)) in rw d e
-        other false e = e
-
-    by : (c : Bool) → is_state p.space ≡ c → c ≡ is_held (cond c (record {
-      lit = record { node = k + 1; inverted = false };
-      layout = p.which;
-    } ∷ enters (k + 1) ps) (enters (k + 1) ps)) (k + 0)
-    by true e = let d : (k + 1 == k + 0 + 1) ≡ true = eq-eqb (k + 1) (k + 0 + 1) (omega arith) in
-        rw d refl
-    by false e = sym (none ps (k + 1) (omega arith))
-held_is (p ∷ ps) k (suc j) l = by (is_state p.space) (held_is ps (k + 1) j (omega arith))
-  where
-    by : (c : Bool) → is_state (nth_place ps j).space ≡ is_held (enters (k + 1) ps) (k + 1 + j)
-        → is_state (nth_place ps j).space ≡ is_held (cond c (record {
-          lit = record { node = k + 1; inverted = false };
-          layout = p.which;
-        } ∷ enters (k + 1) ps) (enters (k + 1) ps)) (k + suc j)
-    by true e = let d : (k + 1 == k + suc j + 1) ≡ false = ne_eqb (k + 1) (k + suc j + 1) (λ x.
-        omega (arith, x)) in let m : k + 1 + j ≡ k + suc j = omega arith in
-        rw d (e ∙ ap (is_held (enters (k + 1) ps)) m)
-    by false e = let m : k + 1 + j ≡ k + suc j = omega arith in
-        e ∙ ap (is_held (enters (k + 1) ps)) m
+held_is (p ∷ ps) k zero l = grind (arith, not_before k ps (k + 1) (omega arith))
+held_is (p ∷ ps) k (suc j) l =
+    let m : k + 1 + j ≡ k + suc j = omega arith in
+    grind (arith, held_is ps (k + 1) j (omega arith) ∙ ap (is_held (enters (k + 1) ps)) m)
 
 module _ (g : Graph) (f : ℕ → Bool) (s : Column) where
   module _ (n i o : ℕ) (regs : List ℕ) where
@@ -85,10 +59,7 @@ module _ (g : Graph) (f : ℕ → Bool) (s : Column) where
             → spot_at n i o regs (record { space = x; which = p.which; sub = p.sub })
             ≡ state_spot p.which
         by Cells e = refl
-        by Result e = absurd (cc)
-        by Source e = absurd (cc)
-        by ScratchBit e = absurd (cc)
-        by ScratchWord e = absurd (cc)
+        by x e = absurd (cc)
 
     -- the states that a body reads
     pub enter_cells : (bits : Spots) (ps : List Place) (k : ℕ) → ((j : ℕ) → j < length ps

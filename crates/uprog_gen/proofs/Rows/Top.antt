@@ -1,105 +1,84 @@
--- The code of a loop program does to every column what its rounds do to the named rows.
-use Rattle.std.proofs.Common.{◌≡◌, ℕ, zero, suc, ◌+◌, ◌-◌, ◌<◌, ◌≤◌, true, List, [], ◌∷◌, ◌++◌, map}
-use Rattle.std.proofs.Common.{length, refl, sym, ap, ◌∙◌, subst, ⊎_elim, arith, inl, inr, cond}
+-- The code of flows does to every column what the rounds of the statements do to the named rows.
+use Rattle.std.proofs.Common.{◌≡◌, ℕ, ◌+◌, ◌-◌, ◌<◌, ◌≤◌, true, List, [], ◌∷◌, ◌++◌, map, length}
+use Rattle.std.proofs.Common.{refl, sym, ap, ◌∙◌, subst, ⊎_elim, arith, inl, inr, cond}
 use Rattle.std.proofs.Common.{length-append, append_assoc}
 use Rattle.std.specs.List.{AllByRecursion, list_all}
-use Rattle.std.proofs.lemmas.List.{length-map}
+use Rattle.std.proofs.lemmas.List.{length-map, map-append}
 use Rattle.std.proofs.lemmas.List.Sums.{sum_by-cons}
-use Rattle.dram_model.specs.declared.address.Cell.TheVariants.{D}
-use Rattle.dram_model.specs.Column.{Column, run}
-use Rattle.uprog_code.specs.declared.code.Uop.{Uop}
+use Rattle.bit_rows.specs.declared.TheConstants.{WIDTH_MAX}
 use Rattle.uprog_code.specs.declared.code.Uop.TheVariants.{Done}
 use Rattle.uprog_code.specs.Shape.{Shape, results}
 use Rattle.uprog_code.specs.declared.walker.Counts.{Counts}
 use Rattle.uprog_code.specs.Count.{counts_of, issues_aap, issues_ap}
-use Rattle.uprog_code.specs.Bound.{Bound, bound}
-use Rattle.uprog_code.specs.Machine.{Issue, IssueAap, IssueAp, Ended, trace, HasEnded, issues_of}
-use Rattle.loop_ir.specs.Loops.{rounds, RoundOf, one_round, positions, inner_rounds, step_rounds}
-use Rattle.loop_ir.specs.Loops.{all_rounds}
+use Rattle.uprog_code.specs.Bound.{Bound}
+use Rattle.uprog_code.specs.Machine.{Issue, IssueAap, IssueAp, start, trace, issues_of}
 use Rattle.uprog_code.specs.Fits.{Fits, IsTouched}
 use Rattle.loop_ir.specs.declared.ir.Space.{Space}
 use Rattle.loop_ir.specs.declared.ir.Space.TheVariants.{Result, Source, ScratchBit, ScratchWord}
 use Rattle.loop_ir.specs.declared.ir.Space.TheVariants.{Cells}
-use Rattle.loop_ir.specs.Plain.{Block, InnerOf, StepOf, AllInner, AllStep, AllParts}
-use Rattle.loop_ir.specs.Plain.InnerOf.{Alone, Across}
-use Rattle.loop_ir.specs.Plain.StepOf.{Single, Along, Nest, Flowed}
-use Rattle.loop_ir.specs.Flows.{zeros}
-use Rattle.loop_laws.proofs.FlowRounds.{run_all}
-use Rattle.loop_laws.proofs.RoundsMap.{all_rounds_map}
-use Rattle.loop_ir.specs.Spots.{Spot, IsOwn, after_rounds}
-use Rattle.uprog_gen.specs.Where.{spot_row, row_in, IsSpot, IsIn, Agree, spots_in}
-use Rattle.uprog_gen.specs.Code.{Part, block_of_part, blocks}
-use Rattle.uprog_gen.proofs.Rows.Issued.{round_command, rounds_commands}
-use Rattle.uprog_gen.specs.Code.{program_code}
-use Rattle.loop_ir.specs.Limits.{IsRound, step_stands}
-use Rattle.uprog_gen.proofs.Rows.Rounds.{block_round}
+use Rattle.loop_ir.specs.Plain.{Block, StepOf, AllParts}
+use Rattle.loop_ir.specs.Flows.{FlowOf, EventOf, AllFlow, flow_map, run as run_of}
+use Rattle.loop_ir.specs.Flows.EventOf.{Done as Happened, Moved, Counted}
+use Rattle.loop_ir.specs.FlowTests.{is_event_safe}
+use Rattle.loop_ir.specs.Loops.{RoundOf, step_rounds, all_rounds, rounds_in}
+use Rattle.loop_ir.specs.Limits.{IsRound, stays_in_registers}
+use Rattle.loop_ir.specs.Spots.{Spot, IsOwn}
+use Rattle.loop_ir.specs.Costs.{turn_cost, rounds_cost, code_cost}
+use Rattle.loop_ir.specs.Chains.{chained}
+use Rattle.word_flow.specs.Coded.{is_aap, is_ap}
+use Rattle.loop_laws.proofs.EachRound.{each_round}
+use Rattle.loop_laws.proofs.EveryRound.{all_append}
+use Rattle.loop_laws.proofs.FlowRounds.{event_map, run_all, run_map}
+use Rattle.loop_front.specs.Like.{AreLike}
+use Rattle.loop_front.specs.FlowOfSteps.{IsFlowOf}
+use Rattle.uprog_gen.specs.Where.{spot_row, row_in, IsSpot, IsIn, spots_in}
+use Rattle.uprog_gen.specs.Code.{Part, block_of_part, body_uops}
+use Rattle.uprog_gen.specs.FlowCode.{code_of}
 use Rattle.uprog_gen.specs.Parts.{IsPart}
-use Rattle.loop_ir.specs.Costs.{turn_cost, rounds_cost}
 use Rattle.uprog_gen.specs.Settled.{IsSettled, rounds_counts, all_counted}
-use Rattle.uprog_gen.specs.Does.{DoesRounds, IsCheap}
-use Rattle.uprog_gen.proofs.Rows.Settled.{of_blocks, all_aaps, all_aps}
-use Rattle.loop_ir.specs.Chains.{steps_find, chained}
-use Rattle.uprog_gen.proofs.Rows.Chained.{steps_chained}
+use Rattle.uprog_gen.specs.Does.{DoesRounds, IsCheap, AreCheap, joined, total}
+use Rattle.uprog_gen.specs.Entries.{AreFlowsOf}
+use Rattle.uprog_gen.proofs.Coding.FlowSizes.{flow_few, flows_code}
+use Rattle.uprog_gen.proofs.Coding.FlowMaps.{counts_map, nests_map, flow_tested, safe_map}
+use Rattle.uprog_gen.proofs.Rows.Issued.{round_command, rounds_commands}
+use Rattle.uprog_gen.proofs.Rows.Rounds.{block_round}
+use Rattle.uprog_gen.proofs.Rows.Settled.{aap_same, ap_same, all_counts}
+use Rattle.uprog_gen.proofs.Rows.Chained.{both_chained}
+use Rattle.uprog_gen.proofs.Rows.Like.{cost_like, counts_like, settled_like, after_like, like_both}
 use Rattle.uprog_gen.proofs.Rows.Agree.{AreRounds, IsMine, rounds_agree, rounds_keep}
 use Rattle.uprog_gen.proofs.Rows.Laid.{laid, value_among, bit_among, word_among}
 use Rattle.uprog_gen.proofs.Rows.Ranges.{commands_range}
-use Rattle.uprog_gen.proofs.Running.Program.{IsGood, program_trace}
-use Rattle.bit_rows.specs.declared.TheConstants.{WIDTH_MAX}
+use Rattle.uprog_gen.proofs.Running.Held.{InRange}
+use Rattle.uprog_gen.proofs.Running.Goes.{has_all}
+use Rattle.uprog_gen.proofs.Running.FlowStep.{CanRun, run_flow}
+use Rattle.uprog_gen.proofs.Running.Program.{CanRunAll, flows_rounds, flows_trace, commands_append}
 
-pub all_blocks : (n : ℕ) (ss : List (StepOf Part))
-    → all_rounds n (blocks ss) ≡ map block_round (all_rounds n ss)
-all_blocks n ss = all_rounds_map Part Block block_of_part n ss
+-- the rounds of the same events
+rounds_map : (n : ℕ) (es : List (EventOf Part))
+    → rounds_in (map (event_map Part Block block_of_part n) es) ≡ map block_round (rounds_in es)
+rounds_map n [] = refl
+rounds_map n (Happened p g ∷ es) = ap (λ l.
+    record { part = p.block; i = 0; o = 0; regs = g } ∷ l) (rounds_map n es)
+rounds_map n (Moved m g ∷ es) = rounds_map n es
+rounds_map n (Counted r g ∷ es) = rounds_map n es
 
--- what holds of every part holds in every round
-all_both : {X : Type 0} (P : X → Type 0) (xs ys : List X) → AllByRecursion P xs
-    → AllByRecursion P ys → AllByRecursion P (xs ++ ys)
-all_both P [] ys h k = k
-all_both P (x ∷ xs) ys h k = (h.0, all_both P xs ys h.1 k)
-
-all_rounds_of : {X : Type 0} (P : X → Type 0) (f : ℕ → List X) → ((j : ℕ) → AllByRecursion P (f j))
-    → (i count : ℕ) → AllByRecursion P (rounds f i count)
-all_rounds_of P f h i zero = tt
-all_rounds_of P f h i (suc count) = all_both P (f i) (rounds f (i + 1) count) (h i)
-    (all_rounds_of P f h (i + 1) count)
-
-module _ (A : Type 0) (P : A → Type 0) where
-  abbrev In : RoundOf A → Type 0
-  In r = P r.part
-
-  inner_parts : (n o : ℕ) (xs : List (InnerOf A)) → AllInner P xs
-      → AllByRecursion In (inner_rounds n o xs)
-  inner_parts n o [] h = tt
-  inner_parts n o (Alone p ∷ xs) h = (h.0, inner_parts n o xs h.1)
-  inner_parts n o (Across count p ∷ xs) h = all_both In
-      (rounds (λ i. one_round p i o) 0 (positions n o count)) (inner_rounds n o xs)
-      (all_rounds_of In (λ i. one_round p i o) (λ i. (h.0, tt)) 0 (positions n o count))
-      (inner_parts n o xs h.1)
-
-  step_parts : (n : ℕ) (s : StepOf A) → AllStep P s → AllByRecursion In (step_rounds n s)
-  step_parts n (Single p) h = (h, tt)
-  step_parts n (Along p) h = all_rounds_of In (λ i. one_round p i 0) (λ i. (h, tt)) 0 n
-  step_parts n (Nest parts) h = all_rounds_of In (λ o. inner_rounds n o parts) (λ o.
-      inner_parts n o parts h) 0 n
-  step_parts n (Flowed f) h = run_all A P n f h zeros
-
-  pub in_rounds : (n : ℕ) (ss : List (StepOf A)) → AllParts P ss
-      → AllByRecursion In (all_rounds n ss)
-  in_rounds n [] h = tt
-  in_rounds n (s ∷ ss) h = all_both In (step_rounds n s) (all_rounds n ss) (step_parts n s h.0)
-      (in_rounds n ss h.1)
+-- What rounds of parts keep of a loop program: they are like its rounds, with rows that they may
+-- have and the states that they read
+record Keeps (head : Shape) (n : ℕ) (steps : List (StepOf Block)) (rs : List (RoundOf Part))
+    : Type 0 where
+  is : AllByRecursion (IsRound (IsSpot head n) n) (map block_round rs)
+  part : AllByRecursion (λ r. IsPart r.part) rs
+  like : AreLike n (all_rounds n steps) (map block_round rs)
+  find : chained [] (map block_round rs) ≡ true
 
 module _ (head : Shape) (n : ℕ) where
-  good : (rs : List (RoundOf Part)) → AllByRecursion (IsRound (IsSpot head n) n)
+  ranges : (rs : List (RoundOf Part)) → AllByRecursion (IsRound (IsSpot head n) n)
       (map block_round rs) → AllByRecursion (λ r. IsPart r.part) rs
-      → AllByRecursion (IsGood head n) rs
-  good [] is part = tt
-  good (r ∷ rs) is part = (
-    record {
-      planned = part.0.planned;
-      ranges =
-          commands_range head n r is.0 part.0 r.part.cmds part.0.does.legal part.0.does.unread;
-    },
-    good rs is.1 part.1,
+      → AllByRecursion (InRange head n) rs
+  ranges [] is part = tt
+  ranges (r ∷ rs) is part = (
+    commands_range head n r is.0 part.0 r.part.cmds part.0.does.legal part.0.does.unread,
+    ranges rs is.1 part.1,
   )
 
   are : (rows : ℕ) (b : Bound) (fits : Fits rows head n b) (rs : List (RoundOf Part))
@@ -122,6 +101,87 @@ module _ (head : Shape) (n : ℕ) where
         sum_by-cons (λ (q : RoundOf Block). turn_cost q.part) (block_round r)
             (map block_round rs),
       )
+
+pub all_rounds-append : {A : Type 0} (n : ℕ) (xs ys : List (StepOf A))
+    → all_rounds n (xs ++ ys) ≡ all_rounds n xs ++ all_rounds n ys
+all_rounds-append n [] ys = refl
+all_rounds-append n (x ∷ xs) ys = ap (λ l. step_rounds n x ++ l) (all_rounds-append n xs ys)
+    ∙ sym (append_assoc (step_rounds n x) (all_rounds n xs) (all_rounds n ys))
+
+-- the rounds of one statement and of those after it
+keeps_both : (head : Shape) (n : ℕ) (p q : List (StepOf Block)) (rs ss : List (RoundOf Part))
+    → Keeps head n p rs → Keeps head n q ss → Keeps head n (p ++ q) (rs ++ ss)
+keeps_both head n p q rs ss h k =
+    let both = map-append block_round rs ss in
+    let xs = map block_round rs in
+    let ys = map block_round ss in
+    record {
+      is = rw both (all_append (IsRound (IsSpot head n) n) xs ys h.is k.is);
+      part = all_append (λ r. IsPart r.part) rs ss h.part k.part;
+      like = rw (both, all_rounds-append n p q)
+          (like_both n (all_rounds n p) xs (all_rounds n q) ys h.like k.like);
+      find = rw both (both_chained xs ys [] h.find k.find);
+    }
+
+module _ (head : Shape) (n : ℕ) (some : 0 < n) (small : n ≤ WIDTH_MAX) where
+  -- one flow, from any eight registers
+  one_keeps : (p : List (StepOf Block)) (f : FlowOf Part)
+      → IsFlowOf (IsSpot head) p (flow_map block_of_part f) → AllFlow IsPart f → (g : List ℕ)
+      → length g ≡ 8 → Keeps head n p (rounds_in (run_of n f g).events)
+  one_keeps p f is parts g size =
+      let of = is.runs n some small g size in
+      let es = (run_of n f g).events in
+      let same = ap rounds_in (run_map Part Block block_of_part n f g).events
+      ∙ rounds_map n es in
+      record {
+        is = subst (AllByRecursion (IsRound (IsSpot head n) n)) same of.rounds;
+        part = run_all Part IsPart n f parts g;
+        like = subst (AreLike n (all_rounds n p)) same of.like;
+        find = subst (λ l. chained [] l ≡ true) same of.find;
+      }
+
+  one_runs : (p : List (StepOf Block)) (f : FlowOf Part)
+      → IsFlowOf (IsSpot head) p (flow_map block_of_part f) → AllFlow IsPart f → (g : List ℕ)
+      → length g ≡ 8 → CanRun head n f g
+  one_runs p f is parts g size =
+      let k = one_keeps p f is parts g size in
+      let es = (run_of n f g).events in
+      record {
+        counts = sym (counts_map Part Block block_of_part f) ∙ is.counts;
+        nests = sym (nests_map Part Block block_of_part 2 f) ∙ is.nests;
+        stays = flow_tested Part Block block_of_part (stays_in_registers (λ r. true)) f is.stays;
+        safe = sym (safe_map Part Block block_of_part n es)
+            ∙ ap (list_all (is_event_safe n)) (sym (run_map Part Block block_of_part n f g).events)
+            ∙ (is.runs n some small g size).safe;
+        ranges = ranges head n (rounds_in es) k.is k.part;
+      }
+
+  -- there are eight still
+  still_eight : (p : List (StepOf Block)) (f : FlowOf Part)
+      → IsFlowOf (IsSpot head) p (flow_map block_of_part f) → code_cost p ≤ 256
+      → AllFlow IsPart f → (g : List ℕ) → length g ≡ 8 → length (run_of n f g).regs ≡ 8
+  still_eight p f is short parts g size =
+      let few = flow_few f parts in
+      (run_flow head (code_of body_uops f 0) n small f 0 g g (one_runs p f is parts g size)
+      (omega (arith, few, is.size, short))
+      (record { flow = size; code = size; same = λ q lt. refl })
+      (has_all (code_of body_uops f 0) [])).known.flow
+
+  -- flows, one after another
+  all_keep : (ps : List (List (StepOf Block))) (fs : List (FlowOf Part))
+      → AreFlowsOf (IsSpot head) ps (map (flow_map block_of_part) fs)
+      → AllByRecursion (AllFlow IsPart) fs → (g : List ℕ) → length g ≡ 8
+      → Keeps head n (joined ps) (flows_rounds n fs g) × CanRunAll head n fs g
+  all_keep [] [] of parts g size = (record { is = tt; part = tt; like = tt; find = refl }, tt)
+  all_keep (p ∷ ps) (f ∷ fs) of parts g size =
+      let after = run_of n f g in
+      let more = all_keep ps fs of.1 parts.1 after.regs
+      (still_eight p f of.0.0 of.0.1 parts.0 g size) in (
+        keeps_both head n p (joined ps) (rounds_in after.events) (flows_rounds n fs after.regs)
+            (one_keeps p f of.0.0 parts.0 g size) more.0,
+        (one_runs p f of.0.0 parts.0 g size, more.1),
+      )
+  all_keep ps fs of parts g size = absurd of
 
 module _ (rows : ℕ) (head : Shape) (n : ℕ) (b : Bound) (fits : Fits rows head n b) where
   -- an own row lies in the result or the scratch
@@ -151,133 +211,116 @@ counts a b = record { aap = a; ap = b }
 pub both_counts : {a b c d : ℕ} → a ≡ c → b ≡ d → counts a b ≡ counts c d
 both_counts e f = rw (e, f) refl
 
--- what holds of the trace's list holds of the code
-by_trace : (head : Shape) (n : ℕ) (ss : List (StepOf Part)) (code : List Uop) (cs : List Issue)
-    → trace head code n ≡ Ended cs → length cs ≤ rounds_cost (all_rounds n (blocks ss))
-    → (AllParts IsSettled (blocks ss) → counts_of cs ≡ rounds_counts (all_rounds n (blocks ss)))
-    → ((rows : ℕ) (b : Bound) (s : Column) → Fits rows head n b
-    → Agree head n b (after_rounds n (all_rounds n (blocks ss)) (spots_in head n b s))
-    (run (bound rows head n b cs) s))
-    → ((rows : ℕ) (b : Bound) (s : Column) → Fits rows head n b → (q : ℕ)
-    → (IsTouched rows head n b q → ⊥) → run (bound rows head n b cs) s (D q) ≡ s (D q))
-    → DoesRounds head n (blocks ss) code
-by_trace head n ss code cs t few exact agrees keeps =
-    let e : cs ≡ issues_of (trace head code n) = sym (ap issues_of t) in
-    record {
-      ends = subst HasEnded (sym t) tt;
-      few = subst (λ (l : List Issue). length l ≤ rounds_cost (all_rounds n (blocks ss))) e few;
-      exact = λ settled. subst (λ (l : List Issue). counts_of l
-          ≡ rounds_counts (all_rounds n (blocks ss))) e (exact settled);
-      agrees = λ rows b s fits. subst (λ (l : List Issue). Agree head n b
-          (after_rounds n (all_rounds n (blocks ss)) (spots_in head n b s))
-          (run (bound rows head n b l) s)) e (agrees rows b s fits);
-      keeps = λ rows b s fits q out. subst (λ (l : List Issue). run (bound rows head n b l) s (D q)
-          ≡ s (D q)) e (keeps rows b s fits q out);
-    }
-
--- the commands of a trace are those of the rounds
-pub program_issues : (head : Shape) (n : ℕ) (ss : List (StepOf Part)) → 0 < n → n ≤ WIDTH_MAX
-    → length (program_code ss 0) ≤ 4096 → AllParts IsPart ss
-    → AllByRecursion (IsRound (IsSpot head n) n) (all_rounds n (blocks ss))
-    → list_all step_stands (blocks ss) ≡ true
-    → trace head (program_code ss 0 ++ Done ∷ []) n ≡ Ended (rounds_commands n (all_rounds n ss))
-program_issues head n ss some small short parts is stand =
-    let rs = all_rounds n ss in
-    let is' = subst (AllByRecursion (IsRound (IsSpot head n) n)) (all_blocks n ss) is in
-    program_trace head n ss some small short (good head n rs is' (in_rounds Part IsPart n ss parts))
-    stand
-
-pub all_rounds-append : {A : Type 0} (n : ℕ) (xs ys : List (StepOf A))
-    → all_rounds n (xs ++ ys) ≡ all_rounds n xs ++ all_rounds n ys
-all_rounds-append n [] ys = refl
-all_rounds-append n (x ∷ xs) ys = ap (λ l. step_rounds n x ++ l) (all_rounds-append n xs ys)
-    ∙ sym (append_assoc (step_rounds n x) (all_rounds n xs) (all_rounds n ys))
-
-commands_both : (n : ℕ) (rs ss : List (RoundOf Part)) → length (rounds_commands n (rs ++ ss))
-    ≡ length (rounds_commands n rs) + length (rounds_commands n ss)
-commands_both n [] ss = omega arith
-commands_both n (r ∷ rs) ss =
-    let c = map (round_command n r) r.part.cmds in
-    omega (
-      arith,
-      commands_both n rs ss,
-      length-append c (rounds_commands n (rs ++ ss)),
-      length-append c (rounds_commands n rs),
-    )
-
-pub commands_append : (n : ℕ) (xs ys : List (StepOf Part))
-    → length (rounds_commands n (all_rounds n (xs ++ ys)))
-    ≡ length (rounds_commands n (all_rounds n xs)) + length (rounds_commands n (all_rounds n ys))
-commands_append n xs ys = ap (λ rs. length (rounds_commands n rs)) (all_rounds-append n xs ys)
-    ∙ commands_both n (all_rounds n xs) (all_rounds n ys)
-
 -- each command is of one kind
+one_kind : (c : Issue) → cond (issues_aap c) 1 0 + cond (issues_ap c) 1 0 ≡ 1
+one_kind (IssueAap x y) = refl
+one_kind (IssueAp x) = refl
+
 counted_both : (cs : List Issue) → length cs ≡ all_counted (counts_of cs)
 counted_both [] = refl
-counted_both (c ∷ cs) = by c (counted_both cs)
-  where
-    by : (c : Issue) → length cs ≡ all_counted (counts_of cs)
-        → suc (length cs) ≡ all_counted (counts_of (c ∷ cs))
-    by (IssueAap x y) h = omega (
-      arith,
-      h,
-      sum_by-cons (λ (i : Issue). cond (issues_aap i) 1 0) (IssueAap x y) cs,
-      sum_by-cons (λ (i : Issue). cond (issues_ap i) 1 0) (IssueAap x y) cs,
-    )
-    by (IssueAp x) h = omega (
-      arith,
-      h,
-      sum_by-cons (λ (i : Issue). cond (issues_aap i) 1 0) (IssueAp x) cs,
-      sum_by-cons (λ (i : Issue). cond (issues_ap i) 1 0) (IssueAp x) cs,
-    )
-
--- the commands of settled rounds
-settled_counts : (n : ℕ) (ss : List (StepOf Part)) → AllParts IsPart ss
-    → AllParts IsSettled (blocks ss) → counts_of (rounds_commands n (all_rounds n ss))
-    ≡ rounds_counts (all_rounds n (blocks ss))
-settled_counts n ss parts settled =
-    let rs = all_rounds n ss in
-    let parts' = in_rounds Part IsPart n ss parts in
-    let settled' = in_rounds Part (λ p. IsSettled p.block) n ss (of_blocks IsSettled ss settled) in
-    both_counts (all_aaps n rs parts' settled') (all_aps n rs parts' settled')
-    ∙ ap rounds_counts (sym (all_blocks n ss))
-
--- a statement takes no more than its bodies may, and exactly theirs where all are settled
-pub statement_most : (head : Shape) (n : ℕ) (ss : List (StepOf Part)) (most : ℕ)
-    → AllParts IsPart ss → IsCheap n (blocks ss) most
-    → length (rounds_commands n (all_rounds n ss)) ≤ most
-statement_most head n ss most parts (inl h) =
-    let few = few_commands head n (all_rounds n ss) (in_rounds Part IsPart n ss parts) in
-    omega (arith, few, ap rounds_cost (all_blocks n ss), h)
-statement_most head n ss most parts (inr h) = omega (
+counted_both (c ∷ cs) = omega (
   arith,
-  counted_both (rounds_commands n (all_rounds n ss)),
-  ap all_counted (settled_counts n ss parts h.0),
-  h.1,
+  counted_both cs,
+  one_kind c,
+  sum_by-cons (λ (i : Issue). cond (issues_aap i) 1 0) c cs,
+  sum_by-cons (λ (i : Issue). cond (issues_ap i) 1 0) c cs,
 )
 
-pub program_does : (head : Shape) (n : ℕ) (ss : List (StepOf Part)) → 0 < n → n ≤ WIDTH_MAX
-    → length (program_code ss 0) ≤ 4096 → AllParts IsPart ss
-    → AllByRecursion (IsRound (IsSpot head n) n) (all_rounds n (blocks ss))
-    → steps_find [] (blocks ss) ≡ true → list_all step_stands (blocks ss) ≡ true
-    → DoesRounds head n (blocks ss) (program_code ss 0 ++ Done ∷ [])
-program_does head n ss some small short parts is find stand =
-    let rs = all_rounds n ss in
-    let same = all_blocks n ss in
-    let is' = subst (AllByRecursion (IsRound (IsSpot head n) n)) same is in
-    let parts' = in_rounds Part IsPart n ss parts in
-    let t = program_issues head n ss some small short parts is stand in
-    by_trace head n ss (program_code ss 0 ++ Done ∷ []) (rounds_commands n rs) t
-    (subst (λ (l : List (RoundOf Block)). length (rounds_commands n rs)
-    ≤ rounds_cost l) (sym same) (few_commands head n rs parts'))
-    (settled_counts n ss parts)
-    (λ rows b s fits. subst (λ (l : List (RoundOf Block)). Agree head n b
-    (after_rounds n l (spots_in head n b s))
-    (run (bound rows head n b (rounds_commands n rs)) s)) (sym same)
-    (rounds_agree rows head n b (laid rows head n b fits) rs [] (spots_in head n b s) s
-    (are head n rows b fits rs is' parts')
-    (subst (λ (l : List (RoundOf Block)). chained [] l ≡ true) same
-    (steps_chained n (blocks ss) [] some small find))
-    (record { named = λ p h. refl; cells = tt })))
-    (λ rows b s fits q out. rounds_keep rows head n b (laid rows head n b fits) rs s
-    (are head n rows b fits rs is' parts') q (λ m. out (mine_touched rows head n b fits q m)))
+-- what holds of the bodies of the rounds
+of_blocks : (P : Block → Type 0) (rs : List (RoundOf Part))
+    → AllByRecursion (λ r. P r.part) (map block_round rs) → AllByRecursion (λ r. P r.part.block) rs
+of_blocks P [] h = tt
+of_blocks P (r ∷ rs) h = (h.0, of_blocks P rs h.1)
+
+module _ (head : Shape) (n : ℕ) where
+  -- they take no more commands than the loop program's, and exactly theirs where all are settled
+  keeps_few : (p : List (StepOf Block)) (rs : List (RoundOf Part)) → Keeps head n p rs
+      → length (rounds_commands n rs) ≤ rounds_cost (all_rounds n p)
+  keeps_few p rs k = omega (
+    arith,
+    few_commands head n rs k.part,
+    cost_like n (all_rounds n p) (map block_round rs) k.like,
+  )
+
+  keeps_exact : (p : List (StepOf Block)) (rs : List (RoundOf Part)) → Keeps head n p rs
+      → AllParts IsSettled p → counts_of (rounds_commands n rs) ≡ rounds_counts (all_rounds n p)
+  keeps_exact p rs k settled =
+      let all = all_rounds n p in
+      let parts = of_blocks IsSettled rs (settled_like n all (map block_round rs) k.like
+      (each_round IsSettled n p settled)) in
+      both_counts
+      (all_counts is_aap issues_aap 1 n (λ x y. refl) (aap_same n) rs k.part parts)
+      (all_counts is_ap issues_ap 0 n (λ x y. refl) (ap_same n) rs k.part parts)
+      ∙ counts_like n all (map block_round rs) k.like
+
+  -- a statement takes no more than its ceiling
+  statement_most : (p : List (StepOf Block)) (rs : List (RoundOf Part)) (most : ℕ)
+      → Keeps head n p rs → IsCheap n p most → length (rounds_commands n rs) ≤ most
+  statement_most p rs most k (inl h) = omega (arith, keeps_few p rs k, h)
+  statement_most p rs most k (inr h) = omega (
+    arith,
+    counted_both (rounds_commands n rs),
+    ap all_counted (keeps_exact p rs k h.0),
+    h.1,
+  )
+
+  within : 0 < n → n ≤ WIDTH_MAX → (ps : List (List (StepOf Block))) (fs : List (FlowOf Part))
+      → AreFlowsOf (IsSpot head) ps (map (flow_map block_of_part) fs)
+      → AllByRecursion (AllFlow IsPart) fs → (g : List ℕ) → length g ≡ 8
+      → (ceilings : List (ℕ → ℕ)) → AreCheap n ps ceilings
+      → length (rounds_commands n (flows_rounds n fs g)) ≤ total ceilings n
+  within some small [] [] of parts g size [] cheap =
+      let e : total [] n ≡ 0 = refl in omega (arith, e)
+  within some small [] [] of parts g size (c ∷ cs) cheap = absurd cheap
+  within some small [] (f ∷ fs) of parts g size cs cheap = absurd of
+  within some small (p ∷ ps) [] of parts g size cs cheap = absurd of
+  within some small (p ∷ ps) (f ∷ fs) of parts g size [] cheap = absurd cheap
+  within some small (p ∷ ps) (f ∷ fs) of parts g size (c ∷ cs) cheap =
+      let after = run_of n f g in
+      let rs = rounds_in after.events in
+      let more = flows_rounds n fs after.regs in
+      let eight = still_eight head n some small p f of.0.0 of.0.1 parts.0 g size in
+      omega (
+        arith,
+        ap length (commands_append n rs more),
+        length-append (rounds_commands n rs) (rounds_commands n more),
+        statement_most p rs (c n) (one_keeps head n some small p f of.0.0 parts.0 g size) cheap.0,
+        within some small ps fs of.1 parts.1 after.regs eight cs cheap.1,
+        sum_by-cons (λ (c : ℕ → ℕ). c n) c cs,
+      )
+
+pub flows_do : (head : Shape) (n : ℕ) (ps : List (List (StepOf Block))) (fs : List (FlowOf Part))
+    → 0 < n → n ≤ WIDTH_MAX → length (flows_code body_uops fs 0) ≤ 4096
+    → AllByRecursion (AllFlow IsPart) fs
+    → AreFlowsOf (IsSpot head) ps (map (flow_map block_of_part) fs)
+    → DoesRounds head n (joined ps) (flows_code body_uops fs 0 ++ Done ∷ [])
+flows_do head n ps fs some small short parts of =
+    let all = all_rounds n (joined ps) in
+    let rs = flows_rounds n fs start in
+    let k = all_keep head n some small ps fs of parts start refl in
+    let t = flows_trace head n fs small short k.1 in
+    let is = λ (rows : ℕ) (b : Bound) (fits : Fits rows head n b).
+    are head n rows b fits rs k.0.is k.0.part in
+    record {
+      ends = rw t tt;
+      few = rw t (keeps_few head n (joined ps) rs k.0);
+      exact = λ settled. rw t (keeps_exact head n (joined ps) rs k.0 settled);
+      agrees = λ rows b s fits.
+          rw (t, sym (after_like n all (map block_round rs) k.0.like (spots_in head n b s)))
+          (rounds_agree rows head n b (laid rows head n b fits) rs [] (spots_in head n b s) s
+          (is rows b fits) k.0.find (record { named = λ p h. refl; cells = tt }));
+      keeps = λ rows b s fits q out. rw t (rounds_keep rows head n b (laid rows head n b fits) rs s
+          (is rows b fits) q (λ m. out (mine_touched rows head n b fits q m)));
+    }
+
+pub flows_within : (head : Shape) (n : ℕ) (ps : List (List (StepOf Block)))
+    (fs : List (FlowOf Part)) → 0 < n → n ≤ WIDTH_MAX
+    → length (flows_code body_uops fs 0) ≤ 4096 → AllByRecursion (AllFlow IsPart) fs
+    → AreFlowsOf (IsSpot head) ps (map (flow_map block_of_part) fs) → (ceilings : List (ℕ → ℕ))
+    → AreCheap n ps ceilings
+    → length (issues_of (trace head (flows_code body_uops fs 0 ++ Done ∷ []) n))
+    ≤ total ceilings n
+flows_within head n ps fs some small short parts of ceilings cheap =
+    let can = (all_keep head n some small ps fs of parts start refl).1 in
+    rw (flows_trace head n fs small short can)
+    (within head n some small ps fs of parts start refl ceilings cheap)

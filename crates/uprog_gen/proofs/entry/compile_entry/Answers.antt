@@ -1,67 +1,44 @@
-use Rattle.std.proofs.Common.{ap, subst, arith, map}
-use Rattle.std.proofs.lemmas.List.{length-map}
-use Rattle.loop_ir.specs.Plain.{steps_of, step_of}
+use Rattle.std.proofs.Common.{◌≤◌, arith}
+use Rattle.loop_ir.specs.Flows.{AllFlow, flow_size}
+use Rattle.loop_ir.specs.Costs.{body_cost}
+use Rattle.loop_ir.specs.Limits.{IsSmall}
 use Rattle.uprog_code.specs.Shape.{shape_of}
-use Rattle.loop_ir.specs.Costs.{code_cost}
-use Rattle.uprog_gen.specs.Programs.{HasParts}
-use Rattle.uprog_gen.proofs.Coding.Joined.{can_at, statement_room, next_statement}
-use Rattle.uprog_gen.proofs.Coding.Joined.{program_entry, does_implement}
+use Rattle.uprog_gen.proofs.Coding.Emitted.{no_flows, next_flow, flow_at}
+use Rattle.uprog_gen.proofs.Coding.Joined.{code_is}
 use Rattle.uprog_gen.proofs.entry.compile_entry.Goals as goal
 
-pub emit_steps-requires-clause-small : goal.emit_steps-requires-clause-small
-emit_steps-requires-clause-small c =
-    rw c.deref.ensures.value (can_at (shape_of c.args.head) c.args.statements.now
-    c.loop-statement.statement-index c.statement-item.result c.requires.can
-    c.loop-statement-test.true c.statement-item.is).small
+pub loop-flow-init : goal.loop-flow-init
+loop-flow-init c = rw c.new-code.ensures.items (no_flows, omega arith)
 
-pub emit_steps-requires-clause-room : goal.emit_steps-requires-clause-room
-emit_steps-requires-clause-room c =
-    omega (
-      arith,
-      (can_at (shape_of c.args.head) c.args.statements.now c.loop-statement.statement-index
-          c.statement-item.result c.requires.can c.loop-statement-test.true
-          c.statement-item.is).size,
-      ap (λ l. code_cost (map step_of l)) c.deref.ensures.value,
-      statement_room (shape_of c.args.head) c.args.statements.now c.loop-statement.statement-index
-          c.loop-statement.code.items c.requires.can c.loop-statement.invariant,
-      c.requires.few,
-      c.loop-statement-test.true,
-    )
+pub emit_flow-requires-clause-small : goal.emit_flow-requires-clause-small
+emit_flow-requires-clause-small c = flow_at (AllFlow IsSmall) c.args.flows.now
+    c.loop-flow.flow-index c.flow-item.result c.requires.small c.loop-flow-test.true c.flow-item.is
 
-pub loop-statement-preserved : goal.loop-statement-preserved
-loop-statement-preserved c =
-    next_statement c.args.statements.now c.loop-statement.statement-index c.statement-item.result
-    c.loop-statement.code.items c.emit_steps.new.code.items c.loop-statement-test.true
-    c.statement-item.is c.loop-statement.invariant
-    (rw c.deref.ensures.value at c.in_ok-emit_steps.ensures.emits)
+pub emit_flow-requires-clause-room : goal.emit_flow-requires-clause-room
+emit_flow-requires-clause-room c = omega (
+  arith,
+  flow_at (λ f. flow_size body_cost f ≤ 256) c.args.flows.now c.loop-flow.flow-index
+      c.flow-item.result c.requires.short c.loop-flow-test.true c.flow-item.is,
+  c.loop-flow.invariant.1,
+  c.requires.few,
+  c.loop-flow-test.true,
+)
 
-pub returns-clause-legal : goal.returns-clause-legal
-returns-clause-legal c =
-    (program_entry (shape_of c.args.head) c.args.statements.now
-    c.loop-statement.statement-index c.loop-statement.code.items c.keep.new.items.items
-    c.requires.can c.requires.few (omega arith) c.loop-statement.invariant c.in_ok-keep.ensures).legal
+pub loop-flow-preserved : goal.loop-flow-preserved
+loop-flow-preserved c = (
+  next_flow c.args.flows.now c.loop-flow.flow-index c.flow-item.result
+      c.loop-flow.code.items c.emit_flow.new.code.items c.loop-flow-test.true c.flow-item.is
+      c.loop-flow.invariant.0 c.in_ok-emit_flow.ensures.emits,
+  omega (
+    arith,
+    flow_at (λ f. flow_size body_cost f ≤ 256) c.args.flows.now c.loop-flow.flow-index
+        c.flow-item.result c.requires.short c.loop-flow-test.true c.flow-item.is,
+    c.loop-flow.invariant.1,
+    c.in_ok-emit_flow.ensures.short,
+  ),
+)
 
-pub returns-clause-parts : goal.returns-clause-parts
-returns-clause-parts c =
-    subst (λ k. HasParts k (shape_of c.args.head) (map steps_of c.args.statements.now)
-    c.keep.new.items.items) (length-map c.args.statements.now steps_of)
-    (program_entry (shape_of c.args.head) c.args.statements.now
-    c.loop-statement.statement-index c.loop-statement.code.items c.keep.new.items.items
-    c.requires.can c.requires.few (omega arith) c.loop-statement.invariant c.in_ok-keep.ensures).parts
-
-pub returns-clause-does : goal.returns-clause-does
-returns-clause-does c =
-    (program_entry (shape_of c.args.head) c.args.statements.now
-    c.loop-statement.statement-index c.loop-statement.code.items c.keep.new.items.items
-    c.requires.can c.requires.few (omega arith) c.loop-statement.invariant c.in_ok-keep.ensures).does
-
-pub returns-clause-few : goal.returns-clause-few
-returns-clause-few c =
-    (program_entry (shape_of c.args.head) c.args.statements.now
-    c.loop-statement.statement-index c.loop-statement.code.items c.keep.new.items.items
-    c.requires.can c.requires.few (omega arith) c.loop-statement.invariant c.in_ok-keep.ensures).few
-
-pub returns-clause-implements : goal.returns-clause-implements
-returns-clause-implements c =
-    does_implement (shape_of c.args.head) (map steps_of c.args.statements.now)
-    c.keep.new.items.items (returns-clause-does c) (returns-clause-few c)
+pub returns-clause-code : goal.returns-clause-code
+returns-clause-code c = code_is (shape_of c.args.head) c.args.flows.now c.loop-flow.flow-index
+    c.loop-flow.code.items c.keep.new.items.items c.requires.few (omega arith)
+    c.loop-flow.invariant.0 c.in_ok-keep.ensures

@@ -1,6 +1,7 @@
-use Rattle.std.proofs.Common.{◌≡◌, ◌∙◌, rules}
+use Rattle.std.proofs.Common.{◌≡◌, ◌∙◌, ap, rules}
+use Rattle.row_alloc.specs.Held.{have_layouts}
 use Rattle.loop_ir.specs.Plain.{block_of}
-use Rattle.uprog_gen.proofs.Bodies.Held.{served, entering_listed, leaving_listed}
+use Rattle.uprog_gen.proofs.Bodies.Held.{served, layouts_listed}
 use Rattle.uprog_gen.proofs.Bodies.Outs.{fit}
 use Rattle.uprog_gen.proofs.states.held_commands.Goals as goal
 
@@ -12,15 +13,15 @@ pub held_body-requires-clause-enter : goal.held_body-requires-clause-enter
 held_body-requires-clause-enter c =
     let b = block_of c.args.body.now in
     let s = served b c.args.outs.now c.requires.small c.requires.bare c.requires.states c.requires.outs in
-    entering_listed b s.body c.deref.result.now s.same
-    (c.deref.ensures.value ∙ c.in_ok-enter.ensures)
+    ap have_layouts (c.deref.ensures.value ∙ c.in_ok-enter.ensures ∙ s.same.enter)
+    ∙ (layouts_listed s.body).0
 
 pub held_body-requires-clause-leave : goal.held_body-requires-clause-leave
 held_body-requires-clause-leave c =
     let b = block_of c.args.body.now in
     let s = served b c.args.outs.now c.requires.small c.requires.bare c.requires.states c.requires.outs in
-    leaving_listed b s.body c.deref-2.result.now s.same
-    (c.deref-2.ensures.value ∙ c.in_ok-leave.ensures)
+    ap have_layouts (c.deref-2.ensures.value ∙ c.in_ok-leave.ensures ∙ s.same.leave)
+    ∙ (layouts_listed s.body).1
 
 pub unreachable-requires : goal.unreachable-requires
 unreachable-requires c =

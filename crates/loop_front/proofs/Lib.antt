@@ -1,0 +1,6 @@
+mod Bodies
+mod Built
+mod Rounds
+mod Clearing
+pub mod Runs
+pub mod Fronts
