@@ -11,7 +11,7 @@ use Rattle.soak_job.specs.Steps.{AreProgramsOf, soak_steps}
 use Rattle.soak_job.specs.Done.{SoakLeft}
 
 -- programs of its cases are made, each of which implements its op, and the cases are done; the
--- chip's counters are then the sums of what the lines tell
+-- chip's banks are then what the cases leave, and its counters the sums of what the lines tell
 abbrev pub soak_plan : ℕ → Plan
 soak_plan seed = Makes (AreProgramsOf soak_cases) (λ programs.
     Then (soak_steps seed programs) (Answers 0 (SoakLeft seed programs)))
@@ -22,8 +22,8 @@ SoakEnds seed old new status =
     EndsBy (soak_plan seed) old new status × (new.files ≡ old.files)
 
 -- Each case has a program, which implements its op; a line for each case, and the last line, were
--- sent, and no more; the chip's counters are the sums of what the lines tell; and the folder is as
--- it was
+-- sent, and no more; the chip's banks are what the cases leave, and its counters the sums of what
+-- the lines tell; and the folder is as it was
 pub record Soaked (seed : ℕ) (old new : World) : Type 0 where
   pub programs : List Microprogram
   pub are : AreProgramsOf soak_cases programs

@@ -1,6 +1,6 @@
 -- How a soak goes through its steps.
 use Rattle.std.proofs.Common.{◌≡◌, ℕ, ◌≤◌, List, [], ◌∷◌, ◌++◌, length, refl, ap}
-use Rattle.std.proofs.Common.{◌∙◌, subst}
+use Rattle.std.proofs.Common.{◌∙◌, subst, sym}
 use Rattle.std.proofs.Common.{inl, inr, arith}
 use Rattle.std.specs.Prelude.{Result, Ok, Err, IfOk}
 use Rattle.host_edge.specs.Views.{FolderView, SinkView, Known, AppendsPart}
@@ -9,7 +9,7 @@ use Rattle.dram_model.specs.declared.dram.Counters.{Counters}
 use Rattle.dram_model.specs.Chip.{Banks, Event, after}
 use Rattle.dram_model.specs.View.{Began, ChipView, Kept}
 use Rattle.transpose_unit.specs.Stopped.{StoppedWithin}
-use Rattle.dram_model.proofs.EventLaws.{Did-none, Grew-more, LogIs-more}
+use Rattle.dram_model.proofs.EventLaws.{Did-none, Grew-more, LogIs-more, after-append}
 use Rattle.uprog_code.specs.Shape.{Microprogram}
 use Rattle.cli_model.specs.World.{World, world}
 use Rattle.cli_model.specs.Waves.{IsLeftBy, doing}
@@ -164,13 +164,15 @@ both_done state c cs m ms a b d one more =
     let ap_is = ap (λ (k : Counters). k.ap) one.counters in
     let writes_are = ap (λ (k : Counters). k.writes) one.counters in
     let reads_are = ap (λ (k : Counters). k.reads) one.counters in
+    let first = case_events state c m in
+    let rest = cases_events (after_all state (source_kinds c.op)) cs ms in
     record {
       all = omega (arith, more.all);
+      banks = more.banks ∙ ap (after rest) one.banks ∙ sym (after-append first rest a.banks);
       counters = more.counters
           ∙ counters_same _ _ _ _ _ _ _ _ (omega (arith, aap_is)) (omega (arith, ap_is))
           (omega (arith, writes_are, writes)) (omega (arith, reads_are, reads));
-      log = Grew-more a.log b.log d.log (case_events state c m)
-          (cases_events (after_all state (source_kinds c.op)) cs ms) one.log more.log;
+      log = Grew-more a.log b.log d.log first rest one.log more.log;
     }
 
 done_more : (state : ℕ) (c : Case) (cs : List Case) (m : Microprogram) (ms : List Microprogram)
@@ -215,6 +217,7 @@ all_known state files s t chip known l = record {
   );
   done = record {
     all = refl;
+    banks = refl;
     counters = counters_same _ _ _ _ _ _ _ _ (omega arith) (omega arith) (omega arith) (omega
         arith);
     log = (Did-none chip).log;
@@ -245,6 +248,7 @@ left_of seed ms begun last (Ok u) began kept done =
       begun = kept.begun ∙ began.begun;
       geometry = kept.geometry ∙ began.geometry;
       all = done.all;
+      banks = done.banks ∙ ap (after (cases_events seed soak_cases ms)) began.banks;
       counters = done.counters ∙ counters_same _ _ _ _ _ _ _ _ (omega (arith, aap_is))
           (omega (arith, ap_is)) (omega (arith, writes_are)) (omega (arith, reads_are));
       log = LogIs-more [] (cases_events seed soak_cases ms) begun.log last.log began.log done.log;

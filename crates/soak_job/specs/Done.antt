@@ -1,7 +1,7 @@
 -- What a soak leaves on the chip.
 use Rattle.std.specs.Prelude.{◌≡◌, ℕ, ◌+◌, ◌*◌, List, [], ◌∷◌, ◌++◌, Result, Ok, Err}
 use Rattle.std.specs.Prelude.{None, IfOk, length, sum_by}
-use Rattle.dram_model.specs.Chip.{Event, Grew, LogIs}
+use Rattle.dram_model.specs.Chip.{Event, Grew, LogIs, after, blank_banks}
 use Rattle.dram_model.specs.View.{ChipView, HasBegun}
 use Rattle.op_text.specs.WordOps.{second_kind}
 use Rattle.uprog_code.specs.Shape.{Microprogram}
@@ -33,12 +33,13 @@ cases_events state (c ∷ cs) [] = []
 cases_events state (c ∷ cs) (m ∷ ms) = case_events state c m
     ++ cases_events (after_all state (source_kinds c.op)) cs ms
 
--- Each case has its program. The counters rose by what the lines tell, by two writes for each row
--- of a source and two reads for each row of a result, one in each bank; and a log that is known
--- grew by the events of the cases
+-- Each case has its program. The banks are what the events of the cases leave, in order; the
+-- counters rose by what the lines tell, by two writes for each row of a source and two reads for
+-- each row of a result, one in each bank; and a log that is known grew by these events
 pub record CasesDone (state : ℕ) (cs : List Case) (ms : List Microprogram) (old new : ChipView) :
     Type 0 where
   pub all : length ms ≡ length cs
+  pub banks : new.banks ≡ after (cases_events state cs ms) old.banks
   pub counters : new.counters ≡ record {
     aap = old.counters.aap + over_cases (λ c m. (in_both_banks c m).aap) cs ms;
     ap = old.counters.ap + over_cases (λ c m. (in_both_banks c m).ap) cs ms;
@@ -59,13 +60,14 @@ end_of (Ok done) = Done
 end_of (Err why) = end_by why
 
 -- What a soak leaves on the chip, which has begun with a soak's geometry: each case has its
--- program; the counters are the sums of what the lines tell, two writes for each row of a source
--- and two reads for each row of a result, one in each bank; and a log that is known has the events
--- of the cases alone
+-- program; the banks are what the events of the cases leave of blank ones; the counters are the
+-- sums of what the lines tell, two writes for each row of a source and two reads for each row of a
+-- result, one in each bank; and a log that is known has these events alone
 pub record SoakLeft (seed : ℕ) (ms : List Microprogram) (chip : ChipView) : Type 0 where
   pub begun : HasBegun chip
   pub geometry : chip.geometry ≡ soak_chip
   pub all : length ms ≡ length soak_cases
+  pub banks : chip.banks ≡ after (cases_events seed soak_cases ms) (blank_banks soak_chip)
   pub counters : chip.counters ≡ record {
     aap = over_cases (λ c m. (in_both_banks c m).aap) soak_cases ms;
     ap = over_cases (λ c m. (in_both_banks c m).ap) soak_cases ms;
