@@ -145,7 +145,8 @@ pub enum Turns {
     Turn(Box<Flow>, Box<Turns>),
 }
 
-/// A body done once, at each position, or parts done one after another at each outer position.
+/// A body done once or at each position, parts done one after another at each outer position, or a
+/// flow.
 #[derive(Drop)]
 pub enum Step {
     Once(Body),

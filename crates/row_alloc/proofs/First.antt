@@ -4,7 +4,7 @@ use Rattle.std.proofs.Common.{length, map, refl, sym, subst, ap, ◌∙◌, arit
 use Rattle.std.proofs.Common.{inl, inr, not}
 use Rattle.std.specs.Prelude.{◌||◌, ◌&&◌, ◌==◌}
 use Rattle.std.specs.List.{list_all}
-use Rattle.std.proofs.lemmas.Bool.{and_parts, eqb-true, eq-eqb, cases_eq}
+use Rattle.std.proofs.lemmas.Bool.{and_parts, eq-eqb, cases_eq, ne_eqb}
 use Rattle.std.proofs.lemmas.List.Folds.{list_all_at}
 use mathlib.Core.Bool.{beq}
 use Rattle.dram_model.specs.declared.address.Cell.TheVariants.{D}
@@ -20,14 +20,41 @@ use Rattle.row_alloc.specs.Body.{FitBody, WritesLate, read_by, written_by, comma
 use Rattle.row_alloc.specs.Numbering.{own_output}
 use Rattle.row_alloc.specs.Length.{plain_length}
 use Rattle.row_alloc.specs.Symbolic.{symbols_after, IsChecked, sense_three, first_node, lit_eq}
-use Rattle.row_alloc.specs.Known.{Serves, IsFirst, known, known_at, WordBody, Inverted, Both, Either}
-use Rattle.row_alloc.specs.Known.{Unlike, Chosen, Added, graph_in, outs_in}
-use Rattle.row_alloc.specs.Known.{sequence_for}
+use Rattle.row_alloc.specs.Known.{IsFirst, known, known_at, WordBody, Inverted, Both, Either}
+use Rattle.row_alloc.specs.Known.{Unlike, Chosen, Added, graph_in, outs_in, sequence_for}
 use Rattle.row_alloc.proofs.Booleans.{and-both}
 use Rattle.row_alloc.proofs.Sound.{lit-eq-true}
 
 abbrev pub out : Lit → Option ℕ → OutRow
 out l s = record { lit = l; same = s }
+
+-- all numbers below this one pass
+abbrev pub below : ℕ → (ℕ → Bool) → Bool
+below zero f = true
+below (suc m) f = f m && below m f
+
+pub below_at : (m : ℕ) (f : ℕ → Bool) → below m f ≡ true → (j : ℕ) → j < m → f j ≡ true
+below_at zero f h j l = absurd (omega (arith, l))
+below_at (suc m) f h j l =
+    let p = and_parts (f m) (below m f) h in
+    elim (cases_eq j m) [
+      | inl e ↦ subst (λ i. f i ≡ true) (sym e) p.0
+      | inr ne ↦ below_at m f p.1 j (omega (arith, l, ne))
+    ]
+
+pub below_from : (m : ℕ) (f : ℕ → Bool) → ((j : ℕ) → j < m → f j ≡ true) → below m f ≡ true
+below_from zero f h = refl
+below_from (suc m) f h = and-both (f m) (below m f) (h m (omega arith))
+    (below_from m f (λ j l. h j (omega (arith, l))))
+
+-- the number passes, and none below it
+abbrev pub first_in : (ℕ → Bool) → ℕ → Bool
+first_in t k = below k (λ i. not (t i)) && t k
+
+pub fails : (t : ℕ → Bool) (k : ℕ) → below k (λ i. not (t i)) ≡ true → (i : ℕ) → i < k
+    → t i ≡ true → ⊥
+fails t k h i l e =
+    let f : not true ≡ true = sym (ap not e) ∙ below_at k (λ i. not (t i)) h i l in cc
 
 -- the symbolic run's answer, as a test
 abbrev pub is_literal : Option Lit → Lit → Bool
@@ -37,114 +64,61 @@ is_literal (Some m) l = lit_eq m l
 abbrev end_at : Graph → List OutRow → List BodyCmd → ℕ → Option Lit
 end_at g outs cmds j = symbols_after g outs cmds (D (own_output (out_at outs j).same j))
 
--- each of the first outputs ends right
+-- the first outputs, so many, end right
 abbrev ends_right : Graph → List OutRow → List BodyCmd → ℕ → Bool
-ends_right g outs cmds zero = true
-ends_right g outs cmds (suc j) = is_literal (end_at g outs cmds j) (out_at outs j).lit
-    && ends_right g outs cmds j
+ends_right g outs cmds m = below m (λ j. is_literal (end_at g outs cmds j) (out_at outs j).lit)
 
 abbrev passes : Graph → List OutRow → List BodyCmd → Bool
 passes g outs cmds = are_legal g.inputs (length outs) cmds && ends_right g outs cmds (length outs)
-
--- none of the sequences before this one passes
-abbrev all_fail : Graph → List OutRow → ℕ → Bool
-all_fail g outs zero = true
-all_fail g outs (suc k) = all_fail g outs k && not (passes g outs (known_at k))
-
-abbrev is_first : Graph → List OutRow → ℕ → Bool
-is_first g outs k = all_fail g outs k && passes g outs (known_at k)
 
 pub is-literal : (o : Option Lit) (l : Lit) → is_literal o l ≡ true → o ≡ Some l
 is-literal None l h = absurd cc
 is-literal (Some m) l h = ap Some (lit-eq-true m l h)
 
 beq-self : (i : Bool) → beq i i ≡ true
-beq-self true = refl
-beq-self false = refl
+beq-self i = grind arith
 
 pub literal-is : (o : Option Lit) (l : Lit) → o ≡ Some l → is_literal o l ≡ true
 literal-is o l e = rw e (and-both (l.node == l.node) (beq l.inverted l.inverted)
     (eq-eqb l.node l.node refl) (beq-self l.inverted))
 
-each_end : (g : Graph) (outs : List OutRow) (cmds : List BodyCmd) (m : ℕ)
-    → ends_right g outs cmds m ≡ true → (j : ℕ) → j < m
-    → end_at g outs cmds j ≡ Some (out_at outs j).lit
-each_end g outs cmds zero h j lj = absurd (omega (arith, lj))
-each_end g outs cmds (suc m) h j lj =
-    let p = and_parts (is_literal (end_at g outs cmds m) (out_at outs m).lit)
-    (ends_right g outs cmds m) h in
-    elim (cases_eq j m) [
-      | inl e ↦ subst (λ i. end_at g outs cmds i ≡ Some (out_at outs i).lit) (sym e)
-          (is-literal (end_at g outs cmds m) (out_at outs m).lit p.0)
-      | inr ne ↦ each_end g outs cmds m p.1 j (omega (arith, lj, ne))
-    ]
-
-all_ends : (g : Graph) (outs : List OutRow) (cmds : List BodyCmd) (m : ℕ)
-    → ((j : ℕ) → j < m → end_at g outs cmds j ≡ Some (out_at outs j).lit)
-    → ends_right g outs cmds m ≡ true
-all_ends g outs cmds zero h = refl
-all_ends g outs cmds (suc m) h = and-both (is_literal (end_at g outs cmds m) (out_at outs m).lit)
-    (ends_right g outs cmds m)
-    (literal-is (end_at g outs cmds m) (out_at outs m).lit (h m (omega arith)))
-    (all_ends g outs cmds m (λ j lj. h j (omega (arith, lj))))
-
 passed : (g : Graph) (outs : List OutRow) (cmds : List BodyCmd) → passes g outs cmds ≡ true
     → IsChecked g outs cmds
 passed g outs cmds h =
-    let p = and_parts (are_legal g.inputs (length outs) cmds)
-    (ends_right g outs cmds (length outs)) h in
-    record { legal = p.0; ends = each_end g outs cmds (length outs) p.1 }
+    let p = and_parts (are_legal g.inputs (length outs) cmds) _ h in
+    record {
+      legal = p.0;
+      ends = λ j l. is-literal (end_at g outs cmds j) (out_at outs j).lit (below_at _ _ p.1 j l);
+    }
 
 must_pass : (g : Graph) (outs : List OutRow) (cmds : List BodyCmd) → IsChecked g outs cmds
     → passes g outs cmds ≡ true
-must_pass g outs cmds c = and-both (are_legal g.inputs (length outs) cmds)
-    (ends_right g outs cmds (length outs)) c.legal (all_ends g outs cmds (length outs) c.ends)
+must_pass g outs cmds c = and-both _ _ c.legal (below_from _ _ (λ j l.
+    literal-is (end_at g outs cmds j) (out_at outs j).lit (c.ends j l)))
 
-none_serves : (g : Graph) (outs : List OutRow) (k : ℕ) → all_fail g outs k ≡ true → (i : ℕ) → i < k
-    → Serves g outs (known_at i) → ⊥
-none_serves g outs zero h i l s = absurd (omega (arith, l))
-none_serves g outs (suc k) h i l s =
-    let p = and_parts (all_fail g outs k) (not (passes g outs (known_at k))) h in
-    elim (cases_eq i k) [
-      | inl e ↦ let t = must_pass g outs (known_at k)
-          (subst (λ j. IsChecked g outs (known_at j)) e s.checked) in
-          let f : not true ≡ true = sym (ap not t) ∙ p.1 in cc
-      | inr ne ↦ none_serves g outs k p.0 i (omega (arith, l, ne)) s
-    ]
+abbrev is_first : Graph → List OutRow → ℕ → Bool
+is_first g outs k = first_in (λ i. passes g outs (known_at i)) k
 
 first : (g : Graph) (outs : List OutRow) (k : ℕ) → k < length known → is_first g outs k ≡ true
     → WritesLate outs (known_at k) → IsFirst g outs k
 first g outs k within h late =
-    let p = and_parts (all_fail g outs k) (passes g outs (known_at k)) h in
+    let t = λ (i : ℕ). passes g outs (known_at i) in
+    let p = and_parts (below k (λ i. not (t i))) (t k) h in
     record {
       within = within;
       serves = record { checked = passed g outs (known_at k) p.1; late = late };
-      before = none_serves g outs k p.0;
+      before = λ i l s. fails t k p.0 i l (must_pass g outs (known_at i) s.checked);
     }
 
 -- wherever an output stands: in a row of its own, or in one of so many inputs' rows
 abbrev pub in_all : ℕ → (Option ℕ → Bool) → Bool
-in_all zero f = f None
-in_all (suc i) f = in_all i f && f (Some i)
-
-apart_in : (i : ℕ) (f : Option ℕ → Bool) → in_all i f ≡ true → f None ≡ true
-apart_in zero f h = h
-apart_in (suc i) f h = apart_in i f (and_parts (in_all i f) (f (Some i)) h).0
-
-shared_in : (i : ℕ) (f : Option ℕ → Bool) → in_all i f ≡ true → (k : ℕ) → k < i
-    → f (Some k) ≡ true
-shared_in zero f h k l = absurd (omega (arith, l))
-shared_in (suc i) f h k l =
-    let p = and_parts (in_all i f) (f (Some i)) h in
-    elim (cases_eq k i) [
-      | inl e ↦ subst (λ j. f (Some j) ≡ true) (sym e) p.1
-      | inr ne ↦ shared_in i f p.0 k (omega (arith, l, ne))
-    ]
+in_all i f = f None && below i (λ k. f (Some k))
 
 pub in_one : (i : ℕ) (f : Option ℕ → Bool) → in_all i f ≡ true → (s : Option ℕ)
     → ((k : ℕ) → s ≡ Some k → k < i) → f s ≡ true
-in_one i f h None b = apart_in i f h
-in_one i f h (Some k) b = shared_in i f h k (b k refl)
+in_one i f h None b = (and_parts (f None) (below i (λ k. f (Some k))) h).0
+in_one i f h (Some k) b =
+    below_at i (λ k. f (Some k)) (and_parts (f None) (below i (λ k. f (Some k))) h).1 k (b k refl)
 
 pub single : (l : Lit) (outs : List OutRow) → map (λ o. o.lit) outs ≡ l ∷ []
     → outs ≡ out l (out_at outs 0).same ∷ []
@@ -182,45 +156,34 @@ clash (Some a) None = false
 clash None t = false
 
 no_clash : (s t : Option ℕ) → ((k : ℕ) → s ≡ Some k → t ≢ Some k) → clash s t ≡ false
-no_clash (Some a) (Some b) h = by (a == b) refl
-  where
-    by : (c : Bool) → (a == b) ≡ c → (a == b) ≡ false
-    by true e = absurd (h a refl (ap Some (sym (eqb-true a b e))))
-    by false e = e
+no_clash (Some a) (Some b) h =
+    elim (cases_eq a b) [ inl e ↦ absurd (h a refl (ap Some (sym e))) | inr n ↦ ne_eqb a b n ]
 no_clash (Some a) None h = refl
 no_clash None t h = refl
 
--- where both may stand, but for places that are left out
-abbrev two_first : Graph → Lit → Lit → ℕ → (Option ℕ → Option ℕ → Bool) → Bool
-two_first g l m k out_of = in_all g.inputs (λ s. in_all g.inputs (λ t. clash s t || (out_of s t
-    || is_first g (out l s ∷ out m t ∷ []) k)))
+-- wherever both may stand
+abbrev two_first : Graph → Lit → Lit → ℕ → Bool
+two_first g l m k = in_all g.inputs (λ s. in_all g.inputs (λ t. clash s t
+    || is_first g (out l s ∷ out m t ∷ []) k))
 
-two : (g : Graph) (l m : Lit) (k : ℕ) (out_of : Option ℕ → Option ℕ → Bool)
-    → two_first g l m k out_of ≡ true → k < length known
-    → ((outs : List OutRow) → WritesLate outs (known_at k)
-    → out_of (out_at outs 0).same (out_at outs 1).same ≡ false)
+two : (g : Graph) (l m : Lit) (k : ℕ) → two_first g l m k ≡ true → k < length known
     → (outs : List OutRow) → FitBody g outs → map (λ o. o.lit) outs ≡ l ∷ m ∷ []
     → WritesLate outs (known_at k) → IsFirst g outs k
-two g l m k out_of h within kept outs fit e late =
+two g l m k h within outs fit e late =
     let s = (out_at outs 0).same in
     let t = (out_at outs 1).same in
     let is = double l m outs e in
     let n = ap length is in
-    let f = λ (s t : Option ℕ). clash s t || (out_of s t || is_first g (out l s ∷ out m t
-    ∷ []) k) in
+    let f = λ (s t : Option ℕ). clash s t || is_first g (out l s ∷ out m t ∷ []) k in
     let a = in_one g.inputs (λ s. in_all g.inputs (f s)) h s (λ j e.
     fit.same 0 j (omega (arith, n)) e) in
     let b = in_one g.inputs (f s) a t (λ j e. fit.same 1 j (omega (arith, n)) e) in
     let c = no_clash s t (λ j x y. let z = fit.once 0 1 j (omega (arith, n)) (omega (arith, n)) x y
     in absurd (omega (arith, z))) in
-    let d : is_first g (out l s ∷ out m t ∷ []) k ≡ true = rw (c, kept outs late) at b in
+    let d : is_first g (out l s ∷ out m t ∷ []) k ≡ true = rw c at b in
     subst (λ os. IsFirst g os k) (sym is)
     (first g (out l s ∷ out m t ∷ []) k within d
     (subst (λ os. WritesLate os (known_at k)) is late))
-
--- no places are left out
-abbrev nowhere : Option ℕ → Option ℕ → Bool
-nowhere s t = false
 
 -- each body's sequence is the first that serves it, where it writes the outputs late
 abbrev HasFirst : WordBody → Type 0
@@ -228,37 +191,14 @@ HasFirst b = (outs : List OutRow) → FitBody (graph_in b) outs
     → map (λ o. o.lit) outs ≡ outs_in b → WritesLate outs (known_at (sequence_for b))
     → IsFirst (graph_in b) outs (sequence_for b)
 
-inverted_first : HasFirst Inverted
-unfolding sense_three first_node
-inverted_first = one (graph_in Inverted) _ 0 refl (omega arith)
-
-both_first : HasFirst Both
-unfolding sense_three first_node
-both_first = one (graph_in Both) _ 2 refl (omega arith)
-
-either_first : HasFirst Either
-unfolding sense_three first_node
-either_first = one (graph_in Either) _ 3 refl (omega arith)
-
-unlike_first : HasFirst Unlike
-unfolding sense_three first_node
-unlike_first = one (graph_in Unlike) _ 9 refl (omega arith)
-
-chosen_first : HasFirst Chosen
-unfolding sense_three first_node
-chosen_first = one (graph_in Chosen) _ 11 refl (omega arith)
-
-added_first : HasFirst Added
-unfolding sense_three first_node
-added_first = two (graph_in Added) _ _ 20 nowhere refl (omega arith) (λ outs late. refl)
-
 have_first : (b : WordBody) → HasFirst b
-have_first Inverted = inverted_first
-have_first Both = both_first
-have_first Either = either_first
-have_first Unlike = unlike_first
-have_first Chosen = chosen_first
-have_first Added = added_first
+unfolding sense_three first_node
+have_first Inverted = one (graph_in Inverted) _ 0 refl (omega arith)
+have_first Both = one (graph_in Both) _ 2 refl (omega arith)
+have_first Either = one (graph_in Either) _ 3 refl (omega arith)
+have_first Unlike = one (graph_in Unlike) _ 9 refl (omega arith)
+have_first Chosen = one (graph_in Chosen) _ 11 refl (omega arith)
+have_first Added = two (graph_in Added) _ _ 20 refl (omega arith)
 
 abbrev IsShort : WordBody → List OutRow → Type 0
 IsShort b outs = length (known_at (sequence_for b)) ≤ plain_length (graph_in b) outs

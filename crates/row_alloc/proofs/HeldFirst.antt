@@ -1,12 +1,10 @@
 -- Which known sequence is the first that serves a body of a word operation with its states in cells
-use Rattle.std.proofs.Common.{◌≡◌, ℕ, zero, suc, ◌<◌, Bool, true, List, [], ◌∷◌}
-use Rattle.std.proofs.Common.{length, map, refl, sym, subst, ap, ◌∙◌, arith, Option, Some}
-use Rattle.std.proofs.Common.{inl, inr, not}
+use Rattle.std.proofs.Common.{◌≡◌, ℕ, ◌<◌, Bool, true, List, [], ◌∷◌, length, map, refl, sym, subst}
+use Rattle.std.proofs.Common.{ap, ◌∙◌, arith, Option, inl, inr, not}
 use Rattle.std.specs.Prelude.{◌&&◌}
-use Rattle.std.specs.List.{list_all, AllByRecursion}
-use Rattle.std.proofs.lemmas.Bool.{and_parts, cases_eq, cases_lt}
+use Rattle.std.specs.List.{list_all}
+use Rattle.std.proofs.lemmas.Bool.{and_parts, cases_lt}
 use Rattle.dram_model.specs.declared.address.Cell.TheVariants.{D}
-use Rattle.dram_model.specs.declared.address.Line.{Line}
 use Rattle.mig_graph.specs.declared.Lit.{Lit}
 use Rattle.mig_graph.specs.Graph.{Graph}
 use Rattle.row_alloc.specs.declared.body.BodyCmd.{BodyCmd}
@@ -19,149 +17,72 @@ use Rattle.row_alloc.specs.Numbering.{own_output}
 use Rattle.row_alloc.specs.Symbolic.{Symbols, sym_read, sense_three, first_node}
 use Rattle.row_alloc.specs.Layouts.{layout}
 use Rattle.row_alloc.specs.Held.{reads_rows, symbols_held, IsLeft, IsHeldChecked}
-use Rattle.row_alloc.specs.HeldBodies.{ServesHeld, IsFirstHeld, held_sequences, held_at, HeldBody}
-use Rattle.row_alloc.specs.HeldBodies.{ZeroInT0, OneInT0, OnesInT2AndT3, ZeroInT3AndDcc1}
-use Rattle.row_alloc.specs.HeldBodies.{HeldCompared, HeldOrdered, HeldLessened, HeldAgreed}
-use Rattle.row_alloc.specs.HeldBodies.{held_graph, held_outs, enter_in, leave_in}
-use Rattle.row_alloc.specs.HeldBodies.{held_sequence_for}
-use Rattle.row_alloc.proofs.Booleans.{and-both}
-use Rattle.row_alloc.proofs.First.{out, is_literal, is-literal, literal-is, in_all, in_one, single}
-use Rattle.row_alloc.proofs.First.{never}
+use Rattle.row_alloc.specs.HeldBodies.{IsFirstHeld, held_sequences, held_at, HeldBody, ZeroInT0}
+use Rattle.row_alloc.specs.HeldBodies.{OneInT0, OnesInT2AndT3, ZeroInT3AndDcc1, HeldCompared}
+use Rattle.row_alloc.specs.HeldBodies.{HeldOrdered, HeldLessened, HeldAgreed, held_graph, held_outs}
+use Rattle.row_alloc.specs.HeldBodies.{enter_in, leave_in, held_sequence_for}
+use Rattle.row_alloc.proofs.Booleans.{and-both, all-are, are-all}
+use Rattle.row_alloc.proofs.First.{below, below_at, below_from, first_in, fails, out, is_literal}
+use Rattle.row_alloc.proofs.First.{is-literal, literal-is, in_all, in_one, single, never}
 
 abbrev end_at : Graph → List OutRow → List Held → List BodyCmd → ℕ → Option Lit
 end_at g outs enter cmds j = symbols_held g outs enter cmds (D (own_output (out_at outs j).same j))
 
--- each of the first outputs ends right
+-- the first outputs, so many, end right
 abbrev ends_right : Graph → List OutRow → List Held → List BodyCmd → ℕ → Bool
-ends_right g outs enter cmds zero = true
-ends_right g outs enter cmds (suc j) = is_literal (end_at g outs enter cmds j) (out_at outs j).lit
-    && ends_right g outs enter cmds j
+ends_right g outs enter cmds m =
+    below m (λ j. is_literal (end_at g outs enter cmds j) (out_at outs j).lit)
 
--- each of the lines reads the literal
-abbrev read_it : Symbols → Lit → List Line → Bool
-read_it sy l [] = true
-read_it sy l (line ∷ lines) = is_literal (sym_read sy line) l && read_it sy l lines
-
--- each of the states is left
-abbrev are_left : Symbols → List Held → Bool
-are_left sy [] = true
-are_left sy (h ∷ hs) = read_it sy h.lit (layout h.layout) && are_left sy hs
+-- each of the lines of its layout reads the literal
+abbrev is_left : Symbols → Held → Bool
+is_left sy h = list_all (λ line. is_literal (sym_read sy line) h.lit) (layout h.layout)
 
 abbrev passes : Graph → List OutRow → List Held → List Held → List BodyCmd → Bool
 passes g outs enter leave cmds = (are_legal g.inputs (length outs) cmds
     && list_all (reads_rows enter) cmds) && (ends_right g outs enter cmds (length outs)
-    && are_left (symbols_held g outs enter cmds) leave)
+    && list_all (is_left (symbols_held g outs enter cmds)) leave)
 
--- none of the sequences before this one passes
-abbrev all_fail : Graph → List OutRow → List Held → List Held → ℕ → Bool
-all_fail g outs enter leave zero = true
-all_fail g outs enter leave (suc k) = all_fail g outs enter leave k
-    && not (passes g outs enter leave (held_at k))
+is-left : (sy : Symbols) (h : Held) → is_left sy h ≡ true → IsLeft sy h
+is-left sy h = all-are _ _ (λ line. is-literal (sym_read sy line) h.lit) (layout h.layout)
 
-abbrev is_first : Graph → List OutRow → List Held → List Held → ℕ → Bool
-is_first g outs enter leave k = all_fail g outs enter leave k
-    && passes g outs enter leave (held_at k)
-
-each_end : (g : Graph) (outs : List OutRow) (enter : List Held) (cmds : List BodyCmd) (m : ℕ)
-    → ends_right g outs enter cmds m ≡ true → (j : ℕ) → j < m
-    → end_at g outs enter cmds j ≡ Some (out_at outs j).lit
-each_end g outs enter cmds zero h j lj = absurd (omega (arith, lj))
-each_end g outs enter cmds (suc m) h j lj =
-    let p = and_parts (is_literal (end_at g outs enter cmds m) (out_at outs m).lit)
-    (ends_right g outs enter cmds m) h in
-    elim (cases_eq j m) [
-      | inl e ↦ subst (λ i. end_at g outs enter cmds i ≡ Some (out_at outs i).lit) (sym e)
-          (is-literal (end_at g outs enter cmds m) (out_at outs m).lit p.0)
-      | inr ne ↦ each_end g outs enter cmds m p.1 j (omega (arith, lj, ne))
-    ]
-
-all_ends : (g : Graph) (outs : List OutRow) (enter : List Held) (cmds : List BodyCmd) (m : ℕ)
-    → ((j : ℕ) → j < m → end_at g outs enter cmds j ≡ Some (out_at outs j).lit)
-    → ends_right g outs enter cmds m ≡ true
-all_ends g outs enter cmds zero h = refl
-all_ends g outs enter cmds (suc m) h =
-    and-both (is_literal (end_at g outs enter cmds m) (out_at outs m).lit)
-    (ends_right g outs enter cmds m)
-    (literal-is (end_at g outs enter cmds m) (out_at outs m).lit (h m (omega arith)))
-    (all_ends g outs enter cmds m (λ j lj. h j (omega (arith, lj))))
-
-each_line : (sy : Symbols) (l : Lit) (lines : List Line) → read_it sy l lines ≡ true
-    → AllByRecursion (λ (line : Line). sym_read sy line ≡ Some l) lines
-each_line sy l [] h = tt
-each_line sy l (x ∷ xs) h =
-    let p = and_parts (is_literal (sym_read sy x) l) (read_it sy l xs) h in
-    (is-literal (sym_read sy x) l p.0, each_line sy l xs p.1)
-
-all_lines : (sy : Symbols) (l : Lit) (lines : List Line)
-    → AllByRecursion (λ (line : Line). sym_read sy line ≡ Some l) lines
-    → read_it sy l lines ≡ true
-all_lines sy l [] h = refl
-all_lines sy l (x ∷ xs) h = and-both (is_literal (sym_read sy x) l) (read_it sy l xs)
-    (literal-is (sym_read sy x) l h.0) (all_lines sy l xs h.1)
-
-each_left : (sy : Symbols) (hs : List Held) → are_left sy hs ≡ true → AllByRecursion (IsLeft sy) hs
-each_left sy [] h = tt
-each_left sy (x ∷ xs) h =
-    let p = and_parts (read_it sy x.lit (layout x.layout)) (are_left sy xs) h in
-    (each_line sy x.lit (layout x.layout) p.0, each_left sy xs p.1)
-
-all_left : (sy : Symbols) (hs : List Held) → AllByRecursion (IsLeft sy) hs → are_left sy hs ≡ true
-all_left sy [] h = refl
-all_left sy (x ∷ xs) h = and-both (read_it sy x.lit (layout x.layout)) (are_left sy xs)
-    (all_lines sy x.lit (layout x.layout) h.0) (all_left sy xs h.1)
+left-is : (sy : Symbols) (h : Held) → IsLeft sy h → is_left sy h ≡ true
+left-is sy h = are-all _ _ (λ line. literal-is (sym_read sy line) h.lit) (layout h.layout)
 
 passed : (g : Graph) (outs : List OutRow) (enter leave : List Held) (cmds : List BodyCmd)
     → passes g outs enter leave cmds ≡ true → IsHeldChecked g outs enter leave cmds
 passed g outs enter leave cmds h =
-    let p = and_parts (are_legal g.inputs (length outs) cmds && list_all (reads_rows enter) cmds)
-    (ends_right g outs enter cmds (length outs)
-    && are_left (symbols_held g outs enter cmds) leave) h in
-    let q = and_parts (are_legal g.inputs (length outs) cmds) (list_all (reads_rows enter) cmds) p.0
+    let p = and_parts (are_legal g.inputs (length outs) cmds && list_all (reads_rows enter) cmds) _ h
     in
-    let r = and_parts (ends_right g outs enter cmds (length outs))
-    (are_left (symbols_held g outs enter cmds) leave) p.1 in
+    let q = and_parts (are_legal g.inputs (length outs) cmds) _ p.0 in
+    let r = and_parts (ends_right g outs enter cmds (length outs)) _ p.1 in
     record {
       legal = q.0;
       unread = q.1;
-      ends = each_end g outs enter cmds (length outs) r.0;
-      leaves = each_left (symbols_held g outs enter cmds) leave r.1;
+      ends = λ j l. is-literal (end_at g outs enter cmds j) (out_at outs j).lit
+          (below_at _ _ r.0 j l);
+      leaves = all-are _ _ (is-left (symbols_held g outs enter cmds)) leave r.1;
     }
 
 must_pass : (g : Graph) (outs : List OutRow) (enter leave : List Held) (cmds : List BodyCmd)
     → IsHeldChecked g outs enter leave cmds → passes g outs enter leave cmds ≡ true
-must_pass g outs enter leave cmds c =
-    and-both (are_legal g.inputs (length outs) cmds && list_all (reads_rows enter) cmds)
-    (ends_right g outs enter cmds (length outs) && are_left (symbols_held g outs enter cmds) leave)
-    (and-both (are_legal g.inputs (length outs) cmds) (list_all (reads_rows enter) cmds) c.legal
-    c.unread)
-    (and-both (ends_right g outs enter cmds (length outs))
-    (are_left (symbols_held g outs enter cmds) leave)
-    (all_ends g outs enter cmds (length outs) c.ends)
-    (all_left (symbols_held g outs enter cmds) leave c.leaves))
+must_pass g outs enter leave cmds c = and-both _ _ (and-both _ _ c.legal c.unread)
+    (and-both _ _ (below_from _ _ (λ j l.
+    literal-is (end_at g outs enter cmds j) (out_at outs j).lit (c.ends j l)))
+    (are-all _ _ (left-is (symbols_held g outs enter cmds)) leave c.leaves))
 
-none_serves : (g : Graph) (outs : List OutRow) (enter leave : List Held) (k : ℕ)
-    → all_fail g outs enter leave k ≡ true → (i : ℕ) → i < k
-    → ServesHeld g outs enter leave (held_at i) → ⊥
-none_serves g outs enter leave zero h i l s = absurd (omega (arith, l))
-none_serves g outs enter leave (suc k) h i l s =
-    let p = and_parts (all_fail g outs enter leave k) (not (passes g outs enter leave (held_at k)))
-    h in
-    elim (cases_eq i k) [
-      | inl e ↦ let t = must_pass g outs enter leave (held_at k)
-          (subst (λ j. IsHeldChecked g outs enter leave (held_at j)) e s.checked) in
-          let f : not true ≡ true = sym (ap not t) ∙ p.1 in cc
-      | inr ne ↦ none_serves g outs enter leave k p.0 i (omega (arith, l, ne)) s
-    ]
+abbrev is_first : Graph → List OutRow → List Held → List Held → ℕ → Bool
+is_first g outs enter leave k = first_in (λ i. passes g outs enter leave (held_at i)) k
 
 first : (g : Graph) (outs : List OutRow) (enter leave : List Held) (k : ℕ)
     → k < length held_sequences → is_first g outs enter leave k ≡ true
     → WritesLate outs (held_at k) → IsFirstHeld g outs enter leave k
 first g outs enter leave k within h late =
-    let p = and_parts (all_fail g outs enter leave k) (passes g outs enter leave (held_at k)) h in
+    let t = λ (i : ℕ). passes g outs enter leave (held_at i) in
+    let p = and_parts (below k (λ i. not (t i))) (t k) h in
     record {
       within = within;
       serves = record { checked = passed g outs enter leave (held_at k) p.1; late = late };
-      before = none_serves g outs enter leave k p.0;
+      before = λ i l s. fails t k p.0 i l (must_pass g outs enter leave (held_at i) s.checked);
     }
 
 -- there is one first

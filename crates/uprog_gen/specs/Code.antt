@@ -1,4 +1,4 @@
--- The code of a body, whose indices are in registers, and of a flow's bodies.
+-- The code of a body, whose indices are in registers.
 -- Private contracts alone speak of this.
 use Rattle.std.specs.Prelude.{ℕ, if◌then◌else◌, List, map, nat_lt}
 use Rattle.uprog_code.specs.declared.code.RowSpace.{RowSpace}

@@ -1,5 +1,4 @@
 -- The code of an operation over the flows of its statements.
--- Private contracts alone speak of this.
 use Rattle.std.specs.Prelude.{◌≡◌, ℕ, ◌<◌, ◌≤◌, List, [], ◌∷◌, length, map}
 use Rattle.bit_rows.specs.declared.TheConstants.{WIDTH_MAX}
 use Rattle.op_text.specs.Language.{Statement}

@@ -1,4 +1,4 @@
--- From operations to microprograms: the code of loop programs, what it does, and where the names of
+-- From operations to microprograms: the code of flows, what it does, and where the names of
 -- an operation lie.
 pub mod Where
 pub mod FlowCode

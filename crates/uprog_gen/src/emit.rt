@@ -1,4 +1,4 @@
-//! Instructions, one after another.
+//! The instructions of a body's commands.
 
 ghost use Rattle.std.specs.Prelude.{◌≡◌, ◌++◌, true, OnOk};
 ghost use Rattle.row_alloc.specs.declared.body.BodyRef.{BodyRef};

@@ -1,4 +1,4 @@
-//! The compiler from loop programs to microprograms.
+//! The compiler from operations to microprograms.
 #![tactic(auto)]
 
 mod emit;

@@ -57,6 +57,8 @@ fn lower_statement(s: &Stmt, names: &NameMap, alloc: Global) -> Result<LoopProgr
 }
 
 /// The places of an operation's names, and the flows of its statements.
+///
+/// Only want of memory is an `Err`.
 pub fn lower(op: &Op, alloc: Global) -> Result<Lowered, NoMemory>
     requires meets { OperationMeets (operation op.now) }
     ensures names { IfOk result (λ l. IsLayoutMap (operation op.now) l.names) }
