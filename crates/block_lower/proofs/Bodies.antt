@@ -2,7 +2,7 @@
 use Rattle.std.proofs.Common.{◌≡◌, ℕ, zero, suc, ◌+◌, ◌<◌, ◌≤◌, Bool, true, false, List, [], ◌∷◌}
 use Rattle.std.proofs.Common.{◌++◌, map, filter, length, refl, sym, ap, ◌∙◌, subst, arith, ◌⊎◌, inl}
 use Rattle.std.proofs.Common.{inr}
-use Rattle.std.specs.Prelude.{◌||◌, is_some, not}
+use Rattle.std.specs.Prelude.{◌||◌, not}
 use Rattle.std.specs.List.{list_all, list_any}
 use Rattle.std.proofs.lemmas.Bool.{cases_Bool, or_parts, or_from, and_parts, and_from, not-true}
 use Rattle.mig_graph.specs.Graph.{IsGraph}
@@ -18,9 +18,9 @@ use Rattle.loop_ir.specs.Plain.{Block as Body}
 use Rattle.loop_ir.specs.Loops.{RoundOf, sub_value}
 use Rattle.loop_ir.specs.Spots.{Spot, IsOwn, is_state, spot_in, spot_at, nth_place, nth_spot}
 use Rattle.loop_ir.specs.WellFormed.{IsOneValue, IsWellFormed}
-use Rattle.loop_ir.specs.States.{StatesFit, RowsFirst, row_count, has_states, held_of}
-use Rattle.loop_ir.specs.Costs.{same_sub, is_used, used_subs, carries}
-use Rattle.loop_ir.specs.Limits.{IsCarried, IsSmall, IsRound, HasValues}
+use Rattle.loop_ir.specs.States.{StatesFit, RowsFirst, row_count}
+use Rattle.loop_ir.specs.Costs.{same_sub, is_used, used_subs}
+use Rattle.loop_ir.specs.Limits.{HasCommands, IsSmall, IsRound, HasValues}
 use Rattle.loop_ir.specs.Statements.{Slots, targets_of}
 use Rattle.loop_ir.specs.Lowered.{IsStatementRow}
 use Rattle.block_lower.specs.Inputs.{block_inputs}
@@ -101,10 +101,8 @@ module _ {slots : Slots} {b : Block} {from to : List ℕ → Place} {c : Body} {
       omega (arith, f, few)
 
   pub body-small : {fb fw : ℕ} → Given slots fb fw b → length (filter (uses t) others) ≤ 3
-      → IsWellFormed c → StatesFit c → (carries c ≡ true → IsCarried c)
-      → (carries c ≡ false → has_states c ≡ true → is_some (held_of c) ≡ true)
-      → length (block_inputs b) ≤ 80 → IsSmall c
-  body-small g few well states found known most =
+      → IsWellFormed c → StatesFit c → HasCommands c → length (block_inputs b) ≤ 80 → IsSmall c
+  body-small g few well states commands most =
       let m = d.like.as_many in
       let a = g.meets.assigns in
       let w = g.meets.weight in
@@ -112,8 +110,7 @@ module _ {slots : Slots} {b : Block} {from to : List ℕ → Place} {c : Body} {
       record {
         well = well;
         states = states;
-        found = found;
-        known = known;
+        commands = commands;
         graph = d.like.graph;
         inputs = let i = d.like.inputs in omega (arith, i, most);
         outputs = omega (arith, m, a);
@@ -256,7 +253,7 @@ empty-graph = record {
 }
 
 -- what holds of 0 holds of all numbers below 1
-only : (P : ℕ → Type 0) → P 0 → (j : ℕ) → j < 1 → P j
+pub only : (P : ℕ → Type 0) → P 0 → (j : ℕ) → j < 1 → P j
 only P h zero l = h
 only P h (suc j) l = absurd (omega (arith, l))
 
@@ -270,17 +267,15 @@ module _ (v : Bool) (p : Place) (cmds : List BodyCmd) where
     same = λ j k lj lk e. absurd (omega (arith, lk));
   }
 
-  pub lone-small : p.sub ≡ Zero → (carries (lone v p cmds) ≡ true → IsCarried (lone v p cmds))
-      → (carries (lone v p cmds) ≡ false → is_state p.space ≡ false) → IsSmall (lone v p cmds)
-  lone-small e carried bare = record {
+  pub lone-small : p.sub ≡ Zero → HasCommands (lone v p cmds) → IsSmall (lone v p cmds)
+  lone-small e commands = record {
     well = lone-well;
     states = record {
       first = rows-first (p ∷ []) (omega arith);
       written = refl;
       read = λ k l s. absurd (omega (arith, l));
     };
-    found = carried;
-    known = λ c s. absurd (let t = sym (or_from (is_state p.space) false (bare c) refl) ∙ s in cc);
+    commands = commands;
     graph = empty-graph;
     inputs = omega arith;
     outputs = omega arith;

@@ -1,27 +1,31 @@
 -- The commands that a body carries do it, and are few.
-use Rattle.std.proofs.Common.{◌≡◌, ℕ, ◌+◌, ◌*◌, ◌≤◌, Bool, true, false, cond, not, List, [], ◌∷◌}
-use Rattle.std.proofs.Common.{length, sym, ap, ◌∙◌, subst, inl, inr, arith}
-use Rattle.std.specs.Prelude.{◌==◌, ◌&&◌, nat_lt, sum_by}
+use Rattle.std.proofs.Common.{◌≡◌, ℕ, ◌+◌, ◌*◌, ◌<◌, ◌≤◌, Bool, true, false, cond, not, List, []}
+use Rattle.std.proofs.Common.{◌∷◌, length, sym, ap, ◌∙◌, subst, inl, inr, arith}
+use Rattle.std.specs.Prelude.{◌==◌, ◌&&◌, sum_by}
 use Rattle.std.proofs.lemmas.Bool.{and_parts, and_from, eqb-true, cases_Bool}
 use Rattle.std.proofs.lemmas.List.Sums.{sum_by-cons}
+use Rattle.mig_graph.specs.declared.Lit.{Lit}
 use Rattle.mig_graph.specs.Literals.{is_complemented}
-use Rattle.mig_graph.specs.Graph.{IsGraph}
+use Rattle.mig_graph.specs.Graph.{IsGraph, size_of}
 use Rattle.mig_graph.specs.Outputs.{lit_at}
 use Rattle.row_alloc.specs.declared.body.OutRow.{OutRow}
 use Rattle.row_alloc.specs.Rows.{out_at}
+use Rattle.row_alloc.specs.Body.{FitBody}
 use Rattle.row_alloc.specs.Length.{is_direct, output_length, plain_length}
 use Rattle.row_alloc.specs.Held.{DoesHeld}
 use Rattle.row_alloc.proofs.Plainly.{plainly}
+use Rattle.loop_ir.specs.declared.ir.Place.{Place}
 use Rattle.loop_ir.specs.Plain.{Block as Body}
 use Rattle.loop_ir.specs.Outputs.{AreRows, IsOuts}
 use Rattle.loop_ir.specs.States.{enters, leaves}
-use Rattle.loop_ir.specs.Costs.{body_cost, carries, is_copy, plain_cost}
-use Rattle.loop_ir.specs.Limits.{IsCarried}
+use Rattle.loop_ir.specs.WellFormed.{IsWellFormed}
+use Rattle.loop_ir.specs.Costs.{body_cost, is_copy, plain_cost}
+use Rattle.loop_ir.specs.Limits.{HasCommands}
 use Rattle.loop_ir.proofs.Outs.{one-rows}
 use Rattle.loop_laws.proofs.Costing.{rowed-plain}
 use Rattle.loop_laws.proofs.NoStates.{HasRows}
 use Rattle.loop_laws.proofs.Rowed.{have_rows, all_count, no_enters, no_leaves}
-use Rattle.block_lower.specs.Choice.{AreFor}
+use Rattle.block_lower.specs.Choice.{HasFound, AreFor}
 
 rows-few : (rows : List OutRow) → sum_by output_length rows ≤ 3 * length rows
 rows-few [] = omega arith
@@ -82,21 +86,16 @@ module _ (b : Body) (rows : List OutRow)
         let m = plain-most in omega (arith, p, m)
   ]
 
-none-carried : (b : Body) → b.found ≡ [] → carries b ≡ false
-none-carried b e = ap (λ cmds. nat_lt 0 (length cmds)) e
+-- what was found for a body is no more than four commands a node and three an output
+pub found-most : (b : Body) → HasFound b.reads b.writes b.graph b.outs b.found
+    → length b.found ≤ body_cost b
+found-most b h = let f = h.found.few in let p = plain-most b h.rows h.are in omega (arith, f, p)
 
--- a body carries no more than four commands a node and three an output
-pub carried-most : (b : Body) → AreFor b.reads b.writes b.graph b.outs b.found
-    → carries b ≡ true → length b.found ≤ body_cost b
-carried-most b (inl h) c = let f = h.found.few in let p = plain-most b h.rows h.are in
-    omega (arith, f, p)
-carried-most b (inr u) c = absurd (let e = none-carried b u.0 in cc)
-
--- what was found for a body without states is carried by it
-pub is-carried : (b : Body) → HasRows b → IsGraph b.graph.inputs b.graph.nodes
-    → length b.outs ≡ length b.writes → AreFor b.reads b.writes b.graph b.outs b.found
-    → carries b ≡ true → IsCarried b
-is-carried b none graph written (inl h) c =
+-- what was found for a body without states does it
+pub has-commands : (b : Body) → HasRows b → IsGraph b.graph.inputs b.graph.nodes
+    → length b.outs ≡ length b.writes → HasFound b.reads b.writes b.graph b.outs b.found
+    → HasCommands b
+has-commands b none graph written h =
     let rows = have_rows b none in
     record {
       does = λ outs is.
@@ -111,4 +110,31 @@ is-carried b none graph written (inl h) c =
           (plainly b.graph h.rows b.found graph h.found.fit h.found.does)));
       few = let f = h.found.few in let p = plain-few b h.rows h.are none in omega (arith, f, p);
     }
-is-carried b none graph written (inr u) c = absurd (let e = none-carried b u.0 in cc)
+
+-- commands are found for each body that is well formed and within the limits
+module _ (b : Body) (well : IsWellFormed b) (inputs : b.graph.inputs ≤ 80)
+    (outputs : length b.outs ≤ 8) (size : length b.graph.nodes + length b.outs ≤ 32) where
+  pub fit : (rows : List OutRow)
+      → AreRows b.reads b.writes b.graph.inputs b.outs (length b.outs) rows → FitBody b.graph rows
+  fit rows are =
+      let long = are.size in
+      let writes = well.writes in
+      record {
+        inputs = inputs;
+        outputs = omega (arith, outputs, long);
+        rows = omega (arith, size, long);
+        named = λ j l. subst (λ (lit : Lit). lit.node < size_of b.graph) (sym (are.lits j l))
+            (well.named j (omega (arith, l, long)));
+        same = λ j k l e. (are.found j k l e).0;
+        once = λ i j k li lj e f.
+            let p = sym (are.found i k li e).1 ∙ (are.found j k lj f).1 in
+            well.apart i j (omega (arith, li, long, writes)) (omega (arith, lj, long, writes)) (
+              ap (λ (q : Place). q.space) p,
+              ap (λ (q : Place). q.which) p,
+            );
+      }
+
+  pub is-found : AreFor b.reads b.writes b.graph b.outs b.found
+      → HasFound b.reads b.writes b.graph b.outs b.found
+  is-found (inl h) = h
+  is-found (inr u) = absurd (let n = u.1 in n.unfit (fit n.rows n.are))

@@ -2,7 +2,7 @@
 use Rattle.std.proofs.Common.{◌≡◌, ℕ, zero, suc, ◌+◌, ◌*◌, ◌<◌, ◌≤◌, Bool, true, false, cond, List}
 use Rattle.std.proofs.Common.{[], ◌∷◌, map, filter, length, Option, Some, None, refl, sym, ap, ◌∙◌}
 use Rattle.std.proofs.Common.{subst, arith, append-nil, fold, ◌⊎◌, inl, inr}
-use Rattle.std.specs.Prelude.{◌==◌, ◌&&◌, nat_lt}
+use Rattle.std.specs.Prelude.{◌==◌, ◌&&◌}
 use Rattle.std.specs.List.{AllByRecursion, list_any, list_all}
 use Rattle.std.proofs.lemmas.Bool.{cases_Bool, and_parts, and_from, or_left, eqb-true, eq-eqb}
 use Rattle.std.proofs.lemmas.Bool.{ne_eqb}
@@ -30,9 +30,9 @@ use Rattle.loop_ir.specs.Spots.{set_spot}
 use Rattle.loop_ir.specs.WellFormed.{IsWellFormed}
 use Rattle.loop_ir.specs.States.{row_count, row_outs}
 use Rattle.loop_ir.specs.Chains.{states_in, is_alive, chained, left_by, flow_finds}
-use Rattle.loop_ir.specs.Costs.{carries, turn_cost, plain_cost, is_copy, sub_code, rounds_cost}
+use Rattle.loop_ir.specs.Costs.{turn_cost, plain_cost, is_copy, sub_code, rounds_cost}
 use Rattle.loop_ir.specs.Costs.{plain_costs, step_cost, step_bodies}
-use Rattle.loop_ir.specs.Limits.{IsCarried, IsSmall, IsRound, CanCompile, HasValues}
+use Rattle.loop_ir.specs.Limits.{HasCommands, IsSmall, IsRound, CanCompile, HasValues}
 use Rattle.loop_ir.specs.Limits.{stays_in_registers, is_in_register, flow_stands, step_stands}
 use Rattle.loop_ir.specs.Statements.{Slots, targets_of}
 use Rattle.loop_ir.specs.Lowered.{IsStatementRow, IsLowered, Does}
@@ -146,15 +146,6 @@ one-alive w (p ∷ ps) l h = elim (cases_Bool (is_state p.space)) [
 ]
 
 -- costs
-some-carried : (c : Body) → 0 < length c.found → carries c ≡ true
-some-carried c l = at (length c.found) l
-  where
-    at : (n : ℕ) → 0 < n → nat_lt 0 n ≡ true
-    at n l = grind arith
-
-pub turn-carried : (c : Body) → 0 < length c.found → turn_cost c ≡ length c.found
-turn-carried c l = let e = some-carried c l in rw e refl
-
 node-plain : (c : Body) → 0 < length c.graph.nodes → length c.outs ≡ length c.writes
     → 4 * length c.graph.nodes + 3 * row_count c.writes ≤ plain_cost c
 node-plain c some long =
@@ -169,9 +160,8 @@ start-plain h cmds = at (is_copy (held_start h cmds.start))
     at true = refl
     at false = refl
 
-carried : (c : Body) (most : ℕ) → CarriesRight c most → most ≤ plain_cost c → carries c ≡ true
-    → IsCarried c
-carried c most right le e = record {
+commands : (c : Body) (most : ℕ) → CarriesRight c most → most ≤ plain_cost c → HasCommands c
+commands c most right le = record {
   does = right.does;
   few = let f = right.few in omega (arith, f, le);
 }
@@ -376,17 +366,14 @@ module _ {slots : Slots} {fb fw : ℕ} {b : Block} {body : Body} (g : Given slot
 
   pub cells-cost : (n : ℕ) → 0 < n → rounds_cost (all_rounds n steps) ≤ n * bound + length b.states
   cells-cost n lt =
-      let a = turn-carried start held.start.some in
-      let e = turn-carried each held.each.some in
-      let l = turn-carried last held.last.some in
       let begins = held.start.few in
       let round = held.each.few in
       let ends = held.last.few in
       let row = count-flow body.writes in
       let some = held.holds.last in
-      within turn_cost n lt (omega (arith, a, begins))
-      (omega (arith, e, round, some, writes-long each-does))
-      (omega (arith, l, ends, row, last-count, writes-long last-does))
+      within turn_cost n lt (omega (arith, begins))
+      (omega (arith, round, some, writes-long each-does))
+      (omega (arith, ends, row, last-count, writes-long last-does))
 
   cells-plain : (n : ℕ) → 0 < n → plain_costs (all_rounds n steps) ≤ n * bound + length b.states
   cells-plain n lt =
@@ -424,8 +411,7 @@ module _ {slots : Slots} {fb fw : ℕ} {b : Block} {body : Body} (g : Given slot
           first = rows-first each.writes (omega (arith, ends));
           written = held.holds.long;
           read = λ k l e. omega (arith, l, full);
-        }) (carried each _ held.each (node-plain each held.holds.nodes held.holds.long))
-        (λ bare has. absurd (let c = some-carried each held.each.some in cc)) most
+        }) (commands each _ held.each (node-plain each held.holds.nodes held.holds.long)) most
 
     last-small : IsSmall last
     last-small =
@@ -435,14 +421,12 @@ module _ {slots : Slots} {fb fw : ℕ} {b : Block} {body : Body} (g : Given slot
           first = rows-first last.writes (omega (arith, last-count));
           written = long;
           read = λ k l e. omega (arith, l, full);
-        }) (carried last _ held.last (let n = node-plain last held.holds.nodes long in
-        let c = count-flow body.writes in omega (arith, n, c)))
-        (λ bare has. absurd (let c = some-carried last held.last.some in cc)) most
+        }) (commands last _ held.last (let n = node-plain last held.holds.nodes long in
+        let c = count-flow body.writes in omega (arith, n, c))) most
 
     start-small : IsSmall start
     start-small = lone-small h.start (cell_place w) cmds.start refl
-        (carried start 1 held.start (let p = start-plain h cmds in omega (arith, p)))
-        (λ bare. absurd (let c = some-carried start held.start.some in cc))
+        (commands start 1 held.start (let p = start-plain h cmds in omega (arith, p)))
 
     start-turn : (n : ℕ) (regs : List ℕ)
         → IsRound (may_have n) n (record { part = start; i = 0; o = 0; regs = regs })

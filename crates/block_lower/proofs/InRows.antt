@@ -19,7 +19,7 @@ use Rattle.loop_ir.specs.Plain.{Block as Body, StepOf, AllParts}
 use Rattle.loop_ir.specs.Plain.StepOf.{Single, Along}
 use Rattle.loop_ir.specs.Loops.{RoundOf, round_at, one_round, rounds, all_rounds, sub_value}
 use Rattle.loop_ir.specs.Spots.{Spot, IsOwn, is_state, after_rounds}
-use Rattle.loop_ir.specs.WellFormed.{AreWellFormed}
+use Rattle.loop_ir.specs.WellFormed.{IsWellFormed, AreWellFormed}
 use Rattle.loop_ir.specs.Costs.{body_cost, turn_cost, plain_cost, single_cost, step_cost, code_cost}
 use Rattle.loop_ir.specs.Costs.{step_bodies, bodies, rounds_cost, plain_costs}
 use Rattle.loop_ir.specs.Limits.{IsSmall, may_stand, step_stands, IsRound, StepHasValues}
@@ -27,10 +27,10 @@ use Rattle.loop_ir.specs.Limits.{CanCompile}
 use Rattle.loop_ir.specs.Statements.{Slots}
 use Rattle.loop_ir.specs.Lowered.{IsStatementRow, IsLowered}
 use Rattle.loop_laws.proofs.Summed.{rounds_sum, steps_sum, sum_is}
-use Rattle.loop_laws.proofs.Costing.{plain-most, turn-most}
+use Rattle.loop_laws.proofs.Costing.{plain-most}
 use Rattle.loop_laws.proofs.NoStates.{HasRows, has_rows, rows_fit, no_state_sought}
 use Rattle.block_lower.specs.Inputs.{block_inputs}
-use Rattle.block_lower.specs.Choice.{AreFor}
+use Rattle.block_lower.specs.Choice.{HasFound, AreFor}
 use Rattle.block_lower.specs.Form.{kind_sub, place_of, constant, start, row_steps, IsBlockBody}
 use Rattle.block_lower.specs.Form.{IsBlockProgram}
 use Rattle.block_lower.proofs.Rows.{slot_or, row_of}
@@ -42,9 +42,10 @@ use Rattle.block_lower.proofs.Visits.{writes-long, reads-long, write-place, read
 use Rattle.block_lower.proofs.Starts.{started, starts-do, state-at, begins, AreStates, head-state}
 use Rattle.block_lower.proofs.Starts.{tail-states}
 use Rattle.block_lower.proofs.Ends.{does-block}
-use Rattle.block_lower.proofs.Carried.{is-carried, carried-most}
+use Rattle.block_lower.proofs.Carried.{found-most, has-commands, is-found}
 use Rattle.block_lower.proofs.Bodies.{HasSub, uses, others, all-subs, body-small, turn-round}
 use Rattle.block_lower.proofs.Bodies.{turn-well, lone-well, lone-small, lone-turn}
+use Rattle.block_lower.proofs.Constants.{constant-plain, constant-commands}
 
 -- the places of names
 place-space : (down : Bool) (o : Option Slot) → (place_of down o).space ≡ (slot_or o).space
@@ -84,14 +85,6 @@ module _ (v : Bool) (p : Place) (e : p.sub ≡ Zero) where
   lone-code : single_cost (constant v p) ≡ 3
   lone-code = rw e refl
 
-lone-plain : (v : Bool) (p : Place) → is_state p.space ≡ false → plain_cost (constant v p) ≡ 1
-lone-plain true p e = refl
-lone-plain false p e = refl
-
-lone-cost : (v : Bool) (p : Place) → is_state p.space ≡ false → turn_cost (constant v p) ≡ 1
-lone-cost true p e = rw e refl
-lone-cost false p e = rw e refl
-
 rounds-all : (P : RoundOf Body → Type 0) (body : Body) (n count i : ℕ) → i + count ≡ n
     → ((j : ℕ) → j < n → P (round_at body j 0))
     → AllByRecursion P (rounds (λ j. one_round body j 0) i count)
@@ -129,7 +122,6 @@ module _ {slots : Slots} {fb fw : ℕ} {b : Block} (g : Given slots fb fw b) whe
       ∙ ap (kind_sub b.down) (state-kind g x e)
 
   module _ {body : Body} (is : IsBlockBody slots b body)
-      (for : AreFor body.reads body.writes body.graph body.outs body.found)
       (most : length (block_inputs b) ≤ 80) where
     abbrev at : List ℕ → Place
     at = row_place slots b
@@ -152,148 +144,160 @@ module _ {slots : Slots} {fb fw : ℕ} {b : Block} (g : Given slots fb fw b) whe
         ap (λ (p : Place). is_state p.space) (write-place does j m)
         ∙ name-row (target b j) (target-named b j m))
 
-    -- what is kept by the starts of so many states, and the body at each position
-    record Kept (count : ℕ) (steps : List (StepOf Body)) : Type 0 where
-      well : AreWellFormed steps
-      small : AllParts IsSmall steps
-      rows : AllParts HasRows steps
-      stand : list_all step_stands steps ≡ true
-      values : AllByRecursion (StepHasValues may_have) steps
-      rounds : (n : ℕ) → 0 < n → AllByRecursion (IsRound (may_have n) n) (all_rounds n steps)
-      size : code_cost steps ≡ 3 * count + (body_cost body + 15)
-      few : bodies steps ≡ count + 1
-      sums : (f : Body → ℕ)
-          → ((v : Bool) (p : Place) → is_state p.space ≡ false → f (constant v p) ≡ 1)
-          → (n : ℕ) → steps_sum f n steps ≡ count + n * f body
+    body-well : IsWellFormed body
+    body-well = turn-well g (row-turn is 1 0) subs subs (low-sub b.down)
 
-    last : Kept 0 (Along body ∷ [])
-    last =
-        let well = turn-well g (row-turn is 1 0) subs subs (low-sub b.down) in
-        let written = is.as_many ∙ sym (writes-long does) in
-        record {
-          well = (well, tt);
-          small = (
-            body-small does subs subs g (uses-few b.down) well (rows_fit body body-rows written)
-                (is-carried body body-rows is.graph written for)
-                (λ bare has. absurd (let none = body-rows in cc)) most,
-            tt,
-          );
-          rows = (body-rows, tt);
-          stand = and_from (step_stands (Along body)) true
-              (all-subs does subs subs (may_stand true false) refl (word-stands b.down)) refl;
-          values = (tt, tt);
-          rounds = λ n lt. subst (AllByRecursion (IsRound (may_have n) n))
-              (sym (append-nil (rounds (λ j. one_round body j 0) 0 n)))
-              (rounds-all (IsRound (may_have n) n) body n n 0 (omega arith) (λ j l.
-              turn-round g (row-turn is n j) l));
-          size = sum_by-cons step_cost (Along body) [] ∙ omega arith;
-          few = sum_by-cons step_bodies (Along body) [];
-          sums = λ f one n. omega arith;
-        }
+    -- there are commands for it
+    pub body-found : AreFor body.reads body.writes body.graph body.outs body.found
+        → HasFound body.reads body.writes body.graph body.outs body.found
+    body-found =
+        let i = is.inputs in
+        let m = is.as_many in
+        let k = is.nodes in
+        let a = g.meets.assigns in
+        let w = g.meets.weight in
+        is-found body body-well (omega (arith, i, most)) (omega (arith, m, a))
+        (omega (arith, m, a, k, w))
 
-    more : (s : State) (count : ℕ) (steps : List (StepOf Body)) → IsState b s.name
-        → Kept count steps → Kept (suc count) (start slots b.down s ∷ steps)
-    more s count steps e k =
-        let p = row_place slots b s.name in
-        let row = name-row s.name (state-named b s.name e) in
-        let zero = state-sub s.name e in
-        record {
-          well = (lone-well s.start p [], k.well);
-          small = (lone-small s.start p [] zero (λ c. absurd cc) (λ c. row), k.small);
-          rows = (or_from (is_state p.space) false row refl, k.rows);
-          stand = and_from (step_stands (start slots b.down s)) _ (lone-stands s.start p zero)
-              k.stand;
-          values = (tt, k.values);
-          rounds = λ n lt. (
-            lone-turn s.start p [] (may_have n) n []
-                (λ r. subst (may_have n) (sym (state-at g n s.name e)) (stand-had g (in_rows b) n 0
-                s.name lt (state-named b s.name e)
-                (row-space g n (row_of 0 (slot_or (slots s.name)).kind) s.name
-                (state-named b s.name e))))
-                (subst (λ (q : Spot). IsOwn q.space) (sym (state-at g n s.name e))
-                (stand-own g (in_rows b) n 0 s.name (state-written b s.name e))),
-            k.rounds n lt,
-          );
-          size = let m = sum_by-cons step_cost (start slots b.down s) steps in
-              let c = lone-code s.start p zero in let h = k.size in omega (arith, m, c, h);
-          few = let m = sum_by-cons step_bodies (start slots b.down s) steps in let h = k.few in
-              omega (arith, m, h);
-          sums = λ f one n. let h = k.sums f one n in let c = one s.start p row in
-              omega (arith, h, c);
-        }
+    module _ (for : HasFound body.reads body.writes body.graph body.outs body.found) where
+      -- what is kept by the starts of so many states, and the body at each position
+      record Kept (count : ℕ) (steps : List (StepOf Body)) : Type 0 where
+        well : AreWellFormed steps
+        small : AllParts IsSmall steps
+        rows : AllParts HasRows steps
+        stand : list_all step_stands steps ≡ true
+        values : AllByRecursion (StepHasValues may_have) steps
+        rounds : (n : ℕ) → 0 < n → AllByRecursion (IsRound (may_have n) n) (all_rounds n steps)
+        size : code_cost steps ≡ 3 * count + (body_cost body + 15)
+        few : bodies steps ≡ count + 1
+        sums : (f : Body → ℕ) → ((v : Bool) (p : Place) → f (constant v p) ≡ 1) → (n : ℕ)
+            → steps_sum f n steps ≡ count + n * f body
 
-    all-kept : (ss : List State) → AreStates b ss
-        → Kept (length ss) (map (start slots b.down) ss ++ Along body ∷ [])
-    all-kept [] all = last
-    all-kept (s ∷ ss) all = more s (length ss) (map (start slots b.down) ss ++ Along body ∷ [])
-        (head-state b s ss all) (all-kept ss (tail-states b s ss all))
+      last : Kept 0 (Along body ∷ [])
+      last =
+          let written = is.as_many ∙ sym (writes-long does) in
+          record {
+            well = (body-well, tt);
+            small = (
+              body-small does subs subs g (uses-few b.down) body-well
+                  (rows_fit body body-rows written)
+                  (has-commands body body-rows is.graph written for) most,
+              tt,
+            );
+            rows = (body-rows, tt);
+            stand = and_from (step_stands (Along body)) true
+                (all-subs does subs subs (may_stand true false) refl (word-stands b.down)) refl;
+            values = (tt, tt);
+            rounds = λ n lt. subst (AllByRecursion (IsRound (may_have n) n))
+                (sym (append-nil (rounds (λ j. one_round body j 0) 0 n)))
+                (rounds-all (IsRound (may_have n) n) body n n 0 (omega arith) (λ j l.
+                turn-round g (row-turn is n j) l));
+            size = sum_by-cons step_cost (Along body) [] ∙ omega arith;
+            few = sum_by-cons step_bodies (Along body) [];
+            sums = λ f one n. omega arith;
+          }
 
-    abbrev steps : List (StepOf Body)
-    steps = row_steps slots b.down b.states body
+      more : (s : State) (count : ℕ) (steps : List (StepOf Body)) → IsState b s.name
+          → Kept count steps → Kept (suc count) (start slots b.down s ∷ steps)
+      more s count steps e k =
+          let p = row_place slots b s.name in
+          let row = name-row s.name (state-named b s.name e) in
+          let zero = state-sub s.name e in
+          record {
+            well = (lone-well s.start p _, k.well);
+            small = (lone-small s.start p _ zero (constant-commands s.start p row), k.small);
+            rows = (or_from (is_state p.space) false row refl, k.rows);
+            stand = and_from (step_stands (start slots b.down s)) _ (lone-stands s.start p zero)
+                k.stand;
+            values = (tt, k.values);
+            rounds = λ n lt. (
+              lone-turn s.start p _ (may_have n) n []
+                  (λ r. subst (may_have n) (sym (state-at g n s.name e)) (stand-had g (in_rows b) n 0
+                  s.name lt (state-named b s.name e)
+                  (row-space g n (row_of 0 (slot_or (slots s.name)).kind) s.name
+                  (state-named b s.name e))))
+                  (subst (λ (q : Spot). IsOwn q.space) (sym (state-at g n s.name e))
+                  (stand-own g (in_rows b) n 0 s.name (state-written b s.name e))),
+              k.rounds n lt,
+            );
+            size = let m = sum_by-cons step_cost (start slots b.down s) steps in
+                let c = lone-code s.start p zero in let h = k.size in omega (arith, m, c, h);
+            few = let m = sum_by-cons step_bodies (start slots b.down s) steps in let h = k.few in
+                omega (arith, m, h);
+            sums = λ f one n. let h = k.sums f one n in let c = one s.start p in omega (arith, h, c);
+          }
 
-    kept : Kept (length b.states) steps
-    kept = all-kept b.states (λ x e. e)
+      all-kept : (ss : List State) → AreStates b ss
+          → Kept (length ss) (map (start slots b.down) ss ++ Along body ∷ [])
+      all-kept [] all = last
+      all-kept (s ∷ ss) all = more s (length ss) (map (start slots b.down) ss ++ Along body ∷ [])
+          (head-state b s ss all) (all-kept ss (tail-states b s ss all))
 
-    -- what the rounds take
-    pub row-turns : (n : ℕ)
-        → rounds_cost (all_rounds n steps) ≡ length b.states + n * turn_cost body
-    row-turns n = sum_is turn_cost n steps ∙ kept.sums turn_cost lone-cost n
+      abbrev steps : List (StepOf Body)
+      steps = row_steps slots b.down b.states body
 
-    abbrev bound : ℕ → ℕ
-    bound n = n * (4 * length body.graph.nodes + 3 * length b.assigns) + length b.states
+      kept : Kept (length b.states) steps
+      kept = all-kept b.states (λ x e. e)
 
-    row-within : (f : Body → ℕ)
-        → ((v : Bool) (p : Place) → is_state p.space ≡ false → f (constant v p) ≡ 1)
-        → f body ≤ 4 * length body.graph.nodes + 3 * length b.assigns → (n : ℕ)
-        → rounds_sum f (all_rounds n steps) ≤ bound n
-    row-within f one l n =
-        let s = sum_is f n steps ∙ kept.sums f one n in
-        let e = mul-le-mul_left n l in
-        omega (arith, s, e)
+      -- what the rounds take
+      pub row-turns : (n : ℕ)
+          → rounds_cost (all_rounds n steps) ≡ length b.states + n * turn_cost body
+      row-turns n = sum_is turn_cost n steps ∙ kept.sums turn_cost (λ v p. refl) n
 
-    row-cost : (n : ℕ) → rounds_cost (all_rounds n steps) ≤ bound n
-    row-cost = let m = is.as_many in row-within turn_cost lone-cost
-        (let t = turn-most body (carried-most body for) in omega (arith, t, m))
+      abbrev bound : ℕ → ℕ
+      bound n = n * (4 * length body.graph.nodes + 3 * length b.assigns) + length b.states
 
-    row-plain : (n : ℕ) → plain_costs (all_rounds n steps) ≤ bound n
-    row-plain = let m = is.as_many in row-within plain_cost lone-plain
-        (let t = plain-most body in omega (arith, t, m))
+      row-within : (f : Body → ℕ) → ((v : Bool) (p : Place) → f (constant v p) ≡ 1)
+          → f body ≤ 4 * length body.graph.nodes + 3 * length b.assigns → (n : ℕ)
+          → rounds_sum f (all_rounds n steps) ≤ bound n
+      row-within f one l n =
+          let s = sum_is f n steps ∙ kept.sums f one n in
+          let e = mul-le-mul_left n l in
+          omega (arith, s, e)
 
-    can : CanCompile may_have steps
-    can = record {
-      small = kept.small;
-      find = no_state_sought [] steps kept.rows;
-      stand = kept.stand;
-      values = kept.values;
-      rounds = λ n lt wide. kept.rounds n lt;
-      size = let c = kept.size in let s = g.meets.states in let m = is.as_many in
-          let a = g.meets.assigns in let w = g.meets.weight in let k = is.nodes in
-          omega (arith, c, s, m, a, w, k);
-      few = let c = kept.few in let s = g.meets.states in omega (arith, c, s);
-    }
+      row-cost : (n : ℕ) → rounds_cost (all_rounds n steps) ≤ bound n
+      row-cost = let m = is.as_many in row-within turn_cost (λ v p. refl)
+          (let t = found-most body for in omega (arith, t, m))
 
-    pub row-lowered : IsLowered slots fb fw (Visit b) steps
-    row-lowered = record {
-      well = kept.well;
-      can = can;
-      does = λ n lt wide. does-block g n steps (λ old bits all.
-          let first = started (in_rows b) slots n b.states bits in
-          subst (Stands slots (in_rows b) n old bits n _) (sym (starts-do g n b.states (λ x e. e)
-          (Along body ∷ []) bits
-          ∙ ap (λ rs. after_rounds n rs first) (append-nil (rounds (λ j. one_round body j 0) 0 n))))
-          (row-visits g is all n 0 (omega arith) _ first (begins g n (in_rows b) lt old bits)));
-      cheap = λ n lt wide. within-ceiling is n (rounds_cost (all_rounds n steps)) (row-cost n);
-      plain = λ n lt wide. within-ceiling is n (plain_costs (all_rounds n steps)) (row-plain n);
-    }
+      row-plain : (n : ℕ) → plain_costs (all_rounds n steps) ≤ bound n
+      row-plain = let m = is.as_many in row-within plain_cost constant-plain
+          (let t = plain-most body in omega (arith, t, m))
 
-    pub row-program : IsBlockProgram slots b steps
-    row-program = record {
-      row = body;
-      row_is = is;
-      found = for;
-      body = body;
-      is = is;
-      form = inl (refl, refl);
-      cost = λ n lt. row-cost n;
-      no_dearer = λ n lt. omega arith;
-    }
+      can : CanCompile may_have steps
+      can = record {
+        small = kept.small;
+        find = no_state_sought [] steps kept.rows;
+        stand = kept.stand;
+        values = kept.values;
+        rounds = λ n lt wide. kept.rounds n lt;
+        size = let c = kept.size in let s = g.meets.states in let m = is.as_many in
+            let a = g.meets.assigns in let w = g.meets.weight in let k = is.nodes in
+            omega (arith, c, s, m, a, w, k);
+        few = let c = kept.few in let s = g.meets.states in omega (arith, c, s);
+      }
+
+      pub row-lowered : IsLowered slots fb fw (Visit b) steps
+      row-lowered = record {
+        well = kept.well;
+        can = can;
+        does = λ n lt wide. does-block g n steps (λ old bits all.
+            let first = started (in_rows b) slots n b.states bits in
+            subst (Stands slots (in_rows b) n old bits n _) (sym (starts-do g n b.states (λ x e. e)
+            (Along body ∷ []) bits
+            ∙ ap (λ rs. after_rounds n rs first) (append-nil (rounds (λ j. one_round body j 0) 0 n))))
+            (row-visits g is all n 0 (omega arith) _ first (begins g n (in_rows b) lt old bits)));
+        cheap = λ n lt wide. within-ceiling is n (rounds_cost (all_rounds n steps)) (row-cost n);
+        plain = λ n lt wide. within-ceiling is n (plain_costs (all_rounds n steps)) (row-plain n);
+      }
+
+      pub row-program : IsBlockProgram slots b steps
+      row-program = record {
+        row = body;
+        row_is = is;
+        found = for;
+        body = body;
+        is = is;
+        form = inl (refl, refl);
+        cost = λ n lt. row-cost n;
+        no_dearer = λ n lt. omega arith;
+      }

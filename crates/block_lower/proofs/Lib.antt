@@ -12,6 +12,7 @@ mod Starts
 mod Ends
 mod Carried
 mod Bodies
+mod Constants
 mod InRows
 mod EachLast
 mod InCells

@@ -14,14 +14,13 @@ use Rattle.loop_ir.specs.Statements.{Slots}
 use Rattle.loop_ir.specs.Lowered.{IsLowered}
 use Rattle.block_lower.specs.Inputs.{block_inputs}
 use Rattle.block_lower.specs.declared.held.HeldLoop.{HeldLoop}
-use Rattle.block_lower.specs.Held.{IsHeldOne, IsLoopFor, held_start, held_body, held_last}
-use Rattle.block_lower.specs.Held.{held_steps, commands_in}
-use Rattle.block_lower.specs.Choice.{AreFor, IsOther}
+use Rattle.block_lower.specs.Held.{IsHeldOne, IsLoopFor, held_steps, commands_in}
+use Rattle.block_lower.specs.Choice.{HasFound, IsOther}
 use Rattle.block_lower.specs.Form.{place_of, home, row_steps, IsBlockBody, IsInCells, IsChosen}
 use Rattle.block_lower.specs.Form.{IsBlockProgram}
 use Rattle.block_lower.proofs.Facts.{Given}
 use Rattle.block_lower.proofs.InRows.{row-turns, row-lowered, row-program}
-use Rattle.block_lower.proofs.InCells.{turn-carried, flow-sum, cells-cost, cells-lowered}
+use Rattle.block_lower.proofs.InCells.{flow-sum, cells-cost, cells-lowered}
 
 -- a body at the same places of a graph that may stand for the block's is one of the block
 other-is : {slots : Slots} {b : Block} {body other : Body} → IsBlockBody slots b body
@@ -43,8 +42,9 @@ other-is {b = b} {body = body} {other = other} is o = record {
 
 -- the chosen steps do the block
 module _ {slots : Slots} {fb fw : ℕ} {b : Block} {row : Body} (g : Given slots fb fw b)
-    (is : IsBlockBody slots b row) (for : AreFor row.reads row.writes row.graph row.outs row.found)
-    (most : length (block_inputs b) ≤ 80) (steps : List (StepOf Body)) where
+    (is : IsBlockBody slots b row) (most : length (block_inputs b) ≤ 80)
+    (for : HasFound row.reads row.writes row.graph row.outs row.found)
+    (steps : List (StepOf Body)) where
   -- with the state in cells
   module _ {body : Body} (does : IsBlockBody slots b body)
       (t : IsInCells slots b.down b.states row body steps) where
@@ -53,22 +53,16 @@ module _ {slots : Slots} {fb fw : ℕ} {b : Block} {row : Body} (g : Given slots
         ≤ rounds_cost (all_rounds n (row_steps slots b.down b.states row))
     no-dearer zero lt = absurd (omega (arith, lt))
     no-dearer (suc m) lt =
-        let h = home slots b.down t.state t.cells in
         let held = t.held in
         let fewer = t.fewer in
         let ends = t.last in
         let begins = held.start.few in
         let z = flow-sum g does t.state t.one t.cells t.cmds held turn_cost m in
-        let a = turn-carried (held_start h t.cmds.start) held.start.some in
-        let e = turn-carried (held_body h body t.cmds.each) held.each.some in
-        let c = turn-carried (held_last h body t.cmds.last) held.last.some in
-        let r = turn-carried row (omega (arith, fewer)) in
-        let k = row-turns g is for most (suc m) in
+        let k = row-turns g is most for (suc m) in
         let s = ap length t.one in
-        let l : turn_cost (held_body h body t.cmds.each) ≤ turn_cost row =
-        omega (arith, e, r, fewer) in
+        let l : length t.cmds.each ≤ length row.found = omega (arith, fewer) in
         let p = mul-le-mul_left m l in
-        omega (arith, z, a, c, r, k, s, begins, ends, p)
+        omega (arith, z, k, s, begins, ends, p)
 
     cells-program : IsBlockProgram slots b steps
     cells-program = record {
@@ -95,14 +89,14 @@ module _ {slots : Slots} {fb fw : ℕ} {b : Block} {row : Body} (g : Given slots
 
     pub chosen-lowered : IsLowered slots fb fw (Visit b) steps
     chosen-lowered = elim t.form [
-      | inl e ↦ subst (IsLowered slots fb fw (Visit b)) (sym e.1) (row-lowered g is for most)
+      | inl e ↦ subst (IsLowered slots fb fw (Visit b)) (sym e.1) (row-lowered g is most for)
       | inr c ↦ subst (IsLowered slots fb fw (Visit b)) (sym c.form)
           (cells-lowered g chosen-is c.state c.one c.cells c.cmds c.held most)
     ]
 
     pub chosen-program : IsBlockProgram slots b steps
     chosen-program = elim t.form [
-      | inl e ↦ subst (IsBlockProgram slots b) (sym e.1) (row-program g is for most)
+      | inl e ↦ subst (IsBlockProgram slots b) (sym e.1) (row-program g is most for)
       | inr c ↦ cells-program chosen-is c
     ]
 

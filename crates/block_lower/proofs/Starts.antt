@@ -17,7 +17,7 @@ use Rattle.loop_ir.specs.Spots.{Spot, Spots, is_state, set_spot, spot_at, after_
 use Rattle.loop_ir.specs.Statements.{Slots, written_names}
 use Rattle.loop_ir.specs.Lowered.{IsRowOf}
 use Rattle.loop_laws.proofs.Same.{set_same, set_other}
-use Rattle.block_lower.specs.Form.{place_of, start}
+use Rattle.block_lower.specs.Form.{place_of, constant, start}
 use Rattle.block_lower.proofs.Names.{name-true, name-same, cases_name}
 use Rattle.block_lower.proofs.Rows.{position, place-row}
 use Rattle.block_lower.proofs.Facts.{Given, IsState, IsWord, state-written, state-named}
@@ -78,7 +78,8 @@ module _ {slots : Slots} {fb fw : ℕ} {b : Block} (g : Given slots fb fw b) (n 
   starts-do [] all more bits = refl
   starts-do (s ∷ ss) all more bits =
       ap (after_rounds n (all_rounds n (map (start slots b.down) ss ++ more)))
-      (lone-does n s.start (place_of b.down (slots s.name)) [] [] bits
+      (lone-does n s.start (place_of b.down (slots s.name))
+      (constant s.start (place_of b.down (slots s.name))).found [] bits
       ∙ ap (λ q. set_spot bits q s.start) (state-at s.name (head-state b s ss all)))
       ∙ starts-do ss (tail-states b s ss all) more
       (set_spot bits (stand (in_rows b) slots n 0 s.name) s.start)

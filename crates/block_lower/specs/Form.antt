@@ -8,6 +8,8 @@ use Rattle.mig_graph.specs.declared.Lit.{Lit}
 use Rattle.mig_graph.specs.Graph.{IsGraph}
 use Rattle.mig_graph.specs.Outputs.{AreNamed}
 use Rattle.mig_graph.specs.Reduced.{IsReduced}
+use Rattle.row_alloc.specs.declared.body.BodyRef.TheVariants.{C, Out}
+use Rattle.row_alloc.specs.declared.body.BodyCmd.TheVariants.{Aap}
 use Rattle.op_text.specs.declared.tree.Kind.{Kind}
 use Rattle.op_text.specs.declared.tree.Kind.TheVariants.{Word, Bit}
 use Rattle.op_text.specs.declared.tree.State.{State}
@@ -26,7 +28,7 @@ use Rattle.loop_ir.specs.Costs.{rounds_cost}
 use Rattle.loop_ir.specs.Spots.{gives}
 use Rattle.loop_ir.specs.Statements.{Slots, targets_of}
 use Rattle.block_lower.specs.Inputs.{block_inputs, name_at}
-use Rattle.block_lower.specs.Choice.{AreFor, IsOther}
+use Rattle.block_lower.specs.Choice.{HasFound, IsOther}
 use Rattle.block_lower.specs.declared.home.Home.{Home}
 use Rattle.block_lower.specs.Held.{HeldCommands, held_steps, IsHeldOne}
 
@@ -45,7 +47,7 @@ place_of down (Some x) = record { space = x.space; which = x.which; sub = kind_s
 abbrev pub places_of : Slots → Bool → List (List ℕ) → List Place
 places_of slots down names = map (λ name. place_of down (slots name)) names
 
--- the constant, without reads and nodes
+-- the constant, without reads and nodes: one command copies it
 abbrev pub constant : Bool → Place → Body
 constant value p = let l : Lit = record { node = 0; inverted = value } in
     record {
@@ -53,7 +55,7 @@ constant value p = let l : Lit = record { node = 0; inverted = value } in
       graph = record { inputs = 0; nodes = [] };
       outs = l ∷ [];
       writes = p ∷ [];
-      found = [];
+      found = Aap (C (if value then 1 else 0)) (Out 0) ∷ [];
     }
 
 -- a state's start
@@ -91,8 +93,8 @@ abbrev pub row_steps : Slots → Bool → List State → Body → List (StepOf B
 row_steps slots down states body = map (start slots down) states ++ Along body ∷ []
 
 -- The one state of a block stands in cells: its start goes into them, and the body is done at each
--- position, which at the top one leaves the state in its row. Each of these carries its commands:
--- fewer than the body with its state in a row carries, or at the top position no more
+-- position, which at the top one leaves the state in its row. At each position it takes fewer
+-- commands than the body with its state in a row, and at the top one no more
 pub record IsInCells (slots : Slots) (down : Bool) (states : List State) (row body : Body)
     (steps : List (StepOf Body)) : Type 0 where
   pub state : State
@@ -123,7 +125,7 @@ pub record IsChosen (slots : Slots) (down : Bool) (states : List State) (row : B
 pub record IsBlockProgram (slots : Slots) (b : Block) (steps : List (StepOf Body)) : Type 0 where
   pub row : Body
   pub row_is : IsBlockBody slots b row
-  pub found : AreFor row.reads row.writes row.graph row.outs row.found
+  pub found : HasFound row.reads row.writes row.graph row.outs row.found
   pub body : Body
   pub is : IsBlockBody slots b body
   pub form : AreStepsOf slots b.down b.states row body steps

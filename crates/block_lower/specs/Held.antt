@@ -94,9 +94,8 @@ abbrev pub held_steps : Home → Body → HeldCommands → List (StepOf Body)
 held_steps h b cmds = Flowed (each_last (held_start h cmds.start) (held_body h b cmds.each)
     (held_last h b cmds.last)) ∷ []
 
--- the body carries commands, at most so many, and they do it wherever its rows lie
+-- the commands that the body carries do it wherever its rows lie, and are at most so many
 pub record CarriesRight (b : Body) (most : ℕ) : Type 0 where
-  pub some : 0 < length b.found
   pub does : (outs : List OutRow) → IsOuts b (row_count b.writes) outs
       → DoesHeld b.graph outs (enters 0 b.reads) (leaves b.writes b.outs) b.found
   pub few : length b.found ≤ most
@@ -115,7 +114,7 @@ pub record HoldsOne (w : ℕ) (b : Body) : Type 0 where
   pub reads : stand_in w b.reads ≡ true
   pub writes : stand_in w b.writes ≡ true
 
--- The loop of a body with one state in cells: each of its bodies carries its commands
+-- The loop of a body with one state in cells: the commands of each of its bodies do it
 pub record IsHeldOne (h : Home) (b : Body) (cmds : HeldCommands) : Type 0 where
   pub holds : HoldsOne h.cells (held_body h b cmds.each)
   pub start : CarriesRight (held_start h cmds.start) 1

@@ -17,26 +17,30 @@ use faults::keep;
 use loop_ir::{Body, NameMap, Place};
 use mig_graph::{Lit, Mig, MigOuts, NoMemory, from_aoi};
 use op_text::Assign;
+use row_alloc::{BodyCmd, BodyRef};
 use std::alloc::Global;
 
-/// The body that writes a constant.
+/// The body that writes a constant, by the one command that copies it.
 pub(crate) fn constant(value: bool, place: Place, alloc: Global) -> Result<Body, NoMemory>
     ensures { IfOk result (λ r. block_of r ≡ constant value place) }
 {
     let mut outs = Vec::new(alloc);
     let mut writes = Vec::new(alloc);
+    let mut found = Vec::new(alloc);
     let lit = Lit {
         node: 0,
         inverted: value,
     };
+    let copy = BodyCmd::Aap(BodyRef::C(u8::from(value)), BodyRef::Out(0));
     keep(&mut outs, lit)?;
     keep(&mut writes, place)?;
+    keep(&mut found, copy)?;
     let mig = Mig::new(0, alloc)?;
     Ok(Body {
         reads: Vec::new(alloc),
         graph: MigOuts { mig, outs },
         writes,
-        found: Vec::new(alloc),
+        found,
     })
 }
 

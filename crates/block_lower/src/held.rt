@@ -69,10 +69,7 @@ fn commands_for(
     let rows = out_rows(graph, reads, writes, row_count(writes), alloc)?;
     let enter = enters(reads, alloc)?;
     let leave = leaves(writes, &graph.outs, alloc)?;
-    match held_commands_of(&graph.mig, &rows, &enter, &leave, search, most, alloc)? {
-        Some(cmds) if !cmds.is_empty() => Ok(Some(cmds)),
-        _ => Ok(None),
-    }
+    held_commands_of(&graph.mig, &rows, &enter, &leave, search, most, alloc)
 }
 
 /// The body that gives the state its start in cells.

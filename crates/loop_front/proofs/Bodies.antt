@@ -1,7 +1,7 @@
 -- The subscripts of a body's places, their registers, and the body whose indices are in registers.
 use Rattle.std.proofs.Common.{◌≡◌, ℕ, zero, suc, ◌+◌, ◌<◌, Bool, true, false, cond, List, [], ◌∷◌}
 use Rattle.std.proofs.Common.{◌++◌, map, length, refl, sym, ap, ◌∙◌, subst, arith, inl, inr, ◌≤◌}
-use Rattle.std.specs.Prelude.{filter, nat_lt, ◌||◌, ◌&&◌, is_some}
+use Rattle.std.specs.Prelude.{filter, nat_lt, ◌||◌, ◌&&◌}
 use Rattle.std.specs.List.{AllByRecursion, list_all, list_any}
 use Rattle.std.proofs.lemmas.Bool.{and_parts, cases_Bool, or_from, ltb-true, ne_eqb, eq-eqb}
 use Rattle.std.proofs.lemmas.Bool.{and_from, lt-ltb}
@@ -15,7 +15,7 @@ use Rattle.loop_ir.specs.declared.ir.Place.{Place}
 use Rattle.loop_ir.specs.Plain.{Block}
 use Rattle.loop_ir.specs.Spots.{nth_place, is_state, Spot, IsOwn}
 use Rattle.loop_ir.specs.Costs.{same_sub, sub_code, is_used, is_fixed, used_subs, plain_cost}
-use Rattle.loop_ir.specs.Limits.{may_stand, all_stand, IsCarried, IsSmall, IsHad, HasValues}
+use Rattle.loop_ir.specs.Limits.{may_stand, all_stand, HasCommands, IsSmall, IsHad, HasValues}
 use Rattle.loop_ir.specs.Limits.{is_in_register, stays_in_registers}
 use Rattle.loop_laws.proofs.Same.{sub_true}
 use Rattle.loop_front.specs.Front.{in_register, placed, in_registers}
@@ -23,11 +23,9 @@ use Rattle.std.proofs.lemmas.List.{length-map}
 use Rattle.mig_graph.specs.declared.Lit.{Lit}
 use Rattle.row_alloc.specs.declared.body.OutRow.{OutRow}
 use Rattle.row_alloc.specs.Held.{DoesHeld}
-use Rattle.row_alloc.specs.HeldBodies.{HeldBody}
 use Rattle.loop_ir.specs.WellFormed.{IsOneValue, IsWellFormed}
 use Rattle.loop_ir.specs.Outputs.{IsOuts}
-use Rattle.loop_ir.specs.States.{row_count, enters, leaves, row_outs, StatesFit, held_among}
-use Rattle.loop_ir.specs.States.{held_bodies}
+use Rattle.loop_ir.specs.States.{row_count, enters, leaves, row_outs, StatesFit}
 
 pub nth_map : (f : Place → Place) (ps : List Place) (k : ℕ) → k < length ps
     → nth_place (map f ps) k ≡ f (nth_place ps k)
@@ -237,21 +235,6 @@ module _ (f : Sub → Sub) where
   outs_other (p ∷ ps) [] = refl
   outs_other (p ∷ ps) (l ∷ ls) = rw (outs_other ps ls) refl
 
-  any_other : (ps qs : List Place) → list_any (λ p. is_state p.space) (map resub ps ++ map resub qs)
-      ≡ list_any (λ p. is_state p.space) (ps ++ qs)
-  any_other [] [] = refl
-  any_other [] (q ∷ qs) = ap (λ t. is_state q.space || t) (any_other [] qs)
-  any_other (p ∷ ps) qs = ap (λ t. is_state p.space || t) (any_other ps qs)
-
-  held_other : (hs : List HeldBody) (b : Block) → held_among hs (other b) ≡ held_among hs b
-  held_other [] b = refl
-  held_other (h ∷ hs) b = rw (
-    held_other hs b,
-    outs_other b.writes b.outs,
-    enters_other 0 b.reads,
-    leaves_other b.writes b.outs,
-  ) refl
-
   cost_other : (b : Block) → plain_cost (other b) ≡ plain_cost b
   cost_other b = rw (outs_other b.writes b.outs) refl
 
@@ -329,9 +312,9 @@ module _ (f : Sub → Sub) where
             none = λ j l e k lt same. is.none j l e k lt (again k j (enough k lt) (long j l) same);
           }
 
-      carried_other : IsWellFormed b → row_count b.writes ≤ length b.writes → IsCarried b
-          → IsCarried (other b)
-      carried_other w le c = record {
+      commands_other : IsWellFormed b → row_count b.writes ≤ length b.writes → HasCommands b
+          → HasCommands (other b)
+      commands_other w le c = record {
         does = λ rows is.
             let own = c.does rows (outs_of (row_count b.writes) rows w le
             (subst (λ m. IsOuts (other b) m rows) (count_other b.writes) is)) in
@@ -346,9 +329,7 @@ module _ (f : Sub → Sub) where
       small_other s subs = record {
         well = well_other s.well;
         states = states_other s.states;
-        found = λ c. carried_other s.well (few_rows b.writes) (s.found c);
-        known = λ bare has. ap is_some (held_other held_bodies b)
-            ∙ s.known bare (sym (any_other b.reads b.writes) ∙ has);
+        commands = commands_other s.well (few_rows b.writes) s.commands;
         graph = s.graph;
         inputs = s.inputs;
         outputs = s.outputs;

@@ -1,6 +1,6 @@
 -- A flow after moves that clear the registers which its forms name: it does the rounds that it does
 -- from zeros.
-use Rattle.std.proofs.Common.{◌≡◌, ℕ, zero, suc, ◌+◌, ◌-◌, ◌<◌, ◌≤◌, Bool, true, false, cond, List}
+use Rattle.std.proofs.Common.{◌≡◌, ℕ, zero, suc, ◌<◌, ◌≤◌, Bool, true, false, cond, List}
 use Rattle.std.proofs.Common.{[], ◌∷◌, ◌++◌, map, length, refl, sym, ap, ◌∙◌, subst, arith, inl}
 use Rattle.std.proofs.Common.{inr, length-set, get_or-set_same, get_or-set_other}
 use Rattle.std.specs.Prelude.{slice_index, slice_set, ◌&&◌, ◌||◌, ◌==◌, nat_lt, nat_le, filter, not}
@@ -9,8 +9,7 @@ use Rattle.std.proofs.lemmas.Bool.{and_parts, eq-eqb, eqb-true, ltb-true, cases_
 use Rattle.std.proofs.lemmas.List.Folds.{list_all-append}
 use Rattle.std.proofs.lemmas.Grind.{get_or-set_at}
 use Rattle.bit_rows.specs.declared.TheConstants.{WIDTH_MAX}
-use Rattle.loop_ir.specs.declared.ir.Move.{Move}
-use Rattle.loop_ir.specs.declared.ir.Move.TheVariants.{SetI, SetN, SetT, Mov, AddI, SubI, Add}
+use Rattle.loop_ir.specs.declared.ir.Move.TheVariants.{SetI}
 use Rattle.loop_ir.specs.declared.ir.Sub.{Sub}
 use Rattle.loop_ir.specs.declared.ir.Sub.TheVariants.{Zero, Register}
 use Rattle.loop_ir.specs.declared.ir.Place.{Place}
@@ -20,11 +19,12 @@ use Rattle.loop_ir.specs.Flows.{RunOf, join, all_acts}
 use Rattle.loop_ir.specs.Flows.FlowOf.{End, Do, Put, If, Loop}
 use Rattle.loop_ir.specs.Flows.TurnsOf.{Last, Turn}
 use Rattle.loop_ir.specs.Flows.EventOf.{Done, Moved, Counted}
-use Rattle.loop_ir.specs.FlowTests.{is_low, is_moved, names, any_names, counts, all_count, is_safe}
+use Rattle.loop_ir.specs.FlowTests.{names, any_names, counts, all_count, is_safe}
 use Rattle.loop_ir.specs.FlowTests.{nests, is_event_safe, runs_safely}
 use Rattle.loop_ir.specs.Limits.{is_in_register, stays_in_registers, flow_stands}
 use Rattle.loop_ir.specs.Loops.{RoundOf, rounds_in, flow_rounds, sub_value}
 use Rattle.loop_laws.proofs.FlowLogic.{way, turning, wps}
+use Rattle.loop_laws.proofs.Registers.{Alike, set_both, move_like}
 use Rattle.loop_front.specs.Like.{AreSameRows}
 use Rattle.loop_front.specs.Front.{put_all, followed, clears}
 use Rattle.loop_front.proofs.Rounds.{round_in, IsCopy, Fits, later, W, Claim, Leads, IsKept}
@@ -65,181 +65,139 @@ abbrev IsCleared : (ℕ → Bool) → List ℕ → List ℕ → List ℕ → Typ
 IsCleared t xs g h = (length h ≡ 8) × ((q : ℕ) → slice_index g q ≡ 0 → slice_index h q ≡ 0)
     × (list_all (λ x. not (t x) || slice_index h x == 0) xs ≡ true)
 
--- both have the same in the registers below 7 that pass this test
-module _ (t : ℕ → Bool) where
-  record Alike (z g : List ℕ) : Type 0 where
-    flow : length z ≡ 8
-    code : length g ≡ 8
-    same : (q : ℕ) → nat_lt q 7 ≡ true → t q ≡ true → slice_index g q ≡ slice_index z q
+module _ (t : ℕ → Bool) (n : ℕ) where
+  value_like : (z g : List ℕ) → Alike t z g → (s : Sub) → is_in_register t s ≡ true
+      → sub_value n 0 0 g s ≡ sub_value n 0 0 z s
+  value_like z g a Zero h = refl
+  value_like z g a (Register r) h = a.same r (grind (arith, h)) (grind (arith, h))
+  value_like z g a s h = cc
 
-  set_both : (z g : List ℕ) (r v w : ℕ) → w ≡ v → Alike z g
-      → Alike (slice_set z r v) (slice_set g r w)
-  set_both z g r v w e a = record {
-    flow = length-set z r v ∙ a.flow;
-    code = length-set g r w ∙ a.code;
-    same = λ q lt tq. let l = ltb-true q 7 lt in elim (cases_eq q r) [
-      | inl is ↦ get_or-set_at g r q w 0 is (omega (arith, is, l, a.code))
-          ∙ e ∙ sym (get_or-set_at z r q v 0 is (omega (arith, is, l, a.flow)))
-      | inr ne ↦ get_or-set_other g r q w 0 ne ∙ a.same q lt tq
-          ∙ sym (get_or-set_other z r q v 0 ne)
-    ];
-  }
+  rows_like : (z g : List ℕ) → Alike t z g → (b : Block) (ps : List Place)
+      → list_all (λ p. is_in_register t p.sub) ps ≡ true
+      → AreSameRows n (round_in b z) (round_in b g) ps ps
+  rows_like z g a b [] h = tt
+  rows_like z g a b (p ∷ ps) h =
+      let e = value_like z g a p.sub (grind arith) in
+      (record { space = refl; which = refl; index = e }, rows_like z g a b ps (grind arith))
 
-  module _ (n : ℕ) where
-    -- a move whose registers are below 7 and pass the test
-    move_like : (m : Move) (z g : List ℕ) → is_low m ≡ true
-        → ((r : ℕ) → is_moved r m ≡ true → t r ≡ true) → Alike z g
-        → (is_safe m g ≡ is_safe m z) × Alike (moved n m z) (moved n m g)
-    move_like (SetI r k) z g low p a = (refl, set_both z g r k k refl a)
-    move_like (SetN r) z g low p a = (refl, set_both z g r n n refl a)
-    move_like (SetT r) z g low p a = (refl, set_both z g r (n - 1) (n - 1) refl a)
-    move_like (Mov r s) z g low p a =
-        (refl, set_both z g r _ _ (a.same s (grind arith) (p s (grind (arith, eq-eqb s s)))) a)
-    move_like (AddI r k) z g low p a =
-        let e = a.same r (grind arith) (p r (eq-eqb r r refl)) in
-        let l = set_both z g r _ _ (ap (λ v. v + k) e) a in (ap (λ v. nat_le (v + k) 1023) e, l)
-    move_like (SubI r k) z g low p a =
-        let e = a.same r (grind arith) (p r (eq-eqb r r refl)) in
-        let l = set_both z g r _ _ (ap (λ v. v - k) e) a in (ap (λ v. nat_le k v) e, l)
-    move_like (Add r s) z g low p a =
-        let e = a.same r (grind arith) (p r (grind (arith, eq-eqb r r))) in
-        let f = a.same s (grind arith) (p s (grind (arith, eq-eqb s s))) in
-        let both : slice_index g r + slice_index g s ≡ slice_index z r + slice_index z s
-        = omega arith in
-        (ap (λ v. nat_le v 1023) both, set_both z g r _ _ both a)
+  round_like : (z g : List ℕ) → Alike t z g → (b : Block) → stays_in_registers t b ≡ true
+      → IsCopy n (round_in b z) (round_in b g)
+  round_like z g a b h =
+      let test = λ (p : Place). is_in_register t p.sub in
+      let k = and_parts (list_all test b.reads) (list_all test b.writes)
+      (sym (list_all-append test b.reads b.writes) ∙ h) in
+      record {
+        like = record {
+          graph = refl;
+          outs = refl;
+          found = refl;
+          reads = rows_like z g a b b.reads k.0;
+          writes = rows_like z g a b b.writes k.1;
+        };
+        same = λ j k lj lk e. e;
+      }
 
-    value_like : (z g : List ℕ) → Alike z g → (s : Sub) → is_in_register t s ≡ true
-        → sub_value n 0 0 g s ≡ sub_value n 0 0 z s
-    value_like z g a Zero h = refl
-    value_like z g a (Register r) h = a.same r (grind (arith, h)) (grind (arith, h))
-    value_like z g a s h = cc
+  abbrev safe : List (EventOf Block) → Bool
+  safe es = list_all (is_event_safe n) es
 
-    rows_like : (z g : List ℕ) → Alike z g → (b : Block) (ps : List Place)
-        → list_all (λ p. is_in_register t p.sub) ps ≡ true
-        → AreSameRows n (round_in b z) (round_in b g) ps ps
-    rows_like z g a b [] h = tt
-    rows_like z g a b (p ∷ ps) h =
-        let e = value_like z g a p.sub (grind arith) in
-        (record { space = refl; which = refl; index = e }, rows_like z g a b ps (grind arith))
+  -- what does the rounds of this run, from registers that are alike
+  abbrev Follows : (Claim n → Claim n) → RunOf Block → List ℕ → Type 1
+  Follows V a g = safe a.events ≡ true → (C : Claim n) (rs : List (RoundOf Block))
+      → ((h : List ℕ) → Alike t a.regs h → C h rs) → V C g (rounds_in a.events ++ rs)
 
-    round_like : (z g : List ℕ) → Alike z g → (b : Block) → stays_in_registers t b ≡ true
-        → IsCopy n (round_in b z) (round_in b g)
-    round_like z g a b h =
-        let test = λ (p : Place). is_in_register t p.sub in
-        let k = and_parts (list_all test b.reads) (list_all test b.writes)
-        (sym (list_all-append test b.reads b.writes) ∙ h) in
-        record {
-          like = record {
-            graph = refl;
-            outs = refl;
-            found = refl;
-            reads = rows_like z g a b b.reads k.0;
-            writes = rows_like z g a b b.writes k.1;
-          };
-          same = λ j k lj lk e. e;
-        }
+  then_like : (V U : Claim n → Claim n) (a : RunOf Block) (c : List ℕ → RunOf Block) (g : List ℕ)
+      → Follows V a g → ((h : List ℕ) → Alike t a.regs h → Follows U (c a.regs) h)
+      → Follows (λ C. V (U C)) (join a c) g
+  then_like V U a c g first next ok C rs done =
+      let fs = (c a.regs).events in
+      let p = and_parts (safe a.events) (safe fs)
+      (sym (list_all-append (is_event_safe n) a.events fs) ∙ ok) in
+      subst (V (U C) g) (sym (rounds_both a.events fs rs))
+      (first p.0 (U C) (rounds_in fs ++ rs) (λ h ah. next h ah p.1 C rs done))
 
-    abbrev safe : List (EventOf Block) → Bool
-    safe es = list_all (is_event_safe n) es
+  abbrev Goal : FlowOf Block → Type 1
+  Goal f = (z g : List ℕ) → Alike t z g → Follows (W n f) (run n f z) g
 
-    -- what does the rounds of this run, from registers that are alike
-    abbrev Follows : (Claim n → Claim n) → RunOf Block → List ℕ → Type 1
-    Follows V a g = safe a.events ≡ true → (C : Claim n) (rs : List (RoundOf Block))
-        → ((h : List ℕ) → Alike a.regs h → C h rs) → V C g (rounds_in a.events ++ rs)
+  abbrev AllGoal : TurnsOf Block → Type 1
+  AllGoal (Last x) = Goal x
+  AllGoal (Turn x ts) = Goal x × AllGoal ts
 
-    then_like : (V U : Claim n → Claim n) (a : RunOf Block) (c : List ℕ → RunOf Block) (g : List ℕ)
-        → Follows V a g → ((h : List ℕ) → Alike a.regs h → Follows U (c a.regs) h)
-        → Follows (λ C. V (U C)) (join a c) g
-    then_like V U a c g first next ok C rs done =
-        let fs = (c a.regs).events in
-        let p = and_parts (safe a.events) (safe fs)
-        (sym (list_all-append (is_event_safe n) a.events fs) ∙ ok) in
-        subst (V (U C) g) (sym (rounds_both a.events fs rs))
-        (first p.0 (U C) (rounds_in fs ++ rs) (λ h ah. next h ah p.1 C rs done))
+  first_turn : (r m : ℕ) (all ts : TurnsOf Block) (x : FlowOf Block) → Goal x
+      → ((z g : List ℕ) → Alike t z g
+      → Follows (turns n r all ts m) (cycle r (acts n all) (acts n ts) m z) g) → (z g : List ℕ)
+      → Alike t z g → Follows (λ C h. W n x (turns n r all ts m C) (slice_set h r m))
+      (join (run n x (slice_set z r m)) (cycle r (acts n all) (acts n ts) m)) g
+  first_turn r m all ts x gx more z g a =
+      then_like (W n x) (turns n r all ts m) (run n x (slice_set z r m))
+      (cycle r (acts n all) (acts n ts) m) (slice_set g r m)
+      (gx (slice_set z r m) (slice_set g r m) (set_both t z g r m m refl a)) (λ h. more _ h)
 
-    abbrev Goal : FlowOf Block → Type 1
-    Goal f = (z g : List ℕ) → Alike z g → Follows (W n f) (run n f z) g
+  cycle_like : (r : ℕ) (all : TurnsOf Block) → AllGoal all → (m : ℕ) (ts : TurnsOf Block)
+      → AllGoal ts → (z g : List ℕ) → Alike t z g
+      → Follows (turns n r all ts m) (cycle r (acts n all) (acts n ts) m z) g
+  cycle_like r all ga zero ts gs = λ z g a ok C rs done. done g a
+  cycle_like r all ga (suc m) (Last x) gx =
+      first_turn r m all all x gx (cycle_like r all ga m all ga)
+  cycle_like r all ga (suc m) (Turn x (Last y)) gs =
+      first_turn r m all (Last y) x gs.0 (cycle_like r all ga m (Last y) gs.1)
+  cycle_like r all ga (suc m) (Turn x (Turn y ts)) gs =
+      first_turn r m all (Turn y ts) x gs.0 (cycle_like r all ga m (Turn y ts) gs.1)
 
-    abbrev AllGoal : TurnsOf Block → Type 1
-    AllGoal (Last x) = Goal x
-    AllGoal (Turn x ts) = Goal x × AllGoal ts
+  choice : (x y : FlowOf Block) → Goal x → Goal y → (z g : List ℕ) → Alike t z g → (c : Bool)
+      → Follows (choose n x y c) (cond c (run n y z) (run n x z)) g
+  choice x y gx gy z g a true = gy z g a
+  choice x y gx gy z g a false = gx z g a
 
-    first_turn : (r m : ℕ) (all ts : TurnsOf Block) (x : FlowOf Block) → Goal x
-        → ((z g : List ℕ) → Alike z g
-        → Follows (turns n r all ts m) (cycle r (acts n all) (acts n ts) m z) g) → (z g : List ℕ)
-        → Alike z g → Follows (λ C h. W n x (turns n r all ts m C) (slice_set h r m))
-        (join (run n x (slice_set z r m)) (cycle r (acts n all) (acts n ts) m)) g
-    first_turn r m all ts x gx more z g a =
-        then_like (W n x) (turns n r all ts m) (run n x (slice_set z r m))
-        (cycle r (acts n all) (acts n ts) m) (slice_set g r m)
-        (gx (slice_set z r m) (slice_set g r m) (set_both z g r m m refl a)) (λ h. more _ h)
+  -- all registers of the forms are below 7 and pass the test, as those of the places do
+  abbrev Named : FlowOf Block → Type 0
+  Named f = (q : ℕ) → (counts f && (all_flow (stays_in_registers t) f && (not (names q f) || t q)))
+      ≡ true
 
-    cycle_like : (r : ℕ) (all : TurnsOf Block) → AllGoal all → (m : ℕ) (ts : TurnsOf Block)
-        → AllGoal ts → (z g : List ℕ) → Alike z g
-        → Follows (turns n r all ts m) (cycle r (acts n all) (acts n ts) m z) g
-    cycle_like r all ga zero ts gs = λ z g a ok C rs done. done g a
-    cycle_like r all ga (suc m) (Last x) gx =
-        first_turn r m all all x gx (cycle_like r all ga m all ga)
-    cycle_like r all ga (suc m) (Turn x (Last y)) gs =
-        first_turn r m all (Last y) x gs.0 (cycle_like r all ga m (Last y) gs.1)
-    cycle_like r all ga (suc m) (Turn x (Turn y ts)) gs =
-        first_turn r m all (Turn y ts) x gs.0 (cycle_like r all ga m (Turn y ts) gs.1)
+  abbrev AllNamed : TurnsOf Block → Type 0
+  AllNamed ts = (q : ℕ)
+      → (all_count ts && (all_acts (stays_in_registers t) ts && (not (any_names q ts) || t q)))
+      ≡ true
 
-    choice : (x y : FlowOf Block) → Goal x → Goal y → (z g : List ℕ) → Alike z g → (c : Bool)
-        → Follows (choose n x y c) (cond c (run n y z) (run n x z)) g
-    choice x y gx gy z g a true = gy z g a
-    choice x y gx gy z g a false = gx z g a
+  mutual
+    flow_like : (f : FlowOf Block) → Named f → Goal f
+    flow_like End p z g a ok C rs done = done g a
+    flow_like (Do b x) p z g a ok C rs done =
+        let more = flow_like x (λ q. grind (arith, p q)) z g a ok C rs done in
+        (round_like z g a b (grind (arith, p 0)), more)
+    flow_like (Put m x) p z g a ok C rs done =
+        let s = and_parts (is_safe m z) (safe (run n x (moved n m z)).events) ok in
+        let l = move_like t n m z g (grind (arith, p 0)) (λ r e. grind (arith, p r)) a in
+        let more = flow_like x (λ q. grind (arith, p q)) (moved n m z) (moved n m g) l.1 s.1 C rs
+        done in
+        (l.0 ∙ s.0, more)
+    flow_like (If r x y u) p z g a ok C rs done =
+        let same = a.same r (grind (arith, p 0)) (grind (arith, p r, eq-eqb r r)) in
+        let gx = flow_like x (λ q. grind (arith, p q)) in
+        let gy = flow_like y (λ q. grind (arith, p q)) in
+        let gu = flow_like u (λ q. grind (arith, p q)) in
+        let c = slice_index z r == 0 in
+        let b = cond c (run n y z) (run n x z) in
+        subst (λ c. choose n x y c (W n u C) g (rounds_in (join b (run n u)).events ++ rs))
+        (sym (ap (λ v. v == 0) same)) (then_like (choose n x y c) (W n u) b (run n u) g
+        (choice x y gx gy z g a c) (gu b.regs) ok C rs done)
+    flow_like (Loop r ts u) p z g a ok C rs done =
+        let same = a.same r (grind (arith, p 0)) (grind (arith, p r, eq-eqb r r)) in
+        let gt = turns_like ts (λ q. grind (arith, p q)) in
+        let gu = flow_like u (λ q. grind (arith, p q)) in
+        let m = slice_index z r in
+        let b = cycle r (acts n ts) (acts n ts) m z in
+        let s = and_parts (nat_le m n) (safe (join b (run n u)).events) ok in
+        let all = then_like (turns n r ts ts m) (W n u) b (run n u) g
+        (cycle_like r ts gt m ts gt z g a) (gu b.regs) s.1 C rs done in (
+          ap (λ v. nat_le v n) same ∙ s.0,
+          subst (λ m. turns n r ts ts m (W n u C) g
+              (rounds_in (join b (run n u)).events ++ rs)) (sym same) all,
+        )
 
-    -- all registers of the forms are below 7 and pass the test, as those of the places do
-    abbrev Named : FlowOf Block → Type 0
-    Named f = (q : ℕ) → (counts f && (all_flow (stays_in_registers t) f && (not (names q f) || t q)))
-        ≡ true
-
-    abbrev AllNamed : TurnsOf Block → Type 0
-    AllNamed ts = (q : ℕ)
-        → (all_count ts && (all_acts (stays_in_registers t) ts && (not (any_names q ts) || t q)))
-        ≡ true
-
-    mutual
-      flow_like : (f : FlowOf Block) → Named f → Goal f
-      flow_like End p z g a ok C rs done = done g a
-      flow_like (Do b x) p z g a ok C rs done =
-          let more = flow_like x (λ q. grind (arith, p q)) z g a ok C rs done in
-          (round_like z g a b (grind (arith, p 0)), more)
-      flow_like (Put m x) p z g a ok C rs done =
-          let s = and_parts (is_safe m z) (safe (run n x (moved n m z)).events) ok in
-          let l = move_like m z g (grind (arith, p 0)) (λ r e. grind (arith, p r)) a in
-          let more = flow_like x (λ q. grind (arith, p q)) (moved n m z) (moved n m g) l.1 s.1 C rs
-          done in
-          (l.0 ∙ s.0, more)
-      flow_like (If r x y u) p z g a ok C rs done =
-          let same = a.same r (grind (arith, p 0)) (grind (arith, p r, eq-eqb r r)) in
-          let gx = flow_like x (λ q. grind (arith, p q)) in
-          let gy = flow_like y (λ q. grind (arith, p q)) in
-          let gu = flow_like u (λ q. grind (arith, p q)) in
-          let c = slice_index z r == 0 in
-          let b = cond c (run n y z) (run n x z) in
-          subst (λ c. choose n x y c (W n u C) g (rounds_in (join b (run n u)).events ++ rs))
-          (sym (ap (λ v. v == 0) same)) (then_like (choose n x y c) (W n u) b (run n u) g
-          (choice x y gx gy z g a c) (gu b.regs) ok C rs done)
-      flow_like (Loop r ts u) p z g a ok C rs done =
-          let same = a.same r (grind (arith, p 0)) (grind (arith, p r, eq-eqb r r)) in
-          let gt = turns_like ts (λ q. grind (arith, p q)) in
-          let gu = flow_like u (λ q. grind (arith, p q)) in
-          let m = slice_index z r in
-          let b = cycle r (acts n ts) (acts n ts) m z in
-          let s = and_parts (nat_le m n) (safe (join b (run n u)).events) ok in
-          let all = then_like (turns n r ts ts m) (W n u) b (run n u) g
-          (cycle_like r ts gt m ts gt z g a) (gu b.regs) s.1 C rs done in (
-            ap (λ v. nat_le v n) same ∙ s.0,
-            subst (λ m. turns n r ts ts m (W n u C) g
-                (rounds_in (join b (run n u)).events ++ rs)) (sym same) all,
-          )
-
-      turns_like : (ts : TurnsOf Block) → AllNamed ts → AllGoal ts
-      turns_like (Last x) p = flow_like x p
-      turns_like (Turn x ts) p =
-          (flow_like x (λ q. grind (arith, p q)), turns_like ts (λ q. grind (arith, p q)))
+    turns_like : (ts : TurnsOf Block) → AllNamed ts → AllGoal ts
+    turns_like (Last x) p = flow_like x p
+    turns_like (Turn x ts) p =
+        (flow_like x (λ q. grind (arith, p q)), turns_like ts (λ q. grind (arith, p q)))
 
 module _ (n : ℕ) where
   -- the registers that pass the test get 0
@@ -279,7 +237,7 @@ module _ (n : ℕ) where
       (flow_like t n f (λ q. grind (arith, p.0, s.0)) zeros h (record {
         flow = refl;
         code = c.0;
-        same = λ q lt e. let l = ltb-true q 7 lt in
+        same = λ q l e.
             let v = at_width (λ x. not (t x) || slice_index h x == slice_index zeros x) q 0 7
             (omega arith) (omega arith) c.2 in
             eqb-true (slice_index h q) (slice_index zeros q) (grind (arith, v, e));

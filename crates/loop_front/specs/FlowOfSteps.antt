@@ -13,7 +13,8 @@ use Rattle.loop_ir.specs.Spots.{Spot}
 use Rattle.loop_front.specs.Like.{AreLike}
 
 -- A run of the flow at width n, from these registers: it does the rounds of the steps, each with
--- rows that it may have and the states that it reads, and no register leaves its range
+-- rows that it may have and the states that it reads; no register leaves its range, and no loop has
+-- more than n iterations
 pub record IsRunOf (may_have : Spot → Type 0) (n : ℕ) (steps : List (StepOf Block))
     (f : FlowOf Block) (g : List ℕ) : Type 0 where
   pub like : AreLike n (all_rounds n steps) (rounds_in (run n f g).events)

@@ -1,4 +1,5 @@
 -- When a subscript's register is moved.
+-- Private contracts alone speak of this.
 use Rattle.std.specs.Prelude.{ℕ, List}
 use Rattle.loop_ir.specs.declared.ir.Move.{Move}
 use Rattle.loop_ir.specs.declared.ir.Sub.{Sub}

@@ -45,7 +45,7 @@ fn put_start(s: Sub, r: u8, next: Flow, alloc: Global) -> Result<Flow, NoMemory>
     }
 }
 
-/// What is done to it before each round.
+/// What is done to the register of a subscript before each round.
 fn put_before(s: Sub, r: u8, next: Flow, alloc: Global) -> Result<Flow, NoMemory>
     ensures { IfOk result (λ f. flow_of f ≡ put_all (before s r) (flow_of next)) }
 {
@@ -56,7 +56,7 @@ fn put_before(s: Sub, r: u8, next: Flow, alloc: Global) -> Result<Flow, NoMemory
     }
 }
 
-/// And after it.
+/// What is done to the register of a subscript after each round.
 fn put_after(s: Sub, r: u8, next: Flow, alloc: Global) -> Result<Flow, NoMemory>
     ensures { IfOk result (λ f. flow_of f ≡ put_all (after s r) (flow_of next)) }
 {
@@ -69,7 +69,7 @@ fn put_after(s: Sub, r: u8, next: Flow, alloc: Global) -> Result<Flow, NoMemory>
     }
 }
 
-/// What is done to it at this moment.
+/// What is done to the register of a subscript at this moment.
 fn put_sub(moment: Moment, s: Sub, r: u8, next: Flow, alloc: Global) -> Result<Flow, NoMemory>
     ensures { IfOk result (λ f. flow_of f ≡ put_all (moves_at moment s r) (flow_of next)) }
 {
@@ -80,7 +80,7 @@ fn put_sub(moment: Moment, s: Sub, r: u8, next: Flow, alloc: Global) -> Result<F
     }
 }
 
-/// So for each of these subscripts, of which the first has register r.
+/// What is done to the registers of these subscripts, of which the first has register r.
 pub fn put_subs(
     moment: Moment,
     subs: &[Sub],

@@ -139,7 +139,9 @@ fn step_flow(step: Step, next: Flow, alloc: Global) -> Result<Flow, NoMemory>
     }
 }
 
-/// The flow of a loop program.
+/// The flow of a loop program, which runs right whatever its registers hold as it begins.
+///
+/// It is an `Err` only where it runs out of memory.
 pub fn front(program: LoopProgram, alloc: Global) -> Result<Flow, NoMemory>
     ensures flow { IfOk result (λ f. flow_of f ≡ front (steps_of program)) }
     ensures does { IfOk result (λ f. (rows : ℕ → Spot → Bool)

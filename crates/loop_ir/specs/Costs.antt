@@ -1,10 +1,11 @@
 -- How many commands and instructions a loop program may take.
 use Rattle.std.specs.Prelude.{ℕ, ◌+◌, ◌*◌, ◌==◌, ◌&&◌, Bool, true, false, not, if◌then◌else◌, List}
-use Rattle.std.specs.Prelude.{[], ◌∷◌, ◌++◌, length, filter, sum_by, nat_lt, Option, Some, None}
+use Rattle.std.specs.Prelude.{[], ◌∷◌, ◌++◌, length, filter, sum_by, count_by, nat_lt}
 use Rattle.std.specs.List.{list_any, list_all}
-use Rattle.mig_graph.specs.declared.Lit.{Lit}
-use Rattle.mig_graph.specs.Literals.{is_complemented, node_of}
+use Rattle.mig_graph.specs.Literals.{is_complemented}
 use Rattle.mig_graph.specs.Outputs.{lit_at}
+use Rattle.row_alloc.specs.declared.body.BodyCmd.{BodyCmd}
+use Rattle.row_alloc.specs.declared.body.BodyCmd.TheVariants.{Aap, Ap}
 use Rattle.loop_ir.specs.declared.ir.Sub.{Sub}
 use Rattle.loop_ir.specs.declared.ir.Sub.TheVariants.{Zero, Top, Inner as At_inner, InnerDown}
 use Rattle.loop_ir.specs.declared.ir.Sub.TheVariants.{Outer, OuterDown, Sum, DownSum, DownPlusN}
@@ -14,10 +15,8 @@ use Rattle.loop_ir.specs.Plain.InnerOf.{Alone, Across}
 use Rattle.loop_ir.specs.Plain.StepOf.{Single, Along, Nest, Flowed}
 use Rattle.loop_ir.specs.Flows.{flow_size, flow_bodies}
 use Rattle.loop_ir.specs.FlowTests.{cleared}
-use Rattle.row_alloc.specs.HeldBodies.{HeldBody, held_at, held_sequence_for}
 use Rattle.loop_ir.specs.Loops.{RoundOf}
-use Rattle.loop_ir.specs.Same.{is_body}
-use Rattle.loop_ir.specs.States.{has_states, row_outs, held_of}
+use Rattle.loop_ir.specs.States.{row_outs}
 
 -- four commands for a node and three for an output
 abbrev pub body_cost : Block → ℕ
@@ -28,75 +27,49 @@ abbrev pub is_copy : Block → Bool
 is_copy b = (length b.graph.nodes == 0) && ((length b.outs == 1)
     && not (is_complemented (lit_at b.outs 0)))
 
--- a node as it is
-abbrev pub plain : ℕ → Lit
-plain k = record { node = k; inverted = false }
-
--- a node's complement
-abbrev pub complemented : ℕ → Lit
-complemented k = record { node = k; inverted = true }
-
--- the body is the complement of its input
-abbrev pub is_not : Block → Bool
-is_not b = is_body 1 [] (complemented 1 ∷ []) b
-
--- the body is the and of its two inputs
-abbrev pub is_and : Block → Bool
-is_and b = is_body 2 (node_of (plain 0) (plain 1) (plain 2) ∷ []) (plain 3 ∷ []) b
-
--- the body is the or of its two inputs
-abbrev pub is_or : Block → Bool
-is_or b = is_body 2 (node_of (complemented 0) (plain 1) (plain 2) ∷ []) (plain 3 ∷ []) b
-
--- the body is the parity of its two inputs
-abbrev pub is_xor : Block → Bool
-is_xor b = is_body 2
-    (node_of (plain 0) (complemented 1) (plain 2) ∷ node_of (plain 0) (plain 1) (complemented 2)
-    ∷ node_of (complemented 0) (plain 3) (plain 4) ∷ []) (plain 5 ∷ []) b
-
--- the body is the sum of its three inputs, with its carry
-abbrev pub is_add : Block → Bool
-is_add b = is_body 3
-    (node_of (plain 1) (plain 2) (plain 3) ∷ node_of (plain 1) (plain 2) (complemented 3)
-    ∷ node_of (plain 3) (complemented 4) (plain 5) ∷ []) (plain 6 ∷ plain 4 ∷ []) b
-
--- what a round takes of a body whose states stand in cells: the length of its sequence
-abbrev pub held_cost : Option HeldBody → ℕ
-held_cost None = 0
-held_cost (Some h) = length (held_at (held_sequence_for h))
-
--- the body carries commands
-abbrev pub carries : Block → Bool
-carries b = nat_lt 0 (length b.found)
-
--- what one round may take: a body that carries commands takes those, one with states has its
--- sequence, a copy is one command, and the bodies of five operations are fixed
+-- what one round takes: the commands that the body carries
 abbrev pub turn_cost : Block → ℕ
-turn_cost b = if carries b then length b.found else (if has_states b then held_cost (held_of b)
-    else (if is_copy b then 1 else (if is_not b then 2 else (if is_and b then 4
-    else (if is_or b then 4 else (if is_xor b then 7 else (if is_add b then 9
-    else body_cost b)))))))
+turn_cost b = length b.found
+
+-- the command copies a row, and counts as an AAP
+abbrev pub is_aap : BodyCmd → Bool
+is_aap (Aap x y) = true
+is_aap (Ap x) = false
+
+-- the command activates a triple alone, and counts as an AP
+abbrev pub is_ap : BodyCmd → Bool
+is_ap (Aap x y) = false
+is_ap (Ap x) = true
+
+-- how many AAP one round takes
+abbrev pub turn_aaps : Block → ℕ
+turn_aaps b = count_by is_aap b.found
+
+-- how many AP one round takes
+abbrev pub turn_aps : Block → ℕ
+turn_aps b = count_by is_ap b.found
 
 -- the body has no node and writes no row: it puts constants or what it reads into cells
 abbrev pub is_start : Block → Bool
 is_start b = (length b.graph.nodes == 0) && ((length (row_outs b.writes b.outs) == 0)
     && nat_lt 0 (length b.outs))
 
--- a constant comes into all its cells with one command; what is read takes one for each state
+-- what a start may take: a constant comes into all its cells with one command, and what is read
+-- takes one for each state
 abbrev pub start_cost : Block → ℕ
 start_cost b = if b.graph.inputs == 0 then 1 else length b.outs
 
--- the same where no body has a sequence of its own: four commands for a node and three for an
--- output that is a row
+-- what one round may take at most: one command for a copy, what a start may take, or else four for
+-- a node and three for an output that is a row
 abbrev pub plain_cost : Block → ℕ
 plain_cost b = if is_copy b then 1 else (if is_start b then start_cost b
     else 4 * length b.graph.nodes + 3 * length (row_outs b.writes b.outs))
 
--- what all rounds may take where no body has a sequence of its own
+-- what all rounds may take at most
 abbrev pub plain_costs : List (RoundOf Block) → ℕ
 plain_costs rs = sum_by (λ r. plain_cost r.part) rs
 
--- what all rounds may take
+-- what all rounds take
 abbrev pub rounds_cost : List (RoundOf Block) → ℕ
 rounds_cost rs = sum_by (λ r. turn_cost r.part) rs
 

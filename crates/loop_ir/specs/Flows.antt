@@ -31,7 +31,7 @@ pub record RunOf (A : Type 0) : Type 0 where
   pub events : List (EventOf A)
   pub regs : List ℕ
 
--- the registers as a flow begins
+-- the registers as a step that is a flow begins
 abbrev pub zeros : List ℕ
 zeros = 0 ∷ 0 ∷ 0 ∷ 0 ∷ 0 ∷ 0 ∷ 0 ∷ 0 ∷ []
 

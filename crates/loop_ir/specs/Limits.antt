@@ -1,6 +1,6 @@
 -- What a loop program keeps, so that its code is legal and short.
 use Rattle.std.specs.Prelude.{◌≡◌, ℕ, ◌+◌, ◌<◌, ◌≤◌, Bool, true, false, ◌&&◌, List, [], ◌++◌}
-use Rattle.std.specs.Prelude.{length, nat_lt, is_some}
+use Rattle.std.specs.Prelude.{length, nat_lt}
 use Rattle.std.specs.List.{AllByRecursion, list_all}
 use Rattle.bit_rows.specs.declared.TheConstants.{WIDTH_MAX}
 use Rattle.mig_graph.specs.Graph.{IsGraph}
@@ -20,24 +20,22 @@ use Rattle.loop_ir.specs.WellFormed.{IsWellFormed}
 use Rattle.row_alloc.specs.declared.body.OutRow.{OutRow}
 use Rattle.row_alloc.specs.Held.{DoesHeld}
 use Rattle.loop_ir.specs.Outputs.{IsOuts}
-use Rattle.loop_ir.specs.States.{StatesFit, has_states, held_of, row_count, enters, leaves}
+use Rattle.loop_ir.specs.States.{StatesFit, row_count, enters, leaves}
 use Rattle.loop_ir.specs.Chains.{steps_find}
-use Rattle.loop_ir.specs.Costs.{carries, plain_cost, used_subs, code_cost, bodies}
+use Rattle.loop_ir.specs.Costs.{plain_cost, used_subs, code_cost, bodies}
 
 -- the commands that the body carries do it, from the states that it reads to those that it writes
 -- and wherever its rows lie, and are few
-pub record IsCarried (b : Block) : Type 0 where
+pub record HasCommands (b : Block) : Type 0 where
   pub does : (outs : List OutRow) → IsOuts b (row_count b.writes) outs
       → DoesHeld b.graph outs (enters 0 b.reads) (leaves b.writes b.outs) b.found
   pub few : length b.found ≤ plain_cost b
 
--- a body of which commands can be made: its states fit, and where it carries none and has states it
--- is one of the bodies that hold states
+-- a body whose commands do it, with states that fit, and small enough for code
 pub record IsSmall (b : Block) : Type 0 where
   pub well : IsWellFormed b
   pub states : StatesFit b
-  pub found : carries b ≡ true → IsCarried b
-  pub known : carries b ≡ false → has_states b ≡ true → is_some (held_of b) ≡ true
+  pub commands : HasCommands b
   pub graph : IsGraph b.graph.inputs b.graph.nodes
   pub inputs : b.graph.inputs ≤ 80
   pub outputs : length b.outs ≤ 8

@@ -88,7 +88,7 @@ abbrev pub ceiling_of : Slots → Statement → ℕ → ℕ
 ceiling_of slots (Compute target second p args) n = op_ceiling p (args_width slots n args)
 ceiling_of slots (Visit block) n = block_ceiling block n
 
--- the same of a word operation, where no body has a sequence of its own
+-- the same of a word operation, where each body counts as its plain cost
 abbrev pub op_plain_ceiling : WordOp → ℕ → ℕ
 op_plain_ceiling o.Not n = 3 * n
 op_plain_ceiling o.And n = 7 * n
@@ -97,7 +97,7 @@ op_plain_ceiling o.Xor n = 15 * n
 op_plain_ceiling o.Add n = 18 * n + 1
 op_plain_ceiling p n = op_ceiling p n
 
--- the same of a statement, where no body has a sequence of its own
+-- the same of a statement, where each body counts as its plain cost
 abbrev pub plain_ceiling : Slots → Statement → ℕ → ℕ
 plain_ceiling slots (Compute target second p args) n = op_plain_ceiling p (args_width slots n args)
 plain_ceiling slots (Visit block) n = block_ceiling block n

@@ -19,8 +19,7 @@ use Rattle.loop_ir.specs.Flows.{FlowOf, TurnsOf, flow_map, AllFlow}
 use Rattle.loop_ir.specs.Flows.FlowOf.{End, Do, Put, If, Loop}
 use Rattle.loop_ir.specs.Flows.TurnsOf.{Last, Turn}
 
--- a body: read k is input k of the graph, and write j takes output j. It carries the commands that
--- were found for it, or none
+-- a body: read k is input k of the graph, and write j takes output j. It carries its commands
 pub record Block : Type 0 where
   pub reads : List Place
   pub graph : Graph

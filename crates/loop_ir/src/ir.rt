@@ -58,7 +58,7 @@ pub struct Body {
     pub reads: Vec<Place>,
     pub graph: MigOuts,
     pub writes: Vec<Place>,
-    /// The commands that were found for it; none where they are still to be looked for.
+    /// The commands that do it.
     pub found: Vec<BodyCmd>,
 }
 
@@ -145,7 +145,8 @@ pub enum Turns {
     Turn(Box<Flow>, Box<Turns>),
 }
 
-/// A body done once, at each position, or parts done one after another at each outer position.
+/// A body done once or at each position, parts done one after another at each outer position, or a
+/// flow.
 #[derive(Drop)]
 pub enum Step {
     Once(Body),

@@ -1,4 +1,4 @@
-//! Loop programs: bodies that are done once, at each position, or in two nested loops.
+//! Loop programs: bodies that are done once, at each position, in two nested loops, or in a flow.
 #![tactic(auto)]
 
 mod ir;

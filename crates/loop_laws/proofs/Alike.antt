@@ -2,13 +2,12 @@
 use Rattle.std.proofs.Common.{◌≡◌, ℕ, zero, suc, ◌+◌, ◌<◌, ◌≤◌, Bool, true, false}
 use Rattle.std.proofs.Common.{cond, List, [], ◌∷◌, ◌++◌, map, length, refl, sym}
 use Rattle.std.proofs.Common.{ap, ◌∙◌, inl, inr, arith}
-use Rattle.std.specs.Prelude.{◌||◌, is_some}
+use Rattle.std.specs.Prelude.{◌||◌}
 use Rattle.std.specs.List.{list_any, list_all}
 use Rattle.std.proofs.lemmas.Bool.Decides.{nat_tests}
 use Rattle.std.proofs.lemmas.Bool.{cases_Bool}
 use Rattle.std.proofs.lemmas.List.{length-map}
 use Rattle.mig_graph.specs.declared.Lit.{Lit}
-use Rattle.row_alloc.specs.HeldBodies.{HeldBody}
 use Rattle.loop_ir.specs.declared.ir.Place.{Place}
 use Rattle.loop_ir.specs.Plain.{Block, InnerOf, StepOf, inner_map}
 use Rattle.loop_ir.specs.Plain.InnerOf.{Alone, Across}
@@ -23,12 +22,11 @@ use Rattle.loop_laws.proofs.RoundsMap.{all_rounds_map}
 use Rattle.loop_ir.specs.Plain.StepOf.{Single, Along, Nest, Flowed}
 use Rattle.loop_ir.specs.Spots.{is_state, nth_place}
 use Rattle.loop_ir.specs.States.{has_states, row_count, RowsFirst, enters, leaves, row_outs}
-use Rattle.loop_ir.specs.States.{StatesFit, held_among, held_bodies}
-use Rattle.loop_ir.specs.States.{held_of}
+use Rattle.loop_ir.specs.States.{StatesFit}
 use Rattle.loop_ir.specs.Costs.{turn_cost, plain_cost, rounds_cost, plain_costs}
 use Rattle.loop_laws.specs.Rooms.{Room, room_at, room_for, Owner, InRoom, InCells, Mark, Marked}
 use Rattle.loop_laws.specs.Rooms.{placed, placed_body, placed_steps}
-use Rattle.loop_laws.specs.Forms.{are_rows_first, has_known_states}
+use Rattle.loop_laws.specs.Forms.{are_rows_first, states_fit}
 use Rattle.loop_laws.proofs.Summed.{rounds_sum}
 
 -- no room stands in cells
@@ -104,19 +102,6 @@ module _ (rooms : List Room) (rows : HaveRows rooms) where
 
   pub has_like : (b : Marked) → has_states (placed_body rooms b) ≡ has_states (placed_body [] b)
   has_like b = any_like b.reads b.writes
-
-  among_like : (hs : List HeldBody) (b : Marked) → held_among hs (placed_body rooms b)
-      ≡ held_among hs (placed_body [] b)
-  among_like [] b = refl
-  among_like (h ∷ hs) b = rw (
-    outs_like b.writes b.outs,
-    enters_like 0 b.reads,
-    leaves_like b.writes b.outs,
-    among_like hs b,
-  )
-
-  pub held_like : (b : Marked) → held_of (placed_body rooms b) ≡ held_of (placed_body [] b)
-  held_like b = among_like held_bodies b
 
   pub finds_like : (alive : List ℕ) (b : Marked) → finds alive (placed_body rooms b)
       ≡ finds alive (placed_body [] b)
@@ -196,9 +181,6 @@ module _ (rooms : List Room) (rows : HaveRows rooms) where
         steps_find_like (inner_left l (map (inner_map (placed_body [])) ps)) ss,
       )
 
-  turn_like : (b : Marked) → turn_cost (placed_body rooms b) ≡ turn_cost (placed_body [] b)
-  turn_like b = rw (has_like b, held_like b)
-
   pub plain_like : (b : Marked) → plain_cost (placed_body rooms b) ≡ plain_cost (placed_body [] b)
   plain_like b = rw (outs_like b.writes b.outs)
 
@@ -226,12 +208,13 @@ module _ (f : Block → ℕ) (rooms : List Room)
       ap (rounds_sum f) (to rooms) ∙ mapped_like (all_rounds n ss)
       ∙ ap (rounds_sum f) (sym (to []))
 
--- what all rounds may take doesn't depend on where the rows lie
-pub rounds_cost_like : (rooms : List Room) → HaveRows rooms → (n : ℕ) (ss : List (StepOf Marked))
+-- what all rounds take doesn't depend on where the rows lie
+pub rounds_cost_like : (rooms : List Room) (n : ℕ) (ss : List (StepOf Marked))
     → rounds_cost (all_rounds n (placed_steps rooms ss))
     ≡ rounds_cost (all_rounds n (placed_steps [] ss))
-rounds_cost_like rooms rows n ss = rounds_like turn_cost rooms (turn_like rooms rows) n ss
+rounds_cost_like rooms n ss = rounds_like turn_cost rooms (λ b. refl) n ss
 
+-- so it is with what they may take at most
 pub plain_costs_like : (rooms : List Room) → HaveRows rooms → (n : ℕ) (ss : List (StepOf Marked))
     → plain_costs (all_rounds n (placed_steps rooms ss))
     ≡ plain_costs (all_rounds n (placed_steps [] ss))
@@ -294,20 +277,7 @@ none_first [] (q ∷ qs) none = rw (or_parts (is_state q.space) _ none).0
     (none_first [] qs (grind arith))
 none_first (p ∷ ps) qs none = none_first ps qs (grind arith)
 
--- what the test says of a body with states
-record IsKnown (b : Block) : Type 0 where
-  reads : length b.reads ≤ b.graph.inputs
-  first : are_rows_first b.writes ≡ true
-  held : is_some (held_of b) ≡ true
-
-known_is : (b : Block) → has_states b ≡ true → has_known_states b ≡ true → IsKnown b
-known_is b has h = let e = rw has at h in record {
-  reads = grind (arith, nat_tests, e);
-  first = grind (arith, e);
-  held = grind (arith, e);
-}
-
--- then there is nothing to keep
+-- a body without states has nothing to keep
 pub rows_fit : (b : Block) → has_states b ≡ false → length b.outs ≡ length b.writes → StatesFit b
 rows_fit b none written = record {
   first = rows_first b.writes (none_first b.reads b.writes none);
@@ -315,25 +285,31 @@ rows_fit b none written = record {
   read = λ k lt e. (let f = none_at b.reads b.writes k none lt in absurd cc);
 }
 
-module _ (rooms : List Room) (rows : HaveRows rooms) (b : Marked)
-    (h : has_known_states (placed_body [] b) ≡ true) where
-  pub states_known : has_states (placed_body rooms b) ≡ true
-      → is_some (held_of (placed_body rooms b)) ≡ true
-  states_known has = ap is_some (held_like rooms rows b)
-      ∙ (known_is (placed_body [] b) (sym (has_like rooms rows b) ∙ has) h).held
+-- what the test says of a body with states
+record IsTested (b : Block) : Type 0 where
+  reads : length b.reads ≤ b.graph.inputs
+  first : are_rows_first b.writes ≡ true
 
-  pub states_fit : length b.outs ≡ length (map (placed rooms) b.writes)
-      → StatesFit (placed_body rooms b)
-  states_fit written =
-      elim (cases_Bool (has_states (placed_body [] b))) [
-        | inl has ↦
-            let known = known_is (placed_body [] b) has h in
-            let x = length-map b.reads (placed rooms) in
-            let y = length-map b.reads (placed []) in
-            record {
-              first = rows_first _ (first_like rooms rows b.writes ∙ known.first);
-              written = written;
-              read = λ k lt e. (let l = known.reads in omega (arith, lt, l, x, y));
-            }
-        | inr none ↦ rows_fit (placed_body rooms b) (has_like rooms rows b ∙ none) written
-      ]
+tested_is : (b : Block) → has_states b ≡ true → states_fit b ≡ true → IsTested b
+tested_is b has h = let e = rw has at h in record {
+  reads = grind (arith, nat_tests, e);
+  first = grind (arith, e);
+}
+
+-- the states of a body that passes the test fit
+pub tested_fit : (rooms : List Room) → HaveRows rooms → (b : Marked)
+    → states_fit (placed_body [] b) ≡ true → length b.outs ≡ length (map (placed rooms) b.writes)
+    → StatesFit (placed_body rooms b)
+tested_fit rooms rows b h written =
+    elim (cases_Bool (has_states (placed_body [] b))) [
+      | inl has ↦
+          let tested = tested_is (placed_body [] b) has h in
+          let x = length-map b.reads (placed rooms) in
+          let y = length-map b.reads (placed []) in
+          record {
+            first = rows_first _ (first_like rooms rows b.writes ∙ tested.first);
+            written = written;
+            read = λ k lt e. (let l = tested.reads in omega (arith, lt, l, x, y));
+          }
+      | inr none ↦ rows_fit (placed_body rooms b) (has_like rooms rows b ∙ none) written
+    ]

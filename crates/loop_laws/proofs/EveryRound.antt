@@ -22,17 +22,17 @@ use Rattle.loop_ir.specs.Plain.InnerOf.{Alone, Across}
 use Rattle.loop_ir.specs.Plain.StepOf.{Single, Along, Nest, Flowed}
 use Rattle.loop_ir.specs.Spots.{Spot, spot_at, spot_in, nth_place, nth_spot, IsOwn, is_state}
 use Rattle.loop_ir.specs.WellFormed.{IsOneValue}
-use Rattle.loop_ir.specs.Limits.{IsRound, StepHasValues}
+use Rattle.loop_ir.specs.Limits.{HasCommands, IsRound, StepHasValues}
 use Rattle.loop_laws.specs.Rooms.{Extent, extent, Room, room_at, room_for, Owner, InRoom}
 use Rattle.loop_laws.specs.Rooms.{InCells, Mark, Marked, placed, placed_body, placed_steps, row_in}
 use Rattle.loop_laws.specs.Rooms.{IsOwned, RoomsApart, Reach, Nowhere, Whole, Left, is_long}
 use Rattle.loop_laws.specs.Rooms.{has_inner, is_left, fits, reach_of, all_fit, writes_fit}
 use Rattle.loop_laws.specs.Rooms.{body_fits, inners_fit, steps_fit}
 use Rattle.loop_laws.specs.Forms.{IsSlim, has_room, inners_have_room, steps_have_room}
-use Rattle.loop_laws.specs.Forms.{has_known_states, inners_have_known, steps_have_known}
+use Rattle.loop_laws.specs.Forms.{states_fit, inners_states_fit, steps_states_fit}
 use Rattle.loop_laws.specs.Laws.{MarksAreEnough}
 use Rattle.loop_laws.proofs.Fitting.{mark_at, IsThere, InnerOk, OuterOk}
-use Rattle.loop_laws.proofs.Alike.{HaveRows, past_row, states_fit, states_known, steps_find_like}
+use Rattle.loop_laws.proofs.Alike.{HaveRows, past_row, tested_fit, steps_find_like}
 use Rattle.loop_laws.proofs.Good.{WriteAt, fit_at, write_at, writes_once, alone_sub, alone_once}
 
 pub most_is : (a b : ℕ) → nat_le a b ≡ true → a ≤ b
@@ -244,9 +244,9 @@ module _ (n : ℕ) (rooms : List Room) (are : RoomsApart n rooms) (rows : HaveRo
               (meets i o b.writes b.reads j l (y j lj) (x l ll) (at j lj).written g);
         }
 
-    slim_is : has_room (placed_body rooms b) ≡ true → has_known_states (placed_body [] b) ≡ true
-        → IsSlim (placed_body rooms b)
-    slim_is h k =
+    slim_is : has_room (placed_body rooms b) ≡ true → states_fit (placed_body [] b) ≡ true
+        → HasCommands (placed_body rooms b) → IsSlim (placed_body rooms b)
+    slim_is h k commands =
         let c = placed_body rooms b in
         let rd = below_map (placed rooms) b.reads in
         let wr = below_map (placed rooms) b.writes in
@@ -256,9 +256,8 @@ module _ (n : ℕ) (rooms : List Room) (are : RoomsApart n rooms) (rows : HaveRo
         writes in
         record {
           reads = grind (arith, nat_tests);
-          states = states_fit rooms rows b k (grind (arith, nat_tests));
-          found = λ carried. absurd (cc);
-          known = λ bare. states_known rooms rows b k;
+          states = tested_fit rooms rows b k (grind (arith, nat_tests));
+          commands = commands;
           apart = λ i j li lj h. writes_once rooms b.reads b.writes i j fit (wr i li) (wr j lj)
               (one_owner b.writes b.writes i j (y i li) (y j lj) some (at i li).written h);
           same = λ j k lj lk h.
@@ -333,8 +332,8 @@ module _ (may_have : ℕ → Spot → Type 0) (rooms : List Room) (rows : HaveRo
       (among n some most) n _ (round_is n rooms (are n some most) rows some r outer b e i o ik ok)
 
   slim : (r : Reach) (outer : Bool) (b : Marked) → body_fits r outer rooms b ≡ true
-      → has_room (placed_body rooms b) ≡ true → has_known_states (placed_body [] b) ≡ true
-      → IsSlim (placed_body rooms b)
+      → has_room (placed_body rooms b) ≡ true → states_fit (placed_body [] b) ≡ true
+      → HasCommands (placed_body rooms b) → IsSlim (placed_body rooms b)
   slim r outer b = slim_is 1 rooms (are 1 (omega arith) (omega arith)) rows (omega arith) r outer b
 
   loop : (n o : ℕ) → 0 < n → n ≤ WIDTH_MAX → (r : Reach) (outer : Bool) (b : Marked)
@@ -352,26 +351,27 @@ module _ (may_have : ℕ → Spot → Type 0) (rooms : List Room) (rows : HaveRo
 
   inners_fine : (ps : List (InnerOf Marked)) → inners_fit rooms ps ≡ true
       → inners_have_room (map (inner_map (placed_body rooms)) ps) ≡ true
-      → inners_have_known (map (inner_map (placed_body [])) ps) ≡ true
+      → inners_states_fit (map (inner_map (placed_body [])) ps) ≡ true
+      → AllInner HasCommands (map (inner_map (placed_body rooms)) ps)
       → InnersFine (map (inner_map (placed_body rooms)) ps)
-  inners_fine [] e h k = record { slim = tt; rounds = λ n o some most lo. tt }
-  inners_fine (Alone b ∷ ps) e h k =
+  inners_fine [] e h k does = record { slim = tt; rounds = λ n o some most lo. tt }
+  inners_fine (Alone b ∷ ps) e h k does =
       let x = and_parts (body_fits Nowhere true rooms b) _ e in
       let y = and_parts (has_room (placed_body rooms b)) _ h in
-      let z = and_parts (has_known_states (placed_body [] b)) _ k in
-      let more = inners_fine ps x.1 y.1 z.1 in
+      let z = and_parts (states_fit (placed_body [] b)) _ k in
+      let more = inners_fine ps x.1 y.1 z.1 does.1 in
       record {
-        slim = (slim Nowhere true b x.0 y.0 z.0, more.slim);
+        slim = (slim Nowhere true b x.0 y.0 z.0 does.0, more.slim);
         rounds = λ n o some most lo.
             (round n 0 o some most Nowhere true b x.0 tt lo, more.rounds n o some most lo);
       }
-  inners_fine (Across c b ∷ ps) e h k =
+  inners_fine (Across c b ∷ ps) e h k does =
       let x = and_parts (body_fits (reach_of c) true rooms b) _ e in
       let y = and_parts (has_room (placed_body rooms b)) _ h in
-      let z = and_parts (has_known_states (placed_body [] b)) _ k in
-      let more = inners_fine ps x.1 y.1 z.1 in
+      let z = and_parts (states_fit (placed_body [] b)) _ k in
+      let more = inners_fine ps x.1 y.1 z.1 does.1 in
       record {
-        slim = (slim (reach_of c) true b x.0 y.0 z.0, more.slim);
+        slim = (slim (reach_of c) true b x.0 y.0 z.0 does.0, more.slim);
         rounds = λ n o some most lo. all_append _ _ _
             (loop n o some most (reach_of c) true b x.0 lo (positions n o c)
             (λ i lt. reach_ok n c i o lo lt)) (more.rounds n o some most lo);
@@ -384,36 +384,37 @@ module _ (may_have : ℕ → Spot → Type 0) (rooms : List Room) (rows : HaveRo
 
   steps_fine : (ss : List (StepOf Marked)) → steps_fit rooms ss ≡ true
       → steps_have_room (placed_steps rooms ss) ≡ true
-      → steps_have_known (placed_steps [] ss) ≡ true → StepsFine (placed_steps rooms ss)
-  steps_fine [] e h k = record { slim = tt; values = tt; rounds = λ n some most. tt }
-  steps_fine (Single b ∷ ss) e h k =
+      → steps_states_fit (placed_steps [] ss) ≡ true
+      → AllParts HasCommands (placed_steps rooms ss) → StepsFine (placed_steps rooms ss)
+  steps_fine [] e h k does = record { slim = tt; values = tt; rounds = λ n some most. tt }
+  steps_fine (Single b ∷ ss) e h k does =
       let x = and_parts (body_fits Nowhere false rooms b) _ e in
       let y = and_parts (has_room (placed_body rooms b)) _ h in
-      let z = and_parts (has_known_states (placed_body [] b)) _ k in
-      let more = steps_fine ss x.1 y.1 z.1 in
+      let z = and_parts (states_fit (placed_body [] b)) _ k in
+      let more = steps_fine ss x.1 y.1 z.1 does.1 in
       record {
-        slim = (slim Nowhere false b x.0 y.0 z.0, more.slim);
+        slim = (slim Nowhere false b x.0 y.0 z.0 does.0, more.slim);
         values = (tt, more.values);
         rounds = λ n some most.
             (round n 0 0 some most Nowhere false b x.0 tt tt, more.rounds n some most);
       }
-  steps_fine (Along b ∷ ss) e h k =
+  steps_fine (Along b ∷ ss) e h k does =
       let x = and_parts (body_fits Whole false rooms b) _ e in
       let y = and_parts (has_room (placed_body rooms b)) _ h in
-      let z = and_parts (has_known_states (placed_body [] b)) _ k in
-      let more = steps_fine ss x.1 y.1 z.1 in
+      let z = and_parts (states_fit (placed_body [] b)) _ k in
+      let more = steps_fine ss x.1 y.1 z.1 does.1 in
       record {
-        slim = (slim Whole false b x.0 y.0 z.0, more.slim);
+        slim = (slim Whole false b x.0 y.0 z.0 does.0, more.slim);
         values = (tt, more.values);
         rounds = λ n some most. all_append _ _ _
             (loop n 0 some most Whole false b x.0 tt n (λ i lt. lt)) (more.rounds n some most);
       }
-  steps_fine (Nest ps ∷ ss) e h k =
+  steps_fine (Nest ps ∷ ss) e h k does =
       let x = and_parts (inners_fit rooms ps) _ e in
       let y = and_parts (inners_have_room (map (inner_map (placed_body rooms)) ps)) _ h in
-      let z = and_parts (inners_have_known (map (inner_map (placed_body [])) ps)) _ k in
-      let here = inners_fine ps x.0 y.0 z.0 in
-      let more = steps_fine ss x.1 y.1 z.1 in
+      let z = and_parts (inners_states_fit (map (inner_map (placed_body [])) ps)) _ k in
+      let here = inners_fine ps x.0 y.0 z.0 does.0 in
+      let more = steps_fine ss x.1 y.1 z.1 does.1 in
       record {
         slim = (here.slim, more.slim);
         values = (tt, more.values);
@@ -422,14 +423,15 @@ module _ (may_have : ℕ → Spot → Type 0) (rooms : List Room) (rows : HaveRo
             (λ o. inner_rounds n o (map (inner_map (placed_body rooms)) ps)) 0 n n (omega arith)
             (λ o lt. here.rounds n o some most lt)) (more.rounds n some most);
       }
-  steps_fine (Flowed x ∷ ss) e h k = cc
+  steps_fine (Flowed x ∷ ss) e h k does = cc
 
 -- the tests on the marks say of every round at every width what it has to keep
 pub marks_are_enough : (may_have : ℕ → Spot → Type 0) → MarksAreEnough may_have
-marks_are_enough may_have rooms steps are among rows tested short states =
+marks_are_enough may_have rooms steps are among rows tested short states does =
     let ss = placed_steps rooms steps in
     let have = rooms_row may_have rooms (among 1 (omega arith) (omega arith)) (rows 1) in
-    let fine = steps_fine may_have rooms have are among steps tested (grind arith) (grind arith) in
+    let fine = steps_fine may_have rooms have are among steps tested (grind arith) (grind arith)
+    does in
     record {
       slim = fine.slim;
       find = steps_find_like rooms have [] steps ∙ (grind arith);

@@ -1,10 +1,10 @@
+pub mod Registers
 pub mod FlowLogic
 pub mod FlowFine
 pub mod FlowRounds
 pub mod RoundsMap
 pub mod Same
 pub mod Loop
-pub mod Placed
 pub mod Summed
 pub mod Costing
 pub mod Fitting
@@ -13,5 +13,4 @@ pub mod NoStates
 pub mod Rowed
 pub mod Good
 pub mod EveryRound
-pub mod EachRound
 pub mod Compile

@@ -1,6 +1,6 @@
 -- What a loop program has to keep, so that it can be compiled.
-use Rattle.std.specs.Prelude.{◌≡◌, ℕ, ◌+◌, ◌<◌, ◌≤◌, ◌==◌, Bool, true, false, ◌&&◌, nat_le, List}
-use Rattle.std.specs.Prelude.{[], ◌∷◌, length, is_some, if◌then◌else◌}
+use Rattle.std.specs.Prelude.{◌≡◌, ℕ, ◌+◌, ◌<◌, ◌≤◌, ◌==◌, Bool, true, ◌&&◌, nat_le, List}
+use Rattle.std.specs.Prelude.{[], ◌∷◌, length, if◌then◌else◌}
 use Rattle.std.specs.List.{AllByRecursion, list_all}
 use Rattle.bit_rows.specs.declared.TheConstants.{WIDTH_MAX}
 use Rattle.mig_graph.specs.Graph.{IsGraph}
@@ -13,17 +13,16 @@ use Rattle.loop_ir.specs.Loops.{all_rounds}
 use Rattle.loop_ir.specs.declared.ir.Place.{Place}
 use Rattle.loop_ir.specs.Spots.{Spot, is_state, nth_place}
 use Rattle.loop_ir.specs.WellFormed.{IsOneValue}
-use Rattle.loop_ir.specs.States.{StatesFit, has_states, held_of}
+use Rattle.loop_ir.specs.States.{StatesFit, has_states}
 use Rattle.loop_ir.specs.Chains.{steps_find}
-use Rattle.loop_ir.specs.Costs.{carries, used_subs, code_cost, bodies}
-use Rattle.loop_ir.specs.Limits.{IsCarried, IsRound, StepHasValues, step_stands}
+use Rattle.loop_ir.specs.Costs.{used_subs, code_cost, bodies}
+use Rattle.loop_ir.specs.Limits.{HasCommands, IsRound, StepHasValues, step_stands}
 
 -- a body's places and numbers, but for its nodes
 pub record IsSlim (b : Block) : Type 0 where
   pub reads : b.graph.inputs ≤ length b.reads
   pub states : StatesFit b
-  pub found : carries b ≡ true → IsCarried b
-  pub known : carries b ≡ false → has_states b ≡ true → is_some (held_of b) ≡ true
+  pub commands : HasCommands b
   pub apart : (i j : ℕ) → i < length b.writes → j < length b.writes
       → IsOneValue (nth_place b.writes i) (nth_place b.writes j) → i ≡ j
   pub same : (j k : ℕ) → j < length b.writes → k < length b.reads
@@ -86,26 +85,25 @@ are_rows_first [] = true
 are_rows_first (p ∷ ps) = if is_state p.space then list_all (λ q. is_state q.space) ps
     else are_rows_first ps
 
--- where the body has states, each read is an input, the rows are written first, and the body is one
--- of those that hold states
-abbrev pub has_known_states : Block → Bool
-has_known_states b = if has_states b then nat_le (length b.reads) b.graph.inputs
-    && (are_rows_first b.writes && is_some (held_of b)) else true
+-- where the body has states, each read is an input, and the rows are written first
+abbrev pub states_fit : Block → Bool
+states_fit b = if has_states b then nat_le (length b.reads) b.graph.inputs
+    && are_rows_first b.writes else true
 
 -- so it is in every body of a nest
-abbrev pub inners_have_known : List (InnerOf Block) → Bool
-inners_have_known [] = true
-inners_have_known (Alone b ∷ ps) = has_known_states b && inners_have_known ps
-inners_have_known (Across c b ∷ ps) = has_known_states b && inners_have_known ps
+abbrev pub inners_states_fit : List (InnerOf Block) → Bool
+inners_states_fit [] = true
+inners_states_fit (Alone b ∷ ps) = states_fit b && inners_states_fit ps
+inners_states_fit (Across c b ∷ ps) = states_fit b && inners_states_fit ps
 
 -- so it is in every body of a loop program
-abbrev pub steps_have_known : List (StepOf Block) → Bool
-steps_have_known [] = true
-steps_have_known (Single b ∷ ss) = has_known_states b && steps_have_known ss
-steps_have_known (Along b ∷ ss) = has_known_states b && steps_have_known ss
-steps_have_known (Nest ps ∷ ss) = inners_have_known ps && steps_have_known ss
-steps_have_known (Flowed f ∷ ss) = all_flow has_known_states f && steps_have_known ss
+abbrev pub steps_states_fit : List (StepOf Block) → Bool
+steps_states_fit [] = true
+steps_states_fit (Single b ∷ ss) = states_fit b && steps_states_fit ss
+steps_states_fit (Along b ∷ ss) = states_fit b && steps_states_fit ss
+steps_states_fit (Nest ps ∷ ss) = inners_states_fit ps && steps_states_fit ss
+steps_states_fit (Flowed f ∷ ss) = all_flow states_fit f && steps_states_fit ss
 
--- each body with states is one of those that hold states, and finds the states that it reads
+-- each body with states keeps these rules, and finds the states that it reads
 abbrev pub keeps_states : List (StepOf Block) → Bool
-keeps_states steps = steps_have_known steps && steps_find [] steps
+keeps_states steps = steps_states_fit steps && steps_find [] steps

@@ -3,6 +3,7 @@ use Rattle.std.specs.Prelude.{◌≡◌, ℕ, zero, suc, ◌<◌, ◌==◌, Bool
 use Rattle.std.specs.Prelude.{if◌then◌else◌, List, [], ◌∷◌, map, length}
 use Rattle.mig_graph.specs.declared.Lit.{Lit}
 use Rattle.mig_graph.specs.Graph.{Graph}
+use Rattle.row_alloc.specs.declared.body.BodyCmd.{BodyCmd}
 use Rattle.loop_ir.specs.declared.ir.Space.{Space}
 use Rattle.loop_ir.specs.declared.ir.Space.TheVariants.{Source, Cells}
 use Rattle.loop_ir.specs.declared.ir.Sub.{Sub}
@@ -67,6 +68,7 @@ pub record Marked : Type 0 where
   pub graph : Graph
   pub outs : List Lit
   pub writes : List Mark
+  pub found : List BodyCmd
 
 -- the place that an owner's place is, once it is known where the owners' rows lie
 abbrev pub placed : List Room → Mark → Place
@@ -80,7 +82,7 @@ placed_body rooms b = record {
   graph = b.graph;
   outs = b.outs;
   writes = map (placed rooms) b.writes;
-  found = [];
+  found = b.found;
 }
 
 -- a loop program with its places found

@@ -1,13 +1,14 @@
--- What the first of the known sequences that serves tells of the others
-use Rattle.std.proofs.Common.{◌≡◌, ℕ, zero, suc, ◌<◌, ◌≤◌, ◌&&◌, Bool, true, false, nat_le, List}
-use Rattle.std.proofs.Common.{[], ◌∷◌, length, get_or, refl, arith, inl, inr}
+-- What the first of sequences that serves tells of the others
+use Rattle.std.proofs.Common.{◌≡◌, ℕ, zero, suc, ◌+◌, ◌<◌, ◌≤◌, ◌&&◌, Bool, true, false, nat_le, List}
+use Rattle.std.proofs.Common.{[], ◌∷◌, length, get_or, refl, arith, inl, inr, subst}
 use Rattle.std.specs.List.{list_all}
 use Rattle.std.proofs.lemmas.Bool.{cases_lt, and_parts, leb-true}
 use Rattle.std.proofs.lemmas.List.Folds.{list_all_at}
 use Rattle.mig_graph.specs.Graph.{Graph}
 use Rattle.row_alloc.specs.declared.body.BodyCmd.{BodyCmd}
 use Rattle.row_alloc.specs.declared.body.OutRow.{OutRow}
-use Rattle.row_alloc.specs.Known.{Serves, IsFirst, known, known_at}
+use Rattle.row_alloc.specs.declared.body.Held.{Held}
+use Rattle.row_alloc.specs.Known.{Serves, IsFirst, known, known_at, ServesHeld, known_held, held_at}
 
 -- each is no longer than those after it
 unfoldable rising : List (List BodyCmd) → Bool
@@ -37,22 +38,43 @@ later (s ∷ ss) h (suc i) zero b l = omega (arith, b)
 later (s ∷ ss) h (suc i) (suc k) b l = later ss (following s ss h).1 i k (omega (arith, b))
     (omega (arith, l))
 
--- no known sequence that serves is shorter than the first
-pub first_least : (g : Graph) (outs : List OutRow) (i k : ℕ) → IsFirst g outs i → k < length known
-    → Serves g outs (known_at k) → length (known_at i) ≤ length (known_at k)
-unfolding rising
-first_least g outs i k first l s = elim (cases_lt k i) [
-  | inl b ↦ elim (first.before k b s) [ ]
-  | inr b ↦ later known refl i k b l
+-- none up to a number serves, and nor does that of the number
+pub none_more : (S : ℕ → Type 0) (k : ℕ) → ((i : ℕ) → i < k → S i → ⊥) → (S k → ⊥) → (i : ℕ)
+    → i < k + 1 → S i → ⊥
+none_more S k none not i l s = elim (cases_lt i k) [
+  | inl b ↦ none i b s
+  | inr b ↦ let e : i ≡ k = omega (arith, l, b) in not (subst S e s)
 ]
 
--- there is one first
-pub first_same : (g : Graph) (outs : List OutRow) (i k : ℕ) → IsFirst g outs i → IsFirst g outs k
-    → i ≡ k
-first_same g outs i k p q = elim (cases_lt i k) [
-  | inl b ↦ elim (q.before i b p.serves) [ ]
-  | inr b ↦ elim (cases_lt k i) [
-    | inl a ↦ elim (p.before k a q.serves) [ ]
-    | inr a ↦ omega (arith, a, b)
+-- the sequence of this number serves, and none before it
+module _ (g : Graph) (outs : List OutRow) (i : ℕ) (serves : Serves g outs (known_at i))
+    (before : (k : ℕ) → k < i → Serves g outs (known_at k) → ⊥) where
+  -- no other that serves is shorter
+  pub first_least : (k : ℕ) → k < length known → Serves g outs (known_at k)
+      → length (known_at i) ≤ length (known_at k)
+  unfolding rising
+  first_least k l s = elim (cases_lt k i) [
+    | inl b ↦ elim (before k b s) [ ]
+    | inr b ↦ later known refl i k b l
   ]
+
+  -- no other is the first
+  pub first_same : (k : ℕ) → IsFirst g outs k → i ≡ k
+  first_same k first = elim (cases_lt i k) [
+    | inl b ↦ elim (first.before i b serves) [ ]
+    | inr b ↦ elim (cases_lt k i) [
+      | inl a ↦ elim (before k a first.serves) [ ]
+      | inr a ↦ omega (arith, a, b)
+    ]
+  ]
+
+-- the same with states in cells
+pub held_least : (g : Graph) (outs : List OutRow) (enter leave : List Held) (i : ℕ)
+    → ((k : ℕ) → k < i → ServesHeld g outs enter leave (held_at k) → ⊥) → (k : ℕ)
+    → k < length known_held → ServesHeld g outs enter leave (held_at k)
+    → length (held_at i) ≤ length (held_at k)
+unfolding rising
+held_least g outs enter leave i before k l s = elim (cases_lt k i) [
+  | inl b ↦ elim (before k b s) [ ]
+  | inr b ↦ later known_held refl i k b l
 ]

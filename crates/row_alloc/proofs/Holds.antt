@@ -57,13 +57,8 @@ pub record Holds (rows : Rows) (t : Column) (x : BodyRef) (b : Bool) : Type 0 wh
   pub stored : is_stored cell ≡ true
   pub bit_is : bit t cell ≡ b
 
-unflip : (i v : Bool) → flip_if (i && not false) (flip_if i v) ≡ v
-unflip true true = refl
-unflip true false = refl
-unflip false v = refl
-
 complemented-value : (n : ℕ) (i v : Bool) → n ≢ 0 → flip_if (i && not (n == 0)) (flip_if i v) ≡ v
-complemented-value n i v h = rw (ne_eqb n 0 h) (unflip i v)
+complemented-value n i v h = grind (arith, h)
 
 constant-value : (i v : Bool) → v ≡ false → not (bit_number i == 0)
     ≡ flip_if (i && not (0 == 0)) (flip_if i v)
@@ -117,17 +112,10 @@ source-holds g outs rows s n m t l ready apart small below =
 
 into-lines : (rows : Rows) (l : Lit) → lines_of (place rows (into_of l))
     ≡ record { cell = Dcc 0; inverted = is_complemented l } ∷ []
-into-lines rows l = into-lines-at (is_complemented l)
-  where
-    into-lines-at : (b : Bool) → lines_of (place rows (if b then B 5 else B 4))
-        ≡ record { cell = Dcc 0; inverted = b } ∷ []
-    into-lines-at true = refl
-    into-lines-at false = refl
+into-lines rows l = grind arith
 
 flip-twice : (i b : Bool) → flip_if i (flip_if i b) ≡ b
-flip-twice true true = refl
-flip-twice true false = refl
-flip-twice false b = refl
+flip-twice i b = grind arith
 
 -- a node's commands put its value into the spill row
 pub node-puts : (g : Graph) (outs : List OutRow) (rows : Rows) (s : Column) (n m i : ℕ) (t : Column)
@@ -154,16 +142,12 @@ pub stash-puts : (g : Graph) (outs : List OutRow) (rows : Rows) (s : Column) (n 
 stash-puts g outs rows s n m i t l ready apart small below =
     λ r. by-turn (is_complemented l) (source-holds g outs rows s n m t l ready apart small below) r
   where
-    not-not : (b : Bool) → not (not b) ≡ b
-    not-not true = refl
-    not-not false = refl
-
     by-turn : (b : Bool) → Holds rows t (source_of g.inputs l)
         (flip_if b (value g (inputs_of rows s) l)) → (r : ℕ)
         → run_body rows (if b then Aap (source_of g.inputs l) (B 5) ∷ Aap (B 4) (Spill i) ∷ []
         else Aap (source_of g.inputs l) (Spill i) ∷ []) t (D r)
         ≡ (if rows.spill i == r then value g (inputs_of rows s) l else t (D r))
     by-turn true h r = not-commands t (place rows (source_of g.inputs l)) h.cell (rows.spill i) r
-        h.lines ∙ rw (h.bit_is, not-not (value g (inputs_of rows s) l)) refl
+        h.lines ∙ rw (h.bit_is, flip-twice true (value g (inputs_of rows s) l)) refl
     by-turn false h r = copy-command t (place rows (source_of g.inputs l)) h.cell (rows.spill i) r
         h.lines ∙ rw h.bit_is refl

@@ -1,24 +1,20 @@
 -- The plain body reads each input before it writes an output
-use Rattle.std.proofs.Common.{◌≡◌, ◌≢◌, ℕ, ◌-◌, ◌<◌, ◌≤◌, Bool, true, false, not, List, [], ◌∷◌}
+use Rattle.std.proofs.Common.{◌≡◌, ◌≢◌, ℕ, ◌-◌, ◌<◌, ◌≤◌, true, false, not, List, [], ◌∷◌}
 use Rattle.std.proofs.Common.{◌++◌, length, get_or, refl, sym, ◌∙◌, ap, arith, inl, inr}
 use Rattle.std.proofs.Common.{append_assoc, length-append}
-use Rattle.std.specs.Prelude.{if◌then◌else◌}
 use Rattle.std.proofs.lemmas.Bool.{cases_lt}
 use Rattle.std.proofs.lemmas.List.{append-nil, get_or_append_left, get_or-append_right}
 use Rattle.std.proofs.lemmas.List.Folds.{list_all-append, list_all_at}
 use Rattle.mig_graph.specs.declared.Lit.{Lit}
 use Rattle.mig_graph.specs.declared.Node.{Node}
-use Rattle.mig_graph.specs.Literals.{is_complemented}
 use Rattle.row_alloc.specs.declared.body.BodyRef.{BodyRef}
-use Rattle.row_alloc.specs.declared.body.BodyRef.TheVariants.{B, In, Out, Spill}
+use Rattle.row_alloc.specs.declared.body.BodyRef.TheVariants.{B, In, Out}
 use Rattle.row_alloc.specs.declared.body.BodyCmd.{BodyCmd}
-use Rattle.row_alloc.specs.declared.body.BodyCmd.TheVariants.{Aap, Ap}
+use Rattle.row_alloc.specs.declared.body.BodyCmd.TheVariants.{Ap}
 use Rattle.row_alloc.specs.declared.body.OutRow.{OutRow}
 use Rattle.row_alloc.specs.Body.{read_by, written_by, command_at, WritesLate}
-use Rattle.row_alloc.specs.Phases.{source_of, into_of, node_commands, stash_commands, is_out}
-use Rattle.row_alloc.proofs.Written.{is_in}
-use Rattle.row_alloc.specs.Phases.{keep_outputs}
-use Rattle.row_alloc.proofs.Written.{read_no_input, IsTwoParts}
+use Rattle.row_alloc.specs.Phases.{into_of, node_commands, stash_commands, is_out, keep_outputs}
+use Rattle.row_alloc.proofs.Written.{is_in, read_no_input, IsTwoParts}
 
 pub early-append : (xs ys : List BodyCmd) → keep_outputs xs ≡ true → keep_outputs ys ≡ true
     → keep_outputs (xs ++ ys) ≡ true
@@ -26,22 +22,13 @@ early-append xs ys h k = list_all-append (λ (c : BodyCmd). not (is_out (written
     ∙ rw (h, k) refl
 
 into-early : (l : Lit) → not (is_out (into_of l)) ≡ true
-into-early l = at (is_complemented l)
-  where
-    at : (b : Bool) → not (is_out (if b then B 5 else B 4)) ≡ true
-    at true = refl
-    at false = refl
+into-early l = grind arith
 
 pub node-early : (i k : ℕ) (x : Node) → keep_outputs (node_commands i x k) ≡ true
 node-early i k x = rw (into-early x.a) refl
 
 pub stash-early : (i k : ℕ) (l : Lit) → keep_outputs (stash_commands i l k) ≡ true
-stash-early i k l = at (is_complemented l)
-  where
-    at : (t : Bool) → keep_outputs (if t then Aap (source_of i l) (B 5) ∷ Aap (B 4) (Spill k) ∷ []
-        else Aap (source_of i l) (Spill k) ∷ []) ≡ true
-    at true = refl
-    at false = refl
+stash-early i k l = grind arith
 
 -- the first outputs may be written now
 pub parts-first : (cmds : List BodyCmd) → keep_outputs cmds ≡ true → IsTwoParts cmds

@@ -1,14 +1,14 @@
 -- The plain body's commands are legal
 use Rattle.std.proofs.Common.{◌≡◌, ℕ, ◌+◌, ◌-◌, ◌<◌, ◌≤◌, Bool, true, false, ◌&&◌, List, [], ◌∷◌}
 use Rattle.std.proofs.Common.{◌++◌, refl, ◌∙◌, arith, inl, inr}
-use Rattle.std.specs.Prelude.{if◌then◌else◌, nat_lt}
+use Rattle.std.specs.Prelude.{nat_lt}
 use Rattle.std.proofs.lemmas.Bool.Decides.{nat_tests}
 use Rattle.std.proofs.lemmas.List.Folds.{list_all-append}
 use Rattle.bit_rows.specs.Bits.{bit_number}
 use Rattle.mig_graph.specs.declared.Lit.{Lit}
 use Rattle.mig_graph.specs.declared.Node.{Node}
-use Rattle.mig_graph.specs.Literals.{is_complemented, IsLower}
-use Rattle.row_alloc.specs.declared.body.BodyRef.TheVariants.{B, Out, Spill}
+use Rattle.mig_graph.specs.Literals.{IsLower}
+use Rattle.row_alloc.specs.declared.body.BodyRef.TheVariants.{Out, Spill}
 use Rattle.row_alloc.specs.declared.body.BodyCmd.{BodyCmd}
 use Rattle.row_alloc.specs.declared.body.BodyCmd.TheVariants.{Aap}
 use Rattle.row_alloc.specs.Legal.{is_ref, is_first_ref, is_second_ref, is_legal_cmd, are_legal}
@@ -37,12 +37,7 @@ source-legal i o n l b small = elim (source-cases i l) [
     constant-legal false = refl
 
 into-legal : (i o : ℕ) (l : Lit) → (is_ref i o (into_of l) && is_second_ref (into_of l)) ≡ true
-into-legal i o l = at (is_complemented l)
-  where
-    at : (b : Bool) → (is_ref i o (if b then B 5 else B 4)
-        && is_second_ref (if b then B 5 else B 4)) ≡ true
-    at true = refl
-    at false = refl
+into-legal i o l = grind arith
 
 pub node-legal : (i o n k : ℕ) (x : Node) → IsLower (i + 1 + n) x → n ≤ 32 → k < 32
     → are_legal i o (node_commands i x k) ≡ true
@@ -56,12 +51,10 @@ node-legal i o n k x lower small l = rw (
 
 pub stash-legal : (i o n k : ℕ) (l : Lit) → l.node < i + 1 + n → n ≤ 32 → k < 32
     → are_legal i o (stash_commands i l k) ≡ true
-stash-legal i o n k l below small b = at (is_complemented l)
-  where
-    at : (t : Bool) → are_legal i o (if t then Aap (source_of i l) (B 5) ∷ Aap (B 4) (Spill k) ∷ []
-        else Aap (source_of i l) (Spill k) ∷ []) ≡ true
-    at true = rw (source-legal i o n l below small, less k 32 b) refl
-    at false = rw (source-legal i o n l below small, less k 32 b) refl
+stash-legal i o n k l below small b =
+    let s = source-legal i o n l below small in
+    let t = less k 32 b in
+    grind (arith, s, t)
 
 pub write-legal : (i o k m : ℕ) → k < 32 → m < o → are_legal i o (Aap (Spill k) (Out m) ∷ []) ≡ true
 write-legal i o k m a b = rw (less k 32 a, less m o b) refl

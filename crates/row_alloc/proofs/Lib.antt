@@ -12,9 +12,7 @@ pub mod Sound
 pub mod Renaming
 pub mod Checked
 pub mod Chosen
-pub mod Fixed
-pub mod First
+pub mod Literals
 pub mod Values
 pub mod HeldChecked
 pub mod Plainly
-pub mod HeldFirst

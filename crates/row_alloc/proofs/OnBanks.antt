@@ -42,36 +42,27 @@ second-legal rows (Spill n) h = refl
 stands-first : (limit : ℕ) (rows : Rows) (i o : ℕ) (x : BodyRef) → AreBelow limit rows i o
     → (is_ref i o x && is_first_ref x) ≡ true
     → (is_in_range limit (place rows x) && is_first (place rows x)) ≡ true
-stands-first limit rows i o x below h =
-    and-both (is_in_range limit (place rows x)) (is_first (place rows x))
-    (in-range limit rows i o x below (and-left (is_ref i o x) (is_first_ref x) h))
-    (first-legal rows x (and-right (is_ref i o x) (is_first_ref x) h))
+stands-first limit rows i o x below h = and-both _ _
+    (in-range limit rows i o x below (and-left _ _ h))
+    (first-legal rows x (and-right (is_ref i o x) _ h))
 
 stands-second : (limit : ℕ) (rows : Rows) (i o : ℕ) (x : BodyRef) → AreBelow limit rows i o
     → (is_ref i o x && is_second_ref x) ≡ true
     → (is_in_range limit (place rows x) && is_second (place rows x)) ≡ true
-stands-second limit rows i o x below h =
-    and-both (is_in_range limit (place rows x)) (is_second (place rows x))
-    (in-range limit rows i o x below (and-left (is_ref i o x) (is_second_ref x) h))
-    (second-legal rows x (and-right (is_ref i o x) (is_second_ref x) h))
+stands-second limit rows i o x below h = and-both _ _
+    (in-range limit rows i o x below (and-left _ _ h))
+    (second-legal rows x (and-right (is_ref i o x) _ h))
 
 command-legal : (limit : ℕ) (rows : Rows) (i o : ℕ) (cmd : BodyCmd) → AreBelow limit rows i o
     → is_legal_cmd i o cmd ≡ true → is_legal limit (bound rows cmd) ≡ true
 command-legal limit rows i o (Ap x) below h = stands-first limit rows i o x below h
-command-legal limit rows i o (Aap x y) below h =
-    and-both (is_in_range limit (place rows x) && is_first (place rows x))
-    (is_in_range limit (place rows y) && is_second (place rows y))
-    (stands-first limit rows i o x below (and-left (is_ref i o x && is_first_ref x) (is_ref i o y
-    && is_second_ref y) h))
-    (stands-second limit rows i o y below (and-right (is_ref i o x && is_first_ref x) (is_ref i o y
-    && is_second_ref y) h))
+command-legal limit rows i o (Aap x y) below h = and-both _ _
+    (stands-first limit rows i o x below (and-left _ _ h))
+    (stands-second limit rows i o y below (and-right (is_ref i o x && is_first_ref x) _ h))
 
 pub legal-on-banks : (limit i o : ℕ) (rows : Rows) (cmds : List BodyCmd) → AreBelow limit rows i o
     → are_legal i o cmds ≡ true → list_all (is_legal limit) (map (bound rows) cmds) ≡ true
 legal-on-banks limit i o rows [] below h = refl
-legal-on-banks limit i o rows (cmd ∷ cmds) below h =
-    and-both (is_legal limit (bound rows cmd)) (list_all (is_legal limit) (map (bound rows) cmds))
-    (command-legal limit rows i o cmd below (and-left (is_legal_cmd i o cmd) (are_legal i o cmds)
-    h))
-    (legal-on-banks limit i o rows cmds below
-    (and-right (is_legal_cmd i o cmd) (are_legal i o cmds) h))
+legal-on-banks limit i o rows (cmd ∷ cmds) below h = and-both _ _
+    (command-legal limit rows i o cmd below (and-left _ _ h))
+    (legal-on-banks limit i o rows cmds below (and-right (is_legal_cmd i o cmd) _ h))

@@ -2,7 +2,7 @@
 use Rattle.std.specs.Prelude.{◌≡◌, ℕ, suc, ◌+◌, ◌<◌, ◌≤◌, ◌==◌, Bool, true, false, not, ◌&&◌, ◌||◌}
 use Rattle.std.specs.Prelude.{if◌then◌else◌, List, [], ◌∷◌, length, map, slice_index_or, Option}
 use Rattle.std.specs.Prelude.{Some, None, refl}
-use Rattle.std.proofs.Common.{sym, ◌∙◌, ap, arith, subst, inl, inr, drop, drop-cons, add-one}
+use Rattle.std.proofs.Common.{◌⊎◌, sym, ◌∙◌, ap, arith, subst, inl, inr, drop, drop-cons, add-one}
 use Rattle.std.proofs.lemmas.Grind.{common_steps}
 use Rattle.std.proofs.lemmas.Bool.{eqb-true}
 use mathlib.Core.Bool.{beq}
@@ -19,16 +19,14 @@ use Rattle.mig_graph.specs.declared.Node.{Node}
 use Rattle.mig_graph.specs.Literals.{complement, node_of, node_value, IsAnyOrder}
 use Rattle.mig_graph.specs.Graph.{Graph, value, values, IsGraph, node_at, no_node, start}
 use Rattle.mig_graph.proofs.Laws.{flip-not, value-node, values-below, any-order, complemented-value}
-use Rattle.mig_graph.proofs.Laws.{majority-same, majority-not, majority-swap, majority-tail}
 use Rattle.row_alloc.specs.declared.body.BodyCmd.{BodyCmd}
 use Rattle.row_alloc.specs.Rows.{Rows, bound}
 use Rattle.row_alloc.specs.Symbolic.{Symbols, held, complemented_option, sym_read, lit_eq}
-use Rattle.row_alloc.specs.Symbolic.{are_twins}
-use Rattle.row_alloc.specs.Symbolic.{are_opposite, is_node, has_three, first_node, or_complement}
-use Rattle.row_alloc.specs.Symbolic.{node_for, node_for_all, sense_three, sym_sense_lines}
-use Rattle.row_alloc.specs.Symbolic.{sym_drive, sym_settle_lines, sym_sense, sym_settle, sym_step}
-use Rattle.row_alloc.specs.Symbolic.{sym_run}
-use Rattle.row_alloc.proofs.Booleans.{and-left, and-right, or-cases}
+use Rattle.row_alloc.specs.Symbolic.{are_twins, are_opposite, is_node, has_three, first_node}
+use Rattle.row_alloc.specs.Symbolic.{or_complement, node_for, node_for_all, sense_three}
+use Rattle.row_alloc.specs.Symbolic.{sym_sense_lines, sym_drive, sym_settle_lines, sym_sense}
+use Rattle.row_alloc.specs.Symbolic.{sym_settle, sym_step, sym_run}
+use Rattle.row_alloc.proofs.Booleans.{and-left, and-right}
 
 -- where there is a literal, it has the value b
 abbrev pub Means : Graph → (ℕ → Bool) → Option Lit → Bool → Type 0
@@ -40,50 +38,33 @@ abbrev pub IsSound : Graph → (ℕ → Bool) → Symbols → Column → Type 0
 IsSound g bits sy t = (c : Cell) → Means g bits (held sy c) (bit t c)
 
 beq-true : (i j : Bool) → beq i j ≡ true → i ≡ j
-beq-true true true h = refl
-beq-true true false h = sym h
-beq-true false true h = h
-beq-true false false h = refl
+beq-true i j h = grind (arith, h)
 
 lit-of : (x : Lit) (n : ℕ) (i : Bool) → x.node ≡ n → x.inverted ≡ i
     → x ≡ record { node = n; inverted = i }
 lit-of x n i e f = rw (← e, ← f) refl
 
 pub lit-eq-true : (x y : Lit) → lit_eq x y ≡ true → x ≡ y
-lit-eq-true x y h = lit-of x y.node y.inverted
-    (eqb-true x.node y.node (and-left (x.node == y.node) (beq x.inverted y.inverted) h))
-    (beq-true x.inverted y.inverted (and-right (x.node == y.node) (beq x.inverted y.inverted) h))
+lit-eq-true x y h = lit-of x y.node y.inverted (eqb-true x.node y.node (and-left _ _ h))
+    (beq-true x.inverted y.inverted (and-right (x.node == y.node) _ h))
 
 is-node-true : (n : Node) (x y z : Lit) → is_node n x y z ≡ true → (n.a ≡ x) × (n.b ≡ y) × (n.c ≡ z)
 is-node-true n x y z h =
     let r = and-right (lit_eq n.a x) (lit_eq n.b y && lit_eq n.c z) h in (
-      lit-eq-true n.a x (and-left (lit_eq n.a x) (lit_eq n.b y && lit_eq n.c z) h),
-      lit-eq-true n.b y (and-left (lit_eq n.b y) (lit_eq n.c z) r),
-      lit-eq-true n.c z (and-right (lit_eq n.b y) (lit_eq n.c z) r),
+      lit-eq-true n.a x (and-left _ _ h),
+      lit-eq-true n.b y (and-left _ _ r),
+      lit-eq-true n.c z (and-right (lit_eq n.b y) _ r),
     )
 
+or-sum : (a b : Bool) (P Q : Type 0) → (a ≡ true → P) → (b ≡ true → Q) → (a || b) ≡ true → P ⊎ Q
+or-sum true b P Q f g h = inl (f refl)
+or-sum false b P Q f g h = inr (g h)
+
 pub has-three-true : (n : Node) (x y z : Lit) → has_three n x y z ≡ true → IsAnyOrder n x y z
-has-three-true n x y z h =
-    elim (or-cases (is_node n x y z) (is_node n x z y
-    || (is_node n y x z || (is_node n y z x || (is_node n z x y || is_node n z y x)))) h) [
-      | inl a ↦ inl (is-node-true n x y z a)
-      | inr h ↦ elim (or-cases (is_node n x z y) (is_node n y x z
-          || (is_node n y z x || (is_node n z x y || is_node n z y x))) h) [
-            | inl a ↦ inr (inl (is-node-true n x z y a))
-            | inr h ↦ elim (or-cases (is_node n y x z) (is_node n y z x
-                || (is_node n z x y || is_node n z y x)) h) [
-                  | inl a ↦ inr (inr (inl (is-node-true n y x z a)))
-                  | inr h ↦ elim (or-cases (is_node n y z x)
-                      (is_node n z x y || is_node n z y x) h) [
-                        | inl a ↦ inr (inr (inr (inl (is-node-true n y z x a))))
-                        | inr h ↦ elim (or-cases (is_node n z x y) (is_node n z y x) h) [
-                          | inl a ↦ inr (inr (inr (inr (inl (is-node-true n z x y a)))))
-                          | inr a ↦ inr (inr (inr (inr (inr (is-node-true n z y x a)))))
-                        ]
-                      ]
-                ]
-          ]
-    ]
+has-three-true n x y z = or-sum _ _ _ _ (is-node-true n x y z)
+    (or-sum _ _ _ _ (is-node-true n x z y) (or-sum _ _ _ _ (is-node-true n y x z)
+    (or-sum _ _ _ _ (is-node-true n y z x) (or-sum _ _ _ _ (is-node-true n z x y)
+    (is-node-true n z y x)))))
 
 -- the node that is found has the majority of the three
 MeansNode : (ℕ → Bool) → Option ℕ → Bool → Type 0
@@ -143,7 +124,7 @@ opposite-values g bits (Some x) (Some y) a b e h i =
 opposite-values g bits (Some x) None a b e h i = absurd (cc)
 opposite-values g bits None q a b e h i = absurd (cc)
 
-means-if : (g : Graph) (bits : ℕ → Bool) (t : Bool) (p q : Option Lit) (b : Bool)
+pub means-if : (g : Graph) (bits : ℕ → Bool) (t : Bool) (p q : Option Lit) (b : Bool)
     → (t ≡ true → Means g bits p b) → Means g bits q b → Means g bits (if t then p else q) b
 means-if g bits true p q b h i = h refl
 means-if g bits false p q b h i = i
@@ -157,43 +138,25 @@ all-mean g bits (Some x) (Some y) None a b c graph h i j = tt
 all-mean g bits (Some x) None r a b c graph h i j = tt
 all-mean g bits None q r a b c graph h i j = tt
 
-same-12 : (a b c : Bool) → a ≡ b → majority a b c ≡ a
-same-12 a b c e = rw (← e) (majority-same a c)
-
-same-13 : (a b c : Bool) → a ≡ c → majority a b c ≡ a
-same-13 a b c e = majority-tail a b c ∙ same-12 a c b e
-
-same-23 : (a b c : Bool) → b ≡ c → majority a b c ≡ b
-same-23 a b c e = majority-swap a b c ∙ same-13 b a c e
-
-opposite-12 : (a b c : Bool) → b ≡ not a → majority a b c ≡ c
-opposite-12 a b c e = rw e (majority-not a c)
-
-opposite-13 : (a b c : Bool) → c ≡ not a → majority a b c ≡ b
-opposite-13 a b c e = majority-tail a b c ∙ opposite-12 a c b e
-
-opposite-23 : (a b c : Bool) → c ≡ not b → majority a b c ≡ a
-opposite-23 a b c e = majority-swap a b c ∙ opposite-13 b a c e
-
 -- what three lines sense has the majority of their values
 three-mean : (g : Graph) (bits : ℕ → Bool) (p q r : Option Lit) (a b c : Bool)
     → IsGraph g.inputs g.nodes → Means g bits p a → Means g bits q b → Means g bits r c
     → Means g bits (sense_three g p q r) (majority a b c)
-unfolding sense_three
+unfolding sense_three majority
 three-mean g bits p q r a b c graph h i j =
-    let m = majority a b c in
-    means-if g bits (are_twins p q) p _ m (λ e.
-    subst (Means g bits p) (sym (same-12 a b c (twins-equal g bits p q a b e h i))) h)
-    (means-if g bits (are_twins p r) p _ m (λ e.
-    subst (Means g bits p) (sym (same-13 a b c (twins-equal g bits p r a c e h j))) h)
-    (means-if g bits (are_twins q r) q _ m (λ e.
-    subst (Means g bits q) (sym (same-23 a b c (twins-equal g bits q r b c e i j))) i)
-    (means-if g bits (are_opposite p q) r _ m (λ e.
-    subst (Means g bits r) (sym (opposite-12 a b c (opposite-values g bits p q a b e h i))) j)
-    (means-if g bits (are_opposite p r) q _ m (λ e.
-    subst (Means g bits q) (sym (opposite-13 a b c (opposite-values g bits p r a c e h j))) i)
-    (means-if g bits (are_opposite q r) p _ m (λ e.
-    subst (Means g bits p) (sym (opposite-23 a b c (opposite-values g bits q r b c e i j))) h)
+    let to = λ (o : Option Lit) (d : Bool) (e : d ≡ majority a b c). subst (Means g bits o) e in
+    means-if g bits (are_twins p q) p _ _ (λ e.
+    let f = twins-equal g bits p q a b e h i in to p a (grind (arith, f)) h)
+    (means-if g bits (are_twins p r) p _ _ (λ e.
+    let f = twins-equal g bits p r a c e h j in to p a (grind (arith, f)) h)
+    (means-if g bits (are_twins q r) q _ _ (λ e.
+    let f = twins-equal g bits q r b c e i j in to q b (grind (arith, f)) i)
+    (means-if g bits (are_opposite p q) r _ _ (λ e.
+    let f = opposite-values g bits p q a b e h i in to r c (grind (arith, f)) j)
+    (means-if g bits (are_opposite p r) q _ _ (λ e.
+    let f = opposite-values g bits p r a c e h j in to q b (grind (arith, f)) i)
+    (means-if g bits (are_opposite q r) p _ _ (λ e.
+    let f = opposite-values g bits q r b c e i j in to p a (grind (arith, f)) h)
     (all-mean g bits p q r a b c graph h i j))))))
 
 complemented-means : (g : Graph) (bits : ℕ → Bool) (i : Bool) (p : Option Lit) (b : Bool)
@@ -215,8 +178,7 @@ sense-means g bits sy t [] graph h = tt
 sense-means g bits sy t (a ∷ []) graph h = read-means g bits sy t a h
 sense-means g bits sy t (a ∷ b ∷ []) graph h = tt
 sense-means g bits sy t (a ∷ b ∷ c ∷ more) graph h =
-    three-mean g bits (sym_read sy a) (sym_read sy b) (sym_read sy c) (read t a) (read t b)
-    (read t c) graph (read-means g bits sy t a h) (read-means g bits sy t b h)
+    three-mean g bits _ _ _ _ _ _ graph (read-means g bits sy t a h) (read-means g bits sy t b h)
     (read-means g bits sy t c h)
 
 choose-means : (g : Graph) (bits : ℕ → Bool) (w : Bool) (p q : Option Lit) (a b : Bool)
@@ -235,17 +197,15 @@ constant-means g bits i = at i (values-below (g.inputs + 1) g.nodes (start bits)
 drive-sound : (g : Graph) (bits : ℕ → Bool) (sy : Symbols) (t : Column) (line : Line)
     (v : Option Lit) (b : Bool) → Means g bits v b → IsSound g bits sy t
     → IsSound g bits (sym_drive line v sy) (drive line b t)
-drive-sound g bits sy t line v b h s (T k) = choose-means g bits (is_written line.cell (T k))
-    (complemented_option line.inverted v) (sy (T k)) (flip_if line.inverted b) (t (T k))
+drive-sound g bits sy t line v b h s (T k) =
+    choose-means g bits (is_written line.cell (T k)) _ _ _ _
     (complemented-means g bits line.inverted v b h) (s (T k))
 drive-sound g bits sy t line v b h s (Dcc k) =
-    choose-means g bits (is_written line.cell (Dcc k)) (complemented_option line.inverted v) (sy
-    (Dcc k))
-    (flip_if line.inverted b) (t (Dcc k)) (complemented-means g bits line.inverted v b h) (s (Dcc
-    k))
+    choose-means g bits (is_written line.cell (Dcc k)) _ _ _ _
+    (complemented-means g bits line.inverted v b h) (s (Dcc k))
 drive-sound g bits sy t line v b h s (C k) = constant-means g bits (not (k == 0))
-drive-sound g bits sy t line v b h s (D k) = choose-means g bits (is_written line.cell (D k))
-    (complemented_option line.inverted v) (sy (D k)) (flip_if line.inverted b) (t (D k))
+drive-sound g bits sy t line v b h s (D k) =
+    choose-means g bits (is_written line.cell (D k)) _ _ _ _
     (complemented-means g bits line.inverted v b h) (s (D k))
 
 settle-sound : (g : Graph) (bits : ℕ → Bool) (sy : Symbols) (t : Column) (lines : List Line)

@@ -80,8 +80,8 @@ abbrev pub taken : List Held → Symbols → Symbols
 taken [] sy = sy
 taken (h ∷ hs) sy = taken hs (sym_settle_lines (layout h.layout) (Some h.lit) sy)
 
--- what each cell holds after the commands, as `symbols_after`, where these literals stand in cells
--- at entry
+-- what each cell holds after the commands, where each row of the body stands at a number of its own
+-- and these literals stand in cells at entry
 abbrev pub symbols_held : Graph → List OutRow → List Held → List BodyCmd → Symbols
 symbols_held g outs enter cmds = sym_run g (map (bound (own_rows outs)) cmds)
     (taken enter (rows_start g.inputs enter))
@@ -99,3 +99,7 @@ pub record IsHeldChecked (g : Graph) (outs : List OutRow) (enter leave : List He
   pub ends : (j : ℕ) → j < length outs → symbols_held g outs enter cmds
       (D ((own_rows outs).output j)) ≡ Some (out_at outs j).lit
   pub leaves : AllByRecursion (IsLeft (symbols_held g outs enter cmds)) leave
+
+-- the same of a body that holds nothing in cells
+abbrev pub IsChecked : Graph → List OutRow → List BodyCmd → Type 0
+IsChecked g outs cmds = IsHeldChecked g outs [] [] cmds

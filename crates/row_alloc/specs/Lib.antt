@@ -12,4 +12,3 @@ pub mod Known
 pub mod Found
 pub mod Layouts
 pub mod Held
-pub mod HeldBodies

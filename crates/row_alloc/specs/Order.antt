@@ -1,4 +1,5 @@
 -- Inside the test that outputs are written late: what it asks of each command
+-- Private contracts alone speak of this.
 use Rattle.std.specs.Prelude.{◌≡◌, ◌≢◌, ℕ, ◌<◌, List, Option, Some, None}
 use Rattle.row_alloc.specs.declared.body.BodyRef.{BodyRef}
 use Rattle.row_alloc.specs.declared.body.BodyRef.TheVariants.{In, Out}

@@ -6,13 +6,12 @@ ghost use Rattle.dram_model.specs.declared.address.Cell.TheVariants.{D as CellD}
 ghost use Rattle.dram_model.specs.Column.{lines_of, is_address};
 ghost use Rattle.row_alloc.specs.Rows.{place, bound, out_at};
 ghost use Rattle.row_alloc.specs.Legal.{is_ref, is_legal_cmd, are_legal};
-ghost use Rattle.row_alloc.specs.Body.{FitBody, DoesBody};
+ghost use Rattle.row_alloc.specs.Body.{FitBody};
 ghost use Rattle.row_alloc.specs.Numbering.{own_rows, own_output};
-ghost use Rattle.row_alloc.specs.Symbolic.{sym_sense, sym_settle, sym_step, sym_run, IsChecked};
+ghost use Rattle.row_alloc.specs.Symbolic.{sym_sense, sym_settle, sym_step, sym_run};
 ghost use Rattle.row_alloc.specs.Table.{symbols_of, is_kept};
 
 use crate::body::{BodyCmd, BodyRef, OutRow};
-use crate::legal::all_legal;
 use crate::sensing::sense;
 use crate::table::CellLiterals;
 use dram_model::{Addr, lines};
@@ -110,22 +109,4 @@ pub fn ends_right(outs: &[OutRow], inputs: u8, table: &CellLiterals) -> bool
         }
     }
     true
-}
-
-/// Whether the body is legal and its symbolic run ends right. Then it does what a body must.
-///
-/// Not every right body is found right: where three lines sense a value that no node of the graph
-/// has, the run knows nothing of it.
-pub fn check_body(m: &Mig, outs: &[OutRow], cmds: &[BodyCmd]) -> bool
-    requires fit { FitBody m.now outs.now }
-    ensures exact { IsTrue result ↔ IsChecked m.now outs.now cmds.now }
-    ensures does { IsTrue result → DoesBody m.now outs.now cmds.now }
-{
-    let inputs = m.inputs();
-    if !all_legal(cmds, inputs, outs.len() as u8) {
-        return false;
-    }
-    let mut table = CellLiterals::new(inputs);
-    follow(m, outs, &mut table, cmds);
-    ends_right(outs, inputs, &table)
 }

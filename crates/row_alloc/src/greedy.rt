@@ -9,12 +9,11 @@ ghost use Rattle.row_alloc.specs.Length.{plain_length};
 ghost use Rattle.row_alloc.specs.Phases.{source_of};
 ghost use Rattle.row_alloc.specs.declared.body.BodyRef.TheVariants.{Out};
 ghost use Rattle.row_alloc.specs.declared.body.BodyCmd.TheVariants.{Aap};
-ghost use Rattle.row_alloc.specs.Known.{Serves, IsFirst, known, known_at, WordBody, graph_in};
-ghost use Rattle.row_alloc.specs.Known.{outs_in, sequence_for};
+ghost use Rattle.row_alloc.specs.Known.{Serves, IsFirst, known, known_at};
 
 use crate::beam::{Breadth, DEEP, NARROW, WIDE, beam_body};
 use crate::body::{BodyCmd, OutRow};
-use crate::check::check_body;
+use crate::held::check_body;
 use crate::known::KNOWN;
 use crate::order::writes_late;
 use crate::plain::plain_body;
@@ -31,7 +30,7 @@ fn serves(m: &Mig, outs: &[OutRow], cmds: &[BodyCmd]) -> bool
 }
 
 /// The sequence of this number.
-pub fn nth(sequences: &[&'static [BodyCmd]], k: usize) -> &'static [BodyCmd]
+pub(crate) fn nth(sequences: &[&'static [BodyCmd]], k: usize) -> &'static [BodyCmd]
     requires { k < length sequences.now }
     ensures { result.now ≡ slice_index_or (map (λ s. s.now) sequences.now) k [] }
 {
@@ -46,17 +45,22 @@ fn sequence(k: usize) -> &'static [BodyCmd]
     nth(&KNOWN, k)
 }
 
-/// The number of the first known sequence that may stand for the body.
-fn first_known(m: &Mig, outs: &[OutRow]) -> Option<usize>
+/// The first known sequence that may stand for the body.
+fn first_known(m: &Mig, outs: &[OutRow]) -> Option<&'static [BodyCmd]>
     requires fit { FitBody m.now outs.now }
-    ensures some { IfSome result (λ k. IsFirst m.now outs.now k) }
-    ensures does { IfSome result (λ k. DoesBody m.now outs.now (known_at k)) }
+    ensures does { IfSome result (λ cmds. DoesBody m.now outs.now cmds.now) }
+    ensures late { IfSome result (λ cmds. WritesLate outs.now cmds.now) }
+    ensures first { IfSome result (λ cmds. (k : ℕ) → IsFirst m.now outs.now k
+        → cmds.now ≡ known_at k) }
+    ensures least { IfSome result (λ cmds. (k : ℕ) → k < length known
+        → Serves m.now outs.now (known_at k) → length cmds.now ≤ length (known_at k)) }
     ensures none { IfNone result ((k : ℕ) → k < length known
         → Serves m.now outs.now (known_at k) → ⊥) }
 {
     for k in 0..KNOWN.len() {
-        if serves(m, outs, sequence(k)) {
-            return Some(k);
+        let cmds = sequence(k);
+        if serves(m, outs, cmds) {
+            return Some(cmds);
         }
     }
     None
@@ -137,7 +141,7 @@ pub(crate) fn quick_body(
 {
     let plain = plain_body(m, outs, alloc)?;
     match first_known(m, outs) {
-        Some(k) if sequence(k).len() <= plain.len() => copied(sequence(k), alloc),
+        Some(cmds) if cmds.len() <= plain.len() => copied(cmds, alloc),
         _ => shorter_of(m, outs, plain, breadth, most, alloc),
     }
 }
@@ -150,8 +154,8 @@ pub(crate) fn quick_body(
 /// then those of a third, and else the plain body stands.
 ///
 /// The row of an input that is an output too is written after the last command that reads it. The
-/// B cells and the spill rows may hold anything at entry, and are left with anything. Only want of
-/// memory is an `Err`.
+/// B cells and the spill rows may hold anything at entry, and are left with anything. It is an
+/// `Err` only where it runs out of memory.
 pub fn greedy_body(m: &Mig, outs: &[OutRow], alloc: Global) -> Result<Vec<BodyCmd>, NoMemory>
     requires fit { FitBody m.now outs.now }
     ensures does { IfOk result (λ cmds. DoesBody m.now outs.now cmds.items) }
@@ -169,16 +173,13 @@ pub fn greedy_body(m: &Mig, outs: &[OutRow], alloc: Global) -> Result<Vec<BodyCm
     ensures copy { IfOk result (λ cmds. length m.now.nodes ≡ 0 → length outs.now ≡ 1
         → turns (out_at outs.now 0).lit ≡ false → cmds.items
         ≡ Aap (source_of m.now.inputs (out_at outs.now 0).lit) (Out 0) ∷ []) }
-    // A body of the word operations takes its own sequence.
-    ensures word { IfOk result (λ cmds. (b : WordBody) → m.now ≡ graph_in b
-        → map (λ o. o.lit) outs.now ≡ outs_in b → cmds.items ≡ known_at (sequence_for b)) }
 {
     let plain = plain_body(m, outs, alloc)?;
     if plain.len() <= 1 {
         return Ok(plain);
     }
     match first_known(m, outs) {
-        Some(k) if sequence(k).len() <= plain.len() => copied(sequence(k), alloc),
+        Some(cmds) if cmds.len() <= plain.len() => copied(cmds, alloc),
         _ => shorter(m, outs, plain, alloc),
     }
 }

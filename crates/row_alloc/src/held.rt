@@ -1,15 +1,14 @@
-//! A body that finds inputs in cells and leaves values in cells, followed with literals in place of
-//! bits.
+//! Whether commands do a body that finds inputs in cells and leaves values in cells.
 
 ghost use Rattle.std.specs.Prelude.{◌≡◌, ◌↔◌, IsTrue, Some, true};
 ghost use Rattle.std.specs.List.{AllByRecursion, list_all};
 ghost use Rattle.dram_model.specs.declared.address.Line.{Line as LineOf};
-ghost use Rattle.row_alloc.specs.Body.{FitBody};
+ghost use Rattle.row_alloc.specs.Body.{FitBody, DoesBody};
 ghost use Rattle.row_alloc.specs.Symbolic.{sym_read};
 ghost use Rattle.row_alloc.specs.Table.{symbols_of, is_kept};
 ghost use Rattle.row_alloc.specs.Held.{is_held as is_held_in, is_read as is_read_of};
 ghost use Rattle.row_alloc.specs.Held.{reads_rows as reads_rows_of, have_layouts};
-ghost use Rattle.row_alloc.specs.Held.{DoesHeld, IsHeldChecked, IsLeft};
+ghost use Rattle.row_alloc.specs.Held.{DoesHeld, IsHeldChecked, IsChecked, IsLeft};
 
 use crate::body::{BodyCmd, BodyRef, Held, OutRow};
 use crate::check::{ends_right, follow};
@@ -76,7 +75,11 @@ fn leaves_right(leave: &[Held], table: &CellLiterals) -> bool
     }
 }
 
-/// As `check_body`, where inputs stand in cells at entry, and values in cells at exit.
+/// Whether the commands are legal and their symbolic run ends right, where inputs stand in cells at
+/// entry, and values in cells at exit. Then they do the body.
+///
+/// Not every right body is found right: where three lines sense a value that no node of the graph
+/// has, the run knows nothing of it.
 pub fn check_held(
     m: &Mig,
     outs: &[OutRow],
@@ -100,4 +103,13 @@ pub fn check_held(
     let mut table = CellLiterals::holding(inputs, enter);
     follow(m, outs, &mut table, cmds);
     ends_right(outs, inputs, &table) && leaves_right(leave, &table)
+}
+
+/// As `check_held`, where all inputs and outputs stand in rows.
+pub fn check_body(m: &Mig, outs: &[OutRow], cmds: &[BodyCmd]) -> bool
+    requires fit { FitBody m.now outs.now }
+    ensures exact { IsTrue result ↔ IsChecked m.now outs.now cmds.now }
+    ensures does { IsTrue result → DoesBody m.now outs.now cmds.now }
+{
+    check_held(m, outs, &[], &[], cmds)
 }

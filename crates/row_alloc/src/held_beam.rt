@@ -1,17 +1,17 @@
-//! The commands of a body that holds states in cells, where a beam finds them.
+//! The commands of a body that holds states in cells, where they are known or a beam finds them.
 
-ghost use Rattle.std.specs.Prelude.{◌≡◌, ◌<◌, ◌≤◌, ◌↔◌, ℕ, length, true, IsTrue, IfOk, IfSome};
-ghost use Rattle.std.specs.Prelude.{IfNone};
+ghost use Rattle.std.specs.Prelude.{◌≡◌, ◌<◌, ◌≤◌, ◌↔◌, ℕ, length, true, IsTrue};
+ghost use Rattle.std.specs.Prelude.{IfOk, IfSome, IfNone};
 ghost use Rattle.row_alloc.specs.Body.{FitBody};
 ghost use Rattle.row_alloc.specs.Found.{IsFoundHeld};
 ghost use Rattle.row_alloc.specs.Held.{have_layouts};
-ghost use Rattle.row_alloc.specs.HeldBodies.{IsFirstHeld, MayHold, held_at};
+ghost use Rattle.row_alloc.specs.Known.{ServesHeld, MayHold, known_held, held_at};
 
 use crate::beam::{BROAD, Breadth, DEEP, NARROW, WIDE, beam_body};
 use crate::body::{BodyCmd, Held, OutRow};
 use crate::found::{Search, fits};
 use crate::greedy::copied;
-use crate::held_table::{held_body, serves};
+use crate::known_held::{first_held, serves};
 use crate::layout::LAYOUT_COUNT;
 use mig_graph::{Mig, NoMemory};
 use std::alloc::Global;
@@ -108,8 +108,8 @@ fn may_hold(m: &Mig, outs: &[OutRow], enter: &[Held], leave: &[Held]) -> bool
 /// many are known or found: the first of the known sequences that serves, and else what the search
 /// finds.
 ///
-/// That a body has no shorter commands is not said, nor is it of one for which none are found. Only
-/// want of memory is an `Err`.
+/// That a body has no shorter commands is not said, nor is it of one for which none are found. It
+/// is an `Err` only where it runs out of memory.
 pub fn held_commands_of(
     m: &Mig,
     outs: &[OutRow],
@@ -121,19 +121,19 @@ pub fn held_commands_of(
 ) -> Result<Option<Vec<BodyCmd>>, NoMemory>
     ensures found { IfOk result (λ o. IfSome o (λ cmds. IsFoundHeld m.now outs.now enter.now
         leave.now most cmds.items)) }
-    // No more than the known sequence that serves.
-    ensures known { IfOk result (λ o. IfSome o (λ cmds. (k : ℕ)
-        → IsFirstHeld m.now outs.now enter.now leave.now k
+    // No more than any known sequence that serves.
+    ensures least { IfOk result (λ o. IfSome o (λ cmds. (k : ℕ) → k < length known_held
+        → ServesHeld m.now outs.now enter.now leave.now (held_at k)
         → length cmds.items ≤ length (held_at k))) }
     // None for a body that can have commands only where no known sequence of so many serves.
     ensures none { IfOk result (λ o. IfNone o (MayHold m.now outs.now enter.now leave.now
-        → (k : ℕ) → IsFirstHeld m.now outs.now enter.now leave.now k
-        → most < length (held_at k))) }
+        → (k : ℕ) → k < length known_held
+        → ServesHeld m.now outs.now enter.now leave.now (held_at k) → most < length (held_at k))) }
 {
     if !may_hold(m, outs, enter, leave) {
         return Ok(None);
     }
-    match held_body(m, outs, enter, leave) {
+    match first_held(m, outs, enter, leave) {
         Some(cmds) if cmds.len() <= most => Ok(Some(copied(cmds, alloc)?)),
         _ => search_held(m, outs, enter, leave, search, most, alloc),
     }

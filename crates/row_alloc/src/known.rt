@@ -1,4 +1,4 @@
-//! Sequences for the bodies that words are worked by, each with as few commands as are known.
+//! Sequences for bodies, each with as few commands as are known.
 //!
 //! A sequence does not say which graph it is for. It serves each body of which the symbolic run
 //! says so: inputs, outputs and the literals that three lines sense must fit.

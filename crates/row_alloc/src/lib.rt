@@ -15,9 +15,9 @@ mod found;
 mod greedy;
 mod held;
 mod held_beam;
-mod held_table;
 mod idle;
-mod known;
+pub mod known;
+pub mod known_held;
 mod laws;
 mod layout;
 mod legal;
@@ -31,15 +31,10 @@ mod set;
 mod table;
 
 pub use body::{BodyCmd, BodyRef, Held, OutRow};
-pub use check::check_body;
 pub use found::{Search, find_body};
 pub use greedy::greedy_body;
-pub use held::check_held;
+pub use held::{check_body, check_held};
 pub use held_beam::held_commands_of;
-pub use held_table::held_body;
-pub use laws::{
-    fixed_sequences_serve, held_bodies_have_sequences, legal_bodies_are_legal_on_banks,
-    rows_can_stand_apart, word_bodies_have_sequences,
-};
+pub use laws::{fixed_sequences, legal_bodies_are_legal_on_banks, rows_can_stand_apart};
 pub use mig_graph::NoMemory;
 pub use plain::plain_body;

@@ -1,6 +1,6 @@
 //! The commands of one node and of one output.
 
-ghost use Rattle.std.specs.Prelude.{◌≡◌, ◌<◌, ◌≤◌, ◌+◌, ℕ, length, false, ◌++◌, ◌∷◌, [], OnOk};
+ghost use Rattle.std.specs.Prelude.{◌≡◌, ◌<◌, ◌≤◌, ◌+◌, ℕ, length, false, ◌++◌, OnOk};
 ghost use Rattle.mig_graph.specs.Literals.{IsAnyOrder, IsLower, inversions, node_of};
 ghost use Rattle.mig_graph.specs.Literals.{is_complemented as turns};
 ghost use Rattle.mig_graph.specs.Graph.{node_at};

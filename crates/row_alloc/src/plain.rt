@@ -3,7 +3,7 @@
 //!
 //! So every input is read before any output is written, and an output may stand in an input's row.
 
-ghost use Rattle.std.specs.Prelude.{◌≡◌, ◌<◌, ◌≤◌, ◌+◌, ◌*◌, ℕ, List, [], ◌∷◌, length, false};
+ghost use Rattle.std.specs.Prelude.{◌≡◌, ◌<◌, ◌≤◌, ◌+◌, ◌*◌, List, [], ◌∷◌, length, false};
 ghost use Rattle.std.specs.Prelude.{IfOk, sum_by};
 ghost use Rattle.mig_graph.specs.Literals.{is_complemented as turns};
 ghost use Rattle.row_alloc.specs.Rows.{out_at};

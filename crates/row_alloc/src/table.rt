@@ -5,7 +5,7 @@ ghost use Rattle.std.specs.Prelude.{if◌then◌else◌, not, ◌&&◌};
 ghost use Rattle.std.specs.List.{list_all};
 ghost use Rattle.row_alloc.specs.Symbolic.{complemented_option, sym_read, sym_drive};
 ghost use Rattle.row_alloc.specs.Symbolic.{sym_settle_lines};
-ghost use Rattle.row_alloc.specs.Symbolic.{held as held_of, at_start};
+ghost use Rattle.row_alloc.specs.Symbolic.{held as held_of};
 ghost use Rattle.row_alloc.specs.Table.{symbols_of, is_kept};
 ghost use Rattle.row_alloc.specs.Held.{have_layouts, is_held as is_held_in, taken, rows_start};
 
@@ -25,20 +25,6 @@ pub struct CellLiterals {
 }
 
 impl CellLiterals {
-    /// Each input in its own row, and nothing else.
-    pub fn new(inputs: u8) -> CellLiterals
-        requires { inputs ≤ 80 }
-        ensures { symbols_of result ≡ at_start inputs }
-    {
-        let mut d = [None; 120];
-        fill_inputs(&mut d, inputs);
-        CellLiterals {
-            t: [None; 4],
-            dcc: [None; 2],
-            d,
-        }
-    }
-
     /// Each input that is not held in its own row, and these literals in their layouts.
     pub fn holding(inputs: u8, enter: &[Held]) -> CellLiterals
         requires inputs { inputs ≤ 80 }
@@ -121,21 +107,6 @@ fn turn(inverted: bool, l: Option<Lit>) -> Option<Lit>
 {
     let l = l?;
     Some(if inverted { complement(l) } else { l })
-}
-
-/// The literal of each input, in the first places.
-fn fill_inputs(d: &mut [Option<Lit>], inputs: u8)
-    requires long { inputs ≤ length d.old }
-    requires empty { (n : ℕ) → slice_index_or d.old n None ≡ None }
-    ensures { (n : ℕ) → slice_index_or d.new n None
-        ≡ (if nat_lt n inputs then Some (record { node = n + 1; inverted = false }) else None) }
-{
-    for k in 0..inputs {
-        d[k as usize] = Some(Lit {
-            node: u32::from(k) + 1,
-            inverted: false,
-        });
-    }
 }
 
 /// The literal of each input that is not held, in its own place.

@@ -1,5 +1,2 @@
--- The registers, rows and commands of a body.
-pub mod Fixed
-pub mod Held
+-- The rows of a body's outputs, and its commands.
 pub mod Outs
-pub mod Refs

@@ -1,5 +1,4 @@
 -- How many commands the word operations take.
-pub mod Placed
-pub mod Carried
+pub mod Kinds
 pub mod Exact
 pub mod Counted

@@ -9,5 +9,5 @@ pub mod Named
 pub mod Ranges
 pub mod Laid
 pub mod Agree
-pub mod Settled
+pub mod Numbers
 pub mod Top

@@ -1,4 +1,4 @@
--- The code of a body, whose indices are in registers, and of a flow's bodies.
+-- The code of a body, whose indices are in registers.
 -- Private contracts alone speak of this.
 use Rattle.std.specs.Prelude.{ℕ, if◌then◌else◌, List, map, nat_lt}
 use Rattle.uprog_code.specs.declared.code.RowSpace.{RowSpace}
@@ -10,7 +10,6 @@ use Rattle.row_alloc.specs.declared.body.BodyRef.{BodyRef}
 use Rattle.row_alloc.specs.declared.body.BodyRef.TheVariants as ref
 use Rattle.row_alloc.specs.declared.body.BodyCmd.{BodyCmd}
 use Rattle.row_alloc.specs.declared.body.BodyCmd.TheVariants as cmd
-use Rattle.row_alloc.specs.declared.body.OutRow.{OutRow}
 use Rattle.loop_ir.specs.declared.ir.Sub.{Sub}
 use Rattle.loop_ir.specs.declared.ir.Sub.TheVariants.{Zero, Top, Inner as At_inner, InnerDown}
 use Rattle.loop_ir.specs.declared.ir.Sub.TheVariants.{Outer, OuterDown, Sum, DownSum, DownPlusN}
@@ -22,13 +21,7 @@ use Rattle.loop_ir.specs.declared.ir.Place.{Place}
 use Rattle.loop_ir.specs.Plain.{Block}
 use Rattle.loop_ir.specs.Spots.{nth_place}
 
--- a body, its outputs with the inputs whose rows they share, and its commands
-pub record Part : Type 0 where
-  pub block : Block
-  pub outs : List OutRow
-  pub cmds : List BodyCmd
-
--- the space of a row: what stands in cells has none, and is given a bit's
+-- The space of a row. What stands in cells has none, and is given a bit's
 abbrev pub row_space : Space → RowSpace
 row_space Result = row.Result
 row_space Source = row.Source
@@ -80,9 +73,5 @@ code_uop b (cmd.Aap x y) = Aap (code_ref b x) (code_ref b y)
 code_uop b (cmd.Ap x) = Ap (code_ref b x)
 
 -- the instructions of a body's commands
-abbrev pub body_uops : Part → List Uop
-body_uops p = map (code_uop p.block) p.cmds
-
--- the body alone
-abbrev pub block_of_part : Part → Block
-block_of_part p = p.block
+abbrev pub body_uops : Block → List Uop
+body_uops b = map (code_uop b) b.found

@@ -1,5 +1,5 @@
 -- What the code of loop programs does.
-use Rattle.std.specs.Prelude.{◌≡◌, ◌⊎◌, ℕ, ◌+◌, ◌<◌, ◌≤◌, List, [], ◌∷◌, ◌++◌, map, length, sum_by}
+use Rattle.std.specs.Prelude.{◌≡◌, ℕ, ◌+◌, ◌<◌, ◌≤◌, List, [], ◌∷◌, ◌++◌, map, sum_by}
 use Rattle.std.specs.List.{range_with_len}
 use Rattle.bit_rows.specs.declared.TheConstants.{WIDTH_MAX}
 use Rattle.bit_rows.specs.Bits.{value}
@@ -7,6 +7,7 @@ use Rattle.dram_model.specs.declared.address.Cell.TheVariants.{D}
 use Rattle.dram_model.specs.Column.{Column, run}
 use Rattle.op_text.specs.declared.tree.Kind.{Kind}
 use Rattle.uprog_code.specs.declared.code.Uop.{Uop}
+use Rattle.uprog_code.specs.declared.walker.Counts.{Counts}
 use Rattle.uprog_code.specs.Shape.{Shape, width, results}
 use Rattle.uprog_code.specs.Machine.{HasEnded, issues_of, trace}
 use Rattle.uprog_code.specs.Count.{counts_of}
@@ -14,22 +15,25 @@ use Rattle.uprog_code.specs.Bound.{Bound, bound}
 use Rattle.uprog_code.specs.Fits.{Fits, IsTouched}
 use Rattle.loop_ir.specs.declared.ir.Space.{Space}
 use Rattle.loop_ir.specs.declared.ir.Space.TheVariants.{Result, Source}
-use Rattle.loop_ir.specs.Plain.{Block, StepOf, AllParts}
-use Rattle.loop_ir.specs.Loops.{all_rounds}
+use Rattle.loop_ir.specs.Plain.{Block, StepOf}
+use Rattle.loop_ir.specs.Loops.{RoundOf, all_rounds}
 use Rattle.loop_ir.specs.Spots.{Spots, after_rounds}
-use Rattle.loop_ir.specs.Costs.{rounds_cost}
-use Rattle.uprog_gen.specs.Settled.{IsSettled, rounds_counts, all_counted}
+use Rattle.loop_ir.specs.Costs.{turn_aaps, turn_aps, rounds_cost}
 use Rattle.uprog_gen.specs.Where.{spots_in, Agree}
 
--- The code ends, takes no more commands than its rounds may, and exactly theirs where all bodies
--- are settled, leaves the bits of the named rows as the rounds do, and no other row changes but the
--- spill rows
+-- the AAP and the AP of all rounds
+abbrev pub rounds_counts : List (RoundOf Block) → Counts
+rounds_counts rs = record {
+  aap = sum_by (λ r. turn_aaps r.part) rs;
+  ap = sum_by (λ r. turn_aps r.part) rs;
+}
+
+-- The code ends and takes exactly the commands of its rounds. It leaves the bits of the named rows
+-- as the rounds do, and no other row changes but the spill rows
 pub record DoesRounds (head : Shape) (n : ℕ) (steps : List (StepOf Block)) (code : List Uop) : Type
     0 where
   pub ends : HasEnded (trace head code n)
-  pub few : length (issues_of (trace head code n)) ≤ rounds_cost (all_rounds n steps)
-  pub exact : AllParts IsSettled steps
-      → counts_of (issues_of (trace head code n)) ≡ rounds_counts (all_rounds n steps)
+  pub exact : counts_of (issues_of (trace head code n)) ≡ rounds_counts (all_rounds n steps)
   pub agrees : (rows : ℕ) (b : Bound) (s : Column) → Fits rows head n b
       → Agree head n b (after_rounds n (all_rounds n steps) (spots_in head n b s))
       (run (bound rows head n b (issues_of (trace head code n))) s)
@@ -59,11 +63,9 @@ numbers_in space n [] which bits = []
 numbers_in space n (k ∷ ks) which bits = spot_number space which (width k n) bits
     ∷ numbers_in space n ks (which + 1) bits
 
--- A statement's rounds at n take at most so many commands: as many as its bodies may, or exactly
--- theirs where all of them are settled
+-- a statement's rounds at n take at most so many commands
 abbrev pub IsCheap : ℕ → List (StepOf Block) → ℕ → Type 0
-IsCheap n p most = (rounds_cost (all_rounds n p) ≤ most)
-    ⊎ (AllParts IsSettled p × (all_counted (rounds_counts (all_rounds n p)) ≤ most))
+IsCheap n p most = rounds_cost (all_rounds n p) ≤ most
 
 -- each statement's rounds at n take at most its ceiling
 abbrev pub AreCheap : ℕ → List (List (StepOf Block)) → List (ℕ → ℕ) → Type 0

@@ -1,5 +1,4 @@
 -- The code of an operation over the flows of its statements.
--- Private contracts alone speak of this.
 use Rattle.std.specs.Prelude.{◌≡◌, ℕ, ◌<◌, ◌≤◌, List, [], ◌∷◌, length, map}
 use Rattle.bit_rows.specs.declared.TheConstants.{WIDTH_MAX}
 use Rattle.op_text.specs.Language.{Statement}
@@ -9,8 +8,8 @@ use Rattle.uprog_code.specs.Legal.{IsLegalCode}
 use Rattle.uprog_code.specs.Implements.{Implements}
 use Rattle.uprog_code.specs.Machine.{trace, issues_of}
 use Rattle.loop_ir.specs.Plain.{Block, StepOf}
-use Rattle.loop_ir.specs.Flows.{FlowOf}
-use Rattle.loop_ir.specs.Costs.{code_cost}
+use Rattle.loop_ir.specs.Flows.{FlowOf, flow_size}
+use Rattle.loop_ir.specs.Costs.{body_cost}
 use Rattle.loop_ir.specs.Spots.{Spot}
 use Rattle.loop_ir.specs.Statements.{Slots}
 use Rattle.loop_front.specs.Front.{front}
@@ -18,13 +17,13 @@ use Rattle.loop_front.specs.FlowOfSteps.{IsFlowOf}
 use Rattle.uprog_gen.specs.Does.{DoesRounds, Means, AreCheap, joined, total}
 use Rattle.uprog_gen.specs.Programs.{AreLowered, HaveForms, AreWritten, HasParts}
 
--- each flow does its statement's loop program, which takes at most 256 instructions
+-- each flow does its statement's loop program, and takes at most 256 instructions
 abbrev pub AreFlowsOf : (ℕ → Spot → Type 0) → List (List (StepOf Block)) → List (FlowOf Block)
     → Type 0
 AreFlowsOf may_have [] [] = Unit {0}
 AreFlowsOf may_have [] (f ∷ fs) = ⊥
 AreFlowsOf may_have (p ∷ ps) [] = ⊥
-AreFlowsOf may_have (p ∷ ps) (f ∷ fs) = (IsFlowOf may_have p f × (code_cost p ≤ 256))
+AreFlowsOf may_have (p ∷ ps) (f ∷ fs) = (IsFlowOf may_have p f × (flow_size body_cost f ≤ 256))
     × AreFlowsOf may_have ps fs
 
 -- The code is legal, has a part for each statement, and does the rounds of their loop programs

@@ -10,10 +10,10 @@ use Rattle.op_text.specs.Scratch.{defines, names_width}
 use Rattle.uprog_code.specs.Machine.{trace, issues_of}
 use Rattle.uprog_code.specs.Count.{counts_of}
 use Rattle.uprog_code.specs.Shape.{Microprogram}
-use Rattle.loop_ir.specs.Plain.{Block, StepOf, AllParts}
+use Rattle.loop_ir.specs.Plain.{Block, StepOf}
 use Rattle.loop_ir.specs.Loops.{all_rounds}
+use Rattle.loop_ir.specs.Costs.{turn_aaps, turn_aps}
 use Rattle.uprog_gen.specs.Costs.{op_aaps, op_aps}
-use Rattle.uprog_gen.specs.Settled.{turn_aaps, turn_aps, IsSettled}
 
 -- the statement is a word operation, and no block
 abbrev pub is_word : Statement → Bool
@@ -27,13 +27,6 @@ words_total f known n (Compute target second p args ∷ body) = f p (names_width
     + words_total f (known ++ defines known (Compute target second p args)) n body
 words_total f known n (Visit b ∷ body) = words_total f (known ++ defines known (Visit b)) n body
 
--- the commands of each block's bodies are settled
-abbrev pub BlocksSettled : List Statement → List (List (StepOf Block)) → Type 0
-BlocksSettled [] ps = Unit {0}
-BlocksSettled (s ∷ body) [] = Unit {0}
-BlocksSettled (Compute target second p args ∷ body) (q ∷ ps) = BlocksSettled body ps
-BlocksSettled (Visit b ∷ body) (q ∷ ps) = AllParts IsSettled q × BlocksSettled body ps
-
 -- the sum over a body's statements, where these names are known: of a word operation its own
 -- number, and of a block that of its bodies in all rounds
 abbrev pub parts_total : (WordOp → ℕ → ℕ) → (Block → ℕ) → List Param → ℕ → List Statement
@@ -46,17 +39,17 @@ parts_total f g known n (Compute target second p args ∷ body) (q ∷ ps) =
 parts_total f g known n (Visit b ∷ body) (q ∷ ps) = sum_by (λ r. g r.part) (all_rounds n q)
     + parts_total f g (known ++ defines known (Visit b)) n body ps
 
--- Where its blocks' bodies have settled commands, an operation whose statements have these loop
--- programs takes at each width exactly the commands of its parts
+-- an operation whose statements have these loop programs takes at each width exactly the commands
+-- of its parts
 pub record IsExactOver (e : Microprogram) (op : Operation) (statements : List (List (StepOf Block)))
     : Type 0 where
-  pub exact : BlocksSettled op.body statements → (n : ℕ) → 0 < n → n ≤ WIDTH_MAX
+  pub exact : (n : ℕ) → 0 < n → n ≤ WIDTH_MAX
       → counts_of (issues_of (trace e.shape e.code n)) ≡ record {
         aap = parts_total op_aaps turn_aaps op.params n op.body statements;
         ap = parts_total op_aps turn_aps op.params n op.body statements;
       }
 
--- An operation of word operations alone takes at each width exactly the sum of their commands
+-- an operation of word operations alone takes at each width exactly the sum of their commands
 pub record IsExact (e : Microprogram) (op : Operation) : Type 0 where
   pub exact : list_all is_word op.body ≡ true → (n : ℕ) → 0 < n → n ≤ WIDTH_MAX
       → counts_of (issues_of (trace e.shape e.code n)) ≡ record {

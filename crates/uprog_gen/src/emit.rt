@@ -1,21 +1,19 @@
-//! Instructions, one after another.
+//! The instructions of a body's commands.
 
-ghost use Rattle.std.specs.Prelude.{◌≡◌, ◌++◌, true, OnOk};
-ghost use Rattle.row_alloc.specs.declared.body.BodyRef.{BodyRef};
+ghost use Rattle.std.specs.Prelude.{◌≡◌, ◌+◌, ◌≤◌, ◌++◌, length, OnOk};
 ghost use Rattle.loop_ir.specs.Plain.{block_of};
+ghost use Rattle.loop_ir.specs.Costs.{body_cost};
+ghost use Rattle.loop_ir.specs.Limits.{IsSmall};
 ghost use Rattle.uprog_gen.specs.Code.{row_space, register, index_in, place_ref, code_ref};
 ghost use Rattle.uprog_gen.specs.Code.{code_uop, body_uops};
-ghost use Rattle.uprog_gen.specs.Made.{part_of, is_ref_of, are_refs_of};
-ghost use Rattle.uprog_gen.specs.Parts.{IsPart};
 
-use crate::part::Made;
 use faults::keep;
 use loop_ir::{Body, Place, Space, Sub, place_at};
 use mig_graph::NoMemory;
 use row_alloc::{BodyCmd, BodyRef};
 use uprog_code::{RowRef, RowSpace, Uop};
 
-/// The space of a row; what stands in cells has none, and is given a bit's.
+/// The space of a row. What stands in cells has none, and is given a bit's.
 fn row_space(space: Space) -> RowSpace
     ensures { result ≡ row_space space }
 {
@@ -73,7 +71,6 @@ fn fixed_row(space: RowSpace, which: u8) -> RowRef
 
 /// A body's row in the code.
 fn row_ref(body: &Body, row: BodyRef) -> RowRef
-    requires { is_ref_of (block_of body.now) row ≡ true }
     ensures { result ≡ code_ref (block_of body.now) row }
 {
     match row {
@@ -87,7 +84,6 @@ fn row_ref(body: &Body, row: BodyRef) -> RowRef
 
 /// A body's command in the code.
 fn uop_of(body: &Body, cmd: BodyCmd) -> Uop
-    requires { are_refs_of (block_of body.now) cmd ≡ true }
     ensures { result ≡ code_uop (block_of body.now) cmd }
 {
     match cmd {
@@ -96,13 +92,15 @@ fn uop_of(body: &Body, cmd: BodyCmd) -> Uop
     }
 }
 
-/// The body's commands.
-pub fn push_commands(code: &mut Vec<Uop>, body: &Body, made: &Made) -> Result<(), NoMemory>
-    requires { IsPart (part_of (block_of body.now) made.now) }
-    ensures { OnOk result (code.new.items ≡ code.old.items
-        ++ body_uops (part_of (block_of body.now) made.now)) }
+/// The commands that the body carries.
+pub fn push_commands(code: &mut Vec<Uop>, body: &Body) -> Result<(), NoMemory>
+    requires { IsSmall (block_of body.now) }
+    ensures emits { OnOk result (code.new.items ≡ code.old.items
+        ++ body_uops (block_of body.now)) }
+    ensures short { OnOk result (length code.new.items
+        ≤ length code.old.items + body_cost (block_of body.now)) }
 {
-    for cmd in &made.cmds {
+    for cmd in &body.found {
         keep(code, uop_of(body, *cmd))?;
     }
     Ok(())

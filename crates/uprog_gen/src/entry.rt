@@ -19,7 +19,7 @@ use uprog_code::{EntryCode, Head, Uop};
 
 /// The code of an operation whose statements have these flows.
 ///
-/// Only want of memory is an `Err`.
+/// It is an `Err` only where it runs out of memory.
 pub fn compile_entry(head: Head, flows: &[Flow], alloc: Global) -> Result<EntryCode, NoMemory>
     requires small { AllByRecursion (AllFlow IsSmall) (map flow_of flows.now) }
     requires short { AllByRecursion (λ f. flow_size body_cost f ≤ 256) (map flow_of flows.now) }
@@ -33,7 +33,7 @@ pub fn compile_entry(head: Head, flows: &[Flow], alloc: Global) -> Result<EntryC
 {
     let mut code = Vec::new(alloc);
     for flow in flows {
-        emit_flow(flow, &mut code, alloc)?;
+        emit_flow(flow, &mut code)?;
     }
     keep(&mut code, Uop::Done)?;
     Ok(EntryCode { head, code })

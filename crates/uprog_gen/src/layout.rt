@@ -245,7 +245,7 @@ fn place_statement(names: &mut NameMap, owner: &Op, stmt: &Stmt) -> Result<(), N
 /// The places of the names of an operation: the parameters are the sources, each result stands in
 /// its own rows, and every other name that the body defines takes the next bit or word of scratch.
 ///
-/// Only want of memory is an `Err`.
+/// It is an `Err` only where it runs out of memory.
 pub fn lay_out(op: &Op, alloc: Global) -> Result<NameMap, NoMemory>
     requires { OperationMeets (operation op.now) }
     ensures { IfOk result (IsLayoutMap (operation op.now)) }

@@ -1,4 +1,4 @@
-//! The compiler from loop programs to microprograms.
+//! The compiler from operations to microprograms.
 #![tactic(auto)]
 
 mod emit;
@@ -9,8 +9,6 @@ mod head;
 mod layout;
 mod lowering;
 mod ops;
-mod part;
-mod states;
 
 pub use entry::compile_entry;
 pub use layout::lay_out;

@@ -18,22 +18,17 @@ use faults::keep;
 use loop_front::front;
 use loop_ir::{LoopProgram, NameMap};
 use mig_graph::NoMemory;
-use op_text::{Op, Stmt, WordOp};
+use op_text::{Op, Stmt};
 use std::alloc::Global;
 use word_flow::lower_flow;
-use word_lower::lower_linear;
+use word_lower::{is_linear, lower_linear};
 
 /// Whether it is a word operation that is a flow.
 fn is_flow(s: &Stmt) -> bool
     ensures { result ≡ is_flow_statement (statement s.now) }
 {
     match s {
-        Stmt::Word { op, .. } => match op {
-            WordOp::Shl1 | WordOp::Shr1 => true,
-            WordOp::Mul | WordOp::Div | WordOp::Rem | WordOp::Divmod | WordOp::Bitcount => true,
-            WordOp::Abs | WordOp::Relu | WordOp::AndRed | WordOp::OrRed | WordOp::XorRed => true,
-            _ => false,
-        },
+        Stmt::Word { op, .. } => !is_linear(*op),
         Stmt::Serial { .. } => false,
     }
 }
@@ -57,6 +52,8 @@ fn lower_statement(s: &Stmt, names: &NameMap, alloc: Global) -> Result<LoopProgr
 }
 
 /// The places of an operation's names, and the flows of its statements.
+///
+/// It is an `Err` only where it runs out of memory.
 pub fn lower(op: &Op, alloc: Global) -> Result<Lowered, NoMemory>
     requires meets { OperationMeets (operation op.now) }
     ensures names { IfOk result (λ l. IsLayoutMap (operation op.now) l.names) }

@@ -76,14 +76,15 @@ fn compile_each(ops: &[Op], alloc: Global) -> Result<Compiled, NoMemory>
 /// The program of a text's operations, an entry for each, in order, and the graphs of their serial
 /// blocks.
 ///
-/// Only want of memory is an `Err`.
+/// It is an `Err` only where it runs out of memory.
 pub fn compile_ops(ops: &Ops, alloc: Global) -> Result<Compiled, NoMemory>
     requires meets { MeetRules (operations ops.now) }
     ensures implements { IfOk result (λ c. ImplementsAll (microprograms_of c.program)
         (map text_op (operations ops.now))) }
     // A file can hold it.
     ensures program { IfOk result (λ c. IsProgram (microprograms_of c.program)) }
-    // Each has a part of at most 256 instructions for each statement, which does it, and DONE.
+    // Each has a part of at most 256 instructions for each statement, which does it, and DONE; and
+    // it takes exactly the commands of its parts.
     ensures compiled { IfOk result (λ c. AreCompiled (microprograms_of c.program)
         (operations ops.now)) }
     // The graphs are those of the blocks, and no entry takes more commands than they say.

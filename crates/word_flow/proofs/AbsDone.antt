@@ -1,6 +1,6 @@
 -- The flow of abs does a statement of it.
 use Rattle.word_flow.proofs.Common.{◌≡◌, ℕ, zero, suc, ◌+◌, ◌-◌, ◌*◌, ◌^◌, ◌<◌, ◌≤◌, Bool, true}
-use Rattle.word_flow.proofs.Common.{false, cond, List, [], ◌∷◌, not, None, refl, sym, ap, ◌∙◌}
+use Rattle.word_flow.proofs.Common.{false, cond, List, [], ◌∷◌, not, refl, sym, ap, ◌∙◌}
 use Rattle.word_flow.proofs.Common.{arith, ◌==◌, ◌%◌, nat_lt, Word, half, Space, Extent, Full}
 use Rattle.word_flow.proofs.Common.{Owner, InRoom, InCells, value_below, last_sum, top_half}
 use Rattle.word_flow.proofs.Common.{flow_aps, flow_total, values_from, sense_three, first_node}
@@ -37,7 +37,7 @@ start c = record {
 }
 
 holds : (s0 : Space) (w0 : ℕ) (s1 : Space) (w1 : ℕ) (b : Part)
-    → body_holds (word_rooms Word s0 w0 s1 w1) known aps_in w None (code b) ≡ true
+    → body_holds (word_rooms Word s0 w0 s1 w1) known aps_in w (code b) ≡ true
 unfolding sense_three first_node
 holds s0 w0 s1 w1 Copied = refl
 holds s0 w0 s1 w1 Seen = refl

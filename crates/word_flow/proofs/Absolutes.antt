@@ -1,6 +1,6 @@
 -- `abs` as a flow: its bodies, and how they follow one another.
 use Rattle.word_flow.proofs.Common.{◌==◌, if◌then◌else◌, SetI, SetT, AddI, SubI, FlowOf, End, Do}
-use Rattle.word_flow.proofs.Common.{Put, If, Loop, Last, Coded, coded_of}
+use Rattle.word_flow.proofs.Common.{Put, If, Loop, Last, Marked, coded_of}
 use Rattle.std.specs.Prelude.{ℕ, ◌-◌, ◌*◌}
 use Rattle.word_flow.specs.declared.abs.TheConstants.{COPIES, SEES, SEES_LAST, NEGATES}
 use Rattle.word_flow.specs.declared.abs.TheConstants.{NEGATES_LAST, ENDS}
@@ -16,7 +16,7 @@ pub data Part : Type 0 where
   Top : Part
 
 -- what each reads, computes and writes, and its commands, as the table has them
-abbrev pub code : Part → Coded
+abbrev pub code : Part → Marked
 code Copied = coded_of COPIES
 code Seen = coded_of SEES
 code SeenLast = coded_of SEES_LAST

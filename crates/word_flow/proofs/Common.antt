@@ -3,46 +3,44 @@ pub use Rattle.bit_rows.specs.Bits.{flip_if}
 unfoldable pub use Rattle.bit_rows.specs.Bits.{majority}
 pub use Rattle.bit_rows.specs.declared.TheConstants.{WIDTH_MAX}
 pub use Rattle.loop_ir.specs.Chains.{chained, finds, left_by}
-pub use Rattle.loop_ir.specs.Costs.{carries, code_cost, plain_cost, plain_costs, rounds_cost}
-pub use Rattle.loop_ir.specs.Costs.{turn_cost, used_subs}
+pub use Rattle.loop_ir.specs.Costs.{code_cost, is_ap, plain_cost, plain_costs, rounds_cost}
+pub use Rattle.loop_ir.specs.Costs.{turn_aps, turn_cost}
 pub use Rattle.loop_ir.specs.Flows.{AllActs, AllFlow, EventOf, FlowOf, TurnsOf, acts_map, all_flow}
 pub use Rattle.loop_ir.specs.Flows.{flow_map, run, zeros}
 pub use Rattle.loop_ir.specs.Flows.EventOf.{Counted, Done, Moved}
 pub use Rattle.loop_ir.specs.Flows.FlowOf.{Do, End, If, Loop, Put}
 pub use Rattle.loop_ir.specs.Flows.TurnsOf.{Last, Turn}
-pub use Rattle.loop_ir.specs.Limits.{HasValues, IsCarried, IsHad, IsRound, stays_in_registers}
+pub use Rattle.loop_ir.specs.Limits.{HasCommands, HasValues, IsRound, stays_in_registers}
 pub use Rattle.loop_ir.specs.Loops.{RoundOf, all_rounds, flow_rounds, rounds_in, sub_value}
 pub use Rattle.loop_ir.specs.Lowered.{Holds, HoldsAt, IsChanged, IsLowered, IsStatementRow}
 pub use Rattle.loop_ir.specs.Lowered.{op_plain_ceiling, slot_bits}
 pub use Rattle.loop_ir.specs.Plain.{AllParts, Block, StepOf, flow_of, steps_of}
 pub use Rattle.loop_ir.specs.Plain.StepOf.{Flowed}
 pub use Rattle.loop_ir.specs.Spots.{IsOwn, Spot, Spots, after_round, after_rounds, is_state}
-pub use Rattle.loop_ir.specs.Spots.{nth_place, nth_spot, set_spot, spot_at, spot_in, write_all}
+pub use Rattle.loop_ir.specs.Spots.{nth_spot, set_spot, spot_in, write_all}
 pub use Rattle.loop_ir.specs.Statements.{ComputeMeets, IsPlaced, SecondMeets, Slots, StatementMeets}
 pub use Rattle.loop_ir.specs.Statements.{holds_kind, read_names, slots_of, statement_names}
 pub use Rattle.loop_ir.specs.Statements.{written_names}
-pub use Rattle.loop_ir.specs.States.{enters, leaves, row_count}
 pub use Rattle.loop_ir.specs.declared.ir.Move.TheVariants.{AddI, Mov, SetI, SetN, SetT, SubI}
 pub use Rattle.loop_ir.specs.declared.ir.Space.{Space}
 pub use Rattle.loop_ir.specs.declared.ir.Space.TheVariants.{ScratchBit, ScratchWord, Source}
 pub use Rattle.loop_ir.specs.declared.names.Slot.{Slot}
-pub use Rattle.loop_laws.proofs.Alike.{HaveRows, enters_like, finds_like, first_like, leaves_like}
-pub use Rattle.loop_laws.proofs.Alike.{left_like, plain_like, rows_first, state_like}
-pub use Rattle.loop_laws.proofs.EveryRound.{below_map, first, most_is, nth_placed, own_of, own_spot}
-pub use Rattle.loop_laws.proofs.EveryRound.{owned_at, owner_cases, owners_apart, placed_same}
+pub use Rattle.loop_laws.proofs.Alike.{HaveRows, finds_like}
+pub use Rattle.loop_laws.proofs.Alike.{left_like, plain_like}
+pub use Rattle.loop_laws.proofs.EveryRound.{most_is}
+pub use Rattle.loop_laws.proofs.EveryRound.{owner_cases, owners_apart}
 pub use Rattle.loop_laws.proofs.EveryRound.{rooms_row, rounds_among}
-pub use Rattle.loop_laws.proofs.Fitting.{IsThere, mark_at}
+pub use Rattle.loop_laws.proofs.Fitting.{IsThere}
 pub use Rattle.loop_laws.proofs.FlowFine.{Fine, IsSafe, safe_is}
 pub use Rattle.loop_laws.proofs.FlowLogic.{Claim, sound, wp, wp_loop, wp_none, wp_some}
 unfoldable pub use Rattle.loop_laws.proofs.FlowLogic.{AllFine, after}
 pub use Rattle.loop_laws.proofs.FlowRounds.{event_map, run_all, run_map}
-pub use Rattle.loop_laws.specs.Forms.{HasForm, IsMade, IsSlim, are_rows_first, has_room}
-pub use Rattle.loop_laws.specs.Rooms.{placed_body, RoomsApart, same_owner, writes_fit, none_like}
+pub use Rattle.loop_laws.specs.Forms.{HasForm, IsMade, IsSlim}
+pub use Rattle.loop_laws.specs.Rooms.{placed_body, RoomsApart, same_owner, writes_fit}
 pub use Rattle.loop_laws.specs.Rooms.{is_there, room_for, InCells, IsOwned, room_at, Extent, InRoom}
 pub use Rattle.loop_laws.specs.Rooms.{Marked, extent, placed, row_in, Owner, Full, Mark, Room, One}
-pub use Rattle.mig_graph.specs.Graph.{Graph, IsGraph, size_of, start, values}
+pub use Rattle.mig_graph.specs.Graph.{start, values}
 unfoldable pub use Rattle.mig_graph.specs.Graph.{values_from}
-pub use Rattle.mig_graph.specs.Outputs.{AreNamed, lit_at}
 pub use Rattle.mig_graph.specs.declared.Lit.{Lit}
 pub use Rattle.op_text.specs.Costs.{op_ceiling}
 pub use Rattle.op_text.specs.Language.{Compute, Statement, statement}
@@ -56,20 +54,15 @@ pub use Rattle.op_text.specs.WordOps.{filled, forms, second_gives, second_kind, 
 pub use Rattle.op_text.specs.declared.tree.Kind.{Kind}
 pub use Rattle.op_text.specs.declared.tree.Kind.TheVariants.{Bit, Word}
 pub use Rattle.op_text.specs.declared.word_ops.WordOp.{WordOp}
-pub use Rattle.row_alloc.specs.Body.{FitBody}
-pub use Rattle.row_alloc.specs.Held.{DoesHeld, IsHeldChecked, IsLeft, reads_rows, symbols_held}
-pub use Rattle.row_alloc.specs.Rows.{out_at}
-pub use Rattle.row_alloc.specs.Symbolic.{Symbols, sym_read}
 unfoldable pub use Rattle.row_alloc.specs.Symbolic.{first_node, sense_three}
 pub use Rattle.row_alloc.specs.declared.body.BodyCmd.{BodyCmd}
-pub use Rattle.row_alloc.specs.declared.body.OutRow.{OutRow}
 pub use Rattle.std.proofs.Common.{Bool, List, None, Option, Some, [], ap, arith, cond, drop, false}
 pub use Rattle.std.proofs.Common.{inl, inr, length, map, not, refl, reverse, slice_index_or, subst}
 pub use Rattle.std.proofs.Common.{suc, sym, take, true, zero, ℕ, ⊎_elim, ◌*◌, ◌++◌, ◌+◌, ◌-◌, ◌<◌}
-pub use Rattle.std.proofs.Common.{◌^◌, ◌∙◌, ◌∷◌, ◌≡◌, ◌≢◌, ◌≤◌, ◌⊎◌}
+pub use Rattle.std.proofs.Common.{◌^◌, ◌∙◌, ◌∷◌, ◌≡◌, ◌≤◌, ◌⊎◌}
 pub use Rattle.std.proofs.Math.Nat.{pow-suc, pow-zero}
 pub use Rattle.std.proofs.lemmas.Bool.{and_from, and_parts, cases_Bool, cases_eq, eq-eqb, eqb-true}
-pub use Rattle.std.proofs.lemmas.Bool.{le-leb, lt-ltb, ltb-true, ne_eqb}
+pub use Rattle.std.proofs.lemmas.Bool.{le-leb, lt-ltb, ne_eqb}
 pub use Rattle.std.proofs.lemmas.List.{append-nil, drop_more, length-map, map-append}
 pub use Rattle.std.proofs.lemmas.List.{reverse-append}
 pub use Rattle.std.proofs.lemmas.List.Sums.{sum_by-cons}
@@ -80,11 +73,12 @@ pub use Rattle.std.specs.Option.{option_to_list}
 pub use Rattle.std.specs.Prelude.{bytes_eq, count_by, if◌then◌else◌, nat_le, nat_lt, slice_index}
 pub use Rattle.std.specs.Prelude.{slice_set, sum_by, unwrap_or, ◌%◌, ◌&&◌, ◌/◌, ◌==◌, ◌||◌}
 pub use Rattle.word_flow.specs.Bodies.{coded_on, line_holds, lines_hold, slot_at, slots_for}
-pub use Rattle.word_flow.specs.Coded.{Coded, aps_of, coded_body, is_ap}
 pub use Rattle.word_flow.specs.Places.{IsFlowWritten, rooms_for, rows_on, scratch_word, steps_for}
-pub use Rattle.word_flow.specs.Plans.{coded_of, first_of, flows_on, line_on, mark_of, others_of}
+pub use Rattle.word_flow.specs.Plans.{coded_of, first_of, flows_on, four_of, line_on, mark_of}
+pub use Rattle.word_flow.specs.Plans.{others_of}
 pub use Rattle.word_flow.specs.Programs.{digits, flow_aps, flow_for, flow_total, is_flow}
-pub use Rattle.word_flow.specs.Programs.{is_flow_statement, lines_for, statement_total}
+pub use Rattle.word_flow.specs.Programs.{is_flow_statement, lines_for, rounds_aps}
+pub use Rattle.word_flow.specs.Programs.{statement_aps, statement_total}
 pub use Rattle.word_flow.specs.declared.rows.Rows.{Rows}
 pub use Rattle.word_lower.proofs.Filled.{filled_word, filled_words, no_slots, one_slot, slot_is}
 pub use Rattle.word_lower.proofs.Lists.{bits_of_number, ones_of_more, ones_of_none, value_of_list}
@@ -99,4 +93,4 @@ pub use Rattle.word_lower.proofs.Statements.{same_slot, statement_rows, written}
 pub use Rattle.word_lower.proofs.Sums.{last_sum, shl1_gives, shr1_gives, top_half, value_below}
 pub use Rattle.word_lower.proofs.Sums.{value_same}
 pub use Rattle.word_lower.specs.Places.{AreAt, place_on, room_of, rows_of, scratch_bit}
-pub use Rattle.word_lower.specs.Shapes.{are_below, are_own, following}
+pub use Rattle.word_lower.specs.Shapes.{are_own, following}

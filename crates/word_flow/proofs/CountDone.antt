@@ -1,6 +1,6 @@
 -- The flow of bitcount does a statement of it.
 use Rattle.word_flow.proofs.Common.{◌≡◌, ℕ, zero, suc, ◌+◌, ◌*◌, ◌<◌, ◌≤◌, Bool, true, false, cond}
-use Rattle.word_flow.proofs.Common.{List, [], ◌∷◌, None, refl, sym, ap, ◌∙◌, arith, ◌==◌, ◌/◌, Word}
+use Rattle.word_flow.proofs.Common.{List, [], ◌∷◌, refl, sym, ap, ◌∙◌, arith, ◌==◌, ◌/◌, Word}
 use Rattle.word_flow.proofs.Common.{Space, Extent, Full, Owner, InRoom, InCells, flow_aps}
 use Rattle.word_flow.proofs.Common.{flow_total, digits, values_from, sense_three, first_node}
 use Rattle.word_flow.proofs.Targets.{answers_of, Weights, aps_in, body_holds, Operation, Value}
@@ -41,7 +41,7 @@ start c = record {
 }
 
 holds : (s0 : Space) (w0 : ℕ) (s1 : Space) (w1 : ℕ) (b : Part)
-    → body_holds (word_rooms Word s0 w0 s1 w1) known aps_in w None (code b) ≡ true
+    → body_holds (word_rooms Word s0 w0 s1 w1) known aps_in w (code b) ≡ true
 unfolding sense_three first_node
 holds s0 w0 s1 w1 Copied = refl
 holds s0 w0 s1 w1 (Three true) = refl

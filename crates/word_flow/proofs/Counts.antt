@@ -1,6 +1,6 @@
 -- `bitcount` as a flow: its bodies, and how they follow one another.
 use Rattle.word_flow.proofs.Common.{◌==◌, if◌then◌else◌, ones_of, SetI, SetN, SetT, Mov, AddI}
-use Rattle.word_flow.proofs.Common.{FlowOf, End, Do, Put, If, Loop, Last, Coded, coded_of}
+use Rattle.word_flow.proofs.Common.{FlowOf, End, Do, Put, If, Loop, Last, Marked, coded_of}
 use Rattle.std.specs.Prelude.{ℕ, ◌+◌, ◌-◌, ◌*◌, Bool, true, false}
 use Rattle.word_flow.specs.declared.bitcount.TheConstants.{LOADS_THREE_BITS, LOADS_NEXT_BITS, ADDS}
 use Rattle.word_flow.specs.declared.bitcount.TheConstants.{LOADS_TWO_BITS, LOADS_THREE, LOADS_NEXT}
@@ -25,7 +25,7 @@ pub data Part : Type 0 where
   Cleared : Part
 
 -- what each reads, computes and writes, and its commands, as the table has them
-abbrev pub code : Part → Coded
+abbrev pub code : Part → Marked
 code Copied = coded_of COPIES
 code (Three true) = coded_of LOADS_THREE_BITS
 code (Three false) = coded_of LOADS_THREE

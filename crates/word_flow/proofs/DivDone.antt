@@ -1,10 +1,10 @@
 -- The flows of div, rem and divmod do statements of them.
 use Rattle.word_flow.proofs.Common.{second_value, after_rounds, ComputeMeets, scratch_word, Compute}
 use Rattle.word_flow.proofs.Common.{slice_index, flow_rounds, scratch_bit, named_width, form_filled}
-use Rattle.word_flow.proofs.Common.{values_from, sense_three, flow_total, coded_body, first_node, ℕ}
+use Rattle.word_flow.proofs.Common.{values_from, sense_three, flow_total, placed_body, first_node, ℕ}
 use Rattle.word_flow.proofs.Common.{WIDTH_MAX, Statement, same_slot, steps_for, bytes_eq, majority}
 use Rattle.word_flow.proofs.Common.{op_value, flow_map, IsPlaced, at_place, flow_aps, InCells, zero}
-use Rattle.word_flow.proofs.Common.{room_of, rows_of, slot_is, name_at, rows_on, Option, WordOp, []}
+use Rattle.word_flow.proofs.Common.{room_of, rows_of, slot_is, name_at, rows_on, WordOp, []}
 use Rattle.word_flow.proofs.Common.{Flowed, FlowOf, Extent, InRoom, false, subst, arith, Space, ◌≡◌}
 use Rattle.word_flow.proofs.Common.{Block, Slots, Owner, AreAt, Bool, true, cond, List, Some, None}
 use Rattle.word_flow.proofs.Common.{refl, ◌==◌, Kind, Word, Slot, Room, Full, slot, suc, ◌+◌, ◌-◌}
@@ -42,11 +42,6 @@ es l = rows_of (kept_in l) ∷ Full ∷ Full ∷ Full ∷ Full ∷ []
 abbrev w : Weights
 w = record { plain = 1; less = 0; cost = 3; more = 0; aps = 1 }
 
--- the input in whose row a body's first output stands
-abbrev same_row : Part → Option ℕ
-same_row Take = Some 2
-same_row b = None
-
 abbrev view : Bool → (ℕ → Bool) → (ℕ → Bool) → State → View
 view l a d s (InRoom zero) v = cond l (s.q v) s.f
 view l a d s (InRoom (suc zero)) v = a v
@@ -75,7 +70,7 @@ rooms l q a d h r = room_of true (slot q.space q.which (kept_in l))
     ∷ room_of true (slot h.space h.which Word) ∷ room_of true (slot r.space r.which Word) ∷ []
 
 holds : (l : Bool) (q a d h r : Slot) (b : Part)
-    → body_holds (rooms l q a d h r) known aps_in w (same_row b) (code l b) ≡ true
+    → body_holds (rooms l q a d h r) known aps_in w (code l b) ≡ true
 unfolding sense_three first_node
 holds l q a d h r GatherTop = refl
 holds l q a d h r Gather = refl
@@ -235,7 +230,7 @@ div_done = of_words op.Div refl (λ slots fb fw target args meets placed s0 w0 s
     ((λ e. fresh 0 (omega arith), (λ e. fresh 1 (omega arith), (λ e. tt, (λ e. tt, tt))))
     ▹ (λ e. absurd (cc), (λ e. tt, (λ e. tt, tt))) ▹ (λ e. tt, (λ e. tt, tt))
     ▹ (λ e f. absurd (omega (arith, f)), tt) ▹ tt ▹ tt)
-    Part (code true) (division true) (es true) refl known aps_in (flow_aps op.Div) w same_row
+    Part (code true) (division true) (es true) refl known aps_in (flow_aps op.Div) w
     (holds true t a b (scratch_word fw) (scratch_word (fw + 1))) refl 0 (1 ∷ 2 ∷ []) div_operation
     (omega arith) refl (λ n v. refl) (λ n. refl) (λ n. refl)
     (λ n bits. two_values _ _ _ _ (word_value n s1 w1 bits) (word_value n s2 w2 bits))))
@@ -258,7 +253,7 @@ rem_done = of_words op.Rem refl (λ slots fb fw target args meets placed s0 w0 s
     ▹ (λ e. absurd (cc), (λ e. tt, (λ e. not_same target (name_at args 0) (fresh 0 (omega arith)), tt)))
     ▹ (λ e. tt, (λ e. not_same target (name_at args 1) (fresh 1 (omega arith)), tt))
     ▹ (λ e. tt, tt) ▹ tt ▹ tt)
-    Part (code false) (division false) (es false) refl known aps_in (flow_aps op.Rem) w same_row
+    Part (code false) (division false) (es false) refl known aps_in (flow_aps op.Rem) w
     (holds false (scratch_bit fb) a b (scratch_word fw) t) refl 4 (1 ∷ 2 ∷ []) rem_operation
     (omega arith) refl (λ n v. refl) (λ n. refl) (λ n. refl)
     (λ n bits. two_values _ _ _ _ (word_value n s1 w1 bits) (word_value n s2 w2 bits))))
@@ -305,11 +300,11 @@ module _ (slots : Slots) (fb fw : ℕ) (target name : List ℕ) (args : List (Li
       ▹ (λ e. tt, (λ e. other_fresh 1 (omega arith), tt)) ▹ (λ e. tt, tt) ▹ tt ▹ tt
 
   abbrev made : FlowOf Block
-  made = flow_map (λ b. coded_body (rooms_whose owners) (code true b)) (division false)
+  made = flow_map (λ b. placed_body (rooms_whose owners) (code true b)) (division false)
 
   both_done : IsDone slots fb fw target (Some name) op.Divmod args (Flowed made ∷ [])
   both_done = done slots fb fw target (Some name) op.Divmod args placed owners stand differ Part
-      (code true) (division false) (es true) refl known aps_in (flow_aps op.Divmod) w same_row
+      (code true) (division false) (es true) refl known aps_in (flow_aps op.Divmod) w
       (holds true t (slot s1 w1 Word) (slot s2 w2 Word) (scratch_word fw) u) refl Divides divmod_operation
       (λ n. named_width n slots args ss at) (λ n some small held before r h x e.
       (let values = two_values _ _ _ _ (word_value n s1 w1 before) (word_value n s2 w2 before) in

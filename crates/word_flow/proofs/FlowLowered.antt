@@ -4,26 +4,27 @@ use Rattle.word_flow.proofs.Common.{stays_in_registers, op_plain_ceiling, after_
 use Rattle.word_flow.proofs.Common.{AllByRecursion, IsStatementRow, statement_rows, written_names}
 use Rattle.word_flow.proofs.Common.{after_rounds, sum_by-cons, flow_rounds, rounds_cost, append-nil}
 use Rattle.word_flow.proofs.Common.{plain_costs, all_rounds, plain_cost, read_names, RoomsApart, []}
-use Rattle.word_flow.proofs.Common.{plain_like, coded_body, op_ceiling, flow_total, and_parts, Bool}
+use Rattle.word_flow.proofs.Common.{plain_like, placed_body, op_ceiling, flow_total, and_parts, Bool}
 use Rattle.word_flow.proofs.Common.{WIDTH_MAX, Statement, turn_cost, code_cost, HasValues, and_from}
 use Rattle.word_flow.proofs.Common.{IsLowered, NameValue, is_among, AllParts, flow_map, all_flow, ℕ}
-use Rattle.word_flow.proofs.Common.{IsPlaced, room_for, HaveRows, flow_aps, RoundOf, carries, false}
+use Rattle.word_flow.proofs.Common.{IsPlaced, room_for, HaveRows, flow_aps, RoundOf, false}
 use Rattle.word_flow.proofs.Common.{chained, IsRound, IsOwned, HasForm, run_all, BodyCmd, Compute}
-use Rattle.word_flow.proofs.Common.{length, Option, nat_le, sum_by, StepOf, Flowed, FlowOf, row_in}
-use Rattle.word_flow.proofs.Common.{Extent, IsSlim, IsMade, aps_of, WordOp, subst, arith, Block, ap}
-use Rattle.word_flow.proofs.Common.{zeros, Spots, Slots, Holds, Owner, Coded, true, List, refl, ◌≡◌}
+use Rattle.word_flow.proofs.Common.{Option, nat_le, sum_by, StepOf, Flowed, FlowOf, row_in}
+use Rattle.word_flow.proofs.Common.{Extent, IsSlim, IsMade, turn_aps, WordOp, subst, arith, Block, ap}
+use Rattle.word_flow.proofs.Common.{zeros, Spots, Slots, Holds, Owner, Marked, true, List, refl, ◌≡◌}
 use Rattle.word_flow.proofs.Common.{◌&&◌, Spot, Room, ◌+◌, ◌*◌, ◌<◌, ◌≤◌, ◌∷◌, map, sym, ◌∙◌, run}
-use Rattle.word_flow.proofs.Common.{most_is, rounds_among, rooms_row}
+use Rattle.word_flow.proofs.Common.{most_is, rounds_among, rooms_row, rounds_aps, HasCommands}
 use Rattle.loop_ir.specs.FlowTests.{names, counts, nests, runs_safely, is_event_safe}
 use Rattle.loop_laws.proofs.Compile.{made_compile}
-use Rattle.loop_laws.proofs.Costing.{CarriesFew, rounds-plain}
+use Rattle.loop_laws.proofs.Costing.{rounds-plain}
 use Rattle.word_flow.proofs.Answers.{Answers, Answered, answered}
 use Rattle.word_flow.proofs.Checks.{Weights, Stands, body_holds, held_is}
-use Rattle.word_flow.proofs.FlowBodies.{slim_is, made_is, values_are}
+use Rattle.word_lower.proofs.BodyRules.{slim_is, values_are}
+use Rattle.word_lower.proofs.Commands.{has_commands, made_is}
 use Rattle.word_flow.proofs.FlowOps.{flow_each, all_widths}
 use Rattle.word_flow.proofs.Placing.{Whose, rooms_whose, AllStand, AllDiffer, among, free_of}
 use Rattle.word_flow.proofs.Placing.{rows_move, rooms_apart}
-use Rattle.word_flow.proofs.Views.{View, first_of}
+use Rattle.word_flow.proofs.Views.{View}
 use Rattle.loop_ir.specs.Lowered.{args_width}
 use Rattle.loop_ir.specs.Costs as cost
 
@@ -53,21 +54,18 @@ weigh x a b d e (r ∷ rs) all =
     omega (arith, h, p, q, z, t, all.0)
 
 in_all : (x : List BodyCmd → ℕ) (a : ℕ) (rs : List (RoundOf Block)) → AllByRecursion
-    (λ (r : RoundOf Block). aps_of r.part ≡ a * x r.part.found) rs
-    → sum_by (λ (r : RoundOf Block). aps_of r.part) rs
-    ≡ a * sum_by (λ (r : RoundOf Block). x r.part.found) rs
+    (λ (r : RoundOf Block). turn_aps r.part ≡ a * x r.part.found) rs
+    → rounds_aps rs ≡ a * sum_by (λ (r : RoundOf Block). x r.part.found) rs
 in_all x a [] all = omega arith
 in_all x a (r ∷ rs) all =
-    let p = sum_by-cons (λ (r : RoundOf Block). aps_of r.part) r rs in
+    let p = sum_by-cons (λ (r : RoundOf Block). turn_aps r.part) r rs in
     let s = ap (λ z. a * z) (sum_by-cons (λ (r : RoundOf Block). x r.part.found) r rs) in
     omega (arith, in_all x a rs all.1, p, s, all.0)
 
--- each body has its commands, and all rounds take exactly so many, of which so many are AP
+-- all rounds take exactly so many commands, of which so many are AP
 pub record IsExact (p : WordOp) (steps : List (StepOf Block)) : Type 0 where
-  pub carried : AllParts (λ b. carries b ≡ true) steps
   pub total : (n : ℕ) → 0 < n → n ≤ WIDTH_MAX → rounds_cost (all_rounds n steps) ≡ flow_total p n
-  pub aps : (n : ℕ) → 0 < n → n ≤ WIDTH_MAX
-      → sum_by (λ (r : RoundOf Block). aps_of r.part) (all_rounds n steps) ≡ flow_aps p n
+  pub aps : (n : ℕ) → 0 < n → n ≤ WIDTH_MAX → rounds_aps (all_rounds n steps) ≡ flow_aps p n
 
 -- the loop program of a statement does it, and is exact
 pub record IsDone (slots : Slots) (fb fw : ℕ) (target : List ℕ) (second : Option (List ℕ))
@@ -75,9 +73,9 @@ pub record IsDone (slots : Slots) (fb fw : ℕ) (target : List ℕ) (second : Op
   pub lowered : IsLowered slots fb fw (Compute target second p args) steps
   pub exact : IsExact p steps
 
--- What is known of an operation's flow: what it does at each width, its AP, and that without
--- sequences of their own its bodies take no more than its ceiling
-pub record Operation (p : WordOp) (A : Type 0) (code : A → Coded) (f : FlowOf A) (es : List Extent)
+-- What is known of an operation's flow: what it does at each width, its AP, and that what its bodies
+-- may take at most is no more than its ceiling
+pub record Operation (p : WordOp) (A : Type 0) (code : A → Marked) (f : FlowOf A) (es : List Extent)
     (known : List Owner) (x : List BodyCmd → ℕ) (weight : ℕ → ℕ) (w : Weights)
     (Post : ℕ → View → View → Type 0) : Type 1 where
   pub answers : (n : ℕ) → 0 < n → n ≤ WIDTH_MAX → (c : View)
@@ -90,11 +88,11 @@ pub record Operation (p : WordOp) (A : Type 0) (code : A → Coded) (f : FlowOf 
 module _ (slots : Slots) (fb fw : ℕ) (target : List ℕ) (second : Option (List ℕ)) (p : WordOp)
     (args : List (List ℕ)) (placed : IsPlaced slots fb fw (Compute target second p args))
     (ws : List Whose) (stand : AllStand slots fb fw (Compute target second p args) placed ws)
-    (differ : AllDiffer ws) (A : Type 0) (code : A → Coded) (f : FlowOf A) (es : List Extent)
+    (differ : AllDiffer ws) (A : Type 0) (code : A → Marked) (f : FlowOf A) (es : List Extent)
     (shape : map (λ (r : Room). r.rows) (rooms_whose ws) ≡ es) (known : List Owner)
-    (x : List BodyCmd → ℕ) (weight : ℕ → ℕ) (w : Weights) (same : A → Option ℕ)
-    (holds : (b : A) → body_holds (rooms_whose ws) known x w (same b) (code b) ≡ true)
-    (sized : flow_holds (flow_map (λ b. coded_body (rooms_whose ws) (code b)) f) ≡ true)
+    (x : List BodyCmd → ℕ) (weight : ℕ → ℕ) (w : Weights)
+    (holds : (b : A) → body_holds (rooms_whose ws) known x w (code b) ≡ true)
+    (sized : flow_holds (flow_map (λ b. placed_body (rooms_whose ws) (code b)) f) ≡ true)
     (Post : ℕ → View → View → Type 0) (o : Operation p A code f es known x weight w Post) where
   abbrev s : Statement
   s = Compute target second p args
@@ -103,7 +101,7 @@ module _ (slots : Slots) (fb fw : ℕ) (target : List ℕ) (second : Option (Lis
   rooms = rooms_whose ws
 
   abbrev pub block : A → Block
-  block b = coded_body rooms (code b)
+  block b = placed_body rooms (code b)
 
   abbrev pub flow : FlowOf Block
   flow = flow_map block f
@@ -126,17 +124,17 @@ module _ (slots : Slots) (fb fw : ℕ) (target : List ℕ) (second : Option (Lis
   alone : (n : ℕ) → all_rounds n steps ≡ flow_rounds n flow
   alone n = append-nil (flow_rounds n flow)
 
-  at : (b : A) → Stands rooms known x w (same b) (code b)
-  at b = held_is rooms known x w (same b) (code b) (holds b)
+  at : (b : A) → Stands rooms known x w (code b)
+  at b = held_is rooms known x w (code b) (holds b)
 
-  carried : AllParts (λ b. carries b ≡ true) steps
-  carried = (flow_each A block (λ b. carries b ≡ true) (λ b. (at b).works.some) f, tt)
+  has : (b : A) → HasCommands (block b)
+  has b = has_commands 1 rooms (omega arith) (apart 1) have_rows (code b) (at b).keeps (at b).works
 
   -- what it does at a width, from every content
   runs : (n : ℕ) → 0 < n → n ≤ WIDTH_MAX → (before : Spots) → Answered n rooms known flow
       (flow_total p n) x (weight n) (Post n (λ a v. before (row_in n (room_for rooms a) v))) before
   runs n some small before = answered n rooms some (apart n) have_rows
-      (rows_move slots fb fw s placed ws stand n) es shape known A code x w same holds f
+      (rows_move slots fb fw s placed ws stand n) es shape known A code x w holds f
       (flow_total p n) (weight n) (Post n (λ a v. before (row_in n (room_for rooms a) v))) before
       (o.answers n some small (λ a v. before (row_in n (room_for rooms a) v)))
 
@@ -160,8 +158,8 @@ module _ (slots : Slots) (fb fw : ℕ) (target : List ℕ) (second : Option (Lis
       let z = and_parts (nat_le (code_cost steps) 256) _ r.1 in
       record {
         slim = (
-          flow_each A block IsSlim (λ b. slim_is 1 rooms (omega arith) (apart 1) have_rows
-              (code b) (at b).keeps (same b) (at b).works) f,
+          flow_each A block IsSlim (λ b. slim_is 1 rooms (omega arith) (apart 1) have_rows (code b)
+              (at b).keeps (has b)) f,
           tt,
         );
         find = and_from _ true (all_widths (λ n. chained [] (flow_rounds n flow))
@@ -179,25 +177,20 @@ module _ (slots : Slots) (fb fw : ℕ) (target : List ℕ) (second : Option (Lis
       }
 
   made : AllParts IsMade steps
-  made = (
-    flow_each A block IsMade (λ b. made_is 1 rooms (omega arith) (apart 1) have_rows (code b)
-        (at b).keeps (same b) (at b).works) f,
-    tt,
-  )
+  made = (flow_each A block IsMade (λ b. made_is rooms (code b) (at b).works) f, tt)
 
   -- the commands at a width
   total_is : (n : ℕ) → 0 < n → n ≤ WIDTH_MAX → rounds_cost (all_rounds n steps) ≡ flow_total p n
   total_is n some small = ap rounds_cost (alone n) ∙ (runs n some small dark).paid
 
   -- the AP at a width
-  aps_are : (n : ℕ) → 0 < n → n ≤ WIDTH_MAX
-      → sum_by (λ (r : RoundOf Block). aps_of r.part) (all_rounds n steps) ≡ flow_aps p n
-  aps_are n some small = ap (λ rs. sum_by (λ (r : RoundOf Block). aps_of r.part) rs) (alone n)
-      ∙ in_all x w.aps (flow_rounds n flow) (run_all Block (λ b. aps_of b ≡ w.aps * x b.found) n flow
-      (flow_each A block (λ b. aps_of b ≡ w.aps * x b.found) (λ b. (at b).counts) f) zeros)
+  aps_are : (n : ℕ) → 0 < n → n ≤ WIDTH_MAX → rounds_aps (all_rounds n steps) ≡ flow_aps p n
+  aps_are n some small = ap rounds_aps (alone n)
+      ∙ in_all x w.aps (flow_rounds n flow) (run_all Block (λ b. turn_aps b ≡ w.aps * x b.found) n flow
+      (flow_each A block (λ b. turn_aps b ≡ w.aps * x b.found) (λ b. (at b).counts) f) zeros)
       ∙ ap (λ z. w.aps * z) (runs n some small dark).weighed ∙ o.aps n
 
-  -- what its rounds would take without sequences of their own
+  -- what its rounds may take at most
   plain_is : (n : ℕ) → 0 < n → n ≤ WIDTH_MAX
       → w.plain * plain_costs (flow_rounds n flow) + w.less * weight n
       ≤ w.cost * flow_total p n + w.more * weight n
@@ -215,18 +208,8 @@ module _ (slots : Slots) (fb fw : ℕ) (target : List ℕ) (second : Option (Lis
       Most b = w.plain * plain_cost b + w.less * x b.found ≤ w.cost * turn_cost b + w.more * x b.found
 
       each : (b : A) → Most (block b)
-      each b =
-          let c = code b in
-          let m = (at b).most in
-          let p = ap (λ x. w.plain * x) (plain_like rooms have_rows c.body) in
-          let e : turn_cost (block b) ≡ length c.cmds =
-          first_of (carries (block b)) (length c.cmds) _ (at b).works.some in
-          let t = ap (λ x. w.cost * x) e in
-          omega (arith, m, p, t)
-
-  few : (b : A) → CarriesFew (block b)
-  few b e = let m = (at b).works.few in let p = plain_like rooms have_rows (code b).body in
-      omega (arith, m, p)
+      each b = let m = (at b).most in
+          let p = ap (λ x. w.plain * x) (plain_like rooms have_rows (code b)) in omega (arith, m, p)
 
   -- it is done and exact, where its rows hold what the targets are to have
   pub done : ((n : ℕ) → args_width slots n args ≡ n)
@@ -254,12 +237,12 @@ module _ (slots : Slots) (fb fw : ℕ) (target : List ℕ) (second : Option (Lis
           cheap = λ n some small. (let e = ap rounds_cost (alone n) in
               let z = o.ceilings (args_width slots n args) in
               let c = ceiling n some small in
-              let m = rounds-plain (flow_rounds n flow) (run_all Block CarriesFew n flow
-              (flow_each A block CarriesFew few f) zeros) in omega (arith, e, z, c, m));
+              let m = rounds-plain (flow_rounds n flow) (run_all Block HasCommands n flow
+              (flow_each A block HasCommands has f) zeros) in omega (arith, e, z, c, m));
           plain = λ n some small. (let e = ap plain_costs (alone n) in
               let c = ceiling n some small in omega (arith, e, c));
         };
-        exact = record { carried = carried; total = total_is; aps = aps_are };
+        exact = record { total = total_is; aps = aps_are };
       }
     where
       ceiling : (n : ℕ) → 0 < n → n ≤ WIDTH_MAX

@@ -4,7 +4,6 @@ pub mod Products
 pub mod Quotients
 pub mod Reductions
 pub mod Absolutes
-pub mod FlowBodies
 pub mod FlowOps
 pub mod Loops
 pub mod Slices

@@ -1,6 +1,6 @@
 -- The flow of mul does a statement of it.
 use Rattle.word_flow.proofs.Common.{◌≡◌, ℕ, zero, suc, ◌+◌, ◌-◌, ◌*◌, ◌<◌, ◌≤◌, Bool, true, false}
-use Rattle.word_flow.proofs.Common.{cond, List, [], ◌∷◌, Option, Some, None, refl, sym, ap, ◌∙◌}
+use Rattle.word_flow.proofs.Common.{cond, List, [], ◌∷◌, None, refl, sym, ap, ◌∙◌}
 use Rattle.word_flow.proofs.Common.{arith, ◌==◌, ◌/◌, ◌%◌, Word, Space, Room, Extent, Full, One}
 use Rattle.word_flow.proofs.Common.{Owner, InRoom, InCells, room_of, scratch_bit, slot, name_at}
 use Rattle.word_flow.proofs.Common.{flow_total, flow_aps, values_from, sense_three, first_node}
@@ -26,13 +26,6 @@ es = Full ∷ Full ∷ Full ∷ One ∷ []
 abbrev w : Weights
 w = record { plain = 2; less = 25; cost = 7; more = 0; aps = 1 }
 
-abbrev same_row : Part → Option ℕ
-same_row Joined = None
-same_row JoinedToo = None
-same_row Turned = None
-same_row First = Some 2
-same_row Added = Some 2
-
 abbrev view : (ℕ → Bool) → (ℕ → Bool) → State → View
 view x z s (InRoom zero) v = s.y v
 view x z s (InRoom (suc zero)) v = x v
@@ -57,7 +50,7 @@ rooms s0 w0 s1 w1 s2 w2 fb = room_of true (slot s0 w0 Word) ∷ room_of false (s
     ∷ room_of false (slot s2 w2 Word) ∷ room_of true (scratch_bit fb) ∷ []
 
 holds : (s0 : Space) (w0 : ℕ) (s1 : Space) (w1 : ℕ) (s2 : Space) (w2 fb : ℕ) (b : Part)
-    → body_holds (rooms s0 w0 s1 w1 s2 w2 fb) known aps_in w (same_row b) (code b) ≡ true
+    → body_holds (rooms s0 w0 s1 w1 s2 w2 fb) known aps_in w (code b) ≡ true
 unfolding sense_three first_node
 holds s0 w0 s1 w1 s2 w2 fb Joined = refl
 holds s0 w0 s1 w1 s2 w2 fb JoinedToo = refl
@@ -105,7 +98,7 @@ total_is (suc k) c some e =
     let g : suc k * (suc k - 1) ≡ suc k * k = ap (λ x. suc k * x) one in
     omega (arith, e, h, g)
 
--- where no body has its sequence, 19 a position of a row but the first
+-- by the plain cost, 19 a position of a row but the first
 few_plain : (n c : ℕ) → 0 < n → 2 * c + 25 * ((n - 1) * n / 2) ≤ 7 * flow_total op.Mul n
     → c ≤ 11 * (n * n) + 15 * n
 few_plain zero c some h = absurd (omega (arith, some))
@@ -145,6 +138,6 @@ mul_done = of_words op.Mul refl (λ slots fb fw target args meets placed s0 w0 s
     ▹ arg 0 (omega arith) ▹ arg 1 (omega arith) ▹ (0, omega arith, omega arith) ▹ tt)
     ((λ e. fresh 0 (omega arith), (λ e. fresh 1 (omega arith), (λ e. tt, tt)))
     ▹ (λ e. absurd (cc), (λ e. tt, tt)) ▹ (λ e. tt, tt) ▹ tt ▹ tt) Part code mul es refl known aps_in
-    (flow_aps op.Mul) w same_row (holds s0 w0 s1 w1 s2 w2 fb) refl 0 (1 ∷ 2 ∷ []) operation
+    (flow_aps op.Mul) w (holds s0 w0 s1 w1 s2 w2 fb) refl 0 (1 ∷ 2 ∷ []) operation
     (omega arith) refl (λ n v. refl) (λ n. refl) (λ n. refl)
     (λ n bits. two_values _ _ _ _ (word_value n s1 w1 bits) (word_value n s2 w2 bits))))

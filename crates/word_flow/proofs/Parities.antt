@@ -1,6 +1,6 @@
 -- `xor_red` as a flow: its bodies, and how they follow one another.
 use Rattle.word_flow.proofs.Common.{◌/◌, nat_lt, if◌then◌else◌, SetI, SetN, AddI, SubI, FlowOf, End}
-use Rattle.word_flow.proofs.Common.{Do, Put, If, Loop, Last, Coded, coded_of}
+use Rattle.word_flow.proofs.Common.{Do, Put, If, Loop, Last, Marked, coded_of}
 use Rattle.std.specs.Prelude.{ℕ, ◌+◌, ◌*◌}
 use Rattle.word_flow.specs.declared.parity.TheConstants.{COPIES, LONE_TWO, LONE_THREE, OPENS_TWO}
 use Rattle.word_flow.specs.declared.parity.TheConstants.{OPENS_THREE, JOINS, ENDS}
@@ -18,7 +18,7 @@ pub data Part : Type 0 where
   Ended : Part
 
 -- what each reads, computes and writes, and its commands, as the table has them
-abbrev pub code : Part → Coded
+abbrev pub code : Part → Marked
 code Alone = coded_of COPIES
 code LoneTwo = coded_of LONE_TWO
 code LoneThree = coded_of LONE_THREE

@@ -1,6 +1,6 @@
 -- `mul` as a flow: its bodies, and how they follow one another.
 use Rattle.word_flow.proofs.Common.{SetI, SetN, SetT, Mov, AddI, FlowOf, End, Do, Put, Loop, Last}
-use Rattle.word_flow.proofs.Common.{Turn, Coded, coded_of}
+use Rattle.word_flow.proofs.Common.{Turn, Marked, coded_of}
 use Rattle.word_flow.specs.declared.mul.TheConstants.{JOINS, JOINS_TOO, TURNS, ADDS_FIRST, ADDS}
 
 -- The bodies: two positions of the first row, where the second has the constant and the bit in
@@ -13,7 +13,7 @@ pub data Part : Type 0 where
   Added : Part
 
 -- what each reads, computes and writes, and its commands, as the table has them
-abbrev pub code : Part → Coded
+abbrev pub code : Part → Marked
 code Joined = coded_of JOINS
 code JoinedToo = coded_of JOINS_TOO
 code Turned = coded_of TURNS

@@ -1,6 +1,6 @@
 -- `div`, `rem` and `divmod` as flows: their bodies, and how they follow one another.
 use Rattle.word_flow.proofs.Common.{SetI, SetN, SetT, Mov, AddI, SubI, FlowOf, End, Do, Put, If}
-use Rattle.word_flow.proofs.Common.{Loop, Last, Coded, coded_of}
+use Rattle.word_flow.proofs.Common.{Loop, Last, Marked, coded_of}
 use Rattle.std.specs.Prelude.{Bool, true, false}
 use Rattle.word_flow.specs.declared.division.TheConstants.{COMPARES_FIRST_ALONE, LOOKS_ABOVE_ALONE}
 use Rattle.word_flow.specs.declared.division.TheConstants.{COMPARES_FIRST, COMPARES_ALONE, COMPARES}
@@ -22,7 +22,7 @@ pub data Part : Type 0 where
 
 -- what each reads, computes and writes, and its commands, as the tables have them: the bits of the
 -- quotient have a row each, or one in turn
-abbrev pub code : Bool → Part → Coded
+abbrev pub code : Bool → Part → Marked
 code row GatherTop = coded_of GATHERS_TOP
 code row Gather = coded_of GATHERS
 code true First = coded_of COMPARES_FIRST

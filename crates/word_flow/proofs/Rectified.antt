@@ -1,6 +1,6 @@
 -- `relu` as a flow: its bodies, and how they follow one another.
 use Rattle.word_flow.proofs.Common.{◌==◌, if◌then◌else◌, SetI, SetT, AddI, FlowOf, End, Do, Put, If}
-use Rattle.word_flow.proofs.Common.{Loop, Last, Turn, Coded, coded_of}
+use Rattle.word_flow.proofs.Common.{Loop, Last, Turn, Marked, coded_of}
 use Rattle.std.specs.Prelude.{ℕ, ◌*◌}
 use Rattle.word_flow.specs.declared.relu.TheConstants.{TURNS, JOINS, JOINS_TOO, CLEARS}
 
@@ -13,7 +13,7 @@ pub data Part : Type 0 where
   Cleared : Part
 
 -- what each reads, computes and writes, and its commands, as the table has them
-abbrev pub code : Part → Coded
+abbrev pub code : Part → Marked
 code Turned = coded_of TURNS
 code Both = coded_of JOINS
 code Agreed = coded_of JOINS_TOO

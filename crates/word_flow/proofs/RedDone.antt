@@ -1,6 +1,6 @@
 -- The flows of and_red and or_red do statements of them.
 use Rattle.word_flow.proofs.Common.{◌≡◌, ℕ, zero, suc, ◌+◌, ◌*◌, Bool, true, false, cond, List, []}
-use Rattle.word_flow.proofs.Common.{◌∷◌, not, None, refl, sym, ap, ◌∙◌, arith, ◌==◌, BodyCmd, Bit}
+use Rattle.word_flow.proofs.Common.{◌∷◌, not, refl, sym, ap, ◌∙◌, arith, ◌==◌, BodyCmd, Bit}
 use Rattle.word_flow.proofs.Common.{WordOp, op_ceiling, op_value, Space, op_plain_ceiling, Extent}
 use Rattle.word_flow.proofs.Common.{Full, Owner, InRoom, InCells, flow_total, flow_aps, majority}
 use Rattle.word_flow.proofs.Common.{values_from, sense_three, first_node}
@@ -46,7 +46,7 @@ start c = record {
 }
 
 holds : (c : Bool) (s0 : Space) (w0 : ℕ) (s1 : Space) (w1 : ℕ) (b : Part)
-    → body_holds (word_rooms Bit s0 w0 s1 w1) known each_one w None (code c b) ≡ true
+    → body_holds (word_rooms Bit s0 w0 s1 w1) known each_one w (code c b) ≡ true
 unfolding sense_three first_node
 holds true s0 w0 s1 w1 Alone = refl
 holds true s0 w0 s1 w1 Begun = refl

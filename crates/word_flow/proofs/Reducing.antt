@@ -78,129 +78,123 @@ module _ (n : ℕ) (some : 0 < n) (small : n ≤ 128) (c : Bool) (x : ℕ → Bo
   abbrev Over : State → Type 0
   Over s = (s.y ≡ joined c x n) × (s.cost ≡ reduction_total n) × (s.rounds ≡ n)
 
+  -- i elements are joined, in h turns of three rounds and r rounds more, for so many commands, and m
+  -- elements are left
+  abbrev Place : ℕ → ℕ → ℕ → ℕ → ℕ → State → Type 0
+  Place h r paid i m s = (i ≡ 3 * h + r) × (i + m ≡ n) × (s.cost ≡ 7 * h + paid) × (s.rounds ≡ i)
+
+  -- a round more, for k commands
+  next : (h r paid i m k : ℕ) (s t : State) → Place h r paid i (suc m) s → t.cost ≡ s.cost + k
+      → t.rounds ≡ s.rounds + 1 → Place h (r + 1) (paid + k) (i + 1) m t
+  next h r paid i m k s t p cost rounds = (
+    omega (arith, p.0),
+    omega (arith, p.1),
+    omega (arith, p.2, cost),
+    omega (arith, p.3, rounds),
+  )
+
+  -- the third round of a turn
+  again : (h i m : ℕ) (s t : State) → Place h 3 6 i (suc m) s → t.cost ≡ s.cost + 2
+      → t.rounds ≡ s.rounds + 1 → Place (h + 1) 1 1 (i + 1) m t
+  again h i m s t p cost rounds = let q = next h 3 6 i m 2 s t p cost rounds in
+      (omega (arith, q.0), q.1, omega (arith, q.2), q.3)
+
   turns_do : (Q : Asked) (s : State) → 1 < n → s.t1 ≡ x 0 → s.alive ≡ first_left
       → s.cost ≡ 1 → s.rounds ≡ 1 → ((g : List ℕ) (s : State) → Over s → Q g s)
       → W (Loop 0 (Turn one (Turn two (Last three))) End) Q (regs (n - 1) 1 0 0 0 0 0 0) s
   turns_do Q s many t1_is alive paid counted done = wp_loop Part State n F (does c x) 0 all I End Q
       (regs (n - 1) 1 0 0 0 0 0 0) s (omega arith) (one_does, (two_does, three_does)) (
-        1,
         0,
+        1,
         refl,
-        omega arith,
-        omega (arith, some),
-        omega (arith, paid),
+        (omega arith, omega (arith, some), omega (arith, paid), counted),
         (λ more. (t1_is, alive)),
         (λ none. absurd (omega (arith, none, many))),
-        counted,
       ) ends
     where
       all : TurnsOf Part
       all = Turn one (Turn two (Last three))
 
       I : TurnsOf Part → ℕ → Asked
-      I (Turn y (Turn z ts)) m g s = (i : ℕ) × (h : ℕ) × (g ≡ regs m i 0 0 0 0 0 0) × (i ≡ 3 * h + 1)
-          × (i + m ≡ n) × (s.cost ≡ 7 * h + 1)
-          × (0 < m → (s.t1 ≡ joined c x i) × (s.alive ≡ first_left)) × (m ≡ 0 → s.y ≡ joined c x i)
-          × (s.rounds ≡ i)
-      I (Turn y (Last z)) m g s = (i : ℕ) × (h : ℕ) × (g ≡ regs m i 0 0 0 0 0 0) × (i ≡ 3 * h + 2)
-          × (i + m ≡ n) × (s.cost ≡ 7 * h + 4) × (s.y ≡ joined c x i) × (s.t2 ≡ joined c x i)
-          × (s.t3 ≡ c) × (s.d1 ≡ c) × (s.alive ≡ one_left) × (s.rounds ≡ i)
-      I (Last y) m g s = (i : ℕ) × (h : ℕ) × (g ≡ regs m i 0 0 0 0 0 0) × (i ≡ 3 * h + 3)
-          × (i + m ≡ n) × (s.cost ≡ 7 * h + 6) × (s.y ≡ joined c x i) × (s.t3 ≡ joined c x i)
-          × (s.d1 ≡ c) × (s.alive ≡ two_left) × (s.rounds ≡ i)
+      I (Turn y (Turn z ts)) m g s = (h : ℕ) × (i : ℕ) × (g ≡ regs m i 0 0 0 0 0 0)
+          × Place h 1 1 i m s × (0 < m → (s.t1 ≡ joined c x i) × (s.alive ≡ first_left))
+          × (m ≡ 0 → s.y ≡ joined c x i)
+      I (Turn y (Last z)) m g s = (h : ℕ) × (i : ℕ) × (g ≡ regs m i 0 0 0 0 0 0)
+          × Place h 2 4 i m s × (s.y ≡ joined c x i) × (s.t2 ≡ joined c x i) × (s.t3 ≡ c)
+          × (s.d1 ≡ c) × (s.alive ≡ one_left)
+      I (Last y) m g s = (h : ℕ) × (i : ℕ) × (g ≡ regs m i 0 0 0 0 0 0) × Place h 3 6 i m s
+          × (s.y ≡ joined c x i) × (s.t3 ≡ joined c x i) × (s.d1 ≡ c) × (s.alive ≡ two_left)
 
       one_does : (m : ℕ) (g : List ℕ) (s : State) (R : Asked) → I all (suc m) g s
           → ((h : List ℕ) (s : State) → I (Turn two (Last three)) m h s → R h s)
           → W one R (slice_set g 0 m) s
       one_does m g s R i go =
-          let k = i.0 in
-          let p = i.6 (omega arith) in
-          let u = joins c x k s.t1 (omega (arith, i.3)) p.0 in
-          subst (λ l. W one R (slice_set l 0 m) s) (sym i.2) ((omega (arith, i.4), p.1)
-          ▹ omega (arith, i.4, small) ▹ go (regs m (k + 1) 0 0 0 0 0 0) _ (
-            k + 1,
-            i.1,
-            refl,
-            omega (arith, i.3),
-            omega (arith, i.4),
-            omega (arith, i.5),
-            u,
-            u,
-            refl,
-            refl,
-            refl,
-            omega (arith, i.8),
-          ))
+          let k = i.1 in
+          let p = i.3 in
+          let q = i.4 (omega arith) in
+          let u = joins c x k s.t1 (omega (arith, p.0)) q.0 in
+          let t = does c x One (regs m k 0 0 0 0 0 0) s in
+          subst (λ l. W one R (slice_set l 0 m) s) (sym i.2) ((omega (arith, p.1), q.1)
+          ▹ omega (arith, p.1, small) ▹ go (regs m (k + 1) 0 0 0 0 0 0) t
+          (i.0, k + 1, refl, next i.0 1 1 k m 3 s t p refl refl, u, u, refl, refl, refl))
 
       two_does : (m : ℕ) (g : List ℕ) (s : State) (R : Asked)
           → I (Turn two (Last three)) (suc m) g s
           → ((h : List ℕ) (s : State) → I (Last three) m h s → R h s) → W two R (slice_set g 0 m) s
       two_does m g s R i go =
-          let k = i.0 in
-          let u = ap (majority (x k) s.t2) i.8 ∙ turned (x k) s.t2 c
-          ∙ joins c x k s.t2 (omega (arith, i.3)) i.7 in
-          subst (λ l. W two R (slice_set l 0 m) s) (sym i.2) ((omega (arith, i.4), i.10)
-          ▹ omega (arith, i.4, small) ▹ go (regs m (k + 1) 0 0 0 0 0 0) _ (
-            k + 1,
-            i.1,
-            refl,
-            omega (arith, i.3),
-            omega (arith, i.4),
-            omega (arith, i.5),
-            u,
-            u,
-            i.9,
-            refl,
-            omega (arith, i.11),
-          ))
+          let k = i.1 in
+          let p = i.3 in
+          let u = ap (majority (x k) s.t2) i.6 ∙ turned (x k) s.t2 c
+          ∙ joins c x k s.t2 (omega (arith, p.0)) i.5 in
+          let t = does c x Two (regs m k 0 0 0 0 0 0) s in
+          subst (λ l. W two R (slice_set l 0 m) s) (sym i.2) ((omega (arith, p.1), i.8)
+          ▹ omega (arith, p.1, small) ▹ go (regs m (k + 1) 0 0 0 0 0 0) t
+          (i.0, k + 1, refl, next i.0 2 4 k m 2 s t p refl refl, u, u, i.7, refl))
 
-      three_is : (m k : ℕ) (s : State) (R : Asked) (h : ℕ) → k ≡ 3 * h + 3 → k + suc m ≡ n
-          → s.cost ≡ 7 * h + 6 → majority (x k) s.t3 s.d1 ≡ joined c x (k + 1)
-          → s.alive ≡ two_left → s.rounds ≡ k → ((h : List ℕ) (s : State) → I all m h s → R h s)
-          → W three R (regs m k 0 0 0 0 0 0) s
-      three_is zero k s R h is ends paid u alive counted go = (omega (arith, ends), alive)
-          ▹ omega (arith, ends, small) ▹ go (regs 0 (k + 1) 0 0 0 0 0 0) _ (
-            k + 1,
+      three_is : (m k h : ℕ) (s : State) (R : Asked) → Place h 3 6 k (suc m) s
+          → majority (x k) s.t3 s.d1 ≡ joined c x (k + 1) → s.alive ≡ two_left
+          → ((g : List ℕ) (s : State) → I all m g s → R g s) → W three R (regs m k 0 0 0 0 0 0) s
+      three_is zero k h s R p u alive go =
+          let t = does c x Ended (regs 0 k 0 0 0 0 0 0) s in
+          (omega (arith, p.1), alive) ▹ omega (arith, p.1, small)
+          ▹ go (regs 0 (k + 1) 0 0 0 0 0 0) t (
             h + 1,
+            k + 1,
             refl,
-            omega (arith, is),
-            omega (arith, ends),
-            omega (arith, paid),
+            again h k 0 s t p refl refl,
             (λ more. absurd (omega (arith, more))),
             (λ none. u),
-            omega (arith, counted),
           )
-      three_is (suc m) k s R h is ends paid u alive counted go = wp_some Part State n F (does c x) 0 m
-          (Do Three End) (Do Ended End) (Put (AddI 1 1) End) R (regs (suc m) k 0 0 0 0 0 0) s refl
-          ((omega (arith, ends), alive) ▹ omega (arith, ends, small)
-          ▹ go (regs (suc m) (k + 1) 0 0 0 0 0 0) _ (
-            k + 1,
+      three_is (suc m) k h s R p u alive go =
+          let t = does c x Three (regs (suc m) k 0 0 0 0 0 0) s in
+          wp_some Part State n F (does c x) 0 m (Do Three End) (Do Ended End) (Put (AddI 1 1) End) R
+          (regs (suc m) k 0 0 0 0 0 0) s refl ((omega (arith, p.1), alive)
+          ▹ omega (arith, p.1, small) ▹ go (regs (suc m) (k + 1) 0 0 0 0 0 0) t (
             h + 1,
+            k + 1,
             refl,
-            omega (arith, is),
-            omega (arith, ends),
-            omega (arith, paid),
+            again h k (suc m) s t p refl refl,
             (λ more. (u, refl)),
             (λ none. absurd (omega (arith, none))),
-            omega (arith, counted),
           ))
 
       three_does : (m : ℕ) (g : List ℕ) (s : State) (R : Asked) → I (Last three) (suc m) g s
           → ((h : List ℕ) (s : State) → I all m h s → R h s) → W three R (slice_set g 0 m) s
       three_does m g s R i go =
-          let k = i.0 in
-          let u = ap (majority (x k) s.t3) i.8 ∙ turned (x k) s.t3 c
-          ∙ joins c x k s.t3 (omega (arith, i.3)) i.7 in
+          let k = i.1 in
+          let p = i.3 in
+          let u = ap (majority (x k) s.t3) i.6 ∙ turned (x k) s.t3 c
+          ∙ joins c x k s.t3 (omega (arith, p.0)) i.5 in
           subst (λ l. W three R (slice_set l 0 m) s) (sym i.2)
-          (three_is m k s R i.1 i.3 i.4 i.5 u i.9 i.10 go)
+          (three_is m k i.0 s R p u i.7 go)
 
       ends : (ts : TurnsOf Part) (g : List ℕ) (s : State) → I ts 0 g s → Q g s
-      ends (Turn y (Turn z ts)) g s i = let full : i.0 ≡ n = omega (arith, i.4) in
-          done g s (i.7 refl ∙ ap (joined c x) full, omega (arith, i.5, i.3, full), i.8 ∙ full)
-      ends (Turn y (Last z)) g s i = let full : i.0 ≡ n = omega (arith, i.4) in
-          done g s (i.6 ∙ ap (joined c x) full, omega (arith, i.5, i.3, full), i.11 ∙ full)
-      ends (Last y) g s i = let full : i.0 ≡ n = omega (arith, i.4) in
-          done g s (i.6 ∙ ap (joined c x) full, omega (arith, i.5, i.3, full), i.10 ∙ full)
+      ends (Turn y (Turn z ts)) g s i = let p = i.3 in let full : i.1 ≡ n = omega (arith, p.1) in
+          done g s (i.5 refl ∙ ap (joined c x) full, omega (arith, p.2, p.0, full), p.3 ∙ full)
+      ends (Turn y (Last z)) g s i = let p = i.3 in let full : i.1 ≡ n = omega (arith, p.1) in
+          done g s (i.4 ∙ ap (joined c x) full, omega (arith, p.2, p.0, full), p.3 ∙ full)
+      ends (Last y) g s i = let p = i.3 in let full : i.1 ≡ n = omega (arith, p.1) in
+          done g s (i.4 ∙ ap (joined c x) full, omega (arith, p.2, p.0, full), p.3 ∙ full)
 
   -- the whole
   pub reduction_does : (s : State) → s.cost ≡ 0 → s.rounds ≡ 0

@@ -1,6 +1,6 @@
 -- `and_red` and `or_red` as flows: their bodies, and how they follow one another.
 use Rattle.word_flow.proofs.Common.{◌/◌, majority, SetI, SetT, AddI, FlowOf, End, Do, Put, If, Loop}
-use Rattle.word_flow.proofs.Common.{Last, Turn, Coded, coded_of}
+use Rattle.word_flow.proofs.Common.{Last, Turn, Marked, coded_of}
 use Rattle.std.specs.Prelude.{ℕ, zero, suc, ◌+◌, ◌-◌, ◌*◌, Bool, true, false, not}
 use Rattle.word_flow.specs.declared.reduction.TheConstants.{COPIES, BEGINS, JOINS_AND, JOINS_OR}
 use Rattle.word_flow.specs.declared.reduction.TheConstants.{JOINS_TWO, JOINS_THREE, ENDS}
@@ -16,7 +16,7 @@ pub data Part : Type 0 where
   Ended : Part
 
 -- what each reads, computes and writes, and its commands, as the table has them
-abbrev pub code : Bool → Part → Coded
+abbrev pub code : Bool → Part → Marked
 code c Alone = coded_of COPIES
 code c Begun = coded_of BEGINS
 code true One = coded_of JOINS_OR

@@ -1,6 +1,6 @@
 -- The flow of relu does a statement of it.
 use Rattle.word_flow.proofs.Common.{◌≡◌, ℕ, zero, suc, ◌-◌, ◌*◌, ◌^◌, ◌<◌, ◌≤◌, Bool, true, false}
-use Rattle.word_flow.proofs.Common.{cond, List, [], ◌∷◌, not, None, refl, sym, ap, ◌∙◌, arith, ◌==◌}
+use Rattle.word_flow.proofs.Common.{cond, List, [], ◌∷◌, not, refl, sym, ap, ◌∙◌, arith, ◌==◌}
 use Rattle.word_flow.proofs.Common.{nat_lt, majority, Word, half, Space, Extent, Full, Owner}
 use Rattle.word_flow.proofs.Common.{InRoom, InCells, value_same, flow_aps, flow_total, values_from}
 use Rattle.word_flow.proofs.Common.{sense_three, first_node}
@@ -38,7 +38,7 @@ start c = record {
 }
 
 holds : (s0 : Space) (w0 : ℕ) (s1 : Space) (w1 : ℕ) (b : Part)
-    → body_holds (word_rooms Word s0 w0 s1 w1) known aps_in w None (code b) ≡ true
+    → body_holds (word_rooms Word s0 w0 s1 w1) known aps_in w (code b) ≡ true
 unfolding sense_three first_node
 holds s0 w0 s1 w1 Turned = refl
 holds s0 w0 s1 w1 Both = refl

@@ -1,6 +1,6 @@
 -- The flows of shl1 and shr1 do statements of them.
 use Rattle.word_flow.proofs.Common.{◌≡◌, ℕ, zero, suc, ◌-◌, ◌<◌, Bool, true, false, List, [], ◌∷◌}
-use Rattle.word_flow.proofs.Common.{None, refl, sym, subst, arith, Word, Space, Extent, Full, Owner}
+use Rattle.word_flow.proofs.Common.{refl, sym, subst, arith, Word, Space, Extent, Full, Owner}
 use Rattle.word_flow.proofs.Common.{InRoom, InCells, number, shl1_gives, shr1_gives, flow_aps}
 use Rattle.word_flow.proofs.Common.{values_from, sense_three, first_node}
 use Rattle.std.proofs.Common.{◌/◌}
@@ -26,7 +26,7 @@ view x s (InRoom (suc k)) v = x v
 view x s (InCells c) v = false
 
 holds : (up : Bool) (s0 : Space) (w0 : ℕ) (s1 : Space) (w1 : ℕ) (b : Part)
-    → body_holds (word_rooms Word s0 w0 s1 w1) known aps_in w None (code up b) ≡ true
+    → body_holds (word_rooms Word s0 w0 s1 w1) known aps_in w (code up b) ≡ true
 unfolding sense_three first_node
 holds true s0 w0 s1 w1 Cleared = refl
 holds true s0 w0 s1 w1 Moved = refl

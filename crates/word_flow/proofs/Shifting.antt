@@ -1,7 +1,7 @@
 -- shl1 and shr1 as one flow: its bodies, how they follow one another, and what they do.
 use Rattle.word_flow.proofs.Common.{◌≡◌, ℕ, suc, ◌+◌, ◌-◌, ◌<◌, ◌≤◌, Bool, true, false, List, []}
 use Rattle.word_flow.proofs.Common.{◌∷◌, refl, sym, ◌∙◌, subst, arith, slice_index, SetT, SubI}
-use Rattle.word_flow.proofs.Common.{FlowOf, zeros, End, Do, Put, Loop, Last, Coded, coded_of}
+use Rattle.word_flow.proofs.Common.{FlowOf, zeros, End, Do, Put, Loop, Last, Marked, coded_of}
 use Rattle.word_flow.specs.declared.shift.TheConstants.{CLEARS_LOWEST, CLEARS_TOP, UP, DOWN}
 use Rattle.word_flow.proofs.Counting.{put, put_same, put_other}
 use Rattle.word_flow.proofs.Loops.{◌▹◌, before, each}
@@ -21,7 +21,7 @@ into true = 1
 into false = 0
 
 -- what each reads, computes and writes, and its command, where bits go up or down
-abbrev pub code : Bool → Part → Coded
+abbrev pub code : Bool → Part → Marked
 code true Cleared = coded_of CLEARS_LOWEST
 code false Cleared = coded_of CLEARS_TOP
 code true Moved = coded_of UP

@@ -4,7 +4,7 @@ use Rattle.word_flow.proofs.Common.{StatementMeets, IsFlowWritten, ComputeMeets,
 use Rattle.word_flow.proofs.Common.{rounds_cost, all_rounds, WIDTH_MAX, Statement, IsLowered, subst}
 use Rattle.word_flow.proofs.Common.{places_of, steps_for, IsPlaced, Compute, rows_on, is_flow, List}
 use Rattle.word_flow.proofs.Common.{Option, WordOp, StepOf, Places, Block, Slots, AreAt, Some, Slot}
-use Rattle.word_flow.proofs.Common.{Rows, ◌≡◌, ◌+◌, ◌<◌, ◌≤◌, sym, ◌∙◌, ap, ℕ}
+use Rattle.word_flow.proofs.Common.{rounds_aps, statement_aps, Rows, ◌≡◌, ◌+◌, ◌<◌, ◌≤◌, sym, ◌∙◌, ap, ℕ}
 use Rattle.word_flow.proofs.Exactly.{IsDone, flow_done, SecondPlace, second_place}
 
 module _ (slots : Slots) (free_bit free_word : ℕ) (s : Statement) (target : List ℕ)
@@ -26,11 +26,18 @@ module _ (slots : Slots) (free_bit free_word : ℕ) (s : Statement) (target : Li
   found_second : SecondPlace slots second
   found_second = second_place slots target args second (second_kind p) word_meets.others
 
-  module _ (m : Rows) (on : (t : Slot) (u : Option Slot) (ss : List Slot) → slots target ≡ Some t
-      → AreAt slots (option_to_list second) (option_to_list u) → AreAt slots args ss
+  module _ (m : Rows) (named : List (List ℕ)) (are : named ≡ args)
+      (on : (t : Slot) (u : Option Slot) (ss : List Slot) → slots target ≡ Some t
+      → AreAt slots (option_to_list second) (option_to_list u) → AreAt slots named ss
       → m ≡ rows_on t u ss free_bit free_word) where
+    on_args : (t : Slot) (u : Option Slot) (ss : List Slot) → slots target ≡ Some t
+        → AreAt slots (option_to_list second) (option_to_list u) → AreAt slots args ss
+        → m ≡ rows_on t u ss free_bit free_word
+    on_args t u ss found near at = on t u ss found near
+        (subst (λ names. AreAt slots names ss) (sym are) at)
+
     m_is : m ≡ rows_on word_meets.gives.slot found_second.place found_args.list free_bit free_word
-    m_is = on word_meets.gives.slot found_second.place found_args.list word_meets.gives.found
+    m_is = on_args word_meets.gives.slot found_second.place found_args.list word_meets.gives.found
         found_second.at found_args.at
 
     pub has_words : m.free_word + words_inside p ≤ 256
@@ -54,6 +61,11 @@ module _ (slots : Slots) (free_bit free_word : ℕ) (s : Statement) (target : Li
       statement_exact n some small = ap (λ ss. rounds_cost (all_rounds n ss)) same
           ∙ done.exact.total n some small ∙ ap (λ x. statement_total x n) (sym e)
 
+      pub statement_aps_are : (n : ℕ) → 0 < n → n ≤ WIDTH_MAX
+          → rounds_aps (all_rounds n steps) ≡ statement_aps s n
+      statement_aps_are n some small = ap (λ ss. rounds_aps (all_rounds n ss)) same
+          ∙ done.exact.aps n some small ∙ ap (λ x. statement_aps x n) (sym e)
+
       pub statement_written : IsFlowWritten slots free_bit free_word s steps
       statement_written = subst (λ x. IsFlowWritten slots free_bit free_word x steps) (sym e)
-          (λ t u ss found near at. same ∙ ap (steps_for p) (on t u ss found near at))
+          (λ t u ss found near at. same ∙ ap (steps_for p) (on_args t u ss found near at))

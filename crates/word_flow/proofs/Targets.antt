@@ -1,13 +1,13 @@
 -- An operation's flow does a statement of it, in exactly so many commands, wherever its names are.
 use Rattle.word_flow.proofs.Common.{bits_of_number, value_of_list, after_rounds, ComputeMeets, Bool}
 use Rattle.word_flow.proofs.Common.{filled_words, flow_rounds, filled_word, slots_width, value_same}
-use Rattle.word_flow.proofs.Common.{named_width, form_filled, coded_body, slot_bits, extent_is, ◌≡◌}
+use Rattle.word_flow.proofs.Common.{named_width, form_filled, placed_body, slot_bits, extent_is, ◌≡◌}
 use Rattle.word_flow.proofs.Common.{steps_for, op_value, words_to, flow_map, IsPlaced, one_slot, []}
 use Rattle.word_flow.proofs.Common.{no_slots, BodyCmd, Compute, word_to, spot_in, room_at, room_of}
-use Rattle.word_flow.proofs.Common.{rows_of, slot_is, name_at, rows_on, length, Option, WordOp, ◌<◌}
+use Rattle.word_flow.proofs.Common.{rows_of, slot_is, name_at, rows_on, length, WordOp, ◌<◌}
 use Rattle.word_flow.proofs.Common.{filled, Flowed, FlowOf, row_in, Extent, extent, InRoom, number}
 use Rattle.word_flow.proofs.Common.{false, subst, arith, value, forms, Space, Spots, Slots, Owner}
-use Rattle.word_flow.proofs.Common.{AreAt, Coded, width, true, List, Some, None, refl, Kind, Word}
+use Rattle.word_flow.proofs.Common.{AreAt, Marked, width, true, List, Some, None, refl, Kind, Word}
 use Rattle.word_flow.proofs.Common.{bits, Slot, Room, Full, slot, ◌∷◌, map, sym, ◌∙◌, ap, ℕ}
 use Rattle.word_flow.proofs.Computing.{stands_target, stands_arg, target_fresh, one_gives}
 use Rattle.word_flow.proofs.FlowLowered.{flow_holds}
@@ -37,11 +37,11 @@ module _ (slots : Slots) (fb fw : ℕ) (target : List ℕ) (p : WordOp) (args : 
     (placed : IsPlaced slots fb fw (Compute target None p args)) (t : Slot)
     (found : slots target ≡ Some t) (ss : List Slot) (at : AreAt slots args ss) (ws : List Whose)
     (stand : AllStand slots fb fw (Compute target None p args) placed ws) (differ : AllDiffer ws)
-    (A : Type 0) (code : A → Coded) (f : FlowOf A) (es : List Extent)
+    (A : Type 0) (code : A → Marked) (f : FlowOf A) (es : List Extent)
     (shape : map (λ (r : Room). r.rows) (rooms_whose ws) ≡ es) (known : List Owner)
-    (x : List BodyCmd → ℕ) (weight : ℕ → ℕ) (w : Weights) (same : A → Option ℕ)
-    (holds : (b : A) → body_holds (rooms_whose ws) known x w (same b) (code b) ≡ true)
-    (sized : flow_holds (flow_map (λ b. coded_body (rooms_whose ws) (code b)) f) ≡ true)
+    (x : List BodyCmd → ℕ) (weight : ℕ → ℕ) (w : Weights)
+    (holds : (b : A) → body_holds (rooms_whose ws) known x w (code b) ≡ true)
+    (sized : flow_holds (flow_map (λ b. placed_body (rooms_whose ws) (code b)) f) ≡ true)
     (k : ℕ) (js : List ℕ) (o : Operation p A code f es known x weight w (Value p t.kind k js)) where
   pub one_target : k < length (rooms_whose ws) → is_known known (InRoom k) ≡ true
       → ((n v : ℕ) → row_in n (room_at (rooms_whose ws) k) v ≡ spot_in n t.space t.which v)
@@ -51,12 +51,12 @@ module _ (slots : Slots) (fb fw : ℕ) (target : List ℕ) (p : WordOp) (args : 
       → map (λ j. number (λ v. bits (row_in n (room_at (rooms_whose ws) j) v)) n) js
       ≡ map (λ s. value (slot_bits n bits s)) ss)
       → IsDone slots fb fw target None p args
-      (Flowed (flow_map (λ b. coded_body (rooms_whose ws) (code b)) f) ∷ [])
+      (Flowed (flow_map (λ b. placed_body (rooms_whose ws) (code b)) f) ∷ [])
   one_target there knows place rows wide numbers = done slots fb fw target None p args placed ws stand
-      differ A code f es shape known x weight w same holds sized (Value p t.kind k js) o
+      differ A code f es shape known x weight w holds sized (Value p t.kind k js) o
       (λ n. named_width n slots args ss at ∙ wide n)
       (λ n some small held before r h name e. (let after = after_rounds n (flow_rounds n
-      (flow_map (λ b. coded_body (rooms_whose ws) (code b)) f)) before in
+      (flow_map (λ b. placed_body (rooms_whose ws) (code b)) f)) before in
       one_gives slots fb fw target p args meets placed t found ss at n held before after h
       (spelled n t after (r.end (InRoom k)) _ (λ v lv. ap after (sym (place n v))
       ∙ r.held (InRoom k) knows there v (subst (λ x. v < x) (sym (rows n)) lv))
@@ -105,17 +105,17 @@ OneDone p = (slots : Slots) (fb fw : ℕ) (target : List ℕ) (args : List (List
 abbrev pub word_rooms : Kind → Space → ℕ → Space → ℕ → List Room
 word_rooms g s0 w0 s1 w1 = room_of true (slot s0 w0 g) ∷ room_of false (slot s1 w1 Word) ∷ []
 
-pub of_word : {p : WordOp} (g : Kind) {A : Type 0} {code : A → Coded} {f : FlowOf A}
+pub of_word : {p : WordOp} (g : Kind) {A : Type 0} {code : A → Marked} {f : FlowOf A}
     {known : List Owner} {x : List BodyCmd → ℕ} {weight : ℕ → ℕ} {w : Weights}
     → Operation p A code f (rows_of g ∷ Full ∷ []) known x weight w (Value p g 0 (1 ∷ []))
     → ((s0 : Space) (w0 : ℕ) (s1 : Space) (w1 : ℕ) (b : A)
-    → body_holds (word_rooms g s0 w0 s1 w1) known x w None (code b) ≡ true)
+    → body_holds (word_rooms g s0 w0 s1 w1) known x w (code b) ≡ true)
     → ((s0 : Space) (w0 : ℕ) (s1 : Space) (w1 : ℕ)
-    → flow_holds (flow_map (λ b. coded_body (word_rooms g s0 w0 s1 w1) (code b)) f) ≡ true)
+    → flow_holds (flow_map (λ b. placed_body (word_rooms g s0 w0 s1 w1) (code b)) f) ≡ true)
     → is_known known (InRoom 0) ≡ true → forms p ≡ word_to g
     → ((s0 : Space) (w0 : ℕ) (s1 : Space) (w1 fb fw : ℕ)
     → steps_for p (rows_on (slot s0 w0 g) None (slot s1 w1 Word ∷ []) fb fw)
-    ≡ Flowed (flow_map (λ b. coded_body (word_rooms g s0 w0 s1 w1) (code b)) f) ∷ []) → OneDone p
+    ≡ Flowed (flow_map (λ b. placed_body (word_rooms g s0 w0 s1 w1) (code b)) f) ∷ []) → OneDone p
 of_word {p} g {A} {code} {f} {known} {x} {weight} {w} o holds sized knows form steps slots fb fw target
     args meets placed t found ss at = by_word (λ t ss. slots target ≡ Some t → AreAt slots args ss
     → IsDone slots fb fw target None p args (steps_for p (rows_on t None ss fb fw))) g by t ss
@@ -135,7 +135,7 @@ of_word {p} g {A} {code} {f} {known} {x} {weight} {w} o holds sized knows form s
         (stands_target slots fb fw target None p args meets placed t found ss at
         ▹ stands_arg slots fb fw target None p args meets placed t found ss at 0 (omega arith) ▹ tt)
         ((λ e. target_fresh slots fb fw target None p args meets placed t found ss at 0 (omega arith), tt)
-        ▹ tt ▹ tt) A code f (rows_of g ∷ Full ∷ []) refl known x weight w (λ b. None)
+        ▹ tt ▹ tt) A code f (rows_of g ∷ Full ∷ []) refl known x weight w
         (holds s0 w0 s1 w1) (sized s0 w0 s1 w1) 0 (1 ∷ []) o (omega arith) knows (λ n v. refl)
         (λ n. extent_is n g) (λ n. refl) (λ n bits. ap (λ x. x ∷ []) (word_value n s1 w1 bits)))
 

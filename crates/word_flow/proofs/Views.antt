@@ -1,20 +1,19 @@
 -- What bodies do to rows and cells, by what stands in those of their owners.
 use Rattle.word_flow.proofs.Common.{owners_apart, placed_body, values_from, owner_cases, cases_Bool}
-use Rattle.word_flow.proofs.Common.{same_owner, writes_fit, RoomsApart, finds_like, coded_body, ◌≡◌}
+use Rattle.word_flow.proofs.Common.{same_owner, writes_fit, RoomsApart, finds_like, ◌≡◌}
 use Rattle.word_flow.proofs.Common.{and_parts, sub_value, write_all, turn_cost, left_like, and_from}
 use Rattle.word_flow.proofs.Common.{eqb-true, set_spot, nth_spot, is_state, room_for, is_there, suc}
 use Rattle.word_flow.proofs.Common.{HaveRows, flip_if, spot_in, left_by, BodyCmd, room_at, InCells}
-use Rattle.word_flow.proofs.Common.{IsOwned, IsThere, Option, length, ⊎_elim, nat_lt, eq-eqb, false}
+use Rattle.word_flow.proofs.Common.{IsOwned, IsThere, length, ⊎_elim, eq-eqb, false}
 use Rattle.word_flow.proofs.Common.{values, Source, row_in, Extent, extent, InRoom, Marked, placed}
-use Rattle.word_flow.proofs.Common.{subst, arith, start, Block, Spots, finds, Owner, Coded, zero, ℕ}
+use Rattle.word_flow.proofs.Common.{subst, arith, start, Block, Spots, finds, Owner, zero, ℕ}
 use Rattle.word_flow.proofs.Common.{Bool, true, cond, List, refl, ◌&&◌, ◌||◌, ◌==◌, Spot, Room, ◌+◌}
 use Rattle.word_flow.proofs.Common.{Full, Mark, ◌<◌, ◌∷◌, map, sym, ◌∙◌, Lit, One, [], ap}
 use Rattle.mig_graph.specs.declared.Node.{Node}
 use Rattle.mig_graph.specs.Literals.{lit_value, node_value}
 use Rattle.loop_laws.proofs.Same.{set_same, set_other}
 use Rattle.loop_laws.proofs.Good.{there_is}
-use Rattle.word_flow.proofs.FlowBodies.{all_there, AllIn, keeps, kept_is, Works, owner_true}
-use Rattle.word_flow.proofs.FlowBodies.{round_is}
+use Rattle.word_lower.proofs.BodyRules.{all_there, AllIn, keeps, kept_is, owner_true, round_is}
 use Rattle.word_flow.proofs.FlowOps.{Does}
 use Rattle.word_flow.proofs.Placing.{IsFree}
 
@@ -76,26 +75,26 @@ Within n g es (m ∷ ms) = (sub_value n 0 0 g m.sub < extent n (extent_of es m.o
 
 -- What a body does to what an operation's state says: the places that it reads and writes are rows
 -- of their owners, it finds the cells that it reads, and this is what stands there after it
-pub record Step (n : ℕ) (es : List Extent) (known : List Owner) (c : Coded) (g : List ℕ)
+pub record Step (n : ℕ) (es : List Extent) (known : List Owner) (c : Marked) (g : List ℕ)
     (view after : View) (cost spent more sum : ℕ) (alive left : List ℕ)
     (x : List BodyCmd → ℕ) : Type 0 where
-  pub reads : Within n g es c.body.reads
-  pub writes : Within n g es c.body.writes
+  pub reads : Within n g es c.reads
+  pub writes : Within n g es c.writes
   pub states : List ℕ
   pub are : alive ≡ states
-  pub finds : finds states (placed_body [] c.body) ≡ true
-  pub leaves : left ≡ left_by (placed_body [] c.body)
-  pub same : (d : Bool) → shown es known (after_body n g d c.body view) ≡ shown es known after
-  pub paid : spent ≡ cost + length c.cmds
-  pub weighed : sum ≡ more + x c.cmds
+  pub finds : finds states (placed_body [] c) ≡ true
+  pub leaves : left ≡ left_by (placed_body [] c)
+  pub same : (d : Bool) → shown es known (after_body n g d c view) ≡ shown es known after
+  pub paid : spent ≡ cost + length c.found
+  pub weighed : sum ≡ more + x c.found
 
-pub stepped : {n : ℕ} {es : List Extent} {known : List Owner} {c : Coded} {g : List ℕ}
+pub stepped : {n : ℕ} {es : List Extent} {known : List Owner} {c : Marked} {g : List ℕ}
     {view after : View} {cost spent more sum : ℕ} {alive left : List ℕ} {x : List BodyCmd → ℕ}
-    → Within n g es c.body.reads
-    → Within n g es c.body.writes → (states : List ℕ) → alive ≡ states
-    → finds states (placed_body [] c.body) ≡ true → left ≡ left_by (placed_body [] c.body)
-    → ((d : Bool) → shown es known (after_body n g d c.body view) ≡ shown es known after)
-    → spent ≡ cost + length c.cmds → sum ≡ more + x c.cmds
+    → Within n g es c.reads
+    → Within n g es c.writes → (states : List ℕ) → alive ≡ states
+    → finds states (placed_body [] c) ≡ true → left ≡ left_by (placed_body [] c)
+    → ((d : Bool) → shown es known (after_body n g d c view) ≡ shown es known after)
+    → spent ≡ cost + length c.found → sum ≡ more + x c.found
     → Step n es known c g view after cost spent more sum alive left x
 stepped reads writes states are finds leaves same paid weighed = record {
   reads = reads;
@@ -108,11 +107,6 @@ stepped reads writes states are finds leaves same paid weighed = record {
   paid = paid;
   weighed = weighed;
 }
-
--- the first of two, where it is chosen
-pub first_of : (b : Bool) (x y : ℕ) → b ≡ true → cond b x y ≡ x
-first_of true x y e = refl
-first_of false x y e = absurd (cc)
 
 same_true : (a : Owner) → same_owner a a ≡ true
 same_true (InRoom k) = eq-eqb k k refl
@@ -278,16 +272,15 @@ module _ (n : ℕ) (rooms : List Room) (some : 0 < n) (are : RoomsApart n rooms)
     rest = l.rest;
   }
 
-  module _ (A S : Type 0) (code : A → Coded) (InRange : A → List ℕ → S → Type 0)
+  module _ (A S : Type 0) (code : A → Marked) (InRange : A → List ℕ → S → Type 0)
       (does : A → List ℕ → S → S) (view : S → View) (cost more : S → ℕ) (alive : S → List ℕ)
-      (x : List BodyCmd → ℕ) (keep : (b : A) → keeps rooms (code b).body ≡ true) (same : A → Option ℕ)
-      (works : (b : A) → Works (code b) (same b))
-      (knows : (b : A) → all_known known (code b).body.reads ≡ true)
+      (x : List BodyCmd → ℕ) (keep : (b : A) → keeps rooms (code b) ≡ true)
+      (knows : (b : A) → all_known known (code b).reads ≡ true)
       (step : (b : A) (g : List ℕ) (s : S) → InRange b g s → Step n es known (code b) g (view s)
       (view (does b g s)) (cost s) (cost (does b g s)) (more s) (more (does b g s)) (alive s)
       (alive (does b g s)) x) where
     abbrev block : A → Block
-    block b = coded_body rooms (code b)
+    block b = placed_body rooms (code b)
 
     abbrev pub Likes : S → Spots → Type 0
     Likes s bits = Like (view s) bits
@@ -298,28 +291,27 @@ module _ (n : ℕ) (rooms : List Room) (some : 0 < n) (are : RoomsApart n rooms)
           → Does A S block n (IsOwned n rooms) InRange does Likes weight spent alive b g s bits
       does_each b g s bits r l =
           let c = code b in
-          let kept = kept_is rooms c.body (keep b) in
+          let kept = kept_is rooms c (keep b) in
           let t = step b g s r in
-          let reads = all_in g c.body.reads t.reads in
-          let writes = all_in g c.body.writes t.writes in
+          let reads = all_in g c.reads t.reads in
+          let writes = all_in g c.writes t.writes in
           let d = bits (spot_in n Source 0 0) in
           record {
             keeps = round_is n rooms some are have c (keep b) g reads writes;
-            like = same_like (after_body n g d c.body (view s)) (view (does b g s)) _ (t.same d)
-                (write_like g _ _ (values_same (c.body.graph.inputs + 1) c.body.graph.nodes _ _
-                (start_same _ _ (read_like (view s) bits g c.body.reads kept.reads (knows b) reads l)))
-                c.body.reads c.body.writes c.body.outs kept.writes kept.fit writes (view s) bits l);
+            like = same_like (after_body n g d c (view s)) (view (does b g s)) _ (t.same d)
+                (write_like g _ _ (values_same (c.graph.inputs + 1) c.graph.nodes _ _
+                (start_same _ _ (read_like (view s) bits g c.reads kept.reads (knows b) reads l)))
+                c.reads c.writes c.outs kept.writes kept.fit writes (view s) bits l);
             paid = pays b g s r;
-            found = finds_like rooms have (alive s) c.body
-                ∙ ap (λ a. finds a (placed_body [] c.body)) t.are ∙ t.finds;
-            left = t.leaves ∙ sym (left_like rooms have c.body);
+            found = finds_like rooms have (alive s) c
+                ∙ ap (λ a. finds a (placed_body [] c)) t.are ∙ t.finds;
+            left = t.leaves ∙ sym (left_like rooms have c);
           }
 
     -- each body does so, and pays its commands, and its weight
     pub each : (b : A) (g : List ℕ) (s : S) (bits : Spots) → InRange b g s → Likes s bits
         → Does A S block n (IsOwned n rooms) InRange does Likes turn_cost cost alive b g s bits
-    each = does_each turn_cost cost (λ b g s r. (step b g s r).paid ∙ ap (λ z. cost s + z)
-        (sym (first_of (nat_lt 0 (length (code b).cmds)) (length (code b).cmds) _ (works b).some)))
+    each = does_each turn_cost cost (λ b g s r. (step b g s r).paid)
 
     pub weighed : (b : A) (g : List ℕ) (s : S) (bits : Spots) → InRange b g s → Likes s bits
         → Does A S block n (IsOwned n rooms) InRange does Likes (λ b. x b.found) more alive b g s bits

@@ -1,6 +1,6 @@
 -- The flow of xor_red does a statement of it.
 use Rattle.word_flow.proofs.Common.{◌≡◌, ℕ, zero, suc, ◌+◌, ◌*◌, Bool, true, false, cond, List, []}
-use Rattle.word_flow.proofs.Common.{◌∷◌, None, refl, sym, ap, ◌∙◌, arith, ◌==◌, ◌%◌, Bit, ones_of}
+use Rattle.word_flow.proofs.Common.{◌∷◌, refl, sym, ap, ◌∙◌, arith, ◌==◌, ◌%◌, Bit, ones_of}
 use Rattle.word_flow.proofs.Common.{Space, Extent, Full, One, Owner, InRoom, InCells, ones_of_none}
 use Rattle.word_flow.proofs.Common.{ones_of_more, flow_aps, values_from, sense_three, first_node}
 use Rattle.word_flow.proofs.Targets.{answers_of, Weights, aps_in, body_holds, Operation, Value}
@@ -37,7 +37,7 @@ start c = record {
 }
 
 holds : (s0 : Space) (w0 : ℕ) (s1 : Space) (w1 : ℕ) (b : Part)
-    → body_holds (word_rooms Bit s0 w0 s1 w1) known aps_in w None (code b) ≡ true
+    → body_holds (word_rooms Bit s0 w0 s1 w1) known aps_in w (code b) ≡ true
 unfolding sense_three first_node
 holds s0 w0 s1 w1 Alone = refl
 holds s0 w0 s1 w1 LoneTwo = refl

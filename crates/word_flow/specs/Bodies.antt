@@ -1,7 +1,7 @@
 -- Bodies and flows at the places of their owners, which are given as slots, by their numbers.
--- Only inner calls speak of this.
+-- Private contracts alone speak of this.
 use Rattle.std.specs.Prelude.{ℕ, zero, suc, ◌+◌, Bool, true, ◌&&◌, nat_lt, nat_le, List, [], ◌∷◌}
-use Rattle.std.specs.Prelude.{map, length}
+use Rattle.std.specs.Prelude.{length}
 use Rattle.std.specs.List.{list_all}
 use Rattle.op_text.specs.declared.tree.Kind.TheVariants.{Bit}
 use Rattle.op_text.specs.declared.word_ops.WordOp.{WordOp}
@@ -9,7 +9,7 @@ use Rattle.op_text.specs.declared.word_ops.WordOp.TheVariants as o
 use Rattle.loop_ir.specs.declared.ir.Space.TheVariants.{Source}
 use Rattle.loop_ir.specs.declared.names.Slot.{Slot}
 use Rattle.loop_ir.specs.Plain.{Block}
-use Rattle.word_lower.specs.Places.{scratch_bit, place_on}
+use Rattle.word_lower.specs.Places.{scratch_bit, body_on}
 use Rattle.word_lower.specs.Shapes.{are_own, are_below}
 use Rattle.word_flow.specs.declared.rows.Rows.{Rows}
 use Rattle.word_flow.specs.declared.shapes.CodedBody.{CodedBody}
@@ -35,13 +35,7 @@ slots_for p m = m.target ∷ m.a ∷ m.target ∷ m.target ∷ m.target ∷ []
 
 -- a body with its commands at the places of its owners
 abbrev pub coded_on : List Slot → CodedBody → Block
-coded_on slots c = record {
-  reads = map (place_on (slot_at slots)) (coded_of c).body.reads;
-  graph = (coded_of c).body.graph;
-  outs = (coded_of c).body.outs;
-  writes = map (place_on (slot_at slots)) (coded_of c).body.writes;
-  found = (coded_of c).cmds;
-}
+coded_on slots c = body_on (slot_at slots) (coded_of c)
 
 -- a body of a table has a graph such as `Mig` makes, with outputs that name nodes of it
 abbrev pub is_coded : CodedBody → Bool

@@ -1,4 +1,4 @@
-pub mod Coded
+-- Loop programs of the word operations that are flows.
 pub mod Plans
 pub mod Programs
 pub mod Places

@@ -13,11 +13,10 @@ use Rattle.loop_ir.specs.Flows.{flow_map}
 use Rattle.loop_ir.specs.Plain.{StepOf, Block}
 use Rattle.loop_ir.specs.Plain.StepOf.{Flowed}
 use Rattle.loop_ir.specs.Statements.{Slots}
-use Rattle.loop_laws.specs.Rooms.{Room}
+use Rattle.loop_laws.specs.Rooms.{Room, placed_body}
 use Rattle.word_lower.specs.Places.{scratch_bit, room_of, AreAt}
 use Rattle.word_lower.specs.Shapes.{following}
 use Rattle.word_flow.specs.declared.rows.Rows.{Rows}
-use Rattle.word_flow.specs.Coded.{coded_body}
 use Rattle.word_flow.specs.Programs.{flow_for}
 
 -- a word of internal scratch, by its number
@@ -39,7 +38,7 @@ rooms_for p m = room_of true m.target ∷ room_of false m.a ∷ []
 
 -- the loop program of such a statement: the operation's flow, with its places found
 abbrev pub steps_for : WordOp → Rows → List (StepOf Block)
-steps_for p m = Flowed (flow_map (coded_body (rooms_for p m)) (flow_for p)) ∷ []
+steps_for p m = Flowed (flow_map (placed_body (rooms_for p m)) (flow_for p)) ∷ []
 
 -- the places of targets and of arguments, of which a lone one stands for both
 abbrev pub rows_on : Slot → Option Slot → List Slot → ℕ → ℕ → Rows

@@ -6,7 +6,7 @@ use Rattle.loop_ir.specs.Flows.{FlowOf}
 use Rattle.loop_ir.specs.Flows.FlowOf.{End, Do, Put, If, Loop}
 use Rattle.loop_ir.specs.Flows.TurnsOf.{Last, Turn}
 use Rattle.loop_laws.specs.Rooms as rooms
-use Rattle.loop_laws.specs.Rooms.{InRoom, InCells}
+use Rattle.loop_laws.specs.Rooms.{InRoom, InCells, Marked}
 use Rattle.word_flow.specs.declared.shapes.Owner.{Owner}
 use Rattle.word_flow.specs.declared.shapes.Owner.TheVariants.{Row, Cells}
 use Rattle.word_flow.specs.declared.shapes.Mark.{Mark}
@@ -15,7 +15,6 @@ use Rattle.word_flow.specs.declared.shapes.Nine.{Nine}
 use Rattle.word_flow.specs.declared.shapes.CodedBody.{CodedBody}
 use Rattle.word_flow.specs.declared.shapes.Line.{Line}
 use Rattle.word_flow.specs.declared.shapes.Line.TheVariants as line
-use Rattle.word_flow.specs.Coded.{Coded}
 
 -- whose rows a place of the table has, or the layout of a state
 abbrev pub owner_of : Owner → rooms.Owner
@@ -26,32 +25,32 @@ owner_of (Cells layout) = InCells layout
 abbrev pub mark_of : Mark → rooms.Mark
 mark_of m = record { owner = owner_of m.owner; sub = m.sub }
 
--- those that there are
+-- those of the four that there are
 abbrev pub four_of : {A : Type 0} → Four A → List A
 four_of x = option_to_list x.a ++ (option_to_list x.b ++ (option_to_list x.c ++ option_to_list x.d))
 
+-- those of the nine that there are
 abbrev pub nine_of : {A : Type 0} → Nine A → List A
 nine_of x = option_to_list x.a ++ (option_to_list x.b ++ (option_to_list x.c ++ (option_to_list x.d
     ++ (option_to_list x.e ++ (option_to_list x.f ++ (option_to_list x.g ++ (option_to_list x.h
     ++ option_to_list x.i)))))))
 
 -- a body of the table with its commands: each of its reads is an input
-abbrev pub coded_of : CodedBody → Coded
+abbrev pub coded_of : CodedBody → Marked
 coded_of c = record {
-  body = record {
-    reads = map mark_of (four_of c.reads);
-    graph = record { inputs = length (four_of c.reads); nodes = four_of c.nodes };
-    outs = four_of c.outs;
-    writes = map mark_of (four_of c.writes);
-  };
-  cmds = nine_of c.cmds;
+  reads = map mark_of (four_of c.reads);
+  graph = record { inputs = length (four_of c.reads); nodes = four_of c.nodes };
+  outs = four_of c.outs;
+  writes = map mark_of (four_of c.writes);
+  found = nine_of c.cmds;
 }
 
--- the first of some flows, and the others
+-- the first of some flows
 abbrev pub first_of : {A : Type 0} → List (FlowOf A) → FlowOf A
 first_of [] = End
 first_of (f ∷ fs) = f
 
+-- the flows after the first
 abbrev pub others_of : {A : Type 0} → List (FlowOf A) → List (FlowOf A)
 others_of [] = []
 others_of (f ∷ fs) = fs
@@ -78,5 +77,5 @@ flows_on g [] = []
 flows_on g (l ∷ ls) = line_on g l (flows_on g ls)
 
 -- the flow of a table's lines
-abbrev pub plan_of : List Line → FlowOf Coded
+abbrev pub plan_of : List Line → FlowOf Marked
 plan_of lines = first_of (flows_on coded_of lines)

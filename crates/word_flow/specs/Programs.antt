@@ -1,11 +1,15 @@
 -- The word operations whose loop programs are flows, and the commands of these.
 use Rattle.std.specs.Prelude.{ℕ, zero, suc, ◌+◌, ◌-◌, ◌*◌, ◌/◌, ◌%◌, ◌==◌, nat_lt, Bool, true}
-use Rattle.std.specs.Prelude.{false, if◌then◌else◌, List, []}
+use Rattle.std.specs.Prelude.{false, if◌then◌else◌, List, [], sum_by}
 use Rattle.op_text.specs.declared.word_ops.WordOp.{WordOp}
 use Rattle.op_text.specs.declared.word_ops.WordOp.TheVariants as o
 use Rattle.op_text.specs.Language.{Statement, Compute, Visit}
 use Rattle.op_text.specs.Values.{ones_of}
+use Rattle.loop_ir.specs.Costs.{turn_aps}
 use Rattle.loop_ir.specs.Flows.{FlowOf}
+use Rattle.loop_ir.specs.Loops.{RoundOf}
+use Rattle.loop_ir.specs.Plain.{Block}
+use Rattle.loop_laws.specs.Rooms.{Marked}
 use Rattle.word_flow.specs.declared.mul.TheConstants.{MUL}
 use Rattle.word_flow.specs.declared.division.TheConstants.{DIV, REM, DIVMOD}
 use Rattle.word_flow.specs.declared.abs.TheConstants.{ABS}
@@ -15,7 +19,6 @@ use Rattle.word_flow.specs.declared.parity.TheConstants.{XOR_RED}
 use Rattle.word_flow.specs.declared.relu.TheConstants.{RELU}
 use Rattle.word_flow.specs.declared.shift.TheConstants.{SHL1, SHR1}
 use Rattle.word_flow.specs.declared.shapes.Line.{Line}
-use Rattle.word_flow.specs.Coded.{Coded}
 use Rattle.word_flow.specs.Plans.{plan_of}
 
 -- the operations that are flows
@@ -56,7 +59,7 @@ lines_for o.Divmod = DIVMOD
 lines_for p = []
 
 -- the flow of an operation
-abbrev pub flow_for : WordOp → FlowOf Coded
+abbrev pub flow_for : WordOp → FlowOf Marked
 flow_for p = plan_of (lines_for p)
 
 -- how many digits the binary form of a number has, of so many at most
@@ -94,3 +97,12 @@ flow_aps p n = 0
 abbrev pub statement_total : Statement → ℕ → ℕ
 statement_total (Compute target second p args) n = flow_total p n
 statement_total (Visit block) n = 0
+
+-- those of them that are AP
+abbrev pub statement_aps : Statement → ℕ → ℕ
+statement_aps (Compute target second p args) n = flow_aps p n
+statement_aps (Visit block) n = 0
+
+-- how many AP all rounds take
+abbrev pub rounds_aps : List (RoundOf Block) → ℕ
+rounds_aps rs = sum_by (λ r. turn_aps r.part) rs

@@ -104,7 +104,6 @@ pub fn body(c: &CodedBody, owners: &[Slot], alloc: Global) -> Result<Body, NoMem
     let nodes = four(&c.nodes, alloc)?;
     let outs = four(&c.outs, alloc)?;
     let writes = places(&four(&c.writes, alloc)?, owners, alloc)?;
-    let mut made = templated(&reads, &nodes, &outs, &writes, alloc)?;
-    made.found = nine(&c.cmds, alloc)?;
-    Ok(made)
+    let cmds = nine(&c.cmds, alloc)?;
+    templated(&reads, &nodes, &outs, &writes, &cmds, alloc)
 }

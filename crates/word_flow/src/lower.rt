@@ -16,7 +16,8 @@ ghost use Rattle.loop_ir.specs.Lowered.{IsLowered};
 ghost use Rattle.word_lower.specs.Places.{AreAt};
 ghost use Rattle.word_lower.specs.Shapes.{following};
 ghost use Rattle.word_flow.specs.Plans.{first_of, flows_on};
-ghost use Rattle.word_flow.specs.Programs.{is_flow, is_flow_statement, lines_for, statement_total};
+ghost use Rattle.word_flow.specs.Programs.{is_flow, is_flow_statement, lines_for, rounds_aps};
+ghost use Rattle.word_flow.specs.Programs.{statement_aps, statement_total};
 ghost use Rattle.word_flow.specs.Places.{rows_on, steps_for, IsFlowWritten};
 ghost use Rattle.word_flow.specs.Bodies.{slots_for, coded_on};
 
@@ -138,8 +139,7 @@ fn program(op: WordOp, m: Rows, alloc: Global) -> Result<LoopProgram, NoMemory>
     ensures { IfOk result (λ p. steps_of p ≡ steps_for op m) }
 {
     let f = flow_for(op, &owners(op, m), alloc)?;
-    let p = alone(f, alloc)?;
-    Ok(p)
+    alone(f, alloc)
 }
 
 /// The loop program of an operation that is a flow.
@@ -154,6 +154,8 @@ pub fn lower_flow(s: &Stmt, names: &NameMap, alloc: Global) -> Result<LoopProgra
         names.now.free_word (statement s.now) (steps_of p)) }
     ensures exact { IfOk result (λ p. (n : ℕ) → 0 < n → n ≤ WIDTH_MAX
         → rounds_cost (all_rounds n (steps_of p)) ≡ statement_total (statement s.now) n) }
+    ensures aps { IfOk result (λ p. (n : ℕ) → 0 < n → n ≤ WIDTH_MAX
+        → rounds_aps (all_rounds n (steps_of p)) ≡ statement_aps (statement s.now) n) }
     // The steps are the flow that is written for it.
     ensures written { IfOk result (λ p. IsFlowWritten (slots_of names.now) names.now.free_bit
         names.now.free_word (statement s.now) (steps_of p)) }
@@ -164,10 +166,7 @@ pub fn lower_flow(s: &Stmt, names: &NameMap, alloc: Global) -> Result<LoopProgra
             second,
             op,
             args,
-        } => {
-            let p = program(*op, rows(names, dst, second, args), alloc)?;
-            Ok(p)
-        }
+        } => program(*op, rows(names, dst, second, args), alloc),
         Stmt::Serial { .. } => unreachable!(),
     }
 }

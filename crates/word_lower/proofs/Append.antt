@@ -8,7 +8,7 @@ use Rattle.loop_ir.specs.Plain.{Block, StepOf, AllParts, AllStep, step_of}
 use Rattle.loop_laws.specs.Forms.{IsMade}
 use Rattle.word_lower.specs.declared.shapes.ProgramLine.{ProgramLine}
 use Rattle.word_lower.specs.Places.{program_on}
-use Rattle.word_lower.specs.Shapes.{lines_steps}
+use Rattle.word_lower.specs.Lines.{lines_steps}
 
 pub same_push : (steps new : List Step) (s : Step) (us : List (StepOf Block))
     → new ≡ steps ++ s ∷ [] → step_of s ∷ [] ≡ us

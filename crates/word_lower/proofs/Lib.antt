@@ -12,3 +12,5 @@ pub mod Own
 pub mod LikeTemplates
 pub mod Append
 pub mod Owners
+pub mod BodyRules
+pub mod Commands

@@ -32,10 +32,10 @@ block_of_parts reads g outs writes found = record {
 
 -- bodies of equal parts are one
 pub template_same : (reads writes rp wp : List Place) (nodes : List Node) (outs lits : List Lit)
-    (g : Graph) (cmds : List BodyCmd) → rp ≡ reads → wp ≡ writes
-    → g ≡ record { inputs = length reads; nodes = nodes } → lits ≡ outs → cmds ≡ []
-    → block_of_parts rp g lits wp cmds ≡ template_at reads nodes outs writes
-template_same reads writes rp wp nodes outs lits g cmds er ew eg el ec =
+    (g : Graph) (found cmds : List BodyCmd) → rp ≡ reads → wp ≡ writes
+    → g ≡ record { inputs = length reads; nodes = nodes } → lits ≡ outs → found ≡ cmds
+    → block_of_parts rp g lits wp found ≡ template_at reads nodes outs writes cmds
+template_same reads writes rp wp nodes outs lits g found cmds er ew eg el ec =
     rw (er, ew, eg, el, ec) refl
 
 -- its graph is as `Mig` makes them, and its outputs name nodes of it

@@ -13,6 +13,7 @@ use Rattle.op_text.specs.Values.{bits, value, op_value}
 use Rattle.op_text.specs.Meaning.{width}
 use Rattle.op_text.specs.Scratch.{bits_inside}
 use Rattle.op_text.specs.Costs.{op_ceiling}
+use Rattle.row_alloc.specs.Symbolic.{sense_three, first_node}
 use Rattle.loop_ir.specs.declared.ir.Space.TheVariants.{ScratchBit}
 use Rattle.loop_ir.specs.declared.names.Slot.{Slot}
 use Rattle.loop_ir.specs.Plain.{Block, StepOf}
@@ -23,14 +24,15 @@ use Rattle.loop_ir.specs.Lowered.{slot_spot, slot_bits, op_plain_ceiling}
 use Rattle.loop_laws.specs.Rooms.{steps_fit, placed_steps}
 use Rattle.loop_laws.specs.Forms.{is_short, keeps_states}
 use Rattle.loop_laws.proofs.Summed.{steps_sum}
-use Rattle.word_lower.specs.Places.{scratch_from, rooms_of, program_on}
+use Rattle.word_lower.specs.Places.{program_on}
 use Rattle.word_lower.specs.Programs.{program, is_linear}
 use Rattle.word_lower.specs.Shapes.{rows_at, owners_of}
-use Rattle.word_lower.proofs.Setting.{taken, Slots, row, number_at, Gives}
+use Rattle.word_lower.proofs.Setting.{scratch_from, rooms_of, taken, Slots, row, number_at, Gives}
 use Rattle.word_lower.proofs.Lists.{bits_of_number, value_of_list}
 use Rattle.word_lower.proofs.Pieces.{slot, slot_at, Pieces, names, are_slots}
 use Rattle.word_lower.proofs.Filled.{arg_kind, gives_kind, takes_kinds, form_of, slot_is}
 use Rattle.word_lower.proofs.Operations.{op_gives}
+use Rattle.word_lower.proofs.Commands.{steps_do}
 
 -- the width of the first argument, or n where there is none
 abbrev pub slots_width : ℕ → List Slot → ℕ
@@ -57,6 +59,7 @@ pub record Lowers (p : WordOp) (k : Kind) (t : Slot) (args : List Slot) (free : 
   pub same : program_on (rows_at (owners_of t args free)) (program p k) ≡ steps_on p k t args free
   pub short : is_short (steps_on p k t args free) ≡ true
   pub states : keeps_states (placed_steps [] (program p k)) ≡ true
+  pub commands : steps_do (program p k) ≡ true
   pub cheap : (n : ℕ) → 0 < n → steps_sum turn_cost n (placed_steps [] (program p k))
       ≤ op_ceiling p (slots_width n args)
   pub plain : (n : ℕ) → 0 < n → steps_sum plain_cost n (placed_steps [] (program p k))
@@ -123,24 +126,25 @@ tested : (p : WordOp) (k : Kind) (t : Slot) (args : List Slot) (free : ℕ)
     → steps_fit (rooms_of t args (scratch_from free (bits_inside p))) (program p k) ≡ true
     → program_on (rows_at (owners_of t args free)) (program p k) ≡ steps_on p k t args free
     → is_short (steps_on p k t args free) ≡ true
-    → keeps_states (placed_steps [] (program p k)) ≡ true
+    → keeps_states (placed_steps [] (program p k)) ≡ true → steps_do (program p k) ≡ true
     → ((n : ℕ) → 0 < n → steps_sum turn_cost n (placed_steps [] (program p k))
     ≤ op_ceiling p (slots_width n args))
     → ((n : ℕ) → 0 < n → steps_sum plain_cost n (placed_steps [] (program p k))
     ≤ op_plain_ceiling p (slots_width n args)) → Lowers p k t args free
-tested p k t args free a b c d e f =
-    record { fit = a; same = b; short = c; states = d; cheap = e; plain = f }
+tested p k t args free a b c d e f g =
+    record { fit = a; same = b; short = c; states = d; commands = e; cheap = f; plain = g }
 
 computes : (c : Kind) (p : WordOp) (t : Slot) (f : ℕ → Slot) (free : ℕ)
     → (let sh = (row_of p).signature in let k = gives_kind sh c in
     Lowers p k (of_kind t k) (args_in sh c f) free)
-computes Word op.Not t f free = tested _ _ _ _ _ refl refl refl refl
+unfolding sense_three first_node
+computes Word op.Not t f free = tested _ _ _ _ _ refl refl refl refl refl
     (λ n some. omega (arith, some)) (λ n some. omega (arith, some))
-computes Word p t f free = tested _ _ _ _ _ refl refl refl refl
+computes Word p t f free = tested _ _ _ _ _ refl refl refl refl refl
     (λ n some. omega (arith, some)) (λ n some. omega (arith, some))
-computes Bit op.Not t f free = tested _ _ _ _ _ refl refl refl refl
+computes Bit op.Not t f free = tested _ _ _ _ _ refl refl refl refl refl
     (λ n some. omega (arith, some)) (λ n some. omega (arith, some))
-computes Bit p t f free = tested _ _ _ _ _ refl refl refl refl
+computes Bit p t f free = tested _ _ _ _ _ refl refl refl refl refl
     (λ n some. omega (arith, some)) (λ n some. omega (arith, some))
 
 -- in each form the program does the operation

@@ -17,11 +17,12 @@ use Rattle.loop_ir.specs.Plain.{Block, StepOf}
 use Rattle.loop_ir.specs.Plain.StepOf.{Single, Along}
 use Rattle.loop_ir.specs.Loops.{round_at, all_rounds}
 use Rattle.loop_ir.specs.Spots.{Spot, Spots, set_spot, after_round, after_rounds}
-use Rattle.loop_laws.specs.Rooms.{Mark, InCells, placed_body}
+use Rattle.loop_ir.specs.declared.ir.Sub.{Sub}
+use Rattle.loop_laws.specs.Rooms.{Mark, InRoom, InCells, placed_body}
 use Rattle.loop_laws.proofs.Same.{set_same, set_other}
 use Rattle.word_lower.specs.Places.{scratch_bit, cells}
-use Rattle.word_lower.specs.Programs.{on, off}
-use Rattle.word_lower.specs.Programs.{joined, ordered}
+use Rattle.row_alloc.specs.declared.known_held.TheConstants.{AGREE}
+use Rattle.word_lower.specs.Programs.{off, joined, ordered}
 use Rattle.word_lower.specs.Programs.{is_linear}
 use Rattle.word_lower.proofs.Setting.{value_of, bit, number, operation, Slots, rooms_for, steps_for, row}
 use Rattle.word_lower.proofs.Setting.{number_at, AreSlots, Gives}
@@ -121,6 +122,10 @@ choice_does o n some m are before b c F first second e =
     (λ s kept h. at_each o n n 1 m are before s kept p (are.bit (omega arith)) F
     (e (s p) (h ∙ no_more (number_at n before m.a n) (number_at n before m.b n))) c refl second)
 
+-- a place of an owner by its number: 0 is the target, then come the arguments
+abbrev on : ℕ → Sub → Mark
+on owner s = record { owner = InRoom owner; sub = s }
+
 abbrev state : ℕ → Mark
 state layout = record { owner = InCells layout; sub = sub.Zero }
 
@@ -131,7 +136,7 @@ eq_does n m are before =
     let body = placed_body (rooms_for op.Eq m) (ordered (on 1 sub.Inner)
     (on 2 sub.Inner) (state 2) (state 3)) in
     let last = placed_body (rooms_for op.Eq m) (joined off (state 2) (state 3)
-    (on 0 sub.Zero)) in
+    (on 0 sub.Zero) AGREE) in
     let p = row n (cells 2) 0 in
     let q = row n (cells 3) 0 in
     let low : 0 < 1 = omega arith in

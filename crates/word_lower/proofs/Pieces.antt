@@ -14,8 +14,9 @@ use Rattle.loop_ir.specs.declared.names.Slot.{Slot}
 use Rattle.loop_ir.specs.Spots.{Spot, spot_in, IsOwn, is_state}
 use Rattle.loop_ir.specs.Statements.{holds_kind}
 use Rattle.loop_laws.specs.Rooms.{Room, room_at, row_in, extent, RoomsApart}
-use Rattle.word_lower.specs.Places.{rows_of, room_of, rooms_of, scratch_bit, scratch_from}
-use Rattle.word_lower.proofs.Setting.{Slots, row, SlotsApart, IsElsewhere, AreSlots}
+use Rattle.word_lower.specs.Places.{rows_of, room_of, scratch_bit}
+use Rattle.word_lower.proofs.Setting.{scratch_from, rooms_of, Slots, row, SlotsApart, IsElsewhere}
+use Rattle.word_lower.proofs.Setting.{AreSlots}
 
 -- the place of a value of this kind
 abbrev pub slot : Space → ℕ → Kind → Slot

@@ -1,5 +1,6 @@
 -- When a loop program does a word operation: the places of its names, and what it leaves.
-use Rattle.std.specs.Prelude.{◌≡◌, ℕ, zero, suc, ◌+◌, ◌*◌, ◌^◌, ◌<◌, Bool, false, List, [], ◌∷◌}
+use Rattle.std.specs.Prelude.{◌≡◌, ℕ, zero, suc, ◌+◌, ◌*◌, ◌^◌, ◌<◌, Bool, true, false, List, []}
+use Rattle.std.specs.Prelude.{◌∷◌, ◌++◌, map}
 use Rattle.op_text.specs.declared.tree.Kind.{Kind}
 use Rattle.op_text.specs.declared.word_ops.WordOp.{WordOp}
 use Rattle.op_text.specs.declared.word_ops.Signature.{Signature}
@@ -11,8 +12,18 @@ use Rattle.loop_ir.specs.declared.names.Slot.{Slot}
 use Rattle.loop_ir.specs.Plain.{StepOf, Block}
 use Rattle.loop_ir.specs.Spots.{Spot, Spots, spot_in, is_state}
 use Rattle.loop_laws.specs.Rooms.{Room, placed_steps}
-use Rattle.word_lower.specs.Places.{scratch_bit, scratch_from, rooms_of}
+use Rattle.word_lower.specs.Places.{scratch_bit, room_of}
 use Rattle.word_lower.specs.Programs.{program}
+
+-- so many bits of scratch from this one on
+abbrev pub scratch_from : ℕ → ℕ → List Slot
+scratch_from free zero = []
+scratch_from free (suc count) = scratch_bit free ∷ scratch_from (free + 1) count
+
+-- the rows of a word statement: its target's first, then its arguments', then its scratch
+abbrev pub rooms_of : Slot → List Slot → List Slot → List Room
+rooms_of target args scratch = room_of true target
+    ∷ (map (room_of false) args ++ map (room_of true) scratch)
 
 -- a bit as a number
 abbrev pub bit : Bool → ℕ

@@ -37,12 +37,14 @@ use Rattle.loop_laws.proofs.Summed.{sum_is}
 use Rattle.loop_laws.proofs.Alike.{HaveRows, InRooms, rounds_cost_like, plain_costs_like}
 use Rattle.loop_laws.proofs.EveryRound.{marks_are_enough, rooms_row}
 use Rattle.loop_laws.proofs.Compile.{made_compile}
-use Rattle.word_lower.specs.Places.{rooms_of, scratch_bit, scratch_from, AreAt, program_on}
+use Rattle.word_lower.specs.Places.{scratch_bit, AreAt, program_on}
 use Rattle.word_lower.specs.Forms.{IsWritten}
 use Rattle.word_lower.specs.Programs.{program, is_linear}
 use Rattle.word_lower.specs.Shapes.{rows_at, owners_of}
+use Rattle.word_lower.proofs.Setting.{scratch_from, rooms_of}
 use Rattle.word_lower.proofs.Pieces.{slot_at, AreApart, Pieces, RoomView, is_target, spot_space}
 use Rattle.word_lower.proofs.Pieces.{is_arg, is_scratch, room_view, rooms_apart, extent_is, kind_row}
+use Rattle.word_lower.proofs.Commands.{steps_have}
 use Rattle.word_lower.proofs.Lowering.{slots_width, steps_on, DoesOp, Lowers, op_lowers}
 
 -- rows that are one belong to one place
@@ -441,20 +443,22 @@ module _ (slots : Slots) (free_bit free_word : ℕ) (target : List ℕ)
         let row = IsStatementRow slots free_bit free_word (Compute target second p args) in
         let rooms = rooms_of t ss (scratch_from free_bit (bits_inside p)) in
         let tests = lowers.0 in
+        let one : 0 < 1 = omega arith in
+        let apart = λ (n : ℕ). rooms_apart n t ss (scratch_from free_bit (bits_inside p)) (pieces n) in
         let e = same ∙ tests.same in
         let c = made_compile row steps (subst (AllParts IsMade) e made)
         (marks_are_enough row rooms (program p t.kind)
-        (λ n some most. rooms_apart n t ss (scratch_from free_bit (bits_inside p)) (pieces n))
-        (λ n some most. row_of n)
+        (λ n some most. apart n) (λ n some most. row_of n)
         (statement_rows slots free_bit free_word (Compute target second p args) placed) tests.fit
-        tests.short tests.states) in
+        tests.short tests.states (steps_have 1 rooms one (apart 1) have_rows (program p t.kind)
+        tests.fit tests.commands)) in
         subst (IsLowered slots free_bit free_word (Compute target second p args)) (sym e) record {
           well = c.0;
           can = c.1;
           does = λ n some most. does n some;
           cheap = λ n some most. (let b = tests.cheap n some in
               let w = ap (op_ceiling p) (named_width n slots args ss at) in
-              let like = rounds_cost_like rooms have_rows n (program p t.kind) in
+              let like = rounds_cost_like rooms n (program p t.kind) in
               let sum = sum_is turn_cost n (placed_steps [] (program p t.kind)) in
               omega (arith, b, w, like, sum));
           plain = λ n some most. (let b = tests.plain n some in

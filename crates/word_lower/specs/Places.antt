@@ -1,9 +1,8 @@
--- The rooms of a word statement: the target, the arguments, and the bits of internal scratch; and
--- bodies and loop programs at the places of owners.
-use Rattle.std.specs.Prelude.{◌≡◌, ℕ, zero, suc, ◌+◌, Bool, true, false, List, [], ◌∷◌, ◌++◌, map}
-use Rattle.std.specs.Prelude.{Some, length}
+-- Where names lie and how many rows they have; and bodies and loop programs at owners' places.
+use Rattle.std.specs.Prelude.{◌≡◌, ℕ, Bool, List, [], ◌∷◌, map, length, Some}
 use Rattle.mig_graph.specs.declared.Lit.{Lit}
 use Rattle.mig_graph.specs.declared.Node.{Node}
+use Rattle.row_alloc.specs.declared.body.BodyCmd.{BodyCmd}
 use Rattle.op_text.specs.declared.tree.Kind.{Kind}
 use Rattle.op_text.specs.declared.tree.Kind.TheVariants.{Word, Bit}
 use Rattle.loop_ir.specs.declared.ir.Space.TheVariants.{ScratchBit, Cells}
@@ -56,32 +55,22 @@ body_on rows b = record {
   graph = b.graph;
   outs = b.outs;
   writes = map (place_on rows) b.writes;
-  found = [];
+  found = b.found;
 }
 
 -- a loop program at the places of its owners
 abbrev pub program_on : (ℕ → Slot) → List (StepOf Marked) → List (StepOf Block)
 program_on rows steps = map (step_map (body_on rows)) steps
 
--- a body over places in which each read is an input
-abbrev pub template_at : List Place → List Node → List Lit → List Place → Block
-template_at reads nodes outs writes = record {
+-- a body over places in which each read is an input, with the commands that do it
+abbrev pub template_at : List Place → List Node → List Lit → List Place → List BodyCmd → Block
+template_at reads nodes outs writes cmds = record {
   reads = reads;
   graph = record { inputs = length reads; nodes = nodes };
   outs = outs;
   writes = writes;
-  found = [];
+  found = cmds;
 }
-
--- so many bits of scratch from this one on
-abbrev pub scratch_from : ℕ → ℕ → List Slot
-scratch_from free zero = []
-scratch_from free (suc count) = scratch_bit free ∷ scratch_from (free + 1) count
-
--- the rows of a word statement: its target's first, then its arguments', then its scratch
-abbrev pub rooms_of : Slot → List Slot → List Slot → List Room
-rooms_of target args scratch = room_of true target
-    ∷ (map (room_of false) args ++ map (room_of true) scratch)
 
 -- the names have these places
 abbrev pub AreAt : Slots → List (List ℕ) → List Slot → Type 0

@@ -1,24 +1,13 @@
 -- The places of the table's owners, and what the code counts on.
 use Rattle.std.specs.Prelude.{ℕ, zero, suc, ◌+◌, Bool, true, not, ◌&&◌, nat_lt, List, [], ◌∷◌}
-use Rattle.std.specs.Prelude.{Option, Some, None}
 use Rattle.std.specs.List.{list_any}
 use Rattle.mig_graph.specs.declared.Lit.{Lit}
 use Rattle.mig_graph.specs.declared.Node.{Node}
 use Rattle.mig_graph.specs.Literals.{inversions}
 use Rattle.loop_ir.specs.declared.names.Slot.{Slot}
-use Rattle.loop_ir.specs.Plain.{StepOf}
 use Rattle.loop_ir.specs.Same.{same_node}
-use Rattle.loop_laws.specs.Rooms.{Marked}
 use Rattle.word_lower.specs.declared.shapes.Owners.{Owners}
-use Rattle.word_lower.specs.declared.shapes.ProgramLine.{ProgramLine}
 use Rattle.word_lower.specs.Places.{scratch_bit}
-use Rattle.word_lower.specs.Programs.{line_step}
-
--- the lines that there are
-abbrev pub lines_steps : List (Option ProgramLine) → List (StepOf Marked)
-lines_steps [] = []
-lines_steps (None ∷ ls) = lines_steps ls
-lines_steps (Some l ∷ ls) = line_step l ∷ lines_steps ls
 
 -- whose rows an owner's number stands for
 abbrev pub rows_at : Owners → ℕ → Slot

@@ -7,16 +7,25 @@ ghost use Rattle.loop_ir.specs.Plain.{Block, StepOf, AllParts, AllStep};
 ghost use Rattle.loop_laws.specs.Forms.{IsMade};
 ghost use Rattle.word_lower.specs.Places.{place_on, body_on, program_on};
 ghost use Rattle.word_lower.specs.Programs.{mark_of, form_body, line_step};
-ghost use Rattle.word_lower.specs.Shapes.{rows_at, lines_steps};
+ghost use Rattle.word_lower.specs.Lines.{lines_steps};
+ghost use Rattle.word_lower.specs.Shapes.{rows_at};
 
 use crate::graphs::templated;
 use crate::literals::{N1, OFF, ON, P1, P3, P4, P5, P6};
+use crate::shapes::BodyForm::{
+    Added, Agreed, Both, Chosen, Compared, Either, Inverted, Lessened, Moved, Off, On, Ordered,
+    Reset, Set, SetBoth, Unlike,
+};
 use crate::shapes::{BodyForm, Mark, Owner, Owners, ProgramLine};
 use crate::slots::{cells, place_in};
-use crate::templates::{ADDED, BOTH, CHOSEN, COMPARED, EITHER, LESSENED, ORDERED, UNLIKE};
+use crate::templates::{
+    ADDED, BOTH, CHOSEN, COMPARED, COPY, EITHER, LESSENED, ONE, ORDERED, UNLIKE, ZERO,
+};
 use faults::keep;
 use loop_ir::{Body, LoopProgram, Place, Step};
 use mig_graph::NoMemory;
+use row_alloc::known::{ADD, AND, CHOICE, NOT, OR, XOR};
+use row_alloc::known_held::{AGREE, COMPARE, LESSEN, ORDER, RESET, SET, SET_BOTH};
 use std::alloc::Global;
 
 impl Mark {
@@ -35,56 +44,46 @@ impl Mark {
     }
 }
 
-/// The body of a shape.
+/// The body of a shape, with its commands.
 fn body(shape: BodyForm, owners: Owners, alloc: Global) -> Result<Body, NoMemory>
     ensures same { IfOk result (λ b. block_of b ≡ body_on (rows_at owners) (form_body shape)) }
     ensures made { IfOk result (λ b. IsMade (block_of b)) }
 {
     let (o, a) = (owners, alloc);
     match shape {
-        BodyForm::Off(z) => templated(&[], &[], &[OFF], &[z.at(o)], a),
-        BodyForm::On(z) => templated(&[], &[], &[ON], &[z.at(o)], a),
-        BodyForm::Moved(x, z) => templated(&[x.at(o)], &[], &[P1], &[z.at(o)], a),
-        BodyForm::Inverted(x, z) => templated(&[x.at(o)], &[], &[N1], &[z.at(o)], a),
-        BodyForm::Both(x, y, z) => templated(&[x.at(o), y.at(o)], &BOTH, &[P3], &[z.at(o)], a),
-        BodyForm::Either(x, y, z) => templated(&[x.at(o), y.at(o)], &EITHER, &[P3], &[z.at(o)], a),
-        BodyForm::Unlike(x, y, z) => templated(&[x.at(o), y.at(o)], &UNLIKE, &[P5], &[z.at(o)], a),
-        BodyForm::Chosen(x, y, s, z) => templated(
-            &[x.at(o), y.at(o), s.at(o)],
-            &CHOSEN,
-            &[P6],
-            &[z.at(o)],
-            a,
-        ),
-        BodyForm::Added(x, y, c, z) => templated(
-            &[x.at(o), y.at(o), c.at(o)],
-            &ADDED,
-            &[P6, P4],
-            &[z.at(o), c.at(o)],
-            a,
-        ),
-        BodyForm::Lessened(x, y, c, z) => templated(
-            &[x.at(o), y.at(o), c.at(o)],
-            &LESSENED,
-            &[P6, P5],
-            &[z.at(o), c.at(o)],
-            a,
-        ),
-        BodyForm::Compared(x, y, g, z) => templated(
-            &[x.at(o), y.at(o), g.at(o)],
-            &COMPARED,
-            &[P4, P4],
-            &[z.at(o), g.at(o)],
-            a,
-        ),
-        BodyForm::OnBoth(g, h) => templated(&[], &[], &[ON, ON], &[g.at(o), h.at(o)], a),
-        BodyForm::Ordered(x, y, g, h) => templated(
-            &[x.at(o), y.at(o), g.at(o), h.at(o)],
-            &ORDERED,
-            &[P5, P6],
-            &[g.at(o), h.at(o)],
-            a,
-        ),
+        Off(z) => templated(&[], &[], &[OFF], &[z.at(o)], &ZERO, a),
+        On(z) => templated(&[], &[], &[ON], &[z.at(o)], &ONE, a),
+        Moved(x, z) => templated(&[x.at(o)], &[], &[P1], &[z.at(o)], &COPY, a),
+        Inverted(x, z) => templated(&[x.at(o)], &[], &[N1], &[z.at(o)], &NOT, a),
+        Both(x, y, z) => templated(&[x.at(o), y.at(o)], &BOTH, &[P3], &[z.at(o)], &AND, a),
+        Either(x, y, z) => templated(&[x.at(o), y.at(o)], &EITHER, &[P3], &[z.at(o)], &OR, a),
+        Unlike(x, y, z) => templated(&[x.at(o), y.at(o)], &UNLIKE, &[P5], &[z.at(o)], &XOR, a),
+        Chosen(x, y, s, z) => {
+            let reads = [x.at(o), y.at(o), s.at(o)];
+            templated(&reads, &CHOSEN, &[P6], &[z.at(o)], &CHOICE, a)
+        }
+        Added(x, y, c, z) => {
+            let reads = [x.at(o), y.at(o), c.at(o)];
+            templated(&reads, &ADDED, &[P6, P4], &[z.at(o), c.at(o)], &ADD, a)
+        }
+        Reset(g) => templated(&[], &[], &[OFF], &[g.at(o)], &RESET, a),
+        Set(g) => templated(&[], &[], &[ON], &[g.at(o)], &SET, a),
+        SetBoth(g, h) => templated(&[], &[], &[ON, ON], &[g.at(o), h.at(o)], &SET_BOTH, a),
+        Lessened(x, y, c, z) => {
+            let reads = [x.at(o), y.at(o), c.at(o)];
+            let writes = [z.at(o), c.at(o)];
+            templated(&reads, &LESSENED, &[P6, P5], &writes, &LESSEN, a)
+        }
+        Compared(x, y, g, z) => {
+            let reads = [x.at(o), y.at(o), g.at(o)];
+            let writes = [z.at(o), g.at(o)];
+            templated(&reads, &COMPARED, &[P4, P4], &writes, &COMPARE, a)
+        }
+        Ordered(x, y, g, h) => {
+            let reads = [x.at(o), y.at(o), g.at(o), h.at(o)];
+            templated(&reads, &ORDERED, &[P5, P6], &[g.at(o), h.at(o)], &ORDER, a)
+        }
+        Agreed(g, h, z) => templated(&[g.at(o), h.at(o)], &BOTH, &[P3], &[z.at(o)], &AGREE, a),
     }
 }
 

@@ -9,6 +9,7 @@ ghost use Rattle.word_lower.specs.Shapes.{are_own, are_below};
 
 use loop_ir::{Body, Place};
 use mig_graph::{Lit, Mig, MigOuts, NoMemory, Node};
+use row_alloc::BodyCmd;
 use std::alloc::Global;
 
 /// The graph with these nodes, and these outputs.
@@ -26,14 +27,16 @@ fn made(inputs: u8, nodes: &[Node], outs: &[Lit], alloc: Global) -> Result<MigOu
     Ok(MigOuts { mig, outs })
 }
 
-/// The body of a template: its nodes over what is read, and its outputs into what is written.
+/// The body of a template: its nodes over what is read, its outputs into what is written, and the
+/// commands that do it.
 ///
-/// Only want of memory is an `Err`.
+/// It is an `Err` only where it runs out of memory.
 pub fn templated(
     reads: &[Place],
     nodes: &[Node],
     outs: &[Lit],
     writes: &[Place],
+    cmds: &[BodyCmd],
     alloc: Global,
 ) -> Result<Body, NoMemory>
     requires reads { length reads.now ≤ 4 }
@@ -42,7 +45,7 @@ pub fn templated(
     requires own { are_own (length reads.now + 1) nodes.now ≡ true }
     requires named { are_below (length reads.now + 1 + length nodes.now) outs.now ≡ true }
     ensures same { IfOk result (λ b. block_of b
-        ≡ template_at reads.now nodes.now outs.now writes.now) }
+        ≡ template_at reads.now nodes.now outs.now writes.now cmds.now) }
     // Its graph is as `Mig` keeps graphs, and its outputs name nodes of it.
     ensures made { IfOk result (λ b. IsMade (block_of b)) }
 {
@@ -50,6 +53,6 @@ pub fn templated(
         reads: reads.to_vec(alloc)?,
         graph: made(reads.len() as u8, nodes, outs, alloc)?,
         writes: writes.to_vec(alloc)?,
-        found: Vec::new(alloc),
+        found: cmds.to_vec(alloc)?,
     })
 }

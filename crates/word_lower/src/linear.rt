@@ -83,7 +83,7 @@ fn lower_word(
 
 /// The loop program of a serial block, or of a word operation of the table.
 ///
-/// Only want of memory is an `Err`.
+/// It is an `Err` only where it runs out of memory.
 pub fn lower_linear(s: &Stmt, names: &NameMap, alloc: Global) -> Result<LoopProgram, NoMemory>
     requires meets { StatementMeets (slots_of names.now) (statement s.now) }
     requires placed { IsPlaced (slots_of names.now) names.now.free_bit names.now.free_word

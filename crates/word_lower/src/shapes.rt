@@ -31,6 +31,8 @@ pub struct Owners {
 
 /// What a body computes: from its reads, of which states are the last, into its writes, of which
 /// they are the last too. A mark of what is written comes after those of what is read.
+///
+/// States in cells have forms of their own, since other commands do them.
 #[derive(Clone, Copy)]
 pub enum BodyForm {
     Off(Mark),
@@ -41,13 +43,22 @@ pub enum BodyForm {
     Either(Mark, Mark, Mark),
     Unlike(Mark, Mark, Mark),
     Chosen(Mark, Mark, Mark, Mark),
+    /// With a carry in a row.
     Added(Mark, Mark, Mark, Mark),
+    /// A state gets 0.
+    Reset(Mark),
+    /// A state gets 1.
+    Set(Mark),
+    /// Two states get 1.
+    SetBoth(Mark, Mark),
+    /// With a borrow, a state.
     Lessened(Mark, Mark, Mark, Mark),
+    /// With the comparison so far, a state.
     Compared(Mark, Mark, Mark, Mark),
-    /// Two states, of which each is set.
-    OnBoth(Mark, Mark),
     /// Two states: of either word, whether it is at least the other.
     Ordered(Mark, Mark, Mark, Mark),
+    /// Whether both of two states are set.
+    Agreed(Mark, Mark, Mark),
 }
 
 /// A body done once, or at each position.

@@ -2,11 +2,12 @@
 
 ghost use Rattle.std.specs.Prelude.{◌≡◌};
 ghost use Rattle.word_lower.specs.Programs.{program, program_of, row_steps};
-ghost use Rattle.word_lower.specs.Shapes.{lines_steps};
+ghost use Rattle.word_lower.specs.Programs.{is_elsewhere, is_linear};
+ghost use Rattle.word_lower.specs.Lines.{lines_steps};
 
 use crate::shapes::BodyForm::{
-    Added, Both, Chosen, Compared, Either, Inverted, Lessened, Moved, Off, On, OnBoth, Ordered,
-    Unlike,
+    Added, Agreed, Both, Chosen, Compared, Either, Inverted, Lessened, Moved, Off, On, Ordered,
+    Reset, Set, SetBoth, Unlike,
 };
 use crate::shapes::ProgramLine::{Each, Once};
 use crate::shapes::{BodyForm, Mark, Owner, ProgramLine};
@@ -109,7 +110,7 @@ pub static PROGRAMS: [(WordOp, ProgramRow); 27] = [
     ),
     (
         WordOp::Sub,
-        Two(Once(Off(T3_DCC1)), Each(Lessened(X, Y, T3_DCC1, Z))),
+        Two(Once(Reset(T3_DCC1)), Each(Lessened(X, Y, T3_DCC1, Z))),
     ),
     (WordOp::Mul, Elsewhere),
     (WordOp::Div, Elsewhere),
@@ -119,7 +120,7 @@ pub static PROGRAMS: [(WordOp, ProgramRow); 27] = [
     (
         WordOp::Min,
         Three(
-            Once(Off(T0)),
+            Once(Reset(T0)),
             Each(Compared(X, Y, T0, S_BIT)),
             Each(Chosen(Y, X, S_BIT, Z)),
         ),
@@ -127,7 +128,7 @@ pub static PROGRAMS: [(WordOp, ProgramRow); 27] = [
     (
         WordOp::Max,
         Three(
-            Once(Off(T0)),
+            Once(Reset(T0)),
             Each(Compared(X, Y, T0, S_BIT)),
             Each(Chosen(X, Y, S_BIT, Z)),
         ),
@@ -135,18 +136,18 @@ pub static PROGRAMS: [(WordOp, ProgramRow); 27] = [
     (
         WordOp::Eq,
         Three(
-            Once(OnBoth(T2, T3)),
+            Once(SetBoth(T2, T3)),
             Each(Ordered(X, Y, T2, T3)),
-            Once(Both(T2, T3, Z_BIT)),
+            Once(Agreed(T2, T3, Z_BIT)),
         ),
     ),
     (
         WordOp::Gt,
-        Two(Once(Off(T0)), Each(Compared(X, Y, T0, Z_BIT))),
+        Two(Once(Reset(T0)), Each(Compared(X, Y, T0, Z_BIT))),
     ),
     (
         WordOp::Ge,
-        Two(Once(On(T0)), Each(Compared(X, Y, T0, Z_BIT))),
+        Two(Once(Set(T0)), Each(Compared(X, Y, T0, Z_BIT))),
     ),
     (
         WordOp::IfElse,
@@ -163,6 +164,20 @@ fn program_of(op: WordOp) -> ProgramRow
     ensures { result ≡ program_of op }
 {
     PROGRAMS[op as usize].1
+}
+
+/// Whether the table has no program of the operation.
+fn is_elsewhere(row: ProgramRow) -> bool
+    ensures { result ≡ is_elsewhere row }
+{
+    matches!(row, Elsewhere)
+}
+
+/// Whether the table has a program of the operation: the others are flows.
+pub fn is_linear(op: WordOp) -> bool
+    ensures { result ≡ is_linear op }
+{
+    !is_elsewhere(program_of(op))
 }
 
 /// The lines of a row, of which there are none where the operation is a flow.

@@ -1,7 +1,10 @@
-//! The nodes of the templates, over the constant, the inputs and lower nodes.
+//! The nodes of the templates, over the constant, the inputs and lower nodes; and the command of a
+//! constant in a row, and of a copy.
 
 use crate::literals::{N1, N2, N3, N4, OFF, ON, P1, P2, P3, P4, P5};
 use mig_graph::Node;
+use row_alloc::BodyCmd::{self, Aap};
+use row_alloc::BodyRef::{C, In, Out};
 
 pub const BOTH: [Node; 1] = [Node {
     a: OFF,
@@ -105,3 +108,12 @@ pub const ORDERED: [Node; 2] = [
         c: P4,
     },
 ];
+
+/// 0 into a row.
+pub const ZERO: [BodyCmd; 1] = [Aap(C(0), Out(0))];
+
+/// 1 into a row.
+pub const ONE: [BodyCmd; 1] = [Aap(C(1), Out(0))];
+
+/// A row into another.
+pub const COPY: [BodyCmd; 1] = [Aap(In(0), Out(0))];

@@ -21,20 +21,17 @@ use Rattle.loop_ir.specs.declared.ir.Flow.{Flow}
 use Rattle.loop_ir.specs.declared.ir.Space.{Space}
 use Rattle.loop_ir.specs.declared.ir.Space.TheVariants.{Result, Source}
 use Rattle.loop_ir.specs.Plain.{Block, StepOf, flow_of}
-use Rattle.loop_ir.specs.Flows.{FlowOf, AllFlow, flow_map}
+use Rattle.loop_ir.specs.Flows.{FlowOf}
 use Rattle.loop_ir.specs.Loops.{RoundOf, all_rounds}
 use Rattle.loop_ir.specs.Spots.{Spots, after_round, after_rounds}
 use Rattle.uprog_gen.specs.Where.{Agree, spots_in, IsSpot, IsBelow}
-use Rattle.uprog_gen.specs.Code.{Part, block_of_part, body_uops}
 use Rattle.uprog_gen.specs.FlowCode.{size, code_of}
-use Rattle.uprog_gen.specs.Parts.{IsPart}
 use Rattle.uprog_gen.specs.Does.{DoesRounds, Means, AreCheap, joined, total, after_statements}
 use Rattle.uprog_gen.specs.Does.{numbers_in}
 use Rattle.uprog_gen.specs.Programs.{together}
 use Rattle.uprog_gen.specs.Entries.{AreFlowsOf, IsCodeOf}
 use Rattle.uprog_gen.proofs.Rows.Top.{flows_do, flows_within, all_rounds-append}
 use Rattle.uprog_gen.proofs.Coding.FlowSizes.{code_long, flow_few, flows_long, flows_code}
-use Rattle.uprog_gen.proofs.Coding.Emitted.{EmitsFlows}
 use Rattle.uprog_gen.proofs.Coding.Legal.{code_legal}
 
 abbrev pub Statement : Type 0
@@ -120,75 +117,71 @@ does_implement head ps code does few ceilings meaning means = record {
         (λ v i below. simp zero-add))
 
 -- the code of each flow
-abbrev pieces : List (FlowOf Part) → ℕ → List (List Uop)
+abbrev pieces : List (FlowOf Block) → ℕ → List (List Uop)
 pieces [] pc = []
-pieces (f ∷ fs) pc = code_of body_uops f pc ∷ pieces fs (pc + size body_uops f)
+pieces (f ∷ fs) pc = code_of f pc ∷ pieces fs (pc + size f)
 
-pieces_together : (fs : List (FlowOf Part)) (pc : ℕ)
-    → flows_code body_uops fs pc ≡ together (pieces fs pc)
+pieces_together : (fs : List (FlowOf Block)) (pc : ℕ)
+    → flows_code fs pc ≡ together (pieces fs pc)
 pieces_together [] pc = refl
-pieces_together (f ∷ fs) pc = ap (λ l. code_of body_uops f pc ++ l)
-    (pieces_together fs (pc + size body_uops f))
+pieces_together (f ∷ fs) pc = ap (λ l. code_of f pc ++ l)
+    (pieces_together fs (pc + size f))
 
-pieces_taken : (k : ℕ) (fs : List (FlowOf Part)) (pc : ℕ)
+pieces_taken : (k : ℕ) (fs : List (FlowOf Block)) (pc : ℕ)
     → pieces (take k fs) pc ≡ take k (pieces fs pc)
 pieces_taken zero fs pc = refl
 pieces_taken (suc k) [] pc = refl
-pieces_taken (suc k) (f ∷ fs) pc = ap (λ l. code_of body_uops f pc ∷ l)
-    (pieces_taken k fs (pc + size body_uops f))
+pieces_taken (suc k) (f ∷ fs) pc = ap (λ l. code_of f pc ∷ l)
+    (pieces_taken k fs (pc + size f))
 
 module _ (head : Shape) where
-  -- flows of these statements, with right commands for each body
-  record Coded (ps : List Statement) (fs : List (FlowOf Part)) : Type 0 where
-    pub parts : AllByRecursion (AllFlow IsPart) fs
-    pub are : AreFlowsOf (IsSpot head) ps (map (flow_map block_of_part) fs)
+  -- flows of these statements
+  abbrev Are : List Statement → List (FlowOf Block) → Type 0
+  Are ps fs = AreFlowsOf (IsSpot head) ps fs
 
   -- the first of them
-  first : (k : ℕ) (ps : List Statement) (fs : List (FlowOf Part)) → Coded ps fs
-      → Coded (take k ps) (take k fs)
-  first zero ps fs c = record { parts = tt; are = tt }
-  first (suc k) [] [] c = c
-  first (suc k) [] (f ∷ fs) c = absurd c.are
-  first (suc k) (p ∷ ps) [] c = absurd c.are
-  first (suc k) (p ∷ ps) (f ∷ fs) c =
-      let more = first k ps fs (record { parts = c.parts.1; are = c.are.1 }) in
-      record { parts = (c.parts.0, more.parts); are = (c.are.0, more.are) }
+  first : (k : ℕ) (ps : List Statement) (fs : List (FlowOf Block)) → Are ps fs
+      → Are (take k ps) (take k fs)
+  first zero ps fs are = tt
+  first (suc k) [] [] are = tt
+  first (suc k) [] (f ∷ fs) are = absurd are
+  first (suc k) (p ∷ ps) [] are = absurd are
+  first (suc k) (p ∷ ps) (f ∷ fs) are = (are.0, first k ps fs are.1)
 
   -- a piece for each, of at most 256 instructions
-  record Pieces (ps : List Statement) (fs : List (FlowOf Part)) (pc : ℕ) : Type 0 where
+  record Pieces (ps : List Statement) (fs : List (FlowOf Block)) (pc : ℕ) : Type 0 where
     pub many : length (pieces fs pc) ≡ length ps
     pub short : AllByRecursion (λ p. length p ≤ 256) (pieces fs pc)
-    pub few : length (flows_code body_uops fs pc) ≤ 256 * length fs
+    pub few : length (flows_code fs pc) ≤ 256 * length fs
 
-  cut : (ps : List Statement) (fs : List (FlowOf Part)) (pc : ℕ) → Coded ps fs → Pieces ps fs pc
-  cut [] [] pc c = record { many = refl; short = tt; few = omega arith }
-  cut [] (f ∷ fs) pc c = absurd c.are
-  cut (p ∷ ps) [] pc c = absurd c.are
-  cut (p ∷ ps) (f ∷ fs) pc c =
-      let more = cut ps fs (pc + size body_uops f) (record { parts = c.parts.1; are = c.are.1 }) in
-      let one : size body_uops f ≤ 256 =
-      omega (arith, flow_few f c.parts.0, c.are.0.0.size, c.are.0.1) in
+  cut : (ps : List Statement) (fs : List (FlowOf Block)) (pc : ℕ) → Are ps fs → Pieces ps fs pc
+  cut [] [] pc are = record { many = refl; short = tt; few = omega arith }
+  cut [] (f ∷ fs) pc are = absurd are
+  cut (p ∷ ps) [] pc are = absurd are
+  cut (p ∷ ps) (f ∷ fs) pc are =
+      let more = cut ps fs (pc + size f) are.1 in
+      let one : size f ≤ 256 = omega (arith, flow_few f are.0.0.small, are.0.1) in
       record {
         many = omega arith;
-        short = (omega (arith, code_long Part body_uops f pc), more.short);
+        short = (omega (arith, code_long f pc), more.short);
         few = omega (arith, flows_long f fs pc);
       }
 
-  does : (ps : List Statement) (fs : List (FlowOf Part)) → Coded ps fs → length fs ≤ 16 → (n : ℕ)
+  does : (ps : List Statement) (fs : List (FlowOf Block)) → Are ps fs → length fs ≤ 16 → (n : ℕ)
       → 0 < n → n ≤ WIDTH_MAX
-      → DoesRounds head n (joined ps) (flows_code body_uops fs 0 ++ Done ∷ [])
-  does ps fs c most n some small = flows_do head n ps fs some small
-      (omega (arith, (cut ps fs 0 c).few)) c.parts c.are
+      → DoesRounds head n (joined ps) (flows_code fs 0 ++ Done ∷ [])
+  does ps fs are most n some small =
+      flows_do head n ps fs some small (omega (arith, (cut ps fs 0 are).few)) are
 
-  entry : (ps : List Statement) (fs : List (FlowOf Part)) → Coded ps fs → length fs ≤ 16
-      → IsCodeOf head ps (flows_code body_uops fs 0 ++ Done ∷ [])
-  entry ps fs c most =
-      let own = cut ps fs 0 c in
-      let short : length (flows_code body_uops fs 0) ≤ 4096 = omega arith in
-      let within : IsWithin head ps (flows_code body_uops fs 0 ++ Done ∷ []) =
-      λ n some small. flows_within head n ps fs some small short c.parts c.are in
+  entry : (ps : List Statement) (fs : List (FlowOf Block)) → Are ps fs → length fs ≤ 16
+      → IsCodeOf head ps (flows_code fs 0 ++ Done ∷ [])
+  entry ps fs are most =
+      let own = cut ps fs 0 are in
+      let short : length (flows_code fs 0) ≤ 4096 = omega arith in
+      let within : IsWithin head ps (flows_code fs 0 ++ Done ∷ []) =
+      λ n some small. flows_within head n ps fs some small short are in
       record {
-        legal = code_legal head ps fs short c.parts c.are;
+        legal = code_legal head ps fs short are;
         parts = record {
           parts = pieces fs 0;
           many = own.many;
@@ -197,28 +190,23 @@ module _ (head : Shape) where
           each = λ k n some small.
               (subst (λ l. DoesRounds head n (joined (take k ps)) (l ++ Done ∷ []))
               (pieces_together (take k fs) 0 ∙ ap together (pieces_taken k fs 0))
-              (does (take k ps) (take k fs) (first k ps fs c) (omega (arith, length-take k fs)) n
+              (does (take k ps) (take k fs) (first k ps fs are) (omega (arith, length-take k fs)) n
               some small));
         };
-        does = does ps fs c most;
+        does = does ps fs are most;
         few = within;
-        implements = does_implement head ps (flows_code body_uops fs 0 ++ Done ∷ [])
-            (does ps fs c most) within;
+        implements = does_implement head ps (flows_code fs 0 ++ Done ∷ [])
+            (does ps fs are most) within;
       }
 
   -- the code after the last flow
   pub code_is : (fs : List Flow) (k : ℕ) (mid code : List Uop) → length fs ≤ 16 → k ≡ length fs
-      → EmitsFlows (map flow_of (take k fs)) mid → code ≡ mid ++ Done ∷ [] → (ps : List Statement)
-      → AreFlowsOf (IsSpot head) ps (map flow_of fs) → IsCodeOf head ps code
+      → mid ≡ flows_code (map flow_of (take k fs)) 0 → code ≡ mid ++ Done ∷ []
+      → (ps : List Statement) → AreFlowsOf (IsSpot head) ps (map flow_of fs)
+      → IsCodeOf head ps code
   code_is fs k mid code few e a is ps are =
       let all : take k fs ≡ fs = grind (arith, common_steps) in
-      let same : map (flow_map block_of_part) a.coded ≡ map flow_of fs =
-      a.same ∙ ap (λ (l : List Flow). map flow_of l) all in
-      let most : length a.coded ≤ 16 = omega (
-        arith,
-        ap length same,
-        length-map a.coded (flow_map block_of_part),
-        length-map fs flow_of,
-      ) in
-      subst (IsCodeOf head ps) (sym (is ∙ ap (λ l. l ++ Done ∷ []) a.code))
-      (entry ps a.coded (record { parts = a.parts; are = rw same are }) most)
+      let same : mid ≡ flows_code (map flow_of fs) 0 =
+      a ∙ ap (λ (l : List Flow). flows_code (map flow_of l) 0) all in
+      subst (IsCodeOf head ps) (sym (is ∙ ap (λ l. l ++ Done ∷ []) same))
+      (entry ps (map flow_of fs) are (omega (arith, length-map fs flow_of)))

@@ -30,21 +30,21 @@ use Rattle.loop_ir.specs.declared.ir.Space.TheVariants.{Cells}
 use Rattle.loop_ir.specs.declared.ir.Move.{Move}
 use Rattle.loop_ir.specs.declared.ir.Move.TheVariants.{SetI, SetN, SetT, Mov, AddI, SubI, Add}
 use Rattle.loop_ir.specs.Plain.{Block, StepOf}
-use Rattle.loop_ir.specs.Flows.{FlowOf, TurnsOf, flow_map, acts_map, AllFlow, AllActs}
+use Rattle.loop_ir.specs.Flows.{FlowOf, TurnsOf, AllFlow, AllActs}
 use Rattle.loop_ir.specs.Flows.FlowOf.{End, Do, Put, If, Loop}
 use Rattle.loop_ir.specs.Flows.TurnsOf.{Last, Turn}
 use Rattle.loop_ir.specs.FlowTests.{is_low, all_keep, counts, all_count}
 use Rattle.loop_ir.specs.Spots.{nth_place, spot_in, IsOwn}
 use Rattle.loop_ir.specs.States.{enters}
-use Rattle.loop_ir.specs.Limits.{HasValues}
+use Rattle.loop_ir.specs.Limits.{HasValues, IsSmall}
 use Rattle.uprog_gen.specs.Where.{IsSpot, IsBelow}
-use Rattle.uprog_gen.specs.Code.{Part, row_space, register, place_ref, code_ref, code_uop}
-use Rattle.uprog_gen.specs.Code.{body_uops, block_of_part}
+use Rattle.uprog_gen.specs.Code.{row_space, register, place_ref, code_ref, code_uop}
+use Rattle.uprog_gen.specs.Code.{body_uops}
 use Rattle.uprog_gen.specs.FlowCode.{uop_of, leave, size, turns_size, code_of, turns_code}
-use Rattle.uprog_gen.specs.Parts.{IsPart}
 use Rattle.uprog_gen.specs.Entries.{AreFlowsOf}
 use Rattle.uprog_gen.proofs.Rows.Named.{named_ref}
 use Rattle.uprog_gen.proofs.Coding.FlowSizes.{flows_long, flows_code}
+use Rattle.uprog_gen.proofs.Bodies.Outs.{outs_of, commands_do}
 
 pub both : {X : Type 0} (P : X → Type 0) (xs ys : List X) → AllByRecursion P xs
     → AllByRecursion P ys → AllByRecursion P (xs ++ ys)
@@ -107,46 +107,46 @@ module _ (head : Shape) where
     AreLegal is = AllByRecursion IsLegal is
 
     -- a body's commands are legal, as its values are such as the operation has
-    module _ (p : Part) (part : IsPart p) (has : HasValues (IsSpot head) p.block) where
+    module _ (p : Block) (small : IsSmall p) (has : HasValues (IsSpot head) p) where
       abbrev N : ℕ
-      N = p.block.graph.inputs
+      N = p.graph.inputs
 
       abbrev M : ℕ
-      M = length p.outs
+      M = length (outs_of p)
 
       abbrev enter : List Held
-      enter = enters 0 p.block.reads
+      enter = enters 0 p.reads
 
       first_legal : (x : BodyRef) → (is_ref N M x && is_first_ref x) ≡ true
-          → is_read enter x ≡ true → is_first head (code_ref p.block x) ≡ true
+          → is_read enter x ≡ true → is_first head (code_ref p x) ≡ true
       first_legal (ref.B k) h u = grind (arith, nat_tests)
       first_legal (ref.C k) h u = grind (arith, nat_tests)
       first_legal (ref.Spill k) h u = grind (arith, nat_tests)
       first_legal (ref.In k) h u =
-          let m = named_ref p part (ref.In k) (and_parts (nat_lt k N) true h).0 u in
-          let q = nth_place p.block.reads k in
+          let m = named_ref p small (ref.In k) (and_parts (nat_lt k N) true h).0 u in
+          let q = nth_place p.reads k in
           let v = has.reads k m.0 m.1 in
           place_first v.0 q.space q.which v.1 q.sub v.2
       first_legal (ref.Out k) h u =
-          let m = named_ref p part (ref.Out k) (and_parts (nat_lt k M) true h).0 u in
-          let q = nth_place p.block.writes k in
+          let m = named_ref p small (ref.Out k) (and_parts (nat_lt k M) true h).0 u in
+          let q = nth_place p.writes k in
           let v = has.writes k m.0 m.1 in
           place_first v.0 q.space q.which v.1 q.sub v.2
 
       second_legal : (x : BodyRef) → (is_ref N M x && is_second_ref x) ≡ true
-          → is_read enter x ≡ true → is_second head (code_ref p.block x) ≡ true
+          → is_read enter x ≡ true → is_second head (code_ref p x) ≡ true
       second_legal (ref.B k) h u = grind (arith, nat_tests)
       second_legal (ref.C k) h u = grind (arith, nat_tests)
       second_legal (ref.Spill k) h u = grind (arith, nat_tests)
       second_legal (ref.In k) h u = grind (arith, nat_tests)
       second_legal (ref.Out k) h u =
-          let m = named_ref p part (ref.Out k) (and_parts (nat_lt k M) true h).0 u in
-          let q = nth_place p.block.writes k in
+          let m = named_ref p small (ref.Out k) (and_parts (nat_lt k M) true h).0 u in
+          let q = nth_place p.writes k in
           let v = has.writes k m.0 m.1 in
           place_second v.0 q.space q.which v.1 q.sub v.2 (has.own k m.0)
 
       uops_legal : (cs : List BodyCmd) → are_legal N M cs ≡ true
-          → list_all (reads_rows enter) cs ≡ true → AreLegal (map (code_uop p.block) cs)
+          → list_all (reads_rows enter) cs ≡ true → AreLegal (map (code_uop p) cs)
       uops_legal [] h u = tt
       uops_legal (c ∷ cs) h u =
           let a = and_parts (is_legal_cmd N M c) (are_legal N M cs) h in
@@ -154,7 +154,7 @@ module _ (head : Shape) where
           (one c a.0 v.0, uops_legal cs a.1 v.1)
         where
           one : (c : BodyCmd) → is_legal_cmd N M c ≡ true → reads_rows enter c ≡ true
-              → IsLegal (code_uop p.block c)
+              → IsLegal (code_uop p c)
           one (cmd.Aap x y) h u =
               let a = and_parts (is_ref N M x && is_first_ref x) (is_ref N M y && is_second_ref y) h in
               let v = and_parts (is_read enter x) (is_read enter y) u in
@@ -179,28 +179,23 @@ module _ (head : Shape) where
     leave_legal : (to : ℕ) (is : List Uop) → to < total → AreLegal is → AreLegal (leave to ++ is)
     leave_legal to is lt more = (refl, (grind (arith, nat_tests), more))
 
-    abbrev of : FlowOf Part → FlowOf Block
-    of f = flow_map block_of_part f
-
-    abbrev turns_of : TurnsOf Part → TurnsOf Block
-    turns_of ts = acts_map block_of_part ts
-
     mutual
-      flow_legal : (f : FlowOf Part) (pc : ℕ) → counts (of f) ≡ true → AllFlow IsPart f
-          → AllFlow (HasValues (IsSpot head)) (of f) → pc + size body_uops f < total
-          → AreLegal (code_of body_uops f pc)
+      flow_legal : (f : FlowOf Block) (pc : ℕ) → counts f ≡ true → AllFlow IsSmall f
+          → AllFlow (HasValues (IsSpot head)) f → pc + size f < total
+          → AreLegal (code_of f pc)
       flow_legal End pc c h v lt = tt
       flow_legal (Do b k) pc c h v lt =
-          both IsLegal _ _ (uops_legal b h.0 v.0 b.cmds h.0.does.legal h.0.does.unread)
+          let d = commands_do b h.0 in
+          both IsLegal _ _ (uops_legal b h.0 v.0 b.found d.legal d.unread)
           (flow_legal k (pc + length (body_uops b)) c h.1 v.1 (omega arith))
-      flow_legal (Put m k) pc c h v lt = let p = and_parts (is_low m) (counts (of k)) c in
+      flow_legal (Put m k) pc c h v lt = let p = and_parts (is_low m) (counts k) c in
           (move_legal m p.0, flow_legal k (pc + 1) p.1 h v (omega arith))
       flow_legal (If r x y k) pc c h v lt =
-          let p = and_parts (nat_lt r 7) (counts (of x) && (counts (of y) && counts (of k))) c in
-          let q = and_parts (counts (of x)) (counts (of y) && counts (of k)) p.1 in
-          let s = and_parts (counts (of y)) (counts (of k)) q.1 in
-          let at_x = pc + 1 + size body_uops y + 2 in
-          let end = at_x + size body_uops x in (
+          let p = and_parts (nat_lt r 7) (counts x && (counts y && counts k)) c in
+          let q = and_parts (counts x) (counts y && counts k) p.1 in
+          let s = and_parts (counts y) (counts k) q.1 in
+          let at_x = pc + 1 + size y + 2 in
+          let end = at_x + size x in (
             jump_legal r at_x p.0 (omega arith),
             both IsLegal _ _ (flow_legal y (pc + 1) s.0 h.1.0 v.1.0 (omega arith))
                 (leave_legal end _ (omega arith)
@@ -208,12 +203,12 @@ module _ (head : Shape) where
                 (flow_legal k end s.1 h.1.1 v.1.1 (omega arith)))),
           )
       flow_legal (Loop r ts k) pc c h v lt =
-          let ct = all_count (turns_of ts) in
-          let kept = all_keep r (turns_of ts) in
-          let p = and_parts (nat_lt r 7) (kept && (ct && counts (of k))) c in
-          let s = and_parts ct (counts (of k)) (and_parts kept (ct && counts (of k)) p.1).1 in
+          let ct = all_count ts in
+          let kept = all_keep r ts in
+          let p = and_parts (nat_lt r 7) (kept && (ct && counts k)) c in
+          let s = and_parts ct (counts k) (and_parts kept (ct && counts k) p.1).1 in
           let top = pc + 1 + 2 in
-          let end = top + turns_size body_uops ts in (
+          let end = top + turns_size ts in (
             jump_legal r top p.0 (omega arith),
             leave_legal end _ (omega arith)
                 (both IsLegal _ _
@@ -221,18 +216,18 @@ module _ (head : Shape) where
                 (omega arith)) (flow_legal k end s.1 h.1 v.1 (omega arith))),
           )
 
-      turns_legal : (r top out : ℕ) (ts : TurnsOf Part) (pc : ℕ) → nat_lt r 7 ≡ true
-          → top < total → out < total → all_count (turns_of ts) ≡ true → AllActs IsPart ts
-          → AllActs (HasValues (IsSpot head)) (turns_of ts) → pc + turns_size body_uops ts < total
-          → AreLegal (turns_code body_uops r top out ts pc)
+      turns_legal : (r top out : ℕ) (ts : TurnsOf Block) (pc : ℕ) → nat_lt r 7 ≡ true
+          → top < total → out < total → all_count ts ≡ true → AllActs IsSmall ts
+          → AllActs (HasValues (IsSpot head)) ts → pc + turns_size ts < total
+          → AreLegal (turns_code r top out ts pc)
       turns_legal r top out (Last x) pc lr lt lo c h v le = (
         step_legal r lr,
         both IsLegal _ (uop.Bnez r top ∷ []) (flow_legal x (pc + 1) c h v (omega arith))
             (jump_legal r top lr lt, tt),
       )
       turns_legal r top out (Turn x ts) pc lr lt lo c h v le =
-          let p = and_parts (counts (of x)) (all_count (turns_of ts)) c in
-          let next = pc + 1 + size body_uops x + 1 + 2 in (
+          let p = and_parts (counts x) (all_count ts) c in
+          let next = pc + 1 + size x + 1 + 2 in (
             step_legal r lr,
             both IsLegal _ _ (flow_legal x (pc + 1) p.0 h.0 v.0 (omega arith)) (
               jump_legal r next lr (omega arith),
@@ -241,24 +236,23 @@ module _ (head : Shape) where
             ),
           )
 
-    flows_legal : (ps : List (List (StepOf Block))) (fs : List (FlowOf Part)) (pc : ℕ)
-        → AllByRecursion (AllFlow IsPart) fs
-        → AreFlowsOf (IsSpot head) ps (map (flow_map block_of_part) fs)
-        → pc + length (flows_code body_uops fs pc) < total → AreLegal (flows_code body_uops fs pc)
-    flows_legal [] [] pc h are lt = tt
-    flows_legal [] (f ∷ fs) pc h are lt = absurd are
-    flows_legal (p ∷ ps) [] pc h are lt = absurd are
-    flows_legal (p ∷ ps) (f ∷ fs) pc h are lt =
+    flows_legal : (ps : List (List (StepOf Block))) (fs : List (FlowOf Block)) (pc : ℕ)
+        → AreFlowsOf (IsSpot head) ps fs
+        → pc + length (flows_code fs pc) < total → AreLegal (flows_code fs pc)
+    flows_legal [] [] pc are lt = tt
+    flows_legal [] (f ∷ fs) pc are lt = absurd are
+    flows_legal (p ∷ ps) [] pc are lt = absurd are
+    flows_legal (p ∷ ps) (f ∷ fs) pc are lt =
         let long = flows_long f fs pc in
-        both IsLegal _ _ (flow_legal f pc are.0.0.counts h.0 are.0.0.values (omega arith))
-        (flows_legal ps fs (pc + size body_uops f) h.1 are.1 (omega arith))
+        let is = are.0.0 in
+        both IsLegal _ _ (flow_legal f pc is.counts is.small is.values (omega arith))
+        (flows_legal ps fs (pc + size f) are.1 (omega arith))
 
-  pub code_legal : (ps : List (List (StepOf Block))) (fs : List (FlowOf Part))
-      → length (flows_code body_uops fs 0) ≤ 4096 → AllByRecursion (AllFlow IsPart) fs
-      → AreFlowsOf (IsSpot head) ps (map (flow_map block_of_part) fs)
-      → IsLegalCode head (flows_code body_uops fs 0 ++ uop.Done ∷ [])
-  code_legal ps fs short parts are =
-      let is = flows_code body_uops fs 0 in
+  pub code_legal : (ps : List (List (StepOf Block))) (fs : List (FlowOf Block))
+      → length (flows_code fs 0) ≤ 4096 → AreFlowsOf (IsSpot head) ps fs
+      → IsLegalCode head (flows_code fs 0 ++ uop.Done ∷ [])
+  code_legal ps fs short are =
+      let is = flows_code fs 0 in
       let total = length (is ++ uop.Done ∷ []) in
       let long : total ≡ length is + 1 = length-append is (uop.Done ∷ []) in
       let at : slice_get (is ++ uop.Done ∷ []) (length is) ≡ Some uop.Done =
@@ -268,6 +262,6 @@ module _ (head : Shape) where
       record {
         short = omega (arith, long, short);
         each = both (IsLegal total) is (uop.Done ∷ [])
-            (flows_legal total ps fs 0 parts are (omega arith)) (refl, tt);
+            (flows_legal total ps fs 0 are (omega arith)) (refl, tt);
         last = subst (λ k. slice_get (is ++ uop.Done ∷ []) k ≡ Some uop.Done) e at;
       }

@@ -10,8 +10,9 @@ use Rattle.op_text.specs.Language.{Statement, Compute, Visit, Operation}
 use Rattle.op_text.specs.Scratch.{names_width, defines}
 use Rattle.op_text.specs.declared.tree.Param.{Param}
 use Rattle.op_rules.specs.Meets.{Context, next_context, OperationMeets}
-use Rattle.loop_ir.specs.Plain.{Block, StepOf, AllParts}
+use Rattle.loop_ir.specs.Plain.{Block, StepOf}
 use Rattle.loop_ir.specs.Loops.{all_rounds}
+use Rattle.loop_ir.specs.Costs.{turn_aaps, turn_aps}
 use Rattle.loop_ir.specs.Statements.{Slots, IsPlaced, ComputeMeets, HaveKinds}
 use Rattle.loop_ir.specs.Lowered.{args_width}
 use Rattle.word_lower.specs.Programs.{is_linear}
@@ -22,8 +23,7 @@ use Rattle.uprog_gen.specs.Costs.{op_aaps, op_aps}
 use Rattle.uprog_gen.specs.Does.{joined}
 use Rattle.uprog_gen.specs.Layout.{IsLayout}
 use Rattle.uprog_gen.specs.Programs.{IsAsWritten, AreWritten}
-use Rattle.uprog_gen.specs.Totals.{is_word, words_total, parts_total, BlocksSettled}
-use Rattle.uprog_gen.specs.Settled.{turn_aaps, turn_aps, IsSettled}
+use Rattle.uprog_gen.specs.Totals.{is_word, words_total, parts_total}
 use Rattle.uprog_gen.proofs.Rows.Top.{all_rounds-append}
 use Rattle.uprog_gen.proofs.Naming.Stage.{Stage, next_stage}
 use Rattle.uprog_gen.proofs.Meaning.Meant.{args_same}
@@ -59,11 +59,6 @@ exactly slots free_bit free_word target second p args meets placed steps w = by 
         (written_in_rooms slots free_bit free_word target second p args (one_of p e) meets
         placed steps (w.linear e))
 
-parts_both : (P : Block → Type 0) (xs ys : List (StepOf Block)) → AllParts P xs → AllParts P ys
-    → AllParts P (xs ++ ys)
-parts_both P [] ys h k = k
-parts_both P (x ∷ xs) ys h k = (h.0, parts_both P xs ys h.1 k)
-
 -- the rounds of one statement and of those after it
 sum_joined : (f : Block → ℕ) (n : ℕ) (q : List (StepOf Block)) (ps : List (List (StepOf Block)))
     → rounds_sum f (all_rounds n (q ++ joined ps))
@@ -73,7 +68,6 @@ sum_joined f n q ps = ap (rounds_sum f) (all_rounds-append n q (joined ps))
 
 pub record AreExactly (known : List Param) (body : List Statement)
     (ps : List (List (StepOf Block))) : Type 0 where
-  pub settled : AllParts IsSettled (joined ps)
   pub aaps : (n : ℕ) → 0 < n → n ≤ WIDTH_MAX → rounds_sum turn_aaps (all_rounds n (joined ps))
       ≡ parts_total op_aaps turn_aaps known n body ps
   pub aps : (n : ℕ) → 0 < n → n ≤ WIDTH_MAX → rounds_sum turn_aps (all_rounds n (joined ps))
@@ -94,7 +88,7 @@ as_many slots free_bit free_word (s ∷ body) (q ∷ ps) w =
     as_many slots free_bit free_word body ps w.1
 as_many slots free_bit free_word body ps w = w
 
--- without blocks it is the word operations' sum, and nothing is to be settled
+-- without blocks it is the word operations' sum
 pub words_alone : (f : WordOp → ℕ → ℕ) (g : Block → ℕ) (known : List Param) (n : ℕ)
     (body : List Statement) (ps : List (List (StepOf Block))) → AsMany body ps
     → list_all is_word body ≡ true
@@ -106,16 +100,9 @@ words_alone f g known n (Compute target second p args ∷ body) (q ∷ ps) m h =
     ap (λ x. f p (names_width known n args) + x)
     (words_alone f g (known ++ defines known (Compute target second p args)) n body ps m h)
 
-pub none_to_settle : (body : List Statement) (ps : List (List (StepOf Block)))
-    → list_all is_word body ≡ true → BlocksSettled body ps
-none_to_settle [] ps h = tt
-none_to_settle (s ∷ body) [] h = tt
-none_to_settle (Visit b ∷ body) (q ∷ ps) h = absurd (let z : false ≡ true = h in cc)
-none_to_settle (Compute target second p args ∷ body) (q ∷ ps) h = none_to_settle body ps h
-
 module _ (o : Operation) (meets : OperationMeets o) (slots : Slots) (free_bit free_word : ℕ)
     (is : IsLayout o slots free_bit free_word) where
-  -- a word statement's program is settled, and takes the operation's commands
+  -- a word statement's program takes the operation's commands
   pub one_exactly : (c : Context) (target : List ℕ) (second : Option (List ℕ)) (p : WordOp)
       (args : List (List ℕ)) (rest : List Statement)
       → Stage o c (Compute target second p args ∷ rest) → (q : List (StepOf Block))
@@ -130,36 +117,32 @@ module _ (o : Operation) (meets : OperationMeets o) (slots : Slots) (free_bit fr
       st.body.0.known) ∙ have_first slots n args m.kinds m.have
       ∙ width_is p m.kinds m.gives.slot.kind n (m.form ∙ ap Some (sym m.gives.kind)) in
       record {
-        settled = one.settled;
         aaps = λ n some small. one.aaps n some small ∙ ap (op_aaps p) (sym (wide n));
         aps = λ n some small. one.aps n some small ∙ ap (op_aps p) (sym (wide n));
       }
 
   pub all_exactly : (rest : List Statement) (c : Context) → Stage o c rest
       → (ps : List (List (StepOf Block))) → AreWritten slots free_bit free_word rest ps
-      → BlocksSettled rest ps → AreExactly c.known rest ps
-  all_exactly [] c st [] w h = record {
-    settled = tt;
+      → AreExactly c.known rest ps
+  all_exactly [] c st [] w = record {
     aaps = λ n some small. refl;
     aps = λ n some small. refl;
   }
-  all_exactly (Visit b ∷ rest) c st (q ∷ ps) w h =
+  all_exactly (Visit b ∷ rest) c st (q ∷ ps) w =
       let s = Visit b in
-      let more = all_exactly rest (next_context c s) (next_stage o c s rest st) ps w.1 h.1 in
+      let more = all_exactly rest (next_context c s) (next_stage o c s rest st) ps w.1 in
       record {
-        settled = parts_both IsSettled q (joined ps) h.0 more.settled;
         aaps = λ n some small. rw (sum_joined turn_aaps n q ps, more.aaps n some small) refl;
         aps = λ n some small. rw (sum_joined turn_aps n q ps, more.aps n some small) refl;
       }
-  all_exactly (Compute target second p args ∷ rest) c st (q ∷ ps) w h =
+  all_exactly (Compute target second p args ∷ rest) c st (q ∷ ps) w =
       let s = Compute target second p args in
       let one = one_exactly c target second p args rest st q w.0 in
-      let more = all_exactly rest (next_context c s) (next_stage o c s rest st) ps w.1 h in
+      let more = all_exactly rest (next_context c s) (next_stage o c s rest st) ps w.1 in
       record {
-        settled = parts_both IsSettled q (joined ps) one.settled more.settled;
         aaps = λ n some small.
             rw (sum_joined turn_aaps n q ps, one.aaps n some small, more.aaps n some small) refl;
         aps = λ n some small.
             rw (sum_joined turn_aps n q ps, one.aps n some small, more.aps n some small) refl;
       }
-  all_exactly rest c st ps w h = absurd w
+  all_exactly rest c st ps w = absurd w

@@ -1,7 +1,6 @@
--- Each word operation's loop program has settled bodies, and takes exactly the operation's
--- commands.
+-- Each word operation's loop program takes exactly the operation's commands.
 use Rattle.std.proofs.Common.{◌≡◌, ℕ, ◌-◌, ◌<◌, ◌≤◌, Bool, true, false, cond}
-use Rattle.std.proofs.Common.{List, [], ◌∷◌, Some, refl, sym, ap, ◌∙◌, subst, arith}
+use Rattle.std.proofs.Common.{List, [], ◌∷◌, Some, refl, sym, ap, ◌∙◌, arith}
 use Rattle.bit_rows.specs.declared.TheConstants.{WIDTH_MAX}
 use Rattle.op_text.specs.declared.tree.Kind.{Kind}
 use Rattle.op_text.specs.declared.tree.Kind.TheVariants.{Word, Bit}
@@ -12,12 +11,11 @@ use Rattle.op_text.specs.declared.word_ops.Signature.TheVariants as shape
 use Rattle.op_text.specs.WordOps.{row_of, forms, signature_forms, filled, given_first, first_of}
 use Rattle.op_text.specs.Meaning.{width}
 use Rattle.op_text.proofs.Operations.{first_settles}
-use Rattle.loop_ir.specs.Plain.{Block, StepOf, AllParts}
+use Rattle.loop_ir.specs.Plain.{Block, StepOf}
 use Rattle.loop_ir.specs.Loops.{all_rounds}
-use Rattle.loop_ir.specs.Costs.{carries}
+use Rattle.loop_ir.specs.Costs.{turn_aaps, turn_aps}
 use Rattle.loop_laws.specs.Rooms.{placed_steps}
-use Rattle.loop_laws.proofs.Alike.{InRooms}
-use Rattle.loop_laws.proofs.EachRound.{each_round}
+use Rattle.loop_laws.proofs.Alike.{InRooms, rounds_like}
 use Rattle.loop_laws.proofs.Summed.{rounds_sum, sum_is}
 use Rattle.word_lower.specs.declared.table.ProgramRow.{ProgramRow}
 use Rattle.word_lower.specs.declared.table.ProgramRow.TheVariants.{Spread}
@@ -25,15 +23,7 @@ use Rattle.word_lower.specs.Programs.{program, program_of}
 use Rattle.word_flow.specs.Programs.{is_flow, flow_total, flow_aps}
 use Rattle.word_flow.proofs.Exactly.{IsExact}
 use Rattle.uprog_gen.specs.Costs.{op_aaps, op_aps}
-use Rattle.uprog_gen.specs.Settled.{turn_aaps, turn_aps, IsSettled}
-use Rattle.uprog_gen.proofs.Costs.Carried.{counted, all_settled}
-use Rattle.uprog_gen.proofs.Costs.Placed.{steps_settle, settled_steps, aaps_like, aps_like}
-
-all_settle : (p : WordOp) (k : Kind) → steps_settle (placed_steps [] (program p k)) ≡ true
-all_settle op.Not Word = refl
-all_settle p Word = refl
-all_settle op.Not Bit = refl
-all_settle p Bit = refl
+use Rattle.uprog_gen.proofs.Costs.Kinds.{all_kinds}
 
 -- the operations that take words or bits
 abbrev pub is_spread : ProgramRow → Bool
@@ -76,7 +66,6 @@ numbered p Bit n some other =
 
 -- what is known of a statement's program
 pub record IsExactly (p : WordOp) (w : ℕ → ℕ) (steps : List (StepOf Block)) : Type 0 where
-  pub settled : AllParts IsSettled steps
   pub aaps : (n : ℕ) → 0 < n → n ≤ WIDTH_MAX
       → rounds_sum turn_aaps (all_rounds n steps) ≡ op_aaps p (w n)
   pub aps : (n : ℕ) → 0 < n → n ≤ WIDTH_MAX
@@ -86,12 +75,12 @@ pub record IsExactly (p : WordOp) (w : ℕ → ℕ) (steps : List (StepOf Block)
 pub is_exactly : (p : WordOp) (k : Kind) (steps : List (StepOf Block)) → is_flow p ≡ false
     → InRooms (program p k) steps → IsExactly p (op_width p k) steps
 is_exactly p k steps other r = record {
-  settled = subst (AllParts IsSettled) (sym r.same)
-      (settled_steps r.rooms r.rows (program p k) (all_settle p k));
   aaps = λ n some small. ap (λ ss. rounds_sum turn_aaps (all_rounds n ss)) r.same
-      ∙ aaps_like r.rooms r.rows n (program p k) ∙ (numbered p k n some other).0;
+      ∙ rounds_like turn_aaps r.rooms (λ b. refl) n (program p k)
+      ∙ (numbered p k n some other).0;
   aps = λ n some small. ap (λ ss. rounds_sum turn_aps (all_rounds n ss)) r.same
-      ∙ aps_like r.rooms r.rows n (program p k) ∙ (numbered p k n some other).1;
+      ∙ rounds_like turn_aps r.rooms (λ b. refl) n (program p k)
+      ∙ (numbered p k n some other).1;
 }
 
 -- the operation of a flow takes the flow's commands, on words
@@ -105,23 +94,18 @@ takes_flow op.Shl1 is = record { wide = refl; aaps = λ n. omega arith; aps = λ
 takes_flow op.Shr1 is = record { wide = refl; aaps = λ n. omega arith; aps = λ n. refl }
 takes_flow p is = record { wide = cc; aaps = λ n. cc; aps = λ n. cc }
 
--- the program of a flow, whose bodies carry their commands
+-- the program of a flow
 pub flow_is_exactly : (p : WordOp) (k : Kind) (steps : List (StepOf Block)) → is_flow p ≡ true
     → IsExact p steps → IsExactly p (op_width p k) steps
 flow_is_exactly p k steps is e =
     let takes = takes_flow p is in
     let wide = λ (n : ℕ). ap (λ c. cond c (width n k) n) takes.wide in
-    let all = λ (n : ℕ). counted (all_rounds n steps)
-    (each_round (λ b. carries b ≡ true) n steps e.carried) in
     record {
-      settled = all_settled steps e.carried;
       aaps = λ n some small.
-          (let c = all n in
-          let less : rounds_sum turn_aaps (all_rounds n steps) ≡ flow_total p n - flow_aps p n =
-          omega (arith, c.all, c.aps, e.total n some small, e.aps n some small) in
+          (let less : rounds_sum turn_aaps (all_rounds n steps) ≡ flow_total p n - flow_aps p n =
+          omega (arith, all_kinds (all_rounds n steps), e.total n some small, e.aps n some small) in
           less ∙ sym (takes.aaps n) ∙ ap (op_aaps p) (sym (wide n)));
-      aps = λ n some small. (all n).aps ∙ e.aps n some small ∙ sym (takes.aps n)
-          ∙ ap (op_aps p) (sym (wide n));
+      aps = λ n some small. e.aps n some small ∙ sym (takes.aps n) ∙ ap (op_aps p) (sym (wide n));
     }
 
 -- the width of the arguments of these kinds

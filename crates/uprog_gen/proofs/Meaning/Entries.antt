@@ -81,7 +81,9 @@ module _ (may_have : ℕ → Spot → Type 0) where
   fronts_are : (ps : List (List (StepOf Block))) → AllByRecursion (CanCompile may_have) ps
       → AreFlowsOf may_have ps (map front ps)
   fronts_are [] h = tt
-  fronts_are (p ∷ ps) h = ((front_is may_have p h.0, h.0.size), fronts_are ps h.1)
+  fronts_are (p ∷ ps) h =
+      let is = front_is may_have p h.0 in
+      ((is, omega (arith, is.size, h.0.size)), fronts_are ps h.1)
 
   fronts_all : (P : FlowOf Block → Type 0)
       → ((p : List (StepOf Block)) → CanCompile may_have p → P (front p))

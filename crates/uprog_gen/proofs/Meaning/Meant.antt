@@ -308,7 +308,7 @@ module _ (op : Operation) (meets : OperationMeets op) (slots : Slots) (free_bit 
       → AreLowered slots free_bit free_word rest ps → AreCheap n ps (ceilings c.known rest)
   all_cheap n some small [] c st [] low = tt
   all_cheap n some small (s ∷ rest) c st (p ∷ ps) low = (
-    inl (omega (arith, low.0.cheap n some small, ceiling_same _ _ _ st n)),
+    omega (arith, low.0.cheap n some small, ceiling_same _ _ _ st n),
     all_cheap n some small rest (next_context c s) (next_stage op _ _ _ st) ps low.1,
   )
   all_cheap _ _ _ _ _ _ _ low = absurd low

@@ -25,7 +25,8 @@ use Rattle.loop_ir.specs.Plain.StepOf.{Along}
 use Rattle.loop_ir.specs.Flows.{FlowOf}
 use Rattle.loop_ir.specs.Flows.FlowOf.{End, Do, Loop}
 use Rattle.loop_ir.specs.Flows.TurnsOf.{Last}
-use Rattle.loop_ir.specs.Costs.{used_subs}
+use Rattle.loop_ir.specs.Costs.{used_subs, turn_aaps, turn_aps}
+use Rattle.loop_ir.specs.Loops.{all_rounds}
 use Rattle.loop_ir.specs.Statements.{Slots}
 use Rattle.loop_front.specs.Front.{in_registers, before, after, each_sub, put_all, counter, starts}
 use Rattle.loop_front.specs.Front.{round_flow, once_flow, each_flow, followed, clears, front}
@@ -37,10 +38,9 @@ use Rattle.uprog_gen.specs.Layout.{IsLayout}
 use Rattle.uprog_gen.specs.Programs.{HaveForms, AreWritten}
 use Rattle.uprog_gen.specs.Costs.{op_aaps, op_aps}
 use Rattle.uprog_gen.specs.Totals.{AreExact, IsExactOver}
-use Rattle.uprog_gen.specs.Settled.{turn_aaps, turn_aps}
 use Rattle.uprog_gen.specs.Entries.{IsCodeOf}
 use Rattle.uprog_gen.proofs.Costs.Counted.{one_exactly, all_exactly, as_many, words_alone}
-use Rattle.uprog_gen.proofs.Costs.Counted.{none_to_settle}
+use Rattle.uprog_gen.proofs.Costs.Kinds.{all_kinds}
 use Rattle.uprog_gen.proofs.Rows.Top.{both_counts}
 use Rattle.uprog_gen.specs.Graphs.{Graphed, IsGraphOf, AreGraphsOf, op_commands, graphed_ceiling}
 use Rattle.uprog_gen.specs.Graphs.{IsGraphed, AreGraphed, body_graph, later, flow_graph}
@@ -158,8 +158,9 @@ module _ (op : Operation) (meets : OperationMeets op) (slots : Slots) (free_bit 
       let one = one_exactly _ meets _ _ _ is c target second p args rest st q
       w.0 in
       let most = op_commands p (names_width c.known n args) in
-      one_more n q ps most (graphed_ceiling (next_context c s).known n rest (graphs_in rest (map front ps)))
-      (inr (one.settled, omega (arith, one.aaps n some small, one.aps n some small)))
+      one_more n q ps most
+      (graphed_ceiling (next_context c s).known n rest (graphs_in rest (map front ps)))
+      (omega (arith, all_kinds (all_rounds n q), one.aaps n some small, one.aps n some small))
       (few_rounds n some small rest (next_context c s) (next_stage op _ _ _ st) ps h.1 w.1)
   few_rounds n some small (Visit b ∷ rest) c st (q ∷ ps) h w =
       let s = Visit b in
@@ -168,8 +169,9 @@ module _ (op : Operation) (meets : OperationMeets op) (slots : Slots) (free_bit 
       subst (λ (gs : List Graphed). KeepsGraphs n (q ∷ ps)
       (graphed_ceiling c.known n (Visit b ∷ rest) (gs ++ graphs_in rest (map front ps))))
       (sym (form_graph slots b q h.0))
-      (one_more n q ps most (graphed_ceiling (next_context c s).known n rest (graphs_in rest (map front ps)))
-      (inl (h.0.cost n some))
+      (one_more n q ps most
+      (graphed_ceiling (next_context c s).known n rest (graphs_in rest (map front ps)))
+      (h.0.cost n some)
       (few_rounds n some small rest (next_context c s) (next_stage op _ _ _ st) ps h.1 w.1))
   few_rounds _ _ _ _ _ _ _ h _ = absurd h
 
@@ -178,9 +180,9 @@ module _ (op : Operation) (meets : OperationMeets op) (slots : Slots) (free_bit 
       → AreWritten slots free_bit free_word op.body ps → (e : Microprogram)
       → IsCodeOf e.shape ps e.code → IsExactOver e op ps
   entry_exact ps written e code = record {
-    exact = λ settled n some small. (let all = all_exactly _ meets _ _ _ is op.body (at_start op)
-        (first_stage op meets) ps written settled in
-        (code.does n some small).exact all.settled
+    exact = λ n some small. (let all = all_exactly _ meets _ _ _ is op.body (at_start op)
+        (first_stage op meets) ps written in
+        (code.does n some small).exact
         ∙ both_counts (all.aaps n some small) (all.aps n some small));
   }
 
@@ -195,7 +197,7 @@ module _ (op : Operation) (meets : OperationMeets op) (slots : Slots) (free_bit 
     exact = record {
       exact = λ words n some small.
           (let many = as_many slots free_bit free_word op.body ps written in
-          (entry_exact ps written e code).exact (none_to_settle op.body ps words) n some small
+          (entry_exact ps written e code).exact n some small
           ∙ both_counts (words_alone op_aaps turn_aaps op.params n op.body ps many words)
           (words_alone op_aps turn_aps op.params n op.body ps many words));
     };

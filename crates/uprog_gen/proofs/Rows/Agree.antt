@@ -28,11 +28,10 @@ use Rattle.loop_ir.specs.Loops.{RoundOf, sub_value}
 use Rattle.loop_ir.specs.Spots.{Spot, Spots, nth_place, spot_at, spot_in, nth_spot, IsOwn}
 use Rattle.loop_ir.specs.Spots.{round_env, after_round, after_rounds, is_state}
 use Rattle.uprog_gen.specs.Where.{spot_row, IsSpot, Agree}
-use Rattle.uprog_gen.specs.Code.{Part, row_space}
+use Rattle.uprog_gen.specs.Code.{row_space}
 use Rattle.uprog_gen.proofs.Rows.Issued.{round_ref, round_command, rounds_commands}
-use Rattle.loop_ir.specs.Limits.{IsRound}
-use Rattle.uprog_gen.proofs.Rows.Rounds.{IsLaid, round_rows, block_round}
-use Rattle.uprog_gen.specs.Parts.{IsPart}
+use Rattle.loop_ir.specs.Limits.{IsRound, IsSmall}
+use Rattle.uprog_gen.proofs.Rows.Rounds.{IsLaid, round_rows}
 use Rattle.mig_graph.specs.Outputs.{lit_at}
 use Rattle.loop_laws.proofs.Same.{write_other, write_at}
 use Rattle.row_alloc.specs.Legal.{is_ref, is_first_ref, is_second_ref, is_legal_cmd, are_legal}
@@ -44,6 +43,7 @@ use Rattle.row_alloc.specs.declared.body.Held.{Held}
 use Rattle.uprog_gen.proofs.Rows.Named.{few, IsNamed, named_ref}
 use Rattle.uprog_gen.proofs.Rows.Alive.{state_spot, AreStanding}
 use Rattle.uprog_gen.proofs.Rows.States.{are_among, held_is, enter_cells, leave_cells}
+use Rattle.uprog_gen.proofs.Bodies.Outs.{outs_of, own_outs, commands_do}
 
 -- one of the first places has a number, or none has
 find : (f : ℕ → ℕ) (q count : ℕ) → ((j : ℕ) × (j < count) × (q ≡ f j))
@@ -82,33 +82,33 @@ module _ (rows : ℕ) (head : Shape) (n : ℕ) (b : Bound) where
   space_is Cells w v h = absurd (cc)
   space_is s w v h = refl
 
-  input_row : (r : RoundOf Part) (k : ℕ) → is_state (nth_place r.part.block.reads k).space ≡ false
+  input_row : (r : RoundOf Block) (k : ℕ) → is_state (nth_place r.part.reads k).space ≡ false
       → (round_rows rows head n b r).input k
-      ≡ spot_row head n b (nth_spot n r.i r.o r.regs r.part.block.reads k)
+      ≡ spot_row head n b (nth_spot n r.i r.o r.regs r.part.reads k)
   input_row r k e = ap (λ c. cond c (rows + 32)
-      (spot_row head n b (nth_spot n r.i r.o r.regs r.part.block.reads k))) e
+      (spot_row head n b (nth_spot n r.i r.o r.regs r.part.reads k))) e
 
-  ref_place : (r : RoundOf Part) (x : BodyRef) → IsNamed r.part x
+  ref_place : (r : RoundOf Block) (x : BodyRef) → IsNamed r.part x
       → address rows head n b (round_ref n r x) ≡ place (round_rows rows head n b r) x
-  ref_place r (ref.In k) h = let p = nth_place r.part.block.reads k in
+  ref_place r (ref.In k) h = let p = nth_place r.part.reads k in
       space_is p.space p.which (sub_value n r.i r.o r.regs p.sub) h.1 ∙ ap AddrD (sym (input_row r k h.1))
-  ref_place r (ref.Out k) h = let p = nth_place r.part.block.writes k in
+  ref_place r (ref.Out k) h = let p = nth_place r.part.writes k in
       space_is p.space p.which (sub_value n r.i r.o r.regs p.sub) h.1
   ref_place r x h = refl
 
-  module _ (r : RoundOf Part) (part : IsPart r.part) where
+  module _ (r : RoundOf Block) (small : IsSmall r.part) where
     abbrev inputs : ℕ
-    inputs = r.part.block.graph.inputs
+    inputs = r.part.graph.inputs
 
     abbrev outputs : ℕ
-    outputs = length r.part.outs
+    outputs = length (outs_of r.part)
 
     abbrev enter : List Held
-    enter = enters 0 r.part.block.reads
+    enter = enters 0 r.part.reads
 
     named_one : (x : BodyRef) → is_ref inputs outputs x ≡ true → is_read enter x ≡ true
         → address rows head n b (round_ref n r x) ≡ place (round_rows rows head n b r) x
-    named_one x h u = ref_place r x (named_ref r.part part x h u)
+    named_one x h u = ref_place r x (named_ref r.part small x h u)
 
     command_is : (c : BodyCmd) → is_legal_cmd inputs outputs c ≡ true → reads_rows enter c ≡ true
         → bound_command rows head n b (round_command n r c)
@@ -133,16 +133,16 @@ module _ (rows : ℕ) (head : Shape) (n : ℕ) (b : Bound) where
         let v = and_parts (reads_rows enter c) (list_all (reads_rows enter) cs) u in
         rw (command_is c p.0 v.0, commands_are cs p.1 v.1) refl
 
-  pub round_first : (r : RoundOf Part) (rs : List (RoundOf Part)) (s : Column) → IsPart r.part
+  pub round_first : (r : RoundOf Block) (rs : List (RoundOf Block)) (s : Column) → IsSmall r.part
       → run (bound rows head n b (rounds_commands n (r ∷ rs))) s
       ≡ run (bound rows head n b (rounds_commands n rs))
-      (run_body (round_rows rows head n b r) r.part.cmds s)
-  round_first r rs s part =
+      (run_body (round_rows rows head n b r) r.part.found s)
+  round_first r rs s small =
       ap (λ l. run l s) (map-append (bound_command rows head n b)
-      (map (round_command n r) r.part.cmds) (rounds_commands n rs)
+      (map (round_command n r) r.part.found) (rounds_commands n rs)
       ∙ ap (λ l. l ++ bound rows head n b (rounds_commands n rs))
-      (commands_are r part r.part.cmds part.does.legal part.does.unread))
-      ∙ run-append (map (placed (round_rows rows head n b r)) r.part.cmds)
+      (let d = commands_do r.part small in commands_are r small r.part.found d.legal d.unread))
+      ∙ run-append (map (placed (round_rows rows head n b r)) r.part.found)
       (bound rows head n b (rounds_commands n rs)) s
 
 module _ (rows : ℕ) (head : Shape) (n : ℕ) (b : Bound) (laid : IsLaid rows head n b) where
@@ -157,210 +157,215 @@ module _ (rows : ℕ) (head : Shape) (n : ℕ) (b : Bound) (laid : IsLaid rows h
     pub named : Agree head n b bits s
     pub cells : AreStanding bits s alive
 
-  own_row : (r : RoundOf Part) → IsRound (IsSpot head n) n (block_round r) → IsPart r.part
-      → (j : ℕ) → j < length r.part.outs
-      → IsSpot head n (nth_spot n r.i r.o r.regs r.part.block.writes j)
-  own_row r is part j lj = let l = few r.part part j lj in
-      is.writes j l.1 (part.states.first.row j l.0)
+  own_row : (r : RoundOf Block) → IsRound (IsSpot head n) n r → IsSmall r.part
+      → (j : ℕ) → j < length (outs_of r.part)
+      → IsSpot head n (nth_spot n r.i r.o r.regs r.part.writes j)
+  own_row r is small j lj = let l = few r.part small j lj in
+      is.writes j l.1 (small.states.first.row j l.0)
 
   -- the rows of a round are apart just where the body's outputs say so
-  same_row : (r : RoundOf Part) → IsRound (IsSpot head n) n (block_round r) → IsPart r.part
-      → (j k : ℕ) → j < length r.part.outs → k < r.part.block.graph.inputs → (c : Bool)
-      → is_state (nth_place r.part.block.reads k).space ≡ c
+  same_row : (r : RoundOf Block) → IsRound (IsSpot head n) n r → IsSmall r.part
+      → (j k : ℕ) → j < length (outs_of r.part) → k < r.part.graph.inputs → (c : Bool)
+      → is_state (nth_place r.part.reads k).space ≡ c
       → (round_rows rows head n b r).output j
-      ≡ cond c (rows + 32) (spot_row head n b (nth_spot n r.i r.o r.regs r.part.block.reads k))
-      → (out_at r.part.outs j).same ≡ Some k
-  same_row r is part j k lj lk true st e =
-      absurd (omega (arith, e, laid.low _ (own_row r is part j lj)))
-  same_row r is part j k lj lk false st e = decide (out_at r.part.outs j).same refl
+      ≡ cond c (rows + 32) (spot_row head n b (nth_spot n r.i r.o r.regs r.part.reads k))
+      → (out_at (outs_of r.part) j).same ≡ Some k
+  same_row r is small j k lj lk true st e =
+      absurd (omega (arith, e, laid.low _ (own_row r is small j lj)))
+  same_row r is small j k lj lk false st e = decide (out_at (outs_of r.part) j).same refl
     where
-      lw : j < length r.part.block.writes
-      lw = (few r.part part j lj).1
+      lw : j < length r.part.writes
+      lw = (few r.part small j lj).1
 
-      lr : k < length r.part.block.reads
-      lr = omega (arith, lk, part.well.reads)
+      lr : k < length r.part.reads
+      lr = omega (arith, lk, small.well.reads)
 
-      spots : nth_spot n r.i r.o r.regs r.part.block.writes j ≡ nth_spot n r.i r.o r.regs r.part.block.reads k
-      spots = laid.own _ _ (own_row r is part j lj) (is.reads k lr st) (is.own j lw) e
+      spots : nth_spot n r.i r.o r.regs r.part.writes j ≡ nth_spot n r.i r.o r.regs r.part.reads k
+      spots = laid.own _ _ (own_row r is small j lj) (is.reads k lr st) (is.own j lw) e
 
-      decide : (o : Option ℕ) → (out_at r.part.outs j).same ≡ o
-          → (out_at r.part.outs j).same ≡ Some k
-      decide None h = absurd (part.outs.none j lj h k lk (sym (is.same j k lw lr spots)))
+      decide : (o : Option ℕ) → (out_at (outs_of r.part) j).same ≡ o
+          → (out_at (outs_of r.part) j).same ≡ Some k
+      decide None h =
+          absurd ((own_outs r.part small).none j lj h k lk (sym (is.same j k lw lr spots)))
       decide (Some l) h =
-          let f = part.outs.found j l lj h in
-          let ll : l < length r.part.block.reads = omega (arith, f.0, part.well.reads) in
+          let f = (own_outs r.part small).found j l lj h in
+          let ll : l < length r.part.reads = omega (arith, f.0, small.well.reads) in
           let e : l ≡ k = is.once j l k lw ll lr (ap (spot_at n r.i r.o r.regs) (sym f.1)) spots in
           h ∙ ap Some e
 
-  away : (r : RoundOf Part) (i k : ℕ) → i < 32 → IsRound (IsSpot head n) n (block_round r)
-      → k < length r.part.block.reads → (c : Bool)
-      → is_state (nth_place r.part.block.reads k).space ≡ c → rows - 32 + i
-      ≡ cond c (rows + 32) (spot_row head n b (nth_spot n r.i r.o r.regs r.part.block.reads k)) → ⊥
+  away : (r : RoundOf Block) (i k : ℕ) → i < 32 → IsRound (IsSpot head n) n r
+      → k < length r.part.reads → (c : Bool)
+      → is_state (nth_place r.part.reads k).space ≡ c → rows - 32 + i
+      ≡ cond c (rows + 32) (spot_row head n b (nth_spot n r.i r.o r.regs r.part.reads k)) → ⊥
   away r i k li is lk true st e = omega (arith, e)
   away r i k li is lk false st e = omega (arith, e, laid.low _ (is.reads k lk st))
 
-  are_apart : (r : RoundOf Part) → IsRound (IsSpot head n) n (block_round r) → IsPart r.part
-      → AreApart (round_rows rows head n b r) r.part.block.graph.inputs r.part.outs
-  are_apart r is part = record {
+  are_apart : (r : RoundOf Block) → IsRound (IsSpot head n) n r → IsSmall r.part
+      → AreApart (round_rows rows head n b r) r.part.graph.inputs (outs_of r.part)
+  are_apart r is small = record {
     spills = λ i k li lk e. omega (arith, e);
-    spill_input = λ i k li lk e. away r i k li is (omega (arith, lk, part.well.reads))
-        (is_state (nth_place r.part.block.reads k).space) refl e;
+    spill_input = λ i k li lk e. away r i k li is (omega (arith, lk, small.well.reads))
+        (is_state (nth_place r.part.reads k).space) refl e;
     spill_output = λ i j li lj e. absurd (omega (
       arith,
       e,
-      laid.low _ (own_row r is part j lj),
+      laid.low _ (own_row r is small j lj),
     ));
     outputs = λ i j li lj e.
-        let wi = (few r.part part i li).1 in
-        let wj = (few r.part part j lj).1 in
-        is.apart i j wi wj (laid.own _ _ (own_row r is part i li) (own_row r is part j lj)
+        let wi = (few r.part small i li).1 in
+        let wj = (few r.part small j lj).1 in
+        is.apart i j wi wj (laid.own _ _ (own_row r is small i li) (own_row r is small j lj)
         (is.own i wi) e);
     same = λ j k lj lk. (
-      λ e. same_row r is part j k lj lk
-          (is_state (nth_place r.part.block.reads k).space) refl e,
-      λ h. let f = (part.outs.found j k lj h).1 in
+      λ e. same_row r is small j k lj lk
+          (is_state (nth_place r.part.reads k).space) refl e,
+      λ h. let f = ((own_outs r.part small).found j k lj h).1 in
           let st = ap (λ (p : Place). is_state p.space) f
-          ∙ part.states.first.row j (few r.part part j lj).0 in
+          ∙ small.states.first.row j (few r.part small j lj).0 in
           ap (λ p. spot_row head n b (spot_at n r.i r.o r.regs p)) (sym f)
           ∙ sym (input_row rows head n b r k st),
     );
   }
 
   -- what a body reads, before it
-  entering : (r : RoundOf Part) (alive : List ℕ) (bits : Spots) (s : Column)
-      → IsRound (IsSpot head n) n (block_round r) → IsPart r.part
-      → finds alive r.part.block ≡ true → AgreeHeld alive bits s → Enters r.part.block.graph
-      (λ k. bits (nth_spot n r.i r.o r.regs r.part.block.reads k)) (enters 0 r.part.block.reads)
+  entering : (r : RoundOf Block) (alive : List ℕ) (bits : Spots) (s : Column)
+      → IsRound (IsSpot head n) n r → IsSmall r.part
+      → finds alive r.part ≡ true → AgreeHeld alive bits s → Enters r.part.graph
+      (λ k. bits (nth_spot n r.i r.o r.regs r.part.reads k)) (enters 0 r.part.reads)
       (round_rows rows head n b r) s
-  entering r alive bits s is part live agree = record {
+  entering r alive bits s is small live agree = record {
     read = λ k l h.
         let z : 0 + k ≡ k = omega arith in
-        let lk : k < length r.part.block.reads = omega (arith, l, part.well.reads) in
-        let st = held_is r.part.block.reads 0 k lk
-        ∙ ap (is_held (enters 0 r.part.block.reads)) z ∙ h in
+        let lk : k < length r.part.reads = omega (arith, l, small.well.reads) in
+        let st = held_is r.part.reads 0 k lk
+        ∙ ap (is_held (enters 0 r.part.reads)) z ∙ h in
         ap (λ q. s (D q)) (input_row rows head n b r k st) ∙ agree.named _ (is.reads k lk st);
-    held = enter_cells r.part.block.graph (λ k. bits (nth_spot n r.i r.o r.regs r.part.block.reads k)) s
-        n r.i r.o r.regs bits r.part.block.reads 0
-        (λ j l e. let m : j < r.part.block.graph.inputs = part.states.read j l e in
+    held = enter_cells r.part.graph (λ k. bits (nth_spot n r.i r.o r.regs r.part.reads k)) s
+        n r.i r.o r.regs bits r.part.reads 0
+        (λ j l e. let m : j < r.part.graph.inputs = small.states.read j l e in
         omega (arith, m))
         (λ j l. let z : 0 + j ≡ j = omega arith in
-        ap (λ k. bits (nth_spot n r.i r.o r.regs r.part.block.reads k)) z)
+        ap (λ k. bits (nth_spot n r.i r.o r.regs r.part.reads k)) z)
         (are_among (λ w. StandsIn s w (bits (state_spot w))) alive
-        (states_in r.part.block.reads) live agree.cells);
+        (states_in r.part.reads) live agree.cells);
   }
 
-  written : (r : RoundOf Part) (bits : Spots) → IsRound (IsSpot head n) n (block_round r)
-      → IsPart r.part → (j : ℕ) → j < length r.part.block.outs
-      → after_round n (block_round r) bits (nth_spot n r.i r.o r.regs r.part.block.writes j)
-      ≡ value r.part.block.graph (λ k. bits (nth_spot n r.i r.o r.regs r.part.block.reads k))
-      (lit_at r.part.block.outs j)
-  written r bits is part j lo =
-      let k = r.part.block in
-      write_at n r.i r.o r.regs (round_env n (block_round r) bits) k.writes k.outs bits
-      part.well.writes (λ i m li lm e. is.apart i m (omega (arith, li, part.well.writes))
-      (omega (arith, lm, part.well.writes)) e) j lo
+  written : (r : RoundOf Block) (bits : Spots) → IsRound (IsSpot head n) n r
+      → IsSmall r.part → (j : ℕ) → j < length r.part.outs
+      → after_round n r bits (nth_spot n r.i r.o r.regs r.part.writes j)
+      ≡ value r.part.graph (λ k. bits (nth_spot n r.i r.o r.regs r.part.reads k))
+      (lit_at r.part.outs j)
+  written r bits is small j lo =
+      let k = r.part in
+      write_at n r.i r.o r.regs (round_env n r bits) k.writes k.outs bits
+      small.well.writes (λ i m li lm e. is.apart i m (omega (arith, li, small.well.writes))
+      (omega (arith, lm, small.well.writes)) e) j lo
 
   -- one round
-  round_rows_agree : (r : RoundOf Part) (alive : List ℕ) (bits : Spots) (s : Column)
-      → IsRound (IsSpot head n) n (block_round r) → IsPart r.part
-      → finds alive r.part.block ≡ true → AgreeHeld alive bits s
-      → Agree head n b (after_round n (block_round r) bits)
-      (run_body (round_rows rows head n b r) r.part.cmds s)
-  round_rows_agree r alive bits s is part live agree p spot =
+  round_rows_agree : (r : RoundOf Block) (alive : List ℕ) (bits : Spots) (s : Column)
+      → IsRound (IsSpot head n) n r → IsSmall r.part
+      → finds alive r.part ≡ true → AgreeHeld alive bits s
+      → Agree head n b (after_round n r bits)
+      (run_body (round_rows rows head n b r) r.part.found s)
+  round_rows_agree r alive bits s is small live agree p spot =
       ⊎_elim
-      (λ (h : (j : ℕ) × (j < length r.part.outs) × (spot_row head n b p ≡ w.output j)).
+      (λ (h : (j : ℕ) × (j < length (outs_of r.part)) × (spot_row head n b p ≡ w.output j)).
       let j = h.0 in
-      let lw : j < length k.writes = (few r.part part j h.1).1 in
-      let lo : j < length k.outs = omega (arith, lw, part.states.written) in
+      let lw : j < length k.writes = (few r.part small j h.1).1 in
+      let lo : j < length k.outs = omega (arith, lw, small.states.written) in
       let same : nth_spot n r.i r.o r.regs k.writes j ≡ p =
-      laid.own _ p (own_row r is part j h.1) spot (is.own j lw) (sym h.2) in
+      laid.own _ p (own_row r is small j h.1) spot (is.own j lw) (sym h.2) in
       ap (λ q. s' (D q)) h.2
-      ∙ part.does.values w s (λ i. bits (nth_spot n r.i r.o r.regs k.reads i)) (are_apart r is part)
-      (entering r alive bits s is part live agree) j h.1
-      ∙ ap (value k.graph (λ i. bits (nth_spot n r.i r.o r.regs k.reads i))) (part.outs.lits j h.1)
-      ∙ sym (written r bits is part j lo)
-      ∙ ap (after_round n (block_round r) bits) same)
-      (λ (none : (j : ℕ) → j < length r.part.outs → spot_row head n b p ≡ w.output j → ⊥).
-      part.does.others w s (are_apart r is part) (spot_row head n b p) (λ j lt e. none j lt (sym e))
+      ∙ (commands_do k small).values w s at (are_apart r is small)
+      (entering r alive bits s is small live agree) j h.1
+      ∙ ap (value k.graph at) ((own_outs k small).lits j h.1)
+      ∙ sym (written r bits is small j lo)
+      ∙ ap (after_round n r bits) same)
+      (λ (none : (j : ℕ) → j < length (outs_of r.part) → spot_row head n b p ≡ w.output j → ⊥).
+      (commands_do k small).others w s (are_apart r is small) (spot_row head n b p)
+      (λ j lt e. none j lt (sym e))
       (λ i li e. absurd (omega (arith, e, laid.low p spot)))
       ∙ agree.named p spot
-      ∙ sym (write_other n r.i r.o r.regs (round_env n (block_round r) bits) k.writes k.outs bits p
-      (λ j lt e. other none j (omega (arith, lt, part.states.written)) e)))
-      (find w.output (spot_row head n b p) (length r.part.outs))
+      ∙ sym (write_other n r.i r.o r.regs (round_env n r bits) k.writes k.outs bits p
+      (λ j lt e. other none j (omega (arith, lt, small.states.written)) e)))
+      (find w.output (spot_row head n b p) (length (outs_of r.part)))
     where
       k : Block
-      k = r.part.block
+      k = r.part
+
+      at : ℕ → Bool
+      at = λ i. bits (nth_spot n r.i r.o r.regs k.reads i)
 
       w : Rows
       w = round_rows rows head n b r
 
       s' : Column
-      s' = run_body w r.part.cmds s
+      s' = run_body w r.part.found s
 
-      other : ((j : ℕ) → j < length r.part.outs → spot_row head n b p ≡ w.output j → ⊥) → (j : ℕ)
+      other : ((j : ℕ) → j < length (outs_of r.part) → spot_row head n b p ≡ w.output j → ⊥) → (j : ℕ)
           → j < length k.writes → p ≡ nth_spot n r.i r.o r.regs k.writes j → ⊥
       other none j lt e = ⊎_elim
-          (λ (l : j < row_count k.writes). none j (omega (arith, l, part.outs.size))
+          (λ (l : j < row_count k.writes). none j (omega (arith, l, (own_outs r.part small).size))
           (ap (spot_row head n b) e))
           (λ (l : row_count k.writes ≤ j). no_row n r.i r.o r.regs (nth_place k.writes j)
-          (part.states.first.state j l lt) head p spot e)
+          (small.states.first.state j l lt) head p spot e)
           (cases_lt j (row_count k.writes))
 
-  pub round_agrees : (r : RoundOf Part) (alive : List ℕ) (bits : Spots) (s : Column)
-      → IsRound (IsSpot head n) n (block_round r) → IsPart r.part
-      → finds alive r.part.block ≡ true → AgreeHeld alive bits s
-      → AgreeHeld (states_in r.part.block.writes) (after_round n (block_round r) bits)
-      (run_body (round_rows rows head n b r) r.part.cmds s)
-  round_agrees r alive bits s is part live agree = record {
-    named = round_rows_agree r alive bits s is part live agree;
+  pub round_agrees : (r : RoundOf Block) (alive : List ℕ) (bits : Spots) (s : Column)
+      → IsRound (IsSpot head n) n r → IsSmall r.part
+      → finds alive r.part ≡ true → AgreeHeld alive bits s
+      → AgreeHeld (states_in r.part.writes) (after_round n r bits)
+      (run_body (round_rows rows head n b r) r.part.found s)
+  round_agrees r alive bits s is small live agree = record {
+    named = round_rows_agree r alive bits s is small live agree;
     cells =
-        let f = λ (k : ℕ). bits (nth_spot n r.i r.o r.regs r.part.block.reads k) in
+        let f = λ (k : ℕ). bits (nth_spot n r.i r.o r.regs r.part.reads k) in
         let w = round_rows rows head n b r in
-        leave_cells r.part.block.graph f (run_body w r.part.cmds s) n r.i r.o r.regs
-        (after_round n (block_round r) bits) r.part.block.writes r.part.block.outs
-        part.states.written (λ j l. written r bits is part j l)
-        (part.does.leaves w s f (are_apart r is part)
-        (entering r alive bits s is part live agree));
+        leave_cells r.part.graph f (run_body w r.part.found s) n r.i r.o r.regs
+        (after_round n r bits) r.part.writes r.part.outs
+        small.states.written (λ j l. written r bits is small j l)
+        ((commands_do r.part small).leaves w s f (are_apart r is small)
+        (entering r alive bits s is small live agree));
   }
 
   -- and no row but the operation's own and the spill rows
-  round_keeps : (r : RoundOf Part) (s : Column) → IsRound (IsSpot head n) n (block_round r)
-      → IsPart r.part → (q : ℕ) → (IsMine q → ⊥)
-      → run_body (round_rows rows head n b r) r.part.cmds s (D q) ≡ s (D q)
-  round_keeps r s is part q other =
-      part.does.others (round_rows rows head n b r) s (are_apart r is part) q
+  round_keeps : (r : RoundOf Block) (s : Column) → IsRound (IsSpot head n) n r
+      → IsSmall r.part → (q : ℕ) → (IsMine q → ⊥)
+      → run_body (round_rows rows head n b r) r.part.found s (D q) ≡ s (D q)
+  round_keeps r s is small q other =
+      (commands_do r.part small).others (round_rows rows head n b r) s (are_apart r is small) q
       (λ j lt e. other (inl (
-        nth_spot n r.i r.o r.regs r.part.block.writes j,
-        own_row r is part j lt,
-        is.own j (few r.part part j lt).1,
+        nth_spot n r.i r.o r.regs r.part.writes j,
+        own_row r is small j lt,
+        is.own j (few r.part small j lt).1,
         sym e,
       )))
       (λ i li e. other (inr (i, li, sym e)))
 
   -- all rounds
-  abbrev pub AreRounds : List (RoundOf Part) → Type 0
+  abbrev pub AreRounds : List (RoundOf Block) → Type 0
   AreRounds [] = Unit {0}
-  AreRounds (r ∷ rs) = IsRound (IsSpot head n) n (block_round r) × IsPart r.part × AreRounds rs
+  AreRounds (r ∷ rs) = IsRound (IsSpot head n) n r × IsSmall r.part × AreRounds rs
 
   -- all rounds: from the states that are alive before them
-  pub rounds_agree : (rs : List (RoundOf Part)) (alive : List ℕ) (bits : Spots) (s : Column)
-      → AreRounds rs → chained alive (map block_round rs) ≡ true → AgreeHeld alive bits s
-      → Agree head n b (after_rounds n (map block_round rs) bits)
+  pub rounds_agree : (rs : List (RoundOf Block)) (alive : List ℕ) (bits : Spots) (s : Column)
+      → AreRounds rs → chained alive rs ≡ true → AgreeHeld alive bits s
+      → Agree head n b (after_rounds n rs bits)
       (run (bound rows head n b (rounds_commands n rs)) s)
   rounds_agree [] alive bits s are live agree = agree.named
   rounds_agree (r ∷ rs) alive bits s are live agree =
-      let l = and_parts (finds alive r.part.block)
-      (chained (left_by r.part.block) (map block_round rs)) live in
-      subst (Agree head n b (after_rounds n (map block_round rs)
-      (after_round n (block_round r) bits))) (sym (round_first rows head n b r rs s are.1))
-      (rounds_agree rs (states_in r.part.block.writes) (after_round n (block_round r) bits)
-      (run_body (round_rows rows head n b r) r.part.cmds s) are.2 l.1
+      let l = and_parts (finds alive r.part)
+      (chained (left_by r.part) rs) live in
+      subst (Agree head n b (after_rounds n rs
+      (after_round n r bits))) (sym (round_first rows head n b r rs s are.1))
+      (rounds_agree rs (states_in r.part.writes) (after_round n r bits)
+      (run_body (round_rows rows head n b r) r.part.found s) are.2 l.1
       (round_agrees r alive bits s are.0 are.1 l.0 agree))
 
-  pub rounds_keep : (rs : List (RoundOf Part)) (s : Column) → AreRounds rs → (q : ℕ)
+  pub rounds_keep : (rs : List (RoundOf Block)) (s : Column) → AreRounds rs → (q : ℕ)
       → (IsMine q → ⊥) → run (bound rows head n b (rounds_commands n rs)) s (D q) ≡ s (D q)
   rounds_keep [] s are q other = refl
   rounds_keep (r ∷ rs) s are q other =
       ap (λ (t : Column). t (D q)) (round_first rows head n b r rs s are.1)
-      ∙ rounds_keep rs (run_body (round_rows rows head n b r) r.part.cmds s) are.2 q other
+      ∙ rounds_keep rs (run_body (round_rows rows head n b r) r.part.found s) are.2 q other
       ∙ round_keeps r s are.0 are.1 q other

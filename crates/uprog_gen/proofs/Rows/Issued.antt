@@ -10,7 +10,8 @@ use Rattle.row_alloc.specs.declared.body.BodyCmd.TheVariants as cmd
 use Rattle.loop_ir.specs.declared.ir.Place.{Place}
 use Rattle.loop_ir.specs.Loops.{RoundOf, sub_value}
 use Rattle.loop_ir.specs.Spots.{nth_place}
-use Rattle.uprog_gen.specs.Code.{Part, row_space}
+use Rattle.uprog_gen.specs.Code.{row_space}
+use Rattle.loop_ir.specs.Plain.{Block}
 
 -- a place's row, in a command of the trace
 abbrev pub place_row : ℕ → ℕ → ℕ → List ℕ → Place → RowRef
@@ -21,19 +22,19 @@ place_row n i o g p = record {
 }
 
 -- a body's row in a round, in a command of the trace
-abbrev pub round_ref : ℕ → RoundOf Part → BodyRef → RowRef
+abbrev pub round_ref : ℕ → RoundOf Block → BodyRef → RowRef
 round_ref n r (ref.B k) = record { space = row.B; which = k; index = 0 }
 round_ref n r (ref.C k) = record { space = row.C; which = k; index = 0 }
-round_ref n r (ref.In k) = place_row n r.i r.o r.regs (nth_place r.part.block.reads k)
-round_ref n r (ref.Out k) = place_row n r.i r.o r.regs (nth_place r.part.block.writes k)
+round_ref n r (ref.In k) = place_row n r.i r.o r.regs (nth_place r.part.reads k)
+round_ref n r (ref.Out k) = place_row n r.i r.o r.regs (nth_place r.part.writes k)
 round_ref n r (ref.Spill k) = record { space = row.Spill; which = k; index = 0 }
 
 -- a body's command in a round, as a command of the trace
-abbrev pub round_command : ℕ → RoundOf Part → BodyCmd → Issue
+abbrev pub round_command : ℕ → RoundOf Block → BodyCmd → Issue
 round_command n r (cmd.Aap x y) = IssueAap (round_ref n r x) (round_ref n r y)
 round_command n r (cmd.Ap x) = IssueAp (round_ref n r x)
 
 -- all commands of the rounds
-abbrev pub rounds_commands : ℕ → List (RoundOf Part) → List Issue
+abbrev pub rounds_commands : ℕ → List (RoundOf Block) → List Issue
 rounds_commands n [] = []
-rounds_commands n (r ∷ rs) = map (round_command n r) r.part.cmds ++ rounds_commands n rs
+rounds_commands n (r ∷ rs) = map (round_command n r) r.part.found ++ rounds_commands n rs

@@ -1,47 +1,43 @@
--- Each row that a part's commands name is one of its body's rows, and no state.
-use Rattle.std.proofs.Common.{◌≡◌, ℕ, ◌+◌, ◌<◌, ◌≤◌, true, false, List, [], ◌∷◌}
+-- Each row that a body's commands name is one of its rows, and no state.
+use Rattle.std.proofs.Common.{◌≡◌, ℕ, ◌+◌, ◌<◌, true, false}
 use Rattle.std.proofs.Common.{length, ap, ◌∙◌, arith}
 use Rattle.std.proofs.lemmas.Bool.{ltb-true}
 use Rattle.row_alloc.specs.declared.body.BodyRef.{BodyRef}
 use Rattle.row_alloc.specs.declared.body.BodyRef.TheVariants as ref
 use Rattle.row_alloc.specs.Legal.{is_ref}
 use Rattle.row_alloc.specs.Held.{is_held, is_read}
-use Rattle.loop_ir.specs.declared.ir.Place.{Place}
 use Rattle.loop_ir.specs.Spots.{nth_place, is_state}
-use Rattle.uprog_gen.specs.Code.{Part}
-use Rattle.uprog_gen.specs.Parts.{IsPart}
 use Rattle.loop_ir.specs.States.{row_count, enters}
 use Rattle.uprog_gen.proofs.Rows.States.{held_is}
-
-pub row_few : (ps : List Place) → row_count ps ≤ length ps
-row_few [] = omega arith
-row_few (p ∷ ps) = grind (arith, row_few ps)
+use Rattle.loop_ir.specs.Plain.{Block}
+use Rattle.loop_ir.specs.Limits.{IsSmall}
+use Rattle.uprog_gen.proofs.Bodies.Outs.{row_few, outs_of, own_outs}
 
 -- a write with a row
-pub few : (p : Part) → IsPart p → (j : ℕ) → j < length p.outs
-    → (j < row_count p.block.writes) × (j < length p.block.writes)
-few p part j lj = let l : j < row_count p.block.writes = omega (arith, lj, part.outs.size) in
-    (l, omega (arith, l, row_few p.block.writes))
+pub few : (p : Block) → IsSmall p → (j : ℕ) → j < length (outs_of p)
+    → (j < row_count p.writes) × (j < length p.writes)
+few p small j lj = let l : j < row_count p.writes = omega (arith, lj, (own_outs p small).size) in
+    (l, omega (arith, l, row_few p.writes))
 
 -- the reference is to a row: of an input that is no state, or of one of the first outputs
-abbrev pub IsNamed : Part → BodyRef → Type 0
-IsNamed p (ref.In k) = (k < length p.block.reads)
-    × (is_state (nth_place p.block.reads k).space ≡ false)
-IsNamed p (ref.Out k) = (k < length p.block.writes)
-    × (is_state (nth_place p.block.writes k).space ≡ false)
+abbrev pub IsNamed : Block → BodyRef → Type 0
+IsNamed p (ref.In k) = (k < length p.reads)
+    × (is_state (nth_place p.reads k).space ≡ false)
+IsNamed p (ref.Out k) = (k < length p.writes)
+    × (is_state (nth_place p.writes k).space ≡ false)
 IsNamed p x = Unit {0}
 
-pub named_ref : (p : Part) → IsPart p → (x : BodyRef)
-    → is_ref p.block.graph.inputs (length p.outs) x ≡ true
-    → is_read (enters 0 p.block.reads) x ≡ true → IsNamed p x
-named_ref p part (ref.Out k) h u =
-    let l = few p part k (ltb-true k (length p.outs) h) in (l.1, part.states.first.row k l.0)
-named_ref p part (ref.In k) h u =
+pub named_ref : (p : Block) → IsSmall p → (x : BodyRef)
+    → is_ref p.graph.inputs (length (outs_of p)) x ≡ true
+    → is_read (enters 0 p.reads) x ≡ true → IsNamed p x
+named_ref p small (ref.Out k) h u =
+    let l = few p small k (ltb-true k (length (outs_of p)) h) in (l.1, small.states.first.row k l.0)
+named_ref p small (ref.In k) h u =
     let z : 0 + k ≡ k = omega arith in
-    let l : k < length p.block.reads =
-    omega (arith, ltb-true k p.block.graph.inputs h, part.well.reads) in (
+    let l : k < length p.reads =
+    omega (arith, ltb-true k p.graph.inputs h, small.well.reads) in (
       l,
-      held_is p.block.reads 0 k l ∙ ap (is_held (enters 0 p.block.reads)) z
+      held_is p.reads 0 k l ∙ ap (is_held (enters 0 p.reads)) z
           ∙ grind (arith, u),
     )
-named_ref p part x h u = tt
+named_ref p small x h u = tt

@@ -21,13 +21,13 @@ use Rattle.loop_ir.specs.declared.ir.Space.TheVariants.{Cells}
 use Rattle.loop_ir.specs.Loops.{RoundOf, sub_value}
 use Rattle.loop_ir.specs.Spots.{nth_place, spot_in}
 use Rattle.uprog_gen.specs.Where.{IsSpot, IsBelow}
-use Rattle.uprog_gen.specs.Code.{Part, row_space}
+use Rattle.uprog_gen.specs.Code.{row_space}
 use Rattle.uprog_gen.proofs.Rows.Issued.{round_ref, round_command}
-use Rattle.loop_ir.specs.Limits.{IsRound}
-use Rattle.uprog_gen.proofs.Rows.Rounds.{block_round}
-use Rattle.uprog_gen.specs.Parts.{IsPart}
+use Rattle.loop_ir.specs.Limits.{IsRound, IsSmall}
 use Rattle.loop_ir.specs.States.{enters}
 use Rattle.uprog_gen.proofs.Rows.Named.{IsNamed, named_ref}
+use Rattle.loop_ir.specs.Plain.{Block}
+use Rattle.uprog_gen.proofs.Bodies.Outs.{outs_of}
 
 below_kind : (k : Option Kind) (n i : ℕ) → IsBelow k n i → in_kind k n i ≡ true
 below_kind None n i h = absurd h
@@ -43,23 +43,23 @@ module _ (head : Shape) (n : ℕ) where
   space_range ScratchWord w v h = lt-ltb (w * n + v) (n * head.words) h.1
   space_range Cells w v h = absurd h
 
-  module _ (r : RoundOf Part) (is : IsRound (IsSpot head n) n (block_round r))
-      (part : IsPart r.part) where
+  module _ (r : RoundOf Block) (is : IsRound (IsSpot head n) n r)
+      (small : IsSmall r.part) where
     abbrev inputs : ℕ
-    inputs = r.part.block.graph.inputs
+    inputs = r.part.graph.inputs
 
     abbrev outputs : ℕ
-    outputs = length r.part.outs
+    outputs = length (outs_of r.part)
 
     abbrev enter : List Held
-    enter = enters 0 r.part.block.reads
+    enter = enters 0 r.part.reads
 
     ref_range : (x : BodyRef) → IsNamed r.part x → in_range head n (round_ref n r x) ≡ true
     ref_range (ref.In k) h =
-        let p = nth_place r.part.block.reads k in
+        let p = nth_place r.part.reads k in
         space_range p.space p.which (sub_value n r.i r.o r.regs p.sub) (is.reads k h.0 h.1)
     ref_range (ref.Out k) h =
-        let p = nth_place r.part.block.writes k in
+        let p = nth_place r.part.writes k in
         space_range p.space p.which (sub_value n r.i r.o r.regs p.sub) (is.writes k h.0 h.1)
     ref_range x h = refl
 
@@ -70,11 +70,11 @@ module _ (head : Shape) (n : ℕ) where
         (is_ref inputs outputs y && is_second_ref y) h in
         let v = and_parts (is_read enter x) (is_read enter y) u in
         and_from (in_range head n (round_ref n r x)) (in_range head n (round_ref n r y))
-        (ref_range x (named_ref r.part part x
+        (ref_range x (named_ref r.part small x
         (and_parts (is_ref inputs outputs x) (is_first_ref x) a.0).0 v.0))
-        (ref_range y (named_ref r.part part y
+        (ref_range y (named_ref r.part small y
         (and_parts (is_ref inputs outputs y) (is_second_ref y) a.1).0 v.1))
-    command_range (cmd.Ap x) h u = ref_range x (named_ref r.part part x
+    command_range (cmd.Ap x) h u = ref_range x (named_ref r.part small x
         (and_parts (is_ref inputs outputs x) (is_first_ref x) h).0 u)
 
     pub commands_range : (cs : List BodyCmd) → are_legal inputs outputs cs ≡ true

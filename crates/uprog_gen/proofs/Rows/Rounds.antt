@@ -7,7 +7,6 @@ use Rattle.loop_ir.specs.Plain.{Block}
 use Rattle.loop_ir.specs.Loops.{RoundOf}
 use Rattle.loop_ir.specs.Spots.{Spot, nth_place, nth_spot, IsOwn, is_state}
 use Rattle.uprog_gen.specs.Where.{spot_row, IsSpot}
-use Rattle.uprog_gen.specs.Code.{Part}
 
 -- how the operation's rows lie in a bank: none that it may write shares its row with another, and
 -- all lie below the spill group
@@ -18,14 +17,10 @@ pub record IsLaid (rows : ℕ) (head : Shape) (n : ℕ) (b : Bound) : Type 0 whe
 
 -- the data rows of a round's body, in a bank of so many data rows: what stands in cells is given one
 -- out of the bank
-abbrev pub round_rows : ℕ → Shape → ℕ → Bound → RoundOf Part → Rows
+abbrev pub round_rows : ℕ → Shape → ℕ → Bound → RoundOf Block → Rows
 round_rows rows head n b r = record {
-  input = λ k. if is_state (nth_place r.part.block.reads k).space then rows + 32
-      else spot_row head n b (nth_spot n r.i r.o r.regs r.part.block.reads k);
-  output = λ j. spot_row head n b (nth_spot n r.i r.o r.regs r.part.block.writes j);
+  input = λ k. if is_state (nth_place r.part.reads k).space then rows + 32
+      else spot_row head n b (nth_spot n r.i r.o r.regs r.part.reads k);
+  output = λ j. spot_row head n b (nth_spot n r.i r.o r.regs r.part.writes j);
   spill = λ i. rows - 32 + i;
 }
-
--- the round of the body alone
-abbrev pub block_round : RoundOf Part → RoundOf Block
-block_round r = record { part = r.part.block; i = r.i; o = r.o; regs = r.regs }

@@ -20,7 +20,7 @@ use Rattle.loop_ir.specs.Loops.{sub_value, rounds_in}
 use Rattle.loop_ir.specs.Limits.{is_in_register, stays_in_registers}
 use Rattle.loop_ir.specs.Spots.{nth_place}
 use Rattle.loop_laws.proofs.FlowRounds.{run_all}
-use Rattle.uprog_gen.specs.Code.{Part, register, body_uops}
+use Rattle.uprog_gen.specs.Code.{register}
 use Rattle.uprog_gen.specs.FlowCode.{code_of, size}
 use Rattle.uprog_gen.proofs.Coding.FlowSizes.{limit, twice}
 use Rattle.uprog_gen.proofs.Rows.Issued.{round_command, rounds_commands}
@@ -56,9 +56,9 @@ there_back [] ys h k =
     there_front ys [] (subst (λ l. are_there l ≡ true) (sym (append-nil ys)) h) k
 there_back (x ∷ xs) ys h k = there_back xs ys (grind (arith, h)) k
 
--- so it is in a part
-abbrev pub Stays : Part → Type 0
-Stays p = stays_in_registers (λ r. true) p.block ≡ true
+-- so it is in a body
+abbrev pub Stays : Block → Type 0
+Stays p = stays_in_registers (λ r. true) p ≡ true
 
 named : (n : ℕ) (b : Block) (g h : List ℕ) → stays_in_registers (λ r. true) b ≡ true → Alike g h
     → Names n b g h
@@ -71,23 +71,23 @@ named n b g h stays a = record {
 
 module _ (head : Shape) (code : List Uop) (n : ℕ) where
   -- the commands of a flow's body
-  abbrev issued_by : Part → List ℕ → List Issue
-  issued_by p g = map (round_command n (record { part = p; i = 0; o = 0; regs = g })) p.cmds
+  abbrev issued_by : Block → List ℕ → List Issue
+  issued_by p g = map (round_command n (record { part = p; i = 0; o = 0; regs = g })) p.found
 
-  issues_rounds : (es : List (EventOf Part))
-      → issues head Part body_uops issued_by n code es ≡ rounds_commands n (rounds_in es)
+  issues_rounds : (es : List (EventOf Block))
+      → issues head issued_by n code es ≡ rounds_commands n (rounds_in es)
   unfolding issues
   issues_rounds [] = refl
   issues_rounds (Done p g ∷ es) = ap (λ l. issued_by p g ++ l) (issues_rounds es)
   issues_rounds (Moved m g ∷ es) = issues_rounds es
   issues_rounds (Counted r g ∷ es) = issues_rounds es
 
-  fine : (es : List (EventOf Part)) → AllByRecursion (InRange head n) (rounds_in es)
+  fine : (es : List (EventOf Block)) → AllByRecursion (InRange head n) (rounds_in es)
       → AllByRecursion (λ r. Stays r.part) (rounds_in es) → list_all (is_event_safe n) es ≡ true
-      → AllByRecursion (IsFine head Part body_uops issued_by n code) es
+      → AllByRecursion (IsFine head issued_by n code) es
   fine [] ok stays safe = tt
   fine (Done p g ∷ es) ok stays safe = (
-    λ h pc a has. run_body head code n p g (Alike g) p.cmds pc h (named n p.block g h stays.0 a) a has
+    λ h pc a has. run_body head code n p g (Alike g) p.found pc h (named n p g h stays.0 a) a has
         ok.0,
     fine es ok.1 stays.1 safe,
   )
@@ -97,22 +97,22 @@ module _ (head : Shape) (code : List Uop) (n : ℕ) where
       (grind (arith, safe), fine es ok stays (grind (arith, safe)))
 
 -- the code of the flow can run from these registers
-pub record CanRun (head : Shape) (n : ℕ) (f : FlowOf Part) (g : List ℕ) : Type 0 where
+pub record CanRun (head : Shape) (n : ℕ) (f : FlowOf Block) (g : List ℕ) : Type 0 where
   pub counts : counts f ≡ true
   pub nests : nests 2 f ≡ true
   pub stays : AllFlow Stays f
   pub safe : list_all (is_event_safe n) (run n f g).events ≡ true
   pub ranges : AllByRecursion (InRange head n) (rounds_in (run n f g).events)
 
-pub run_flow : (head : Shape) (code : List Uop) (n : ℕ) → n ≤ WIDTH_MAX → (f : FlowOf Part)
-    (pc : ℕ) (g regs : List ℕ) → CanRun head n f g → size body_uops f ≤ 4096 → Alike g regs
-    → HasAt code pc (code_of body_uops f pc)
-    → Runs head code n pc regs ((WIDTH_MAX * WIDTH_MAX - 1) * size body_uops f)
-    (rounds_commands n (rounds_in (run n f g).events)) (pc + size body_uops f)
+pub run_flow : (head : Shape) (code : List Uop) (n : ℕ) → n ≤ WIDTH_MAX → (f : FlowOf Block)
+    (pc : ℕ) (g regs : List ℕ) → CanRun head n f g → size f ≤ 4096 → Alike g regs
+    → HasAt code pc (code_of f pc)
+    → Runs head code n pc regs ((WIDTH_MAX * WIDTH_MAX - 1) * size f)
+    (rounds_commands n (rounds_in (run n f g).events)) (pc + size f)
     (Alike (run n f g).regs)
 run_flow head code n small f pc g regs can short a has =
     let es = (run n f g).events in
-    run_more head code n _ _ _ (limit body_uops n f) _ _ _
-    (twice Part body_uops n small f can.nests short) (rw (sym (issues_rounds head code n es))
-    (flow_runs head Part body_uops (issued_by head code n) n code f pc g regs can.counts a has
-    (fine head code n es can.ranges (run_all Part Stays n f can.stays g) can.safe)))
+    run_more head code n _ _ _ (limit n f) _ _ _
+    (twice n small f can.nests short) (rw (sym (issues_rounds head code n es))
+    (flow_runs head (issued_by head code n) n code f pc g regs can.counts a has
+    (fine head code n es can.ranges (run_all Block Stays n f can.stays g) can.safe)))

@@ -20,6 +20,8 @@ use Rattle.loop_ir.specs.Flows.TurnsOf.{Last, Turn}
 use Rattle.loop_ir.specs.Flows.EventOf.{Done, Moved, Counted}
 use Rattle.loop_ir.specs.FlowTests.{is_safe, target, is_low, keeps}
 use Rattle.loop_ir.specs.FlowTests.{all_keep, counts, all_count}
+use Rattle.loop_ir.specs.Plain.{Block}
+use Rattle.uprog_gen.specs.Code.{body_uops}
 use Rattle.uprog_gen.specs.FlowCode.{uop_of, leave, size, turns_size, code_of, turns_code}
 use Rattle.uprog_gen.proofs.Coding.FlowSizes.{limit, turns_limit, code_long, turns_long}
 use Rattle.uprog_gen.proofs.Running.Goes.{HasAt, has_front, has_back}
@@ -128,16 +130,15 @@ module _ (A : Type 0) (n r : ℕ) where
     kept_turns (Last x) h = kept x h
     kept_turns (Turn x ts) h = (kept x (grind (arith, h)), kept_turns ts (grind (arith, h)))
 
-module _ (head : Shape) (A : Type 0) (u : A → List Uop) (cmds : A → List ℕ → List Issue)
-    (n : ℕ) (code : List Uop) where
+module _ (head : Shape) (cmds : Block → List ℕ → List Issue) (n : ℕ) (code : List Uop) where
   -- what the rounds issue
-  unfoldable pub issues : List (EventOf A) → List Issue
+  unfoldable pub issues : List (EventOf Block) → List Issue
   issues [] = []
   issues (Done b g ∷ rs) = cmds b g ++ issues rs
   issues (Moved m g ∷ rs) = issues rs
   issues (Counted r g ∷ rs) = issues rs
 
-  issues_append : (rs ss : List (EventOf A)) → issues (rs ++ ss) ≡ issues rs ++ issues ss
+  issues_append : (rs ss : List (EventOf Block)) → issues (rs ++ ss) ≡ issues rs ++ issues ss
   unfolding issues
   issues_append [] ss = refl
   issues_append (Done b g ∷ rs) ss = ap (λ l. cmds b g ++ l) (issues_append rs ss)
@@ -155,19 +156,19 @@ module _ (head : Shape) (A : Type 0) (u : A → List Uop) (cmds : A → List ℕ
   }
 
   -- the body's code does it, the move is safe, and the loop has at most n rounds
-  abbrev pub IsFine : EventOf A → Type 0
-  IsFine (Done b g) = (h : List ℕ) (pc : ℕ) → Alike g h → HasAt code pc (u b)
-      → Runs head code n pc h (length (u b)) (cmds b g) (pc + length (u b)) (Alike g)
+  abbrev pub IsFine : EventOf Block → Type 0
+  IsFine (Done b g) = (h : List ℕ) (pc : ℕ) → Alike g h → HasAt code pc (body_uops b)
+      → Runs head code n pc h (length (body_uops b)) (cmds b g) (pc + length (body_uops b)) (Alike g)
   IsFine (Moved m g) = is_safe m g ≡ true
   IsFine (Counted r g) = slice_index g r ≤ n
 
-  abbrev Goal : FlowOf A → Type 0
-  Goal f = (pc : ℕ) (g h : List ℕ) → counts f ≡ true → Alike g h → HasAt code pc (code_of u f pc)
+  abbrev Goal : FlowOf Block → Type 0
+  Goal f = (pc : ℕ) (g h : List ℕ) → counts f ≡ true → Alike g h → HasAt code pc (code_of f pc)
       → AllByRecursion IsFine (run n f g).events
-      → Runs head code n pc h (limit u n f) (issues (run n f g).events) (pc + size u f)
+      → Runs head code n pc h (limit n f) (issues (run n f g).events) (pc + size f)
       (Alike (run n f g).regs)
 
-  abbrev AllGoal : TurnsOf A → Type 0
+  abbrev AllGoal : TurnsOf Block → Type 0
   AllGoal (Last x) = Goal x
   AllGoal (Turn x ts) = Goal x × AllGoal ts
 
@@ -230,7 +231,7 @@ module _ (head : Shape) (A : Type 0) (u : A → List Uop) (cmds : A → List ℕ
       run_at head code n _ _ _ _ _ _ _ e (run_more head code n _ _ _ _ _ _ _ le a)
 
   -- one after the other
-  seq : (pc mid end j k : ℕ) (h : List ℕ) (rs ss : List (EventOf A)) (I J : List ℕ → Type 0)
+  seq : (pc mid end j k : ℕ) (h : List ℕ) (rs ss : List (EventOf Block)) (I J : List ℕ → Type 0)
       → Runs head code n pc h j (issues rs) mid I
       → ((x : List ℕ) → I x → Runs head code n mid x k (issues ss) end J)
       → Runs head code n pc h (j + k) (issues (rs ++ ss)) end J
@@ -249,71 +250,71 @@ module _ (head : Shape) (A : Type 0) (u : A → List Uop) (cmds : A → List ℕ
   unfolding issues
   end_case pc g h c a has ok = run_none head code n pc (pc + 0) h (Alike g) (omega arith) a
 
-  do_case : (b : A) (k : FlowOf A) → Goal k → Goal (Do b k)
+  do_case : (b : Block) (k : FlowOf Block) → Goal k → Goal (Do b k)
   unfolding issues
   do_case b k gk pc g h c a has ok =
-      let l = length (u b) in
-      let e : pc + l + size u k ≡ pc + (l + size u k) = omega arith in
+      let l = length (body_uops b) in
+      let e : pc + l + size k ≡ pc + (l + size k) = omega arith in
       run_at head code n _ _ _ _ _ _ _ e (run_then head code n _ _ _ _ _ _ _ _ _ _ _ refl
-      (ok.0 h pc a (has_front code pc (u b) (code_of u k (pc + l)) has))
-      (λ x ax. gk (pc + l) g x c ax (has_back code pc (u b) (code_of u k (pc + l)) has) ok.1))
+      (ok.0 h pc a (has_front code pc (body_uops b) (code_of k (pc + l)) has))
+      (λ x ax. gk (pc + l) g x c ax (has_back code pc (body_uops b) (code_of k (pc + l)) has) ok.1))
 
-  put_case : (m : Move) (k : FlowOf A) → Goal k → Goal (Put m k)
+  put_case : (m : Move) (k : FlowOf Block) → Goal k → Goal (Put m k)
   unfolding issues
   put_case m k gk pc g h c a has ok =
-      let e : pc + 1 + size u k ≡ pc + (1 + size u k) = omega arith in
+      let e : pc + 1 + size k ≡ pc + (1 + size k) = omega arith in
       run_at head code n _ _ _ _ _ _ _ e (run_then head code n _ _ _ _ _ _ _ [] _ _ _ refl
       (move_runs m pc g h (grind (arith, c)) a has.0 ok.0)
       (λ x ax. gk (pc + 1) (moved n m g) x (grind (arith, c)) ax has.1 ok.1))
 
-  if_case : (r : ℕ) (x y k : FlowOf A) → Goal x → Goal y → Goal k → Goal (If r x y k)
+  if_case : (r : ℕ) (x y k : FlowOf Block) → Goal x → Goal y → Goal k → Goal (If r x y k)
   unfolding issues
   if_case r x y k gx gy gk pc g h c a has ok =
       by (slice_index g r == 0) refl (grind (arith, c)) (grind (arith, c)) (grind (arith, c))
       (grind (arith, c)) ok
     where
       cy : List Uop
-      cy = code_of u y (pc + 1)
+      cy = code_of y (pc + 1)
 
       at_x : ℕ
-      at_x = pc + 1 + size u y + 2
+      at_x = pc + 1 + size y + 2
 
       cx : List Uop
-      cx = code_of u x at_x
+      cx = code_of x at_x
 
       end : ℕ
-      end = at_x + size u x
+      end = at_x + size x
 
       ck : List Uop
-      ck = code_of u k end
+      ck = code_of k end
 
       has_y : HasAt code (pc + 1) cy
       has_y = has_front code (pc + 1) cy (leave end ++ (cx ++ ck)) has.1
 
-      has_more : HasAt code (pc + 1 + size u y) (leave end ++ (cx ++ ck))
-      has_more = subst (λ l. HasAt code (pc + 1 + l) (leave end ++ (cx ++ ck))) (code_long A u y (pc + 1))
+      has_more : HasAt code (pc + 1 + size y) (leave end ++ (cx ++ ck))
+      has_more = subst (λ l. HasAt code (pc + 1 + l) (leave end ++ (cx ++ ck))) (code_long y (pc + 1))
           (has_back code (pc + 1) cy (leave end ++ (cx ++ ck)) has.1)
 
       has_rest : HasAt code at_x (cx ++ ck)
-      has_rest = let e : pc + 1 + size u y + 1 + 1 ≡ at_x = omega arith in
+      has_rest = let e : pc + 1 + size y + 1 + 1 ≡ at_x = omega arith in
           subst (λ l. HasAt code l (cx ++ ck)) e has_more.1.1
 
       has_k : HasAt code end ck
-      has_k = subst (λ l. HasAt code (at_x + l) ck) (code_long A u x at_x)
+      has_k = subst (λ l. HasAt code (at_x + l) ck) (code_long x at_x)
           (has_back code at_x cx ck has_rest)
 
-      way : Bool → RunOf A
+      way : Bool → RunOf Block
       way b = cond b (run n y g) (run n x g)
 
       by : (b : Bool) → (slice_index g r == 0) ≡ b → r < 7 → counts x ≡ true → counts y ≡ true
           → counts k ≡ true → AllByRecursion IsFine ((way b).events ++ (run n k (way b).regs).events)
-          → Runs head code n pc h (limit u n (If r x y k))
-          (issues ((way b).events ++ (run n k (way b).regs).events)) (pc + size u (If r x y k)) (Alike (run n k (way b).regs).regs)
+          → Runs head code n pc h (limit n (If r x y k))
+          (issues ((way b).events ++ (run n k (way b).regs).events)) (pc + size (If r x y k)) (Alike (run n k (way b).regs).regs)
       by true e lt nx ny nk ok =
           let ry = run n y g in
           let rk = run n k ry.regs in
-          let mid = pc + 1 + size u y in
-          run_fit _ (1 + (limit u n y + 2) + limit u n k) (end + size u k) _ (omega arith)
+          let mid = pc + 1 + size y in
+          run_fit _ (1 + (limit n y + 2) + limit n k) (end + size k) _ (omega arith)
           (omega arith) (seq _ end _ _ _ _ ry.events rk.events _ _
           (run_then head code n _ _ _ _ _ _ _ [] _ _ _ refl
           (run_jump head code n pc r at_x h true (Alike g) has.0 (ap (λ v. v == 0) (a.same r lt) ∙ e) a)
@@ -325,7 +326,7 @@ module _ (head : Shape) (A : Type 0) (u : A → List Uop) (cmds : A → List ℕ
       by false e lt nx ny nk ok =
           let rx = run n x g in
           let rk = run n k rx.regs in
-          run_fit _ (1 + limit u n x + limit u n k) (end + size u k) _ (omega arith) (omega arith)
+          run_fit _ (1 + limit n x + limit n k) (end + size k) _ (omega arith) (omega arith)
           (seq _ end _ _ _ _ rx.events rk.events _ _
           (run_then head code n _ _ _ _ _ _ _ [] _ _ _ refl
           (run_jump head code n pc r at_x h false (Alike g) has.0 (ap (λ v. v == 0) (a.same r lt) ∙ e) a)
@@ -334,38 +335,38 @@ module _ (head : Shape) (A : Type 0) (u : A → List Uop) (cmds : A → List ℕ
           (λ z az. gk end rx.regs z nk az has_k (back_all IsFine rx.events rk.events ok)))
 
   -- a loop's turns, where its code ends at a place
-  module _ (r top out end : ℕ) (all : TurnsOf A) (lt : r < 7) (keep : all_keep r all ≡ true)
-      (ends : top + turns_size u all ≡ end) (has_out : HasAt code out (leave end))
-      (has_all : HasAt code top (turns_code u r top out all top)) where
+  module _ (r top out end : ℕ) (all : TurnsOf Block) (lt : r < 7) (keep : all_keep r all ≡ true)
+      (ends : top + turns_size all ≡ end) (has_out : HasAt code out (leave end))
+      (has_all : HasAt code top (turns_code r top out all top)) where
     abbrev Most : ℕ
-    Most = turns_limit u n all
+    Most = turns_limit n all
 
     -- what is left of the loop
-    abbrev rest : TurnsOf A → ℕ → List ℕ → RunOf A
+    abbrev rest : TurnsOf Block → ℕ → List ℕ → RunOf Block
     rest ts m g = cycle r (acts n all) (acts n ts) m g
 
     -- one turn, and then what comes from its test on
-    turn_then : (x : FlowOf A) (m pc l most : ℕ) (g h : List ℕ) (rest : List Uop) (more : RunOf A)
+    turn_then : (x : FlowOf Block) (m pc l most : ℕ) (g h : List ℕ) (rest : List Uop) (more : RunOf Block)
         → Goal x → counts x ≡ true → slice_index g r ≡ suc m → Alike g h
-        → HasAt code pc (uop.SubI r 1 ∷ (code_of u x (pc + 1) ++ rest))
+        → HasAt code pc (uop.SubI r 1 ∷ (code_of x (pc + 1) ++ rest))
         → AllByRecursion IsFine ((run n x (slice_set g r m)).events ++ more.events)
-        → 1 + limit u n x + l ≤ most
-        → (HasAt code (pc + 1 + size u x) rest → AllByRecursion IsFine more.events
+        → 1 + limit n x + l ≤ most
+        → (HasAt code (pc + 1 + size x) rest → AllByRecursion IsFine more.events
         → (z : List ℕ) → Alike (run n x (slice_set g r m)).regs z
-        → Runs head code n (pc + 1 + size u x) z l (issues more.events) end (Alike more.regs))
+        → Runs head code n (pc + 1 + size x) z l (issues more.events) end (Alike more.regs))
         → Runs head code n pc h most (issues ((run n x (slice_set g r m)).events ++ more.events))
         end (Alike more.regs)
     turn_then x m pc l most g h rest more gx c is a has ok few then =
         let less : slice_index g r - 1 ≡ m = omega (arith, is) in
         let s = slice_set g r m in
         let rx = run n x s in
-        let q = pc + 1 + size u x in
-        let cx = code_of u x (pc + 1) in
+        let q = pc + 1 + size x in
+        let cx = code_of x (pc + 1) in
         let fine = back_all IsFine rx.events more.events ok in
-        let test = subst (λ k. HasAt code (pc + 1 + k) rest) (code_long A u x (pc + 1))
+        let test = subst (λ k. HasAt code (pc + 1 + k) rest) (code_long x (pc + 1))
         (has_back code (pc + 1) cx rest has.1) in
         run_more head code n _ _ _ _ _ _ _ few
-        (seq _ q _ (1 + limit u n x) l _ rx.events more.events _ _
+        (seq _ q _ (1 + limit n x) l _ rx.events more.events _ _
         (run_then head code n _ _ _ _ _ _ _ [] _ _ _ refl
         (subst (λ v. Runs head code n pc h 1 [] (pc + 1) (Alike (slice_set g r v))) less
         (sub_runs pc r 1 g h lt a has.0 (omega (arith, is))))
@@ -374,47 +375,47 @@ module _ (head : Shape) (A : Type 0) (u : A → List Uop) (cmds : A → List ℕ
         (then test fine))
 
     -- after a turn the register holds how many come
-    left_is : (x : FlowOf A) (m : ℕ) (g h : List ℕ) → keeps r x ≡ true → Alike g h
+    left_is : (x : FlowOf Block) (m : ℕ) (g h : List ℕ) → keeps r x ≡ true → Alike g h
         → slice_index (run n x (slice_set g r m)).regs r ≡ m
-    left_is x m g h k a = kept A n r x k (slice_set g r m)
+    left_is x m g h k a = kept Block n r x k (slice_set g r m)
         ∙ get_or-set_same g r m 0 (omega (arith, lt, a.flow))
 
     -- what stands behind a turn that is not the last
-    abbrev after : FlowOf A → TurnsOf A → ℕ → List Uop
-    after x ts pc = let q = pc + 1 + size u x in
-        uop.Bnez r (q + 1 + 2) ∷ (leave out ++ turns_code u r top out ts (q + 1 + 2))
+    abbrev after : FlowOf Block → TurnsOf Block → ℕ → List Uop
+    after x ts pc = let q = pc + 1 + size x in
+        uop.Bnez r (q + 1 + 2) ∷ (leave out ++ turns_code r top out ts (q + 1 + 2))
 
-    cycle_runs : (m : ℕ) (ts : TurnsOf A) (pc : ℕ) (g h : List ℕ) → AllGoal ts → AllGoal all
+    cycle_runs : (m : ℕ) (ts : TurnsOf Block) (pc : ℕ) (g h : List ℕ) → AllGoal ts → AllGoal all
         → all_keep r ts ≡ true → all_count ts ≡ true → all_count all ≡ true
-        → turns_limit u n ts ≤ Most → slice_index g r ≡ suc m → Alike g h
-        → HasAt code pc (turns_code u r top out ts pc) → pc + turns_size u ts ≡ end
+        → turns_limit n ts ≤ Most → slice_index g r ≡ suc m → Alike g h
+        → HasAt code pc (turns_code r top out ts pc) → pc + turns_size ts ≡ end
         → AllByRecursion IsFine (rest ts (suc m) g).events
         → Runs head code n pc h (suc m * Most + 2) (issues (rest ts (suc m) g).events) end
         (Alike (rest ts (suc m) g).regs)
     unfolding issues
     cycle_runs zero (Last x) pc g h gs ga ks cs ca most is a has at_end ok =
-        let q = pc + 1 + size u x in
-        let more : RunOf A = nothing (run n x (slice_set g r 0)).regs in
+        let q = pc + 1 + size x in
+        let more : RunOf Block = nothing (run n x (slice_set g r 0)).regs in
         let past : q + 1 ≡ end = omega (arith, at_end) in
         turn_then x 0 pc 1 _ g h (uop.Bnez r top ∷ []) more gs cs is a has ok (omega (arith, most))
         (λ test fine z az. run_at head code n _ _ _ _ _ _ _ past
         (run_jump head code n q r top z true (Alike more.regs) test.0
         (ap (λ v. v == 0) (az.same r lt ∙ left_is x 0 g h ks a)) az))
     cycle_runs (suc m) (Last x) pc g h gs ga ks cs ca most is a has at_end ok =
-        let q = pc + 1 + size u x in
+        let q = pc + 1 + size x in
         let rx = run n x (slice_set g r (suc m)) in
         let more = rest all (suc m) rx.regs in
         turn_then x (suc m) pc (1 + (suc m * Most + 2)) _ g h (uop.Bnez r top ∷ []) more gs cs is a
         has ok
-        (two_more (suc m) Most (2 + limit u n x) _ most (omega arith))
+        (two_more (suc m) Most (2 + limit n x) _ most (omega arith))
         (λ test fine z az. run_then head code n _ _ _ _ _ _ _ [] _ _ _ refl
         (run_jump head code n q r top z false (Alike rx.regs) test.0
         (ap (λ v. v == 0) (az.same r lt ∙ left_is x (suc m) g h ks a) ∙ not_zero m) az)
         (λ w aw. cycle_runs m all top rx.regs w ga ga keep ca ca (omega arith)
         (left_is x (suc m) g h ks a) aw has_all ends fine))
     cycle_runs zero (Turn x ts) pc g h gs ga ks cs ca most is a has at_end ok =
-        let q = pc + 1 + size u x in
-        let more : RunOf A = nothing (run n x (slice_set g r 0)).regs in
+        let q = pc + 1 + size x in
+        let more : RunOf Block = nothing (run n x (slice_set g r 0)).regs in
         turn_then x 0 pc (1 + (2 + 2)) _ g h (after x ts pc) more gs.0 (grind (arith, cs)) is a
         has ok (omega (arith, most))
         (λ test fine z az. run_then head code n _ _ _ 1 (2 + 2) _ _ [] [] _ _ refl
@@ -422,10 +423,10 @@ module _ (head : Shape) (A : Type 0) (u : A → List Uop) (cmds : A → List ℕ
         (ap (λ v. v == 0) (az.same r lt ∙ left_is x 0 g h (grind (arith, ks)) a)) az)
         (λ w aw. run_then head code n _ _ _ 2 2 _ _ [] [] _ _ refl
         (leave_runs (q + 1) out more.regs w aw (has_front code (q + 1) (leave out)
-        (turns_code u r top out ts (q + 1 + 2)) test.1))
+        (turns_code r top out ts (q + 1 + 2)) test.1))
         (λ v av. leave_runs out end more.regs v av has_out)))
     cycle_runs (suc m) (Turn x ts) pc g h gs ga ks cs ca most is a has at_end ok =
-        let q = pc + 1 + size u x in
+        let q = pc + 1 + size x in
         let rx = run n x (slice_set g r (suc m)) in
         let more = rest ts (suc m) rx.regs in
         let up : q + 1 + 1 + 1 ≡ q + 1 + 2 = omega arith in
@@ -435,16 +436,16 @@ module _ (head : Shape) (A : Type 0) (u : A → List Uop) (cmds : A → List ℕ
         rx.regs).events)) same ok in
         rw same (turn_then x (suc m) pc (1 + (suc m * Most + 2)) _ g h (after x ts pc) more gs.0
         (grind (arith, cs)) is a has fine
-        (two_more (suc m) Most (2 + limit u n x) _ (omega (arith, most)) (omega arith))
+        (two_more (suc m) Most (2 + limit n x) _ (omega (arith, most)) (omega arith))
         (λ test fine z az. run_then head code n _ _ _ _ _ _ _ [] _ _ _ refl
         (run_jump head code n q r (q + 1 + 2) z false (Alike rx.regs) test.0
         (ap (λ v. v == 0) (az.same r lt ∙ left) ∙ not_zero m) az)
         (λ w aw. cycle_runs m ts (q + 1 + 2) rx.regs w gs.1 ga (grind (arith, ks))
         (grind (arith, cs)) ca (omega (arith, most)) left aw
-        (subst (λ l. HasAt code l (turns_code u r top out ts (q + 1 + 2))) up test.1.1.1)
+        (subst (λ l. HasAt code l (turns_code r top out ts (q + 1 + 2))) up test.1.1.1)
         (omega (arith, at_end)) fine)))
 
-  loop_case : (r : ℕ) (ts : TurnsOf A) (k : FlowOf A) → AllGoal ts → Goal k → Goal (Loop r ts k)
+  loop_case : (r : ℕ) (ts : TurnsOf Block) (k : FlowOf Block) → AllGoal ts → Goal k → Goal (Loop r ts k)
   unfolding issues
   loop_case r ts k gt gk pc g h c a has ok =
       by (slice_index g r) refl (grind (arith, c)) (grind (arith, c)) (grind (arith, c))
@@ -454,35 +455,35 @@ module _ (head : Shape) (A : Type 0) (u : A → List Uop) (cmds : A → List ℕ
       top = pc + 1 + 2
 
       end : ℕ
-      end = top + turns_size u ts
+      end = top + turns_size ts
 
       ct : List Uop
-      ct = turns_code u r top (pc + 1) ts top
+      ct = turns_code r top (pc + 1) ts top
 
       ck : List Uop
-      ck = code_of u k end
+      ck = code_of k end
 
       has_rest : HasAt code top (ct ++ ck)
       has_rest = let e : pc + 1 + 1 + 1 ≡ top = omega arith in
           subst (λ l. HasAt code l (ct ++ ck)) e has.1.1.1
 
       has_k : HasAt code end ck
-      has_k = subst (λ l. HasAt code (top + l) ck) (turns_long A u r top (pc + 1) ts top)
+      has_k = subst (λ l. HasAt code (top + l) ck) (turns_long r top (pc + 1) ts top)
           (has_back code top ct ck has_rest)
 
       has_leave : HasAt code (pc + 1) (leave end)
       has_leave = has_front code (pc + 1) (leave end) (ct ++ ck) has.1
 
-      rest_of : ℕ → RunOf A
+      rest_of : ℕ → RunOf Block
       rest_of m = cycle r (acts n ts) (acts n ts) m g
 
       by : (m : ℕ) → slice_index g r ≡ m → r < 7 → all_keep r ts ≡ true → all_count ts ≡ true
           → counts k ≡ true → slice_index g r ≤ n
           → AllByRecursion IsFine ((rest_of m).events ++ (run n k (rest_of m).regs).events)
-          → Runs head code n pc h (limit u n (Loop r ts k))
-          (issues ((rest_of m).events ++ (run n k (rest_of m).regs).events)) (pc + size u (Loop r ts k)) (Alike (run n k (rest_of m).regs).regs)
+          → Runs head code n pc h (limit n (Loop r ts k))
+          (issues ((rest_of m).events ++ (run n k (rest_of m).regs).events)) (pc + size (Loop r ts k)) (Alike (run n k (rest_of m).regs).regs)
       by zero e lt kt nt nk le ok =
-          run_fit _ (3 + limit u n k) (end + size u k) _ (omega arith) (omega arith)
+          run_fit _ (3 + limit n k) (end + size k) _ (omega arith) (omega arith)
           (run_then head code n _ end _ 3 _ _ _ [] _ _ _ refl
           (run_then head code n _ _ _ 1 2 3 _ [] [] _ _ refl
           (run_jump head code n pc r top h true (Alike g) has.0 (ap (λ v. v == 0) (a.same r lt ∙ e)) a)
@@ -491,9 +492,9 @@ module _ (head : Shape) (A : Type 0) (u : A → List Uop) (cmds : A → List ℕ
       by (suc m) e lt kt nt nk le ok =
           let rt = rest_of (suc m) in
           let rk = run n k rt.regs in
-          let most = turns_limit u n ts in
+          let most = turns_limit n ts in
           let fits : suc m * most ≤ n * most = mul-le-mul_right most (omega (arith, e, le)) in
-          run_fit _ (1 + (suc m * most + 2) + limit u n k) (end + size u k) _ (omega (arith, fits))
+          run_fit _ (1 + (suc m * most + 2) + limit n k) (end + size k) _ (omega (arith, fits))
           (omega arith) (seq _ end _ _ _ _ rt.events rk.events _ _
           (run_then head code n _ _ _ _ _ _ _ [] _ _ _ refl
           (run_jump head code n pc r top h false (Alike g) has.0
@@ -506,13 +507,13 @@ module _ (head : Shape) (A : Type 0) (u : A → List Uop) (cmds : A → List ℕ
   mutual
     unfolding issues
 
-    pub flow_runs : (f : FlowOf A) → Goal f
+    pub flow_runs : (f : FlowOf Block) → Goal f
     flow_runs End = end_case
     flow_runs (Do b k) = do_case b k (flow_runs k)
     flow_runs (Put m k) = put_case m k (flow_runs k)
     flow_runs (If r x y k) = if_case r x y k (flow_runs x) (flow_runs y) (flow_runs k)
     flow_runs (Loop r ts k) = loop_case r ts k (turns_run ts) (flow_runs k)
 
-    turns_run : (ts : TurnsOf A) → AllGoal ts
+    turns_run : (ts : TurnsOf Block) → AllGoal ts
     turns_run (Last x) = flow_runs x
     turns_run (Turn x ts) = (flow_runs x, turns_run ts)

@@ -18,7 +18,7 @@ use Rattle.loop_ir.specs.declared.ir.Space.TheVariants.{ScratchBit, Cells}
 use Rattle.loop_ir.specs.Plain.{Block}
 use Rattle.loop_ir.specs.Loops.{RoundOf, sub_value}
 use Rattle.loop_ir.specs.Spots.{nth_place}
-use Rattle.uprog_gen.specs.Code.{Part, row_space, register, place_ref, code_ref, code_uop}
+use Rattle.uprog_gen.specs.Code.{row_space, register, place_ref, code_ref, code_uop}
 use Rattle.uprog_gen.proofs.Rows.Issued.{place_row, round_ref, round_command}
 use Rattle.uprog_gen.proofs.Running.Runs.{Runs, run_then, run_none, run_at}
 
@@ -30,9 +30,9 @@ pub record Names (n : ℕ) (b : Block) (g regs : List ℕ) : Type 0 where
       ≡ sub_value n 0 0 g (nth_place b.writes k).sub
 
 -- the round's commands are in range
-abbrev pub InRange : Shape → ℕ → RoundOf Part → Type 0
+abbrev pub InRange : Shape → ℕ → RoundOf Block → Type 0
 InRange head n r = AllByRecursion (λ c. all_in_range head n c ≡ true)
-    (map (round_command n r) r.part.cmds)
+    (map (round_command n r) r.part.found)
 
 module _ (head : Shape) (code : List Uop) (n : ℕ) where
   row_is : (s : Space) (w : ℕ) (u : Sub) (g regs : List ℕ)
@@ -43,15 +43,15 @@ module _ (head : Shape) (code : List Uop) (n : ℕ) where
   row_is Cells w u g regs e = refl
   row_is s w u g regs e = ap (λ x. record { space = row_space s; which = w; index = x }) e
 
-  module _ (p : Part) (at : List ℕ) where
-    abbrev here : RoundOf Part
+  module _ (p : Block) (at : List ℕ) where
+    abbrev here : RoundOf Block
     here = record { part = p; i = 0; o = 0; regs = at }
 
-    ref_is : (x : BodyRef) (regs : List ℕ) → Names n p.block at regs
-        → row_at regs (code_ref p.block x) ≡ round_ref n here x
-    ref_is (ref.In k) regs g = let q = nth_place p.block.reads k in
+    ref_is : (x : BodyRef) (regs : List ℕ) → Names n p at regs
+        → row_at regs (code_ref p x) ≡ round_ref n here x
+    ref_is (ref.In k) regs g = let q = nth_place p.reads k in
         row_is q.space q.which q.sub at regs (g.reads k)
-    ref_is (ref.Out k) regs g = let q = nth_place p.block.writes k in
+    ref_is (ref.Out k) regs g = let q = nth_place p.writes k in
         row_is q.space q.which q.sub at regs (g.writes k)
     ref_is x regs g = refl
 
@@ -59,33 +59,33 @@ module _ (head : Shape) (code : List Uop) (n : ℕ) where
         → issued head n i pc t ≡ onto (c ∷ []) t
     issues_it i c e ok pc t = rw (e, ok) refl
 
-    goes_command : (c : BodyCmd) (pc : ℕ) (regs : List ℕ) → Names n p.block at regs
-        → slice_get code pc ≡ Some (code_uop p.block c)
+    goes_command : (c : BodyCmd) (pc : ℕ) (regs : List ℕ) → Names n p at regs
+        → slice_get code pc ≡ Some (code_uop p c)
         → all_in_range head n (round_command n here c) ≡ true → (all rest : ℕ)
         → all ≡ 1 + rest → issue head code n all pc regs
         ≡ onto (round_command n here c ∷ []) (issue head code n rest (pc + 1) regs)
     goes_command (cmd.Aap x y) pc regs g has ok all rest e =
-        one head code n pc regs (code_uop p.block (cmd.Aap x y)) has all rest e
-        ∙ issues_it (IssueAap (row_at regs (code_ref p.block x)) (row_at regs (code_ref p.block y)))
+        one head code n pc regs (code_uop p (cmd.Aap x y)) has all rest e
+        ∙ issues_it (IssueAap (row_at regs (code_ref p x)) (row_at regs (code_ref p y)))
         (round_command n here (cmd.Aap x y)) (rw (ref_is x regs g, ref_is y regs g) refl) ok pc _
     goes_command (cmd.Ap x) pc regs g has ok all rest e =
-        one head code n pc regs (code_uop p.block (cmd.Ap x)) has all rest e
-        ∙ issues_it (IssueAp (row_at regs (code_ref p.block x))) (round_command n here (cmd.Ap x))
+        one head code n pc regs (code_uop p (cmd.Ap x)) has all rest e
+        ∙ issues_it (IssueAp (row_at regs (code_ref p x))) (round_command n here (cmd.Ap x))
         (rw (ref_is x regs g) refl) ok pc _
 
     -- the body's commands, whatever is known of the registers
     pub run_body : (I : List ℕ → Type 0) (cs : List BodyCmd) (pc : ℕ) (regs : List ℕ)
-        → Names n p.block at regs → I regs → HasAt code pc (map (code_uop p.block) cs)
+        → Names n p at regs → I regs → HasAt code pc (map (code_uop p) cs)
         → AllByRecursion (λ c. all_in_range head n c
         ≡ true) (map (round_command n here) cs)
-        → Runs head code n pc regs (length (map (code_uop p.block) cs))
-        (map (round_command n here) cs) (pc + length (map (code_uop p.block) cs)) I
+        → Runs head code n pc regs (length (map (code_uop p) cs))
+        (map (round_command n here) cs) (pc + length (map (code_uop p) cs)) I
     run_body I [] pc regs g h has ok = run_none head code n pc (pc + 0) regs I (omega arith) h
     run_body I (c ∷ cs) pc regs g h has ok =
-        let len = length (map (code_uop p.block) cs) in
+        let len = length (map (code_uop p) cs) in
         run_at head code n _ (pc + 1 + len) _ _ _ _ _ (omega arith)
         (run_then head code n _ (pc + 1) _ 1 len _ _ (round_command n here c ∷ []) _
-        (λ r. Names n p.block at r × I r) _ (omega arith)
+        (λ r. Names n p at r × I r) _ (omega arith)
         (record {
           count = 1;
           few = omega arith;

@@ -1,6 +1,8 @@
 use Rattle.std.proofs.Common.{arith}
 use Rattle.std.proofs.lemmas.Result.{IfOk-weaker}
 use Rattle.loop_ir.specs.Plain.{steps_of}
+use Rattle.block_lower.proofs.Facts.{Given}
+use Rattle.block_lower.proofs.InRows.{body-found}
 use Rattle.block_lower.proofs.Making.{inputs-few}
 use Rattle.block_lower.proofs.OneCell.{chosen-lowered, chosen-program}
 use Rattle.block_lower.proofs.lower.lower_block.Goals as goal
@@ -11,17 +13,17 @@ block_loop-requires c = (c.in_ok-block.ensures.is c.args.states.now).named
 pub returns-clause-form : goal.returns-clause-form
 returns-clause-form c =
     let few = inputs-few c.args.lets.now c.args.assigns.now c.requires.meets in
-    IfOk-weaker c.block_loop.result _ _ (λ p t. chosen-program (record {
-      meets = c.requires.meets;
-      placed = c.requires.placed;
-    }) (c.in_ok-block.ensures.is c.args.states.now) c.in_ok-block.ensures.found
-    (omega (arith, few)) (steps_of p) t) c.block_loop.ensures
+    let g : Given _ _ _ _ = record { meets = c.requires.meets; placed = c.requires.placed } in
+    let is = c.in_ok-block.ensures.is c.args.states.now in
+    let found = body-found g is (omega (arith, few)) c.in_ok-block.ensures.found in
+    IfOk-weaker c.block_loop.result _ _ (λ p t.
+    chosen-program g is (omega (arith, few)) found (steps_of p) t) c.block_loop.ensures
 
 pub returns-clause-lowered : goal.returns-clause-lowered
 returns-clause-lowered c =
     let few = inputs-few c.args.lets.now c.args.assigns.now c.requires.meets in
-    IfOk-weaker c.block_loop.result _ _ (λ p t. chosen-lowered (record {
-      meets = c.requires.meets;
-      placed = c.requires.placed;
-    }) (c.in_ok-block.ensures.is c.args.states.now) c.in_ok-block.ensures.found
-    (omega (arith, few)) (steps_of p) t) c.block_loop.ensures
+    let g : Given _ _ _ _ = record { meets = c.requires.meets; placed = c.requires.placed } in
+    let is = c.in_ok-block.ensures.is c.args.states.now in
+    let found = body-found g is (omega (arith, few)) c.in_ok-block.ensures.found in
+    IfOk-weaker c.block_loop.result _ _ (λ p t.
+    chosen-lowered g is (omega (arith, few)) found (steps_of p) t) c.block_loop.ensures

@@ -1,31 +1,24 @@
-use Rattle.std.proofs.Common.{◌≡◌, ◌<◌, ℕ, arith, inl, inr, ◌+◌, subst, List}
-use Rattle.std.proofs.lemmas.Bool.{cases_lt}
-use Rattle.mig_graph.specs.Graph.{Graph}
-use Rattle.row_alloc.specs.declared.body.OutRow.{OutRow}
+use Rattle.std.proofs.Common.{◌≡◌, ◌∙◌, ap, ℕ, arith}
 use Rattle.row_alloc.specs.Known.{Serves, known_at}
+use Rattle.row_alloc.proofs.Chosen.{first_least, first_same, none_more}
 use Rattle.row_alloc.proofs.greedy.first_known.Goals as goal
 
-pub returns-then-serves-clause-some : goal.returns-then-serves-clause-some
-returns-then-serves-clause-some c = record {
-  within = c.loop-k-test.true;
-  serves = rw c.sequence.ensures at c.serves.ensures.exact.0 c.if-serves.true;
-  before = c.loop-k.invariant;
-}
+pub returns-then-serves-clause-first : goal.returns-then-serves-clause-first
+returns-then-serves-clause-first c =
+    let serves = rw c.sequence-cmds.ensures at c.serves.ensures.exact.0 c.if-serves.true in
+    λ k first. c.sequence-cmds.ensures ∙ ap known_at (first_same c.args.m.now c.args.outs.now
+    c.loop-k.k serves c.loop-k.invariant k first)
 
-none_more : (g : Graph) (outs : List OutRow) (k : ℕ) → ((i : ℕ) → i < k
-    → Serves g outs (known_at i) → ⊥) → (Serves g outs (known_at k) → ⊥) → (i : ℕ) → i < k + 1
-    → Serves g outs (known_at i) → ⊥
-none_more g outs k none not i l s = elim (cases_lt i k) [
-  | inl b ↦ none i b s
-  | inr b ↦ let e : i ≡ k = omega (arith, l, b) in not (subst (λ j. Serves g outs (known_at j)) e s)
-]
+pub returns-then-serves-clause-least : goal.returns-then-serves-clause-least
+returns-then-serves-clause-least c =
+    let serves = rw c.sequence-cmds.ensures at c.serves.ensures.exact.0 c.if-serves.true in
+    rw c.sequence-cmds.ensures (first_least c.args.m.now c.args.outs.now c.loop-k.k serves
+    c.loop-k.invariant)
 
 pub loop-k-preserved : goal.loop-k-preserved
-loop-k-preserved c = none_more c.args.m.now c.args.outs.now c.loop-k.k c.loop-k.invariant (λ s.
-    let t = c.serves.ensures.exact.1 (rw c.sequence.ensures s) in cc)
+loop-k-preserved c = none_more (λ i. Serves c.args.m.now c.args.outs.now (known_at i)) c.loop-k.k
+    c.loop-k.invariant (λ s.
+    let t = c.serves.ensures.exact.1 (rw c.sequence-cmds.ensures s) in cc)
 
 pub returns-clause-none : goal.returns-clause-none
 returns-clause-none c = λ k l s. c.loop-k.invariant k (omega (arith, l, c.loop-k-test.false)) s
-
-pub returns-then-serves-clause-does : goal.returns-then-serves-clause-does
-returns-then-serves-clause-does c = rw c.sequence.ensures at c.serves.ensures.does c.if-serves.true

@@ -1,9 +1,20 @@
+use Rattle.std.proofs.Common.{take, ap, arith, length, length-append}
+use Rattle.std.proofs.lemmas.List.{length-map, length-take}
+use Rattle.uprog_code.specs.declared.code.Uop.{Uop}
 use Rattle.loop_ir.specs.Plain.{block_of}
-use Rattle.uprog_gen.specs.Made.{part_of}
-use Rattle.uprog_gen.proofs.Bodies.Refs.{refs_at}
+use Rattle.loop_laws.proofs.Costing.{turn-most}
+use Rattle.uprog_gen.specs.Code.{code_uop}
 use Rattle.uprog_gen.proofs.emit.push_commands.Goals as goal
 
-pub uop_of-requires : goal.uop_of-requires
-uop_of-requires c = refs_at (part_of (block_of c.args.body.now) c.args.made.now)
-    c.deref-cmd-items.result.now c.loop-cmd.cmd-index _ c.requires c.deref-cmd-items.ensures.value
-    c.loop-cmd-test.true
+pub returns-clause-short : goal.returns-clause-short
+returns-clause-short c =
+    let b = block_of c.args.body.now in
+    let k = c.loop-cmd.cmd-index in
+    omega (
+      arith,
+      ap length c.loop-cmd.invariant,
+      length-append {A = Uop},
+      length-map (take k b.found) (code_uop b),
+      length-take k b.found,
+      turn-most b c.requires.commands,
+    )

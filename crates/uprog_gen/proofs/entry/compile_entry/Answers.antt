@@ -1,14 +1,14 @@
-use Rattle.std.proofs.Common.{◌≤◌, arith}
+use Rattle.std.proofs.Common.{◌≤◌, refl, arith}
 use Rattle.loop_ir.specs.Flows.{AllFlow, flow_size}
 use Rattle.loop_ir.specs.Costs.{body_cost}
 use Rattle.loop_ir.specs.Limits.{IsSmall}
 use Rattle.uprog_code.specs.Shape.{shape_of}
-use Rattle.uprog_gen.proofs.Coding.Emitted.{no_flows, next_flow, flow_at}
+use Rattle.uprog_gen.proofs.Coding.Emitted.{next_flow, flow_at}
 use Rattle.uprog_gen.proofs.Coding.Joined.{code_is}
 use Rattle.uprog_gen.proofs.entry.compile_entry.Goals as goal
 
 pub loop-flow-init : goal.loop-flow-init
-loop-flow-init c = rw c.new-code.ensures.items (no_flows, omega arith)
+loop-flow-init c = rw c.new-code.ensures.items (refl, omega arith)
 
 pub emit_flow-requires-clause-small : goal.emit_flow-requires-clause-small
 emit_flow-requires-clause-small c = flow_at (AllFlow IsSmall) c.args.flows.now

@@ -7,12 +7,12 @@ use Rattle.uprog_gen.proofs.flow.+flows.Goals as goal
 pub emit_flow-returns-in-End-clause-emits : goal.emit_flow-returns-in-End-clause-emits
 emit_flow-returns-in-End-clause-emits t c = rw c.in-End.is (end_emits c.args.code.now.items)
 
-pub emit_flow-returns-in_ok-push_done-in-Do-clause-emits :
-    goal.emit_flow-returns-in_ok-push_done-in-Do-clause-emits
-emit_flow-returns-in_ok-push_done-in-Do-clause-emits t c =
+pub emit_flow-returns-in_ok-push_commands-in-Do-clause-emits :
+    goal.emit_flow-returns-in_ok-push_commands-in-Do-clause-emits
+emit_flow-returns-in_ok-push_commands-in-Do-clause-emits t c =
     let rest = rw c.deref.ensures at c.emit_flow.ensures.emits in
     rw c.in-Do.is (on_ok_weaker c.emit_flow.result
-    (do_emits _ _ _ _ _ c.in_ok-push_done-in-Do.ensures) rest)
+    (do_emits _ _ _ _ _ c.in_ok-push_commands-in-Do.ensures.emits) rest)
 
 pub emit_flow-returns-in_ok-keep-in-Put-clause-emits :
     goal.emit_flow-returns-in_ok-keep-in-Put-clause-emits

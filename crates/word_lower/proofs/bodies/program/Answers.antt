@@ -1,6 +1,7 @@
 use Rattle.std.proofs.Common.{slice_index_or, sym, ap, ◌++◌, ◌∷◌, [], ◌∙◌, refl, None}
 use Rattle.word_lower.specs.Places.{program_on}
-use Rattle.word_lower.specs.Shapes.{rows_at, lines_steps}
+use Rattle.word_lower.specs.Lines.{lines_steps}
+use Rattle.word_lower.specs.Shapes.{rows_at}
 use Rattle.word_lower.proofs.Append.{lines_more}
 use Rattle.word_lower.proofs.bodies.program.Goals as goal
 

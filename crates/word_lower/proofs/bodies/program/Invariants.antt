@@ -2,7 +2,8 @@ use Rattle.std.proofs.Common.{◌≡◌, map, take}
 use Rattle.loop_ir.specs.Plain.{AllParts, step_of}
 use Rattle.loop_laws.specs.Forms.{IsMade}
 use Rattle.word_lower.specs.Places.{program_on}
-use Rattle.word_lower.specs.Shapes.{rows_at, lines_steps}
+use Rattle.word_lower.specs.Lines.{lines_steps}
+use Rattle.word_lower.specs.Shapes.{rows_at}
 use Rattle.word_lower.proofs.bodies.program.Given as goal
 
 -- the steps so far

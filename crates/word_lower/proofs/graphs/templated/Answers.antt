@@ -12,9 +12,10 @@ made-requires-clause-sorted c = own_sorted _ c.args.nodes.now c.requires.own
 
 pub returns-clause-same : goal.returns-clause-same
 returns-clause-same c = template_same c.args.reads.now c.args.writes.now _ _ c.args.nodes.now
-    c.args.outs.now _ _ _ (c.in_ok-to_vec.ensures.items_if_clones_equal (λ x y e. e))
+    c.args.outs.now _ _ _ c.args.cmds.now (c.in_ok-to_vec.ensures.items_if_clones_equal (λ x y e. e))
     (c.in_ok-to_vec-2.ensures.items_if_clones_equal (λ x y e. e))
-    c.in_ok-made.ensures.graph c.in_ok-made.ensures.outs c.new.ensures.items
+    c.in_ok-made.ensures.graph c.in_ok-made.ensures.outs
+    (c.in_ok-to_vec-3.ensures.items_if_clones_equal (λ x y e. e))
 
 pub returns-clause-made : goal.returns-clause-made
 returns-clause-made c = template_made _ _ _ c.args.nodes.now c.args.outs.now _ _ _
