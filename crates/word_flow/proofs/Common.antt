@@ -72,9 +72,11 @@ pub use Rattle.std.specs.List.{AllByRecursion, list_all, range_with_len}
 pub use Rattle.std.specs.Option.{option_to_list}
 pub use Rattle.std.specs.Prelude.{bytes_eq, count_by, if◌then◌else◌, nat_le, nat_lt, slice_index}
 pub use Rattle.std.specs.Prelude.{slice_set, sum_by, unwrap_or, ◌%◌, ◌&&◌, ◌/◌, ◌==◌, ◌||◌}
-pub use Rattle.word_flow.specs.Bodies.{coded_on, line_holds, lines_hold, slot_at, slots_for}
+pub use Rattle.word_flow.specs.Bodies.{coded_on, line_holds, lines_hold, slots_for}
+pub use Rattle.word_lower.specs.Places.{slot_at}
+pub use Rattle.word_lower.specs.Programs.{mark_of}
 pub use Rattle.word_flow.specs.Places.{IsFlowWritten, rooms_for, rows_on, scratch_word, steps_for}
-pub use Rattle.word_flow.specs.Plans.{coded_of, first_of, flows_on, four_of, line_on, mark_of}
+pub use Rattle.word_flow.specs.Plans.{coded_of, first_of, flows_on, four_of, line_on}
 pub use Rattle.word_flow.specs.Plans.{others_of}
 pub use Rattle.word_flow.specs.Programs.{digits, flow_aps, flow_for, flow_total, is_flow}
 pub use Rattle.word_flow.specs.Programs.{is_flow_statement, lines_for, rounds_aps}

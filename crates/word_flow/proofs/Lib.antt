@@ -23,7 +23,6 @@ pub mod Pairing
 pub mod Rectified
 pub mod Rectifying
 pub mod Shifting
-pub mod Listed
 pub mod Built
 pub mod Placed
 pub mod Checks

@@ -1,15 +1,13 @@
 -- Bodies and flows at the places of their owners, which are given as slots, by their numbers.
 -- Private contracts alone speak of this.
-use Rattle.std.specs.Prelude.{ℕ, zero, suc, ◌+◌, Bool, true, ◌&&◌, nat_lt, nat_le, List, [], ◌∷◌}
+use Rattle.std.specs.Prelude.{◌+◌, Bool, true, ◌&&◌, nat_lt, nat_le, List, [], ◌∷◌}
 use Rattle.std.specs.Prelude.{length}
 use Rattle.std.specs.List.{list_all}
-use Rattle.op_text.specs.declared.tree.Kind.TheVariants.{Bit}
 use Rattle.op_text.specs.declared.word_ops.WordOp.{WordOp}
 use Rattle.op_text.specs.declared.word_ops.WordOp.TheVariants as o
-use Rattle.loop_ir.specs.declared.ir.Space.TheVariants.{Source}
 use Rattle.loop_ir.specs.declared.names.Slot.{Slot}
 use Rattle.loop_ir.specs.Plain.{Block}
-use Rattle.word_lower.specs.Places.{scratch_bit, body_on}
+use Rattle.word_lower.specs.Places.{scratch_bit, slot_at, body_on}
 use Rattle.word_lower.specs.Shapes.{are_own, are_below}
 use Rattle.word_flow.specs.declared.rows.Rows.{Rows}
 use Rattle.word_flow.specs.declared.shapes.CodedBody.{CodedBody}
@@ -17,12 +15,6 @@ use Rattle.word_flow.specs.declared.shapes.Line.{Line}
 use Rattle.word_flow.specs.declared.shapes.Line.TheVariants as line
 use Rattle.word_flow.specs.Plans.{four_of, coded_of}
 use Rattle.word_flow.specs.Places.{scratch_word}
-
--- the slot of this number
-abbrev pub slot_at : List Slot → ℕ → Slot
-slot_at [] k = record { space = Source; which = 0; kind = Bit }
-slot_at (s ∷ ss) zero = s
-slot_at (s ∷ ss) (suc k) = slot_at ss k
 
 -- the slots of an operation's owners, and after those the target's
 abbrev pub slots_for : WordOp → Rows → List Slot

@@ -5,25 +5,13 @@ use Rattle.std.specs.Option.{option_to_list}
 use Rattle.loop_ir.specs.Flows.{FlowOf}
 use Rattle.loop_ir.specs.Flows.FlowOf.{End, Do, Put, If, Loop}
 use Rattle.loop_ir.specs.Flows.TurnsOf.{Last, Turn}
-use Rattle.loop_laws.specs.Rooms as rooms
-use Rattle.loop_laws.specs.Rooms.{InRoom, InCells, Marked}
-use Rattle.word_flow.specs.declared.shapes.Owner.{Owner}
-use Rattle.word_flow.specs.declared.shapes.Owner.TheVariants.{Row, Cells}
-use Rattle.word_flow.specs.declared.shapes.Mark.{Mark}
+use Rattle.loop_laws.specs.Rooms.{Marked}
+use Rattle.word_lower.specs.Programs.{mark_of}
 use Rattle.word_flow.specs.declared.shapes.Four.{Four}
 use Rattle.word_flow.specs.declared.shapes.Nine.{Nine}
 use Rattle.word_flow.specs.declared.shapes.CodedBody.{CodedBody}
 use Rattle.word_flow.specs.declared.shapes.Line.{Line}
 use Rattle.word_flow.specs.declared.shapes.Line.TheVariants as line
-
--- whose rows a place of the table has, or the layout of a state
-abbrev pub owner_of : Owner → rooms.Owner
-owner_of (Row k) = InRoom k
-owner_of (Cells layout) = InCells layout
-
--- a place of the table, by its owner
-abbrev pub mark_of : Mark → rooms.Mark
-mark_of m = record { owner = owner_of m.owner; sub = m.sub }
 
 -- those of the four that there are
 abbrev pub four_of : {A : Type 0} → Four A → List A

@@ -8,15 +8,14 @@
 //! and 6 how many levels are left.
 
 use crate::shapes::Line::{Do, Done, If, Loop, LoopTwo, Put};
-use crate::shapes::{
-    CodedBody, Four, Line, Mark, Nine, Owner, four, lowest, nine, node, row, state,
-};
+use crate::shapes::{CodedBody, Four, Line, Nine, four, lowest, nine, node, row, state};
 use loop_ir::Move::{AddI, Mov, SetI, SetN, SetT};
 use loop_ir::Sub;
 use mig_graph::Node;
 use row_alloc::BodyCmd::Aap;
 use row_alloc::BodyRef::{B, C, In, Out};
 use word_lower::literals::{N1, N2, OFF, ON, P1, P2, P3, P4, P5, P6, P7};
+use word_lower::{Mark, Owner};
 
 // the owners: the target and the argument
 const TARGET: u8 = 0;

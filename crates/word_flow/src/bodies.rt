@@ -3,46 +3,17 @@
 ghost use Rattle.std.specs.Prelude.{◌≡◌, ◌++◌, map, IfOk, OnOk, true};
 ghost use Rattle.std.specs.Option.{option_to_list};
 ghost use Rattle.loop_ir.specs.Plain.{block_of};
-ghost use Rattle.word_lower.specs.Places.{place_on};
-ghost use Rattle.word_flow.specs.Plans.{mark_of, four_of, nine_of};
-ghost use Rattle.word_flow.specs.Bodies.{slot_at, coded_on, is_coded};
+ghost use Rattle.word_lower.specs.Places.{slot_at, place_on};
+ghost use Rattle.word_lower.specs.Programs.{mark_of};
+ghost use Rattle.word_flow.specs.Plans.{four_of, nine_of};
+ghost use Rattle.word_flow.specs.Bodies.{coded_on, is_coded};
 
-use crate::shapes::{CodedBody, Four, Mark, Nine, Owner};
+use crate::shapes::{CodedBody, Four, Nine};
 use faults::keep;
-use loop_ir::{Body, Place, Slot, Space};
+use loop_ir::{Body, Place, Slot};
 use mig_graph::NoMemory;
-use op_text::Kind;
 use std::alloc::Global;
-use word_lower::{cells, place_in, templated};
-
-/// The slot of this number; where there is none, that of no name.
-fn slot_at(owners: &[Slot], k: u8) -> Slot
-    ensures { result ≡ slot_at owners.now k }
-{
-    let k = usize::from(k);
-    if k < owners.len() {
-        owners[k]
-    } else {
-        Slot {
-            space: Space::Source,
-            which: 0,
-            kind: Kind::Bit,
-        }
-    }
-}
-
-impl Mark {
-    /// The place that it is, where the owners have these rows.
-    fn at(self, owners: &[Slot]) -> Place
-        ensures { result ≡ place_on (slot_at owners.now) (mark_of self) }
-    {
-        let slot = match self.owner {
-            Owner::Row(k) => slot_at(owners, k),
-            Owner::Cells(layout) => cells(layout),
-        };
-        place_in(slot, self.sub)
-    }
-}
+use word_lower::{Mark, templated};
 
 /// One more, where there is one.
 fn add<T: Copy>(all: &mut Vec<T>, item: Option<T>) -> Result<(), NoMemory>

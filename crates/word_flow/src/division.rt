@@ -7,15 +7,14 @@
 //! the position in the divisor, and 4 that in the window.
 
 use crate::shapes::Line::{Do, Done, If, Loop, Put};
-use crate::shapes::{
-    CodedBody, Four, Line, Mark, Nine, Owner, four, lowest, nine, node, row, state,
-};
+use crate::shapes::{CodedBody, Four, Line, Nine, four, lowest, nine, node, row, state};
 use loop_ir::Move::{AddI, Mov, SetI, SetN, SetT, SubI};
 use loop_ir::Sub;
 use mig_graph::Node;
 use row_alloc::BodyCmd::{Aap, Ap};
 use row_alloc::BodyRef::{B, C, In, Out};
 use word_lower::literals::{N1, N2, N3, N4, N5, OFF, ON, P1, P2, P3, P4, P5, P6, P7, P8};
+use word_lower::{Mark, Owner};
 
 // the owners: the quotient's bits, the arguments, whether a bit of the divisor from a position on
 // is set, and the window

@@ -7,15 +7,14 @@
 //! positions of a row are left, 3 that in the first argument, and 4 that in the target.
 
 use crate::shapes::Line::{Do, Done, Loop, LoopTwo, Put};
-use crate::shapes::{
-    CodedBody, Four, Line, Mark, Nine, Owner, four, lowest, nine, node, row, state,
-};
+use crate::shapes::{CodedBody, Four, Line, Nine, four, lowest, nine, node, row, state};
 use loop_ir::Move::{AddI, Mov, SetI, SetN, SetT};
 use loop_ir::Sub;
 use mig_graph::Node;
 use row_alloc::BodyCmd::{Aap, Ap};
 use row_alloc::BodyRef::{B, C, In, Out};
 use word_lower::literals::{N1, N3, N4, N5, OFF, ON, P1, P2, P3, P4, P5, P6, P7, P8};
+use word_lower::{Mark, Owner};
 
 // the owners: the target, the arguments, and the bit of scratch
 const TARGET: u8 = 0;

@@ -5,15 +5,14 @@
 //! over, and 4 and 5 are the positions of a pair's elements.
 
 use crate::shapes::Line::{Do, Done, If, Loop, LoopTwo, Put};
-use crate::shapes::{
-    CodedBody, Four, Line, Mark, Nine, Owner, four, lowest, nine, node, row, state,
-};
+use crate::shapes::{CodedBody, Four, Line, Nine, four, lowest, nine, node, row, state};
 use loop_ir::Move::{AddI, SetI, SetN, SubI};
 use loop_ir::Sub;
 use mig_graph::Node;
 use row_alloc::BodyCmd::{Aap, Ap};
 use row_alloc::BodyRef::{B, C, In, Out};
 use word_lower::literals::{N1, N2, N3, N4, N5, N6, N7, OFF, ON, P1, P2, P3, P4, P5, P6};
+use word_lower::{Mark, Owner};
 
 // the owners: the target and the argument
 const TARGET: u8 = 0;

@@ -5,15 +5,14 @@
 //! elements are left, and 1 the position.
 
 use crate::shapes::Line::{Do, Done, If, LoopThree, Put};
-use crate::shapes::{
-    CodedBody, Four, Line, Mark, Nine, Owner, four, lowest, nine, node, row, state,
-};
+use crate::shapes::{CodedBody, Four, Line, Nine, four, lowest, nine, node, row, state};
 use loop_ir::Move::{AddI, SetI, SetT};
 use loop_ir::Sub;
 use mig_graph::Node;
 use row_alloc::BodyCmd::Aap;
 use row_alloc::BodyRef::{B, C, In, Out};
 use word_lower::literals::{OFF, ON, P1, P2, P3, P4, P5};
+use word_lower::{Mark, Owner};
 
 // the owners: the target and the argument
 const TARGET: u8 = 0;

@@ -5,13 +5,14 @@
 //! positions are left, 1 the position, and 2 the top one.
 
 use crate::shapes::Line::{Do, Done, If, LoopTwo, Put};
-use crate::shapes::{CodedBody, Four, Line, Mark, Nine, Owner, four, nine, node, row, state};
+use crate::shapes::{CodedBody, Four, Line, Nine, four, nine, node, row, state};
 use loop_ir::Move::{AddI, SetI, SetT};
 use loop_ir::Sub;
 use mig_graph::Node;
 use row_alloc::BodyCmd::Aap;
 use row_alloc::BodyRef::{B, C, In, Out};
 use word_lower::literals::{N1, OFF, P1, P2, P3, P4};
+use word_lower::{Mark, Owner};
 
 // the owners: the target and the argument
 const TARGET: u8 = 0;

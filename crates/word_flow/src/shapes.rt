@@ -1,24 +1,10 @@
 //! Word operations as flows: what their bodies read, compute and write, the commands of these, and
 //! how they follow one another.
 
-use loop_ir::{Move, Sub};
+use loop_ir::Move;
 use mig_graph::{Lit, Node};
 use row_alloc::BodyCmd;
-
-/// Whose rows a place has, by the number that the operation gives it. A state in the cells of a
-/// layout has none.
-#[derive(Clone, Copy)]
-pub enum Owner {
-    Row(u8),
-    Cells(u8),
-}
-
-/// A place by its owner.
-#[derive(Clone, Copy)]
-pub struct Mark {
-    pub owner: Owner,
-    pub sub: Sub,
-}
+use word_lower::Mark;
 
 /// At most four.
 #[derive(Clone, Copy)]

@@ -4,12 +4,13 @@
 //! number of rows that are left, and so the lower of two neighbours; register 1 is the upper one.
 
 use crate::shapes::Line::{Do, Done, Loop, Put};
-use crate::shapes::{CodedBody, Four, Line, Mark, Nine, Owner, four, lowest, nine, row};
+use crate::shapes::{CodedBody, Four, Line, Nine, four, lowest, nine, row};
 use loop_ir::Move::{SetT, SubI};
 use loop_ir::Sub;
 use row_alloc::BodyCmd::Aap;
 use row_alloc::BodyRef::{C, In, Out};
 use word_lower::literals::{OFF, P1};
+use word_lower::{Mark, Owner};
 
 // the owners: the target and the argument
 const TARGET: u8 = 0;

@@ -14,3 +14,4 @@ pub mod Append
 pub mod Owners
 pub mod BodyRules
 pub mod Commands
+mod Listed

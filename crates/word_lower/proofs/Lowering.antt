@@ -26,7 +26,7 @@ use Rattle.loop_laws.specs.Forms.{is_short, keeps_states}
 use Rattle.loop_laws.proofs.Summed.{steps_sum}
 use Rattle.word_lower.specs.Places.{program_on}
 use Rattle.word_lower.specs.Programs.{program, is_linear}
-use Rattle.word_lower.specs.Shapes.{rows_at, owners_of}
+use Rattle.word_lower.specs.Shapes.{owners_of}
 use Rattle.word_lower.proofs.Setting.{scratch_from, rooms_of, taken, Slots, row, number_at, Gives}
 use Rattle.word_lower.proofs.Lists.{bits_of_number, value_of_list}
 use Rattle.word_lower.proofs.Pieces.{slot, slot_at, Pieces, names, are_slots}
@@ -56,7 +56,7 @@ pub record DoesOp (p : WordOp) (n : ℕ) (k : Kind) (t : Slot) (args : List Slot
 
 pub record Lowers (p : WordOp) (k : Kind) (t : Slot) (args : List Slot) (free : ℕ) : Type 0 where
   pub fit : steps_fit (rooms_of t args (scratch_from free (bits_inside p))) (program p k) ≡ true
-  pub same : program_on (rows_at (owners_of t args free)) (program p k) ≡ steps_on p k t args free
+  pub same : program_on (slot_at (owners_of t args free)) (program p k) ≡ steps_on p k t args free
   pub short : is_short (steps_on p k t args free) ≡ true
   pub states : keeps_states (placed_steps [] (program p k)) ≡ true
   pub commands : steps_do (program p k) ≡ true
@@ -124,7 +124,7 @@ numbers_taken sh c f n before = refl
 -- what computes, in each form
 tested : (p : WordOp) (k : Kind) (t : Slot) (args : List Slot) (free : ℕ)
     → steps_fit (rooms_of t args (scratch_from free (bits_inside p))) (program p k) ≡ true
-    → program_on (rows_at (owners_of t args free)) (program p k) ≡ steps_on p k t args free
+    → program_on (slot_at (owners_of t args free)) (program p k) ≡ steps_on p k t args free
     → is_short (steps_on p k t args free) ≡ true
     → keeps_states (placed_steps [] (program p k)) ≡ true → steps_do (program p k) ≡ true
     → ((n : ℕ) → 0 < n → steps_sum turn_cost n (placed_steps [] (program p k))

@@ -14,6 +14,7 @@ use Rattle.loop_ir.specs.declared.names.Slot.{Slot}
 use Rattle.loop_ir.specs.Spots.{Spot, spot_in, IsOwn, is_state}
 use Rattle.loop_ir.specs.Statements.{holds_kind}
 use Rattle.loop_laws.specs.Rooms.{Room, room_at, row_in, extent, RoomsApart}
+pub use Rattle.word_lower.specs.Places.{slot_at}
 use Rattle.word_lower.specs.Places.{rows_of, room_of, scratch_bit}
 use Rattle.word_lower.proofs.Setting.{scratch_from, rooms_of, Slots, row, SlotsApart, IsElsewhere}
 use Rattle.word_lower.proofs.Setting.{AreSlots}
@@ -25,12 +26,6 @@ slot space which k = record { space = space; which = which; kind = k }
 -- where there is no further argument, rows that no program writes
 abbrev pub no_slot : Slot
 no_slot = slot Source 0 Word
-
--- the place of an argument, by its number
-abbrev pub slot_at : List Slot → ℕ → Slot
-slot_at [] k = no_slot
-slot_at (s ∷ ss) zero = s
-slot_at (s ∷ ss) (suc k) = slot_at ss k
 
 -- all rows of the two lie apart
 abbrev pub AreApart : ℕ → Slot → Slot → Type 0

@@ -40,7 +40,7 @@ use Rattle.loop_laws.proofs.Compile.{made_compile}
 use Rattle.word_lower.specs.Places.{scratch_bit, AreAt, program_on}
 use Rattle.word_lower.specs.Forms.{IsWritten}
 use Rattle.word_lower.specs.Programs.{program, is_linear}
-use Rattle.word_lower.specs.Shapes.{rows_at, owners_of}
+use Rattle.word_lower.specs.Shapes.{owners_of}
 use Rattle.word_lower.proofs.Setting.{scratch_from, rooms_of}
 use Rattle.word_lower.proofs.Pieces.{slot_at, AreApart, Pieces, RoomView, is_target, spot_space}
 use Rattle.word_lower.proofs.Pieces.{is_arg, is_scratch, room_view, rooms_apart, extent_is, kind_row}
@@ -436,7 +436,7 @@ module _ (slots : Slots) (free_bit free_word : ℕ) (target : List ℕ)
 
     -- the program on the owners' places does the statement
     pub lowered_on : (built : List (StepOf Block))
-        → built ≡ program_on (rows_at (owners_of t ss free_bit)) (program p t.kind)
+        → built ≡ program_on (slot_at (owners_of t ss free_bit)) (program p t.kind)
         → AllParts IsMade built
         → IsLowered slots free_bit free_word (Compute target second p args) built
     lowered_on built same made =

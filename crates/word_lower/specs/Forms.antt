@@ -5,9 +5,9 @@ use Rattle.loop_ir.specs.declared.names.Slot.{Slot}
 use Rattle.loop_ir.specs.Plain.{Block, StepOf}
 use Rattle.loop_ir.specs.Statements.{Slots}
 use Rattle.block_lower.specs.Form.{IsBlockProgram}
-use Rattle.word_lower.specs.Places.{AreAt, program_on}
+use Rattle.word_lower.specs.Places.{AreAt, slot_at, program_on}
 use Rattle.word_lower.specs.Programs.{program}
-use Rattle.word_lower.specs.Shapes.{rows_at, owners_of}
+use Rattle.word_lower.specs.Shapes.{owners_of}
 
 -- a block's steps are a loop program of it: its states' starts, and then a body at each position
 abbrev pub HasForm : Slots → Statement → List (StepOf Block) → Type 0
@@ -19,5 +19,5 @@ HasForm slots (Visit block) steps = IsBlockProgram slots block steps
 abbrev pub IsWritten : Slots → ℕ → Statement → List (StepOf Block) → Type 0
 IsWritten slots free_bit (Compute target second p args) steps = (t : Slot) (ss : List Slot)
     → slots target ≡ Some t → AreAt slots args ss
-    → steps ≡ program_on (rows_at (owners_of t ss free_bit)) (program p t.kind)
+    → steps ≡ program_on (slot_at (owners_of t ss free_bit)) (program p t.kind)
 IsWritten slots free_bit (Visit block) steps = Unit {0}

@@ -1,11 +1,11 @@
 -- Where names lie and how many rows they have; and bodies and loop programs at owners' places.
-use Rattle.std.specs.Prelude.{◌≡◌, ℕ, Bool, List, [], ◌∷◌, map, length, Some}
+use Rattle.std.specs.Prelude.{◌≡◌, ℕ, zero, suc, Bool, List, [], ◌∷◌, map, length, Some}
 use Rattle.mig_graph.specs.declared.Lit.{Lit}
 use Rattle.mig_graph.specs.declared.Node.{Node}
 use Rattle.row_alloc.specs.declared.body.BodyCmd.{BodyCmd}
 use Rattle.op_text.specs.declared.tree.Kind.{Kind}
 use Rattle.op_text.specs.declared.tree.Kind.TheVariants.{Word, Bit}
-use Rattle.loop_ir.specs.declared.ir.Space.TheVariants.{ScratchBit, Cells}
+use Rattle.loop_ir.specs.declared.ir.Space.TheVariants.{Source, ScratchBit, Cells}
 use Rattle.loop_ir.specs.declared.names.Slot.{Slot}
 use Rattle.loop_ir.specs.Statements.{Slots}
 use Rattle.loop_ir.specs.declared.ir.Place.{Place}
@@ -34,6 +34,12 @@ scratch_bit k = record { space = ScratchBit; which = k; kind = Bit }
 -- the cells of a layout, in which a state stands
 abbrev pub cells : ℕ → Slot
 cells layout = record { space = Cells; which = layout; kind = Bit }
+
+-- the slot of this number; where there is none, that of no name
+abbrev pub slot_at : List Slot → ℕ → Slot
+slot_at [] k = record { space = Source; which = 0; kind = Word }
+slot_at (s ∷ ss) zero = s
+slot_at (s ∷ ss) (suc k) = slot_at ss k
 
 -- an owner's rows, which its number gives, or the cells of a state
 abbrev pub owner_at : (ℕ → Slot) → Owner → Slot

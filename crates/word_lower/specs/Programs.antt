@@ -18,7 +18,7 @@ use Rattle.loop_ir.specs.Plain.StepOf.{Single, Along}
 use Rattle.loop_laws.specs.Rooms as rooms
 use Rattle.loop_laws.specs.Rooms.{InRoom, InCells, Mark, Marked}
 use Rattle.word_lower.specs.declared.shapes.Owner.{Owner}
-use Rattle.word_lower.specs.declared.shapes.Owner.TheVariants.{Target, First, Second, Third, Cells}
+use Rattle.word_lower.specs.declared.shapes.Owner.TheVariants.{Row, Cells}
 use Rattle.word_lower.specs.declared.shapes.Mark as code
 use Rattle.word_lower.specs.declared.shapes.BodyForm.{BodyForm}
 use Rattle.word_lower.specs.declared.shapes.BodyForm.TheVariants.{Off, On, Moved, Inverted, Both}
@@ -122,10 +122,7 @@ ordered x y g h = template (x ∷ y ∷ g ∷ h ∷ [])
 
 -- whose a place of the table is: rows by a number, or cells
 abbrev pub owner_of : Owner → rooms.Owner
-owner_of Target = InRoom 0
-owner_of First = InRoom 1
-owner_of Second = InRoom 2
-owner_of Third = InRoom 3
+owner_of (Row k) = InRoom k
 owner_of (Cells layout) = InCells layout
 
 -- a place of the table, by its owner

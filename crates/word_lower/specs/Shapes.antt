@@ -6,15 +6,7 @@ use Rattle.mig_graph.specs.declared.Node.{Node}
 use Rattle.mig_graph.specs.Literals.{inversions}
 use Rattle.loop_ir.specs.declared.names.Slot.{Slot}
 use Rattle.loop_ir.specs.Same.{same_node}
-use Rattle.word_lower.specs.declared.shapes.Owners.{Owners}
 use Rattle.word_lower.specs.Places.{scratch_bit}
-
--- whose rows an owner's number stands for
-abbrev pub rows_at : Owners → ℕ → Slot
-rows_at o zero = o.target
-rows_at o (suc zero) = o.first
-rows_at o (suc (suc zero)) = o.second
-rows_at o (suc (suc (suc k))) = o.third
 
 -- the argument of this number, and after the arguments the bit of scratch
 abbrev pub following : List Slot → ℕ → ℕ → Slot
@@ -22,14 +14,10 @@ following [] free k = scratch_bit free
 following (s ∷ ss) free zero = s
 following (s ∷ ss) free (suc k) = following ss free k
 
--- the rows of a statement: its target, and its arguments with the scratch after them
-abbrev pub owners_of : Slot → List Slot → ℕ → Owners
-owners_of t args free = record {
-  target = t;
-  first = following args free 0;
-  second = following args free 1;
-  third = following args free 2;
-}
+-- the places of a statement's names: its target's, and its arguments' with the scratch after them
+abbrev pub owners_of : Slot → List Slot → ℕ → List Slot
+owners_of t args free = t ∷ following args free 0 ∷ following args free 1 ∷ following args free 2
+    ∷ []
 
 -- the node reads three lower nodes in order, at most one of them inverted
 abbrev pub is_own : ℕ → Node → Bool

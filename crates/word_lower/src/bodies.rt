@@ -5,10 +5,9 @@ ghost use Rattle.std.specs.Prelude.{OnOk, Some, None, true};
 ghost use Rattle.loop_ir.specs.Plain.{block_of, step_of, steps_of, step_map};
 ghost use Rattle.loop_ir.specs.Plain.{Block, StepOf, AllParts, AllStep};
 ghost use Rattle.loop_laws.specs.Forms.{IsMade};
-ghost use Rattle.word_lower.specs.Places.{place_on, body_on, program_on};
+ghost use Rattle.word_lower.specs.Places.{slot_at, place_on, body_on, program_on};
 ghost use Rattle.word_lower.specs.Programs.{mark_of, form_body, line_step};
 ghost use Rattle.word_lower.specs.Lines.{lines_steps};
-ghost use Rattle.word_lower.specs.Shapes.{rows_at};
 
 use crate::graphs::templated;
 use crate::literals::{N1, OFF, ON, P1, P3, P4, P5, P6};
@@ -16,13 +15,13 @@ use crate::shapes::BodyForm::{
     Added, Agreed, Both, Chosen, Compared, Either, Inverted, Lessened, Moved, Off, On, Ordered,
     Reset, Set, SetBoth, Unlike,
 };
-use crate::shapes::{BodyForm, Mark, Owner, Owners, ProgramLine};
-use crate::slots::{cells, place_in};
+use crate::shapes::{BodyForm, Mark, Owner, ProgramLine};
+use crate::slots::{cells, place_in, slot_at};
 use crate::templates::{
     ADDED, BOTH, CHOSEN, COMPARED, COPY, EITHER, LESSENED, ONE, ORDERED, UNLIKE, ZERO,
 };
 use faults::keep;
-use loop_ir::{Body, LoopProgram, Place, Step};
+use loop_ir::{Body, LoopProgram, Place, Slot, Step};
 use mig_graph::NoMemory;
 use row_alloc::known::{ADD, AND, CHOICE, NOT, OR, XOR};
 use row_alloc::known_held::{AGREE, COMPARE, LESSEN, ORDER, RESET, SET, SET_BOTH};
@@ -30,14 +29,11 @@ use std::alloc::Global;
 
 impl Mark {
     /// The place that it is, where the owners have these rows.
-    fn at(self, owners: Owners) -> Place
-        ensures { result ≡ place_on (rows_at owners) (mark_of self) }
+    pub fn at(self, owners: &[Slot]) -> Place
+        ensures { result ≡ place_on (slot_at owners.now) (mark_of self) }
     {
         let slot = match self.owner {
-            Owner::Target => owners.target,
-            Owner::First => owners.first,
-            Owner::Second => owners.second,
-            Owner::Third => owners.third,
+            Owner::Row(k) => slot_at(owners, k),
             Owner::Cells(layout) => cells(layout),
         };
         place_in(slot, self.sub)
@@ -45,8 +41,8 @@ impl Mark {
 }
 
 /// The body of a shape, with its commands.
-fn body(shape: BodyForm, owners: Owners, alloc: Global) -> Result<Body, NoMemory>
-    ensures same { IfOk result (λ b. block_of b ≡ body_on (rows_at owners) (form_body shape)) }
+fn body(shape: BodyForm, owners: &[Slot], alloc: Global) -> Result<Body, NoMemory>
+    ensures same { IfOk result (λ b. block_of b ≡ body_on (slot_at owners.now) (form_body shape)) }
     ensures made { IfOk result (λ b. IsMade (block_of b)) }
 {
     let (o, a) = (owners, alloc);
@@ -88,9 +84,9 @@ fn body(shape: BodyForm, owners: Owners, alloc: Global) -> Result<Body, NoMemory
 }
 
 /// The step of a line.
-fn step(line: ProgramLine, owners: Owners, alloc: Global) -> Result<Step, NoMemory>
+fn step(line: ProgramLine, owners: &[Slot], alloc: Global) -> Result<Step, NoMemory>
     ensures same { IfOk result (λ s. step_of s ∷ []
-        ≡ program_on (rows_at owners) (line_step line ∷ [])) }
+        ≡ program_on (slot_at owners.now) (line_step line ∷ [])) }
     ensures made { IfOk result (λ s. AllStep IsMade (step_of s)) }
 {
     match line {
@@ -103,11 +99,11 @@ fn step(line: ProgramLine, owners: Owners, alloc: Global) -> Result<Step, NoMemo
 fn add_step(
     steps: &mut Vec<Step>,
     line: Option<ProgramLine>,
-    owners: Owners,
+    owners: &[Slot],
     alloc: Global,
 ) -> Result<(), NoMemory>
     ensures same { OnOk result (map step_of steps.new.items ≡ map step_of steps.old.items
-        ++ program_on (rows_at owners) (lines_steps (line ∷ []))) }
+        ++ program_on (slot_at owners.now) (lines_steps (line ∷ []))) }
     ensures made { OnOk result (AllParts IsMade (map step_of steps.old.items)
         → AllParts IsMade (map step_of steps.new.items)) }
 {
@@ -124,11 +120,11 @@ fn add_step(
 /// The program of lines.
 pub fn program(
     lines: &[Option<ProgramLine>],
-    owners: Owners,
+    owners: &[Slot],
     alloc: Global,
 ) -> Result<LoopProgram, NoMemory>
     ensures same { IfOk result (λ p. steps_of p
-        ≡ program_on (rows_at owners) (lines_steps lines.now)) }
+        ≡ program_on (slot_at owners.now) (lines_steps lines.now)) }
     ensures made { IfOk result (λ p. AllParts IsMade (steps_of p)) }
 {
     let mut steps = Vec::new(alloc);

@@ -12,5 +12,6 @@ mod templates;
 
 pub use graphs::templated;
 pub use linear::{lower_linear, slot_of};
+pub use shapes::{Mark, Owner};
 pub use slots::{cells, place_in, scratch_bit};
 pub use table::is_linear;

@@ -12,7 +12,6 @@ ghost use Rattle.word_lower.specs.Forms.{HasForm, IsWritten};
 ghost use Rattle.word_lower.specs.Shapes.{following, owners_of};
 
 use crate::bodies::program;
-use crate::shapes::Owners;
 use crate::slots::scratch_bit;
 use crate::table::lines;
 use block_lower::lower_block;
@@ -46,16 +45,16 @@ fn owner(names: &NameMap, args: &[Name], k: usize) -> Slot
 }
 
 /// The places of a statement's names.
-fn owners(names: &NameMap, target: &Name, args: &[Name]) -> Owners
+fn owners(names: &NameMap, target: &Name, args: &[Name]) -> [Slot; 4]
     ensures { (t : Slot) (ss : List Slot) → slots_of names.now target.now ≡ Some t
         → AreAt (slots_of names.now) args.now ss → result ≡ owners_of t ss names.now.free_bit }
 {
-    Owners {
-        target: slot_of(names, target),
-        first: owner(names, args, 0),
-        second: owner(names, args, 1),
-        third: owner(names, args, 2),
-    }
+    [
+        slot_of(names, target),
+        owner(names, args, 0),
+        owner(names, args, 1),
+        owner(names, args, 2),
+    ]
 }
 
 /// The loop program of a word operation of the table. It has no second target.
@@ -76,8 +75,8 @@ fn lower_word(
     ensures written { IfOk result (λ p. IsWritten (slots_of names.now) names.now.free_bit
         (Compute target.now _second.now op args.now) (steps_of p)) }
 {
-    let owners = owners(names, target, args);
-    let p = program(&lines(op, owners.target.kind), owners, alloc)?;
+    let kind = slot_of(names, target).kind;
+    let p = program(&lines(op, kind), &owners(names, target, args), alloc)?;
     Ok(p)
 }
 

@@ -1,15 +1,12 @@
 //! The bodies of loop programs, by what they compute.
 
-use loop_ir::{Slot, Sub};
+use loop_ir::Sub;
 
-/// Whose rows a place has: the target's, an argument's, or after the arguments those of the bit of
-/// scratch; or in which cells a state stands, by the number of their layout.
+/// Whose rows a place has, by the number that an operation gives it; or in which cells a state
+/// stands, by the number of their layout.
 #[derive(Clone, Copy)]
 pub enum Owner {
-    Target,
-    First,
-    Second,
-    Third,
+    Row(u8),
     Cells(u8),
 }
 
@@ -18,15 +15,6 @@ pub enum Owner {
 pub struct Mark {
     pub owner: Owner,
     pub sub: Sub,
-}
-
-/// The places of the owners.
-#[derive(Clone, Copy)]
-pub struct Owners {
-    pub target: Slot,
-    pub first: Slot,
-    pub second: Slot,
-    pub third: Slot,
 }
 
 /// What a body computes: from its reads, of which states are the last, into its writes, of which

@@ -1,7 +1,7 @@
 //! Rows outside the arguments, and places among rows.
 
 ghost use Rattle.std.specs.Prelude.{◌≡◌};
-ghost use Rattle.word_lower.specs.Places.{cells, scratch_bit, place_in};
+ghost use Rattle.word_lower.specs.Places.{cells, scratch_bit, slot_at, place_in};
 
 use loop_ir::{Place, Slot, Space, Sub};
 use op_text::Kind;
@@ -25,6 +25,22 @@ pub fn scratch_bit(which: u8) -> Slot
         space: Space::ScratchBit,
         which,
         kind: Kind::Bit,
+    }
+}
+
+/// The slot of this number; where there is none, that of no name.
+pub(crate) fn slot_at(owners: &[Slot], k: u8) -> Slot
+    ensures { result ≡ slot_at owners.now k }
+{
+    let k = usize::from(k);
+    if k < owners.len() {
+        owners[k]
+    } else {
+        Slot {
+            space: Space::Source,
+            which: 0,
+            kind: Kind::Word,
+        }
     }
 }
 

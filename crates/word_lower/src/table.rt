@@ -27,39 +27,48 @@ pub enum ProgramRow {
     Elsewhere,
 }
 
+// the owners: the target, the arguments, and after them the bit of scratch
+const TARGET: u8 = 0;
+
+const FIRST: u8 = 1;
+
+const SECOND: u8 = 2;
+
+const THIRD: u8 = 3;
+
 // the rows at the position: of the target, and of the first and the second argument
 const Z: Mark = Mark {
-    owner: Owner::Target,
+    owner: Owner::Row(TARGET),
     sub: Sub::Inner,
 };
 
 const X: Mark = Mark {
-    owner: Owner::First,
+    owner: Owner::Row(FIRST),
     sub: Sub::Inner,
 };
 
 const Y: Mark = Mark {
-    owner: Owner::Second,
+    owner: Owner::Row(SECOND),
     sub: Sub::Inner,
 };
 // the lowest row, which is the one of a bit
 const Z_BIT: Mark = Mark {
-    owner: Owner::Target,
+    owner: Owner::Row(TARGET),
     sub: Sub::Zero,
 };
 
 const X_BIT: Mark = Mark {
-    owner: Owner::First,
+    owner: Owner::Row(FIRST),
     sub: Sub::Zero,
 };
 
 const Y_BIT: Mark = Mark {
-    owner: Owner::Second,
+    owner: Owner::Row(SECOND),
     sub: Sub::Zero,
 };
 
 const S_BIT: Mark = Mark {
-    owner: Owner::Third,
+    owner: Owner::Row(THIRD),
     sub: Sub::Zero,
 };
 

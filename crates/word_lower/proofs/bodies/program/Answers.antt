@@ -1,7 +1,6 @@
 use Rattle.std.proofs.Common.{slice_index_or, sym, ap, ◌++◌, ◌∷◌, [], ◌∙◌, refl, None}
-use Rattle.word_lower.specs.Places.{program_on}
+use Rattle.word_lower.specs.Places.{slot_at, program_on}
 use Rattle.word_lower.specs.Lines.{lines_steps}
-use Rattle.word_lower.specs.Shapes.{rows_at}
 use Rattle.word_lower.proofs.Append.{lines_more}
 use Rattle.word_lower.proofs.bodies.program.Goals as goal
 
@@ -13,9 +12,9 @@ loop-line-preserved c =
     let so = c.loop-line.invariant in
     record {
       same = c.in_ok-add_step.ensures.same
-          ∙ ap (λ l. l ++ program_on (rows_at c.args.owners) (lines_steps (slice_index_or
+          ∙ ap (λ l. l ++ program_on (slot_at c.args.owners.now) (lines_steps (slice_index_or
           c.args.lines.now c.loop-line.line-index None ∷ []))) so.same
-          ∙ sym (lines_more (rows_at c.args.owners) c.args.lines.now c.loop-line.line-index None
+          ∙ sym (lines_more (slot_at c.args.owners.now) c.args.lines.now c.loop-line.line-index None
           c.loop-line-test.true);
       made = c.in_ok-add_step.ensures.made so.made;
     }

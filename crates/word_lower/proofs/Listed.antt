@@ -1,6 +1,10 @@
 -- Lists in which something may be wanting.
-use Rattle.word_flow.proofs.Common.{◌≡◌, ℕ, zero, suc, ◌<◌, ◌≤◌, List, [], ◌∷◌, length}
-use Rattle.word_flow.proofs.Common.{slice_index_or, refl, arith, Bit, Source, Slot, slot_at}
+use Rattle.std.proofs.Common.{◌≡◌, ℕ, zero, suc, ◌<◌, ◌≤◌, List, [], ◌∷◌, length, refl, arith}
+use Rattle.std.specs.Prelude.{slice_index_or}
+use Rattle.op_text.specs.declared.tree.Kind.TheVariants.{Word}
+use Rattle.loop_ir.specs.declared.ir.Space.TheVariants.{Source}
+use Rattle.loop_ir.specs.declared.names.Slot.{Slot}
+use Rattle.word_lower.specs.Places.{slot_at}
 
 -- the slot of a number, and where there is none
 pub slot_is : (ss : List Slot) (k : ℕ) (d : Slot) → k < length ss
@@ -10,7 +14,7 @@ slot_is (s ∷ ss) zero d lt = refl
 slot_is (s ∷ ss) (suc k) d lt = slot_is ss k d (omega (arith, lt))
 
 pub slot_none : (ss : List Slot) (k : ℕ) → length ss ≤ k
-    → ◌≡◌ {A = Slot} (record { space = Source; which = 0; kind = Bit }) (slot_at ss k)
+    → ◌≡◌ {A = Slot} (record { space = Source; which = 0; kind = Word }) (slot_at ss k)
 slot_none [] k le = refl
 slot_none (s ∷ ss) zero le = absurd (omega (arith, le))
 slot_none (s ∷ ss) (suc k) le = slot_none ss k (omega (arith, le))

@@ -1,6 +1,7 @@
-use Rattle.word_flow.proofs.Common.{ap, ◌∙◌, slot_at}
-use Rattle.word_flow.proofs.Listed.{slot_is, slot_none}
-use Rattle.word_flow.proofs.bodies.slot_at.Goals as goal
+use Rattle.std.proofs.Common.{ap, ◌∙◌}
+use Rattle.word_lower.specs.Places.{slot_at}
+use Rattle.word_lower.proofs.Listed.{slot_is, slot_none}
+use Rattle.word_lower.proofs.slots.slot_at.Goals as goal
 
 pub returns-then-k-owners : goal.returns-then-k-owners
 returns-then-k-owners c = let h = c.if-k-owners in
