@@ -7,7 +7,7 @@ import typing
 
 NAME, NUMBER, SYMBOL, STRANGER, END = "name", "number", "symbol", "stranger", "end"
 ITEM = re.compile(rb"(?P<gap>[ \t\r\n]+|#[^\n]*)|(?P<name>[A-Za-z_][A-Za-z0-9_]*)|(?P<number>[0-9]+)"
-                  rb"|(?P<symbol>->|[(){},;:=])|(?P<stranger>.)", re.DOTALL)
+                  rb"|(?P<symbol>->|[][(){},;:=])|(?P<stranger>.)", re.DOTALL)
 NAME_MAX = 16
 
 

@@ -10,10 +10,5 @@ pub mod Blocks
 pub mod Heads
 pub mod Ops
 pub mod Apart
-pub mod Passing
-pub mod MeetingHeads
-pub mod MeetingWords
-pub mod MeetingBlocks
-pub mod MeetingOps
 pub mod Holding
 pub mod Few

@@ -9,17 +9,22 @@ use Rattle.op_text.specs.declared.gate.Gate.{Gate}
 use Rattle.op_text.specs.declared.gate.Gate.TheVariants as gates
 use Rattle.op_text.specs.declared.grammar.Wanted.{Wanted}
 use Rattle.op_text.specs.declared.grammar.Wanted.TheVariants.{Value, GateOpen, More}
-use Rattle.op_text.specs.Items.{opens, spelling_of}
+use Rattle.op_text.specs.Items.{opens, spelling_of, terminal_of, is_opening}
 use Rattle.op_text.specs.Rules.{Scope, gate_arguments, gate_weight, is_bad, is_readable, breach_of}
 use Rattle.op_text.specs.Rules.{after, with_rules, unless, step}
 use Rattle.op_text.specs.Language.{Term, Nought, Unity, Named, Negation, Conjunction, Disjunction}
 use Rattle.op_text.specs.Language.{Parity, Majority}
 use Rattle.op_text.specs.Scratch.{term_weight}
-use Rattle.op_text.specs.Spelling.{is_good, term_text, items_spelled, heavier, opens_next}
+use Rattle.op_text.specs.Spelling.{is_good, term_text, items_spelled, heavier, kind_of_text}
 use Rattle.op_text.specs.Spelling.{TermMeets, HasNames}
 use Rattle.op_rules.proofs.Names.{or_first, or_second}
 use Rattle.op_rules.proofs.Tokens.{goes, name_lexeme, named, one_rule, two_rules, not_bad, le_no}
 use Rattle.op_rules.proofs.Tokens.{lt_no, not_not}
+
+-- whether the next spelling is the opening parenthesis, which makes the name before it a gate
+abbrev pub opens_next : List (List ℕ) → Bool
+opens_next [] = false
+opens_next (text ∷ rest) = is_opening (terminal_of (kind_of_text text) text)
 
 pub opens_same : (rest : List (List ℕ)) → opens (items_spelled rest) ≡ opens_next rest
 opens_same [] = refl

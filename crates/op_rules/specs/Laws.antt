@@ -1,5 +1,5 @@
 -- The laws of the rules.
-use Rattle.std.specs.Prelude.{◌≡◌, ◌≤◌, ℕ, List, ◌∷◌, ◌++◌, Option, Some, length, ◌↔◌}
+use Rattle.std.specs.Prelude.{◌≡◌, ◌≤◌, ℕ, List, ◌∷◌, ◌++◌, Option, Some, length}
 use Rattle.std.specs.List.{flat_map}
 use Rattle.std.specs.Option.{option_to_list}
 use Rattle.op_text.specs.declared.tree.Kind.{Kind}
@@ -15,10 +15,9 @@ use Rattle.op_rules.specs.Meets.{IsNew, Differ, names_of, Context, lets_of, next
 use Rattle.op_rules.specs.Meets.{StatementMeets}
 use Rattle.op_rules.specs.Meets.{WordMeets, OperationMeets, OpsMeet}
 
--- Ops meet the rules as trees exactly where their names are names and the tokens of their text
--- break none.
-abbrev pub RulesAreExact : Type 0
-RulesAreExact = (all : List Operation) → (Each HasOperation all × MeetRules all) ↔ OpsMeet all
+-- Ops whose names are names, and the tokens of whose text break no rule, meet the rules as trees.
+abbrev pub RulesAreMet : Type 0
+RulesAreMet = (all : List Operation) → Each HasOperation all → MeetRules all → OpsMeet all
 
 -- as many names of a kind as an op can define: 16 statements, each of at most eight
 abbrev pub MAX_NAMES : ℕ

@@ -2,11 +2,11 @@
 
 ghost use Rattle.op_rules.specs.Laws.{KindsAreHeld, KindsAreKept, NamesStandOnce, OthersStay};
 ghost use Rattle.op_rules.specs.Laws.{TargetsAreApart};
-ghost use Rattle.op_rules.specs.Laws.{RulesAreExact, ScratchIsSmall, StatementsMeet};
+ghost use Rattle.op_rules.specs.Laws.{RulesAreMet, ScratchIsSmall, StatementsMeet};
 
-/// Ops meet the rules as trees exactly where the tokens of their text break none.
-pub fn rules_are_exact()
-    ensures { RulesAreExact }
+/// Ops the tokens of whose text break no rule meet the rules as trees.
+pub fn rules_are_met()
+    ensures { RulesAreMet }
 {}
 
 /// An op has at most 128 names of a kind beside its results, and needs at most 130 rows of scratch.

@@ -5,7 +5,7 @@ mod laws;
 mod trees;
 
 pub use laws::{
-    kinds_are_held, names_stand_once, others_stay, rules_are_exact, scratch_is_small,
+    kinds_are_held, names_stand_once, others_stay, rules_are_met, scratch_is_small,
     statements_meet, targets_are_apart,
 };
 pub use trees::ops_meet;

@@ -4,7 +4,7 @@ ghost use Rattle.op_text.specs.Language.{operations};
 ghost use Rattle.op_text.specs.Spelling.{MeetRules, Each, HasOperation};
 ghost use Rattle.op_rules.specs.Meets.{OpsMeet};
 
-use crate::laws::rules_are_exact;
+use crate::laws::rules_are_met;
 use op_text::{Ops, names_are_names};
 
 /// Tells that ops whose tokens break no rule meet the rules as trees. It reads each name once, and
@@ -15,5 +15,5 @@ pub fn ops_meet(ops: &Ops)
     ensures meets { OpsMeet (operations ops.now) }
 {
     names_are_names(ops);
-    rules_are_exact();
+    rules_are_met();
 }

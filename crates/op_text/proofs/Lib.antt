@@ -7,7 +7,6 @@ pub mod Steps
 pub mod Link
 pub mod Rows
 pub mod Operations
-pub mod Accepted
 pub mod Places
 pub mod Unique
 pub mod Bounds

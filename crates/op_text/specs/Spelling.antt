@@ -1,6 +1,6 @@
 -- How values are spelled, and which values meet the rules.
-use Rattle.std.specs.Prelude.{◌≡◌, ◌+◌, ◌<◌, ◌≤◌, ℕ, Bool, true, false, ◌&&◌, List, [], ◌∷◌, map}
-use Rattle.std.specs.Prelude.{Option, Some, None, ◌↔◌, codes, length, if◌then◌else◌}
+use Rattle.std.specs.Prelude.{◌≡◌, ◌+◌, ◌<◌, ℕ, Bool, true, false, ◌&&◌, List, [], ◌∷◌, map}
+use Rattle.std.specs.Prelude.{Option, Some, None, ◌↔◌, codes, if◌then◌else◌}
 use Rattle.text_lex.specs.Lexical.{Item, Whole, Bad, is_token}
 use Rattle.text_lex.specs.Spelled.{fits_name}
 use Rattle.text_lex.specs.declared.token.TokenKind.{TokenKind}
@@ -10,14 +10,12 @@ use Rattle.op_text.specs.declared.tree.Kind.TheVariants.{Word, Bit}
 use Rattle.op_text.specs.declared.tree.Param.{Param}
 use Rattle.op_text.specs.declared.tree.State.{State}
 use Rattle.op_text.specs.WordOps.{op_text}
-use Rattle.op_text.specs.Items.{spelling_of, terminal_of, is_opening}
+use Rattle.op_text.specs.Items.{spelling_of}
 use Rattle.op_text.specs.declared.grammar.Wanted.{Wanted}
-use Rattle.op_text.specs.declared.grammar.Wanted.TheVariants.{Value}
-use Rattle.op_text.specs.Rules.{Scope, is_plain, is_readable, breach_of, first_breach, MAX_WEIGHT}
+use Rattle.op_text.specs.Rules.{Scope, is_plain, breach_of, first_breach}
 use Rattle.op_text.specs.Rules.{MAX_DEPTH}
 use Rattle.op_text.specs.Language.{Term, Nought, Unity, Named, Negation, Conjunction, Disjunction}
 use Rattle.op_text.specs.Language.{Parity, Majority, Equation, Statement, Compute, Visit, Operation}
-use Rattle.op_text.specs.Scratch.{term_weight}
 
 -- the tokens of an expression, in front of others
 abbrev pub term_text : Term → List (List ℕ) → List (List ℕ)
@@ -71,23 +69,6 @@ items_spelled texts = map unplaced texts
 -- the scope of a block whose gates weigh so much more
 abbrev pub heavier : Scope → ℕ → Scope
 heavier s w = record s { block = record s.block { weight = s.block.weight + w } }
-
--- whether a spelling is the opening parenthesis
-abbrev pub opens_text : List ℕ → Bool
-opens_text text = is_opening (terminal_of (kind_of_text text) text)
-
--- whether the next spelling is one, which would make the name before it a gate
-abbrev pub opens_next : List (List ℕ) → Bool
-opens_next [] = false
-opens_next (text ∷ rest) = opens_text text
-
--- An expression that meets the rules breaks none where it is spelled, and adds its weight.
-abbrev pub TermsAreAccepted : Type 0
-TermsAreAccepted = (e : Term) (s : Scope) (depth : ℕ) (wanted : List Wanted) (rest : List (List ℕ))
-    → opens_next rest ≡ false → length s.block.missing ≡ depth
-    → TermMeets (is_readable s) depth e → s.block.weight + term_weight e ≤ MAX_WEIGHT
-    → breach_of (Value ∷ wanted) s (items_spelled (term_text e rest))
-    ≡ breach_of wanted (heavier s (term_weight e)) (items_spelled rest)
 
 -- an item without its place
 abbrev pub bare : Item → Item

@@ -5,7 +5,7 @@ ghost use Rattle.text_lex.specs.Lexical.{Item};
 ghost use Rattle.op_text.specs.Trees.{IsTheGrammar, SyntaxIsTheGrammars};
 ghost use Rattle.op_text.specs.WordOps.{FirstSettles};
 ghost use Rattle.op_text.specs.Meaning.{MeaningFits};
-ghost use Rattle.op_text.specs.Spelling.{TermsAreAccepted, PlacesDoNotMatter, SpelledOnce};
+ghost use Rattle.op_text.specs.Spelling.{PlacesDoNotMatter, SpelledOnce};
 ghost use Rattle.op_text.specs.Spelling.{OpsSpelledOnce};
 ghost use Rattle.op_text.specs.OpsOf.{OpsOfATextAreOne, OpsOfATextMeet, TextsOfOps};
 
@@ -17,11 +17,6 @@ pub fn grammar_is_followed()
 /// The first breach of items is another rule's, or exactly what the grammar finds in them.
 pub fn syntax_is_the_grammars()
     ensures { (items : List Item) → SyntaxIsTheGrammars items }
-{}
-
-/// An expression that meets the rules breaks none where it is spelled.
-pub fn terms_are_accepted()
-    ensures { TermsAreAccepted }
 {}
 
 /// Whether tokens break a rule does not rest on their places.

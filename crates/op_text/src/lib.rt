@@ -15,8 +15,7 @@ pub use gate::{Gate, gate_of};
 pub use grammar::Wanted;
 pub use laws::{
     first_settles, grammar_is_followed, meaning_fits, ops_of_a_text_are_one, ops_of_a_text_meet,
-    ops_spelled_once, places_do_not_matter, spelled_once, syntax_is_the_grammars,
-    terms_are_accepted, texts_of_ops,
+    ops_spelled_once, places_do_not_matter, spelled_once, syntax_is_the_grammars, texts_of_ops,
 };
 pub use names::names_are_names;
 pub use terminal::{Spelling, Terminal, spelling_of, terminal_of};
