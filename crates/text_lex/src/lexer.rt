@@ -32,7 +32,10 @@ fn is_blank(b: u8) -> bool
 fn is_mark(b: u8) -> bool
     ensures { result ≡ is_mark b }
 {
-    matches!(b, b'(' | b')' | b'{' | b'}' | b'[' | b']' | b',' | b';' | b':' | b'=')
+    matches!(
+        b,
+        b'(' | b')' | b'{' | b'}' | b'[' | b']' | b',' | b';' | b':' | b'='
+    )
 }
 
 fn name_len(bytes: &[u8]) -> usize
