@@ -16,6 +16,7 @@ import typing
 
 from ..launcher.faults import Fault
 from ..launcher.settings import Settings
+from ..launcher.tool_parser import tool_parser
 from .costs import EntryCost, costs_at
 from .table_formats import FORMATS, Rows
 
@@ -92,8 +93,7 @@ def ratio(cost: EntryCost | None, first: EntryCost | None) -> str:
 
 
 def parser() -> argparse.ArgumentParser:
-    made = argparse.ArgumentParser(prog="simdram cost-table", description=__doc__,
-                                   formatter_class=argparse.RawDescriptionHelpFormatter)
+    made = tool_parser("cost-table", __name__)
     made.add_argument("progs", metavar="PROG", nargs="+", help="a program file; the ratios are to the first")
     made.add_argument("--widths", default="8,16,32,64", metavar="N,N,..")
     made.add_argument("--banks", type=int, default=1, help="over how many banks the elements stand, of one file")

@@ -16,6 +16,7 @@ import typing
 from ..launcher.faults import Fault
 from ..launcher.say import say
 from ..launcher.settings import Settings
+from ..launcher.tool_parser import tool_parser
 from . import formulas, picture
 from .cost_table import labels_of
 from .costs import EntryCost, costs_at
@@ -100,7 +101,7 @@ def width(text: str) -> int:
 
 
 def parser() -> argparse.ArgumentParser:
-    made = argparse.ArgumentParser(prog="simdram plot", description=__doc__, formatter_class=argparse.RawDescriptionHelpFormatter)
+    made = tool_parser("plot", __name__)
     made.add_argument("files", metavar="PROG .. OUT", nargs="+", help="program files, and the picture, OUT.svg or OUT.png")
     made.add_argument("--ops", default="", metavar="NAME,..", help="the entries to draw; all where none is given")
     made.add_argument("--to", type=width, default=64, metavar="N", help="the greatest width, 1 to 128")

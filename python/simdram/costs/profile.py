@@ -22,6 +22,7 @@ from ..launcher import run_program
 from ..launcher.commands import MAGIC
 from ..launcher.faults import Fault
 from ..launcher.settings import Settings
+from ..launcher.tool_parser import tool_parser
 from ..launcher.words import RANGES
 from ..rules.op_shapes import OpShape
 from ..rules.ops_rules import op_shape
@@ -119,7 +120,7 @@ def profile(entry: Entry, width: int, cost: EntryCost, text: tuple[OpShape, byte
 def profiles(path: str, widths: list[int], settings: Settings, ops: str | None = None) -> list[Profile]:
     """The profiles of a program file's entries at widths; `ops` is the file of its operation text."""
     program = Program.load(path)
-    data = load(ops) if ops else b""
+    data = load(ops, "ops") if ops else b""
     texts = {entry.name: (op_shape(ops, data, entry.name), data) if ops else None for entry in program.entries}
     found = costs_at([path], widths, settings, "profile")
     return [profile(entry, width, found[path, width][k], texts[entry.name])
@@ -172,7 +173,7 @@ def width_of(text: str) -> int:
 
 
 def parser() -> argparse.ArgumentParser:
-    made = argparse.ArgumentParser(prog="simdram profile", description=__doc__, formatter_class=argparse.RawDescriptionHelpFormatter)
+    made = tool_parser("profile", __name__)
     made.add_argument("file", metavar="OPS|PROG")
     made.add_argument("widths", metavar="N", nargs="+", type=width_of, help="a width, 1 to 128")
     made.add_argument("--ops", metavar="OPS", help="the operation text that PROG was compiled from")

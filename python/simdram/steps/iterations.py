@@ -84,7 +84,7 @@ class Execution:
 
 def execution(entry: Entry, ops: str | None, numbers: str, width: int | None) -> Execution:
     """The execution of an entry on numbers that are given by the operands' names."""
-    rows = RowNames(op_shape(ops, load(ops), entry.name) if ops else None)
+    rows = RowNames(op_shape(ops, load(ops, "ops"), entry.name) if ops else None)
     names = [rows.base(Row(SOURCE, which, REGISTERS)) for which in range(len(entry.sources))]
     values, chosen = numbers_of(numbers, names, entry.sources, width)
     return Execution(entry, chosen, values, rows)

@@ -30,8 +30,9 @@ from ..files.decode import CELLS
 from ..files.program import Program
 from ..files.store import load
 from ..launcher.faults import Fault
-from ..launcher.overwrite import check_tool
+from ..launcher.overwrite import write
 from ..launcher.settings import Settings
+from ..launcher.tool_parser import tool_parser
 from ..rules.op_shapes import OpShape
 from ..rules.ops_rules import op_shape
 from .board import Board
@@ -119,7 +120,7 @@ class View:
     """An entry as it is shown, with the designer's names where the text is given, and bits where numbers are."""
 
     def __init__(self, entry, ops: str | None, run: Execution | None = None, iteration: int = 1) -> None:
-        data = load(ops) if ops else b""
+        data = load(ops, "ops") if ops else b""
         self.entry, self.run, self.iteration = entry, run, iteration
         self.shape: OpShape | None = op_shape(ops, data, entry.name) if ops else None
         self.rows, found = RowNames(self.shape), parts(entry.code)
@@ -158,7 +159,7 @@ def all_shown(entry, ops: str | None) -> list[Shown]:
 
 
 def parser() -> argparse.ArgumentParser:
-    made = argparse.ArgumentParser(prog="simdram steps", description=__doc__, formatter_class=argparse.RawDescriptionHelpFormatter)
+    made = tool_parser("steps", __name__)
     made.add_argument("prog", metavar="PROG")
     made.add_argument("op", metavar="OP")
     made.add_argument("--ops", metavar="OPS", help="the operation text that PROG was compiled from")
@@ -182,9 +183,7 @@ def main(words: list[str], settings: Settings) -> int:
     run = execution(entry, asked.ops, asked.numbers, asked.width) if asked.numbers else None
     view = View(entry, asked.ops, run, asked.iteration)
     if asked.html:
-        check_tool(asked.html, b"<!DOCTYPE html>", "a page is", settings)
-        with open(asked.html, "w", encoding="utf-8") as file:
-            file.write(page(asked.op, view.shown, run.said if run else ""))
+        write(asked.html, page(asked.op, view.shown, run.said if run else "").encode(), "page", settings)
         return 0
     if run:
         print(run.said)
