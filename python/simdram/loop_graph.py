@@ -10,7 +10,7 @@ import typing
 
 from . import run_program
 from .block_graph import positions_of, read_names, written
-from .board import Board, over
+from .board import Board, done_by, over
 from .cell_values import ALL, Names, drawn
 from .code_parts import WIDEST, Part, parts, with_statements
 from .faults import Fault
@@ -45,7 +45,7 @@ class GraphBoard(Board):
     """A board whose cells and rows hold literals of a graph."""
 
     def __init__(self, part: Part, rows: RowNames, cells: dict[str, int], graph: Graph, name_of) -> None:
-        super().__init__(part.code, rows, Names({}, WIDEST))
+        super().__init__(part, rows, Names({}, WIDEST))
         self.cells = {**dict.fromkeys(CELLS), **cells}
         self.graph, self.name_of = graph, name_of
 
@@ -154,10 +154,7 @@ def renamed(text: str, called: dict[str, tuple[str, bool]]) -> str:
 
 def of_part(block: Statement, shape: OpShape, part: Part, rows: RowNames, states: dict[str, str]) -> Compiled:
     """The graph of one execution of a part, whose cells hold these states at its start."""
-    trial = Board(part.code, rows, Names({}, WIDEST))
-    for one in part.code:
-        trial.do(one)
-    offsets = sorted({int(SUBSCRIPT.search(name)[1] or 0) for name in trial.rows if SUBSCRIPT.search(name)},
+    offsets = sorted({int(SUBSCRIPT.search(name)[1] or 0) for name in done_by(part, rows, {}).rows if SUBSCRIPT.search(name)},
                      reverse=block.direction == "down")
 
     def name_of(name: str) -> str:

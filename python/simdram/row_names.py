@@ -3,6 +3,7 @@
 from __future__ import annotations
 
 from .cell_values import ALL, drawn
+from .files.decode import CELLS
 from .files.program import BIT, INDEXED, RESULT, SOURCE, WORD, Row
 from .op_shapes import OpShape, Statement
 from .tokens import Token
@@ -40,7 +41,9 @@ class RowNames:
     def text(self, row: Row, subscript) -> str:
         """A row's name, where the subscript of a register is given by a function."""
         base = self.base(row)
-        return f"{base}[{subscript(row.index)}]" if row.space in INDEXED and base not in self.bits else base
+        if row.space in INDEXED and base not in self.bits:
+            return f"{base}[{subscript(row.index)}]"
+        return base + "'" * (base in CELLS)
 
 
 def let_patterns(shape: OpShape, statement: Statement) -> dict[str, int]:

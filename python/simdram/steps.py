@@ -7,9 +7,11 @@ round`, where another body stands in the others; `if r2 > 0 at 24` for what is d
 at instruction 24 asks. What has none of these is done once. A loop may have no iteration.
 With --ops, sources, results, states and temporaries have the names of the operation text, and it is said which statement a
 part is of. Without it, sources are a, b, c, d, results y and z, scratch bits t0, t1, .., scratch words w0, .. and spill rows
-p0, ..; [i] is the position where one register counts it, and else the register's name, and below the table stands what the
-register is. A cell that the part has not written yet holds ?; `old t` is what the row t held before the part writes it, or,
-where a loop takes the value over from one iteration to the next in cells, what these hold; a value that goes to no row is s.
+p0, ..; [i] is the position where one register counts it, and else it is counted from registers as the part begins, as r3, or
+it is a number, or n with one; below the table stands what these registers are. A cell that the part has not written yet holds
+?; `old t` is what the row t held before the part writes it, or, where a loop takes the value over from one iteration to the
+next in cells, what these hold; `now t` is what t holds after a row was written that may be t, as their positions may be equal;
+a value that goes to no row is s.
 `old T1` is what a part finds in cell T1, and in every other cell that always holds the same then; what is always 0 or 1, is so.
 `~x` is the complement of x, M(x, y, z) the majority; and(x, y) and or(x, y) are majorities with 0 and with 1. A long value
 gets a number, as v1, which stands below its table with its value.
@@ -26,7 +28,7 @@ import argparse
 import textwrap
 import typing
 
-from .board import Board
+from .board import Board, changing, done_by
 from .cell_values import Names, Value
 from .cells_before import before
 from .code_parts import WIDEST, Part, parts, with_statements
@@ -59,19 +61,18 @@ class Step(typing.NamedTuple):
 
 def steps(part: Part, rows: RowNames, names: Names, taken: dict[str, Value] | None = None) -> list[Step]:
     """The row commands of a part in order, and what cells and rows hold after each."""
-    trial = Board(part.code, rows, Names({}, WIDEST), taken)
+    board, found = Board(part, rows, names, taken, changing(done_by(part, rows, taken))), []
     for one in part.code:
-        trial.do(one)
-    board, found = Board(part.code, rows, names, taken, trial.written), []
-    for one in part.code:
-        text = f"{one.name} {', '.join(map(board.name, one.rows))}" if one.rows else ""
-        of_rows = [board.name(row) for row in one.rows if row.is_data]
-        before = {**{name: board.before(name) for name in of_rows}, **board.cells, **board.rows}
+        sensed = board.name(one.rows[0]) if one.rows and one.rows[0].is_data else ""
+        first = {sensed: board.before(sensed)} if sensed else {}
+        before = {**first, **board.cells, **board.rows}
         if board.do(one):
+            text = f"{one.name} {', '.join(map(board.name, one.rows))}"
             after = {**board.cells, **board.rows}
-            changed = [name for name, value in after.items() if value.pattern != before[name].pattern]
+            changed = [name for name, value in after.items() if name not in before or value.pattern != before[name].pattern]
             found.append(Step(text, {cell: value.text for cell, value in board.cells.items()},
-                              {name: value.text for name, value in board.rows.items()}, changed, of_rows))
+                              {name: value.text for name, value in board.rows.items()}, changed,
+                              [board.name(row) for row in one.rows if row.is_data]))
     return found
 
 
@@ -148,7 +149,7 @@ class View:
             lines.insert(len(title), f"iteration {one} of {counted(bits)}{': ' if inside else ''}{inside}")
         for name, what in subscripts:
             lines += textwrap.wrap(f"{name} is {what}", WIDEST, initial_indent="  ", subsequent_indent="    ")
-        start = {cell: value.text for cell, value in Board(part.code, self.rows, names, taken).cells.items()}
+        start = {cell: value.text for cell, value in Board(part, self.rows, names, taken).cells.items()}
         return Shown(part, done, lines, names.said, subscripts, start, bits)
 
 

@@ -20,7 +20,7 @@ def part_data(one) -> dict:
 def iteration(one, each: dict) -> dict:
     """An iteration of a part as the page has it: a digit for each value that is shown after a command."""
     bits = ["".join(bits[name] for name in names(step)) for step, bits in zip(one.done, each["bits"])]
-    return {"registers": each["registers"], "inside": each["inside"], "bits": bits}
+    return {"registers": each["registers"], "held": each["held"], "inside": each["inside"], "bits": bits}
 
 
 def names(step) -> list[str]:

@@ -77,6 +77,25 @@ class Pages(unittest.TestCase):
         self.assertNotIn("y[r4]", " ".join(rows[-1:]))
         self.assertEqual({step.rows["a[r3]"] for step in accumulated.done[1:]}, {"a[r3]"})
 
+    def test_a_register_that_is_set_again(self):
+        (self.folder / "f.micro").write_text("program f(a: word) -> y: bit\nAAP a[1] T1\nAAP a[2] ~DCC0\nAAP C0 T2\n"
+                                             "AAP {DCC0, T1, T2} y\n")
+        self.assertEqual(self.call("assemble", "f.micro", "f.prog").returncode, 0)
+        said = self.call("steps", "f.prog", "f", "--with", "a=2", "--width", "4").stdout
+        for shown in ("AAP a[1], B1", "AAP a[2], B5", "y[0] = v1=1", "v1 = and(a[1], ~a[2])", "a[1]=1", "~a[2]=1"):
+            self.assertIn(shown, said)
+        self.assertEqual(self.call("steps", "f.prog", "f", "--html", "f.html").returncode, 0)
+        step = json.loads((self.folder / "f.html").read_text().partition("const parts = ")[2].partition(";\n")[0])[0]["steps"][-1]
+        self.assertEqual(step["rows"], {"a[1]": "a[1]", "a[2]": "a[2]", "y[0]": "v1"})
+
+    def test_rows_that_may_be_one(self):
+        (self.folder / "g.micro").write_text("program g(a: word) -> y: word\nSETN r0\nl:\nSUBI r0 1\nAAP y[0] T0\nAAP a[r0] y[r0]\n"
+                                             "AAP y[0] T1\nBNEZ r0 l\n")
+        self.assertEqual(self.call("assemble", "g.micro", "g.prog").returncode, 0)
+        said = self.call("steps", "g.prog", "g").stdout
+        self.assertIn("AAP y[0], B0    old y[0]", said)
+        self.assertIn("now y[0]", said)
+
     def test_what_a_subscript_is(self):
         accumulated = View(self.program.find("product"), self.ops).shown[-1]
         names = [name for name, _ in accumulated.subscripts]
