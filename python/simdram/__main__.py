@@ -6,35 +6,35 @@ import importlib
 import signal
 import sys
 
-from . import help_text
-from .commands import ALL
-from .faults import WRONG, Fault
 from .files.fault import FileFault
-from .say import say
-from .settings import Settings, taken
+from .launcher import help_text
+from .launcher.commands import ALL
+from .launcher.faults import WRONG, Fault
+from .launcher.say import say
+from .launcher.settings import Settings, taken
 
 HELP = ("help", "--help", "-h")
 INTERRUPTED = 130
 TOOL_MODULES = {
-    "image": "image_tool",
-    "explain": "explain",
-    "report": "report",
-    "cost-table": "cost_table",
-    "profile": "profile",
-    "steps": "steps",
-    "plot": "plot",
-    "flips": "flips_tool",
-    "survival": "survival",
-    "trace-text": "trace_text",
-    "from-hex": "from_hex",
-    "graph": "graph_tool",
-    "from-blif": "from_blif",
-    "assemble": "assemble_tool",
-    "disassemble": "disassemble_tool",
-    "link": "link_tool",
-    "simplify": "simplify_tool",
-    "build": "build_tool",
-    "prove": "prove",
+    "image": "files.image_tool",
+    "explain": "rules.explain",
+    "report": "costs.report",
+    "cost-table": "costs.cost_table",
+    "profile": "costs.profile",
+    "steps": "steps.steps_tool",
+    "plot": "costs.plot",
+    "flips": "survival.flips_tool",
+    "survival": "survival.survival_tool",
+    "trace-text": "files.trace_text",
+    "from-hex": "files.from_hex",
+    "graph": "graphs.graph_tool",
+    "from-blif": "graphs.from_blif",
+    "assemble": "assembler.assemble_tool",
+    "disassemble": "assembler.disassemble_tool",
+    "link": "assembler.link_tool",
+    "simplify": "simplify.simplify_tool",
+    "build": "launcher.build_tool",
+    "prove": "launcher.prove",
 }
 
 
@@ -80,7 +80,7 @@ def start(words: list[str]) -> int:
         return tool(name, others, settings)
     if name in ALL and any(word in HELP[1:] for word in others):
         return help_on([name], settings)
-    from .launch import launch
+    from .launcher.launch import launch
     return launch(words, settings)
 
 

@@ -18,8 +18,8 @@ from simdram.assembler.listing import raw_text
 from simdram.assembler.reading import readable_text
 from simdram.assembler.walks import walk
 from simdram.files.fault import FileFault
+from simdram.files.from_hex import bytes_in
 from simdram.files.program import Program
-from simdram.from_hex import bytes_in
 
 CASE_HEX = re.compile(r"^hex \S+((?: [0-9A-Fa-f ]+)?(?:\n\|[0-9A-Fa-f ]*(?:#.*)?)*)$", re.MULTILINE)
 FEWEST = TOP / "examples" / "fewest"

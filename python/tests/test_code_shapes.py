@@ -5,11 +5,11 @@ import unittest
 import support  # noqa: F401 (the folder of simdram)
 
 from simdram.assembler import assemble
-from simdram.cells_before import before
-from simdram.code_parts import parts
-from simdram.loops_and_ways import outline
-from simdram.registers import Held
-from simdram.row_names import RowNames
+from simdram.assembler.loops_and_ways import outline
+from simdram.steps.cells_before import before
+from simdram.steps.code_parts import parts
+from simdram.steps.registers import Held
+from simdram.steps.row_names import RowNames
 
 CHOICES = """program f(a: word) -> y: word
   SETT r0

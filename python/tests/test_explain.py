@@ -11,16 +11,16 @@ import support
 from support import TOP, needs_program
 from test_words import called
 
-from simdram import word_ops
-from simdram.answers import first_fault, no_triples, query_refusals, script_refusals
+from simdram.files.from_hex import bytes_in
 from simdram.files.image import Image, Object
 from simdram.files.program import Program
-from simdram.flips_rules import explain_flips
-from simdram.from_hex import bytes_in
-from simdram.ops_rules import explain_ops
-from simdram.query_rules import read_query
-from simdram.script_rules import read_script
-from simdram.table import HEAD_MAX, Table
+from simdram.files.table import HEAD_MAX, Table
+from simdram.rules import word_ops
+from simdram.rules.answers import first_fault, no_triples, query_refusals, script_refusals
+from simdram.rules.flips_rules import explain_flips
+from simdram.rules.ops_rules import explain_ops
+from simdram.rules.query_rules import read_query
+from simdram.rules.script_rules import read_script
 
 HEAD = "op f(a: word, b: word, s: bit) -> y: word {\n"
 # a text, the kind, the line and column, the token, and words of what would be right

@@ -11,13 +11,13 @@ import unittest
 from support import needs_program
 from test_words import called
 
-from simdram.blif_file import Reader, in_order
-from simdram.block_graph import written
-from simdram.from_blif import Block
-from simdram.least_gates import expressions, text
-from simdram.mig import Graph
-from simdram.mig_formats import Ands, as_aiger, as_blif, as_dot
-from simdram.ops_rules import shapes_of
+from simdram.graphs.blif_file import Reader, in_order
+from simdram.graphs.block_graph import written
+from simdram.graphs.from_blif import Block
+from simdram.graphs.least_gates import expressions, text
+from simdram.graphs.mig import Graph
+from simdram.graphs.mig_formats import Ands, as_aiger, as_blif, as_dot
+from simdram.rules.ops_rules import shapes_of
 
 ABC = shutil.which("berkeley-abc") or shutil.which("abc")
 OPS = """op sum(a: word, b: word) -> y: word { serial up (c = 0) { let x = xor(a, b); y = xor(x, c); c = maj(a, b, c); } }

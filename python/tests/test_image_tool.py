@@ -13,11 +13,11 @@ import unittest
 import support
 from support import needs_numpy, numpy
 
-from simdram import image_tool
+from simdram.files import image_tool
 from simdram.files import numbers
 from simdram.files.fault import FileFault
 from simdram.files.image import Image
-from simdram.settings import Settings
+from simdram.launcher.settings import Settings
 
 
 class Tool(unittest.TestCase):

@@ -37,7 +37,7 @@ class Door(unittest.TestCase):
     """The package itself."""
 
     def test_the_package_needs_no_numpy_until_the_front_is_used(self):
-        lines = ("import sys; sys.modules['numpy'] = None; import simdram, simdram.image_tool\n"
+        lines = ("import sys; sys.modules['numpy'] = None; import simdram, simdram.files.image_tool\n"
                  "try:\n    simdram.Chip\nexcept ImportError as missing:\n    print(missing)")
         ended = subprocess.run([sys.executable, "-c", lines], cwd=support.TOP / "python", capture_output=True,
                                text=True, check=False)

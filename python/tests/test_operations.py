@@ -9,8 +9,8 @@ import unittest
 import support
 from support import needs_program
 
-from simdram import image_tool
-from simdram.word_ops import TAKES_GIVES, forms
+from simdram.files import image_tool
+from simdram.rules.word_ops import TAKES_GIVES, forms
 
 WIDTHS = (*range(1, 21), 31, 32, 33, 63, 64, 65, 127, 128)
 COUNT = 64

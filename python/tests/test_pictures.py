@@ -6,10 +6,10 @@ import unittest
 from support import TOP, needs_program
 from test_tools import Folder
 
-from simdram.faults import Fault
-from simdram.formulas import value
-from simdram.picture import Line, Picture, number, stepped, svg
-from simdram.table_formats import as_csv, as_latex, as_markdown
+from simdram.costs.formulas import value
+from simdram.costs.picture import Line, Picture, number, stepped, svg
+from simdram.costs.table_formats import as_csv, as_latex, as_markdown
+from simdram.launcher.faults import Fault
 
 FIRST = "op f(a: word, b: word) -> y: word { y = add(a, b); }\nop g(a: word) -> y: word { y = not(a); }\n"
 SECOND = "op f(a: word, b: word) -> y: word { t = add(a, b); y = not(t); }\nop h(a: word) -> y: word { y = copy(a); }\n"

@@ -9,11 +9,11 @@ from support import TOP, needs_numpy, needs_program, numpy
 from test_tools import Folder
 
 import simdram
-from simdram.execution import executions
+from simdram.assembler.execution import executions
+from simdram.costs.profile import of_file
 from simdram.files.program import Program
-from simdram.profile import of_file
-from simdram.settings import Settings
-from simdram.word_ops import TAKES_GIVES
+from simdram.launcher.settings import Settings
+from simdram.rules.word_ops import TAKES_GIVES
 
 MAC = "op mac(a: word, b: word, c: word) -> y: word {\n  t = mul(a, b);\n  y = add(t, c);\n}\n"
 

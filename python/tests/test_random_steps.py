@@ -13,9 +13,9 @@ from simdram.assembler.rows import read_form
 from simdram.files.decode import CELLS, RAISED
 from simdram.files.program import (AAP, ADD, ADDI, B_ADDRESS, BNEZ, C_ADDRESS, DONE, INDEXED, MOV, REGISTERS, SETI, SETN, SETT,
                                    SUBI, WORD, Program)
-from simdram.iterations import Execution
-from simdram.row_names import RowNames
-from simdram.steps import View
+from simdram.steps.iterations import Execution
+from simdram.steps.row_names import RowNames
+from simdram.steps.steps_tool import View
 
 HEAD = "program f(a: word, s: bit) -> y: word\nscratch t0: bit, w0: word\n"
 FIRST = ("T0", "T1", "~DCC0", "DCC1", "{T0, T1, T2}", "{T1, T2, T3}", "{DCC0, T1, T2}", "{DCC1, T0, T3}", "C0", "C1", "t0", "p0", "s[0]")

@@ -15,17 +15,17 @@ from guessed_costs import Guessed
 from random_ops import Maker
 from support import TOP, needs_program, program
 
-from simdram import run_program, simplify_tool
-from simdram.faults import Fault
-from simdram.settings import Settings
-from simdram.simplify import equal, sums
+from simdram.launcher import run_program
+from simdram.launcher.faults import Fault
+from simdram.launcher.settings import Settings
+from simdram.rules.verdicts import RIGHT, UNKNOWN
+from simdram.simplify import equal, simplify_tool, sums
 from simdram.simplify.equal import Comparer
 from simdram.simplify.op_tree import read_ops
 from simdram.simplify.outcome import WRONG
 from simdram.simplify.search import Search
 from simdram.simplify.simplifier import Options, Simplifier
 from simdram.simplify.statement_cache import StatementCache
-from simdram.verdicts import RIGHT, UNKNOWN
 
 KERNELS = TOP / "bench" / "kernels"
 # those of the table that are always done; SIMDRAM_KERNELS=1 does all, and more random ops

@@ -12,11 +12,11 @@ from support import TOP, needs_program
 from test_profile import every_op
 from test_words import called
 
-from simdram.faults import Fault
 from simdram.files.program import BNEZ, SETI, Entry, Instruction, Program
-from simdram.iterations import execution
-from simdram.one_column import Column, numbers_of
-from simdram.steps import View
+from simdram.launcher.faults import Fault
+from simdram.steps.iterations import execution
+from simdram.steps.one_column import Column, numbers_of
+from simdram.steps.steps_tool import View
 
 OPS = """op sum(a: word, b: word) -> y: word { y = add(a, b); }
 op product(a: word, b: word) -> y: word { y = mul(a, b); }

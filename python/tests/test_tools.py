@@ -12,12 +12,12 @@ import support
 from support import TOP, needs_program
 from test_words import called
 
-from simdram.cell_values import ONE, UNKNOWN, ZERO, complemented, majority, row_value
-from simdram.faults import Fault
+from simdram.costs.report import object_of
+from simdram.files.from_hex import bytes_in
 from simdram.files.program import Program
-from simdram.from_hex import bytes_in
-from simdram.report import object_of
-from simdram.steps import WIDEST, all_shown
+from simdram.launcher.faults import Fault
+from simdram.steps.cell_values import ONE, UNKNOWN, ZERO, complemented, majority, row_value
+from simdram.steps.steps_tool import WIDEST, all_shown
 
 SERIAL = TOP / "examples" / "serial" / "serial.ops"
 BIG = """op big(alpha_long_name1: word, beta_longer_name: word, sel: bit) -> result_of_it_all: word, carry_out: bit {

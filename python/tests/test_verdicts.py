@@ -8,9 +8,9 @@ from support import needs_program
 from test_words import called
 
 from simdram.assembler import assemble
-from simdram.ops_rules import shapes_of
-from simdram.verdict_answers import answers_on, positions
-from simdram.verdicts import verdicts_of
+from simdram.rules.ops_rules import shapes_of
+from simdram.rules.verdict_answers import answers_on, positions
+from simdram.rules.verdicts import verdicts_of
 
 OPS = b"""op f(x: word, s: bit) -> q: word, r: bit { q = copy(x); r = copy(s); }
 op g(x: word) -> y: word { y = not(x); }

@@ -7,10 +7,10 @@ import os
 import tempfile
 import typing
 
-from ..costs import EntryCost, costs_at
+from ..costs.costs import EntryCost, costs_at
+from ..costs.profile import Profile, profiles
 from ..files.store import store
-from ..profile import Profile, profiles
-from ..settings import taken
+from ..launcher.settings import taken
 from .cells import checked_width
 
 

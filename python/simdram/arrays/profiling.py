@@ -5,7 +5,7 @@ from __future__ import annotations
 import dataclasses
 import typing
 
-from ..profile import Row, table
+from ..costs.profile import Row, table
 from .costing import Cost
 from .running import DONE, Made, computes
 from .user_ops import split

@@ -6,10 +6,10 @@ import re
 import tempfile
 import typing
 
-from .. import run_program
 from ..files.image import Image
 from ..files.program import Entry, Program
 from ..files.store import load, store
+from ..launcher import run_program
 from .costing import Cost
 from .refusals import Refused, Stopped
 

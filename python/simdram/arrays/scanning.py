@@ -9,11 +9,12 @@ import re
 import tempfile
 import typing
 
-from .. import answers, run_program
 from ..files.fields import NAME
 from ..files.image import Image
 from ..files.store import store
-from ..table import Table
+from ..files.table import Table
+from ..launcher import run_program
+from ..rules import answers
 from .array import Array
 from .chip import Chip
 from .costing import Cost

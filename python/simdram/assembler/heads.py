@@ -3,7 +3,7 @@
 from __future__ import annotations
 
 from ..files.program import BIT, RESULT, SOURCE, SOURCES, WORD
-from ..tokens import Token
+from ..rules.tokens import Token
 from .fault import TextFault
 from .lexer import Tokens, said
 from .names import KINDS, check_name, listed

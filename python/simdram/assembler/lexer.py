@@ -4,7 +4,7 @@ from __future__ import annotations
 
 import re
 
-from ..tokens import END, NAME, NUMBER, STRANGER, SYMBOL, Token, no_token
+from ..rules.tokens import END, NAME, NUMBER, STRANGER, SYMBOL, Token, no_token
 from .fault import TextFault
 
 NEWLINE = "newline"

@@ -5,7 +5,7 @@ from __future__ import annotations
 import typing
 
 from ..files.program import (ADD, ADDI, BNEZ, DONE, LARGEST, MOV, REGISTERS, SETI, SETN, SETT, SUBI, Row)
-from ..tokens import Token
+from ..rules.tokens import Token
 from .fault import TextFault
 from .forms import N, Form
 from .instructions import Out

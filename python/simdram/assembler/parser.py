@@ -5,7 +5,7 @@ from __future__ import annotations
 import typing
 
 from ..files.program import AAP, AP, BNEZ, ENTRIES, LARGEST, NAMES as INSTRUCTIONS, OPERANDS
-from ..tokens import END, NAME, NUMBER, Token
+from ..rules.tokens import END, NAME, NUMBER, Token
 from .fault import TextFault
 from .heads import read_entry, read_head
 from .lexer import Tokens, said

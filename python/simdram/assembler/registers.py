@@ -5,7 +5,7 @@ from __future__ import annotations
 import typing
 
 from ..files.program import OPERANDS, REGISTERS
-from ..tokens import Token
+from ..rules.tokens import Token
 from .fault import TextFault
 from .tree import Command, For, If, Jump, Plain
 

@@ -4,9 +4,9 @@ from __future__ import annotations
 
 import re
 
-from ..files.program import B_ADDRESS, C_ADDRESS, INDEXED, SOURCE
 from ..files.decode import B_ADDRESSES, RAISED
-from ..tokens import NAME, NUMBER, Token
+from ..files.program import B_ADDRESS, C_ADDRESS, INDEXED, SOURCE
+from ..rules.tokens import NAME, NUMBER, Token
 from .cells import BY_CELLS, NAMES as CELLS, PAIRS, SINGLES, TRIPLES, address_text
 from .fault import TextFault
 from .forms import N, Form, number

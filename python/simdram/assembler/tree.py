@@ -5,7 +5,7 @@ from __future__ import annotations
 import dataclasses
 import typing
 
-from ..tokens import Token
+from ..rules.tokens import Token
 from .forms import Form
 
 

@@ -9,9 +9,9 @@ import threading
 import time
 import typing
 
-from .. import run_program
 from ..files.store import store
-from ..verdicts import RIGHT, UNKNOWN, WRONG, verdicts_of
+from ..launcher import run_program
+from ..rules.verdicts import RIGHT, UNKNOWN, WRONG, verdicts_of
 from .cut import cut, has_nested
 from .op_tree import Op
 

@@ -10,11 +10,11 @@ import threading
 import time
 import typing
 
-from .. import run_program
-from ..costs import cost_of
-from ..faults import Fault
+from ..costs.costs import cost_of
 from ..files.store import load, store
-from ..parallel import in_parallel
+from ..launcher import run_program
+from ..launcher.faults import Fault
+from ..launcher.parallel import in_parallel
 from .estimate import guessed
 from .op_tree import BIT, WORD, Body, Op, made_by
 from .statement_alone import Alone, Cost, Costs, alone

@@ -4,7 +4,7 @@ from __future__ import annotations
 
 import typing
 
-from ..word_ops import WEIGHTS
+from ..rules.word_ops import WEIGHTS
 from .op_tree import Block, Body, Expr, WordStatement, read
 
 STATEMENTS, STATES, ASSIGNMENTS, LETS, WEIGHT, DEPTH = 16, 8, 8, 16, 24, 32

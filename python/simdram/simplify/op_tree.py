@@ -8,7 +8,7 @@ from __future__ import annotations
 import dataclasses
 import typing
 
-from ..tokens import END, Token, tokens
+from ..rules.tokens import END, Token, tokens
 
 WORD, BIT = "word", "bit"
 TO_BIT = ("eq", "gt", "ge", "and_red", "or_red", "xor_red")

@@ -8,9 +8,9 @@ import threading
 import time
 import typing
 
-from .. import run_program
-from ..faults import Fault
-from ..parallel import Bar, processors
+from ..launcher import run_program
+from ..launcher.faults import Fault
+from ..launcher.parallel import Bar, processors
 from .equal import ALWAYS, Comparer
 from .measured import Measured, TimeOver
 from .op_tree import Op, read_ops

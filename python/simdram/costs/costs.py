@@ -1,0 +1,58 @@
+"""What the entries of a program file cost at a width, as `simdram cost` counts them."""
+
+from __future__ import annotations
+
+import dataclasses
+import typing
+
+from ..files.program import Program
+from ..launcher import run_program
+from ..launcher.faults import Fault
+from ..launcher.parallel import in_parallel
+from ..launcher.settings import Settings
+
+
+@dataclasses.dataclass(frozen=True)
+class EntryCost:
+    """An entry's row commands at a width on one bank, and its rows of scratch; or why its execution is stuck."""
+
+    name: str
+    aap: int = 0
+    ap: int = 0
+    rows: int = 0
+    stuck: str = ""
+
+    @property
+    def commands(self) -> int:
+        """AAP and AP together."""
+        return self.aap + self.ap
+
+    def __str__(self) -> str:
+        return self.stuck or f"aap={self.aap} ap={self.ap} rows={self.rows}"
+
+
+def cost_of(line: str) -> EntryCost:
+    """The cost that a line of `cost` says."""
+    name, *words = line.split()
+    if words and words[0] == "bad_walk":
+        return EntryCost(name, stuck=" ".join(words))
+    numbers = {key: int(number) for key, number in (word.split("=") for word in words)}
+    return EntryCost(name, **numbers)
+
+
+def costs(path: str, width: int, settings: Settings, program: str | None = None) -> list[EntryCost]:
+    """Of each entry at a width, in the order of the file, its cost; `program` is the program's path where it is known."""
+    ended = run_program.run(["cost", path, str(width)], settings=settings, path=program)
+    if ended.status:
+        Program.load(path)  # where this is no program file, its own fault is told
+        raise Fault(f"cost {path} {width} ended with status {ended.status}: {ended.out.strip() or ended.err.strip()}")
+    return [cost_of(line) for line in ended.out.splitlines()]
+
+
+def costs_at(paths: typing.Sequence[str], widths: typing.Sequence[int], settings: Settings,
+             what: str = "") -> dict[tuple[str, int], list[EntryCost]]:
+    """The costs of program files at widths, by path and width, counted on all processors; `what` is shown meanwhile."""
+    program = run_program.program(settings)
+    asked = [(path, width) for path in dict.fromkeys(paths) for width in dict.fromkeys(widths)]
+    found = in_parallel(lambda one: costs(*one, settings, program), asked, what)
+    return dict(zip(asked, found))

@@ -1,0 +1,52 @@
+"""The graph of a serial block as it is written.
+
+An input is a word at the position, a bit, or a state; an output is an assigned word at the position, or a state's next
+value, as `c_next`. Over several positions a word has a number for each, as `a_0`.
+"""
+
+from __future__ import annotations
+
+from ..rules.op_shapes import OpShape, Statement
+from ..rules.tokens import NAME, Token
+from ..rules.word_ops import GATES
+from .mig import Graph
+
+
+def read_names(block: Statement) -> list[str]:
+    """The names that a block reads and does not set before: words, bits and states."""
+    tokens = [token for each in (*block.lets.values(), *block.assignments.values()) for token in each]
+    names = [token.text for token in tokens if token.kind == NAME and token.text not in GATES]
+    return [name for name in dict.fromkeys(names) if name not in block.lets]
+
+
+def positions_of(name: str, position: int, positions: int) -> str:
+    """A word's name at one of an iteration's positions."""
+    return f"{name}_{position}" if positions > 1 else name
+
+
+def written(block: Statement, shape: OpShape, positions: int = 1) -> Graph:
+    """The graph of a block as it is written, over so many positions."""
+    graph, states = Graph(), {}
+    is_bit = {name for name, kind in shape.defined.items() if kind == "bit"} | set(block.starts)
+    for k in range(positions):
+        values = {name: states[name] if name in states else graph.input(name if name in is_bit else positions_of(name, k, positions))
+                  for name in read_names(block)}
+
+        def value(tokens: list[Token]) -> int:
+            name = tokens.pop(0).text
+            if name in ("0", "1"):
+                return int(name)
+            if not tokens or tokens[0].text != "(":
+                return values[name]
+            given = []
+            while tokens.pop(0).text != ")":
+                given.append(value(tokens))
+            return graph.gate(name, given)
+
+        for name, tokens in block.lets.items():
+            values[name] = value(list(tokens))
+        found = {name: value(list(tokens)) for name, tokens in block.assignments.items()}
+        states.update((name, found[name]) for name in found if name in block.starts)
+        graph.outputs.update((positions_of(name, k, positions), one) for name, one in found.items() if name not in block.starts)
+    graph.outputs.update((f"{name}_next", one) for name, one in states.items())
+    return graph
