@@ -7,11 +7,10 @@ import typing
 
 from ..files.decode import CELLS
 from ..files.program import REGISTERS, RESULT, SOURCE, Entry, Row
-from ..files.store import load
-from ..rules.ops_rules import op_shape
 from .board import LETTER, letter
 from .code_parts import Part
 from .one_column import Column, Moment, numbers_of
+from .op_texts import OpText
 from .positions import of_rows
 from .row_names import RowNames
 
@@ -99,10 +98,10 @@ def counted_by(part: Part, registers: typing.Sequence[int]) -> list[tuple[str, i
     return [(name, registers[int(name[1:])]) for name in names]
 
 
-def execution(entry: Entry, ops: str | None, numbers: str, width: int | None, ones: typing.Collection[str] | None = None) -> Execution:
+def execution(entry: Entry, text: OpText | None, numbers: str, width: int | None, ones: typing.Collection[str] | None = None) -> Execution:
     """The execution of an entry on numbers that are given by the operands' names, from a start at which these cells and rows
     hold 1 and the others 0, or, where none are given, are not known."""
-    rows = RowNames(op_shape(ops, load(ops), entry.name) if ops else None)
+    rows = text.names() if text else RowNames(None)
     names = [rows.base(Row(SOURCE, which, REGISTERS)) for which in range(len(entry.sources))]
     values, chosen = numbers_of(numbers, names, entry.sources, width)
     return Execution(entry, chosen, values, rows, ones)

@@ -13,9 +13,9 @@ PLAIN = ("B{}", "C{}", "", "", "t{}", "w{}", "p{}")
 
 
 class RowNames:
-    """The names of rows by their spaces and places."""
+    """The names of rows by their spaces and places: those of an op, and of its scratch if that is told."""
 
-    def __init__(self, shape: OpShape | None) -> None:
+    def __init__(self, shape: OpShape | None, has_scratch: bool = True) -> None:
         self.names: dict[tuple[int, int], str] = {}
         self.bits: set[str] = set()
         self.put(RESULT, "yz")
@@ -23,8 +23,8 @@ class RowNames:
         if shape:
             self.put(SOURCE, shape.sources)
             self.put(RESULT, shape.results)
-            self.put(BIT, shape.scratch("bit"))
-            self.put(WORD, shape.scratch("word"))
+            for space, kind in ((BIT, "bit"), (WORD, "word")) if has_scratch else ():
+                self.put(space, shape.scratch(kind))
             kinds = {**shape.sources, **shape.results, **shape.defined}
             self.bits = {name for name, kind in kinds.items() if kind == "bit"}
 

@@ -29,18 +29,16 @@ import textwrap
 import typing
 
 from ..files.decode import CELLS
-from ..files.program import Program
-from ..files.store import load
+from ..files.program import Entry, Program
 from ..launcher.faults import Fault
 from ..launcher.overwrite import check_tool
 from ..launcher.settings import Settings
-from ..rules.op_shapes import OpShape
-from ..rules.ops_rules import op_shape
 from .board import Board, changing, done_by
 from .cell_values import Names, Value
 from .cells_before import before
-from .code_parts import WIDEST, Part, parts, with_statements
+from .code_parts import WIDEST, Part, parts
 from .iterations import Execution, counted, execution
+from .op_texts import OpText, of_entries
 from .registers import Held
 from .row_names import RowNames, let_patterns
 from .steps_page import page
@@ -119,20 +117,18 @@ class Shown(typing.NamedTuple):
 class View:
     """An entry as it is shown, with the designer's names where the text is given, and bits where numbers are."""
 
-    def __init__(self, entry, ops: str | None, run: Execution | None = None, iteration: int = 1) -> None:
-        data = load(ops) if ops else b""
-        self.entry, self.run, self.iteration = entry, run, iteration
-        self.shape: OpShape | None = op_shape(ops, data, entry.name) if ops else None
-        self.rows, found = RowNames(self.shape), parts(entry.code)
-        found = with_statements(found, self.rows, self.shape, data) if self.shape else found
+    def __init__(self, entry: Entry, text: OpText | None, run: Execution | None = None, iteration: int = 1) -> None:
+        self.entry, self.text, self.run, self.iteration = entry, text, run, iteration
+        self.rows, found = text.names() if text else RowNames(None), parts(entry.code)
+        found = text.parts(found) if text else found
         self.held = Held(entry.code)
         self.shown = [self.part_shown(part, cells) for part, cells in zip(found, before(entry.code, found, self.rows))]
 
     def part_shown(self, part: Part, taken: dict[str, Value]) -> Shown:
         """A part with its long values numbered, so that no line is over 100 characters."""
         lets: dict[str, int] = {}
-        for number in part.statements if self.shape else ():
-            lets.update(let_patterns(self.shape, self.shape.statements[number]))
+        for number in part.statements if self.text else ():
+            lets.update(let_patterns(self.text.shape, self.text.shape.statements[number]))
         title = title_lines(part)
         for longest in LENGTHS:
             names = Names(lets, longest)
@@ -151,11 +147,6 @@ class View:
             lines += textwrap.wrap(f"{name} is {what}", WIDEST, initial_indent="  ", subsequent_indent="    ")
         start = {cell: value.text for cell, value in Board(part, self.rows, names, taken).cells.items()}
         return Shown(part, done, lines, names.said, subscripts, start, bits)
-
-
-def all_shown(entry, ops: str | None) -> list[Shown]:
-    """Each part of an entry, with the designer's names where the text is given."""
-    return View(entry, ops).shown
 
 
 def parser() -> argparse.ArgumentParser:
@@ -180,15 +171,17 @@ def main(words: list[str], settings: Settings) -> int:
         raise Fault("--width goes with --with, and is 1 to 128")
     if asked.iteration < 1:
         raise Fault("--iteration is 1 or more")
-    run = execution(entry, asked.ops, asked.numbers, asked.width) if asked.numbers else None
-    view = View(entry, asked.ops, run, asked.iteration)
+    text = of_entries(asked.prog, [entry], asked.ops, settings)[entry.name]
+    run = execution(entry, text, asked.numbers, asked.width) if asked.numbers else None
+    view = View(entry, text, run, asked.iteration)
+    said = [one for one in (text.other if text else "", run.said if run else "") if one]
     if asked.html:
         check_tool(asked.html, b"<!DOCTYPE html>", "a page is", settings)
         with open(asked.html, "w", encoding="utf-8") as file:
-            file.write(page(asked.op, view.shown, run.said if run else ""))
+            file.write(page(asked.op, view.shown, said))
         return 0
-    if run:
-        print(run.said)
+    for one in said:
+        print(one)
     for one in view.shown:
         print("\n".join(one.lines))
     return 0
