@@ -17,6 +17,8 @@ a value that goes to no row is s.
 gets a number, as v1, which stands below its table with its value.
 With --with, a number for each operand, each cell shows its bit too, in the first iteration of the part, or in iteration K, and
 it is said which iteration of each loop that is. An iteration of a loop with turns has each of them once; the last may end early.
+A bit that no command has set yet is not shown. With --from it is: the cells and rows that are named hold 1 at the start, and the
+others 0, so that a case of `verify`, as `gives 2 not 1 from T3`, is walked through as it fails.
 
 It prints a table for each part. With --html it writes one page instead that steps through the commands by the arrow keys,
 with cells coloured by what they hold; the page loads nothing.
@@ -156,9 +158,18 @@ def parser() -> argparse.ArgumentParser:
     made.add_argument("--ops", metavar="OPS", help="the operation text that PROG was compiled from")
     made.add_argument("--with", dest="numbers", metavar="A=N,B=N", help="a number for each operand: cells show their bits")
     made.add_argument("--width", type=int, metavar="N", help="the width with --with; else the first of 8, 16, .. that holds the numbers")
+    made.add_argument("--from", dest="start", metavar="T3,t0", help="with --with: the cells and rows that hold 1 at the start, as a verdict "
+                      "names them, or `zeros`; the others hold 0")
     made.add_argument("--iteration", type=int, default=1, metavar="K", help="which iteration of each part shows bits in the tables")
     made.add_argument("--html", metavar="PAGE", help="write a page in place of the tables")
     return made
+
+
+def ones_of(start: str | None) -> list[str] | None:
+    """The cells and rows that hold 1 at the start, where it is said."""
+    if start is None or start == "zeros":
+        return None if start is None else []
+    return [name for name in start.replace(",", " ").split() if name]
 
 
 def main(words: list[str], settings: Settings) -> int:
@@ -172,7 +183,9 @@ def main(words: list[str], settings: Settings) -> int:
     if asked.iteration < 1:
         raise Fault("--iteration is 1 or more")
     text = of_entries(asked.prog, [entry], asked.ops, settings)[entry.name]
-    run = execution(entry, text, asked.numbers, asked.width) if asked.numbers else None
+    if asked.start is not None and not asked.numbers:
+        raise Fault("--from goes with --with")
+    run = execution(entry, text, asked.numbers, asked.width, ones_of(asked.start)) if asked.numbers else None
     view = View(entry, text, run, asked.iteration)
     said = [one for one in (text.other if text else "", run.said if run else "") if one]
     if asked.html:
