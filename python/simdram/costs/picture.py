@@ -151,14 +151,13 @@ def write_png(picture: Picture, out: str) -> None:
 def check_out(out: str, settings: Settings) -> None:
     """Refuses a file of no such ending, and one that holds something else."""
     ending = pathlib.Path(out).suffix.lower()
-    if ending == ".png":
-        check_tool(out, STARTS[ending], "a picture is", settings)
-    else:
-        check_tool(out, STARTS[".svg"], "a picture is", settings)
+    if ending not in STARTS:
+        raise Fault(f"{out}: a picture's name ends in {' or '.join(STARTS)}, {'and not in ' + ending if ending else 'which says what it is'}")
+    check_tool(out, STARTS[ending], "a picture is", settings)
 
 
 def write(picture: Picture, out: str, settings: Settings) -> None:
-    """Writes the picture into a file: PNG where its name ends so, and else SVG."""
+    """Writes the picture into a file, SVG or PNG as its name ends."""
     check_out(out, settings)
     if pathlib.Path(out).suffix.lower() == ".png":
         write_png(picture, out)

@@ -1,7 +1,7 @@
 """Draws how many row commands the entries of program files take, over the width.
 
 Each entry of each PROG has a curve: its AAP and AP together on one bank, as `simdram cost` counts them, at n = 1 to N (64
-unless --to says another). OUT is SVG, or PNG where its name ends in .png and matplotlib is installed. --curve draws a
+unless --to says another). OUT ends in .svg, or in .png, for which matplotlib must be installed. --curve draws a
 formula of n beside them, such as one of a paper, and --ceiling one in the colour of an entry; both are dashed. A formula has
 numbers, n, brackets, +, -, *, /, // (rounded down), ** or ^ (power), log2(..), ceil(..) and floor(..), as in 9*n+1 or
 n*ceil(log2(n)). An entry whose execution is stuck at a width is left out, with a line that says so.
@@ -114,6 +114,7 @@ def main(words: list[str], settings: Settings) -> int:
     *progs, out = asked.files
     if not progs:
         raise Fault("plot takes program files and the picture's name after them: OUT is missing")
+    picture.check_out(out, settings)
     others = drawn_of(asked.curve, asked.to)
     found = curves(list(dict.fromkeys(progs)), [name for name in asked.ops.split(",") if name], asked.to, settings)
     ceilings = ceilings_of(asked.ceiling, found, asked.to)
