@@ -1,7 +1,7 @@
 """Row commands of each entry by statement and by loop, with their shares.
 
 FILE is an operation text, which is compiled for this, or a program file; of a program file, --ops names the operation text
-that it was compiled from. Each N is a width. The parts are those of `simdram steps`: instructions between two places at
+that it was compiled from. Each N is a width, or a list of widths, as 4,8,16-20. The parts are those of `simdram steps`: instructions between two places at
 which the code can jump. Commands that implement several statements in one loop are counted for these statements together.
 `times` says how often a part is executed; without an operation text there are parts alone. Counts are those of one bank.
 """
@@ -22,7 +22,7 @@ from ..launcher import run_program
 from ..launcher.commands import MAGIC
 from ..launcher.faults import Fault
 from ..launcher.settings import Settings
-from ..launcher.words import RANGES
+from ..launcher.widths import widths_of
 from ..steps.code_parts import Part, parts
 from ..steps.op_texts import OpText, of_entries
 from .costs import EntryCost, costs_at
@@ -163,18 +163,10 @@ def as_csv(found: list[Profile]) -> str:
     return text.getvalue()
 
 
-def width_of(text: str) -> int:
-    """A width of the words."""
-    least, most, _ = RANGES["width"]
-    if not (text.isascii() and text.isdigit() and least <= int(text) <= most):
-        raise argparse.ArgumentTypeError(f"a width is {least} to {most}, and not {text}")
-    return int(text)
-
-
 def parser() -> argparse.ArgumentParser:
     made = argparse.ArgumentParser(prog="simdram profile", description=__doc__, formatter_class=argparse.RawDescriptionHelpFormatter)
     made.add_argument("file", metavar="OPS|PROG")
-    made.add_argument("widths", metavar="N", nargs="+", type=width_of, help="a width, 1 to 128")
+    made.add_argument("widths", metavar="N", nargs="+", help="widths, 1 to 128: 8, or 4,8,16-20")
     made.add_argument("--ops", metavar="OPS", help="the operation text that PROG was compiled from")
     made.add_argument("--op", metavar="NAME", help="this entry alone")
     made.add_argument("--csv", action="store_true", help="with commas, for other programs")
@@ -183,7 +175,7 @@ def parser() -> argparse.ArgumentParser:
 
 def main(words: list[str], settings: Settings) -> int:
     asked = parser().parse_intermixed_args(words)
-    found = of_file(asked.file, list(dict.fromkeys(asked.widths)), settings, asked.ops)
+    found = of_file(asked.file, widths_of(",".join(asked.widths), "N"), settings, asked.ops)
     names = list(dict.fromkeys(one.name for one in found))
     if asked.op and asked.op not in names:
         raise Fault(f"{asked.file} has no entry {asked.op}: it has {', '.join(names) or 'none'}")
