@@ -111,44 +111,44 @@ class Overwriting(unittest.TestCase):
     def files(self):
         return {path.name: path.read_bytes() for path in pathlib.Path("at").iterdir()}
 
-    def words(self, line, name="at/x"):
+    def words(self, line, name="at/x.svg"):
         return [name if word == "@" else word for word in line.split()]
 
     def test_each_command_over_each_kind(self):
         for kind, line in COMMANDS:
             self.assertEqual(self.did(self.words(line)), 0, line)
-            made = self.files()["x"]
+            made = self.files()["x.svg"]
             for what, data in self.standing.items():
                 with self.subTest(line=line, over=what):
                     is_kept = what == kind != "ops" or (what, kind) in ALIKE
                     self.setUp()
-                    pathlib.Path("at/x").write_bytes(data)
+                    pathlib.Path("at/x.svg").write_bytes(data)
                     self.assertEqual(self.did(self.words(line)), 0 if is_kept else 2)
-                    self.assertEqual(self.files(), {"x": made, "x~": data} if is_kept else {"x": data})
+                    self.assertEqual(self.files(), {"x.svg": made, "x.svg~": data} if is_kept else {"x.svg": data})
             self.setUp()
             with self.subTest(line=line, over="the same, nothing, by force"):
                 for data, words in ((made, self.words(line)), (b"", self.words(line)), (self.standing["text"], [*self.words(line), "--force"])):
-                    pathlib.Path("at/x").write_bytes(data)
-                    self.assertEqual((self.did(words), self.files()), (0, {"x": made}))
+                    pathlib.Path("at/x.svg").write_bytes(data)
+                    self.assertEqual((self.did(words), self.files()), (0, {"x.svg": made}))
             self.setUp()
 
     def test_each_command_through_a_link(self):
         for kind, line in COMMANDS:
             with self.subTest(line=line):
                 self.did(self.words(line))
-                made = self.files()["x"]
+                made = self.files()["x.svg"]
                 old = self.standing[kind] if kind != "ops" else b""
-                pathlib.Path("at/x").write_bytes(old)
-                os.symlink("x", "at/link")
-                os.symlink("../mac.img", "at/x~")
+                pathlib.Path("at/x.svg").write_bytes(old)
+                os.symlink("x.svg", "at/link.svg")
+                os.symlink("../mac.img", "at/x.svg~")
                 image = pathlib.Path("mac.img").read_bytes()
-                self.assertEqual(self.did(self.words(line, "at/link")), 0)
-                self.assertEqual((pathlib.Path("at/x").read_bytes(), os.readlink("at/link"), os.readlink("at/x~")), (made, "x", "../mac.img"))
+                self.assertEqual(self.did(self.words(line, "at/link.svg")), 0)
+                self.assertEqual((pathlib.Path("at/x.svg").read_bytes(), os.readlink("at/link.svg"), os.readlink("at/x.svg~")), (made, "x.svg", "../mac.img"))
                 self.assertEqual(pathlib.Path("mac.img").read_bytes(), image, "the copy went through a link")
-                self.assertEqual(self.files().get("x~2", b""), old)
-                os.remove("at/x")
-                self.assertEqual(self.did(self.words(line, "at/link")), 0)
-                self.assertEqual((pathlib.Path("at/x").read_bytes(), os.path.islink("at/link")), (made, True))
+                self.assertEqual(self.files().get("x.svg~2", b""), old)
+                os.remove("at/x.svg")
+                self.assertEqual(self.did(self.words(line, "at/link.svg")), 0)
+                self.assertEqual((pathlib.Path("at/x.svg").read_bytes(), os.path.islink("at/link.svg")), (made, True))
             self.setUp()
 
     def test_what_a_command_changes_in_place(self):
@@ -173,12 +173,12 @@ class Overwriting(unittest.TestCase):
             self.assertEqual(sorted(self.files()), ["ops", "other"])
 
     def test_the_next_free_name(self):
-        pathlib.Path("at/x").write_bytes(self.standing["image"])
-        for name in ("x~", "x~2", "x~4"):
+        pathlib.Path("at/x.svg").write_bytes(self.standing["image"])
+        for name in ("x.svg~", "x.svg~2", "x.svg~4"):
             pathlib.Path("at", name).write_text(name)
-        self.assertEqual(self.did(["exec", "mac.prog", "mac.bbop", "mac.img", "at/x"]), 0)
+        self.assertEqual(self.did(["exec", "mac.prog", "mac.bbop", "mac.img", "at/x.svg"]), 0)
         found = self.files()
-        self.assertEqual([found[name] for name in ("x~", "x~2", "x~3", "x~4")], [b"x~", b"x~2", self.standing["image"], b"x~4"])
+        self.assertEqual([found[name] for name in ("x.svg~", "x.svg~2", "x.svg~3", "x.svg~4")], [b"x.svg~", b"x.svg~2", self.standing["image"], b"x.svg~4"])
 
     def test_long_names(self):
         for size, (kind, line) in itertools.product((249, 251, 255), COMMANDS):
@@ -186,7 +186,7 @@ class Overwriting(unittest.TestCase):
                 continue
             with self.subTest(size=size, line=line), tempfile.TemporaryDirectory() as folder, \
                     unittest.mock.patch.object(tempfile, "tempdir", folder):
-                name = "at/" + "x" * size
+                name = "at/" + "x" * (size - 4) + ".svg"
                 pathlib.Path(name).write_bytes(self.standing[kind])
                 self.assertEqual(self.did(self.words(line, name)), 0)
                 self.assertNotEqual(pathlib.Path(name).read_bytes(), self.standing[kind])
@@ -200,24 +200,24 @@ class Overwriting(unittest.TestCase):
                 ended = subprocess.run(["bash", "-c", f"{LAUNCHER} {line.replace('@', '>(cat > at/pipe)')} > at/out; sleep 0.2"],
                                        cwd=self.kept.name, capture_output=True, text=True, check=False)
                 self.assertEqual((ended.returncode, ended.stderr), (0, ""), line)
-                self.assertEqual(self.did(self.words(line, "at/x")), 0)
-                self.assertEqual(self.files()["pipe"], self.files()["x"], line)
+                self.assertEqual(self.did(self.words(line, "at/x.svg")), 0)
+                self.assertEqual(self.files()["pipe"], self.files()["x.svg"], line)
                 self.setUp()
 
     def test_a_mode_stays(self):
-        pathlib.Path("at/x").write_bytes(self.standing["image"])
-        os.chmod("at/x", 0o600)
-        for words in (["image", "make", "at/x", "1x96x1"], ["init", "1", "64", "1", "at/x"]):
+        pathlib.Path("at/x.svg").write_bytes(self.standing["image"])
+        os.chmod("at/x.svg", 0o600)
+        for words in (["image", "make", "at/x.svg", "1x96x1"], ["init", "1", "64", "1", "at/x.svg"]):
             self.assertEqual(self.did(words), 0)
             self.assertEqual([os.stat(f"at/{name}").st_mode & 0o777 for name in self.files()], [0o600] * len(self.files()))
 
     def test_what_a_stopped_call_left_is_told(self):
-        pathlib.Path("at/x.new0").write_text("half")
-        for words in (["init", "1", "64", "1", "at/x"], ["image", "make", "at/x", "1x64x1"]):
+        pathlib.Path("at/x.svg.new0").write_text("half")
+        for words in (["init", "1", "64", "1", "at/x.svg"], ["image", "make", "at/x.svg", "1x64x1"]):
             ended = called(*words, cwd=self.kept.name, environment={"SIMDRAM_QUIET": ""})
             self.assertEqual(ended.returncode, 0)
-            self.assertIn("at/x.new0 is left of a call that was stopped", ended.stderr)
-        self.assertEqual(self.files()["x.new0"], b"half")
+            self.assertIn("at/x.svg.new0 is left of a call that was stopped", ended.stderr)
+        self.assertEqual(self.files()["x.svg.new0"], b"half")
 
 
 @needs_program

@@ -16,13 +16,13 @@ import argparse
 import os
 import sys
 
-from ..costs.cost_table import widths_of
 from ..files.store import load
 from ..launcher import run_program
 from ..launcher.faults import Fault
 from ..launcher.overwrite import check, write
 from ..launcher.settings import Settings
 from ..launcher.tool_parser import tool_parser
+from ..launcher.widths import widths_of
 from ..rules import answers
 from .outcome import WRONG, Outcome, new_text
 from .simplifier import Options, Simplifier
