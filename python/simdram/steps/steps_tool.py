@@ -105,7 +105,7 @@ def title_lines(part: Part) -> list[str]:
 
 class Shown(typing.NamedTuple):
     """A part as it is shown: its steps, its table, what its numbered values and its subscripts are, what its cells hold
-    at its start, and the bits of its iterations."""
+    at its start, the bits of its iterations, and after how many instructions each began, also those that are not kept."""
 
     part: Part
     done: typing.List[Step]
@@ -114,6 +114,7 @@ class Shown(typing.NamedTuple):
     subscripts: typing.List[typing.Tuple[str, str]]
     start: typing.Dict[str, str]
     bits: typing.List[typing.Dict[str, typing.Any]]
+    when: typing.List[int]
 
 
 class View:
@@ -148,7 +149,8 @@ class View:
         for name, what in subscripts:
             lines += textwrap.wrap(f"{name} is {what}", WIDEST, initial_indent="  ", subsequent_indent="    ")
         start = {cell: value.text for cell, value in Board(part, self.rows, names, taken).cells.items()}
-        return Shown(part, done, lines, names.said, subscripts, start, bits)
+        when = [one for one, _ in self.run.firsts[part.first]] if self.run else []
+        return Shown(part, done, lines, names.said, subscripts, start, bits, when)
 
 
 def parser() -> argparse.ArgumentParser:
@@ -191,7 +193,7 @@ def main(words: list[str], settings: Settings) -> int:
     if asked.html:
         check_tool(asked.html, b"<!DOCTYPE html>", "a page is", settings)
         with open(asked.html, "w", encoding="utf-8") as file:
-            file.write(page(asked.op, view.shown, said))
+            file.write(page(asked.op, view.shown, said, run is not None))
         return 0
     for one in said:
         print(one)
