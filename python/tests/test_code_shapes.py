@@ -130,8 +130,7 @@ class At(unittest.TestCase):
     def test_registers_of_two_ways(self):
         code = code_of(REGISTERS)
         self.assertEqual(Held(code).legend(parts(code)[0]),
-                         [("r1", "set to 3 at instruction 2 or set to n at instruction 5 and lowered by 2 at 6 if r0 > 0 at 1"),
-                          ("r2'", "set to r1 at instruction 8")])
+                         [("i", "r1, set to 3 at instruction 2 or set to n at instruction 5 and lowered by 2 at 6 if r0 > 0 at 1")])
 
     def test_cells(self):
         code = code_of(CHOICES)

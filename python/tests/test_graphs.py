@@ -103,6 +103,15 @@ class Formats(Folder):
                 self.assertTrue(as_aiger(graph, False).startswith(b"aig "))
                 self.assertIn(f"digraph {shape.name} {{", as_dot(graph, shape.name))
 
+    def test_an_input_that_is_not_read(self):
+        text = "op f(a: word, b: word, s: bit) -> y: word { serial up (c = 0) { y = xor(b, c); c = b; } }\n"
+        (self.folder / "g.ops").write_text(text)
+        for words in ([], ["--compiled"]):
+            made = {name: self.call("graph", "g.ops", "--format", name, *words).stdout for name in ("dot", "blif", "aiger")}
+            self.assertIn(".inputs a b s c\n", made["blif"])
+            self.assertIn("i0 a\ni1 b\ni2 s\ni3 c\n", made["aiger"])
+            self.assertIn('"in s" [shape=triangle, label="s"];', made["dot"])
+
     def test_a_full_adder(self):
         shape = shapes_of("f.ops", OPS.encode())[0]
         graph = written(shape.statements[0], shape)

@@ -80,6 +80,36 @@ class SideBySide(Folder):
         self.assertEqual(drawn.count("<polyline"), 3)
         self.assertEqual(drawn.count("stroke-dasharray"), 1)
 
+    def test_entries_columns_and_totals(self):
+        self.assertEqual(self.call("cost-table", "first", "second", "--widths", "8,30-31", "--total", "--ops", "f", "--csv").stdout,
+                         "name,n=8,n=30,n=31\nf of first,73,271,280\nf of second,89,331,342\n")
+        self.assertEqual(self.call("cost-table", "first", "--widths", "8", "--columns", "aap_per_bank,scratch_rows", "--csv").stdout,
+                         "name,width,aap_per_bank,scratch_rows\nf,8,65,1\ng,8,16,0\n")
+        self.assertEqual(self.call("cost-table", "first", "second", "--widths", "8", "--columns", "commands,ratio", "--ops", "f,h", "--csv").stdout,
+                         "name,width,first_commands,second_commands,second_ratio\nf,8,73,89,1.219\nh,8,,8,\n")
+        head = self.call("cost-table", "first", "--words", "2", "--csv").stdout.splitlines()[0]
+        self.assertIn("commands_per_element_of_128_in_a_row", head)
+        for words, said in ((["--ops", "k"], "the entries: f, g"), (["--columns", "k"], "--columns takes aap_per_bank, "), (["--widths", "4-2"], "as 4,8,16-20"),
+                            (["--columns", "aap", "--total"], "leave out --columns")):
+            ended = self.call("cost-table", "first", *words)
+            self.assertEqual((ended.returncode, len(ended.stderr.splitlines())), (2, 1), ended.stderr)
+            self.assertIn(said, ended.stderr)
+
+    def test_a_picture_with_a_logarithmic_axis(self):
+        ended = self.call("plot", "first", "second", "p.svg", "--widths", "4,8-10", "--column", "aap", "--log", "--curve", "n=n-8")
+        self.assertEqual((ended.returncode, ended.stderr), (0, ""))
+        drawn = (self.folder / "p.svg").read_text()
+        for said in (">AAP</text>", "f of first: 81 at 10", "h of second: 10 at 10", "n: 2 at 10", ">100</text>"):
+            self.assertIn(said, drawn)
+
+    def test_endings(self):
+        for name in ("p.pdf", "p", "p.svg.gz", "p.JPEG"):
+            ended = self.call("plot", "first", name, "--to", "2")
+            self.assertEqual((ended.returncode, ended.stderr.count("\n")), (2, 1))
+            self.assertIn("a picture's name ends in .svg or .png", ended.stderr)
+            self.assertFalse((self.folder / name).exists())
+        self.assertEqual(self.call("plot", "first", "p.SVG", "--to", "2").returncode, 0)
+
     def test_faults(self):
         for words, said in ((["--curve", "paper"], "NAME=FORMULA"), (["--curve", "p=8n"], "a product has a *"), (["--ceiling", "g=n"], "--ceiling names g"),
                             (["--ops", "k"], "no entry is called k"), (["--curve", "p=1", "--curve", "p=2"], "another name each"), (["--curve", "p=0-n"], "below 0")):

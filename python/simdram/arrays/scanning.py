@@ -54,7 +54,9 @@ def scan(chip: Chip, query: str, /, **arrays: typing.Any) -> Count:
     counted = COUNTED.fullmatch(last_line(ended.out))
     if ended.status == 0 and counted:
         count, elements, aap, ap = map(int, counted.groups())
-        return Count(count, elements, Cost(aap, ap, chip.image.banks_of(elements)))
+        cost = Cost(aap, ap, chip.image.banks_of(elements))
+        chip.spend(cost)
+        return Count(count, elements, cost)
     refused = REFUSED.fullmatch(last_line(ended.out))
     if refused:
         raise Refused(refused[1], refusal(query, image, placed if refused[1] in OF_NAMES else None), int(refused[2]))

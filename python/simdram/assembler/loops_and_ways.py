@@ -152,8 +152,10 @@ def outline(code: Code) -> Outline:
 
 def is_of_rounds(code: Code, one: Asked, loop: tuple[int, int]) -> bool:
     """Whether a jump asks whether this is the loop's last round: by its counter, with a body for each answer and none after both."""
+    rest = code[one.past:loop[1]]
     return one.register == code[loop[1]].register and one.past > one.to and not one.is_bare \
-        and not any(each.rows for each in code[one.past:loop[1]])
+        and not any(each.rows for each in rest) \
+        and not any(each.kind in CHANGES and each.register == one.register for each in (*code[one.at + 1:one.to], *rest))
 
 
 def loop_of(code: Code, span: tuple[int, int], leaving: list[Asked]) -> Loop:

@@ -1,11 +1,14 @@
 """What each entry of a program file costs at several widths, or of several program files side by side.
 
-Of one file a row for each entry and width has its AAP and AP in one bank, both together, the commands for each element (a
-bank has 64 elements for each word of its rows, which --words gives), and its rows of scratch. In more banks each bank has
-the same commands, and the banks work at the same time.
+Of one file a row for each entry and width has its AAP and AP in one bank, both together, the commands for each element, and
+its rows of scratch. A bank has 64 elements for each word of its rows, which --words gives; the column of the commands for each
+element says how many that are. In more banks each bank has the same commands, and the banks work at the same time.
 
 Of several files a row has the AAP, AP, both together and the scratch rows of each file's entry of this name, on one bank, and
 from the second file on the ratio of its commands to the first file's.
+
+--ops chooses entries, and --columns columns, by their names as --format csv prints them; of several files they are aap, ap,
+commands, rows and ratio, for each file. --total is a table for a paper: the commands alone, with a column for each width.
 """
 
 from __future__ import annotations
@@ -16,21 +19,14 @@ import typing
 
 from ..launcher.faults import Fault
 from ..launcher.settings import Settings
+from ..launcher.widths import widths_of
 from .costs import EntryCost, costs_at
 from .table_formats import FORMATS, Rows
 
 HEAD = ("name", "width", "aap_per_bank", "ap_per_bank", "commands_per_bank", "banks", "commands_all_banks",
-        "commands_per_element", "scratch_rows", "stuck")
+        "commands_per_element_of_{}_in_a_row", "scratch_rows", "stuck")
 # of each file where several stand side by side
 SIDE = ("aap", "ap", "commands", "rows")
-
-
-def widths_of(text: str) -> list[int]:
-    """The widths of a list, 1 to 128 each."""
-    words = text.split(",")
-    if not all(word.isascii() and word.isdigit() and 1 <= int(word) <= 128 for word in words):
-        raise Fault(f"--widths takes widths from 1 to 128 with commas between them, and not {text}")
-    return list(dict.fromkeys(map(int, words)))
 
 
 def row_of(cost: EntryCost, width: int, banks: int, words: int) -> list:
@@ -50,7 +46,7 @@ def of_one(path: str, widths: list[int], found: Costs, banks: int, words: int) -
     for width in widths:
         for cost in found[path, width]:
             by_name.setdefault(cost.name, []).append(row_of(cost, width, banks, words))
-    return [list(HEAD), *(row for rows in by_name.values() for row in rows)]
+    return [[name.format(64 * words) for name in HEAD], *(row for rows in by_name.values() for row in rows)]
 
 
 def labels_of(paths: list[str]) -> list[str]:
@@ -91,11 +87,52 @@ def ratio(cost: EntryCost | None, first: EntryCost | None) -> str:
     return f"{cost.commands / first.commands:.3f}"
 
 
+def of_ops(found: Costs, names: list[str]) -> Costs:
+    """The costs of these entries alone, or of all where none is named."""
+    there = list(dict.fromkeys(cost.name for costs in found.values() for cost in costs))
+    unknown = [name for name in names if name not in there]
+    if unknown:
+        raise Fault(f"no entry is called {unknown[0]}; the entries: {', '.join(there) or 'none'}")
+    return {key: [cost for cost in costs if not names or cost.name in names] for key, costs in found.items()}
+
+
+def with_columns(rows: Rows, chosen: list[str]) -> Rows:
+    """The columns that are chosen, beside the name and the width; of several files those of each file that end so."""
+    head = [str(name).replace(" ", "_") for name in rows[0]]
+    known = list(dict.fromkeys(name.rpartition("_")[2] if name not in HEAD and name.rpartition("_")[2] in (*SIDE, "ratio") else name
+                               for name in head))
+    unknown = [name for name in chosen if name not in head and name not in known]
+    if unknown:
+        raise Fault(f"--columns takes {', '.join(known[2:])}, and not {unknown[0]}")
+    kept = [0, 1, *(k for k, name in enumerate(head) if k > 1 and (name in chosen or name.rpartition("_")[2] in chosen))]
+    return [[row[k] for k in kept] for row in rows]
+
+
+def totals(paths: list[str], widths: list[int], found: Costs) -> Rows:
+    """The commands alone: a row for each entry, of each file, with a column for each width."""
+    labels, several = labels_of(paths), len(paths) > 1
+    rows: Rows = [["name", *(f"n={width}" for width in widths)]]
+    for path, label in zip(paths, labels):
+        for k, cost in enumerate(found[path, widths[0]]):
+            costs = [found[path, width][k] for width in widths]
+            name = f"{cost.name} of {label}" if several else cost.name
+            rows.append([name, *("" if one.stuck else one.commands for one in costs)])
+    return rows
+
+
+def names_of(text: str) -> list[str]:
+    """Names with commas between them."""
+    return [name for name in text.split(",") if name]
+
+
 def parser() -> argparse.ArgumentParser:
     made = argparse.ArgumentParser(prog="simdram cost-table", description=__doc__,
                                    formatter_class=argparse.RawDescriptionHelpFormatter)
     made.add_argument("progs", metavar="PROG", nargs="+", help="a program file; the ratios are to the first")
-    made.add_argument("--widths", default="8,16,32,64", metavar="N,N,..")
+    made.add_argument("--widths", default="8,16,32,64", metavar="N,N,..", help="widths and spans, as 4,8,16-20")
+    made.add_argument("--ops", default="", metavar="NAME,..", help="these entries alone")
+    made.add_argument("--columns", default="", metavar="NAME,..", help="these columns alone, beside the name and the width")
+    made.add_argument("--total", action="store_true", help="the commands alone, AAP and AP together, with a column for each width")
     made.add_argument("--banks", type=int, default=1, help="over how many banks the elements stand, of one file")
     made.add_argument("--words", type=int, default=1, help="words of a row, for the commands for each element, of one file")
     made.add_argument("--format", choices=sorted(FORMATS), default="text", help="how the table is written")
@@ -111,9 +148,17 @@ def main(words: list[str], settings: Settings) -> int:
         raise Fault("--banks and --words are for the table of one file")
     if len(set(asked.progs)) < len(asked.progs):
         raise Fault("a program file stands twice among the words")
+    if asked.total and asked.columns:
+        raise Fault("--total has its own columns: leave out --columns")
     widths = widths_of(asked.widths)
-    found = costs_at(asked.progs, widths, settings, "cost-table")
-    rows = (side_by_side(asked.progs, widths, found) if len(asked.progs) > 1
-            else of_one(asked.progs[0], widths, found, asked.banks, asked.words))
+    found = of_ops(costs_at(asked.progs, widths, settings, "cost-table"), names_of(asked.ops))
+    if asked.total:
+        rows = totals(asked.progs, widths, found)
+    elif len(asked.progs) > 1:
+        rows = side_by_side(asked.progs, widths, found)
+    else:
+        rows = of_one(asked.progs[0], widths, found, asked.banks, asked.words)
+    if asked.columns:
+        rows = with_columns(rows, names_of(asked.columns))
     print(FORMATS[asked.format](rows), end="")
     return 0

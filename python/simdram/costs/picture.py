@@ -38,12 +38,13 @@ class Line:
 
 @dataclasses.dataclass(frozen=True)
 class Picture:
-    """Curves with the names of their axes; the x axis is linear from 0, or logarithmic."""
+    """Curves with the names of their axes; the x axis is linear from 0, or logarithmic, and so is the y axis."""
 
     lines: typing.Sequence[Line]
     x_name: str
     y_name: str
     is_log: bool = False
+    is_high_log: bool = False
 
     @property
     def last(self) -> float:
@@ -60,6 +61,19 @@ class Picture:
         """Where the y axis ends."""
         return max(1, *(y for line in self.lines for _, y in line.points))
 
+    @property
+    def bottom(self) -> float:
+        """Where the y axis begins: at 0, or at the power of ten below the least of a logarithmic one."""
+        least = min((y for line in self.lines for _, y in line.points if y > 0), default=1)
+        return 10.0 ** math.floor(math.log10(least) + 1e-9) if self.is_high_log else 0
+
+    def height(self, y: float) -> float:
+        """How high a number stands, from 0 to 1."""
+        if not self.is_high_log:
+            return y / self.top
+        reach = math.log(self.top / self.bottom)
+        return max(0.0, math.log(y / self.bottom) / reach) if y > 0 and reach > 0 else 0.0
+
     def place(self, x: float, y: float) -> tuple[float, float]:
         """Where a point is in the picture."""
         if self.is_log:
@@ -67,14 +81,25 @@ class Picture:
             along = math.log(x / self.first) / reach if reach else 0
         else:
             along = x / self.last if self.last else 0
-        return LEFT + WIDE * along, ABOVE + HIGH - HIGH * y / self.top
+        return LEFT + WIDE * along, ABOVE + HIGH - HIGH * self.height(y)
+
+    def y_marks(self) -> list[float]:
+        """The y that have a mark."""
+        if not self.is_high_log:
+            return stepped(self.top, 8)
+        return powers_of_ten(self.bottom, self.top)
 
     def x_marks(self) -> list[float]:
         """The x that have a mark."""
         if not self.is_log:
             return stepped(self.last, 10)
-        powers = range(math.ceil(math.log10(self.first) - 1e-9), math.floor(math.log10(self.last) + 1e-9) + 1)
-        return [10.0 ** power for power in powers] or [self.first]
+        return powers_of_ten(self.first, self.last) or [self.first]
+
+
+def powers_of_ten(first: float, last: float) -> list[float]:
+    """The powers of ten from one number to another."""
+    powers = range(math.ceil(math.log10(first) - 1e-9), math.floor(math.log10(last) + 1e-9) + 1)
+    return [10.0 ** power for power in powers]
 
 
 def number(value: float) -> str:
@@ -101,12 +126,12 @@ def element(name: str, text: str | None = None, **attributes) -> str:
 
 def axes(picture: Picture) -> typing.Iterator[str]:
     """The two axes with their marks."""
-    for y in stepped(picture.top, 8):
+    for y in picture.y_marks():
         at = picture.place(picture.first, y)[1]
-        yield element("line", x1=LEFT, y1=at, x2=LEFT + WIDE, y2=at, stroke="#ddd" if y else "#222")
+        yield element("line", x1=LEFT, y1=at, x2=LEFT + WIDE, y2=at, stroke="#222" if y == picture.bottom else "#ddd")
         yield element("text", number(y), x=LEFT - 8, y=at + 5, text_anchor="end")
     for x in picture.x_marks():
-        at, base = picture.place(x, 0)
+        at, base = picture.place(x, picture.bottom)
         yield element("line", x1=at, y1=base, x2=at, y2=base + 5, stroke="#222")
         yield element("text", number(x), x=at, y=base + 22, text_anchor="middle")
     yield element("text", picture.x_name, x=LEFT + WIDE, y=HIGH + ABOVE + 42, text_anchor="end")
@@ -137,12 +162,13 @@ def write_png(picture: Picture, out: str) -> None:
         raise Fault(f"{out}: a PNG needs matplotlib, which is not installed; a file that ends in .svg does not") from None
     figure = Figure(figsize=(11, 5), dpi=120, layout="constrained")
     FigureCanvasAgg(figure)
-    plane = figure.add_subplot(xlabel=picture.x_name, ylabel=picture.y_name, xscale="log" if picture.is_log else "linear")
+    plane = figure.add_subplot(xlabel=picture.x_name, ylabel=picture.y_name, xscale="log" if picture.is_log else "linear",
+                                yscale="log" if picture.is_high_log else "linear")
     for line in picture.lines:
         xs, ys = zip(*((float(x), float(y)) for x, y in line.points))
         plane.plot(xs, ys, color=line.colour, linestyle="--" if line.is_dashed else "-", label=line.said,
                    marker="o" if len(xs) <= MARKED else None, markersize=4)
-    plane.set_ylim(bottom=0)
+    plane.set_ylim(bottom=picture.bottom)
     plane.grid(axis="y", color="#ddd")
     plane.legend(loc="upper left", bbox_to_anchor=(1.01, 1), frameon=False)
     figure.savefig(out, format="png")
@@ -151,14 +177,13 @@ def write_png(picture: Picture, out: str) -> None:
 def check_out(out: str, settings: Settings) -> None:
     """Refuses a file of no such ending, and one that holds something else."""
     ending = pathlib.Path(out).suffix.lower()
-    if ending == ".png":
-        check_tool(out, STARTS[ending], "a picture is", settings)
-    else:
-        check_tool(out, STARTS[".svg"], "a picture is", settings)
+    if ending not in STARTS:
+        raise Fault(f"{out}: a picture's name ends in {' or '.join(STARTS)}, {'and not in ' + ending if ending else 'which says what it is'}")
+    check_tool(out, STARTS[ending], "a picture is", settings)
 
 
 def write(picture: Picture, out: str, settings: Settings) -> None:
-    """Writes the picture into a file: PNG where its name ends so, and else SVG."""
+    """Writes the picture into a file, SVG or PNG as its name ends."""
     check_out(out, settings)
     if pathlib.Path(out).suffix.lower() == ".png":
         write_png(picture, out)

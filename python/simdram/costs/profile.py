@@ -1,7 +1,7 @@
 """Row commands of each entry by statement and by loop, with their shares.
 
 FILE is an operation text, which is compiled for this, or a program file; of a program file, --ops names the operation text
-that it was compiled from. Each N is a width. The parts are those of `simdram steps`: instructions between two places at
+that it was compiled from. Each N is a width, or a list of widths, as 4,8,16-20. The parts are those of `simdram steps`: instructions between two places at
 which the code can jump. Commands that implement several statements in one loop are counted for these statements together.
 `times` says how often a part is executed; without an operation text there are parts alone. Counts are those of one bank.
 """
@@ -22,11 +22,9 @@ from ..launcher import run_program
 from ..launcher.commands import MAGIC
 from ..launcher.faults import Fault
 from ..launcher.settings import Settings
-from ..launcher.words import RANGES
-from ..rules.op_shapes import OpShape
-from ..rules.ops_rules import op_shape
-from ..steps.row_names import RowNames
-from ..steps.steps_tool import Part, parts, with_statements
+from ..launcher.widths import widths_of
+from ..steps.code_parts import Part, parts
+from ..steps.op_texts import OpText, of_entries
 from .costs import EntryCost, costs_at
 
 CSV_HEAD = ("name", "width", "kind", "what", "times", "aap", "ap", "commands", "share")
@@ -56,11 +54,12 @@ class Profile:
     cost: EntryCost
     statements: tuple[Row, ...] = ()
     parts: tuple[Row, ...] = ()
+    other: str = ""
 
     def __str__(self) -> str:
         if self.cost.stuck:
             return f"{self.name} at n = {self.width}: {self.cost.stuck}"
-        lines = [f"{self.name} at n = {self.width}: {self.cost.commands} commands, aap={self.cost.aap} ap={self.cost.ap}"]
+        lines = [f"{self.name} at n = {self.width}: {self.cost.commands} commands, aap={self.cost.aap} ap={self.cost.ap}", *([self.other] if self.other else [])]
         if self.statements:
             lines += table(["share", "commands", "aap", "ap", "statement"], self.statements, self.cost.commands)
         lines += table(["share", "commands", "aap", "ap", "times", "part"], self.parts, self.cost.commands)
@@ -101,26 +100,27 @@ def by_statement(found: list[Part], rows: list[Row]) -> tuple[Row, ...]:
     return tuple(sums[key] for key in sorted(sums))
 
 
-def profile(entry: Entry, width: int, cost: EntryCost, text: tuple[OpShape, bytes] | None = None) -> Profile:
+def profile(entry: Entry, width: int, cost: EntryCost, text: OpText | None = None) -> Profile:
     """An entry's profile at a width, by the statements of its operation text where that is given."""
     if cost.stuck:
         return Profile(entry.name, width, cost)
     found = parts(entry.code)
     if text:
-        found = with_statements(found, RowNames(text[0]), *text)
+        found = text.parts(found)
     times = executions(entry.code, width)
     rows = [row_of(part, times) for part in found]
     counted = (sum(row.aap for row in rows), sum(row.ap for row in rows))
     if counted != (cost.aap, cost.ap):
         raise Fault(f"{entry.name} at n = {width}: the parts have aap={counted[0]} ap={counted[1]}, and the entry {cost}")
-    return Profile(entry.name, width, cost, by_statement(found, rows) if text else (), tuple(rows))
+    other = text.other if text else ""
+    return Profile(entry.name, width, cost, by_statement(found, rows) if text and not other else (), tuple(rows), other)
 
 
-def profiles(path: str, widths: list[int], settings: Settings, ops: str | None = None) -> list[Profile]:
-    """The profiles of a program file's entries at widths; `ops` is the file of its operation text."""
+def profiles(path: str, widths: list[int], settings: Settings, ops: str | None = None, is_compiled: bool = False) -> list[Profile]:
+    """The profiles of a program file's entries at widths; `ops` is the file of its operation text, which is compiled to be
+    compared with it, but where it is known to be compiled from it."""
     program = Program.load(path)
-    data = load(ops) if ops else b""
-    texts = {entry.name: (op_shape(ops, data, entry.name), data) if ops else None for entry in program.entries}
+    texts = of_entries(path, program.entries, ops, settings, is_compiled)
     found = costs_at([path], widths, settings, "profile")
     return [profile(entry, width, found[path, width][k], texts[entry.name])
             for k, entry in enumerate(program.entries) for width in widths]
@@ -135,7 +135,7 @@ def of_file(path: str, widths: list[int], settings: Settings, ops: str | None = 
     with tempfile.TemporaryDirectory(prefix="simdram_") as folder:
         made = os.path.join(folder, "prog")
         compile_text(path, made, settings)
-        return profiles(made, widths, settings, path)
+        return profiles(made, widths, settings, path, True)
 
 
 def compile_text(path: str, made: str, settings: Settings) -> None:
@@ -163,18 +163,10 @@ def as_csv(found: list[Profile]) -> str:
     return text.getvalue()
 
 
-def width_of(text: str) -> int:
-    """A width of the words."""
-    least, most, _ = RANGES["width"]
-    if not (text.isascii() and text.isdigit() and least <= int(text) <= most):
-        raise argparse.ArgumentTypeError(f"a width is {least} to {most}, and not {text}")
-    return int(text)
-
-
 def parser() -> argparse.ArgumentParser:
     made = argparse.ArgumentParser(prog="simdram profile", description=__doc__, formatter_class=argparse.RawDescriptionHelpFormatter)
     made.add_argument("file", metavar="OPS|PROG")
-    made.add_argument("widths", metavar="N", nargs="+", type=width_of, help="a width, 1 to 128")
+    made.add_argument("widths", metavar="N", nargs="+", help="widths, 1 to 128: 8, or 4,8,16-20")
     made.add_argument("--ops", metavar="OPS", help="the operation text that PROG was compiled from")
     made.add_argument("--op", metavar="NAME", help="this entry alone")
     made.add_argument("--csv", action="store_true", help="with commas, for other programs")
@@ -183,7 +175,7 @@ def parser() -> argparse.ArgumentParser:
 
 def main(words: list[str], settings: Settings) -> int:
     asked = parser().parse_intermixed_args(words)
-    found = of_file(asked.file, list(dict.fromkeys(asked.widths)), settings, asked.ops)
+    found = of_file(asked.file, widths_of(",".join(asked.widths), "N"), settings, asked.ops)
     names = list(dict.fromkeys(one.name for one in found))
     if asked.op and asked.op not in names:
         raise Fault(f"{asked.file} has no entry {asked.op}: it has {', '.join(names) or 'none'}")

@@ -1,6 +1,7 @@
 """The graph of a serial block as it is written.
 
-An input is a word at the position, a bit, or a state; an output is an assigned word at the position, or a state's next
+An input is a word at the position, a bit, or a state: the op's parameters, whether the block reads them or not, what else it
+reads, and its states, in this order. An output is an assigned word at the position, or a state's next
 value, as `c_next`. Over several positions a word has a number for each, as `a_0`.
 """
 
@@ -19,6 +20,12 @@ def read_names(block: Statement) -> list[str]:
     return [name for name in dict.fromkeys(names) if name not in block.lets]
 
 
+def input_names(block: Statement, shape: OpShape) -> list[str]:
+    """The names of a block's inputs."""
+    others = [name for name in read_names(block) if name not in block.starts]
+    return list(dict.fromkeys([*shape.sources, *others, *block.starts]))
+
+
 def positions_of(name: str, position: int, positions: int) -> str:
     """A word's name at one of an iteration's positions."""
     return f"{name}_{position}" if positions > 1 else name
@@ -30,7 +37,7 @@ def written(block: Statement, shape: OpShape, positions: int = 1) -> Graph:
     is_bit = {name for name, kind in shape.defined.items() if kind == "bit"} | set(block.starts)
     for k in range(positions):
         values = {name: states[name] if name in states else graph.input(name if name in is_bit else positions_of(name, k, positions))
-                  for name in read_names(block)}
+                  for name in input_names(block, shape)}
 
         def value(tokens: list[Token]) -> int:
             name = tokens.pop(0).text

@@ -3,22 +3,20 @@
 from __future__ import annotations
 
 import itertools
-import os
 import re
-import tempfile
 import typing
 
 from ..files.decode import CELLS, RAISED
-from ..files.program import B_ADDRESS, C_ADDRESS, Program, Row
-from ..files.store import store
-from ..launcher import run_program
+from ..files.program import B_ADDRESS, C_ADDRESS, Row
 from ..launcher.faults import Fault
 from ..launcher.settings import Settings
 from ..rules.op_shapes import OpShape, Statement
 from ..rules.ops_rules import SOURCES, op_shape
-from ..steps.board import Board, over
+from ..steps import op_texts
+from ..steps.board import Board, done_by, over
 from ..steps.cell_values import ALL, Names, drawn
-from ..steps.code_parts import WIDEST, Part, parts, with_statements
+from ..steps.code_parts import WIDEST, Part, parts
+from ..steps.op_texts import OpText
 from ..steps.row_names import RowNames
 from .block_graph import positions_of, read_names, written
 from .mig import ONE, ZERO, Graph
@@ -45,7 +43,7 @@ class GraphBoard(Board):
     """A board whose cells and rows hold literals of a graph."""
 
     def __init__(self, part: Part, rows: RowNames, cells: dict[str, int], graph: Graph, name_of) -> None:
-        super().__init__(part.code, rows, Names({}, WIDEST))
+        super().__init__(part, rows, Names({}, WIDEST))
         self.cells = {**dict.fromkeys(CELLS), **cells}
         self.graph, self.name_of = graph, name_of
 
@@ -97,15 +95,8 @@ def alone(name: str, block: Statement, shape: OpShape, data: bytes) -> str:
 
 def compiled(name: str, data: bytes, settings: Settings) -> tuple[list[Part], RowNames]:
     """The parts of the program that an op of a text is compiled to, and the names of its rows."""
-    with tempfile.TemporaryDirectory(prefix="simdram_") as folder:
-        ops, prog = os.path.join(folder, "ops"), os.path.join(folder, "prog")
-        store(ops, data)
-        ended = run_program.run(["compile", ops, prog], settings=settings)
-        if ended.status:
-            raise Fault(f"compile ended with status {ended.status}: {ended.out.strip() or ended.err.strip()}")
-        shape, entry = op_shape(ops, data, name), Program.load(prog).find(name)
-    rows = RowNames(shape)
-    return with_statements(parts(entry.code), rows, shape, data), rows
+    text = OpText(op_shape("the operation text", data, name), data)
+    return text.parts(parts(op_texts.compiled(data, settings).find(name).code)), text.names()
 
 
 def as_compiled(block: Statement, shape: OpShape, data: bytes, settings: Settings) -> Compiled:
@@ -154,10 +145,7 @@ def renamed(text: str, called: dict[str, tuple[str, bool]]) -> str:
 
 def of_part(block: Statement, shape: OpShape, part: Part, rows: RowNames, states: dict[str, str]) -> Compiled:
     """The graph of one execution of a part, whose cells hold these states at its start."""
-    trial = Board(part.code, rows, Names({}, WIDEST))
-    for one in part.code:
-        trial.do(one)
-    offsets = sorted({int(SUBSCRIPT.search(name)[1] or 0) for name in trial.rows if SUBSCRIPT.search(name)},
+    offsets = sorted({int(SUBSCRIPT.search(name)[1] or 0) for name in done_by(part, rows, {}).rows if SUBSCRIPT.search(name)},
                      reverse=block.direction == "down")
 
     def name_of(name: str) -> str:

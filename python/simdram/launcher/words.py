@@ -5,6 +5,7 @@ from __future__ import annotations
 import difflib
 
 from .commands import ALL, Command, Word
+from .widths import is_rising
 
 # of each numeric argument its range, and what it is called
 RANGES = {
@@ -30,6 +31,8 @@ def nearest(word: str, known) -> list[str]:
 def wrong_number(word: Word, text: str) -> str | None:
     """What is wrong with an argument that has to be a number."""
     low, high, says = RANGES[word.kind]
+    if word.kind == "width" and not text.isdigit() and is_rising(text):
+        return None
     if not (text.isascii() and text.isdigit()):
         return f"{word.name} is {says}, in decimal digits; it cannot be {text!r}"
     if not low <= int(text) <= high:

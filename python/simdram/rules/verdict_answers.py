@@ -2,8 +2,11 @@
 
 from __future__ import annotations
 
+import shlex
+
 from ..assembler.listing import head_line
 from ..files.program import Entry, Program
+from ..steps.one_column import Column
 from .answer import Answer
 from .op_shapes import OpShape
 from .ops_rules import listed, near
@@ -13,6 +16,12 @@ WHY = {
     "index": "names a row past the operand's width",
     "register": "takes a register past 1023 or below 0",
     "budget": "is where the walk has taken as many instructions as it may, 67,108,864: a loop does not end",
+}
+LIMITS = {
+    "": "the comparison took more than 4,000,000 nodes, or went too deep",
+    "nodes": "the comparison took more than 4,000,000 nodes",
+    "depth": "the operands and scratch have more rows than the comparison has places",
+    "steps": "the comparison took more steps than it may",
 }
 SOURCES = "abcd"
 
@@ -47,28 +56,45 @@ def named(numbers, names) -> str:
     return str(numbers[0]) if len(numbers) == 1 else " and ".join(f"{name}={number}" for name, number in zip(names, numbers))
 
 
-def of_wrong(verdict: Verdict, shape: OpShape, prog: str, n: int) -> tuple[str, tuple[str, ...]]:
+def gives_from_zeros(verdict: Verdict, entry: Entry, n: int) -> tuple[int, ...]:
+    """What an entry gives for a case's numbers where all cells and rows but the sources hold 0 at the start."""
+    column = Column(entry, n, list(verdict.operands.values()), ())
+    for _ in column.run():
+        pass
+    return tuple(int(column.result(which)) for which in range(len(entry.results)))
+
+
+def of_start(verdict: Verdict, shape: OpShape, entry: Entry, n: int) -> str:
+    """What a case's start has to do with it."""
+    cells = " and ".join([", ".join(verdict.start[:-1])] * (len(verdict.start) > 1) + [verdict.start[-1]])
+    found = gives_from_zeros(verdict, entry, n)
+    if found == verdict.wanted:
+        held, each = ("it holds", "it") if len(verdict.start) == 1 else ("they hold", "each of them")
+        return (f"where {held} 0 the result is right, so it depends on what {cells} held before the first command: set {each} before it "
+                "is read, and write every row of the results")
+    return f"the same numbers fail where all cells and rows hold 0 too: they give {named(found, shape.results)} there"
+
+
+def of_wrong(verdict: Verdict, shape: OpShape, entry: Entry, prog: str, n: int) -> tuple[str, tuple[str, ...]]:
     """A case in which an entry fails, and where to look."""
     case = ", ".join(f"{name}={number}" for name, number in verdict.operands.items())
     rule = (f"for {case} at width {n} it gives {named(verdict.gives, shape.results)}, and the op means "
             f"{named(verdict.wanted, shape.results)}: {different_bits(verdict, shape, n)}")
     given = ",".join(f"{letter}={number}" for letter, number in zip(SOURCES, verdict.operands.values()))
-    steps = (f"`simdram steps {prog} {verdict.name} --with {given}` shows each cell after each command; one that is shown without a bit "
-             "depends on what was there at the start")
+    steps = (f"`simdram steps {shlex.quote(prog)} {verdict.name} --with {given} --width {n} --from {','.join(verdict.start) or 'zeros'}` "
+             "shows each cell and row after each command of this case")
     if not verdict.start:
         return f"{rule}, where every cell and row but the sources holds 0 at the start", (steps,)
     cells = " and ".join([", ".join(verdict.start[:-1])] * (len(verdict.start) > 1) + [verdict.start[-1]])
-    alone, each = ("s", "it") if len(verdict.start) == 1 else ("", "each of them")
-    return f"{rule}, where {cells} hold{alone} 1 at the start and the others 0", (
-        f"the result depends on what {cells} held before the first command: set {each} before it is read, and write every row of the results",
-        steps)
+    return (f"{rule}, where {cells} hold{'s' * (len(verdict.start) == 1)} 1 at the start and the others 0",
+            (of_start(verdict, shape, entry, n), steps))
 
 
 def of_stuck(verdict: Verdict, entry: Entry, prog: str, n: int) -> tuple[str, tuple[str, ...]]:
     """Where a walk is stuck."""
     text = f", `{entry.code[verdict.at]}`," if verdict.at < len(entry.code) else ""
     return f"at width {n} its walk cannot go on: instruction {verdict.at}{text} {WHY[verdict.why]}", (
-        f"`simdram list {prog}` numbers the instructions; look at the bounds of the loop that it stands in",)
+        f"`simdram list {shlex.quote(prog)}` numbers the instructions; look at the bounds of the loop that it stands in",)
 
 
 def head_of(shape: OpShape) -> str:
@@ -84,9 +110,9 @@ def of_missing(verdict: Verdict, program: Program) -> tuple[str, tuple[str, ...]
         "an entry is looked for by the op's name; `simdram link` joins program files",)
 
 
-def of_unknown(n: int) -> tuple[str, tuple[str, ...]]:
+def of_unknown(limit: str, n: int) -> tuple[str, tuple[str, ...]]:
     """An entry of which nothing is known."""
-    return (f"the search took more than 4,000,000 nodes, or went too deep: at width {n} it is not known whether the entry is right",
+    return (f"{LIMITS[limit]}: at width {n} it is not known whether the entry is right",
             ("verify it at smaller widths, as 1 to 8; products, quotients and what mixes many bits of scratch grow fastest",))
 
 
@@ -95,14 +121,14 @@ def answer_on(verdict: Verdict, shape: OpShape, program: Program, prog: str, n: 
     kind = f"{verdict.kind} {verdict.at} {verdict.why}" if verdict.kind == BAD_WALK else verdict.kind
     entries = {entry.name: entry for entry in program.entries}
     if verdict.kind == WRONG:
-        said = of_wrong(verdict, shape, prog, n)
+        said = of_wrong(verdict, shape, entries[verdict.name], prog, n)
     elif verdict.kind == BAD_WALK:
         said = of_stuck(verdict, entries[verdict.name], prog, n)
     elif verdict.kind == OTHER_KINDS:
         said = (f"the op takes and gives other kinds than the entry, whose head is `{head_line(entries[verdict.name])}`",
                 (f"the op asks for `{head_of(shape)}`; names and scratch may be others",))
     else:
-        said = of_missing(verdict, program) if verdict.kind == NO_ENTRY else of_unknown(n)
+        said = of_missing(verdict, program) if verdict.kind == NO_ENTRY else of_unknown(verdict.why, n)
     return Answer(prog, f"entry {verdict.name}", kind, *said)
 
 

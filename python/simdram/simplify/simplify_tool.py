@@ -16,12 +16,12 @@ import argparse
 import os
 import sys
 
-from ..costs.cost_table import widths_of
 from ..files.store import load, store
 from ..launcher import run_program
 from ..launcher.faults import Fault
 from ..launcher.overwrite import check_tool
 from ..launcher.settings import Settings
+from ..launcher.widths import widths_of
 from ..rules import answers
 from .outcome import WRONG, Outcome, new_text
 from .simplifier import Options, Simplifier

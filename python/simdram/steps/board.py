@@ -2,48 +2,63 @@
 
 from __future__ import annotations
 
+from ..assembler.forms import Form
 from ..files.decode import CELLS, RAISED
-from ..files.program import (AAP, ADD, ADDI, B_ADDRESS, C_ADDRESS, INDEXED, MOV, SETI, SETN, SETT, SUBI, Instruction, Row)
-from .cell_values import ALL, ONE, UNKNOWN, ZERO, Names, Value, complemented, majority, old_value, row_value
+from ..files.program import AAP, B_ADDRESS, C_ADDRESS, Instruction, Row
+from .cell_values import ALL, ONE, UNKNOWN, ZERO, Names, Value, complemented, majority, now_value, old_value, row_value
 from .code_parts import WIDEST, Part
-from .row_names import ZERO_INDEX, RowNames
+from .positions import Held, Positions, may_be_equal, of_rows
+from .row_names import RowNames
+
+LETTER = "i"
 
 
-def only_offset(code, register: int) -> int:
-    """What a part has added to a register where it is a subscript, if it is the same at each place, and else 0."""
-    added, offsets = 0, set()
-    for one in code:
-        if one.kind in (ADDI, SUBI) and one.register == register:
-            added += one.number if one.kind == ADDI else -one.number
-        if any(row.space in INDEXED and row.index == register for row in one.rows):
-            offsets.add(added)
-    return offsets.pop() if len(offsets) == 1 else 0
+def letter(code, held: Held) -> tuple[str, int] | None:
+    """The register that is i in a part, and by how much more than at its start: the only one that its rows' positions are
+    counted from, at the place of its rows where these are at one place."""
+    forms = [form for form in of_rows(code, held) if form.variables]
+    bases = {name for form in forms for name in form.variables}
+    if len(bases) != 1 or any(form.times(name) != 1 or len(form.terms) != 1 for form in forms for name in bases):
+        return None
+    offsets = {form.number for form in forms}
+    return bases.pop(), offsets.pop() if len(offsets) == 1 else 0
 
 
 class Board:
     """What cells and rows hold while a part is done."""
 
-    def __init__(self, code, rows: RowNames, names: Names, taken: dict[str, Value] | None = None, changing=()) -> None:
-        used = {row.index for one in code for row in one.rows if row.space in INDEXED and row.index < ZERO_INDEX}
-        self.letters = {register: "i" for register in used} if len(used) == 1 else {}
-        self.added = {register: -offset for register in self.letters for offset in [only_offset(code, register)] if offset}
+    def __init__(self, part: Part, rows: RowNames, names: Names, taken: dict[str, Value] | None = None, changing=()) -> None:
+        self.positions, self.letter = Positions(part.held), letter(part.code, part.held)
         self.cells = {**dict.fromkeys(CELLS, UNKNOWN), **(taken or {})}
         self.fresh, self.taken = set(CELLS), set()
         self.rows: dict[str, Value] = {}
+        # of each row that a command names, its space, which one of it, and its position
+        self.places: dict[str, tuple[int, int, Form]] = {}
+        # which of them were read before they were written, and which were written
+        self.found: set[str] = set()
         self.written: set[str] = set()
-        # the rows that the part writes: what they hold before has another name than the row
+        # the rows that the part writes, or may write by another name: what they hold before has another name than the row
         self.changing = frozenset(changing)
+        self.unsure = 0
         self.row_names, self.names = rows, names
 
-    def subscript(self, register: int) -> str:
-        """The index that a register holds: its letter or name, and what was added to it in this part."""
-        if register == ZERO_INDEX:
-            return "0"
-        added = self.added.get(register, 0)
-        return self.letters.get(register, f"r{register}") + (f"{added:+d}" if added else "")
+    def position(self, form: Form) -> str:
+        """A position as a subscript."""
+        if self.letter and form.times(self.letter[0]):
+            form = form.put(self.letter[0], Form.of(LETTER).add(-self.letter[1]))
+        return str(form).replace(" ", "")
 
     def name(self, row: Row) -> str:
-        return self.row_names.text(row, self.subscript)
+        form = self.positions.of(row)
+        name = self.row_names.text(row, lambda _: self.position(form))
+        self.places[name] = (row.space, row.which, form)
+        return name
+
+    def others(self, name: str) -> list[str]:
+        """The other names that were read or written whose row may be this one, by its position."""
+        space, which, form = self.places[name]
+        return [other for other in self.rows if other != name and self.places[other][:2] == (space, which)
+                and may_be_equal(self.places[other][2], form)]
 
     def read(self, cell: str, inverted: bool) -> Value:
         return complemented(self.cells[cell]) if inverted else self.cells[cell]
@@ -53,7 +68,11 @@ class Board:
         if row.space == C_ADDRESS:
             return (ZERO, ONE)[row.which]
         if row.space != B_ADDRESS:
-            return self.rows.setdefault(self.name(row), self.names.named(self.before(self.name(row))))
+            name = self.name(row)
+            if name not in self.rows:
+                self.found.add(name)
+                self.rows[name] = self.names.named(self.before(name))
+            return self.rows[name]
         self.taken.update(line.cell for line in RAISED[row.which] if line.cell in self.fresh)
         values = [self.read(*line) for line in RAISED[row.which]]
         value = self.names.named(majority(values)) if len(values) == 3 else values[0]
@@ -61,14 +80,25 @@ class Board:
         return value
 
     def before(self, name: str) -> Value:
-        """What a row holds where the part begins."""
+        """What a row holds that the part has not named before."""
+        if any(other in self.written for other in self.others(name)):
+            return self.now(name)
         return old_value(name) if name in self.changing else row_value(name)
+
+    def now(self, name: str) -> Value:
+        """What a row holds after a row was written that it may be."""
+        self.unsure += 1
+        return now_value(name, self.unsure)
 
     def settle(self, row: Row, value: Value) -> None:
         """Gives a value to the cells of a row."""
         if row.space != B_ADDRESS:
-            self.rows[self.name(row)] = value
-            self.written.add(self.name(row))
+            name = self.name(row)
+            self.rows[name] = value
+            self.written.add(name)
+            for other in self.others(name):
+                if self.rows[other].pattern != value.pattern:
+                    self.rows[other] = self.now(other)
             return
         for cell, inverted in RAISED[row.which]:
             self.cells[cell] = complemented(value) if inverted else value
@@ -76,17 +106,24 @@ class Board:
 
     def do(self, one: Instruction) -> bool:
         """Does an instruction; whether it was a row command."""
-        if one.kind in (ADDI, SUBI):
-            self.added[one.register] = self.added.get(one.register, 0) + (one.number if one.kind == ADDI else -one.number)
-        if one.kind in (SETI, SETN, SETT, MOV, ADD):
-            self.letters[one.register] = f"r{one.register}'"
-            self.added[one.register] = 0
+        self.positions.do(one)
         if not one.rows:
             return False
         value = self.sensed(one.rows[0])
         if one.kind == AAP:
             self.settle(one.rows[1], value)
         return True
+
+    def whole(self, code) -> Board:
+        """The board after all instructions."""
+        for one in code:
+            self.do(one)
+        return self
+
+
+def changing(board: Board) -> set[str]:
+    """The names of the rows that a whole part has written, or may have written by other names."""
+    return {name for name in board.rows if name in board.written or any(other in board.written for other in board.others(name))}
 
 
 def groups(end: dict[str, Value], cells) -> dict[str, tuple[str, bool]]:
@@ -101,16 +138,13 @@ def groups(end: dict[str, Value], cells) -> dict[str, tuple[str, bool]]:
 
 def done_by(part: Part, rows: RowNames, held: dict[str, Value]) -> Board:
     """What cells and rows hold after a part that finds these values in cells."""
-    board = Board(part.code, rows, Names({}, WIDEST), held)
-    for one in part.code:
-        board.do(one)
-    return board
+    return Board(part, rows, Names({}, WIDEST), held).whole(part.code)
 
 
 def put_by(part: Part, rows: RowNames, held: dict[str, Value], wanted: dict[str, Value]) -> dict[str, tuple[str, bool]]:
     """The row's name for each of these values, by its key, that a part puts into a row, and whether it puts the complement
     there."""
-    board, found = Board(part.code, rows, Names({}, WIDEST), held), {}
+    board, found = Board(part, rows, Names({}, WIDEST), held), {}
     for one in part.code:
         board.do(one)
         if one.kind == AAP and one.rows[1].space not in (B_ADDRESS, C_ADDRESS):
@@ -121,10 +155,16 @@ def put_by(part: Part, rows: RowNames, held: dict[str, Value], wanted: dict[str,
     return found
 
 
+def state_value(name: str, taken: set[str]) -> Value:
+    """A state that goes to no row, with strokes where rows have its name."""
+    return row_value(name) if name not in taken else state_value(f"{name}'", taken)
+
+
 def over(found: list[Part], rows: RowNames) -> list[dict[str, Value]]:
     """What the cells hold at the start of each part: states that a loop takes over from one position to the next. Each has the
     name of the row that it goes to after the loop, or at the last position."""
     made: list[dict[str, Value]] = [{} for _ in found]
+    boards = [done_by(part, rows, {}) for part in found]
     for k, part in enumerate(found):
         if not part.again:
             continue
@@ -140,9 +180,12 @@ def over(found: list[Part], rows: RowNames) -> list[dict[str, Value]]:
             names = put_by(found[k - 1], rows, turned, {first: ends[first] for first, _ in same.values()})
         elif k + 1 < len(found) and not found[k + 1].again:
             names = put_by(found[k + 1], rows, after, {first: row_value(f"{first} before") for first, _ in same.values()})
+        beside = [boards[at] for at in (k, k - 1 if part.has_last else k + 1) if at < len(found)]
         for number, first in enumerate(sorted({first for first, _ in same.values()})):
-            name, is_turned = names.get(first, (f"s{number or ''}", False))
-            held_before = old_value(name) if first in names else row_value(name)
+            name, is_turned = names.get(first, ("", False))
+            held_before = old_value(name)
+            if not name or any(name in one.found for one in beside):
+                held_before, is_turned = state_value(f"s{number or ''}", {name for one in beside for name in one.rows}), False
             value = complemented(held_before) if is_turned else held_before
             for cells, at in ((turned, k), (turned, k - 1)) if part.has_last else ((turned, k), (after, k + 1)):
                 for cell, old in cells.items():

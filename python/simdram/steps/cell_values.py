@@ -40,6 +40,12 @@ def old_value(name: str) -> Value:
     return Value(f"old {name}", drawn(name))
 
 
+def now_value(name: str, number: int) -> Value:
+    """What a row holds after the number-th write in a part to a row that it may be."""
+    text = f"now{number if number > 1 else ''} {name}"
+    return Value(text, drawn(text))
+
+
 def complemented(value: Value) -> Value:
     """The complement of a value."""
     if value.pattern is None:

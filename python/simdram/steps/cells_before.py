@@ -5,12 +5,12 @@ from __future__ import annotations
 import itertools
 import typing
 
-from ..assembler.loops_and_ways import Code, Jumps, outline
+from ..assembler.loops_and_ways import Code, outline
 from ..files.decode import CELLS
-from ..files.program import BNEZ, DONE
-from .board import Board, over
-from .cell_values import ALL, ONE, ZERO, Names, Value, complemented, drawn
-from .code_parts import WIDEST, Part, pieces
+from .board import done_by, over
+from .cell_values import ALL, ZERO, Value, complemented, drawn
+from .code_parts import Part
+from .positions import after, fixed_point, follow, held_at, pieces
 from .row_names import RowNames
 
 CONSTANT = "0"
@@ -35,11 +35,9 @@ def named(keys: typing.Sequence[tuple[typing.Hashable, bool]], zero: typing.Hash
     return tuple(made)
 
 
-def after(code: Code, rows: RowNames, known: Known) -> Known:
-    """What is known of the cells after instructions."""
-    board = Board(code, rows, Names({}, WIDEST), {cell: value_of(*one) for cell, one in zip(CELLS, known)})
-    for one in code:
-        board.do(one)
+def left_by(part: Part, rows: RowNames, known: Known) -> Known:
+    """What is known of the cells after a part."""
+    board = done_by(part, rows, {cell: value_of(*one) for cell, one in zip(CELLS, known)})
     patterns = [board.cells[cell].pattern or 0 for cell in CELLS]
     return named([(min(pattern, pattern ^ ALL), pattern > pattern ^ ALL) for pattern in patterns], 0)
 
@@ -59,20 +57,16 @@ def after_last_rounds(code: Code) -> dict[int, int]:
 
 def known_at(code: Code, rows: RowNames) -> dict[int, Known]:
     """What is known of the cells where each piece of the code begins."""
-    jumps, ends, on = Jumps(code), dict(pieces(code)), after_last_rounds(code)
-    found, left = {0: START}, [0]
-    while left:
-        first = left.pop()
-        last = ends[first] - 1
-        is_jump, is_done = (code[last].kind == kind for kind in (BNEZ, DONE))
-        follow = [on.get(last, code[last].number)] * is_jump + [last + 1] * (not is_done and not jumps.is_always(last))
-        known = after(code[first:last + 1], rows, found[first])
-        for place in follow:
-            made = both(found[place], known) if place in found else known
-            if found.get(place) != made:
-                found[place] = made
-                left.append(place)
-    return found
+    ends, on, held = dict(pieces(code)), after_last_rounds(code), held_at(code)
+
+    def goes_on(first: int, known: Known) -> list[tuple[int, Known]]:
+        past = ends[first]
+        part = Part(first, tuple(code[first:past]), "", False, held=held[first])
+        left = left_by(part, rows, known)
+        places = follow(code, past - 1, after(part.code, part.held))
+        return [(on.get(past - 1, to) if to != past else to, left) for to in places]
+
+    return fixed_point(START, goes_on, both)
 
 
 def agrees(states: dict[str, Value], held: dict[str, Value]) -> bool:
@@ -87,9 +81,7 @@ def before(code: Code, found: list[Part], rows: RowNames) -> list[dict[str, Valu
     so, and else by the names of cells."""
     known, made = known_at(code, rows), []
     for part, states in zip(found, over(found, rows)):
-        board = Board(part.code, rows, Names({}, WIDEST))
-        for one in part.code:
-            board.do(one)
+        board = done_by(part, rows, {})
         held = {cell: value_of(*one) for cell, one in zip(CELLS, known.get(part.first, START))}
         made.append({cell: held[cell] for cell in CELLS if cell in board.taken})
         made[-1].update(states if agrees(states, held) else {})

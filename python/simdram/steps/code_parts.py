@@ -5,9 +5,10 @@ from __future__ import annotations
 import dataclasses
 
 from ..assembler.loops_and_ways import Outline, outline
-from ..files.program import AAP, ADDI, BNEZ, INDEXED, SUBI, Instruction
+from ..files.program import AAP, ADDI, INDEXED, REGISTERS, SUBI, Instruction
 from ..rules.op_shapes import OpShape
 from ..rules.tokens import line_of
+from .positions import UNKNOWN, Held, counted_from, held_at, pieces
 from .row_names import ZERO_INDEX, RowNames
 
 WIDEST = 100
@@ -18,8 +19,8 @@ STATEMENT_SHOWN = 60
 @dataclasses.dataclass(frozen=True)
 class Part:
     """A part of the code: its first instruction, its instructions, how it is repeated, whether it alone follows itself, whether
-    the part before stands in its place in the last round, of which statements it is, and the loops around it, each from
-    its first instruction to its last, the outermost first."""
+    the part before stands in its place in the last round, of which statements it is, the loops around it, each from its first
+    instruction to its last, the outermost first, and what the registers hold where it begins."""
 
     first: int
     code: tuple[Instruction, ...]
@@ -29,6 +30,7 @@ class Part:
     statements: tuple[int, ...] = ()
     what: str = ""
     loops: tuple[tuple[int, int], ...] = ()
+    held: Held = UNKNOWN
 
     def title(self) -> str:
         """Its first line, cut where it is long."""
@@ -57,18 +59,16 @@ def part_at(code, found: Outline, first: int, past: int) -> Part:
     return Part(first, code[first:past], ", ".join(said), again, has_last, loops=tuple((one.first, one.last) for one in around))
 
 
-def pieces(code) -> list[tuple[int, int]]:
-    """The code cut where it can jump or be jumped to: from where to where."""
-    jumps = [(at, one.number) for at, one in enumerate(code) if one.kind == BNEZ]
-    places = sorted({0, len(code), *(to for _, to in jumps), *(at + 1 for at, _ in jumps)})
-    return list(zip(places, places[1:]))
-
-
 def parts(code) -> list[Part]:
     """The pieces of the code that have row commands."""
     found = outline(code)
-    made = [part_at(code, found, first, past) for first, past in pieces(code)]
-    return [part for part in made if any(one.rows for one in part.code)]
+    held, made = held_at(code), []
+    for first, past in pieces(code):
+        if any(one.rows for one in code[first:past]):
+            used = {row.index for one in code[first:past] for row in one.rows if row.space in INDEXED and row.index < REGISTERS}
+            start = counted_from(held.get(first, UNKNOWN), sorted(used))
+            made.append(dataclasses.replace(part_at(code, found, first, past), held=start))
+    return made
 
 
 def written(part: Part, names: RowNames) -> set[str]:

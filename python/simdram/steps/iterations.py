@@ -7,10 +7,11 @@ import typing
 
 from ..files.decode import CELLS
 from ..files.program import REGISTERS, RESULT, SOURCE, Entry, Row
-from ..files.store import load
-from ..rules.ops_rules import op_shape
+from .board import LETTER, letter
 from .code_parts import Part
 from .one_column import Column, Moment, numbers_of
+from .op_texts import OpText
+from .positions import of_rows
 from .row_names import RowNames
 
 # how many iterations of a part are kept
@@ -50,41 +51,57 @@ def inside(runs: dict[tuple[int, int], list[list[int]]], when: int) -> str:
 class Execution:
     """One execution of an entry on a column: what stands after each row command."""
 
-    def __init__(self, entry: Entry, width: int, numbers: typing.Sequence[int], rows: RowNames) -> None:
-        column = Column(entry, width, numbers)
+    def __init__(self, entry: Entry, width: int, numbers: typing.Sequence[int], rows: RowNames,
+                 ones: typing.Collection[str] | None = None) -> None:
+        column = Column(entry, width, numbers, ones)
         self.moments: list[Moment] = list(column.run())
-        self.path = column.path
+        self.path, self.firsts = column.path, column.firsts
         sources, results = ([rows.base(Row(space, which, REGISTERS)) for which in range(count)]
                             for space, count in ((SOURCE, len(numbers)), (RESULT, len(entry.results))))
         given = ", ".join(f"{name} = {number}" for name, number in zip(sources, numbers))
         found = ", ".join(f"{name} = {column.result(which)}" for which, name in enumerate(results))
-        self.said = f"{given} at the width {width}: {found}"
+        begun = "" if ones is None else f" from {' '.join(ones) or 'zeros'}"
+        self.said = f"{given} at the width {width}{begun}: {found}"
 
     def iterations(self, part: Part, done: typing.Sequence[typing.Any]) -> list[dict[str, typing.Any]]:
-        """For each time that a part is executed, its registers at the start and the bits after each of its commands."""
+        """For each time that a part is executed, its registers at the start, what its subscripts are counted from, and the bits
+        after each of its commands."""
         runs = {loop: runs_of(self.path, *loop) for loop in part.loops}
-        commands = [part.first + k for k, one in enumerate(part.code) if one.rows]
-        found: list[dict[str, typing.Any]] = []
+        found = [{"registers": registers, "held": counted_by(part, registers), "bits": [], "inside": inside(runs, when)}
+                 for when, registers in self.firsts[part.first][:MOST]]
+        number = -1
         for moment in self.moments:
-            if moment.at == commands[0]:
-                if len(found) == MOST:
+            if moment.at == part.first + next(k for k, one in enumerate(part.code) if one.rows):
+                number += 1
+                if number == len(found):
                     break
-                found.append({"registers": moment.registers, "bits": [], "inside": inside(runs, moment.when)})
-                known: dict[str, str] = {}
-            if commands[0] <= moment.at <= commands[-1] and found:
-                step = done[len(found[-1]["bits"])]
+                known, places = {}, {}
+            if part.first <= moment.at < part.first + len(part.code):
+                bits = found[number]["bits"]
                 known.update(zip(CELLS, map(shown, moment.cells)))
-                known.update(zip(step.of_rows, map(shown, moment.rows)))
-                found[-1]["bits"].append(dict(known))
+                places.update(zip(done[len(bits)].of_rows, moment.places))
+                held = dict(zip(moment.places, map(shown, moment.rows)))
+                known.update((name, held[place]) for name, place in places.items() if place in held)
+                bits.append(dict(known))
         for k, one in enumerate(found):
             if one["inside"] == f"{k + 1} of {len(found)} of the loop at {part.loops[0][0] if part.loops else ''}":
                 one["inside"] = ""
         return found
 
 
-def execution(entry: Entry, ops: str | None, numbers: str, width: int | None) -> Execution:
-    """The execution of an entry on numbers that are given by the operands' names."""
-    rows = RowNames(op_shape(ops, load(ops), entry.name) if ops else None)
+def counted_by(part: Part, registers: typing.Sequence[int]) -> list[tuple[str, int]]:
+    """What the subscripts of a part are counted from, and its number where the registers hold these at its start."""
+    one = letter(part.code, part.held)
+    if one:
+        return [(LETTER, registers[int(one[0][1:])] + one[1])]
+    names = dict.fromkeys(name for form in of_rows(part.code, part.held) for name in form.variables)
+    return [(name, registers[int(name[1:])]) for name in names]
+
+
+def execution(entry: Entry, text: OpText | None, numbers: str, width: int | None, ones: typing.Collection[str] | None = None) -> Execution:
+    """The execution of an entry on numbers that are given by the operands' names, from a start at which these cells and rows
+    hold 1 and the others 0, or, where none are given, are not known."""
+    rows = text.names() if text else RowNames(None)
     names = [rows.base(Row(SOURCE, which, REGISTERS)) for which in range(len(entry.sources))]
     values, chosen = numbers_of(numbers, names, entry.sources, width)
-    return Execution(entry, chosen, values, rows)
+    return Execution(entry, chosen, values, rows, ones)

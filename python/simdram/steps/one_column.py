@@ -2,41 +2,57 @@
 
 from __future__ import annotations
 
+import re
 import typing
 
 from ..assembler.execution import Registers
 from ..files.decode import CELLS, RAISED
-from ..files.program import AAP, AP, B_ADDRESS, BNEZ, C_ADDRESS, DONE, INDEXED, REGISTERS, RESULT, SOURCE, Entry, Instruction, Row
+from ..files.program import (AAP, AP, B_ADDRESS, BIT, BNEZ, C_ADDRESS, DONE, INDEXED, REGISTERS, RESULT, SOURCE, SPILL, SPILLS,
+                             WORD, Entry, Instruction, Row)
 from ..launcher.faults import Fault
+from .positions import pieces
 
 Bit = typing.Optional[int]
 Place = typing.Tuple[int, int, int]
+ROW = re.compile(r"([yz](?!\d)|[twp](?=\d))(\d*)(?:\[(\d+)\])?")
 MOST_INSTRUCTIONS = 1_000_000
 
 
 class Moment(typing.NamedTuple):
-    """After a row command: its place in the code, the cells' bits, the bits of the command's rows, the registers, and how many
-    instructions were executed before it."""
+    """After a row command: its place in the code, the cells' bits, the places of the command's data rows and their bits, and how
+    many instructions were executed before it."""
 
     at: int
     cells: typing.Tuple[Bit, ...]
+    places: typing.Tuple[Place, ...]
     rows: typing.Tuple[Bit, ...]
-    registers: typing.Tuple[int, ...]
     when: int
 
 
 class Column:
-    """The cells and rows of a column, and the places of the instructions that were executed; a bit that nothing has set is
-    None."""
+    """The cells and rows of a column, and the places of the instructions that were executed. A bit that nothing has set is
+    None; but where it is said which cells and rows hold 1 at the start, the others hold 0."""
 
-    def __init__(self, entry: Entry, width: int, numbers: typing.Sequence[int]) -> None:
+    def __init__(self, entry: Entry, width: int, numbers: typing.Sequence[int], ones: typing.Collection[str] | None = None) -> None:
         self.entry, self.width = entry, width
-        self.cells: typing.Dict[str, Bit] = dict.fromkeys(CELLS)
+        self.unset: Bit = None if ones is None else 0
+        self.cells: typing.Dict[str, Bit] = dict.fromkeys(CELLS, self.unset)
         self.rows: typing.Dict[Place, Bit] = {}
+        for name in ones or ():
+            self.hold(name)
         self.registers = Registers(width)
         self.path: typing.List[int] = []
+        # where each part begins, and what the registers held each time that it did: how many instructions before, and these
+        self.firsts = {first: [] for first, _ in pieces(entry.code)}
         for which, number in enumerate(numbers):
             self.rows.update(((SOURCE, which, k), number >> k & 1) for k in range(width))
+
+    def hold(self, name: str) -> None:
+        """A cell or a row, named as verdicts name it, holds 1 at the start."""
+        if name in self.cells:
+            self.cells[name] = 1
+            return
+        self.rows[place_of(name, self.entry, self.width)] = 1
 
     def place(self, row: Row) -> Place:
         """The row of the chip that a row of the code is now."""
@@ -48,7 +64,7 @@ class Column:
         if row.space == C_ADDRESS:
             return row.which
         if row.space != B_ADDRESS:
-            return self.rows.get(self.place(row))
+            return self.rows.get(self.place(row), self.unset)
         bits = [inverted(self.cells[cell], turned) for cell, turned in RAISED[row.which]]
         value = bits[0] if len(bits) == 1 else majority(bits)
         self.settle(row, value)
@@ -62,24 +78,27 @@ class Column:
         for cell, turned in RAISED[row.which]:
             self.cells[cell] = inverted(value, turned)
 
-    def command(self, one: Instruction) -> typing.Tuple[Bit, ...]:
-        """Executes a row command: the bits of its rows after it."""
+    def command(self, one: Instruction) -> typing.Tuple[typing.Tuple[Place, ...], typing.Tuple[Bit, ...]]:
+        """Executes a row command: the places of its data rows, and their bits after it."""
         value = self.sensed(one.rows[0])
         if one.kind == AAP:
             self.settle(one.rows[1], value)
-        return tuple(self.rows.get(self.place(row)) for row in one.rows if row.is_data)
+        places = tuple(self.place(row) for row in one.rows if row.is_data)
+        return places, tuple(self.rows.get(place, self.unset) for place in places)
 
     def run(self) -> typing.Iterator[Moment]:
         """Executes the code, and gives what stands after each row command."""
         at = 0
         while self.entry.code[at].kind != DONE:
             one = self.entry.code[at]
+            if at in self.firsts:
+                self.firsts[at].append((len(self.path), tuple(self.registers.held)))
             self.path.append(at)
             if len(self.path) == MOST_INSTRUCTIONS:
                 raise Fault(f"{self.entry.name} executes over {MOST_INSTRUCTIONS:,} instructions at the width {self.width}")
             if one.kind in (AAP, AP):
-                rows = self.command(one)
-                yield Moment(at, tuple(self.cells.values()), rows, tuple(self.registers.held), len(self.path) - 1)
+                places, bits = self.command(one)
+                yield Moment(at, tuple(self.cells.values()), places, bits, len(self.path) - 1)
             elif one.kind != BNEZ:
                 self.registers.do(one)
             at = one.number if one.kind == BNEZ and self.registers.held[one.register] else at + 1
@@ -87,10 +106,23 @@ class Column:
     def result(self, which: int) -> str:
         """The number of a result, or its bits from the top where some bit was never set."""
         count = self.width if self.entry.results[which] == "word" else 1
-        bits = [self.rows.get((RESULT, which, k)) for k in range(count)]
+        bits = [self.rows.get((RESULT, which, k), self.unset) for k in range(count)]
         if None in bits:
             return "".join("?" if bit is None else str(bit) for bit in reversed(bits))
         return str(sum(bit << k for k, bit in enumerate(bits)))
+
+
+def place_of(name: str, entry: Entry, width: int) -> Place:
+    """The place of a row that is named as a listing names it, with its position: `y[3]`, `t0`, `w0[3]`, `p4`."""
+    match = ROW.fullmatch(name)
+    letter, number, index = (match[1], int(match[2] or 0), int(match[3] or 0)) if match else ("", 0, 0)
+    space, which = {"y": (RESULT, 0), "z": (RESULT, 1)}.get(letter) or (dict(t=BIT, w=WORD, p=SPILL).get(letter, SOURCE), number)
+    counts = {RESULT: len(entry.results), BIT: entry.bits, WORD: entry.words, SPILL: SPILLS}
+    positions = {RESULT: width if entry.results[which:which + 1] == ("word",) else 1, WORD: width}
+    if which >= counts.get(space, 0) or index >= positions.get(space, 1):
+        raise Fault(f"{name} is no cell and no row of {entry.name} at the width {width} that may hold 1 at the start: these are "
+                    f"{', '.join(CELLS)}, and y[0], z[0], t0, w0[0], p0 and on, as `list` names them")
+    return space, which, index
 
 
 def inverted(bit: Bit, is_inverted: bool) -> Bit:

@@ -99,10 +99,7 @@ function showRound() {
   by("numbers").hidden = !by("numbers").textContent;
   by("subscripts").textContent = parts[part].subscripts.map(([name, what]) => `${name} is ${what}`).join("\\n");
   if (!one) return undefined;
-  const held = parts[part].subscripts.filter(([name]) => !name.endsWith("'")).map(([name, what]) => {
-    const register = Number((name === "i" ? what : name).match(/r(\\d+)/)[1]);
-    return `r${register} = ${one.registers[register]}`;
-  });
+  const held = one.held.map(([name, number]) => `${name} = ${number}`);
   by("round").textContent = `iteration ${round + 1} of ${parts[part].counted}${one.inside ? `: ${one.inside}` : ""}${held.length ? "; " : ""}${held.join(", ")}`;
   return one.bits[at];
 }

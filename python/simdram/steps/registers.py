@@ -4,23 +4,15 @@ from __future__ import annotations
 
 import typing
 
+from ..assembler.forms import Form
 from ..assembler.loops_and_ways import Code, Jumps, outline
-from ..files.program import ADD, ADDI, BNEZ, INDEXED, MOV, REGISTERS, SETI, SETN, SETT, SUBI
+from ..files.program import ADD, ADDI, BNEZ, INDEXED, MOV, REGISTERS, SETI, SETN, SETT, SUBI, Row
+from .board import letter
 from .code_parts import Part
+from .positions import of_rows
 
 STARTS = {SETI: lambda one: str(one.number), SETN: lambda _: "n", SETT: lambda _: "n - 1", MOV: lambda one: f"r{one.other}"}
 CHANGES = (ADDI, SUBI, ADD)
-
-
-def subscripts(part: Part) -> list[tuple[int, int | None]]:
-    """The registers that are subscripts in a part, each once, in their order there, and where the part set each, if it did."""
-    sets: dict[int, int] = {}
-    found = []
-    for at, one in enumerate(part.code, part.first):
-        if one.kind in STARTS:
-            sets[one.register] = at
-        found += [(row.index, sets.get(row.index)) for row in one.rows if row.space in INDEXED and row.index < REGISTERS]
-    return list(dict.fromkeys(found))
 
 
 class Held:
@@ -92,10 +84,18 @@ class Held:
         return self.start(register, part.first, range(0))
 
     def legend(self, part: Part) -> list[tuple[str, str]]:
-        """The subscripts of a part's rows, and what each is: i, where there is one, or the registers' names, with a stroke where
-        the part sets them."""
-        used = subscripts(part)
-        if len(used) == 1 and used[0][1] is None:
-            return [("i", f"r{used[0][0]}, {self.meaning(part, used[0][0])}")]
-        return [(f"r{register}", self.meaning(part, register)) if at is None else (f"r{register}'", self.set_to(at))
-                for register, at in used]
+        """What the subscripts of a part's rows are counted from: i, where there is one, or registers as the part begins."""
+        bases = list(dict.fromkeys(int(name[1:]) for form in of_rows(part.code, part.held) for name in form.variables))
+        one = letter(part.code, part.held)
+        if one is None:
+            return [(f"r{register}", self.meaning(part, register)) for register in bases]
+        what = self.meaning(part, bases[0])
+        if not one[1] or all(row.index == bases[0] for row, form in indexed(part) if form.variables):
+            return [("i", f"{one[0]}, {what}")]
+        return [("i", f"{Form.of(one[0]).add(one[1])} as the part begins, {one[0]} is {what}")]
+
+
+def indexed(part: Part) -> list[tuple[Row, Form]]:
+    """The indexed rows of a part's commands, each with its position."""
+    rows = [row for one in part.code for row in one.rows if row.space in INDEXED]
+    return list(zip(rows, of_rows(part.code, part.held)))

@@ -2,6 +2,7 @@
 
 from __future__ import annotations
 
+from ..files.decode import CELLS
 from ..files.program import BIT, INDEXED, RESULT, SOURCE, WORD, Row
 from ..rules.op_shapes import OpShape, Statement
 from ..rules.tokens import Token
@@ -12,9 +13,9 @@ PLAIN = ("B{}", "C{}", "", "", "t{}", "w{}", "p{}")
 
 
 class RowNames:
-    """The names of rows by their spaces and places."""
+    """The names of rows by their spaces and places: those of an op, and of its scratch if that is told."""
 
-    def __init__(self, shape: OpShape | None) -> None:
+    def __init__(self, shape: OpShape | None, has_scratch: bool = True) -> None:
         self.names: dict[tuple[int, int], str] = {}
         self.bits: set[str] = set()
         self.put(RESULT, "yz")
@@ -22,8 +23,8 @@ class RowNames:
         if shape:
             self.put(SOURCE, shape.sources)
             self.put(RESULT, shape.results)
-            self.put(BIT, shape.scratch("bit"))
-            self.put(WORD, shape.scratch("word"))
+            for space, kind in ((BIT, "bit"), (WORD, "word")) if has_scratch else ():
+                self.put(space, shape.scratch(kind))
             kinds = {**shape.sources, **shape.results, **shape.defined}
             self.bits = {name for name, kind in kinds.items() if kind == "bit"}
 
@@ -40,7 +41,9 @@ class RowNames:
     def text(self, row: Row, subscript) -> str:
         """A row's name, where the subscript of a register is given by a function."""
         base = self.base(row)
-        return f"{base}[{subscript(row.index)}]" if row.space in INDEXED and base not in self.bits else base
+        if row.space in INDEXED and base not in self.bits:
+            return f"{base}[{subscript(row.index)}]"
+        return base + "'" * (base in CELLS)
 
 
 def let_patterns(shape: OpShape, statement: Statement) -> dict[str, int]:

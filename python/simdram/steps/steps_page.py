@@ -4,6 +4,7 @@ from __future__ import annotations
 
 import html
 import json
+import typing
 
 from .iterations import counted
 from .page_template import PAGE
@@ -20,7 +21,7 @@ def part_data(one) -> dict:
 def iteration(one, each: dict) -> dict:
     """An iteration of a part as the page has it: a digit for each value that is shown after a command."""
     bits = ["".join(bits[name] for name in names(step)) for step, bits in zip(one.done, each["bits"])]
-    return {"registers": each["registers"], "inside": each["inside"], "bits": bits}
+    return {"registers": each["registers"], "held": each["held"], "inside": each["inside"], "bits": bits}
 
 
 def names(step) -> list[str]:
@@ -28,7 +29,7 @@ def names(step) -> list[str]:
     return [*step.cells, *step.rows]
 
 
-def page(name: str, found: list, run: str = "") -> str:
-    """The page of an operation's parts; `run` says the numbers that its bits are of."""
+def page(name: str, found: list, said: typing.Sequence[str] = ()) -> str:
+    """The page of an operation's parts, with lines above them."""
     data = json.dumps([part_data(one) for one in found]).replace("</", "<\\/")
-    return PAGE.replace("NAME", html.escape(name)).replace("NUMBERS", html.escape(run)).replace("DATA", data)
+    return PAGE.replace("NAME", html.escape(name)).replace("NUMBERS", "<br>".join(map(html.escape, said))).replace("DATA", data)

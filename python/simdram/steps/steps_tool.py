@@ -7,14 +7,18 @@ round`, where another body stands in the others; `if r2 > 0 at 24` for what is d
 at instruction 24 asks. What has none of these is done once. A loop may have no iteration.
 With --ops, sources, results, states and temporaries have the names of the operation text, and it is said which statement a
 part is of. Without it, sources are a, b, c, d, results y and z, scratch bits t0, t1, .., scratch words w0, .. and spill rows
-p0, ..; [i] is the position where one register counts it, and else the register's name, and below the table stands what the
-register is. A cell that the part has not written yet holds ?; `old t` is what the row t held before the part writes it, or,
-where a loop takes the value over from one iteration to the next in cells, what these hold; a value that goes to no row is s.
+p0, ..; [i] is the position where one register counts it, and else it is counted from registers as the part begins, as r3, or
+it is a number, or n with one; below the table stands what these registers are. A cell that the part has not written yet holds
+?; `old t` is what the row t held before the part writes it, or, where a loop takes the value over from one iteration to the
+next in cells, what these hold; `now t` is what t holds after a row was written that may be t, as their positions may be equal;
+a value that goes to no row is s.
 `old T1` is what a part finds in cell T1, and in every other cell that always holds the same then; what is always 0 or 1, is so.
 `~x` is the complement of x, M(x, y, z) the majority; and(x, y) and or(x, y) are majorities with 0 and with 1. A long value
 gets a number, as v1, which stands below its table with its value.
 With --with, a number for each operand, each cell shows its bit too, in the first iteration of the part, or in iteration K, and
 it is said which iteration of each loop that is. An iteration of a loop with turns has each of them once; the last may end early.
+A bit that no command has set yet is not shown. With --from it is: the cells and rows that are named hold 1 at the start, and the
+others 0, so that a case of `verify`, as `gives 2 not 1 from T3`, is walked through as it fails.
 
 It prints a table for each part. With --html it writes one page instead that steps through the commands by the arrow keys,
 with cells coloured by what they hold; the page loads nothing.
@@ -27,18 +31,16 @@ import textwrap
 import typing
 
 from ..files.decode import CELLS
-from ..files.program import Program
-from ..files.store import load
+from ..files.program import Entry, Program
 from ..launcher.faults import Fault
 from ..launcher.overwrite import check_tool
 from ..launcher.settings import Settings
-from ..rules.op_shapes import OpShape
-from ..rules.ops_rules import op_shape
-from .board import Board
+from .board import Board, changing, done_by
 from .cell_values import Names, Value
 from .cells_before import before
-from .code_parts import WIDEST, Part, parts, with_statements
+from .code_parts import WIDEST, Part, parts
 from .iterations import Execution, counted, execution
+from .op_texts import OpText, of_entries
 from .registers import Held
 from .row_names import RowNames, let_patterns
 from .steps_page import page
@@ -59,19 +61,18 @@ class Step(typing.NamedTuple):
 
 def steps(part: Part, rows: RowNames, names: Names, taken: dict[str, Value] | None = None) -> list[Step]:
     """The row commands of a part in order, and what cells and rows hold after each."""
-    trial = Board(part.code, rows, Names({}, WIDEST), taken)
+    board, found = Board(part, rows, names, taken, changing(done_by(part, rows, taken))), []
     for one in part.code:
-        trial.do(one)
-    board, found = Board(part.code, rows, names, taken, trial.written), []
-    for one in part.code:
-        text = f"{one.name} {', '.join(map(board.name, one.rows))}" if one.rows else ""
-        of_rows = [board.name(row) for row in one.rows if row.is_data]
-        before = {**{name: board.before(name) for name in of_rows}, **board.cells, **board.rows}
+        sensed = board.name(one.rows[0]) if one.rows and one.rows[0].is_data else ""
+        first = {sensed: board.before(sensed)} if sensed else {}
+        before = {**first, **board.cells, **board.rows}
         if board.do(one):
+            text = f"{one.name} {', '.join(map(board.name, one.rows))}"
             after = {**board.cells, **board.rows}
-            changed = [name for name, value in after.items() if value.pattern != before[name].pattern]
+            changed = [name for name, value in after.items() if name not in before or value.pattern != before[name].pattern]
             found.append(Step(text, {cell: value.text for cell, value in board.cells.items()},
-                              {name: value.text for name, value in board.rows.items()}, changed, of_rows))
+                              {name: value.text for name, value in board.rows.items()}, changed,
+                              [board.name(row) for row in one.rows if row.is_data]))
     return found
 
 
@@ -118,20 +119,18 @@ class Shown(typing.NamedTuple):
 class View:
     """An entry as it is shown, with the designer's names where the text is given, and bits where numbers are."""
 
-    def __init__(self, entry, ops: str | None, run: Execution | None = None, iteration: int = 1) -> None:
-        data = load(ops) if ops else b""
-        self.entry, self.run, self.iteration = entry, run, iteration
-        self.shape: OpShape | None = op_shape(ops, data, entry.name) if ops else None
-        self.rows, found = RowNames(self.shape), parts(entry.code)
-        found = with_statements(found, self.rows, self.shape, data) if self.shape else found
+    def __init__(self, entry: Entry, text: OpText | None, run: Execution | None = None, iteration: int = 1) -> None:
+        self.entry, self.text, self.run, self.iteration = entry, text, run, iteration
+        self.rows, found = text.names() if text else RowNames(None), parts(entry.code)
+        found = text.parts(found) if text else found
         self.held = Held(entry.code)
         self.shown = [self.part_shown(part, cells) for part, cells in zip(found, before(entry.code, found, self.rows))]
 
     def part_shown(self, part: Part, taken: dict[str, Value]) -> Shown:
         """A part with its long values numbered, so that no line is over 100 characters."""
         lets: dict[str, int] = {}
-        for number in part.statements if self.shape else ():
-            lets.update(let_patterns(self.shape, self.shape.statements[number]))
+        for number in part.statements if self.text else ():
+            lets.update(let_patterns(self.text.shape, self.text.shape.statements[number]))
         title = title_lines(part)
         for longest in LENGTHS:
             names = Names(lets, longest)
@@ -148,13 +147,8 @@ class View:
             lines.insert(len(title), f"iteration {one} of {counted(bits)}{': ' if inside else ''}{inside}")
         for name, what in subscripts:
             lines += textwrap.wrap(f"{name} is {what}", WIDEST, initial_indent="  ", subsequent_indent="    ")
-        start = {cell: value.text for cell, value in Board(part.code, self.rows, names, taken).cells.items()}
+        start = {cell: value.text for cell, value in Board(part, self.rows, names, taken).cells.items()}
         return Shown(part, done, lines, names.said, subscripts, start, bits)
-
-
-def all_shown(entry, ops: str | None) -> list[Shown]:
-    """Each part of an entry, with the designer's names where the text is given."""
-    return View(entry, ops).shown
 
 
 def parser() -> argparse.ArgumentParser:
@@ -164,9 +158,18 @@ def parser() -> argparse.ArgumentParser:
     made.add_argument("--ops", metavar="OPS", help="the operation text that PROG was compiled from")
     made.add_argument("--with", dest="numbers", metavar="A=N,B=N", help="a number for each operand: cells show their bits")
     made.add_argument("--width", type=int, metavar="N", help="the width with --with; else the first of 8, 16, .. that holds the numbers")
+    made.add_argument("--from", dest="start", metavar="T3,t0", help="with --with: the cells and rows that hold 1 at the start, as a verdict "
+                      "names them, or `zeros`; the others hold 0")
     made.add_argument("--iteration", type=int, default=1, metavar="K", help="which iteration of each part shows bits in the tables")
     made.add_argument("--html", metavar="PAGE", help="write a page in place of the tables")
     return made
+
+
+def ones_of(start: str | None) -> list[str] | None:
+    """The cells and rows that hold 1 at the start, where it is said."""
+    if start is None or start == "zeros":
+        return None if start is None else []
+    return [name for name in start.replace(",", " ").split() if name]
 
 
 def main(words: list[str], settings: Settings) -> int:
@@ -179,15 +182,19 @@ def main(words: list[str], settings: Settings) -> int:
         raise Fault("--width goes with --with, and is 1 to 128")
     if asked.iteration < 1:
         raise Fault("--iteration is 1 or more")
-    run = execution(entry, asked.ops, asked.numbers, asked.width) if asked.numbers else None
-    view = View(entry, asked.ops, run, asked.iteration)
+    text = of_entries(asked.prog, [entry], asked.ops, settings)[entry.name]
+    if asked.start is not None and not asked.numbers:
+        raise Fault("--from goes with --with")
+    run = execution(entry, text, asked.numbers, asked.width, ones_of(asked.start)) if asked.numbers else None
+    view = View(entry, text, run, asked.iteration)
+    said = [one for one in (text.other if text else "", run.said if run else "") if one]
     if asked.html:
         check_tool(asked.html, b"<!DOCTYPE html>", "a page is", settings)
         with open(asked.html, "w", encoding="utf-8") as file:
-            file.write(page(asked.op, view.shown, run.said if run else ""))
+            file.write(page(asked.op, view.shown, said))
         return 0
-    if run:
-        print(run.said)
+    for one in said:
+        print(one)
     for one in view.shown:
         print("\n".join(one.lines))
     return 0
