@@ -5,6 +5,7 @@ from __future__ import annotations
 import dataclasses
 import typing
 
+from ..assembler.one_width import one_width, other_width
 from ..files.image import OBJECTS, SPILL_ROWS, Object
 from ..files.program import Entry
 from ..files.table import ROWS_MAX, Table
@@ -176,6 +177,9 @@ class Checker:
         """A walk that is stuck, or rows of scratch that are not there."""
         width = one.number(1)
         stuck = self.stuck(entry.name, width)
+        other = other_width(entry, width)
+        if stuck and other:
+            return Refusal(f"bad_walk {stuck}", one.head, f"{other}, and N is {width}", (f"an object of {one_width(entry)} bits has that width",))
         if stuck:
             return Refusal(f"bad_walk {stuck}", one.head, f"the microprogram of {entry.name} is stuck at the width {width}, at instruction "
                            f"{stuck.split()[0]}", ("no compiled program is; `simdram list PROG` shows the instructions",))
