@@ -3,6 +3,7 @@
 import json
 import pathlib
 import random
+import re
 import subprocess
 import tempfile
 import unittest
@@ -130,8 +131,50 @@ class Pages(unittest.TestCase):
         self.assertEqual((len(outer["loops"]), len(inner["loops"])), (1, 2))
         self.assertEqual(inner["loops"][0], outer["loops"][0])
         text = (self.folder / "p.html").read_text()
-        self.assertIn("let part = 0, at = 0, round = 0;", text)
-        self.assertNotIn("NUMBERS", text)
+        self.assertIn("let part = 0, at = 0, round = 0, place = 0;", text)
+        self.assertNotIn("@", text.partition("const parts")[0])
+
+    def order(self):
+        text = (self.folder / "p.html").read_text()
+        found = re.search(r"const order = (.*), isWhole = (.*);", text)
+        return json.loads(found[1]), json.loads(found[2])
+
+    def test_the_page_walks_through_the_whole_operation(self):
+        """The arrow keys go through as many commands as `cost` counts, in the order in which they are executed."""
+        for name in VALUES:
+            given = ["--with", "a=200,b=77", "--width", "8"]
+            data = self.data(name, *given)
+            order, is_whole = self.order()
+            cost = self.call("cost", "p", "8").stdout.splitlines()[self.program.entries.index(self.program.find(name))]
+            counts = [int(number) for number in re.findall(r"a?ap=(\d+)", cost)]
+            self.assertEqual((sum(len(data[part]["steps"]) for part, _ in order), is_whole), (sum(counts), True), name)
+            for part, one in enumerate(data):
+                self.assertEqual([k for other, k in order if other == part], list(range(len(one["iterations"]))))
+        self.data("product", "--with", "a=3,b=5", "--width", "32")
+        self.assertFalse(self.order()[1])
+        self.assertEqual(len(self.data("product")), len(self.order()[0]))
+
+    def test_the_page_says_its_keys_and_cells(self):
+        data = self.data("product")
+        text = (self.folder / "p.html").read_text()
+        for key in ("&rarr;", "&uarr;", "Page Down", "Home", "End"):
+            self.assertIn(f"<kbd>{key}</kbd>", text)
+        said = [step["text"] for part in data for step in part["steps"]]
+        self.assertIn("AAP C0, B12 {T0, T1, T2}", said)
+        self.assertFalse([one for one in said if re.search(r"B\d+(,|$)", one)])
+
+    def test_a_start_is_walked_through(self):
+        (self.folder / "w.micro").write_text("program w(a: word) -> y: word\nscratch t0: bit, w0: word\nAAP T3 T1\nAAP t0 T2\nAAP w0[n - 1] T0\n"
+                                             "AAP {T0, T1, T2} y[0]\n")
+        self.assertEqual(self.call("assemble", "w.micro", "w.prog").returncode, 0)
+        for start, given in (("T3", "T3: y = 0"), ("T3,t0", "T3 t0: y = 1"), ("t0 w0[1],y[1]", "t0 w0[1] y[1]: y = 3"), ("zeros", "zeros: y = 0")):
+            said = self.call("steps", "w.prog", "w", "--with", "a=0", "--width", "2", "--from", start).stdout.splitlines()
+            self.assertEqual(said[0], f"a = 0 at the width 2 from {given}")
+        for start, fault in (("T9", "T9 is no cell"), ("w0[2]", "w0[2] is no cell and no row"), ("t1", "t1 is no"), ("a[0]", "a[0] is no"), ("y[5]", "y[5] is no")):
+            ended = self.call("steps", "w.prog", "w", "--with", "a=0", "--width", "2", "--from", start)
+            self.assertEqual((ended.returncode, ended.stderr.count("\n")), (2, 1), ended.stderr)
+            self.assertIn(fault, ended.stderr)
+        self.assertIn("--from goes with --with", self.call("steps", "w.prog", "w", "--from", "T3").stderr)
 
     def test_bits_are_those_of_the_values(self):
         """Where two cells have one text, they have one bit, and a complement has the other."""

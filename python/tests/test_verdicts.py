@@ -126,6 +126,42 @@ class Calls(unittest.TestCase):
             if one.startswith("steps") and "words" in one:
                 self.assertEqual(ended.stdout.splitlines()[0], "a = 0, b = 0 at the width 4 from T3: y = 0, z = 1")
 
+    def test_lines_of_the_text(self):
+        """A place in a program file is told with its line of the text, where that lies beside it; an image for `exec` too."""
+        text = "# a fault\nprogram f(x: word, s: bit) -> q: word, r: bit\n  AAP s r\n  SETN r0\n  AAP x[r0] q[0]\n"
+        (self.folder / "long.prog").write_bytes(assemble(text.encode()).file())
+        said = " ".join(called("explain", "f.ops", "long.prog", "8", cwd=self.folder).stdout.split())
+        self.assertIn("instruction 2, `AAP s0[r0] y[0]`, names a row past the operand's width", said)
+        for name in ("other.micro", "long.micro"):
+            (self.folder / name).write_text("program other(x: word) -> y: word\n AP T0\n" if name == "other.micro" else text)
+        said = " ".join(called("explain", "f.ops", "long.prog", "8", cwd=self.folder).stdout.split())
+        self.assertIn("instruction 2, `AAP s0[r0] y[0]`, long.micro line 5, names a row", said)
+        self.assertIn("from instruction 0 (long.micro line 3), once", called("steps", "long.prog", "f", cwd=self.folder).stdout)
+        self.assertEqual(called("image", "make", "a.img", "1x64x1", "x:8=1", "s:1=1", "q:8/1", "r:1/1", cwd=self.folder).returncode, 0)
+        (self.folder / "a.bbop").write_text("bbop_f q, r, x, s, 1, 8\n")
+        ended = called("exec", "long.prog", "a.bbop", "a.img", "out.img", cwd=self.folder)
+        self.assertIn("stuck at the width 8, at instruction 2, long.micro line 5", " ".join(ended.stderr.split()))
+        (self.folder / "long.micro").write_text(text.replace("SETN", "SETT"))
+        self.assertNotIn("long.micro", called("explain", "f.ops", "long.prog", "8", cwd=self.folder).stdout)
+
+    def test_a_program_for_one_width(self):
+        (self.folder / "one.micro").write_text("program f(x: word, s: bit) -> q: word, r: bit\nwidth 2\nAAP s r; AAP x[0] q[0]; AAP x[1] q[1]\n")
+        self.assertEqual(called("assemble", "one.micro", "one.prog", cwd=self.folder).returncode, 0)
+        self.assertEqual(called("verify", "f.ops", "one.prog", "2", cwd=self.folder).stdout, "f right aap=3 ap=0\nverified 1 of 1 at 2\n")
+        reason = "f is a program for the width 2 alone"
+        for n in ("1", "3"):
+            ended = called("verify", "f.ops", "one.prog", n, cwd=self.folder)
+            self.assertEqual(ended.returncode, 19)
+            self.assertIn(reason, ended.stderr)
+            self.assertIn(reason, " ".join(called("explain", "f.ops", "one.prog", n, cwd=self.folder).stdout.split()))
+        self.assertIn("at the width 2: y = 3, z = 1", called("steps", "one.prog", "f", "--with", "a=3,b=1", cwd=self.folder).stdout)
+        ended = called("steps", "one.prog", "f", "--with", "a=3,b=1", "--width", "4", cwd=self.folder)
+        self.assertEqual((ended.returncode, reason in ended.stderr), (2, True))
+        self.assertEqual(called("image", "make", "a.img", "1x64x1", "x:8=1", "s:1=1", "q:8/1", "r:1/1", cwd=self.folder).returncode, 0)
+        (self.folder / "a.bbop").write_text("bbop_f q, r, x, s, 1, 8\n")
+        ended = called("exec", "one.prog", "a.bbop", "a.img", "out.img", cwd=self.folder)
+        self.assertEqual((ended.returncode, f"{reason}, and N is 8" in " ".join(ended.stderr.split())), (8, True))
+
     def test_what_is_missing(self):
         for words in (["f.ops", "f.prog"], ["f.ops", "8"], ["f.ops", "f.prog", "129"], ["f.prog", "8"]):
             ended = called("explain", *words, cwd=self.folder)

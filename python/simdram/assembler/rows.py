@@ -114,7 +114,7 @@ def read_form(tokens: Tokens, loops: list[str]) -> Form:
     while tokens.is_at("+", "-"):
         factor = 1 if tokens.next().text == "+" else -1
         form = form.plus(read_term(tokens, loops), factor)
-    return form
+    return form if tokens.width is None else form.put(N, number(tokens.width))
 
 
 def read_term(tokens: Tokens, loops: list[str]) -> Form:

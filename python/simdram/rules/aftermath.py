@@ -3,9 +3,11 @@
 from __future__ import annotations
 
 import os
+import shlex
 import stat
 import sys
 
+from ..assembler.one_width import one_width, other_width
 from ..files.fault import FileFault
 from ..files.program import Program
 from ..files.store import load
@@ -13,6 +15,7 @@ from ..files.table import HEAD_MAX, Table
 from ..launcher.commands import Command
 from ..launcher.overwrite import why_not_written
 from ..launcher.settings import Settings
+from ..launcher.widths import listed
 from . import answers
 from .answer import Answer
 
@@ -64,7 +67,7 @@ class Aftermath:
         entries = {entry.name: entry for entry in Program.read(data, prog).entries}
         is_compiled = "OPS" in self.paths
         stuck = (lambda *_: None) if is_compiled else answers.stuck_by_cost(prog, self.settings)
-        return answers.script_refusals(*self.file("SCRIPT"), self.table(), entries, stuck, self.command.name == "guard")
+        return answers.script_refusals(*self.file("SCRIPT"), self.table(), entries, stuck, self.command.name == "guard", prog)
 
     def fault(self, kind: str, name: str) -> list[Answer]:
         """The first fault of a file."""
@@ -99,8 +102,16 @@ class Aftermath:
             reasons = ((text, why_not_written(text, self.size)) for text in self.written)
             return [f"simdram: cannot write {text}: {reason}" for text, reason in reasons if reason]
         if status in NOT_VERIFIED:
-            return [f"simdram explain {' '.join(self.words)} says what these verdicts mean, and what to do"]
+            call = f"simdram explain {shlex.join(self.words)} says what these verdicts mean, and what to do"
+            return [*self.of_other_widths(), call]
         return answers.printed(self.found(status), self.all_by())
+
+    def of_other_widths(self) -> list[str]:
+        """The entries that are programs for one width, and not for the one that was asked for."""
+        prog, data = self.file("PROG")
+        asked = listed(self.paths["N"]) or []
+        return [f"{other}: verify it at {one_width(entry)}" for entry in Program.read(data, prog).entries
+                for other in [next(filter(None, (other_width(entry, n) for n in asked)), "")] if other]
 
     def tell(self, status: int) -> None:
         """Says it, where the files can still be read."""

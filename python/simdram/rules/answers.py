@@ -115,10 +115,11 @@ def stuck_at(prog: str, width: int, settings: Settings) -> dict[str, str]:
     return {name: where for name, stuck, where in lines if stuck}
 
 
-def script_refusals(path: str, data: bytes, table: Table, entries: dict[str, Entry], stuck, is_guarded=False) -> list[Answer]:
-    """The instructions of a script that are refused on a table, with a program's entries."""
+def script_refusals(path: str, data: bytes, table: Table, entries: dict[str, Entry], stuck, is_guarded=False,
+                    prog: str = "") -> list[Answer]:
+    """The instructions of a script that are refused on a table, with the entries of a program file."""
     instructions, _ = read_script(path, data)
-    found = refused(instructions, Checker(table.copy(), entries, stuck), is_guarded)
+    found = refused(instructions, Checker(table.copy(), entries, stuck, prog), is_guarded)
     return [answer_of(path, data, refusal, f"instruction {number}") for number, refusal in found]
 
 

@@ -35,7 +35,8 @@ def of_script(path: str, data: bytes, beside: dict, settings: Settings) -> list[
     """The refusals of a script on an image, by a program."""
     prog, image = beside["program"], beside["image"]
     entries = {entry.name: entry for entry in Program.read(prog[1], prog[0]).entries}
-    return answers.script_refusals(path, data, Table.read(image[1], image[0]), entries, answers.stuck_by_cost(prog[0], settings))
+    return answers.script_refusals(path, data, Table.read(image[1], image[0]), entries, answers.stuck_by_cost(prog[0], settings),
+                                   prog=prog[0])
 
 
 def check_beside(path: str, kind: str, beside: dict, width: int) -> None:

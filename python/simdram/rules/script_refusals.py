@@ -5,6 +5,8 @@ from __future__ import annotations
 import dataclasses
 import typing
 
+from ..assembler.one_width import one_width, other_width
+from ..assembler.text_lines import place_of
 from ..files.image import OBJECTS, SPILL_ROWS, Object
 from ..files.program import Entry
 from ..files.table import ROWS_MAX, Table
@@ -56,8 +58,8 @@ def with_own_name(refusal: Refusal, copies: tuple[Token, ...]) -> Refusal:
 class Checker:
     """Goes through a script over a table, as the program does, by names, widths and rows alone."""
 
-    def __init__(self, table: Table, entries: dict[str, Entry], stuck: Stuck) -> None:
-        self.table, self.entries, self.stuck = table, entries, stuck
+    def __init__(self, table: Table, entries: dict[str, Entry], stuck: Stuck, prog: str = "") -> None:
+        self.table, self.entries, self.stuck, self.prog = table, entries, stuck, prog
 
     def step(self, one: Instruction) -> Refusal | None:
         """Does an instruction, or says why it is refused."""
@@ -176,9 +178,13 @@ class Checker:
         """A walk that is stuck, or rows of scratch that are not there."""
         width = one.number(1)
         stuck = self.stuck(entry.name, width)
+        other = other_width(entry, width)
+        if stuck and other:
+            return Refusal(f"bad_walk {stuck}", one.head, f"{other}, and N is {width}", (f"an object of {one_width(entry)} bits has that width",))
         if stuck:
+            at = int(stuck.split()[0])
             return Refusal(f"bad_walk {stuck}", one.head, f"the microprogram of {entry.name} is stuck at the width {width}, at instruction "
-                           f"{stuck.split()[0]}", ("no compiled program is; `simdram list PROG` shows the instructions",))
+                           f"{at}{place_of(self.prog, entry, at).rstrip(',')}", ("no compiled program is; `simdram list PROG` shows the instructions",))
         size = entry.bits + width * entry.words
         if self.table.least_free(size) is None:
             return no_rows(self.table, one.head, size, f"the scratch of {entry.name} at the width {width}")

@@ -5,6 +5,8 @@ from __future__ import annotations
 import shlex
 
 from ..assembler.listing import head_line
+from ..assembler.one_width import one_width, other_width
+from ..assembler.text_lines import place_of
 from ..files.program import Entry, Program
 from ..steps.one_column import Column
 from .answer import Answer
@@ -92,8 +94,12 @@ def of_wrong(verdict: Verdict, shape: OpShape, entry: Entry, prog: str, n: int) 
 
 def of_stuck(verdict: Verdict, entry: Entry, prog: str, n: int) -> tuple[str, tuple[str, ...]]:
     """Where a walk is stuck."""
+    other = other_width(entry, n)
+    if other:
+        return f"at width {n} its walk cannot go on: {other}", (f"verify it at {one_width(entry)}",)
     text = f", `{entry.code[verdict.at]}`," if verdict.at < len(entry.code) else ""
-    return f"at width {n} its walk cannot go on: instruction {verdict.at}{text} {WHY[verdict.why]}", (
+    place = place_of(prog, entry, verdict.at)
+    return f"at width {n} its walk cannot go on: instruction {verdict.at}{text}{place[1:] if text else place} {WHY[verdict.why]}", (
         f"`simdram list {shlex.quote(prog)}` numbers the instructions; look at the bounds of the loop that it stands in",)
 
 

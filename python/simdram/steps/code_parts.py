@@ -31,10 +31,16 @@ class Part:
     what: str = ""
     loops: tuple[tuple[int, int], ...] = ()
     held: Held = UNKNOWN
+    # where its first instruction stands in the text of the microprogram, where that is at hand
+    place: str = ""
+
+    def head(self) -> str:
+        """Where it begins, and how it is repeated."""
+        return f"from instruction {self.first}{self.place}, {self.said}"
 
     def title(self) -> str:
         """Its first line, cut where it is long."""
-        text = f"from instruction {self.first}, {self.said}{': ' if self.what else ''}{self.what}"
+        text = f"{self.head()}{': ' if self.what else ''}{self.what}"
         return text if len(text) <= LONGEST_TITLE else text[:LONGEST_TITLE - 2] + ".."
 
 

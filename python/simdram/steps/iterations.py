@@ -5,8 +5,10 @@ from __future__ import annotations
 import bisect
 import typing
 
+from ..assembler.one_width import one_width, other_width
 from ..files.decode import CELLS
 from ..files.program import REGISTERS, RESULT, SOURCE, Entry, Row
+from ..launcher.faults import Fault
 from .board import LETTER, letter
 from .code_parts import Part
 from .one_column import Column, Moment, numbers_of
@@ -103,5 +105,8 @@ def execution(entry: Entry, text: OpText | None, numbers: str, width: int | None
     hold 1 and the others 0, or, where none are given, are not known."""
     rows = text.names() if text else RowNames(None)
     names = [rows.base(Row(SOURCE, which, REGISTERS)) for which in range(len(entry.sources))]
-    values, chosen = numbers_of(numbers, names, entry.sources, width)
+    values, chosen = numbers_of(numbers, names, entry.sources, width or one_width(entry))
+    other = other_width(entry, chosen)
+    if other:
+        raise Fault(f"{other}, and not for {chosen}")
     return Execution(entry, chosen, values, rows, ones)

@@ -6,7 +6,7 @@ whether what it reads and writes goes upwards or downwards; `turn 1 of 2` of a l
 round`, where another body stands in the others; `if r2 > 0 at 24` for what is done where register 2 is over 0 when the jump
 at instruction 24 asks. What has none of these is done once. A loop may have no iteration.
 With --ops, sources, results, states and temporaries have the names of the operation text, and it is said which statement a
-part is of. Without it, sources are a, b, c, d, results y and z, scratch bits t0, t1, .., scratch words w0, .. and spill rows
+part is of. Where the text of a microprogram lies beside PROG, a part has its line there. Without --ops, sources are a, b, c, d, results y and z, scratch bits t0, t1, .., scratch words w0, .. and spill rows
 p0, ..; [i] is the position where one register counts it, and else it is counted from registers as the part begins, as r3, or
 it is a number, or n with one; below the table stands what these registers are. A cell that the part has not written yet holds
 ?; `old t` is what the row t held before the part writes it, or, where a loop takes the value over from one iteration to the
@@ -27,9 +27,11 @@ with cells coloured by what they hold; the page loads nothing.
 from __future__ import annotations
 
 import argparse
+import dataclasses
 import textwrap
 import typing
 
+from ..assembler.text_lines import TextLines, text_lines
 from ..files.decode import CELLS
 from ..files.program import Entry, Program
 from ..launcher.faults import Fault
@@ -100,13 +102,13 @@ def title_lines(part: Part) -> list[str]:
     """A part's title, with its statements below where it is long."""
     if len(part.title()) <= WIDEST:
         return [part.title()]
-    head = textwrap.wrap(f"from instruction {part.first}, {part.said}{':' * bool(part.what)}", WIDEST, subsequent_indent="  ")
+    head = textwrap.wrap(f"{part.head()}{':' * bool(part.what)}", WIDEST, subsequent_indent="  ")
     return head + textwrap.wrap(part.what, WIDEST, initial_indent="  ", subsequent_indent="    ")
 
 
 class Shown(typing.NamedTuple):
     """A part as it is shown: its steps, its table, what its numbered values and its subscripts are, what its cells hold
-    at its start, and the bits of its iterations."""
+    at its start, the bits of its iterations, and after how many instructions each began, also those that are not kept."""
 
     part: Part
     done: typing.List[Step]
@@ -115,15 +117,18 @@ class Shown(typing.NamedTuple):
     subscripts: typing.List[typing.Tuple[str, str]]
     start: typing.Dict[str, str]
     bits: typing.List[typing.Dict[str, typing.Any]]
+    when: typing.List[int]
 
 
 class View:
     """An entry as it is shown, with the designer's names where the text is given, and bits where numbers are."""
 
-    def __init__(self, entry: Entry, text: OpText | None, run: Execution | None = None, iteration: int = 1) -> None:
+    def __init__(self, entry: Entry, text: OpText | None, run: Execution | None = None, iteration: int = 1,
+                 lines: TextLines | None = None) -> None:
         self.entry, self.text, self.run, self.iteration = entry, text, run, iteration
         self.rows, found = text.names() if text else RowNames(None), parts(entry.code)
         found = text.parts(found) if text else found
+        found = [dataclasses.replace(part, place=f" ({lines.said(part.first)})") for part in found] if lines else found
         self.held = Held(entry.code)
         self.shown = [self.part_shown(part, cells) for part, cells in zip(found, before(entry.code, found, self.rows))]
 
@@ -149,7 +154,8 @@ class View:
         for name, what in subscripts:
             lines += textwrap.wrap(f"{name} is {what}", WIDEST, initial_indent="  ", subsequent_indent="    ")
         start = {cell: value.text for cell, value in Board(part, self.rows, names, taken).cells.items()}
-        return Shown(part, done, lines, names.said, subscripts, start, bits)
+        when = [one for one, _ in self.run.firsts[part.first]] if self.run else []
+        return Shown(part, done, lines, names.said, subscripts, start, bits, when)
 
 
 def parser() -> argparse.ArgumentParser:
@@ -187,10 +193,10 @@ def main(words: list[str], settings: Settings) -> int:
     if asked.start is not None and not asked.numbers:
         raise Fault("--from goes with --with")
     run = execution(entry, text, asked.numbers, asked.width, ones_of(asked.start)) if asked.numbers else None
-    view = View(entry, text, run, asked.iteration)
+    view = View(entry, text, run, asked.iteration, text_lines(asked.prog, entry))
     said = [one for one in (text.other if text else "", run.said if run else "") if one]
     if asked.html:
-        write(asked.html, page(asked.op, view.shown, said).encode(), "page", settings)
+        write(asked.html, page(asked.op, view.shown, said, run is not None).encode(), "page", settings)
         return 0
     for one in said:
         print(one)
