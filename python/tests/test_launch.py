@@ -147,19 +147,23 @@ class NothingDestroyed(Folder):
         run = ["run", *self.WHOLE["run"]]
         self.assertEqual(self.call(*run).returncode, 0)
         first = text(self.folder / "out.img")
+        before = text(self.folder / "mac.img")
         (self.folder / "out.img~").write_text("mine")
         (self.folder / "numbers").write_text("1,2,3,4")
         self.assertEqual(self.call("image", "put", "mac.img", "b", "numbers").returncode, 0)
         for words in (run, run):
             self.assertEqual(self.call(*words).returncode, 0)
         kept = {name: data for name, data in self.files().items() if "~" in name}
-        self.assertEqual(kept, {"out.img~": b"mine", "out.img~2": first})
+        self.assertEqual(kept, {"mac.img~": before, "out.img~": b"mine", "out.img~2": first})
+        (self.folder / "mac.img~").unlink()
         (self.folder / "out.img~2").unlink()
         os.symlink("mac.img", self.folder / "link.img")
         (self.folder / "out.img").write_bytes(first)
         self.assertEqual(self.call(*run, "--force").returncode, 0)
+        before = text(self.folder / "mac.img")
         self.assertEqual(self.call(*run[:-1], "link.img").returncode, 0)
-        self.assertEqual([name for name in self.files() if "~" in name], ["out.img~"])
+        self.assertEqual({name: data for name, data in self.files().items() if "~" in name}, {"out.img~": b"mine", "mac.img~": before})
+        self.assertTrue((self.folder / "link.img").is_symlink())
 
     def test_what_is_said(self):
         ended = self.call("run", "mac.bbop", "mac.ops", "mac.prog", "mac.img", "out.img")

@@ -1,8 +1,11 @@
 """Formulas of n, tables of costs in their formats, and pictures of several files."""
 
 import fractions
+import os
 import unittest
+import unittest.mock
 
+import support
 from support import TOP, needs_program
 from test_tools import Folder
 
@@ -101,6 +104,19 @@ class SideBySide(Folder):
         drawn = (self.folder / "p.svg").read_text()
         for said in (">AAP</text>", "f of first: 81 at 10", "h of second: 10 at 10", "n: 2 at 10", ">100</text>"):
             self.assertIn(said, drawn)
+
+    def test_a_walk_that_never_ends_is_walked_once(self):
+        (self.folder / "m").write_text("program f(a: word) -> y: word\n  for i in 0..n { AAP a[i] y[i] }\n"
+                                       "program g(a: word) -> y: word\nagain: AAP a[0] y[0]\nJMP again\n")
+        (self.folder / "program").write_text(f'#!/bin/sh\necho "$1 $2" >> calls\nexec {support.program()} "$@"\n')
+        (self.folder / "program").chmod(0o755)
+        self.assertEqual(self.call("assemble", "m", "p").returncode, 0)
+        with unittest.mock.patch.dict(os.environ, SIMDRAM_PROGRAM="./program"):
+            ended = self.call("plot", "p", "p.svg", "--to", "8")
+        self.assertEqual((ended.returncode, ended.stderr), (0, "simdram: g is left out: its execution is stuck, bad_walk 1 budget at n = 1\n"))
+        self.assertIn("f: 8 at 8", (self.folder / "p.svg").read_text())
+        calls = (self.folder / "calls").read_text().splitlines()
+        self.assertEqual((calls.count("cost p"), len(calls)), (1, 8))
 
     def test_endings(self):
         for name in ("p.pdf", "p", "p.svg.gz", "p.JPEG"):

@@ -169,6 +169,7 @@ class Simplified(unittest.TestCase):
             self.assertEqual(status, 0)
             self.assertIn("equal at 2; not known at 4: left as it was", out)
             self.assertEqual(pathlib.Path(new).read_text(encoding="utf-8"), text)
+            os.remove(new)
             status, out, _ = self.call(ops, new, "--widths", "2,4", "--unvalidated")
         self.assertEqual(status, 0)
         self.assertIn("not known at 4", out)

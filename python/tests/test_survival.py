@@ -113,7 +113,7 @@ class Runs(Folder):
         scratch.mkdir()
         words = [sys.executable, str(TOP / "simdram"), "survival", *WORDS, "--rates", "1e-3", "--runs", "100000"]
         with subprocess.Popen(words, cwd=self.folder, stdout=subprocess.PIPE, stderr=subprocess.PIPE, text=True, start_new_session=True,
-                              env={**os.environ, "TMPDIR": str(scratch)}) as running:
+                              preexec_fn=lambda: signal.signal(signal.SIGINT, signal.SIG_DFL), env={**os.environ, "TMPDIR": str(scratch)}) as running:
             end = time.monotonic() + 60
             while not any(scratch.iterdir()) and time.monotonic() < end:
                 time.sleep(0.05)

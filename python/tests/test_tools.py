@@ -230,15 +230,16 @@ class Texts(Folder):
         self.compiled("op f(a: word) -> y: word { y = not(a); }")
         text = (self.folder / "p.ops").read_text()
         (self.folder / "n").write_text("53 44")
+        (self.folder / "p.svg").write_text(text)
         for words in (["from-hex", "n"], ["plot", "p", "--to", "2"], ["steps", "p", "f", "--html"]):
-            ended = self.call(*words, "p.ops")
+            ended = self.call(*words, "p.svg")
             self.assertEqual((ended.returncode, len(ended.stderr.splitlines())), (2, 1), ended.stderr)
-            self.assertIn("p.ops: ", ended.stderr)
+            self.assertIn("p.svg: ", ended.stderr)
             self.assertIn("it holds text; nothing was done", ended.stderr)
-            self.assertEqual((self.folder / "p.ops").read_text(), text, words)
-            self.assertEqual([self.call(*words, "made").returncode for _ in range(2)], [0, 0], words)
-            self.assertEqual(self.call(*words, "made", "--force").returncode, 0)
-            (self.folder / "made").unlink()
+            self.assertEqual((self.folder / "p.svg").read_text(), text, words)
+            self.assertEqual([self.call(*words, "made.svg").returncode for _ in range(2)], [0, 0], words)
+            self.assertEqual(self.call(*words, "made.svg", "--force").returncode, 0)
+            (self.folder / "made.svg").unlink()
 
     @needs_program
     def test_no_program_and_no_report(self):

@@ -10,16 +10,16 @@ from __future__ import annotations
 import argparse
 import sys
 
-from ..files.store import load, store
-from ..launcher.commands import MAGIC
+from ..files.store import load
 from ..launcher.faults import WRONG
-from ..launcher.overwrite import check_tool
+from ..launcher.overwrite import write
 from ..launcher.settings import Settings
+from ..launcher.tool_parser import tool_parser
 from . import TextFault, assemble
 
 
 def parser() -> argparse.ArgumentParser:
-    made = argparse.ArgumentParser(prog="simdram assemble", description=__doc__, formatter_class=argparse.RawDescriptionHelpFormatter)
+    made = tool_parser("assemble", __name__)
     made.add_argument("text", metavar="TEXT")
     made.add_argument("prog", metavar="PROG")
     return made
@@ -27,13 +27,12 @@ def parser() -> argparse.ArgumentParser:
 
 def main(words: list[str], settings: Settings) -> int:
     asked = parser().parse_args(words)
-    data = load(asked.text)
+    data = load(asked.text, "micro")
     try:
         program = assemble(data)
     except TextFault as fault:
         print("\n".join(fault.answer(asked.text, data).lines()), file=sys.stderr)
         return WRONG
-    check_tool(asked.prog, MAGIC["program"], "a program file is", settings)
-    store(asked.prog, program.file())
+    write(asked.prog, program.file(), "program", settings)
     print(f"assembled {len(program.entries)}")
     return 0

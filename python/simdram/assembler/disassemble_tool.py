@@ -11,13 +11,13 @@ import argparse
 
 from ..files.program import Program
 from ..launcher.settings import Settings
+from ..launcher.tool_parser import tool_parser
 from .listing import raw_text
 from .reading import readable_text
 
 
 def parser() -> argparse.ArgumentParser:
-    made = argparse.ArgumentParser(prog="simdram disassemble", description=__doc__,
-                                   formatter_class=argparse.RawDescriptionHelpFormatter)
+    made = tool_parser("disassemble", __name__)
     made.add_argument("prog", metavar="PROG")
     made.add_argument("--raw", action="store_true", help="the lines of `list`, instruction by instruction")
     return made

@@ -9,11 +9,10 @@ from __future__ import annotations
 import argparse
 
 from ..files.program import ENTRIES, Entry, Program
-from ..files.store import store
-from ..launcher.commands import MAGIC
 from ..launcher.faults import Fault
-from ..launcher.overwrite import check_tool
+from ..launcher.overwrite import write
 from ..launcher.settings import Settings
+from ..launcher.tool_parser import tool_parser
 
 
 def linked(paths: list[str]) -> Program:
@@ -32,7 +31,7 @@ def linked(paths: list[str]) -> Program:
 
 
 def parser() -> argparse.ArgumentParser:
-    made = argparse.ArgumentParser(prog="simdram link", description=__doc__, formatter_class=argparse.RawDescriptionHelpFormatter)
+    made = tool_parser("link", __name__)
     made.add_argument("progs", metavar="PROG", nargs="+")
     made.add_argument("out", metavar="OUT")
     return made
@@ -43,7 +42,6 @@ def main(words: list[str], settings: Settings) -> int:
     if asked.out in asked.progs:
         raise Fault(f"{asked.out} is both linked and written; OUT is another file")
     program = linked(asked.progs)
-    check_tool(asked.out, MAGIC["program"], "a program file is", settings)
-    store(asked.out, program.file())
+    write(asked.out, program.file(), "program", settings)
     print(f"linked {len(program.entries)}")
     return 0

@@ -19,6 +19,7 @@ import typing
 
 from ..launcher.faults import Fault
 from ..launcher.settings import Settings
+from ..launcher.tool_parser import tool_parser
 from ..launcher.widths import widths_of
 from .costs import EntryCost, costs_at
 from .table_formats import FORMATS, Rows
@@ -126,8 +127,7 @@ def names_of(text: str) -> list[str]:
 
 
 def parser() -> argparse.ArgumentParser:
-    made = argparse.ArgumentParser(prog="simdram cost-table", description=__doc__,
-                                   formatter_class=argparse.RawDescriptionHelpFormatter)
+    made = tool_parser("cost-table", __name__)
     made.add_argument("progs", metavar="PROG", nargs="+", help="a program file; the ratios are to the first")
     made.add_argument("--widths", default="8,16,32,64", metavar="N,N,..", help="widths and spans, as 4,8,16-20")
     made.add_argument("--ops", default="", metavar="NAME,..", help="these entries alone")

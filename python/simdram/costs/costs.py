@@ -3,9 +3,11 @@
 from __future__ import annotations
 
 import dataclasses
+import tempfile
 import typing
 
 from ..files.program import Program
+from ..files.store import store
 from ..launcher import run_program
 from ..launcher.faults import Fault
 from ..launcher.parallel import in_parallel
@@ -56,3 +58,25 @@ def costs_at(paths: typing.Sequence[str], widths: typing.Sequence[int], settings
     asked = [(path, width) for path in dict.fromkeys(paths) for width in dict.fromkeys(widths)]
     found = in_parallel(lambda one: costs(*one, settings, program), asked, what)
     return dict(zip(asked, found))
+
+
+def going_on(path: str, found: list[EntryCost], beside: str) -> str:
+    """The program file without the entries that are stuck: itself, or another file, or none where all are."""
+    if not any(cost.stuck for cost in found):
+        return path
+    entries = [entry for entry, cost in zip(Program.load(path).entries, found) if not cost.stuck]
+    store(beside, Program(entries).file())
+    return beside if entries else ""
+
+
+def costs_until_stuck(paths: typing.Sequence[str], widths: typing.Sequence[int], settings: Settings,
+                      what: str = "") -> dict[tuple[str, int], list[EntryCost]]:
+    """The same, but an entry that is stuck at the first width is stuck at each, since a walk that never ends takes long."""
+    first = costs_at(paths, widths[:1], settings)
+    with tempfile.TemporaryDirectory(prefix="simdram_") as folder:
+        files = {path: going_on(path, first[path, widths[0]], f"{folder}/{k}") for k, path in enumerate(paths)}
+        rest = costs_at(list(filter(None, files.values())), widths[1:], settings, what)
+    for (path, width), file in (((path, width), file) for path, file in files.items() for width in widths[1:]):
+        left = iter(rest.get((file, width), ()))
+        first[path, width] = [cost if cost.stuck else next(left) for cost in first[path, widths[0]]]
+    return first

@@ -4,20 +4,21 @@ from __future__ import annotations
 
 import dataclasses
 import html
+import io
 import math
-import pathlib
+import os
 import typing
 
+from ..launcher import overwrite
 from ..launcher.faults import Fault
-from ..launcher.overwrite import check_tool
 from ..launcher.settings import Settings
 
 COLOURS = ("#0072b2", "#d55e00", "#009e73", "#cc79a7", "#555555", "#e69f00", "#56b4e9", "#8c510a", "#7b3294", "#1b7837")
 WIDE, HIGH, LEFT, ABOVE, BELOW, LEGEND, LEGEND_LINE = 720, 420, 80, 40, 50, 300, 22
+# the kinds of pictures, by their endings
+ENDINGS = (".svg", ".png")
 # curves of at most so many points have a mark at each
 MARKED = 16
-# how a file of each ending begins
-STARTS = {".svg": (b"<svg", b"<?xml"), ".png": b"\x89PNG"}
 
 
 @dataclasses.dataclass(frozen=True)
@@ -153,8 +154,8 @@ def svg(picture: Picture) -> str:
     return "\n".join([*found, "</svg>", ""])
 
 
-def write_png(picture: Picture, out: str) -> None:
-    """Writes the picture as PNG."""
+def png(picture: Picture, out: str) -> bytes:
+    """The picture as PNG."""
     try:
         from matplotlib.backends.backend_agg import FigureCanvasAgg
         from matplotlib.figure import Figure
@@ -171,21 +172,25 @@ def write_png(picture: Picture, out: str) -> None:
     plane.set_ylim(bottom=picture.bottom)
     plane.grid(axis="y", color="#ddd")
     plane.legend(loc="upper left", bbox_to_anchor=(1.01, 1), frameon=False)
-    figure.savefig(out, format="png")
+    made = io.BytesIO()
+    figure.savefig(made, format="png")
+    return made.getvalue()
+
+
+def kind_of(out: str) -> str:
+    """The kind of picture that a name asks for; a name of another ending is refused."""
+    ending = os.path.splitext(out)[1].lower()
+    if ending not in ENDINGS:
+        raise Fault(f"{out}: a picture's name ends in {' or '.join(ENDINGS)}, {'and not in ' + ending if ending else 'which says what it is'}")
+    return ending[1:]
 
 
 def check_out(out: str, settings: Settings) -> None:
     """Refuses a file of no such ending, and one that holds something else."""
-    ending = pathlib.Path(out).suffix.lower()
-    if ending not in STARTS:
-        raise Fault(f"{out}: a picture's name ends in {' or '.join(STARTS)}, {'and not in ' + ending if ending else 'which says what it is'}")
-    check_tool(out, STARTS[ending], "a picture is", settings)
+    overwrite.check(out, kind_of(out), settings)
 
 
 def write(picture: Picture, out: str, settings: Settings) -> None:
     """Writes the picture into a file, SVG or PNG as its name ends."""
-    check_out(out, settings)
-    if pathlib.Path(out).suffix.lower() == ".png":
-        write_png(picture, out)
-    else:
-        pathlib.Path(out).write_text(svg(picture), encoding="utf-8")
+    kind = kind_of(out)
+    overwrite.write(out, png(picture, out) if kind == "png" else svg(picture).encode(), kind, settings)

@@ -17,10 +17,11 @@ import typing
 from ..launcher.faults import Fault
 from ..launcher.say import say
 from ..launcher.settings import Settings
+from ..launcher.tool_parser import tool_parser
 from ..launcher.widths import widths_of
 from . import formulas, picture
 from .cost_table import labels_of, names_of, of_ops
-from .costs import EntryCost, costs_at
+from .costs import EntryCost, costs_until_stuck
 from .picture import COLOURS, Line, Picture
 
 Counts = typing.Dict[str, typing.List[float]]
@@ -43,7 +44,7 @@ def entries_of(path: str, widths: list[int], found: dict) -> dict[str, list[Entr
 
 def curves(paths: list[str], ops: list[str], widths: list[int], column: str, settings: Settings) -> Counts:
     """The counts of each entry at the widths, by its name, and by its file's too where there are several."""
-    found = of_ops(costs_at(paths, widths, settings, "plot"), ops)
+    found = of_ops(costs_until_stuck(paths, widths, settings, "plot"), ops)
     made: Counts = {}
     for path, label in zip(paths, labels_of(paths)):
         for name, costs in entries_of(path, widths, found).items():
@@ -103,7 +104,7 @@ def width(text: str) -> int:
 
 
 def parser() -> argparse.ArgumentParser:
-    made = argparse.ArgumentParser(prog="simdram plot", description=__doc__, formatter_class=argparse.RawDescriptionHelpFormatter)
+    made = tool_parser("plot", __name__)
     made.add_argument("files", metavar="PROG .. OUT", nargs="+", help="program files, and the picture, OUT.svg or OUT.png")
     made.add_argument("--ops", default="", metavar="NAME,..", help="the entries to draw; all where none is given")
     made.add_argument("--to", type=width, default=64, metavar="N", help="the greatest width, 1 to 128")

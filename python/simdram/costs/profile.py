@@ -22,6 +22,7 @@ from ..launcher import run_program
 from ..launcher.commands import MAGIC
 from ..launcher.faults import Fault
 from ..launcher.settings import Settings
+from ..launcher.tool_parser import tool_parser
 from ..launcher.widths import widths_of
 from ..steps.code_parts import Part, parts
 from ..steps.op_texts import OpText, of_entries
@@ -164,7 +165,7 @@ def as_csv(found: list[Profile]) -> str:
 
 
 def parser() -> argparse.ArgumentParser:
-    made = argparse.ArgumentParser(prog="simdram profile", description=__doc__, formatter_class=argparse.RawDescriptionHelpFormatter)
+    made = tool_parser("profile", __name__)
     made.add_argument("file", metavar="OPS|PROG")
     made.add_argument("widths", metavar="N", nargs="+", help="widths, 1 to 128: 8, or 4,8,16-20")
     made.add_argument("--ops", metavar="OPS", help="the operation text that PROG was compiled from")

@@ -22,6 +22,7 @@ from ..launcher.commands import MAGIC
 from ..launcher.faults import Fault
 from ..launcher.overwrite import content
 from ..launcher.settings import Settings
+from ..launcher.tool_parser import tool_parser
 from ..rules.script_rules import Instruction, read_script
 
 OK = re.compile(r"(\d+) ok aap=(\d+) ap=(\d+)")
@@ -41,7 +42,7 @@ class Script(typing.NamedTuple):
     @classmethod
     def load(cls, path: str) -> Script:
         """The script in a file."""
-        data = load(path)
+        data = load(path, "script")
         instructions, fault = read_script(path, data)
         if fault:
             raise Fault(f"{path} {fault.place}: {fault.kind}: {fault.rule}")
@@ -51,7 +52,7 @@ class Script(typing.NamedTuple):
 
 def table_in(image: str) -> Table:
     """The geometry and the objects of an image file."""
-    return Table.read(load(image)[:HEAD_MAX], image)
+    return Table.read(load(image, "image")[:HEAD_MAX], image)
 
 
 def in_banks(found: dict, script: Script, table: Table) -> None:
@@ -98,8 +99,9 @@ def object_of(text: str, table: Table | None = None, script: Script | None = Non
         raise Fault("the report has no line of totals: the command did not end with status 0 or 8")
     if table:
         made["totals"].update(host_rows(made["totals"], table))
-    if script and len(script.instructions) != len(made["instructions"]):
-        raise Fault(f"the report has {len(made['instructions'])} instructions, and the script {len(script.instructions)}")
+    numbers = [found["number"] for found in made["instructions"]]
+    if script and numbers != list(range(1, len(script.instructions) + 1)):
+        raise Fault(f"the report is of other instructions than the script's, which are 1 to {len(script.instructions)}")
     for found in made["instructions"] if script else ():
         in_banks(found, script, table)
     return made
@@ -131,7 +133,7 @@ def table_of(made: dict) -> str:
 
 
 def parser() -> argparse.ArgumentParser:
-    made = argparse.ArgumentParser(prog="simdram report", description=__doc__, formatter_class=argparse.RawDescriptionHelpFormatter)
+    made = tool_parser("report", __name__)
     made.add_argument("report", metavar="REPORT", nargs="?")
     made.add_argument("--json", action="store_true", help="one JSON object")
     made.add_argument("--script", metavar="SCRIPT", help="the script that was executed; needs --image")
@@ -142,7 +144,7 @@ def parser() -> argparse.ArgumentParser:
 def text_of(report: str | None) -> str:
     """The text of a report, or of standard input."""
     if report is None:
-        return sys.stdin.read()
+        return load("/dev/stdin").decode("utf-8", "replace")
     data = load(report)
     if data.startswith(tuple(MAGIC.values())):
         raise Fault(f"{report}: no report: it holds {content(data[:512])}")

@@ -101,7 +101,7 @@ class Image:
     @classmethod
     def load(cls, path: str) -> Image:
         """The image in a file."""
-        return cls.read(load(path), path)
+        return cls.read(load(path, "image"), path)
 
     def file(self) -> bytes:
         """The image file."""

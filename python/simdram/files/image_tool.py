@@ -9,7 +9,8 @@ An OBJECT is NAME:WIDTH=V1,V2,.. with the values of its elements, or NAME:WIDTH/
 free rows. `get` prints one number per line, or writes FILE: a .csv file has a head line `element,NAME` and both numbers in
 each line, a .npy file is an array of 64-bit numbers (with two columns, the lower half first, for widths over 64). `put` sets
 the object's elements from a file of these forms, from numbers separated by commas or blanks, or from a .npy array of booleans
-or integers of any shape, read with its last axis first. A file of another kind is not overwritten without `--force`.
+or integers of any shape, read with its last axis first. What stands where a file is written is kept as NAME~, and refused
+where it is of another kind, as docs/FORMATS.md says.
 
     simdram image make mac.img 1x96x1 a:8=3,10,15,200 y:8/4
     simdram image get mac.img a
@@ -17,28 +18,25 @@ or integers of any shape, read with its last axis first. A file of another kind 
 
 from __future__ import annotations
 
-import os
 import re
 import sys
 import typing
 
-from ..launcher.commands import MAGIC
-from ..launcher.overwrite import content, start_of
+from ..launcher.faults import Fault
+from ..launcher.overwrite import write
 from ..launcher.settings import Settings
-from ..rules.file_kinds import ENDINGS
+from ..launcher.tool_parser import about
 from . import numbers
 from .fault import FileFault
 from .image import Image, NoObject, NoRoom, OutOfRange
-from .store import store
 
-FORMS = tuple(line.strip() for line in __doc__.split("\n\n")[1].splitlines())
-# how a file of numbers begins
-NUMBERS = re.compile(rb"\x93NUMPY.*|(?:element,\w+\s)?[\d,\s-]*", re.DOTALL)
 OBJECT = re.compile(r"([A-Za-z_][A-Za-z0-9_]{0,15}):(\d+)(?:=(-?\d+(?:,-?\d+)*),?|/(\d+))")
 
 
-class WordsFault(Exception):
+class WordsFault(Fault):
     """Arguments that do not describe an image, as one line."""
+
+    status = 1
 
 
 def make(geometry: str, words: typing.Sequence[str]) -> Image:
@@ -90,8 +88,8 @@ def get(path: str, name: str, file: str) -> bytes:
         raise FileFault(path, "", "", str(fault)) from None
 
 
-def put(path: str, name: str, file: str) -> None:
-    """Sets an object's elements from a file of numbers."""
+def put(path: str, name: str, file: str) -> bytes:
+    """The image file with an object's elements set from a file of numbers."""
     image = Image.load(path)
     try:
         found = image.find(name)
@@ -105,19 +103,7 @@ def put(path: str, name: str, file: str) -> None:
         image.put(name, values)
     except OutOfRange as fault:
         raise FileFault(file, "", "range", str(fault)) from None
-    image.save(path)
-
-
-def check_kind(path: str, is_image: bool, settings: Settings) -> None:
-    """Refuses to write over a file of another kind: an image over no image, or numbers over no numbers."""
-    start = start_of(path, 512)
-    if start is None or settings.force:
-        return
-    is_numbers = NUMBERS.fullmatch(start) and not path.endswith(tuple(ENDINGS))
-    if not (start.startswith(MAGIC["image"]) if is_image else is_numbers):
-        wanted = "an image is" if is_image else "numbers are"
-        raise FileFault(path, "", "", f"{wanted} written there, but it holds {content(start)}; nothing was done, "
-                        "and --force overwrites it")
+    return image.file()
 
 
 def do(words: typing.Sequence[str], settings: Settings) -> None:
@@ -125,37 +111,23 @@ def do(words: typing.Sequence[str], settings: Settings) -> None:
     verb, rest = (words[0], list(words[1:])) if words else ("", [])
     if verb == "make" and len(rest) >= 2:
         image = make(rest[1], rest[2:])
-        check_kind(rest[0], True, settings)
-        image.save(rest[0])
+        write(rest[0], image.file(), "image", settings)
     elif verb == "show" and len(rest) == 1:
         print("\n".join(show(Image.load(rest[0]))))
     elif verb == "get" and len(rest) == 2:
         sys.stdout.write(get(rest[0], rest[1], "").decode())
     elif verb == "get" and len(rest) == 3:
-        data = get(*rest)
-        check_kind(rest[2], False, settings)
-        store(rest[2], data)
+        write(rest[2], get(*rest), "numbers", settings)
     elif verb == "put" and len(rest) == 3:
-        put(*rest)
+        write(rest[0], put(*rest), "image", settings)
     else:
-        raise WordsFault("\n".join(["these words are none of", *FORMS]))
+        raise WordsFault("\n".join(["these words are none of", *map(str.strip, about(__name__).split("\n\n")[1].splitlines())]))
 
 
-def main(words: typing.Sequence[str], settings: Settings = Settings()) -> int:
-    """Does what the words say, and answers the status: 1 where they say nothing, 2 where a file is missing or wrong."""
-    try:
-        if {"--help", "-h"} & set(words[:2]):
-            print(__doc__.rstrip())
-        else:
-            do(words, settings)
-        sys.stdout.flush()
-    except BrokenPipeError:
-        os.dup2(os.open(os.devnull, os.O_WRONLY), sys.stdout.fileno())
-    except WordsFault as fault:
-        print(f"simdram image: {fault}", file=sys.stderr)
-        return 1
-    except FileFault as fault:
-        print(f"simdram image: {fault}", file=sys.stderr)
-        return 2
+def main(words: typing.Sequence[str], settings: Settings) -> int:
+    """Does what the words say."""
+    if {"--help", "-h"} & set(words[:2]):
+        print(about(__name__).rstrip())
+    else:
+        do(words, settings)
     return 0
-

@@ -125,7 +125,7 @@ class Program:
     @classmethod
     def load(cls, path: str) -> Program:
         """The program in a file."""
-        return cls.read(load(path), path)
+        return cls.read(load(path, "program"), path)
 
     def file(self) -> bytes:
         """The program file, of this version."""

@@ -10,6 +10,7 @@ from __future__ import annotations
 import argparse
 
 from ..launcher.settings import Settings
+from ..launcher.tool_parser import tool_parser
 from .store import load
 from .trace import Event, Trace
 
@@ -23,8 +24,7 @@ def for_simulators(event: Event) -> str:
 
 
 def parser() -> argparse.ArgumentParser:
-    made = argparse.ArgumentParser(prog="simdram trace-text", description=__doc__,
-                                   formatter_class=argparse.RawDescriptionHelpFormatter)
+    made = tool_parser("trace-text", __name__)
     made.add_argument("--ramulator", action="store_true", help="the form of simulators of DRAM")
     made.add_argument("trace", metavar="TRACE")
     return made
@@ -32,6 +32,6 @@ def parser() -> argparse.ArgumentParser:
 
 def main(words: list[str], _settings: Settings) -> int:
     asked = parser().parse_args(words)
-    for event in Trace.opened(load(asked.trace), asked.trace)[1]:
+    for event in Trace.opened(load(asked.trace, "trace"), asked.trace)[1]:
         print(for_simulators(event) if asked.ramulator else event)
     return 0

@@ -16,6 +16,7 @@ import re
 from ..files.store import load
 from ..launcher.faults import Fault
 from ..launcher.settings import Settings
+from ..launcher.tool_parser import tool_parser
 from ..rules.ops_rules import RESERVED, SOURCES, explain_ops
 from ..rules.tokens import NAME_MAX
 from ..rules.word_ops import GATES
@@ -130,7 +131,7 @@ class Block:
 
 
 def parser() -> argparse.ArgumentParser:
-    made = argparse.ArgumentParser(prog="simdram from-blif", description=__doc__, formatter_class=argparse.RawDescriptionHelpFormatter)
+    made = tool_parser("from-blif", __name__)
     made.add_argument("file", metavar="FILE")
     made.add_argument("--name", metavar="NAME", help="the op's name; else the model's")
     made.add_argument("--down", action="store_true", help="the block goes from the top bit down")

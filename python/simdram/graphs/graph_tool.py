@@ -14,10 +14,11 @@ from __future__ import annotations
 import argparse
 import sys
 
-from ..files.store import load, store
+from ..files.store import load
 from ..launcher.faults import Fault
-from ..launcher.overwrite import check_tool
+from ..launcher.overwrite import write
 from ..launcher.settings import Settings
+from ..launcher.tool_parser import tool_parser
 from ..rules.op_shapes import OpShape, Statement
 from ..rules.ops_rules import op_shape, shapes_of
 from .block_graph import written
@@ -26,12 +27,10 @@ from .mig import live
 from .mig_formats import as_aiger, as_blif, as_dot
 
 FORMATS = ("dot", "blif", "aiger")
-# what a file of each format begins with, so that no other file is written over
-HEADS = {"dot": (b"digraph ",), "blif": (b".model ",), "aiger": (b"aig ", b"aag ")}
 
 
 def parser() -> argparse.ArgumentParser:
-    made = argparse.ArgumentParser(prog="simdram graph", description=__doc__, formatter_class=argparse.RawDescriptionHelpFormatter)
+    made = tool_parser("graph", __name__)
     made.add_argument("ops", metavar="OPS")
     made.add_argument("out", metavar="OUT", nargs="?")
     made.add_argument("--op", metavar="NAME", help="the op; else the first that has a serial block")
@@ -56,7 +55,7 @@ def block_of(path: str, data: bytes, name: str | None, number: int) -> tuple[OpS
 
 def main(words: list[str], settings: Settings) -> int:
     asked = parser().parse_args(words)
-    data = load(asked.ops)
+    data = load(asked.ops, "ops")
     shape, block = block_of(asked.ops, data, asked.op, asked.block)
     if not 1 <= asked.positions <= 16 or asked.compiled and asked.positions != 1:
         raise Fault("--positions is 1 to 16, and goes with the graph as it is written")
@@ -69,8 +68,7 @@ def main(words: list[str], settings: Settings) -> int:
     made = {"dot": lambda: as_dot(graph, shape.name).encode(), "blif": lambda: as_blif(graph, shape.name, notes).encode(),
             "aiger": lambda: as_aiger(graph, (asked.out or ".aag").endswith(".aag"))}[asked.format]()
     if asked.out:
-        check_tool(asked.out, HEADS[asked.format], "a graph is", settings)
-        store(asked.out, made)
+        write(asked.out, made, asked.format, settings)
     else:
         sys.stdout.buffer.write(made)
     return 0

@@ -2,6 +2,7 @@
 
 from __future__ import annotations
 
+import fcntl
 import os
 import pathlib
 import shutil
@@ -10,6 +11,7 @@ import sys
 import tempfile
 import threading
 import time
+import typing
 
 from . import fast_toolchain
 from .faults import NoProgram
@@ -109,9 +111,26 @@ def compiled(work: pathlib.Path) -> pathlib.Path:
 def compile_unproved() -> None:
     """Compiles the program without proofs."""
     need_rt()
+    out_folder().mkdir(parents=True, exist_ok=True)
+    with open(out_folder() / "lock", "wb") as lock:
+        wait_for(lock)
+        if is_old(out_folder() / UNPROVED, SOURCES[UNPROVED]):
+            compile_into_place()
+
+
+def wait_for(lock: typing.BinaryIO) -> None:
+    """Waits until no other call compiles here."""
+    try:
+        fcntl.flock(lock, fcntl.LOCK_EX | fcntl.LOCK_NB)
+    except BlockingIOError:
+        say("another call compiles the program; waiting for it")
+        fcntl.flock(lock, fcntl.LOCK_EX)
+
+
+def compile_into_place() -> None:
+    """Compiles the program, and gives it its name when it is whole."""
     say("compiling the program without proofs; this takes about a minute, once")
     began = time.time_ns()
-    out_folder().mkdir(parents=True, exist_ok=True)
     with tempfile.TemporaryDirectory(prefix="simdram_build_") as name:
         copy = compiled(pathlib.Path(name))
         os.utime(copy, ns=(began, began))

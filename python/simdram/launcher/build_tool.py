@@ -6,10 +6,11 @@ import argparse
 
 from . import run_program
 from .settings import Settings
+from .tool_parser import tool_parser
 
 
 def parser() -> argparse.ArgumentParser:
-    return argparse.ArgumentParser(prog="simdram build", description=__doc__)
+    return tool_parser("build", __name__)
 
 
 def main(words: list[str], settings: Settings) -> int:

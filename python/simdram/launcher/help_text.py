@@ -23,8 +23,8 @@ its sources, else the program without proofs, which the first call compiles in a
   --proved             run the proved program, or end with one line if it is not built (`simdram prove` builds it)
   --unproved           run the program without proofs (also SIMDRAM_UNPROVED=1, or a line `unproved` in the file .simdram at
                        the top of the repository)
-  --force              overwrite files of another kind, and keep no copies; without it such a file is refused, and an image
-                       that OUT changes, or a program file that NEW changes, is kept as NAME~
+  --force              overwrite whatever stands where a file is written, and keep no copy. Without it a file of another kind
+                       and an operation text are refused, and any other that would change is kept first, as NAME~ or NAME~2 ..
   SIMDRAM_QUIET=1      leave out the notes that a program is not proved and that a file was kept
   SIMDRAM_PROGRAM=FILE run this program
   docs/README.md       answers to common questions; docs/LANGUAGE.md operations; docs/FORMATS.md files, reports, statuses

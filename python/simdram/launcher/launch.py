@@ -2,11 +2,12 @@
 
 from __future__ import annotations
 
+import contextlib
+
 from ..rules.aftermath import Aftermath
 from . import overwrite, run_program
 from .commands import ALL
 from .faults import WRONG
-from .kept import Kept
 from .say import say
 from .settings import Settings
 from .words import wrong_words
@@ -46,10 +47,12 @@ def launch(words: list[str], settings: Settings) -> int:
         say(refusal)
         return WRONG
     program = run_program.program(settings)
-    after, kept = Aftermath(command, words[1:], settings), Kept(command, words[1:], settings)
-    status = run_program.follow(program, words, kept.keep)
+    after, written = Aftermath(command, words[1:], settings), overwrite.Written(words, settings)
+    written.keep()
+    status = run_program.follow(program, written.words, written.settle)
     if status == USAGE_STATUS:
         say(form(words))
     elif status:
-        after.tell(status)
+        with contextlib.suppress(MemoryError):
+            after.tell(status)
     return status

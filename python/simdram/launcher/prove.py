@@ -17,6 +17,7 @@ from .faults import NoProgram
 from .minutes import SECONDS, seconds_of
 from .say import say
 from .settings import Settings
+from .tool_parser import tool_parser
 
 INTERRUPTED = 130
 # a crate that took less was proved before
@@ -144,7 +145,7 @@ def prove() -> None:
 
 
 def parser() -> argparse.ArgumentParser:
-    return argparse.ArgumentParser(prog="simdram prove", description=__doc__, formatter_class=argparse.RawDescriptionHelpFormatter)
+    return tool_parser("prove", __name__)
 
 
 def main(words: list[str], _settings: Settings) -> int:

@@ -13,6 +13,7 @@ from ..files.program import Program
 from ..files.store import load
 from ..files.table import HEAD_MAX, Table
 from ..launcher.commands import Command
+from ..launcher.overwrite import why_not_written
 from ..launcher.settings import Settings
 from ..launcher.widths import listed
 from . import answers
@@ -21,7 +22,7 @@ from .answer import Answer
 # after which status which word of a command is at fault
 AT_FAULT = {4: "OPS", 6: "SCRIPT", 7: "IMAGE", 13: "TRACE", 15: "QUERY"}
 PROGRAMS = ("PROG", "OLD")
-DONE, PROGRAM, REFUSED, SCAN, GUARD, FLIPS = 0, 5, 8, 16, 17, 18
+NOT_WRITTEN, PROGRAM, REFUSED, SCAN, GUARD, FLIPS = 3, 5, 8, 16, 17, 18
 NOT_VERIFIED = (19, 20)
 # greater texts and traces are not read again
 LARGEST = 4_000_000
@@ -45,6 +46,8 @@ class Aftermath:
         self.command, self.words, self.settings = command, words, settings
         self.paths = {word.name: text for word, text in zip(command.words, words)}
         self.head = head_of(self.paths["IMAGE"]) if "IMAGE" in self.paths else None
+        self.written = [text for word, text in zip(command.words, words) if word.is_written]
+        self.size = max([os.path.getsize(text) for text in words if os.path.isfile(text)], default=0)
 
     def file(self, name: str) -> tuple[str, bytes]:
         """A file's path and bytes."""
@@ -95,6 +98,9 @@ class Aftermath:
 
     def lines(self, status: int) -> list[str]:
         """What is to be said, as lines; what verdicts mean is told by a call of its own, which verifies again."""
+        if status == NOT_WRITTEN:
+            reasons = ((text, why_not_written(text, self.size)) for text in self.written)
+            return [f"simdram: cannot write {text}: {reason}" for text, reason in reasons if reason]
         if status in NOT_VERIFIED:
             call = f"simdram explain {shlex.join(self.words)} says what these verdicts mean, and what to do"
             return [*self.of_other_widths(), call]

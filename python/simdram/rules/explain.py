@@ -16,6 +16,7 @@ from ..launcher import run_program
 from ..launcher.commands import KINDS, Word
 from ..launcher.faults import Fault
 from ..launcher.settings import Settings
+from ..launcher.tool_parser import tool_parser
 from ..launcher.words import wrong_number
 from . import answers
 from .answer import Answer
@@ -85,7 +86,7 @@ def found_in(path: str, beside: dict, width: int, settings: Settings) -> list[An
 
 
 def parser() -> argparse.ArgumentParser:
-    made = argparse.ArgumentParser(prog="simdram explain", description=__doc__, formatter_class=argparse.RawDescriptionHelpFormatter)
+    made = tool_parser("explain", __name__)
     made.add_argument("file", metavar="FILE")
     made.add_argument("beside", metavar="BESIDE", nargs="*", default=[])
     return made

@@ -16,24 +16,22 @@ import argparse
 import os
 import sys
 
-from ..files.store import load, store
+from ..files.store import load
 from ..launcher import run_program
 from ..launcher.faults import Fault
-from ..launcher.overwrite import check_tool
+from ..launcher.overwrite import check, write
 from ..launcher.settings import Settings
+from ..launcher.tool_parser import tool_parser
 from ..launcher.widths import widths_of
 from ..rules import answers
 from .outcome import WRONG, Outcome, new_text
 from .simplifier import Options, Simplifier
 
 FAULTY = 1
-# what an operation text begins with
-HEADS = (b"op", b"#", b" ", b"\n", b"\t", b"\r")
 
 
 def parser() -> argparse.ArgumentParser:
-    made = argparse.ArgumentParser(prog="simdram simplify", description=__doc__,
-                                   formatter_class=argparse.RawDescriptionHelpFormatter)
+    made = tool_parser("simplify", __name__)
     made.add_argument("ops", metavar="OPS")
     made.add_argument("new", metavar="NEW", nargs="?")
     made.add_argument("--widths", default="4,8,16,32", metavar="N,N,..", help="where no op is dearer, and is compared")
@@ -52,7 +50,7 @@ def check_words(asked: argparse.Namespace, settings: Settings) -> None:
     if asked.new and os.path.exists(asked.new):
         if os.path.exists(asked.ops) and os.path.samefile(asked.ops, asked.new):
             raise Fault(f"{asked.new} is OPS itself; NEW is another file")
-        check_tool(asked.new, HEADS, "an operation text is", settings)
+        check(asked.new, "ops", settings)
 
 
 def fault_of(path: str, data: bytes, settings: Settings) -> int:
@@ -74,14 +72,14 @@ def main(words: list[str], settings: Settings) -> int:
     options = Options(tuple(widths_of(asked.widths)), asked.seconds, asked.rows, asked.unvalidated)
     check_words(asked, settings)
     simplifier = Simplifier(run_program.program(settings), options)
-    data = load(asked.ops)
+    data = load(asked.ops, "ops")
     status = fault_of(asked.ops, data, settings)
     if status:
         return status
     outcomes = simplifier.outcomes(data, "simplify")
     text = new_text(data, outcomes)
     if asked.new:
-        store(asked.new, text)
+        write(asked.new, text, "ops", settings)
     else:
         sys.stdout.write(text.decode("utf-8", "replace"))
     for one in outcomes:

@@ -52,7 +52,7 @@ def of_entries(prog: str, entries: typing.Iterable[Entry], ops: str | None, sett
     entries = list(entries)
     if ops is None:
         return dict.fromkeys((entry.name for entry in entries), None)
-    data = load(ops)
+    data = load(ops, "ops")
     shapes = {entry.name: op_shape(ops, data, entry.name) for entry in entries}
     made = {entry.name: entry for entry in (entries if is_compiled else compiled(data, settings).entries)}
     return {entry.name: OpText(shapes[entry.name], data, difference(prog, entry, ops, made[entry.name])) for entry in entries}

@@ -35,8 +35,9 @@ from ..assembler.text_lines import TextLines, text_lines
 from ..files.decode import CELLS
 from ..files.program import Entry, Program
 from ..launcher.faults import Fault
-from ..launcher.overwrite import check_tool
+from ..launcher.overwrite import write
 from ..launcher.settings import Settings
+from ..launcher.tool_parser import tool_parser
 from .board import Board, changing, done_by
 from .cell_values import Names, Value
 from .cells_before import before
@@ -158,7 +159,7 @@ class View:
 
 
 def parser() -> argparse.ArgumentParser:
-    made = argparse.ArgumentParser(prog="simdram steps", description=__doc__, formatter_class=argparse.RawDescriptionHelpFormatter)
+    made = tool_parser("steps", __name__)
     made.add_argument("prog", metavar="PROG")
     made.add_argument("op", metavar="OP")
     made.add_argument("--ops", metavar="OPS", help="the operation text that PROG was compiled from")
@@ -195,9 +196,7 @@ def main(words: list[str], settings: Settings) -> int:
     view = View(entry, text, run, asked.iteration, text_lines(asked.prog, entry))
     said = [one for one in (text.other if text else "", run.said if run else "") if one]
     if asked.html:
-        check_tool(asked.html, b"<!DOCTYPE html>", "a page is", settings)
-        with open(asked.html, "w", encoding="utf-8") as file:
-            file.write(page(asked.op, view.shown, said, run is not None))
+        write(asked.html, page(asked.op, view.shown, said, run is not None).encode(), "page", settings)
         return 0
     for one in said:
         print(one)

@@ -12,13 +12,14 @@ from ..files.store import load
 from ..files.table import HEAD_MAX, Table
 from ..launcher.faults import Fault
 from ..launcher.settings import Settings
+from ..launcher.tool_parser import tool_parser
 from ..rules.script_rules import read_script
 from .flip_draws import LARGEST, Cells, drawn, rate_of, text_of
 
 
 def instructions_in(script: str) -> int:
     """How many instructions a script has."""
-    instructions, fault = read_script(script, load(script))
+    instructions, fault = read_script(script, load(script, "script"))
     if fault:
         raise Fault(f"{script} {fault.place}: {fault.kind}: {fault.rule}")
     return len(instructions)
@@ -26,7 +27,7 @@ def instructions_in(script: str) -> int:
 
 def cells_of(script: str, image: str) -> Cells:
     """The cells of an image before the instructions of a script."""
-    return Cells.of(Table.read(load(image)[:HEAD_MAX], image), instructions_in(script))
+    return Cells.of(Table.read(load(image, "image")[:HEAD_MAX], image), instructions_in(script))
 
 
 def seed_of(text: str) -> int:
@@ -37,7 +38,7 @@ def seed_of(text: str) -> int:
 
 
 def parser() -> argparse.ArgumentParser:
-    made = argparse.ArgumentParser(prog="simdram flips", description=__doc__, formatter_class=argparse.RawDescriptionHelpFormatter)
+    made = tool_parser("flips", __name__)
     made.add_argument("--rate", required=True, metavar="R", help="the probability, 0 to 1")
     made.add_argument("--seed", type=seed_of, default=0, metavar="S", help="another seed, other flips; 0 unless it is given")
     made.add_argument("--script", required=True, metavar="SCRIPT", help="the script that will be guarded")

@@ -25,6 +25,7 @@ from ..launcher import run_program
 from ..launcher.faults import Fault
 from ..launcher.parallel import in_parallel
 from ..launcher.settings import Settings
+from ..launcher.tool_parser import tool_parser
 from .flip_draws import Cells, drawn, rate_of, text_of
 from .flips_tool import cells_of, seed_of
 
@@ -123,7 +124,7 @@ def picture_of(rows: Rows) -> Picture:
 
 
 def parser() -> argparse.ArgumentParser:
-    made = argparse.ArgumentParser(prog="simdram survival", description=__doc__, formatter_class=argparse.RawDescriptionHelpFormatter)
+    made = tool_parser("survival", __name__)
     made.add_argument("ops", metavar="OPS")
     made.add_argument("script", metavar="SCRIPT")
     made.add_argument("image", metavar="IMAGE")
