@@ -94,6 +94,24 @@ class Array(Operators):
         placed.value.origin.made = Made(script=script, cost=moved, sources=(before,))
         return Array(self.chip, self.shape, placed.value, placed.value.origin.made, is_signed)
 
+    def sum(self, axis: typing.Optional[int] = None, dtype: typing.Any = None, out: typing.Any = None, *,
+            bits: typing.Optional[int] = None) -> Array:
+        """The sums along an axis, or of all elements, modulo 2^bits; at another width with `bits`, as after `astype`.
+
+        Elements stand in columns, which no row command joins: the host moves halves over each other, and a tree of as
+        many sums is taken as the number of elements has binary digits.
+        """
+        from .summing import summed
+        if out is not None or (dtype is not None and bits is not None):
+            raise TypeError("sum takes an axis, and bits= or a type")
+        if self.is_bit and dtype is None and bits is None:
+            raise TypeError("a sum of truth values needs a width: bits=8")
+        return summed(self if dtype is None and bits is None else self.astype(dtype, bits=bits), axis)
+
+    def of_number(self, number: Constant) -> Array:
+        """One number of this width, that the chip has computed."""
+        return Array(self.chip, (), Value(self.value.kind, self.bits, number), number.made, self.signed)
+
     @property
     def cost(self) -> Cost:
         """What all took that it was computed from, each part once: the bbops and fills, over all banks and in one, and the rows

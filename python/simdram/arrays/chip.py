@@ -3,6 +3,7 @@
 from __future__ import annotations
 
 import dataclasses
+import gc
 import operator
 import typing
 import weakref
@@ -82,7 +83,11 @@ class Chip:
         self._sweep()
         name = self._names.next("v")
         try:
-            self.image.add(name, width, count)
+            try:
+                self.image.add(name, width, count)
+            except NoRoom:
+                self._collect()
+                self.image.add(name, width, count)
         except NoRoom as full:
             what = str(full).partition(": ")[2].replace(name, "the array", 1)
             raise Refused(full.word, what + (HELP.get(full.word, "") if count else "")) from None
@@ -99,6 +104,11 @@ class Chip:
         gone = set(self._gone)
         self._gone.clear()
         self.image.objects = [one for one in self.image.objects if one.name not in gone]
+
+    def _collect(self) -> None:
+        """Removes the objects of arrays that nothing but expressions that are gone refers to, which go in circles."""
+        gc.collect()
+        self._sweep()
 
     def made(self, array: Array) -> Made:
         """How an array was computed, which is done now where it was not."""
@@ -129,7 +139,7 @@ class Chip:
     def _compute(self, arrays: typing.Sequence[Array], count: int) -> None:
         """The arrays in the form that takes the fewest commands, or, where rows are few, the fewest temporaries."""
         self._sweep()
-        for by_digits in (True, False):
+        for by_digits, is_last in ((True, False), (True, False), (False, True)):
             targets = simplified([array.value for array in arrays], by_digits)
             left = [(array, target) for array, target in zip(arrays, targets) if not settled(array, target)]
             try:
@@ -138,8 +148,9 @@ class Chip:
                     self._keep(left, scripts, made._replace(sources=tuple(sources_of(left))))
                 return
             except Refused as refused:
-                if refused.word != "no_rows" or not by_digits:
+                if refused.word not in ("no_rows", "table_full") or is_last:
                     raise
+                self._collect()
 
     def _in_few_ops(self, targets: typing.Sequence[Value], count: int) -> typing.Tuple[Scripts, Made]:
         """As few ops as there are rows for: each has rows of its own for its temporaries, which smaller ones share."""
