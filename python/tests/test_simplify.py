@@ -18,10 +18,10 @@ from support import TOP, needs_program, program
 from simdram.launcher import run_program
 from simdram.launcher.faults import Fault
 from simdram.launcher.settings import Settings
+from simdram.rules.ops_rules import read_ops
 from simdram.rules.verdicts import RIGHT, UNKNOWN
 from simdram.simplify import equal, simplify_tool, sums
 from simdram.simplify.equal import Comparer
-from simdram.simplify.op_tree import read_ops
 from simdram.simplify.outcome import WRONG
 from simdram.simplify.search import Search
 from simdram.simplify.simplifier import Options, Simplifier

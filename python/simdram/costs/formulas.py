@@ -1,4 +1,4 @@
-"""Formulas of the width n, such as `9*n + 1`, `n*ceil(log2(n))` or `n**2`, read and computed without `eval`.
+"""Formulas of the width n, such as `9*n + 1`, `n*ceil(log2(n))` or `n**2`: the arithmetic of Python's grammar alone is computed.
 
 A formula has numbers, `n`, brackets, `+`, `-`, `*`, `/`, `//` (rounded down), `**` or `^` (power), `log2(..)`, `ceil(..)` and
 `floor(..)`. Whole numbers and fractions are exact.
@@ -6,15 +6,15 @@ A formula has numbers, `n`, brackets, `+`, `-`, `*`, `/`, `//` (rounded down), `
 
 from __future__ import annotations
 
+import ast
 import fractions
 import math
-import re
+import operator
 import typing
 
 from ..launcher.faults import Fault
 
 Number = typing.Union[int, float, fractions.Fraction]
-ITEM = re.compile(r"\s*(?:(?P<number>\d+(?:\.\d+)?)|(?P<name>[A-Za-z_]\w*)|(?P<sign>\*\*|//|[-+*/^()])|(?P<stranger>\S))")
 # nothing that is drawn comes near this
 GREATEST = 10**30
 LONGEST = 200
@@ -28,9 +28,6 @@ def log2(value: Number) -> Number:
     return whole if fractions.Fraction(2) ** whole == value else math.log2(value)
 
 
-FUNCTIONS: dict[str, typing.Callable[[Number], Number]] = {"log2": log2, "ceil": math.ceil, "floor": math.floor}
-
-
 def power(base: Number, exponent: Number) -> Number:
     """A power that is small enough to be drawn."""
     if base and abs(exponent) * abs(math.log2(abs(base))) > math.log2(GREATEST):
@@ -41,9 +38,10 @@ def power(base: Number, exponent: Number) -> Number:
     return found
 
 
-OPERATORS: dict[str, typing.Callable[[Number, Number], Number]] = {
-    "+": lambda x, y: x + y, "-": lambda x, y: x - y, "*": lambda x, y: x * y,
-    "/": lambda x, y: fractions.Fraction(x) / fractions.Fraction(y), "//": lambda x, y: x // y, "**": power, "^": power,
+FUNCTIONS: dict[str, typing.Callable[[Number], Number]] = {"log2": log2, "ceil": math.ceil, "floor": math.floor}
+OPERATORS: dict[type, typing.Callable[[Number, Number], Number]] = {
+    ast.Add: operator.add, ast.Sub: operator.sub, ast.Mult: operator.mul, ast.FloorDiv: operator.floordiv, ast.Pow: power,
+    ast.Div: lambda x, y: fractions.Fraction(x) / fractions.Fraction(y),
 }
 
 
@@ -51,87 +49,36 @@ class Breach(Exception):
     """What is wrong with a formula."""
 
 
-class Reader:
-    """Computes a formula at a width while it is read."""
+def tree_of(text: str) -> ast.expr:
+    """The formula as a tree of Python's grammar."""
+    if len(text) > LONGEST:
+        raise Breach(f"it has more than {LONGEST} characters")
+    try:
+        return ast.parse(text.strip().replace("^", "**"), mode="eval").body
+    except (SyntaxError, ValueError, RecursionError, MemoryError):
+        raise Breach("an operator, an operand or a bracket is missing, and a product has a *") from None
 
-    def __init__(self, text: str, width: int) -> None:
-        if len(text) > LONGEST:
-            raise Breach(f"it has more than {LONGEST} characters")
-        self.width = width
-        self.items = [(match.lastgroup, match[match.lastgroup]) for match in ITEM.finditer(text)]
-        self.at = 0
 
-    def next(self) -> tuple[str, str]:
-        """The next item, or the end."""
-        return self.items[self.at] if self.at < len(self.items) else ("end", "the end")
-
-    def has(self, *signs: str) -> str:
-        """The next sign where it is one of these, which is taken, and else nothing."""
-        kind, text = self.next()
-        if kind != "sign" or text not in signs:
-            return ""
-        self.at += 1
-        return text
-
-    def whole(self) -> Number:
-        """The formula to its end."""
-        value = self.sum()
-        if self.next()[0] != "end":
-            raise Breach(f"{self.next()[1]} stands where an operator or the end is expected, and a product has a *")
-        return value
-
-    def sum(self) -> Number:
-        value = self.product()
-        sign = self.has("+", "-")
-        while sign:
-            value = OPERATORS[sign](value, self.product())
-            sign = self.has("+", "-")
-        return value
-
-    def product(self) -> Number:
-        value = self.signed()
-        sign = self.has("*", "/", "//")
-        while sign:
-            value = OPERATORS[sign](value, self.signed())
-            sign = self.has("*", "/", "//")
-        return value
-
-    def signed(self) -> Number:
-        """A power with a sign before it: -n**2 is -(n**2)."""
-        return -self.signed() if self.has("-") else self.power()
-
-    def power(self) -> Number:
-        base = self.atom()
-        return OPERATORS["**"](base, self.signed()) if self.has("**", "^") else base
-
-    def atom(self) -> Number:
-        """A number, n, a bracket or a function."""
-        kind, text = self.next()
-        self.at += 1
-        if kind == "number":
-            return fractions.Fraction(text) if "." in text else int(text)
-        if kind == "name" and text == "n":
-            return self.width
-        if kind == "name" and text in FUNCTIONS:
-            if not self.has("("):
-                raise Breach(f"{text} takes a bracket")
-            return FUNCTIONS[text](self.bracket())
-        if (kind, text) == ("sign", "("):
-            return self.bracket()
-        raise Breach(f"{text} stands where a number, n, log2, ceil, floor or a bracket is expected")
-
-    def bracket(self) -> Number:
-        """What stands up to the closing bracket."""
-        value = self.sum()
-        if not self.has(")"):
-            raise Breach("a bracket is not closed")
-        return value
+def computed(node: ast.expr, text: str, n: int) -> Number:
+    """What a part of a formula gives at a width."""
+    if isinstance(node, ast.BinOp) and type(node.op) in OPERATORS:
+        return OPERATORS[type(node.op)](computed(node.left, text, n), computed(node.right, text, n))
+    if isinstance(node, ast.UnaryOp) and isinstance(node.op, ast.USub):
+        return -computed(node.operand, text, n)
+    if isinstance(node, ast.Call) and isinstance(node.func, ast.Name) and node.func.id in FUNCTIONS and len(node.args) == 1 and not node.keywords:
+        return FUNCTIONS[node.func.id](computed(node.args[0], text, n))
+    if isinstance(node, ast.Constant) and type(node.value) in (int, float):
+        return node.value if isinstance(node.value, int) else fractions.Fraction(str(node.value))
+    if isinstance(node, ast.Name) and node.id == "n":
+        return n
+    said = ast.get_source_segment(text, node) or text
+    raise Breach(f"{said} stands where a number, n, log2(..), ceil(..), floor(..) or a bracket is expected")
 
 
 def value(text: str, width: int) -> Number:
     """What a formula gives at a width."""
     try:
-        found = Reader(text, width).whole()
+        found = computed(tree_of(text), text.strip().replace("^", "**"), width)
     except Breach as breach:
         raise Fault(f"{text!r} is no formula of n: {breach}") from None
     except ZeroDivisionError:

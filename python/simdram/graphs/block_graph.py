@@ -8,15 +8,12 @@ value, as `c_next`. Over several positions a word has a number for each, as `a_0
 from __future__ import annotations
 
 from ..rules.op_shapes import OpShape, Statement
-from ..rules.tokens import NAME, Token
-from ..rules.word_ops import GATES
 from .mig import Graph
 
 
 def read_names(block: Statement) -> list[str]:
     """The names that a block reads and does not set before: words, bits and states."""
-    tokens = [token for each in (*block.lets.values(), *block.assignments.values()) for token in each]
-    names = [token.text for token in tokens if token.kind == NAME and token.text not in GATES]
+    names = (name for each in (*block.lets.values(), *block.assignments.values()) for name in each.names())
     return [name for name in dict.fromkeys(names) if name not in block.lets]
 
 
@@ -36,23 +33,12 @@ def written(block: Statement, shape: OpShape, positions: int = 1) -> Graph:
     graph, states = Graph(), {}
     is_bit = {name for name, kind in shape.defined.items() if kind == "bit"} | set(block.starts)
     for k in range(positions):
-        values = {name: states[name] if name in states else graph.input(name if name in is_bit else positions_of(name, k, positions))
-                  for name in input_names(block, shape)}
-
-        def value(tokens: list[Token]) -> int:
-            name = tokens.pop(0).text
-            if name in ("0", "1"):
-                return int(name)
-            if not tokens or tokens[0].text != "(":
-                return values[name]
-            given = []
-            while tokens.pop(0).text != ")":
-                given.append(value(tokens))
-            return graph.gate(name, given)
-
-        for name, tokens in block.lets.items():
-            values[name] = value(list(tokens))
-        found = {name: value(list(tokens)) for name, tokens in block.assignments.items()}
+        values = {"0": 0, "1": 1}
+        values.update({name: states[name] if name in states else graph.input(name if name in is_bit else positions_of(name, k, positions))
+                       for name in input_names(block, shape)})
+        for name, expr in block.lets.items():
+            values[name] = expr.computed(values.__getitem__, graph.gate)
+        found = {name: expr.computed(values.__getitem__, graph.gate) for name, expr in block.assignments.items()}
         states.update((name, found[name]) for name in found if name in block.starts)
         graph.outputs.update((positions_of(name, k, positions), one) for name, one in found.items() if name not in block.starts)
     graph.outputs.update((f"{name}_next", one) for name, one in states.items())

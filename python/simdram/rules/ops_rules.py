@@ -7,6 +7,7 @@ from ..launcher.words import nearest
 from . import word_ops
 from .answer import Answer, at_token
 from .op_shapes import OpShape, Statement
+from .op_tree import Expr, Op, gate, read
 from .ops_scope import Scope
 from .tokens import END, NAME, NAME_MAX, STRANGER, Token, is_long, no_token, tokens
 
@@ -119,9 +120,9 @@ class Reader:
             token = self.take("the word `op` of one more op", "op")
             if len(self.ops) >= OPS:
                 self.too_many(token, f"a text has at most {OPS} ops")
-            self.op()
+            self.op(token)
 
-    def op(self) -> None:
+    def op(self, first: Token) -> None:
         token = self.take("the op's name", name=True)
         name = self.good_name(token, "the op")
         if name == "trsp_init":
@@ -130,7 +131,7 @@ class Reader:
             raise Breach(token, "twice", f"an op {name} is already defined", f"defined ops: {listed(self.ops)}")
         self.ops.append(name)
         self.scope = Scope(name)
-        self.shapes.append(OpShape(name, results=self.scope.results, defined=self.scope.defined))
+        self.shapes.append(OpShape(name, first, results=self.scope.results, defined=self.scope.defined))
         self.take("`(`", "(")
         self.sources()
         self.shapes[-1].sources = dict(self.scope.defined)
@@ -167,6 +168,7 @@ class Reader:
         while True:
             token = self.take(wanted, *(["}"] if self.scope.statements else []), name=True)
             if token.text == "}":
+                self.shapes[-1].last = token
                 break
             wanted = "one more statement, or `}`"
             self.shapes[-1].statements.append(Statement(token))
@@ -207,6 +209,7 @@ class Reader:
         operation = self.operation(targets)
         self.take("`(`", "(")
         given = self.arguments(operation)
+        self.shapes[-1].statements[-1].operation = operation
         self.word_end(targets, word_ops.filled(operation, given))
 
     def operation(self, targets: list[str]) -> str:
@@ -257,6 +260,7 @@ class Reader:
             other = "bit" if kind == "word" else "word"
             wanted = f"a {other}" if word_ops.may_take(operation, given, other) else "no argument"
             raise Breach(token, "kind", f"{name} is a {kind}; {operation} takes {wanted} here", word_ops.said(operation))
+        self.shapes[-1].statements[-1].args.append(name)
         return kind
 
     def unknown_argument(self, token: Token) -> Breach:
@@ -319,10 +323,7 @@ class Reader:
             self.too_many(token, f"a block has at most {LETS} lets")
         self.scope.block.lets += 1
         name = self.new_name(self.take("the let's name", name=True), "the let")
-        self.take("`=`", "=")
-        first = self.at
-        self.value("`;`")
-        self.shapes[-1].statements[-1].lets[name] = self.tokens[first:self.at - 1]
+        self.shapes[-1].statements[-1].lets[name] = self.right_side()
         self.scope.block.readable.append(name)
 
     def assignment(self, token: Token) -> None:
@@ -335,72 +336,69 @@ class Reader:
         if len(block.targets) >= ASSIGNMENTS:
             self.too_many(token, f"a block has at most {ASSIGNMENTS} assignments")
         block.targets.append(name)
+        self.shapes[-1].statements[-1].assignments[name] = self.right_side()
+
+    def right_side(self) -> Expr:
+        """A value with the signs around it."""
         self.take("`=`", "=")
-        first = self.at
-        self.value("`;`")
-        self.shapes[-1].statements[-1].assignments[name] = self.tokens[first:self.at - 1]
+        found = self.value(0)
+        self.take("`;`", ";")
+        return found
 
-    def value(self, wanted: str) -> None:
-        """An expression, with the sign after it."""
-        depth = self.leaf(0)
-        while True:
-            if depth == 0:
-                self.take(wanted, ";")
-                return
-            token = self.take("`,` and one more argument, or `)`", ",", ")")
-            depth = self.comma(token, depth) if token.text == "," else self.close(token, depth)
-
-    def leaf(self, depth: int) -> int:
-        """The first token of a value, and the gates that it opens; how many are open after it."""
-        while True:
-            token = self.take(VALUE, "0", "1", name=True)
-            if token.kind != NAME:
-                return depth
-            if token.text in RESERVED or is_long(token.text):
-                self.good_name(token, "the value")
-            if self.next().text != "(":
-                self.read_name(token)
-                return depth
-            self.gate(token)
-            self.take("`(`", "(")
-            depth += 1
-
-    def read_name(self, token: Token) -> None:
+    def value(self, depth: int) -> Expr:
+        """A value inside so many gates."""
+        token = self.take(VALUE, "0", "1", name=True)
+        if token.kind != NAME:
+            return gate(token.text)
+        if token.text in RESERVED or is_long(token.text):
+            self.good_name(token, "the value")
+        if self.next().text == "(":
+            return self.gate(token, depth)
         known = self.scope.readable()
         if token.text not in known:
             right = [f"defined names: {listed(known)}"]
             if token.text in word_ops.GATES:
                 right.insert(0, f"{token.text} is a gate: `{token.text}(..)`")
             raise Breach(token, "unknown", f"no name {token.text} is defined before this{near(token.text, known)}", *right)
+        return read(token.text)
 
-    def gate(self, token: Token) -> None:
+    def gate(self, token: Token, depth: int) -> Expr:
+        """A gate inside so many others."""
+        self.check_gate(token, depth)
+        self.take("`(`", "(")
+        name, args = token.text, [self.value(depth + 1)]
+        takes = word_ops.GATES[name]
+        while True:
+            after = self.take("`,` and one more argument, or `)`", ",", ")")
+            if after.text == ")":
+                break
+            if len(args) == takes:
+                raise Breach(after, "kind", f"{name} takes no further argument", f"{name} takes {takes}")
+            args.append(self.value(depth + 1))
+        if len(args) < takes:
+            raise Breach(after, "kind", f"{name} has too few arguments", f"{name} takes {takes}")
+        return gate(name, *args)
+
+    def check_gate(self, token: Token, depth: int) -> None:
+        """Refuses a name that is no gate, and one gate too many."""
         name, block = token.text, self.scope.block
         if name not in word_ops.GATES:
             right = [f"the gates: {listed(word_ops.GATES)}"]
             if name in word_ops.TAKES_GIVES:
                 right.insert(0, f"{name} is a word operation: it needs a statement of its own, outside of blocks")
             raise Breach(token, "unknown", f"there is no gate {name}{near(name, word_ops.GATES)}", *right)
-        weight = word_ops.WEIGHTS[name]
-        if block.weight > WEIGHT - weight:
+        block.weight += word_ops.WEIGHTS[name]
+        if block.weight > WEIGHT:
             self.too_many(token, f"the gates of a block weigh at most {WEIGHT}: and, or, maj 1 each, xor 3, not 0")
-        if len(block.missing) >= DEPTH:
+        if depth >= DEPTH:
             self.too_many(token, f"gates nest at most {DEPTH} deep")
-        block.weight += weight
-        block.missing.append(word_ops.GATES[name] - 1)
-        block.gates.append(name)
 
-    def comma(self, token: Token, depth: int) -> int:
-        lacking, name = self.scope.block.missing.pop(), self.scope.block.gates[-1]
-        if lacking == 0:
-            raise Breach(token, "kind", f"{name} takes no further argument", f"{name} takes {word_ops.GATES[name]}")
-        self.scope.block.missing.append(lacking - 1)
-        return self.leaf(depth)
 
-    def close(self, token: Token, depth: int) -> int:
-        lacking, name = self.scope.block.missing.pop(), self.scope.block.gates.pop()
-        if lacking:
-            raise Breach(token, "kind", f"{name} has too few arguments", f"{name} takes {word_ops.GATES[name]}")
-        return depth - 1
+def read_ops(data: bytes) -> list[Op]:
+    """The ops of a text that the program accepts, as trees."""
+    reader = Reader(data)
+    reader.read()
+    return [shape.tree() for shape in reader.shapes]
 
 
 def shapes_of(path: str, data: bytes) -> list[OpShape]:

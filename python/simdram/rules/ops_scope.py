@@ -7,15 +7,13 @@ import dataclasses
 
 @dataclasses.dataclass
 class Block:
-    """Within a serial block: its states, lets and targets, the weight of its gates, and what each open gate still lacks."""
+    """Within a serial block: its states, lets and targets, and the weight of its gates."""
 
     states: list[str] = dataclasses.field(default_factory=list)
     readable: list[str] = dataclasses.field(default_factory=list)
     lets: int = 0
     targets: list[str] = dataclasses.field(default_factory=list)
     weight: int = 0
-    missing: list[int] = dataclasses.field(default_factory=list)
-    gates: list[str] = dataclasses.field(default_factory=list)
 
 
 @dataclasses.dataclass

@@ -11,9 +11,9 @@ import typing
 
 from ..files.store import store
 from ..launcher import run_program
+from ..rules.op_tree import Op
 from ..rules.verdicts import RIGHT, UNKNOWN, WRONG, verdicts_of
 from .cut import cut, has_nested
-from .op_tree import Op
 
 # the statuses under which `verify` has a line for the op
 SAID = (0, 19, 20)

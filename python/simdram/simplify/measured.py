@@ -15,8 +15,8 @@ from ..files.store import load, store
 from ..launcher import run_program
 from ..launcher.faults import Fault
 from ..launcher.parallel import in_parallel
+from ..rules.op_tree import BIT, WORD, Body, Op, made_by
 from .estimate import guessed
-from .op_tree import BIT, WORD, Body, Op, made_by
 from .statement_alone import Alone, Cost, Costs, alone
 from .statement_cache import StatementCache
 

@@ -5,8 +5,8 @@ from __future__ import annotations
 import dataclasses
 import typing
 
+from ..rules.op_tree import Op
 from .equal import Equality
-from .op_tree import Op
 from .search import Simpler
 
 # an op as it was; another text that is equal; one of which that is not known; one that differs

@@ -11,9 +11,10 @@ import typing
 from ..launcher import run_program
 from ..launcher.faults import Fault
 from ..launcher.parallel import Bar, processors
+from ..rules.op_tree import Op
+from ..rules.ops_rules import read_ops
 from .equal import ALWAYS, Comparer
 from .measured import Measured, TimeOver
-from .op_tree import Op, read_ops
 from .outcome import Outcome
 from .search import Search, Simpler
 from .statement_alone import Costs

@@ -5,7 +5,6 @@ from __future__ import annotations
 from ..files.decode import CELLS
 from ..files.program import BIT, INDEXED, RESULT, SOURCE, WORD, Row
 from ..rules.op_shapes import OpShape, Statement
-from ..rules.tokens import Token
 from .cell_values import ALL, drawn
 
 ZERO_INDEX = 8
@@ -57,17 +56,8 @@ def let_patterns(shape: OpShape, statement: Statement) -> dict[str, int]:
             return ALL if name == "1" else 0
         return found[name] if name in found else drawn(name if kinds.get(name) == "bit" else f"{name}[i]")
 
-    def value(tokens: list[Token]) -> int:
-        name = tokens.pop(0).text
-        if not tokens or tokens[0].text != "(":
-            return leaf(name)
-        given = []
-        while tokens.pop(0).text != ")":
-            given.append(value(tokens))
-        return gate(name, given)
-
-    for name, tokens in statement.lets.items():
-        found[name] = value(list(tokens))
+    for name, expr in statement.lets.items():
+        found[name] = expr.computed(leaf, gate)
     return {name: pattern for name, pattern in found.items() if pattern not in (0, ALL)}
 
 

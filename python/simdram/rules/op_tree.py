@@ -1,19 +1,17 @@
-"""Operation texts as trees: a reader for texts that the program accepts, and a printer in the canonical form.
-
-The rules of the language stay with the program and with `ops_rules`.
-"""
+"""Operation texts as trees, and a printer in the canonical form; `ops_rules` reads them."""
 
 from __future__ import annotations
 
 import dataclasses
 import typing
 
-from ..rules.tokens import END, Token, tokens
+from .word_ops import TAKES_GIVES
 
 WORD, BIT = "word", "bit"
-TO_BIT = ("eq", "gt", "ge", "and_red", "or_red", "xor_red")
+TO_BIT = tuple(name for name, (_, gives) in TAKES_GIVES.items() if gives == "b")
 # operations whose value is of the kind of their first argument
-ALIKE = ("not", "and", "or", "xor", "copy", "if_else")
+ALIKE = tuple(name for name, (_, gives) in TAKES_GIVES.items() if gives == "x")
+Value = typing.TypeVar("Value")
 
 
 class Expr(typing.NamedTuple):
@@ -27,6 +25,17 @@ class Expr(typing.NamedTuple):
         if self.gate == "read":
             return self.name
         return f"{self.gate}({', '.join(map(str, self.args))})" if self.args else self.gate
+
+    def names(self) -> typing.Iterator[str]:
+        """The names that it reads, in order."""
+        if self.gate == "read":
+            yield self.name
+        for arg in self.args:
+            yield from arg.names()
+
+    def computed(self, of: typing.Callable[[str], Value], made: typing.Callable[[str, typing.List[Value]], Value]) -> Value:
+        """What it gives, from the value of each name and constant and of each gate on values."""
+        return made(self.gate, [arg.computed(of, made) for arg in self.args]) if self.args else of(self.name or self.gate)
 
 
 def read(name: str) -> Expr:
@@ -83,100 +92,6 @@ class Op:
         """The canonical text, with another body or another name."""
         takes, gives = (", ".join(f"{one}: {kind}" for one, kind in part) for part in (self.params, self.results))
         return f"op {name or self.name}({takes}) -> {gives} {{\n{body_text(self.body if body is None else body)}}}\n"
-
-
-class Reader:
-    """Reads a text that breaks no rule."""
-
-    def __init__(self, data: bytes) -> None:
-        self.tokens, self.at = tokens(data), 0
-
-    @property
-    def next(self) -> str:
-        """The text of the next token; of the end it is empty."""
-        token = self.tokens[self.at]
-        return "" if token.kind == END else token.text
-
-    def take(self) -> str:
-        self.at += 1
-        return self.tokens[self.at - 1].text
-
-    @property
-    def last(self) -> Token:
-        return self.tokens[self.at - 1]
-
-    def listed(self, one: typing.Callable[[], typing.Any], end: str) -> tuple:
-        """What stands with commas between up to a token, which is taken too."""
-        found = []
-        while self.next != end:
-            found.append(one())
-            if self.next == ",":
-                self.take()
-        self.take()
-        return tuple(found)
-
-    def param(self) -> typing.Tuple[str, str]:
-        name, _ = self.take(), self.take()
-        return name, self.take()
-
-    def state(self) -> typing.Tuple[str, int]:
-        name, _ = self.take(), self.take()
-        return name, int(self.take())
-
-    def expr(self) -> Expr:
-        word = self.take()
-        if word in ("0", "1"):
-            return gate(word)
-        if self.next != "(":
-            return read(word)
-        self.take()
-        return gate(word, *self.listed(self.expr, ")"))
-
-    def assign(self) -> typing.Tuple[str, Expr]:
-        name, _ = self.take(), self.take()
-        value, _ = self.expr(), self.take()
-        return name, value
-
-    def block(self) -> Block:
-        direction, _ = self.take(), self.take()
-        states, _ = self.listed(self.state, ")"), self.take()
-        lets, assigns = [], []
-        while self.next == "let":
-            self.take()
-            lets.append(self.assign())
-        while self.next != "}":
-            assigns.append(self.assign())
-        self.take()
-        return Block(direction, states, tuple(lets), tuple(assigns))
-
-    def statement(self) -> Statement:
-        if self.next == "serial":
-            self.take()
-            return self.block()
-        targets = self.listed(self.take, "=")
-        op, _ = self.take(), self.take()
-        args, _ = self.listed(self.take, ")"), self.take()
-        return WordStatement(targets, op, args)
-
-    def op(self) -> Op:
-        self.take()
-        start = self.last.at
-        name, _ = self.take(), self.take()
-        params, _ = self.listed(self.param, ")"), self.take()
-        results = self.listed(self.param, "{")
-        body = []
-        while self.next != "}":
-            body.append(self.statement())
-        self.take()
-        return Op(name, params, results, body, start, self.last.at + 1)
-
-
-def read_ops(data: bytes) -> typing.List[Op]:
-    """The ops of a text that the program accepts."""
-    reader, found = Reader(data), []
-    while reader.next:
-        found.append(reader.op())
-    return found
 
 
 def block_lines(block: Block) -> typing.List[str]:
