@@ -218,6 +218,19 @@ class Simplified(unittest.TestCase):
                 self.assertEqual(self.call(ops, "--widths", "4")[0], 0)
                 self.assertTrue(StatementCache(program()).kept)
 
+    def test_the_top_bit(self):
+        """However it is asked for, the top bit is a state that takes each bit."""
+        half = "o = ones(); h = shr1(o);"
+        bodies = (f"{half} y = gt(a, h);", f"{half} m = not(h); y = ge(a, m);", f"{half} m = not(h); t = and(a, m); y = or_red(t);",
+                  f"{half} m = not(h); t = and(a, m); z = zero(); e = eq(t, z); y = not(e);", "r = relu(a); y = gt(a, r);",
+                  "r = relu(a); e = eq(r, a); y = not(e);")
+        text = "".join(f"op f{k}(a: word) -> y: bit {{ {body} }}\n" for k, body in enumerate(bodies))
+        text += f"op low(a: word) -> y: bit {{ {half} y = ge(h, a); }}\n"
+        for one in Simplifier(program(), Options((1, 2, 8), SLOW)).outcomes(text.encode()):
+            found = " ".join(one.simpler.text.split("{", 1)[1].split())
+            self.assertEqual(found, "serial up (y = 1) { y = not(a); } }" if one.op.name == "low" else "serial up (y = 0) { y = a; } }")
+            self.assertTrue(one.is_taken)
+
     def test_an_empty_text(self):
         self.assertEqual(self.call(self.path("a.ops", "# nothing\n")), (0, "# nothing\n", ""))
 
