@@ -347,5 +347,21 @@ class AsTheProgram(unittest.TestCase):
         self.assertEqual(called("explain", "none", cwd=self.folder).returncode, 2)
 
 
+class Hints(unittest.TestCase):
+    """What is said of texts as other tools write them."""
+
+    def said(self, kind, data):
+        return " ".join(" ".join(first_fault(kind, "f", data).lines()).split())
+
+    def test_each(self):
+        mark = b"\xef\xbb\xbf"
+        for kind, data in (("ops", b"op f(a: word) -> y: word { y = not(a); }"), ("script", b"fill a, 2\n"), ("query", b"eq(a, 2)"),
+                           ("micro", b"program f(a: word) -> y: word\n")):
+            self.assertIn("the text begins with a byte order mark", self.said(kind, mark + data), kind)
+        self.assertIn("the instruction that calls it gives n", self.said("ops", b"op f(a: word[8]) -> y: word { y = not(a); }"))
+        self.assertIn("decimal digits, and `0x2` is none", self.said("script", b"fill a, 0x2\n"))
+        self.assertNotIn("decimal", self.said("script", b"fill a, 0 x2\n"))
+
+
 if __name__ == "__main__":
     unittest.main()

@@ -75,8 +75,8 @@ class Tool(unittest.TestCase):
         before = Image.load("m").file()
         for file, text, said in (
                 ("f", "1,2,3", "f: count: it has 3 numbers, and a of m has 4"),
-                ("f", "1 2\n-3 4", "f: range: value 2 of a is -3"),
-                ("f", "1 2\n300 4", "f: range: value 2 of a is 300, and 8 bits hold 0 to 255"),
+                ("f", "1 2\n-3 4", "f: range: value 3 of a is -3"),
+                ("f", "1 2\n300 4", "f: range: value 3 of a is 300, and 8 bits hold 0 to 255"),
                 ("f", "1 2\n3.5 4", "f: line 2 number: '3.5' is no number"),
                 ("f", b"1 \xff", "f: line 1 number: a byte that is no"),
                 ("f.csv", "element,a\n0,1\n2,3", "f.csv: line 3 element: '2,3' where `1,VALUE` is wanted"),
@@ -97,8 +97,8 @@ class Tool(unittest.TestCase):
 
     def test_words(self):
         for text, said in (("make m 1x96", "1x96 is not BANKSxROWSxWORDS"), ("make m 1x96x1 a:8", "a:8 is no NAME"),
-                           ("make m 1x96x1 a:8=1,-2", "value 1 of a is -2"), ("make m 0x96x1", "0x96x1: a chip has"),
-                           ("make m 1x96x1 a:8=256", "value 0 of a is 256"), ("make m 1x96x1 a:65/1", "no_rows"),
+                           ("make m 1x96x1 a:8=1,-2", "value 2 of a is -2"), ("make m 0x96x1", "0x96x1: a chip has"),
+                           ("make m 1x96x1 a:8=256", "value 1 of a is 256"), ("make m 1x96x1 a:65/1", "no_rows"),
                            ("make m 1x96x1 a:8/65", "too_large"), ("make m 1x96x1 a:8/1 a:8/1", "exists"),
                            ("make m 1x96x1 a:8/0", "too_large"), ("make m 1x96x1 a:0/1", "bad_number"),
                            ("", "these words are none"), ("get m", "these words are none")):

@@ -105,7 +105,7 @@ class Pages(unittest.TestCase):
         lines = ended.stdout.splitlines()
         self.assertEqual(lines[0], "hand.prog has another saturated than p.ops compiles to: its operands have their names, and nothing "
                                    "is said of statements")
-        self.assertEqual(lines[1], "from instruction 0, once")
+        self.assertEqual(lines[1], "from instruction 0 (hand.micro line 3), once")
         self.assertIn("AAP t1, y[0]", ended.stdout)
         said = self.call("profile", "hand.prog", "8", "--ops", "p.ops", "--op", "saturated").stdout
         self.assertEqual(said.splitlines()[1], lines[0])

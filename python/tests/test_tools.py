@@ -258,7 +258,6 @@ class Texts(Folder):
         note = TOP / "examples" / "replay" / "and.trace.hex"
         self.call("from-hex", str(note), "t")
         self.assertEqual(self.call("trace-text", "t").stdout.splitlines()[0].split()[:2], ["bank", "0"])
-        self.assertEqual(len(self.call("trace-text", "--ramulator", "t").stdout.splitlines()), 8)
         self.assertEqual(self.call("trace-text", "n").returncode, 2)
 
 

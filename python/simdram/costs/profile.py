@@ -15,7 +15,7 @@ import io
 import os
 import tempfile
 
-from ..assembler.execution import executions
+from ..assembler.walks import executions
 from ..files.program import AAP, Entry, Program
 from ..files.store import load, store
 from ..launcher import run_program

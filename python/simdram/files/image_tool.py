@@ -59,7 +59,7 @@ def add(image: Image, word: str) -> None:
     """Adds the object that a word says."""
     match = OBJECT.fullmatch(word)
     if not match:
-        raise WordsFault(f"{word} is no NAME:WIDTH=V1,V2,.. and no NAME:WIDTH/COUNT")
+        raise WordsFault(f"{word} is no NAME:WIDTH=V1,V2,.. and no NAME:WIDTH/COUNT; numbers are in decimal digits")
     name, width, values, count = match.groups()
     if values is None:
         image.add(name, int(width), int(count))

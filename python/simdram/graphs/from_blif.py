@@ -1,10 +1,12 @@
-"""A serial block from a netlist of another tool: the text of an op, from combinational BLIF.
+"""A serial block from a netlist of another tool: the text of an op, from combinational BLIF, or from AIGER.
 
-FILE has .names tables of up to three inputs, and no latches. Inputs are words of the op, or bits with --bit; where there are
-an input c and an output c_next, c is a state of the block, which begins with 0, or with 1 by --state c=1. Other outputs are
-the words that the block assigns; where there are fewer than two, states are results too. The block goes upwards, or
-downwards with --down. A table that is read several times becomes a `let`. Names that are none of the language are changed,
-which a comment says. What breaks a limit of the language is refused with its rule.
+FILE is BLIF with .names tables of up to ten inputs, or .gate lines of yosys or of the library that --genlib names, and without
+latches; or it is AIGER, binary or text. Inputs are words of the op, or bits with --bit; where there are an input c and an
+output c_next, c is a state of the block, which begins with 0, or with 1 by --state c=1. A latch of AIGER is such a state, with
+its reset value. Other outputs are the words that the block assigns; where there are fewer than two, states are results too. The
+block goes upwards, or downwards with --down. A table that is read several times becomes a `let`. Names that are none of the
+language are changed, which a comment says. A netlist of more than four inputs or two outputs becomes several ops; comments have
+the instructions that call them in order. What breaks a limit of the language is refused with its rule.
 """
 
 from __future__ import annotations
@@ -12,6 +14,7 @@ from __future__ import annotations
 import argparse
 import collections
 import re
+import sys
 
 from ..files.store import load
 from ..launcher.faults import Fault
@@ -20,12 +23,13 @@ from ..launcher.tool_parser import tool_parser
 from ..rules.ops_rules import RESERVED, SOURCES, explain_ops
 from ..rules.tokens import NAME_MAX
 from ..rules.word_ops import GATES
-from .blif_file import Netlist, Reader, in_order
+from . import aiger_file
+from .blif_file import Reader
+from .cell_library import cells_in
 from .least_gates import LETTER, spelled
 from .least_gates import text as expression
-
-NEXT = "_next"
-RESULTS = 2
+from .netlist import NEXT, Netlist, in_order
+from .splitting import RESULTS, function, split
 
 
 class Names:
@@ -49,21 +53,19 @@ class Names:
     @property
     def notes(self) -> str:
         """Which names were changed, as comments."""
-        return "".join(f"# {signal} is {name}\n" for signal, name in self.of.items() if signal != name)
+        return "".join(f"# {signal} is {name}\n" for signal, name in self.of.items() if signal != name and not signal.startswith("let "))
 
 
 class Block:
     """A block from a netlist: its states, words and bits, and its expressions."""
 
-    def __init__(self, net: Netlist, path: str, bits: list[str], starts: dict[str, str]) -> None:
-        self.net, self.path, self.names = net, path, Names()
-        self.states = [one for one in net.inputs if one + NEXT in net.outputs]
-        self.sources = [one for one in net.inputs if one not in self.states]
-        self.words = [one for one in net.outputs if not (one.endswith(NEXT) and one.removesuffix(NEXT) in self.states)]
+    def __init__(self, net: Netlist, path: str, bits: list[str], starts: dict[str, str], gives_states: bool = True) -> None:
+        self.net, self.path, self.names, self.gives_states = net, path, Names(), gives_states
+        self.states, self.sources, self.words = net.states, net.sources, net.words
         for name in [*bits, *starts]:
             if name not in (self.sources if name in bits else self.states):
                 raise Fault(f"{path} has no {'input' if name in bits else 'state'} {name}")
-        self.bits, self.starts = bits, starts
+        self.bits, self.starts = bits, {**net.starts, **starts}
         self.check()
         self.order = in_order(net, path)
         reads = collections.Counter(net.outputs)
@@ -80,9 +82,7 @@ class Block:
 
     def function(self, signal: str) -> int:
         """A table as a function of x, y and z."""
-        table = self.net.tables[signal]
-        count = len(table.inputs)
-        return sum(1 << k for k in range(8) if table.values >> (k & (1 << count) - 1) & 1)
+        return function(self.net.tables[signal])
 
     def read_by(self, signal: str) -> list[str]:
         """The signals that the expression of a table reads, as often as it does."""
@@ -93,7 +93,7 @@ class Block:
         """What stands for a signal: its name, or, of a table that is read once, its expression."""
         if signal in self.net.tables and signal not in self.lets:
             return self.expression(signal)
-        return self.names.name(signal)
+        return self.names.of.get(f"let {signal}") or self.names.name(signal)
 
     def expression(self, signal: str) -> str:
         """The expression of a signal's table."""
@@ -109,7 +109,7 @@ class Block:
         ports = [self.names.name(one) for one in (*self.sources, *self.states, *self.words)]
         takes, states = ports[:len(self.sources)], ports[len(self.sources):len(ports) - len(self.words)]
         words = ports[len(ports) - len(self.words):]
-        results = [f"{one}: word" for one in words] + [f"{one}: bit" for one in states]
+        results = [f"{one}: word" for one in words] + [f"{one}: bit" for one in states if self.gives_states or not words]
         given = ", ".join(f"{one}: {'bit' if its in self.bits else 'word'}" for one, its in zip(takes, self.sources))
         lines = [f"op {name}({given}) -> {', '.join(results[:RESULTS])} {{",
                  f"  serial {direction} ({', '.join(f'{one} = {self.starts.get(its, 0)}' for one, its in zip(states, self.states))}) {{"]
@@ -136,8 +136,31 @@ def parser() -> argparse.ArgumentParser:
     made.add_argument("--name", metavar="NAME", help="the op's name; else the model's")
     made.add_argument("--down", action="store_true", help="the block goes from the top bit down")
     made.add_argument("--bit", action="append", default=[], metavar="NAME", help="an input that is one bit for all positions")
+    made.add_argument("--genlib", metavar="LIBRARY", help="the library of the gates in .gate lines")
     made.add_argument("--state", action="append", default=[], metavar="NAME=BIT", help="how a state begins")
     return made
+
+
+def read(path: str, genlib: str | None) -> Netlist:
+    """The netlist of a file."""
+    data = load(path)
+    if data.startswith(aiger_file.MAGIC):
+        return aiger_file.Reader(path, data).read()
+    cells = cells_in(genlib, load(genlib).decode("utf-8", "replace")) if genlib else {}
+    return Reader(path, data.decode("utf-8", "replace"), cells).read()
+
+
+def calls(net: Netlist, nets: list[Netlist], path: str) -> str:
+    """Where a netlist becomes several ops, the instructions that call them in order, as comments; and a line that says so."""
+    if len(nets) == 1:
+        return ""
+    said = f"{len(net.sources)} inputs and {len(net.words)} outputs, where an op has {SOURCES} and {RESULTS} at most: {len(nets)} ops"
+    print(f"{path}: {said}, which comments call in order", file=sys.stderr)
+    names = Names()
+    for one in (*net.sources, *net.words):
+        names.name(one)
+    lines = [f"bbop_{one.name} {', '.join(names.name(its) for its in (*one.words, *one.sources))}, COUNT, N" for one in nets]
+    return "".join(f"# {line}\n" for line in [said, *lines])
 
 
 def main(words: list[str], _settings: Settings) -> int:
@@ -148,10 +171,15 @@ def main(words: list[str], _settings: Settings) -> int:
         if not equals or bit not in ("0", "1"):
             raise Fault(f"--state takes NAME=0 or NAME=1, and not {one}")
         starts[name] = bit
-    net = Reader(asked.file, load(asked.file).decode("utf-8", "replace")).read()
-    block = Block(net, asked.file, asked.bit, starts)
-    name = Names().name(asked.name or net.name)
-    text = block.text(name, "down" if asked.down else "up")
+    net = read(asked.file, asked.genlib)
+    unknown = [one for one in [*asked.bit, *starts] if one not in (net.sources if one in asked.bit else net.states)]
+    if unknown:
+        raise Fault(f"{asked.file} has no {'input' if unknown[0] in asked.bit else 'state'} {unknown[0]}")
+    net.name = Names().name(asked.name or net.name)
+    nets = split(net, asked.file)
+    blocks = [Block(one, asked.file, [bit for bit in asked.bit if bit in one.sources],
+                    {state: bit for state, bit in starts.items() if state in one.states}, len(nets) == 1) for one in nets]
+    text = calls(net, nets, asked.file) + "".join(one.text(one.net.name, "down" if asked.down else "up") for one in blocks)
     answer = explain_ops(asked.file, text.encode())
     if answer is not None:
         raise Fault(f"{asked.file}: the op would break a rule, {answer.kind}: {answer.rule}")

@@ -3,10 +3,13 @@
 from __future__ import annotations
 
 import contextlib
+import errno
+import os
+import stat
 
 from ..rules.aftermath import Aftermath
 from . import overwrite, run_program
-from .commands import ALL
+from .commands import ALL, Command
 from .faults import WRONG
 from .say import say
 from .settings import Settings
@@ -35,6 +38,26 @@ def refused_words(wrong: str, words: list[str], settings: Settings) -> int:
     return status
 
 
+def why_not_read(path: str) -> str:
+    """Why a file that is named cannot be read, or nothing where it seems that it can."""
+    try:
+        mode = os.stat(path).st_mode
+    except (OSError, ValueError) as fault:
+        return getattr(fault, "strerror", None) or str(fault)
+    if stat.S_ISDIR(mode):
+        return os.strerror(errno.EISDIR)
+    return "" if os.access(path, os.R_OK) else os.strerror(errno.EACCES)
+
+
+def tell_unread(command: Command, words: list[str]) -> None:
+    """Says which files cannot be read, and why, before anything is done."""
+    read = [text for word, text in zip(command.words, words) if word.is_file and not word.is_written]
+    for text in dict.fromkeys(read):
+        reason = why_not_read(text)
+        if reason:
+            say(f"cannot read {text}: {reason}")
+
+
 def launch(words: list[str], settings: Settings) -> int:
     """Runs a command of the program."""
     command = ALL.get(words[0]) if words else None
@@ -46,6 +69,7 @@ def launch(words: list[str], settings: Settings) -> int:
     if refusal:
         say(refusal)
         return WRONG
+    tell_unread(command, words[1:])
     program = run_program.program(settings)
     after, written = Aftermath(command, words[1:], settings), overwrite.Written(words, settings)
     written.keep()

@@ -2,8 +2,11 @@
 
 from __future__ import annotations
 
+import contextlib
+import math
 import os
 import pathlib
+import resource
 import shutil
 import signal
 import subprocess
@@ -110,9 +113,18 @@ class Ended(typing.NamedTuple):
 _running: set[subprocess.Popen] = set()
 
 
+def limit(running: subprocess.Popen, processor_seconds: float | None) -> None:
+    """Lets a call take no more than so many processor seconds, rounded up, where the system can limit it."""
+    if processor_seconds is not None and hasattr(resource, "prlimit"):
+        most = max(1, math.ceil(processor_seconds))
+        with contextlib.suppress(OSError, ValueError):
+            resource.prlimit(running.pid, resource.RLIMIT_CPU, (most, most))
+
+
 def run(words: typing.Sequence, folder=None, settings: Settings | None = None, seconds: float | None = None,
-        path: str | None = None) -> Ended:
-    """Runs the program in a folder and returns how it ended; its standard error is passed on.
+        path: str | None = None, processor_seconds: float | None = None) -> Ended:
+    """Runs the program in a folder and returns how it ended; its standard error is passed on. A call that takes more processor
+    seconds than it may is ended by a signal.
 
     A caller that runs it many times finds the program once and gives its path.
     """
@@ -120,6 +132,7 @@ def run(words: typing.Sequence, folder=None, settings: Settings | None = None, s
     with subprocess.Popen([found, *map(str, words)], cwd=folder, stdin=subprocess.DEVNULL, stdout=subprocess.PIPE,
                           stderr=subprocess.PIPE, text=True, errors="backslashreplace", env=environment()) as running:
         _running.add(running)
+        limit(running, processor_seconds)
         try:
             out, err = running.communicate(timeout=seconds)
         except BaseException:

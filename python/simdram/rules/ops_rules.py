@@ -79,6 +79,8 @@ class Reader:
     def unwanted(self, token: Token, wanted: str) -> Breach:
         """The fault of a token that the grammar does not allow."""
         right = [f"allowed here: {wanted}"]
+        if token.text == "[":
+            right.append("widths are not in the text: an operation is for every width, and the instruction that calls it gives n")
         if token.kind == "number" and "argument" in wanted:
             right.append("arguments are names: a constant is `zero()` or `ones()`, or an object that a script fills")
         if token.text == "(" and self.at and self.tokens[self.at - 1].text in word_ops.TAKES_GIVES and "argument" in wanted:

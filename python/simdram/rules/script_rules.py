@@ -74,7 +74,10 @@ def operands(verb: str, words: list[Token]) -> tuple[list[Token], list[Token]]:
                 raise Breach(token, "syntax", "the line ends after a comma", form)
         elif k % 2:
             if token.text != ",":
-                raise Breach(token, "syntax", f"`{token.text}` where a comma or the end of the line is expected", form)
+                before = words[k - 1]
+                is_digits = before.kind == NUMBER and token.kind == NAME and token.at == before.at + len(before.text)
+                decimal = [f"numbers are written in decimal digits, and `{before.text}{token.text}` is none"] if is_digits else []
+                raise Breach(token, "syntax", f"`{token.text}` where a comma or the end of the line is expected", *decimal, form)
         elif token.kind == NAME and not numbers:
             names.append(token)
         elif token.kind == NUMBER:

@@ -35,6 +35,8 @@ def no_token(token: Token) -> str:
     """Why a byte starts no token, as a rule."""
     if len(token.text) == 1:
         return f"no token begins with {token.text!r}; a comment begins with `#`"
+    if token.at == 0 and token.text == "\\xef":
+        return "the text begins with a byte order mark, which is no token: save it without one, as plain ASCII or UTF-8"
     return f"no token begins with the byte 0{token.text[1:]}: texts are ASCII, except in comments, which begin with `#`"
 
 

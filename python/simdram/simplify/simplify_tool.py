@@ -6,7 +6,8 @@ A line for each op has its commands and scratch rows before and after, and the w
 both texts equal for all inputs; each new text is compared at the widths 1 to 4 too. Other widths are not compared. An op that
 gains nothing stays as it is, byte for byte; one that changes loses the comments inside it. Where an op is not known to be
 equal at a width, it stays, or with --unvalidated it is taken, and a comment says so. If one is wrong, this tool has a fault:
-the op stays, both texts are shown, and the status is 1. If the time is over, the best text so far is taken. What statements
+the op stays, both texts are shown, and the status is 1. The time is in processor seconds, so that a busy machine finds what an
+idle one does; if it is over, the best text so far is taken. What statements
 cost is kept in ~/.cache/simdram, or in the folder that SIMDRAM_CACHE names, for later calls.
 """
 
@@ -25,7 +26,7 @@ from ..launcher.tool_parser import tool_parser
 from ..launcher.widths import widths_of
 from ..rules import answers
 from .outcome import WRONG, Outcome, new_text
-from .simplifier import Options, Simplifier
+from .simplifier import SECONDS, Options, Simplifier
 
 FAULTY = 1
 
@@ -35,7 +36,8 @@ def parser() -> argparse.ArgumentParser:
     made.add_argument("ops", metavar="OPS")
     made.add_argument("new", metavar="NEW", nargs="?")
     made.add_argument("--widths", default="4,8,16,32", metavar="N,N,..", help="where no op is dearer, and is compared")
-    made.add_argument("--seconds", type=float, default=20, metavar="S", help="in which time all ops are done")
+    made.add_argument("--seconds", type=float, default=SECONDS, metavar="S",
+                      help="in how many processor seconds all ops are done, this tool's and its calls' together; 40 unless given")
     made.add_argument("--rows", action="store_true", help="take no text of more scratch rows")
     made.add_argument("--unvalidated", action="store_true", help="take texts that are not known to be equal, with a comment")
     return made

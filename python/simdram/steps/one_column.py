@@ -5,15 +5,14 @@ from __future__ import annotations
 import re
 import typing
 
-from ..assembler.execution import Registers
+from ..assembler.walks import Place, Registers
 from ..files.decode import CELLS, RAISED
-from ..files.program import (AAP, AP, B_ADDRESS, BIT, BNEZ, C_ADDRESS, DONE, INDEXED, REGISTERS, RESULT, SOURCE, SPILL, SPILLS,
-                             WORD, Entry, Instruction, Row)
+from ..files.program import (AAP, AP, B_ADDRESS, BIT, C_ADDRESS, DONE, RESULT, SOURCE, SPILL, SPILLS, WORD, Entry,
+                             Instruction, Row)
 from ..launcher.faults import Fault
 from .positions import pieces
 
 Bit = typing.Optional[int]
-Place = typing.Tuple[int, int, int]
 ROW = re.compile(r"([yz](?!\d)|[twp](?=\d))(\d*)(?:\[(\d+)\])?")
 MOST_INSTRUCTIONS = 1_000_000
 
@@ -54,17 +53,12 @@ class Column:
             return
         self.rows[place_of(name, self.entry, self.width)] = 1
 
-    def place(self, row: Row) -> Place:
-        """The row of the chip that a row of the code is now."""
-        index = self.registers.held[row.index] if row.space in INDEXED and row.index < REGISTERS else 0
-        return row.space, row.which, index
-
     def sensed(self, row: Row) -> Bit:
         """What an activation senses, and leaves in the cells that it opens."""
         if row.space == C_ADDRESS:
             return row.which
         if row.space != B_ADDRESS:
-            return self.rows.get(self.place(row), self.unset)
+            return self.rows.get(self.registers.place(row), self.unset)
         bits = [inverted(self.cells[cell], turned) for cell, turned in RAISED[row.which]]
         value = bits[0] if len(bits) == 1 else majority(bits)
         self.settle(row, value)
@@ -73,7 +67,7 @@ class Column:
     def settle(self, row: Row, value: Bit) -> None:
         """Gives a bit to the cells of a row."""
         if row.space != B_ADDRESS:
-            self.rows[self.place(row)] = value
+            self.rows[self.registers.place(row)] = value
             return
         for cell, turned in RAISED[row.which]:
             self.cells[cell] = inverted(value, turned)
@@ -83,7 +77,7 @@ class Column:
         value = self.sensed(one.rows[0])
         if one.kind == AAP:
             self.settle(one.rows[1], value)
-        places = tuple(self.place(row) for row in one.rows if row.is_data)
+        places = tuple(self.registers.place(row) for row in one.rows if row.is_data)
         return places, tuple(self.rows.get(place, self.unset) for place in places)
 
     def run(self) -> typing.Iterator[Moment]:
@@ -99,9 +93,7 @@ class Column:
             if one.kind in (AAP, AP):
                 places, bits = self.command(one)
                 yield Moment(at, tuple(self.cells.values()), places, bits, len(self.path) - 1)
-            elif one.kind != BNEZ:
-                self.registers.do(one)
-            at = one.number if one.kind == BNEZ and self.registers.held[one.register] else at + 1
+            at = self.registers.next(at, one)
 
     def result(self, which: int) -> str:
         """The number of a result, or its bits from the top where some bit was never set."""
