@@ -1,7 +1,5 @@
 mod Steady
 mod Closing
 mod Programs
-mod Images
 mod Tables
 mod Traces
-mod Shorts

@@ -10,3 +10,5 @@ pub mod Exact
 mod ExactAnswers
 mod Bits
 pub mod Written
+mod Steady
+mod Faulty

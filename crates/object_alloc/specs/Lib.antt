@@ -5,4 +5,5 @@ pub mod Bytes
 pub mod Spelling
 pub mod Reading
 pub mod Exact
+pub mod Faults
 pub use Rattle.text_lex.specs.Spelled

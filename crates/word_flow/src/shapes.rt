@@ -51,8 +51,9 @@ pub enum Line {
     If(u8),
     /// One part, done as often as the register says.
     Loop(u8),
-    /// Two parts that take turns.
+    /// Two parts that take turns, or three.
     LoopTwo(u8),
+    LoopThree(u8),
     /// The end of a part, or of all.
     Done,
 }
