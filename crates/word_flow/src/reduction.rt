@@ -1,9 +1,9 @@
 //! `and_red` and `or_red` as flows.
 //!
 //! Two elements stand in cells, and what both give is what all give that were taken: only that is
-//! fixed, not what either is. Each further element joins one of the two by one gate, which reads the
-//! complement of the other in place of a constant; so the two take turns. A constant comes in once,
-//! at the end. Registers: 0 is how many elements are left, and 1 the position.
+//! fixed, not what either is. Each further element joins one of the two by one gate, which reads
+//! the complement of the other in place of a constant; so the two take turns. A constant comes in
+//! once, at the end. Registers: 0 is how many elements are left, and 1 the position.
 
 use crate::shapes::Line::{Do, Done, If, LoopTwo, Put};
 use crate::shapes::{CodedBody, Four, Line, Nine, four, lowest, nine, node, row, state};
