@@ -204,6 +204,19 @@ class Overwriting(unittest.TestCase):
                 self.assertEqual(self.files()["pipe"], self.files()["x.svg"], line)
                 self.setUp()
 
+    def test_no_room(self):
+        """A file may have 100 KiB: neither a copy nor the new file can be whole."""
+        pathlib.Path("at/bbop").write_text("bbop_mac y, a, b, 4, 8\n")
+        self.assertEqual(self.did("image make at/x 1x900x100 a:8/4 b:8/4 y:8/4".split()), 0)
+        old = self.files()["x"]
+        with tempfile.TemporaryDirectory() as folder:
+            for words in ("image make at/x 1x900x100 a:8=1", "exec mac.prog at/bbop at/x at/x", "init 1 900 100 at/x", "image make at/new 1x900x100"):
+                ended = subprocess.run(["bash", "-c", f"ulimit -f 100; {sys.executable} {LAUNCHER} {words}"], capture_output=True, text=True,
+                                       check=False, env={**os.environ, "TMPDIR": folder})
+                self.assertEqual((ended.returncode, ended.stdout), (3, ""), words)
+                self.assertIn("File too large", ended.stderr)
+                self.assertEqual((self.files(), os.listdir(folder)), ({"x": old, "bbop": b"bbop_mac y, a, b, 4, 8\n"}, []))
+
     def test_a_mode_stays(self):
         pathlib.Path("at/x.svg").write_bytes(self.standing["image"])
         os.chmod("at/x.svg", 0o600)
