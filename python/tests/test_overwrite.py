@@ -217,6 +217,16 @@ class Overwriting(unittest.TestCase):
                 self.assertIn("File too large", ended.stderr)
                 self.assertEqual((self.files(), os.listdir(folder)), ({"x": old, "bbop": b"bbop_mac y, a, b, 4, 8\n"}, []))
 
+    def test_no_room_for_a_page(self):
+        for kind, words in (("page", "steps mac.prog mac --html at/x"), ("svg", "plot mac.prog at/x.svg")):
+            name = words.split()[-1]
+            pathlib.Path(name).write_bytes(self.standing[kind])
+            before = self.files()
+            ended = subprocess.run(["bash", "-c", f"ulimit -f 1; {sys.executable} {LAUNCHER} {words}"],
+                                   capture_output=True, text=True, check=False)
+            self.assertEqual((ended.returncode, self.files()), (3, before), (words, ended.stderr))
+            self.setUp()
+
     def test_a_mode_stays(self):
         pathlib.Path("at/x.svg").write_bytes(self.standing["image"])
         os.chmod("at/x.svg", 0o600)

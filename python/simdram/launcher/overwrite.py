@@ -114,14 +114,22 @@ def write(path: str, data: bytes, kind: str, settings: Settings) -> None:
     """Writes a tool's file by the rule above."""
     place = place_of(path)
     told_of(place, settings)
+    copy = ""
     if is_full(place) and not settings.force:
         if os.path.getsize(place) == len(data) and load(place) == data:
             return
         check(path, kind, settings)
         if kind == "ops":
             raise Fault(f"{path} holds a text, which may have been typed; nothing was written, and --force overwrites it")
-        say_kept(path, kind, kept(place), settings)
-    store(path, data, True)
+        copy = kept(place)
+    try:
+        store(path, data, True)
+    except NotWritten:
+        if copy:
+            drop(copy)
+        raise
+    if copy:
+        say_kept(path, kind, copy, settings)
 
 
 class Kept(typing.NamedTuple):
