@@ -17,7 +17,7 @@ use Rattle.uprog_code.specs.Machine.{Issue, IssueAap, IssueAp, issues_of}
 use Rattle.uprog_code.specs.Bound.{Bound, bound}
 use Rattle.uprog_code.specs.Count.{counts_of, issues_aap, issues_ap}
 use Rattle.object_alloc.specs.Listed.{Named}
-use Rattle.bbop_isa.specs.Forms.{Init, Bbop, Load, Fill, Print, Free, Order}
+use Rattle.bbop_isa.specs.Forms.{Place, Init, Bbop, Load, Fill, Print, Free, Order}
 use Rattle.machine_model.specs.declared.Why.{Why}
 use Rattle.machine_model.specs.Routines.{Routine, Routines}
 use Rattle.machine_model.specs.Refusals.{refusal}
@@ -138,7 +138,7 @@ idle_counted a (suc size) k = idle_counted (a + 1) size k
 zero_times : (x c : ℕ) → x + c * 0 ≡ x
 zero_times x c = omega arith
 
-bbop_counted : (g : Geometry) (table : List Named) (o : Option Routine) (names : List (List ℕ))
+bbop_counted : (g : Geometry) (table : List Named) (o : Option Routine) (names : List Place)
     (n size : ℕ) (k : Counters) →
     all_counted (job_events (record { commands = bound_at g table o names n; banks = size })) k
     ≡ with_counts k (times size (counts_of (issues_at o n)))

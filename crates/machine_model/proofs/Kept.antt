@@ -16,7 +16,7 @@ use Rattle.uprog_code.specs.Implements.{Keeps}
 use Rattle.uprog_code.specs.Machine.{issues_of}
 use Rattle.object_alloc.specs.Free.{has_row}
 use Rattle.object_alloc.specs.Listed.{IsTable}
-use Rattle.bbop_isa.specs.Forms.{Bbop}
+use Rattle.bbop_isa.specs.Forms.{Place, Bbop}
 use Rattle.machine_model.specs.declared.Why.{Why}
 use Rattle.machine_model.specs.Columns.{segments}
 use Rattle.machine_model.specs.Routines.{Routine, Routines}
@@ -49,7 +49,7 @@ stay_case row h true b columns e keeps = rows_stay row h columns (keeps e)
 stay_case row h false b columns e keeps = refl
 
 -- what is not touched by the tests is in none of the ranges
-no_result_row : (state : List Held) (count n row : ℕ) (kinds : List Kind) (names : List (List ℕ))
+no_result_row : (state : List Held) (count n row : ℕ) (kinds : List Kind) (names : List Place)
     → AreOperands (table_of state) count n kinds names
     → list_any (λ name. has_row (object_named (table_of state) name) row) names ≡ false
     → IsInSome (ranges n kinds (map (base_in state) names)) row → ⊥
@@ -66,7 +66,7 @@ no_result_row state count n row (kind ∷ kinds) (name ∷ names) (more _ _ _ _ 
     (or_false (has_row (object_named (table_of state) name) row)
     (list_any (λ name. has_row (object_named (table_of state) name) row) names) h).1 r
 
-not_touched : (g : Geometry) (state : List Held) (o : Routine) (names : List (List ℕ))
+not_touched : (g : Geometry) (state : List Held) (o : Routine) (names : List Place)
     (count n row : ℕ) → IsGood g (table_of state) o names count n
     → (list_any (λ name. has_row (object_named (table_of state) name) row) (dsts_in o.shape names)
     || is_beside g (table_of state) (Some o) n row) ≡ false
@@ -91,7 +91,7 @@ not_touched g state o names count n row good h (inr (inr spill)) =
     parts.1 in
     let among = among_from (limit_of g) 32 row spill.0 spill.1 in cc
 
-bbop_kept : (g : Geometry) (operations : Routines) (op dst : List ℕ) (srcs : List (List ℕ))
+bbop_kept : (g : Geometry) (operations : Routines) (op : List ℕ) (dst : Place) (srcs : List Place)
     (count n : ℕ) (found : Option Routine)
     → operations op ≡ found → 0 < n → n ≤ WIDTH_MAX → KeepsAll operations
     → (banks : Banks) (state : List Held) (bank row : ℕ) → IsTable (limit_of g) (table_of state)
@@ -124,8 +124,8 @@ done_kept None new old touched bank row kept out = kept refl out
 done_kept (Some reason) new old touched bank row kept out = refl
 
 -- A row that a bbop does not touch is as it was
-pub bbop_rows_kept : (g : Geometry) (operations : Routines) (op dst : List ℕ)
-    (srcs : List (List ℕ)) (count n : ℕ) → 0 < n → n ≤ WIDTH_MAX
+pub bbop_rows_kept : (g : Geometry) (operations : Routines) (op : List ℕ) (dst : Place)
+    (srcs : List Place) (count n : ℕ) → 0 < n → n ≤ WIDTH_MAX
     → KeepsAll operations → (banks : Banks) (state : List Held) (bank row : ℕ)
     → IsTable (limit_of g) (table_of state)
     → is_touched g operations (table_of state) (Bbop op dst srcs count n) bank row ≡ false

@@ -8,7 +8,7 @@ use Rattle.bit_rows.specs.declared.TheConstants.{WIDTH_MAX}
 use Rattle.op_text.specs.declared.tree.Kind.{Kind}
 use Rattle.object_alloc.specs.declared.table.Object.{Object}
 use Rattle.object_alloc.specs.Listed.{Named, IsTable, limit_of, has_name}
-use Rattle.bbop_isa.specs.Forms.{Bbop}
+use Rattle.bbop_isa.specs.Forms.{Place, Bbop}
 use Rattle.machine_model.specs.declared.Why.{Why}
 use Rattle.machine_model.specs.Columns.{columns}
 use Rattle.machine_model.specs.Routines.{Routine, Routines, routines_in}
@@ -30,7 +30,7 @@ if_columns None g new old o h = h refl
 if_columns (Some reason) g new old o h = refl
 
 -- an object at a place of the state
-place_stays : (g : Geometry) (operations : Routines) (op dst : List ℕ) (srcs : List (List ℕ))
+place_stays : (g : Geometry) (operations : Routines) (op : List ℕ) (dst : Place) (srcs : List Place)
     (count n : ℕ) (o : Option Routine) → operations op ≡ o → 0 < n → n ≤ WIDTH_MAX
     → KeepsAll operations → (banks : Banks) (state : List Held) (k : ℕ)
     → IsTable (limit_of g) (table_of state) → k < length state
@@ -46,7 +46,7 @@ place_stays g operations op dst srcs count n (Some o) e some few keeps banks sta
     (job_is g operations op dst srcs count n o e state) k l ne
 
 -- the object of a name
-named_stays : (g : Geometry) (operations : Routines) (op dst : List ℕ) (srcs : List (List ℕ))
+named_stays : (g : Geometry) (operations : Routines) (op : List ℕ) (dst : Place) (srcs : List Place)
     (count n : ℕ) → 0 < n → n ≤ WIDTH_MAX → KeepsAll operations → (banks : Banks)
     (state : List Held) (name : List ℕ) → IsTable (limit_of g) (table_of state)
     → has_name (table_of state) name ≡ true
@@ -64,8 +64,8 @@ named_stays g operations op dst srcs count n some few keeps banks state name t t
     place_stays g operations op dst srcs count n (operations op) refl some few keeps banks state
     f.place t f.within (ap (is_one_of (dsts_of (operations op) (dst ∷ srcs))) f.named ∙ ne) h))
 
-pub others_stay : (g : Geometry) (operations : Routines) (table : List Named) (op dst : List ℕ)
-    (srcs : List (List ℕ)) (count n : ℕ) (banks : Banks) (name : List ℕ) → KeepsAll operations
+pub others_stay : (g : Geometry) (operations : Routines) (table : List Named) (op : List ℕ) (dst : Place)
+    (srcs : List Place) (count n : ℕ) (banks : Banks) (name : List ℕ) → KeepsAll operations
     → IsTable (limit_of g) table → 0 < n → n ≤ WIDTH_MAX → has_name table name ≡ true
     → is_one_of (dsts_of (operations op) (dst ∷ srcs)) name ≡ false
     → columns g (banks_after g operations table banks (Bbop op dst srcs count n))
@@ -78,8 +78,8 @@ others_stay g operations table op dst srcs count n banks name keeps t some few t
     (subst (IsTable (limit_of g)) (sym (still_table table)) t) h ne) there
 
 -- operands that are no destinations
-each_source : (P : List ℕ → Type 0) (table : List Named) (count n : ℕ) (dsts : List (List ℕ))
-    (kinds : List Kind) (names : List (List ℕ)) → AreOperands table count n kinds names
+each_source : (P : List ℕ → Type 0) (table : List Named) (count n : ℕ) (dsts : List Place)
+    (kinds : List Kind) (names : List Place) → AreOperands table count n kinds names
     → AreOthers dsts names
     → ((name : List ℕ) → has_name table name ≡ true → is_one_of dsts name ≡ false → P name)
     → AllByRecursion P names
@@ -90,7 +90,7 @@ each_source P table count n dsts (kind ∷ kinds) (name ∷ names) (more _ _ _ _
     (h name op.present others.0, each_source P table count n dsts kinds names rest others.1 h)
 
 sources_of : (P : List ℕ → Type 0) (g : Geometry) (table : List Named) (o : Option Routine)
-    (names : List (List ℕ)) (count n : ℕ) → bbop_refusal g table o names count n ≡ None
+    (names : List Place) (count n : ℕ) → bbop_refusal g table o names count n ≡ None
     → ((name : List ℕ) → has_name table name ≡ true → is_one_of (dsts_of o names) name ≡ false
     → P name) → AllByRecursion P (srcs_of o names)
 sources_of P g table None names count n h each = tt
