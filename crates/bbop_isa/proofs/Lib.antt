@@ -6,6 +6,3 @@ pub mod Checked
 pub mod Followed
 pub mod Spelling
 pub mod Numbered
-pub mod Formed
-pub mod Meant
-pub mod Kinded

@@ -11,19 +11,24 @@ use Rattle.bbop_isa.specs.declared.forms.Verb.{Verb}
 use Rattle.bbop_isa.specs.declared.forms.Verb.TheVariants as verb
 use Rattle.bbop_isa.specs.declared.instr.Order.{Order as Orders}
 use Rattle.bbop_isa.specs.declared.instr.Order.TheVariants.{Forward, Turns, Seed}
+use Rattle.bbop_isa.specs.declared.instr.Place.{Place}
 use Rattle.bbop_isa.specs.declared.instr.Instr.{Instr}
 use Rattle.bbop_isa.specs.declared.instr.Instr.TheVariants as instr
 use Rattle.bbop_isa.specs.declared.instr.ScriptKind.{ScriptKind}
 use Rattle.bbop_isa.specs.declared.instr.ScriptKind.TheVariants.{Lex, Syntax, BadName, BadNumber}
 use Rattle.bbop_isa.specs.Words.{Word, Name, Number, Comma, words_in}
 
+-- an object as a whole
+abbrev pub whole : List ℕ → Place
+whole name = record { name = name; part = None }
+
 -- an instruction without where it lies in memory, and with names as their bytes
 pub data Instruction : Type 0 where
   Init : List ℕ → ℕ → ℕ → Instruction
-  Bbop : List ℕ → List ℕ → List (List ℕ) → ℕ → ℕ → Instruction
-  Load : List ℕ → List ℕ → Instruction
-  Fill : List ℕ → ℕ → Instruction
-  Print : List ℕ → Instruction
+  Bbop : List ℕ → Place → List Place → ℕ → ℕ → Instruction
+  Load : Place → List ℕ → Instruction
+  Fill : Place → ℕ → Instruction
+  Print : Place → Instruction
   Free : List ℕ → Instruction
   Order : Orders → Instruction
 
@@ -31,9 +36,9 @@ pub data Instruction : Type 0 where
 abbrev pub view_of : Instr → Instruction
 view_of (instr.Init name count n) = Init name count n
 view_of (instr.Bbop op dst srcs count n) = Bbop op dst srcs.items count n
-view_of (instr.Load name values) = Load name values.items
-view_of (instr.Fill name value) = Fill name value
-view_of (instr.Print name) = Print name
+view_of (instr.Load place values) = Load place values.items
+view_of (instr.Fill place value) = Fill place value
+view_of (instr.Print place) = Print place
 view_of (instr.Free name) = Free name
 view_of (instr.Order order) = Order order
 
@@ -105,19 +110,19 @@ abbrev pub bbop_of : List ℕ → List (List ℕ) → List (Option ℕ) → Resu
 bbop_of op (dst ∷ src ∷ srcs) (count ∷ n ∷ []) =
     if nat_lt 4 (length srcs) then Err Syntax
     else checked (list_all fits_name (op ∷ dst ∷ src ∷ srcs)) (is_count count
-    && is_width n) (Bbop op dst (src ∷ srcs) (number_or_zero count) (number_or_zero n))
+    && is_width n) (Bbop op (whole dst) (map whole (src ∷ srcs)) (number_or_zero count) (number_or_zero n))
 bbop_of op names numbers = Err Syntax
 
 -- `load` with a name and one or more values, whose width and number the machine looks at
 abbrev pub load_of : List (List ℕ) → List (Option ℕ) → Result Instruction ScriptKind
 load_of (name ∷ []) (number ∷ numbers) = checked (fits_name name)
-    (list_all is_some (number ∷ numbers)) (Load name (map number_or_zero (number ∷ numbers)))
+    (list_all is_some (number ∷ numbers)) (Load (whole name) (map number_or_zero (number ∷ numbers)))
 load_of names numbers = Err Syntax
 
 -- `fill` with a name and one value, whose width the machine looks at
 abbrev pub fill_of : List (List ℕ) → List (Option ℕ) → Result Instruction ScriptKind
 fill_of (name ∷ []) (number ∷ []) = checked (fits_name name) (is_some number)
-    (Fill name (number_or_zero number))
+    (Fill (whole name) (number_or_zero number))
 fill_of names numbers = Err Syntax
 
 -- one name and nothing else
@@ -155,7 +160,7 @@ of_operands head verb.Init o = init_of o.names o.numbers
 of_operands head verb.Bbop o = bbop_of (drop 5 head) o.names o.numbers
 of_operands head verb.Load o = load_of o.names o.numbers
 of_operands head verb.Fill o = fill_of o.names o.numbers
-of_operands head verb.Print o = result_map Print (lone_name o.names o.numbers)
+of_operands head verb.Print o = result_map (λ name. Print (whole name)) (lone_name o.names o.numbers)
 of_operands head verb.Free o = result_map Free (lone_name o.names o.numbers)
 
 -- what a line says whose first name is no operation's

@@ -49,11 +49,11 @@ first_name (Order order) = codes "order"
 abbrev pub other_words : Instruction → List Word
 other_words (Init name count n) = with_commas (Name name ∷ Number (Some count) ∷ Number (Some n)
     ∷ [])
-other_words (Bbop op dst srcs count n) = with_commas (map Name (dst ∷ srcs) ++ Number (Some count)
+other_words (Bbop op dst srcs count n) = with_commas (map (λ p. Name p.name) (dst ∷ srcs) ++ Number (Some count)
     ∷ Number (Some n) ∷ [])
-other_words (Load name values) = with_commas (Name name ∷ map (λ v. Number (Some v)) values)
-other_words (Fill name v) = with_commas (Name name ∷ Number (Some v) ∷ [])
-other_words (Print name) = Name name ∷ []
+other_words (Load place values) = with_commas (Name place.name ∷ map (λ v. Number (Some v)) values)
+other_words (Fill place v) = with_commas (Name place.name ∷ Number (Some v) ∷ [])
+other_words (Print place) = Name place.name ∷ []
 other_words (Free name) = Name name ∷ []
 other_words (Order Forward) = Name (codes "in") ∷ []
 other_words (Order Turns) = Name (codes "turns") ∷ []
@@ -66,11 +66,11 @@ AreSizes count n = (1 ≤ count) × (count < 2 ^ 32) × (1 ≤ n) × (n ≤ WIDT
 -- Its names and its numbers are right.
 abbrev pub IsRight : Instruction → Type 0
 IsRight (Init name count n) = (fits_name name ≡ true) × AreSizes count n
-IsRight (Bbop op dst srcs count n) = (list_all fits_name (op ∷ dst ∷ srcs) ≡ true)
+IsRight (Bbop op dst srcs count n) = (list_all fits_name (op ∷ map (λ p. p.name) (dst ∷ srcs)) ≡ true)
     × (op ≢ codes "trsp_init") × (1 ≤ length srcs) × (length srcs ≤ 5) × AreSizes count n
-IsRight (Load name values) = (fits_name name ≡ true) × (1 ≤ length values)
-IsRight (Fill name v) = fits_name name ≡ true
-IsRight (Print name) = fits_name name ≡ true
+IsRight (Load place values) = (fits_name place.name ≡ true) × (1 ≤ length values)
+IsRight (Fill place v) = fits_name place.name ≡ true
+IsRight (Print place) = fits_name place.name ≡ true
 IsRight (Free name) = fits_name name ≡ true
 IsRight (Order Forward) = Unit {0}
 IsRight (Order Turns) = Unit {0}

@@ -7,7 +7,7 @@ ghost use Rattle.std.specs.Option.{option_map};
 ghost use Rattle.text_lex.specs.Spelled.{fits_name};
 ghost use Rattle.bbop_isa.specs.Words.{word_view, texts as texts_in};
 ghost use Rattle.bbop_isa.specs.Forms.{view_of, is_count, is_width, is_seed, number_or_zero};
-ghost use Rattle.bbop_isa.specs.Forms.{init_of};
+ghost use Rattle.bbop_isa.specs.Forms.{init_of, whole};
 ghost use Rattle.bbop_isa.specs.Forms.{bbop_of, load_of, fill_of, lone_name, order_of, verb_of};
 ghost use Rattle.bbop_isa.specs.Forms.{of_operands, instruction_of, line_of};
 ghost use Rattle.bbop_isa.specs.Reading.{Gives, ValuesOf, IsNoTarget, operands_view};
@@ -15,7 +15,7 @@ ghost use Rattle.bbop_isa.specs.Reading.{Gives, ValuesOf, IsNoTarget, operands_v
 use crate::digits::Digits;
 use crate::instr::LineError::{self, Bad};
 use crate::instr::ScriptKind::{BadName, BadNumber, Syntax};
-use crate::instr::{Instr, Order};
+use crate::instr::{Instr, Order, Place};
 use crate::operands::{Operands, operands_of};
 use crate::words::{Word, words_of};
 use arrayvec::ArrayVec;
@@ -76,6 +76,13 @@ fn pair<T>(items: &[T]) -> Option<(&T, &T)>
     }
 }
 
+/// An object as a whole.
+fn whole(name: Name) -> Place
+    ensures { result ≡ whole name }
+{
+    Place { name, part: None }
+}
+
 /// A number of elements.
 fn count_of(number: Option<Value>) -> Option<u32>
     ensures { MatchOption result (is_count number ≡ false) (λ count. (is_count number ≡ true)
@@ -126,27 +133,27 @@ fn init_of(names: &[&[u8]], numbers: &[Digits<'_>]) -> Result<Instr, LineError>
 }
 
 /// The names of one to five further names, where all are right.
-fn sources_of(texts: &[&[u8]]) -> Option<ArrayVec<Name, 5>>
+fn sources_of(texts: &[&[u8]]) -> Option<ArrayVec<Place, 5>>
     requires { length texts.now ≤ 5 }
     ensures { MatchOption result (list_all fits_name (texts_in texts.now)
         ≡ false) (λ names. (list_all fits_name (texts_in texts.now) ≡ true)
-        × (names.items ≡ texts_in texts.now)) }
+        × (names.items ≡ map whole (texts_in texts.now))) }
 {
     let mut names = ArrayVec::new();
     for text in texts {
-        names.push(Name::new(text)?);
+        names.push(whole(Name::new(text)?));
     }
     Some(names)
 }
 
 /// The names of an operation, its destination and its sources, where all are right.
-fn names_of(op: &[u8], dst: &[u8], srcs: &[&[u8]]) -> Option<(Name, Name, ArrayVec<Name, 5>)>
+fn names_of(op: &[u8], dst: &[u8], srcs: &[&[u8]]) -> Option<(Name, Place, ArrayVec<Place, 5>)>
     requires { length srcs.now ≤ 5 }
     ensures { MatchOption result (list_all fits_name (op.now ∷ dst.now ∷ texts_in srcs.now)
         ≡ false) (λ p. (list_all fits_name (op.now ∷ dst.now ∷ texts_in srcs.now) ≡ true)
-        × (p.0 ≡ op.now) × (p.1 ≡ dst.now) × (p.2.items ≡ texts_in srcs.now)) }
+        × (p.0 ≡ op.now) × (p.1 ≡ whole dst.now) × (p.2.items ≡ map whole (texts_in srcs.now))) }
 {
-    Some((Name::new(op)?, Name::new(dst)?, sources_of(srcs)?))
+    Some((Name::new(op)?, whole(Name::new(dst)?), sources_of(srcs)?))
 }
 
 /// The first of two or more names, and one to five others.
@@ -211,7 +218,7 @@ fn load_of(names: &[&[u8]], numbers: &[Digits<'_>], alloc: Global) -> Result<Ins
         return Err(Bad(BadName));
     };
     let values = values_of(numbers, alloc)?;
-    Ok(Instr::Load { name, values })
+    Ok(Instr::Load { place: whole(name), values })
 }
 
 fn fill_of(names: &[&[u8]], numbers: &[Digits<'_>]) -> Result<Instr, LineError>
@@ -227,7 +234,7 @@ fn fill_of(names: &[&[u8]], numbers: &[Digits<'_>]) -> Result<Instr, LineError>
         return Err(Bad(BadName));
     };
     match number.value() {
-        Some(value) => Ok(Instr::Fill { name, value }),
+        Some(value) => Ok(Instr::Fill { place: whole(name), value }),
         None => Err(Bad(BadNumber)),
     }
 }
@@ -299,7 +306,7 @@ fn of_operands(
         Verb::Load => load_of(names, numbers, alloc),
         Verb::Fill => fill_of(names, numbers),
         Verb::Print => Ok(Instr::Print {
-            name: lone_name(names, numbers)?,
+            place: whole(lone_name(names, numbers)?),
         }),
         Verb::Free => Ok(Instr::Free {
             name: lone_name(names, numbers)?,

@@ -1,8 +1,7 @@
 //! What is proved of the definitions alone.
 
-ghost use Rattle.bbop_isa.specs.Laws.{LinesAreRight, OperandsAreSpelled, LinesAreForms};
+ghost use Rattle.bbop_isa.specs.Laws.{LinesAreRight, OperandsAreSpelled};
 ghost use Rattle.bbop_isa.specs.Laws.{ScriptsGoByLines};
-ghost use Rattle.bbop_isa.specs.Kinds.{LinesAreWrong};
 
 /// The lines of a text are what stands between its newlines.
 pub fn lines_are_right()
@@ -12,18 +11,6 @@ pub fn lines_are_right()
 /// Operands are names and then numbers, with commas between them.
 pub fn operands_are_spelled()
     ensures { OperandsAreSpelled }
-{}
-
-/// A line says an instruction exactly where it is of the instruction's form, with names and numbers
-/// that are right.
-pub fn lines_are_forms()
-    ensures { LinesAreForms }
-{}
-
-/// A line is refused for what is wrong with it: for its bytes, its form, a name or a number, in
-/// this order.
-pub fn lines_are_wrong()
-    ensures { LinesAreWrong }
 {}
 
 /// Each line counts by itself, and the first line at fault decides.

@@ -1,5 +1,0 @@
-use Rattle.bbop_isa.proofs.Meant.{lines_are}
-use Rattle.bbop_isa.proofs.laws.lines_are_forms.Goals as goal
-
-pub returns : goal.returns
-returns c = lines_are
