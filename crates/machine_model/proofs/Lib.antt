@@ -4,10 +4,7 @@ pub mod Places
 pub mod Below
 pub mod Sliced
 pub mod Placed
-pub mod Separate
 pub mod Merged
-pub mod Operand
-pub mod Generic
 pub mod Bbops
 pub mod Steps
 pub mod Fills

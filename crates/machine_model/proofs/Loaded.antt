@@ -19,7 +19,9 @@ use Rattle.dram_model.proofs.RowWrites.{all_writes, all_own, part_length, map_pa
 use Rattle.dram_model.proofs.RowWrites.{all_append, all_take, all_drop, all_zero}
 use Rattle.object_alloc.specs.declared.table.Object.{Object}
 use Rattle.object_alloc.specs.Free.{has_row, AreApart}
-use Rattle.bbop_isa.specs.Forms.{Part, Place, Load}
+use Rattle.bbop_isa.specs.Forms.{Load}
+use Rattle.bbop_isa.specs.declared.instr.Part.{Part}
+use Rattle.bbop_isa.specs.declared.instr.Place.{Place}
 use Rattle.machine_model.specs.declared.Why.{Why}
 use Rattle.machine_model.specs.declared.Why.TheVariants as why
 use Rattle.dram_model.specs.Elements.{column_count}
@@ -29,7 +31,7 @@ use Rattle.machine_model.specs.Routines.{Routines}
 use Rattle.object_alloc.specs.Listed.{limit_of}
 use Rattle.machine_model.specs.Refusals.{rows_of, goes_past, is_absent, refusal, when, at_place}
 use Rattle.machine_model.specs.Places.{cut, is_past, put, put_all}
-use Rattle.machine_model.proofs.Sliced.{replaces}
+use Rattle.machine_model.proofs.Sliced.{replaces, has_from}
 use Rattle.std.specs.Str.{bytes_eq}
 use Rattle.std.proofs.Common.{Bool, cond, ◌++◌, Option, Some}
 use Rattle.std.proofs.lemmas.List.{length-map}
@@ -39,9 +41,9 @@ use Rattle.dram_model.proofs.RowWrites.{writes, taken, taken_before, taken_past,
 use Rattle.machine_model.specs.Columns.{columns}
 use Rattle.machine_model.specs.Steps.{table_of, load_events, with_results}
 use Rattle.machine_model.specs.Agrees.{Agrees}
-use Rattle.machine_model.proofs.Facts.{first_none, when_none, place_none, not_false}
+use Rattle.machine_model.proofs.Facts.{first_none, when_none, place_none, not_false, operand_is}
 use Rattle.machine_model.proofs.Places.{no_one}
-use Rattle.machine_model.proofs.Bbops.{has_from, placed_at}
+use Rattle.machine_model.proofs.Bbops.{placed_at}
 use Rattle.machine_model.proofs.Loads.{writes_others, writes_length}
 use Rattle.machine_model.proofs.Steps.{StepAgrees, with_results_agrees, operand_within, done_or_not, idle}
 
@@ -153,13 +155,11 @@ load_agrees g operations meaning place vs words banks state a =
     let new = after (load_events g o vs) banks in
     done_or_not g (refusal g operations table (Load place vs)) _ banks _ state (λ h.
     let c3 = at_place why.Range 1 (map (λ v. leb (2 ^ o.width) v) vs) ∷ [] in
-    let c2 = when (not (eqb (length vs) o.count)) why.Count ∷ c3 in
-    let c1 = when (goes_past table place) (why.Slice 0) ∷ c2 in
-    let present = first_none (when (is_absent table place.name) (why.NoObject 0)) c1 h in
-    let whole_is = first_none (when (goes_past table place) (why.Slice 0)) c2 present.1 in
-    let count = first_none (when (not (eqb (length vs) o.count)) why.Count) c3 whole_is.1 in
+    let is = operand_is (is_absent table place.name) (goes_past table place)
+    (when (not (eqb (length vs) o.count)) why.Count ∷ c3) h in
+    let count = first_none (when (not (eqb (length vs) o.count)) why.Count) c3 is.2 in
     let range = first_none (at_place why.Range 1 (map (λ v. leb (2 ^ o.width) v) vs)) [] count.1 in
-    let inside = operand_within g banks state place a (not_false _ (when_none _ _ present.0)) in
+    let inside = operand_within g banks state place a (not_false _ is.0) in
     let tested : eqb (length vs) o.count ≡ true = not_false _ (when_none _ _ count.0) in
     let counted : length vs ≡ o.count = grind (arith, nat_tests) in
     let room : o.count ≤ object_size g o = omega (arith, (div_ceil_times o.count w (omega arith)).0)
@@ -196,14 +196,14 @@ load_agrees g operations meaning place vs words banks state a =
     → (get_or state i no_one).object.count ≡ o.count
     → columns g new (get_or state i no_one).object
     ≡ put_all place.part (columns g banks (get_or state i no_one).object) nums =
-    λ i l is ends c. let p = (get_or state i no_one).object in
+    λ i l same ends c. let p = (get_or state i no_one).object in
     ap (λ k. map (number p.base p.width) (below k new)) (ap (segments_of g) c)
     ∙ banks_put place.part (number p.base p.width) new banks (part w nums) 0 (segments g o)
     (λ b x y. ap (map (number p.base p.width)) (in_bank b (omega arith))
     ∙ ap (λ (q : Object). map (number p.base p.width)
-    (on_bank_all (writes b q.base (part w nums b) 0 q.width) (banks b))) is
+    (on_bank_all (writes b q.base (part w nums b) 0 q.width) (banks b))) same
     ∙ bank_put b p place.part (part w nums b) (banks b) ends (fits b (omega arith))
-    (subst (λ (q : Object). AllByRecursion (λ v. v < 2 ^ q.width) (part w nums b)) is
+    (subst (λ (q : Object). AllByRecursion (λ v. v < 2 ^ q.width) (part w nums b)) same
     (all_take (λ v. v < 2 ^ o.width) w (drop (b * w) nums)
     (all_drop (λ v. v < 2 ^ o.width) (b * w) nums small))))
     (λ b x y. fits b (omega arith))
@@ -219,12 +219,12 @@ load_agrees g operations meaning place vs words banks state a =
           (banks bank) (fits bank lt) ∙ a.shaped bank l
       | inr ge ↦ ap length (past bank ge) ∙ a.shaped bank l
     ])
-    (λ i l. let is = placed_at g banks state i place a l (when_none _ _ whole_is.0) in
+    (λ i l. let at = placed_at (limit_of g) state i place a.table l is.1 in
     by_name (bytes_eq (get_or state i no_one).name place.name)
     (columns g new (get_or state i no_one).object) (get_or state i no_one).numbers place.part nums
-    (λ e. let q = is.own e in own i l q.0 q.1 q.2
+    (λ e. let q = at.own e in own i l q.0 q.1 q.2
     ∙ ap (λ ns. put_all place.part ns nums) (a.numbers i no_one l))
-    (λ e. others i l (is.other e) ∙ a.numbers i no_one l)))) a where
+    (λ e. others i l (at.other e) ∙ a.numbers i no_one l)))) a where
       row_past : (o : Object) (row : ℕ) → has_row o row ≡ false → (row < o.base → ⊥)
           → o.base + o.width ≤ row
       row_past o row h out = elim (cases_lt row (o.base + o.width)) [

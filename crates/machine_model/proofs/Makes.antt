@@ -1,5 +1,5 @@
 -- The steps of a fill and of a new object.
-use Rattle.std.proofs.Common.{Bool, true, false, refl, ◌≡◌, ℕ, ◌+◌, ◌*◌, ◌/◌, ◌%◌, ◌^◌, ◌<◌, ◌≤◌, false, leb, List, []}
+use Rattle.std.proofs.Common.{refl, ◌≡◌, ℕ, ◌+◌, ◌*◌, ◌/◌, ◌%◌, ◌^◌, ◌<◌, ◌≤◌, true, false, leb, List, []}
 use Rattle.std.proofs.Common.{◌∷◌, ◌++◌, length, get_or, sym, ◌∙◌, ap, subst, arith, inl, inr}
 use Rattle.std.specs.Prelude.{All, replicate}
 use Rattle.std.specs.Int.{div_ceil}
@@ -15,7 +15,8 @@ use Rattle.object_alloc.specs.declared.table.Object.{Object}
 use Rattle.object_alloc.specs.Free.{has_row, AreApart}
 use Rattle.object_alloc.specs.Listed.{Named, IsTable, objects_of}
 use Rattle.object_alloc.proofs.Tables.{IsTable-add}
-use Rattle.bbop_isa.specs.Forms.{Place, Init, Fill}
+use Rattle.bbop_isa.specs.Forms.{Init, Fill}
+use Rattle.bbop_isa.specs.declared.instr.Place.{Place}
 use Rattle.machine_model.specs.declared.Why.TheVariants as why
 use Rattle.dram_model.specs.Elements.{column_count}
 use Rattle.machine_model.specs.Columns.{object_size, segments, columns}
@@ -24,10 +25,9 @@ use Rattle.object_alloc.specs.Listed.{limit_of}
 use Rattle.machine_model.specs.Refusals.{rows_of, goes_past, is_absent, refusal, when}
 use Rattle.machine_model.specs.Steps.{Held, table_of, new_object, through, fill_events}
 use Rattle.machine_model.specs.Steps.{with_results, new_numbers}
-use Rattle.std.specs.Prelude.{◌||◌}
-use Rattle.machine_model.proofs.Merged.{meet}
+use Rattle.machine_model.proofs.Merged.{meet, or_false}
 use Rattle.machine_model.specs.Agrees.{Agrees}
-use Rattle.machine_model.proofs.Facts.{first_none, when_none, not_false}
+use Rattle.machine_model.proofs.Facts.{first_none, when_none, not_false, operand_is}
 use Rattle.machine_model.proofs.Places.{no_one, entry_of}
 use Rattle.machine_model.proofs.Below.{base_free}
 use Rattle.machine_model.proofs.Tables.{made}
@@ -41,10 +41,6 @@ pub filled : (g : Geometry) (o : Object) (v : ℕ) (banks : Banks)
     ≡ through (fill_job g o v) banks
 filled g o v banks = ap (after (fill_events g o v)) (idle [] banks) ∙ fill_is_job g o v banks
 
-or_left : (b c : Bool) → (b || c) ≡ false → b ≡ false
-or_left true c h = cc
-or_left false c h = refl
-
 pub fill_agrees : (g : Geometry) (operations : Routines) (meaning : List ℕ → ℕ → List ℕ
     → List ℕ) (place : Place) (v : ℕ) → StepAgrees g operations meaning (Fill place v)
 fill_agrees g operations meaning place v banks state a =
@@ -53,21 +49,19 @@ fill_agrees g operations meaning place v banks state a =
     let job = fill_job g o v in
     let result : ℕ → List ℕ = λ k. replicate (object_size g o) v in
     done_or_not g (refusal g operations table (Fill place v)) _ banks _ state (λ h.
-    let range = when (leb (2 ^ o.width) v) (why.Range 1) ∷ [] in
-    let past = when (goes_past table place) (why.Slice 0) ∷ range in
-    let present = first_none (when (is_absent table place.name) (why.NoObject 0)) past h in
-    let whole = first_none (when (goes_past table place) (why.Slice 0)) range present.1 in
-    let small = first_none (when (leb (2 ^ o.width) v) (why.Range 1)) [] whole.1 in
+    let is = operand_is (is_absent table place.name) (goes_past table place)
+    (when (leb (2 ^ o.width) v) (why.Range 1) ∷ []) h in
+    let small = first_none (when (leb (2 ^ o.width) v) (why.Range 1)) [] is.2 in
     let below : leb (2 ^ o.width) v ≡ false = when_none _ _ small.0 in
-    let inside = operand_within g banks state place a (not_false _ (when_none _ _ present.0)) in
+    let inside = operand_within g banks state place a (not_false _ is.0) in
     subst (λ (b : Banks). Agrees g b (with_results state result (place ∷ [])))
     (sym (filled g o v banks))
     (with_results_agrees g banks (through job banks) state result (place ∷ []) a
     (λ bank l. through_length job banks bank ∙ a.shaped bank l)
     (λ i l. let h = get_or state i no_one in
     meet g banks job (rows_of table) result (place ∷ []) h.name h.object o.count
-    (placed_at g banks state i place a l (when_none _ _ whole.0), tt) (refl, tt) refl
-    (λ s row has none. fill_keeps o h.object v row s (or_left (has_row o row) false none)) (
+    (placed_at (limit_of g) state i place a.table l is.1, tt) (refl, tt) refl
+    (λ s row has none. fill_keeps o h.object v row s (or_false (has_row o row) false none).0) (
       fill_columns g banks o v (grind (arith, nat_tests)) (λ b m.
           a.shaped b (omega (arith, inside, m))),
       tt,

@@ -15,7 +15,8 @@ use Rattle.object_alloc.specs.Free.{has_row, AreApart}
 use Rattle.wave_model.specs.Schedule.{WaveJob}
 use Rattle.machine_model.specs.Columns.{columns, segments}
 use Rattle.machine_model.specs.Steps.{through, new_numbers}
-use Rattle.bbop_isa.specs.Forms.{Part, Place}
+use Rattle.bbop_isa.specs.declared.instr.Part.{Part}
+use Rattle.bbop_isa.specs.declared.instr.Place.{Place}
 use Rattle.machine_model.specs.Places.{cut, is_past, seen, put, put_all}
 use Rattle.machine_model.proofs.Placed.{IsPlaced, AreResults, KeepsRest}
 use Rattle.machine_model.proofs.Sliced.{replaces, number_same, has_from}
@@ -158,9 +159,9 @@ gave_of g banks job rows result count k (d ∷ dsts) e all are = (
   gave_of g banks job rows result count (k + 1) dsts e all.1 are.1,
 )
 
-pub or_none : (a b : Bool) → (a || b) ≡ false → (a ≡ false) × (b ≡ false)
-or_none true b h = cc
-or_none false b h = (refl, h)
+pub or_false : (a b : Bool) → (a || b) ≡ false → (a ≡ false) × (b ≡ false)
+or_false true b h = cc
+or_false false b h = (refl, h)
 
 -- no destination is of this name
 not_named : (rows : Place → Object) (name : List ℕ) (o : Object) (count : ℕ) (result : ℕ → List ℕ)
@@ -169,7 +170,7 @@ not_named : (rows : Place → Object) (name : List ℕ) (o : Object) (count : �
     → new_numbers result k dsts name numbers ≡ numbers
 not_named rows name o count result k [] numbers h = refl
 not_named rows name o count result k (d ∷ dsts) numbers h =
-    let p = or_none (bytes_eq name d.name) (list_any (λ d. bytes_eq name d.name) dsts) h in
+    let p = or_false (bytes_eq name d.name) (list_any (λ d. bytes_eq name d.name) dsts) h in
     ap (λ b. new_numbers result (k + 1) dsts name
     (cond b (put_all d.part numbers (result k)) numbers)) p.0
     ∙ not_named rows name o count result (k + 1) dsts numbers p.1
@@ -180,7 +181,7 @@ not_in : (rows : Place → Object) (name : List ℕ) (o : Object) (count row : �
     → list_any (λ d. has_row (rows d) row) dsts ≡ false
 not_in rows name o count row [] all h has = refl
 not_in rows name o count row (d ∷ dsts) all h has =
-    let p = or_none (bytes_eq name d.name) (list_any (λ d. bytes_eq name d.name) dsts) h in
+    let p = or_false (bytes_eq name d.name) (list_any (λ d. bytes_eq name d.name) dsts) h in
     rw ((all.0).other p.0 row has) (not_in rows name o count row dsts all.1 p.1 has)
 
 count_case : (o : Object) (count : ℕ) (a b : Bool) → (a ≡ true → o.count ≡ count)
@@ -246,6 +247,6 @@ changed rows name o count d numbers pairs is kept spelled =
     (λ z. number o.base o.width (merge rows (d ∷ []) z.0 z.1)) (KeepsRest o (rows d)) pairs kept
     (λ z keeps. sym (number_same o.base o.width z.1 (merge rows (d ∷ []) z.0 z.1) (λ row a b.
     merge_row rows (d ∷ []) z.0 z.1 row (λ none.
-    keeps row (has_from o row a b) (or_none (has_row (rows d) row) false none).0))))
+    keeps row (has_from o row a b) (or_false (has_row (rows d) row) false none).0))))
     ∙ all_put rows name o count (λ k. numbers) 0 pairs (λ z. z.1) (λ z. z.0) (d ∷ []) (is, tt)
     (sym spelled, tt)

@@ -14,14 +14,9 @@ use Rattle.object_alloc.specs.Free.{has_row, AreApart}
 use Rattle.wave_model.specs.Schedule.{WaveJob}
 use Rattle.machine_model.specs.Columns.{columns, segments}
 use Rattle.machine_model.specs.Steps.{through, new_numbers}
-use Rattle.bbop_isa.specs.Forms.{Part, Place}
+use Rattle.bbop_isa.specs.declared.instr.Part.{Part}
+use Rattle.bbop_isa.specs.declared.instr.Place.{Place}
 use Rattle.machine_model.specs.Places.{cut, is_past, seen, put, put_all}
-use Rattle.object_alloc.specs.Free.{meets}
-use Rattle.std.specs.Prelude.{Bool}
-
--- two operands have a row in common, as the test of refusals has it
-abbrev pub met : Object → Object → Bool
-met o p = meets o.base o.width p
 
 -- an operand whose name is this object's is a part of it, and any other is apart from it
 pub record IsPlaced (table_rows : Place → Object) (name : List ℕ) (o : Object) (count : ℕ)

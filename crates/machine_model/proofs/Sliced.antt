@@ -15,7 +15,8 @@ use Rattle.object_alloc.specs.Free.{has_row, AreApart}
 use Rattle.wave_model.specs.Schedule.{WaveJob}
 use Rattle.machine_model.specs.Columns.{columns, segments}
 use Rattle.machine_model.specs.Steps.{through, new_numbers}
-use Rattle.bbop_isa.specs.Forms.{Part, Place}
+use Rattle.bbop_isa.specs.declared.instr.Part.{Part}
+use Rattle.bbop_isa.specs.declared.instr.Place.{Place}
 use Rattle.machine_model.specs.Places.{cut, is_past, seen, put, put_all}
 
 spread : (b x p y : ℕ) → b + 2 * (x + p * y) ≡ b + 2 * x + p * 2 * y

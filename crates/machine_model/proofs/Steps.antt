@@ -18,7 +18,8 @@ use Rattle.bit_rows.specs.declared.TheConstants.{WIDTH_MAX}
 use Rattle.object_alloc.specs.declared.table.Object.{Object}
 use Rattle.object_alloc.specs.Listed.{Named, IsTable, without, has_name}
 use Rattle.object_alloc.proofs.Tables.{IsTable-without}
-use Rattle.bbop_isa.specs.Forms.{Place, Instruction, Bbop, Print, Free, Order}
+use Rattle.bbop_isa.specs.Forms.{Instruction, Bbop, Print, Free, Order}
+use Rattle.bbop_isa.specs.declared.instr.Place.{Place}
 use Rattle.bbop_isa.specs.declared.instr.Order.{Order as Orders}
 use Rattle.machine_model.specs.declared.Why.{Why}
 use Rattle.dram_model.specs.Elements.{column_count, segments_of}

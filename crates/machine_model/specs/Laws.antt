@@ -10,9 +10,11 @@ use Rattle.uprog_code.specs.declared.TheConstants.{WALK_MAX}
 use Rattle.dram_model.specs.Chip.{Banks, after, all_counted, row_in}
 use Rattle.dram_model.specs.Elements.{column_count}
 use Rattle.dram_model.specs.Events.{events_of as seen_by}
+use Rattle.object_alloc.specs.Free.{AreApart}
 use Rattle.object_alloc.specs.Listed.{Named, IsTable, limit_of, has_name}
 use Rattle.object_alloc.specs.Spelling.{IsObject, IsImage}
-use Rattle.bbop_isa.specs.Forms.{Instruction, Place, Bbop}
+use Rattle.bbop_isa.specs.Forms.{Instruction, Bbop}
+use Rattle.bbop_isa.specs.declared.instr.Place.{Place}
 use Rattle.bbop_isa.specs.Script.{script_of}
 use Rattle.uprog_code.specs.Machine.{HasEnded}
 use Rattle.uprog_code.specs.Fits.{Fits}
@@ -20,7 +22,7 @@ use Rattle.uprog_code.specs.Programs.{IsProgram}
 use Rattle.uprog_code.specs.Texts.{TextOp, ImplementsAll}
 use Rattle.machine_model.specs.Routines.{Program, Routine, Routines, routines_of}
 use Rattle.machine_model.specs.Routines.{routines_in}
-use Rattle.machine_model.specs.Refusals.{refusal, rows_of, goes_past, meets_one}
+use Rattle.machine_model.specs.Refusals.{refusal, rows_of, goes_past}
 use Rattle.machine_model.specs.Routines.{meaning_in}
 use Rattle.wave_model.specs.Schedule.{events_of_picks, IsWhole, Turn}
 use Rattle.machine_model.specs.Columns.{columns}
@@ -129,8 +131,8 @@ pub record OthersStay : Type 0 where
       (srcs : List Place) (count n : ℕ) (banks : Banks) (place : Place) → IsProgram p
       → IsTable (limit_of g) table → IsWidth n → has_name table place.name ≡ true
       → goes_past table place ≡ false
-      → meets_one (map (rows_of table) (dsts_of (routines_in p op) (dst ∷ srcs)))
-      (rows_of table place) ≡ false
+      → AllByRecursion (λ d. AreApart (rows_of table place) (rows_of table d))
+      (dsts_of (routines_in p op) (dst ∷ srcs))
       → columns g (banks_after g (routines_in p) table banks (Bbop op dst srcs count n))
       (rows_of table place) ≡ columns g banks (rows_of table place)
   pub sources : (g : Geometry) (p : Program) (table : List Named) (op : List ℕ) (dst : Place)

@@ -1,14 +1,20 @@
 -- The rows and the numbers of an operand: an object, or a part of one.
-use Rattle.std.specs.Prelude.{ℕ, ◌+◌, ◌*◌, ◌/◌, ◌%◌, ◌^◌, nat_lt, Bool, false, List, map}
+use Rattle.std.specs.Prelude.{ℕ, ◌+◌, ◌*◌, ◌/◌, ◌%◌, ◌^◌, nat_lt, Bool, true, false, ◌&&◌, List, map}
 use Rattle.std.specs.Prelude.{Option, Some, None}
 use Rattle.std.specs.List.{zip}
 use Rattle.object_alloc.specs.declared.table.Object.{Object}
-use Rattle.bbop_isa.specs.Forms.{Part}
+use Rattle.bbop_isa.specs.declared.instr.Part.{Part}
 
 -- the part ends past the object
 abbrev pub is_past : Option Part → Object → Bool
 is_past None o = false
 is_past (Some p) o = nat_lt o.width (p.low + p.size)
+
+-- two parts of one object have a bit in common
+abbrev pub share : Option Part → Option Part → Bool
+share None part = true
+share (Some p) None = true
+share (Some p) (Some q) = nat_lt p.low (q.low + q.size) && nat_lt q.low (p.low + p.size)
 
 -- the rows of a part are those of an object
 abbrev pub cut : Option Part → Object → Object

@@ -1,5 +1,5 @@
 -- When an instruction is refused: the table of conditions, in order.
-use Rattle.std.specs.Prelude.{ℕ, ◌+◌, ◌*◌, ◌^◌, ◌==◌, nat_lt, nat_le, Bool, not, is_none}
+use Rattle.std.specs.Prelude.{ℕ, ◌+◌, ◌*◌, ◌^◌, ◌==◌, nat_lt, nat_le, Bool, not, ◌&&◌, is_none}
 use Rattle.std.specs.Prelude.{if◌then◌else◌, List, [], ◌∷◌, ◌++◌, map, zip, length, take, drop}
 use Rattle.std.specs.Prelude.{Option, Some, None}
 use Rattle.std.specs.Option.{unwrap_or}
@@ -10,15 +10,16 @@ use Rattle.op_text.specs.declared.tree.Kind.{Kind}
 use Rattle.uprog_code.specs.Machine.{Trace, Ended, Stuck}
 use Rattle.uprog_code.specs.Shape.{Shape, width, need, results}
 use Rattle.object_alloc.specs.declared.table.Object.{Object}
-use Rattle.object_alloc.specs.Free.{free, meets}
+use Rattle.object_alloc.specs.Free.{free}
 use Rattle.object_alloc.specs.Listed.{limit_of, Named, objects_of, look_up, has_name}
-use Rattle.bbop_isa.specs.Forms.{Instruction, Place}
+use Rattle.bbop_isa.specs.Forms.{Instruction}
+use Rattle.bbop_isa.specs.declared.instr.Place.{Place}
 use Rattle.bbop_isa.specs.Forms.{Init, Bbop, Load, Fill, Print, Free, Order}
 use Rattle.machine_model.specs.declared.Why.{Why}
 use Rattle.machine_model.specs.declared.Why.TheVariants as why
 use Rattle.dram_model.specs.Elements.{column_count}
 use Rattle.machine_model.specs.Routines.{Routine, Routines}
-use Rattle.machine_model.specs.Places.{cut, is_past}
+use Rattle.machine_model.specs.Places.{cut, is_past, share}
 
 -- the first condition that holds
 abbrev pub first : List (Option Why) → Option Why
@@ -72,14 +73,15 @@ dsts_in shape places = take (length (results shape)) places
 abbrev pub srcs_in : Shape → List Place → List Place
 srcs_in shape places = drop (length (results shape)) places
 
--- the object has a row of one of these
-abbrev pub meets_one : List Object → Object → Bool
-meets_one others o = list_any (meets o.base o.width) others
+-- the operand has a bit of one of these
+abbrev pub meets_one : List Place → Place → Bool
+meets_one others place = list_any (λ other. bytes_eq place.name other.name
+    && share place.part other.part) others
 
--- of each destination, whether it has a row of one before it
-abbrev pub meet_before : List Object → List Object → List Bool
+-- of each destination, whether it has a bit of one before it
+abbrev pub meet_before : List Place → List Place → List Bool
 meet_before before [] = []
-meet_before before (o ∷ objects) = meets_one before o ∷ meet_before (o ∷ before) objects
+meet_before before (place ∷ places) = meets_one before place ∷ meet_before (place ∷ before) places
 
 -- the conditions on the operands of an operation of this shape, each upwards from the first
 -- destination
@@ -90,9 +92,8 @@ operand_conditions table shape places count n =
     ∷ at_place why.Slice 0 (map (goes_past table) places)
     ∷ at_place why.Width 0 (map (is_misfit n) (zip (results shape ++ shape.sources) operands))
     ∷ at_place why.Size 0 (map (λ o. not (o.count == count)) operands)
-    ∷ at_place why.Overlap 0 (meet_before [] (map (rows_of table) (dsts_in shape places))
-    ++ map (meets_one (map (rows_of table) (dsts_in shape places)))
-    (map (rows_of table) (srcs_in shape places)))
+    ∷ at_place why.Overlap 0 (meet_before [] (dsts_in shape places)
+    ++ map (meets_one (dsts_in shape places)) (srcs_in shape places))
     ∷ []
 
 -- the conditions on its walk and its scratch, where objects lie below the limit

@@ -5,7 +5,9 @@ use Rattle.dram_model.specs.declared.dram.Counters.{Counters}
 use Rattle.uprog_code.specs.declared.walker.Why3.{Why3}
 use Rattle.uprog_code.specs.declared.walker.Why3.TheVariants.{Index, Register, Budget}
 use Rattle.object_alloc.specs.Listed.{Named}
-use Rattle.bbop_isa.specs.Forms.{Instruction, Place, Part}
+use Rattle.bbop_isa.specs.Forms.{Instruction}
+use Rattle.bbop_isa.specs.declared.instr.Part.{Part}
+use Rattle.bbop_isa.specs.declared.instr.Place.{Place}
 use Rattle.bbop_isa.specs.Forms.{Init, Bbop, Load, Fill, Print, Free, Order}
 use Rattle.machine_model.specs.declared.Reply.{Reply}
 use Rattle.machine_model.specs.declared.Reply.TheVariants.{Done, Refused}

@@ -22,7 +22,8 @@ use Rattle.uprog_code.specs.Count.{counts_of}
 use Rattle.object_alloc.specs.declared.table.Object.{Object}
 use Rattle.object_alloc.specs.Free.{free, has_row}
 use Rattle.object_alloc.specs.Listed.{Named, objects_of, without}
-use Rattle.bbop_isa.specs.Forms.{Instruction, Place}
+use Rattle.bbop_isa.specs.Forms.{Instruction}
+use Rattle.bbop_isa.specs.declared.instr.Place.{Place}
 use Rattle.bbop_isa.specs.Forms.{Init, Bbop, Load, Fill, Print, Free, Order}
 use Rattle.machine_model.specs.declared.Reply.{Reply}
 use Rattle.machine_model.specs.declared.Reply.TheVariants.{Done, Refused}
