@@ -18,7 +18,7 @@ use Rattle.machine_model.specs.Steps.{through, new_numbers}
 use Rattle.bbop_isa.specs.declared.instr.Part.{Part}
 use Rattle.bbop_isa.specs.declared.instr.Place.{Place}
 use Rattle.machine_model.specs.Places.{cut, is_past, seen, put, put_all}
-use Rattle.machine_model.proofs.Placed.{IsPlaced, AreResults, KeepsRest}
+use Rattle.machine_model.proofs.Placed.{IsPlaced, AreResults}
 use Rattle.machine_model.proofs.Sliced.{replaces, number_same, has_from}
 use Rattle.machine_model.proofs.Below.{below_run, below_same, through_in, through_same}
 use Rattle.machine_model.proofs.Sliced.{map_cong, map_map}
@@ -229,24 +229,3 @@ meet g banks job rows result dsts name o count all counts e kept are =
           kept s row (has_from o row a b)
           (not_in rows name o count row dsts all h (has_from o row a b)))))
           ∙ sym (not_named rows name o count result 0 dsts (columns g banks o) h)
-
-each_same : {X : Type 0} (f h : X → ℕ) (P : X → Type 0) (xs : List X) → AllByRecursion P xs
-    → ((x : X) → P x → f x ≡ h x) → map f xs ≡ map h xs
-each_same f h P [] all e = refl
-each_same f h P (x ∷ xs) all e = rw (e x all.0, each_same f h P xs all.1 e) refl
-
--- The same of columns that are changed one by one
-pub changed : (rows : Place → Object) (name : List ℕ) (o : Object) (count : ℕ) (d : Place)
-    (numbers : List ℕ) (pairs : List (Column × Column)) → IsPlaced rows name o count d
-    → AllByRecursion (KeepsRest o (rows d)) pairs
-    → map (λ z. number (rows d).base (rows d).width z.1) pairs ≡ numbers
-    → map (λ z. number o.base o.width z.1) pairs
-    ≡ new_numbers (λ k. numbers) 0 (d ∷ []) name (map (λ z. number o.base o.width z.0) pairs)
-changed rows name o count d numbers pairs is kept spelled =
-    each_same (λ z. number o.base o.width z.1)
-    (λ z. number o.base o.width (merge rows (d ∷ []) z.0 z.1)) (KeepsRest o (rows d)) pairs kept
-    (λ z keeps. sym (number_same o.base o.width z.1 (merge rows (d ∷ []) z.0 z.1) (λ row a b.
-    merge_row rows (d ∷ []) z.0 z.1 row (λ none.
-    keeps row (has_from o row a b) (or_false (has_row (rows d) row) false none).0))))
-    ∙ all_put rows name o count (λ k. numbers) 0 pairs (λ z. z.1) (λ z. z.0) (d ∷ []) (is, tt)
-    (sym spelled, tt)

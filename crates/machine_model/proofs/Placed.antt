@@ -30,8 +30,3 @@ abbrev pub AreResults : Geometry → Banks → (Place → Object) → (ℕ → L
 AreResults g banks rows result k [] = Unit {0}
 AreResults g banks rows result k (d ∷ dsts) = (columns g banks (rows d) ≡ result k)
     × AreResults g banks rows result (k + 1) dsts
-
--- of a column before and after, the object's rows outside these stay
-abbrev pub KeepsRest : Object → Object → Column × Column → Type 0
-KeepsRest o rows z = (row : ℕ) → has_row o row ≡ true → has_row rows row ≡ false
-    → z.1 (D row) ≡ z.0 (D row)

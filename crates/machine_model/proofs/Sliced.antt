@@ -17,7 +17,8 @@ use Rattle.machine_model.specs.Columns.{columns, segments}
 use Rattle.machine_model.specs.Steps.{through, new_numbers}
 use Rattle.bbop_isa.specs.declared.instr.Part.{Part}
 use Rattle.bbop_isa.specs.declared.instr.Place.{Place}
-use Rattle.machine_model.specs.Places.{cut, is_past, seen, put, put_all}
+use Rattle.machine_model.specs.Places.{cut, is_past, seen, put}
+use Rattle.machine_model.specs.Laws.{PartsAreBits}
 
 spread : (b x p y : ℕ) → b + 2 * (x + p * y) ≡ b + 2 * x + p * 2 * y
 spread b x p y = omega arith
@@ -174,7 +175,14 @@ bit_above v m k = ap (λ q. eqb (v / q % 2) 1) (pow-add 2 m k)
 mod_small : (v k : ℕ) → v % 2 ^ k < 2 ^ k
 mod_small v k = omega (arith, pow_pos k)
 
-pub put_below : (p : Part) (old new k : ℕ) → k < p.low
+seen_bit : (p : Part) (v k : ℕ) → k < p.size
+    → bit_at (seen (Some p) v) k ≡ bit_at v (p.low + k)
+seen_bit p v k h =
+    let x = v / 2 ^ p.low in
+    sym (bit_below (x % 2 ^ p.size) (x / 2 ^ p.size) p.size k h)
+    ∙ ap (λ y. bit_at y k) (mod-add-div x (2 ^ p.size)) ∙ sym (bit_above v p.low k)
+
+put_below : (p : Part) (old new k : ℕ) → k < p.low
     → bit_at (put (Some p) old new) k ≡ bit_at old k
 put_below p old new k h =
     bit_below (old % 2 ^ p.low) (new + 2 ^ p.size * (old / 2 ^ (p.low + p.size))) p.low k h
@@ -186,18 +194,13 @@ put_high : (p : Part) (old new : ℕ) → put (Some p) old new / 2 ^ p.low
 put_high p old new = high_of (old % 2 ^ p.low) (2 ^ p.low)
     (new + 2 ^ p.size * (old / 2 ^ (p.low + p.size))) (mod_small old p.low)
 
-pub put_seen : (p : Part) (old new : ℕ) → new < 2 ^ p.size
-    → seen (Some p) (put (Some p) old new) ≡ new
-put_seen p old new h = ap (λ v. v % 2 ^ p.size) (put_high p old new)
-    ∙ low_of new (2 ^ p.size) (old / 2 ^ (p.low + p.size)) h
-
-pub put_inside : (p : Part) (old new k : ℕ) → k < p.size
+put_inside : (p : Part) (old new k : ℕ) → k < p.size
     → bit_at (put (Some p) old new) (p.low + k) ≡ bit_at new k
 put_inside p old new k h = bit_above (put (Some p) old new) p.low k
     ∙ ap (λ v. bit_at v k) (put_high p old new)
     ∙ bit_below new (old / 2 ^ (p.low + p.size)) p.size k h
 
-pub put_past : (p : Part) (old new k : ℕ) → new < 2 ^ p.size → p.low + p.size ≤ k
+put_past : (p : Part) (old new k : ℕ) → new < 2 ^ p.size → p.low + p.size ≤ k
     → bit_at (put (Some p) old new) k ≡ bit_at old k
 put_past p old new k small h =
     let r = k - (p.low + p.size) in
@@ -209,6 +212,16 @@ put_past p old new k small h =
     ∙ high_of new (2 ^ p.size) (old / 2 ^ (p.low + p.size)) small in
     ap (bit_at (put (Some p) old new)) e ∙ bit_above (put (Some p) old new) (p.low + p.size) r
     ∙ ap (λ v. bit_at v r) top ∙ sym (bit_above old (p.low + p.size) r) ∙ ap (bit_at old) (sym e)
+
+-- a part of a number is its bits
+pub parts_are_bits : PartsAreBits
+parts_are_bits = record {
+  read = seen_bit;
+  small = λ p v. mod_small (v / 2 ^ p.low) p.size;
+  inside = put_inside;
+  below = put_below;
+  past = put_past;
+}
 
 pub map_cong : {X Y : Type 0} (f h : X → Y) (xs : List X) → ((x : X) → f x ≡ h x)
     → map f xs ≡ map h xs

@@ -1,10 +1,11 @@
 -- Laws of whole scripts.
-use Rattle.std.specs.Prelude.{◌≡◌, ℕ, ◌+◌, ◌*◌, ◌<◌, ◌≤◌, ◌||◌, true, false, List, ◌∷◌, ◌++◌, map}
+use Rattle.std.specs.Prelude.{◌≡◌, ℕ, ◌+◌, ◌*◌, ◌^◌, ◌<◌, ◌≤◌, ◌||◌, true, false, List, ◌∷◌, ◌++◌, map}
 use Rattle.std.specs.Prelude.{length, flat_map, take, drop, All, Some, None, Ok}
 use Rattle.std.specs.List.{AllByRecursion}
 use Rattle.dram_model.specs.declared.geometry.Geometry.{Geometry}
 use Rattle.dram_model.specs.declared.dram.Counters.{Counters}
 use Rattle.dram_model.specs.Geometry.{is_geometry}
+use Rattle.bit_rows.specs.Bits.{bit_at}
 use Rattle.bit_rows.specs.declared.TheConstants.{WIDTH_MAX}
 use Rattle.uprog_code.specs.declared.TheConstants.{WALK_MAX}
 use Rattle.dram_model.specs.Chip.{Banks, after, all_counted, row_in}
@@ -14,6 +15,7 @@ use Rattle.object_alloc.specs.Free.{AreApart}
 use Rattle.object_alloc.specs.Listed.{Named, IsTable, limit_of, has_name}
 use Rattle.object_alloc.specs.Spelling.{IsObject, IsImage}
 use Rattle.bbop_isa.specs.Forms.{Instruction, Bbop}
+use Rattle.bbop_isa.specs.declared.instr.Part.{Part}
 use Rattle.bbop_isa.specs.declared.instr.Place.{Place}
 use Rattle.bbop_isa.specs.Script.{script_of}
 use Rattle.uprog_code.specs.Machine.{HasEnded}
@@ -22,6 +24,7 @@ use Rattle.uprog_code.specs.Programs.{IsProgram}
 use Rattle.uprog_code.specs.Texts.{TextOp, ImplementsAll}
 use Rattle.machine_model.specs.Routines.{Program, Routine, Routines, routines_of}
 use Rattle.machine_model.specs.Routines.{routines_in}
+use Rattle.machine_model.specs.Places.{seen, put}
 use Rattle.machine_model.specs.Refusals.{refusal, rows_of, goes_past}
 use Rattle.machine_model.specs.Routines.{meaning_in}
 use Rattle.wave_model.specs.Schedule.{events_of_picks, IsWhole, Turn}
@@ -142,6 +145,19 @@ pub record OthersStay : Type 0 where
       → AllByRecursion (λ place. columns g (banks_after g (routines_in p) table banks
       (Bbop op dst srcs count n)) (rows_of table place)
       ≡ columns g banks (rows_of table place)) (srcs_of (routines_in p op) (dst ∷ srcs))
+
+-- What is read of a part are the number's bits from LO on; what is written replaces these bits, and
+-- no other
+pub record PartsAreBits : Type 0 where
+  pub read : (p : Part) (v k : ℕ) → k < p.size
+      → bit_at (seen (Some p) v) k ≡ bit_at v (p.low + k)
+  pub small : (p : Part) (v : ℕ) → seen (Some p) v < 2 ^ p.size
+  pub inside : (p : Part) (old new k : ℕ) → k < p.size
+      → bit_at (put (Some p) old new) (p.low + k) ≡ bit_at new k
+  pub below : (p : Part) (old new k : ℕ) → k < p.low
+      → bit_at (put (Some p) old new) k ≡ bit_at old k
+  pub past : (p : Part) (old new k : ℕ) → new < 2 ^ p.size → p.low + p.size ≤ k
+      → bit_at (put (Some p) old new) k ≡ bit_at old k
 
 -- What an accepted script says is plain
 abbrev pub AcceptedIsPlain : Type 0

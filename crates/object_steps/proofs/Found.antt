@@ -1,6 +1,6 @@
 -- The object that a name finds.
 use Rattle.std.proofs.Common.{◌≡◌, ℕ, Bool, true, false, cond, List, [], ◌∷◌, Option, Some, None}
-use Rattle.std.proofs.Common.{refl, sym, ◌∙◌, ap, subst}
+use Rattle.std.proofs.Common.{refl, sym, ◌∙◌, ap, subst, arith}
 use Rattle.std.specs.Prelude.{All, is_some, unwrap_or, not, ◌||◌}
 use Rattle.std.specs.List.{find}
 use Rattle.std.specs.Option.{option_map}
@@ -8,8 +8,16 @@ use Rattle.std.specs.Str.{bytes_eq}
 use Rattle.std.proofs.lemmas.List.Elements.{All-head, All-tail}
 use Rattle.object_alloc.specs.declared.table.Object.{Object}
 use Rattle.object_alloc.specs.Listed.{Named, has_name, look_up, without}
-use Rattle.machine_model.specs.Refusals.{is_absent, nothing, object_named}
+use Rattle.dram_model.specs.declared.geometry.Geometry.{Geometry}
+use Rattle.object_alloc.specs.Spelling.{IsObject}
+use Rattle.bbop_isa.specs.declared.instr.Part.{Part}
+use Rattle.machine_model.specs.declared.Why.{Why}
+use Rattle.machine_model.specs.declared.Why.TheVariants as why
+use Rattle.machine_model.specs.Places.{cut, is_past}
+use Rattle.machine_model.specs.Refusals.{first, is_absent, nothing, object_named, when}
 use Rattle.machine_model.proofs.First.{look_up-some}
+use Rattle.machine_model.proofs.Sliced.{within}
+use Rattle.object_steps.specs.Objects.{FitsOn}
 
 -- an object that is found has its name in the table
 pub has_found : (pairs : List Named) (name : List ℕ) (o : Object) → Some o ≡ look_up pairs name
@@ -61,3 +69,22 @@ pub without_absent : (pairs : List Named) (name : List ℕ) → has_name pairs n
 without_absent [] name h = refl
 without_absent (p ∷ pairs) name h = without_case p (without pairs name) pairs (bytes_eq p.0 name)
     (has_name pairs name) h (without_absent pairs name)
+
+-- a part of an object fits where the object does
+pub part_fits : (g : Geometry) (o : Object) (part : Option Part) → is_past part o ≡ false
+    → IsObject g o → FitsOn g (cut part o)
+part_fits g o None h is = record { narrow = is.narrow; some = is.some; fits = is.fits }
+part_fits g o (Some p) h is = record {
+  narrow = omega (arith, is.narrow, within o p h);
+  some = is.some;
+  fits = is.fits;
+}
+
+-- why an operand is refused, whatever is asked after it
+pub absent_refused : (absent past : Bool) (rest : List (Option Why)) → absent ≡ true
+    → first (when absent (why.NoObject 0) ∷ when past (why.Slice 0) ∷ rest) ≡ Some (why.NoObject 0)
+absent_refused absent past rest e = rw e refl
+
+pub past_refused : (absent past : Bool) (rest : List (Option Why)) → absent ≡ false → past ≡ true
+    → first (when absent (why.NoObject 0) ∷ when past (why.Slice 0) ∷ rest) ≡ Some (why.Slice 0)
+past_refused absent past rest e f = rw (e, f) refl

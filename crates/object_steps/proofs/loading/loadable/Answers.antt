@@ -5,8 +5,8 @@ use Rattle.object_steps.proofs.loading.loadable.Goals as goal
 
 pub returns-in-Some-clause-refused : goal.returns-in-Some-clause-refused
 returns-in-Some-clause-refused c = λ operations.
-    load_refused c.args.g operations c.args.table.now.pairs c.args.name.now c.args.values.now
-    c.in-Ok.o c.in-Some.at _ c.in-Ok.ensures.there c.in-Ok.ensures.object (omega arith)
+    load_refused c.args.g operations c.args.table.now.pairs c.args.place.now c.args.values.now
+    c.in-Ok.o c.in-Some.at _ c.in-Ok.ensures.there c.in-Ok.ensures.inside c.in-Ok.ensures.object (omega arith)
     c.in-Some.ensures.value (omega arith)
 
 pub returns-in-None-clause-small : goal.returns-in-None-clause-small
@@ -15,5 +15,5 @@ returns-in-None-clause-small c =
 
 pub returns-in-None-clause-allowed : goal.returns-in-None-clause-allowed
 returns-in-None-clause-allowed c = λ operations.
-    load_allowed c.args.g operations c.args.table.now.pairs c.args.name.now c.args.values.now
-    c.in-Ok.o c.in-Ok.ensures.there c.in-Ok.ensures.object (omega arith) c.in-None.ensures.value
+    load_allowed c.args.g operations c.args.table.now.pairs c.args.place.now c.args.values.now
+    c.in-Ok.o c.in-Ok.ensures.there c.in-Ok.ensures.inside c.in-Ok.ensures.object (omega arith) c.in-None.ensures.value

@@ -73,8 +73,8 @@ returns-in_err-add_values-clause-part g c = λ operations.
     (take o.count (columns c.args.g banks o)) in
     on_err c.from_residual.result (subst (λ (xs : List ℕ). Known (AppendsPart xs) began.sent
     after.sent) (printed_is c.args.g operations c.args.table.now.pairs banks c.args.number
-    c.args.name.now c.args.shown.now c.line_head-text.result.items o c.in-Ok.ensures.there
-    c.in-Ok.ensures.object c.line_head-text.ensures.text) (part_of_more front (codes "\n")
+    c.args.place.now c.args.shown.now c.line_head-text.result.items o c.in-Ok.ensures.there
+    c.in-Ok.ensures.inside c.in-Ok.ensures.object c.line_head-text.ensures.text) (part_of_more front (codes "\n")
     began.sent after.sent c.in_err-add_values.ensures.part))
 
 pub returns-in-Ok-put-clause-rises : goal.returns-in-Ok-put-clause-rises
@@ -96,8 +96,8 @@ returns-in-Ok-put-clause-sent g c = λ operations.
     let last : List ℕ = c.as_slice.result.now in
     let whole : last ≡ held ++ codes "\n" = c.as_slice.ensures.value ∙ c.add.ensures.text in
     let all = printed_is c.args.g operations c.args.table.now.pairs banks c.args.number
-    c.args.name.now c.args.shown.now c.line_head-text.result.items o c.in-Ok.ensures.there
-    c.in-Ok.ensures.object c.line_head-text.ensures.text in
+    c.args.place.now c.args.shown.now c.line_head-text.result.items o c.in-Ok.ensures.there
+    c.in-Ok.ensures.inside c.in-Ok.ensures.object c.line_head-text.ensures.text in
     subst (λ (xs : List ℕ). Known (λ old new. new ≡ old ++ xs) began.sent after.sent) all
     (then_all (front ++ codes "\n") last began.sent before.sent after.sent
     (more_held front held (codes "\n") last began.sent before.sent whole
@@ -116,8 +116,8 @@ returns-in-Err-put-clause-part g c = λ operations.
     let last : List ℕ = c.as_slice.result.now in
     let whole : last ≡ held ++ codes "\n" = c.as_slice.ensures.value ∙ c.add.ensures.text in
     let all = printed_is c.args.g operations c.args.table.now.pairs banks c.args.number
-    c.args.name.now c.args.shown.now c.line_head-text.result.items o c.in-Ok.ensures.there
-    c.in-Ok.ensures.object c.line_head-text.ensures.text in
+    c.args.place.now c.args.shown.now c.line_head-text.result.items o c.in-Ok.ensures.there
+    c.in-Ok.ensures.inside c.in-Ok.ensures.object c.line_head-text.ensures.text in
     subst (λ (xs : List ℕ). Known (AppendsPart xs) began.sent after.sent) all
     (then_part (front ++ codes "\n") last began.sent before.sent after.sent
     (more_held front held (codes "\n") last began.sent before.sent whole
