@@ -1,6 +1,6 @@
 -- Operands and numbers that are checked one after another.
 use Rattle.std.proofs.Common.{◌≡◌, ℕ, ◌+◌, ◌<◌, ◌≤◌, nat_lt, Bool, true, false, ◌&&◌, List, [], ◌∷◌, ◌++◌, map}
-use Rattle.std.proofs.Common.{drop, length, get_or, Option, Some, None, refl, ap}
+use Rattle.std.proofs.Common.{drop, length, get_or, Option, refl, ap}
 use Rattle.std.proofs.Common.{◌∙◌, append_assoc, arith, drop-cons, add-one, length-append}
 use Rattle.std.specs.Option.{is_some}
 use Rattle.std.specs.List.{list_all}
@@ -48,8 +48,13 @@ places_go_on all places new i d place so_far within right meant same =
       count = grind (arith, length-append, so_far.count, same);
       named = named.1;
       right = so_far.right ∙ rw (rest, two.1) refl;
-      items = so_far.items ∙ rw (rest, same, meant, append_assoc places (place_of written ∷ [])
-          (map place_of (map written_view (drop (i + 1) all)))) refl;
+      items = so_far.items ∙ rw (
+        rest,
+        same,
+        meant,
+        append_assoc places (place_of written ∷ [])
+            (map place_of (map written_view (drop (i + 1) all))),
+      ) refl;
     }
 
 -- one that is wrong

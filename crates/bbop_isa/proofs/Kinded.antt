@@ -9,7 +9,6 @@ use Rattle.std.specs.List.{list_any, starts_with}
 use Rattle.std.proofs.lemmas.Bool.Decides.{nat_tests}
 use Rattle.std.proofs.lemmas.List.{take-append-drop}
 use Rattle.std.proofs.lemmas.Slice.Eq.{bytes_eq-Decides}
-use Rattle.text_lex.specs.Spelled.{fits_name}
 use Rattle.text_lex.specs.Lexical.{Item, Whole as Token, Bad, items_of}
 use Rattle.bbop_isa.specs.declared.forms.Verb.{Verb}
 use Rattle.bbop_isa.specs.declared.forms.Verb.TheVariants as verb

@@ -1,5 +1,5 @@
 -- What a line says is right.
-use Rattle.std.proofs.Common.{◌≡◌, ℕ, ◌+◌, ◌≤◌, ◌<◌, ◌^◌, nat_le, nat_lt, Bool, true, false, ◌&&◌}
+use Rattle.std.proofs.Common.{◌≡◌, ℕ, ◌≤◌, ◌<◌, ◌^◌, nat_le, nat_lt, Bool, true, false, ◌&&◌}
 use Rattle.std.proofs.Common.{List, [], ◌∷◌, map, length, Option, Some, None, Ok, refl, subst, sym}
 use Rattle.std.proofs.Common.{arith}
 use Rattle.std.specs.List.{list_all, AllByRecursion}
@@ -9,10 +9,10 @@ use Rattle.text_lex.specs.Spelled.{fits_name}
 use Rattle.bit_rows.specs.declared.TheConstants.{WIDTH_MAX}
 use Rattle.bbop_isa.specs.Operands.{Written, Whole, Bit, Bits}
 use Rattle.bbop_isa.specs.Forms.{Instruction, is_bit, is_count, is_width, number_or_zero, line_of}
-use Rattle.bbop_isa.specs.Forms.{name_of, has_name, has_bits, place_of}
+use Rattle.bbop_isa.specs.Forms.{has_name, has_bits, place_of}
 use Rattle.bbop_isa.specs.Kinds.{Form, InitForm, BbopForm, LoadForm, FillForm, PrintForm, FreeForm}
 use Rattle.bbop_isa.specs.Kinds.{InOrder, TurnsOrder, SeedOrder, IsForm, names_fit, numbers_fit}
-use Rattle.bbop_isa.specs.Kinds.{meaning, IsLine}
+use Rattle.bbop_isa.specs.Kinds.{meaning}
 use Rattle.bbop_isa.specs.Laws.{AreSizes, IsRightPlace, IsRight}
 use Rattle.bbop_isa.proofs.Kinded.{lines_are}
 
@@ -65,8 +65,7 @@ form_is_right (InitForm name count n) is names numbers = (names, sizes count n n
 form_is_right (BbopForm op dst srcs count n) is names numbers =
     let named = both (fits_name op) (list_all has_name (dst ∷ srcs)) names in
     let b = both (list_all has_bits (dst ∷ srcs)) (is_count count && is_width n) numbers in
-    let few : length (map place_of srcs) ≡ length srcs = length-map srcs place_of in
-    (
+    let few : length (map place_of srcs) ≡ length srcs = length-map srcs place_of in (
       named.0,
       places_are_right (dst ∷ srcs) named.1 b.0,
       is.0,

@@ -1,13 +1,14 @@
 -- Words as terms, and terms as words.
-use Rattle.std.proofs.Common.{◌≡◌, Bool, true, false, List, [], ◌∷◌, ◌++◌, map, drop, Option, Some}
-use Rattle.std.proofs.Common.{None, ℕ, zero, suc, ◌+◌, ◌<◌, length, get_or, refl, ap, ◌∙◌, arith}
+use Rattle.std.proofs.Common.{◌≡◌, Bool, true, false, List, [], ◌∷◌, map, drop, Option, Some}
+use Rattle.std.proofs.Common.{None, ℕ, zero, suc, ◌+◌, ◌<◌, ◌-◌, length, take, get_or, refl, ap}
+use Rattle.std.proofs.Common.{◌∙◌, arith}
+use Rattle.std.proofs.Math.Seq.{take-length}
 use Rattle.std.specs.List.{flat_map}
 use Rattle.bbop_isa.specs.declared.words.Word.{Word as Kept}
-use Rattle.bbop_isa.specs.declared.words.Word.TheVariants as kept
 use Rattle.bbop_isa.specs.Words.{word_view}
 use Rattle.bbop_isa.specs.Words.{Word, Name, Number, Comma, Open, Colon, Close, Other}
 use Rattle.bbop_isa.specs.Operands.{Written, Whole, Bit, Bits, Term, Named, Value, Break, Stray}
-use Rattle.bbop_isa.specs.Operands.{terms_of, written_words, term_words}
+use Rattle.bbop_isa.specs.Operands.{terms_of, term_words}
 use Rattle.bbop_isa.specs.Reading.{bit_in, bits_in}
 
 -- each word belongs to a term that may stand in a line
@@ -237,10 +238,11 @@ bits_are_kept name words low high is = bits_are_read name (map word_view words) 
 
 pub name_is_first : (words : List Kept) (name : List ℕ) (place : Written) (k : ℕ) (w : Kept)
     → 0 < length words → get_or words 0 w ≡ w → word_view w ≡ Name name
-    → terms_of (Name name ∷ map word_view (drop 1 words))
-    ≡ Named place ∷ terms_of (map word_view (drop k (drop 1 words)))
+    → terms_of (Name name ∷ map word_view (take (length words - 1) (drop 1 words)))
+    ≡ Named place ∷ terms_of (map word_view (drop k (take (length words - 1) (drop 1 words))))
     → terms_of (map word_view words) ≡ Named place ∷ terms_of (map word_view (drop (1 + k) words))
 name_is_first [] name place k w some first is read = absurd (omega (arith, some))
 name_is_first (word ∷ words) name place k w some first is read =
     let e : 1 + k ≡ suc k = omega arith in
-    rw (first, is, e) read
+    let f : suc (length words) - 1 ≡ length words = omega arith in
+    rw (first, is, e) (rw (f, take-length words) at read)

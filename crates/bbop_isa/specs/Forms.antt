@@ -11,7 +11,6 @@ use Rattle.bbop_isa.specs.declared.forms.Verb.{Verb}
 use Rattle.bbop_isa.specs.declared.forms.Verb.TheVariants as verb
 use Rattle.bbop_isa.specs.declared.instr.Order.{Order as Orders}
 use Rattle.bbop_isa.specs.declared.instr.Order.TheVariants.{Forward, Turns, Seed}
-use Rattle.bbop_isa.specs.declared.instr.Part.{Part}
 use Rattle.bbop_isa.specs.declared.instr.Place.{Place}
 use Rattle.bbop_isa.specs.declared.instr.Instr.{Instr}
 use Rattle.bbop_isa.specs.declared.instr.Instr.TheVariants as instr

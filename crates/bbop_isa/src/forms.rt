@@ -177,11 +177,17 @@ fn has_name(written: &Written<'_>) -> bool
     Name::new(written.name()).is_some()
 }
 
-/// Whether each operand's name is right.
-fn are_named(places: &[Written<'_>]) -> bool
+fn all_have_names(places: &[Written<'_>]) -> bool
     ensures { result ≡ list_all (λ place. has_name (written_view place)) places.now }
 {
     places.iter().all(|place| has_name(place))
+}
+
+/// Whether each operand's name is right.
+fn are_named(places: &[Written<'_>]) -> bool
+    ensures { result ≡ list_all has_name (map written_view places.now) }
+{
+    all_have_names(places)
 }
 
 /// The name of an operation, where it and those of its operands are right.
@@ -258,11 +264,7 @@ fn targets<'a, 'b>(places: &'b [Written<'a>]) -> Option<(&'b Written<'a>, &'b [W
     }
 }
 
-fn bbop_of(
-    op: &[u8],
-    places: &[Written<'_>],
-    numbers: &[Digits<'_>],
-) -> Result<Instr, LineError>
+fn bbop_of(op: &[u8], places: &[Written<'_>], numbers: &[Digits<'_>]) -> Result<Instr, LineError>
     ensures { Gives view_of (bbop_of op.now (map written_view places.now) numbers.now) result }
 {
     let Some((dst, srcs)) = targets(places) else {

@@ -63,13 +63,10 @@ fn bits_in<'a>(words: &[Word<'a>]) -> Option<(Digits<'a>, Digits<'a>)>
 {
     match words {
         [open, low, colon, high, close, ..] => match (open, low, colon, high, close) {
-            (
-                Word::Open,
-                Word::Number(low),
-                Word::Colon,
-                Word::Number(high),
-                Word::Close,
-            ) => Some((low.copied(), high.copied())),
+            (Word::Open, Word::Number(low), Word::Colon, Word::Number(high), Word::Close) => Some((
+                low.copied(),
+                high.copied(),
+            )),
             _ => None,
         },
         _ => None,
