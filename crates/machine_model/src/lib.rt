@@ -22,6 +22,7 @@ pub enum Why {
     NoOp,
     Arity,
     NoObject(u32),
+    Slice(u32),
     Width(u32),
     Size(u32),
     Overlap(u32),
