@@ -1,14 +1,16 @@
 -- What an instruction comes to, where it is done and where it is refused.
 use Rattle.std.proofs.Common.{◌≡◌, ℕ, ◌+◌, ◌<◌, ◌≤◌, true, false, List, [], Option, Some}
 use Rattle.std.proofs.Common.{None, length, map, refl, sym, ◌∙◌, ap, arith, nat_le, position}
-use Rattle.std.proofs.Common.{◌-◌, ◌∷◌, subst}
+use Rattle.std.proofs.Common.{◌-◌, ◌∷◌, ◌++◌, append-nil, cond, subst}
 use Rattle.std.specs.Prelude.{◌^◌, unwrap_or}
 use Rattle.std.proofs.lemmas.Bool.{eq-eqb}
 use Rattle.dram_model.specs.declared.geometry.Geometry.{Geometry}
 use Rattle.dram_model.specs.Chip.{Banks, Event}
-use Rattle.dram_model.specs.View.{ChipView, Did}
+use Rattle.dram_model.specs.declared.dram.Counters.{Counters}
+use Rattle.dram_model.specs.View.{ChipView, Did, DidRead, with_reads}
+use Rattle.host_edge.specs.Views.{Known}
 use Rattle.transpose_unit.specs.Stopped.{StoppedWithin}
-use Rattle.dram_model.proofs.EventLaws.{Did-none}
+use Rattle.dram_model.proofs.EventLaws.{Did-none, Grew-none}
 use Rattle.uprog_code.specs.declared.walker.Counts.{Counts}
 use Rattle.object_alloc.specs.declared.table.Object.{Object}
 use Rattle.object_alloc.specs.Free.{are_free, free}
@@ -101,3 +103,27 @@ found_within limit objects k base some e =
 pub same_after : {X : Type 0} (r : Option Why) (reason : Why) (new old : X) → r ≡ Some reason
     → old ≡ if_done r new old
 same_after r reason new old e = rw e refl
+
+reads_stay : (k : Counters) → k ≡ with_reads 0 k
+reads_stay k = let e : k.reads ≡ k.reads + 0 = omega arith in rw (← e) refl
+
+no_reads : (a : ChipView) → DidRead 0 a a
+no_reads a = record {
+  banks = refl;
+  counters = reads_stay a.counters;
+  faults = refl;
+  log = Grew-none a.log;
+}
+
+nothing_sent : (sent : Option (List ℕ)) → Known (λ x y. y ≡ x ++ []) sent sent
+nothing_sent None = tt
+nothing_sent (Some xs) = sym (append-nil xs)
+
+-- a refused print reads nothing, and nothing is said by it
+pub did_not_read : (r : Option Why) (reason : Why) (n : ℕ) (a : ChipView) → r ≡ Some reason
+    → DidRead (cond (is_none r) n 0) a a
+did_not_read r reason n a e = rw e (no_reads a)
+
+pub sent_nothing : (r : Option Why) (reason : Why) (text : List ℕ) (sent : Option (List ℕ))
+    → r ≡ Some reason → Known (λ x y. y ≡ x ++ if_done r text []) sent sent
+sent_nothing r reason text sent e = rw e (nothing_sent sent)

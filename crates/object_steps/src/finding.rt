@@ -13,7 +13,7 @@ ghost use Rattle.machine_model.specs.declared.Why.{Why};
 use bbop_isa::{Part, Place};
 use dram_model::Geometry;
 use machine_model::Why;
-use object_alloc::{Object, Table};
+use object_alloc::{OBJECTS_MAX, Object, Table};
 use text_lex::Name;
 
 /// What is read of a name that no object has.
@@ -59,6 +59,7 @@ fn cut(part: Option<Part>, o: Object) -> Object
 pub fn rows_of(table: &Table, place: &Place) -> Object
     ensures { result ≡ rows_of table.now.pairs place.now }
 {
+    prove!(usize::from(table.len()) <= OBJECTS_MAX);
     cut(place.part, object_named(table, &place.name))
 }
 

@@ -1,7 +1,15 @@
-use Rattle.std.proofs.Common.{arith}
+use Rattle.std.proofs.Common.{[], ◌∷◌, ◌^◌, arith, eqb, length, map, nat_le, not}
+use Rattle.machine_model.specs.declared.Why.TheVariants as why
+use Rattle.machine_model.specs.Refusals.{at_place, rows_of, when}
 use Rattle.object_steps.proofs.Done.{load_refused, load_allowed}
 use Rattle.object_steps.proofs.Refused.{all_small}
 use Rattle.object_steps.proofs.loading.loadable.Goals as goal
+
+pub returns-in-Err-clause-refused : goal.returns-in-Err-clause-refused
+returns-in-Err-clause-refused c = λ operations.
+    let o = rows_of c.args.table.now.pairs c.args.place.now in
+    c.in-Err.ensures.refused (when (not (eqb (length c.args.values.now) o.count)) why.Count
+    ∷ at_place why.Range 1 (map (λ v. nat_le (2 ^ o.width) v) c.args.values.now) ∷ [])
 
 pub returns-in-Some-clause-refused : goal.returns-in-Some-clause-refused
 returns-in-Some-clause-refused c = λ operations.

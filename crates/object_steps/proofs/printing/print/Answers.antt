@@ -1,9 +1,16 @@
-use Rattle.std.proofs.Common.{◌≡◌, ◌++◌, ◌∙◌, List, ℕ, arith, refl, subst, take}
+use Rattle.std.proofs.Common.{◌≡◌, ◌++◌, ◌∙◌, List, [], ℕ, arith, refl, subst, take}
 use Rattle.std.specs.Prelude.{codes}
 use Rattle.host_edge.specs.Views.{Known, AppendsPart}
 use Rattle.dram_model.proofs.EventLaws.{Grew-none, Kept-same}
 use Rattle.machine_model.specs.Columns.{columns}
-use Rattle.object_steps.specs.Lines.{values_text}
+use Rattle.bbop_isa.specs.Forms.{Print}
+use Rattle.machine_model.specs.Refusals.{refusal}
+use Rattle.machine_model.specs.Report.{line, place_text}
+use Rattle.machine_model.specs.Report.Said.{Printed}
+use Rattle.machine_model.specs.Script.{rows_printed}
+use Rattle.machine_model.specs.Steps.{counts_for}
+use Rattle.object_steps.specs.Lines.{values_of, values_text}
+use Rattle.object_steps.proofs.Done.{did_not_read, replies_refused, sent_nothing}
 use Rattle.object_steps.proofs.Filled.{on_err}
 use Rattle.object_steps.proofs.Held.{more_held, part_of_more, then_all, then_part}
 use Rattle.object_steps.proofs.Rises.{few_reads}
@@ -122,3 +129,28 @@ returns-in-Err-put-clause-part g c = λ operations.
     (then_part (front ++ codes "\n") last began.sent before.sent after.sent
     (more_held front held (codes "\n") last began.sent before.sent whole
     c.in_ok-add_values.ensures.held) c.in-Err-put.ensures.part)
+
+pub returns-in-Err-clause-reply : goal.returns-in-Err-clause-reply
+returns-in-Err-clause-reply g c = λ operations.
+    let instr = Print c.args.place.now in
+    let pairs = c.args.table.now.pairs in
+    replies_refused (refusal c.args.g operations pairs instr) c.in-Err.why
+    (counts_for c.args.g operations pairs instr) (c.in-Err.ensures.refused [])
+
+pub returns-in-Err-clause-did : goal.returns-in-Err-clause-did
+returns-in-Err-clause-did g c = λ operations.
+    let instr = Print c.args.place.now in
+    let pairs = c.args.table.now.pairs in
+    did_not_read (refusal c.args.g operations pairs instr) c.in-Err.why
+    (rows_printed c.args.g pairs instr) (g.D.Dram.view c.args.dram.now)
+    (c.in-Err.ensures.refused [])
+
+pub returns-in-Err-clause-sent : goal.returns-in-Err-clause-sent
+returns-in-Err-clause-sent g c = λ operations.
+    let place = c.args.place.now in
+    let pairs = c.args.table.now.pairs in
+    let banks = (g.D.Dram.view c.args.dram.now).banks in
+    sent_nothing (refusal c.args.g operations pairs (Print place)) c.in-Err.why
+    (line c.args.number (Printed (place_text c.args.shown.now)
+    (values_of c.args.g banks pairs place))) (g.S.Sink.view c.args.out.now).sent
+    (c.in-Err.ensures.refused [])
