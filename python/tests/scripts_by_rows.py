@@ -43,6 +43,10 @@ class Operand:
             return f"{self.name}[{self.low}]"
         return f"{self.name}[{self.low}:{self.high}]"
 
+    def of_copy(self, letter):
+        """The same bits of a copy of the object."""
+        return Operand(letter + self.name, self.low, self.high)
+
     def shown(self):
         """The operand as a report has it."""
         if self.low is None:

@@ -48,12 +48,13 @@ class RandomScripts(Files):
     def operand(self, width=None):
         """An operand, of this width if an object has room for it."""
         draws = self.draws
-        names = list(self.rows.objects)
+        known = self.known()
+        names = list(known)
         if not names or draws.random() < .02:
             return Operand("nothing")
-        fit = [name for name in names if width is None or self.rows.objects[name][1] >= width]
+        fit = [name for name in names if width is None or known[name][1] >= width]
         name = draws.choice(fit or names)
-        wide = self.rows.objects[name][1]
+        wide = known[name][1]
         if draws.random() < .03:
             low = draws.randrange(min(127, wide + 3))
             return Operand(name, low, draws.randint(low + 1, min(128, wide + 4)))
@@ -65,74 +66,87 @@ class RandomScripts(Files):
         return Operand(name, low, low + width)
 
     def instruction(self):
-        """A line, and what does it on the model's rows."""
+        """A line, and what does it on the model's rows, or on a copy of each object."""
         draws, rows = self.draws, self.rows
         pick = draws.random()
-        if pick < .15 or not rows.objects:
+        if pick < .15 or not self.known():
             name = f"o{draws.randrange(8)}"
             count = self.count if draws.random() < .9 else draws.randint(1, 70 * rows.banks)
             width = draws.choice((1, 4, 8, 9, 16, 24, 32, 128, draws.randint(1, 128)))
-            return f"bbop_trsp_init {name}, {count}, {width}", lambda: rows.init(name, count, width)
+            return f"bbop_trsp_init {name}, {count}, {width}", lambda letter: rows.init(letter + name, count, width)
         if pick < .2:
-            name = draws.choice(list(rows.objects))
-            return f"free {name}", lambda: rows.objects.pop(name) and None
+            name = draws.choice(list(self.known()))
+            return f"free {name}", lambda letter: rows.objects.pop(letter + name) and None
+        one = self.operand()
+        known = self.known().get(one.name)
+        wide = (one.high - one.low if one.high else known[1]) if known else 4
         if pick < .35:
-            one = self.operand()
-            known = rows.objects.get(one.name)
-            wide = len(rows.range_of(one)) if known else 4
             values = [draws.randrange(2**wide) for _ in range(known[2] if known else 3)]
             if draws.random() < .05:
                 values[0] = 2**wide if wide < 128 else 0
             text = ", ".join(map(str, values))
-            return f"load {one.written(draws)}, {text}", lambda: rows.load(one, values)
+            return f"load {one.written(draws)}, {text}", lambda letter: rows.load(one.of_copy(letter), values)
         if pick < .45:
-            one = self.operand()
-            wide = len(rows.range_of(one)) if one.name in rows.objects else 4
             value = draws.randrange(2**wide) if draws.random() < .95 else (2**wide if wide < 128 else 0)
-            return f"fill {one.written(draws)}, {value}", lambda: rows.fill(one, value)
+            return f"fill {one.written(draws)}, {value}", lambda letter: rows.fill(one.of_copy(letter), value)
         if pick < .65:
-            one = self.operand()
-            return f"print {one.written(draws)}", lambda: self.printed(one)
+            return f"print {one.written(draws)}", lambda letter: self.printed(one, letter)
         op = draws.choice(list(OPERATIONS))
         results, sources, _ = OPERATIONS[op]
         n = draws.choice((1, 2, 3, 4, 8, 9, 16, draws.randint(1, 128)))
         if op == "dm":
             n = min(n, 16)
         operands = [self.operand(n if kind == "w" else 1) for kind in results + sources]
-        if draws.random() < .02:
+        if len(operands) > 2 and draws.random() < .02:
             operands.pop()
-        count = rows.count_of(operands[0]) if operands[0].name in rows.objects else self.count
-        words = ", ".join(one.written(draws) for one in operands)
+        count = self.known()[operands[0].name][2] if operands[0].name in self.known() else self.count
         entry = self.program.find(op)
-        return f"bbop_{op} {words}, {count}, {n}", lambda: rows.bbop(op, operands, count, n, entry.bits + entry.words * n)
+        scratch = entry.bits + entry.words * n
+        words = ", ".join(one.written(draws) for one in operands)
+        return (f"bbop_{op} {words}, {count}, {n}",
+                lambda letter: rows.bbop(op, [one.of_copy(letter) for one in operands], count, n, scratch))
 
-    def printed(self, one):
-        refusal = self.rows.operand_refusal(one)
+    def printed(self, one, letter):
+        refusal = self.rows.operand_refusal(one.of_copy(letter))
         if refusal:
             return refusal
-        self.shown = f"{one.shown()}: {' '.join(map(str, self.rows.values(one)))}"
+        self.shown = f"{one.shown()}: {' '.join(map(str, self.rows.values(one.of_copy(letter))))}"
         return None
 
-    def compare(self, seed, banks, words):
-        """Does a random script on the chip and on rows of integers."""
-        self.draws = random.Random(seed)
-        height = 600
+    def known(self):
+        """The objects by their names in a script."""
+        objects = self.rows.objects
+        return {name[1:]: objects[name] for name in objects if name[0] == "x"} if self.copies != ("",) else objects
+
+    def done(self, do):
+        """What an instruction comes to; one that is refused changes nothing."""
+        self.shown, before = None, dict(self.rows.objects)
+        for letter in self.copies:
+            refusal = do(letter)
+            if refusal:
+                self.rows.objects = before
+                return f"refused {refusal}"
+        return self.shown or "ok"
+
+    def script_of(self, seed, banks, words, copies):
+        """Writes a random script and an image for it, and returns its lines and what each comes to."""
+        self.draws, self.copies = random.Random(seed), copies
+        height = 600 if copies == ("",) else 1006
         self.rows = Rows(banks, height, words)
         self.count = self.draws.randint(1, banks * words * 64)
         lines, wanted = [], []
         for _ in range(self.draws.randint(20, 60)):
-            self.shown = None
             line, do = self.instruction()
             lines.append(line)
-            refusal = do()
-            wanted.append(f"refused {refusal}" if refusal else self.shown or "ok")
+            wanted.append(self.done(do))
         self.script("\n".join(lines) + "\n")
         self.run_program("init", str(banks), str(height), str(words), "image", status=0)
-        said = self.run_program("exec", "prog", "s", "image", "out")
+        return lines, wanted
+
+    def compare(self, seed, lines, wanted, said):
         self.assertTrue(said[-1].startswith("total "), said[-3:])
         for number, (line, want, got) in enumerate(zip(lines, wanted, said), 1):
-            got = re.sub(r" aap=\d+ ap=\d+$", "", got)
-            self.assertEqual(got, f"{number} {want}", (seed, line))
+            self.assertEqual(re.sub(r" aap=\d+ ap=\d+$", "", got), f"{number} {want}", (seed, line))
         self.same_rows()
 
     def same_rows(self):
@@ -150,12 +164,29 @@ class RandomScripts(Files):
     def test_one_bank(self):
         for seed in range(30):
             with self.subTest(seed=seed):
-                self.compare(seed, 1, 1)
+                lines, wanted = self.script_of(seed, 1, 1, ("",))
+                self.compare(seed, lines, wanted, self.run_program("exec", "prog", "s", "image", "out"))
 
-    def test_several_banks(self):
+    def test_several_banks_and_their_traces(self):
         for seed in range(100, 120):
             with self.subTest(seed=seed):
-                self.compare(seed, 3, 2)
+                lines, wanted = self.script_of(seed, 3, 2, ("",))
+                self.compare(seed, lines, wanted, self.run_program("trace", "prog", "s", "image", "out", "trace"))
+                self.run_program("replay", "trace", "image", "again", status=0)
+                self.assertEqual((self.folder / "again").read_bytes()[14:], (self.folder / "out").read_bytes()[14:])
+
+    def test_guarded(self):
+        for seed in range(200, 220):
+            with self.subTest(seed=seed):
+                lines, wanted = self.script_of(seed, 2, 1, ("x", "y", "z"))
+                flips = ""
+                if self.rows.objects:
+                    base, width, _ = self.rows.objects[self.draws.choice(list(self.rows.objects))]
+                    flips = f"{len(lines) + 1} 0 {base + self.draws.randrange(width)} {self.draws.randrange(64)}\n"
+                (self.folder / "flips").write_text(flips)
+                said = self.run_program("guard", "ops", "prog", "s", "image", "flips", "out")
+                self.assertRegex(said[-2], rf"^vote aap=\d+ flips={int(bool(flips))}$")
+                self.compare(seed, lines, wanted, said)
 
 
 @needs_program
