@@ -6,19 +6,20 @@ use Rattle.dram_model.specs.Geometry.{is_geometry}
 use Rattle.uprog_code.specs.Shape.{Microprogram}
 use Rattle.object_alloc.specs.Listed.{Named}
 use Rattle.sim_machine.specs.declared.machine.Machine.{Machine}
+use Rattle.bbop_isa.specs.declared.instr.Place.{Place}
 use Rattle.bbop_isa.specs.Forms.{Instruction}
 use Rattle.bbop_isa.specs.Forms.{Init, Bbop, Load, Fill, Print, Free, Order}
 use Rattle.wave_model.specs.Schedule.{Queues, Turn}
 use Rattle.machine_model.specs.declared.Reply.{Reply}
 use Rattle.machine_model.specs.Columns.{segments}
 use Rattle.machine_model.specs.Routines.{Routines, routines_in}
-use Rattle.machine_model.specs.Refusals.{object_named}
+use Rattle.machine_model.specs.Refusals.{rows_of}
 use Rattle.machine_model.specs.Laws.{TableFits}
 use Rattle.machine_model.specs.Pieces.{Piece, piece_events, piece_of, pieces, turn_after}
 use Rattle.machine_model.specs.Pieces.{turn_at_end, wave_queues}
 use Rattle.machine_model.specs.Report.{Said, line, lines, said_by}
-use Rattle.machine_model.specs.Report.Said.{Answered, Printed}
-use Rattle.object_steps.specs.Lines.{values_of}
+use Rattle.machine_model.specs.Report.Said.{Answered}
+use Rattle.object_steps.specs.Lines.{printed_line}
 use Rattle.machine_model.specs.Script.{rows_if_done, rows_printed, table_at_end}
 use Rattle.machine_model.specs.Steps.{new_object, reply_to, table_after}
 

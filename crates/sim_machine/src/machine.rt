@@ -1,7 +1,7 @@
 //! The machine.
 
 ghost use Rattle.std.specs.Prelude.{◌≡◌, ℕ, ◌*◌, ◌<◌, ◌≤◌, ◌^◌, ◌∷◌, ◌++◌, [], length, map};
-ghost use Rattle.std.specs.Prelude.{◌+◌, true, false, Ok, OnOk, OnErr, ◌⊎◌, IfOk, IsErrOf};
+ghost use Rattle.std.specs.Prelude.{◌+◌, true, false, None, Ok, OnOk, OnErr, ◌⊎◌, IfOk, IsErrOf};
 ghost use Rattle.std.specs.List.{AllByRecursion};
 ghost use Rattle.host_edge.specs.Views.{Known, AppendsPart};
 ghost use Rattle.faults.specs.Counts.{Rose};
@@ -9,13 +9,14 @@ ghost use Rattle.dram_model.specs.Chip.{Grew};
 ghost use Rattle.transpose_unit.specs.Stopped.{StoppedWithin};
 ghost use Rattle.dram_model.specs.View.{HasBegun, Kept, Did, DidRead, NotBegun};
 ghost use Rattle.dram_model.specs.Elements.{FailedBelow};
-ghost use Rattle.object_alloc.specs.Listed.{has_name, limit_of};
+ghost use Rattle.object_alloc.specs.Listed.{limit_of};
 ghost use Rattle.object_alloc.specs.Reading.{rows_size, table_at};
 ghost use Rattle.object_alloc.specs.Spelling.{image_bytes, table_bytes};
 ghost use Rattle.bbop_isa.specs.Forms.{view_of, Load, Print};
 ghost use Rattle.machine_model.specs.Agrees.{IsPlain};
 ghost use Rattle.machine_model.specs.Opened.{rows_in_banks};
 ghost use Rattle.machine_model.specs.Pieces.{Alone, AreBbops, Wave, piece_of};
+ghost use Rattle.machine_model.specs.Refusals.{refusal};
 ghost use Rattle.machine_model.specs.Report.{total_line};
 ghost use Rattle.machine_model.specs.Script.{is_bbop};
 ghost use Rattle.uprog_ctl.specs.Waves.{StoppedAmong};
@@ -23,7 +24,7 @@ ghost use Rattle.object_steps.specs.Lines.{DidReadAtMost};
 ghost use Rattle.object_steps.specs.Objects.{LiesOn, RisesAtMost};
 ghost use Rattle.sim_machine.specs.Machine.{GoesOn, IsLaidOut, banks_by, events_by, file_of};
 ghost use Rattle.sim_machine.specs.Machine.{is_print, reply_line, line_shown, lines_of};
-ghost use Rattle.sim_machine.specs.Machine.{geometry_of, queues_by};
+ghost use Rattle.sim_machine.specs.Machine.{geometry_of, operations_by, queues_by};
 ghost use Rattle.sim_machine.specs.Machine.{reads_by, reply_of, stepped, table_in};
 ghost use Rattle.sim_machine.specs.Machine.{turn_by_piece, turn_in};
 ghost use Rattle.sim_machine.specs.Opening.{IsLeftUnopened, Opened, machine_on};
@@ -36,7 +37,7 @@ use crate::report::{put_lines, total};
 use crate::walks::WalkedProgram;
 use crate::waves::do_wave;
 use arrayvec::ArrayVec;
-use bbop_isa::Instr;
+use bbop_isa::{Instr, Place};
 use bit_rows::{Value, WIDTH_MAX};
 use dram_model::{ChipFault, Dram, Geometry};
 use host_edge::{Failed, Sink};
@@ -45,7 +46,6 @@ use object_alloc::{Image, OBJECTS_MAX, Table, put_head};
 use object_steps::{StepFault, load, print};
 use std::alloc::Global;
 use std::marker::Model;
-use text_lex::Name;
 use uprog_bin::ProgView;
 use uprog_code::WALK_MAX;
 use uprog_ctl::{Forward, Order};
@@ -310,8 +310,8 @@ impl<'a> Machine<'a> {
             ++ line_shown self.old number (D.view dram.old).banks place.now shown.now)
             (S.view out.old).sent (S.view out.new).sent) }
 
-        // After a fault the print is not refused, a prefix of the line was put, and nothing but reads happened on the chip,
-        // or a read failed.
+        // After a fault the print is not refused, a prefix of the line was put, and nothing but
+        // reads happened on the chip, or a read failed.
         ensures allowed { OnErr result (refusal (geometry_of self.old) (operations_by self.old)
             (table_in self.old) (Print place.now) ≡ None) }
         ensures chip_fault { IsErrOf result StepFault.ChipFault
@@ -331,10 +331,7 @@ impl<'a> Machine<'a> {
     {
         let g = self.geometry;
         let stage = &mut self.stage;
-        match print(g, &self.table, number, place, shown, stage, dram, out) {
-            Ok(reply) => Ok(reply),
-            Err(fault) => Err(fault),
-        }
+        print(g, &self.table, number, place, shown, stage, dram, out)
     }
 
     /// Does a `load` of these values, and puts no line. It takes no memory.
