@@ -10,8 +10,8 @@ use Rattle.uprog_code.specs.Implements.{numbers, Gives}
 use Rattle.uprog_code.specs.Issued.{AreGood}
 use Rattle.bdd.specs.declared.Node.{Node}
 use Rattle.symbolic_column.specs.Symbols.{Cells, column_of}
-use Rattle.binding_laws.specs.Canonical.{canonical, canonical_rows, result_rows, value_rows, moved, bases}
-use Rattle.binding_laws.proofs.Settled.{canonical-fits, base-at}
+use Rattle.binding_laws.specs.Canonical.{canonical, canonical_rows, result_rows, value_rows, bases}
+use Rattle.binding_laws.proofs.Settled.{canonical-fits, base-at, moved}
 use Rattle.binding_laws.proofs.Enough.{enough-from, numbers-same}
 use Rattle.verify_core.specs.declared.start.Begin.{Begin}
 use Rattle.verify_core.specs.declared.start.Begin.TheVariants.{Variables}

@@ -17,8 +17,8 @@ use Rattle.bdd.proofs.Laws.{value-kept}
 use Rattle.symbolic_column.specs.Symbols.{AreCells, Cells, edge_at, column_of}
 use Rattle.symbolic_column.proofs.Lines.{column-kept, cells-kept}
 use Rattle.binding_laws.specs.Alike.{Alike}
-use Rattle.binding_laws.specs.Canonical.{canonical, canonical_rows, result_rows, value_rows, moved, bases}
-use Rattle.binding_laws.proofs.Settled.{canonical-fits, moved-alike, same-alike, base-at, base-small}
+use Rattle.binding_laws.specs.Canonical.{canonical, canonical_rows, result_rows, value_rows, bases}
+use Rattle.binding_laws.proofs.Settled.{canonical-fits, moved, moved-alike, same-alike, base-at, base-small}
 use Rattle.binding_laws.proofs.Enough.{numbers-same}
 use Rattle.verify_core.specs.declared.start.Begin.{Begin}
 use Rattle.verify_core.specs.declared.start.Begin.TheVariants.{Variables}

@@ -7,12 +7,16 @@ use Rattle.bit_rows.specs.Bits.{flip_if}
 use Rattle.dram_model.specs.declared.address.Cell.TheVariants.{D}
 use Rattle.uprog_code.specs.Shape.{Shape, results}
 use Rattle.uprog_code.specs.Machine.{Issue}
+use Rattle.dram_model.specs.Column.{run}
+use Rattle.uprog_code.specs.Bound.{bound}
 use Rattle.uprog_code.specs.Implements.{numbers, Gives}
+use Rattle.uprog_code.specs.Issued.{AreGood}
 use Rattle.bdd.specs.declared.Edge.{Edge}
 use Rattle.bdd.specs.declared.Node.{Node}
 use Rattle.bdd.specs.Graphs.{value}
 use Rattle.symbolic_column.specs.Symbols.{Cells, column_of}
 use Rattle.binding_laws.specs.Canonical.{canonical, canonical_rows, bases}
+use Rattle.binding_laws.proofs.Elsewhere.{elsewhere}
 use Rattle.binding_laws.proofs.Settled.{canonical-fits, base-at}
 use Rattle.verify_core.specs.declared.case.Case.{Case}
 use Rattle.verify_core.specs.declared.start.Begin.{Begin}
@@ -50,14 +54,17 @@ apart-by a n nodes end finish bits e some differ true_ one =
 
 pub wrong : (a b : Shape) (n : ℕ) (xs ys : List Issue) (meaning : List ℕ → List ℕ) (f g : Begin)
     (nodes : List Node) (end finish : Cells) (bits : ℕ → Bool) (case : Case) → 0 < n
-    → SameKinds a b → IsMeant f bits → IsRun a n xs f nodes end → IsRun b n ys f nodes finish
+    → SameKinds a b → AreGood a n xs → IsMeant f bits → IsRun a n xs f nodes end → IsRun b n ys f nodes finish
     → Gives b n ys meaning → IsCase a n g nodes end finish bits case
     → case.got.items ≢ case.wanted.items → Fails a n xs meaning case
-wrong a b n xs ys meaning f g nodes end finish bits case some same meant ran did gives is differ =
+wrong a b n xs ys meaning f g nodes end finish bits case some same good meant ran did gives is differ =
+    let own : numbers n (results a) (canonical a n).results (run (bound (canonical_rows a n) a n
+    (canonical a n) xs) (column_of ran.first bits ran.start)) ≡ case.got.items =
+    ap (numbers n (results a) (canonical a n).results) (sym (ran.does bits)) ∙ sym is.got in
     record {
       column = column_of ran.first bits ran.start;
       sources = own-sources ∙ sym is.sources;
-      got = ap (numbers n (results a) (canonical a n).results) (sym (ran.does bits)) ∙ sym is.got;
+      got = own;
       wanted = is.wanted ∙ results-renamed a b n (column_of nodes bits finish) same
           ∙ run-means b n ys meaning f nodes finish bits some did gives
           ∙ ap meaning (sym (sources-same a b n g f nodes did.first is.start did.start bits some
@@ -66,6 +73,14 @@ wrong a b n xs ys meaning f g nodes end finish bits case some same meant ran did
       differ = differ;
       ones = is.ones ∙ work-same a n g f nodes ran.first is.start ran.start bits is.meant meant
           is.starts ran.starts is.rows ran.start_rows;
+      everywhere = λ rows c fits apart.
+          let there = elsewhere a n xs (column_of ran.first bits ran.start) some good rows c fits
+          apart in
+          record {
+            column = there.0;
+            sources = there.1 ∙ own-sources ∙ sym is.sources;
+            got = there.2 ∙ own;
+          };
     }
   where
     own-sources : numbers n a.sources (canonical a n).sources (column_of ran.first bits ran.start)

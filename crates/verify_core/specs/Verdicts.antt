@@ -8,7 +8,8 @@ use Rattle.dram_model.specs.Column.{Column, run}
 use Rattle.uprog_code.specs.Shape.{Shape, Microprogram, results, need}
 use Rattle.uprog_code.specs.Machine.{HasEnded, Issue, trace, issues_of}
 use Rattle.uprog_code.specs.Count.{walked}
-use Rattle.uprog_code.specs.Bound.{bound}
+use Rattle.uprog_code.specs.Bound.{Bound, bound}
+use Rattle.uprog_code.specs.Fits.{ArePairwiseApart, Fits, ranges}
 use Rattle.uprog_code.specs.Implements.{numbers, Gives, Keeps}
 use Rattle.uprog_code.specs.Texts.{TextOp}
 use Rattle.bdd.specs.declared.Limits.{Limits}
@@ -42,8 +43,18 @@ work_cells shape n =
     (T 0 ∷ T 1 ∷ T 2 ∷ T 3 ∷ Dcc 0 ∷ Dcc 1 ∷ []) ++ (map D (range_with_len 0 (result_rows shape n))
     ++ map D (range_with_len (value_rows shape n) (need shape n + 32)))
 
+-- under a binding in a bank of so many rows some column has the case's numbers as sources, and the
+-- commands give the case's results from it
+pub record GivesCase (rows : ℕ) (shape : Shape) (n : ℕ) (b : Bound) (issues : List Issue)
+    (case : Case) : Type 0 where
+  pub column : Column
+  pub sources : numbers n shape.sources b.sources column ≡ case.sources.items
+  pub got : numbers n (results shape) b.results (run (bound rows shape n b issues) column)
+      ≡ case.got.items
+
 -- The case fails: from some column, with these numbers as sources and 1 in exactly these of the
--- work cells, the commands give other numbers than the meaning, under the canonical binding
+-- work cells, the commands give other numbers than the meaning, under the canonical binding; and so
+-- they do from some column under each binding that fits and has its sources apart
 pub record Fails (shape : Shape) (n : ℕ) (issues : List Issue) (meaning : List ℕ → List ℕ)
     (case : Case) : Type 0 where
   pub column : Column
@@ -54,6 +65,8 @@ pub record Fails (shape : Shape) (n : ℕ) (issues : List Issue) (meaning : List
   pub wanted : case.wanted.items ≡ meaning case.sources.items
   pub differ : case.got.items ≢ case.wanted.items
   pub ones : case.ones.items ≡ filter column (work_cells shape n)
+  pub everywhere : (rows : ℕ) (b : Bound) → Fits rows shape n b
+      → ArePairwiseApart (ranges n shape.sources b.sources) → GivesCase rows shape n b issues case
 
 -- so many nodes, and questions that no kept answer settles, a comparison may take
 abbrev pub most_nodes : ℕ

@@ -48,7 +48,7 @@ pub(crate) fn case_at(
     requires some { 0 < n }
     requires narrow { n ≤ WIDTH_MAX }
     requires variables { 6 + canonical_rows (shape_of head.now) n ≤ diagram.old.limits.variables }
-    ensures case { IfOk result (λ case. IsCase (shape_of head.now) n (Values path)
+    ensures case { IfOk result (λ case. IsCase (shape_of head.now) n (Values path.entry)
         diagram.new.nodes own.now made.now (assigned path.now) case) }
     ensures nodes { AreNodes diagram.new.nodes }
     ensures keeps { Keeps diagram.old.nodes diagram.new.nodes }

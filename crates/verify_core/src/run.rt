@@ -33,7 +33,7 @@ pub(crate) fn run_from<F: Fetch>(
     requires variables { 6 + canonical_rows (F.shape entry.now) n
         ≤ diagram.old.limits.variables }
     ensures runs { IfOk result (λ end. IsRun (F.shape entry.now) n
-        (issues_of (trace (F.shape entry.now) (F.code entry.now) n)) begin diagram.new.nodes
+        (issues_of (trace (F.shape entry.now) (F.code entry.now) n)) begin.entry diagram.new.nodes
         end) }
     ensures nodes { AreNodes diagram.new.nodes }
     ensures keeps { Keeps diagram.old.nodes diagram.new.nodes }

@@ -41,7 +41,7 @@ fn value_of(values: &[bool], variable: u32) -> bool
 fn held(begin: Begin<'_>, diagram: &mut Diagram, variable: u32) -> Result<Edge, Shortage>
     requires nodes { AreNodes diagram.old.nodes }
     requires variable { variable < diagram.old.limits.variables }
-    ensures value { IfOk result (λ e. (bits : ℕ → Bool) → IsMeant begin bits
+    ensures value { IfOk result (λ e. (bits : ℕ → Bool) → IsMeant begin.entry bits
         → value diagram.new.nodes bits e ≡ bits variable) }
     ensures named { IfOk result (λ e. IsNamed diagram.new.nodes e) }
     ensures nodes { AreNodes diagram.new.nodes }
@@ -71,7 +71,7 @@ fn put(
     requires cell { is_cell (length column.old.rows) cell ≡ true }
     requires variable { variable < diagram.old.limits.variables }
     ensures here { OnOk result ((other : Cell) → is_written cell other ≡ true
-        → (bits : ℕ → Bool) → IsMeant begin bits
+        → (bits : ℕ → Bool) → IsMeant begin.entry bits
         → value diagram.new.nodes bits (edge_at column.new other) ≡ bits variable) }
     ensures others { OnOk result ((other : Cell) → is_written cell other ≡ false
         → (bits : ℕ → Bool) → value diagram.new.nodes bits (edge_at column.new other)
@@ -124,7 +124,7 @@ pub(crate) fn start(
     requires results { results ≤ 256 }
     requires inside { results + n * sources ≤ rows }
     requires variables { 6 + rows ≤ diagram.old.limits.variables }
-    ensures start { IfOk result (λ c. IsStart diagram.new.nodes begin n sources results c) }
+    ensures start { IfOk result (λ c. IsStart diagram.new.nodes begin.entry n sources results c) }
     ensures cells { IfOk result (λ c. AreCells diagram.new.nodes c) }
     ensures rows { IfOk result (λ c. length c.rows ≡ rows) }
     ensures nodes { AreNodes diagram.new.nodes }

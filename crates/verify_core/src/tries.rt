@@ -29,7 +29,8 @@ const DRAWS: u32 = 8;
 /// How many attempts there are for one content of the other cells: the corners of one source, or
 /// the pairs of those of two, and the draws.
 fn attempts(sources: u32) -> u32
-    ensures { result ≤ 33 }
+    ensures few { result ≤ 33 }
+    ensures some { 8 ≤ result }
 {
     if sources < 2 {
         CORNERS + DRAWS
@@ -184,7 +185,10 @@ pub(crate) fn tried_case<F: Fetch, G: Fetch>(
     let rows = canonical_bank(&head, n);
     let count = attempts(sources);
     for k in 0..2 * count {
-        let path = assignment(k % count, k >= count, n, sources, results, rows, alloc)?;
+        let others = k >= count;
+        let Ok(path) = assignment(k % count, others, n, sources, results, rows, alloc) else {
+            return Err(Shortage::NoMemory);
+        };
         if let Some(case) = case_under(&path, own, made, n, diagram, alloc)? {
             return Ok(Some(case));
         }

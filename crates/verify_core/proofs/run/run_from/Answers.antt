@@ -29,5 +29,5 @@ returns-clause-runs g c =
     c.canonical_binding-binding.ensures.n c.canonical_binding-binding.ensures.bound
     c.canonical_bank-rows.ensures refl refl
     (ap (λ m. issues_of (trace a code m)) c.canonical_binding-binding.ensures.n)
-    (rw (← c.rows_of_results.ensures.value, ← c.as_slice.ensures.value) begun.start) begun.rows
+    (rw (← c.rows_of_results-results.ensures.value, ← c.as_slice.ensures.value) begun.start) begun.rows
     did.column did.cells did.rows (omega arith)
