@@ -4,6 +4,7 @@ use Rattle.std.proofs.Common.{List, [], ◌∷◌, length, get_or, map, Option, 
 use Rattle.std.proofs.Common.{◌∙◌, ap, subst, arith}
 use Rattle.std.specs.Prelude.{filter, slice_index, ◌||◌}
 use Rattle.std.specs.Option.{unwrap_or}
+use Rattle.uprog_code.specs.Machine.{issues_of}
 use Rattle.uprog_code.specs.Shape.{results}
 use Rattle.std.specs.Str.{bytes_eq}
 use Rattle.std.proofs.lemmas.List.{length-map}
@@ -14,7 +15,6 @@ use Rattle.std.proofs.lemmas.List.Elements.{All-map, All-filter}
 use Rattle.dram_model.specs.declared.geometry.Geometry.{Geometry}
 use Rattle.dram_model.specs.Column.{Column, run}
 use Rattle.dram_model.specs.Chip.{Banks}
-use Rattle.bit_rows.specs.declared.TheConstants.{WIDTH_MAX}
 use Rattle.object_alloc.specs.Listed.{Named, IsTable, without}
 use Rattle.object_alloc.proofs.Tables.{IsTable-without}
 use Rattle.bbop_isa.specs.Forms.{Instruction, Bbop, Print, Free, Order}
@@ -22,7 +22,7 @@ use Rattle.bbop_isa.specs.declared.instr.Order.{Order as Orders}
 use Rattle.machine_model.specs.declared.Why.{Why}
 use Rattle.dram_model.specs.Elements.{column_count}
 use Rattle.machine_model.specs.Columns.{object_size, segments, columns}
-use Rattle.machine_model.specs.Routines.{Routine, Routines}
+use Rattle.machine_model.specs.Routines.{Performs, Routine, Routines}
 use Rattle.object_alloc.specs.Listed.{limit_of}
 use Rattle.machine_model.specs.Refusals.{object_named, refusal, bbop_refusal, dsts_in, srcs_in}
 use Rattle.machine_model.specs.Refusals.{is_one_of}
@@ -30,7 +30,7 @@ use Rattle.wave_model.specs.Schedule.{WaveJob}
 use Rattle.machine_model.specs.Steps.{Held, table_of, numbers_named, with_numbers, with_results}
 use Rattle.machine_model.specs.Steps.{new_numbers, dsts_of, srcs_of, computed, through, job_of}
 use Rattle.machine_model.specs.Steps.{worded, rowed, if_done, banks_after, words_after}
-use Rattle.machine_model.specs.Agrees.{Agrees, DoesAll}
+use Rattle.machine_model.specs.Agrees.{Agrees}
 use Rattle.machine_model.proofs.Facts.{good}
 use Rattle.machine_model.proofs.Places.{no_one, entry_of, object_at, same_bytes, bytes_same}
 use Rattle.machine_model.proofs.Bbops.{bbop_job, operand_at, bbop_numbers, bbop_others}
@@ -218,19 +218,24 @@ pub job_is : (g : Geometry) (operations : Routines) (op dst : List ℕ) (srcs : 
     ≡ bbop_job g state o (dst ∷ srcs) n (object_named (table_of state) dst)
 job_is g operations op dst srcs count n o e state = rw e refl
 
+-- what is issued for the operation of this name does what it means at this width
+abbrev pub DoesOne : Routines → (List ℕ → ℕ → List ℕ → List ℕ) → List ℕ → ℕ → Type 0
+DoesOne operations meaning op n = (o : Routine) → operations op ≡ Some o
+    → Performs o.shape n (issues_of (o.trace n)) (meaning op n)
+
 -- A bbop that is done
 bbop_done : (g : Geometry) (operations : Routines) (meaning : List ℕ → ℕ → List ℕ
     → List ℕ) (op dst : List ℕ) (srcs : List (List ℕ)) (count n : ℕ) (found : Option Routine)
-    → operations op ≡ found → 0 < n → n ≤ WIDTH_MAX → DoesAll operations meaning
+    → operations op ≡ found → DoesOne operations meaning op n
     → (banks : Banks) (state : List Held) → Agrees g banks state
     → bbop_refusal g (table_of state) found (dst ∷ srcs) count n ≡ None
     → Agrees g (rowed g operations (table_of state) banks (Bbop op dst srcs count n))
     (worded g operations meaning state (Bbop op dst srcs count n))
-bbop_done g operations meaning op dst srcs count n None e some few does banks state a h = cc
-bbop_done g operations meaning op dst srcs count n (Some o) e some few does banks state a h =
+bbop_done g operations meaning op dst srcs count n None e does banks state a h = cc
+bbop_done g operations meaning op dst srcs count n (Some o) e does banks state a h =
     let names = dst ∷ srcs in
     let facts = good g (table_of state) o names count n h in
-    let d = does op o e n some few in
+    let d = does o e in
     let is = job_is g operations op dst srcs count n o e state in
     let job = job_of g operations (table_of state) (Bbop op dst srcs count n) in
     let first = object_named (table_of state) dst in
@@ -256,13 +261,12 @@ done_or_not g (Some reason) new old s t done kept = kept
 
 -- The step of the rows is the word machine's at a bbop
 pub bbop_agrees : (g : Geometry) (operations : Routines) (meaning : List ℕ → ℕ → List ℕ
-    → List ℕ) (op dst : List ℕ) (srcs : List (List ℕ)) (count n : ℕ) → 0 < n → n ≤ WIDTH_MAX
-    → DoesAll operations meaning → StepAgrees g operations meaning (Bbop op dst srcs count n)
-bbop_agrees g operations meaning op dst srcs count n some few does banks state a =
+    → List ℕ) (op dst : List ℕ) (srcs : List (List ℕ)) (count n : ℕ)
+    → DoesOne operations meaning op n → StepAgrees g operations meaning (Bbop op dst srcs count n)
+bbop_agrees g operations meaning op dst srcs count n does banks state a =
     done_or_not g (bbop_refusal g (table_of state) (operations op) (dst ∷ srcs) count n) _ banks _
     state
-    (bbop_done g operations meaning op dst srcs count n (operations op) refl some few does banks
-    state a) a
+    (bbop_done g operations meaning op dst srcs count n (operations op) refl does banks state a) a
 
 below_none : (b : ℕ) → ltb b 0 ≡ false
 below_none b = grind (arith, nat_tests)
