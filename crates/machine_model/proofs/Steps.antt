@@ -1,11 +1,9 @@
 -- The step of the rows gives the word machine's step.
-use Rattle.std.proofs.Common.{◌≡◌, ℕ, zero, suc, ◌+◌, ◌<◌, ◌≤◌, Bool, true, false, not, cond, ltb}
+use Rattle.std.proofs.Common.{◌≡◌, ℕ, zero, suc, ◌<◌, ◌≤◌, Bool, true, false, not, cond, ltb}
 use Rattle.std.proofs.Common.{List, [], ◌∷◌, length, get_or, map, Option, Some, None, refl, sym}
 use Rattle.std.proofs.Common.{◌∙◌, ap, subst, arith}
-use Rattle.std.specs.Prelude.{filter, slice_index, ◌||◌}
-use Rattle.std.specs.Option.{unwrap_or}
+use Rattle.std.specs.Prelude.{filter, slice_index}
 use Rattle.uprog_code.specs.Machine.{issues_of}
-use Rattle.uprog_code.specs.Shape.{results}
 use Rattle.std.specs.Str.{bytes_eq}
 use Rattle.std.proofs.lemmas.List.{length-map}
 use Rattle.std.proofs.lemmas.Bool.Decides.{nat_tests}
@@ -147,7 +145,7 @@ done_or_not g (Some reason) new old s t done kept = kept
 
 -- The step of the rows is the word machine's at a bbop
 pub bbop_agrees : (g : Geometry) (operations : Routines) (meaning : List ℕ → ℕ → List ℕ
-    → List ℕ) (op : List ℕ) (dst : Place) (srcs : List Place) (count n : ℕ) 
+    → List ℕ) (op : List ℕ) (dst : Place) (srcs : List Place) (count n : ℕ)
     → DoesOne operations meaning op n → StepAgrees g operations meaning (Bbop op dst srcs count n)
 bbop_agrees g operations meaning op dst srcs count n does banks state a =
     done_or_not g (bbop_refusal g (table_of state) (operations op) (dst ∷ srcs) count n) _ banks _
