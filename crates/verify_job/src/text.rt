@@ -79,8 +79,9 @@ fn limit_word(limit: Limit) -> &'static [u8]
     ensures { result.now ≡ limit_word limit }
 {
     match limit {
-        Limit::Nodes => b"nodes",
+        Limit::Nodes(_) => b"nodes",
         Limit::Depth => b"depth",
+        Limit::Steps(_) => b"steps",
     }
 }
 
