@@ -73,7 +73,7 @@ abbrev pub most_nodes : ℕ
 most_nodes = 4000000
 
 abbrev pub most_questions : ℕ
-most_questions = 2 ^ 26
+most_questions = 2 ^ 25
 
 -- how many variables a comparison of entries of two shapes has: one for each cell of the larger of
 -- the two canonical banks

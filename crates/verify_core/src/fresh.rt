@@ -13,7 +13,7 @@ use uprog_code::Fetch;
 const NODES_MAX: u32 = 4_000_000;
 
 /// The greatest number of questions that no kept answer settles.
-const QUESTIONS_MAX: u64 = 1 << 26;
+const QUESTIONS_MAX: u64 = 1 << 25;
 
 /// How many slots the table of its nodes begins with.
 const SLOTS: usize = 4096;

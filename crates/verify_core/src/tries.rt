@@ -41,7 +41,9 @@ fn attempts(sources: u32) -> u32
 
 /// A number that looks random, from another.
 fn mixed(seed: u32) -> u64 {
-    let sum = u64::from(seed).wrapping_add(1).wrapping_mul(0x9E37_79B9_7F4A_7C15);
+    let sum = u64::from(seed)
+        .wrapping_add(1)
+        .wrapping_mul(0x9E37_79B9_7F4A_7C15);
     let next = (sum ^ (sum >> 30)).wrapping_mul(0xBF58_476D_1CE4_E5B9);
     let last = (next ^ (next >> 27)).wrapping_mul(0x94D0_49BB_1331_11EB);
     last ^ (last >> 31)
@@ -62,7 +64,9 @@ fn corner_bit(corner: u32, bit: u32, n: u32) -> bool {
 fn tried_bit(attempt: u32, sources: u32, source: u32, bit: u32, n: u32) -> bool {
     let corners = attempts(sources) - DRAWS;
     if attempt >= corners {
-        let seed = attempt.wrapping_mul(65_536).wrapping_add(source.wrapping_mul(256));
+        let seed = attempt
+            .wrapping_mul(65_536)
+            .wrapping_add(source.wrapping_mul(256));
         return mixed(seed.wrapping_add(bit)) % 2 == 1;
     }
     let corner = match source {
@@ -97,7 +101,14 @@ fn assignment(
 ) -> Result<Vec<bool>, NoMemory> {
     let mut values = vec![in alloc; others; 6]?;
     for row in 0..u32::from(rows) {
-        let value = tried_value(attempt, others, u32::from(n), sources, u32::from(results), row);
+        let value = tried_value(
+            attempt,
+            others,
+            u32::from(n),
+            sources,
+            u32::from(results),
+            row,
+        );
         keep(&mut values, value)?;
     }
     Ok(values)
