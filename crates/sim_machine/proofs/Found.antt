@@ -34,8 +34,8 @@ pub at_place-zip : {K X Y : Type 0} (reason : ℕ → Why) (k : ℕ) (p : K × Y
 at_place-zip reason k p h ks xs = rw (zip-map h ks xs)
     (at_place-map_map reason k p (λ pair. (pair.0, h pair.1)) (zip ks xs))
 
-pub misfit-none : (n : ℕ) (kinds found : List Kind) (f : List ℕ
-    → Object) (srcs : List (List ℕ)) (b : Bool) → b ≡ false → found ≡ kinds
+pub misfit-none : {X : Type 0} (n : ℕ) (kinds found : List Kind) (f : X → Object) (srcs : List X)
+    (b : Bool) → b ≡ false → found ≡ kinds
     → None ≡ position (λ pair. is_misfit n (pair.0, f pair.1)) (zip found srcs)
     → None ≡ (if b then Some (why.Width 0) else at_place why.Width 1
     (map (is_misfit n) (zip kinds (map f srcs))))
