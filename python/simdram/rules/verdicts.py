@@ -55,7 +55,7 @@ def verdict_of(line: str) -> typing.Optional[Verdict]:
     if match["bad_walk"]:
         return Verdict(name, BAD_WALK, at=int(match["at"]), why=match["why"])
     if match["other"]:
-        return Verdict(name, match["other"])
+        return Verdict(name, match["other"], why=match["limit"] or "")
     operands = {word.partition("=")[0]: int(word.partition("=")[2]) for word in match["operands"].split()}
     return Verdict(name, WRONG, operands=operands, gives=numbers(match["gives"]), wanted=numbers(match["wanted"]),
                    start=tuple((match["start"] or "").split()))
