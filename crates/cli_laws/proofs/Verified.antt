@@ -67,6 +67,8 @@ gives_words t widths names before after a b status e right at =
     let banks : banks_at_end g o (table_of (objects_held i)) (opened i) e.script ≡ b.chip.banks =
     ap (λ (table : List Named). banks_at_end g o table (opened i) e.script) (table_is i)
     ∙ sym e.row_by_row.work.banks in
+    let held : Agrees g b.chip.banks (state_by t e.program e.script i) =
+    subst (λ (x : Banks). Agrees g x (state_by t e.program e.script i)) banks whole in
     let table : table_at_end g o i.table e.script ≡ table_of (state_by t e.program e.script i) =
     ap (λ (table : List Named). table_at_end g o table e.script) (sym (table_is i))
     ∙ sym (tables_end g o (meaning_in t) (objects_held i) e.script) in
@@ -79,8 +81,7 @@ gives_words t widths names before after a b status e right at =
           (rows_in_banks (banks_at_end g o i.table (opened i) e.script)))) table
           ∙ ap (λ (x : Banks). Some (image_bytes g (table_of (state_by t e.program e.script i))
           (rows_in_banks x))) (sym e.row_by_row.work.banks);
-      numbers = (subst (λ (x : Banks). Agrees g x (state_by t e.program e.script i)) banks whole)
-          .numbers;
+      numbers = held.numbers;
       sent = subst (λ (s : List Said). Known (λ x y. y ≡ x ++ report s b.chip.counters
           (replies_by e.program e.script i)) a.sink.sent b.sink.sent) said e.row_by_row.sent;
     }

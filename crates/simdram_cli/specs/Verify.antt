@@ -78,7 +78,8 @@ pub record Verified (names : VerifyNames) (before after : Files) (old new : Worl
   pub answers : status ≡ status_of findings
   pub right : status ≡ 0 → HaveRight names.widths.items program (map text_op ops)
   pub files : after ≡ before
-  pub sent : Known (λ x y. y ≡ x ++ report names.widths.items ops findings) old.sink.sent new.sink.sent
+  pub sent : Known (λ x y. y ≡ x ++ report names.widths.items ops findings) old.sink.sent
+      new.sink.sent
 
 -- the text and the status are those of true findings
 pub record IsReport (widths : List ℕ) (program : Program) (ops : List Operation)

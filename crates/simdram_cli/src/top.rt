@@ -309,17 +309,19 @@ fn dispatch<F: Folder, S: Sink, D: Dram>(
 /// program of a file; `compile OPS PROG` stores PROG and puts how many entries it has; `show OPS`
 /// puts the canonical text of the operations of OPS; `migrate OLD NEW` stores the version 2 file of
 /// OLD's program as NEW; `cost PROG N` puts what each entry of PROG's program costs at each width
-/// of the list N, and `list PROG` its listing; `init BANKS ROWS WORDS OUT` stores the image of such a chip without
-/// objects, whose rows are zeros; `soak SEED` does every word operation with one result at the
-/// widths 1, 8 and 64 on a generator's words, and puts a line for each with its row commands and
-/// the sum of its results; `scan QUERY IMAGE` puts how many elements of IMAGE meet QUERY, by
-/// comparisons in the chip; `trace PROG SCRIPT IMAGE OUT TRACE` does what `exec` does, and stores
-/// the events of the script as TRACE; `replay TRACE IMAGE OUT` does the events of TRACE on IMAGE's
+/// of the list N, and `list PROG` its listing; `init BANKS ROWS WORDS OUT` stores the image of such
+/// a chip without objects, whose rows are zeros; `soak SEED` does every word operation with one
+/// result at the widths 1, 8 and 64 on a generator's words, and puts a line for each with its row
+/// commands and the sum of its results; `scan QUERY IMAGE` puts how many elements of IMAGE meet
+/// QUERY, by comparisons in the chip; `trace PROG SCRIPT IMAGE OUT TRACE` does what `exec` does,
+/// and stores the events of the script as TRACE; `replay TRACE IMAGE OUT` does the events of TRACE
+/// on IMAGE's
 /// rows, stores them with the objects of TRACE as OUT, and puts how many commands the chip did;
 /// `guard OPS PROG SCRIPT IMAGE FLIPS OUT` runs with each object in three copies, inverts the cells
 /// that FLIPS names, and votes before each instruction and after the last; `verify OPS PROG N` puts
 /// for each operation of OPS whether PROG's entry of its name does it at each width of the list N,
-/// for all values and all contents of the cells and rows at the start. The answer is the exit status.
+/// for all values and all contents of the cells and rows at the start. The answer is the exit
+/// status.
 pub fn simdram<F: Folder, S: Sink, D: Dram>(
     words: &[&str],
     files: &mut F,

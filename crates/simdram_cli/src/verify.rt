@@ -29,8 +29,8 @@ fn verified(
 ) -> Result<(Vec<u8>, u8), NoMemory>
     requires meets { MeetRules (operations ops.now) }
     requires widths { AreWidths widths.now }
-    ensures { IfOk result (λ made. IsReport widths.now prog.now.programs (operations ops.now) made.0.items
-        made.1) }
+    ensures { IfOk result (λ made. IsReport widths.now prog.now.programs (operations ops.now)
+        made.0.items made.1) }
 {
     let Ok(compiled) = compile_ops(ops, alloc) else {
         return Err(NoMemory);

@@ -10,7 +10,7 @@ use Rattle.prog_text.specs.Costs.{stuck_word}
 use Rattle.prog_text.specs.Widths.{is_single}
 use Rattle.verify_core.specs.declared.case.Case.{Case}
 use Rattle.verify_core.specs.declared.verdict.Limit.{Limit}
-use Rattle.verify_core.specs.declared.verdict.Limit.TheVariants.{Nodes, Depth}
+use Rattle.verify_core.specs.declared.verdict.Limit.TheVariants.{Nodes, Depth, Steps}
 use Rattle.verify_core.specs.declared.verdict.Verdict.{Verdict}
 use Rattle.verify_core.specs.declared.verdict.Verdict.TheVariants.{Right, Wrong, Stuck, OtherKinds}
 use Rattle.verify_core.specs.declared.verdict.Verdict.TheVariants.{Unknown}
@@ -47,8 +47,9 @@ case_text ps shape n case = sources_text ps case.sources.items ++ codes " gives"
 
 -- which limit a diagram reached
 abbrev pub limit_word : Limit → List ℕ
-limit_word Nodes = codes "nodes"
+limit_word (Nodes count) = codes "nodes"
 limit_word Depth = codes "depth"
+limit_word (Steps count) = codes "steps"
 
 -- a verdict, without its case and its row commands
 abbrev pub verdict_text : Verdict → List ℕ

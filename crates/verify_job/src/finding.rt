@@ -10,22 +10,12 @@ ghost use Rattle.verify_job.specs.Findings.{AreAtWidths, AreFindings, IsFinding}
 ghost use Rattle.prog_text.specs.Widths.{AreWidths};
 ghost use Rattle.verify_job.specs.Widths.{AllEnd};
 
-use bdd::Diagram;
 use bit_rows::WIDTH_MAX;
 use faults::{NoMemory, keep};
 use std::alloc::Global;
 use uprog_bin::ProgView;
 use uprog_code::{EntryCode, Fetch, Head, Program};
-use verify_core::{Verdict, verify_entry};
-
-/// The greatest number of nodes of an op's diagram.
-const NODES_MAX: u32 = 4_000_000;
-
-/// How many slots the table of its nodes begins with.
-const SLOTS: usize = 4096;
-
-/// How many answers it has room for at first.
-const ANSWERS: usize = 1 << 17;
+use verify_core::{Verdict, fresh_diagram, verify_entry};
 
 /// What is found of the entry of an op's name.
 #[derive(Drop)]
@@ -67,8 +57,8 @@ fn finding_of(
     match prog.find(&made.head.name) {
         None => Ok(Finding::NoEntry),
         Some(at) => {
-            let mut diagram = Diagram::new(NODES_MAX, SLOTS, ANSWERS, alloc)?;
             let entry = prog.entry(at);
+            let mut diagram = fresh_diagram(&entry, made, n, alloc)?;
             let verdict = verify_entry(&entry, made, n, &mut diagram, alloc)?;
             Ok(Finding::Entry(entry.head(), verdict))
         }
@@ -98,8 +88,7 @@ fn findings_of(
 }
 
 /// What is found of the program's entry of each op's name, in order, at each of the widths, by the
-/// program that the compiler made of the ops. Each op has its own diagram at each width, of at most
-/// 4,000,000 nodes.
+/// program that the compiler made of the ops. Each op has its own diagram at each width.
 ///
 /// Only a lack of memory is an `Err`.
 pub fn verify_all(

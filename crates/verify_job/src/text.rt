@@ -79,8 +79,9 @@ fn limit_word(limit: Limit) -> &'static [u8]
     ensures { result.now ≡ limit_word limit }
 {
     match limit {
-        Limit::Nodes => b"nodes",
+        Limit::Nodes(_) => b"nodes",
         Limit::Depth => b"depth",
+        Limit::Steps(_) => b"steps",
     }
 }
 
@@ -195,12 +196,7 @@ fn widths_of(run: &[FoundAt], alloc: Global) -> Result<Vec<u8>, NoMemory>
 }
 
 /// Appends at which widths it is, where more than one was asked for.
-fn put_at(
-    out: &mut Vec<u8>,
-    run: &[FoundAt],
-    single: bool,
-    alloc: Global,
-) -> Result<(), NoMemory>
+fn put_at(out: &mut Vec<u8>, run: &[FoundAt], single: bool, alloc: Global) -> Result<(), NoMemory>
     ensures { OnOk result (out.new.items
         ≡ out.old.items ++ at_text single (map (λ f. f.width) run.now)) }
 {
@@ -347,7 +343,10 @@ fn may_be_right_throughout(found: &OpFindings) -> bool
 fn rights(found: &[OpFindings]) -> usize
     ensures { result ≡ count_by is_right_throughout found.now }
 {
-    found.iter().filter(|found| is_right_throughout(found)).count()
+    found
+        .iter()
+        .filter(|found| is_right_throughout(found))
+        .count()
 }
 
 /// Appends the last line.
@@ -372,7 +371,13 @@ pub fn report(
         ≡ report_of widths.now (operations ops.now) found.now) }
 {
     let mut out = Vec::new(alloc);
-    put_lines(&mut out, ops.ops.as_slice(), found, widths.len() == 1, alloc)?;
+    put_lines(
+        &mut out,
+        ops.ops.as_slice(),
+        found,
+        widths.len() == 1,
+        alloc,
+    )?;
     put_last(&mut out, widths, found)?;
     Ok(out)
 }

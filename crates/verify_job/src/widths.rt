@@ -46,12 +46,7 @@ fn put_next(out: &mut Vec<u8>, run: &[u8], first: bool) -> Result<(), NoMemory>
 
 /// Appends the widths from one up to the k-th, if the k-th ends its run. Where the next run begins
 /// then, or still this one.
-fn put_ended(
-    out: &mut Vec<u8>,
-    widths: &[u8],
-    from: usize,
-    k: usize,
-) -> Result<usize, NoMemory>
+fn put_ended(out: &mut Vec<u8>, widths: &[u8], from: usize, k: usize) -> Result<usize, NoMemory>
     requires { (from ≤ k) × (k < length widths.now) }
     ensures { IfOk result (λ next. WritesEnded
         (λ run. if from == 0 then span_text run else 44 ∷ span_text run) follows widths.now from k

@@ -40,28 +40,8 @@ def wrong_number(word: Word, text: str) -> str | None:
     return None
 
 
-def wrong_widths(word: Word, text: str) -> str | None:
-    """What is wrong with an argument that has to be a list of widths: numbers and spans `A-B`, with commas between, that rise."""
-    below = 0
-    for part in text.split(","):
-        first, dash, last = part.partition("-")
-        for number in (first, last) if dash else (first,):
-            wrong = wrong_number(Word(word.name, "width"), number)
-            if wrong:
-                return wrong
-        if int(first) <= below or (dash and int(last) < int(first)):
-            return f"{word.name} is a list of widths that rise, as 4,8,16-32; it cannot be {text}"
-        below = int(last) if dash else int(first)
-    return None
-
-
 def wrong_numbers(command: Command, words: list[str]) -> str | None:
     """What is wrong with the numeric arguments of a command."""
-    lists = [(word, text) for word, text in zip(command.words, words) if word.kind == "widths"]
-    for word, text in lists:
-        wrong = wrong_widths(word, text)
-        if wrong:
-            return wrong
     numbers = [(word, text) for word, text in zip(command.words, words) if word.kind in RANGES]
     for word, text in numbers:
         wrong = wrong_number(word, text)

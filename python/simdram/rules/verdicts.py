@@ -12,7 +12,7 @@ VERIFIED = (0, 19, 20)
 LINE = re.compile(r"(?P<name>\w+) (?:(?P<right>right) aap=(?P<aap>\d+) ap=(?P<ap>\d+)"
                   r"|(?P<wrong>wrong)(?P<operands>(?: \w+=\d+)*) gives (?P<gives>\d+(?: \d+)?) not (?P<wanted>\d+(?: \d+)?)"
                   r"(?: from (?P<start>.+))?|(?P<bad_walk>bad_walk) (?P<at>\d+) (?P<why>\w+)"
-                  r"|(?P<unknown>unknown) (?P<limit>\w+)|(?P<other>no_entry|other_kinds))")
+                  r"|(?P<other>unknown|no_entry|other_kinds)(?: (?P<limit>nodes|depth|steps))?)")
 TOTAL = re.compile(r"verified (\d+) of (\d+) at (\d+)")
 
 
@@ -21,7 +21,7 @@ class Verdict:
     """What is said of an entry at one width: whether it does the op, for all numbers and whatever the cells hold.
 
     Of a wrong one: the operands of a case by the op's names, what it gives, what the op means, and the cells and rows that are
-    1 at the case's start. Of one that is stuck: the instruction, and why. Of one that is unknown: which limit was reached.
+    1 at the case's start. Of one that is stuck: the instruction, and why. Of an unknown one: which limit was reached, where told.
     """
 
     name: str
@@ -54,10 +54,8 @@ def verdict_of(line: str) -> typing.Optional[Verdict]:
         return Verdict(name, RIGHT, int(match["aap"]), int(match["ap"]))
     if match["bad_walk"]:
         return Verdict(name, BAD_WALK, at=int(match["at"]), why=match["why"])
-    if match["unknown"]:
-        return Verdict(name, UNKNOWN, why=match["limit"])
     if match["other"]:
-        return Verdict(name, match["other"])
+        return Verdict(name, match["other"], why=match["limit"] or "")
     operands = {word.partition("=")[0]: int(word.partition("=")[2]) for word in match["operands"].split()}
     return Verdict(name, WRONG, operands=operands, gives=numbers(match["gives"]), wanted=numbers(match["wanted"]),
                    start=tuple((match["start"] or "").split()))

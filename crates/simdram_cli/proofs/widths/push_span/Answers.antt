@@ -24,10 +24,21 @@ returns-then-first-from-clause-none c =
     span_not c.args.low c.args.part.now (λ span above within.
     let most : WIDTH_MAX ≡ 128 = refl in
     elim c.then-first-from.branch [
-      | then-first-from-via-then-first-from w ↦ omega (arith, above, w.if-first-from.true,
-          c.from.ensures, c.in-Some.ensures.some.1)
-      | then-first-from-via-else-first-from+then-last-from w ↦ omega (arith, within, most,
-          w.if-last-from.true, w.from-else-first-from.ensures, c.in-Some.ensures.some.2)
+      | then-first-from-via-then-first-from w ↦ omega (
+        arith,
+        above,
+        w.if-first-from.true,
+        c.from.ensures,
+        c.in-Some.ensures.some.1,
+      )
+      | then-first-from-via-else-first-from+then-last-from w ↦ omega (
+        arith,
+        within,
+        most,
+        w.if-last-from.true,
+        w.from-else-first-from.ensures,
+        c.in-Some.ensures.some.2,
+      )
     ])
 
 pub push-requires : goal.push-requires
@@ -38,8 +49,19 @@ push-requires c =
     let more = length-append old range in
     let long = length-range_with_len c.in-Some.first (c.loop-n.n - c.in-Some.first) in
     let room : length c.loop-n.widths.items < 128 =
-    omega (arith, all, more, long, c.requires.few, c.from.ensures, c.if-first-from.false,
-    c.from-else-first-from.ensures, c.if-last-from.false, c.loop-n-test.true, c.loop-n.auto.n) in
+    omega (
+      arith,
+      all,
+      more,
+      long,
+      c.requires.few,
+      c.from.ensures,
+      c.if-first-from.false,
+      c.from-else-first-from.ensures,
+      c.if-last-from.false,
+      c.loop-n-test.true,
+      c.loop-n.auto.n,
+    ) in
     (omega arith, room)
 
 pub loop-n-preserved : goal.loop-n-preserved
