@@ -10,8 +10,8 @@ pub data Written : Type 0 where
   Bit : List ℕ → Option ℕ → Written
   Bits : List ℕ → Option ℕ → Option ℕ → Written
 
--- what stands in a line after its first name: an operand, a number or a comma; a stray is a word that
--- belongs to none of them
+-- what stands in a line after its first name: an operand, a number or a comma; a stray is a word
+-- that belongs to none of them
 pub data Term : Type 0 where
   Named : Written → Term
   Value : Option ℕ → Term
@@ -65,7 +65,8 @@ operands_of words = operands_in (terms_of words)
 abbrev pub written_words : Written → List Word
 written_words (Whole name) = Name name ∷ []
 written_words (Bit name k) = Name name ∷ Open ∷ Number k ∷ Close ∷ []
-written_words (Bits name low high) = Name name ∷ Open ∷ Number low ∷ Colon ∷ Number high ∷ Close ∷ []
+written_words (Bits name low high) =
+    Name name ∷ Open ∷ Number low ∷ Colon ∷ Number high ∷ Close ∷ []
 
 -- the words of a term
 abbrev pub term_words : Term → List Word

@@ -1,6 +1,6 @@
 -- Laws of whole scripts.
-use Rattle.std.specs.Prelude.{◌≡◌, ℕ, ◌+◌, ◌*◌, ◌^◌, ◌<◌, ◌≤◌, ◌||◌, true, false, List, ◌∷◌, ◌++◌, map}
-use Rattle.std.specs.Prelude.{length, flat_map, take, drop, All, Some, None, Ok}
+use Rattle.std.specs.Prelude.{◌≡◌, ℕ, ◌+◌, ◌*◌, ◌^◌, ◌<◌, ◌≤◌, ◌||◌, true, false, List, ◌∷◌, ◌++◌}
+use Rattle.std.specs.Prelude.{map, length, flat_map, take, drop, All, Some, None, Ok}
 use Rattle.std.specs.List.{AllByRecursion}
 use Rattle.dram_model.specs.declared.geometry.Geometry.{Geometry}
 use Rattle.dram_model.specs.declared.dram.Counters.{Counters}
@@ -127,8 +127,8 @@ UntouchedStays =
     → row_in row (banks_at_end g (routines_in p) table banks script bank)
     ≡ row_in row (banks bank)
 
--- Whatever an accepted program does, a bbop leaves the numbers of each operand, an object or a part of
--- one, that has no row of a destination, and so a bbop that is done leaves those of its sources
+-- Whatever an accepted program does, a bbop leaves the numbers of each operand, an object or a part
+-- of one, that has no row of a destination, and so a bbop that is done leaves those of its sources
 pub record OthersStay : Type 0 where
   pub others : (g : Geometry) (p : Program) (table : List Named) (op : List ℕ) (dst : Place)
       (srcs : List Place) (count n : ℕ) (banks : Banks) (place : Place) → IsProgram p

@@ -1,6 +1,6 @@
 -- The rows and the numbers of an operand: an object, or a part of one.
-use Rattle.std.specs.Prelude.{ℕ, ◌+◌, ◌*◌, ◌/◌, ◌%◌, ◌^◌, nat_lt, Bool, true, false, ◌&&◌, List, map}
-use Rattle.std.specs.Prelude.{Option, Some, None}
+use Rattle.std.specs.Prelude.{ℕ, ◌+◌, ◌*◌, ◌/◌, ◌%◌, ◌^◌, nat_lt, Bool, true, false, ◌&&◌, List}
+use Rattle.std.specs.Prelude.{map, Option, Some, None}
 use Rattle.std.specs.List.{zip}
 use Rattle.object_alloc.specs.declared.table.Object.{Object}
 use Rattle.bbop_isa.specs.declared.instr.Part.{Part}

@@ -1,5 +1,6 @@
 -- The report of a run, as bytes.
-use Rattle.std.specs.Prelude.{ℕ, ◌+◌, ◌==◌, if◌then◌else◌, Option, Some, None, List, [], ◌∷◌, ◌++◌, flat_map, take, codes, decimal, count_by}
+use Rattle.std.specs.Prelude.{ℕ, ◌+◌, ◌==◌, if◌then◌else◌, Option, Some, None, List, [], ◌∷◌, ◌++◌}
+use Rattle.std.specs.Prelude.{flat_map, take, codes, decimal, count_by}
 use Rattle.dram_model.specs.declared.geometry.Geometry.{Geometry}
 use Rattle.dram_model.specs.declared.dram.Counters.{Counters}
 use Rattle.uprog_code.specs.declared.walker.Why3.{Why3}
@@ -83,7 +84,8 @@ reply_text (Refused reason) = codes "refused " ++ why_text reason
 
 -- a line without its number
 abbrev pub said_text : Said → List ℕ
-said_text (Printed operand values) = operand ++ codes ":" ++ flat_map (λ v. codes " " ++ decimal v) values
+said_text (Printed operand values) = operand ++ codes ":"
+    ++ flat_map (λ v. codes " " ++ decimal v) values
 said_text (Answered reply) = reply_text reply
 
 -- the line with this number

@@ -78,8 +78,8 @@ abbrev pub srcs_of : Option Routine → List Place → List Place
 srcs_of None places = []
 srcs_of (Some operation) places = srcs_in operation.shape places
 
--- the numbers of an object of this name, with the part of each destination that is in it replaced by
--- the result at its place
+-- the numbers of an object of this name, with the part of each destination that is in it replaced
+-- by the result at its place
 abbrev pub new_numbers : (ℕ → List ℕ) → ℕ → List Place → List ℕ → List ℕ → List ℕ
 new_numbers result k [] name numbers = numbers
 new_numbers result k (dst ∷ dsts) name numbers = new_numbers result (k + 1) dsts name

@@ -157,8 +157,8 @@ pub fn fill<D: Dram>(
     ensures rises { OnOk result (RisesAtMost (16 * WIDTH_MAX) (D.view dram.old).counters
         (D.view dram.new).counters) }
 
-    // Where a call fails, the instruction is not refused, no bank past the operand's is changed, and
-    // every bank but one stands where a first part of the events leaves it.
+    // Where a call fails, the instruction is not refused, no bank past the operand's is changed,
+    // and every bank but one stands where a first part of the events leaves it.
     ensures allowed { (operations : Routines) → OnErr result
         (refusal g operations table.now.pairs (Fill place.now value) ≡ None) }
     ensures failed { OnErr result (FailedBelow (segments g (rows_of table.now.pairs place.now))

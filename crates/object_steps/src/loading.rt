@@ -64,8 +64,8 @@ fn loadable(g: Geometry, table: &Table, place: &Place, values: &[Value]) -> Resu
     }
 }
 
-/// `load PLACE, V, ..`: the values become the operand's elements, and the columns past the last take
-/// 0. The stage has room for the rows of one bank of the widest object.
+/// `load PLACE, V, ..`: the values become the operand's elements, and the columns past the last
+/// take 0. The stage has room for the rows of one bank of the widest object.
 pub fn load<D: Dram>(
     g: Geometry,
     table: &Table,
@@ -90,8 +90,8 @@ pub fn load<D: Dram>(
     ensures rises { OnOk result (RisesAtMost (16 * WIDTH_MAX) (D.view dram.old).counters
         (D.view dram.new).counters) }
 
-    // Where a call fails, the instruction is not refused, no bank past the operand's is changed, and
-    // every bank but one stands where a first part of the events leaves it.
+    // Where a call fails, the instruction is not refused, no bank past the operand's is changed,
+    // and every bank but one stands where a first part of the events leaves it.
     ensures allowed { (operations : Routines) → OnErr result
         (refusal g operations table.now.pairs (Load place.now values.now) ≡ None) }
     ensures failed { OnErr result (FailedBelow (segments g (rows_of table.now.pairs place.now))

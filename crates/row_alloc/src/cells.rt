@@ -341,8 +341,8 @@ impl Fill {
     }
 }
 
-/// How many cases of a fill there are, by 14 bits: which wordlines give the literal, and which cells
-/// are free.
+/// How many cases of a fill there are, by 14 bits: which wordlines give the literal, and which
+/// cells are free.
 const MOST_FILLS: usize = 16_384;
 
 /// A case that was not asked for yet.

@@ -354,8 +354,8 @@ impl<'a> Machine<'a> {
         ensures rises { OnOk result (RisesAtMost (16 * WIDTH_MAX) (D.view dram.old).counters
             (D.view dram.new).counters) }
 
-        // Where the chip fails, the banks past those of the operand are as before, and each bank but
-        // one stands where a first part of the writes leaves it.
+        // Where the chip fails, the banks past those of the operand are as before, and each bank
+        // but one stands where a first part of the writes leaves it.
         ensures failed { OnErr result (FailedBelow (banks_by self.old (Load place.now values.now))
             (D.view dram.old) (D.view dram.new)) }
         ensures left { OnErr result (StoppedWithin

@@ -1,8 +1,8 @@
 //! Why a bbop is refused.
 
 ghost use Rattle.std.specs.Prelude.{◌≡◌, ℕ, ◌+◌, ◌<◌, ◌≤◌, ◌==◌, not, is_none, map, zip, ◌∷◌, ◌++◌};
-ghost use Rattle.std.specs.Prelude.{◌||◌, ◌&&◌, [], List, Bool, Option, Some, None, length, position};
-ghost use Rattle.std.specs.Prelude.{IfSome, IfOk, IfErr, OnOk};
+ghost use Rattle.std.specs.Prelude.{◌||◌, ◌&&◌, [], List, Bool, Option, Some, None, length};
+ghost use Rattle.std.specs.Prelude.{position, IfSome, IfOk, IfErr, OnOk};
 ghost use Rattle.std.specs.Option.{option_map, option_to_list};
 ghost use Rattle.std.specs.Str.{bytes_eq};
 ghost use Rattle.uprog_code.specs.Shape.{need, shape_of, width, results};

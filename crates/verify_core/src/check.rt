@@ -1,8 +1,8 @@
 //! Whether an entry gives what a compiled one gives.
 
 ghost use Rattle.bdd.specs.Paths.{assigned};
-ghost use Rattle.std.specs.Prelude.{◌≡◌, ◌≢◌, ◌+◌, ◌<◌, ◌≤◌, ◌^◌, ℕ, List, IfOk, IfNone, IfSome, Err};
-ghost use Rattle.std.specs.Prelude.{false};
+ghost use Rattle.std.specs.Prelude.{◌≡◌, ◌≢◌, ◌+◌, ◌<◌, ◌≤◌, ◌^◌, ℕ, List, IfOk, IfNone, IfSome};
+ghost use Rattle.std.specs.Prelude.{Err, false};
 ghost use Rattle.std.specs.Prelude.{length};
 ghost use Rattle.uprog_code.specs.Shape.{shape_of};
 ghost use Rattle.uprog_code.specs.Machine.{HasEnded, trace, issues_of};
