@@ -34,7 +34,7 @@ use Rattle.object_steps.proofs.Found.{part_fits}
 use Rattle.machine_model.specs.Steps.{Held, table_of, base_for, binding}
 use Rattle.machine_model.proofs.Facts.{AreOperands, none, more, good}
 use Rattle.op_text.specs.declared.tree.Kind.{Kind}
-use Rattle.machine_model.proofs.Bbops.{binding_fits, operand_at}
+use Rattle.machine_model.proofs.Bbops.{binding_fits, first_operand}
 use Rattle.sim_machine.specs.declared.refusal.Grant.{Grant}
 use Rattle.sim_machine.specs.Granted.{IsGranted, granted_job}
 use Rattle.sim_machine.proofs.Counting.{has_ended}
@@ -86,8 +86,8 @@ pub object_fits : (g : Geometry) (table : List Named) (o : Routine) (dst : Place
     → first (bbop_conditions (limit_of g) table o (dst ∷ srcs) count n) ≡ None
     → FitsOn g (rows_of table dst)
 object_fits g table o dst srcs count n all allowed =
-    let op = operand_at table count n (results o.shape) (dsts_in o.shape (dst ∷ srcs)) 0
-    (omega arith) (good g table o (dst ∷ srcs) count n allowed).destinations in
+    let op = first_operand table count n _ _ dst _
+    (good g table o (dst ∷ srcs) count n allowed).destinations in
     part_fits g (object_named table dst.name) dst.part op.inside
     (found_object (IsObject g) table dst.name op.present all)
 
