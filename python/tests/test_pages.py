@@ -1,6 +1,7 @@
 """The README and docs against the program: every line that they show, the table of operations, and numbers in sentences."""
 
 import doctest
+import itertools
 import os
 import pathlib
 import re
@@ -11,8 +12,8 @@ import unittest
 import support
 from support import TOP, needs_numpy, needs_program
 
-from simdram.commands import ALL
-from simdram.word_ops import TAKES_GIVES, forms
+from simdram.launcher.commands import ALL
+from simdram.rules.word_ops import TAKES_GIVES, forms
 
 WIDTHS = range(1, 129)
 SHOWN = (8, 32)
@@ -52,6 +53,13 @@ def own_op(name):
     return f"op o_{name}({head}) -> {tail} {{ {', '.join(result for result, _ in results)} = {name}({arguments}); }}\n"
 
 
+def named_scratch(listing):
+    """How many bits and how many words of scratch the commands of each entry of a listing name."""
+    for entry in re.split(r"^entry ", listing, flags=re.MULTILINE)[1:]:
+        names = set(re.findall(r" ([tw]\d+)\b", entry))
+        yield entry.split()[0], (sum(one[0] == "t" for one in names), sum(one[0] == "w" for one in names))
+
+
 def value(formula, n):
     """The value of a formula of the table at width n: after it, in brackets, stand the widths at which it is another."""
     formula, _, cases = formula.partition(" (n = ")
@@ -84,6 +92,7 @@ class Costs(unittest.TestCase):
                 for line in cls.run_program(folder, "cost", f"{text}.prog", str(n)).splitlines():
                     name, *counts = re.fullmatch(r"(\w+) aap=(\d+) ap=(\d+) rows=(\d+)", line).groups()
                     cls.counts[name, n] = tuple(map(int, counts))
+        cls.named = dict(named_scratch(cls.run_program(folder, "list", "ops.prog")))
 
     @staticmethod
     def run_program(folder, *words):
@@ -94,9 +103,12 @@ class Costs(unittest.TestCase):
         found = []
         for names, rest in rows:
             _, _, scratch, *sums, aap, ap, fewest, _ = (cell.strip() for cell in rest.split("|"))
-            for name in re.findall(r"`(\w+)`", names):
+            scratch, _, named = scratch.partition("; named: ")
+            for name, own in zip(re.findall(r"`(\w+)`", names), itertools.cycle((named or scratch).split(", "))):
                 found.append(name)
+                bits, words = self.named[f"o_{name}"]
                 for n in WIDTHS:
+                    self.assertEqual(value(own, n), bits + n * words, (name, n))
                     self.assertEqual(self.counts[f"o_{name}", n], (value(aap, n), value(ap, n), value(scratch, n)), (name, n))
                 self.assertEqual([int(one) for one in sums], [sum(self.counts[f"o_{name}", n][:2]) for n in SHOWN], name)
             for number in re.findall(r"\d+", fewest):

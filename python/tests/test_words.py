@@ -10,8 +10,8 @@ import unittest
 import support
 from support import TOP, needs_program
 
-from simdram.commands import ALL, PROGRAM
-from simdram.words import nearest, wrong_words
+from simdram.launcher.commands import ALL, PROGRAM
+from simdram.launcher.words import nearest, wrong_words
 
 LAUNCHER = TOP / "simdram"
 
@@ -25,7 +25,7 @@ def called(*words, **more):
 
 def whole(command):
     """Words that are a command: each file by its own name, each number in its range."""
-    numbers = {"width": "8", "banks": "1", "rows": "64", "words": "1", "seed": "7"}
+    numbers = {"widths": "1-8,16", "banks": "1", "rows": "64", "words": "1", "seed": "7"}
     return [command.name, *(numbers.get(word.kind, word.name.lower()) for word in command.words)]
 
 
@@ -40,6 +40,12 @@ class WrongWords(unittest.TestCase):
             (["cost", "p", "8", "9"], "9 is one argument too many; cost takes 2"),
             (["cost", "p", "129"], "1 to 128; it cannot be 129"),
             (["cost", "p", "+8"], "in decimal digits"),
+            (["cost", "p", "8,"], "in decimal digits; it cannot be ''"),
+            (["cost", "p", "1-2-3"], "in decimal digits; it cannot be '2-3'"),
+            (["verify", "o", "p", "0-8"], "1 to 128; it cannot be 0"),
+            (["verify", "o", "p", "8,4"], "widths that rise, as 4,8,16-32; it cannot be 8,4"),
+            (["verify", "o", "p", "4,4"], "widths that rise, as 4,8,16-32; it cannot be 4,4"),
+            (["verify", "o", "p", "8-4"], "widths that rise, as 4,8,16-32; it cannot be 8-4"),
             (["init", "1", "63", "1", "o"], "64 to 1006; it cannot be 63"),
             (["init", "16", "1006", "1024", "o"], "more than the 8388608 words"),
             (["soak", str(2**64)], "the seed"),

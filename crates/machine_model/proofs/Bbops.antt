@@ -34,7 +34,7 @@ use Rattle.machine_model.specs.Places.{cut, is_past, seen, share}
 use Rattle.machine_model.specs.Routines.{Routine, Performs}
 use Rattle.machine_model.specs.Refusals.{object_named, rows_of, goes_past, nothing, dsts_in, srcs_in}
 use Rattle.machine_model.specs.Refusals.{meets_one}
-use Rattle.machine_model.specs.Steps.{Held, table_of, numbers_named, numbers_at, base_for, computed}
+use Rattle.machine_model.specs.Steps.{Held, table_of, numbers_at, base_for, computed}
 use Rattle.machine_model.specs.Steps.{binding, through, new_numbers}
 use Rattle.machine_model.specs.Agrees.{Agrees}
 use Rattle.machine_model.proofs.Facts.{IsOperand, AreOperands, none, more, Differ, AreOthers, IsGood}

@@ -1,7 +1,7 @@
 -- How much an instruction does at most.
 use Rattle.std.proofs.Common.{◌≡◌, ℕ, zero, suc, ◌+◌, ◌*◌, ◌<◌, ◌≤◌, Bool, true, false, cond}
 use Rattle.std.proofs.Common.{eqb, leb, List, [], ◌∷◌, length, Option, Some, None, refl}
-use Rattle.std.proofs.Common.{ap, arith, get_or, sym, subst}
+use Rattle.std.proofs.Common.{arith, get_or, sym, subst}
 use Rattle.std.specs.Prelude.{count_by, slice_get, slice_index, slice_set, is_none, ◌-◌}
 use Rattle.std.specs.List.{AllByRecursion}
 use Rattle.std.proofs.Math.Nat.{mul-le-mul, suc-mul, mul-add}

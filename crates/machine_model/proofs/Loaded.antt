@@ -15,7 +15,7 @@ use Rattle.dram_model.specs.Chip.{Banks, after}
 use Rattle.dram_model.proofs.EventLaws.{on_bank_all}
 use Rattle.dram_model.specs.Elements.{number}
 use Rattle.dram_model.proofs.RowWrites.{writes_numbers, each_inside, each_after, part, whole}
-use Rattle.dram_model.proofs.RowWrites.{all_writes, all_own, part_length, map_parts, padded_length}
+use Rattle.dram_model.proofs.RowWrites.{all_writes, all_own, part_length, padded_length}
 use Rattle.dram_model.proofs.RowWrites.{all_append, all_take, all_drop, all_zero}
 use Rattle.object_alloc.specs.declared.table.Object.{Object}
 use Rattle.object_alloc.specs.Free.{has_row, AreApart}

@@ -17,7 +17,7 @@ use Rattle.machine_model.specs.Columns.{columns, segments}
 use Rattle.machine_model.specs.Steps.{through, new_numbers}
 use Rattle.bbop_isa.specs.declared.instr.Part.{Part}
 use Rattle.bbop_isa.specs.declared.instr.Place.{Place}
-use Rattle.machine_model.specs.Places.{cut, is_past, seen, put, put_all}
+use Rattle.machine_model.specs.Places.{cut, is_past, put, put_all}
 use Rattle.machine_model.proofs.Placed.{IsPlaced, AreResults}
 use Rattle.machine_model.proofs.Sliced.{replaces, number_same, has_from}
 use Rattle.machine_model.proofs.Below.{below_run, below_same, through_in, through_same}

@@ -1,22 +1,13 @@
 -- Operands and the objects that they are in.
-use Rattle.std.specs.Prelude.{◌≡◌, ◌↔◌, ℕ, ◌+◌, ◌<◌, ◌≤◌, ◌^◌, true, false, List, [], ◌∷◌}
-use Rattle.std.specs.Prelude.{Some, map}
-use Rattle.std.specs.List.{list_any, AllByRecursion}
+use Rattle.std.specs.Prelude.{◌≡◌, ℕ, ◌+◌, true, false, List, [], ◌∷◌}
 use Rattle.std.specs.Str.{bytes_eq}
-use Rattle.bit_rows.specs.Bits.{bit_at}
 use Rattle.dram_model.specs.declared.geometry.Geometry.{Geometry}
-use Rattle.dram_model.specs.declared.address.Cell.TheVariants.{D}
-use Rattle.dram_model.specs.Column.{Column, run}
 use Rattle.dram_model.specs.Chip.{Banks}
-use Rattle.dram_model.specs.Elements.{number, segments_of}
 use Rattle.object_alloc.specs.declared.table.Object.{Object}
-use Rattle.object_alloc.specs.Free.{has_row, AreApart}
-use Rattle.wave_model.specs.Schedule.{WaveJob}
-use Rattle.machine_model.specs.Columns.{columns, segments}
-use Rattle.machine_model.specs.Steps.{through, new_numbers}
-use Rattle.bbop_isa.specs.declared.instr.Part.{Part}
+use Rattle.object_alloc.specs.Free.{AreApart}
+use Rattle.machine_model.specs.Columns.{columns}
 use Rattle.bbop_isa.specs.declared.instr.Place.{Place}
-use Rattle.machine_model.specs.Places.{cut, is_past, seen, put, put_all}
+use Rattle.machine_model.specs.Places.{cut, is_past}
 
 -- an operand whose name is this object's is a part of it, and any other is apart from it
 pub record IsPlaced (table_rows : Place → Object) (name : List ℕ) (o : Object) (count : ℕ)

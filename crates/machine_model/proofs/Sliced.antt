@@ -11,12 +11,8 @@ use Rattle.dram_model.specs.declared.address.Cell.TheVariants.{D}
 use Rattle.dram_model.specs.Column.{Column}
 use Rattle.dram_model.specs.Elements.{number}
 use Rattle.object_alloc.specs.declared.table.Object.{Object}
-use Rattle.object_alloc.specs.Free.{has_row, AreApart}
-use Rattle.wave_model.specs.Schedule.{WaveJob}
-use Rattle.machine_model.specs.Columns.{columns, segments}
-use Rattle.machine_model.specs.Steps.{through, new_numbers}
+use Rattle.object_alloc.specs.Free.{has_row}
 use Rattle.bbop_isa.specs.declared.instr.Part.{Part}
-use Rattle.bbop_isa.specs.declared.instr.Place.{Place}
 use Rattle.machine_model.specs.Places.{cut, is_past, seen, put}
 use Rattle.machine_model.specs.Laws.{PartsAreBits}
 

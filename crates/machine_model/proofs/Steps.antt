@@ -1,10 +1,9 @@
 -- The step of the rows gives the word machine's step.
-use Rattle.std.proofs.Common.{◌≡◌, ℕ, zero, suc, ◌+◌, ◌<◌, ◌≤◌, Bool, true, false, not, cond, ltb}
+use Rattle.std.proofs.Common.{◌≡◌, ℕ, zero, suc, ◌<◌, ◌≤◌, Bool, true, false, not, cond, ltb}
 use Rattle.std.proofs.Common.{List, [], ◌∷◌, length, get_or, map, Option, Some, None, refl, sym}
 use Rattle.std.proofs.Common.{◌∙◌, ap, subst, arith}
-use Rattle.std.specs.Prelude.{filter, slice_index, ◌||◌}
-use Rattle.std.specs.Option.{unwrap_or}
-use Rattle.uprog_code.specs.Shape.{results}
+use Rattle.std.specs.Prelude.{filter, slice_index}
+use Rattle.uprog_code.specs.Machine.{issues_of}
 use Rattle.std.specs.Str.{bytes_eq}
 use Rattle.std.proofs.lemmas.List.{length-map}
 use Rattle.std.proofs.lemmas.Bool.Decides.{nat_tests}
@@ -14,7 +13,6 @@ use Rattle.std.proofs.lemmas.List.Elements.{All-map, All-filter}
 use Rattle.dram_model.specs.declared.geometry.Geometry.{Geometry}
 use Rattle.dram_model.specs.Column.{Column, run}
 use Rattle.dram_model.specs.Chip.{Banks}
-use Rattle.bit_rows.specs.declared.TheConstants.{WIDTH_MAX}
 use Rattle.object_alloc.specs.declared.table.Object.{Object}
 use Rattle.object_alloc.specs.Listed.{Named, IsTable, without, has_name}
 use Rattle.object_alloc.proofs.Tables.{IsTable-without}
@@ -24,14 +22,14 @@ use Rattle.bbop_isa.specs.declared.instr.Order.{Order as Orders}
 use Rattle.machine_model.specs.declared.Why.{Why}
 use Rattle.dram_model.specs.Elements.{column_count, segments_of}
 use Rattle.machine_model.specs.Columns.{object_size, segments, columns}
-use Rattle.machine_model.specs.Routines.{Routine, Routines}
+use Rattle.machine_model.specs.Routines.{Performs, Routine, Routines}
 use Rattle.object_alloc.specs.Listed.{limit_of}
 use Rattle.machine_model.specs.Refusals.{object_named, rows_of, refusal, bbop_refusal, dsts_in, srcs_in}
 use Rattle.wave_model.specs.Schedule.{WaveJob}
 use Rattle.machine_model.specs.Steps.{Held, table_of, numbers_at, with_results}
 use Rattle.machine_model.specs.Steps.{new_numbers, dsts_of, srcs_of, computed, through, job_of}
 use Rattle.machine_model.specs.Steps.{worded, rowed, if_done, banks_after, words_after}
-use Rattle.machine_model.specs.Agrees.{Agrees, DoesAll}
+use Rattle.machine_model.specs.Agrees.{Agrees}
 use Rattle.machine_model.proofs.Facts.{good}
 use Rattle.machine_model.proofs.Places.{no_one, entry_of, found}
 use Rattle.machine_model.proofs.Bbops.{bbop_job, bbop_object, first_operand, part_count}
@@ -109,16 +107,21 @@ operand_within g banks state place a h =
     (sym (part_count (object_named (table_of state) place.name) place.part
     ∙ ap (λ (o : Object). o.count) f.object)) (a.within f.place no_one f.within)
 
+-- what is issued for the operation of this name does what it means at this width
+abbrev pub DoesOne : Routines → (List ℕ → ℕ → List ℕ → List ℕ) → List ℕ → ℕ → Type 0
+DoesOne operations meaning op n = (o : Routine) → operations op ≡ Some o
+    → Performs o.shape n (issues_of (o.trace n)) (meaning op n)
+
 -- A bbop that is done
 bbop_done : (g : Geometry) (operations : Routines) (meaning : List ℕ → ℕ → List ℕ
     → List ℕ) (op : List ℕ) (dst : Place) (srcs : List Place) (count n : ℕ) (found : Option Routine)
-    → operations op ≡ found → 0 < n → n ≤ WIDTH_MAX → DoesAll operations meaning
+    → operations op ≡ found → DoesOne operations meaning op n
     → (banks : Banks) (state : List Held) → Agrees g banks state
     → bbop_refusal g (table_of state) found (dst ∷ srcs) count n ≡ None
     → Agrees g (rowed g operations (table_of state) banks (Bbop op dst srcs count n))
     (worded g operations meaning state (Bbop op dst srcs count n))
-bbop_done g operations meaning op dst srcs count n None e some few does banks state a h = cc
-bbop_done g operations meaning op dst srcs count n (Some o) e some few does banks state a h =
+bbop_done g operations meaning op dst srcs count n None e does banks state a h = cc
+bbop_done g operations meaning op dst srcs count n (Some o) e does banks state a h =
     let places = dst ∷ srcs in
     let facts = good g (table_of state) o places count n h in
     let job = job_of g operations (table_of state) (Bbop op dst srcs count n) in
@@ -133,7 +136,7 @@ bbop_done g operations meaning op dst srcs count n (Some o) e some few does bank
     (λ bank l. through_length job banks bank ∙ a.shaped bank l)
     (λ i l. bbop_object g banks state o places first count n (meaning op n) job a facts
     op_first.counted (operand_within g banks state dst a op_first.present)
-    (does op o e n some few) (job_is g operations op dst srcs count n o e state) i l))
+    (does o e) (job_is g operations op dst srcs count n o e state) i l))
 
 pub done_or_not : (g : Geometry) (r : Option Why) (new old : Banks) (s t : List Held)
     → (r ≡ None → Agrees g new s) → Agrees g old t → Agrees g (if_done r new old) (if_done r s t)
@@ -142,13 +145,12 @@ done_or_not g (Some reason) new old s t done kept = kept
 
 -- The step of the rows is the word machine's at a bbop
 pub bbop_agrees : (g : Geometry) (operations : Routines) (meaning : List ℕ → ℕ → List ℕ
-    → List ℕ) (op : List ℕ) (dst : Place) (srcs : List Place) (count n : ℕ) → 0 < n → n ≤ WIDTH_MAX
-    → DoesAll operations meaning → StepAgrees g operations meaning (Bbop op dst srcs count n)
-bbop_agrees g operations meaning op dst srcs count n some few does banks state a =
+    → List ℕ) (op : List ℕ) (dst : Place) (srcs : List Place) (count n : ℕ)
+    → DoesOne operations meaning op n → StepAgrees g operations meaning (Bbop op dst srcs count n)
+bbop_agrees g operations meaning op dst srcs count n does banks state a =
     done_or_not g (bbop_refusal g (table_of state) (operations op) (dst ∷ srcs) count n) _ banks _
     state
-    (bbop_done g operations meaning op dst srcs count n (operations op) refl some few does banks
-    state a) a
+    (bbop_done g operations meaning op dst srcs count n (operations op) refl does banks state a) a
 
 below_none : (b : ℕ) → ltb b 0 ≡ false
 below_none b = grind (arith, nat_tests)

@@ -32,7 +32,7 @@ use Rattle.machine_model.specs.Columns.{each_row, object_size, segments}
 use Rattle.dram_model.specs.Elements.{padded_to, row_bits}
 use Rattle.machine_model.specs.Routines.{Routine, Routines}
 use Rattle.object_alloc.specs.Listed.{limit_of}
-use Rattle.machine_model.specs.Refusals.{refusal, object_named, rows_of, dsts_in, srcs_in}
+use Rattle.machine_model.specs.Refusals.{refusal, rows_of, dsts_in, srcs_in}
 use Rattle.machine_model.specs.Places.{seen, put_all}
 use Rattle.wave_model.specs.Schedule.{WaveJob}
 

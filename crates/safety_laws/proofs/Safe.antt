@@ -29,7 +29,7 @@ use Rattle.bbop_isa.specs.Forms.{Instruction, Init, Bbop, Load, Fill, Print, Fre
 use Rattle.machine_model.specs.declared.Why.{Why}
 use Rattle.machine_model.specs.Columns.{segments}
 use Rattle.machine_model.specs.Pieces.{AreBbops, wave_queues}
-use Rattle.machine_model.specs.Refusals.{bbop_refusal, rows_of}
+use Rattle.machine_model.specs.Refusals.{bbop_refusal, dsts_in, rows_of}
 use Rattle.machine_model.specs.Routines.{Program, Routine, Routines, routine_of, routines_in}
 use Rattle.machine_model.specs.Script.{is_touched_by, table_at_end, banks_at_end}
 use Rattle.machine_model.specs.Steps.{Held, base_for, binding, bound_at, dsts_of, is_among}
@@ -107,8 +107,8 @@ both_leave row xs ys first second k s = elim (cases_lt k (length xs)) [
 ]
 
 -- the commands of one bbop in one bank
-abbrev own : Geometry → List Named → Option Routine → List (List ℕ) → ℕ → ℕ → ℕ → List Command
-own g table found names n bank banks = cond (ltb bank banks) (bound_at g table found names n) []
+abbrev own : Geometry → List Named → Option Routine → List Place → ℕ → ℕ → ℕ → List Command
+own g table found places n bank banks = cond (ltb bank banks) (bound_at g table found places n) []
 
 bbop_leaves : (g : Geometry) (operations : Routines) (op : List ℕ) (dst : Place) (srcs : List Place)
     (count n : ℕ) (found : Option Routine) → operations op ≡ found → FirstKeepAll operations
