@@ -16,7 +16,7 @@ use Rattle.uprog_code.specs.Count.{walked}
 use Rattle.uprog_code.specs.Legal.{IsLegalCode}
 use Rattle.uprog_ctl.specs.Waves.{BoundJob, CanRun, wave_job}
 use Rattle.uprog_code.specs.declared.binding.Binding.{Binding}
-use Rattle.uprog_code.specs.Shape.{Microprogram, need, results}
+use Rattle.uprog_code.specs.Shape.{Microprogram, need}
 use Rattle.uprog_code.specs.Machine.{trace, issues_of}
 use Rattle.uprog_code.specs.Bound.{Bound, bound, bound_of}
 use Rattle.uprog_code.specs.Fits.{Fits}

@@ -1,6 +1,6 @@
 -- What comes of a print.
 use Rattle.std.proofs.Common.{◌≡◌, ℕ, ◌≤◌, List, [], ◌++◌, refl, sym, ◌∙◌, ap, subst, append-nil}
-use Rattle.std.proofs.Common.{arith, cond, None, Some, not, true}
+use Rattle.std.proofs.Common.{arith, cond, None, Some}
 use Rattle.std.specs.Prelude.{Option, Result, Ok, Err, OnErr, IsErrOf, is_none}
 use Rattle.host_edge.specs.Views.{SinkView, Known, AppendsPart}
 use Rattle.host_edge.proofs.Tells.{Known-trans}
@@ -15,12 +15,8 @@ use Rattle.machine_model.specs.declared.Reply.{Reply}
 use Rattle.machine_model.specs.declared.Reply.TheVariants.{Done, Refused}
 use Rattle.machine_model.specs.declared.Why.{Why}
 use Rattle.machine_model.specs.Pieces.{piece_of}
-use Rattle.machine_model.specs.Refusals.{refusal, when}
-use Rattle.machine_model.specs.declared.Why.TheVariants as why
-use Rattle.machine_model.specs.Routines.{Routines}
-use Rattle.dram_model.specs.declared.geometry.Geometry.{Geometry}
-use Rattle.dram_model.specs.Chip.{Banks}
-use Rattle.object_alloc.specs.Listed.{Named, has_name}
+use Rattle.machine_model.specs.Refusals.{refusal}
+use Rattle.object_alloc.specs.Listed.{Named}
 use Rattle.machine_model.specs.Report.{line, place_text, said_of}
 use Rattle.machine_model.specs.Report.Said.{Answered, Printed}
 use Rattle.machine_model.specs.Script.{rows_printed}
@@ -30,7 +26,7 @@ use Rattle.object_steps.specs.declared.fault.StepFault.{StepFault}
 use Rattle.object_steps.specs.declared.fault.StepFault.TheVariants.{ChipFault, WriteFault}
 use Rattle.wave_model.specs.Schedule.{Turn}
 use Rattle.sim_machine.specs.declared.machine.Machine.{Machine}
-use Rattle.sim_machine.specs.Machine.{banks_by, events_by, geometry_of, reply_line, line_shown}
+use Rattle.sim_machine.specs.Machine.{banks_by, events_by, geometry_of, reply_line}
 use Rattle.sim_machine.specs.Machine.{operations_by}
 use Rattle.sim_machine.specs.Machine.{reads_by, reply_of, table_in, turn_in}
 use Rattle.sim_machine.specs.Outcome.{Comes, Stepped, StoppedBySink}

@@ -232,7 +232,10 @@ fn misfit_source(table: &Table, kinds: &[Kind], srcs: &[Place], n: u8) -> Option
     )) (zip kinds.now srcs.now) }
     ensures bound { IfSome result (λ at. at < length srcs.now) }
 {
-    kinds.iter().zip(srcs).position(|(kind, src)| is_misfit(*kind, rows_of(table, src), n))
+    kinds
+        .iter()
+        .zip(srcs)
+        .position(|(kind, src)| is_misfit(*kind, rows_of(table, src), n))
 }
 
 /// The first operand that is not as wide as its kind asks.

@@ -6,7 +6,6 @@ use Rattle.dram_model.specs.Elements.{FailedBelow}
 use Rattle.bbop_isa.specs.Forms.{Print}
 use Rattle.machine_model.specs.Refusals.{refusal}
 use Rattle.object_steps.specs.Lines.{DidReadAtMost}
-use Rattle.object_steps.specs.declared.fault.StepFault.{StepFault}
 use Rattle.object_steps.specs.declared.fault.StepFault.TheVariants.{ChipFault, WriteFault}
 use Rattle.sim_machine.specs.State.{State}
 use Rattle.sim_machine.specs.Machine.{banks_by, geometry_of, line_shown, operations_by, reads_by}
