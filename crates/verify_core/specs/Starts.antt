@@ -2,7 +2,6 @@
 use Rattle.std.specs.Prelude.{◌≡◌, ℕ, ◌+◌, ◌-◌, ◌*◌, ◌/◌, ◌%◌, ◌<◌, nat_lt, Bool}
 use Rattle.std.specs.Prelude.{if◌then◌else◌, List, length}
 use Rattle.dram_model.specs.declared.address.Cell.TheVariants.{T, Dcc, D}
-use Rattle.dram_model.specs.Column.{Column}
 use Rattle.bdd.specs.declared.Node.{Node}
 use Rattle.bdd.specs.Graphs.{value}
 use Rattle.bdd.specs.Paths.{assigned}

@@ -26,8 +26,8 @@ const CORNERS: u32 = 5;
 /// How many draws follow the corners.
 const DRAWS: u32 = 8;
 
-/// How many attempts there are for one content of the other cells: the corners of one source, or
-/// the pairs of those of two, and the draws.
+/// How many attempts there are: the corners of one source, or the pairs of those of two, and the
+/// draws.
 fn attempts(sources: u32) -> u32
     ensures few { result ≤ 33 }
     ensures some { 8 ≤ result }
@@ -78,37 +78,29 @@ fn tried_bit(attempt: u32, sources: u32, source: u32, bit: u32, n: u32) -> bool 
 }
 
 /// The value of the variable at a place of a bank with so many rows of results, in an attempt.
-fn tried_value(attempt: u32, others: bool, n: u32, sources: u32, results: u32, row: u32) -> bool {
+fn tried_value(attempt: u32, n: u32, sources: u32, results: u32, row: u32) -> bool {
     if row < results {
-        return others;
+        return false;
     }
     let k = row - results;
     if sources == 0 || k / sources >= n {
-        return others;
+        return false;
     }
     tried_bit(attempt, sources, k % sources, k / sources, n)
 }
 
-/// The values of so many variables in an attempt: the bits of the sources, and the others.
+/// The values of so many variables in an attempt: the bits of the sources, and 0 for the others.
 fn assignment(
     attempt: u32,
-    others: bool,
     n: u8,
     sources: u32,
     results: u16,
     rows: u16,
     alloc: Global,
 ) -> Result<Vec<bool>, NoMemory> {
-    let mut values = vec![in alloc; others; 6]?;
+    let mut values = vec![in alloc; false; 6]?;
     for row in 0..u32::from(rows) {
-        let value = tried_value(
-            attempt,
-            others,
-            u32::from(n),
-            sources,
-            u32::from(results),
-            row,
-        );
+        let value = tried_value(attempt, u32::from(n), sources, u32::from(results), row);
         keep(&mut values, value)?;
     }
     Ok(values)
@@ -162,7 +154,7 @@ fn case_under<F: Fetch, G: Fetch>(
     }
 }
 
-/// A case among the attempts, first those with all other cells at 0, then those with 1.
+/// A case among the attempts, which all have the other cells at 0.
 pub(crate) fn tried_case<F: Fetch, G: Fetch>(
     own: &F,
     made: &G,
@@ -194,10 +186,8 @@ pub(crate) fn tried_case<F: Fetch, G: Fetch>(
     let sources = head.sources.as_slice().len() as u32;
     let results = rows_of_results(&head, n);
     let rows = canonical_bank(&head, n);
-    let count = attempts(sources);
-    for k in 0..2 * count {
-        let others = k >= count;
-        let Ok(path) = assignment(k % count, others, n, sources, results, rows, alloc) else {
+    for k in 0..attempts(sources) {
+        let Ok(path) = assignment(k, n, sources, results, rows, alloc) else {
             return Err(Shortage::NoMemory);
         };
         if let Some(case) = case_under(&path, own, made, n, diagram, alloc)? {

@@ -1,9 +1,8 @@
-use Rattle.std.proofs.Common.{◌≡◌, ◌∙◌, ℕ, Bool, true, false, ap, sym, subst, List, refl}
+use Rattle.std.proofs.Common.{◌≡◌, ◌∙◌, ℕ, Bool, true, false, sym, subst, List, refl}
 use Rattle.bit_rows.specs.Bits.{flip_if}
 use Rattle.bdd.specs.declared.Node.{Node}
 use Rattle.bdd.specs.Edges.{constant}
 use Rattle.bdd.specs.Graphs.{AreNodes, value}
-use Rattle.bdd.specs.Paths.{assigned}
 use Rattle.bdd.proofs.Laws.{value-zero}
 use Rattle.verify_core.specs.declared.start.Begin.{Begin}
 use Rattle.verify_core.specs.Starts.{IsMeant}
