@@ -194,7 +194,7 @@ class Folding(Beside):
             self.assertLessEqual(commands(-a), COMMANDS["negative"](bits))
 
     def test_all_operations_are_known(self):
-        self.assertEqual(set(OPERATIONS) - {"zero", "ones"}, set(OPERATIONS) & set(VALUES))
+        self.assertLessEqual(set(OPERATIONS), set(VALUES))
 
 
 if __name__ == "__main__":

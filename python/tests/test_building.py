@@ -53,6 +53,8 @@ class Building(unittest.TestCase):
             for folder in ("src", "specs", "proofs"):
                 (self.top / "crates" / crate / folder).mkdir(parents=True)
                 (self.top / "crates" / crate / folder / "file").write_text("text")
+        for name in ("a", "b", "c", "a.ops"):
+            (self.top / name).write_text("text")
         self.kit = self.top / "kit"
         executable(self.kit / "bin" / "rt", FAKE_RT)
         (self.kit / "bin" / "rtlib.py").write_text("")
@@ -60,7 +62,7 @@ class Building(unittest.TestCase):
 
     def call(self, *words, **environment):
         path = f"{self.kit / 'bin'}:{os.environ['PATH']}"
-        return called(*words, environment={"SIMDRAM_HOME": str(self.top), "SIMDRAM_PROGRAM": "", "SIMDRAM_UNPROVED": "", "PATH": path,
+        return called(*words, cwd=self.top, environment={"SIMDRAM_HOME": str(self.top), "SIMDRAM_PROGRAM": "", "SIMDRAM_UNPROVED": "", "PATH": path,
                                            "ASKED": str(self.top / "asked"), "FLAGS": SANITIZER, "TMPDIR": str(self.top), **environment})
 
     def asked(self):

@@ -93,7 +93,7 @@ class Images(unittest.TestCase):
     def test_what_does_not_fit_is_named(self):
         image = Image(1, 64, 1)
         image.add("a", 8, 3)
-        for values, place, word in (([0, -1, 0], 1, "is -1"), ([0, 0, 256], 2, "is 256")):
+        for values, place, word in (([0, -1, 0], 2, "is -1"), ([0, 0, 256], 3, "is 256")):
             with self.assertRaisesRegex(OutOfRange, f"value {place} of a {word}"):
                 image.put("a", values)
         for name, width, count, word in (("a", 1, 1, "exists"), ("b", 25, 1, "no_rows"), ("b", 1, 65, "too_large"),

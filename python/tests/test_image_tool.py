@@ -9,6 +9,7 @@ import subprocess
 import sys
 import tempfile
 import unittest
+import unittest.mock
 
 import support
 from support import needs_numpy, numpy
@@ -27,6 +28,9 @@ class Tool(unittest.TestCase):
         self.addCleanup(self.kept.cleanup)
         self.before = os.getcwd()
         os.chdir(self.kept.name)
+        quiet = unittest.mock.patch.dict(os.environ, SIMDRAM_QUIET="1")
+        quiet.start()
+        self.addCleanup(quiet.stop)
         self.addCleanup(os.chdir, self.before)
 
     def did(self, *words):

@@ -204,6 +204,29 @@ class Overwriting(unittest.TestCase):
                 self.assertEqual(self.files()["pipe"], self.files()["x.svg"], line)
                 self.setUp()
 
+    def test_no_room(self):
+        """A file may have 100 KiB: neither a copy nor the new file can be whole."""
+        pathlib.Path("at/bbop").write_text("bbop_mac y, a, b, 4, 8\n")
+        self.assertEqual(self.did("image make at/x 1x900x100 a:8/4 b:8/4 y:8/4".split()), 0)
+        old = self.files()["x"]
+        with tempfile.TemporaryDirectory() as folder:
+            for words in ("image make at/x 1x900x100 a:8=1", "exec mac.prog at/bbop at/x at/x", "init 1 900 100 at/x", "image make at/new 1x900x100"):
+                ended = subprocess.run(["bash", "-c", f"ulimit -f 100; {sys.executable} {LAUNCHER} {words}"], capture_output=True, text=True,
+                                       check=False, env={**os.environ, "TMPDIR": folder})
+                self.assertEqual((ended.returncode, ended.stdout), (3, ""), words)
+                self.assertIn("File too large", ended.stderr)
+                self.assertEqual((self.files(), os.listdir(folder)), ({"x": old, "bbop": b"bbop_mac y, a, b, 4, 8\n"}, []))
+
+    def test_no_room_for_a_page(self):
+        for kind, words in (("page", "steps mac.prog mac --html at/x"), ("svg", "plot mac.prog at/x.svg")):
+            name = words.split()[-1]
+            pathlib.Path(name).write_bytes(self.standing[kind])
+            before = self.files()
+            ended = subprocess.run(["bash", "-c", f"ulimit -f 1; {sys.executable} {LAUNCHER} {words}"],
+                                   capture_output=True, text=True, check=False)
+            self.assertEqual((ended.returncode, self.files()), (3, before), (words, ended.stderr))
+            self.setUp()
+
     def test_a_mode_stays(self):
         pathlib.Path("at/x.svg").write_bytes(self.standing["image"])
         os.chmod("at/x.svg", 0o600)

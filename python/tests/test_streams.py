@@ -52,7 +52,7 @@ class Folder(unittest.TestCase):
     def shell(self, line, limit="", **environment):
         """How a line of the shell ends, with @ for the launcher."""
         return subprocess.run(["bash", "-c", limit + line.replace("@", f"{sys.executable} {LAUNCHER}")], cwd=self.folder, capture_output=True, text=True, check=False,
-                              stdin=subprocess.DEVNULL, env={**os.environ, "SIMDRAM_QUIET": "1", **environment}, timeout=120)
+                              stdin=subprocess.DEVNULL, env={**os.environ, "SIMDRAM_QUIET": "1", **environment})
 
     def not_traced(self, ended, words):
         for what in ("Traceback", "Exception ignored", "Error:"):

@@ -103,7 +103,7 @@ class Runs(Folder):
         for words, said in (([*WORDS, "--rates", "2"], "a rate is a number from 0 to 1"), ([*WORDS, "--rates", "1e-3", "--runs", "0"], "--runs is 1 to"),
                             ([WORDS[0], "refused.bbop", "i.img", "--rates", "0"], "guard ended with status 8"),
                             ([WORDS[0], "empty.bbop", "i.img", "--rates", "0"], "has no answers"),
-                            ([*WORDS, "--rates", "0", "--plot", WORDS[0]], "it holds text"), (["none", *WORDS[1:], "--rates", "0"], "cannot read")):
+                            ([*WORDS, "--rates", "0", "--plot", WORDS[0]], "a picture's name ends in .svg or .png"), (["none", *WORDS[1:], "--rates", "0"], "cannot read")):
             ended = self.call("survival", *words)
             self.assertEqual((ended.returncode, len(ended.stderr.splitlines())), (2, 1), ended.stderr)
             self.assertIn(said, ended.stderr)

@@ -13,6 +13,19 @@ from .operations import BIT, OPERATIONS, WORD
 from .refusals import Refused
 
 
+Operator = typing.Callable[[typing.Any, typing.Any], typing.Any]
+
+
+def of_operation(name: str) -> typing.Tuple[Operator, Operator]:
+    """An operator that is an operation, and the same with its operands in the other order."""
+    return (lambda self, other: binary(name, self, other)), (lambda self, other: binary(name, other, self))
+
+
+def of_division(part: typing.Callable[[tuple], typing.Any]) -> typing.Tuple[Operator, Operator]:
+    """An operator that is a part of quotient and remainder, and the same with its operands in the other order."""
+    return (lambda self, other: part(divided(self, other))), (lambda self, other: part(divided(other, self)))
+
+
 class Operators:
     """The operators, for a class that has `chip`, `shape`, `value`, `bits`, `is_bit`, `signed` and `of_value`."""
 
@@ -23,52 +36,15 @@ class Operators:
 
     __hash__ = object.__hash__
 
-    def __add__(self, other):
-        return binary("add", self, other)
-
-    def __sub__(self, other):
-        return binary("sub", self, other)
-
-    def __mul__(self, other):
-        return binary("mul", self, other)
-
-    def __and__(self, other):
-        return binary("and", self, other)
-
-    def __or__(self, other):
-        return binary("or", self, other)
-
-    def __xor__(self, other):
-        return binary("xor", self, other)
-
-    def __radd__(self, other):
-        return binary("add", other, self)
-
-    def __rsub__(self, other):
-        return binary("sub", other, self)
-
-    def __rmul__(self, other):
-        return binary("mul", other, self)
-
-    __rand__, __ror__, __rxor__ = __and__, __or__, __xor__
-
-    def __floordiv__(self, other):
-        return divided(self, other)[0]
-
-    def __mod__(self, other):
-        return divided(self, other)[1]
-
-    def __rfloordiv__(self, other):
-        return divided(other, self)[0]
-
-    def __rmod__(self, other):
-        return divided(other, self)[1]
-
-    def __divmod__(self, other):
-        return divided(self, other)
-
-    def __rdivmod__(self, other):
-        return divided(other, self)
+    __add__, __radd__ = of_operation("add")
+    __sub__, __rsub__ = of_operation("sub")
+    __mul__, __rmul__ = of_operation("mul")
+    __and__ = __rand__ = of_operation("and")[0]
+    __or__ = __ror__ = of_operation("or")[0]
+    __xor__ = __rxor__ = of_operation("xor")[0]
+    __floordiv__, __rfloordiv__ = of_division(operator.itemgetter(0))
+    __mod__, __rmod__ = of_division(operator.itemgetter(1))
+    __divmod__, __rdivmod__ = of_division(tuple)
 
     def __invert__(self):
         return results_of("not", self)[0]

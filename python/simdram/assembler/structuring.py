@@ -6,6 +6,7 @@ import typing
 
 from ..files.program import ADD, ADDI, BNEZ, DONE, INDEXED, MOV, REGISTERS, SETI, SETN, SETT, SUBI, Entry, Instruction
 from .forms import Form, changed
+from .loops_and_ways import Jumps
 from .parser import goes_down
 from .reading import instruction_text
 
@@ -31,6 +32,7 @@ class Structuring:
     def __init__(self, entry: Entry) -> None:
         self.entry, self.code = entry, entry.code
         self.held: dict[int, Form | None] = dict.fromkeys(range(REGISTERS), Form())
+        self.spans = dict(Jumps(self.code).spans())
         self.lines: list[str] = []
         self.depth = 0
 
@@ -47,8 +49,8 @@ class Structuring:
         """The instructions from one place to another."""
         past: int | None = None
         while at < end:
-            last = max((k for k in range(at, end) if self.code[k].kind == BNEZ and self.code[k].number == at), default=None)
-            if last is not None:
+            last = self.spans.get(at, end)
+            if last < end:
                 if past not in (None, last + 1):
                     raise Unstructured
                 self.loop(self.found(at, last))

@@ -27,6 +27,8 @@ from .settings import Settings
 from .words import PLACES
 
 PROBE = 512
+# a folder of this name keeps a copy that can't stand beside its file
+FOLDER = "simdram_kept_"
 # of each kind that is written: what it is called, and how its files begin; no text of operations may be replaced
 WRITTEN = {
     **{kind: (KINDS[kind], re.escape(magic)) for kind, magic in MAGIC.items()},
@@ -87,10 +89,20 @@ def kept(path: str) -> str:
     """Keeps a copy beside a file, or in the system's folder for temporary files, and returns its name."""
     with contextlib.suppress(OSError):
         return keep(path)
+    folder = tempfile.mkdtemp(prefix=FOLDER)
     try:
-        return keep(path, os.path.join(tempfile.mkdtemp(prefix="simdram_kept_"), os.path.basename(path)[:200]))
+        return keep(path, os.path.join(folder, os.path.basename(path)[:200]))
     except OSError as fault:
+        os.rmdir(folder)
         raise NotWritten(path, "", "cannot write", f"what it holds cannot be kept: {fault.strerror}; nothing was done") from None
+
+
+def drop(copy: str) -> None:
+    """Removes a copy that was not needed, and the folder that was made for it."""
+    os.remove(copy)
+    folder = os.path.dirname(copy)
+    if os.path.basename(folder).startswith(FOLDER):
+        os.rmdir(folder)
 
 
 def say_kept(path: str, kind: str, name: str, settings: Settings) -> None:
@@ -102,14 +114,22 @@ def write(path: str, data: bytes, kind: str, settings: Settings) -> None:
     """Writes a tool's file by the rule above."""
     place = place_of(path)
     told_of(place, settings)
+    copy = ""
     if is_full(place) and not settings.force:
         if os.path.getsize(place) == len(data) and load(place) == data:
             return
         check(path, kind, settings)
         if kind == "ops":
             raise Fault(f"{path} holds a text, which may have been typed; nothing was written, and --force overwrites it")
-        say_kept(path, kind, kept(place), settings)
-    store(path, data, True)
+        copy = kept(place)
+    try:
+        store(path, data, True)
+    except NotWritten:
+        if copy:
+            drop(copy)
+        raise
+    if copy:
+        say_kept(path, kind, copy, settings)
 
 
 class Kept(typing.NamedTuple):
@@ -144,7 +164,7 @@ class Written:
             try:
                 is_same = os.path.isfile(path) and holds_same(path, copy)
                 if is_same:
-                    os.remove(copy)
+                    drop(copy)
             except (OSError, MemoryError):
                 is_same = False
             if not is_same:
@@ -161,7 +181,8 @@ def why_not_written(path: str, size: int) -> str:
             return os.strerror(errno.EACCES)
         if os.path.isfile(place) or not os.path.exists(place):
             with new_file(place) as (file, name):
-                os.posix_fallocate(file.fileno(), 0, max(size, 1))
+                if hasattr(os, "posix_fallocate"):
+                    os.posix_fallocate(file.fileno(), 0, max(size, 1))
                 os.remove(name)
     except OSError as fault:
         return fault.strerror or str(fault)

@@ -6,13 +6,10 @@ import collections
 import typing
 
 from ..rules.op_tree import BIT, WORD, Block, Expr, Statement
+from ..rules.word_ops import WORD_OPS
 
 # commands of a position, fitted by least squares on measured blocks of bench/kernels
 WEIGHTS = {"and": 0.75, "xor": 1.6, "maj": 0.6, "word": 1.3, "bit": 2.2, "target": 1.0, "state": 2.0, "one": -1.9}
-# commands of a position of word statements of one pass
-WORD_STATEMENTS = {"copy": 1.0, "zero": 1.0, "ones": 1.0, "shl1": 1.0, "shr1": 1.0, "not": 2.0, "and": 4.0, "or": 4.0, "xor": 7.0,
-                   "add": 9.0, "sub": 6.0, "abs": 8.0, "relu": 3.0, "min": 10.0, "max": 10.0, "eq": 4.0, "gt": 3.0, "ge": 3.0,
-                   "if_else": 7.0, "and_red": 2.0, "or_red": 2.0, "xor_red": 3.0}
 # guesses of blocks are taken so much lower, as a block may be cheaper than its gates say
 OPTIMISM = 0.75
 
@@ -43,4 +40,4 @@ def guessed(one: Statement, kinds: typing.Mapping[str, str]) -> float:
     if isinstance(one, Block):
         found = features(one, kinds)
         return OPTIMISM * max(1.0, sum(WEIGHTS[name] * count for name, count in found.items()))
-    return WORD_STATEMENTS.get(one.op, 0.0) if all(kinds[arg] == WORD for arg in one.args[:2]) else 0.0
+    return WORD_OPS[one.op].each if all(kinds[arg] == WORD for arg in one.args[:2]) else 0.0
