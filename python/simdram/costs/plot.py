@@ -2,10 +2,11 @@
 
 Each entry of each PROG has a curve: its AAP and AP together on one bank, as `simdram cost` counts them, at n = 1 to N (64
 unless --to says another), or at the widths of --widths. --column draws its AAP, its AP or its scratch rows instead, --ops
-chooses entries, and --log makes the axis of the counts logarithmic. OUT ends in .svg, or in .png, for which matplotlib must be installed. --curve draws a
-formula of n beside them, such as one of a paper, and --ceiling one in the colour of an entry; both are dashed. A formula has
-numbers, n, brackets, +, -, *, /, // (rounded down), ** or ^ (power), log2(..), ceil(..) and floor(..), as in 9*n+1 or
-n*ceil(log2(n)). An entry whose execution is stuck at a width is left out, with a line that says so.
+chooses entries, and --log makes the axis of the counts logarithmic. OUT ends in .svg, or in .png, for which matplotlib must
+be installed. --curve draws a formula of n beside them, such as one of a paper, and --ceiling one in the colour of an entry;
+both are dashed. A formula has numbers, n, brackets, +, -, *, /, // (rounded down), ** or ^ (power), log2(..), ceil(..) and
+floor(..), as in 9*n+1 or n*ceil(log2(n)). An entry whose execution is stuck at a width is left out, with a line that says
+so.
 """
 
 from __future__ import annotations

@@ -6,12 +6,13 @@ whether what it reads and writes goes upwards or downwards; `turn 1 of 2` of a l
 round`, where another body stands in the others; `if r2 > 0 at 24` for what is done where register 2 is over 0 when the jump
 at instruction 24 asks. What has none of these is done once. A loop may have no iteration.
 With --ops, sources, results, states and temporaries have the names of the operation text, and it is said which statement a
-part is of. Where the text of a microprogram lies beside PROG, a part has its line there. Without --ops, sources are a, b, c, d,
-results y and z, scratch bits t0, t1, .., scratch words w0, .. and spill rows p0, ..; [i] is the position where one register counts it, and else it is counted from registers as the part begins, as r3, or
-it is a number, or n with one; below the table stands what these registers are. A cell that the part has not written yet holds
-?; `old t` is what the row t held before the part writes it, or, where a loop takes the value over from one iteration to the
-next in cells, what these hold; `now t` is what t holds after a row was written that may be t, as their positions may be equal;
-a value that goes to no row is s.
+part is of. Where the text of a microprogram lies beside PROG, a part has its line there. Without --ops, sources are a, b, c,
+d, results y and z, scratch bits t0, t1, .., scratch words w0, .. and spill rows p0, ..; [i] is the position where one
+register counts it, and else it is counted from registers as the part begins, as r3, or it is a number, or n with one; below
+the table stands what these registers are. A cell that the part has not written yet holds ?; `old t` is what the row t held
+before the part writes it, or, where a loop takes the value over from one iteration to the next in cells, what these hold;
+`now t` is what t holds after a row was written that may be t, as their positions may be equal; a value that goes to no row
+is s.
 `old T1` is what a part finds in cell T1, and in every other cell that always holds the same then; what is always 0 or 1, is so.
 `~x` is the complement of x, M(x, y, z) the majority; and(x, y) and or(x, y) are majorities with 0 and with 1. A long value
 gets a number, as v1, which stands below its table with its value.
