@@ -64,8 +64,8 @@ does_one n p t op o all is r has =
 
 -- one of the widths
 one_case : (b c : Bool) (P : Type 0) → (b ≡ true → P) → (c ≡ true → P) → b || c ≡ true → P
-one_case true c P yes more e = yes refl
-one_case false c P yes more e = more e
+one_case true c P now more e = now refl
+one_case false c P now more e = more e
 
 right_at : (widths : List ℕ) (p : Program) (t : List TextOp) (n : ℕ)
     → list_any (λ m. m == n) widths ≡ true → HaveRight widths p t
@@ -84,12 +84,12 @@ step g widths p t (Init name count n) words all at plain =
 step g widths p t (Bbop op dst srcs count n) words all at plain =
     bbop_agrees g (routines_in p) (meaning_in t) op dst srcs count n
     (does_one n p t op at.1.0 (right_at widths p t n at.0 all) at.1.1)
-step g widths p t (Load name values) words all at plain =
-    load_agrees g (routines_in p) (meaning_in t) name values words
-step g widths p t (Fill name value) words all at plain =
-    fill_agrees g (routines_in p) (meaning_in t) name value
-step g widths p t (Print name) words all at plain =
-    print_agrees g (routines_in p) (meaning_in t) name
+step g widths p t (Load place values) words all at plain =
+    load_agrees g (routines_in p) (meaning_in t) place values words
+step g widths p t (Fill place value) words all at plain =
+    fill_agrees g (routines_in p) (meaning_in t) place value
+step g widths p t (Print place) words all at plain =
+    print_agrees g (routines_in p) (meaning_in t) place
 step g widths p t (Free name) words all at plain =
     free_agrees g (routines_in p) (meaning_in t) name
 step g widths p t (Order o) words all at plain = order_agrees g (routines_in p) (meaning_in t) o

@@ -30,9 +30,9 @@ abbrev pub IsAtWidths : List ℕ → List TextOp → Instruction → Type 0
 IsAtWidths widths t (Bbop op dst srcs count n) =
     (list_any (λ m. m == n) widths ≡ true) × HasOp t op
 IsAtWidths widths t (Init name count n) = Unit {0}
-IsAtWidths widths t (Load name values) = Unit {0}
-IsAtWidths widths t (Fill name value) = Unit {0}
-IsAtWidths widths t (Print name) = Unit {0}
+IsAtWidths widths t (Load place values) = Unit {0}
+IsAtWidths widths t (Fill place value) = Unit {0}
+IsAtWidths widths t (Print place) = Unit {0}
 IsAtWidths widths t (Free name) = Unit {0}
 IsAtWidths widths t (Order o) = Unit {0}
 
