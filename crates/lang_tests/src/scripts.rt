@@ -14,7 +14,13 @@ fn text_of(name: &Name) -> &str {
 fn spell_place(line: &mut String, place: &Place) -> Result<(), AllocError> {
     match place.part {
         None => write!(line, " {}", text_of(&place.name)),
-        Some(part) => write!(line, " {}[{}+{}]", text_of(&place.name), part.low, part.size),
+        Some(part) => write!(
+            line,
+            " {}[{}+{}]",
+            text_of(&place.name),
+            part.low,
+            part.size
+        ),
     }
 }
 
