@@ -1,6 +1,6 @@
 -- Scripts whose bbops have widths at which entries of a program are right.
 use Rattle.std.proofs.Common.{◌≡◌, ℕ, ◌<◌, Bool, true, false, cond, List, [], ◌∷◌, Option, Some}
-use Rattle.std.proofs.Common.{None, refl, sym, ◌∙◌, ap, subst}
+use Rattle.std.proofs.Common.{refl, sym, ◌∙◌, ap, subst}
 use Rattle.std.specs.Prelude.{◌==◌, ◌||◌}
 use Rattle.std.specs.List.{AllByRecursion, list_any}
 use Rattle.std.specs.Option.{option_map}
@@ -21,7 +21,7 @@ use Rattle.machine_model.proofs.Steps.{print_agrees}
 use Rattle.machine_model.proofs.Makes.{init_agrees, fill_agrees}
 use Rattle.machine_model.proofs.Loaded.{load_agrees}
 use Rattle.verify_job.specs.Findings.{HasRight, HaveRight}
-use Rattle.cli_laws.specs.Verified.{HasOp, IsAtWidths}
+use Rattle.cli_laws.specs.Verified.{IsAtWidths}
 
 -- the entry of a name, and that it performs this meaning at this width
 abbrev HasEntry : ℕ → Program → List ℕ → (ℕ → List ℕ → List ℕ) → Type 0

@@ -1,7 +1,6 @@
 -- What a `verify` found right, and what an execution gives; and what OPS and PROG decide.
-use Rattle.std.proofs.Common.{◌≡◌, ◌⊎◌, ℕ, List, ◌++◌, map, Option, Some, None, refl, sym, ◌∙◌, ap}
+use Rattle.std.proofs.Common.{◌≡◌, ◌⊎◌, ℕ, List, ◌++◌, map, Option, Some, refl, sym, ◌∙◌, ap}
 use Rattle.std.proofs.Common.{subst}
-use Rattle.std.specs.Prelude.{Result, Ok, Err}
 use Rattle.std.specs.List.{AllByRecursion}
 use Rattle.std.specs.Result.{result_ok}
 use Rattle.host_edge.specs.Views.{Files, Known}
@@ -12,19 +11,16 @@ use Rattle.op_text.specs.Language.{Operation}
 use Rattle.uprog_code.specs.Texts.{TextOp, text_op}
 use Rattle.uprog_bin.specs.Opened.{IsProgramFile}
 use Rattle.uprog_bin.specs.Spelling.{program_bytes}
-use Rattle.uprog_bin.proofs.Versions.{file_is_one}
-use Rattle.bbop_isa.specs.Forms.{Instruction}
 use Rattle.machine_model.specs.Agrees.{Agrees}
-use Rattle.machine_model.specs.Opened.{Image, objects_held, opened, rows_in_banks}
+use Rattle.machine_model.specs.Opened.{objects_held, opened, rows_in_banks}
 use Rattle.machine_model.specs.Report.{Said, report, said_in_rows}
 use Rattle.machine_model.specs.Routines.{Program, meaning_in, routines_in}
 use Rattle.machine_model.specs.Script.{banks_at_end, table_at_end}
-use Rattle.machine_model.specs.Steps.{Held, table_of}
+use Rattle.machine_model.specs.Steps.{table_of}
 use Rattle.machine_model.proofs.Opened.{opened_agrees, report_same}
 use Rattle.machine_model.proofs.Scripts.{script_agrees}
-use Rattle.verify_job.specs.Findings.{AreFindings, HaveRight, status_of}
+use Rattle.verify_job.specs.Findings.{AreFindings, HaveRight}
 use Rattle.verify_job.proofs.Apart.{all_alike, zero_or_unknown}
-use Rattle.prog_text.specs.Widths.{AreWidths}
 use Rattle.cli_model.specs.World.{World}
 use Rattle.simdram_cli.specs.declared.words.ExecNames.{ExecNames}
 use Rattle.simdram_cli.specs.declared.words.VerifyNames.{VerifyNames}
@@ -37,7 +33,7 @@ use Rattle.simdram_cli.proofs.Migrating.{prog_is}
 use Rattle.simdram_cli.proofs.Promises.{table_is, tables_end}
 use Rattle.simdram_cli.proofs.Tallies.{some_words}
 use Rattle.cli_laws.specs.Verified.{GivesWords, IsAtWidths, OneVerified, RightIsExecuted}
-use Rattle.cli_laws.specs.Verified.{SameFindings, said_by_words, state_by}
+use Rattle.cli_laws.specs.Verified.{said_by_words, state_by}
 use Rattle.cli_laws.proofs.RightSteps.{right_steps}
 use Rattle.cli_laws.proofs.Unique.{one_value, same_ops}
 
