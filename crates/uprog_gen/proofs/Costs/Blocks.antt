@@ -8,7 +8,7 @@ use Rattle.op_text.specs.declared.tree.Param.{Param}
 use Rattle.op_text.specs.declared.tree.State.{State}
 use Rattle.op_text.specs.declared.word_ops.WordOp.{WordOp}
 use Rattle.op_text.specs.Language.{Block as Serial, Statement, Compute, Visit, Operation}
-use Rattle.op_text.specs.Scratch.{block_ceiling, defines, names_width}
+use Rattle.op_text.specs.Scratch.{defines, names_width}
 use Rattle.uprog_code.specs.declared.walker.Counts.{Counts}
 use Rattle.uprog_code.specs.Count.{counts_of}
 use Rattle.uprog_code.specs.Machine.{issues_of, trace}
@@ -20,8 +20,8 @@ use Rattle.loop_ir.specs.Plain.{Block, StepOf}
 use Rattle.loop_ir.specs.Plain.StepOf.{Along, Flowed}
 use Rattle.loop_ir.specs.Statements.{Slots}
 use Rattle.loop_laws.proofs.Summed.{rounds_sum, steps_sum, sum_is}
-use Rattle.block_lower.specs.Form.{IsBlockProgram, constant, row_steps, start, home}
-use Rattle.block_lower.specs.Held.{each_last, held_body, held_last, held_start, held_steps}
+use Rattle.block_lower.specs.Form.{IsBlockProgram, constant, place_of, row_steps, start, home}
+use Rattle.block_lower.specs.Held.{each_last, held_body, held_last, held_start}
 use Rattle.block_lower.proofs.EachLast.{from_on, round_with, rounds_are, sum_from}
 use Rattle.block_lower.proofs.InRows.{within-ceiling}
 use Rattle.uprog_gen.specs.Costs.{op_aaps, op_aps}
@@ -53,7 +53,7 @@ starts_sum : (f : Block → ℕ) (k : ℕ) → ((v : Bool) (p : Place) → f (co
     → steps_sum f n (map (start slots down) states ++ Along body ∷ []) ≡ length states * k + n * f body
 starts_sum f k one n slots down [] body = omega arith
 starts_sum f k one n slots down (s ∷ states) body =
-    let e = one s.start _ in
+    let e = one s.start (place_of down (slots s.name)) in
     let more = starts_sum f k one n slots down states body in omega (arith, e, more)
 
 in_rows : (slots : Slots) (down : Bool) (states : List State) (body : Block)
@@ -103,7 +103,7 @@ has_counts slots b q f = elim f.form as (λ _. HasCounts q) [
 ]
 
 -- those of all blocks of a body
-block_counts : (slots : Slots) (body : List Statement) (ps : List (List (StepOf Block)))
+abbrev block_counts : (slots : Slots) (body : List Statement) (ps : List (List (StepOf Block)))
     → HaveForms slots body ps → List BlockCounts
 block_counts slots [] ps h = []
 block_counts slots (s ∷ body) [] h = []
