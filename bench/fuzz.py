@@ -31,8 +31,8 @@ TOP = pathlib.Path(__file__).resolve().parent.parent
 sys.dont_write_bytecode = True
 sys.path.append(str(TOP / "python"))
 
+from simdram.files.from_hex import bytes_in  # noqa: E402
 from simdram.files.image import Image, Object  # noqa: E402
-from simdram.from_hex import bytes_in  # noqa: E402
 import program  # noqa: E402
 from word_ops import word_ops  # noqa: E402
 

@@ -33,7 +33,7 @@ from simdram.assembler.walks import walk  # noqa: E402
 from simdram.files.fault import FileFault  # noqa: E402
 from simdram.files.program import AP, AAP, BIT, BNEZ, B_ADDRESS, C_ADDRESS, RESULT, SPILL, WORD  # noqa: E402
 from simdram.files.program import Instruction, Program, Row  # noqa: E402
-from simdram.verdicts import BAD_WALK, RIGHT, WRONG, verdict_of  # noqa: E402
+from simdram.rules.verdicts import BAD_WALK, RIGHT, WRONG, verdict_of  # noqa: E402
 
 PROGRAM = TOP / "crates" / "simdram" / "out" / "simdram"  # until the arguments are read
 GATES = "".join(f"op {name}(a: word, b: word) -> y: word {{ y = {name}(a, b); }}\n" for name in ("and", "or", "xor", "add"))

@@ -22,7 +22,7 @@ sys.path.append(str(TOP / "python"))
 
 from simdram.files.image import Image  # noqa: E402
 import program  # noqa: E402
-from simdram.image_tool import make  # noqa: E402
+from simdram.files.image_tool import make  # noqa: E402
 
 PROGRAM = TOP / "crates" / "simdram" / "out" / "simdram"
 MAC = "op mac(a: word, b: word, c: word) -> y: word { t = mul(a, b); y = add(t, c); }\n"

@@ -26,7 +26,7 @@ sys.path.append(str(TOP / "python"))
 import program  # noqa: E402
 from commands import op  # noqa: E402
 from simdram.assembler import assemble  # noqa: E402
-from simdram.verdicts import RIGHT, UNKNOWN, verdicts_of  # noqa: E402
+from simdram.rules.verdicts import RIGHT, UNKNOWN, verdicts_of  # noqa: E402
 from word_ops import word_ops  # noqa: E402
 
 FEWEST = TOP / "examples" / "fewest"

@@ -2,39 +2,42 @@
 
 from __future__ import annotations
 
+import errno
 import importlib
 import signal
 import sys
 
-from . import help_text
-from .commands import ALL
-from .faults import WRONG, Fault
-from .files.fault import FileFault
-from .say import say
-from .settings import Settings, taken
+from .files.fault import FileFault, NotWritten
+from .launcher import help_text, streams
+from .launcher.commands import ALL
+from .launcher.faults import WRONG, Fault
+from .launcher.say import say
+from .launcher.settings import Settings, taken
 
 HELP = ("help", "--help", "-h")
-INTERRUPTED = 130
+NO_MEMORY, INTERRUPTED = 10, 130
+# what the system says of an output that takes no more
+UNPRINTED = (errno.ENOSPC, errno.EDQUOT, errno.EFBIG, errno.EIO, errno.EBADF, errno.EPIPE)
 TOOL_MODULES = {
-    "image": "image_tool",
-    "explain": "explain",
-    "report": "report",
-    "cost-table": "cost_table",
-    "profile": "profile",
-    "steps": "steps",
-    "plot": "plot",
-    "flips": "flips_tool",
-    "survival": "survival",
-    "trace-text": "trace_text",
-    "from-hex": "from_hex",
-    "graph": "graph_tool",
-    "from-blif": "from_blif",
-    "assemble": "assemble_tool",
-    "disassemble": "disassemble_tool",
-    "link": "link_tool",
-    "simplify": "simplify_tool",
-    "build": "build_tool",
-    "prove": "prove",
+    "image": "files.image_tool",
+    "explain": "rules.explain",
+    "report": "costs.report",
+    "cost-table": "costs.cost_table",
+    "profile": "costs.profile",
+    "steps": "steps.steps_tool",
+    "plot": "costs.plot",
+    "flips": "survival.flips_tool",
+    "survival": "survival.survival_tool",
+    "trace-text": "files.trace_text",
+    "from-hex": "files.from_hex",
+    "graph": "graphs.graph_tool",
+    "from-blif": "graphs.from_blif",
+    "assemble": "assembler.assemble_tool",
+    "disassemble": "assembler.disassemble_tool",
+    "link": "assembler.link_tool",
+    "simplify": "simplify.simplify_tool",
+    "build": "launcher.build_tool",
+    "prove": "launcher.prove",
 }
 
 
@@ -80,27 +83,48 @@ def start(words: list[str]) -> int:
         return tool(name, others, settings)
     if name in ALL and any(word in HELP[1:] for word in others):
         return help_on([name], settings)
-    from .launch import launch
+    from .launcher.launch import launch
     return launch(words, settings)
 
 
-def main() -> int:
-    """Runs our command line; a fault is one line on standard error."""
+def status_of(words: list[str]) -> int:
+    """Runs a command line; a fault is one line on standard error."""
     try:
-        status = start(sys.argv[1:])
+        try:
+            status = start(words)
+        except SystemExit as ended:  # a tool printed its help, or what is wrong with its words
+            status = ended.code if isinstance(ended.code, int) else WRONG
         sys.stdout.flush()
         return status
-    except Fault as fault:
+    except (Fault, FileFault) as fault:
         say(str(fault))
         return fault.status
-    except FileFault as fault:
-        say(str(fault))
-        return WRONG
+    except MemoryError:
+        say("out of memory")
+        return NO_MEMORY
     except OSError as fault:
-        say(f"{fault.filename}: {fault.strerror}" if fault.filename else str(fault))
-        return WRONG
+        return status_after(fault)
     except KeyboardInterrupt:
         return INTERRUPTED
+
+
+def status_after(fault: OSError) -> int:
+    """Tells a fault of the system, and returns the status: that of the program for memory, and for what cannot be printed."""
+    if fault.errno == errno.ENOMEM:
+        say("out of memory")
+        return NO_MEMORY
+    if fault.filename is None and fault.errno in UNPRINTED:
+        streams.drop_output()
+        say(f"cannot print: {fault.strerror}")
+        return NotWritten.status
+    say(f"{fault.filename}: {fault.strerror}" if fault.filename else str(fault))
+    return WRONG
+
+
+def main() -> int:
+    """Runs our command line."""
+    streams.open_closed()
+    return status_of(sys.argv[1:])
 
 
 if __name__ == "__main__":

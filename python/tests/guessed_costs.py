@@ -2,9 +2,10 @@
 
 import support  # noqa: F401  (the path)
 
+from simdram.rules.op_tree import Block
+from simdram.rules.ops_rules import read_ops
 from simdram.simplify.estimate import OPTIMISM, guessed
 from simdram.simplify.measured import Measured
-from simdram.simplify.op_tree import Block, read_ops
 from simdram.simplify.statement_alone import Cost
 
 
@@ -17,9 +18,9 @@ class Guessed(Measured):
     def _measure(self, statements):
         for one in statements:
             if not self.is_known(one):
-                op = read_ops(f"op e({', '.join(one.reads) or 'v99: word'}) -> y: word {{\n{one.text}}}".encode())[0]
-                first = op.body[0]
-                each = guessed(first, dict(op.params)) / (OPTIMISM if isinstance(first, Block) else 1)
+                statement = read_ops(one.probe("e").encode())[0].body[len(one.reads)]
+                kinds = dict(pair.split(": ") for pair in one.reads)
+                each = guessed(statement, kinds) / (OPTIMISM if isinstance(statement, Block) else 1)
                 self.kept[one] = {n: Cost(int(each * n) + 1, 0) for n in self.widths}
 
     def of_text(self, text, also=()):

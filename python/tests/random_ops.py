@@ -2,8 +2,8 @@
 
 import support  # noqa: F401  (the path)
 
+from simdram.rules.op_tree import BIT, WORD, Block, Op, WordStatement, gate, read
 from simdram.simplify.op_limits import fits
-from simdram.simplify.op_tree import BIT, WORD, Block, Op, WordStatement, gate, read
 
 ONE = ("not", "copy", "shl1", "shr1", "abs", "relu", "bitcount")
 TWO = ("and", "or", "xor", "add", "sub", "min", "max")

@@ -25,5 +25,12 @@ def program():
     return None
 
 
+def op_text(entry, ops):
+    """An operation text of an entry that is known to be compiled from it."""
+    from simdram.launcher.settings import Settings
+    from simdram.steps.op_texts import of_entries
+    return of_entries("p", [entry], ops and str(ops), Settings(), True)[entry.name]
+
+
 needs_program = unittest.skipUnless(program(), "no program is built: ./simdram build builds one")
 needs_numpy = unittest.skipUnless(numpy, "NumPy is not installed")

@@ -71,7 +71,7 @@ class Expressions(Beside):
         for k in range(16):
             sixteen = sixteen ^ (b if k % 2 else c)
         self.assertEqual(sixteen.text.count("op "), 1)
-        self.assertEqual((sixteen + 1).text.count("op "), 1)
+        self.assertEqual((sixteen + 1).text.count("op "), 2)
         seventeen = a
         for k in range(17):
             seventeen = seventeen ^ (b if k % 2 else c)
@@ -172,8 +172,12 @@ class Expressions(Beside):
         product = a * b
         z = product + a
         self.assertEqual(product.numpy().tolist(), [5, 45, 15])
-        self.assertNotIn("mul", z.text)
+        before = chip.cost
         self.assertEqual(z.numpy().tolist(), [6, 54, 18])
+        # one object is made, and one sum taken; the cost is that of the product too, once however often it is read
+        self.assertEqual(chip.cost.commands - before.commands, 8 + 73)
+        self.assertEqual((z.text.count("mul"), z.cost.commands), (1, product.cost.commands + 73))
+        self.assertEqual(((z + product) ^ z).cost.commands, product.cost.commands + 73 + 73 + 56)
 
     def test_two_results_of_one_op(self):
         chip = simdram.Chip(banks=1, rows=300, words=1)
@@ -234,11 +238,11 @@ class Objects(unittest.TestCase):
             chip = simdram.Chip(banks=2, rows=200, words=1)
             a = chip.array(numpy.arange(count), bits=8)
             both = a + chip.array(numpy.arange(count), bits=8)
-            self.assertEqual(both.cost, simdram.Cost(65 * banks, 8 * banks, banks))
-            self.assertEqual((a & 1).cost, simdram.Cost(40 * banks, 0, banks))
+            self.assertEqual(both.cost, simdram.Cost(65 * banks, 8 * banks, banks, host_writes=2 * 8 * banks))
+            self.assertEqual((a & 1).cost, simdram.Cost(40 * banks, 0, banks, host_writes=8 * banks))
             self.assertEqual(both.cost.per_bank, simdram.Cost(65, 8))
             self.assertEqual(both.cost.commands, 73 * banks)
-            self.assertEqual(a.cost, simdram.Cost(0, 0))
+            self.assertEqual(a.cost, simdram.Cost(host_writes=8 * banks))
         self.assertEqual(str(both.cost), "aap=130 ap=16 over 2 banks, aap=65 ap=8 in each")
 
     def test_rows_of_the_host(self):
@@ -248,7 +252,8 @@ class Objects(unittest.TestCase):
         self.assertEqual((chip.host_writes, chip.host_reads), (2 * 8 + 5, 0))
         (a + a).numpy(), (b > 1).numpy(), chip.array(3, bits=8).numpy()
         self.assertEqual((chip.host_writes, chip.host_reads), (2 * 8 + 5, 2 * 8 + 1))
-        self.assertEqual(((a + a).cost.host_writes, (a + a).cost.host_reads), (0, 0))
+        self.assertEqual(((a + a).cost.host_writes, (a + a).cost.host_reads), (2 * 8, 0))
+        self.assertEqual((chip.cost.host_writes, chip.cost.host_reads), (2 * 8 + 5, 2 * 8 + 1))
 
 
 if __name__ == "__main__":

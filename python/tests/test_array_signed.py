@@ -148,9 +148,12 @@ class Widths(unittest.TestCase):
         a = chip.array(x)
         total = (a & 127).astype(bits=16) + a.astype("u2")
         self.assertEqual(total.numpy().tolist(), ((x & 127).astype("u2") + x).tolist())
-        self.assertEqual(total.cost.aap, 129)
+        self.assertEqual(total.cost.aap, 40 + 129)
+        self.assertEqual((total.cost.host_reads, total.cost.host_writes), (8 + 8, 8 + 16 + 16))
+        self.assertIn("\n# the host reads ", total.script)
         wide = a.astype(bits=16)
-        self.assertEqual((wide.cost.aap, wide.cost.host_reads, wide.cost.host_writes, wide.script), (0, 8, 16, ""))
+        self.assertEqual((wide.cost.aap, wide.cost.host_reads, wide.cost.host_writes), (0, 8, 8 + 16))
+        self.assertRegex(wide.script, r"^# the host reads v\d+ and writes v\d+\n$")
         before = chip.host_reads, chip.host_writes
         a.astype(bits=4)
         self.assertEqual((chip.host_reads - before[0], chip.host_writes - before[1]), (8, 4))
@@ -160,8 +163,19 @@ class Widths(unittest.TestCase):
         total = chip.array([200, 100], bits=8) + chip.array([1, 2], bits=8)
         seen = total.astype(signed=True)
         self.assertEqual((seen.numpy().tolist(), total.numpy().tolist()), ([-55, 102], [201, 102]))
-        self.assertEqual((total.script, total.cost.aap), ("", 0))
+        self.assertEqual((total.script, total.cost), (seen.script, seen.cost))
         self.assertEqual(seen.cost.aap, 65)
+
+    def test_a_dot_product(self):
+        """Nothing is lost on the way through the host: a product of 8 bits is made at 16, and summed at 16."""
+        chip = simdram.Chip(banks=1, rows=600, words=1)
+        a, b = (chip.array(numpy.arange(3, dtype=numpy.uint8) + k) for k in range(2))
+        z = (a.astype(bits=16) * b.astype(bits=16)).astype(bits=8)
+        self.assertEqual(z.numpy().tolist(), [0, 2, 6])
+        product = chip.array([1, 2], bits=16) * chip.array([1, 2], bits=16)
+        self.assertEqual((z.cost.aap, z.cost.ap), (product.cost.aap, product.cost.ap))
+        self.assertEqual((z.cost.host_reads, z.cost.host_writes), (8 + 8 + 16, 8 + 8 + 16 + 16 + 8))
+        self.assertEqual((z + z * a).cost.commands, z.cost.commands + (a + a * b).cost.commands)
 
 
 if __name__ == "__main__":

@@ -15,11 +15,12 @@ from test_words import called
 from simdram.assembler import TextFault, assemble
 from simdram.assembler.forms import Form
 from simdram.assembler.listing import raw_text
+from simdram.assembler.one_width import one_width, other_width
 from simdram.assembler.reading import readable_text
-from simdram.assembler.walks import walk
+from simdram.assembler.walks import Stuck, walk
 from simdram.files.fault import FileFault
+from simdram.files.from_hex import bytes_in
 from simdram.files.program import Program
-from simdram.from_hex import bytes_in
 
 CASE_HEX = re.compile(r"^hex \S+((?: [0-9A-Fa-f ]+)?(?:\n\|[0-9A-Fa-f ]*(?:#.*)?)*)$", re.MULTILINE)
 FEWEST = TOP / "examples" / "fewest"
@@ -114,6 +115,54 @@ class Structured(unittest.TestCase):
         for n in (1, 2, 5):
             top = [((1, 0, 0), (2, 0, n - 1))] + [((0, 0, 0),)] * (n != 1)
             self.assertEqual(issued(body, n), [((1, 1, 0), (2, 0, i)) for i in range(n - 1)] + top)
+
+    def test_a_choice_by_the_width(self):
+        body = "if n == 3 { AP T0 } else { if n != 5 { AP T1 } else { AP T2 } }\nif n == 1 { AP T3 }"
+        for n in range(1, 9):
+            self.assertEqual(issued(body, n), [((0, 0 if n == 3 else 2 if n == 5 else 1, 0),)] + [((0, 3, 0),)] * (n == 1))
+        body = "for i in 0..n { if i == 2 { AP T0 } else { AAP a[i] T1 } }"
+        for n in range(1, 6):
+            self.assertEqual(issued(body, n), [((0, 0, 0),) if i == 2 else ((3, 0, i), (0, 1, 0)) for i in range(n)])
+
+    def test_loops_with_a_step(self):
+        for n in range(1, 10):
+            for step in (2, 3):
+                self.assertEqual(issued(f"for i in 0..n step {step} {{ AAP a[i] T0 }}", n), [((3, 0, i), (0, 0, 0)) for i in range(0, n, step)])
+                self.assertEqual(issued(f"for i in n-1..0 step {step} {{ AAP a[i] T0; AAP b[n - 1 - i] T1 }}", n),
+                                 [command for i in range(n - 1, -1, -step)
+                                  for command in (((3, 0, i), (0, 0, 0)), ((3, 1, n - 1 - i), (0, 1, 0)))])
+                self.assertEqual(issued(f"for i in 0..n step {step} {{ AP T0; next; AAP a[i] T1 }}", n),
+                                 [command for k, i in enumerate(range(0, n, step)) for command in ([((0, 0, 0),)] if k % 2 == 0 else
+                                                                                                    [((3, 0, i), (0, 1, 0))])])
+        self.assertEqual(issued("for i in 1..n step 2 { for j in i..n step 3 { AAP a[j] y[i] } }", 9),
+                         [((3, 0, j), (2, 0, i)) for i in range(1, 9, 2) for j in range(i, 9, 3)])
+
+    def test_straight_code_may_name_any_number_of_rows(self):
+        body = "".join(f"AAP a[{k}] T0; AAP b[n - {k + 1}] T1; AAP T0 y[{k}]\n" for k in range(12))
+        expected = [command for k in range(12) for command in (((3, 0, k), (0, 0, 0)), ((3, 1, 11 - k), (0, 1, 0)), ((0, 0, 0), (2, 0, k)))]
+        self.assertEqual(issued(body, 12), expected)
+        self.assertEqual(issued(f"if n == 12 {{ {body} }} else {{ for i in 0..n {{ AAP a[i] y[i] }} }}", 12), expected)
+        self.assertEqual(issued(f"for i in 0..2 {{ {body} }}", 12), expected * 2)
+
+    def test_one_width(self):
+        body = "width 4\nAAP a[n - 1] T0\nAAP a[0] y[3]\nfor i in 0..n { AAP b[i] y[i] }\n"
+        entry = assemble((HEAD + body).encode()).entries[0]
+        self.assertEqual((one_width(entry), other_width(entry, 4), other_width(entry, 5)), (4, "", "f is a program for the width 4 alone"))
+        self.assertEqual(walk(entry, 4), [((3, 0, 3), (0, 0, 0)), ((3, 0, 0), (2, 0, 3)), *(((3, 1, i), (2, 0, i)) for i in range(4))])
+        for n in (1, 2, 3, 5, 8, 127, 128):
+            with self.assertRaises(Stuck):
+                walk(entry, n)
+        text = readable_text(Program([entry]))
+        self.assertIn("\nwidth 4\n  AAP a[3] T0\n", text)
+        self.assertEqual(walk(assemble(text.encode()).entries[0], 4), walk(entry, 4))
+        self.assertEqual(assemble(raw_text(Program([entry])).encode()).file(), Program([entry]).file())
+        jumps = assemble((HEAD + "width 2\nSETI r0 2\nl: AAP a[0] T0\nSUBI r0 1\nBNEZ r0 l\nAP T0; SETI r5 1; BNEZ r5 past; AP T1; past: DONE\n")
+                         .encode()).entries[0]
+        text = readable_text(Program([jumps]))
+        self.assertIn("width 2\n", text)
+        again = assemble(text.encode()).entries[0]
+        self.assertEqual((one_width(again), walk(again, 2)), (2, walk(jumps, 2)))
+        self.assertIsNone(one_width(assemble((HEAD + "SETN r0\nSUBI r0 4\nBNEZ r0 l\nAP T0\nl: SUBI r0 1\nDONE\n").encode()).entries[0]))
 
     def test_a_jump_of_its_own(self):
         self.assertEqual(lines_of("JMP past\nAP T0\npast: DONE"), ["SETI r0 1", "BNEZ r0 3", "AP B0", "DONE"])

@@ -1,5 +1,6 @@
 """Which program runs, how it is built, with and without proofs, with stand-ins for the toolchain."""
 
+import concurrent.futures
 import os
 import pathlib
 import shutil
@@ -21,7 +22,8 @@ case "$1 $FAIL" in
 esac
 case "$1" in
   run) mkdir -p out; printf '#!/bin/sh\\necho proved "$@"\\n' > out/simdram; chmod +x out/simdram ;;
-  try) [ "$FAIL" = try ] && { echo "error: no such name"; exit 2; }
+  try) sleep "${SLOW:-0}"
+       [ "$FAIL" = try ] && { echo "error: no such name"; exit 2; }
        "$(dirname "$0")/../toolchain/bin/clang" -c -O0 module.bc -o "$TMPDIR/program" $FLAGS && cat "$4" ;;
 esac
 """
@@ -87,6 +89,13 @@ class WithoutProofs(Building):
         self.assertEqual(set(os.listdir(self.top)), before, "the toolchain of links is left behind")
         self.assertEqual(self.call("show", "a.ops").stdout, "unproved show a.ops\n")
         self.assertEqual(self.asked(), [])
+
+    def test_two_calls_compile_once(self):
+        with concurrent.futures.ThreadPoolExecutor() as pool:
+            ended = list(pool.map(lambda name: self.call("show", name, SLOW="2"), "abc"))
+        self.assertEqual([one.stdout for one in ended], [f"unproved show {name}\n" for name in "abc"], [one.stderr for one in ended])
+        self.assertEqual(len(self.asked()), 2, "rt and clang are called once")
+        self.assertEqual(sum("another call compiles the program; waiting for it" in one.stderr for one in ended), 2)
 
     def test_another_compilation_is_not_changed(self):
         self.call("show", "a.ops", FLAGS="")

@@ -5,11 +5,11 @@ import unittest
 import support  # noqa: F401 (the folder of simdram)
 
 from simdram.assembler import assemble
-from simdram.cells_before import before
-from simdram.code_parts import parts
-from simdram.loops_and_ways import outline
-from simdram.registers import Held
-from simdram.row_names import RowNames
+from simdram.assembler.loops_and_ways import outline
+from simdram.steps.cells_before import before
+from simdram.steps.code_parts import parts
+from simdram.steps.registers import Held
+from simdram.steps.row_names import RowNames
 
 CHOICES = """program f(a: word) -> y: word
   SETT r0
@@ -130,8 +130,7 @@ class At(unittest.TestCase):
     def test_registers_of_two_ways(self):
         code = code_of(REGISTERS)
         self.assertEqual(Held(code).legend(parts(code)[0]),
-                         [("r1", "set to 3 at instruction 2 or set to n at instruction 5 and lowered by 2 at 6 if r0 > 0 at 1"),
-                          ("r2'", "set to r1 at instruction 8")])
+                         [("i", "r1, set to 3 at instruction 2 or set to n at instruction 5 and lowered by 2 at 6 if r0 > 0 at 1")])
 
     def test_cells(self):
         code = code_of(CHOICES)

@@ -11,16 +11,16 @@ import support
 from support import TOP, needs_program
 from test_words import called
 
-from simdram import word_ops
-from simdram.answers import first_fault, no_triples, query_refusals, script_refusals
+from simdram.files.from_hex import bytes_in
 from simdram.files.image import Image, Object
 from simdram.files.program import Program
-from simdram.flips_rules import explain_flips
-from simdram.from_hex import bytes_in
-from simdram.ops_rules import explain_ops
-from simdram.query_rules import read_query
-from simdram.script_rules import read_script
-from simdram.table import HEAD_MAX, Table
+from simdram.files.table import HEAD_MAX, Table
+from simdram.rules import word_ops
+from simdram.rules.answers import first_fault, no_triples, query_refusals, script_refusals
+from simdram.rules.flips_rules import explain_flips
+from simdram.rules.ops_rules import explain_ops
+from simdram.rules.query_rules import read_query
+from simdram.rules.script_rules import read_script
 
 HEAD = "op f(a: word, b: word, s: bit) -> y: word {\n"
 # a text, the kind, the line and column, the token, and words of what would be right
@@ -345,6 +345,22 @@ class AsTheProgram(unittest.TestCase):
         ended = called("explain", "f.ops", cwd=self.folder)
         self.assertEqual((ended.returncode, ended.stdout.splitlines()[0]), (1, "f.ops line 2 column 6: unknown"))
         self.assertEqual(called("explain", "none", cwd=self.folder).returncode, 2)
+
+
+class Hints(unittest.TestCase):
+    """What is said of texts as other tools write them."""
+
+    def said(self, kind, data):
+        return " ".join(" ".join(first_fault(kind, "f", data).lines()).split())
+
+    def test_each(self):
+        mark = b"\xef\xbb\xbf"
+        for kind, data in (("ops", b"op f(a: word) -> y: word { y = not(a); }"), ("script", b"fill a, 2\n"), ("query", b"eq(a, 2)"),
+                           ("micro", b"program f(a: word) -> y: word\n")):
+            self.assertIn("the text begins with a byte order mark", self.said(kind, mark + data), kind)
+        self.assertIn("the instruction that calls it gives n", self.said("ops", b"op f(a: word[8]) -> y: word { y = not(a); }"))
+        self.assertIn("decimal digits, and `0x2` is none", self.said("script", b"fill a, 0x2\n"))
+        self.assertNotIn("decimal", self.said("script", b"fill a, 0 x2\n"))
 
 
 if __name__ == "__main__":

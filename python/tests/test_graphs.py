@@ -3,6 +3,7 @@
 import itertools
 import pathlib
 import random
+import re
 import shutil
 import subprocess
 import tempfile
@@ -11,13 +12,16 @@ import unittest
 from support import needs_program
 from test_words import called
 
-from simdram.blif_file import Reader, in_order
-from simdram.block_graph import written
-from simdram.from_blif import Block
-from simdram.least_gates import expressions, text
-from simdram.mig import Graph
-from simdram.mig_formats import Ands, as_aiger, as_blif, as_dot
-from simdram.ops_rules import shapes_of
+from simdram.graphs.blif_file import Reader
+from simdram.graphs.block_graph import written
+from simdram.graphs.from_blif import Block
+from simdram.graphs.least_gates import expressions, text
+from simdram.graphs.mig import Graph
+from simdram.graphs.netlist import in_order
+from simdram.graphs.splitting import split
+from simdram.graphs.mig_formats import Ands, as_aiger, as_blif, as_dot
+from simdram.launcher.faults import Fault
+from simdram.rules.ops_rules import explain_ops, shapes_of
 
 ABC = shutil.which("berkeley-abc") or shutil.which("abc")
 OPS = """op sum(a: word, b: word) -> y: word { serial up (c = 0) { let x = xor(a, b); y = xor(x, c); c = maj(a, b, c); } }
@@ -69,6 +73,36 @@ def ands_values(data, inputs, mask):
     return {symbols[f"o{k}"]: of(int(lines[1 + count + k])) for k in range(outputs)}
 
 
+def in_positions(net, words):
+    """The words of a netlist, position by position, where states begin with 0."""
+    held, found = dict.fromkeys(net.states, 0), {one: [] for one in net.words}
+    for values in zip(*(words[one] for one in net.sources)):
+        held.update(zip(net.sources, values))
+        for name in in_order(net, "net"):
+            table = net.tables[name]
+            held[name] = table.values >> sum(held[one] << k for k, one in enumerate(table.inputs)) & 1
+        for one in found:
+            found[one].append(held[one])
+        held = {one: held[one + "_next"] for one in net.states}
+    return found
+
+
+def drawn_netlist(dice):
+    """A netlist of up to eight inputs, two states and four outputs."""
+    sources, states = ([f"{letter}{k}" for k in range(dice.randrange(*count))] for letter, count in (("a", (2, 9)), ("s", (0, 3))))
+    signals, lines = sources + states, []
+    for k in range(dice.randrange(4, 16)):
+        inputs = dice.sample(signals[-12:], min(dice.randrange(1, 4), len(signals[-12:])))
+        rows = {"".join(dice.choice("01-") for _ in inputs) for _ in range(dice.randrange(1, 4))}
+        end = dice.choice("01")
+        lines += [f".names {' '.join(inputs)} n{k}", *(f"{row} {end}" for row in sorted(rows))]
+        signals.append(f"n{k}")
+    outputs = dice.sample([f"n{k}" for k in range(4)], dice.randrange(1, 5))
+    lines += [f".names {dice.choice(signals)} {one}_next\n1 1" for one in states]
+    return "\n".join([".model m", f".inputs {' '.join(sources + states)}", f".outputs {' '.join(outputs + [f'{one}_next' for one in states])}",
+                      *lines, ".end", ""])
+
+
 class Folder(unittest.TestCase):
     def setUp(self):
         kept = tempfile.TemporaryDirectory()
@@ -102,6 +136,15 @@ class Formats(Folder):
                 self.assertEqual(ands_values(as_aiger(graph, True), inputs, mask), expected)
                 self.assertTrue(as_aiger(graph, False).startswith(b"aig "))
                 self.assertIn(f"digraph {shape.name} {{", as_dot(graph, shape.name))
+
+    def test_an_input_that_is_not_read(self):
+        text = "op f(a: word, b: word, s: bit) -> y: word { serial up (c = 0) { y = xor(b, c); c = b; } }\n"
+        (self.folder / "g.ops").write_text(text)
+        for words in ([], ["--compiled"]):
+            made = {name: self.call("graph", "g.ops", "--format", name, *words).stdout for name in ("dot", "blif", "aiger")}
+            self.assertIn(".inputs a b s c\n", made["blif"])
+            self.assertIn("i0 a\ni1 b\ni2 s\ni3 c\n", made["aiger"])
+            self.assertIn('"in s" [shape=triangle, label="s"];', made["dot"])
 
     def test_a_full_adder(self):
         shape = shapes_of("f.ops", OPS.encode())[0]
@@ -204,22 +247,103 @@ class Netlists(Folder):
     def test_what_is_refused(self):
         inputs, end = ".model m\n.inputs a b c d e\n.outputs y\n", ".end\n"
         for text, said in (
-            (inputs + ".names a b c d y\n1111 1\n", "n.blif line 4: the table of y has 4 inputs, and 3 at most are read"),
-            (inputs + ".latch a y\n", "line 4: a latch"), (inputs + ".gate nand2 a=a\n", "line 4: .gate is not read here"),
+            (inputs + ".names a b c d a b c d a b c y\n" + "1" * 11 + " 1\n", "n.blif line 4: the table of y has 11 inputs, and 10 at most are read"),
+            (inputs + ".latch a y\n", "line 4: a latch"), (inputs + ".gate nand2 a=a\n", "line 4: there is no gate nand2: --genlib"),
+            (inputs + ".gate $_AND_ A=a Y=y\n", "line 4: the gate $_AND_ has the pins A, B, Y"), (inputs + ".subckt x\n", "line 4: .subckt is not read"),
             (inputs + ".names a y\n1 1\n0 0\n", "line 5: the rows of a table all end with 1, or all with 0"),
             (inputs + ".names a y\n11 1\n", "line 5: a row of this table has 1 of 0, 1 and -"),
             (inputs + ".names f y\n1 1\n", "line 4: y reads f, which is no input and has no table"),
             (inputs + ".names a y\n1 1\n.names b y\n1 1\n", "line 6: y has a table already"),
             (inputs, "the output y has no table"), (".model m\n.inputs a\n", "the netlist has no outputs"),
             (".inputs a\n.outputs y\n.names g y\n1 1\n.names y g\n1 1\n", "reads itself through other tables"),
-            (inputs + ".names a y\n1 1\n", "an op has 1 to 4 parameters, and the netlist 5 inputs that are no states"),
-            (".inputs a\n.outputs x y z\n.names a x\n1 1\n.names a y\n1 1\n.names a z\n0 1\n", "at most 2 results, and the netlist 3 outputs"),
+            (".inputs c d e f g h\n.outputs c_next\n.names d e c n\n11- 1\n-11 1\n.names n f g m\n110 1\n.names m h c_next\n11 1\n",
+             "the state c cannot be split: with 5 words at a position, where an op takes 4"),
         ):
             ended = self.block(text + end)
             self.assertEqual((ended.returncode, len(ended.stderr.splitlines()), ended.stdout), (2, 1, ""), (text, ended.stderr))
             self.assertIn(said, ended.stderr)
         self.assertIn("has no state q", self.block(".inputs a\n.outputs y\n.names a y\n1 1\n", "--state", "q=1").stderr)
         self.assertIn("--state takes NAME=0 or NAME=1", self.block(".inputs a\n.outputs y\n.names a y\n1 1\n", "--state", "q=2").stderr)
+
+    def test_gates_of_a_library(self):
+        (self.folder / "g.genlib").write_text("# a library\nGATE inv 1 O=!a; PIN * INV 1 999 1 0 1 0\nGATE aoi 2 O=!(a*b+c d');\nGATE \"one\" 0 O=CONST1;\n")
+        text = (".model m\n.inputs x y s q\n.outputs r\n.gate aoi a=x b=y c=s d=q O=n1\n.gate $_MUX_ A=n1 B=n2 S=s Y=r\n.gate inv a=y O=n2\n.end\n")
+        ended = self.block(text, "--genlib", "g.genlib")
+        self.assertEqual((ended.returncode, ended.stderr), (0, ""))
+        shape, = shapes_of("own", ended.stdout.encode())
+        graph = written(shape.statements[0], shape)
+        inputs, mask = patterns(["x", "y", "s", "q"])
+        x, y, s, q = inputs.values()
+        self.assertEqual(graph.values(inputs, mask)["r"], s & ~y & mask | ~s & ~(x & y | s & ~q) & mask)
+        for text, said in (("GATE n 1 O=a*;\n", "the gate n has no formula"), ("GATE n 1 O=(a;\n", "no formula"), ("\n", "has no line `GATE")):
+            (self.folder / "g.genlib").write_text(text)
+            ended = self.block(".inputs a\n.outputs y\n.names a y\n1 1\n", "--genlib", "g.genlib")
+            self.assertEqual((ended.returncode, len(ended.stderr.splitlines())), (2, 1))
+            self.assertIn(said, ended.stderr)
+
+    def test_aiger(self):
+        """What `graph` writes as AIGER, binary or text, comes back as a block that does the same."""
+        for name in BLOCKS:
+            for out in ("f.aag", "f.aig"):
+                self.graph(out, "--op", name, "--format", "aiger")
+                self.graph("f.blif", "--op", name, "--format", "blif")
+                ended = self.call("from-blif", out, "--name", "back")
+                self.assertEqual((ended.returncode, ended.stderr), (0, ""))
+                shape, = shapes_of("back", ended.stdout.encode())
+                net = self.net((self.folder / "f.blif").read_text())
+                inputs, mask = patterns(net.inputs)
+                self.assertEqual(written(shape.statements[0], shape).values(inputs, mask), netlist_values(net, inputs, mask))
+
+    def test_latches_of_aiger(self):
+        text = b"aag 4 1 2 1 1\n2\n4 8 1\n6 3\n7\n8 5 6\ni0 in\nl0 p\no0 out\nc\ni0 not a symbol\n"
+        (self.folder / "l.aag").write_bytes(text)
+        ended = self.call("from-blif", "l.aag")
+        self.assertEqual(ended.stdout, "# in is in\n".replace("# in is in\n", "") + "op l(in: word) -> out: word, p: bit {\n  serial up (p = 1, l1 = 0) {\n"
+                         "    out = not(l1);\n    p = and(not(p), l1);\n    l1 = not(in);\n  }\n}\n")
+        for wrong, said in ((text[:16], "line 3: the file ends here"), (text.replace(b"8 5 6", b"9 5 6"), "a gate's own is even"),
+                            (text.replace(b"aag 4 1 2 1 1", b"aag 4 1 2"), "line 1: a header is"), (text.replace(b"1 1\n2", b"1 1 1\n2"), "not read here"),
+                            (b"aig 2 1 0 1 1\n4\n", "the gates end here"), (text.replace(b"\n7\n", b"\n99\n"), "the literal 99 is no input")):
+            (self.folder / "l.aag").write_bytes(wrong)
+            ended = self.call("from-blif", "l.aag")
+            self.assertEqual((ended.returncode, len(ended.stderr.splitlines()), ended.stdout), (2, 1, ""), ended.stderr)
+            self.assertIn(said, ended.stderr)
+
+    def test_several_ops(self):
+        inputs = " ".join("abcdef")
+        text = (f".model m\n.inputs {inputs} s\n.outputs x y z s_next\n.names a b c n\n11- 1\n--1 1\n.names d e f k\n1-1 1\n-10 1\n"
+                ".names n k s x\n111 1\n000 1\n.names n s y\n10 1\n.names k a z\n1- 1\n-1 1\n.names x s s_next\n10 1\n01 1\n.end\n")
+        ended = self.block(text, "--state", "s=1")
+        self.assertEqual(ended.returncode, 0, ended.stderr)
+        self.assertRegex(ended.stderr, r"^n.blif: 6 inputs and 3 outputs, where an op has 4 and 2 at most: \d ops, which comments call in order\n$")
+        shapes = shapes_of("own", ended.stdout.encode())
+        calls = re.findall(r"^# bbop_(\w+) (.*), COUNT, N$", ended.stdout, re.MULTILINE)
+        self.assertEqual([name for name, _ in calls], [shape.name for shape in shapes])
+        there = set("abcdef")
+        for (_, words), shape in zip(calls, shapes):
+            names = words.split(", ")
+            self.assertLessEqual(set(names[len(shape.results):]), there)
+            there |= set(names[:len(shape.results)])
+        self.assertLessEqual({"x", "y", "z"}, there)
+
+    def test_drawn_netlists_of_several_ops(self):
+        """Ops that follow each other give what the netlist gives, position by position."""
+        dice, several = random.Random(5), 0
+        for _ in range(120):
+            net = self.net(drawn_netlist(dice))
+            try:
+                nets = split(net, "net")
+            except Fault as fault:
+                self.assertIn("cannot be split", str(fault))
+                continue
+            several += len(nets) > 1
+            words = {one: [dice.randrange(2) for _ in range(5)] for one in net.sources}
+            wanted = in_positions(net, words)
+            for one in nets:
+                self.assertTrue(len(one.sources) <= 4 and len(one.words) <= 2)
+                self.assertIsNone(explain_ops("own", Block(one, "net", [], {}, len(nets) == 1).text(one.name, "up").encode()))
+                words.update(in_positions(one, words))
+            self.assertEqual({name: words[name] for name in wanted}, wanted)
+        self.assertGreater(several, 60)
 
     def test_a_block_that_is_too_large(self):
         text, last = ".model m\n.inputs a b c\n.outputs y\n", "a"

@@ -13,11 +13,10 @@ import unittest
 import support
 from support import needs_numpy, numpy
 
-from simdram import image_tool
+from simdram.__main__ import status_of
 from simdram.files import numbers
 from simdram.files.fault import FileFault
 from simdram.files.image import Image
-from simdram.settings import Settings
 
 
 class Tool(unittest.TestCase):
@@ -34,7 +33,7 @@ class Tool(unittest.TestCase):
         """The status, and what was said on standard error."""
         said = io.StringIO()
         with contextlib.redirect_stderr(said), contextlib.redirect_stdout(io.StringIO()):
-            status = image_tool.main(words)
+            status = status_of(["image", *words])
         return status, said.getvalue()
 
     def write(self, name, text):
@@ -76,8 +75,8 @@ class Tool(unittest.TestCase):
         before = Image.load("m").file()
         for file, text, said in (
                 ("f", "1,2,3", "f: count: it has 3 numbers, and a of m has 4"),
-                ("f", "1 2\n-3 4", "f: range: value 2 of a is -3"),
-                ("f", "1 2\n300 4", "f: range: value 2 of a is 300, and 8 bits hold 0 to 255"),
+                ("f", "1 2\n-3 4", "f: range: value 3 of a is -3"),
+                ("f", "1 2\n300 4", "f: range: value 3 of a is 300, and 8 bits hold 0 to 255"),
                 ("f", "1 2\n3.5 4", "f: line 2 number: '3.5' is no number"),
                 ("f", b"1 \xff", "f: line 1 number: a byte that is no"),
                 ("f.csv", "element,a\n0,1\n2,3", "f.csv: line 3 element: '2,3' where `1,VALUE` is wanted"),
@@ -86,25 +85,25 @@ class Tool(unittest.TestCase):
                 ("f.npy", "1 2 3 4", "f.npy: array: no array file")):
             self.write(file, text)
             status, line = self.did("put", "m", "a", file)
-            self.assertEqual((status, line[:len(said) + 15]), (2, f"simdram image: {said}"))
+            self.assertEqual((status, line[:len(said) + 9]), (2, f"simdram: {said}"))
             self.assertEqual(line.count("\n"), 1)
         for words, said in ((("put", "m", "a", "none"), "none: cannot read"),
                             (("get", "none", "a"), "none: cannot read"),
                             (("get", "m", "b"), "m: no object b: there are a"),
                             (("show", "f"), "f: byte 3 short: a field of 4")):
             status, line = self.did(*words)
-            self.assertEqual((status, line[:len(said) + 15]), (2, f"simdram image: {said}"))
+            self.assertEqual((status, line[:len(said) + 9]), (2, f"simdram: {said}"))
         self.assertEqual(Image.load("m").file(), before)
 
     def test_words(self):
         for text, said in (("make m 1x96", "1x96 is not BANKSxROWSxWORDS"), ("make m 1x96x1 a:8", "a:8 is no NAME"),
-                           ("make m 1x96x1 a:8=1,-2", "value 1 of a is -2"), ("make m 0x96x1", "0x96x1: a chip has"),
-                           ("make m 1x96x1 a:8=256", "value 0 of a is 256"), ("make m 1x96x1 a:65/1", "no_rows"),
+                           ("make m 1x96x1 a:8=1,-2", "value 2 of a is -2"), ("make m 0x96x1", "0x96x1: a chip has"),
+                           ("make m 1x96x1 a:8=256", "value 1 of a is 256"), ("make m 1x96x1 a:65/1", "no_rows"),
                            ("make m 1x96x1 a:8/65", "too_large"), ("make m 1x96x1 a:8/1 a:8/1", "exists"),
                            ("make m 1x96x1 a:8/0", "too_large"), ("make m 1x96x1 a:0/1", "bad_number"),
                            ("", "these words are none"), ("get m", "these words are none")):
             status, line = self.did(*text.split())
-            self.assertEqual((status, line[:len(said) + 15]), (1, f"simdram image: {said}"))
+            self.assertEqual((status, line[:len(said) + 9]), (1, f"simdram: {said}"))
         self.assertFalse(os.path.exists("m"))
         self.assertEqual(self.did("--help"), (0, ""))
 
@@ -113,9 +112,9 @@ class Tool(unittest.TestCase):
         self.write("text", "1 2 3 4")
         before = Image.load("m").file()
         for words, said in ((("make", "text", "1x96x1"), "text: an image is written there, but it holds text"),
-                            (("get", "m", "a", "m"), "m: numbers are written there, but it holds an image")):
+                            (("get", "m", "a", "m"), "m: a text of numbers is written there, but it holds an image")):
             status, line = self.did(*words)
-            self.assertEqual((status, line[:len(said) + 15]), (2, f"simdram image: {said}"))
+            self.assertEqual((status, line[:len(said) + 9]), (2, f"simdram: {said}"))
         self.assertEqual(Image.load("m").file(), before)
         self.assertEqual((self.did("put", "m", "a", "text"), self.did("get", "m", "a", "text")), ((0, ""), (0, "")))
         for name, other in (("m.ops", "op f(a: word) -> y: word { y = not(a); }\n"), ("hex", "53 44 # a note\n"), ("a.flips", "1 0 0 0\n")):
@@ -126,7 +125,7 @@ class Tool(unittest.TestCase):
         for name in ("a.csv", "a.npy", "a.txt"):
             self.assertEqual([self.did("get", "m", "a", name) for _ in range(2)], [(0, ""), (0, "")], name)
         with contextlib.redirect_stderr(io.StringIO()):
-            self.assertEqual(image_tool.main(["make", "text", "1x96x1"], Settings(force=True)), 0)
+            self.assertEqual(status_of(["image", "make", "text", "1x96x1", "--force"]), 0)
         self.assertEqual(Image.load("text").objects, [])
 
     def test_a_pipe_that_ends(self):

@@ -56,6 +56,22 @@ class AsTheProgram(Folder):
             ours, its = self.call(*words), self.plain(words)
             self.assertEqual((ours.returncode, ours.stdout), (its.returncode, its.stdout), words)
 
+    def test_what_cannot_be_read_is_told_with_the_reason_before_the_run(self):
+        ended = self.call("show", ".")
+        self.assertEqual((ended.returncode, ended.stdout, ended.stderr), (2, "cannot read .\n", "simdram: cannot read .: Is a directory\n"))
+        ended = self.call("exec", "none.prog", "mac.bbop", "none.img", "out.img")
+        self.assertEqual((ended.returncode, ended.stdout), (2, "cannot read none.prog\n"))
+        self.assertEqual(ended.stderr.splitlines(), [f"simdram: cannot read none.{end}: No such file or directory" for end in ("prog", "img")])
+
+    def test_a_text_in_place_of_a_program_file(self):
+        (self.folder / "a.micro").write_text("# mine\nprogram f(a: word) -> y: word\n  AAP a[0] y[0]\n")
+        for name, hint in (("mac.ops", "compile it first, by `simdram compile`"), ("a.micro", "assemble it first, by `simdram assemble`")):
+            for words in (["list", name], ["cost", name, "8"], ["steps", name, "f"], ["disassemble", name], ["exec", name, "mac.bbop", "mac.img", "o.img"]):
+                ended = self.call(*words)
+                self.assertEqual(ended.returncode, 5 if words[0] in ("list", "cost", "exec") else 2, words)
+                self.assertIn(hint, " ".join(ended.stderr.split()), words)
+        self.assertNotIn("first", self.call("list", "mac.img").stderr)
+
     def test_open_files_are_passed_on(self):
         ended = subprocess.run(["bash", "-c", f"{LAUNCHER} show <(cat mac.ops)"], cwd=self.folder, capture_output=True, text=True, check=False)
         self.assertEqual((ended.returncode, ended.stdout.split("(")[0]), (0, "op mac"), ended.stderr)
@@ -147,19 +163,23 @@ class NothingDestroyed(Folder):
         run = ["run", *self.WHOLE["run"]]
         self.assertEqual(self.call(*run).returncode, 0)
         first = text(self.folder / "out.img")
+        before = text(self.folder / "mac.img")
         (self.folder / "out.img~").write_text("mine")
         (self.folder / "numbers").write_text("1,2,3,4")
         self.assertEqual(self.call("image", "put", "mac.img", "b", "numbers").returncode, 0)
         for words in (run, run):
             self.assertEqual(self.call(*words).returncode, 0)
         kept = {name: data for name, data in self.files().items() if "~" in name}
-        self.assertEqual(kept, {"out.img~": b"mine", "out.img~2": first})
+        self.assertEqual(kept, {"mac.img~": before, "out.img~": b"mine", "out.img~2": first})
+        (self.folder / "mac.img~").unlink()
         (self.folder / "out.img~2").unlink()
         os.symlink("mac.img", self.folder / "link.img")
         (self.folder / "out.img").write_bytes(first)
         self.assertEqual(self.call(*run, "--force").returncode, 0)
+        before = text(self.folder / "mac.img")
         self.assertEqual(self.call(*run[:-1], "link.img").returncode, 0)
-        self.assertEqual([name for name in self.files() if "~" in name], ["out.img~"])
+        self.assertEqual({name: data for name, data in self.files().items() if "~" in name}, {"out.img~": b"mine", "mac.img~": before})
+        self.assertTrue((self.folder / "link.img").is_symlink())
 
     def test_what_is_said(self):
         ended = self.call("run", "mac.bbop", "mac.ops", "mac.prog", "mac.img", "out.img")

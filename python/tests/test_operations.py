@@ -9,8 +9,8 @@ import unittest
 import support
 from support import needs_program
 
-from simdram import image_tool
-from simdram.word_ops import TAKES_GIVES, forms
+from simdram.__main__ import status_of
+from simdram.rules.word_ops import TAKES_GIVES, forms
 
 WIDTHS = (*range(1, 21), 31, 32, 33, 63, 64, 65, 127, 128)
 COUNT = 64
@@ -101,7 +101,7 @@ class Operations(unittest.TestCase):
         sizes = {"a": case.n, "b": case.n, "y": case.n, "z": case.n, "c": 1, "q": 1}
         rows = max(64, sum(sizes.values()) + 2 * case.n + 2 + 32)
         objects = [f"{name}:{bits}=" + ",".join(map(str, case.numbers.get(name, [0] * COUNT))) for name, bits in sizes.items()]
-        self.assertEqual(image_tool.main(["make", str(work / "image"), f"1x{rows}x1", *objects]), 0)
+        self.assertEqual(status_of(["image", "make", str(work / "image"), f"1x{rows}x1", *objects]), 0)
         (work / "script").write_text("".join(f"{line}\n" for line in case.lines))
         ended = subprocess.run([support.program(), "run", "ops", "prog", "script", "image", "out"], cwd=work, capture_output=True,
                                text=True, check=False)

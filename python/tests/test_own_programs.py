@@ -9,7 +9,7 @@ import support
 from support import needs_numpy, needs_program, numpy
 
 import simdram
-from simdram.verdicts import Verdict, verdict_of, verdicts_of
+from simdram.rules.verdicts import Verdict, verdict_of, verdicts_of
 
 ADDER = """program add(a: word, b: word) -> y: word
   AAP C1 {DCC1, T0, T3}

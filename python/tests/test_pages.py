@@ -12,8 +12,8 @@ import unittest
 import support
 from support import TOP, needs_numpy, needs_program
 
-from simdram.commands import ALL
-from simdram.word_ops import TAKES_GIVES, forms
+from simdram.launcher.commands import ALL
+from simdram.rules.word_ops import TAKES_GIVES, forms
 
 WIDTHS = range(1, 129)
 SHOWN = (8, 32)

@@ -1,15 +1,18 @@
 """Formulas of n, tables of costs in their formats, and pictures of several files."""
 
 import fractions
+import os
 import unittest
+import unittest.mock
 
+import support
 from support import TOP, needs_program
 from test_tools import Folder
 
-from simdram.faults import Fault
-from simdram.formulas import value
-from simdram.picture import Line, Picture, number, stepped, svg
-from simdram.table_formats import as_csv, as_latex, as_markdown
+from simdram.costs.formulas import value
+from simdram.costs.picture import Line, Picture, number, stepped, svg
+from simdram.costs.table_formats import as_csv, as_latex, as_markdown
+from simdram.launcher.faults import Fault
 
 FIRST = "op f(a: word, b: word) -> y: word { y = add(a, b); }\nop g(a: word) -> y: word { y = not(a); }\n"
 SECOND = "op f(a: word, b: word) -> y: word { t = add(a, b); y = not(t); }\nop h(a: word) -> y: word { y = copy(a); }\n"
@@ -79,6 +82,49 @@ class SideBySide(Folder):
             self.assertIn(said, drawn)
         self.assertEqual(drawn.count("<polyline"), 3)
         self.assertEqual(drawn.count("stroke-dasharray"), 1)
+
+    def test_entries_columns_and_totals(self):
+        self.assertEqual(self.call("cost-table", "first", "second", "--widths", "8,30-31", "--total", "--ops", "f", "--csv").stdout,
+                         "name,n=8,n=30,n=31\nf of first,73,271,280\nf of second,89,331,342\n")
+        self.assertEqual(self.call("cost-table", "first", "--widths", "8", "--columns", "aap_per_bank,scratch_rows", "--csv").stdout,
+                         "name,width,aap_per_bank,scratch_rows\nf,8,65,1\ng,8,16,0\n")
+        self.assertEqual(self.call("cost-table", "first", "second", "--widths", "8", "--columns", "commands,ratio", "--ops", "f,h", "--csv").stdout,
+                         "name,width,first_commands,second_commands,second_ratio\nf,8,73,89,1.219\nh,8,,8,\n")
+        head = self.call("cost-table", "first", "--words", "2", "--csv").stdout.splitlines()[0]
+        self.assertIn("commands_per_element_of_128_in_a_row", head)
+        for words, said in ((["--ops", "k"], "the entries: f, g"), (["--columns", "k"], "--columns takes aap_per_bank, "), (["--widths", "4-2"], "as 4,8,16-20"),
+                            (["--columns", "aap", "--total"], "leave out --columns")):
+            ended = self.call("cost-table", "first", *words)
+            self.assertEqual((ended.returncode, len(ended.stderr.splitlines())), (2, 1), ended.stderr)
+            self.assertIn(said, ended.stderr)
+
+    def test_a_picture_with_a_logarithmic_axis(self):
+        ended = self.call("plot", "first", "second", "p.svg", "--widths", "4,8-10", "--column", "aap", "--log", "--curve", "n=n-8")
+        self.assertEqual((ended.returncode, ended.stderr), (0, ""))
+        drawn = (self.folder / "p.svg").read_text()
+        for said in (">AAP</text>", "f of first: 81 at 10", "h of second: 10 at 10", "n: 2 at 10", ">100</text>"):
+            self.assertIn(said, drawn)
+
+    def test_a_walk_that_never_ends_is_walked_once(self):
+        (self.folder / "m").write_text("program f(a: word) -> y: word\n  for i in 0..n { AAP a[i] y[i] }\n"
+                                       "program g(a: word) -> y: word\nagain: AAP a[0] y[0]\nJMP again\n")
+        (self.folder / "program").write_text(f'#!/bin/sh\necho "$1 $2" >> calls\nexec {support.program()} "$@"\n')
+        (self.folder / "program").chmod(0o755)
+        self.assertEqual(self.call("assemble", "m", "p").returncode, 0)
+        with unittest.mock.patch.dict(os.environ, SIMDRAM_PROGRAM="./program"):
+            ended = self.call("plot", "p", "p.svg", "--to", "8")
+        self.assertEqual((ended.returncode, ended.stderr), (0, "simdram: g is left out: its execution is stuck, bad_walk 1 budget at n = 1\n"))
+        self.assertIn("f: 8 at 8", (self.folder / "p.svg").read_text())
+        calls = (self.folder / "calls").read_text().splitlines()
+        self.assertEqual((calls.count("cost p"), len(calls)), (1, 8))
+
+    def test_endings(self):
+        for name in ("p.pdf", "p", "p.svg.gz", "p.JPEG"):
+            ended = self.call("plot", "first", name, "--to", "2")
+            self.assertEqual((ended.returncode, ended.stderr.count("\n")), (2, 1))
+            self.assertIn("a picture's name ends in .svg or .png", ended.stderr)
+            self.assertFalse((self.folder / name).exists())
+        self.assertEqual(self.call("plot", "first", "p.SVG", "--to", "2").returncode, 0)
 
     def test_faults(self):
         for words, said in ((["--curve", "paper"], "NAME=FORMULA"), (["--curve", "p=8n"], "a product has a *"), (["--ceiling", "g=n"], "--ceiling names g"),

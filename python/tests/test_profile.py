@@ -9,11 +9,11 @@ from support import TOP, needs_numpy, needs_program, numpy
 from test_tools import Folder
 
 import simdram
-from simdram.execution import executions
+from simdram.assembler.walks import executions
+from simdram.costs.profile import of_file
 from simdram.files.program import Program
-from simdram.profile import of_file
-from simdram.settings import Settings
-from simdram.word_ops import TAKES_GIVES
+from simdram.launcher.settings import Settings
+from simdram.rules.word_ops import TAKES_GIVES
 
 MAC = "op mac(a: word, b: word, c: word) -> y: word {\n  t = mul(a, b);\n  y = add(t, c);\n}\n"
 
@@ -72,7 +72,7 @@ class Counts(Folder):
     def test_faults(self):
         self.compiled(MAC, "mac")
         (self.folder / "bad.ops").write_text("op f(a: word) -> y: word { y = no(a); }")
-        for words, said in ((["mac", "129"], "a width is 1 to 128, and not 129"), (["mac", "8", "--op", "f"], "no entry f"),
+        for words, said in ((["mac", "129"], "N takes widths from 1 to 128"), (["mac", "8", "--op", "f"], "no entry f"),
                             (["mac.ops", "8", "--ops", "mac.ops"], "--ops goes with one"), (["none", "8"], "none: "),
                             (["bad.ops", "8"], "bad.ops line 1 column 32: unknown")):
             ended = self.call("profile", *words)

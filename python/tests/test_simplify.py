@@ -7,7 +7,6 @@ import os
 import pathlib
 import random
 import tempfile
-import time
 import unittest
 import unittest.mock
 
@@ -15,17 +14,18 @@ from guessed_costs import Guessed
 from random_ops import Maker
 from support import TOP, needs_program, program
 
-from simdram import run_program, simplify_tool
-from simdram.faults import Fault
-from simdram.settings import Settings
-from simdram.simplify import equal, sums
+from simdram.launcher import run_program
+from simdram.launcher.faults import Fault
+from simdram.launcher.settings import Settings
+from simdram.rules.ops_rules import read_ops
+from simdram.rules.verdicts import RIGHT, UNKNOWN
+from simdram.simplify import equal, simplify_tool, sums
 from simdram.simplify.equal import Comparer
-from simdram.simplify.op_tree import read_ops
 from simdram.simplify.outcome import WRONG
 from simdram.simplify.search import Search
 from simdram.simplify.simplifier import Options, Simplifier
 from simdram.simplify.statement_cache import StatementCache
-from simdram.verdicts import RIGHT, UNKNOWN
+from simdram.simplify.work_time import spent
 
 KERNELS = TOP / "bench" / "kernels"
 # those of the table that are always done; SIMDRAM_KERNELS=1 does all, and more random ops
@@ -104,7 +104,7 @@ class Simplified(unittest.TestCase):
         status, out, err = self.call(ops, new, "--widths", "4,8")
         self.assertEqual((status, err), (0, ""))
         first, second = out.splitlines()
-        self.assertEqual(first, "hold n=4 41 -> 41 rows 1 -> 1, n=8 81 -> 81 rows 1 -> 1; as it was")
+        self.assertEqual(first, "hold n=4 41 -> 41 rows 1 -> 1, n=8 81 -> 81 rows 1 -> 1; unchanged: nothing cheaper found")
         self.assertRegex(second, r"sat n=4 82 -> \d+ rows 10 -> \d+, n=8 162 -> (89|90) rows 18 -> 9; equal at 4,8")
         made = pathlib.Path(new).read_text(encoding="utf-8")
         self.assertTrue(made.startswith("# mine\nop hold(a: word, b: word) -> y: word { y = max(a, b); }  # as it is\nop sat("))
@@ -169,6 +169,7 @@ class Simplified(unittest.TestCase):
             self.assertEqual(status, 0)
             self.assertIn("equal at 2; not known at 4: left as it was", out)
             self.assertEqual(pathlib.Path(new).read_text(encoding="utf-8"), text)
+            os.remove(new)
             status, out, _ = self.call(ops, new, "--widths", "2,4", "--unvalidated")
         self.assertEqual(status, 0)
         self.assertIn("not known at 4", out)
@@ -217,15 +218,25 @@ class Simplified(unittest.TestCase):
                 self.assertEqual(self.call(ops, "--widths", "4")[0], 0)
                 self.assertTrue(StatementCache(program()).kept)
 
+    def test_the_top_bit(self):
+        """However it is asked for, the top bit is a state that takes each bit."""
+        half = "o = ones(); h = shr1(o);"
+        bodies = (f"{half} y = gt(a, h);", f"{half} m = not(h); y = ge(a, m);", f"{half} m = not(h); t = and(a, m); y = or_red(t);",
+                  f"{half} m = not(h); t = and(a, m); z = zero(); e = eq(t, z); y = not(e);", "r = relu(a); y = gt(a, r);",
+                  "r = relu(a); e = eq(r, a); y = not(e);")
+        text = "".join(f"op f{k}(a: word) -> y: bit {{ {body} }}\n" for k, body in enumerate(bodies))
+        text += f"op low(a: word) -> y: bit {{ {half} y = ge(h, a); }}\n"
+        for one in Simplifier(program(), Options((1, 2, 8), SLOW)).outcomes(text.encode()):
+            found = " ".join(one.simpler.text.split("{", 1)[1].split())
+            self.assertEqual(found, "serial up (y = 1) { y = not(a); } }" if one.op.name == "low" else "serial up (y = 0) { y = a; } }")
+            self.assertTrue(one.is_taken)
+
     def test_an_empty_text(self):
         self.assertEqual(self.call(self.path("a.ops", "# nothing\n")), (0, "# nothing\n", ""))
 
     def test_it_ends_in_time(self):
-        text, seconds, took = kernels()["sad2"].text(), 2.0, []
-        while len(took) < 3 and not any(one < seconds + 1 for one in took):  # once, unless the machine is busy
-            start = time.monotonic()
-            outcome, = Simplifier(program(), Options((8,), seconds)).outcomes(text.encode())
-            took.append(time.monotonic() - start)
-        self.assertLess(min(took), seconds + 1)
+        text, seconds, start = kernels()["sad2"].text(), 2.0, spent()
+        outcome, = Simplifier(program(), Options((8,), seconds)).outcomes(text.encode())
+        self.assertLess(spent() - start, seconds + 1.5)
         self.assertFalse(outcome.simpler.is_whole)
         self.assertNotEqual(outcome.kind, WRONG)

@@ -7,6 +7,8 @@ import unittest
 import support  # noqa: F401  (the path)
 from random_ops import Maker
 
+from simdram.rules.op_tree import Block, Op, WordStatement, gate, read
+from simdram.rules.ops_rules import read_ops
 from simdram.simplify import truth_tables
 from simdram.simplify.blocks import written
 from simdram.simplify.cut import cut
@@ -15,7 +17,6 @@ from simdram.simplify.items import Items
 from simdram.simplify.lowering import Lowered
 from simdram.simplify.moves import moves, starts
 from simdram.simplify.op_limits import fits, live, weight
-from simdram.simplify.op_tree import Block, Op, WordStatement, gate, read, read_ops
 from simdram.simplify.plans import NoOp, Plan
 from simdram.simplify.statement_alone import alone
 

@@ -15,10 +15,10 @@ import support
 from support import TOP, needs_program
 from test_tools import Folder
 
-from simdram import parallel
-from simdram.faults import Fault
-from simdram.flip_draws import Cells, drawn, rate_of, text_of
-from simdram.survival import interval
+from simdram.launcher import parallel
+from simdram.launcher.faults import Fault
+from simdram.survival.flip_draws import Cells, drawn, rate_of, text_of
+from simdram.survival.survival_tool import interval
 
 GUARD = TOP / "examples" / "guard"
 WORDS = (str(GUARD / "add.ops"), str(GUARD / "sum.bbop"), "i.img")
@@ -113,7 +113,7 @@ class Runs(Folder):
         scratch.mkdir()
         words = [sys.executable, str(TOP / "simdram"), "survival", *WORDS, "--rates", "1e-3", "--runs", "100000"]
         with subprocess.Popen(words, cwd=self.folder, stdout=subprocess.PIPE, stderr=subprocess.PIPE, text=True, start_new_session=True,
-                              env={**os.environ, "TMPDIR": str(scratch)}) as running:
+                              preexec_fn=lambda: signal.signal(signal.SIGINT, signal.SIG_DFL), env={**os.environ, "TMPDIR": str(scratch)}) as running:
             end = time.monotonic() + 60
             while not any(scratch.iterdir()) and time.monotonic() < end:
                 time.sleep(0.05)
@@ -126,7 +126,7 @@ class Runs(Folder):
     def test_a_bar_on_a_terminal(self):
         ours, theirs = pty.openpty()
         # the bar is shown from the first run on, however fast they are
-        lines = "import sys; from simdram import __main__, parallel; parallel.SHOWN_AFTER = 0; sys.exit(__main__.main())"
+        lines = "import sys; from simdram import __main__; from simdram.launcher import parallel; parallel.SHOWN_AFTER = 0; sys.exit(__main__.main())"
         words = [sys.executable, "-c", lines, "survival", *WORDS, "--rates", "1e-3", "--runs", "20"]
         with subprocess.Popen(words, cwd=self.folder, stdout=subprocess.DEVNULL, stderr=theirs,
                               env={**os.environ, "PYTHONPATH": str(TOP / "python")}) as running:

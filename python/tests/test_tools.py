@@ -9,15 +9,15 @@ import tempfile
 import unittest
 
 import support
-from support import TOP, needs_program
+from support import TOP, needs_program, op_text
 from test_words import called
 
-from simdram.cell_values import ONE, UNKNOWN, ZERO, complemented, majority, row_value
-from simdram.faults import Fault
+from simdram.costs.report import object_of
+from simdram.files.from_hex import bytes_in
 from simdram.files.program import Program
-from simdram.from_hex import bytes_in
-from simdram.report import object_of
-from simdram.steps import WIDEST, all_shown
+from simdram.launcher.faults import Fault
+from simdram.steps.cell_values import ONE, UNKNOWN, ZERO, complemented, majority, row_value
+from simdram.steps.steps_tool import WIDEST, View
 
 SERIAL = TOP / "examples" / "serial" / "serial.ops"
 BIG = """op big(alpha_long_name1: word, beta_longer_name: word, sel: bit) -> result_of_it_all: word, carry_out: bit {
@@ -133,7 +133,7 @@ class CellValues(unittest.TestCase):
 class Steps(Folder):
     def test_a_full_adder_by_name(self):
         entry = self.compiled(SERIAL.read_text()).find("maj_add")
-        once, last, each = all_shown(entry, str(SERIAL))
+        once, last, each = View(entry, op_text(entry, str(SERIAL))).shown
         self.assertEqual(once.lines[0], "from instruction 0, once: line 25, serial up (c = 0) { .. }")
         self.assertIn("in the loop at 7, in its last round: line 25", last.lines[0])
         self.assertIn("in the loop at 7, in each round but the last, upwards:\n  line 25", "\n".join(each.lines))
@@ -148,7 +148,7 @@ class Steps(Folder):
     def test_states_in_cells_have_names(self):
         entry = self.compiled("op less(a: word, b: word) -> l: bit {\n  serial up (l = 0) { l = maj(not(a), b, l); }\n}\n").find("less")
         for ops, name in ((None, "y"), (str(self.folder / "p.ops"), "l")):
-            start, last, each = all_shown(entry, ops)
+            start, last, each = View(entry, op_text(entry, ops)).shown
             self.assertIn("0", start.done[-1].cells.values())
             for one in (last, each):
                 self.assertIn(f"old {name}", {value.lstrip("~").replace("[0]", "") for value in one.done[0].cells.values()})
@@ -156,7 +156,7 @@ class Steps(Folder):
 
     def test_bodies_that_take_turns(self):
         entry = self.compiled("op every(a: word) -> y: bit {\n  y = and_red(a);\n}\n").find("every")
-        found = all_shown(entry, str(self.folder / "p.ops"))
+        found = View(entry, op_text(entry, str(self.folder / "p.ops"))).shown
         titles = [one.part.said for one in found]
         for turn, times in ((1, 1), (2, 1), (3, 2)):
             self.assertEqual(sum(f"turn {turn} of 3" in title for title in titles), times, titles)
@@ -170,13 +170,13 @@ class Steps(Folder):
         (self.folder / "t").write_text("program f(a: word) -> y: word\nSETT r5\nSETI r3 0\nSETI r4 1\ntop: " + turn.format(1)
                                        + turn.format(2) + "BNEZ r4 top\nout: DONE\n")
         self.assertEqual(self.call("assemble", "t", "p").returncode, 0)
-        found = all_shown(Program.load(str(self.folder / "p")).find("f"), None)
+        found = View(Program.load(str(self.folder / "p")).find("f"), None).shown
         self.assertEqual([one.part.said for one in found], [f"in the loop at 3, turn {turn} of 2, {which}" for turn in (1, 2)
                                                             for which in ("in its last round", "in each round but the last, upwards")])
 
     def test_bodies_between_jumps(self):
         entry = self.compiled("op ones(a: word) -> y: word {\n  y = bitcount(a);\n}\n").find("ones")
-        found = all_shown(entry, str(self.folder / "p.ops"))
+        found = View(entry, op_text(entry, str(self.folder / "p.ops"))).shown
         # of a level: where it has no pair, an even or an odd number of elements, two parts of a pair, and the end; the lowest level
         # stands for itself, and the others in a loop
         level = [(0, 1), (0, 2), (0, 2), (1, 1), (1, 2), (0, 1)]
@@ -191,7 +191,7 @@ class Steps(Folder):
     def test_lines_are_short_and_values_have_numbers(self):
         entry = self.compiled(BIG).find("big")
         for ops in (None, str(self.folder / "p.ops")):
-            parts = all_shown(entry, ops)
+            parts = View(entry, op_text(entry, ops)).shown
             self.assertLessEqual(max(len(line) for one in parts for line in one.lines), WIDEST)
             self.assertTrue(parts[-1].said)
         self.assertIn("downwards:\n  line 3", "\n".join(parts[-1].lines))
@@ -230,15 +230,16 @@ class Texts(Folder):
         self.compiled("op f(a: word) -> y: word { y = not(a); }")
         text = (self.folder / "p.ops").read_text()
         (self.folder / "n").write_text("53 44")
+        (self.folder / "p.svg").write_text(text)
         for words in (["from-hex", "n"], ["plot", "p", "--to", "2"], ["steps", "p", "f", "--html"]):
-            ended = self.call(*words, "p.ops")
+            ended = self.call(*words, "p.svg")
             self.assertEqual((ended.returncode, len(ended.stderr.splitlines())), (2, 1), ended.stderr)
-            self.assertIn("p.ops: ", ended.stderr)
+            self.assertIn("p.svg: ", ended.stderr)
             self.assertIn("it holds text; nothing was done", ended.stderr)
-            self.assertEqual((self.folder / "p.ops").read_text(), text, words)
-            self.assertEqual([self.call(*words, "made").returncode for _ in range(2)], [0, 0], words)
-            self.assertEqual(self.call(*words, "made", "--force").returncode, 0)
-            (self.folder / "made").unlink()
+            self.assertEqual((self.folder / "p.svg").read_text(), text, words)
+            self.assertEqual([self.call(*words, "made.svg").returncode for _ in range(2)], [0, 0], words)
+            self.assertEqual(self.call(*words, "made.svg", "--force").returncode, 0)
+            (self.folder / "made.svg").unlink()
 
     @needs_program
     def test_no_program_and_no_report(self):
@@ -257,7 +258,6 @@ class Texts(Folder):
         note = TOP / "examples" / "replay" / "and.trace.hex"
         self.call("from-hex", str(note), "t")
         self.assertEqual(self.call("trace-text", "t").stdout.splitlines()[0].split()[:2], ["bank", "0"])
-        self.assertEqual(len(self.call("trace-text", "--ramulator", "t").stdout.splitlines()), 8)
         self.assertEqual(self.call("trace-text", "n").returncode, 2)
 
 

@@ -10,8 +10,8 @@ import unittest
 import support
 from support import TOP, needs_program
 
-from simdram.commands import ALL, PROGRAM
-from simdram.words import nearest, wrong_words
+from simdram.launcher.commands import ALL, PROGRAM
+from simdram.launcher.words import nearest, wrong_words
 
 LAUNCHER = TOP / "simdram"
 

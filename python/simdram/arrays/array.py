@@ -86,35 +86,57 @@ class Array(Operators):
         is_signed = self.signed if signed is None else bool(signed)
         if not self.is_bit and width == self.bits:
             return Array(self.chip, self.shape, self.value, self.made, is_signed)
+        before = self.chip.made(self)
         placed = self.chip.array(cells.modulo(self.numpy(), width), bits=width)
         banks = self.chip.image.banks_of(self.size) if self.shape else 0
         moved = Cost(banks=banks or 1, host_writes=width * banks, host_reads=self.bits * banks)
-        return Array(self.chip, self.shape, placed.value, Made(cost=moved), is_signed)
+        script = f"# the host reads {self.value.origin.name} and writes {placed.value.origin.name}\n" if self.shape else ""
+        placed.value.origin.made = Made(script=script, cost=moved, sources=(before,))
+        return Array(self.chip, self.shape, placed.value, placed.value.origin.made, is_signed)
+
+    def sum(self, axis: typing.Optional[int] = None, dtype: typing.Any = None, out: typing.Any = None, *,
+            bits: typing.Optional[int] = None) -> Array:
+        """The sums along an axis, or of all elements, modulo 2^bits; at another width with `bits`, as after `astype`.
+
+        Elements stand in columns, which no row command joins: the host moves halves over each other, and a tree of as
+        many sums is taken as the number of elements has binary digits.
+        """
+        from .summing import summed
+        if out is not None or (dtype is not None and bits is not None):
+            raise TypeError("sum takes an axis, and bits= or a type")
+        if self.is_bit and dtype is None and bits is None:
+            raise TypeError("a sum of truth values needs a width: bits=8")
+        return summed(self if dtype is None and bits is None else self.astype(dtype, bits=bits), axis)
+
+    def of_number(self, number: Constant) -> Array:
+        """One number of this width, that the chip has computed."""
+        return Array(self.chip, (), Value(self.value.kind, self.bits, number), number.made, self.signed)
 
     @property
     def cost(self) -> Cost:
-        """What its bbops and fills took, over all banks and in one; nothing for numbers that were placed."""
-        return self.chip.made(self).cost
+        """What all took that it was computed from, each part once: the bbops and fills, over all banks and in one, and the rows
+        that the host wrote and read to place numbers and to change widths."""
+        return self.chip.made(self).whole().cost
 
     @property
     def text(self) -> str:
-        """The ops that were compiled for it; none for numbers that were placed."""
-        return self.chip.made(self).text
+        """The ops that were compiled for it and for what it was computed from; none for numbers that were placed."""
+        return self.chip.made(self).whole().text
 
     @property
     def text_as_written(self) -> str:
         """The ops as they were meant, before a chip with `simplify=True` simplified their texts."""
-        return self.chip.made(self).text_as_written
+        return self.chip.made(self).whole().text_as_written
 
     @property
     def script(self) -> str:
-        """The lines that computed it."""
-        return self.chip.made(self).script
+        """The lines that computed it and what it was computed from, in order; where the host moved rows, a comment says so."""
+        return self.chip.made(self).whole().script
 
     @property
     def report(self) -> str:
         """What the program reported of these lines."""
-        return self.chip.made(self).report
+        return self.chip.made(self).whole().report
 
     def profile(self) -> ScriptProfile:
         """Where its cost went: by op, by instruction of its script and by statement of its ops."""

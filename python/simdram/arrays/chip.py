@@ -2,6 +2,8 @@
 
 from __future__ import annotations
 
+import dataclasses
+import gc
 import operator
 import typing
 import weakref
@@ -13,7 +15,7 @@ from . import cells
 from .array import Array, constant
 from .costing import Cost, total
 from .cutting import STATEMENTS, cut
-from .expressions import Constant, Held, Value
+from .expressions import Constant, Held, Value, made_before
 from .refusals import Refused
 from .running import HELP, Made, run
 from .scripting import Names, Scripts
@@ -24,8 +26,9 @@ from .simplify import simplified
 class Chip:
     """A chip of so many banks of rows of 64-bit words, as `simdram init` makes one.
 
-    A bank holds 64 * words elements of an array, one in each column. `host_writes` and `host_reads` count the rows that the
-    host has written to place arrays and has read for `numpy()`, over all banks. With `simplify` the text of each op is
+    A bank holds 64 * words elements of an array, one in each column. `cost` is all that the chip has done until now: the row
+    commands of its scripts and scans, those that make objects too, and the rows that the host has written to place arrays and
+    has read for `numpy()` and `astype`; `host_writes` and `host_reads` are these rows alone, over all banks. With `simplify` the text of each op is
     simplified at its width and compared with what was meant (docs/NUMPY.md, "Simpler texts").
     """
 
@@ -36,12 +39,23 @@ class Chip:
             raise Refused("geometry", str(fault)) from None
         self.banks, self.rows, self.words = self.image.banks, self.image.rows, self.image.words
         self.host_writes = self.host_reads = 0
+        self._spent = Cost(busiest=(0, 0))
         self._names, self._texts = Names(), Texts(simplify)
         self._gone: typing.List[str] = []
 
     def __repr__(self) -> str:
         shape = f"{self.banks} banks of {self.rows} rows of {self.words} words"
         return f"<simdram.Chip of {shape}, {len(self.image.objects)} objects>"
+
+    @property
+    def cost(self) -> Cost:
+        """All that the chip has done until now."""
+        moved = Cost(host_writes=self.host_writes, host_reads=self.host_reads)
+        return total([self._spent, moved])
+
+    def spend(self, cost: Cost) -> None:
+        """Adds what a script or a scan took."""
+        self._spent = total([self._spent, cost])
 
     def array(self, data: typing.Any, bits: typing.Optional[int] = None, signed: bool = False) -> Array:
         """Whole numbers or truth values in the chip: an array of any shape, at a width of 1 to 128 bits.
@@ -59,23 +73,29 @@ class Chip:
         name = self._placed(width, numbers.size)
         patterns = cells.modulo(numbers, width) if signed else numbers
         self.image.set_cells(name, cells.cells_of(patterns, width))
-        self.host_writes += width * self.image.banks_of(numbers.size)
-        return Array(self, numbers.shape, Value(kind, width, self._held(name)), Made(), signed)
+        banks = self.image.banks_of(numbers.size)
+        self.host_writes += width * banks
+        made = Made(cost=Cost(banks=banks, host_writes=width * banks))
+        return Array(self, numbers.shape, Value(kind, width, self._held(name, made)), made, signed)
 
     def _placed(self, width: int, count: int) -> str:
         """A new object at the least free rows."""
         self._sweep()
         name = self._names.next("v")
         try:
-            self.image.add(name, width, count)
+            try:
+                self.image.add(name, width, count)
+            except NoRoom:
+                self._collect()
+                self.image.add(name, width, count)
         except NoRoom as full:
             what = str(full).partition(": ")[2].replace(name, "the array", 1)
             raise Refused(full.word, what + (HELP.get(full.word, "") if count else "")) from None
         return name
 
-    def _held(self, name: str) -> Held:
+    def _held(self, name: str, made: Made) -> Held:
         """An object as the origin of a value; it goes when no value has this origin."""
-        held = Held(name)
+        held = Held(name, made)
         weakref.finalize(held, self._gone.append, name).atexit = False
         return held
 
@@ -84,6 +104,11 @@ class Chip:
         gone = set(self._gone)
         self._gone.clear()
         self.image.objects = [one for one in self.image.objects if one.name not in gone]
+
+    def _collect(self) -> None:
+        """Removes the objects of arrays that nothing but expressions that are gone refers to, which go in circles."""
+        gc.collect()
+        self._sweep()
 
     def made(self, array: Array) -> Made:
         """How an array was computed, which is done now where it was not."""
@@ -114,16 +139,18 @@ class Chip:
     def _compute(self, arrays: typing.Sequence[Array], count: int) -> None:
         """The arrays in the form that takes the fewest commands, or, where rows are few, the fewest temporaries."""
         self._sweep()
-        for by_digits in (True, False):
+        for by_digits, is_last in ((True, False), (True, False), (False, True)):
             targets = simplified([array.value for array in arrays], by_digits)
             left = [(array, target) for array, target in zip(arrays, targets) if not settled(array, target)]
             try:
                 if left:
-                    self._keep(left, *self._in_few_ops([target for _, target in left], count))
+                    scripts, made = self._in_few_ops([target for _, target in left], count)
+                    self._keep(left, scripts, made._replace(sources=tuple(sources_of(left))))
                 return
             except Refused as refused:
-                if refused.word != "no_rows" or not by_digits:
+                if refused.word not in ("no_rows", "table_full") or is_last:
                     raise
+                self._collect()
 
     def _in_few_ops(self, targets: typing.Sequence[Value], count: int) -> typing.Tuple[Scripts, Made]:
         """As few ops as there are rows for: each has rows of its own for its temporaries, which smaller ones share."""
@@ -147,7 +174,10 @@ class Chip:
         except BaseException:
             self.image = before
             raise
-        cost = total([one.cost for one in done], self.image.banks_of(scripts.count))
+        banks = self.image.banks_of(scripts.count)
+        for one in done:
+            self.spend(dataclasses.replace(one.all_lines, banks=banks))
+        cost = dataclasses.replace(total([one.cost for one in done]), banks=banks)
         lines = "".join(f"{line}\n" for script in scripts.scripts for line in script.lines)
         report = "".join(one.report for one in done)
         return Made("".join(scripts.texts), lines, report, cost, "".join(scripts.op_texts), "".join(scripts.written))
@@ -158,8 +188,14 @@ class Chip:
         for array, target in computed:
             name = scripts.object_of(target)
             if name not in origins:
-                origins[name] = self._held(name)
-            array.settle(origins[name] if array.shape else Constant(self.image.get(name)[0]), made)
+                origins[name] = self._held(name, made)
+            array.settle(origins[name] if array.shape else Constant(self.image.get(name)[0], made), made)
+
+
+def sources_of(computed: typing.Sequence[typing.Tuple[Array, Value]]) -> typing.List[Made]:
+    """How that was made which arrays are computed from: the objects that are read, and numbers that the chip computed."""
+    objects = made_before([target for _, target in computed], Held)
+    return objects + made_before([array.value for array, _ in computed], Constant)
 
 
 def settled(array: Array, target: Value) -> bool:

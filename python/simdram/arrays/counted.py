@@ -7,10 +7,10 @@ import os
 import tempfile
 import typing
 
-from ..costs import EntryCost, costs_at
+from ..costs.costs import EntryCost, costs_at
+from ..costs.profile import Profile, profiles
 from ..files.store import store
-from ..profile import Profile, profiles
-from ..settings import taken
+from ..launcher.settings import taken
 from .cells import checked_width
 
 
@@ -40,7 +40,7 @@ class Counted:
             ops = self.ops_text()
             if ops is not None:
                 store(text, ops.encode())
-            return profiles(path, [checked_width(operator.index(bits))], taken([])[0], None if ops is None else text)[0]
+            return profiles(path, [checked_width(operator.index(bits))], taken([])[0], None if ops is None else text, True)[0]
 
     def ops_text(self) -> typing.Optional[str]:
         """The operation text that it was compiled from, if it was."""

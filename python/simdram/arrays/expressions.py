@@ -9,17 +9,17 @@ from .refusals import Refused
 
 
 class Held:
-    """A value that is an object of the chip."""
+    """A value that is an object of the chip, and how it was made."""
 
-    def __init__(self, name: str) -> None:
-        self.name = name
+    def __init__(self, name: str, made: typing.Any = None) -> None:
+        self.name, self.made = name, made
 
 
 class Constant:
-    """A value that is one number in every element, made by a fill."""
+    """A value that is one number in every element, made by a fill, and how the number was computed, where the chip did."""
 
-    def __init__(self, number: int) -> None:
-        self.number = number
+    def __init__(self, number: int, made: typing.Any = None) -> None:
+        self.number, self.made = number, made
 
 
 class Result:
@@ -77,6 +77,14 @@ def step(operation: typing.Any, arguments: typing.Sequence[Value], bits: typing.
 def _same_kind(operation: typing.Any, arguments: typing.Sequence[Value]) -> str:
     """The kind that `same` stands for: that of the first such argument."""
     return next((value.kind for value, kind in zip(arguments, operation.takes) if kind == SAME), WORD)
+
+
+def made_before(values: typing.Iterable[Value], kind: type) -> typing.List[typing.Any]:
+    """How those values were made that values are computed from and that are of a kind, `Held` or `Constant`, each once."""
+    values = list(values)
+    leaves = [*values, *(one for step in in_order(values) for one in step.arguments)]
+    made = [one.origin.made for one in leaves if isinstance(one.origin, kind) and one.origin.made is not None]
+    return list({id(one): one for one in made}.values())
 
 
 def in_order(targets: typing.Iterable[Value]) -> typing.List[Step]:

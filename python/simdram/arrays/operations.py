@@ -4,7 +4,7 @@ from __future__ import annotations
 
 import typing
 
-from ..word_ops import KIND_OF, TAKES_GIVES
+from ..rules.word_ops import KIND_OF, TAKES_GIVES
 
 WORD, BIT = KIND_OF["w"], KIND_OF["b"]
 # an argument or a result that is a word or a bit as the others of this kind are

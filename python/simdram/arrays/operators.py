@@ -16,8 +16,11 @@ from .refusals import Refused
 class Operators:
     """The operators, for a class that has `chip`, `shape`, `value`, `bits`, `is_bit`, `signed` and `of_value`."""
 
-    # NumPy's operators leave it to those of this class
-    __array_ufunc__ = None
+    def __array_ufunc__(self, ufunc, method, *inputs, **more):
+        """NumPy's functions, and its operators where an array of its own is the first operand."""
+        from .ufuncs import called
+        return called(ufunc, method, inputs, more)
+
     __hash__ = object.__hash__
 
     def __add__(self, other):

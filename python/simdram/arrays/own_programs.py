@@ -7,15 +7,15 @@ import tempfile
 import typing
 import warnings
 
-from .. import run_program
 from ..assembler import TextFault, assemble
 from ..files.program import Program
 from ..files.store import store
-from ..verdicts import VERIFIED, Verdict, verdicts_of
+from ..launcher import run_program
+from ..rules.verdicts import VERIFIED, Verdict, verdicts_of
 from .array import Array
 from .counted import Counted
-from .operators import stepped
 from .op_text import renamed
+from .operators import stepped
 from .refusals import Stopped
 from .user_ops import canonical
 

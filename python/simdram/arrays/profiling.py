@@ -5,7 +5,7 @@ from __future__ import annotations
 import dataclasses
 import typing
 
-from ..profile import Row, table
+from ..costs.profile import Row, table
 from .costing import Cost
 from .running import DONE, Made, computes
 from .user_ops import split
@@ -34,10 +34,17 @@ class ScriptProfile:
 
 
 def profile(made: Made) -> ScriptProfile:
-    """The profile of how an array was computed."""
-    instructions = counted(made)
-    return ScriptProfile(made.cost, summed((op_of(row.what), row) for row in instructions), tuple(instructions),
-                         by_statement(made, instructions))
+    """The profile of how an array was computed, and what it was computed from. Ops of several computations have their number."""
+    parts = [one for one in made.all() if one.report]
+    ops: typing.List[Row] = []
+    instructions: typing.List[Row] = []
+    statements: typing.List[Row] = []
+    for number, part in enumerate(parts, 1):
+        own, where = counted(part), f", computation {number}" if len(parts) > 1 else ""
+        ops += [dataclasses.replace(row, what=row.what + where) for row in summed((op_of(row.what), row) for row in own)]
+        statements += [dataclasses.replace(row, what=row.what + where) for row in by_statement(part, own)]
+        instructions += own
+    return ScriptProfile(made.whole().cost, tuple(ops), tuple(instructions), tuple(statements))
 
 
 def counted(made: Made) -> typing.List[Row]:

@@ -4,8 +4,8 @@ from __future__ import annotations
 
 import typing
 
-from .. import answers
-from ..run_program import Ended
+from ..launcher.run_program import Ended
+from ..rules import answers
 
 
 class Refused(ValueError):

@@ -6,11 +6,11 @@ import re
 import tempfile
 import typing
 
-from .. import run_program
 from ..files.image import Image
 from ..files.program import Entry, Program
 from ..files.store import load, store
-from .costing import Cost
+from ..launcher import run_program
+from .costing import Cost, total
 from .refusals import Refused, Stopped
 
 DONE = re.compile(r"(\d+) ok aap=(\d+) ap=(\d+)")
@@ -26,8 +26,8 @@ HELP = {
 
 
 class Made(typing.NamedTuple):
-    """How an array was computed: its ops and programs, its lines, what was reported of them, their cost, the ops alone, and
-    its ops as they were meant."""
+    """How an array was computed: its ops and programs, its lines, what was reported of them, their cost, the ops alone, its ops
+    as they were meant, and how that was computed which it was computed from."""
 
     text: str = ""
     script: str = ""
@@ -35,6 +35,28 @@ class Made(typing.NamedTuple):
     cost: Cost = Cost()
     ops: str = ""
     text_as_written: str = ""
+    sources: typing.Tuple[typing.Any, ...] = ()
+
+    def all(self) -> typing.List[Made]:
+        """All that was done for it, each once, in order."""
+        found: typing.Dict[int, Made] = {}
+        waiting = [self]
+        while waiting:
+            left = [one for one in waiting[-1].sources if id(one) not in found]
+            if left:
+                waiting += left[::-1]
+            else:
+                one = waiting.pop()
+                found.setdefault(id(one), one)
+        return list(found.values())
+
+    def whole(self) -> Made:
+        """All that was done for it, as one."""
+        parts = self.all()
+        texts = ("".join(dict.fromkeys(getattr(one, name) for one in parts)) for name in ("text", "ops", "text_as_written"))
+        text, ops, written = texts
+        return Made(text, "".join(one.script for one in parts), "".join(one.report for one in parts),
+                    total([one.cost for one in parts]), ops, written)
 
 
 class Script:
@@ -58,11 +80,12 @@ def computes(line: str) -> bool:
 
 
 class Done(typing.NamedTuple):
-    """A script that was executed: the image after it, its report, and what its bbops and fills cost."""
+    """A script that was executed: the image after it, its report, and what its bbops and fills cost, and all its lines."""
 
     image: Image
     report: str
     cost: Cost
+    all_lines: Cost
 
 
 def run(script: Script, image: Image) -> Done:
@@ -81,7 +104,8 @@ def run(script: Script, image: Image) -> Done:
             raise refusal(script, ended)
         if ended.status:
             raise Stopped(words[0], ended)
-        return Done(Image.read(load(f"{folder}/out")), ended.out, cost(ended.out, script.counted, image))
+        return Done(Image.read(load(f"{folder}/out")), ended.out, cost(ended.out, script.counted, image),
+                    cost(ended.out, range(1, len(script.lines) + 1), image))
 
 
 def store_program(script: Script, folder: str) -> None:
@@ -109,7 +133,7 @@ def cost(report: str, counted: typing.Iterable[int], image: Image) -> Cost:
     """The row commands of these lines of a report, over all banks, and the rows that the script's lines wrote and read."""
     kept = set(counted)
     done = [match for match in filter(None, map(DONE.fullmatch, report.splitlines())) if int(match[1]) in kept]
-    total = TOTAL.fullmatch(report.splitlines()[-1])
+    whole = TOTAL.fullmatch(report.splitlines()[-1])
     rows = image.banks * image.rows
     return Cost(sum(int(match[2]) for match in done), sum(int(match[3]) for match in done),
-                host_writes=int(total[1]) - rows, host_reads=int(total[2]) - rows)
+                host_writes=int(whole[1]) - rows, host_reads=int(whole[2]) - rows)

@@ -9,11 +9,12 @@ import re
 import tempfile
 import typing
 
-from .. import answers, run_program
 from ..files.fields import NAME
 from ..files.image import Image
 from ..files.store import store
-from ..table import Table
+from ..files.table import Table
+from ..launcher import run_program
+from ..rules import answers
 from .array import Array
 from .chip import Chip
 from .costing import Cost
@@ -53,7 +54,9 @@ def scan(chip: Chip, query: str, /, **arrays: typing.Any) -> Count:
     counted = COUNTED.fullmatch(last_line(ended.out))
     if ended.status == 0 and counted:
         count, elements, aap, ap = map(int, counted.groups())
-        return Count(count, elements, Cost(aap, ap, chip.image.banks_of(elements)))
+        cost = Cost(aap, ap, chip.image.banks_of(elements))
+        chip.spend(cost)
+        return Count(count, elements, cost)
     refused = REFUSED.fullmatch(last_line(ended.out))
     if refused:
         raise Refused(refused[1], refusal(query, image, placed if refused[1] in OF_NAMES else None), int(refused[2]))

@@ -5,9 +5,9 @@ from __future__ import annotations
 import hashlib
 import typing
 
-from .. import run_program
-from ..faults import Fault
-from ..settings import taken
+from ..launcher import run_program
+from ..launcher.faults import Fault
+from ..launcher.settings import taken
 from ..simplify.simplifier import Options, Simplifier
 from ..simplify.statement_cache import folder, load_json, store_json, sum_of
 

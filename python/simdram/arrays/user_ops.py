@@ -7,8 +7,8 @@ import re
 import tempfile
 import typing
 
-from .. import run_program
 from ..files.store import load, store
+from ..launcher import run_program
 from .array import Array
 from .counted import Counted
 from .operators import stepped

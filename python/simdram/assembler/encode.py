@@ -3,7 +3,7 @@
 from __future__ import annotations
 
 from ..files.program import AP, AAP, BNEZ, CODE, OPERANDS, Entry, Instruction
-from ..tokens import NUMBER
+from ..rules.tokens import NUMBER
 from .fault import TextFault
 from .instructions import Out
 from .lowering import Lowering

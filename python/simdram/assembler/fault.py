@@ -2,8 +2,8 @@
 
 from __future__ import annotations
 
-from ..answer import Answer, at_token
-from ..tokens import Token
+from ..rules.answer import Answer, at_token
+from ..rules.tokens import Token
 
 
 class TextFault(Exception):

@@ -4,6 +4,8 @@ from __future__ import annotations
 
 import typing
 
+from ..files.program import ADD, ADDI, SETI, SETN, SETT, SUBI, Instruction
+
 N = "n"
 
 
@@ -62,3 +64,12 @@ class Form(typing.NamedTuple):
 def number(value: int) -> Form:
     """A number alone."""
     return Form(value)
+
+
+def changed(one: Instruction, held: typing.Callable[[int], Form]) -> Form:
+    """What an instruction leaves in its register, from what registers hold before it."""
+    if one.kind in (SETI, SETN, SETT):
+        return {SETI: Form(one.number), SETN: Form.of(N), SETT: Form.of(N).add(-1)}[one.kind]
+    if one.kind in (ADDI, SUBI):
+        return held(one.register).add(one.number if one.kind == ADDI else -one.number)
+    return held(one.other).plus(held(one.register)) if one.kind == ADD else held(one.other)

@@ -1,9 +1,10 @@
-"""The head of a program: `program NAME(a: word, ..) -> y: word`, its scratch, and the line `entry` of a listing."""
+"""The head of a program: `program NAME(a: word, ..) -> y: word`, its scratch, its one width, and the line `entry` of a
+listing."""
 
 from __future__ import annotations
 
 from ..files.program import BIT, RESULT, SOURCE, SOURCES, WORD
-from ..tokens import Token
+from ..rules.tokens import Token
 from .fault import TextFault
 from .lexer import Tokens, said
 from .names import KINDS, check_name, listed
@@ -11,6 +12,7 @@ from .tree import Head
 
 ENTRY_FIELDS = ("sources", "bits", "words", "code", "results")
 SCRATCH_MAX = 255
+LAST_WIDTH = 128
 
 
 def read_head(tokens: Tokens, earlier: set[str]) -> Head:
@@ -19,7 +21,7 @@ def read_head(tokens: Tokens, earlier: set[str]) -> Head:
     check_name(token, "a program")
     if token.text in earlier:
         raise TextFault(token, "twice", f"there is a program {token.text} already", "each program of a text has its own name")
-    head = Head(token.text, token)
+    head, tokens.width = Head(token.text, token), None
     tokens.expect("(", " before the sources")
     read_operands(tokens, head, head.sources, SOURCE, SOURCES[1])
     tokens.expect(")", " after the sources")
@@ -27,10 +29,24 @@ def read_head(tokens: Tokens, earlier: set[str]) -> Head:
     read_operands(tokens, head, head.results, RESULT, 2)
     end_line(tokens, "the head")
     tokens.skip_lines()
-    while tokens.took("scratch"):
-        read_scratch(tokens, head)
+    while tokens.is_at("scratch", "width") and not tokens.is_label():
+        if tokens.next().text == "scratch":
+            read_scratch(tokens, head)
+        else:
+            read_width(tokens, head)
         tokens.skip_lines()
     return head
+
+
+def read_width(tokens: Tokens, head: Head) -> None:
+    """The one width of a program, after the word `width`."""
+    token = tokens.number("a width, as in `width 8`")
+    if not 1 <= int(token.text) <= LAST_WIDTH:
+        raise TextFault(token, "number", f"the width is {token.text}", f"widths are 1 to {LAST_WIDTH}")
+    if head.width is not None:
+        raise TextFault(token, "twice", f"the program is for the width {head.width} already", "`width` stands once")
+    head.width = tokens.width = int(token.text)
+    end_line(tokens, "`width`")
 
 
 def read_operands(tokens: Tokens, head: Head, found: dict[str, str], space: int, most: int) -> None:

@@ -6,7 +6,7 @@ import dataclasses
 import typing
 
 from ..files.program import Row
-from ..tokens import Token
+from ..rules.tokens import Token
 
 
 @dataclasses.dataclass

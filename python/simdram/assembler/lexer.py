@@ -4,7 +4,7 @@ from __future__ import annotations
 
 import re
 
-from ..tokens import END, NAME, NUMBER, STRANGER, SYMBOL, Token, no_token
+from ..rules.tokens import END, NAME, NUMBER, STRANGER, SYMBOL, Token, no_token
 from .fault import TextFault
 
 NEWLINE = "newline"
@@ -31,6 +31,8 @@ class Tokens:
 
     def __init__(self, data: bytes) -> None:
         self.found, self.at = tokens(data), 0
+        # the width for which alone the program is that is read, or none
+        self.width: int | None = None
 
     @property
     def here(self) -> Token:
@@ -46,6 +48,11 @@ class Tokens:
     def is_at(self, *texts: str) -> bool:
         """Whether the next token is a symbol or a name with one of these texts."""
         return self.here.kind in (SYMBOL, NAME) and self.here.text in texts
+
+    def is_label(self) -> bool:
+        """Whether the next token is a name that a colon follows."""
+        after = self.found[min(self.at + 1, len(self.found) - 1)]
+        return self.here.kind == NAME and after.kind == SYMBOL and after.text == ":"
 
     def took(self, text: str) -> bool:
         """Takes the next token if it is this one."""

@@ -5,13 +5,17 @@ from __future__ import annotations
 import typing
 
 from ..files.program import (ADD, ADDI, BNEZ, DONE, LARGEST, MOV, REGISTERS, SETI, SETN, SETT, SUBI, Row)
-from ..tokens import Token
+from ..rules.tokens import NUMBER, Token
 from .fault import TextFault
 from .forms import N, Form
 from .instructions import Out
 from .needs import least, needs_of, tested
 from .registers import Registers, named_registers
 from .tree import Command, For, If, Jump, Label, Next, Numbered, Operand, Plain, ProgramText
+
+
+# the label where a program for one width is stuck at others
+WRONG_WIDTH = ".wrong_width"
 
 
 class Frame(typing.NamedTuple):
@@ -24,17 +28,29 @@ class Frame(typing.NamedTuple):
 
 
 def lowered(program: ProgramText) -> Lowering:
-    """The instructions of a program, and its labels."""
-    made = Lowering(program)
-    made.whole()
+    """The instructions of a program, and its labels. Where there are too few registers for subscripts that are no loop's to
+    keep one each, they are set before each command that needs them."""
+    try:
+        made = Lowering(program)
+        made.whole()
+    except TextFault as fault:
+        if fault.kind != "register":
+            raise
+        made = Lowering(program, is_lean=True)
+        try:
+            made.whole()
+        except TextFault:
+            raise fault from None
     return made
 
 
 class Lowering:
     """The instructions of a program as they are written, and the places of its labels."""
 
-    def __init__(self, program: ProgramText) -> None:
-        self.program = program
+    def __init__(self, program: ProgramText, is_lean: bool = False) -> None:
+        self.program, self.is_lean = program, is_lean
+        # subscripts that are no loop's and stand in registers until these are needed, or the code can be jumped to
+        self.kept: dict[Form, int] = {}
         self.registers = Registers(named_registers(program.body))
         self.code: list[Out] = []
         self.labels: dict[str, int] = {}
@@ -48,8 +64,9 @@ class Lowering:
         where there are labels, from the start to the end."""
         body = self.program.body
         spans: dict[Form, list[int]] = {}
+        stuck = self.check_width()
         for k, one in enumerate(body):
-            for form in needs_of([one], []).of([]):
+            for form in needs_of([one], []).of([]) if not self.is_lean else ():
                 spans.setdefault(form, []).append(k)
         jumps = any(isinstance(one, Label) for one in body)
         first = {form: 0 if jumps else ks[0] for form, ks in spans.items()}
@@ -62,6 +79,29 @@ class Lowering:
                 self.registers.free(self.held.pop(form))
         if not self.code or self.code[-1].kind != DONE or len(self.code) in self.labels.values():
             self.emit(DONE)
+        if stuck is not None:
+            self.place(WRONG_WIDTH)
+            self.emit(SUBI, stuck, number=LARGEST)
+            self.emit(DONE)
+
+    def check_width(self) -> int | None:
+        """A program for one width begins with instructions at which it is stuck at all others (`one_width` knows them again); the
+        register that they use."""
+        if self.program.head.width is None:
+            return None
+        register = self.take(self.token, "the width")
+        self.emit(SETN, register)
+        self.emit(SUBI, register, number=self.program.head.width)
+        self.labels[WRONG_WIDTH] = -1
+        self.emit(BNEZ, register, number=WRONG_WIDTH)
+        self.registers.free(register)
+        return register
+
+    def take(self, token: Token, what: str) -> int:
+        """A free register for something: where there is none, that of a subscript that is kept."""
+        if self.kept and self.registers.are_all_taken:
+            self.registers.free(self.kept.pop(next(iter(self.kept))))
+        return self.registers.take(token, what)
 
     def emit(self, kind: int, register: int = 0, other: int = 0, number: int | str = 0, rows: tuple[Row, ...] = ()) -> None:
         """Writes an instruction."""
@@ -73,7 +113,10 @@ class Lowering:
         return f".{len(self.labels) - 1}"
 
     def place(self, label: str) -> None:
-        """A label stands before the next instruction."""
+        """A label stands before the next instruction, where nothing is known of registers that are set before a command."""
+        for register in self.kept.values():
+            self.registers.free(register)
+        self.kept.clear()
         self.labels[label] = len(self.code)
 
     def statements(self, body: typing.Iterable[typing.Any]) -> None:
@@ -84,7 +127,7 @@ class Lowering:
         """A statement."""
         self.token = one.token
         if isinstance(one, Command):
-            self.emit(one.kind, rows=tuple(map(self.row, one.rows)))
+            self.command(one)
         elif isinstance(one, Plain):
             self.emit(one.kind, one.register, one.other, one.number)
         elif isinstance(one, Label):
@@ -101,6 +144,14 @@ class Lowering:
         elif isinstance(one, Next):
             self.next(one)
 
+    def command(self, one: Command) -> None:
+        """A row command."""
+        rows = tuple(map(self.row, one.rows))
+        forms = {operand.index for operand in one.rows if isinstance(operand.index, Form)}
+        if len({row.index for row, operand in zip(rows, one.rows) if isinstance(operand.index, Form)}) < len(forms):
+            raise TextFault(one.token, "register", "there is one register left for two subscripts")
+        self.emit(one.kind, rows=rows)
+
     def row(self, operand: Operand) -> Row:
         """A row with the register of its subscript."""
         index = operand.index
@@ -108,13 +159,25 @@ class Lowering:
             return Row(operand.space, operand.which, index or 0)
         if index == Form():
             return Row(operand.space, operand.which, REGISTERS)
-        return Row(operand.space, operand.which, self.held[index])
+        return Row(operand.space, operand.which, self.held[index] if index in self.held else self.keep(index, operand.token))
+
+    def keep(self, form: Form, token: Token) -> int:
+        """A register that holds a subscript that is no loop's, set now where none does."""
+        if form in self.kept:
+            self.kept[form] = self.kept.pop(form)
+            return self.kept[form]
+        register = self.take(token, f"holds {form}")
+        self.load(register, form)
+        self.kept[form] = register
+        return register
 
     def jump(self, one: Jump) -> None:
         """A jump to a label of the text; one that is always done needs a register that is not zero."""
+        if self.is_lean and one.target.kind == NUMBER:
+            raise TextFault(one.target, "register", "a jump to a number leads where no label shows what registers hold")
         register = one.register
         if register is None:
-            register = self.registers.take(one.token, "a jump")
+            register = self.take(one.token, "a jump")
             self.emit(SETI, register, number=1)
             self.registers.free(register)
         self.token = one.target
@@ -157,7 +220,7 @@ class Lowering:
 
     def hold(self, form: Form, value: Form, token: Token) -> int:
         """A register that holds a form from now on, which begins with a value."""
-        register = self.registers.take(token, f"holds {form}")
+        register = self.take(token, f"holds {form}")
         self.token = token
         self.load(register, value)
         self.held[form] = register
@@ -166,12 +229,12 @@ class Lowering:
     def loop(self, loop: For) -> None:
         """A loop: its count in a register, and a register for each form that its body needs. What goes up is counted at the end
         of an iteration, what goes down at the start, so that no register falls below zero."""
-        count = self.registers.take(loop.token, f"counts the loop over {loop.variable}")
+        count = self.take(loop.token, f"counts the loop over {loop.variable}")
         end, body = self.new_label(), self.new_label()
         self.load_count(loop, count, end)
         self.around.append(loop)
         forms = needs_of(loop.body, self.around).of(self.around)
-        steps = {form: form.times(loop.variable) * (-1 if loop.is_down else 1) for form in forms}
+        steps = {form: form.times(loop.variable) * (-loop.step if loop.is_down else loop.step) for form in forms}
         starts = {form: form.put(loop.variable, loop.start).add(max(0, -steps[form])) for form in forms}
         for form in forms:
             self.hold(form, starts[form], loop.token)
@@ -182,7 +245,7 @@ class Lowering:
         self.statements(loop.body)
         self.token = loop.token
         self.step(frame, 1)
-        self.emit(SUBI, count, number=1)
+        self.count_down(frame)
         self.emit(BNEZ, count, number=body)
         self.place(end)
         self.frames.pop()
@@ -209,25 +272,49 @@ class Lowering:
             if step * sign > 0:
                 self.add(register, step)
 
+    def count_down(self, frame: Frame) -> None:
+        """The positions of an iteration are taken from the count, which may end among them."""
+        for _ in range(frame.loop.step - 1):
+            self.emit(SUBI, frame.count, number=1)
+            self.leave(frame.count, frame.end)
+        self.emit(SUBI, frame.count, number=1)
+
     def next(self, one: Next) -> None:
         """The next iteration, in the middle of the body."""
         frame = self.frames[-1]
         self.step(frame, 1)
-        self.emit(SUBI, frame.count, number=1)
+        self.count_down(frame)
         self.leave(frame.count, frame.end)
         self.step(frame, -1)
 
+    def compare(self, register: int, number: int, other: str) -> None:
+        """Takes a number from a register, one by one, and leads to a place where that cannot be done."""
+        left = self.take(self.token, "an `if`")
+        again, more = self.new_label(), self.new_label()
+        self.emit(SETI, left, number=number)
+        self.place(again)
+        self.emit(BNEZ, register, number=more)
+        self.emit(BNEZ, left, number=other)
+        self.place(more)
+        self.emit(SUBI, register, number=1)
+        self.emit(SUBI, left, number=1)
+        self.emit(BNEZ, left, number=again)
+        self.registers.free(left)
+
     def choice(self, one: If) -> None:
         """What is done where a form is zero, and what where it is not."""
-        register = self.registers.take(one.token, "an `if`")
+        register = self.take(one.token, "an `if`")
         other, end = self.new_label(), self.new_label()
-        self.load(register, tested(one, self.around))
+        form, number = tested(one, self.around)
+        self.load(register, form)
+        if number is not None:
+            self.compare(register, number, other if one.other else end)
         self.emit(BNEZ, register, number=other if one.other else end)
         self.registers.free(register)
         self.statements(one.zero)
         if one.other:
             self.token = one.token
-            past = self.registers.take(one.token, "an `if`")
+            past = self.take(one.token, "an `if`")
             self.emit(SETI, past, number=1)
             self.emit(BNEZ, past, number=end)
             self.registers.free(past)

@@ -7,7 +7,7 @@ import typing
 
 from ..files.fields import NAME_BYTES
 from ..files.row_rules import BIT, REGISTERS, RESULT, SOURCE, SPILL, SPILLS, WORD
-from ..tokens import Token
+from ..rules.tokens import Token
 from .cells import NAMES as CELLS
 from .fault import TextFault
 from .tree import Head

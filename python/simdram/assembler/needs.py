@@ -43,7 +43,7 @@ def needs_of(statements: typing.Iterable[typing.Any], around: Around) -> Needs:
         if isinstance(one, Command):
             found.exact.update({row.index: None for row in one.rows if isinstance(row.index, Form) and row.index != Form()})
         elif isinstance(one, If):
-            found.near[tested(one, around)] = None
+            found.near[tested(one, around)[0]] = None
             for inner in (needs_of(one.zero, around), needs_of(one.other, [*around, one])):
                 found.exact.update(inner.exact)
                 found.near.update(inner.near)
@@ -78,9 +78,16 @@ def least(form: Form, around: Around) -> int:
     return form.put(N, Form(narrowest(around) if form.times(N) >= 0 else LAST_WIDTH)).number
 
 
-def tested(one: If, around: Around) -> Form:
-    """The form of an `if`, or its opposite: the one that is never below zero."""
-    for form in (one.form, Form().minus(one.form)):
+def tested(one: If, around: Around) -> typing.Tuple[Form, typing.Optional[int]]:
+    """What an `if` asks of a form that is never below zero, the one of the `if` or its opposite: whether it is zero, or, where
+    such a form is compared with a number that it may be above and below, this number."""
+    both = (one.form, Form().minus(one.form))
+    for form in both:
         if least(form, around) >= 0:
-            return form
-    raise TextFault(one.token, "number", f"{one.form} may be above and below zero here", "the one side is never less than the other")
+            return form, None
+    for form in both:
+        alone = Form(0, form.terms)
+        if form.number < 0 and least(alone, around) >= 0:
+            return alone, -form.number
+    raise TextFault(one.token, "number", f"{one.form} may be above and below zero here", "the one side is never less than the other, or is "
+                    "a number")

@@ -5,7 +5,7 @@ from __future__ import annotations
 import typing
 
 from ..files.program import AAP, AP, BNEZ, ENTRIES, LARGEST, NAMES as INSTRUCTIONS, OPERANDS
-from ..tokens import END, NAME, NUMBER, Token
+from ..rules.tokens import END, NAME, NUMBER, Token
 from .fault import TextFault
 from .heads import read_entry, read_head
 from .lexer import Tokens, said
@@ -13,6 +13,7 @@ from .names import Names, check_name, check_register, listed
 from .rows import check_places, read_form, read_row
 from .tree import Command, For, If, Jump, Label, Next, Numbered, Plain, ProgramText, Text
 
+LONGEST_STEP = 128
 STATEMENTS = "an instruction, `for`, `if`, `next`, `JMP` or a label"
 
 
@@ -112,7 +113,7 @@ class Reader:
                             f"the instructions are {', '.join(INSTRUCTIONS)}")
 
     def loop(self, token: Token) -> For:
-        """`for i in A..B { .. }`."""
+        """`for i in A..B { .. }`, or `for i in A..B step 2 { .. }`."""
         variable = self.tokens.name("a loop variable")
         check_name(variable, "a loop variable")
         if variable.text in self.loops or variable.text in self.names.known or listed(variable.text):
@@ -121,13 +122,22 @@ class Reader:
         start = read_form(self.tokens, self.loops)
         self.tokens.expect("..", " between the bounds")
         end = read_form(self.tokens, self.loops)
-        made = For(token, variable.text, start, end, goes_down(start, end))
+        made = For(token, variable.text, start, end, goes_down(start, end), self.step())
         if not made.count.terms and made.count.number <= 0:
             raise TextFault(token, "loop", f"the loop has no iteration: {start}..{end}", "upwards A..B ends before B, downwards at B")
         self.loops.append(variable.text)
         made.body = self.block()
         self.loops.pop()
         return made
+
+    def step(self) -> int:
+        """By how much a loop goes on: `step 2` after its bounds, or one."""
+        if not self.tokens.took("step"):
+            return 1
+        token = self.tokens.number("a number after `step`")
+        if not 1 <= int(token.text) <= LONGEST_STEP:
+            raise TextFault(token, "number", f"the step is {token.text}", f"a loop goes on by 1 to {LONGEST_STEP}")
+        return int(token.text)
 
     def choice(self, token: Token) -> If:
         """`if A == B { .. } else { .. }`, or with `!=`."""

@@ -8,6 +8,7 @@ from ..files.program import B_ADDRESS, BNEZ, C_ADDRESS, INDEXED, OPERANDS, REGIS
 from .cells import address_text
 from .fault import TextFault
 from .listing import RESULTS, SOURCES, head_line
+from .one_width import one_width, own
 from .walks import Stuck, walk
 
 # at which widths a text with loops is compared with the instructions
@@ -60,18 +61,30 @@ def flat_lines(entry: Entry) -> list[str]:
 
 
 def readable_lines(entry: Entry) -> list[str]:
-    """The text of an entry: with loops where that does the same commands at these widths, else with labels."""
-    from . import assemble
+    """The text of an entry: with loops where that does the same commands at these widths, else with labels. Where it is for one
+    width, `width` says so, and the instructions that check it are left out."""
     from .structuring import Unstructured, structured_lines
-    head = [head_line(entry), *scratch_lines(entry)]
+    head, width = [head_line(entry), *scratch_lines(entry)], one_width(entry)
+    code = entry if width is None else own(entry)
+    with_width = head if width is None else [*head, f"width {width}"]
     try:
-        lines = [*head, *structured_lines(entry)]
-        again = assemble("\n".join(lines).encode()).entries[0]
-        if all(walk(again, n) == walk(entry, n) for n in WIDTHS):
+        lines = [*with_width, *structured_lines(code)]
+        if is_same(lines, entry, WIDTHS if width is None else (width,)):
             return lines
-    except (Unstructured, TextFault, Stuck):
+    except Unstructured:
         pass
-    return [*head, *flat_lines(entry)]
+    lines = [*with_width, *flat_lines(code)]
+    return lines if width is None or is_same(lines, entry, (width,)) else [*head, *flat_lines(entry)]
+
+
+def is_same(lines: list[str], entry: Entry, widths: typing.Iterable[int]) -> bool:
+    """Whether a text does the same commands as an entry at these widths, and is for one width where the entry is."""
+    from . import assemble
+    try:
+        again = assemble("\n".join(lines).encode()).entries[0]
+        return one_width(again) == one_width(entry) and all(walk(again, n) == walk(entry, n) for n in widths)
+    except (TextFault, Stuck):
+        return False
 
 
 def readable_text(program: Program) -> str:

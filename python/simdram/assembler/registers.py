@@ -5,7 +5,7 @@ from __future__ import annotations
 import typing
 
 from ..files.program import OPERANDS, REGISTERS
-from ..tokens import Token
+from ..rules.tokens import Token
 from .fault import TextFault
 from .tree import Command, For, If, Jump, Plain
 
@@ -33,6 +33,11 @@ class Registers:
 
     def __init__(self, named: set[int]) -> None:
         self.holds = {register: "the program names it" for register in named}
+
+    @property
+    def are_all_taken(self) -> bool:
+        """Whether no register is free."""
+        return len(self.holds) == REGISTERS
 
     def take(self, token: Token, what: str) -> int:
         """A free register for something."""

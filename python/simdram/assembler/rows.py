@@ -4,9 +4,9 @@ from __future__ import annotations
 
 import re
 
-from ..files.program import B_ADDRESS, C_ADDRESS, INDEXED, SOURCE
 from ..files.decode import B_ADDRESSES, RAISED
-from ..tokens import NAME, NUMBER, Token
+from ..files.program import B_ADDRESS, C_ADDRESS, INDEXED, SOURCE
+from ..rules.tokens import NAME, NUMBER, Token
 from .cells import BY_CELLS, NAMES as CELLS, PAIRS, SINGLES, TRIPLES, address_text
 from .fault import TextFault
 from .forms import N, Form, number
@@ -114,7 +114,7 @@ def read_form(tokens: Tokens, loops: list[str]) -> Form:
     while tokens.is_at("+", "-"):
         factor = 1 if tokens.next().text == "+" else -1
         form = form.plus(read_term(tokens, loops), factor)
-    return form
+    return form if tokens.width is None else form.put(N, number(tokens.width))
 
 
 def read_term(tokens: Tokens, loops: list[str]) -> Form:

@@ -4,8 +4,8 @@ from __future__ import annotations
 
 import typing
 
-from ..files.program import (ADD, ADDI, BNEZ, DONE, MOV, REGISTERS, SETI, SETN, SETT, SUBI, INDEXED, Entry, Instruction)
-from .forms import N, Form
+from ..files.program import ADD, ADDI, BNEZ, DONE, INDEXED, MOV, REGISTERS, SETI, SETN, SETT, SUBI, Entry, Instruction
+from .forms import Form, changed
 from .parser import goes_down
 from .reading import instruction_text
 
@@ -83,15 +83,7 @@ class Structuring:
         elif one.kind == DONE:
             raise Unstructured
         else:
-            self.held[one.register] = self.changed(one)
-
-    def changed(self, one: Instruction) -> Form:
-        """What an instruction leaves in its register."""
-        if one.kind in (SETI, SETN, SETT):
-            return {SETI: Form(one.number), SETN: Form.of(N), SETT: Form.of(N).add(-1)}[one.kind]
-        if one.kind in (ADDI, SUBI):
-            return self.form(one.register).add(one.number if one.kind == ADDI else -one.number)
-        return self.form(one.other).plus(self.form(one.register)) if one.kind == ADD else self.form(one.other)
+            self.held[one.register] = changed(one, self.form)
 
     def subscript(self, register: int) -> str:
         """A subscript as a sum."""

@@ -5,13 +5,14 @@ from __future__ import annotations
 import dataclasses
 import typing
 
-from ..tokens import Token
+from ..rules.tokens import Token
 from .forms import Form
 
 
 @dataclasses.dataclass
 class Head:
-    """The head of a program: its name, its sources, results and scratch by name with their kinds, in order."""
+    """The head of a program: its name, its sources, results and scratch by name with their kinds, in order, and the width for
+    which alone it is, where it is for one."""
 
     name: str
     token: Token
@@ -19,6 +20,7 @@ class Head:
     results: typing.Dict[str, str] = dataclasses.field(default_factory=dict)
     bits: typing.List[str] = dataclasses.field(default_factory=list)
     words: typing.List[str] = dataclasses.field(default_factory=list)
+    width: typing.Optional[int] = None
 
 
 class Operand(typing.NamedTuple):
@@ -76,18 +78,19 @@ class Numbered:
 
 @dataclasses.dataclass
 class For:
-    """A loop: its variable, its first value, where it ends, its direction, its body."""
+    """A loop: its variable, its first value, where it ends, its direction, by how much it goes on, its body."""
 
     token: Token
     variable: str
     start: Form
     end: Form
     is_down: bool
+    step: int = 1
     body: typing.List[typing.Any] = dataclasses.field(default_factory=list)
 
     @property
     def count(self) -> Form:
-        """How many iterations there are."""
+        """How many positions there are from the first value to the end: as many iterations, where it goes on by one."""
         return self.start.minus(self.end).add(1) if self.is_down else self.end.minus(self.start)
 
     @property

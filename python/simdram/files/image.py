@@ -101,7 +101,7 @@ class Image:
     @classmethod
     def load(cls, path: str) -> Image:
         """The image in a file."""
-        return cls.read(load(path), path)
+        return cls.read(load(path, "image"), path)
 
     def file(self) -> bytes:
         """The image file."""
@@ -207,15 +207,15 @@ class Image:
 
 
 def check_range(found: Object, values: typing.Sequence[int]) -> None:
-    """Refuses the first value that the object's width does not hold."""
+    """Refuses the first value that the object's width does not hold; values are told from 1, as a script's refusals do."""
     limit = 1 << found.width
     if 0 <= min(values) and max(values) < limit:
         return
     place, value = next((k, value) for k, value in enumerate(values) if not 0 <= value < limit)
     if value < 0:
-        raise OutOfRange(place, f"value {place} of {found.name} is {value}, and numbers below 0 are not kept; "
+        raise OutOfRange(place, f"value {place + 1} of {found.name} is {value}, and numbers below 0 are not kept; "
                          f"a number modulo 2^{found.width} is {value % limit}")
-    raise OutOfRange(place, f"value {place} of {found.name} is {value}, and {found.width} bits hold 0 to {limit - 1}")
+    raise OutOfRange(place, f"value {place + 1} of {found.name} is {value}, and {found.width} bits hold 0 to {limit - 1}")
 
 
 def read_geometry(fields: Fields) -> typing.Tuple[int, int, int]:

@@ -3,14 +3,18 @@
 from __future__ import annotations
 
 import dataclasses
+import re
 import typing
 
+from .fault import FileFault
 from .fields import Fields, name_field
 from .row_rules import (B_ADDRESS, BIT, C_ADDRESS, INDEXED, REGISTERS, RESULT, SOURCE, SPILL, SPILLS, WORD,  # for its readers too
                         wrong_rows)
 from .store import load
 
 MAGIC = b"SDMP"
+# the first word of a text, after comments
+FIRST_WORD = re.compile(rb"(?:[ \t\r\n]+|#[^\n]*)*([A-Za-z_]\w*)")
 ENTRIES, SOURCES, CODE, LARGEST = 32, (1, 4), (1, 65535), 1023
 NAMES = ("DONE", "SETI", "SETN", "SETT", "MOV", "ADD", "ADDI", "SUBI", "BNEZ", "AAP", "AP")
 DONE, SETI, SETN, SETT, MOV, ADD, ADDI, SUBI, BNEZ, AAP, AP = range(len(NAMES))
@@ -115,7 +119,10 @@ class Program:
     def read(cls, data: bytes, path: str = "program") -> Program:
         """The program of a file's bytes; what is no program file is refused at the first field that breaks its rule."""
         fields = Fields(data, path)
-        fields.magic(MAGIC, "program")
+        try:
+            fields.magic(MAGIC, "program")
+        except FileFault as fault:
+            raise FileFault(path, fault.place, fault.word, fault.what + text_hint(data)) from None
         version = fields.within(2, 1, 2, "version", "the version")
         heads = read_directory(fields, version)
         entries = [dataclasses.replace(head, code=read_code(fields, head, count)) for head, count in heads]
@@ -125,7 +132,7 @@ class Program:
     @classmethod
     def load(cls, path: str) -> Program:
         """The program in a file."""
-        return cls.read(load(path), path)
+        return cls.read(load(path, "program"), path)
 
     def file(self) -> bytes:
         """The program file, of this version."""
@@ -143,6 +150,15 @@ class Program:
                 return entry
         names = ", ".join(entry.name for entry in self.entries)
         raise KeyError(f"no entry {name}: there are {names}" if names else f"no entry {name}: the program has none")
+
+
+def text_hint(data: bytes) -> str:
+    """What to do with a text that stands where a program file is read, or nothing where it is none."""
+    first = FIRST_WORD.match(data)
+    word = first[1] if first else b""
+    if word == b"op":
+        return "; it is an operation text: compile it first, by `simdram compile`"
+    return "; it is a text of microprograms: assemble it first, by `simdram assemble`" if word in (b"program", b"version") else ""
 
 
 def read_directory(fields: Fields, version: int) -> typing.List[typing.Tuple[Entry, int]]:

@@ -78,7 +78,7 @@ class Trace:
     @classmethod
     def load(cls, path: str) -> Trace:
         """The trace in a file."""
-        return cls.read(load(path), path)
+        return cls.read(load(path, "trace"), path)
 
     def file(self) -> bytes:
         """The trace file."""

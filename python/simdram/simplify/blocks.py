@@ -4,10 +4,10 @@ from __future__ import annotations
 
 import typing
 
+from ..rules.op_tree import BIT, WORD, Block, Body, Expr, read
 from .gates import LAST, STATE
 from .items import STATES, Item, Items
 from .op_limits import fits, live
-from .op_tree import BIT, WORD, Block, Body, Expr, read
 from .plans import NoOp, Plan, is_whole
 from .spelling import LETS, Spelling, uses
 from .statement_alone import normal

@@ -4,7 +4,7 @@ from __future__ import annotations
 
 import typing
 
-from .gates import Form, Graph
+from .gates import STATE, Form, Graph, StateRule
 
 GREATER, EQUAL, LESS, ANY_OF = 4, 2, 1, 7
 # how a set is asked for by one operation: the operation, whether the words are exchanged, whether its bit is inverted
@@ -56,12 +56,42 @@ class Comparisons:
             self.order[bit] = Ordered(x, y, its)
             self.by_order.setdefault(Ordered(x, y, its), bit)
 
+    # top bits
+
+    def top(self, a: int) -> int:
+        """The top bit of a word: a state that takes each bit, upwards."""
+        return self.graph.last(self.graph.state("up", 0, lambda now: a))
+
+    def is_half(self, lit: int) -> bool:
+        """Whether a word is 1 at each position but the top."""
+        node = self.graph.node(lit)
+        return node.kind == STATE and not lit & 1 and self.graph.states[node.ident] == StateRule("down", 1)
+
+    def of_top(self, lit: int) -> typing.Optional[int]:
+        """The word of which a word has the top bit, and 0 below, if it is such a one."""
+        if lit & 1 and self.is_half(lit ^ 1):
+            return 1
+        node = self.graph.node(lit)
+        if node.kind == "and" and not lit & 1:
+            return next((one for one, mask in (node.args, node.args[::-1]) if mask & 1 and self.is_half(mask ^ 1)), None)
+        return None
+
+    def by_top(self, a: int, b: int) -> typing.Optional[int]:
+        """a > b where that is a top bit: above all numbers whose top bit is 0, or a number beside the same without a sign."""
+        if self.is_half(b) or self.was_op(b, "relu") == (a,):
+            return self.top(a)
+        if a & 1 and self.is_half(a ^ 1):
+            return self.top(b) ^ 1
+        word = self.of_top(a) if b == 0 else None
+        return None if word is None else self.top(word)
+
     def do_gt(self, a: int, b: int) -> int:
-        """a > b: the last carry of a and the complement of b."""
-        graph = self.graph
-        found = graph.last(graph.state("up", 0, lambda carry: graph.gate("maj", a, b ^ 1, carry)))
-        graph.form(found, "gt", a, b)
-        graph.form(found ^ 1, "ge", b, a)
+        """a > b: a top bit, or the last carry of a and the complement of b."""
+        graph, found = self.graph, self.by_top(a, b)
+        if found is None:
+            found = graph.last(graph.state("up", 0, lambda carry: graph.gate("maj", a, b ^ 1, carry)))
+            graph.form(found, "gt", a, b)
+            graph.form(found ^ 1, "ge", b, a)
         self.note_order(found, a, b, GREATER)
         return found
 
@@ -72,8 +102,12 @@ class Comparisons:
     def do_eq(self, a: int, b: int) -> int:
         """a = b: no position differs."""
         graph, (a, b) = self.graph, sorted((a, b))
-        found = graph.last(graph.state("any", 1, lambda same: graph.gate("and", same, graph.gate("xor", a, b) ^ 1)))
-        graph.form(found, "eq", a, b)
+        greater = self.by_top(b, a) if a == 0 or self.was_op(a, "relu") == (b,) else self.by_top(a, b) if self.was_op(b, "relu") == (a,) else None
+        if greater is None:
+            found = graph.last(graph.state("any", 1, lambda same: graph.gate("and", same, graph.gate("xor", a, b) ^ 1)))
+            graph.form(found, "eq", a, b)
+        else:
+            found = greater ^ 1
         self.note_order(found, a, b, EQUAL)
         return found
 

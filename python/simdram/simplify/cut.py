@@ -9,8 +9,8 @@ from __future__ import annotations
 import dataclasses
 import typing
 
-from .op_limits import live, names_in
-from .op_tree import WORD, Block, Body, Op, Params, WordStatement
+from ..rules.op_tree import WORD, Block, Body, Op, Params, WordStatement
+from .op_limits import live
 from .statement_alone import renamed
 
 OPERATIONS = ("mul", "div", "rem", "divmod", "bitcount")
@@ -73,7 +73,7 @@ def names_read(body: Body) -> typing.Iterator[str]:
             yield from one.args
         else:
             own = dict(one.states).keys() | dict(one.lets).keys()
-            yield from (name for expr in one.expressions for name in names_in(expr) if name not in own)
+            yield from (name for expr in one.expressions for name in expr.names() if name not in own)
 
 
 def with_reads(one: typing.Any, names: typing.Callable[[str], str]) -> typing.Any:

@@ -6,14 +6,14 @@ import os
 import subprocess
 import tempfile
 import threading
-import time
 import typing
 
-from .. import run_program
 from ..files.store import store
-from ..verdicts import RIGHT, UNKNOWN, WRONG, verdicts_of
+from ..launcher import run_program
+from ..rules.op_tree import Op
+from ..rules.verdicts import RIGHT, UNKNOWN, WRONG, verdicts_of
 from .cut import cut, has_nested
-from .op_tree import Op
+from .work_time import limits, spent
 
 # the statuses under which `verify` has a line for the op
 SAID = (0, 19, 20)
@@ -40,17 +40,18 @@ class Equality(typing.NamedTuple):
 
 
 class Comparer:
-    """Compares texts by a program, up to a time."""
+    """Compares texts by a program, up to a time in processor seconds."""
 
     def __init__(self, program: str, until: float = float("inf"), stopped: typing.Optional[threading.Event] = None) -> None:
         self.program, self.until, self.stopped, self.is_late = program, until, stopped or threading.Event(), False
 
     def _run(self, words: typing.Sequence[typing.Any], folder: str) -> typing.Optional[run_program.Ended]:
         """The program's end, or nothing where the time is over."""
-        left = self.until - time.monotonic()
         try:
-            if left > 0 and not self.stopped.is_set():
-                return run_program.run(words, folder, path=self.program, seconds=None if left == float("inf") else left)
+            if spent() < self.until and not self.stopped.is_set():
+                ended = run_program.run(words, folder, path=self.program, **limits(self.until)._asdict())
+                if ended.status >= 0:
+                    return ended
         except subprocess.TimeoutExpired:
             pass
         self.is_late = True

@@ -5,8 +5,7 @@ from __future__ import annotations
 import collections
 import typing
 
-from .op_limits import names_in
-from .op_tree import BIT, WORD, Block, Expr, Statement
+from ..rules.op_tree import BIT, WORD, Block, Expr, Statement
 
 # commands of a position, fitted by least squares on measured blocks of bench/kernels
 WEIGHTS = {"and": 0.75, "xor": 1.6, "maj": 0.6, "word": 1.3, "bit": 2.2, "target": 1.0, "state": 2.0, "one": -1.9}
@@ -30,7 +29,7 @@ def features(block: Block, kinds: typing.Mapping[str, str]) -> typing.Counter[st
     """What a block has at each position: gates, names that it reads, words that it writes, states that change."""
     found = collections.Counter(gate for expr in block.expressions for gate in gates_of(expr))
     states, own = dict(block.states), dict(block.states).keys() | dict(block.lets).keys()
-    read = {name for expr in block.expressions for name in names_in(expr)} - own
+    read = {name for expr in block.expressions for name in expr.names()} - own
     found[WORD] = sum(kinds[name] == WORD for name in read)
     found[BIT] = len(read) - found[WORD]
     found["state"] = sum(name in states for name, _ in block.assigns)

@@ -55,7 +55,8 @@ class Forms(Sums):
 
     def do_or_red(self, a: int) -> int:
         """Whether some bit is 1."""
-        return self._reduced("or_red", "or", 0, a)
+        found = self.by_top(a, 0)
+        return found if found is not None else self._reduced("or_red", "or", 0, a)
 
     def do_xor_red(self, a: int) -> int:
         """The parity."""
@@ -122,7 +123,7 @@ class Forms(Sums):
             return a
         if self.choose(op, (ALONE, "block")) == ALONE:
             return self.made(graph.leaf(WHOLE, graph.whole(op, a)), op, a)
-        top = graph.last(graph.state("up", 0, lambda now: a))
+        top = self.top(a)
         return self.made(graph.gate("and", a, top ^ 1) if op == "relu" else self.negate_if(a, top), op, a)
 
     # choices among words by bits

@@ -4,10 +4,10 @@ from __future__ import annotations
 
 import typing
 
+from ..rules.op_tree import WORD
 from .gates import LAST, STATE, WHOLE
 from .gates import WORD as WORD_LEAF
 from .lowering import Lowered
-from .op_tree import WORD
 
 
 class Item(typing.NamedTuple):

@@ -4,11 +4,11 @@ from __future__ import annotations
 
 import typing
 
+from ..rules.op_tree import ALIKE, BIT, TO_BIT, WORD, Block, Expr, Op, WordStatement
 from .forms import Forms
 from .gates import BIT as BIT_LEAF
 from .gates import STATE, WORD as WORD_LEAF
 from .gates import StateRule
-from .op_tree import ALIKE, BIT, TO_BIT, WORD, Block, Expr, Op, WordStatement
 from .states import equal_states, settle
 
 

@@ -7,18 +7,18 @@ import os
 import subprocess
 import tempfile
 import threading
-import time
 import typing
 
-from .. import run_program
-from ..costs import cost_of
-from ..faults import Fault
+from ..costs.costs import cost_of
 from ..files.store import load, store
-from ..parallel import in_parallel
+from ..launcher import run_program
+from ..launcher.faults import Fault
+from ..launcher.parallel import in_parallel
+from ..rules.op_tree import BIT, WORD, Body, Op, made_by
 from .estimate import guessed
-from .op_tree import BIT, WORD, Body, Op, made_by
 from .statement_alone import Alone, Cost, Costs, alone
 from .statement_cache import StatementCache
+from .work_time import limits, spent
 
 # the status of `compile` where the text is refused
 REFUSED = 4
@@ -73,9 +73,8 @@ class Measured:
     def run(self, words: typing.Sequence[typing.Any], folder: str) -> run_program.Ended:
         """Runs the program in the time that is left."""
         self.check_time()
-        left = self.until - time.monotonic()
         try:
-            ended = run_program.run(words, folder, path=self.program, seconds=None if left == float("inf") else max(left, 0))
+            ended = run_program.run(words, folder, path=self.program, **limits(self.until)._asdict())
         except subprocess.TimeoutExpired:
             raise TimeOver from None
         if ended.status < 0:
@@ -86,7 +85,7 @@ class Measured:
 
     def check_time(self) -> None:
         """Raises if the time is over, or the work was stopped."""
-        if self.stopped.is_set() or time.monotonic() >= self.until:
+        if self.stopped.is_set() or spent() >= self.until:
             raise TimeOver
 
     def of_text(self, text: str, also: typing.Iterable[int] = ()) -> typing.Optional[typing.List[Costs]]:

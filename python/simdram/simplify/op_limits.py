@@ -4,8 +4,8 @@ from __future__ import annotations
 
 import typing
 
-from ..word_ops import WEIGHTS
-from .op_tree import Block, Body, Expr, WordStatement, read
+from ..rules.op_tree import Block, Body, Expr, WordStatement, read
+from ..rules.word_ops import WEIGHTS
 
 STATEMENTS, STATES, ASSIGNMENTS, LETS, WEIGHT, DEPTH = 16, 8, 8, 16, 24, 32
 
@@ -32,14 +32,6 @@ def fits(body: Body) -> bool:
     return len(body) <= STATEMENTS and all(isinstance(one, WordStatement) or block_fits(one) for one in body)
 
 
-def names_in(expr: Expr) -> typing.Iterator[str]:
-    """The names that an expression reads, in order."""
-    if expr.gate == "read":
-        yield expr.name
-    for arg in expr.args:
-        yield from names_in(arg)
-
-
 def needed_in(block: Block, wanted: typing.Container[str]) -> typing.Set[str]:
     """Which of a block's own names the wanted ones need."""
     lets, states, nexts = dict(block.lets), dict(block.states), dict(block.assigns)
@@ -48,7 +40,7 @@ def needed_in(block: Block, wanted: typing.Container[str]) -> typing.Set[str]:
         name = todo.pop()
         if name not in needed:
             needed.add(name)
-            todo += [below for part in (nexts, lets) if name in part for below in names_in(part[name])
+            todo += [below for part in (nexts, lets) if name in part for below in part[name].names()
                      if below in lets or below in states]
     return needed
 
@@ -62,7 +54,7 @@ def live_block(block: Block, wanted: typing.Set[str]) -> typing.Optional[Block]:
     lets = tuple(one for one in block.lets if one[0] in needed)
     assigns = tuple(one for one in block.assigns if one[0] in needed) or ((states[0][0], read(states[0][0])),)
     own = dict(states).keys() | dict(lets).keys()
-    wanted |= {name for _, expr in lets + assigns for name in names_in(expr)} - own
+    wanted |= {name for _, expr in lets + assigns for name in expr.names()} - own
     return Block(block.direction, states, lets, assigns)
 
 

@@ -5,8 +5,8 @@ from __future__ import annotations
 import dataclasses
 import typing
 
+from ..rules.op_tree import Op
 from .equal import Equality
-from .op_tree import Op
 from .search import Simpler
 
 # an op as it was; another text that is equal; one of which that is not known; one that differs
@@ -59,9 +59,11 @@ class Outcome:
 
     def _known(self, before: bytes) -> str:
         if self.equality is None:
-            return "as it was" if self.simpler.is_whole else "as it was, and the time was over before all was tried"
+            return f"unchanged: nothing cheaper found{'' if self.simpler.is_whole else ' in the time'}"
         asked = [width for width in self.simpler.before if width in self.equality.verdicts]
         equal = [width for width in asked if width not in self.equality.unknown + self.equality.wrong]
+        if self.kind == UNKNOWN and not self.is_taken and not equal:
+            return f"unchanged: another text was found, and not {'compared in the time' if self.equality.is_late else 'known to be equal'}"
         said = [f"equal at {listed(equal)}" if equal else "equal at no width"]
         if self.equality.is_cut:
             said[0] += " with products and quotients as unknowns"

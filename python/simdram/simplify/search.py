@@ -4,12 +4,12 @@ from __future__ import annotations
 
 import typing
 
+from ..rules.op_tree import Body, Op, body_text
 from .blocks import written
 from .items import Items
 from .lowering import Lowered
 from .measured import AT_ONCE, Compiled, Measured, Parts, TimeOver
 from .moves import moves, spellings, starts
-from .op_tree import Body, Op, body_text
 from .plans import NoOp, Plan
 from .spelling import STYLES
 from .statement_alone import Costs

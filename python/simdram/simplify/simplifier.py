@@ -5,20 +5,23 @@ from __future__ import annotations
 import concurrent.futures
 import dataclasses
 import threading
-import time
 import typing
 
-from .. import run_program
-from ..faults import Fault
-from ..parallel import Bar, processors
+from ..launcher import run_program
+from ..launcher.faults import Fault
+from ..launcher.parallel import Bar, processors
+from ..rules.op_tree import Op
+from ..rules.ops_rules import read_ops
 from .equal import ALWAYS, Comparer
 from .measured import Measured, TimeOver
-from .op_tree import Op, read_ops
 from .outcome import Outcome
 from .search import Search, Simpler
 from .statement_alone import Costs
 from .statement_cache import StatementCache
+from .work_time import spent
 
+# the processor seconds for all ops, unless others are asked for
+SECONDS = 40.0
 # how much of its time an op's search has; the rest is for the comparison
 SEARCHED = 0.6
 # the part of the time after which calls of the program are ended
@@ -27,10 +30,10 @@ ENDED = 0.97
 
 @dataclasses.dataclass(frozen=True)
 class Options:
-    """At which widths an op must not be dearer and is compared, in how many seconds, and what else is asked."""
+    """At which widths an op must not be dearer and is compared, in how many processor seconds, and what else."""
 
     widths: typing.Tuple[int, ...] = (4, 8, 16, 32)
-    seconds: float = 20
+    seconds: float = SECONDS
     keeps_rows: bool = False
     is_unvalidated: bool = False
     compared: typing.Tuple[int, ...] = ALWAYS
@@ -52,7 +55,7 @@ class Shares:
         with self.lock:
             turns = -(-self.left // processors())
             self.left -= 1
-        now = time.monotonic()
+        now = spent()
         return now + max(0.0, self.until - now) / max(turns, 1)
 
 
@@ -60,7 +63,7 @@ class Simplifier:
     """Simplifies the ops of one text by a program."""
 
     def __init__(self, program: str, options: Options) -> None:
-        self.program, self.options, self.start = program, options, time.monotonic()
+        self.program, self.options, self.start = program, options, spent()
         self.end = self.start + ENDED * options.seconds
         self.stopped = threading.Event()
 
@@ -93,7 +96,7 @@ class Simplifier:
         shares = Shares(self.end, len(ops))
 
         def worked(pair: typing.Tuple[Op, Costs]) -> typing.Any:
-            share, now = shares.next(), time.monotonic()
+            share, now = shares.next(), spent()
             mine = measured.until_then(now + SEARCHED * (share - now))
             return work(Search(pair[0], mine, pair[1], self.options.keeps_rows, share), share)
 
@@ -137,7 +140,7 @@ class Simplifier:
         try:
             found = measured.of_text(data.decode("utf-8", "replace"))
         except TimeOver:
-            raise Fault(f"{self.options.seconds:g} seconds are too few to measure the text as it is; --seconds gives more") from None
+            raise Fault(f"{self.options.seconds:g} processor seconds are too few to measure the text as it is; --seconds gives more") from None
         if found is None:
             raise Fault(f"an op of the text cannot be executed at a width of {', '.join(map(str, self.options.widths))}")
         return found

@@ -5,9 +5,9 @@ from __future__ import annotations
 import random
 import typing
 
+from ..rules.op_tree import Expr, gate, read
 from .gates import Graph, Node
 from .items import Items
-from .op_tree import Expr, gate, read
 
 STYLES = 3
 LETS = 16

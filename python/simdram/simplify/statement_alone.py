@@ -4,7 +4,7 @@ from __future__ import annotations
 
 import typing
 
-from .op_tree import BIT, WORD, Block, Expr, Statement, WordStatement, body_text, made_by, read
+from ..rules.op_tree import BIT, WORD, Block, Expr, Statement, WordStatement, body_text, made_by, read
 
 # what a word by `zero` and a bit by `not` take in commands
 ZERO, NOT_BIT = 1, 2

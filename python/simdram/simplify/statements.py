@@ -4,11 +4,11 @@ from __future__ import annotations
 
 import typing
 
+from ..rules.op_tree import BIT, TO_BIT, WORD, Block, Body, Expr, WordStatement, gate, read
 from .gates import BIT as BIT_LEAF
 from .gates import WHOLE
 from .gates import WORD as WORD_LEAF
 from .items import Items
-from .op_tree import BIT, TO_BIT, WORD, Block, Body, Expr, WordStatement, gate, read
 from .plans import NoOp, Order, Plan
 
 NAME_MAX = 14

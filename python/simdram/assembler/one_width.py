@@ -1,0 +1,40 @@
+"""Programs for one width: the instructions at which they are stuck at all others, as the assembler writes them for `width 8`."""
+
+from __future__ import annotations
+
+import dataclasses
+import typing
+
+from ..files.program import BNEZ, LARGEST, SETN, SUBI, Entry, Instruction
+
+# how many instructions stand before such a program's own, and how many after them
+BEFORE, AFTER = 3, 2
+
+
+def one_width(entry: Entry) -> typing.Optional[int]:
+    """The width for which alone an entry is, or nothing where it is for all."""
+    if len(entry.code) <= BEFORE + AFTER:
+        return None
+    first, second, third = entry.code[:BEFORE]
+    stuck = len(entry.code) - AFTER
+    is_one = (first.kind, second.kind, third.kind, entry.code[stuck].kind) == (SETN, SUBI, BNEZ, SUBI) \
+        and {one.register for one in (first, second, third, entry.code[stuck])} == {first.register} \
+        and third.number == stuck and entry.code[stuck].number == LARGEST
+    return second.number if is_one else None
+
+
+def own(entry: Entry) -> Entry:
+    """The entry without the instructions that check its width."""
+    code = entry.code[BEFORE:len(entry.code) - AFTER]
+    return dataclasses.replace(entry, code=tuple(moved(one) if one.kind == BNEZ else one for one in code))
+
+
+def moved(one: Instruction) -> Instruction:
+    """A jump whose target stands earlier by the instructions before."""
+    return Instruction(one.kind, one.raw[:2] + (one.number - BEFORE).to_bytes(2, "little") + one.raw[4:])
+
+
+def other_width(entry: Entry, n: int) -> str:
+    """Why an entry is stuck at a width, where it is for another, or nothing."""
+    width = one_width(entry)
+    return "" if width in (None, n) else f"{entry.name} is a program for the width {width} alone"

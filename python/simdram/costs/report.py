@@ -1,0 +1,162 @@
+"""A report of run, exec, trace or guard as one JSON object, or as a table.
+
+REPORT is a file that has what the command printed, or standard input where none is named. A report sums over banks, and
+its writes and reads include the rows that the simulator itself writes to open IMAGE and reads to store OUT, which are all
+rows of all banks. With --image the rows of the script alone are told too, as host_writes and host_reads; in a guarded run
+those that flips read and write are among them. With --script too, each bbop has the number of banks that its elements
+stand in, the commands of one bank, and those for each element: 64 elements stand in a bank for each word of its rows.
+Banks work at the same time, so the time of a wave is that of the bank with the most commands.
+"""
+
+from __future__ import annotations
+
+import argparse
+import json
+import re
+import sys
+import typing
+
+from ..files.store import load
+from ..files.table import HEAD_MAX, Table
+from ..launcher.commands import MAGIC
+from ..launcher.faults import Fault
+from ..launcher.overwrite import content
+from ..launcher.settings import Settings
+from ..launcher.tool_parser import tool_parser
+from ..rules.script_rules import Instruction, read_script
+
+OK = re.compile(r"(\d+) ok aap=(\d+) ap=(\d+)")
+PRINTED = re.compile(r"(\d+) (\w+):((?: \d+)+)")
+REFUSED = re.compile(r"(\d+) refused (\w+)((?: \w+)*)")
+VOTE = re.compile(r"vote aap=(\d+) flips=(\d+)")
+TOTAL = re.compile(r"total aap=(\d+) ap=(\d+) writes=(\d+) reads=(\d+) refused=(\d+)")
+COLUMNS = ("number", "status", "aap", "ap", "banks", "aap_per_bank", "ap_per_bank", "commands_per_element", "instruction")
+
+
+class Script(typing.NamedTuple):
+    """A script's instructions, and their lines."""
+
+    instructions: typing.List[Instruction]
+    lines: typing.List[str]
+
+    @classmethod
+    def load(cls, path: str) -> Script:
+        """The script in a file."""
+        data = load(path, "script")
+        instructions, fault = read_script(path, data)
+        if fault:
+            raise Fault(f"{path} {fault.place}: {fault.kind}: {fault.rule}")
+        ends = [data[one.head.at:].split(b"\n", 1)[0] for one in instructions]
+        return cls(instructions, [line.decode("utf-8", "replace").partition("#")[0].strip() for line in ends])
+
+
+def table_in(image: str) -> Table:
+    """The geometry and the objects of an image file."""
+    return Table.read(load(image, "image")[:HEAD_MAX], image)
+
+
+def in_banks(found: dict, script: Script, table: Table) -> None:
+    """Adds what one bank and one element of an instruction cost."""
+    one = script.instructions[found["number"] - 1]
+    found["instruction"] = script.lines[found["number"] - 1]
+    if one.verb not in ("bbop", "bbop_trsp_init") or found["status"] != "ok":
+        return
+    count = one.number(0)
+    banks = -(-count // (64 * table.words))
+    found.update(elements=count, banks=banks, aap_per_bank=found["aap"] // banks, ap_per_bank=found["ap"] // banks,
+                 commands_per_element=(found["aap"] + found["ap"]) / count)
+
+
+def instruction_of(line: str) -> dict | None:
+    """What a line says of an instruction."""
+    match = OK.fullmatch(line)
+    if match:
+        return {"number": int(match[1]), "status": "ok", "aap": int(match[2]), "ap": int(match[3])}
+    match = PRINTED.fullmatch(line)
+    if match:
+        return {"number": int(match[1]), "status": "printed", "name": match[2], "values": [int(value) for value in match[3].split()]}
+    match = REFUSED.fullmatch(line)
+    if match:
+        return {"number": int(match[1]), "status": "refused", "word": match[2],
+                "at": [int(word) if word.isdigit() else word for word in match[3].split()]}
+    return None
+
+
+def object_of(text: str, table: Table | None = None, script: Script | None = None) -> dict:
+    """The object of a report; the table of the image adds the host's rows, and the script each instruction's banks."""
+    made: dict = {"instructions": [], "totals": None, "vote": None}
+    for number, line in enumerate(text.splitlines(), 1):
+        total, vote, found = TOTAL.fullmatch(line), VOTE.fullmatch(line), instruction_of(line)
+        if found:
+            made["instructions"].append(found)
+        elif vote:
+            made["vote"] = {"aap": int(vote[1]), "flips": int(vote[2])}
+        elif total:
+            made["totals"] = dict(zip(("aap", "ap", "writes", "reads", "refused"), map(int, total.groups())))
+        else:
+            raise Fault(f"line {number} is no line of a report: {line[:80]!r}")
+    if made["totals"] is None:
+        raise Fault("the report has no line of totals: the command did not end with status 0 or 8")
+    if table:
+        made["totals"].update(host_rows(made["totals"], table))
+    numbers = [found["number"] for found in made["instructions"]]
+    if script and numbers != list(range(1, len(script.instructions) + 1)):
+        raise Fault(f"the report is of other instructions than the script's, which are 1 to {len(script.instructions)}")
+    for found in made["instructions"] if script else ():
+        in_banks(found, script, table)
+    return made
+
+
+def host_rows(totals: dict, table: Table) -> dict:
+    """The rows that the script wrote and read: without those of the simulator's own opening and storing of the image."""
+    own = table.banks * table.rows
+    rows = {"host_writes": totals["writes"] - own, "host_reads": totals["reads"] - own}
+    if min(rows.values()) < 0:
+        raise Fault(f"the report has fewer writes or reads than the {own} rows of the image: it is of another image")
+    return rows
+
+
+def cell(found: dict, name: str) -> str:
+    """A cell of the table."""
+    if name == "status" and found["status"] == "refused":
+        return " ".join(["refused", found["word"], *map(str, found["at"])])
+    given = found.get(name, "")
+    return f"{given:.6g}" if isinstance(given, float) else str(given)
+
+
+def table_of(made: dict) -> str:
+    """The report as a table, with the sums over all banks last."""
+    rows = [COLUMNS, *([cell(found, name) for name in COLUMNS] for found in made["instructions"])]
+    widths = [max(len(row[k]) for row in rows) for k in range(len(COLUMNS))]
+    lines = ["  ".join(text.ljust(width) for text, width in zip(row, widths)).rstrip() for row in rows]
+    return "\n".join([*lines, "all banks: " + " ".join(f"{name}={number}" for name, number in made["totals"].items())])
+
+
+def parser() -> argparse.ArgumentParser:
+    made = tool_parser("report", __name__)
+    made.add_argument("report", metavar="REPORT", nargs="?")
+    made.add_argument("--json", action="store_true", help="one JSON object")
+    made.add_argument("--script", metavar="SCRIPT", help="the script that was executed; needs --image")
+    made.add_argument("--image", metavar="IMAGE", help="the image that it was executed on")
+    return made
+
+
+def text_of(report: str | None) -> str:
+    """The text of a report, or of standard input."""
+    if report is None:
+        return load("/dev/stdin").decode("utf-8", "replace")
+    data = load(report)
+    if data.startswith(tuple(MAGIC.values())):
+        raise Fault(f"{report}: no report: it holds {content(data[:512])}")
+    return data.decode("utf-8", "replace")
+
+
+def main(words: list[str], _settings: Settings) -> int:
+    asked = parser().parse_args(words)
+    if asked.script and not asked.image:
+        raise Fault("--script needs --image, the image that the script ran on")
+    table = table_in(asked.image) if asked.image else None
+    script = Script.load(asked.script) if asked.script else None
+    made = object_of(text_of(asked.report), table, script)
+    print(json.dumps(made, indent=1) if asked.json else table_of(made))
+    return 0

@@ -1,0 +1,47 @@
+"""Makes a file from its bytes, written as hexadecimal digits.
+
+In NOTE a `#` begins a comment to the end of the line; the rest is the bytes, two digits each, with any blanks between them. So a
+program file can be written by hand with a comment for each instruction, such as examples/exec/xor.hex.
+"""
+
+from __future__ import annotations
+
+import argparse
+import re
+
+from ..launcher.commands import MAGIC
+from ..launcher.faults import Fault
+from ..launcher.overwrite import write
+from ..launcher.settings import Settings
+from ..launcher.tool_parser import tool_parser
+from .store import load
+
+BYTES = re.compile("(?:[0-9a-fA-F]{2})+")
+SHOWN = 40
+
+
+def bytes_in(note: str) -> bytes:
+    """The bytes that a note has."""
+    found = bytearray()
+    for number, line in enumerate(load(note).decode("utf-8", "replace").split("\n"), 1):
+        words = line.partition("#")[0].split()
+        wrong = next((word for word in words if not BYTES.fullmatch(word)), None)
+        if wrong is not None:
+            raise Fault(f"{note} line {number}: {wrong[:SHOWN]!r} is not a sequence of bytes of two hexadecimal digits each")
+        found += bytes.fromhex("".join(words))
+    return bytes(found)
+
+
+def parser() -> argparse.ArgumentParser:
+    made = tool_parser("from-hex", __name__)
+    made.add_argument("note", metavar="NOTE")
+    made.add_argument("file", metavar="FILE")
+    return made
+
+
+def main(words: list[str], settings: Settings) -> int:
+    asked = parser().parse_args(words)
+    data = bytes_in(asked.note)
+    kind = next((kind for kind, magic in MAGIC.items() if data.startswith(magic)), "bytes")
+    write(asked.file, data, kind, settings)
+    return 0

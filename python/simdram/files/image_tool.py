@@ -1,0 +1,133 @@
+"""Makes, shows and changes image files: numbers in, numbers out.
+
+    simdram image make OUT BANKSxROWSxWORDS [OBJECT ..]
+    simdram image show IMAGE
+    simdram image get IMAGE NAME [FILE]
+    simdram image put IMAGE NAME FILE
+
+An OBJECT is NAME:WIDTH=V1,V2,.. with the values of its elements, or NAME:WIDTH/COUNT with COUNT zeros; it takes the lowest
+free rows. `get` prints one number per line, or writes FILE: a .csv file has a head line `element,NAME` and both numbers in
+each line, a .npy file is an array of 64-bit numbers (with two columns, the lower half first, for widths over 64). `put` sets
+the object's elements from a file of these forms, from numbers separated by commas or blanks, or from a .npy array of booleans
+or integers of any shape, read with its last axis first. What stands where a file is written is kept as NAME~, and refused
+where it is of another kind, as docs/FORMATS.md says.
+
+    simdram image make mac.img 1x96x1 a:8=3,10,15,200 y:8/4
+    simdram image get mac.img a
+"""
+
+from __future__ import annotations
+
+import re
+import sys
+import typing
+
+from ..launcher.faults import Fault
+from ..launcher.overwrite import write
+from ..launcher.settings import Settings
+from ..launcher.tool_parser import about
+from . import numbers
+from .fault import FileFault
+from .image import Image, NoObject, NoRoom, OutOfRange
+
+OBJECT = re.compile(r"([A-Za-z_][A-Za-z0-9_]{0,15}):(\d+)(?:=(-?\d+(?:,-?\d+)*),?|/(\d+))")
+
+
+class WordsFault(Fault):
+    """Arguments that do not describe an image, as one line."""
+
+    status = 1
+
+
+def make(geometry: str, words: typing.Sequence[str]) -> Image:
+    """The image of a geometry, as text, and of objects, as the words say them."""
+    match = re.fullmatch(r"(\d+)x(\d+)x(\d+)", geometry)
+    if not match:
+        raise WordsFault(f"{geometry} is not BANKSxROWSxWORDS, such as 1x96x1")
+    try:
+        image = Image(*map(int, match.groups()))
+        for word in words:
+            add(image, word)
+    except (NoRoom, OutOfRange) as fault:
+        raise WordsFault(str(fault)) from None
+    except ValueError as fault:
+        raise WordsFault(f"{geometry}: {fault}") from None
+    return image
+
+
+def add(image: Image, word: str) -> None:
+    """Adds the object that a word says."""
+    match = OBJECT.fullmatch(word)
+    if not match:
+        raise WordsFault(f"{word} is no NAME:WIDTH=V1,V2,.. and no NAME:WIDTH/COUNT; numbers are in decimal digits")
+    name, width, values, count = match.groups()
+    if values is None:
+        image.add(name, int(width), int(count))
+        image.put(name, [0] * int(count))
+        return
+    given = [int(value) for value in values.split(",")]
+    image.add(name, int(width), len(given))
+    image.put(name, given)
+
+
+def show(image: Image) -> typing.Iterator[str]:
+    """What an image has, as lines."""
+    yield f"{image.banks} banks of {image.rows} rows of {image.words} words: {image.columns} columns a bank"
+    for one in image.objects:
+        segments = -(-one.count // image.columns)
+        rows = f"rows {one.base} to {one.past - 1} of {segments} banks"
+        yield f"{one.name}: {one.count} elements of {one.width} bits, {rows}"
+
+
+def get(path: str, name: str, file: str) -> bytes:
+    """The file of an object's numbers."""
+    image = Image.load(path)
+    try:
+        return numbers.file_of(name, *image.cells(name), file)
+    except NoObject as fault:
+        raise FileFault(path, "", "", str(fault)) from None
+
+
+def put(path: str, name: str, file: str) -> bytes:
+    """The image file with an object's elements set from a file of numbers."""
+    image = Image.load(path)
+    try:
+        found = image.find(name)
+    except NoObject as fault:
+        raise FileFault(path, "", "", str(fault)) from None
+    values = numbers.read(file, found.width, found.count)
+    if len(values) != found.count:
+        raise FileFault(file, "", "count", f"it has {len(values)} numbers, and {name} of {path} has {found.count} "
+                        f"elements; `image make` gives an object its count, as in {name}:{found.width}/{len(values)}")
+    try:
+        image.put(name, values)
+    except OutOfRange as fault:
+        raise FileFault(file, "", "range", str(fault)) from None
+    return image.file()
+
+
+def do(words: typing.Sequence[str], settings: Settings) -> None:
+    """Does what the words say."""
+    verb, rest = (words[0], list(words[1:])) if words else ("", [])
+    if verb == "make" and len(rest) >= 2:
+        image = make(rest[1], rest[2:])
+        write(rest[0], image.file(), "image", settings)
+    elif verb == "show" and len(rest) == 1:
+        print("\n".join(show(Image.load(rest[0]))))
+    elif verb == "get" and len(rest) == 2:
+        sys.stdout.write(get(rest[0], rest[1], "").decode())
+    elif verb == "get" and len(rest) == 3:
+        write(rest[2], get(*rest), "numbers", settings)
+    elif verb == "put" and len(rest) == 3:
+        write(rest[0], put(*rest), "image", settings)
+    else:
+        raise WordsFault("\n".join(["these words are none of", *map(str.strip, about(__name__).split("\n\n")[1].splitlines())]))
+
+
+def main(words: typing.Sequence[str], settings: Settings) -> int:
+    """Does what the words say."""
+    if {"--help", "-h"} & set(words[:2]):
+        print(about(__name__).rstrip())
+    else:
+        do(words, settings)
+    return 0

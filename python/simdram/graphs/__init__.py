@@ -1,0 +1,1 @@
+"""Majority-inverter graphs of serial blocks, and netlists of other tools."""

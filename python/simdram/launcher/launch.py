@@ -1,0 +1,82 @@
+"""A command of the program: from the command line to the exit status."""
+
+from __future__ import annotations
+
+import contextlib
+import errno
+import os
+import stat
+
+from ..rules.aftermath import Aftermath
+from . import overwrite, run_program
+from .commands import ALL, Command
+from .faults import WRONG
+from .say import say
+from .settings import Settings
+from .words import wrong_words
+
+USAGE_STATUS = 1
+
+
+def form(words: list[str]) -> str:
+    """The arguments of the command that was meant, or where all commands are listed."""
+    command = ALL.get(words[0]) if words else None
+    return f"usage: simdram {command.usage()}" if command else "simdram help lists the commands"
+
+
+def refused_words(wrong: str, words: list[str], settings: Settings) -> int:
+    """A command line that is not a command: the program says so if it is built, and nothing is built for it."""
+    program = run_program.standing(settings)
+    if program:
+        status = run_program.follow(program, words)
+    else:
+        print("usage", flush=True)
+        status = USAGE_STATUS
+    if status == USAGE_STATUS:
+        say(wrong)
+        say(form(words))
+    return status
+
+
+def why_not_read(path: str) -> str:
+    """Why a file that is named cannot be read, or nothing where it seems that it can."""
+    try:
+        mode = os.stat(path).st_mode
+    except (OSError, ValueError) as fault:
+        return getattr(fault, "strerror", None) or str(fault)
+    if stat.S_ISDIR(mode):
+        return os.strerror(errno.EISDIR)
+    return "" if os.access(path, os.R_OK) else os.strerror(errno.EACCES)
+
+
+def tell_unread(command: Command, words: list[str]) -> None:
+    """Says which files cannot be read, and why, before anything is done."""
+    read = [text for word, text in zip(command.words, words) if word.is_file and not word.is_written]
+    for text in dict.fromkeys(read):
+        reason = why_not_read(text)
+        if reason:
+            say(f"cannot read {text}: {reason}")
+
+
+def launch(words: list[str], settings: Settings) -> int:
+    """Runs a command of the program."""
+    command = ALL.get(words[0]) if words else None
+    is_whole = command is not None and command.is_program and len(words) == 1 + len(command.words)
+    refusal = overwrite.refusal(command, words[1:]) if is_whole and not settings.force else None
+    wrong = wrong_words(words)
+    if wrong:
+        return refused_words(wrong, words, settings)
+    if refusal:
+        say(refusal)
+        return WRONG
+    tell_unread(command, words[1:])
+    program = run_program.program(settings)
+    after, written = Aftermath(command, words[1:], settings), overwrite.Written(words, settings)
+    written.keep()
+    status = run_program.follow(program, written.words, written.settle)
+    if status == USAGE_STATUS:
+        say(form(words))
+    elif status:
+        with contextlib.suppress(MemoryError):
+            after.tell(status)
+    return status

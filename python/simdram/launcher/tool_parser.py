@@ -1,0 +1,27 @@
+"""The parser of a tool's words: its help is the tool's docstring."""
+
+from __future__ import annotations
+
+import argparse
+import ast
+import pathlib
+import sys
+import typing
+
+
+def about(module: str) -> str:
+    """A module's docstring, from its source where the interpreter dropped it."""
+    found = sys.modules[module]
+    return found.__doc__ or ast.get_docstring(ast.parse(pathlib.Path(found.__file__).read_text(encoding="utf-8"))) or ""
+
+
+class Parser(argparse.ArgumentParser):
+    """A parser that does not pass over what cannot be printed."""
+
+    def _print_message(self, message: str, file: typing.Optional[typing.TextIO] = None) -> None:
+        (file or sys.stderr).write(message)
+
+
+def tool_parser(name: str, module: str) -> argparse.ArgumentParser:
+    """A parser for the words of this tool."""
+    return Parser(prog=f"simdram {name}", description=about(module), formatter_class=argparse.RawDescriptionHelpFormatter)

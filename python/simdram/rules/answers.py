@@ -1,0 +1,180 @@
+"""The answers on files: their first faults, and what a script or a query is refused with."""
+
+from __future__ import annotations
+
+import subprocess
+
+from ..assembler import TextFault, assemble
+from ..files.fault import FileFault
+from ..files.image import Image
+from ..files.program import Entry, Program
+from ..files.table import Table
+from ..files.trace import Trace
+from ..launcher import run_program
+from ..launcher.commands import KINDS, MAGIC
+from ..launcher.overwrite import content
+from ..launcher.settings import Settings
+from .answer import Answer, at_token
+from .flips_rules import explain_flips
+from .ops_rules import explain_ops
+from .query_rules import read_query
+from .scan_refusals import scan_refusal
+from .script_refusals import Checker, Refusal, refused
+from .script_rules import read_script
+
+READERS = {"program": Program, "image": Image, "trace": Trace}
+# what would be right, by the word of the rule
+RIGHT = {
+    "rest": "the file ends where its earlier fields say, and nothing may follow",
+    "instruction": "kinds of instructions are 0 to 10, registers r0 to r7, numbers 0 to 1023, and bytes that are not named are 0",
+    "target": "a jump goes to an instruction of its own entry",
+    "row": "a command names rows of the entry's results, sources and scratch, B and C addresses, and spill rows",
+    "no_done": "an entry ends with DONE",
+    "overlap": "each object has its own adjacent rows, as many as it has bits",
+    "event": "an event is 0 AAP, 1 AP or 2 WRITE, its bank, and two addresses: a group, 0 B, 1 C or 2 D, and a number",
+    "legal": "B8 to B11 raise two wordlines and may only be second; C0 and C1 may only be first",
+}
+SHOWN_MAX = 5
+GUARDED_NAME_MAX = 15
+COST_SECONDS = 20
+
+
+def right_bytes(word: str, data: bytes) -> tuple[str, ...]:
+    """What would be right where a field breaks a rule; what the rule itself says is not said again."""
+    if word == "magic":
+        return (f"the file holds {content(data[:512])}",)
+    if word == "short":
+        return (f"the file has {len(data)} bytes: it was cut off, or an earlier number is too large" if data
+                else "the file is empty",)
+    return (RIGHT[word],) if word in RIGHT else ()
+
+
+def explain_bytes(kind: str, path: str, data: bytes) -> Answer | None:
+    """The first fault of a program file, an image or a trace."""
+    try:
+        READERS[kind].read(data, path)
+    except FileFault as fault:
+        return Answer(path, fault.place, fault.word, fault.what, right_bytes(fault.word, data))
+    return None
+
+
+def explain_script(path: str, data: bytes) -> Answer | None:
+    """The first fault of a script."""
+    return read_script(path, data)[1]
+
+
+def explain_query(path: str, data: bytes) -> Answer | None:
+    """The first fault of a query."""
+    return read_query(path, data)[1]
+
+
+def explain_micro(path: str, data: bytes) -> Answer | None:
+    """The first fault of a text of microprograms."""
+    try:
+        assemble(data)
+    except TextFault as fault:
+        return fault.answer(path, data)
+    return None
+
+
+def first_fault(kind: str, path: str, data: bytes) -> Answer | None:
+    """The first fault of a file of a kind, by itself."""
+    texts = {"ops": explain_ops, "script": explain_script, "query": explain_query, "micro": explain_micro}
+    if kind not in texts:
+        return explain_bytes(kind, path, data)
+    found = texts[kind](path, data)
+    if found and data.startswith(tuple(MAGIC.values())):
+        return Answer(path, found.place, found.kind, f"{KINDS[kind]} is read here, and the file holds {content(data[:512])}")
+    return found
+
+
+def answer_of(path: str, data: bytes, refusal: Refusal, what: str) -> Answer:
+    """A refusal as an answer."""
+    return at_token(path, data, refusal.token, f"{what} refused {refusal.word}", refusal.rule, refusal.right)
+
+
+def stuck_by_cost(prog: str, settings: Settings):
+    """Where an entry is stuck at a width, as `cost` says it."""
+    known: dict[int, dict[str, str]] = {}
+
+    def stuck(name: str, width: int) -> str | None:
+        if width not in known:
+            known[width] = stuck_at(prog, width, settings)
+        return known[width].get(name)
+
+    return stuck
+
+
+def stuck_at(prog: str, width: int, settings: Settings) -> dict[str, str]:
+    """Of each entry that is stuck at a width, where and why."""
+    try:
+        ended = run_program.run(["cost", prog, width], settings=settings, seconds=COST_SECONDS)
+    except subprocess.TimeoutExpired:
+        return {}
+    lines = (line.partition(" bad_walk ") for line in ended.out.splitlines())
+    return {name: where for name, stuck, where in lines if stuck}
+
+
+def script_refusals(path: str, data: bytes, table: Table, entries: dict[str, Entry], stuck, is_guarded=False,
+                    prog: str = "") -> list[Answer]:
+    """The instructions of a script that are refused on a table, with the entries of a program file."""
+    instructions, _ = read_script(path, data)
+    found = refused(instructions, Checker(table.copy(), entries, stuck, prog), is_guarded)
+    return [answer_of(path, data, refusal, f"instruction {number}") for number, refusal in found]
+
+
+def query_refusals(path: str, data: bytes, table: Table) -> list[Answer]:
+    """Why a query is refused on a table."""
+    nodes, fault = read_query(path, data)
+    refusal = None if fault else scan_refusal(nodes, table)
+    return [answer_of(path, data, refusal, "query")] if refusal else []
+
+
+def flips_fault(path: str, data: bytes, script: tuple[str, bytes], table: Table) -> list[Answer]:
+    """The first fault of a text of flips for a script and an image."""
+    answer = explain_flips(path, data, len(read_script(*script)[0]), table)
+    return [answer] if answer else []
+
+
+def long_guarded(path: str, data: bytes) -> list[Answer]:
+    """The first instruction that names an object of a name too long to be guarded."""
+    for number, one in enumerate(read_script(path, data)[0], 1):
+        token = next((token for token in one.names if len(token.text) > GUARDED_NAME_MAX), None)
+        if token:
+            return [at_token(path, data, token, f"guard name {number}", f"a guarded object has a name of at most {GUARDED_NAME_MAX} "
+                             "bytes, since its copies have a letter more", ())]
+    return []
+
+
+def stranger(table: Table) -> tuple[int, str] | None:
+    """The first object that does not continue a list of triples, and what should stand there."""
+    for k in range(0, len(table.objects), 3):
+        first, *copies = table.objects[k:k + 3]
+        if first.name[0] != "x" or len(first.name) < 2 or not (first.name[1].isalpha() or first.name[1] == "_"):
+            return k, "the first copy of a guarded object, whose name begins with x"
+        for place, letter in enumerate("yz", 1):
+            wanted = f"{letter}{first.name[1:]}, {first.count} elements of {first.width} bits"
+            if len(copies) < place:
+                return k + place, wanted
+            one = copies[place - 1]
+            if (one.name, one.width, one.count) != (letter + first.name[1:], first.width, first.count):
+                return k + place, wanted
+    return None
+
+
+def no_triples(path: str, table: Table) -> list[Answer]:
+    """Where an image's table is no list of triples."""
+    found = stranger(table)
+    if not found:
+        return []
+    k, wanted = found
+    stands = table.objects[k].name if k < len(table.objects) else "the table's end"
+    return [Answer(path, f"object {k}", f"guard table {k}", f"{stands} where {wanted} is expected",
+                   ("the table of a guarded image is a list of triples xNAME, yNAME, zNAME; `simdram init` makes one without objects",))]
+
+
+def printed(found: list[Answer], all_by: str) -> list[str]:
+    """The lines of the first answers, and how many more there are, with the words that print all."""
+    lines = [line for answer in found[:SHOWN_MAX] for line in answer.lines()]
+    more = len(found) - SHOWN_MAX
+    return lines + ([f"and {more} more{all_by}"] if more > 0 else [])

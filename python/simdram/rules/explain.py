@@ -1,0 +1,113 @@
+"""Prints the first fault of a file, where it is and what would be right.
+
+FILE is an operation text, a script, a query, a text of flips, a text of microprograms, a program file, an image or a trace. More can
+be said with further files: with PROG and IMAGE after a script, every instruction that is refused; with IMAGE after a query, why the
+scan is refused; with PROG and a width N after an operation text, what `verify` says of PROG's entries, and what to do. A text of flips
+needs SCRIPT and IMAGE. The status is 0 without a fault, else 1.
+"""
+
+from __future__ import annotations
+
+import argparse
+
+from ..files.program import Program
+from ..files.table import Table
+from ..launcher import run_program
+from ..launcher.commands import KINDS, Word
+from ..launcher.faults import Fault
+from ..launcher.settings import Settings
+from ..launcher.tool_parser import tool_parser
+from ..launcher.words import wrong_number
+from . import answers
+from .answer import Answer
+from .file_kinds import kind_of
+from .ops_rules import shapes_of
+from .verdict_answers import answers_on
+from .verdicts import VERIFIED, verdicts_of
+
+FOUND = 1
+# which kinds of files say something of a kind
+BESIDE = {"script": ("program", "image"), "query": ("image",), "flips": ("script", "image"), "ops": ("program",)}
+FORMS = {"script": "SCRIPT PROG IMAGE", "query": "QUERY IMAGE", "flips": "FLIPS SCRIPT IMAGE", "ops": "OPS PROG N"}
+
+
+def of_script(path: str, data: bytes, beside: dict, settings: Settings) -> list[Answer]:
+    """The refusals of a script on an image, by a program."""
+    prog, image = beside["program"], beside["image"]
+    entries = {entry.name: entry for entry in Program.read(prog[1], prog[0]).entries}
+    return answers.script_refusals(path, data, Table.read(image[1], image[0]), entries, answers.stuck_by_cost(prog[0], settings),
+                                   prog=prog[0])
+
+
+def check_beside(path: str, kind: str, beside: dict, width: int) -> None:
+    """Refuses files that say nothing beside this one, and a script's program or an operation text's without what else they need."""
+    for other, (name, _) in beside.items():
+        if other not in BESIDE.get(kind, ()):
+            raise Fault(f"{name} is {KINDS[other]}, which tells nothing about {path}, {KINDS[kind]}; usage: explain {FORMS.get(kind, 'FILE')}")
+    if kind == "script" and len(beside) == 1:
+        raise Fault(f"{path} is a script: name both a program file and an image to see its refusals")
+    if (kind == "ops" and bool(beside)) != bool(width):
+        raise Fault(f"{path} is {KINDS[kind]}: name a program file and a width, 1 to 128, after an operation text to see the verdicts of verify")
+
+
+def of_ops(path: str, data: bytes, beside: dict, width: int, settings: Settings) -> list[Answer]:
+    """What the verdicts of `verify` mean that are not `right`."""
+    prog, file = beside["program"]
+    program = Program.read(file, prog)
+    ended = run_program.run(["verify", path, prog, width], settings=settings)
+    if ended.status not in VERIFIED:
+        raise Fault(f"verify ends with status {ended.status}: {''.join(ended.out.splitlines()[-1:])}")
+    return answers_on(verdicts_of(ended.out), shapes_of(path, data), program, prog, width)
+
+
+def of_flips(path: str, data: bytes, beside: dict) -> list[Answer]:
+    """The fault of a text of flips."""
+    if not {"script", "image"} <= beside.keys():
+        raise Fault(f"{path} is a text of flips: name the script and the image too, which limit its numbers")
+    return answers.flips_fault(path, data, beside["script"], Table.read(beside["image"][1], beside["image"][0]))
+
+
+def found_in(path: str, beside: dict, width: int, settings: Settings) -> list[Answer]:
+    """What is wrong with a file, beside others; a width is 0 where none is named."""
+    kind, data = kind_of(path)
+    check_beside(path, kind, beside, width)
+    if kind == "flips":
+        return of_flips(path, data, beside)
+    fault = answers.first_fault(kind, path, data)
+    if fault:
+        return [fault]
+    if kind == "script" and {"program", "image"} <= beside.keys():
+        return of_script(path, data, beside, settings)
+    if kind == "ops" and beside:
+        return of_ops(path, data, beside, width, settings)
+    if kind == "query" and "image" in beside:
+        return answers.query_refusals(path, data, Table.read(beside["image"][1], beside["image"][0]))
+    return []
+
+
+def parser() -> argparse.ArgumentParser:
+    made = tool_parser("explain", __name__)
+    made.add_argument("file", metavar="FILE")
+    made.add_argument("beside", metavar="BESIDE", nargs="*", default=[])
+    return made
+
+
+def width_of(words: list[str]) -> int:
+    """The width that stands last, which is taken out, or 0 where none does."""
+    if not words or not words[-1].isdigit():
+        return 0
+    wrong = wrong_number(Word("N", "width"), words[-1])
+    if wrong:
+        raise Fault(wrong)
+    return int(words.pop())
+
+
+def main(words: list[str], settings: Settings) -> int:
+    asked = parser().parse_args(words)
+    width, beside = width_of(asked.beside), {}
+    for path in asked.beside:
+        kind, data = kind_of(path)
+        beside[kind] = (path, data)
+    found = found_in(asked.file, beside, width, settings)
+    print("\n".join(line for answer in found for line in answer.lines()) if found else f"{asked.file}: no fault")
+    return FOUND if found else 0

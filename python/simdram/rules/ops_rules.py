@@ -1,0 +1,430 @@
+"""Where an operation text breaks a rule of docs/LANGUAGE.md first, and what would be right there."""
+
+from __future__ import annotations
+
+from ..launcher.faults import Fault
+from ..launcher.words import nearest
+from . import word_ops
+from .answer import Answer, at_token
+from .op_shapes import OpShape, Statement
+from .op_tree import Expr, Op, gate, read
+from .ops_scope import Scope
+from .tokens import END, NAME, NAME_MAX, STRANGER, Token, is_long, no_token, tokens
+
+RESERVED = ("op", "word", "bit", "serial", "up", "down", "let")
+OPS, SOURCES, STATEMENTS, STATES, ASSIGNMENTS, LETS, WEIGHT, DEPTH = 32, 4, 16, 8, 8, 16, 24, 32
+OPERATORS = {"+": "add", "-": "sub", "*": "mul", "/": "div", "%": "rem", "&": "and", "|": "or", "^": "xor", "~": "not",
+             "!": "not", ">": "gt", "<": "gt"}
+VALUE = "`0`, `1`, a name, or a gate with its arguments"
+NO_NEST = ("expressions do not nest in word statements: give the inner one a name in a statement before, "
+           "such as `t = {}(..);`, and write the name here")
+
+
+class Breach(Exception):
+    """A token that breaks a rule: its kind, the rule in a sentence, what would be right."""
+
+    def __init__(self, token: Token, kind: str, rule: str, *right: str) -> None:
+        super().__init__(kind)
+        self.token, self.kind, self.rule, self.right = token, kind, rule, right
+
+
+def listed(names) -> str:
+    """Names with commas between them."""
+    return ", ".join(names) or "none"
+
+
+def near(word: str, known) -> str:
+    """The nearest names, as a part of a sentence."""
+    found = nearest(word, known)
+    return f"; did you mean {' or '.join(found)}?" if found else ""
+
+
+def spelled(token: Token) -> str:
+    return "the end of the text" if token.kind == END else f"`{token.text}`"
+
+
+class Reader:
+    """Reads a text token by token, as far as no rule is broken."""
+
+    def __init__(self, data: bytes) -> None:
+        self.tokens = tokens(data)
+        self.at = 0
+        self.ops: list[str] = []
+        self.scope = Scope()
+        self.shapes: list[OpShape] = []
+
+    # tokens
+
+    def next(self) -> Token:
+        return self.tokens[self.at]
+
+    def stray(self, token: Token) -> Breach:
+        """The fault of a byte that starts no token."""
+        operation = OPERATORS.get(token.text)
+        right = [f"there are no operator symbols; the operation is `{operation}(..)`"] if operation else []
+        if token.text == "<":
+            right = ["there are no operator symbols; a < b is `gt(b, a)`"]
+        return Breach(token, "lex", no_token(token), *right)
+
+    def take(self, wanted: str, *texts: str, name: bool = False) -> Token:
+        """The next token, where it is a name or one of these texts."""
+        token = self.next()
+        if token.kind == STRANGER:
+            raise self.stray(token)
+        if not (token.kind == NAME and name) and not (token.text in texts and token.kind != END):
+            raise self.unwanted(token, wanted)
+        self.at += 1
+        return token
+
+    def unwanted(self, token: Token, wanted: str) -> Breach:
+        """The fault of a token that the grammar does not allow."""
+        right = [f"allowed here: {wanted}"]
+        if token.text == "[":
+            right.append("widths are not in the text: an operation is for every width, and the instruction that calls it gives n")
+        if token.kind == "number" and "argument" in wanted:
+            right.append("arguments are names: a constant is `zero()` or `ones()`, or an object that a script fills")
+        if token.text == "(" and self.at and self.tokens[self.at - 1].text in word_ops.TAKES_GIVES and "argument" in wanted:
+            right.append(NO_NEST.format(self.tokens[self.at - 1].text))
+        return Breach(token, "syntax", f"the grammar does not allow {spelled(token)} here", *right)
+
+    # rules on names
+
+    def good_name(self, token: Token, what: str) -> str:
+        """A new name that is not reserved and not too long."""
+        if token.text in RESERVED:
+            raise Breach(token, "bad_name", f"{token.text} is a reserved word: {listed(RESERVED)}", f"give {what} another name")
+        if is_long(token.text):
+            raise Breach(token, "bad_name", f"a name has at most {NAME_MAX} bytes; this one has {len(token.text)}")
+        return token.text
+
+    def new_name(self, token: Token, what: str) -> str:
+        """A name that may not stand yet."""
+        name = self.good_name(token, what)
+        if name in self.scope.stands:
+            self.twice(token)
+        self.scope.stands.append(name)
+        return name
+
+    def twice(self, token: Token) -> None:
+        raise Breach(token, "twice", f"{token.text} is already defined in this op; a name is assigned once",
+                     f"defined names: {listed(self.scope.stands)}")
+
+    def too_many(self, token: Token, what: str) -> None:
+        raise Breach(token, "too_many", what)
+
+    # ops
+
+    def read(self) -> None:
+        """The whole text."""
+        while self.next().kind != END:
+            token = self.take("the word `op` of one more op", "op")
+            if len(self.ops) >= OPS:
+                self.too_many(token, f"a text has at most {OPS} ops")
+            self.op(token)
+
+    def op(self, first: Token) -> None:
+        token = self.take("the op's name", name=True)
+        name = self.good_name(token, "the op")
+        if name == "trsp_init":
+            raise Breach(token, "bad_name", "an op cannot be named trsp_init: bbop_trsp_init makes an object")
+        if name in self.ops:
+            raise Breach(token, "twice", f"an op {name} is already defined", f"defined ops: {listed(self.ops)}")
+        self.ops.append(name)
+        self.scope = Scope(name)
+        self.shapes.append(OpShape(name, first, results=self.scope.results, defined=self.scope.defined))
+        self.take("`(`", "(")
+        self.sources()
+        self.shapes[-1].sources = dict(self.scope.defined)
+        self.take("`->`", "->")
+        self.result()
+        if self.take("`,` and a second result, or `{`", ",", "{").text == ",":
+            self.result()
+            self.take("`{`", "{")
+        self.statements()
+
+    def kind(self) -> str:
+        self.take("`:`", ":")
+        return self.take("`word` or `bit`", "word", "bit").text
+
+    def sources(self) -> None:
+        more = ","
+        while more == ",":
+            token = self.take("a parameter's name", name=True)
+            name = self.good_name(token, "the parameter")
+            if name in self.scope.stands:
+                self.twice(token)
+            if len(self.scope.defined) >= SOURCES:
+                self.too_many(token, f"an op has at most {SOURCES} parameters")
+            self.scope.defined[name] = self.kind()
+            self.scope.stands.append(name)
+            more = self.take("`,` and one more parameter, or `)`", ",", ")").text
+
+    def result(self) -> None:
+        name = self.new_name(self.take("the result's name", name=True), "the result")
+        self.scope.results[name] = self.kind()
+
+    def statements(self) -> None:
+        wanted = "a statement, `name = operation(..);` or `serial up (..) { .. }`"
+        while True:
+            token = self.take(wanted, *(["}"] if self.scope.statements else []), name=True)
+            if token.text == "}":
+                self.shapes[-1].last = token
+                break
+            wanted = "one more statement, or `}`"
+            self.shapes[-1].statements.append(Statement(token))
+            self.statement(token)
+            self.shapes[-1].statements[-1].last = self.tokens[self.at - 1]
+        still = [name for name in self.scope.results if self.scope.is_open_result(name)]
+        if still:
+            raise Breach(token, "no_result", f"{listed(still)} of op {self.scope.name} is a result and was not assigned",
+                         f"assign it before this `}}`, as in `{still[0]} = copy(..);`")
+
+    def statement(self, token: Token) -> None:
+        if token.text == "serial":
+            self.count_statement(token)
+            self.block()
+            return
+        name = self.good_name(token, "the target")
+        if self.scope.is_taken_name(name):
+            self.twice(token)
+        self.count_statement(token)
+        self.word_statement(name)
+
+    def count_statement(self, token: Token) -> None:
+        if self.scope.statements >= STATEMENTS:
+            self.too_many(token, f"an op has at most {STATEMENTS} statements")
+        self.scope.statements += 1
+
+    # word statements
+
+    def word_statement(self, first: str) -> None:
+        targets = [first]
+        if self.take("`=`, or `,` and a second target", ",", "=").text == ",":
+            token = self.take("the second target's name", name=True)
+            name = self.good_name(token, "the second target")
+            if name == first or self.scope.is_taken_name(name):
+                self.twice(token)
+            targets.append(name)
+            self.take("`=`", "=")
+        operation = self.operation(targets)
+        self.take("`(`", "(")
+        given = self.arguments(operation)
+        self.shapes[-1].statements[-1].operation = operation
+        self.word_end(targets, word_ops.filled(operation, given))
+
+    def operation(self, targets: list[str]) -> str:
+        token = self.take("a word operation's name", name=True)
+        name = token.text
+        if name in RESERVED or is_long(name):
+            self.good_name(token, "the operation")
+        if name not in word_ops.TAKES_GIVES:
+            right = [f"the word operations: {listed(word_ops.TAKES_GIVES)}"]
+            sign = OPERATORS.get(self.next().text)
+            if sign and self.next().kind == STRANGER:
+                right.insert(0, f"there are no operator symbols: the statement is `{listed(targets)} = {sign}({name}, ..);`")
+            elif name in self.scope.defined:
+                right.insert(0, f"{name} is a name: a copy of it is `copy({name})`")
+            if name in word_ops.GATES:
+                right.insert(0, f"{name} is a gate of serial blocks")
+            raise Breach(token, "unknown", f"there is no word operation {name}{near(name, word_ops.TAKES_GIVES)}", *right)
+        gives = len(word_ops.TAKES_GIVES[name][1])
+        if len(targets) != gives:
+            raise Breach(token, "kind", f"{name} gives {gives} value{'s' * (gives > 1)}; the statement has {len(targets)} "
+                         f"target{'s' * (len(targets) > 1)}", word_ops.said(name))
+        return name
+
+    def arguments(self, operation: str) -> list[str]:
+        """The kinds of the arguments, with the parenthesis after them."""
+        given: list[str] = []
+        token = self.take("an argument's name, or `)`", ")", name=True)
+        while token.text != ")":
+            given.append(self.argument(operation, given, token))
+            token = self.take("`,` and one more argument, or `)`", ",", ")")
+            if token.text == ",":
+                if not word_ops.wants_more(operation, given):
+                    raise Breach(token, "kind", f"{operation} takes no further argument", word_ops.said(operation))
+                token = self.take("an argument's name", name=True)
+        if word_ops.filled(operation, given) is None:
+            raise Breach(token, "kind", f"{operation} has too few arguments: {len(given)}", word_ops.said(operation))
+        return given
+
+    def argument(self, operation: str, given: list[str], token: Token) -> str:
+        """The kind of an argument that stands."""
+        name = token.text
+        if name in RESERVED or is_long(name):
+            self.good_name(token, "the argument")
+        kind = self.scope.defined.get(name)
+        if kind is None:
+            raise self.unknown_argument(token)
+        if not word_ops.may_take(operation, given, kind):
+            other = "bit" if kind == "word" else "word"
+            wanted = f"a {other}" if word_ops.may_take(operation, given, other) else "no argument"
+            raise Breach(token, "kind", f"{name} is a {kind}; {operation} takes {wanted} here", word_ops.said(operation))
+        self.shapes[-1].statements[-1].args.append(name)
+        return kind
+
+    def unknown_argument(self, token: Token) -> Breach:
+        name, right = token.text, []
+        if self.next().text == "(" and name in word_ops.TAKES_GIVES:
+            right.append(NO_NEST.format(name))
+        elif self.scope.is_open_result(name):
+            right.append(f"{name} is a result that is not assigned yet")
+        right.append(f"defined names: {listed(self.scope.defined)}")
+        return Breach(token, "unknown", f"no name {name} is defined before this{near(name, self.scope.defined)}", *right)
+
+    def word_end(self, targets: list[str], gives: list[str]) -> None:
+        token = self.take("`;`", ";")
+        for name, kind in zip(targets, gives):
+            wanted = self.scope.results.get(name)
+            if wanted is not None and wanted != kind:
+                raise Breach(token, "kind", f"the result {name} is a {wanted}; the operation returns a {kind}",
+                             f"declare `{name}: {kind}`, or give the value another name")
+        self.shapes[-1].statements[-1].targets = targets
+        for name, kind in zip(targets, gives):
+            self.scope.stands.append(name)
+            self.scope.defined.setdefault(name, kind)
+
+    # serial blocks
+
+    def block(self) -> None:
+        self.shapes[-1].statements[-1].direction = self.take("`up` or `down`", "up", "down").text
+        self.take("`(`", "(")
+        token = self.take("a state, or `)`", ")", name=True)
+        while token.text != ")":
+            self.state(token)
+            if self.take("`,` and one more state, or `)`", ",", ")").text == ")":
+                break
+            token = self.take("a state's name", name=True)
+        self.take("`{`", "{")
+        token = self.take("`let`, or the target of an assignment", name=True)
+        while token.text == "let":
+            self.let(token)
+            token = self.take("`let`, or the target of an assignment", name=True)
+        while token.text != "}":
+            self.assignment(token)
+            token = self.take("the target of one more assignment, or `}`", "}", name=True)
+        self.shapes[-1].statements[-1].targets = [*self.scope.block.states, *self.scope.block.targets]
+        self.scope.end_block()
+
+    def state(self, token: Token) -> None:
+        name, block = self.good_name(token, "the state"), self.scope.block
+        if self.scope.is_taken_state(name):
+            self.twice(token)
+        if len(block.states) >= STATES:
+            self.too_many(token, f"a block has at most {STATES} states")
+        self.scope.stands.append(name)
+        block.states.append(name)
+        block.readable.append(name)
+        self.take("`=`", "=")
+        self.shapes[-1].statements[-1].starts[name] = self.take("`0` or `1`", "0", "1").text
+
+    def let(self, token: Token) -> None:
+        if self.scope.block.lets >= LETS:
+            self.too_many(token, f"a block has at most {LETS} lets")
+        self.scope.block.lets += 1
+        name = self.new_name(self.take("the let's name", name=True), "the let")
+        self.shapes[-1].statements[-1].lets[name] = self.right_side()
+        self.scope.block.readable.append(name)
+
+    def assignment(self, token: Token) -> None:
+        name, block = self.good_name(token, "the target"), self.scope.block
+        if self.scope.is_taken_target(name):
+            self.twice(token)
+        if self.scope.results.get(name) == "bit" and name not in block.states:
+            raise Breach(token, "kind", f"{name} is a bit result; a block can return a bit only as a state",
+                         f"make it a state of the block, `({name} = 0)`: after the block it is the result")
+        if len(block.targets) >= ASSIGNMENTS:
+            self.too_many(token, f"a block has at most {ASSIGNMENTS} assignments")
+        block.targets.append(name)
+        self.shapes[-1].statements[-1].assignments[name] = self.right_side()
+
+    def right_side(self) -> Expr:
+        """A value with the signs around it."""
+        self.take("`=`", "=")
+        found = self.value(0)
+        self.take("`;`", ";")
+        return found
+
+    def value(self, depth: int) -> Expr:
+        """A value inside so many gates."""
+        token = self.take(VALUE, "0", "1", name=True)
+        if token.kind != NAME:
+            return gate(token.text)
+        if token.text in RESERVED or is_long(token.text):
+            self.good_name(token, "the value")
+        if self.next().text == "(":
+            return self.gate(token, depth)
+        known = self.scope.readable()
+        if token.text not in known:
+            right = [f"defined names: {listed(known)}"]
+            if token.text in word_ops.GATES:
+                right.insert(0, f"{token.text} is a gate: `{token.text}(..)`")
+            raise Breach(token, "unknown", f"no name {token.text} is defined before this{near(token.text, known)}", *right)
+        return read(token.text)
+
+    def gate(self, token: Token, depth: int) -> Expr:
+        """A gate inside so many others."""
+        self.check_gate(token, depth)
+        self.take("`(`", "(")
+        name, args = token.text, [self.value(depth + 1)]
+        takes = word_ops.GATES[name]
+        while True:
+            after = self.take("`,` and one more argument, or `)`", ",", ")")
+            if after.text == ")":
+                break
+            if len(args) == takes:
+                raise Breach(after, "kind", f"{name} takes no further argument", f"{name} takes {takes}")
+            args.append(self.value(depth + 1))
+        if len(args) < takes:
+            raise Breach(after, "kind", f"{name} has too few arguments", f"{name} takes {takes}")
+        return gate(name, *args)
+
+    def check_gate(self, token: Token, depth: int) -> None:
+        """Refuses a name that is no gate, and one gate too many."""
+        name, block = token.text, self.scope.block
+        if name not in word_ops.GATES:
+            right = [f"the gates: {listed(word_ops.GATES)}"]
+            if name in word_ops.TAKES_GIVES:
+                right.insert(0, f"{name} is a word operation: it needs a statement of its own, outside of blocks")
+            raise Breach(token, "unknown", f"there is no gate {name}{near(name, word_ops.GATES)}", *right)
+        block.weight += word_ops.WEIGHTS[name]
+        if block.weight > WEIGHT:
+            self.too_many(token, f"the gates of a block weigh at most {WEIGHT}: and, or, maj 1 each, xor 3, not 0")
+        if depth >= DEPTH:
+            self.too_many(token, f"gates nest at most {DEPTH} deep")
+
+
+def read_ops(data: bytes) -> list[Op]:
+    """The ops of a text that the program accepts, as trees."""
+    reader = Reader(data)
+    reader.read()
+    return [shape.tree() for shape in reader.shapes]
+
+
+def shapes_of(path: str, data: bytes) -> list[OpShape]:
+    """What an operation text says of each op."""
+    reader = Reader(data)
+    try:
+        reader.read()
+    except Breach as breach:
+        answer = at_token(path, data, breach.token, breach.kind, breach.rule, breach.right)
+        raise Fault(f"{path} {answer.place}: {answer.kind}: {answer.rule}") from None
+    return reader.shapes
+
+
+def op_shape(path: str, data: bytes, name: str) -> OpShape:
+    """What an operation text says of an op."""
+    shapes = shapes_of(path, data)
+    found = next((shape for shape in shapes if shape.name == name), None)
+    if found is None:
+        raise Fault(f"{path} has no op {name}: it has {listed(shape.name for shape in shapes)}")
+    return found
+
+
+def explain_ops(path: str, data: bytes) -> Answer | None:
+    """The first fault of an operation text, or nothing where there is none."""
+    try:
+        Reader(data).read()
+    except Breach as breach:
+        return at_token(path, data, breach.token, breach.kind, breach.rule, breach.right)
+    return None

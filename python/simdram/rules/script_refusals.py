@@ -1,0 +1,208 @@
+"""Which instructions of a script are refused on a table of objects, why, and what would be right."""
+
+from __future__ import annotations
+
+import dataclasses
+import typing
+
+from ..assembler.one_width import one_width, other_width
+from ..assembler.text_lines import place_of
+from ..files.image import OBJECTS, SPILL_ROWS, Object
+from ..files.program import Entry
+from ..files.table import ROWS_MAX, Table
+from ..launcher.words import nearest
+from .script_rules import Instruction
+from .tokens import Token
+
+# of each entry and width, where its walk is stuck and why, or nothing
+Stuck = typing.Callable[[str, int], typing.Optional[str]]
+COPIES = "xyz"
+
+
+@dataclasses.dataclass(frozen=True)
+class Refusal:
+    """Why an instruction is refused: the report's words, the token, the rule, and what would be right."""
+
+    word: str
+    token: Token
+    rule: str
+    right: tuple[str, ...] = ()
+
+
+def near(word: str, known) -> str:
+    found = nearest(word, known)
+    return f"; did you mean {' or '.join(found)}?" if found else ""
+
+
+def no_object(table: Table, token: Token, place: int) -> Refusal:
+    names = [one.name for one in table.objects]
+    return Refusal(f"no_object {place}", token, f"no object has the name {token.text}{near(token.text, names)}",
+                   (f"objects: {', '.join(names) or 'none'}",))
+
+
+def no_rows(table: Table, token: Token, size: int, what: str) -> Refusal:
+    """The refusal for want of free rows in one piece."""
+    rows = table.rows_for(size)
+    right = (f"it would fit with {rows} rows per bank; this image has {table.rows}" if rows <= ROWS_MAX else
+             f"it would need {rows} rows per bank; an image has at most {ROWS_MAX}")
+    return Refusal("no_rows", token, f"{what} needs {size} adjacent rows, and the longest free piece has {table.longest()}; "
+                   f"the last {SPILL_ROWS} rows of a bank are reserved for spills", (right, "a `free` before, or objects of equal width, help too"))
+
+
+def with_own_name(refusal: Refusal, copies: tuple[Token, ...]) -> Refusal:
+    """A refusal on a copy at the name that the script has."""
+    token = refusal.token
+    return dataclasses.replace(refusal, token=token._replace(text=token.text[1:])) if token in copies else refusal
+
+
+class Checker:
+    """Goes through a script over a table, as the program does, by names, widths and rows alone."""
+
+    def __init__(self, table: Table, entries: dict[str, Entry], stuck: Stuck, prog: str = "") -> None:
+        self.table, self.entries, self.stuck, self.prog = table, entries, stuck, prog
+
+    def step(self, one: Instruction) -> Refusal | None:
+        """Does an instruction, or says why it is refused."""
+        return getattr(self, f"do_{one.verb}")(one)
+
+    def guarded(self, one: Instruction) -> Refusal | None:
+        """Does an instruction on the three copies of its objects, or on none."""
+        before = self.table
+        self.table = before.copy()
+        for letter in COPIES if one.verb != "order" else "":
+            names = tuple(token._replace(text=letter + token.text) for token in one.names)
+            refusal = self.step(dataclasses.replace(one, names=names))
+            if refusal:
+                self.table = before
+                return with_own_name(refusal, names)
+        return None
+
+    # objects
+
+    def do_order(self, _one: Instruction) -> Refusal | None:
+        return None
+
+    def do_bbop_trsp_init(self, one: Instruction) -> Refusal | None:
+        token, count, width, table = one.names[0], one.number(0), one.number(1), self.table
+        if table.find(token.text):
+            return Refusal("exists", token, f"an object {token.text} already exists", (f"`free {token.text}` before removes it",))
+        if len(table.objects) == OBJECTS:
+            return Refusal("table_full", token, f"the table has {OBJECTS} objects already", ("`free` one before",))
+        if count > table.room:
+            return Refusal("too_large", one.numbers[0], f"{count} elements; an object of this image has at most {table.room}: "
+                           f"64 columns for each of {table.words} words in {table.banks} banks")
+        base = table.least_free(width)
+        if base is None:
+            return no_rows(table, one.numbers[1], width, f"an object of {width} bits")
+        table.objects.append(Object(token.text, width, base, count))
+        return None
+
+    def do_free(self, one: Instruction) -> Refusal | None:
+        found = self.table.find(one.names[0].text)
+        if not found:
+            return no_object(self.table, one.names[0], 0)
+        self.table.objects.remove(found)
+        return None
+
+    def do_print(self, one: Instruction) -> Refusal | None:
+        return None if self.table.find(one.names[0].text) else no_object(self.table, one.names[0], 0)
+
+    def do_load(self, one: Instruction) -> Refusal | None:
+        found = self.table.find(one.names[0].text)
+        if not found:
+            return no_object(self.table, one.names[0], 0)
+        if len(one.numbers) != found.count:
+            return Refusal("count", one.names[0], f"{len(one.numbers)} values for the {found.count} elements of {found.name}",
+                           (f"`fill {found.name}, V` sets all of them to one value",))
+        return self.range_of(one, found)
+
+    def do_fill(self, one: Instruction) -> Refusal | None:
+        found = self.table.find(one.names[0].text)
+        return self.range_of(one, found) if found else no_object(self.table, one.names[0], 0)
+
+    def range_of(self, one: Instruction, found: Object) -> Refusal | None:
+        """The first value that an object does not hold."""
+        for k in range(len(one.numbers)):
+            if one.number(k) >= 2**found.width:
+                return Refusal(f"range {k + 1}", one.numbers[k], f"{found.name} has {found.width} bits, which hold 0 to "
+                               f"{2**found.width - 1}")
+        return None
+
+    # operations
+
+    def do_bbop(self, one: Instruction) -> Refusal | None:
+        entry = self.entries.get(one.op)
+        if entry is None:
+            return Refusal("no_op", one.head, f"the program has no entry {one.op}{near(one.op, self.entries)}",
+                           (f"its entries: {', '.join(self.entries) or 'none'}",))
+        return self.arity(one, entry) or self.operands(one, entry) or self.overlap(one, entry) or self.walk(one, entry)
+
+    def arity(self, one: Instruction, entry: Entry) -> Refusal | None:
+        wanted = len(entry.results) + len(entry.sources)
+        if len(one.names) == wanted:
+            return None
+        return Refusal("arity", one.head, f"{len(one.names)} names; {entry.name} has {len(entry.results)} result"
+                       f"{'s' * (len(entry.results) > 1)} and {len(entry.sources)} source{'s' * (len(entry.sources) > 1)}",
+                       (f"results come first: {form_of(entry)}",))
+
+    def operands(self, one: Instruction, entry: Entry) -> Refusal | None:
+        """The names, then their widths, then their counts."""
+        count, width = one.number(0), one.number(1)
+        found = []
+        for place, token in enumerate(one.names):
+            found.append(self.table.find(token.text))
+            if found[-1] is None:
+                return no_object(self.table, token, place)
+        for place, (token, kind) in enumerate(zip(one.names, (*entry.results, *entry.sources))):
+            wanted = width if kind == "word" else 1
+            if found[place].width != wanted:
+                what = f"a word of {width} bits" if kind == "word" else "a bit"
+                return Refusal(f"width {place}", token, f"{token.text} is {found[place].width} bits wide; {entry.name} expects "
+                               f"{what}", (form_of(entry),))
+        for place, token in enumerate(one.names):
+            if found[place].count != count:
+                return Refusal(f"size {place}", token, f"{token.text} has {found[place].count} elements; COUNT is {count}")
+        return None
+
+    def overlap(self, one: Instruction, entry: Entry) -> Refusal | None:
+        """A name that is a destination already."""
+        results = [token.text for token in one.names[:len(entry.results)]]
+        for place, token in enumerate(one.names[1:], 1):
+            if token.text in results[:place]:
+                what = "the first destination too" if place < len(results) else "a destination and a source"
+                return Refusal(f"overlap {place}", token, f"{token.text} is {what}, and a result is written before all sources are read",
+                               ("give the result an object of its own",))
+        return None
+
+    def walk(self, one: Instruction, entry: Entry) -> Refusal | None:
+        """A walk that is stuck, or rows of scratch that are not there."""
+        width = one.number(1)
+        stuck = self.stuck(entry.name, width)
+        other = other_width(entry, width)
+        if stuck and other:
+            return Refusal(f"bad_walk {stuck}", one.head, f"{other}, and N is {width}", (f"an object of {one_width(entry)} bits has that width",))
+        if stuck:
+            at = int(stuck.split()[0])
+            return Refusal(f"bad_walk {stuck}", one.head, f"the microprogram of {entry.name} is stuck at the width {width}, at instruction "
+                           f"{at}{place_of(self.prog, entry, at).rstrip(',')}", ("no compiled program is; `simdram list PROG` shows the instructions",))
+        size = entry.bits + width * entry.words
+        if self.table.least_free(size) is None:
+            return no_rows(self.table, one.head, size, f"the scratch of {entry.name} at the width {width}")
+        return None
+
+
+def form_of(entry: Entry) -> str:
+    """How a bbop of an entry is written, with the kinds of its names."""
+    names = [f"{letter}:{kind}" for letter, kind in zip("YZ", entry.results)]
+    names += [f"{letter}:{kind}" for letter, kind in zip("ABCD", entry.sources)]
+    return f"bbop_{entry.name} {', '.join(names)}, COUNT, N"
+
+
+def refused(instructions: list[Instruction], checker: Checker, is_guarded: bool = False) -> list[tuple[int, Refusal]]:
+    """The instructions that are refused, by their numbers from 1."""
+    found = []
+    for number, one in enumerate(instructions, 1):
+        refusal = checker.guarded(one) if is_guarded else checker.step(one)
+        if refusal:
+            found.append((number, refusal))
+    return found

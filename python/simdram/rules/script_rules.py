@@ -1,0 +1,187 @@
+"""Scripts: their instructions, and the first line that breaks a rule of docs/FORMATS.md."""
+
+from __future__ import annotations
+
+import dataclasses
+import typing
+
+from ..launcher.words import nearest
+from .answer import Answer, at_token
+from .tokens import END, NAME, NAME_MAX, NUMBER, STRANGER, Token, is_long, no_token, tokens, value_of
+
+FORMS = {
+    "bbop_trsp_init": "bbop_trsp_init NAME, COUNT, N",
+    "bbop": "bbop_OP NAME, NAME, .., COUNT, N",
+    "load": "load NAME, V, ..",
+    "fill": "fill NAME, V",
+    "print": "print NAME",
+    "free": "free NAME",
+    "order": "order in, order turns or order seed K",
+}
+# of each verb how many names and how many numbers it takes, from the least to the greatest
+SHAPES = {"bbop_trsp_init": (1, 1, 2, 2), "bbop": (2, 6, 2, 2), "load": (1, 1, 1, None), "fill": (1, 1, 1, 1),
+          "print": (1, 1, 0, 0), "free": (1, 1, 0, 0)}
+COUNT_MAX, WIDTH_MAX, VALUE_MAX, SEED_MAX = 2**32 - 1, 128, 2**128 - 1, 2**64 - 1
+ALL_FORMS = "forms: " + "; ".join(FORMS.values())
+
+
+class Breach(Exception):
+    """A token of a line that breaks a rule."""
+
+    def __init__(self, token: Token, kind: str, rule: str, *right: str) -> None:
+        super().__init__(kind)
+        self.token, self.kind, self.rule, self.right = token, kind, rule, right
+
+
+@dataclasses.dataclass(frozen=True)
+class Instruction:
+    """An instruction: its verb, its first token, its names and its numbers with their places."""
+
+    verb: str
+    head: Token
+    names: tuple[Token, ...] = ()
+    numbers: tuple[Token, ...] = ()
+
+    @property
+    def op(self) -> str:
+        """The operation of a bbop."""
+        return self.head.text[len("bbop_"):]
+
+    def number(self, k: int) -> int:
+        return value_of(self.numbers[k].text)
+
+
+def verb_of(head: Token) -> str:
+    """What the first name of a line says that it is."""
+    text = head.text
+    if text in FORMS and text != "bbop":
+        return text
+    if text.startswith("bbop_"):
+        return "bbop"
+    near = nearest(text, [*FORMS, f"bbop_{text}"])
+    raise Breach(head, "syntax", f"no instruction begins with {text}", f"did you mean {' or '.join(near)}?" if near else ALL_FORMS,
+                 f"an operation is run by bbop_ and its name, such as bbop_{text} Y, A, B, COUNT, N")
+
+
+def operands(verb: str, words: list[Token]) -> tuple[list[Token], list[Token]]:
+    """The names and then the numbers, with commas between them."""
+    names: list[Token] = []
+    numbers: list[Token] = []
+    form = f"form: {FORMS[verb]}"
+    for k, token in enumerate(words):
+        if token.kind == END:
+            if k and k % 2 == 0:
+                raise Breach(token, "syntax", "the line ends after a comma", form)
+        elif k % 2:
+            if token.text != ",":
+                before = words[k - 1]
+                is_digits = before.kind == NUMBER and token.kind == NAME and token.at == before.at + len(before.text)
+                decimal = [f"numbers are written in decimal digits, and `{before.text}{token.text}` is none"] if is_digits else []
+                raise Breach(token, "syntax", f"`{token.text}` where a comma or the end of the line is expected", *decimal, form)
+        elif token.kind == NAME and not numbers:
+            names.append(token)
+        elif token.kind == NUMBER:
+            numbers.append(token)
+        else:
+            what = "a name after a number" if token.kind == NAME else f"`{token.text}` where a name or a number is expected"
+            raise Breach(token, "syntax", what, form)
+    return names, numbers
+
+
+def check_shape(verb: str, names: list[Token], numbers: list[Token], end: Token) -> None:
+    """Whether there are as many names and numbers as the form has."""
+    least, most, fewest, greatest = SHAPES[verb]
+    form = f"form: {FORMS[verb]}"
+    if len(names) > most:
+        raise Breach(names[most], "syntax", f"one name too many: {verb} takes {most}", form)
+    if len(names) < least:
+        raise Breach((numbers or [end])[0], "syntax", f"{len(names) or 'no'} name{'s' * (len(names) != 1)} where {least} "
+                     f"{'is' if least == 1 else 'are'} expected", form)
+    if greatest is not None and len(numbers) > greatest:
+        raise Breach(numbers[greatest], "syntax", f"one number too many: {verb} takes {greatest}", form)
+    if len(numbers) < fewest:
+        raise Breach(end, "syntax", f"{len(numbers) or 'no'} number{'s' * (len(numbers) != 1)} where {fewest} "
+                     f"{'is' if fewest == 1 else 'are'} expected", form)
+
+
+def check_names(one: Instruction) -> None:
+    """Whether the names are short enough, and the operation's name is one."""
+    if one.verb == "bbop" and (not one.op or one.op[0].isdigit() or is_long(one.op)):
+        raise Breach(one.head, "bad_name", f"bbop_ is followed by the name of an operation, of 1 to {NAME_MAX} bytes")
+    for token in one.names:
+        if is_long(token.text):
+            raise Breach(token, "bad_name", f"a name has at most {NAME_MAX} bytes; this one has {len(token.text)}")
+
+
+def check_range(token: Token, least: int, most: int, what: str) -> None:
+    if not least <= value_of(token.text) <= most:
+        raise Breach(token, "bad_number", f"{what} is {least} to {most}")
+
+
+def check_numbers(one: Instruction) -> None:
+    """Whether each number is one that may stand there."""
+    if one.verb in ("bbop", "bbop_trsp_init"):
+        check_range(one.numbers[0], 1, COUNT_MAX, "COUNT, the number of elements,")
+        check_range(one.numbers[1], 1, WIDTH_MAX, "N, the width,")
+    elif one.verb in ("load", "fill"):
+        for token in one.numbers:
+            check_range(token, 0, VALUE_MAX, "a value")
+
+
+def order_of(head: Token, words: list[Token]) -> Instruction:
+    """The instruction `order`."""
+    texts = [token.text for token in words[:-1]]
+    if texts in (["in"], ["turns"]):
+        return Instruction("order", head)
+    if len(texts) == 2 and texts[0] == "seed" and words[1].kind == NUMBER:
+        check_range(words[1], 0, SEED_MAX, "a seed")
+        return Instruction("order", head, (), (words[1],))
+    known = texts[:1] in (["in"], ["turns"], ["seed"])
+    raise Breach(words[1] if known else words[0], "syntax", "there is no such order", f"form: {FORMS['order']}")
+
+
+def instruction_of(line: list[Token]) -> Instruction | None:
+    """What a line says: an instruction, or nothing where it has no token."""
+    if line[-1].kind == STRANGER:
+        raise Breach(line[-1], "lex", no_token(line[-1]),
+                     *(["numbers are at least 0"] if line[-1].text == "-" else []))
+    head, words = line[0], line[1:]
+    if head.kind == END:
+        return None
+    if head.kind != NAME:
+        raise Breach(head, "syntax", "a line begins with an instruction's name", ALL_FORMS)
+    if head.text == "order":
+        return order_of(head, words)
+    verb = verb_of(head)
+    names, numbers = operands(verb, words)
+    check_shape(verb, names, numbers, line[-1])
+    one = Instruction(verb, head, tuple(names), tuple(numbers))
+    check_names(one)
+    check_numbers(one)
+    return one
+
+
+def lines_of(data: bytes) -> typing.Iterator[list[Token]]:
+    """The tokens of each line, with their places in the whole text."""
+    start = 0
+    for text in data.split(b"\n"):
+        yield [token._replace(at=token.at + start) for token in tokens(text)]
+        start += len(text) + 1
+
+
+def read_script(path: str, data: bytes) -> tuple[list[Instruction], Answer | None]:
+    """The instructions of a script up to the first line that breaks a rule, and that fault."""
+    found: list[Instruction] = []
+    for line in lines_of(data):
+        try:
+            one = instruction_of(line)
+        except Breach as breach:
+            return found, at_place(path, data, line, breach)
+        if one is not None:
+            found.append(one)
+    return found, None
+
+
+def at_place(path: str, data: bytes, line: list[Token], breach: Breach) -> Answer:
+    """The answer on a line; at its end, on the byte before its newline."""
+    return at_token(path, data, breach.token, breach.kind, breach.rule, breach.right)

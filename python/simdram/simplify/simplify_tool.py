@@ -1,0 +1,92 @@
+"""Writes an operation text that does the same for fewer row commands.
+
+OPS is an operation text, and NEW another file: it gets the ops of OPS with the same parameters, results and meaning, none of
+them dearer at a width that is asked for. Without NEW the text is printed, and what is said of the ops goes to standard error.
+A line for each op has its commands and scratch rows before and after, and the widths at which the program's `verify` found
+both texts equal for all inputs; each new text is compared at the widths 1 to 4 too. Other widths are not compared. An op that
+gains nothing stays as it is, byte for byte; one that changes loses the comments inside it. Where an op is not known to be
+equal at a width, it stays, or with --unvalidated it is taken, and a comment says so. If one is wrong, this tool has a fault:
+the op stays, both texts are shown, and the status is 1. The time is in processor seconds, so that a busy machine finds what an
+idle one does; if it is over, the best text so far is taken. What statements
+cost is kept in ~/.cache/simdram, or in the folder that SIMDRAM_CACHE names, for later calls.
+"""
+
+from __future__ import annotations
+
+import argparse
+import os
+import sys
+
+from ..files.store import load
+from ..launcher import run_program
+from ..launcher.faults import Fault
+from ..launcher.overwrite import check, write
+from ..launcher.settings import Settings
+from ..launcher.tool_parser import tool_parser
+from ..launcher.widths import widths_of
+from ..rules import answers
+from .outcome import WRONG, Outcome, new_text
+from .simplifier import SECONDS, Options, Simplifier
+
+FAULTY = 1
+
+
+def parser() -> argparse.ArgumentParser:
+    made = tool_parser("simplify", __name__)
+    made.add_argument("ops", metavar="OPS")
+    made.add_argument("new", metavar="NEW", nargs="?")
+    made.add_argument("--widths", default="4,8,16,32", metavar="N,N,..", help="where no op is dearer, and is compared")
+    made.add_argument("--seconds", type=float, default=SECONDS, metavar="S",
+                      help="in how many processor seconds all ops are done, this tool's and its calls' together; 40 unless given")
+    made.add_argument("--rows", action="store_true", help="take no text of more scratch rows")
+    made.add_argument("--unvalidated", action="store_true", help="take texts that are not known to be equal, with a comment")
+    return made
+
+
+def check_words(asked: argparse.Namespace, settings: Settings) -> None:
+    """Refuses times that are none, and a NEW that is OPS or another kind of file."""
+    if not 0 < asked.seconds <= 86400:
+        raise Fault("--seconds is above 0, and at most 86400")
+    if asked.new and not os.path.isdir(os.path.dirname(asked.new) or "."):
+        raise Fault(f"{asked.new}: there is no folder of this name")
+    if asked.new and os.path.exists(asked.new):
+        if os.path.exists(asked.ops) and os.path.samefile(asked.ops, asked.new):
+            raise Fault(f"{asked.new} is OPS itself; NEW is another file")
+        check(asked.new, "ops", settings)
+
+
+def fault_of(path: str, data: bytes, settings: Settings) -> int:
+    """Says the fault of a text as the program tells it, and what would be right; the status, or 0 without a fault."""
+    ended = run_program.run(["show", path], settings=settings)
+    if ended.status:
+        found = answers.first_fault("ops", path, data)
+        sys.stderr.write("".join(f"{line}\n" for line in [*ended.out.splitlines(), *(found.lines() if found else [])]))
+    return ended.status
+
+
+def show_wrong(one: Outcome, before: bytes) -> None:
+    """Both texts of an op that a fault of this tool made differ."""
+    print(f"as it was:\n{before.decode('utf-8', 'replace')}\nas it was simplified:\n{one.simpler.text}", end="", file=sys.stderr)
+
+
+def main(words: list[str], settings: Settings) -> int:
+    asked = parser().parse_intermixed_args(words)
+    options = Options(tuple(widths_of(asked.widths)), asked.seconds, asked.rows, asked.unvalidated)
+    check_words(asked, settings)
+    simplifier = Simplifier(run_program.program(settings), options)
+    data = load(asked.ops, "ops")
+    status = fault_of(asked.ops, data, settings)
+    if status:
+        return status
+    outcomes = simplifier.outcomes(data, "simplify")
+    text = new_text(data, outcomes)
+    if asked.new:
+        write(asked.new, text, "ops", settings)
+    else:
+        sys.stdout.write(text.decode("utf-8", "replace"))
+    for one in outcomes:
+        before = data[one.op.start:one.op.end]
+        print(one.line(before), file=sys.stdout if asked.new else sys.stderr)
+        if one.kind == WRONG:
+            show_wrong(one, before)
+    return FAULTY if any(one.kind == WRONG for one in outcomes) else 0

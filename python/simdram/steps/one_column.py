@@ -1,0 +1,148 @@
+"""One column of a chip while a microprogram is executed: the bit of each cell and row, from numbers for the operands."""
+
+from __future__ import annotations
+
+import re
+import typing
+
+from ..assembler.walks import Place, Registers
+from ..files.decode import CELLS, RAISED
+from ..files.program import (AAP, AP, B_ADDRESS, BIT, C_ADDRESS, DONE, RESULT, SOURCE, SPILL, SPILLS, WORD, Entry,
+                             Instruction, Row)
+from ..launcher.faults import Fault
+from .positions import pieces
+
+Bit = typing.Optional[int]
+ROW = re.compile(r"([yz](?!\d)|[twp](?=\d))(\d*)(?:\[(\d+)\])?")
+MOST_INSTRUCTIONS = 1_000_000
+
+
+class Moment(typing.NamedTuple):
+    """After a row command: its place in the code, the cells' bits, the places of the command's data rows and their bits, and how
+    many instructions were executed before it."""
+
+    at: int
+    cells: typing.Tuple[Bit, ...]
+    places: typing.Tuple[Place, ...]
+    rows: typing.Tuple[Bit, ...]
+    when: int
+
+
+class Column:
+    """The cells and rows of a column, and the places of the instructions that were executed. A bit that nothing has set is
+    None; but where it is said which cells and rows hold 1 at the start, the others hold 0."""
+
+    def __init__(self, entry: Entry, width: int, numbers: typing.Sequence[int], ones: typing.Collection[str] | None = None) -> None:
+        self.entry, self.width = entry, width
+        self.unset: Bit = None if ones is None else 0
+        self.cells: typing.Dict[str, Bit] = dict.fromkeys(CELLS, self.unset)
+        self.rows: typing.Dict[Place, Bit] = {}
+        for name in ones or ():
+            self.hold(name)
+        self.registers = Registers(width)
+        self.path: typing.List[int] = []
+        # where each part begins, and what the registers held each time that it did: how many instructions before, and these
+        self.firsts = {first: [] for first, _ in pieces(entry.code)}
+        for which, number in enumerate(numbers):
+            self.rows.update(((SOURCE, which, k), number >> k & 1) for k in range(width))
+
+    def hold(self, name: str) -> None:
+        """A cell or a row, named as verdicts name it, holds 1 at the start."""
+        if name in self.cells:
+            self.cells[name] = 1
+            return
+        self.rows[place_of(name, self.entry, self.width)] = 1
+
+    def sensed(self, row: Row) -> Bit:
+        """What an activation senses, and leaves in the cells that it opens."""
+        if row.space == C_ADDRESS:
+            return row.which
+        if row.space != B_ADDRESS:
+            return self.rows.get(self.registers.place(row), self.unset)
+        bits = [inverted(self.cells[cell], turned) for cell, turned in RAISED[row.which]]
+        value = bits[0] if len(bits) == 1 else majority(bits)
+        self.settle(row, value)
+        return value
+
+    def settle(self, row: Row, value: Bit) -> None:
+        """Gives a bit to the cells of a row."""
+        if row.space != B_ADDRESS:
+            self.rows[self.registers.place(row)] = value
+            return
+        for cell, turned in RAISED[row.which]:
+            self.cells[cell] = inverted(value, turned)
+
+    def command(self, one: Instruction) -> typing.Tuple[typing.Tuple[Place, ...], typing.Tuple[Bit, ...]]:
+        """Executes a row command: the places of its data rows, and their bits after it."""
+        value = self.sensed(one.rows[0])
+        if one.kind == AAP:
+            self.settle(one.rows[1], value)
+        places = tuple(self.registers.place(row) for row in one.rows if row.is_data)
+        return places, tuple(self.rows.get(place, self.unset) for place in places)
+
+    def run(self) -> typing.Iterator[Moment]:
+        """Executes the code, and gives what stands after each row command."""
+        at = 0
+        while self.entry.code[at].kind != DONE:
+            one = self.entry.code[at]
+            if at in self.firsts:
+                self.firsts[at].append((len(self.path), tuple(self.registers.held)))
+            self.path.append(at)
+            if len(self.path) == MOST_INSTRUCTIONS:
+                raise Fault(f"{self.entry.name} executes over {MOST_INSTRUCTIONS:,} instructions at the width {self.width}")
+            if one.kind in (AAP, AP):
+                places, bits = self.command(one)
+                yield Moment(at, tuple(self.cells.values()), places, bits, len(self.path) - 1)
+            at = self.registers.next(at, one)
+
+    def result(self, which: int) -> str:
+        """The number of a result, or its bits from the top where some bit was never set."""
+        count = self.width if self.entry.results[which] == "word" else 1
+        bits = [self.rows.get((RESULT, which, k), self.unset) for k in range(count)]
+        if None in bits:
+            return "".join("?" if bit is None else str(bit) for bit in reversed(bits))
+        return str(sum(bit << k for k, bit in enumerate(bits)))
+
+
+def place_of(name: str, entry: Entry, width: int) -> Place:
+    """The place of a row that is named as a listing names it, with its position: `y[3]`, `t0`, `w0[3]`, `p4`."""
+    match = ROW.fullmatch(name)
+    letter, number, index = (match[1], int(match[2] or 0), int(match[3] or 0)) if match else ("", 0, 0)
+    space, which = {"y": (RESULT, 0), "z": (RESULT, 1)}.get(letter) or (dict(t=BIT, w=WORD, p=SPILL).get(letter, SOURCE), number)
+    counts = {RESULT: len(entry.results), BIT: entry.bits, WORD: entry.words, SPILL: SPILLS}
+    positions = {RESULT: width if entry.results[which:which + 1] == ("word",) else 1, WORD: width}
+    if which >= counts.get(space, 0) or index >= positions.get(space, 1):
+        raise Fault(f"{name} is no cell and no row of {entry.name} at the width {width} that may hold 1 at the start: these are "
+                    f"{', '.join(CELLS)}, and y[0], z[0], t0, w0[0], p0 and on, as `list` names them")
+    return space, which, index
+
+
+def inverted(bit: Bit, is_inverted: bool) -> Bit:
+    """A bit, or its complement."""
+    return bit if bit is None or not is_inverted else 1 - bit
+
+
+def majority(bits: typing.Sequence[Bit]) -> Bit:
+    """The majority of three bits, where two that are known decide it."""
+    return next((bit for bit in (0, 1) if bits.count(bit) >= 2), None)
+
+
+def numbers_of(text: str, names: typing.Sequence[str], kinds: typing.Sequence[str], width: int | None) -> tuple[list[int], int]:
+    """The numbers of `a=3,b=5` in the order of the operands, and the width: the one given, or the first of 8, 16, .. that
+    holds them."""
+    given: dict[str, int] = {}
+    for part in text.split(","):
+        name, equals, number = part.strip().partition("=")
+        if name not in names or name in given or not equals or not number.isascii() or not number.isdigit():
+            raise Fault(f"--with takes {','.join(f'{one}=NUMBER' for one in names)}, and not {part.strip() or text}")
+        given[name] = int(number)
+    missing = [name for name in names if name not in given]
+    if missing:
+        raise Fault(f"--with gives no number for {', '.join(missing)}")
+    chosen = width or next((one for one in (8, 16, 32, 64, 128) if max(given.values()) < 1 << one), 128)
+    for name, kind in zip(names, kinds):
+        bits = chosen if kind == "word" else 1
+        if given[name] >= 1 << bits:
+            raise Fault(f"--with {name}={given[name]}: {'a bit' if kind == 'bit' else f'{bits} bits'} "
+                        f"hold{'s' if kind == 'bit' else ''} 0 to {(1 << bits) - 1}")
+    return [given[name] for name in names], chosen
