@@ -67,6 +67,7 @@ returns-clause-compiled c =
     }
 
 pub returns-clause-graphs : goal.returns-clause-graphs
+unfolding returns-clause-compiled
 returns-clause-graphs c =
     let l = c.in_ok-lowered.lowered in
     let m = l.names in
