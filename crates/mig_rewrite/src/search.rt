@@ -58,26 +58,24 @@ impl Search {
     fn new(alloc: Global) -> Result<Search, NoMemory> {
         Ok(Search {
             pool: Pool::new(alloc)?,
-            replacer: Replacer::new(alloc),
+            replacer: Replacer::new(),
             seed: 0,
         })
     }
 
     /// The graph with a drawn node replaced, if it has at most so many nodes and the same outputs.
-    fn step(&mut self, at: &Sketch, tables: &Tables, most: u8) -> Result<Option<Sketch>, NoMemory> {
-        let Some(drawn) = self.replacer.drawn(at, tables)? else {
-            return Ok(None);
-        };
+    fn step(&mut self, at: &Sketch, tables: &Tables, most: u8) -> Option<Sketch> {
+        let drawn = self.replacer.drawn(at, tables)?;
         if drawn.form.stands_at(at, drawn.node) {
-            return Ok(None);
+            return None;
         }
-        let other = at.replaced(&at.base(drawn.node), &drawn.form);
+        let other = at.replaced(&at.base(drawn.node, drawn.above), &drawn.form);
         let is_right = at.inputs <= tables::MOST_INPUTS || agree(at, &other);
-        Ok(if other.count <= most && is_right {
+        if other.count <= most && is_right {
             Some(other)
         } else {
             None
-        })
+        }
     }
 
     /// Goes from a graph by drawn replacements, and offers each graph on the way.
@@ -94,7 +92,7 @@ impl Search {
                 break;
             }
             let most = u8::max(at.count, least.saturating_add(SLACK));
-            if let Some(other) = self.step(&at, &tables, u8::min(most, MOST_NODES - 1))? {
+            if let Some(other) = self.step(&at, &tables, u8::min(most, MOST_NODES - 1)) {
                 at = other;
                 complete(&mut tables, &at);
                 least = u8::min(least, at.count);
