@@ -1,14 +1,17 @@
 #!/usr/bin/env python3
-"""Processor time and peak memory of `verify`, for each word operation, or all widths one after another.
+"""Processor time and peak memory of `verify`, for each word operation, all widths one after another, or hostile programs.
 
     python3 bench/verify.py [--only NAME,..] [--seconds S] [--repeat K] [--program PATH]
     python3 bench/verify.py --all [--only NAME,..] [--seconds S] [--program PATH]
+    python3 bench/verify.py --hostile [--seconds S] [--repeat K] [--program PATH]
 
 Run it at the top of the repository. The first form verifies the compiler's entry of each operation, one call for each, and
 prints a table: milliseconds, the least of K calls, and peak memory. A call is stopped after S seconds of processor time. The
 second verifies the 22 programs of examples/fewest at every width from 1 to 128, each by a call of its own, and prints up to
 which width each is right. The status is 1 where a verdict is another than `right`; those of products, quotients and counts of
-ones may be unknown, or not come in time, from some width on.
+ones may be unknown, or not come in time, from some width on. The third verifies programs that are made to be slow, or are plainly
+wrong: one whose diagrams ask |f| times |g| questions without a node for an answer, and programs for products and quotients that
+copy a row. The status is 1 where one is not right, unknown or wrong as it should be, or not in time.
 """
 
 import os
@@ -26,7 +29,7 @@ sys.path.append(str(TOP / "python"))
 import program  # noqa: E402
 from commands import op  # noqa: E402
 from simdram.assembler import assemble  # noqa: E402
-from simdram.rules.verdicts import RIGHT, UNKNOWN, verdicts_of  # noqa: E402
+from simdram.rules.verdicts import RIGHT, UNKNOWN, WRONG, verdicts_of  # noqa: E402
 from word_ops import word_ops  # noqa: E402
 
 FEWEST = TOP / "examples" / "fewest"
@@ -37,6 +40,57 @@ STEEP = {"mul": (8, 10, 12), "div": (8, 10), "rem": (8, 10), "divmod": (8, 10)}
 LARGE = (*STEEP, "bitcount")
 ROW = "| {:9} | {:>4} | {:>8} | {:>7} | {:7} |"
 LATE = "late"
+
+# f and p31, and g and not p31, where f and g are sums of products of 2^K nodes; their product is 0
+SLOW = """
+program slow(a: word) -> y: word
+scratch f: bit, g: bit, w: word
+  AAP C0 f
+  AAP C0 g
+  SETI r0 0
+  SETI r1 1
+  SETN r2
+pairs:
+  AAP y[r0] T0
+  AAP w[r0] T1
+  AAP C0 T2
+  AP {T0, T1, T2}
+  AAP f T0
+  AAP C1 T2
+  AAP {T0, T1, T2} f
+  AAP y[r1] T0
+  AAP w[r1] T1
+  AAP C0 T2
+  AP {T0, T1, T2}
+  AAP g T0
+  AAP C1 T2
+  AAP {T0, T1, T2} g
+  ADDI r0 2
+  ADDI r1 2
+  SUBI r2 2
+  BNEZ r2 pairs
+  AAP f T0
+  AAP p31 T1
+  AAP C0 T2
+  AAP {T0, T1, T2} f
+  AAP g T0
+  AAP p31 ~DCC0
+  AAP DCC0 T1
+  AAP C0 T2
+  AAP {T0, T1, T2} g
+  AAP f T0
+  AAP g T1
+  AAP C0 T2
+  AP {T0, T1, T2}
+  for i in 0..n {
+    AAP a[i] ~DCC0
+    AAP DCC0 y[i]
+  }
+"""
+SLOW_WIDTHS = (18, 20, 22, 24, 26, 34, 48, 64, 96, 128)
+# a name, a body for each bit, and the operations of which it is no program
+COPIES = (("zeros", "AAP C0 y[i]", ("mul", "div")), ("copy", "AAP a[i] y[i]", ("mul", "div")))
+COPY_WIDTHS = (16, 32, 128)
 
 
 class Calls:
@@ -107,16 +161,46 @@ def every_width(calls, only):
     return wrong
 
 
+def hostile_row(calls, name, n, repeat, verdicts):
+    """Prints the row of what is verified; whether the verdict is none of these."""
+    found = [calls.verify(n)]
+    while len(found) < repeat and found[0][0] != LATE:
+        found.append(calls.verify(n))
+    kind, seconds, memory = min(found, key=lambda one: one[1])
+    print(ROW.format(name, n, round(1000 * seconds), round(memory / 1e6), kind), flush=True)
+    return kind not in verdicts
+
+
+def hostile(calls, repeat):
+    """Prints the table of hostile programs; how many verdicts are not what they should be."""
+    print(ROW.format("program", "n", "ms", "MB", "verdict"))
+    print(ROW.format(*["---"] * 5))
+    calls.store("ops", b"op slow(a: word) -> y: word { y = not(a); }\n")
+    calls.store("prog", assemble(SLOW.encode()).file())
+    wrong = sum(hostile_row(calls, "slow", n, 1, (RIGHT, UNKNOWN)) for n in SLOW_WIDTHS)
+    for name, body, operations in COPIES:
+        for operation in operations:
+            calls.store("ops", f"op f(a: word, b: word) -> y: word {{ y = {operation}(a, b); }}\n".encode())
+            calls.store("prog", assemble(f"program f(a: word, b: word) -> y: word\n  for i in 0..n {{ {body} }}\n".encode()).file())
+            wrong += sum(hostile_row(calls, f"{operation}:{name}", n, repeat, (WRONG,)) for n in COPY_WIDTHS)
+    return wrong
+
+
 def main():
     words = program.parser(__doc__)
     words.add_argument("--all", action="store_true", help="the programs of examples/fewest at every width")
+    words.add_argument("--hostile", action="store_true", help="programs that are made to be slow, or are plainly wrong")
     words.add_argument("--only", type=lambda text: text.split(","), default=[], help="some operations, with commas between them")
     words.add_argument("--seconds", type=int, default=20)
     words.add_argument("--repeat", type=int, default=3)
     asked = words.parse_args()
     with tempfile.TemporaryDirectory(prefix="simdram_verify_") as folder:
         calls = Calls(program.path_of(asked), folder, asked.seconds)
-        return 1 if (every_width(calls, asked.only) if asked.all else table(calls, asked.only, asked.repeat)) else 0
+        if asked.hostile:
+            wrong = hostile(calls, asked.repeat)
+        else:
+            wrong = every_width(calls, asked.only) if asked.all else table(calls, asked.only, asked.repeat)
+        return 1 if wrong else 0
 
 
 if __name__ == "__main__":

@@ -31,11 +31,11 @@ XOR_OP = "op other(a: word, b: word) -> y: word { y = xor(a, b); }"
 class Verdicts(unittest.TestCase):
     def test_each_line(self):
         text = ("add right aap=41 ap=24\nsub wrong a=3 b=5 gives 7 not 254\nmax wrong a=3 b=5 gives 3 not 5 from T1 s4\n"
-                "mul unknown\ndiv bad_walk 17 register\nfoo no_entry\nbar other_kinds\nverified 1 of 7 at 8\n")
+                "mul unknown nodes\ndiv bad_walk 17 register\nfoo no_entry\nbar other_kinds\nverified 1 of 7 at 8\n")
         self.assertEqual(verdicts_of(text), [
             Verdict("add", "right", 41, 24), Verdict("sub", "wrong", operands={"a": 3, "b": 5}, gives=(7,), wanted=(254,)),
             Verdict("max", "wrong", operands={"a": 3, "b": 5}, gives=(3,), wanted=(5,), start=("T1", "s4")),
-            Verdict("mul", "unknown"), Verdict("div", "bad_walk", at=17, why="register"), Verdict("foo", "no_entry"),
+            Verdict("mul", "unknown", why="nodes"), Verdict("div", "bad_walk", at=17, why="register"), Verdict("foo", "no_entry"),
             Verdict("bar", "other_kinds")])
         self.assertEqual(verdict_of("q wrong a=7 b=2 gives 3 0 not 3 1").wanted, (3, 1))
         self.assertIsNone(verdict_of("verified 1 of 7 at 8"))
@@ -100,9 +100,10 @@ class OwnPrograms(unittest.TestCase):
         with warnings.catch_warnings():
             warnings.simplefilter("error")
             add(self.a, self.b)
-        # T3 is read before it is set: wrong, though right where it is 0
+        # T3 is read before it is set: of one bit wrong where it holds 1, of eight wrong from zeros too
+        self.assertEqual(xor.verify(XOR_OP, 1).start, ("T3",))
         verdict = xor.verify(XOR_OP, 8)
-        self.assertEqual((verdict.kind, verdict.start), ("wrong", ("T3",)))
+        self.assertEqual((verdict.kind, verdict.start), ("wrong", ()))
         self.assertEqual(verdict.wanted, (verdict.operands["a"] ^ verdict.operands["b"],))
         self.assertNotEqual(verdict.gives, verdict.wanted)
         with self.assertWarnsRegex(simdram.Unverified, "xor is wrong at width 8"):

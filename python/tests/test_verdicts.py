@@ -81,7 +81,7 @@ class Meanings(unittest.TestCase):
         self.one("gg bad_walk 1 register", "f.prog entry gg: bad_walk 1 register", "instruction 1, `ADDI r0 1`, takes a register past 1023 or below 0")
         self.one("g no_entry", "f.prog entry g: no_entry", "the entries are f, h, gg; did you mean gg?", "simdram link")
         self.one("h other_kinds", "whose head is `program h(a: word, b: word) -> y: word`", "the op asks for `program h(x: bit, w: word) -> y: word`")
-        self.one("f unknown", "4,000,000 nodes", "at width 8 it is not known", "smaller widths")
+        self.one("f unknown nodes", "4,000,000 nodes", "at width 8 it is not known", "smaller widths")
         self.one("f unknown depth", "more rows than the comparison has places", "smaller widths")
 
     def test_each_entry_in_order(self):
@@ -178,7 +178,7 @@ class Calls(unittest.TestCase):
         """A diagram that would have 2^24 nodes is given up."""
         (self.folder / "scattered.prog").write_bytes(assemble(SCATTERED.encode()).file())
         ended = called("verify", "f.ops", "scattered.prog", "8", cwd=self.folder)
-        self.assertEqual((ended.returncode, ended.stdout), (20, "f unknown\nverified 0 of 1 at 8\n"))
+        self.assertEqual((ended.returncode, ended.stdout), (20, "f unknown nodes\nverified 0 of 1 at 8\n"))
         self.assertIn("simdram explain f.ops scattered.prog 8 says what", ended.stderr)
         ended = called("verify", "f.ops", "scattered.prog", "1", cwd=self.folder)
         self.assertEqual(ended.stdout.splitlines()[1], "verified 0 of 1 at 1")

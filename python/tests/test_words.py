@@ -25,7 +25,7 @@ def called(*words, **more):
 
 def whole(command):
     """Words that are a command: each file by its own name, each number in its range."""
-    numbers = {"width": "8", "banks": "1", "rows": "64", "words": "1", "seed": "7"}
+    numbers = {"width": "1-8,16", "banks": "1", "rows": "64", "words": "1", "seed": "7"}
     return [command.name, *(numbers.get(word.kind, word.name.lower()) for word in command.words)]
 
 
@@ -40,6 +40,10 @@ class WrongWords(unittest.TestCase):
             (["cost", "p", "8", "9"], "9 is one argument too many; cost takes 2"),
             (["cost", "p", "129"], "1 to 128; it cannot be 129"),
             (["cost", "p", "+8"], "in decimal digits"),
+            (["cost", "p", "8,"], "in decimal digits; it cannot be '8,'"),
+            (["cost", "p", "1-2-3"], "in decimal digits; it cannot be '1-2-3'"),
+            (["verify", "o", "p", "8,4"], "in decimal digits; it cannot be '8,4'"),
+            (["verify", "o", "p", "8-4"], "in decimal digits; it cannot be '8-4'"),
             (["init", "1", "63", "1", "o"], "64 to 1006; it cannot be 63"),
             (["init", "16", "1006", "1024", "o"], "more than the 8388608 words"),
             (["soak", str(2**64)], "the seed"),

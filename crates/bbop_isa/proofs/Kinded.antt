@@ -9,38 +9,56 @@ use Rattle.std.specs.List.{list_any, starts_with}
 use Rattle.std.proofs.lemmas.Bool.Decides.{nat_tests}
 use Rattle.std.proofs.lemmas.List.{take-append-drop}
 use Rattle.std.proofs.lemmas.Slice.Eq.{bytes_eq-Decides}
-use Rattle.text_lex.specs.Spelled.{fits_name}
-use Rattle.text_lex.specs.Lexical.{Item, Whole, Bad, items_of}
+use Rattle.text_lex.specs.Lexical.{Item, Whole as Token, Bad, items_of}
 use Rattle.bbop_isa.specs.declared.forms.Verb.{Verb}
 use Rattle.bbop_isa.specs.declared.forms.Verb.TheVariants as verb
 use Rattle.bbop_isa.specs.declared.instr.Order.TheVariants.{Forward, Turns, Seed}
 use Rattle.bbop_isa.specs.declared.instr.ScriptKind.{ScriptKind}
 use Rattle.bbop_isa.specs.declared.instr.ScriptKind.TheVariants.{Lex, Syntax, BadName, BadNumber}
-use Rattle.bbop_isa.specs.Words.{Word, Name, Number, Comma, Other, words_in, word_at}
-use Rattle.bbop_isa.specs.Forms.{Instruction, Init, Bbop, Load, Fill, Print, Free, Order, Operands}
-use Rattle.bbop_isa.specs.Forms.{operands_of, is_seed, number_or_zero, result_map, checked, order_of}
-use Rattle.bbop_isa.specs.Forms.{verb_of, of_operands, of_verb, instruction_of, of_words, line_of}
+use Rattle.bbop_isa.specs.Words.{Word, Name, Number, Comma, Open, Colon, Close, Other, words_in}
+use Rattle.bbop_isa.specs.Words.{word_at}
+use Rattle.bbop_isa.specs.Operands.{Written, Whole, Bit, Bits, Named, Value, Operands, operands_of}
+use Rattle.bbop_isa.specs.Operands.{in_words}
+use Rattle.bbop_isa.specs.Forms.{Instruction, Order, is_seed, number_or_zero, result_map, checked}
+use Rattle.bbop_isa.specs.Forms.{order_of, verb_of, of_operands, of_verb, instruction_of, of_words}
+use Rattle.bbop_isa.specs.Forms.{line_of}
 use Rattle.bbop_isa.specs.Kinds.{Form, InitForm, BbopForm, LoadForm, FillForm, PrintForm, FreeForm}
 use Rattle.bbop_isa.specs.Kinds.{InOrder, TurnsOrder, SeedOrder, form_words, IsForm, HasForm}
-use Rattle.bbop_isa.specs.Kinds.{names_fit, numbers_fit, is_stranger, Reads, IsWrong, LinesAreWrong}
+use Rattle.bbop_isa.specs.Kinds.{names_fit, numbers_fit, meaning, is_stranger, Reads, IsWrong}
+use Rattle.bbop_isa.specs.Kinds.{LinesAreWrong, IsLine, LinesAreForms}
 use Rattle.bbop_isa.proofs.Spelling.{read_is_spelled, spelled_is_read}
-use Rattle.bbop_isa.proofs.Formed.{Said, Spelled, is_text, is_other}
-use Rattle.bbop_isa.proofs.Meant.{not_true}
+
+abbrev pub Said : Type 0
+Said = Result Instruction ScriptKind
+
+-- how operands are written
+abbrev Spelled : List Word → List Written → List (Option ℕ) → Type 0
+Spelled words places numbers = words ≡ in_words (map Named places ++ map Value numbers)
+
+is_text : (a b : List ℕ) → bytes_eq a b ≡ true → a ≡ b
+is_text a b is = (bytes_eq-Decides a b).0 is
+
+is_other : (a b : List ℕ) → bytes_eq a b ≡ false → a ≢ b
+is_other a b is same = let clash : true ≡ false = sym ((bytes_eq-Decides a b).1 same) ∙ is in cc
+
+not_true : (b : Bool) → (b ≡ true → ⊥) → b ≡ false
+not_true true h = absurd (h refl)
+not_true false h = refl
 
 -- the form of operands
-abbrev operands_form : List ℕ → Verb → List (List ℕ) → List (Option ℕ) → Option Form
-operands_form head verb.Init (name ∷ []) (count ∷ n ∷ []) = Some (InitForm name count n)
+abbrev operands_form : List ℕ → Verb → List Written → List (Option ℕ) → Option Form
+operands_form head verb.Init (Whole name ∷ []) (count ∷ n ∷ []) = Some (InitForm name count n)
 operands_form head verb.Bbop (dst ∷ src ∷ srcs) (count ∷ n ∷ []) =
     if nat_lt 4 (length srcs) then None
     else Some (BbopForm (drop 5 head) dst (src ∷ srcs) count n)
-operands_form head verb.Load (name ∷ []) (v ∷ values) = Some (LoadForm name (v ∷ values))
-operands_form head verb.Fill (name ∷ []) (v ∷ []) = Some (FillForm name v)
-operands_form head verb.Print (name ∷ []) [] = Some (PrintForm name)
-operands_form head verb.Free (name ∷ []) [] = Some (FreeForm name)
-operands_form head v names numbers = None
+operands_form head verb.Load (place ∷ []) (v ∷ values) = Some (LoadForm place (v ∷ values))
+operands_form head verb.Fill (place ∷ []) (v ∷ []) = Some (FillForm place v)
+operands_form head verb.Print (place ∷ []) [] = Some (PrintForm place)
+operands_form head verb.Free (Whole name ∷ []) [] = Some (FreeForm name)
+operands_form head v places numbers = None
 
 abbrev verb_form : List ℕ → Option Verb → Option Operands → Option Form
-verb_form head (Some v) (Some o) = operands_form head v o.names o.numbers
+verb_form head (Some v) (Some o) = operands_form head v o.places o.numbers
 verb_form head (Some v) None = None
 verb_form head None o = None
 
@@ -57,42 +75,27 @@ abbrev form_of : List ℕ → List Word → Option Form
 form_of head words = if bytes_eq head (codes "order") then order_form words
     else verb_form head (verb_of head) (operands_of words)
 
--- the instruction of a form
-abbrev meant : Form → Instruction
-meant (InitForm name count n) = Init name (number_or_zero count) (number_or_zero n)
-meant (BbopForm op dst srcs count n) = Bbop op dst srcs (number_or_zero count) (number_or_zero n)
-meant (LoadForm name values) = Load name (map number_or_zero values)
-meant (FillForm name v) = Fill name (number_or_zero v)
-meant (PrintForm name) = Print name
-meant (FreeForm name) = Free name
-meant InOrder = Order Forward
-meant TurnsOrder = Order Turns
-meant (SeedOrder seed) = Order (Seed (number_or_zero seed))
-
 abbrev judged : Option Form → Said
 judged None = Err Syntax
-judged (Some f) = checked (names_fit f) (numbers_fit f) (meant f)
-
-lone_judged : (fits : Bool) (name : List ℕ) (of : List ℕ → Instruction)
-    → result_map of (if fits then Ok name else Err BadName) ≡ checked fits true (of name)
-lone_judged true name of = refl
-lone_judged false name of = refl
+judged (Some f) = checked (names_fit f) (numbers_fit f) (meaning f)
 
 few_judged : (many : Bool) (f : Form)
-    → (if many then Err Syntax else checked (names_fit f) (numbers_fit f) (meant f))
+    → (if many then Err Syntax else checked (names_fit f) (numbers_fit f) (meaning f))
     ≡ judged (if many then None else Some f)
 few_judged true f = refl
 few_judged false f = refl
 
-operands_judged : (head : List ℕ) (v : Verb) (names : List (List ℕ)) (numbers : List (Option ℕ))
-    → of_operands head v (record { names = names; numbers = numbers })
-    ≡ judged (operands_form head v names numbers)
+operands_judged : (head : List ℕ) (v : Verb) (places : List Written) (numbers : List (Option ℕ))
+    → of_operands head v (record { places = places; numbers = numbers })
+    ≡ judged (operands_form head v places numbers)
 operands_judged head verb.Init [] numbers = refl
-operands_judged head verb.Init (name ∷ []) [] = refl
-operands_judged head verb.Init (name ∷ []) (count ∷ []) = refl
-operands_judged head verb.Init (name ∷ []) (count ∷ n ∷ []) = refl
-operands_judged head verb.Init (name ∷ []) (count ∷ n ∷ m ∷ numbers) = refl
-operands_judged head verb.Init (name ∷ other ∷ names) numbers = refl
+operands_judged head verb.Init (Whole name ∷ []) [] = refl
+operands_judged head verb.Init (Whole name ∷ []) (count ∷ []) = refl
+operands_judged head verb.Init (Whole name ∷ []) (count ∷ n ∷ []) = refl
+operands_judged head verb.Init (Whole name ∷ []) (count ∷ n ∷ m ∷ numbers) = refl
+operands_judged head verb.Init (Whole name ∷ other ∷ places) numbers = refl
+operands_judged head verb.Init (Bit name k ∷ places) numbers = refl
+operands_judged head verb.Init (Bits name low high ∷ places) numbers = refl
 operands_judged head verb.Bbop [] numbers = refl
 operands_judged head verb.Bbop (dst ∷ []) numbers = refl
 operands_judged head verb.Bbop (dst ∷ src ∷ srcs) [] = refl
@@ -101,26 +104,28 @@ operands_judged head verb.Bbop (dst ∷ src ∷ srcs) (count ∷ n ∷ []) =
     few_judged (nat_lt 4 (length srcs)) (BbopForm (drop 5 head) dst (src ∷ srcs) count n)
 operands_judged head verb.Bbop (dst ∷ src ∷ srcs) (count ∷ n ∷ m ∷ numbers) = refl
 operands_judged head verb.Load [] numbers = refl
-operands_judged head verb.Load (name ∷ []) [] = refl
-operands_judged head verb.Load (name ∷ []) (v ∷ values) = refl
-operands_judged head verb.Load (name ∷ other ∷ names) numbers = refl
+operands_judged head verb.Load (place ∷ []) [] = refl
+operands_judged head verb.Load (place ∷ []) (v ∷ values) = refl
+operands_judged head verb.Load (place ∷ other ∷ places) numbers = refl
 operands_judged head verb.Fill [] numbers = refl
-operands_judged head verb.Fill (name ∷ []) [] = refl
-operands_judged head verb.Fill (name ∷ []) (v ∷ []) = refl
-operands_judged head verb.Fill (name ∷ []) (v ∷ w ∷ values) = refl
-operands_judged head verb.Fill (name ∷ other ∷ names) numbers = refl
+operands_judged head verb.Fill (place ∷ []) [] = refl
+operands_judged head verb.Fill (place ∷ []) (v ∷ []) = refl
+operands_judged head verb.Fill (place ∷ []) (v ∷ w ∷ values) = refl
+operands_judged head verb.Fill (place ∷ other ∷ places) numbers = refl
 operands_judged head verb.Print [] numbers = refl
-operands_judged head verb.Print (name ∷ []) [] = lone_judged (fits_name name) name Print
-operands_judged head verb.Print (name ∷ []) (v ∷ numbers) = refl
-operands_judged head verb.Print (name ∷ other ∷ names) numbers = refl
+operands_judged head verb.Print (place ∷ []) [] = refl
+operands_judged head verb.Print (place ∷ []) (v ∷ numbers) = refl
+operands_judged head verb.Print (place ∷ other ∷ places) numbers = refl
 operands_judged head verb.Free [] numbers = refl
-operands_judged head verb.Free (name ∷ []) [] = lone_judged (fits_name name) name Free
-operands_judged head verb.Free (name ∷ []) (v ∷ numbers) = refl
-operands_judged head verb.Free (name ∷ other ∷ names) numbers = refl
+operands_judged head verb.Free (Whole name ∷ []) [] = refl
+operands_judged head verb.Free (Whole name ∷ []) (v ∷ numbers) = refl
+operands_judged head verb.Free (Whole name ∷ other ∷ places) numbers = refl
+operands_judged head verb.Free (Bit name k ∷ places) numbers = refl
+operands_judged head verb.Free (Bits name low high ∷ places) numbers = refl
 
 verb_judged : (head : List ℕ) (v : Option Verb) (o : Option Operands)
     → of_verb head v o ≡ judged (verb_form head v o)
-verb_judged head (Some v) (Some o) = operands_judged head v o.names o.numbers
+verb_judged head (Some v) (Some o) = operands_judged head v o.places o.numbers
 verb_judged head (Some v) None = refl
 verb_judged head None o = refl
 
@@ -128,6 +133,9 @@ order_judged : (words : List Word) → order_of words ≡ judged (order_form wor
 order_judged [] = refl
 order_judged (Number n ∷ words) = refl
 order_judged (Comma ∷ words) = refl
+order_judged (Open ∷ words) = refl
+order_judged (Colon ∷ words) = refl
+order_judged (Close ∷ words) = refl
 order_judged (Other ∷ words) = refl
 order_judged (Name word ∷ []) = at (bytes_eq word (codes "in")) (bytes_eq word (codes "turns"))
   where
@@ -139,6 +147,9 @@ order_judged (Name word ∷ []) = at (bytes_eq word (codes "in")) (bytes_eq word
     at false false = refl
 order_judged (Name word ∷ Name other ∷ words) = refl
 order_judged (Name word ∷ Comma ∷ words) = refl
+order_judged (Name word ∷ Open ∷ words) = refl
+order_judged (Name word ∷ Colon ∷ words) = refl
+order_judged (Name word ∷ Close ∷ words) = refl
 order_judged (Name word ∷ Other ∷ words) = refl
 order_judged (Name word ∷ Number seed ∷ []) = at (bytes_eq word (codes "seed")) (is_seed seed) refl
   where
@@ -214,16 +225,19 @@ verb_begins head v is =
     at false false false false false true p q r s t u is = verb_is verb.Free v is (is_text head _ u)
     at false false false false false false p q r s t u is = absurd (cc)
 
-operands_have : (head : List ℕ) (words : List Word) (v : Verb) (names : List (List ℕ))
-    (numbers : List (Option ℕ)) (f : Form) → Begins head v → Spelled words names numbers
-    → operands_form head v names numbers ≡ Some f → HasForm (Name head ∷ words) f
-operands_have head words verb.Init (name ∷ []) (count ∷ n ∷ []) f h w is =
+operands_have : (head : List ℕ) (words : List Word) (v : Verb) (places : List Written)
+    (numbers : List (Option ℕ)) (f : Form) → Begins head v → Spelled words places numbers
+    → operands_form head v places numbers ≡ Some f → HasForm (Name head ∷ words) f
+operands_have head words verb.Init (Whole name ∷ []) (count ∷ n ∷ []) f h w is =
     has_form head words _ f is (two_words head _ words _ h w, tt)
 operands_have head words verb.Init [] numbers f h w is = absurd (cc)
-operands_have head words verb.Init (name ∷ []) [] f h w is = absurd (cc)
-operands_have head words verb.Init (name ∷ []) (count ∷ []) f h w is = absurd (cc)
-operands_have head words verb.Init (name ∷ []) (count ∷ n ∷ m ∷ numbers) f h w is = absurd (cc)
-operands_have head words verb.Init (name ∷ other ∷ names) numbers f h w is = absurd (cc)
+operands_have head words verb.Init (Whole name ∷ []) [] f h w is = absurd (cc)
+operands_have head words verb.Init (Whole name ∷ []) (count ∷ []) f h w is = absurd (cc)
+operands_have head words verb.Init (Whole name ∷ []) (count ∷ n ∷ m ∷ numbers) f h w is =
+    absurd (cc)
+operands_have head words verb.Init (Whole name ∷ other ∷ places) numbers f h w is = absurd (cc)
+operands_have head words verb.Init (Bit name k ∷ places) numbers f h w is = absurd (cc)
+operands_have head words verb.Init (Bits name low high ∷ places) numbers f h w is = absurd (cc)
 operands_have head words verb.Bbop [] numbers f h w is = absurd (cc)
 operands_have head words verb.Bbop (dst ∷ []) numbers f h w is = absurd (cc)
 operands_have head words verb.Bbop (dst ∷ src ∷ srcs) [] f h w is = absurd (cc)
@@ -240,26 +254,28 @@ operands_have head words verb.Bbop (dst ∷ src ∷ srcs) (count ∷ n ∷ []) f
 operands_have head words verb.Bbop (dst ∷ src ∷ srcs) (count ∷ n ∷ m ∷ numbers) f h w is =
     absurd (cc)
 operands_have head words verb.Load [] numbers f h w is = absurd (cc)
-operands_have head words verb.Load (name ∷ []) [] f h w is = absurd (cc)
-operands_have head words verb.Load (name ∷ []) (v ∷ values) f h w is =
+operands_have head words verb.Load (place ∷ []) [] f h w is = absurd (cc)
+operands_have head words verb.Load (place ∷ []) (v ∷ values) f h w is =
     has_form head words _ f is (two_words head _ words _ h w, omega arith)
-operands_have head words verb.Load (name ∷ other ∷ names) numbers f h w is = absurd (cc)
+operands_have head words verb.Load (place ∷ other ∷ places) numbers f h w is = absurd (cc)
 operands_have head words verb.Fill [] numbers f h w is = absurd (cc)
-operands_have head words verb.Fill (name ∷ []) [] f h w is = absurd (cc)
-operands_have head words verb.Fill (name ∷ []) (v ∷ []) f h w is =
+operands_have head words verb.Fill (place ∷ []) [] f h w is = absurd (cc)
+operands_have head words verb.Fill (place ∷ []) (v ∷ []) f h w is =
     has_form head words _ f is (two_words head _ words _ h w, tt)
-operands_have head words verb.Fill (name ∷ []) (v ∷ u ∷ values) f h w is = absurd (cc)
-operands_have head words verb.Fill (name ∷ other ∷ names) numbers f h w is = absurd (cc)
+operands_have head words verb.Fill (place ∷ []) (v ∷ u ∷ values) f h w is = absurd (cc)
+operands_have head words verb.Fill (place ∷ other ∷ places) numbers f h w is = absurd (cc)
 operands_have head words verb.Print [] numbers f h w is = absurd (cc)
-operands_have head words verb.Print (name ∷ []) [] f h w is =
+operands_have head words verb.Print (place ∷ []) [] f h w is =
     has_form head words _ f is (two_words head _ words _ h w, tt)
-operands_have head words verb.Print (name ∷ []) (v ∷ numbers) f h w is = absurd (cc)
-operands_have head words verb.Print (name ∷ other ∷ names) numbers f h w is = absurd (cc)
+operands_have head words verb.Print (place ∷ []) (v ∷ numbers) f h w is = absurd (cc)
+operands_have head words verb.Print (place ∷ other ∷ places) numbers f h w is = absurd (cc)
 operands_have head words verb.Free [] numbers f h w is = absurd (cc)
-operands_have head words verb.Free (name ∷ []) [] f h w is =
+operands_have head words verb.Free (Whole name ∷ []) [] f h w is =
     has_form head words _ f is (two_words head _ words _ h w, tt)
-operands_have head words verb.Free (name ∷ []) (v ∷ numbers) f h w is = absurd (cc)
-operands_have head words verb.Free (name ∷ other ∷ names) numbers f h w is = absurd (cc)
+operands_have head words verb.Free (Whole name ∷ []) (v ∷ numbers) f h w is = absurd (cc)
+operands_have head words verb.Free (Whole name ∷ other ∷ places) numbers f h w is = absurd (cc)
+operands_have head words verb.Free (Bit name k ∷ places) numbers f h w is = absurd (cc)
+operands_have head words verb.Free (Bits name low high ∷ places) numbers f h w is = absurd (cc)
 
 verb_has : (head : List ℕ) (words : List Word) (v : Option Verb) (o : Option Operands) (f : Form)
     → verb_of head ≡ v → operands_of words ≡ o → verb_form head v o ≡ Some f
@@ -267,7 +283,7 @@ verb_has : (head : List ℕ) (words : List Word) (v : Option Verb) (o : Option O
 verb_has head words None o f e g is = absurd (cc)
 verb_has head words (Some v) None f e g is = absurd (cc)
 verb_has head words (Some v) (Some o) f e g is =
-    operands_have head words v o.names o.numbers f (verb_begins head v e)
+    operands_have head words v o.places o.numbers f (verb_begins head v e)
     (read_is_spelled words o g).spelled is
 
 order_has : (head : List ℕ) (words : List Word) (f : Form) → head ≡ codes "order"
@@ -275,6 +291,9 @@ order_has : (head : List ℕ) (words : List Word) (f : Form) → head ≡ codes 
 order_has head [] f h is = absurd (cc)
 order_has head (Number n ∷ words) f h is = absurd (cc)
 order_has head (Comma ∷ words) f h is = absurd (cc)
+order_has head (Open ∷ words) f h is = absurd (cc)
+order_has head (Colon ∷ words) f h is = absurd (cc)
+order_has head (Close ∷ words) f h is = absurd (cc)
 order_has head (Other ∷ words) f h is = absurd (cc)
 order_has head (Name word ∷ []) f h is =
     at (bytes_eq word (codes "in")) (bytes_eq word (codes "turns")) refl refl is
@@ -300,6 +319,9 @@ order_has head (Name word ∷ Number seed ∷ []) f h is = at (bytes_eq word (co
     at false e is = absurd (cc)
 order_has head (Name word ∷ Name other ∷ words) f h is = absurd (cc)
 order_has head (Name word ∷ Comma ∷ words) f h is = absurd (cc)
+order_has head (Name word ∷ Open ∷ words) f h is = absurd (cc)
+order_has head (Name word ∷ Colon ∷ words) f h is = absurd (cc)
+order_has head (Name word ∷ Close ∷ words) f h is = absurd (cc)
 order_has head (Name word ∷ Other ∷ words) f h is = absurd (cc)
 order_has head (Name word ∷ Number seed ∷ next ∷ words) f h is = absurd (cc)
 
@@ -331,11 +353,11 @@ has_found (BbopForm op dst (src ∷ srcs) count n) h =
       spelled_is_read (dst ∷ src ∷ srcs) (count ∷ n ∷ []) (omega arith),
       few,
     ) refl
-has_found (LoadForm name []) h = absurd (omega (arith, h))
-has_found (LoadForm name (v ∷ values)) h =
-    rw (spelled_is_read (name ∷ []) (v ∷ values) (omega arith)) refl
-has_found (FillForm name v) h = refl
-has_found (PrintForm name) h = refl
+has_found (LoadForm place []) h = absurd (omega (arith, h))
+has_found (LoadForm place (v ∷ values)) h =
+    rw (spelled_is_read (place ∷ []) (v ∷ values) (omega arith)) refl
+has_found (FillForm place v) h = rw (spelled_is_read (place ∷ []) (v ∷ []) (omega arith)) refl
+has_found (PrintForm place) h = rw (spelled_is_read (place ∷ []) [] (omega arith)) refl
 has_found (FreeForm name) h = refl
 has_found InOrder h = refl
 has_found TurnsOrder h = refl
@@ -346,6 +368,9 @@ found_form [] f is = absurd (cc)
 found_form (Name head ∷ words) f is = found_has head words f is
 found_form (Number n ∷ words) f is = absurd (cc)
 found_form (Comma ∷ words) f is = absurd (cc)
+found_form (Open ∷ words) f is = absurd (cc)
+found_form (Colon ∷ words) f is = absurd (cc)
+found_form (Close ∷ words) f is = absurd (cc)
 found_form (Other ∷ words) f is = absurd (cc)
 
 form_found : (words : List Word) (f : Form) → HasForm words f → form_in words ≡ Some f
@@ -364,6 +389,9 @@ words_judged [] some = absurd (omega arith)
 words_judged (Name head ∷ words) some = ap (result_map Some) (is_judged head words)
 words_judged (Number n ∷ words) some = refl
 words_judged (Comma ∷ words) some = refl
+words_judged (Open ∷ words) some = refl
+words_judged (Colon ∷ words) some = refl
+words_judged (Close ∷ words) some = refl
 words_judged (Other ∷ words) some = refl
 
 form_judged : (words : List Word) (o : Option Form) → 1 ≤ length words → form_in words ≡ o
@@ -374,7 +402,7 @@ form_judged words o some e = words_judged words some ∙ ap (λ o. result_map So
 pub none_any : (items : List Item) → words_in items ≡ None → list_any is_stranger items ≡ true
 none_any [] h = absurd (cc)
 none_any (Bad f ∷ items) h = refl
-none_any (Whole t ∷ items) h = none_any items (at (words_in items) h)
+none_any (Token t ∷ items) h = none_any items (at (words_in items) h)
   where
     at : (o : Option (List Word))
         → option_map (λ words. word_at t.kind t.text ∷ words) o ≡ None → o ≡ None
@@ -384,7 +412,7 @@ none_any (Whole t ∷ items) h = none_any items (at (words_in items) h)
 pub any_none : (items : List Item) → list_any is_stranger items ≡ true → words_in items ≡ None
 any_none [] h = absurd (cc)
 any_none (Bad f ∷ items) h = refl
-any_none (Whole t ∷ items) h = rw (any_none items h) refl
+any_none (Token t ∷ items) h = rw (any_none items h) refl
 
 kind_is : (a b : ScriptKind) → fault a ≡ fault b → a ≡ b
 kind_is a b e = cc
@@ -392,7 +420,7 @@ kind_is a b e = cc
 -- where the words have this form, and the names and numbers of it are so
 form_wrong : (line : List ℕ) (words : List Word) (f : Form) (kind : ScriptKind)
     (names numbers : Bool) → Reads line words → HasForm words f → names_fit f ≡ names
-    → numbers_fit f ≡ numbers → result_map Some (checked names numbers (meant f)) ≡ fault kind
+    → numbers_fit f ≡ numbers → result_map Some (checked names numbers (meaning f)) ≡ fault kind
     → IsWrong line kind
 form_wrong line words f kind true true r h n m is = absurd (cc)
 form_wrong line words f kind true false r h n m is =
@@ -440,3 +468,60 @@ wrong_refused line BadNumber h = ap of_words h.2.read
 pub lines_are_wrong : LinesAreWrong
 lines_are_wrong line kind =
     (refused_wrong line kind (words_in (items_of line)) refl, wrong_refused line kind)
+
+-- where a form is found that is right, the line says what it means
+says_is : (i j : Instruction) → result_map Some (Ok i) ≡ Ok (Some j) → j ≡ i
+says_is i j e = cc
+
+form_says : (line : List ℕ) (words : List Word) (f : Form) (i : Instruction)
+    (names numbers : Bool) → words_in (items_of line) ≡ Some words → HasForm words f
+    → names_fit f ≡ names → numbers_fit f ≡ numbers
+    → result_map Some (checked names numbers (meaning f)) ≡ Ok (Some i) → IsLine line i
+form_says line words f i true true r h n m is = record {
+  form = f;
+  words = words;
+  read = r;
+  has = h;
+  names = n;
+  numbers = m;
+  means = says_is (meaning f) i is;
+}
+form_says line words f i true false r h n m is = absurd (cc)
+form_says line words f i false numbers r h n m is = absurd (cc)
+
+words_say : (line : List ℕ) (words : List Word) (i : Instruction) (o : Option Form)
+    → words_in (items_of line) ≡ Some words → form_in words ≡ o
+    → result_map Some (judged o) ≡ Ok (Some i) → IsLine line i
+words_say line words i None r e is = absurd (cc)
+words_say line words i (Some f) r e is =
+    form_says line words f i (names_fit f) (numbers_fit f) r (found_form words f e) refl refl is
+
+said_is_line : (line : List ℕ) (i : Instruction) (o : Option (List Word))
+    → words_in (items_of line) ≡ o → of_words o ≡ Ok (Some i) → IsLine line i
+said_is_line line i None e is = absurd (cc)
+said_is_line line i (Some []) e is = absurd (cc)
+said_is_line line i (Some (w ∷ words)) e is =
+    words_say line (w ∷ words) i (form_in (w ∷ words)) e refl
+    (sym (words_judged (w ∷ words) (omega arith)) ∙ is)
+
+form_is_some : (f : Form) → 1 ≤ length (form_words f)
+form_is_some (InitForm name count n) = omega arith
+form_is_some (BbopForm op dst srcs count n) = omega arith
+form_is_some (LoadForm place values) = omega arith
+form_is_some (FillForm place v) = omega arith
+form_is_some (PrintForm place) = omega arith
+form_is_some (FreeForm name) = omega arith
+form_is_some InOrder = omega arith
+form_is_some TurnsOrder = omega arith
+form_is_some (SeedOrder seed) = omega arith
+
+line_is_said : (line : List ℕ) (i : Instruction) → IsLine line i → line_of line ≡ Ok (Some i)
+line_is_said line i is =
+    let some : 1 ≤ length is.words = rw is.has.0 (form_is_some is.form) in
+    ap of_words is.read
+    ∙ form_judged is.words (Some is.form) some (form_found is.words is.form is.has)
+    ∙ rw (is.names, is.numbers, is.means) refl
+
+-- a line says an instruction where its words are those of a form that means it
+pub lines_are : LinesAreForms
+lines_are line i = (said_is_line line i (words_in (items_of line)) refl, line_is_said line i)

@@ -4,8 +4,8 @@ pub mod Worded
 pub mod Gathered
 pub mod Checked
 pub mod Followed
+pub mod Terming
 pub mod Spelling
 pub mod Numbered
-pub mod Formed
-pub mod Meant
 pub mod Kinded
+pub mod Meant

@@ -1,104 +1,91 @@
--- What is written as an instruction is read as it.
-use Rattle.std.proofs.Common.{◌≡◌, ℕ, ◌^◌, nat_le, nat_lt, Bool, true, false, ◌&&◌, List, [], ◌∷◌}
-use Rattle.std.proofs.Common.{◌++◌, map, length, Option, Some, None, Ok, Err, codes, refl, ap, ◌∙◌}
+-- What a line says is right.
+use Rattle.std.proofs.Common.{◌≡◌, ℕ, ◌≤◌, ◌<◌, ◌^◌, nat_le, nat_lt, Bool, true, false, ◌&&◌}
+use Rattle.std.proofs.Common.{List, [], ◌∷◌, map, length, Option, Some, None, Ok, refl, subst, sym}
 use Rattle.std.proofs.Common.{arith}
-use Rattle.std.specs.Str.{bytes_eq}
-use Rattle.std.specs.Option.{is_some}
-use Rattle.std.specs.List.{list_all}
+use Rattle.std.specs.List.{list_all, AllByRecursion}
 use Rattle.std.proofs.lemmas.Bool.Decides.{nat_tests}
-use Rattle.std.proofs.lemmas.Slice.Eq.{bytes_eq-Decides}
-use Rattle.text_lex.specs.Lexical.{items_of}
+use Rattle.std.proofs.lemmas.List.{length-map}
+use Rattle.text_lex.specs.Spelled.{fits_name}
 use Rattle.bit_rows.specs.declared.TheConstants.{WIDTH_MAX}
-use Rattle.bbop_isa.specs.declared.instr.Order.TheVariants.{Forward, Turns, Seed}
-use Rattle.bbop_isa.specs.Words.{Word, Name, Number, Comma, Other, words_in}
-use Rattle.bbop_isa.specs.Forms.{Instruction, Init, Bbop, Load, Fill, Print, Free, Order, is_count}
-use Rattle.bbop_isa.specs.Forms.{is_width, number_or_zero, result_map, instruction_of, of_words}
-use Rattle.bbop_isa.specs.Laws.{first_name, other_words, AreSizes, IsRight, IsLine, LinesAreForms}
-use Rattle.bbop_isa.proofs.Spelling.{spelled_is_read}
-use Rattle.bbop_isa.proofs.Formed.{Said, says, IsWritten, said_is_written}
+use Rattle.bbop_isa.specs.Operands.{Written, Whole, Bit, Bits}
+use Rattle.bbop_isa.specs.Forms.{Instruction, is_bit, is_count, is_width, number_or_zero, line_of}
+use Rattle.bbop_isa.specs.Forms.{has_name, has_bits, place_of}
+use Rattle.bbop_isa.specs.Kinds.{Form, InitForm, BbopForm, LoadForm, FillForm, PrintForm, FreeForm}
+use Rattle.bbop_isa.specs.Kinds.{InOrder, TurnsOrder, SeedOrder, IsForm, names_fit, numbers_fit}
+use Rattle.bbop_isa.specs.Kinds.{meaning}
+use Rattle.bbop_isa.specs.Laws.{AreSizes, IsRightPlace, IsRight}
+use Rattle.bbop_isa.proofs.Kinded.{lines_are}
 
-sizes_hold : (count n : ℕ) → AreSizes count n → (is_count (Some count) && is_width (Some n)) ≡ true
-sizes_hold count n are =
-    let a : nat_le 1 count ≡ true = grind (arith, nat_tests, are.0) in
-    let b : nat_lt count (2 ^ 32) ≡ true = grind (arith, nat_tests, are.1) in
-    let c : nat_le 1 n ≡ true = grind (arith, nat_tests, are.2) in
-    let d : nat_le n WIDTH_MAX ≡ true = grind (arith, nat_tests, are.3) in
-    rw (a, b, c, d) refl
+both : (a b : Bool) → (a && b) ≡ true → (a ≡ true) × (b ≡ true)
+both true b is = (refl, is)
+both false b is = absurd (cc)
 
-pub not_true : (b : Bool) → (b ≡ true → ⊥) → b ≡ false
-not_true true h = absurd (h refl)
-not_true false h = refl
+sizes : (count n : Option ℕ) → (is_count count && is_width n) ≡ true
+    → AreSizes (number_or_zero count) (number_or_zero n)
+sizes (Some count) (Some n) is =
+    let two = both (is_count (Some count)) (is_width (Some n)) is in
+    let c = both (nat_le 1 count) (nat_lt count (2 ^ 32)) two.0 in
+    let w = both (nat_le 1 n) (nat_le n WIDTH_MAX) two.1 in (
+      grind (arith, nat_tests, c.0),
+      grind (arith, nat_tests, c.1),
+      grind (arith, nat_tests, w.0),
+      grind (arith, nat_tests, w.1),
+    )
+sizes (Some count) None is =
+    let clash : false ≡ true = (both (is_count (Some count)) false is).1 in absurd (cc)
+sizes None n is = absurd (cc)
 
-values_are_right : (values : List ℕ) → list_all is_some (map Some values) ≡ true
-values_are_right [] = refl
-values_are_right (v ∷ values) = values_are_right values
+place_is_right : (place : Written) → has_name place ≡ true → has_bits place ≡ true
+    → IsRightPlace (place_of place)
+place_is_right (Whole name) named bits = (named, tt)
+place_is_right (Bit name None) named bits = absurd (cc)
+place_is_right (Bit name (Some k)) named bits = (named, (omega arith, grind (arith, nat_tests, bits)))
+place_is_right (Bits name None high) named bits = absurd (cc)
+place_is_right (Bits name (Some low) None) named bits =
+    let clash : false ≡ true = (both (is_bit (Some low)) false bits).1 in absurd (cc)
+place_is_right (Bits name (Some low) (Some high)) named bits =
+    let two = both (is_bit (Some low)) (is_width (Some high) && nat_lt low high) bits in
+    let more = both (is_width (Some high)) (nat_lt low high) two.1 in
+    let w = both (nat_le 1 high) (nat_le high WIDTH_MAX) more.0 in
+    let below : low < high = grind (arith, nat_tests, more.1) in
+    let few : high ≤ WIDTH_MAX = grind (arith, nat_tests, w.1) in
+    (named, (omega (arith, below), omega (arith, below, few)))
 
-values_stay : (values : List ℕ) → map number_or_zero (map Some values) ≡ values
-values_stay [] = refl
-values_stay (v ∷ values) = ap (λ vs. v ∷ vs) (values_stay values)
+places_are_right : (places : List Written) → list_all has_name places ≡ true
+    → list_all has_bits places ≡ true → AllByRecursion IsRightPlace (map place_of places)
+places_are_right [] named bits = tt
+places_are_right (place ∷ places) named bits =
+    let n = both (has_name place) (list_all has_name places) named in
+    let b = both (has_bits place) (list_all has_bits places) bits in
+    (place_is_right place n.0 b.0, places_are_right places n.1 b.1)
 
-number_words : (values : List ℕ) → map (λ v. Number (Some v)) values ≡ map Number (map Some values)
-number_words [] = refl
-number_words (v ∷ values) = ap (λ ws. Number (Some v) ∷ ws) (number_words values)
+form_is_right : (f : Form) → IsForm f → names_fit f ≡ true → numbers_fit f ≡ true
+    → IsRight (meaning f)
+form_is_right (InitForm name count n) is names numbers = (names, sizes count n numbers)
+form_is_right (BbopForm op dst srcs count n) is names numbers =
+    let named = both (fits_name op) (list_all has_name (dst ∷ srcs)) names in
+    let b = both (list_all has_bits (dst ∷ srcs)) (is_count count && is_width n) numbers in
+    let few : length (map place_of srcs) ≡ length srcs = length-map srcs place_of in (
+      named.0,
+      places_are_right (dst ∷ srcs) named.1 b.0,
+      is.0,
+      omega (arith, few, is.1),
+      omega (arith, few, is.2),
+      sizes count n b.1,
+    )
+form_is_right (LoadForm place values) is names numbers =
+    let some : length (map number_or_zero values) ≡ length values = length-map values number_or_zero in
+    (place_is_right place names (both (has_bits place) _ numbers).0, omega (arith, some, is))
+form_is_right (FillForm place v) is names numbers =
+    place_is_right place names (both (has_bits place) _ numbers).0
+form_is_right (PrintForm place) is names numbers = place_is_right place names numbers
+form_is_right (FreeForm name) is names numbers = names
+form_is_right InOrder is names numbers = tt
+form_is_right TurnsOrder is names numbers = tt
+form_is_right (SeedOrder None) is names numbers = absurd (cc)
+form_is_right (SeedOrder (Some seed)) is names numbers = grind (arith, nat_tests, numbers)
 
-written_is_said : (i : Instruction) → IsRight i
-    → instruction_of (first_name i) (other_words i) ≡ says i
-written_is_said (Init name count n) right = rw (right.0, sizes_hold count n right.1) refl
-written_is_said (Bbop op dst [] count n) right = absurd (omega (arith, right.2))
-written_is_said (Bbop op dst (src ∷ srcs) count n) right =
-    let few : nat_lt 4 (length srcs) ≡ false = grind (arith, nat_tests, right.3) in
-    let other : bytes_eq (codes "bbop_" ++ op) (codes "bbop_trsp_init") ≡ false =
-    not_true (bytes_eq op (codes "trsp_init"))
-    (λ is. right.1 ((bytes_eq-Decides op (codes "trsp_init")).0 is)) in
-    rw (
-      other,
-      spelled_is_read (dst ∷ src ∷ srcs) (Some count ∷ Some n ∷ []) (omega arith),
-      few,
-      right.0,
-      sizes_hold count n right.4,
-    ) refl
-written_is_said (Load name []) right = absurd (omega (arith, right.1))
-written_is_said (Load name (v ∷ values)) right =
-    rw (
-      number_words values,
-      spelled_is_read (name ∷ []) (Some v ∷ map Some values) (omega arith),
-      right.0,
-      values_are_right values,
-      values_stay values,
-    ) refl
-written_is_said (Fill name v) right = rw right refl
-written_is_said (Print name) right = rw right refl
-written_is_said (Free name) right = rw right refl
-written_is_said (Order Forward) right = refl
-written_is_said (Order Turns) right = refl
-written_is_said (Order (Seed seed)) right = let a : nat_lt seed (2 ^ 64) ≡ true =
-    grind (arith, nat_tests, right) in rw a refl
-
-some_is : (i : Instruction) (r : Said) → result_map Some r ≡ Ok (Some i) → r ≡ says i
-some_is i (Ok j) is = cc
-some_is i (Err kind) is = absurd (cc)
-
-said_is_line : (words : Option (List Word)) (i : Instruction) → of_words words ≡ Ok (Some i)
-    → IsLine words i
-said_is_line None i is = absurd (cc)
-said_is_line (Some []) i is = absurd (cc)
-said_is_line (Some (Name head ∷ words)) i is =
-    let written = said_is_written head words i (some_is i (instruction_of head words) is) in
-    line_from head words i written
-  where
-    line_from : (head : List ℕ) (words : List Word) (i : Instruction) → IsWritten head words i
-        → IsLine (Some (Name head ∷ words)) i
-    line_from head words i written = record {
-      spelled = rw (written.first, written.others) refl;
-      right = written.right;
-    }
-said_is_line (Some (Number n ∷ words)) i is = absurd (cc)
-said_is_line (Some (Comma ∷ words)) i is = absurd (cc)
-said_is_line (Some (Other ∷ words)) i is = absurd (cc)
-
--- a line says an instruction where its words are the instruction's
-pub lines_are : LinesAreForms
-lines_are line i = (
-  said_is_line (words_in (items_of line)) i,
-  λ are. ap of_words are.spelled ∙ ap (result_map Some) (written_is_said i are.right),
-)
+-- what a line says has right names and numbers
+pub line_is_right : (line : List ℕ) (i : Instruction) → line_of line ≡ Ok (Some i) → IsRight i
+line_is_right line i is = let are = (lines_are line i).0 is in
+    subst IsRight (sym are.means) (form_is_right are.form are.has.1 are.names are.numbers)

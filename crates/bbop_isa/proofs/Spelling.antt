@@ -1,100 +1,139 @@
 -- Operands are spelled as they are read.
 use Rattle.std.proofs.Common.{◌≡◌, ◌↔◌, ℕ, ◌+◌, ◌≤◌, List, [], ◌∷◌, ◌++◌, map, length, Option, Some}
-use Rattle.std.proofs.Common.{None, refl, ap, ◌∙◌, subst, arith}
-use Rattle.bbop_isa.specs.Words.{Word, Name, Number, Comma, Other}
-use Rattle.bbop_isa.specs.Forms.{Operands, operands_of, with_name, with_number, before_names}
-use Rattle.bbop_isa.specs.Laws.{with_commas, AreOperands}
+use Rattle.std.proofs.Common.{None, true, refl, ap, ◌∙◌, subst, arith}
+use Rattle.std.specs.List.{flat_map}
+use Rattle.bbop_isa.specs.Words.{Word}
+use Rattle.bbop_isa.specs.Operands.{Written, Term, Named, Value, Break, Stray, Operands}
+use Rattle.bbop_isa.specs.Operands.{operands_in, operands_of, with_place, with_number, before_places}
+use Rattle.bbop_isa.specs.Operands.{with_commas, term_words, terms_of, in_words, AreOperands}
+use Rattle.bbop_isa.proofs.Terming.{no_stray, words_are, terms_are}
+
+-- terms that are these operands
+record AreTerms (terms : List Term) (o : Operands) : Type 0 where
+  spelled : terms ≡ with_commas (map Named o.places ++ map Value o.numbers)
+  some : 1 ≤ length o.places + length o.numbers
 
 some_is : {A : Type 0} (x y : A) → Some x ≡ Some y → x ≡ y
 some_is x y is = cc
 
-one_more : (word : Word) (words : List Word) → 1 ≤ length words
-    → word ∷ Comma ∷ with_commas words ≡ with_commas (word ∷ words)
-one_more word [] some = absurd (omega arith)
-one_more word (next ∷ words) some = refl
+one_more : (term : Term) (terms : List Term) → 1 ≤ length terms
+    → term ∷ Break ∷ with_commas terms ≡ with_commas (term ∷ terms)
+one_more term [] some = absurd (omega arith)
+one_more term (next ∷ terms) some = refl
 
-sizes : (names : List (List ℕ)) (numbers : List (Option ℕ)) → 1 ≤ length names + length numbers
-    → 1 ≤ length (map Name names ++ map Number numbers)
+sizes : (places : List Written) (numbers : List (Option ℕ)) → 1 ≤ length places + length numbers
+    → 1 ≤ length (map Named places ++ map Value numbers)
 sizes [] [] some = absurd (omega arith)
 sizes [] (number ∷ numbers) some = omega arith
-sizes (name ∷ names) numbers some = omega arith
+sizes (place ∷ places) numbers some = omega arith
 
-after_name : (name : List ℕ) (words : List Word) (p : Operands) → AreOperands words p
-    → AreOperands (Name name ∷ Comma ∷ words)
-    (record { names = name ∷ p.names; numbers = p.numbers })
-after_name name words p are = record {
-  spelled = ap (λ ws. Name name ∷ Comma ∷ ws) are.spelled
-      ∙ one_more (Name name) (map Name p.names ++ map Number p.numbers)
-      (sizes p.names p.numbers are.some);
+after_place : (place : Written) (terms : List Term) (p : Operands) → AreTerms terms p
+    → AreTerms (Named place ∷ Break ∷ terms)
+    (record { places = place ∷ p.places; numbers = p.numbers })
+after_place place terms p are = record {
+  spelled = ap (λ ts. Named place ∷ Break ∷ ts) are.spelled
+      ∙ one_more (Named place) (map Named p.places ++ map Value p.numbers)
+      (sizes p.places p.numbers are.some);
   some = omega arith;
 }
 
-after_number : (number : Option ℕ) (words : List Word) (names : List (List ℕ))
+after_number : (number : Option ℕ) (terms : List Term) (places : List Written)
     (numbers : List (Option ℕ)) (o : Operands)
-    → AreOperands words (record { names = names; numbers = numbers })
-    → before_names number names numbers ≡ Some o → AreOperands (Number number ∷ Comma ∷ words) o
-after_number number words [] numbers o are is =
-    subst (AreOperands (Number number ∷ Comma ∷ words)) (some_is _ _ is) (record {
-      spelled = ap (λ ws. Number number ∷ Comma ∷ ws) are.spelled
-          ∙ one_more (Number number) (map Number numbers) (sizes [] numbers are.some);
+    → AreTerms terms (record { places = places; numbers = numbers })
+    → before_places number places numbers ≡ Some o → AreTerms (Value number ∷ Break ∷ terms) o
+after_number number terms [] numbers o are is =
+    subst (AreTerms (Value number ∷ Break ∷ terms)) (some_is _ _ is) (record {
+      spelled = ap (λ ts. Value number ∷ Break ∷ ts) are.spelled
+          ∙ one_more (Value number) (map Value numbers) (sizes [] numbers are.some);
       some = omega arith;
     })
-after_number number words (name ∷ names) numbers o are is = absurd (cc)
+after_number number terms (place ∷ places) numbers o are is = absurd (cc)
 
-pub read_is_spelled : (words : List Word) (o : Operands) → operands_of words ≡ Some o
-    → AreOperands words o
-read_is_spelled (Name name ∷ []) o is = subst (AreOperands (Name name ∷ [])) (some_is _ _ is)
+terms_are_spelled : (terms : List Term) (o : Operands) → operands_in terms ≡ Some o
+    → AreTerms terms o
+terms_are_spelled (Named place ∷ []) o is = subst (AreTerms (Named place ∷ [])) (some_is _ _ is)
     (record { spelled = refl; some = omega arith })
-read_is_spelled (Number number ∷ []) o is = subst (AreOperands (Number number ∷ []))
+terms_are_spelled (Value number ∷ []) o is = subst (AreTerms (Value number ∷ []))
     (some_is _ _ is) (record { spelled = refl; some = omega arith })
-read_is_spelled (Name name ∷ Comma ∷ words) o is = at (operands_of words) (read_is_spelled words) is
+terms_are_spelled (Named place ∷ Break ∷ terms) o is = at (operands_in terms) (terms_are_spelled terms) is
   where
-    at : (r : Option Operands) → ((p : Operands) → r ≡ Some p → AreOperands words p)
-        → with_name name r ≡ Some o → AreOperands (Name name ∷ Comma ∷ words) o
+    at : (r : Option Operands) → ((p : Operands) → r ≡ Some p → AreTerms terms p)
+        → with_place place r ≡ Some o → AreTerms (Named place ∷ Break ∷ terms) o
     at None rest is = absurd (cc)
-    at (Some p) rest is = subst (AreOperands (Name name ∷ Comma ∷ words)) (some_is _ _ is)
-        (after_name name words p (rest p refl))
-read_is_spelled (Number number ∷ Comma ∷ words) o is =
-    at (operands_of words) (read_is_spelled words) is
+    at (Some p) rest is = subst (AreTerms (Named place ∷ Break ∷ terms)) (some_is _ _ is)
+        (after_place place terms p (rest p refl))
+terms_are_spelled (Value number ∷ Break ∷ terms) o is =
+    at (operands_in terms) (terms_are_spelled terms) is
   where
-    at : (r : Option Operands) → ((p : Operands) → r ≡ Some p → AreOperands words p)
-        → with_number number r ≡ Some o → AreOperands (Number number ∷ Comma ∷ words) o
+    at : (r : Option Operands) → ((p : Operands) → r ≡ Some p → AreTerms terms p)
+        → with_number number r ≡ Some o → AreTerms (Value number ∷ Break ∷ terms) o
     at None rest is = absurd (cc)
-    at (Some p) rest is = after_number number words p.names p.numbers o (rest p refl) is
-read_is_spelled [] o is = absurd (cc)
-read_is_spelled (Comma ∷ words) o is = absurd (cc)
-read_is_spelled (Other ∷ words) o is = absurd (cc)
-read_is_spelled (Name name ∷ Name other ∷ words) o is = absurd (cc)
-read_is_spelled (Name name ∷ Number other ∷ words) o is = absurd (cc)
-read_is_spelled (Name name ∷ Other ∷ words) o is = absurd (cc)
-read_is_spelled (Number number ∷ Name other ∷ words) o is = absurd (cc)
-read_is_spelled (Number number ∷ Number other ∷ words) o is = absurd (cc)
-read_is_spelled (Number number ∷ Other ∷ words) o is = absurd (cc)
+    at (Some p) rest is = after_number number terms p.places p.numbers o (rest p refl) is
+terms_are_spelled [] o is = absurd (cc)
+terms_are_spelled (Break ∷ terms) o is = absurd (cc)
+terms_are_spelled (Stray ∷ terms) o is = absurd (cc)
+terms_are_spelled (Named place ∷ Named other ∷ terms) o is = absurd (cc)
+terms_are_spelled (Named place ∷ Value other ∷ terms) o is = absurd (cc)
+terms_are_spelled (Named place ∷ Stray ∷ terms) o is = absurd (cc)
+terms_are_spelled (Value number ∷ Named other ∷ terms) o is = absurd (cc)
+terms_are_spelled (Value number ∷ Value other ∷ terms) o is = absurd (cc)
+terms_are_spelled (Value number ∷ Stray ∷ terms) o is = absurd (cc)
 
 numbers_are_read : (number : Option ℕ) (numbers : List (Option ℕ))
-    → operands_of (with_commas (map Number (number ∷ numbers)))
-    ≡ Some (record { names = []; numbers = number ∷ numbers })
+    → operands_in (with_commas (map Value (number ∷ numbers)))
+    ≡ Some (record { places = []; numbers = number ∷ numbers })
 numbers_are_read number [] = refl
 numbers_are_read number (next ∷ numbers) = ap (with_number number) (numbers_are_read next numbers)
 
-names_are_read : (name : List ℕ) (names : List (List ℕ)) (numbers : List (Option ℕ))
-    → operands_of (with_commas (map Name (name ∷ names) ++ map Number numbers))
-    ≡ Some (record { names = name ∷ names; numbers = numbers })
-names_are_read name [] [] = refl
-names_are_read name [] (number ∷ numbers) = ap (with_name name) (numbers_are_read number numbers)
-names_are_read name (next ∷ names) numbers = ap (with_name name) (names_are_read next names numbers)
+places_are_read : (place : Written) (places : List Written) (numbers : List (Option ℕ))
+    → operands_in (with_commas (map Named (place ∷ places) ++ map Value numbers))
+    ≡ Some (record { places = place ∷ places; numbers = numbers })
+places_are_read place [] [] = refl
+places_are_read place [] (number ∷ numbers) = ap (with_place place) (numbers_are_read number numbers)
+places_are_read place (next ∷ places) numbers = ap (with_place place) (places_are_read next places numbers)
 
-pub spelled_is_read : (names : List (List ℕ)) (numbers : List (Option ℕ))
-    → 1 ≤ length names + length numbers
-    → operands_of (with_commas (map Name names ++ map Number numbers))
-    ≡ Some (record { names = names; numbers = numbers })
-spelled_is_read [] [] some = absurd (omega arith)
-spelled_is_read [] (number ∷ numbers) some = numbers_are_read number numbers
-spelled_is_read (name ∷ names) numbers some = names_are_read name names numbers
+spelled_terms : (places : List Written) (numbers : List (Option ℕ))
+    → 1 ≤ length places + length numbers
+    → operands_in (with_commas (map Named places ++ map Value numbers))
+    ≡ Some (record { places = places; numbers = numbers })
+spelled_terms [] [] some = absurd (omega arith)
+spelled_terms [] (number ∷ numbers) some = numbers_are_read number numbers
+spelled_terms (place ∷ places) numbers some = places_are_read place places numbers
+
+-- No stray is among operands with commas between them.
+numbers_have_none : (numbers : List (Option ℕ)) → no_stray (with_commas (map Value numbers)) ≡ true
+numbers_have_none [] = refl
+numbers_have_none (number ∷ []) = refl
+numbers_have_none (number ∷ next ∷ numbers) = numbers_have_none (next ∷ numbers)
+
+none_is_stray : (places : List Written) (numbers : List (Option ℕ))
+    → no_stray (with_commas (map Named places ++ map Value numbers)) ≡ true
+none_is_stray [] numbers = numbers_have_none numbers
+none_is_stray (place ∷ []) [] = refl
+none_is_stray (place ∷ []) (number ∷ numbers) = none_is_stray [] (number ∷ numbers)
+none_is_stray (place ∷ next ∷ places) numbers = none_is_stray (next ∷ places) numbers
+
+pub read_is_spelled : (words : List Word) (o : Operands) → operands_of words ≡ Some o
+    → AreOperands words o
+read_is_spelled words o is =
+    let are = terms_are_spelled (terms_of words) o is in
+    let none : no_stray (terms_of words) ≡ true = rw are.spelled (none_is_stray o.places o.numbers) in
+    record {
+      spelled = words_are words none ∙ ap (flat_map term_words) are.spelled;
+      some = are.some;
+    }
+
+pub spelled_is_read : (places : List Written) (numbers : List (Option ℕ))
+    → 1 ≤ length places + length numbers
+    → operands_of (in_words (map Named places ++ map Value numbers))
+    ≡ Some (record { places = places; numbers = numbers })
+spelled_is_read places numbers some =
+    ap operands_in (terms_are (with_commas (map Named places ++ map Value numbers)))
+    ∙ spelled_terms places numbers some
 
 pub spelled_both : (words : List Word) (o : Operands) → (operands_of words ≡ Some o)
     ↔ AreOperands words o
 spelled_both words o = (
   read_is_spelled words o,
-  λ are. rw are.spelled (spelled_is_read o.names o.numbers are.some),
+  λ are. rw are.spelled (spelled_is_read o.places o.numbers are.some),
 )

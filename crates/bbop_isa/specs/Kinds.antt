@@ -1,24 +1,27 @@
--- What is wrong with a line, kind by kind.
+-- What a line says, and what is wrong with it, by its form.
 use Rattle.std.specs.Prelude.{◌≡◌, ◌≢◌, ◌↔◌, ℕ, ◌≤◌, Bool, true, false, ◌&&◌, codes, List, [], ◌∷◌}
-use Rattle.std.specs.Prelude.{◌++◌, length, map, Option, Some, Err}
+use Rattle.std.specs.Prelude.{◌++◌, length, map, Option, Some, Ok, Err}
 use Rattle.std.specs.List.{list_all, list_any}
 use Rattle.std.specs.Option.{is_some}
-use Rattle.text_lex.specs.Lexical.{Item, items_of, Whole, Bad}
+use Rattle.text_lex.specs.Lexical.{Item, items_of, Whole as Token, Bad}
 use Rattle.text_lex.specs.Spelled.{fits_name}
+use Rattle.bbop_isa.specs.declared.instr.Order.TheVariants.{Forward, Turns, Seed}
 use Rattle.bbop_isa.specs.declared.instr.ScriptKind.{ScriptKind}
 use Rattle.bbop_isa.specs.declared.instr.ScriptKind.TheVariants.{Lex, Syntax, BadName, BadNumber}
 use Rattle.bbop_isa.specs.Words.{Word, Name, Number, words_in}
-use Rattle.bbop_isa.specs.Forms.{is_count, is_width, is_seed, line_of}
-use Rattle.bbop_isa.specs.Laws.{with_commas}
+use Rattle.bbop_isa.specs.Operands.{Written, Whole, Named, Value, in_words}
+use Rattle.bbop_isa.specs.Forms.{Instruction, Init, Bbop, Load, Fill, Print, Free, Order, line_of}
+use Rattle.bbop_isa.specs.Forms.{is_count, is_width, is_seed, has_name, has_bits, place_of}
+use Rattle.bbop_isa.specs.Forms.{number_or_zero}
 
 -- What a line of each form holds, whatever its names and numbers are. A number of 2^128 or more has
 -- no value.
 pub data Form : Type 0 where
   InitForm : List ℕ → Option ℕ → Option ℕ → Form
-  BbopForm : List ℕ → List ℕ → List (List ℕ) → Option ℕ → Option ℕ → Form
-  LoadForm : List ℕ → List (Option ℕ) → Form
-  FillForm : List ℕ → Option ℕ → Form
-  PrintForm : List ℕ → Form
+  BbopForm : List ℕ → Written → List Written → Option ℕ → Option ℕ → Form
+  LoadForm : Written → List (Option ℕ) → Form
+  FillForm : Written → Option ℕ → Form
+  PrintForm : Written → Form
   FreeForm : List ℕ → Form
   InOrder : Form
   TurnsOrder : Form
@@ -27,24 +30,24 @@ pub data Form : Type 0 where
 -- the words of the form
 abbrev pub form_words : Form → List Word
 form_words (InitForm name count n) = Name (codes "bbop_trsp_init")
-    ∷ with_commas (Name name ∷ Number count ∷ Number n ∷ [])
+    ∷ in_words (Named (Whole name) ∷ Value count ∷ Value n ∷ [])
 form_words (BbopForm op dst srcs count n) = Name (codes "bbop_" ++ op)
-    ∷ with_commas (map Name (dst ∷ srcs) ++ Number count ∷ Number n ∷ [])
-form_words (LoadForm name values) = Name (codes "load")
-    ∷ with_commas (Name name ∷ map Number values)
-form_words (FillForm name v) = Name (codes "fill") ∷ with_commas (Name name ∷ Number v ∷ [])
-form_words (PrintForm name) = Name (codes "print") ∷ Name name ∷ []
+    ∷ in_words (map Named (dst ∷ srcs) ++ Value count ∷ Value n ∷ [])
+form_words (LoadForm place values) = Name (codes "load")
+    ∷ in_words (Named place ∷ map Value values)
+form_words (FillForm place v) = Name (codes "fill") ∷ in_words (Named place ∷ Value v ∷ [])
+form_words (PrintForm place) = Name (codes "print") ∷ in_words (Named place ∷ [])
 form_words (FreeForm name) = Name (codes "free") ∷ Name name ∷ []
 form_words InOrder = Name (codes "order") ∷ Name (codes "in") ∷ []
 form_words TurnsOrder = Name (codes "order") ∷ Name (codes "turns") ∷ []
 form_words (SeedOrder seed) = Name (codes "order") ∷ Name (codes "seed") ∷ Number seed ∷ []
 
--- An operation has one to five names after the first, and its own name is another than that of
+-- An operation has one to five operands after the first, and its own name is another than that of
 -- the first form; a load has a value.
 abbrev pub IsForm : Form → Type 0
 IsForm (BbopForm op dst srcs count n) = (op ≢ codes "trsp_init") × (1 ≤ length srcs)
     × (length srcs ≤ 5)
-IsForm (LoadForm name values) = 1 ≤ length values
+IsForm (LoadForm place values) = 1 ≤ length values
 IsForm f = Unit {0}
 
 -- the words of a line are those of a form, whatever its names and numbers are
@@ -54,25 +57,40 @@ HasForm words f = (words ≡ form_words f) × IsForm f
 -- whether each name has 1 to 16 bytes
 abbrev pub names_fit : Form → Bool
 names_fit (InitForm name count n) = fits_name name
-names_fit (BbopForm op dst srcs count n) = list_all fits_name (op ∷ dst ∷ srcs)
-names_fit (LoadForm name values) = fits_name name
-names_fit (FillForm name v) = fits_name name
-names_fit (PrintForm name) = fits_name name
+names_fit (BbopForm op dst srcs count n) = fits_name op && list_all has_name (dst ∷ srcs)
+names_fit (LoadForm place values) = has_name place
+names_fit (FillForm place v) = has_name place
+names_fit (PrintForm place) = has_name place
 names_fit (FreeForm name) = fits_name name
 names_fit f = true
 
 -- whether each number is in its range
 abbrev pub numbers_fit : Form → Bool
 numbers_fit (InitForm name count n) = is_count count && is_width n
-numbers_fit (BbopForm op dst srcs count n) = is_count count && is_width n
-numbers_fit (LoadForm name values) = list_all is_some values
-numbers_fit (FillForm name v) = is_some v
+numbers_fit (BbopForm op dst srcs count n) = list_all has_bits (dst ∷ srcs)
+    && (is_count count && is_width n)
+numbers_fit (LoadForm place values) = has_bits place && list_all is_some values
+numbers_fit (FillForm place v) = has_bits place && is_some v
+numbers_fit (PrintForm place) = has_bits place
 numbers_fit (SeedOrder seed) = is_seed seed
 numbers_fit f = true
 
--- a byte that starts no token
+-- the instruction that a line of the form says, where its names and numbers fit
+abbrev pub meaning : Form → Instruction
+meaning (InitForm name count n) = Init name (number_or_zero count) (number_or_zero n)
+meaning (BbopForm op dst srcs count n) = Bbop op (place_of dst) (map place_of srcs)
+    (number_or_zero count) (number_or_zero n)
+meaning (LoadForm place values) = Load (place_of place) (map number_or_zero values)
+meaning (FillForm place v) = Fill (place_of place) (number_or_zero v)
+meaning (PrintForm place) = Print (place_of place)
+meaning (FreeForm name) = Free name
+meaning InOrder = Order Forward
+meaning TurnsOrder = Order Turns
+meaning (SeedOrder seed) = Order (Seed (number_or_zero seed))
+
+-- whether a byte starts no token
 abbrev pub is_stranger : Item → Bool
-is_stranger (Whole t) = false
+is_stranger (Token t) = false
 is_stranger (Bad f) = true
 
 -- The tokens of a line, some, where each byte belongs to one.
@@ -94,3 +112,19 @@ IsWrong line BadNumber = (words : List Word) × (f : Form) × Reads line words �
 abbrev pub LinesAreWrong : Type 0
 LinesAreWrong = (line : List ℕ) (kind : ScriptKind) → (line_of line ≡ Err kind)
     ↔ IsWrong line kind
+
+-- A line says this instruction: its words have a form that means it, whose names and numbers fit.
+pub record IsLine (line : List ℕ) (i : Instruction) : Type 0 where
+  pub form : Form
+  pub words : List Word
+  pub read : words_in (items_of line) ≡ Some words
+  pub has : HasForm words form
+  pub names : names_fit form ≡ true
+  pub numbers : numbers_fit form ≡ true
+  pub means : i ≡ meaning form
+
+-- A line says an instruction where its words are those of a form of the instruction, and they are
+-- right.
+abbrev pub LinesAreForms : Type 0
+LinesAreForms = (line : List ℕ) (i : Instruction) → (line_of line ≡ Ok (Some i))
+    ↔ IsLine line i

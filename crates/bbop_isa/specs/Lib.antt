@@ -2,6 +2,7 @@
 pub mod Lines
 pub mod Numbers
 pub mod Words
+pub mod Operands
 pub mod Forms
 pub mod Script
 pub mod Reading

@@ -7,6 +7,10 @@ use Rattle.std.specs.Option.{option_map, is_some}
 use Rattle.std.specs.List.{list_all}
 use Rattle.text_lex.specs.Lexical.{items_of}
 use Rattle.bbop_isa.specs.declared.words.Word.{Word as Kept}
+use Rattle.bbop_isa.specs.declared.terms.Written.{Written as KeptWritten}
+use Rattle.bbop_isa.specs.declared.terms.Written.TheVariants as written
+use Rattle.bbop_isa.specs.declared.terms.Term.{Term as KeptTerm}
+use Rattle.bbop_isa.specs.declared.terms.Term.TheVariants as term
 use Rattle.bbop_isa.specs.declared.operands.Operands.{Operands as KeptOperands}
 use Rattle.bbop_isa.specs.declared.instr.Instr.{Instr}
 use Rattle.bbop_isa.specs.declared.instr.ScriptFault.{ScriptFault}
@@ -14,9 +18,10 @@ use Rattle.bbop_isa.specs.declared.instr.ScriptKind.{ScriptKind}
 use Rattle.bbop_isa.specs.declared.instr.ScriptKind.TheVariants.{Lex, BadNumber}
 use Rattle.bbop_isa.specs.declared.instr.LineError.{LineError}
 use Rattle.bbop_isa.specs.declared.instr.LineError.TheVariants as line_no
-use Rattle.bbop_isa.specs.Words.{Word, Name, Number, Comma, Other, words_in, word_view, texts}
-use Rattle.bbop_isa.specs.Forms.{Operands, Instruction, operands_of, number_or_zero, view_of}
-use Rattle.bbop_isa.specs.Forms.{line_of}
+use Rattle.bbop_isa.specs.Words.{Word, Number, Open, Colon, Close, words_in, word_view}
+use Rattle.bbop_isa.specs.Operands.{Written, Whole, Bit, Bits, Term, Named, Value, Break, Stray}
+use Rattle.bbop_isa.specs.Operands.{Operands, operands_in, operands_of}
+use Rattle.bbop_isa.specs.Forms.{Instruction, number_or_zero, view_of, line_of}
 use Rattle.bbop_isa.specs.Script.{go_on}
 
 -- The answer on a line is what was meant.
@@ -31,64 +36,89 @@ WordsOf line (Ok words) = words_in (items_of line) ≡ Some (map word_view words
 WordsOf line (Err (line_no.Bad kind)) = (words_in (items_of line) ≡ None) × (kind ≡ Lex)
 WordsOf line (Err line_no.NoMemory) = Unit {0}
 
+-- the number of a bit in brackets, where words begin so
+abbrev pub bit_in : List Word → Option (Option ℕ)
+bit_in (Open ∷ Number k ∷ Close ∷ words) = Some k
+bit_in words = None
+
+-- the ends of bits in brackets, where words begin so
+abbrev pub bits_in : List Word → Option (Option ℕ × Option ℕ)
+bits_in (Open ∷ Number low ∷ Colon ∷ Number high ∷ Close ∷ words) = Some (low, high)
+bits_in words = None
+
+-- an operand without where its name lies in memory
+abbrev pub written_view : KeptWritten → Written
+written_view (written.Whole name) = Whole name.now
+written_view (written.Bit name k) = Bit name.now k
+written_view (written.Bits name low high) = Bits name.now low high
+
+-- a term without where it lies in memory
+abbrev pub term_view : KeptTerm → Term
+term_view (term.Named place) = Named (written_view place)
+term_view (term.Value number) = Value number
+term_view term.Break = Break
+term_view term.Stray = Stray
+
 -- the operands that the parser holds, without where its lists lie in memory
 abbrev pub operands_view : KeptOperands → Operands
-operands_view o = record { names = texts o.names.items; numbers = o.numbers.items }
+operands_view o = record { places = map written_view o.places.items; numbers = o.numbers.items }
 
--- operands after these: no name after a number
-abbrev pub joined : List (List ℕ) → List (Option ℕ) → List (List ℕ) → List (Option ℕ)
+-- operands after these: no object after a number
+abbrev pub joined : List Written → List (Option ℕ) → List Written → List (Option ℕ)
     → Option Operands
-joined names [] more numbers = Some (record { names = names ++ more; numbers = numbers })
-joined names (n ∷ ns) [] numbers = Some (record { names = names; numbers = (n ∷ ns) ++ numbers })
-joined names (n ∷ ns) (m ∷ more) numbers = None
+joined places [] more numbers = Some (record { places = places ++ more; numbers = numbers })
+joined places (n ∷ ns) [] numbers = Some (record {
+  places = places;
+  numbers = (n ∷ ns) ++ numbers;
+})
+joined places (n ∷ ns) (m ∷ more) numbers = None
 
 -- the operands of the rest of a line after those read so far
-abbrev pub joined_after : List (List ℕ) → List (Option ℕ) → Option Operands → Option Operands
-joined_after names numbers None = None
-joined_after names numbers (Some o) = joined names numbers o.names o.numbers
+abbrev pub joined_after : List Written → List (Option ℕ) → Option Operands → Option Operands
+joined_after places numbers None = None
+joined_after places numbers (Some o) = joined places numbers o.places o.numbers
 
--- what the operands so far and the words that are left come to, where the next is to be a comma or
+-- what the operands so far and the terms that are left come to, where the next is to be a comma or
 -- not
-abbrev pub left : Bool → List (List ℕ) → List (Option ℕ) → List Word → Option Operands
-left false names numbers words = joined_after names numbers (operands_of words)
-left true names numbers [] = Some (record { names = names; numbers = numbers })
-left true names numbers (Comma ∷ words) = joined_after names numbers (operands_of words)
-left true names numbers (Name name ∷ words) = None
-left true names numbers (Number number ∷ words) = None
-left true names numbers (Other ∷ words) = None
+abbrev pub left : Bool → List Written → List (Option ℕ) → List Term → Option Operands
+left false places numbers terms = joined_after places numbers (operands_in terms)
+left true places numbers [] = Some (record { places = places; numbers = numbers })
+left true places numbers (Break ∷ terms) = joined_after places numbers (operands_in terms)
+left true places numbers (Named place ∷ terms) = None
+left true places numbers (Value number ∷ terms) = None
+left true places numbers (Stray ∷ terms) = None
 
--- what the parser's operands and the words that are left come to
-abbrev pub left_in : KeptOperands → List Word → Option Operands
-left_in o words = left o.at_comma (texts o.names.items) o.numbers.items words
+-- what the parser's operands and the terms that are left come to
+abbrev pub left_in : KeptOperands → List Term → Option Operands
+left_in o terms = left o.at_comma (map written_view o.places.items) o.numbers.items terms
 
--- One word was taken: what the words come to is as before. Or it was not: they come to nothing.
-abbrev pub Takes : KeptOperands → Kept → Result Bool LineError → KeptOperands → Type 0
-Takes old word (Ok true) new = (words : List Word)
-    → left_in old (word_view word ∷ words) ≡ left_in new words
-Takes old word (Ok false) new = (words : List Word) → left_in old (word_view word ∷ words) ≡ None
-Takes old word (Err (line_no.Bad kind)) new = ⊥
-Takes old word (Err line_no.NoMemory) new = Unit {0}
+-- One term was taken: what the terms come to is as before. Or it was not: they come to nothing.
+abbrev pub Takes : KeptOperands → Term → Result Bool LineError → KeptOperands → Type 0
+Takes old term (Ok true) new = (terms : List Term) → left_in old (term ∷ terms) ≡ left_in new terms
+Takes old term (Ok false) new = (terms : List Term) → left_in old (term ∷ terms) ≡ None
+Takes old term (Err (line_no.Bad kind)) new = ⊥
+Takes old term (Err line_no.NoMemory) new = Unit {0}
 
--- the operands with one word more, where it may stand there
-abbrev pub takes : List (List ℕ) → List (Option ℕ) → Word → Option Operands
-takes names [] (Name name) = Some (record { names = names ++ name ∷ []; numbers = [] })
-takes names (n ∷ ns) (Name name) = None
-takes names numbers (Number number) = Some (record {
-  names = names;
+-- the operands with one term more, where it may stand there
+abbrev pub takes : List Written → List (Option ℕ) → Term → Option Operands
+takes places [] (Named place) = Some (record { places = places ++ place ∷ []; numbers = [] })
+takes places (n ∷ ns) (Named place) = None
+takes places numbers (Value number) = Some (record {
+  places = places;
   numbers = numbers ++ number
       ∷ [];
 })
-takes names numbers Comma = None
-takes names numbers Other = None
+takes places numbers Break = None
+takes places numbers Stray = None
 
--- One word was added to the operands, or it may not stand there.
-abbrev pub Pushes : KeptOperands → Kept → Result Bool LineError → KeptOperands → Type 0
-Pushes old word (Ok true) new = takes (texts old.names.items) old.numbers.items (word_view word)
+-- One term was added to the operands, or it may not stand there.
+abbrev pub Pushes : KeptOperands → Term → Result Bool LineError → KeptOperands → Type 0
+Pushes old term (Ok true) new = takes (map written_view old.places.items) old.numbers.items term
     ≡ Some (operands_view new)
-Pushes old word (Ok false) new = takes (texts old.names.items) old.numbers.items (word_view word)
+Pushes old term (Ok false) new = takes (map written_view old.places.items) old.numbers.items term
     ≡ None
-Pushes old word (Err (line_no.Bad kind)) new = ⊥
-Pushes old word (Err line_no.NoMemory) new = Unit {0}
+Pushes old term (Err (line_no.Bad kind)) new = ⊥
+Pushes old term (Err line_no.NoMemory) new = Unit {0}
 
 -- The operands are those that the words are, if they are some.
 abbrev pub OperandsOf : List Kept → Result (Option KeptOperands) LineError → Type 0

@@ -1,22 +1,25 @@
 //! The forms of a line.
 
-ghost use Rattle.std.specs.Prelude.{◌≡◌, ◌≢◌, ◌&&◌, ◌+◌, ◌≤◌, ◌<◌, List, [], ◌∷◌, length, map};
-ghost use Rattle.std.specs.Prelude.{drop, Some, None, Ok, Err, true, false, IfSome, MatchOption};
+ghost use Rattle.std.specs.Prelude.{◌≡◌, ◌≢◌, ◌&&◌, ◌-◌, ◌≤◌, ◌<◌, List, [], ◌∷◌, length, map};
+ghost use Rattle.std.specs.Prelude.{drop, Some, None, Ok, Err, true, false, nat_lt, IfSome};
+ghost use Rattle.std.specs.Prelude.{MatchOption};
 ghost use Rattle.std.specs.List.{list_all};
 ghost use Rattle.std.specs.Option.{option_map};
 ghost use Rattle.text_lex.specs.Spelled.{fits_name};
-ghost use Rattle.bbop_isa.specs.Words.{word_view, texts as texts_in};
-ghost use Rattle.bbop_isa.specs.Forms.{view_of, is_count, is_width, is_seed, number_or_zero};
-ghost use Rattle.bbop_isa.specs.Forms.{init_of};
-ghost use Rattle.bbop_isa.specs.Forms.{bbop_of, load_of, fill_of, lone_name, order_of, verb_of};
-ghost use Rattle.bbop_isa.specs.Forms.{of_operands, instruction_of, line_of};
+ghost use Rattle.bbop_isa.specs.Words.{word_view};
+ghost use Rattle.bbop_isa.specs.Forms.{view_of, is_bit, is_count, is_width, is_seed};
+ghost use Rattle.bbop_isa.specs.Forms.{number_or_zero, name_of, has_name, has_bits, place_of};
+ghost use Rattle.bbop_isa.specs.Forms.{init_of, bbop_of, load_of, fill_of, print_of, free_of};
+ghost use Rattle.bbop_isa.specs.Forms.{order_of, verb_of, of_operands, instruction_of, line_of};
 ghost use Rattle.bbop_isa.specs.Reading.{Gives, ValuesOf, IsNoTarget, operands_view};
+ghost use Rattle.bbop_isa.specs.Reading.{written_view};
 
 use crate::digits::Digits;
 use crate::instr::LineError::{self, Bad};
 use crate::instr::ScriptKind::{BadName, BadNumber, Syntax};
-use crate::instr::{Instr, Order};
+use crate::instr::{Instr, Order, Part, Place};
 use crate::operands::{Operands, operands_of};
+use crate::terms::Written;
 use crate::words::{Word, words_of};
 use arrayvec::ArrayVec;
 use bit_rows::{Value, WIDTH_MAX};
@@ -107,10 +110,135 @@ fn sizes_of(count: &Digits<'_>, n: &Digits<'_>) -> Option<(u32, u8)>
     Some((count_of(count.value())?, width_of(n.value())?))
 }
 
-fn init_of(names: &[&[u8]], numbers: &[Digits<'_>]) -> Result<Instr, LineError>
-    ensures { Gives view_of (init_of (texts_in names.now) numbers.now) result }
+/// The part of one bit.
+fn bit_of(number: Option<Value>) -> Option<Part>
+    ensures { MatchOption result (is_bit number ≡ false) (λ part. (is_bit number ≡ true)
+        × (part.low ≡ number_or_zero number) × (part.size ≡ 1)) }
 {
-    let Some(name) = only(names) else {
+    match number {
+        Some(low) if low < Value::from(WIDTH_MAX) => Some(Part {
+            low: low as u8,
+            size: 1,
+        }),
+        _ => None,
+    }
+}
+
+/// The part of the bits from one up to, not with, another.
+fn bits_of(low: Option<Value>, high: Option<Value>) -> Option<Part>
+    ensures { MatchOption result
+        ((is_bit low && (is_width high && nat_lt (number_or_zero low) (number_or_zero high)))
+        ≡ false) (λ part. ((is_bit low && (is_width high
+        && nat_lt (number_or_zero low) (number_or_zero high))) ≡ true)
+        × (part.low ≡ number_or_zero low)
+        × (part.size ≡ number_or_zero high - number_or_zero low)) }
+{
+    let low = bit_of(low)?.low;
+    let high = width_of(high)?;
+    if low < high {
+        Some(Part {
+            low,
+            size: high - low,
+        })
+    } else {
+        None
+    }
+}
+
+/// The place of an operand with this name, where its bits are right.
+fn placed(name: Name, written: &Written<'_>) -> Option<Place>
+    requires { name ≡ name_of (written_view written.now) }
+    ensures { MatchOption result (has_bits (written_view written.now)
+        ≡ false) (λ place. (has_bits (written_view written.now) ≡ true)
+        × (place ≡ place_of (written_view written.now))) }
+{
+    let part = match written {
+        Written::Whole(_) => None,
+        Written::Bit(_, k) => Some(bit_of(k.value())?),
+        Written::Bits(_, low, high) => Some(bits_of(low.value(), high.value())?),
+    };
+    Some(Place { name, part })
+}
+
+/// The place of an operand, where its name and its bits are right.
+fn place_of(written: &Written<'_>) -> Option<Place>
+    ensures { MatchOption result ((has_name (written_view written.now)
+        && has_bits (written_view written.now)) ≡ false) (λ place.
+        ((has_name (written_view written.now) && has_bits (written_view written.now)) ≡ true)
+        × (place ≡ place_of (written_view written.now))) }
+{
+    placed(Name::new(written.name())?, written)
+}
+
+/// Whether the operand's name is right.
+fn has_name(written: &Written<'_>) -> bool
+    ensures { result ≡ has_name (written_view written.now) }
+{
+    Name::new(written.name()).is_some()
+}
+
+fn all_have_names(places: &[Written<'_>]) -> bool
+    ensures { result ≡ list_all (λ place. has_name (written_view place)) places.now }
+{
+    places.iter().all(|place| has_name(place))
+}
+
+/// Whether each operand's name is right.
+fn are_named(places: &[Written<'_>]) -> bool
+    ensures { result ≡ list_all has_name (map written_view places.now) }
+{
+    all_have_names(places)
+}
+
+/// The name of an operation, where it and those of its operands are right.
+fn op_of(op: &[u8], dst: &Written<'_>, srcs: &[Written<'_>]) -> Option<Name>
+    ensures { MatchOption result ((fits_name op.now && list_all has_name (written_view dst.now
+        ∷ map written_view srcs.now)) ≡ false) (λ name. ((fits_name op.now
+        && list_all has_name (written_view dst.now ∷ map written_view srcs.now)) ≡ true)
+        × (name ≡ op.now)) }
+{
+    let name = Name::new(op)?;
+    if !has_name(dst) {
+        return None;
+    }
+    if !are_named(srcs) {
+        return None;
+    }
+    Some(name)
+}
+
+/// The places of named operands, where the bits of all are right.
+fn places_of(places: &[Written<'_>]) -> Option<ArrayVec<Place, 5>>
+    requires few { length places.now ≤ 5 }
+    requires named { list_all has_name (map written_view places.now) ≡ true }
+    ensures { MatchOption result (list_all has_bits (map written_view places.now)
+        ≡ false) (λ meant. (list_all has_bits (map written_view places.now) ≡ true)
+        × (meant.items ≡ map place_of (map written_view places.now))) }
+{
+    let mut meant = ArrayVec::new();
+    for written in places {
+        meant.push(place_of(written)?);
+    }
+    Some(meant)
+}
+
+/// The places of named operands, a destination and sources, where the bits of all are right.
+fn targets_of(dst: &Written<'_>, srcs: &[Written<'_>]) -> Option<(Place, ArrayVec<Place, 5>)>
+    requires few { length srcs.now ≤ 5 }
+    requires named { list_all has_name (written_view dst.now ∷ map written_view srcs.now) ≡ true }
+    ensures { MatchOption result (list_all has_bits (written_view dst.now
+        ∷ map written_view srcs.now) ≡ false) (λ p. (list_all has_bits (written_view dst.now
+        ∷ map written_view srcs.now) ≡ true) × (p.0 ≡ place_of (written_view dst.now))
+        × (p.1.items ≡ map place_of (map written_view srcs.now))) }
+{
+    let dst = place_of(dst)?;
+    Some((dst, places_of(srcs)?))
+}
+
+fn init_of(places: &[Written<'_>], numbers: &[Digits<'_>]) -> Result<Instr, LineError>
+    ensures { Gives view_of (init_of (map written_view places.now) numbers.now) result }
+{
+    let Some(Written::Whole(name)) = only(places) else {
         return Err(Bad(Syntax));
     };
     let Some((count, n)) = pair(numbers) else {
@@ -125,52 +253,31 @@ fn init_of(names: &[&[u8]], numbers: &[Digits<'_>]) -> Result<Instr, LineError>
     }
 }
 
-/// The names of one to five further names, where all are right.
-fn sources_of(texts: &[&[u8]]) -> Option<ArrayVec<Name, 5>>
-    requires { length texts.now ≤ 5 }
-    ensures { MatchOption result (list_all fits_name (texts_in texts.now)
-        ≡ false) (λ names. (list_all fits_name (texts_in texts.now) ≡ true)
-        × (names.items ≡ texts_in texts.now)) }
-{
-    let mut names = ArrayVec::new();
-    for text in texts {
-        names.push(Name::new(text)?);
-    }
-    Some(names)
-}
-
-/// The names of an operation, its destination and its sources, where all are right.
-fn names_of(op: &[u8], dst: &[u8], srcs: &[&[u8]]) -> Option<(Name, Name, ArrayVec<Name, 5>)>
-    requires { length srcs.now ≤ 5 }
-    ensures { MatchOption result (list_all fits_name (op.now ∷ dst.now ∷ texts_in srcs.now)
-        ≡ false) (λ p. (list_all fits_name (op.now ∷ dst.now ∷ texts_in srcs.now) ≡ true)
-        × (p.0 ≡ op.now) × (p.1 ≡ dst.now) × (p.2.items ≡ texts_in srcs.now)) }
-{
-    Some((Name::new(op)?, Name::new(dst)?, sources_of(srcs)?))
-}
-
-/// The first of two or more names, and one to five others.
-fn targets<'a, 'b>(names: &'b [&'a [u8]]) -> Option<(&'a [u8], &'b [&'a [u8]])>
-    ensures { MatchOption result (IsNoTarget names.now) (λ p. (names.now ≡ p.0 ∷ p.1.now)
+/// The first of two or more operands, and one to five others.
+fn targets<'a, 'b>(places: &'b [Written<'a>]) -> Option<(&'b Written<'a>, &'b [Written<'a>])>
+    ensures { MatchOption result (IsNoTarget places.now) (λ p. (places.now ≡ p.0.now ∷ p.1.now)
         × (1 ≤ length p.1.now) × (length p.1.now ≤ 5)) }
 {
-    match names.split_first() {
-        Some((dst, srcs)) if 1 <= srcs.len() && srcs.len() <= 5 => Some((*dst, srcs)),
+    match places.split_first() {
+        Some((dst, srcs)) if 1 <= srcs.len() && srcs.len() <= 5 => Some((dst, srcs)),
         _ => None,
     }
 }
 
-fn bbop_of(op: &[u8], names: &[&[u8]], numbers: &[Digits<'_>]) -> Result<Instr, LineError>
-    ensures { Gives view_of (bbop_of op.now (texts_in names.now) numbers.now) result }
+fn bbop_of(op: &[u8], places: &[Written<'_>], numbers: &[Digits<'_>]) -> Result<Instr, LineError>
+    ensures { Gives view_of (bbop_of op.now (map written_view places.now) numbers.now) result }
 {
-    let Some((dst, srcs)) = targets(names) else {
+    let Some((dst, srcs)) = targets(places) else {
         return Err(Bad(Syntax));
     };
     let Some((count, n)) = pair(numbers) else {
         return Err(Bad(Syntax));
     };
-    let Some((op, dst, srcs)) = names_of(op, dst, srcs) else {
+    let Some(op) = op_of(op, dst, srcs) else {
         return Err(Bad(BadName));
+    };
+    let Some((dst, srcs)) = targets_of(dst, srcs) else {
+        return Err(Bad(BadNumber));
     };
     match sizes_of(count, n) {
         Some((count, n)) => Ok(Instr::Bbop {
@@ -198,52 +305,79 @@ fn values_of(numbers: &[Digits<'_>], alloc: Global) -> Result<Vec<Value>, LineEr
     Ok(values)
 }
 
-fn load_of(names: &[&[u8]], numbers: &[Digits<'_>], alloc: Global) -> Result<Instr, LineError>
-    ensures { Gives view_of (load_of (texts_in names.now) numbers.now) result }
+fn load_of(
+    places: &[Written<'_>],
+    numbers: &[Digits<'_>],
+    alloc: Global,
+) -> Result<Instr, LineError>
+    ensures { Gives view_of (load_of (map written_view places.now) numbers.now) result }
 {
-    let Some(name) = only(names) else {
+    let Some(place) = only(places) else {
         return Err(Bad(Syntax));
     };
     if numbers.is_empty() {
         return Err(Bad(Syntax));
     }
-    let Some(name) = Name::new(name) else {
+    let Some(name) = Name::new(place.name()) else {
         return Err(Bad(BadName));
     };
+    let Some(place) = placed(name, place) else {
+        return Err(Bad(BadNumber));
+    };
     let values = values_of(numbers, alloc)?;
-    Ok(Instr::Load { name, values })
+    Ok(Instr::Load { place, values })
 }
 
-fn fill_of(names: &[&[u8]], numbers: &[Digits<'_>]) -> Result<Instr, LineError>
-    ensures { Gives view_of (fill_of (texts_in names.now) numbers.now) result }
+fn fill_of(places: &[Written<'_>], numbers: &[Digits<'_>]) -> Result<Instr, LineError>
+    ensures { Gives view_of (fill_of (map written_view places.now) numbers.now) result }
 {
-    let Some(name) = only(names) else {
+    let Some(place) = only(places) else {
         return Err(Bad(Syntax));
     };
     let Some(number) = only(numbers) else {
         return Err(Bad(Syntax));
     };
-    let Some(name) = Name::new(name) else {
+    let Some(name) = Name::new(place.name()) else {
         return Err(Bad(BadName));
     };
+    let Some(place) = placed(name, place) else {
+        return Err(Bad(BadNumber));
+    };
     match number.value() {
-        Some(value) => Ok(Instr::Fill { name, value }),
+        Some(value) => Ok(Instr::Fill { place, value }),
         None => Err(Bad(BadNumber)),
     }
 }
 
-/// The one name that stands alone.
-fn lone_name(names: &[&[u8]], numbers: &[Digits<'_>]) -> Result<Name, LineError>
-    ensures { Gives (λ name. name) (lone_name (texts_in names.now) numbers.now) result }
+fn print_of(places: &[Written<'_>], numbers: &[Digits<'_>]) -> Result<Instr, LineError>
+    ensures { Gives view_of (print_of (map written_view places.now) numbers.now) result }
 {
-    let Some(name) = only(names) else {
+    let Some(place) = only(places) else {
+        return Err(Bad(Syntax));
+    };
+    if !numbers.is_empty() {
+        return Err(Bad(Syntax));
+    }
+    let Some(name) = Name::new(place.name()) else {
+        return Err(Bad(BadName));
+    };
+    let Some(place) = placed(name, place) else {
+        return Err(Bad(BadNumber));
+    };
+    Ok(Instr::Print { place })
+}
+
+fn free_of(places: &[Written<'_>], numbers: &[Digits<'_>]) -> Result<Instr, LineError>
+    ensures { Gives view_of (free_of (map written_view places.now) numbers.now) result }
+{
+    let Some(Written::Whole(name)) = only(places) else {
         return Err(Bad(Syntax));
     };
     if !numbers.is_empty() {
         return Err(Bad(Syntax));
     }
     match Name::new(name) {
-        Some(name) => Ok(name),
+        Some(name) => Ok(Instr::Free { name }),
         None => Err(Bad(BadName)),
     }
 }
@@ -291,19 +425,15 @@ fn of_operands(
     requires { verb ≡ Verb.Bbop → 5 ≤ length head.now }
     ensures { Gives view_of (of_operands head.now verb (operands_view operands.now)) result }
 {
-    let names = operands.names.as_slice();
+    let places = operands.places.as_slice();
     let numbers = operands.numbers.as_slice();
     match verb {
-        Verb::Init => init_of(names, numbers),
-        Verb::Bbop => bbop_of(&head[5..], names, numbers),
-        Verb::Load => load_of(names, numbers, alloc),
-        Verb::Fill => fill_of(names, numbers),
-        Verb::Print => Ok(Instr::Print {
-            name: lone_name(names, numbers)?,
-        }),
-        Verb::Free => Ok(Instr::Free {
-            name: lone_name(names, numbers)?,
-        }),
+        Verb::Init => init_of(places, numbers),
+        Verb::Bbop => bbop_of(&head[5..], places, numbers),
+        Verb::Load => load_of(places, numbers, alloc),
+        Verb::Fill => fill_of(places, numbers),
+        Verb::Print => print_of(places, numbers),
+        Verb::Free => free_of(places, numbers),
     }
 }
 

@@ -19,6 +19,20 @@ pub enum Order {
     Seed(u64),
 }
 
+/// So many bits of each element, from bit `low` on.
+#[derive(Clone, Copy, Debug, PartialEq, Eq)]
+pub struct Part {
+    pub low: u8,
+    pub size: u8,
+}
+
+/// An operand: an object by its name, or a part of it.
+#[derive(Default, Drop)]
+pub struct Place {
+    pub name: Name,
+    pub part: Option<Part>,
+}
+
 /// One instruction. `count` is a number of elements and `n` their width in bits.
 #[derive(Drop)]
 pub enum Instr {
@@ -28,27 +42,27 @@ pub enum Instr {
         count: u32,
         n: u8,
     },
-    /// `bbop_OP DST, SRC, .., COUNT, N` with one to five further names.
+    /// `bbop_OP DST, SRC, .., COUNT, N` with one to five further operands.
     Bbop {
         op: Name,
-        dst: Name,
-        srcs: ArrayVec<Name, 5>,
+        dst: Place,
+        srcs: ArrayVec<Place, 5>,
         count: u32,
         n: u8,
     },
-    /// `load NAME, V, ..`
+    /// `load PLACE, V, ..`
     Load {
-        name: Name,
+        place: Place,
         values: Vec<Value>,
     },
-    /// `fill NAME, V`
+    /// `fill PLACE, V`
     Fill {
-        name: Name,
+        place: Place,
         value: Value,
     },
-    /// `print NAME`
+    /// `print PLACE`
     Print {
-        name: Name,
+        place: Place,
     },
     /// `free NAME`
     Free {

@@ -1,20 +1,20 @@
 //! What is proved of the definitions alone.
 
-ghost use Rattle.bbop_isa.specs.Laws.{LinesAreRight, OperandsAreSpelled, LinesAreForms};
-ghost use Rattle.bbop_isa.specs.Laws.{ScriptsGoByLines};
-ghost use Rattle.bbop_isa.specs.Kinds.{LinesAreWrong};
+ghost use Rattle.bbop_isa.specs.Laws.{LinesAreRight, ScriptsGoByLines};
+ghost use Rattle.bbop_isa.specs.Operands.{OperandsAreSpelled};
+ghost use Rattle.bbop_isa.specs.Kinds.{LinesAreForms, LinesAreWrong};
 
 /// The lines of a text are what stands between its newlines.
 pub fn lines_are_right()
     ensures { LinesAreRight }
 {}
 
-/// Operands are names and then numbers, with commas between them.
+/// Operands are objects or parts of them and then numbers, with commas between them.
 pub fn operands_are_spelled()
     ensures { OperandsAreSpelled }
 {}
 
-/// A line says an instruction exactly where it is of the instruction's form, with names and numbers
+/// A line says an instruction exactly where it is of a form that means it, with names and numbers
 /// that are right.
 pub fn lines_are_forms()
     ensures { LinesAreForms }

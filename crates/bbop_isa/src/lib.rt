@@ -8,10 +8,11 @@ mod laws;
 mod lines;
 mod operands;
 mod script;
+mod terms;
 mod words;
 
 pub use forms::line_of;
-pub use instr::{Instr, LineError, Order, ScriptFault, ScriptKind, ScriptNo};
+pub use instr::{Instr, LineError, Order, Part, Place, ScriptFault, ScriptKind, ScriptNo};
 pub use laws::{
     lines_are_forms, lines_are_right, lines_are_wrong, operands_are_spelled, scripts_go_by_lines,
 };

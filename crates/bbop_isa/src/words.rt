@@ -4,7 +4,7 @@ ghost use Rattle.std.specs.Prelude.{◌≡◌};
 ghost use Rattle.std.specs.Char.{is_ascii_digit};
 ghost use Rattle.std.specs.List.{AllPass};
 ghost use Rattle.text_lex.specs.declared.token.TokenKind.TheVariants as kind;
-ghost use Rattle.bbop_isa.specs.Words.{word_at, word_view};
+ghost use Rattle.bbop_isa.specs.Words.{symbol_at, word_at, word_view};
 ghost use Rattle.bbop_isa.specs.Reading.{WordsOf};
 
 use crate::digits::Digits;
@@ -19,7 +19,28 @@ pub(crate) enum Word<'a> {
     Name(&'a [u8]),
     Number(Digits<'a>),
     Comma,
+    /// `[`
+    Open,
+    Colon,
+    /// `]`
+    Close,
     Other,
+}
+
+fn symbol_of(text: &[u8]) -> Word<'_>
+    ensures { word_view result ≡ symbol_at text.now }
+{
+    if text == b",".as_slice() {
+        Word::Comma
+    } else if text == b"[".as_slice() {
+        Word::Open
+    } else if text == b":".as_slice() {
+        Word::Colon
+    } else if text == b"]".as_slice() {
+        Word::Close
+    } else {
+        Word::Other
+    }
 }
 
 fn word_of(token: Token<'_>) -> Word<'_>
@@ -29,13 +50,7 @@ fn word_of(token: Token<'_>) -> Word<'_>
     match token.kind {
         TokenKind::Name => Word::Name(token.text),
         TokenKind::Number => Word::Number(Digits::new(token.text)),
-        TokenKind::Symbol => {
-            if token.text == b",".as_slice() {
-                Word::Comma
-            } else {
-                Word::Other
-            }
-        }
+        TokenKind::Symbol => symbol_of(token.text),
     }
 }
 

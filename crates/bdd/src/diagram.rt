@@ -2,33 +2,33 @@
 
 ghost use Rattle.std.specs.Prelude.{◌≡◌, ◌≢◌, ◌<◌, ◌≤◌, ◌∷◌, [], ℕ, Bool, true, false, IfOk};
 ghost use Rattle.std.specs.Prelude.{IfSome, IfNone};
-ghost use Rattle.std.specs.Prelude.{OnErr, Err, length};
+ghost use Rattle.std.specs.Prelude.{◌+◌, Err, length};
 ghost use Rattle.bit_rows.specs.Bits.{majority, flip_if};
 ghost use Rattle.bdd.specs.declared.Edge.{Edge};
-ghost use Rattle.bdd.specs.declared.Shortage.TheVariants.{Full};
+ghost use Rattle.bdd.specs.declared.Limits.{Limits};
+ghost use Rattle.bdd.specs.declared.Shortage.{Shortage};
+ghost use Rattle.bdd.specs.declared.TheConstants.{DEPTH};
 ghost use Rattle.bdd.specs.Edges.{choice, constant, plain, behind, first_node};
 ghost use Rattle.bdd.specs.Graphs.{AreNodes, AreNamed, IsNamed, IsChoice, IsCofactor, Keeps};
-ghost use Rattle.bdd.specs.Graphs.{IsFirst, IsSide};
+ghost use Rattle.bdd.specs.Graphs.{IsFirst, IsSide, AreDeep, HasReached};
 ghost use Rattle.bdd.specs.Graphs.{top, value, node_at};
 ghost use Rattle.bdd.specs.Paths.{assigned};
 
 use crate::forms::{largest_first, normal, ordered, settled, simple};
 use crate::nodes::{cofactor, first_variable, store};
-use crate::path::{evaluate, walk};
+use crate::path::{Uncounted, evaluate, walk};
 use crate::table::{blank, choice_hash, widen_answers};
 use crate::{
-    Choice, Computed, Edge, NoMemory, Node, Shortage, complement, complement_if, constant,
-    is_choice, is_edge, plain,
+    Choice, Computed, DEPTH, Edge, Limits, NoMemory, Node, Shortage, complement, complement_if,
+    constant, is_choice, is_edge, plain,
 };
 use std::alloc::Global;
 use std::marker::Model;
 
-/// The greatest number of variables that a function may ask for in turn.
-const DEPTH: u32 = 8192;
-
 /// Nodes, with a table that finds them and one of answers that were given.
 pub struct Diagram {
-    bound: u32,
+    limits: Limits,
+    questions: u64,
     nodes: Vec<Node>,
     slots: Vec<u32>,
     answers: Vec<Computed>,
@@ -37,7 +37,8 @@ pub struct Diagram {
 impl Drop for Diagram {
     fn drop(self) {
         let Diagram {
-            bound: _,
+            limits: _,
+            questions: _,
             nodes: _,
             slots: _,
             answers: _,
@@ -50,9 +51,13 @@ impl Model for Diagram {
 
     ghost Value = { Graph };
 
-    ghost view = { λ d. record { bound = d.bound; nodes = d.nodes.items } };
+    ghost view = { λ d. record {
+      limits = d.limits;
+      questions = d.questions;
+      nodes = d.nodes.items;
+    } };
 
-    ghost invariant = { λ d. IsDiagram d.bound d.nodes.items d.answers.items };
+    ghost invariant = { λ d. IsDiagram d.limits d.nodes.items d.answers.items };
 }
 
 /// The edges that are left where the variable has this value.
@@ -75,12 +80,19 @@ fn parts(nodes: &[Node], c: Choice, variable: u32, value: bool) -> (Edge, Edge, 
 }
 
 impl Diagram {
-    /// The constant alone, with a bound on the nodes, so many slots of the table at first, and room
-    /// for so many answers at first.
-    pub fn new(bound: u32, slots: usize, answers: usize, alloc: Global) -> Result<Diagram, NoMemory>
-        requires { 0 < bound }
+    /// The constant alone, with these limits, so many slots of the table at first, and room for so
+    /// many answers at first.
+    pub fn new(
+        limits: Limits,
+        slots: usize,
+        answers: usize,
+        alloc: Global,
+    ) -> Result<Diagram, NoMemory>
+        requires some { 0 < limits.nodes }
+        requires variables { limits.variables ≤ behind }
         ensures nodes { IfOk result (λ d. AreNodes d.nodes) }
-        ensures empty { IfOk result (λ d. d ≡ record { bound = bound; nodes = first_node ∷ [] }) }
+        ensures empty { IfOk result (λ d. d
+            ≡ record { limits = limits; questions = 0; nodes = first_node ∷ [] }) }
     {
         let e = constant(false);
         let first = Node {
@@ -92,7 +104,8 @@ impl Diagram {
         let slots = vec![in alloc; 0u32; slots]?;
         let answers = vec![in alloc; blank(); answers]?;
         Ok(Diagram {
-            bound,
+            limits,
+            questions: 0,
             nodes,
             slots,
             answers,
@@ -106,9 +119,29 @@ impl Diagram {
         self.nodes.len() as u32
     }
 
+    /// The number of questions that no kept answer settled.
+    pub fn questions(&self) -> u64
+        ensures { result ≡ self.now.questions }
+    {
+        self.questions
+    }
+
+    /// Counts a question, if the limit allows one more.
+    fn count(&mut self) -> Result<(), Shortage>
+        ensures nodes { self.new.nodes ≡ self.old.nodes }
+        ensures limits { self.new.limits ≡ self.old.limits }
+        ensures reached { (s : Shortage) → result ≡ Err s → HasReached s self.new }
+    {
+        if self.questions >= self.limits.questions {
+            return Err(Shortage::Spent);
+        }
+        self.questions += 1;
+        Ok(())
+    }
+
     /// The function that is `high` where the variable is true, else `low`.
     fn branch(&mut self, variable: u32, low: Edge, high: Edge) -> Result<Edge, Shortage>
-        requires variable { variable < behind }
+        requires variable { variable < self.old.limits.variables }
         requires low { IsNamed self.old.nodes low }
         requires high { IsNamed self.old.nodes high }
         requires low_later { variable < top self.old.nodes low.node }
@@ -120,10 +153,10 @@ impl Diagram {
         ensures order { IfOk result (λ e. variable ≤ top self.new.nodes e.node) }
         ensures nodes { AreNodes self.new.nodes }
         ensures keeps { Keeps self.old.nodes self.new.nodes }
-        ensures bound { self.new.bound ≡ self.old.bound }
-        ensures full { result ≡ Err Full → self.old.bound ≤ length self.old.nodes }
+        ensures limits { self.new.limits ≡ self.old.limits }
+        ensures reached { (s : Shortage) → result ≡ Err s → HasReached s self.new }
     {
-        let _ = &self.bound;
+        let _ = &self.limits;
         if is_edge(low, high) {
             return Ok(low);
         }
@@ -132,7 +165,7 @@ impl Diagram {
             low: low.node,
             high: complement_if(low.inverted, high),
         };
-        let node = store(&mut self.nodes, &mut self.slots, self.bound, n)?;
+        let node = store(&mut self.nodes, &mut self.slots, self.limits.nodes, n)?;
         Ok(Edge {
             node,
             inverted: low.inverted,
@@ -177,7 +210,8 @@ impl Diagram {
     fn first_of(&self, c: Choice) -> u32
         requires named { AreNamed self.now.nodes (plain c.test) c.high (plain c.low) }
         requires test { c.test ≢ 0 }
-        ensures { IsFirst self.now.nodes (plain c.test) c.high (plain c.low) result }
+        ensures first { IsFirst self.now.nodes (plain c.test) c.high (plain c.low) result }
+        ensures variable { result < self.now.limits.variables }
     {
         first_variable(&self.nodes, c)
     }
@@ -195,13 +229,14 @@ impl Diagram {
     /// The answer to the choice where the variable has this value.
     #[cycle(choices)]
     fn side(&mut self, c: Choice, variable: u32, value: bool, left: u32) -> Result<Edge, Shortage>
-        requires { IsFirst self.old.nodes (plain c.test) c.high (plain c.low) variable }
+        requires first { IsFirst self.old.nodes (plain c.test) c.high (plain c.low) variable }
+        requires deep { DEPTH ≤ variable + 1 + left }
         ensures side { IfOk result (λ e. IsSide self.new.nodes (plain c.test) c.high (plain c.low)
             variable value e) }
         ensures nodes { AreNodes self.new.nodes }
         ensures keeps { Keeps self.old.nodes self.new.nodes }
-        ensures bound { self.new.bound ≡ self.old.bound }
-        ensures full { result ≡ Err Full → self.old.bound ≤ length self.new.nodes }
+        ensures limits { self.new.limits ≡ self.old.limits }
+        ensures reached { (s : Shortage) → result ≡ Err s → HasReached s self.new }
     {
         let (f, g, h) = self.parts(c, variable, value);
         let e = self.choose(f, g, h, left)?;
@@ -213,20 +248,22 @@ impl Diagram {
     fn answer(&mut self, c: Choice, left: u32) -> Result<Edge, Shortage>
         requires named { AreNamed self.old.nodes (plain c.test) c.high (plain c.low) }
         requires test { c.test ≢ 0 }
+        requires deep { AreDeep self.old.nodes left (plain c.test) c.high (plain c.low) }
         ensures answer { IfOk result (λ e. IsChoice self.new.nodes e (plain c.test) c.high
             (plain c.low)) }
         ensures nodes { AreNodes self.new.nodes }
         ensures keeps { Keeps self.old.nodes self.new.nodes }
-        ensures bound { self.new.bound ≡ self.old.bound }
-        ensures full { result ≡ Err Full → self.old.bound ≤ length self.new.nodes }
+        ensures limits { self.new.limits ≡ self.old.limits }
+        ensures reached { (s : Shortage) → result ≡ Err s → HasReached s self.new }
     {
         if let Some(e) = self.recall(c) {
             return Ok(e);
         }
+        let variable = self.first_of(c);
         if left == 0 {
             return Err(Shortage::Deep);
         }
-        let variable = self.first_of(c);
+        self.count()?;
         let high = self.side(c, variable, true, left - 1)?;
         let low = self.side(c, variable, false, left - 1)?;
         let e = self.branch(variable, low, high)?;
@@ -237,14 +274,15 @@ impl Diagram {
     /// The function that is `g` where `f` is true, else `h`.
     #[cycle(choices)]
     fn choose(&mut self, f: Edge, g: Edge, h: Edge, left: u32) -> Result<Edge, Shortage>
-        requires { AreNamed self.old.nodes f g h }
+        requires named { AreNamed self.old.nodes f g h }
+        requires deep { AreDeep self.old.nodes left f g h }
         ensures answer { IfOk result (λ e. IsChoice self.new.nodes e f g h) }
         ensures nodes { AreNodes self.new.nodes }
         ensures keeps { Keeps self.old.nodes self.new.nodes }
-        ensures bound { self.new.bound ≡ self.old.bound }
-        ensures full { result ≡ Err Full → self.old.bound ≤ length self.new.nodes }
+        ensures limits { self.new.limits ≡ self.old.limits }
+        ensures reached { (s : Shortage) → result ≡ Err s → HasReached s self.new }
     {
-        let _ = &self.bound;
+        let _ = &self.limits;
         let (g1, h1) = settled(f, g, h);
         if let Some(e) = simple(f, g1, h1) {
             return Ok(e);
@@ -261,24 +299,24 @@ impl Diagram {
         ensures answer { IfOk result (λ e. IsChoice self.new.nodes e f g h) }
         ensures nodes { AreNodes self.new.nodes }
         ensures keeps { Keeps self.old.nodes self.new.nodes }
-        ensures bound { self.new.bound ≡ self.old.bound }
-        ensures full { result ≡ Err Full → self.old.bound ≤ length self.new.nodes }
+        ensures limits { self.new.limits ≡ self.old.limits }
+        ensures reached { (s : Shortage) → result ≡ Err s → HasReached s self.new }
     {
         self.choose(f, g, h, DEPTH)
     }
 
     /// The function that has the value of a variable.
     pub fn variable(&mut self, variable: u32) -> Result<Edge, Shortage>
-        requires { variable < behind }
+        requires { variable < self.old.limits.variables }
         ensures named { IfOk result (λ e. IsNamed self.new.nodes e) }
         ensures value { IfOk result (λ e. (bits : ℕ → Bool)
             → value self.new.nodes bits e ≡ bits variable) }
         ensures nodes { AreNodes self.new.nodes }
         ensures keeps { Keeps self.old.nodes self.new.nodes }
-        ensures bound { self.new.bound ≡ self.old.bound }
-        ensures full { result ≡ Err Full → self.old.bound ≤ length self.old.nodes }
+        ensures limits { self.new.limits ≡ self.old.limits }
+        ensures reached { (s : Shortage) → result ≡ Err s → HasReached s self.new }
     {
-        let _ = &self.bound;
+        let _ = &self.limits;
         let e = self.branch(variable, constant(false), constant(true))?;
         Ok(e)
     }
@@ -292,10 +330,10 @@ impl Diagram {
             (value self.old.nodes bits c)) }
         ensures nodes { AreNodes self.new.nodes }
         ensures keeps { Keeps self.old.nodes self.new.nodes }
-        ensures bound { self.new.bound ≡ self.old.bound }
-        ensures full { result ≡ Err Full → self.old.bound ≤ length self.new.nodes }
+        ensures limits { self.new.limits ≡ self.old.limits }
+        ensures reached { (s : Shortage) → result ≡ Err s → HasReached s self.new }
     {
-        let _ = &self.bound;
+        let _ = &self.limits;
         let (f, g, h) = largest_first(a, b, c);
         let either = self.ite(g, constant(true), h)?;
         let both = self.ite(g, h, constant(false))?;
@@ -312,15 +350,21 @@ impl Diagram {
             ≡ flip_if (value self.old.nodes bits a) (value self.old.nodes bits b)) }
         ensures nodes { AreNodes self.new.nodes }
         ensures keeps { Keeps self.old.nodes self.new.nodes }
-        ensures bound { self.new.bound ≡ self.old.bound }
-        ensures full { result ≡ Err Full → self.old.bound ≤ length self.new.nodes }
+        ensures limits { self.new.limits ≡ self.old.limits }
+        ensures reached { (s : Shortage) → result ≡ Err s → HasReached s self.new }
     {
         let e = self.ite(a, complement(b), b)?;
         Ok(e)
     }
 
-    /// An assignment under which the function is true, or none where it is constantly false.
-    pub fn witness(&self, e: Edge, alloc: Global) -> Result<Option<Vec<bool>>, NoMemory>
+    /// An assignment under which the function is true, or none where it is constantly false. It has
+    /// the fewest variables that are true, but those that are not counted: no clause says that.
+    pub fn witness(
+        &self,
+        e: Edge,
+        uncounted: Uncounted,
+        alloc: Global,
+    ) -> Result<Option<Vec<bool>>, NoMemory>
         requires { IsNamed self.now.nodes e }
         ensures found { IfOk result (λ o. IfSome o (λ v.
             value self.now.nodes (assigned v.items) e ≡ true)) }
@@ -332,7 +376,7 @@ impl Diagram {
         if e.node == 0 && !e.inverted {
             return Ok(None);
         }
-        let path = walk(nodes, e, alloc)?;
+        let path = walk(nodes, e, uncounted, alloc)?;
         Ok(Some(path))
     }
 
@@ -342,7 +386,7 @@ impl Diagram {
         requires { IsNamed self.now.nodes e }
         ensures { result ≡ value self.now.nodes (assigned path.now) e }
     {
-        let _ = &self.bound;
+        let _ = &self.limits;
         evaluate(&self.nodes, e, path)
     }
 }

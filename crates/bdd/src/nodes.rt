@@ -4,10 +4,11 @@
 ghost use Rattle.std.specs.Prelude.{◌≡◌, ◌⊎◌, ◌≢◌, ◌<◌, ◌≤◌, ◌++◌, ◌∷◌, [], ℕ, Bool};
 ghost use Rattle.std.specs.Prelude.{IfOk, Err, length};
 ghost use Rattle.bdd.specs.declared.Edge.{Edge};
-ghost use Rattle.bdd.specs.declared.Shortage.TheVariants.{Full};
+ghost use Rattle.bdd.specs.declared.Limits.{Limits};
+ghost use Rattle.bdd.specs.declared.Shortage.{Shortage};
 ghost use Rattle.bdd.specs.Edges.{plain, behind};
 ghost use Rattle.bdd.specs.Graphs.{AreNodes, AreNamed, IsNamed, IsProper, IsCofactor, node_at, top};
-ghost use Rattle.bdd.specs.Graphs.{value};
+ghost use Rattle.bdd.specs.Graphs.{value, HasReached};
 
 use crate::table::{Place, find, widen};
 use crate::{Choice, Edge, Node, Shortage, complement_if, plain};
@@ -60,10 +61,15 @@ pub(crate) fn store(
         × (node_at nodes.new.items k ≡ n)) }
     ensures kept { (nodes.new.items ≡ nodes.old.items)
         ⊎ (nodes.new.items ≡ nodes.old.items ++ n ∷ []) }
-    ensures full { result ≡ Err Full → bound ≤ length nodes.old.items }
+    ensures reached { (limits : Limits) (questions : ℕ) → limits.nodes ≡ bound → (s : Shortage)
+        → result ≡ Err s → HasReached s (record {
+          limits = limits;
+          questions = questions;
+          nodes = nodes.new.items;
+        }) }
 {
-    if nodes.len() > slots.len() / 2 {
-        widen(nodes, slots);
+    if nodes.len() > slots.len() / 2 && widen(nodes, slots).is_err() {
+        return Err(Shortage::NoMemory);
     }
     let place = find(nodes, slots, n);
     if let Place::Standing(k) = place {

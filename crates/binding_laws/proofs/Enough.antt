@@ -18,9 +18,9 @@ use Rattle.uprog_code.specs.Fits.{AreBelow, Fits}
 use Rattle.uprog_code.specs.Implements.{numbers, Gives}
 use Rattle.uprog_code.specs.Issued.{AreGood}
 use Rattle.binding_laws.specs.Alike.{Alike}
-use Rattle.binding_laws.specs.Canonical.{canonical, canonical_rows, moved}
+use Rattle.binding_laws.specs.Canonical.{canonical, canonical_rows}
 use Rattle.binding_laws.proofs.Rebound.{run_alike}
-use Rattle.binding_laws.proofs.Settled.{canonical-fits, moved-alike}
+use Rattle.binding_laws.proofs.Settled.{canonical-fits, moved, moved-alike}
 
 range-same : (f g : ℕ → Bool) (a b w : ℕ) → ((i : ℕ) → i < w → f (a + i) ≡ g (b + i))
     → map f (range_with_len a w) ≡ map g (range_with_len b w)

@@ -60,7 +60,7 @@ value-below rows n (k ∷ ks) (b ∷ bs) zero i f h =
 value-below rows n (k ∷ ks) (b ∷ bs) (suc w) i f h = value-below rows n ks bs w i f.1 h
 
 -- what holds of each range
-each-at : (P : Range → Type 0) (rs : List Range) (w : ℕ) (r : Range) → AllByRecursion P rs
+pub each-at : (P : Range → Type 0) (rs : List Range) (w : ℕ) (r : Range) → AllByRecursion P rs
     → slice_get rs w ≡ Some r → P r
 each-at P [] w r h e = absurd (cc)
 each-at P (x ∷ rs) zero r h e = let same : x ≡ r = cc in subst P same h.0

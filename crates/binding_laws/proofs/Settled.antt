@@ -1,11 +1,11 @@
 -- The canonical binding fits, and a column that is moved to it is alike
-use Rattle.std.specs.Prelude.{◌≡◌, ℕ, zero, suc, ◌+◌, ◌-◌, ◌*◌, ◌<◌, ◌≤◌, nat_lt}
+use Rattle.std.specs.Prelude.{◌≡◌, ℕ, zero, suc, ◌+◌, ◌-◌, ◌*◌, ◌<◌, ◌≤◌, nat_lt, Bool}
 use Rattle.std.specs.Prelude.{true, false, List, [], ◌∷◌, length, slice_get, slice_index}
-use Rattle.std.specs.Prelude.{refl}
+use Rattle.std.specs.Prelude.{refl, if◌then◌else◌}
 use Rattle.std.specs.List.{AllByRecursion}
 use Rattle.std.proofs.Common.{◌∙◌, ap, arith}
 use Rattle.std.proofs.lemmas.Bool.{ltb-true, lt-ltb}
-use Rattle.dram_model.specs.declared.address.Cell.TheVariants.{T, Dcc, D}
+use Rattle.dram_model.specs.declared.address.Cell.TheVariants.{T, Dcc, C, D}
 use Rattle.dram_model.specs.Column.{Column}
 use Rattle.op_text.specs.declared.tree.Kind.{Kind}
 use Rattle.op_text.specs.declared.tree.Kind.TheVariants.{Word, Bit}
@@ -18,9 +18,29 @@ use Rattle.uprog_code.specs.Fits.{Range, AreApart, AreBelow, ranges, Fits, ArePa
 use Rattle.uprog_code.specs.Fits.{written, scratch_range, result_ranges}
 use Rattle.uprog_code.specs.Issued.{is_issued_in}
 use Rattle.binding_laws.specs.Alike.{is_data, data_row, Alike}
-use Rattle.binding_laws.specs.Canonical.{bases, result_rows, value_rows, canonical, canonical_rows, pick}
-use Rattle.binding_laws.specs.Canonical.{moved_row, moved}
+use Rattle.binding_laws.specs.Canonical.{bases, result_rows, value_rows, canonical, canonical_rows}
 use Rattle.binding_laws.proofs.Places.{kind_width}
+
+-- the bit at the k-th row of values that begin at these rows, n rows each
+abbrev pub pick : ℕ → List ℕ → Column → ℕ → Bool
+pick n [] t k = false
+pick n (b ∷ bs) t k = if nat_lt k n then t (D (b + k)) else pick n bs t (k - n)
+
+-- the data rows of a column under another binding, as the canonical one places them
+abbrev pub moved_row : Shape → ℕ → ℕ → Bound → Column → ℕ → Bool
+moved_row shape n q c t k =
+    if nat_lt k (result_rows shape n) then pick n c.results t k
+    else if nat_lt k (value_rows shape n) then pick n c.sources t (k - result_rows shape n)
+    else if nat_lt k (value_rows shape n + need shape n)
+    then t (D (c.scratch + (k - value_rows shape n)))
+    else t (D (q - 32 + (k - (value_rows shape n + need shape n))))
+
+-- such a column, as the canonical binding places it
+abbrev pub moved : Shape → ℕ → ℕ → Bound → Column → Column
+moved shape n q c t (T k) = t (T k)
+moved shape n q c t (Dcc k) = t (Dcc k)
+moved shape n q c t (C k) = false
+moved shape n q c t (D k) = moved_row shape n q c t k
 
 -- a range lies from lo up to hi
 pub record Within (lo hi : ℕ) (r : Range) : Type 0 where

@@ -11,11 +11,11 @@ ghost use Rattle.block_lower.specs.Form.{constant, IsBlockBody};
 use crate::choice::{Least, least_graph};
 use crate::inputs::inputs_of;
 use crate::places::{places_of, target_places};
-use crate::rounds::Ranked;
 use aoi_graph::build;
 use faults::keep;
 use loop_ir::{Body, NameMap, Place};
 use mig_graph::{Lit, Mig, MigOuts, NoMemory, from_aoi};
+use mig_rewrite::Sketch;
 use op_text::Assign;
 use row_alloc::{BodyCmd, BodyRef};
 use std::alloc::Global;
@@ -49,7 +49,7 @@ pub(crate) fn constant(value: bool, place: Place, alloc: Global) -> Result<Body,
 #[derive(Drop)]
 pub struct BlockBody {
     pub body: Body,
-    pub(crate) offers: Vec<Ranked>,
+    pub(crate) offers: Vec<Sketch>,
 }
 
 /// The body that does the chosen graph at these places.

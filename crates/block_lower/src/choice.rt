@@ -7,10 +7,10 @@ ghost use Rattle.loop_ir.specs.Plain.{block_of};
 ghost use Rattle.block_lower.specs.Choice.{AreFor, HasFound, HasNoMore, IsNoDearer};
 ghost use Rattle.block_lower.specs.Choice.{IsUnfit, MayStand};
 
-use crate::rounds::{Ranked, best_of, to_try};
+use crate::rounds::{Ranked, Tried, best_first};
 use loop_ir::{Body, Place, out_rows};
 use mig_graph::{MigOuts, NoMemory};
-use mig_rewrite::{kept, offers, reduce};
+use mig_rewrite::{Sketch, kept, offers, reduce};
 use row_alloc::{BodyCmd, Search, find_body};
 use std::alloc::Global;
 
@@ -82,7 +82,7 @@ fn found_for(
 /// nodes than `size`.
 fn offered(
     first: &Choice,
-    offer: &Ranked,
+    offer: &Tried,
     least: usize,
     size: u32,
     reads: &[Place],
@@ -99,7 +99,8 @@ fn offered(
     let Some(graph) = kept(&first.graph, &offer.sketch, alloc)? else {
         return Ok(None);
     };
-    let Some(found) = found_for(&graph, reads, writes, offer.search, least, alloc)? else {
+    let search = Search::Given(&offer.cmds);
+    let Some(found) = found_for(&graph, reads, writes, search, least, alloc)? else {
         return Ok(None);
     };
     let commands = found.len();
@@ -110,11 +111,11 @@ fn offered(
     }
 }
 
-/// Of the offers that are right the first whose body takes the fewest commands, where these are
+/// Of the offers that are right the first with the fewest commands that were found, where these are
 /// fewer than the graph's own, or as many for fewer nodes.
 fn fewest(
     first: &Choice,
-    offers: &[Ranked],
+    offers: &[Tried],
     reads: &[Place],
     writes: &[Place],
     alloc: Global,
@@ -146,64 +147,6 @@ fn most_offers(m: &MigOuts) -> u8 {
     if nodes < 2 { 0 } else { MOST_OFFERS }
 }
 
-/// Commands for the graph's body that are fewer than the other's, or as many where the other has no
-/// fewer nodes.
-fn fewer_for(
-    graph: &MigOuts,
-    other: &Choice,
-    reads: &[Place],
-    writes: &[Place],
-    search: Search,
-    alloc: Global,
-) -> Result<Option<Vec<BodyCmd>>, NoMemory>
-    ensures found { IfOk result (λ o. IfSome o (λ cmds. HasFound reads.now writes.now graph.now.mig
-        graph.now.outs.items cmds.items)) }
-    ensures fewer { IfOk result (λ o. IfSome o (λ cmds. length cmds.items
-        ≤ length other.now.found.items)) }
-{
-    let most = other.found.len();
-    let Some(found) = found_for(graph, reads, writes, search, most, alloc)? else {
-        return Ok(None);
-    };
-    let as_many = found.len() == most && graph.mig.size() == other.graph.mig.size();
-    if found.len() < most || as_many {
-        Ok(Some(found))
-    } else {
-        Ok(None)
-    }
-}
-
-/// The graph, where one of the beams finds fewer commands for it, or else the other.
-fn better(
-    first: Choice,
-    other: Choice,
-    reads: &[Place],
-    writes: &[Place],
-    alloc: Global,
-) -> Result<Choice, NoMemory>
-    requires stands { MayStand first.graph.mig first.graph.outs.items other.graph.mig
-        other.graph.outs.items }
-    requires itself { MayStand first.graph.mig first.graph.outs.items first.graph.mig
-        first.graph.outs.items }
-    requires found { HasFound reads.now writes.now other.graph.mig other.graph.outs.items
-        other.found.items }
-    requires fewer { length other.found.items ≤ length first.found.items }
-    ensures stands { IfOk result (λ r. MayStand first.graph.mig first.graph.outs.items r.graph.mig
-        r.graph.outs.items) }
-    ensures found { IfOk result (λ r. HasFound reads.now writes.now r.graph.mig r.graph.outs.items
-        r.found.items) }
-    ensures fewer { IfOk result (λ r. length r.found.items ≤ length first.found.items) }
-{
-    let graph = &first.graph;
-    if let Some(found) = fewer_for(graph, &other, reads, writes, Search::Narrow, alloc)? {
-        return Ok(first.with(found));
-    }
-    if let Some(found) = fewer_for(&first.graph, &other, reads, writes, Search::Wide, alloc)? {
-        return Ok(first.with(found));
-    }
-    Ok(other)
-}
-
 /// The choice with the commands of a search that looks for fewer, where these are no more.
 fn with_fewer(
     choice: Choice,
@@ -226,37 +169,13 @@ fn with_fewer(
     Ok(choice)
 }
 
-/// How many commands a body takes that a beam has found, about: fewer than four a node.
-fn plain_most(m: &MigOuts) -> usize {
-    4 * m.mig.size().saturating_sub(m.mig.inputs() as u32 + 1) as usize
-}
-
-/// The choice, of which the narrow beam was asked, with the commands of the wide beam, or of the
-/// deep one where no beam found few, if these are no more.
-fn finished(
-    choice: Choice,
-    reads: &[Place],
-    writes: &[Place],
-    alloc: Global,
-) -> Result<Choice, NoMemory>
-    requires { HasFound reads.now writes.now choice.graph.mig choice.graph.outs.items
-        choice.found.items }
-    ensures { IfOk result (HasNoMore reads.now writes.now choice) }
-{
-    let few = with_fewer(choice, reads, writes, Search::Wide, alloc)?;
-    if few.found.len() < plain_most(&few.graph) {
-        return Ok(few);
-    }
-    with_fewer(few, reads, writes, Search::Deep, alloc)
-}
-
 /// A reduced graph with the commands that were found for it, or one of the same outputs and no more
 /// nodes, with no more commands.
 ///
 /// The others are those of the offers that are right.
 fn least_of(
     first: Choice,
-    offers: &[Ranked],
+    offers: &[Tried],
     reads: &[Place],
     writes: &[Place],
     alloc: Global,
@@ -272,12 +191,7 @@ fn least_of(
     ensures fewer { IfOk result (λ r. length r.found.items ≤ length first.found.items) }
 {
     match fewest(&first, offers, reads, writes, alloc)? {
-        Some(other) => finished(
-            better(first, other, reads, writes, alloc)?,
-            reads,
-            writes,
-            alloc,
-        ),
+        Some(other) => Ok(other),
         None => with_fewer(first, reads, writes, Search::Whole, alloc),
     }
 }
@@ -287,7 +201,7 @@ fn least_of(
 /// There are none where no body is made of the reduced graph.
 fn chosen(
     graph: MigOuts,
-    offers: &[Ranked],
+    offers: &[Tried],
     reads: &[Place],
     writes: &[Place],
     alloc: Global,
@@ -315,7 +229,7 @@ fn chosen(
 #[derive(Drop)]
 pub(crate) struct Least {
     pub choice: Choice,
-    pub offers: Vec<Ranked>,
+    pub offers: Vec<Sketch>,
 }
 
 /// The graph reduced, or one of the same outputs and no more nodes whose body takes fewer commands,
@@ -339,8 +253,7 @@ pub(crate) fn least_graph(
 {
     let graph = reduce(m, alloc)?;
     let offers = offers(&graph, most_offers(&graph), alloc)?;
-    let offers = best_of(&graph, &offers, reads, writes, alloc)?;
-    let tries = to_try(&offers, alloc)?;
+    let Ranked { tries, offers } = best_first(&graph, &offers, reads, writes, alloc)?;
     let choice = chosen(graph, &tries, reads, writes, alloc)?;
     Ok(Least { choice, offers })
 }

@@ -16,17 +16,17 @@ use crate::held_rounds::{HeldTry, held_tries};
 use crate::home::{
     Home, cell_place, enters, flow_places, held_places, leaves, row_count, stand_in,
 };
-use crate::rounds::Ranked;
 use faults::keep;
 use loop_ir::{Body, LoopProgram, Place, Step, out_rows};
 use mig_graph::{Lit, Mig, MigOuts, NoMemory};
-use mig_rewrite::kept;
-use row_alloc::{BodyCmd, Search, held_commands_of};
+use mig_rewrite::{Sketch, kept};
+use row_alloc::{BodyCmd, Race, Search, held_commands_of};
 use std::alloc::Global;
 
-/// The layouts of cells in which a state is tried: T0; T3 and DCC1, straight and turned; T3 and
-/// DCC0; and DCC0. The others shorten few bodies more.
-pub(crate) const LAYOUTS: [u8; 5] = [0, 4, 5, 6, 11];
+/// The layouts of cells in which a state is tried: T0; T3 and DCC1, straight and turned; T0 and T1;
+/// T0 and the complement in DCC0; and DCC0. One command puts a constant into each. The others
+/// shorten few bodies more.
+pub(crate) const LAYOUTS: [u8; 6] = [0, 4, 5, 8, 9, 11];
 
 /// The commands of the three bodies.
 pub(crate) struct HeldLoop {
@@ -123,7 +123,7 @@ fn plain_most(graph: &MigOuts, writes: &[Place]) -> usize
 }
 
 /// The commands of the body with its state in cells, at most so many.
-pub(crate) fn each_commands(
+fn each_commands(
     home: Home,
     body: &Body,
     search: Search,
@@ -144,6 +144,24 @@ pub(crate) fn each_commands(
     }
     let few = most.min(plain_most(&body.graph, &writes));
     commands_for(&body.graph, &reads, &writes, search, few, alloc)
+}
+
+/// Puts the body with its state in cells to a race, where it has its state so.
+pub(crate) fn add_held(
+    race: &mut Race,
+    home: Home,
+    body: &Body,
+    alloc: Global,
+) -> Result<(), NoMemory> {
+    let reads = held_places(home, &body.reads, alloc)?;
+    let writes = held_places(home, &body.writes, alloc)?;
+    if reads.len() > 255 || !holds_one(home.cells, &body.graph, &reads, &writes) {
+        return race.add_none();
+    }
+    let rows = out_rows(&body.graph, &reads, &writes, row_count(&writes), alloc)?;
+    let enter = enters(&reads, alloc)?;
+    let leave = leaves(&writes, &body.graph.outs, alloc)?;
+    race.add(&body.graph.mig, &rows, &enter, &leave)
 }
 
 /// The commands of the body that finds its state in cells and leaves it in its row, at most so
@@ -207,8 +225,8 @@ fn held_in(
     }))
 }
 
-/// The loop with the state in the cells that let its body take the fewest commands, where these are
-/// fewer than `most`.
+/// The loop with the state in the cells of one of the layouts, where its body takes fewer commands
+/// than `most` so: the first of those with the fewest that the search finds.
 fn held_loop(
     place: Place,
     start: bool,
@@ -238,12 +256,13 @@ fn held_loop(
     Ok(best)
 }
 
-/// The loop of the block's own body with the state in cells, by the first of two beams that finds
-/// fewer commands than `most`.
+/// The loop of the block's own body with the state in cells, by a beam that finds fewer commands
+/// than `most`, or by a wider one where no other loops are tried.
 pub(crate) fn own_loop(
     place: Place,
     start: bool,
     body: &Body,
+    is_alone: bool,
     most: usize,
     alloc: Global,
 ) -> Result<Option<HeldLoop>, NoMemory>
@@ -251,7 +270,8 @@ pub(crate) fn own_loop(
 {
     match held_loop(place, start, body, Search::Narrow, most, alloc)? {
         Some(held) => Ok(Some(held)),
-        None => held_loop(place, start, body, Search::Wide, most, alloc),
+        None if is_alone => held_loop(place, start, body, Search::Wide, most, alloc),
+        None => Ok(None),
     }
 }
 
@@ -302,8 +322,9 @@ fn offered_loop(
     if most == 0 {
         return Ok(None);
     }
-    let few = usize::min(offer.cost, most - 1);
-    let Some(held) = held_in(home, &other, offer.search, few, most, alloc)? else {
+    let few = usize::min(offer.cmds.len(), most - 1);
+    let search = Search::Given(&offer.cmds);
+    let Some(held) = held_in(home, &other, search, few, most, alloc)? else {
         return Ok(None);
     };
     Ok(Some(OtherLoop { body: other, held }))
@@ -347,7 +368,7 @@ pub(crate) fn fewer_loop(
     place: Place,
     start: bool,
     body: &Body,
-    offers: &[Ranked],
+    offers: &[Sketch],
     few: usize,
     most: usize,
     alloc: Global,
@@ -358,7 +379,7 @@ pub(crate) fn fewer_loop(
     ensures held { IfOk result (λ o. IfSome o (λ r. IsLoopFor place start (block_of r.body) most
         r.held)) }
 {
-    let tries = held_tries(place, start, body, offers, few, alloc)?;
+    let tries = held_tries(place, start, body, offers, few, most, alloc)?;
     other_loop(place, start, body, &tries, most, alloc)
 }
 

@@ -1,64 +1,61 @@
 //! In which cells, and with which graph, a block's state lets the body take the fewest commands.
 //!
-//! Pairs of a graph and a layout of cells are counted by one beam after another, fewer of them each
-//! time. Nothing is promised of the counts: what stands is counted again.
+//! A race counts pairs of a graph and a layout of cells. Nothing is promised of the counts: what
+//! stands is checked again.
 
 ghost use Rattle.mig_graph.specs.Outputs.{AreNamed};
 
-use crate::held::{LAYOUTS, each_commands};
+use crate::held::{LAYOUTS, add_held};
 use crate::home::Home;
-use crate::rounds::{Counted, Ranked, cheapest_first};
 use faults::keep;
 use loop_ir::{Body, Place};
 use mig_graph::NoMemory;
 use mig_rewrite::{Sketch, kept};
-use row_alloc::Search;
+use row_alloc::{BROAD, BodyCmd, Course, Race, Ranking};
 use std::alloc::Global;
 
-/// How many pairs are counted by the wide beam, and how many by the broad one: those of five
-/// graphs, and of three.
-const WIDELY: usize = 25;
+/// How many graphs run the race, with each layout.
+const GRAPHS: usize = 16;
 
-const BROADLY: usize = 15;
+/// The race of pairs of a graph and the cells of its state.
+const IN_CELLS: Course = Course {
+    pilots: 20,
+    margin: 0,
+    first: 80,
+    last: 4,
+    states: 160,
+    least_width: 2,
+    most_width: 40,
+    share: 80,
+    finals: 3,
+    breadth: BROAD,
+};
 
 /// How many loops are tried.
 const TRIES: usize = 6;
 
-/// An offer with its state in these cells, and how many commands a search finds.
-#[derive(Clone, Copy)]
+/// An offer with its state in these cells, and the commands that a race has found for its body.
 pub(crate) struct HeldTry {
     pub sketch: Sketch,
     pub cells: u8,
-    pub cost: usize,
-    pub search: Search,
+    pub cmds: Vec<BodyCmd>,
 }
 
-/// A body's number, and the cells of its state.
-#[derive(Clone, Copy)]
-struct Pair {
-    body: usize,
-    cells: u8,
-}
-
-/// The bodies of a block's graphs, and each with each layout of its state.
-struct Pairs {
-    place: Place,
-    start: bool,
-    sketches: Vec<Sketch>,
-    bodies: Vec<Body>,
-    pairs: Vec<Pair>,
-}
-
-impl Drop for Pairs {
+impl Drop for HeldTry {
     fn drop(self) {
-        let Pairs {
-            place: _,
-            start: _,
-            sketches: _,
-            bodies: _,
-            pairs: _,
+        let HeldTry {
+            sketch: _,
+            cells: _,
+            cmds: _,
         } = self;
     }
+}
+
+/// A graph with its state in these cells.
+#[derive(Clone, Copy)]
+struct Pair {
+    sketch: Sketch,
+    cells: u8,
 }
 
 /// The body with another graph, without commands, if the offer is right.
@@ -80,147 +77,102 @@ pub(crate) fn other_body(
     }))
 }
 
-/// Those for which a beam has found commands.
-fn counted_ones(counts: &[Counted], alloc: Global) -> Result<Vec<Counted>, NoMemory> {
-    let mut found = Vec::new(alloc);
-    for counted in counts {
-        if counted.cost < usize::MAX {
-            keep(&mut found, *counted)?;
-        }
+/// The pairs of the graphs and the layouts, and the race of their bodies.
+struct Pairs {
+    place: Place,
+    start: bool,
+    pairs: Vec<Pair>,
+    race: Race,
+}
+
+impl Drop for Pairs {
+    fn drop(self) {
+        let Pairs {
+            place: _,
+            start: _,
+            pairs: _,
+            race: _,
+        } = self;
     }
-    Ok(found)
 }
 
 impl Pairs {
-    fn new(place: Place, start: bool, alloc: Global) -> Pairs {
-        Pairs {
+    fn new(place: Place, start: bool, alloc: Global) -> Result<Pairs, NoMemory> {
+        Ok(Pairs {
             place,
             start,
-            sketches: Vec::new(alloc),
-            bodies: Vec::new(alloc),
             pairs: Vec::new(alloc),
-        }
+            race: Race::new(alloc)?,
+        })
     }
 
-    /// A body more, with each layout.
-    fn add(&mut self, sketch: Sketch, body: Body) -> Result<(), NoMemory> {
-        let number = self.bodies.len();
-        keep(&mut self.sketches, sketch)?;
-        keep(&mut self.bodies, body)?;
+    /// A graph more, with each layout.
+    fn add(&mut self, sketch: Sketch, body: &Body, alloc: Global) -> Result<(), NoMemory> {
         for cells in LAYOUTS {
-            let pair = Pair {
-                body: number,
+            let home = Home {
+                place: self.place,
                 cells,
+                start: self.start,
             };
-            keep(&mut self.pairs, pair)?;
+            keep(&mut self.pairs, Pair { sketch, cells })?;
+            add_held(&mut self.race, home, body, alloc)?;
         }
         Ok(())
     }
 
-    /// How many commands a search finds for a pair, where these are at most so many, or else more.
-    fn cost(
+    /// The loops that are to be tried: those that take fewer commands than `few`.
+    fn tries(
         &self,
-        number: usize,
-        search: Search,
-        most: usize,
-        alloc: Global,
-    ) -> Result<usize, NoMemory> {
-        let Some(pair) = self.pairs.get(number).copied() else {
-            return Ok(usize::MAX);
-        };
-        let Some(body) = self.bodies.get(pair.body) else {
-            return Ok(usize::MAX);
-        };
-        let home = Home {
-            place: self.place,
-            cells: pair.cells,
-            start: self.start,
-        };
-        Ok(match each_commands(home, body, search, most, alloc)? {
-            Some(cmds) => cmds.len(),
-            None => usize::MAX,
-        })
-    }
-
-    /// One round: the same pairs, counted by this search too, the best first and at most so many.
-    /// `few` are more commands than a pair may take to be of use.
-    fn round(
-        &self,
-        counts: &[Counted],
-        search: Search,
+        ranking: &Ranking,
         few: usize,
-        best: usize,
         alloc: Global,
-    ) -> Result<Vec<Counted>, NoMemory> {
-        let mut low = few.saturating_sub(1);
-        let mut again = Vec::new(alloc);
-        for counted in counts {
-            let most = counted.most(low, 0);
-            let cost = self.cost(counted.number, search, most, alloc)?;
-            low = usize::min(low, cost);
-            keep(&mut again, counted.with(cost, search))?;
+    ) -> Result<Vec<HeldTry>, NoMemory> {
+        let mut tries = Vec::new(alloc);
+        for counted in ranking.found.iter().take(TRIES) {
+            if counted.cmds.len() < few
+                && let Some(pair) = self.pairs.get(counted.number).copied()
+            {
+                let Pair { sketch, cells } = pair;
+                let cmds = counted.cmds.to_vec(alloc)?;
+                keep(
+                    &mut tries,
+                    HeldTry {
+                        sketch,
+                        cells,
+                        cmds,
+                    },
+                )?;
+            }
         }
-        cheapest_first(&again, best, alloc)
-    }
-
-    /// All pairs, not counted yet.
-    fn uncounted(&self, alloc: Global) -> Result<Vec<Counted>, NoMemory> {
-        let mut counts = Vec::new(alloc);
-        for number in 0..self.pairs.len() {
-            keep(&mut counts, Counted::new(number))?;
-        }
-        Ok(counts)
-    }
-
-    /// What is to be tried of a pair, where it takes fewer commands than `few`.
-    fn held_try(&self, counted: &Counted, few: usize) -> Option<HeldTry> {
-        let pair = self.pairs.get(counted.number).copied()?;
-        let sketch = self.sketches.get(pair.body).copied()?;
-        if counted.cost < few {
-            Some(HeldTry {
-                sketch,
-                cells: pair.cells,
-                cost: counted.cost,
-                search: counted.search,
-            })
-        } else {
-            None
-        }
-    }
-
-    /// The pairs of the fewest commands, by three rounds.
-    fn best(&self, few: usize, alloc: Global) -> Result<Vec<Counted>, NoMemory> {
-        let counts = self.uncounted(alloc)?;
-        let narrow = self.round(&counts, Search::Narrow, few, WIDELY, alloc)?;
-        let wide = self.round(&narrow, Search::Wide, few, BROADLY, alloc)?;
-        let wide = counted_ones(&wide, alloc)?;
-        self.round(&wide, Search::Broad, few, TRIES, alloc)
+        Ok(tries)
     }
 }
 
-/// The graphs and cells with which the body takes fewer commands than `few`, the fewest first.
+/// The graphs and cells with which the body takes fewer commands than `few`, the fewest first. The
+/// race looks for as many too, where these are below `most`: its last beams begin with what it has
+/// found.
 pub(crate) fn held_tries(
     place: Place,
     start: bool,
     body: &Body,
-    offers: &[Ranked],
+    offers: &[Sketch],
     few: usize,
+    most: usize,
     alloc: Global,
 ) -> Result<Vec<HeldTry>, NoMemory>
     requires { AreNamed body.now.graph.mig body.now.graph.outs.items }
 {
-    let mut pairs = Pairs::new(place, start, alloc);
-    for offer in offers {
-        if let Some(other) = other_body(body, &offer.sketch, alloc)? {
-            pairs.add(offer.sketch, other)?;
+    if few < 2 || most == 0 || offers.is_empty() {
+        return Ok(Vec::new(alloc));
+    }
+    let mut pairs = Pairs::new(place, start, alloc)?;
+    for sketch in offers.iter().take(GRAPHS) {
+        if let Some(other) = other_body(body, sketch, alloc)? {
+            pairs.add(*sketch, &other, alloc)?;
         }
     }
-    let best = pairs.best(few, alloc)?;
-    let mut tries = Vec::new(alloc);
-    for counted in &best {
-        if let Some(held) = pairs.held_try(counted, few) {
-            keep(&mut tries, held)?;
-        }
-    }
-    Ok(tries)
+    let ranking = pairs
+        .race
+        .ranked(&IN_CELLS, usize::min(few, most - 1), alloc)?;
+    pairs.tries(&ranking, few, alloc)
 }

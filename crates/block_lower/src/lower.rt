@@ -12,10 +12,10 @@ ghost use Rattle.block_lower.specs.Form.{start, row_steps, IsChosen, IsBlockProg
 use crate::body::{BlockBody, block_body, constant};
 use crate::held::{commands_of, fewer_loop, own_loop};
 use crate::places::place_of;
-use crate::rounds::Ranked;
 use faults::keep;
 use loop_ir::{Body, LoopProgram, NameMap, Step};
 use mig_graph::NoMemory;
+use mig_rewrite::Sketch;
 use op_text::{Assign, State};
 use std::alloc::Global;
 
@@ -59,7 +59,7 @@ fn in_cells(
     down: bool,
     states: &[State],
     body: &Body,
-    offers: &[Ranked],
+    offers: &[Sketch],
     names: &NameMap,
     alloc: Global,
 ) -> Result<Option<LoopProgram>, NoMemory>
@@ -71,7 +71,7 @@ fn in_cells(
         [state] => {
             let place = place_of(names, down, &state.name);
             let most = body.found.len();
-            let own = own_loop(place, state.start, body, most, alloc)?;
+            let own = own_loop(place, state.start, body, offers.is_empty(), most, alloc)?;
             let few = commands_of(&own, most);
             if let Some(other) = fewer_loop(place, state.start, body, offers, few, most, alloc)? {
                 return other.into_program(alloc);

@@ -3,3 +3,5 @@ pub mod Replays
 pub mod Scans
 pub mod Soaks
 pub mod Unique
+pub mod RightSteps
+pub mod Verified

@@ -160,7 +160,7 @@ one_replayed names before after later a b c d r s =
 
 -- Guarded runs
 
-same_ops : (file : Option (List ℕ)) (x y : List Operation) → Spells file x → Spells file y → x ≡ y
+pub same_ops : (file : Option (List ℕ)) (x y : List Operation) → Spells file x → Spells file y → x ≡ y
 same_ops None x y s t = absurd s
 same_ops (Some text) x y s t = ops_of_a_text_are_one text x y s t
 

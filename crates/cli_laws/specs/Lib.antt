@@ -1,3 +1,4 @@
 -- What two commands promise together, and what the files at entry decide.
 pub mod Replays
 pub mod Unique
+pub mod Verified

@@ -4,6 +4,7 @@
 ghost use Rattle.cli_laws.specs.Replays.{TracesAreAccepted, TracesReplay};
 ghost use Rattle.cli_laws.specs.Unique.{OneExecuted, OneGuardedJob, OneRecorded, OneReplayed};
 ghost use Rattle.cli_laws.specs.Unique.{OneAnswered, OneScanned, OneSoaked};
+ghost use Rattle.cli_laws.specs.Verified.{OneVerified, RightIsExecuted};
 
 /// A replay of what an execution recorded, on the image that it read, writes the same image.
 pub fn traces_replay()
@@ -47,4 +48,17 @@ pub fn one_soaked()
 /// of flips; and if they leave the same program, they leave the same files and end alike.
 pub fn one_guarded_job()
     ensures { OneGuardedJob }
+{}
+
+/// Two verifications of the same files look at the same ops and the same program. What they find is
+/// alike: the same counts, the same stuck walks, the same entries that are missing or of other
+/// kinds; they may tell other cases of an entry that is wrong, and unknown for right or wrong.
+pub fn one_verified()
+    ensures { OneVerified }
+{}
+
+/// Entries that a `verify` found right at its widths give, in an execution of the same bytes of
+/// PROG, the numbers of the ops, where each bbop has one of these widths and names one of the ops.
+pub fn right_is_executed()
+    ensures { RightIsExecuted }
 {}

@@ -1,5 +1,7 @@
 mod Steady
 mod Closing
 mod Programs
+mod Images
 mod Tables
 mod Traces
+mod Shorts

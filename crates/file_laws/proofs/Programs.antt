@@ -277,7 +277,7 @@ program_closing =
     (λ ms. codes_start ls + 8 * total_count ls) (λ b. codes_at ls (codes_start ls) b)
     (λ ms b. rule (length b == codes_start ls + 8 * total_count ls)
     (codes_start ls + 8 * total_count ls) kinds.Rest >>= λ ended. Ok (version, ms))
-    (λ ms. ended_at ends IsField (codes_start ls + 8 * total_count ls) (version, ms))
+    (λ ms. ended_at ends IsField (codes_start ls + 8 * total_count ls) (version, ms) (λ e. cc))
     (codes_steady ls (length ls) 0 (codes_start ls) (omega arith)))
     (directory_steady version count [] 0 8 refl))
     (field_steady ends IsField w16 (λ n. nat_le n 32) kinds.Directory 6 Entries (omega arith)

@@ -1,10 +1,11 @@
 -- Readers that decide by first bytes: what is read of a file's first bytes is read of every file with
--- these, and a file that is cut within a field is Short at its end.
-use Rattle.std.proofs.Common.{◌≡◌, ◌≢◌, ◌⊎◌, ℕ, ◌+◌, ◌<◌, ◌≤◌, Bool, true, false, List, length}
-use Rattle.std.proofs.Common.{take, drop, Result, Ok, Err, refl, sym, ◌∙◌, ap, subst, inl, inr, arith}
+-- these, and a file that is cut within a field is Short at its end, and not with some bytes more.
+use Rattle.std.proofs.Common.{◌≡◌, ◌≢◌, ◌⊎◌, ℕ, ◌+◌, ◌<◌, ◌≤◌, Bool, true, false, List, [], length}
+use Rattle.std.proofs.Common.{◌++◌, replicate, take, drop, Result, Ok, Err, refl, sym, ◌∙◌, ap, subst, inl, inr, arith}
 use Rattle.std.proofs.lemmas.Bool.{cases_lt, lt-ltb}
 use Rattle.std.proofs.lemmas.Bool.Decides.{nat_tests}
-use Rattle.std.proofs.lemmas.List.{drop-take, length-take-le, take-take, take_all}
+use Rattle.std.proofs.lemmas.List.{append_assoc, drop-take, length-append, length-replicate}
+use Rattle.std.proofs.lemmas.List.{length-take-le, take-append-le, take-take, take_all}
 use Rattle.std.specs.Prelude.{nat_lt, not, ◌&&◌}
 use Rattle.std.specs.Int.{Width, w8, byte_len, from_le_bytes}
 use Rattle.file_fields.specs.Fields.{◌>>=◌, bytes_at, fault_at, field_at, is_between}
@@ -27,9 +28,22 @@ Reads k F s end r bytes (Err f) = (f ≡ fault_at (length bytes) k.short)
     × ((other : List ℕ) → take e other ≡ take e bytes → r other ≡ Err f)
     × ((n : ℕ) → s ≤ n → n ≤ f.at → r (take n bytes) ≡ Err (fault_at n k.short)))
 
-abbrev pub Steady : {K A : Type 0} → Ends K → (ℕ → ℕ → Type 0) → ℕ → (A → ℕ)
-    → (List ℕ → Result A (FileFault K)) → Type 0
-Steady k F s end r = (bytes : List ℕ) → s ≤ length bytes → Reads k F s end r bytes (r bytes)
+-- the file was not too short
+abbrev pub IsWhole : {K A : Type 0} → Ends K → Result A (FileFault K) → Type 0
+IsWhole k (Ok x) = Unit {0}
+IsWhole k (Err f) = f.kind ≢ k.short
+
+-- with some bytes more it is not
+abbrev pub Fills : {K A : Type 0} → Ends K → (List ℕ → Result A (FileFault K)) → List ℕ → Type 0
+Fills k r bytes = (more : List ℕ) × IsWhole k (r (bytes ++ more))
+
+pub record Steady {K A : Type 0} (k : Ends K) (F : ℕ → ℕ → Type 0) (s : ℕ) (end : A → ℕ)
+    (r : List ℕ → Result A (FileFault K)) : Type 0 where
+  pub reads : (bytes : List ℕ) → s ≤ length bytes → Reads k F s end r bytes (r bytes)
+  pub fills : (bytes : List ℕ) → s ≤ length bytes → Fills k r bytes
+
+pub longer : (s : ℕ) (bytes more : List ℕ) → s ≤ length bytes → s ≤ length (bytes ++ more)
+longer s bytes more l = omega (arith, l, length-append bytes more)
 
 -- the same first bytes, fewer of them
 pub fewer : (m n : ℕ) (a b : List ℕ) → m ≤ n → take n a ≡ take n b → take m a ≡ take m b
@@ -94,7 +108,7 @@ module _ {K A B : Type 0} (k : Ends K) (F : ℕ → ℕ → Type 0) (s : ℕ) (e
     first : (bytes : List ℕ) (v : Result A (FileFault K)) → r bytes ≡ v → Reads k F s end r bytes v
         → Reads k F s end2 both bytes (v >>= λ x. f x bytes)
     first bytes (Ok x) is (l, m, same, cut) =
-        second bytes x l m same cut (f x bytes) (next x (such bytes x is) bytes m)
+        second bytes x l m same cut (f x bytes) ((next x (such bytes x is)).reads bytes m)
     first bytes (Err e) is (inl short) = inl short
     first bytes (Err e) is (inr (p, broken, last, field, lt, q, again, short)) = inr (
       p,
@@ -107,8 +121,30 @@ module _ {K A B : Type 0} (k : Ends K) (F : ℕ → ℕ → Type 0) (s : ℕ) (e
       λ n a b. first_err (take n bytes) (fault_at n k.short) (short n a b),
     )
 
+    fill : (bytes more : List ℕ) (v : Result A (FileFault K)) → r (bytes ++ more) ≡ v
+        → Reads k F s end r (bytes ++ more) v → IsWhole k v → Fills k both bytes
+    fill bytes more (Ok x) is (l, m, same, cut) whole =
+        let on = (next x (such (bytes ++ more) x is)).fills (bytes ++ more) m in
+        let all : List ℕ = bytes ++ more ++ on.0 in
+        let goes = first_ok bytes x all (same all (take-append-le (end x) (bytes ++ more) on.0 m)) in (
+          more ++ on.0,
+          subst (λ (b : List ℕ). IsWhole k (both b)) (append_assoc bytes more on.0)
+              (subst (IsWhole k) (sym goes) on.1),
+        )
+    fill bytes more (Err f) is reads whole =
+        (more, subst (IsWhole k) (sym (first_err (bytes ++ more) f is)) whole)
+
+    filled : Steady k F s end r → (bytes : List ℕ) → s ≤ length bytes → Fills k both bytes
+    filled steady bytes l =
+        let on = steady.fills bytes l in
+        fill bytes on.0 (r (bytes ++ on.0)) refl
+        (steady.reads (bytes ++ on.0) (longer s bytes on.0 l)) on.1
+
     pub then_steady_where : Steady k F s end r → Steady k F s end2 both
-    then_steady_where steady bytes l = first bytes (r bytes) refl (steady bytes l)
+    then_steady_where steady = record {
+      reads = λ bytes l. first bytes (r bytes) refl (steady.reads bytes l);
+      fills = λ bytes l. filled steady bytes l;
+    }
 
 -- and of whatever it gives
 pub then_steady : {K A B : Type 0} (k : Ends K) (F : ℕ → ℕ → Type 0) (s : ℕ) (end : A → ℕ)
@@ -122,34 +158,20 @@ then_steady k F s end end2 r f next steady = then_steady_where k F s end end2 r 
 pub pure_steady : {K A : Type 0} (k : Ends K) (F : ℕ → ℕ → Type 0) (s : ℕ) (x : A)
     → (end : A → ℕ) → end x ≡ s
     → Steady k F s end (λ (b : List ℕ). Ok x)
-pure_steady k F s x end e bytes l = (
-  omega (arith, e),
-  omega (arith, e, l),
-  λ other h. refl,
-  λ n a b. absurd (omega (arith, a, b, e)),
-)
+pure_steady k F s x end e = record {
+  reads = λ bytes l. (
+    omega (arith, e),
+    omega (arith, e, l),
+    λ other h. refl,
+    λ n a b. absurd (omega (arith, a, b, e)),
+  );
+  fills = λ bytes l. ([], tt);
+}
 
 -- so many bytes
 pub bytes_steady : {K : Type 0} (k : Ends K) (F : ℕ → ℕ → Type 0) (len at : ℕ)
     → Steady k F at (λ (x : List ℕ). at + len) (bytes_at k.short len at)
-bytes_steady {K} k F len at bytes l = elim (cases_lt (length bytes) (at + len)) [
-  | inl short ↦ subst (Reads k F at (λ (x : List ℕ). at + len) (bytes_at k.short len at) bytes)
-      (sym (too_short bytes short)) (inl refl)
-  | inr whole ↦ subst (Reads k F at (λ (x : List ℕ). at + len) (bytes_at k.short len at) bytes)
-      (sym (all_there bytes whole)) (
-        omega arith,
-        whole,
-        λ other e. all_there other (long_as other bytes e whole)
-            ∙ ap Ok (sym (drop-take at len other) ∙ ap (drop at) e ∙ drop-take at len bytes),
-        λ n a b. too_short (take n bytes) (omega (
-          arith,
-          length-take-le n bytes (omega
-              (arith, b, whole)),
-          b,
-        )) ∙ ap (λ (m : ℕ). Err (fault_at m k.short))
-            (length-take-le n bytes (omega (arith, b, whole))),
-      )
-]
+bytes_steady {K} k F len at = record { reads = all_read; fills = all_filled }
   where
     too_short : (xs : List ℕ) → length xs < at + len
         → bytes_at k.short len at xs ≡ Err (fault_at (length xs) k.short)
@@ -171,6 +193,35 @@ bytes_steady {K} k F len at bytes l = elim (cases_lt (length bytes) (at + len)) 
               absurd (omega (arith, same, own, all, lt))
           | inr ge ↦ ge
         ]
+
+    all_filled : (bytes : List ℕ) → at ≤ length bytes → Fills k (bytes_at k.short len at) bytes
+    all_filled bytes l =
+        let more : List ℕ = replicate (at + len) 0 in
+        let long : at + len ≤ length (bytes ++ more) = omega
+        (arith, length-append bytes more, length-replicate {A = ℕ} (at + len) 0) in
+        (more, subst (IsWhole k) (sym (all_there (bytes ++ more) long)) tt)
+
+    all_read : (bytes : List ℕ) → at ≤ length bytes
+        → Reads k F at (λ (x : List ℕ). at + len) (bytes_at k.short len at) bytes
+        (bytes_at k.short len at bytes)
+    all_read bytes l = elim (cases_lt (length bytes) (at + len)) [
+      | inl short ↦ subst (Reads k F at (λ (x : List ℕ). at + len) (bytes_at k.short len at) bytes)
+          (sym (too_short bytes short)) (inl refl)
+      | inr whole ↦ subst (Reads k F at (λ (x : List ℕ). at + len) (bytes_at k.short len at) bytes)
+          (sym (all_there bytes whole)) (
+            omega arith,
+            whole,
+            λ other e. all_there other (long_as other bytes e whole)
+                ∙ ap Ok (sym (drop-take at len other) ∙ ap (drop at) e ∙ drop-take at len bytes),
+            λ n a b. too_short (take n bytes) (omega (
+              arith,
+              length-take-le n bytes (omega
+                  (arith, b, whole)),
+              b,
+            )) ∙ ap (λ (m : ℕ). Err (fault_at m k.short))
+                (length-take-le n bytes (omega (arith, b, whole))),
+          )
+    ]
 
 -- a rule on what the field at this place gave, and then more
 module _ {K A B : Type 0} (k : Ends K) (F : ℕ → ℕ → Type 0) (s at e : ℕ) (end : B → ℕ)
@@ -204,7 +255,7 @@ module _ {K A B : Type 0} (k : Ends K) (F : ℕ → ℕ → Type 0) (s at e : �
         → Reads k F s end all_of bytes (tested x bytes)
     by_rule bytes x true h m same cut =
         subst (Reads k F s end all_of bytes) (sym (holds x bytes h))
-        (after (f x bytes) (next x bytes m))
+        (after (f x bytes) ((next x).reads bytes m))
       where
         after : (w : Result B (FileFault K)) → Reads k F e end (f x) bytes w
             → Reads k F s end all_of bytes w
@@ -268,8 +319,41 @@ module _ {K A B : Type 0} (k : Ends K) (F : ℕ → ℕ → Type 0) (s at e : �
           λ n a b. so_err (take n bytes) (fault_at n k.short) (short n a b),
         ))
 
+    fill_tested : (bytes more : List ℕ) (x : A) (b : Bool) → passes x ≡ b
+        → e ≤ length (bytes ++ more)
+        → ((other : List ℕ) → take e other ≡ take e (bytes ++ more) → r other ≡ Ok x)
+        → Fills k all_of bytes
+    fill_tested bytes more x true h m same =
+        let on = (next x).fills (bytes ++ more) m in
+        let all : List ℕ = bytes ++ more ++ on.0 in
+        let goes = so_ok x all (same all (take-append-le e (bytes ++ more) on.0 m)) ∙ holds x all h in (
+          more ++ on.0,
+          subst (λ (b : List ℕ). IsWhole k (all_of b)) (append_assoc bytes more on.0)
+              (subst (IsWhole k) (sym goes) on.1),
+        )
+    fill_tested bytes more x false h m same =
+        let all : List ℕ = bytes ++ more in
+        (more, subst (IsWhole k) (sym (so_ok x all (same all refl) ∙ fails x all h)) broken.0)
+
+    fill_test : (bytes more : List ℕ) (v : Result A (FileFault K)) → r (bytes ++ more) ≡ v
+        → Reads k F s (λ (x : A). e) r (bytes ++ more) v → IsWhole k v → Fills k all_of bytes
+    fill_test bytes more (Ok x) is (l, m, same, cut) whole =
+        fill_tested bytes more x (passes x) refl m same
+    fill_test bytes more (Err g) is reads whole =
+        (more, subst (IsWhole k) (sym (so_err (bytes ++ more) g is)) whole)
+
+    test_fills : Steady k F s (λ (x : A). e) r → (bytes : List ℕ) → s ≤ length bytes
+        → Fills k all_of bytes
+    test_fills steady bytes l =
+        let on = steady.fills bytes l in
+        fill_test bytes on.0 (r (bytes ++ on.0)) refl
+        (steady.reads (bytes ++ on.0) (longer s bytes on.0 l)) on.1
+
     pub test_steady : Steady k F s (λ (x : A). e) r → Steady k F s end all_of
-    test_steady steady bytes l = from bytes (r bytes) refl (steady bytes l)
+    test_steady steady = record {
+      reads = λ bytes l. from bytes (r bytes) refl (steady.reads bytes l);
+      fills = λ bytes l. test_fills steady bytes l;
+    }
 
 -- a number
 pub number_steady : {K : Type 0} (k : Ends K) (F : ℕ → ℕ → Type 0) (w : Width) (at : ℕ)
@@ -371,5 +455,27 @@ module _ {K A B : Type 0} (k : Ends K) (F : ℕ → ℕ → Type 0) (at e : ℕ)
           λ n a b. judged_err (take n bytes) (fault_at n k.short) (short n a b),
         ))
 
+    whole_judged : (x : A) (v : Result B (FileFault K)) → g x ≡ v → IsWhole k v
+    whole_judged x (Ok y) is = tt
+    whole_judged x (Err f) is = (judges x f is).1.0
+
+    fill_judged : (bytes more : List ℕ) (v : Result A (FileFault K)) → r (bytes ++ more) ≡ v
+        → IsWhole k v → Fills k judged bytes
+    fill_judged bytes more (Ok x) is whole = (
+      more,
+      subst (IsWhole k) (sym (judged_ok x (bytes ++ more) is)) (whole_judged x (g x) refl),
+    )
+    fill_judged bytes more (Err f) is whole =
+        (more, subst (IsWhole k) (sym (judged_err (bytes ++ more) f is)) whole)
+
+    judged_fills : Steady k F at (λ (x : A). e) r → (bytes : List ℕ) → at ≤ length bytes
+        → Fills k judged bytes
+    judged_fills steady bytes l =
+        let on = steady.fills bytes l in
+        fill_judged bytes on.0 (r (bytes ++ on.0)) refl on.1
+
     pub judged_steady : Steady k F at (λ (x : A). e) r → Steady k F at (λ (y : B). e) judged
-    judged_steady steady bytes l = by_bytes bytes (r bytes) refl (steady bytes l)
+    judged_steady steady = record {
+      reads = λ bytes l. by_bytes bytes (r bytes) refl (steady.reads bytes l);
+      fills = λ bytes l. judged_fills steady bytes l;
+    }

@@ -1,5 +1,5 @@
 -- The fault that is told of a trace file is one of the file.
-use Rattle.std.proofs.Common.{◌≡◌, ℕ, zero, suc, ◌+◌, ◌*◌, Bool, true, false, List, [], ◌∷◌, length}
+use Rattle.std.proofs.Common.{◌≡◌, ◌≢◌, ℕ, zero, suc, ◌+◌, ◌*◌, Bool, true, false, List, [], ◌∷◌, ◌++◌, length}
 use Rattle.std.proofs.Common.{Option, Some, None, Result, Ok, Err, refl, sym, ◌∙◌, ap, subst, inl, inr}
 use Rattle.std.proofs.Common.{arith}
 use Rattle.std.specs.Prelude.{◌==◌, codes}
@@ -22,16 +22,19 @@ use Rattle.trace_model.specs.Reading.{TraceFault, as_trace_fault, bytes_at, even
 use Rattle.trace_model.specs.Reading.{events_start, head_at, head_in, is_legal_head, lifted, needed}
 use Rattle.trace_model.specs.Reading.{opening_in, trace_in, trace_kind, with_row}
 use Rattle.file_laws.specs.Traces.{IsField, TraceFaultsStand, ends}
-use Rattle.file_laws.specs.Traces.IsField.{Magic, Version, Event as EventField}
-use Rattle.file_laws.proofs.Steady.{IsRule, Reads, Steady, bytes_steady, field_steady}
+use Rattle.file_laws.specs.Traces.IsField.{OfImage, Event as EventField}
+use Rattle.file_laws.specs.Images as images
+use Rattle.file_laws.specs.Images.IsField.{Magic, Version}
+use Rattle.file_laws.proofs.Steady.{IsRule, IsWhole, Reads, Steady, bytes_steady}
+use Rattle.file_laws.proofs.Steady.{field_steady}
 use Rattle.file_laws.proofs.Steady.{judged_steady, number_steady, pure_steady, test_steady}
 use Rattle.file_laws.proofs.Steady.{then_steady, then_steady_where}
 use Rattle.file_laws.proofs.Closing.{Closing, closing_after, closing_stands, ended_at}
-use Rattle.file_laws.proofs.Tables.{geometry_steady, image_ends, table_steady}
+use Rattle.file_laws.proofs.Tables.{geometry_steady, table_steady}
 
 -- What stands as in an image file
 
-rule_lifted : (kind : ImageKind) → IsRule image_ends kind → IsRule ends (trace_kind kind)
+rule_lifted : (kind : ImageKind) → IsRule images.ends kind → IsRule ends (trace_kind kind)
 rule_lifted image.Short broken = absurd (broken.0 refl)
 rule_lifted image.Rest broken = absurd (broken.1 refl)
 rule_lifted image.Magic broken = ((λ e. cc), (λ e. cc))
@@ -41,7 +44,7 @@ rule_lifted image.Object broken = ((λ e. cc), (λ e. cc))
 rule_lifted image.Overlap broken = ((λ e. cc), (λ e. cc))
 
 lift_reads : {A : Type 0} (s : ℕ) (end : A → ℕ) (r : List ℕ → Result A ImageFault)
-    (bytes : List ℕ) (v : Result A ImageFault) → Reads image_ends IsField s end r bytes v
+    (bytes : List ℕ) (v : Result A ImageFault) → Reads images.ends images.IsField s end r bytes v
     → Reads ends IsField s end (λ b. lifted (r b)) bytes (lifted v)
 lift_reads {A} s end r bytes (Ok x) (l, m, same, cut) = (
   l,
@@ -54,16 +57,34 @@ lift_reads {A} s end r bytes (Err f) (inr (p, broken, last, field, lt, q, again,
   p,
   rule_lifted f.kind broken,
   last,
-  field,
+  OfImage field,
   lt,
   q,
   λ other h. ap (λ (v : Result A ImageFault). lifted v) (again other h),
   λ n a b. ap (λ (v : Result A ImageFault). lifted v) (short n a b),
 )
 
+short_lifted : (kind : ImageKind) → kind ≢ image.Short → trace_kind kind ≢ kinds.Short
+short_lifted image.Short h = absurd (h refl)
+short_lifted image.Rest h = λ e. cc
+short_lifted image.Magic h = λ e. cc
+short_lifted image.Version h = λ e. cc
+short_lifted image.Geometry h = λ e. cc
+short_lifted image.Object h = λ e. cc
+short_lifted image.Overlap h = λ e. cc
+
+lift_whole : {A : Type 0} (v : Result A ImageFault) → IsWhole images.ends v
+    → IsWhole ends (lifted v)
+lift_whole (Ok x) whole = tt
+lift_whole (Err f) whole = short_lifted f.kind whole
+
 lifted_steady : {A : Type 0} (s : ℕ) (end : A → ℕ) (r : List ℕ → Result A ImageFault)
-    → Steady image_ends IsField s end r → Steady ends IsField s end (λ b. lifted (r b))
-lifted_steady s end r steady bytes l = lift_reads s end r bytes (r bytes) (steady bytes l)
+    → Steady images.ends images.IsField s end r → Steady ends IsField s end (λ b. lifted (r b))
+lifted_steady s end r steady = record {
+  reads = λ bytes l. lift_reads s end r bytes (r bytes) (steady.reads bytes l);
+  fills = λ bytes l. let on = steady.fills bytes l in
+      (on.0, lift_whole (r (bytes ++ on.0)) on.1);
+}
 
 -- An event
 
@@ -181,11 +202,11 @@ opening_steady =
     test_steady ends IsField 0 0 4 (λ u. 6) (bytes_at 4 0)
     (λ magic. bytes_eq magic (codes "SDMT")) kinds.Magic
     (λ magic b. fields.field_at kinds.Short w16 (λ version. version == 1) kinds.Version 4 b
-    >>= λ version. Ok tt) Magic (omega arith) (omega arith) ((λ e. cc), (λ e. cc))
+    >>= λ version. Ok tt) (OfImage Magic) (omega arith) (omega arith) ((λ e. cc), (λ e. cc))
     (λ magic. then_steady ends IsField 4 (λ version. 6) (λ u. 6)
     (fields.field_at kinds.Short w16 (λ version. version == 1) kinds.Version 4)
     (λ version b. Ok tt) (λ version. pure_steady ends IsField 6 tt (λ u. 6) refl)
-    (field_steady ends IsField w16 (λ version. version == 1) kinds.Version 4 Version (omega arith)
+    (field_steady ends IsField w16 (λ version. version == 1) kinds.Version 4 (OfImage Version) (omega arith)
     ((λ e. cc), (λ e. cc))))
     (bytes_steady ends IsField 4 0)
 
@@ -217,7 +238,7 @@ trace_closing =
     (λ b. events_at count g (events_start table) b)
     (λ events b. rule (length b == events.1) events.1 kinds.Rest >>= λ ended.
     Ok (trace g table events.0))
-    (λ events. ended_at ends IsField events.1 (trace g table events.0))
+    (λ events. ended_at ends IsField events.1 (trace g table events.0) (λ e. cc))
     (events_steady count g (length table) 0 (events_start table) (omega arith)))
     (number_steady ends IsField w32 (rows_start table)))
     (lifted_steady 12 (λ table. rows_start table) (λ b. table_at g 12 b) (table_steady g)))

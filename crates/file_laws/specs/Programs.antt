@@ -3,7 +3,7 @@ use Rattle.std.specs.Prelude.{ℕ, ◌+◌, ◌*◌}
 use Rattle.uprog_bin.specs.declared.fault.ProgKind.{ProgKind}
 use Rattle.uprog_bin.specs.declared.fault.ProgKind.TheVariants as kinds
 use Rattle.uprog_bin.specs.Reading.{program_in}
-use Rattle.file_laws.specs.Stands.{Ends, FaultsStand}
+use Rattle.file_laws.specs.Stands.{Ends, FaultsStand, always_short}
 
 -- the fields of an entry's record, each with its first byte and the byte after it: the length of
 -- its name, its name, how many sources it has, the kinds, the bits and the words of scratch, where
@@ -36,3 +36,8 @@ ends = record { short = kinds.Short; rest = kinds.Rest }
 -- each fault that reading a program file tells is one of the file
 abbrev pub ProgramFaultsStand : Type 0
 ProgramFaultsStand = FaultsStand ends IsField program_in
+
+-- what is asked of the faults of a program file does not hold of a reader that tells no other fault
+-- than Short
+abbrev pub ShortIsNotEnough : Type 0
+ShortIsNotEnough = FaultsStand ends IsField (always_short ends program_in) → ⊥

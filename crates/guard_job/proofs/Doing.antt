@@ -9,6 +9,7 @@ use Rattle.dram_model.specs.Chip.{Banks, Event, Grew, after}
 use Rattle.dram_model.specs.View.{ChipView, Did, with_reads}
 use Rattle.dram_model.proofs.EventLaws.{Grew-more}
 use Rattle.object_alloc.specs.Listed.{Named}
+use Rattle.bbop_isa.specs.declared.instr.Place.{Place}
 use Rattle.bbop_isa.specs.Forms.{Instruction, Init, Bbop, Load, Fill, Print, Free, Order}
 use Rattle.machine_model.specs.declared.Reply.{Reply}
 use Rattle.machine_model.specs.declared.Why.{Why}
@@ -32,7 +33,7 @@ use Rattle.guard_model.specs.declared.Flip.{Flip}
 use Rattle.guard_model.specs.Flips.{all_flipped}
 use Rattle.guard_model.specs.Votes.{vote_count, vote_events, voted}
 use Rattle.guard_model.specs.Guarded.{guarded_events, guarded_reads, guarded_reply, guarded_rows}
-use Rattle.guard_model.specs.Guarded.{plain_script}
+use Rattle.guard_model.specs.Guarded.{place_on, plain_script}
 use Rattle.guard_model.specs.Triples.{x_letter}
 use Rattle.guard_model.proofs.Runs.{script_by}
 use Rattle.guard_model.proofs.Commands.{vote_is_counted, vote_is_events}
@@ -69,7 +70,7 @@ holds_of m laid = record {
 }
 
 -- a print has no event of its own
-quiet : (g : Geometry) (o : Routines) (turn : Turn) (table : List Named) (copy : List ℕ)
+quiet : (g : Geometry) (o : Routines) (turn : Turn) (table : List Named) (copy : Place)
     (refused : Bool) (r : Option Why)
     → events_of_pieces g o turn table (map piece_of (script_by refused
     (if_done r (Print copy ∷ []) []))) ≡ []
@@ -82,9 +83,10 @@ quiet g o turn table copy false (Some why) = refl
 
 print_is_quiet : (g : Geometry) (o : Routines) (turn : Turn) (table : List Named)
     (instr : Instruction) → is_print instr ≡ true → guarded_events g o turn table instr ≡ []
-print_is_quiet g o turn table (Print name) is =
-    quiet g o turn table (x_letter ∷ name) (is_refused (guarded_reply g o table (Print name)))
-    (refusal g o table (Print (x_letter ∷ name)))
+print_is_quiet g o turn table (Print place) is =
+    quiet g o turn table (place_on x_letter place)
+    (is_refused (guarded_reply g o table (Print place)))
+    (refusal g o table (Print (place_on x_letter place)))
 print_is_quiet g o turn table (Init name count n) is = absurd (cc)
 print_is_quiet g o turn table (Bbop op dst srcs count n) is = absurd (cc)
 print_is_quiet g o turn table (Load name values) is = absurd (cc)

@@ -9,9 +9,9 @@ use Rattle.guard_model.specs.Laws.{HasName, AcceptedHasNames}
 right_has_name : (i : Instruction) → IsRight i → HasName i
 right_has_name (Init name count n) r = r.0
 right_has_name (Bbop op dst srcs count n) r = tt
-right_has_name (Load name values) r = tt
-right_has_name (Fill name v) r = tt
-right_has_name (Print name) r = tt
+right_has_name (Load place values) r = tt
+right_has_name (Fill place v) r = tt
+right_has_name (Print place) r = tt
 right_has_name (Free name) r = tt
 right_has_name (Order order) r = tt
 

@@ -9,12 +9,15 @@ use Rattle.std.proofs.lemmas.List.{map-append}
 use Rattle.dram_model.specs.declared.geometry.Geometry.{Geometry}
 use Rattle.object_alloc.specs.declared.table.Object.{Object}
 use Rattle.object_alloc.specs.Listed.{Named}
+use Rattle.bbop_isa.specs.declared.instr.Place.{Place}
 use Rattle.bbop_isa.specs.Forms.{Instruction, Init, Bbop, Load, Fill, Print, Free, Order}
 use Rattle.machine_model.specs.declared.Reply.{Reply}
 use Rattle.machine_model.specs.Columns.{object_size}
 use Rattle.dram_model.specs.Elements.{padded_to}
-use Rattle.machine_model.specs.Refusals.{object_named, nothing}
-use Rattle.machine_model.specs.Steps.{Held, table_of, numbers_named, with_numbers, computed, worded}
+use Rattle.machine_model.specs.Places.{seen}
+use Rattle.machine_model.specs.Refusals.{object_named, rows_of, nothing}
+use Rattle.machine_model.specs.Steps.{Held, table_of, numbers_named, numbers_at, computed, worded}
+use Rattle.machine_model.proofs.Bbops.{part_count}
 use Rattle.machine_model.specs.Steps.{new_object, with_results, new_numbers, dsts_of, srcs_of}
 use Rattle.guard_model.proofs.Names.{given}
 use Rattle.machine_model.specs.Script.{is_refused}
@@ -53,47 +56,33 @@ same_count : (state : List Held) (name : List ℕ) → (object_named (table_of s
 same_count [] name = refl
 same_count (h ∷ state) name = count_case h (bytes_eq h.name name) _ _ (same_count state name)
 
-same_size : (g : Geometry) (state : List Held) (name : List ℕ) → object_size g
-    (object_named (table_of state) name) ≡ object_size g
-    (object_named (table_of (map unplaced state)) name)
-same_size g state name = ap (λ k. object_size g (record { base = 0; width = 0; count = k }))
-    (same_count state name)
+same_size : (g : Geometry) (state : List Held) (p : Place)
+    → object_size g (rows_of (table_of state) p)
+    ≡ object_size g (rows_of (table_of (map unplaced state)) p)
+same_size g state p = ap (λ k. object_size g (record { base = 0; width = 0; count = k }))
+    (part_count (object_named (table_of state) p.name) p.part ∙ same_count state p.name
+    ∙ sym (part_count (object_named (table_of (map unplaced state)) p.name) p.part))
 
-same_sources : (state : List Held) (names : List (List ℕ)) → map (numbers_named state) names ≡ map
-    (numbers_named (map unplaced state)) names
+same_sources : (state : List Held) (places : List Place)
+    → map (numbers_at state) places ≡ map (numbers_at (map unplaced state)) places
 same_sources state [] = refl
-same_sources state (name ∷ names) = rw (same_numbers state name, same_sources state names) refl
+same_sources state (p ∷ places) =
+    rw (ap (map (seen p.part)) (same_numbers state p.name), same_sources state places) refl
 
-with_case : (h : Held) (ns : List ℕ) (b : Bool) → unplaced
-    (cond b (record { name = h.name; object = h.object; numbers = ns }) h) ≡ cond b
-    (record { name = h.name; object = (unplaced h).object; numbers = ns }) (unplaced h)
-with_case h ns true = refl
-with_case h ns false = refl
+results_unplaced : (state : List Held) (result : ℕ → List ℕ) (dsts : List Place)
+    → map unplaced (with_results state result dsts) ≡ with_results (map unplaced state) result dsts
+results_unplaced [] result dsts = refl
+results_unplaced (h ∷ state) result dsts =
+    ap (λ r. unplaced (given (new_numbers result 0 dsts) h) ∷ r) (results_unplaced state result dsts)
 
-with_unplaced : (state : List Held) (name ns : List ℕ) → map unplaced (with_numbers state name ns)
-    ≡ with_numbers (map unplaced state) name ns
-with_unplaced [] name ns = refl
-with_unplaced (h ∷ state) name ns = rw
-    (with_case h ns (bytes_eq h.name name), with_unplaced state name ns) refl
-
--- the same numbers for both
-with_both : (state : List Held) (name m n : List ℕ) → m ≡ n → map unplaced
-    (with_numbers state name m) ≡ map unplaced (with_numbers (map unplaced state) name n)
-with_both state name m n e = with_unplaced state name m ∙ ap (λ s. with_numbers s name m)
-    (sym (twice state)) ∙ sym (with_unplaced (map unplaced state) name m) ∙ ap
-    (λ k. map unplaced (with_numbers (map unplaced state) name k)) e
-
-given_unplaced : (state : List Held) (new : List ℕ → Option (List ℕ))
-    → map unplaced (with_results state new) ≡ with_results (map unplaced state) new
-given_unplaced [] new = refl
-given_unplaced (h ∷ state) new = ap (λ r. unplaced (given new h) ∷ r) (given_unplaced state new)
-
-given_both : (state : List Held) (f h : List ℕ → Option (List ℕ)) → f ≡ h
-    → map unplaced (with_results state f) ≡ map unplaced (with_results (map unplaced state) h)
-given_both state f h e =
-    given_unplaced state f ∙ ap (λ s. with_results s f) (sym (twice state))
-    ∙ sym (given_unplaced (map unplaced state) f)
-    ∙ ap (λ new. map unplaced (with_results (map unplaced state) new)) e
+-- the same results for both
+results_both : (state : List Held) (f h : ℕ → List ℕ) (dsts : List Place) → f ≡ h
+    → map unplaced (with_results state f dsts)
+    ≡ map unplaced (with_results (map unplaced state) h dsts)
+results_both state f h dsts e =
+    results_unplaced state f dsts ∙ ap (λ s. with_results s f dsts) (sym (twice state))
+    ∙ sym (results_unplaced (map unplaced state) f dsts)
+    ∙ ap (λ r. map unplaced (with_results (map unplaced state) r dsts)) e
 
 gone_case : (h : Held) (b : Bool) (r s : List Held) → map unplaced r ≡ s → map unplaced
     (cond b (h ∷ r) r) ≡ cond b (unplaced h ∷ s) s
@@ -128,19 +117,21 @@ step_unplaced g operations meaning state (Init name count n) =
     map-append unplaced state (a ∷ []) ∙ ap (λ s. s ++ unplaced a ∷ []) (sym (twice state)) ∙ sym
     (map-append unplaced (map unplaced state) (b ∷ []))
 step_unplaced g operations meaning state (Bbop op dst srcs count n) =
-    let names = dst ∷ srcs in
+    let places = dst ∷ srcs in
     let o = operations op in
-    let by = λ (values : List (List ℕ)) (size : ℕ). new_numbers (λ k. computed
-    (λ vs. slice_index (meaning op n vs) k) values size) 0 (dsts_of o names) in
-    given_both state _ _
-    (ap (λ k. by (map (numbers_named state) (srcs_of o names)) k) (same_size g state dst)
-    ∙ ap (λ xs. by xs (object_size g (object_named (table_of (map unplaced state)) dst)))
-    (same_sources state (srcs_of o names)))
-step_unplaced g operations meaning state (Load name values) = with_both state name _ _
-    (ap (λ k. padded_to k values) (same_size g state name))
-step_unplaced g operations meaning state (Fill name value) = with_both state name _ _
-    (ap (λ k. replicate k value) (same_size g state name))
-step_unplaced g operations meaning state (Print name) = sym (twice state)
+    let by = λ (values : List (List ℕ)) (size : ℕ). λ (k : ℕ). computed
+    (λ vs. slice_index (meaning op n vs) k) values size in
+    results_both state _ _ (dsts_of o places)
+    (ap (λ k. by (map (numbers_at state) (srcs_of o places)) k) (same_size g state dst)
+    ∙ ap (λ xs. by xs (object_size g (rows_of (table_of (map unplaced state)) dst)))
+    (same_sources state (srcs_of o places)))
+step_unplaced g operations meaning state (Load place values) =
+    results_both state _ _ (place ∷ [])
+    (ap (λ n. λ (k : ℕ). padded_to n values) (same_size g state place))
+step_unplaced g operations meaning state (Fill place value) =
+    results_both state _ _ (place ∷ [])
+    (ap (λ n. λ (k : ℕ). replicate n value) (same_size g state place))
+step_unplaced g operations meaning state (Print place) = sym (twice state)
 step_unplaced g operations meaning state (Free name) = without_unplaced state name ∙ ap
     (filter (λ (h : Held). not (bytes_eq h.name name))) (sym (twice state)) ∙ sym
     (without_unplaced (map unplaced state) name)

@@ -12,6 +12,7 @@ use Rattle.dram_model.specs.Elements.{column_count}
 use Rattle.object_alloc.specs.declared.table.Object.{Object}
 use Rattle.object_alloc.specs.Free.{free}
 use Rattle.object_alloc.specs.Listed.{Named, has_name, without, objects_of, limit_of}
+use Rattle.bbop_isa.specs.declared.instr.Place.{Place}
 use Rattle.bbop_isa.specs.Forms.{Instruction, Init, Bbop, Load, Fill, Print, Free, Order}
 use Rattle.bbop_isa.specs.declared.instr.Order.{Order as Orders}
 use Rattle.machine_model.specs.declared.Why.{Why}
@@ -24,7 +25,8 @@ use Rattle.machine_model.specs.Script.{words_at_end, is_refused, replies}
 use Rattle.machine_model.proofs.Facts.{first_none, when_none}
 use Rattle.machine_model.proofs.Places.{bytes_same}
 use Rattle.guard_model.specs.Triples.{x_letter, y_letter, z_letter, unplaced}
-use Rattle.guard_model.specs.Guarded.{plain_script, guarded_reply, joined, done_ones, adds}
+use Rattle.guard_model.specs.Guarded.{place_on, plain_script, guarded_reply, joined, done_ones}
+use Rattle.guard_model.specs.Guarded.{adds}
 use Rattle.guard_model.specs.Laws.{HasName}
 use Rattle.guard_model.proofs.Trios.{Trio, copy, spread, alone, HaveNames}
 use Rattle.guard_model.proofs.Names.{is_x, is_y, is_z, letters_differ, copies_like, has_copy}
@@ -39,41 +41,43 @@ cond_same true x = refl
 cond_same false x = refl
 
 print_words : (g : Geometry) (operations : Routines) (meaning : List ℕ → ℕ → List ℕ → List ℕ)
-    (state : List Held) (name : List ℕ) (r : Option Why) → refusal g operations (table_of state)
-    (Print name) ≡ r → words_at_end g operations meaning state
-    (script_for g operations (table_of state) (Print name ∷ [])) ≡ state
-print_words g operations meaning state name None e =
-    let d : AllDone g operations (table_of state) (Print name ∷ []) = (e, tt) in
+    (state : List Held) (place : Place) (r : Option Why) → refusal g operations (table_of state)
+    (Print place) ≡ r → words_at_end g operations meaning state
+    (script_for g operations (table_of state) (Print place ∷ [])) ≡ state
+print_words g operations meaning state place None e =
+    let d : AllDone g operations (table_of state) (Print place ∷ []) = (e, tt) in
     ap (words_at_end g operations meaning state)
-    (script_done g operations (table_of state) (Print name ∷ []) d)
-    ∙ words_all g operations meaning state (Print name ∷ []) d
-print_words g operations meaning state name (Some w) e = ap
+    (script_done g operations (table_of state) (Print place ∷ []) d)
+    ∙ words_all g operations meaning state (Print place ∷ []) d
+print_words g operations meaning state place (Some w) e = ap
     (words_at_end g operations meaning state)
-    (script_refused g operations (table_of state) (Print name) [] w e)
+    (script_refused g operations (table_of state) (Print place) [] w e)
 
-print_script : (g : Geometry) (operations : Routines) (table : List Named) (name : List ℕ)
-    (r : Option Why) → refusal g operations table (Print name) ≡ r
-    → (script_for g operations table (Print name ∷ []) ≡ Print name ∷ []) ⊎
-    (script_for g operations table (Print name ∷ []) ≡ [])
-print_script g operations table name None e = inl
-    (script_done g operations table (Print name ∷ []) (e, tt))
-print_script g operations table name (Some w) e = inr
-    (script_refused g operations table (Print name) [] w e)
+print_script : (g : Geometry) (operations : Routines) (table : List Named) (place : Place)
+    (r : Option Why) → refusal g operations table (Print place) ≡ r
+    → (script_for g operations table (Print place ∷ []) ≡ Print place ∷ []) ⊎
+    (script_for g operations table (Print place ∷ []) ≡ [])
+print_script g operations table place None e = inl
+    (script_done g operations table (Print place ∷ []) (e, tt))
+print_script g operations table place (Some w) e = inr
+    (script_refused g operations table (Print place) [] w e)
 
 pub print_step : (g : Geometry) (operations : Routines) (meaning : List ℕ → ℕ → List ℕ → List ℕ)
-    (ts : List Trio) (name : List ℕ) → HaveNames ts → IsStep g operations meaning ts (Print name)
-print_step g operations meaning ts name have = record {
-  trios = ts;
-  words = print_words g operations meaning (spread ts) (x_letter ∷ name)
-      (refusal g operations (table_of (spread ts)) (Print (x_letter ∷ name))) refl;
-  named = have;
-  stays = λ h. refl;
-  even = λ h. print_script g operations (table_of (spread ts)) (x_letter ∷ name)
-      (refusal g operations (table_of (spread ts)) (Print (x_letter ∷ name))) refl;
-  alone = ap (map unplaced) (sym (cond_same
-      (is_refused (guarded_reply g operations (table_of (spread ts)) (Print name)))
-      (map alone ts)));
-}
+    (ts : List Trio) (place : Place) → HaveNames ts → IsStep g operations meaning ts (Print place)
+print_step g operations meaning ts place have =
+    let first = place_on x_letter place in
+    record {
+      trios = ts;
+      words = print_words g operations meaning (spread ts) first
+          (refusal g operations (table_of (spread ts)) (Print first)) refl;
+      named = have;
+      stays = λ h. refl;
+      even = λ h. print_script g operations (table_of (spread ts)) first
+          (refusal g operations (table_of (spread ts)) (Print first)) refl;
+      alone = ap (map unplaced) (sym (cond_same
+          (is_refused (guarded_reply g operations (table_of (spread ts)) (Print place)))
+          (map alone ts)));
+    }
 
 pub order_step : (g : Geometry) (operations : Routines) (meaning : List ℕ → ℕ → List ℕ → List ℕ)
     (ts : List Trio) (o : Orders) → HaveNames ts → IsStep g operations meaning ts (Order o)
@@ -477,10 +481,11 @@ step g operations meaning ts (Init name count n) have fits =
     (refusal g operations (table_of (spread ts)) (Init (x_letter ∷ name) count n)) refl have fits
 step g operations meaning ts (Bbop op dst srcs count n) have fits =
     bbop_step g operations meaning ts op dst srcs count n have
-step g operations meaning ts (Load name values) have fits =
-    load_step g operations meaning ts name values have
-step g operations meaning ts (Fill name value) have fits =
-    fill_step g operations meaning ts name value have
-step g operations meaning ts (Print name) have fits = print_step g operations meaning ts name have
+step g operations meaning ts (Load place values) have fits =
+    load_step g operations meaning ts place values have
+step g operations meaning ts (Fill place value) have fits =
+    fill_step g operations meaning ts place value have
+step g operations meaning ts (Print place) have fits =
+    print_step g operations meaning ts place have
 step g operations meaning ts (Free name) have fits = free_step g operations meaning ts name have
 step g operations meaning ts (Order o) have fits = order_step g operations meaning ts o have

@@ -9,7 +9,7 @@ use Rattle.std.proofs.lemmas.Bool.Decides.{nat_tests}
 use Rattle.text_lex.specs.Lexical.{items_of}
 use Rattle.dram_model.specs.declared.geometry.Geometry.{Geometry}
 use Rattle.bbop_isa.specs.Lines.{lines_of}
-use Rattle.bbop_isa.specs.Words.{Word, Name, Number, Comma, Other, words_in}
+use Rattle.bbop_isa.specs.Words.{Word, Name, Number, Comma, Open, Colon, Close, Other, words_in}
 use Rattle.bbop_isa.proofs.Kinded.{none_any, any_none}
 use Rattle.guard_model.specs.declared.Flip.{Flip}
 use Rattle.guard_model.specs.declared.FlipsKind.{FlipsKind}
@@ -53,6 +53,9 @@ numbers_are (Number n ∷ words) numbers h =
     with_case n words (numbers_of words) numbers (λ more e. numbers_are words more e) h
 numbers_are (Name name ∷ words) numbers h = absurd (cc)
 numbers_are (Comma ∷ words) numbers h = absurd (cc)
+numbers_are (Open ∷ words) numbers h = absurd (cc)
+numbers_are (Colon ∷ words) numbers h = absurd (cc)
+numbers_are (Close ∷ words) numbers h = absurd (cc)
 numbers_are (Other ∷ words) numbers h = absurd (cc)
 
 -- ---- the flip of four numbers

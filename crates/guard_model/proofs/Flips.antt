@@ -12,7 +12,8 @@ use Rattle.dram_model.proofs.ColumnLaws.{drive-other, refresh}
 use Rattle.object_alloc.specs.declared.table.Object.{Object}
 use Rattle.object_alloc.specs.Free.{has_row}
 use Rattle.machine_model.proofs.Below.{number_same}
-use Rattle.machine_model.proofs.Bbops.{has_from, or_false}
+use Rattle.machine_model.proofs.Merged.{or_false}
+use Rattle.machine_model.proofs.Sliced.{has_from}
 use Rattle.guard_model.specs.declared.Flip.{Flip}
 use Rattle.guard_model.specs.Flips.{with_bit_inverted, inverted, inverted_at, flipped, all_flipped}
 use Rattle.guard_model.specs.Flips.{hits, is_hit}

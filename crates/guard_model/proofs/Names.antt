@@ -1,15 +1,20 @@
 -- What is found under the name of a copy.
 use Rattle.std.proofs.Common.{◌≡◌, ℕ, Bool, true, false, not, ◌||◌, ◌&&◌, ◌+◌, cond, eqb, List, []}
 use Rattle.std.proofs.Common.{◌∷◌, map, Option, Some, None, refl, sym, ◌∙◌, ap}
+use Rattle.std.specs.Prelude.{nat_lt}
 use Rattle.std.specs.List.{find}
 use Rattle.std.specs.Option.{option_map, unwrap_or}
 use Rattle.std.specs.Str.{bytes_eq}
 use Rattle.object_alloc.specs.declared.table.Object.{Object}
 use Rattle.object_alloc.specs.Listed.{Named, has_name}
-use Rattle.machine_model.specs.Refusals.{object_named, nothing, is_absent}
-use Rattle.machine_model.specs.Steps.{Held, table_of, numbers_named, with_numbers, with_results}
-use Rattle.machine_model.specs.Steps.{new_numbers}
+use Rattle.bbop_isa.specs.declared.instr.Part.{Part}
+use Rattle.bbop_isa.specs.declared.instr.Place.{Place}
+use Rattle.machine_model.specs.Places.{cut, is_past, put_all}
+use Rattle.machine_model.specs.Refusals.{object_named, rows_of, goes_past, nothing, is_absent}
+use Rattle.machine_model.specs.Steps.{Held, table_of, numbers_named, new_numbers}
+use Rattle.machine_model.proofs.Bbops.{part_count}
 use Rattle.machine_model.proofs.Places.{same_bytes}
+use Rattle.guard_model.specs.Guarded.{place_on}
 use Rattle.guard_model.specs.Triples.{x_letter, y_letter, z_letter}
 use Rattle.guard_model.proofs.Trios.{Trio, copy, spread, alone}
 
@@ -74,13 +79,23 @@ object_is : (state : List Held) (name : List ℕ) → object_named (table_of sta
 object_is state name = ap (λ (found : Option Named). unwrap_or
     (option_map (λ p. p.1) found) nothing) (entry_found state name)
 
--- any other table's object is as wide, has the same count
+-- an operand of the copies is as that of the one: there or not, past its object or not, as wide,
+-- and of the same count
 pub record IsLike (table lone : List Named) (c : ℕ) : Type 0 where
   pub absent : (name : List ℕ) → is_absent table (c ∷ name) ≡ is_absent lone name
-  pub wide : (name : List ℕ) → (object_named table (c ∷ name)).width
-      ≡ (object_named lone name).width
-  pub counted : (name : List ℕ) → (object_named table (c ∷ name)).count
-      ≡ (object_named lone name).count
+  pub past : (p : Place) → goes_past table (place_on c p) ≡ goes_past lone p
+  pub wide : (p : Place) → (rows_of table (place_on c p)).width ≡ (rows_of lone p).width
+  pub counted : (p : Place) → (rows_of table (place_on c p)).count ≡ (rows_of lone p).count
+
+past_like : (part : Option Part) (o q : Object) → o.width ≡ q.width
+    → is_past part o ≡ is_past part q
+past_like None o q e = refl
+past_like (Some p) o q e = ap (λ w. nat_lt w (p.low + p.size)) e
+
+wide_like : (part : Option Part) (o q : Object) → o.width ≡ q.width
+    → (cut part o).width ≡ (cut part q).width
+wide_like None o q e = e
+wide_like (Some p) o q e = refl
 
 widths : (c : ℕ) (base : Trio → ℕ) (found : Option Trio)
     → (object_of (option_map (λ u. copy c (base u) u) found)).width
@@ -111,17 +126,26 @@ pub copies_like : (c : ℕ) (base : Trio → ℕ) (ts : List Trio) → Letter c 
     (table_of (spread ts)) (table_of (map alone ts)) c
 copies_like c base ts l = record {
   absent = λ name. ap not (has_copy c base ts name l);
-  wide = λ name.
-      ap (λ (o : Object). o.width) (object_is (spread ts) (c ∷ name) ∙ ap object_of
+  past = λ p. past_like p.part (object_named (table_of (spread ts)) (c ∷ p.name))
+      (object_named (table_of (map alone ts)) p.name) (wide p.name);
+  wide = λ p. wide_like p.part (object_named (table_of (spread ts)) (c ∷ p.name))
+      (object_named (table_of (map alone ts)) p.name) (wide p.name);
+  counted = λ p. part_count (object_named (table_of (spread ts)) (c ∷ p.name)) p.part
+      ∙ counted p.name ∙ sym (part_count (object_named (table_of (map alone ts)) p.name) p.part);
+} where
+  wide : (name : List ℕ) → (object_named (table_of (spread ts)) (c ∷ name)).width
+      ≡ (object_named (table_of (map alone ts)) name).width
+  wide name = ap (λ (o : Object). o.width) (object_is (spread ts) (c ∷ name) ∙ ap object_of
       (found_copy c base ts name l)) ∙ widths c base (trio_named ts name)
       ∙ sym (ap (λ (o : Object). o.width)
-      (object_is (map alone ts) name ∙ ap object_of (found_alone ts name)));
-  counted = λ name.
-      ap (λ (o : Object). o.count) (object_is (spread ts) (c ∷ name) ∙ ap object_of
+      (object_is (map alone ts) name ∙ ap object_of (found_alone ts name)))
+
+  counted : (name : List ℕ) → (object_named (table_of (spread ts)) (c ∷ name)).count
+      ≡ (object_named (table_of (map alone ts)) name).count
+  counted name = ap (λ (o : Object). o.count) (object_is (spread ts) (c ∷ name) ∙ ap object_of
       (found_copy c base ts name l)) ∙ counts c base (trio_named ts name)
       ∙ sym (ap (λ (o : Object). o.count)
-      (object_is (map alone ts) name ∙ ap object_of (found_alone ts name)));
-}
+      (object_is (map alone ts) name ∙ ap object_of (found_alone ts name)))
 
 abbrev numbers_in : Option Held → List ℕ
 numbers_in found = unwrap_or (option_map (λ h. h.numbers) found) []
@@ -137,83 +161,74 @@ pub copy_numbers : (c : ℕ) (base : Trio → ℕ) (ts : List Trio) (name : List
 copy_numbers c base ts name l = ap numbers_in (found_copy c base ts name l) ∙ same_numbers c base
     (trio_named ts name) ∙ sym (ap numbers_in (found_alone ts name))
 
--- other numbers under another name are not read
-other_case : (h : Held) (m n ns : List ℕ) (rest more : Option Held) (a b : Bool) → bytes_eq h.name m
-    ≡ a → bytes_eq h.name n ≡ b → (bytes_eq h.name m ≡ true → bytes_eq h.name n ≡ false)
-    → numbers_in rest ≡ numbers_in more
-    → numbers_in (cond (bytes_eq (cond a
-    (record { name = h.name; object = h.object; numbers = ns }) h).name n)
-    (Some (cond a (record { name = h.name; object = h.object; numbers = ns }) h)) rest) ≡ numbers_in
-    (cond b (Some h) more)
-other_case h m n ns rest more true true e f d r = let g = d e in cc
-other_case h m n ns rest more true false e f d r = rw f r
-other_case h m n ns rest more false true e f d r = rw f refl
-other_case h m n ns rest more false false e f d r = rw f r
-
-pub other_numbers : (state : List Held) (m n ns : List ℕ)
-    → ((k : List ℕ) → bytes_eq k m ≡ true → bytes_eq k n ≡ false) → numbers_named
-    (with_numbers state m ns) n ≡ numbers_named state n
-other_numbers [] m n ns d = refl
-other_numbers (h ∷ state) m n ns d = other_case h m n ns _ _ (bytes_eq h.name m)
-    (bytes_eq h.name n) refl refl (d h.name) (other_numbers state m n ns d)
-
 -- names under two letters differ
 pub letters_differ : (c d : ℕ) (m n : List ℕ) → eqb c d ≡ false → (k : List ℕ) → bytes_eq k (c ∷ m)
     ≡ true → bytes_eq k (d ∷ n) ≡ false
 letters_differ c d m n e k h = rw (same_bytes k (c ∷ m) h, e) refl
 
 -- new numbers for the copies under one letter
-abbrev pub under : ℕ → (List ℕ → Option (List ℕ)) → List ℕ → Option (List ℕ)
-under c new [] = None
-under c new (d ∷ name) = cond (eqb d c) (new name) None
+abbrev pub under : ℕ → (List ℕ → List ℕ → List ℕ) → List ℕ → List ℕ → List ℕ
+under c new [] numbers = numbers
+under c new (d ∷ name) numbers = cond (eqb d c) (new name numbers) numbers
 
-under_none : (b : Bool) → ◌≡◌ {A = Option (List ℕ)} (cond b None None) None
-under_none true = refl
-under_none false = refl
+either_same : (b : Bool) (numbers : List ℕ) → numbers ≡ cond b numbers numbers
+either_same true numbers = refl
+either_same false numbers = refl
 
-under_case : (b m : Bool) (v rest more : Option (List ℕ)) → rest ≡ cond b more None
-    → cond (b && m) v rest ≡ cond b (cond m v more) None
-under_case true true v rest more e = refl
-under_case true false v rest more e = e
-under_case false m v rest more e = e
+under_case : (b m : Bool) (new : List ℕ → List ℕ) (v numbers : List ℕ)
+    → cond b (new (cond (b && m) v numbers)) (cond (b && m) v numbers)
+    ≡ cond b (new (cond m v numbers)) numbers
+under_case true m new v numbers = refl
+under_case false m new v numbers = refl
 
 -- the results of the copies' destinations are those of the one's
-pub new_under : (result : ℕ → List ℕ) (c k : ℕ) (dsts : List (List ℕ)) (name : List ℕ)
-    → new_numbers result k (map (λ name. c ∷ name) dsts) name
-    ≡ under c (new_numbers result k dsts) name
-new_under result c k [] [] = refl
-new_under result c k [] (d ∷ name) = sym (under_none (eqb d c))
-new_under result c k (dst ∷ dsts) [] = new_under result c (k + 1) dsts []
-new_under result c k (dst ∷ dsts) (d ∷ name) =
-    under_case (eqb d c) (bytes_eq name dst) (Some (result k)) _ _
-    (new_under result c (k + 1) dsts (d ∷ name))
+pub new_under : (result : ℕ → List ℕ) (c k : ℕ) (dsts : List Place) (name numbers : List ℕ)
+    → new_numbers result k (map (place_on c) dsts) name numbers
+    ≡ under c (new_numbers result k dsts) name numbers
+new_under result c k [] [] numbers = refl
+new_under result c k [] (d ∷ name) numbers = either_same (eqb d c) numbers
+new_under result c k (dst ∷ dsts) [] numbers = new_under result c (k + 1) dsts [] numbers
+new_under result c k (dst ∷ dsts) (d ∷ name) numbers =
+    new_under result c (k + 1) dsts (d ∷ name)
+    (cond (eqb d c && bytes_eq name dst.name) (put_all dst.part numbers (result k)) numbers)
+    ∙ under_case (eqb d c) (bytes_eq name dst.name) (new_numbers result (k + 1) dsts name)
+    (put_all dst.part numbers (result k)) numbers
 
-abbrev pub given : (List ℕ → Option (List ℕ)) → Held → Held
+-- the object with new numbers, by its name and the numbers that it has
+abbrev pub given : (List ℕ → List ℕ → List ℕ) → Held → Held
 given new h = record {
   name = h.name;
   object = h.object;
-  numbers = unwrap_or (new h.name) h.numbers;
+  numbers = new h.name h.numbers;
 }
 
-pub results_same : (state : List Held) (f g : List ℕ → Option (List ℕ))
-    → ((name : List ℕ) → f name ≡ g name) → with_results state f ≡ with_results state g
-results_same [] f g e = refl
-results_same (h ∷ state) f g e =
-    ap (λ v. record { name = h.name; object = h.object; numbers = unwrap_or v h.numbers }
-    ∷ with_results state f) (e h.name)
-    ∙ ap (λ r. given g h ∷ r) (results_same state f g e)
+pub given_same : (state : List Held) (f g : List ℕ → List ℕ → List ℕ)
+    → ((name numbers : List ℕ) → f name numbers ≡ g name numbers)
+    → map (given f) state ≡ map (given g) state
+given_same [] f g e = refl
+given_same (h ∷ state) f g e =
+    ap (λ ns. record { name = h.name; object = h.object; numbers = ns } ∷ map (given f) state)
+    (e h.name h.numbers)
+    ∙ ap (λ r. given g h ∷ r) (given_same state f g e)
 
-given_case : (h : Held) (f : List ℕ → Option (List ℕ)) (name : List ℕ) (b : Bool)
-    (rest more : Option Held) → bytes_eq h.name name ≡ b → f name ≡ None
+-- new numbers leave the table
+pub table_given : (state : List Held) (new : List ℕ → List ℕ → List ℕ)
+    → table_of (map (given new) state) ≡ table_of state
+table_given [] new = refl
+table_given (h ∷ state) new = ap (λ r. (h.name, h.object) ∷ r) (table_given state new)
+
+given_case : (h : Held) (f : List ℕ → List ℕ → List ℕ) (name : List ℕ) (b : Bool)
+    (rest more : Option Held) → bytes_eq h.name name ≡ b → f name h.numbers ≡ h.numbers
     → numbers_in rest ≡ numbers_in more
     → numbers_in (cond b (Some (given f h)) rest) ≡ numbers_in (cond b (Some h) more)
 given_case h f name true rest more t e r =
-    ap (λ v. unwrap_or v h.numbers) (ap f (same_bytes h.name name t) ∙ e)
+    ap (λ m. f m h.numbers) (same_bytes h.name name t) ∙ e
 given_case h f name false rest more t e r = r
 
 -- where a name is given no new numbers, it has the old ones
-pub other_given : (state : List Held) (f : List ℕ → Option (List ℕ)) (name : List ℕ)
-    → f name ≡ None → numbers_named (with_results state f) name ≡ numbers_named state name
+pub other_given : (state : List Held) (f : List ℕ → List ℕ → List ℕ) (name : List ℕ)
+    → ((numbers : List ℕ) → f name numbers ≡ numbers)
+    → numbers_named (map (given f) state) name ≡ numbers_named state name
 other_given [] f name e = refl
 other_given (h ∷ state) f name e =
-    given_case h f name (bytes_eq h.name name) _ _ refl e (other_given state f name e)
+    given_case h f name (bytes_eq h.name name) _ _ refl (e h.numbers) (other_given state f name e)

@@ -9,174 +9,179 @@ use Rattle.op_text.specs.declared.tree.Kind.{Kind}
 use Rattle.uprog_code.specs.Shape.{width, results}
 use Rattle.object_alloc.specs.declared.table.Object.{Object}
 use Rattle.object_alloc.specs.Listed.{Named, limit_of}
+use Rattle.bbop_isa.specs.declared.instr.Place.{Place}
 use Rattle.bbop_isa.specs.Forms.{Load, Fill, Free}
 use Rattle.machine_model.specs.declared.Why.{Why}
 use Rattle.machine_model.specs.declared.Why.TheVariants as why
 use Rattle.machine_model.specs.Routines.{Routine, Routines}
-use Rattle.machine_model.specs.Refusals.{first, when, at_place, object_named, is_absent, is_misfit}
-use Rattle.machine_model.specs.Refusals.{refusal, bbop_refusal, bbop_conditions, operand_conditions}
-use Rattle.machine_model.specs.Refusals.{grant_conditions, is_one_of, repeats}
+use Rattle.machine_model.specs.Refusals.{first, when, at_place, rows_of, goes_past, is_absent}
+use Rattle.machine_model.specs.Refusals.{is_misfit, refusal, bbop_refusal, bbop_conditions}
+use Rattle.machine_model.specs.Refusals.{operand_conditions, grant_conditions, meets_one}
+use Rattle.machine_model.specs.Refusals.{meet_before}
 use Rattle.machine_model.specs.Steps.{dsts_of, srcs_of}
+use Rattle.guard_model.specs.Guarded.{place_on}
 use Rattle.guard_model.proofs.Names.{IsLike}
 
-abbrev pub named : ℕ → List (List ℕ) → List (List ℕ)
-named c names = map (λ name. c ∷ name) names
+abbrev pub named : ℕ → List Place → List Place
+named c places = map (place_on c) places
 
-absents : (table lone : List Named) (c : ℕ) → IsLike table lone c → (names : List (List ℕ)) → map
-    (is_absent table) (named c names) ≡ map (is_absent lone) names
-absents table lone c like [] = refl
-absents table lone c like (name ∷ names) = rw
-    (like.absent name, absents table lone c like names) refl
+-- what is alike of each operand is so of the list
+all_alike : {X : Type 0} (f h : Place → X) (c : ℕ) → ((p : Place) → f (place_on c p) ≡ h p)
+    → (places : List Place) → map f (named c places) ≡ map h places
+all_alike f h c e [] = refl
+all_alike f h c e (p ∷ places) = rw (e p, all_alike f h c e places) refl
 
 misfits : (table lone : List Named) (c n : ℕ) → IsLike table lone c → (kinds : List Kind)
-    (names : List (List ℕ))
-    → map (is_misfit n) (zip kinds (map (object_named table) (named c names))) ≡ map (is_misfit n)
-    (zip kinds (map (object_named lone) names))
-misfits table lone c n like [] names = refl
+    (places : List Place)
+    → map (is_misfit n) (zip kinds (map (rows_of table) (named c places))) ≡ map (is_misfit n)
+    (zip kinds (map (rows_of lone) places))
+misfits table lone c n like [] places = refl
 misfits table lone c n like (kind ∷ kinds) [] = refl
-misfits table lone c n like (kind ∷ kinds) (name ∷ names) =
+misfits table lone c n like (kind ∷ kinds) (p ∷ places) =
     ap (λ w. not (eqb w (width kind n)) ∷ map (is_misfit n)
-    (zip kinds (map (object_named table) (named c names)))) (like.wide name)
-    ∙ ap (λ rest. not (eqb (object_named lone name).width (width kind n)) ∷ rest)
-    (misfits table lone c n like kinds names)
+    (zip kinds (map (rows_of table) (named c places)))) (like.wide p)
+    ∙ ap (λ rest. not (eqb (rows_of lone p).width (width kind n)) ∷ rest)
+    (misfits table lone c n like kinds places)
 
-sizes : (table lone : List Named) (c count : ℕ) → IsLike table lone c → (names : List (List ℕ))
-    → map (λ (o : Object). not (eqb o.count count)) (map (object_named table) (named c names)) ≡ map
-    (λ (o : Object). not (eqb o.count count)) (map (object_named lone) names)
+sizes : (table lone : List Named) (c count : ℕ) → IsLike table lone c → (places : List Place)
+    → map (λ (o : Object). not (eqb o.count count)) (map (rows_of table) (named c places)) ≡ map
+    (λ (o : Object). not (eqb o.count count)) (map (rows_of lone) places)
 sizes table lone c count like [] = refl
-sizes table lone c count like (name ∷ names) =
+sizes table lone c count like (p ∷ places) =
     ap (λ w. not (eqb w count) ∷ map (λ (o : Object). not (eqb o.count count))
-    (map (object_named table) (named c names))) (like.counted name)
-    ∙ ap (λ rest. not (eqb (object_named lone name).count count) ∷ rest)
-    (sizes table lone c count like names)
+    (map (rows_of table) (named c places))) (like.counted p)
+    ∙ ap (λ rest. not (eqb (rows_of lone p).count count) ∷ rest)
+    (sizes table lone c count like places)
 
 same_letter : (c : ℕ) → eqb c c ≡ true
 same_letter c = grind (arith)
 
-one_of : (c : ℕ) (names : List (List ℕ)) (name : List ℕ)
-    → is_one_of (named c names) (c ∷ name) ≡ is_one_of names name
-one_of c [] name = refl
-one_of c (other ∷ names) name = rw (same_letter c, one_of c names name) refl
+meets_like : (c : ℕ) (others : List Place) (p : Place)
+    → meets_one (named c others) (place_on c p) ≡ meets_one others p
+meets_like c [] p = refl
+meets_like c (other ∷ others) p = rw (same_letter c, meets_like c others p) refl
 
-repeats_like : (c : ℕ) (before names : List (List ℕ))
-    → repeats (named c before) (named c names) ≡ repeats before names
-repeats_like c before [] = refl
-repeats_like c before (name ∷ names) =
-    ap (λ b. b ∷ repeats (named c (name ∷ before)) (named c names)) (one_of c before name)
-    ∙ ap (λ bs. is_one_of before name ∷ bs) (repeats_like c (name ∷ before) names)
+before_like : (c : ℕ) (before places : List Place)
+    → meet_before (named c before) (named c places) ≡ meet_before before places
+before_like c before [] = refl
+before_like c before (p ∷ places) =
+    ap (λ b. b ∷ meet_before (named c (p ∷ before)) (named c places)) (meets_like c before p)
+    ∙ ap (λ bs. meets_one before p ∷ bs) (before_like c (p ∷ before) places)
 
-among : (c : ℕ) (dsts srcs : List (List ℕ))
-    → map (is_one_of (named c dsts)) (named c srcs) ≡ map (is_one_of dsts) srcs
-among c dsts [] = refl
-among c dsts (name ∷ srcs) =
-    ap (λ b. b ∷ map (is_one_of (named c dsts)) (named c srcs)) (one_of c dsts name)
-    ∙ ap (λ bs. is_one_of dsts name ∷ bs) (among c dsts srcs)
-
--- a part of the copies' names
-pub taken : (k c : ℕ) (names : List (List ℕ)) → take k (named c names) ≡ named c (take k names)
-taken zero c names = refl
+-- the first of the copies' operands, and the others
+pub taken : (k c : ℕ) (places : List Place) → take k (named c places) ≡ named c (take k places)
+taken zero c places = refl
 taken (suc k) c [] = refl
-taken (suc k) c (name ∷ names) = ap (λ r. (c ∷ name) ∷ r) (taken k c names)
+taken (suc k) c (p ∷ places) = ap (λ r. place_on c p ∷ r) (taken k c places)
 
-pub dropped : (k c : ℕ) (names : List (List ℕ)) → drop k (named c names) ≡ named c (drop k names)
-dropped zero c names = refl
+pub dropped : (k c : ℕ) (places : List Place) → drop k (named c places) ≡ named c (drop k places)
+dropped zero c places = refl
 dropped (suc k) c [] = refl
-dropped (suc k) c (name ∷ names) = dropped k c names
+dropped (suc k) c (p ∷ places) = dropped k c places
 
-overlaps : (k c : ℕ) (names : List (List ℕ))
-    → repeats [] (take k (named c names))
-    ++ map (is_one_of (take k (named c names))) (drop k (named c names))
-    ≡ repeats [] (take k names) ++ map (is_one_of (take k names)) (drop k names)
-overlaps k c names =
-    ap (λ ds. repeats [] ds ++ map (is_one_of ds) (drop k (named c names))) (taken k c names)
-    ∙ ap (λ ss. repeats [] (named c (take k names))
-    ++ map (is_one_of (named c (take k names))) ss) (dropped k c names)
-    ∙ ap (λ bs. bs ++ map (is_one_of (named c (take k names))) (named c (drop k names)))
-    (repeats_like c [] (take k names))
-    ∙ ap (λ bs. repeats [] (take k names) ++ bs) (among c (take k names) (drop k names))
+overlaps : (k c : ℕ) (places : List Place)
+    → meet_before [] (take k (named c places))
+    ++ map (meets_one (take k (named c places))) (drop k (named c places))
+    ≡ meet_before [] (take k places) ++ map (meets_one (take k places)) (drop k places)
+overlaps k c places =
+    ap (λ ds. meet_before [] ds ++ map (meets_one ds) (drop k (named c places)))
+    (taken k c places)
+    ∙ ap (λ ss. meet_before [] (named c (take k places))
+    ++ map (meets_one (named c (take k places))) ss) (dropped k c places)
+    ∙ ap (λ bs. bs ++ map (meets_one (named c (take k places))) (named c (drop k places)))
+    (before_like c [] (take k places))
+    ∙ ap (λ bs. meet_before [] (take k places) ++ bs)
+    (all_alike (meets_one (named c (take k places))) (meets_one (take k places)) c
+    (meets_like c (take k places)) (drop k places))
 
-long : (c : ℕ) (names : List (List ℕ)) → length (named c names) ≡ length names
+long : (c : ℕ) (places : List Place) → length (named c places) ≡ length places
 long c [] = refl
-long c (name ∷ names) = ap suc (long c names)
+long c (p ∷ places) = ap suc (long c places)
 
 -- the conditions on a bbop of copies, on the operands by the lone table
-abbrev pub mixed_conditions : Geometry → List Named → List Named → Routine → List (List ℕ) → ℕ
-    → ℕ → List (Option Why)
-mixed_conditions g table lone o names count n =
-    when (not (eqb (length names) (length (results o.shape ++ o.shape.sources)))) why.Arity
-    ∷ operand_conditions lone o.shape names count n
+abbrev pub mixed_conditions : Geometry → List Named → List Named → Routine → List Place → ℕ → ℕ
+    → List (Option Why)
+mixed_conditions g table lone o places count n =
+    when (not (eqb (length places) (length (results o.shape ++ o.shape.sources)))) why.Arity
+    ∷ operand_conditions lone o.shape places count n
     ++ grant_conditions (limit_of g) table o n
 
-five : {X : Type 0} (a b c d e p q r s t : X) (rest : List X) → a ≡ p → b ≡ q → c ≡ r → d ≡ s
-    → e ≡ t → a ∷ b ∷ c ∷ d ∷ e ∷ rest ≡ p ∷ q ∷ r ∷ s ∷ t ∷ rest
-five a b c d e p q r s t rest f g h i j = rw (f, g, h, i, j) refl
+six : {X : Type 0} (a b c d e f p q r s t u : X) (rest : List X) → a ≡ p → b ≡ q → c ≡ r → d ≡ s
+    → e ≡ t → f ≡ u → a ∷ b ∷ c ∷ d ∷ e ∷ f ∷ rest ≡ p ∷ q ∷ r ∷ s ∷ t ∷ u ∷ rest
+six a b c d e f p q r s t u rest g h i j k l = rw (g, h, i, j, k, l) refl
 
 mixed : (g : Geometry) (table lone : List Named) (c : ℕ) → IsLike table lone c → (o : Routine)
-    (names : List (List ℕ)) (count n : ℕ)
-    → bbop_conditions (limit_of g) table o (named c names) count n
-    ≡ mixed_conditions g table lone o names count n
-mixed g table lone c like o names count n =
-    five _ _ _ _ _ _ _ _ _ _ (grant_conditions (limit_of g) table o n)
+    (places : List Place) (count n : ℕ)
+    → bbop_conditions (limit_of g) table o (named c places) count n
+    ≡ mixed_conditions g table lone o places count n
+mixed g table lone c like o places count n =
+    six _ _ _ _ _ _ _ _ _ _ _ _ (grant_conditions (limit_of g) table o n)
     (ap (λ l. when (not (eqb l (length (results o.shape ++ o.shape.sources)))) why.Arity)
-    (long c names))
-    (ap (at_place why.NoObject 0) (absents table lone c like names))
+    (long c places))
+    (ap (at_place why.NoObject 0) (all_alike (λ p. is_absent table p.name)
+    (λ p. is_absent lone p.name) c (λ p. like.absent p.name) places))
+    (ap (at_place why.Slice 0)
+    (all_alike (goes_past table) (goes_past lone) c like.past places))
     (ap (at_place why.Width 0)
-    (misfits table lone c n like (results o.shape ++ o.shape.sources) names))
-    (ap (at_place why.Size 0) (sizes table lone c count like names))
-    (ap (at_place why.Overlap 0) (overlaps (length (results o.shape)) c names))
+    (misfits table lone c n like (results o.shape ++ o.shape.sources) places))
+    (ap (at_place why.Size 0) (sizes table lone c count like places))
+    (ap (at_place why.Overlap 0) (overlaps (length (results o.shape)) c places))
 
-abbrev pub mixed_refusal : Geometry → List Named → List Named → Option Routine → List (List ℕ)
+abbrev pub mixed_refusal : Geometry → List Named → List Named → Option Routine → List Place
     → ℕ → ℕ → Option Why
-mixed_refusal g table lone None names count n = Some why.NoOp
-mixed_refusal g table lone (Some o) names count n =
-    first (mixed_conditions g table lone o names count n)
+mixed_refusal g table lone None places count n = Some why.NoOp
+mixed_refusal g table lone (Some o) places count n =
+    first (mixed_conditions g table lone o places count n)
 
 pub bbop_like : (g : Geometry) (table lone : List Named) (c : ℕ) → IsLike table lone c
-    → (found : Option Routine) (names : List (List ℕ)) (count n : ℕ)
-    → bbop_refusal g table found (named c names) count n
-    ≡ mixed_refusal g table lone found names count n
-bbop_like g table lone c like None names count n = refl
-bbop_like g table lone c like (Some o) names count n = ap first
-    (mixed g table lone c like o names count n)
+    → (found : Option Routine) (places : List Place) (count n : ℕ)
+    → bbop_refusal g table found (named c places) count n
+    ≡ mixed_refusal g table lone found places count n
+bbop_like g table lone c like None places count n = refl
+bbop_like g table lone c like (Some o) places count n = ap first
+    (mixed g table lone c like o places count n)
 
--- the destinations and the sources among the copies' names
-pub dsts_like : (c : ℕ) (found : Option Routine) (names : List (List ℕ))
-    → dsts_of found (named c names) ≡ named c (dsts_of found names)
-dsts_like c None names = refl
-dsts_like c (Some o) names = taken (length (results o.shape)) c names
+-- the destinations and the sources among the copies' operands
+pub dsts_like : (c : ℕ) (found : Option Routine) (places : List Place)
+    → dsts_of found (named c places) ≡ named c (dsts_of found places)
+dsts_like c None places = refl
+dsts_like c (Some o) places = taken (length (results o.shape)) c places
 
-pub srcs_like : (c : ℕ) (found : Option Routine) (names : List (List ℕ))
-    → srcs_of found (named c names) ≡ named c (srcs_of found names)
-srcs_like c None names = refl
-srcs_like c (Some o) names = dropped (length (results o.shape)) c names
+pub srcs_like : (c : ℕ) (found : Option Routine) (places : List Place)
+    → srcs_of found (named c places) ≡ named c (srcs_of found places)
+srcs_like c None places = refl
+srcs_like c (Some o) places = dropped (length (results o.shape)) c places
 
-abbrev load_by : Bool → ℕ → ℕ → List ℕ → Option Why
-load_by absent width count values = first
-    (when absent (why.NoObject 0) ∷ when (not (eqb (length values) count)) why.Count
+abbrev load_by : Bool → Bool → ℕ → ℕ → List ℕ → Option Why
+load_by absent past width count values = first
+    (when absent (why.NoObject 0) ∷ when past (why.Slice 0)
+    ∷ when (not (eqb (length values) count)) why.Count
     ∷ at_place why.Range 1 (map (λ v. leb (2 ^ width) v) values) ∷ [])
 
-load_same : (a b : Bool) (v w m n : ℕ) (values : List ℕ) → a ≡ b → v ≡ w → m ≡ n
-    → load_by a v m values ≡ load_by b w n values
-load_same a b v w m n values e f h = rw (e, f, h) refl
+load_same : (a b p q : Bool) (v w m n : ℕ) (values : List ℕ) → a ≡ b → p ≡ q → v ≡ w → m ≡ n
+    → load_by a p v m values ≡ load_by b q w n values
+load_same a b p q v w m n values e f h i = rw (e, f, h, i) refl
 
 pub load_like : (g : Geometry) (operations : Routines) (table lone : List Named) (c : ℕ)
-    → IsLike table lone c → (name values : List ℕ) → refusal g operations table
-    (Load (c ∷ name) values) ≡ refusal g operations lone (Load name values)
-load_like g operations table lone c like name values = load_same _ _ _ _ _ _ values
-    (like.absent name) (like.wide name) (like.counted name)
+    → IsLike table lone c → (place : Place) (values : List ℕ) → refusal g operations table
+    (Load (place_on c place) values) ≡ refusal g operations lone (Load place values)
+load_like g operations table lone c like place values = load_same _ _ _ _ _ _ _ _ values
+    (like.absent place.name) (like.past place) (like.wide place) (like.counted place)
 
-abbrev fill_by : Bool → ℕ → ℕ → Option Why
-fill_by absent width value = first
-    (when absent (why.NoObject 0) ∷ when (leb (2 ^ width) value) (why.Range 1) ∷ [])
+abbrev fill_by : Bool → Bool → ℕ → ℕ → Option Why
+fill_by absent past width value = first
+    (when absent (why.NoObject 0) ∷ when past (why.Slice 0)
+    ∷ when (leb (2 ^ width) value) (why.Range 1) ∷ [])
 
-fill_same : (a b : Bool) (v w value : ℕ) → a ≡ b → v ≡ w → fill_by a v value ≡ fill_by b w value
-fill_same a b v w value e f = rw (e, f) refl
+fill_same : (a b p q : Bool) (v w value : ℕ) → a ≡ b → p ≡ q → v ≡ w
+    → fill_by a p v value ≡ fill_by b q w value
+fill_same a b p q v w value e f h = rw (e, f, h) refl
 
 pub fill_like : (g : Geometry) (operations : Routines) (table lone : List Named) (c : ℕ)
-    → IsLike table lone c → (name : List ℕ) (value : ℕ) → refusal g operations table
-    (Fill (c ∷ name) value) ≡ refusal g operations lone (Fill name value)
-fill_like g operations table lone c like name value = fill_same _ _ _ _ value (like.absent name)
-    (like.wide name)
+    → IsLike table lone c → (place : Place) (value : ℕ) → refusal g operations table
+    (Fill (place_on c place) value) ≡ refusal g operations lone (Fill place value)
+fill_like g operations table lone c like place value = fill_same _ _ _ _ _ _ value
+    (like.absent place.name) (like.past place) (like.wide place)
 
 pub free_like : (g : Geometry) (operations : Routines) (table lone : List Named) (c : ℕ)
     → IsLike table lone c → (name : List ℕ) → refusal g operations table (Free (c ∷ name))

@@ -11,7 +11,7 @@ use Rattle.object_alloc.specs.Free.{AreApart}
 use Rattle.object_alloc.specs.Listed.{Named}
 use Rattle.machine_model.specs.Steps.{Held, table_of}
 use Rattle.machine_model.proofs.Places.{same_bytes, bytes_same}
-use Rattle.machine_model.proofs.Bbops.{has_from}
+use Rattle.machine_model.proofs.Sliced.{has_from}
 use Rattle.guard_model.specs.Triples.{x_letter, y_letter, z_letter, is_first_name, is_first}
 use Rattle.guard_model.specs.Triples.{is_copy, stranger_from, EqualCopies, first_copies}
 use Rattle.guard_model.proofs.Votes.{RowsApart}

@@ -6,20 +6,20 @@ use Rattle.std.specs.List.{AllByRecursion}
 use Rattle.dram_model.specs.declared.geometry.Geometry.{Geometry}
 use Rattle.dram_model.specs.Chip.{Banks}
 use Rattle.uprog_code.specs.declared.walker.Counts.{Counts}
-use Rattle.object_alloc.specs.Listed.{Named, has_name}
+use Rattle.object_alloc.specs.Listed.{Named}
+use Rattle.bbop_isa.specs.declared.instr.Place.{Place}
 use Rattle.bbop_isa.specs.Forms.{Instruction, Init, Bbop, Load, Fill, Print, Free, Order}
 use Rattle.machine_model.specs.declared.Why.{Why}
-use Rattle.machine_model.specs.declared.Why.TheVariants as why
 use Rattle.machine_model.specs.declared.Reply.{Reply}
 use Rattle.machine_model.specs.declared.Reply.TheVariants.{Done, Refused}
 use Rattle.machine_model.specs.Columns.{columns}
 use Rattle.machine_model.specs.Routines.{Routines}
-use Rattle.machine_model.specs.Refusals.{refusal, object_named, is_absent, when}
-use Rattle.machine_model.specs.Steps.{Held, table_of, numbers_named, table_after, worded, if_done}
+use Rattle.machine_model.specs.Refusals.{refusal, rows_of, goes_past, is_absent}
+use Rattle.machine_model.specs.Steps.{Held, table_of, numbers_at, table_after, worded, if_done}
 use Rattle.machine_model.specs.Steps.{reply_by}
 use Rattle.machine_model.specs.Script.{is_refused}
 use Rattle.machine_model.specs.Agrees.{Agrees, DoesAll, IsPlain}
-use Rattle.machine_model.specs.Report.{Said, said_of}
+use Rattle.machine_model.specs.Report.{Said, place_text, said_of}
 use Rattle.machine_model.proofs.Whole.{rows_give_words}
 use Rattle.machine_model.specs.Opened.{Image, opened, objects_held}
 use Rattle.machine_model.specs.Routines.{routines_of, meaning_in}
@@ -29,11 +29,12 @@ use Rattle.dram_model.specs.Geometry.{is_geometry}
 use Rattle.std.proofs.Common.{arith}
 use Rattle.std.proofs.lemmas.Bool.Decides.{nat_tests}
 use Rattle.guard_model.proofs.Trios.{and_both}
-use Rattle.machine_model.proofs.Facts.{not_false}
-use Rattle.machine_model.proofs.Places.{found, no_one}
+use Rattle.machine_model.proofs.Bbops.{operand_columns}
+use Rattle.machine_model.proofs.Facts.{not_false, operand_is}
 use Rattle.guard_model.specs.declared.Flip.{Flip}
 use Rattle.guard_model.specs.Triples.{x_letter, first_stranger, EqualCopies, first_copies, unplaced}
-use Rattle.guard_model.specs.Guarded.{plain_ones, plain_script, done_ones, removal, joined}
+use Rattle.guard_model.specs.Guarded.{place_on, plain_ones, plain_script, done_ones, removal}
+use Rattle.guard_model.specs.Guarded.{joined}
 use Rattle.guard_model.specs.Guarded.{guarded_reply, guarded_table, guarded_words, guarded_rows}
 use Rattle.guard_model.specs.Guarded.{mended, guarded_replies, guarded_rows_at_end}
 use Rattle.guard_model.specs.Guarded.{guarded_words_at_end, guarded_table_at_end, Single}
@@ -50,9 +51,9 @@ use Rattle.guard_model.proofs.Alone.{same_runs}
 ones_plain : (instr : Instruction) → IsPlain instr → AllByRecursion IsPlain (plain_ones instr)
 ones_plain (Init name count n) h = (h, (h, (h, tt)))
 ones_plain (Bbop op dst srcs count n) h = (h, (h, (h, tt)))
-ones_plain (Load name values) h = (tt, (tt, (tt, tt)))
-ones_plain (Fill name value) h = (tt, (tt, (tt, tt)))
-ones_plain (Print name) h = (tt, tt)
+ones_plain (Load place values) h = (tt, (tt, (tt, tt)))
+ones_plain (Fill place value) h = (tt, (tt, (tt, tt)))
+ones_plain (Print place) h = (tt, tt)
 ones_plain (Free name) h = (tt, (tt, (tt, tt)))
 ones_plain (Order o) h = (tt, tt)
 
@@ -72,9 +73,9 @@ removal_plain : (i : Instruction) (rest : List Instruction) → AllByRecursion I
     → AllByRecursion IsPlain (removal i ++ rest)
 removal_plain (Init name count n) rest h = (tt, h)
 removal_plain (Bbop op dst srcs count n) rest h = h
-removal_plain (Load name values) rest h = h
-removal_plain (Fill name value) rest h = h
-removal_plain (Print name) rest h = h
+removal_plain (Load place values) rest h = h
+removal_plain (Fill place value) rest h = h
+removal_plain (Print place) rest h = h
 removal_plain (Free name) rest h = h
 removal_plain (Order o) rest h = h
 
@@ -119,21 +120,14 @@ guarded_table_is g operations meaning state instr = table_steps g operations mea
     (plain_script g operations (table_of state) instr)
 
 -- What is said
-values_same : (g : Geometry) (banks : Banks) (state : List Held) (name : List ℕ)
-    → Agrees g banks state → has_name (table_of state) name ≡ true → columns g banks
-    (object_named (table_of state) name) ≡ numbers_named state name
-values_same g banks state name a h =
-    let f = found _ state name a.table h in
-    ap (columns g banks) f.object ∙ a.numbers f.place no_one f.within ∙ sym f.numbers
+print_said : (r : Option Why) (place : Place) (counts : Counts) (xs ys : Place → List ℕ)
+    → (r ≡ None → xs place ≡ ys place) → said_of
+    (joined none_yet (reply_by r counts ∷ [])) (Print place) xs ≡ said_of
+    (joined none_yet (reply_by r counts ∷ [])) (Print place) ys
+print_said None place counts xs ys e = ap (λ v. Said.Printed (place_text place) v) (e refl)
+print_said (Some reason) place counts xs ys e = refl
 
-print_said : (name : List ℕ) (b : Bool) (counts : Counts) (xs ys : List ℕ → List ℕ)
-    → (b ≡ false → xs name ≡ ys name) → said_of
-    (joined none_yet (reply_by (when b (why.NoObject 0)) counts ∷ [])) (Print name) xs ≡ said_of
-    (joined none_yet (reply_by (when b (why.NoObject 0)) counts ∷ [])) (Print name) ys
-print_said name true counts xs ys e = refl
-print_said name false counts xs ys e = ap (λ v. Said.Printed name v) (e refl)
-
-other_said : (reply : Reply) (instr : Instruction) (xs ys : List ℕ → List ℕ)
+other_said : (reply : Reply) (instr : Instruction) (xs ys : Place → List ℕ)
     → ((c : Counts) → said_of (Done c) instr xs ≡ said_of (Done c) instr ys)
     → said_of reply instr xs ≡ said_of reply instr ys
 other_said (Done c) instr xs ys e = e c
@@ -142,26 +136,29 @@ other_said (Refused reason) instr xs ys e = refl
 said_same : (g : Geometry) (operations : Routines) (banks : Banks) (state : List Held)
     (instr : Instruction) → Agrees g banks state
     → said_of (guarded_reply g operations (table_of state) instr) instr
-    (λ name. take (object_named (table_of state) (x_letter ∷ name)).count
-    (columns g banks (object_named (table_of state) (x_letter ∷ name))))
+    (λ place. take (rows_of (table_of state) (place_on x_letter place)).count
+    (columns g banks (rows_of (table_of state) (place_on x_letter place))))
     ≡ said_of (guarded_reply g operations (table_of state) instr) instr
-    (λ name. take (object_named (table_of state) (x_letter ∷ name)).count
-    (numbers_named state (x_letter ∷ name)))
-said_same g operations banks state (Print name) a =
-    print_said name (is_absent (table_of state) (x_letter ∷ name)) _ _ _
-    (λ b. ap (take (object_named (table_of state) (x_letter ∷ name)).count)
-    (values_same g banks state (x_letter ∷ name) a (not_false _ b)))
+    (λ place. take (rows_of (table_of state) (place_on x_letter place)).count
+    (numbers_at state (place_on x_letter place)))
+said_same g operations banks state (Print place) a =
+    let table = table_of state in
+    let first = place_on x_letter place in
+    print_said (refusal g operations table (Print first)) place _ _ _ (λ h.
+    let is = operand_is (is_absent table first.name) (goes_past table first) [] h in
+    ap (take (rows_of table first).count)
+    (sym (operand_columns g banks state first a (not_false _ is.0) is.1)))
 said_same g operations banks state (Init name count n) a = other_said
     (guarded_reply g operations (table_of state) (Init name count n)) (Init name count n) _ _
     (λ c. refl)
 said_same g operations banks state (Bbop op dst srcs count n) a = other_said
     (guarded_reply g operations (table_of state) (Bbop op dst srcs count n))
     (Bbop op dst srcs count n) _ _ (λ c. refl)
-said_same g operations banks state (Load name values) a = other_said
-    (guarded_reply g operations (table_of state) (Load name values)) (Load name values) _ _
+said_same g operations banks state (Load place values) a = other_said
+    (guarded_reply g operations (table_of state) (Load place values)) (Load place values) _ _
     (λ c. refl)
-said_same g operations banks state (Fill name value) a = other_said
-    (guarded_reply g operations (table_of state) (Fill name value)) (Fill name value) _ _
+said_same g operations banks state (Fill place value) a = other_said
+    (guarded_reply g operations (table_of state) (Fill place value)) (Fill place value) _ _
     (λ c. refl)
 said_same g operations banks state (Free name) a = other_said
     (guarded_reply g operations (table_of state) (Free name)) (Free name) _ _ (λ c. refl)

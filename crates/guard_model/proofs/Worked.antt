@@ -5,7 +5,7 @@ use Rattle.dram_model.specs.declared.geometry.Geometry.{Geometry}
 use Rattle.dram_model.specs.declared.dram.Counters.{Counters}
 use Rattle.object_alloc.specs.declared.table.Object.{Object}
 use Rattle.object_alloc.specs.Free.{free}
-use Rattle.bbop_isa.specs.Forms.{Instruction, Init, Load, Print}
+use Rattle.bbop_isa.specs.Forms.{Instruction, Init, Load, Print, whole}
 use Rattle.machine_model.specs.Routines.{Routines}
 use Rattle.guard_model.specs.declared.Flip.{Flip}
 use Rattle.guard_model.specs.Flips.{is_hit, AtMostOne}
@@ -23,7 +23,8 @@ abbrev none : Routines
 none name = None
 
 abbrev script : List Instruction
-script = Init (97 ∷ []) 4 2 ∷ Load (97 ∷ []) (0 ∷ 1 ∷ 2 ∷ 3 ∷ []) ∷ Print (97 ∷ []) ∷ []
+script = Init (97 ∷ []) 4 2 ∷ Load (whole (97 ∷ [])) (0 ∷ 1 ∷ 2 ∷ 3 ∷ [])
+    ∷ Print (whole (97 ∷ [])) ∷ []
 
 abbrev flip : Flip
 flip = record { before = 3; bank = 0; row = 0; column = 1 }

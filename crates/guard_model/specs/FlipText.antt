@@ -5,7 +5,7 @@ use Rattle.text_lex.specs.Lexical.{items_of}
 use Rattle.dram_model.specs.declared.geometry.Geometry.{Geometry}
 use Rattle.bbop_isa.specs.Forms.{number_or_zero}
 use Rattle.bbop_isa.specs.Lines.{lines_of}
-use Rattle.bbop_isa.specs.Words.{Word, Name, Number, Comma, Other, words_in}
+use Rattle.bbop_isa.specs.Words.{Word, Name, Number, Comma, Open, Colon, Close, Other, words_in}
 use Rattle.guard_model.specs.declared.Flip.{Flip}
 use Rattle.guard_model.specs.declared.FlipsKind.{FlipsKind}
 use Rattle.guard_model.specs.declared.FlipsKind.TheVariants.{Lex, Syntax, Number as BadNumber}
@@ -47,6 +47,9 @@ numbers_of [] = Some []
 numbers_of (Number number ∷ words) = with_number number (numbers_of words)
 numbers_of (Name name ∷ words) = None
 numbers_of (Comma ∷ words) = None
+numbers_of (Open ∷ words) = None
+numbers_of (Colon ∷ words) = None
+numbers_of (Close ∷ words) = None
 numbers_of (Other ∷ words) = None
 
 -- the flip that a line's numbers say; a line without tokens says nothing

@@ -7,6 +7,7 @@ use Rattle.dram_model.specs.declared.dram.Counters.{Counters}
 use Rattle.dram_model.specs.View.{with_reads}
 use Rattle.uprog_code.specs.declared.walker.Counts.{Counts}
 use Rattle.object_alloc.specs.Listed.{Named}
+use Rattle.bbop_isa.specs.declared.instr.Place.{Place}
 use Rattle.bbop_isa.specs.Forms.{Instruction}
 use Rattle.bbop_isa.specs.Forms.{Init, Bbop, Load, Fill, Print, Free, Order}
 use Rattle.wave_model.specs.Schedule.{Turn}
@@ -14,8 +15,8 @@ use Rattle.machine_model.specs.declared.Reply.{Reply}
 use Rattle.machine_model.specs.declared.Reply.TheVariants.{Done, Refused}
 use Rattle.machine_model.specs.Columns.{columns}
 use Rattle.machine_model.specs.Routines.{Routines}
-use Rattle.machine_model.specs.Refusals.{refusal, object_named}
-use Rattle.machine_model.specs.Steps.{Held, table_of, numbers_named, worded, table_after, if_done}
+use Rattle.machine_model.specs.Refusals.{refusal, rows_of}
+use Rattle.machine_model.specs.Steps.{Held, table_of, numbers_at, worded, table_after, if_done}
 use Rattle.machine_model.specs.Script.{replies, table_at_end, words_at_end, banks_at_end, plus}
 use Rattle.machine_model.specs.Script.{is_refused, sum_done, rows_printed, counters_at_end}
 use Rattle.machine_model.specs.Script.{with_counts, with_writes}
@@ -26,14 +27,18 @@ use Rattle.guard_model.specs.Triples.{x_letter, y_letter, z_letter}
 use Rattle.guard_model.specs.Flips.{due, all_flipped, AtMostOne}
 use Rattle.guard_model.specs.Votes.{voted, vote_count}
 
+-- the same part of the copy under one letter
+abbrev pub place_on : ℕ → Place → Place
+place_on letter place = record { name = letter ∷ place.name; part = place.part }
+
 -- the plain instruction on the copies under one letter
 abbrev pub on_copy : ℕ → Instruction → Instruction
 on_copy letter (Init name count n) = Init (letter ∷ name) count n
 on_copy letter (Bbop op dst srcs count n) =
-    Bbop op (letter ∷ dst) (map (λ name. letter ∷ name) srcs) count n
-on_copy letter (Load name values) = Load (letter ∷ name) values
-on_copy letter (Fill name value) = Fill (letter ∷ name) value
-on_copy letter (Print name) = Print (letter ∷ name)
+    Bbop op (place_on letter dst) (map (place_on letter) srcs) count n
+on_copy letter (Load place values) = Load (place_on letter place) values
+on_copy letter (Fill place value) = Fill (place_on letter place) value
+on_copy letter (Print place) = Print (place_on letter place)
 on_copy letter (Free name) = Free (letter ∷ name)
 on_copy letter (Order order) = Order order
 
@@ -44,12 +49,12 @@ on_copies instr = on_copy x_letter instr ∷ on_copy y_letter instr ∷ on_copy 
 -- the plain instructions of a guarded one: on the three copies in turn, but a print on the first
 -- alone, and an order once
 abbrev pub plain_ones : Instruction → List Instruction
-plain_ones (Print name) = on_copy x_letter (Print name) ∷ []
+plain_ones (Print place) = on_copy x_letter (Print place) ∷ []
 plain_ones (Order order) = Order order ∷ []
 plain_ones (Init name count n) = on_copies (Init name count n)
 plain_ones (Bbop op dst srcs count n) = on_copies (Bbop op dst srcs count n)
-plain_ones (Load name values) = on_copies (Load name values)
-plain_ones (Fill name value) = on_copies (Fill name value)
+plain_ones (Load place values) = on_copies (Load place values)
+plain_ones (Fill place value) = on_copies (Fill place value)
 plain_ones (Free name) = on_copies (Free name)
 
 -- the first refusal, or the sum of the counts
@@ -73,9 +78,9 @@ done_ones g operations table (instr ∷ rest) = if_done (refusal g operations ta
 abbrev pub adds : Instruction → Bool
 adds (Init name count n) = true
 adds (Bbop op dst srcs count n) = false
-adds (Load name values) = false
-adds (Fill name value) = false
-adds (Print name) = false
+adds (Load place values) = false
+adds (Fill place value) = false
+adds (Print place) = false
 adds (Free name) = false
 adds (Order order) = false
 
@@ -83,9 +88,9 @@ adds (Order order) = false
 abbrev pub removal : Instruction → List Instruction
 removal (Init name count n) = Free name ∷ []
 removal (Bbop op dst srcs count n) = []
-removal (Load name values) = []
-removal (Fill name value) = []
-removal (Print name) = []
+removal (Load place values) = []
+removal (Fill place value) = []
+removal (Print place) = []
 removal (Free name) = []
 removal (Order order) = []
 
@@ -133,16 +138,15 @@ guarded_reads g operations table instr =
     sum_done rows_printed g operations table (plain_script g operations table instr)
 
 -- what is said of a guarded instruction, where the values of the first copies are these
-abbrev pub guarded_said : Geometry → Routines → List Named → (List ℕ → List ℕ) → Instruction
-    → Said
+abbrev pub guarded_said : Geometry → Routines → List Named → (Place → List ℕ) → Instruction → Said
 guarded_said g operations table values instr =
-    said_of (guarded_reply g operations table instr) instr
-    (λ name. take (object_named table (x_letter ∷ name)).count (values (x_letter ∷ name)))
+    said_of (guarded_reply g operations table instr) instr (λ place.
+    take (rows_of table (place_on x_letter place)).count (values (place_on x_letter place)))
 
 -- what is said of a guarded instruction, where the values are read from the banks' columns
 abbrev pub guarded_said_by : Geometry → Routines → List Named → Banks → Instruction → Said
 guarded_said_by g operations table banks instr =
-    guarded_said g operations table (λ name. columns g banks (object_named table name)) instr
+    guarded_said g operations table (λ place. columns g banks (rows_of table place)) instr
 
 -- the flips of k, and then the votes
 abbrev pub mended : Geometry → List Flip → ℕ → List Named → Banks → Banks
@@ -218,7 +222,7 @@ abbrev pub guarded_said_in_words : Geometry → Routines → (List ℕ → ℕ �
     → List Held → List Instruction → List Said
 guarded_said_in_words g operations meaning state [] = []
 guarded_said_in_words g operations meaning state (instr ∷ script) =
-    guarded_said g operations (table_of state) (numbers_named state) instr
+    guarded_said g operations (table_of state) (numbers_at state) instr
     ∷ guarded_said_in_words g operations meaning (guarded_words g operations meaning state instr)
     script
 

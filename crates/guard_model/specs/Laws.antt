@@ -80,9 +80,9 @@ StepIsCounted =
 abbrev pub HasName : Instruction → Type 0
 HasName (Init name count n) = fits_name name ≡ true
 HasName (Bbop op dst srcs count n) = Unit {0}
-HasName (Load name values) = Unit {0}
-HasName (Fill name value) = Unit {0}
-HasName (Print name) = Unit {0}
+HasName (Load place values) = Unit {0}
+HasName (Fill place value) = Unit {0}
+HasName (Print place) = Unit {0}
 HasName (Free name) = Unit {0}
 HasName (Order order) = Unit {0}
 

@@ -1,5 +1,5 @@
 -- Names that have no room for a letter before them.
-use Rattle.std.specs.Prelude.{ℕ, ◌+◌, nat_lt, Bool, List, [], ◌∷◌, length, Option, position}
+use Rattle.std.specs.Prelude.{ℕ, ◌+◌, nat_lt, Bool, List, [], ◌∷◌, map, length, Option, position}
 use Rattle.std.specs.Option.{option_map}
 use Rattle.std.specs.List.{list_any}
 use Rattle.bbop_isa.specs.Forms.{Instruction}
@@ -12,10 +12,10 @@ is_long name = nat_lt 15 (length name)
 -- the objects that an instruction names
 abbrev pub objects_in : Instruction → List (List ℕ)
 objects_in (Init name count n) = name ∷ []
-objects_in (Bbop op dst srcs count n) = dst ∷ srcs
-objects_in (Load name values) = name ∷ []
-objects_in (Fill name value) = name ∷ []
-objects_in (Print name) = name ∷ []
+objects_in (Bbop op dst srcs count n) = map (λ place. place.name) (dst ∷ srcs)
+objects_in (Load place values) = place.name ∷ []
+objects_in (Fill place value) = place.name ∷ []
+objects_in (Print place) = place.name ∷ []
 objects_in (Free name) = name ∷ []
 objects_in (Order order) = []
 

@@ -1,6 +1,6 @@
 //! Scripts that are read.
 
-use bbop_isa::{Instr, Order, parse_script};
+use bbop_isa::{Instr, Order, Place, parse_script};
 use std::alloc::AllocError;
 use std::fmt::Write;
 use std::str;
@@ -8,6 +8,20 @@ use text_lex::Name;
 
 fn text_of(name: &Name) -> &str {
     str::from_utf8(name.bytes()).unwrap_or("?")
+}
+
+/// Appends an operand: its name, and of a part its first bit and how many bits it has.
+fn spell_place(line: &mut String, place: &Place) -> Result<(), AllocError> {
+    match place.part {
+        None => write!(line, " {}", text_of(&place.name)),
+        Some(part) => write!(
+            line,
+            " {}[{}+{}]",
+            text_of(&place.name),
+            part.low,
+            part.size
+        ),
+    }
 }
 
 /// The instruction as a line, with one blank after each word.
@@ -21,21 +35,31 @@ fn spell(line: &mut String, instr: &Instr) -> Result<(), AllocError> {
             count,
             n,
         } => {
-            write!(line, "bbop {} {}", text_of(op), text_of(dst))?;
+            write!(line, "bbop {}", text_of(op))?;
+            spell_place(line, dst)?;
             for src in srcs.as_slice() {
-                write!(line, " {}", text_of(src))?;
+                spell_place(line, src)?;
             }
             write!(line, " {count} {n}\n")
         }
-        Instr::Load { name, values } => {
-            write!(line, "load {}", text_of(name))?;
+        Instr::Load { place, values } => {
+            write!(line, "load")?;
+            spell_place(line, place)?;
             for value in values.as_slice() {
                 write!(line, " {value}")?;
             }
             write!(line, "\n")
         }
-        Instr::Fill { name, value } => write!(line, "fill {} {value}\n", text_of(name)),
-        Instr::Print { name } => write!(line, "print {}\n", text_of(name)),
+        Instr::Fill { place, value } => {
+            write!(line, "fill")?;
+            spell_place(line, place)?;
+            write!(line, " {value}\n")
+        }
+        Instr::Print { place } => {
+            write!(line, "print")?;
+            spell_place(line, place)?;
+            write!(line, "\n")
+        }
         Instr::Free { name } => write!(line, "free {}\n", text_of(name)),
         Instr::Order(Order::Forward) => write!(line, "order in\n"),
         Instr::Order(Order::Turns) => write!(line, "order turns\n"),
@@ -58,7 +82,11 @@ free a
 order in
 order turns
 order seed 18446744073709551615
-order seed 0";
+order seed 0
+bbop_add y[0 : 8], y[8], a, b[120:128], 3, 8
+load p[127], 1
+fill p [ 000:0128 ], 0
+print p[3:4]";
 
 const SAID: &str = "init a 4294967295 128
 init _b9 1 1
@@ -73,6 +101,10 @@ order in
 order turns
 order seed 18446744073709551615
 order seed 0
+bbop add y[0+8] y[8+1] a b[120+8] 3 8
+load p[127+1] 1
+fill p[0+128] 0
+print p[3+1]
 ";
 
 #[test]

@@ -8,21 +8,18 @@ use Rattle.bbop_isa.specs.Forms.{Instruction, Init, Bbop, Load, Fill, Print, Fre
 use Rattle.bbop_isa.specs.Lines.{lines_of}
 use Rattle.bbop_isa.specs.Laws.{IsRight}
 use Rattle.bbop_isa.specs.Script.{script_of, script_from, go_on}
-use Rattle.bbop_isa.proofs.Meant.{lines_are}
+use Rattle.bbop_isa.proofs.Meant.{line_is_right}
 use Rattle.machine_model.specs.Agrees.{IsPlain}
 use Rattle.machine_model.specs.Laws.{AcceptedIsPlain}
 
 pub right_is_plain : (i : Instruction) → IsRight i → IsPlain i
 right_is_plain (Init name count n) r = (omega (arith, r.1.0), (omega (arith, r.1.2), r.1.3))
-right_is_plain (Bbop op dst srcs count n) r = (omega (arith, r.4.2), r.4.3)
+right_is_plain (Bbop op dst srcs count n) r = (omega (arith, r.5.2), r.5.3)
 right_is_plain (Load name values) r = tt
 right_is_plain (Fill name v) r = tt
 right_is_plain (Print name) r = tt
 right_is_plain (Free name) r = tt
 right_is_plain (Order order) r = tt
-
-pub line_is_right : (line : List ℕ) (i : Instruction) → line_of line ≡ Ok (Some i) → IsRight i
-line_is_right line i e = ((lines_are line i).0 e).right
 
 goes_right : (number : ℕ) (said : Result (Option Instruction) ScriptKind)
     (rest : Result (List Instruction) ScriptFault) (script : List Instruction)

@@ -1,16 +1,14 @@
 -- How much an instruction does at most.
 use Rattle.std.proofs.Common.{◌≡◌, ℕ, zero, suc, ◌+◌, ◌*◌, ◌<◌, ◌≤◌, Bool, true, false, cond}
 use Rattle.std.proofs.Common.{eqb, leb, List, [], ◌∷◌, length, Option, Some, None, refl}
-use Rattle.std.proofs.Common.{ap, arith, get_or}
-use Rattle.std.specs.Prelude.{count_by, slice_get, slice_index, slice_set, ◌-◌}
-use Rattle.std.specs.Option.{option_map, unwrap_or}
-use Rattle.std.specs.Str.{bytes_eq}
-use Rattle.std.specs.List.{find, AllByRecursion}
+use Rattle.std.proofs.Common.{arith, get_or, sym, subst}
+use Rattle.std.specs.Prelude.{count_by, slice_get, slice_index, slice_set, is_none, ◌-◌}
+use Rattle.std.specs.List.{AllByRecursion}
 use Rattle.std.proofs.Math.Nat.{mul-le-mul, suc-mul, mul-add}
 use Rattle.std.proofs.lemmas.List.Sums.{sum_by-cons}
 use Rattle.std.proofs.lemmas.List.Elements.{recursion_from_All}
 use Rattle.dram_model.specs.declared.geometry.Geometry.{Geometry}
-use Rattle.dram_model.specs.Elements.{column_count}
+use Rattle.dram_model.specs.Elements.{column_count, segments_of}
 pub use Rattle.dram_model.proofs.Shapes.{geometry_parts}
 use Rattle.bit_rows.specs.declared.TheConstants.{WIDTH_MAX}
 use Rattle.uprog_code.specs.declared.TheConstants.{WALK_MAX}
@@ -27,13 +25,16 @@ use Rattle.uprog_code.specs.declared.walker.Why3.TheVariants.{Index, Register}
 use Rattle.uprog_code.specs.Count.{issues_aap, issues_ap, counts_of}
 use Rattle.object_alloc.specs.declared.table.Object.{Object}
 use Rattle.object_alloc.specs.Listed.{Named}
+use Rattle.bbop_isa.specs.declared.instr.Part.{Part}
+use Rattle.bbop_isa.specs.declared.instr.Place.{Place}
 use Rattle.bbop_isa.specs.Forms.{Instruction}
 use Rattle.bbop_isa.specs.Forms.{Init, Bbop, Load, Fill, Print, Free, Order}
 use Rattle.machine_model.specs.declared.Why.{Why}
 use Rattle.machine_model.specs.Columns.{segments}
+use Rattle.machine_model.specs.Places.{cut, is_past}
 use Rattle.machine_model.specs.Routines.{Program, Routine, Routines, routine_of}
 use Rattle.machine_model.specs.Routines.{routines_in}
-use Rattle.machine_model.specs.Refusals.{refusal, object_named, nothing}
+use Rattle.machine_model.specs.Refusals.{refusal, object_named, rows_of, goes_past, nothing}
 use Rattle.machine_model.specs.Steps.{counts_for, reply_to, reply_by, times, issues_at, table_after}
 use Rattle.machine_model.specs.Steps.{new_object}
 use Rattle.machine_model.specs.Agrees.{IsPlain}
@@ -42,7 +43,10 @@ use Rattle.machine_model.specs.Script.{rows_printed}
 use Rattle.machine_model.specs.Laws.{TableFits, AreFew, WorkIsBounded}
 use Rattle.machine_model.proofs.KeptAll.{entry_holds}
 use Rattle.machine_model.proofs.Makes.{few_banks}
-use Rattle.machine_model.proofs.Tables.{made, table_fits_after}
+use Rattle.machine_model.proofs.Tables.{made, object_holds, table_fits_after}
+use Rattle.machine_model.proofs.Facts.{operand_is}
+use Rattle.machine_model.proofs.Bbops.{part_count}
+use Rattle.machine_model.proofs.Sliced.{within}
 
 -- a trace has no more commands than this
 abbrev pub IsShort : ℕ → Trace → Type 0
@@ -137,18 +141,6 @@ counts_short (IssueAp x ∷ issues) =
     let rest = counts_short issues in
     omega (arith, a, b, rest)
 
--- what holds of each object holds of that of a name
-pub object_holds : (P : Object → Type 0) (table : List Named) (name : List ℕ) → P nothing
-    → AllByRecursion (λ named. P named.1) table → P (object_named table name)
-object_holds P [] name none all = none
-object_holds P (p ∷ table) name none all =
-    named (bytes_eq p.0 name) (object_holds P table name none all.1) where
-      named : (t : Bool) → P (object_named table name)
-          → P (unwrap_or (option_map (λ (q : Named). q.1) (cond t (Some p)
-          (find (λ q. bytes_eq q.0 name) table))) nothing)
-      named true rest = all.0
-      named false rest = rest
-
 -- its rows, in all its banks
 abbrev FewRows : Geometry → Object → Type 0
 FewRows g o = (segments g o ≤ 16) × (o.width * segments g o ≤ 16 * WIDTH_MAX)
@@ -190,6 +182,20 @@ bbop_few operations op n size (Some o) e short few =
     let parts = mul-add size (count_by issues_aap issues) (count_by issues_ap issues) in
     omega (arith, all, parts)
 
+-- and so of a part of the object
+part_few : (g : Geometry) (o : Object) (part : Option Part) → is_past part o ≡ false → FewRows g o
+    → FewRows g (cut part o)
+part_few g o None h rows = rows
+part_few g o (Some p) h rows =
+    let less : p.size * segments g o ≤ o.width * segments g o =
+    mul-le-mul (omega (arith, within o p h)) (omega arith) in
+    (rows.0, omega (arith, less, rows.1))
+
+place_few : (g : Geometry) (table : List Named) (place : Place) → 0 < g.words → g.banks ≤ 16
+    → TableFits g table → goes_past table place ≡ false → FewRows g (rows_of table place)
+place_few g table place some few t inside = part_few g (object_named table place.name) place.part
+    inside (named_few g table place.name some few t)
+
 fill_few : (rows : ℕ) → rows ≤ 16 * WIDTH_MAX
     → SumsTo (16 * WALK_MAX) (record { aap = rows; ap = 0 })
 fill_few rows h = omega (arith, h)
@@ -210,11 +216,14 @@ module _ (g : Geometry) (p : Program) (table : List Named) (some : 0 < g.words)
         let rows = few_rows g (new_object g table count n) some few plain.1.1 m.fits in
         fill_few _ rows.1
     counts_few (Bbop op dst srcs count n) plain h =
-        bbop_few (routines_in p) op n (segments g (object_named table dst)) (routines_in p op)
+        bbop_few (routines_in p) op n (segments g (rows_of table dst)) (routines_in p op)
         refl (λ o e. entry_holds ShortWalks p op o (entries_short p) e)
-        (named_few g table dst some few t).0
-    counts_few (Fill name value) plain h = fill_few _ (named_few g table name some few t).1
-    counts_few (Load name values) plain h = omega arith
+        (subst (λ (c : ℕ). segments_of g c ≤ 16)
+        (sym (part_count (object_named table dst.name) dst.part))
+        (named_few g table dst.name some few t).0)
+    counts_few (Fill place value) plain h = fill_few _ (place_few g table place some few t
+        (operand_is _ (goes_past table place) _ h).1).1
+    counts_few (Load place values) plain h = omega arith
     counts_few (Print name) plain h = omega arith
     counts_few (Free name) plain h = omega arith
     counts_few (Order o) plain h = omega arith
@@ -225,36 +234,41 @@ module _ (g : Geometry) (p : Program) (table : List Named) (some : 0 < g.words)
     commands_few instr plain = reply_sums (refusal g (routines_in p) table instr)
         (counts_for g (routines_in p) table instr) (16 * WALK_MAX) (counts_few instr plain)
 
-    loaded_few : (instr : Instruction) → rows_loaded g table instr ≤ 16 * WIDTH_MAX
-    loaded_few (Load name values) = (named_few g table name some few t).1
-    loaded_few (Init name count n) = omega arith
-    loaded_few (Bbop op dst srcs count n) = omega arith
-    loaded_few (Fill name value) = omega arith
-    loaded_few (Print name) = omega arith
-    loaded_few (Free name) = omega arith
-    loaded_few (Order o) = omega arith
+    loaded_few : (instr : Instruction) → refusal g (routines_in p) table instr ≡ None
+        → rows_loaded g table instr ≤ 16 * WIDTH_MAX
+    loaded_few (Load place values) h = (place_few g table place some few t
+        (operand_is _ (goes_past table place) _ h).1).1
+    loaded_few (Init name count n) h = omega arith
+    loaded_few (Bbop op dst srcs count n) h = omega arith
+    loaded_few (Fill place value) h = omega arith
+    loaded_few (Print place) h = omega arith
+    loaded_few (Free name) h = omega arith
+    loaded_few (Order o) h = omega arith
 
-    printed_few : (instr : Instruction) → rows_printed g table instr ≤ 16 * WIDTH_MAX
-    printed_few (Print name) = (named_few g table name some few t).1
-    printed_few (Load name values) = omega arith
-    printed_few (Init name count n) = omega arith
-    printed_few (Bbop op dst srcs count n) = omega arith
-    printed_few (Fill name value) = omega arith
-    printed_few (Free name) = omega arith
-    printed_few (Order o) = omega arith
+    printed_few : (instr : Instruction) → refusal g (routines_in p) table instr ≡ None
+        → rows_printed g table instr ≤ 16 * WIDTH_MAX
+    printed_few (Print place) h = (place_few g table place some few t
+        (operand_is _ (goes_past table place) _ h).1).1
+    printed_few (Load place values) h = omega arith
+    printed_few (Init name count n) h = omega arith
+    printed_few (Bbop op dst srcs count n) h = omega arith
+    printed_few (Fill place value) h = omega arith
+    printed_few (Free name) h = omega arith
+    printed_few (Order o) h = omega arith
 
-    if_few : (b : Bool) (n : ℕ) → n ≤ 16 * WIDTH_MAX → cond b n 0 ≤ 16 * WIDTH_MAX
-    if_few true n h = h
-    if_few false n h = omega arith
+    if_few : (r : Option Why) (n : ℕ) → (r ≡ None → n ≤ 16 * WIDTH_MAX)
+        → cond (is_none r) n 0 ≤ 16 * WIDTH_MAX
+    if_few None n h = h refl
+    if_few (Some reason) n h = omega arith
 
     -- the rows that it loads and prints
     pub rows_loaded_few : (instr : Instruction)
         → rows_if_done rows_loaded g (routines_in p) table instr ≤ 16 * WIDTH_MAX
-    rows_loaded_few instr = if_few _ _ (loaded_few instr)
+    rows_loaded_few instr = if_few (refusal g (routines_in p) table instr) _ (loaded_few instr)
 
     pub rows_printed_few : (instr : Instruction)
         → rows_if_done rows_printed g (routines_in p) table instr ≤ 16 * WIDTH_MAX
-    rows_printed_few instr = if_few _ _ (printed_few instr)
+    rows_printed_few instr = if_few (refusal g (routines_in p) table instr) _ (printed_few instr)
 
 script_few : (g : Geometry) (p : Program) (table : List Named) (script : List Instruction)
     → 0 < g.words → g.banks ≤ 16 → TableFits g table → AllByRecursion IsPlain script

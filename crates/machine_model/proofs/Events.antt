@@ -18,6 +18,7 @@ use Rattle.uprog_code.specs.Bound.{Bound, bound}
 use Rattle.uprog_code.specs.Count.{counts_of, issues_aap, issues_ap}
 use Rattle.object_alloc.specs.Listed.{Named}
 use Rattle.bbop_isa.specs.Forms.{Init, Bbop, Load, Fill, Print, Free, Order}
+use Rattle.bbop_isa.specs.declared.instr.Place.{Place}
 use Rattle.machine_model.specs.declared.Why.{Why}
 use Rattle.machine_model.specs.Routines.{Routine, Routines}
 use Rattle.machine_model.specs.Refusals.{refusal}
@@ -30,7 +31,7 @@ use Rattle.machine_model.specs.Script.{with_counts, with_writes, counters_at_end
 use Rattle.machine_model.specs.Script.{rows_if_done, sum_done}
 use Rattle.machine_model.specs.Columns.{segments, object_size}
 use Rattle.machine_model.specs.Steps.{new_object, fill_events}
-use Rattle.machine_model.specs.Refusals.{object_named}
+use Rattle.machine_model.specs.Refusals.{rows_of}
 use Rattle.object_alloc.specs.declared.table.Object.{Object}
 use Rattle.bit_rows.specs.Bits.{bit_at, bit_number}
 use Rattle.dram_model.specs.declared.address.Addr.{Addr}
@@ -138,14 +139,14 @@ idle_counted a (suc size) k = idle_counted (a + 1) size k
 zero_times : (x c : ℕ) → x + c * 0 ≡ x
 zero_times x c = omega arith
 
-bbop_counted : (g : Geometry) (table : List Named) (o : Option Routine) (names : List (List ℕ))
+bbop_counted : (g : Geometry) (table : List Named) (o : Option Routine) (places : List Place)
     (n size : ℕ) (k : Counters) →
-    all_counted (job_events (record { commands = bound_at g table o names n; banks = size })) k
+    all_counted (job_events (record { commands = bound_at g table o places n; banks = size })) k
     ≡ with_counts k (times size (counts_of (issues_at o n)))
-bbop_counted g table None names n size k = idle_counted 0 size k
+bbop_counted g table None places n size k = idle_counted 0 size k
     ∙ sym (plain_counts k _ _ (zero_times k.aap size) (zero_times k.ap size))
-bbop_counted g table (Some o) names n size k =
-    banks_counted 0 size g.rows o.shape n (binding g table o.shape names n) (issues_of (o.trace n))
+bbop_counted g table (Some o) places n size k =
+    banks_counted 0 size g.rows o.shape n (binding g table o.shape places n) (issues_of (o.trace n))
     k
 
 -- counters of equal numbers
@@ -231,10 +232,10 @@ done_counted g operations table (Bbop op dst srcs count n) k =
     ∙ counters_are k _ _ _ _ _ _ refl refl (sym (add_none k.writes))
 done_counted g operations table (Init name count n) k =
     fill_counted g (new_object g table count n) 0 k
-done_counted g operations table (Fill name value) k =
-    fill_counted g (object_named table name) value k
-done_counted g operations table (Load name values) k =
-    let o = object_named table name in
+done_counted g operations table (Fill place value) k =
+    fill_counted g (rows_of table place) value k
+done_counted g operations table (Load place values) k =
+    let o = rows_of table place in
     rows_written 0 (segments g o) o.width (λ i. o.base + i)
     (row_bits g (padded_to (object_size g o) values)) k
     ∙ counters_are k _ _ _ _ _ _ (sym (add_none k.aap)) (sym (add_none k.ap)) refl

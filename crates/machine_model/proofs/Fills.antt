@@ -27,7 +27,7 @@ use Rattle.dram_model.specs.Elements.{column_count, below}
 use Rattle.machine_model.specs.Columns.{object_size, segments, columns}
 use Rattle.machine_model.proofs.Below.{below_run, below_same, below_length, through_in}
 use Rattle.machine_model.proofs.Below.{through_same, number_same}
-use Rattle.machine_model.proofs.Bbops.{has_from}
+use Rattle.machine_model.proofs.Sliced.{has_from}
 use Rattle.wave_model.specs.Schedule.{WaveJob}
 use Rattle.machine_model.specs.Steps.{through, fill_events}
 

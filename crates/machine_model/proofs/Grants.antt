@@ -5,6 +5,7 @@ use Rattle.uprog_code.specs.Machine.{Trace, Ended, Stuck, HasEnded}
 use Rattle.uprog_code.specs.Fits.{Fits}
 use Rattle.object_alloc.specs.Listed.{Named, IsTable, limit_of}
 use Rattle.bbop_isa.specs.Forms.{Bbop}
+use Rattle.bbop_isa.specs.declared.instr.Place.{Place}
 use Rattle.machine_model.specs.Routines.{Routine, Routines}
 use Rattle.machine_model.specs.Refusals.{refusal, walks_badly, bbop_refusal}
 use Rattle.machine_model.specs.Steps.{binding}
@@ -17,7 +18,7 @@ use Rattle.machine_model.proofs.Tables.{fits_banks}
 
 -- what is known of the bbop
 pub granted : (g : Geometry) (operations : Routines) (table : List Named) (o : Routine)
-    (op dst : List ℕ) (srcs : List (List ℕ)) (count n : ℕ) → operations op ≡ Some o
+    (op : List ℕ) (dst : Place) (srcs : List Place) (count n : ℕ) → operations op ≡ Some o
     → refusal g operations table (Bbop op dst srcs count n) ≡ None
     → IsGood g table o (dst ∷ srcs) count n
 granted g operations table o op dst srcs count n e h =
@@ -26,7 +27,7 @@ granted g operations table o op dst srcs count n e h =
 
 -- its binding fits in a bank
 pub table_fits_binding : (g : Geometry) (table : List Named) (o : Routine)
-    (names : List (List ℕ)) (count n : ℕ) → IsTable (limit_of g) table
+    (names : List Place) (count n : ℕ) → IsTable (limit_of g) table
     → IsGood g table o names count n → Fits g.rows o.shape n (binding g table o.shape names n)
 table_fits_binding g table o names count n t h =
     subst (λ (x : List Named). IsTable (limit_of g) x → IsGood g x o names count n

@@ -1,12 +1,11 @@
 -- A wave beside its bbops one after another.
-use Rattle.std.proofs.Common.{◌≡◌, ℕ, zero, suc, ◌+◌, ◌*◌, ◌<◌, ◌≤◌, Bool, true, false, not, cond}
+use Rattle.std.proofs.Common.{◌≡◌, ℕ, zero, suc, ◌+◌, ◌*◌, ◌<◌, ◌≤◌, true, false, not, cond}
 use Rattle.std.proofs.Common.{ltb, List, [], ◌∷◌, ◌++◌, map, Option, Some, None}
-use Rattle.std.proofs.Common.{refl, sym, ◌∙◌, ap, arith, inl, inr, eq-eqb, append-nil}
+use Rattle.std.proofs.Common.{refl, sym, ◌∙◌, ap, subst, arith, inl, inr, eq-eqb, append-nil}
 use Rattle.std.proofs.Common.{take, drop}
 use Rattle.std.specs.Prelude.{◌⊎◌, filter, flat_map, is_none}
-use Rattle.std.specs.Option.{option_map, unwrap_or}
 use Rattle.std.specs.Str.{bytes_eq}
-use Rattle.std.specs.List.{range_with_len, find, AllByRecursion}
+use Rattle.std.specs.List.{range_with_len, AllByRecursion}
 use Rattle.std.proofs.lemmas.Bool.{ne_eqb, cases_lt, lt-ltb}
 use Rattle.std.proofs.lemmas.Bool.Decides.{nat_tests}
 use Rattle.std.proofs.lemmas.List.{map-append}
@@ -23,7 +22,7 @@ use Rattle.bbop_isa.specs.Forms.{Instruction}
 use Rattle.bbop_isa.specs.Forms.{Init, Bbop, Load, Fill, Print, Free, Order}
 use Rattle.machine_model.specs.declared.Why.{Why}
 use Rattle.machine_model.specs.Routines.{Routines}
-use Rattle.machine_model.specs.Refusals.{refusal, object_named, nothing}
+use Rattle.machine_model.specs.Refusals.{refusal, object_named, rows_of}
 use Rattle.wave_model.specs.Schedule.{WaveJob, Queues, queues, events_of_picks, IsWhole}
 use Rattle.wave_model.specs.Schedule.{picked, without_next}
 use Rattle.machine_model.specs.Steps.{job_of, job_events, own_events, if_done, table_after, tabled}
@@ -32,7 +31,8 @@ use Rattle.machine_model.specs.Script.{is_bbop, table_at_end, events_in_order}
 use Rattle.machine_model.specs.Pieces.{AreBbops, jobs_of, wave_queues}
 use Rattle.machine_model.specs.Laws.{FitsBanks, WaveIsSteps}
 use Rattle.machine_model.proofs.Makes.{few_banks}
-use Rattle.machine_model.proofs.Tables.{made}
+use Rattle.machine_model.proofs.Tables.{made, object_holds}
+use Rattle.machine_model.proofs.Bbops.{part_count}
 use Rattle.machine_model.proofs.Events.{in_order_steps}
 use Rattle.machine_model.proofs.Alike.{Alike, events_of-append}
 use Rattle.wave_model.proofs.Waves.{own_queue, no_events, live_at, live_none}
@@ -169,26 +169,15 @@ wave_steps g operations table wave ps chip bank h w l =
     ∙ ap (λ es. after es chip bank) (sym (wave_in_order g operations table wave h))
     ∙ ap (λ (banks : Banks). banks bank) (in_order_steps g operations table wave chip)
 
--- what a table that fits has under a name is an object that fits
-found_fits : (g : Geometry) (table : List Named) (name : List ℕ)
-    → AllByRecursion (λ named. named.1.count ≤ column_count g * g.banks) table
-    → (object_named table name).count ≤ column_count g * g.banks
-found_fits g [] name h = omega arith
-found_fits g (p ∷ table) name h =
-    found_case (bytes_eq p.0 name) (found_fits g table name h.1) where
-      found_case : (t : Bool) → (object_named table name).count ≤ column_count g * g.banks
-          → (unwrap_or (option_map (λ (q : Named). q.1) (cond t (Some p)
-          (find (λ q. bytes_eq q.0 name) table))) nothing).count ≤ column_count g * g.banks
-      found_case true more = h.0
-      found_case false more = more
-
 -- the banks of a job are there
 pub job_fits : (g : Geometry) (operations : Routines) (table : List Named) (instr : Instruction)
     → 0 < g.words → FitsBanks g table → (job_of g operations table instr).banks ≤ g.banks
 job_fits g operations table (Bbop op dst srcs count n) some h =
-    few_banks (object_named table dst).count (column_count g) g.banks (omega arith)
-    (found_fits g table dst
-    (recursion_from_All (λ named. named.1.count ≤ column_count g * g.banks) table h))
+    few_banks (rows_of table dst).count (column_count g) g.banks (omega arith)
+    (subst (λ (c : ℕ). c ≤ column_count g * g.banks) (sym (part_count (object_named table dst.name)
+    dst.part)) (object_holds (λ o. o.count ≤ column_count g * g.banks)
+    table dst.name (omega arith)
+    (recursion_from_All (λ named. named.1.count ≤ column_count g * g.banks) table h)))
 job_fits g operations table (Init name count n) some h = omega arith
 job_fits g operations table (Load name values) some h = omega arith
 job_fits g operations table (Fill name value) some h = omega arith

@@ -10,22 +10,23 @@ use Rattle.bit_rows.specs.declared.TheConstants.{WIDTH_MAX}
 use Rattle.uprog_code.specs.Bound.{bound}
 use Rattle.uprog_code.specs.Shape.{need, results}
 use Rattle.std.specs.List.{list_any}
-use Rattle.op_text.specs.declared.tree.Kind.{Kind}
-use Rattle.uprog_code.specs.Fits.{ranges, IsInSome, IsTouched}
+use Rattle.uprog_code.specs.Fits.{IsTouched}
 use Rattle.uprog_code.specs.Implements.{Keeps}
 use Rattle.uprog_code.specs.Machine.{issues_of}
 use Rattle.object_alloc.specs.Free.{has_row}
 use Rattle.object_alloc.specs.Listed.{IsTable}
 use Rattle.bbop_isa.specs.Forms.{Bbop}
+use Rattle.bbop_isa.specs.declared.instr.Place.{Place}
 use Rattle.machine_model.specs.declared.Why.{Why}
 use Rattle.machine_model.specs.Columns.{segments}
 use Rattle.machine_model.specs.Routines.{Routine, Routines}
 use Rattle.object_alloc.specs.Listed.{limit_of}
-use Rattle.machine_model.specs.Refusals.{object_named, bbop_refusal, dsts_in}
+use Rattle.machine_model.specs.Refusals.{rows_of, bbop_refusal, dsts_in}
 use Rattle.machine_model.specs.Steps.{Held, table_of, base_for, binding, through, job_of, if_done}
 use Rattle.machine_model.specs.Steps.{is_touched, banks_after, is_among, is_beside, dsts_of}
-use Rattle.machine_model.proofs.Facts.{AreOperands, none, more, IsGood, good}
-use Rattle.machine_model.proofs.Bbops.{or_false, base_in, binding_fits, has_from}
+use Rattle.machine_model.proofs.Facts.{IsGood, good}
+use Rattle.machine_model.proofs.Bbops.{binding_fits, no_result}
+use Rattle.machine_model.proofs.Merged.{or_false}
 use Rattle.machine_model.proofs.Steps.{job_is}
 
 -- what is issued for each operation leaves all rows that are not its own
@@ -48,56 +49,34 @@ pub stay_case : (row : ℕ) (h : Column → Column) (t b : Bool) (columns : List
 stay_case row h true b columns e keeps = rows_stay row h columns (keeps e)
 stay_case row h false b columns e keeps = refl
 
--- what is not touched by the tests is in none of the ranges
-no_result_row : (state : List Held) (count n row : ℕ) (kinds : List Kind) (names : List (List ℕ))
-    → AreOperands (table_of state) count n kinds names
-    → list_any (λ name. has_row (object_named (table_of state) name) row) names ≡ false
-    → IsInSome (ranges n kinds (map (base_in state) names)) row → ⊥
-no_result_row state count n row [] [] none h is = is
-no_result_row state count n row [] (name ∷ names) x h is = elim x [ ]
-no_result_row state count n row (kind ∷ kinds) [] x h is = elim x [ ]
-no_result_row state count n row (kind ∷ kinds) (name ∷ names) (more _ _ _ _ op rest) h (inl r) =
-    let p = or_false (has_row (object_named (table_of state) name) row)
-    (list_any (λ name. has_row (object_named (table_of state) name) row) names) h in
-    let has = has_from (object_named (table_of state) name) row r.0 (omega (arith, r.1, op.wide)) in
-    cc
-no_result_row state count n row (kind ∷ kinds) (name ∷ names) (more _ _ _ _ op rest) h (inr r) =
-    no_result_row state count n row kinds names rest
-    (or_false (has_row (object_named (table_of state) name) row)
-    (list_any (λ name. has_row (object_named (table_of state) name) row) names) h).1 r
-
-not_touched : (g : Geometry) (state : List Held) (o : Routine) (names : List (List ℕ))
-    (count n row : ℕ) → IsGood g (table_of state) o names count n
-    → (list_any (λ name. has_row (object_named (table_of state) name) row) (dsts_in o.shape names)
+-- a row that a bbop does not touch is none that its operation may change
+pub not_touched : (g : Geometry) (state : List Held) (o : Routine) (places : List Place)
+    (count n row : ℕ) → IsGood g (table_of state) o places count n
+    → (list_any (λ p. has_row (rows_of (table_of state) p) row) (dsts_in o.shape places)
     || is_beside g (table_of state) (Some o) n row) ≡ false
-    → IsTouched g.rows o.shape n (binding g (table_of state) o.shape names n) row → ⊥
-not_touched g state o names count n row good h (inl result) =
-    let parts = or_false (list_any (λ name. has_row (object_named (table_of state) name) row)
-    (dsts_in o.shape names)) (is_beside g (table_of state) (Some o) n row) h in
-    no_result_row state count n row (results o.shape) (dsts_in o.shape names) good.destinations
-    parts.0 result
-not_touched g state o names count n row good h (inr (inl scratch)) =
-    let parts = or_false (list_any (λ name. has_row (object_named (table_of state) name) row)
-    (dsts_in o.shape names)) (is_beside g (table_of state) (Some o) n row) h in
+    → IsTouched g.rows o.shape n (binding g (table_of state) o.shape places n) row → ⊥
+not_touched g state o places count n row good h is =
+    let parts = or_false (list_any (λ p. has_row (rows_of (table_of state) p) row)
+    (dsts_in o.shape places)) (is_beside g (table_of state) (Some o) n row) h in
     let base = base_for g (table_of state) (need o.shape n) in
     let beside = or_false (is_among base (need o.shape n) row) (is_among (limit_of g) 32 row)
     parts.1 in
-    let among = among_from base (need o.shape n) row scratch.0 scratch.1 in cc
-not_touched g state o names count n row good h (inr (inr spill)) =
-    let parts = or_false (list_any (λ name. has_row (object_named (table_of state) name) row)
-    (dsts_in o.shape names)) (is_beside g (table_of state) (Some o) n row) h in
-    let base = base_for g (table_of state) (need o.shape n) in
-    let beside = or_false (is_among base (need o.shape n) row) (is_among (limit_of g) 32 row)
-    parts.1 in
-    let among = among_from (limit_of g) 32 row spill.0 spill.1 in cc
+    elim is [
+      | inl result ↦ no_result state count n row (results o.shape) (dsts_in o.shape places)
+          good.destinations parts.0 result
+      | inr (inl scratch) ↦ let among = among_from base (need o.shape n) row scratch.0 scratch.1 in
+          let not = beside.0 in cc
+      | inr (inr spill) ↦ let among = among_from (limit_of g) 32 row spill.0 spill.1 in
+          let not = beside.1 in cc
+    ]
 
-bbop_kept : (g : Geometry) (operations : Routines) (op dst : List ℕ) (srcs : List (List ℕ))
+bbop_kept : (g : Geometry) (operations : Routines) (op : List ℕ) (dst : Place) (srcs : List Place)
     (count n : ℕ) (found : Option Routine)
     → operations op ≡ found → 0 < n → n ≤ WIDTH_MAX → KeepsAll operations
     → (banks : Banks) (state : List Held) (bank row : ℕ) → IsTable (limit_of g) (table_of state)
     → bbop_refusal g (table_of state) found (dst ∷ srcs) count n ≡ None
-    → (ltb bank (segments g (object_named (table_of state) dst))
-    && (list_any (λ name. has_row (object_named (table_of state) name) row)
+    → (ltb bank (segments g (rows_of (table_of state) dst))
+    && (list_any (λ p. has_row (rows_of (table_of state) p) row)
     (dsts_of found (dst ∷ srcs)) || is_beside g (table_of state) found n row)) ≡ false
     → row_in row (through (job_of g operations (table_of state) (Bbop op dst srcs count n)) banks
     bank) ≡ row_in row (banks bank)
@@ -105,17 +84,17 @@ bbop_kept g operations op dst srcs count n None e some few keeps banks state ban
     out = cc
 bbop_kept g operations op dst srcs count n (Some o) e some few keeps banks state bank row t h
     out =
-    let names = dst ∷ srcs in
-    let facts = good g (table_of state) o names count n h in
-    let cs = bound g.rows o.shape n (binding g (table_of state) o.shape names n)
+    let places = dst ∷ srcs in
+    let facts = good g (table_of state) o places count n h in
+    let cs = bound g.rows o.shape n (binding g (table_of state) o.shape places n)
     (issues_of (o.trace n)) in
     ap (λ j. row_in row (through j banks bank)) (job_is g operations op dst srcs count n o e state)
-    ∙ stay_case row (run cs) (ltb bank (segments g (object_named (table_of state) dst)))
-    (list_any (λ name. has_row (object_named (table_of state) name) row) (dsts_in o.shape names)
+    ∙ stay_case row (run cs) (ltb bank (segments g (rows_of (table_of state) dst)))
+    (list_any (λ p. has_row (rows_of (table_of state) p) row) (dsts_in o.shape places)
     || is_beside g (table_of state) (Some o) n row) (banks bank) out
-    (λ b s. (keeps op o e n some few).row g.rows (binding g (table_of state) o.shape names n) s
-    (binding_fits g state o names count n t facts) row
-    (not_touched g state o names count n row facts b))
+    (λ b s. (keeps op o e n some few).row g.rows (binding g (table_of state) o.shape places n) s
+    (binding_fits g state o places count n t facts) row
+    (not_touched g state o places count n row facts b))
 
 pub done_kept : (r : Option Why) (new old : Banks) (touched : Bool) (bank row : ℕ)
     → (r ≡ None → touched ≡ false → row_in row (new bank) ≡ row_in row (old bank))
@@ -124,8 +103,8 @@ done_kept None new old touched bank row kept out = kept refl out
 done_kept (Some reason) new old touched bank row kept out = refl
 
 -- A row that a bbop does not touch is as it was
-pub bbop_rows_kept : (g : Geometry) (operations : Routines) (op dst : List ℕ)
-    (srcs : List (List ℕ)) (count n : ℕ) → 0 < n → n ≤ WIDTH_MAX
+pub bbop_rows_kept : (g : Geometry) (operations : Routines) (op : List ℕ) (dst : Place)
+    (srcs : List Place) (count n : ℕ) → 0 < n → n ≤ WIDTH_MAX
     → KeepsAll operations → (banks : Banks) (state : List Held) (bank row : ℕ)
     → IsTable (limit_of g) (table_of state)
     → is_touched g operations (table_of state) (Bbop op dst srcs count n) bank row ≡ false

@@ -23,7 +23,7 @@ use Rattle.dram_model.specs.Elements.{padded_to}
 use Rattle.machine_model.specs.Routines.{Program, Routine, Routines, routine_of}
 use Rattle.machine_model.specs.Routines.{entry_named, routines_in}
 use Rattle.object_alloc.specs.Listed.{limit_of}
-use Rattle.machine_model.specs.Refusals.{object_named, refusal}
+use Rattle.machine_model.specs.Refusals.{rows_of, refusal}
 use Rattle.machine_model.specs.Steps.{Held, table_of, new_object, through, is_touched, banks_after}
 use Rattle.machine_model.specs.Steps.{table_after, fill_events, load_events}
 use Rattle.machine_model.specs.Agrees.{DoesAll, IsPlain}
@@ -35,7 +35,7 @@ use Rattle.uprog_code.proofs.Kept.{legal_keeps}
 use Rattle.bit_rows.specs.declared.TheConstants.{WIDTH_MAX}
 use Rattle.machine_model.specs.Script.{is_touched_by, banks_at_end}
 use Rattle.machine_model.proofs.Kept.{KeepsAll, stay_case, done_kept, bbop_rows_kept}
-use Rattle.machine_model.proofs.Bbops.{or_false}
+use Rattle.machine_model.proofs.Merged.{or_false}
 use Rattle.machine_model.proofs.Steps.{idle}
 use Rattle.machine_model.proofs.Fills.{fill_commands, fill_keeps}
 use Rattle.machine_model.proofs.Makes.{filled}
@@ -102,13 +102,13 @@ state_kept g operations (Init name count n) keeps plain banks state bank row t o
     done_kept (refusal g operations (table_of state) (Init name count n)) _ banks _ bank row
     (λ h touched. filled_kept g (new_object g (table_of state) count n) 0 banks bank row
     touched) out
-state_kept g operations (Fill name v) keeps plain banks state bank row t out =
-    done_kept (refusal g operations (table_of state) (Fill name v)) _ banks _ bank row
-    (λ h touched. filled_kept g (object_named (table_of state) name) v banks bank row touched)
+state_kept g operations (Fill place v) keeps plain banks state bank row t out =
+    done_kept (refusal g operations (table_of state) (Fill place v)) _ banks _ bank row
+    (λ h touched. filled_kept g (rows_of (table_of state) place) v banks bank row touched)
     out
-state_kept g operations (Load name vs) keeps plain banks state bank row t out =
-    done_kept (refusal g operations (table_of state) (Load name vs)) _ banks _ bank row
-    (λ h touched. loaded_kept g (object_named (table_of state) name) vs banks bank row touched)
+state_kept g operations (Load place vs) keeps plain banks state bank row t out =
+    done_kept (refusal g operations (table_of state) (Load place vs)) _ banks _ bank row
+    (λ h touched. loaded_kept g (rows_of (table_of state) place) vs banks bank row touched)
     out
 state_kept g operations (Print name) keeps plain banks state bank row t out =
     done_kept (refusal g operations (table_of state) (Print name)) _ banks _ bank row

@@ -2,6 +2,9 @@ pub mod Facts
 pub mod First
 pub mod Places
 pub mod Below
+pub mod Sliced
+pub mod Placed
+pub mod Merged
 pub mod Bbops
 pub mod Steps
 pub mod Fills

@@ -1,5 +1,5 @@
 -- The steps of a fill and of a new object.
-use Rattle.std.proofs.Common.{◌≡◌, ℕ, ◌+◌, ◌*◌, ◌/◌, ◌%◌, ◌^◌, ◌<◌, ◌≤◌, false, leb, List, []}
+use Rattle.std.proofs.Common.{refl, ◌≡◌, ℕ, ◌+◌, ◌*◌, ◌/◌, ◌%◌, ◌^◌, ◌<◌, ◌≤◌, false, leb, List, []}
 use Rattle.std.proofs.Common.{◌∷◌, ◌++◌, length, get_or, sym, ◌∙◌, ap, subst, arith, inl, inr}
 use Rattle.std.specs.Prelude.{All, replicate}
 use Rattle.std.specs.Int.{div_ceil}
@@ -12,26 +12,28 @@ use Rattle.std.proofs.Math.Nat.{mul-le-mul_left, div-le_of_le-mul}
 use Rattle.dram_model.specs.declared.geometry.Geometry.{Geometry}
 use Rattle.dram_model.specs.Chip.{Banks, after}
 use Rattle.object_alloc.specs.declared.table.Object.{Object}
-use Rattle.object_alloc.specs.Free.{AreApart}
+use Rattle.object_alloc.specs.Free.{has_row, AreApart}
 use Rattle.object_alloc.specs.Listed.{Named, IsTable, objects_of}
 use Rattle.object_alloc.proofs.Tables.{IsTable-add}
 use Rattle.bbop_isa.specs.Forms.{Init, Fill}
+use Rattle.bbop_isa.specs.declared.instr.Place.{Place}
 use Rattle.machine_model.specs.declared.Why.TheVariants as why
 use Rattle.dram_model.specs.Elements.{column_count}
 use Rattle.machine_model.specs.Columns.{object_size, segments, columns}
 use Rattle.machine_model.specs.Routines.{Routines}
 use Rattle.object_alloc.specs.Listed.{limit_of}
-use Rattle.machine_model.specs.Refusals.{object_named, is_absent, refusal, when}
+use Rattle.machine_model.specs.Refusals.{rows_of, goes_past, is_absent, refusal, when}
 use Rattle.machine_model.specs.Steps.{Held, table_of, new_object, through, fill_events}
-use Rattle.machine_model.specs.Steps.{with_numbers}
+use Rattle.machine_model.specs.Steps.{with_results, new_numbers}
+use Rattle.machine_model.proofs.Merged.{meet, or_false}
 use Rattle.machine_model.specs.Agrees.{Agrees}
-use Rattle.machine_model.proofs.Facts.{first_none, when_none, not_false}
-use Rattle.machine_model.proofs.Places.{no_one, entry_of, found}
+use Rattle.machine_model.proofs.Facts.{first_none, when_none, not_false, operand_is}
+use Rattle.machine_model.proofs.Places.{no_one, entry_of}
 use Rattle.machine_model.proofs.Below.{base_free}
 use Rattle.machine_model.proofs.Tables.{made}
-use Rattle.machine_model.proofs.Bbops.{apart_places, not_free, if_not_true}
-use Rattle.machine_model.proofs.Fills.{fill_job, fill_is_job, fill_columns, fill_others}
-use Rattle.machine_model.proofs.Steps.{with_numbers_agrees, through_length, done_or_not, idle}
+use Rattle.machine_model.proofs.Bbops.{not_free, if_not_true, placed_at}
+use Rattle.machine_model.proofs.Fills.{fill_job, fill_is_job, fill_columns, fill_others, fill_keeps}
+use Rattle.machine_model.proofs.Steps.{with_results_agrees, operand_within, through_length, done_or_not, idle}
 use Rattle.machine_model.proofs.Steps.{any_default, StepAgrees}
 
 pub filled : (g : Geometry) (o : Object) (v : ℕ) (banks : Banks)
@@ -40,29 +42,31 @@ pub filled : (g : Geometry) (o : Object) (v : ℕ) (banks : Banks)
 filled g o v banks = ap (after (fill_events g o v)) (idle [] banks) ∙ fill_is_job g o v banks
 
 pub fill_agrees : (g : Geometry) (operations : Routines) (meaning : List ℕ → ℕ → List ℕ
-    → List ℕ) (name : List ℕ) (v : ℕ) → StepAgrees g operations meaning (Fill name v)
-fill_agrees g operations meaning name v banks state a =
+    → List ℕ) (place : Place) (v : ℕ) → StepAgrees g operations meaning (Fill place v)
+fill_agrees g operations meaning place v banks state a =
     let table = table_of state in
-    let o = object_named table name in
-    done_or_not g (refusal g operations table (Fill name v)) _ banks _ state (λ h.
-    let range = when (leb (2 ^ o.width) v) (why.Range 1) ∷ [] in
-    let present = first_none (when (is_absent table name) (why.NoObject 0)) range h in
-    let small = first_none (when (leb (2 ^ o.width) v) (why.Range 1)) [] present.1 in
-    let f = found (limit_of g) state name a.table (not_false _ (when_none _ _ present.0)) in
+    let o = rows_of table place in
+    let job = fill_job g o v in
+    let result : ℕ → List ℕ = λ k. replicate (object_size g o) v in
+    done_or_not g (refusal g operations table (Fill place v)) _ banks _ state (λ h.
+    let is = operand_is (is_absent table place.name) (goes_past table place)
+    (when (leb (2 ^ o.width) v) (why.Range 1) ∷ []) h in
+    let small = first_none (when (leb (2 ^ o.width) v) (why.Range 1)) [] is.2 in
     let below : leb (2 ^ o.width) v ≡ false = when_none _ _ small.0 in
-    let inside : segments g o ≤ g.banks = subst (λ (p : Object). segments g p
-    ≤ g.banks) (sym f.object) (a.within f.place no_one f.within) in
-    subst (λ (b : Banks). Agrees g b (with_numbers state name (replicate (object_size g o) v)))
+    let inside = operand_within g banks state place a (not_false _ is.0) in
+    subst (λ (b : Banks). Agrees g b (with_results state result (place ∷ [])))
     (sym (filled g o v banks))
-    (with_numbers_agrees g banks (through (fill_job g o v) banks) state name
-    (replicate (object_size g o) v) a
-    (λ bank l. through_length (fill_job g o v) banks bank ∙ a.shaped bank l)
-    (fill_columns g banks o v (grind (arith, nat_tests)) (λ b l.
-    a.shaped b (omega (arith, inside, l))))
-    (λ k l ne. fill_others g banks o (get_or state k no_one).object v
-    (subst (λ (q : Object). AreApart (get_or state k no_one).object q) (sym f.object)
-    (apart_places (limit_of g) state k f.place a.table l f.within (λ e.
-    ne (ap (λ i. (get_or state i no_one).name) e ∙ f.named))))))) a
+    (with_results_agrees g banks (through job banks) state result (place ∷ []) a
+    (λ bank l. through_length job banks bank ∙ a.shaped bank l)
+    (λ i l. let h = get_or state i no_one in
+    meet g banks job (rows_of table) result (place ∷ []) h.name h.object o.count
+    (placed_at (limit_of g) state i place a.table l is.1, tt) (refl, tt) refl
+    (λ s row has none. fill_keeps o h.object v row s (or_false (has_row o row) false none).0) (
+      fill_columns g banks o v (grind (arith, nat_tests)) (λ b m.
+          a.shaped b (omega (arith, inside, m))),
+      tt,
+    )
+    ∙ ap (new_numbers result 0 (place ∷ []) h.name) (a.numbers i no_one l)))) a
 
 -- so many elements take no more banks than hold them
 pub few_banks : (c w k : ℕ) → 0 < w → c ≤ w * k → div_ceil c w ≤ k

@@ -10,25 +10,25 @@ use Rattle.dram_model.specs.Column.{Column, blank}
 use Rattle.dram_model.specs.Chip.{Banks, Event, on_bank, happens, after, with_row, blank_banks}
 use Rattle.dram_model.specs.Chip.Event.{Row, Write}
 use Rattle.uprog_code.specs.declared.walker.Counts.{Counts}
-use Rattle.object_alloc.specs.Listed.{Named, IsTable, has_name}
+use Rattle.object_alloc.specs.Listed.{Named, IsTable}
+use Rattle.bbop_isa.specs.declared.instr.Place.{Place}
 use Rattle.bbop_isa.specs.Forms.{Instruction}
 use Rattle.bbop_isa.specs.Forms.{Init, Bbop, Load, Fill, Print, Free, Order}
 use Rattle.machine_model.specs.declared.Why.{Why}
-use Rattle.machine_model.specs.declared.Why.TheVariants as why
 use Rattle.dram_model.specs.Elements.{column_count}
 use Rattle.machine_model.specs.Columns.{segments, columns}
 use Rattle.machine_model.specs.Routines.{Routines}
 use Rattle.object_alloc.specs.Listed.{limit_of}
-use Rattle.machine_model.specs.Refusals.{refusal, object_named, is_absent, when}
-use Rattle.machine_model.specs.Steps.{Held, table_of, numbers_named, reply_by, reply_to}
+use Rattle.machine_model.specs.Refusals.{refusal, rows_of, goes_past, is_absent}
+use Rattle.machine_model.specs.Steps.{Held, table_of, numbers_at, reply_by, reply_to}
 use Rattle.machine_model.specs.Steps.{words_after, banks_after}
 use Rattle.machine_model.specs.Agrees.{Agrees}
 use Rattle.std.specs.List.{AllByRecursion}
-use Rattle.machine_model.specs.Report.{Said, said_of, said_in_words, said_in_rows}
+use Rattle.machine_model.specs.Report.{Said, place_text, said_of, said_in_words, said_in_rows}
 use Rattle.object_alloc.specs.Spelling.{IsImage}
 use Rattle.machine_model.specs.Opened.{Image, opened, objects_held, row_writes}
-use Rattle.machine_model.proofs.Facts.{not_false}
-use Rattle.machine_model.proofs.Places.{no_one, found}
+use Rattle.machine_model.proofs.Bbops.{operand_columns}
+use Rattle.machine_model.proofs.Facts.{not_false, operand_is}
 use Rattle.machine_model.proofs.Makes.{few_banks}
 use Rattle.machine_model.proofs.Steps.{StepAgrees}
 use Rattle.machine_model.proofs.Scripts.{table_step}
@@ -91,21 +91,13 @@ opened_agrees i words good = record {
       }) i.table (λ k d l. refl);
 }
 
-values_same : (g : Geometry) (banks : Banks) (state : List Held) (name : List ℕ)
-    → Agrees g banks state → has_name (table_of state) name ≡ true
-    → columns g banks (object_named (table_of state) name) ≡ numbers_named state name
-values_same g banks state name a h =
-    let f = found (limit_of g) state name a.table h in
-    ap (columns g banks) f.object ∙ a.numbers f.place no_one f.within ∙ sym f.numbers
+print_case : (r : Option Why) (counts : Counts) (place : Place) (xs ys : Place → List ℕ)
+    → (r ≡ None → xs place ≡ ys place)
+    → said_of (reply_by r counts) (Print place) xs ≡ said_of (reply_by r counts) (Print place) ys
+print_case None counts place xs ys e = ap (λ v. Said.Printed (place_text place) v) (e refl)
+print_case (Some reason) counts place xs ys e = refl
 
-print_case : (g : Geometry) (banks : Banks) (state : List Held) (name : List ℕ) (b : Bool)
-    (counts : Counts) (xs ys : List ℕ → List ℕ) → (b ≡ false → xs name ≡ ys name)
-    → said_of (reply_by (when b (why.NoObject 0)) counts) (Print name) xs
-    ≡ said_of (reply_by (when b (why.NoObject 0)) counts) (Print name) ys
-print_case g banks state name true counts xs ys e = refl
-print_case g banks state name false counts xs ys e = ap (λ v. Said.Printed name v) (e refl)
-
-other_case : (r : Option Why) (counts : Counts) (instr : Instruction) (xs ys : List ℕ → List ℕ)
+other_case : (r : Option Why) (counts : Counts) (instr : Instruction) (xs ys : Place → List ℕ)
     → ((c : Counts) → said_of (reply_by None c) instr xs ≡ said_of (reply_by None c) instr ys)
     → said_of (reply_by r counts) instr xs ≡ said_of (reply_by r counts) instr ys
 other_case None counts instr xs ys e = e counts
@@ -115,14 +107,16 @@ other_case (Some reason) counts instr xs ys e = refl
 said_same : (g : Geometry) (operations : Routines) (banks : Banks) (state : List Held)
     (instr : Instruction) → Agrees g banks state
     → said_of (reply_to g operations (table_of state) instr) instr
-    (λ name. take (object_named (table_of state) name).count
-    (columns g banks (object_named (table_of state) name)))
+    (λ place. take (rows_of (table_of state) place).count
+    (columns g banks (rows_of (table_of state) place)))
     ≡ said_of (reply_to g operations (table_of state) instr) instr
-    (λ name. take (object_named (table_of state) name).count (numbers_named state name))
-said_same g operations banks state (Print name) a =
-    print_case g banks state name (is_absent (table_of state) name) _ _ _ (λ b.
-    ap (take (object_named (table_of state) name).count)
-    (values_same g banks state name a (not_false _ b)))
+    (λ place. take (rows_of (table_of state) place).count (numbers_at state place))
+said_same g operations banks state (Print place) a =
+    let table = table_of state in
+    print_case (refusal g operations table (Print place)) _ place _ _ (λ h.
+    let is = operand_is (is_absent table place.name) (goes_past table place) [] h in
+    ap (take (rows_of table place).count)
+    (sym (operand_columns g banks state place a (not_false _ is.0) is.1)))
 said_same g operations banks state (Init name count n) a =
     other_case (refusal g operations (table_of state) (Init name count n)) _ _ _ _ (λ c. refl)
 said_same g operations banks state (Bbop op dst srcs count n) a =
@@ -146,7 +140,7 @@ report_same g operations meaning [] steps banks state a = refl
 report_same g operations meaning (instr ∷ script) steps banks state a =
     rw (said_same g operations banks state instr a)
     (ap (λ rest. said_of (reply_to g operations (table_of state) instr) instr
-    (λ name. take (object_named (table_of state) name).count (numbers_named state name)) ∷ rest)
+    (λ place. take (rows_of (table_of state) place).count (numbers_at state place)) ∷ rest)
     (ap (λ t. said_in_rows g operations t (banks_after g operations (table_of state) banks instr)
     script) (sym (table_step g operations meaning state instr))
     ∙ report_same g operations meaning script steps.1

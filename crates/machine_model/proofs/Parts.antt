@@ -11,6 +11,7 @@ use Rattle.std.proofs.Common.{zero, suc, cond, length, take, drop}
 use Rattle.dram_model.specs.declared.geometry.Geometry.{Geometry}
 use Rattle.dram_model.specs.Chip.{Banks}
 use Rattle.object_alloc.specs.Listed.{Named}
+use Rattle.bbop_isa.specs.declared.instr.Place.{Place}
 use Rattle.bbop_isa.specs.Forms.{Instruction}
 use Rattle.bbop_isa.specs.Forms.{Init, Bbop, Load, Fill, Print, Free, Order}
 use Rattle.machine_model.specs.declared.Reply.{Reply}
@@ -128,7 +129,7 @@ pieces_go_on g operations turn table (p ∷ ps) qs =
     }
 
 -- a bbop is said as it is answered
-pub bbop_said : (reply : Reply) (instr : Instruction) (values : List ℕ → List ℕ)
+pub bbop_said : (reply : Reply) (instr : Instruction) (values : Place → List ℕ)
     → is_bbop instr ≡ true → said_of reply instr values ≡ Answered reply
 bbop_said (Done counts) (Bbop op dst srcs count n) values h = refl
 bbop_said (Refused reason) (Bbop op dst srcs count n) values h = refl

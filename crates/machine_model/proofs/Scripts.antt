@@ -11,26 +11,30 @@ use Rattle.bbop_isa.specs.Forms.{Instruction}
 use Rattle.bbop_isa.specs.Forms.{Init, Bbop, Load, Fill, Print, Free, Order}
 use Rattle.machine_model.specs.declared.Why.{Why}
 use Rattle.machine_model.specs.Routines.{Routines}
-use Rattle.machine_model.specs.Refusals.{refusal, object_named}
+use Rattle.machine_model.specs.Refusals.{refusal, rows_of}
+use Rattle.std.specs.Prelude.{replicate}
+use Rattle.dram_model.specs.Elements.{padded_to}
 use Rattle.machine_model.specs.Columns.{object_size}
-use Rattle.machine_model.specs.Steps.{Held, table_of, new_numbers, computed, numbers_named, srcs_of}
+use Rattle.machine_model.specs.Steps.{Held, table_of, computed, numbers_at, srcs_of}
 use Rattle.machine_model.specs.Steps.{dsts_of, words_after, banks_after, table_after, tabled}
 use Rattle.machine_model.specs.Steps.{worded, if_done}
 use Rattle.machine_model.specs.Agrees.{Agrees}
 use Rattle.machine_model.specs.Script.{words_at_end, banks_at_end}
 use Rattle.machine_model.proofs.Places.{entry_of}
-use Rattle.machine_model.proofs.Steps.{StepAgrees, table_kept, table_with, table_without}
+use Rattle.machine_model.proofs.Steps.{StepAgrees, table_with, table_without}
 
 tabled_is : (g : Geometry) (operations : Routines) (meaning : List ℕ → ℕ → List ℕ
     → List ℕ) (state : List Held) (instr : Instruction)
     → table_of (worded g operations meaning state instr) ≡ tabled g (table_of state) instr
 tabled_is g operations meaning state (Init name count n) = map-append entry_of state _
 tabled_is g operations meaning state (Bbop op dst srcs count n) =
-    table_with state (new_numbers (λ k. computed (λ vs. slice_index (meaning op n vs) k)
-    (map (numbers_named state) (srcs_of (operations op) (dst ∷ srcs)))
-    (object_size g (object_named (table_of state) dst))) 0 (dsts_of (operations op) (dst ∷ srcs)))
-tabled_is g operations meaning state (Load name values) = table_kept state name _
-tabled_is g operations meaning state (Fill name value) = table_kept state name _
+    table_with state (λ k. computed (λ vs. slice_index (meaning op n vs) k)
+    (map (numbers_at state) (srcs_of (operations op) (dst ∷ srcs)))
+    (object_size g (rows_of (table_of state) dst))) (dsts_of (operations op) (dst ∷ srcs))
+tabled_is g operations meaning state (Load place values) = table_with state
+    (λ k. padded_to (object_size g (rows_of (table_of state) place)) values) (place ∷ [])
+tabled_is g operations meaning state (Fill place value) = table_with state
+    (λ k. replicate (object_size g (rows_of (table_of state) place)) value) (place ∷ [])
 tabled_is g operations meaning state (Print name) = refl
 tabled_is g operations meaning state (Free name) = table_without state name
 tabled_is g operations meaning state (Order o) = refl

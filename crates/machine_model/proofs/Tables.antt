@@ -1,12 +1,15 @@
 -- The table stays a table of objects that the geometry can hold.
-use Rattle.std.proofs.Common.{◌≡◌, ℕ, ◌*◌, ◌<◌, ◌≤◌, false, not, ltb, leb, List, [], ◌∷◌}
+use Rattle.std.proofs.Common.{◌≡◌, ℕ, ◌*◌, ◌<◌, ◌≤◌, Bool, true, false, not, ltb, leb, List, [], ◌∷◌}
 use Rattle.std.proofs.Common.{length, Option, Some, None, refl, arith}
-use Rattle.std.specs.Prelude.{All, is_none}
+use Rattle.std.specs.Prelude.{All, is_none, cond}
+use Rattle.std.specs.List.{find, AllByRecursion}
+use Rattle.std.specs.Option.{option_map, unwrap_or}
 use Rattle.std.specs.Str.{bytes_eq}
 use Rattle.std.proofs.lemmas.Bool.Decides.{nat_tests}
 use Rattle.std.proofs.lemmas.List.Elements.{All-push, All-filter}
 use Rattle.dram_model.specs.declared.geometry.Geometry.{Geometry}
 use Rattle.dram_model.specs.Elements.{column_count}
+use Rattle.object_alloc.specs.declared.table.Object.{Object}
 use Rattle.object_alloc.specs.Free.{free}
 use Rattle.object_alloc.specs.Listed.{Named, IsTable, objects_of, has_name, limit_of}
 use Rattle.object_alloc.specs.Spelling.{IsObject}
@@ -16,7 +19,7 @@ use Rattle.bbop_isa.specs.Forms.{Init, Bbop, Load, Fill, Print, Free, Order}
 use Rattle.machine_model.specs.declared.Why.{Why}
 use Rattle.machine_model.specs.declared.Why.TheVariants as why
 use Rattle.machine_model.specs.Routines.{Routines}
-use Rattle.machine_model.specs.Refusals.{refusal, when}
+use Rattle.machine_model.specs.Refusals.{refusal, when, object_named, nothing}
 use Rattle.machine_model.specs.Steps.{new_object, tabled, table_after, if_done}
 use Rattle.machine_model.specs.Agrees.{IsPlain}
 use Rattle.machine_model.specs.Laws.{TableFits, TableStays, FitsBanks}
@@ -130,3 +133,15 @@ table_stays g operations table (instr ∷ script) plain t =
 -- a table that a machine may have lies in its banks
 pub fits_banks : (g : Geometry) (table : List Named) → TableFits g table → FitsBanks g table
 fits_banks g table t k d l = (t.objects k d l).fits
+
+-- what holds of each object holds of that of a name
+pub object_holds : (P : Object → Type 0) (table : List Named) (name : List ℕ) → P nothing
+    → AllByRecursion (λ named. P named.1) table → P (object_named table name)
+object_holds P [] name none all = none
+object_holds P (p ∷ table) name none all =
+    named (bytes_eq p.0 name) (object_holds P table name none all.1) where
+      named : (t : Bool) → P (object_named table name)
+          → P (unwrap_or (option_map (λ (q : Named). q.1) (cond t (Some p)
+          (find (λ q. bytes_eq q.0 name) table))) nothing)
+      named true rest = all.0
+      named false rest = rest

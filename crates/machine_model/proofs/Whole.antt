@@ -21,7 +21,7 @@ pub every_step : (g : Geometry) (operations : Routines) (meaning : List ℕ → 
 every_step g operations meaning (Init name count n) words does plain =
     init_agrees g operations meaning name count n plain.1.0 words
 every_step g operations meaning (Bbop op dst srcs count n) words does plain =
-    bbop_agrees g operations meaning op dst srcs count n plain.0 plain.1 does
+    bbop_agrees g operations meaning op dst srcs count n (λ o e. does op o e n plain.0 plain.1)
 every_step g operations meaning (Load name values) words does plain =
     load_agrees g operations meaning name values words
 every_step g operations meaning (Fill name value) words does plain =

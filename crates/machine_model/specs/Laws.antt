@@ -1,18 +1,22 @@
 -- Laws of whole scripts.
-use Rattle.std.specs.Prelude.{◌≡◌, ℕ, ◌+◌, ◌*◌, ◌<◌, ◌≤◌, ◌||◌, true, false, List, ◌∷◌, ◌++◌, map}
-use Rattle.std.specs.Prelude.{length, flat_map, take, drop, All, Some, None, Ok}
+use Rattle.std.specs.Prelude.{◌≡◌, ℕ, ◌+◌, ◌*◌, ◌^◌, ◌<◌, ◌≤◌, ◌||◌, true, false, List, ◌∷◌, ◌++◌}
+use Rattle.std.specs.Prelude.{map, length, flat_map, take, drop, All, Some, None, Ok}
 use Rattle.std.specs.List.{AllByRecursion}
 use Rattle.dram_model.specs.declared.geometry.Geometry.{Geometry}
 use Rattle.dram_model.specs.declared.dram.Counters.{Counters}
 use Rattle.dram_model.specs.Geometry.{is_geometry}
+use Rattle.bit_rows.specs.Bits.{bit_at}
 use Rattle.bit_rows.specs.declared.TheConstants.{WIDTH_MAX}
 use Rattle.uprog_code.specs.declared.TheConstants.{WALK_MAX}
 use Rattle.dram_model.specs.Chip.{Banks, after, all_counted, row_in}
 use Rattle.dram_model.specs.Elements.{column_count}
 use Rattle.dram_model.specs.Events.{events_of as seen_by}
+use Rattle.object_alloc.specs.Free.{AreApart}
 use Rattle.object_alloc.specs.Listed.{Named, IsTable, limit_of, has_name}
 use Rattle.object_alloc.specs.Spelling.{IsObject, IsImage}
 use Rattle.bbop_isa.specs.Forms.{Instruction, Bbop}
+use Rattle.bbop_isa.specs.declared.instr.Part.{Part}
+use Rattle.bbop_isa.specs.declared.instr.Place.{Place}
 use Rattle.bbop_isa.specs.Script.{script_of}
 use Rattle.uprog_code.specs.Machine.{HasEnded}
 use Rattle.uprog_code.specs.Fits.{Fits}
@@ -20,7 +24,8 @@ use Rattle.uprog_code.specs.Programs.{IsProgram}
 use Rattle.uprog_code.specs.Texts.{TextOp, ImplementsAll}
 use Rattle.machine_model.specs.Routines.{Program, Routine, Routines, routines_of}
 use Rattle.machine_model.specs.Routines.{routines_in}
-use Rattle.machine_model.specs.Refusals.{refusal, object_named, is_one_of}
+use Rattle.machine_model.specs.Places.{seen, put}
+use Rattle.machine_model.specs.Refusals.{refusal, rows_of, goes_past}
 use Rattle.machine_model.specs.Routines.{meaning_in}
 use Rattle.wave_model.specs.Schedule.{events_of_picks, IsWhole, Turn}
 use Rattle.machine_model.specs.Columns.{columns}
@@ -83,16 +88,16 @@ ImageStays =
 
 -- A bbop that is not refused: its walk ends, its binding fits in a bank, and there are its banks
 pub record IsGranted (g : Geometry) (operations : Routines) (table : List Named) (o : Routine)
-    (instr : Instruction) (names : List (List ℕ)) (n : ℕ) : Type 0 where
+    (instr : Instruction) (places : List Place) (n : ℕ) : Type 0 where
   pub ends : HasEnded (o.trace n)
-  pub fits : Fits g.rows o.shape n (binding g table o.shape names n)
+  pub fits : Fits g.rows o.shape n (binding g table o.shape places n)
   pub banks : (job_of g operations table instr).banks ≤ g.banks
 
 -- A bbop that passes all conditions can be run: what the controller asks for holds
 abbrev pub GrantsFit : Type 0
 GrantsFit =
     (g : Geometry) (operations : Routines) (table : List Named) (o : Routine)
-    (op dst : List ℕ) (srcs : List (List ℕ)) (count n : ℕ) → 0 < g.words → TableFits g table
+    (op : List ℕ) (dst : Place) (srcs : List Place) (count n : ℕ) → 0 < g.words → TableFits g table
     → operations op ≡ Some o → refusal g operations table (Bbop op dst srcs count n) ≡ None
     → IsGranted g operations table o (Bbop op dst srcs count n) (dst ∷ srcs) n
 
@@ -122,22 +127,37 @@ UntouchedStays =
     → row_in row (banks_at_end g (routines_in p) table banks script bank)
     ≡ row_in row (banks bank)
 
--- Whatever an accepted program does, a bbop leaves the numbers of each object that is none of its
--- destinations, and so a bbop that is done leaves those of its sources
+-- Whatever an accepted program does, a bbop leaves the numbers of each operand, an object or a part
+-- of one, that has no row of a destination, and so a bbop that is done leaves those of its sources
 pub record OthersStay : Type 0 where
-  pub others : (g : Geometry) (p : Program) (table : List Named) (op dst : List ℕ)
-      (srcs : List (List ℕ)) (count n : ℕ) (banks : Banks) (name : List ℕ) → IsProgram p
-      → IsTable (limit_of g) table → IsWidth n → has_name table name ≡ true
-      → is_one_of (dsts_of (routines_in p op) (dst ∷ srcs)) name ≡ false
+  pub others : (g : Geometry) (p : Program) (table : List Named) (op : List ℕ) (dst : Place)
+      (srcs : List Place) (count n : ℕ) (banks : Banks) (place : Place) → IsProgram p
+      → IsTable (limit_of g) table → IsWidth n → has_name table place.name ≡ true
+      → goes_past table place ≡ false
+      → AllByRecursion (λ d. AreApart (rows_of table place) (rows_of table d))
+      (dsts_of (routines_in p op) (dst ∷ srcs))
       → columns g (banks_after g (routines_in p) table banks (Bbop op dst srcs count n))
-      (object_named table name) ≡ columns g banks (object_named table name)
-  pub sources : (g : Geometry) (p : Program) (table : List Named) (op dst : List ℕ)
-      (srcs : List (List ℕ)) (count n : ℕ) (banks : Banks) → IsProgram p
+      (rows_of table place) ≡ columns g banks (rows_of table place)
+  pub sources : (g : Geometry) (p : Program) (table : List Named) (op : List ℕ) (dst : Place)
+      (srcs : List Place) (count n : ℕ) (banks : Banks) → IsProgram p
       → IsTable (limit_of g) table → IsWidth n
       → refusal g (routines_in p) table (Bbop op dst srcs count n) ≡ None
-      → AllByRecursion (λ name. columns g (banks_after g (routines_in p) table banks
-      (Bbop op dst srcs count n)) (object_named table name)
-      ≡ columns g banks (object_named table name)) (srcs_of (routines_in p op) (dst ∷ srcs))
+      → AllByRecursion (λ place. columns g (banks_after g (routines_in p) table banks
+      (Bbop op dst srcs count n)) (rows_of table place)
+      ≡ columns g banks (rows_of table place)) (srcs_of (routines_in p op) (dst ∷ srcs))
+
+-- What is read of a part are the number's bits from LO on; what is written replaces these bits, and
+-- no other
+pub record PartsAreBits : Type 0 where
+  pub read : (p : Part) (v k : ℕ) → k < p.size
+      → bit_at (seen (Some p) v) k ≡ bit_at v (p.low + k)
+  pub small : (p : Part) (v : ℕ) → seen (Some p) v < 2 ^ p.size
+  pub inside : (p : Part) (old new k : ℕ) → k < p.size
+      → bit_at (put (Some p) old new) (p.low + k) ≡ bit_at new k
+  pub below : (p : Part) (old new k : ℕ) → k < p.low
+      → bit_at (put (Some p) old new) k ≡ bit_at old k
+  pub past : (p : Part) (old new k : ℕ) → new < 2 ^ p.size → p.low + p.size ≤ k
+      → bit_at (put (Some p) old new) k ≡ bit_at old k
 
 -- What an accepted script says is plain
 abbrev pub AcceptedIsPlain : Type 0

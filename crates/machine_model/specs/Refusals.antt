@@ -1,5 +1,5 @@
 -- When an instruction is refused: the table of conditions, in order.
-use Rattle.std.specs.Prelude.{ℕ, ◌+◌, ◌*◌, ◌^◌, ◌==◌, nat_lt, nat_le, Bool, not, is_none}
+use Rattle.std.specs.Prelude.{ℕ, ◌+◌, ◌*◌, ◌^◌, ◌==◌, nat_lt, nat_le, Bool, not, ◌&&◌, is_none}
 use Rattle.std.specs.Prelude.{if◌then◌else◌, List, [], ◌∷◌, ◌++◌, map, zip, length, take, drop}
 use Rattle.std.specs.Prelude.{Option, Some, None}
 use Rattle.std.specs.Option.{unwrap_or}
@@ -13,11 +13,13 @@ use Rattle.object_alloc.specs.declared.table.Object.{Object}
 use Rattle.object_alloc.specs.Free.{free}
 use Rattle.object_alloc.specs.Listed.{limit_of, Named, objects_of, look_up, has_name}
 use Rattle.bbop_isa.specs.Forms.{Instruction}
+use Rattle.bbop_isa.specs.declared.instr.Place.{Place}
 use Rattle.bbop_isa.specs.Forms.{Init, Bbop, Load, Fill, Print, Free, Order}
 use Rattle.machine_model.specs.declared.Why.{Why}
 use Rattle.machine_model.specs.declared.Why.TheVariants as why
 use Rattle.dram_model.specs.Elements.{column_count}
 use Rattle.machine_model.specs.Routines.{Routine, Routines}
+use Rattle.machine_model.specs.Places.{cut, is_past, share}
 
 -- the first condition that holds
 abbrev pub first : List (Option Why) → Option Why
@@ -42,6 +44,14 @@ nothing = record { base = 0; width = 0; count = 0 }
 abbrev pub object_named : List Named → List ℕ → Object
 object_named table name = unwrap_or (look_up table name) nothing
 
+-- the rows of an operand
+abbrev pub rows_of : List Named → Place → Object
+rows_of table place = cut place.part (object_named table place.name)
+
+-- the operand ends past its object
+abbrev pub goes_past : List Named → Place → Bool
+goes_past table place = is_past place.part (object_named table place.name)
+
 -- no object has this name
 abbrev pub is_absent : List Named → List ℕ → Bool
 is_absent table name = not (has_name table name)
@@ -55,33 +65,35 @@ abbrev pub walks_badly : Trace → Option Why
 walks_badly (Ended issues) = None
 walks_badly (Stuck at reason) = Some (why.BadWalk (record { at = at; why = reason }))
 
--- the names of a bbop: as many destinations as results, and then the sources
-abbrev pub dsts_in : Shape → List (List ℕ) → List (List ℕ)
-dsts_in shape names = take (length (results shape)) names
+-- the destinations of a bbop: its first operands, one for each result
+abbrev pub dsts_in : Shape → List Place → List Place
+dsts_in shape places = take (length (results shape)) places
 
--- the names of a bbop's sources, after those of its destinations
-abbrev pub srcs_in : Shape → List (List ℕ) → List (List ℕ)
-srcs_in shape names = drop (length (results shape)) names
+-- the sources of a bbop: the operands after its destinations
+abbrev pub srcs_in : Shape → List Place → List Place
+srcs_in shape places = drop (length (results shape)) places
 
--- the name is one of these
-abbrev pub is_one_of : List (List ℕ) → List ℕ → Bool
-is_one_of names name = list_any (λ other. bytes_eq name other) names
+-- the operand has a bit of one of these
+abbrev pub meets_one : List Place → Place → Bool
+meets_one others place = list_any (λ other. bytes_eq place.name other.name
+    && share place.part other.part) others
 
--- of each destination, whether one before it has its name
-abbrev pub repeats : List (List ℕ) → List (List ℕ) → List Bool
-repeats before [] = []
-repeats before (name ∷ names) = is_one_of before name ∷ repeats (name ∷ before) names
+-- of each destination, whether it has a bit of one before it
+abbrev pub meet_before : List Place → List Place → List Bool
+meet_before before [] = []
+meet_before before (place ∷ places) = meets_one before place ∷ meet_before (place ∷ before) places
 
 -- the conditions on the operands of an operation of this shape, each upwards from the first
 -- destination
-abbrev pub operand_conditions : List Named → Shape → List (List ℕ) → ℕ → ℕ → List (Option Why)
-operand_conditions table shape names count n =
-    let operands = map (object_named table) names in
-    at_place why.NoObject 0 (map (is_absent table) names)
+abbrev pub operand_conditions : List Named → Shape → List Place → ℕ → ℕ → List (Option Why)
+operand_conditions table shape places count n =
+    let operands = map (rows_of table) places in
+    at_place why.NoObject 0 (map (λ p. is_absent table p.name) places)
+    ∷ at_place why.Slice 0 (map (goes_past table) places)
     ∷ at_place why.Width 0 (map (is_misfit n) (zip (results shape ++ shape.sources) operands))
     ∷ at_place why.Size 0 (map (λ o. not (o.count == count)) operands)
-    ∷ at_place why.Overlap 0 (repeats [] (dsts_in shape names)
-    ++ map (is_one_of (dsts_in shape names)) (srcs_in shape names))
+    ∷ at_place why.Overlap 0 (meet_before [] (dsts_in shape places)
+    ++ map (meets_one (dsts_in shape places)) (srcs_in shape places))
     ∷ []
 
 -- the conditions on its walk and its scratch, where objects lie below the limit
@@ -92,19 +104,19 @@ grant_conditions limit table operation n =
     ∷ []
 
 -- the conditions on a bbop of an operation that there is
-abbrev pub bbop_conditions : ℕ → List Named → Routine → List (List ℕ) → ℕ → ℕ → List (Option Why)
-bbop_conditions limit table operation names count n =
-    when (not (length names == length (results operation.shape ++ operation.shape.sources)))
+abbrev pub bbop_conditions : ℕ → List Named → Routine → List Place → ℕ → ℕ → List (Option Why)
+bbop_conditions limit table operation places count n =
+    when (not (length places == length (results operation.shape ++ operation.shape.sources)))
     why.Arity
-    ∷ operand_conditions table operation.shape names count n
+    ∷ operand_conditions table operation.shape places count n
     ++ grant_conditions limit table operation n
 
 -- why a bbop is refused, and first that there is no such operation
-abbrev pub bbop_refusal : Geometry → List Named → Option Routine → List (List ℕ) → ℕ → ℕ
+abbrev pub bbop_refusal : Geometry → List Named → Option Routine → List Place → ℕ → ℕ
     → Option Why
-bbop_refusal g table None names count n = Some why.NoOp
-bbop_refusal g table (Some operation) names count n =
-    first (bbop_conditions (limit_of g) table operation names count n)
+bbop_refusal g table None places count n = Some why.NoOp
+bbop_refusal g table (Some operation) places count n =
+    first (bbop_conditions (limit_of g) table operation places count n)
 
 -- why the instruction is refused, if it is
 abbrev pub refusal : Geometry → Routines → List Named → Instruction → Option Why
@@ -115,14 +127,18 @@ refusal g operations table (Init name count n) =
     ∷ when (is_none (free (limit_of g) (objects_of table) n)) why.NoRows ∷ [])
 refusal g operations table (Bbop op dst srcs count n) =
     bbop_refusal g table (operations op) (dst ∷ srcs) count n
-refusal g operations table (Load name values) =
-    let o = object_named table name in
-    first (when (is_absent table name) (why.NoObject 0)
+refusal g operations table (Load place values) =
+    let o = rows_of table place in
+    first (when (is_absent table place.name) (why.NoObject 0)
+    ∷ when (goes_past table place) (why.Slice 0)
     ∷ when (not (length values == o.count)) why.Count
     ∷ at_place why.Range 1 (map (λ v. nat_le (2 ^ o.width) v) values) ∷ [])
-refusal g operations table (Fill name value) =
-    first (when (is_absent table name) (why.NoObject 0)
-    ∷ when (nat_le (2 ^ (object_named table name).width) value) (why.Range 1) ∷ [])
-refusal g operations table (Print name) = when (is_absent table name) (why.NoObject 0)
+refusal g operations table (Fill place value) =
+    first (when (is_absent table place.name) (why.NoObject 0)
+    ∷ when (goes_past table place) (why.Slice 0)
+    ∷ when (nat_le (2 ^ (rows_of table place).width) value) (why.Range 1) ∷ [])
+refusal g operations table (Print place) =
+    first (when (is_absent table place.name) (why.NoObject 0)
+    ∷ when (goes_past table place) (why.Slice 0) ∷ [])
 refusal g operations table (Free name) = when (is_absent table name) (why.NoObject 0)
 refusal g operations table (Order order) = None

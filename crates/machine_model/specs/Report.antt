@@ -1,21 +1,24 @@
 -- The report of a run, as bytes.
-use Rattle.std.specs.Prelude.{ℕ, ◌+◌, List, [], ◌∷◌, ◌++◌, flat_map, take, codes, decimal, count_by}
+use Rattle.std.specs.Prelude.{ℕ, ◌+◌, ◌==◌, if◌then◌else◌, Option, Some, None, List, [], ◌∷◌, ◌++◌}
+use Rattle.std.specs.Prelude.{flat_map, take, codes, decimal, count_by}
 use Rattle.dram_model.specs.declared.geometry.Geometry.{Geometry}
 use Rattle.dram_model.specs.declared.dram.Counters.{Counters}
 use Rattle.uprog_code.specs.declared.walker.Why3.{Why3}
 use Rattle.uprog_code.specs.declared.walker.Why3.TheVariants.{Index, Register, Budget}
 use Rattle.object_alloc.specs.Listed.{Named}
 use Rattle.bbop_isa.specs.Forms.{Instruction}
+use Rattle.bbop_isa.specs.declared.instr.Part.{Part}
+use Rattle.bbop_isa.specs.declared.instr.Place.{Place}
 use Rattle.bbop_isa.specs.Forms.{Init, Bbop, Load, Fill, Print, Free, Order}
 use Rattle.machine_model.specs.declared.Reply.{Reply}
 use Rattle.machine_model.specs.declared.Reply.TheVariants.{Done, Refused}
 use Rattle.machine_model.specs.declared.Why.{Why}
 use Rattle.machine_model.specs.declared.Why.TheVariants as why
 use Rattle.machine_model.specs.Routines.{Routines}
-use Rattle.machine_model.specs.Refusals.{object_named}
+use Rattle.machine_model.specs.Refusals.{rows_of}
 use Rattle.dram_model.specs.Chip.{Banks}
 use Rattle.machine_model.specs.Columns.{columns}
-use Rattle.machine_model.specs.Steps.{Held, table_of, numbers_named, words_after, reply_to}
+use Rattle.machine_model.specs.Steps.{Held, table_of, numbers_at, words_after, reply_to}
 use Rattle.machine_model.specs.Steps.{table_after, banks_after}
 use Rattle.machine_model.specs.Script.{is_refused}
 
@@ -34,6 +37,7 @@ abbrev pub why_text : Why → List ℕ
 why_text why.NoOp = codes "no_op"
 why_text why.Arity = codes "arity"
 why_text (why.NoObject place) = at_number (codes "no_object") place
+why_text (why.Slice place) = at_number (codes "slice") place
 why_text (why.Width place) = at_number (codes "width") place
 why_text (why.Size place) = at_number (codes "size") place
 why_text (why.Overlap place) = at_number (codes "overlap") place
@@ -46,18 +50,28 @@ why_text why.TooLarge = codes "too_large"
 why_text why.Count = codes "count"
 why_text (why.Range place) = at_number (codes "range") place
 
--- what is said of an instruction: the values of an object that is printed, or the reply
+-- the part of an operand as a script has it: [K], or [LO:HI] of more than one bit
+abbrev pub part_text : Option Part → List ℕ
+part_text None = []
+part_text (Some p) = codes "[" ++ decimal p.low
+    ++ (if p.size == 1 then [] else codes ":" ++ decimal (p.low + p.size)) ++ codes "]"
+
+-- an operand as a script has it
+abbrev pub place_text : Place → List ℕ
+place_text place = place.name ++ part_text place.part
+
+-- what is said of an instruction: an operand that is printed and its values, or the reply
 pub data Said : Type 0 where
-  Printed : (name values : List ℕ) → Said
+  Printed : (operand values : List ℕ) → Said
   Answered : Reply → Said
 
 -- what is said of a done instruction: of a print its values, of others their counts
-abbrev pub said_of : Reply → Instruction → (List ℕ → List ℕ) → Said
-said_of (Done counts) (Print name) values = Printed name (values name)
+abbrev pub said_of : Reply → Instruction → (Place → List ℕ) → Said
+said_of (Done counts) (Print place) values = Printed (place_text place) (values place)
 said_of (Done counts) (Init name count n) values = Answered (Done counts)
 said_of (Done counts) (Bbop op dst srcs count n) values = Answered (Done counts)
-said_of (Done counts) (Load name loaded) values = Answered (Done counts)
-said_of (Done counts) (Fill name value) values = Answered (Done counts)
+said_of (Done counts) (Load place loaded) values = Answered (Done counts)
+said_of (Done counts) (Fill place value) values = Answered (Done counts)
 said_of (Done counts) (Free name) values = Answered (Done counts)
 said_of (Done counts) (Order o) values = Answered (Done counts)
 said_of (Refused reason) instr values = Answered (Refused reason)
@@ -70,7 +84,8 @@ reply_text (Refused reason) = codes "refused " ++ why_text reason
 
 -- a line without its number
 abbrev pub said_text : Said → List ℕ
-said_text (Printed name values) = name ++ codes ":" ++ flat_map (λ v. codes " " ++ decimal v) values
+said_text (Printed operand values) = operand ++ codes ":"
+    ++ flat_map (λ v. codes " " ++ decimal v) values
 said_text (Answered reply) = reply_text reply
 
 -- the line with this number
@@ -88,13 +103,13 @@ abbrev pub said_in_words : Geometry → Routines → (List ℕ → ℕ → List 
 said_in_words g operations meaning state [] = []
 said_in_words g operations meaning state (instr ∷ script) =
     said_of (reply_to g operations (table_of state) instr) instr
-    (λ name. take (object_named (table_of state) name).count (numbers_named state name))
+    (λ place. take (rows_of (table_of state) place).count (numbers_at state place))
     ∷ said_in_words g operations meaning (words_after g operations meaning state instr) script
 
 -- what is said of one instruction, where the values are read from the banks' columns
 abbrev pub said_by : Geometry → Routines → List Named → Banks → Instruction → Said
 said_by g operations table banks instr = said_of (reply_to g operations table instr) instr
-    (λ name. take (object_named table name).count (columns g banks (object_named table name)))
+    (λ place. take (rows_of table place).count (columns g banks (rows_of table place)))
 
 -- the same of a script
 abbrev pub said_in_rows : Geometry → Routines → List Named → Banks → List Instruction → List Said

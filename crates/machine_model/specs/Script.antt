@@ -12,7 +12,7 @@ use Rattle.machine_model.specs.declared.Reply.{Reply}
 use Rattle.machine_model.specs.declared.Reply.TheVariants.{Done, Refused}
 use Rattle.machine_model.specs.Columns.{segments}
 use Rattle.machine_model.specs.Routines.{Routines}
-use Rattle.machine_model.specs.Refusals.{refusal, object_named}
+use Rattle.machine_model.specs.Refusals.{refusal, rows_of}
 use Rattle.machine_model.specs.Steps.{Held, words_after, table_after, banks_after, reply_to}
 use Rattle.machine_model.specs.Steps.{events_of, if_done, is_touched}
 
@@ -96,21 +96,21 @@ is_refused (Refused reason) = true
 
 -- the rows that done loads write and done prints read
 abbrev pub rows_loaded : Geometry → List Named → Instruction → ℕ
-rows_loaded g table (Load name values) = let o = object_named table name in o.width * segments g o
+rows_loaded g table (Load place values) = let o = rows_of table place in o.width * segments g o
 rows_loaded g table (Init name count n) = 0
 rows_loaded g table (Bbop op dst srcs count n) = 0
-rows_loaded g table (Fill name value) = 0
-rows_loaded g table (Print name) = 0
+rows_loaded g table (Fill place value) = 0
+rows_loaded g table (Print place) = 0
 rows_loaded g table (Free name) = 0
 rows_loaded g table (Order o) = 0
 
--- the data rows that a print reads, in all banks of the object
+-- the data rows that a print reads, in all banks of its object
 abbrev pub rows_printed : Geometry → List Named → Instruction → ℕ
-rows_printed g table (Print name) = let o = object_named table name in o.width * segments g o
-rows_printed g table (Load name values) = 0
+rows_printed g table (Print place) = let o = rows_of table place in o.width * segments g o
+rows_printed g table (Load place values) = 0
 rows_printed g table (Init name count n) = 0
 rows_printed g table (Bbop op dst srcs count n) = 0
-rows_printed g table (Fill name value) = 0
+rows_printed g table (Fill place value) = 0
 rows_printed g table (Free name) = 0
 rows_printed g table (Order o) = 0
 

@@ -23,6 +23,7 @@ use Rattle.object_alloc.specs.declared.table.Object.{Object}
 use Rattle.object_alloc.specs.Free.{free, has_row}
 use Rattle.object_alloc.specs.Listed.{Named, objects_of, without}
 use Rattle.bbop_isa.specs.Forms.{Instruction}
+use Rattle.bbop_isa.specs.declared.instr.Place.{Place}
 use Rattle.bbop_isa.specs.Forms.{Init, Bbop, Load, Fill, Print, Free, Order}
 use Rattle.machine_model.specs.declared.Reply.{Reply}
 use Rattle.machine_model.specs.declared.Reply.TheVariants.{Done, Refused}
@@ -31,7 +32,8 @@ use Rattle.machine_model.specs.Columns.{each_row, object_size, segments}
 use Rattle.dram_model.specs.Elements.{padded_to, row_bits}
 use Rattle.machine_model.specs.Routines.{Routine, Routines}
 use Rattle.object_alloc.specs.Listed.{limit_of}
-use Rattle.machine_model.specs.Refusals.{refusal, object_named, dsts_in, srcs_in}
+use Rattle.machine_model.specs.Refusals.{refusal, rows_of, dsts_in, srcs_in}
+use Rattle.machine_model.specs.Places.{seen, put_all}
 use Rattle.wave_model.specs.Schedule.{WaveJob}
 
 -- an object with the numbers of its columns
@@ -49,10 +51,9 @@ abbrev pub numbers_named : List Held → List ℕ → List ℕ
 numbers_named state name =
     unwrap_or (option_map (λ h. h.numbers) (find (λ h. bytes_eq h.name name) state)) []
 
--- the object of this name has these numbers, and all else is as it was
-abbrev pub with_numbers : List Held → List ℕ → List ℕ → List Held
-with_numbers state name numbers = map (λ (h : Held). if bytes_eq h.name name
-    then record { name = h.name; object = h.object; numbers = numbers } else h) state
+-- the numbers of an operand
+abbrev pub numbers_at : List Held → Place → List ℕ
+numbers_at state place = map (seen place.part) (numbers_named state place.name)
 
 -- where so many rows begin that are free
 abbrev pub base_for : Geometry → List Named → ℕ → ℕ
@@ -67,28 +68,29 @@ abbrev pub computed : (List ℕ → ℕ) → List (List ℕ) → ℕ → List �
 computed meaning sources size = map (λ e. meaning (map (λ numbers. slice_index numbers e) sources))
     (range_with_len 0 size)
 
--- the names of the destinations and of the sources, where there is the operation
-abbrev pub dsts_of : Option Routine → List (List ℕ) → List (List ℕ)
-dsts_of None names = []
-dsts_of (Some operation) names = dsts_in operation.shape names
+-- the destinations of a bbop, where there is the operation
+abbrev pub dsts_of : Option Routine → List Place → List Place
+dsts_of None places = []
+dsts_of (Some operation) places = dsts_in operation.shape places
 
--- the names of a bbop's sources, where there is the operation
-abbrev pub srcs_of : Option Routine → List (List ℕ) → List (List ℕ)
-srcs_of None names = []
-srcs_of (Some operation) names = srcs_in operation.shape names
+-- the sources of a bbop, where there is the operation
+abbrev pub srcs_of : Option Routine → List Place → List Place
+srcs_of None places = []
+srcs_of (Some operation) places = srcs_in operation.shape places
 
--- the new numbers of an object, where it is a destination: those of the result at its place
-abbrev pub new_numbers : (ℕ → List ℕ) → ℕ → List (List ℕ) → List ℕ → Option (List ℕ)
-new_numbers result k [] name = None
-new_numbers result k (dst ∷ dsts) name = if bytes_eq name dst then Some (result k)
-    else new_numbers result (k + 1) dsts name
+-- the numbers of an object of this name, with the part of each destination that is in it replaced
+-- by the result at its place
+abbrev pub new_numbers : (ℕ → List ℕ) → ℕ → List Place → List ℕ → List ℕ → List ℕ
+new_numbers result k [] name numbers = numbers
+new_numbers result k (dst ∷ dsts) name numbers = new_numbers result (k + 1) dsts name
+    (if bytes_eq name dst.name then put_all dst.part numbers (result k) else numbers)
 
--- the objects with the new numbers that there are
-abbrev pub with_results : List Held → (List ℕ → Option (List ℕ)) → List Held
-with_results state new = map (λ (h : Held). record {
+-- the objects with these results in the destinations
+abbrev pub with_results : List Held → (ℕ → List ℕ) → List Place → List Held
+with_results state result dsts = map (λ (h : Held). record {
   name = h.name;
   object = h.object;
-  numbers = unwrap_or (new h.name) h.numbers;
+  numbers = new_numbers result 0 dsts h.name h.numbers;
 }) state
 
 -- what an instruction that is done makes of the numbers
@@ -98,16 +100,18 @@ worded g operations meaning state (Init name count n) =
     let o = new_object g (table_of state) count n in
     state ++ record { name = name; object = o; numbers = replicate (object_size g o) 0 } ∷ []
 worded g operations meaning state (Bbop op dst srcs count n) =
-    let names = dst ∷ srcs in
-    let values = map (numbers_named state) (srcs_of (operations op) names) in
-    let size = object_size g (object_named (table_of state) dst) in
-    with_results state (new_numbers (λ k. computed (λ vs. slice_index (meaning op n vs) k) values
-    size) 0 (dsts_of (operations op) names))
-worded g operations meaning state (Load name values) =
-    with_numbers state name (padded_to (object_size g (object_named (table_of state) name)) values)
-worded g operations meaning state (Fill name value) =
-    with_numbers state name (replicate (object_size g (object_named (table_of state) name)) value)
-worded g operations meaning state (Print name) = state
+    let places = dst ∷ srcs in
+    let values = map (numbers_at state) (srcs_of (operations op) places) in
+    let size = object_size g (rows_of (table_of state) dst) in
+    with_results state (λ k. computed (λ vs. slice_index (meaning op n vs) k) values size)
+    (dsts_of (operations op) places)
+worded g operations meaning state (Load place values) =
+    with_results state (λ k. padded_to (object_size g (rows_of (table_of state) place)) values)
+    (place ∷ [])
+worded g operations meaning state (Fill place value) =
+    with_results state (λ k. replicate (object_size g (rows_of (table_of state) place)) value)
+    (place ∷ [])
+worded g operations meaning state (Print place) = state
 worded g operations meaning state (Free name) = filter (λ h. not (bytes_eq h.name name)) state
 worded g operations meaning state (Order order) = state
 
@@ -128,9 +132,9 @@ abbrev pub tabled : Geometry → List Named → Instruction → List Named
 tabled g table (Init name count n) = table ++ (name, new_object g table count n) ∷ []
 tabled g table (Free name) = without table name
 tabled g table (Bbop op dst srcs count n) = table
-tabled g table (Load name values) = table
-tabled g table (Fill name value) = table
-tabled g table (Print name) = table
+tabled g table (Load place values) = table
+tabled g table (Fill place value) = table
+tabled g table (Print place) = table
 tabled g table (Order order) = table
 
 -- the table after an instruction, which a refusal leaves
@@ -138,11 +142,11 @@ abbrev pub table_after : Geometry → Routines → List Named → Instruction �
 table_after g operations table instr = if_done (refusal g operations table instr)
     (tabled g table instr) table
 
--- the binding of a bbop: the rows of its objects, and scratch at the least base
-abbrev pub binding : Geometry → List Named → Shape → List (List ℕ) → ℕ → Bound
-binding g table shape names n = record {
-  results = map (λ name. (object_named table name).base) (dsts_in shape names);
-  sources = map (λ name. (object_named table name).base) (srcs_in shape names);
+-- the binding of a bbop: the first rows of its operands, and scratch at the least base
+abbrev pub binding : Geometry → List Named → Shape → List Place → ℕ → Bound
+binding g table shape places n = record {
+  results = map (λ p. (rows_of table p).base) (dsts_in shape places);
+  sources = map (λ p. (rows_of table p).base) (srcs_in shape places);
   scratch = base_for g table (need shape n);
 }
 
@@ -151,22 +155,22 @@ abbrev pub issues_at : Option Routine → ℕ → List Issue
 issues_at None n = []
 issues_at (Some operation) n = issues_of (operation.trace n)
 
--- a bbop's commands on a bank, with the rows of its objects
-abbrev pub bound_at : Geometry → List Named → Option Routine → List (List ℕ) → ℕ → List Command
-bound_at g table None names n = []
-bound_at g table (Some operation) names n = bound g.rows operation.shape n
-    (binding g table operation.shape names n) (issues_of (operation.trace n))
+-- a bbop's commands on a bank, with the rows of its operands
+abbrev pub bound_at : Geometry → List Named → Option Routine → List Place → ℕ → List Command
+bound_at g table None places n = []
+bound_at g table (Some operation) places n = bound g.rows operation.shape n
+    (binding g table operation.shape places n) (issues_of (operation.trace n))
 
 -- the commands of a bbop in one bank, and how many banks do them
 abbrev pub job_of : Geometry → Routines → List Named → Instruction → WaveJob
 job_of g operations table (Bbop op dst srcs count n) = record {
   commands = bound_at g table (operations op) (dst ∷ srcs) n;
-  banks = segments g (object_named table dst);
+  banks = segments g (rows_of table dst);
 }
 job_of g operations table (Init name count n) = record { commands = []; banks = 0 }
-job_of g operations table (Load name values) = record { commands = []; banks = 0 }
-job_of g operations table (Fill name value) = record { commands = []; banks = 0 }
-job_of g operations table (Print name) = record { commands = []; banks = 0 }
+job_of g operations table (Load place values) = record { commands = []; banks = 0 }
+job_of g operations table (Fill place value) = record { commands = []; banks = 0 }
+job_of g operations table (Print place) = record { commands = []; banks = 0 }
 job_of g operations table (Free name) = record { commands = []; banks = 0 }
 job_of g operations table (Order order) = record { commands = []; banks = 0 }
 
@@ -183,10 +187,10 @@ load_events g o values = each_row g o (λ bank k.
 -- the events of an instruction that is done by itself
 abbrev pub own_events : Geometry → List Named → Instruction → List Event
 own_events g table (Init name count n) = fill_events g (new_object g table count n) 0
-own_events g table (Load name values) = load_events g (object_named table name) values
-own_events g table (Fill name value) = fill_events g (object_named table name) value
+own_events g table (Load place values) = load_events g (rows_of table place) values
+own_events g table (Fill place value) = fill_events g (rows_of table place) value
 own_events g table (Bbop op dst srcs count n) = []
-own_events g table (Print name) = []
+own_events g table (Print place) = []
 own_events g table (Free name) = []
 own_events g table (Order order) = []
 
@@ -223,11 +227,11 @@ abbrev pub counts_for : Geometry → Routines → List Named → Instruction →
 counts_for g operations table (Init name count n) =
     record { aap = n * segments g (new_object g table count n); ap = 0 }
 counts_for g operations table (Bbop op dst srcs count n) =
-    times (segments g (object_named table dst)) (counts_of (issues_at (operations op) n))
-counts_for g operations table (Fill name value) = let o = object_named table name in
+    times (segments g (rows_of table dst)) (counts_of (issues_at (operations op) n))
+counts_for g operations table (Fill place value) = let o = rows_of table place in
     record { aap = o.width * segments g o; ap = 0 }
-counts_for g operations table (Load name values) = record { aap = 0; ap = 0 }
-counts_for g operations table (Print name) = record { aap = 0; ap = 0 }
+counts_for g operations table (Load place values) = record { aap = 0; ap = 0 }
+counts_for g operations table (Print place) = record { aap = 0; ap = 0 }
 counts_for g operations table (Free name) = record { aap = 0; ap = 0 }
 counts_for g operations table (Order order) = record { aap = 0; ap = 0 }
 
@@ -255,20 +259,20 @@ is_beside g table None n row = false
 is_beside g table (Some operation) n row = is_among (base_for g table (need operation.shape n))
     (need operation.shape n) row || is_among (limit_of g) 32 row
 
--- the rows that an instruction that is done may change: its object's, and of a bbop those of its
+-- the rows that an instruction that is done may change: its operand's, and of a bbop those of its
 -- destinations, its scratch and the spill group
 abbrev pub touches : Geometry → Routines → List Named → Instruction → ℕ → ℕ → Bool
 touches g operations table (Init name count n) bank row =
     has_row_in g (new_object g table count n) bank row
 touches g operations table (Bbop op dst srcs count n) bank row =
-    nat_lt bank (segments g (object_named table dst))
-    && (list_any (λ name. has_row (object_named table name) row)
+    nat_lt bank (segments g (rows_of table dst))
+    && (list_any (λ p. has_row (rows_of table p) row)
     (dsts_of (operations op) (dst ∷ srcs)) || is_beside g table (operations op) n row)
-touches g operations table (Load name values) bank row =
-    has_row_in g (object_named table name) bank row
-touches g operations table (Fill name value) bank row =
-    has_row_in g (object_named table name) bank row
-touches g operations table (Print name) bank row = false
+touches g operations table (Load place values) bank row =
+    has_row_in g (rows_of table place) bank row
+touches g operations table (Fill place value) bank row =
+    has_row_in g (rows_of table place) bank row
+touches g operations table (Print place) bank row = false
 touches g operations table (Free name) bank row = false
 touches g operations table (Order order) bank row = false
 

@@ -5,7 +5,8 @@
 ghost use Rattle.std.specs.Prelude.{◌≡◌};
 ghost use Rattle.machine_model.specs.Laws.{AcceptedIsPlain, AllPiecesGoOn, CountedByReplies};
 ghost use Rattle.machine_model.specs.Laws.{EventsAreSteps, GrantsFit, ImageStays, LinesGoOn};
-ghost use Rattle.machine_model.specs.Laws.{OneBankInOrder, OthersStay, PieceIsCounted};
+ghost use Rattle.machine_model.specs.Laws.{OneBankInOrder, OthersStay, PartsAreBits};
+ghost use Rattle.machine_model.specs.Laws.{PieceIsCounted};
 ghost use Rattle.machine_model.specs.Laws.{PieceIsSteps, PiecesAreCut, PiecesAreScript};
 ghost use Rattle.machine_model.specs.Laws.{RowsGiveWords, SameOperations, ScriptsGoOn, SeenInOrder};
 ghost use Rattle.machine_model.specs.Laws.{TableStays, TextGivesWords, UntouchedStays};
@@ -22,6 +23,7 @@ pub enum Why {
     NoOp,
     Arity,
     NoObject(u32),
+    Slice(u32),
     Width(u32),
     Size(u32),
     Overlap(u32),
@@ -57,6 +59,11 @@ pub fn rows_give_words()
     ensures same { SameOperations }
 {}
 
+/// A part of a number is its bits, read and written.
+pub fn parts_are_bits()
+    ensures { PartsAreBits }
+{}
+
 /// The table stays a table of objects that the geometry can hold, and an accepted script makes of
 /// an accepted image another one.
 pub fn tables_stay()
@@ -65,7 +72,8 @@ pub fn tables_stay()
 {}
 
 /// Whatever a program does that is accepted, it runs under bindings that fit, and the rows that no
-/// done instruction touches stay; a bbop leaves the numbers of every object but its destinations.
+/// done instruction touches stay; a bbop leaves the numbers of every operand, an object or bits of
+/// one, that has no row of a destination.
 /// How much it does is bounded.
 pub fn accepted_programs_are_safe()
     ensures grants { GrantsFit }

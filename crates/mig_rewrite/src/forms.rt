@@ -211,6 +211,12 @@ impl Form {
         }
     }
 
+    /// Whether it is one node with the literals of the one whose place it takes.
+    pub fn stands_at(&self, sketch: &Sketch, node: u8) -> bool {
+        let [first, second, _, _] = self.nodes;
+        self.out == OWN && second == [0; 3] && sketch.has_operands(node, first)
+    }
+
     /// Makes the form in a graph, where the others' literals are known.
     pub fn made(&self, new: &mut Sketch, made: &Made) -> u8 {
         let mut own = [0u8; 4];

@@ -297,6 +297,10 @@ impl Replacer {
             return Ok(Some(Form::node([a.literal, b.literal, first.literal])));
         }
         self.find_inside(&first, &matters)?;
+        // One alone has none to join.
+        if self.inside.len() < 2 {
+            return Ok(None);
+        }
         let Some((second, third)) = self.inner_pair() else {
             return Ok(None);
         };
@@ -358,9 +362,11 @@ impl Replacer {
 fn first_of(list: &[Divisor], a: &Divisor, b: &Divisor) -> Option<Divisor> {
     let errors = a.or(b);
     for c in list {
-        let node = c.literal / 2;
-        if node != a.literal / 2 && node != b.literal / 2 && errors.is_apart(&c.errors) {
-            return Some(*c);
+        if errors.is_apart(&c.errors) {
+            let node = c.literal / 2;
+            if node != a.literal / 2 && node != b.literal / 2 {
+                return Some(*c);
+            }
         }
     }
     None

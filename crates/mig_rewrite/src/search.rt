@@ -2,7 +2,7 @@
 //!
 //! Walks go from graph to graph by replacements that are drawn, always the same ones, and the best
 //! graphs that they meet are kept: eight long walks from the block's own graph or the best so far,
-//! then short ones from drawn graphs of those that are kept.
+//! then short ones from drawn graphs of those that are kept, while they meet new ones to keep.
 
 use crate::pool::Pool;
 use crate::replacements::Replacer;
@@ -20,6 +20,9 @@ const LONG_STEPS: u16 = 2_000;
 const SHORT_WALKS: u8 = 64;
 
 const SHORT_STEPS: u16 = 200;
+
+/// After how many short walks in a row that have met no graph to keep there are no more.
+const IDLE_WALKS: u8 = 8;
 
 /// What a walk's seed is more than that of the last one.
 const SEED_STEP: u64 = 0x9E3779B97F4A7C15;
@@ -65,6 +68,9 @@ impl Search {
         let Some(drawn) = self.replacer.drawn(at, tables)? else {
             return Ok(None);
         };
+        if drawn.form.stands_at(at, drawn.node) {
+            return Ok(None);
+        }
         let other = at.replaced(&at.base(drawn.node), &drawn.form);
         let is_right = at.inputs <= tables::MOST_INPUTS || agree(at, &other);
         Ok(if other.count <= most && is_right {
@@ -110,13 +116,27 @@ impl Search {
         Ok(())
     }
 
-    /// Goes the short walks, from drawn graphs.
+    /// Goes a short walk from a drawn graph. Returns whether it has met one to keep.
+    fn walk_once(&mut self) -> Result<bool, NoMemory> {
+        let drawn = self.seed.wrapping_add(SEED_STEP) >> 33;
+        let count = usize::max(self.pool.len(), 1);
+        let taken = self.pool.taken();
+        if let Some(from) = self.pool.get(drawn as usize % count) {
+            self.walk(&from, SHORT_STEPS)?;
+        }
+        Ok(self.pool.taken() != taken)
+    }
+
+    /// Goes the short walks, from drawn graphs, while they bring something.
     fn walk_near(&mut self) -> Result<(), NoMemory> {
+        let mut idle = 0u8;
         for _ in 0..SHORT_WALKS {
-            let drawn = self.seed.wrapping_add(SEED_STEP) >> 33;
-            let count = usize::max(self.pool.len(), 1);
-            if let Some(from) = self.pool.get(drawn as usize % count) {
-                self.walk(&from, SHORT_STEPS)?;
+            if idle < IDLE_WALKS {
+                idle = if self.walk_once()? {
+                    0
+                } else {
+                    idle.saturating_add(1)
+                };
             }
         }
         Ok(())

@@ -122,7 +122,8 @@ pub fn kept(m: &MigOuts, offer: &Sketch, alloc: Global) -> Result<Option<MigOuts
     ensures reduced { IfOk result (λ o. IfSome o (λ r. IsReduced r.mig r.outs.items)) }
     ensures reached { IfOk result (λ o. IfSome o (λ r. AreReached r.mig r.outs.items)) }
     ensures offered { IfOk result (λ o. IfSome o (λ r. IsOffered offer.now r.mig r.outs.items)) }
-    // None of a sketch that keeps the outputs only where what it is reduced to has more nodes.
+    // None of a sketch that keeps the outputs only where some reduced graph of these outputs, with
+    // no more nodes than the sketch, has more than the graph.
     ensures dropped { IfOk result (λ o. IfNone o (IsRight m.now.mig m.now.outs.items offer.now
         → IsLarger m.now.mig offer.now)) }
 {

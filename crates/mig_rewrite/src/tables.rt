@@ -90,10 +90,12 @@ impl Table {
         a | b | c | d == 0
     }
 
-    /// Whether no assignment is in both.
+    /// Whether no assignment is in both. The first words tell most of those apart that are not.
     #[inline(always)]
     pub fn is_apart(&self, other: &Table) -> bool {
-        self.and(other).is_zero()
+        let Table([a, b, c, d]) = *self;
+        let Table([e, f, g, h]) = *other;
+        a & e == 0 && b & f | c & g | d & h == 0
     }
 
     #[inline(always)]

@@ -10,5 +10,3 @@ pub mod Exact
 mod ExactAnswers
 mod Bits
 pub mod Written
-mod Steady
-mod Faulty

@@ -5,5 +5,4 @@ pub mod Bytes
 pub mod Spelling
 pub mod Reading
 pub mod Exact
-pub mod Faults
 pub use Rattle.text_lex.specs.Spelled

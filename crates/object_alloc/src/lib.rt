@@ -13,7 +13,7 @@ mod words;
 pub use fault::{ImageFault, ImageKind, ImageNo};
 pub use faults::NoMemory;
 pub use image::Image;
-pub use reading::{image_faults_stand, images_are_exact, read_geometry, read_image, read_table};
+pub use reading::{images_are_exact, read_geometry, read_image, read_table};
 pub use sizes::{HEAD_BYTES, IMAGE_BYTES_MAX, OBJECTS_MAX, RECORD_BYTES};
 pub use spelling::{empty_image, image_head, put_head, record_of};
 pub use table::{Object, Table, free_is_least};

@@ -6,7 +6,6 @@ ghost use Rattle.std.specs.List.{list_all};
 ghost use Rattle.dram_model.specs.Geometry.{is_geometry};
 ghost use Rattle.dram_model.specs.declared.geometry.Geometry.{Geometry};
 ghost use Rattle.object_alloc.specs.Exact.{ReadsExactly, found_in};
-ghost use Rattle.object_alloc.specs.Faults.{FaultsStand};
 ghost use Rattle.object_alloc.specs.Listed.{Named, has_name, limit_of};
 ghost use Rattle.object_alloc.specs.Spelling.{Rows, IsImage, image_bytes, rows_bytes, rows_in};
 ghost use Rattle.object_alloc.specs.Reading.{Answers, name_at, place_at, count_at, object_at};
@@ -258,11 +257,4 @@ pub fn read_image(bytes: &[u8], alloc: Global) -> Result<Image<'_>, ImageNo>
 /// one alone.
 pub fn images_are_exact()
     ensures { ReadsExactly }
-{}
-
-/// Shows where a refused file is at fault: the field there is whole, its bytes let no file be
-/// accepted, and cut before it the file is short; or the file ends within a field, or goes on after
-/// an image.
-pub fn image_faults_stand()
-    ensures { FaultsStand }
 {}

@@ -160,6 +160,7 @@ impl Table {
     pub fn len(&self) -> u16
         ensures value { result ≡ length self.now.pairs }
         ensures kept { IsTable self.now.limit self.now.pairs }
+        ensures low { self.now.limit ≤ 974 }
         ensures names { All (λ p. fits_name p.0 ≡ true) self.now.pairs }
     {
         self.pairs.len() as u16

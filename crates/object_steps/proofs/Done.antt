@@ -1,14 +1,16 @@
 -- What an instruction comes to, where it is done and where it is refused.
 use Rattle.std.proofs.Common.{◌≡◌, ℕ, ◌+◌, ◌<◌, ◌≤◌, true, false, List, [], Option, Some}
 use Rattle.std.proofs.Common.{None, length, map, refl, sym, ◌∙◌, ap, arith, nat_le, position}
-use Rattle.std.proofs.Common.{◌-◌, ◌∷◌, subst}
+use Rattle.std.proofs.Common.{◌-◌, ◌∷◌, ◌++◌, append-nil, cond, subst}
 use Rattle.std.specs.Prelude.{◌^◌, unwrap_or}
 use Rattle.std.proofs.lemmas.Bool.{eq-eqb}
 use Rattle.dram_model.specs.declared.geometry.Geometry.{Geometry}
 use Rattle.dram_model.specs.Chip.{Banks, Event}
-use Rattle.dram_model.specs.View.{ChipView, Did}
+use Rattle.dram_model.specs.declared.dram.Counters.{Counters}
+use Rattle.dram_model.specs.View.{ChipView, Did, DidRead, with_reads}
+use Rattle.host_edge.specs.Views.{Known}
 use Rattle.transpose_unit.specs.Stopped.{StoppedWithin}
-use Rattle.dram_model.proofs.EventLaws.{Did-none}
+use Rattle.dram_model.proofs.EventLaws.{Did-none, Grew-none}
 use Rattle.uprog_code.specs.declared.walker.Counts.{Counts}
 use Rattle.object_alloc.specs.declared.table.Object.{Object}
 use Rattle.object_alloc.specs.Free.{are_free, free}
@@ -17,12 +19,13 @@ use Rattle.object_alloc.proofs.Tables.{in_range}
 use Rattle.machine_model.proofs.Below.{base_free, row_within}
 use Rattle.object_alloc.specs.Free.{is_free}
 use Rattle.std.specs.Prelude.{is_none}
+use Rattle.bbop_isa.specs.declared.instr.Place.{Place}
 use Rattle.bbop_isa.specs.Forms.{Load}
 use Rattle.machine_model.specs.declared.Why.{Why}
 use Rattle.machine_model.specs.declared.Why.TheVariants as why
 use Rattle.machine_model.specs.declared.Reply.TheVariants.{Done, Refused}
 use Rattle.machine_model.specs.Routines.{Routines}
-use Rattle.machine_model.specs.Refusals.{is_absent, object_named, refusal, at_place, first}
+use Rattle.machine_model.specs.Refusals.{is_absent, goes_past, rows_of, refusal, at_place, first}
 use Rattle.machine_model.specs.Steps.{if_done, reply_by}
 use Rattle.machine_model.proofs.First.{at_place-map}
 use Rattle.object_steps.proofs.Refused.{alone}
@@ -57,30 +60,31 @@ range_found n values found e =
     ∙ at_place-map (λ k. why.Range k) 1 (λ v. nat_le (2 ^ n) v) values
     ∙ ap (option_map (λ i. why.Range (1 + i))) (sym e)
 
-load_range : (g : Geometry) (operations : Routines) (table : List Named) (name values : List ℕ)
-    (o : Object) (found : Option ℕ) → is_absent table name ≡ false → o ≡ object_named table name
+load_range : (g : Geometry) (operations : Routines) (table : List Named) (place : Place)
+    (values : List ℕ) (o : Object) (found : Option ℕ) → is_absent table place.name ≡ false
+    → goes_past table place ≡ false → o ≡ rows_of table place
     → length values ≡ o.count → found ≡ position (λ v. nat_le (2 ^ o.width) v) values
-    → refusal g operations table (Load name values) ≡ option_map (λ i. why.Range (1 + i)) found
-load_range g operations table name values o found there e same f =
-    rw (there, ← e, eq-eqb (length values) o.count same) (range_found o.width values found f)
+    → refusal g operations table (Load place values) ≡ option_map (λ i. why.Range (1 + i)) found
+load_range g operations table place values o found there inside e same f =
+    rw (there, inside, ← e, eq-eqb (length values) o.count same) (range_found o.width values found f)
 
-pub load_refused : (g : Geometry) (operations : Routines) (table : List Named)
-    (name values : List ℕ) (o : Object) (at place : ℕ) → is_absent table name ≡ false
-    → o ≡ object_named table name → length values ≡ o.count
-    → Some at ≡ position (λ v. nat_le (2 ^ o.width) v) values → place ≡ at + 1
-    → refusal g operations table (Load name values) ≡ Some (why.Range place)
-load_refused g operations table name values o at place there e same f h =
-    let next : 1 + at ≡ place = omega arith in
-    load_range g operations table name values o (Some at) there e same f
+pub load_refused : (g : Geometry) (operations : Routines) (table : List Named) (place : Place)
+    (values : List ℕ) (o : Object) (at k : ℕ) → is_absent table place.name ≡ false
+    → goes_past table place ≡ false → o ≡ rows_of table place → length values ≡ o.count
+    → Some at ≡ position (λ v. nat_le (2 ^ o.width) v) values → k ≡ at + 1
+    → refusal g operations table (Load place values) ≡ Some (why.Range k)
+load_refused g operations table place values o at k there inside e same f h =
+    let next : 1 + at ≡ k = omega arith in
+    load_range g operations table place values o (Some at) there inside e same f
     ∙ ap (λ k. Some (why.Range k)) next
 
-pub load_allowed : (g : Geometry) (operations : Routines) (table : List Named)
-    (name values : List ℕ) (o : Object) → is_absent table name ≡ false
-    → o ≡ object_named table name → length values ≡ o.count
+pub load_allowed : (g : Geometry) (operations : Routines) (table : List Named) (place : Place)
+    (values : List ℕ) (o : Object) → is_absent table place.name ≡ false
+    → goes_past table place ≡ false → o ≡ rows_of table place → length values ≡ o.count
     → None ≡ position (λ v. nat_le (2 ^ o.width) v) values
-    → refusal g operations table (Load name values) ≡ None
-load_allowed g operations table name values o there e same f =
-    load_range g operations table name values o None there e same f
+    → refusal g operations table (Load place values) ≡ None
+load_allowed g operations table place values o there inside e same f =
+    load_range g operations table place values o None there inside e same f
 
 -- where so many rows begin they are free
 pub found_free : (limit : ℕ) (objects : List Object) (k base : ℕ)
@@ -99,3 +103,27 @@ found_within limit objects k base some e =
 pub same_after : {X : Type 0} (r : Option Why) (reason : Why) (new old : X) → r ≡ Some reason
     → old ≡ if_done r new old
 same_after r reason new old e = rw e refl
+
+reads_stay : (k : Counters) → k ≡ with_reads 0 k
+reads_stay k = let e : k.reads ≡ k.reads + 0 = omega arith in rw (← e) refl
+
+no_reads : (a : ChipView) → DidRead 0 a a
+no_reads a = record {
+  banks = refl;
+  counters = reads_stay a.counters;
+  faults = refl;
+  log = Grew-none a.log;
+}
+
+nothing_sent : (sent : Option (List ℕ)) → Known (λ x y. y ≡ x ++ []) sent sent
+nothing_sent None = tt
+nothing_sent (Some xs) = sym (append-nil xs)
+
+-- a refused print reads nothing, and nothing is said by it
+pub did_not_read : (r : Option Why) (reason : Why) (n : ℕ) (a : ChipView) → r ≡ Some reason
+    → DidRead (cond (is_none r) n 0) a a
+did_not_read r reason n a e = rw e (no_reads a)
+
+pub sent_nothing : (r : Option Why) (reason : Why) (text : List ℕ) (sent : Option (List ℕ))
+    → r ≡ Some reason → Known (λ x y. y ≡ x ++ if_done r text []) sent sent
+sent_nothing r reason text sent e = rw e (nothing_sent sent)

@@ -1,15 +1,26 @@
 -- The object that a name finds.
 use Rattle.std.proofs.Common.{◌≡◌, ℕ, Bool, true, false, cond, List, [], ◌∷◌, Option, Some, None}
-use Rattle.std.proofs.Common.{refl, sym, ◌∙◌, ap, subst}
-use Rattle.std.specs.Prelude.{All, is_some, unwrap_or, not, ◌||◌}
+use Rattle.std.proofs.Common.{refl, sym, ◌∙◌, ap, subst, arith}
+use Rattle.std.specs.Prelude.{All, is_some, unwrap_or, not, ◌||◌, ◌^◌, ◌<◌, ◌≤◌}
 use Rattle.std.specs.List.{find}
 use Rattle.std.specs.Option.{option_map}
 use Rattle.std.specs.Str.{bytes_eq}
-use Rattle.std.proofs.lemmas.List.Elements.{All-head, All-tail}
+use Rattle.std.proofs.lemmas.List.Elements.{All-head, All-tail, recursion_from_All}
 use Rattle.object_alloc.specs.declared.table.Object.{Object}
-use Rattle.object_alloc.specs.Listed.{Named, has_name, look_up, without}
-use Rattle.machine_model.specs.Refusals.{is_absent, nothing, object_named}
+use Rattle.object_alloc.specs.Free.{end_of}
+use Rattle.object_alloc.specs.Listed.{IsTable, Named, has_name, look_up, without}
+use Rattle.dram_model.specs.declared.geometry.Geometry.{Geometry}
+use Rattle.object_alloc.specs.Spelling.{IsObject}
+use Rattle.bbop_isa.specs.declared.instr.Part.{Part}
+use Rattle.machine_model.specs.declared.Why.{Why}
+use Rattle.machine_model.specs.declared.Why.TheVariants as why
+use Rattle.machine_model.specs.Places.{cut, is_past}
+use Rattle.machine_model.specs.Refusals.{first, is_absent, nothing, object_named, when}
 use Rattle.machine_model.proofs.First.{look_up-some}
+use Rattle.machine_model.proofs.Bbops.{part_end}
+use Rattle.machine_model.proofs.Sliced.{within}
+use Rattle.machine_model.proofs.Tables.{object_holds}
+use Rattle.object_steps.specs.Objects.{FitsOn}
 
 -- an object that is found has its name in the table
 pub has_found : (pairs : List Named) (name : List ℕ) (o : Object) → Some o ≡ look_up pairs name
@@ -61,3 +72,43 @@ pub without_absent : (pairs : List Named) (name : List ℕ) → has_name pairs n
 without_absent [] name h = refl
 without_absent (p ∷ pairs) name h = without_case p (without pairs name) pairs (bytes_eq p.0 name)
     (has_name pairs name) h (without_absent pairs name)
+
+-- an object fits on the chip, and so does a part of it
+pub fits_on : (g : Geometry) (o : Object) → IsObject g o → FitsOn g o
+fits_on g o is = record { narrow = is.narrow; some = is.some; fits = is.fits }
+
+pub part_fits : (g : Geometry) (o : Object) (part : Option Part) → is_past part o ≡ false
+    → IsObject g o → FitsOn g (cut part o)
+part_fits g o None h is = fits_on g o is
+part_fits g o (Some p) h is = record {
+  narrow = omega (arith, is.narrow, within o p h);
+  some = is.some;
+  fits = is.fits;
+}
+
+-- and ends where the object may
+pub part_low : (limit : ℕ) (o : Object) (part : Option Part) → is_past part o ≡ false
+    → end_of o ≤ limit → end_of (cut part o) ≤ limit
+part_low limit o part h l = omega (arith, l, part_end o part h)
+
+-- why an operand is refused, whatever is asked after it
+pub absent_refused : (absent past : Bool) (rest : List (Option Why)) → absent ≡ true
+    → first (when absent (why.NoObject 0) ∷ when past (why.Slice 0) ∷ rest) ≡ Some (why.NoObject 0)
+absent_refused absent past rest e = rw e refl
+
+pub past_refused : (absent past : Bool) (rest : List (Option Why)) → absent ≡ false → past ≡ true
+    → first (when absent (why.NoObject 0) ∷ when past (why.Slice 0) ∷ rest) ≡ Some (why.Slice 0)
+past_refused absent past rest e f = rw (e, f) refl
+
+-- the object of a name that there is
+pub named_holds : (P : Object → Type 0) (pairs : List Named) (name : List ℕ) (o : Object)
+    → Some o ≡ look_up pairs name → All (λ named. P named.1) pairs → P (object_named pairs name)
+named_holds P pairs name o e all =
+    subst P (named_is pairs name o e) (found_holds P pairs name o e all)
+
+-- objects lie low, and so does what is read of a name that none has
+pub named_low : (limit : ℕ) (pairs : List Named) (name : List ℕ) → limit ≤ 974
+    → IsTable limit pairs → (object_named pairs name).base < 2 ^ 15
+named_low limit pairs name l t = object_holds (λ (o : Object). o.base < 2 ^ 15) pairs name
+    (omega arith) (recursion_from_All (λ (p : Named). p.1.base < 2 ^ 15) pairs (λ k d m.
+    let ends = t.within k d m in omega (arith, ends, l)))

@@ -20,7 +20,7 @@ use Rattle.dram_model.specs.Geometry.{is_geometry}
 use Rattle.dram_model.specs.Elements.{column_count, segments_of, write_events}
 use Rattle.dram_model.specs.View.{with_reads}
 use Rattle.object_alloc.specs.declared.table.Object.{Object}
-use Rattle.object_alloc.specs.Spelling.{IsObject}
+use Rattle.object_steps.specs.Objects.{FitsOn}
 use Rattle.machine_model.specs.Columns.{segments}
 use Rattle.machine_model.specs.Steps.{load_events}
 
@@ -80,7 +80,7 @@ segments_fit g count banks some fits = elim (cases_lt banks (segments_of g count
   | inr ge ↦ ge
 ]
 
-pub few_banks : (g : Geometry) (o : Object) → is_geometry g ≡ true → IsObject g o
+pub few_banks : (g : Geometry) (o : Object) → is_geometry g ≡ true → FitsOn g o
     → segments g o ≤ 16
 few_banks g o passes object =
     let banks : g.banks ≤ 16 = grind (arith, nat_tests) in
@@ -96,7 +96,7 @@ loads_are g o values e = rw e refl
 
 -- reads of an object's rows
 pub few_reads : (g : Geometry) (o : Object) (old new : Counters) → is_geometry g ≡ true
-    → IsObject g o → new ≡ with_reads (o.width * segments g o) old → RisesAtMost (16 * 128) old new
+    → FitsOn g o → new ≡ with_reads (o.width * segments g o) old → RisesAtMost (16 * 128) old new
 few_reads g o old new passes object e =
     let banks = few_banks g o passes object in
     let up : segments g o * o.width ≤ 16 * o.width = mul-le-mul_right o.width banks in

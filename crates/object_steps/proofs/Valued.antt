@@ -12,7 +12,9 @@ use Rattle.object_alloc.specs.declared.table.Object.{Object}
 use Rattle.machine_model.specs.Columns.{columns, segments}
 use Rattle.object_alloc.specs.Listed.{Named}
 use Rattle.machine_model.specs.Routines.{Routines}
-use Rattle.machine_model.specs.Refusals.{is_absent, object_named}
+use Rattle.bbop_isa.specs.declared.instr.Place.{Place}
+use Rattle.machine_model.specs.Report.{place_text}
+use Rattle.machine_model.specs.Refusals.{is_absent, goes_past, rows_of}
 use Rattle.std.proofs.Math.Seq.{take-append-add}
 use Rattle.std.proofs.lemmas.Bool.{cases_lt}
 use Rattle.std.proofs.lemmas.Grind.{flat_map-append, div_ceil_times}
@@ -300,11 +302,12 @@ line_text before shown colon text last =
 
 -- the pieces of the line of an object that there is
 pub printed_is : (g : Geometry) (operations : Routines) (table : List Named) (banks : Banks)
-    (number : ℕ) (name shown head : List ℕ) (o : Object) → is_absent table name ≡ false
-    → o ≡ object_named table name
-    → head ≡ decimal number ++ codes " " ++ shown ++ codes ":"
+    (number : ℕ) (place shown : Place) (head : List ℕ) (o : Object)
+    → is_absent table place.name ≡ false → goes_past table place ≡ false → o ≡ rows_of table place
+    → head ≡ decimal number ++ codes " " ++ place_text shown ++ codes ":"
     → (head ++ values_text (take o.count (columns g banks o))) ++ codes "\n"
-    ≡ printed_line g operations table banks number name shown
-printed_is g operations table banks number name shown head o there e h =
-    rw (there, ← e, h) (line_text (decimal number ++ codes " ") shown (codes ":")
+    ≡ printed_line g operations table banks number place shown
+printed_is g operations table banks number place shown head o there inside e h =
+    rw (there, inside, ← e, h) (line_text (decimal number ++ codes " ") (place_text shown)
+    (codes ":")
     (values_text (take o.count (columns g banks o))) (codes "\n"))

@@ -1,13 +1,15 @@
 -- Objects on a chip, and by how much its counters rise.
-use Rattle.std.specs.Prelude.{◌≡◌, ℕ, ◌+◌, ◌≤◌, List, [], map, All, true}
+use Rattle.std.specs.Prelude.{◌≡◌, ℕ, ◌+◌, ◌*◌, ◌<◌, ◌≤◌, List, [], map, All, true}
 use Rattle.std.specs.List.{range_with_len}
 use Rattle.bit_rows.specs.Bits.{bit_at, bit_number}
+use Rattle.bit_rows.specs.declared.TheConstants.{WIDTH_MAX}
 use Rattle.dram_model.specs.declared.geometry.Geometry.{Geometry}
 use Rattle.dram_model.specs.Geometry.{is_geometry}
 use Rattle.dram_model.specs.declared.address.Command.TheVariants.{Aap}
 use Rattle.dram_model.specs.declared.address.Addr.TheVariants as addr
 use Rattle.dram_model.specs.declared.dram.Counters.{Counters}
 use Rattle.dram_model.specs.Chip.{Event}
+use Rattle.dram_model.specs.Elements.{column_count}
 use Rattle.dram_model.specs.Chip.Event.{Row}
 use Rattle.object_alloc.specs.declared.table.Object.{Object}
 use Rattle.object_alloc.specs.Listed.{Listing, Named, IsTable, limit_of}
@@ -23,6 +25,12 @@ pub record LiesOn (g : Geometry) (table : Listing) : Type 0 where
   pub limit : table.limit ≡ limit_of g
   pub listed : IsTable (limit_of g) table.pairs
   pub objects : All (λ named. IsObject g named.1) table.pairs
+
+-- the rows of an object, or of bits of one, as they may be on a chip of this shape
+pub record FitsOn (g : Geometry) (o : Object) : Type 0 where
+  pub narrow : o.width ≤ WIDTH_MAX
+  pub some : 0 < o.count
+  pub fits : o.count ≤ column_count g * g.banks
 
 -- the events of an instruction that no other stands beside: none where it is refused
 abbrev pub events_alone : Geometry → Routines → List Named → Instruction → List Event

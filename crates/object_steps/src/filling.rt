@@ -10,27 +10,26 @@ ghost use Rattle.transpose_unit.specs.Stopped.{StoppedWithin};
 ghost use Rattle.dram_model.specs.Elements.{FailedBelow};
 ghost use Rattle.object_alloc.specs.Free.{end_of};
 ghost use Rattle.object_alloc.specs.Listed.{limit_of};
-ghost use Rattle.object_alloc.specs.Spelling.{IsObject};
 ghost use Rattle.bbop_isa.specs.Forms.{Fill};
 ghost use Rattle.machine_model.specs.Columns.{segments};
 ghost use Rattle.machine_model.specs.Routines.{Routines};
-ghost use Rattle.machine_model.specs.Refusals.{object_named, refusal};
+ghost use Rattle.machine_model.specs.Refusals.{refusal, rows_of};
 ghost use Rattle.machine_model.specs.Steps.{fill_events, reply_to};
-ghost use Rattle.object_steps.specs.Objects.{LiesOn, RisesAtMost, events_alone, filled_in};
+ghost use Rattle.object_steps.specs.Objects.{FitsOn, LiesOn, RisesAtMost, events_alone, filled_in};
 
 use crate::finding::found;
 use crate::loading::has_more_bits;
+use bbop_isa::Place;
 use bit_rows::{Value, WIDTH_MAX};
 use dram_model::{Addr, ChipFault, Dram, Geometry};
 use machine_model::{Reply, Why};
 use object_alloc::{Object, Table};
-use text_lex::Name;
 use uprog_code::Counts;
 
 /// How many banks an object's elements take.
 pub fn segments(g: Geometry, o: Object) -> u16
     requires words { 0 < g.words }
-    requires object { IsObject g o }
+    requires object { FitsOn g o }
     ensures value { result ≡ segments g o }
     ensures fits { result ≤ g.banks }
 {
@@ -81,7 +80,7 @@ pub(crate) fn fill_object<D: Dram>(
     requires begun { HasBegun (D.view dram.old) }
     requires geometry { (D.view dram.old).geometry ≡ g }
     requires passes { is_geometry g ≡ true }
-    requires object { IsObject g o }
+    requires object { FitsOn g o }
     requires rows { end_of o ≤ limit_of g }
     requires room { (D.view dram.old).counters.aap < 2 ^ 62 + 2 ^ 60 }
     ensures borrow { D.borrow dram.new ≡ D.borrow dram.old }
@@ -103,7 +102,7 @@ pub(crate) fn fill_object<D: Dram>(
 /// The row commands that fill an object.
 pub(crate) fn filling_counts(g: Geometry, o: Object) -> Counts
     requires words { 0 < g.words }
-    requires object { IsObject g o }
+    requires object { FitsOn g o }
     ensures { result ≡ record { aap = o.width * segments g o; ap = 0 } }
 {
     Counts {
@@ -112,18 +111,18 @@ pub(crate) fn filling_counts(g: Geometry, o: Object) -> Counts
     }
 }
 
-/// The object that a value fills, or why it does not.
-fn fillable(g: Geometry, table: &Table, name: &Name, value: Value) -> Result<Object, Why>
+/// The rows that a value fills, or why it does not.
+fn fillable(g: Geometry, table: &Table, place: &Place, value: Value) -> Result<Object, Why>
     requires lies { LiesOn g table.now }
-    ensures object { IfOk result (λ o. o ≡ object_named table.now.pairs name.now) }
-    ensures fits { IfOk result (IsObject g) }
+    ensures object { IfOk result (λ o. o ≡ rows_of table.now.pairs place.now) }
+    ensures fits { IfOk result (FitsOn g) }
     ensures rows { IfOk result (λ o. end_of o ≤ limit_of g) }
     ensures allowed { (operations : Routines) → OnOk result
-        (refusal g operations table.now.pairs (Fill name.now value) ≡ None) }
+        (refusal g operations table.now.pairs (Fill place.now value) ≡ None) }
     ensures refused { (operations : Routines) → IfErr result (λ why.
-        refusal g operations table.now.pairs (Fill name.now value) ≡ Some why) }
+        refusal g operations table.now.pairs (Fill place.now value) ≡ Some why) }
 {
-    match found(g, table, name) {
+    match found(g, table, place) {
         Err(why) => Err(why),
         Ok(o) => {
             if has_more_bits(value, o.width) {
@@ -135,12 +134,12 @@ fn fillable(g: Geometry, table: &Table, name: &Name, value: Value) -> Result<Obj
     }
 }
 
-/// `fill NAME, V`: each element of the object becomes the value, and so do the columns past its
+/// `fill PLACE, V`: each element of the operand becomes the value, and so do the columns past its
 /// last element.
 pub fn fill<D: Dram>(
     g: Geometry,
     table: &Table,
-    name: &Name,
+    place: &Place,
     value: Value,
     dram: &mut D,
 ) -> Result<Reply, ChipFault>
@@ -151,24 +150,24 @@ pub fn fill<D: Dram>(
     ensures borrow { D.borrow dram.new ≡ D.borrow dram.old }
     ensures kept { Kept (D.view dram.old) (D.view dram.new) }
     ensures reply { (operations : Routines) → IfOk result (λ reply. reply
-        ≡ reply_to g operations table.now.pairs (Fill name.now value)) }
+        ≡ reply_to g operations table.now.pairs (Fill place.now value)) }
     ensures did { (operations : Routines) → OnOk result
-        (Did (events_alone g operations table.now.pairs (Fill name.now value)) (D.view dram.old)
+        (Did (events_alone g operations table.now.pairs (Fill place.now value)) (D.view dram.old)
         (D.view dram.new)) }
     ensures rises { OnOk result (RisesAtMost (16 * WIDTH_MAX) (D.view dram.old).counters
         (D.view dram.new).counters) }
 
-    // Where a call fails, the instruction is not refused, no bank past the object's is changed, and
-    // every bank but one stands where a first part of the events leaves it.
+    // Where a call fails, the instruction is not refused, no bank past the operand's is changed,
+    // and every bank but one stands where a first part of the events leaves it.
     ensures allowed { (operations : Routines) → OnErr result
-        (refusal g operations table.now.pairs (Fill name.now value) ≡ None) }
-    ensures failed { OnErr result (FailedBelow (segments g (object_named table.now.pairs name.now))
+        (refusal g operations table.now.pairs (Fill place.now value) ≡ None) }
+    ensures failed { OnErr result (FailedBelow (segments g (rows_of table.now.pairs place.now))
         (D.view dram.old) (D.view dram.new)) }
     ensures stopped { (operations : Routines) → OnErr result
-        (StoppedWithin (events_alone g operations table.now.pairs (Fill name.now value))
+        (StoppedWithin (events_alone g operations table.now.pairs (Fill place.now value))
         (D.view dram.old).banks (D.view dram.new).banks) }
 {
-    match fillable(g, table, name, value) {
+    match fillable(g, table, place, value) {
         Err(why) => Ok(Reply::Refused(why)),
         Ok(o) => {
             fill_object(dram, g, o, value)?;

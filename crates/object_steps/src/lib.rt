@@ -12,6 +12,7 @@ mod text;
 
 pub use fault::StepFault;
 pub use filling::{fill, segments};
+pub use finding::{goes_past, rows_of};
 pub use listing::{free, trsp_init};
 pub use loading::load;
 pub use printing::print;

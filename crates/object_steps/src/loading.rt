@@ -7,20 +7,19 @@ ghost use Rattle.transpose_unit.specs.Stopped.{StoppedWithin};
 ghost use Rattle.dram_model.specs.Elements.{FailedBelow};
 ghost use Rattle.object_alloc.specs.Free.{end_of};
 ghost use Rattle.object_alloc.specs.Listed.{limit_of};
-ghost use Rattle.object_alloc.specs.Spelling.{IsObject};
 ghost use Rattle.bbop_isa.specs.Forms.{Load};
 ghost use Rattle.machine_model.specs.Columns.{segments};
 ghost use Rattle.machine_model.specs.Routines.{Routines};
-ghost use Rattle.machine_model.specs.Refusals.{object_named, refusal};
+ghost use Rattle.machine_model.specs.Refusals.{refusal, rows_of};
 ghost use Rattle.machine_model.specs.Steps.{reply_to};
-ghost use Rattle.object_steps.specs.Objects.{LiesOn, RisesAtMost, events_alone};
+ghost use Rattle.object_steps.specs.Objects.{FitsOn, LiesOn, RisesAtMost, events_alone};
 
 use crate::finding::found;
+use bbop_isa::Place;
 use bit_rows::{Value, WIDTH_MAX};
 use dram_model::{ChipFault, Dram, Geometry};
 use machine_model::{Reply, Why};
 use object_alloc::{Object, Table};
-use text_lex::Name;
 use transpose_unit::{stage_rows, write_object};
 use uprog_code::Counts;
 
@@ -39,20 +38,20 @@ fn wide_value(values: &[Value], n: u8) -> Option<usize>
     values.iter().position(|value| has_more_bits(*value, n))
 }
 
-/// The object that takes the values, or the first condition that refuses them.
-fn loadable(g: Geometry, table: &Table, name: &Name, values: &[Value]) -> Result<Object, Why>
+/// The rows that take the values, or the first condition that refuses them.
+fn loadable(g: Geometry, table: &Table, place: &Place, values: &[Value]) -> Result<Object, Why>
     requires lies { LiesOn g table.now }
-    ensures object { IfOk result (λ o. o ≡ object_named table.now.pairs name.now) }
-    ensures fits { IfOk result (IsObject g) }
+    ensures object { IfOk result (λ o. o ≡ rows_of table.now.pairs place.now) }
+    ensures fits { IfOk result (FitsOn g) }
     ensures rows { IfOk result (λ o. end_of o ≤ limit_of g) }
     ensures count { IfOk result (λ o. length values.now ≡ o.count) }
     ensures small { IfOk result (λ o. All (λ v. v < 2 ^ o.width) values.now) }
     ensures allowed { (operations : Routines) → OnOk result
-        (refusal g operations table.now.pairs (Load name.now values.now) ≡ None) }
+        (refusal g operations table.now.pairs (Load place.now values.now) ≡ None) }
     ensures refused { (operations : Routines) → IfErr result (λ why.
-        refusal g operations table.now.pairs (Load name.now values.now) ≡ Some why) }
+        refusal g operations table.now.pairs (Load place.now values.now) ≡ Some why) }
 {
-    let o = match found(g, table, name) {
+    let o = match found(g, table, place) {
         Err(why) => return Err(why),
         Ok(o) => o,
     };
@@ -65,12 +64,12 @@ fn loadable(g: Geometry, table: &Table, name: &Name, values: &[Value]) -> Result
     }
 }
 
-/// `load NAME, V, ..`: the values become the object's elements, and the columns past the last take
-/// 0. The stage has room for the rows of one bank of the widest object.
+/// `load PLACE, V, ..`: the values become the operand's elements, and the columns past the last
+/// take 0. The stage has room for the rows of one bank of the widest object.
 pub fn load<D: Dram>(
     g: Geometry,
     table: &Table,
-    name: &Name,
+    place: &Place,
     values: &[Value],
     stage: &mut [u64],
     dram: &mut D,
@@ -84,24 +83,24 @@ pub fn load<D: Dram>(
     ensures kept { Kept (D.view dram.old) (D.view dram.new) }
     ensures stage { length stage.new ≡ length stage.old }
     ensures reply { (operations : Routines) → IfOk result (λ reply. reply
-        ≡ reply_to g operations table.now.pairs (Load name.now values.now)) }
+        ≡ reply_to g operations table.now.pairs (Load place.now values.now)) }
     ensures did { (operations : Routines) → OnOk result
-        (Did (events_alone g operations table.now.pairs (Load name.now values.now))
+        (Did (events_alone g operations table.now.pairs (Load place.now values.now))
         (D.view dram.old) (D.view dram.new)) }
     ensures rises { OnOk result (RisesAtMost (16 * WIDTH_MAX) (D.view dram.old).counters
         (D.view dram.new).counters) }
 
-    // Where a call fails, the instruction is not refused, no bank past the object's is changed, and
-    // every bank but one stands where a first part of the events leaves it.
+    // Where a call fails, the instruction is not refused, no bank past the operand's is changed,
+    // and every bank but one stands where a first part of the events leaves it.
     ensures allowed { (operations : Routines) → OnErr result
-        (refusal g operations table.now.pairs (Load name.now values.now) ≡ None) }
-    ensures failed { OnErr result (FailedBelow (segments g (object_named table.now.pairs name.now))
+        (refusal g operations table.now.pairs (Load place.now values.now) ≡ None) }
+    ensures failed { OnErr result (FailedBelow (segments g (rows_of table.now.pairs place.now))
         (D.view dram.old) (D.view dram.new)) }
     ensures stopped { (operations : Routines) → OnErr result
-        (StoppedWithin (events_alone g operations table.now.pairs (Load name.now values.now))
+        (StoppedWithin (events_alone g operations table.now.pairs (Load place.now values.now))
         (D.view dram.old).banks (D.view dram.new).banks) }
 {
-    match loadable(g, table, name, values) {
+    match loadable(g, table, place, values) {
         Err(why) => Ok(Reply::Refused(why)),
         Ok(o) => {
             let rows = &mut stage[..stage_rows(o.width) * usize::from(g.words)];

@@ -15,16 +15,16 @@ ghost use Rattle.transpose_unit.specs.Stopped.{StoppedWithin};
 ghost use Rattle.dram_model.specs.Elements.{FailedBelow, column_count};
 ghost use Rattle.object_alloc.specs.Free.{end_of};
 ghost use Rattle.object_alloc.specs.Listed.{limit_of};
-ghost use Rattle.object_alloc.specs.Spelling.{IsObject};
 ghost use Rattle.transpose_unit.specs.Stage.{stage_rows, stage_number};
 ghost use Rattle.bbop_isa.specs.Forms.{Print};
 ghost use Rattle.machine_model.specs.Columns.{columns, segments};
 ghost use Rattle.machine_model.specs.Routines.{Routines};
-ghost use Rattle.machine_model.specs.Refusals.{object_named, refusal};
+ghost use Rattle.machine_model.specs.Refusals.{refusal, rows_of};
+ghost use Rattle.machine_model.specs.Report.{part_text, place_text};
 ghost use Rattle.machine_model.specs.Script.{rows_if_done, rows_printed};
 ghost use Rattle.machine_model.specs.Steps.{reply_to};
 ghost use Rattle.object_steps.specs.Lines.{DidReadAtMost, printed_line, values_text};
-ghost use Rattle.object_steps.specs.Objects.{LiesOn, RisesAtMost};
+ghost use Rattle.object_steps.specs.Objects.{FitsOn, LiesOn, RisesAtMost};
 ghost use Rattle.object_steps.specs.declared.fault.StepFault.{StepFault};
 
 use crate::fault::StepFault;
@@ -32,12 +32,12 @@ use crate::filling::segments;
 use crate::finding::found;
 use crate::text::{add, add_number};
 use arrayvec::ArrayVec;
+use bbop_isa::{Part, Place};
 use bit_rows::{Value, WIDTH_MAX};
 use dram_model::{Dram, Geometry};
 use host_edge::{Failed, Sink};
 use machine_model::Reply;
 use object_alloc::{Object, Table};
-use text_lex::Name;
 use transpose_unit::{read_block, read_segment, stage_rows};
 use uprog_code::Counts;
 
@@ -160,7 +160,7 @@ fn add_values<D: Dram, S: Sink>(
     requires begun { HasBegun (D.view dram.old) }
     requires geometry { (D.view dram.old).geometry ≡ g }
     requires passes { is_geometry g ≡ true }
-    requires object { IsObject g o }
+    requires object { FitsOn g o }
     requires rows { end_of o ≤ limit_of g }
     requires stage { length stage.old ≡ stage_rows o.width * g.words }
     requires room { length text.old.items < PIECE_BYTES }
@@ -200,29 +200,47 @@ fn add_values<D: Dram, S: Sink>(
     Ok(())
 }
 
-/// The head of an object's line: the number, and the name that is shown.
-fn line_head(number: u32, shown: &Name) -> Piece
+/// Appends the part of an operand, as a script has it: `[K]` or `[LO:HI]`.
+fn add_part(text: &mut Piece, part: Option<Part>)
+    requires room { length text.old.items < 64 }
+    ensures text { text.new.items ≡ text.old.items ++ part_text part }
+    ensures room { length text.new.items < PIECE_BYTES - 1 }
+{
+    if let Some(Part { low, size }) = part {
+        add(text, b"[");
+        add_number(text, Value::from(low));
+        if size != 1 {
+            add(text, b":");
+            add_number(text, Value::from(low) + Value::from(size));
+        }
+        add(text, b"]");
+    }
+}
+
+/// The head of an operand's line: the number, and the operand that is shown.
+fn line_head(number: u32, shown: &Place) -> Piece
     ensures text { result.items
-        ≡ decimal number ++ codes " " ++ shown.now ++ codes ":" }
+        ≡ decimal number ++ codes " " ++ place_text shown.now ++ codes ":" }
     ensures room { length result.items < PIECE_BYTES }
 {
     let mut text = ArrayVec::new();
     add_number(&mut text, Value::from(number));
     add(&mut text, b" ");
-    add(&mut text, shown.bytes());
+    add(&mut text, shown.name.bytes());
+    add_part(&mut text, shown.part);
     add(&mut text, b":");
     text
 }
 
-/// `print NAME`: puts one line with this number, the name that is shown, and the values of the
-/// object's elements, in pieces. Nothing is put where there is no such object. The stage has room
-/// for the rows of one bank of the widest object.
+/// `print PLACE`: puts one line with this number, the operand that is shown, and the values of the
+/// elements of `place`, in pieces. Nothing is put where it is refused. The stage has room for the
+/// rows of one bank of the widest object.
 pub fn print<D: Dram, S: Sink>(
     g: Geometry,
     table: &Table,
     number: u32,
-    name: &Name,
-    shown: &Name,
+    place: &Place,
+    shown: &Place,
     stage: &mut [u64],
     dram: &mut D,
     out: &mut S,
@@ -237,35 +255,35 @@ pub fn print<D: Dram, S: Sink>(
     ensures stage { length stage.new ≡ length stage.old }
     ensures sink_faults { (S.view out.old).faults ≤ (S.view out.new).faults }
     ensures reply { (operations : Routines) → IfOk result (λ reply. reply
-        ≡ reply_to g operations table.now.pairs (Print name.now)) }
+        ≡ reply_to g operations table.now.pairs (Print place.now)) }
     ensures did { (operations : Routines) → OnOk result
-        (DidRead (rows_if_done rows_printed g operations table.now.pairs (Print name.now))
+        (DidRead (rows_if_done rows_printed g operations table.now.pairs (Print place.now))
         (D.view dram.old) (D.view dram.new)) }
     ensures rises { OnOk result (RisesAtMost (16 * WIDTH_MAX) (D.view dram.old).counters
         (D.view dram.new).counters) }
     ensures sent { (operations : Routines) → OnOk result (Known (λ before after. after
         ≡ before ++ printed_line g operations table.now.pairs (D.view dram.old).banks number
-        name.now shown.now) (S.view out.old).sent (S.view out.new).sent) }
+        place.now shown.now) (S.view out.old).sent (S.view out.new).sent) }
 
     // Where a call fails, the instruction is not refused, a prefix of its line was put, and nothing
     // but reads happened on the chip, or a read failed.
     ensures allowed { (operations : Routines) → OnErr result
-        (refusal g operations table.now.pairs (Print name.now) ≡ None) }
+        (refusal g operations table.now.pairs (Print place.now) ≡ None) }
     ensures part { (operations : Routines) → OnErr result (Known (AppendsPart
-        (printed_line g operations table.now.pairs (D.view dram.old).banks number name.now
+        (printed_line g operations table.now.pairs (D.view dram.old).banks number place.now
         shown.now)) (S.view out.old).sent (S.view out.new).sent) }
     ensures chip_fault { IsErrOf result StepFault.ChipFault → FailedBelow
-        (segments g (object_named table.now.pairs name.now)) (D.view dram.old) (D.view dram.new) }
+        (segments g (rows_of table.now.pairs place.now)) (D.view dram.old) (D.view dram.new) }
     ensures stopped { IsErrOf result StepFault.ChipFault
         → StoppedWithin [] (D.view dram.old).banks (D.view dram.new).banks }
     ensures no_event { Grew (D.view dram.old).log (D.view dram.new).log [] }
     ensures write_fault { IsErrOf result StepFault.WriteFault
         → Rose (S.view out.old).faults (S.view out.new).faults }
     ensures read { IsErrOf result StepFault.WriteFault
-        → DidReadAtMost (rows_printed g table.now.pairs (Print name.now)) (D.view dram.old)
+        → DidReadAtMost (rows_printed g table.now.pairs (Print place.now)) (D.view dram.old)
         (D.view dram.new) }
 {
-    let o = match found(g, table, name) {
+    let o = match found(g, table, place) {
         Err(why) => return Ok(Reply::Refused(why)),
         Ok(o) => o,
     };

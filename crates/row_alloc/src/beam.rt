@@ -4,14 +4,18 @@
 //! A step makes one node or writes one output, and after each step the few states of the least
 //! estimate go on. Nothing is promised of the commands. They are taken where they are found right.
 
-use crate::body::{BodyCmd, Held, OutRow};
+use crate::ahead::Ahead;
+use crate::body::BodyCmd::{self, Aap, Ap};
+use crate::body::BodyRef::{B, Out, Spill};
+use crate::body::{Held, OutRow};
 use crate::bucket::{Bucket, Entry};
-use crate::cells::{Short, lacking};
-use crate::estimate::{Ahead, estimate, is_ready};
+use crate::cells::{Cells, Short, driven, holders};
+use crate::estimate::{estimate, rank_of};
 use crate::idle::without_copies;
-use crate::moves::{Commands, Job, LineUp, Way, Ways, complemented, fill_left, writes};
-use crate::outlook::{State, Task, in_place};
-use crate::set::Set;
+use crate::memory::Memory;
+use crate::moves::{Commands, Job, LineUp, Way, complemented, fill_left, missing_in};
+use crate::outlook::{Rows, State, Task, in_place};
+use crate::set::{Nodes, Set};
 use faults::keep;
 use mig_graph::{Mig, NoMemory};
 use std::alloc::Global;
@@ -38,6 +42,12 @@ pub const WIDE: Breadth = Breadth {
     most_states: 8_000,
 };
 
+/// Counts the last few bodies of a race.
+pub const LAST: Breadth = Breadth {
+    width: 40,
+    most_states: 15_000,
+};
+
 /// Finds the fewest commands for most bodies.
 pub const BROAD: Breadth = Breadth {
     width: 40,
@@ -54,57 +64,62 @@ pub const DEEP: Breadth = Breadth {
 /// A step of fewer states than this for each that goes on lets fewer go on.
 const FEW_STATES: usize = 5;
 
-/// How many states are remembered.
-const MOST_SEEN: usize = 256;
-
-/// Of how many sets of nodes that must still be made is remembered what is ahead.
-const MOST_AHEAD: usize = 64;
-
-/// A state that a step has led to, and after how many commands.
+/// How many states a step keeps, and how many of those to which one of them leads it tries.
 #[derive(Clone, Copy)]
-struct Seen {
+pub struct Scope {
+    pub width: usize,
+    pub share: usize,
+}
+
+/// A state from which a step goes on.
+#[derive(Clone, Copy)]
+struct Origin {
     state: State,
     spent: u32,
-    step: u32,
-}
-
-/// The search: the entries that have gone on, the states after this step and the two next ones.
-struct Beam {
-    done: Vec<Entry>,
-    now: Bucket,
-    next: Bucket,
-    after: Bucket,
-    ways: Ways,
-    /// States of this step and of those before it, each at the place that its hash gives.
-    seen: Vec<Option<Seen>>,
-    /// The number of this step.
-    step: u32,
-    /// What was ahead of states, each at the place that its nodes give.
-    aheads: Vec<Option<Ahead>>,
-    breadth: Breadth,
+    /// Its place among the entries that have gone on.
+    at: usize,
+    rows: Rows,
     width: usize,
-    /// More commands are not looked for.
-    most: u32,
-    tried: usize,
 }
 
-impl Drop for Beam {
-    fn drop(self) {
-        let Beam {
-            done: _,
-            now: _,
-            next: _,
-            after: _,
-            ways: _,
-            seen: _,
-            step: _,
-            aheads: _,
-            breadth: _,
-            width: _,
-            most: _,
-            tried: _,
-        } = self;
+/// A state that a step leads to, but for its cells: the nodes in spill rows, the outputs that must
+/// still be written, what rows hold then, which nodes are wanted and which of these must stand in
+/// cells, and how many commands were taken.
+#[derive(Clone, Copy)]
+struct Trial {
+    spilled: Set,
+    unwritten: Set,
+    rows: Rows,
+    wanted: Nodes,
+    endangered: Nodes,
+    spent: u32,
+}
+
+impl Trial {
+    #[inline(always)]
+    fn new(task: &Task, ahead: &Ahead, spilled: Set, unwritten: Set, spent: u32) -> Trial {
+        let wanted = ahead.read.or(task.named_by(unwritten));
+        let rows = task.rows(spilled, unwritten);
+        let unmade = task.nodes_of(ahead.unmade);
+        Trial {
+            spilled,
+            unwritten,
+            rows,
+            wanted,
+            endangered: wanted.minus(rows.any).minus(unmade),
+            spent,
+        }
     }
+}
+
+/// The operands of a node are in line in a triple: the state after its activation alone, the cells
+/// then, and the commands before.
+#[derive(Clone, Copy)]
+struct End {
+    triple: u8,
+    trial: Trial,
+    cells: Cells,
+    cmds: Commands,
 }
 
 /// A node that can be made, or its complement, and how many of its operands are not in place.
@@ -116,284 +131,370 @@ struct Candidate {
     missing: u32,
 }
 
-/// A node that can be made, and its complement.
-fn candidates_of(task: &Task, s: &State, node: u8) -> Option<(Candidate, Candidate)> {
-    let operands = task.operands(node)?;
-    if !is_ready(task, s, operands) {
-        return None;
-    }
-    let [straight, complements] = in_place(&s.cells, operands);
-    let made = Candidate {
-        node,
-        operands,
-        sensed: task.lit_of(node, false),
-        missing: 3u32.saturating_sub(straight),
-    };
-    let turned = Candidate {
-        node,
-        operands: complemented(operands),
-        sensed: task.lit_of(node, true),
-        missing: 3u32.saturating_sub(complements),
-    };
-    Some((made, turned))
-}
+/// The most candidates: each node and its complement.
+const MOST_CANDIDATES: usize = 64;
 
 /// The nodes that can be made from a state.
-fn candidates(task: &Task, s: &State, alloc: Global) -> Result<Vec<Candidate>, NoMemory> {
-    let mut left = s.unmade;
-    let mut candidates = Vec::new(alloc);
-    for _ in 0..s.unmade.len() {
-        if let Some(node) = left.first() {
-            left = left.without(node);
-            if let Some((made, turned)) = candidates_of(task, s, node) {
-                keep(&mut candidates, made)?;
-                keep(&mut candidates, turned)?;
-            }
+#[derive(Clone, Copy)]
+struct Candidates {
+    list: [Candidate; MOST_CANDIDATES],
+    count: usize,
+}
+
+impl Candidates {
+    fn add(&mut self, candidate: Candidate) {
+        if self.count < MOST_CANDIDATES {
+            self.list[self.count] = candidate;
+            self.count += 1;
         }
     }
-    Ok(candidates)
+
+    /// With a node that can be made, and its complement.
+    fn add_both(&mut self, task: &Task, s: &State, node: u8) {
+        let operands = task.operands(node);
+        let [straight, complements] = in_place(&s.cells, operands);
+        self.add(Candidate {
+            node,
+            operands,
+            sensed: task.lit_of(node, false),
+            missing: 3u32.saturating_sub(straight),
+        });
+        self.add(Candidate {
+            node,
+            operands: complemented(operands),
+            sensed: task.lit_of(node, true),
+            missing: 3u32.saturating_sub(complements),
+        });
+    }
+
+    /// Of a state.
+    fn of(task: &Task, s: &State) -> Candidates {
+        let none = Candidate {
+            node: 0,
+            operands: task.operands(0),
+            sensed: task.lit_of(0, false),
+            missing: 4,
+        };
+        let mut all = Candidates {
+            list: [none; MOST_CANDIDATES],
+            count: 0,
+        };
+        let unmade = task.nodes_of(s.unmade);
+        let mut left = s.unmade;
+        for _ in 0..s.unmade.len() {
+            if let Some(node) = left.first() {
+                left = left.without(node);
+                if !task.reads(node).meets(unmade) {
+                    all.add_both(task, s, node);
+                }
+            }
+        }
+        all
+    }
+}
+
+/// The search for one body: the entries that have gone on, the states after this step and the two
+/// next ones.
+pub struct Beam {
+    /// The number of the body.
+    body: u32,
+    done: Vec<Entry>,
+    now: Bucket,
+    next: Bucket,
+    after: Bucket,
+    /// More commands are not looked for.
+    most: u32,
+    /// How many steps are left.
+    pub steps: u32,
+}
+
+impl Drop for Beam {
+    fn drop(self) {
+        let Beam {
+            body: _,
+            done: _,
+            now: _,
+            next: _,
+            after: _,
+            most: _,
+            steps: _,
+        } = self;
+    }
 }
 
 impl Beam {
     /// The state before any step.
-    fn new(task: &Task, breadth: Breadth, most: usize, alloc: Global) -> Result<Beam, NoMemory> {
+    pub fn new(
+        task: &Task,
+        memory: &mut Memory,
+        most: usize,
+        alloc: Global,
+    ) -> Result<Beam, NoMemory> {
+        let state = task.start();
         let mut beam = Beam {
+            body: memory.next_body(),
             done: Vec::new(alloc),
             now: Bucket::new(alloc),
             next: Bucket::new(alloc),
             after: Bucket::new(alloc),
-            ways: Ways::new(alloc)?,
-            seen: vec![in alloc; None; MOST_SEEN]?,
-            step: 0,
-            aheads: vec![in alloc; None; MOST_AHEAD]?,
-            breadth,
-            width: breadth.width,
-            most: if most < 0xFFFF_FFFF {
-                most as u32
-            } else {
-                u32::MAX
-            },
-            tried: 0,
+            most: if most < 0xFFFF { most as u32 } else { 0xFFFF },
+            steps: state.left(),
         };
         let start = Entry {
-            state: task.start(),
+            state,
             spent: 0,
             rank: 0,
             from: None,
             cmds: Commands::new(),
         };
-        beam.now.offer(task, start, breadth.width)?;
+        keep(&mut beam.now.kept, start)?;
         Ok(beam)
     }
 
-    /// Whether the state was met in this step after as many commands or fewer. It is remembered.
-    fn was_seen(&mut self, state: &State, spent: u32) -> bool {
-        let place = state.hash() as usize % MOST_SEEN;
-        let step = self.step;
-        let Some(seen) = self.seen.get_mut(place) else {
-            return false;
-        };
-        let was_seen = match seen {
-            Some(old) => old.step == step && old.spent <= spent && old.state == *state,
-            None => false,
-        };
-        if !was_seen {
-            *seen = Some(Seen {
-                state: *state,
-                spent,
-                step,
-            });
-        }
-        was_seen
+    /// The least estimate of the states that go on.
+    pub fn least_rank(&self) -> u32 {
+        u32::min(self.now.least_rank(), self.next.least_rank())
     }
 
-    /// What is ahead of a state.
-    fn ahead_of(&mut self, task: &Task, state: &State) -> Ahead {
-        let place = state.unmade.hash() as usize % MOST_AHEAD;
-        let Some(known) = self.aheads.get_mut(place) else {
-            return Ahead::from(task, state);
-        };
-        match known {
-            Some(ahead) if ahead.unmade == state.unmade => *ahead,
-            _ => {
-                let ahead = Ahead::from(task, state);
-                *known = Some(ahead);
-                ahead
-            }
+    /// Whether no state may come to so few commands as are looked for.
+    pub fn is_over(&self) -> bool {
+        match self.now.best() {
+            Some(best) => best.is_over(self.most as usize),
+            None => self.next.is_empty(),
         }
     }
 
-    /// Whether more commands than are looked for come to the end from this state.
-    fn is_too_far(&self, ahead: &Ahead, state: &State, spent: u32) -> bool {
-        spent > self.most || ahead.is_above(state, self.most.saturating_sub(spent))
+    /// Whether more commands than are looked for come to the end from a state with these cells.
+    #[inline(always)]
+    fn is_too_far(&self, ahead: &Ahead, unwritten: Set, held: Nodes, spent: u32) -> bool {
+        spent > self.most || ahead.is_above(unwritten, held, self.most.saturating_sub(spent))
     }
 
     /// Keeps a state that a step has led to, where it is among the best and loses no value.
+    #[inline(never)]
     fn consider(
         &mut self,
         task: &Task,
-        parent: &Entry,
-        at: usize,
+        memory: &mut Memory,
+        from: &Origin,
         ahead: &Ahead,
-        way: &Way,
+        trial: &Trial,
+        cells: Cells,
+        (cmds, last): (&Commands, BodyCmd),
     ) -> Result<(), NoMemory> {
-        self.tried = self.tried.saturating_add(1);
-        let spent = parent.spent.saturating_add(way.cmds.len());
-        if self.is_too_far(ahead, &way.state, spent) {
+        memory.count(1);
+        let (cells, held) = cells.cleared(trial.wanted);
+        if !trial.endangered.minus(held).is_empty()
+            || self.is_too_far(ahead, trial.unwritten, held, trial.spent)
+        {
             return Ok(());
         }
-        let wanted = ahead.read.or(task.named_by(way.state.unwritten));
-        if task.loses(&parent.state.cells, &way.state, wanted) {
-            return Ok(());
-        }
-        let state = task.cleared(&way.state, wanted);
-        let mut entry = Entry {
-            state,
-            spent,
-            rank: 0,
-            from: Some(at),
-            cmds: way.cmds,
+        let state = State {
+            cells,
+            spilled: trial.spilled.and(trial.wanted.from(task.first)),
+            unmade: ahead.unmade,
+            unwritten: trial.unwritten,
         };
-        let is_next = state.left().saturating_add(1) == parent.state.left();
-        if self.was_seen(&state, spent) {
-            self.offer_again(task, entry, is_next);
+        if memory.was_seen(&state, trial.spent) {
             return Ok(());
         }
-        let points = estimate(task, &state, ahead);
-        entry.rank = spent.saturating_mul(20).saturating_add(points);
-        self.offer(task, entry, is_next)
-    }
-
-    /// Offers an entry to those after the next step, or else after the one that follows.
-    fn offer(&mut self, task: &Task, entry: Entry, is_next: bool) -> Result<(), NoMemory> {
-        if is_next {
-            self.next.offer(task, entry, self.width)
+        let rank = rank_of(
+            trial.spent,
+            estimate(task, ahead, &state, &trial.rows, held),
+        );
+        let is_safe = trial.endangered.is_empty();
+        let is_next = state.left().saturating_add(1) == from.state.left();
+        let bucket = if is_next {
+            &mut self.next
         } else {
-            self.after.offer(task, entry, self.width)
+            &mut self.after
+        };
+        if !bucket.takes(rank, is_safe) {
+            return Ok(());
         }
+        let entry = Entry {
+            state,
+            spent: trial.spent,
+            rank,
+            from: Some(from.at),
+            cmds: cmds.then(last),
+        };
+        bucket.offer(task, entry, is_safe, from.width)
     }
 
-    /// Offers an entry whose state was met before.
-    fn offer_again(&mut self, task: &Task, entry: Entry, is_next: bool) {
-        if is_next {
-            self.next.offer_again(task, entry);
-        } else {
-            self.after.offer_again(task, entry);
-        }
-    }
-
-    /// Considers all ways that end a step.
-    fn consider_ends(
+    /// Considers the states after a node is made, where the activation goes to cells alone.
+    #[inline(always)]
+    fn end_in_cells(
         &mut self,
         task: &Task,
-        parent: &Entry,
-        at: usize,
+        memory: &mut Memory,
+        from: &Origin,
         ahead: &Ahead,
+        job: &Job,
+        end: &End,
     ) -> Result<(), NoMemory> {
-        for k in 0..self.ways.ends.len() {
-            if k < self.ways.ends.len() {
-                let way = self.ways.ends[k];
-                self.consider(task, parent, at, ahead, &way)?;
+        let (trial, cmds, cells) = (&end.trial, &end.cmds, end.cells);
+        let cmd = Ap(B(end.triple));
+        self.consider(task, memory, from, ahead, trial, cells, (cmds, cmd))?;
+        let free = cells.free(job.wanted_after);
+        let fills = memory.lines.fills.worth(&cells, job.sensed, free);
+        let mut left = fills;
+        for _ in 0..fills.len() {
+            if let Some(y) = left.first() {
+                left = left.without(y);
+                let cells = driven(&cells, y, job.sensed);
+                let cmd = Aap(B(end.triple), B(y));
+                self.consider(task, memory, from, ahead, trial, cells, (cmds, cmd))?;
             }
         }
         Ok(())
     }
 
-    /// Finds the ways that make a node after the one of this number, where its operands are in line
-    /// then. Where all of them are too far, they only count as tried.
-    fn find_ends(
+    /// The same, where the node's spill row or an output takes it.
+    #[inline(always)]
+    fn end_in_rows(
         &mut self,
         task: &Task,
-        parent: &Entry,
+        memory: &mut Memory,
+        from: &Origin,
         ahead: &Ahead,
-        line_up: &LineUp,
-        number: usize,
+        job: &Job,
+        end: &End,
     ) -> Result<(), NoMemory> {
-        let Some(way) = self.ways.list.get(number).copied() else {
-            return Ok(());
-        };
-        if !line_up.is_ready(&way.state) {
+        let (cmds, cells, spent) = (&end.cmds, end.cells, end.trial.spent);
+        let (spilled, unwritten) = (end.trial.spilled, end.trial.unwritten);
+        if let Some(spill) = task.spill_of(job.sensed) {
+            let trial = Trial::new(task, ahead, spilled.with(spill), unwritten, spent);
+            let cmd = Aap(B(end.triple), Spill(spill));
+            self.consider(task, memory, from, ahead, &trial, cells, (cmds, cmd))?;
+        }
+        let mut left = job.outs;
+        for _ in 0..job.outs.len() {
+            if let Some(j) = left.first() {
+                left = left.without(j);
+                let trial = Trial::new(task, ahead, spilled, unwritten.without(j), spent);
+                let cmd = Aap(B(end.triple), Out(j));
+                self.consider(task, memory, from, ahead, &trial, cells, (cmds, cmd))?;
+            }
+        }
+        Ok(())
+    }
+
+    /// Tries the states after a node is made by a way that has brought its operands in line. One
+    /// that loses a value, or comes to what another way came to, or is too far, only counts.
+    #[inline(always)]
+    fn try_end(
+        &mut self,
+        task: &Task,
+        memory: &mut Memory,
+        from: &Origin,
+        ahead: &Ahead,
+        job: &Job,
+        (line_up, way): (&LineUp, &Way),
+    ) -> Result<(), NoMemory> {
+        let activated = line_up.activated(&way.cells, job);
+        let (cells, held) = activated.cleared(job.wanted_after);
+        let unwritten = from.state.unwritten;
+        let spilled = task.nodes_of(way.spilled.minus(from.state.spilled));
+        let lost = job.endangered.minus(spilled).minus(held);
+        let loaded = from.spent.saturating_add(way.cmds.len());
+        if !lost.without(job.sensed.node()).is_empty()
+            || memory.was_met(&cells, way.spilled, loaded)
+        {
+            memory.count(1);
             return Ok(());
         }
-        let after = line_up.activated(&way.state);
-        let spent = parent.spent.saturating_add(way.cmds.len());
         // The activation is a command more, and may write an output.
-        let spent = if line_up.job.outs.is_empty() {
-            spent.saturating_add(1)
-        } else {
-            spent
-        };
-        if self.is_too_far(ahead, &after, spent) {
-            let count = line_up.end_count(task, &after, &mut self.ways);
-            self.tried = self.tried.saturating_add(count as usize);
+        let spent = loaded.saturating_add(job.outs.is_empty() as u32);
+        if self.is_too_far(ahead, unwritten, held, spent) {
+            let free = cells.free(job.wanted_after);
+            let fills = memory.lines.fills.worth(&cells, job.sensed, free);
+            memory.count(job.end_count(task, fills));
             return Ok(());
         }
-        line_up.end(task, &way, &after, &mut self.ways)
+        let made = loaded.saturating_add(1);
+        let end = End {
+            triple: line_up.triple,
+            trial: Trial::new(task, ahead, way.spilled, unwritten, made),
+            cells,
+            cmds: way.cmds,
+        };
+        self.end_in_cells(task, memory, from, ahead, job, &end)?;
+        self.end_in_rows(task, memory, from, ahead, job, &end)
     }
 
     /// Tries one line-up of a node.
     fn try_line_up(
         &mut self,
         task: &Task,
-        parent: &Entry,
-        at: usize,
+        memory: &mut Memory,
+        from: &Origin,
         ahead: &Ahead,
+        job: &Job,
         line_up: &LineUp,
     ) -> Result<(), NoMemory> {
-        line_up.ways(task, &parent.state, &mut self.ways)?;
-        self.ways.ends.clear();
-        for number in 0..self.ways.list.len() {
-            self.find_ends(task, parent, ahead, line_up, number)?;
+        line_up.find_ways(task, job, &from.state, &mut memory.lines);
+        for number in 0..memory.lines.ways.count() {
+            if let Some(way) = memory.lines.ways.get(number)
+                && line_up.is_ready(&way.cells)
+            {
+                self.try_end(task, memory, from, ahead, job, (line_up, &way))?;
+            }
         }
-        self.consider_ends(task, parent, at, ahead)
+        Ok(())
     }
 
     /// Whether the node is made by more commands than are looked for, or the end is too far then:
     /// each operand that is not in place takes a command, and so does the activation, which may
     /// write an output.
-    fn is_far_off(&self, parent: &Entry, ahead: &Ahead, candidate: &Candidate, outs: Set) -> bool {
-        let loaded = parent.spent.saturating_add(candidate.missing);
-        let spent = if outs.is_empty() {
-            loaded.saturating_add(1)
-        } else {
-            loaded
-        };
-        let left = self.most.saturating_sub(spent);
-        spent > self.most || ahead.is_above_beside(&parent.state, candidate.operands, left)
+    fn is_far_off(&self, from: &Origin, ahead: &Ahead, candidate: &Candidate, outs: Set) -> bool {
+        let loaded = from.spent.saturating_add(candidate.missing);
+        let spent = loaded.saturating_add(outs.is_empty() as u32);
+        let [a, b, c] = candidate.operands;
+        let operands = a.nodes().or(b.nodes()).or(c.nodes());
+        let held = from.state.cells.nodes().or(operands);
+        self.is_too_far(ahead, from.state.unwritten, held, spent)
     }
 
     /// Tries the line-ups of a node that lack least, until so many states have been tried.
     fn try_job(
         &mut self,
         task: &Task,
-        parent: &Entry,
-        at: usize,
+        memory: &mut Memory,
+        from: &Origin,
         candidate: &Candidate,
         most: usize,
     ) -> Result<(), NoMemory> {
-        let mut made = parent.state;
-        made.unmade = made.unmade.without(candidate.node);
-        if self.tried >= most {
+        let s = &from.state;
+        let unmade = s.unmade.without(candidate.node);
+        let ahead = memory.ahead_of(task, self.body, unmade);
+        let outs = task.outs_of(candidate.sensed).and(s.unwritten);
+        if self.is_far_off(from, &ahead, candidate, outs) {
             return Ok(());
         }
-        let ahead = self.ahead_of(task, &made);
-        let outs = task.outs_of(candidate.sensed).and(parent.state.unwritten);
-        if self.is_far_off(parent, &ahead, candidate, outs) {
-            return Ok(());
-        }
-        let named = task.named_by(parent.state.unwritten);
+        let named = task.named_by(s.unwritten);
+        let wanted_after = ahead.read.or(named);
         let job = Job {
-            node: candidate.node,
             sensed: candidate.sensed,
             outs,
-            wanted: task.read_by(parent.state.unmade).or(named),
-            wanted_after: ahead.read.or(named),
+            rows: from.rows,
+            wanted: task.read_by(s.unmade).or(named),
+            wanted_after,
+            endangered: wanted_after
+                .minus(from.rows.any)
+                .minus(task.nodes_of(unmade)),
         };
+        memory.start_job();
+        let [a, b, c] = candidate.operands;
+        let cells = [
+            holders(&s.cells, a).straight(),
+            holders(&s.cells, b).straight(),
+            holders(&s.cells, c).straight(),
+        ];
         for number in 0..24u8 {
-            let line_up = LineUp::new(number, &job, candidate.operands);
-            let missing = lacking(&line_up.want, &parent.state.cells).len();
-            if missing == candidate.missing && self.tried < most {
-                self.try_line_up(task, parent, at, &ahead, &line_up)?;
+            if missing_in(number, cells) == candidate.missing && memory.tried < most {
+                let line_up = LineUp::new(number, candidate.operands);
+                self.try_line_up(task, memory, from, &ahead, &job, &line_up)?;
             }
         }
         Ok(())
@@ -403,110 +504,190 @@ impl Beam {
     fn try_jobs(
         &mut self,
         task: &Task,
-        parent: &Entry,
-        at: usize,
-        candidates: &[Candidate],
+        memory: &mut Memory,
+        from: &Origin,
+        candidates: &Candidates,
         missing: u32,
         most: usize,
     ) -> Result<(), NoMemory> {
-        for candidate in candidates {
-            if candidate.missing == missing {
-                self.try_job(task, parent, at, candidate, most)?;
+        for (k, candidate) in candidates.list.iter().enumerate() {
+            if k < candidates.count && candidate.missing == missing && memory.tried < most {
+                self.try_job(task, memory, from, candidate, most)?;
             }
         }
         Ok(())
     }
 
-    /// Tries to write each output.
-    fn try_writes(&mut self, task: &Task, parent: &Entry, at: usize) -> Result<(), NoMemory> {
-        self.ways.ends.clear();
-        for j in 0..8u8 {
-            writes(task, &parent.state, j, &mut self.ways.ends)?;
+    /// Tries to write an output whose complement stands somewhere, through a dual-contact cell.
+    fn try_complemented(
+        &mut self,
+        task: &Task,
+        memory: &mut Memory,
+        from: &Origin,
+        ahead: &Ahead,
+        j: u8,
+    ) -> Result<(), NoMemory> {
+        let s = &from.state;
+        let l = task.output(j).complement();
+        let Some(row) = task.source(&from.rows, &s.cells, l) else {
+            return Ok(());
+        };
+        let spent = from.spent.saturating_add(2);
+        let trial = Trial::new(task, ahead, s.spilled, s.unwritten.without(j), spent);
+        for (y, cell) in [(5, 4), (7, 6), (8, 4), (9, 6)] {
+            let cells = driven(&s.cells, y, l);
+            let cmds = Commands::new().then(Aap(row, B(y)));
+            let cmd = Aap(B(cell), Out(j));
+            self.consider(task, memory, from, ahead, &trial, cells, (&cmds, cmd))?;
         }
-        let ahead = self.ahead_of(task, &parent.state);
-        self.consider_ends(task, parent, at, &ahead)
+        Ok(())
+    }
+
+    /// Tries to write one output.
+    fn try_write(
+        &mut self,
+        task: &Task,
+        memory: &mut Memory,
+        from: &Origin,
+        ahead: &Ahead,
+        j: u8,
+    ) -> Result<(), NoMemory> {
+        let s = &from.state;
+        let l = task.output(j);
+        if task.nodes_of(s.unmade).has(l.node()) {
+            return Ok(());
+        }
+        let Some(row) = task.source(&from.rows, &s.cells, l) else {
+            return self.try_complemented(task, memory, from, ahead, j);
+        };
+        let spent = from.spent.saturating_add(1);
+        let trial = Trial::new(task, ahead, s.spilled, s.unwritten.without(j), spent);
+        let cmds = Commands::new();
+        let cmd = Aap(row, Out(j));
+        self.consider(task, memory, from, ahead, &trial, s.cells, (&cmds, cmd))
+    }
+
+    /// Tries to write each output.
+    fn try_writes(
+        &mut self,
+        task: &Task,
+        memory: &mut Memory,
+        from: &Origin,
+    ) -> Result<(), NoMemory> {
+        let ahead = memory.ahead_of(task, self.body, from.state.unmade);
+        for j in 0..8u8 {
+            if from.state.unwritten.has(j) {
+                self.try_write(task, memory, from, &ahead, j)?;
+            }
+        }
+        Ok(())
     }
 
     /// Tries the steps from one state, of the nodes with the most operands in place first.
     fn go_on(
         &mut self,
         task: &Task,
-        parent: &Entry,
-        share: usize,
-        alloc: Global,
+        memory: &mut Memory,
+        entry: &Entry,
+        scope: Scope,
     ) -> Result<(), NoMemory> {
-        let at = self.done.len();
-        keep(&mut self.done, *parent)?;
-        self.try_writes(task, parent, at)?;
-        let candidates = candidates(task, &parent.state, alloc)?;
-        let most = self.tried.saturating_add(usize::max(share, 1));
+        let s = entry.state;
+        let from = Origin {
+            state: s,
+            spent: entry.spent,
+            at: self.done.len(),
+            rows: task.rows(s.spilled, s.unwritten),
+            width: scope.width,
+        };
+        keep(&mut self.done, *entry)?;
+        self.try_writes(task, memory, &from)?;
+        let candidates = Candidates::of(task, &s);
+        let most = memory.tried.saturating_add(scope.share);
         for missing in 0..4u32 {
-            self.try_jobs(task, parent, at, &candidates, missing, most)?;
+            self.try_jobs(task, memory, &from, &candidates, missing, most)?;
         }
         Ok(())
     }
 
-    /// One step from each state that stands, within its share of the states that may be tried.
-    fn step(&mut self, task: &Task, left: usize, alloc: Global) -> Result<(), NoMemory> {
+    /// One step from each state that stands.
+    pub fn step(
+        &mut self,
+        task: &Task,
+        memory: &mut Memory,
+        scope: Scope,
+        alloc: Global,
+    ) -> Result<(), NoMemory> {
         let now = mem::replace(&mut self.now, Bucket::new(alloc));
-        let states = self.breadth.most_states.saturating_sub(self.tried) / usize::max(left, 1);
-        self.width = usize::min(states / FEW_STATES, self.breadth.width);
-        let share = states / usize::max(now.kept.len(), 1);
-        self.step = self.step.saturating_add(1);
+        memory.start_step();
         for entry in &now.kept {
-            self.go_on(task, entry, share, alloc)?;
+            self.go_on(task, memory, entry, scope)?;
         }
         if let Some(entry) = now.only_safe(task) {
-            self.go_on(task, &entry, share, alloc)?;
+            self.go_on(task, memory, &entry, scope)?;
         }
         self.now = mem::replace(&mut self.next, Bucket::new(alloc));
         self.next = mem::replace(&mut self.after, Bucket::new(alloc));
+        self.steps = self.steps.saturating_sub(1);
         Ok(())
     }
 
-    /// Whether no state may come to so many commands or fewer.
-    fn is_over(&self) -> bool {
-        match self.now.best() {
-            Some(best) => best.is_over(self.most as usize),
-            None => self.next.best().is_none(),
+    /// A step of a beam of this breadth, which had tried so many states at its start.
+    fn step_within(
+        &mut self,
+        task: &Task,
+        memory: &mut Memory,
+        (breadth, start): (Breadth, usize),
+        alloc: Global,
+    ) -> Result<(), NoMemory> {
+        let tried = memory.tried.saturating_sub(start);
+        let left = breadth.most_states.saturating_sub(tried);
+        let states = left / usize::max(self.steps as usize, 1);
+        let scope = Scope {
+            width: usize::min(states / FEW_STATES, breadth.width),
+            share: usize::max(states / usize::max(self.now.kept.len(), 1), 1),
+        };
+        self.step(task, memory, scope, alloc)
+    }
+
+    /// The commands that fill the cells at exit of an entry, if they are fewer in all than `few`.
+    fn last_of(&mut self, task: &Task, entry: &Entry, few: usize) -> Option<Last> {
+        let cmds = fill_left(task, &entry.state)?;
+        let spent = entry.spent.saturating_add(cmds.len()) as usize;
+        if spent < few {
+            Some(Last {
+                entry: *entry,
+                cmds,
+                spent,
+            })
+        } else {
+            None
         }
     }
 
-    /// The entry after the cells at exit are filled, if they can be.
-    fn filled(&mut self, task: &Task, entry: &Entry) -> Result<Option<Entry>, NoMemory> {
-        let at = self.done.len();
-        keep(&mut self.done, *entry)?;
-        let Some(way) = fill_left(task, &entry.state) else {
-            return Ok(None);
-        };
-        let spent = entry.spent.saturating_add(way.cmds.len());
-        Ok(Some(Entry {
-            state: way.state,
-            spent,
-            rank: spent,
-            from: Some(at),
-            cmds: way.cmds,
-        }))
-    }
-
-    /// The entry of the fewest commands, with the cells at exit filled.
-    fn last(&mut self, task: &Task, alloc: Global) -> Result<Option<Entry>, NoMemory> {
+    /// The fewest commands that a beam has come to the end with.
+    fn last(&mut self, task: &Task, alloc: Global) -> Option<Last> {
         let now = mem::replace(&mut self.now, Bucket::new(alloc));
         let mut best = match now.safe {
-            Some(entry) => self.filled(task, &entry)?,
+            Some(entry) => self.last_of(task, &entry, usize::MAX),
             None => None,
         };
         for entry in &now.kept {
-            let filled = self.filled(task, entry)?;
-            best = fewer_of(best, filled);
+            let few = match best {
+                Some(last) => last.spent,
+                None => usize::MAX,
+            };
+            if let Some(last) = self.last_of(task, entry, few) {
+                best = Some(last);
+            }
         }
-        Ok(best)
+        best
     }
 
-    /// The commands that led to an entry, the last one first.
-    fn commands_back(&self, last: &Entry, alloc: Global) -> Result<Vec<BodyCmd>, NoMemory> {
+    /// The commands that led to the end, the last one first.
+    fn commands_back(&self, last: &Last, alloc: Global) -> Result<Vec<BodyCmd>, NoMemory> {
         let mut cmds = Vec::new(alloc);
-        let mut entry = *last;
+        push_back(&mut cmds, &last.cmds)?;
+        let mut entry = last.entry;
         for _step in 0..64u8 {
             push_back(&mut cmds, &entry.cmds)?;
             match entry.from {
@@ -516,15 +697,30 @@ impl Beam {
         }
         Ok(cmds)
     }
+
+    /// The fewest commands, with the cells at exit filled.
+    pub fn commands(
+        &mut self,
+        task: &Task,
+        alloc: Global,
+    ) -> Result<Option<Vec<BodyCmd>>, NoMemory> {
+        let Some(last) = self.last(task, alloc) else {
+            return Ok(None);
+        };
+        let back = self.commands_back(&last, alloc)?;
+        let mut cmds = without_copies(&back, task.leave.known(), alloc)?;
+        cmds.reverse();
+        Ok(Some(cmds))
+    }
 }
 
-/// The second, where it took fewer commands, or there is no first.
-fn fewer_of(first: Option<Entry>, second: Option<Entry>) -> Option<Entry> {
-    match (first, second) {
-        (Some(first), Some(second)) if first.spent <= second.spent => Some(first),
-        (first, None) => first,
-        (_, second) => second,
-    }
+/// An entry that has come to the end, the commands that fill its cells at exit, and how many
+/// commands that takes in all.
+#[derive(Clone, Copy)]
+struct Last {
+    entry: Entry,
+    cmds: Commands,
+    spent: usize,
 }
 
 /// The commands, the last one first.
@@ -537,8 +733,28 @@ fn push_back(cmds: &mut Vec<BodyCmd>, step: &Commands) -> Result<(), NoMemory> {
     Ok(())
 }
 
+/// Commands for a task, or none where the search finds none. It ends early where so many commands
+/// or fewer are not to be hoped for.
+pub fn commands_of(
+    task: &Task,
+    memory: &mut Memory,
+    breadth: Breadth,
+    most: usize,
+    alloc: Global,
+) -> Result<Option<Vec<BodyCmd>>, NoMemory> {
+    let mut beam = Beam::new(task, memory, most, alloc)?;
+    let start = memory.tried;
+    for _ in 0..beam.steps {
+        if beam.is_over() {
+            return Ok(None);
+        }
+        beam.step_within(task, memory, (breadth, start), alloc)?;
+    }
+    beam.commands(task, alloc)
+}
+
 /// Commands for the body that finds and leaves these values in cells, or none where the search
-/// finds none. It ends early where so many commands or fewer are not to be hoped for.
+/// finds none.
 pub fn beam_body(
     m: &Mig,
     outs: &[OutRow],
@@ -548,22 +764,12 @@ pub fn beam_body(
     most: usize,
     alloc: Global,
 ) -> Result<Vec<BodyCmd>, NoMemory> {
-    let task = Task::new(m, outs, enter, leave, alloc)?;
-    let mut beam = Beam::new(&task, breadth, most, alloc)?;
-    let steps = task.start().left();
-    for done in 0..steps {
-        if beam.is_over() {
-            return Ok(Vec::new(alloc));
-        }
-        beam.step(&task, (steps - done) as usize, alloc)?;
-    }
-    match beam.last(&task, alloc)? {
-        Some(last) => {
-            let back = beam.commands_back(&last, alloc)?;
-            let mut cmds = without_copies(&back, task.leave().known(), alloc)?;
-            cmds.reverse();
-            Ok(cmds)
-        }
+    let Some(task) = Task::new(m, outs, enter, leave) else {
+        return Ok(Vec::new(alloc));
+    };
+    let mut memory = Memory::new(alloc)?;
+    match commands_of(&task, &mut memory, breadth, most, alloc)? {
+        Some(cmds) => Ok(cmds),
         None => Ok(Vec::new(alloc)),
     }
 }

@@ -69,11 +69,17 @@ struct View {
 pub struct Bucket {
     pub kept: Vec<Entry>,
     pub safe: Option<Entry>,
+    /// The greatest estimate of the best ones where there are enough, and else no limit.
+    worst: u32,
 }
 
 impl Drop for Bucket {
     fn drop(self) {
-        let Bucket { kept: _, safe: _ } = self;
+        let Bucket {
+            kept: _,
+            safe: _,
+            worst: _,
+        } = self;
     }
 }
 
@@ -82,30 +88,56 @@ impl Bucket {
         Bucket {
             kept: Vec::new(alloc),
             safe: None,
+            worst: u32::MAX,
         }
     }
 
-    /// Keeps the entry beside the best ones, where it is one that every node can be made from.
-    fn offer_safe(&mut self, task: &Task, new: Entry) {
+    pub fn is_empty(&self) -> bool {
+        self.kept.is_empty() && self.safe.is_none()
+    }
+
+    /// Keeps an entry beside the best ones, from which every node can be made.
+    fn offer_safe(&mut self, new: Entry) {
         let is_better = match &self.safe {
             Some(old) => new.rank < old.rank,
             None => true,
         };
-        if is_better && task.is_safe(&new.state) {
+        if is_better {
             self.safe = Some(new);
         }
     }
 
-    /// Keeps the entry beside the best ones, where its state is one of theirs.
-    pub fn offer_again(&mut self, task: &Task, new: Entry) {
-        for k in 0..self.kept.len() {
-            if k < self.kept.len() && self.kept[k].state == new.state {
-                let more = new.spent.saturating_sub(self.kept[k].spent);
-                let mut again = new;
-                again.rank = self.kept[k].rank.saturating_add(more.saturating_mul(20));
-                self.offer_safe(task, again);
-            }
+    /// The entry of the fewest commands.
+    pub fn best(&self) -> Option<Entry> {
+        let mut best = None;
+        for entry in &self.kept {
+            best = Some(sooner(best, *entry));
         }
+        match self.safe {
+            Some(entry) => Some(sooner(best, entry)),
+            None => best,
+        }
+    }
+
+    /// The least estimate.
+    pub fn least_rank(&self) -> u32 {
+        let mut least = match &self.safe {
+            Some(entry) => entry.rank,
+            None => u32::MAX,
+        };
+        for entry in &self.kept {
+            least = u32::min(least, entry.rank);
+        }
+        least
+    }
+
+    /// The greatest estimate of the best ones.
+    fn greatest_rank(&self) -> u32 {
+        let mut greatest = 0;
+        for entry in &self.kept {
+            greatest = u32::max(greatest, entry.rank);
+        }
+        greatest
     }
 
     /// The safe entry, where no other is safe.
@@ -116,18 +148,6 @@ impl Bucket {
             }
         }
         self.safe
-    }
-
-    /// The entry of the fewest commands.
-    pub fn best(&self) -> Option<Entry> {
-        let mut best = self.safe;
-        for entry in &self.kept {
-            match best {
-                Some(old) if old.spent <= entry.spent => {}
-                _ => best = Some(*entry),
-            }
-        }
-        best
     }
 
     /// Drops the entries that the new one covers.
@@ -172,9 +192,36 @@ impl Bucket {
         view
     }
 
-    /// Keeps the entry, where it is among the best. Of those with the same nodes to make and the
-    /// same outputs to write at most half the width stay.
-    pub fn offer(&mut self, task: &Task, new: Entry, width: usize) -> Result<(), NoMemory> {
+    /// Where the new entry is to stand: after all others, where there is room, or in the place of
+    /// the worst. Of those with the same nodes to make and the same outputs to write at most half
+    /// the width stay.
+    fn place_of(&self, view: &View, width: usize) -> usize {
+        if view.akin >= usize::max(width / 2, 1) {
+            view.worst_akin.place
+        } else if self.kept.len() < usize::max(width, 1) {
+            self.kept.len()
+        } else {
+            view.worst.place
+        }
+    }
+
+    /// Puts the entry among the best ones, unless it is worse than the one in its place. Returns
+    /// the one of both that is left over.
+    fn put(&mut self, new: Entry, place: usize) -> Result<Option<Entry>, NoMemory> {
+        if place >= self.kept.len() {
+            keep(&mut self.kept, new)?;
+            return Ok(None);
+        }
+        let old = self.kept[place];
+        if new.rank < old.rank {
+            self.kept[place] = new;
+            return Ok(Some(old));
+        }
+        Ok(Some(new))
+    }
+
+    /// Keeps the entry, where it is among the best.
+    fn offer_best(&mut self, task: &Task, new: Entry, width: usize) -> Result<(), NoMemory> {
         let mut view = self.view(&new);
         if view.is_covered {
             return Ok(());
@@ -183,23 +230,48 @@ impl Bucket {
             self.drop_covered(&new);
             view = self.view(&new);
         }
-        let place = if view.akin >= usize::max(width / 2, 1) {
-            view.worst_akin.place
-        } else if self.kept.len() < usize::max(width, 1) {
-            self.kept.len()
-        } else {
-            view.worst.place
-        };
-        if place >= self.kept.len() {
-            return keep(&mut self.kept, new);
+        let left = self.put(new, self.place_of(&view, width))?;
+        if let Some(entry) = left
+            && task.is_safe(&entry.state)
+        {
+            self.offer_safe(entry);
         }
-        if new.rank < self.kept[place].rank {
-            let old = self.kept[place];
-            self.kept[place] = new;
-            self.offer_safe(task, old);
+        self.worst = if self.kept.len() >= width {
+            self.greatest_rank()
         } else {
-            self.offer_safe(task, new);
+            u32::MAX
+        };
+        Ok(())
+    }
+
+    /// Whether an entry of this estimate can be kept.
+    #[inline(always)]
+    pub fn takes(&self, rank: u32, is_safe: bool) -> bool {
+        rank <= self.worst || is_safe
+    }
+
+    /// Keeps the entry, where it is among the best or a safe one.
+    pub fn offer(
+        &mut self,
+        task: &Task,
+        new: Entry,
+        is_safe: bool,
+        width: usize,
+    ) -> Result<(), NoMemory> {
+        if new.rank <= self.worst {
+            return self.offer_best(task, new, width);
+        }
+        if is_safe {
+            self.offer_safe(new);
         }
         Ok(())
+    }
+}
+
+/// The first, if there is one and it took no more commands, or else the second.
+fn sooner(first: Option<Entry>, second: Entry) -> Entry {
+    match first {
+        Some(first) if first.spent <= second.spent => first,
+        _ => second,
     }
 }

@@ -2,7 +2,7 @@
 
 ghost use Rattle.std.specs.Prelude.{◌<◌};
 
-use crate::set::Set;
+use crate::set::{Nodes, Set};
 use mig_graph::{Lit, NoMemory};
 use std::alloc::Global;
 
@@ -15,9 +15,9 @@ pub struct Short(u8);
 pub const NONE: Short = Short(255);
 
 impl Short {
-    /// The literal of a node, or none where its number is no body's.
+    /// The literal of a node, or none where its number is above those that a search knows.
     pub fn new(node: u32, inverted: bool) -> Short {
-        if node < 127 {
+        if node < 64 {
             Short(node as u8 * 2 + inverted as u8)
         } else {
             NONE
@@ -29,19 +29,41 @@ impl Short {
     }
 
     /// The number of the literal's node.
+    #[inline(always)]
     pub fn node(self) -> u8 {
         self.0 / 2
     }
 
+    #[inline(always)]
     pub fn is_inverted(self) -> bool {
         self.0 % 2 == 1
     }
 
+    #[inline(always)]
     pub fn is_some(self) -> bool {
-        self.0 < 254
+        self.0 < 128
+    }
+
+    /// A number below 128, another one for each literal.
+    #[inline(always)]
+    pub fn place(self) -> usize
+        ensures { result < 128 }
+    {
+        self.0 as usize % 128
+    }
+
+    /// The set of the literal's node alone, or no node.
+    #[inline(always)]
+    pub fn nodes(self) -> Nodes {
+        if self.is_some() {
+            Nodes(0).with(self.node())
+        } else {
+            Nodes(0)
+        }
     }
 
     /// The literal of the other value.
+    #[inline(always)]
     pub fn complement(self) -> Short {
         Short(self.0 ^ 1)
     }
@@ -58,16 +80,19 @@ const LOW: u64 = 0x0101010101010101;
 const HIGH: u64 = 0x8080808080808080;
 
 /// The highest bit of each byte that is not 0.
+#[inline(always)]
 fn not_zero(bytes: u64) -> u64 {
     ((bytes & !HIGH).wrapping_add(!HIGH) | bytes) & HIGH
 }
 
 /// Bit k is the highest bit of byte k.
+#[inline(always)]
 fn gathered(high: u64) -> u32 {
     (((high & HIGH) >> 7).wrapping_mul(0x0102040810204080) >> 56) as u32
 }
 
 /// Byte k is 255 where bit k is set, of six, else 0.
+#[inline(always)]
 fn spread(bits: u32) -> u64 {
     let low = u64::from(bits & 0x3F).wrapping_mul(0x0002040810204081) & LOW;
     low.wrapping_mul(0xFF)
@@ -85,12 +110,20 @@ impl Cells {
     }
 
     /// A number that hangs on what the cells hold and on another number.
+    #[inline(always)]
     pub fn hash(self, other: u64) -> u64 {
-        let x = self.0.wrapping_mul(0x9E3779B97F4A7C15) ^ other;
+        let x = self.mixed(other);
         (x ^ x >> 32).wrapping_mul(0xBF58476D1CE4E5B9)
     }
 
+    /// One whose highest bits do.
+    #[inline(always)]
+    pub fn mixed(self, other: u64) -> u64 {
+        self.0.wrapping_mul(0x9E3779B97F4A7C15) ^ other
+    }
+
     /// What the cell of this number holds.
+    #[inline(always)]
     pub fn get(self, k: u8) -> Short {
         if k < 8 {
             Short((self.0 >> (k * 8) & 0xFF) as u8)
@@ -100,19 +133,52 @@ impl Cells {
     }
 
     /// The cells of a set hold the literal.
+    #[inline(always)]
     pub fn with(self, set: Set, l: Short) -> Cells {
         let mask = spread(set.0);
         Cells(self.0 & !mask | u64::from(l.0).wrapping_mul(LOW) & mask)
     }
 
-    /// The cells that hold other literals than these.
-    pub fn unlike(self, other: Cells) -> Set {
-        Set(gathered(not_zero(self.0 ^ other.0)) & 0x3F)
+    /// The cells of which something is known.
+    #[inline(always)]
+    pub fn known(self) -> Set {
+        Set(gathered(not_zero(!self.0)) & 0x3F)
     }
 
-    /// The cells of which something is known.
-    pub fn known(self) -> Set {
-        Set(gathered(not_zero(!self.0)))
+    /// The nodes that stand in cells.
+    #[inline(always)]
+    pub fn nodes(self) -> Nodes {
+        let low = self.get(0).nodes().or(self.get(1).nodes());
+        let middle = self.get(2).nodes().or(self.get(3).nodes());
+        let high = self.get(4).nodes().or(self.get(5).nodes());
+        low.or(middle).or(high)
+    }
+
+    /// The cells that hold none of these nodes.
+    #[inline(always)]
+    pub fn free(self, wanted: Nodes) -> Set {
+        let mut bits = 0u32;
+        for k in 0..6u8 {
+            if !wanted.meets(self.get(k).nodes()) {
+                bits |= 1 << k;
+            }
+        }
+        Set(bits)
+    }
+
+    /// The cells with these nodes alone, and which of them stand there: equal states are one so.
+    #[inline(always)]
+    pub fn cleared(self, wanted: Nodes) -> (Cells, Nodes) {
+        let mut free = 0u32;
+        let mut held = Nodes(0);
+        for k in 0..6u8 {
+            let node = self.get(k).nodes().and(wanted);
+            held = held.or(node);
+            if node.is_empty() {
+                free |= 1 << k;
+            }
+        }
+        (self.with(Set(free), NONE), held)
     }
 }
 
@@ -140,6 +206,7 @@ static RAISED: [u32; 16] = [
     0b10_1001,
 ];
 
+#[inline(always)]
 fn lines_of(y: u8) -> Lines {
     match RAISED.get(y as usize) {
         Some(lines) => Lines(*lines),
@@ -148,10 +215,12 @@ fn lines_of(y: u8) -> Lines {
 }
 
 impl Lines {
+    #[inline(always)]
     pub fn straight(self) -> Set {
         Set(self.0 & 0xFF)
     }
 
+    #[inline(always)]
     pub fn complemented(self) -> Set {
         Set(self.0 >> 8)
     }
@@ -164,18 +233,14 @@ pub fn raised(y: u8) -> Set {
 }
 
 /// The cells that hold the literal, and those that hold its complement.
+#[inline(always)]
 pub fn holders(cells: &Cells, l: Short) -> Lines {
     let others = cells.0 ^ u64::from(l.0).wrapping_mul(LOW);
     Lines(gathered(!not_zero(others)) | gathered(!not_zero(others ^ LOW)) << 8)
 }
 
-/// Whether a cell holds the node or its complement.
-pub fn has_node(cells: &Cells, node: u8) -> bool {
-    let nodes = cells.0 & !LOW ^ u64::from(node).wrapping_mul(2 * LOW);
-    not_zero(nodes) != HIGH
-}
-
 /// The cells after an address takes a literal.
+#[inline(always)]
 pub fn driven(cells: &Cells, y: u8, l: Short) -> Cells {
     let lines = lines_of(y);
     let straight = cells.with(lines.straight(), l);
@@ -183,6 +248,7 @@ pub fn driven(cells: &Cells, y: u8, l: Short) -> Cells {
 }
 
 /// The cells that do not hold what is wanted of them.
+#[inline(always)]
 pub fn lacking(want: &Cells, cells: &Cells) -> Set {
     Set(gathered(not_zero(want.0 ^ cells.0) & not_zero(!want.0)))
 }
@@ -200,15 +266,20 @@ pub fn address_of(k: u8, inverted: bool) -> Option<u8> {
 }
 
 /// The address by which a cell gives the literal.
+#[inline(always)]
 pub fn reader(cells: &Cells, l: Short) -> Option<u8> {
     let found = holders(cells, l);
     let (straight, complemented) = (found.straight(), found.complemented());
-    for k in 0..6u8 {
-        if straight.has(k) {
-            return address_of(k, false);
-        }
-        if complemented.has(k) && k > 3 {
-            return address_of(k, true);
+    if straight.is_empty() && complemented.is_empty() {
+        return None;
+    }
+    if let Some(k) = straight.and(Set(0b1111)).first() {
+        return Some(k);
+    }
+    for (k, is_inverted) in [(4, false), (4, true), (5, false), (5, true)] {
+        let cells = if is_inverted { complemented } else { straight };
+        if cells.has(k) {
+            return address_of(k, is_inverted);
         }
     }
     None
@@ -270,20 +341,16 @@ impl Fill {
     }
 }
 
-/// How many cases of a fill are remembered.
-const MOST_FILLS: usize = 512;
+/// How many cases of a fill there are, by 14 bits: which wordlines give the literal, and which
+/// cells are free.
+const MOST_FILLS: usize = 16_384;
 
-/// The addresses that are worth a fill, and in which case: which wordlines give the literal, and
-/// which cells are free.
-#[derive(Clone, Copy)]
-struct Worth {
-    case: u16,
-    addresses: u16,
-}
+/// A case that was not asked for yet.
+const UNASKED: u32 = u32::MAX;
 
-/// The fills that were asked for, each at the place that its case gives.
+/// For each case the addresses that are worth a fill, once it was asked for.
 pub struct Fills {
-    worth: Vec<Worth>,
+    worth: Vec<u32>,
 }
 
 impl Drop for Fills {
@@ -294,32 +361,25 @@ impl Drop for Fills {
 
 impl Fills {
     pub fn new(alloc: Global) -> Result<Fills, NoMemory> {
-        // A case has 14 bits.
-        let none = Worth {
-            case: u16::MAX,
-            addresses: 0,
-        };
         Ok(Fills {
-            worth: vec![in alloc; none; MOST_FILLS]?,
+            worth: vec![in alloc; UNASKED; MOST_FILLS]?,
         })
     }
 
     /// The addresses that change a cell, where no other does the same and fills more free cells,
-    /// for a literal that stands there while these cells are free.
-    pub fn worth(&mut self, there: Lines, free: Set) -> Set {
+    /// for a literal that is put into cells while these are free.
+    #[inline(always)]
+    pub fn worth(&mut self, cells: &Cells, l: Short, free: Set) -> Set {
+        let there = holders(cells, l);
         let lines = there.0 & 0x3F | (there.0 >> 12 & 3) << 6;
-        let case = ((lines | free.0 << 8) & 0x3FFF) as u16;
-        let place = (u32::from(case).wrapping_mul(0x9E3779B1) >> 16) as usize % MOST_FILLS;
-        let Some(known) = self.worth.get_mut(place) else {
+        let case = (lines | free.0 << 8) as usize % MOST_FILLS;
+        let Some(known) = self.worth.get_mut(case) else {
             return Set(0);
         };
-        if known.case != case {
-            *known = Worth {
-                case,
-                addresses: (Fill::new(there, free).worth().0 & 0xFFFF) as u16,
-            };
+        if *known == UNASKED {
+            *known = Fill::new(there, free).worth().0;
         }
-        Set(u32::from(known.addresses))
+        Set(*known)
     }
 }
 

@@ -8,13 +8,15 @@ ghost use Rattle.row_alloc.specs.Found.{IsFound};
 
 use crate::beam::{BROAD, DEEP, NARROW, WIDE};
 use crate::body::{BodyCmd, OutRow};
-use crate::greedy::{greedy_body, quick_body};
+use crate::greedy::{given_body, greedy_body, quick_body};
 use mig_graph::{Mig, NoMemory};
 use std::alloc::Global;
 
 /// How far the search for a body's commands goes.
 #[derive(Clone, Copy)]
-pub enum Search {
+pub enum Search<'a> {
+    /// Not at all: these commands were found before.
+    Given(&'a [BodyCmd]),
     /// By the narrow beam alone, in little time.
     Narrow,
     /// By the wide beam alone.
@@ -116,6 +118,7 @@ fn search_body(
     ensures { IfOk result (λ cmds. IsFound m.now outs.now cmds.items) }
 {
     match search {
+        Search::Given(cmds) => given_body(m, outs, cmds, alloc),
         Search::Narrow => quick_body(m, outs, NARROW, most, alloc),
         Search::Wide => quick_body(m, outs, WIDE, most, alloc),
         Search::Deep => quick_body(m, outs, DEEP, most, alloc),

@@ -99,6 +99,28 @@ fn shorter_of(
     }
 }
 
+/// The given commands, where they are right and no more than these.
+fn right_of(
+    m: &Mig,
+    outs: &[OutRow],
+    plain: Vec<BodyCmd>,
+    cmds: &[BodyCmd],
+    alloc: Global,
+) -> Result<Vec<BodyCmd>, NoMemory>
+    requires fit { FitBody m.now outs.now }
+    requires does { DoesBody m.now outs.now plain.items }
+    requires late { WritesLate outs.now plain.items }
+    ensures does { IfOk result (λ cmds. DoesBody m.now outs.now cmds.items) }
+    ensures late { IfOk result (λ cmds. WritesLate outs.now cmds.items) }
+    ensures few { IfOk result (λ cmds. length cmds.items ≤ length plain.items) }
+{
+    if cmds.len() <= plain.len() && serves(m, outs, cmds) {
+        copied(cmds, alloc)
+    } else {
+        Ok(plain)
+    }
+}
+
 /// The commands of the beam that finds the fewest, where they are right and no more than these. The
 /// third is asked only where the others find none that are fewer.
 fn shorter(
@@ -121,6 +143,28 @@ fn shorter(
         return Ok(fewer);
     }
     shorter_of(m, outs, fewer, DEEP, usize::MAX, alloc)
+}
+
+/// These commands, where they are right and no more than those of the plain body, or else these,
+/// and a known sequence in the place of both.
+pub(crate) fn given_body(
+    m: &Mig,
+    outs: &[OutRow],
+    cmds: &[BodyCmd],
+    alloc: Global,
+) -> Result<Vec<BodyCmd>, NoMemory>
+    requires fit { FitBody m.now outs.now }
+    ensures does { IfOk result (λ cmds. DoesBody m.now outs.now cmds.items) }
+    ensures late { IfOk result (λ cmds. WritesLate outs.now cmds.items) }
+    ensures few { IfOk result (λ cmds. length cmds.items ≤ plain_length m.now outs.now) }
+    ensures least { IfOk result (λ cmds. (k : ℕ) → k < length known
+        → Serves m.now outs.now (known_at k) → length cmds.items ≤ length (known_at k)) }
+{
+    let plain = plain_body(m, outs, alloc)?;
+    match first_known(m, outs) {
+        Some(first) if first.len() <= plain.len() => copied(first, alloc),
+        _ => right_of(m, outs, plain, cmds, alloc),
+    }
 }
 
 /// The commands of the greedy body, or more, in less time: one beam alone looks for them, and for

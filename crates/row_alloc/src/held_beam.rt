@@ -40,6 +40,29 @@ fn found_of(
     }
 }
 
+/// These commands, where they are right and at most so many.
+fn given(
+    m: &Mig,
+    outs: &[OutRow],
+    enter: &[Held],
+    leave: &[Held],
+    cmds: &[BodyCmd],
+    most: usize,
+    alloc: Global,
+) -> Result<Option<Vec<BodyCmd>>, NoMemory>
+    requires fit { FitBody m.now outs.now }
+    requires enter { have_layouts enter.now ≡ true }
+    requires leave { have_layouts leave.now ≡ true }
+    ensures { IfOk result (λ o. IfSome o (λ cmds. IsFoundHeld m.now outs.now enter.now leave.now
+        most cmds.items)) }
+{
+    if cmds.len() <= most && serves(m, outs, enter, leave, cmds) {
+        Ok(Some(copied(cmds, alloc)?))
+    } else {
+        Ok(None)
+    }
+}
+
 /// The commands of the beam that finds the fewest, where they are right and at most so many.
 fn fewest(
     m: &Mig,
@@ -82,6 +105,7 @@ fn search_held(
         most cmds.items)) }
 {
     match search {
+        Search::Given(cmds) => given(m, outs, enter, leave, cmds, most, alloc),
         Search::Narrow => found_of(m, outs, enter, leave, NARROW, most, alloc),
         Search::Wide => found_of(m, outs, enter, leave, WIDE, most, alloc),
         Search::Deep => found_of(m, outs, enter, leave, DEEP, most, alloc),

@@ -5,6 +5,7 @@
 //! bitwise cells.
 #![tactic(auto)]
 
+mod ahead;
 mod beam;
 mod body;
 mod bucket;
@@ -21,15 +22,18 @@ pub mod known_held;
 mod laws;
 mod layout;
 mod legal;
+mod memory;
 mod moves;
 mod order;
 mod outlook;
 mod pieces;
 mod plain;
+mod race;
 mod sensing;
 mod set;
 mod table;
 
+pub use beam::{BROAD, Breadth, LAST};
 pub use body::{BodyCmd, BodyRef, Held, OutRow};
 pub use found::{Search, find_body};
 pub use greedy::greedy_body;
@@ -38,3 +42,4 @@ pub use held_beam::held_commands_of;
 pub use laws::{fixed_sequences, legal_bodies_are_legal_on_banks, rows_can_stand_apart};
 pub use mig_graph::NoMemory;
 pub use plain::plain_body;
+pub use race::{Counted, Course, Race, Ranking};

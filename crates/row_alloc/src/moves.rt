@@ -1,13 +1,10 @@
-//! The ways to make one node, or to write one output.
+//! The ways to make one node, and to fill the cells at exit.
 
 use crate::body::BodyCmd::{self, Aap, Ap};
-use crate::body::BodyRef::{B, Out, Spill};
-use crate::cells::{Cells, Fills, NONE, Short, address_of, driven, holders, lacking, raising};
-use crate::outlook::{State, Task, free_cells};
+use crate::body::BodyRef::{B, Spill};
+use crate::cells::{Cells, Fills, NONE, Short, address_of, driven, lacking, raising};
+use crate::outlook::{Rows, State, Task};
 use crate::set::{Nodes, Set};
-use faults::keep;
-use mig_graph::NoMemory;
-use std::alloc::Global;
 
 /// The most ways that are tried to bring the operands of a node in line.
 const MOST_WAYS: usize = 20;
@@ -51,96 +48,124 @@ impl Commands {
     }
 }
 
-/// Some commands, and the state that they lead to.
+/// Some commands by which the operands of a node are brought in line, or on the way to it: what the
+/// cells hold after them, and the nodes in spill rows.
 #[derive(Clone, Copy)]
 pub struct Way {
-    pub state: State,
+    pub cells: Cells,
+    pub spilled: Set,
     pub cmds: Commands,
     /// A value of the triple has been saved.
-    pub saved: bool,
+    saved: bool,
 }
 
 impl Way {
     /// No command yet.
-    pub fn from(state: State) -> Way {
+    pub fn from(s: &State) -> Way {
         Way {
-            state,
+            cells: s.cells,
+            spilled: s.spilled,
             cmds: Commands::new(),
             saved: false,
         }
     }
 
-    fn then(&self, state: State, cmd: BodyCmd) -> Way {
+    /// The way that goes on by a command, and the cells after it.
+    #[inline(always)]
+    fn then(&self, cells: Cells, cmd: BodyCmd) -> Way {
         Way {
-            state,
+            cells,
+            spilled: self.spilled,
             cmds: self.cmds.then(cmd),
             saved: self.saved,
         }
     }
-}
 
-/// Ways that were found, those of them that end a step, and which addresses were worth a fill.
-pub struct Ways {
-    pub list: Vec<Way>,
-    pub ends: Vec<Way>,
-    fills: Fills,
-}
-
-impl Drop for Ways {
-    fn drop(self) {
-        let Ways {
-            list: _,
-            ends: _,
-            fills: _,
-        } = self;
+    #[inline(always)]
+    fn leads_to(&self, other: &Way) -> bool {
+        self.cells == other.cells && self.spilled == other.spilled && self.saved == other.saved
     }
+}
+
+/// Ways that were found.
+#[derive(Clone, Copy)]
+pub struct Ways {
+    list: [Way; MOST_WAYS],
+    count: usize,
 }
 
 impl Ways {
-    pub fn new(alloc: Global) -> Result<Ways, NoMemory> {
-        Ok(Ways {
-            list: Vec::new(alloc),
-            ends: Vec::new(alloc),
-            fills: Fills::new(alloc)?,
-        })
-    }
-
-    /// The addresses that are worth it to put the literal into cells of a state.
-    fn worth(&mut self, s: &State, l: Short, free: Set) -> Set {
-        self.fills.worth(holders(&s.cells, l), free)
-    }
-
-    /// Puts a way after the others, where there is room and none has led to the same state.
-    fn add(&mut self, way: Way) -> Result<(), NoMemory> {
-        if self.list.len() >= MOST_WAYS {
-            return Ok(());
+    /// None from a state so far, but that without a command.
+    pub fn from(s: &State) -> Ways {
+        Ways {
+            list: [Way::from(s); MOST_WAYS],
+            count: 1,
         }
-        for other in self.list.iter() {
-            if other.state == way.state && other.saved == way.saved {
-                return Ok(());
+    }
+
+    pub fn count(&self) -> usize {
+        self.count
+    }
+
+    /// The way of this number.
+    #[inline(always)]
+    pub fn get(&self, k: usize) -> Option<Way> {
+        if k < self.count && k < MOST_WAYS {
+            Some(self.list[k])
+        } else {
+            None
+        }
+    }
+
+    /// Starts again from a state.
+    pub fn start(&mut self, s: &State) {
+        self.list[0] = Way::from(s);
+        self.count = 1;
+    }
+
+    /// Whether a way has led to the same cells and rows.
+    #[inline(always)]
+    fn has(&self, way: &Way) -> bool {
+        for (k, other) in self.list.iter().enumerate() {
+            if k >= self.count {
+                return false;
+            }
+            if other.leads_to(way) {
+                return true;
             }
         }
-        keep(&mut self.list, way)
+        false
+    }
+
+    /// Puts a way after the others, where there is room and none has led to the same.
+    #[inline(always)]
+    fn add(&mut self, way: Way) {
+        if self.count < MOST_WAYS && !self.has(&way) {
+            self.list[self.count] = way;
+            self.count += 1;
+        }
     }
 }
 
 /// A node to be made from a state: itself or its complement.
 #[derive(Clone, Copy)]
 pub struct Job {
-    pub node: u8,
     /// What the triple senses.
     pub sensed: Short,
     /// The outputs that are this and must still be written.
     pub outs: Set,
+    /// What rows hold before.
+    pub rows: Rows,
     /// The nodes that are wanted until it is made, and from then on.
     pub wanted: Nodes,
     pub wanted_after: Nodes,
+    /// Those of the latter that stand in no row and are made.
+    pub endangered: Nodes,
 }
 
 /// One way to line up a node: what the cells of a triple should hold.
 #[derive(Clone, Copy)]
 pub struct LineUp {
-    pub job: Job,
     pub triple: u8,
     pub want: Cells,
 }
@@ -155,8 +180,9 @@ fn placed(triple: u8, [a, b, c]: [Short; 3]) -> Cells {
     })
 }
 
-/// The six orders of three literals.
-fn ordered(order: u8, [a, b, c]: [Short; 3]) -> [Short; 3] {
+/// The six orders of three.
+#[inline(always)]
+fn ordered<T: Copy>(order: u8, [a, b, c]: [T; 3]) -> [T; 3] {
     match order {
         0 => [a, b, c],
         1 => [a, c, b],
@@ -167,50 +193,66 @@ fn ordered(order: u8, [a, b, c]: [Short; 3]) -> [Short; 3] {
     }
 }
 
+/// The cells of B12 to B15.
+const TRIPLES: [[u8; 3]; 4] = [[0, 1, 2], [1, 2, 3], [1, 2, 4], [0, 3, 5]];
+
+/// How many literals of the line-up of this number below 24 are not in place, where these cells
+/// hold each of the three.
+#[inline(always)]
+pub fn missing_in(number: u8, cells: [Set; 3]) -> u32 {
+    let [p, q, r] = TRIPLES[number as usize / 6 % 4];
+    let [a, b, c] = ordered(number % 6, cells);
+    !a.has(p) as u32 + !b.has(q) as u32 + !c.has(r) as u32
+}
+
 /// The complements of three literals.
 pub fn complemented([a, b, c]: [Short; 3]) -> [Short; 3] {
     [a.complement(), b.complement(), c.complement()]
 }
 
+impl Job {
+    /// How many states a way that has brought the operands in line leads to, with so many addresses
+    /// that are worth a fill.
+    pub fn end_count(&self, task: &Task, fills: Set) -> u32 {
+        let spills = task.spill_of(self.sensed).is_some() as u32;
+        let rows = self.outs.len().saturating_add(spills);
+        fills.len().saturating_add(rows).saturating_add(1)
+    }
+}
+
 impl LineUp {
     /// The line-up of this number below 24, for the node's literals or their complements.
-    pub fn new(number: u8, job: &Job, operands: [Short; 3]) -> LineUp {
+    #[inline(always)]
+    pub fn new(number: u8, operands: [Short; 3]) -> LineUp {
         let triple = 12 + number / 6 % 4;
-        let want = placed(triple, ordered(number % 6, operands));
         LineUp {
-            job: *job,
             triple,
-            want,
+            want: placed(triple, ordered(number % 6, operands)),
         }
     }
 
-    /// What a cell should hold.
-    fn wanted_of(&self, k: u8) -> Option<Short> {
-        let l = self.want.get(k);
-        if l.is_some() { Some(l) } else { None }
+    /// Whether the operands are in line.
+    #[inline(always)]
+    pub fn is_ready(&self, cells: &Cells) -> bool {
+        lacking(&self.want, cells).is_empty()
     }
 
-    /// The state after the triple is activated.
-    pub fn activated(&self, s: &State) -> State {
-        let mut after = *s;
-        after.cells = s.cells.with(self.want.known(), self.job.sensed);
-        after.unmade = s.unmade.without(self.job.node);
-        after
+    /// The cells after the triple is activated.
+    #[inline(always)]
+    pub fn activated(&self, cells: &Cells, job: &Job) -> Cells {
+        cells.with(self.want.known(), job.sensed)
     }
 
-    /// Whether the cells that lacked nothing still lack nothing, and the others can be loaded.
-    fn fits(&self, task: &Task, lacked: Set, s: &State) -> bool {
-        let lacks = lacking(&self.want, &s.cells);
-        if !lacks.minus(lacked).is_empty() {
-            return false;
-        }
+    /// Whether each of the cells that lack their literals can be loaded.
+    #[inline(always)]
+    fn can_load(&self, task: &Task, job: &Job, cells: &Cells, lacks: Set) -> bool {
         let mut left = lacks;
         for _ in 0..lacks.len() {
             if let Some(k) = left.first() {
                 left = left.without(k);
                 let l = self.want.get(k);
-                if task.source(s, l).is_none()
-                    && (k < 4 || task.source(s, l.complement()).is_none())
+                if task.source(&job.rows, cells, l).is_none()
+                    && (k < 4 || task.source(&job.rows, cells, l.complement()).is_none())
                 {
                     return false;
                 }
@@ -219,270 +261,168 @@ impl LineUp {
         true
     }
 
-    /// The ways that go on by a load of one cell.
+    /// The ways that go on by a load of one cell, straight or complemented.
+    #[inline(always)]
     fn load(
         &self,
         task: &Task,
+        job: &Job,
         way: &Way,
-        k: u8,
-        is_complemented: bool,
-        l: Short,
-        ways: &mut Ways,
-    ) -> Result<(), NoMemory> {
-        let Some(from) = task.source(&way.state, l) else {
-            return Ok(());
+        (k, turned): (u8, bool),
+        lacked: Set,
+        search: &mut Lines,
+    ) {
+        let wanted = self.want.get(k);
+        let l = if turned { wanted.complement() } else { wanted };
+        let Some(from) = task.source(&job.rows, &way.cells, l) else {
+            return;
         };
-        let lacked = lacking(&self.want, &way.state.cells);
-        let free = free_cells(&way.state.cells, self.job.wanted).or(lacked);
-        let worth = ways.worth(&way.state, l, free);
-        let addresses = worth.and(raising(k, is_complemented));
-        for y in 0..16u8 {
-            if addresses.has(y) {
-                let mut state = way.state;
-                state.cells = driven(&state.cells, y, l);
-                if self.fits(task, lacked, &state) {
-                    ways.add(way.then(state, Aap(from, B(y))))?;
+        let free = way.cells.free(job.wanted).or(lacked);
+        let worth = search.fills.worth(&way.cells, l, free);
+        let mut left = worth.and(raising(k, turned));
+        for _ in 0..left.len() {
+            if let Some(y) = left.first() {
+                left = left.without(y);
+                let cells = driven(&way.cells, y, l);
+                let lacks = lacking(&self.want, &cells);
+                if lacks.minus(lacked).is_empty() && self.can_load(task, job, &cells, lacks) {
+                    search.ways.add(way.then(cells, Aap(from, B(y))));
                 }
             }
         }
-        Ok(())
-    }
-
-    /// The ways that go on by a load of this cell.
-    fn loads(&self, task: &Task, way: &Way, k: u8, ways: &mut Ways) -> Result<(), NoMemory> {
-        let Some(l) = self.wanted_of(k) else {
-            return Ok(());
-        };
-        self.load(task, way, k, false, l, ways)?;
-        if k > 3 {
-            self.load(task, way, k, true, l.complement(), ways)?;
-        }
-        Ok(())
     }
 
     /// The cell that is loaded next: the first that lacks its literal. Where states stand in cells,
     /// a literal that no row has comes before the others, since their loads may take its cells.
-    fn next_to_load(&self, task: &Task, s: &State) -> Option<u8> {
-        let lacks = lacking(&self.want, &s.cells);
-        if !task.holds_states() {
-            return lacks.first();
-        }
-        for k in 0..6u8 {
-            if lacks.has(k) && !task.is_in_rows(s, self.want.get(k).node()) {
-                return Some(k);
+    #[inline(always)]
+    fn next_to_load(&self, task: &Task, job: &Job, lacks: Set) -> Option<u8> {
+        if task.holds_states() {
+            for k in 0..6u8 {
+                if lacks.has(k) && !job.rows.any.has(self.want.get(k).node()) {
+                    return Some(k);
+                }
             }
         }
         lacks.first()
     }
 
-    /// The ways that go on by a copy of one cell of the triple to cells outside of it.
-    fn save_in_cells(
-        &self,
-        way: &Way,
-        from: u8,
-        l: Short,
-        ways: &mut Ways,
-    ) -> Result<(), NoMemory> {
-        let free = free_cells(&way.state.cells, self.job.wanted);
-        let worth = ways.worth(&way.state, l, free);
-        for y in 0..16u8 {
-            if worth.has(y) {
-                let mut state = way.state;
-                state.cells = driven(&state.cells, y, l);
-                if lacking(&self.want, &state.cells).is_empty() {
-                    let mut next = way.then(state, Aap(B(from), B(y)));
+    /// The ways that go on by a copy of a value of the triple to cells outside of it.
+    fn save_in_cells(&self, job: &Job, way: &Way, from: u8, l: Short, search: &mut Lines) {
+        let free = way.cells.free(job.wanted);
+        let mut left = search.fills.worth(&way.cells, l, free);
+        for _ in 0..left.len() {
+            if let Some(y) = left.first() {
+                left = left.without(y);
+                let cells = driven(&way.cells, y, l);
+                if self.is_ready(&cells) {
+                    let mut next = way.then(cells, Aap(B(from), B(y)));
                     next.saved = true;
-                    ways.add(next)?;
+                    search.ways.add(next);
                 }
             }
         }
-        Ok(())
     }
 
     /// The same, and the way that spills the value.
-    fn save(
-        &self,
-        task: &Task,
-        way: &Way,
-        k: u8,
-        inverted: bool,
-        ways: &mut Ways,
-    ) -> Result<(), NoMemory> {
-        let (Some(l), Some(from)) = (self.wanted_of(k), address_of(k, inverted)) else {
-            return Ok(());
+    fn save(&self, task: &Task, job: &Job, way: &Way, k: u8, turned: bool, search: &mut Lines) {
+        let wanted = self.want.get(k);
+        let l = if turned { wanted.complement() } else { wanted };
+        let Some(from) = address_of(k, turned) else {
+            return;
         };
-        let l = if inverted { l.complement() } else { l };
-        self.save_in_cells(way, from, l, ways)?;
+        self.save_in_cells(job, way, from, l, search);
         if let Some(spill) = task.spill_of(l) {
-            let mut state = way.state;
-            state.spilled = state.spilled.with(spill);
-            let mut next = way.then(state, Aap(B(from), Spill(spill)));
+            let mut next = way.then(way.cells, Aap(B(from), Spill(spill)));
+            next.spilled = next.spilled.with(spill);
             next.saved = true;
-            ways.add(next)?;
+            search.ways.add(next);
         }
-        Ok(())
     }
 
     /// The ways that go on by saving a value of the triple that its activation would lose.
-    fn saves(&self, task: &Task, way: &Way, ways: &mut Ways) -> Result<(), NoMemory> {
-        let after = self.activated(&way.state);
+    #[inline(always)]
+    fn saves(&self, task: &Task, job: &Job, way: &Way, search: &mut Lines) {
+        let after = self.activated(&way.cells, job);
+        let lost = job.endangered.minus(after.nodes());
+        if lost.is_empty() {
+            return;
+        }
         for k in 0..6u8 {
             let l = self.want.get(k);
-            if l.is_some() && task.is_lost(&after, self.job.wanted_after, l.node()) {
-                self.save(task, way, k, false, ways)?;
-                self.save(task, way, k, true, ways)?;
+            if l.is_some() && lost.has(l.node()) {
+                self.save(task, job, way, k, false, search);
+                self.save(task, job, way, k, true, search);
             }
         }
-        Ok(())
     }
 
     /// The ways that go on by one command, where the triple is not yet ready.
-    fn go_on(&self, task: &Task, way: &Way, ways: &mut Ways) -> Result<(), NoMemory> {
-        match self.next_to_load(task, &way.state) {
-            Some(k) => self.loads(task, way, k, ways),
-            None if !way.saved => self.saves(task, way, ways),
-            None => Ok(()),
+    #[inline(always)]
+    fn go_on(&self, task: &Task, job: &Job, way: &Way, search: &mut Lines) {
+        let lacks = lacking(&self.want, &way.cells);
+        match self.next_to_load(task, job, lacks) {
+            Some(k) => {
+                self.load(task, job, way, (k, false), lacks, search);
+                if k > 3 {
+                    self.load(task, job, way, (k, true), lacks, search);
+                }
+            }
+            None if !way.saved => self.saves(task, job, way, search),
+            None => {}
         }
     }
 
-    /// The ways by which the operands are brought in line, and what leads to them.
-    pub fn ways(&self, task: &Task, s: &State, ways: &mut Ways) -> Result<(), NoMemory> {
-        ways.list.clear();
-        keep(&mut ways.list, Way::from(*s))?;
+    /// Finds the ways by which the operands are brought in line, and what leads to them.
+    pub fn find_ways(&self, task: &Task, job: &Job, s: &State, search: &mut Lines) {
+        search.ways.start(s);
         for k in 0..MOST_WAYS {
-            if k >= ways.list.len() {
-                break;
-            }
-            let way = ways.list[k];
-            self.go_on(task, &way, ways)?;
-        }
-        Ok(())
-    }
-
-    /// The addresses that are worth it for what is sensed.
-    fn worth_after(&self, after: &State, ways: &mut Ways) -> Set {
-        let free = free_cells(&after.cells, self.job.wanted_after);
-        ways.worth(after, self.job.sensed, free)
-    }
-
-    /// Whether the operands are in line.
-    pub fn is_ready(&self, s: &State) -> bool {
-        lacking(&self.want, &s.cells).is_empty()
-    }
-
-    /// How many ways make the node where its operands are in line, with this state after it.
-    pub fn end_count(&self, task: &Task, after: &State, ways: &mut Ways) -> u32 {
-        let worth = self.worth_after(after, ways);
-        let spills = task.spill_of(self.job.sensed).is_some() as u32;
-        let rows = self.job.outs.len().saturating_add(spills);
-        worth.len().saturating_add(rows).saturating_add(1)
-    }
-
-    /// The ways that end by the activation, alone or with an address that takes what is sensed.
-    fn end_in_cells(&self, way: &Way, after: &State, ways: &mut Ways) -> Result<(), NoMemory> {
-        keep(&mut ways.ends, way.then(*after, Ap(B(self.triple))))?;
-        let worth = self.worth_after(after, ways);
-        for y in 0..16u8 {
-            if worth.has(y) {
-                let mut state = *after;
-                state.cells = driven(&state.cells, y, self.job.sensed);
-                keep(&mut ways.ends, way.then(state, Aap(B(self.triple), B(y))))?;
+            if let Some(way) = search.ways.get(k) {
+                self.go_on(task, job, &way, search);
             }
         }
-        Ok(())
-    }
-
-    /// The ways that end by an activation that an output or the node's spill row takes.
-    fn end_in_rows(
-        &self,
-        task: &Task,
-        way: &Way,
-        after: &State,
-        ways: &mut Ways,
-    ) -> Result<(), NoMemory> {
-        if let Some(spill) = task.spill_of(self.job.sensed) {
-            let mut state = *after;
-            state.spilled = state.spilled.with(spill);
-            keep(
-                &mut ways.ends,
-                way.then(state, Aap(B(self.triple), Spill(spill))),
-            )?;
-        }
-        for j in 0..8u8 {
-            if self.job.outs.has(j) {
-                let mut state = *after;
-                state.unwritten = state.unwritten.without(j);
-                keep(&mut ways.ends, way.then(state, Aap(B(self.triple), Out(j))))?;
-            }
-        }
-        Ok(())
-    }
-
-    /// The ways that make the node where its operands are in line, with this state after it.
-    pub fn end(
-        &self,
-        task: &Task,
-        way: &Way,
-        after: &State,
-        ways: &mut Ways,
-    ) -> Result<(), NoMemory> {
-        self.end_in_cells(way, after, ways)?;
-        self.end_in_rows(task, way, after, ways)
     }
 }
 
-/// The ways that write an output whose complement stands somewhere, through a dual-contact cell.
-fn write_complemented(
-    task: &Task,
-    s: &State,
-    j: u8,
-    l: Short,
-    ends: &mut Vec<Way>,
-) -> Result<(), NoMemory> {
-    let Some(from) = task.source(s, l) else {
-        return Ok(());
-    };
-    for (y, cell) in [(5, 4), (7, 6), (8, 4), (9, 6)] {
-        let mut state = *s;
-        state.cells = driven(&state.cells, y, l);
-        let way = Way::from(*s).then(state, Aap(from, B(y)));
-        state.unwritten = state.unwritten.without(j);
-        keep(ends, way.then(state, Aap(B(cell), Out(j))))?;
-    }
-    Ok(())
+/// The ways of one line-up, and which addresses were worth a fill.
+pub struct Lines {
+    pub ways: Ways,
+    pub fills: Fills,
 }
 
-/// The ways that write one output.
-pub fn writes(task: &Task, s: &State, j: u8, ends: &mut Vec<Way>) -> Result<(), NoMemory> {
-    let Some(l) = task.output(j) else {
-        return Ok(());
-    };
-    if !s.unwritten.has(j) || task.is_unmade(s, l.node()) {
-        return Ok(());
+impl Drop for Lines {
+    fn drop(self) {
+        let Lines { ways: _, fills: _ } = self;
     }
-    let Some(from) = task.source(s, l) else {
-        return write_complemented(task, s, j, l.complement(), ends);
-    };
-    let mut state = *s;
-    state.unwritten = state.unwritten.without(j);
-    keep(ends, Way::from(*s).then(state, Aap(from, Out(j))))
 }
 
-/// The way that goes on by a load of one cell, and leaves the fewest of the cells at exit lacking.
-fn fill_by(task: &Task, way: &Way, k: u8, is_complemented: bool, l: Short) -> Option<Way> {
-    let from = task.source(&way.state, l)?;
-    let wanted = task.wanted(&way.state);
-    let addresses = raising(k, is_complemented);
+/// What the cells hold at exit, and the commands that fill them.
+#[derive(Clone, Copy)]
+struct Filling {
+    cells: Cells,
+    cmds: Commands,
+}
+
+/// What goes on by a load of one cell, straight or complemented, and leaves the fewest of the cells
+/// at exit lacking. It loses none of the nodes that are wanted and stand in no row.
+fn fill_by(task: &Task, s: &State, now: &Filling, (k, turned): (u8, bool)) -> Option<Filling> {
+    let rows = task.rows(s.spilled, s.unwritten);
+    let endangered = task.wanted(s).minus(rows.any);
+    let wanted = task.leave.get(k);
+    let l = if turned { wanted.complement() } else { wanted };
+    let from = task.source(&rows, &now.cells, l)?;
     let mut best = None;
-    let mut least = lacking(task.leave(), &way.state.cells).len();
+    let mut least = lacking(&task.leave, &now.cells).len();
+    let addresses = raising(k, turned);
     for y in 0..16u8 {
         if addresses.has(y) {
-            let mut state = way.state;
-            state.cells = driven(&state.cells, y, l);
-            let lacks = lacking(task.leave(), &state.cells).len();
-            if lacks < least && !task.loses(&way.state.cells, &state, wanted) {
+            let cells = driven(&now.cells, y, l);
+            let lacks = lacking(&task.leave, &cells).len();
+            if lacks < least && endangered.minus(cells.nodes()).is_empty() {
                 least = lacks;
-                best = Some(way.then(state, Aap(from, B(y))));
+                best = Some(Filling {
+                    cells,
+                    cmds: now.cmds.then(Aap(from, B(y))),
+                });
             }
         }
     }
@@ -490,24 +430,29 @@ fn fill_by(task: &Task, way: &Way, k: u8, is_complemented: bool, l: Short) -> Op
 }
 
 /// The same, of a cell straight or else complemented.
-fn fill_cell(task: &Task, way: &Way, k: u8) -> Option<Way> {
-    let l = task.leave().get(k);
-    let straight = fill_by(task, way, k, false, l);
-    if straight.is_none() && k > 3 {
-        fill_by(task, way, k, true, l.complement())
-    } else {
-        straight
+fn fill_cell(task: &Task, s: &State, now: &Filling, k: u8) -> Option<Filling> {
+    match fill_by(task, s, now, (k, false)) {
+        Some(filling) => Some(filling),
+        None if k > 3 => fill_by(task, s, now, (k, true)),
+        None => None,
     }
 }
 
-/// The way that fills the cells at exit.
-pub fn fill_left(task: &Task, s: &State) -> Option<Way> {
-    let mut way = Way::from(*s);
+/// The commands that fill the cells at exit.
+pub fn fill_left(task: &Task, s: &State) -> Option<Commands> {
+    let mut now = Filling {
+        cells: s.cells,
+        cmds: Commands::new(),
+    };
     for _cell in 0..6u8 {
-        match lacking(task.leave(), &way.state.cells).first() {
-            Some(k) => way = fill_cell(task, &way, k)?,
-            None => return Some(way),
+        match lacking(&task.leave, &now.cells).first() {
+            Some(k) => now = fill_cell(task, s, &now, k)?,
+            None => return Some(now.cmds),
         }
     }
-    None
+    if lacking(&task.leave, &now.cells).is_empty() {
+        Some(now.cmds)
+    } else {
+        None
+    }
 }

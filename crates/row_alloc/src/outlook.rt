@@ -1,15 +1,12 @@
-//! A body in the middle of its commands: what stands where, what is still to be made, and how many
-//! more commands that may take.
+//! A body in the middle of its commands: what stands where, and what is still to be made.
 
 use crate::body::BodyRef::{self, B, C, In, Out, Spill};
 use crate::body::{Held, OutRow};
-use crate::cells::{Cells, NONE, Short, has_node, holders, lacking, reader};
+use crate::cells::{Cells, NONE, Short, holders, lacking, reader};
 use crate::layout::{LAYOUT_COUNT, layout};
 use crate::set::{Nodes, Set};
 use dram_model::{Cell, Line};
-use faults::keep;
-use mig_graph::{Mig, NoMemory};
-use std::alloc::Global;
+use mig_graph::Mig;
 
 /// What the cells hold, the nodes in spill rows, the nodes that must still be made, and the outputs
 /// that must still be written.
@@ -25,17 +22,20 @@ pub struct State {
 
 impl State {
     /// How many steps are left: nodes to be made, and outputs to be written.
+    #[inline(always)]
     pub fn left(&self) -> u32 {
         self.unmade.len().saturating_add(self.unwritten.len())
     }
 
     /// Whether it holds all that the other one does, in the same cells and spill rows.
+    #[inline(always)]
     pub fn covers(&self, other: &State) -> bool {
         other.spilled.minus(self.spilled).is_empty()
             && lacking(&other.cells, &self.cells).is_empty()
     }
 
     /// A number of 16 bits that hangs on all of the state.
+    #[inline(always)]
     pub fn hash(&self) -> u16 {
         let sets = u64::from(self.spilled.0) << 32 | u64::from(self.unmade.0);
         let all = self.cells.hash(sets ^ u64::from(self.unwritten.0) << 24);
@@ -43,128 +43,45 @@ impl State {
     }
 }
 
-/// What reads a node: the majority nodes, the outputs that are it or its complement, and the
-/// outputs that stand in its row, where it is an input. A node may also stand in cells at entry,
-/// without a row, and be left in cells at exit.
+/// What rows hold in a state: the nodes that have a row of their own, those of which some row holds
+/// the value or its complement, and the outputs that are written.
 #[derive(Clone, Copy)]
-struct Uses {
-    readers: Set,
-    named: Set,
-    taken: Set,
-    is_held: bool,
-    is_left: bool,
+pub struct Rows {
+    own: Nodes,
+    pub any: Nodes,
+    written: Set,
 }
 
-const UNUSED: Uses = Uses {
-    readers: Set(0),
-    named: Set(0),
-    taken: Set(0),
-    is_held: false,
-    is_left: false,
-};
+/// The most nodes of a body that is searched for, the constant and its inputs among them.
+const MOST_SIZE: u32 = 64;
 
-/// A graph with its outputs, and what reads each node.
+/// A graph with its outputs, as sets: which nodes each node reads, and what reads it.
+#[derive(Clone, Copy)]
 pub struct Task {
-    inputs: u8,
-    nodes: Vec<[Short; 3]>,
-    outs: Vec<Short>,
-    uses: Vec<Uses>,
-    /// The inputs in whose rows outputs stand.
-    taken: Vec<u8>,
-    /// For each majority node the nodes that it reads.
-    reads: Vec<Nodes>,
-    /// For each majority node the inputs and constants that it reads from their rows.
-    loads: Vec<Nodes>,
+    /// The number of the first majority node.
+    pub first: u8,
+    nodes: [[Short; 3]; 32],
+    count: u8,
+    outs: [Short; 8],
+    written: Set,
+    /// For each node the majority nodes that read it.
+    readers: [Set; 64],
+    /// For each literal the outputs that are it.
+    outs_of: [Set; 128],
+    /// For each input the outputs that stand in its row, and the inputs that have such outputs.
+    taken: [Set; 64],
+    taking: Nodes,
+    /// For each majority node the nodes that it reads, and the constant and inputs among these that
+    /// it reads from their rows.
+    reads: [Nodes; 32],
+    loads: [Nodes; 32],
+    /// The inputs that stand in their rows at entry.
+    inputs: Nodes,
     /// The nodes that are left in cells at exit.
     left: Nodes,
-    /// What the cells hold at entry.
+    /// What the cells hold at entry, and what they are to hold at exit.
     enter: Cells,
-    /// What the cells are to hold at exit.
-    leave: Cells,
-}
-
-impl Drop for Task {
-    fn drop(self) {
-        let Task {
-            inputs: _,
-            nodes: _,
-            outs: _,
-            uses: _,
-            taken: _,
-            reads: _,
-            loads: _,
-            left: _,
-            enter: _,
-            leave: _,
-        } = self;
-    }
-}
-
-/// The three literals of each majority node.
-fn nodes_of(m: &Mig, alloc: Global) -> Result<Vec<[Short; 3]>, NoMemory> {
-    let mut nodes = Vec::new(alloc);
-    for k in u32::from(m.inputs()) + 1..m.size() {
-        let [a, b, c] = m.node(k);
-        keep(&mut nodes, [Short::of(a), Short::of(b), Short::of(c)])?;
-    }
-    Ok(nodes)
-}
-
-/// The literal of each output.
-fn literals_of(outs: &[OutRow], alloc: Global) -> Result<Vec<Short>, NoMemory> {
-    let mut literals = Vec::new(alloc);
-    for out in outs {
-        keep(&mut literals, Short::of(out.lit))?;
-    }
-    Ok(literals)
-}
-
-/// The inputs in whose rows outputs stand.
-fn taken_of(outs: &[OutRow], alloc: Global) -> Result<Vec<u8>, NoMemory> {
-    let mut taken = Vec::new(alloc);
-    for out in outs {
-        if let Some(k) = out.same {
-            keep(&mut taken, k)?;
-        }
-    }
-    Ok(taken)
-}
-
-/// The majority nodes that read a node.
-fn readers_of(nodes: &[[Short; 3]], node: u8) -> Set {
-    let mut set = Set(0);
-    for (k, [a, b, c]) in nodes.iter().enumerate() {
-        if k < 32 && (a.node() == node || b.node() == node || c.node() == node) {
-            set = set.with(k as u8);
-        }
-    }
-    set
-}
-
-/// The outputs that are the node or its complement.
-fn named_by(outs: &[Short], node: u8) -> Set {
-    let mut set = Set(0);
-    for (j, out) in outs.iter().enumerate() {
-        if j < 8 && out.node() == node {
-            set = set.with(j as u8);
-        }
-    }
-    set
-}
-
-/// The outputs that stand in the row of the node, where it is an input.
-fn taking(outs: &[OutRow], node: u8) -> Set {
-    let mut set = Set(0);
-    for (j, out) in outs.iter().enumerate() {
-        if j < 8
-            && let Some(k) = out.same
-            && k < 255
-            && k + 1 == node
-        {
-            set = set.with(j as u8);
-        }
-    }
-    set
+    pub leave: Cells,
 }
 
 /// The cells after a wordline takes a literal.
@@ -190,255 +107,244 @@ fn cells_of(held: &[Held]) -> Cells {
     cells
 }
 
-/// The nodes of three literals.
-fn nodes_in(operands: [Short; 3]) -> Nodes {
-    let mut nodes = Nodes(0);
-    for l in operands {
-        if l.is_some() {
-            nodes = nodes.with(l.node());
-        }
+/// A graph of so many inputs, without nodes and outputs.
+fn empty_task(inputs: u8) -> Task {
+    Task {
+        first: inputs.saturating_add(1),
+        nodes: [[NONE; 3]; 32],
+        count: 0,
+        outs: [NONE; 8],
+        written: Set(0),
+        readers: [Set(0); 64],
+        outs_of: [Set(0); 128],
+        taken: [Set(0); 64],
+        taking: Nodes(0),
+        reads: [Nodes(0); 32],
+        loads: [Nodes(0); 32],
+        inputs: Nodes::up_to(inputs),
+        left: Nodes(0),
+        enter: Cells::unknown(),
+        leave: Cells::unknown(),
     }
-    nodes
-}
-
-/// The nodes of these literals.
-fn nodes_held(held: &[Held]) -> Nodes {
-    let mut nodes = Nodes(0);
-    for h in held {
-        nodes = nodes.with(Short::of(h.lit).node());
-    }
-    nodes
-}
-
-/// Those of the sets whose numbers are in another one, in one set.
-fn joined(sets: &[Nodes], numbers: Set) -> Nodes {
-    let mut left = numbers;
-    let mut all = Nodes(0);
-    for _ in 0..numbers.len() {
-        if let Some(k) = left.first() {
-            left = left.without(k);
-            if let Some(nodes) = sets.get(k as usize) {
-                all = all.or(*nodes);
-            }
-        }
-    }
-    all
-}
-
-/// Whether one of the literals is the node or its complement.
-fn has_literal(held: &[Held], node: u8) -> bool {
-    held.iter().any(|h| h.lit.node == u32::from(node))
 }
 
 impl Task {
-    /// The graph's nodes and outputs, and what stands in cells at entry and exit.
-    pub fn new(
-        m: &Mig,
-        outs: &[OutRow],
-        enter: &[Held],
-        leave: &[Held],
-        alloc: Global,
-    ) -> Result<Task, NoMemory> {
-        let mut task = Task {
-            inputs: m.inputs(),
-            nodes: nodes_of(m, alloc)?,
-            outs: literals_of(outs, alloc)?,
-            uses: Vec::new(alloc),
-            taken: taken_of(outs, alloc)?,
-            reads: Vec::new(alloc),
-            loads: Vec::new(alloc),
-            left: nodes_held(leave),
-            enter: cells_of(enter),
-            leave: cells_of(leave),
-        };
-        for node in 0..128u8 {
-            let uses = Uses {
-                readers: readers_of(&task.nodes, node),
-                named: named_by(&task.outs, node),
-                taken: taking(outs, node),
-                is_held: has_literal(enter, node),
-                is_left: has_literal(leave, node),
-            };
-            keep(&mut task.uses, uses)?;
+    /// The graph's nodes and outputs, and what stands in cells at entry and exit, where there are
+    /// few enough nodes.
+    pub fn new(m: &Mig, outs: &[OutRow], enter: &[Held], leave: &[Held]) -> Option<Task> {
+        if m.size() > MOST_SIZE {
+            return None;
         }
-        for k in 0..task.nodes.len() {
-            if k < task.nodes.len() {
-                let operands = task.nodes[k];
-                let loads = task.loads_of(operands);
-                keep(&mut task.reads, nodes_in(operands))?;
-                keep(&mut task.loads, loads)?;
+        let mut task = empty_task(m.inputs());
+        for h in enter {
+            task.inputs = task.inputs.without(Short::of(h.lit).node());
+        }
+        for h in leave {
+            task.left = task.left.or(Short::of(h.lit).nodes());
+        }
+        for k in u32::from(m.inputs()) + 1..m.size() {
+            let [a, b, c] = m.node(k);
+            task.add_node([Short::of(a), Short::of(b), Short::of(c)]);
+        }
+        for out in outs {
+            task.add_out(out);
+        }
+        task.enter = cells_of(enter);
+        task.leave = cells_of(leave);
+        Some(task)
+    }
+
+    /// A majority node more.
+    fn add_node(&mut self, operands: [Short; 3]) {
+        let k = self.count;
+        if k < 32 {
+            let mut reads = Nodes(0);
+            for l in operands {
+                let place = l.node() as usize % 64;
+                self.readers[place] = self.readers[place].with(k);
+                reads = reads.or(l.nodes());
+            }
+            self.nodes[k as usize] = operands;
+            self.reads[k as usize] = reads;
+            self.loads[k as usize] = reads.and(self.inputs.with(0));
+            self.count = k + 1;
+        }
+    }
+
+    /// An output more.
+    fn add_out(&mut self, out: &OutRow) {
+        let j = self.written.len();
+        if j < 8 {
+            let l = Short::of(out.lit);
+            self.outs[j as usize] = l;
+            self.written = self.written.with(j as u8);
+            self.outs_of[l.place()] = self.outs_of[l.place()].with(j as u8);
+            if let Some(k) = out.same {
+                let node = k.saturating_add(1);
+                let place = node as usize % 64;
+                self.taken[place] = self.taken[place].with(j as u8);
+                self.taking = self.taking.with(node);
             }
         }
-        Ok(task)
     }
 
     /// The three literals of a majority node.
-    pub fn operands(&self, k: u8) -> Option<[Short; 3]> {
-        self.nodes.get(k as usize).copied()
+    #[inline(always)]
+    pub fn operands(&self, k: u8) -> [Short; 3] {
+        self.nodes[k as usize % 32]
     }
 
-    /// The three literals of all majority nodes.
-    pub fn nodes(&self) -> &[[Short; 3]] {
-        &self.nodes
+    /// The nodes that a majority node reads.
+    #[inline(always)]
+    pub fn reads(&self, k: u8) -> Nodes {
+        self.reads[k as usize % 32]
     }
 
-    /// The literal of each output.
-    pub fn outs(&self) -> &[Short] {
-        &self.outs
-    }
-
-    /// What the cells are to hold at exit.
-    pub fn leave(&self) -> &Cells {
-        &self.leave
+    /// The constant and the inputs that a majority node reads from their rows.
+    #[inline(always)]
+    pub fn loads(&self, k: u8) -> Nodes {
+        self.loads[k as usize % 32]
     }
 
     /// Whether values stand in cells at entry.
+    #[inline(always)]
     pub fn holds_states(&self) -> bool {
-        !self.enter.known().is_empty()
+        self.enter != Cells::unknown()
+    }
+
+    /// Whether values are left in cells at exit.
+    #[inline(always)]
+    pub fn leaves_states(&self) -> bool {
+        !self.left.is_empty()
     }
 
     /// The literal of an output.
-    pub fn output(&self, j: u8) -> Option<Short> {
-        self.outs.get(j as usize).copied()
+    #[inline(always)]
+    pub fn output(&self, j: u8) -> Short {
+        self.outs[j as usize % 8]
     }
 
     /// The outputs that are this literal.
+    #[inline(always)]
     pub fn outs_of(&self, l: Short) -> Set {
-        let mut set = Set(0);
-        for (j, out) in self.outs.iter().enumerate() {
-            if j < 8 && *out == l {
-                set = set.with(j as u8);
-            }
-        }
-        set
+        self.outs_of[l.place()]
     }
 
     /// The spill row of a majority node that is not complemented.
+    #[inline(always)]
     pub fn spill_of(&self, l: Short) -> Option<u8> {
-        if l.is_inverted() {
-            None
+        let node = l.node();
+        if !l.is_inverted() && node >= self.first {
+            Some(node - self.first)
         } else {
-            self.majority(l.node())
+            None
         }
     }
 
     /// The literal of a majority node, or its complement.
+    #[inline(always)]
     pub fn lit_of(&self, k: u8, inverted: bool) -> Short {
-        Short::new(u32::from(self.inputs) + 1 + u32::from(k), inverted)
-    }
-
-    /// The number of a node among the majority nodes, or none for an input or the constant.
-    fn majority(&self, node: u8) -> Option<u8> {
-        if node > self.inputs && node - self.inputs - 1 < 32 {
-            Some(node - self.inputs - 1)
-        } else {
-            None
-        }
-    }
-
-    /// Whether it is a majority node.
-    pub fn is_made(&self, node: u8) -> bool {
-        self.majority(node).is_some()
-    }
-
-    fn uses(&self, node: u8) -> Uses {
-        match self.uses.get(node as usize) {
-            Some(uses) => *uses,
-            None => UNUSED,
-        }
+        Short::new(u32::from(self.first) + u32::from(k), inverted)
     }
 
     /// The majority nodes that read a node.
+    #[inline(always)]
     pub fn readers(&self, node: u8) -> Set {
-        self.uses(node).readers
+        self.readers[node as usize % 64]
     }
 
-    /// Whether the node has still to be made.
-    pub fn is_unmade(&self, s: &State, node: u8) -> bool {
-        match self.majority(node) {
-            Some(k) => s.unmade.has(k),
-            None => false,
-        }
-    }
-
-    /// Whether a node that must be made or an output that must be written reads the node, or it is
-    /// left in cells.
-    pub fn is_wanted(&self, s: &State, node: u8) -> bool {
-        let uses = self.uses(node);
-        uses.is_left || uses.readers.meets(s.unmade) || uses.named.meets(s.unwritten)
-    }
-
-    /// The row of a written output that is this literal.
-    fn written_row(&self, s: &State, l: Short) -> Option<BodyRef> {
-        let written = self.uses(l.node()).named.minus(s.unwritten);
-        if written.is_empty() {
-            return None;
-        }
-        for (j, out) in self.outs.iter().enumerate() {
-            if j < 8 && *out == l && written.has(j as u8) {
-                return Some(Out(j as u8));
-            }
-        }
-        None
-    }
-
-    /// The row that a node has for itself, as an input or by a spill, where its value still stands.
-    fn own_row(&self, s: &State, node: u8) -> Option<BodyRef> {
-        match self.majority(node) {
-            Some(k) if s.spilled.has(k) => Some(Spill(k)),
-            None if 0 < node && !self.uses(node).is_held => {
-                if self.uses(node).taken.minus(s.unwritten).is_empty() {
-                    Some(In(node - 1))
-                } else {
-                    None
-                }
-            }
-            _ => None,
-        }
-    }
-
-    /// A row that holds the literal.
-    pub fn row_of(&self, s: &State, l: Short) -> Option<BodyRef> {
-        if l.node() == 0 {
-            return Some(C(u8::from(l.is_inverted())));
-        }
-        if !l.is_inverted()
-            && let Some(row) = self.own_row(s, l.node())
-        {
-            return Some(row);
-        }
-        self.written_row(s, l)
-    }
-
-    /// Whether a row holds the node or its complement.
-    pub fn is_in_rows(&self, s: &State, node: u8) -> bool {
-        let written = self.uses(node).named.minus(s.unwritten);
-        node == 0 || !written.is_empty() || self.own_row(s, node).is_some()
-    }
-
-    /// A row or a cell that gives the literal.
-    pub fn source(&self, s: &State, l: Short) -> Option<BodyRef> {
-        if let Some(row) = self.row_of(s, l) {
-            return Some(row);
-        }
-        let y = reader(&s.cells, l)?;
-        Some(B(y))
+    /// The nodes of these majority nodes.
+    #[inline(always)]
+    pub fn nodes_of(&self, numbers: Set) -> Nodes {
+        numbers.nodes_from(self.first)
     }
 
     /// The nodes that these majority nodes read, or that are left in cells.
     pub fn read_by(&self, unmade: Set) -> Nodes {
-        joined(&self.reads, unmade).or(self.left)
-    }
-
-    /// The nodes of these outputs.
-    pub fn named_by(&self, unwritten: Set) -> Nodes {
-        let mut nodes = Nodes(0);
-        for (j, out) in self.outs.iter().enumerate() {
-            if j < 8 && unwritten.has(j as u8) {
-                nodes = nodes.with(out.node());
+        let mut nodes = self.left;
+        let mut left = unmade;
+        for _ in 0..unmade.len() {
+            if let Some(k) = left.first() {
+                left = left.without(k);
+                nodes = nodes.or(self.reads(k));
             }
         }
         nodes
+    }
+
+    /// The nodes of these outputs.
+    #[inline(always)]
+    pub fn named_by(&self, unwritten: Set) -> Nodes {
+        let mut nodes = Nodes(0);
+        let mut left = unwritten;
+        for _ in 0..unwritten.len() {
+            if let Some(j) = left.first() {
+                left = left.without(j);
+                nodes = nodes.or(self.output(j).nodes());
+            }
+        }
+        nodes
+    }
+
+    /// The inputs whose rows outputs have taken.
+    #[inline(always)]
+    fn lost_inputs(&self, unwritten: Set) -> Nodes {
+        let mut nodes = Nodes(0);
+        let mut left = self.taking;
+        for _ in 0..self.taking.len() {
+            if let Some(node) = left.first() {
+                left = left.without(node);
+                if !self.taken[node as usize % 64].minus(unwritten).is_empty() {
+                    nodes = nodes.with(node);
+                }
+            }
+        }
+        nodes
+    }
+
+    /// What rows hold where these nodes are spilled and these outputs are still to be written.
+    #[inline(always)]
+    pub fn rows(&self, spilled: Set, unwritten: Set) -> Rows {
+        let kept = self.inputs.minus(self.lost_inputs(unwritten));
+        let own = kept.or(self.nodes_of(spilled));
+        let written = self.written.minus(unwritten);
+        Rows {
+            own,
+            any: own.with(0).or(self.named_by(written)),
+            written,
+        }
+    }
+
+    /// A row that holds the literal.
+    #[inline(always)]
+    pub fn row_of(&self, rows: &Rows, l: Short) -> Option<BodyRef> {
+        let node = l.node();
+        if node == 0 {
+            return Some(C(u8::from(l.is_inverted())));
+        }
+        if !l.is_inverted() && rows.own.has(node) {
+            return Some(if node < self.first {
+                In(node - 1)
+            } else {
+                Spill(node - self.first)
+            });
+        }
+        match self.outs_of(l).and(rows.written).first() {
+            Some(j) => Some(Out(j)),
+            None => None,
+        }
+    }
+
+    /// A row or a cell that gives the literal.
+    #[inline(always)]
+    pub fn source(&self, rows: &Rows, cells: &Cells, l: Short) -> Option<BodyRef> {
+        match self.row_of(rows, l) {
+            Some(row) => Some(row),
+            None => match reader(cells, l) {
+                Some(y) => Some(B(y)),
+                None => None,
+            },
+        }
     }
 
     /// The nodes that are wanted.
@@ -446,113 +352,29 @@ impl Task {
         self.read_by(s.unmade).or(self.named_by(s.unwritten))
     }
 
-    /// Whether the node is among those that are wanted, and stands nowhere any more.
-    pub fn is_lost(&self, s: &State, wanted: Nodes, node: u8) -> bool {
-        wanted.has(node) && !has_node(&s.cells, node) && !self.is_in_rows(s, node)
-    }
-
-    /// Whether a value is lost that stood in the cells.
-    fn loses_cell(&self, before: &Cells, s: &State, wanted: Nodes) -> bool {
-        let changed = before.unlike(s.cells);
-        let mut left = changed;
-        for _ in 0..changed.len() {
-            if let Some(k) = left.first() {
-                left = left.without(k);
-                let l = before.get(k);
-                if l.is_some() && self.is_lost(s, wanted, l.node()) {
-                    return true;
-                }
-            }
-        }
-        false
-    }
-
-    /// Whether an output has taken the row of an input that is wanted and stands nowhere else.
-    fn loses_input(&self, s: &State, wanted: Nodes) -> bool {
-        for k in &self.taken {
-            if self.is_lost(s, wanted, k.saturating_add(1)) {
-                return true;
-            }
-        }
-        false
-    }
-
-    /// Whether a value is lost that stood in the cells or in an input's row, where these are
-    /// wanted.
-    pub fn loses(&self, before: &Cells, s: &State, wanted: Nodes) -> bool {
-        self.loses_cell(before, s, wanted) || self.loses_input(s, wanted)
-    }
-
     /// No command yet: the nodes from which an output can be reached are unmade.
     pub fn start(&self) -> State {
-        let outs = self.outs.len();
-        let unwritten = Set::below(if outs < 8 { outs as u8 } else { 8 });
         let mut s = State {
             cells: self.enter,
             spilled: Set(0),
             unmade: Set(0),
-            unwritten,
+            unwritten: self.written,
         };
         for back in 0..32u8 {
             let k = 31 - back;
-            if self.operands(k).is_some() && self.is_wanted(&s, self.lit_of(k, false).node()) {
+            if k < self.count && self.wanted(&s).has(self.lit_of(k, false).node()) {
                 s.unmade = s.unmade.with(k);
             }
         }
         s
     }
 
-    /// Whether each wanted value stands in a row.
+    /// Whether each wanted value that is made stands in a row.
     pub fn is_safe(&self, s: &State) -> bool {
-        for k in 0..6u8 {
-            let l = s.cells.get(k);
-            if l.is_some() && self.is_wanted(s, l.node()) && !self.is_in_rows(s, l.node()) {
-                return false;
-            }
-        }
-        true
+        let rows = self.rows(s.spilled, s.unwritten);
+        let unmade = self.nodes_of(s.unmade);
+        self.wanted(s).minus(rows.any).minus(unmade).is_empty()
     }
-
-    /// The state without the values that are not wanted: equal states are one then.
-    pub fn cleared(&self, s: &State, wanted: Nodes) -> State {
-        let mut cleared = *s;
-        cleared.cells = s.cells.with(free_cells(&s.cells, wanted), NONE);
-        cleared.spilled = s.spilled.and(wanted.from(self.inputs.saturating_add(1)));
-        cleared
-    }
-
-    /// Whether it is an input or the constant, and stands in no cells at entry.
-    fn has_row(&self, node: u8) -> bool {
-        self.majority(node).is_none() && !self.uses(node).is_held
-    }
-
-    /// The inputs and constants that these majority nodes read from their rows.
-    pub fn loads_by(&self, unmade: Set) -> Nodes {
-        joined(&self.loads, unmade)
-    }
-
-    /// Those among a node's literals.
-    fn loads_of(&self, operands: [Short; 3]) -> Nodes {
-        let mut loads = Nodes(0);
-        for l in operands {
-            if l.is_some() && self.has_row(l.node()) {
-                loads = loads.with(l.node());
-            }
-        }
-        loads
-    }
-}
-
-/// The cells whose value is not wanted.
-pub fn free_cells(cells: &Cells, wanted: Nodes) -> Set {
-    let mut set = Set(0);
-    for k in 0..6u8 {
-        let l = cells.get(k);
-        if !l.is_some() || !wanted.has(l.node()) {
-            set = set.with(k);
-        }
-    }
-    set
 }
 
 /// For each set of cells a digit of four bits for each of B12 to B15: 1 where one of its cells is
@@ -566,14 +388,14 @@ static MET: [u16; 64] = [
     0x1111, 0x1111, 0x1111, 0x1111,
 ];
 
+/// For each of the triples one digit: whether it has a cell of the set.
+#[inline(always)]
 fn met(cells: Set) -> u16 {
-    match MET.get(cells.0 as usize) {
-        Some(met) => *met,
-        None => 0,
-    }
+    MET[cells.0 as usize % 64]
 }
 
 /// The greatest of four digits.
+#[inline(always)]
 fn most(digits: u16) -> u32 {
     let a = u16::max(digits & 15, digits >> 4 & 15);
     let b = u16::max(digits >> 8 & 15, digits >> 12 & 15);
@@ -581,12 +403,14 @@ fn most(digits: u16) -> u32 {
 }
 
 /// In how many of three sets the best of the triples has a cell.
+#[inline(always)]
 fn best(a: Set, b: Set, c: Set) -> u32 {
     most(met(a).wrapping_add(met(b)).wrapping_add(met(c)))
 }
 
 /// How many of three literals, and how many of their complements, stand in place in the best of the
 /// triples.
+#[inline(always)]
 pub fn in_place(cells: &Cells, [a, b, c]: [Short; 3]) -> [u32; 2] {
     let (a, b, c) = (holders(cells, a), holders(cells, b), holders(cells, c));
     [

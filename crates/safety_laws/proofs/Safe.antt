@@ -24,17 +24,20 @@ use Rattle.uprog_code.specs.Shape.{Shape, need, results}
 use Rattle.uprog_code.proofs.Kept.{run_keeps, trace_good}
 use Rattle.object_alloc.specs.Free.{has_row}
 use Rattle.object_alloc.specs.Listed.{IsTable, Named, limit_of}
+use Rattle.bbop_isa.specs.declared.instr.Place.{Place}
 use Rattle.bbop_isa.specs.Forms.{Instruction, Init, Bbop, Load, Fill, Print, Free, Order}
 use Rattle.machine_model.specs.declared.Why.{Why}
 use Rattle.machine_model.specs.Columns.{segments}
 use Rattle.machine_model.specs.Pieces.{AreBbops, wave_queues}
-use Rattle.machine_model.specs.Refusals.{bbop_refusal, dsts_in, object_named}
+use Rattle.machine_model.specs.Refusals.{bbop_refusal, dsts_in, rows_of}
 use Rattle.machine_model.specs.Routines.{Program, Routine, Routines, routine_of, routines_in}
 use Rattle.machine_model.specs.Script.{is_touched_by, table_at_end, banks_at_end}
 use Rattle.machine_model.specs.Steps.{Held, base_for, binding, bound_at, dsts_of, is_among}
 use Rattle.machine_model.specs.Steps.{is_beside, is_touched, table_after, table_of, touches}
-use Rattle.machine_model.proofs.Bbops.{base_in, binding_fits, has_from, or_false}
-use Rattle.machine_model.proofs.Facts.{AreOperands, IsGood, good, more, none}
+use Rattle.machine_model.proofs.Bbops.{binding_fits}
+use Rattle.machine_model.proofs.Kept.{not_touched}
+use Rattle.machine_model.proofs.Merged.{or_false}
+use Rattle.machine_model.proofs.Facts.{good}
 use Rattle.machine_model.proofs.InOrder.{bbop_table}
 use Rattle.machine_model.proofs.KeptAll.{entry_holds, untouched_stays}
 use Rattle.machine_model.proofs.Places.{still, still_table}
@@ -73,53 +76,6 @@ entries_keep (e ∷ p) all =
 program_keeps : (p : Program) → IsProgram p → FirstKeepAll (routines_in p)
 program_keeps p is name o e = entry_holds FirstKeeps p name o (entries_keep p is.entries) e
 
--- A row that the tests leave out is in none of a binding's ranges
-
-among_from : (base size row : ℕ) → base ≤ row → row < base + size → is_among base size row ≡ true
-among_from base size row a b = grind (arith, nat_tests)
-
-no_result_row : (state : List Held) (count n row : ℕ) (kinds : List Kind) (names : List (List ℕ))
-    → AreOperands (table_of state) count n kinds names
-    → list_any (λ name. has_row (object_named (table_of state) name) row) names ≡ false
-    → IsInSome (ranges n kinds (map (base_in state) names)) row → ⊥
-no_result_row state count n row [] [] none h is = is
-no_result_row state count n row [] (name ∷ names) x h is = elim x [ ]
-no_result_row state count n row (kind ∷ kinds) [] x h is = elim x [ ]
-no_result_row state count n row (kind ∷ kinds) (name ∷ names) (more _ _ _ _ op rest) h (inl r) =
-    let p = or_false (has_row (object_named (table_of state) name) row)
-    (list_any (λ name. has_row (object_named (table_of state) name) row) names) h in
-    let has = has_from (object_named (table_of state) name) row r.0 (omega (arith, r.1, op.wide)) in
-    cc
-no_result_row state count n row (kind ∷ kinds) (name ∷ names) (more _ _ _ _ op rest) h (inr r) =
-    no_result_row state count n row kinds names rest
-    (or_false (has_row (object_named (table_of state) name) row)
-    (list_any (λ name. has_row (object_named (table_of state) name) row) names) h).1 r
-
-not_touched : (g : Geometry) (state : List Held) (o : Routine) (names : List (List ℕ))
-    (count n row : ℕ) → IsGood g (table_of state) o names count n
-    → (list_any (λ name. has_row (object_named (table_of state) name) row) (dsts_in o.shape names)
-    || is_beside g (table_of state) (Some o) n row) ≡ false
-    → IsTouched g.rows o.shape n (binding g (table_of state) o.shape names n) row → ⊥
-not_touched g state o names count n row good h (inl result) =
-    let parts = or_false (list_any (λ name. has_row (object_named (table_of state) name) row)
-    (dsts_in o.shape names)) (is_beside g (table_of state) (Some o) n row) h in
-    no_result_row state count n row (results o.shape) (dsts_in o.shape names) good.destinations
-    parts.0 result
-not_touched g state o names count n row good h (inr (inl scratch)) =
-    let parts = or_false (list_any (λ name. has_row (object_named (table_of state) name) row)
-    (dsts_in o.shape names)) (is_beside g (table_of state) (Some o) n row) h in
-    let base = base_for g (table_of state) (need o.shape n) in
-    let beside = or_false (is_among base (need o.shape n) row) (is_among (limit_of g) 32 row)
-    parts.1 in
-    let among = among_from base (need o.shape n) row scratch.0 scratch.1 in cc
-not_touched g state o names count n row good h (inr (inr spill)) =
-    let parts = or_false (list_any (λ name. has_row (object_named (table_of state) name) row)
-    (dsts_in o.shape names)) (is_beside g (table_of state) (Some o) n row) h in
-    let base = base_for g (table_of state) (need o.shape n) in
-    let beside = or_false (is_among base (need o.shape n) row) (is_among (limit_of g) 32 row)
-    parts.1 in
-    let among = among_from (limit_of g) 32 row spill.0 spill.1 in cc
-
 -- The first commands of a queue
 
 nothing_taken : (k : ℕ) → ◌≡◌ {A = List Command} (take k []) []
@@ -151,23 +107,23 @@ both_leave row xs ys first second k s = elim (cases_lt k (length xs)) [
 ]
 
 -- the commands of one bbop in one bank
-abbrev own : Geometry → List Named → Option Routine → List (List ℕ) → ℕ → ℕ → ℕ → List Command
-own g table found names n bank banks = cond (ltb bank banks) (bound_at g table found names n) []
+abbrev own : Geometry → List Named → Option Routine → List Place → ℕ → ℕ → ℕ → List Command
+own g table found places n bank banks = cond (ltb bank banks) (bound_at g table found places n) []
 
-bbop_leaves : (g : Geometry) (operations : Routines) (op dst : List ℕ) (srcs : List (List ℕ))
+bbop_leaves : (g : Geometry) (operations : Routines) (op : List ℕ) (dst : Place) (srcs : List Place)
     (count n : ℕ) (found : Option Routine) → operations op ≡ found → FirstKeepAll operations
     → (state : List Held) (bank row : ℕ) → IsTable (limit_of g) (table_of state)
     → bbop_refusal g (table_of state) found (dst ∷ srcs) count n ≡ None
-    → (ltb bank (segments g (object_named (table_of state) dst))
-    && (list_any (λ name. has_row (object_named (table_of state) name) row)
+    → (ltb bank (segments g (rows_of (table_of state) dst))
+    && (list_any (λ p. has_row (rows_of (table_of state) p) row)
     (dsts_of found (dst ∷ srcs)) || is_beside g (table_of state) found n row)) ≡ false
     → LeaveRow row (own g (table_of state) found (dst ∷ srcs) n bank
-    (segments g (object_named (table_of state) dst)))
+    (segments g (rows_of (table_of state) dst)))
 bbop_leaves g operations op dst srcs count n None e keeps state bank row t h out = cc
 bbop_leaves g operations op dst srcs count n (Some o) e keeps state bank row t h out =
-    by_bank (ltb bank (segments g (object_named (table_of state) dst))) out
+    by_bank (ltb bank (segments g (rows_of (table_of state) dst))) out
   where
-    by_bank : (b : Bool) → (b && (list_any (λ name. has_row (object_named (table_of state) name)
+    by_bank : (b : Bool) → (b && (list_any (λ p. has_row (rows_of (table_of state) p)
         row) (dsts_in o.shape (dst ∷ srcs)) || is_beside g (table_of state) (Some o) n row)) ≡ false
         → LeaveRow row (cond b (bound_at g (table_of state) (Some o) (dst ∷ srcs) n) [])
     by_bank false past = none_leave row
@@ -180,24 +136,24 @@ bbop_leaves g operations op dst srcs count n (Some o) e keeps state bank row t h
         (binding_fits g state o (dst ∷ srcs) count n t facts) row
         (not_touched g state o (dst ∷ srcs) count n row facts beside)
 
-own_leaves : (g : Geometry) (operations : Routines) (op dst : List ℕ) (srcs : List (List ℕ))
+own_leaves : (g : Geometry) (operations : Routines) (op : List ℕ) (dst : Place) (srcs : List Place)
     (count n : ℕ) → FirstKeepAll operations → (table : List Named) (bank row : ℕ)
     → IsTable (limit_of g) table
     → bbop_refusal g table (operations op) (dst ∷ srcs) count n ≡ None
     → touches g operations table (Bbop op dst srcs count n) bank row ≡ false
     → LeaveRow row (own g table (operations op) (dst ∷ srcs) n bank
-    (segments g (object_named table dst)))
+    (segments g (rows_of table dst)))
 own_leaves g operations op dst srcs count n keeps table bank row t h out =
     subst (λ (x : List Named). bbop_refusal g x (operations op) (dst ∷ srcs) count n ≡ None
     → touches g operations x (Bbop op dst srcs count n) bank row ≡ false
-    → LeaveRow row (own g x (operations op) (dst ∷ srcs) n bank (segments g (object_named x dst))))
+    → LeaveRow row (own g x (operations op) (dst ∷ srcs) n bank (segments g (rows_of x dst))))
     (still_table table)
     (λ allowed beside. bbop_leaves g operations op dst srcs count n (operations op) refl keeps
     (still table) bank row (subst (IsTable (limit_of g)) (sym (still_table table)) t) allowed
     beside) h out
 
 -- with those of the bbops after it
-one_leaves : (g : Geometry) (operations : Routines) (op dst : List ℕ) (srcs : List (List ℕ))
+one_leaves : (g : Geometry) (operations : Routines) (op : List ℕ) (dst : Place) (srcs : List Place)
     (count n : ℕ) → FirstKeepAll operations → (wave : List Instruction) (table : List Named)
     (bank row : ℕ) → IsTable (limit_of g) table
     → is_touched g operations table (Bbop op dst srcs count n) bank row ≡ false
@@ -210,7 +166,7 @@ one_leaves g operations op dst srcs count n keeps wave table bank row t out rest
     let beside : touches g operations table (Bbop op dst srcs count n) bank row ≡ false =
     rw e at out in
     rw e (both_leave row (own g table (operations op) (dst ∷ srcs) n bank
-    (segments g (object_named table dst))) (wave_queues g operations table wave bank)
+    (segments g (rows_of table dst))) (wave_queues g operations table wave bank)
     (own_leaves g operations op dst srcs count n keeps table bank row t e beside) rest)
 
 wave_leaves : (g : Geometry) (operations : Routines) → FirstKeepAll operations

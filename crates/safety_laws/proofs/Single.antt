@@ -20,11 +20,11 @@ use Rattle.object_alloc.specs.Listed.{Named}
 use Rattle.bbop_isa.specs.Forms.{Instruction, Init, Bbop, Load, Fill, Print, Free, Order}
 use Rattle.machine_model.specs.declared.Why.{Why}
 use Rattle.machine_model.specs.Columns.{each_row, segments}
-use Rattle.machine_model.specs.Refusals.{object_named, refusal}
+use Rattle.machine_model.specs.Refusals.{rows_of, refusal}
 use Rattle.machine_model.specs.Routines.{Routines, routines_in}
 use Rattle.machine_model.specs.Script.{banks_at_end, table_at_end}
 use Rattle.machine_model.specs.Steps.{if_done, new_object, own_events, touches}
-use Rattle.machine_model.proofs.Bbops.{has_from}
+use Rattle.machine_model.proofs.Sliced.{has_from}
 use Rattle.machine_model.proofs.KeptAll.{untouched_stays}
 use Rattle.safety_laws.specs.Stopped.{StoppedUsesAreSafe}
 use Rattle.safety_laws.proofs.Safe.{rows_stay}
@@ -142,10 +142,10 @@ own_elsewhere : (g : Geometry) (operations : Routines) (table : List Named) (ins
     → AllByRecursion (Elsewhere bank row) (own_events g table instr)
 own_elsewhere g operations table (Init name count n) bank row out =
     fill_elsewhere g (new_object g table count n) bank row _ out
-own_elsewhere g operations table (Load name values) bank row out =
-    load_elsewhere g (object_named table name) bank row _ out
-own_elsewhere g operations table (Fill name value) bank row out =
-    fill_elsewhere g (object_named table name) bank row _ out
+own_elsewhere g operations table (Load place values) bank row out =
+    load_elsewhere g (rows_of table place) bank row _ out
+own_elsewhere g operations table (Fill place value) bank row out =
+    fill_elsewhere g (rows_of table place) bank row _ out
 own_elsewhere g operations table (Bbop op dst srcs count n) bank row out = tt
 own_elsewhere g operations table (Print name) bank row out = tt
 own_elsewhere g operations table (Free name) bank row out = tt

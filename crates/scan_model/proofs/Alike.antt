@@ -13,6 +13,7 @@ use Rattle.uprog_code.specs.Count.{counts_of}
 use Rattle.uprog_code.specs.Texts.{TextOp, EntryDoes, ImplementsAll}
 use Rattle.object_alloc.specs.Free.{free}
 use Rattle.object_alloc.specs.Listed.{Named, limit_of, objects_of}
+use Rattle.bbop_isa.specs.declared.instr.Place.{Place}
 use Rattle.bbop_isa.specs.Forms.{Instruction}
 use Rattle.bbop_isa.specs.Forms.{Init, Bbop, Load, Fill, Print, Free, Order}
 use Rattle.machine_model.specs.declared.Reply.{Reply}
@@ -22,7 +23,7 @@ use Rattle.machine_model.specs.Routines.{Program, Routine, Routines, entry_named
 use Rattle.machine_model.specs.Columns.{segments}
 use Rattle.machine_model.specs.Routines.{text_op_named, trace_of}
 use Rattle.machine_model.specs.Refusals.{bbop_refusal, first, operand_conditions, refusal}
-use Rattle.machine_model.specs.Refusals.{object_named, walks_badly, when}
+use Rattle.machine_model.specs.Refusals.{rows_of, walks_badly, when}
 use Rattle.machine_model.specs.Steps.{counts_for, if_done, issues_at, reply_by, reply_to}
 use Rattle.machine_model.specs.Steps.{table_after, tabled, times}
 use Rattle.machine_model.specs.Script.{replies, sum_of, table_at_end}
@@ -82,21 +83,21 @@ scans_alike p other i j name =
     (matched p scan_text name i) (matched other scan_text name j)
 
 -- the first condition that holds of an operation of this shape, whose walk is bad or not
-abbrev first_of : Geometry → List Named → Shape → Option Why → List (List ℕ) → ℕ → ℕ → Option Why
-first_of g table shape walk names count n =
-    first (when (not (length names == length (results shape ++ shape.sources))) why.Arity
-    ∷ operand_conditions table shape names count n ++ walk
+abbrev first_of : Geometry → List Named → Shape → Option Why → List Place → ℕ → ℕ → Option Why
+first_of g table shape walk places count n =
+    first (when (not (length places == length (results shape ++ shape.sources))) why.Arity
+    ∷ operand_conditions table shape places count n ++ walk
     ∷ when (is_none (free (limit_of g) (objects_of table) (need shape n))) why.NoRows ∷ [])
 
-bbop_alike : (g : Geometry) (table : List Named) (x y : Option Routine) (names : List (List ℕ))
+bbop_alike : (g : Geometry) (table : List Named) (x y : Option Routine) (places : List Place)
     (count n : ℕ) → AreAlike x y → 0 < n → n ≤ WIDTH_MAX
-    → bbop_refusal g table x names count n ≡ bbop_refusal g table y names count n
-bbop_alike g table None None names count n a l k = refl
-bbop_alike g table None (Some y) names count n a l k = absurd a
-bbop_alike g table (Some x) None names count n a l k = absurd a
-bbop_alike g table (Some x) (Some y) names count n a l k =
-    ap (λ (s : Shape). first_of g table s (walks_badly (x.trace n)) names count n) a.0
-    ∙ ap (λ (w : Option Why). first_of g table y.shape w names count n) (a.1 n l k)
+    → bbop_refusal g table x places count n ≡ bbop_refusal g table y places count n
+bbop_alike g table None None places count n a l k = refl
+bbop_alike g table None (Some y) places count n a l k = absurd a
+bbop_alike g table (Some x) None places count n a l k = absurd a
+bbop_alike g table (Some x) (Some y) places count n a l k =
+    ap (λ (s : Shape). first_of g table s (walks_badly (x.trace n)) places count n) a.0
+    ∙ ap (λ (w : Option Why). first_of g table y.shape w places count n) (a.1 n l k)
 
 refusal_alike : (g : Geometry) (a b : Routines) (table : List Named) (instr : Instruction)
     → Alike a b → IsPlain instr → refusal g a table instr ≡ refusal g b table instr
@@ -198,7 +199,7 @@ counts_same : (g : Geometry) (a b : Routines) (table : List Named) (instr : Inst
     → SameCosts a b → IsPlain instr → counts_for g a table instr ≡ counts_for g b table instr
 counts_same g a b table (Init name count n) costs plain = refl
 counts_same g a b table (Bbop op dst srcs count n) costs plain =
-    ap (times (segments g (object_named table dst))) (costs op n plain.0 plain.1)
+    ap (times (segments g (rows_of table dst))) (costs op n plain.0 plain.1)
 counts_same g a b table (Load name values) costs plain = refl
 counts_same g a b table (Fill name value) costs plain = refl
 counts_same g a b table (Print name) costs plain = refl

@@ -1,14 +1,12 @@
 -- The instructions of one node.
 use Rattle.std.proofs.Common.{◌≡◌, ◌≢◌, ℕ, zero, suc, ◌+◌, ◌*◌, ◌^◌, ◌<◌, ◌≤◌, Bool, true, false}
-use Rattle.std.proofs.Common.{not, cond, List, [], ◌∷◌, ◌++◌, map, get_or, Some, None}
+use Rattle.std.proofs.Common.{not, List, [], ◌∷◌, ◌++◌, map, length, get_or, Some, None}
 use Rattle.std.proofs.Common.{refl, sym, ◌∙◌, ap, subst, arith}
 use Rattle.std.specs.Prelude.{replicate, codes}
 use Rattle.std.specs.List.{range_with_len}
-use Rattle.std.specs.Option.{unwrap_or}
-use Rattle.std.specs.Str.{bytes_eq}
 use Rattle.std.specs.Int.{div_ceil}
-use Rattle.std.proofs.lemmas.List.FromFn.{get_or-map-range_with_len}
-use Rattle.std.proofs.lemmas.List.{get_or-replicate}
+use Rattle.std.proofs.lemmas.List.FromFn.{get_or-map-range_with_len, length-range_with_len}
+use Rattle.std.proofs.lemmas.List.{get_or-replicate, length-map, length-replicate}
 use Rattle.bit_rows.specs.Bits.{bit_number}
 use Rattle.bit_rows.specs.declared.TheConstants.{WIDTH_MAX}
 use Rattle.op_text.specs.declared.tree.Kind.{Kind}
@@ -16,11 +14,12 @@ use Rattle.op_text.specs.declared.tree.Kind.TheVariants.{Word, Bit}
 use Rattle.dram_model.specs.declared.geometry.Geometry.{Geometry}
 use Rattle.dram_model.specs.Elements.{column_count}
 use Rattle.object_alloc.specs.declared.table.Object.{Object}
-use Rattle.bbop_isa.specs.Forms.{Bbop, Fill, Free}
+use Rattle.bbop_isa.specs.declared.instr.Place.{Place}
+use Rattle.bbop_isa.specs.Forms.{Bbop, Fill, Free, whole}
 use Rattle.machine_model.specs.Columns.{object_size}
 use Rattle.machine_model.specs.Routines.{Routines}
-use Rattle.machine_model.specs.Refusals.{refusal, object_named}
-use Rattle.machine_model.specs.Steps.{Held, table_of, numbers_named, with_numbers, with_results}
+use Rattle.machine_model.specs.Refusals.{refusal, rows_of}
+use Rattle.machine_model.specs.Steps.{Held, table_of, numbers_at, with_results}
 use Rattle.machine_model.specs.Steps.{computed, new_object, worded}
 use Rattle.scan_model.specs.declared.CmpOp.{CmpOp}
 use Rattle.scan_model.specs.declared.CmpOp.TheVariants as cmp
@@ -28,7 +27,8 @@ use Rattle.scan_model.specs.Queries.{compared}
 use Rattle.scan_model.specs.Instructions.{op_for, sources_for, compare_with, join_one, join_two}
 use Rattle.scan_model.specs.Laws.{Offers, OffersScan, MeansScan, IsHeld, Leaves}
 use Rattle.scan_model.proofs.States.{lookup, at_append, at_last, absent_append, at_object}
-use Rattle.scan_model.proofs.States.{at_numbers, renumbered, with_last, dropped, dropped-append}
+use Rattle.scan_model.proofs.States.{whole_numbers, renumbered, with_last, dropped}
+use Rattle.scan_model.proofs.States.{dropped-append}
 use Rattle.scan_model.proofs.States.{dropped-between, dropped-other}
 use Rattle.scan_model.proofs.Goes.{Meaning, Goes, Allowed, one, next}
 use Rattle.scan_model.proofs.Refused.{IsUsed, init_allowed, fill_allowed, free_allowed}
@@ -61,37 +61,39 @@ alone meaning op n values = get_or (meaning op n values) 0 0
 first_of : {xs : List ℕ} {v : ℕ} → xs ≡ v ∷ [] → get_or xs 0 0 ≡ v
 first_of e = ap (λ xs. get_or xs 0 0) e
 
-one_result : (b : Bool) (h : Held) (numbers : List ℕ)
-    → record {
-      name = h.name;
-      object = h.object;
-      numbers =
-          unwrap_or (cond b (Some numbers) None) h.numbers;
-    } ≡ cond b (renumbered h numbers) h
-one_result true h numbers = refl
-one_result false h numbers = refl
-
--- where there is one result, it is the destination's
-results_once : (s : List Held) (r numbers : List ℕ)
-    → with_results s (λ name. cond (bytes_eq name r) (Some numbers) None)
-    ≡ with_numbers s r numbers
-results_once [] r numbers = refl
-results_once (h ∷ s) r numbers = rw (
-  one_result (bytes_eq h.name r) h numbers,
-  results_once s r numbers,
-) refl
-
 -- what a bbop of one result makes
 bbop_worded : (g : Geometry) (operations : Routines) (meaning : Meaning) (s : List Held)
-    (op : List ℕ) (kinds : List Kind) (r : List ℕ) (srcs : List (List ℕ)) (count n : ℕ)
+    (op : List ℕ) (kinds : List Kind) (r : Place) (srcs : List Place) (count n : ℕ)
     → Offers operations op kinds
     → worded g operations meaning s (Bbop op r srcs count n)
-    ≡ with_numbers s r (computed (alone meaning op n) (map (numbers_named s) srcs)
-    (object_size g (object_named (table_of s) r)))
-bbop_worded g operations meaning s op kinds r srcs count n o =
-    rw (o.there, o.one_result) (results_once s r
-    (computed (alone meaning op n) (map (numbers_named s) srcs)
-    (object_size g (object_named (table_of s) r))))
+    ≡ with_results s (λ k. computed (λ vs. get_or (meaning op n vs) k 0) (map (numbers_at s) srcs)
+    (object_size g (rows_of (table_of s) r))) (r ∷ [])
+bbop_worded g operations meaning s op kinds r srcs count n o = rw (o.there, o.one_result) refl
+
+-- a bbop's result for the last object
+result_last : (g : Geometry) (operations : Routines) (meaning : Meaning) (s : List Held)
+    (op : List ℕ) (kinds : List Kind) (r0 : Held) (srcs : List Place) (count n : ℕ)
+    → Offers operations op kinds → lookup s r0.name ≡ None
+    → length r0.numbers ≡ object_size g r0.object → (numbers : List ℕ)
+    → computed (alone meaning op n) (map (numbers_at (s ++ r0 ∷ [])) srcs)
+    (object_size g r0.object) ≡ numbers
+    → worded g operations meaning (s ++ r0 ∷ []) (Bbop op (whole r0.name) srcs count n)
+    ≡ s ++ renumbered r0 numbers ∷ []
+result_last g operations meaning s op kinds r0 srcs count n o none long numbers is =
+    let now : List Held = s ++ r0 ∷ [] in
+    let result : ℕ → List ℕ = λ k. computed (λ vs. get_or (meaning op n vs) k 0)
+    (map (numbers_at now) srcs) (object_size g r0.object) in
+    let size : length (result 0) ≡ object_size g r0.object =
+    length-map-range (λ e. alone meaning op n (map (λ ns. get_or ns e 0) (map (numbers_at now) srcs)))
+    (object_size g r0.object) in
+    bbop_worded g operations meaning now op kinds (whole r0.name) srcs count n o
+    ∙ ap (λ (p : Object). with_results now (λ k. computed (λ vs. get_or (meaning op n vs) k 0)
+    (map (numbers_at now) srcs) (object_size g p)) (whole r0.name ∷ []))
+    (at_object now r0.name r0 (at_last s r0 none))
+    ∙ with_last s r0 result none (long ∙ sym size)
+    ∙ ap (λ ns. s ++ renumbered r0 ns ∷ []) is where
+      length-map-range : (f : ℕ → ℕ) (size : ℕ) → length (map f (range_with_len 0 size)) ≡ size
+      length-map-range f size = let l = length-range_with_len 0 size in simp length-map l
 
 offers_for : (operations : Routines) → OffersScan operations → (op : CmpOp)
     → Offers operations (op_for op) (Word ∷ Word ∷ [])
@@ -112,7 +114,7 @@ filled_at size v e l = get_or-replicate size e v 0 l
 -- the comparison's numbers, column by column
 compare_values : (meaning : Meaning) (op : CmpOp) (n v size : ℕ) (xs cs : List ℕ)
     → MeansScan meaning → ((e : ℕ) → get_or xs e 0 < 2 ^ n) → v < 2 ^ n → cs ≡ replicate size v
-    → (numbers : List ℕ → List ℕ) (name c : List ℕ) → numbers name ≡ xs → numbers c ≡ cs
+    → (numbers : Place → List ℕ) (name c : Place) → numbers name ≡ xs → numbers c ≡ cs
     → computed (alone meaning (op_for op) n) (map numbers (sources_for op name c)) size
     ≡ marks (λ e. compared op (get_or xs e 0) v) size
 compare_values meaning cmp.Eq n v size xs cs means small l is numbers name c p q =
@@ -143,9 +145,9 @@ compare_values meaning cmp.Le n v size xs cs means small l is numbers name c p q
 
 -- a comparison's bbop is allowed
 compare_allowed : (g : Geometry) (operations : Routines) (s : List Held) (op : CmpOp)
-    (r name c : List ℕ) (count n : ℕ) → OffersScan operations → 0 < n → n ≤ WIDTH_MAX
-    → IsUsed s Bit count n r → IsUsed s Word count n name → IsUsed s Word count n c → name ≢ r
-    → c ≢ r → Allowed (refusal g operations (table_of s)
+    (r name c : Place) (count n : ℕ) → OffersScan operations → 0 < n → n ≤ WIDTH_MAX
+    → IsUsed s Bit count n r → IsUsed s Word count n name → IsUsed s Word count n c
+    → name.name ≢ r.name → c.name ≢ r.name → Allowed (refusal g operations (table_of s)
     (Bbop (op_for op) r (sources_for op name c) count n))
 compare_allowed g operations s cmp.Eq r name c count n o some few u v w p q =
     two_allowed g operations s _ r name c Word Word count n o.equal some few u v w p q
@@ -175,7 +177,7 @@ pub compare_goes : (g : Geometry) (operations : Routines) (meaning : Meaning) (s
     (c r name : List ℕ) (op : CmpOp) (v count : ℕ) (h : Held)
     → OffersScan operations → MeansScan meaning → IsAsked g s count name v h → lookup s c ≡ None
     → lookup s r ≡ None → c ≢ r
-    → Goes g operations meaning s (compare_with c r name op v count h.object.width)
+    → Goes g operations meaning s (compare_with c r (whole name) op v count h.object.width)
     (Leaves g s r count (λ e. compared op (get_or h.numbers e 0) v))
 compare_goes g operations meaning s c r name op v count h offers means asked no_c no_r differ =
     let n = h.object.width in
@@ -193,9 +195,10 @@ compare_goes g operations meaning s c r name op v count h offers means asked no_
     let fits : count ≤ column_count g * g.banks =
     subst (λ k. k ≤ column_count g * g.banks) asked.counted asked.held.fits in
     let c_in1 : lookup s1 c ≡ Some c0 = at_last s c0 no_c in
-    let filled : worded g operations meaning s1 (Fill c v) ≡ s2 =
-    ap (λ (o : Object). with_numbers s1 c (replicate (object_size g o) v))
-    (at_object s1 c c0 c_in1) ∙ with_last s c0 (replicate (object_size g oc) v) no_c in
+    let filled : worded g operations meaning s1 (Fill (whole c) v) ≡ s2 =
+    ap (λ (o : Object). with_results s1 (λ k. replicate (object_size g o) v) (whole c ∷ []))
+    (at_object s1 c c0 c_in1) ∙ with_last s c0 (λ k. replicate (object_size g oc) v) no_c
+    (length-replicate (object_size g oc) 0 ∙ sym (length-replicate (object_size g oc) v)) in
     let no_r2 : lookup s2 r ≡ None = absent_append s c1 r no_r differ in
     let c_in3 : lookup s3 c ≡ Some c1 = at_append s2 (r0 ∷ []) c c1 (at_last s c1 no_c) in
     let name_in3 : lookup s3 name ≡ Some h = at_append s2 (r0 ∷ []) name h
@@ -204,16 +207,13 @@ compare_goes g operations meaning s c r name op v count h offers means asked no_
     let sizes : object_size g oc ≡ object_size g or = same_size g oc or refl in
     let values = compare_values meaning op n v (object_size g or) h.numbers
     (replicate (object_size g oc) v) means asked.held.numbers_fit asked.small
-    (ap (λ k. replicate k v) sizes) (numbers_named s3) name c (at_numbers s3 name h name_in3)
-    (at_numbers s3 c c1 c_in3) in
-    let done : worded g operations meaning s3 (Bbop (op_for op) r (sources_for op name c) count n)
-    ≡ s4 =
-    bbop_worded g operations meaning s3 (op_for op) (Word ∷ Word ∷ []) r (sources_for op name c)
-    count n (offers_for operations offers op)
-    ∙ ap (λ (o : Object). with_numbers s3 r (computed (alone meaning (op_for op) n)
-    (map (numbers_named s3) (sources_for op name c)) (object_size g o)))
-    (at_object s3 r r0 r_in3)
-    ∙ ap (with_numbers s3 r) values ∙ with_last s2 r0 _ no_r2 in
+    (ap (λ k. replicate k v) sizes) (numbers_at s3) (whole name) (whole c)
+    (whole_numbers s3 name h name_in3) (whole_numbers s3 c c1 c_in3) in
+    let done : worded g operations meaning s3 (Bbop (op_for op) (whole r)
+    (sources_for op (whole name) (whole c)) count n) ≡ s4 =
+    result_last g operations meaning s2 (op_for op) (Word ∷ Word ∷ []) r0
+    (sources_for op (whole name) (whole c)) count n (offers_for operations offers op) no_r2
+    (length-replicate (object_size g or) 0) _ values in
     let name_r : name ≢ r = names_part s name r h asked.at no_r in
     let c_in4 : lookup s4 c ≡ Some c1 = at_append s2 (r1 ∷ []) c c1 (at_last s c1 no_c) in
     next g operations meaning s s1 _ _ _ (init_allowed g operations s c count n no_c fits) refl
@@ -222,10 +222,12 @@ compare_goes g operations meaning s c r name op v count h offers means asked no_
     (next g operations meaning s2 s3 _ _ _ (init_allowed g operations s2 r count 1 no_r2 fits)
     refl
     (next g operations meaning s3 s4 _ _ _
-    (compare_allowed g operations s3 op r name c count n offers asked.held.wide asked.held.narrow
-    (record { held = r0; at = r_in3; wide = refl; counted = refl })
-    (record { held = h; at = name_in3; wide = refl; counted = asked.counted })
-    (record { held = c1; at = c_in3; wide = refl; counted = refl }) name_r differ) done
+    (compare_allowed g operations s3 op (whole r) (whole name) (whole c) count n offers
+    asked.held.wide asked.held.narrow
+    (record { held = r0; at = r_in3; inside = refl; wide = refl; counted = refl })
+    (record { held = h; at = name_in3; inside = refl; wide = refl; counted = asked.counted })
+    (record { held = c1; at = c_in3; inside = refl; wide = refl; counted = refl }) name_r differ)
+    done
     (one g operations meaning s4 (s ++ r1 ∷ []) (Free c) _
     (free_allowed g operations s4 c c1 c_in4)
     (dropped-between s c1 r1 no_c (λ e. differ (sym e)))
@@ -261,26 +263,24 @@ not_goes g operations meaning s r a count oa fa offers means fits counted narrow
     let a_in3 : lookup s3 a ≡ Some a1 = at_append s1 (r1 ∷ []) a a1 a_in1 in
     let r_in2 : lookup s2 r ≡ Some r0 = at_last s1 r0 no_r1 in
     let sizes : object_size g or ≡ object_size g oa = same_size g or oa (sym counted) in
-    let values : computed (alone meaning (codes "s_not") 1) (map (numbers_named s2) (a ∷ []))
+    let values : computed (alone meaning (codes "s_not") 1) (map (numbers_at s2) (whole a ∷ []))
     (object_size g or) ≡ marks (λ e. not (fa e)) (object_size g or) =
-    rw (at_numbers s2 a a1 a_in2) (range_alike
+    rw (whole_numbers s2 a a1 a_in2) (range_alike
     (λ e. alone meaning (codes "s_not") 1 (get_or (marks fa (object_size g oa)) e 0 ∷ []))
     (λ e. bit_number (not (fa e))) (object_size g or)
     (λ e l. ap (λ x. alone meaning (codes "s_not") 1 (x ∷ []))
     (mark_at fa (object_size g or) (object_size g oa) e sizes l)
     ∙ first_of (means.negation (fa e)))) in
-    let done : worded g operations meaning s2 (Bbop (codes "s_not") r (a ∷ []) count 1) ≡ s3 =
-    bbop_worded g operations meaning s2 (codes "s_not") (Bit ∷ []) r (a ∷ []) count 1
-    offers.negation
-    ∙ ap (λ (o : Object). with_numbers s2 r (computed (alone meaning (codes "s_not") 1)
-    (map (numbers_named s2) (a ∷ [])) (object_size g o))) (at_object s2 r r0 r_in2)
-    ∙ ap (with_numbers s2 r) values ∙ with_last s1 r0 _ no_r1 in
+    let done : worded g operations meaning s2 (Bbop (codes "s_not") (whole r) (whole a ∷ []) count
+    1) ≡ s3 =
+    result_last g operations meaning s1 (codes "s_not") (Bit ∷ []) r0 (whole a ∷ []) count 1
+    offers.negation no_r1 (length-replicate (object_size g or) 0) _ values in
     next g operations meaning s1 s2 _ _ _ (init_allowed g operations s1 r count 1 no_r1 fits) refl
     (next g operations meaning s2 s3 _ _ _
-    (one_allowed g operations s2 (codes "s_not") r a Bit count 1 offers.negation (omega arith)
-    (omega arith)
-    (record { held = r0; at = r_in2; wide = refl; counted = refl })
-    (record { held = a1; at = a_in2; wide = narrow; counted = counted }) differ) done
+    (one_allowed g operations s2 (codes "s_not") (whole r) (whole a) Bit count 1 offers.negation
+    (omega arith) (omega arith)
+    (record { held = r0; at = r_in2; inside = refl; wide = refl; counted = refl })
+    (record { held = a1; at = a_in2; inside = refl; wide = narrow; counted = counted }) differ) done
     (one g operations meaning s3 (s ++ r1 ∷ []) (Free a) _
     (free_allowed g operations s3 a a1 a_in3)
     (dropped-between s a1 r1 no_a (λ e. differ (sym e)))
@@ -323,9 +323,9 @@ two_goes g operations meaning op join s r a b count oa ob fa fb offers means fit
     let r_in2 : lookup s2 r ≡ Some r0 = at_last s1 r0 no_r1 in
     let sizes_a : object_size g or ≡ object_size g oa = same_size g or oa (sym counted_a) in
     let sizes_b : object_size g or ≡ object_size g ob = same_size g or ob (sym counted_b) in
-    let values : computed (alone meaning op 1) (map (numbers_named s2) (a ∷ b ∷ []))
+    let values : computed (alone meaning op 1) (map (numbers_at s2) (whole a ∷ whole b ∷ []))
     (object_size g or) ≡ marks holds (object_size g or) =
-    rw (at_numbers s2 a a1 a_in2, at_numbers s2 b b1 b_in2)
+    rw (whole_numbers s2 a a1 a_in2, whole_numbers s2 b b1 b_in2)
     (two_values (alone meaning op 1) (marks fa (object_size g oa))
     (marks fb (object_size g ob)) (object_size g or) holds
     (λ e l. ap (λ x. alone meaning op 1 (x ∷ get_or (marks fb (object_size g ob)) e 0 ∷ []))
@@ -333,21 +333,22 @@ two_goes g operations meaning op join s r a b count oa ob fa fb offers means fit
     ∙ ap (λ y. alone meaning op 1 (bit_number (fa e) ∷ y ∷ []))
     (mark_at fb (object_size g or) (object_size g ob) e sizes_b l)
     ∙ first_of (means (fa e) (fb e)))) in
-    let done : worded g operations meaning s2 (Bbop op r (a ∷ b ∷ []) count 1) ≡ s3 =
-    bbop_worded g operations meaning s2 op (Bit ∷ Bit ∷ []) r (a ∷ b ∷ []) count 1 offers
-    ∙ ap (λ (o : Object). with_numbers s2 r (computed (alone meaning op 1)
-    (map (numbers_named s2) (a ∷ b ∷ [])) (object_size g o))) (at_object s2 r r0 r_in2)
-    ∙ ap (with_numbers s2 r) values ∙ with_last s1 r0 _ no_r1 in
+    let done : worded g operations meaning s2 (Bbop op (whole r) (whole a ∷ whole b ∷ []) count 1)
+    ≡ s3 =
+    result_last g operations meaning s1 op (Bit ∷ Bit ∷ []) r0 (whole a ∷ whole b ∷ []) count 1
+    offers no_r1 (length-replicate (object_size g or) 0) _ values in
     let freed : worded g operations meaning s3 (Free a) ≡ s4 =
     dropped-append s1 (r1 ∷ []) a ∙ ap (λ front. front ++ dropped (r1 ∷ []) a)
     (dropped-between s a1 b1 no_a (λ e. a_b (sym e)))
     ∙ ap (λ back. (s ++ b1 ∷ []) ++ back) (dropped-other r1 a (λ e. a_r (sym e))) in
     next g operations meaning s1 s2 _ _ _ (init_allowed g operations s1 r count 1 no_r1 fits) refl
     (next g operations meaning s2 s3 _ _ _
-    (two_allowed g operations s2 op r a b Bit Bit count 1 offers (omega arith) (omega arith)
-    (record { held = r0; at = r_in2; wide = refl; counted = refl })
-    (record { held = a1; at = a_in2; wide = narrow_a; counted = counted_a })
-    (record { held = b1; at = b_in2; wide = narrow_b; counted = counted_b }) a_r b_r) done
+    (two_allowed g operations s2 op (whole r) (whole a) (whole b) Bit Bit count 1 offers
+    (omega arith) (omega arith)
+    (record { held = r0; at = r_in2; inside = refl; wide = refl; counted = refl })
+    (record { held = a1; at = a_in2; inside = refl; wide = narrow_a; counted = counted_a })
+    (record { held = b1; at = b_in2; inside = refl; wide = narrow_b; counted = counted_b }) a_r b_r)
+    done
     (next g operations meaning s3 s4 _ _ _ (free_allowed g operations s3 a a1 a_in3) freed
     (one g operations meaning s4 (s ++ r1 ∷ []) (Free b) _
     (free_allowed g operations s4 b b1 b_in4)

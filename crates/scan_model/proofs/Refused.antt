@@ -12,12 +12,14 @@ use Rattle.dram_model.specs.Elements.{column_count}
 use Rattle.uprog_code.specs.Shape.{width, need}
 use Rattle.object_alloc.specs.Free.{free}
 use Rattle.object_alloc.specs.Listed.{objects_of, has_name, limit_of}
-use Rattle.bbop_isa.specs.Forms.{Init, Bbop, Fill, Free}
+use Rattle.bbop_isa.specs.declared.instr.Place.{Place}
+use Rattle.bbop_isa.specs.Forms.{Init, Bbop, Fill, Free, whole}
 use Rattle.machine_model.specs.declared.Why.{Why}
 use Rattle.machine_model.specs.declared.Why.TheVariants as why
 use Rattle.machine_model.specs.Routines.{Routines}
-use Rattle.machine_model.specs.Refusals.{first, when, object_named, is_absent, is_misfit}
-use Rattle.machine_model.specs.Refusals.{walks_badly, refusal}
+use Rattle.machine_model.specs.Places.{cut, is_past}
+use Rattle.machine_model.specs.Refusals.{first, when, object_named, rows_of, goes_past, is_absent}
+use Rattle.machine_model.specs.Refusals.{is_misfit, walks_badly, refusal}
 use Rattle.machine_model.specs.Steps.{Held, table_of}
 use Rattle.machine_model.proofs.Places.{bytes_differ}
 use Rattle.scan_model.specs.Laws.{Offers}
@@ -51,7 +53,7 @@ init_allowed g operations s name count n e l =
     (few (column_count g * g.banks) count l)
 
 fill_case : (a b : Bool) → a ≡ false → b ≡ false
-    → Allowed (first (when a (why.NoObject 0) ∷ when b (why.Range 1) ∷ []))
+    → Allowed (first (when a (why.NoObject 0) ∷ None ∷ when b (why.Range 1) ∷ []))
 fill_case true b e f = cc
 fill_case false true e f = cc
 fill_case false false e f = done
@@ -65,7 +67,7 @@ below a b h = grind (arith, nat_tests)
 
 pub fill_allowed : (g : Geometry) (operations : Routines) (s : List Held) (name : List ℕ)
     (v : ℕ) (h : Held) → lookup s name ≡ Some h → v < 2 ^ h.object.width
-    → Allowed (refusal g operations (table_of s) (Fill name v))
+    → Allowed (refusal g operations (table_of s) (Fill (whole name) v))
 fill_allowed g operations s name v h e l =
     fill_case (is_absent (table_of s) name) (leb (2 ^ (object_named (table_of s) name).width) v)
     (present s name h e)
@@ -85,35 +87,41 @@ granted None true e = full why.NoRows (inr refl)
 granted None false e = done
 granted (Some w) b e = cc
 
--- an object that is there, as wide as its kind, and of the count
-pub record IsUsed (s : List Held) (kind : Kind) (count n : ℕ) (name : List ℕ) : Type 0 where
+-- the operand is within an object, as wide as its kind, and of the count
+pub record IsUsed (s : List Held) (kind : Kind) (count n : ℕ) (p : Place) : Type 0 where
   pub held : Held
-  pub at : lookup s name ≡ Some held
-  pub wide : held.object.width ≡ width kind n
-  pub counted : held.object.count ≡ count
+  pub at : lookup s p.name ≡ Some held
+  pub inside : is_past p.part held.object ≡ false
+  pub wide : (cut p.part held.object).width ≡ width kind n
+  pub counted : (cut p.part held.object).count ≡ count
 
 same_number : (a b : ℕ) → a ≡ b → eqb a b ≡ true
 same_number a b e = grind (arith, nat_tests)
 
-used_fits : (s : List Held) (kind : Kind) (count n : ℕ) (name : List ℕ)
-    → IsUsed s kind count n name → is_misfit n (kind, object_named (table_of s) name) ≡ false
-used_fits s kind count n name u = ap (λ o. not (eqb o.width (width kind n)))
-    (at_object s name u.held u.at) ∙ ap not (same_number _ _ u.wide)
+used_fits : (s : List Held) (kind : Kind) (count n : ℕ) (p : Place)
+    → IsUsed s kind count n p → is_misfit n (kind, rows_of (table_of s) p) ≡ false
+used_fits s kind count n p u = ap (λ o. not (eqb (cut p.part o).width (width kind n)))
+    (at_object s p.name u.held u.at) ∙ ap not (same_number _ _ u.wide)
 
-used_counts : (s : List Held) (kind : Kind) (count n : ℕ) (name : List ℕ)
-    → IsUsed s kind count n name → not (eqb (object_named (table_of s) name).count count) ≡ false
-used_counts s kind count n name u = ap (λ o. not (eqb o.count count))
-    (at_object s name u.held u.at) ∙ ap not (same_number _ _ u.counted)
+used_counts : (s : List Held) (kind : Kind) (count n : ℕ) (p : Place)
+    → IsUsed s kind count n p → not (eqb (rows_of (table_of s) p).count count) ≡ false
+used_counts s kind count n p u = ap (λ o. not (eqb (cut p.part o).count count))
+    (at_object s p.name u.held u.at) ∙ ap not (same_number _ _ u.counted)
 
-used_present : (s : List Held) (kind : Kind) (count n : ℕ) (name : List ℕ)
-    → IsUsed s kind count n name → is_absent (table_of s) name ≡ false
-used_present s kind count n name u = present s name u.held u.at
+used_present : (s : List Held) (kind : Kind) (count n : ℕ) (p : Place)
+    → IsUsed s kind count n p → is_absent (table_of s) p.name ≡ false
+used_present s kind count n p u = present s p.name u.held u.at
+
+used_inside : (s : List Held) (kind : Kind) (count n : ℕ) (p : Place)
+    → IsUsed s kind count n p → goes_past (table_of s) p ≡ false
+used_inside s kind count n p u = ap (is_past p.part) (at_object s p.name u.held u.at) ∙ u.inside
 
 -- a bbop of two sources
-pub two_allowed : (g : Geometry) (operations : Routines) (s : List Held) (op dst a b : List ℕ)
-    (j k : Kind) (count n : ℕ)
+pub two_allowed : (g : Geometry) (operations : Routines) (s : List Held) (op : List ℕ)
+    (dst a b : Place) (j k : Kind) (count n : ℕ)
     → (o : Offers operations op (j ∷ k ∷ [])) → 0 < n → n ≤ WIDTH_MAX
-    → IsUsed s Bit count n dst → IsUsed s j count n a → IsUsed s k count n b → a ≢ dst → b ≢ dst
+    → IsUsed s Bit count n dst → IsUsed s j count n a → IsUsed s k count n b
+    → a.name ≢ dst.name → b.name ≢ dst.name
     → Allowed (refusal g operations (table_of s) (Bbop op dst (a ∷ b ∷ []) count n))
 two_allowed g operations s op dst a b j k count n o some few u v w ne mf =
     rw (
@@ -124,24 +132,27 @@ two_allowed g operations s op dst a b j k count n o some few u v w ne mf =
       used_present s Bit count n dst u,
       used_present s j count n a v,
       used_present s k count n b w,
+      used_inside s Bit count n dst u,
+      used_inside s j count n a v,
+      used_inside s k count n b w,
       used_fits s Bit count n dst u,
       used_fits s j count n a v,
       used_fits s k count n b w,
       used_counts s Bit count n dst u,
       used_counts s j count n a v,
       used_counts s k count n b w,
-      bytes_differ a dst ne,
-      bytes_differ b dst mf,
+      bytes_differ a.name dst.name ne,
+      bytes_differ b.name dst.name mf,
     )
     (granted (walks_badly (o.operation.trace n))
     (is_none (free (limit_of g) (objects_of (table_of s)) (need o.operation.shape n)))
     (o.walks n some few))
 
 -- a bbop of one source
-pub one_allowed : (g : Geometry) (operations : Routines) (s : List Held) (op dst a : List ℕ)
-    (j : Kind) (count n : ℕ)
+pub one_allowed : (g : Geometry) (operations : Routines) (s : List Held) (op : List ℕ)
+    (dst a : Place) (j : Kind) (count n : ℕ)
     → (o : Offers operations op (j ∷ [])) → 0 < n → n ≤ WIDTH_MAX
-    → IsUsed s Bit count n dst → IsUsed s j count n a → a ≢ dst
+    → IsUsed s Bit count n dst → IsUsed s j count n a → a.name ≢ dst.name
     → Allowed (refusal g operations (table_of s) (Bbop op dst (a ∷ []) count n))
 one_allowed g operations s op dst a j count n o some few u v ne =
     rw (
@@ -151,11 +162,13 @@ one_allowed g operations s op dst a j count n o some few u v ne =
       o.one_result,
       used_present s Bit count n dst u,
       used_present s j count n a v,
+      used_inside s Bit count n dst u,
+      used_inside s j count n a v,
       used_fits s Bit count n dst u,
       used_fits s j count n a v,
       used_counts s Bit count n dst u,
       used_counts s j count n a v,
-      bytes_differ a dst ne,
+      bytes_differ a.name dst.name ne,
     )
     (granted (walks_badly (o.operation.trace n))
     (is_none (free (limit_of g) (objects_of (table_of s)) (need o.operation.shape n)))

@@ -1,6 +1,7 @@
 -- Objects by name in a state that grows at its end.
 use Rattle.std.proofs.Common.{◌≡◌, ◌≢◌, ℕ, Bool, true, false, not, cond, List, [], ◌∷◌, ◌++◌}
-use Rattle.std.proofs.Common.{Option, Some, None, refl, ◌∙◌, ap, subst, append-nil}
+use Rattle.std.proofs.Common.{Option, Some, None, refl, ◌∙◌, ap, subst, append-nil, map, length}
+use Rattle.std.proofs.Common.{arith}
 use Rattle.std.specs.Prelude.{filter, ◌||◌}
 use Rattle.std.specs.List.{find, AllByRecursion}
 use Rattle.std.specs.Option.{option_map, unwrap_or, option_or}
@@ -8,7 +9,9 @@ use Rattle.std.specs.Str.{bytes_eq}
 use Rattle.std.proofs.lemmas.List.Folds.{find-append}
 use Rattle.object_alloc.specs.Listed.{Named, has_name}
 use Rattle.machine_model.specs.Refusals.{object_named, nothing}
-use Rattle.machine_model.specs.Steps.{Held, table_of, numbers_named, with_numbers}
+use Rattle.bbop_isa.specs.Forms.{whole}
+use Rattle.machine_model.specs.Places.{seen, put_all}
+use Rattle.machine_model.specs.Steps.{Held, table_of, numbers_named, numbers_at, with_results}
 use Rattle.machine_model.proofs.Places.{bytes_same, bytes_differ, find_map, entry_of}
 
 -- the object of this name, and that there is none
@@ -115,18 +118,35 @@ at_numbers s name h e = ap (λ (found : Option Held). unwrap_or (option_map (λ 
 abbrev pub renumbered : Held → List ℕ → Held
 renumbered h numbers = record { name = h.name; object = h.object; numbers = numbers }
 
-pub with_last : (s : List Held) (h : Held) (numbers : List ℕ) → lookup s h.name ≡ None
-    → with_numbers (s ++ h ∷ []) h.name numbers ≡ s ++ renumbered h numbers ∷ []
-with_last [] h numbers e = rw (bytes_same h.name h.name refl) refl
-with_last (g ∷ s) h numbers e = last_case (bytes_eq g.name h.name) g h s numbers (lookup s h.name)
-    (with_last s h numbers) e where
-      last_case : (b : Bool) (g h : Held) (s : List Held) (numbers : List ℕ) (found : Option Held)
-          → (found ≡ None → with_numbers (s ++ h ∷ []) h.name numbers ≡ s ++ renumbered h numbers
-          ∷ []) → cond b (Some g) found ≡ None
-          → cond b (renumbered g numbers) g ∷ with_numbers (s ++ h ∷ []) h.name numbers ≡ g
-          ∷ (s ++ renumbered h numbers ∷ [])
-      last_case true g h s numbers found go e = cc
-      last_case false g h s numbers found go e = ap (λ rest. g ∷ rest) (go e)
+-- what is seen of a whole number is the number
+pub seen_whole : (numbers : List ℕ) → map (seen None) numbers ≡ numbers
+seen_whole [] = refl
+seen_whole (v ∷ numbers) = ap (λ vs. v ∷ vs) (seen_whole numbers)
+
+pub whole_numbers : (s : List Held) (name : List ℕ) (h : Held) → lookup s name ≡ Some h
+    → numbers_at s (whole name) ≡ h.numbers
+whole_numbers s name h e = seen_whole (numbers_named s name) ∙ at_numbers s name h e
+
+put_whole : (olds news : List ℕ) → length olds ≡ length news → put_all None olds news ≡ news
+put_whole [] [] e = refl
+put_whole [] (v ∷ news) e = absurd (omega arith)
+put_whole (v ∷ olds) [] e = absurd (omega arith)
+put_whole (u ∷ olds) (v ∷ news) e = ap (λ vs. v ∷ vs) (put_whole olds news (omega arith))
+
+-- as many numbers for the last object
+pub with_last : (s : List Held) (h : Held) (result : ℕ → List ℕ) → lookup s h.name ≡ None
+    → length h.numbers ≡ length (result 0)
+    → with_results (s ++ h ∷ []) result (whole h.name ∷ []) ≡ s ++ renumbered h (result 0) ∷ []
+with_last [] h result e l =
+    rw (bytes_same h.name h.name refl, put_whole h.numbers (result 0) l) refl
+with_last (g ∷ s) h result e l = last_case (bytes_eq g.name h.name) g (put_all None g.numbers
+    (result 0)) (with_results (s ++ h ∷ []) result (whole h.name ∷ [])) (s ++ renumbered h
+    (result 0) ∷ []) (lookup s h.name) (λ found. with_last s h result found l) e where
+      last_case : (b : Bool) (g : Held) (put : List ℕ) (xs ys : List Held) (found : Option Held)
+          → (found ≡ None → xs ≡ ys) → cond b (Some g) found ≡ None
+          → renumbered g (cond b put g.numbers) ∷ xs ≡ g ∷ ys
+      last_case true g put xs ys found go e = cc
+      last_case false g put xs ys found go e = ap (λ rest. g ∷ rest) (go e)
 
 -- the state without the objects of a name
 abbrev pub dropped : List Held → List ℕ → List Held

@@ -3,7 +3,7 @@ use Rattle.std.proofs.Common.{◌≡◌, ℕ, true, false, List, [], ◌∷◌, 
 use Rattle.std.proofs.Common.{refl}
 use Rattle.std.specs.Prelude.{codes}
 use Rattle.object_alloc.specs.Listed.{Named}
-use Rattle.bbop_isa.specs.Forms.{Init, Bbop, Fill, Free}
+use Rattle.bbop_isa.specs.Forms.{Init, Bbop, Fill, Free, whole}
 use Rattle.scan_model.specs.declared.CmpOp.TheVariants as cmp
 use Rattle.scan_model.specs.declared.QueryKind.TheVariants as kind
 use Rattle.scan_model.specs.declared.ScanWhy.TheVariants as scan
@@ -41,9 +41,9 @@ abbrev n : ℕ → List ℕ
 n k = 115 ∷ k ∷ []
 
 instructions : script_from table n 4 0 (nodes_of (Negate (Compare cmp.Le a 7)))
-    ≡ Init (n 0) 4 8 ∷ Fill (n 0) 7 ∷ Init (n 1) 4 1 ∷ Bbop (codes "s_ge") (n 1) (n 0 ∷ a ∷ []) 4
-    8 ∷ Free (n 0)
-    ∷ Init (n 2) 4 1 ∷ Bbop (codes "s_not") (n 2) (n 1 ∷ []) 4 1 ∷ Free (n 1) ∷ []
+    ≡ Init (n 0) 4 8 ∷ Fill (whole (n 0)) 7 ∷ Init (n 1) 4 1
+    ∷ Bbop (codes "s_ge") (whole (n 1)) (whole (n 0) ∷ whole a ∷ []) 4 8 ∷ Free (n 0)
+    ∷ Init (n 2) 4 1 ∷ Bbop (codes "s_not") (whole (n 2)) (whole (n 1) ∷ []) 4 1 ∷ Free (n 1) ∷ []
 instructions = refl
 
 range : checked table (nodes_of (Compare cmp.Eq a 256)) ≡ Some (scan.Range, 0)

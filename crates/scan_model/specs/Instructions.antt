@@ -1,7 +1,8 @@
 -- The instructions of a query, node by node.
 use Rattle.std.specs.Prelude.{ℕ, ◌+◌, List, [], ◌∷◌, ◌++◌, codes}
 use Rattle.object_alloc.specs.Listed.{Named}
-use Rattle.bbop_isa.specs.Forms.{Instruction, Init, Bbop, Fill, Free}
+use Rattle.bbop_isa.specs.declared.instr.Place.{Place}
+use Rattle.bbop_isa.specs.Forms.{Instruction, Init, Bbop, Fill, Free, whole}
 use Rattle.machine_model.specs.Refusals.{object_named}
 use Rattle.scan_model.specs.declared.CmpOp.{CmpOp}
 use Rattle.scan_model.specs.declared.CmpOp.TheVariants as cmp
@@ -17,32 +18,33 @@ op_for cmp.Lt = codes "s_gt"
 op_for cmp.Le = codes "s_ge"
 
 -- the sources of a comparison: the object and the constant, turned for less
-abbrev pub sources_for : CmpOp → List ℕ → List ℕ → List (List ℕ)
-sources_for cmp.Eq name c = name ∷ c ∷ []
-sources_for cmp.Gt name c = name ∷ c ∷ []
-sources_for cmp.Ge name c = name ∷ c ∷ []
-sources_for cmp.Lt name c = c ∷ name ∷ []
-sources_for cmp.Le name c = c ∷ name ∷ []
+abbrev pub sources_for : CmpOp → Place → Place → List Place
+sources_for cmp.Eq place c = place ∷ c ∷ []
+sources_for cmp.Gt place c = place ∷ c ∷ []
+sources_for cmp.Ge place c = place ∷ c ∷ []
+sources_for cmp.Lt place c = c ∷ place ∷ []
+sources_for cmp.Le place c = c ∷ place ∷ []
 
--- an object of this name and width is filled with the number, and compared into the object r
-abbrev pub compare_with : (c r name : List ℕ) → CmpOp → (v count n : ℕ) → List Instruction
-compare_with c r name op v count n =
-    Init c count n ∷ Fill c v ∷ Init r count 1 ∷ Bbop (op_for op) r (sources_for op name c) count
-    n ∷ Free c ∷ []
+-- an object c as wide as the operand is filled with the number, and compared into the object r
+abbrev pub compare_with : (c r : List ℕ) → Place → CmpOp → (v count n : ℕ) → List Instruction
+compare_with c r place op v count n =
+    Init c count n ∷ Fill (whole c) v ∷ Init r count 1
+    ∷ Bbop (op_for op) (whole r) (sources_for op place (whole c)) count n ∷ Free c ∷ []
 
 -- a node of one source: a new object of one bit takes the result, and the source's is freed
 abbrev pub join_one : List ℕ → (r a : List ℕ) → ℕ → List Instruction
-join_one op r a count = Init r count 1 ∷ Bbop op r (a ∷ []) count 1 ∷ Free a ∷ []
+join_one op r a count = Init r count 1 ∷ Bbop op (whole r) (whole a ∷ []) count 1 ∷ Free a ∷ []
 
 -- a node of two sources, whose objects are freed
 abbrev pub join_two : List ℕ → (r a b : List ℕ) → ℕ → List Instruction
-join_two op r a b count = Init r count 1 ∷ Bbop op r (a ∷ b ∷ []) count 1 ∷ Free a ∷ Free b ∷ []
+join_two op r a b count = Init r count 1 ∷ Bbop op (whole r) (whole a ∷ whole b ∷ []) count 1
+    ∷ Free a ∷ Free b ∷ []
 
 -- the name number 0 is that of the object to compare with, and the name k + 1 is that of the
 -- result of node k
 abbrev pub node_instructions : List Named → (ℕ → List ℕ) → ℕ → ℕ → Node → List Instruction
 node_instructions table names count k (Test op name v) =
-    compare_with (names 0) (names (k + 1)) name op v count (object_named table name).width
+    compare_with (names 0) (names (k + 1)) (whole name) op v count (object_named table name).width
 node_instructions table names count k (Not a) =
     join_one (codes "s_not") (names (k + 1)) (names (a + 1)) count
 node_instructions table names count k (And a b) =

@@ -1,7 +1,7 @@
 -- The nodes of a query, as the definitions of scans know them.
 use Rattle.std.specs.Prelude.{◌≡◌, ℕ, ◌+◌, ◌<◌, ◌≤◌, List, [], map, codes, slice_index_or}
 use Rattle.object_alloc.specs.Listed.{Named}
-use Rattle.bbop_isa.specs.Forms.{Instruction}
+use Rattle.bbop_isa.specs.Forms.{Instruction, whole}
 use Rattle.machine_model.specs.Refusals.{object_named}
 use Rattle.scan_model.specs.Queries as model
 use Rattle.scan_model.specs.Instructions.{compare_with, join_one, join_two}
@@ -46,7 +46,7 @@ width_in table (model.Or a b) = 1
 -- what a part of a scan takes, for its proof: the instructions of a node of this width
 abbrev pub instructions_for : (ℕ → List ℕ) → (count width k : ℕ) → model.Node → List Instruction
 instructions_for names count width k (model.Test op name v) =
-    compare_with (names 0) (names (k + 1)) name op v count width
+    compare_with (names 0) (names (k + 1)) (whole name) op v count width
 instructions_for names count width k (model.Not a) =
     join_one (codes "s_not") (names (k + 1)) (names (a + 1)) count
 instructions_for names count width k (model.And a b) =

@@ -2,7 +2,7 @@
 
 ghost use Rattle.std.specs.Prelude.{◌≡◌, ◌<◌, ◌≤◌, ◌∷◌, [], length, map, slice_get, option_map};
 ghost use Rattle.std.specs.Prelude.{codes, true, false, IfSome};
-ghost use Rattle.bbop_isa.specs.Forms.{view_of};
+ghost use Rattle.bbop_isa.specs.Forms.{view_of, whole};
 ghost use Rattle.text_lex.specs.Spelled.{fits_name};
 ghost use Rattle.sim_machine.specs.Machine.{is_print};
 ghost use Rattle.scan_model.specs.Instructions.{compare_with, join_one, join_two};
@@ -14,7 +14,7 @@ use crate::checks::object_named;
 use crate::ops::named;
 use crate::query::Node;
 use arrayvec::ArrayVec;
-use bbop_isa::Instr;
+use bbop_isa::{Instr, Place};
 use object_alloc::Table;
 use scan_model::CmpOp;
 use text_lex::Name;
@@ -53,27 +53,38 @@ fn op_for(op: CmpOp) -> Name
     }
 }
 
-/// Two names in a row.
-fn two(a: &Name, b: &Name) -> ArrayVec<Name, 5>
-    ensures { result.items ≡ a.now ∷ b.now ∷ [] }
+/// An object as a whole.
+fn whole(name: &Name) -> Place
+    ensures { result ≡ whole name.now }
 {
-    let mut names = ArrayVec::new();
-    names.push(a.copied());
-    names.push(b.copied());
-    names
+    Place {
+        name: name.copied(),
+        part: None,
+    }
 }
 
-fn one(a: &Name) -> ArrayVec<Name, 5>
-    ensures { result.items ≡ a.now ∷ [] }
+/// Two operands, in this order.
+fn two(a: &Name, b: &Name) -> ArrayVec<Place, 5>
+    ensures { result.items ≡ whole a.now ∷ whole b.now ∷ [] }
 {
-    let mut names = ArrayVec::new();
-    names.push(a.copied());
-    names
+    let mut places = ArrayVec::new();
+    places.push(whole(a));
+    places.push(whole(b));
+    places
+}
+
+/// One operand.
+fn one(a: &Name) -> ArrayVec<Place, 5>
+    ensures { result.items ≡ whole a.now ∷ [] }
+{
+    let mut places = ArrayVec::new();
+    places.push(whole(a));
+    places
 }
 
 /// The object and what it is compared with, in the order of the comparison.
-fn sources_for(op: CmpOp, name: &Name, bound: &Name) -> ArrayVec<Name, 5>
-    ensures { result.items ≡ sources_for op name.now bound.now }
+fn sources_for(op: CmpOp, name: &Name, bound: &Name) -> ArrayVec<Place, 5>
+    ensures { result.items ≡ sources_for op (whole name.now) (whole bound.now) }
 {
     match op {
         CmpOp::Eq | CmpOp::Gt | CmpOp::Ge => two(name, bound),
@@ -99,7 +110,7 @@ fn compare(
     i: u8,
 ) -> Option<Instr>
     ensures value { option_map view_of result
-        ≡ slice_get (compare_with bound.now outcome.now name.now op
+        ≡ slice_get (compare_with bound.now outcome.now (whole name.now) op
         value size.count size.width) i }
     ensures silent { IfSome result (λ instr. is_print (view_of instr) ≡ false) }
 {
@@ -111,7 +122,7 @@ fn compare(
             n: width,
         }),
         1 => Some(Instr::Fill {
-            name: bound.copied(),
+            place: whole(bound),
             value,
         }),
         2 => Some(Instr::Init {
@@ -121,7 +132,7 @@ fn compare(
         }),
         3 => Some(Instr::Bbop {
             op: op_for(op),
-            dst: outcome.copied(),
+            dst: whole(outcome),
             srcs: sources_for(op, name, bound),
             count,
             n: width,
@@ -148,7 +159,7 @@ fn negate(a: &Name, outcome: &Name, count: u32, i: u8) -> Option<Instr>
         }),
         1 => Some(Instr::Bbop {
             op: named(b"s_not"),
-            dst: outcome.copied(),
+            dst: whole(outcome),
             srcs: one(a),
             count,
             n: 1,
@@ -174,7 +185,7 @@ fn join(op: &[u8], a: &Name, b: &Name, outcome: &Name, count: u32, i: u8) -> Opt
         }),
         1 => Some(Instr::Bbop {
             op: named(op),
-            dst: outcome.copied(),
+            dst: whole(outcome),
             srcs: two(a, b),
             count,
             n: 1,

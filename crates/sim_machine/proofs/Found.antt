@@ -1,6 +1,13 @@
 -- Where a condition on operands holds first.
 use Rattle.std.proofs.Common.{◌≡◌, ℕ, ◌+◌, Bool, false, List, [], ◌∷◌}
-use Rattle.std.proofs.Common.{map, zip, Some, None}
+use Rattle.std.proofs.Common.{◌++◌, ◌==◌, true, length, map, zip, Some, None}
+use Rattle.std.specs.Prelude.{Option, Result, Ok, Err, IfErr}
+use Rattle.uprog_code.specs.Shape.{results}
+use Rattle.object_alloc.specs.Listed.{Named}
+use Rattle.bbop_isa.specs.declared.instr.Place.{Place}
+use Rattle.machine_model.specs.Routines.{Routine}
+use Rattle.machine_model.specs.Refusals.{first, operand_conditions, grant_conditions}
+use Rattle.machine_model.specs.Refusals.{bbop_conditions}
 use Rattle.std.proofs.Common.{refl, sym, ◌∙◌, ap, position}
 use Rattle.std.specs.Prelude.{if◌then◌else◌}
 use Rattle.std.specs.Option.{option_map}
@@ -34,8 +41,8 @@ pub at_place-zip : {K X Y : Type 0} (reason : ℕ → Why) (k : ℕ) (p : K × Y
 at_place-zip reason k p h ks xs = rw (zip-map h ks xs)
     (at_place-map_map reason k p (λ pair. (pair.0, h pair.1)) (zip ks xs))
 
-pub misfit-none : (n : ℕ) (kinds found : List Kind) (f : List ℕ
-    → Object) (srcs : List (List ℕ)) (b : Bool) → b ≡ false → found ≡ kinds
+pub misfit-none : {X : Type 0} (n : ℕ) (kinds found : List Kind) (f : X → Object) (srcs : List X)
+    (b : Bool) → b ≡ false → found ≡ kinds
     → None ≡ position (λ pair. is_misfit n (pair.0, f pair.1)) (zip found srcs)
     → None ≡ (if b then Some (why.Width 0) else at_place why.Width 1
     (map (is_misfit n) (zip kinds (map f srcs))))
@@ -44,3 +51,21 @@ misfit-none n kinds found f srcs b e same h =
     ∙ sym (at_place-zip why.Width 1 (is_misfit n) f found srcs))
 
 pub ruleset places = (at_place-map, at_place-map_map, at_place-zip, look_up-some)
+
+-- where none of the first conditions holds
+first_after : (xs ys : List (Option Why)) → first xs ≡ None → first (xs ++ ys) ≡ first ys
+first_after [] ys e = refl
+first_after (None ∷ xs) ys e = first_after xs ys e
+first_after (Some reason ∷ xs) ys e = absurd (cc)
+
+-- operands that fit leave the conditions on the walk and on the scratch
+pub refused_last : {X : Type 0} (limit : ℕ) (table : List Named) (o : Routine)
+    (places : List Place) (count n : ℕ) (result : Result X Why)
+    → (length places == length (results o.shape ++ o.shape.sources)) ≡ true
+    → first (operand_conditions table o.shape places count n) ≡ None
+    → IfErr result (λ reason. first (grant_conditions limit table o n) ≡ Some reason)
+    → IfErr result (λ reason. first (bbop_conditions limit table o places count n) ≡ Some reason)
+refused_last limit table o places count n (Ok x) fit none refused = tt
+refused_last limit table o places count n (Err reason) fit none refused =
+    rw fit (first_after (operand_conditions table o.shape places count n)
+    (grant_conditions limit table o n) none ∙ refused)

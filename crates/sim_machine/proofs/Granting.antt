@@ -16,7 +16,7 @@ use Rattle.uprog_code.specs.Count.{walked}
 use Rattle.uprog_code.specs.Legal.{IsLegalCode}
 use Rattle.uprog_ctl.specs.Waves.{BoundJob, CanRun, wave_job}
 use Rattle.uprog_code.specs.declared.binding.Binding.{Binding}
-use Rattle.uprog_code.specs.Shape.{Microprogram, need, results}
+use Rattle.uprog_code.specs.Shape.{Microprogram, need}
 use Rattle.uprog_code.specs.Machine.{trace, issues_of}
 use Rattle.uprog_code.specs.Bound.{Bound, bound, bound_of}
 use Rattle.uprog_code.specs.Fits.{Fits}
@@ -27,11 +27,14 @@ use Rattle.object_alloc.specs.Spelling.{IsObject}
 use Rattle.machine_model.specs.Columns.{segments}
 use Rattle.machine_model.specs.Routines.{Routine, routine_of}
 use Rattle.machine_model.specs.Refusals.{nothing, object_named, first, bbop_conditions}
-use Rattle.machine_model.specs.Refusals.{dsts_in, srcs_in}
+use Rattle.machine_model.specs.Refusals.{rows_of, dsts_in, srcs_in}
+use Rattle.bbop_isa.specs.declared.instr.Place.{Place}
+use Rattle.object_steps.specs.Objects.{FitsOn}
+use Rattle.object_steps.proofs.Found.{part_fits}
 use Rattle.machine_model.specs.Steps.{Held, table_of, base_for, binding}
 use Rattle.machine_model.proofs.Facts.{AreOperands, none, more, good}
 use Rattle.op_text.specs.declared.tree.Kind.{Kind}
-use Rattle.machine_model.proofs.Bbops.{binding_fits, operand_at}
+use Rattle.machine_model.proofs.Bbops.{binding_fits, first_operand}
 use Rattle.sim_machine.specs.declared.refusal.Grant.{Grant}
 use Rattle.sim_machine.specs.Granted.{IsGranted, granted_job}
 use Rattle.sim_machine.proofs.Counting.{has_ended}
@@ -46,8 +49,8 @@ still_table : (table : List Named)
 still_table [] = refl
 still_table (p ∷ table) = ap (λ rest. p ∷ rest) (still_table table)
 
-pub fits_at : (g : Geometry) (table : List Named) (o : Routine) (dst : List ℕ)
-    (srcs : List (List ℕ)) (count n : ℕ) → IsTable (limit_of g) table
+pub fits_at : (g : Geometry) (table : List Named) (o : Routine) (dst : Place)
+    (srcs : List Place) (count n : ℕ) → IsTable (limit_of g) table
     → first (bbop_conditions (limit_of g) table o (dst ∷ srcs) count n) ≡ None
     → Fits g.rows o.shape n (binding g table o.shape (dst ∷ srcs) n)
 fits_at g table o dst srcs count n listed allowed =
@@ -78,25 +81,26 @@ found_object P (p ∷ table) name h all =
     (All-head (λ (named : Named). P named.1) p table all) (λ e.
     found_object P table name e (All-tail (λ (named : Named). P named.1) p table all))
 
-pub object_fits : (g : Geometry) (table : List Named) (o : Routine) (dst : List ℕ)
-    (srcs : List (List ℕ)) (count n : ℕ) → All (λ named. IsObject g named.1) table
+pub object_fits : (g : Geometry) (table : List Named) (o : Routine) (dst : Place)
+    (srcs : List Place) (count n : ℕ) → All (λ named. IsObject g named.1) table
     → first (bbop_conditions (limit_of g) table o (dst ∷ srcs) count n) ≡ None
-    → IsObject g (object_named table dst)
+    → FitsOn g (rows_of table dst)
 object_fits g table o dst srcs count n all allowed =
-    found_object (IsObject g) table dst (operand_at table count n (results o.shape)
-    (dsts_in o.shape (dst ∷ srcs)) 0 (omega arith)
-    (good g table o (dst ∷ srcs) count n allowed).destinations).0 all
+    let op = first_operand table count n _ _ dst _
+    (good g table o (dst ∷ srcs) count n allowed).destinations in
+    part_fits g (object_named table dst.name) dst.part op.inside
+    (found_object (IsObject g) table dst.name op.present all)
 
 same_bound : (b : Bound) (result : List ℕ) (sources : List ℕ) (scratch : ℕ) → b.results ≡ result
     → b.sources ≡ sources → b.scratch ≡ scratch
     → b ≡ record { results = result; sources = sources; scratch = scratch }
 same_bound b result sources scratch e f h = rw (← e, ← f, ← h) refl
 
-pub bound_is : (g : Geometry) (limit : ℕ) (table : List Named) (m : Microprogram) (dst : List ℕ)
-    (srcs : List (List ℕ)) (n : ℕ) (b : Binding) (grant : Grant) → limit ≡ limit_of g
-    → (bound_of b).results ≡ map (λ name. (object_named table name).base)
+pub bound_is : (g : Geometry) (limit : ℕ) (table : List Named) (m : Microprogram) (dst : Place)
+    (srcs : List Place) (n : ℕ) (b : Binding) (grant : Grant) → limit ≡ limit_of g
+    → (bound_of b).results ≡ map (λ p. (rows_of table p).base)
     (dsts_in m.shape (dst ∷ srcs)) → (bound_of b).sources
-    ≡ map (λ name. (object_named table name).base) (srcs_in m.shape (dst ∷ srcs))
+    ≡ map (λ p. (rows_of table p).base) (srcs_in m.shape (dst ∷ srcs))
     → (bound_of b).scratch ≡ grant.scratch
     → IsGranted limit table m n grant → bound_of b ≡ binding g table m.shape (dst ∷ srcs) n
 bound_is g limit table m dst srcs n b grant l e f h i =
@@ -107,8 +111,8 @@ bound_is g limit table m dst srcs n b grant l e f h i =
       based : grant.scratch ≡ base_for g table (need m.shape n)
       based = ap (λ o. unwrap_or o 0) (sym at_limit)
 
-pub binding_is_fit : (g : Geometry) (table : List Named) (m : Microprogram) (dst : List ℕ)
-    (srcs : List (List ℕ)) (count n rows width : ℕ) (b : Bound) → IsTable (limit_of g) table
+pub binding_is_fit : (g : Geometry) (table : List Named) (m : Microprogram) (dst : Place)
+    (srcs : List Place) (count n rows width : ℕ) (b : Bound) → IsTable (limit_of g) table
     → first (bbop_conditions (limit_of g) table (routine_of m) (dst ∷ srcs) count n) ≡ None
     → b ≡ binding g table m.shape (dst ∷ srcs) n → rows ≡ g.rows → width ≡ n
     → Fits rows m.shape width b
@@ -123,8 +127,8 @@ bound_job_of m b banks = record {
   banks = banks;
 }
 
-pub can_run : (g : Geometry) (table : List Named) (m : Microprogram) (dst : List ℕ)
-    (srcs : List (List ℕ)) (count n banks : ℕ) (b : Binding) (counts : Counts)
+pub can_run : (g : Geometry) (table : List Named) (m : Microprogram) (dst : Place)
+    (srcs : List Place) (count n banks : ℕ) (b : Binding) (counts : Counts)
     → IsLegalCode m.shape m.code → 0 < n → n ≤ WIDTH_MAX → IsTable (limit_of g) table
     → first (bbop_conditions (limit_of g) table (routine_of m) (dst ∷ srcs) count n) ≡ None
     → b.n ≡ n → bound_of b ≡ binding g table m.shape (dst ∷ srcs) n
@@ -150,24 +154,24 @@ same_job a b k l e f = rw (e, f) refl
 abbrev with_width : ℕ → Microprogram → ℕ → Bound → List Command
 with_width rows m w at = bound rows m.shape w at (issues_of (trace m.shape m.code w))
 
-pub job_is : (g : Geometry) (table : List Named) (m : Microprogram) (dst : List ℕ)
-    (srcs : List (List ℕ)) (n banks : ℕ) (b : Binding) → b.n ≡ n
+pub job_is : (g : Geometry) (table : List Named) (m : Microprogram) (dst : Place)
+    (srcs : List Place) (n banks : ℕ) (b : Binding) → b.n ≡ n
     → bound_of b ≡ binding g table m.shape (dst ∷ srcs) n
-    → banks ≡ segments g (object_named table dst)
+    → banks ≡ segments g (rows_of table dst)
     → wave_job g.rows (bound_job_of m b banks) ≡ granted_job g table m dst srcs n
 job_is g table m dst srcs n banks b e f h = same_job _ _ _ _
     (ap (λ w. with_width g.rows m w (bound_of b)) e ∙ ap (with_width g.rows m n) f) h
 
 -- as many sources as the operation has
-pub few_sources : (g : Geometry) (table : List Named) (o : Routine) (dst : List ℕ)
-    (srcs : List (List ℕ)) (count n : ℕ)
+pub few_sources : (g : Geometry) (table : List Named) (o : Routine) (dst : Place)
+    (srcs : List Place) (count n : ℕ)
     → first (bbop_conditions (limit_of g) table o (dst ∷ srcs) count n) ≡ None
     → length (srcs_in o.shape (dst ∷ srcs)) ≡ length o.shape.sources
 few_sources g table o dst srcs count n allowed =
     same_length table count n o.shape.sources (srcs_in o.shape (dst ∷ srcs))
     (good g table o (dst ∷ srcs) count n allowed).sources
   where
-    same_length : (table : List Named) (count n : ℕ) (ks : List Kind) (xs : List (List ℕ))
+    same_length : (table : List Named) (count n : ℕ) (ks : List Kind) (xs : List Place)
         → AreOperands table count n ks xs → length xs ≡ length ks
     same_length table count n [] [] none = refl
     same_length table count n [] (x ∷ xs) h = elim h [ ]

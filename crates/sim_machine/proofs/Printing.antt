@@ -1,7 +1,7 @@
 -- What comes of a print.
 use Rattle.std.proofs.Common.{◌≡◌, ℕ, ◌≤◌, List, [], ◌++◌, refl, sym, ◌∙◌, ap, subst, append-nil}
-use Rattle.std.proofs.Common.{arith, cond, None, Some, not, true}
-use Rattle.std.specs.Prelude.{Option, Err, is_none}
+use Rattle.std.proofs.Common.{arith, cond, None, Some}
+use Rattle.std.specs.Prelude.{Option, Result, Ok, Err, OnErr, IsErrOf, is_none}
 use Rattle.host_edge.specs.Views.{SinkView, Known, AppendsPart}
 use Rattle.host_edge.proofs.Tells.{Known-trans}
 use Rattle.faults.specs.Counts.{Rose}
@@ -9,18 +9,15 @@ use Rattle.transpose_unit.specs.Stopped.{StoppedWithin}
 use Rattle.dram_model.specs.View.{ChipView, DidRead}
 use Rattle.dram_model.specs.Elements.{FailedBelow}
 use Rattle.uprog_code.specs.declared.walker.Counts.{Counts}
+use Rattle.bbop_isa.specs.declared.instr.Place.{Place}
 use Rattle.bbop_isa.specs.Forms.{Print}
 use Rattle.machine_model.specs.declared.Reply.{Reply}
 use Rattle.machine_model.specs.declared.Reply.TheVariants.{Done, Refused}
 use Rattle.machine_model.specs.declared.Why.{Why}
 use Rattle.machine_model.specs.Pieces.{piece_of}
-use Rattle.machine_model.specs.Refusals.{refusal, when}
-use Rattle.machine_model.specs.declared.Why.TheVariants as why
-use Rattle.machine_model.specs.Routines.{Routines}
-use Rattle.dram_model.specs.declared.geometry.Geometry.{Geometry}
-use Rattle.dram_model.specs.Chip.{Banks}
-use Rattle.object_alloc.specs.Listed.{Named, has_name}
-use Rattle.machine_model.specs.Report.{line, said_of}
+use Rattle.machine_model.specs.Refusals.{refusal}
+use Rattle.object_alloc.specs.Listed.{Named}
+use Rattle.machine_model.specs.Report.{line, place_text, said_of}
 use Rattle.machine_model.specs.Report.Said.{Answered, Printed}
 use Rattle.machine_model.specs.Script.{rows_printed}
 use Rattle.machine_model.specs.Steps.{if_done, reply_by}
@@ -29,18 +26,18 @@ use Rattle.object_steps.specs.declared.fault.StepFault.{StepFault}
 use Rattle.object_steps.specs.declared.fault.StepFault.TheVariants.{ChipFault, WriteFault}
 use Rattle.wave_model.specs.Schedule.{Turn}
 use Rattle.sim_machine.specs.declared.machine.Machine.{Machine}
-use Rattle.sim_machine.specs.Machine.{banks_by, events_by, geometry_of, reply_line, line_shown}
+use Rattle.sim_machine.specs.Machine.{banks_by, events_by, geometry_of, reply_line}
 use Rattle.sim_machine.specs.Machine.{operations_by}
 use Rattle.sim_machine.specs.Machine.{reads_by, reply_of, table_in, turn_in}
 use Rattle.sim_machine.specs.Outcome.{Comes, Stepped, StoppedBySink}
 use Rattle.sim_machine.specs.Steps.{DidAndRead}
 use Rattle.sim_machine.proofs.Stepping.{if_same, not_refused, print_table}
 
-shown : (number : ℕ) (name : List ℕ) (r : Option Why) (c : Counts) (values : List ℕ → List ℕ)
-    → r ≡ None → if_done r (line number (Printed name (values name))) []
-    ≡ line number (said_of (reply_by r c) (Print name) values)
-shown number name None c values e = refl
-shown number name (Some why) c values e = absurd (cc)
+shown : (number : ℕ) (place : Place) (r : Option Why) (c : Counts) (values : Place → List ℕ)
+    → r ≡ None → if_done r (line number (Printed (place_text place) (values place))) []
+    ≡ line number (said_of (reply_by r c) (Print place) values)
+shown number place None c values e = refl
+shown number place (Some why) c values e = absurd (cc)
 
 unshown : (r : Option Why) (c : Counts) (w : Why) (text : List ℕ) → Refused w ≡ reply_by r c
     → if_done r text [] ≡ []
@@ -51,28 +48,28 @@ all_rows : (r : Option Why) (n : ℕ) → r ≡ None → cond (is_none r) n 0 �
 all_rows None n e = refl
 all_rows (Some why) n e = absurd (cc)
 
-refused_said : (name : List ℕ) (reply : Reply) (w : Why) (values : List ℕ → List ℕ)
-    → reply ≡ Refused w → said_of reply (Print name) values ≡ Answered reply
-refused_said name (Refused why) w values e = refl
-refused_said name (Done counts) w values e = absurd (cc)
+refused_said : (place : Place) (reply : Reply) (w : Why) (values : Place → List ℕ)
+    → reply ≡ Refused w → said_of reply (Print place) values ≡ Answered reply
+refused_said place (Refused why) w values e = refl
+refused_said place (Done counts) w values e = absurd (cc)
 
 nothing_more : (x y : List ℕ) (text : List ℕ) → text ≡ [] → y ≡ x ++ text → y ≡ x
 nothing_more x y text e h = h ∙ ap (λ t. x ++ t) e ∙ append-nil x
 
-module _ (old new : Machine) (number : ℕ) (name : List ℕ) (chip chip' : ChipView)
+module _ (old new : Machine) (number : ℕ) (place : Place) (chip chip' : ChipView)
     (sink sink' : SinkView) (same : new ≡ old)
   where
     abbrev shown_line : List ℕ
     shown_line = printed_line (geometry_of old) (operations_by old) (table_in old) chip.banks
-        number name name
+        number place place
 
-    none_else : events_by old (piece_of (Print name)) ≡ []
-    none_else = if_same (refusal (geometry_of old) (operations_by old) (table_in old) (Print name))
+    none_else : events_by old (piece_of (Print place)) ≡ []
+    none_else = if_same (refusal (geometry_of old) (operations_by old) (table_in old) (Print place))
         []
 
-    did_read : DidRead (reads_by old (Print name)) chip chip'
-        → DidAndRead (events_by old (piece_of (Print name))) (reads_by old (Print name)) chip chip'
-    did_read did = subst (λ events. DidAndRead events (reads_by old (Print name)) chip chip')
+    did_read : DidRead (reads_by old (Print place)) chip chip'
+        → DidAndRead (events_by old (piece_of (Print place))) (reads_by old (Print place)) chip chip'
+    did_read did = subst (λ events. DidAndRead events (reads_by old (Print place)) chip chip')
         (sym none_else) (record {
           banks = did.banks;
           counters = did.counters;
@@ -80,44 +77,44 @@ module _ (old new : Machine) (number : ℕ) (name : List ℕ) (chip chip' : Chip
           log = did.log;
         })
 
-    whole_line : refusal (geometry_of old) (operations_by old) (table_in old) (Print name) ≡ None
-        → shown_line ≡ reply_line old number chip.banks (Print name)
-    whole_line e = shown number name _ _ _ e
+    whole_line : refusal (geometry_of old) (operations_by old) (table_in old) (Print place) ≡ None
+        → shown_line ≡ reply_line old number chip.banks (Print place)
+    whole_line e = shown number place _ _ _ e
 
-    refused_line : (reply : Reply) (w : Why) → reply ≡ reply_of old (Print name)
+    refused_line : (reply : Reply) (w : Why) → reply ≡ reply_of old (Print place)
         → reply ≡ Refused w
-        → line number (Answered reply) ≡ reply_line old number chip.banks (Print name)
+        → line number (Answered reply) ≡ reply_line old number chip.banks (Print place)
     refused_line reply w e h = ap (λ r. line number (Answered r)) e
-        ∙ ap (line number) (sym (refused_said name (reply_of old (Print name)) w _ (sym e ∙ h)))
+        ∙ ap (line number) (sym (refused_said place (reply_of old (Print place)) w _ (sym e ∙ h)))
 
-    pub print_done : (reply : Reply) (d : Counts) → reply ≡ reply_of old (Print name) → reply ≡
+    pub print_done : (reply : Reply) (d : Counts) → reply ≡ reply_of old (Print place) → reply ≡
         Done d
-        → DidRead (reads_by old (Print name)) chip chip'
+        → DidRead (reads_by old (Print place)) chip chip'
         → Known (λ x y. y ≡ x ++ shown_line) sink.sent sink'.sent
-        → Stepped old new number (Print name) chip chip' sink sink' reply
+        → Stepped old new number (Print place) chip chip' sink sink' reply
     print_done reply d e h did sent = record {
       answer = e;
       machine = same ∙ ap (λ (t : List Named). let m : Machine = record old { table = t } in m)
-          (print_table old name);
+          (print_table old place);
       did = did_read did;
       sent = subst (λ text. Known (λ x y. y ≡ x ++ text) sink.sent sink'.sent)
           (whole_line (not_refused _ _ d (sym h ∙ e))) sent;
     }
 
     pub print_refused : (reply : Reply) (w : Why) (between : SinkView)
-        → reply ≡ reply_of old (Print name) → reply ≡ Refused w
-        → DidRead (reads_by old (Print name)) chip chip'
+        → reply ≡ reply_of old (Print place) → reply ≡ Refused w
+        → DidRead (reads_by old (Print place)) chip chip'
         → Known (λ x y. y ≡ x ++ shown_line) sink.sent between.sent
         → Known (λ x y. y ≡ x ++ line number (Answered reply)) between.sent sink'.sent
-        → Stepped old new number (Print name) chip chip' sink sink' reply
+        → Stepped old new number (Print place) chip chip' sink sink' reply
     print_refused reply w between e h did first sent = record {
       answer = e;
       machine = same ∙ ap (λ (t : List Named). let m : Machine = record old { table = t } in m)
-          (print_table old name);
+          (print_table old place);
       did = did_read did;
       sent = Known-trans {R = λ x y. y ≡ x ++ shown_line}
           {S = λ x y. y ≡ x ++ line number (Answered reply)}
-          {U = λ x y. y ≡ x ++ reply_line old number chip.banks (Print name)}
+          {U = λ x y. y ≡ x ++ reply_line old number chip.banks (Print place)}
           sink.sent between.sent sink'.sent
           (λ x y z p q. q
           ∙ ap (λ t. t ++ line number (Answered reply))
@@ -126,25 +123,25 @@ module _ (old new : Machine) (number : ℕ) (name : List ℕ) (chip chip' : Chip
     }
 
     pub print_unsent : (reply : Reply) (w : Why) (between : SinkView)
-        → reply ≡ reply_of old (Print name) → reply ≡ Refused w
-        → DidRead (reads_by old (Print name)) chip chip'
+        → reply ≡ reply_of old (Print place) → reply ≡ Refused w
+        → DidRead (reads_by old (Print place)) chip chip'
         → sink.faults ≤ between.faults
         → Known (λ x y. y ≡ x ++ shown_line) sink.sent between.sent
         → Rose between.faults sink'.faults
         → Known (AppendsPart (line number (Answered reply))) between.sent sink'.sent
-        → StoppedBySink old new number (Print name) chip chip' sink sink'
+        → StoppedBySink old new number (Print place) chip chip' sink sink'
     print_unsent reply w between e h did before first rose sent = record {
       machine = same;
       did = λ p. absurd (cc);
       read = λ p. record {
-        rows = reads_by old (Print name);
+        rows = reads_by old (Print place);
         few = omega arith;
         did = did;
       };
       rose = omega (arith, before, rose);
       part = Known-trans {R = λ x y. y ≡ x ++ shown_line}
           {S = AppendsPart (line number (Answered reply))}
-          {U = AppendsPart (reply_line old number chip.banks (Print name))}
+          {U = AppendsPart (reply_line old number chip.banks (Print place))}
           sink.sent between.sent sink'.sent
           (λ x y z p q. subst (λ t. AppendsPart t x z) (refused_line reply w e h)
           (subst (λ t. AppendsPart (line number (Answered reply)) t z)
@@ -152,14 +149,14 @@ module _ (old new : Machine) (number : ℕ) (name : List ℕ) (chip chip' : Chip
     }
 
     pub print_failed : (fault : StepFault)
-        → refusal (geometry_of old) (operations_by old) (table_in old) (Print name) ≡ None
+        → refusal (geometry_of old) (operations_by old) (table_in old) (Print place) ≡ None
         → Known (AppendsPart shown_line) sink.sent sink'.sent
-        → (fault ≡ ChipFault → FailedBelow (banks_by old (Print name)) chip chip')
+        → (fault ≡ ChipFault → FailedBelow (banks_by old (Print place)) chip chip')
         → (fault ≡ ChipFault → StoppedWithin [] chip.banks chip'.banks)
         → (fault ≡ WriteFault → Rose sink.faults sink'.faults)
         → (fault ≡ WriteFault
-        → DidReadAtMost (rows_printed (geometry_of old) (table_in old) (Print name)) chip chip')
-        → Comes old new number (Print name) chip chip' sink sink' (Err fault)
+        → DidReadAtMost (rows_printed (geometry_of old) (table_in old) (Print place)) chip chip')
+        → Comes old new number (Print place) chip chip' sink sink' (Err fault)
     print_failed ChipFault allowed part failed left rose read = record {
       same = same ∙ ap (λ (t : Turn). let m : Machine = record old { turn = t } in m)
           (sym (ap turn_in same));
@@ -179,20 +176,12 @@ module _ (old new : Machine) (number : ℕ) (name : List ℕ) (chip chip' : Chip
       part = subst (λ t. Known (AppendsPart t) sink.sent sink'.sent) (whole_line allowed) part;
     }
 
--- Of an object that stands, no print is refused
-pub stands_allowed : (g : Geometry) (operations : Routines) (table : List Named) (name : List ℕ)
-    → has_name table name ≡ true → refusal g operations table (Print name) ≡ None
-stands_allowed g operations table name h = ap (λ b. when (not b) (why.NoObject 0)) h
-
-pub all_rows_of : (m : Machine) (name : List ℕ) → has_name (table_in m) name ≡ true
-    → rows_printed (geometry_of m) (table_in m) (Print name) ≡ reads_by m (Print name)
-all_rows_of m name h = sym (all_rows _ (rows_printed (geometry_of m) (table_in m) (Print name))
-    (stands_allowed (geometry_of m) (operations_by m) (table_in m) name h))
-
-pub whole_line_shown : (m : Machine) (number : ℕ) (banks : Banks) (name shown : List ℕ)
-    → has_name (table_in m) name ≡ true
-    → printed_line (geometry_of m) (operations_by m) (table_in m) banks number name shown
-    ≡ line_shown m number banks name shown
-whole_line_shown m number banks name shown h =
-    ap (λ r. if_done r (line_shown m number banks name shown) [])
-    (stands_allowed (geometry_of m) (operations_by m) (table_in m) name h)
+-- a print that fails is not refused, so that it was to read all its rows
+pub read_at_most : (m : Machine) (place : Place) (result : Result Reply StepFault)
+    (chip chip' : ChipView) → OnErr result (refusal (geometry_of m) (operations_by m) (table_in m)
+    (Print place) ≡ None) → (IsErrOf result WriteFault
+    → DidReadAtMost (rows_printed (geometry_of m) (table_in m) (Print place)) chip chip')
+    → IsErrOf result WriteFault → DidReadAtMost (reads_by m (Print place)) chip chip'
+read_at_most m place (Ok reply) chip chip' allowed read is = absurd (cc)
+read_at_most m place (Err fault) chip chip' allowed read is =
+    subst (λ n. DidReadAtMost n chip chip') (sym (all_rows _ _ allowed)) (read is)

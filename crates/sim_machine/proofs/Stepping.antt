@@ -17,6 +17,7 @@ use Rattle.dram_model.specs.Elements.{FailedBelow}
 use Rattle.object_alloc.specs.declared.table.Object.{Object}
 use Rattle.object_alloc.specs.Listed.{Named, has_name, look_up, without}
 use Rattle.dram_model.specs.declared.geometry.Geometry.{Geometry}
+use Rattle.bbop_isa.specs.declared.instr.Place.{Place}
 use Rattle.bbop_isa.specs.Forms.{Instruction}
 use Rattle.bbop_isa.specs.Forms.{Init, Bbop, Load, Fill, Print, Free, Order}
 use Rattle.machine_model.specs.declared.Reply.{Reply}
@@ -45,14 +46,14 @@ use Rattle.sim_machine.specs.Steps.{DidAndRead}
 use Rattle.sim_machine.proofs.Keeping.{goes_to}
 
 -- a line that shows no values is that of the reply
-pub said_answered : (reply : Reply) (instr : Instruction) (values : List ℕ → List ℕ)
+pub said_answered : (reply : Reply) (instr : Instruction) (values : Place → List ℕ)
     → is_print instr ≡ false → said_of reply instr values ≡ Answered reply
 said_answered (Refused why) instr values e = refl
 said_answered (Done counts) (Init name count n) values e = refl
 said_answered (Done counts) (Bbop op dst srcs count n) values e = refl
-said_answered (Done counts) (Load name loaded) values e = refl
-said_answered (Done counts) (Fill name value) values e = refl
-said_answered (Done counts) (Print name) values e = absurd (cc)
+said_answered (Done counts) (Load place loaded) values e = refl
+said_answered (Done counts) (Fill place value) values e = refl
+said_answered (Done counts) (Print place) values e = absurd (cc)
 said_answered (Done counts) (Free name) values e = refl
 said_answered (Done counts) (Order o) values e = refl
 
@@ -65,9 +66,9 @@ pub reads_none : (m : Machine) (instr : Instruction) → is_print instr ≡ fals
     → reads_by m instr ≡ 0
 reads_none m (Init name count n) e = either_none _ _ refl
 reads_none m (Bbop op dst srcs count n) e = either_none _ _ refl
-reads_none m (Load name loaded) e = either_none _ _ refl
-reads_none m (Fill name value) e = either_none _ _ refl
-reads_none m (Print name) e = absurd (cc)
+reads_none m (Load place loaded) e = either_none _ _ refl
+reads_none m (Fill place value) e = either_none _ _ refl
+reads_none m (Print place) e = absurd (cc)
 reads_none m (Free name) e = either_none _ _ refl
 reads_none m (Order o) e = refl
 
@@ -164,9 +165,9 @@ pub leaves : (instr : Instruction) → leaves_table instr ≡ true
     → (is_print instr ≡ false) × (is_bbop instr ≡ false)
 leaves (Init name count n) e = absurd (cc)
 leaves (Bbop op dst srcs count n) e = absurd (cc)
-leaves (Load name loaded) e = (refl, refl)
-leaves (Fill name value) e = (refl, refl)
-leaves (Print name) e = absurd (cc)
+leaves (Load place loaded) e = (refl, refl)
+leaves (Fill place value) e = (refl, refl)
+leaves (Print place) e = absurd (cc)
 leaves (Free name) e = absurd (cc)
 leaves (Order o) e = (refl, refl)
 
@@ -179,15 +180,15 @@ pub same_table : (m : Machine) (instr : Instruction) → leaves_table instr ≡ 
     → table_in m ≡ moved_table m instr
 same_table m (Init name count n) e = absurd (cc)
 same_table m (Bbop op dst srcs count n) e = absurd (cc)
-same_table m (Load name loaded) e = sym (if_same _ (table_in m))
-same_table m (Fill name value) e = sym (if_same _ (table_in m))
-same_table m (Print name) e = absurd (cc)
+same_table m (Load place loaded) e = sym (if_same _ (table_in m))
+same_table m (Fill place value) e = sym (if_same _ (table_in m))
+same_table m (Print place) e = absurd (cc)
 same_table m (Free name) e = absurd (cc)
 same_table m (Order o) e = refl
 
 -- a print leaves the table
-pub print_table : (m : Machine) (name : List ℕ) → table_in m ≡ moved_table m (Print name)
-print_table m name = sym (if_same _ (table_in m))
+pub print_table : (m : Machine) (place : Place) → table_in m ≡ moved_table m (Print place)
+print_table m place = sym (if_same _ (table_in m))
 
 pub nothing_done : (g : Geometry) (operations : Routines) (table : List Named) (name : List ℕ)
     (chip : ChipView) → Did (events_alone g operations table (Free name)) chip chip

@@ -12,9 +12,10 @@ use Rattle.object_alloc.specs.Listed.{Named, objects_of}
 use Rattle.dram_model.specs.declared.geometry.Geometry.{Geometry}
 use Rattle.machine_model.specs.Columns.{segments}
 use Rattle.machine_model.specs.Routines.{routine_of}
-use Rattle.machine_model.specs.Refusals.{object_named}
+use Rattle.machine_model.specs.Refusals.{rows_of}
 use Rattle.wave_model.specs.Schedule.{WaveJob}
 use Rattle.machine_model.specs.Steps.{bound_at}
+use Rattle.bbop_isa.specs.declared.instr.Place.{Place}
 use Rattle.bbop_isa.specs.Forms.{Instruction}
 use Rattle.bbop_isa.specs.Forms as instruction
 use Rattle.sim_machine.specs.declared.refusal.Bbop.{Bbop}
@@ -28,10 +29,10 @@ pub record IsGranted (limit : ℕ) (table : List Named) (program : Microprogram)
   pub rows : free limit (objects_of table) (need program.shape n) ≡ Some grant.scratch
 
 -- the commands of a bbop that is granted, in each bank of its destination
-abbrev pub granted_job : Geometry → List Named → Microprogram → List ℕ → List (List ℕ) → ℕ → WaveJob
+abbrev pub granted_job : Geometry → List Named → Microprogram → Place → List Place → ℕ → WaveJob
 granted_job g table m dst srcs n = record {
   commands = bound_at g table (Some (routine_of m)) (dst ∷ srcs) n;
-  banks = segments g (object_named table dst);
+  banks = segments g (rows_of table dst);
 }
 
 -- the bbop, as an instruction

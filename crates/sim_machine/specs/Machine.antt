@@ -6,19 +6,20 @@ use Rattle.dram_model.specs.Geometry.{is_geometry}
 use Rattle.uprog_code.specs.Shape.{Microprogram}
 use Rattle.object_alloc.specs.Listed.{Named}
 use Rattle.sim_machine.specs.declared.machine.Machine.{Machine}
+use Rattle.bbop_isa.specs.declared.instr.Place.{Place}
 use Rattle.bbop_isa.specs.Forms.{Instruction}
 use Rattle.bbop_isa.specs.Forms.{Init, Bbop, Load, Fill, Print, Free, Order}
 use Rattle.wave_model.specs.Schedule.{Queues, Turn}
 use Rattle.machine_model.specs.declared.Reply.{Reply}
 use Rattle.machine_model.specs.Columns.{segments}
 use Rattle.machine_model.specs.Routines.{Routines, routines_in}
-use Rattle.machine_model.specs.Refusals.{object_named}
+use Rattle.machine_model.specs.Refusals.{rows_of}
 use Rattle.machine_model.specs.Laws.{TableFits}
 use Rattle.machine_model.specs.Pieces.{Piece, piece_events, piece_of, pieces, turn_after}
 use Rattle.machine_model.specs.Pieces.{turn_at_end, wave_queues}
 use Rattle.machine_model.specs.Report.{Said, line, lines, said_by}
-use Rattle.machine_model.specs.Report.Said.{Answered, Printed}
-use Rattle.object_steps.specs.Lines.{values_of}
+use Rattle.machine_model.specs.Report.Said.{Answered}
+use Rattle.object_steps.specs.Lines.{printed_line}
 use Rattle.machine_model.specs.Script.{rows_if_done, rows_printed, table_at_end}
 use Rattle.machine_model.specs.Steps.{new_object, reply_to, table_after}
 
@@ -99,42 +100,42 @@ reads_by m instr = rows_if_done rows_printed (geometry_of m) (operations_by m) (
 abbrev pub banks_by : Machine → Instruction → ℕ
 banks_by m (Init name count n) =
     segments (geometry_of m) (new_object (geometry_of m) (table_in m) count n)
-banks_by m (Bbop op dst srcs count n) = segments (geometry_of m) (object_named (table_in m) dst)
-banks_by m (Load name values) = segments (geometry_of m) (object_named (table_in m) name)
-banks_by m (Fill name value) = segments (geometry_of m) (object_named (table_in m) name)
-banks_by m (Print name) = segments (geometry_of m) (object_named (table_in m) name)
+banks_by m (Bbop op dst srcs count n) = segments (geometry_of m) (rows_of (table_in m) dst)
+banks_by m (Load place values) = segments (geometry_of m) (rows_of (table_in m) place)
+banks_by m (Fill place value) = segments (geometry_of m) (rows_of (table_in m) place)
+banks_by m (Print place) = segments (geometry_of m) (rows_of (table_in m) place)
 banks_by m (Free name) = 0
 banks_by m (Order order) = 0
 
 -- the instruction prints an object, so that its line comes while rows are read
 abbrev pub is_print : Instruction → Bool
-is_print (Print name) = true
+is_print (Print place) = true
 is_print (Init name count n) = false
 is_print (Bbop op dst srcs count n) = false
-is_print (Load name values) = false
-is_print (Fill name value) = false
+is_print (Load place values) = false
+is_print (Fill place value) = false
 is_print (Free name) = false
 is_print (Order order) = false
 
 -- what a part of a step takes, for its proof: a load, a fill and an order leave the table, and are
 -- said by their replies
 abbrev pub leaves_table : Instruction → Bool
-leaves_table (Load name values) = true
-leaves_table (Fill name value) = true
+leaves_table (Load place values) = true
+leaves_table (Fill place value) = true
 leaves_table (Order order) = true
 leaves_table (Init name count n) = false
 leaves_table (Bbop op dst srcs count n) = false
-leaves_table (Print name) = false
+leaves_table (Print place) = false
 leaves_table (Free name) = false
 
 -- the line of an instruction
 abbrev pub reply_line : Machine → ℕ → Banks → Instruction → List ℕ
 reply_line m number banks instr = line number (said_of_step m banks instr)
 
--- the line of an object's values under another name
-abbrev pub line_shown : Machine → ℕ → Banks → (name shown : List ℕ) → List ℕ
-line_shown m number banks name shown =
-    line number (Printed shown (values_of (geometry_of m) banks (table_in m) name))
+-- the line of a print whose values are shown as another operand's: none where it is refused
+abbrev pub line_shown : Machine → ℕ → Banks → (place shown : Place) → List ℕ
+line_shown m number banks place shown = printed_line (geometry_of m) (operations_by m) (table_in m)
+    banks number place shown
 
 -- the lines of a wave of bbops
 abbrev pub lines_of : Machine → ℕ → List Instruction → List ℕ

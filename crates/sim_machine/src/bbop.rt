@@ -9,46 +9,48 @@ ghost use Rattle.uprog_code.specs.Bound.{bound_of};
 ghost use Rattle.uprog_code.specs.Legal.{IsLegalCode};
 ghost use Rattle.uprog_ctl.specs.Waves.{CanRun, wave_job};
 ghost use Rattle.machine_model.specs.Routines.{routine_of, routines_in};
-ghost use Rattle.machine_model.specs.Refusals.{bbop_conditions, first, object_named, dsts_in};
+ghost use Rattle.machine_model.specs.Refusals.{bbop_conditions, first, rows_of, dsts_in};
 ghost use Rattle.machine_model.specs.Refusals.{refusal, srcs_in};
 ghost use Rattle.machine_model.specs.Steps.{counts_for, job_of, times};
 ghost use Rattle.object_steps.specs.Objects.{LiesOn};
+ghost use Rattle.bbop_isa.specs.declared.instr.Place.{Place};
 ghost use Rattle.sim_machine.specs.Granted.{IsGranted, granted_job, job_bound, said_bbop};
 
-use crate::refusal::{Bbop, Grant, allow, object_named, sources_of};
+use crate::refusal::{Bbop, Grant, allow, sources_of};
 use crate::walks::WalkedProgram;
 use arrayvec::ArrayVec;
+use bbop_isa::Place;
 use bit_rows::WIDTH_MAX;
 use dram_model::Geometry;
 use machine_model::Why;
 use object_alloc::Table;
-use object_steps::segments;
+use object_steps::{rows_of, segments};
 use text_lex::Name;
 use uprog_bin::Entry;
 use uprog_code::{Binding, Counts, Fetch, Head, Kind, WALK_MAX};
 use uprog_ctl::Job;
 
 /// The first rows of the sources.
-fn bases(table: &Table, kinds: &[Kind], srcs: &[Name]) -> ArrayVec<u16, 4>
+fn bases(table: &Table, kinds: &[Kind], srcs: &[Place]) -> ArrayVec<u16, 4>
     requires few { length kinds.now ≤ 4 }
     requires each { length srcs.now ≡ length kinds.now }
-    ensures { result.items ≡ map (λ name. (object_named table.now.pairs name).base) srcs.now }
+    ensures { result.items ≡ map (λ p. (rows_of table.now.pairs p).base) srcs.now }
 {
     let mut bases = ArrayVec::new();
     for src in srcs {
-        bases.push(object_named(table, src).base);
+        bases.push(rows_of(table, src).base);
     }
     bases
 }
 
 /// The first row of the second destination, where there are two results.
-fn second_base(table: &Table, head: &Head, srcs: &[Name]) -> Option<u16>
-    ensures { (dst : List ℕ) → (object_named table.now.pairs dst).base ∷ option_to_list result
-        ≡ map (λ name. (object_named table.now.pairs name).base)
+fn second_base(table: &Table, head: &Head, srcs: &[Place]) -> Option<u16>
+    ensures { (dst : Place) → (rows_of table.now.pairs dst).base ∷ option_to_list result
+        ≡ map (λ p. (rows_of table.now.pairs p).base)
         (dsts_in (shape_of head.now) (dst ∷ srcs.now)) }
 {
     match (head.second, srcs) {
-        (Some(_), [second, ..]) => Some(object_named(table, second).base),
+        (Some(_), [second, ..]) => Some(rows_of(table, second).base),
         _ => None,
     }
 }
@@ -59,16 +61,16 @@ fn bind_head(table: &Table, head: &Head, bbop: &Bbop<'_>, scratch: u16) -> Bindi
         ≡ length head.now.sources.items }
     ensures width { result.n ≡ bbop.now.n }
     ensures results { (bound_of result).results
-        ≡ map (λ name. (object_named table.now.pairs name).base)
+        ≡ map (λ p. (rows_of table.now.pairs p).base)
         (dsts_in (shape_of head.now) (bbop.now.dst.now ∷ bbop.now.srcs.now)) }
     ensures sources { (bound_of result).sources
-        ≡ map (λ name. (object_named table.now.pairs name).base)
+        ≡ map (λ p. (rows_of table.now.pairs p).base)
         (srcs_in (shape_of head.now) (bbop.now.dst.now ∷ bbop.now.srcs.now)) }
     ensures scratch { (bound_of result).scratch ≡ scratch }
 {
     Binding {
         n: bbop.n,
-        result: object_named(table, bbop.dst).base,
+        result: rows_of(table, bbop.dst).base,
         second: second_base(table, head, bbop.srcs),
         sources: bases(
             table,
@@ -85,10 +87,10 @@ pub(crate) fn bind(table: &Table, entry: &Entry<'_>, bbop: &Bbop<'_>, scratch: u
         ≡ length entry.now.shape.sources }
     ensures width { result.n ≡ bbop.now.n }
     ensures results { (bound_of result).results
-        ≡ map (λ name. (object_named table.now.pairs name).base)
+        ≡ map (λ p. (rows_of table.now.pairs p).base)
         (dsts_in entry.now.shape (bbop.now.dst.now ∷ bbop.now.srcs.now)) }
     ensures sources { (bound_of result).sources
-        ≡ map (λ name. (object_named table.now.pairs name).base)
+        ≡ map (λ p. (rows_of table.now.pairs p).base)
         (srcs_in entry.now.shape (bbop.now.dst.now ∷ bbop.now.srcs.now)) }
     ensures scratch { (bound_of result).scratch ≡ scratch }
 {
@@ -139,7 +141,7 @@ fn job_for<'p>(
         bbop.now.dst.now bbop.now.srcs.now bbop.now.n }
 {
     let binding = bind(setting.table, &found, bbop, grant.scratch);
-    let banks = segments(setting.geometry, object_named(setting.table, bbop.dst));
+    let banks = segments(setting.geometry, rows_of(setting.table, bbop.dst));
     Job {
         entry: found,
         binding,

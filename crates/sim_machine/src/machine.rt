@@ -1,7 +1,7 @@
 //! The machine.
 
 ghost use Rattle.std.specs.Prelude.{◌≡◌, ℕ, ◌*◌, ◌<◌, ◌≤◌, ◌^◌, ◌∷◌, ◌++◌, [], length, map};
-ghost use Rattle.std.specs.Prelude.{◌+◌, true, false, Ok, OnOk, OnErr, ◌⊎◌, IfOk, IsErrOf};
+ghost use Rattle.std.specs.Prelude.{◌+◌, true, false, None, Ok, OnOk, OnErr, ◌⊎◌, IfOk, IsErrOf};
 ghost use Rattle.std.specs.List.{AllByRecursion};
 ghost use Rattle.host_edge.specs.Views.{Known, AppendsPart};
 ghost use Rattle.faults.specs.Counts.{Rose};
@@ -9,13 +9,14 @@ ghost use Rattle.dram_model.specs.Chip.{Grew};
 ghost use Rattle.transpose_unit.specs.Stopped.{StoppedWithin};
 ghost use Rattle.dram_model.specs.View.{HasBegun, Kept, Did, DidRead, NotBegun};
 ghost use Rattle.dram_model.specs.Elements.{FailedBelow};
-ghost use Rattle.object_alloc.specs.Listed.{has_name, limit_of};
+ghost use Rattle.object_alloc.specs.Listed.{limit_of};
 ghost use Rattle.object_alloc.specs.Reading.{rows_size, table_at};
 ghost use Rattle.object_alloc.specs.Spelling.{image_bytes, table_bytes};
 ghost use Rattle.bbop_isa.specs.Forms.{view_of, Load, Print};
 ghost use Rattle.machine_model.specs.Agrees.{IsPlain};
 ghost use Rattle.machine_model.specs.Opened.{rows_in_banks};
 ghost use Rattle.machine_model.specs.Pieces.{Alone, AreBbops, Wave, piece_of};
+ghost use Rattle.machine_model.specs.Refusals.{refusal};
 ghost use Rattle.machine_model.specs.Report.{total_line};
 ghost use Rattle.machine_model.specs.Script.{is_bbop};
 ghost use Rattle.uprog_ctl.specs.Waves.{StoppedAmong};
@@ -23,7 +24,7 @@ ghost use Rattle.object_steps.specs.Lines.{DidReadAtMost};
 ghost use Rattle.object_steps.specs.Objects.{LiesOn, RisesAtMost};
 ghost use Rattle.sim_machine.specs.Machine.{GoesOn, IsLaidOut, banks_by, events_by, file_of};
 ghost use Rattle.sim_machine.specs.Machine.{is_print, reply_line, line_shown, lines_of};
-ghost use Rattle.sim_machine.specs.Machine.{geometry_of, queues_by};
+ghost use Rattle.sim_machine.specs.Machine.{geometry_of, operations_by, queues_by};
 ghost use Rattle.sim_machine.specs.Machine.{reads_by, reply_of, stepped, table_in};
 ghost use Rattle.sim_machine.specs.Machine.{turn_by_piece, turn_in};
 ghost use Rattle.sim_machine.specs.Opening.{IsLeftUnopened, Opened, machine_on};
@@ -36,7 +37,7 @@ use crate::report::{put_lines, total};
 use crate::walks::WalkedProgram;
 use crate::waves::do_wave;
 use arrayvec::ArrayVec;
-use bbop_isa::Instr;
+use bbop_isa::{Instr, Place};
 use bit_rows::{Value, WIDTH_MAX};
 use dram_model::{ChipFault, Dram, Geometry};
 use host_edge::{Failed, Sink};
@@ -45,7 +46,6 @@ use object_alloc::{Image, OBJECTS_MAX, Table, put_head};
 use object_steps::{StepFault, load, print};
 use std::alloc::Global;
 use std::marker::Model;
-use text_lex::Name;
 use uprog_bin::ProgView;
 use uprog_code::WALK_MAX;
 use uprog_ctl::{Forward, Order};
@@ -284,61 +284,60 @@ impl<'a> Machine<'a> {
         &self.table
     }
 
-    /// Puts the line of a `print` of an object that stands, under another name. It takes no memory.
+    /// A `print` whose values are shown as another operand's. Where it is refused, the line is put
+    /// by the caller. It takes no memory.
     pub fn print_as<D: Dram, S: Sink>(
         &mut self,
         number: u32,
-        name: &Name,
-        shown: &Name,
+        place: &Place,
+        shown: &Place,
         dram: &mut D,
         out: &mut S,
-    ) -> Result<(), StepFault>
+    ) -> Result<Reply, StepFault>
         requires begun { HasBegun (D.view dram.old) }
         requires geometry { (D.view dram.old).geometry ≡ geometry_of self.old }
-        requires stands { has_name (table_in self.old) name.now ≡ true }
         requires room { (D.view dram.old).counters.reads < 2 ^ 62 + 2 ^ 60 }
         ensures borrow { D.borrow dram.new ≡ D.borrow dram.old }
         ensures kept { Kept (D.view dram.old) (D.view dram.new) }
         ensures sink_faults { (S.view out.old).faults ≤ (S.view out.new).faults }
         ensures same { self.new ≡ self.old }
-        ensures did { OnOk result (DidRead (reads_by self.old (Print name.now))
+        ensures reply { IfOk result (λ reply. reply ≡ reply_of self.old (Print place.now)) }
+        ensures did { OnOk result (DidRead (reads_by self.old (Print place.now))
             (D.view dram.old) (D.view dram.new)) }
         ensures rises { OnOk result (RisesAtMost (16 * WIDTH_MAX) (D.view dram.old).counters
             (D.view dram.new).counters) }
         ensures sent { OnOk result (Known (λ before after. after ≡ before
-            ++ line_shown self.old number (D.view dram.old).banks name.now shown.now)
+            ++ line_shown self.old number (D.view dram.old).banks place.now shown.now)
             (S.view out.old).sent (S.view out.new).sent) }
 
-        // After a fault a prefix of the line was put, and nothing but reads happened on the chip,
-        // or a read failed.
+        // After a fault the print is not refused, a prefix of the line was put, and nothing but
+        // reads happened on the chip, or a read failed.
+        ensures allowed { OnErr result (refusal (geometry_of self.old) (operations_by self.old)
+            (table_in self.old) (Print place.now) ≡ None) }
         ensures chip_fault { IsErrOf result StepFault.ChipFault
-            → FailedBelow (banks_by self.old (Print name.now)) (D.view dram.old)
+            → FailedBelow (banks_by self.old (Print place.now)) (D.view dram.old)
             (D.view dram.new) }
         ensures left { IsErrOf result StepFault.ChipFault
             → StoppedWithin [] (D.view dram.old).banks (D.view dram.new).banks }
         ensures no_event { Grew (D.view dram.old).log (D.view dram.new).log [] }
         ensures read { IsErrOf result StepFault.WriteFault
-            → DidReadAtMost (reads_by self.old (Print name.now)) (D.view dram.old)
+            → DidReadAtMost (reads_by self.old (Print place.now)) (D.view dram.old)
             (D.view dram.new) }
         ensures write_fault { IsErrOf result StepFault.WriteFault
             → Rose (S.view out.old).faults (S.view out.new).faults }
         ensures part { OnErr result (Known (AppendsPart
-            (line_shown self.old number (D.view dram.old).banks name.now shown.now))
+            (line_shown self.old number (D.view dram.old).banks place.now shown.now))
             (S.view out.old).sent (S.view out.new).sent) }
     {
         let g = self.geometry;
         let stage = &mut self.stage;
-        match print(g, &self.table, number, name, shown, stage, dram, out) {
-            Ok(_) => {}
-            Err(fault) => return Err(fault),
-        }
-        Ok(())
+        print(g, &self.table, number, place, shown, stage, dram, out)
     }
 
     /// Does a `load` of these values, and puts no line. It takes no memory.
     pub fn load_into<D: Dram>(
         &mut self,
-        name: &Name,
+        place: &Place,
         values: &[Value],
         dram: &mut D,
     ) -> Result<Reply, ChipFault>
@@ -349,24 +348,24 @@ impl<'a> Machine<'a> {
         ensures kept { Kept (D.view dram.old) (D.view dram.new) }
         ensures same { self.new ≡ self.old }
         ensures reply { IfOk result (λ reply. reply
-            ≡ reply_of self.old (Load name.now values.now)) }
-        ensures did { OnOk result (Did (events_by self.old (Alone (Load name.now values.now)))
+            ≡ reply_of self.old (Load place.now values.now)) }
+        ensures did { OnOk result (Did (events_by self.old (Alone (Load place.now values.now)))
             (D.view dram.old) (D.view dram.new)) }
         ensures rises { OnOk result (RisesAtMost (16 * WIDTH_MAX) (D.view dram.old).counters
             (D.view dram.new).counters) }
 
-        // Where the chip fails, the banks past those of the object are as before, and each bank but
-        // one stands where a first part of the writes leaves it.
-        ensures failed { OnErr result (FailedBelow (banks_by self.old (Load name.now values.now))
+        // Where the chip fails, the banks past those of the operand are as before, and each bank
+        // but one stands where a first part of the writes leaves it.
+        ensures failed { OnErr result (FailedBelow (banks_by self.old (Load place.now values.now))
             (D.view dram.old) (D.view dram.new)) }
         ensures left { OnErr result (StoppedWithin
-            (events_by self.old (Alone (Load name.now values.now))) (D.view dram.old).banks
+            (events_by self.old (Alone (Load place.now values.now))) (D.view dram.old).banks
             (D.view dram.new).banks) }
     {
         load(
             self.geometry,
             &self.table,
-            name,
+            place,
             values,
             &mut self.stage,
             dram,

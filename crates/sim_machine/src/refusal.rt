@@ -1,8 +1,8 @@
 //! Why a bbop is refused.
 
 ghost use Rattle.std.specs.Prelude.{◌≡◌, ℕ, ◌+◌, ◌<◌, ◌≤◌, ◌==◌, not, is_none, map, zip, ◌∷◌, ◌++◌};
-ghost use Rattle.std.specs.Prelude.{◌||◌, [], List, Bool, Option, Some, None, length, position};
-ghost use Rattle.std.specs.Prelude.{IfSome, IfOk, IfErr, OnOk};
+ghost use Rattle.std.specs.Prelude.{◌||◌, ◌&&◌, [], List, Bool, Option, Some, None, length};
+ghost use Rattle.std.specs.Prelude.{position, IfSome, IfOk, IfErr, OnOk};
 ghost use Rattle.std.specs.Option.{option_map, option_to_list};
 ghost use Rattle.std.specs.Str.{bytes_eq};
 ghost use Rattle.uprog_code.specs.Shape.{need, shape_of, width, results};
@@ -12,38 +12,26 @@ ghost use Rattle.uprog_code.specs.Machine.{trace};
 ghost use Rattle.machine_model.specs.declared.Why.{Why};
 ghost use Rattle.sim_machine.specs.Granted.{IsGranted};
 ghost use Rattle.machine_model.specs.Routines.{routine_of};
-ghost use Rattle.machine_model.specs.Refusals.{object_named, is_absent, is_misfit, at_place, first};
-ghost use Rattle.machine_model.specs.Refusals.{operand_conditions, grant_conditions};
-ghost use Rattle.machine_model.specs.Refusals.{bbop_conditions, dsts_in, srcs_in, is_one_of};
-ghost use Rattle.machine_model.specs.Refusals.{repeats};
+ghost use Rattle.machine_model.specs.Places.{share};
+ghost use Rattle.machine_model.specs.Refusals.{rows_of, goes_past, is_absent, is_misfit, at_place};
+ghost use Rattle.machine_model.specs.Refusals.{first, operand_conditions, grant_conditions};
+ghost use Rattle.machine_model.specs.Refusals.{bbop_conditions, dsts_in, srcs_in, meets_one};
+ghost use Rattle.machine_model.specs.Refusals.{meet_before};
 
 use arrayvec::ArrayVec;
+use bbop_isa::{Part, Place};
 use machine_model::Why;
 use object_alloc::{Object, Table};
-use text_lex::Name;
+use object_steps::{goes_past, rows_of};
 use uprog_bin::Entry;
 use uprog_code::{BadWalk, Counts, Fetch, Head, Kind, WALK_MAX};
 
-/// What is read of a name that no object has.
-const NOTHING: Object = Object {
-    base: 0,
-    width: 0,
-    count: 0,
-};
-
-/// The object of this name.
-pub(crate) fn object_named(table: &Table, name: &Name) -> Object
-    ensures { result ≡ object_named table.now.pairs name.now }
-{
-    table.look_up(name).unwrap_or(NOTHING)
-}
-
-/// Whether no object has this name.
+/// Whether no object has the operand's name.
 #[tactic(auto, using(crate::proofs::Found::places))]
-fn is_absent(table: &Table, name: &Name) -> bool
-    ensures { result ≡ is_absent table.now.pairs name.now }
+fn is_absent(table: &Table, place: &Place) -> bool
+    ensures { result ≡ is_absent table.now.pairs place.now.name }
 {
-    table.look_up(name).is_none()
+    table.look_up(&place.name).is_none()
 }
 
 /// Whether the object is not as wide as an operand of this kind at width n.
@@ -57,21 +45,29 @@ fn is_misfit(kind: Kind, object: Object, n: u8) -> bool
 }
 
 /// Where the first source is that no object has.
-fn absent_source(table: &Table, srcs: &[Name]) -> Option<usize>
-    ensures value { result ≡ position (is_absent table.now.pairs) srcs.now }
+fn absent_source(table: &Table, srcs: &[Place]) -> Option<usize>
+    ensures value { result ≡ position (λ p. is_absent table.now.pairs p.name) srcs.now }
     ensures bound { IfSome result (λ at. at < length srcs.now) }
 {
     srcs.iter().position(|src| is_absent(table, src))
 }
 
+/// Where the first source is that ends past its object.
+fn past_source(table: &Table, srcs: &[Place]) -> Option<usize>
+    ensures value { result ≡ position (goes_past table.now.pairs) srcs.now }
+    ensures bound { IfSome result (λ at. at < length srcs.now) }
+{
+    srcs.iter().position(|src| goes_past(table, src))
+}
+
 /// Where the first source is that has another number of elements.
-fn unlike_source(table: &Table, srcs: &[Name], count: u32) -> Option<usize>
-    ensures value { result ≡ position (λ src. not ((object_named table.now.pairs src).count
+fn unlike_source(table: &Table, srcs: &[Place], count: u32) -> Option<usize>
+    ensures value { result ≡ position (λ src. not ((rows_of table.now.pairs src).count
         == count)) srcs.now }
     ensures bound { IfSome result (λ at. at < length srcs.now) }
 {
     srcs.iter()
-        .position(|src| object_named(table, src).count != count)
+        .position(|src| rows_of(table, src).count != count)
 }
 
 /// The kinds of the operands after the first destination.
@@ -89,7 +85,7 @@ pub(crate) fn other_kinds(head: &Head) -> ArrayVec<Kind, 5>
 }
 
 /// The sources, after one or two destinations.
-pub(crate) fn sources_of<'a>(dst: &Name, head: &Head, srcs: &'a [Name]) -> &'a [Name]
+pub(crate) fn sources_of<'a>(dst: &Place, head: &Head, srcs: &'a [Place]) -> &'a [Place]
     ensures { result.now ≡ srcs_in (shape_of head.now) (dst.now ∷ srcs.now) }
 {
     match (head.second, srcs) {
@@ -98,28 +94,49 @@ pub(crate) fn sources_of<'a>(dst: &Name, head: &Head, srcs: &'a [Name]) -> &'a [
     }
 }
 
-/// Where the first source is that is named as a destination is.
-fn same_source(dst: &Name, srcs: &[Name]) -> Option<usize>
-    ensures value { result ≡ position (is_one_of (dst.now ∷ [])) srcs.now }
-    ensures bound { IfSome result (λ at. at < length srcs.now) }
+/// Whether two parts of one object have a bit in common.
+fn share(a: Option<Part>, b: Option<Part>) -> bool
+    ensures { result ≡ share a b }
 {
-    srcs.iter().position(|src| src == dst)
+    match (a, b) {
+        (Some(a), Some(b)) => {
+            u16::from(a.low) < u16::from(b.low) + u16::from(b.size)
+                && u16::from(b.low) < u16::from(a.low) + u16::from(a.size)
+        }
+        _ => true,
+    }
 }
 
-/// Where the first source is that is named as one of two destinations is.
-fn same_of_two(dst: &Name, second: &Name, srcs: &[Name]) -> Option<usize>
-    ensures value { result ≡ position (is_one_of (dst.now ∷ second.now ∷ [])) srcs.now }
+/// Whether two operands have a bit in common.
+fn meets(a: &Place, b: &Place) -> bool
+    ensures { result ≡ (bytes_eq a.now.name b.now.name && share a.now.part b.now.part) }
+{
+    a.name == b.name && share(a.part, b.part)
+}
+
+/// Where the first source is that has a bit of a destination.
+fn same_source(dst: &Place, srcs: &[Place]) -> Option<usize>
+    ensures value { result ≡ position (meets_one (dst.now ∷ [])) srcs.now }
     ensures bound { IfSome result (λ at. at < length srcs.now) }
 {
-    srcs.iter().position(|src| src == dst || src == second)
+    srcs.iter().position(|src| meets(src, dst))
+}
+
+/// Where the first source is that has a bit of one of two destinations.
+fn same_of_two(dst: &Place, second: &Place, srcs: &[Place]) -> Option<usize>
+    ensures value { result ≡ position (meets_one (dst.now ∷ second.now ∷ [])) srcs.now }
+    ensures bound { IfSome result (λ at. at < length srcs.now) }
+{
+    srcs.iter()
+        .position(|src| meets(src, dst) || meets(src, second))
 }
 
 /// The first operand that no object has.
 #[tactic(auto, using(crate::proofs::Found::places))]
-fn no_object(table: &Table, dst: &Name, srcs: &[Name]) -> Option<Why>
+fn no_object(table: &Table, dst: &Place, srcs: &[Place]) -> Option<Why>
     requires { length srcs.now ≤ 5 }
     ensures { result ≡ at_place Why.NoObject 0
-        (map (is_absent table.now.pairs) (dst.now ∷ srcs.now)) }
+        (map (λ p. is_absent table.now.pairs p.name) (dst.now ∷ srcs.now)) }
 {
     if is_absent(table, dst) {
         return Some(Why::NoObject(0));
@@ -130,14 +147,30 @@ fn no_object(table: &Table, dst: &Name, srcs: &[Name]) -> Option<Why>
     }
 }
 
+/// The first operand that ends past its object.
+#[tactic(auto, using(crate::proofs::Found::places))]
+fn bad_slice(table: &Table, dst: &Place, srcs: &[Place]) -> Option<Why>
+    requires { length srcs.now ≤ 5 }
+    ensures { result ≡ at_place Why.Slice 0
+        (map (goes_past table.now.pairs) (dst.now ∷ srcs.now)) }
+{
+    if goes_past(table, dst) {
+        return Some(Why::Slice(0));
+    }
+    match past_source(table, srcs) {
+        Some(at) => Some(Why::Slice(at as u32 + 1)),
+        None => None,
+    }
+}
+
 /// The first operand that has another number of elements.
 #[tactic(auto, using(crate::proofs::Found::places))]
-fn bad_size(table: &Table, dst: &Name, srcs: &[Name], count: u32) -> Option<Why>
+fn bad_size(table: &Table, dst: &Place, srcs: &[Place], count: u32) -> Option<Why>
     requires { length srcs.now ≤ 5 }
     ensures { result ≡ at_place Why.Size 0 (map (λ o. not (o.count == count))
-        (map (object_named table.now.pairs) (dst.now ∷ srcs.now))) }
+        (map (rows_of table.now.pairs) (dst.now ∷ srcs.now))) }
 {
-    if object_named(table, dst).count != count {
+    if rows_of(table, dst).count != count {
         return Some(Why::Size(0));
     }
     match unlike_source(table, srcs, count) {
@@ -146,11 +179,11 @@ fn bad_size(table: &Table, dst: &Name, srcs: &[Name], count: u32) -> Option<Why>
     }
 }
 
-/// The first source that is named as the one destination is.
+/// The first source that has a bit of the one destination.
 #[tactic(auto, using(crate::proofs::Found::places))]
-fn overlap_of_one(dst: &Name, srcs: &[Name]) -> Option<Why>
+fn overlap_of_one(dst: &Place, srcs: &[Place]) -> Option<Why>
     requires { length srcs.now ≤ 5 }
-    ensures { result ≡ at_place Why.Overlap 1 (map (is_one_of (dst.now ∷ [])) srcs.now) }
+    ensures { result ≡ at_place Why.Overlap 1 (map (meets_one (dst.now ∷ [])) srcs.now) }
 {
     match same_source(dst, srcs) {
         Some(at) => Some(Why::Overlap(at as u32 + 1)),
@@ -158,12 +191,12 @@ fn overlap_of_one(dst: &Name, srcs: &[Name]) -> Option<Why>
     }
 }
 
-/// The first source that is named as one of two destinations is.
+/// The first source that has a bit of one of two destinations.
 #[tactic(auto, using(crate::proofs::Found::places))]
-fn overlap_of_two(dst: &Name, second: &Name, srcs: &[Name]) -> Option<Why>
+fn overlap_of_two(dst: &Place, second: &Place, srcs: &[Place]) -> Option<Why>
     requires { length srcs.now ≤ 5 }
     ensures { result ≡ at_place Why.Overlap 2
-        (map (is_one_of (dst.now ∷ second.now ∷ [])) srcs.now) }
+        (map (meets_one (dst.now ∷ second.now ∷ [])) srcs.now) }
 {
     match same_of_two(dst, second, srcs) {
         Some(at) => Some(Why::Overlap(at as u32 + 2)),
@@ -171,18 +204,18 @@ fn overlap_of_two(dst: &Name, second: &Name, srcs: &[Name]) -> Option<Why>
     }
 }
 
-/// The second destination that is named as the first is, or the first source that is named as a
-/// destination is.
-fn overlap(head: &Head, dst: &Name, srcs: &[Name]) -> Option<Why>
+/// The second destination that has a bit of the first, or the first source that has a bit of a
+/// destination.
+fn overlap(head: &Head, dst: &Place, srcs: &[Place]) -> Option<Why>
     requires { length srcs.now ≤ 5 }
     ensures { result ≡ at_place Why.Overlap 0
-        (repeats [] (dsts_in (shape_of head.now) (dst.now ∷ srcs.now))
-        ++ map (is_one_of (dsts_in (shape_of head.now) (dst.now ∷ srcs.now)))
+        (meet_before [] (dsts_in (shape_of head.now) (dst.now ∷ srcs.now))
+        ++ map (meets_one (dsts_in (shape_of head.now) (dst.now ∷ srcs.now)))
         (srcs_in (shape_of head.now) (dst.now ∷ srcs.now))) }
 {
     match (head.second, srcs) {
         (Some(_), [second, rest @ ..]) => {
-            if second == dst {
+            if meets(second, dst) {
                 return Some(Why::Overlap(1));
             }
             overlap_of_two(dst, second, rest)
@@ -192,25 +225,28 @@ fn overlap(head: &Head, dst: &Name, srcs: &[Name]) -> Option<Why>
 }
 
 /// Where the first source is that is not as wide as its kind asks.
-fn misfit_source(table: &Table, kinds: &[Kind], srcs: &[Name], n: u8) -> Option<usize>
+fn misfit_source(table: &Table, kinds: &[Kind], srcs: &[Place], n: u8) -> Option<usize>
     ensures value { result ≡ position (λ pair. is_misfit n (
       pair.0,
-      object_named table.now.pairs pair.1,
+      rows_of table.now.pairs pair.1,
     )) (zip kinds.now srcs.now) }
     ensures bound { IfSome result (λ at. at < length srcs.now) }
 {
-    kinds.iter().zip(srcs).position(|(kind, src)| is_misfit(*kind, object_named(table, src), n))
+    kinds
+        .iter()
+        .zip(srcs)
+        .position(|(kind, src)| is_misfit(*kind, rows_of(table, src), n))
 }
 
 /// The first operand that is not as wide as its kind asks.
 #[tactic(auto, using(crate::proofs::Found::places))]
-fn bad_width(table: &Table, head: &Head, dst: &Name, srcs: &[Name], n: u8) -> Option<Why>
+fn bad_width(table: &Table, head: &Head, dst: &Place, srcs: &[Place], n: u8) -> Option<Why>
     requires { length srcs.now ≤ 5 }
     ensures { result ≡ at_place Why.Width 0 (map (is_misfit n)
         (zip (results (shape_of head.now) ++ head.now.sources.items)
-        (map (object_named table.now.pairs) (dst.now ∷ srcs.now)))) }
+        (map (rows_of table.now.pairs) (dst.now ∷ srcs.now)))) }
 {
-    if is_misfit(head.result, object_named(table, dst), n) {
+    if is_misfit(head.result, rows_of(table, dst), n) {
         return Some(Why::Width(0));
     }
     let kinds = other_kinds(head);
@@ -230,8 +266,8 @@ pub(crate) fn scratch_rows(head: &Head, n: u8) -> u16
 /// An operation's operands, the number of their elements and the width.
 #[derive(Clone, Copy)]
 pub(crate) struct Bbop<'a> {
-    pub dst: &'a Name,
-    pub srcs: &'a [Name],
+    pub dst: &'a Place,
+    pub srcs: &'a [Place],
     pub count: u32,
     pub n: u8,
 }
@@ -243,6 +279,9 @@ fn operands_refusal(table: &Table, head: &Head, bbop: &Bbop<'_>) -> Option<Why>
         (bbop.now.dst.now ∷ bbop.now.srcs.now) bbop.now.count bbop.now.n) }
 {
     if let Some(why) = no_object(table, bbop.dst, bbop.srcs) {
+        return Some(why);
+    }
+    if let Some(why) = bad_slice(table, bbop.dst, bbop.srcs) {
         return Some(why);
     }
     if let Some(why) = bad_width(table, head, bbop.dst, bbop.srcs, bbop.n) {

@@ -72,6 +72,7 @@ fn add_why<const N: usize>(text: &mut ArrayVec<u8, N>, why: Why)
         Why::NoOp => add(text, b"no_op"),
         Why::Arity => add(text, b"arity"),
         Why::NoObject(place) => add_place(text, b"no_object", place),
+        Why::Slice(place) => add_place(text, b"slice", place),
         Why::Width(place) => add_place(text, b"width", place),
         Why::Size(place) => add_place(text, b"size", place),
         Why::Overlap(place) => add_place(text, b"overlap", place),

@@ -23,7 +23,7 @@ ghost use Rattle.sim_machine.specs.Steps.{HasRoom};
 
 use crate::machine::Machine;
 use crate::report::put_reply;
-use bbop_isa::{Instr, Order as Orders};
+use bbop_isa::{Instr, Order as Orders, Place};
 use dram_model::{ChipFault, Dram};
 use host_edge::Sink;
 use machine_model::{Reply, Why};
@@ -140,17 +140,17 @@ impl<'a> Machine<'a> {
     {
         let g = self.geometry;
         match instr {
-            Instr::Load { name, values } => {
+            Instr::Load { place, values } => {
                 load(
                     g,
                     &self.table,
-                    name,
+                    place,
                     values.as_slice(),
                     &mut self.stage,
                     dram,
                 )
             }
-            Instr::Fill { name, value } => fill(g, &self.table, name, *value, dram),
+            Instr::Fill { place, value } => fill(g, &self.table, place, *value, dram),
             Instr::Order(order) => {
                 self.order = picker_of(*order);
                 Ok(DONE)
@@ -185,11 +185,11 @@ impl<'a> Machine<'a> {
         }
     }
 
-    /// An object's values are shown under its own name.
+    /// An operand's values are shown as its own.
     fn print_step<D: Dram, S: Sink>(
         &mut self,
         number: u32,
-        name: &Name,
+        place: &Place,
         dram: &mut D,
         out: &mut S,
     ) -> Result<Reply, StepFault>
@@ -197,7 +197,7 @@ impl<'a> Machine<'a> {
         requires geometry { (D.view dram.old).geometry ≡ geometry_of self.old }
         requires room { HasRoom (D.view dram.old).counters }
         ensures borrow { D.borrow dram.new ≡ D.borrow dram.old }
-        ensures went { Went self.old self.new number (Print name.now) (D.view dram.old)
+        ensures went { Went self.old self.new number (Print place.now) (D.view dram.old)
             (D.view dram.new) (S.view out.old) (S.view out.new) result }
     {
         let g = self.geometry;
@@ -205,8 +205,8 @@ impl<'a> Machine<'a> {
             g,
             &self.table,
             number,
-            name,
-            name,
+            place,
+            place,
             &mut self.stage,
             dram,
             out,
@@ -268,7 +268,7 @@ impl<'a> Machine<'a> {
         match instr {
             Instr::Bbop { .. } => self.bbop_step(number, instr, dram, out),
             Instr::Init { name, count, n } => self.init_step(number, name, *count, *n, dram, out),
-            Instr::Print { name } => self.print_step(number, name, dram, out),
+            Instr::Print { place } => self.print_step(number, place, dram, out),
             Instr::Free { name } => self.free_step(number, name, dram, out),
             Instr::Load { .. } | Instr::Fill { .. } | Instr::Order(_) => {
                 self.reply_step(number, instr, dram, out)

@@ -26,7 +26,7 @@ use Rattle.simdram_cli.specs.declared.words.AccountNames.{AccountNames}
 use Rattle.simdram_cli.specs.declared.words.Command.TheVariants.{Account as AccountOf}
 use Rattle.simdram_cli.specs.declared.words.TheConstants.{OPS_MAX, PROG_MAX}
 use Rattle.simdram_cli.specs.declared.account.ProgramAccount.TheVariants.{Listing}
-use Rattle.simdram_cli.specs.Accounts.{HasWidth, account_named}
+use Rattle.simdram_cli.specs.Accounts.{HasWidths, account_named}
 use Rattle.simdram_cli.specs.Accounts.{Accounted, ProgramTold, OpsTold, account_plan, program_plan}
 use Rattle.simdram_cli.specs.Accounts.{StopsBefore, program_text, ops_plan, text_plan, told_plan}
 use Rattle.simdram_cli.specs.Commands.{CanAnswer}
@@ -51,14 +51,14 @@ opened_file file text same spelled = record {
   spelled = sym same ∙ spelled.2;
 }
 
--- an account that is asked for by its word has a width where it has one
+-- an account that is asked for by its word has widths where it needs them
 named_width : (a b : Bool) → IfSome (cond a (Some Canonical)
-    (cond b (Some (OfProgram Listing)) None)) HasWidth
+    (cond b (Some (OfProgram Listing)) None)) HasWidths
 named_width true b = tt
 named_width false true = tt
 named_width false false = tt
 
-pub named_right : (verb : List ℕ) → IfSome (account_named verb) HasWidth
+pub named_right : (verb : List ℕ) → IfSome (account_named verb) HasWidths
 named_right verb = named_width (bytes_eq verb (codes "show")) (bytes_eq verb (codes "list"))
 
 own_gives : (file : Bor (List ℕ)) (account : Account)

@@ -1,10 +1,10 @@
 -- What the words of a command say of its files and numbers.
 use Rattle.std.proofs.Common.{◌≡◌, ℕ, Bool, true, false, cond, List, [], ◌∷◌, Option, Some, None}
-use Rattle.std.proofs.Common.{refl, subst, nat_le, nat_lt, ◌^◌}
+use Rattle.std.proofs.Common.{refl, subst, nat_lt, ◌^◌}
 use Rattle.std.specs.Prelude.{◌&&◌, IfSome, bytes_eq, codes}
-use Rattle.std.proofs.lemmas.Bool.{leb-true, ltb-true}
+use Rattle.std.proofs.lemmas.Bool.{ltb-true}
+use Rattle.std.specs.Option.{option_map}
 use denote.Ref.{Bor}
-use Rattle.bit_rows.specs.declared.TheConstants.{WIDTH_MAX}
 use Rattle.dram_model.specs.Geometry.{is_geometry}
 use Rattle.dram_model.specs.declared.geometry.Geometry.{Geometry}
 use Rattle.simdram_cli.specs.declared.words.Command.{Command}
@@ -18,16 +18,17 @@ use Rattle.simdram_cli.specs.declared.words.Command.TheVariants.{Guard}
 use Rattle.simdram_cli.specs.declared.words.Command.TheVariants.{Verify}
 use Rattle.simdram_cli.specs.declared.words.GuardNames.{GuardNames}
 use Rattle.simdram_cli.specs.Words.{HasNumbers, IsApart, are_apart, command_of, command_on_one}
-use Rattle.simdram_cli.specs.Words.{command_on_four, command_on_two, cost_on, init_on}
-use Rattle.simdram_cli.specs.Words.{inputs_apart, is_number, soak_on, value_of}
+use Rattle.simdram_cli.specs.Words.{command_on_four, command_on_two, cost_at, cost_on, init_on}
+use Rattle.simdram_cli.specs.Numbers.{is_number, value_of}
+use Rattle.simdram_cli.specs.Widths.{widths_in}
+use Rattle.simdram_cli.specs.Words.{inputs_apart, soak_on}
 use Rattle.simdram_cli.specs.Words.{or_account, traced_apart, trace_on}
 use Rattle.simdram_cli.specs.declared.account.Account.{Account}
-use Rattle.simdram_cli.specs.declared.account.Account.TheVariants.{OfProgram}
-use Rattle.simdram_cli.specs.declared.account.ProgramAccount.TheVariants.{Costs}
 use Rattle.simdram_cli.proofs.Accounting.{named_right}
-use Rattle.simdram_cli.specs.Accounts.{HasWidth, account_named}
+use Rattle.simdram_cli.specs.Accounts.{HasWidths, account_named}
 use Rattle.simdram_cli.specs.Words.{command_on_three, replay_apart}
-use Rattle.simdram_cli.specs.Words.{guard_apart, guard_on, verify_on}
+use Rattle.simdram_cli.specs.Words.{guard_apart, guard_on, verify_at, verify_on}
+use Rattle.simdram_cli.proofs.WidthLists.{widths_are}
 
 -- the files of a command are apart, and its numbers are in range
 pub record IsRight (command : Command) : Type 0 where
@@ -66,38 +67,21 @@ either false x y p q = q refl
 no_other : (b : Bool) (x : Option Command) → (b ≡ false → AreRight x) → AreRight (cond b None x)
 no_other b x p = either b None x tt p
 
-cost_right : (prog : Bor (List ℕ)) (width : List ℕ) → AreRight (cost_on prog width)
-cost_right prog width =
-    let low = nat_le 1 (value_of width) in
-    let high = nat_le (value_of width) WIDTH_MAX in
-    if_so (is_number width && (low && high)) (AccountOf (record
-    { file = prog; account = OfProgram (Costs (value_of width)) }))
-    (λ e. record {
-      apart = tt;
-      numbers = (
-        leb-true 1 (value_of width)
-            (first_holds low high (second_holds (is_number width) (low && high) e)),
-        leb-true (value_of width) WIDTH_MAX
-            (second_holds low high (second_holds (is_number width) (low && high) e)),
-      );
-    })
+-- a command at the widths that a word lists
+at_widths : (o : Option (List ℕ)) (make : List ℕ → Command)
+    → ((widths : List ℕ) → o ≡ Some widths → IsRight (make widths))
+    → AreRight (option_map make o)
+at_widths (Some widths) make right = right widths refl
+at_widths None make right = tt
 
-verify_right : (ops prog : Bor (List ℕ)) (width : List ℕ) → AreRight (verify_on ops prog width)
-verify_right ops prog width =
-    let low = nat_le 1 (value_of width) in
-    let high = nat_le (value_of width) WIDTH_MAX in
-    no_other (bytes_eq ops.now prog.now) _ (λ apart.
-    if_so (is_number width && (low && high)) (Verify (record
-    { ops = ops; prog = prog; n = value_of width }))
-    (λ e. record {
-      apart = apart;
-      numbers = (
-        leb-true 1 (value_of width)
-            (first_holds low high (second_holds (is_number width) (low && high) e)),
-        leb-true (value_of width) WIDTH_MAX
-            (second_holds low high (second_holds (is_number width) (low && high) e)),
-      );
-    }))
+cost_right : (prog : Bor (List ℕ)) (word : List ℕ) → AreRight (cost_on prog word)
+cost_right prog word = at_widths (widths_in word) (cost_at prog)
+    (λ widths e. record { apart = tt; numbers = widths_are word widths e })
+
+verify_right : (ops prog : Bor (List ℕ)) (word : List ℕ) → AreRight (verify_on ops prog word)
+verify_right ops prog word =
+    no_other (bytes_eq ops.now prog.now) _ (λ apart. at_widths (widths_in word) (verify_at ops prog)
+    (λ widths e. record { apart = apart; numbers = widths_are word widths e }))
 
 init_right : (banks rows words : List ℕ) (out : Bor (List ℕ))
     → AreRight (init_on banks rows words out)
@@ -124,7 +108,7 @@ soak_right seed =
     })
 
 or_account_right : (o : Option Account) (file : Bor (List ℕ)) (other : Option Command)
-    → IfSome o HasWidth → AreRight other → AreRight (or_account o file other)
+    → IfSome o HasWidths → AreRight other → AreRight (or_account o file other)
 or_account_right (Some account) file other width right = record { apart = tt; numbers = width }
 or_account_right None file other width right = right
 

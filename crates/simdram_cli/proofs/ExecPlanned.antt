@@ -85,6 +85,8 @@ executed_so names program script i before after old new status prog_is script_is
       script_is = script_is;
       image_is = image_is;
       legal = legal;
+      plain = rows.plain;
+      accepted = rows.image;
       row_by_row = record {
         work = rows.work;
         file = file;

@@ -45,3 +45,4 @@ pub mod Compiled
 pub mod GuardPlanned
 pub mod RunPlanned
 pub mod Verifying
+pub mod WidthLists

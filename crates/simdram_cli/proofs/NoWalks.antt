@@ -11,6 +11,7 @@ use Rattle.uprog_code.specs.Machine.{Trace, Ended, Stuck, trace, HasEnded}
 use Rattle.dram_model.specs.Elements.{column_count}
 use Rattle.object_alloc.specs.Free.{free}
 use Rattle.object_alloc.specs.Listed.{Named, objects_of, limit_of, has_name}
+use Rattle.bbop_isa.specs.declared.instr.Place.{Place}
 use Rattle.bbop_isa.specs.Forms.{Instruction}
 use Rattle.bbop_isa.specs.Forms.{Init, Bbop, Load, Fill, Print, Free, Order}
 use Rattle.machine_model.specs.declared.Why.{Why}
@@ -18,9 +19,9 @@ use Rattle.machine_model.specs.declared.Why.TheVariants as why
 use Rattle.machine_model.specs.Routines.{Program, Routine, Routines, routines_in}
 use Rattle.machine_model.specs.Routines.{routine_of, entry_named}
 use Rattle.uprog_code.specs.Texts.{TextOp, ImplementsAll}
-use Rattle.machine_model.specs.Refusals.{first, when, at_place, walks_badly, object_named}
+use Rattle.machine_model.specs.Refusals.{first, when, at_place, walks_badly, rows_of, goes_past}
 use Rattle.machine_model.specs.Refusals.{is_absent, is_misfit, bbop_conditions, bbop_refusal}
-use Rattle.machine_model.specs.Refusals.{dsts_in, srcs_in, is_one_of, repeats}
+use Rattle.machine_model.specs.Refusals.{dsts_in, srcs_in, meets_one, meet_before}
 use Rattle.machine_model.specs.Refusals.{refusal}
 use Rattle.machine_model.specs.Steps.{reply_by, table_after}
 use Rattle.machine_model.specs.Script.{replies}
@@ -58,32 +59,35 @@ ended_not : (t : Trace) → HasEnded t → NotWalk (walks_badly t)
 ended_not (Ended issues) h walk e = cc
 ended_not (Stuck at reason) h walk e = elim h [ ]
 
-bbop_not : (g : Geometry) (table : List Named) (o : Routine) (names : List (List ℕ))
+bbop_not : (g : Geometry) (table : List Named) (o : Routine) (places : List Place)
     (count n : ℕ) → HasEnded (o.trace n)
-    → NotWalk (first (bbop_conditions (limit_of g) table o names count n))
-bbop_not g table o names count n ended =
-    let operands = map (object_named table) names in
-    let dsts = dsts_in o.shape names in
-    first_not (bbop_conditions (limit_of g) table o names count n) (
-      when_not (not (length names == length (results o.shape ++ o.shape.sources))) why.Arity
+    → NotWalk (first (bbop_conditions (limit_of g) table o places count n))
+bbop_not g table o places count n ended =
+    let operands = map (rows_of table) places in
+    let dsts = dsts_in o.shape places in
+    first_not (bbop_conditions (limit_of g) table o places count n) (
+      when_not (not (length places == length (results o.shape ++ o.shape.sources))) why.Arity
           (λ walk e. cc),
       (
-        place_not why.NoObject 0 (map (is_absent table) names) (λ j walk e. cc),
+        place_not why.NoObject 0 (map (λ p. is_absent table p.name) places) (λ j walk e. cc),
         (
-          place_not why.Width 0 (map (is_misfit n)
-              (zip (results o.shape ++ o.shape.sources) operands)) (λ j walk e. cc),
+          place_not why.Slice 0 (map (goes_past table) places) (λ j walk e. cc),
           (
-            place_not why.Size 0 (map (λ x. not (x.count == count)) operands) (λ j walk e. cc),
+            place_not why.Width 0 (map (is_misfit n)
+                (zip (results o.shape ++ o.shape.sources) operands)) (λ j walk e. cc),
             (
-              place_not why.Overlap 0
-                  (repeats [] dsts ++ map (is_one_of dsts) (srcs_in o.shape names))
-                  (λ j walk e. cc),
+              place_not why.Size 0 (map (λ x. not (x.count == count)) operands) (λ j walk e. cc),
               (
-                ended_not (o.trace n) ended,
+                place_not why.Overlap 0
+                    (meet_before [] dsts ++ map (meets_one dsts) (srcs_in o.shape places))
+                    (λ j walk e. cc),
                 (
-                  when_not (is_none (free (limit_of g) (objects_of table) (need o.shape n)))
-                      why.NoRows (λ walk e. cc),
-                  tt,
+                  ended_not (o.trace n) ended,
+                  (
+                    when_not (is_none (free (limit_of g) (objects_of table) (need o.shape n)))
+                        why.NoRows (λ walk e. cc),
+                    tt,
+                  ),
                 ),
               ),
             ),
@@ -96,12 +100,21 @@ abbrev pub AllEnd : Routines → Type 0
 AllEnd operations = (name : List ℕ) (o : Routine) → operations name ≡ Some o → (n : ℕ) → 0 < n
     → n ≤ WIDTH_MAX → HasEnded (o.trace n)
 
-named_not : (g : Geometry) (table : List Named) (r : Option Routine) (names : List (List ℕ))
+named_not : (g : Geometry) (table : List Named) (r : Option Routine) (places : List Place)
     (count n : ℕ) → ((o : Routine) → r ≡ Some o → HasEnded (o.trace n))
-    → NotWalk (bbop_refusal g table r names count n)
-named_not g table None names count n ends walk e = cc
-named_not g table (Some o) names count n ends walk e =
-    bbop_not g table o names count n (ends o refl) walk e
+    → NotWalk (bbop_refusal g table r places count n)
+named_not g table None places count n ends walk e = cc
+named_not g table (Some o) places count n ends walk e =
+    bbop_not g table o places count n (ends o refl) walk e
+
+-- the operand of a load, fill or print, and what else is asked for
+operand_not : (absent past : Bool) (rest : List (Option Why)) → AllByRecursion NotWalk rest
+    → NotWalk (first (when absent (why.NoObject 0) ∷ when past (why.Slice 0) ∷ rest))
+operand_not absent past rest h = first_not
+    (when absent (why.NoObject 0) ∷ when past (why.Slice 0) ∷ rest) (
+      when_not absent (why.NoObject 0) (λ walk e. cc),
+      (when_not past (why.Slice 0) (λ walk e. cc), h),
+    )
 
 refusal_not : (g : Geometry) (operations : Routines) (table : List Named) (i : Instruction)
     → AllEnd operations → IsPlain i → NotWalk (refusal g operations table i)
@@ -126,34 +139,24 @@ refusal_not g operations table (Init name count n) ends plain =
         ),
       ),
     )
-refusal_not g operations table (Load name values) ends plain =
-    first_not
-    (when (is_absent table name) (why.NoObject 0)
-    ∷ when (not (length values == (object_named table name).count)) why.Count
-    ∷ at_place why.Range 1 (map (λ v. nat_le (2 ^ (object_named table name).width) v) values)
-    ∷ []) (
-      when_not (is_absent table name) (why.NoObject 0) (λ walk e. cc),
+refusal_not g operations table (Load place values) ends plain =
+    let o = rows_of table place in
+    operand_not (is_absent table place.name) (goes_past table place)
+    (when (not (length values == o.count)) why.Count
+    ∷ at_place why.Range 1 (map (λ v. nat_le (2 ^ o.width) v) values) ∷ []) (
+      when_not (not (length values == o.count)) why.Count (λ walk e. cc),
       (
-        when_not (not (length values == (object_named table name).count)) why.Count (λ walk e. cc),
-        (
-          place_not why.Range 1 (map (λ v. nat_le (2 ^ (object_named table name).width) v) values)
-              (λ j walk e. cc),
-          tt,
-        ),
-      ),
-    )
-refusal_not g operations table (Fill name value) ends plain =
-    first_not
-    (when (is_absent table name) (why.NoObject 0)
-    ∷ when (nat_le (2 ^ (object_named table name).width) value) (why.Range 1) ∷ []) (
-      when_not (is_absent table name) (why.NoObject 0) (λ walk e. cc),
-      (
-        when_not (nat_le (2 ^ (object_named table name).width) value) (why.Range 1) (λ walk e. cc),
+        place_not why.Range 1 (map (λ v. nat_le (2 ^ o.width) v) values) (λ j walk e. cc),
         tt,
       ),
     )
-refusal_not g operations table (Print name) ends plain =
-    when_not (is_absent table name) (why.NoObject 0) (λ walk e. cc)
+refusal_not g operations table (Fill place value) ends plain =
+    let o = rows_of table place in
+    operand_not (is_absent table place.name) (goes_past table place)
+    (when (nat_le (2 ^ o.width) value) (why.Range 1) ∷ [])
+    (when_not (nat_le (2 ^ o.width) value) (why.Range 1) (λ walk e. cc), tt)
+refusal_not g operations table (Print place) ends plain =
+    operand_not (is_absent table place.name) (goes_past table place) [] tt
 refusal_not g operations table (Free name) ends plain =
     when_not (is_absent table name) (why.NoObject 0) (λ walk e. cc)
 refusal_not g operations table (Order order) ends plain = none_not

@@ -49,7 +49,7 @@ tables g banks (p ∷ table) = ap (λ rest. p ∷ rest) (tables g banks table)
 pub table_is : (i : Image) → table_of (objects_held i) ≡ i.table
 table_is i = tables i.geometry (opened i) i.table
 
-tables_end : (g : Geometry) (o : Routines) (meaning : List ℕ → ℕ → List ℕ
+pub tables_end : (g : Geometry) (o : Routines) (meaning : List ℕ → ℕ → List ℕ
     → List ℕ) (state : List Held) (script : List Instruction)
     → table_of (words_at_end g o meaning state script) ≡ table_at_end g o (table_of state) script
 tables_end g o meaning state [] = refl

@@ -5,8 +5,8 @@ use Rattle.std.specs.Prelude.{◌==◌, ◌&&◌, not, map, Result, Ok, Err}
 use Rattle.std.specs.List.{list_all, list_any}
 use Rattle.host_edge.specs.Views.{Files, Known}
 use Rattle.uprog_code.specs.Texts.{text_op}
-use Rattle.verify_job.specs.declared.finding.Finding.{Finding}
-use Rattle.verify_job.specs.Findings.{is_right, may_be_right, status_of}
+use Rattle.verify_job.specs.declared.finding.OpFindings.{OpFindings}
+use Rattle.verify_job.specs.Findings.{is_right_throughout, may_be_right_throughout, status_of}
 use Rattle.verify_job.specs.Report.{report}
 use Rattle.verify_job.proofs.Found.{all_right}
 use Rattle.cli_model.specs.World.{World}
@@ -62,9 +62,10 @@ status_so P false true zero wrong unknown = unknown
 status_so P false false zero wrong unknown = wrong
 
 -- the statuses of findings
-found_so : (P : ℕ → Type 0) (findings : List Finding) → P 0 → P 19 → P 20 → P (status_of findings)
+found_so : (P : ℕ → Type 0) (findings : List OpFindings) → P 0 → P 19 → P 20 → P (status_of findings)
 found_so P findings zero wrong unknown =
-    status_so P (list_all is_right findings) (list_all may_be_right findings) zero wrong unknown
+    status_so P (list_all is_right_throughout findings)
+    (list_all may_be_right_throughout findings) zero wrong unknown
 
 verify_gives : (names : VerifyNames)
     → Gives (IsUnsent names) (CanAnswer (Verify names)) (verify_plan names)
@@ -119,11 +120,11 @@ verify_good names holds good =
     let P = IsOneOf (10 ∷ 0 ∷ 19 ∷ 20 ∷ []) in
     good_file P names.ops.now OPS_MAX ops_in (λ ops_text u.
     Loads names.prog.now PROG_MAX prog_in (λ prog_text program.
-    Then (Take ∷ []) (Makes (IsFound names.n ops_text prog_text program)
-    (λ found. found_plan names.n found)))) holds good.0
+    Then (Take ∷ []) (Makes (IsFound names.widths.items ops_text prog_text program)
+    (λ found. found_plan names.widths.items found)))) holds good.0
     (good_file P names.prog.now PROG_MAX prog_in (λ prog_text program.
-    Then (Take ∷ []) (Makes (IsFound names.n good.0.text prog_text program)
-    (λ found. found_plan names.n found))) holds good.1
+    Then (Take ∷ []) (Makes (IsFound names.widths.items good.0.text prog_text program)
+    (λ found. found_plan names.widths.items found))) holds good.1
     (((λ e. cc), tt), λ found is. (((λ e. cc), tt), found_so P found.findings refl refl refl)))
 
 -- a verification whose report was sent keeps its promises
@@ -173,11 +174,11 @@ verified names old new status d =
       prog_is = own.is;
       are = is.are;
       answers = answers;
-      right = λ zero. all_right names.n program (map text_op found.ops) found.findings
+      right = λ zero. all_right names.widths.items program (map text_op found.ops) found.findings
           (sym answers ∙ zero) is.are;
       files = same;
       sent = subst (λ (bytes : List ℕ). Known (λ x y. y ≡ x ++ bytes) old.sink.sent new.sink.sent)
-          (one_sent said one two (report names.n found.ops found.findings) e f none) sent;
+          (one_sent said one two (report names.widths.items found.ops found.findings) e f none) sent;
     })
 
 -- how it ends whose function went through its plan

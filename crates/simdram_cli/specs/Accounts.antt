@@ -1,9 +1,8 @@
 -- The commands that load one file and send a text about it: `show`, `list` and `cost`.
-use Rattle.std.specs.Prelude.{◌≡◌, ◌<◌, ◌≤◌, ℕ, List, [], ◌∷◌, ◌++◌, Option, Some, None}
+use Rattle.std.specs.Prelude.{◌≡◌, ℕ, List, [], ◌∷◌, ◌++◌, Option, Some, None}
 use Rattle.std.specs.Prelude.{Result, Err, bytes_eq, codes, if◌then◌else◌}
 use Rattle.dram_model.specs.View.{ChipView}
 use Rattle.host_edge.specs.Views.{Files, FolderView, SinkView, Known}
-use Rattle.bit_rows.specs.declared.TheConstants.{WIDTH_MAX}
 use Rattle.op_text.specs.Language.{Operation}
 use Rattle.op_text.specs.OpsOf.{IsOpsOf}
 use Rattle.op_print.specs.Canonical.{canonical_text}
@@ -12,6 +11,7 @@ use Rattle.uprog_bin.specs.Spelling.{HasVersion, program_bytes}
 use Rattle.uprog_bin.specs.Opened.{IsProgramFile}
 use Rattle.prog_text.specs.Listing.{listing}
 use Rattle.prog_text.specs.Costs.{costs}
+use Rattle.prog_text.specs.Widths.{AreWidths}
 use Rattle.machine_model.specs.Routines.{Program}
 use Rattle.cli_model.specs.World.{World, world}
 use Rattle.cli_model.specs.Steps.{Reason, Refusal, Take, Put}
@@ -31,20 +31,20 @@ abbrev pub account_named : List ℕ → Option Account
 account_named verb = if bytes_eq verb (codes "show") then Some Canonical
     else if bytes_eq verb (codes "list") then Some (OfProgram Listing) else None
 
--- what is sent of a program: its listing, or what its entries cost at a width
+-- what is sent of a program: its listing, or what its entries cost at widths
 abbrev pub program_text : ProgramAccount → Program → List ℕ
 program_text Listing program = listing program
-program_text (Costs n) program = costs n program
+program_text (Costs widths) program = costs widths.items program
 
--- the width of what costs are asked at is one
+-- the widths of what costs are asked at are widths
 abbrev pub IsAsked : ProgramAccount → Type 0
 IsAsked Listing = Unit {0}
-IsAsked (Costs n) = (0 < n) × (n ≤ WIDTH_MAX)
+IsAsked (Costs widths) = AreWidths widths.items
 
--- the width of an account, where it is of costs, is one
-abbrev pub HasWidth : Account → Type 0
-HasWidth Canonical = Unit {0}
-HasWidth (OfProgram account) = IsAsked account
+-- so are those of an account, where it is of costs
+abbrev pub HasWidths : Account → Type 0
+HasWidths Canonical = Unit {0}
+HasWidths (OfProgram account) = IsAsked account
 
 -- the text is sent, and that is all
 abbrev pub text_plan : List ℕ → Plan

@@ -3,10 +3,13 @@ use Rattle.std.specs.Prelude.{◌≡◌, ◌≢◌, ℕ, ◌<◌, false, List, [
 use Rattle.host_edge.specs.Views.{Files, Known}
 use Rattle.dram_model.specs.Chip.{row_in}
 use Rattle.dram_model.specs.View.{ChipView}
+use Rattle.std.specs.List.{AllByRecursion}
+use Rattle.object_alloc.specs.Spelling.{IsImage}
 use Rattle.uprog_code.specs.Programs.{IsProgram}
 use Rattle.uprog_code.specs.Texts.{TextOp, ImplementsAll}
 use Rattle.uprog_bin.specs.Opened.{IsProgramFile}
 use Rattle.bbop_isa.specs.Forms.{Instruction}
+use Rattle.machine_model.specs.Agrees.{IsPlain}
 use Rattle.machine_model.specs.Routines.{Program, routines_in}
 use Rattle.machine_model.specs.Opened.{Image, opened}
 use Rattle.machine_model.specs.Script.{banks_at_end, is_touched_by, table_at_end}
@@ -75,7 +78,8 @@ pub record ByText (out : List ℕ) (job : RunJob) (after : Files) (old new : Wor
   pub replies_exact : RepliesExact job status
 
 -- What it promises of every program file that is accepted, however it was made; and of each text
--- that its program does. All files but OUT are as at entry
+-- that its program does. The image and the script are such as every accepted one is. All files but
+-- OUT are as at entry
 pub record Executed (names : ExecNames) (before after : Files) (old new : World) (status : ℕ)
     : Type 0 where
   pub program : Program
@@ -85,6 +89,8 @@ pub record Executed (names : ExecNames) (before after : Files) (old new : World)
   pub script_is : read_as script_in (before names.script.now) ≡ Some script
   pub image_is : read_as image_of (before names.image.now) ≡ Some image
   pub legal : IsProgram program
+  pub plain : AllByRecursion IsPlain script
+  pub accepted : IsImage image.geometry image.table image.rows
   pub row_by_row : RowByRow names.out.now program script image after old new status
   pub stays_inside : StaysInside program script image
   pub by_text : (t : List TextOp) → ImplementsAll program t

@@ -27,3 +27,5 @@ pub mod Guard
 pub mod Verify
 pub mod Commands
 pub mod Complete
+pub mod Numbers
+pub mod Widths

@@ -1,12 +1,10 @@
 -- The words of a command.
 use Rattle.std.specs.Prelude.{◌≡◌, ℕ, Bool, true, false, not, ◌&&◌, List, [], ◌∷◌, Option, Some}
-use Rattle.std.specs.Prelude.{None, ◌<◌, ◌≤◌, ◌^◌, nat_le, nat_lt}
+use Rattle.std.specs.Prelude.{None, ◌<◌, ◌^◌, nat_lt}
 use Rattle.std.specs.Prelude.{bytes_eq, codes, if◌then◌else◌}
-use Rattle.std.specs.Char.{is_ascii_digit}
 use Rattle.std.specs.List.{list_all}
-use Rattle.std.specs.Str.Parse.{digits_value}
+use Rattle.std.specs.Option.{option_map}
 use denote.Ref.{Bor}
-use Rattle.bit_rows.specs.declared.TheConstants.{WIDTH_MAX}
 use Rattle.dram_model.specs.declared.geometry.Geometry.{Geometry}
 use Rattle.dram_model.specs.Geometry.{is_geometry}
 use Rattle.simdram_cli.specs.declared.words.Command.{Command}
@@ -22,7 +20,10 @@ use Rattle.simdram_cli.specs.declared.words.GuardNames.{GuardNames}
 use Rattle.simdram_cli.specs.declared.account.Account.{Account}
 use Rattle.simdram_cli.specs.declared.account.Account.TheVariants.{OfProgram}
 use Rattle.simdram_cli.specs.declared.account.ProgramAccount.TheVariants.{Costs}
-use Rattle.simdram_cli.specs.Accounts.{HasWidth, account_named}
+use Rattle.simdram_cli.specs.Accounts.{HasWidths, account_named}
+use Rattle.simdram_cli.specs.Numbers.{is_number, value_of}
+use Rattle.simdram_cli.specs.Widths.{widths_in}
+use Rattle.prog_text.specs.Widths.{AreWidths}
 
 -- no two are equal
 abbrev pub all_differ : List (List ℕ) → Bool
@@ -74,27 +75,24 @@ command_on_two verb first second =
     else if bytes_eq verb (codes "scan") then Some (Scan (record { query = first; image = second }))
     else None
 
--- a word that is decimal digits
-abbrev pub is_number : List ℕ → Bool
-is_number [] = false
-is_number (digit ∷ digits) = list_all is_ascii_digit (digit ∷ digits)
+-- `cost` at widths
+abbrev pub cost_at : Bor (List ℕ) → List ℕ → Command
+cost_at prog widths =
+    AccountOf (record { file = prog; account = OfProgram (Costs (record { items = widths })) })
 
--- the number that such a word writes, however large
-abbrev pub value_of : List ℕ → ℕ
-value_of word = digits_value 10 word
-
--- `cost`, where its number is a width
+-- `cost`, where its last word lists widths
 abbrev pub cost_on : Bor (List ℕ) → List ℕ → Option Command
-cost_on prog width =
-    if is_number width && (nat_le 1 (value_of width) && nat_le (value_of width) WIDTH_MAX)
-    then Some (AccountOf (record
-    { file = prog; account = OfProgram (Costs (value_of width)) })) else None
+cost_on prog word = option_map (cost_at prog) (widths_in word)
 
--- `verify`, where its files are apart and its number is a width
+-- `verify` at widths
+abbrev pub verify_at : (ops prog : Bor (List ℕ)) → List ℕ → Command
+verify_at ops prog widths =
+    Verify (record { ops = ops; prog = prog; widths = record { items = widths } })
+
+-- `verify`, where its files are apart and its last word lists widths
 abbrev pub verify_on : (ops prog : Bor (List ℕ)) → List ℕ → Option Command
-verify_on ops prog width = if bytes_eq ops.now prog.now then None
-    else if is_number width && (nat_le 1 (value_of width) && nat_le (value_of width) WIDTH_MAX)
-    then Some (Verify (record { ops = ops; prog = prog; n = value_of width })) else None
+verify_on ops prog word = if bytes_eq ops.now prog.now then None
+    else option_map (verify_at ops prog) (widths_in word)
 
 -- `init`, where its numbers are a chip's
 abbrev pub init_on : (banks rows words : List ℕ) → Bor (List ℕ) → Option Command
@@ -185,10 +183,10 @@ IsApart (Replay names) = replay_apart names.trace.now names.image.now names.out.
 IsApart (Guard names) = guard_apart names ≡ true
 IsApart (Verify names) = bytes_eq names.ops.now names.prog.now ≡ false
 
--- the numbers of a command are a width, a chip's, or a seed
+-- the numbers of a command are widths, a chip's, or a seed
 abbrev pub HasNumbers : Command → Type 0
-HasNumbers (AccountOf names) = HasWidth names.account
+HasNumbers (AccountOf names) = HasWidths names.account
 HasNumbers (Init names) = is_geometry names.geometry ≡ true
 HasNumbers (Soak seed) = seed < 2 ^ 64
-HasNumbers (Verify names) = (0 < names.n) × (names.n ≤ WIDTH_MAX)
+HasNumbers (Verify names) = AreWidths names.widths.items
 HasNumbers _ = Unit {0}

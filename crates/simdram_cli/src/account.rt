@@ -1,18 +1,19 @@
 //! The commands that load one file and put a text about it: `show`, `list` and `cost`.
 
-ghost use Rattle.std.specs.Prelude.{◌≡◌, ◌<◌, ◌≤◌, ◌^◌, length, IfOk, IfErr};
+ghost use Rattle.std.specs.Prelude.{◌≡◌, IfOk, IfErr};
 ghost use Rattle.dram_model.specs.View.{ChipView};
 ghost use Rattle.op_print.specs.Canonical.{canonical_text};
 ghost use Rattle.cli_model.specs.World.{world};
 ghost use Rattle.cli_model.specs.Runs.{Runs};
 ghost use Rattle.simdram_cli.specs.Plans.{said_of};
 ghost use Rattle.simdram_cli.specs.Stops.{reason_of};
-ghost use Rattle.simdram_cli.specs.Accounts.{ComesTo, HasWidth, IsAsked, account_named};
+ghost use Rattle.simdram_cli.specs.Accounts.{ComesTo, HasWidths, IsAsked, account_named};
 ghost use Rattle.simdram_cli.specs.Accounts.{StopsBefore};
 ghost use Rattle.simdram_cli.specs.Accounts.{account_plan, program_plan, program_text, ops_plan};
 
 use crate::load::{load, load_ops};
 use crate::stop::Stop;
+use crate::widths::Widths;
 use crate::words::PROG_MAX;
 use faults::NoMemory;
 use host_edge::{Folder, Sink};
@@ -21,15 +22,15 @@ use prog_text::{cost_text, list_text};
 use std::alloc::Global;
 use uprog_bin::ProgView;
 
-/// What is told of a program: its listing, or what its entries cost at a width.
-#[derive(Clone, Copy)]
+/// What is told of a program: its listing, or what its entries cost at widths.
+#[derive(Drop)]
 pub enum ProgramAccount {
     Listing,
-    Costs(u8),
+    Costs(Widths),
 }
 
 /// What is told of a file: the canonical text of its operations, or an account of its program.
-#[derive(Clone, Copy)]
+#[derive(Drop)]
 pub enum Account {
     Canonical,
     OfProgram(ProgramAccount),
@@ -68,30 +69,30 @@ fn text_of_ops<'a, F: Folder>(
 
 /// The account of an accepted program.
 fn program_text(
-    account: ProgramAccount,
+    account: &ProgramAccount,
     prog: &ProgView<'_>,
     alloc: Global,
 ) -> Result<Vec<u8>, NoMemory>
-    requires { IsAsked account }
-    ensures { IfOk result (λ text. text.items ≡ program_text account prog.now.programs) }
+    requires { IsAsked account.now }
+    ensures { IfOk result (λ text. text.items ≡ program_text account.now prog.now.programs) }
 {
     match account {
         ProgramAccount::Listing => list_text(prog, alloc),
-        ProgramAccount::Costs(width) => cost_text(prog, width, alloc),
+        ProgramAccount::Costs(widths) => cost_text(prog, widths.as_slice(), alloc),
     }
 }
 
 /// Loads PROG. The account of its program.
 fn text_of_program<'a, F: Folder>(
     name: &'a str,
-    account: ProgramAccount,
+    account: &ProgramAccount,
     files: &mut F,
     alloc: Global,
 ) -> Result<Vec<u8>, Stop<'a>>
-    requires { IsAsked account }
-    ensures told { IfOk result (λ text. ComesTo (program_plan name.now account) text.items
+    requires { IsAsked account.now }
+    ensures told { IfOk result (λ text. ComesTo (program_plan name.now account.now) text.items
         (F.view files.old) (F.view files.new)) }
-    ensures stopped { IfErr result (λ stop. StopsBefore (program_plan name.now account)
+    ensures stopped { IfErr result (λ stop. StopsBefore (program_plan name.now account.now)
         (reason_of stop) (F.view files.old) (F.view files.new)) }
 {
     let bytes = load(name, PROG_MAX, files, alloc)?;
@@ -108,14 +109,14 @@ fn text_of_program<'a, F: Folder>(
 /// The text that an account of a file is.
 fn account_text<'a, F: Folder>(
     name: &'a str,
-    account: Account,
+    account: &Account,
     files: &mut F,
     alloc: Global,
 ) -> Result<Vec<u8>, Stop<'a>>
-    requires { HasWidth account }
-    ensures told { IfOk result (λ text. ComesTo (account_plan name.now account) text.items
+    requires { HasWidths account.now }
+    ensures told { IfOk result (λ text. ComesTo (account_plan name.now account.now) text.items
         (F.view files.old) (F.view files.new)) }
-    ensures stopped { IfErr result (λ stop. StopsBefore (account_plan name.now account)
+    ensures stopped { IfErr result (λ stop. StopsBefore (account_plan name.now account.now)
         (reason_of stop) (F.view files.old) (F.view files.new)) }
 {
     match account {
@@ -127,13 +128,13 @@ fn account_text<'a, F: Folder>(
 /// Loads the file, and puts the account of it. Nothing is refused.
 pub(crate) fn give_account<'a, F: Folder, S: Sink>(
     name: &'a str,
-    account: Account,
+    account: &Account,
     files: &mut F,
     out: &mut S,
     alloc: Global,
 ) -> Result<u64, Stop<'a>>
-    requires { HasWidth account }
-    ensures { (chip : ChipView) → Runs (account_plan name.now account)
+    requires { HasWidths account.now }
+    ensures { (chip : ChipView) → Runs (account_plan name.now account.now)
         (world (F.view files.old) (S.view out.old) chip)
         (world (F.view files.new) (S.view out.new) chip) (said_of result) }
 {

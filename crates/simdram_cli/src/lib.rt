@@ -11,6 +11,7 @@ mod job;
 mod lines;
 mod load;
 mod migrate;
+mod numbers;
 mod perform;
 mod replay;
 mod run;
@@ -20,12 +21,14 @@ mod stop;
 mod top;
 mod trace;
 mod verify;
+mod widths;
 mod words;
 mod work;
 
 pub use account::{Account, ProgramAccount};
 pub use stop::{Stop, status_of, tell};
 pub use top::{one_job, simdram};
+pub use widths::Widths;
 pub use words::{
     AccountNames, Command, CompileNames, ExecNames, FLIPS_MAX, GuardNames, IMAGE_MAX, InitNames,
     MigrateNames, OPS_MAX, PROG_MAX, QUERY_MAX, ReplayNames, RunNames, SCRIPT_MAX, ScanNames,

@@ -1,13 +1,13 @@
 //! The top of the program.
 
-ghost use Rattle.std.specs.Prelude.{◌≡◌, ◌<◌, ◌≤◌, ◌↔◌, codes, true, None};
-ghost use Rattle.bit_rows.specs.declared.TheConstants.{WIDTH_MAX};
+ghost use Rattle.std.specs.Prelude.{◌≡◌, ◌↔◌, codes, true, None};
+ghost use Rattle.prog_text.specs.Widths.{AreWidths};
 ghost use Rattle.dram_model.specs.View.{ChipView};
 ghost use Rattle.dram_model.specs.Geometry.{is_geometry};
 ghost use Rattle.host_edge.specs.Views.{FolderView};
 ghost use Rattle.cli_model.specs.World.{world};
 ghost use Rattle.cli_model.specs.Status.{Says, Tells};
-ghost use Rattle.simdram_cli.specs.Accounts.{HasWidth, account_plan};
+ghost use Rattle.simdram_cli.specs.Accounts.{HasWidths, account_plan};
 ghost use Rattle.simdram_cli.specs.Commands.{CanAnswer, CommandEnds, OnCommand, Promises};
 ghost use Rattle.simdram_cli.specs.Compile.{compile_plan};
 ghost use Rattle.simdram_cli.specs.Complete.{Completes, Spares};
@@ -136,12 +136,12 @@ fn account_and_answer<F: Folder, S: Sink>(
     out: &mut S,
     alloc: Global,
 ) -> u8
-    requires { HasWidth names.now.account }
+    requires { HasWidths names.now.account }
     ensures { (chip : ChipView) → EndsBy (account_plan names.now.file.now names.now.account)
         (world (F.view files.old) (S.view out.old) chip)
         (world (F.view files.new) (S.view out.new) chip) result }
 {
-    let ended = give_account(names.file, names.account, files, out, alloc);
+    let ended = give_account(names.file, &names.account, files, out, alloc);
     answer(ended, out)
 }
 
@@ -263,8 +263,7 @@ fn verify_and_answer<F: Folder, S: Sink>(
     out: &mut S,
     alloc: Global,
 ) -> u8
-    requires some { 0 < names.now.n }
-    requires narrow { names.now.n ≤ WIDTH_MAX }
+    requires { AreWidths names.now.widths.items }
     ensures { (chip : ChipView) → EndsBy (verify_plan names.now)
         (world (F.view files.old) (S.view out.old) chip)
         (world (F.view files.new) (S.view out.new) chip) result }
@@ -309,18 +308,20 @@ fn dispatch<F: Folder, S: Sink, D: Dram>(
 /// spells, puts the report and stores OUT; `exec PROG SCRIPT IMAGE OUT` does the same with the
 /// program of a file; `compile OPS PROG` stores PROG and puts how many entries it has; `show OPS`
 /// puts the canonical text of the operations of OPS; `migrate OLD NEW` stores the version 2 file of
-/// OLD's program as NEW; `cost PROG N` puts what each entry of PROG's program costs at width N, and
-/// `list PROG` its listing; `init BANKS ROWS WORDS OUT` stores the image of such a chip without
-/// objects, whose rows are zeros; `soak SEED` does every word operation with one result at the
-/// widths 1, 8 and 64 on a generator's words, and puts a line for each with its row commands and
-/// the sum of its results; `scan QUERY IMAGE` puts how many elements of IMAGE meet QUERY, by
-/// comparisons in the chip; `trace PROG SCRIPT IMAGE OUT TRACE` does what `exec` does, and stores
-/// the events of the script as TRACE; `replay TRACE IMAGE OUT` does the events of TRACE on IMAGE's
+/// OLD's program as NEW; `cost PROG N` puts what each entry of PROG's program costs at each width
+/// of the list N, and `list PROG` its listing; `init BANKS ROWS WORDS OUT` stores the image of such
+/// a chip without objects, whose rows are zeros; `soak SEED` does every word operation with one
+/// result at the widths 1, 8 and 64 on a generator's words, and puts a line for each with its row
+/// commands and the sum of its results; `scan QUERY IMAGE` puts how many elements of IMAGE meet
+/// QUERY, by comparisons in the chip; `trace PROG SCRIPT IMAGE OUT TRACE` does what `exec` does,
+/// and stores the events of the script as TRACE; `replay TRACE IMAGE OUT` does the events of TRACE
+/// on IMAGE's
 /// rows, stores them with the objects of TRACE as OUT, and puts how many commands the chip did;
 /// `guard OPS PROG SCRIPT IMAGE FLIPS OUT` runs with each object in three copies, inverts the cells
 /// that FLIPS names, and votes before each instruction and after the last; `verify OPS PROG N` puts
-/// for each operation of OPS whether PROG's entry of its name does it at width N, for all values
-/// and all contents of the cells and rows at the start. The answer is the exit status.
+/// for each operation of OPS whether PROG's entry of its name does it at each width of the list N,
+/// for all values and all contents of the cells and rows at the start. The answer is the exit
+/// status.
 pub fn simdram<F: Folder, S: Sink, D: Dram>(
     words: &[&str],
     files: &mut F,

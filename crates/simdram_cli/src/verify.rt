@@ -1,9 +1,9 @@
 //! The command `verify`.
 
-ghost use Rattle.std.specs.Prelude.{◌≡◌, ◌<◌, ◌≤◌, IfOk};
-ghost use Rattle.bit_rows.specs.declared.TheConstants.{WIDTH_MAX};
+ghost use Rattle.std.specs.Prelude.{IfOk};
 ghost use Rattle.op_text.specs.Language.{operations};
 ghost use Rattle.op_text.specs.Spelling.{MeetRules};
+ghost use Rattle.prog_text.specs.Widths.{AreWidths};
 ghost use Rattle.dram_model.specs.View.{ChipView};
 ghost use Rattle.cli_model.specs.World.{world};
 ghost use Rattle.cli_model.specs.Runs.{Runs};
@@ -21,18 +21,22 @@ use uprog_gen::compile_ops;
 use verify_job::{report, status, verify_all};
 
 /// The report of what is found of the entries of ops, and the status.
-fn verified(ops: &Ops, prog: &ProgView<'_>, n: u8, alloc: Global) -> Result<(Vec<u8>, u8), NoMemory>
+fn verified(
+    ops: &Ops,
+    prog: &ProgView<'_>,
+    widths: &[u8],
+    alloc: Global,
+) -> Result<(Vec<u8>, u8), NoMemory>
     requires meets { MeetRules (operations ops.now) }
-    requires some { 0 < n }
-    requires narrow { n ≤ WIDTH_MAX }
-    ensures { IfOk result (λ made. IsReport n prog.now.programs (operations ops.now) made.0.items
-        made.1) }
+    requires widths { AreWidths widths.now }
+    ensures { IfOk result (λ made. IsReport widths.now prog.now.programs (operations ops.now)
+        made.0.items made.1) }
 {
     let Ok(compiled) = compile_ops(ops, alloc) else {
         return Err(NoMemory);
     };
-    let found = verify_all(&compiled.program, prog, n, alloc)?;
-    let text = report(ops, found.as_slice(), n, alloc)?;
+    let found = verify_all(&compiled.program, prog, widths, alloc)?;
+    let text = report(ops, widths, found.as_slice(), alloc)?;
     Ok((text, status(found.as_slice())))
 }
 
@@ -43,8 +47,7 @@ pub(crate) fn verify<'a, F: Folder, S: Sink>(
     out: &mut S,
     alloc: Global,
 ) -> Result<u8, Stop<'a>>
-    requires some { 0 < names.now.n }
-    requires narrow { names.now.n ≤ WIDTH_MAX }
+    requires { AreWidths names.now.widths.items }
     ensures { (chip : ChipView) → Runs (verify_plan names.now)
         (world (F.view files.old) (S.view out.old) chip)
         (world (F.view files.new) (S.view out.new) chip) (verify_said result) }
@@ -55,7 +58,7 @@ pub(crate) fn verify<'a, F: Folder, S: Sink>(
         Ok(prog) => prog,
         Err(fault) => return Err(Stop::BadProg(fault)),
     };
-    let Ok((text, status)) = verified(&ops, &prog, names.n, alloc) else {
+    let Ok((text, status)) = verified(&ops, &prog, names.widths.as_slice(), alloc) else {
         return Err(Stop::NoMemory);
     };
     if out.put(&text).is_err() {

@@ -1,23 +1,21 @@
 //! The words of a command.
 
-ghost use Rattle.std.specs.Prelude.{◌≡◌, ◌<◌, ◌^◌, [], ◌∷◌, true};
-ghost use Rattle.std.specs.Char.{is_ascii_digit};
-ghost use Rattle.std.specs.List.{list_all};
-ghost use Rattle.std.specs.Option.{SomeIff};
+ghost use Rattle.std.specs.Prelude.{◌≡◌, ◌^◌, [], ◌∷◌};
 ghost use Rattle.simdram_cli.specs.Words.{all_differ, are_apart, command_of, command_on_four};
 ghost use Rattle.simdram_cli.specs.Words.{command_on_one, inputs_apart};
-ghost use Rattle.simdram_cli.specs.Words.{command_on_two, cost_on, init_on, is_number, soak_on};
-ghost use Rattle.simdram_cli.specs.Words.{value_of, verify_on};
+ghost use Rattle.simdram_cli.specs.Words.{command_on_two, cost_on, init_on, soak_on};
+ghost use Rattle.simdram_cli.specs.Words.{verify_on};
 ghost use Rattle.simdram_cli.specs.Words.{traced_apart, trace_on};
 ghost use Rattle.simdram_cli.specs.Words.{command_on_three, replay_apart};
 ghost use Rattle.simdram_cli.specs.Words.{guard_apart, guard_on};
 
 use crate::account::{Account, ProgramAccount, account_named};
+use crate::numbers::{number_of, seed_of};
+use crate::widths::{Widths, widths_of};
 use bit_rows::WIDTH_MAX;
 use cmd_trace::{EVENTS_BYTES_MAX, TRACE_BYTES_MAX};
 use dram_model::Geometry;
 use object_alloc::IMAGE_BYTES_MAX;
-use text_lex::number;
 use uprog_code::WALK_MAX;
 
 /// The greatest length of each file, in bytes.
@@ -83,7 +81,7 @@ pub struct CompileNames<'a> {
 }
 
 /// The file of `show`, `list` or `cost`, and what is told of it.
-#[derive(Clone, Copy)]
+#[derive(Drop)]
 pub struct AccountNames<'a> {
     pub file: &'a str,
     pub account: Account,
@@ -132,16 +130,16 @@ pub struct GuardNames<'a> {
     pub out: &'a str,
 }
 
-/// The files of `verify`, and its width.
-#[derive(Clone, Copy)]
+/// The files of `verify`, and its widths.
+#[derive(Drop)]
 pub struct VerifyNames<'a> {
     pub ops: &'a str,
     pub prog: &'a str,
-    pub n: u8,
+    pub widths: Widths,
 }
 
 /// A command, with its words.
-#[derive(Clone, Copy)]
+#[derive(Drop)]
 pub enum Command<'a> {
     Run(RunNames<'a>),
     Exec(ExecNames<'a>),
@@ -236,79 +234,29 @@ fn replay_apart(trace: &str, image: &str, out: &str) -> bool
     trace != image && trace != out
 }
 
-fn are_digits(bytes: &[u8]) -> bool
-    ensures { result ≡ list_all is_ascii_digit bytes.now }
+/// The command `cost`, if its last word lists widths.
+fn cost_on<'a>(prog: &'a str, word: &str) -> Option<Command<'a>>
+    ensures { result ≡ cost_on prog.entry word.now }
 {
-    bytes.iter().all(|byte| byte.is_ascii_digit())
-}
-
-/// Whether the word is decimal digits, at least one.
-fn is_number(word: &[u8]) -> bool
-    ensures { result ≡ is_number word.now }
-{
-    match word {
-        [] => false,
-        [_, ..] => are_digits(word),
-    }
-}
-
-/// The number that a word's digits write, however many they are, if it is below 2^16.
-fn number_of(word: &str) -> Option<u16>
-    ensures { SomeIff result ((is_number word.now ≡ true) × (value_of word.now < 2 ^ 16))
-        (value_of word.now) }
-{
-    let digits = word.as_bytes();
-    if !is_number(digits) {
-        return None;
-    }
-    match number(digits) {
-        Some(value) if value < 65_536 => Some(value as u16),
-        _ => None,
-    }
-}
-
-/// The command `cost`, if its number is a width.
-fn cost_on<'a>(prog: &'a str, width: &str) -> Option<Command<'a>>
-    ensures { result ≡ cost_on prog.entry width.now }
-{
-    match number_of(width) {
-        Some(n) if 1 <= n && n <= u16::from(WIDTH_MAX) => Some(Command::Account(AccountNames {
+    match widths_of(word) {
+        Some(widths) => Some(Command::Account(AccountNames {
             file: prog,
-            account: Account::OfProgram(ProgramAccount::Costs(n as u8)),
+            account: Account::OfProgram(ProgramAccount::Costs(widths)),
         })),
-        _ => None,
+        None => None,
     }
 }
 
-/// The command `verify`, if its files are apart and its number is a width.
-fn verify_on<'a>(ops: &'a str, prog: &'a str, width: &str) -> Option<Command<'a>>
-    ensures { result ≡ verify_on ops.entry prog.entry width.now }
+/// The command `verify`, if its files are apart and its last word lists widths.
+fn verify_on<'a>(ops: &'a str, prog: &'a str, word: &str) -> Option<Command<'a>>
+    ensures { result ≡ verify_on ops.entry prog.entry word.now }
 {
     if ops == prog {
         return None;
     }
-    match number_of(width) {
-        Some(n) if 1 <= n && n <= u16::from(WIDTH_MAX) => Some(Command::Verify(VerifyNames {
-            ops,
-            prog,
-            n: n as u8,
-        })),
-        _ => None,
-    }
-}
-
-/// The number that a word's digits write, however many they are, if it is below 2^64.
-fn seed_of(word: &str) -> Option<u64>
-    ensures { SomeIff result ((is_number word.now ≡ true) × (value_of word.now < 2 ^ 64))
-        (value_of word.now) }
-{
-    let digits = word.as_bytes();
-    if !is_number(digits) {
-        return None;
-    }
-    match number(digits) {
-        Some(value) if value <= u128::from(u64::MAX) => Some(value as u64),
-        _ => None,
+    match widths_of(word) {
+        Some(widths) => Some(Command::Verify(VerifyNames { ops, prog, widths })),
+        None => None,
     }
 }
 

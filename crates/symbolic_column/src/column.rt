@@ -7,9 +7,9 @@ ghost use Rattle.dram_model.specs.declared.address.Command.TheVariants.{Ap};
 ghost use Rattle.dram_model.specs.Column.{is_cell, is_written, is_in_range, is_legal};
 ghost use Rattle.dram_model.specs.Column.{sense as sense_of, settle as settle_of, step as step_of};
 ghost use Rattle.bdd.specs.declared.Node.{Node};
-ghost use Rattle.bdd.specs.declared.Shortage.TheVariants.{Full};
+ghost use Rattle.bdd.specs.declared.Shortage.{Shortage};
 ghost use Rattle.bdd.specs.Edges.{complement_if, constant};
-ghost use Rattle.bdd.specs.Graphs.{value, IsNamed, Keeps, AreNodes};
+ghost use Rattle.bdd.specs.Graphs.{value, IsNamed, Keeps, AreNodes, HasReached};
 ghost use Rattle.symbolic_column.specs.Symbols.{edge_at, read_edge, column_of, AreCells};
 
 use bdd::{Diagram, Edge, NoMemory, Shortage, complement_if, constant};
@@ -102,8 +102,8 @@ impl SymbolicColumn {
         ensures named { IfOk result (λ e. IsNamed diagram.new.nodes e) }
         ensures nodes { AreNodes diagram.new.nodes }
         ensures keeps { Keeps diagram.old.nodes diagram.new.nodes }
-        ensures bound { diagram.new.bound ≡ diagram.old.bound }
-        ensures full { result ≡ Err Full → diagram.old.bound ≤ length diagram.new.nodes }
+        ensures limits { diagram.new.limits ≡ diagram.old.limits }
+        ensures reached { (s : Shortage) → result ≡ Err s → HasReached s diagram.new }
     {
         let raised = lines(x);
         match raised.as_slice() {
@@ -130,8 +130,8 @@ impl SymbolicColumn {
         ensures cells { AreCells diagram.new.nodes self.new }
         ensures nodes { AreNodes diagram.new.nodes }
         ensures keeps { Keeps diagram.old.nodes diagram.new.nodes }
-        ensures bound { diagram.new.bound ≡ diagram.old.bound }
-        ensures full { result ≡ Err Full → diagram.old.bound ≤ length diagram.new.nodes }
+        ensures limits { diagram.new.limits ≡ diagram.old.limits }
+        ensures reached { (s : Shortage) → result ≡ Err s → HasReached s diagram.new }
         ensures rows { length self.new.rows ≡ length self.old.rows }
     {
         let e = self.sense(diagram, x)?;
@@ -149,8 +149,8 @@ impl SymbolicColumn {
         ensures cells { AreCells diagram.new.nodes self.new }
         ensures nodes { AreNodes diagram.new.nodes }
         ensures keeps { Keeps diagram.old.nodes diagram.new.nodes }
-        ensures bound { diagram.new.bound ≡ diagram.old.bound }
-        ensures full { result ≡ Err Full → diagram.old.bound ≤ length diagram.new.nodes }
+        ensures limits { diagram.new.limits ≡ diagram.old.limits }
+        ensures reached { (s : Shortage) → result ≡ Err s → HasReached s diagram.new }
         ensures rows { length self.new.rows ≡ length self.old.rows }
     {
         match command {

@@ -9,8 +9,8 @@ ghost use Rattle.uprog_code.specs.OneStep.{issues_by};
 ghost use Rattle.uprog_code.specs.Bound.{bound, bound_of};
 ghost use Rattle.uprog_code.specs.Fits.{Fits};
 ghost use Rattle.uprog_code.specs.Issued.{AreGood};
-ghost use Rattle.bdd.specs.declared.Shortage.TheVariants.{Full};
-ghost use Rattle.bdd.specs.Graphs.{AreNodes, Keeps};
+ghost use Rattle.bdd.specs.declared.Shortage.{Shortage};
+ghost use Rattle.bdd.specs.Graphs.{AreNodes, HasReached, Keeps};
 ghost use Rattle.symbolic_column.specs.Symbols.{column_of, AreCells};
 
 use crate::address::command_of;
@@ -40,8 +40,8 @@ fn do_turn(
     ensures cells { AreCells diagram.new.nodes column.new }
     ensures nodes { AreNodes diagram.new.nodes }
     ensures keeps { Keeps diagram.old.nodes diagram.new.nodes }
-    ensures bound { diagram.new.bound ≡ diagram.old.bound }
-    ensures full { result ≡ Err Full → diagram.old.bound ≤ length diagram.new.nodes }
+    ensures limits { diagram.new.limits ≡ diagram.old.limits }
+    ensures reached { (s : Shortage) → result ≡ Err s → HasReached s diagram.new }
     ensures rows { length column.new.rows ≡ length column.old.rows }
 {
     match turn {
@@ -77,8 +77,8 @@ pub fn symbolic_run<F: Fetch>(
     ensures cells { AreCells diagram.new.nodes column.new }
     ensures nodes { AreNodes diagram.new.nodes }
     ensures keeps { Keeps diagram.old.nodes diagram.new.nodes }
-    ensures bound { diagram.new.bound ≡ diagram.old.bound }
-    ensures full { result ≡ Err Full → diagram.old.bound ≤ length diagram.new.nodes }
+    ensures limits { diagram.new.limits ≡ diagram.old.limits }
+    ensures reached { (s : Shortage) → result ≡ Err s → HasReached s diagram.new }
     ensures rows { length column.new.rows ≡ length column.old.rows }
 {
     let head = entry.head();

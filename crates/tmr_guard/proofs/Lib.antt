@@ -7,6 +7,7 @@ pub mod Strangers
 pub mod Flipping
 pub mod Read
 pub mod Placing
+pub mod Long
 pub mod Shown
 pub mod Came
 pub mod Bounded

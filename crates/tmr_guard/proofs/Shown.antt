@@ -1,235 +1,252 @@
 -- What comes of a guarded print.
-use Rattle.std.proofs.Common.{◌≡◌, ℕ, ◌*◌, true, false, not, List, [], ◌∷◌, ◌++◌}
-use Rattle.std.proofs.Common.{Some, None, refl, sym, ◌∙◌, ap, subst, arith}
+use Rattle.std.proofs.Common.{◌≡◌, ℕ, ◌*◌, ◌≤◌, false, cond, List, [], ◌∷◌, ◌++◌, Option, Some}
+use Rattle.std.proofs.Common.{None, refl, sym, ◌∙◌, ap, subst, arith, append-nil}
+use Rattle.std.specs.Prelude.{take, is_none}
 use Rattle.host_edge.specs.Views.{SinkView, Known, AppendsPart}
+use Rattle.host_edge.proofs.Tells.{Known-trans}
 use Rattle.faults.specs.Counts.{Rose}
 use Rattle.dram_model.specs.View.{ChipView, DidRead}
 use Rattle.transpose_unit.specs.Stopped.{StoppedWithin}
 use Rattle.transpose_unit.proofs.Stopping.{stopped_before}
-use Rattle.object_steps.specs.Lines.{DidReadAtMost}
+use Rattle.object_steps.specs.Lines.{DidReadAtMost, values_of}
 use Rattle.bit_rows.specs.declared.TheConstants.{WIDTH_MAX}
 use Rattle.uprog_code.specs.declared.TheConstants.{WALK_MAX}
-use Rattle.object_alloc.specs.Listed.{has_name}
+use Rattle.uprog_code.specs.declared.walker.Counts.{Counts}
+use Rattle.bbop_isa.specs.declared.instr.Place.{Place}
 use Rattle.bbop_isa.specs.Forms.{Instruction, Init, Bbop, Load, Fill, Print, Free, Order}
 use Rattle.object_steps.specs.declared.fault.StepFault.{StepFault}
 use Rattle.object_steps.specs.declared.fault.StepFault.TheVariants.{ChipFault, WriteFault}
 use Rattle.machine_model.specs.declared.Reply.{Reply}
 use Rattle.machine_model.specs.declared.Reply.TheVariants.{Done, Refused}
-use Rattle.machine_model.specs.declared.Why.TheVariants as why
-use Rattle.machine_model.specs.Refusals.{refusal, when, object_named}
+use Rattle.machine_model.specs.declared.Why.{Why}
 use Rattle.machine_model.specs.Columns.{columns}
-use Rattle.std.specs.Prelude.{take}
-use Rattle.machine_model.specs.Steps.{reply_by}
+use Rattle.machine_model.specs.Refusals.{refusal, rows_of}
+use Rattle.machine_model.specs.Steps.{reply_by, if_done}
 use Rattle.machine_model.specs.Script.{rows_printed, sum_done}
-use Rattle.machine_model.specs.Report.{line, said_of}
-use Rattle.machine_model.specs.Report.Said.{Answered}
+use Rattle.machine_model.specs.Report.{line, place_text, said_of}
+use Rattle.machine_model.specs.Report.Said.{Answered, Printed}
 use Rattle.machine_model.specs.Pieces.{piece_of, piece_events}
 use Rattle.object_steps.specs.Objects.{RisesAtMost}
 use Rattle.sim_machine.specs.declared.machine.Machine.{Machine}
 use Rattle.sim_machine.specs.Machine.{geometry_of, operations_by, program_of, table_in, turn_in}
-use Rattle.sim_machine.specs.Machine.{is_print, line_shown, reads_by}
+use Rattle.sim_machine.specs.Machine.{is_print, line_shown, reads_by, reply_of}
 use Rattle.sim_machine.specs.Steps.{DidAndRead}
 use Rattle.sim_machine.proofs.Rising.{rises_less}
 use Rattle.sim_machine.proofs.Stepping.{if_same, no_part, print_table}
 use Rattle.guard_model.specs.Triples.{x_letter}
-use Rattle.guard_model.specs.Guarded.{joined, guarded_reply}
-use Rattle.guard_model.proofs.Runs.{none_yet, script_done, script_refused}
+use Rattle.guard_model.specs.Guarded.{joined, place_on}
+use Rattle.guard_model.proofs.Runs.{none_yet, script_done, script_for, script_refused}
 use Rattle.tmr_guard.specs.Steps.{Broke, Guarded, RanBy, line_by, reply_by as answer_by}
 use Rattle.tmr_guard.specs.Steps.{events_by, reads_by as guard_reads, script_by}
-use Rattle.tmr_guard.proofs.Runs.{did_none, plus_none, ran_none, ran_one}
+use Rattle.tmr_guard.proofs.Runs.{plus_none, ran_one}
 
-abbrev no_commands : Reply
-no_commands = Done (record { aap = 0; ap = 0 })
+-- a reply that is done, or a refusal, tells of the conditions
+done_is : (r : Option Why) (c d : Counts) → Done d ≡ reply_by r c → r ≡ None
+done_is None c d e = refl
+done_is (Some w) c d e = absurd (cc)
 
-pub no_rise : (n : ℕ) (chip : ChipView) → RisesAtMost n chip.counters chip.counters
-no_rise n chip = record {
-  aap = omega arith;
-  ap = omega arith;
-  writes = omega arith;
-  reads = omega arith;
-}
+refused_is : (r : Option Why) (c : Counts) (w : Why) → Refused w ≡ reply_by r c → r ≡ Some w
+refused_is None c w e = absurd (cc)
+refused_is (Some v) c w e = let same : v ≡ w = cc in ap (λ (u : Why). Some u) same
 
-module _ (m new : Machine) (number : ℕ) (name : List ℕ) (chip chip' : ChipView)
-    (sink sink' : SinkView)
+-- the reply of one plain instruction of no commands
+one_reply : (r : Option Why) → joined none_yet (reply_by r (record { aap = 0; ap = 0 }) ∷ [])
+    ≡ reply_by r (record { aap = 0; ap = 0 })
+one_reply None = refl
+one_reply (Some w) = refl
+
+no_reads : (r : Option Why) (w : Why) (n : ℕ) → r ≡ Some w → cond (is_none r) n 0 ≡ 0
+no_reads None w n e = absurd (cc)
+no_reads (Some v) w n e = refl
+
+nothing_more : (x y text : List ℕ) → text ≡ [] → y ≡ x ++ text → y ≡ x
+nothing_more x y text e h = h ∙ ap (λ t. x ++ t) e ∙ append-nil x
+
+line_shown_is : (number : ℕ) (place : Place) (r : Option Why) (values : Place → List ℕ) → r ≡ None
+    → if_done r (line number (Printed (place_text place) (values place))) []
+    ≡ line number (said_of (reply_by r (record { aap = 0; ap = 0 })) (Print place) values)
+line_shown_is number place None values e = refl
+line_shown_is number place (Some w) values e = absurd (cc)
+
+line_refused_is : (number : ℕ) (place : Place) (reply : Reply) (w : Why) (values : Place → List ℕ)
+    → reply ≡ Refused w → line number (said_of reply (Print place) values)
+    ≡ line number (Answered reply)
+line_refused_is number place (Refused v) w values e = refl
+line_refused_is number place (Done c) w values e = absurd (cc)
+
+-- a guarded print, where k is the first copy
+module _ (m new : Machine) (number : ℕ) (place k : Place) (chip chip' : ChipView)
+    (sink sink' : SinkView) (is : k ≡ place_on x_letter place)
   where
-    abbrev copy : List ℕ
-    copy = x_letter ∷ name
+    abbrev why_not : Option Why
+    why_not = refusal (geometry_of m) (operations_by m) (table_in m) (Print k)
 
-    abbrev shown_values : List ℕ → List ℕ
-    shown_values n = take (object_named (table_in m) (x_letter ∷ n)).count
-        (columns (geometry_of m) chip.banks (object_named (table_in m) (x_letter ∷ n)))
+    abbrev text : List ℕ
+    text = line_shown m number chip.banks k place
 
-    print_events : DidRead (reads_by m (Print copy)) chip chip'
+    abbrev values : Place → List ℕ
+    values p = take (rows_of (table_in m) (place_on x_letter p)).count
+        (columns (geometry_of m) chip.banks (rows_of (table_in m) (place_on x_letter p)))
+
+    reply_is : answer_by m (Print place) ≡ reply_of m (Print k)
+    reply_is = ap (λ (p : Place). joined none_yet (reply_of m (Print p) ∷ [])) (sym is)
+        ∙ one_reply why_not
+
+    script_shown : why_not ≡ None → script_by m (Print place) ≡ Print k ∷ []
+    script_shown allowed = ap (λ (p : Place). script_for (geometry_of m) (operations_by m)
+        (table_in m) (Print p ∷ [])) (sym is)
+        ∙ script_done (geometry_of m) (operations_by m) (table_in m) (Print k ∷ []) (allowed, tt)
+
+    script_none : (w : Why) → why_not ≡ Some w → script_by m (Print place) ≡ []
+    script_none w refused = ap (λ (p : Place). script_for (geometry_of m) (operations_by m)
+        (table_in m) (Print p ∷ [])) (sym is)
+        ∙ script_refused (geometry_of m) (operations_by m) (table_in m) (Print k) [] w refused
+
+    whole_line : why_not ≡ None → text ≡ line_by m number chip.banks (Print place)
+    whole_line allowed =
+        ap (λ (p : Place). if_done why_not (line number (Printed (place_text place)
+        (values_of (geometry_of m) chip.banks (table_in m) p))) []) is
+        ∙ line_shown_is number place why_not values allowed
+        ∙ ap (λ r. line number (said_of r (Print place) values)) (sym reply_is)
+
+    refused_line : (reply : Reply) (w : Why) → reply ≡ reply_of m (Print k) → reply ≡ Refused w
+        → line number (Answered reply) ≡ line_by m number chip.banks (Print place)
+    refused_line reply w e h =
+        sym (line_refused_is number place reply w values h)
+        ∙ ap (λ r. line number (said_of r (Print place) values)) (e ∙ sym reply_is)
+
+    no_text : (w : Why) → why_not ≡ Some w → text ≡ []
+    no_text w refused = ap (λ r. if_done r (line number (Printed (place_text place)
+        (values_of (geometry_of m) chip.banks (table_in m) k))) []) refused
+
+    print_events : DidRead (reads_by m (Print k)) chip chip'
         → DidAndRead (piece_events (geometry_of m) (operations_by m) (turn_in m) (table_in m)
-        (piece_of (Print copy))) (reads_by m (Print copy)) chip chip'
-    print_events did = subst (λ es. DidAndRead es (reads_by m (Print copy)) chip chip')
-        (sym (if_same (refusal (geometry_of m) (operations_by m) (table_in m) (Print copy)) []))
-        (record {
+        (piece_of (Print k))) (reads_by m (Print k)) chip chip'
+    print_events did = subst (λ es. DidAndRead es (reads_by m (Print k)) chip chip')
+        (sym (if_same why_not [])) (record {
           banks = did.banks;
           counters = did.counters;
           faults = did.faults;
           log = did.log;
         })
 
-    pub print_shown : has_name (table_in m) copy ≡ true → table_in new ≡ table_in m
-        → turn_in new ≡ turn_in m → DidRead (reads_by m (Print copy)) chip chip'
-        → RisesAtMost (16 * WIDTH_MAX) chip.counters chip'.counters
-        → Known (λ x y. y ≡ x ++ line_shown m number chip.banks copy name) sink.sent sink'.sent
-        → Guarded m new number (Print name) chip chip' sink sink' no_commands
-    print_shown stands table turn did rises sent =
-        let g = geometry_of m in
-        let o = operations_by m in
-        let allowed : refusal g o (table_in m) (Print copy) ≡ None =
-        ap (λ b. when (not b) (why.NoObject 0)) stands in
-        let reply : guarded_reply g o (table_in m) (Print name) ≡ no_commands =
-        ap (λ r. joined none_yet (reply_by r (record { aap = 0; ap = 0 }) ∷ [])) allowed in
-        let script : script_by m (Print name) ≡ Print copy ∷ [] =
-        script_done g o (table_in m) (Print copy ∷ []) (allowed, tt) in
-        record {
-          answer = sym reply;
-          ran = subst (λ xs. RanBy m new xs chip chip') (sym script)
-              (ran_one g (program_of m) (turn_in m) (turn_in new) (table_in m) (table_in new)
-              (Print copy) chip chip' (table ∙ print_table m copy) turn (print_events did));
-          rises = rises_less (16 * WIDTH_MAX) (80 * WALK_MAX) chip.counters chip'.counters
-              (omega arith) rises;
-          sent = subst (λ text. Known (λ x y. y ≡ x ++ text) sink.sent sink'.sent)
-              (ap (λ r. line number (said_of r (Print name) shown_values)) (sym reply)) sent;
-        }
-
-    pub print_absent : has_name (table_in m) copy ≡ false
-        → Known (λ x y. y ≡ x ++ line number (Answered (Refused (why.NoObject 0)))) sink.sent
-        sink'.sent → table_in new ≡ table_in m → turn_in new ≡ turn_in m → chip' ≡ chip
-        → Guarded m new number (Print name) chip chip' sink sink' (Refused (why.NoObject 0))
-    print_absent stands sent table turn same =
-        let g = geometry_of m in
-        let o = operations_by m in
-        let refused : refusal g o (table_in m) (Print copy) ≡ Some (why.NoObject 0) =
-        ap (λ b. when (not b) (why.NoObject 0)) stands in
-        let reply : guarded_reply g o (table_in m) (Print name) ≡ Refused (why.NoObject 0) =
-        ap (λ r. joined none_yet (reply_by r (record { aap = 0; ap = 0 }) ∷ [])) refused in
-        let script : script_by m (Print name) ≡ [] =
-        script_refused g o (table_in m) (Print copy) [] (why.NoObject 0) refused in
-        record {
-          answer = sym reply;
-          ran = subst (λ xs. RanBy m new xs chip chip') (sym script) (ran_still table turn same);
-          rises = subst (λ (k : ChipView). RisesAtMost (80 * WALK_MAX) chip.counters k.counters)
-              (sym same) (no_rise (80 * WALK_MAX) chip);
-          sent = subst (λ text. Known (λ x y. y ≡ x ++ text) sink.sent sink'.sent)
-              (ap (λ r. line number (said_of r (Print name) shown_values)) (sym reply)) sent;
-        } where
-          ran_still : table_in new ≡ table_in m → turn_in new ≡ turn_in m → chip' ≡ chip
-              → RanBy m new [] chip chip'
-          ran_still e f h = let r = ran_none (geometry_of m) (program_of m) (turn_in m)
-              (table_in m) chip in record {
-                tables = e;
-                turns = f;
-                did = subst (DidAndRead [] 0 chip) (sym h) r.did;
-              }
-
-    -- the same under any name that is the copy's
-    pub shown_by : (k : List ℕ) → k ≡ copy → has_name (table_in m) k ≡ true
+    pub print_shown : (reply : Reply) (d : Counts) → reply ≡ reply_of m (Print k) → reply ≡ Done d
         → table_in new ≡ table_in m → turn_in new ≡ turn_in m
         → DidRead (reads_by m (Print k)) chip chip'
         → RisesAtMost (16 * WIDTH_MAX) chip.counters chip'.counters
-        → Known (λ x y. y ≡ x ++ line_shown m number chip.banks k name) sink.sent sink'.sent
-        → Guarded m new number (Print name) chip chip' sink sink' no_commands
-    shown_by k is = subst (λ n. has_name (table_in m) n ≡ true
-        → table_in new ≡ table_in m → turn_in new ≡ turn_in m
-        → DidRead (reads_by m (Print n)) chip chip'
-        → RisesAtMost (16 * WIDTH_MAX) chip.counters chip'.counters
-        → Known (λ x y. y ≡ x ++ line_shown m number chip.banks n name) sink.sent sink'.sent
-        → Guarded m new number (Print name) chip chip' sink sink' no_commands)
-        (sym is) print_shown
+        → Known (λ x y. y ≡ x ++ text) sink.sent sink'.sent
+        → Guarded m new number (Print place) chip chip' sink sink' reply
+    print_shown reply d e h table turn did rises sent =
+        let allowed : why_not ≡ None = done_is why_not _ d (sym h ∙ e) in
+        record {
+          answer = e ∙ sym reply_is;
+          ran = subst (λ xs. RanBy m new xs chip chip') (sym (script_shown allowed))
+              (ran_one (geometry_of m) (program_of m) (turn_in m) (turn_in new) (table_in m)
+              (table_in new) (Print k) chip chip' (table ∙ print_table m k) turn
+              (print_events did));
+          rises = rises_less (16 * WIDTH_MAX) (80 * WALK_MAX) chip.counters chip'.counters
+              (omega arith) rises;
+          sent = subst (λ t. Known (λ x y. y ≡ x ++ t) sink.sent sink'.sent)
+              (whole_line allowed) sent;
+        }
 
-    pub absent_by : (k : List ℕ) → k ≡ copy → has_name (table_in m) k ≡ false
-        → Known (λ x y. y ≡ x ++ line number (Answered (Refused (why.NoObject 0)))) sink.sent
-        sink'.sent → table_in new ≡ table_in m → turn_in new ≡ turn_in m → chip' ≡ chip
-        → Guarded m new number (Print name) chip chip' sink sink' (Refused (why.NoObject 0))
-    absent_by k is stands = print_absent (ap (has_name (table_in m)) (sym is) ∙ stands)
+    pub print_refused : (reply : Reply) (w : Why) (between : SinkView)
+        → reply ≡ reply_of m (Print k) → reply ≡ Refused w
+        → table_in new ≡ table_in m → turn_in new ≡ turn_in m
+        → DidRead (reads_by m (Print k)) chip chip'
+        → RisesAtMost (16 * WIDTH_MAX) chip.counters chip'.counters
+        → Known (λ x y. y ≡ x ++ text) sink.sent between.sent
+        → Known (λ x y. y ≡ x ++ line number (Answered reply)) between.sent sink'.sent
+        → Guarded m new number (Print place) chip chip' sink sink' reply
+    print_refused reply w between e h table turn did rises first sent =
+        let refused : why_not ≡ Some w = refused_is why_not _ w (sym h ∙ e) in
+        let none : reads_by m (Print k) ≡ 0 = no_reads why_not w _ refused in
+        let quiet : DidRead 0 chip chip' = subst (λ n. DidRead n chip chip') none did in
+        record {
+          answer = e ∙ sym reply_is;
+          ran = subst (λ xs. RanBy m new xs chip chip') (sym (script_none w refused)) (record {
+            tables = table;
+            turns = turn;
+            did = record {
+              banks = quiet.banks;
+              counters = quiet.counters;
+              faults = quiet.faults;
+              log = quiet.log;
+            };
+          });
+          rises = rises_less (16 * WIDTH_MAX) (80 * WALK_MAX) chip.counters chip'.counters
+              (omega arith) rises;
+          sent = Known-trans {R = λ x y. y ≡ x ++ text}
+              {S = λ x y. y ≡ x ++ line number (Answered reply)}
+              {U = λ x y. y ≡ x ++ line_by m number chip.banks (Print place)}
+              sink.sent between.sent sink'.sent
+              (λ x y z p q. q ∙ ap (λ t. t ++ line number (Answered reply))
+              (nothing_more x y text (no_text w refused) p)
+              ∙ ap (λ t. x ++ t) (refused_line reply w e h)) first sent;
+        }
 
     -- where a call fails
-    pub shown_broke : (k : List ℕ) (fault : StepFault) → k ≡ copy
-        → has_name (table_in m) k ≡ true
+    pub print_broke : (fault : StepFault) → why_not ≡ None
         → (fault ≡ ChipFault → Rose chip.faults chip'.faults)
         → (fault ≡ ChipFault → StoppedWithin [] chip.banks chip'.banks)
         → (fault ≡ WriteFault → Rose sink.faults sink'.faults)
         → (fault ≡ WriteFault → DidReadAtMost (reads_by m (Print k)) chip chip')
-        → Known (AppendsPart (line_shown m number chip.banks k name)) sink.sent sink'.sent
-        → Broke m number (Print name) chip chip' sink sink' fault
-    shown_broke k fault is stands chip_rose left sink_rose read part =
-        let g = geometry_of m in
-        let o = operations_by m in
-        let has : has_name (table_in m) copy ≡ true =
-        ap (has_name (table_in m)) (sym is) ∙ stands in
-        let allowed : refusal g o (table_in m) (Print copy) ≡ None =
-        ap (λ b. when (not b) (why.NoObject 0)) has in
-        let reply : guarded_reply g o (table_in m) (Print name) ≡ no_commands =
-        ap (λ r. joined none_yet (reply_by r (record { aap = 0; ap = 0 }) ∷ [])) allowed in
-        let shown : line_shown m number chip.banks k name
-        ≡ line_by m number chip.banks (Print name) =
-        ap (λ n. line_shown m number chip.banks n name) is
-        ∙ ap (λ r. line number (said_of r (Print name) shown_values)) (sym reply) in
-        let script : script_by m (Print name) ≡ Print copy ∷ [] =
-        script_done g o (table_in m) (Print copy ∷ []) (allowed, tt) in
-        let reads : guard_reads m (Print name) ≡ reads_by m (Print k) =
-        ap (sum_done rows_printed g o (table_in m)) script
-        ∙ sym (plus_none (reads_by m (Print copy)))
-        ∙ sym (ap (λ n. reads_by m (Print n)) is) in
+        → Known (AppendsPart text) sink.sent sink'.sent
+        → Broke m number (Print place) chip chip' sink sink' fault
+    print_broke fault allowed chip_rose left sink_rose read part =
+        let reads : guard_reads m (Print place) ≡ reads_by m (Print k) =
+        ap (sum_done rows_printed (geometry_of m) (operations_by m) (table_in m))
+        (script_shown allowed) ∙ sym (plus_none (reads_by m (Print k))) in
         record {
           chip_rose = chip_rose;
-          left = λ e. stopped_before [] (events_by m (Print name)) chip.banks chip'.banks (left e);
+          left = λ e. stopped_before [] (events_by m (Print place)) chip.banks chip'.banks (left e);
           sink_rose = sink_rose;
           unsent = λ e p. absurd (cc);
           done = λ e p. absurd (cc);
           read = λ e p. subst (λ n. DidReadAtMost n chip chip') (sym reads) (read e);
-          part = subst (λ text. Known (AppendsPart text) sink.sent sink'.sent) shown part;
+          part = subst (λ t. Known (AppendsPart t) sink.sent sink'.sent) (whole_line allowed) part;
         }
 
-    pub absent_broke : (k : List ℕ) → k ≡ copy → has_name (table_in m) k ≡ false
-        → chip' ≡ chip → Rose sink.faults sink'.faults
-        → Known (AppendsPart (line number (Answered (Refused (why.NoObject 0))))) sink.sent
-        sink'.sent → Broke m number (Print name) chip chip' sink sink' WriteFault
-    absent_broke k is stands same rose part =
-        let g = geometry_of m in
-        let o = operations_by m in
-        let has : has_name (table_in m) copy ≡ false =
-        ap (has_name (table_in m)) (sym is) ∙ stands in
-        let refused : refusal g o (table_in m) (Print copy) ≡ Some (why.NoObject 0) =
-        ap (λ b. when (not b) (why.NoObject 0)) has in
-        let reply : guarded_reply g o (table_in m) (Print name) ≡ Refused (why.NoObject 0) =
-        ap (λ r. joined none_yet (reply_by r (record { aap = 0; ap = 0 }) ∷ [])) refused in
+    -- where the line of a refusal is not put
+    pub print_unsent : (reply : Reply) (w : Why) (between : SinkView)
+        → reply ≡ reply_of m (Print k) → reply ≡ Refused w
+        → DidRead (reads_by m (Print k)) chip chip' → sink.faults ≤ between.faults
+        → Known (λ x y. y ≡ x ++ text) sink.sent between.sent
+        → Rose between.faults sink'.faults
+        → Known (AppendsPart (line number (Answered reply))) between.sent sink'.sent
+        → Broke m number (Print place) chip chip' sink sink' WriteFault
+    print_unsent reply w between e h did before first rose part =
+        let refused : why_not ≡ Some w = refused_is why_not _ w (sym h ∙ e) in
+        let none : reads_by m (Print k) ≡ 0 = no_reads why_not w _ refused in
         record {
-          chip_rose = λ e. absurd (cc);
-          left = λ e. absurd (cc);
-          sink_rose = λ e. rose;
-          unsent = λ e. absurd (cc);
-          done = λ e p. absurd (cc);
-          read = λ e p. none_read same;
-          part = subst (λ text. Known (AppendsPart text) sink.sent sink'.sent)
-              (ap (λ r. line number (said_of r (Print name) shown_values)) (sym reply)) part;
-        } where
-          none_read : {n : ℕ} → chip' ≡ chip → DidReadAtMost n chip chip'
-          none_read same = let none = did_none chip in record {
-            rows = 0;
-            few = omega arith;
-            did = subst (DidRead 0 chip) (sym same)
-                (record {
-                  banks = none.banks;
-                  counters = none.counters;
-                  faults = none.faults;
-                  log = none.log;
-                });
-          }
+          chip_rose = λ f. absurd (cc);
+          left = λ f. absurd (cc);
+          sink_rose = λ f. omega (arith, before, rose);
+          unsent = λ f. absurd (cc);
+          done = λ f p. absurd (cc);
+          read = λ f p. record {
+            rows = reads_by m (Print k);
+            few = omega (arith, none);
+            did = did;
+          };
+          part = Known-trans {R = λ x y. y ≡ x ++ text}
+              {S = AppendsPart (line number (Answered reply))}
+              {U = AppendsPart (line_by m number chip.banks (Print place))}
+              sink.sent between.sent sink'.sent
+              (λ x y z p q. subst (λ t. AppendsPart t x z) (refused_line reply w e h)
+              (subst (λ t. AppendsPart (line number (Answered reply)) t z)
+              (nothing_more x y text (no_text w refused) p) q)) first part;
+        }
 
 -- of an instruction but a print the reply is said
-pub said_answered : (reply : Reply) (instr : Instruction) (values : List ℕ → List ℕ)
+pub said_answered : (reply : Reply) (instr : Instruction) (values : Place → List ℕ)
     → is_print instr ≡ false → said_of reply instr values ≡ Answered reply
 said_answered (Refused w) instr values h = refl
-said_answered (Done k) (Print name) values h = cc
+said_answered (Done k) (Print place) values h = cc
 said_answered (Done k) (Init name count n) values h = refl
 said_answered (Done k) (Bbop op dst srcs count n) values h = refl
-said_answered (Done k) (Load name loaded) values h = refl
-said_answered (Done k) (Fill name value) values h = refl
+said_answered (Done k) (Load place loaded) values h = refl
+said_answered (Done k) (Fill place value) values h = refl
 said_answered (Done k) (Free name) values h = refl
 said_answered (Done k) (Order order) values h = refl
 

@@ -5,13 +5,13 @@ ghost use Rattle.std.specs.Prelude.{◌<◌, ◌||◌, position};
 ghost use Rattle.std.specs.List.{list_any};
 ghost use Rattle.bbop_isa.specs.Forms.{view_of};
 ghost use Rattle.text_lex.specs.Spelled.{fits_name};
-ghost use Rattle.guard_model.specs.Guarded.{on_copy};
+ghost use Rattle.guard_model.specs.Guarded.{on_copy, place_on};
 ghost use Rattle.guard_model.specs.Laws.{HasName};
 ghost use Rattle.guard_model.specs.Named.{has_long_name, is_long, first_long_name};
 ghost use Rattle.tmr_guard.specs.Steps.{is_load};
 
 use arrayvec::ArrayVec;
-use bbop_isa::Instr;
+use bbop_isa::{Instr, Place};
 use text_lex::Name;
 
 /// The name of a copy: a letter before the guarded name.
@@ -32,16 +32,28 @@ pub(crate) fn copy_name(letter: u8, name: &Name) -> Name
     }
 }
 
-/// The names of copies.
-fn copy_names(letter: u8, names: &[Name]) -> ArrayVec<Name, 5>
+/// The operand's copy under a letter: the same part of the copy of its object.
+pub(crate) fn copy_place(letter: u8, place: &Place) -> Place
     requires letter { fits_name (letter ∷ []) ≡ true }
-    requires short { All (λ name. is_long name ≡ false) names.now }
-    requires few { length names.now ≤ 5 }
-    ensures { result.items ≡ map (λ name. letter ∷ name) names.now }
+    requires short { is_long place.now.name ≡ false }
+    ensures { result ≡ place_on letter place.now }
+{
+    Place {
+        name: copy_name(letter, &place.name),
+        part: place.part,
+    }
+}
+
+/// The copies of operands.
+fn copy_places(letter: u8, places: &[Place]) -> ArrayVec<Place, 5>
+    requires letter { fits_name (letter ∷ []) ≡ true }
+    requires short { All (λ place. is_long place.name ≡ false) places.now }
+    requires few { length places.now ≤ 5 }
+    ensures { result.items ≡ map (place_on letter) places.now }
 {
     let mut copies = ArrayVec::new();
-    for name in names {
-        copies.push(copy_name(letter, name));
+    for place in places {
+        copies.push(copy_place(letter, place));
     }
     copies
 }
@@ -67,17 +79,17 @@ pub(crate) fn copied(letter: u8, instr: &Instr) -> Instr
             n,
         } => Instr::Bbop {
             op: op.copied(),
-            dst: copy_name(letter, dst),
-            srcs: copy_names(letter, srcs.as_slice()),
+            dst: copy_place(letter, dst),
+            srcs: copy_places(letter, srcs.as_slice()),
             count: *count,
             n: *n,
         },
-        Instr::Fill { name, value } => Instr::Fill {
-            name: copy_name(letter, name),
+        Instr::Fill { place, value } => Instr::Fill {
+            place: copy_place(letter, place),
             value: *value,
         },
-        Instr::Print { name } => Instr::Print {
-            name: copy_name(letter, name),
+        Instr::Print { place } => Instr::Print {
+            place: copy_place(letter, place),
         },
         Instr::Free { name } => Instr::Free {
             name: copy_name(letter, name),
@@ -94,18 +106,18 @@ fn is_long_name(name: &Name) -> bool
     name.bytes().len() > 15
 }
 
-/// Whether one of the names is.
-fn any_is_long(names: &[Name]) -> bool
-    ensures { result ≡ list_any is_long names.now }
+/// Whether one of the operands' names is.
+fn any_is_long(places: &[Place]) -> bool
+    ensures { result ≡ list_any (λ place. is_long place.name) places.now }
 {
-    names.iter().any(|name| is_long_name(name))
+    places.iter().any(|place| is_long_name(&place.name))
 }
 
 /// Whether one of a bbop's objects has such a name.
-fn bbop_is_long(dst: &Name, srcs: &[Name]) -> bool
-    ensures { result ≡ (is_long dst.now || list_any is_long srcs.now) }
+fn bbop_is_long(dst: &Place, srcs: &[Place]) -> bool
+    ensures { result ≡ list_any is_long (map (λ place. place.name) (dst.now ∷ srcs.now)) }
 {
-    is_long_name(dst) || any_is_long(srcs)
+    is_long_name(&dst.name) || any_is_long(srcs)
 }
 
 /// Whether the instruction names an object of more than 15 bytes.
@@ -115,9 +127,9 @@ pub fn names_long(instr: &Instr) -> bool
     match instr {
         Instr::Bbop { dst, srcs, .. } => bbop_is_long(dst, srcs.as_slice()),
         Instr::Init { name, .. } => is_long_name(name),
-        Instr::Load { name, .. } => is_long_name(name),
-        Instr::Fill { name, .. } => is_long_name(name),
-        Instr::Print { name } => is_long_name(name),
+        Instr::Load { place, .. } => is_long_name(&place.name),
+        Instr::Fill { place, .. } => is_long_name(&place.name),
+        Instr::Print { place } => is_long_name(&place.name),
         Instr::Free { name } => is_long_name(name),
         Instr::Order(_) => false,
     }

@@ -28,14 +28,14 @@ ghost use Rattle.tmr_guard.specs.Steps.{events_by, line_by};
 ghost use Rattle.tmr_guard.specs.Steps.{machine_in, reads_by, reply_by, script_by, table_by};
 ghost use Rattle.tmr_guard.specs.Steps.{turn_by};
 
-use crate::copies::{adds_name, copied, copy_name};
+use crate::copies::{adds_name, copied, copy_name, copy_place};
 use crate::dropped::Dropped;
 use crate::votes::vote_all;
-use bbop_isa::Instr;
+use bbop_isa::{Instr, Place};
 use dram_model::{ChipFault, Dram};
 use guard_model::tables_stay_guarded;
 use host_edge::Sink;
-use machine_model::{Reply, Why, accepted_programs_are_safe};
+use machine_model::{Reply, accepted_programs_are_safe};
 use sim_machine::{Machine, StepFault, put_reply};
 use text_lex::Name;
 use uprog_code::{Counts, WALK_MAX};
@@ -131,8 +131,8 @@ impl<'a> Guard<'a> {
     {
         accepted_programs_are_safe();
         match instr {
-            Instr::Load { name, values } => {
-                let copy = copy_name(letter, name);
+            Instr::Load { place, values } => {
+                let copy = copy_place(letter, place);
                 match self.machine.load_into(&copy, values.as_slice(), dram) {
                     Ok(reply) => Ok(reply),
                     Err(fault) => Err(fault),
@@ -285,39 +285,38 @@ impl<'a> Guard<'a> {
         }
     }
 
-    /// The x copy's values are shown under the guarded name.
+    /// The x copy's values are shown as the guarded operand's.
     fn print_step<D: Dram, S: Sink>(
         &mut self,
         number: u32,
-        name: &Name,
+        place: &Place,
         dram: &mut D,
         out: &mut S,
     ) -> Result<Reply, StepFault>
         requires begun { HasBegun (D.view dram.old) }
         requires geometry { (D.view dram.old).geometry ≡ geometry_of (machine_in self.old) }
-        requires short { has_long_name (Print name.now) ≡ false }
+        requires short { has_long_name (Print place.now) ≡ false }
         requires room { HasMoreRoom (D.view dram.old).counters }
         ensures borrow { D.borrow dram.new ≡ D.borrow dram.old }
         ensures kept { Kept (D.view dram.old) (D.view dram.new) }
         ensures sink_faults { (S.view out.old).faults ≤ (S.view out.new).faults }
         ensures goes_on { GoesOn (machine_in self.old) (machine_in self.new) }
-        ensures came { Came (machine_in self.old) (machine_in self.new) number (Print name.now)
+        ensures came { Came (machine_in self.old) (machine_in self.new) number (Print place.now)
             (D.view dram.old) (D.view dram.new) (S.view out.old) (S.view out.new) result }
     {
-        let copy = copy_name(b'x', name);
-        match self.machine.table().look_up(&copy) {
-            Some(_) => match self.machine.print_as(number, &copy, name, dram, out) {
-                Ok(()) => Ok(DONE),
-                Err(fault) => Err(fault),
+        let copy = copy_place(b'x', place);
+        let reply = match self.machine.print_as(number, &copy, place, dram, out) {
+            Ok(reply) => reply,
+            Err(fault) => return Err(fault),
+        };
+        match reply {
+            Reply::Done(_) => {}
+            Reply::Refused(_) => match put_reply(number, reply, out) {
+                Ok(()) => return Ok(reply),
+                Err(_) => return Err(StepFault::WriteFault),
             },
-            None => {
-                let reply = Reply::Refused(Why::NoObject(0));
-                match put_reply(number, reply, out) {
-                    Ok(()) => Ok(reply),
-                    Err(_) => Err(StepFault::WriteFault),
-                }
-            }
         }
+        Ok(reply)
     }
 
     /// One guarded instruction.
@@ -341,7 +340,7 @@ impl<'a> Guard<'a> {
             (D.view dram.old) (D.view dram.new) (S.view out.old) (S.view out.new) result }
     {
         match instr {
-            Instr::Print { name } => self.print_step(number, name, dram, out),
+            Instr::Print { place } => self.print_step(number, place, dram, out),
             _ => self.reply_step(number, instr, dram, out),
         }
     }

@@ -33,6 +33,7 @@ use Rattle.object_alloc.specs.Listed.{Named, limit_of, has_name, objects_of}
 use Rattle.object_alloc.specs.Spelling.{IsObject}
 use Rattle.object_alloc.proofs.Images.{bounds_of}
 use Rattle.file_fields.proofs.Padded.{between_is}
+use Rattle.bbop_isa.specs.declared.instr.Place.{Place}
 use Rattle.bbop_isa.specs.Forms.{Instruction, Init, Bbop, Load, Fill, Print, Free, Order}
 use Rattle.wave_model.specs.Schedule.{WaveJob}
 use Rattle.machine_model.specs.declared.Why.{Why}
@@ -40,7 +41,8 @@ use Rattle.machine_model.specs.declared.Why.TheVariants as why
 use Rattle.machine_model.specs.Columns.{segments, object_size, each_row}
 use Rattle.machine_model.specs.Routines.{Program, Routine, Routines, routines_in}
 use Rattle.machine_model.specs.Routines.{routine_of}
-use Rattle.machine_model.specs.Refusals.{first, when, object_named, is_absent, refusal}
+use Rattle.machine_model.specs.Refusals.{first, when, object_named, rows_of, goes_past, is_absent}
+use Rattle.machine_model.specs.Refusals.{refusal}
 use Rattle.machine_model.specs.Steps.{base_for, binding, bound_at, events_of, fill_events}
 use Rattle.machine_model.specs.Steps.{if_done, job_events, job_of, load_events, new_object}
 use Rattle.machine_model.specs.Steps.{table_after}
@@ -48,7 +50,8 @@ use Rattle.machine_model.specs.Agrees.{IsPlain}
 use Rattle.machine_model.specs.Laws.{TableFits}
 use Rattle.machine_model.specs.Pieces.{pieces, events_of_pieces}
 use Rattle.machine_model.specs.Script.{events_in_order}
-use Rattle.machine_model.proofs.Facts.{first_none, when_none, not_false}
+use Rattle.machine_model.proofs.Bbops.{part_count, part_end}
+use Rattle.machine_model.proofs.Facts.{first_none, when_none, not_false, operand_is}
 use Rattle.machine_model.proofs.Below.{base_free, all_in, row_within}
 use Rattle.machine_model.proofs.Grants.{grants_fit}
 use Rattle.machine_model.proofs.KeptAll.{entry_holds}
@@ -183,16 +186,17 @@ all_placed g (x ∷ table) ends objects = (
       (λ k d l. objects (suc k) d (omega (arith, l))),
 )
 
-placed : (g : Geometry) (table : List Named) (name : List ℕ) → TableFits g table
-    → has_name table name ≡ true → IsPlaced g (object_named table name)
-placed g table name t h = named_all (IsPlaced g) table name
-    (all_placed g table t.listed.within t.objects) h
-
-present : (table : List Named) (name : List ℕ) (rest : List (Option Why))
-    → first (when (is_absent table name) (why.NoObject 0) ∷ rest) ≡ None
-    → has_name table name ≡ true
-present table name rest h = not_false _ (when_none _ _
-    (first_none (when (is_absent table name) (why.NoObject 0)) rest h).0)
+placed : (g : Geometry) (table : List Named) (place : Place) → TableFits g table
+    → has_name table place.name ≡ true → goes_past table place ≡ false
+    → IsPlaced g (rows_of table place)
+placed g table place t h inside =
+    let o = object_named table place.name in
+    let is = named_all (IsPlaced g) table place.name
+    (all_placed g table t.listed.within t.objects) h in
+    record {
+      ends = omega (arith, is.ends, part_end o place.part inside);
+      fits = subst (λ (c : ℕ). c ≤ column_count g * g.banks) (sym (part_count o place.part)) is.fits;
+    }
 
 new_placed : (g : Geometry) (operations : Routines) (table : List Named) (name : List ℕ)
     (count n : ℕ) → 0 < n → refusal g operations table (Init name count n) ≡ None
@@ -207,15 +211,13 @@ new_placed g operations table name count (suc n) some h =
     record { ends = omega (arith, last); fits = m.fits }
 new_placed g operations table name count zero some h = absurd (omega (arith, some))
 
-loaded_count : (table : List Named) (name : List ℕ) (vs : List ℕ) (rest : List (Option Why))
-    → first (when (is_absent table name) (why.NoObject 0)
-    ∷ when (not (eqb (length vs) (object_named table name).count)) why.Count ∷ rest) ≡ None
-    → length vs ≡ (object_named table name).count
-loaded_count table name vs rest h =
-    let c = when (not (eqb (length vs) (object_named table name).count)) why.Count in
-    let a = first_none (when (is_absent table name) (why.NoObject 0)) (c ∷ rest) h in
-    let b = first_none c rest a.1 in
-    same (length vs) (object_named table name).count (not_false _ (when_none _ _ b.0)) where
+loaded_count : (table : List Named) (place : Place) (vs : List ℕ) (rest : List (Option Why))
+    → first (when (not (eqb (length vs) (rows_of table place).count)) why.Count ∷ rest) ≡ None
+    → length vs ≡ (rows_of table place).count
+loaded_count table place vs rest h =
+    let count = when (not (eqb (length vs) (rows_of table place).count)) why.Count in
+    same (length vs) (rows_of table place).count
+    (not_false _ (when_none _ _ (first_none count rest h).0)) where
       same : (x y : ℕ) → eqb x y ≡ true → x ≡ y
       same x y h = grind (arith, nat_tests)
 
@@ -244,23 +246,23 @@ entries_legal [] all = tt
 entries_legal (e ∷ p) all =
     (legal_commands e.shape e.code all.0.code, entries_legal p all.1)
 
-bbop_legal : (g : Geometry) (p : Program) (table : List Named) (op dst : List ℕ)
-    (srcs : List (List ℕ)) (count n : ℕ) (found : Option Routine)
+bbop_legal : (g : Geometry) (p : Program) (table : List Named) (op : List ℕ) (dst : Place)
+    (srcs : List Place) (count n : ℕ) (found : Option Routine)
     → routines_in p op ≡ found → IsBig g → IsProgram p → TableFits g table → 0 < n
     → refusal g (routines_in p) table (Bbop op dst srcs count n) ≡ None
     → AllByRecursion (IsEvent g) (job_events (record {
       commands = bound_at g table found (dst ∷ srcs) n;
-      banks = segments g (object_named table dst);
+      banks = segments g (rows_of table dst);
     }))
 bbop_legal g p table op dst srcs count n None is b good t some h =
-    all_banks (IsEvent g) (λ bank. row_events bank []) 0 (segments g (object_named table dst))
+    all_banks (IsEvent g) (λ bank. row_events bank []) 0 (segments g (rows_of table dst))
     (λ bank l m. tt)
 bbop_legal g p table op dst srcs count n (Some o) is b good t some h =
     let granted = grants_fit g (routines_in p) table o op dst srcs count n b.words t is h in
     let legal = entry_holds IssuesLegal p op o (entries_legal p good.entries) is in
     job_legal g (record {
       commands = bound_at g table (Some o) (dst ∷ srcs) n;
-      banks = segments g (object_named table dst);
+      banks = segments g (rows_of table dst);
     }) granted.banks (legal g.rows n (binding g table o.shape (dst ∷ srcs) n) some granted.fits)
 
 module _ (g : Geometry) (p : Program) (b : IsBig g) (good : IsProgram p) where
@@ -274,11 +276,13 @@ module _ (g : Geometry) (p : Program) (b : IsBig g) (good : IsProgram p) where
       all_append (IsEvent g)
       (job_events (job_of g (routines_in p) table (Bbop op dst srcs count n))) []
       (bbop_legal g p table op dst srcs count n (routines_in p op) refl b good t plain.0 h) tt
-  done_legal table (Load name vs) t plain h =
-      loads_legal g (object_named table name) vs b (placed g table name t (present table name _ h))
-      (loaded_count table name vs _ h)
-  done_legal table (Fill name v) t plain h =
-      fills_legal g (object_named table name) v b (placed g table name t (present table name _ h))
+  done_legal table (Load place vs) t plain h =
+      let is = operand_is (is_absent table place.name) (goes_past table place) _ h in
+      loads_legal g (rows_of table place) vs b (placed g table place t (not_false _ is.0) is.1)
+      (loaded_count table place vs _ is.2)
+  done_legal table (Fill place v) t plain h =
+      let is = operand_is (is_absent table place.name) (goes_past table place) _ h in
+      fills_legal g (rows_of table place) v b (placed g table place t (not_false _ is.0) is.1)
   done_legal table (Print name) t plain h = tt
   done_legal table (Free name) t plain h = tt
   done_legal table (Order o) t plain h = tt

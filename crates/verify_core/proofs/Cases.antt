@@ -1,6 +1,6 @@
 -- What two runs and their difference say of an entry
-use Rattle.std.specs.Prelude.{◌≡◌, ℕ, ◌*◌, ◌<◌, ◌≤◌, List, length}
-use Rattle.std.proofs.Common.{ap, arith, subst}
+use Rattle.std.specs.Prelude.{◌≡◌, ◌≢◌, ℕ, ◌*◌, ◌<◌, ◌≤◌, Bool, List, length}
+use Rattle.std.proofs.Common.{ap, arith, subst, sym, ◌∙◌}
 use Rattle.op_text.specs.declared.tree.Kind.{Kind}
 use Rattle.uprog_code.specs.Shape.{Shape}
 use Rattle.uprog_code.specs.Machine.{Issue}
@@ -9,15 +9,17 @@ use Rattle.uprog_code.specs.Issued.{AreGood}
 use Rattle.bdd.specs.declared.Edge.{Edge}
 use Rattle.bdd.specs.declared.Node.{Node}
 use Rattle.bdd.specs.Graphs.{Keeps}
-use Rattle.bdd.proofs.Laws.{keeps-both}
-use Rattle.symbolic_column.specs.Symbols.{AreCells, Cells}
+use Rattle.bdd.proofs.Laws.{keeps-both, value-kept}
+use Rattle.symbolic_column.specs.Symbols.{Cells}
 use Rattle.binding_laws.specs.Canonical.{canonical_rows, result_rows}
 use Rattle.verify_core.specs.declared.case.Case.{Case}
-use Rattle.verify_core.specs.SymbolicRuns.{IsCase, IsRun, ResultsAgree, ResultsDiffer}
+use Rattle.verify_core.specs.declared.start.Begin.{Begin}
+use Rattle.verify_core.specs.declared.start.Begin.TheVariants.{Variables}
+use Rattle.verify_core.specs.SymbolicRuns.{IsCase, IsCaseOf, IsRun, ResultsAgree, ResultsDiffer}
 use Rattle.verify_core.specs.Verdicts.{Fails, SameKinds}
 use Rattle.verify_core.proofs.Runs.{results-kept, run-kept}
 use Rattle.verify_core.proofs.Right.{right}
-use Rattle.verify_core.proofs.Wrong.{wrong}
+use Rattle.verify_core.proofs.Wrong.{apart-by, wrong}
 
 -- the results' rows are among those of the bank
 pub rows-inside : (a h : Shape) (n rows : ℕ) → h ≡ a → rows ≡ canonical_rows a n
@@ -31,31 +33,47 @@ rows-inside-other a b h n rows e same long =
     ap (λ (ks : List Kind). n * length ks) same.results in
     rw e (omega (arith, one, long))
 
-pub cells-later : (shape : Shape) (n : ℕ) (issues : List Issue) (x y : List Node) (end : Cells)
-    → Keeps x y → IsRun shape n issues x end → AreCells y end
-cells-later shape n issues x y end k ran = (run-kept shape n issues x y end k ran).cells
-
 pub case-right : (a b h : Shape) (n : ℕ) (xs ys : List Issue) (meaning : List ℕ → List ℕ)
     (d1 d2 : List Node) (own made : Cells) → 0 < n → SameKinds a b → h ≡ a → AreGood a n xs
-    → Keeps d1 d2 → IsRun a n xs d1 own → IsRun b n ys d2 made → ResultsAgree h n d2 own made
-    → Gives b n ys meaning → Gives a n xs meaning
+    → Keeps d1 d2 → IsRun a n xs Variables d1 own → IsRun b n ys Variables d2 made
+    → ResultsAgree h n d2 own made → Gives b n ys meaning → Gives a n xs meaning
 case-right a b h n xs ys meaning d1 d2 own made some same e good k r1 r2 agree gives =
-    right a b n xs ys meaning d2 own made some same good (run-kept a n xs d1 d2 own k r1) r2 gives
+    right a b n xs ys meaning d2 own made some same good
+    (run-kept a n xs Variables d1 d2 own k r1) r2 gives
     (subst (λ (z : Shape). ResultsAgree z n d2 own made) e agree)
 
+-- a case of values that were tried
+pub tried-fails : (a b h : Shape) (n : ℕ) (xs ys : List Issue) (meaning : List ℕ → List ℕ)
+    (f : Begin) (d1 d2 d3 : List Node) (own made : Cells) (bits : ℕ → Bool) (case : Case) → 0 < n
+    → SameKinds a b → h ≡ a → AreGood a n xs → Keeps d1 d2 → Keeps d2 d3 → IsRun a n xs f d1 own
+    → IsRun b n ys f d2 made → IsCase h n f d3 own made bits case
+    → case.got.items ≢ case.wanted.items → Gives b n ys meaning → Fails a n xs meaning case
+tried-fails a b h n xs ys meaning f d1 d2 d3 own made bits case some same eh good k2 k3 r1 r2 is differ
+    gives =
+    wrong a b n xs ys meaning f f d3 own made bits case some same good is.meant
+    (run-kept a n xs f d1 d3 own (keeps-both d1 d2 d3 k2 k3) r1)
+    (run-kept b n ys f d2 d3 made k3 r2) gives
+    (subst (λ (z : Shape). IsCase z n f d3 own made bits case) eh is) differ
+
+-- a case in which an edge is true
 pub case-fails : (a b h : Shape) (n : ℕ) (xs ys : List Issue) (meaning : List ℕ → List ℕ)
     (d1 d2 d3 d4 : List Node) (own made : Cells) (e : Edge) (case : Case) → 0 < n → SameKinds a b
-    → h ≡ a → Keeps d1 d2 → Keeps d2 d3 → Keeps d3 d4 → IsRun a n xs d1 own → IsRun b n ys d2 made
-    → ResultsDiffer h n d2 d3 own made e → IsCase h n d4 own made e case → Gives b n ys meaning
-    → Fails a n xs meaning case
-case-fails a b h n xs ys meaning d1 d2 d3 d4 own made e case some same eh k2 k3 k4 r1 r2 differ is
+    → h ≡ a → AreGood a n xs → Keeps d1 d2 → Keeps d2 d3 → Keeps d3 d4 → IsRun a n xs Variables d1 own
+    → IsRun b n ys Variables d2 made → ResultsDiffer h n d2 d3 own made e
+    → IsCaseOf h n d3 d4 own made e case → Gives b n ys meaning → Fails a n xs meaning case
+case-fails a b h n xs ys meaning d1 d2 d3 d4 own made e case some same eh good k2 k3 k4 r1 r2 differ of
     gives =
     let k24 = keeps-both d2 d3 d4 k3 k4 in
     let k14 = keeps-both d1 d2 d4 k2 k24 in
-    let it : IsCase a n d4 own made e case =
-    subst (λ (z : Shape). IsCase z n d4 own made e case) eh is in
-    wrong a b n xs ys meaning d4 own made it.start it.bits e case some same
-    (run-kept a n xs d1 d4 own k14 r1) (run-kept b n ys d2 d4 made k24 r2) gives it.starts it.rows
-    (results-kept a n d2 d3 d4 own made e k24 k4 (cells-later a n xs d1 d2 own k2 r1) r2.cells
-    (subst (λ (z : Shape). ResultsDiffer z n d2 d3 own made e) eh differ)) it.is_true it.sources
-    it.got it.wanted it.ones
+    let r12 = run-kept a n xs Variables d1 d2 own k2 r1 in
+    let r14 = run-kept a n xs Variables d1 d4 own k14 r1 in
+    let r24 = run-kept b n ys Variables d2 d4 made k24 r2 in
+    let is : IsCase a n of.begin d4 own made of.bits case =
+    subst (λ (z : Shape). IsCase z n of.begin d4 own made of.bits case) eh of.numbers in
+    let apart = results-kept a n d2 d3 d4 own made e k24 k4 r12.cells r2.cells
+    (subst (λ (z : Shape). ResultsDiffer z n d2 d3 own made e) eh differ) in
+    wrong a b n xs ys meaning Variables of.begin d4 own made of.bits case some same good tt r14 r24
+    gives is
+    (λ one. apart-by a n d4 own made of.bits e some apart
+    (value-kept d3 d4 of.bits e k4 (subst (λ (z : Shape). ResultsDiffer z n d2 d3 own made e) eh
+    differ).difference.named ∙ of.is_true) (sym is.got ∙ one ∙ is.wanted))

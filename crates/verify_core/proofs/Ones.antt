@@ -12,7 +12,8 @@ use Rattle.uprog_code.specs.Shape.{Shape, need}
 use Rattle.bdd.specs.declared.Node.{Node}
 use Rattle.symbolic_column.specs.Symbols.{Cells, column_of}
 use Rattle.binding_laws.specs.Canonical.{canonical_rows, result_rows, value_rows}
-use Rattle.verify_core.specs.Starts.{IsStart}
+use Rattle.verify_core.specs.declared.start.Begin.{Begin}
+use Rattle.verify_core.specs.Starts.{IsMeant, IsStart}
 use Rattle.verify_core.specs.Verdicts.{work_cells}
 
 one-same : (f g : Column) (cell : Cell) (rest more : List Cell) → f cell ≡ g cell
@@ -35,20 +36,22 @@ both-same : (f g : Column) (xs ys : List Cell) → filter f xs ≡ filter g xs
 both-same f g xs ys p q = filter-append f xs ys ∙ rw (p, q) (sym (filter-append g xs ys))
 
 -- two columns of variables have the same ones, but in sources, under one assignment
-pub work-same : (a : Shape) (n : ℕ) (x y : List Node) (c d : Cells) (bits : ℕ → Bool)
-    → IsStart x n (length a.sources) (result_rows a n) c
-    → IsStart y n (length a.sources) (result_rows a n) d → length c.rows ≡ canonical_rows a n
+pub work-same : (a : Shape) (n : ℕ) (u v : Begin) (x y : List Node) (c d : Cells)
+    (bits : ℕ → Bool) → IsMeant u bits → IsMeant v bits
+    → IsStart x u n (length a.sources) (result_rows a n) c
+    → IsStart y v n (length a.sources) (result_rows a n) d → length c.rows ≡ canonical_rows a n
     → length d.rows ≡ canonical_rows a n
     → filter (column_of x bits c) (work_cells a n) ≡ filter (column_of y bits d) (work_cells a n)
-work-same a n x y c d bits p q long wide =
+work-same a n u v x y c d bits mu mv p q long wide =
     let f = column_of x bits c in
     let g = column_of y bits d in
     let tee : (k : ℕ) → k < 4 → f (T k) ≡ g (T k) =
-    λ k l. p.tees bits k l ∙ sym (q.tees bits k l) in
+    λ k l. p.tees bits mu k l ∙ sym (q.tees bits mv k l) in
     let dual : (k : ℕ) → k < 2 → f (Dcc k) ≡ g (Dcc k) =
-    λ k l. p.duals bits k l ∙ sym (q.duals bits k l) in
+    λ k l. p.duals bits mu k l ∙ sym (q.duals bits mv k l) in
     let row : (k : ℕ) → k < canonical_rows a n → f (D k) ≡ g (D k) =
-    λ k l. p.rows bits k (omega (arith, l, long)) ∙ sym (q.rows bits k (omega (arith, l, wide))) in
+    λ k l. p.rows bits mu k (omega (arith, l, long))
+    ∙ sym (q.rows bits mv k (omega (arith, l, wide))) in
     both-same f g (T 0 ∷ T 1 ∷ T 2 ∷ T 3 ∷ Dcc 0 ∷ Dcc 1 ∷ []) _
     (rw (
       tee 0 (omega arith),

@@ -10,12 +10,14 @@ use Rattle.uprog_code.specs.Implements.{numbers, Gives}
 use Rattle.uprog_code.specs.Issued.{AreGood}
 use Rattle.bdd.specs.declared.Node.{Node}
 use Rattle.symbolic_column.specs.Symbols.{Cells, column_of}
-use Rattle.binding_laws.specs.Canonical.{canonical, canonical_rows, result_rows, value_rows, moved, bases}
-use Rattle.binding_laws.proofs.Settled.{canonical-fits, base-at}
+use Rattle.binding_laws.specs.Canonical.{canonical, canonical_rows, result_rows, value_rows, bases}
+use Rattle.binding_laws.proofs.Settled.{canonical-fits, base-at, moved}
 use Rattle.binding_laws.proofs.Enough.{enough-from, numbers-same}
-use Rattle.verify_core.specs.Starts.{bits_of}
+use Rattle.verify_core.specs.declared.start.Begin.{Begin}
+use Rattle.verify_core.specs.declared.start.Begin.TheVariants.{Variables}
 use Rattle.verify_core.specs.SymbolicRuns.{IsRun, ResultsAgree}
 use Rattle.verify_core.specs.Verdicts.{SameKinds}
+use Rattle.verify_core.proofs.Orders.{bits_of}
 use Rattle.verify_core.proofs.Runs.{start-alike, sources-same}
 
 -- the canonical bank has the rows of the values
@@ -46,18 +48,18 @@ results-renamed a b n s same =
 
 -- what a run of a microprogram that gives a meaning came to
 pub run-means : (b : Shape) (n : ℕ) (ys : List Issue) (meaning : List ℕ → List ℕ)
-    (nodes : List Node) (finish : Cells) (bits : ℕ → Bool) → 0 < n
-    → (did : IsRun b n ys nodes finish) → Gives b n ys meaning
+    (begin : Begin) (nodes : List Node) (finish : Cells) (bits : ℕ → Bool) → 0 < n
+    → (did : IsRun b n ys begin nodes finish) → Gives b n ys meaning
     → numbers n (results b) (canonical b n).results (column_of nodes bits finish)
     ≡ meaning (numbers n b.sources (canonical b n).sources (column_of did.first bits did.start))
-run-means b n ys meaning nodes finish bits some did gives =
+run-means b n ys meaning begin nodes finish bits some did gives =
     ap (numbers n (results b) (canonical b n).results) (did.does bits)
     ∙ gives.value (canonical_rows b n) (canonical b n) (column_of did.first bits did.start)
     (canonical-fits b n some)
 
 pub right : (a b : Shape) (n : ℕ) (xs ys : List Issue) (meaning : List ℕ → List ℕ)
     (nodes : List Node) (end finish : Cells) → 0 < n → SameKinds a b → AreGood a n xs
-    → IsRun a n xs nodes end → IsRun b n ys nodes finish → Gives b n ys meaning
+    → IsRun a n xs Variables nodes end → IsRun b n ys Variables nodes finish → Gives b n ys meaning
     → ResultsAgree a n nodes end finish → Gives a n xs meaning
 right a b n xs ys meaning nodes end finish some same good ran did gives agree =
     enough-from a n xs meaning some good (λ q c t fits.
@@ -67,8 +69,8 @@ right a b n xs ys meaning nodes end finish some same good ran did gives agree =
       ap (numbers n (results a) (canonical a n).results) (sym (ran.does bits))
           ∙ results-same a n nodes end finish some agree bits
           ∙ results-renamed a b n (column_of nodes bits finish) same
-          ∙ run-means b n ys meaning nodes finish bits some did gives
-          ∙ ap meaning (sym (sources-same a b n ran.first did.first ran.start did.start bits some
-          same ran.starts did.starts (values-inside a n ran.start ran.start_rows)
+          ∙ run-means b n ys meaning Variables nodes finish bits some did gives
+          ∙ ap meaning (sym (sources-same a b n Variables Variables ran.first did.first ran.start
+          did.start bits some same tt tt ran.starts did.starts (values-inside a n ran.start ran.start_rows)
           (values-inside b n did.start did.start_rows))),
     ))

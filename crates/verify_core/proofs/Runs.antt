@@ -17,27 +17,30 @@ use Rattle.bdd.proofs.Laws.{value-kept}
 use Rattle.symbolic_column.specs.Symbols.{AreCells, Cells, edge_at, column_of}
 use Rattle.symbolic_column.proofs.Lines.{column-kept, cells-kept}
 use Rattle.binding_laws.specs.Alike.{Alike}
-use Rattle.binding_laws.specs.Canonical.{canonical, canonical_rows, result_rows, value_rows, moved, bases}
-use Rattle.binding_laws.proofs.Settled.{canonical-fits, moved-alike, same-alike, base-at, base-small}
+use Rattle.binding_laws.specs.Canonical.{canonical, canonical_rows, result_rows, value_rows, bases}
+use Rattle.binding_laws.proofs.Settled.{canonical-fits, moved, moved-alike, same-alike, base-at, base-small}
 use Rattle.binding_laws.proofs.Enough.{numbers-same}
-use Rattle.verify_core.specs.Starts.{IsStart, bits_of, row_variable}
+use Rattle.verify_core.specs.declared.start.Begin.{Begin}
+use Rattle.verify_core.specs.declared.start.Begin.TheVariants.{Variables}
+use Rattle.verify_core.specs.Starts.{IsMeant, IsStart, row_variable}
 use Rattle.verify_core.specs.SymbolicRuns.{IsRun, IsDifference, ResultsDiffer}
 use Rattle.verify_core.specs.Verdicts.{SameKinds}
-use Rattle.verify_core.proofs.Orders.{bits-tee, bits-dual, bits-row}
+use Rattle.verify_core.proofs.Orders.{bits_of, bits-tee, bits-dual, bits-row}
 
 -- a diagram that grew keeps the variables
-pub start-kept : (x y : List Node) (n s r : ℕ) (c : Cells) → Keeps x y → AreCells x c
-    → IsStart x n s r c → IsStart y n s r c
-start-kept x y n s r c k all i = record {
-  tees = λ bits j l. value-kept x y bits (edge_at c (T j)) k (all (T j)) ∙ i.tees bits j l;
-  duals = λ bits j l. value-kept x y bits (edge_at c (Dcc j)) k (all (Dcc j)) ∙ i.duals bits j l;
-  rows = λ bits j l. value-kept x y bits (edge_at c (D j)) k (all (D j)) ∙ i.rows bits j l;
+pub start-kept : (x y : List Node) (b : Begin) (n s r : ℕ) (c : Cells) → Keeps x y → AreCells x c
+    → IsStart x b n s r c → IsStart y b n s r c
+start-kept x y b n s r c k all i = record {
+  tees = λ bits m j l. value-kept x y bits (edge_at c (T j)) k (all (T j)) ∙ i.tees bits m j l;
+  duals = λ bits m j l. value-kept x y bits (edge_at c (Dcc j)) k (all (Dcc j))
+      ∙ i.duals bits m j l;
+  rows = λ bits m j l. value-kept x y bits (edge_at c (D j)) k (all (D j)) ∙ i.rows bits m j l;
 }
 
 -- and what a run came to
-pub run-kept : (shape : Shape) (n : ℕ) (issues : List Issue) (x y : List Node) (end : Cells)
-    → Keeps x y → IsRun shape n issues x end → IsRun shape n issues y end
-run-kept shape n issues x y end k ran = record {
+pub run-kept : (shape : Shape) (n : ℕ) (issues : List Issue) (b : Begin) (x y : List Node)
+    (end : Cells) → Keeps x y → IsRun shape n issues b x end → IsRun shape n issues b y end
+run-kept shape n issues b x y end k ran = record {
   first = ran.first;
   start = ran.start;
   starts = ran.starts;
@@ -75,7 +78,7 @@ results-kept shape n old new last own made e k l p q d = record {
 -- an assignment that gives a column, as far as the canonical bank goes
 pub start-alike : (shape : Shape) (n q : ℕ) (c : Bound) (t : Column) (issues : List Issue)
     (nodes : List Node) (end : Cells) → 0 < n → Fits q shape n c
-    → (ran : IsRun shape n issues nodes end)
+    → (ran : IsRun shape n issues Variables nodes end)
     → (let bits = bits_of n (length shape.sources) (result_rows shape n) (moved shape n q c t) in
     Alike shape n (canonical_rows shape n) q (canonical shape n) c
     (column_of ran.first bits ran.start) t)
@@ -85,19 +88,20 @@ start-alike shape n q c t issues nodes end some fits ran =
     let r = result_rows shape n in
     let bits = bits_of n s r m in
     same-alike shape n q c (column_of ran.first bits ran.start) m t some
-    (λ k l. ran.starts.tees bits k l ∙ bits-tee n s r m k l)
-    (λ k l. ran.starts.duals bits k l ∙ bits-dual n s r m k l)
-    (λ k l. ran.starts.rows bits k (omega (arith, ran.start_rows, l)) ∙ bits-row n s r m k some)
+    (λ k l. ran.starts.tees bits tt k l ∙ bits-tee n s r m k l)
+    (λ k l. ran.starts.duals bits tt k l ∙ bits-dual n s r m k l)
+    (λ k l. ran.starts.rows bits tt k (omega (arith, ran.start_rows, l)) ∙ bits-row n s r m k some)
     (moved-alike shape n q c t some fits)
 
 -- columns of variables hold the same numbers as sources, whatever the scratch
-pub sources-same : (a b : Shape) (n : ℕ) (x y : List Node) (c d : Cells) (bits : ℕ → Bool) → 0 < n
-    → SameKinds a b → IsStart x n (length a.sources) (result_rows a n) c
-    → IsStart y n (length b.sources) (result_rows b n) d → value_rows a n ≤ length c.rows
+pub sources-same : (a b : Shape) (n : ℕ) (f g : Begin) (x y : List Node) (c d : Cells)
+    (bits : ℕ → Bool) → 0 < n → SameKinds a b → IsMeant f bits → IsMeant g bits
+    → IsStart x f n (length a.sources) (result_rows a n) c
+    → IsStart y g n (length b.sources) (result_rows b n) d → value_rows a n ≤ length c.rows
     → value_rows b n ≤ length d.rows
     → numbers n a.sources (canonical a n).sources (column_of x bits c)
     ≡ numbers n b.sources (canonical b n).sources (column_of y bits d)
-sources-same a b n x y c d bits some same p q long wide =
+sources-same a b n f g x y c d bits some same mf mg p q long wide =
     numbers-same (canonical_rows a n) (canonical_rows a n) n a.sources
     (bases n (result_rows a n) a.sources) (bases n (result_rows a n) a.sources)
     (column_of x bits c) (column_of y bits d) (canonical-fits a n some).sources
@@ -120,10 +124,10 @@ sources-same a b n x y c d bits some same p q long wide =
 
     at : (k : ℕ) → k < value_rows a n → column_of x bits c (D k) ≡ column_of y bits d (D k)
     at k l =
-        p.rows bits k (omega (arith, l, long))
+        p.rows bits mf k (omega (arith, l, long))
         ∙ ap (λ (r : ℕ). bits (6 + row_variable n (length a.sources) r k)) rows-one
         ∙ ap (λ (s : ℕ). bits (6 + row_variable n s (result_rows b n) k)) sources-one
-        ∙ sym (q.rows bits k (omega (
+        ∙ sym (q.rows bits mg k (omega (
           arith,
           l,
           wide,

@@ -1,4 +1,4 @@
--- A microprogram that ran on variables, and where two such runs differ
+-- A microprogram that ran on variables or values, and where two such runs differ
 use Rattle.std.specs.Prelude.{◌≡◌, ◌≢◌, ℕ, ◌+◌, ◌*◌, ◌^◌, ◌<◌, Bool, true, false, List, length}
 use Rattle.std.specs.Prelude.{slice_get, filter}
 use Rattle.bit_rows.specs.Bits.{flip_if}
@@ -15,16 +15,17 @@ use Rattle.symbolic_column.specs.Symbols.{AreCells, Cells, column_of}
 use Rattle.uprog_code.specs.Implements.{numbers}
 use Rattle.binding_laws.specs.Canonical.{bases, canonical, canonical_rows, result_rows}
 use Rattle.verify_core.specs.declared.case.Case.{Case}
-use Rattle.verify_core.specs.Starts.{IsStart}
+use Rattle.verify_core.specs.declared.start.Begin.{Begin}
+use Rattle.verify_core.specs.Starts.{IsMeant, IsStart}
 use Rattle.verify_core.specs.Verdicts.{work_cells}
 
--- the commands, bound to the canonical bank, lead from a column of variables to this column, under
--- each assignment
-pub record IsRun (shape : Shape) (n : ℕ) (issues : List Issue) (nodes : List Node) (end : Cells)
-    : Type 0 where
+-- the commands, bound to the canonical bank, lead from a column that begins so to this column,
+-- under each assignment
+pub record IsRun (shape : Shape) (n : ℕ) (issues : List Issue) (begin : Begin) (nodes : List Node)
+    (end : Cells) : Type 0 where
   pub first : List Node
   pub start : Cells
-  pub starts : IsStart first n (length shape.sources) (result_rows shape n) start
+  pub starts : IsStart first begin n (length shape.sources) (result_rows shape n) start
   pub start_rows : length start.rows ≡ canonical_rows shape n
   pub does : (bits : ℕ → Bool) → column_of nodes bits end
       ≡ run (bound (canonical_rows shape n) shape n (canonical shape n) issues)
@@ -55,15 +56,14 @@ ResultsAgree shape n nodes own made = (bits : ℕ → Bool) (which position : �
     → column_of nodes bits own (D (which * n + position))
     ≡ column_of nodes bits made (D (which * n + position))
 
--- the case's numbers stand in a column of variables and in both columns, under an assignment under
--- which the edge is true
-pub record IsCase (shape : Shape) (n : ℕ) (nodes : List Node) (own made : Cells) (e : Edge)
-    (case : Case) : Type 0 where
-  pub bits : ℕ → Bool
+-- the case's numbers stand in a column that begins so and in both columns, under an assignment that
+-- is meant
+pub record IsCase (shape : Shape) (n : ℕ) (begin : Begin) (nodes : List Node) (own made : Cells)
+    (bits : ℕ → Bool) (case : Case) : Type 0 where
   pub start : Cells
-  pub starts : IsStart nodes n (length shape.sources) (result_rows shape n) start
+  pub starts : IsStart nodes begin n (length shape.sources) (result_rows shape n) start
+  pub meant : IsMeant begin bits
   pub rows : length start.rows ≡ canonical_rows shape n
-  pub is_true : value nodes bits e ≡ true
   pub sources : case.sources.items ≡ numbers n shape.sources
       (bases n (result_rows shape n) shape.sources) (column_of nodes bits start)
   pub got : case.got.items ≡ numbers n (results shape) (bases n 0 (results shape))
@@ -71,3 +71,11 @@ pub record IsCase (shape : Shape) (n : ℕ) (nodes : List Node) (own made : Cell
   pub wanted : case.wanted.items ≡ numbers n (results shape) (bases n 0 (results shape))
       (column_of nodes bits made)
   pub ones : case.ones.items ≡ filter (column_of nodes bits start) (work_cells shape n)
+
+-- such a case, under an assignment under which the edge is true
+pub record IsCaseOf (shape : Shape) (n : ℕ) (old new : List Node) (own made : Cells) (e : Edge)
+    (case : Case) : Type 0 where
+  pub begin : Begin
+  pub bits : ℕ → Bool
+  pub is_true : value old bits e ≡ true
+  pub numbers : IsCase shape n begin new own made bits case

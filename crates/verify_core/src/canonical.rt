@@ -11,7 +11,7 @@ use arrayvec::ArrayVec;
 use uprog_code::{Binding, Head, Kind};
 
 /// How many rows the results take.
-pub(crate) fn rows_of_results(head: &Head, n: u8) -> u16
+pub fn rows_of_results(head: &Head, n: u8) -> u16
     requires { n ≤ 128 }
     ensures value { result ≡ result_rows (shape_of head.now) n }
     ensures small { result ≤ 256 }

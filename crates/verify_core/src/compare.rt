@@ -5,9 +5,9 @@ ghost use Rattle.std.specs.Prelude.{length, true, false, ◌≢◌};
 ghost use Rattle.dram_model.specs.declared.address.Cell.TheVariants.{D};
 ghost use Rattle.uprog_code.specs.Machine.{in_kind};
 ghost use Rattle.uprog_code.specs.Shape.{shape_of, width};
-ghost use Rattle.bdd.specs.declared.Shortage.TheVariants.{Full};
+ghost use Rattle.bdd.specs.declared.Shortage.{Shortage};
 ghost use Rattle.bdd.specs.Edges.{constant};
-ghost use Rattle.bdd.specs.Graphs.{AreNodes, Keeps};
+ghost use Rattle.bdd.specs.Graphs.{AreNodes, HasReached, Keeps};
 ghost use Rattle.symbolic_column.specs.Symbols.{AreCells, column_of};
 ghost use Rattle.binding_laws.specs.Canonical.{result_rows};
 ghost use Rattle.verify_core.specs.SymbolicRuns.{IsDifference, ResultsAgree, ResultsDiffer};
@@ -48,8 +48,8 @@ fn first_difference(
         × IsDifference diagram.old.nodes diagram.new.nodes own.now made.now (first + i) e)) }
     ensures nodes { AreNodes diagram.new.nodes }
     ensures keeps { Keeps diagram.old.nodes diagram.new.nodes }
-    ensures bound { diagram.new.bound ≡ diagram.old.bound }
-    ensures full { result ≡ Err Full → diagram.old.bound ≤ length diagram.new.nodes }
+    ensures limits { diagram.new.limits ≡ diagram.old.limits }
+    ensures reached { (s : Shortage) → result ≡ Err s → HasReached s diagram.new }
 {
     for k in 0..count {
         let cell = Cell::D(first + u16::from(k));
@@ -82,8 +82,8 @@ fn second_difference(
         × IsDifference diagram.old.nodes diagram.new.nodes own.now made.now (n + i) e)) }
     ensures nodes { AreNodes diagram.new.nodes }
     ensures keeps { Keeps diagram.old.nodes diagram.new.nodes }
-    ensures bound { diagram.new.bound ≡ diagram.old.bound }
-    ensures full { result ≡ Err Full → diagram.old.bound ≤ length diagram.new.nodes }
+    ensures limits { diagram.new.limits ≡ diagram.old.limits }
+    ensures reached { (s : Shortage) → result ≡ Err s → HasReached s diagram.new }
 {
     match second {
         None => Ok(None),
@@ -115,8 +115,8 @@ pub(crate) fn results_difference(
         diagram.old.nodes diagram.new.nodes own.now made.now e)) }
     ensures nodes { AreNodes diagram.new.nodes }
     ensures keeps { Keeps diagram.old.nodes diagram.new.nodes }
-    ensures bound { diagram.new.bound ≡ diagram.old.bound }
-    ensures full { result ≡ Err Full → diagram.old.bound ≤ length diagram.new.nodes }
+    ensures limits { diagram.new.limits ≡ diagram.old.limits }
+    ensures reached { (s : Shortage) → result ≡ Err s → HasReached s diagram.new }
 {
     match first_difference(own, made, 0, rows_of_kind(head.result, n), diagram)? {
         Some(e) => Ok(Some(e)),

@@ -7,7 +7,6 @@ use Rattle.std.specs.List.{AllByRecursion, list_all, position_or_len}
 use Rattle.std.proofs.lemmas.List.Folds.{find_at}
 use Rattle.std.proofs.lemmas.Option.{slice_get_past}
 use Rattle.uprog_code.specs.declared.code.EntryCode.{EntryCode}
-use Rattle.bit_rows.specs.declared.TheConstants.{WIDTH_MAX}
 use Rattle.uprog_code.specs.Shape.{Microprogram, Shape, microprogram_of, shape_of}
 use Rattle.uprog_code.specs.Machine.{HasEnded, trace}
 use Rattle.uprog_code.specs.Legal.{IsLegalCode}
@@ -18,8 +17,12 @@ use Rattle.verify_core.specs.declared.verdict.Verdict.TheVariants.{Right, Wrong,
 use Rattle.verify_core.specs.declared.verdict.Verdict.TheVariants.{Unknown}
 use Rattle.verify_job.specs.declared.finding.Finding.{Finding}
 use Rattle.verify_job.specs.declared.finding.Finding.TheVariants.{NoEntry, Entry}
-use Rattle.verify_job.specs.Findings.{AreFindings, HasRight, IsFinding, is_right, may_be_right}
+use Rattle.verify_job.specs.declared.finding.FoundAt.{FoundAt}
+use Rattle.verify_job.specs.declared.finding.OpFindings.{OpFindings}
+use Rattle.verify_job.specs.Findings.{AreAtWidths, AreFindings, HasRight, HaveRight, IsFinding}
+use Rattle.verify_job.specs.Findings.{is_right, is_right_throughout, may_be_right_throughout}
 use Rattle.verify_job.specs.Findings.{status_of}
+use Rattle.verify_job.specs.Widths.{AllEnd}
 
 -- an entry of a program that does ops, with its op
 pub op_there : (items : List EntryCode) (ops : List TextOp) (k : ℕ) (x : EntryCode)
@@ -32,22 +35,36 @@ op_there (y ∷ items) (o ∷ ops) zero x does lt e =
 op_there (y ∷ items) (o ∷ ops) (suc k) x does lt e =
     op_there items ops k x does.1 (omega arith) e
 
--- one more finding
-pub found_more : (n : ℕ) (program : Program) (items : List EntryCode) (ops : List TextOp) (k : ℕ)
-    (x : EntryCode) (found : List Finding) (f : Finding)
+-- the finding at one more width
+pub found_at : (widths : List ℕ) (program : Program) (o : TextOp) (k n : ℕ) (found : List FoundAt)
+    (f : FoundAt) → k < length widths → n ≡ slice_index_or widths k n → f.width ≡ n
+    → IsFinding n program o f.finding → AreAtWidths (take k widths) program o found
+    → AreAtWidths (take (suc k) widths) program o (found ++ f ∷ [])
+found_at [] program o k n found f lt e w is are = absurd (omega arith)
+found_at (m ∷ ms) program o zero n [] f lt e w is are =
+    (w ∙ e, subst (λ (x : ℕ). IsFinding x program o f.finding) e is, tt)
+found_at (m ∷ ms) program o zero n (g ∷ found) f lt e w is are = absurd are
+found_at (m ∷ ms) program o (suc k) n [] f lt e w is are = absurd are
+found_at (m ∷ ms) program o (suc k) n (g ∷ found) f lt e w is are =
+    (are.0, are.1, found_at ms program o k n found f (omega arith) e w is are.2)
+
+-- the findings of one more op
+pub found_more : (widths : List ℕ) (program : Program) (items : List EntryCode) (ops : List TextOp)
+    (k : ℕ) (x : EntryCode) (found : List OpFindings) (f : OpFindings)
     → ImplementsAll (map microprogram_of items) ops → k < length items
     → x ≡ slice_index_or items k x
-    → ((o : TextOp) → EntryDoes (microprogram_of x) o → IsFinding n program o f)
-    → AreFindings n program (take k ops) found
-    → AreFindings n program (take (suc k) ops) (found ++ f ∷ [])
-found_more n program [] ops k x found f does lt e own are = absurd (omega arith)
-found_more n program (y ∷ items) [] k x found f does lt e own are = absurd does
-found_more n program (y ∷ items) (o ∷ ops) zero x [] f does lt e own are =
+    → ((o : TextOp) → EntryDoes (microprogram_of x) o → AreAtWidths widths program o f.at.items)
+    → AreFindings widths program (take k ops) found
+    → AreFindings widths program (take (suc k) ops) (found ++ f ∷ [])
+found_more widths program [] ops k x found f does lt e own are = absurd (omega arith)
+found_more widths program (y ∷ items) [] k x found f does lt e own are = absurd does
+found_more widths program (y ∷ items) (o ∷ ops) zero x [] f does lt e own are =
     (own o (subst (λ (z : EntryCode). EntryDoes (microprogram_of z) o) (sym e) does.0), tt)
-found_more n program (y ∷ items) (o ∷ ops) zero x (g ∷ found) f does lt e own are = absurd are
-found_more n program (y ∷ items) (o ∷ ops) (suc k) x [] f does lt e own are = absurd are
-found_more n program (y ∷ items) (o ∷ ops) (suc k) x (g ∷ found) f does lt e own are =
-    (are.0, found_more n program items ops k x found f does.1 (omega arith) e own are.1)
+found_more widths program (y ∷ items) (o ∷ ops) zero x (g ∷ found) f does lt e own are =
+    absurd are
+found_more widths program (y ∷ items) (o ∷ ops) (suc k) x [] f does lt e own are = absurd are
+found_more widths program (y ∷ items) (o ∷ ops) (suc k) x (g ∷ found) f does lt e own are =
+    (are.0, found_more widths program items ops k x found f does.1 (omega arith) e own are.1)
 
 -- as many ops as entries
 pub as_many : (es : List Microprogram) (ops : List TextOp) → ImplementsAll es ops
@@ -72,27 +89,61 @@ pub both : (a b : Bool) → a && b ≡ true → (a ≡ true) × (b ≡ true)
 both true b e = (refl, e)
 both false b e = absurd (cc)
 
-right_all : (n : ℕ) (program : Program) (ops : List TextOp) (found : List Finding)
-    → list_all is_right found ≡ true → AreFindings n program ops found
+right_widths : (widths : List ℕ) (program : Program) (o : TextOp) (found : List FoundAt)
+    → list_all (λ f. is_right f.finding) found ≡ true → AreAtWidths widths program o found
+    → AllByRecursion (λ n. HasRight n program o) widths
+right_widths [] program o found e are = tt
+right_widths (n ∷ ns) program o [] e are = absurd are
+right_widths (n ∷ ns) program o (f ∷ fs) e are =
+    let parts = both (is_right f.finding) (list_all (λ f. is_right f.finding) fs) e in (
+      right_one n program o f.finding parts.0 are.1,
+      right_widths ns program o fs parts.1 are.2,
+    )
+
+right_ops : (widths : List ℕ) (program : Program) (ops : List TextOp) (found : List OpFindings)
+    → list_all is_right_throughout found ≡ true → AreFindings widths program ops found
+    → AllByRecursion (λ o. AllByRecursion (λ n. HasRight n program o) widths) ops
+right_ops widths program [] found e are = tt
+right_ops widths program (o ∷ ops) [] e are = absurd are
+right_ops widths program (o ∷ ops) (f ∷ found) e are =
+    let parts = both (is_right_throughout f) (list_all is_right_throughout found) e in (
+      right_widths widths program o f.at.items parts.0 are.0,
+      right_ops widths program ops found parts.1 are.1,
+    )
+
+firsts : (n : ℕ) (widths : List ℕ) (program : Program) (ops : List TextOp)
+    → AllByRecursion (λ o. AllByRecursion (λ m. HasRight m program o) (n ∷ widths)) ops
     → AllByRecursion (HasRight n program) ops
-right_all n program [] found e are = tt
-right_all n program (o ∷ ops) [] e are = absurd are
-right_all n program (o ∷ ops) (f ∷ found) e are =
-    let parts = both (is_right f) (list_all is_right found) e in
-    (right_one n program o f parts.0 are.0, right_all n program ops found parts.1 are.1)
+firsts n widths program [] all = tt
+firsts n widths program (o ∷ ops) all = (all.0.0, firsts n widths program ops all.1)
+
+rests : (n : ℕ) (widths : List ℕ) (program : Program) (ops : List TextOp)
+    → AllByRecursion (λ o. AllByRecursion (λ m. HasRight m program o) (n ∷ widths)) ops
+    → AllByRecursion (λ o. AllByRecursion (λ m. HasRight m program o) widths) ops
+rests n widths program [] all = tt
+rests n widths program (o ∷ ops) all = (all.0.1, rests n widths program ops all.1)
+
+have_right : (widths : List ℕ) (program : Program) (ops : List TextOp)
+    → AllByRecursion (λ o. AllByRecursion (λ n. HasRight n program o) widths) ops
+    → HaveRight widths program ops
+have_right [] program ops all = tt
+have_right (n ∷ widths) program ops all = (
+  firsts n widths program ops all,
+  have_right widths program ops (rests n widths program ops all),
+)
 
 pub zero_all : (a b : Bool) → ◌≡◌ {A = ℕ} (cond a 0 (cond b 20 19)) 0 → a ≡ true
 zero_all true b e = refl
 zero_all false true e = absurd (cc)
 zero_all false false e = absurd (cc)
 
--- where the status is 0, the program has for each op an entry that does it
-pub all_right : (n : ℕ) (program : Program) (ops : List TextOp) (found : List Finding)
-    → status_of found ≡ 0 → AreFindings n program ops found
-    → AllByRecursion (HasRight n program) ops
-all_right n program ops found e are =
-    right_all n program ops found
-    (zero_all (list_all is_right found) (list_all may_be_right found) e) are
+-- where the status is 0, the program has for each op an entry that does it at each width
+pub all_right : (widths : List ℕ) (program : Program) (ops : List TextOp)
+    (found : List OpFindings) → status_of found ≡ 0 → AreFindings widths program ops found
+    → HaveRight widths program ops
+all_right widths program ops found e are =
+    have_right widths program ops (right_ops widths program ops found
+    (zero_all (list_all is_right_throughout found) (list_all may_be_right_throughout found) e) are)
 
 -- the entry of an op's name, by its place
 
@@ -138,14 +189,13 @@ legal_there (y ∷ items) (suc k) x legal lt e =
     legal_there items k x legal.1 (omega arith) e
 
 -- an entry of a program that does ops is legal, and its walks end
-pub entry_there : (n : ℕ) (items : List EntryCode) (ops : List TextOp) (k : ℕ) (x : EntryCode)
-    → 0 < n → n ≤ WIDTH_MAX → ImplementsAll (map microprogram_of items) ops
-    → IsProgram (map microprogram_of items) → k < length items → x ≡ slice_index_or items k x
-    → IsLegalCode (shape_of x.head) x.code.items
-    × HasEnded (trace (shape_of x.head) x.code.items n)
-entry_there n items ops k x some narrow does legal lt e =
+pub entry_there : (items : List EntryCode) (ops : List TextOp) (k : ℕ) (x : EntryCode)
+    → ImplementsAll (map microprogram_of items) ops → IsProgram (map microprogram_of items)
+    → k < length items → x ≡ slice_index_or items k x
+    → IsLegalCode (shape_of x.head) x.code.items × AllEnd (shape_of x.head) x.code.items
+entry_there items ops k x does legal lt e =
     let o = op_there items ops k x does lt e in (
       (legal_there items k x legal.entries lt e).code,
-      subst (λ (s : Shape). HasEnded (trace s x.code.items n)) (sym o.1.shape)
+      λ n some narrow. subst (λ (s : Shape). HasEnded (trace s x.code.items n)) (sym o.1.shape)
           (o.1.code.ends n some narrow),
     )

@@ -1,3 +1,4 @@
 mod Written
 pub mod Found
 pub mod Apart
+pub mod Runs

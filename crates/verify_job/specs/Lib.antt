@@ -2,3 +2,4 @@
 pub mod Findings
 pub mod Cells
 pub mod Report
+pub mod Widths

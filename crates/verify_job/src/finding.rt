@@ -6,24 +6,16 @@ ghost use Rattle.uprog_code.specs.Machine.{HasEnded, trace};
 ghost use Rattle.uprog_code.specs.Legal.{IsLegalCode};
 ghost use Rattle.uprog_code.specs.Programs.{IsProgram};
 ghost use Rattle.uprog_code.specs.Texts.{EntryDoes, ImplementsAll, TextOp};
-ghost use Rattle.verify_job.specs.Findings.{AreFindings, IsFinding};
+ghost use Rattle.verify_job.specs.Findings.{AreAtWidths, AreFindings, IsFinding};
+ghost use Rattle.prog_text.specs.Widths.{AreWidths};
+ghost use Rattle.verify_job.specs.Widths.{AllEnd};
 
-use bdd::Diagram;
 use bit_rows::WIDTH_MAX;
 use faults::{NoMemory, keep};
 use std::alloc::Global;
 use uprog_bin::ProgView;
 use uprog_code::{EntryCode, Fetch, Head, Program};
-use verify_core::{Verdict, verify_entry};
-
-/// The greatest number of nodes of an op's diagram.
-const NODES_MAX: u32 = 4_000_000;
-
-/// How many slots the table of its nodes begins with.
-const SLOTS: usize = 4096;
-
-/// How many answers it has room for at first.
-const ANSWERS: usize = 1 << 17;
+use verify_core::{Verdict, fresh_diagram, verify_entry};
 
 /// What is found of the entry of an op's name.
 #[derive(Drop)]
@@ -34,7 +26,21 @@ pub enum Finding {
     Entry(Head, Verdict),
 }
 
-/// What is found of the entry of an op's name, by the compiler's microprogram of the op.
+/// What is found of the entry of an op's name at one of the widths.
+#[derive(Drop)]
+pub struct FoundAt {
+    pub width: u8,
+    pub finding: Finding,
+}
+
+/// What is found of the entry of an op's name at each of the widths, in order.
+#[derive(Drop)]
+pub struct OpFindings {
+    pub at: Vec<FoundAt>,
+}
+
+/// What is found of the entry of an op's name, by the compiler's microprogram of the op. The
+/// diagram is dropped with it.
 fn finding_of(
     made: &EntryCode,
     prog: &ProgView<'_>,
@@ -51,36 +57,57 @@ fn finding_of(
     match prog.find(&made.head.name) {
         None => Ok(Finding::NoEntry),
         Some(at) => {
-            let mut diagram = Diagram::new(NODES_MAX, SLOTS, ANSWERS, alloc)?;
             let entry = prog.entry(at);
+            let mut diagram = fresh_diagram(&entry, made, n, alloc)?;
             let verdict = verify_entry(&entry, made, n, &mut diagram, alloc)?;
             Ok(Finding::Entry(entry.head(), verdict))
         }
     }
 }
 
-/// What is found of the program's entry of each op's name, in order, at a width, by the program
-/// that the compiler made of the ops. Each op has its own diagram, of at most 4,000,000 nodes.
+/// What is found at each of the widths.
+fn findings_of(
+    made: &EntryCode,
+    prog: &ProgView<'_>,
+    widths: &[u8],
+    alloc: Global,
+) -> Result<OpFindings, NoMemory>
+    requires widths { AreWidths widths.now }
+    requires legal { IsLegalCode (shape_of made.now.head) made.now.code.items }
+    requires ends { AllEnd (shape_of made.now.head) made.now.code.items }
+    ensures { IfOk result (λ found. (o : TextOp) → EntryDoes (microprogram_of made.now) o
+        → AreAtWidths widths.now prog.now.programs o found.at.items) }
+{
+    let mut at = Vec::new(alloc);
+    for width in widths {
+        let width = *width;
+        let finding = finding_of(made, prog, width, alloc)?;
+        keep(&mut at, FoundAt { width, finding })?;
+    }
+    Ok(OpFindings { at })
+}
+
+/// What is found of the program's entry of each op's name, in order, at each of the widths, by the
+/// program that the compiler made of the ops. Each op has its own diagram at each width.
 ///
 /// Only a lack of memory is an `Err`.
 pub fn verify_all(
     made: &Program,
     prog: &ProgView<'_>,
-    n: u8,
+    widths: &[u8],
     alloc: Global,
-) -> Result<Vec<Finding>, NoMemory>
-    requires some { 0 < n }
-    requires narrow { n ≤ WIDTH_MAX }
+) -> Result<Vec<OpFindings>, NoMemory>
+    requires widths { AreWidths widths.now }
     requires legal { IsProgram (microprograms_of made.now) }
     requires implements { (ops : List TextOp) × ImplementsAll (microprograms_of made.now) ops }
     ensures { IfOk result (λ found. (ops : List TextOp)
         → ImplementsAll (microprograms_of made.now) ops
-        → AreFindings n prog.now.programs ops found.items) }
+        → AreFindings widths.now prog.now.programs ops found.items) }
 {
     let mut found = Vec::new(alloc);
     for entry in made.entries.as_slice() {
-        let finding = finding_of(entry, prog, n, alloc)?;
-        keep(&mut found, finding)?;
+        let findings = findings_of(entry, prog, widths, alloc)?;
+        keep(&mut found, findings)?;
     }
     Ok(found)
 }

@@ -7,7 +7,8 @@ mod finding;
 mod laws;
 mod pieces;
 mod text;
+mod widths;
 
-pub use finding::{Finding, verify_all};
-pub use laws::{zero_is_never_nineteen, zero_says_right};
+pub use finding::{Finding, FoundAt, OpFindings, verify_all};
+pub use laws::{findings_are_alike, zero_is_never_nineteen, zero_says_right};
 pub use text::{report, status};

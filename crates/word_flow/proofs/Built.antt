@@ -19,7 +19,6 @@ line_first g (line.Put m) fs = refl
 line_first g (line.If r) fs = refl
 line_first g (line.Loop r) fs = refl
 line_first g (line.LoopTwo r) fs = refl
-line_first g (line.LoopThree r) fs = refl
 
 one_back : (ls : List Line) (k : ℕ) (d : Line) → 0 < k → k ≤ length ls
     → drop (k - 1) ls ≡ slice_index_or ls (k - 1) d ∷ drop k ls

@@ -1,6 +1,6 @@
 -- The flows of and_red and or_red do statements of them.
 use Rattle.word_flow.proofs.Common.{◌≡◌, ℕ, zero, suc, ◌+◌, ◌*◌, Bool, true, false, cond, List, []}
-use Rattle.word_flow.proofs.Common.{◌∷◌, not, refl, sym, ap, ◌∙◌, arith, ◌==◌, BodyCmd, Bit}
+use Rattle.word_flow.proofs.Common.{inl, inr, ◌∷◌, not, refl, sym, ap, ◌∙◌, arith, ◌==◌, BodyCmd, Bit}
 use Rattle.word_flow.proofs.Common.{WordOp, op_ceiling, op_value, Space, op_plain_ceiling, Extent}
 use Rattle.word_flow.proofs.Common.{Full, Owner, InRoom, InCells, flow_total, flow_aps, majority}
 use Rattle.word_flow.proofs.Common.{values_from, sense_three, first_node}
@@ -8,15 +8,14 @@ use Rattle.loop_laws.specs.Rooms.{One as OneRow}
 use Rattle.word_flow.proofs.Targets.{answers_of, Weights, body_holds, Operation, Value, OneDone}
 use Rattle.word_flow.proofs.Targets.{word_rooms, of_word, View, Step, stepped}
 use Rattle.word_flow.proofs.Numbers.{one_bit, any_gives, all_gives}
-use Rattle.word_flow.proofs.Reducing.{State, InRange, does, first_left, one_left, two_left}
-use Rattle.word_flow.proofs.Reducing.{reduction_does}
-use Rattle.word_flow.proofs.Reductions.{Part, Alone, Begun, One, Two, Three, Ended, code, reduction}
+use Rattle.word_flow.proofs.Reducing.{State, InRange, does, to_left, to_right, reduction_does}
+use Rattle.word_flow.proofs.Reductions.{Part, Alone, Begun, Left, Right, Ended, code, reduction}
 use Rattle.word_flow.proofs.Reductions.{joined, reduction_total}
 use Rattle.op_text.specs.declared.word_ops.WordOp.TheVariants as op
 use Rattle.word_lower.proofs.Setting as set
 
 abbrev known : List Owner
-known = InRoom 0 ∷ InRoom 1 ∷ InCells 1 ∷ InCells 2 ∷ InCells 3 ∷ InCells 12 ∷ []
+known = InRoom 0 ∷ InRoom 1 ∷ InCells 1 ∷ InCells 3 ∷ InCells 11 ∷ InCells 12 ∷ []
 
 abbrev es : List Extent
 es = OneRow ∷ Full ∷ []
@@ -31,15 +30,15 @@ w = record { plain = 1; less = 0; cost = 0; more = 7; aps = 0 }
 abbrev view : (ℕ → Bool) → State → View
 view x s (InRoom zero) v = s.y
 view x s (InRoom (suc k)) v = x v
-view x s (InCells c) v = cond (c == 1) s.t1 (cond (c == 2) s.t2 (cond (c == 3) s.t3 s.d1))
+view x s (InCells c) v = cond (c == 1) s.w (cond (c == 3) s.u (cond (c == 11) s.nu s.nw))
 
 abbrev start : View → State
 start c = record {
   y = c (InRoom 0) 0;
-  t1 = c (InCells 1) 0;
-  t2 = c (InCells 2) 0;
-  t3 = c (InCells 3) 0;
-  d1 = c (InCells 12) 0;
+  u = c (InCells 3) 0;
+  w = c (InCells 1) 0;
+  nu = c (InCells 11) 0;
+  nw = c (InCells 12) 0;
   alive = [];
   cost = 0;
   rounds = 0;
@@ -50,15 +49,13 @@ holds : (c : Bool) (s0 : Space) (w0 : ℕ) (s1 : Space) (w1 : ℕ) (b : Part)
 unfolding sense_three first_node
 holds true s0 w0 s1 w1 Alone = refl
 holds true s0 w0 s1 w1 Begun = refl
-holds true s0 w0 s1 w1 One = refl
-holds true s0 w0 s1 w1 Two = refl
-holds true s0 w0 s1 w1 Three = refl
+holds true s0 w0 s1 w1 Left = refl
+holds true s0 w0 s1 w1 Right = refl
 holds true s0 w0 s1 w1 Ended = refl
 holds false s0 w0 s1 w1 Alone = refl
 holds false s0 w0 s1 w1 Begun = refl
-holds false s0 w0 s1 w1 One = refl
-holds false s0 w0 s1 w1 Two = refl
-holds false s0 w0 s1 w1 Three = refl
+holds false s0 w0 s1 w1 Left = refl
+holds false s0 w0 s1 w1 Right = refl
 holds false s0 w0 s1 w1 Ended = refl
 
 module _ (n : ℕ) (x : ℕ → Bool) where
@@ -67,18 +64,19 @@ module _ (n : ℕ) (x : ℕ → Bool) where
       (does c x b g s).rounds s.alive (does c x b g s).alive each_one
   unfolding values_from
   step c Alone g s r = stepped (r, tt) (omega arith, tt) s.alive refl refl refl (λ d. refl) refl refl
-  step c Begun g s r = stepped (r, tt) (omega arith, tt) s.alive refl refl refl (λ d. refl) refl refl
-  step true One g s r = stepped (r.0, (omega arith, tt))
-      (omega arith, (omega arith, (omega arith, (omega arith, tt)))) first_left r.1 refl refl
-      (λ d. refl) refl refl
-  step false One g s r = stepped (r.0, (omega arith, tt))
-      (omega arith, (omega arith, (omega arith, (omega arith, tt)))) first_left r.1 refl refl
-      (λ d. refl) refl refl
-  step c Two g s r = stepped (r.0, (omega arith, (omega arith, (omega arith, tt))))
-      (omega arith, (omega arith, (omega arith, tt))) one_left r.1 refl refl (λ d. refl) refl refl
-  step c Three g s r = stepped (r.0, (omega arith, (omega arith, tt))) (omega arith, tt) two_left r.1
+  step c Begun g s r = stepped (r.0, (r.1, tt)) (omega arith, (omega arith, (omega arith, tt)))
+      s.alive refl refl refl (λ d. refl) refl refl
+  step c Left g s r = stepped (r.0, (omega arith, (omega arith, (omega arith, tt))))
+      (omega arith, (omega arith, (omega arith, tt))) to_left r.1 refl refl (λ d. refl) refl refl
+  step c Right g s r = stepped (r.0, (omega arith, (omega arith, (omega arith, tt))))
+      (omega arith, (omega arith, (omega arith, tt))) to_right r.1 refl refl (λ d. refl) refl refl
+  step true Ended g s (inl r) = stepped (omega arith, (omega arith, tt)) (omega arith, tt) to_left r
       refl refl (λ d. refl) refl refl
-  step c Ended g s r = stepped (r.0, (omega arith, (omega arith, tt))) (omega arith, tt) two_left r.1
+  step true Ended g s (inr r) = stepped (omega arith, (omega arith, tt)) (omega arith, tt) to_right r
+      refl refl (λ d. refl) refl refl
+  step false Ended g s (inl r) = stepped (omega arith, (omega arith, tt)) (omega arith, tt) to_left r
+      refl refl (λ d. refl) refl refl
+  step false Ended g s (inr r) = stepped (omega arith, (omega arith, tt)) (omega arith, tt) to_right r
       refl refl (λ d. refl) refl refl
 
 abbrev red_op : Bool → WordOp

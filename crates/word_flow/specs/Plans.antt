@@ -55,9 +55,6 @@ line_on g (line.Loop r) fs = let gs = others_of fs in
     Loop r (Last (first_of fs)) (first_of gs) ∷ others_of gs
 line_on g (line.LoopTwo r) fs = let gs = others_of fs in let hs = others_of gs in
     Loop r (Turn (first_of fs) (Last (first_of gs))) (first_of hs) ∷ others_of hs
-line_on g (line.LoopThree r) fs = let gs = others_of fs in let hs = others_of gs in
-    let is = others_of hs in Loop r (Turn (first_of fs) (Turn (first_of gs) (Last (first_of hs))))
-    (first_of is) ∷ others_of is
 
 -- the flows of some lines, up to their `Done` each
 abbrev pub flows_on : {A : Type 0} → (CodedBody → A) → List Line → List (FlowOf A)

@@ -77,8 +77,8 @@ flow_total o.Rem n = if n == 1 then 13 else 6 * (n * n) + 12 * n - 6
 flow_total o.Abs n = if n == 1 then 1 else 8 * n - 8
 flow_total o.Relu n = if n == 1 then 1 else 3 * n
 flow_total o.Bitcount n = if n == 1 then 1 else 7 * n + digits n n - 2 - 6 * ones_of n n
-flow_total o.AndRed n = 2 * n - 1 + (n + 1) / 3
-flow_total o.OrRed n = 2 * n - 1 + (n + 1) / 3
+flow_total o.AndRed n = if n == 1 then 1 else 2 * n
+flow_total o.OrRed n = if n == 1 then 1 else 2 * n
 flow_total o.XorRed n = 6 * (n / 2) + 1
 flow_total o.Divmod n = if n == 1 then 13 else 6 * (n * n) + 12 * n - 6
 flow_total p n = 0

@@ -83,21 +83,6 @@ fn two(flows: &mut Vec<Flow>, alloc: Global) -> Result<Turns, NoMemory>
     Ok(Turns::Turn(f, more))
 }
 
-/// Three turns of a loop.
-fn three(flows: &mut Vec<Flow>, alloc: Global) -> Result<Turns, NoMemory>
-    ensures first { IfOk result (λ t. (fs : List (FlowOf Block))
-        → map flow_of flows.old.items ≡ reverse fs → acts_of t ≡ Turn (first_of fs)
-        (Turn (first_of (others_of fs)) (Last (first_of (others_of (others_of fs)))))) }
-    ensures others { OnOk result ((fs : List (FlowOf Block))
-        → map flow_of flows.old.items ≡ reverse fs
-        → map flow_of flows.new.items ≡ reverse (others_of (others_of (others_of fs)))) }
-{
-    let f = boxed(flows, alloc)?;
-    let turns = two(flows, alloc)?;
-    let more = Box::new(alloc, turns)?;
-    Ok(Turns::Turn(f, more))
-}
-
 /// A loop of such turns, before the next flow.
 fn looped(
     flows: &mut Vec<Flow>,
@@ -150,10 +135,6 @@ fn begun(
         }
         Line::LoopTwo(register) => {
             let turns = two(flows, alloc)?;
-            looped(flows, *register, turns, alloc)
-        }
-        Line::LoopThree(register) => {
-            let turns = three(flows, alloc)?;
             looped(flows, *register, turns, alloc)
         }
         Line::Done => Ok(Flow::End),

@@ -51,9 +51,8 @@ pub enum Line {
     If(u8),
     /// One part, done as often as the register says.
     Loop(u8),
-    /// Two parts that take turns, or three.
+    /// Two parts that take turns.
     LoopTwo(u8),
-    LoopThree(u8),
     /// The end of a part, or of all.
     Done,
 }

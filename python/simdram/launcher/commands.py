@@ -76,10 +76,10 @@ PROGRAM = (
     Command("compile", (OPS, NEW_PROG), "compiles an operation text into a program file", "compile mac.ops mac.prog"),
     Command("exec", (PROG, SCRIPT, IMAGE, OUT), "as run, by a program file that is already compiled",
             "exec mac.prog mac.bbop mac.img out.img"),
-    Command("cost", (PROG, Word("N", "width")), "row commands and scratch rows of each entry at width N, 1 to 128",
-            "cost mac.prog 8"),
-    Command("verify", (OPS, PROG, Word("N", "width")), "whether the entries of PROG do the ops of OPS at width N, for all numbers "
-            "and whatever the cells hold", "verify mac.ops mac.prog 8"),
+    Command("cost", (PROG, Word("N", "width")), "row commands and scratch rows of each entry at width N, 1 to 128, or at several",
+            "cost mac.prog 8,16-32"),
+    Command("verify", (OPS, PROG, Word("N", "width")), "whether the entries of PROG do the ops of OPS at width N, or at each of several, "
+            "for all numbers and whatever the cells hold", "verify mac.ops mac.prog 1-128"),
     Command("show", (OPS,), "prints the text in its canonical form, or its first fault", "show mac.ops"),
     Command("list", (PROG,), "prints the microprograms of a program file, instruction by instruction", "list mac.prog"),
     Command("scan", (Word("QUERY", "query"), IMAGE), "counts the elements that match a query, by comparisons inside the chip",

@@ -31,7 +31,7 @@ its sources, else the program without proofs, which the first call compiles in a
 """
 # what an argument is that is no file
 NUMBERS = {
-    "width": "the width of the operands in bits, 1 to 128",
+    "width": "the width of the operands in bits, 1 to 128, or several, as 1-128 and 4,8,16-32",
     "banks": "the number of banks, 1 to 16",
     "rows": "the number of rows in a bank, 64 to 1006; the last 32 are reserved for spilled values",
     "words": "the number of 64-bit words in a row, 1 to 1024: a row has a column for each of their bits",

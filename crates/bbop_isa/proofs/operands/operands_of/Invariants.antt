@@ -1,9 +1,15 @@
-use Rattle.std.proofs.Common.{◌≡◌, map, drop}
-use Rattle.bbop_isa.specs.Forms.{operands_of}
+use Rattle.std.proofs.Common.{◌≡◌, ◌≤◌, ◌-◌, map, drop, length}
+use Rattle.bbop_isa.specs.Operands.{operands_of, terms_of}
 use Rattle.bbop_isa.specs.Words.{word_view}
 use Rattle.bbop_isa.specs.Reading.{left_in}
 use Rattle.bbop_isa.proofs.operands.operands_of.Given as goal
 
-abbrev pub invariant-loop-word : goal.invariant-loop-word
-invariant-loop-word l = operands_of (map word_view l.words)
-    ≡ left_in l.operands (map word_view (drop l.word-index l.words))
+abbrev pub invariant-loop-at : goal.invariant-loop-at
+invariant-loop-at l = record {
+  within : l.at ≤ length l.words;
+  left : operands_of (map word_view l.words)
+      ≡ left_in l.operands (terms_of (map word_view (drop l.at l.words)));
+}
+
+abbrev pub decreases-loop-at : goal.decreases-loop-at
+decreases-loop-at l = length l.words - l.at

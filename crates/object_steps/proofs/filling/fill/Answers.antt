@@ -41,7 +41,7 @@ returns-in_err-fill_object-in-Ok-clause-allowed g c = λ operations.
 pub returns-in_err-fill_object-in-Ok-clause-stopped :
     goal.returns-in_err-fill_object-in-Ok-clause-stopped
 returns-in_err-fill_object-in-Ok-clause-stopped g c = λ operations.
-    let instr = Fill c.args.name.now c.args.value in
+    let instr = Fill c.args.place.now c.args.value in
     let pairs = c.args.table.now.pairs in
     let old = g.D.Dram.view c.args.dram.now in
     let new = g.D.Dram.view c.fill_object.new.dram in
@@ -52,14 +52,14 @@ returns-in_err-fill_object-in-Ok-clause-stopped g c = λ operations.
 
 pub returns-in-Err-clause-reply : goal.returns-in-Err-clause-reply
 returns-in-Err-clause-reply g c = λ operations.
-    let instr = Fill c.args.name.now c.args.value in
+    let instr = Fill c.args.place.now c.args.value in
     let pairs = c.args.table.now.pairs in
     replies_refused (refusal c.args.g operations pairs instr) c.in-Err.why
     (counts_for c.args.g operations pairs instr) (c.in-Err.ensures.refused operations)
 
 pub returns-in-Err-clause-did : goal.returns-in-Err-clause-did
 returns-in-Err-clause-did g c = λ operations.
-    let instr = Fill c.args.name.now c.args.value in
+    let instr = Fill c.args.place.now c.args.value in
     let pairs = c.args.table.now.pairs in
     did_nothing (refusal c.args.g operations pairs instr) c.in-Err.why
     (own_events c.args.g pairs instr) (g.D.Dram.view c.args.dram.now)
@@ -68,7 +68,7 @@ returns-in-Err-clause-did g c = λ operations.
 pub returns-in_ok-fill_object-in-Ok-clause-reply :
     goal.returns-in_ok-fill_object-in-Ok-clause-reply
 returns-in_ok-fill_object-in-Ok-clause-reply g c = λ operations.
-    let instr = Fill c.args.name.now c.args.value in
+    let instr = Fill c.args.place.now c.args.value in
     let pairs = c.args.table.now.pairs in
     replies_done (refusal c.args.g operations pairs instr) c.filling_counts.result
     (counts_for c.args.g operations pairs instr) (c.in-Ok.ensures.allowed operations)
@@ -79,7 +79,7 @@ returns-in_ok-fill_object-in-Ok-clause-reply g c = λ operations.
 
 pub returns-in_ok-fill_object-in-Ok-clause-did : goal.returns-in_ok-fill_object-in-Ok-clause-did
 returns-in_ok-fill_object-in-Ok-clause-did g c = λ operations.
-    let instr = Fill c.args.name.now c.args.value in
+    let instr = Fill c.args.place.now c.args.value in
     let pairs = c.args.table.now.pairs in
     let old = g.D.Dram.view c.args.dram.now in
     let new = g.D.Dram.view c.fill_object.new.dram in

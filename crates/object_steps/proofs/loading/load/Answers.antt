@@ -48,7 +48,7 @@ returns-in_err-write_object-in-Ok-clause-allowed g c = λ operations.
 pub returns-in_err-write_object-in-Ok-clause-stopped :
     goal.returns-in_err-write_object-in-Ok-clause-stopped
 returns-in_err-write_object-in-Ok-clause-stopped g c = λ operations.
-    let instr = Load c.args.name.now c.args.values.now in
+    let instr = Load c.args.place.now c.args.values.now in
     let pairs = c.args.table.now.pairs in
     let old = g.D.Dram.view c.args.dram.now in
     let new = g.D.Dram.view c.write_object.new.dram in
@@ -61,14 +61,14 @@ returns-in_err-write_object-in-Ok-clause-stopped g c = λ operations.
 
 pub returns-in-Err-clause-reply : goal.returns-in-Err-clause-reply
 returns-in-Err-clause-reply g c = λ operations.
-    let instr = Load c.args.name.now c.args.values.now in
+    let instr = Load c.args.place.now c.args.values.now in
     let pairs = c.args.table.now.pairs in
     replies_refused (refusal c.args.g operations pairs instr) c.in-Err.why
     (counts_for c.args.g operations pairs instr) (c.in-Err.ensures.refused operations)
 
 pub returns-in-Err-clause-did : goal.returns-in-Err-clause-did
 returns-in-Err-clause-did g c = λ operations.
-    let instr = Load c.args.name.now c.args.values.now in
+    let instr = Load c.args.place.now c.args.values.now in
     let pairs = c.args.table.now.pairs in
     did_nothing (refusal c.args.g operations pairs instr) c.in-Err.why
     (own_events c.args.g pairs instr) (g.D.Dram.view c.args.dram.now)
@@ -77,14 +77,14 @@ returns-in-Err-clause-did g c = λ operations.
 pub returns-in_ok-write_object-in-Ok-clause-reply :
     goal.returns-in_ok-write_object-in-Ok-clause-reply
 returns-in_ok-write_object-in-Ok-clause-reply g c = λ operations.
-    let instr = Load c.args.name.now c.args.values.now in
+    let instr = Load c.args.place.now c.args.values.now in
     let pairs = c.args.table.now.pairs in
     replies_done (refusal c.args.g operations pairs instr) (record { aap = 0; ap = 0 })
     (counts_for c.args.g operations pairs instr) (c.in-Ok.ensures.allowed operations) refl
 
 pub returns-in_ok-write_object-in-Ok-clause-did : goal.returns-in_ok-write_object-in-Ok-clause-did
 returns-in_ok-write_object-in-Ok-clause-did g c = λ operations.
-    let instr = Load c.args.name.now c.args.values.now in
+    let instr = Load c.args.place.now c.args.values.now in
     let pairs = c.args.table.now.pairs in
     let old = g.D.Dram.view c.args.dram.now in
     let new = g.D.Dram.view c.write_object.new.dram in

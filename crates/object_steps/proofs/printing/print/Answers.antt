@@ -1,9 +1,16 @@
-use Rattle.std.proofs.Common.{◌≡◌, ◌++◌, ◌∙◌, List, ℕ, arith, refl, subst, take}
+use Rattle.std.proofs.Common.{◌≡◌, ◌++◌, ◌∙◌, List, [], ℕ, arith, refl, subst, take}
 use Rattle.std.specs.Prelude.{codes}
 use Rattle.host_edge.specs.Views.{Known, AppendsPart}
 use Rattle.dram_model.proofs.EventLaws.{Grew-none, Kept-same}
 use Rattle.machine_model.specs.Columns.{columns}
-use Rattle.object_steps.specs.Lines.{values_text}
+use Rattle.bbop_isa.specs.Forms.{Print}
+use Rattle.machine_model.specs.Refusals.{refusal}
+use Rattle.machine_model.specs.Report.{line, place_text}
+use Rattle.machine_model.specs.Report.Said.{Printed}
+use Rattle.machine_model.specs.Script.{rows_printed}
+use Rattle.machine_model.specs.Steps.{counts_for}
+use Rattle.object_steps.specs.Lines.{values_of, values_text}
+use Rattle.object_steps.proofs.Done.{did_not_read, replies_refused, sent_nothing}
 use Rattle.object_steps.proofs.Filled.{on_err}
 use Rattle.object_steps.proofs.Held.{more_held, part_of_more, then_all, then_part}
 use Rattle.object_steps.proofs.Rises.{few_reads}
@@ -73,8 +80,8 @@ returns-in_err-add_values-clause-part g c = λ operations.
     (take o.count (columns c.args.g banks o)) in
     on_err c.from_residual.result (subst (λ (xs : List ℕ). Known (AppendsPart xs) began.sent
     after.sent) (printed_is c.args.g operations c.args.table.now.pairs banks c.args.number
-    c.args.name.now c.args.shown.now c.line_head-text.result.items o c.in-Ok.ensures.there
-    c.in-Ok.ensures.object c.line_head-text.ensures.text) (part_of_more front (codes "\n")
+    c.args.place.now c.args.shown.now c.line_head-text.result.items o c.in-Ok.ensures.there
+    c.in-Ok.ensures.inside c.in-Ok.ensures.object c.line_head-text.ensures.text) (part_of_more front (codes "\n")
     began.sent after.sent c.in_err-add_values.ensures.part))
 
 pub returns-in-Ok-put-clause-rises : goal.returns-in-Ok-put-clause-rises
@@ -96,8 +103,8 @@ returns-in-Ok-put-clause-sent g c = λ operations.
     let last : List ℕ = c.as_slice.result.now in
     let whole : last ≡ held ++ codes "\n" = c.as_slice.ensures.value ∙ c.add.ensures.text in
     let all = printed_is c.args.g operations c.args.table.now.pairs banks c.args.number
-    c.args.name.now c.args.shown.now c.line_head-text.result.items o c.in-Ok.ensures.there
-    c.in-Ok.ensures.object c.line_head-text.ensures.text in
+    c.args.place.now c.args.shown.now c.line_head-text.result.items o c.in-Ok.ensures.there
+    c.in-Ok.ensures.inside c.in-Ok.ensures.object c.line_head-text.ensures.text in
     subst (λ (xs : List ℕ). Known (λ old new. new ≡ old ++ xs) began.sent after.sent) all
     (then_all (front ++ codes "\n") last began.sent before.sent after.sent
     (more_held front held (codes "\n") last began.sent before.sent whole
@@ -116,9 +123,34 @@ returns-in-Err-put-clause-part g c = λ operations.
     let last : List ℕ = c.as_slice.result.now in
     let whole : last ≡ held ++ codes "\n" = c.as_slice.ensures.value ∙ c.add.ensures.text in
     let all = printed_is c.args.g operations c.args.table.now.pairs banks c.args.number
-    c.args.name.now c.args.shown.now c.line_head-text.result.items o c.in-Ok.ensures.there
-    c.in-Ok.ensures.object c.line_head-text.ensures.text in
+    c.args.place.now c.args.shown.now c.line_head-text.result.items o c.in-Ok.ensures.there
+    c.in-Ok.ensures.inside c.in-Ok.ensures.object c.line_head-text.ensures.text in
     subst (λ (xs : List ℕ). Known (AppendsPart xs) began.sent after.sent) all
     (then_part (front ++ codes "\n") last began.sent before.sent after.sent
     (more_held front held (codes "\n") last began.sent before.sent whole
     c.in_ok-add_values.ensures.held) c.in-Err-put.ensures.part)
+
+pub returns-in-Err-clause-reply : goal.returns-in-Err-clause-reply
+returns-in-Err-clause-reply g c = λ operations.
+    let instr = Print c.args.place.now in
+    let pairs = c.args.table.now.pairs in
+    replies_refused (refusal c.args.g operations pairs instr) c.in-Err.why
+    (counts_for c.args.g operations pairs instr) (c.in-Err.ensures.refused [])
+
+pub returns-in-Err-clause-did : goal.returns-in-Err-clause-did
+returns-in-Err-clause-did g c = λ operations.
+    let instr = Print c.args.place.now in
+    let pairs = c.args.table.now.pairs in
+    did_not_read (refusal c.args.g operations pairs instr) c.in-Err.why
+    (rows_printed c.args.g pairs instr) (g.D.Dram.view c.args.dram.now)
+    (c.in-Err.ensures.refused [])
+
+pub returns-in-Err-clause-sent : goal.returns-in-Err-clause-sent
+returns-in-Err-clause-sent g c = λ operations.
+    let place = c.args.place.now in
+    let pairs = c.args.table.now.pairs in
+    let banks = (g.D.Dram.view c.args.dram.now).banks in
+    sent_nothing (refusal c.args.g operations pairs (Print place)) c.in-Err.why
+    (line c.args.number (Printed (place_text c.args.shown.now)
+    (values_of c.args.g banks pairs place))) (g.S.Sink.view c.args.out.now).sent
+    (c.in-Err.ensures.refused [])

@@ -4,4 +4,5 @@ use Rattle.prog_text.proofs.costs.cost_text.Given as goal
 
 -- what was written, with the entries that are left, is all
 abbrev pub invariant-loop-k : goal.invariant-loop-k
-invariant-loop-k l = l.out.items ++ costs l.n (drop l.k l.prog.programs) ≡ costs l.n l.prog.programs
+invariant-loop-k l = l.out.items ++ costs l.widths (drop l.k l.prog.programs)
+    ≡ costs l.widths l.prog.programs

@@ -16,7 +16,7 @@ segments-banks-requires-clause-object c =
     let s = c.args.setting.now in
     let m = program_of c.args.found in
     let b = c.args.bbop.now in
-    rw c.object_named.ensures (object_fits s.geometry s.table.now.pairs (routine_of m) b.dst.now
+    rw c.rows_of.ensures (object_fits s.geometry s.table.now.pairs (routine_of m) b.dst.now
     b.srcs.now b.count b.n c.requires.lies.objects
     (rw (← c.requires.lies.limit) c.requires.allowed))
 
@@ -38,7 +38,7 @@ returns-clause-job c =
     let s = c.args.setting.now in
     let m = program_of c.args.found in
     let b = c.args.bbop.now in
-    let banks = rw c.object_named.ensures at c.segments-banks.ensures.value in
+    let banks = rw c.rows_of.ensures at c.segments-banks.ensures.value in
     job_is s.geometry s.table.now.pairs m b.dst.now b.srcs.now b.n _ _
     c.bind-binding.ensures.width
     (bound_is s.geometry s.table.now.limit s.table.now.pairs m b.dst.now b.srcs.now b.n

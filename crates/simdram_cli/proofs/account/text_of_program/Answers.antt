@@ -12,7 +12,7 @@ use Rattle.simdram_cli.proofs.account.text_of_program.Goals as goal
 pub returns-in_err-bytes-clause-stopped : goal.returns-in_err-bytes-clause-stopped
 returns-in_err-bytes-clause-stopped g c =
     let p = err_from_is_err_and c.from_residual.result c.from_residual.ensures.1 in
-    rw (p.1, p.2) (stops_before (program_plan c.args.name.now c.args.account) _
+    rw (p.1, p.2) (stops_before (program_plan c.args.name.now c.args.account.now) _
     (g.F.Folder.view c.args.files.now) (g.F.Folder.view c.load.new.files)
     (λ sink chip. unloaded c.args.name.now PROG_MAX prog_in _ _ (g.F.Folder.view c.args.files.now)
     (g.F.Folder.view c.load.new.files) sink chip c.in_err-bytes.ensures.failed))

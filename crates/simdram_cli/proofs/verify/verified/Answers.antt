@@ -5,8 +5,7 @@ use Rattle.simdram_cli.proofs.verify.verified.Goals as goal
 
 pub verify_all-requires : goal.verify_all-requires
 verify_all-requires c = record {
-  some = c.requires.some;
-  narrow = c.requires.narrow;
+  widths = c.requires.widths;
   legal = c.in-Ok.ensures.program;
   implements = (map text_op (operations c.args.ops.now), c.in-Ok.ensures.implements);
 }

@@ -58,7 +58,7 @@ pub returns-then-is_err : goal.returns-then-is_err
 returns-then-is_err g c =
     let text = c.in_ok-bytes.bytes.items in
     let ops = operations c.in_ok-ops.ops in
-    let r = c.in-Ok-verified.ensures in
+    let r = rw c.as_slice.ensures.value at c.in-Ok-verified.ensures in
     let file = opened_file c.in-Ok.prog text (c.in-Ok.ensures.bytes ∙ c.deref.ensures.value)
     c.in-Ok.ensures.spelled in
     let found : Found = record { ops = ops; findings = r.findings } in
@@ -80,7 +80,7 @@ pub returns : goal.returns
 returns g c =
     let text = c.in_ok-bytes.bytes.items in
     let ops = operations c.in_ok-ops.ops in
-    let r = c.in-Ok-verified.ensures in
+    let r = rw c.as_slice.ensures.value at c.in-Ok-verified.ensures in
     let file = opened_file c.in-Ok.prog text (c.in-Ok.ensures.bytes ∙ c.deref.ensures.value)
     c.in-Ok.ensures.spelled in
     let found : Found = record { ops = ops; findings = r.findings } in

@@ -132,7 +132,7 @@ loop-k-preserved g c =
       cells = done.cells;
       keeps = keeps-both c.args.diagram.now.nodes c.loop-k.diagram.nodes
           c.do_turn.new.diagram.nodes c.loop-k.invariant.keeps done.keeps;
-      limit = done.bound ∙ c.loop-k.invariant.limit;
+      limit = done.limits ∙ c.loop-k.invariant.limit;
       rows = done.rows ∙ c.loop-k.invariant.rows;
       does = λ bits.
           ap (run (bound c.args.rows shape b.n (bound_of b) (issues_of (next c.place_after-pc.result

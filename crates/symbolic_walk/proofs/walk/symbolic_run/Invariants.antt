@@ -23,7 +23,7 @@ invariant-loop-k g l =
       nodes : AreNodes l.diagram.nodes;
       cells : AreCells l.diagram.nodes l.column;
       keeps : Keeps l.fn.diagram.nodes l.diagram.nodes;
-      limit : l.diagram.bound ≡ l.fn.diagram.bound;
+      limit : l.diagram.limits ≡ l.fn.diagram.limits;
       rows : length l.column.rows ≡ length l.fn.column.rows;
       does : (bits : ℕ → Bool) → run (bound l.rows shape n b (issues_of left))
           (column_of l.diagram.nodes bits l.column)

@@ -73,7 +73,7 @@ loop-k-preserved c =
       nodes = c.in_ok-e.ensures.nodes;
       keeps = keeps-both x c.loop-k.diagram.nodes z c.loop-k.invariant.keeps
           c.in_ok-e.ensures.keeps;
-      bound = c.in_ok-e.ensures.bound ∙ c.loop-k.invariant.bound;
+      limits = c.in_ok-e.ensures.limits ∙ c.loop-k.invariant.limits;
       agree = λ bits. below_more (λ i. column_of x bits c.args.own.now (D (c.args.first + i))
           ≡ column_of x bits c.args.made.now (D (c.args.first + i))) k
           (c.loop-k.invariant.agree bits)

@@ -8,7 +8,7 @@ abbrev pub invariant-loop-k : goal.invariant-loop-k
 invariant-loop-k l = record {
   nodes : AreNodes l.diagram.nodes;
   keeps : Keeps l.fn.diagram.nodes l.diagram.nodes;
-  bound : l.diagram.bound ≡ l.fn.diagram.bound;
+  limits : l.diagram.limits ≡ l.fn.diagram.limits;
   agree : (bits : ℕ → Bool) (i : ℕ) → i < l.k
       → column_of l.fn.diagram.nodes bits l.own (D (l.first + i))
       ≡ column_of l.fn.diagram.nodes bits l.made (D (l.first + i));

@@ -4,7 +4,7 @@ use Rattle.dram_model.specs.declared.address.Cell.TheVariants.{T, Dcc, D}
 use Rattle.bdd.specs.Graphs.{value}
 use Rattle.bdd.proofs.Laws.{keeps-both}
 use Rattle.symbolic_column.specs.Symbols.{edge_at}
-use Rattle.verify_core.specs.Starts.{row_variable}
+use Rattle.verify_core.specs.Starts.{IsMeant, row_variable}
 use Rattle.verify_core.proofs.start.start.Goals as goal
 
 apart : (i k : ℕ) → i < k → k ≢ i
@@ -25,12 +25,12 @@ loop-k-preserved c =
       cells = put.cells;
       keeps = keeps-both c.args.diagram.now.nodes c.loop-k.diagram.nodes c.put.new.diagram.nodes
           was.keeps put.keeps;
-      bound = put.bound ∙ was.bound;
+      limits = put.limits ∙ was.limits;
       long = put.rows ∙ was.long;
       tees = below_more (λ i. (bits : ℕ → Bool)
-          → value c.put.new.diagram.nodes bits (edge_at c.put.new.column (T i)) ≡ bits i) k
-          (λ i l bits. put.others (T i) (ne_eqb k i (apart i k l)) bits ∙ was.tees i l bits)
-          (λ bits. put.here (T k) (eq-eqb k k refl) bits ∙ ap bits e);
+          → IsMeant c.args.begin bits → value c.put.new.diagram.nodes bits (edge_at c.put.new.column (T i)) ≡ bits i) k
+          (λ i l bits m. put.others (T i) (ne_eqb k i (apart i k l)) bits ∙ was.tees i l bits m)
+          (λ bits m. put.here (T k) (eq-eqb k k refl) bits m ∙ ap bits e);
     }
 
 pub loop-j-preserved : goal.loop-j-preserved
@@ -44,14 +44,14 @@ loop-j-preserved c =
       cells = put.cells;
       keeps = keeps-both c.args.diagram.now.nodes c.loop-j.diagram.nodes
           c.put-in-loop-j.new.diagram.nodes was.keeps put.keeps;
-      bound = put.bound ∙ was.bound;
+      limits = put.limits ∙ was.limits;
       long = put.rows ∙ was.long;
-      tees = λ i l bits. put.others (T i) refl bits ∙ was.tees i l bits;
+      tees = λ i l bits m. put.others (T i) refl bits ∙ was.tees i l bits m;
       duals = below_more (λ i. (bits : ℕ → Bool)
-          → value c.put-in-loop-j.new.diagram.nodes bits
+          → IsMeant c.args.begin bits → value c.put-in-loop-j.new.diagram.nodes bits
           (edge_at c.put-in-loop-j.new.column (Dcc i)) ≡ bits (4 + i)) k
-          (λ i l bits. put.others (Dcc i) (ne_eqb k i (apart i k l)) bits ∙ was.duals i l bits)
-          (λ bits. put.here (Dcc k) (eq-eqb k k refl) bits ∙ ap bits e);
+          (λ i l bits m. put.others (Dcc i) (ne_eqb k i (apart i k l)) bits ∙ was.duals i l bits m)
+          (λ bits m. put.here (Dcc k) (eq-eqb k k refl) bits m ∙ ap bits e);
     }
 
 pub loop-row-preserved : goal.loop-row-preserved
@@ -70,14 +70,14 @@ loop-row-preserved c =
       cells = put.cells;
       keeps = keeps-both c.args.diagram.now.nodes c.loop-row.diagram.nodes
           c.put-in-loop-row.new.diagram.nodes was.keeps put.keeps;
-      bound = put.bound ∙ was.bound;
+      limits = put.limits ∙ was.limits;
       long = put.rows ∙ was.long;
-      tees = λ i l bits. put.others (T i) refl bits ∙ was.tees i l bits;
-      duals = λ i l bits. put.others (Dcc i) refl bits ∙ was.duals i l bits;
+      tees = λ i l bits m. put.others (T i) refl bits ∙ was.tees i l bits m;
+      duals = λ i l bits m. put.others (Dcc i) refl bits ∙ was.duals i l bits m;
       placed = below_more (λ i. (bits : ℕ → Bool)
-          → value c.put-in-loop-row.new.diagram.nodes bits
+          → IsMeant c.args.begin bits → value c.put-in-loop-row.new.diagram.nodes bits
           (edge_at c.put-in-loop-row.new.column (D i))
           ≡ bits (6 + row_variable c.args.n c.args.sources c.args.results i)) k
-          (λ i l bits. put.others (D i) (ne_eqb k i (apart i k l)) bits ∙ was.placed i l bits)
-          (λ bits. put.here (D k) (eq-eqb k k refl) bits ∙ ap bits e);
+          (λ i l bits m. put.others (D i) (ne_eqb k i (apart i k l)) bits ∙ was.placed i l bits m)
+          (λ bits m. put.here (D k) (eq-eqb k k refl) bits m ∙ ap bits e);
     }

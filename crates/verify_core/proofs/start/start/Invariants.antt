@@ -2,7 +2,7 @@ use Rattle.std.proofs.Common.{◌≡◌, ◌+◌, ◌<◌, ℕ, Bool, length}
 use Rattle.dram_model.specs.declared.address.Cell.TheVariants.{T, Dcc, D}
 use Rattle.bdd.specs.Graphs.{AreNodes, Keeps, value}
 use Rattle.symbolic_column.specs.Symbols.{edge_at, AreCells}
-use Rattle.verify_core.specs.Starts.{row_variable}
+use Rattle.verify_core.specs.Starts.{IsMeant, row_variable}
 use Rattle.verify_core.proofs.start.start.Given as goal
 
 abbrev pub invariant-loop-k : goal.invariant-loop-k
@@ -10,10 +10,10 @@ invariant-loop-k l = record {
   nodes : AreNodes l.diagram.nodes;
   cells : AreCells l.diagram.nodes l.column;
   keeps : Keeps l.fn.diagram.nodes l.diagram.nodes;
-  bound : l.diagram.bound ≡ l.fn.diagram.bound;
+  limits : l.diagram.limits ≡ l.fn.diagram.limits;
   long : length l.column.rows ≡ l.rows;
   tees : (i : ℕ) → i < l.k → (bits : ℕ → Bool)
-      → value l.diagram.nodes bits (edge_at l.column (T i)) ≡ bits i;
+      → IsMeant l.begin bits → value l.diagram.nodes bits (edge_at l.column (T i)) ≡ bits i;
 }
 
 abbrev pub invariant-loop-j : goal.invariant-loop-j
@@ -21,12 +21,12 @@ invariant-loop-j l = record {
   nodes : AreNodes l.diagram.nodes;
   cells : AreCells l.diagram.nodes l.column;
   keeps : Keeps l.fn.diagram.nodes l.diagram.nodes;
-  bound : l.diagram.bound ≡ l.fn.diagram.bound;
+  limits : l.diagram.limits ≡ l.fn.diagram.limits;
   long : length l.column.rows ≡ l.rows;
   tees : (i : ℕ) → i < 4 → (bits : ℕ → Bool)
-      → value l.diagram.nodes bits (edge_at l.column (T i)) ≡ bits i;
+      → IsMeant l.begin bits → value l.diagram.nodes bits (edge_at l.column (T i)) ≡ bits i;
   duals : (i : ℕ) → i < l.j → (bits : ℕ → Bool)
-      → value l.diagram.nodes bits (edge_at l.column (Dcc i)) ≡ bits (4 + i);
+      → IsMeant l.begin bits → value l.diagram.nodes bits (edge_at l.column (Dcc i)) ≡ bits (4 + i);
 }
 
 abbrev pub invariant-loop-row : goal.invariant-loop-row
@@ -34,13 +34,13 @@ invariant-loop-row l = record {
   nodes : AreNodes l.diagram.nodes;
   cells : AreCells l.diagram.nodes l.column;
   keeps : Keeps l.fn.diagram.nodes l.diagram.nodes;
-  bound : l.diagram.bound ≡ l.fn.diagram.bound;
+  limits : l.diagram.limits ≡ l.fn.diagram.limits;
   long : length l.column.rows ≡ l.rows;
   tees : (i : ℕ) → i < 4 → (bits : ℕ → Bool)
-      → value l.diagram.nodes bits (edge_at l.column (T i)) ≡ bits i;
+      → IsMeant l.begin bits → value l.diagram.nodes bits (edge_at l.column (T i)) ≡ bits i;
   duals : (i : ℕ) → i < 2 → (bits : ℕ → Bool)
-      → value l.diagram.nodes bits (edge_at l.column (Dcc i)) ≡ bits (4 + i);
+      → IsMeant l.begin bits → value l.diagram.nodes bits (edge_at l.column (Dcc i)) ≡ bits (4 + i);
   placed : (i : ℕ) → i < l.row → (bits : ℕ → Bool)
-      → value l.diagram.nodes bits (edge_at l.column (D i))
+      → IsMeant l.begin bits → value l.diagram.nodes bits (edge_at l.column (D i))
       ≡ bits (6 + row_variable l.n l.sources l.results i);
 }

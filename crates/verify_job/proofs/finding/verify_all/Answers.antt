@@ -7,21 +7,16 @@ use Rattle.verify_job.specs.Findings.{AreFindings}
 use Rattle.verify_job.proofs.Found.{as_many, entry_there, found_more}
 use Rattle.verify_job.proofs.finding.verify_all.Goals as goal
 
-pub finding_of-requires : goal.finding_of-requires
-finding_of-requires c =
+pub findings_of-requires : goal.findings_of-requires
+findings_of-requires c =
     let entries = c.as_slice-entry-items.ensures.value in
     let k = c.loop-entry.entry-index in
     let x = c.entry-item.result in
     let lt = subst (λ (es : List EntryCode). k < length es) entries c.loop-entry-test.true in
     let is = subst (λ (es : List EntryCode). x ≡ slice_index_or es k x) entries c.entry-item.is in
-    let r = entry_there c.args.n c.args.made.now.entries.items c.requires.implements.0 k x
-    c.requires.some c.requires.narrow c.requires.implements.1 c.requires.legal lt is in
-    record {
-      some = c.requires.some;
-      narrow = c.requires.narrow;
-      legal = r.0;
-      ends = r.1;
-    }
+    let r = entry_there c.args.made.now.entries.items c.requires.implements.0 k x
+    c.requires.implements.1 c.requires.legal lt is in
+    record { widths = c.requires.widths; legal = r.0; ends = r.1 }
 
 pub loop-entry-preserved : goal.loop-entry-preserved
 loop-entry-preserved c = λ ops does.
@@ -31,10 +26,10 @@ loop-entry-preserved c = λ ops does.
     let lt = subst (λ (es : List EntryCode). k < length es) entries c.loop-entry-test.true in
     let is = subst (λ (es : List EntryCode). x ≡ slice_index_or es k x) entries c.entry-item.is in
     let next : suc k ≡ k + 1 = omega arith in
-    subst (λ j. AreFindings c.args.n c.args.prog.now.programs (take j ops) c.keep.new.items.items)
-    next (subst (AreFindings c.args.n c.args.prog.now.programs (take (suc k) ops))
-    (sym c.in_ok-keep.ensures) (found_more c.args.n c.args.prog.now.programs c.args.made.now.entries.items ops k x
-    c.loop-entry.found.items c.in_ok-finding.finding does lt is c.in_ok-finding.ensures
+    subst (λ j. AreFindings c.args.widths.now c.args.prog.now.programs (take j ops) c.keep.new.items.items)
+    next (subst (AreFindings c.args.widths.now c.args.prog.now.programs (take (suc k) ops))
+    (sym c.in_ok-keep.ensures) (found_more c.args.widths.now c.args.prog.now.programs c.args.made.now.entries.items ops k x
+    c.loop-entry.found.items c.in_ok-findings.findings does lt is c.in_ok-findings.ensures
     (c.loop-entry.invariant ops does)))
 
 pub returns : goal.returns
@@ -44,5 +39,5 @@ returns c = λ ops does.
     let same = ap length c.as_slice-entry-items.ensures.value in
     let le : length ops ≤ c.loop-entry.entry-index =
     omega (arith, many, same, c.loop-entry-test.false) in
-    subst (λ l. AreFindings c.args.n c.args.prog.now.programs l c.loop-entry.found.items)
+    subst (λ l. AreFindings c.args.widths.now c.args.prog.now.programs l c.loop-entry.found.items)
     (take_all c.loop-entry.entry-index ops le) (c.loop-entry.invariant ops does)

@@ -8,4 +8,4 @@ use Rattle.verify_job.proofs.finding.verify_all.Given as goal
 abbrev pub invariant-loop-entry : goal.invariant-loop-entry
 invariant-loop-entry l = (ops : List TextOp)
     → ImplementsAll (map microprogram_of l.made.entries.items) ops
-    → AreFindings l.n l.prog.programs (take l.entry-index ops) l.found.items
+    → AreFindings l.widths l.prog.programs (take l.entry-index ops) l.found.items

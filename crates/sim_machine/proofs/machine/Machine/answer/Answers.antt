@@ -30,8 +30,8 @@ returns-in-Order-clause-kept g c = Kept-same (g.D.Dram.view c.args.dram.now)
 pub returns-in-Load-clause-reply : goal.returns-in-Load-clause-reply
 returns-in-Load-clause-reply g c = rw (← c.self.view_is) (
     let m = (state_of c.self.inside) in
-    let is : view_of c.args.instr.now ≡ Load c.in-Load.name c.as_slice.result.now =
-    ap view_of c.in-Load.is ∙ ap (Load c.in-Load.name) (sym c.as_slice.ensures.value) in
+    let is : view_of c.args.instr.now ≡ Load c.in-Load.place c.as_slice.result.now =
+    ap view_of c.in-Load.is ∙ ap (Load c.in-Load.place) (sym c.as_slice.ensures.value) in
     subst (λ (i : Instruction). IfOk c.load.result (λ reply. reply ≡ reply_of m i)) (sym is)
     (c.load.ensures.reply (operations_by m)))
 
@@ -39,8 +39,8 @@ pub returns-in-Load-clause-did : goal.returns-in-Load-clause-did
 returns-in-Load-clause-did g c = rw (← c.self.view_is) (
     let m = (state_of c.self.inside) in
     let V = g.D.Dram.view in
-    let is : view_of c.args.instr.now ≡ Load c.in-Load.name c.as_slice.result.now =
-    ap view_of c.in-Load.is ∙ ap (Load c.in-Load.name) (sym c.as_slice.ensures.value) in
+    let is : view_of c.args.instr.now ≡ Load c.in-Load.place c.as_slice.result.now =
+    ap view_of c.in-Load.is ∙ ap (Load c.in-Load.place) (sym c.as_slice.ensures.value) in
     subst (λ (i : Instruction). OnOk c.load.result (Did (events_alone (geometry_of m)
     (operations_by m) (table_in m) i) (V c.args.dram.now) (V c.load.new.dram))) (sym is)
     (c.load.ensures.did (operations_by m)))
@@ -48,7 +48,7 @@ returns-in-Load-clause-did g c = rw (← c.self.view_is) (
 pub returns-in-Fill-clause-reply : goal.returns-in-Fill-clause-reply
 returns-in-Fill-clause-reply g c = rw (← c.self.view_is) (
     let m = (state_of c.self.inside) in
-    let is : view_of c.args.instr.now ≡ Fill c.in-Fill.name c.in-Fill.value =
+    let is : view_of c.args.instr.now ≡ Fill c.in-Fill.place c.in-Fill.value =
     ap view_of c.in-Fill.is in
     subst (λ (i : Instruction). IfOk c.fill.result (λ reply. reply ≡ reply_of m i)) (sym is)
     (c.fill.ensures.reply (operations_by m)))
@@ -57,7 +57,7 @@ pub returns-in-Fill-clause-did : goal.returns-in-Fill-clause-did
 returns-in-Fill-clause-did g c = rw (← c.self.view_is) (
     let m = (state_of c.self.inside) in
     let V = g.D.Dram.view in
-    let is : view_of c.args.instr.now ≡ Fill c.in-Fill.name c.in-Fill.value =
+    let is : view_of c.args.instr.now ≡ Fill c.in-Fill.place c.in-Fill.value =
     ap view_of c.in-Fill.is in
     subst (λ (i : Instruction). OnOk c.fill.result (Did (events_alone (geometry_of m)
     (operations_by m) (table_in m) i) (V c.args.dram.now) (V c.fill.new.dram))) (sym is)
@@ -67,8 +67,8 @@ pub returns-in-Load-clause-left : goal.returns-in-Load-clause-left
 returns-in-Load-clause-left g c = rw (← c.self.view_is) (
     let m = (state_of c.self.inside) in
     let V = g.D.Dram.view in
-    let is : view_of c.args.instr.now ≡ Load c.in-Load.name c.as_slice.result.now =
-    ap view_of c.in-Load.is ∙ ap (Load c.in-Load.name) (sym c.as_slice.ensures.value) in
+    let is : view_of c.args.instr.now ≡ Load c.in-Load.place c.as_slice.result.now =
+    ap view_of c.in-Load.is ∙ ap (Load c.in-Load.place) (sym c.as_slice.ensures.value) in
     subst (λ (i : Instruction). OnErr c.load.result (StoppedWithin (events_alone (geometry_of m)
     (operations_by m) (table_in m) i) (V c.args.dram.now).banks (V c.load.new.dram).banks)) (sym is)
     (c.load.ensures.stopped (operations_by m)))
@@ -77,7 +77,7 @@ pub returns-in-Fill-clause-left : goal.returns-in-Fill-clause-left
 returns-in-Fill-clause-left g c = rw (← c.self.view_is) (
     let m = (state_of c.self.inside) in
     let V = g.D.Dram.view in
-    let is : view_of c.args.instr.now ≡ Fill c.in-Fill.name c.in-Fill.value =
+    let is : view_of c.args.instr.now ≡ Fill c.in-Fill.place c.in-Fill.value =
     ap view_of c.in-Fill.is in
     subst (λ (i : Instruction). OnErr c.fill.result (StoppedWithin (events_alone (geometry_of m)
     (operations_by m) (table_in m) i) (V c.args.dram.now).banks (V c.fill.new.dram).banks)) (sym is)

@@ -1,11 +1,17 @@
-use Rattle.sim_machine.specs.Shown.{state_of}
-use Rattle.std.proofs.Common.{ap, subst}
-use Rattle.std.specs.Prelude.{Err, ◌≡◌, ◌++◌}
+use Rattle.std.proofs.Common.{◌≡◌, ◌++◌, None, subst}
+use Rattle.std.specs.Prelude.{IfOk, OnOk, OnErr, IsErrOf}
 use Rattle.host_edge.specs.Views.{Known, AppendsPart}
+use Rattle.dram_model.specs.View.{DidRead}
+use Rattle.dram_model.specs.Elements.{FailedBelow}
+use Rattle.bbop_isa.specs.Forms.{Print}
+use Rattle.machine_model.specs.Refusals.{refusal}
 use Rattle.object_steps.specs.Lines.{DidReadAtMost}
-use Rattle.object_steps.specs.declared.fault.StepFault.TheVariants.{WriteFault}
-use Rattle.sim_machine.specs.Machine.{operations_by}
-use Rattle.sim_machine.proofs.Printing.{all_rows_of, whole_line_shown}
+use Rattle.object_steps.specs.declared.fault.StepFault.TheVariants.{ChipFault, WriteFault}
+use Rattle.sim_machine.specs.State.{State}
+use Rattle.sim_machine.specs.Machine.{banks_by, geometry_of, line_shown, operations_by, reads_by}
+use Rattle.sim_machine.specs.Machine.{reply_of, table_in}
+use Rattle.sim_machine.specs.Shown.{state_of}
+use Rattle.sim_machine.proofs.Printing.{read_at_most}
 use Rattle.sim_machine.proofs.machine.Machine.print_as.Goals as goal
 
 pub returns-clause-borrow : goal.returns-clause-borrow
@@ -20,46 +26,51 @@ returns-clause-sink_faults g c = c.print.ensures.sink_faults
 pub returns-clause-no_event : goal.returns-clause-no_event
 returns-clause-no_event g c = c.print.ensures.no_event
 
-pub returns-in-Err-clause-borrow : goal.returns-in-Err-clause-borrow
-returns-in-Err-clause-borrow g c = c.print.ensures.borrow
+pub returns-clause-rises : goal.returns-clause-rises
+returns-clause-rises g c = c.print.ensures.rises
 
-pub returns-in-Err-clause-kept : goal.returns-in-Err-clause-kept
-returns-in-Err-clause-kept g c = c.print.ensures.kept
-
-pub returns-in-Err-clause-sink_faults : goal.returns-in-Err-clause-sink_faults
-returns-in-Err-clause-sink_faults g c = c.print.ensures.sink_faults
-
-pub returns-in-Err-clause-no_event : goal.returns-in-Err-clause-no_event
-returns-in-Err-clause-no_event g c = c.print.ensures.no_event
+pub returns-clause-reply : goal.returns-clause-reply
+returns-clause-reply g c =
+    subst (λ (m : State). IfOk c.print.result (λ reply. reply ≡ reply_of m (Print
+    c.args.place.now))) c.self.view_is
+    (c.print.ensures.reply (operations_by (state_of c.self.inside)))
 
 pub returns-clause-did : goal.returns-clause-did
-returns-clause-did g c = rw (← c.self.view_is) (c.in-Ok.ensures.did (operations_by (state_of
-    c.self.inside)))
+returns-clause-did g c =
+    subst (λ (m : State). OnOk c.print.result (DidRead (reads_by m (Print c.args.place.now))
+    (g.D.Dram.view c.args.dram.now) (g.D.Dram.view c.print.new.dram))) c.self.view_is
+    (c.print.ensures.did (operations_by (state_of c.self.inside)))
 
 pub returns-clause-sent : goal.returns-clause-sent
-returns-clause-sent g c = rw (← c.self.view_is) (
-    let m = (state_of c.self.inside) in
-    let V = g.S.Sink.view in
-    subst (λ text. Known (λ x y. y ≡ x ++ text) (V c.args.out.now).sent (V c.print.new.out).sent)
-    (whole_line_shown m c.args.number (g.D.Dram.view c.args.dram.now).banks c.args.name.now
-    c.args.shown.now (rw (← c.self.view_is) at c.requires.stands)) (c.in-Ok.ensures.sent
-    (operations_by m)))
+returns-clause-sent g c =
+    subst (λ (m : State). OnOk c.print.result (Known (λ before after. after ≡ before
+    ++ line_shown m c.args.number (g.D.Dram.view c.args.dram.now).banks c.args.place.now
+    c.args.shown.now) (g.S.Sink.view c.args.out.now).sent (g.S.Sink.view c.print.new.out).sent))
+    c.self.view_is (c.print.ensures.sent (operations_by (state_of c.self.inside)))
 
-pub returns-in-Err-clause-read : goal.returns-in-Err-clause-read
-returns-in-Err-clause-read g c = rw (← c.self.view_is) (
-    let m = (state_of c.self.inside) in
-    let V = g.D.Dram.view in
-    λ e.
-    let f : c.in-Err.fault ≡ WriteFault = cc in
-    subst (λ n. DidReadAtMost n (V c.args.dram.now) (V c.print.new.dram))
-    (all_rows_of m c.args.name.now (rw (← c.self.view_is) at c.requires.stands))
-    (c.in-Err.ensures.read (ap Err f)))
+pub returns-clause-allowed : goal.returns-clause-allowed
+returns-clause-allowed g c =
+    subst (λ (m : State). OnErr c.print.result (refusal (geometry_of m) (operations_by m)
+    (table_in m) (Print c.args.place.now) ≡ None)) c.self.view_is
+    (c.print.ensures.allowed (operations_by (state_of c.self.inside)))
 
-pub returns-in-Err-clause-part : goal.returns-in-Err-clause-part
-returns-in-Err-clause-part g c = rw (← c.self.view_is) (
-    let m = (state_of c.self.inside) in
-    let V = g.S.Sink.view in
-    subst (λ text. Known (AppendsPart text) (V c.args.out.now).sent (V c.print.new.out).sent)
-    (whole_line_shown m c.args.number (g.D.Dram.view c.args.dram.now).banks c.args.name.now
-    c.args.shown.now (rw (← c.self.view_is) at c.requires.stands)) (c.in-Err.ensures.part
-    (operations_by m)))
+pub returns-clause-chip_fault : goal.returns-clause-chip_fault
+returns-clause-chip_fault g c =
+    subst (λ (m : State). IsErrOf c.print.result ChipFault → FailedBelow (banks_by m (Print
+    c.args.place.now)) (g.D.Dram.view c.args.dram.now) (g.D.Dram.view c.print.new.dram))
+    c.self.view_is c.print.ensures.chip_fault
+
+pub returns-clause-read : goal.returns-clause-read
+returns-clause-read g c =
+    subst (λ (m : State). IsErrOf c.print.result WriteFault → DidReadAtMost (reads_by m (Print
+    c.args.place.now)) (g.D.Dram.view c.args.dram.now) (g.D.Dram.view c.print.new.dram))
+    c.self.view_is (read_at_most (state_of c.self.inside) c.args.place.now c.print.result
+    (g.D.Dram.view c.args.dram.now) (g.D.Dram.view c.print.new.dram)
+    (c.print.ensures.allowed (operations_by (state_of c.self.inside))) c.print.ensures.read)
+
+pub returns-clause-part : goal.returns-clause-part
+returns-clause-part g c =
+    subst (λ (m : State). OnErr c.print.result (Known (AppendsPart (line_shown m c.args.number
+    (g.D.Dram.view c.args.dram.now).banks c.args.place.now c.args.shown.now))
+    (g.S.Sink.view c.args.out.now).sent (g.S.Sink.view c.print.new.out).sent))
+    c.self.view_is (c.print.ensures.part (operations_by (state_of c.self.inside)))

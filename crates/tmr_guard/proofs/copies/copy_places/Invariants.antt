@@ -1,0 +1,6 @@
+use Rattle.std.proofs.Common.{◌≡◌, map, take}
+use Rattle.guard_model.specs.Guarded.{place_on}
+use Rattle.tmr_guard.proofs.copies.copy_places.Given as goal
+
+abbrev pub invariant-loop-place : goal.invariant-loop-place
+invariant-loop-place l = l.copies.items ≡ map (place_on l.letter) (take l.place-index l.places)

@@ -1,0 +1,25 @@
+use Rattle.std.proofs.Common.{◌≡◌, ◌∙◌, ℕ, Bool, true, false, sym, subst, List, refl}
+use Rattle.bit_rows.specs.Bits.{flip_if}
+use Rattle.bdd.specs.declared.Node.{Node}
+use Rattle.bdd.specs.Edges.{constant}
+use Rattle.bdd.specs.Graphs.{AreNodes, value}
+use Rattle.bdd.proofs.Laws.{value-zero}
+use Rattle.verify_core.specs.declared.start.Begin.{Begin}
+use Rattle.verify_core.specs.Starts.{IsMeant}
+use Rattle.verify_core.proofs.start.held.Goals as goal
+
+-- a constant's value
+constant-at : (ns : List Node) (bits : ℕ → Bool) (b : Bool) → AreNodes ns
+    → value ns bits (constant b) ≡ b
+constant-at ns bits b h = rw (value-zero ns bits h) (by b)
+  where
+    by : (b : Bool) → flip_if b false ≡ b
+    by true = refl
+    by false = refl
+
+pub returns-in-Values-clause-value : goal.returns-in-Values-clause-value
+returns-in-Values-clause-value c = λ bits m.
+    let given = subst (λ (b : Begin). IsMeant b bits) c.in-Values.is m in
+    rw c.constant.ensures (constant-at c.args.diagram.now.nodes bits c.value_of.result
+    c.requires.nodes)
+    ∙ c.value_of.ensures ∙ sym (given c.args.variable)
