@@ -16,6 +16,9 @@ const LONG_WALKS: u8 = 8;
 
 const LONG_STEPS: u16 = 2_000;
 
+/// After how many steps in a row that have met no graph to keep a walk ends.
+const IDLE_STEPS: u16 = 800;
+
 /// How many short walks there are, and how many steps each has.
 const SHORT_WALKS: u8 = 64;
 
@@ -58,26 +61,24 @@ impl Search {
     fn new(alloc: Global) -> Result<Search, NoMemory> {
         Ok(Search {
             pool: Pool::new(alloc)?,
-            replacer: Replacer::new(alloc),
+            replacer: Replacer::new(),
             seed: 0,
         })
     }
 
     /// The graph with a drawn node replaced, if it has at most so many nodes and the same outputs.
-    fn step(&mut self, at: &Sketch, tables: &Tables, most: u8) -> Result<Option<Sketch>, NoMemory> {
-        let Some(drawn) = self.replacer.drawn(at, tables)? else {
-            return Ok(None);
-        };
+    fn step(&mut self, at: &Sketch, tables: &Tables, most: u8) -> Option<Sketch> {
+        let drawn = self.replacer.drawn(at, tables)?;
         if drawn.form.stands_at(at, drawn.node) {
-            return Ok(None);
+            return None;
         }
-        let other = at.replaced(&at.base(drawn.node), &drawn.form);
+        let other = at.replaced(&at.base(drawn.node, drawn.above), &drawn.form);
         let is_right = at.inputs <= tables::MOST_INPUTS || agree(at, &other);
-        Ok(if other.count <= most && is_right {
+        if other.count <= most && is_right {
             Some(other)
         } else {
             None
-        })
+        }
     }
 
     /// Goes from a graph by drawn replacements, and offers each graph on the way.
@@ -88,17 +89,23 @@ impl Search {
         let mut tables = tables_of(&at);
         let mut least = at.count;
         self.pool.offer(&at)?;
+        let mut idle = 0u16;
         for _ in 0..steps {
             // One node is the only one of its function.
-            if at.count < 2 {
+            if at.count < 2 || idle > IDLE_STEPS {
                 break;
             }
+            let taken = self.pool.taken();
+            idle = idle.saturating_add(1);
             let most = u8::max(at.count, least.saturating_add(SLACK));
-            if let Some(other) = self.step(&at, &tables, u8::min(most, MOST_NODES - 1))? {
+            if let Some(other) = self.step(&at, &tables, u8::min(most, MOST_NODES - 1)) {
                 at = other;
                 complete(&mut tables, &at);
                 least = u8::min(least, at.count);
                 self.pool.offer(&at)?;
+                if self.pool.taken() != taken {
+                    idle = 0;
+                }
             }
         }
         Ok(())
