@@ -13,8 +13,8 @@ mod Ends
 mod Carried
 mod Bodies
 mod Constants
-mod InRows
-mod EachLast
+pub mod InRows
+pub mod EachLast
 mod InCells
 mod OneCell
 mod SameGraphs

@@ -26,9 +26,9 @@ compile_plan names = compiled_plan names.ops.now names.prog.now (λ program.
     Then (Put (compiled_line program) ∷ []) (Answers 0 (λ chip. Unit {0})))
 
 -- PROG is the version 2 file of a program that a file can hold and that implements the ops of OPS.
--- An op of word operations alone takes exactly the sum of their row commands at each width, and
--- each command that loads a program file takes PROG; all other files are as at entry, and how many
--- entries it has was sent
+-- Each entry takes exactly the row commands of its op's statements at each width, and each command
+-- that loads a program file takes PROG; all other files are as at entry, and how many entries it
+-- has was sent
 pub record Compiled (names : CompileNames) (before after : Files) (old new : World) : Type 0 where
   pub ops : List Operation
   pub program : Program
