@@ -292,12 +292,8 @@ module _ {slots : Slots} {fb fw : ℕ} {b : Block} (g : Given slots fb fw b) whe
 
       pub row-program : IsBlockProgram slots b steps
       row-program = record {
-        row = body;
-        row_is = is;
-        found = for;
         body = body;
         is = is;
-        form = inl (refl, refl);
+        form = inl (for, refl);
         cost = λ n lt. row-cost n;
-        no_dearer = λ n lt. omega arith;
       }

@@ -96,7 +96,7 @@ in_cells first each last = record {
 has_counts : (slots : Slots) (b : Serial) (q : List (StepOf Block)) → IsBlockProgram slots b q
     → HasCounts q
 has_counts slots b q f = elim f.form as (λ _. HasCounts q) [
-  | inl e ↦ subst HasCounts (sym e.1) (in_rows slots b.down b.states f.row)
+  | inl e ↦ subst HasCounts (sym e.1) (in_rows slots b.down b.states f.body)
   | inr h ↦ (let at = home slots b.down h.state h.cells in subst HasCounts (sym h.form)
       (in_cells (held_start at h.cmds.start) (held_body at f.body h.cmds.each)
       (held_last at f.body h.cmds.last)))

@@ -102,8 +102,7 @@ started_graph slots down (s ∷ ss) body =
 form_graph : (slots : Slots) (b : Serial) (q : List (StepOf Block)) (f : IsBlockProgram slots b q)
     → flow_graph (front q) ≡ the_graph slots b q f ∷ []
 form_graph slots b q f = elim f.form [
-  | inl e ↦ ap (λ p. flow_graph (front p)) e.1 ∙ started_graph slots b.down b.states f.row
-      ∙ ap (λ (r : Block). body_graph r ∷ []) (sym e.0)
+  | inl e ↦ ap (λ p. flow_graph (front p)) e.1 ∙ started_graph slots b.down b.states f.body
   | inr h ↦ ap (λ p. flow_graph (front p)) h.form ∙ (let at = home slots b.down h.state h.cells in
       let x = each_last (held_start at h.cmds.start) (held_body at f.body h.cmds.each)
       (held_last at f.body h.cmds.last) in
