@@ -1,15 +1,18 @@
 -- The offers that are counted, one after another, and the fewest commands of them.
-use Rattle.std.proofs.Common.{◌≡◌, ℕ, zero, suc, ◌+◌, ◌<◌, ◌≤◌, List, [], ◌∷◌, ◌++◌, Some, length}
-use Rattle.std.proofs.Common.{take, sym, ap, subst, arith, inl, inr}
-use Rattle.std.specs.Prelude.{slice_get, slice_index_or}
+use Rattle.std.proofs.Common.{◌≡◌, ℕ, ◌+◌, ◌<◌, ◌≤◌, List, [], ◌∷◌, ◌++◌, length, map, take, arith}
+use Rattle.std.proofs.Common.{inl, inr, refl, Option, Some, None}
+use Rattle.std.specs.Prelude.{IfNone, slice_index_or}
 use Rattle.std.specs.List.{AllByRecursion}
-use Rattle.std.proofs.Math.Seq.{take-suc}
+use Rattle.std.proofs.lemmas.List.{map_more}
 use Rattle.mig_graph.specs.declared.Lit.{Lit}
 use Rattle.mig_graph.specs.Graph.{Graph}
 use Rattle.mig_rewrite.specs.declared.sketch.Sketch.{Sketch}
+use Rattle.row_alloc.specs.declared.body.BodyCmd.{BodyCmd}
 use Rattle.loop_ir.specs.declared.ir.Place.{Place}
 use Rattle.block_lower.specs.declared.choice.Choice.{Choice}
-use Rattle.block_lower.specs.Choice.{AreCounted, AreNoFewer, IsCounted, IsDropped, IsRightChoice}
+use Rattle.block_lower.specs.declared.rounds.Tried.{Tried}
+use Rattle.block_lower.specs.Choice.{AreCounted, AreNoFewer, HasFound, IsCounted, IsDropped}
+use Rattle.block_lower.specs.Choice.{IsNoDearer, IsRightChoice, sketch_of}
 
 module _ (reads writes : List Place) (g : Graph) (outs : List Lit) where
   -- one offer more, with its choice
@@ -36,6 +39,23 @@ module _ (reads writes : List Place) (g : Graph) (outs : List Lit) where
     | inr e ↦ inr (e.0, dropped-more ss cs s e.1 k)
   ]
 
+  -- so it is with the next of a list
+  pub next-counted : (offers : List Tried) (k : ℕ) (x : Tried) (cs : List Choice) (c : Choice)
+      → k < length offers → x ≡ slice_index_or offers k x
+      → AreCounted reads writes g outs (map sketch_of (take k offers)) cs
+      → IsCounted reads writes g outs x.sketch c
+      → AreCounted reads writes g outs (map sketch_of (take (k + 1) offers)) (cs ++ c ∷ [])
+  next-counted offers k x cs c lt e h i = rw (map_more sketch_of offers k x lt, ← e)
+      (counted-more (map sketch_of (take k offers)) cs x.sketch c h i)
+
+  pub next-dropped : (offers : List Tried) (k : ℕ) (x : Tried) (cs : List Choice)
+      → k < length offers → x ≡ slice_index_or offers k x
+      → AreCounted reads writes g outs (map sketch_of (take k offers)) cs
+      → IsDropped reads writes g outs x.sketch
+      → AreCounted reads writes g outs (map sketch_of (take (k + 1) offers)) cs
+  next-dropped offers k x cs lt e h i = rw (map_more sketch_of offers k x lt, ← e)
+      (dropped-more (map sketch_of (take k offers)) cs x.sketch h i)
+
   -- each choice is right
   pub all-right : (ss : List Sketch) (cs : List Choice) → AreCounted reads writes g outs ss cs
       → AllByRecursion (IsRightChoice reads writes g outs) cs
@@ -47,12 +67,10 @@ module _ (reads writes : List Place) (g : Graph) (outs : List Lit) where
     | inr e ↦ (e.0.right, all-right ss cs e.1)
   ]
 
--- what holds of all holds of one
-pub one-of-all : {A : Type 0} (P : A → Type 0) (xs : List A) (k : ℕ) (x : A) → AllByRecursion P xs
-    → slice_get xs k ≡ Some x → P x
-one-of-all P [] k x h e = cc
-one-of-all P (y ∷ xs) zero x h e = subst P (let f : Some y ≡ Some x = e in cc) h.0
-one-of-all P (y ∷ xs) (suc k) x h e = one-of-all P xs k x h.1 e
+-- what holds where nothing is told
+pub told-none : {A P : Type 0} (o : Option A) → IfNone o P → ((x : A) → o ≡ Some x → ⊥) → P
+told-none None p n = p
+told-none (Some x) p n = absurd (n x refl)
 
 -- nothing is fewer than none
 pub none-fewer : (cs : List Choice) → AreNoFewer 0 cs
@@ -64,14 +82,13 @@ pub fewer-too : (a b : ℕ) (cs : List Choice) → a ≤ b → AreNoFewer b cs �
 fewer-too a b [] l h = tt
 fewer-too a b (c ∷ cs) l h = let f = h.0 in (omega (arith, l, f), fewer-too a b cs l h.1)
 
-no-fewer-append : (a : ℕ) (cs : List Choice) (c : Choice) → AreNoFewer a cs
-    → a ≤ length c.found.items → AreNoFewer a (cs ++ c ∷ [])
-no-fewer-append a [] c h l = (l, tt)
-no-fewer-append a (d ∷ cs) c h l = (h.0, no-fewer-append a cs c h.1 l)
-
--- one choice more
-pub no-fewer-more : (a k : ℕ) (cs : List Choice) (c : Choice) → k < length cs
-    → c ≡ slice_index_or cs k c → AreNoFewer a (take k cs) → a ≤ length c.found.items
-    → AreNoFewer a (take (suc k) cs)
-no-fewer-more a k cs c lt is h l = subst (AreNoFewer a) (sym (take-suc cs k c lt))
-    (subst (λ d. AreNoFewer a (take k cs ++ d ∷ [])) is (no-fewer-append a (take k cs) c h l))
+-- what was found for the graph's own body is no dearer, and so fewer commands
+pub no-dearer : (reads writes : List Place) (g : Graph) (outs : List Lit) (cmds : List BodyCmd)
+    (count : ℕ) → HasFound reads writes g outs cmds → count ≤ length cmds
+    → IsNoDearer reads writes g outs count
+no-dearer reads writes g outs cmds count h l = record {
+  rows = h.rows;
+  are = h.are;
+  plain = let f = h.found.few in omega (arith, l, f);
+  sequences = λ k lt s. (let f = h.found.least k lt s in omega (arith, l, f));
+}
