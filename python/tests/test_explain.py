@@ -220,7 +220,7 @@ class Refusals(unittest.TestCase):
                 ("bbop_trsp_init c, 4, 20", "no_rows", "the longest free piece has 15; the last 32"),
                 ("bbop_trsp_init c, 4, 20", "no_rows", "it would fit with 69 rows per bank; this image has 64"),
                 ("bbop_ink y, a, a, 4, 8", "no_op", "did you mean inc"),
-                ("bbop_inc y, a, y, 4, 8", "overlap 2", "y is a destination and a source"),
+                ("bbop_inc y, a, y, 4, 8", "overlap 2", "y is a destination too"),
                 ("bbop_inc y, a, s, 4, 8", "width 2", "s is 1 bit wide"),
                 ("bbop_inc y[0:4], a[4:9], a, 4, 4", "slice 1", "a[4:9] ends at bit 9, and a has 8 bits its highest bit is a[7]"),
                 ("bbop_inc y[0:4], a[1:4], s[1], 4, 4", "slice 2", "s[1] ends at bit 2, and s has 1 bit"),

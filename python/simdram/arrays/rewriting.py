@@ -67,18 +67,12 @@ def mul(b, x, y):
     return product(b, x, number_of(y)) if number_of(y) is not None else None
 
 
-def shifted_down(b, x, places):
-    for _ in range(places):
-        x = b.do("shr1", x)
-    return x
-
-
 def div_and_rem(b, x, y):
     by = number_of(y)
     if by == 0:
         return b.like(x, -1), x
     if by is not None and by & by - 1 == 0:
-        return shifted_down(b, x, by.bit_length() - 1), b.do("and", x, b.like(x, by - 1))
+        return b.shifted(x, 1 - by.bit_length()), b.do("and", x, b.like(x, by - 1))
     if x is y or number_of(x) == 0:
         return b.step(OPERATIONS["divmod"], (x, y), x.bits)[0], b.like(x, 0)
     return None
