@@ -24,9 +24,6 @@ _NEGATIVE = """serial up (d = 0) {
 _SIGN = """serial up (y = 0) {
     y = a;
   }"""
-_SPREAD = """serial up () {
-    y = a;
-  }"""
 _WHERE = """serial up () {
     y = and(a, b);
   }"""
@@ -39,7 +36,6 @@ BLOCKS = {block.name: block for block in (
     Operation("signed_ge", (WORD, WORD), (BIT,), _ORDER.format(start=1)),
     Operation("negative", (WORD,), (WORD,), _NEGATIVE),
     Operation("sign", (WORD,), (BIT,), _SIGN),
-    Operation("spread", (BIT,), (WORD,), _SPREAD),
     Operation("zero_unless", (WORD, BIT), (WORD,), _WHERE),
     Operation("zero_if", (WORD, BIT), (WORD,), _WHERE_NOT),
 )}

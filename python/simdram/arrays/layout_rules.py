@@ -16,7 +16,10 @@ def laid_out(b, operation: typing.Any, arguments: typing.Sequence[Value], width:
     """The one result of a slice, a join or a product of values that are in this form."""
     if isinstance(operation, Slice):
         return sliced(b, arguments[0], operation.low, width, operation.kind)
-    return put_together(b, list(zip(arguments, operation.sizes))) if isinstance(operation, Join) else b.step(operation, arguments, width)[0]
+    if isinstance(operation, Join):
+        return put_together(b, list(zip(arguments, operation.sizes)))
+    first, second = map(number_of, arguments)
+    return b.step(operation, arguments, width)[0] if None in (first, second) else b.constant(WORD, width, first * second)
 
 
 def sliced(b, value: Value, low: int, size: int, kind: str = WORD) -> Value:
@@ -33,6 +36,19 @@ def moved(b, value: Value, places: int) -> Value:
     gone = abs(places)
     kept, zeros = sliced(b, value, max(-places, 0), value.bits - gone), (b.constant(WORD, gone, 0), gone)
     return put_together(b, [zeros, (kept, kept.bits)] if places > 0 else [(kept, kept.bits), zeros])
+
+
+def modulo(b, value: Value, size: int) -> Value:
+    """The lowest bits of a value below zeros."""
+    zeros = b.constant(WORD, value.bits - size, 0), value.bits - size
+    return put_together(b, [(sliced(b, value, 0, size), size), zeros] if size else [zeros])
+
+
+def without_zeros(value: Value) -> Value:
+    """The one piece that stands below zeros in a value, or the value."""
+    step = layout_of(value, Join)
+    is_extended = step and len(step.arguments) == 2 and step.arguments[0].bits == step.operation.sizes[0] and number_of(step.arguments[1]) == 0
+    return step.arguments[0] if is_extended else value
 
 
 def of_kind(b, value: Value, kind: str) -> Value:
