@@ -82,7 +82,7 @@ fn found_for(
     find_body(&graph.mig, &rows, search, most, alloc)
 }
 
-/// The offer, if it is right and a body can be made of it, with the commands that were found for it.
+/// The offer, if it is right and a body can be made of it, with the commands found for it.
 fn counted(
     first: &MigOuts,
     offer: &Tried,

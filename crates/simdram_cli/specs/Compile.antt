@@ -22,8 +22,8 @@ compile_plan names = compiled_plan names.ops.now names.prog.now (λ program.
 
 -- PROG is the version 2 file of a program that a file can hold and that implements the ops of OPS.
 -- Each entry takes exactly the row commands of its op's statements at each width, and each command
--- that loads a program file takes PROG (`IsCompiled`); all other files are as at entry, and how many
--- entries it has was sent
+-- that loads a program file takes PROG (`IsCompiled`). All other files are as at entry, and how
+-- many entries it has was sent
 pub record Compiled (names : CompileNames) (before after : Files) (old new : World) : Type 0 where
   pub text : List ℕ
   pub read : before names.ops.now ≡ Some text
