@@ -89,16 +89,19 @@ pub record IsCounted (reads writes : List Place) (g : Graph) (outs : List Lit) (
   pub right : IsRightChoice reads writes g outs c
   pub offered : IsOffered s c.graph.mig c.graph.outs.items
 
--- no body is made of a graph that the sketch offers
-pub record IsUnfitOffer (reads writes : List Place) (s : Sketch) : Type 0 where
+-- the sketch offers a graph that may stand for the graph, but no body is made of that
+pub record IsUnfitOffer (reads writes : List Place) (g : Graph) (outs : List Lit) (s : Sketch)
+    : Type 0 where
   pub graph : Graph
-  pub outs : List Lit
-  pub offered : IsOffered s graph outs
-  pub unfit : IsUnfit reads writes graph outs
+  pub made : List Lit
+  pub offered : IsOffered s graph made
+  pub stands : MayStand g outs graph made
+  pub unfit : IsUnfit reads writes graph made
 
 -- the sketch is not right for the graph, or is reduced to a larger one, or no body is made of it
 abbrev pub IsDropped : List Place → List Place → Graph → List Lit → Sketch → Type 0
-IsDropped reads writes g outs s = IsRight g outs s → IsLarger g s ⊎ IsUnfitOffer reads writes s
+IsDropped reads writes g outs s =
+    IsRight g outs s → IsLarger g s ⊎ IsUnfitOffer reads writes g outs s
 
 -- of each sketch in order the choice of its graph, or none where it is dropped
 abbrev pub AreCounted : List Place → List Place → Graph → List Lit → List Sketch → List Choice

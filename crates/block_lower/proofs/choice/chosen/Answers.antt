@@ -1,4 +1,4 @@
-use Rattle.std.proofs.Common.{List, length, subst, IfSome}
+use Rattle.std.proofs.Common.{length, subst, IfSome}
 use Rattle.std.proofs.lemmas.Result.{IfOk-weaker}
 use Rattle.block_lower.specs.Choice.{HasFound}
 use Rattle.block_lower.proofs.Counting.{no-dearer, none-fewer}
