@@ -21,7 +21,7 @@ use Rattle.loop_ir.specs.Loops.{RoundOf, round_at, one_round, rounds, all_rounds
 use Rattle.loop_ir.specs.Spots.{Spot, IsOwn, is_state, after_rounds}
 use Rattle.loop_ir.specs.WellFormed.{IsWellFormed, AreWellFormed}
 use Rattle.loop_ir.specs.Costs.{body_cost, turn_cost, plain_cost, single_cost, step_cost, code_cost}
-use Rattle.loop_ir.specs.Costs.{step_bodies, bodies, rounds_cost, plain_costs}
+use Rattle.loop_ir.specs.Costs.{step_bodies, bodies, rounds_cost}
 use Rattle.loop_ir.specs.Limits.{IsSmall, may_stand, step_stands, IsRound, StepHasValues}
 use Rattle.loop_ir.specs.Limits.{CanCompile}
 use Rattle.loop_ir.specs.Statements.{Slots}
@@ -259,10 +259,6 @@ module _ {slots : Slots} {fb fw : ℕ} {b : Block} (g : Given slots fb fw b) whe
       row-cost = let m = is.as_many in row-within turn_cost (λ v p. refl)
           (let t = found-most body for in omega (arith, t, m))
 
-      row-plain : (n : ℕ) → plain_costs (all_rounds n steps) ≤ bound n
-      row-plain = let m = is.as_many in row-within plain_cost constant-plain
-          (let t = plain-most body in omega (arith, t, m))
-
       can : CanCompile may_have steps
       can = record {
         small = kept.small;
@@ -287,17 +283,12 @@ module _ {slots : Slots} {fb fw : ℕ} {b : Block} (g : Given slots fb fw b) whe
             ∙ ap (λ rs. after_rounds n rs first) (append-nil (rounds (λ j. one_round body j 0) 0 n))))
             (row-visits g is all n 0 (omega arith) _ first (begins g n (in_rows b) lt old bits)));
         cheap = λ n lt wide. within-ceiling is n (rounds_cost (all_rounds n steps)) (row-cost n);
-        plain = λ n lt wide. within-ceiling is n (plain_costs (all_rounds n steps)) (row-plain n);
       }
 
       pub row-program : IsBlockProgram slots b steps
       row-program = record {
-        row = body;
-        row_is = is;
-        found = for;
         body = body;
         is = is;
-        form = inl (refl, refl);
+        form = inl (for, refl);
         cost = λ n lt. row-cost n;
-        no_dearer = λ n lt. omega arith;
       }
