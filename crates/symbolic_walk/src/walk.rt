@@ -13,11 +13,10 @@ ghost use Rattle.bdd.specs.declared.Shortage.{Shortage};
 ghost use Rattle.bdd.specs.Graphs.{AreNodes, HasReached, Keeps};
 ghost use Rattle.symbolic_column.specs.Symbols.{column_of, AreCells};
 
-use crate::address::command_of;
 use bdd::{Diagram, Shortage};
 use bit_rows::WIDTH_MAX;
 use symbolic_column::SymbolicColumn;
-use uprog_code::{Binding, Fetch, Head, Turn, WALK_MAX, step};
+use uprog_code::{Binding, Fetch, Head, Turn, WALK_MAX, command_of, step};
 
 /// The commands of one step of a machine: one or none.
 fn do_turn(

@@ -1,6 +1,7 @@
 //! Microprograms: their instructions, what they issue, and the walk that counts it.
 #![tactic(auto)]
 
+mod address;
 mod binding;
 mod code;
 mod fetch;
@@ -8,6 +9,7 @@ mod laws;
 mod registers;
 mod walker;
 
+pub use address::{address_of, command_of};
 pub use binding::Binding;
 pub use code::{EntryCode, Head, Program, RowRef, RowSpace, Uop};
 pub use fetch::Fetch;

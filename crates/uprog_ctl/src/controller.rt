@@ -16,10 +16,9 @@ ghost use Rattle.uprog_code.specs.declared.binding.Binding.{Binding};
 ghost use Rattle.uprog_code.specs.Count.{counts_of};
 ghost use Rattle.uprog_ctl.specs.Events.{issue_events, trace_events, risen};
 
-use crate::address::command_of;
 use bit_rows::WIDTH_MAX;
 use dram_model::{ChipFault, Command, Dram};
-use uprog_code::{Binding, Fetch, Head, Turn, WALK_MAX, step};
+use uprog_code::{Binding, Fetch, Head, Turn, WALK_MAX, command_of, step};
 
 /// A trace's events raise the counters by its counts.
 pub fn counters_rise_by_counts()
