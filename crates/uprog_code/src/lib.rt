@@ -4,14 +4,15 @@
 mod address;
 mod binding;
 mod code;
+mod commands;
 mod fetch;
 mod laws;
 mod registers;
 mod walker;
 
-pub use address::{address_of, command_of};
 pub use binding::Binding;
 pub use code::{EntryCode, Head, Program, RowRef, RowSpace, Uop};
+pub use commands::{Walk, next_command};
 pub use fetch::Fetch;
 pub use laws::legal_code_is_safe;
 pub use op_text::Kind;
