@@ -1,6 +1,6 @@
 -- A walk that stands again where it stood goes round until its budget is spent.
 use Rattle.std.proofs.Common.{◌≡◌, ℕ, zero, suc, ◌+◌, ◌-◌, ◌*◌, ◌/◌, ◌%◌, ◌<◌, ◌≤◌, ◌⊎◌, List, refl}
-use Rattle.std.proofs.Common.{sym, ap, ◌∙◌, subst, ⊎_elim, arith, Some, Result, Ok, Err}
+use Rattle.std.proofs.Common.{sym, ap, ◌∙◌, subst, ⊎_elim, arith, Some, Result, Ok}
 use Rattle.std.specs.Prelude.{slice_get}
 use Rattle.std.proofs.lemmas.Bool.{cases_eq}
 use Rattle.std.proofs.lemmas.Nat.{div-add-mod'}
@@ -13,7 +13,7 @@ use Rattle.uprog_code.specs.declared.walker.Why3.TheVariants.{Budget}
 use Rattle.uprog_code.specs.declared.walker.Counts.{Counts}
 use Rattle.uprog_code.specs.declared.walker.State.{State}
 use Rattle.uprog_code.specs.Shape.{Shape}
-use Rattle.uprog_code.specs.Machine.{Trace, Stuck, Next, onto, act, issue}
+use Rattle.uprog_code.specs.Machine.{Stuck, Next, onto, act, issue}
 use Rattle.uprog_code.specs.OneStep.{turn_trace, next_place, issues_by}
 use Rattle.uprog_code.proofs.Steps.{no_more, one_step, goes_on, walked_after}
 

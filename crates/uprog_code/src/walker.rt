@@ -105,7 +105,11 @@ pub fn walk<F: Fetch>(code: &F, n: u8) -> Result<Counts, BadWalk>
             }
             Err(why) => return Err(BadWalk { at: pc, why }),
         }
-        let here = State { step: k + 1, pc, regs };
+        let here = State {
+            step: k + 1,
+            pc,
+            regs,
+        };
         end = here.end_since(&mark, end);
         mark = here.kept_after(mark);
     }

@@ -1,8 +1,8 @@
 -- One command more on a bank.
-use Rattle.std.proofs.Common.{◌≡◌, ℕ, ◌+◌, ◌≤◌, [], ◌∷◌, sym, ap, ◌∙◌, subst, arith}
+use Rattle.std.proofs.Common.{ℕ, ◌+◌, ◌≤◌, [], ◌∷◌, sym, ap, ◌∙◌, subst}
 use Rattle.dram_model.specs.declared.dram.Counters.{Counters}
 use Rattle.dram_model.specs.declared.address.Command.{Command}
-use Rattle.dram_model.specs.Chip.{Banks, all_counted, SameBut}
+use Rattle.dram_model.specs.Chip.{Banks, SameBut}
 use Rattle.dram_model.specs.Chip.Event.{Row}
 use Rattle.dram_model.specs.View.{ChipView, Did}
 use Rattle.dram_model.proofs.EventLaws.{counted-bound, on-others}

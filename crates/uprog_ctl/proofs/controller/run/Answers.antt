@@ -1,4 +1,4 @@
-use Rattle.std.proofs.Common.{◌≡◌, ◌+◌, ◌≤◌, [], ◌∷◌, List, true, refl, sym, ap, ◌∙◌, subst, arith}
+use Rattle.std.proofs.Common.{◌≡◌, [], ◌∷◌, List, true, refl, sym, ap, ◌∙◌, subst, arith}
 use Rattle.dram_model.specs.declared.address.Command.{Command}
 use Rattle.dram_model.specs.Chip.Event.{Row}
 use Rattle.dram_model.specs.Events.{row_events}
@@ -6,7 +6,6 @@ use Rattle.dram_model.specs.Column.{is_legal}
 use Rattle.dram_model.specs.declared.geometry.Geometry.{Geometry}
 use Rattle.dram_model.specs.View.{Did}
 use Rattle.dram_model.proofs.EventLaws.{Did-more, Did-none, Kept-same, Kept-more}
-use Rattle.uprog_code.specs.declared.TheConstants.{WALK_MAX}
 use Rattle.uprog_code.specs.declared.commands.Walk.{Walk}
 use Rattle.uprog_code.specs.Bound.{bound, bound_of}
 use Rattle.uprog_code.specs.Fits.{Fits}
