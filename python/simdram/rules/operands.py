@@ -57,8 +57,7 @@ class Operand(typing.NamedTuple):
         found = table.find(self.name.text)
         if not self.ends or self.high <= found.width:
             return None
-        return Refusal(f"slice {place}", self.ends[-1], f"{self.text} ends at bit {self.high}, and {found.name} has {found.width} "
-                       f"bit{'s' * (found.width > 1)}", (f"its highest bit is {found.name}[{found.width - 1}]",))
+        return Refusal(f"slice {place}", self.ends[-1], f"{self.text} has bit {self.high - 1}, and the highest bit of {found.name} is {found.width - 1}")
 
     def check_name(self) -> None:
         """Refuses a name that is too long."""
