@@ -1,5 +1,5 @@
 -- The flows of and_red and or_red do statements of them.
-use Rattle.word_flow.proofs.Common.{◌≡◌, ℕ, zero, suc, ◌+◌, ◌*◌, Bool, true, false, cond, List, []}
+use Rattle.word_flow.proofs.Common.{◌≡◌, ℕ, zero, suc, ◌*◌, Bool, true, false, cond, List, []}
 use Rattle.word_flow.proofs.Common.{inl, inr, ◌∷◌, not, refl, sym, ap, ◌∙◌, arith, ◌==◌, BodyCmd, Bit}
 use Rattle.word_flow.proofs.Common.{WordOp, op_ceiling, op_value, Space, Extent}
 use Rattle.word_flow.proofs.Common.{Full, Owner, InRoom, InCells, flow_total, flow_aps, majority}
