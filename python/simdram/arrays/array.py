@@ -10,8 +10,10 @@ import numpy
 from . import cells
 from .costing import Cost
 from .expressions import Constant, Held, Value
-from .operations import BIT
+from .layout import bits_of, extended
+from .operations import BIT, WORD
 from .operators import Operators
+from .records import Field, unpacked
 from .running import Made
 
 if typing.TYPE_CHECKING:
@@ -31,6 +33,8 @@ class Array(Operators):
     def __init__(self, chip: Chip, shape: typing.Tuple[int, ...], value: Value,
                  made: typing.Optional[Made] = None, signed: bool = False) -> None:
         self.chip, self.shape, self.value, self.made, self.signed = chip, shape, value, made, signed
+        # of an array of a structured type this type and where its fields lie
+        self.record: typing.Optional[typing.Tuple[numpy.dtype, typing.Mapping[str, Field]]] = None
 
     def of_value(self, shape: typing.Tuple[int, ...], value: Value, signed: bool) -> Array:
         """An array of the same chip that is computed when it is looked at."""
@@ -60,9 +64,18 @@ class Array(Operators):
         """How many elements it has."""
         return int(numpy.prod(self.shape, dtype=object))
 
+    def __getitem__(self, name: str) -> Array:
+        """A field of a structured type: bits of this array's object, which take no command."""
+        if self.record is None or name not in self.record[1]:
+            raise TypeError(f"the fields of this array are {', '.join(self.record[1]) if self.record else 'none'}, and elements are looked at "
+                            "by .numpy()")
+        field = self.record[1][name]
+        return self.of_value(self.shape, bits_of(self.value, field.low, field.bits, BIT if field.is_bit else WORD), field.signed)
+
     def numpy(self) -> numpy.ndarray:
-        """Its elements: truth values, the smallest type that holds them, or Python's integers above 64 bits."""
-        return self.chip.values(self)
+        """Its elements: truth values, the smallest type that holds them, Python's integers above 64 bits, or those of a structured type."""
+        numbers = self.chip.values(self)
+        return unpacked(numbers, self.record[1], self.record[0]) if self.record else numbers
 
     def __array__(self, dtype: typing.Any = None, copy: typing.Any = None) -> numpy.ndarray:
         return self.numpy() if dtype is None else self.numpy().astype(dtype)
@@ -71,9 +84,8 @@ class Array(Operators):
                signed: typing.Optional[bool] = None) -> Array:
         """The same numbers at another width, modulo 2^bits; or their patterns read as signed or unsigned.
 
-        To another width the host reads the rows of this array, which is computed now, and writes those of a new one,
-        as its cost says (`host_reads`, `host_writes`). At the same width nothing is moved. A type of NumPy says width
-        and sign; `bool` is whether a number isn't 0.
+        Fewer bits are a slice of the same object, which takes no command; more are copied beside zeros or copies of the top
+        bit. A type of NumPy says width and sign; `bool` is whether a number isn't 0.
         """
         if dtype is not None:
             if bits is not None or signed is not None:
@@ -86,13 +98,7 @@ class Array(Operators):
         is_signed = self.signed if signed is None else bool(signed)
         if not self.is_bit and width == self.bits:
             return Array(self.chip, self.shape, self.value, self.made, is_signed)
-        before = self.chip.made(self)
-        placed = self.chip.array(cells.modulo(self.numpy(), width), bits=width)
-        banks = self.chip.image.banks_of(self.size) if self.shape else 0
-        moved = Cost(banks=banks or 1, host_writes=width * banks, host_reads=self.bits * banks)
-        script = f"# the host reads {self.value.origin.name} and writes {placed.value.origin.name}\n" if self.shape else ""
-        placed.value.origin.made = Made(script=script, cost=moved, sources=(before,))
-        return Array(self.chip, self.shape, placed.value, placed.value.origin.made, is_signed)
+        return self.of_value(self.shape, extended(self.value, width, self.signed), is_signed)
 
     def sum(self, axis: typing.Optional[int] = None, dtype: typing.Any = None, out: typing.Any = None, *,
             bits: typing.Optional[int] = None) -> Array:

@@ -105,14 +105,15 @@ class Image(Table):
         """Where a row begins in the contents."""
         return 8 * self.words * (self.rows * bank + row)
 
-    def cells(self, name: str) -> typing.Tuple[bytes, int]:
-        """The object's elements as cells, low byte first, and the size of a cell."""
+    def cells(self, name: str, low: int = 0, width: typing.Optional[int] = None) -> typing.Tuple[bytes, int]:
+        """The object's elements, or so many bits of them from `low` on, as cells, low byte first, and the size of a cell."""
         found, cells = self.find(name), []
-        size = columns.size_of(found.width)
+        width = width or found.width
+        size = columns.size_of(width)
         for bank in range(self.banks):
             kept = self.segment(found, bank)
             if kept:
-                rows = [self._row(bank, found.base + k) for k in range(found.width)]
+                rows = [self._row(bank, found.base + low + k) for k in range(width)]
                 cells.append(columns.cells_of(rows, kept, size))
         return b"".join(cells), size
 

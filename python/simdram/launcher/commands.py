@@ -24,7 +24,7 @@ KINDS = {
 HOLDS = {
     "ops": "operation text: operations in the operation language (docs/LANGUAGE.md)",
     "program": "program file: compiled operations (docs/FORMATS.md, Program file)",
-    "script": "script: one instruction per line, such as `bbop_mac y, a, b, c, 4, 8` (docs/FORMATS.md, Script)",
+    "script": "script: one instruction per line, such as `bbop_mac y, a, b, c, 4, 8`, where `p[0:8]` is bits of p (docs/FORMATS.md, Script)",
     "image": "image: the data rows of a chip, and the table of its objects (docs/FORMATS.md, Image file)",
     "query": "query: such as `and(ge(a, 10), lt(a, 20))` (docs/FORMATS.md, Query)",
     "flips": "text of flips: the cells to invert, `K BANK ROW COLUMN` per line (docs/FORMATS.md, Flips)",

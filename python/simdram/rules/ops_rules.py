@@ -3,9 +3,8 @@
 from __future__ import annotations
 
 from ..launcher.faults import Fault
-from ..launcher.words import nearest
 from . import word_ops
-from .answer import Answer, at_token
+from .answer import Answer, Breach, at_token, near
 from .op_shapes import OpShape, Statement
 from .op_tree import Expr, Op, gate, read
 from .ops_scope import Scope
@@ -20,23 +19,9 @@ NO_NEST = ("expressions do not nest in word statements: give the inner one a nam
            "such as `t = {}(..);`, and write the name here")
 
 
-class Breach(Exception):
-    """A token that breaks a rule: its kind, the rule in a sentence, what would be right."""
-
-    def __init__(self, token: Token, kind: str, rule: str, *right: str) -> None:
-        super().__init__(kind)
-        self.token, self.kind, self.rule, self.right = token, kind, rule, right
-
-
 def listed(names) -> str:
     """Names with commas between them."""
     return ", ".join(names) or "none"
-
-
-def near(word: str, known) -> str:
-    """The nearest names, as a part of a sentence."""
-    found = nearest(word, known)
-    return f"; did you mean {' or '.join(found)}?" if found else ""
 
 
 def spelled(token: Token) -> str:
