@@ -31,17 +31,11 @@ def sliced(b, value: Value, low: int, size: int, kind: str = WORD) -> Value:
     return b.step(Slice(base + low, kind), (whole,), size)[0]
 
 
-def moved(b, value: Value, places: int) -> Value:
-    """A value at its width after a shift by so many places, up, or down where they are below 0."""
-    gone = abs(places)
-    kept, zeros = sliced(b, value, max(-places, 0), value.bits - gone), (b.constant(WORD, gone, 0), gone)
-    return put_together(b, [zeros, (kept, kept.bits)] if places > 0 else [(kept, kept.bits), zeros])
-
-
-def modulo(b, value: Value, size: int) -> Value:
-    """The lowest bits of a value below zeros."""
-    zeros = b.constant(WORD, value.bits - size, 0), value.bits - size
-    return put_together(b, [(sliced(b, value, 0, size), size), zeros] if size else [zeros])
+def among_zeros(b, value: Value, low: int, size: int, at: int) -> Value:
+    """So many bits of a value, from the bit `low` on, at the bit `at` of a word of its width that is 0 else."""
+    kept = [(sliced(b, value, low, size), size)] if size else []
+    below, above = ((b.constant(WORD, gap, 0), gap) for gap in (at, value.bits - at - size))
+    return put_together(b, [piece for piece in (below, *kept, above) if piece[1]])
 
 
 def without_zeros(value: Value) -> Value:
