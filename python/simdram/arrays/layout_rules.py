@@ -2,6 +2,7 @@
 
 from __future__ import annotations
 
+import itertools
 import typing
 
 from .expressions import Value
@@ -31,11 +32,17 @@ def sliced(b, value: Value, low: int, size: int, kind: str = WORD) -> Value:
     return b.step(Slice(base + low, kind), (whole,), size)[0]
 
 
-def among_zeros(b, value: Value, low: int, size: int, at: int) -> Value:
-    """So many bits of a value, from the bit `low` on, at the bit `at` of a word of its width that is 0 else."""
-    kept = [(sliced(b, value, low, size), size)] if size else []
-    below, above = ((b.constant(WORD, gap, 0), gap) for gap in (at, value.bits - at - size))
-    return put_together(b, [piece for piece in (below, *kept, above) if piece[1]])
+def moved(b, value: Value, places: int) -> Value:
+    """A value at its width after a shift by so many places, up, or down where they are below 0."""
+    gone = abs(places)
+    kept, zeros = sliced(b, value, max(-places, 0), value.bits - gone), b.constant(WORD, gone, 0)
+    return put_together(b, [(one, one.bits) for one in ((zeros, kept) if places > 0 else (kept, zeros))])
+
+
+def masked(b, value: Value, mask: int) -> Value:
+    """The bits of a value where those of a number are 1, and 0 elsewhere."""
+    runs = [list(run) for _, run in itertools.groupby(range(value.bits), lambda k: mask >> k & 1)]
+    return put_together(b, [(sliced(b, value, run[0], len(run)) if mask >> run[0] & 1 else b.constant(WORD, len(run), 0), len(run)) for run in runs])
 
 
 def without_zeros(value: Value) -> Value:

@@ -12,7 +12,7 @@ from .blocks import BLOCKS
 from .constant_folding import folded
 from .expressions import Constant, Held, Result, Step, Value, in_order
 from .layout import Layout
-from .layout_rules import among_zeros, laid_out, sliced
+from .layout_rules import laid_out, moved, sliced
 from .operations import BIT, OPERATIONS, WORD, Operation
 from .rewriting import COMMUTATIVE, RULES
 
@@ -57,7 +57,7 @@ class Builder:
         """A value at its width after a shift by so many places, up, or down where they are below 0."""
         if abs(places) < 2:
             return self.do("shl1" if places > 0 else "shr1", value) if places else value
-        return among_zeros(self, value, max(-places, 0), value.bits - abs(places), max(places, 0))
+        return moved(self, value, places)
 
     def do(self, name: str, *arguments: Value) -> Value:
         """The one result of an operation by its name."""
