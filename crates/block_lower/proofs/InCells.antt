@@ -39,7 +39,6 @@ use Rattle.loop_ir.specs.Lowered.{IsStatementRow, IsLowered, Does}
 use Rattle.loop_laws.proofs.Rowed.{all_count}
 use Rattle.loop_laws.proofs.Same.{spot_true, spot_same}
 use Rattle.loop_laws.proofs.Summed.{rounds_sum}
-use Rattle.loop_laws.proofs.Costing.{plain-most}
 use Rattle.block_lower.specs.Inputs.{block_inputs}
 use Rattle.block_lower.specs.declared.home.Home.{Home}
 use Rattle.block_lower.specs.Held.{HeldCommands, CarriesRight, IsHeldOne, cell_place, same_place}

@@ -1,26 +1,25 @@
 -- What the code looked at says that the chosen steps do the block.
-use Rattle.std.proofs.Common.{◌≡◌, ℕ, zero, suc, ◌+◌, ◌*◌, ◌<◌, ◌≤◌, Bool, List, [], ◌∷◌, length}
+use Rattle.std.proofs.Common.{◌≡◌, ℕ, ◌+◌, ◌*◌, ◌≤◌, Bool, List, [], ◌∷◌, length}
 use Rattle.std.proofs.Common.{sym, ap, ◌∙◌, subst, arith, ◌⊎◌, inl, inr}
 use Rattle.std.specs.Prelude.{slice_index_or}
 use Rattle.std.proofs.lemmas.Option.{slice_get_within}
-use Rattle.std.proofs.Math.Nat.{mul-le-mul_left}
 use Rattle.op_text.specs.declared.tree.State.{State}
 use Rattle.op_text.specs.Language.{Block, Visit}
 use Rattle.loop_ir.specs.declared.ir.Place.{Place}
 use Rattle.loop_ir.specs.Plain.{Block as Body, StepOf}
 use Rattle.loop_ir.specs.Loops.{all_rounds}
-use Rattle.loop_ir.specs.Costs.{turn_cost, rounds_cost}
+use Rattle.loop_ir.specs.Costs.{rounds_cost}
 use Rattle.loop_ir.specs.Statements.{Slots}
 use Rattle.loop_ir.specs.Lowered.{IsLowered}
 use Rattle.block_lower.specs.Inputs.{block_inputs}
 use Rattle.block_lower.specs.declared.held.HeldLoop.{HeldLoop}
 use Rattle.block_lower.specs.Held.{IsHeldOne, IsLoopFor, held_steps, commands_in}
 use Rattle.block_lower.specs.Choice.{HasFound, IsOther}
-use Rattle.block_lower.specs.Form.{place_of, home, row_steps, IsBlockBody, IsInCells, IsChosen}
+use Rattle.block_lower.specs.Form.{place_of, home, IsBlockBody, IsInCells, IsChosen}
 use Rattle.block_lower.specs.Form.{IsBlockProgram}
 use Rattle.block_lower.proofs.Facts.{Given}
-use Rattle.block_lower.proofs.InRows.{row-turns, row-lowered, row-program}
-use Rattle.block_lower.proofs.InCells.{flow-sum, cells-cost, cells-lowered}
+use Rattle.block_lower.proofs.InRows.{row-lowered, row-program}
+use Rattle.block_lower.proofs.InCells.{cells-cost, cells-lowered}
 
 -- a body at the same places of a graph that may stand for the block's is one of the block
 other-is : {slots : Slots} {b : Block} {body other : Body} → IsBlockBody slots b body

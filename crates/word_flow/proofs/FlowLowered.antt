@@ -5,14 +5,14 @@ use Rattle.word_flow.proofs.Common.{AllByRecursion, IsStatementRow, statement_ro
 use Rattle.word_flow.proofs.Common.{after_rounds, sum_by-cons, flow_rounds, rounds_cost, append-nil}
 use Rattle.word_flow.proofs.Common.{all_rounds, read_names, RoomsApart, []}
 use Rattle.word_flow.proofs.Common.{placed_body, op_ceiling, flow_total, and_parts, Bool}
-use Rattle.word_flow.proofs.Common.{WIDTH_MAX, Statement, turn_cost, code_cost, HasValues, and_from}
+use Rattle.word_flow.proofs.Common.{WIDTH_MAX, Statement, code_cost, HasValues, and_from}
 use Rattle.word_flow.proofs.Common.{IsLowered, NameValue, is_among, AllParts, flow_map, all_flow, ℕ}
 use Rattle.word_flow.proofs.Common.{IsPlaced, room_for, HaveRows, flow_aps, RoundOf, false}
 use Rattle.word_flow.proofs.Common.{chained, IsRound, IsOwned, HasForm, run_all, BodyCmd, Compute}
 use Rattle.word_flow.proofs.Common.{Option, nat_le, sum_by, StepOf, Flowed, FlowOf, row_in}
 use Rattle.word_flow.proofs.Common.{Extent, IsSlim, IsMade, turn_aps, WordOp, subst, arith, Block, ap}
 use Rattle.word_flow.proofs.Common.{zeros, Spots, Slots, Holds, Owner, Marked, true, List, refl, ◌≡◌}
-use Rattle.word_flow.proofs.Common.{◌&&◌, Spot, Room, ◌+◌, ◌*◌, ◌<◌, ◌≤◌, ◌∷◌, map, sym, ◌∙◌, run}
+use Rattle.word_flow.proofs.Common.{◌&&◌, Spot, Room, ◌*◌, ◌<◌, ◌≤◌, ◌∷◌, map, sym, ◌∙◌, run}
 use Rattle.word_flow.proofs.Common.{most_is, rounds_among, rooms_row, rounds_aps, HasCommands}
 use Rattle.loop_ir.specs.FlowTests.{names, counts, nests, runs_safely, is_event_safe}
 use Rattle.loop_laws.proofs.Compile.{made_compile}

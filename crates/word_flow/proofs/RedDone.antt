@@ -1,7 +1,7 @@
 -- The flows of and_red and or_red do statements of them.
-use Rattle.word_flow.proofs.Common.{◌≡◌, ℕ, zero, suc, ◌+◌, ◌*◌, Bool, true, false, cond, List, []}
+use Rattle.word_flow.proofs.Common.{◌≡◌, ℕ, zero, suc, ◌*◌, Bool, true, false, cond, List, []}
 use Rattle.word_flow.proofs.Common.{inl, inr, ◌∷◌, not, refl, sym, ap, ◌∙◌, arith, ◌==◌, BodyCmd, Bit}
-use Rattle.word_flow.proofs.Common.{WordOp, op_ceiling, op_value, Space, Extent}
+use Rattle.word_flow.proofs.Common.{WordOp, ◌<◌, ◌≤◌, op_ceiling, op_value, Space, Extent}
 use Rattle.word_flow.proofs.Common.{Full, Owner, InRoom, InCells, flow_total, flow_aps, majority}
 use Rattle.word_flow.proofs.Common.{values_from, sense_three, first_node}
 use Rattle.loop_laws.specs.Rooms.{One as OneRow}
@@ -97,6 +97,7 @@ value_is : (c : Bool) (x : ℕ → Bool) (n : ℕ)
 value_is true x n = ap set.bit (any_gives x (joined true x) n refl (λ i lt. next_joins true x i))
 value_is false x n = ap set.bit (all_gives x (joined false x) n refl (λ i lt. next_joins false x i))
 
+-- and few
 few_all : (n : ℕ) → 0 < n → flow_total op.AndRed n ≤ op_ceiling op.AndRed n
 few_all n some = grind (arith, some)
 

@@ -25,7 +25,7 @@ use Rattle.loop_ir.specs.Plain.StepOf.{Along}
 use Rattle.loop_ir.specs.Flows.{FlowOf}
 use Rattle.loop_ir.specs.Flows.FlowOf.{End, Do, Loop}
 use Rattle.loop_ir.specs.Flows.TurnsOf.{Last}
-use Rattle.loop_ir.specs.Costs.{used_subs, turn_aaps, turn_aps}
+use Rattle.loop_ir.specs.Costs.{used_subs}
 use Rattle.loop_ir.specs.Loops.{all_rounds}
 use Rattle.loop_ir.specs.Statements.{Slots}
 use Rattle.loop_front.specs.Front.{in_registers, before, after, each_sub, put_all, counter, starts}
@@ -36,7 +36,6 @@ use Rattle.uprog_gen.specs.Does.{IsCheap, AreCheap}
 use Rattle.uprog_gen.specs.Does.{total as sum_of}
 use Rattle.uprog_gen.specs.Layout.{IsLayout}
 use Rattle.uprog_gen.specs.Programs.{HaveForms, AreWritten, IsCompiled}
-use Rattle.uprog_gen.specs.Costs.{op_aaps, op_aps}
 use Rattle.uprog_gen.specs.Totals.{IsExactOver}
 use Rattle.uprog_gen.specs.Entries.{IsCodeOf}
 use Rattle.uprog_gen.proofs.Costs.Counted.{one_exactly, all_exactly}
