@@ -382,8 +382,14 @@ pub(crate) fn fewer_loop(
     ensures held { IfOk result (λ o. IfSome o (λ r. IsLoopFor place start (block_of r.body) most
         r.held)) }
 {
-    let HeldTries { tries, tried: _ } =
-        searched.held(number, (place, start), body, offers, (few, most), alloc)?;
+    let HeldTries { tries, tried: _ } = searched.held(
+        number,
+        (place, start),
+        body,
+        offers,
+        (few, most),
+        alloc,
+    )?;
     other_loop(place, start, body, &tries, most, alloc)
 }
 

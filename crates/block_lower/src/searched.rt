@@ -17,7 +17,7 @@ const MOST_OFFERS: u8 = 96;
 
 /// How many steps the searches of one call take, about, before the blocks that follow are searched
 /// briefly: states that are tried, and twice the steps of walks over graphs.
-const MOST_STEPS: usize = 40_000_000;
+const MOST_STEPS: usize = 32_000_000;
 
 /// How far the search for a block goes: the walks over graphs, and the races of graphs with all
 /// values in rows and with the state in cells.
@@ -260,11 +260,18 @@ fn tries_again(tries: &[HeldTry], alloc: Global) -> Result<HeldTries, NoMemory> 
 impl Block {
     /// Whether it is the block of this graph and these rows.
     fn is_of(&self, m: &MigOuts, rows: &[OutRow]) -> bool {
-        self.inputs == m.mig.inputs() && has_nodes(&m.mig, &self.nodes) && are_same(&self.rows, rows)
+        self.inputs == m.mig.inputs()
+            && has_nodes(&m.mig, &self.nodes)
+            && are_same(&self.rows, rows)
     }
 
     /// The loops in cells that were to be tried with the state at this place.
-    fn held_at(&self, read: Option<usize>, written: Option<usize>, start: bool) -> Option<&HeldBlock> {
+    fn held_at(
+        &self,
+        read: Option<usize>,
+        written: Option<usize>,
+        start: bool,
+    ) -> Option<&HeldBlock> {
         for held in &self.held {
             if held.read == read && held.written == written && held.start == start {
                 return Some(held);
@@ -358,7 +365,10 @@ impl Searched {
         (few, most): (usize, usize),
         alloc: Global,
     ) -> Result<HeldTries, NoMemory> {
-        let (read, written) = (number_of(&body.reads, place), number_of(&body.writes, place));
+        let (read, written) = (
+            number_of(&body.reads, place),
+            number_of(&body.writes, place),
+        );
         if let Some(block) = self.blocks.get(number)
             && let Some(held) = block.held_at(read, written, start)
         {
