@@ -13,6 +13,8 @@ from support import needs_program
 
 from scripts_by_rows import OPERATIONS, SPILL_ROWS, TEXT, Operand, Rows
 
+from simdram.costs.report import object_of
+
 COST = re.compile(r"(\w+) at (\d+) aap=(\d+) ap=(\d+) rows=(\d+)")
 
 
@@ -244,6 +246,11 @@ class Worked(Files):
         values, _ = self.outcome(TEXT, "bbop_trsp_init y, 2, 16\nbbop_trsp_init b, 2, 8\nload y[0:8], 200, 7\nload b, 100, 9\n"
                                  "bbop_add y[8:16], y[0:8], b, 2, 8\nprint y[8:16]\nprint y[0:8]\nprint y\n")
         self.assertEqual(values, {"y[8:16]": [44, 16], "y[0:8]": [200, 7], "y": [200 + 256 * 44, 7 + 256 * 16]})
+
+    def test_a_report_of_slices(self):
+        made = object_of("1 a[4:8]: 1 15\n2 a[3]: 0 1\n3 a: 8 255\n4 refused slice 1\ntotal aap=0 ap=0 writes=64 reads=64 refused=1\n")
+        self.assertEqual([(one.get("name"), one.get("values"), one.get("at")) for one in made["instructions"]],
+                         [("a[4:8]", [1, 15], None), ("a[3]", [0, 1], None), ("a", [8, 255], None), (None, None, [1])])
 
 
 if __name__ == "__main__":

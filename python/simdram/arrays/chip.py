@@ -30,7 +30,7 @@ class Chip:
 
     A bank holds 64 * words elements of an array, one in each column. `cost` is all that the chip has done until now: the row
     commands of its scripts and scans, those that make objects too, and the rows that the host has written to place arrays and
-    has read for `numpy()` and `astype`; `host_writes` and `host_reads` are these rows alone, over all banks. With `simplify` the text of each op is
+    has read for `numpy()`, sums and products of matrices; `host_writes` and `host_reads` are these rows alone, over all banks. With `simplify` the text of each op is
     simplified at its width and compared with what was meant (docs/NUMPY.md, "Simpler texts").
     """
 

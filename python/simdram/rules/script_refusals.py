@@ -153,10 +153,10 @@ class Checker:
         for place, rows in enumerate(found):
             other = next((one for one in found[:min(place, len(entry.results))] if one.meets(rows)), None)
             if other:
-                shared = f"{rows.name} is" if rows.name == other.name else f"{rows.name} has bits of {other.name}, which is"
-                what = "the first destination" if place < len(entry.results) else "a destination"
-                return Refusal(f"overlap {place}", one.operands[place].name,
-                               f"{shared} {what} too, and a result is written before all sources are read",
+                role = "the first destination" if place < len(entry.results) else "a destination"
+                whole = f"{rows.name} is {role} {'too' if place < len(entry.results) else 'and a source'}"
+                shared = whole if rows.name == other.name else f"{rows.name} has bits of {other.name}, {role}"
+                return Refusal(f"overlap {place}", one.operands[place].name, f"{shared}, and a result is written before all sources are read",
                                ("give the result an object, or bits, of its own",))
         return None
 
