@@ -106,14 +106,18 @@ asked g start count all k j (Negate a) parts e = asked g start count all k j a p
     (checked-append (table_of start) count k (nodes_from j a) _ e).0
 asked g start count all k j (Both a b) parts e =
     let r = checked-append (table_of start) count k (nodes_from j a) _ e in
-    let s = checked-append (table_of start) count r.1 (nodes_from (j + size a) b) _ r.2 in
-    (asked g start count all k j a parts.0 r.0, asked g start count all r.1 (j + size a) b parts.1
-    s.0)
+    let s = checked-append (table_of start) count r.1 (nodes_from (j + size a) b) _ r.2 in (
+      asked g start count all k j a parts.0 r.0,
+      asked g start count all r.1 (j + size a) b parts.1
+          s.0,
+    )
 asked g start count all k j (Either a b) parts e =
     let r = checked-append (table_of start) count k (nodes_from j a) _ e in
-    let s = checked-append (table_of start) count r.1 (nodes_from (j + size a) b) _ r.2 in
-    (asked g start count all k j a parts.0 r.0, asked g start count all r.1 (j + size a) b parts.1
-    s.0)
+    let s = checked-append (table_of start) count r.1 (nodes_from (j + size a) b) _ r.2 in (
+      asked g start count all k j a parts.0 r.0,
+      asked g start count all r.1 (j + size a) b parts.1
+          s.0,
+    )
 
 -- the first refused node is that of the first refused instruction
 by_nodes_case : (a rest : Option Why) (k : ℕ) (later : Option (Why × ℕ))
@@ -141,48 +145,48 @@ same_why v w e = cc
 pub scan_in_words : ScanInWords
 scan_in_words g operations meaning state q offers means all few small parts checks =
     by_goes goes where
-  count : ℕ
-  count = count_of (table_of state) (nodes_of q)
+      count : ℕ
+      count = count_of (table_of state) (nodes_of q)
 
-  short : length (table_of state) ≤ 256
-  short = simp length-map few
+      short : length (table_of state) ≤ 256
+      short = simp length-map few
 
-  differ : (i j : ℕ) → i ≤ 64 → j ≤ 64 → free_name (table_of state) i
-      ≡ free_name (table_of state) j → i ≡ j
-  differ i j a b e = names_are_free.differ (table_of state) i j short a b e
+      differ : (i j : ℕ) → i ≤ 64 → j ≤ 64 → free_name (table_of state) i
+          ≡ free_name (table_of state) j → i ≡ j
+      differ i j a b e = names_are_free.differ (table_of state) i j short a b e
 
-  goes : Goes g operations meaning state (scan_script (table_of state) (nodes_of q))
-      (Leaves g state (free_name (table_of state) (size q))
-      (count_of (table_of state) (nodes_of q)) (λ e. matches q (element state e)))
-  goes =
-      let go = tree_goes g operations meaning state (free_name (table_of state))
-      (count_of (table_of state) (nodes_of q)) 64 offers means differ q
-      (asked g state (count_of (table_of state) (nodes_of q)) all 0 0 q parts checks) 0 state
-      (omega (arith, small))
-      (record {
-        old = λ name h e. e;
-        first = has_absent state _ (names_are_free.free (table_of state) 0 short (omega arith));
-        later = λ i l m. has_absent state _ (names_are_free.free (table_of state) i short m);
-      }) in
-      subst (λ i. Goes g operations meaning state (scan_script (table_of state) (nodes_of q))
-      (Leaves g state (free_name (table_of state) i) (count_of (table_of state) (nodes_of q))
-      (λ e. matches q (element state e)))) (omega arith) go
+      goes : Goes g operations meaning state (scan_script (table_of state) (nodes_of q))
+          (Leaves g state (free_name (table_of state) (size q))
+          (count_of (table_of state) (nodes_of q)) (λ e. matches q (element state e)))
+      goes =
+          let go = tree_goes g operations meaning state (free_name (table_of state))
+          (count_of (table_of state) (nodes_of q)) 64 offers means differ q
+          (asked g state (count_of (table_of state) (nodes_of q)) all 0 0 q parts checks) 0 state
+          (omega (arith, small))
+          (record {
+            old = λ name h e. e;
+            first = has_absent state _ (names_are_free.free (table_of state) 0 short (omega arith));
+            later = λ i l m. has_absent state _ (names_are_free.free (table_of state) i short m);
+          }) in
+          subst (λ i. Goes g operations meaning state (scan_script (table_of state) (nodes_of q))
+          (Leaves g state (free_name (table_of state) i) (count_of (table_of state) (nodes_of q))
+          (λ e. matches q (element state e)))) (omega arith) go
 
-  refused : refused_in g operations (table_of state) (scan_script (table_of state) (nodes_of q))
-      ≡ option_map (λ p. p.0) (scan_refused g operations (table_of state) q)
-  refused = by_nodes g operations (table_of state) (table_of state) (free_name (table_of state))
-      (count_of (table_of state) (nodes_of q)) 0 (nodes_of q)
+      refused : refused_in g operations (table_of state) (scan_script (table_of state) (nodes_of q))
+          ≡ option_map (λ p. p.0) (scan_refused g operations (table_of state) q)
+      refused = by_nodes g operations (table_of state) (table_of state) (free_name (table_of state))
+          (count_of (table_of state) (nodes_of q)) 0 (nodes_of q)
 
-  by_goes : Goes g operations meaning state (scan_script (table_of state) (nodes_of q))
-      (Leaves g state (free_name (table_of state) (size q))
-      (count_of (table_of state) (nodes_of q)) (λ e. matches q (element state e)))
-      → Scans g operations meaning state q
-  by_goes (ends e p) = record {
-    counts = λ none. p;
-    room = λ w k is. let f = refused ∙ ap (option_map (λ p. p.0)) is in cc;
-  }
-  by_goes (stops w e room) = record {
-    counts = λ none. let f = refused ∙ ap (option_map (λ p. p.0)) none in cc;
-    room = λ v k is. subst IsRoom (same_why w v (sym e ∙ refused ∙ ap (option_map (λ p. p.0)) is))
-        room;
-  }
+      by_goes : Goes g operations meaning state (scan_script (table_of state) (nodes_of q))
+          (Leaves g state (free_name (table_of state) (size q))
+          (count_of (table_of state) (nodes_of q)) (λ e. matches q (element state e)))
+          → Scans g operations meaning state q
+      by_goes (ends e p) = record {
+        counts = λ none. p;
+        room = λ w k is. let f = refused ∙ ap (option_map (λ p. p.0)) is in cc;
+      }
+      by_goes (stops w e room) = record {
+        counts = λ none. let f = refused ∙ ap (option_map (λ p. p.0)) none in cc;
+        room = λ v k is. subst IsRoom (same_why w v (sym e ∙ refused ∙ ap (option_map (λ p. p.0)) is))
+            room;
+      }
