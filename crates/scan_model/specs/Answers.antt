@@ -98,8 +98,8 @@ ScansAnswer =
     → ImplementsAll p scan_text
     → ((bank : ℕ) → bank < g.banks → length (banks bank) ≡ column_count g)
     → IsTable (limit_of g) table → All (λ named. IsObject g named.1) table → size q ≤ 64
-    → HasParts q → checked table (nodes_of q) ≡ None → scan_refused g (routines_of scan_text p) table q
-    ≡ None
+    → HasParts q → checked table (nodes_of q) ≡ None
+    → scan_refused g (routines_of scan_text p) table q ≡ None
     → LeavesOne g (routines_of scan_text p) banks table q
 
 -- an answer but for how many commands it took
