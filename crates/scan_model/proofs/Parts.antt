@@ -14,6 +14,7 @@ use Rattle.machine_model.specs.Agrees.{IsWidth}
 use Rattle.scan_model.specs.Queries.{Operand, Whole, Bit, Bits, place_of, IsPart, HasParts}
 use Rattle.scan_model.specs.Queries.{Query, Compare, Negate, Both, Either, Node, Test, Not, And}
 use Rattle.scan_model.specs.Queries.{Or, size, last_from, nodes_from}
+use Rattle.scan_model.specs.TextLaws.{IsWritten}
 use Rattle.scan_model.proofs.Counted.{all_append}
 
 -- a part has a bit
@@ -25,6 +26,13 @@ pub part_some : (o : Operand) → IsPart o → SomeBits (place_of o).part
 part_some (Whole name) h = tt
 part_some (Bit name k) h = omega arith
 part_some (Bits name low high) h = let l = h.0 in omega (arith, l)
+
+-- the parts of a query that is written may be an object's
+pub written_parts : (q : Query) → IsWritten q → HasParts q
+written_parts (Compare op o v) w = w.1
+written_parts (Negate a) w = written_parts a w
+written_parts (Both a b) w = (written_parts a w.0, written_parts b w.1)
+written_parts (Either a b) w = (written_parts a w.0, written_parts b w.1)
 
 -- a node's comparison looks at some bit
 abbrev pub LooksAtSome : Node → Type 0

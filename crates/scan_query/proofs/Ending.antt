@@ -10,7 +10,8 @@ use Rattle.text_lex.specs.declared.token.TokenKind.TheVariants as kinds
 use Rattle.scan_model.specs.declared.QueryKind.TheVariants as kind
 use Rattle.scan_model.specs.Queries as query
 use Rattle.scan_model.specs.Texts as model
-use Rattle.scan_model.specs.TextLaws.{QueryTextLaws, IsWritten, bare_words}
+use Rattle.scan_model.specs.TextLaws.{QueryTextLaws, bare_words}
+use Rattle.scan_model.proofs.Parts.{written_parts}
 use Rattle.op_text.specs.Lines.{line_of}
 use Rattle.scan_query.specs.declared.reading.ReadError.{ReadError}
 use Rattle.scan_query.specs.Parsing.{IsQueryOf}
@@ -49,13 +50,6 @@ spare_stranger old at e = rw e refl
 pub at_end : (old : ParserView) → old.pieces ≡ [] → breach [] old ≡ None
 unfolding model.breach_of
 at_end old e = rw e refl
-
--- the parts of a query that is written may be an object's
-written_parts : (q : query.Query) → IsWritten q → query.HasParts q
-written_parts (query.Compare op o v) w = w.1
-written_parts (query.Negate a) w = written_parts a w
-written_parts (query.Both a b) w = (written_parts a w.0, written_parts b w.1)
-written_parts (query.Either a b) w = (written_parts a w.0, written_parts b w.1)
 
 -- the query of a text
 pub is_query : (laws : QueryTextLaws) (text : List ℕ) (start new : ParserView) (k : ℕ)

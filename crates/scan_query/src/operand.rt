@@ -1,7 +1,7 @@
 //! What a comparison looks at: an object, or bits of it.
 
 ghost use Rattle.std.specs.Prelude.{◌≡◌, ◌<◌, ◌≤◌, [], ◌∷◌, cond, length, OnOk, IfOk, IfErr, Ok};
-ghost use Rattle.std.specs.Prelude.{Err, Some, IfSome, IfNone};
+ghost use Rattle.std.specs.Prelude.{Err, Some, IfSome, IfNone, ℕ};
 ghost use Rattle.std.specs.Char.{is_ascii_digit};
 ghost use Rattle.std.specs.List.{AllPass};
 ghost use Rattle.std.specs.Str.Parse.{digits_value};
@@ -252,7 +252,8 @@ fn size_of_bits(parser: &mut Parser<'_>, low: u8) -> Result<u8, ReadError>
     ensures shorter { OnOk result (length (left (seen parser.new))
         ≤ length (left (seen parser.old))) }
 {
-    if closes_bits(parser)? {
+    let is_one = closes_bits(parser)?;
+    if is_one {
         return Ok(1);
     }
     let high = high(parser, low)?;
@@ -286,11 +287,13 @@ fn part(parser: &mut Parser<'_>) -> Result<Option<Part>, ReadError>
     ensures shorter { OnOk result (length (left (seen parser.new))
         ≤ length (left (seen parser.old))) }
 {
-    if !opens_bits(parser)? {
-        return Ok(None);
+    let opens = opens_bits(parser)?;
+    if opens {
+        let part = bits(parser)?;
+        Ok(Some(part))
+    } else {
+        Ok(None)
     }
-    let part = bits(parser)?;
-    Ok(Some(part))
 }
 
 /// What a comparison looks at, with the comma after it.

@@ -10,9 +10,9 @@ ghost use Rattle.scan_query.specs.Queries.{node_of};
 ghost use Rattle.scan_query.specs.Reading.{Finds, Moves, Reads, join_node, join_text, left, seen};
 
 use crate::lines::line_of;
+use crate::operand::operand;
 use crate::parser::Parser;
 use crate::query::{Node, Query, QueryNo};
-use crate::operand::operand;
 use crate::reading::{Lead, Mark, ReadError, begins, bound, ends, start, symbol};
 use scan_model::{CmpOp, QueryFault, texts_spell_queries};
 use std::alloc::Global;

@@ -8,7 +8,11 @@ use uprog_code::Counts;
 /// their places among the nodes.
 #[derive(Drop)]
 pub enum Node {
-    Cmp { op: CmpOp, place: Place, value: u128 },
+    Cmp {
+        op: CmpOp,
+        place: Place,
+        value: u128,
+    },
     Not(u8),
     And(u8, u8),
     Or(u8, u8),
