@@ -4,8 +4,8 @@ use bbop_isa::Place;
 use scan_model::{CmpOp, QueryFault, ScanWhy};
 use uprog_code::Counts;
 
-/// A node of a query. A comparison looks at an object, or at bits of it. A join names its sources by
-/// their places among the nodes.
+/// A node of a query. A comparison looks at an object, or at bits of it. A join names its sources
+/// by their places among the nodes.
 #[derive(Drop)]
 pub enum Node {
     Cmp {

@@ -1,6 +1,5 @@
-use Rattle.std.proofs.Common.{[], ◌∷◌, ◌∙◌, ap, cond, Some}
+use Rattle.std.proofs.Common.{[], ◌∷◌, ◌∙◌, ap}
 use Rattle.scan_model.specs.Texts as model
-use Rattle.scan_query.specs.Reading.{breach, left, seen}
 use Rattle.scan_query.proofs.Taking.{exits, fails_along}
 use Rattle.scan_query.proofs.Spelling.{part_along}
 use Rattle.scan_query.proofs.operand.bits.Goals as goal
