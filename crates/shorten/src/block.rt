@@ -272,13 +272,7 @@ impl Block {
 
     /// Whether the results are as they were after a change.
     #[inline(always)]
-    pub fn stays(
-        &mut self,
-        body: &Body,
-        names: &Names,
-        change: &Change,
-        window: &Window,
-    ) -> bool {
+    pub fn stays(&mut self, body: &Body, names: &Names, change: &Change, window: &Window) -> bool {
         let written = self.make(body, names, change, window);
         let differ = self.compare(body, window, written);
         self.follow(body, names, window.next, differ)

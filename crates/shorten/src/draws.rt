@@ -47,6 +47,12 @@ impl Draws {
         (part.wrapping_mul(count as u64) >> 16) as usize
     }
 
+    /// The same of a number of one byte.
+    #[inline(always)]
+    pub fn byte(&mut self, count: u8) -> u8 {
+        (self.below(usize::from(count)) & 0xFF) as u8
+    }
+
     /// Whether one of two equal chances comes.
     #[inline(always)]
     pub fn coin(&mut self) -> bool {

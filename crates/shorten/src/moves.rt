@@ -27,7 +27,7 @@ impl Mover<'_> {
     fn row_near(&mut self, at: usize) -> u8 {
         match self.draws.below(8) {
             0 => self.constant(),
-            1 => C0.saturating_add(self.draws.below(usize::from(self.names.rows())) as u8),
+            1 => C0.saturating_add(self.draws.byte(self.names.rows())),
             _ => self.named_near(at),
         }
     }
@@ -70,10 +70,10 @@ impl Mover<'_> {
                 if self.names.is_own(row) {
                     row
                 } else {
-                    self.draws.below(16) as u8
+                    self.draws.byte(16)
                 }
             }
-            _ => self.draws.below(16) as u8,
+            _ => self.draws.byte(16),
         }
     }
 

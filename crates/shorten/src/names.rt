@@ -234,12 +234,12 @@ impl Names {
     /// few enough and no row is two of them.
     pub fn of(commands: &[Command], roles: &Roles) -> Option<Names> {
         let mut names = Names::new();
-        for span in roles.sources {
+        for span in roles.sources.as_slice() {
             if !names.put_sources(*span) {
                 return None;
             }
         }
-        for span in roles.results {
+        for span in roles.results.as_slice() {
             if !names.put_results(*span) {
                 return None;
             }

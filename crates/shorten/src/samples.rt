@@ -177,7 +177,7 @@ impl Samples {
 /// A drawn number of so many bits, after the last one.
 fn drawn_word(kind: usize, count: u16, last: u128, draws: &mut Draws) -> u128 {
     let drawn = draws.wide();
-    let place = draws.below(usize::from(count)) as u16;
+    let place = (draws.below(usize::from(count)) & 0xFFFF) as u16;
     match kind {
         1 => drawn & draws.wide(),
         2 => drawn | draws.wide(),

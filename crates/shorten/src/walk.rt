@@ -57,10 +57,7 @@ impl Drop for Walk {
 
 /// The same commands again.
 fn copied(cmds: &[Cmd], alloc: Global) -> Result<Vec<Cmd>, NoMemory> {
-    let mut copy = Vec::new(alloc);
-    for cmd in cmds {
-        keep(&mut copy, *cmd)?;
-    }
+    let copy = cmds.iter().copied().collect(alloc)?;
     Ok(copy)
 }
 
@@ -80,6 +77,20 @@ fn blocks_of(
     Ok(blocks)
 }
 
+/// How many of the commands are AAPs.
+fn aaps(cmds: &[Cmd]) -> usize {
+    cmds.iter().filter(|cmd| cmd.y != NONE).count()
+}
+
+/// The commands by numbers.
+fn cmds_of(names: &Names, commands: &[Command], alloc: Global) -> Result<Vec<Cmd>, NoMemory> {
+    let mut cmds = Vec::new(alloc);
+    for command in commands {
+        keep(&mut cmds, names.cmd_of(*command))?;
+    }
+    Ok(cmds)
+}
+
 impl Walk {
     /// A walk from these commands, if they are few enough, and name few enough rows.
     pub fn new(
@@ -88,23 +99,31 @@ impl Walk {
         seed: u64,
         alloc: Global,
     ) -> Result<Option<Walk>, NoMemory> {
-        let Some(names) = Names::of(commands, roles) else {
-            return Ok(None);
-        };
         if commands.len() > MOST_COMMANDS {
             return Ok(None);
         }
-        let mut given = Vec::new(alloc);
-        for command in commands {
-            keep(&mut given, names.cmd_of(*command))?;
-        }
-        let mut draws = Draws::new(seed);
-        let samples = Samples::new(roles.sources, &names, alloc)?;
+        let Some(names) = Names::of(commands, roles) else {
+            return Ok(None);
+        };
+        let given = cmds_of(&names, commands, alloc)?;
+        let samples = Samples::new(roles.sources.as_slice(), &names, alloc)?;
+        let walk = Walk::begin(names, given, samples, Draws::new(seed), alloc)?;
+        Ok(Some(walk))
+    }
+
+    /// A walk that stands at what is given.
+    fn begin(
+        names: Names,
+        given: Vec<Cmd>,
+        samples: Samples,
+        mut draws: Draws,
+        alloc: Global,
+    ) -> Result<Walk, NoMemory> {
         let body = Body::new(&names, &given, alloc)?;
         let blocks = blocks_of(&body, &names, &samples, &mut draws, alloc)?;
         let good = copied(&given, alloc)?;
         let best = copied(&given, alloc)?;
-        Ok(Some(Walk {
+        Ok(Walk {
             names,
             body,
             blocks,
@@ -115,7 +134,7 @@ impl Walk {
             good,
             best,
             tried: 0,
-        }))
+        })
     }
 
     /// Whether each result is known at the end, whatever the cells hold at the start.
@@ -182,13 +201,13 @@ impl Walk {
             return Ok(true);
         }
         let both = (self.given.as_slice(), cmds);
-        agree(
-            &self.names,
-            both,
-            &mut self.samples,
-            &mut self.draws,
-            alloc,
-        )
+        agree(&self.names, both, &mut self.samples, &mut self.draws, alloc)
+    }
+
+    /// Whether these are fewer than the fewest so far, or as many with fewer AAPs.
+    fn is_better(&self, cmds: &[Cmd]) -> bool {
+        cmds.len() < self.best.len()
+            || cmds.len() == self.best.len() && aaps(cmds) < aaps(&self.best)
     }
 
     /// Compares the program that the walk stands at with what was given: goes on from it where both
@@ -199,7 +218,7 @@ impl Walk {
         if !self.is_right(&cmds, alloc)? {
             return self.go_back(alloc);
         }
-        if cmds.len() < self.best.len() {
+        if self.is_better(&cmds) {
             self.best = copied(&cmds, alloc)?;
         }
         self.good = cmds;
