@@ -7,6 +7,9 @@ use crate::value::{UNKNOWN, Value};
 use faults::NoMemory;
 use std::alloc::Global;
 
+/// How many commands after a change are followed. A right change is rarely felt further.
+const MOST_FOLLOWED: usize = 200;
+
 /// What a command senses after a change.
 #[derive(Clone, Copy)]
 struct Sensed {
@@ -222,12 +225,13 @@ impl Block {
     }
 
     /// Goes on after the new commands until nothing differs that is read later, or a result does
-    /// that is not written any more. Returns whether the results are as they were.
+    /// that is not written any more. Returns whether the results are as they were, if that is
+    /// found soon enough.
     #[inline(always)]
     fn follow(&mut self, body: &Body, names: &Names, next: usize, differ: u128) -> bool {
         let mut differ = differ;
         self.count = 0;
-        for slot in body.from(next) {
+        for slot in body.from(next).iter().take(MOST_FOLLOWED) {
             let Some(step) = body.step(*slot) else {
                 return false;
             };

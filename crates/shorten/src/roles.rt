@@ -10,7 +10,7 @@ use arrayvec::ArrayVec;
 use dram_model::{Addr, Command};
 
 /// So many data rows from a first one on.
-#[derive(Clone, Copy, Debug, PartialEq, Eq)]
+#[derive(Clone, Copy, Debug, Default, PartialEq, Eq)]
 pub struct Span {
     pub first: u16,
     pub count: u16,
