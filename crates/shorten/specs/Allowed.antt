@@ -16,7 +16,7 @@ is_in_span row span = nat_le span.first row && nat_lt row (span.first + span.cou
 abbrev pub is_in : List Span → ℕ → Bool
 is_in spans row = list_any (is_in_span row) spans
 
--- may be activated first: any bitwise address but B8 to B11, C0 and C1, and the rows that have a role
+-- may be activated first: any bitwise address but B8 to B11, C0, C1, and each row with a role
 abbrev pub may_be_first : Roles → Addr → Bool
 may_be_first roles (B k) = nat_lt k 8 || (nat_le 12 k && nat_lt k 16)
 may_be_first roles (C k) = nat_lt k 2
