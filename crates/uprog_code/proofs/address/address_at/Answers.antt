@@ -2,8 +2,8 @@ use Rattle.std.proofs.Common.{◌∙◌}
 use Rattle.std.specs.Prelude.{slice_index}
 use Rattle.uprog_code.specs.Shape.{shape_of}
 use Rattle.uprog_code.specs.Bound.{bound_of}
-use Rattle.uprog_ctl.proofs.Seek.{placed_address, placed_good}
-use Rattle.uprog_ctl.proofs.address.address_at.Goals as goal
+use Rattle.uprog_code.proofs.Seek.{placed_address, placed_good}
+use Rattle.uprog_code.proofs.address.address_at.Goals as goal
 
 pub address_of-requires-clause-good : goal.address_of-requires-clause-good
 address_of-requires-clause-good c =

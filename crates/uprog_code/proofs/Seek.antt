@@ -18,15 +18,37 @@ use Rattle.uprog_code.specs.declared.walker.Why3.TheVariants.{Index, Register}
 use Rattle.uprog_code.specs.Shape.{Shape}
 use Rattle.uprog_code.specs.Machine.{Next, Trace, Ended, Stuck, Issue, IssueAap, IssueAp, act}
 use Rattle.uprog_code.specs.Machine.{act_at, issue, issued, issues_of, HasEnded, onto}
-use Rattle.uprog_code.specs.Machine.{all_in_range, command_at, position}
+use Rattle.uprog_code.specs.Machine.{all_in_range, command_at, position, start, trace}
 use Rattle.uprog_code.specs.OneStep.{turn_trace, issues_by, issue_of, next_place, HasOperands}
 use Rattle.uprog_code.specs.Legal.{IsLegalCode, may_be_first, may_be_second}
-use Rattle.uprog_code.specs.Bound.{Bound, address_in}
+use Rattle.uprog_code.specs.Bound.{Bound, address_in, bound, bound_of}
 use Rattle.uprog_code.specs.Issued.{AreGood, is_good, is_issued, is_issued_in}
 use Rattle.uprog_code.proofs.Kept.{turn_good}
-use Rattle.uprog_code.proofs.Steps.{legal_operands, goes_on, not_last, place_in}
-use Rattle.uprog_ctl.specs.Cursors.{row_commands}
-use Rattle.uprog_ctl.proofs.Left.{step_from, ended-onto, issues-onto}
+use Rattle.uprog_code.proofs.Steps.{legal_operands, goes_on, not_last, place_in, one_step}
+use Rattle.uprog_code.proofs.Steps.{no_more, some_first, start_registers, trace_is}
+use Rattle.uprog_code.specs.Commands.{row_commands, commands_from, StandsIn}
+use Rattle.uprog_code.specs.declared.TheConstants.{WALK_MAX}
+use Rattle.uprog_code.specs.declared.binding.Binding.{Binding}
+use Rattle.uprog_code.specs.declared.commands.Walk.{Walk}
+
+ended-onto : (cs : List Issue) (t : Trace) → HasEnded (onto cs t) → HasEnded t
+ended-onto cs (Ended ds) h = tt
+ended-onto cs (Stuck at why) h = absurd h
+
+issues-onto : (cs : List Issue) (t : Trace) → HasEnded (onto cs t)
+    → issues_of (onto cs t) ≡ cs ++ issues_of t
+issues-onto cs (Ended ds) h = refl
+issues-onto cs (Stuck at why) h = absurd h
+
+-- a step by a head of this shape
+pub step_from : (shape shape' : Shape) (code : List Uop) (n all left pc : ℕ) (regs regs' : List ℕ)
+    (uop : Uop) (res : Result Turn Why3) → shape' ≡ shape → all ≡ suc left
+    → slice_get code pc ≡ Some uop → ((next : Next) (q : ℕ)
+    → act shape' n uop next q regs ≡ turn_trace res next q regs')
+    → issue shape code n all pc regs ≡ turn_trace res (issue shape code n left) pc regs'
+step_from shape shape' code n all left pc regs regs' uop res same e at does =
+    one_step shape code n all left pc regs regs' uop res e at (λ next q.
+    ap (λ (s : Shape). act s n uop next q regs) (sym same) ∙ does next q)
 
 -- a step that isn't the last: what it issues, and what is left after it
 pub record Stepped (shape : Shape) (code : List Uop) (n : ℕ) (here : Trace) (left q : ℕ)
@@ -231,3 +253,29 @@ quiet shape n uop turn res regs regs' none does is =
     alone On = refl
     alone (To p) = refl
     alone (Issues c) = refl
+
+-- where each walk begins
+abbrev pub first_walk : Walk
+first_walk = record { pc = 0; regs = start; left = WALK_MAX }
+
+-- a walk that ends can be followed from its start
+pub start_stands : (shape : Shape) (code : List Uop) (n : ℕ) → IsLegalCode shape code
+    → HasEnded (trace shape code n) → StandsIn shape code n first_walk
+start_stands shape code n legal ends = record {
+  place = some_first shape code legal;
+  registers = start_registers;
+  ended = subst HasEnded (sym (trace_is shape code n)) ends;
+}
+
+-- and has all its commands left there
+pub start_commands : (rows : ℕ) (shape : Shape) (code : List Uop) (b : Binding)
+    → commands_from rows shape code b first_walk
+    ≡ bound rows shape b.n (bound_of b) (issues_of (trace shape code b.n))
+start_commands rows shape code b =
+    ap (λ (t : Trace). bound rows shape b.n (bound_of b) (issues_of t)) (trace_is shape code b.n)
+
+-- a walk that ends has some of its budget left
+pub not_spent : (shape : Shape) (code : List Uop) (n : ℕ) (w : Walk) → StandsIn shape code n w
+    → w.left ≡ 0 → ⊥
+not_spent shape code n w stands none =
+    subst HasEnded (no_more shape code n w.left w.pc w.regs none) stands.ended

@@ -2,9 +2,9 @@ use Rattle.std.proofs.Common.{ap, refl}
 use Rattle.dram_model.specs.declared.address.Command.TheVariants.{Ap}
 use Rattle.uprog_code.specs.Shape.{shape_of}
 use Rattle.uprog_code.specs.Machine.{IssueAap, IssueAp, row_at}
-use Rattle.uprog_ctl.specs.Cursors.{row_commands}
-use Rattle.uprog_ctl.proofs.Seek.{first_good, one_good, second_good}
-use Rattle.uprog_ctl.proofs.address.command_at.Goals as goal
+use Rattle.uprog_code.specs.Commands.{row_commands}
+use Rattle.uprog_code.proofs.Seek.{first_good, one_good, second_good}
+use Rattle.uprog_code.proofs.address.command_at.Goals as goal
 
 pub address_at-first-requires-clause-good : goal.address_at-first-requires-clause-good
 address_at-first-requires-clause-good c =

@@ -5,7 +5,7 @@ use Rattle.uprog_code.specs.Shape.{shape_of}
 use Rattle.uprog_code.specs.Bound.{bound_of}
 use Rattle.uprog_code.specs.Issued.{is_issued_in}
 use Rattle.uprog_code.proofs.Kept.{source_fits}
-use Rattle.uprog_ctl.proofs.address.address_of.Goals as goal
+use Rattle.uprog_code.proofs.address.address_of.Goals as goal
 
 pub source_row-requires-clause-which : goal.source_row-requires-clause-which
 source_row-requires-clause-which c =
