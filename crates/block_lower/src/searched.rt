@@ -100,8 +100,8 @@ const BRIEF: Reach = Reach {
     },
 };
 
-/// The place of a state among those that a block reads and those that it writes, and its start: with
-/// it the loops in cells that were to be tried.
+/// The place of a state among those that a block reads and those that it writes, and its start:
+/// with it the loops in cells that were to be tried.
 struct HeldBlock {
     read: Option<usize>,
     written: Option<usize>,
