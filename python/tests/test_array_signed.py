@@ -148,7 +148,7 @@ class Widths(unittest.TestCase):
         a = chip.array(x)
         total = (a & 127).astype(bits=16) + a.astype("u2")
         self.assertEqual(total.numpy().tolist(), ((x & 127).astype("u2") + x).tolist())
-        self.assertEqual(total.cost.aap, 40 + 16 + 16 + 129)
+        self.assertEqual(total.cost.aap, 16 + 16 + 129)
         self.assertEqual((total.cost.host_reads, total.cost.host_writes), (0, 8))
         wide = a.astype(bits=16)
         self.assertEqual((wide.cost.aap, wide.cost.ap, wide.cost.host_reads, wide.cost.host_writes), (16, 0, 0, 8))

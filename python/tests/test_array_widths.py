@@ -61,6 +61,9 @@ class Bits(unittest.TestCase):
         self.same(simdram.concat(high, low), x >> 4 | x % 16 << 4, 8)
         self.same((a << 3 >> 5).astype(bits=3), x % 32 >> 2, 0)
         self.same(simdram.bit(a, 7), x > 127, 0)
+        self.same((a & 0x3c) >> 2, x >> 2 & 15, 8)
+        self.same((a & 0x3c).astype(bits=6), x & 0x3c, 8)
+        self.same((a & 15).astype(bits=4), x & 15, 0)
         self.same(simdram.where(simdram.bit(a, 0), high, low), numpy.where(x % 2 == 1, x >> 4, x % 16))
 
     def test_bits_of_what_is_not_computed(self):

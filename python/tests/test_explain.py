@@ -50,6 +50,7 @@ SCRIPTS = (
     ("order sead 3", "syntax", "line 1 column 7", "sead", "order seed K"),
     ("print a[]", "syntax", "line 1 column 9", "]", "the number of a bit"),
     ("print a[1:]", "syntax", "line 1 column 11", "]", "NAME[LO:HI] for LO up to, not with, HI"),
+    ("print a[1", "syntax", "line 1 column 10", "", "the end where `]` is expected"),
     ("print a[1 2]", "syntax", "line 1 column 11", "2", "`]` is expected"),
     ("print a[1[2]", "syntax", "line 1 column 10", "[", "`]` is expected"),
     ("print a:1", "syntax", "line 1 column 8", ":", "a comma or the end"),

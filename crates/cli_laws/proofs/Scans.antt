@@ -3,7 +3,7 @@ use Rattle.std.proofs.Common.{◌≡◌, ◌⊎◌, ℕ, ◌<◌, ◌≤◌, Boo
 use Rattle.std.proofs.Common.{map, Option, Some, None, refl, sym, ◌∙◌, ap, subst, inl, inr}
 use Rattle.std.proofs.Common.{append-nil, append_assoc, arith}
 use Rattle.std.specs.Prelude.{All as Each, IfSome, IfErr, bytes_eq}
-use Rattle.std.specs.List.{AllByRecursion, list_all}
+use Rattle.std.specs.List.{AllByRecursion}
 use Rattle.std.specs.Option.{option_map}
 use Rattle.std.specs.Result.{result_ok}
 use Rattle.bit_rows.specs.declared.TheConstants.{WIDTH_MAX}
@@ -15,7 +15,8 @@ use Rattle.uprog_code.specs.declared.walker.Counts.{Counts}
 use Rattle.uprog_code.specs.Count.{counts_of}
 use Rattle.uprog_code.specs.Shape.{Microprogram}
 use Rattle.uprog_code.specs.Texts.{ImplementsAll, text_op}
-use Rattle.uprog_gen.specs.Totals.{AreExact, is_word}
+use Rattle.uprog_gen.specs.Totals.{AreExact}
+use Rattle.uprog_gen.proofs.Costs.Blocks.{AllWords, words_cost_the_same}
 use Rattle.machine_model.specs.declared.Why.{Why}
 use Rattle.machine_model.specs.Opened.{Image, opened}
 use Rattle.machine_model.specs.Routines.{Program, Routines, entry_named, routine_of, routines_in}
@@ -28,10 +29,11 @@ use Rattle.scan_model.specs.Answers.{by_checks, by_run, found_in, query_count}
 use Rattle.scan_model.specs.Checks.{checked}
 use Rattle.scan_model.specs.Laws.{scan_refused}
 use Rattle.scan_model.specs.Operations.{scan_operations, scan_text}
-use Rattle.scan_model.specs.Queries.{Query, nodes_of}
+use Rattle.scan_model.specs.Queries.{Query, HasParts, nodes_of}
 use Rattle.scan_model.specs.Texts.{fault_in}
 use Rattle.scan_model.proofs.Alike.{scans_answer_the_same}
 use Rattle.scan_model.proofs.Parsed.{once}
+use Rattle.scan_model.proofs.Parts.{written_parts}
 use Rattle.cli_model.specs.World.{World}
 use Rattle.cli_model.specs.Ends.{All, At, AppendsAfter, Ended, EndsSo, IsAllDone, IsForetold, Sends}
 use Rattle.cli_model.specs.Foreseen.{foreseen}
@@ -72,7 +74,7 @@ entry_case false e f x y n same rest = rest
 
 exact_costs : (ops : List Operation) (p q : Program) (name : List ℕ) (n : ℕ)
     → ImplementsAll p (map text_op ops) → ImplementsAll q (map text_op ops) → AreExact p ops
-    → AreExact q ops → AllByRecursion (λ op. list_all is_word op.body ≡ true) ops → 0 < n
+    → AreExact q ops → AllByRecursion (λ (op : Operation). AllWords op.body) ops → 0 < n
     → n ≤ WIDTH_MAX → entry_counts (entry_named p name) n ≡ entry_counts (entry_named q name) n
 exact_costs [] [] [] name n i j x y words l k = refl
 exact_costs [] [] (f ∷ q) name n i j x y words l k = absurd j
@@ -86,7 +88,7 @@ exact_costs (op ∷ ops) (e ∷ p) (f ∷ q) name n i j x y words l k =
     entry_counts (cond (bytes_eq own name) (Some f) (entry_named q name)) n in
     ap left i.0.name
     ∙ entry_case (bytes_eq op.name name) e f (entry_named p name) (entry_named q name) n
-    (x.0.exact words.0 n l k ∙ sym (y.0.exact words.0 n l k))
+    (words_cost_the_same e f op words.0 x.0 y.0 n l k)
     (exact_costs ops p q name n i.1 j.1 x.1 y.1 words.1 l k)
     ∙ sym (ap right j.0.name)
 
@@ -95,22 +97,26 @@ scans_cost_the_same p q x y name n l k =
     let cost : Routines → Counts = λ operations. counts_of (issues_at (operations name) n) in
     ap cost (same_operations p scan_text x.implements)
     ∙ exact_costs scan_operations p q name n x.implements y.implements x.exact y.exact
-    (refl, (refl, (refl, (refl, (refl, (refl, tt)))))) l k
+    (tt, (tt, (tt, (tt, (tt, (tt, tt)))))) l k
     ∙ sym (ap cost (same_operations q scan_text y.implements))
 
 -- and so answer the same
 same_answer : (p q : Program) (query : Query) (i : Image) → DoesScans p → DoesScans q
-    → Each (λ named. IsObject i.geometry named.1) i.table
+    → Each (λ named. IsObject i.geometry named.1) i.table → HasParts query
     → answer_on p query i ≡ answer_on q query i
-same_answer p q query i x y objects =
+same_answer p q query i x y objects parts =
     let by : Routines → Answer = λ operations.
     answer i.geometry operations (opened i) i.table query in
     ap by (sym (same_operations p scan_text x.implements))
     ∙ scans_answer_the_same i.geometry p q (opened i) i.table query x.implements y.implements
-    (scans_cost_the_same p q x y) objects
+    (scans_cost_the_same p q x y) objects parts
     ∙ ap by (same_operations q scan_text y.implements)
 
 -- Scans that are done
+
+asked_parts : (file : Option (List ℕ)) (q : Query) → AsksIn file q → HasParts q
+asked_parts None q x = absurd x
+asked_parts (Some text) q x = written_parts q x.query.written
 
 same_query : (file : Option (List ℕ)) (p q : Query) → AsksIn file p → AsksIn file q → p ≡ q
 same_query None p q x y = absurd x
@@ -140,9 +146,10 @@ one_scanned names before a b c d s t =
     let query = same_query (before names.query.now) s.query t.query s.query_is t.query_is in
     let image : s.image ≡ t.image = one_value _ s.image t.image s.image_is t.image_is in
     let objects = image_objects (before names.image.now) s.image s.image_is in
+    let parts = asked_parts (before names.query.now) s.query s.query_is in
     let counts : scan_counts s.program s.query s.image ≡ scan_counts t.program t.query t.image =
     sym (scanned_counts names before a b s)
-    ∙ ap counts_in (same_answer s.program t.program s.query s.image s.does t.does objects)
+    ∙ ap counts_in (same_answer s.program t.program s.query s.image s.does t.does objects parts)
     ∙ ap (λ (q : Query). counts_in (answer_on t.program q s.image)) query
     ∙ ap (λ (i : Image). counts_in (answer_on t.program t.query i)) image
     ∙ scanned_counts names before c d t in
@@ -386,8 +393,9 @@ one_answered names before a b c d status other here there x y is also =
     let query = same_query (before names.query.now) s.query t.query s.query_is t.query_is in
     let image : s.image ≡ t.image = one_value _ s.image t.image s.image_is t.image_is in
     let objects = image_objects (before names.image.now) s.image s.image_is in
+    let parts = asked_parts (before names.query.now) s.query s.query_is in
     let same : answer_on s.program s.query s.image ≡ answer_on t.program t.query t.image =
-    same_answer s.program t.program s.query s.image s.does t.does objects
+    same_answer s.program t.program s.query s.image s.does t.does objects parts
     ∙ ap (λ (q : Query). answer_on t.program q s.image) query
     ∙ ap (λ (i : Image). answer_on t.program t.query i) image in
     record {

@@ -8,7 +8,6 @@ import typing
 import numpy
 
 from . import cells
-from .costing import Cost
 from .expressions import Constant, Held, Value
 from .layout import bits_of, extended
 from .operations import BIT, WORD
@@ -19,6 +18,11 @@ from .running import Made
 if typing.TYPE_CHECKING:
     from .chip import Chip
     from .profiling import ScriptProfile
+
+
+def of_all(name: str, says: str) -> property:
+    """What is known, by this name, of the whole computation of an array, which is done now where it was not."""
+    return property(lambda array: getattr(array.chip.made(array).whole(), name), doc=says)
 
 
 class Array(Operators):
@@ -118,31 +122,13 @@ class Array(Operators):
         """One number of this width, that the chip has computed."""
         return Array(self.chip, (), Value(self.value.kind, self.bits, number), number.made, self.signed)
 
-    @property
-    def cost(self) -> Cost:
-        """What all took that it was computed from, each part once: the bbops and fills, over all banks and in one, and the rows
-        that the host wrote and read to place numbers and to change widths."""
-        return self.chip.made(self).whole().cost
-
-    @property
-    def text(self) -> str:
-        """The ops that were compiled for it and for what it was computed from; none for numbers that were placed."""
-        return self.chip.made(self).whole().text
-
-    @property
-    def text_as_written(self) -> str:
-        """The ops as they were meant, before a chip with `simplify=True` simplified their texts."""
-        return self.chip.made(self).whole().text_as_written
-
-    @property
-    def script(self) -> str:
-        """The lines that computed it and what it was computed from, in order; where the host moved rows, a comment says so."""
-        return self.chip.made(self).whole().script
-
-    @property
-    def report(self) -> str:
-        """What the program reported of these lines."""
-        return self.chip.made(self).whole().report
+    cost = of_all("cost", "What all took that it was computed from, each part once: the bbops and fills, over all banks and in one, and "
+                  "the rows that the host wrote and read to place numbers and to change widths.")
+    text = of_all("text", "The ops that were compiled for it and for what it was computed from; none for numbers that were placed.")
+    text_as_written = of_all("text_as_written", "The ops as they were meant, before a chip with `simplify=True` simplified their texts.")
+    script = of_all("script", "The lines that computed it and what it was computed from, in order; where the host moved rows, a comment "
+                    "says so.")
+    report = of_all("report", "What the program reported of these lines.")
 
     def profile(self) -> ScriptProfile:
         """Where its cost went: by op, by instruction of its script and by statement of its ops."""

@@ -2,6 +2,7 @@
 
 from __future__ import annotations
 
+import itertools
 import typing
 
 from .expressions import Value
@@ -34,14 +35,14 @@ def sliced(b, value: Value, low: int, size: int, kind: str = WORD) -> Value:
 def moved(b, value: Value, places: int) -> Value:
     """A value at its width after a shift by so many places, up, or down where they are below 0."""
     gone = abs(places)
-    kept, zeros = sliced(b, value, max(-places, 0), value.bits - gone), (b.constant(WORD, gone, 0), gone)
-    return put_together(b, [zeros, (kept, kept.bits)] if places > 0 else [(kept, kept.bits), zeros])
+    kept, zeros = sliced(b, value, max(-places, 0), value.bits - gone), b.constant(WORD, gone, 0)
+    return put_together(b, [(one, one.bits) for one in ((zeros, kept) if places > 0 else (kept, zeros))])
 
 
-def modulo(b, value: Value, size: int) -> Value:
-    """The lowest bits of a value below zeros."""
-    zeros = b.constant(WORD, value.bits - size, 0), value.bits - size
-    return put_together(b, [(sliced(b, value, 0, size), size), zeros] if size else [zeros])
+def masked(b, value: Value, mask: int) -> Value:
+    """The bits of a value where those of a number are 1, and 0 elsewhere."""
+    runs = [list(run) for _, run in itertools.groupby(range(value.bits), lambda k: mask >> k & 1)]
+    return put_together(b, [(sliced(b, value, run[0], len(run)) if mask >> run[0] & 1 else b.constant(WORD, len(run), 0), len(run)) for run in runs])
 
 
 def without_zeros(value: Value) -> Value:

@@ -53,8 +53,9 @@ class Bar:
             print("\r\033[K", end="", file=sys.stderr, flush=True)
 
 
-def in_parallel(work: typing.Callable[[Item], Result], items: typing.Sequence[Item], what: str = "") -> list[Result]:
-    """The results of all items, in their order. The first fault, or Ctrl-C, stops what has not ended yet."""
+def in_parallel(work: typing.Callable[[Item], Result], items: typing.Sequence[Item], what: str = "",
+                stop: typing.Callable[[], None] = lambda: None) -> list[Result]:
+    """The results of all items, in their order. The first fault, or Ctrl-C, stops what has not ended yet; `stop` is called then."""
     bar, workers = Bar(what, len(items)), processors()
     left, found = iter(enumerate(items)), {}
     pool = concurrent.futures.ThreadPoolExecutor(workers)
@@ -66,6 +67,7 @@ def in_parallel(work: typing.Callable[[Item], Result], items: typing.Sequence[It
                 bar.step()
                 waiting.update((pool.submit(work, item), k) for k, item in itertools.islice(left, 1))
     except BaseException:
+        stop()
         pool.shutdown(wait=False, cancel_futures=True)
         run_program.stop_all()
         raise

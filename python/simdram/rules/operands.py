@@ -82,8 +82,14 @@ def operand_at(words: typing.Sequence[Token], at: int) -> tuple[Operand, int]:
             break
         at += 2
         if words[at].kind != NUMBER:
-            raise Breach(words[at], "syntax", f"`{words[at].text}` where the number of a bit is expected", FORM)
+            raise unexpected(words[at], "the number of a bit")
         ends.append(words[at])
     if ends and words[at + 1].text != "]":
-        raise Breach(words[at + 1], "syntax", f"`{words[at + 1].text}` where `]` is expected", FORM)
+        raise unexpected(words[at + 1], "`]`")
     return Operand(name, tuple(ends)), at + 1 + bool(ends)
+
+
+def unexpected(token: Token, wanted: str) -> Breach:
+    """The fault of a token in brackets, or of the end."""
+    shown = f"`{token.text}`" if token.text else "the end"
+    return Breach(token, "syntax", f"{shown} where {wanted} is expected", FORM)

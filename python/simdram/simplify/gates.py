@@ -8,7 +8,9 @@ from __future__ import annotations
 
 import typing
 
-from .truth_tables import LEAVES, Leaves, full, of_gate, smallest, spread
+from ..graphs.mig import normal_majority
+from ..rules.word_ops import GATE_VALUES
+from .truth_tables import LEAVES, Leaves, full, smallest, spread
 
 # the kinds of leaves: a source's word, a bit, a state, its last value, and a result of an operation that stays whole
 WORD, BIT, STATE, LAST, WHOLE, CONST = "word", "bit", "state", "last", "whole", "const"
@@ -115,15 +117,11 @@ class Graph:
         return b ^ flip if a == 0 else (args, flip)
 
     def _maj(self, *args: int) -> Normal:
-        a, b, c = sorted(args)
-        for x, y, z in ((a, b, c), (a, c, b), (b, c, a)):
-            if x >> 1 == y >> 1:
-                return x if x == y else z
-        if a < 2:
-            return self.gate("or" if a else "and", b, c)
-        if sum(lit & 1 for lit in args) > 1:
-            return tuple(lit ^ 1 for lit in args), 1
-        return args, 0
+        found = normal_majority(*args)
+        if isinstance(found, int) or found[0][0] >= 2:
+            return found
+        (a, b, c), turned = found
+        return self.gate("or" if a else "and", b, c) ^ turned
 
     def _mux(self, s: int, a: int, b: int) -> Normal:
         if s & 1:
@@ -149,7 +147,7 @@ class Graph:
             number = self._new(Node(kind, args))
             self.support[number] = leaves
             return 2 * number
-        table = of_gate(kind, [self._over(lit, leaves) for lit in args], len(leaves))
+        table = GATE_VALUES[kind](*(self._over(lit, leaves) for lit in args))
         table, leaves = smallest(table, leaves)
         flip = table & 1
         key = leaves, table ^ (full(len(leaves)) if flip else 0)

@@ -2,14 +2,12 @@
 
 from __future__ import annotations
 
-import concurrent.futures
 import dataclasses
 import threading
 import typing
 
-from ..launcher import run_program
 from ..launcher.faults import Fault
-from ..launcher.parallel import Bar, processors
+from ..launcher.parallel import in_parallel, processors
 from ..rules.op_tree import Op
 from ..rules.ops_rules import read_ops
 from .equal import ALWAYS, Comparer
@@ -108,20 +106,7 @@ class Simplifier:
     def _on_all(self, work: typing.Callable[[typing.Any], typing.Any], items: typing.Sequence[typing.Any],
                 what: str = "") -> typing.List[typing.Any]:
         """The results of all items; a fault, or Ctrl-C, stops all works at once."""
-        bar = Bar(what, len(items))
-        with concurrent.futures.ThreadPoolExecutor(processors()) as pool:
-            try:
-                waiting = [pool.submit(work, item) for item in items]
-                for one in concurrent.futures.as_completed(waiting):
-                    one.result()
-                    bar.step()
-                return [one.result() for one in waiting]
-            except BaseException:
-                self.stopped.set()
-                run_program.stop_all()
-                raise
-            finally:
-                bar.end()
+        return in_parallel(work, items, what, self.stopped.set)
 
     def _outcome(self, search: Search, share: float) -> Outcome:
         """What becomes of an op in its share of the time."""
