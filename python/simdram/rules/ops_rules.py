@@ -4,7 +4,7 @@ from __future__ import annotations
 
 from ..launcher.faults import Fault
 from . import word_ops
-from .answer import Answer, Breach, at_token, near
+from .answer import Answer, Breach, near
 from .op_shapes import OpShape, Statement
 from .op_tree import Expr, Op, gate, read
 from .tokens import END, NAME, NAME_MAX, STRANGER, Token, is_long, no_token, tokens
@@ -388,7 +388,7 @@ def shapes_of(path: str, data: bytes) -> list[OpShape]:
     try:
         reader.read()
     except Breach as breach:
-        answer = at_token(path, data, breach.token, breach.kind, breach.rule, breach.right)
+        answer = breach.answer(path, data)
         raise Fault(f"{path} {answer.place}: {answer.kind}: {answer.rule}") from None
     return reader.shapes
 
@@ -407,5 +407,5 @@ def explain_ops(path: str, data: bytes) -> Answer | None:
     try:
         Reader(data).read()
     except Breach as breach:
-        return at_token(path, data, breach.token, breach.kind, breach.rule, breach.right)
+        return breach.answer(path, data)
     return None

@@ -5,7 +5,7 @@ from __future__ import annotations
 import typing
 
 from ..launcher.words import nearest
-from .answer import Answer, Breach, at_token
+from .answer import Answer, Breach
 from .tokens import END, NAME, NUMBER, STRANGER, Token, is_long, no_token, tokens, value_of
 
 COMPARISONS = ("eq", "gt", "ge", "lt", "le")
@@ -122,5 +122,5 @@ def read_query(path: str, data: bytes) -> tuple[list[Node], Answer | None]:
     try:
         reader.read()
     except Breach as breach:
-        return reader.nodes, at_token(path, data, breach.token, breach.kind, breach.rule, breach.right)
+        return reader.nodes, breach.answer(path, data)
     return reader.nodes, None
