@@ -3,8 +3,6 @@
 In a block's text `a` and `b` are its arguments in order, `y` is its result, and the other letters are its states.
 """
 
-from __future__ import annotations
-
 import re
 import typing
 

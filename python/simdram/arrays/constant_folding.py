@@ -1,7 +1,5 @@
 """The values of operations on numbers: what an operation on constants alone gives."""
 
-from __future__ import annotations
-
 import operator
 import typing
 

@@ -1,7 +1,5 @@
 """Cuts an expression into ops: each with at most four sources, sixteen statements and two results, at one width."""
 
-from __future__ import annotations
-
 import typing
 
 from .expressions import Result, Step, Value, in_order

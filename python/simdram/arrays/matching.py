@@ -1,7 +1,5 @@
 """What a value is, for the rules of `rewriting`: a constant, or a result with these arguments."""
 
-from __future__ import annotations
-
 import typing
 
 from .blocks import BLOCKS

@@ -1,7 +1,5 @@
 """The text of an op, from the steps of a part."""
 
-from __future__ import annotations
-
 import itertools
 import re
 import typing

@@ -1,7 +1,5 @@
 """The word operations, as steps of an expression."""
 
-from __future__ import annotations
-
 import typing
 
 from ..rules.word_ops import KIND_OF, TAKES_GIVES

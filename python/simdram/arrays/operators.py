@@ -1,7 +1,5 @@
 """The operators of arrays: what each makes of its operands, which are arrays, numbers, or arrays of NumPy."""
 
-from __future__ import annotations
-
 import operator
 import typing
 

@@ -1,7 +1,5 @@
 """Programs of a designer's own, in the text for microprograms, as functions of arrays (docs/MICROPROGRAMS.md)."""
 
-from __future__ import annotations
-
 import re
 import tempfile
 import typing

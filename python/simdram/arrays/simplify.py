@@ -4,8 +4,6 @@ Every value is made once, so that an equal subexpression is one step. `rewriting
 division and a rest of the same numbers are one step, and of two results those that nothing reads are left out.
 """
 
-from __future__ import annotations
-
 import typing
 
 from .blocks import BLOCKS

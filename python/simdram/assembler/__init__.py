@@ -1,7 +1,5 @@
 """A text for microprograms: from the text to a program, and from a program to the text (docs/MICROPROGRAMS.md)."""
 
-from __future__ import annotations
-
 from ..files.program import Program
 from ..rules.answer import Breach
 from .encode import entry_of

@@ -5,8 +5,6 @@ teaches the text. What the file does is said by `simdram verify`. A text at faul
 wrong and what would be right, and nothing is written.
 """
 
-from __future__ import annotations
-
 import argparse
 import sys
 

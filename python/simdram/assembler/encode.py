@@ -1,7 +1,5 @@
 """From instructions with labels to an entry of a program file."""
 
-from __future__ import annotations
-
 from ..files.program import AP, AAP, BNEZ, CODE, OPERANDS, Entry, Instruction
 from ..rules.answer import Breach
 from ..rules.tokens import NUMBER

@@ -1,8 +1,6 @@
 """The head of a program: `program NAME(a: word, ..) -> y: word`, its scratch, its one width, and the line `entry` of a
 listing."""
 
-from __future__ import annotations
-
 from ..files.program import BIT, RESULT, SOURCE, SOURCES, WORD
 from ..rules.answer import Breach
 from ..rules.tokens import Token

@@ -1,7 +1,5 @@
 """The tokens of a text for microprograms: as those of an operation text, with more symbols, and the ends of lines."""
 
-from __future__ import annotations
-
 import re
 
 from ..rules.answer import Breach

@@ -1,7 +1,5 @@
 """From statements to instructions: loops, choices and subscripts become instructions on registers."""
 
-from __future__ import annotations
-
 import typing
 
 from ..files.program import (ADD, ADDI, BNEZ, DONE, LARGEST, MOV, REGISTERS, SETI, SETN, SETT, SUBI, Row)
@@ -26,7 +24,7 @@ class Frame(typing.NamedTuple):
     end: str
 
 
-def lowered(program: ProgramText) -> Lowering:
+def lowered(program: ProgramText) -> "Lowering":
     """The instructions of a program, and its labels. Where there are too few registers for subscripts that are no loop's to
     keep one each, they are set before each command that needs them."""
     try:

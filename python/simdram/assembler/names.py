@@ -1,7 +1,5 @@
 """The names of a program: those of its head, and those that a listing gives every row."""
 
-from __future__ import annotations
-
 import re
 import typing
 

@@ -1,7 +1,5 @@
 """Which forms a loop, or the program itself, holds in registers: subscripts of its rows, and what inner loops begin with."""
 
-from __future__ import annotations
-
 import typing
 
 from ..rules.answer import Breach

@@ -1,7 +1,5 @@
 """From a text to its tree: programs, statements, loops."""
 
-from __future__ import annotations
-
 import typing
 
 from ..files.program import AAP, AP, BNEZ, ENTRIES, LARGEST, NAMES as INSTRUCTIONS, OPERANDS

@@ -1,8 +1,6 @@
 """From a program to its text: for a reader, with cells and operands by their names, labels, and loops where that is the same; or
 in the raw layer, the lines of a listing, each entry below its head."""
 
-from __future__ import annotations
-
 import typing
 
 from ..files.program import B_ADDRESS, BNEZ, C_ADDRESS, INDEXED, OPERANDS, REGISTERS, Entry, Instruction, Program, Row

@@ -1,7 +1,5 @@
 """The registers that the assembler gives out: those that the program does not name itself."""
 
-from __future__ import annotations
-
 import typing
 
 from ..files.program import OPERANDS, REGISTERS

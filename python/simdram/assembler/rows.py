@@ -1,7 +1,5 @@
 """Rows of commands as a text writes them: cells, addresses, operands with their subscripts."""
 
-from __future__ import annotations
-
 import re
 
 from ..files.decode import B_ADDRESSES, RAISED

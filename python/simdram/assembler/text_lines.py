@@ -1,7 +1,5 @@
 """The lines of a text of microprograms from which the instructions of an entry were assembled, where the text is at hand."""
 
-from __future__ import annotations
-
 import os
 import typing
 

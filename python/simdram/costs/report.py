@@ -8,8 +8,6 @@ stand in, the commands of one bank, and those for each element: 64 elements stan
 Banks work at the same time, so the time of a wave is that of the bank with the most commands.
 """
 
-from __future__ import annotations
-
 import argparse
 import json
 import re
@@ -39,7 +37,7 @@ class Script(typing.NamedTuple):
     lines: typing.List[str]
 
     @classmethod
-    def load(cls, path: str) -> Script:
+    def load(cls, path: str) -> "Script":
         """The script in a file."""
         data = load(path, "script")
         instructions, fault = read_script(path, data)

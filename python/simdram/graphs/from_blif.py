@@ -9,8 +9,6 @@ language are changed, which a comment says. A netlist of more than four inputs o
 the instructions that call them in order. What breaks a limit of the language is refused with its rule.
 """
 
-from __future__ import annotations
-
 import argparse
 import collections
 import re

@@ -1,7 +1,5 @@
 """The graph of the loop that a serial block is compiled to: a node for each triple activation of an iteration."""
 
-from __future__ import annotations
-
 import itertools
 import re
 import typing

@@ -3,8 +3,6 @@
 A state is computed in one netlist with all that it is computed from at a position; others find what it holds there as a word.
 """
 
-from __future__ import annotations
-
 import typing
 
 from ..launcher.faults import Fault

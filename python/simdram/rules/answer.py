@@ -1,7 +1,5 @@
 """What is wrong with a file, where, and what would be right, as lines."""
 
-from __future__ import annotations
-
 import dataclasses
 import textwrap
 

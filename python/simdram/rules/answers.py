@@ -1,7 +1,5 @@
 """The answers on files: their first faults, and what a script or a query is refused with."""
 
-from __future__ import annotations
-
 import subprocess
 
 from ..assembler import assemble

@@ -1,7 +1,5 @@
 """Texts of flips: the first line that breaks a rule of docs/FORMATS.md."""
 
-from __future__ import annotations
-
 from ..files.table import Table
 from .answer import Answer, Breach
 from .script_rules import lines_of

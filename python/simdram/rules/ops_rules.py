@@ -1,7 +1,5 @@
 """Where an operation text breaks a rule of docs/LANGUAGE.md first, and what would be right there."""
 
-from __future__ import annotations
-
 from ..launcher.faults import Fault
 from . import word_ops
 from .answer import Answer, Breach, near

@@ -1,7 +1,5 @@
 """Queries: their comparisons, the first token that breaks a rule of docs/FORMATS.md, and why a scan is refused."""
 
-from __future__ import annotations
-
 import typing
 
 from ..launcher.words import nearest

@@ -1,7 +1,5 @@
 """Scripts: their instructions, and the first line that breaks a rule of docs/FORMATS.md."""
 
-from __future__ import annotations
-
 import dataclasses
 import typing
 

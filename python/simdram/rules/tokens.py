@@ -1,7 +1,5 @@
 """The tokens of a text, with their places."""
 
-from __future__ import annotations
-
 import re
 import typing
 

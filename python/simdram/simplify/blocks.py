@@ -1,7 +1,5 @@
 """A group of a plan as one statement: a word statement where one does, else a serial block."""
 
-from __future__ import annotations
-
 import typing
 
 from ..rules.op_tree import BIT, WORD, Block, Body, Expr, read

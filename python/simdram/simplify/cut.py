@@ -4,8 +4,6 @@ Where both texts take a product of the same arguments, it is one unknown in both
 equal for the product. So what a comparison of whole texts cannot follow is often known.
 """
 
-from __future__ import annotations
-
 import dataclasses
 import typing
 

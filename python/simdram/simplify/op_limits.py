@@ -1,7 +1,5 @@
 """What the limits of the language and the readers of a name ask of a body."""
 
-from __future__ import annotations
-
 import typing
 
 from ..rules.op_tree import Block, Body, Expr, WordStatement, read

@@ -1,7 +1,5 @@
 """The expressions of a block: how its gates are written."""
 
-from __future__ import annotations
-
 import random
 import typing
 
