@@ -2,9 +2,8 @@
 
 import typing
 
-from .blocks import BLOCKS
 from .expressions import Constant, Result, Value
-from .operations import OPERATIONS
+from .operations import NAMED
 
 
 def number_of(value: Value) -> typing.Optional[int]:
@@ -19,7 +18,7 @@ def is_ones(value: Value) -> bool:
 
 def arguments_of(name: str, value: Value) -> typing.Tuple[Value, ...]:
     """The arguments of an operation of this name, where it gives the value; an op of the designer's own never does."""
-    if isinstance(value.origin, Result) and value.origin.step.operation is (OPERATIONS.get(name) or BLOCKS[name]):
+    if isinstance(value.origin, Result) and value.origin.step.operation is NAMED[name]:
         return value.origin.step.arguments
     return ()
 

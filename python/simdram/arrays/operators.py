@@ -6,8 +6,7 @@ import typing
 import numpy
 
 from . import expressions, layout
-from .blocks import BLOCKS
-from .operations import BIT, OPERATIONS, WORD
+from .operations import BIT, BLOCKS, OPERATIONS, WORD
 from .refusals import Refused
 
 
