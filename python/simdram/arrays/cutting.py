@@ -2,10 +2,9 @@
 
 import typing
 
+from ..rules.ops_rules import RESULTS, SOURCES, STATEMENTS
 from .expressions import Result, Step, Value, in_order
 from .operations import Operation
-
-SOURCES, STATEMENTS, RESULTS = 4, 16, 2
 
 
 class Part:

@@ -6,11 +6,10 @@ A state is computed in one netlist with all that it is computed from at a positi
 import typing
 
 from ..launcher.faults import Fault
-from ..rules.ops_rules import SOURCES, WEIGHT
+from ..rules.ops_rules import RESULTS, SOURCES, WEIGHT
 from .least_gates import spelled
 from .netlist import NEXT, Netlist, Table, in_order
 
-RESULTS = 2
 AT = "_at"
 COPY = 0b10
 

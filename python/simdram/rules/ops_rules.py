@@ -8,7 +8,7 @@ from .op_tree import Expr, Op, gate, read
 from .tokens import END, NAME, NAME_MAX, STRANGER, Token, is_long, no_token, tokens
 
 RESERVED = ("op", "word", "bit", "serial", "up", "down", "let")
-OPS, SOURCES, STATEMENTS, STATES, ASSIGNMENTS, LETS, WEIGHT, DEPTH = 32, 4, 16, 8, 8, 16, 24, 32
+OPS, SOURCES, RESULTS, STATEMENTS, STATES, ASSIGNMENTS, LETS, WEIGHT, DEPTH = 32, 4, 2, 16, 8, 8, 16, 24, 32
 OPERATORS = {"+": "add", "-": "sub", "*": "mul", "/": "div", "%": "rem", "&": "and", "|": "or", "^": "xor", "~": "not",
              "!": "not", ">": "gt", "<": "gt"}
 VALUE = "`0`, `1`, a name, or a gate with its arguments"

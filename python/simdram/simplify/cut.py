@@ -8,12 +8,12 @@ import dataclasses
 import typing
 
 from ..rules.op_tree import WORD, Block, Body, Op, Params, WordStatement
+from ..rules.ops_rules import SOURCES
 from .op_limits import live
 from .statement_alone import renamed
 
 OPERATIONS = ("mul", "div", "rem", "divmod", "bitcount")
 COMMUTATIVE = ("mul",)
-SOURCES = 4
 
 
 def has_nested(body: Body) -> bool:

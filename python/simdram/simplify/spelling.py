@@ -8,7 +8,6 @@ from .gates import Graph, Node
 from .items import Items
 
 STYLES = 3
-LETS = 16
 
 
 class Spelling:
