@@ -21,20 +21,11 @@ const MOST_STEPS: usize = 32_000_000;
 
 /// How far the search for a block goes: the walks over graphs, and the races of graphs with all
 /// values in rows and with the state in cells.
+#[derive(Clone, Copy)]
 struct Reach {
     walks: Walks,
     in_rows: Course,
     in_cells: Course,
-}
-
-impl Drop for Reach {
-    fn drop(self) {
-        let Reach {
-            walks: _,
-            in_rows: _,
-            in_cells: _,
-        } = self;
-    }
 }
 
 /// The search while there is effort left.
@@ -184,9 +175,11 @@ fn has_nodes(m: &Mig, nodes: &[[Lit; 3]]) -> bool {
     let mut place = 0usize;
     for k in u32::from(m.inputs()) + 1..m.size() {
         let [a, b, c] = m.node(k);
-        match nodes.get(place).copied() {
-            Some([x, y, z]) if a == x && b == y && c == z => {}
-            _ => return false,
+        let Some([x, y, z]) = nodes.get(place).copied() else {
+            return false;
+        };
+        if a != x || b != y || c != z {
+            return false;
         }
         place = place.saturating_add(1);
     }
@@ -265,16 +258,11 @@ impl Block {
             && are_same(&self.rows, rows)
     }
 
-    /// The loops in cells that were to be tried with the state at this place.
-    fn held_at(
-        &self,
-        read: Option<usize>,
-        written: Option<usize>,
-        start: bool,
-    ) -> Option<&HeldBlock> {
-        for held in &self.held {
+    /// The number of the loops in cells that were to be tried with the state at these places.
+    fn held_at(&self, read: Option<usize>, written: Option<usize>, start: bool) -> Option<usize> {
+        for (k, held) in self.held.iter().enumerate() {
             if held.read == read && held.written == written && held.start == start {
-                return Some(held);
+                return Some(k);
             }
         }
         None
@@ -370,7 +358,8 @@ impl Searched {
             number_of(&body.writes, place),
         );
         if let Some(block) = self.blocks.get(number)
-            && let Some(held) = block.held_at(read, written, start)
+            && let Some(k) = block.held_at(read, written, start)
+            && let Some(held) = block.held.get(k)
         {
             return tries_again(&held.tries, alloc);
         }

@@ -75,8 +75,8 @@ impl Search {
             return None;
         }
         let other = at.replaced(&at.base(drawn.node, drawn.above), &drawn.form);
-        let is_right =
-            other.count <= most && (at.inputs <= tables::MOST_INPUTS || agree(at, &other));
+        let is_right = other.count <= most
+            && (at.inputs <= tables::MOST_INPUTS || agree(at, &other));
         if is_right { Some(other) } else { None }
     }
 
