@@ -21,6 +21,7 @@ from ..launcher.overwrite import content
 from ..launcher.settings import Settings
 from ..launcher.tool_parser import tool_parser
 from ..rules.script_rules import Instruction, read_script
+from .table_formats import as_text
 
 OK = re.compile(r"(\d+) ok aap=(\d+) ap=(\d+)")
 PRINTED = re.compile(r"(\d+) (\w+(?:\[\d+(?::\d+)?\])?):((?: \d+)+)")
@@ -123,10 +124,8 @@ def cell(found: dict, name: str) -> str:
 
 def table_of(made: dict) -> str:
     """The report as a table, with the sums over all banks last."""
-    rows = [COLUMNS, *([cell(found, name) for name in COLUMNS] for found in made["instructions"])]
-    widths = [max(len(row[k]) for row in rows) for k in range(len(COLUMNS))]
-    lines = ["  ".join(text.ljust(width) for text, width in zip(row, widths)).rstrip() for row in rows]
-    return "\n".join([*lines, "all banks: " + " ".join(f"{name}={number}" for name, number in made["totals"].items())])
+    rows = [list(COLUMNS), *([cell(found, name) for name in COLUMNS] for found in made["instructions"])]
+    return as_text(rows) + "all banks: " + " ".join(f"{name}={number}" for name, number in made["totals"].items())
 
 
 def parser() -> argparse.ArgumentParser:
