@@ -175,9 +175,10 @@ fn has_nodes(m: &Mig, nodes: &[[Lit; 3]]) -> bool {
     let mut place = 0usize;
     for k in u32::from(m.inputs()) + 1..m.size() {
         let [a, b, c] = m.node(k);
-        let Some([x, y, z]) = nodes.get(place).copied() else {
+        let Some(other) = nodes.get(place).copied() else {
             return false;
         };
+        let [x, y, z] = other;
         if a != x || b != y || c != z {
             return false;
         }
