@@ -1,7 +1,5 @@
 """Counts the elements that meet a query, by comparisons in the chip."""
 
-from __future__ import annotations
-
 import copy
 import dataclasses
 import itertools

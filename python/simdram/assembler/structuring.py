@@ -1,7 +1,5 @@
 """From instructions back to loops: what registers hold is followed as sums of n and loop variables."""
 
-from __future__ import annotations
-
 import typing
 
 from ..files.program import ADD, ADDI, BNEZ, DONE, INDEXED, MOV, REGISTERS, SETI, SETN, SETT, SUBI, Entry, Instruction

@@ -11,8 +11,6 @@ from the second file on the ratio of its commands to the first file's.
 commands, rows and ratio, for each file. --total is a table for a paper: the commands alone, with a column for each width.
 """
 
-from __future__ import annotations
-
 import argparse
 import os
 import typing

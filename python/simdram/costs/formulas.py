@@ -4,8 +4,6 @@ A formula has numbers, `n`, brackets, `+`, `-`, `*`, `/`, `//` (rounded down), `
 `floor(..)`. Whole numbers and fractions are exact.
 """
 
-from __future__ import annotations
-
 import ast
 import fractions
 import math

@@ -1,7 +1,5 @@
 """Pictures of curves, as SVG by this module alone or as PNG by matplotlib."""
 
-from __future__ import annotations
-
 import dataclasses
 import html
 import io

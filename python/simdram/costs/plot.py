@@ -9,8 +9,6 @@ floor(..), as in 9*n+1 or n*ceil(log2(n)). An entry whose execution is stuck at 
 so.
 """
 
-from __future__ import annotations
-
 import argparse
 import itertools
 import typing

@@ -6,8 +6,6 @@ which the code can jump. Commands that implement several statements in one loop 
 `times` says how often a part is executed; without an operation text there are parts alone. Counts are those of one bank.
 """
 
-from __future__ import annotations
-
 import argparse
 import csv
 import dataclasses

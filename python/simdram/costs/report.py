@@ -8,8 +8,6 @@ stand in, the commands of one bank, and those for each element: 64 elements stan
 Banks work at the same time, so the time of a wave is that of the bank with the most commands.
 """
 
-from __future__ import annotations
-
 import argparse
 import json
 import re
@@ -23,6 +21,7 @@ from ..launcher.overwrite import content
 from ..launcher.settings import Settings
 from ..launcher.tool_parser import tool_parser
 from ..rules.script_rules import Instruction, read_script
+from .table_formats import as_text
 
 OK = re.compile(r"(\d+) ok aap=(\d+) ap=(\d+)")
 PRINTED = re.compile(r"(\d+) (\w+(?:\[\d+(?::\d+)?\])?):((?: \d+)+)")
@@ -39,7 +38,7 @@ class Script(typing.NamedTuple):
     lines: typing.List[str]
 
     @classmethod
-    def load(cls, path: str) -> Script:
+    def load(cls, path: str) -> "Script":
         """The script in a file."""
         data = load(path, "script")
         instructions, fault = read_script(path, data)
@@ -125,10 +124,8 @@ def cell(found: dict, name: str) -> str:
 
 def table_of(made: dict) -> str:
     """The report as a table, with the sums over all banks last."""
-    rows = [COLUMNS, *([cell(found, name) for name in COLUMNS] for found in made["instructions"])]
-    widths = [max(len(row[k]) for row in rows) for k in range(len(COLUMNS))]
-    lines = ["  ".join(text.ljust(width) for text, width in zip(row, widths)).rstrip() for row in rows]
-    return "\n".join([*lines, "all banks: " + " ".join(f"{name}={number}" for name, number in made["totals"].items())])
+    rows = [list(COLUMNS), *([cell(found, name) for name in COLUMNS] for found in made["instructions"])]
+    return as_text(rows) + "all banks: " + " ".join(f"{name}={number}" for name, number in made["totals"].items())
 
 
 def parser() -> argparse.ArgumentParser:

@@ -1,7 +1,5 @@
 """A table as text in columns, as CSV, as Markdown and as LaTeX. The first row is the head."""
 
-from __future__ import annotations
-
 import csv
 import io
 import re

@@ -5,8 +5,6 @@ first. All loops over elements are those of Python's integers and bytes, so that
 second.
 """
 
-from __future__ import annotations
-
 import array
 import sys
 import typing

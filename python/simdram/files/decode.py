@@ -4,8 +4,6 @@ An address is a group, `B`, `C` or `D`, and a number. A wordline is a cell of ea
 and written complemented, through its n-wordline.
 """
 
-from __future__ import annotations
-
 import typing
 
 GROUPS = "BCD"

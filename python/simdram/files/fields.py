@@ -1,7 +1,5 @@
 """A file's bytes, taken field by field from the front."""
 
-from __future__ import annotations
-
 import re
 import typing
 

@@ -4,8 +4,6 @@ In NOTE a `#` begins a comment to the end of the line; the rest is the bytes, tw
 program file can be written by hand with a comment for each instruction, such as examples/exec/xor.hex.
 """
 
-from __future__ import annotations
-
 import argparse
 import re
 

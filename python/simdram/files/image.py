@@ -3,8 +3,6 @@
 Element e of an object stands in bank e / (64 * words), column e modulo (64 * words), its bit k in row base + k.
 """
 
-from __future__ import annotations
-
 import typing
 
 from . import columns
@@ -48,7 +46,7 @@ class Image(Table):
         self.contents = bytearray(contents if contents is not None else 8 * banks * rows * words)
 
     @classmethod
-    def read(cls, data: bytes, path: str = "image") -> Image:
+    def read(cls, data: bytes, path: str = "image") -> "Image":
         """The image of a file's bytes; what is no image file is refused at the first field that breaks its rule."""
         fields = Fields(data, path)
         table = Table.taken(fields, MAGIC, "image")
@@ -57,7 +55,7 @@ class Image(Table):
         return cls(table.banks, table.rows, table.words, table.objects, contents)
 
     @classmethod
-    def load(cls, path: str) -> Image:
+    def load(cls, path: str) -> "Image":
         """The image in a file."""
         return cls.read(load(path, "image"), path)
 

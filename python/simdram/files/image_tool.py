@@ -16,8 +16,6 @@ where it is of another kind, as docs/FORMATS.md says.
     simdram image get mac.img a
 """
 
-from __future__ import annotations
-
 import re
 import sys
 import typing

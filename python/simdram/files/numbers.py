@@ -6,8 +6,6 @@ any shape, read with its last axis first; one of 64-bit numbers whose last axis 
 numbers, the lower half first.
 """
 
-from __future__ import annotations
-
 import array
 import ast
 import math

@@ -1,7 +1,5 @@
 """Program files: entries, each with its operands, its scratch and its microprogram."""
 
-from __future__ import annotations
-
 import dataclasses
 import re
 import typing
@@ -116,7 +114,7 @@ class Program:
     version: int = 2
 
     @classmethod
-    def read(cls, data: bytes, path: str = "program") -> Program:
+    def read(cls, data: bytes, path: str = "program") -> "Program":
         """The program of a file's bytes; what is no program file is refused at the first field that breaks its rule."""
         fields = Fields(data, path)
         try:
@@ -130,7 +128,7 @@ class Program:
         return cls(entries, version)
 
     @classmethod
-    def load(cls, path: str) -> Program:
+    def load(cls, path: str) -> "Program":
         """The program in a file."""
         return cls.read(load(path, "program"), path)
 

@@ -1,7 +1,5 @@
 """Which rows a command of a program file may name, and which rule a row breaks, as a sentence."""
 
-from __future__ import annotations
-
 import typing
 
 from . import decode
@@ -21,7 +19,7 @@ def counted(count: int, what: str) -> str:
     return f"{count or 'no'} {head}{'es' if head.endswith('s') and count > 1 else 's' if count > 1 else ''}{of}{rest}"
 
 
-def wrong_row(row: Row, head: Entry) -> str | None:
+def wrong_row(row: "Row", head: "Entry") -> str | None:
     """What is wrong with a row of an entry, wherever it stands, or nothing."""
     if row.space >= len(SPACES):
         return f"is of space {row.space}; spaces are 0 to {len(SPACES) - 1}"
@@ -37,7 +35,7 @@ def wrong_row(row: Row, head: Entry) -> str | None:
     return None
 
 
-def wrong_place(rows: typing.Sequence[Row]) -> str | None:
+def wrong_place(rows: "typing.Sequence[Row]") -> str | None:
     """What is wrong with where the rows of a command stand, or nothing."""
     first, *others = rows
     if first.space == B_ADDRESS and not decode.legal_first("B", first.which):
@@ -50,7 +48,7 @@ def wrong_place(rows: typing.Sequence[Row]) -> str | None:
     return None
 
 
-def wrong_rows(rows: typing.Sequence[Row], head: Entry) -> str | None:
+def wrong_rows(rows: "typing.Sequence[Row]", head: "Entry") -> str | None:
     """What is wrong with the rows of a command, or nothing."""
     for number, row in enumerate(rows, 1):
         wrong = wrong_row(row, head)

@@ -4,8 +4,6 @@ A file is stored as a whole: into a new file beside it, NAME.new0 or the next fr
 as the program does it. So a kill or a full disk leaves the old file or the new one.
 """
 
-from __future__ import annotations
-
 import contextlib
 import errno
 import os

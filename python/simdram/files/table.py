@@ -1,7 +1,5 @@
 """The head of an image or a trace: a geometry, the objects that lie in its rows, and which rows are free."""
 
-from __future__ import annotations
-
 import dataclasses
 import struct
 import typing
@@ -33,7 +31,7 @@ class Object:
         """The first row after it."""
         return self.base + self.width
 
-    def meets(self, other: Object) -> bool:
+    def meets(self, other: "Object") -> bool:
         """Whether two objects have a row in common."""
         return self.base < other.past and other.base < self.past
 
@@ -58,12 +56,12 @@ class Table:
     objects: typing.List[Object] = dataclasses.field(default_factory=list)
 
     @classmethod
-    def read(cls, head: bytes, path: str) -> Table:
+    def read(cls, head: bytes, path: str) -> "Table":
         """The table that an image file begins with."""
         return Table.taken(Fields(head, path), MAGIC, "image")
 
     @staticmethod
-    def taken(fields: Fields, magic: bytes, kind: str) -> Table:
+    def taken(fields: Fields, magic: bytes, kind: str) -> "Table":
         """The table that a file of this kind begins with, taken from its fields."""
         fields.magic(magic, kind)
         fields.within(2, 1, 1, "version", "the version")
@@ -79,7 +77,7 @@ class Table:
         """The object of this name, if there is one."""
         return next((one for one in self.objects if one.name == name), None)
 
-    def copy(self) -> Table:
+    def copy(self) -> "Table":
         """Another table of the same objects."""
         return Table(self.banks, self.rows, self.words, list(self.objects))
 

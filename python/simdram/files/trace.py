@@ -1,7 +1,5 @@
 """Trace files: a geometry, a table of objects, and row commands and writes in order."""
 
-from __future__ import annotations
-
 import dataclasses
 import typing
 
@@ -55,14 +53,14 @@ class Trace(Table):
     events: typing.List[Event] = dataclasses.field(default_factory=list)
 
     @classmethod
-    def read(cls, data: bytes, path: str = "trace") -> Trace:
+    def read(cls, data: bytes, path: str = "trace") -> "Trace":
         """The trace of a file's bytes; what is no trace file is refused at the first field that breaks its rule."""
         made, events = cls.opened(data, path)
         made.events = list(events)
         return made
 
     @classmethod
-    def opened(cls, data: bytes, path: str = "trace") -> typing.Tuple[Trace, typing.Iterator[Event]]:
+    def opened(cls, data: bytes, path: str = "trace") -> "typing.Tuple[Trace, typing.Iterator[Event]]":
         """The trace of a file's bytes without its events, and the events, each read when it is asked for."""
         fields = Fields(data, path)
         table = Table.taken(fields, MAGIC, "trace")
@@ -70,7 +68,7 @@ class Trace(Table):
         return made, made._events(fields, fields.number(4))
 
     @classmethod
-    def load(cls, path: str) -> Trace:
+    def load(cls, path: str) -> "Trace":
         """The trace in a file."""
         return cls.read(load(path, "trace"), path)
 

@@ -1,7 +1,5 @@
 """Prints a trace file as text, one line for each event, such as `bank 0 AAP D8 B8`."""
 
-from __future__ import annotations
-
 import argparse
 
 from ..launcher.settings import Settings

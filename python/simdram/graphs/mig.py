@@ -4,8 +4,6 @@ A literal is twice the number of what it reads, and one more where it is complem
 the literals 0 and 1 are the constants; then come the inputs, and then the nodes.
 """
 
-from __future__ import annotations
-
 import dataclasses
 import typing
 

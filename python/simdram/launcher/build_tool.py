@@ -1,7 +1,5 @@
 """Builds the program without proofs if none is built, and prints the path of the program that runs."""
 
-from __future__ import annotations
-
 import argparse
 
 from . import run_program

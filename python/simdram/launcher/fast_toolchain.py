@@ -5,8 +5,6 @@ from a folder of links to the toolchain whose `clang` is a script: it calls the 
 the sanitizer. The program does the same, some 50 times as fast.
 """
 
-from __future__ import annotations
-
 import pathlib
 import shlex
 import shutil

@@ -1,7 +1,5 @@
 """The help text of all commands; that of one is its parser's."""
 
-from __future__ import annotations
-
 import pathlib
 import subprocess
 

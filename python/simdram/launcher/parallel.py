@@ -1,7 +1,5 @@
 """One function on many items, on all processors, with a progress bar on a terminal."""
 
-from __future__ import annotations
-
 import concurrent.futures
 import itertools
 import os

@@ -3,8 +3,6 @@
 It shows crate by crate what is being proved and about how long it still takes. Ctrl-C stops it; the next call goes on.
 """
 
-from __future__ import annotations
-
 import argparse
 import os
 import shutil

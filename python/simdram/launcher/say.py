@@ -1,7 +1,5 @@
 """The launcher's lines on standard error."""
 
-from __future__ import annotations
-
 import os
 import pathlib
 import sys

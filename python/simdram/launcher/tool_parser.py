@@ -1,7 +1,5 @@
 """The parser of a tool's words: its help is the tool's docstring."""
 
-from __future__ import annotations
-
 import argparse
 import ast
 import pathlib

@@ -1,7 +1,5 @@
 """The words of a command of the program: its parser, and what is wrong with a command line that it refuses."""
 
-from __future__ import annotations
-
 import argparse
 import difflib
 import functools

@@ -1,7 +1,5 @@
 """What is wrong with a file, where, and what would be right, as lines."""
 
-from __future__ import annotations
-
 import dataclasses
 import textwrap
 
@@ -45,11 +43,15 @@ class Refusal:
 
 
 class Breach(Exception):
-    """A token that breaks a rule: the kind, the rule in a sentence, and what would be right."""
+    """A token of a text that breaks a rule: the kind in a word, the rule in a sentence, and what would be right."""
 
     def __init__(self, token: Token, kind: str, rule: str, *right: str) -> None:
-        super().__init__(kind)
+        super().__init__(rule)
         self.token, self.kind, self.rule, self.right = token, kind, rule, right
+
+    def answer(self, path: str, data: bytes) -> Answer:
+        """The fault with its line and column in a file."""
+        return at_token(path, data, self.token, self.kind, self.rule, self.right)
 
 
 def near(word: str, known) -> str:

@@ -1,10 +1,8 @@
 """The answers on files: their first faults, and what a script or a query is refused with."""
 
-from __future__ import annotations
-
 import subprocess
 
-from ..assembler import TextFault, assemble
+from ..assembler import assemble
 from ..files.fault import FileFault
 from ..files.image import Image
 from ..files.program import Entry, Program
@@ -14,7 +12,7 @@ from ..launcher import run_program
 from ..launcher.commands import KINDS, MAGIC
 from ..launcher.overwrite import content
 from ..launcher.settings import Settings
-from .answer import Answer, Refusal, at_token
+from .answer import Answer, Breach, Refusal, at_token
 from .flips_rules import explain_flips
 from .ops_rules import explain_ops
 from .query_rules import read_query
@@ -72,7 +70,7 @@ def explain_micro(path: str, data: bytes) -> Answer | None:
     """The first fault of a text of microprograms."""
     try:
         assemble(data)
-    except TextFault as fault:
+    except Breach as fault:
         return fault.answer(path, data)
     return None
 

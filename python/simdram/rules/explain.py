@@ -6,8 +6,6 @@ scan is refused; with PROG and a width N after an operation text, what `verify` 
 needs SCRIPT and IMAGE. The status is 0 without a fault, else 1.
 """
 
-from __future__ import annotations
-
 import argparse
 
 from ..files.program import Program

@@ -1,7 +1,5 @@
 """What an operation text says of each op: its names with their kinds, and its statements."""
 
-from __future__ import annotations
-
 import dataclasses
 
 from .op_tree import Block, Expr, Op, WordStatement

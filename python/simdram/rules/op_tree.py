@@ -1,7 +1,5 @@
 """Operation texts as trees, and a printer in the canonical form; `ops_rules` reads them."""
 
-from __future__ import annotations
-
 import dataclasses
 import typing
 

@@ -1,7 +1,5 @@
 """Queries: their comparisons, the first token that breaks a rule of docs/FORMATS.md, and why a scan is refused."""
 
-from __future__ import annotations
-
 import typing
 
 from ..launcher.words import nearest
@@ -145,5 +143,5 @@ def read_query(path: str, data: bytes) -> tuple[list[Node], Answer | None]:
     try:
         reader.read()
     except Breach as breach:
-        return reader.nodes, at_token(path, data, breach.token, breach.kind, breach.rule, breach.right)
+        return reader.nodes, breach.answer(path, data)
     return reader.nodes, None

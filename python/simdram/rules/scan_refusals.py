@@ -1,7 +1,5 @@
 """Why a scan is refused on a table of objects, and what would be right."""
 
-from __future__ import annotations
-
 from ..files.image import OBJECTS, Object
 from ..files.table import Table
 from .answer import Refusal

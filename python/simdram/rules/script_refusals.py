@@ -1,7 +1,5 @@
 """Which instructions of a script are refused on a table of objects, why, and what would be right."""
 
-from __future__ import annotations
-
 import dataclasses
 import typing
 

@@ -1,12 +1,10 @@
 """Scripts: their instructions, and the first line that breaks a rule of docs/FORMATS.md."""
 
-from __future__ import annotations
-
 import dataclasses
 import typing
 
 from ..launcher.words import nearest
-from .answer import Answer, Breach, at_token
+from .answer import Answer, Breach
 from .operands import WIDTH_MAX, Operand, operand_at
 from .tokens import END, NAME, NAME_MAX, NUMBER, STRANGER, Token, is_long, no_token, tokens, value_of
 
@@ -189,12 +187,7 @@ def read_script(path: str, data: bytes) -> tuple[list[Instruction], Answer | Non
         try:
             one = instruction_of(line)
         except Breach as breach:
-            return found, at_place(path, data, line, breach)
+            return found, breach.answer(path, data)
         if one is not None:
             found.append(one)
     return found, None
-
-
-def at_place(path: str, data: bytes, line: list[Token], breach: Breach) -> Answer:
-    """The answer on a line; at its end, on the byte before its newline."""
-    return at_token(path, data, breach.token, breach.kind, breach.rule, breach.right)

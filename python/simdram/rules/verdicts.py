@@ -1,7 +1,5 @@
 """What `verify` says of an entry, line by line, as values."""
 
-from __future__ import annotations
-
 import dataclasses
 import re
 import typing

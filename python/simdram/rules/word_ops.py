@@ -3,8 +3,6 @@
 `w` is a word, `b` a bit, `x` either, the same in every place.
 """
 
-from __future__ import annotations
-
 import operator
 import typing
 

@@ -1,15 +1,14 @@
 """A group of a plan as one statement: a word statement where one does, else a serial block."""
 
-from __future__ import annotations
-
 import typing
 
 from ..rules.op_tree import BIT, WORD, Block, Body, Expr, read
+from ..rules.ops_rules import LETS
 from .gates import LAST, STATE
 from .items import STATES, Item, Items
 from .op_limits import fits, live
 from .plans import NoOp, Plan, is_whole
-from .spelling import LETS, Spelling, uses
+from .spelling import Spelling, uses
 from .statement_alone import normal
 from .statements import Statements
 

@@ -1,7 +1,5 @@
 """Comparisons of words: each as a set of the ways in which two words can stand to each other."""
 
-from __future__ import annotations
-
 import typing
 
 from .gates import STATE, Form, Graph, StateRule

@@ -4,18 +4,16 @@ Where both texts take a product of the same arguments, it is one unknown in both
 equal for the product. So what a comparison of whole texts cannot follow is often known.
 """
 
-from __future__ import annotations
-
 import dataclasses
 import typing
 
 from ..rules.op_tree import WORD, Block, Body, Op, Params, WordStatement
+from ..rules.ops_rules import SOURCES
 from .op_limits import live
 from .statement_alone import renamed
 
 OPERATIONS = ("mul", "div", "rem", "divmod", "bitcount")
 COMMUTATIVE = ("mul",)
-SOURCES = 4
 
 
 def has_nested(body: Body) -> bool:

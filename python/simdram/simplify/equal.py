@@ -1,7 +1,5 @@
 """Whether two texts of an op are equal at widths: by the program's `verify`, for all inputs."""
 
-from __future__ import annotations
-
 import os
 import subprocess
 import tempfile

@@ -1,7 +1,5 @@
 """The word operations as gates and states, and their other forms."""
 
-from __future__ import annotations
-
 import typing
 
 from .gates import STATE, WHOLE, WORD, StateRule

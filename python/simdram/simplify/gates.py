@@ -4,8 +4,6 @@ A literal is 2 · node, and one more where it is inverted; literal 0 is the cons
 that have equal truth tables are one literal.
 """
 
-from __future__ import annotations
-
 import typing
 
 from ..graphs.mig import normal_majority

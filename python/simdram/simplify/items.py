@@ -1,7 +1,5 @@
 """What an op's text must compute: components of states, whole operations, and words that stand in rows."""
 
-from __future__ import annotations
-
 import typing
 
 from ..rules.op_tree import WORD

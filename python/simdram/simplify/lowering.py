@@ -1,7 +1,5 @@
 """From an op's statements to its graph."""
 
-from __future__ import annotations
-
 import typing
 
 from ..rules.op_tree import ALIKE, BIT, TO_BIT, WORD, Block, Expr, Op, WordStatement

@@ -1,7 +1,5 @@
 """What statements cost: each is measured once, in an op of its own, many to a call of the program."""
 
-from __future__ import annotations
-
 import copy
 import os
 import subprocess
@@ -62,7 +60,7 @@ class Measured:
         # what this search has asked for: its guesses do not depend on what others have measured
         self.asked: typing.Set[Alone] = set()
 
-    def until_then(self, until: float) -> Measured:
+    def until_then(self, until: float) -> "Measured":
         """The same, with what is kept, up to another time, for another search."""
         other = copy.copy(self)
         other.until, other.asked = until, set()

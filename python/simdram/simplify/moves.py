@@ -1,7 +1,5 @@
 """Where a search over plans starts, and which plans are next to a plan."""
 
-from __future__ import annotations
-
 import dataclasses
 import itertools
 import typing

@@ -1,13 +1,10 @@
 """What the limits of the language and the readers of a name ask of a body."""
 
-from __future__ import annotations
-
 import typing
 
 from ..rules.op_tree import Block, Body, Expr, WordStatement, read
+from ..rules.ops_rules import ASSIGNMENTS, DEPTH, LETS, STATEMENTS, STATES, WEIGHT
 from ..rules.word_ops import WEIGHTS
-
-STATEMENTS, STATES, ASSIGNMENTS, LETS, WEIGHT, DEPTH = 16, 8, 8, 16, 24, 32
 
 
 def weight(expr: Expr) -> int:

@@ -1,7 +1,5 @@
 """What became of each op of a text, and what is said of it."""
 
-from __future__ import annotations
-
 import dataclasses
 import typing
 

@@ -1,7 +1,5 @@
 """A plan: which items stand in one statement, in which order the statements run, and what each writes for later ones."""
 
-from __future__ import annotations
-
 import dataclasses
 import typing
 
@@ -30,11 +28,11 @@ class Plan:
     turned: typing.FrozenSet[int] = frozenset()
     blocks: typing.FrozenSet[int] = frozenset()
 
-    def with_groups(self, groups: typing.Iterable[Group]) -> Plan:
+    def with_groups(self, groups: typing.Iterable[Group]) -> "Plan":
         """The same with other groups; an empty one goes."""
         return dataclasses.replace(self, groups=tuple(filter(None, groups)))
 
-    def spelled(self, group: int, number: int) -> Plan:
+    def spelled(self, group: int, number: int) -> "Plan":
         """The same with another spelling of a group."""
         return dataclasses.replace(self, spelling=tuple({**dict(self.spelling), group: number}.items()))
 

@@ -1,7 +1,5 @@
 """The search for the text of an op that costs the least: over plans, spellings, and other forms of operations."""
 
-from __future__ import annotations
-
 import typing
 
 from ..rules.op_tree import Body, Op, body_text

@@ -1,7 +1,5 @@
 """The ops of a text, each simplified and compared with what it was, in a time."""
 
-from __future__ import annotations
-
 import dataclasses
 import threading
 import typing

@@ -11,8 +11,6 @@ idle one does; if it is over, the best text so far is taken. What statements
 cost is kept in ~/.cache/simdram, or in the folder that SIMDRAM_CACHE names, for later calls.
 """
 
-from __future__ import annotations
-
 import argparse
 import os
 import sys

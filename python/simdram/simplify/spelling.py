@@ -1,7 +1,5 @@
 """The expressions of a block: how its gates are written."""
 
-from __future__ import annotations
-
 import random
 import typing
 
@@ -10,7 +8,6 @@ from .gates import Graph, Node
 from .items import Items
 
 STYLES = 3
-LETS = 16
 
 
 class Spelling:

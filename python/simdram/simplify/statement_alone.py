@@ -1,7 +1,5 @@
 """A statement by itself, as it is measured: names by their places, and the arguments of xor and maj in one order."""
 
-from __future__ import annotations
-
 import typing
 
 from ..rules.op_tree import BIT, WORD, Block, Expr, Statement, WordStatement, body_text, made_by, read

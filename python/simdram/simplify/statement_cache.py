@@ -1,7 +1,5 @@
 """What statements cost, kept on disk: one file for each program, since another compiler may find other costs."""
 
-from __future__ import annotations
-
 import hashlib
 import json
 import os

@@ -1,7 +1,5 @@
 """From a plan to the statements of an op: names, word statements, bits and results. `blocks` writes the serial blocks."""
 
-from __future__ import annotations
-
 import typing
 
 from ..rules.op_tree import BIT, TO_BIT, WORD, Block, Body, Expr, WordStatement, gate, read

@@ -1,7 +1,5 @@
 """States that are equal: those that are always 0 go, and those that are always equal become one."""
 
-from __future__ import annotations
-
 import typing
 
 from .gates import CONST, LAST, STATE, Form, Graph

@@ -1,7 +1,5 @@
 """Sums, differences and products as gates and states."""
 
-from __future__ import annotations
-
 import typing
 
 from .comparisons import Comparisons

@@ -1,7 +1,5 @@
 """Truth tables of a few leaves, as whole numbers: bit i is the value where leaf k is bit k of i."""
 
-from __future__ import annotations
-
 import typing
 
 LEAVES = 8

@@ -1,7 +1,5 @@
 """Processor seconds of this process and of the calls that it has waited for: the same work takes as many on a busy machine."""
 
-from __future__ import annotations
-
 import os
 import typing
 

@@ -1,7 +1,5 @@
 """What cells hold where a part of a microprogram begins: which are 0 or 1, and which hold one value, or its complement."""
 
-from __future__ import annotations
-
 import itertools
 import typing
 

@@ -1,7 +1,5 @@
 """One column of a chip while a microprogram is executed: the bit of each cell and row, from numbers for the operands."""
 
-from __future__ import annotations
-
 import re
 import typing
 

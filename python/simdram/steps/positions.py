@@ -1,8 +1,6 @@
 """What the registers of a microprogram hold, and so which rows its commands name: sums of n, of numbers, and of what the
 registers held where a part of the code begins."""
 
-from __future__ import annotations
-
 import typing
 
 from ..assembler.forms import N, Form, changed

@@ -1,7 +1,5 @@
 """Names of a microprogram's rows: the designer's where the operation text is given, and else a, b, y, t0, w0."""
 
-from __future__ import annotations
-
 from ..files.decode import CELLS
 from ..files.program import BIT, INDEXED, RESULT, SOURCE, WORD, Row
 from ..rules.op_shapes import OpShape, Statement

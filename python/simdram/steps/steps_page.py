@@ -1,7 +1,5 @@
 """The page that steps through the commands of an operation."""
 
-from __future__ import annotations
-
 import html
 import json
 import pathlib

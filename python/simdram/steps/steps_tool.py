@@ -25,8 +25,6 @@ It prints a table for each part. With --html it writes one page instead that ste
 with cells coloured by what they hold; the page loads nothing.
 """
 
-from __future__ import annotations
-
 import argparse
 import dataclasses
 import textwrap

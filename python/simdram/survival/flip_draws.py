@@ -1,7 +1,5 @@
 """Draws which cells flip: each data cell of an image before each instruction of a script, at one rate."""
 
-from __future__ import annotations
-
 import dataclasses
 import math
 import random
@@ -36,7 +34,7 @@ class Cells:
     instructions: int
 
     @classmethod
-    def of(cls, table: Table, instructions: int) -> Cells:
+    def of(cls, table: Table, instructions: int) -> "Cells":
         """Those of an image with this head."""
         return cls(table.banks, table.rows, 64 * table.words, instructions)
 

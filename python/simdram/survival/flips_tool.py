@@ -4,8 +4,6 @@ Before each instruction of SCRIPT each data cell of IMAGE, in every bank, row an
 itself: 1e-6 is one flip in a million cells and instructions. The same words give the same flips.
 """
 
-from __future__ import annotations
-
 import argparse
 
 from ..files.store import load

@@ -7,8 +7,6 @@ interval (Wilson's) of the probability behind it, the mean, least and most flips
 Flips hit all data cells of IMAGE, also those that no object stands in.
 """
 
-from __future__ import annotations
-
 import argparse
 import dataclasses
 import math
