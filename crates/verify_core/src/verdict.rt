@@ -86,8 +86,8 @@ fn unknown(shortage: Shortage, diagram: &Diagram) -> Result<Verdict, NoMemory>
 }
 
 /// A case in which the two give different numbers, or none where they never do. Where the entry has
-/// few commands, numbers are tried: from zeros in the other cells before the diagrams, and from ones
-/// where these gave no answer.
+/// few commands, numbers are tried: from zeros in the other cells before the diagrams, and from
+/// ones where these gave no answer.
 fn found_case<F: Fetch, G: Fetch>(
     own: &F,
     made: &G,
