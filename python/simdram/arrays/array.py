@@ -32,13 +32,13 @@ class Array(Operators):
     is a constant, and goes with arrays of any shape.
     """
 
-    def __init__(self, chip: "Chip", shape: typing.Tuple[int, ...], value: Value,
-                 made: typing.Optional[Made] = None, signed: bool = False) -> None:
+    def __init__(self, chip: "Chip", shape: tuple[int, ...], value: Value,
+                 made: Made | None = None, signed: bool = False) -> None:
         self.chip, self.shape, self.value, self.made, self.signed = chip, shape, value, made, signed
         # of an array of a structured type this type and where its fields lie
-        self.record: typing.Optional[typing.Tuple[numpy.dtype, typing.Mapping[str, Field]]] = None
+        self.record: tuple[numpy.dtype, typing.Mapping[str, Field]] | None = None
 
-    def of_value(self, shape: typing.Tuple[int, ...], value: Value, signed: bool) -> "Array":
+    def of_value(self, shape: tuple[int, ...], value: Value, signed: bool) -> "Array":
         """An array of the same chip that is computed when it is looked at."""
         return Array(self.chip, shape, value, signed=signed)
 
@@ -47,7 +47,7 @@ class Array(Operators):
         """Whether its numbers are known or stand in the chip."""
         return self.made is not None
 
-    def settle(self, origin: typing.Union[Held, Constant], made: Made) -> None:
+    def settle(self, origin: Held | Constant, made: Made) -> None:
         """From now on it is an object or a number, and so is its value in every expression that has it."""
         self.value.origin, self.made = origin, made
 
@@ -82,8 +82,7 @@ class Array(Operators):
     def __array__(self, dtype: typing.Any = None, copy: typing.Any = None) -> "numpy.ndarray":
         return self.numpy() if dtype is None else self.numpy().astype(dtype)
 
-    def astype(self, dtype: typing.Any = None, *, bits: typing.Optional[int] = None,
-               signed: typing.Optional[bool] = None) -> "Array":
+    def astype(self, dtype: typing.Any = None, *, bits: int | None = None, signed: bool | None = None) -> "Array":
         """The same numbers at another width, modulo 2^bits; or their patterns read as signed or unsigned.
 
         Fewer bits are a slice of the same object, which takes no command; more are copied beside zeros or copies of the top
@@ -102,8 +101,8 @@ class Array(Operators):
             return Array(self.chip, self.shape, self.value, self.made, is_signed)
         return self.of_value(self.shape, extended(self.value, width, self.signed), is_signed)
 
-    def sum(self, axis: typing.Optional[int] = None, dtype: typing.Any = None, out: typing.Any = None, *,
-            bits: typing.Optional[int] = None) -> "Array":
+    def sum(self, axis: int | None = None, dtype: typing.Any = None, out: typing.Any = None, *,
+            bits: int | None = None) -> "Array":
         """The sums along an axis, or of all elements, modulo 2^bits; at another width with `bits`, as after `astype`.
 
         Elements stand in columns, which no row command joins: the host moves halves over each other, and a tree of as
@@ -140,7 +139,6 @@ class Array(Operators):
 
     def __bool__(self) -> bool:
         raise TypeError("an array of a chip has no one truth value: look at .numpy()")
-
 
 
 def constant(chip: "Chip", number: int, kind: str, bits: int, signed: bool) -> Array:

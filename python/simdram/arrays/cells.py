@@ -81,7 +81,7 @@ def cells_of(numbers: numpy.ndarray, bits: int) -> bytes:
     return bytes(wide)
 
 
-def array_of(cells: bytes, size: int, kind: str, shape: typing.Tuple[int, ...]) -> numpy.ndarray:
+def array_of(cells: bytes, size: int, kind: str, shape: tuple[int, ...]) -> numpy.ndarray:
     """The array of what cells hold: truth values, the smallest unsigned type, or Python's integers above 64 bits."""
     if size > 8:
         numbers = numpy.empty(len(cells) // size, dtype=object)

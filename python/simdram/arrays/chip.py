@@ -41,7 +41,7 @@ class Chip:
         self.host_writes = self.host_reads = 0
         self._spent = Cost(busiest=(0, 0))
         self._names, self._texts = Names(), Texts(simplify)
-        self._gone: typing.List[str] = []
+        self._gone: list[str] = []
 
     def __repr__(self) -> str:
         shape = f"{self.banks} banks of {self.rows} rows of {self.words} words"
@@ -57,7 +57,7 @@ class Chip:
         """Adds what a script or a scan took."""
         self._spent = total([self._spent, cost])
 
-    def array(self, data: typing.Any, bits: typing.Optional[int] = None, signed: bool = False) -> Array:
+    def array(self, data: typing.Any, bits: int | None = None, signed: bool = False) -> Array:
         """Whole numbers or truth values in the chip: an array of any shape, at a width of 1 to 128 bits.
 
         Without `bits` the width is that of the array's type, and one bit for truth values. With `signed` numbers from
@@ -81,7 +81,7 @@ class Chip:
         made = Made(cost=Cost(banks=banks, host_writes=width * banks))
         return Array(self, numbers.shape, Value(kind, width, self._held(name, made)), made, signed)
 
-    def _records(self, data: numpy.ndarray, widths: typing.Optional[typing.Mapping[str, int]]) -> Array:
+    def _records(self, data: numpy.ndarray, widths: typing.Mapping[str, int] | None) -> Array:
         """Elements of a structured type in one object, whose fields are bits of it."""
         fields = fields_of(data.dtype, widths)
         placed = self.array(packed(data, fields), bits=sum(field.bits for field in fields.values()))
@@ -162,7 +162,7 @@ class Chip:
                     raise
                 self._collect()
 
-    def _in_few_ops(self, targets: typing.Sequence[Value], count: int) -> typing.Tuple[Scripts, Made]:
+    def _in_few_ops(self, targets: typing.Sequence[Value], count: int) -> tuple[Scripts, Made]:
         """As few ops as there are rows for: each has rows of its own for its temporaries, which smaller ones share."""
         statements = STATEMENTS
         while True:
@@ -192,7 +192,7 @@ class Chip:
         report = "".join(one.report for one in done)
         return Made("".join(scripts.texts), lines, report, cost, "".join(scripts.op_texts), "".join(scripts.written))
 
-    def _keep(self, computed: typing.Sequence[typing.Tuple[Array, Value]], scripts: Scripts, made: Made) -> None:
+    def _keep(self, computed: typing.Sequence[tuple[Array, Value]], scripts: Scripts, made: Made) -> None:
         """The arrays are now what was computed for them; one of no dimensions becomes its number again."""
         wholes = [whole_of(target) for _, target in computed]
         origins = {whole.origin.name: whole.origin for whole, _ in wholes if isinstance(whole.origin, Held)}
@@ -205,7 +205,7 @@ class Chip:
             array.settle(number or held, made)
 
 
-def sources_of(computed: typing.Sequence[typing.Tuple[Array, Value]]) -> typing.List[Made]:
+def sources_of(computed: typing.Sequence[tuple[Array, Value]]) -> list[Made]:
     """How that was made which arrays are computed from: the objects that are read, and numbers that the chip computed."""
     objects = made_before([target for _, target in computed], Held)
     return objects + made_before([array.value for array, _ in computed], Constant)

@@ -20,7 +20,7 @@ class Cost:
     host_writes: int = 0
     host_reads: int = 0
     # the AAP and AP of the busiest bank, where not all parts took the same banks
-    busiest: typing.Optional[typing.Tuple[int, int]] = dataclasses.field(default=None, compare=False, repr=False)
+    busiest: tuple[int, int] | None = dataclasses.field(default=None, compare=False, repr=False)
 
     @property
     def commands(self) -> int:

@@ -21,7 +21,7 @@ class Counted:
         """Its row commands in one bank at a width, and its rows of scratch."""
         return self.costs([bits])[bits]
 
-    def costs(self, widths: typing.Iterable[int]) -> typing.Dict[int, EntryCost]:
+    def costs(self, widths: typing.Iterable[int]) -> dict[int, EntryCost]:
         """Its cost at each of these widths."""
         asked = [checked_width(operator.index(bits)) for bits in widths]
         with tempfile.TemporaryDirectory(prefix="simdram_") as folder:
@@ -40,6 +40,6 @@ class Counted:
                 store(text, ops.encode())
             return profiles(path, [checked_width(operator.index(bits))], taken([])[0], None if ops is None else text, True)[0]
 
-    def ops_text(self) -> typing.Optional[str]:
+    def ops_text(self) -> str | None:
         """The operation text that it was compiled from, if it was."""
         return None

@@ -19,7 +19,7 @@ class Part:
                         if id(value) in wanted or not can_join(step)]
 
     @property
-    def width(self) -> typing.Optional[int]:
+    def width(self) -> int | None:
         """The width of its words, or None where it has bits alone."""
         return next((step.width for step in self.steps if step.width is not None), None)
 
@@ -35,7 +35,7 @@ def can_join(step: Step) -> bool:
     return isinstance(step.operation, Operation)
 
 
-def cut(targets: typing.Sequence[Value], statements: int = STATEMENTS) -> typing.List[Part]:
+def cut(targets: typing.Sequence[Value], statements: int = STATEMENTS) -> list[Part]:
     """The parts that give the targets, in an order in which they can be done, of at most so many statements each."""
     steps = in_order(targets)
     if not steps:
@@ -48,16 +48,16 @@ def cut(targets: typing.Sequence[Value], statements: int = STATEMENTS) -> typing
 class Pieces:
     """The parts of steps that are no single op, the last first."""
 
-    def __init__(self, steps: typing.Sequence[Step], wanted: typing.Set[int], statements: int) -> None:
+    def __init__(self, steps: typing.Sequence[Step], wanted: set[int], statements: int) -> None:
         self.steps, self.wanted, self.statements = steps, wanted, statements
         self.place = {id(step): k for k, step in enumerate(steps)}
-        self.users: typing.Dict[int, typing.Set[int]] = {id(step): set() for step in steps}
+        self.users: dict[int, set[int]] = {id(step): set() for step in steps}
         for step in steps:
             for below in _givers(step.arguments):
                 self.users[id(below)].add(id(step))
 
     def __iter__(self) -> typing.Iterator[Part]:
-        placed: typing.Set[int] = set()
+        placed: set[int] = set()
         for step in reversed(self.steps):
             if id(step) not in placed:
                 part = self._grown(step)
@@ -72,7 +72,7 @@ class Pieces:
             part, larger = larger, self._larger(larger) if can_join(root) else None
         return part
 
-    def _larger(self, part: Part) -> typing.Optional[Part]:
+    def _larger(self, part: Part) -> Part | None:
         """The part with one more step; those are tried first that bring the fewest new sources."""
         members = {id(step) for step in part.steps}
         taken = {id(value) for value in part.sources}
@@ -84,7 +84,7 @@ class Pieces:
         return None
 
 
-def _givers(values: typing.Iterable[Value]) -> typing.List[Step]:
+def _givers(values: typing.Iterable[Value]) -> list[Step]:
     """The steps that give values, each once."""
     steps = [value.origin.step for value in values if isinstance(value.origin, Result)]
     return list({id(step): step for step in steps}.values())

@@ -9,7 +9,7 @@ from .refusals import Refused
 class Held:
     """A value that is an object of the chip, or the bits of one from `low` on, and how it was made."""
 
-    def __init__(self, name: str, made: typing.Any = None, low: int = 0, whole: "typing.Optional[Value]" = None) -> None:
+    def __init__(self, name: str, made: typing.Any = None, low: int = 0, whole: "Value | None" = None) -> None:
         self.name, self.made, self.low, self.whole = name, made, low, whole
 
 
@@ -32,7 +32,7 @@ class Value:
 
     __slots__ = ("kind", "bits", "origin")
 
-    def __init__(self, kind: str, bits: int, origin: typing.Union[Held, Constant, Result]) -> None:
+    def __init__(self, kind: str, bits: int, origin: Held | Constant | Result) -> None:
         self.kind, self.bits, self.origin = kind, bits, origin
 
 
@@ -41,14 +41,14 @@ class Step:
 
     __slots__ = ("operation", "arguments", "width", "results")
 
-    def __init__(self, operation: typing.Any, arguments: typing.Sequence[Value], width: typing.Optional[int],
+    def __init__(self, operation: typing.Any, arguments: typing.Sequence[Value], width: int | None,
                  kinds: typing.Sequence[str]) -> None:
         self.operation, self.arguments, self.width = operation, tuple(arguments), width
         bits = [1 if kind == BIT else width for kind in kinds]
         self.results = tuple(Value(kind, bits[k], Result(self, k)) for k, kind in enumerate(kinds))
 
 
-def step(operation: typing.Any, arguments: typing.Sequence[Value], bits: typing.Optional[int] = None) -> Step:
+def step(operation: typing.Any, arguments: typing.Sequence[Value], bits: int | None = None) -> Step:
     """The step of an operation on these arguments, or the refusal of the first rule that they break.
 
     The operation has `name`, `takes` and `gives`; `bits` is the width where no argument is a word. A refusal's place
@@ -77,7 +77,7 @@ def _same_kind(operation: typing.Any, arguments: typing.Sequence[Value]) -> str:
     return next((value.kind for value, kind in zip(arguments, operation.takes) if kind == SAME), WORD)
 
 
-def made_before(values: typing.Iterable[Value], kind: type) -> typing.List[typing.Any]:
+def made_before(values: typing.Iterable[Value], kind: type) -> list[typing.Any]:
     """How those values were made that values are computed from and that are of a kind, `Held` or `Constant`, each once."""
     values = list(values)
     leaves = [*values, *(one for step in in_order(values) for one in step.arguments)]
@@ -85,9 +85,9 @@ def made_before(values: typing.Iterable[Value], kind: type) -> typing.List[typin
     return list({id(one): one for one in made}.values())
 
 
-def in_order(targets: typing.Iterable[Value]) -> typing.List[Step]:
+def in_order(targets: typing.Iterable[Value]) -> list[Step]:
     """The steps that the values need, each after those of its arguments."""
-    done: typing.Dict[int, Step] = {}
+    done: dict[int, Step] = {}
     waiting = [target.origin.step for target in targets if isinstance(target.origin, Result)][::-1]
     while waiting:
         below = [value.origin.step for value in waiting[-1].arguments if isinstance(value.origin, Result)]

@@ -13,7 +13,7 @@ from .refusals import Refused
 CONCAT = Operation("concat", (), (WORD,))
 
 
-def apply(name: str, *operands: typing.Any) -> typing.Union[Array, typing.Tuple[Array, ...]]:
+def apply(name: str, *operands: typing.Any) -> Array | tuple[Array, ...]:
     """The result of a word operation by its name, such as `relu`; of `divmod` the two.
 
     It is the operation of the language: `gt`, `min`, `div` and the like take the patterns of signed arrays as unsigned.

@@ -15,14 +15,14 @@ class Slice(typing.NamedTuple):
     name, takes = "slice", (WORD,)
 
     @property
-    def gives(self) -> typing.Tuple[str, ...]:
+    def gives(self) -> tuple[str, ...]:
         return (self.kind,)
 
 
 class Join(typing.NamedTuple):
     """Values of these sizes put together, the lowest bits first; one of a single bit may stand in several."""
 
-    sizes: typing.Tuple[int, ...]
+    sizes: tuple[int, ...]
 
     name, takes, gives = "concat", (), (WORD,)
 
@@ -41,13 +41,13 @@ def bits_of(value: Value, low: int, size: int, kind: str = WORD) -> Value:
     return Step(Slice(low, kind), (value,), size, (kind,)).results[0]
 
 
-def joined(pieces: typing.Sequence[typing.Tuple[Value, int]]) -> Value:
+def joined(pieces: typing.Sequence[tuple[Value, int]]) -> Value:
     """Values of these sizes, the lowest bits first."""
     sizes = tuple(size for _, size in pieces)
     return Step(Join(sizes), tuple(value for value, _ in pieces), sum(sizes), (WORD,)).results[0]
 
 
-def zeros(size: int) -> typing.Tuple[Value, int]:
+def zeros(size: int) -> tuple[Value, int]:
     """A piece of zeros."""
     return Value(WORD, size, Constant(0)), size
 
@@ -75,13 +75,13 @@ def product_of(first: Value, second: Value, size: int) -> Value:
     return Step(Product(), (first, second), size, (WORD,)).results[0]
 
 
-def layout_of(value: Value, kind: type) -> typing.Optional[Step]:
+def layout_of(value: Value, kind: type) -> Step | None:
     """The step that gives a value, where it is of this kind."""
     is_one = isinstance(value.origin, Result) and isinstance(value.origin.step.operation, kind)
     return value.origin.step if is_one else None
 
 
-def whole_of(value: Value) -> typing.Tuple[Value, int]:
+def whole_of(value: Value) -> tuple[Value, int]:
     """The value of which this one is bits, and from which bit on: itself, where it is no slice."""
     step = layout_of(value, Slice)
     return (step.arguments[0], step.operation.low) if step else (value, 0)

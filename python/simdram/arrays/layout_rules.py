@@ -8,7 +8,7 @@ from .layout import Join, Slice, layout_of, whole_of
 from .matching import number_of, under
 from .operations import WORD
 
-Piece = typing.Tuple[Value, int]
+Piece = tuple[Value, int]
 
 
 def laid_out(b, operation: typing.Any, arguments: typing.Sequence[Value], width: int) -> Value:
@@ -59,11 +59,11 @@ def of_kind(b, value: Value, kind: str) -> Value:
     return b.step(Slice(low, kind), (whole,), 1)[0] if number is None else b.constant(kind, 1, number >> low)
 
 
-def pieces_of(b, value: Value, low: int, size: int) -> typing.List[Piece]:
+def pieces_of(b, value: Value, low: int, size: int) -> list[Piece]:
     """What stands at these bits of a value, which may be put together."""
     whole, base = whole_of(value)
     step, low, at = layout_of(whole, Join), low + base, 0
-    found: typing.List[Piece] = []
+    found: list[Piece] = []
     for one, wide in zip(step.arguments, step.operation.sizes) if step else ((whole, whole.bits),):
         first, past = max(low, at), min(low + size, at + wide)
         if first < past:
@@ -95,9 +95,9 @@ def put_together(b, pieces: typing.Sequence[Piece]) -> Value:
     return b.step(Join(tuple(size for _, size in found)), tuple(value for value, _ in found), sum(size for _, size in found))[0]
 
 
-def merged(b, pieces: typing.Sequence[Piece]) -> typing.List[Piece]:
+def merged(b, pieces: typing.Sequence[Piece]) -> list[Piece]:
     """The same pieces, where neighbours that are one piece are one."""
-    found: typing.List[Piece] = []
+    found: list[Piece] = []
     for value, size in pieces:
         if number_of(value) is not None and value.bits < size:
             value = b.constant(WORD, size, -number_of(value))
@@ -106,7 +106,7 @@ def merged(b, pieces: typing.Sequence[Piece]) -> typing.List[Piece]:
     return found
 
 
-def joint(b, first: Value, size: int, second: Value, more: int) -> typing.Optional[Piece]:
+def joint(b, first: Value, size: int, second: Value, more: int) -> Piece | None:
     """Two neighbours as one piece: constants, bits of one value that follow on each other, or one bit in several places."""
     if number_of(first) is not None and number_of(second) is not None:
         return b.constant(WORD, size + more, number_of(first) | number_of(second) << size), size + more

@@ -15,7 +15,7 @@ from .summing import moved, read
 PRODUCT = Operation("product", (WORD, WORD), (WORD,))
 
 
-def product(first: typing.Any, second: typing.Any, bits: typing.Optional[int] = None) -> Array:
+def product(first: typing.Any, second: typing.Any, bits: int | None = None) -> Array:
     """The product with all its bits, as many as both factors have together, or with `bits`.
 
     Of unsigned arrays it is made row by row, for fewer commands than a product of widened factors takes.
@@ -31,7 +31,7 @@ def product(first: typing.Any, second: typing.Any, bits: typing.Optional[int] = 
     return arrays[0].of_value(shape, product_of(*values, size), False)
 
 
-def matmul(first: typing.Any, second: typing.Any, bits: typing.Optional[int] = None) -> Array:
+def matmul(first: typing.Any, second: typing.Any, bits: int | None = None) -> Array:
     """The product of two matrices, or of a matrix and a vector. Its sums have `bits`, or else 8, 16, 32, 64 or 128 bits, which hold all sums.
 
     The host reads both and places a pair of objects for each place on the inner axis; the chip multiplies and adds.

@@ -25,7 +25,7 @@ def text_of(name: str, part: Part) -> str:
     return f"op {name}({takes}) -> {gives} {{\n{''.join(lines)}}}\n"
 
 
-def _statement(step: Step, names: typing.Dict[int, str], states: typing.Iterator[str]) -> str:
+def _statement(step: Step, names: dict[int, str], states: typing.Iterator[str]) -> str:
     """A word statement, or the serial block of an operation that is one."""
     targets, arguments = ([names[id(value)] for value in values] for values in (step.results, step.arguments))
     if step.operation.block:
@@ -33,7 +33,7 @@ def _statement(step: Step, names: typing.Dict[int, str], states: typing.Iterator
     return f"{', '.join(targets)} = {step.operation.name}({', '.join(arguments)});"
 
 
-def _listed(values: typing.Iterable[Value], names: typing.Dict[int, str]) -> str:
+def _listed(values: typing.Iterable[Value], names: dict[int, str]) -> str:
     return ", ".join(f"{names[id(value)]}: {value.kind}" for value in values)
 
 

@@ -38,18 +38,18 @@ class Operation(typing.NamedTuple):
     cut off), and its text where it is a serial block."""
 
     name: str
-    takes: typing.Tuple[str, ...]
-    gives: typing.Tuple[str, ...]
-    value: typing.Optional[typing.Callable[..., Numbers]] = None
+    takes: tuple[str, ...]
+    gives: tuple[str, ...]
+    value: typing.Callable[..., Numbers] | None = None
     block: str = ""
 
-    def folded(self, bits: int, numbers: typing.Sequence[int]) -> typing.Tuple[int, ...]:
+    def folded(self, bits: int, numbers: typing.Sequence[int]) -> tuple[int, ...]:
         """Its results on numbers below 2^bits, before they are cut to their widths."""
         found = self.value(bits, *numbers)
         return found if isinstance(found, tuple) else (found,)
 
 
-def _kinds(letters: str) -> typing.Tuple[str, ...]:
+def _kinds(letters: str) -> tuple[str, ...]:
     return tuple(KIND_OF.get(letter, SAME) for letter in letters)
 
 

@@ -13,12 +13,12 @@ from .refusals import Refused
 Operator = typing.Callable[[typing.Any, typing.Any], typing.Any]
 
 
-def of_operation(name: str) -> typing.Tuple[Operator, Operator]:
+def of_operation(name: str) -> tuple[Operator, Operator]:
     """An operator that is an operation, and the same with its operands in the other order."""
     return (lambda self, other: binary(name, self, other)), (lambda self, other: binary(name, other, self))
 
 
-def of_division(part: typing.Callable[[tuple], typing.Any]) -> typing.Tuple[Operator, Operator]:
+def of_division(part: typing.Callable[[tuple], typing.Any]) -> tuple[Operator, Operator]:
     """An operator that is a part of quotient and remainder, and the same with its operands in the other order."""
     return (lambda self, other: part(divided(self, other))), (lambda self, other: part(divided(other, self)))
 
@@ -93,7 +93,7 @@ def binary(name: str, first: typing.Any, second: typing.Any) -> typing.Any:
     return results_of(name, first, second)[0]
 
 
-def both(first: typing.Any, second: typing.Any) -> typing.List[typing.Any]:
+def both(first: typing.Any, second: typing.Any) -> list[typing.Any]:
     """Two operands as arrays."""
     return arrays_of(OPERATIONS["and"], (first, second))
 
@@ -109,7 +109,7 @@ def compared(name: str, first: typing.Any, second: typing.Any) -> typing.Any:
     return block(f"signed_{name}", *arrays) if is_signed(name, arrays) else binary(name, *arrays)
 
 
-def divided(first: typing.Any, second: typing.Any) -> typing.Tuple[typing.Any, ...]:
+def divided(first: typing.Any, second: typing.Any) -> tuple[typing.Any, ...]:
     """Quotient and remainder; of signed arrays they are rounded as Python's, the remainder has the divisor's sign."""
     arrays = arrays_of(OPERATIONS["divmod"], (first, second))
     if not is_signed("divmod", arrays):
@@ -148,13 +148,13 @@ def places_of(places: typing.Any) -> int:
     return count
 
 
-def results_of(name: str, *operands: typing.Any) -> typing.Tuple[typing.Any, ...]:
+def results_of(name: str, *operands: typing.Any) -> tuple[typing.Any, ...]:
     """The results of a word operation, as arrays that are computed when they are looked at."""
     return stepped(OPERATIONS[name], operands)
 
 
 def stepped(operation: typing.Any, operands: typing.Sequence[typing.Any],
-            bits: typing.Optional[int] = None) -> typing.Tuple[typing.Any, ...]:
+            bits: int | None = None) -> tuple[typing.Any, ...]:
     """The results of an operation, which has `name`, `takes` and `gives`."""
     arrays = arrays_of(operation, operands, bits)
     made = expressions.step(operation, [array.value for array in arrays], bits)
@@ -163,7 +163,7 @@ def stepped(operation: typing.Any, operands: typing.Sequence[typing.Any],
 
 
 def arrays_of(operation: typing.Any, operands: typing.Sequence[typing.Any],
-              bits: typing.Optional[int] = None) -> typing.List[typing.Any]:
+              bits: int | None = None) -> list[typing.Any]:
     """Operands as arrays of one chip: numbers become constants, and NumPy's arrays are placed."""
     given = [one for one in operands if isinstance(one, Operators)]
     if not given:
@@ -174,8 +174,7 @@ def arrays_of(operation: typing.Any, operands: typing.Sequence[typing.Any],
     return [one if isinstance(one, Operators) else beside(given, one, kind, bits) for one, kind in zip(operands, kinds)]
 
 
-def beside(given: typing.Sequence[typing.Any], operand: typing.Any, kind: typing.Optional[str],
-           bits: typing.Optional[int]) -> typing.Any:
+def beside(given: typing.Sequence[typing.Any], operand: typing.Any, kind: str | None, bits: int | None) -> typing.Any:
     """A number or an array of NumPy as an operand beside arrays: of their width, and of the kind that is taken."""
     words = [one for one in given if not one.is_bit]
     numbers = numpy.asarray(operand)
@@ -195,7 +194,7 @@ def is_signed(name: str, arrays: typing.Sequence[typing.Any]) -> bool:
     return found == {True}
 
 
-def shape_of(operation: typing.Any, arrays: typing.Sequence[typing.Any]) -> typing.Tuple[int, ...]:
+def shape_of(operation: typing.Any, arrays: typing.Sequence[typing.Any]) -> tuple[int, ...]:
     """The one shape of the operands; an array of no dimensions goes with any."""
     shapes = [array.shape for array in arrays if array.shape]
     first = len(operation.gives)

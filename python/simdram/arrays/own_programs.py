@@ -39,7 +39,7 @@ class OwnProgram(Counted):
         self.text, self.entry = text, entries[0]
         self.name, self.takes, self.gives = self.entry.name, list(self.entry.sources), list(self.entry.results)
         self.program = Program([self.entry]).file()
-        self.verdicts: typing.Dict[int, Verdict] = {}
+        self.verdicts: dict[int, Verdict] = {}
 
     def verify(self, op: str, bits: int) -> Verdict:
         """Whether the program does an op at a width, for all numbers and whatever the cells of the chip hold."""
@@ -57,8 +57,7 @@ class OwnProgram(Counted):
         self.verdicts[bits] = verdicts_of(ended.out)[0]
         return self.verdicts[bits]
 
-    def __call__(self, *operands: typing.Any,
-                 bits: typing.Optional[int] = None) -> typing.Union[Array, typing.Tuple[Array, ...]]:
+    def __call__(self, *operands: typing.Any, bits: int | None = None) -> Array | tuple[Array, ...]:
         """Its result, or its two; `bits` is the width where no operand is a word."""
         results = stepped(self, operands, bits)
         self._check(results[0].value.origin.step.width or 1)

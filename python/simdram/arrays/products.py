@@ -8,15 +8,15 @@ import typing
 from .expressions import Value
 
 # the commands of each operation at a width n, as README's table of operations has them; of a block at most so many
-COMMANDS: typing.Dict[str, typing.Callable[[int], int]] = {
+COMMANDS: dict[str, typing.Callable[[int], int]] = {
     "fill": lambda n: n, "shl1": lambda n: n, "add": lambda n: 9 * n + 1, "sub": lambda n: 6 * n + 1,
     "mul": lambda n: (9 * n * n + n) // 2 - 2 + n % 2, "negative": lambda n: 6 * n + 2,
 }
 
 
-def digits_of(number: int, bits: int) -> typing.Dict[int, int]:
+def digits_of(number: int, bits: int) -> dict[int, int]:
     """The places of a number's digits 1 and -1, modulo 2^bits."""
-    found: typing.Dict[int, int] = {}
+    found: dict[int, int] = {}
     for place in range(bits):
         if number & 1:
             found[place] = -1 if number & 3 == 3 and place < bits - 1 else 1
@@ -25,7 +25,7 @@ def digits_of(number: int, bits: int) -> typing.Dict[int, int]:
     return found
 
 
-def commands_of(digits: typing.Dict[int, int], bits: int) -> int:
+def commands_of(digits: dict[int, int], bits: int) -> int:
     """The commands of shifts, sums and differences."""
     taken = sum(COMMANDS["add" if digit > 0 else "sub"](bits) for digit in digits.values())
     first = "add" if max(digits.values()) > 0 else "sub"
@@ -33,7 +33,7 @@ def commands_of(digits: typing.Dict[int, int], bits: int) -> int:
     return taken - COMMANDS[first](bits) + start + sum(map(bool, digits)) * COMMANDS["shl1"](bits)
 
 
-def product(b: typing.Any, x: Value, number: int) -> typing.Optional[Value]:
+def product(b: typing.Any, x: Value, number: int) -> Value | None:
     """The product of a value and a number that is not made by `mul`, or None where `mul` takes the fewest commands."""
     if number == 0:
         return b.like(x, 0)

@@ -20,9 +20,9 @@ class ScriptProfile:
     """
 
     cost: Cost
-    ops: typing.Tuple[Row, ...] = ()
-    instructions: typing.Tuple[Row, ...] = ()
-    statements: typing.Tuple[Row, ...] = ()
+    ops: tuple[Row, ...] = ()
+    instructions: tuple[Row, ...] = ()
+    statements: tuple[Row, ...] = ()
 
     def __str__(self) -> str:
         lines = [f"{self.cost.commands} commands, {self.cost}"]
@@ -34,9 +34,9 @@ class ScriptProfile:
 def profile(made: Made) -> ScriptProfile:
     """The profile of how an array was computed, and what it was computed from. Ops of several computations have their number."""
     parts = [one for one in made.all() if one.report]
-    ops: typing.List[Row] = []
-    instructions: typing.List[Row] = []
-    statements: typing.List[Row] = []
+    ops: list[Row] = []
+    instructions: list[Row] = []
+    statements: list[Row] = []
     for number, part in enumerate(parts, 1):
         own, where = counted(part), f", computation {number}" if len(parts) > 1 else ""
         ops += [dataclasses.replace(row, what=row.what + where) for row in summed((op_of(row.what), row) for row in own)]
@@ -45,7 +45,7 @@ def profile(made: Made) -> ScriptProfile:
     return ScriptProfile(made.whole().cost, tuple(ops), tuple(instructions), tuple(statements))
 
 
-def counted(made: Made) -> typing.List[Row]:
+def counted(made: Made) -> list[Row]:
     """The lines that compute, each with what the report says of it."""
     reported = [line for line in made.report.splitlines() if not line.startswith("total ")]
     rows = []
@@ -61,16 +61,16 @@ def op_of(line: str) -> str:
     return line.split()[0].replace("bbop_", "", 1)
 
 
-def summed(pairs: typing.Iterable[typing.Tuple[str, Row]]) -> typing.Tuple[Row, ...]:
+def summed(pairs: typing.Iterable[tuple[str, Row]]) -> tuple[Row, ...]:
     """The sums of rows of one name."""
-    found: typing.Dict[str, Row] = {}
+    found: dict[str, Row] = {}
     for name, row in pairs:
         before = found.get(name, Row(name, 0, 0))
         found[name] = Row(name, before.aap + row.aap, before.ap + row.ap, before.times + row.times)
     return tuple(found.values())
 
 
-def by_statement(made: Made, instructions: typing.Sequence[Row]) -> typing.Tuple[Row, ...]:
+def by_statement(made: Made, instructions: typing.Sequence[Row]) -> tuple[Row, ...]:
     """The rows of the ops' statements: what each takes in one bank, as often as the op was executed in one.
 
     A program of a designer's own has no statements.
@@ -78,7 +78,7 @@ def by_statement(made: Made, instructions: typing.Sequence[Row]) -> typing.Tuple
     ops = {one.name: one for one in split(made.ops)}
     done = [(op_of(row.what), int(row.what.rpartition(",")[2]), row) for row in instructions
             if row.what.startswith("bbop_") and op_of(row.what) in ops]
-    rows: typing.List[Row] = []
+    rows: list[Row] = []
     for name, bits in dict.fromkeys((name, bits) for name, bits, _ in done):
         found = ops[name].profile(bits)
         own = [row for other, width, row in done if (other, width) == (name, bits)]

@@ -17,7 +17,7 @@ class Field(typing.NamedTuple):
     is_bit: bool
 
 
-def fields_of(kind: numpy.dtype, widths: typing.Optional[typing.Mapping[str, int]]) -> typing.Dict[str, Field]:
+def fields_of(kind: numpy.dtype, widths: typing.Mapping[str, int] | None) -> dict[str, Field]:
     """The fields of a structured type, the first at the lowest bits, with the widths of their types or those that are given."""
     found, low, widths = {}, 0, widths or {}
     for name in kind.names:

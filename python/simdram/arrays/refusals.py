@@ -1,6 +1,5 @@
 """What the front raises where the program refuses."""
 
-import typing
 
 from ..launcher.run_program import Ended
 from ..rules import answers
@@ -12,7 +11,7 @@ class Refused(ValueError):
     The words are those of docs/FORMATS.md and docs/LANGUAGE.md, such as `no_rows`, `width` and `range`.
     """
 
-    def __init__(self, word: str, what: str, place: typing.Optional[int] = None) -> None:
+    def __init__(self, word: str, what: str, place: int | None = None) -> None:
         super().__init__(f"refused {word}{'' if place is None else f' {place}'}: {what}")
         self.word, self.place = word, place
 

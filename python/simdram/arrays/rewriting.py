@@ -16,7 +16,7 @@ from .products import product
 COMMUTATIVE = ("add", "mul", "and", "or", "xor", "eq", "min", "max")
 
 
-def with_number(b, name: str, x: Value, y: Value) -> typing.Optional[Value]:
+def with_number(b, name: str, x: Value, y: Value) -> Value | None:
     """Of an operation on a constant and on a result of the same operation on a constant, one operation on both numbers."""
     inner = arguments_of(name, x)
     if inner and number_of(y) is not None and number_of(inner[1]) is not None:
@@ -106,7 +106,7 @@ def or_(b, x, y):
     return absorbed("or", "and", x, y) or with_number(b, "or", x, y)
 
 
-def absorbed(name: str, dual: str, x: Value, y: Value) -> typing.Optional[Value]:
+def absorbed(name: str, dual: str, x: Value, y: Value) -> Value | None:
     """`and` of x and of `and` or `or` of x and another, and the same of `or`."""
     for first, second in ((x, y), (y, x)):
         if other_of(name, second, first) is not None:
@@ -222,7 +222,7 @@ def greatest(_b, x, y):
     return y if is_ones(y) else None
 
 
-RULES: typing.Dict[str, typing.Callable] = {
+RULES: dict[str, typing.Callable] = {
     "add": add, "sub": sub, "mul": mul, "div": div, "rem": rem, "divmod": div_and_rem, "and": and_, "or": or_, "xor": xor,
     "not": not_, "copy": lambda _b, x: x, "eq": eq, "gt": gt, "ge": ge, "signed_gt": signed_gt, "signed_ge": signed_ge,
     "if_else": if_else, "zero_unless": zero_unless, "zero_if": zero_if, "negative": negative, "min": least, "max": greatest,

@@ -33,11 +33,11 @@ class Made(typing.NamedTuple):
     cost: Cost = Cost()
     ops: str = ""
     text_as_written: str = ""
-    sources: typing.Tuple[typing.Any, ...] = ()
+    sources: tuple[typing.Any, ...] = ()
 
-    def all(self) -> "typing.List[Made]":
+    def all(self) -> "list[Made]":
         """All that was done for it, each once, in order."""
-        found: typing.Dict[int, Made] = {}
+        found: dict[int, Made] = {}
         waiting = [self]
         while waiting:
             left = [one for one in waiting[-1].sources if id(one) not in found]
@@ -61,13 +61,13 @@ class Script:
     """Operation texts, a designer's own programs with their texts, and lines, in order."""
 
     def __init__(self) -> None:
-        self.texts: typing.List[str] = []
-        self.programs: typing.List[str] = []
-        self.entries: typing.List[Entry] = []
-        self.lines: typing.List[str] = []
+        self.texts: list[str] = []
+        self.programs: list[str] = []
+        self.entries: list[Entry] = []
+        self.lines: list[str] = []
 
     @property
-    def counted(self) -> typing.List[int]:
+    def counted(self) -> list[int]:
         """The numbers, from 1, of the lines that compute: bbops and fills, not the making and freeing of objects."""
         return [k for k, line in enumerate(self.lines, 1) if computes(line)]
 
@@ -108,7 +108,7 @@ def run(script: Script, image: Image) -> Done:
 
 def store_program(script: Script, folder: str) -> None:
     """Stores the program of a script: its ops, compiled, and the designer's own programs."""
-    compiled: typing.List[Entry] = []
+    compiled: list[Entry] = []
     if script.texts:
         ended = run_program.run(["compile", "ops", "prog"], folder)
         if ended.status:

@@ -40,8 +40,8 @@ def scan(chip: Chip, query: str, /, **arrays: typing.Any) -> Count:
     if not isinstance(query, str):
         raise TypeError(f"a query is a text, and not {type(query).__name__}")
     # the arrays that are placed for the query stay as long as it runs
-    kept: typing.List[Array] = []
-    placed: typing.Dict[str, Object] = {}
+    kept: list[Array] = []
+    placed: dict[str, Object] = {}
     for name, one in arrays.items():
         array = one if isinstance(one, Array) else chip.array(one)
         rows = object_of(chip, name, array)
@@ -67,7 +67,7 @@ def scan(chip: Chip, query: str, /, **arrays: typing.Any) -> Count:
     raise Stopped("scan", ended, "query", query)
 
 
-def refusal(query: str, image: Image, names: typing.Optional[typing.Container[str]]) -> str:
+def refusal(query: str, image: Image, names: typing.Container[str] | None) -> str:
     """Why a query is refused, by the objects of these names, or by all."""
     objects = [one for one in image.objects if names is None or one.name in names]
     found = answers.query_refusals("query", query.encode(), Table(image.banks, image.rows, image.words, objects))

@@ -36,10 +36,10 @@ class Scripts:
                  simpler: Texts) -> None:
         self.count, self.names, self.simpler = count, names, simpler
         self.scripts = [Script()]
-        self.objects: typing.Dict[int, str] = {}
-        self.ops: typing.Dict[typing.Tuple[str, int], str] = {}
+        self.objects: dict[int, str] = {}
+        self.ops: dict[tuple[str, int], str] = {}
         # the texts of all ops as they were meant, each once
-        self.written: typing.Dict[str, None] = {}
+        self.written: dict[str, None] = {}
         self.kept = {id(whole_of(target)[0]) for target in targets}
         self.longest = max((len(part.steps) for part in parts), default=0)
         parts = [part for part in parts if not isinstance(part.steps[0].operation, Slice)]
@@ -51,17 +51,17 @@ class Scripts:
             self.object_of(target)
 
     @property
-    def lines(self) -> typing.List[str]:
+    def lines(self) -> list[str]:
         """The lines of the script in hand."""
         return self.scripts[-1].lines
 
     @property
-    def texts(self) -> typing.List[str]:
+    def texts(self) -> list[str]:
         """The texts of all ops and programs, each once."""
         return list(dict.fromkeys(text for script in self.scripts for text in [*script.texts, *script.programs]))
 
     @property
-    def op_texts(self) -> typing.List[str]:
+    def op_texts(self) -> list[str]:
         """The texts of all ops, each once."""
         return list(dict.fromkeys(text for script in self.scripts for text in script.texts))
 
@@ -118,7 +118,7 @@ class Scripts:
         return name
 
     @staticmethod
-    def _repeated(part: Part, sources: typing.Sequence[str]) -> typing.List[str]:
+    def _repeated(part: Part, sources: typing.Sequence[str]) -> list[str]:
         """The sources as the op has them: an op of the designer's own may be given one value twice."""
         if can_join(part.steps[0]):
             return list(sources)

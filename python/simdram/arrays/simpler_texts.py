@@ -1,7 +1,6 @@
 """The texts of a chip's ops, simplified at their widths where the chip asks for it, and kept on disk."""
 
 import hashlib
-import typing
 
 from ..launcher import run_program
 from ..launcher.faults import Fault
@@ -18,7 +17,7 @@ class Texts:
 
     def __init__(self, is_simplified: bool = False) -> None:
         self.is_simplified = is_simplified
-        self.known: typing.Dict[typing.Tuple[str, int], str] = {}
+        self.known: dict[tuple[str, int], str] = {}
         self._program = ""
 
     def compiled(self, text: str, width: int) -> str:
@@ -48,7 +47,7 @@ class Texts:
         return self._program
 
 
-def simplified(text: str, width: int) -> typing.Tuple[str, bool]:
+def simplified(text: str, width: int) -> tuple[str, bool]:
     """The text of an op that costs the least at a width and has no more rows; and whether the search came to its end."""
     options = Options((width,), SECONDS, keeps_rows=True, compared=())
     try:

@@ -12,7 +12,7 @@ from .layout_rules import laid_out, moved, sliced
 from .operations import BIT, NAMED, OPERATIONS, WORD, Operation
 from .rewriting import COMMUTATIVE, RULES
 
-Results = typing.Tuple[Value, ...]
+Results = tuple[Value, ...]
 
 
 class Builder:
@@ -23,8 +23,8 @@ class Builder:
 
     def __init__(self, by_digits: bool = True) -> None:
         self.by_digits = by_digits
-        self.known: typing.Dict[tuple, typing.Any] = {}
-        self.order: typing.Dict[int, int] = {}
+        self.known: dict[tuple, typing.Any] = {}
+        self.order: dict[int, int] = {}
 
     def constant(self, kind: str, bits: int, number: int) -> Value:
         """The one value of a number, cut to its width."""
@@ -60,7 +60,7 @@ class Builder:
         width = next((value.bits for value in arguments if value.kind == WORD), None)
         return self.results(NAMED[name], arguments, width)[0]
 
-    def results(self, operation: typing.Any, arguments: typing.Sequence[Value], width: typing.Optional[int]) -> Results:
+    def results(self, operation: typing.Any, arguments: typing.Sequence[Value], width: int | None) -> Results:
         """The results of an operation on values that are in this form."""
         if isinstance(operation, Layout):
             return (laid_out(self, operation, arguments, width),)
@@ -77,7 +77,7 @@ class Builder:
             return found if isinstance(found, tuple) else (found,)
         return self.step(operation, arguments, width)
 
-    def step(self, operation: typing.Any, arguments: typing.Sequence[Value], width: typing.Optional[int]) -> Results:
+    def step(self, operation: typing.Any, arguments: typing.Sequence[Value], width: int | None) -> Results:
         """The results of the one step of an operation on these values."""
         key = (operation.name, operation if isinstance(operation, Layout) else id(operation), width, *map(id, arguments))
         if key not in self.known:
@@ -89,16 +89,16 @@ class Builder:
         return value
 
 
-def kinds_of(operation: typing.Any, arguments: typing.Sequence[Value]) -> typing.List[str]:
+def kinds_of(operation: typing.Any, arguments: typing.Sequence[Value]) -> list[str]:
     """The kinds of an operation's results, of which `same` is the kind of the first argument of this kind."""
     same = next((value.kind for value, kind in zip(arguments, operation.takes) if kind not in (WORD, BIT)), WORD)
     return [kind if kind in (WORD, BIT) else same for kind in operation.gives]
 
 
 def rebuilt(targets: typing.Sequence[Value], leaf: typing.Callable[[Value], Value],
-            make: typing.Callable[[Step, typing.Sequence[Value]], Results]) -> typing.List[Value]:
+            make: typing.Callable[[Step, typing.Sequence[Value]], Results]) -> list[Value]:
     """The targets, where each step's results are made anew from its arguments as they are made."""
-    now: typing.Dict[int, Value] = {}
+    now: dict[int, Value] = {}
 
     def of(value: Value) -> Value:
         return now[id(value)] if isinstance(value.origin, Result) else leaf(value)
@@ -109,7 +109,7 @@ def rebuilt(targets: typing.Sequence[Value], leaf: typing.Callable[[Value], Valu
     return [of(target) for target in targets]
 
 
-def without_unread(targets: typing.Sequence[Value]) -> typing.List[Value]:
+def without_unread(targets: typing.Sequence[Value]) -> list[Value]:
     """The same values, where a `divmod` of which one result is read is a `div` or a `rem`."""
     read = {id(value) for step in in_order(targets) for value in step.arguments} | {id(target) for target in targets}
 
@@ -125,7 +125,7 @@ def without_unread(targets: typing.Sequence[Value]) -> typing.List[Value]:
     return rebuilt(targets, lambda value: value, make)
 
 
-def simplified(targets: typing.Sequence[Value], by_digits: bool = True) -> typing.List[Value]:
+def simplified(targets: typing.Sequence[Value], by_digits: bool = True) -> list[Value]:
     """The same values in the form that is computed."""
     builder = Builder(by_digits)
     made = rebuilt(targets, builder.leaf, lambda step, arguments: builder.results(step.operation, arguments, step.width))

@@ -13,7 +13,7 @@ if typing.TYPE_CHECKING:
     from .array import Array
 
 
-def summed(array: "Array", axis: typing.Optional[int]) -> "Array":
+def summed(array: "Array", axis: int | None) -> "Array":
     """The sums along an axis, or over all elements. Each step reads the rows of an array, writes those of its two halves, and
     adds them, so that as many steps are taken as the number of elements on the axis has binary digits."""
     numbers = array.numpy()
@@ -36,7 +36,7 @@ def summed(array: "Array", axis: typing.Optional[int]) -> "Array":
     return current.of_number(number)
 
 
-def _axis(axis: typing.Optional[int], count: int) -> typing.Optional[int]:
+def _axis(axis: int | None, count: int) -> int | None:
     """An axis from 0, or none."""
     if axis is None:
         return None

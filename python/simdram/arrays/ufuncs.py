@@ -24,7 +24,7 @@ def as_arrays(operands: typing.Sequence[typing.Any]) -> typing.Sequence[typing.A
     return operators.both(*operands) if len(operands) == 2 else operands
 
 
-UFUNCS: typing.Dict[str, typing.Callable] = {
+UFUNCS: dict[str, typing.Callable] = {
     **{name: of_arrays(getattr(operator, own)) for name, own in (
         ("add", "add"), ("subtract", "sub"), ("multiply", "mul"), ("floor_divide", "floordiv"), ("remainder", "mod"), ("mod", "mod"),
         ("bitwise_and", "and_"), ("bitwise_or", "or_"), ("bitwise_xor", "xor"), ("equal", "eq"), ("not_equal", "ne"),

@@ -23,8 +23,7 @@ class Op(Counted):
         self.name, takes, gives = HEAD.search(text).groups()
         self.takes, self.gives = ([one.split(": ")[1] for one in part.split(", ")] for part in (takes, gives))
 
-    def __call__(self, *operands: typing.Any,
-                 bits: typing.Optional[int] = None) -> typing.Union[Array, typing.Tuple[Array, ...]]:
+    def __call__(self, *operands: typing.Any, bits: int | None = None) -> Array | tuple[Array, ...]:
         """Its result, or its two; `bits` is the width where no operand is a word."""
         results = stepped(self, operands, bits)
         return results[0] if len(results) == 1 else results
@@ -47,18 +46,18 @@ class Op(Counted):
         return f"<simdram.Op {self.name}({', '.join(self.takes)}) -> {', '.join(self.gives)}>"
 
 
-def split(text: str) -> typing.List[Op]:
+def split(text: str) -> list[Op]:
     """The ops of a text in its canonical form."""
     starts = [match.start() for match in HEAD.finditer(text)]
     return [Op(text[start:end]) for start, end in zip(starts, [*starts[1:], len(text)])]
 
 
-def ops(text: str) -> typing.Dict[str, Op]:
+def ops(text: str) -> dict[str, Op]:
     """The ops of a text, by name and in its order; a text that the program refuses is raised with its line and kind."""
     return {one.name: one for one in split(canonical(text))}
 
 
-def op(text: str, name: typing.Optional[str] = None) -> Op:
+def op(text: str, name: str | None = None) -> Op:
     """The op of a text: the one of this name, or the only one."""
     found = ops(text)
     if name is None and len(found) == 1:

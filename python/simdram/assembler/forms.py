@@ -11,7 +11,7 @@ class Form(typing.NamedTuple):
     """A number, and how often each name is added to it."""
 
     number: int = 0
-    terms: typing.Tuple[typing.Tuple[str, int], ...] = ()
+    terms: tuple[tuple[str, int], ...] = ()
 
     @classmethod
     def of(cls, name: str) -> "Form":
@@ -45,7 +45,7 @@ class Form(typing.NamedTuple):
         return without.plus(value, times)
 
     @property
-    def variables(self) -> typing.List[str]:
+    def variables(self) -> list[str]:
         """The loop variables."""
         return [name for name, _ in self.terms if name != N]
 

@@ -20,7 +20,7 @@ class Frame(typing.NamedTuple):
 
     loop: For
     count: int
-    steps: typing.Dict[int, int]
+    steps: dict[int, int]
     end: str
 
 

@@ -27,7 +27,7 @@ class Named(typing.NamedTuple):
     kind: str
 
 
-def listed(name: str) -> typing.Optional[typing.Tuple[int, int]]:
+def listed(name: str) -> tuple[int, int] | None:
     """The space and which row of it a name of a listing means."""
     if name in RESULTS:
         return RESULT, RESULTS.index(name)
@@ -35,7 +35,7 @@ def listed(name: str) -> typing.Optional[typing.Tuple[int, int]]:
     return (SPACES[match[1]], int(match[2])) if match and match[1] in SPACES else None
 
 
-def register_of(name: str) -> typing.Optional[int]:
+def register_of(name: str) -> int | None:
     """The number of a register's name."""
     match = REGISTER.fullmatch(name)
     return int(match[1]) if match else None

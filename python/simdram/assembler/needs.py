@@ -8,16 +8,16 @@ from .tree import Command, For, If
 
 LAST_WIDTH = 128
 # what is around a statement: loops, and each `if` that is there only where its form is not zero
-Around = typing.Sequence[typing.Union[For, If]]
+Around = typing.Sequence[For | If]
 
 
 class Needs(typing.NamedTuple):
     """Forms of rows, which a register has to hold as they are, and forms that may differ by a number from a register."""
 
-    exact: typing.Dict[Form, None]
-    near: typing.Dict[Form, None]
+    exact: dict[Form, None]
+    near: dict[Form, None]
 
-    def of(self, around: Around) -> typing.List[Form]:
+    def of(self, around: Around) -> list[Form]:
         """The forms whose innermost variable is that of the last loop, or that have none where there is no loop: each that is
         exact, and one of each kind that is near, which is never below zero."""
         own = around[-1].variable if around else None
@@ -28,7 +28,7 @@ class Needs(typing.NamedTuple):
         return mine
 
 
-def innermost(form: Form, around: Around) -> typing.Optional[str]:
+def innermost(form: Form, around: Around) -> str | None:
     """The innermost loop variable of a form."""
     order = [loop.variable for loop in around if isinstance(loop, For)]
     return max(form.variables, key=order.index, default=None)
@@ -76,7 +76,7 @@ def least(form: Form, around: Around) -> int:
     return form.put(N, Form(narrowest(around) if form.times(N) >= 0 else LAST_WIDTH)).number
 
 
-def tested(one: If, around: Around) -> typing.Tuple[Form, typing.Optional[int]]:
+def tested(one: If, around: Around) -> tuple[Form, int | None]:
     """What an `if` asks of a form that is never below zero, the one of the `if` or its opposite: whether it is zero, or, where
     such a form is compared with a number that it may be above and below, this number."""
     both = (one.form, Form().minus(one.form))

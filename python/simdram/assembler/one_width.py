@@ -1,7 +1,6 @@
 """Programs for one width: the instructions at which they are stuck at all others, as the assembler writes them for `width 8`."""
 
 import dataclasses
-import typing
 
 from ..files.program import BNEZ, LARGEST, SETN, SUBI, Entry, Instruction
 
@@ -9,7 +8,7 @@ from ..files.program import BNEZ, LARGEST, SETN, SUBI, Entry, Instruction
 BEFORE, AFTER = 3, 2
 
 
-def one_width(entry: Entry) -> typing.Optional[int]:
+def one_width(entry: Entry) -> int | None:
     """The width for which alone an entry is, or nothing where it is for all."""
     if len(entry.code) <= BEFORE + AFTER:
         return None

@@ -20,8 +20,8 @@ class Loop(typing.NamedTuple):
 
     first: int
     last: int
-    steps: typing.Dict[int, int]
-    set_there: typing.Set[int]
+    steps: dict[int, int]
+    set_there: set[int]
 
 
 class Structuring:

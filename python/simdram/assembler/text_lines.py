@@ -21,7 +21,7 @@ class TextLines(typing.NamedTuple):
     """A text, and of each instruction of an entry its line there, from 1."""
 
     path: str
-    lines: typing.Tuple[int, ...]
+    lines: tuple[int, ...]
 
     def said(self, at: int) -> str:
         """Where an instruction stands, in words."""

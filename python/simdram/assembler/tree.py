@@ -15,11 +15,11 @@ class Head:
 
     name: str
     token: Token
-    sources: typing.Dict[str, str] = dataclasses.field(default_factory=dict)
-    results: typing.Dict[str, str] = dataclasses.field(default_factory=dict)
-    bits: typing.List[str] = dataclasses.field(default_factory=list)
-    words: typing.List[str] = dataclasses.field(default_factory=list)
-    width: typing.Optional[int] = None
+    sources: dict[str, str] = dataclasses.field(default_factory=dict)
+    results: dict[str, str] = dataclasses.field(default_factory=dict)
+    bits: list[str] = dataclasses.field(default_factory=list)
+    words: list[str] = dataclasses.field(default_factory=list)
+    width: int | None = None
 
 
 class Operand(typing.NamedTuple):
@@ -29,7 +29,7 @@ class Operand(typing.NamedTuple):
     token: Token
     space: int
     which: int
-    index: typing.Union[int, Form, None] = None
+    index: int | Form | None = None
 
 
 @dataclasses.dataclass
@@ -38,7 +38,7 @@ class Command:
 
     token: Token
     kind: int
-    rows: typing.Tuple[Operand, ...]
+    rows: tuple[Operand, ...]
 
 
 @dataclasses.dataclass
@@ -57,7 +57,7 @@ class Jump:
     """A jump to a label or a number: by a register that is not zero, or always where none is named."""
 
     token: Token
-    register: typing.Optional[int]
+    register: int | None
     target: Token
 
 
@@ -85,7 +85,7 @@ class For:
     end: Form
     is_down: bool
     step: int = 1
-    body: typing.List[typing.Any] = dataclasses.field(default_factory=list)
+    body: list[typing.Any] = dataclasses.field(default_factory=list)
 
     @property
     def count(self) -> Form:
@@ -93,7 +93,7 @@ class For:
         return self.start.minus(self.end).add(1) if self.is_down else self.end.minus(self.start)
 
     @property
-    def range(self) -> typing.Tuple[Form, Form]:
+    def range(self) -> tuple[Form, Form]:
         """The least and the greatest value of the variable."""
         return (self.end, self.start) if self.is_down else (self.start, self.end.add(-1))
 
@@ -104,8 +104,8 @@ class If:
 
     token: Token
     form: Form
-    zero: typing.List[typing.Any] = dataclasses.field(default_factory=list)
-    other: typing.List[typing.Any] = dataclasses.field(default_factory=list)
+    zero: list[typing.Any] = dataclasses.field(default_factory=list)
+    other: list[typing.Any] = dataclasses.field(default_factory=list)
 
 
 @dataclasses.dataclass
@@ -120,15 +120,15 @@ class ProgramText:
     """A program of a text: its head, its statements, and the number of instructions that its line `entry` says."""
 
     head: Head
-    body: typing.List[typing.Any]
-    code: typing.Optional[Token] = None
+    body: list[typing.Any]
+    code: Token | None = None
 
 
 @dataclasses.dataclass
 class Text:
     """A text: its programs in order, and the version of the file that it writes."""
 
-    programs: typing.List[ProgramText]
+    programs: list[ProgramText]
     version: int = 2
 
 
@@ -140,5 +140,5 @@ class Out:
     kind: int
     register: int = 0
     other: int = 0
-    number: typing.Union[int, str] = 0
-    rows: typing.Tuple[Row, ...] = ()
+    number: int | str = 0
+    rows: tuple[Row, ...] = ()

@@ -6,7 +6,7 @@ import typing
 from ..files.program import AAP, ADD, ADDI, AP, BNEZ, DONE, INDEXED, MOV, REGISTERS, SETI, SETN, SETT, SUBI, Entry, Instruction, Row
 
 # a row with its position: its space, which one of it, and the value of its index
-Place = typing.Tuple[int, int, int]
+Place = tuple[int, int, int]
 TURNS = 1 << 22
 GREATEST = 1023
 

@@ -18,7 +18,7 @@ class Cell(typing.NamedTuple):
     """A gate: its output pin, its input pins, and its value for each pattern of them, as the bits of a number."""
 
     output: str
-    inputs: typing.Tuple[str, ...]
+    inputs: tuple[str, ...]
     values: int
 
 
