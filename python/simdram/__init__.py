@@ -10,7 +10,7 @@ _FRONT = {
     "program": "own_programs", "OwnProgram": "own_programs", "Unverified": "own_programs", "Verdict": "own_programs",
     "Count": "scanning", "Refused": "refusals", "Stopped": "refusals", "compute": "chip", "apply": "functions",
     "where": "functions", "minimum": "functions", "maximum": "functions", "bitcount": "functions", "bit": "functions",
-    "concat": "functions", "product": "matrices", "matmul": "matrices",
+    "concat": "functions", "product": "functions", "matmul": "summing",
 }
 __all__ = sorted(_FRONT)
 

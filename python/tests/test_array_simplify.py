@@ -11,7 +11,7 @@ import simdram
 
 if numpy is not None:
     from simdram.arrays.operations import OPERATIONS
-    from simdram.arrays.products import COMMANDS, digits_of
+    from simdram.arrays.rewriting import COMMANDS, digits_of
 
 BITS = 8
 

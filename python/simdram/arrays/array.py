@@ -10,7 +10,6 @@ from .expressions import Constant, Held, Value
 from .layout import bits_of, extended
 from .operations import BIT, WORD
 from .operators import Operators
-from .records import Field, unpacked
 from .running import Made
 
 if typing.TYPE_CHECKING:
@@ -36,7 +35,7 @@ class Array(Operators):
                  made: Made | None = None, signed: bool = False) -> None:
         self.chip, self.shape, self.value, self.made, self.signed = chip, shape, value, made, signed
         # of an array of a structured type this type and where its fields lie
-        self.record: tuple[numpy.dtype, typing.Mapping[str, Field]] | None = None
+        self.record: tuple[numpy.dtype, typing.Mapping[str, cells.Field]] | None = None
 
     def of_value(self, shape: tuple[int, ...], value: Value, signed: bool) -> "Array":
         """An array of the same chip that is computed when it is looked at."""
@@ -77,7 +76,7 @@ class Array(Operators):
     def numpy(self) -> numpy.ndarray:
         """Its elements: truth values, the smallest type that holds them, Python's integers above 64 bits, or those of a structured type."""
         numbers = self.chip.values(self)
-        return unpacked(numbers, self.record[1], self.record[0]) if self.record else numbers
+        return cells.unpacked(numbers, self.record[1], self.record[0]) if self.record else numbers
 
     def __array__(self, dtype: typing.Any = None, copy: typing.Any = None) -> "numpy.ndarray":
         return self.numpy() if dtype is None else self.numpy().astype(dtype)

@@ -1,4 +1,5 @@
-"""NumPy arrays and cells: what a chip's objects take and give."""
+"""NumPy arrays and cells: what a chip's objects take and give. Of a structured type one object has the elements, whose fields
+are bits of it."""
 
 import typing
 
@@ -109,3 +110,45 @@ def array_of_number(number: int, bits: int, kind: str) -> numpy.ndarray:
     """One number as an array of no dimensions."""
     size = columns.size_of(bits)
     return array_of(number.to_bytes(size, "little"), size, kind, ())
+
+
+class Field(typing.NamedTuple):
+    """A field: its lowest bit, its width, whether its numbers are signed, and whether they are truth values."""
+
+    low: int
+    bits: int
+    signed: bool
+    is_bit: bool
+
+
+def fields_of(kind: numpy.dtype, widths: typing.Mapping[str, int] | None) -> dict[str, Field]:
+    """The fields of a structured type, the first at the lowest bits, with the widths of their types or those that are given."""
+    found, low, widths = {}, 0, widths or {}
+    for name in kind.names:
+        field = numpy.empty(0, kind[name])
+        if field.shape != (0,):
+            raise TypeError(f"field {name} has more than one number for each element")
+        bits = checked_width(widths.get(name) or width_of(field))
+        found[name] = Field(low, bits, field.dtype.kind == "i", field.dtype == bool and bits == 1)
+        low += bits
+    if set(widths) - set(found):
+        raise Refused("bad_number", f"bits= names no field: {', '.join(sorted(set(widths) - set(found)))}")
+    return found
+
+
+def packed(numbers: numpy.ndarray, fields: typing.Mapping[str, Field]) -> numpy.ndarray:
+    """Each element as the one number of its fields."""
+    total = numpy.zeros(numbers.shape, dtype=object)
+    for name, field in fields.items():
+        check_range(numbers[name], field.bits, field.signed)
+        total = total + (numbers[name].astype(object) % (1 << field.bits) << field.low)
+    return total
+
+
+def unpacked(numbers: numpy.ndarray, fields: typing.Mapping[str, Field], kind: numpy.dtype) -> numpy.ndarray:
+    """The elements of which these are the numbers."""
+    found = numpy.empty(numbers.shape, kind)
+    for name, field in fields.items():
+        part = modulo(numbers.astype(object) >> field.low, 64).astype("u8") & numpy.uint64(2**field.bits - 1)
+        found[name] = as_signed(part, field.bits) if field.signed else part
+    return found

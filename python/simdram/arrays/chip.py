@@ -2,6 +2,7 @@
 
 import dataclasses
 import gc
+import itertools
 import operator
 import typing
 import weakref
@@ -15,10 +16,9 @@ from .costing import Cost, total
 from .cutting import STATEMENTS, cut
 from .expressions import Constant, Held, Value, made_before
 from .layout import whole_of
-from .records import fields_of, packed
 from .refusals import Refused
 from .running import HELP, Made, run
-from .scripting import Names, Scripts
+from .scripting import Scripts
 from .simpler_texts import Texts
 from .simplify import simplified
 
@@ -40,7 +40,7 @@ class Chip:
         self.banks, self.rows, self.words = self.image.banks, self.image.rows, self.image.words
         self.host_writes = self.host_reads = 0
         self._spent = Cost(busiest=(0, 0))
-        self._names, self._texts = Names(), Texts(simplify)
+        self._names, self._texts = itertools.count(1), Texts(simplify)
         self._gone: list[str] = []
 
     def __repr__(self) -> str:
@@ -83,15 +83,15 @@ class Chip:
 
     def _records(self, data: numpy.ndarray, widths: typing.Mapping[str, int] | None) -> Array:
         """Elements of a structured type in one object, whose fields are bits of it."""
-        fields = fields_of(data.dtype, widths)
-        placed = self.array(packed(data, fields), bits=sum(field.bits for field in fields.values()))
+        fields = cells.fields_of(data.dtype, widths)
+        placed = self.array(cells.packed(data, fields), bits=sum(field.bits for field in fields.values()))
         placed.record = data.dtype, fields
         return placed
 
     def _placed(self, width: int, count: int) -> str:
         """A new object at the least free rows."""
         self._sweep()
-        name = self._names.next("v")
+        name = f"v{next(self._names)}"
         try:
             try:
                 self.image.add(name, width, count)

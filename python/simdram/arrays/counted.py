@@ -1,4 +1,4 @@
-"""The costs of what has a program file of one entry."""
+"""Functions of arrays that have a program file of one entry, and their costs."""
 
 import operator
 import os
@@ -9,13 +9,30 @@ from ..costs.costs import EntryCost, costs_at
 from ..costs.profile import Profile, profiles
 from ..files.store import store
 from ..launcher.settings import taken
+from .array import Array
 from .cells import checked_width
+from .operators import stepped
 
 
 class Counted:
-    """A function of arrays with a program file, `program`, whose one entry computes it."""
+    """A function of arrays with a program file, `program`, whose one entry computes it: the kinds that it takes and gives."""
 
     program: bytes
+    name: str
+    takes: list[str]
+    gives: list[str]
+
+    def __call__(self, *operands: typing.Any, bits: int | None = None) -> Array | tuple[Array, ...]:
+        """Its result, or its two; `bits` is the width where no operand is a word."""
+        results = stepped(self, operands, bits)
+        self.check(results[0].value.origin.step.width or 1)
+        return results[0] if len(results) == 1 else results
+
+    def __repr__(self) -> str:
+        return f"<simdram.{type(self).__name__} {self.name}({', '.join(self.takes)}) -> {', '.join(self.gives)}>"
+
+    def check(self, width: int) -> None:
+        """What is to be said before it is called at a width."""
 
     def cost(self, bits: int) -> EntryCost:
         """Its row commands in one bank at a width, and its rows of scratch."""

@@ -3,7 +3,7 @@
 import typing
 
 from ..rules.ops_rules import RESULTS, SOURCES, STATEMENTS
-from .expressions import Result, Step, Value, in_order
+from .expressions import Step, Value, givers, in_order
 from .operations import Operation
 
 
@@ -53,7 +53,7 @@ class Pieces:
         self.place = {id(step): k for k, step in enumerate(steps)}
         self.users: dict[int, set[int]] = {id(step): set() for step in steps}
         for step in steps:
-            for below in _givers(step.arguments):
+            for below in givers(step.arguments):
                 self.users[id(below)].add(id(step))
 
     def __iter__(self) -> typing.Iterator[Part]:
@@ -76,15 +76,9 @@ class Pieces:
         """The part with one more step; those are tried first that bring the fewest new sources."""
         members = {id(step) for step in part.steps}
         taken = {id(value) for value in part.sources}
-        below = _givers(part.sources)
-        for step in sorted(below, key=lambda one: len({id(value) for value in one.arguments} - taken)):
+        below = {id(step): step for step in givers(part.sources)}
+        for step in sorted(below.values(), key=lambda one: len({id(value) for value in one.arguments} - taken)):
             larger = Part(sorted([step, *part.steps], key=lambda one: self.place[id(one)]), self.wanted)
             if self.users[id(step)] <= members and larger.fits(self.statements):
                 return larger
         return None
-
-
-def _givers(values: typing.Iterable[Value]) -> list[Step]:
-    """The steps that give values, each once."""
-    steps = [value.origin.step for value in values if isinstance(value.origin, Result)]
-    return list({id(step): step for step in steps}.values())

@@ -2,7 +2,7 @@
 
 import typing
 
-from .operations import BIT, SAME, WORD
+from .operations import BIT, NAMED, SAME, WORD
 from .refusals import Refused
 
 
@@ -57,24 +57,25 @@ def step(operation: typing.Any, arguments: typing.Sequence[Value], bits: int | N
     first = len(operation.gives)
     if len(arguments) != len(operation.takes):
         raise Refused("arity", f"{operation.name} takes {len(operation.takes)} arguments, not {len(arguments)}")
-    same = _same_kind(operation, arguments)
+    same, kinds = kinds_of(operation, arguments)
     width = next((value.bits for value in arguments if value.kind == WORD), bits)
     for k, (value, kind) in enumerate(zip(arguments, operation.takes), first):
-        if value.kind != (same if kind == SAME else kind):
+        wanted = same if kind == SAME else kind
+        if value.kind != wanted:
             raise Refused("kind", f"argument {k - first} of {operation.name} is a {value.kind}, "
-                          f"and a {same if kind == SAME else kind} is wanted there", k)
+                          f"and a {wanted} is wanted there", k)
         if value.kind == WORD and value.bits != width:
             raise Refused("width", f"argument {k - first} of {operation.name} has {value.bits} bits, and others "
                           f"{width}", k)
-    kinds = [same if kind == SAME else kind for kind in operation.gives]
     if width is None and WORD in kinds:
         raise Refused("width", f"{operation.name} gives words and takes none: say bits=")
     return Step(operation, arguments, width, kinds)
 
 
-def _same_kind(operation: typing.Any, arguments: typing.Sequence[Value]) -> str:
-    """The kind that `same` stands for: that of the first such argument."""
-    return next((value.kind for value, kind in zip(arguments, operation.takes) if kind == SAME), WORD)
+def kinds_of(operation: typing.Any, arguments: typing.Sequence[Value]) -> tuple[str, list[str]]:
+    """The kind that `same` stands for, which is that of the first such argument, and the kinds of an operation's results."""
+    same = next((value.kind for value, kind in zip(arguments, operation.takes) if kind not in (WORD, BIT)), WORD)
+    return same, [kind if kind in (WORD, BIT) else same for kind in operation.gives]
 
 
 def made_before(values: typing.Iterable[Value], kind: type) -> list[typing.Any]:
@@ -85,16 +86,57 @@ def made_before(values: typing.Iterable[Value], kind: type) -> list[typing.Any]:
     return list({id(one): one for one in made}.values())
 
 
-def in_order(targets: typing.Iterable[Value]) -> list[Step]:
-    """The steps that the values need, each after those of its arguments."""
-    done: dict[int, Step] = {}
-    waiting = [target.origin.step for target in targets if isinstance(target.origin, Result)][::-1]
+def each_once(waiting: list[typing.Any], below: typing.Callable[[typing.Any], typing.Sequence[typing.Any]]) -> list[typing.Any]:
+    """What waits, the last first, and all that is below it: each once, after what is below it."""
+    done: dict[int, typing.Any] = {}
     while waiting:
-        below = [value.origin.step for value in waiting[-1].arguments if isinstance(value.origin, Result)]
-        left = [one for one in below if id(one) not in done]
+        left = [one for one in below(waiting[-1]) if id(one) not in done]
         if left:
             waiting += left[::-1]
         else:
             one = waiting.pop()
             done.setdefault(id(one), one)
     return list(done.values())
+
+
+def givers(values: typing.Iterable[Value]) -> list[Step]:
+    """The steps that give values."""
+    return [value.origin.step for value in values if isinstance(value.origin, Result)]
+
+
+def in_order(targets: typing.Iterable[Value]) -> list[Step]:
+    """The steps that the values need, each after those of its arguments."""
+    return each_once(givers(targets)[::-1], lambda step: givers(step.arguments))
+
+
+def number_of(value: Value) -> int | None:
+    """The number of a constant."""
+    return value.origin.number if isinstance(value.origin, Constant) else None
+
+
+def is_ones(value: Value) -> bool:
+    """Whether it is the constant of ones alone."""
+    return number_of(value) == 2**value.bits - 1
+
+
+def arguments_of(name: str, value: Value) -> tuple[Value, ...]:
+    """The arguments of an operation of this name, where it gives the value; an op of the designer's own never does."""
+    if isinstance(value.origin, Result) and value.origin.step.operation is NAMED[name]:
+        return value.origin.step.arguments
+    return ()
+
+
+def under(name: str, value: Value) -> Value | None:
+    """The argument of an operation of this name on one value, where it gives the value."""
+    return next(iter(arguments_of(name, value)), None)
+
+
+def other_of(name: str, value: Value, one: Value) -> Value | None:
+    """The other argument of a commutative operation of this name, where it gives the value and has this argument."""
+    given = arguments_of(name, value)
+    return given[1] if given and given[0] is one else given[0] if given and given[1] is one else None
+
+
+def are_opposite(x: Value, y: Value) -> bool:
+    """Whether one is the complement of the other."""
+    return under("not", x) is y or under("not", y) is x

@@ -1,16 +1,19 @@
-"""Functions of arrays beside the operators."""
+"""Functions of arrays beside the operators, and NumPy's ufuncs on arrays: `np.add(a, b)` is `a + b`."""
 
 import operator
 import typing
 
+import numpy
+
 from . import cells
 from .array import Array
-from .layout import bits_of, joined
+from .expressions import Constant
+from .layout import bits_of, joined, product_of
 from .operations import BIT, OPERATIONS, WORD, Operation
-from .operators import arrays_of, choice, compared, is_signed, results_of, shape_of
+from .operators import arrays_of, both, compared, is_signed, results_of, shape_of, where
 from .refusals import Refused
 
-CONCAT = Operation("concat", (), (WORD,))
+CONCAT, PRODUCT = Operation("concat", (), (WORD,)), Operation("product", (WORD, WORD), (WORD,))
 
 
 def apply(name: str, *operands: typing.Any) -> Array | tuple[Array, ...]:
@@ -22,11 +25,6 @@ def apply(name: str, *operands: typing.Any) -> Array | tuple[Array, ...]:
         raise Refused("unknown", f"no word operation is called {name}: there are {', '.join(sorted(OPERATIONS))}")
     results = results_of(name, *operands)
     return results[0] if len(results) == 1 else results
-
-
-def where(condition: typing.Any, first: typing.Any, second: typing.Any) -> Array:
-    """The elements of the first where the condition holds, and else of the second."""
-    return choice(condition, first, second)
 
 
 def minimum(first: typing.Any, second: typing.Any) -> Array:
@@ -47,7 +45,7 @@ def extreme(of_bits: str, of_words: str, first: typing.Any, second: typing.Any) 
     if not is_signed(of_words, (first, second)):
         return apply(of_words, first, second)
     is_first_greater = compared("gt", first, second)
-    return choice(is_first_greater, *((first, second) if of_words == "max" else (second, first)))
+    return where(is_first_greater, *((first, second) if of_words == "max" else (second, first)))
 
 
 def bit(array: Array, place: int) -> Array:
@@ -67,3 +65,58 @@ def concat(*operands: typing.Any) -> Array:
 def bitcount(array: Array) -> Array:
     """The number of ones of each element, an unsigned number."""
     return apply("bitcount", array).astype(signed=False)
+
+
+def product(first: typing.Any, second: typing.Any, bits: int | None = None) -> Array:
+    """The product with all its bits, as many as both factors have together, or with `bits`.
+
+    Of unsigned arrays it is made row by row, for fewer commands than a product of widened factors takes.
+    """
+    arrays = arrays_of(PRODUCT, (first, second))
+    if any(one.is_bit for one in arrays):
+        raise Refused("kind", "product takes words, and not truth values")
+    shape, is_signed = shape_of(PRODUCT, arrays), is_signed("product", arrays)
+    size = cells.checked_width(bits or sum(one.bits for one in arrays))
+    if is_signed or size < sum(one.bits for one in arrays) or any(isinstance(one.value.origin, Constant) for one in arrays):
+        return arrays[0].astype(bits=size) * arrays[1].astype(bits=size)
+    values = sorted((one.value for one in arrays), key=lambda one: -one.bits)
+    return arrays[0].of_value(shape, product_of(*values, size), False)
+
+
+def of_arrays(function: typing.Callable) -> typing.Callable:
+    """A function of two operands, one of which is an array of a chip, on two such arrays."""
+    return lambda first, second: function(*both(first, second))
+
+
+def of_truth(name: str) -> typing.Callable:
+    """A gate on truth values, where a number is true that is not 0."""
+    return lambda *operands: results_of(name, *(one if one.is_bit else one != 0 for one in as_arrays(operands)))[0]
+
+
+def as_arrays(operands: typing.Sequence[typing.Any]) -> typing.Sequence[typing.Any]:
+    """One or two operands as arrays of a chip."""
+    return both(*operands) if len(operands) == 2 else operands
+
+
+UFUNCS: dict[str, typing.Callable] = {
+    **{name: of_arrays(getattr(operator, own)) for name, own in (
+        ("add", "add"), ("subtract", "sub"), ("multiply", "mul"), ("floor_divide", "floordiv"), ("remainder", "mod"), ("mod", "mod"),
+        ("bitwise_and", "and_"), ("bitwise_or", "or_"), ("bitwise_xor", "xor"), ("equal", "eq"), ("not_equal", "ne"),
+        ("less", "lt"), ("less_equal", "le"), ("greater", "gt"), ("greater_equal", "ge"))},
+    **{name: of_truth(own) for name, own in (("logical_and", "and"), ("logical_or", "or"), ("logical_xor", "xor"), ("logical_not", "not"))},
+    "divmod": of_arrays(divmod), "invert": operator.invert, "negative": operator.neg, "positive": operator.pos, "absolute": abs,
+    "matmul": of_arrays(operator.matmul), "left_shift": operator.lshift, "right_shift": operator.rshift, "minimum": minimum, "maximum": maximum, "bitwise_count": bitcount,
+}
+
+
+def called(ufunc: numpy.ufunc, method: str, inputs: typing.Sequence[typing.Any], more: typing.Mapping[str, typing.Any]) -> typing.Any:
+    """A ufunc of arrays. One that has no row commands, and what is called with more than its operands, is refused."""
+    if method == "reduce" and ufunc is numpy.add and not set(more) - {"axis", "dtype", "out"}:
+        return inputs[0].sum(**{"axis": 0, **more})
+    in_place = more.get("out", ())
+    if method != "__call__" or ufunc.__name__ not in UFUNCS or set(more) - {"out"} or any(one is not inputs[0] for one in in_place):
+        raise TypeError(f"np.{ufunc.__name__}{'' if method == '__call__' else f'.{method}'} with these operands is none of a chip's: there are "
+                        f"np.{', np.'.join(sorted(UFUNCS))} and np.add.reduce; .numpy() gives the numbers to NumPy")
+    if in_place and isinstance(in_place[0], numpy.ndarray):
+        raise TypeError(f"np.{ufunc.__name__} cannot write an array of a chip into one of NumPy: .numpy() gives its numbers")
+    return UFUNCS[ufunc.__name__](*inputs)

@@ -3,9 +3,8 @@
 import itertools
 import typing
 
-from .expressions import Value
+from .expressions import Value, number_of, under
 from .layout import Join, Slice, layout_of, whole_of
-from .matching import number_of, under
 from .operations import WORD
 
 Piece = tuple[Value, int]

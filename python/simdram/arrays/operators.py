@@ -28,7 +28,7 @@ class Operators:
 
     def __array_ufunc__(self, ufunc, method, *inputs, **more):
         """NumPy's functions, and its operators where an array of its own is the first operand."""
-        from .ufuncs import called
+        from .functions import called
         return called(ufunc, method, inputs, more)
 
     __hash__ = object.__hash__
@@ -44,11 +44,11 @@ class Operators:
     __divmod__, __rdivmod__ = of_division(tuple)
 
     def __matmul__(self, other):
-        from .matrices import matmul
+        from .summing import matmul
         return matmul(self, other)
 
     def __rmatmul__(self, other):
-        from .matrices import matmul
+        from .summing import matmul
         return matmul(other, self)
 
     def __invert__(self):
@@ -118,12 +118,12 @@ def divided(first: typing.Any, second: typing.Any) -> tuple[typing.Any, ...]:
     is_opposite = block("sign", dividend) ^ block("sign", divisor)
     quotient, rest = results_of("divmod", *(results_of("abs", one)[0] for one in arrays))
     is_inexact = rest != 0
-    floor = choice(is_opposite & is_inexact, ~quotient, choice(is_opposite, -quotient, quotient))
-    least = choice(is_opposite & is_inexact, results_of("abs", divisor)[0] - rest, rest)
-    return floor, choice(block("sign", divisor), -least, least)
+    floor = where(is_opposite & is_inexact, ~quotient, where(is_opposite, -quotient, quotient))
+    least = where(is_opposite & is_inexact, results_of("abs", divisor)[0] - rest, rest)
+    return floor, where(block("sign", divisor), -least, least)
 
 
-def choice(condition: typing.Any, first: typing.Any, second: typing.Any) -> typing.Any:
+def where(condition: typing.Any, first: typing.Any, second: typing.Any) -> typing.Any:
     """The elements of the first where the condition holds, and else of the second."""
     return results_of("if_else", first, second, condition)[0]
 

@@ -2,7 +2,6 @@
 
 import re
 import tempfile
-import typing
 import warnings
 
 from ..assembler import Breach, assemble
@@ -10,10 +9,8 @@ from ..files.program import Program
 from ..files.store import store
 from ..launcher import run_program
 from ..rules.verdicts import VERIFIED, Verdict, verdicts_of
-from .array import Array
 from .counted import Counted
 from .op_text import renamed
-from .operators import stepped
 from .refusals import Stopped
 from .user_ops import canonical
 
@@ -57,22 +54,13 @@ class OwnProgram(Counted):
         self.verdicts[bits] = verdicts_of(ended.out)[0]
         return self.verdicts[bits]
 
-    def __call__(self, *operands: typing.Any, bits: int | None = None) -> Array | tuple[Array, ...]:
-        """Its result, or its two; `bits` is the width where no operand is a word."""
-        results = stepped(self, operands, bits)
-        self._check(results[0].value.origin.step.width or 1)
-        return results[0] if len(results) == 1 else results
-
-    def _check(self, width: int) -> None:
+    def check(self, width: int) -> None:
         """Warns where the program is not known to be right at this width."""
         known = self.verdicts.get(width)
         if not known:
             said = f"is {known.kind}" if known is not None else "was never verified"
             warnings.warn(f"{self.name} {said} at width {width}: {self.name}.verify(\"op ..\", {width}) says whether it is right",
                           Unverified, stacklevel=3)
-
-    def __repr__(self) -> str:
-        return f"<simdram.OwnProgram {self.name}({', '.join(self.takes)}) -> {', '.join(self.gives)}>"
 
 
 def program(text: str) -> OwnProgram:

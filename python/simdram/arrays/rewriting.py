@@ -6,14 +6,17 @@ Of a commutative operation a constant is the last argument. Not all arguments ar
 
 import typing
 
-from .expressions import Value
+from .expressions import Value, are_opposite, arguments_of, is_ones, number_of, other_of, under
 from .layout import Product
 from .layout_rules import masked, without_zeros
-from .matching import are_opposite, arguments_of, is_ones, number_of, other_of, under
 from .operations import BIT, OPERATIONS
-from .products import product
 
 COMMUTATIVE = ("add", "mul", "and", "or", "xor", "eq", "min", "max")
+# the commands of each operation at a width n, as README's table of operations has them; of a block at most so many
+COMMANDS: dict[str, typing.Callable[[int], int]] = {
+    "fill": lambda n: n, "shl1": lambda n: n, "add": lambda n: 9 * n + 1, "sub": lambda n: 6 * n + 1,
+    "mul": lambda n: (9 * n * n + n) // 2 - 2 + n % 2, "negative": lambda n: 6 * n + 2,
+}
 
 
 def with_number(b, name: str, x: Value, y: Value) -> Value | None:
@@ -61,6 +64,47 @@ def cancelled(b, x, y):
     if under("sub", y) is x:
         return arguments_of("sub", y)[1]
     return b.do("negative", arguments_of("sub", x)[1]) if under("sub", x) is y else None
+
+
+def digits_of(number: int, bits: int) -> dict[int, int]:
+    """The places of a number's digits 1 and -1, modulo 2^bits."""
+    found: dict[int, int] = {}
+    for place in range(bits):
+        if number & 1:
+            found[place] = -1 if number & 3 == 3 and place < bits - 1 else 1
+            number -= found[place]
+        number >>= 1
+    return found
+
+
+def commands_of(digits: dict[int, int], bits: int) -> int:
+    """The commands of shifts, sums and differences."""
+    taken = sum(COMMANDS["add" if digit > 0 else "sub"](bits) for digit in digits.values())
+    first = "add" if max(digits.values()) > 0 else "sub"
+    start = 0 if first == "add" else COMMANDS["negative"](bits)
+    return taken - COMMANDS[first](bits) + start + sum(map(bool, digits)) * COMMANDS["shl1"](bits)
+
+
+def product(b, x: Value, number: int) -> Value | None:
+    """The product of a value and a number by shifts, sums and differences, or None where `mul` takes the fewest commands.
+
+    The number is written in digits -1, 0 and 1, no two neighbours of which are not 0: the fewest digits that there are.
+    """
+    if number == 0:
+        return b.like(x, 0)
+    digits = digits_of(number, x.bits)
+    is_cheap = commands_of(digits, x.bits) < COMMANDS["mul"](x.bits) + COMMANDS["fill"](x.bits)
+    if len(digits) > 1 and not (b.by_digits and is_cheap):
+        return None
+    shifted = {place: b.shifted(x, place) for place in digits}
+    positive = [place for place in sorted(digits, reverse=True) if digits[place] > 0]
+    negative = [place for place in digits if digits[place] < 0]
+    total = shifted[positive.pop(0)] if positive else b.do("negative", shifted[negative.pop(0)])
+    for place in positive:
+        total = b.do("add", total, shifted[place])
+    for place in negative:
+        total = b.do("sub", total, shifted[place])
+    return total
 
 
 def mul(b, x, y):

@@ -9,6 +9,7 @@ from ..files.program import Entry, Program
 from ..files.store import load, store
 from ..launcher import run_program
 from .costing import Cost, total
+from .expressions import each_once
 from .refusals import Refused, Stopped
 
 DONE = re.compile(r"(\d+) ok aap=(\d+) ap=(\d+)")
@@ -37,16 +38,7 @@ class Made(typing.NamedTuple):
 
     def all(self) -> "list[Made]":
         """All that was done for it, each once, in order."""
-        found: dict[int, Made] = {}
-        waiting = [self]
-        while waiting:
-            left = [one for one in waiting[-1].sources if id(one) not in found]
-            if left:
-                waiting += left[::-1]
-            else:
-                one = waiting.pop()
-                found.setdefault(id(one), one)
-        return list(found.values())
+        return each_once([self], lambda one: one.sources)
 
     def whole(self) -> "Made":
         """All that was done for it, as one."""

@@ -2,37 +2,35 @@
 
 import collections
 import dataclasses
+import re
 import typing
 
-from . import layout_lines
 from .cutting import Part, can_join
-from .expressions import Constant, Held, Value
+from .expressions import Constant, Held, Step, Value
 from .layout import Join, Product, Slice, whole_of
 from .op_text import renamed, text_of
 from .own_programs import OwnProgram
 from .running import OPS_MOST, Script
 from .simpler_texts import Texts
 
-
-LINES = {Join: layout_lines.join, Product: layout_lines.product}
-
-
-class Names:
-    """New names for objects and ops, which nothing in a chip has."""
-
-    def __init__(self) -> None:
-        self.last = 0
-
-    def next(self, letter: str) -> str:
-        """A new name that begins so."""
-        self.last += 1
-        return f"{letter}{self.last}"
+COPY = "op e(a: word) -> y: word {\n  y = copy(a);\n}\n"
+SPREAD = "op e(a: bit) -> y: word {\n  serial up () {\n    y = a;\n  }\n}\n"
+GATE = "op e(a: word, b: bit) -> y: word {\n  serial up () {\n    y = and(a, b);\n  }\n}\n"
+STEP = """op e(p: word, a: word, b: bit) -> y: word, c: bit {
+  serial up (c = 0) {
+    let x = and(a, b);
+    y = xor(xor(p, x), c);
+    c = maj(p, x, c);
+  }
+}
+"""
+OPERAND = re.compile(r"(\w+)(?:\[(\d+):\d+\])?")
 
 
 class Scripts:
     """The scripts that give the targets at a count of elements, one after another; the last may be the only one."""
 
-    def __init__(self, parts: typing.Sequence[Part], targets: typing.Sequence[Value], count: int, names: Names,
+    def __init__(self, parts: typing.Sequence[Part], targets: typing.Sequence[Value], count: int, names: typing.Iterator[int],
                  simpler: Texts) -> None:
         self.count, self.names, self.simpler = count, names, simpler
         self.scripts = [Script()]
@@ -69,7 +67,7 @@ class Scripts:
         """The operand that is a value: an object, into which a constant is filled, or bits of one."""
         whole, low = whole_of(value)
         if whole is not value:
-            return layout_lines.bits(self.object_of(whole), low, value.bits)
+            return bits(self.object_of(whole), low, value.bits)
         if isinstance(value.origin, Held):
             return value.origin.name
         if id(value) not in self.objects:
@@ -79,7 +77,7 @@ class Scripts:
         return self.objects[id(value)]
 
     def _make(self, value: Value) -> None:
-        self.objects[id(value)] = self.names.next("v")
+        self.objects[id(value)] = f"v{next(self.names)}"
         self.make(self.objects[id(value)], value.bits)
 
     def make(self, name: str, width: int) -> None:
@@ -167,3 +165,42 @@ class Scripts:
         return next(name for name in (f"e{k}" for k in range(len(taken) + 1)) if name not in taken)
 
 
+def bits(operand: str, low: int, size: int) -> str:
+    """So many bits of an operand, from the bit `low` on."""
+    name, start = OPERAND.fullmatch(operand).groups()
+    low += int(start or 0)
+    return f"{name}[{low}:{low + size}]"
+
+
+def join(script: Scripts, step: Step) -> None:
+    """Fills, copies, and bits in several places, one after another."""
+    target, low = script.object_of(step.results[0]), 0
+    for value, size in zip(step.arguments, step.operation.sizes):
+        place = bits(target, low, size)
+        if isinstance(value.origin, Constant):
+            script.lines.append(f"fill {place}, {value.origin.number}")
+        else:
+            script.bbop(script.op_of(COPY if value.bits == size else SPREAD), (place, script.object_of(value)), size)
+        low += size
+
+
+def product(script: Scripts, step: Step) -> None:
+    """A row for each bit of the second factor, which stands in the result and in a spare object in turn, so that the last one stands in
+    the result. Each is the sum of the bits of the row before, without the lowest, and of the first factor where the bit is 1."""
+    (a, b), target, spare = map(script.object_of, step.arguments), script.object_of(step.results[0]), f"v{next(script.names)}"
+    size, count = (value.bits for value in step.arguments)
+    script.make(spare, size + count)
+    rows = [target if (count - k) % 2 else spare for k in range(count)]
+    script.bbop(script.op_of(GATE), (bits(rows[0], 0, size), a, bits(b, 0, 1)), size)
+    script.lines.append(f"fill {bits(rows[0], size, 1)}, 0")
+    for k in range(1, count):
+        sums = (bits(rows[k], k, size), bits(rows[k], k + size, 1), bits(rows[k - 1], k, size))
+        script.bbop(script.op_of(STEP), (*sums, a, bits(b, k, 1)), size)
+    for k in range(count - 2, -1, -2):
+        script.bbop(script.op_of(COPY), (bits(target, k, 1), bits(spare, k, 1)), 1)
+    if step.width > size + count:
+        script.lines.append(f"fill {bits(target, size + count, step.width - size - count)}, 0")
+    script.lines.append(f"free {spare}")
+
+
+LINES = {Join: join, Product: product}

@@ -6,7 +6,7 @@ division and a rest of the same numbers are one step, and of two results those t
 
 import typing
 
-from .expressions import Constant, Held, Result, Step, Value, in_order
+from .expressions import Constant, Held, Result, Step, Value, in_order, kinds_of
 from .layout import Layout
 from .layout_rules import laid_out, moved, sliced
 from .operations import BIT, NAMED, OPERATIONS, WORD, Operation
@@ -64,12 +64,11 @@ class Builder:
         """The results of an operation on values that are in this form."""
         if isinstance(operation, Layout):
             return (laid_out(self, operation, arguments, width),)
-        kinds = kinds_of(operation, arguments)
         if not isinstance(operation, Operation):
             return self.step(operation, arguments, width)
         if all(isinstance(value.origin, Constant) for value in arguments):
             numbers = operation.folded(width or 1, [value.origin.number for value in arguments])
-            return tuple(self.constant(kind, 1 if kind == BIT else width, number) for kind, number in zip(kinds, numbers))
+            return tuple(self.constant(kind, 1 if kind == BIT else width, number) for kind, number in zip(kinds_of(operation, arguments)[1], numbers))
         if operation.name in COMMUTATIVE:
             arguments = sorted(arguments, key=lambda one: (isinstance(one.origin, Constant), self.order[id(one)]))
         found = RULES[operation.name](self, *arguments) if operation.name in RULES else None
@@ -81,18 +80,12 @@ class Builder:
         """The results of the one step of an operation on these values."""
         key = (operation.name, operation if isinstance(operation, Layout) else id(operation), width, *map(id, arguments))
         if key not in self.known:
-            self.known[key] = Step(operation, arguments, width, kinds_of(operation, arguments))
+            self.known[key] = Step(operation, arguments, width, kinds_of(operation, arguments)[1])
         return tuple(map(self._seen, self.known[key].results))
 
     def _seen(self, value: Value) -> Value:
         self.order.setdefault(id(value), len(self.order))
         return value
-
-
-def kinds_of(operation: typing.Any, arguments: typing.Sequence[Value]) -> list[str]:
-    """The kinds of an operation's results, of which `same` is the kind of the first argument of this kind."""
-    same = next((value.kind for value, kind in zip(arguments, operation.takes) if kind not in (WORD, BIT)), WORD)
-    return [kind if kind in (WORD, BIT) else same for kind in operation.gives]
 
 
 def rebuilt(targets: typing.Sequence[Value], leaf: typing.Callable[[Value], Value],

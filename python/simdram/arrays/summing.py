@@ -1,19 +1,19 @@
-"""The sum of an array along an axis: halves are added, by the host's hands in one column, until one is left."""
+"""Sums along an axis, and products of matrices: the host moves elements into one column, and the chip adds and multiplies."""
 
 import typing
 
 import numpy
 
 from . import cells
+from .array import Array
 from .costing import Cost
 from .expressions import Constant
+from .functions import PRODUCT, product
+from .operators import arrays_of
 from .running import Made
 
-if typing.TYPE_CHECKING:
-    from .array import Array
 
-
-def summed(array: "Array", axis: int | None) -> "Array":
+def summed(array: Array, axis: int | None) -> Array:
     """The sums along an axis, or over all elements. Each step reads the rows of an array, writes those of its two halves, and
     adds them, so that as many steps are taken as the number of elements on the axis has binary digits."""
     numbers = array.numpy()
@@ -45,22 +45,43 @@ def _axis(axis: int | None, count: int) -> int | None:
     return axis % count
 
 
-def halves_added(array: "Array", numbers: numpy.ndarray, made: Made) -> "Array":
+def halves_added(array: Array, numbers: numpy.ndarray, made: Made) -> Array:
     """The sum of the first half and the second, to which zeros are added where the number is odd."""
     half = (len(numbers) + 1) // 2
     second = numpy.concatenate([numbers[half:], numpy.zeros_like(numbers[:2 * half - len(numbers)])])
     return moved(array, numbers[:half], made, read(array)) + moved(array, second, made, 0)
 
 
-def read(array: "Array") -> int:
+def read(array: Array) -> int:
     """How many rows the host reads of an array."""
     return array.bits * array.chip.image.banks_of(array.size)
 
 
-def moved(array: "Array", numbers: numpy.ndarray, made: Made, reads: int) -> "Array":
+def moved(array: Array, numbers: numpy.ndarray, made: Made, reads: int) -> Array:
     """Numbers of an array that was computed so, placed anew by the host."""
     placed = array.chip.array(cells.modulo(numbers, array.bits), bits=array.bits)
     banks = array.chip.image.banks_of(placed.size)
     script = f"# the host writes {placed.value.origin.name}\n"
     placed.value.origin.made = Made(script=script, cost=Cost(banks=banks, host_writes=array.bits * banks, host_reads=reads), sources=(made,))
-    return type(array)(array.chip, placed.shape, placed.value, placed.value.origin.made, array.signed)
+    return Array(array.chip, placed.shape, placed.value, placed.value.origin.made, array.signed)
+
+
+def matmul(first: typing.Any, second: typing.Any, bits: int | None = None) -> Array:
+    """The product of two matrices, or of a matrix and a vector. Its sums have `bits`, or else 8, 16, 32, 64 or 128 bits, which hold all sums.
+
+    The host reads both and places a pair of objects for each place on the inner axis; the chip multiplies and adds.
+    """
+    first, second = arrays_of(PRODUCT, (first, second))
+    x, y = first.numpy(), second.numpy()
+    if not 2 < x.ndim + y.ndim < 5 or max(x.ndim, y.ndim) > 2 or x.shape[-1] != y.shape[0]:
+        raise ValueError(f"no product of matrices has the shapes {x.shape} and {y.shape}")
+    most = first.bits + second.bits + (len(y) - 1).bit_length()
+    size = bits or next((size for size in (8, 16, 32, 64) if size >= most), 128)
+    rows, columns, total = numpy.atleast_2d(x), y if y.ndim == 2 else y[:, None], None
+    shape = len(rows), columns.shape[1]
+    for k, column in enumerate(columns):
+        pair = ((first, rows[:, k, None]), (second, column))
+        placed = [moved(one, numpy.broadcast_to(numbers, shape), one.made, 0 if k else read(one)) for one, numbers in pair]
+        total = product(*placed, size) if total is None else total + product(*placed, size)
+        total.chip.compute([total])
+    return Array(total.chip, x.shape[:-1] + y.shape[1:], total.value, total.made, total.signed)

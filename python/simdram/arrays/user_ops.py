@@ -3,13 +3,10 @@
 import functools
 import re
 import tempfile
-import typing
 
 from ..files.store import load, store
 from ..launcher import run_program
-from .array import Array
 from .counted import Counted
-from .operators import stepped
 from .refusals import Stopped
 
 HEAD = re.compile(r"^op (\w+)\((.*)\) -> (.*) \{$", re.MULTILINE)
@@ -22,11 +19,6 @@ class Op(Counted):
         self.text = text
         self.name, takes, gives = HEAD.search(text).groups()
         self.takes, self.gives = ([one.split(": ")[1] for one in part.split(", ")] for part in (takes, gives))
-
-    def __call__(self, *operands: typing.Any, bits: int | None = None) -> Array | tuple[Array, ...]:
-        """Its result, or its two; `bits` is the width where no operand is a word."""
-        results = stepped(self, operands, bits)
-        return results[0] if len(results) == 1 else results
 
     def ops_text(self) -> str:
         """The operation text that it is compiled from."""
@@ -41,9 +33,6 @@ class Op(Counted):
             if ended.status:
                 raise Stopped("compile", ended, "ops", self.text)
             return load(f"{folder}/prog")
-
-    def __repr__(self) -> str:
-        return f"<simdram.Op {self.name}({', '.join(self.takes)}) -> {', '.join(self.gives)}>"
 
 
 def split(text: str) -> list[Op]:
