@@ -75,9 +75,9 @@ def product(first: typing.Any, second: typing.Any, bits: int | None = None) -> A
     arrays = arrays_of(PRODUCT, (first, second))
     if any(one.is_bit for one in arrays):
         raise Refused("kind", "product takes words, and not truth values")
-    shape, is_signed = shape_of(PRODUCT, arrays), is_signed("product", arrays)
+    shape, signed = shape_of(PRODUCT, arrays), is_signed("product", arrays)
     size = cells.checked_width(bits or sum(one.bits for one in arrays))
-    if is_signed or size < sum(one.bits for one in arrays) or any(isinstance(one.value.origin, Constant) for one in arrays):
+    if signed or size < sum(one.bits for one in arrays) or any(isinstance(one.value.origin, Constant) for one in arrays):
         return arrays[0].astype(bits=size) * arrays[1].astype(bits=size)
     values = sorted((one.value for one in arrays), key=lambda one: -one.bits)
     return arrays[0].of_value(shape, product_of(*values, size), False)

@@ -7,7 +7,7 @@ or as l0, and an output c_next, which begins with the latch's reset value.
 import typing
 
 from ..launcher.faults import Fault
-from .netlist import NEXT, Netlist, Table
+from .netlist import NEXT, Netlist, Table, fresh
 
 MAGIC = (b"aig ", b"aag ")
 FALSE = "zero"
@@ -151,10 +151,3 @@ class Reader:
             if name in net.inputs:
                 raise Fault(f"{self.path}: {name} is an input and another output")
             net.tables[name] = Table(0, (source,), 0b01 if literal & 1 else 0b10)
-
-
-def fresh(name: str, taken: set[str]) -> str:
-    """A name that no input or output has."""
-    while name in taken:
-        name += "_"
-    return name

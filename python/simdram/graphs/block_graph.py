@@ -1,12 +1,29 @@
-"""The graph of a serial block as it is written.
+"""Graphs of a serial block: as it is written, and of the loop that it is compiled to, with a node for each triple activation.
 
 An input is a word at the position, a bit, or a state: the op's parameters, whether the block reads them or not, what else it
-reads, and its states, in this order. An output is an assigned word at the position, or a state's next
-value, as `c_next`. Over several positions a word has a number for each, as `a_0`.
+reads, and its states, in this order. An output is an assigned word at the position, or a state's next value, as `c_next`. Over
+several positions a word has a number for each, as `a_0`.
 """
 
+import itertools
+import re
+import typing
+
+from ..files.decode import CELLS, RAISED
+from ..files.program import B_ADDRESS, C_ADDRESS, Row
+from ..launcher.faults import Fault
+from ..launcher.settings import Settings
 from ..rules.op_shapes import OpShape, Statement
-from .mig import Graph
+from ..rules.ops_rules import RESULTS, SOURCES, op_shape
+from ..steps import op_texts
+from ..steps.board import Board, done_by, over
+from ..steps.cell_values import ALL, Names, drawn
+from ..steps.code_parts import WIDEST, Part, parts
+from ..steps.op_texts import OpText
+from ..steps.row_names import RowNames
+from .mig import ONE, ZERO, Graph
+
+SUBSCRIPT = re.compile(r"\[i([+-]\d+)?\]$")
 
 
 def read_names(block: Statement) -> list[str]:
@@ -41,3 +58,147 @@ def written(block: Statement, shape: OpShape, positions: int = 1) -> Graph:
         graph.outputs.update((positions_of(name, k, positions), one) for name, one in found.items() if name not in block.starts)
     graph.outputs.update((f"{name}_next", one) for name, one in states.items())
     return graph
+
+
+class Compiled(typing.NamedTuple):
+    """The graph of a loop, how many positions an iteration goes through, and the outputs that it does not compute."""
+
+    graph: Graph
+    positions: int
+    left_out: list[str]
+
+    def agrees(self, other: Graph) -> bool:
+        """Whether its outputs are those of another graph, on drawn patterns of the inputs."""
+        inputs = {name: drawn(name) for name in (*self.graph.inputs, *other.inputs)}
+        expected = other.values(inputs, ALL)
+        return all(expected.get(name) == value for name, value in self.graph.values(inputs, ALL).items())
+
+
+class GraphBoard(Board):
+    """A board whose cells and rows hold literals of a graph."""
+
+    def __init__(self, part: Part, rows: RowNames, cells: dict[str, int], graph: Graph, name_of) -> None:
+        super().__init__(part, rows, Names({}, WIDEST))
+        self.cells = {**dict.fromkeys(CELLS), **cells}
+        self.graph, self.name_of = graph, name_of
+
+    def read(self, cell: str, inverted: bool):
+        return None if self.cells[cell] is None else self.cells[cell] ^ inverted
+
+    def sensed(self, row: Row):
+        if row.space == C_ADDRESS:
+            return (ZERO, ONE)[row.which]
+        if row.space != B_ADDRESS:
+            name = self.name(row)
+            if name not in self.rows:
+                self.rows[name] = self.graph.input(self.name_of(name))
+            return self.rows[name]
+        values = [self.read(*line) for line in RAISED[row.which]]
+        value = self.voted(values) if len(values) == 3 else values[0]
+        self.settle(row, value)
+        return value
+
+    def voted(self, values):
+        """The majority, where no cell that nothing has set decides it."""
+        known = [one for one in values if one is not None]
+        if len(known) == 3:
+            return self.graph.maj(*values)
+        return known[0] if len(known) == 2 and known[0] == known[1] else None
+
+    def settle(self, row: Row, value) -> None:
+        if row.space != B_ADDRESS:
+            self.rows[self.name(row)] = value
+            self.written.add(self.name(row))
+            return
+        for cell, inverted in RAISED[row.which]:
+            self.cells[cell] = None if value is None else value ^ inverted
+
+
+def alone(name: str, block: Statement, shape: OpShape, data: bytes) -> str:
+    """The text of an op that is this block alone."""
+    takes = [one for one in read_names(block) if one not in block.starts]
+    kinds = {**shape.defined, **dict.fromkeys(block.starts, "bit")}
+    words = [one for one in block.assignments if one not in block.starts]
+    gives = (words + list(block.starts))[:RESULTS]
+    if not 1 <= len(takes) <= SOURCES or len(words) > RESULTS:
+        raise Fault(f"the block reads {len(takes)} words and bits and sets {len(words)} words; to show its loop there may be "
+                    f"1 to {SOURCES}, and at most {RESULTS}")
+    head, tail = (", ".join(f"{one}: {kinds.get(one, 'word')}" for one in names) for names in (takes, gives))
+    text = data[block.first.at:block.last.at + 1].decode()
+    return f"op {name}({head}) -> {tail} {{ {text} }}\n"
+
+
+def compiled(name: str, data: bytes, settings: Settings) -> tuple[list[Part], RowNames]:
+    """The parts of the program that an op of a text is compiled to, and the names of its rows."""
+    text = OpText(op_shape("the operation text", data, name), data)
+    return text.parts(parts(op_texts.compiled(data, settings).find(name).code)), text.names()
+
+
+def as_compiled(block: Statement, shape: OpShape, data: bytes, settings: Settings) -> Compiled:
+    """The graph of the loop that a block is compiled to in its op; where that loop has other statements too, of the loop that
+    it is compiled to alone."""
+    try:
+        return of_statement(block, shape, shape.statements.index(block), data, settings)
+    except Fault:
+        return of_statement(block, shape, 0, alone(shape.name, block, shape, data).encode(), settings)
+
+
+def of_statement(block: Statement, shape: OpShape, number: int, data: bytes, settings: Settings) -> Compiled:
+    """The graph of the loop of a statement of the op as this text has it."""
+    found, rows = compiled(shape.name, data, settings)
+    held = over(found, rows)
+    loops = [k for k, part in enumerate(found) if part.loops and number in part.statements]
+    if not loops:
+        raise Fault(f"no loop of {shape.name} is of this block")
+    k = next((k for k in loops if found[k].again), loops[0])
+    states = {cell: value.text.replace("old ", "").replace("[0]", "") for cell, value in held[k].items()}
+    return named(block, shape, found[k], rows, states)
+
+
+def named(block: Statement, shape: OpShape, part: Part, rows: RowNames, states: dict[str, str]) -> Compiled:
+    """The graph of a part, where a state that goes to no row, and so has no name of its own in the cells, is found by trying
+    which of the block's states it is, or the complement of which: the one with which the graph is that of the block."""
+    unnamed = sorted({text.lstrip("~") for text in states.values()} - set(block.starts))
+    missing = [name for name in block.starts if name not in {text.lstrip("~") for text in states.values()}]
+    if not unnamed:
+        return of_part(block, shape, part, rows, states)
+    for names in itertools.permutations(missing, len(unnamed)):
+        for turned in itertools.product((False, True), repeat=len(unnamed)):
+            called = dict(zip(unnamed, zip(names, turned)))
+            tried = {cell: renamed(text, called) for cell, text in states.items()}
+            made = of_part(block, shape, part, rows, tried)
+            if made.agrees(written(block, shape, made.positions)):
+                return made
+    raise Fault(f"the loop of {shape.name} keeps states in cells that are not the block's states: it has no graph of the block")
+
+
+def renamed(text: str, called: dict[str, tuple[str, bool]]) -> str:
+    """A value in a cell, where a state without a name has one."""
+    name, is_turned = called.get(text.lstrip("~"), (text.lstrip("~"), False))
+    return f"{'~' if text.startswith('~') != is_turned else ''}{name}"
+
+
+def of_part(block: Statement, shape: OpShape, part: Part, rows: RowNames, states: dict[str, str]) -> Compiled:
+    """The graph of one execution of a part, whose cells hold these states at its start."""
+    offsets = sorted({int(SUBSCRIPT.search(name)[1] or 0) for name in done_by(part, rows, {}).rows if SUBSCRIPT.search(name)},
+                     reverse=block.direction == "down")
+
+    def name_of(name: str) -> str:
+        match = SUBSCRIPT.search(name)
+        return positions_of(name[:match.start()], offsets.index(int(match[1] or 0)), len(offsets)) if match else name
+
+    graph, asked = Graph(), written(block, shape, len(offsets))
+    for name in asked.inputs:
+        graph.input(name)
+    cells = {cell: graph.input(text.lstrip("~")) ^ text.startswith("~") for cell, text in states.items()}
+    board = GraphBoard(part, rows, cells, graph, name_of)
+    for one in part.code:
+        board.do(one)
+    found = {name_of(name) if SUBSCRIPT.search(name) else f"{name}_next": board.rows[name] for name in board.written}
+    found.update((f"{text.lstrip('~')}_next", board.cells[cell] ^ text.startswith("~")) for cell, text in states.items()
+                 if f"{text.lstrip('~')}_next" not in found)
+    others = [name for name in graph.inputs if name not in asked.inputs]
+    if others:
+        raise Fault(f"the loop of {shape.name} reads {others[0]}, which the block as it is written does not read: it has no graph of the block")
+    graph.outputs = {name: found[name] for name in asked.outputs if name in found}
+    return Compiled(graph, len(offsets), [name for name in asked.outputs if name not in found])

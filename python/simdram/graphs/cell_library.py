@@ -1,12 +1,14 @@
 """The functions of library gates, as `.gate` lines name them: those that yosys has itself, and those of a genlib file."""
 
+import operator
 import re
 import typing
 
 from ..launcher.faults import Fault
 
 GATE = re.compile(r"GATE\s+(\"[^\"]*\"|\S+)\s+\S+\s+([^;]*);")
-TOKEN = re.compile(r"\s*([A-Za-z_][\w.\[\]<>$]*|[!*+&|^()']|[01])")
+TOKEN = re.compile(r"[A-Za-z_][\w.\[\]<>$]*|[!*+&|^()']|[01]|(?P<stranger>\S)")
+LEVELS = (("+|", operator.or_), ("^", operator.xor), ("*&", operator.and_))
 COMMENT = re.compile(r"#[^\n]*")
 OWN = {"$_BUF_": "Y=A", "$_NOT_": "Y=!A", "$_AND_": "Y=A*B", "$_NAND_": "Y=!(A*B)", "$_OR_": "Y=A+B", "$_NOR_": "Y=!(A+B)",
        "$_XOR_": "Y=A^B", "$_XNOR_": "Y=!(A^B)", "$_ANDNOT_": "Y=A*!B", "$_ORNOT_": "Y=A+!B", "$_MUX_": "Y=!S*A+S*B",
@@ -40,30 +42,19 @@ class Formula:
 
     def value(self) -> int:
         """The whole formula's value."""
-        found = self.sum()
+        found = self.level()
         if self.here():
             raise ValueError(self.here())
         return found
 
-    def sum(self) -> int:
-        """What stands between `+`."""
-        found = self.difference()
-        while self.took("+", "|"):
-            found |= self.difference()
-        return found
-
-    def difference(self) -> int:
-        """What stands between `^`."""
-        found = self.product()
-        while self.took("^"):
-            found ^= self.product()
-        return found
-
-    def product(self) -> int:
-        """What stands between `*`, or beside each other."""
-        found = self.factor()
-        while self.took("*", "&") or self.here() not in ("", "+", "|", "^", ")"):
-            found &= self.factor()
+    def level(self, depth: int = 0) -> int:
+        """What stands between the operators of a level, the loosest first; what stands beside each other is a product."""
+        if depth == len(LEVELS):
+            return self.factor()
+        signs, join = LEVELS[depth]
+        found = self.level(depth + 1)
+        while self.took(*signs) or join is operator.and_ and self.here() not in ("", "+", "|", "^", ")"):
+            found = join(found, self.level(depth + 1))
         return found
 
     def factor(self) -> int:
@@ -73,7 +64,7 @@ class Formula:
         word = self.here()
         self.at += 1
         if word == "(":
-            found = self.sum()
+            found = self.level()
             if not self.took(")"):
                 raise ValueError("(")
         elif word in ("0", "1", "CONST0", "CONST1"):
@@ -87,15 +78,10 @@ class Formula:
 
 def words_of(text: str) -> list[str]:
     """The tokens of a formula."""
-    found, at = [], 0
-    text = text.rstrip()
-    while at < len(text):
-        match = TOKEN.match(text, at)
-        if not match:
-            raise ValueError(text[at:])
-        found.append(match[1])
-        at = match.end()
-    return found
+    found = list(TOKEN.finditer(text))
+    for stranger in (one for one in found if one["stranger"]):
+        raise ValueError(text[stranger.start():].rstrip())
+    return [one[0] for one in found]
 
 
 def cell_of(text: str) -> Cell:

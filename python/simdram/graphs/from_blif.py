@@ -60,32 +60,19 @@ class Block:
     def __init__(self, net: Netlist, path: str, bits: list[str], starts: dict[str, str], gives_states: bool = True) -> None:
         self.net, self.path, self.names, self.gives_states = net, path, Names(), gives_states
         self.states, self.sources, self.words = net.states, net.sources, net.words
-        for name in [*bits, *starts]:
-            if name not in (self.sources if name in bits else self.states):
-                raise Fault(f"{path} has no {'input' if name in bits else 'state'} {name}")
+        if not self.sources:
+            raise Fault(f"{path}: an op has 1 to {SOURCES} parameters, and the netlist 0 inputs that are no states")
         self.bits, self.starts = bits, {**net.starts, **starts}
-        self.check()
         self.order = in_order(net, path)
         reads = collections.Counter(net.outputs)
         for name in self.order:
             reads.update(self.read_by(name))
         self.lets = {name for name in self.order if reads[name] > 1}
 
-    def check(self) -> None:
-        """Refuses what no op has room for."""
-        if not 1 <= len(self.sources) <= SOURCES:
-            raise Fault(f"{self.path}: an op has 1 to {SOURCES} parameters, and the netlist {len(self.sources)} inputs that are no states")
-        if len(self.words) > RESULTS:
-            raise Fault(f"{self.path}: an op has at most {RESULTS} results, and the netlist {len(self.words)} outputs that are no states")
-
-    def function(self, signal: str) -> int:
-        """A table as a function of x, y and z."""
-        return function(self.net.tables[signal])
-
     def read_by(self, signal: str) -> list[str]:
         """The signals that the expression of a table reads, as often as it does."""
         inputs = dict(zip("xyz", self.net.tables[signal].inputs))
-        return [inputs[letter] for letter in LETTER.findall(spelled(self.function(signal)))]
+        return [inputs[letter] for letter in LETTER.findall(spelled(function(self.net.tables[signal])))]
 
     def value(self, signal: str) -> str:
         """What stands for a signal: its name, or, of a table that is read once, its expression."""
@@ -99,7 +86,7 @@ class Block:
             return self.names.name(signal)
         inputs = self.net.tables[signal].inputs
         needed = set(self.read_by(signal))
-        return expression(self.function(signal), {letter: self.value(one) for letter, one in zip("xyz", inputs) if one in needed})
+        return expression(function(self.net.tables[signal]), {letter: self.value(one) for letter, one in zip("xyz", inputs) if one in needed})
 
     def text(self, name: str, direction: str) -> str:
         """The op."""

@@ -19,8 +19,7 @@ from ..launcher.settings import Settings
 from ..launcher.tool_parser import tool_parser
 from ..rules.op_shapes import OpShape, Statement
 from ..rules.ops_rules import op_shape, shapes_of
-from .block_graph import written
-from .loop_graph import Compiled, as_compiled
+from .block_graph import Compiled, as_compiled, written
 from .mig import live
 from .mig_formats import as_aiger, as_blif, as_dot
 

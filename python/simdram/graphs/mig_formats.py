@@ -3,6 +3,7 @@
 import itertools
 
 from .mig import Graph, live
+from .netlist import fresh
 
 
 def as_dot(graph: Graph, name: str) -> str:
@@ -27,15 +28,7 @@ def as_dot(graph: Graph, name: str) -> str:
 def signal(graph: Graph, number: int) -> str:
     """The name of an input or a node in BLIF."""
     item = graph.items[number]
-    return item if isinstance(item, str) else fresh(graph, number)
-
-
-def fresh(graph: Graph, number: int) -> str:
-    """A node's name, which no input or output has."""
-    name = f"n{number}"
-    while name in graph.inputs or name in graph.outputs:
-        name += "_"
-    return name
+    return item if isinstance(item, str) else fresh(f"n{number}", [*graph.inputs, *graph.outputs])
 
 
 def table(literals: list[int]) -> list[str]:

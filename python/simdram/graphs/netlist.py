@@ -1,6 +1,7 @@
 """Combinational netlists: inputs, outputs, and tables. An input c and an output c_next are a state."""
 
 import dataclasses
+import typing
 
 from ..launcher.faults import Fault
 
@@ -66,3 +67,10 @@ def in_order(net: Netlist, path: str, targets=None) -> list[str]:
                 if name in net.tables:
                     found.setdefault(name)
     return list(found)
+
+
+def fresh(name: str, taken: typing.Collection[str]) -> str:
+    """A name that no input or output has."""
+    while name in taken:
+        name += "_"
+    return name
