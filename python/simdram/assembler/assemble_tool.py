@@ -17,10 +17,7 @@ from . import Breach, assemble
 
 
 def parser() -> argparse.ArgumentParser:
-    made = tool_parser("assemble", __name__)
-    made.add_argument("text", metavar="TEXT")
-    made.add_argument("prog", metavar="PROG")
-    return made
+    return tool_parser("assemble", __name__, "TEXT", "PROG")
 
 
 def main(words: list[str], settings: Settings) -> int:

@@ -14,8 +14,7 @@ from .reading import raw_text, readable_text
 
 
 def parser() -> argparse.ArgumentParser:
-    made = tool_parser("disassemble", __name__)
-    made.add_argument("prog", metavar="PROG")
+    made = tool_parser("disassemble", __name__, "PROG")
     made.add_argument("--raw", action="store_true", help="the lines of `list`, instruction by instruction")
     return made
 

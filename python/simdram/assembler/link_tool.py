@@ -29,10 +29,7 @@ def linked(paths: list[str]) -> Program:
 
 
 def parser() -> argparse.ArgumentParser:
-    made = tool_parser("link", __name__)
-    made.add_argument("progs", metavar="PROG", nargs="+")
-    made.add_argument("out", metavar="OUT")
-    return made
+    return tool_parser("link", __name__, "PROG+", "OUT")
 
 
 def main(words: list[str], settings: Settings) -> int:

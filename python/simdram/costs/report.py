@@ -129,8 +129,7 @@ def table_of(made: dict) -> str:
 
 
 def parser() -> argparse.ArgumentParser:
-    made = tool_parser("report", __name__)
-    made.add_argument("report", metavar="REPORT", nargs="?")
+    made = tool_parser("report", __name__, "REPORT?")
     made.add_argument("--json", action="store_true", help="one JSON object")
     made.add_argument("--script", metavar="SCRIPT", help="the script that was executed; needs --image")
     made.add_argument("--image", metavar="IMAGE", help="the image that it was executed on")

@@ -31,10 +31,7 @@ def bytes_in(note: str) -> bytes:
 
 
 def parser() -> argparse.ArgumentParser:
-    made = tool_parser("from-hex", __name__)
-    made.add_argument("note", metavar="NOTE")
-    made.add_argument("file", metavar="FILE")
-    return made
+    return tool_parser("from-hex", __name__, "NOTE", "FILE")
 
 
 def main(words: list[str], settings: Settings) -> int:

@@ -9,9 +9,7 @@ from .trace import Trace
 
 
 def parser() -> argparse.ArgumentParser:
-    made = tool_parser("trace-text", __name__)
-    made.add_argument("trace", metavar="TRACE")
-    return made
+    return tool_parser("trace-text", __name__, "TRACE")
 
 
 def main(words: list[str], _settings: Settings) -> int:

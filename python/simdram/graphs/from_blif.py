@@ -116,8 +116,7 @@ class Block:
 
 
 def parser() -> argparse.ArgumentParser:
-    made = tool_parser("from-blif", __name__)
-    made.add_argument("file", metavar="FILE")
+    made = tool_parser("from-blif", __name__, "FILE")
     made.add_argument("--name", metavar="NAME", help="the op's name; else the model's")
     made.add_argument("--down", action="store_true", help="the block goes from the top bit down")
     made.add_argument("--bit", action="append", default=[], metavar="NAME", help="an input that is one bit for all positions")

@@ -20,6 +20,10 @@ class Parser(argparse.ArgumentParser):
         (file or sys.stderr).write(message)
 
 
-def tool_parser(name: str, module: str) -> argparse.ArgumentParser:
-    """A parser for the words of this tool."""
-    return Parser(prog=f"simdram {name}", description=about(module), formatter_class=argparse.RawDescriptionHelpFormatter)
+def tool_parser(name: str, module: str, *operands: str) -> argparse.ArgumentParser:
+    """A parser for the words of this tool, with its operands: `OUT`, `NEW?` where it may be left out, `PROG+` for several."""
+    made = Parser(prog=f"simdram {name}", description=about(module), formatter_class=argparse.RawDescriptionHelpFormatter)
+    for one in operands:
+        word = one.rstrip("?+")
+        made.add_argument(word.lower() + "s" * one.endswith("+"), metavar=word, nargs=one[len(word):] or None)
+    return made
