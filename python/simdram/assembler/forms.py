@@ -59,11 +59,6 @@ class Form(typing.NamedTuple):
         return text + "".join(f" {'-' if times < 0 else '+'} {part}" for times, part in parts[1:])
 
 
-def number(value: int) -> Form:
-    """A number alone."""
-    return Form(value)
-
-
 def changed(one: Instruction, held: typing.Callable[[int], Form]) -> Form:
     """What an instruction leaves in its register, from what registers hold before it."""
     if one.kind in (SETI, SETN, SETT):

@@ -6,8 +6,7 @@ from ..files.program import (ADD, ADDI, BNEZ, DONE, LARGEST, MOV, REGISTERS, SET
 from ..rules.answer import Breach
 from ..rules.tokens import NUMBER, Token
 from .forms import N, Form
-from .needs import least, needs_of, tested
-from .registers import Registers, named_registers
+from .registers import Registers, least, named_registers, needs_of, tested
 from .tree import Command, For, If, Jump, Label, Next, Numbered, Operand, Out, Plain, ProgramText
 
 

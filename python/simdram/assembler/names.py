@@ -1,13 +1,14 @@
-"""The names of a program: those of its head, and those that a listing gives every row."""
+"""The names of a program: those of its head, those that a listing gives every row, and the cells, with the address that raises
+them."""
 
 import re
 import typing
 
+from ..files.decode import CELLS, RAISED, Line
 from ..files.fields import NAME_BYTES
 from ..files.row_rules import BIT, REGISTERS, RESULT, SOURCE, SPILL, SPILLS, WORD
 from ..rules.answer import Breach
 from ..rules.tokens import Token
-from .cells import NAMES as CELLS
 from .tree import Head
 
 REGISTER = re.compile("r([0-9]+)")
@@ -17,6 +18,23 @@ SPACES = {"s": SOURCE, "t": BIT, "w": WORD, "p": SPILL}
 WORDS = ("n", "for", "in", "if", "else", "next", "program", "scratch", "entry", "version", "word", "bit",
          "DONE", "SETI", "SETN", "SETT", "MOV", "ADD", "ADDI", "SUBI", "BNEZ", "AAP", "AP", "JMP")
 KINDS = ("word", "bit")
+
+
+def line_text(line: Line) -> str:
+    """A wordline by its cell's name; `~` for the n-wordline."""
+    return f"{'~' if line.inverted else ''}{line.cell}"
+
+
+def address_text(address: int) -> str:
+    """An address by its cells: one, two that are written together, or three whose majority is sensed."""
+    names = [line_text(line) for line in RAISED[address]]
+    return f"{{{', '.join(names)}}}" if len(names) == 3 else "+".join(names)
+
+
+BY_CELLS = {frozenset(map(line_text, lines)): address for address, lines in enumerate(RAISED)}
+PAIRS = ", ".join(address_text(address) for address, lines in enumerate(RAISED) if len(lines) == 2)
+TRIPLES = ", ".join(address_text(address) for address, lines in enumerate(RAISED) if len(lines) == 3)
+SINGLES = ", ".join(address_text(address) for address, lines in enumerate(RAISED) if len(lines) == 1)
 
 
 class Named(typing.NamedTuple):

@@ -5,7 +5,7 @@ import typing
 
 from ..files.program import B_ADDRESS, BNEZ, C_ADDRESS, INDEXED, OPERANDS, REGISTERS, Entry, Instruction, Program, Row
 from ..rules.answer import Breach
-from .cells import address_text
+from .names import address_text
 from .one_width import one_width, own
 from .walks import Stuck, walk
 

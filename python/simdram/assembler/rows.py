@@ -2,14 +2,13 @@
 
 import re
 
-from ..files.decode import B_ADDRESSES, RAISED
+from ..files.decode import B_ADDRESSES, CELLS, RAISED
 from ..files.program import B_ADDRESS, C_ADDRESS, INDEXED, SOURCE
 from ..rules.answer import Breach
 from ..rules.tokens import NAME, NUMBER, Token
-from .cells import BY_CELLS, NAMES as CELLS, PAIRS, SINGLES, TRIPLES, address_text
-from .forms import N, Form, number
+from .forms import N, Form
 from .lexer import Tokens, said
-from .names import Names, check_register, register_of
+from .names import BY_CELLS, PAIRS, SINGLES, TRIPLES, Names, address_text, check_register, register_of
 from .tree import Operand
 
 ADDRESS = re.compile("([BC])([0-9]+)")
@@ -86,11 +85,11 @@ def read_operand(tokens: Tokens, names: Names, loops: list[str]) -> Operand:
         if named.kind == "word":
             raise Breach(token, "row", f"{token.text} is a word, of which one row is meant", f"`{token.text}[i]` in a loop over i, "
                             f"or `{token.text}[0]`")
-        return Operand(token, named.space, named.which, number(0))
+        return Operand(token, named.space, named.which, Form())
     place = tokens.here
     index = read_index(tokens, loops)
     tokens.expect("]", " after the subscript")
-    if named.kind == "bit" and isinstance(index, Form) and index != number(0):
+    if named.kind == "bit" and isinstance(index, Form) and index != Form():
         raise Breach(place, "row", f"{token.text} is a bit, with one row", f"`{token.text}`")
     return Operand(token, named.space, named.which, index)
 
@@ -112,7 +111,7 @@ def read_form(tokens: Tokens, loops: list[str]) -> Form:
     while tokens.is_at("+", "-"):
         factor = 1 if tokens.next().text == "+" else -1
         form = form.plus(read_term(tokens, loops), factor)
-    return form if tokens.width is None else form.put(N, number(tokens.width))
+    return form if tokens.width is None else form.put(N, Form(tokens.width))
 
 
 def read_term(tokens: Tokens, loops: list[str]) -> Form:
@@ -122,7 +121,7 @@ def read_term(tokens: Tokens, loops: list[str]) -> Form:
         value = int(token.text)
         if value > 1023:
             raise Breach(token, "number", f"{token.text} is too great", "registers hold 0 to 1023")
-        return Form().plus(read_name(tokens.next(), loops), value) if tokens.took("*") else number(value)
+        return Form().plus(read_name(tokens.next(), loops), value) if tokens.took("*") else Form(value)
     return read_name(token, loops)
 
 

@@ -33,19 +33,24 @@ class Operand(typing.NamedTuple):
 
 
 @dataclasses.dataclass
-class Command:
-    """A row command."""
+class Statement:
+    """A statement, and where it stands."""
 
     token: Token
+
+
+@dataclasses.dataclass
+class Command(Statement):
+    """A row command."""
+
     kind: int
     rows: tuple[Operand, ...]
 
 
 @dataclasses.dataclass
-class Plain:
+class Plain(Statement):
     """An instruction on registers: its kind, its registers, and its number."""
 
-    token: Token
     kind: int
     register: int = 0
     other: int = 0
@@ -53,33 +58,25 @@ class Plain:
 
 
 @dataclasses.dataclass
-class Jump:
+class Jump(Statement):
     """A jump to a label or a number: by a register that is not zero, or always where none is named."""
 
-    token: Token
     register: int | None
     target: Token
 
 
-@dataclasses.dataclass
-class Label:
+class Label(Statement):
     """A place with a name."""
 
-    token: Token
 
-
-@dataclasses.dataclass
-class Numbered:
+class Numbered(Statement):
     """The number that the next instruction has."""
 
-    token: Token
-
 
 @dataclasses.dataclass
-class For:
+class For(Statement):
     """A loop: its variable, its first value, where it ends, its direction, by how much it goes on, its body."""
 
-    token: Token
     variable: str
     start: Form
     end: Form
@@ -99,20 +96,16 @@ class For:
 
 
 @dataclasses.dataclass
-class If:
+class If(Statement):
     """What is done where a form is zero, and where it is not."""
 
-    token: Token
     form: Form
     zero: list[typing.Any] = dataclasses.field(default_factory=list)
     other: list[typing.Any] = dataclasses.field(default_factory=list)
 
 
-@dataclasses.dataclass
-class Next:
+class Next(Statement):
     """The next iteration of the loop; where there is none, the loop ends."""
-
-    token: Token
 
 
 @dataclasses.dataclass

@@ -9,6 +9,12 @@ from ..files.program import AAP, ADD, ADDI, AP, BNEZ, DONE, INDEXED, MOV, REGIST
 Place = tuple[int, int, int]
 TURNS = 1 << 22
 GREATEST = 1023
+# what an instruction leaves in its register, from what the registers hold, at a width
+CHANGES: dict[int, typing.Callable[[list[int], Instruction, int], int]] = {
+    ADDI: lambda held, one, n: held[one.register] + one.number, SUBI: lambda held, one, n: held[one.register] - one.number,
+    ADD: lambda held, one, n: held[one.register] + held[one.other], MOV: lambda held, one, n: held[one.other],
+    SETI: lambda held, one, n: one.number, SETN: lambda held, one, n: n, SETT: lambda held, one, n: n - 1,
+}
 
 
 class Stuck(Exception):
@@ -31,18 +37,8 @@ class Registers:
         held, register, kind = self.held, one.register, one.kind
         if kind == BNEZ:
             return one.number if held[register] else at + 1
-        if kind == ADDI:
-            held[register] += one.number
-        elif kind == SUBI:
-            held[register] -= one.number
-        elif kind == ADD:
-            held[register] += held[one.other]
-        elif kind == MOV:
-            held[register] = held[one.other]
-        elif kind == SETI:
-            held[register] = one.number
-        elif kind in (SETN, SETT):
-            held[register] = self.width - (kind == SETT)
+        if kind in CHANGES:
+            held[register] = CHANGES[kind](held, one, self.width)
         return at + 1
 
 

@@ -6,7 +6,7 @@ import pathlib
 import string
 import typing
 
-from ..assembler.cells import address_text
+from ..assembler.names import address_text
 from .iterations import counted
 
 TEMPLATE = pathlib.Path(__file__).with_name("page.html")
