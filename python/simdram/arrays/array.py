@@ -114,10 +114,6 @@ class Array(Operators):
             raise TypeError("a sum of truth values needs a width: bits=8")
         return summed(self if dtype is None and bits is None else self.astype(dtype, bits=bits), axis)
 
-    def of_number(self, number: Constant) -> "Array":
-        """One number of this width, that the chip has computed."""
-        return Array(self.chip, (), Value(self.value.kind, self.bits, number), number.made, self.signed)
-
     cost = of_all("cost", "What all took that it was computed from, each part once: the bbops and fills, over all banks and in one, and "
                   "the rows that the host wrote and read to place numbers and to change widths.")
     text = of_all("text", "The ops that were compiled for it and for what it was computed from; none for numbers that were placed.")

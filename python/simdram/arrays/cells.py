@@ -106,12 +106,6 @@ def kind_of(numbers: numpy.ndarray, bits: int) -> str:
     return BIT if numbers.dtype == bool and bits == 1 else WORD
 
 
-def array_of_number(number: int, bits: int, kind: str) -> numpy.ndarray:
-    """One number as an array of no dimensions."""
-    size = columns.size_of(bits)
-    return array_of(number.to_bytes(size, "little"), size, kind, ())
-
-
 class Field(typing.NamedTuple):
     """A field: its lowest bit, its width, whether its numbers are signed, and whether they are truth values."""
 

@@ -9,6 +9,7 @@ import weakref
 
 import numpy
 
+from ..files import columns
 from ..files.image import Image, NoRoom
 from . import cells
 from .array import Array, constant
@@ -131,7 +132,8 @@ class Chip:
         self.made(array)
         origin = array.value.origin
         if isinstance(origin, Constant):
-            numbers = cells.array_of_number(origin.number, array.bits, array.value.kind)
+            size = columns.size_of(array.bits)
+            numbers = cells.array_of(origin.number.to_bytes(size, "little"), size, array.value.kind, ())
         else:
             self.host_reads += array.bits * self.image.banks_of(array.size)
             numbers = cells.array_of(*self.image.cells(origin.name, origin.low, array.bits), array.value.kind, array.shape)
@@ -155,7 +157,9 @@ class Chip:
             try:
                 if left:
                     scripts, made = self._in_few_ops([target for _, target in left], count)
-                    self._keep(left, scripts, made._replace(sources=tuple(sources_of(left))))
+                    # the objects that are read, and numbers that the chip computed
+                    sources = made_before([target for _, target in left], Held) + made_before([array.value for array, _ in left], Constant)
+                    self._keep(left, scripts, made._replace(sources=tuple(sources)))
                 return
             except Refused as refused:
                 if refused.word not in ("no_rows", "table_full") or is_last:
@@ -203,12 +207,6 @@ class Chip:
             held = origins[name] if whole is target else Held(name, made, low, Value(whole.kind, whole.bits, origins[name]))
             number = None if array.shape else Constant((self.image.get(name)[0] >> low) % 2**array.bits, made)
             array.settle(number or held, made)
-
-
-def sources_of(computed: typing.Sequence[tuple[Array, Value]]) -> list[Made]:
-    """How that was made which arrays are computed from: the objects that are read, and numbers that the chip computed."""
-    objects = made_before([target for _, target in computed], Held)
-    return objects + made_before([array.value for array, _ in computed], Constant)
 
 
 def settled(array: Array, target: Value) -> bool:

@@ -21,6 +21,8 @@ class Counted:
     name: str
     takes: list[str]
     gives: list[str]
+    # the operation text that it is compiled from, if it is
+    ops_text: str | None = None
 
     def __call__(self, *operands: typing.Any, bits: int | None = None) -> Array | tuple[Array, ...]:
         """Its result, or its two; `bits` is the width where no operand is a word."""
@@ -52,11 +54,6 @@ class Counted:
         with tempfile.TemporaryDirectory(prefix="simdram_") as folder:
             path, text = os.path.join(folder, "prog"), os.path.join(folder, "ops")
             store(path, self.program)
-            ops = self.ops_text()
-            if ops is not None:
-                store(text, ops.encode())
-            return profiles(path, [checked_width(operator.index(bits))], taken([])[0], None if ops is None else text, True)[0]
-
-    def ops_text(self) -> str | None:
-        """The operation text that it was compiled from, if it was."""
-        return None
+            if self.ops_text is not None:
+                store(text, self.ops_text.encode())
+            return profiles(path, [checked_width(operator.index(bits))], taken([])[0], None if self.ops_text is None else text, True)[0]

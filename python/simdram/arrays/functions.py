@@ -89,13 +89,11 @@ def of_arrays(function: typing.Callable) -> typing.Callable:
 
 
 def of_truth(name: str) -> typing.Callable:
-    """A gate on truth values, where a number is true that is not 0."""
-    return lambda *operands: results_of(name, *(one if one.is_bit else one != 0 for one in as_arrays(operands)))[0]
-
-
-def as_arrays(operands: typing.Sequence[typing.Any]) -> typing.Sequence[typing.Any]:
-    """One or two operands as arrays of a chip."""
-    return both(*operands) if len(operands) == 2 else operands
+    """A gate on one or two truth values, where a number is true that is not 0."""
+    def gate(*operands: typing.Any) -> Array:
+        arrays = both(*operands) if len(operands) == 2 else operands
+        return results_of(name, *(one if one.is_bit else one != 0 for one in arrays))[0]
+    return gate
 
 
 UFUNCS: dict[str, typing.Callable] = {

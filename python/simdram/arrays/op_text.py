@@ -2,10 +2,8 @@
 
 import itertools
 import re
-import typing
 
 from .cutting import Part
-from .expressions import Step, Value
 from .operations import statement
 
 PARAMETERS, RESULTS = "abcd", "yz"
@@ -20,21 +18,12 @@ def text_of(name: str, part: Part) -> str:
     for step in part.steps:
         for value in step.results:
             names.setdefault(id(value), f"t{len(names) - given}")
-        lines.append(f"  {_statement(step, names, states)}\n")
-    takes, gives = (_listed(values, names) for values in (part.sources, part.results))
+        targets, arguments = ([names[id(value)] for value in values] for values in (step.results, step.arguments))
+        said = statement(step.operation, targets[0], arguments, states.__next__) if step.operation.block else \
+            f"{', '.join(targets)} = {step.operation.name}({', '.join(arguments)});"
+        lines.append(f"  {said}\n")
+    takes, gives = (", ".join(f"{names[id(value)]}: {value.kind}" for value in values) for values in (part.sources, part.results))
     return f"op {name}({takes}) -> {gives} {{\n{''.join(lines)}}}\n"
-
-
-def _statement(step: Step, names: dict[int, str], states: typing.Iterator[str]) -> str:
-    """A word statement, or the serial block of an operation that is one."""
-    targets, arguments = ([names[id(value)] for value in values] for values in (step.results, step.arguments))
-    if step.operation.block:
-        return statement(step.operation, targets[0], arguments, states.__next__)
-    return f"{', '.join(targets)} = {step.operation.name}({', '.join(arguments)});"
-
-
-def _listed(values: typing.Iterable[Value], names: dict[int, str]) -> str:
-    return ", ".join(f"{names[id(value)]}: {value.kind}" for value in values)
 
 
 def renamed(text: str, name: str) -> str:

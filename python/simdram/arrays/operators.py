@@ -130,7 +130,9 @@ def where(condition: typing.Any, first: typing.Any, second: typing.Any) -> typin
 
 def shifted(array: typing.Any, places: typing.Any, is_up: bool = True) -> typing.Any:
     """An array after a shift by so many places; of a signed one the top bit comes in again from above."""
-    count, is_signed_down = places_of(places), array.signed and not is_up
+    count, is_signed_down = operator.index(places), array.signed and not is_up
+    if count < 0:
+        raise Refused("bad_number", f"a shift by {count} places")
     if count >= array.bits and not is_signed_down:
         return array ^ array
     count = min(count, array.bits - 1)
@@ -138,14 +140,6 @@ def shifted(array: typing.Any, places: typing.Any, is_up: bool = True) -> typing
         return results_of("shl1" if is_up else "shr1", array)[0] if count else array
     value = layout.moved_up(array.value, count) if is_up else layout.moved_down(array.value, count, array.signed)
     return array.of_value(array.shape, value, array.signed) if count else array
-
-
-def places_of(places: typing.Any) -> int:
-    """How many places a shift goes."""
-    count = operator.index(places)
-    if count < 0:
-        raise Refused("bad_number", f"a shift by {count} places")
-    return count
 
 
 def results_of(name: str, *operands: typing.Any) -> tuple[typing.Any, ...]:

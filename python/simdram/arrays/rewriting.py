@@ -126,14 +126,6 @@ def div_and_rem(b, x, y):
     return None
 
 
-def div(b, x, y):
-    return b.do("divmod", x, y)
-
-
-def rem(b, x, y):
-    return b.results(OPERATIONS["divmod"], (x, y), x.bits)[1]
-
-
 def and_(b, x, y):
     if x is y or is_ones(y):
         return x
@@ -170,14 +162,6 @@ def xor(b, x, y):
     if is_ones(y):
         return b.do("not", x)
     return other_of("xor", x, y) or other_of("xor", y, x) or with_number(b, "xor", x, y)
-
-
-def not_(_b, x):
-    return under("not", x)
-
-
-def negative(_b, x):
-    return under("negative", x)
 
 
 def eq(b, x, y):
@@ -223,7 +207,11 @@ def if_else(b, x, y, condition):
         return x if x is y or number_of(condition) else y
     if under("not", condition) is not None:
         return b.do("if_else", y, x, under("not", condition))
-    return if_else_of_bits(b, x, y, condition) if x.kind == BIT else if_else_of_words(b, x, y, condition)
+    if x.kind == BIT:
+        return if_else_of_bits(b, x, y, condition)
+    if number_of(y) == 0:
+        return b.do("zero_unless", x, condition)
+    return b.do("zero_if", y, condition) if number_of(x) == 0 else None
 
 
 def if_else_of_bits(b, x, y, condition):
@@ -234,12 +222,6 @@ def if_else_of_bits(b, x, y, condition):
     if number_of(y) is not None:
         return b.do("or", b.do("not", condition), x) if number_of(y) else b.do("and", condition, x)
     return None
-
-
-def if_else_of_words(b, x, y, condition):
-    if number_of(y) == 0:
-        return b.do("zero_unless", x, condition)
-    return b.do("zero_if", y, condition) if number_of(x) == 0 else None
 
 
 def zero_unless(b, x, condition):
@@ -267,7 +249,9 @@ def greatest(_b, x, y):
 
 
 RULES: dict[str, typing.Callable] = {
-    "add": add, "sub": sub, "mul": mul, "div": div, "rem": rem, "divmod": div_and_rem, "and": and_, "or": or_, "xor": xor,
-    "not": not_, "copy": lambda _b, x: x, "eq": eq, "gt": gt, "ge": ge, "signed_gt": signed_gt, "signed_ge": signed_ge,
-    "if_else": if_else, "zero_unless": zero_unless, "zero_if": zero_if, "negative": negative, "min": least, "max": greatest,
+    "add": add, "sub": sub, "mul": mul, "div": lambda b, x, y: b.do("divmod", x, y), "divmod": div_and_rem,
+    "rem": lambda b, x, y: b.results(OPERATIONS["divmod"], (x, y), x.bits)[1],
+    "and": and_, "or": or_, "xor": xor, "not": lambda _b, x: under("not", x), "copy": lambda _b, x: x,
+    "eq": eq, "gt": gt, "ge": ge, "signed_gt": signed_gt, "signed_ge": signed_ge, "if_else": if_else, "zero_unless": zero_unless,
+    "zero_if": zero_if, "negative": lambda _b, x: under("negative", x), "min": least, "max": greatest,
 }

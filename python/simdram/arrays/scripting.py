@@ -71,14 +71,11 @@ class Scripts:
         if isinstance(value.origin, Held):
             return value.origin.name
         if id(value) not in self.objects:
-            self._make(value)
+            self.objects[id(value)] = f"v{next(self.names)}"
+            self.make(self.objects[id(value)], value.bits)
             if isinstance(value.origin, Constant):
                 self.lines.append(f"fill {self.objects[id(value)]}, {value.origin.number}")
         return self.objects[id(value)]
-
-    def _make(self, value: Value) -> None:
-        self.objects[id(value)] = f"v{next(self.names)}"
-        self.make(self.objects[id(value)], value.bits)
 
     def make(self, name: str, width: int) -> None:
         """The line that makes an object."""

@@ -1,5 +1,6 @@
 """The texts of a chip's ops, simplified at their widths where the chip asks for it, and kept on disk."""
 
+import functools
 import hashlib
 
 from ..launcher import run_program
@@ -18,7 +19,6 @@ class Texts:
     def __init__(self, is_simplified: bool = False) -> None:
         self.is_simplified = is_simplified
         self.known: dict[tuple[str, int], str] = {}
-        self._program = ""
 
     def compiled(self, text: str, width: int) -> str:
         """The text that is compiled for a text at a width."""
@@ -30,7 +30,7 @@ class Texts:
 
     def _kept(self, text: str, width: int) -> str:
         """The text that is kept on disk, or else what the tool finds now, which is kept."""
-        what = {"program": self._program_sum(), "width": width, "text": text}
+        what = {"program": self._program_sum, "width": width, "text": text}
         path = folder() / f"text-{hashlib.sha256(repr(sorted(what.items())).encode()).hexdigest()[:32]}.json"
         found = load_json(path)
         if isinstance(found, dict) and {**found, "compiled": ""} == {**what, "compiled": ""}:
@@ -40,11 +40,10 @@ class Texts:
             store_json(path, {**what, "compiled": compiled})
         return compiled
 
+    @functools.cached_property
     def _program_sum(self) -> str:
         """What tells a program's compiler from others."""
-        if not self._program:
-            self._program = sum_of(run_program.program(taken([])[0]))
-        return self._program
+        return sum_of(run_program.program(taken([])[0]))
 
 
 def simplified(text: str, width: int) -> tuple[str, bool]:

@@ -7,7 +7,7 @@ import numpy
 from . import cells
 from .array import Array
 from .costing import Cost
-from .expressions import Constant
+from .expressions import Constant, Value
 from .functions import PRODUCT, product
 from .operators import arrays_of
 from .running import Made
@@ -33,7 +33,7 @@ def summed(array: Array, axis: int | None) -> Array:
     if rest:
         return moved(current, numbers[0], made, read(current))
     number = Constant(int(cells.modulo(numbers, array.bits).reshape(-1)[0]), Made(cost=Cost(host_reads=read(current)), sources=(made,)))
-    return current.of_number(number)
+    return Array(array.chip, (), Value(array.value.kind, array.bits, number), number.made, array.signed)
 
 
 def _axis(axis: int | None, count: int) -> int | None:

@@ -16,13 +16,9 @@ class Op(Counted):
     """An op of the language, which takes and gives arrays; `text` is its canonical form."""
 
     def __init__(self, text: str) -> None:
-        self.text = text
+        self.text = self.ops_text = text
         self.name, takes, gives = HEAD.search(text).groups()
         self.takes, self.gives = ([one.split(": ")[1] for one in part.split(", ")] for part in (takes, gives))
-
-    def ops_text(self) -> str:
-        """The operation text that it is compiled from."""
-        return self.text
 
     @functools.cached_property
     def program(self) -> bytes:

@@ -95,7 +95,7 @@ class Lowering:
 
     def take(self, token: Token, what: str) -> int:
         """A free register for something: where there is none, that of a subscript that is kept."""
-        if self.kept and self.registers.are_all_taken:
+        if self.kept and len(self.registers.holds) == REGISTERS:
             self.registers.free(self.kept.pop(next(iter(self.kept))))
         return self.registers.take(token, what)
 

@@ -21,14 +21,10 @@ def one_width(entry: Entry) -> int | None:
 
 
 def own(entry: Entry) -> Entry:
-    """The entry without the instructions that check its width."""
-    code = entry.code[BEFORE:len(entry.code) - AFTER]
-    return dataclasses.replace(entry, code=tuple(moved(one) if one.kind == BNEZ else one for one in code))
-
-
-def moved(one: Instruction) -> Instruction:
-    """A jump whose target stands earlier by the instructions before."""
-    return Instruction(one.kind, one.raw[:2] + (one.number - BEFORE).to_bytes(2, "little") + one.raw[4:])
+    """The entry without the instructions that check its width: the target of each jump stands earlier by those before."""
+    return dataclasses.replace(entry, code=tuple(
+        Instruction(one.kind, one.raw[:2] + (one.number - BEFORE).to_bytes(2, "little") + one.raw[4:]) if one.kind == BNEZ else one
+        for one in entry.code[BEFORE:len(entry.code) - AFTER]))
 
 
 def other_width(entry: Entry, n: int) -> str:

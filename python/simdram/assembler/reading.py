@@ -43,12 +43,6 @@ def instruction_text(one: Instruction, entry: Entry, labels: dict[int, str], sub
     return " ".join([one.name, *(texts[letter] for letter in OPERANDS[one.kind])])
 
 
-def scratch_lines(entry: Entry) -> list[str]:
-    """The declarations of scratch, with the names of listings."""
-    found = [f"t{k}: bit" for k in range(entry.bits)] + [f"w{k}: word" for k in range(entry.words)]
-    return [f"scratch {', '.join(found)}"] if found else []
-
-
 def flat_lines(entry: Entry) -> list[str]:
     """The instructions one by one, with labels where jumps lead."""
     targets = sorted({one.number for one in entry.code if one.kind == BNEZ})
@@ -64,7 +58,8 @@ def readable_lines(entry: Entry) -> list[str]:
     """The text of an entry: with loops where that does the same commands at these widths, else with labels. Where it is for one
     width, `width` says so, and the instructions that check it are left out."""
     from .structuring import Unstructured, structured_lines
-    head, width = [head_line(entry), *scratch_lines(entry)], one_width(entry)
+    scratch = ", ".join([f"t{k}: bit" for k in range(entry.bits)] + [f"w{k}: word" for k in range(entry.words)])
+    head, width = [head_line(entry), *[f"scratch {scratch}"] * bool(scratch)], one_width(entry)
     code = entry if width is None else own(entry)
     with_width = head if width is None else [*head, f"width {width}"]
     try:
@@ -101,15 +96,11 @@ def head_line(entry: Entry) -> str:
     return f"program {entry.name}({takes}) -> {gives}"
 
 
-def entry_line(entry: Entry) -> str:
-    """The line that `list` prints before the instructions."""
-    second = " results=2" if len(entry.results) == 2 else ""
-    return f"entry {entry.name} sources={len(entry.sources)} bits={entry.bits} words={entry.words} code={len(entry.code)}{second}"
-
-
 def listing(entry: Entry) -> list[str]:
     """What `list` prints of an entry."""
-    return [entry_line(entry), *(f"{at} {one}" for at, one in enumerate(entry.code))]
+    second = " results=2" if len(entry.results) == 2 else ""
+    return [f"entry {entry.name} sources={len(entry.sources)} bits={entry.bits} words={entry.words} code={len(entry.code)}{second}",
+            *(f"{at} {one}" for at, one in enumerate(entry.code))]
 
 
 def raw_text(program: Program) -> str:

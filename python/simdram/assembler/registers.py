@@ -118,11 +118,6 @@ class Registers:
     def __init__(self, named: set[int]) -> None:
         self.holds = {register: "the program names it" for register in named}
 
-    @property
-    def are_all_taken(self) -> bool:
-        """Whether no register is free."""
-        return len(self.holds) == REGISTERS
-
     def take(self, token: Token, what: str) -> int:
         """A free register for something."""
         free = [register for register in range(REGISTERS) if register not in self.holds]

@@ -32,12 +32,6 @@ def read_names(block: Statement) -> list[str]:
     return [name for name in dict.fromkeys(names) if name not in block.lets]
 
 
-def input_names(block: Statement, shape: OpShape) -> list[str]:
-    """The names of a block's inputs."""
-    others = [name for name in read_names(block) if name not in block.starts]
-    return list(dict.fromkeys([*shape.sources, *others, *block.starts]))
-
-
 def positions_of(name: str, position: int, positions: int) -> str:
     """A word's name at one of an iteration's positions."""
     return f"{name}_{position}" if positions > 1 else name
@@ -46,11 +40,13 @@ def positions_of(name: str, position: int, positions: int) -> str:
 def written(block: Statement, shape: OpShape, positions: int = 1) -> Graph:
     """The graph of a block as it is written, over so many positions."""
     graph, states = Graph(), {}
+    others = [name for name in read_names(block) if name not in block.starts]
+    inputs = list(dict.fromkeys([*shape.sources, *others, *block.starts]))
     is_bit = {name for name, kind in shape.defined.items() if kind == "bit"} | set(block.starts)
     for k in range(positions):
         values = {"0": 0, "1": 1}
         values.update({name: states[name] if name in states else graph.input(name if name in is_bit else positions_of(name, k, positions))
-                       for name in input_names(block, shape)})
+                       for name in inputs})
         for name, expr in block.lets.items():
             values[name] = expr.computed(values.__getitem__, graph.gate)
         found = {name: expr.computed(values.__getitem__, graph.gate) for name, expr in block.assignments.items()}

@@ -48,11 +48,6 @@ class Names:
             self.of[signal] = made
         return self.of[signal]
 
-    @property
-    def notes(self) -> str:
-        """Which names were changed, as comments."""
-        return "".join(f"# {signal} is {name}\n" for signal, name in self.of.items() if signal != name and not signal.startswith("let "))
-
 
 class Block:
     """A block from a netlist: its states, words and bits, and its expressions."""
@@ -105,7 +100,8 @@ class Block:
         for signal, target in targets.items():
             shown = self.names.of[f"let {signal}"] if signal in self.lets else self.value(signal)
             lines.append(f"    {target} = {shown};")
-        return self.names.notes + "\n".join([*lines, "  }", "}", ""])
+        changed = "".join(f"# {its} is {one}\n" for its, one in self.names.of.items() if its != one and not its.startswith("let "))
+        return changed + "\n".join([*lines, "  }", "}", ""])
 
     def let(self, signal: str) -> str:
         """The name of a let; that of an output is another one than the output's."""

@@ -25,11 +25,6 @@ def weight(table: Table) -> int:
     return 3 * text.count("xor(") + text.count("and(") + text.count("or(") - text.count("xor(") + text.count("maj(")
 
 
-def is_small(net: Netlist) -> bool:
-    """Whether an op has room for the inputs and outputs of a netlist."""
-    return len(net.sources) <= SOURCES and len(net.words) <= RESULTS
-
-
 class Cone(typing.NamedTuple):
     """A signal as it is computed in one op: the signals that it is computed from, and the tables between."""
 
@@ -162,7 +157,8 @@ class Splitter:
 
 def split(net: Netlist, path: str) -> list[Netlist]:
     """The netlist, or several in order where an op has no room for it."""
-    found = [net] if is_small(net) else Splitter(net, path).pieces()
+    is_small = len(net.sources) <= SOURCES and len(net.words) <= RESULTS
+    found = [net] if is_small else Splitter(net, path).pieces()
     if len(found) == 1:
         found[0].name = net.name
     return found
