@@ -39,7 +39,6 @@ class Script(typing.NamedTuple):
 
     @classmethod
     def load(cls, path: str) -> "Script":
-        """The script in a file."""
         data = load(path, "script")
         instructions, fault = read_script(path, data)
         if fault:
@@ -115,7 +114,6 @@ def host_rows(totals: dict, table: Table) -> dict:
 
 
 def cell(found: dict, name: str) -> str:
-    """A cell of the table."""
     if name == "status" and found["status"] == "refused":
         return " ".join(["refused", found["word"], *map(str, found["at"])])
     given = found.get(name, "")
@@ -129,8 +127,7 @@ def table_of(made: dict) -> str:
 
 
 def parser() -> argparse.ArgumentParser:
-    made = tool_parser("report", __name__)
-    made.add_argument("report", metavar="REPORT", nargs="?")
+    made = tool_parser("report", __name__, "[REPORT]")
     made.add_argument("--json", action="store_true", help="one JSON object")
     made.add_argument("--script", metavar="SCRIPT", help="the script that was executed; needs --image")
     made.add_argument("--image", metavar="IMAGE", help="the image that it was executed on")

@@ -55,7 +55,6 @@ class Instruction:
 
     @property
     def name(self) -> str:
-        """What it is called."""
         return NAMES[self.kind]
 
     @property
@@ -129,11 +128,9 @@ class Program:
 
     @classmethod
     def load(cls, path: str) -> "Program":
-        """The program in a file."""
         return cls.read(load(path, "program"), path)
 
     def file(self) -> bytes:
-        """The program file, of this version."""
         head, start = MAGIC + self.version.to_bytes(2, "little") + len(self.entries).to_bytes(2, "little"), 0
         for entry in self.entries:
             shape = bytes([len(entry.sources), entry.kinds, entry.bits, entry.words])
@@ -142,7 +139,6 @@ class Program:
         return head + b"".join(one.raw for entry in self.entries for one in entry.code)
 
     def find(self, name: str) -> Entry:
-        """The entry of this name."""
         for entry in self.entries:
             if entry.name == name:
                 return entry
@@ -187,7 +183,6 @@ def read_kinds(fields: Fields, version: int, name: str, count: int) -> typing.Tu
 
 
 def read_code(fields: Fields, head: Entry, count: int) -> typing.Tuple[Instruction, ...]:
-    """The instructions of an entry."""
     return tuple(read_instruction(fields, head, count, at) for at in range(count))
 
 

@@ -3,7 +3,6 @@
 It shows crate by crate what is being proved and about how long it still takes. Ctrl-C stops it; the next call goes on.
 """
 
-import argparse
 import os
 import shutil
 import subprocess
@@ -142,12 +141,8 @@ def prove() -> None:
     os.utime(out / PROVED, ns=(began, began))
 
 
-def parser() -> argparse.ArgumentParser:
-    return tool_parser("prove", __name__)
-
-
 def main(words: list[str], _settings: Settings) -> int:
-    parser().parse_args(words)
+    tool_parser("prove", __name__).parse_args(words)
     if is_old(out_folder() / PROVED, SOURCES[PROVED]):
         prove()
     print(out_folder() / PROVED)

@@ -87,7 +87,6 @@ def first_fault(kind: str, path: str, data: bytes) -> Answer | None:
 
 
 def answer_of(path: str, data: bytes, refusal: Refusal, what: str) -> Answer:
-    """A refusal as an answer."""
     return at_token(path, data, refusal.token, f"{what} refused {refusal.word}", refusal.rule, refusal.right)
 
 

@@ -41,7 +41,6 @@ class Expr(typing.NamedTuple):
 
 
 def read(name: str) -> Expr:
-    """A name that is read."""
     return Expr("read", (), name)
 
 
@@ -110,7 +109,6 @@ class Op:
 
 
 def block_lines(block: Block) -> typing.List[str]:
-    """The lines of a block."""
     states = ", ".join(f"{name} = {start}" for name, start in block.states)
     lines = [f"  serial {block.direction} ({states}) {{"]
     lines += [f"    let {name} = {value};" for name, value in block.lets]
@@ -119,7 +117,6 @@ def block_lines(block: Block) -> typing.List[str]:
 
 
 def body_text(body: Body) -> str:
-    """The lines of a body."""
     lines: typing.List[str] = []
     for one in body:
         if isinstance(one, WordStatement):

@@ -140,7 +140,6 @@ def check_numbers(one: Instruction) -> None:
 
 
 def order_of(head: Token, words: list[Token]) -> Instruction:
-    """The instruction `order`."""
     texts = [token.text for token in words[:-1]]
     if texts in (["in"], ["turns"]):
         return Instruction("order", head)

@@ -28,7 +28,6 @@ class Forms(Sums):
         return a
 
     def do_zero(self) -> int:
-        """The constant 0."""
         return 0
 
     def do_ones(self) -> int:
@@ -68,11 +67,9 @@ class Forms(Sums):
         return self.graph.gate("mux", s, a, b)
 
     def do_min(self, a: int, b: int) -> int:
-        """The lesser."""
         return self._extreme("min", a, b)
 
     def do_max(self, a: int, b: int) -> int:
-        """The greater."""
         return self._extreme("max", a, b)
 
     def _extreme(self, op: str, a: int, b: int) -> int:

@@ -63,11 +63,9 @@ class Graph:
         self.forms: typing.Dict[int, typing.List[Form]] = {}
 
     def node(self, lit: int) -> Node:
-        """The node of a literal."""
         return self.nodes[lit >> 1]
 
     def leaf(self, kind: str, ident: typing.Any, place: int = 0) -> int:
-        """The literal of a leaf."""
         key = (kind, ident, place)
         if key not in self.by_leaf:
             number = self._new(Node(kind, (), ident, place))

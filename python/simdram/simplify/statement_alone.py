@@ -104,7 +104,6 @@ def normal(one: Statement) -> Statement:
 
 
 def alone(one: Statement, kinds: typing.Mapping[str, str]) -> Alone:
-    """A statement by itself."""
     names: typing.Dict[str, str] = {}
     plain = by_places(normal(one), names)
     made = dict(made_by(one, kinds))
