@@ -20,7 +20,7 @@ from ..launcher.faults import Fault
 from ..launcher.overwrite import content
 from ..launcher.settings import Settings
 from ..launcher.tool_parser import tool_parser
-from ..rules.script_rules import Instruction, read_script
+from ..rules.script_rules import Instruction, loaded_script
 from .table_formats import as_text
 
 OK = re.compile(r"(\d+) ok aap=(\d+) ap=(\d+)")
@@ -39,10 +39,7 @@ class Script(typing.NamedTuple):
 
     @classmethod
     def load(cls, path: str) -> "Script":
-        data = load(path, "script")
-        instructions, fault = read_script(path, data)
-        if fault:
-            raise Fault(f"{path} {fault.place}: {fault.kind}: {fault.rule}")
+        instructions, data = loaded_script(path)
         ends = [data[one.head.at:].split(b"\n", 1)[0] for one in instructions]
         return cls(instructions, [line.decode("utf-8", "replace").partition("#")[0].strip() for line in ends])
 

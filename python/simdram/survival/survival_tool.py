@@ -24,8 +24,7 @@ from ..launcher.faults import Fault
 from ..launcher.parallel import in_parallel
 from ..launcher.settings import Settings
 from ..launcher.tool_parser import tool_parser
-from .flip_draws import Cells, drawn, rate_of, text_of
-from .flips_tool import cells_of, seed_of
+from .flips_tool import Cells, cells_of, drawn, rate_of, seed_of, text_of
 
 HEAD = ("rate", "runs", "right", "share", "low", "high", "flips_mean", "flips_least", "flips_most", "first_wrong_seed")
 RUNS_MOST = 1_000_000
