@@ -13,7 +13,6 @@ NUMBER = re.compile(r"-?\d+(\.\d+)?%?|")
 
 
 def texts(rows: Rows) -> list[list[str]]:
-    """The cells as texts."""
     return [[str(cell) for cell in row] for row in rows]
 
 

@@ -51,7 +51,6 @@ def _array(size: int, data: typing.Any) -> array.array:
 
 
 def numbers_of(cells: bytes, size: int) -> typing.List[int]:
-    """The numbers that cells hold."""
     if size < 16:
         return _array(size, cells).tolist()
     halves = _array(8, cells).tolist()

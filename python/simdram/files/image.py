@@ -56,11 +56,9 @@ class Image(Table):
 
     @classmethod
     def load(cls, path: str) -> "Image":
-        """The image in a file."""
         return cls.read(load(path, "image"), path)
 
     def file(self) -> bytes:
-        """The image file."""
         return self.head(MAGIC) + bytes(self.contents)
 
     def save(self, path: str) -> None:
@@ -68,7 +66,6 @@ class Image(Table):
         store(path, self.file())
 
     def find(self, name: str) -> Object:
-        """The object of this name."""
         found = super().find(name)
         if found:
             return found

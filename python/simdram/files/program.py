@@ -4,13 +4,16 @@ import dataclasses
 import re
 import typing
 
+from . import decode
 from .fault import FileFault
 from .fields import Fields, name_field
-from .row_rules import (B_ADDRESS, BIT, C_ADDRESS, INDEXED, REGISTERS, RESULT, SOURCE, SPILL, SPILLS, WORD,  # for its readers too
-                        wrong_rows)
 from .store import load
 
 MAGIC = b"SDMP"
+REGISTERS, SPILLS, CONSTANTS = 8, 32, 2
+B_ADDRESS, C_ADDRESS, RESULT, SOURCE, BIT, WORD, SPILL = range(7)
+INDEXED = (RESULT, SOURCE, WORD)
+SPACES = ("B address", "C address", "result", "source", "bit of scratch", "word of scratch", "spill row")
 # the first word of a text, after comments
 FIRST_WORD = re.compile(rb"(?:[ \t\r\n]+|#[^\n]*)*([A-Za-z_]\w*)")
 ENTRIES, SOURCES, CODE, LARGEST = 32, (1, 4), (1, 65535), 1023
@@ -55,7 +58,6 @@ class Instruction:
 
     @property
     def name(self) -> str:
-        """What it is called."""
         return NAMES[self.kind]
 
     @property
@@ -129,11 +131,9 @@ class Program:
 
     @classmethod
     def load(cls, path: str) -> "Program":
-        """The program in a file."""
         return cls.read(load(path, "program"), path)
 
     def file(self) -> bytes:
-        """The program file, of this version."""
         head, start = MAGIC + self.version.to_bytes(2, "little") + len(self.entries).to_bytes(2, "little"), 0
         for entry in self.entries:
             shape = bytes([len(entry.sources), entry.kinds, entry.bits, entry.words])
@@ -142,7 +142,6 @@ class Program:
         return head + b"".join(one.raw for entry in self.entries for one in entry.code)
 
     def find(self, name: str) -> Entry:
-        """The entry of this name."""
         for entry in self.entries:
             if entry.name == name:
                 return entry
@@ -187,7 +186,6 @@ def read_kinds(fields: Fields, version: int, name: str, count: int) -> typing.Tu
 
 
 def read_code(fields: Fields, head: Entry, count: int) -> typing.Tuple[Instruction, ...]:
-    """The instructions of an entry."""
     return tuple(read_instruction(fields, head, count, at) for at in range(count))
 
 
@@ -222,3 +220,47 @@ def wrong_operand(one: Instruction) -> typing.Optional[str]:
     named = NAMED[one.kind]
     spare = next((at for at in range(named, len(one.raw)) if one.raw[at]), None)
     return None if spare is None else f"has {one.raw[spare]} in byte {spare}, which is not named there and has to be 0"
+
+
+def counted(count: int, what: str) -> str:
+    """A number of things, in words: `no bit of scratch`, `1 source`, `2 sources`, `2 bits of scratch`."""
+    head, of, rest = what.partition(" of ")
+    return f"{count or 'no'} {head}{'es' if head.endswith('s') and count > 1 else 's' if count > 1 else ''}{of}{rest}"
+
+
+def wrong_row(row: Row, head: Entry) -> str | None:
+    """What is wrong with a row of an entry, wherever it stands, or nothing."""
+    if row.space >= len(SPACES):
+        return f"is of space {row.space}; spaces are 0 to {len(SPACES) - 1}"
+    what = SPACES[row.space]
+    count = (decode.B_ADDRESSES, CONSTANTS, len(head.results), len(head.sources), head.bits, head.words, SPILLS)[row.space]
+    if row.which >= count:
+        owner = "the chip" if row.space in (B_ADDRESS, C_ADDRESS, SPILL) else head.name
+        return f"is {what} {row.which}, counted from 0; {owner} has {counted(count, what)}"
+    if row.space in INDEXED and row.index > REGISTERS:
+        return f"has index {row.index}; an index is 0 to 7 for a register, or 8 for the number 0"
+    if row.space not in INDEXED and row.index:
+        return f"is a {what} with index byte {row.index}; it takes no index, so the byte is 0"
+    return None
+
+
+def wrong_place(rows: typing.Sequence[Row]) -> str | None:
+    """What is wrong with where the rows of a command stand, or nothing."""
+    first, *others = rows
+    if first.space == B_ADDRESS and not decode.legal_first("B", first.which):
+        return f"row 1 is {first}: B8 to B11 raise two wordlines, and only the second row may be one of them"
+    for second in others:
+        if second.space == C_ADDRESS:
+            return f"row 2 is {second}, a constant; no command may write it"
+        if second.space == SOURCE:
+            return f"row 2 is {second}, a source; no command may write it"
+    return None
+
+
+def wrong_rows(rows: typing.Sequence[Row], head: Entry) -> str | None:
+    """What is wrong with the rows of a command, or nothing."""
+    for number, row in enumerate(rows, 1):
+        wrong = wrong_row(row, head)
+        if wrong:
+            return f"row {number} {wrong}"
+    return wrong_place(rows) if rows else None

@@ -24,7 +24,6 @@ class Address(typing.NamedTuple):
         return f"{self.group}{self.number}"
 
     def file(self) -> bytes:
-        """Its bytes in a trace file."""
         return bytes([decode.GROUPS.index(self.group)]) + self.number.to_bytes(2, "little")
 
 
@@ -41,7 +40,6 @@ class Event:
         return " ".join(["bank", str(self.bank), self.kind, *map(str, self.addresses)])
 
     def file(self) -> bytes:
-        """Its bytes in a trace file."""
         places = b"".join(one.file() for one in self.addresses)
         return bytes([KINDS.index(self.kind), self.bank]) + places.ljust(6, b"\0") + self.row
 
@@ -69,11 +67,9 @@ class Trace(Table):
 
     @classmethod
     def load(cls, path: str) -> "Trace":
-        """The trace in a file."""
         return cls.read(load(path, "trace"), path)
 
     def file(self) -> bytes:
-        """The trace file."""
         count = len(self.events).to_bytes(4, "little")
         return self.head(MAGIC) + count + b"".join(event.file() for event in self.events)
 

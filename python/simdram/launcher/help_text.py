@@ -35,7 +35,6 @@ def columns(commands) -> str:
 
 
 def all_commands() -> str:
-    """Help on all commands."""
     return f"{HEAD}\nThe program's commands\n{columns(PROGRAM)}\nThe tools around them\n{columns(TOOLS)}\n{FOOT}"
 
 

@@ -20,6 +20,9 @@ class Parser(argparse.ArgumentParser):
         (file or sys.stderr).write(message)
 
 
-def tool_parser(name: str, module: str) -> argparse.ArgumentParser:
-    """A parser for the words of this tool."""
-    return Parser(prog=f"simdram {name}", description=about(module), formatter_class=argparse.RawDescriptionHelpFormatter)
+def tool_parser(name: str, module: str, *words: str) -> argparse.ArgumentParser:
+    """A parser for the words of this tool: those without options, of which `[WORD]` may be left out."""
+    made = Parser(prog=f"simdram {name}", description=about(module), formatter_class=argparse.RawDescriptionHelpFormatter)
+    for word in words:
+        made.add_argument(word.strip("[]").lower(), metavar=word.strip("[]"), nargs="?" if word.startswith("[") else None)
+    return made

@@ -85,7 +85,6 @@ class OpShape:
             self.defined.setdefault(name, kind)
 
     def tree(self) -> Op:
-        """The op as a tree."""
         return Op(self.name, tuple(self.sources.items()), tuple(self.results.items()), [one.tree() for one in self.statements],
                   self.first.at, self.last.at + 1)
 

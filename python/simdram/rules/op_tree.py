@@ -31,13 +31,16 @@ class Expr(typing.NamedTuple):
         for arg in self.args:
             yield from arg.names()
 
+    def renamed(self, names: typing.Callable[[str], str]) -> "Expr":
+        """The same of other names."""
+        return read(names(self.name)) if self.gate == "read" else self._replace(args=tuple(arg.renamed(names) for arg in self.args))
+
     def computed(self, of: typing.Callable[[str], Value], made: typing.Callable[[str, typing.List[Value]], Value]) -> Value:
         """What it gives, from the value of each name and constant and of each gate on values."""
         return made(self.gate, [arg.computed(of, made) for arg in self.args]) if self.args else of(self.name or self.gate)
 
 
 def read(name: str) -> Expr:
-    """A name that is read."""
     return Expr("read", (), name)
 
 
@@ -54,6 +57,10 @@ class WordStatement:
     op: str
     args: typing.Tuple[str, ...]
 
+    def renamed(self, names: typing.Callable[[str], str]) -> "WordStatement":
+        """The same of other names."""
+        return WordStatement(tuple(map(names, self.targets)), self.op, tuple(map(names, self.args)))
+
 
 @dataclasses.dataclass(frozen=True)
 class Block:
@@ -63,6 +70,15 @@ class Block:
     states: typing.Tuple[typing.Tuple[str, int], ...]
     lets: typing.Tuple[typing.Tuple[str, Expr], ...]
     assigns: typing.Tuple[typing.Tuple[str, Expr], ...]
+
+    def changed(self, of: typing.Callable[[Expr], Expr], names: typing.Callable[[str], str] = str) -> "Block":
+        """The block with other right sides, and other names of its own."""
+        lets, assigns = (tuple((names(name), of(expr)) for name, expr in part) for part in (self.lets, self.assigns))
+        return Block(self.direction, tuple((names(name), start) for name, start in self.states), lets, assigns)
+
+    def renamed(self, names: typing.Callable[[str], str]) -> "Block":
+        """The same of other names."""
+        return self.changed(lambda expr: expr.renamed(names), names)
 
     @property
     def expressions(self) -> typing.List[Expr]:
@@ -93,7 +109,6 @@ class Op:
 
 
 def block_lines(block: Block) -> typing.List[str]:
-    """The lines of a block."""
     states = ", ".join(f"{name} = {start}" for name, start in block.states)
     lines = [f"  serial {block.direction} ({states}) {{"]
     lines += [f"    let {name} = {value};" for name, value in block.lets]
@@ -102,7 +117,6 @@ def block_lines(block: Block) -> typing.List[str]:
 
 
 def body_text(body: Body) -> str:
-    """The lines of a body."""
     lines: typing.List[str] = []
     for one in body:
         if isinstance(one, WordStatement):

@@ -3,7 +3,7 @@
 import typing
 
 from ..launcher.words import nearest
-from .answer import Answer, Breach, at_token
+from .answer import Answer, Breach
 from .operands import FORM, Operand
 from .tokens import END, NAME, NUMBER, STRANGER, Token, no_token, tokens, value_of
 

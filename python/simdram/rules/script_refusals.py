@@ -176,7 +176,6 @@ class Checker:
 
 
 def bits(width: int) -> str:
-    """A width in words."""
     return f"{width} bit{'s' * (width != 1)}"
 
 

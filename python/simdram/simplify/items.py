@@ -101,7 +101,6 @@ class Items:
         return lit > 1 and all(self.graph.nodes[leaf].kind in ("bit", LAST) for leaf in self.graph.leaves[lit >> 1])
 
     def states_in(self, number: int) -> typing.FrozenSet[int]:
-        """The states of a component."""
         return self.components[number]
 
     def is_read_last(self, number: int) -> bool:

@@ -61,7 +61,6 @@ def _joined(plan: Plan, one: Item, other: Item) -> Plan:
 
 
 def merged(items: Items, plan: Plan) -> Plan:
-    """All merged that can be."""
     while True:
         least = possible(items, plan)
         trial = next((one for one in merges(plan) if possible(items, one) >= max(least, TOO_GREAT)), None)

@@ -2,7 +2,7 @@
 
 import typing
 
-from ..rules.op_tree import BIT, WORD, Block, Expr, Statement, WordStatement, body_text, made_by, read
+from ..rules.op_tree import BIT, WORD, Block, Expr, Statement, WordStatement, body_text, made_by
 
 # what a word by `zero` and a bit by `not` take in commands
 ZERO, NOT_BIT = 1, 2
@@ -53,11 +53,6 @@ class Alone(typing.NamedTuple):
         return Cost(cost.commands - (self.words + 1) * ZERO * n - self.bits * NOT_BIT, cost.rows - self.words * n - self.bits - made)
 
 
-def renamed(expr: Expr, names: typing.Callable[[str], str]) -> Expr:
-    """An expression with other names."""
-    return read(names(expr.name)) if expr.gate == "read" else Expr(expr.gate, tuple(renamed(arg, names) for arg in expr.args))
-
-
 def operands(expr: Expr, gate: str) -> typing.Iterator[Expr]:
     """The operands of nested gates of one kind."""
     for arg in expr.args:
@@ -90,7 +85,7 @@ def by_places(one: Statement, names: typing.Dict[str, str]) -> Statement:
         return names.setdefault(name, f"v{len(names)}")
 
     def of_pairs(pairs: Pairs) -> Pairs:
-        found = [(name, renamed(expr, again)) for name, expr in pairs]
+        found = [(name, expr.renamed(again)) for name, expr in pairs]
         return tuple((again(name), expr) for name, expr in found)
 
     if isinstance(one, WordStatement):
@@ -100,32 +95,15 @@ def by_places(one: Statement, names: typing.Dict[str, str]) -> Statement:
     return Block(one.direction, tuple((again(name), start) for name, start in one.states), lets, assigns)
 
 
-def ordered(one: Statement) -> Statement:
-    """A statement with its gates in one order."""
-    if isinstance(one, WordStatement):
-        return one
-    lets, assigns = (tuple((name, in_order(expr)) for name, expr in pairs) for pairs in (one.lets, one.assigns))
-    return Block(one.direction, one.states, lets, assigns)
-
-
 def normal(one: Statement) -> Statement:
     """A statement as it is measured, with its own names."""
     names: typing.Dict[str, str] = {}
-    found = ordered(by_places(one, names))
+    found = by_places(one, names)
     own = {place: name for name, place in names.items()}
-    return with_names(found, own.__getitem__)
-
-
-def with_names(one: Statement, names: typing.Callable[[str], str]) -> Statement:
-    """A statement with other names."""
-    if isinstance(one, WordStatement):
-        return WordStatement(tuple(map(names, one.targets)), one.op, tuple(map(names, one.args)))
-    lets, assigns = (tuple((names(name), renamed(expr, names)) for name, expr in pairs) for pairs in (one.lets, one.assigns))
-    return Block(one.direction, tuple((names(name), start) for name, start in one.states), lets, assigns)
+    return (found.changed(in_order) if isinstance(found, Block) else found).renamed(own.__getitem__)
 
 
 def alone(one: Statement, kinds: typing.Mapping[str, str]) -> Alone:
-    """A statement by itself."""
     names: typing.Dict[str, str] = {}
     plain = by_places(normal(one), names)
     made = dict(made_by(one, kinds))

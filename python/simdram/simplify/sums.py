@@ -101,14 +101,6 @@ class Sums(Comparisons):
         number = self.graph.whole("divmod", a, b)
         return self.graph.leaf(WHOLE, number, 0), 0 if a == b else self.graph.leaf(WHOLE, number, 1)
 
-    def do_div(self, a: int, b: int) -> int:
-        """The quotient alone."""
-        return self.divide(a, b)[0]
-
-    def do_rem(self, a: int, b: int) -> int:
-        """The remainder alone."""
-        return self.divide(a, b)[1]
-
     def do_mul(self, a: int, b: int) -> int:
         """A product, which stays whole."""
         a, b = sorted((a, b))

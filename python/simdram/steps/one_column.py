@@ -116,7 +116,6 @@ def place_of(name: str, entry: Entry, width: int) -> Place:
 
 
 def inverted(bit: Bit, is_inverted: bool) -> Bit:
-    """A bit, or its complement."""
     return bit if bit is None or not is_inverted else 1 - bit
 
 

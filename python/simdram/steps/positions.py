@@ -26,7 +26,6 @@ class Positions:
             self.held[one.register] = changed(one, self.held.__getitem__)
 
     def of(self, row: Row) -> Form:
-        """The position of a row."""
         return self.held[row.index] if row.space in INDEXED and row.index < REGISTERS else Form()
 
 

@@ -158,9 +158,7 @@ class View:
 
 
 def parser() -> argparse.ArgumentParser:
-    made = tool_parser("steps", __name__)
-    made.add_argument("prog", metavar="PROG")
-    made.add_argument("op", metavar="OP")
+    made = tool_parser("steps", __name__, "PROG", "OP")
     made.add_argument("--ops", metavar="OPS", help="the operation text that PROG was compiled from")
     made.add_argument("--with", dest="numbers", metavar="A=N,B=N", help="a number for each operand: cells show their bits")
     made.add_argument("--width", type=int, metavar="N", help="the width with --with; else the first of 8, 16, .. that holds the numbers")
