@@ -88,8 +88,7 @@ class Checker:
         past = (operand.past(self.table, place) for place, operand in enumerate(one.operands))
         return next(filter(None, absent), None) or next(filter(None, past), None)
 
-    def do_print(self, one: Instruction) -> Refusal | None:
-        return self.places(one)
+    do_print = places
 
     def do_load(self, one: Instruction) -> Refusal | None:
         return self.places(one) or self.count_of(one) or self.range_of(one)

@@ -125,19 +125,10 @@ class Search:
             self.best = min([self.best, *found], key=lambda one: one.score)
         return found
 
-    def climb(self, items: Items, best: Found) -> Found:
-        """Goes to a better plan next to a plan as long as there is one."""
+    def climb(self, items: Items, best: Found, beside: typing.Callable[[Items, Plan], list[Plan]] = moves) -> Found:
+        """Goes to a better plan beside a plan as long as there is one."""
         while best.plan is not None:
-            found = self.best_of(items, moves(items, best.plan), best)
-            if found is best:
-                break
-            best = found
-        return best
-
-    def spelled(self, items: Items, best: Found) -> Found:
-        """The best spelling of a plan: of its choices, of its states' polarity, and as blocks where word statements do."""
-        while best.plan is not None:
-            found = self.best_of(items, spellings(items, best.plan, range(STYLES + DRAWN)), best)
+            found = self.best_of(items, beside(items, best.plan), best)
             if found is best:
                 break
             best = found
@@ -169,7 +160,8 @@ class Search:
                         best, lowered, choice = self._better(trial, best, lowered, choice)
             if best is before:
                 break
-        self.spelled(Items(lowered), best)
+        # the spellings of the best: its choices, its states' polarity, and blocks where word statements do
+        self.climb(Items(lowered), best, lambda items, plan: spellings(items, plan, range(STYLES + DRAWN)))
 
     def _better(self, trial: list[int], best: Found, lowered: Lowered, choice: list[int]) -> tuple[Found, Lowered, list[int]]:
         """The trial where it is better, else what was found before."""
