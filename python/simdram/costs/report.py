@@ -34,8 +34,8 @@ COLUMNS = ("number", "status", "aap", "ap", "banks", "aap_per_bank", "ap_per_ban
 class Script(typing.NamedTuple):
     """A script's instructions, and their lines."""
 
-    instructions: typing.List[Instruction]
-    lines: typing.List[str]
+    instructions: list[Instruction]
+    lines: list[str]
 
     @classmethod
     def load(cls, path: str) -> "Script":

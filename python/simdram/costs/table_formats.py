@@ -5,7 +5,7 @@ import io
 import re
 import typing
 
-Rows = typing.List[list]
+Rows = list[list]
 # what LaTeX reads as more than itself
 LATEX = {"\\": r"\textbackslash{}", "~": r"\textasciitilde{}", "^": r"\textasciicircum{}",
          **{sign: f"\\{sign}" for sign in "&%$#_{}"}}

@@ -61,7 +61,7 @@ class Instruction:
         return NAMES[self.kind]
 
     @property
-    def rows(self) -> typing.List[Row]:
+    def rows(self) -> list[Row]:
         """Its one or two rows where it is a command."""
         return [Row(*self.raw[at:at + 3]) for at in (1, 4)][:{AAP: 2, AP: 1}.get(self.kind, 0)]
 
@@ -92,11 +92,11 @@ class Entry:
     """An entry: its operands by kind (`word` or `bit`), its scratch rows and words, and its code."""
 
     name: str
-    sources: typing.Tuple[str, ...]
-    results: typing.Tuple[str, ...]
+    sources: tuple[str, ...]
+    results: tuple[str, ...]
     bits: int
     words: int
-    code: typing.Tuple[Instruction, ...] = ()
+    code: tuple[Instruction, ...] = ()
 
     @property
     def kinds(self) -> int:
@@ -112,7 +112,7 @@ class Entry:
 class Program:
     """A program: the version of its file, and its entries in order."""
 
-    entries: typing.List[Entry]
+    entries: list[Entry]
     version: int = 2
 
     @classmethod
@@ -158,9 +158,9 @@ def text_hint(data: bytes) -> str:
     return "; it is a text of microprograms: assemble it first, by `simdram assemble`" if word in (b"program", b"version") else ""
 
 
-def read_directory(fields: Fields, version: int) -> typing.List[typing.Tuple[Entry, int]]:
+def read_directory(fields: Fields, version: int) -> list[tuple[Entry, int]]:
     """The entries without their code, and the counts of their instructions."""
-    heads: typing.List[typing.Tuple[Entry, int]] = []
+    heads: list[tuple[Entry, int]] = []
     start = 0
     for _ in range(fields.within(2, 0, ENTRIES, "directory", "the number of entries")):
         name = fields.name("directory", {head.name for head, _ in heads})
@@ -174,7 +174,7 @@ def read_directory(fields: Fields, version: int) -> typing.List[typing.Tuple[Ent
     return heads
 
 
-def read_kinds(fields: Fields, version: int, name: str, count: int) -> typing.Tuple[typing.Tuple[str, ...], ...]:
+def read_kinds(fields: Fields, version: int, name: str, count: int) -> tuple[tuple[str, ...], ...]:
     """The kinds of the sources and of the results."""
     byte = fields.number(1)
     second = byte >> 5 & 1
@@ -185,7 +185,7 @@ def read_kinds(fields: Fields, version: int, name: str, count: int) -> typing.Tu
     return tuple(kinds[:count]), tuple([kinds[4], kinds[6]][:1 + second])
 
 
-def read_code(fields: Fields, head: Entry, count: int) -> typing.Tuple[Instruction, ...]:
+def read_code(fields: Fields, head: Entry, count: int) -> tuple[Instruction, ...]:
     return tuple(read_instruction(fields, head, count, at) for at in range(count))
 
 
@@ -209,7 +209,7 @@ def read_instruction(fields: Fields, head: Entry, count: int, at: int) -> Instru
     return one
 
 
-def wrong_operand(one: Instruction) -> typing.Optional[str]:
+def wrong_operand(one: Instruction) -> str | None:
     """What is wrong with the registers, the number or the unnamed bytes of an instruction, or nothing."""
     operands = OPERANDS[one.kind]
     for letter, register in (("r", one.register), ("s", one.other)):

@@ -33,7 +33,7 @@ class Event:
 
     kind: str
     bank: int
-    addresses: typing.Tuple[Address, ...]
+    addresses: tuple[Address, ...]
     row: bytes = b""
 
     def __str__(self) -> str:
@@ -48,7 +48,7 @@ class Event:
 class Trace(Table):
     """A trace: its geometry, its objects, and its events."""
 
-    events: typing.List[Event] = dataclasses.field(default_factory=list)
+    events: list[Event] = dataclasses.field(default_factory=list)
 
     @classmethod
     def read(cls, data: bytes, path: str = "trace") -> "Trace":
@@ -58,7 +58,7 @@ class Trace(Table):
         return made
 
     @classmethod
-    def opened(cls, data: bytes, path: str = "trace") -> "typing.Tuple[Trace, typing.Iterator[Event]]":
+    def opened(cls, data: bytes, path: str = "trace") -> "tuple[Trace, typing.Iterator[Event]]":
         """The trace of a file's bytes without its events, and the events, each read when it is asked for."""
         fields = Fields(data, path)
         table = Table.taken(fields, MAGIC, "trace")
@@ -75,7 +75,7 @@ class Trace(Table):
 
     def _events(self, fields: Fields, count: int) -> typing.Iterator[Event]:
         """The events, one after another; equal commands are one event."""
-        known: typing.Dict[bytes, Event] = {}
+        known: dict[bytes, Event] = {}
         for _ in range(count):
             raw = fields.taken(8)
             event = known.get(raw) or self._event(fields, raw)
@@ -104,7 +104,7 @@ class Trace(Table):
         return Address(decode.GROUPS[raw[0]], number)
 
     @staticmethod
-    def _check_places(fields: Fields, kind: str, addresses: typing.Tuple[Address, ...]) -> None:
+    def _check_places(fields: Fields, kind: str, addresses: tuple[Address, ...]) -> None:
         """A write goes to a data row; two lines are not activated first, and C rows are not written."""
         if kind == WRITE:
             if addresses[0].group != "D":

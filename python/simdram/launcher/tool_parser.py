@@ -16,7 +16,7 @@ def about(module: str) -> str:
 class Parser(argparse.ArgumentParser):
     """A parser that does not pass over what cannot be printed."""
 
-    def _print_message(self, message: str, file: typing.Optional[typing.TextIO] = None) -> None:
+    def _print_message(self, message: str, file: typing.TextIO | None = None) -> None:
         (file or sys.stderr).write(message)
 
 

@@ -90,5 +90,4 @@ class OpShape:
 
     def scratch(self, kind: str) -> list[str]:
         """The names of a kind that stand in scratch, in the order of their places."""
-        return [name for name, its in self.defined.items()
-                if its == kind and name not in self.sources and name not in self.results]
+        return [name for name, its in self.defined.items() if its == kind and name not in self.sources and name not in self.results]

@@ -18,9 +18,9 @@ class Node(typing.NamedTuple):
     """A node of a query: its word, of a comparison its operand and number, of a join its sources."""
 
     lead: Token
-    operand: typing.Optional[Operand] = None
-    number: typing.Optional[Token] = None
-    sources: typing.Tuple[int, ...] = ()
+    operand: Operand | None = None
+    number: Token | None = None
+    sources: tuple[int, ...] = ()
 
 
 class Reader:

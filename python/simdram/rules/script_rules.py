@@ -155,8 +155,7 @@ def order_of(head: Token, words: list[Token]) -> Instruction:
 def instruction_of(line: list[Token]) -> Instruction | None:
     """What a line says: an instruction, or nothing where it has no token."""
     if line[-1].kind == STRANGER:
-        raise Breach(line[-1], "lex", no_token(line[-1]),
-                     *(["numbers are at least 0"] if line[-1].text == "-" else []))
+        raise Breach(line[-1], "lex", no_token(line[-1]), *(["numbers are at least 0"] if line[-1].text == "-" else []))
     head, words = line[0], line[1:]
     if head.kind == END:
         return None

@@ -96,8 +96,7 @@ class Forms(Sums):
             if lit >> 1 not in graph.cone(s) | graph.cone(x) | graph.cone(y):
                 graph.nodes[lit >> 1] = graph.node(lit)._replace(kind="mux", args=(s, x ^ lit & 1, y ^ lit & 1))
 
-    def _chain_by(self, lit: int, words: typing.List[int], picks: typing.Dict[int, int],
-                  k: int) -> typing.Optional[typing.Tuple[int, int, int, int]]:
+    def _chain_by(self, lit: int, words: list[int], picks: dict[int, int], k: int) -> tuple[int, int, int, int] | None:
         """The chain that ends with word k: its size, and its first choice."""
         graph = self.graph
         others = sorted((word for word in words if word != words[k]), key=lambda word: len(graph.leaves[picks[word] >> 1]))
@@ -109,7 +108,7 @@ class Forms(Sums):
             return None
         return sum(len(graph.cone(picks[word])) for word in others), picks[first], 2 * first, inner
 
-    def _with_leaves(self, lit: int, values: typing.Dict[int, int]) -> int:
+    def _with_leaves(self, lit: int, values: dict[int, int]) -> int:
         """The literal with leaves replaced."""
         return replaced(self.graph, lit, values, {})
 
