@@ -5,7 +5,6 @@ teaches the text. What the file does is said by `simdram verify`. A text at faul
 wrong and what would be right, and nothing is written.
 """
 
-import argparse
 import sys
 
 from ..files.store import load
@@ -16,12 +15,8 @@ from ..launcher.tool_parser import tool_parser
 from . import Breach, assemble
 
 
-def parser() -> argparse.ArgumentParser:
-    return tool_parser("assemble", __name__, "TEXT", "PROG")
-
-
 def main(words: list[str], settings: Settings) -> int:
-    asked = parser().parse_args(words)
+    asked = tool_parser("assemble", __name__, "TEXT", "PROG").parse_args(words)
     data = load(asked.text, "micro")
     try:
         program = assemble(data)

@@ -29,7 +29,10 @@ def linked(paths: list[str]) -> Program:
 
 
 def parser() -> argparse.ArgumentParser:
-    return tool_parser("link", __name__, "PROG+", "OUT")
+    made = tool_parser("link", __name__)
+    made.add_argument("progs", metavar="PROG", nargs="+")
+    made.add_argument("out", metavar="OUT")
+    return made
 
 
 def main(words: list[str], settings: Settings) -> int:

@@ -6,7 +6,7 @@ import typing
 
 from ..files.decode import CELLS, RAISED, Line
 from ..files.fields import NAME_BYTES
-from ..files.row_rules import BIT, REGISTERS, RESULT, SOURCE, SPILL, SPILLS, WORD
+from ..files.program import BIT, REGISTERS, RESULT, SOURCE, SPILL, SPILLS, WORD
 from ..rules.answer import Breach
 from ..rules.tokens import Token
 from .tree import Head

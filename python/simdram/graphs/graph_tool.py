@@ -27,7 +27,7 @@ FORMATS = ("dot", "blif", "aiger")
 
 
 def parser() -> argparse.ArgumentParser:
-    made = tool_parser("graph", __name__, "OPS", "OUT?")
+    made = tool_parser("graph", __name__, "OPS", "[OUT]")
     made.add_argument("--op", metavar="NAME", help="the op; else the first that has a serial block")
     made.add_argument("--block", type=int, default=1, metavar="K", help="which of its blocks, from 1")
     made.add_argument("--format", choices=FORMATS, default="dot")

@@ -7,19 +7,23 @@ needs SCRIPT and IMAGE. The status is 0 without a fault, else 1.
 """
 
 import argparse
+import os
 
 from ..files.program import Program
+from ..files.store import load
 from ..files.table import Table
 from ..launcher import run_program
-from ..launcher.commands import KINDS
+from ..launcher.commands import KINDS, MAGIC
 from ..launcher.faults import Fault
 from ..launcher.settings import Settings
 from ..launcher.tool_parser import tool_parser
 from ..launcher.words import wrong_number
 from . import answers
 from .answer import Answer
-from .file_kinds import kind_of
 from .ops_rules import shapes_of
+from .query_rules import COMPARISONS, JOINS
+from .script_rules import FORMS as INSTRUCTIONS
+from .tokens import NAME, NUMBER, tokens
 from .verdict_answers import answers_on
 from .verdicts import VERIFIED, verdicts_of
 
@@ -27,6 +31,29 @@ FOUND = 1
 # which kinds of files say something of a kind
 BESIDE = {"script": ("program", "image"), "query": ("image",), "flips": ("script", "image"), "ops": ("program",)}
 FORMS = {"script": "SCRIPT PROG IMAGE", "query": "QUERY IMAGE", "flips": "FLIPS SCRIPT IMAGE", "ops": "OPS PROG N"}
+# the kind that a name ending so says, and how much of another file is looked at
+ENDINGS = {".ops": "ops", ".bbop": "script", ".query": "query", ".flips": "flips", ".prog": "program", ".img": "image",
+           ".trace": "trace", ".micro": "micro"}
+PROBE = 4096
+
+
+def by_first_word(data: bytes) -> str:
+    """The kind of a text; where nothing tells it, an operation text."""
+    first = tokens(data[:PROBE])[0]
+    if first.kind == NUMBER:
+        return "flips"
+    if first.kind == NAME and (first.text in INSTRUCTIONS or first.text.startswith("bbop_")):
+        return "script"
+    if first.kind == NAME and first.text in ("program", "version"):
+        return "micro"
+    return "query" if first.kind == NAME and first.text in (*COMPARISONS, *JOINS) else "ops"
+
+
+def kind_of(path: str) -> tuple[str, bytes]:
+    """The kind of a file, and its bytes."""
+    data = load(path)
+    by_magic = next((kind for kind, magic in MAGIC.items() if data.startswith(magic)), None)
+    return by_magic or ENDINGS.get(os.path.splitext(path)[1]) or by_first_word(data), data
 
 
 def of_script(path: str, data: bytes, beside: dict, settings: Settings) -> list[Answer]:

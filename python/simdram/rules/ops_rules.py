@@ -1,5 +1,7 @@
 """Where an operation text breaks a rule of docs/LANGUAGE.md first, and what would be right there."""
 
+import typing
+
 from ..launcher.faults import Fault
 from . import word_ops
 from .answer import Answer, Breach, near
@@ -36,7 +38,6 @@ class Reader:
 
     @property
     def shape(self) -> OpShape:
-        """The op that is read."""
         return self.shapes[-1]
 
     # tokens
@@ -75,28 +76,28 @@ class Reader:
 
     # rules on names
 
-    def good_name(self, token: Token, what: str) -> str:
-        """A new name that is not reserved and not too long."""
+    def good_name(self, token: Token, what: str, is_taken: typing.Callable[[str], bool] = lambda _: False) -> str:
+        """A new name that is not reserved, not too long and not taken."""
         if token.text in RESERVED:
             raise Breach(token, "bad_name", f"{token.text} is a reserved word: {listed(RESERVED)}", f"give {what} another name")
         if is_long(token.text):
             raise Breach(token, "bad_name", f"a name has at most {NAME_MAX} bytes; this one has {len(token.text)}")
+        if is_taken(token.text):
+            raise Breach(token, "twice", f"{token.text} is already defined in this op; a name is assigned once",
+                         f"defined names: {listed(self.shape.stands)}")
         return token.text
 
     def new_name(self, token: Token, what: str) -> str:
-        """A name that may not stand yet."""
-        name = self.good_name(token, what)
-        if name in self.shape.stands:
-            self.twice(token)
+        """A name that may not stand yet, and stands from now on."""
+        name = self.good_name(token, what, self.shape.stands.__contains__)
         self.shape.stands.append(name)
         return name
 
-    def twice(self, token: Token) -> None:
-        raise Breach(token, "twice", f"{token.text} is already defined in this op; a name is assigned once",
-                     f"defined names: {listed(self.shape.stands)}")
-
-    def too_many(self, token: Token, what: str) -> None:
-        raise Breach(token, "too_many", what)
+    @staticmethod
+    def limit(token: Token, count: int, most: int, what: str) -> None:
+        """Refuses one more of what there are so many of already."""
+        if count >= most:
+            raise Breach(token, "too_many", what.format(most))
 
     # ops
 
@@ -104,8 +105,7 @@ class Reader:
         """The whole text."""
         while self.next().kind != END:
             token = self.take("the word `op` of one more op", "op")
-            if len(self.ops) >= OPS:
-                self.too_many(token, f"a text has at most {OPS} ops")
+            self.limit(token, len(self.ops), OPS, "a text has at most {} ops")
             self.op(token)
 
     def op(self, first: Token) -> None:
@@ -135,11 +135,8 @@ class Reader:
         more = ","
         while more == ",":
             token = self.take("a parameter's name", name=True)
-            name = self.good_name(token, "the parameter")
-            if name in self.shape.stands:
-                self.twice(token)
-            if len(self.shape.defined) >= SOURCES:
-                self.too_many(token, f"an op has at most {SOURCES} parameters")
+            name = self.good_name(token, "the parameter", self.shape.stands.__contains__)
+            self.limit(token, len(self.shape.defined), SOURCES, "an op has at most {} parameters")
             self.shape.defined[name] = self.kind()
             self.shape.stands.append(name)
             more = self.take("`,` and one more parameter, or `)`", ",", ")").text
@@ -165,19 +162,12 @@ class Reader:
                          f"assign it before this `}}`, as in `{still[0]} = copy(..);`")
 
     def statement(self, token: Token) -> None:
-        if token.text == "serial":
-            self.count_statement(token)
+        name = "" if token.text == "serial" else self.good_name(token, "the target", self.shape.is_taken_name)
+        self.limit(token, len(self.shape.statements) - 1, STATEMENTS, "an op has at most {} statements")
+        if name:
+            self.word_statement(name)
+        else:
             self.block()
-            return
-        name = self.good_name(token, "the target")
-        if self.shape.is_taken_name(name):
-            self.twice(token)
-        self.count_statement(token)
-        self.word_statement(name)
-
-    def count_statement(self, token: Token) -> None:
-        if len(self.shape.statements) > STATEMENTS:
-            self.too_many(token, f"an op has at most {STATEMENTS} statements")
 
     # word statements
 
@@ -185,10 +175,7 @@ class Reader:
         targets = [first]
         if self.take("`=`, or `,` and a second target", ",", "=").text == ",":
             token = self.take("the second target's name", name=True)
-            name = self.good_name(token, "the second target")
-            if name == first or self.shape.is_taken_name(name):
-                self.twice(token)
-            targets.append(name)
+            targets.append(self.good_name(token, "the second target", lambda name: name == first or self.shape.is_taken_name(name)))
             self.take("`=`", "=")
         operation = self.operation(targets)
         self.take("`(`", "(")
@@ -290,31 +277,24 @@ class Reader:
         self.shape.end_block()
 
     def state(self, token: Token) -> None:
-        name, starts = self.good_name(token, "the state"), self.shape.last_statement.starts
-        if self.shape.is_taken_state(name):
-            self.twice(token)
-        if len(starts) >= STATES:
-            self.too_many(token, f"a block has at most {STATES} states")
+        name, starts = self.good_name(token, "the state", self.shape.is_taken_state), self.shape.last_statement.starts
+        self.limit(token, len(starts), STATES, "a block has at most {} states")
         self.shape.stands.append(name)
         self.take("`=`", "=")
         starts[name] = self.take("`0` or `1`", "0", "1").text
 
     def let(self, token: Token) -> None:
         lets = self.shape.last_statement.lets
-        if len(lets) >= LETS:
-            self.too_many(token, f"a block has at most {LETS} lets")
+        self.limit(token, len(lets), LETS, "a block has at most {} lets")
         name = self.new_name(self.take("the let's name", name=True), "the let")
         lets[name] = self.right_side()
 
     def assignment(self, token: Token) -> None:
-        name, block = self.good_name(token, "the target"), self.shape.last_statement
-        if self.shape.is_taken_target(name):
-            self.twice(token)
+        name, block = self.good_name(token, "the target", self.shape.is_taken_target), self.shape.last_statement
         if self.shape.results.get(name) == "bit" and name not in block.starts:
             raise Breach(token, "kind", f"{name} is a bit result; a block can return a bit only as a state",
                          f"make it a state of the block, `({name} = 0)`: after the block it is the result")
-        if len(block.assignments) >= ASSIGNMENTS:
-            self.too_many(token, f"a block has at most {ASSIGNMENTS} assignments")
+        self.limit(token, len(block.assignments), ASSIGNMENTS, "a block has at most {} assignments")
         block.assignments[name] = self.right_side()
 
     def right_side(self) -> Expr:
@@ -367,10 +347,8 @@ class Reader:
                 right.insert(0, f"{name} is a word operation: it needs a statement of its own, outside of blocks")
             raise Breach(token, "unknown", f"there is no gate {name}{near(name, word_ops.GATES)}", *right)
         block.weight += word_ops.WEIGHTS[name]
-        if block.weight > WEIGHT:
-            self.too_many(token, f"the gates of a block weigh at most {WEIGHT}: and, or, maj 1 each, xor 3, not 0")
-        if depth >= DEPTH:
-            self.too_many(token, f"gates nest at most {DEPTH} deep")
+        self.limit(token, block.weight - 1, WEIGHT, "the gates of a block weigh at most {}: and, or, maj 1 each, xor 3, not 0")
+        self.limit(token, depth, DEPTH, "gates nest at most {} deep")
 
 
 def read_ops(data: bytes) -> list[Op]:

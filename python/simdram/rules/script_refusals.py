@@ -14,7 +14,7 @@ from .script_rules import Instruction
 from .tokens import Token
 
 # of each entry and width, where its walk is stuck and why, or nothing
-Stuck = typing.Callable[[str, int], typing.Optional[str]]
+Stuck = typing.Callable[[str, int], str | None]
 COPIES = "xyz"
 
 
@@ -88,8 +88,7 @@ class Checker:
         past = (operand.past(self.table, place) for place, operand in enumerate(one.operands))
         return next(filter(None, absent), None) or next(filter(None, past), None)
 
-    def do_print(self, one: Instruction) -> Refusal | None:
-        return self.places(one)
+    do_print = places
 
     def do_load(self, one: Instruction) -> Refusal | None:
         return self.places(one) or self.count_of(one) or self.range_of(one)
@@ -176,7 +175,6 @@ class Checker:
 
 
 def bits(width: int) -> str:
-    """A width in words."""
     return f"{width} bit{'s' * (width != 1)}"
 
 

@@ -80,7 +80,7 @@ def with_reads(one: typing.Any, names: typing.Callable[[str], str]) -> typing.An
     return one.changed(lambda expr: expr.renamed(names))
 
 
-def cut(old: Op, new: Op) -> typing.Optional[typing.Tuple[str, str]]:
+def cut(old: Op, new: Op) -> tuple[str, str] | None:
     """The two texts, or nothing where they would need too many sources."""
     sides = [Side(old), Side(new)]
     used = sorted({side.key[name] for side in sides for name in side.read if name in side.key}) or [old.params[0][0]]

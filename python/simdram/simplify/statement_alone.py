@@ -16,15 +16,15 @@ class Cost(typing.NamedTuple):
     rows: int
 
 
-Costs = typing.Dict[int, Cost]
+Costs = dict[int, Cost]
 
 
 class Alone(typing.NamedTuple):
     """A statement with names by their places: its text, and the kinds of what it reads and of what it defines."""
 
     text: str
-    reads: typing.Tuple[str, ...]
-    makes: typing.Tuple[str, ...]
+    reads: tuple[str, ...]
+    makes: tuple[str, ...]
 
     @property
     def key(self) -> str:
@@ -59,7 +59,7 @@ def operands(expr: Expr, gate: str) -> typing.Iterator[Expr]:
         yield from operands(arg, gate) if arg.gate == gate else (arg,)
 
 
-def rank(expr: Expr) -> typing.Tuple[bool, str]:
+def rank(expr: Expr) -> tuple[bool, str]:
     """Where an operand stands among others: complements come last, so that a sum of a carry kept inverted takes the fewest."""
     return expr.gate == "not", str(expr)
 
@@ -76,10 +76,10 @@ def in_order(expr: Expr) -> Expr:
     return expr._replace(args=tuple(sorted(args, key=rank)) if expr.gate in SYMMETRIC else args)
 
 
-Pairs = typing.Tuple[typing.Tuple[str, Expr], ...]
+Pairs = tuple[tuple[str, Expr], ...]
 
 
-def by_places(one: Statement, names: typing.Dict[str, str]) -> Statement:
+def by_places(one: Statement, names: dict[str, str]) -> Statement:
     """A statement with names by the places where they first stand; `names` gets them."""
     def again(name: str) -> str:
         return names.setdefault(name, f"v{len(names)}")
@@ -97,15 +97,14 @@ def by_places(one: Statement, names: typing.Dict[str, str]) -> Statement:
 
 def normal(one: Statement) -> Statement:
     """A statement as it is measured, with its own names."""
-    names: typing.Dict[str, str] = {}
+    names: dict[str, str] = {}
     found = by_places(one, names)
     own = {place: name for name, place in names.items()}
     return (found.changed(in_order) if isinstance(found, Block) else found).renamed(own.__getitem__)
 
 
 def alone(one: Statement, kinds: typing.Mapping[str, str]) -> Alone:
-    """A statement by itself."""
-    names: typing.Dict[str, str] = {}
+    names: dict[str, str] = {}
     plain = by_places(normal(one), names)
     made = dict(made_by(one, kinds))
     own = set(made) if isinstance(one, WordStatement) else {*made, *dict(one.lets)}
