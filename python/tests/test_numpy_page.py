@@ -54,7 +54,7 @@ class Page(unittest.TestCase):
     def as_reported(self, names, totals):
         """The chip's cost is what the program has reported of it, and that of each array what its report says."""
         self.assertEqual((names["chip"].cost.aap, names["chip"].cost.ap), (totals["aap"], totals["ap"]))
-        for array in [one for one in names.values() if isinstance(one, simdram.Array) and one.is_made]:
+        for array in [one for one in names.values() if isinstance(one, simdram.Array) and one.made]:
             lines = [line for line in array.script.splitlines() if not line.startswith("#")]
             said = [re.fullmatch(r"\d+ ok aap=(\d+) ap=(\d+)", line) for line in array.report.splitlines()]
             done = [match for line, match in zip(lines, filter(None, said)) if not line.startswith(("bbop_trsp_init", "free "))]

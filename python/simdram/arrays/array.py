@@ -41,11 +41,6 @@ class Array(Operators):
         """An array of the same chip that is computed when it is looked at."""
         return Array(self.chip, shape, value, signed=signed)
 
-    @property
-    def is_made(self) -> bool:
-        """Whether its numbers are known or stand in the chip."""
-        return self.made is not None
-
     def settle(self, origin: Held | Constant, made: Made) -> None:
         """From now on it is an object or a number, and so is its value in every expression that has it."""
         self.value.origin, self.made = origin, made

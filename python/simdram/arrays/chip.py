@@ -123,7 +123,7 @@ class Chip:
 
     def made(self, array: Array) -> Made:
         """How an array was computed, which is done now where it was not."""
-        if not array.is_made:
+        if array.made is None:
             self.compute([array])
         return array.made
 
@@ -141,7 +141,7 @@ class Chip:
 
     def compute(self, arrays: typing.Sequence[Array]) -> None:
         """Computes arrays of one shape together: as one op, where that has room for them."""
-        left = [array for array in arrays if not array.is_made]
+        left = [array for array in arrays if array.made is None]
         shapes = {array.shape for array in left}
         if len(shapes) > 1:
             raise Refused("size", f"arrays of shapes {', '.join(map(str, sorted(shapes)))} are computed one by one")
@@ -193,8 +193,10 @@ class Chip:
             self.spend(dataclasses.replace(one.all_lines, banks=banks))
         cost = dataclasses.replace(total([one.cost for one in done]), banks=banks)
         lines = "".join(f"{line}\n" for script in scripts.scripts for line in script.lines)
+        ops = "".join(dict.fromkeys(text for script in scripts.scripts for text in script.texts))
+        texts = "".join(dict.fromkeys(text for script in scripts.scripts for text in [*script.texts, *script.programs]))
         report = "".join(one.report for one in done)
-        return Made("".join(scripts.texts), lines, report, cost, "".join(scripts.op_texts), "".join(scripts.written))
+        return Made(texts, lines, report, cost, ops, "".join(scripts.written))
 
     def _keep(self, computed: typing.Sequence[tuple[Array, Value]], scripts: Scripts, made: Made) -> None:
         """The arrays are now what was computed for them; one of no dimensions becomes its number again."""

@@ -17,11 +17,8 @@ class Part:
         self.sources = list(taken.values())
         self.results = [value for step in self.steps for value in step.results
                         if id(value) in wanted or not can_join(step)]
-
-    @property
-    def width(self) -> int | None:
-        """The width of its words, or None where it has bits alone."""
-        return next((step.width for step in self.steps if step.width is not None), None)
+        # the width of its words, or None where it has bits alone
+        self.width = next((step.width for step in self.steps if step.width is not None), None)
 
     def fits(self, statements: int) -> bool:
         """Whether it is one op of the language, with at most so many statements."""

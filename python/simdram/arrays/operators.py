@@ -6,7 +6,7 @@ import typing
 import numpy
 
 from . import expressions, layout
-from .operations import BIT, BLOCKS, OPERATIONS, WORD
+from .operations import BIT, NAMED, OPERATIONS, WORD
 from .refusals import Refused
 
 
@@ -15,7 +15,7 @@ Operator = typing.Callable[[typing.Any, typing.Any], typing.Any]
 
 def of_operation(name: str) -> tuple[Operator, Operator]:
     """An operator that is an operation, and the same with its operands in the other order."""
-    return (lambda self, other: binary(name, self, other)), (lambda self, other: binary(name, other, self))
+    return (lambda self, other: result_of(name, self, other)), (lambda self, other: result_of(name, other, self))
 
 
 def of_division(part: typing.Callable[[tuple], typing.Any]) -> tuple[Operator, Operator]:
@@ -52,16 +52,16 @@ class Operators:
         return matmul(other, self)
 
     def __invert__(self):
-        return results_of("not", self)[0]
+        return result_of("not", self)
 
     def __neg__(self):
-        return block("negative", self)
+        return result_of("negative", self)
 
     def __pos__(self):
         return self
 
     def __abs__(self):
-        return results_of("abs", self)[0] if self.signed else self
+        return result_of("abs", self) if self.signed else self
 
     def __lshift__(self, places):
         return shifted(self, places)
@@ -70,10 +70,10 @@ class Operators:
         return shifted(self, places, is_up=False)
 
     def __eq__(self, other):
-        return ~binary("xor", self, other) if self.is_bit else binary("eq", self, other)
+        return ~result_of("xor", self, other) if self.is_bit else result_of("eq", self, other)
 
     def __ne__(self, other):
-        return binary("xor", self, other) if self.is_bit else ~binary("eq", self, other)
+        return result_of("xor", self, other) if self.is_bit else ~result_of("eq", self, other)
 
     def __gt__(self, other):
         return self & ~both(self, other)[1] if self.is_bit else compared("gt", self, other)
@@ -88,9 +88,9 @@ class Operators:
         return ~self | other if self.is_bit else compared("ge", other, self)
 
 
-def binary(name: str, first: typing.Any, second: typing.Any) -> typing.Any:
-    """The one result of an operation on two arrays, or on an array and a number."""
-    return results_of(name, first, second)[0]
+def result_of(name: str, *operands: typing.Any) -> typing.Any:
+    """The one result of an operation of the language, or of a block of the front, on arrays and numbers."""
+    return stepped(NAMED[name], operands)[0]
 
 
 def both(first: typing.Any, second: typing.Any) -> list[typing.Any]:
@@ -98,15 +98,10 @@ def both(first: typing.Any, second: typing.Any) -> list[typing.Any]:
     return arrays_of(OPERATIONS["and"], (first, second))
 
 
-def block(name: str, *operands: typing.Any) -> typing.Any:
-    """The result of an operation that is a serial block."""
-    return stepped(BLOCKS[name], operands)[0]
-
-
 def compared(name: str, first: typing.Any, second: typing.Any) -> typing.Any:
     """`gt` or `ge` of two arrays of words, in signed order where they are signed."""
     arrays = arrays_of(OPERATIONS[name], (first, second))
-    return block(f"signed_{name}", *arrays) if is_signed(name, arrays) else binary(name, *arrays)
+    return result_of(f"signed_{name}", *arrays) if is_signed(name, arrays) else result_of(name, *arrays)
 
 
 def divided(first: typing.Any, second: typing.Any) -> tuple[typing.Any, ...]:
@@ -115,17 +110,17 @@ def divided(first: typing.Any, second: typing.Any) -> tuple[typing.Any, ...]:
     if not is_signed("divmod", arrays):
         return results_of("divmod", *arrays)
     dividend, divisor = arrays
-    is_opposite = block("sign", dividend) ^ block("sign", divisor)
-    quotient, rest = results_of("divmod", *(results_of("abs", one)[0] for one in arrays))
+    is_opposite = result_of("sign", dividend) ^ result_of("sign", divisor)
+    quotient, rest = results_of("divmod", *(result_of("abs", one) for one in arrays))
     is_inexact = rest != 0
     floor = where(is_opposite & is_inexact, ~quotient, where(is_opposite, -quotient, quotient))
-    least = where(is_opposite & is_inexact, results_of("abs", divisor)[0] - rest, rest)
-    return floor, where(block("sign", divisor), -least, least)
+    least = where(is_opposite & is_inexact, result_of("abs", divisor) - rest, rest)
+    return floor, where(result_of("sign", divisor), -least, least)
 
 
 def where(condition: typing.Any, first: typing.Any, second: typing.Any) -> typing.Any:
     """The elements of the first where the condition holds, and else of the second."""
-    return results_of("if_else", first, second, condition)[0]
+    return result_of("if_else", first, second, condition)
 
 
 def shifted(array: typing.Any, places: typing.Any, is_up: bool = True) -> typing.Any:
@@ -137,7 +132,7 @@ def shifted(array: typing.Any, places: typing.Any, is_up: bool = True) -> typing
         return array ^ array
     count = min(count, array.bits - 1)
     if count < 2 and not is_signed_down:
-        return results_of("shl1" if is_up else "shr1", array)[0] if count else array
+        return result_of("shl1" if is_up else "shr1", array) if count else array
     value = layout.moved_up(array.value, count) if is_up else layout.moved_down(array.value, count, array.signed)
     return array.of_value(array.shape, value, array.signed) if count else array
 

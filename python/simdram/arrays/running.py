@@ -58,11 +58,6 @@ class Script:
         self.entries: list[Entry] = []
         self.lines: list[str] = []
 
-    @property
-    def counted(self) -> list[int]:
-        """The numbers, from 1, of the lines that compute: bbops and fills, not the making and freeing of objects."""
-        return [k for k, line in enumerate(self.lines, 1) if computes(line)]
-
 
 def computes(line: str) -> bool:
     """Whether a line computes: a bbop or a fill does, and the making and freeing of objects does not."""
@@ -94,7 +89,8 @@ def run(script: Script, image: Image) -> Done:
             raise refusal(script, ended)
         if ended.status:
             raise Stopped(words[0], ended)
-        return Done(Image.read(load(f"{folder}/out")), ended.out, cost(ended.out, script.counted, image),
+        counted = [k for k, line in enumerate(script.lines, 1) if computes(line)]
+        return Done(Image.read(load(f"{folder}/out")), ended.out, cost(ended.out, counted, image),
                     cost(ended.out, range(1, len(script.lines) + 1), image))
 
 

@@ -53,16 +53,6 @@ class Scripts:
         """The lines of the script in hand."""
         return self.scripts[-1].lines
 
-    @property
-    def texts(self) -> list[str]:
-        """The texts of all ops and programs, each once."""
-        return list(dict.fromkeys(text for script in self.scripts for text in [*script.texts, *script.programs]))
-
-    @property
-    def op_texts(self) -> list[str]:
-        """The texts of all ops, each once."""
-        return list(dict.fromkeys(text for script in self.scripts for text in script.texts))
-
     def object_of(self, value: Value) -> str:
         """The operand that is a value: an object, into which a constant is filled, or bits of one."""
         whole, low = whole_of(value)

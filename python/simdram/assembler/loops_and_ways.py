@@ -2,10 +2,10 @@
 
 import typing
 
-from ..files.program import ADD, ADDI, BNEZ, MOV, SETI, SETN, SETT, SUBI, Instruction
+from ..files.program import BNEZ, SETI, Instruction
+from .walks import CHANGES
 
 Code = typing.Sequence[Instruction]
-CHANGES = (ADD, ADDI, MOV, SETI, SETN, SETT, SUBI)
 
 
 class Loop(typing.NamedTuple):
