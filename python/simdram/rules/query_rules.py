@@ -3,7 +3,7 @@
 import typing
 
 from ..launcher.words import nearest
-from .answer import Answer, Breach, at_token
+from .answer import Answer, Breach
 from .operands import FORM, Operand
 from .tokens import END, NAME, NUMBER, STRANGER, Token, no_token, tokens, value_of
 
@@ -18,9 +18,9 @@ class Node(typing.NamedTuple):
     """A node of a query: its word, of a comparison its operand and number, of a join its sources."""
 
     lead: Token
-    operand: typing.Optional[Operand] = None
-    number: typing.Optional[Token] = None
-    sources: typing.Tuple[int, ...] = ()
+    operand: Operand | None = None
+    number: Token | None = None
+    sources: tuple[int, ...] = ()
 
 
 class Reader:
