@@ -10,7 +10,7 @@ from .tokens import END, NAME, NUMBER, STRANGER, Token, no_token, tokens, value_
 COMPARISONS = ("eq", "gt", "ge", "lt", "le")
 JOINS = {"not": 1, "and": 2, "or": 2}
 NODES, TESTS, VALUE_MAX = 64, 32, 2**128 - 1
-FORMS = "eq, gt, ge, lt, le of (OPERAND, V), not(Q), and(Q, Q), or(Q, Q)"
+FORMS = "eq, gt, ge, lt, le of (NAME, V) or (NAME[LO:HI], V); not(Q), and(Q, Q), or(Q, Q)"
 SIGNS = {">=": "ge", "<=": "le", "==": "eq", "=": "eq", ">": "gt", "<": "lt"}
 
 
