@@ -25,3 +25,5 @@ mod rows;
 mod table_tests;
 #[cfg(test)]
 mod wave_tests;
+#[cfg(test)]
+mod width_tests;

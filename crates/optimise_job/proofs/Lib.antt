@@ -1,0 +1,5 @@
+pub mod AsGood
+pub mod Implemented
+pub mod Named
+pub mod Found
+pub mod Pushed

@@ -1,0 +1,12 @@
+//! A program's entries with straight lines at one width, where offered lines prove right and
+//! shorter.
+#![tactic(auto)]
+
+mod copied;
+mod laws;
+mod offer;
+mod program;
+
+pub use laws::{optimised_are_as_good, optimised_implement};
+pub use offer::{Offered, Outcome, with_line};
+pub use program::{Optimised, with_lines};
