@@ -41,8 +41,8 @@ EXAMPLES = TOP / "examples"
 
 # an instruction's lines, and a line for each instruction of a listing
 DONE = rb"\d+ ok aap=\d+ ap=\d+"
-PRINTED = rb"\d+ [A-Za-z_]\w{0,15}:( \d+)+"
-WHY = (rb"no_op|arity|(no_object|width|size|overlap|range) \d+|bad_walk \d+ (index|register|budget)|no_rows|exists|"
+PRINTED = rb"\d+ [A-Za-z_]\w{0,15}(\[\d+(:\d+)?\])?:( \d+)+"
+WHY = (rb"no_op|arity|(no_object|slice|width|size|overlap|range) \d+|bad_walk \d+ (index|register|budget)|no_rows|exists|"
        rb"table_full|too_large|count")
 REFUSED = rb"\d+ refused (" + WHY + rb")"
 INSTRUCTION = (rb"\d+ (DONE|SETI r\d \d+|SETN r\d|SETT r\d|MOV r\d r\d|ADD r\d r\d|ADDI r\d \d+|SUBI r\d \d+|BNEZ r\d \d+|"
@@ -113,7 +113,7 @@ GATES = {"not": 1, "and": 2, "or": 2, "xor": 2, "maj": 3}
 TOKENS = ("op word bit serial up down let ( ) { } , ; : = -> 0 1 2 a b c t y _ x9 " + "n" * 17 + " # @ \n").split(" ")
 QUERY_TOKENS = "eq ne lt le gt ge and or not ( ) , a b y 0 3 8 200 256 # @ \n".split(" ")
 SCRIPT_TOKENS = ("bbop_trsp_init bbop_add bbop_f bbop_ load fill print free order in turns seed , 0 1 2 8 64 128 129 "
-                 "340282366920938463463374607431768211456 a b y @ # \n").split(" ")
+                 "340282366920938463463374607431768211456 a b y [ ] : a[3] y[0:4] @ # \n").split(" ")
 
 
 class Maker:
@@ -171,15 +171,16 @@ class Maker:
     def line(self):
         name = self.dice.choice
         names = ["a", "b", "y", "z"]
+        places = [*names, *names, "a[0:4]", "a[4:8]", "y[2:6]", "y[0]", "b[7:9]", "y[8]", "y[0:8]"]
         forms = [
             lambda: f"bbop_trsp_init {name(names)}, {name([1, 2, 64, 65, 100])}, {name([1, 4, 8, 9])}",
-            lambda: f"load {name(names)}, {', '.join(str(self.dice.randrange(300)) for _ in range(self.dice.randrange(1, 4)))}",
-            lambda: f"fill {name(names)}, {self.dice.randrange(300)}",
-            lambda: f"print {name(names)}",
+            lambda: f"load {name(places)}, {', '.join(str(self.dice.randrange(300)) for _ in range(self.dice.randrange(1, 4)))}",
+            lambda: f"fill {name(places)}, {self.dice.randrange(300)}",
+            lambda: f"print {name(places)}",
             lambda: f"free {name(names)}",
             lambda: f"order {name(['in', 'turns', 'seed 7'])}",
-            lambda: f"bbop_{name(['f0', 'f1', 'f', 'xor', 'add'])} {', '.join(name(names) for _ in range(name([2, 3, 3, 4])))}, "
-                    f"{name([2, 2, 64, 65])}, {name([1, 8, 8, 9])}",
+            lambda: f"bbop_{name(['f0', 'f1', 'f', 'xor', 'add'])} {', '.join(name(places) for _ in range(name([2, 3, 3, 4])))}, "
+                    f"{name([2, 2, 64, 65])}, {name([1, 4, 8, 8, 9])}",
         ]
         return name(forms)()
 

@@ -11,7 +11,8 @@ _FRONT = {
     "Chip": "chip", "Array": "array", "Cost": "costing", "Op": "user_ops", "op": "user_ops", "ops": "user_ops", "scan": "scanning",
     "program": "own_programs", "OwnProgram": "own_programs", "Unverified": "own_programs", "Verdict": "own_programs",
     "Count": "scanning", "Refused": "refusals", "Stopped": "refusals", "compute": "chip", "apply": "functions",
-    "where": "functions", "minimum": "functions", "maximum": "functions", "bitcount": "functions",
+    "where": "functions", "minimum": "functions", "maximum": "functions", "bitcount": "functions", "bit": "functions",
+    "concat": "functions", "product": "matrices", "matmul": "matrices",
 }
 __all__ = sorted(_FRONT)
 

@@ -9,36 +9,16 @@ import sys
 
 from .files.fault import FileFault, NotWritten
 from .launcher import help_text, streams
-from .launcher.commands import ALL
+from .launcher.commands import ALL, Command
 from .launcher.faults import WRONG, Fault
 from .launcher.say import say
 from .launcher.settings import Settings, taken
+from .launcher.words import parser_of
 
 HELP = ("help", "--help", "-h")
 NO_MEMORY, INTERRUPTED = 10, 130
 # what the system says of an output that takes no more
 UNPRINTED = (errno.ENOSPC, errno.EDQUOT, errno.EFBIG, errno.EIO, errno.EBADF, errno.EPIPE)
-TOOL_MODULES = {
-    "image": "files.image_tool",
-    "explain": "rules.explain",
-    "report": "costs.report",
-    "cost-table": "costs.cost_table",
-    "profile": "costs.profile",
-    "steps": "steps.steps_tool",
-    "plot": "costs.plot",
-    "flips": "survival.flips_tool",
-    "survival": "survival.survival_tool",
-    "trace-text": "files.trace_text",
-    "from-hex": "files.from_hex",
-    "graph": "graphs.graph_tool",
-    "from-blif": "graphs.from_blif",
-    "assemble": "assembler.assemble_tool",
-    "disassemble": "assembler.disassemble_tool",
-    "link": "assembler.link_tool",
-    "simplify": "simplify.simplify_tool",
-    "build": "launcher.build_tool",
-    "prove": "launcher.prove",
-}
 
 
 def end_with_reader() -> None:
@@ -47,11 +27,10 @@ def end_with_reader() -> None:
         signal.signal(signal.SIGPIPE, signal.SIG_DFL)
 
 
-def tool(name: str, words: list[str], settings: Settings) -> int:
+def tool(command: Command, words: list[str], settings: Settings) -> int:
     """Runs a tool."""
     end_with_reader()
-    module = importlib.import_module(f".{TOOL_MODULES[name]}", __package__)
-    return module.main(words, settings)
+    return importlib.import_module(f".{command.module}", __package__).main(words, settings)
 
 
 def help_on(words: list[str], settings: Settings) -> int:
@@ -64,9 +43,9 @@ def help_on(words: list[str], settings: Settings) -> int:
     if command is None:
         print(help_text.all_commands(), end="")
     elif command.is_program:
-        print(help_text.one_command(command), end="")
+        print(parser_of(command).format_help(), end="")
     else:
-        return tool(command.name, ["--help"], settings)
+        return tool(command, ["--help"], settings)
     return 0
 
 
@@ -79,8 +58,8 @@ def start(words: list[str]) -> int:
     if name == "--version":
         print(help_text.version())
         return 0
-    if name in TOOL_MODULES:
-        return tool(name, others, settings)
+    if name in ALL and not ALL[name].is_program:
+        return tool(ALL[name], others, settings)
     if name in ALL and any(word in HELP[1:] for word in others):
         return help_on([name], settings)
     from .launcher.launch import launch

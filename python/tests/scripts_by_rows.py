@@ -61,6 +61,9 @@ class Rows:
         self.banks, self.columns, self.limit = banks, 64 * words, rows - SPILL_ROWS
         self.cells = [[0] * rows for _ in range(banks)]
         self.objects = {}                   # name: (base, width, count)
+        # the AAP and AP of all that was done, the rows that were loaded and printed, and the rows that only scratch was in
+        self.aap = self.ap = self.loaded = self.printed = 0
+        self.unknown = set()
 
     # rows
 
@@ -86,6 +89,7 @@ class Rows:
     def write(self, rows, values):
         for bank in range(len(values) // self.columns):
             part = values[bank * self.columns:(bank + 1) * self.columns]
+            self.unknown.difference_update((bank, row) for row in rows)
             for k, row in enumerate(rows):
                 self.cells[bank][row] = sum((value >> k & 1) << column for column, value in enumerate(part))
 
@@ -109,6 +113,7 @@ class Rows:
         if base is None:
             return "no_rows"
         self.objects[name] = (base, width, count)
+        self.aap += width * self.segments(count)
         self.write(range(base, base + width), [0] * (self.segments(count) * self.columns))
         return None
 
@@ -127,6 +132,7 @@ class Rows:
         for k, value in enumerate(values, 1):
             if value >> len(rows):
                 return f"range {k}"
+        self.loaded += len(rows) * self.segments(count)
         self.write(rows, values + [0] * (self.segments(count) * self.columns - count))
         return None
 
@@ -137,15 +143,18 @@ class Rows:
         rows = self.range_of(operand)
         if value >> len(rows):
             return "range 1"
-        self.write(rows, [value] * (self.segments(self.count_of(operand)) * self.columns))
+        segments = self.segments(self.count_of(operand))
+        self.aap += len(rows) * segments
+        self.write(rows, [value] * (segments * self.columns))
         return None
 
     def values(self, operand):
         count = self.count_of(operand)
+        self.printed += len(self.range_of(operand)) * self.segments(count)
         return self.read(self.range_of(operand), self.segments(count))[:count]
 
-    def bbop(self, op, operands, count, n, scratch):
-        """Does an operation whose scratch takes so many rows at this width."""
+    def bbop(self, op, operands, count, n, cost):
+        """Does an operation that takes so many AAP, AP and rows of scratch at this width."""
         if op not in OPERATIONS:
             return "no_op"
         results, sources, meaning = OPERATIONS[op]
@@ -170,9 +179,13 @@ class Rows:
                 return f"overlap {k}"
             if k < len(results):
                 written.update(its)
-        if self.least_free(scratch) is None:
+        (aap, ap, scratch), segments = cost, self.segments(count)
+        base = self.least_free(scratch)
+        if base is None:
             return "no_rows"
-        segments = self.segments(count)
+        self.aap += aap * segments
+        self.ap += ap * segments
+        self.unknown.update((bank, row) for bank in range(segments) for row in range(base, base + scratch))
         columns = zip(*(self.read(its, segments) for its in rows[len(results):]))
         made = [meaning(n, *numbers) for numbers in columns]
         for k in range(len(results)):

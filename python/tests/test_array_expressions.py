@@ -239,7 +239,7 @@ class Objects(unittest.TestCase):
             a = chip.array(numpy.arange(count), bits=8)
             both = a + chip.array(numpy.arange(count), bits=8)
             self.assertEqual(both.cost, simdram.Cost(65 * banks, 8 * banks, banks, host_writes=2 * 8 * banks))
-            self.assertEqual((a & 1).cost, simdram.Cost(40 * banks, 0, banks, host_writes=8 * banks))
+            self.assertEqual((a & 1).cost, simdram.Cost(8 * banks, 0, banks, host_writes=8 * banks))
             self.assertEqual(both.cost.per_bank, simdram.Cost(65, 8))
             self.assertEqual(both.cost.commands, 73 * banks)
             self.assertEqual(a.cost, simdram.Cost(host_writes=8 * banks))

@@ -85,7 +85,7 @@ class Signed(unittest.TestCase):
         chip = simdram.Chip(banks=1, rows=300, words=1)
         a, b = chip.array([-3, 4], bits=8, signed=True), chip.array([5, -128], bits=8, signed=True)
         for z in (simdram.where((a > b) & (a >= 3), -a, a >> 1), simdram.where(a > b, a, 0), a < 0):
-            self.assertEqual(simdram.op(z.text).text, z.text)
+            self.assertEqual("".join(one.text for one in simdram.ops(z.text).values()), z.text)
 
     def test_what_is_not_allowed(self):
         chip = simdram.Chip(banks=1, rows=300, words=1)
@@ -142,21 +142,22 @@ class Widths(unittest.TestCase):
         with self.assertRaisesRegex(simdram.Refused, "bad_number"):
             a.astype(bits=129)
 
-    def test_a_result_goes_through_the_host_once(self):
+    def test_the_host_moves_nothing(self):
         chip = simdram.Chip(banks=1, rows=300, words=1)
         x = numpy.array([200, 100], dtype=numpy.uint8)
         a = chip.array(x)
         total = (a & 127).astype(bits=16) + a.astype("u2")
         self.assertEqual(total.numpy().tolist(), ((x & 127).astype("u2") + x).tolist())
-        self.assertEqual(total.cost.aap, 40 + 129)
-        self.assertEqual((total.cost.host_reads, total.cost.host_writes), (8 + 8, 8 + 16 + 16))
-        self.assertIn("\n# the host reads ", total.script)
+        self.assertEqual(total.cost.aap, 16 + 16 + 129)
+        self.assertEqual((total.cost.host_reads, total.cost.host_writes), (0, 8))
         wide = a.astype(bits=16)
-        self.assertEqual((wide.cost.aap, wide.cost.host_reads, wide.cost.host_writes), (0, 8, 8 + 16))
-        self.assertRegex(wide.script, r"^# the host reads v\d+ and writes v\d+\n$")
+        self.assertEqual((wide.cost.aap, wide.cost.ap, wide.cost.host_reads, wide.cost.host_writes), (16, 0, 0, 8))
+        self.assertRegex(wide.script, r"^bbop_trsp_init (v\d+), 2, 16\nbbop_e0 \1\[0:8\], v\d+, 2, 8\nfill \1\[8:16\], 0\n$")
         before = chip.host_reads, chip.host_writes
-        a.astype(bits=4)
-        self.assertEqual((chip.host_reads - before[0], chip.host_writes - before[1]), (8, 4))
+        narrow = a.astype(bits=4)
+        self.assertEqual((narrow.cost.commands, narrow.script, chip.host_reads, chip.host_writes), (0, "", *before))
+        narrow.numpy()
+        self.assertEqual((chip.host_reads - before[0], chip.host_writes - before[1]), (4, 0))
 
     def test_the_same_width_moves_nothing(self):
         chip = simdram.Chip(banks=1, rows=300, words=1)
@@ -167,14 +168,14 @@ class Widths(unittest.TestCase):
         self.assertEqual(seen.cost.aap, 65)
 
     def test_a_dot_product(self):
-        """Nothing is lost on the way through the host: a product of 8 bits is made at 16, and summed at 16."""
+        """A product of words that are widened is one with all its bits, and takes what it takes."""
         chip = simdram.Chip(banks=1, rows=600, words=1)
         a, b = (chip.array(numpy.arange(3, dtype=numpy.uint8) + k) for k in range(2))
         z = (a.astype(bits=16) * b.astype(bits=16)).astype(bits=8)
         self.assertEqual(z.numpy().tolist(), [0, 2, 6])
-        product = chip.array([1, 2], bits=16) * chip.array([1, 2], bits=16)
-        self.assertEqual((z.cost.aap, z.cost.ap), (product.cost.aap, product.cost.ap))
-        self.assertEqual((z.cost.host_reads, z.cost.host_writes), (8 + 8 + 16, 8 + 8 + 16 + 16 + 8))
+        product = simdram.product(a, b)
+        self.assertEqual((z.cost.aap, z.cost.ap, z.cost.commands), (product.cost.aap, product.cost.ap, 611))
+        self.assertEqual((z.cost.host_reads, z.cost.host_writes), (0, 8 + 8))
         self.assertEqual((z + z * a).cost.commands, z.cost.commands + (a + a * b).cost.commands)
 
 

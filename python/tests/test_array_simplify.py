@@ -59,12 +59,13 @@ class Rules(Beside):
 
     def test_powers_of_two_are_shifts(self):
         for k in range(BITS):
-            self.costs(self.a * (1 << k), self.x << numpy.uint8(k), k * BITS)
-            self.costs((1 << k) * self.a, self.x << numpy.uint8(k), k * BITS)
-            self.costs(self.a // (1 << k), self.x >> numpy.uint8(k), k * BITS)
-            self.costs(self.a % (1 << k), self.x & numpy.uint8((1 << k) - 1), 5 * BITS if k else BITS)
+            shift = BITS if k else 0
+            self.costs(self.a * (1 << k), self.x << numpy.uint8(k), shift)
+            self.costs((1 << k) * self.a, self.x << numpy.uint8(k), shift)
+            self.costs(self.a // (1 << k), self.x >> numpy.uint8(k), shift)
+            self.costs(self.a % (1 << k), self.x & numpy.uint8((1 << k) - 1), BITS)
         wide = simdram.Chip(banks=1, rows=400, words=1).array(self.x, bits=16)
-        self.assertEqual((str((wide * 4).cost), (wide * 4).text), ("aap=32 ap=0", (wide << 2).text))
+        self.assertEqual((str((wide * 4).cost), (wide * 4).text), ("aap=16 ap=0", (wide << 2).text))
 
     def test_products_with_a_constant(self):
         for number in (*range(0, 256, 7), 254, 255, 85, 170):

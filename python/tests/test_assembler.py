@@ -14,9 +14,8 @@ from test_words import called
 
 from simdram.assembler import TextFault, assemble
 from simdram.assembler.forms import Form
-from simdram.assembler.listing import raw_text
 from simdram.assembler.one_width import one_width, other_width
-from simdram.assembler.reading import readable_text
+from simdram.assembler.reading import raw_text, readable_text
 from simdram.assembler.walks import Stuck, walk
 from simdram.files.fault import FileFault
 from simdram.files.from_hex import bytes_in

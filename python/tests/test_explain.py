@@ -42,12 +42,25 @@ OPS = (
 SCRIPTS = (
     ("add y, a, b, 4, 8", "syntax", "line 1 column 1", "add", "bbop_add Y, A, B, COUNT, N"),
     ("bbop_add y, a b, 4, 8", "syntax", "line 1 column 15", "b", "a comma"),
-    ("print a\nprint", "syntax", "line 2 column 6", "", "form: print NAME"),
+    ("print a\nprint", "syntax", "line 2 column 6", "", "form: print OPERAND; OPERAND is NAME"),
     ("load a, -1", "lex", "line 1 column 9", "-", "at least 0"),
     ("bbop_trsp_init a, 0, 8", "bad_number", "line 1 column 19", "0", "is 1 to 4294967295"),
     ("bbop_add y, a, b, 4, 129", "bad_number", "line 1 column 22", "129", "is 1 to 128"),
     ("print " + "n" * 17, "bad_name", "line 1 column 7", "n" * 17, "at most 16 bytes"),
     ("order sead 3", "syntax", "line 1 column 7", "sead", "order seed K"),
+    ("print a[]", "syntax", "line 1 column 9", "]", "the number of a bit"),
+    ("print a[1:]", "syntax", "line 1 column 11", "]", "NAME[LO:HI] for LO up to, not with, HI"),
+    ("print a[1", "syntax", "line 1 column 10", "", "the end where `]` is expected"),
+    ("print a[1 2]", "syntax", "line 1 column 11", "2", "`]` is expected"),
+    ("print a[1[2]", "syntax", "line 1 column 10", "[", "`]` is expected"),
+    ("print a:1", "syntax", "line 1 column 8", ":", "a comma or the end"),
+    ("print a[b]", "syntax", "line 1 column 9", "b", "the number of a bit"),
+    ("free a[1]", "syntax", "line 1 column 8", "1", "its name alone"),
+    ("bbop_trsp_init a[0:4], 4, 4", "syntax", "line 1 column 18", "0", "its name alone"),
+    ("print a[128]", "bad_number", "line 1 column 9", "128", "a bit is 0 to 127"),
+    ("fill a[128:300], 1", "bad_number", "line 1 column 8", "128", "a bit is 0 to 127"),
+    ("fill a[0:129], 1", "bad_number", "line 1 column 10", "129", "at most 128"),
+    ("bbop_add y[4:8], a[4:4], b, 4, 4", "bad_number", "line 1 column 22", "4", "LO is below HI"),
 )
 QUERIES = (
     ("a >= 10", "syntax", "line 1 column 1", "a", "`a >= V` is `ge(a, V)`"),
@@ -209,7 +222,15 @@ class Refusals(unittest.TestCase):
                 ("bbop_trsp_init c, 4, 20", "no_rows", "it would fit with 69 rows per bank; this image has 64"),
                 ("bbop_ink y, a, a, 4, 8", "no_op", "did you mean inc"),
                 ("bbop_inc y, a, y, 4, 8", "overlap 2", "y is a destination and a source"),
-                ("bbop_inc y, a, s, 4, 8", "width 2", "s is 1 bits wide"),
+                ("bbop_inc y, a, s, 4, 8", "width 2", "s is 1 bit wide"),
+                ("bbop_inc y[0:4], a[4:9], a, 4, 4", "slice 1", "a[4:9] has bit 8, and the highest bit of a is 7"),
+                ("bbop_inc y[0:4], a[1:4], s[1], 4, 4", "slice 2", "s[1] has bit 1, and the highest bit of s is 0"),
+                ("bbop_inc y[0:4], a[1:4], b[9], 4, 4", "no_object 2", "no object has the name b"),
+                ("bbop_inc y[0:4], a[1:4], s, 4, 4", "width 1", "a[1:4] is 3 bits wide; inc expects a word of 4 bits"),
+                ("bbop_inc y[0:4], a[0:4], y[3:7], 4, 4", "overlap 2", "y[3:7] has bits of y[0:4], a destination, and a result"),
+                ("load a[0:2], 1, 2, 3, 4", "range 4", "a[0:2] has 2 bits, which hold 0 to 3"),
+                ("fill a[3], 2", "range 1", "a[3] has 1 bit, which holds 0 to 1"),
+                ("print y[8]", "slice 0", "y[8] has bit 8"),
                 ("bbop_inc y, a, aa, 4, 8", "no_object 2", "did you mean a"),
                 ("load a, 1, 2, 3, 256", "range 4", "hold 0 to 255"),
             ):
@@ -264,11 +285,13 @@ class AsTheProgram(unittest.TestCase):
 
     def test_scripts(self):
         lines = [line for path in sorted((TOP / "examples").rglob("*.bbop")) for line in path.read_text().splitlines()]
-        others = ["bbop_", "bbop_9", "0", "129", "order", "seed", "@", "4294967296", "n" * 17, "load", "=", str(2**128)]
+        lines += ["load a[3], 1, 0", "fill a [ 0 : 4 ], 3", "print a[127]", "bbop_add y[4:8], a[0:4], b[ 07 : 11 ], 4, 4", "print a[0:128]"]
+        others = ["bbop_", "bbop_9", "0", "129", "order", "seed", "@", "4294967296", "n" * 17, "load", "=", str(2**128), "[", "]", ":",
+                  "a[3]", "a[4:4]", "a[9:128]", "a[128:9]", "n" * 17 + "[0:129]", "a[1", "a[:2]", f"a[{2**130}]"]
         subprocess.run([support.program(), "init", "1", "64", "1", "i.img"], cwd=self.folder, check=True)
         (self.folder / "f.ops").write_text("op add(a: word, b: word) -> y: word { y = add(a, b); }")
-        for _ in range(120):
-            text = changed(self.dice, "\n".join(self.dice.sample(lines, 3)), others)
+        for _ in range(240):
+            text = changed(self.dice, "\n".join(self.dice.sample(lines, 2) + self.dice.sample(lines[-5:], 1)), others)
             (self.folder / "s").write_text(text)
             said, ended = self.last("run", "f.ops", "p", "s", "i.img", "o.img")
             answer = read_script("s", text.encode())[1]
@@ -294,9 +317,10 @@ class AsTheProgram(unittest.TestCase):
 
     def drawn_line(self):
         dice = self.dice
-        names = dice.choices("aaabbbyyzq", k=5)
+        names = [name + dice.choice(("", "", "", "[0]", "[3]", "[0:4]", "[4:8]", "[2:6]", "[0:8]")) for name in dice.choices("aaabbbyyzq", k=5)]
+        free = dice.choice("aabbyyzq")
         count, width = dice.choice([4, 4, 4, 65]), dice.choice([1, 4, 4, 8, 20])
-        return dice.choice((f"bbop_trsp_init {names[0]}, {count}, {width}", f"bbop_trsp_init {names[1]}, 4, 4", f"free {names[0]}",
+        return dice.choice((f"bbop_trsp_init {free}, {count}, {width}", f"bbop_trsp_init {free}, 4, {dice.choice((4, 8))}", f"free {free}",
                             f"fill {names[0]}, {dice.choice([1, 20])}", f"print {names[0]}", f"load {names[0]}, 1, 2, 3, {dice.choice([4, 99])}",
                             f"bbop_add {', '.join(names[:3])}, {count}, {width}", f"bbop_dm {', '.join(names[:4])}, 4, {width}",
                             f"bbop_add {', '.join(names[:3])}, 4, 4"))

@@ -10,43 +10,16 @@ import support
 from support import needs_program
 
 from simdram.__main__ import status_of
-from simdram.rules.word_ops import TAKES_GIVES, forms
+from simdram.rules.word_ops import TAKES_GIVES, WORD_OPS, forms
 
 WIDTHS = (*range(1, 21), 31, 32, 33, 63, 64, 65, 127, 128)
 COUNT = 64
 
 
-def sum_of_bits(x, n):
-    return bin(x).count("1") % 2**n
-
-
-def magnitude(x, n):
-    return (2**n - x) % 2**n if x >> (n - 1) else x
-
-
-def quotient(a, b, n):
-    return a // b if b else 2**n - 1
-
-
-def remainder(a, b, n):
-    return a % b if b else a
-
-
-# of each operation its results on its arguments at width n
-MEANING = {
-    "not": lambda a, n: [2**n - 1 - a], "and": lambda a, b, n: [a & b], "or": lambda a, b, n: [a | b],
-    "xor": lambda a, b, n: [a ^ b], "copy": lambda a, n: [a], "zero": lambda n: [0], "ones": lambda n: [2**n - 1],
-    "shl1": lambda a, n: [2 * a % 2**n], "shr1": lambda a, n: [a // 2],
-    "add": lambda a, b, n: [(a + b) % 2**n], "sub": lambda a, b, n: [(a - b) % 2**n], "mul": lambda a, b, n: [a * b % 2**n],
-    "div": lambda a, b, n: [quotient(a, b, n)], "rem": lambda a, b, n: [remainder(a, b, n)],
-    "divmod": lambda a, b, n: [quotient(a, b, n), remainder(a, b, n)],
-    "abs": lambda a, n: [magnitude(a, n)], "relu": lambda a, n: [0 if a >> (n - 1) else a],
-    "min": lambda a, b, n: [min(a, b)], "max": lambda a, b, n: [max(a, b)],
-    "eq": lambda a, b, n: [int(a == b)], "gt": lambda a, b, n: [int(a > b)], "ge": lambda a, b, n: [int(a >= b)],
-    "if_else": lambda a, b, c, n: [a if c else b], "bitcount": lambda a, n: [sum_of_bits(a, n)],
-    "and_red": lambda a, n: [int(a == 2**n - 1)], "or_red": lambda a, n: [int(a > 0)],
-    "xor_red": lambda a, n: [sum_of_bits(a, n) % 2],
-}
+def meaning(name, n, given):
+    """The results of an operation on numbers at width n."""
+    found = WORD_OPS[name].value(n, *given)
+    return [one % 2**n for one in (found if isinstance(found, tuple) else (found,))]
 
 
 def op_of(name):
@@ -81,7 +54,7 @@ class Case:
         results = ["yz"[k] if kind == "word" else "q" for k, kind in enumerate(gives)]
         self.lines.append(f"bbop_o_{name} {', '.join([*results, *(sources or 'a')])}, {COUNT}, {self.n}")
         columns = [self.numbers[source] for source in sources]
-        values = [MEANING[name](*[column[k] for column in columns], self.n) for k in range(COUNT)]
+        values = [meaning(name, self.n, [column[k] for column in columns]) for k in range(COUNT)]
         for k, result in enumerate(results):
             self.lines.append(f"print {result}")
             self.printed.append((name, sources, result, [value[k] for value in values]))

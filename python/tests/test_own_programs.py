@@ -1,7 +1,6 @@
 """Programs of a designer's own in NumPy, and the verdicts of `verify` as values."""
 
 import re
-import subprocess
 import unittest
 import warnings
 

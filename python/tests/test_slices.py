@@ -11,9 +11,11 @@ import unittest
 import support
 from support import needs_program
 
-from scripts_by_rows import OPERATIONS, TEXT, Operand, Rows
+from scripts_by_rows import OPERATIONS, SPILL_ROWS, TEXT, Operand, Rows
 
-from simdram.files.program import Program
+from simdram.costs.report import object_of
+
+COST = re.compile(r"(\w+) at (\d+) aap=(\d+) ap=(\d+) rows=(\d+)")
 
 
 class Files(unittest.TestCase):
@@ -43,7 +45,8 @@ class RandomScripts(Files):
         super().setUp()
         (self.folder / "ops").write_text(TEXT)
         self.run_program("compile", "ops", "prog", status=0)
-        self.program = Program.load(str(self.folder / "prog"))
+        lines = (COST.fullmatch(line) for line in self.run_program("cost", "prog", "1-128", status=0))
+        self.costs = {(line[1], int(line[2])): tuple(map(int, line.group(3, 4, 5))) for line in lines}
 
     def operand(self, width=None):
         """An operand, of this width if an object has room for it."""
@@ -69,6 +72,8 @@ class RandomScripts(Files):
         """A line, and what does it on the model's rows, or on a copy of each object."""
         draws, rows = self.draws, self.rows
         pick = draws.random()
+        if pick > .95:
+            return f"order {draws.choice(('in', 'turns', f'seed {draws.randrange(2**64)}'))}", lambda letter: None
         if pick < .15 or not self.known():
             name = f"o{draws.randrange(8)}"
             count = self.count if draws.random() < .9 else draws.randint(1, 70 * rows.banks)
@@ -100,11 +105,9 @@ class RandomScripts(Files):
         if len(operands) > 2 and draws.random() < .02:
             operands.pop()
         count = self.known()[operands[0].name][2] if operands[0].name in self.known() else self.count
-        entry = self.program.find(op)
-        scratch = entry.bits + entry.words * n
         words = ", ".join(one.written(draws) for one in operands)
         return (f"bbop_{op} {words}, {count}, {n}",
-                lambda letter: rows.bbop(op, [one.of_copy(letter) for one in operands], count, n, scratch))
+                lambda letter: rows.bbop(op, [one.of_copy(letter) for one in operands], count, n, self.costs[op, n]))
 
     def printed(self, one, letter):
         refusal = self.rows.operand_refusal(one.of_copy(letter))
@@ -120,13 +123,13 @@ class RandomScripts(Files):
 
     def done(self, do):
         """What an instruction comes to; one that is refused changes nothing."""
-        self.shown, before = None, dict(self.rows.objects)
+        self.shown, before, aap, ap = None, dict(self.rows.objects), self.rows.aap, self.rows.ap
         for letter in self.copies:
             refusal = do(letter)
             if refusal:
                 self.rows.objects = before
                 return f"refused {refusal}"
-        return self.shown or "ok"
+        return self.shown or f"ok aap={self.rows.aap - aap} ap={self.rows.ap - ap}"
 
     def script_of(self, seed, banks, words, copies):
         """Writes a random script and an image for it, and returns its lines and what each comes to."""
@@ -134,11 +137,13 @@ class RandomScripts(Files):
         height = 600 if copies == ("",) else 1006
         self.rows = Rows(banks, height, words)
         self.count = self.draws.randint(1, banks * words * 64)
-        lines, wanted = [], []
+        lines, wanted, self.tables = [], [], []
         for _ in range(self.draws.randint(20, 60)):
             line, do = self.instruction()
+            self.tables.append(dict(self.rows.objects))
             lines.append(line)
             wanted.append(self.done(do))
+        self.tables.append(dict(self.rows.objects))
         self.script("\n".join(lines) + "\n")
         self.run_program("init", str(banks), str(height), str(words), "image", status=0)
         return lines, wanted
@@ -146,46 +151,62 @@ class RandomScripts(Files):
     def compare(self, seed, lines, wanted, said):
         self.assertTrue(said[-1].startswith("total "), said[-3:])
         for number, (line, want, got) in enumerate(zip(lines, wanted, said), 1):
-            self.assertEqual(re.sub(r" aap=\d+ ap=\d+$", "", got), f"{number} {want}", (seed, line))
+            self.assertEqual(got, f"{number} {want}", (seed, line))
         self.same_rows()
 
+    def same_total(self, said):
+        """The counters are those of the instructions, and of the image that is opened and stored."""
+        rows = self.rows
+        own = rows.banks * (rows.limit + SPILL_ROWS)
+        refused = sum(" refused " in line for line in said)
+        self.assertEqual(said[-1], f"total aap={rows.aap} ap={rows.ap} writes={own + rows.loaded} reads={own + rows.printed} refused={refused}")
+
     def same_rows(self):
-        """The rows of the objects are those of the model, in every bank and column."""
+        """All rows but those of scratch and the spill group are those of the model, in every bank and column."""
         data = (self.folder / "out").read_bytes()
         banks, rows, words, objects = struct.unpack("<4H", data[6:14])
-        start = 14 + objects * 24
-        for name, (base, width, count) in self.rows.objects.items():
-            for bank in range(self.rows.segments(count)):
-                for row in range(base, base + width):
-                    at = start + 8 * words * (bank * rows + row)
-                    self.assertEqual(int.from_bytes(data[at:at + 8 * words], "little"), self.rows.cells[bank][row],
-                                     (name, bank, row))
+        self.assertEqual(objects, len(self.rows.objects))
+        start, size = 14 + objects * 24, 8 * words
+        for bank in range(banks):
+            for row in range(self.rows.limit):
+                at = start + size * (bank * rows + row)
+                if (bank, row) not in self.rows.unknown:
+                    self.assertEqual(int.from_bytes(data[at:at + size], "little"), self.rows.cells[bank][row], (bank, row))
 
     def test_one_bank(self):
         for seed in range(30):
             with self.subTest(seed=seed):
                 lines, wanted = self.script_of(seed, 1, 1, ("",))
-                self.compare(seed, lines, wanted, self.run_program("exec", "prog", "s", "image", "out"))
+                said = self.run_program("exec", "prog", "s", "image", "out")
+                self.compare(seed, lines, wanted, said)
+                self.same_total(said)
 
     def test_several_banks_and_their_traces(self):
         for seed in range(100, 120):
             with self.subTest(seed=seed):
                 lines, wanted = self.script_of(seed, 3, 2, ("",))
-                self.compare(seed, lines, wanted, self.run_program("trace", "prog", "s", "image", "out", "trace"))
+                said = self.run_program("trace", "prog", "s", "image", "out", "trace")
+                self.compare(seed, lines, wanted, said)
+                self.same_total(said)
                 self.run_program("replay", "trace", "image", "again", status=0)
                 self.assertEqual((self.folder / "again").read_bytes()[14:], (self.folder / "out").read_bytes()[14:])
+
+    def flip(self, k):
+        """A cell of one copy of an object that is inverted before instruction k, or none."""
+        objects = self.tables[k - 1]
+        if not objects or self.draws.random() < .3:
+            return ""
+        base, width, count = objects[self.draws.choice(list(objects))]
+        return f"{k} {self.draws.randrange(self.rows.segments(count))} {base + self.draws.randrange(width)} {self.draws.randrange(64)}\n"
 
     def test_guarded(self):
         for seed in range(200, 220):
             with self.subTest(seed=seed):
                 lines, wanted = self.script_of(seed, 2, 1, ("x", "y", "z"))
-                flips = ""
-                if self.rows.objects:
-                    base, width, _ = self.rows.objects[self.draws.choice(list(self.rows.objects))]
-                    flips = f"{len(lines) + 1} 0 {base + self.draws.randrange(width)} {self.draws.randrange(64)}\n"
-                (self.folder / "flips").write_text(flips)
+                flips = list(filter(None, map(self.flip, range(1, len(lines) + 2))))
+                (self.folder / "flips").write_text("".join(flips))
                 said = self.run_program("guard", "ops", "prog", "s", "image", "flips", "out")
-                self.assertRegex(said[-2], rf"^vote aap=\d+ flips={int(bool(flips))}$")
+                self.assertRegex(said[-2], rf"^vote aap=\d+ flips={len(flips)}$")
                 self.compare(seed, lines, wanted, said)
 
 
@@ -225,6 +246,11 @@ class Worked(Files):
         values, _ = self.outcome(TEXT, "bbop_trsp_init y, 2, 16\nbbop_trsp_init b, 2, 8\nload y[0:8], 200, 7\nload b, 100, 9\n"
                                  "bbop_add y[8:16], y[0:8], b, 2, 8\nprint y[8:16]\nprint y[0:8]\nprint y\n")
         self.assertEqual(values, {"y[8:16]": [44, 16], "y[0:8]": [200, 7], "y": [200 + 256 * 44, 7 + 256 * 16]})
+
+    def test_a_report_of_slices(self):
+        made = object_of("1 a[4:8]: 1 15\n2 a[3]: 0 1\n3 a: 8 255\n4 refused slice 1\ntotal aap=0 ap=0 writes=64 reads=64 refused=1\n")
+        self.assertEqual([(one.get("name"), one.get("values"), one.get("at")) for one in made["instructions"]],
+                         [("a[4:8]", [1, 15], None), ("a[3]", [0, 1], None), ("a", [8, 255], None), (None, None, [1])])
 
 
 if __name__ == "__main__":

@@ -157,12 +157,10 @@ class Steps(Folder):
     def test_bodies_that_take_turns(self):
         entry = self.compiled("op every(a: word) -> y: bit {\n  y = and_red(a);\n}\n").find("every")
         found = View(entry, op_text(entry, str(self.folder / "p.ops"))).shown
-        titles = [one.part.said for one in found]
-        for turn, times in ((1, 1), (2, 1), (3, 2)):
-            self.assertEqual(sum(f"turn {turn} of 3" in title for title in titles), times, titles)
-        self.assertEqual([title.rpartition("turn 3 of 3, ")[2][:13] for title in titles[-2:]], ["in its last r", "in each round"])
-        # what a turn finds in a cell is what the one before has left there, whichever way it took
-        for one, held in ((found[2], "and(a[i], old T1)"), (found[3], "and(a[i], old T0)"), (found[4], "and(a[i], old T1)")):
+        self.assertEqual([one.part.said.rpartition("in the loop at ")[2] for one in found[2:4]], ["15, turn 1 of 2, upwards", "15, turn 2 of 2, upwards"])
+        self.assertFalse([one.part.said for one in (*found[:2], *found[4:]) if "turn" in one.part.said])
+        # what a turn finds in a cell is what the one before has left there, and what follows finds what either has left
+        for one, held in ((found[2], "M(a[i], old T3, ~old T1)"), (found[3], "M(a[i], old T1, ~old T0)"), (found[4], "and(old T1, old T3)")):
             self.assertEqual([text for _, text in one.said], [held])
 
     def test_turns_each_with_a_last_round(self):

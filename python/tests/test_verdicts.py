@@ -28,17 +28,18 @@ program gg(a: word) -> y: word
   SETI r0 1023
   ADDI r0 1
 """
+# r is s or what T3 held at the start: right from zeros alone
 WORN = b"""program f(x: word, s: bit) -> q: word, r: bit
   for i in 0..n { AAP x[i] q[i] }
-  AAP T3 r
+  AAP s T1; AAP C1 T2; AP {T1, T2, T3}; AAP T1 r
 """
-# the or of the ands of 24 pairs of scratch bits, in an order in which its diagram doubles with each pair
+# right, by way of the or of the ands of 24 pairs of scratch bits, in an order in which its diagram doubles with each pair
 SCATTERED = """program f(x: word, s: bit) -> q: word, r: bit
 scratch a: word, b: word, c: word, d: word, e: word, g: word
   AAP C0 T0
   for i in 0..n {
 """ + "".join(f"    AAP {one}[i] T1; AAP {other}[i] T2; AAP C0 T3; AP {{T1, T2, T3}}; AAP C1 T1; AP {{T0, T1, T2}}\n"
-              for one, other in ("ad", "be", "cg")) + "  }\n  AAP T0 r\n"
+              for one, other in ("ad", "be", "cg")) + "    AAP x[i] q[i]\n  }\n  AAP s T1; AAP s T2; AP {T0, T1, T2}; AAP T0 r\n"
 
 
 WITH_G = b"program g(x: word) -> y: word\n  for i in 0..n { AAP T0 y[i] }\n"
@@ -181,7 +182,7 @@ class Calls(unittest.TestCase):
         self.assertEqual((ended.returncode, ended.stdout), (20, "f unknown nodes\nverified 0 of 1 at 8\n"))
         self.assertIn("simdram explain f.ops scattered.prog 8 says what", ended.stderr)
         ended = called("verify", "f.ops", "scattered.prog", "1", cwd=self.folder)
-        self.assertEqual(ended.stdout.splitlines()[1], "verified 0 of 1 at 1")
+        self.assertEqual(ended.stdout.splitlines()[1], "verified 1 of 1 at 1")
 
 
 if __name__ == "__main__":

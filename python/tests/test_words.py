@@ -36,8 +36,8 @@ class WrongWords(unittest.TestCase):
 
     def test_what_is_wrong(self):
         for words, said in (
-            (["run", "a"], "PROG, SCRIPT, IMAGE and OUT are missing; run takes 5 arguments"),
-            (["cost", "p", "8", "9"], "9 is one argument too many; cost takes 2"),
+            (["run", "a"], "the following arguments are required: PROG, SCRIPT, IMAGE, OUT"),
+            (["cost", "p", "8", "9"], "9 is one argument too many"),
             (["cost", "p", "129"], "1 to 128; it cannot be 129"),
             (["cost", "p", "+8"], "in decimal digits"),
             (["cost", "p", "8,"], "in decimal digits; it cannot be '8,'"),
@@ -59,6 +59,10 @@ class WrongWords(unittest.TestCase):
 
     def test_image_and_out_may_be_one(self):
         self.assertIsNone(wrong_words(["run", "o", "p", "s", "i", "i"]))
+
+    def test_no_word_is_an_option(self):
+        for name in ("--", "-x", "--help", "=a", "@a"):
+            self.assertIsNone(wrong_words(["show", name]), name)
 
     def test_nearest(self):
         self.assertEqual(nearest("ad", ["and", "add", "abs"])[0], "add")

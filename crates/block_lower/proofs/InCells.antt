@@ -31,7 +31,7 @@ use Rattle.loop_ir.specs.WellFormed.{IsWellFormed}
 use Rattle.loop_ir.specs.States.{row_count, row_outs}
 use Rattle.loop_ir.specs.Chains.{states_in, is_alive, chained, left_by, flow_finds}
 use Rattle.loop_ir.specs.Costs.{turn_cost, plain_cost, is_copy, sub_code, rounds_cost}
-use Rattle.loop_ir.specs.Costs.{plain_costs, step_cost, step_bodies}
+use Rattle.loop_ir.specs.Costs.{step_cost, step_bodies}
 use Rattle.loop_ir.specs.Limits.{HasCommands, IsSmall, IsRound, CanCompile, HasValues}
 use Rattle.loop_ir.specs.Limits.{stays_in_registers, is_in_register, flow_stands, step_stands}
 use Rattle.loop_ir.specs.Statements.{Slots, targets_of}
@@ -39,7 +39,6 @@ use Rattle.loop_ir.specs.Lowered.{IsStatementRow, IsLowered, Does}
 use Rattle.loop_laws.proofs.Rowed.{all_count}
 use Rattle.loop_laws.proofs.Same.{spot_true, spot_same}
 use Rattle.loop_laws.proofs.Summed.{rounds_sum}
-use Rattle.loop_laws.proofs.Costing.{plain-most}
 use Rattle.block_lower.specs.Inputs.{block_inputs}
 use Rattle.block_lower.specs.declared.home.Home.{Home}
 use Rattle.block_lower.specs.Held.{HeldCommands, CarriesRight, IsHeldOne, cell_place, same_place}
@@ -375,13 +374,6 @@ module _ {slots : Slots} {fb fw : ℕ} {b : Block} {body : Body} (g : Given slot
       (omega (arith, round, some, writes-long each-does))
       (omega (arith, ends, row, last-count, writes-long last-does))
 
-  cells-plain : (n : ℕ) → 0 < n → plain_costs (all_rounds n steps) ≤ n * bound + length b.states
-  cells-plain n lt =
-      let a = start-plain h cmds in
-      let m = is.as_many in
-      within plain_cost n lt (omega (arith, a)) (omega (arith, plain-most each, m))
-      (omega (arith, plain-most last, m))
-
   -- commands can be made of the bodies
   sub-flow : HasSub flow_at (flow_sub b.down)
   sub-flow x = elim (place-sub b.down (slots x)) [
@@ -500,5 +492,4 @@ module _ {slots : Slots} {fb fw : ℕ} {b : Block} {body : Body} (g : Given slot
       can = can;
       does = λ n lt wide. cells-do n lt;
       cheap = λ n lt wide. within-ceiling is n (rounds_cost (all_rounds n steps)) (cells-cost n lt);
-      plain = λ n lt wide. within-ceiling is n (plain_costs (all_rounds n steps)) (cells-plain n lt);
     }

@@ -20,14 +20,13 @@ use Rattle.loop_ir.specs.Plain.StepOf.{Single, Along}
 use Rattle.loop_ir.specs.Loops.{RoundOf, round_at, one_round, rounds, all_rounds, sub_value}
 use Rattle.loop_ir.specs.Spots.{Spot, IsOwn, is_state, after_rounds}
 use Rattle.loop_ir.specs.WellFormed.{IsWellFormed, AreWellFormed}
-use Rattle.loop_ir.specs.Costs.{body_cost, turn_cost, plain_cost, single_cost, step_cost, code_cost}
-use Rattle.loop_ir.specs.Costs.{step_bodies, bodies, rounds_cost, plain_costs}
+use Rattle.loop_ir.specs.Costs.{body_cost, turn_cost, single_cost, step_cost, code_cost}
+use Rattle.loop_ir.specs.Costs.{step_bodies, bodies, rounds_cost}
 use Rattle.loop_ir.specs.Limits.{IsSmall, may_stand, step_stands, IsRound, StepHasValues}
 use Rattle.loop_ir.specs.Limits.{CanCompile}
 use Rattle.loop_ir.specs.Statements.{Slots}
 use Rattle.loop_ir.specs.Lowered.{IsStatementRow, IsLowered}
 use Rattle.loop_laws.proofs.Summed.{rounds_sum, steps_sum, sum_is}
-use Rattle.loop_laws.proofs.Costing.{plain-most}
 use Rattle.loop_laws.proofs.NoStates.{HasRows, has_rows, rows_fit, no_state_sought}
 use Rattle.block_lower.specs.Inputs.{block_inputs}
 use Rattle.block_lower.specs.Choice.{HasFound, AreFor}
@@ -45,7 +44,7 @@ use Rattle.block_lower.proofs.Ends.{does-block}
 use Rattle.block_lower.proofs.Carried.{found-most, has-commands, is-found}
 use Rattle.block_lower.proofs.Bodies.{HasSub, uses, others, all-subs, body-small, turn-round}
 use Rattle.block_lower.proofs.Bodies.{turn-well, lone-well, lone-small, lone-turn}
-use Rattle.block_lower.proofs.Constants.{constant-plain, constant-commands}
+use Rattle.block_lower.proofs.Constants.{constant-commands}
 
 -- the places of names
 place-space : (down : Bool) (o : Option Slot) → (place_of down o).space ≡ (slot_or o).space
@@ -259,10 +258,6 @@ module _ {slots : Slots} {fb fw : ℕ} {b : Block} (g : Given slots fb fw b) whe
       row-cost = let m = is.as_many in row-within turn_cost (λ v p. refl)
           (let t = found-most body for in omega (arith, t, m))
 
-      row-plain : (n : ℕ) → plain_costs (all_rounds n steps) ≤ bound n
-      row-plain = let m = is.as_many in row-within plain_cost constant-plain
-          (let t = plain-most body in omega (arith, t, m))
-
       can : CanCompile may_have steps
       can = record {
         small = kept.small;
@@ -287,17 +282,12 @@ module _ {slots : Slots} {fb fw : ℕ} {b : Block} (g : Given slots fb fw b) whe
             ∙ ap (λ rs. after_rounds n rs first) (append-nil (rounds (λ j. one_round body j 0) 0 n))))
             (row-visits g is all n 0 (omega arith) _ first (begins g n (in_rows b) lt old bits)));
         cheap = λ n lt wide. within-ceiling is n (rounds_cost (all_rounds n steps)) (row-cost n);
-        plain = λ n lt wide. within-ceiling is n (plain_costs (all_rounds n steps)) (row-plain n);
       }
 
       pub row-program : IsBlockProgram slots b steps
       row-program = record {
-        row = body;
-        row_is = is;
-        found = for;
         body = body;
         is = is;
-        form = inl (refl, refl);
+        form = inl (for, refl);
         cost = λ n lt. row-cost n;
-        no_dearer = λ n lt. omega arith;
       }

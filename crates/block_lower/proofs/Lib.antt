@@ -11,10 +11,11 @@ mod Visits
 mod Starts
 mod Ends
 mod Carried
+mod Counting
 mod Bodies
 mod Constants
-mod InRows
-mod EachLast
+pub mod InRows
+pub mod EachLast
 mod InCells
 mod OneCell
 mod SameGraphs

@@ -1,26 +1,25 @@
 -- What the code looked at says that the chosen steps do the block.
-use Rattle.std.proofs.Common.{◌≡◌, ℕ, zero, suc, ◌+◌, ◌*◌, ◌<◌, ◌≤◌, Bool, List, [], ◌∷◌, length}
+use Rattle.std.proofs.Common.{◌≡◌, ℕ, ◌+◌, ◌*◌, ◌≤◌, Bool, List, [], ◌∷◌, length}
 use Rattle.std.proofs.Common.{sym, ap, ◌∙◌, subst, arith, ◌⊎◌, inl, inr}
 use Rattle.std.specs.Prelude.{slice_index_or}
 use Rattle.std.proofs.lemmas.Option.{slice_get_within}
-use Rattle.std.proofs.Math.Nat.{mul-le-mul_left}
 use Rattle.op_text.specs.declared.tree.State.{State}
 use Rattle.op_text.specs.Language.{Block, Visit}
 use Rattle.loop_ir.specs.declared.ir.Place.{Place}
 use Rattle.loop_ir.specs.Plain.{Block as Body, StepOf}
 use Rattle.loop_ir.specs.Loops.{all_rounds}
-use Rattle.loop_ir.specs.Costs.{turn_cost, rounds_cost}
+use Rattle.loop_ir.specs.Costs.{rounds_cost}
 use Rattle.loop_ir.specs.Statements.{Slots}
 use Rattle.loop_ir.specs.Lowered.{IsLowered}
 use Rattle.block_lower.specs.Inputs.{block_inputs}
 use Rattle.block_lower.specs.declared.held.HeldLoop.{HeldLoop}
 use Rattle.block_lower.specs.Held.{IsHeldOne, IsLoopFor, held_steps, commands_in}
 use Rattle.block_lower.specs.Choice.{HasFound, IsOther}
-use Rattle.block_lower.specs.Form.{place_of, home, row_steps, IsBlockBody, IsInCells, IsChosen}
+use Rattle.block_lower.specs.Form.{place_of, home, IsBlockBody, IsInCells, IsChosen}
 use Rattle.block_lower.specs.Form.{IsBlockProgram}
 use Rattle.block_lower.proofs.Facts.{Given}
-use Rattle.block_lower.proofs.InRows.{row-turns, row-lowered, row-program}
-use Rattle.block_lower.proofs.InCells.{flow-sum, cells-cost, cells-lowered}
+use Rattle.block_lower.proofs.InRows.{row-lowered, row-program}
+use Rattle.block_lower.proofs.InCells.{cells-cost, cells-lowered}
 
 -- a body at the same places of a graph that may stand for the block's is one of the block
 other-is : {slots : Slots} {b : Block} {body other : Body} → IsBlockBody slots b body
@@ -46,39 +45,16 @@ module _ {slots : Slots} {fb fw : ℕ} {b : Block} {row : Body} (g : Given slots
     (for : HasFound row.reads row.writes row.graph row.outs row.found)
     (steps : List (StepOf Body)) where
   -- with the state in cells
-  module _ {body : Body} (does : IsBlockBody slots b body)
-      (t : IsInCells slots b.down b.states row body steps) where
-    no-dearer : (n : ℕ) → 0 < n
-        → rounds_cost (all_rounds n (held_steps (home slots b.down t.state t.cells) body t.cmds))
-        ≤ rounds_cost (all_rounds n (row_steps slots b.down b.states row))
-    no-dearer zero lt = absurd (omega (arith, lt))
-    no-dearer (suc m) lt =
-        let held = t.held in
-        let fewer = t.fewer in
-        let ends = t.last in
-        let begins = held.start.few in
-        let z = flow-sum g does t.state t.one t.cells t.cmds held turn_cost m in
-        let k = row-turns g is most for (suc m) in
-        let s = ap length t.one in
-        let l : length t.cmds.each ≤ length row.found = omega (arith, fewer) in
-        let p = mul-le-mul_left m l in
-        omega (arith, z, k, s, begins, ends, p)
-
-    cells-program : IsBlockProgram slots b steps
-    cells-program = record {
-      row = row;
-      row_is = is;
-      found = for;
-      body = body;
-      is = does;
-      form = inr t;
-      cost = λ n lt. subst (λ ss. rounds_cost (all_rounds n ss)
-          ≤ n * (4 * length body.graph.nodes + 3 * length b.assigns) + length b.states) (sym t.form)
-          (cells-cost g does t.state t.one t.cells t.cmds t.held n lt);
-      no_dearer = λ n lt. subst (λ ss. rounds_cost (all_rounds n ss)
-          ≤ rounds_cost (all_rounds n (row_steps slots b.down b.states row))) (sym t.form)
-          (no-dearer n lt);
-    }
+  cells-program : {body : Body} → IsBlockBody slots b body
+      → IsInCells slots b.down b.states body steps → IsBlockProgram slots b steps
+  cells-program {body = body} does t = record {
+    body = body;
+    is = does;
+    form = inr t;
+    cost = λ n lt. subst (λ ss. rounds_cost (all_rounds n ss)
+        ≤ n * (4 * length body.graph.nodes + 3 * length b.assigns) + length b.states) (sym t.form)
+        (cells-cost g does t.state t.one t.cells t.cmds t.held n lt);
+  }
 
   module _ (t : IsChosen slots b.down b.states row steps) where
     chosen-is : IsBlockBody slots b t.body
@@ -90,14 +66,14 @@ module _ {slots : Slots} {fb fw : ℕ} {b : Block} {row : Body} (g : Given slots
     pub chosen-lowered : IsLowered slots fb fw (Visit b) steps
     chosen-lowered = elim t.form [
       | inl e ↦ subst (IsLowered slots fb fw (Visit b)) (sym e.1) (row-lowered g is most for)
-      | inr c ↦ subst (IsLowered slots fb fw (Visit b)) (sym c.form)
-          (cells-lowered g chosen-is c.state c.one c.cells c.cmds c.held most)
+      | inr f ↦ (let c = f.is in subst (IsLowered slots fb fw (Visit b)) (sym c.form)
+          (cells-lowered g chosen-is c.state c.one c.cells c.cmds c.held most))
     ]
 
     pub chosen-program : IsBlockProgram slots b steps
     chosen-program = elim t.form [
       | inl e ↦ subst (IsBlockProgram slots b) (sym e.1) (row-program g is most for)
-      | inr c ↦ cells-program chosen-is c
+      | inr f ↦ cells-program chosen-is f.is
     ]
 
 -- what is known of a loop in cells
@@ -120,14 +96,16 @@ loop-chosen slots down ss s row body r steps place most e at many l o f =
       body = body;
       other = o;
       form = inr (record {
-        state = s;
-        one = e;
-        cells = r.home.cells;
-        cmds = commands_in r;
-        held = subst (λ h. IsHeldOne h body (commands_in r)) home-is l.held;
+        is = record {
+          state = s;
+          one = e;
+          cells = r.home.cells;
+          cmds = commands_in r;
+          held = subst (λ h. IsHeldOne h body (commands_in r)) home-is l.held;
+          form = f ∙ ap (λ h. held_steps h body (commands_in r)) home-is;
+        };
         fewer = omega (arith, fewer, many);
         last = omega (arith, last, many);
-        form = f ∙ ap (λ h. held_steps h body (commands_in r)) home-is;
       });
     }
 

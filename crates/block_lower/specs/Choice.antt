@@ -1,5 +1,6 @@
 -- A graph that may stand for another, and the commands of their bodies
-use Rattle.std.specs.Prelude.{◌≡◌, ◌⊎◌, ◌≤◌, List, [], length}
+use Rattle.std.specs.Prelude.{◌≡◌, ◌⊎◌, ℕ, ◌<◌, ◌≤◌, List, [], ◌∷◌, length}
+use Rattle.std.specs.List.{AllByRecursion}
 use Rattle.mig_graph.specs.declared.Lit.{Lit}
 use Rattle.mig_graph.specs.Graph.{Graph, IsGraph}
 use Rattle.mig_graph.specs.Outputs.{AreNamed, KeepsOutputs}
@@ -8,10 +9,15 @@ use Rattle.row_alloc.specs.declared.body.BodyCmd.{BodyCmd}
 use Rattle.row_alloc.specs.declared.body.OutRow.{OutRow}
 use Rattle.row_alloc.specs.Body.{FitBody}
 use Rattle.row_alloc.specs.Found.{IsFound}
+use Rattle.row_alloc.specs.Known.{Serves, known, known_at}
+use Rattle.row_alloc.specs.Length.{plain_length}
+use Rattle.mig_rewrite.specs.declared.sketch.Sketch.{Sketch}
+use Rattle.mig_rewrite.specs.Offers.{IsLarger, IsOffered, IsRight}
 use Rattle.loop_ir.specs.declared.ir.Place.{Place}
 use Rattle.loop_ir.specs.Plain.{Block as Body}
 use Rattle.loop_ir.specs.Outputs.{AreRows}
 use Rattle.block_lower.specs.declared.choice.Choice.{Choice}
+use Rattle.block_lower.specs.declared.rounds.Tried.{Tried}
 
 -- each output keeps its value on every input, there are no more nodes, and no rule makes it smaller
 pub record MayStand (g : Graph) (outs : List Lit) (h : Graph) (made : List Lit) : Type 0 where
@@ -52,14 +58,62 @@ abbrev pub AreFor : List Place → List Place → Graph → List Lit → List Bo
 AreFor reads writes g outs cmds = HasFound reads writes g outs cmds
     ⊎ ((cmds ≡ []) × IsUnfit reads writes g outs)
 
--- The graph was reduced, and commands were found for the body of that, if one is made of it: these
--- commands are no more. So they are no more than those of its plain body and of each known sequence
--- that may stand for it
-pub record IsNoDearer (reads writes : List Place) (g : Graph) (outs : List Lit)
-    (cmds : List BodyCmd) : Type 0 where
+-- so many commands are no more than those of the graph's plain body at these places, and than each
+-- known sequence that may stand for it. The rows are those of its outputs: there are no others
+pub record IsNoDearer (reads writes : List Place) (g : Graph) (outs : List Lit) (count : ℕ) : Type 0
+  where
+    pub rows : List OutRow
+    pub are : AreRows reads writes g.inputs outs (length outs) rows
+    pub plain : count ≤ plain_length g rows
+    pub sequences : (k : ℕ) → k < length known → Serves g rows (known_at k)
+        → count ≤ length (known_at k)
+
+-- so many commands are no more than each of these takes
+abbrev pub AreNoFewer : ℕ → List Choice → Type 0
+AreNoFewer count others = AllByRecursion (λ (c : Choice). count ≤ length c.found.items) others
+
+-- so many commands are no more than the first takes, and each of the others
+pub record IsFewest (count : ℕ) (first : Choice) (others : List Choice) : Type 0 where
+  pub first_too : count ≤ length first.found.items
+  pub others_too : AreNoFewer count others
+
+-- the choice's graph may stand for the graph, and its commands were found for its body
+pub record IsRightChoice (reads writes : List Place) (g : Graph) (outs : List Lit) (c : Choice)
+    : Type 0 where
+  pub stands : MayStand g outs c.graph.mig c.graph.outs.items
+  pub found : HasFound reads writes c.graph.mig c.graph.outs.items c.found.items
+
+-- the choice's graph is the one that the sketch offers
+pub record IsCounted (reads writes : List Place) (g : Graph) (outs : List Lit) (s : Sketch)
+    (c : Choice) : Type 0 where
+  pub right : IsRightChoice reads writes g outs c
+  pub offered : IsOffered s c.graph.mig c.graph.outs.items
+
+-- the sketch offers a graph that may stand for the graph, but no body is made of that
+pub record IsUnfitOffer (reads writes : List Place) (g : Graph) (outs : List Lit) (s : Sketch)
+    : Type 0 where
   pub graph : Graph
-  pub outputs : List Lit
-  pub reduced : MayStand g outs graph outputs
-  pub found : List BodyCmd
-  pub body : AreFor reads writes graph outputs found
-  pub fewer : length cmds ≤ length found
+  pub made : List Lit
+  pub offered : IsOffered s graph made
+  pub stands : MayStand g outs graph made
+  pub unfit : IsUnfit reads writes graph made
+
+-- the sketch is not right for the graph, or is reduced to a larger one, or no body is made of it
+abbrev pub IsDropped : List Place → List Place → Graph → List Lit → Sketch → Type 0
+IsDropped reads writes g outs s =
+    IsRight g outs s → IsLarger g s ⊎ IsUnfitOffer reads writes g outs s
+
+-- of each sketch in order the choice of its graph, or none where it is dropped
+abbrev pub AreCounted : List Place → List Place → Graph → List Lit → List Sketch → List Choice
+    → Type 0
+AreCounted reads writes g outs [] [] = Unit {0}
+AreCounted reads writes g outs [] (c ∷ cs) = ⊥
+AreCounted reads writes g outs (s ∷ ss) [] = IsDropped reads writes g outs s
+    × AreCounted reads writes g outs ss []
+AreCounted reads writes g outs (s ∷ ss) (c ∷ cs) = (IsDropped reads writes g outs s
+    × AreCounted reads writes g outs ss (c ∷ cs)) ⊎ (IsCounted reads writes g outs s c
+    × AreCounted reads writes g outs ss cs)
+
+-- the sketch of an offer that is tried
+abbrev pub sketch_of : Tried → Sketch
+sketch_of t = t.sketch

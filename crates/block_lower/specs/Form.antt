@@ -93,44 +93,41 @@ abbrev pub row_steps : Slots → Bool → List State → Body → List (StepOf B
 row_steps slots down states body = map (start slots down) states ++ Along body ∷ []
 
 -- The one state of a block stands in cells: its start goes into them, and the body is done at each
--- position, which at the top one leaves the state in its row. At each position it takes fewer
--- commands than the body with its state in a row, and at the top one no more
-pub record IsInCells (slots : Slots) (down : Bool) (states : List State) (row body : Body)
+-- position, which at the top one leaves the state in its row
+pub record IsInCells (slots : Slots) (down : Bool) (states : List State) (body : Body)
     (steps : List (StepOf Body)) : Type 0 where
   pub state : State
   pub one : states ≡ state ∷ []
   pub cells : ℕ
   pub cmds : HeldCommands
   pub held : IsHeldOne (home slots down state cells) body cmds
-  pub fewer : length cmds.each < length row.found
-  pub last : length cmds.last ≤ length row.found
   pub form : steps ≡ held_steps (home slots down state cells) body cmds
 
--- the body with its states in rows is done, or another one with its one state in cells
-abbrev pub AreStepsOf : Slots → Bool → List State → Body → Body → List (StepOf Body) → Type 0
-AreStepsOf slots down states row body steps = ((body ≡ row)
-    × (steps ≡ row_steps slots down states row)) ⊎ IsInCells slots down states row body steps
+-- so it is, and at each position it takes fewer commands than the body with its state in a row, and
+-- at the top one no more
+pub record IsFewerInCells (slots : Slots) (down : Bool) (states : List State) (row body : Body)
+    (steps : List (StepOf Body)) : Type 0 where
+  pub is : IsInCells slots down states body steps
+  pub fewer : length is.cmds.each < length row.found
+  pub last : length is.cmds.last ≤ length row.found
 
--- the steps chosen for a body: they do it, or another that may stand for it
+-- the steps chosen for a body: they do it with the states in rows, or it or another that may stand
+-- for it with the one state in cells
 pub record IsChosen (slots : Slots) (down : Bool) (states : List State) (row : Body)
     (steps : List (StepOf Body)) : Type 0 where
   pub body : Body
   pub other : (body ≡ row) ⊎ IsOther row body
-  pub form : AreStepsOf slots down states row body steps
+  pub form : ((body ≡ row) × (steps ≡ row_steps slots down states row))
+      ⊎ IsFewerInCells slots down states row body steps
 
--- A body of the block carries the commands that were found for it with the states in rows. It is
--- what the loop does at each position, or else a body of the block with its state in cells. There
--- are no more commands than the graph says that is done, and at no width more than with the states
--- in rows
+-- A body of the block, with the states in rows and commands that were found for it, or with the one
+-- state in cells, is what the loop does at each position. There are no more commands than its graph
+-- says
 pub record IsBlockProgram (slots : Slots) (b : Block) (steps : List (StepOf Body)) : Type 0 where
-  pub row : Body
-  pub row_is : IsBlockBody slots b row
-  pub found : HasFound row.reads row.writes row.graph row.outs row.found
   pub body : Body
   pub is : IsBlockBody slots b body
-  pub form : AreStepsOf slots b.down b.states row body steps
+  pub form : (HasFound body.reads body.writes body.graph body.outs body.found
+      × (steps ≡ row_steps slots b.down b.states body))
+      ⊎ IsInCells slots b.down b.states body steps
   pub cost : (n : ℕ) → 0 < n → rounds_cost (all_rounds n steps)
       ≤ n * (4 * length body.graph.nodes + 3 * length b.assigns) + length b.states
-  pub no_dearer : (n : ℕ) → 0 < n
-      → rounds_cost (all_rounds n steps)
-      ≤ rounds_cost (all_rounds n (row_steps slots b.down b.states row))

@@ -15,7 +15,7 @@ use aoi_graph::build;
 use faults::keep;
 use loop_ir::{Body, NameMap, Place};
 use mig_graph::{Lit, Mig, MigOuts, NoMemory, from_aoi};
-use mig_rewrite::Sketch;
+use mig_rewrite::{Sketch, reduce};
 use op_text::Assign;
 use row_alloc::{BodyCmd, BodyRef};
 use std::alloc::Global;
@@ -87,7 +87,8 @@ pub fn block_body(
     let gates = build(lets, assigns, &inputs.numbers, alloc)?;
     let reads = places_of(names, down, &inputs.order, alloc)?;
     let writes = target_places(names, down, assigns, alloc)?;
-    let least = least_graph(from_aoi(&gates, alloc)?, &reads, &writes, alloc)?;
+    let graph = reduce(from_aoi(&gates, alloc)?, alloc)?;
+    let least = least_graph(graph, &reads, &writes, alloc)?;
     // This call's clause says that the graph keeps the rules of graphs.
     let _ = least.choice.graph.mig.inputs();
     Ok(body_at(least, reads, writes))

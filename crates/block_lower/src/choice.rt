@@ -1,16 +1,20 @@
 //! The graph of a block whose body takes the fewest commands.
 
-ghost use Rattle.std.specs.Prelude.{◌≡◌, ◌≤◌, ℕ, IsTrue, IfOk, IfSome, IfNone, length};
-ghost use Rattle.mig_graph.specs.Outputs.{AreNamed, KeepsOutputs};
+ghost use Rattle.std.specs.Prelude.{◌≡◌, ◌⊎◌, ◌<◌, ◌≤◌, IsTrue, IfOk, IfSome, IfNone, Some};
+ghost use Rattle.std.specs.Prelude.{length, map, slice_get};
+ghost use Rattle.std.specs.List.{AllByRecursion};
+ghost use Rattle.mig_graph.specs.Outputs.{AreNamed};
 ghost use Rattle.mig_graph.specs.Reduced.{IsReduced};
 ghost use Rattle.loop_ir.specs.Plain.{block_of};
-ghost use Rattle.block_lower.specs.Choice.{AreFor, HasFound, HasNoMore, IsNoDearer};
-ghost use Rattle.block_lower.specs.Choice.{IsUnfit, MayStand};
+ghost use Rattle.block_lower.specs.Choice.{AreCounted, AreFor, AreNoFewer, HasFound, HasNoMore};
+ghost use Rattle.block_lower.specs.Choice.{IsCounted, IsDropped, IsFewest, IsNoDearer};
+ghost use Rattle.block_lower.specs.Choice.{IsRightChoice, IsUnfit, MayStand, sketch_of};
 
 use crate::rounds::{Ranked, Tried, best_first};
+use faults::keep;
 use loop_ir::{Body, Place, out_rows};
 use mig_graph::{MigOuts, NoMemory};
-use mig_rewrite::{Sketch, kept, offers, reduce};
+use mig_rewrite::{Sketch, kept, offers};
 use row_alloc::{BodyCmd, Search, find_body};
 use std::alloc::Global;
 
@@ -78,67 +82,80 @@ fn found_for(
     find_body(&graph.mig, &rows, search, most, alloc)
 }
 
-/// The offer, if it is right and its body takes fewer commands than `least`, or as many for fewer
-/// nodes than `size`.
-fn offered(
-    first: &Choice,
+/// The offer, if it is right and a body can be made of it, with the commands found for it.
+fn counted(
+    first: &MigOuts,
     offer: &Tried,
-    least: usize,
-    size: u32,
     reads: &[Place],
     writes: &[Place],
     alloc: Global,
 ) -> Result<Option<Choice>, NoMemory>
-    requires { AreNamed first.now.graph.mig first.now.graph.outs.items }
-    ensures stands { IfOk result (λ o. IfSome o (λ r. MayStand first.now.graph.mig
-        first.now.graph.outs.items r.graph.mig r.graph.outs.items)) }
-    ensures found { IfOk result (λ o. IfSome o (λ r. HasFound reads.now writes.now r.graph.mig
-        r.graph.outs.items r.found.items)) }
-    ensures fewer { IfOk result (λ o. IfSome o (λ r. length r.found.items ≤ least)) }
+    requires { AreNamed first.now.mig first.now.outs.items }
+    ensures some { IfOk result (λ o. IfSome o (IsCounted reads.now writes.now first.now.mig
+        first.now.outs.items offer.now.sketch)) }
+    ensures none { IfOk result (λ o. IfNone o (IsDropped reads.now writes.now first.now.mig
+        first.now.outs.items offer.now.sketch)) }
 {
-    let Some(graph) = kept(&first.graph, &offer.sketch, alloc)? else {
+    let Some(graph) = kept(first, &offer.sketch, alloc)? else {
         return Ok(None);
     };
     let search = Search::Given(&offer.cmds);
-    let Some(found) = found_for(&graph, reads, writes, search, least, alloc)? else {
+    let Some(found) = found_for(&graph, reads, writes, search, 0, alloc)? else {
         return Ok(None);
     };
-    let commands = found.len();
-    if commands < least || commands == least && graph.mig.size() < size {
-        Ok(Some(Choice { graph, found }))
-    } else {
-        Ok(None)
-    }
+    Ok(Some(Choice { graph, found }))
 }
 
-/// Of the offers that are right the first with the fewest commands that were found, where these are
-/// fewer than the graph's own, or as many for fewer nodes.
-fn fewest(
-    first: &Choice,
+/// The offers that are right, in order, each with the commands that were found for its body.
+fn all_counted(
+    first: &MigOuts,
     offers: &[Tried],
     reads: &[Place],
     writes: &[Place],
     alloc: Global,
-) -> Result<Option<Choice>, NoMemory>
-    requires { AreNamed first.now.graph.mig first.now.graph.outs.items }
-    ensures stands { IfOk result (λ o. IfSome o (λ r. MayStand first.now.graph.mig
-        first.now.graph.outs.items r.graph.mig r.graph.outs.items)) }
-    ensures found { IfOk result (λ o. IfSome o (λ r. HasFound reads.now writes.now r.graph.mig
-        r.graph.outs.items r.found.items)) }
-    ensures fewest { IfOk result (λ o. IfSome o (λ r. length r.found.items
-        ≤ length first.now.found.items)) }
+) -> Result<Vec<Choice>, NoMemory>
+    requires { AreNamed first.now.mig first.now.outs.items }
+    ensures { IfOk result (λ r. AreCounted reads.now writes.now first.now.mig first.now.outs.items
+        (map sketch_of offers.now) r.items) }
+{
+    let mut others = Vec::new(alloc);
+    for offer in offers {
+        if let Some(choice) = counted(first, offer, reads, writes, alloc)? {
+            keep(&mut others, choice)?;
+        }
+    }
+    Ok(others)
+}
+
+/// Whether the choice takes fewer commands than `least`, or as many for fewer nodes than `size`.
+fn is_better(choice: &Choice, least: usize, size: u32) -> bool
+    ensures few { IsTrue result → length choice.now.found.items ≤ least }
+    ensures least { IsTrue result ⊎ (least ≤ length choice.now.found.items) }
+{
+    let commands = choice.found.len();
+    commands < least || commands == least && choice.graph.mig.size() < size
+}
+
+/// The place of the first of the others with the fewest commands, where these are fewer than the
+/// first's, or as many for fewer nodes.
+fn fewest(first: &Choice, others: &[Choice]) -> Option<usize>
+    ensures within { IfSome result (λ k. k < length others.now) }
+    ensures fewest { IfSome result (λ k. (choice : Choice) → slice_get others.now k ≡ Some choice
+        → IsFewest (length choice.found.items) first.now others.now) }
+    ensures none { IfNone result (IsFewest (length first.now.found.items) first.now others.now) }
 {
     let mut best = None;
     let mut least = first.found.len();
     let mut size = first.graph.mig.size();
-    for offer in offers {
-        if let Some(choice) = offered(first, offer, least, size, reads, writes, alloc)? {
+    for k in 0..others.len() {
+        let choice = &others[k];
+        if is_better(choice, least, size) {
             least = choice.found.len();
             size = choice.graph.mig.size();
-            best = Some(choice);
+            best = Some(k);
         }
     }
-    Ok(best)
+    best
 }
 
 /// How many other graphs are counted. A graph of one node has none that is better.
@@ -169,13 +186,12 @@ fn with_fewer(
     Ok(choice)
 }
 
-/// A reduced graph with the commands that were found for it, or one of the same outputs and no more
-/// nodes, with no more commands.
+/// The choice of the fewest commands.
 ///
-/// The others are those of the offers that are right.
+/// Where the first has them, a search that looks for fewer is asked once more.
 fn least_of(
     first: Choice,
-    offers: &[Tried],
+    others: Vec<Choice>,
     reads: &[Place],
     writes: &[Place],
     alloc: Global,
@@ -184,40 +200,44 @@ fn least_of(
     requires reduced { IsReduced first.graph.mig first.graph.outs.items }
     requires found { HasFound reads.now writes.now first.graph.mig first.graph.outs.items
         first.found.items }
-    ensures stands { IfOk result (λ r. MayStand first.graph.mig first.graph.outs.items r.graph.mig
-        r.graph.outs.items) }
-    ensures found { IfOk result (λ r. HasFound reads.now writes.now r.graph.mig r.graph.outs.items
-        r.found.items) }
-    ensures fewer { IfOk result (λ r. length r.found.items ≤ length first.found.items) }
+    requires others { AllByRecursion (IsRightChoice reads.now writes.now first.graph.mig
+        first.graph.outs.items) others.items }
+    ensures right { IfOk result (IsRightChoice reads.now writes.now first.graph.mig
+        first.graph.outs.items) }
+    ensures fewest { IfOk result (λ r. IsFewest (length r.found.items) first others.items) }
 {
-    match fewest(&first, offers, reads, writes, alloc)? {
-        Some(other) => Ok(other),
+    let mut others = others;
+    match fewest(&first, &others) {
+        Some(k) => Ok(others.remove(k)),
         None => with_fewer(first, reads, writes, Search::Whole, alloc),
     }
 }
 
-/// The reduced graph or one of the offers in its place, with the commands that were found for it.
+/// The reduced graph or one of the others in its place, with the commands that were found for it.
 ///
 /// There are none where no body is made of the reduced graph.
 fn chosen(
     graph: MigOuts,
-    offers: &[Tried],
+    others: Vec<Choice>,
     reads: &[Place],
     writes: &[Place],
     alloc: Global,
 ) -> Result<Choice, NoMemory>
     requires named { AreNamed graph.mig graph.outs.items }
     requires reduced { IsReduced graph.mig graph.outs.items }
+    requires others { AllByRecursion (IsRightChoice reads.now writes.now graph.mig
+        graph.outs.items) others.items }
     ensures stands { IfOk result (λ r. MayStand graph.mig graph.outs.items r.graph.mig
         r.graph.outs.items) }
     ensures found { IfOk result (λ r. AreFor reads.now writes.now r.graph.mig r.graph.outs.items
         r.found.items) }
-    ensures fewest { IfOk result (λ r. IsNoDearer reads.now writes.now graph.mig graph.outs.items
-        r.found.items) }
+    ensures own { IfOk result (λ r. IsNoDearer reads.now writes.now graph.mig graph.outs.items
+        (length r.found.items)) }
+    ensures others { IfOk result (λ r. AreNoFewer (length r.found.items) others.items) }
 {
     let found = found_for(&graph, reads, writes, Search::Narrow, 0, alloc)?;
     match found {
-        Some(found) => least_of(Choice { graph, found }, offers, reads, writes, alloc),
+        Some(found) => least_of(Choice { graph, found }, others, reads, writes, alloc),
         None => Ok(Choice {
             graph,
             found: Vec::new(alloc),
@@ -232,28 +252,26 @@ pub(crate) struct Least {
     pub offers: Vec<Sketch>,
 }
 
-/// The graph reduced, or one of the same outputs and no more nodes whose body takes fewer commands,
+/// The reduced graph, or one of the same outputs and no more nodes whose body takes fewer commands,
 /// with the commands that were found for it.
 pub(crate) fn least_graph(
-    m: MigOuts,
+    graph: MigOuts,
     reads: &[Place],
     writes: &[Place],
     alloc: Global,
 ) -> Result<Least, NoMemory>
-    requires { AreNamed m.mig m.outs.items }
-    ensures keeps { IfOk result (λ r. KeepsOutputs m.mig m.outs.items r.choice.graph.mig
+    requires named { AreNamed graph.mig graph.outs.items }
+    requires reduced { IsReduced graph.mig graph.outs.items }
+    ensures stands { IfOk result (λ r. MayStand graph.mig graph.outs.items r.choice.graph.mig
         r.choice.graph.outs.items) }
-    ensures named { IfOk result (λ r. AreNamed r.choice.graph.mig r.choice.graph.outs.items) }
-    ensures count { IfOk result (λ r. length r.choice.graph.mig.nodes ≤ length m.mig.nodes) }
-    ensures reduced { IfOk result (λ r. IsReduced r.choice.graph.mig r.choice.graph.outs.items) }
     ensures found { IfOk result (λ r. AreFor reads.now writes.now r.choice.graph.mig
         r.choice.graph.outs.items r.choice.found.items) }
-    ensures fewest { IfOk result (λ r. IsNoDearer reads.now writes.now m.mig m.outs.items
-        r.choice.found.items) }
+    ensures own { IfOk result (λ r. IsNoDearer reads.now writes.now graph.mig graph.outs.items
+        (length r.choice.found.items)) }
 {
-    let graph = reduce(m, alloc)?;
     let offers = offers(&graph, most_offers(&graph), alloc)?;
     let Ranked { tries, offers } = best_first(&graph, &offers, reads, writes, alloc)?;
-    let choice = chosen(graph, &tries, reads, writes, alloc)?;
+    let others = all_counted(&graph, &tries, reads, writes, alloc)?;
+    let choice = chosen(graph, others, reads, writes, alloc)?;
     Ok(Least { choice, offers })
 }

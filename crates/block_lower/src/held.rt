@@ -225,8 +225,8 @@ fn held_in(
     }))
 }
 
-/// The loop with the state in the cells of one of the layouts, where its body takes fewer commands
-/// than `most` so: the first of those with the fewest that the search finds.
+/// A loop with the state in the cells of one of the layouts, where its body takes fewer commands
+/// than `most` so. It is the first of those with the fewest that are found, which no clause says.
 fn held_loop(
     place: Place,
     start: bool,

@@ -3,7 +3,7 @@ use Rattle.std.proofs.Common.{◌≡◌, ◌⊎◌, ℕ, ◌<◌, ◌≤◌, Boo
 use Rattle.std.proofs.Common.{map, Option, Some, None, refl, sym, ◌∙◌, ap, subst, inl, inr}
 use Rattle.std.proofs.Common.{append-nil, append_assoc, arith}
 use Rattle.std.specs.Prelude.{All as Each, IfSome, IfErr, bytes_eq}
-use Rattle.std.specs.List.{AllByRecursion, list_all}
+use Rattle.std.specs.List.{AllByRecursion}
 use Rattle.std.specs.Option.{option_map}
 use Rattle.std.specs.Result.{result_ok}
 use Rattle.bit_rows.specs.declared.TheConstants.{WIDTH_MAX}
@@ -15,7 +15,8 @@ use Rattle.uprog_code.specs.declared.walker.Counts.{Counts}
 use Rattle.uprog_code.specs.Count.{counts_of}
 use Rattle.uprog_code.specs.Shape.{Microprogram}
 use Rattle.uprog_code.specs.Texts.{ImplementsAll, text_op}
-use Rattle.uprog_gen.specs.Totals.{AreExact, is_word}
+use Rattle.uprog_gen.specs.Totals.{AreExact}
+use Rattle.uprog_gen.proofs.Costs.Blocks.{AllWords, words_cost_the_same}
 use Rattle.machine_model.specs.declared.Why.{Why}
 use Rattle.machine_model.specs.Opened.{Image, opened}
 use Rattle.machine_model.specs.Routines.{Program, Routines, entry_named, routine_of, routines_in}
@@ -72,7 +73,7 @@ entry_case false e f x y n same rest = rest
 
 exact_costs : (ops : List Operation) (p q : Program) (name : List ℕ) (n : ℕ)
     → ImplementsAll p (map text_op ops) → ImplementsAll q (map text_op ops) → AreExact p ops
-    → AreExact q ops → AllByRecursion (λ op. list_all is_word op.body ≡ true) ops → 0 < n
+    → AreExact q ops → AllByRecursion (λ (op : Operation). AllWords op.body) ops → 0 < n
     → n ≤ WIDTH_MAX → entry_counts (entry_named p name) n ≡ entry_counts (entry_named q name) n
 exact_costs [] [] [] name n i j x y words l k = refl
 exact_costs [] [] (f ∷ q) name n i j x y words l k = absurd j
@@ -86,7 +87,7 @@ exact_costs (op ∷ ops) (e ∷ p) (f ∷ q) name n i j x y words l k =
     entry_counts (cond (bytes_eq own name) (Some f) (entry_named q name)) n in
     ap left i.0.name
     ∙ entry_case (bytes_eq op.name name) e f (entry_named p name) (entry_named q name) n
-    (x.0.exact words.0 n l k ∙ sym (y.0.exact words.0 n l k))
+    (words_cost_the_same e f op words.0 x.0 y.0 n l k)
     (exact_costs ops p q name n i.1 j.1 x.1 y.1 words.1 l k)
     ∙ sym (ap right j.0.name)
 
@@ -95,7 +96,7 @@ scans_cost_the_same p q x y name n l k =
     let cost : Routines → Counts = λ operations. counts_of (issues_at (operations name) n) in
     ap cost (same_operations p scan_text x.implements)
     ∙ exact_costs scan_operations p q name n x.implements y.implements x.exact y.exact
-    (refl, (refl, (refl, (refl, (refl, (refl, tt)))))) l k
+    (tt, (tt, (tt, (tt, (tt, (tt, tt)))))) l k
     ∙ sym (ap cost (same_operations q scan_text y.implements))
 
 -- and so answer the same

@@ -65,10 +65,6 @@ abbrev pub plain_cost : Block → ℕ
 plain_cost b = if is_copy b then 1 else (if is_start b then start_cost b
     else 4 * length b.graph.nodes + 3 * length (row_outs b.writes b.outs))
 
--- what all rounds may take at most
-abbrev pub plain_costs : List (RoundOf Block) → ℕ
-plain_costs rs = sum_by (λ r. plain_cost r.part) rs
-
 -- what all rounds take
 abbrev pub rounds_cost : List (RoundOf Block) → ℕ
 rounds_cost rs = sum_by (λ r. turn_cost r.part) rs

@@ -5,8 +5,6 @@ use Rattle.std.specs.List.{range_with_len}
 use Rattle.bit_rows.specs.declared.TheConstants.{WIDTH_MAX}
 use Rattle.op_text.specs.declared.tree.Kind.{Kind}
 use Rattle.op_text.specs.declared.tree.Kind.TheVariants.{Word}
-use Rattle.op_text.specs.declared.word_ops.WordOp.{WordOp}
-use Rattle.op_text.specs.declared.word_ops.WordOp.TheVariants as o
 use Rattle.op_text.specs.Language.{Statement, Compute, Visit}
 use Rattle.op_text.specs.Rules.{is_among}
 use Rattle.op_text.specs.Meaning.{NameValue, width, after_statement}
@@ -18,7 +16,7 @@ use Rattle.loop_ir.specs.Plain.{StepOf, Block}
 use Rattle.loop_ir.specs.Loops.{all_rounds}
 use Rattle.loop_ir.specs.Spots.{Spot, Spots, spot_in, after_rounds, is_state}
 use Rattle.loop_ir.specs.WellFormed.{AreWellFormed}
-use Rattle.loop_ir.specs.Costs.{rounds_cost, plain_costs}
+use Rattle.loop_ir.specs.Costs.{rounds_cost}
 use Rattle.loop_ir.specs.Limits.{CanCompile}
 use Rattle.loop_ir.specs.Statements.{Slots, read_names, written_names, statement_names}
 
@@ -88,22 +86,8 @@ abbrev pub ceiling_of : Slots → Statement → ℕ → ℕ
 ceiling_of slots (Compute target second p args) n = op_ceiling p (args_width slots n args)
 ceiling_of slots (Visit block) n = block_ceiling block n
 
--- the same of a word operation, where each body counts as its plain cost
-abbrev pub op_plain_ceiling : WordOp → ℕ → ℕ
-op_plain_ceiling o.Not n = 3 * n
-op_plain_ceiling o.And n = 7 * n
-op_plain_ceiling o.Or n = 7 * n
-op_plain_ceiling o.Xor n = 15 * n
-op_plain_ceiling o.Add n = 18 * n + 1
-op_plain_ceiling p n = op_ceiling p n
-
--- the same of a statement, where each body counts as its plain cost
-abbrev pub plain_ceiling : Slots → Statement → ℕ → ℕ
-plain_ceiling slots (Compute target second p args) n = op_plain_ceiling p (args_width slots n args)
-plain_ceiling slots (Visit block) n = block_ceiling block n
-
 -- A statement's loop program: well formed, such that code can be made of it over the statement's
--- rows alone, and at every width it does the statement within both ceilings
+-- rows alone, and at every width it does the statement within its ceiling
 pub record IsLowered (slots : Slots) (free_bit free_word : ℕ) (s : Statement)
     (steps : List (StepOf Block)) : Type 0 where
   pub well : AreWellFormed steps
@@ -111,5 +95,3 @@ pub record IsLowered (slots : Slots) (free_bit free_word : ℕ) (s : Statement)
   pub does : (n : ℕ) → 0 < n → n ≤ WIDTH_MAX → Does slots free_bit free_word s n steps
   pub cheap : (n : ℕ) → 0 < n → n ≤ WIDTH_MAX
       → rounds_cost (all_rounds n steps) ≤ ceiling_of slots s n
-  pub plain : (n : ℕ) → 0 < n → n ≤ WIDTH_MAX
-      → plain_costs (all_rounds n steps) ≤ plain_ceiling slots s n

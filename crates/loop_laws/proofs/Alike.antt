@@ -23,7 +23,7 @@ use Rattle.loop_ir.specs.Plain.StepOf.{Single, Along, Nest, Flowed}
 use Rattle.loop_ir.specs.Spots.{is_state, nth_place}
 use Rattle.loop_ir.specs.States.{has_states, row_count, RowsFirst, enters, leaves, row_outs}
 use Rattle.loop_ir.specs.States.{StatesFit}
-use Rattle.loop_ir.specs.Costs.{turn_cost, plain_cost, rounds_cost, plain_costs}
+use Rattle.loop_ir.specs.Costs.{turn_cost, plain_cost, rounds_cost}
 use Rattle.loop_laws.specs.Rooms.{Room, room_at, room_for, Owner, InRoom, InCells, Mark, Marked}
 use Rattle.loop_laws.specs.Rooms.{placed, placed_body, placed_steps}
 use Rattle.loop_laws.specs.Forms.{are_rows_first, states_fit}
@@ -213,12 +213,6 @@ pub rounds_cost_like : (rooms : List Room) (n : ℕ) (ss : List (StepOf Marked))
     → rounds_cost (all_rounds n (placed_steps rooms ss))
     ≡ rounds_cost (all_rounds n (placed_steps [] ss))
 rounds_cost_like rooms n ss = rounds_like turn_cost rooms (λ b. refl) n ss
-
--- so it is with what they may take at most
-pub plain_costs_like : (rooms : List Room) → HaveRows rooms → (n : ℕ) (ss : List (StepOf Marked))
-    → plain_costs (all_rounds n (placed_steps rooms ss))
-    ≡ plain_costs (all_rounds n (placed_steps [] ss))
-plain_costs_like rooms rows n ss = rounds_like plain_cost rooms (plain_like rooms rows) n ss
 
 -- the places before the first state are rows
 rows_before : (ps : List Place) (k : ℕ) → k < row_count ps → is_state (nth_place ps k).space ≡ false

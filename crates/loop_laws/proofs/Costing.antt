@@ -1,16 +1,14 @@
 -- What a body may take, by its nodes and outputs.
 use Rattle.std.proofs.Common.{◌≡◌, ◌≤◌, false, cond, List, [], ◌∷◌, ◌++◌, length, refl, arith}
-use Rattle.std.specs.List.{list_any, AllByRecursion}
+use Rattle.std.specs.List.{list_any}
 use Rattle.std.proofs.lemmas.Bool.Decides.{nat_tests}
 use Rattle.mig_graph.specs.declared.Lit.{Lit}
 use Rattle.loop_ir.specs.Plain.{Block}
-use Rattle.loop_ir.specs.Loops.{RoundOf}
 use Rattle.loop_ir.specs.declared.ir.Place.{Place}
 use Rattle.loop_ir.specs.Spots.{is_state}
 use Rattle.loop_ir.specs.States.{has_states, row_outs}
-use Rattle.loop_ir.specs.Costs.{body_cost, turn_cost, rounds_cost, plain_cost, plain_costs, is_copy}
+use Rattle.loop_ir.specs.Costs.{body_cost, turn_cost, plain_cost, is_copy}
 use Rattle.loop_ir.specs.Limits.{HasCommands}
-use Rattle.loop_laws.proofs.Summed.{sum_most}
 use Rattle.loop_laws.proofs.Alike.{or_parts}
 
 -- where nothing stands in cells, all outputs go to rows
@@ -41,8 +39,3 @@ plain-most b = grind (arith, nat_tests, fewer-outs b.writes b.outs)
 -- and so with the commands that it carries
 pub turn-most : (b : Block) → HasCommands b → turn_cost b ≤ body_cost b
 turn-most b commands = let few = commands.few in omega (arith, few, plain-most b)
-
--- no commands make a round dearer
-pub rounds-plain : (rs : List (RoundOf Block)) → AllByRecursion (λ r. HasCommands r.part) rs
-    → rounds_cost rs ≤ plain_costs rs
-rounds-plain rs have = sum_most turn_cost plain_cost HasCommands (λ b h. h.few) rs have

@@ -1,8 +1,7 @@
 -- The sum over all rounds of what each body counts.
-use Rattle.std.proofs.Common.{◌≡◌, ℕ, zero, suc, ◌+◌, ◌*◌, ◌≤◌, List, [], ◌∷◌, ◌++◌, refl}
+use Rattle.std.proofs.Common.{◌≡◌, ℕ, zero, suc, ◌+◌, ◌*◌, List, [], ◌∷◌, ◌++◌, refl}
 use Rattle.std.proofs.Common.{arith}
 use Rattle.std.specs.Prelude.{sum_by}
-use Rattle.std.specs.List.{AllByRecursion}
 use Rattle.std.proofs.lemmas.List.Sums.{sum_by-cons, sum_by-append}
 use Rattle.loop_ir.specs.Plain.{Block, StepOf}
 use Rattle.loop_ir.specs.Plain.StepOf.{Single, Along, Nest, Flowed}
@@ -50,11 +49,3 @@ module _ (f : Block → ℕ) where
       let a = sum_append (step_rounds n (Nest ps)) (all_rounds n ss) in omega (arith, e, a)
   sum_is n (Flowed x ∷ ss) = let e = sum_is n ss in
       let a = sum_append (flow_rounds n x) (all_rounds n ss) in omega (arith, e, a)
-
--- of two counts of which one is nowhere greater
-pub sum_most : (f g : Block → ℕ) (P : Block → Type 0) → ((b : Block) → P b → f b ≤ g b)
-    → (rs : List (RoundOf Block)) → AllByRecursion (λ r. P r.part) rs
-    → rounds_sum f rs ≤ rounds_sum g rs
-sum_most f g P h [] all = omega arith
-sum_most f g P h (r ∷ rs) all = let a = more f r rs in let b = more g r rs in
-    let c = h r.part all.0 in let d = sum_most f g P h rs all.1 in omega (arith, a, b, c, d)

@@ -1,7 +1,7 @@
 //! Folders and sinks, in memory and real.
 
 use host_edge::{DiskFolder, Failed, Folder, LoadNo, MemFolder, MemSink, Sink, StdSink};
-use std::alloc::AllocError;
+use std::alloc::{AllocError, Global};
 use std::fs;
 use std::fs::Permissions;
 use std::os::unix::fs::{PermissionsExt, symlink};
@@ -47,6 +47,35 @@ fn a_stored_file_keeps_its_mode(rt: HostRuntime) {
         assert!(rt; folder.store(device, b"x") == Err(Failed));
     }
     assert!(rt; fs::remove_file(&rt, link).is_ok() && fs::remove_file(&rt, name).is_ok());
+}
+
+/// Whether a file holds these bytes.
+fn holds(folder: &mut DiskFolder<'_>, name: &str, bytes: &[u8], alloc: Global) -> bool {
+    let found = folder.load(name, 9, alloc);
+    found.is_ok_and(|found| found.as_slice() == bytes)
+}
+
+/// Another name of the old file shows that it was replaced, and not written in place.
+#[test]
+fn a_file_is_replaced_as_a_whole(rt: HostRuntime) -> Result<(), AllocError> {
+    let (link, old, alloc) = ("whole_test.link", "whole_test.old", rt.alloc());
+    let letters: Vec<u8> = vec![in alloc; b'n'; 255]?;
+    let long = std::str::from_utf8(letters.as_slice()).unwrap_or("");
+    for name in ["whole_test.bin", long] {
+        let words = [name, link, old];
+        let mut folder = DiskFolder::new(rt, &words);
+        assert!(rt; folder.store(name, b"old") == Ok(()));
+        assert!(rt; fs::hard_link(&rt, name, old).is_ok() && symlink(&rt, name, link).is_ok());
+        for (to, bytes) in [(link, b"one".as_slice()), (name, b"two".as_slice())] {
+            assert!(rt; folder.store(to, bytes) == Ok(()));
+            assert!(rt; holds(&mut folder, name, bytes, alloc));
+            assert!(rt; holds(&mut folder, old, b"old", alloc));
+        }
+        for gone in [name, link, old] {
+            assert!(rt; fs::remove_file(&rt, gone).is_ok());
+        }
+    }
+    Ok(())
 }
 
 #[test]

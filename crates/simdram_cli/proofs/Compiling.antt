@@ -18,7 +18,6 @@ use Rattle.simdram_cli.specs.Complete.{IsOps}
 use Rattle.simdram_cli.specs.Ends.{IsCompiled}
 use Rattle.simdram_cli.specs.Inputs.{ops_in}
 use Rattle.simdram_cli.proofs.Completes.{IsOneOf}
-use Rattle.simdram_cli.proofs.OpsPlans.{spells_at}
 use Rattle.simdram_cli.proofs.JobPlans.{good_file, ops_refuses}
 use Rattle.simdram_cli.proofs.Planned.{GivesOwn, IsFailing}
 use Rattle.cli_model.proofs.Files.{at_other, at_own, bytes_differ}
@@ -80,13 +79,10 @@ compiled names old new status d =
         ),
       ),
     ). record {
-      ops = c.ops;
+      text = text;
+      read = there;
       program = program;
-      are = spells_at (before names.ops.now) text c.ops there c.is;
-      legal = c.legal;
-      implements = c.implements;
-      exact = c.exact;
-      taken = c.taken;
+      compiled = c;
       is = ap (λ (x : Files). x names.prog.now) same
           ∙ at_own names.prog.now (program_bytes 2 program) before;
       others = λ other apart. ap (λ (x : Files). x other) same

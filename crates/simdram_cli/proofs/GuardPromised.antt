@@ -444,6 +444,7 @@ guard_promised names old new status apart d =
         implements = compiled.implements;
         taken = compiled.taken;
       };
+      exact = compiled.exact;
       rows = rows;
       words = λ t implements. in_words t out job after old new status implements done;
       others = kept_other names.prog.now out bytes (image_at_last job) before after files;

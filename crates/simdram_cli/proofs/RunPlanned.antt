@@ -158,6 +158,7 @@ run_promised names old new status apart d =
         implements = compiled.implements;
         taken = compiled.taken;
       };
+      exact = compiled.exact;
       objects_right = objects_right out t script i program new.chip refused after done
           (ap (λ (x : Files). x out) files ∙ at_own out (image_by program script i) stored);
       rows_untouched = rows_untouched t script i program new.chip refused done;

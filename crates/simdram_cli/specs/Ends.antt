@@ -21,8 +21,9 @@ use Rattle.simdram_cli.specs.Stops.{reason_of}
 use Rattle.cli_model.specs.Reads.{IsText}
 use Rattle.simdram_cli.specs.Job.{done_status}
 
--- the program is one that a file can hold, and does the ops that the text has; and each command
--- that loads a program file takes its file
+-- the program is one that a file can hold, does the ops that the text has, and takes for each
+-- exactly the row commands of its statements; and each command that loads a program file takes its
+-- file
 pub record IsCompiled (text : List ℕ) (program : Program) : Type 0 where
   pub ops : List Operation
   pub is : IsOpsOf text ops

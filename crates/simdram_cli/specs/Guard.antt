@@ -8,6 +8,7 @@ use Rattle.dram_model.specs.Chip.{Banks, Event, LogIs}
 use Rattle.dram_model.specs.View.{ChipView, HasBegun, with_reads}
 use Rattle.object_alloc.specs.Listed.{Named}
 use Rattle.object_alloc.specs.Spelling.{IsImage, image_bytes}
+use Rattle.uprog_gen.specs.Totals.{AreExact}
 use Rattle.uprog_code.specs.Texts.{TextOp, ImplementsAll}
 use Rattle.bbop_isa.specs.Forms.{Instruction}
 use Rattle.wave_model.specs.Schedule.{Ahead}
@@ -236,8 +237,9 @@ pub record GuardedWords (t : List TextOp) (job : GuardJob) (old new : World) : T
   pub triples : first_stranger (table_at_last job) ≡ None
   pub mended : IsMendable t job → Mended t job old new
 
--- What a guarded run promises, for every FLIPS: one job, that of the files at entry; PROG; what
--- stands and was sent, row by row; and by each text that the program does, that of OPS among them,
+-- What a guarded run promises, for every FLIPS: one job, that of the files at entry; PROG, whose
+-- entries take exactly the row commands of their ops' statements at each width; what stands and was
+-- sent, row by row; and by each text that the program does, that of OPS among them,
 -- what that is in words. All files but PROG and OUT are as at entry
 pub record Guarded (names : GuardNames) (before after : Files) (old new : World) (status : ℕ)
     : Type 0 where
@@ -249,6 +251,7 @@ pub record Guarded (names : GuardNames) (before after : Files) (old new : World)
   pub flips_are : read_as (flips_in job.image.geometry (length job.script))
       (before names.flips.now) ≡ Some job.flips
   pub program_written : ProgramWritten (run_names names) (job_by text job) after
+  pub exact : AreExact job.program of_files.ops
   pub rows : GuardedRows names.out.now job after old new status
   pub words : (t : List TextOp) → ImplementsAll job.program t → GuardedWords t job old new
   pub others : (other : List ℕ) → other ≢ names.prog.now → other ≢ names.out.now

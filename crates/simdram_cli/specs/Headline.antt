@@ -8,6 +8,7 @@ use Rattle.dram_model.specs.Chip.{LogIs, row_in}
 use Rattle.dram_model.specs.View.{ChipView, HasBegun}
 use Rattle.object_alloc.specs.Spelling.{image_bytes}
 use Rattle.uprog_bin.specs.Spelling.{program_bytes}
+use Rattle.uprog_gen.specs.Totals.{AreExact}
 use Rattle.bbop_isa.specs.Forms.{Instruction}
 use Rattle.machine_model.specs.declared.Reply.{Reply}
 use Rattle.machine_model.specs.declared.Reply.TheVariants.{Refused}
@@ -131,13 +132,15 @@ pub record RepliesExact (job : RunJob) (status : ℕ) : Type 0 where
   pub answers : status ≡ done_status (count_by is_refused (replies_of job))
   pub walks : AllByRecursion IsNoBadWalk (replies_of job)
 
--- The headline: one job, that of the files at entry, and the six promises on it. All files but PROG
--- and OUT are as at entry
+-- The headline: one job, that of the files at entry, and the six promises on it. Each entry of PROG
+-- takes exactly the row commands of its op's statements at each width. All files but PROG and OUT
+-- are as at entry
 pub record Headline (names : RunNames) (before after : Files) (old new : World) (status : ℕ)
     : Type 0 where
   pub job : RunJob
   pub of_files : IsRunJob names before job
   pub program_written : ProgramWritten names job after
+  pub exact : AreExact job.program of_files.ops
   pub objects_right : ObjectsRight names.out.now job after new.chip
   pub rows_untouched : RowsUntouched job new.chip
   pub commands_counted : CommandsCounted job new.chip

@@ -1,5 +1,5 @@
 -- Soaks of one seed tell the same lines.
-use Rattle.std.proofs.Common.{◌≡◌, ℕ, ◌+◌, ◌*◌, ◌<◌, ◌≤◌, List, [], ◌∷◌, ◌++◌, length, refl, sym}
+use Rattle.std.proofs.Common.{◌≡◌, ℕ, ◌+◌, ◌*◌, ◌≤◌, List, [], ◌∷◌, ◌++◌, length, refl, sym}
 use Rattle.std.proofs.Common.{◌∙◌, ap, arith}
 use Rattle.std.specs.List.{AllByRecursion}
 use Rattle.bit_rows.specs.declared.TheConstants.{WIDTH_MAX}
@@ -10,7 +10,8 @@ use Rattle.uprog_code.specs.Shape.{Microprogram}
 use Rattle.uprog_code.specs.declared.walker.Counts.{Counts}
 use Rattle.cli_model.specs.Stands.{sent_by}
 use Rattle.soak_job.specs.declared.cases.Case.{Case}
-use Rattle.soak_job.specs.Cases.{soak_cases, source_kinds}
+use Rattle.uprog_gen.proofs.Costs.Blocks.{words_cost_the_same}
+use Rattle.soak_job.specs.Cases.{one_statement, soak_cases, source_kinds}
 use Rattle.soak_job.specs.Words.{after_all}
 use Rattle.soak_job.specs.Layout.{case_events, issues_at}
 use Rattle.soak_job.specs.Sums.{case_line, case_sum, counted_line, in_both_banks}
@@ -24,8 +25,7 @@ same_counts : (c : Case) (m n : Microprogram) → CanBeDone c → IsProgramOf c 
     → counts_of (issues_at c m) ≡ counts_of (issues_at c n)
 same_counts c m n can x y =
     let narrow : c.n ≤ WIDTH_MAX = omega (arith, can.fits.narrow) in
-    x.exact.exact refl c.n can.fits.some narrow
-    ∙ sym (y.exact.exact refl c.n can.fits.some narrow)
+    words_cost_the_same m n (one_statement c.op) tt x.exact y.exact c.n can.fits.some narrow
 
 abbrev twice : Counts → Counts
 twice k = record { aap = 2 * k.aap; ap = 2 * k.ap }

@@ -1,58 +1,19 @@
 //! Runs a microprogram on a column of functions.
 
-ghost use Rattle.std.specs.Prelude.{◌≡◌, ℕ, Bool, List, length, ◌<◌, ◌≤◌, OnOk, Err};
+ghost use Rattle.std.specs.Prelude.{◌≡◌, ℕ, Bool, length, ◌<◌, ◌≤◌, OnOk, Err};
 ghost use Rattle.dram_model.specs.Column.{run as run_of};
-ghost use Rattle.uprog_code.specs.Shape.{Shape, shape_of};
 ghost use Rattle.uprog_code.specs.Machine.{HasEnded, trace, issues_of};
 ghost use Rattle.uprog_code.specs.Legal.{IsLegalCode};
-ghost use Rattle.uprog_code.specs.OneStep.{issues_by};
 ghost use Rattle.uprog_code.specs.Bound.{bound, bound_of};
 ghost use Rattle.uprog_code.specs.Fits.{Fits};
-ghost use Rattle.uprog_code.specs.Issued.{AreGood};
 ghost use Rattle.bdd.specs.declared.Shortage.{Shortage};
 ghost use Rattle.bdd.specs.Graphs.{AreNodes, HasReached, Keeps};
 ghost use Rattle.symbolic_column.specs.Symbols.{column_of, AreCells};
 
-use crate::address::command_of;
 use bdd::{Diagram, Shortage};
 use bit_rows::WIDTH_MAX;
 use symbolic_column::SymbolicColumn;
-use uprog_code::{Binding, Fetch, Head, Turn, WALK_MAX, step};
-
-/// The commands of one step of a machine: one or none.
-fn do_turn(
-    column: &mut SymbolicColumn,
-    diagram: &mut Diagram,
-    turn: Turn,
-    head: &Head,
-    rows: u16,
-    binding: &Binding,
-) -> Result<(), Shortage>
-    requires nodes { AreNodes diagram.old.nodes }
-    requires cells { AreCells diagram.old.nodes column.old }
-    requires rows { length column.old.rows ≡ rows }
-    requires some { 0 < binding.now.n }
-    requires fits { Fits rows (shape_of head.now) binding.now.n (bound_of binding.now) }
-    requires good { AreGood (shape_of head.now) binding.now.n (issues_by turn) }
-    ensures column { OnOk result ((bits : ℕ → Bool) → column_of diagram.new.nodes bits column.new
-        ≡ run_of (bound rows (shape_of head.now) binding.now.n (bound_of binding.now)
-        (issues_by turn)) (column_of diagram.old.nodes bits column.old)) }
-    ensures cells { AreCells diagram.new.nodes column.new }
-    ensures nodes { AreNodes diagram.new.nodes }
-    ensures keeps { Keeps diagram.old.nodes diagram.new.nodes }
-    ensures limits { diagram.new.limits ≡ diagram.old.limits }
-    ensures reached { (s : Shortage) → result ≡ Err s → HasReached s diagram.new }
-    ensures rows { length column.new.rows ≡ length column.old.rows }
-{
-    match turn {
-        Turn::Issues(issued) => {
-            let command = command_of(&issued, head, rows, binding);
-            column.step(diagram, command)?;
-            Ok(())
-        }
-        _ => Ok(()),
-    }
-}
+use uprog_code::{Binding, Fetch, WALK_MAX, Walk, next_command};
 
 /// Runs a microprogram whose walk ends.
 pub fn symbolic_run<F: Fetch>(
@@ -82,20 +43,11 @@ pub fn symbolic_run<F: Fetch>(
     ensures rows { length column.new.rows ≡ length column.old.rows }
 {
     let head = entry.head();
-    let mut regs = [0u16; 8];
-    let mut pc: u16 = 0;
+    let mut walk = Walk::start();
     for k in 0..WALK_MAX {
-        let uop = entry.fetch(pc);
-        match step(&uop, &head, binding.n, &mut regs) {
-            Ok(turn) => {
-                if turn.is_over() {
-                    return Ok(());
-                }
-                do_turn(column, diagram, turn, &head, rows, binding)?;
-                pc = turn.place_after(pc);
-            }
-            // the trace ends, so no step of it is stuck
-            Err(_) => return Ok(()),
+        match next_command(entry, &head, rows, binding, &mut walk) {
+            Some(command) => column.step(diagram, command)?,
+            None => return Ok(()),
         }
     }
     Ok(())

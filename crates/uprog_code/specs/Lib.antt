@@ -6,6 +6,7 @@ pub mod OneStep
 pub mod Count
 pub mod Bound
 pub mod Fits
+pub mod Commands
 pub mod Legal
 pub mod Programs
 pub mod Implements

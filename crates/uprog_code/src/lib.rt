@@ -1,8 +1,10 @@
 //! Microprograms: their instructions, what they issue, and the walk that counts it.
 #![tactic(auto)]
 
+mod address;
 mod binding;
 mod code;
+mod commands;
 mod fetch;
 mod laws;
 mod registers;
@@ -10,6 +12,7 @@ mod walker;
 
 pub use binding::Binding;
 pub use code::{EntryCode, Head, Program, RowRef, RowSpace, Uop};
+pub use commands::{Walk, next_command};
 pub use fetch::Fetch;
 pub use laws::legal_code_is_safe;
 pub use op_text::Kind;

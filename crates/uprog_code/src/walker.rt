@@ -1,7 +1,8 @@
 //! Follows a microprogram and counts its commands.
 
-ghost use Rattle.std.specs.Prelude.{IfOk, ◌≡◌, ◌+◌, ◌^◌, ◌<◌, ◌≤◌};
-ghost use Rattle.uprog_code.specs.Machine.{trace};
+ghost use Rattle.std.specs.Prelude.{IfOk, ◌≡◌, ◌+◌, ◌-◌, ◌%◌, ◌^◌, ◌<◌, ◌≤◌, ◌⊎◌};
+ghost use Rattle.uprog_code.specs.Machine.{trace, Stuck};
+ghost use Rattle.uprog_code.specs.declared.walker.Why3.TheVariants.{Budget};
 ghost use Rattle.uprog_code.specs.Legal.{IsLegalCode};
 ghost use Rattle.uprog_code.specs.Count.{walked, counts_after};
 
@@ -35,6 +36,45 @@ pub struct Counts {
     pub ap: u64,
 }
 
+/// Where a walk stands after so many of its steps: the next instruction and the registers.
+#[derive(Clone, Copy)]
+struct State {
+    step: u32,
+    pc: u16,
+    regs: [u16; 8],
+}
+
+impl State {
+    /// The step at which a walk ends that stands here and was to end at `end`. Where it stood here
+    /// before, at `mark`, it goes round until then, and whole rounds are left out.
+    #[inline(always)]
+    fn end_since(&self, mark: &State, end: u32) -> u32
+        requires later { mark.now.step < self.now.step }
+        requires end { self.now.step ≤ end }
+        ensures { (result ≡ end) ⊎ ((mark.now.pc ≡ self.now.pc) × (mark.now.regs ≡ self.now.regs)
+            × (result ≡ self.now.step
+            + (end - self.now.step) % (self.now.step - mark.now.step))) }
+    {
+        if mark.pc == self.pc && mark.regs == self.regs {
+            self.step + (end - self.step) % (self.step - mark.step)
+        } else {
+            end
+        }
+    }
+
+    /// The state that is kept from here on: at the steps 1, 2, 4, 8 and so on this one.
+    #[inline(always)]
+    fn kept_after(self, mark: State) -> State
+        ensures { (result ≡ mark) ⊎ (result ≡ self) }
+    {
+        if self.step.is_power_of_two() {
+            self
+        } else {
+            mark
+        }
+    }
+}
+
 /// The numbers of commands that a microprogram issues at width n, or the first instruction where it
 /// is stuck. The budget is looked at before the instruction, and its last instruction counts.
 pub fn walk<F: Fetch>(code: &F, n: u8) -> Result<Counts, BadWalk>
@@ -48,7 +88,12 @@ pub fn walk<F: Fetch>(code: &F, n: u8) -> Result<Counts, BadWalk>
     let mut regs = [0u16; 8];
     let mut pc: u16 = 0;
     let mut counts = Counts { aap: 0, ap: 0 };
+    let mut mark = State { step: 0, pc, regs };
+    let mut end = WALK_MAX;
     for k in 0..WALK_MAX {
+        if k == end {
+            return out_of_budget(pc);
+        }
         let uop = code.fetch(pc);
         match step(&uop, &head, n, &mut regs) {
             Ok(turn) => {
@@ -60,9 +105,23 @@ pub fn walk<F: Fetch>(code: &F, n: u8) -> Result<Counts, BadWalk>
             }
             Err(why) => return Err(BadWalk { at: pc, why }),
         }
+        let here = State {
+            step: k + 1,
+            pc,
+            regs,
+        };
+        end = here.end_since(&mark, end);
+        mark = here.kept_after(mark);
     }
+    out_of_budget(pc)
+}
+
+/// Stuck before this instruction, with the budget spent.
+fn out_of_budget(at: u16) -> Result<Counts, BadWalk>
+    ensures { result ≡ walked (Stuck at Budget) }
+{
     Err(BadWalk {
-        at: pc,
+        at,
         why: Why3::Budget,
     })
 }

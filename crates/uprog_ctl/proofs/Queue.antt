@@ -1,29 +1,27 @@
 -- The queue of a bank, job by job.
-use Rattle.std.proofs.Common.{◌≡◌, ℕ, ◌+◌, ◌<◌, ◌≤◌, Bool, true, false, List, []}
+use Rattle.std.proofs.Common.{◌≡◌, ℕ, ◌+◌, ◌<◌, ◌≤◌, List, []}
 use Rattle.std.proofs.Common.{◌∷◌}
 use Rattle.std.proofs.Common.{◌++◌, length, map, drop, get_or, refl, sym, ap, ◌∙◌, subst, arith}
-use Rattle.std.specs.Prelude.{All, nat_lt, if◌then◌else◌}
+use Rattle.std.specs.Prelude.{All, MatchOption, Option, None, Some, nat_lt, if◌then◌else◌}
 use Rattle.std.proofs.lemmas.Bool.{lt-ltb, le-ltb}
 use Rattle.std.proofs.lemmas.List.{drop_more, get_or-map, length-map}
 use Rattle.std.proofs.lemmas.List.Elements.{All-get_or, All-head, All-drop}
 use Rattle.dram_model.specs.declared.address.Command.{Command}
 use Rattle.dram_model.specs.declared.geometry.Geometry.{Geometry}
-use Rattle.uprog_code.specs.declared.TheConstants.{WALK_MAX}
 use Rattle.uprog_code.specs.declared.code.Uop.{Uop}
 use Rattle.uprog_code.specs.Shape.{Shape, shape_of}
-use Rattle.uprog_code.specs.Machine.{Issue, Trace, issues_of, start, HasEnded}
-use Rattle.uprog_code.specs.Bound.{bound, bound_command, bound_of}
-use Rattle.uprog_code.proofs.Steps.{trace_is, some_first, start_registers}
+use Rattle.uprog_code.specs.Machine.{Trace, issues_of}
+use Rattle.uprog_code.specs.Bound.{bound, bound_of}
+use Rattle.uprog_code.specs.Commands.{commands_from, Finds as FindsInCode}
+use Rattle.uprog_code.proofs.Steps.{trace_is}
+use Rattle.uprog_code.proofs.Seek.{first_walk, start_stands}
 use Rattle.uprog_ctl.specs.declared.waves.Job.{Job}
 use Rattle.uprog_ctl.specs.declared.cursor.JobHead.{JobHead}
-use Rattle.uprog_ctl.specs.declared.cursor.Walk.{Walk}
+use Rattle.uprog_code.specs.declared.commands.Walk.{Walk}
 use Rattle.uprog_ctl.specs.declared.cursor.Cursor.{Cursor}
 use Rattle.uprog_ctl.specs.Waves.{BoundJob, bound_job, bound_jobs, CanRun, job_queues}
-use Rattle.uprog_ctl.specs.Cursors.{rest_of, bank_commands, StandsIn, Finds, left_from}
+use Rattle.uprog_ctl.specs.Cursors.{bank_commands, Finds, left_from}
 use Rattle.uprog_ctl.specs.Cursors.{StandsInFirst, AreHeads, IsAt}
-
-abbrev pub first_walk : Walk
-first_walk = record { pc = 0; regs = start; left = WALK_MAX }
 
 -- the head that stands beside a job is its entry's
 pub head_at : {F : Type 0} (shape : F → Shape) (jobs : List (Job F)) (heads : List JobHead) (i : ℕ)
@@ -60,14 +58,6 @@ job_can_run {F} shape code g jobs i job all lt e =
     subst (CanRun g) (get_or-map f jobs i job (f job) lt ∙ ap f (sym e))
     (All-get_or (CanRun g) (map f jobs) i (f job) lt' all)
 
--- a job that a chip can run can be started
-pub start_stands : (g : Geometry) (job : BoundJob) → CanRun g job → StandsIn job first_walk
-start_stands g job can = record {
-  place = some_first job.shape job.code can.legal;
-  registers = start_registers;
-  ended = subst HasEnded (sym (trace_is job.shape job.code job.binding.n)) can.ends;
-}
-
 pub start_left : (rows bank : ℕ) (jobs : List BoundJob)
     → left_from rows bank jobs first_walk ≡ job_queues rows jobs bank
 start_left rows bank [] = refl
@@ -81,34 +71,23 @@ pub not_its : (rows bank : ℕ) (job : BoundJob) (w : Walk) → job.banks ≤ ba
     → bank_commands rows bank job w ≡ []
 not_its rows bank job w h = rw (le-ltb bank job.banks h) refl
 
-pub all_done : (rows bank : ℕ) (job : BoundJob) (w : Walk) → issues_of (rest_of job w) ≡ []
-    → bank_commands rows bank job w ≡ []
-all_done rows bank job w e = rw e (none (nat_lt bank job.banks))
-  where
-    nothing : List Command
-    nothing = []
-
-    none : (t : Bool) → (if t then nothing else nothing) ≡ nothing
-    none true = refl
-    none false = refl
-
 own : (rows bank : ℕ) (job : BoundJob) (w : Walk) → bank < job.banks
-    → bank_commands rows bank job w
-    ≡ bound rows job.shape job.binding.n (bound_of job.binding) (issues_of (rest_of job w))
+    → bank_commands rows bank job w ≡ commands_from rows job.shape job.code job.binding w
 own rows bank job w lt = rw (lt-ltb bank job.banks lt) refl
 
--- the command that is found, and what is left after it
-pub found_first : (rows bank : ℕ) (job : BoundJob) (w following : Walk) (is : Issue)
-    (next : Command) → bank < job.banks
-    → issues_of (rest_of job w) ≡ is ∷ issues_of (rest_of job following)
-    → next ≡ bound_command rows job.shape job.binding.n (bound_of job.binding) is
-    → bank_commands rows bank job w ≡ next ∷ bank_commands rows bank job following
-found_first rows bank job w following is next lt first e =
-    own rows bank job w lt
-    ∙ ap (λ (all : List Issue). bound rows job.shape job.binding.n (bound_of job.binding) all) first
-    ∙ ap (λ (k : Command). k ∷ bound rows job.shape job.binding.n (bound_of job.binding)
-    (issues_of (rest_of job following))) (sym e)
-    ∙ ap (λ (cs : List Command). next ∷ cs) (sym (own rows bank job following lt))
+-- what is found in the job's code, as the bank that runs it has it
+pub found : (rows bank : ℕ) (job : BoundJob) (w following : Walk) (next : Option Command)
+    → bank < job.banks → MatchOption next
+    (commands_from rows job.shape job.code job.binding w ≡ [])
+    (FindsInCode rows job.shape job.code job.binding w following)
+    → MatchOption next (bank_commands rows bank job w ≡ []) (Finds rows bank job w following)
+found rows bank job w following None lt none = own rows bank job w lt ∙ none
+found rows bank job w following (Some next) lt finds = record {
+  first = own rows bank job w lt ∙ finds.first
+      ∙ ap (λ (cs : List Command). next ∷ cs) (sym (own rows bank job following lt));
+  legal = finds.legal;
+  stands = finds.stands;
+}
 
 pub cursor_at : (g : Geometry) (all jobs : List BoundJob) (job : BoundJob) (i bank : ℕ)
     (w following : Walk) (left : List Command) (next : Command) (c : Cursor) → i < length all
@@ -139,7 +118,8 @@ next_job rows bank jobs w e = ap (left_from rows bank jobs) e ∙ start_left row
 first_stands : (g : Geometry) (jobs : List BoundJob) → All (CanRun g) jobs
     → StandsInFirst jobs first_walk
 first_stands g [] all = tt
-first_stands g (job ∷ jobs) all = start_stands g job (All-head (CanRun g) job jobs all)
+first_stands g (job ∷ jobs) all = let can = All-head (CanRun g) job jobs all in
+    start_stands job.shape job.code job.binding.n can.legal can.ends
 
 pub next_stands : (g : Geometry) (jobs : List BoundJob) (i : ℕ) (w : Walk) → All (CanRun g) jobs
     → w ≡ first_walk → StandsInFirst (drop i jobs) w

@@ -3,14 +3,8 @@ use Rattle.std.specs.Prelude.{◌≡◌, ℕ, ◌<◌, ◌⊎◌, true, nat_lt, 
 use Rattle.std.specs.Prelude.{length, map, drop, remove, slice_set, slice_index_or}
 use Rattle.dram_model.specs.declared.address.Command.{Command}
 use Rattle.dram_model.specs.Column.{is_legal}
-use Rattle.uprog_code.specs.declared.code.Uop.{Uop}
-use Rattle.uprog_code.specs.declared.code.Uop.TheVariants.{Done, SetI, SetN, SetT, Mov, Add, AddI}
-use Rattle.uprog_code.specs.declared.code.Uop.TheVariants.{SubI, Bnez, Aap, Ap}
-use Rattle.uprog_code.specs.Machine.{Trace, issue, issues_of, HasEnded, Issue, IssueAap, IssueAp}
-use Rattle.uprog_code.specs.Machine.{command_at}
-use Rattle.uprog_code.specs.OneStep.{AreRegisters}
-use Rattle.uprog_code.specs.Bound.{bound, bound_of}
-use Rattle.uprog_ctl.specs.declared.cursor.Walk.{Walk}
+use Rattle.uprog_code.specs.declared.commands.Walk.{Walk}
+use Rattle.uprog_code.specs.Commands.{commands_from, StandsIn as StandsInCode}
 use Rattle.uprog_ctl.specs.declared.cursor.Cursor.{Cursor}
 use Rattle.uprog_ctl.specs.declared.cursor.JobHead.{JobHead}
 use Rattle.uprog_code.specs.Shape.{Shape, shape_of}
@@ -18,35 +12,15 @@ use Rattle.uprog_ctl.specs.declared.waves.Job.{Job}
 use Rattle.uprog_ctl.specs.Waves.{BoundJob, job_queues}
 use Rattle.wave_model.specs.Schedule.{Queues, live as live_banks}
 
--- the row command of an instruction, where it is one
-abbrev pub row_commands : List ℕ → Uop → List Issue
-row_commands regs Done = []
-row_commands regs (SetI r k) = []
-row_commands regs (SetN r) = []
-row_commands regs (SetT r) = []
-row_commands regs (Mov r s) = []
-row_commands regs (Add r s) = []
-row_commands regs (AddI r k) = []
-row_commands regs (SubI r k) = []
-row_commands regs (Bnez r t) = []
-row_commands regs (Aap x y) = command_at regs (IssueAap x y) ∷ []
-row_commands regs (Ap x) = command_at regs (IssueAp x) ∷ []
-
--- what a job still issues from a place on
-abbrev pub rest_of : BoundJob → Walk → Trace
-rest_of job w = issue job.shape job.code job.binding.n w.left w.pc w.regs
-
--- what it still sends to this bank
+-- what a job still sends to this bank from a place on
 abbrev pub bank_commands : ℕ → ℕ → BoundJob → Walk → List Command
 bank_commands rows bank job w = if nat_lt bank job.banks
-    then bound rows job.shape job.binding.n (bound_of job.binding) (issues_of (rest_of job w))
+    then commands_from rows job.shape job.code job.binding w
     else []
 
--- the place lies in the code, and the trace from it on ends
-pub record StandsIn (job : BoundJob) (w : Walk) : Type 0 where
-  pub place : w.pc < length job.code
-  pub registers : AreRegisters w.regs
-  pub ended : HasEnded (rest_of job w)
+-- the place lies in the job's code, and the trace from it on ends
+abbrev pub StandsIn : BoundJob → Walk → Type 0
+StandsIn job w = StandsInCode job.shape job.code job.binding.n w
 
 -- the first command of what is left in a bank is this one, and the place after it that one
 pub record Finds (rows bank : ℕ) (job : BoundJob) (w following : Walk) (next : Command) : Type 0

@@ -16,10 +16,9 @@ ghost use Rattle.uprog_code.specs.declared.binding.Binding.{Binding};
 ghost use Rattle.uprog_code.specs.Count.{counts_of};
 ghost use Rattle.uprog_ctl.specs.Events.{issue_events, trace_events, risen};
 
-use crate::address::command_of;
 use bit_rows::WIDTH_MAX;
 use dram_model::{ChipFault, Command, Dram};
-use uprog_code::{Binding, Fetch, Head, Turn, WALK_MAX, step};
+use uprog_code::{Binding, Fetch, WALK_MAX, Walk, next_command};
 
 /// A trace's events raise the counters by its counts.
 pub fn counters_rise_by_counts()
@@ -52,38 +51,6 @@ pub(crate) fn do_command<D: Dram>(
     }
 }
 
-/// The commands of one step of a machine: one or none.
-fn do_turn<D: Dram>(
-    dram: &mut D,
-    bank: u16,
-    turn: Turn,
-    head: &Head,
-    binding: &Binding,
-) -> Result<(), ChipFault>
-    requires begun { HasBegun (D.view dram.old) }
-    requires bank { bank < (D.view dram.old).geometry.banks }
-    requires some { 0 < binding.now.n }
-    requires fits { Fits (D.view dram.old).geometry.rows (shape_of head.now) binding.now.n
-        (bound_of binding.now) }
-    requires good { AreGood (shape_of head.now) binding.now.n (issues_by turn) }
-    requires aap_room { (D.view dram.old).counters.aap < 2 ^ 63 }
-    requires ap_room { (D.view dram.old).counters.ap < 2 ^ 63 }
-    ensures borrow { D.borrow dram.new ≡ D.borrow dram.old }
-    ensures kept { Kept (D.view dram.old) (D.view dram.new) }
-    ensures did { OnOk result (Did (issue_events bank (D.view dram.old).geometry.rows
-        (shape_of head.now) binding.now (issues_by turn))
-        (D.view dram.old) (D.view dram.new)) }
-    ensures failed { OnErr result (FailedIn bank (D.view dram.old) (D.view dram.new)) }
-{
-    match turn {
-        Turn::Issues(issued) => {
-            let rows = dram.geometry().rows;
-            do_command(dram, bank, command_of(&issued, head, rows, binding))
-        }
-        _ => Ok(()),
-    }
-}
-
 /// Runs a microprogram on one bank to its end. A call that fails ends it: the commands before it
 /// are done.
 pub fn run<D: Dram, F: Fetch>(
@@ -110,20 +77,12 @@ pub fn run<D: Dram, F: Fetch>(
     ensures failed { OnErr result (FailedIn bank (D.view dram.old) (D.view dram.new)) }
 {
     let head = entry.head();
-    let mut regs = [0u16; 8];
-    let mut pc: u16 = 0;
+    let rows = dram.geometry().rows;
+    let mut walk = Walk::start();
     for k in 0..WALK_MAX {
-        let uop = entry.fetch(pc);
-        match step(&uop, &head, binding.n, &mut regs) {
-            Ok(turn) => {
-                if turn.is_over() {
-                    return Ok(());
-                }
-                do_turn(dram, bank, turn, &head, binding)?;
-                pc = turn.place_after(pc);
-            }
-            // the trace ends, so no step of it is stuck
-            Err(_) => return Ok(()),
+        match next_command(entry, &head, rows, binding, &mut walk) {
+            Some(command) => do_command(dram, bank, command)?,
+            None => return Ok(()),
         }
     }
     Ok(())

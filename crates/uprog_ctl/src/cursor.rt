@@ -9,34 +9,10 @@ ghost use Rattle.uprog_ctl.specs.Cursors.{bank_commands, StandsIn, Finds, left_a
 ghost use Rattle.uprog_ctl.specs.Cursors.{StandsInFirst};
 ghost use Rattle.uprog_ctl.specs.Cursors.{AreHeads, IsAt, AreAt, MovesOn};
 
-use crate::address::command_at;
 use crate::waves::Job;
 use arrayvec::ArrayVec;
-use bit_rows::WIDTH_MAX;
 use dram_model::{Addr, Command, Geometry};
-use uprog_code::{Fetch, Head, Kind, Name, WALK_MAX, step};
-
-/// A place in a microprogram: the next instruction, the registers, and how many instructions its
-/// walk may still take.
-#[derive(Clone, Copy, PartialEq, Eq)]
-pub(crate) struct Walk {
-    pub pc: u16,
-    pub regs: [u16; 8],
-    pub left: u32,
-}
-
-impl Walk {
-    /// The start of a microprogram.
-    fn start() -> Walk
-        ensures { result ≡ record { pc = 0; regs = start; left = WALK_MAX } }
-    {
-        Walk {
-            pc: 0,
-            regs: [0; 8],
-            left: WALK_MAX,
-        }
-    }
-}
+use uprog_code::{Fetch, Head, Kind, Name, WALK_MAX, Walk, next_command};
 
 /// A bank that has commands left: the next one, and the job and the place after it.
 #[derive(Clone, Copy, PartialEq, Eq)]
@@ -124,28 +100,7 @@ fn seek<F: Fetch>(
     if bank >= job.banks {
         return None;
     }
-    let mut pc = walk.pc;
-    let all = walk.left;
-    for k in 0..all {
-        let uop = job.entry.fetch(pc);
-        // the trace ends, so a row command of it is in range
-        if let Some(next) = command_at(&uop, &walk.regs, head, g.rows, &job.binding) {
-            walk.pc = pc + 1;
-            walk.left = all - k - 1;
-            return Some(next);
-        }
-        match step(&uop, head, job.binding.n, &mut walk.regs) {
-            Ok(turn) => {
-                if turn.is_over() {
-                    return None;
-                }
-                pc = turn.place_after(pc);
-            }
-            // and no step of it is stuck
-            Err(_) => return None,
-        }
-    }
-    None
+    next_command(&job.entry, head, g.rows, &job.binding, walk)
 }
 
 /// Moves a bank on to its next command; false where it has none left. The bank stands in one of the

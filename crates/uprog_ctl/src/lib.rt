@@ -1,7 +1,6 @@
 //! The controller: runs microprograms on the banks of a chip.
 #![tactic(auto)]
 
-mod address;
 mod controller;
 mod cursor;
 mod pickers;

@@ -2,3 +2,4 @@
 pub mod Kinds
 pub mod Exact
 pub mod Counted
+pub mod Blocks

@@ -14,13 +14,14 @@ use Rattle.mig_graph.specs.Outputs.{lit_at, AreNamed}
 use Rattle.mig_graph.specs.Reduced.{IsReduced}
 use Rattle.uprog_code.specs.Machine.{trace, issues_of}
 use Rattle.uprog_code.specs.Shape.{Microprogram}
-use Rattle.loop_ir.specs.Plain.{Block as Body}
+use Rattle.loop_ir.specs.Plain.{Block as Body, StepOf}
 use Rattle.loop_ir.specs.Flows.{FlowOf, TurnsOf}
 use Rattle.loop_ir.specs.Flows.FlowOf.{End, Do, Put, If, Loop}
 use Rattle.loop_ir.specs.Flows.TurnsOf.{Last, Turn}
+use Rattle.loop_ir.specs.Statements.{Slots}
 use Rattle.block_lower.specs.Inputs.{block_inputs, name_at}
 use Rattle.uprog_gen.specs.Costs.{op_aaps, op_aps}
-use Rattle.uprog_gen.specs.Totals.{IsExact}
+use Rattle.uprog_gen.specs.Programs.{HaveForms, IsCompiled}
 
 -- a graph, and the literals of its outputs
 pub record Graphed : Type 0 where
@@ -71,13 +72,25 @@ graphed_ceiling known n (Visit b ∷ body) (g ∷ gs) =
     n * (4 * length g.graph.nodes + 3 * length b.assigns) + length b.states
     + graphed_ceiling (known ++ defines known (Visit b)) n body gs
 
--- the graphs are those of the operation's blocks, and its entry takes no more commands than they
--- say, and exactly those of its word operations where it has no block
+-- the graphs that the loop programs of a body's blocks do
+abbrev pub graphs_done : (slots : Slots) (body : List Statement) (ps : List (List (StepOf Body)))
+    → HaveForms slots body ps → List Graphed
+graphs_done slots [] ps h = []
+graphs_done slots (s ∷ body) [] h = []
+graphs_done slots (Compute target second p args ∷ body) (q ∷ ps) h = graphs_done slots body ps h.1
+graphs_done slots (Visit b ∷ body) (q ∷ ps) h = record {
+  graph = h.0.body.graph;
+  outs = h.0.body.outs;
+} ∷ graphs_done slots body ps h.1
+
+-- The graphs are those of the operation's blocks, and the ones that its entry does; and the entry
+-- takes no more commands than they say
 pub record IsGraphed (e : Microprogram) (op : Operation) (gs : List Graphed) : Type 0 where
+  pub compiled : IsCompiled e op
+  pub done : gs ≡ graphs_done compiled.slots op.body compiled.statements compiled.forms
   pub graphs : AreGraphsOf op.body gs
   pub few : (n : ℕ) → 0 < n → n ≤ WIDTH_MAX → length (issues_of (trace e.shape e.code n))
       ≤ graphed_ceiling op.params n op.body gs
-  pub exact : IsExact e op
 
 -- after the graphs before stand the operation's
 abbrev pub AddsGraphs : Microprogram → Operation → List Graphed → List Graphed → Type 0

@@ -87,10 +87,11 @@ pub fn compile_ops(ops: &Ops, alloc: Global) -> Result<Compiled, NoMemory>
     // it takes exactly the commands of its parts.
     ensures compiled { IfOk result (λ c. AreCompiled (microprograms_of c.program)
         (operations ops.now)) }
-    // The graphs are those of the blocks, and no entry takes more commands than they say.
+    // The graphs are those of the blocks, which the code does, and no entry takes more commands
+    // than they say.
     ensures graphs { IfOk result (λ c. AreGraphed (microprograms_of c.program) (operations ops.now)
         (map graphed_of c.graphs.items)) }
-    // An entry of word operations alone takes exactly their AAP and AP.
+    // Each takes exactly the AAP and AP of its statements.
     ensures exact { IfOk result (λ c. AreExact (microprograms_of c.program)
         (operations ops.now)) }
     // The ops meet the rules as trees.

@@ -7,7 +7,7 @@ use Rattle.word_flow.proofs.Common.{flow_aps, flow_total, values_from, sense_thr
 use Rattle.word_flow.proofs.Absolutes.{Part, Copied, Seen, SeenLast, Negated, NegatedLast, Top}
 use Rattle.word_flow.proofs.Absolutes.{code, abs}
 use Rattle.word_flow.proofs.Absolute.{State, InRange, does, seen_left, last_left, Over, abs_does}
-use Rattle.word_flow.proofs.Targets.{answers_of, Weights, aps_in, body_holds, Operation, Value}
+use Rattle.word_flow.proofs.Targets.{answers_of, aps_in, body_holds, Operation, Value}
 use Rattle.word_flow.proofs.Targets.{OneDone, word_rooms, of_word, View, Step, stepped}
 use Rattle.op_text.specs.declared.word_ops.WordOp.TheVariants as op
 use Rattle.word_lower.proofs.Setting as set
@@ -18,8 +18,8 @@ known = InRoom 0 ∷ InRoom 1 ∷ InCells 4 ∷ InCells 12 ∷ []
 abbrev es : List Extent
 es = Full ∷ Full ∷ []
 
-abbrev w : Weights
-w = record { plain = 1; less = 0; cost = 3; more = 0; aps = 1 }
+abbrev w : ℕ
+w = 1
 
 abbrev view : (ℕ → Bool) → State → View
 view x s (InRoom zero) v = s.y v
@@ -63,7 +63,7 @@ module _ (n : ℕ) (x : ℕ → Bool) where
   step Top g s r = stepped (r.0, (omega arith, tt)) (r.0, tt) last_left r.1 refl refl (λ d. refl) refl
       (omega arith)
 
-few : (n : ℕ) → 0 < n → 3 * flow_total op.Abs n ≤ 34 * n + 1
+few : (n : ℕ) → 0 < n → flow_total op.Abs n ≤ 34 * n + 1
 few n some = grind (arith, some)
 
 -- the number itself below the half, and else its complement to 2 ^ n
@@ -103,8 +103,7 @@ operation = record {
       (abs_does n some small x (start c) (λ g s. Over n some small x s) refl refl (λ g s o. o))
       (λ g s q. (abs_is s.y x n some q.0 q.1, q.2, q.3)));
   aps = λ n. omega arith;
-  plain = λ n some y h. omega (arith, h, few n some);
-  ceilings = λ n. refl;
+  cheap = λ n some. omega (arith, few n some);
 }
 
 pub abs_done : OneDone op.Abs

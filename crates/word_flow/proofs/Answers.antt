@@ -6,7 +6,7 @@ use Rattle.word_flow.proofs.Common.{IsThere, length, FlowOf, sum_by, row_in, Ext
 use Rattle.word_flow.proofs.Common.{false, subst, arith, Block, zeros, Spots, Owner, Marked, true, ℕ}
 use Rattle.word_flow.proofs.Common.{List, refl, Spot, Room, Fine, ◌≡◌, ◌<◌, map, run, [], wp}
 use Rattle.loop_ir.specs.FlowTests.{is_event_safe}
-use Rattle.word_flow.proofs.Checks.{Weights, body_holds, held_is}
+use Rattle.word_flow.proofs.Checks.{body_holds, held_is}
 use Rattle.word_flow.proofs.FlowOps.{flow_does}
 use Rattle.word_flow.proofs.Placing.{IsFree}
 use Rattle.word_flow.proofs.Views.{View, Step, shown, is_known, Like, Likes, same_like, each}
@@ -85,7 +85,7 @@ pub answered : (n : ℕ) (rooms : List Room) (some : 0 < n) (are : RoomsApart n 
     → u < extent n (room_at rooms k).rows → v < extent n (room_at rooms k).rows
     → row_in n (room_at rooms k) u ≡ row_in n (room_at rooms k) v → u ≡ v)
     (es : List Extent) (shape : map (λ (r : Room). r.rows) rooms ≡ es) (known : List Owner)
-    (A : Type 0) (code : A → Marked) (x : List BodyCmd → ℕ) (w : Weights)
+    (A : Type 0) (code : A → Marked) (x : List BodyCmd → ℕ) (w : ℕ)
     → ((b : A) → body_holds rooms known x w (code b) ≡ true) → (f : FlowOf A)
     (total weight : ℕ) (Post : View → Type 0) (before : Spots)
     → Answers A code f es known x n (λ a v. before (row_in n (room_for rooms a) v)) total weight Post

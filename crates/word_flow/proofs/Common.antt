@@ -3,7 +3,7 @@ pub use Rattle.bit_rows.specs.Bits.{flip_if}
 unfoldable pub use Rattle.bit_rows.specs.Bits.{majority}
 pub use Rattle.bit_rows.specs.declared.TheConstants.{WIDTH_MAX}
 pub use Rattle.loop_ir.specs.Chains.{chained, finds, left_by}
-pub use Rattle.loop_ir.specs.Costs.{code_cost, is_ap, plain_cost, plain_costs, rounds_cost}
+pub use Rattle.loop_ir.specs.Costs.{code_cost, is_ap, rounds_cost}
 pub use Rattle.loop_ir.specs.Costs.{turn_aps, turn_cost}
 pub use Rattle.loop_ir.specs.Flows.{AllActs, AllFlow, EventOf, FlowOf, TurnsOf, acts_map, all_flow}
 pub use Rattle.loop_ir.specs.Flows.{flow_map, run, zeros}
@@ -13,7 +13,7 @@ pub use Rattle.loop_ir.specs.Flows.TurnsOf.{Last, Turn}
 pub use Rattle.loop_ir.specs.Limits.{HasCommands, HasValues, IsRound, stays_in_registers}
 pub use Rattle.loop_ir.specs.Loops.{RoundOf, all_rounds, flow_rounds, rounds_in, sub_value}
 pub use Rattle.loop_ir.specs.Lowered.{Holds, HoldsAt, IsChanged, IsLowered, IsStatementRow}
-pub use Rattle.loop_ir.specs.Lowered.{op_plain_ceiling, slot_bits}
+pub use Rattle.loop_ir.specs.Lowered.{slot_bits}
 pub use Rattle.loop_ir.specs.Plain.{AllParts, Block, StepOf, flow_of, steps_of}
 pub use Rattle.loop_ir.specs.Plain.StepOf.{Flowed}
 pub use Rattle.loop_ir.specs.Spots.{IsOwn, Spot, Spots, after_round, after_rounds, is_state}

@@ -3,7 +3,7 @@ use Rattle.word_flow.proofs.Common.{◌≡◌, ℕ, zero, suc, ◌+◌, ◌*◌,
 use Rattle.word_flow.proofs.Common.{List, [], ◌∷◌, refl, sym, ap, ◌∙◌, arith, ◌==◌, ◌/◌, Word}
 use Rattle.word_flow.proofs.Common.{Space, Extent, Full, Owner, InRoom, InCells, flow_aps}
 use Rattle.word_flow.proofs.Common.{flow_total, digits, values_from, sense_three, first_node}
-use Rattle.word_flow.proofs.Targets.{answers_of, Weights, aps_in, body_holds, Operation, Value}
+use Rattle.word_flow.proofs.Targets.{answers_of, aps_in, body_holds, Operation, Value}
 use Rattle.word_flow.proofs.Targets.{OneDone, word_rooms, of_word, View, Step, stepped}
 use Rattle.word_flow.proofs.Counting.{State, InRange, does, loads, left, number, tally}
 use Rattle.word_flow.proofs.Counting.{bitcount_does}
@@ -19,8 +19,8 @@ known = InRoom 0 ∷ InRoom 1 ∷ InCells 9 ∷ InCells 10 ∷ InCells 1 ∷ InC
 abbrev es : List Extent
 es = Full ∷ Full ∷ []
 
-abbrev w : Weights
-w = record { plain = 1; less = 0; cost = 5; more = 0; aps = 1 }
+abbrev w : ℕ
+w = 1
 
 abbrev view : (ℕ → Bool) → State → View
 view x s (InRoom zero) v = s.y v
@@ -91,7 +91,7 @@ digits_few (suc k) e = by (e == 0) (digits_few k (e / 2))
     by true h = omega arith
     by false h = omega (arith, h)
 
-few : (n : ℕ) → 0 < n → 5 * flow_total op.Bitcount n ≤ 22 * (n * n) + 4 * n
+few : (n : ℕ) → 0 < n → flow_total op.Bitcount n ≤ 22 * (n * n) + 4 * n
 few n some = grind (arith, some, digits_few n n, twice_below n)
 
 at_least : (n : ℕ) → 0 < n → (n ≡ 1 → ⊥) → 1 < n
@@ -107,8 +107,7 @@ operation = record {
       (λ many. (let e = total_is n (at_least n some many) in omega (arith, e)))
       (λ one. ap (flow_total op.Bitcount) (sym one))) (λ g s q. (q.0 ∙ tally_ones x n, q.1, refl)));
   aps = λ n. omega arith;
-  plain = λ n some y h. omega (arith, h, few n some, square n);
-  ceilings = λ n. refl;
+  cheap = λ n some. omega (arith, few n some, square n);
 }
 
 pub count_done : OneDone op.Bitcount

@@ -10,7 +10,7 @@ use Rattle.word_flow.proofs.Common.{Block, Slots, Owner, AreAt, Bool, true, cond
 use Rattle.word_flow.proofs.Common.{refl, ◌==◌, Kind, Word, Slot, Room, Full, slot, suc, ◌+◌, ◌-◌}
 use Rattle.word_flow.proofs.Common.{◌*◌, ◌^◌, ◌<◌, ◌≤◌, ◌∷◌, sym, ◌∙◌, ◌/◌, ◌%◌, Bit, ap}
 use Rattle.word_flow.proofs.Answers.{Answers}
-use Rattle.word_flow.proofs.Targets.{answers_of, Weights, aps_in, body_holds, Operation, Value}
+use Rattle.word_flow.proofs.Targets.{answers_of, aps_in, body_holds, Operation, Value}
 use Rattle.word_flow.proofs.Targets.{OneDone, IsDone, of_words, one_target, word_value, two_values}
 use Rattle.word_flow.proofs.Targets.{by_words, spelled, done, View, Step, stepped}
 use Rattle.word_flow.proofs.Computing.{stands_target, stands_arg, stands_second, target_fresh}
@@ -39,8 +39,8 @@ known = InRoom 0 ∷ InRoom 1 ∷ InRoom 2 ∷ InRoom 3 ∷ InRoom 4 ∷ InCells
 abbrev es : Bool → List Extent
 es l = rows_of (kept_in l) ∷ Full ∷ Full ∷ Full ∷ Full ∷ []
 
-abbrev w : Weights
-w = record { plain = 1; less = 0; cost = 3; more = 0; aps = 1 }
+abbrev w : ℕ
+w = 1
 
 abbrev view : Bool → (ℕ → Bool) → (ℕ → Bool) → State → View
 view l a d s (InRoom zero) v = cond l (s.q v) s.f
@@ -136,7 +136,7 @@ aps_are false n c e = let d : n * (n + 1) ≡ 2 * c = omega (arith, e) in
     sym (ap (λ x. x / 2) d ∙ omega arith)
 
 -- three times the commands are no more than the ceiling
-few : (lone : Bool) (n : ℕ) → 0 < n → 3 * flow_total (op_of lone) n ≤ 29 * (n * n) + 18 * n
+few : (lone : Bool) (n : ℕ) → 0 < n → flow_total (op_of lone) n ≤ 29 * (n * n) + 18 * n
 few lone n some = grind (arith, some, twice_below n)
 
 module _ (lone : Bool) (n : ℕ) (a d : ℕ → Bool) (left : ℕ) (s : State)
@@ -186,8 +186,7 @@ div_operation = record {
   answers = λ n some small c. divides true true n some small c (Value op.Div Word 0 (1 ∷ 2 ∷ []) n c)
       (λ s left is. quotient true n (c (InRoom 1)) (c (InRoom 2)) left s is);
   aps = λ n. omega arith;
-  plain = λ n some y h. omega (arith, h, few true n some, square n);
-  ceilings = λ n. refl;
+  cheap = λ n some. omega (arith, few true n some, square n);
 }
 
 rem_operation : Operation op.Rem Part (code false) (division false) (es false) known aps_in
@@ -197,8 +196,7 @@ rem_operation = record {
       (Value op.Rem Word 4 (1 ∷ 2 ∷ []) n c)
       (λ s left is. remainder false n (c (InRoom 1)) (c (InRoom 2)) left s is refl);
   aps = λ n. omega arith;
-  plain = λ n some y h. omega (arith, h, few false n some, square n);
-  ceilings = λ n. refl;
+  cheap = λ n some. omega (arith, few false n some, square n);
 }
 
 divmod_operation : Operation op.Divmod Part (code true) (division false) (es true) known aps_in
@@ -209,8 +207,7 @@ divmod_operation = record {
     remainder false n (c (InRoom 1)) (c (InRoom 2)) left s is refl,
   ));
   aps = λ n. omega arith;
-  plain = λ n some y h. omega (arith, h, few false n some, square n);
-  ceilings = λ n. refl;
+  cheap = λ n some. omega (arith, few false n some, square n);
 }
 
 pub div_done : OneDone op.Div

@@ -1,24 +1,23 @@
 -- A flow does a statement, where its bodies have their commands, and where it is known at each width
 -- what it does to its rows.
-use Rattle.word_flow.proofs.Common.{stays_in_registers, op_plain_ceiling, after_statement, list_all}
+use Rattle.word_flow.proofs.Common.{stays_in_registers, after_statement, list_all}
 use Rattle.word_flow.proofs.Common.{AllByRecursion, IsStatementRow, statement_rows, written_names}
 use Rattle.word_flow.proofs.Common.{after_rounds, sum_by-cons, flow_rounds, rounds_cost, append-nil}
-use Rattle.word_flow.proofs.Common.{plain_costs, all_rounds, plain_cost, read_names, RoomsApart, []}
-use Rattle.word_flow.proofs.Common.{plain_like, placed_body, op_ceiling, flow_total, and_parts, Bool}
-use Rattle.word_flow.proofs.Common.{WIDTH_MAX, Statement, turn_cost, code_cost, HasValues, and_from}
+use Rattle.word_flow.proofs.Common.{all_rounds, read_names, RoomsApart, []}
+use Rattle.word_flow.proofs.Common.{placed_body, op_ceiling, flow_total, and_parts, Bool}
+use Rattle.word_flow.proofs.Common.{WIDTH_MAX, Statement, code_cost, HasValues, and_from}
 use Rattle.word_flow.proofs.Common.{IsLowered, NameValue, is_among, AllParts, flow_map, all_flow, ℕ}
 use Rattle.word_flow.proofs.Common.{IsPlaced, room_for, HaveRows, flow_aps, RoundOf, false}
 use Rattle.word_flow.proofs.Common.{chained, IsRound, IsOwned, HasForm, run_all, BodyCmd, Compute}
 use Rattle.word_flow.proofs.Common.{Option, nat_le, sum_by, StepOf, Flowed, FlowOf, row_in}
 use Rattle.word_flow.proofs.Common.{Extent, IsSlim, IsMade, turn_aps, WordOp, subst, arith, Block, ap}
 use Rattle.word_flow.proofs.Common.{zeros, Spots, Slots, Holds, Owner, Marked, true, List, refl, ◌≡◌}
-use Rattle.word_flow.proofs.Common.{◌&&◌, Spot, Room, ◌+◌, ◌*◌, ◌<◌, ◌≤◌, ◌∷◌, map, sym, ◌∙◌, run}
+use Rattle.word_flow.proofs.Common.{◌&&◌, Spot, Room, ◌*◌, ◌<◌, ◌≤◌, ◌∷◌, map, sym, ◌∙◌, run}
 use Rattle.word_flow.proofs.Common.{most_is, rounds_among, rooms_row, rounds_aps, HasCommands}
 use Rattle.loop_ir.specs.FlowTests.{names, counts, nests, runs_safely, is_event_safe}
 use Rattle.loop_laws.proofs.Compile.{made_compile}
-use Rattle.loop_laws.proofs.Costing.{rounds-plain}
 use Rattle.word_flow.proofs.Answers.{Answers, Answered, answered}
-use Rattle.word_flow.proofs.Checks.{Weights, Stands, body_holds, held_is}
+use Rattle.word_flow.proofs.Checks.{Stands, body_holds, held_is}
 use Rattle.word_lower.proofs.BodyRules.{slim_is, values_are}
 use Rattle.word_lower.proofs.Commands.{has_commands, made_is}
 use Rattle.word_flow.proofs.FlowOps.{flow_each, all_widths}
@@ -37,22 +36,7 @@ abbrev pub flow_holds : FlowOf Block → Bool
 flow_holds f = counts f && (nests 2 f && (stays f
     && (nat_le (code_cost (Flowed f ∷ [])) 256 && nat_le (cost.bodies (Flowed f ∷ [])) 12)))
 
--- the weights of rounds
-weigh : (x : List BodyCmd → ℕ) (a b d e : ℕ) (rs : List (RoundOf Block)) → AllByRecursion
-    (λ (r : RoundOf Block). a * plain_cost r.part + b * x r.part.found
-    ≤ d * turn_cost r.part + e * x r.part.found) rs
-    → a * plain_costs rs + b * sum_by (λ (r : RoundOf Block). x r.part.found) rs
-    ≤ d * rounds_cost rs + e * sum_by (λ (r : RoundOf Block). x r.part.found) rs
-weigh x a b d e [] all = omega arith
-weigh x a b d e (r ∷ rs) all =
-    let h = weigh x a b d e rs all.1 in
-    let p = ap (λ x. a * x) (sum_by-cons (λ (r : RoundOf Block). plain_cost r.part) r rs) in
-    let s = sum_by-cons (λ (r : RoundOf Block). x r.part.found) r rs in
-    let q = ap (λ x. b * x) s in
-    let z = ap (λ x. e * x) s in
-    let t = ap (λ x. d * x) (sum_by-cons (λ (r : RoundOf Block). turn_cost r.part) r rs) in
-    omega (arith, h, p, q, z, t, all.0)
-
+-- the AP of rounds
 in_all : (x : List BodyCmd → ℕ) (a : ℕ) (rs : List (RoundOf Block)) → AllByRecursion
     (λ (r : RoundOf Block). turn_aps r.part ≡ a * x r.part.found) rs
     → rounds_aps rs ≡ a * sum_by (λ (r : RoundOf Block). x r.part.found) rs
@@ -73,24 +57,22 @@ pub record IsDone (slots : Slots) (fb fw : ℕ) (target : List ℕ) (second : Op
   pub lowered : IsLowered slots fb fw (Compute target second p args) steps
   pub exact : IsExact p steps
 
--- What is known of an operation's flow: what it does at each width, its AP, and that what its bodies
--- may take at most is no more than its ceiling
+-- What is known of an operation's flow: what it does at each width, its AP, and that it takes no more
+-- than its ceiling
 pub record Operation (p : WordOp) (A : Type 0) (code : A → Marked) (f : FlowOf A) (es : List Extent)
-    (known : List Owner) (x : List BodyCmd → ℕ) (weight : ℕ → ℕ) (w : Weights)
+    (known : List Owner) (x : List BodyCmd → ℕ) (weight : ℕ → ℕ) (w : ℕ)
     (Post : ℕ → View → View → Type 0) : Type 1 where
   pub answers : (n : ℕ) → 0 < n → n ≤ WIDTH_MAX → (c : View)
       → Answers A code f es known x n c (flow_total p n) (weight n) (Post n c)
-  pub aps : (n : ℕ) → w.aps * weight n ≡ flow_aps p n
-  pub plain : (n : ℕ) → 0 < n → (y : ℕ) → w.plain * y + w.less * weight n
-      ≤ w.cost * flow_total p n + w.more * weight n → y ≤ op_plain_ceiling p n
-  pub ceilings : (n : ℕ) → op_plain_ceiling p n ≡ op_ceiling p n
+  pub aps : (n : ℕ) → w * weight n ≡ flow_aps p n
+  pub cheap : (n : ℕ) → 0 < n → flow_total p n ≤ op_ceiling p n
 
 module _ (slots : Slots) (fb fw : ℕ) (target : List ℕ) (second : Option (List ℕ)) (p : WordOp)
     (args : List (List ℕ)) (placed : IsPlaced slots fb fw (Compute target second p args))
     (ws : List Whose) (stand : AllStand slots fb fw (Compute target second p args) placed ws)
     (differ : AllDiffer ws) (A : Type 0) (code : A → Marked) (f : FlowOf A) (es : List Extent)
     (shape : map (λ (r : Room). r.rows) (rooms_whose ws) ≡ es) (known : List Owner)
-    (x : List BodyCmd → ℕ) (weight : ℕ → ℕ) (w : Weights)
+    (x : List BodyCmd → ℕ) (weight : ℕ → ℕ) (w : ℕ)
     (holds : (b : A) → body_holds (rooms_whose ws) known x w (code b) ≡ true)
     (sized : flow_holds (flow_map (λ b. placed_body (rooms_whose ws) (code b)) f) ≡ true)
     (Post : ℕ → View → View → Type 0) (o : Operation p A code f es known x weight w Post) where
@@ -186,30 +168,9 @@ module _ (slots : Slots) (fb fw : ℕ) (target : List ℕ) (second : Option (Lis
   -- the AP at a width
   aps_are : (n : ℕ) → 0 < n → n ≤ WIDTH_MAX → rounds_aps (all_rounds n steps) ≡ flow_aps p n
   aps_are n some small = ap rounds_aps (alone n)
-      ∙ in_all x w.aps (flow_rounds n flow) (run_all Block (λ b. turn_aps b ≡ w.aps * x b.found) n flow
-      (flow_each A block (λ b. turn_aps b ≡ w.aps * x b.found) (λ b. (at b).counts) f) zeros)
-      ∙ ap (λ z. w.aps * z) (runs n some small dark).weighed ∙ o.aps n
-
-  -- what its rounds may take at most
-  plain_is : (n : ℕ) → 0 < n → n ≤ WIDTH_MAX
-      → w.plain * plain_costs (flow_rounds n flow) + w.less * weight n
-      ≤ w.cost * flow_total p n + w.more * weight n
-  plain_is n some small =
-      let r = runs n some small dark in
-      let s = sum_by (λ (r : RoundOf Block). x r.part.found) (flow_rounds n flow) in
-      let h = weigh x w.plain w.less w.cost w.more (flow_rounds n flow)
-      (run_all Block Most n flow (flow_each A block Most each f) zeros) in
-      subst (λ z. w.plain * plain_costs (flow_rounds n flow) + w.less * z
-      ≤ w.cost * flow_total p n + w.more * z) r.weighed
-      (subst (λ c. w.plain * plain_costs (flow_rounds n flow) + w.less * s
-      ≤ w.cost * c + w.more * s) r.paid h)
-    where
-      Most : Block → Type 0
-      Most b = w.plain * plain_cost b + w.less * x b.found ≤ w.cost * turn_cost b + w.more * x b.found
-
-      each : (b : A) → Most (block b)
-      each b = let m = (at b).most in
-          let p = ap (λ x. w.plain * x) (plain_like rooms have_rows (code b)) in omega (arith, m, p)
+      ∙ in_all x w (flow_rounds n flow) (run_all Block (λ b. turn_aps b ≡ w * x b.found) n flow
+      (flow_each A block (λ b. turn_aps b ≡ w * x b.found) (λ b. (at b).counts) f) zeros)
+      ∙ ap (λ z. w * z) (runs n some small dark).weighed ∙ o.aps n
 
   -- it is done and exact, where its rows hold what the targets are to have
   pub done : ((n : ℕ) → args_width slots n args ≡ n)
@@ -234,18 +195,9 @@ module _ (slots : Slots) (fb fw : ℕ) (target : List ℕ) (second : Option (Lis
                 ∙ (runs n some small rows).rest q r
                 (free_of slots fb fw s placed ws stand n q out);
           };
-          cheap = λ n some small. (let e = ap rounds_cost (alone n) in
-              let z = o.ceilings (args_width slots n args) in
-              let c = ceiling n some small in
-              let m = rounds-plain (flow_rounds n flow) (run_all Block HasCommands n flow
-              (flow_each A block HasCommands has f) zeros) in omega (arith, e, z, c, m));
-          plain = λ n some small. (let e = ap plain_costs (alone n) in
-              let c = ceiling n some small in omega (arith, e, c));
+          cheap = λ n some small. (let e = total_is n some small in
+              let c = o.cheap n some in let z = ap (op_ceiling p) (width_is n) in
+              omega (arith, e, c, z));
         };
         exact = record { total = total_is; aps = aps_are };
       }
-    where
-      ceiling : (n : ℕ) → 0 < n → n ≤ WIDTH_MAX
-          → plain_costs (flow_rounds n flow) ≤ op_plain_ceiling p (args_width slots n args)
-      ceiling n some small = subst (λ z. plain_costs (flow_rounds n flow) ≤ op_plain_ceiling p z)
-          (sym (width_is n)) (o.plain n some _ (plain_is n some small))

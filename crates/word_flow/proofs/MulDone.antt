@@ -4,7 +4,7 @@ use Rattle.word_flow.proofs.Common.{cond, List, [], ◌∷◌, None, refl, sym, 
 use Rattle.word_flow.proofs.Common.{arith, ◌==◌, ◌/◌, ◌%◌, Word, Space, Room, Extent, Full, One}
 use Rattle.word_flow.proofs.Common.{Owner, InRoom, InCells, room_of, scratch_bit, slot, name_at}
 use Rattle.word_flow.proofs.Common.{flow_total, flow_aps, values_from, sense_three, first_node}
-use Rattle.word_flow.proofs.Targets.{answers_of, Weights, aps_in, body_holds, Operation, Value}
+use Rattle.word_flow.proofs.Targets.{answers_of, aps_in, body_holds, Operation, Value}
 use Rattle.word_flow.proofs.Targets.{OneDone, of_words, one_target, word_value, two_values, View}
 use Rattle.word_flow.proofs.Targets.{Step, stepped}
 use Rattle.word_flow.proofs.Computing.{stands_target, stands_arg, target_fresh}
@@ -23,8 +23,8 @@ known = InRoom 0 ∷ InRoom 1 ∷ InRoom 2 ∷ InRoom 3 ∷ InCells 0 ∷ InCell
 abbrev es : List Extent
 es = Full ∷ Full ∷ Full ∷ One ∷ []
 
-abbrev w : Weights
-w = record { plain = 2; less = 25; cost = 7; more = 0; aps = 1 }
+abbrev w : ℕ
+w = 1
 
 abbrev view : (ℕ → Bool) → (ℕ → Bool) → State → View
 view x z s (InRoom zero) v = s.y v
@@ -98,15 +98,14 @@ total_is (suc k) c some e =
     let g : suc k * (suc k - 1) ≡ suc k * k = ap (λ x. suc k * x) one in
     omega (arith, e, h, g)
 
--- by the plain cost, 19 a position of a row but the first
-few_plain : (n c : ℕ) → 0 < n → 2 * c + 25 * ((n - 1) * n / 2) ≤ 7 * flow_total op.Mul n
-    → c ≤ 11 * (n * n) + 15 * n
-few_plain zero c some h = absurd (omega (arith, some))
-few_plain (suc k) c some h =
+-- which are few
+few : (n : ℕ) → 0 < n → flow_total op.Mul n ≤ 11 * (n * n) + 15 * n
+few zero some = absurd (omega (arith, some))
+few (suc k) some =
+    let h = half_product (suc k) in
     let e : suc k - 1 ≡ k = omega arith in
     let f : suc k * (suc k - 1) ≡ suc k * k = ap (λ x. suc k * x) e in
-    let g : (suc k - 1) * suc k ≡ k * suc k = ap (λ x. x * suc k) e in
-    omega (arith, f, g, h)
+    omega (arith, h, f)
 
 operation : Operation op.Mul Part code mul es known aps_in (flow_aps op.Mul) w
     (Value op.Mul Word 0 (1 ∷ 2 ∷ []))
@@ -120,8 +119,7 @@ operation = record {
         half_below n s.aps q.2,
       )));
   aps = λ n. omega arith;
-  plain = λ n some y h. (let f = few_plain n y some (omega (arith, h)) in omega (arith, f, square n));
-  ceilings = λ n. refl;
+  cheap = λ n some. omega (arith, few n some, square n);
 }
 
 pub mul_done : OneDone op.Mul

@@ -1,11 +1,11 @@
 -- The flows of and_red and or_red do statements of them.
-use Rattle.word_flow.proofs.Common.{◌≡◌, ℕ, zero, suc, ◌+◌, ◌*◌, Bool, true, false, cond, List, []}
+use Rattle.word_flow.proofs.Common.{◌≡◌, ℕ, zero, suc, ◌*◌, Bool, true, false, cond, List, []}
 use Rattle.word_flow.proofs.Common.{inl, inr, ◌∷◌, not, refl, sym, ap, ◌∙◌, arith, ◌==◌, BodyCmd, Bit}
-use Rattle.word_flow.proofs.Common.{WordOp, op_ceiling, op_value, Space, op_plain_ceiling, Extent}
+use Rattle.word_flow.proofs.Common.{WordOp, ◌<◌, ◌≤◌, op_ceiling, op_value, Space, Extent}
 use Rattle.word_flow.proofs.Common.{Full, Owner, InRoom, InCells, flow_total, flow_aps, majority}
 use Rattle.word_flow.proofs.Common.{values_from, sense_three, first_node}
 use Rattle.loop_laws.specs.Rooms.{One as OneRow}
-use Rattle.word_flow.proofs.Targets.{answers_of, Weights, body_holds, Operation, Value, OneDone}
+use Rattle.word_flow.proofs.Targets.{answers_of, body_holds, Operation, Value, OneDone}
 use Rattle.word_flow.proofs.Targets.{word_rooms, of_word, View, Step, stepped}
 use Rattle.word_flow.proofs.Numbers.{one_bit, any_gives, all_gives}
 use Rattle.word_flow.proofs.Reducing.{State, InRange, does, to_left, to_right, reduction_does}
@@ -24,8 +24,8 @@ es = OneRow ∷ Full ∷ []
 abbrev each_one : List BodyCmd → ℕ
 each_one cmds = 1
 
-abbrev w : Weights
-w = record { plain = 1; less = 0; cost = 0; more = 7; aps = 0 }
+abbrev w : ℕ
+w = 0
 
 abbrev view : (ℕ → Bool) → State → View
 view x s (InRoom zero) v = s.y
@@ -97,10 +97,13 @@ value_is : (c : Bool) (x : ℕ → Bool) (n : ℕ)
 value_is true x n = ap set.bit (any_gives x (joined true x) n refl (λ i lt. next_joins true x i))
 value_is false x n = ap set.bit (all_gives x (joined false x) n refl (λ i lt. next_joins false x i))
 
+-- and few
+few_all : (n : ℕ) → 0 < n → flow_total op.AndRed n ≤ op_ceiling op.AndRed n
+few_all n some = grind (arith, some)
+
 module _ (c : Bool) (total : (n : ℕ) → reduction_total n ≡ flow_total (red_op c) n)
     (aps : (n : ℕ) → 0 * n ≡ flow_aps (red_op c) n)
-    (ceiling : (n : ℕ) → op_plain_ceiling (red_op c) n ≡ 7 * n + 1)
-    (ceilings : (n : ℕ) → op_plain_ceiling (red_op c) n ≡ op_ceiling (red_op c) n) where
+    (few : (n : ℕ) → 0 < n → flow_total (red_op c) n ≤ op_ceiling (red_op c) n) where
   operation : Operation (red_op c) Part (code c) reduction es known each_one (λ n. n) w
       (Value (red_op c) Bit 0 (1 ∷ []))
   operation = record {
@@ -111,14 +114,13 @@ module _ (c : Bool) (total : (n : ℕ) → reduction_total n ≡ flow_total (red
         (reduction_does n some small c x (start v) refl refl)
         (λ g s q. (one_bit s.y ∙ ap set.bit q.0 ∙ value_is c x n, q.1 ∙ total n, q.2)));
     aps = aps;
-    plain = λ n some y h. omega (arith, h, ceiling n);
-    ceilings = ceilings;
+    cheap = few;
   }
 
 pub and_red_done : OneDone op.AndRed
-and_red_done = of_word Bit (operation false (λ n. refl) (λ n. omega arith) (λ n. refl) (λ n. refl))
+and_red_done = of_word Bit (operation false (λ n. refl) (λ n. omega arith) few_all)
     (holds false) (λ s0 w0 s1 w1. refl) refl refl (λ s0 w0 s1 w1 fb fw. refl)
 
 pub or_red_done : OneDone op.OrRed
-or_red_done = of_word Bit (operation true (λ n. refl) (λ n. omega arith) (λ n. refl) (λ n. refl))
+or_red_done = of_word Bit (operation true (λ n. refl) (λ n. omega arith) few_all)
     (holds true) (λ s0 w0 s1 w1. refl) refl refl (λ s0 w0 s1 w1 fb fw. refl)

@@ -5,7 +5,7 @@ use Rattle.word_flow.proofs.Common.{nat_lt, majority, Word, half, Space, Extent,
 use Rattle.word_flow.proofs.Common.{InRoom, InCells, value_same, flow_aps, flow_total, values_from}
 use Rattle.word_flow.proofs.Common.{sense_three, first_node}
 use Rattle.word_lower.proofs.Bitwise.{relu_gives}
-use Rattle.word_flow.proofs.Targets.{answers_of, Weights, aps_in, body_holds, Operation, Value}
+use Rattle.word_flow.proofs.Targets.{answers_of, aps_in, body_holds, Operation, Value}
 use Rattle.word_flow.proofs.Targets.{OneDone, word_rooms, of_word, View, Step, stepped}
 use Rattle.word_flow.proofs.Rectified.{Part, Turned, Both, Agreed, Cleared, code, relu}
 use Rattle.word_flow.proofs.Rectifying.{State, InRange, does, turned_left, both_left, Over}
@@ -19,8 +19,8 @@ known = InRoom 0 ∷ InRoom 1 ∷ InCells 1 ∷ InCells 3 ∷ InCells 11 ∷ []
 abbrev es : List Extent
 es = Full ∷ Full ∷ []
 
-abbrev w : Weights
-w = record { plain = 3; less = 0; cost = 7; more = 0; aps = 1 }
+abbrev w : ℕ
+w = 1
 
 abbrev view : (ℕ → Bool) → State → View
 view x s (InRoom zero) v = s.y v
@@ -82,8 +82,7 @@ operation = record {
       (relu_does n some small x (start c) refl)
       (λ g s q. (relu_is s.y x n some q.0, q.1, refl)));
   aps = λ n. omega arith;
-  plain = λ n some y h. omega (arith, h, few n some);
-  ceilings = λ n. refl;
+  cheap = λ n some. omega (arith, few n some);
 }
 
 pub relu_done : OneDone op.Relu

@@ -5,7 +5,7 @@ use Rattle.word_flow.proofs.Common.{InRoom, InCells, number, shl1_gives, shr1_gi
 use Rattle.word_flow.proofs.Common.{values_from, sense_three, first_node}
 use Rattle.std.proofs.Common.{◌/◌}
 use Rattle.word_flow.proofs.Answers.{Answers}
-use Rattle.word_flow.proofs.Targets.{answers_of, Weights, aps_in, body_holds, Operation, Value}
+use Rattle.word_flow.proofs.Targets.{answers_of, aps_in, body_holds, Operation, Value}
 use Rattle.word_flow.proofs.Targets.{OneDone, word_rooms, of_word, View, Step, stepped}
 use Rattle.word_flow.proofs.Shifting.{Part, Cleared, Moved, code, shift, State, InRange, does}
 use Rattle.word_flow.proofs.Shifting.{Shifted, shift_does}
@@ -17,8 +17,8 @@ known = InRoom 0 ∷ InRoom 1 ∷ []
 abbrev es : List Extent
 es = Full ∷ Full ∷ []
 
-abbrev w : Weights
-w = record { plain = 1; less = 0; cost = 1; more = 0; aps = 1 }
+abbrev w : ℕ
+w = 1
 
 abbrev view : (ℕ → Bool) → State → View
 view x s (InRoom zero) v = s.y v
@@ -57,8 +57,7 @@ shl1 = record {
   answers = λ n some small c. answers true n some c (Value op.Shl1 Word 0 (1 ∷ []) n c) (λ s h.
       shl1_gives (c (InRoom 1)) s.y n h.cleared (λ i lt. h.moved i (omega arith) lt));
   aps = λ n. omega arith;
-  plain = λ n some y h. omega (arith, h);
-  ceilings = λ n. refl;
+  cheap = λ n some. omega arith;
 }
 
 shr1 : Operation op.Shr1 Part (code false) shift es known aps_in (flow_aps op.Shr1) w
@@ -70,8 +69,7 @@ shr1 = record {
       subst (λ k. number s.y k ≡ number x k / 2) (sym all)
       (shr1_gives x s.y (n - 1) h.cleared (λ i lt. h.moved i (omega arith) (omega (arith, lt))))));
   aps = λ n. omega arith;
-  plain = λ n some y h. omega (arith, h);
-  ceilings = λ n. refl;
+  cheap = λ n some. omega arith;
 }
 
 pub shl1_done : OneDone op.Shl1

@@ -16,7 +16,7 @@ use Rattle.word_flow.proofs.Placing.{Whose, Name, rooms_whose, AllStand, AllDiff
 use Rattle.word_flow.proofs.Views.{is_known}
 pub use Rattle.word_flow.proofs.FlowLowered.{IsExact, IsDone, Operation, done}
 pub use Rattle.word_flow.proofs.Answers.{answers_of}
-pub use Rattle.word_flow.proofs.Checks.{Weights, aps_in, body_holds}
+pub use Rattle.word_flow.proofs.Checks.{aps_in, body_holds}
 pub use Rattle.word_flow.proofs.Views.{View, Step, stepped}
 
 -- a row has the bits of the number that it holds
@@ -39,7 +39,7 @@ module _ (slots : Slots) (fb fw : ℕ) (target : List ℕ) (p : WordOp) (args : 
     (stand : AllStand slots fb fw (Compute target None p args) placed ws) (differ : AllDiffer ws)
     (A : Type 0) (code : A → Marked) (f : FlowOf A) (es : List Extent)
     (shape : map (λ (r : Room). r.rows) (rooms_whose ws) ≡ es) (known : List Owner)
-    (x : List BodyCmd → ℕ) (weight : ℕ → ℕ) (w : Weights)
+    (x : List BodyCmd → ℕ) (weight : ℕ → ℕ) (w : ℕ)
     (holds : (b : A) → body_holds (rooms_whose ws) known x w (code b) ≡ true)
     (sized : flow_holds (flow_map (λ b. placed_body (rooms_whose ws) (code b)) f) ≡ true)
     (k : ℕ) (js : List ℕ) (o : Operation p A code f es known x weight w (Value p t.kind k js)) where
@@ -106,7 +106,7 @@ abbrev pub word_rooms : Kind → Space → ℕ → Space → ℕ → List Room
 word_rooms g s0 w0 s1 w1 = room_of true (slot s0 w0 g) ∷ room_of false (slot s1 w1 Word) ∷ []
 
 pub of_word : {p : WordOp} (g : Kind) {A : Type 0} {code : A → Marked} {f : FlowOf A}
-    {known : List Owner} {x : List BodyCmd → ℕ} {weight : ℕ → ℕ} {w : Weights}
+    {known : List Owner} {x : List BodyCmd → ℕ} {weight : ℕ → ℕ} {w : ℕ}
     → Operation p A code f (rows_of g ∷ Full ∷ []) known x weight w (Value p g 0 (1 ∷ []))
     → ((s0 : Space) (w0 : ℕ) (s1 : Space) (w1 : ℕ) (b : A)
     → body_holds (word_rooms g s0 w0 s1 w1) known x w (code b) ≡ true)

@@ -3,7 +3,7 @@ use Rattle.word_flow.proofs.Common.{◌≡◌, ℕ, zero, suc, ◌+◌, ◌*◌,
 use Rattle.word_flow.proofs.Common.{◌∷◌, refl, sym, ap, ◌∙◌, arith, ◌==◌, ◌%◌, Bit, ones_of}
 use Rattle.word_flow.proofs.Common.{Space, Extent, Full, One, Owner, InRoom, InCells, ones_of_none}
 use Rattle.word_flow.proofs.Common.{ones_of_more, flow_aps, values_from, sense_three, first_node}
-use Rattle.word_flow.proofs.Targets.{answers_of, Weights, aps_in, body_holds, Operation, Value}
+use Rattle.word_flow.proofs.Targets.{answers_of, aps_in, body_holds, Operation, Value}
 use Rattle.word_flow.proofs.Targets.{OneDone, word_rooms, of_word, View, Step, stepped}
 use Rattle.word_flow.proofs.Numbers.{one_bit}
 use Rattle.word_flow.proofs.Pairing.{State, InRange, does, ones, parity_left, Over, xor_does}
@@ -18,8 +18,8 @@ known = InRoom 0 ∷ InRoom 1 ∷ InCells 6 ∷ InCells 2 ∷ []
 abbrev es : List Extent
 es = One ∷ Full ∷ []
 
-abbrev w : Weights
-w = record { plain = 1; less = 0; cost = 3; more = 0; aps = 1 }
+abbrev w : ℕ
+w = 1
 
 abbrev view : (ℕ → Bool) → State → View
 view x s (InRoom zero) v = s.y
@@ -87,8 +87,7 @@ operation = record {
         q.2,
       )));
   aps = λ n. omega arith;
-  plain = λ n some y h. omega (arith, h, some);
-  ceilings = λ n. refl;
+  cheap = λ n some. omega (arith, some);
 }
 
 pub xor_red_done : OneDone op.XorRed

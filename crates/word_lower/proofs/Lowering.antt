@@ -19,8 +19,8 @@ use Rattle.loop_ir.specs.declared.names.Slot.{Slot}
 use Rattle.loop_ir.specs.Plain.{Block, StepOf}
 use Rattle.loop_ir.specs.Loops.{all_rounds}
 use Rattle.loop_ir.specs.Spots.{Spot, Spots, spot_in, after_rounds, is_state}
-use Rattle.loop_ir.specs.Costs.{turn_cost, plain_cost}
-use Rattle.loop_ir.specs.Lowered.{slot_spot, slot_bits, op_plain_ceiling}
+use Rattle.loop_ir.specs.Costs.{turn_cost}
+use Rattle.loop_ir.specs.Lowered.{slot_spot, slot_bits}
 use Rattle.loop_laws.specs.Rooms.{steps_fit, placed_steps}
 use Rattle.loop_laws.specs.Forms.{is_short, keeps_states}
 use Rattle.loop_laws.proofs.Summed.{steps_sum}
@@ -62,8 +62,6 @@ pub record Lowers (p : WordOp) (k : Kind) (t : Slot) (args : List Slot) (free : 
   pub commands : steps_do (program p k) ≡ true
   pub cheap : (n : ℕ) → 0 < n → steps_sum turn_cost n (placed_steps [] (program p k))
       ≤ op_ceiling p (slots_width n args)
-  pub plain : (n : ℕ) → 0 < n → steps_sum plain_cost n (placed_steps [] (program p k))
-      ≤ op_plain_ceiling p (slots_width n args)
 
 -- a place with another kind, and places of these kinds
 abbrev of_kind : Slot → Kind → Slot
@@ -128,24 +126,22 @@ tested : (p : WordOp) (k : Kind) (t : Slot) (args : List Slot) (free : ℕ)
     → is_short (steps_on p k t args free) ≡ true
     → keeps_states (placed_steps [] (program p k)) ≡ true → steps_do (program p k) ≡ true
     → ((n : ℕ) → 0 < n → steps_sum turn_cost n (placed_steps [] (program p k))
-    ≤ op_ceiling p (slots_width n args))
-    → ((n : ℕ) → 0 < n → steps_sum plain_cost n (placed_steps [] (program p k))
-    ≤ op_plain_ceiling p (slots_width n args)) → Lowers p k t args free
-tested p k t args free a b c d e f g =
-    record { fit = a; same = b; short = c; states = d; commands = e; cheap = f; plain = g }
+    ≤ op_ceiling p (slots_width n args)) → Lowers p k t args free
+tested p k t args free a b c d e f =
+    record { fit = a; same = b; short = c; states = d; commands = e; cheap = f }
 
 computes : (c : Kind) (p : WordOp) (t : Slot) (f : ℕ → Slot) (free : ℕ)
     → (let sh = (row_of p).signature in let k = gives_kind sh c in
     Lowers p k (of_kind t k) (args_in sh c f) free)
 unfolding sense_three first_node
 computes Word op.Not t f free = tested _ _ _ _ _ refl refl refl refl refl
-    (λ n some. omega (arith, some)) (λ n some. omega (arith, some))
+    (λ n some. omega (arith, some))
 computes Word p t f free = tested _ _ _ _ _ refl refl refl refl refl
-    (λ n some. omega (arith, some)) (λ n some. omega (arith, some))
+    (λ n some. omega (arith, some))
 computes Bit op.Not t f free = tested _ _ _ _ _ refl refl refl refl refl
-    (λ n some. omega (arith, some)) (λ n some. omega (arith, some))
+    (λ n some. omega (arith, some))
 computes Bit p t f free = tested _ _ _ _ _ refl refl refl refl refl
-    (λ n some. omega (arith, some)) (λ n some. omega (arith, some))
+    (λ n some. omega (arith, some))
 
 -- in each form the program does the operation
 module _ (p : WordOp) (c : Kind) (t : Slot) (f : ℕ → Slot) (free : ℕ) (linear : is_linear p ≡ true)

@@ -30,11 +30,11 @@ use Rattle.loop_ir.specs.Statements.{SecondMeets, ComputeMeets}
 use Rattle.loop_ir.specs.Lowered.{slot_spot, slot_bits, HoldsAt, Holds, IsStatementRow}
 use Rattle.loop_ir.specs.Lowered.{Does, IsLowered}
 use Rattle.loop_ir.specs.Lowered as l
-use Rattle.loop_ir.specs.Costs.{turn_cost, plain_cost}
+use Rattle.loop_ir.specs.Costs.{turn_cost}
 use Rattle.loop_laws.specs.Rooms.{Room, room_at, IsOwned, extent, placed_steps}
 use Rattle.loop_laws.specs.Forms.{IsMade}
 use Rattle.loop_laws.proofs.Summed.{sum_is}
-use Rattle.loop_laws.proofs.Alike.{HaveRows, InRooms, rounds_cost_like, plain_costs_like}
+use Rattle.loop_laws.proofs.Alike.{HaveRows, InRooms, rounds_cost_like}
 use Rattle.loop_laws.proofs.EveryRound.{marks_are_enough, rooms_row}
 use Rattle.loop_laws.proofs.Compile.{made_compile}
 use Rattle.word_lower.specs.Places.{scratch_bit, AreAt, program_on}
@@ -460,11 +460,6 @@ module _ (slots : Slots) (free_bit free_word : ℕ) (target : List ℕ)
               let w = ap (op_ceiling p) (named_width n slots args ss at) in
               let like = rounds_cost_like rooms n (program p t.kind) in
               let sum = sum_is turn_cost n (placed_steps [] (program p t.kind)) in
-              omega (arith, b, w, like, sum));
-          plain = λ n some most. (let b = tests.plain n some in
-              let w = ap (l.op_plain_ceiling p) (named_width n slots args ss at) in
-              let like = plain_costs_like rooms have_rows n (program p t.kind) in
-              let sum = sum_is plain_cost n (placed_steps [] (program p t.kind)) in
               omega (arith, b, w, like, sum));
         }
 

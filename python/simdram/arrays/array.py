@@ -8,15 +8,21 @@ import typing
 import numpy
 
 from . import cells
-from .costing import Cost
 from .expressions import Constant, Held, Value
-from .operations import BIT
+from .layout import bits_of, extended
+from .operations import BIT, WORD
 from .operators import Operators
+from .records import Field, unpacked
 from .running import Made
 
 if typing.TYPE_CHECKING:
     from .chip import Chip
     from .profiling import ScriptProfile
+
+
+def of_all(name: str, says: str) -> property:
+    """What is known, by this name, of the whole computation of an array, which is done now where it was not."""
+    return property(lambda array: getattr(array.chip.made(array).whole(), name), doc=says)
 
 
 class Array(Operators):
@@ -31,6 +37,8 @@ class Array(Operators):
     def __init__(self, chip: Chip, shape: typing.Tuple[int, ...], value: Value,
                  made: typing.Optional[Made] = None, signed: bool = False) -> None:
         self.chip, self.shape, self.value, self.made, self.signed = chip, shape, value, made, signed
+        # of an array of a structured type this type and where its fields lie
+        self.record: typing.Optional[typing.Tuple[numpy.dtype, typing.Mapping[str, Field]]] = None
 
     def of_value(self, shape: typing.Tuple[int, ...], value: Value, signed: bool) -> Array:
         """An array of the same chip that is computed when it is looked at."""
@@ -60,9 +68,18 @@ class Array(Operators):
         """How many elements it has."""
         return int(numpy.prod(self.shape, dtype=object))
 
+    def __getitem__(self, name: str) -> Array:
+        """A field of a structured type: bits of this array's object, which take no command."""
+        if self.record is None or name not in self.record[1]:
+            raise TypeError(f"the fields of this array are {', '.join(self.record[1]) if self.record else 'none'}, and elements are looked at "
+                            "by .numpy()")
+        field = self.record[1][name]
+        return self.of_value(self.shape, bits_of(self.value, field.low, field.bits, BIT if field.is_bit else WORD), field.signed)
+
     def numpy(self) -> numpy.ndarray:
-        """Its elements: truth values, the smallest type that holds them, or Python's integers above 64 bits."""
-        return self.chip.values(self)
+        """Its elements: truth values, the smallest type that holds them, Python's integers above 64 bits, or those of a structured type."""
+        numbers = self.chip.values(self)
+        return unpacked(numbers, self.record[1], self.record[0]) if self.record else numbers
 
     def __array__(self, dtype: typing.Any = None, copy: typing.Any = None) -> numpy.ndarray:
         return self.numpy() if dtype is None else self.numpy().astype(dtype)
@@ -71,9 +88,8 @@ class Array(Operators):
                signed: typing.Optional[bool] = None) -> Array:
         """The same numbers at another width, modulo 2^bits; or their patterns read as signed or unsigned.
 
-        To another width the host reads the rows of this array, which is computed now, and writes those of a new one,
-        as its cost says (`host_reads`, `host_writes`). At the same width nothing is moved. A type of NumPy says width
-        and sign; `bool` is whether a number isn't 0.
+        Fewer bits are a slice of the same object, which takes no command; more are copied beside zeros or copies of the top
+        bit. A type of NumPy says width and sign; `bool` is whether a number isn't 0.
         """
         if dtype is not None:
             if bits is not None or signed is not None:
@@ -86,13 +102,7 @@ class Array(Operators):
         is_signed = self.signed if signed is None else bool(signed)
         if not self.is_bit and width == self.bits:
             return Array(self.chip, self.shape, self.value, self.made, is_signed)
-        before = self.chip.made(self)
-        placed = self.chip.array(cells.modulo(self.numpy(), width), bits=width)
-        banks = self.chip.image.banks_of(self.size) if self.shape else 0
-        moved = Cost(banks=banks or 1, host_writes=width * banks, host_reads=self.bits * banks)
-        script = f"# the host reads {self.value.origin.name} and writes {placed.value.origin.name}\n" if self.shape else ""
-        placed.value.origin.made = Made(script=script, cost=moved, sources=(before,))
-        return Array(self.chip, self.shape, placed.value, placed.value.origin.made, is_signed)
+        return self.of_value(self.shape, extended(self.value, width, self.signed), is_signed)
 
     def sum(self, axis: typing.Optional[int] = None, dtype: typing.Any = None, out: typing.Any = None, *,
             bits: typing.Optional[int] = None) -> Array:
@@ -112,31 +122,13 @@ class Array(Operators):
         """One number of this width, that the chip has computed."""
         return Array(self.chip, (), Value(self.value.kind, self.bits, number), number.made, self.signed)
 
-    @property
-    def cost(self) -> Cost:
-        """What all took that it was computed from, each part once: the bbops and fills, over all banks and in one, and the rows
-        that the host wrote and read to place numbers and to change widths."""
-        return self.chip.made(self).whole().cost
-
-    @property
-    def text(self) -> str:
-        """The ops that were compiled for it and for what it was computed from; none for numbers that were placed."""
-        return self.chip.made(self).whole().text
-
-    @property
-    def text_as_written(self) -> str:
-        """The ops as they were meant, before a chip with `simplify=True` simplified their texts."""
-        return self.chip.made(self).whole().text_as_written
-
-    @property
-    def script(self) -> str:
-        """The lines that computed it and what it was computed from, in order; where the host moved rows, a comment says so."""
-        return self.chip.made(self).whole().script
-
-    @property
-    def report(self) -> str:
-        """What the program reported of these lines."""
-        return self.chip.made(self).whole().report
+    cost = of_all("cost", "What all took that it was computed from, each part once: the bbops and fills, over all banks and in one, and "
+                  "the rows that the host wrote and read to place numbers and to change widths.")
+    text = of_all("text", "The ops that were compiled for it and for what it was computed from; none for numbers that were placed.")
+    text_as_written = of_all("text_as_written", "The ops as they were meant, before a chip with `simplify=True` simplified their texts.")
+    script = of_all("script", "The lines that computed it and what it was computed from, in order; where the host moved rows, a comment "
+                    "says so.")
+    report = of_all("report", "What the program reported of these lines.")
 
     def profile(self) -> ScriptProfile:
         """Where its cost went: by op, by instruction of its script and by statement of its ops."""

@@ -24,12 +24,6 @@ _NEGATIVE = """serial up (d = 0) {
 _SIGN = """serial up (y = 0) {
     y = a;
   }"""
-# the first majority is the top bit itself, each later one the bit above
-_HALF = """serial down (p = 0, q = 1) {
-    y = maj(p, a, q);
-    p = a;
-    q = a;
-  }"""
 _WHERE = """serial up () {
     y = and(a, b);
   }"""
@@ -42,7 +36,6 @@ BLOCKS = {block.name: block for block in (
     Operation("signed_ge", (WORD, WORD), (BIT,), _ORDER.format(start=1)),
     Operation("negative", (WORD,), (WORD,), _NEGATIVE),
     Operation("sign", (WORD,), (BIT,), _SIGN),
-    Operation("signed_shr1", (WORD,), (WORD,), _HALF),
     Operation("zero_unless", (WORD, BIT), (WORD,), _WHERE),
     Operation("zero_if", (WORD, BIT), (WORD,), _WHERE_NOT),
 )}

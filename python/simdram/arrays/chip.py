@@ -16,6 +16,8 @@ from .array import Array, constant
 from .costing import Cost, total
 from .cutting import STATEMENTS, cut
 from .expressions import Constant, Held, Value, made_before
+from .layout import whole_of
+from .records import fields_of, packed
 from .refusals import Refused
 from .running import HELP, Made, run
 from .scripting import Names, Scripts
@@ -28,7 +30,7 @@ class Chip:
 
     A bank holds 64 * words elements of an array, one in each column. `cost` is all that the chip has done until now: the row
     commands of its scripts and scans, those that make objects too, and the rows that the host has written to place arrays and
-    has read for `numpy()` and `astype`; `host_writes` and `host_reads` are these rows alone, over all banks. With `simplify` the text of each op is
+    has read for `numpy()`, sums and products of matrices; `host_writes` and `host_reads` are these rows alone, over all banks. With `simplify` the text of each op is
     simplified at its width and compared with what was meant (docs/NUMPY.md, "Simpler texts").
     """
 
@@ -61,8 +63,11 @@ class Chip:
         """Whole numbers or truth values in the chip: an array of any shape, at a width of 1 to 128 bits.
 
         Without `bits` the width is that of the array's type, and one bit for truth values. With `signed` numbers from
-        -2^(bits-1) on are placed, in two's complement. One number alone is a constant.
+        -2^(bits-1) on are placed, in two's complement. One number alone is a constant. Of a structured type each field has the width
+        of its type, or of `bits`, as in `bits={"low": 4, "high": 4}`.
         """
+        if isinstance(data, numpy.ndarray) and data.dtype.names:
+            return self._records(data, bits)
         numbers = cells.as_array(data)
         width = cells.checked_width(cells.width_of(numbers) if bits is None else operator.index(bits))
         signed = signed and numbers.dtype != bool
@@ -77,6 +82,13 @@ class Chip:
         self.host_writes += width * banks
         made = Made(cost=Cost(banks=banks, host_writes=width * banks))
         return Array(self, numbers.shape, Value(kind, width, self._held(name, made)), made, signed)
+
+    def _records(self, data: numpy.ndarray, widths: typing.Optional[typing.Mapping[str, int]]) -> Array:
+        """Elements of a structured type in one object, whose fields are bits of it."""
+        fields = fields_of(data.dtype, widths)
+        placed = self.array(packed(data, fields), bits=sum(field.bits for field in fields.values()))
+        placed.record = data.dtype, fields
+        return placed
 
     def _placed(self, width: int, count: int) -> str:
         """A new object at the least free rows."""
@@ -124,7 +136,7 @@ class Chip:
             numbers = cells.array_of_number(origin.number, array.bits, array.value.kind)
         else:
             self.host_reads += array.bits * self.image.banks_of(array.size)
-            numbers = cells.array_of(*self.image.cells(origin.name), array.value.kind, array.shape)
+            numbers = cells.array_of(*self.image.cells(origin.name, origin.low, array.bits), array.value.kind, array.shape)
         return cells.as_signed(numbers, array.bits) if array.signed else numbers
 
     def compute(self, arrays: typing.Sequence[Array]) -> None:
@@ -184,12 +196,15 @@ class Chip:
 
     def _keep(self, computed: typing.Sequence[typing.Tuple[Array, Value]], scripts: Scripts, made: Made) -> None:
         """The arrays are now what was computed for them; one of no dimensions becomes its number again."""
-        origins = {target.origin.name: target.origin for _, target in computed if isinstance(target.origin, Held)}
-        for array, target in computed:
-            name = scripts.object_of(target)
+        wholes = [whole_of(target) for _, target in computed]
+        origins = {whole.origin.name: whole.origin for whole, _ in wholes if isinstance(whole.origin, Held)}
+        for (array, target), (whole, low) in zip(computed, wholes):
+            name = scripts.object_of(whole)
             if name not in origins:
                 origins[name] = self._held(name, made)
-            array.settle(origins[name] if array.shape else Constant(self.image.get(name)[0], made), made)
+            held = origins[name] if whole is target else Held(name, made, low, Value(whole.kind, whole.bits, origins[name]))
+            number = None if array.shape else Constant((self.image.get(name)[0] >> low) % 2**array.bits, made)
+            array.settle(number or held, made)
 
 
 def sources_of(computed: typing.Sequence[typing.Tuple[Array, Value]]) -> typing.List[Made]:

@@ -17,7 +17,6 @@ VALUES: typing.Dict[str, typing.Callable[..., Numbers]] = {
     **{name: one.value for name, one in WORD_OPS.items()},
     "signed_gt": _of_signed(operator.gt), "signed_ge": _of_signed(operator.ge),
     "negative": lambda _bits, x: -x, "sign": lambda bits, x: x >> bits - 1,
-    "signed_shr1": lambda bits, x: signed(bits, x) >> 1,
     "zero_unless": lambda _bits, x, condition: x if condition else 0,
     "zero_if": lambda _bits, x, condition: 0 if condition else x,
 }

@@ -9,10 +9,10 @@ from .refusals import Refused
 
 
 class Held:
-    """A value that is an object of the chip, and how it was made."""
+    """A value that is an object of the chip, or the bits of one from `low` on, and how it was made."""
 
-    def __init__(self, name: str, made: typing.Any = None) -> None:
-        self.name, self.made = name, made
+    def __init__(self, name: str, made: typing.Any = None, low: int = 0, whole: typing.Optional[Value] = None) -> None:
+        self.name, self.made, self.low, self.whole = name, made, low, whole
 
 
 class Constant:

@@ -2,12 +2,17 @@
 
 from __future__ import annotations
 
+import operator
 import typing
 
+from . import cells
 from .array import Array
-from .operations import OPERATIONS
-from .operators import arrays_of, choice, compared, is_signed, results_of
+from .layout import bits_of, joined
+from .operations import BIT, OPERATIONS, WORD, Operation
+from .operators import arrays_of, choice, compared, is_signed, results_of, shape_of
 from .refusals import Refused
+
+CONCAT = Operation("concat", (), (WORD,))
 
 
 def apply(name: str, *operands: typing.Any) -> typing.Union[Array, typing.Tuple[Array, ...]]:
@@ -45,6 +50,20 @@ def extreme(of_bits: str, of_words: str, first: typing.Any, second: typing.Any) 
         return apply(of_words, first, second)
     is_first_greater = compared("gt", first, second)
     return choice(is_first_greater, *((first, second) if of_words == "max" else (second, first)))
+
+
+def bit(array: Array, place: int) -> Array:
+    """One bit of each element, 0 the lowest, as truth values: a slice, which takes no command."""
+    if not 0 <= operator.index(place) < array.bits:
+        raise Refused("slice", f"bit {place} of an array of {array.bits} bits", 0)
+    return array.of_value(array.shape, bits_of(array.value, operator.index(place), 1, BIT), False)
+
+
+def concat(*operands: typing.Any) -> Array:
+    """Words whose lowest bits are those of the first array, with those of the others above them."""
+    arrays = arrays_of(CONCAT, operands)
+    cells.checked_width(sum(one.bits for one in arrays))
+    return arrays[0].of_value(shape_of(CONCAT, arrays), joined([(one.value, one.bits) for one in arrays]), False)
 
 
 def bitcount(array: Array) -> Array:

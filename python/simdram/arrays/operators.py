@@ -7,7 +7,7 @@ import typing
 
 import numpy
 
-from . import expressions
+from . import expressions, layout
 from .blocks import BLOCKS
 from .operations import BIT, OPERATIONS, WORD
 from .refusals import Refused
@@ -46,6 +46,14 @@ class Operators:
     __mod__, __rmod__ = of_division(operator.itemgetter(1))
     __divmod__, __rdivmod__ = of_division(tuple)
 
+    def __matmul__(self, other):
+        from .matrices import matmul
+        return matmul(self, other)
+
+    def __rmatmul__(self, other):
+        from .matrices import matmul
+        return matmul(other, self)
+
     def __invert__(self):
         return results_of("not", self)[0]
 
@@ -59,10 +67,10 @@ class Operators:
         return results_of("abs", self)[0] if self.signed else self
 
     def __lshift__(self, places):
-        return shifted("shl1", self, places)
+        return shifted(self, places)
 
     def __rshift__(self, places):
-        return shifted_signed(self, places) if self.signed else shifted("shr1", self, places)
+        return shifted(self, places, is_up=False)
 
     def __eq__(self, other):
         return ~binary("xor", self, other) if self.is_bit else binary("eq", self, other)
@@ -123,23 +131,16 @@ def choice(condition: typing.Any, first: typing.Any, second: typing.Any) -> typi
     return results_of("if_else", first, second, condition)[0]
 
 
-def shifted(name: str, array: typing.Any, places: typing.Any) -> typing.Any:
-    """An array after so many shifts by one place; nothing of it is left after as many as it has bits."""
-    count = places_of(places)
-    if count >= array.bits:
+def shifted(array: typing.Any, places: typing.Any, is_up: bool = True) -> typing.Any:
+    """An array after a shift by so many places; of a signed one the top bit comes in again from above."""
+    count, is_signed_down = places_of(places), array.signed and not is_up
+    if count >= array.bits and not is_signed_down:
         return array ^ array
-    for _ in range(count):
-        array = results_of(name, array)[0]
-    return array
-
-
-def shifted_signed(array: typing.Any, places: typing.Any) -> typing.Any:
-    """A signed array after a shift to the right, in which the top bit comes in again."""
-    count = min(places_of(places), array.bits)
-    if count < 2:
-        return block("signed_shr1", array) if count else array
-    came_in = array.chip.array((1 << count) - 1 << array.bits - count, bits=array.bits).astype(signed=True)
-    return shifted("shr1", array, count) | block("zero_unless", came_in, block("sign", array))
+    count = min(count, array.bits - 1)
+    if count < 2 and not is_signed_down:
+        return results_of("shl1" if is_up else "shr1", array)[0] if count else array
+    value = layout.moved_up(array.value, count) if is_up else layout.moved_down(array.value, count, array.signed)
+    return array.of_value(array.shape, value, array.signed) if count else array
 
 
 def places_of(places: typing.Any) -> int:

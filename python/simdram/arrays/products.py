@@ -32,7 +32,7 @@ def commands_of(digits: typing.Dict[int, int], bits: int) -> int:
     taken = sum(COMMANDS["add" if digit > 0 else "sub"](bits) for digit in digits.values())
     first = "add" if max(digits.values()) > 0 else "sub"
     start = 0 if first == "add" else COMMANDS["negative"](bits)
-    return taken - COMMANDS[first](bits) + start + max(digits) * COMMANDS["shl1"](bits)
+    return taken - COMMANDS[first](bits) + start + sum(map(bool, digits)) * COMMANDS["shl1"](bits)
 
 
 def product(b: typing.Any, x: Value, number: int) -> typing.Optional[Value]:
@@ -43,9 +43,7 @@ def product(b: typing.Any, x: Value, number: int) -> typing.Optional[Value]:
     is_cheap = commands_of(digits, x.bits) < COMMANDS["mul"](x.bits) + COMMANDS["fill"](x.bits)
     if len(digits) > 1 and not (b.by_digits and is_cheap):
         return None
-    shifted = [x]
-    for _ in range(max(digits)):
-        shifted.append(b.do("shl1", shifted[-1]))
+    shifted = {place: b.shifted(x, place) for place in digits}
     positive = [place for place in sorted(digits, reverse=True) if digits[place] > 0]
     negative = [place for place in digits if digits[place] < 0]
     total = shifted[positive.pop(0)] if positive else b.do("negative", shifted[negative.pop(0)])

@@ -9,6 +9,8 @@ from __future__ import annotations
 import typing
 
 from .expressions import Value
+from .layout import Product
+from .layout_rules import masked, without_zeros
 from .matching import are_opposite, arguments_of, is_ones, number_of, other_of, under
 from .operations import BIT, OPERATIONS
 from .products import product
@@ -64,13 +66,11 @@ def cancelled(b, x, y):
 
 
 def mul(b, x, y):
-    return product(b, x, number_of(y)) if number_of(y) is not None else None
-
-
-def shifted_down(b, x, places):
-    for _ in range(places):
-        x = b.do("shr1", x)
-    return x
+    if number_of(y) is not None:
+        return product(b, x, number_of(y))
+    narrow = [without_zeros(one) for one in (x, y)]
+    is_whole = sum(one.bits for one in narrow) <= x.bits
+    return b.step(Product(), sorted(narrow, key=lambda one: -one.bits), x.bits)[0] if is_whole else None
 
 
 def div_and_rem(b, x, y):
@@ -78,7 +78,7 @@ def div_and_rem(b, x, y):
     if by == 0:
         return b.like(x, -1), x
     if by is not None and by & by - 1 == 0:
-        return shifted_down(b, x, by.bit_length() - 1), b.do("and", x, b.like(x, by - 1))
+        return b.shifted(x, 1 - by.bit_length()), b.do("and", x, b.like(x, by - 1))
     if x is y or number_of(x) == 0:
         return b.step(OPERATIONS["divmod"], (x, y), x.bits)[0], b.like(x, 0)
     return None
@@ -97,7 +97,7 @@ def and_(b, x, y):
         return x
     if number_of(y) == 0 or are_opposite(x, y):
         return b.like(x, 0)
-    return absorbed("and", "or", x, y) or with_number(b, "and", x, y)
+    return masked(b, x, number_of(y)) if number_of(y) is not None else absorbed("and", "or", x, y)
 
 
 def or_(b, x, y):

@@ -10,7 +10,7 @@ import tempfile
 import typing
 
 from ..files.fields import NAME
-from ..files.image import Image
+from ..files.image import Image, Object
 from ..files.store import store
 from ..files.table import Table
 from ..launcher import run_program
@@ -41,12 +41,18 @@ def scan(chip: Chip, query: str, /, **arrays: typing.Any) -> Count:
     """
     if not isinstance(query, str):
         raise TypeError(f"a query is a text, and not {type(query).__name__}")
-    placed: typing.Dict[str, Array] = {}
+    # the arrays that are placed for the query stay as long as it runs
+    kept: typing.List[Array] = []
+    placed: typing.Dict[str, Object] = {}
     for name, one in arrays.items():
         array = one if isinstance(one, Array) else chip.array(one)
-        twice = any(array is other for other in placed.values())
-        placed[name] = chip.array(array.numpy(), bits=array.bits) if twice else array
-    image = renamed(chip, {object_of(chip, name, array): name for name, array in placed.items()})
+        rows = object_of(chip, name, array)
+        if any(rows.meets(other) for other in placed.values()):
+            array = chip.array(array.numpy(), bits=array.bits)
+            rows = object_of(chip, name, array)
+        kept.append(array)
+        placed[name] = rows
+    image = renamed(chip, list(placed.values()))
     with tempfile.TemporaryDirectory(prefix="simdram_") as folder:
         store(f"{folder}/query", query.encode())
         image.save(f"{folder}/image")
@@ -70,8 +76,8 @@ def refusal(query: str, image: Image, names: typing.Optional[typing.Container[st
     return "\n".join([query, *(line for one in found for line in one.lines())])
 
 
-def object_of(chip: Chip, name: str, array: Array) -> str:
-    """The object of an array that a query calls by this name."""
+def object_of(chip: Chip, name: str, array: Array) -> Object:
+    """The rows of an array that a query calls by this name, as an object."""
     if not NAME.fullmatch(name.encode()):
         raise Refused("bad_name", f"{name} is no name of at most 16 letters, digits and _")
     if array.signed:
@@ -81,12 +87,20 @@ def object_of(chip: Chip, name: str, array: Array) -> str:
     if not array.shape:
         raise Refused("size", f"{name} is one number, and a query goes over an array")
     chip.made(array)
-    return array.value.origin.name
+    origin = array.value.origin
+    whole = chip.image.find(origin.name)
+    return dataclasses.replace(whole, name=name, base=whole.base + origin.low, width=array.bits)
 
 
-def renamed(chip: Chip, names: typing.Dict[str, str]) -> Image:
-    """The chip's image, where the arrays have the query's names and no other object has one of them."""
+def renamed(chip: Chip, named: typing.Sequence[Object]) -> Image:
+    """The chip's image with the objects of a query, and all other rows of objects under other names."""
     image = copy.copy(chip.image)
-    others = (name for name in map("_{}".format, itertools.count()) if name not in names.values())
-    image.objects = [dataclasses.replace(one, name=names.get(one.name) or next(others)) for one in image.objects]
+    others = (name for name in map("_{}".format, itertools.count()) if all(name != one.name for one in named))
+    image.objects = list(named)
+    for one in chip.image.objects:
+        base = one.base
+        for past, then in sorted((part.base, part.past) for part in named if part.meets(one)) + [(one.past, one.past)]:
+            if base < past:
+                image.objects.append(dataclasses.replace(one, name=next(others), base=base, width=past - base))
+            base = then
     return image

@@ -6,12 +6,17 @@ import collections
 import dataclasses
 import typing
 
+from . import layout_lines
 from .cutting import Part, can_join
 from .expressions import Constant, Held, Value
+from .layout import Join, Product, Slice, whole_of
 from .op_text import renamed, text_of
 from .own_programs import OwnProgram
 from .running import OPS_MOST, Script
 from .simpler_texts import Texts
+
+
+LINES = {Join: layout_lines.join, Product: layout_lines.product}
 
 
 class Names:
@@ -37,10 +42,11 @@ class Scripts:
         self.ops: typing.Dict[typing.Tuple[str, int], str] = {}
         # the texts of all ops as they were meant, each once
         self.written: typing.Dict[str, None] = {}
-        self.kept = {id(target) for target in targets}
+        self.kept = {id(whole_of(target)[0]) for target in targets}
         self.longest = max((len(part.steps) for part in parts), default=0)
-        # of each value, how many parts have still to read it
-        self.readers = collections.Counter(id(value) for part in parts for value in part.sources)
+        parts = [part for part in parts if not isinstance(part.steps[0].operation, Slice)]
+        # of each value, how many sources of parts are still to be read from it
+        self.readers = collections.Counter(id(whole_of(value)[0]) for part in parts for value in part.sources)
         for part in parts:
             self._do(part)
         for target in targets:
@@ -62,7 +68,10 @@ class Scripts:
         return list(dict.fromkeys(text for script in self.scripts for text in script.texts))
 
     def object_of(self, value: Value) -> str:
-        """The object that holds a value; a constant is filled into a new one."""
+        """The operand that is a value: an object, into which a constant is filled, or bits of one."""
+        whole, low = whole_of(value)
+        if whole is not value:
+            return layout_lines.bits(self.object_of(whole), low, value.bits)
         if isinstance(value.origin, Held):
             return value.origin.name
         if id(value) not in self.objects:
@@ -73,19 +82,42 @@ class Scripts:
 
     def _make(self, value: Value) -> None:
         self.objects[id(value)] = self.names.next("v")
-        self.lines.append(f"bbop_trsp_init {self.objects[id(value)]}, {self.count}, {value.bits}")
+        self.make(self.objects[id(value)], value.bits)
+
+    def make(self, name: str, width: int) -> None:
+        """The line that makes an object."""
+        self.lines.append(f"bbop_trsp_init {name}, {self.count}, {width}")
 
     def _do(self, part: Part) -> None:
-        """The lines of a part: its constants, its results, its bbop, and what no later part reads."""
+        """The lines of a part, and what no later part reads."""
+        by_layout = LINES.get(type(part.steps[0].operation))
+        if by_layout:
+            by_layout(self, part.steps[0])
+        else:
+            self._run(part)
+        sources = [whole_of(value)[0] for value in part.sources]
+        self.readers.subtract(map(id, sources))
+        for value in [*sources, *part.results]:
+            if not self.readers[id(value)] and id(value) in self.objects and id(value) not in self.kept:
+                self.lines.append(f"free {self.objects.pop(id(value))}")
+
+    def _run(self, part: Part) -> None:
+        """The lines of an op: its constants, its results, its bbop."""
         op = self._op(part)
         sources = [self.object_of(value) for value in part.sources]
         results = [self.object_of(value) for value in part.results]
-        operands = ", ".join([*results, *self._repeated(part, sources)])
-        self.lines.append(f"bbop_{op} {operands}, {self.count}, {part.width or 1}")
-        self.readers.subtract(map(id, part.sources))
-        for value in [*part.sources, *part.results]:
-            if not self.readers[id(value)] and id(value) in self.objects and id(value) not in self.kept:
-                self.lines.append(f"free {self.objects.pop(id(value))}")
+        self.bbop(op, [*results, *self._repeated(part, sources)], part.width or 1)
+
+    def bbop(self, op: str, operands: typing.Sequence[str], width: int) -> None:
+        """The line of an op on operands."""
+        self.lines.append(f"bbop_{op} {', '.join(operands)}, {self.count}, {width}")
+
+    def op_of(self, text: str) -> str:
+        """The name of the op of a text, which is compiled as it stands."""
+        name = self.ops.setdefault((text, 0), self._fresh(self.ops.values()))
+        self._add_text(renamed(text, name))
+        self.written[renamed(text, name)] = None
+        return name
 
     @staticmethod
     def _repeated(part: Part, sources: typing.Sequence[str]) -> typing.List[str]:

@@ -11,6 +11,8 @@ import typing
 from .blocks import BLOCKS
 from .constant_folding import folded
 from .expressions import Constant, Held, Result, Step, Value, in_order
+from .layout import Layout
+from .layout_rules import laid_out, moved, sliced
 from .operations import BIT, OPERATIONS, WORD, Operation
 from .rewriting import COMMUTATIVE, RULES
 
@@ -45,9 +47,17 @@ class Builder:
         """The one value of an object, of a constant, or of a step's result."""
         if isinstance(value.origin, Constant):
             return self.constant(value.kind, value.bits, value.origin.number)
+        if isinstance(value.origin, Held) and value.origin.whole is not None:
+            return sliced(self, self.leaf(value.origin.whole), value.origin.low, value.bits, value.kind)
         if isinstance(value.origin, Held):
             value = self.known.setdefault(("held", value.origin.name), value)
         return self._seen(value)
+
+    def shifted(self, value: Value, places: int) -> Value:
+        """A value at its width after a shift by so many places, up, or down where they are below 0."""
+        if abs(places) < 2:
+            return self.do("shl1" if places > 0 else "shr1", value) if places else value
+        return moved(self, value, places)
 
     def do(self, name: str, *arguments: Value) -> Value:
         """The one result of an operation by its name."""
@@ -56,6 +66,8 @@ class Builder:
 
     def results(self, operation: typing.Any, arguments: typing.Sequence[Value], width: typing.Optional[int]) -> Results:
         """The results of an operation on values that are in this form."""
+        if isinstance(operation, Layout):
+            return (laid_out(self, operation, arguments, width),)
         kinds = kinds_of(operation, arguments)
         if not isinstance(operation, Operation):
             return self.step(operation, arguments, width)
@@ -71,7 +83,7 @@ class Builder:
 
     def step(self, operation: typing.Any, arguments: typing.Sequence[Value], width: typing.Optional[int]) -> Results:
         """The results of the one step of an operation on these values."""
-        key = (operation.name, id(operation), width, *map(id, arguments))
+        key = (operation.name, operation if isinstance(operation, Layout) else id(operation), width, *map(id, arguments))
         if key not in self.known:
             self.known[key] = Step(operation, arguments, width, kinds_of(operation, arguments))
         return tuple(map(self._seen, self.known[key].results))

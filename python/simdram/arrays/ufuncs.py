@@ -33,7 +33,7 @@ UFUNCS: typing.Dict[str, typing.Callable] = {
         ("less", "lt"), ("less_equal", "le"), ("greater", "gt"), ("greater_equal", "ge"))},
     **{name: of_truth(own) for name, own in (("logical_and", "and"), ("logical_or", "or"), ("logical_xor", "xor"), ("logical_not", "not"))},
     "divmod": of_arrays(divmod), "invert": operator.invert, "negative": operator.neg, "positive": operator.pos, "absolute": abs,
-    "left_shift": operator.lshift, "right_shift": operator.rshift, "minimum": minimum, "maximum": maximum, "bitwise_count": bitcount,
+    "matmul": of_arrays(operator.matmul), "left_shift": operator.lshift, "right_shift": operator.rshift, "minimum": minimum, "maximum": maximum, "bitwise_count": bitcount,
 }
 
 

@@ -12,8 +12,7 @@ import argparse
 from ..files.program import Program
 from ..launcher.settings import Settings
 from ..launcher.tool_parser import tool_parser
-from .listing import raw_text
-from .reading import readable_text
+from .reading import raw_text, readable_text
 
 
 def parser() -> argparse.ArgumentParser:

@@ -5,9 +5,8 @@ from __future__ import annotations
 from ..files.program import AP, AAP, BNEZ, CODE, OPERANDS, Entry, Instruction
 from ..rules.tokens import NUMBER
 from .fault import TextFault
-from .instructions import Out
 from .lowering import Lowering
-from .tree import Head
+from .tree import Head, Out
 
 SIZE = 8
 

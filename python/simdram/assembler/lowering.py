@@ -8,10 +8,9 @@ from ..files.program import (ADD, ADDI, BNEZ, DONE, LARGEST, MOV, REGISTERS, SET
 from ..rules.tokens import NUMBER, Token
 from .fault import TextFault
 from .forms import N, Form
-from .instructions import Out
 from .needs import least, needs_of, tested
 from .registers import Registers, named_registers
-from .tree import Command, For, If, Jump, Label, Next, Numbered, Operand, Plain, ProgramText
+from .tree import Command, For, If, Jump, Label, Next, Numbered, Operand, Out, Plain, ProgramText
 
 
 # the label where a program for one width is stuck at others

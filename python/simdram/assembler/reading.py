@@ -1,4 +1,5 @@
-"""From a program to a text for a reader: cells and operands by their names, labels, and loops where that is the same."""
+"""From a program to its text: for a reader, with cells and operands by their names, labels, and loops where that is the same; or
+in the raw layer, the lines of a listing, each entry below its head."""
 
 from __future__ import annotations
 
@@ -7,12 +8,13 @@ import typing
 from ..files.program import B_ADDRESS, BNEZ, C_ADDRESS, INDEXED, OPERANDS, REGISTERS, Entry, Instruction, Program, Row
 from .cells import address_text
 from .fault import TextFault
-from .listing import RESULTS, SOURCES, head_line
 from .one_width import one_width, own
 from .walks import Stuck, walk
 
 # at which widths a text with loops is compared with the instructions
 WIDTHS = (*range(1, 13), 31, 32, 64)
+SOURCES = "abcd"
+RESULTS = "yz"
 Subscript = typing.Callable[[int], str]
 
 
@@ -92,3 +94,29 @@ def readable_text(program: Program) -> str:
     parts = ["".join(f"{line}\n" for line in readable_lines(entry)) for entry in program.entries]
     version = f"version {program.version}\n\n" if program.version != 2 else ""
     return version + "\n".join(parts)
+
+
+def head_line(entry: Entry) -> str:
+    """The head of a program, with names for the sources and the results, which a program file does not keep."""
+    takes, gives = (", ".join(f"{name}: {kind}" for name, kind in zip(names, kinds))
+                    for names, kinds in ((SOURCES, entry.sources), (RESULTS, entry.results)))
+    return f"program {entry.name}({takes}) -> {gives}"
+
+
+def entry_line(entry: Entry) -> str:
+    """The line that `list` prints before the instructions."""
+    second = " results=2" if len(entry.results) == 2 else ""
+    return f"entry {entry.name} sources={len(entry.sources)} bits={entry.bits} words={entry.words} code={len(entry.code)}{second}"
+
+
+def listing(entry: Entry) -> list[str]:
+    """What `list` prints of an entry."""
+    return [entry_line(entry), *(f"{at} {one}" for at, one in enumerate(entry.code))]
+
+
+def raw_text(program: Program) -> str:
+    """The text of a program in the raw layer, which assembles to the same file."""
+    lines = [f"version {program.version}"] * (program.version != 2)
+    for entry in program.entries:
+        lines += [head_line(entry), *listing(entry)]
+    return "".join(f"{line}\n" for line in lines)

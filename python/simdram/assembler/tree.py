@@ -5,6 +5,7 @@ from __future__ import annotations
 import dataclasses
 import typing
 
+from ..files.program import Row
 from ..rules.tokens import Token
 from .forms import Form
 
@@ -131,3 +132,15 @@ class Text:
 
     programs: typing.List[ProgramText]
     version: int = 2
+
+
+@dataclasses.dataclass
+class Out:
+    """An instruction whose jump leads to a label yet: its token, kind, registers, number or target, and rows."""
+
+    token: Token
+    kind: int
+    register: int = 0
+    other: int = 0
+    number: typing.Union[int, str] = 0
+    rows: typing.Tuple[Row, ...] = ()

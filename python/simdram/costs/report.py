@@ -25,7 +25,7 @@ from ..launcher.tool_parser import tool_parser
 from ..rules.script_rules import Instruction, read_script
 
 OK = re.compile(r"(\d+) ok aap=(\d+) ap=(\d+)")
-PRINTED = re.compile(r"(\d+) (\w+):((?: \d+)+)")
+PRINTED = re.compile(r"(\d+) (\w+(?:\[\d+(?::\d+)?\])?):((?: \d+)+)")
 REFUSED = re.compile(r"(\d+) refused (\w+)((?: \w+)*)")
 VOTE = re.compile(r"vote aap=(\d+) flips=(\d+)")
 TOTAL = re.compile(r"total aap=(\d+) ap=(\d+) writes=(\d+) reads=(\d+) refused=(\d+)")

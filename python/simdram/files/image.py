@@ -5,40 +5,12 @@ Element e of an object stands in bank e / (64 * words), column e modulo (64 * wo
 
 from __future__ import annotations
 
-import dataclasses
-import struct
 import typing
 
 from . import columns
-from .fault import FileFault
-from .fields import Fields, name_field
+from .fields import Fields
 from .store import load, store
-
-MAGIC = b"SDMI"
-HEAD = struct.Struct("<4sHHHHH")
-RECORD = struct.Struct("<BHI")
-BANKS, ROWS, WORDS, ALL_WORDS = (1, 16), (64, 1006), (1, 1024), 2**23
-OBJECTS, WIDTHS = 256, (1, 128)
-SPILL_ROWS = 32
-
-
-@dataclasses.dataclass
-class Object:
-    """An object of the table: its first row, its rows (the width of an element) and how many elements it has."""
-
-    name: str
-    width: int
-    base: int
-    count: int
-
-    @property
-    def past(self) -> int:
-        """The first row after it."""
-        return self.base + self.width
-
-    def meets(self, other: Object) -> bool:
-        """Whether two objects have a row in common."""
-        return self.base < other.past and other.base < self.past
+from .table import MAGIC, OBJECTS, SPILL_ROWS, WIDTHS, Object, Table, geometry_fault  # for its readers too
 
 
 class NoObject(KeyError):
@@ -64,17 +36,7 @@ class OutOfRange(ValueError):
         self.place = place
 
 
-def geometry_fault(banks: int, rows: int, words: int) -> typing.Optional[str]:
-    """Why no chip has this geometry, or None where one can have it."""
-    for name, number, (least, most) in (("banks", banks, BANKS), ("rows", rows, ROWS), ("words", words, WORDS)):
-        if not least <= number <= most:
-            return f"a chip has {least} to {most} {name}, not {number}"
-    if banks * rows * words > ALL_WORDS:
-        return f"a chip has at most {ALL_WORDS:,} words, and {banks}x{rows}x{words} are {banks * rows * words:,}"
-    return None
-
-
-class Image:
+class Image(Table):
     """An image: its geometry, its objects in order, and the contents of all rows."""
 
     def __init__(self, banks: int, rows: int, words: int, objects: typing.Iterable[Object] = (),
@@ -82,21 +44,17 @@ class Image:
         wrong = geometry_fault(banks, rows, words)
         if wrong:
             raise ValueError(wrong)
-        self.banks, self.rows, self.words = banks, rows, words
-        self.objects = list(objects)
+        super().__init__(banks, rows, words, list(objects))
         self.contents = bytearray(contents if contents is not None else 8 * banks * rows * words)
 
     @classmethod
     def read(cls, data: bytes, path: str = "image") -> Image:
         """The image of a file's bytes; what is no image file is refused at the first field that breaks its rule."""
         fields = Fields(data, path)
-        fields.magic(MAGIC, "image")
-        fields.within(2, 1, 1, "version", "the version")
-        banks, rows, words = read_geometry(fields)
-        objects = read_table(fields, banks, rows, words)
-        contents = fields.taken(8 * banks * rows * words)
+        table = Table.taken(fields, MAGIC, "image")
+        contents = fields.taken(8 * table.banks * table.rows * table.words)
         fields.end()
-        return cls(banks, rows, words, objects, contents)
+        return cls(table.banks, table.rows, table.words, table.objects, contents)
 
     @classmethod
     def load(cls, path: str) -> Image:
@@ -105,56 +63,35 @@ class Image:
 
     def file(self) -> bytes:
         """The image file."""
-        return geometry_and_table(MAGIC, self) + bytes(self.contents)
+        return self.head(MAGIC) + bytes(self.contents)
 
     def save(self, path: str) -> None:
         """Writes the image file."""
         store(path, self.file())
 
-    @property
-    def columns(self) -> int:
-        """How many elements a bank has of an object."""
-        return 64 * self.words
-
-    def banks_of(self, count: int) -> int:
-        """In how many banks so many elements stand."""
-        return -(-count // self.columns)
-
     def find(self, name: str) -> Object:
         """The object of this name."""
-        for found in self.objects:
-            if found.name == name:
-                return found
+        found = super().find(name)
+        if found:
+            return found
         names = ", ".join(found.name for found in self.objects)
         raise NoObject(f"no object {name}: there are {names}" if names else f"no object {name}: the image has none")
 
     def add(self, name: str, width: int, count: int) -> Object:
         """A new object at the least free rows, as `bbop_trsp_init` makes one; its rows stay as they are."""
-        if any(found.name == name for found in self.objects):
+        if super().find(name):
             raise NoRoom("exists", f"a second object {name}")
         if len(self.objects) == OBJECTS:
             raise NoRoom("table_full", f"{name} would be object {OBJECTS + 1}")
-        if not 1 <= count <= self.columns * self.banks:
-            most = self.columns * self.banks
-            raise NoRoom("too_large", f"{name} has {count} elements, and there is room for 1 to {most}")
-        made = Object(name, width, self.least_free(name, width), count)
-        self.objects.append(made)
-        return made
-
-    def least_free(self, name: str, width: int) -> int:
-        """The first row of the least free piece of this many rows."""
+        if not 1 <= count <= self.room:
+            raise NoRoom("too_large", f"{name} has {count} elements, and there is room for 1 to {self.room}")
         if not WIDTHS[0] <= width <= WIDTHS[1]:
             raise NoRoom("bad_number", f"{name} has {width} bits, and an object has {WIDTHS[0]} to {WIDTHS[1]}")
-        base = longest = 0
-        for found in sorted(self.objects, key=lambda one: one.base):
-            longest = max(longest, found.base - base)
-            if base + width <= found.base:
-                return base
-            base = max(base, found.past)
-        if base + width <= self.rows - SPILL_ROWS:
-            return base
-        longest = max(longest, self.rows - SPILL_ROWS - base)
-        raise NoRoom("no_rows", f"{name} needs {width} adjacent rows, and the longest free piece has {longest}")
+        base = self.least_free(width)
+        if base is None:
+            raise NoRoom("no_rows", f"{name} needs {width} adjacent rows, and the longest free piece has {self.longest()}")
+        self.objects.append(Object(name, width, base, count))
+        return self.objects[-1]
 
     def free(self, name: str) -> None:
         """Removes an object from the table, and leaves its rows."""
@@ -168,14 +105,15 @@ class Image:
         """Where a row begins in the contents."""
         return 8 * self.words * (self.rows * bank + row)
 
-    def cells(self, name: str) -> typing.Tuple[bytes, int]:
-        """The object's elements as cells, low byte first, and the size of a cell."""
+    def cells(self, name: str, low: int = 0, width: typing.Optional[int] = None) -> typing.Tuple[bytes, int]:
+        """The object's elements, or so many bits of them from `low` on, as cells, low byte first, and the size of a cell."""
         found, cells = self.find(name), []
-        size = columns.size_of(found.width)
+        width = width or found.width
+        size = columns.size_of(width)
         for bank in range(self.banks):
             kept = self.segment(found, bank)
             if kept:
-                rows = [self._row(bank, found.base + k) for k in range(found.width)]
+                rows = [self._row(bank, found.base + low + k) for k in range(width)]
                 cells.append(columns.cells_of(rows, kept, size))
         return b"".join(cells), size
 
@@ -216,36 +154,3 @@ def check_range(found: Object, values: typing.Sequence[int]) -> None:
         raise OutOfRange(place, f"value {place + 1} of {found.name} is {value}, and numbers below 0 are not kept; "
                          f"a number modulo 2^{found.width} is {value % limit}")
     raise OutOfRange(place, f"value {place + 1} of {found.name} is {value}, and {found.width} bits hold 0 to {limit - 1}")
-
-
-def read_geometry(fields: Fields) -> typing.Tuple[int, int, int]:
-    """The banks, rows and words of an image or a trace."""
-    banks = fields.within(2, *BANKS, "geometry", "the number of banks")
-    rows = fields.within(2, *ROWS, "geometry", "the number of rows")
-    words = fields.within(2, *WORDS, "geometry", "the number of words")
-    wrong = geometry_fault(banks, rows, words)
-    if wrong:
-        raise fields.fault("geometry", wrong)
-    return banks, rows, words
-
-
-def read_table(fields: Fields, banks: int, rows: int, words: int) -> typing.List[Object]:
-    """The table of objects of an image or a trace."""
-    objects: typing.List[Object] = []
-    for _ in range(fields.within(2, 0, OBJECTS, "object", "the number of objects")):
-        name = fields.name("object", {one.name for one in objects})
-        width = fields.within(1, *WIDTHS, "object", f"the width of {name}")
-        base = fields.within(2, 0, rows - SPILL_ROWS - width, "object", f"the base of {name}, of {width} rows,")
-        made = Object(name, width, base, 0)
-        met = next((one.name for one in objects if one.meets(made)), None)
-        if met is not None:
-            raise fields.fault("overlap", f"{name} has rows {base} to {made.past - 1}, and {met} has one of them")
-        made.count = fields.within(4, 1, 64 * words * banks, "object", f"the count of {name}")
-        objects.append(made)
-    return objects
-
-
-def geometry_and_table(magic: bytes, image: typing.Any) -> bytes:
-    """The head of an image or a trace, which has `banks`, `rows`, `words` and `objects`."""
-    head = HEAD.pack(magic, 1, image.banks, image.rows, image.words, len(image.objects))
-    return head + b"".join(name_field(one.name) + RECORD.pack(one.width, one.base, one.count) for one in image.objects)

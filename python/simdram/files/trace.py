@@ -7,8 +7,8 @@ import typing
 
 from . import decode
 from .fields import Fields
-from .image import Object, geometry_and_table, read_geometry, read_table
 from .store import load
+from .table import Table
 
 MAGIC = b"SDMT"
 KINDS = ("AAP", "AP", "WRITE")
@@ -49,13 +49,9 @@ class Event:
 
 
 @dataclasses.dataclass
-class Trace:
+class Trace(Table):
     """A trace: its geometry, its objects, and its events."""
 
-    banks: int
-    rows: int
-    words: int
-    objects: typing.List[Object] = dataclasses.field(default_factory=list)
     events: typing.List[Event] = dataclasses.field(default_factory=list)
 
     @classmethod
@@ -69,10 +65,8 @@ class Trace:
     def opened(cls, data: bytes, path: str = "trace") -> typing.Tuple[Trace, typing.Iterator[Event]]:
         """The trace of a file's bytes without its events, and the events, each read when it is asked for."""
         fields = Fields(data, path)
-        fields.magic(MAGIC, "trace")
-        fields.within(2, 1, 1, "version", "the version")
-        made = cls(*read_geometry(fields))
-        made.objects = read_table(fields, made.banks, made.rows, made.words)
+        table = Table.taken(fields, MAGIC, "trace")
+        made = cls(table.banks, table.rows, table.words, table.objects)
         return made, made._events(fields, fields.number(4))
 
     @classmethod
@@ -83,7 +77,7 @@ class Trace:
     def file(self) -> bytes:
         """The trace file."""
         count = len(self.events).to_bytes(4, "little")
-        return geometry_and_table(MAGIC, self) + count + b"".join(event.file() for event in self.events)
+        return self.head(MAGIC) + count + b"".join(event.file() for event in self.events)
 
     def _events(self, fields: Fields, count: int) -> typing.Iterator[Event]:
         """The events, one after another; equal commands are one event."""

@@ -11,14 +11,11 @@ import itertools
 import re
 import typing
 
+from ..rules.word_ops import GATE_VALUES
+
 INPUTS = {"x": 0b10101010, "y": 0b11001100, "z": 0b11110000}
 ALL = 0xFF
 LETTER = re.compile(r"\b[xyz]\b")
-
-
-def majority(x: int, y: int, z: int) -> int:
-    """The majority of three functions."""
-    return x & y | x & z | y & z
 
 
 @functools.lru_cache(maxsize=None)
@@ -46,7 +43,7 @@ def candidates(weights: dict[int, int], weight: int) -> typing.Iterator[tuple[in
         third = weight - 1 - first - second
         if third >= 0:
             for three in itertools.product(of_weight[first], of_weight[second], of_weight[third]):
-                yield majority(*three), three
+                yield GATE_VALUES["maj"](*three), three
 
 
 @functools.lru_cache(maxsize=None)

@@ -9,6 +9,8 @@ from __future__ import annotations
 import dataclasses
 import typing
 
+from ..rules.word_ops import GATE_VALUES
+
 ZERO, ONE = 0, 1
 
 
@@ -62,8 +64,7 @@ class Graph:
             if isinstance(item, str):
                 held.append(inputs[item] & mask)
             else:
-                x, y, z = (held[one >> 1] ^ (mask if one & 1 else 0) for one in item)
-                held.append(x & y | x & z | y & z)
+                held.append(GATE_VALUES["maj"](*(held[one >> 1] ^ (mask if one & 1 else 0) for one in item)))
         return {name: held[one >> 1] ^ (mask if one & 1 else 0) for name, one in self.outputs.items()}
 
 

@@ -1,11 +1,11 @@
-"""The help texts: of all commands, and of one."""
+"""The help text of all commands; that of one is its parser's."""
 
 from __future__ import annotations
 
 import pathlib
 import subprocess
 
-from .commands import HOLDS, PROGRAM, TOOLS, Command, Word
+from .commands import PROGRAM, TOOLS
 from .places import TOP
 
 VERSION = "0.1.0"
@@ -29,14 +29,6 @@ its sources, else the program without proofs, which the first call compiles in a
   SIMDRAM_PROGRAM=FILE run this program
   docs/README.md       answers to common questions; docs/LANGUAGE.md operations; docs/FORMATS.md files, reports, statuses
 """
-# what an argument is that is no file
-NUMBERS = {
-    "width": "the width of the operands in bits, 1 to 128, or several, as 1-128 and 4,8,16-32",
-    "banks": "the number of banks, 1 to 16",
-    "rows": "the number of rows in a bank, 64 to 1006; the last 32 are reserved for spilled values",
-    "words": "the number of 64-bit words in a row, 1 to 1024: a row has a column for each of their bits",
-    "seed": "the seed of the random numbers, 0 to 2^64 - 1",
-}
 
 
 def columns(commands) -> str:
@@ -47,20 +39,6 @@ def columns(commands) -> str:
 def all_commands() -> str:
     """Help on all commands."""
     return f"{HEAD}\nThe program's commands\n{columns(PROGRAM)}\nThe tools around them\n{columns(TOOLS)}\n{FOOT}"
-
-
-def argument_line(word: Word) -> str:
-    """What an argument is; of a file, what it holds and which page has its form."""
-    if word.kind in NUMBERS:
-        return f"  {word.name:8}{NUMBERS[word.kind]}"
-    what, _, holds = HOLDS[word.kind].partition(": ")
-    return f"  {word.name:8}{what}{', written' if word.is_written else ''}: {holds}"
-
-
-def one_command(command: Command) -> str:
-    """Help on one command of the program."""
-    lines = [f"simdram {command.usage()}", f"  {command.says}", "", *map(argument_line, command.words)]
-    return "\n".join([*lines, "", f"  simdram {command.example}", "", "docs/FORMATS.md, How a command ends, has its statuses.", ""])
 
 
 def version() -> str:

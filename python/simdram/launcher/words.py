@@ -1,19 +1,32 @@
-"""Whether a command line is a command of the program, and what is wrong with it if not."""
+"""The words of a command of the program: its parser, and what is wrong with a command line that it refuses."""
 
 from __future__ import annotations
 
+import argparse
 import difflib
+import functools
+import typing
 
-from .commands import ALL, Command, Word
+from .commands import ALL, HOLDS, Command, Word
+from .tool_parser import Parser
 from .widths import is_rising
 
-# of each numeric argument its range, and what it is called
-RANGES = {
-    "width": (1, 128, "the width"),
-    "banks": (1, 16, "the number of banks"),
-    "rows": (64, 1006, "the number of rows"),
-    "words": (1, 1024, "the number of words in a row"),
-    "seed": (0, 2**64 - 1, "the seed"),
+
+class Number(typing.NamedTuple):
+    """A numeric argument: its least and its greatest value, what it is called, and what help says besides."""
+
+    least: int
+    greatest: int
+    says: str
+    more: str
+
+
+NUMBERS = {
+    "width": Number(1, 128, "the width", "of the operands in bits, 1 to 128, or several, as 1-128 and 4,8,16-32"),
+    "banks": Number(1, 16, "the number of banks", "of the chip, 1 to 16"),
+    "rows": Number(64, 1006, "the number of rows", "in a bank, 64 to 1006; the last 32 are reserved for spilled values"),
+    "words": Number(1, 1024, "the number of words in a row", "of 64 bits, 1 to 1024: a row has a column for each of their bits"),
+    "seed": Number(0, 2**64 - 1, "the seed", "of the random numbers, 0 to 2^64 - 1"),
 }
 WORDS_MAX = 2**23
 PLACES = ("first", "second", "third", "fourth", "fifth", "sixth")
@@ -28,28 +41,66 @@ def nearest(word: str, known) -> list[str]:
     return sorted(close, key=lambda name: (not name.startswith(word), -likeness(name)))[:3]
 
 
-def wrong_number(word: Word, text: str) -> str | None:
+def wrong_number(kind: str, text: str) -> str | None:
     """What is wrong with an argument that has to be a number."""
-    low, high, says = RANGES[word.kind]
-    if word.kind == "width" and not text.isdigit() and is_rising(text):
+    least, greatest, says, _ = NUMBERS[kind]
+    if kind == "width" and not text.isdigit() and is_rising(text):
         return None
     if not (text.isascii() and text.isdigit()):
-        return f"{word.name} is {says}, in decimal digits; it cannot be {text!r}"
-    if not low <= int(text) <= high:
-        return f"{word.name} is {says}, {low} to {high}; it cannot be {text}"
-    return None
+        return f"{says}, in decimal digits; it cannot be {text!r}"
+    return None if least <= int(text) <= greatest else f"{says}, {least} to {greatest}; it cannot be {text}"
 
 
-def wrong_numbers(command: Command, words: list[str]) -> str | None:
-    """What is wrong with the numeric arguments of a command."""
-    numbers = [(word, text) for word, text in zip(command.words, words) if word.kind in RANGES]
-    for word, text in numbers:
-        wrong = wrong_number(word, text)
-        if wrong:
-            return wrong
+class WrongWords(Exception):
+    """What is wrong with a command line, as one line."""
+
+
+class WordsParser(Parser):
+    """A parser of a command's words, each of which is given to it with a mark before it: so none looks like an option."""
+
+    MARK = "="
+
+    def error(self, message: str) -> typing.NoReturn:
+        raise WrongWords(message)
+
+    def taken(self, words: list[str]) -> None:
+        """Raises what is wrong with the words."""
+        _, more = self.parse_known_args([f"{self.MARK}{text}" for text in words])
+        if more:
+            raise WrongWords(f"{more[0][len(self.MARK):]} is one argument too many")
+
+
+def checked(kind: str, marked: str) -> str:
+    """A word as the parser takes it, without its mark."""
+    text = marked[len(WordsParser.MARK):]
+    wrong = wrong_number(kind, text) if kind in NUMBERS else None
+    if wrong:
+        raise argparse.ArgumentTypeError(wrong)
+    return text
+
+
+def help_on(word: Word) -> str:
+    """What an argument is; of a file, what it holds and which page has its form."""
+    if word.kind in NUMBERS:
+        return f"{NUMBERS[word.kind].says} {NUMBERS[word.kind].more}"
+    what, _, holds = HOLDS[word.kind].partition(": ")
+    return f"{what}{', written' if word.is_written else ''}: {holds}"
+
+
+def parser_of(command: Command) -> WordsParser:
+    """The parser of a command of the program."""
+    made = WordsParser(prog=f"simdram {command.name}", description=command.says, add_help=False, formatter_class=argparse.RawTextHelpFormatter,
+                       epilog=f"  simdram {command.example}\n\ndocs/FORMATS.md, How a command ends, has its statuses.")
+    for word in command.words:
+        made.add_argument(word.name, type=functools.partial(checked, word.kind), help=help_on(word))
+    return made
+
+
+def wrong_together(command: Command, words: list[str]) -> str | None:
+    """What is wrong with arguments of which each by itself is right."""
     if command.name == "init" and int(words[0]) * int(words[1]) * int(words[2]) > WORDS_MAX:
         return f"{words[0]} banks of {words[1]} rows of {words[2]} words are more than the {WORDS_MAX} words that a chip may have"
-    return None
+    return equal_files(command, words)
 
 
 def equal_files(command: Command, words: list[str]) -> str | None:
@@ -59,18 +110,6 @@ def equal_files(command: Command, words: list[str]) -> str | None:
         for other, same in files[k + 1:]:
             if text == same and (word.name, other.name) != ("IMAGE", "OUT"):
                 return f"{word.name} and {other.name} are the same file, {text}"
-    return None
-
-
-def wrong_count(command: Command, words: list[str]) -> str | None:
-    """Whether arguments are missing, or too many."""
-    wanted, given = len(command.words), len(words)
-    if given < wanted:
-        *others, last = (word.name for word in command.words[given:])
-        missing = f"{', '.join(others)} and {last} are" if others else f"{last} is"
-        return f"{missing} missing; {command.name} takes {wanted} argument{'s' * (wanted > 1)}"
-    if given > wanted:
-        return f"{words[wanted]} is one argument too many; {command.name} takes {wanted}"
     return None
 
 
@@ -94,5 +133,8 @@ def wrong_words(words: list[str]) -> str | None:
     if command is None or not command.is_program:
         near = nearest(words[0], [*ALL, "help"])
         return f"there is no command {words[0] or repr('')}" + (f"; did you mean {' or '.join(near)}?" if near else "")
-    given = words[1:]
-    return wrong_count(command, given) or wrong_numbers(command, given) or equal_files(command, given)
+    try:
+        parser_of(command).taken(words[1:])
+    except WrongWords as wrong:
+        return str(wrong)
+    return wrong_together(command, words[1:])

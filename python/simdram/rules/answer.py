@@ -5,6 +5,7 @@ from __future__ import annotations
 import dataclasses
 import textwrap
 
+from ..launcher.words import nearest
 from .tokens import STRANGER, Token, line_of
 
 WIDEST = 100
@@ -31,6 +32,30 @@ class Answer:
             found += textwrap.wrap(text, WIDEST, initial_indent="  ", subsequent_indent="    ", break_long_words=False,
                                    break_on_hyphens=False)
         return found
+
+
+@dataclasses.dataclass(frozen=True)
+class Refusal:
+    """Why an instruction or a scan is refused: the report's words, the token, the rule, and what would be right."""
+
+    word: str
+    token: Token
+    rule: str
+    right: tuple[str, ...] = ()
+
+
+class Breach(Exception):
+    """A token that breaks a rule: the kind, the rule in a sentence, and what would be right."""
+
+    def __init__(self, token: Token, kind: str, rule: str, *right: str) -> None:
+        super().__init__(kind)
+        self.token, self.kind, self.rule, self.right = token, kind, rule, right
+
+
+def near(word: str, known) -> str:
+    """The known words that a word is nearly, as a question."""
+    found = nearest(word, known)
+    return f"; did you mean {' or '.join(found)}?" if found else ""
 
 
 def caret_lines(text: str, column: int, length: int) -> list[str]:

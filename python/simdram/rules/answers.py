@@ -14,12 +14,12 @@ from ..launcher import run_program
 from ..launcher.commands import KINDS, MAGIC
 from ..launcher.overwrite import content
 from ..launcher.settings import Settings
-from .answer import Answer, at_token
+from .answer import Answer, Refusal, at_token
 from .flips_rules import explain_flips
 from .ops_rules import explain_ops
 from .query_rules import read_query
 from .scan_refusals import scan_refusal
-from .script_refusals import Checker, Refusal, refused
+from .script_refusals import Checker, refused
 from .script_rules import read_script
 
 READERS = {"program": Program, "image": Image, "trace": Trace}
@@ -139,7 +139,7 @@ def flips_fault(path: str, data: bytes, script: tuple[str, bytes], table: Table)
 def long_guarded(path: str, data: bytes) -> list[Answer]:
     """The first instruction that names an object of a name too long to be guarded."""
     for number, one in enumerate(read_script(path, data)[0], 1):
-        token = next((token for token in one.names if len(token.text) > GUARDED_NAME_MAX), None)
+        token = next((operand.name for operand in one.operands if len(operand.name.text) > GUARDED_NAME_MAX), None)
         if token:
             return [at_token(path, data, token, f"guard name {number}", f"a guarded object has a name of at most {GUARDED_NAME_MAX} "
                              "bytes, since its copies have a letter more", ())]

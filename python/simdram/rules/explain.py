@@ -13,7 +13,7 @@ import argparse
 from ..files.program import Program
 from ..files.table import Table
 from ..launcher import run_program
-from ..launcher.commands import KINDS, Word
+from ..launcher.commands import KINDS
 from ..launcher.faults import Fault
 from ..launcher.settings import Settings
 from ..launcher.tool_parser import tool_parser
@@ -96,9 +96,9 @@ def width_of(words: list[str]) -> int:
     """The width that stands last, which is taken out, or 0 where none does."""
     if not words or not words[-1].isdigit():
         return 0
-    wrong = wrong_number(Word("N", "width"), words[-1])
+    wrong = wrong_number("width", words[-1])
     if wrong:
-        raise Fault(wrong)
+        raise Fault(f"N is {wrong}")
     return int(words.pop())
 
 

@@ -3,8 +3,8 @@
 from __future__ import annotations
 
 from ..files.table import Table
-from .answer import Answer, at_token
-from .script_rules import Breach, lines_of
+from .answer import Answer, Breach, at_token
+from .script_rules import lines_of
 from .tokens import NUMBER, STRANGER, no_token, value_of
 
 FORM = "form: K BANK ROW COLUMN, four numbers without commas"

@@ -22,6 +22,8 @@ class Statement:
     starts: dict[str, str] = dataclasses.field(default_factory=dict)
     lets: dict[str, Expr] = dataclasses.field(default_factory=dict)
     assignments: dict[str, Expr] = dataclasses.field(default_factory=dict)
+    # what the gates of a block weigh
+    weight: int = 0
 
     def tree(self) -> WordStatement | Block:
         """The statement without its place."""
@@ -33,7 +35,10 @@ class Statement:
 
 @dataclasses.dataclass
 class OpShape:
-    """An op: its name, the kinds of its sources, its results and all names that it defines, in order; from where to where it is."""
+    """An op: its name, the kinds of its sources, its results and all names that it defines, in order; from where to where it is.
+
+    While it is read, the names in `stands` are taken, and those in `defined` can be read.
+    """
 
     name: str
     first: Token
@@ -42,6 +47,44 @@ class OpShape:
     results: dict[str, str] = dataclasses.field(default_factory=dict)
     defined: dict[str, str] = dataclasses.field(default_factory=dict)
     statements: list[Statement] = dataclasses.field(default_factory=list)
+    stands: list[str] = dataclasses.field(default_factory=list)
+
+    @property
+    def last_statement(self) -> Statement:
+        """The statement that is read."""
+        return self.statements[-1]
+
+    def is_open_result(self, name: str) -> bool:
+        """A result that is not assigned yet."""
+        return name in self.results and name not in self.defined
+
+    def is_taken_name(self, name: str) -> bool:
+        """A name that no word statement may set."""
+        return name in self.stands and not self.is_open_result(name)
+
+    def is_taken_state(self, name: str) -> bool:
+        """A name that no further state of the block may have."""
+        if self.results.get(name) == "bit":
+            return name in self.defined or name in self.last_statement.starts
+        return name in self.stands
+
+    def is_taken_target(self, name: str) -> bool:
+        """A name that no further assignment of the block may set."""
+        block = self.last_statement
+        return name in block.assignments or name not in block.starts and self.is_taken_name(name)
+
+    def readable(self) -> list[str]:
+        """The names that an expression of the block may read."""
+        return list(dict.fromkeys([*self.defined, *self.last_statement.starts, *self.last_statement.lets]))
+
+    def end_block(self) -> None:
+        """Makes the block's states and words names that can be read."""
+        block = self.last_statement
+        block.targets = [*block.starts, *block.assignments]
+        words = [name for name in block.assignments if name not in block.starts]
+        self.stands += words
+        for name, kind in [*((name, "bit") for name in block.starts), *((name, "word") for name in words)]:
+            self.defined.setdefault(name, kind)
 
     def tree(self) -> Op:
         """The op as a tree."""

@@ -3,12 +3,10 @@
 from __future__ import annotations
 
 from ..launcher.faults import Fault
-from ..launcher.words import nearest
 from . import word_ops
-from .answer import Answer, at_token
+from .answer import Answer, Breach, at_token, near
 from .op_shapes import OpShape, Statement
 from .op_tree import Expr, Op, gate, read
-from .ops_scope import Scope
 from .tokens import END, NAME, NAME_MAX, STRANGER, Token, is_long, no_token, tokens
 
 RESERVED = ("op", "word", "bit", "serial", "up", "down", "let")
@@ -20,23 +18,9 @@ NO_NEST = ("expressions do not nest in word statements: give the inner one a nam
            "such as `t = {}(..);`, and write the name here")
 
 
-class Breach(Exception):
-    """A token that breaks a rule: its kind, the rule in a sentence, what would be right."""
-
-    def __init__(self, token: Token, kind: str, rule: str, *right: str) -> None:
-        super().__init__(kind)
-        self.token, self.kind, self.rule, self.right = token, kind, rule, right
-
-
 def listed(names) -> str:
     """Names with commas between them."""
     return ", ".join(names) or "none"
-
-
-def near(word: str, known) -> str:
-    """The nearest names, as a part of a sentence."""
-    found = nearest(word, known)
-    return f"; did you mean {' or '.join(found)}?" if found else ""
 
 
 def spelled(token: Token) -> str:
@@ -50,8 +34,12 @@ class Reader:
         self.tokens = tokens(data)
         self.at = 0
         self.ops: list[str] = []
-        self.scope = Scope()
         self.shapes: list[OpShape] = []
+
+    @property
+    def shape(self) -> OpShape:
+        """The op that is read."""
+        return self.shapes[-1]
 
     # tokens
 
@@ -100,14 +88,14 @@ class Reader:
     def new_name(self, token: Token, what: str) -> str:
         """A name that may not stand yet."""
         name = self.good_name(token, what)
-        if name in self.scope.stands:
+        if name in self.shape.stands:
             self.twice(token)
-        self.scope.stands.append(name)
+        self.shape.stands.append(name)
         return name
 
     def twice(self, token: Token) -> None:
         raise Breach(token, "twice", f"{token.text} is already defined in this op; a name is assigned once",
-                     f"defined names: {listed(self.scope.stands)}")
+                     f"defined names: {listed(self.shape.stands)}")
 
     def too_many(self, token: Token, what: str) -> None:
         raise Breach(token, "too_many", what)
@@ -130,11 +118,10 @@ class Reader:
         if name in self.ops:
             raise Breach(token, "twice", f"an op {name} is already defined", f"defined ops: {listed(self.ops)}")
         self.ops.append(name)
-        self.scope = Scope(name)
-        self.shapes.append(OpShape(name, first, results=self.scope.results, defined=self.scope.defined))
+        self.shapes.append(OpShape(name, first))
         self.take("`(`", "(")
         self.sources()
-        self.shapes[-1].sources = dict(self.scope.defined)
+        self.shape.sources = dict(self.shape.defined)
         self.take("`->`", "->")
         self.result()
         if self.take("`,` and a second result, or `{`", ",", "{").text == ",":
@@ -151,32 +138,32 @@ class Reader:
         while more == ",":
             token = self.take("a parameter's name", name=True)
             name = self.good_name(token, "the parameter")
-            if name in self.scope.stands:
+            if name in self.shape.stands:
                 self.twice(token)
-            if len(self.scope.defined) >= SOURCES:
+            if len(self.shape.defined) >= SOURCES:
                 self.too_many(token, f"an op has at most {SOURCES} parameters")
-            self.scope.defined[name] = self.kind()
-            self.scope.stands.append(name)
+            self.shape.defined[name] = self.kind()
+            self.shape.stands.append(name)
             more = self.take("`,` and one more parameter, or `)`", ",", ")").text
 
     def result(self) -> None:
         name = self.new_name(self.take("the result's name", name=True), "the result")
-        self.scope.results[name] = self.kind()
+        self.shape.results[name] = self.kind()
 
     def statements(self) -> None:
         wanted = "a statement, `name = operation(..);` or `serial up (..) { .. }`"
         while True:
-            token = self.take(wanted, *(["}"] if self.scope.statements else []), name=True)
+            token = self.take(wanted, *(["}"] if self.shape.statements else []), name=True)
             if token.text == "}":
-                self.shapes[-1].last = token
+                self.shape.last = token
                 break
             wanted = "one more statement, or `}`"
-            self.shapes[-1].statements.append(Statement(token))
+            self.shape.statements.append(Statement(token))
             self.statement(token)
-            self.shapes[-1].statements[-1].last = self.tokens[self.at - 1]
-        still = [name for name in self.scope.results if self.scope.is_open_result(name)]
+            self.shape.last_statement.last = self.tokens[self.at - 1]
+        still = [name for name in self.shape.results if self.shape.is_open_result(name)]
         if still:
-            raise Breach(token, "no_result", f"{listed(still)} of op {self.scope.name} is a result and was not assigned",
+            raise Breach(token, "no_result", f"{listed(still)} of op {self.shape.name} is a result and was not assigned",
                          f"assign it before this `}}`, as in `{still[0]} = copy(..);`")
 
     def statement(self, token: Token) -> None:
@@ -185,15 +172,14 @@ class Reader:
             self.block()
             return
         name = self.good_name(token, "the target")
-        if self.scope.is_taken_name(name):
+        if self.shape.is_taken_name(name):
             self.twice(token)
         self.count_statement(token)
         self.word_statement(name)
 
     def count_statement(self, token: Token) -> None:
-        if self.scope.statements >= STATEMENTS:
+        if len(self.shape.statements) > STATEMENTS:
             self.too_many(token, f"an op has at most {STATEMENTS} statements")
-        self.scope.statements += 1
 
     # word statements
 
@@ -202,14 +188,14 @@ class Reader:
         if self.take("`=`, or `,` and a second target", ",", "=").text == ",":
             token = self.take("the second target's name", name=True)
             name = self.good_name(token, "the second target")
-            if name == first or self.scope.is_taken_name(name):
+            if name == first or self.shape.is_taken_name(name):
                 self.twice(token)
             targets.append(name)
             self.take("`=`", "=")
         operation = self.operation(targets)
         self.take("`(`", "(")
         given = self.arguments(operation)
-        self.shapes[-1].statements[-1].operation = operation
+        self.shape.last_statement.operation = operation
         self.word_end(targets, word_ops.filled(operation, given))
 
     def operation(self, targets: list[str]) -> str:
@@ -222,7 +208,7 @@ class Reader:
             sign = OPERATORS.get(self.next().text)
             if sign and self.next().kind == STRANGER:
                 right.insert(0, f"there are no operator symbols: the statement is `{listed(targets)} = {sign}({name}, ..);`")
-            elif name in self.scope.defined:
+            elif name in self.shape.defined:
                 right.insert(0, f"{name} is a name: a copy of it is `copy({name})`")
             if name in word_ops.GATES:
                 right.insert(0, f"{name} is a gate of serial blocks")
@@ -253,41 +239,41 @@ class Reader:
         name = token.text
         if name in RESERVED or is_long(name):
             self.good_name(token, "the argument")
-        kind = self.scope.defined.get(name)
+        kind = self.shape.defined.get(name)
         if kind is None:
             raise self.unknown_argument(token)
         if not word_ops.may_take(operation, given, kind):
             other = "bit" if kind == "word" else "word"
             wanted = f"a {other}" if word_ops.may_take(operation, given, other) else "no argument"
             raise Breach(token, "kind", f"{name} is a {kind}; {operation} takes {wanted} here", word_ops.said(operation))
-        self.shapes[-1].statements[-1].args.append(name)
+        self.shape.last_statement.args.append(name)
         return kind
 
     def unknown_argument(self, token: Token) -> Breach:
         name, right = token.text, []
         if self.next().text == "(" and name in word_ops.TAKES_GIVES:
             right.append(NO_NEST.format(name))
-        elif self.scope.is_open_result(name):
+        elif self.shape.is_open_result(name):
             right.append(f"{name} is a result that is not assigned yet")
-        right.append(f"defined names: {listed(self.scope.defined)}")
-        return Breach(token, "unknown", f"no name {name} is defined before this{near(name, self.scope.defined)}", *right)
+        right.append(f"defined names: {listed(self.shape.defined)}")
+        return Breach(token, "unknown", f"no name {name} is defined before this{near(name, self.shape.defined)}", *right)
 
     def word_end(self, targets: list[str], gives: list[str]) -> None:
         token = self.take("`;`", ";")
         for name, kind in zip(targets, gives):
-            wanted = self.scope.results.get(name)
+            wanted = self.shape.results.get(name)
             if wanted is not None and wanted != kind:
                 raise Breach(token, "kind", f"the result {name} is a {wanted}; the operation returns a {kind}",
                              f"declare `{name}: {kind}`, or give the value another name")
-        self.shapes[-1].statements[-1].targets = targets
+        self.shape.last_statement.targets = targets
         for name, kind in zip(targets, gives):
-            self.scope.stands.append(name)
-            self.scope.defined.setdefault(name, kind)
+            self.shape.stands.append(name)
+            self.shape.defined.setdefault(name, kind)
 
     # serial blocks
 
     def block(self) -> None:
-        self.shapes[-1].statements[-1].direction = self.take("`up` or `down`", "up", "down").text
+        self.shape.last_statement.direction = self.take("`up` or `down`", "up", "down").text
         self.take("`(`", "(")
         token = self.take("a state, or `)`", ")", name=True)
         while token.text != ")":
@@ -303,40 +289,35 @@ class Reader:
         while token.text != "}":
             self.assignment(token)
             token = self.take("the target of one more assignment, or `}`", "}", name=True)
-        self.shapes[-1].statements[-1].targets = [*self.scope.block.states, *self.scope.block.targets]
-        self.scope.end_block()
+        self.shape.end_block()
 
     def state(self, token: Token) -> None:
-        name, block = self.good_name(token, "the state"), self.scope.block
-        if self.scope.is_taken_state(name):
+        name, starts = self.good_name(token, "the state"), self.shape.last_statement.starts
+        if self.shape.is_taken_state(name):
             self.twice(token)
-        if len(block.states) >= STATES:
+        if len(starts) >= STATES:
             self.too_many(token, f"a block has at most {STATES} states")
-        self.scope.stands.append(name)
-        block.states.append(name)
-        block.readable.append(name)
+        self.shape.stands.append(name)
         self.take("`=`", "=")
-        self.shapes[-1].statements[-1].starts[name] = self.take("`0` or `1`", "0", "1").text
+        starts[name] = self.take("`0` or `1`", "0", "1").text
 
     def let(self, token: Token) -> None:
-        if self.scope.block.lets >= LETS:
+        lets = self.shape.last_statement.lets
+        if len(lets) >= LETS:
             self.too_many(token, f"a block has at most {LETS} lets")
-        self.scope.block.lets += 1
         name = self.new_name(self.take("the let's name", name=True), "the let")
-        self.shapes[-1].statements[-1].lets[name] = self.right_side()
-        self.scope.block.readable.append(name)
+        lets[name] = self.right_side()
 
     def assignment(self, token: Token) -> None:
-        name, block = self.good_name(token, "the target"), self.scope.block
-        if self.scope.is_taken_target(name):
+        name, block = self.good_name(token, "the target"), self.shape.last_statement
+        if self.shape.is_taken_target(name):
             self.twice(token)
-        if self.scope.results.get(name) == "bit" and name not in block.states:
+        if self.shape.results.get(name) == "bit" and name not in block.starts:
             raise Breach(token, "kind", f"{name} is a bit result; a block can return a bit only as a state",
                          f"make it a state of the block, `({name} = 0)`: after the block it is the result")
-        if len(block.targets) >= ASSIGNMENTS:
+        if len(block.assignments) >= ASSIGNMENTS:
             self.too_many(token, f"a block has at most {ASSIGNMENTS} assignments")
-        block.targets.append(name)
-        self.shapes[-1].statements[-1].assignments[name] = self.right_side()
+        block.assignments[name] = self.right_side()
 
     def right_side(self) -> Expr:
         """A value with the signs around it."""
@@ -354,7 +335,7 @@ class Reader:
             self.good_name(token, "the value")
         if self.next().text == "(":
             return self.gate(token, depth)
-        known = self.scope.readable()
+        known = self.shape.readable()
         if token.text not in known:
             right = [f"defined names: {listed(known)}"]
             if token.text in word_ops.GATES:
@@ -381,7 +362,7 @@ class Reader:
 
     def check_gate(self, token: Token, depth: int) -> None:
         """Refuses a name that is no gate, and one gate too many."""
-        name, block = token.text, self.scope.block
+        name, block = token.text, self.shape.last_statement
         if name not in word_ops.GATES:
             right = [f"the gates: {listed(word_ops.GATES)}"]
             if name in word_ops.TAKES_GIVES:

@@ -5,7 +5,7 @@ from __future__ import annotations
 import typing
 
 from ..launcher.words import nearest
-from .answer import Answer, at_token
+from .answer import Answer, Breach, at_token
 from .tokens import END, NAME, NUMBER, STRANGER, Token, is_long, no_token, tokens, value_of
 
 COMPARISONS = ("eq", "gt", "ge", "lt", "le")
@@ -13,14 +13,6 @@ JOINS = {"not": 1, "and": 2, "or": 2}
 NODES, TESTS, VALUE_MAX = 64, 32, 2**128 - 1
 FORMS = "eq, gt, ge, lt, le of (NAME, V), not(Q), and(Q, Q), or(Q, Q)"
 SIGNS = {">=": "ge", "<=": "le", "==": "eq", "=": "eq", ">": "gt", "<": "lt"}
-
-
-class Breach(Exception):
-    """A token that breaks a rule."""
-
-    def __init__(self, token: Token, kind: str, rule: str, *right: str) -> None:
-        super().__init__(kind)
-        self.token, self.kind, self.rule, self.right = token, kind, rule, right
 
 
 class Node(typing.NamedTuple):

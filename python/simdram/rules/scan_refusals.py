@@ -4,8 +4,9 @@ from __future__ import annotations
 
 from ..files.image import OBJECTS, Object
 from ..files.table import Table
+from .answer import Refusal, near
 from .query_rules import Node
-from .script_refusals import Refusal, near, no_rows
+from .script_refusals import no_rows
 from .tokens import value_of
 
 

@@ -10,34 +10,14 @@ from ..assembler.text_lines import place_of
 from ..files.image import OBJECTS, SPILL_ROWS, Object
 from ..files.program import Entry
 from ..files.table import ROWS_MAX, Table
-from ..launcher.words import nearest
+from .answer import Refusal, near
+from .operands import Operand
 from .script_rules import Instruction
 from .tokens import Token
 
 # of each entry and width, where its walk is stuck and why, or nothing
 Stuck = typing.Callable[[str, int], typing.Optional[str]]
 COPIES = "xyz"
-
-
-@dataclasses.dataclass(frozen=True)
-class Refusal:
-    """Why an instruction is refused: the report's words, the token, the rule, and what would be right."""
-
-    word: str
-    token: Token
-    rule: str
-    right: tuple[str, ...] = ()
-
-
-def near(word: str, known) -> str:
-    found = nearest(word, known)
-    return f"; did you mean {' or '.join(found)}?" if found else ""
-
-
-def no_object(table: Table, token: Token, place: int) -> Refusal:
-    names = [one.name for one in table.objects]
-    return Refusal(f"no_object {place}", token, f"no object has the name {token.text}{near(token.text, names)}",
-                   (f"objects: {', '.join(names) or 'none'}",))
 
 
 def no_rows(table: Table, token: Token, size: int, what: str) -> Refusal:
@@ -49,10 +29,11 @@ def no_rows(table: Table, token: Token, size: int, what: str) -> Refusal:
                    f"the last {SPILL_ROWS} rows of a bank are reserved for spills", (right, "a `free` before, or objects of equal width, help too"))
 
 
-def with_own_name(refusal: Refusal, copies: tuple[Token, ...]) -> Refusal:
+def with_own_name(refusal: Refusal, copies: tuple[Operand, ...]) -> Refusal:
     """A refusal on a copy at the name that the script has."""
     token = refusal.token
-    return dataclasses.replace(refusal, token=token._replace(text=token.text[1:])) if token in copies else refusal
+    is_copy = any(token is one.name for one in copies)
+    return dataclasses.replace(refusal, token=token._replace(text=token.text[1:])) if is_copy else refusal
 
 
 class Checker:
@@ -70,11 +51,11 @@ class Checker:
         before = self.table
         self.table = before.copy()
         for letter in COPIES if one.verb != "order" else "":
-            names = tuple(token._replace(text=letter + token.text) for token in one.names)
-            refusal = self.step(dataclasses.replace(one, names=names))
+            copies = tuple(operand.of_copy(letter) for operand in one.operands)
+            refusal = self.step(dataclasses.replace(one, operands=copies))
             if refusal:
                 self.table = before
-                return with_own_name(refusal, names)
+                return with_own_name(refusal, copies)
         return None
 
     # objects
@@ -83,7 +64,7 @@ class Checker:
         return None
 
     def do_bbop_trsp_init(self, one: Instruction) -> Refusal | None:
-        token, count, width, table = one.names[0], one.number(0), one.number(1), self.table
+        token, count, width, table = one.operands[0].name, one.number(0), one.number(1), self.table
         if table.find(token.text):
             return Refusal("exists", token, f"an object {token.text} already exists", (f"`free {token.text}` before removes it",))
         if len(table.objects) == OBJECTS:
@@ -98,33 +79,40 @@ class Checker:
         return None
 
     def do_free(self, one: Instruction) -> Refusal | None:
-        found = self.table.find(one.names[0].text)
-        if not found:
-            return no_object(self.table, one.names[0], 0)
-        self.table.objects.remove(found)
-        return None
+        refusal = self.places(one)
+        if not refusal:
+            self.table.objects.remove(self.table.find(one.operands[0].name.text))
+        return refusal
+
+    def places(self, one: Instruction) -> Refusal | None:
+        """The first operand that no object is, then the first whose bits its object does not have."""
+        absent = (operand.absent(self.table, place) for place, operand in enumerate(one.operands))
+        past = (operand.past(self.table, place) for place, operand in enumerate(one.operands))
+        return next(filter(None, absent), None) or next(filter(None, past), None)
 
     def do_print(self, one: Instruction) -> Refusal | None:
-        return None if self.table.find(one.names[0].text) else no_object(self.table, one.names[0], 0)
+        return self.places(one)
 
     def do_load(self, one: Instruction) -> Refusal | None:
-        found = self.table.find(one.names[0].text)
-        if not found:
-            return no_object(self.table, one.names[0], 0)
-        if len(one.numbers) != found.count:
-            return Refusal("count", one.names[0], f"{len(one.numbers)} values for the {found.count} elements of {found.name}",
-                           (f"`fill {found.name}, V` sets all of them to one value",))
-        return self.range_of(one, found)
+        return self.places(one) or self.count_of(one) or self.range_of(one)
+
+    def count_of(self, one: Instruction) -> Refusal | None:
+        """Not as many values as elements."""
+        found = one.operands[0].rows(self.table)
+        if len(one.numbers) == found.count:
+            return None
+        return Refusal("count", one.operands[0].name, f"{len(one.numbers)} values for the {found.count} elements of {found.name}",
+                       (f"`fill {found.name}, V` sets all of them to one value",))
 
     def do_fill(self, one: Instruction) -> Refusal | None:
-        found = self.table.find(one.names[0].text)
-        return self.range_of(one, found) if found else no_object(self.table, one.names[0], 0)
+        return self.places(one) or self.range_of(one)
 
-    def range_of(self, one: Instruction, found: Object) -> Refusal | None:
-        """The first value that an object does not hold."""
+    def range_of(self, one: Instruction) -> Refusal | None:
+        """The first value that the operand does not hold."""
+        found = one.operands[0].rows(self.table)
         for k in range(len(one.numbers)):
             if one.number(k) >= 2**found.width:
-                return Refusal(f"range {k + 1}", one.numbers[k], f"{found.name} has {found.width} bits, which hold 0 to "
+                return Refusal(f"range {k + 1}", one.numbers[k], f"{found.name} has {bits(found.width)}, which hold{'s' * (found.width == 1)} 0 to "
                                f"{2**found.width - 1}")
         return None
 
@@ -135,43 +123,41 @@ class Checker:
         if entry is None:
             return Refusal("no_op", one.head, f"the program has no entry {one.op}{near(one.op, self.entries)}",
                            (f"its entries: {', '.join(self.entries) or 'none'}",))
-        return self.arity(one, entry) or self.operands(one, entry) or self.overlap(one, entry) or self.walk(one, entry)
+        return (self.arity(one, entry) or self.places(one) or self.sizes(one, entry) or self.overlap(one, entry)
+                or self.walk(one, entry))
 
     def arity(self, one: Instruction, entry: Entry) -> Refusal | None:
         wanted = len(entry.results) + len(entry.sources)
-        if len(one.names) == wanted:
+        if len(one.operands) == wanted:
             return None
-        return Refusal("arity", one.head, f"{len(one.names)} names; {entry.name} has {len(entry.results)} result"
+        return Refusal("arity", one.head, f"{len(one.operands)} names; {entry.name} has {len(entry.results)} result"
                        f"{'s' * (len(entry.results) > 1)} and {len(entry.sources)} source{'s' * (len(entry.sources) > 1)}",
                        (f"results come first: {form_of(entry)}",))
 
-    def operands(self, one: Instruction, entry: Entry) -> Refusal | None:
-        """The names, then their widths, then their counts."""
+    def sizes(self, one: Instruction, entry: Entry) -> Refusal | None:
+        """The widths of the operands, then their counts."""
         count, width = one.number(0), one.number(1)
-        found = []
-        for place, token in enumerate(one.names):
-            found.append(self.table.find(token.text))
-            if found[-1] is None:
-                return no_object(self.table, token, place)
-        for place, (token, kind) in enumerate(zip(one.names, (*entry.results, *entry.sources))):
-            wanted = width if kind == "word" else 1
-            if found[place].width != wanted:
-                what = f"a word of {width} bits" if kind == "word" else "a bit"
-                return Refusal(f"width {place}", token, f"{token.text} is {found[place].width} bits wide; {entry.name} expects "
-                               f"{what}", (form_of(entry),))
-        for place, token in enumerate(one.names):
-            if found[place].count != count:
-                return Refusal(f"size {place}", token, f"{token.text} has {found[place].count} elements; COUNT is {count}")
+        found = [(operand.name, operand.rows(self.table)) for operand in one.operands]
+        for place, ((token, rows), kind) in enumerate(zip(found, (*entry.results, *entry.sources))):
+            if rows.width != (width if kind == "word" else 1):
+                what = f"a word of {bits(width)}" if kind == "word" else "a bit"
+                return Refusal(f"width {place}", token, f"{rows.name} is {bits(rows.width)} wide; {entry.name} expects {what}", (form_of(entry),))
+        for place, (token, rows) in enumerate(found):
+            if rows.count != count:
+                return Refusal(f"size {place}", token, f"{rows.name} has {rows.count} elements; COUNT is {count}")
         return None
 
     def overlap(self, one: Instruction, entry: Entry) -> Refusal | None:
-        """A name that is a destination already."""
-        results = [token.text for token in one.names[:len(entry.results)]]
-        for place, token in enumerate(one.names[1:], 1):
-            if token.text in results[:place]:
-                what = "the first destination too" if place < len(results) else "a destination and a source"
-                return Refusal(f"overlap {place}", token, f"{token.text} is {what}, and a result is written before all sources are read",
-                               ("give the result an object of its own",))
+        """An operand that shares a bit with a destination before it."""
+        found = [operand.rows(self.table) for operand in one.operands]
+        for place, rows in enumerate(found):
+            other = next((one for one in found[:min(place, len(entry.results))] if one.meets(rows)), None)
+            if other:
+                role = "the first destination" if place < len(entry.results) else "a destination"
+                whole = f"{rows.name} is {role} {'too' if place < len(entry.results) else 'and a source'}"
+                shared = whole if rows.name == other.name else f"{rows.name} has bits of {other.name}, {role}"
+                return Refusal(f"overlap {place}", one.operands[place].name, f"{shared}, and a result is written before all sources are read",
+                               ("give the result an object, or bits, of its own",))
         return None
 
     def walk(self, one: Instruction, entry: Entry) -> Refusal | None:
@@ -189,6 +175,11 @@ class Checker:
         if self.table.least_free(size) is None:
             return no_rows(self.table, one.head, size, f"the scratch of {entry.name} at the width {width}")
         return None
+
+
+def bits(width: int) -> str:
+    """A width in words."""
+    return f"{width} bit{'s' * (width != 1)}"
 
 
 def form_of(entry: Entry) -> str:

@@ -6,40 +6,35 @@ import dataclasses
 import typing
 
 from ..launcher.words import nearest
-from .answer import Answer, at_token
+from .answer import Answer, Breach, at_token
+from .operands import WIDTH_MAX, Operand, operand_at
 from .tokens import END, NAME, NAME_MAX, NUMBER, STRANGER, Token, is_long, no_token, tokens, value_of
 
 FORMS = {
     "bbop_trsp_init": "bbop_trsp_init NAME, COUNT, N",
-    "bbop": "bbop_OP NAME, NAME, .., COUNT, N",
-    "load": "load NAME, V, ..",
-    "fill": "fill NAME, V",
-    "print": "print NAME",
+    "bbop": "bbop_OP OPERAND, OPERAND, .., COUNT, N",
+    "load": "load OPERAND, V, ..",
+    "fill": "fill OPERAND, V",
+    "print": "print OPERAND",
     "free": "free NAME",
     "order": "order in, order turns or order seed K",
 }
-# of each verb how many names and how many numbers it takes, from the least to the greatest
+# of each verb how many operands and how many numbers it takes, from the least to the greatest
 SHAPES = {"bbop_trsp_init": (1, 1, 2, 2), "bbop": (2, 6, 2, 2), "load": (1, 1, 1, None), "fill": (1, 1, 1, 1),
           "print": (1, 1, 0, 0), "free": (1, 1, 0, 0)}
-COUNT_MAX, WIDTH_MAX, VALUE_MAX, SEED_MAX = 2**32 - 1, 128, 2**128 - 1, 2**64 - 1
+# those that take objects by their names alone
+WHOLE = ("bbop_trsp_init", "free")
+COUNT_MAX, VALUE_MAX, SEED_MAX = 2**32 - 1, 2**128 - 1, 2**64 - 1
 ALL_FORMS = "forms: " + "; ".join(FORMS.values())
-
-
-class Breach(Exception):
-    """A token of a line that breaks a rule."""
-
-    def __init__(self, token: Token, kind: str, rule: str, *right: str) -> None:
-        super().__init__(kind)
-        self.token, self.kind, self.rule, self.right = token, kind, rule, right
 
 
 @dataclasses.dataclass(frozen=True)
 class Instruction:
-    """An instruction: its verb, its first token, its names and its numbers with their places."""
+    """An instruction: its verb, its first token, its operands and its numbers."""
 
     verb: str
     head: Token
-    names: tuple[Token, ...] = ()
+    operands: tuple[Operand, ...] = ()
     numbers: tuple[Token, ...] = ()
 
     @property
@@ -63,35 +58,52 @@ def verb_of(head: Token) -> str:
                  f"an operation is run by bbop_ and its name, such as bbop_{text} Y, A, B, COUNT, N")
 
 
-def operands(verb: str, words: list[Token]) -> tuple[list[Token], list[Token]]:
-    """The names and then the numbers, with commas between them."""
-    names: list[Token] = []
+def form_of(verb: str) -> str:
+    """The form of an instruction, as what would be right."""
+    form = FORMS[verb]
+    return f"form: {form}{'; OPERAND is NAME, NAME[K] or NAME[LO:HI]' if 'OPERAND' in form else ''}"
+
+
+def operands_of(verb: str, words: list[Token]) -> tuple[list[Operand], list[Token]]:
+    """The operands and then the numbers, with commas between them."""
+    operands: list[Operand] = []
     numbers: list[Token] = []
-    form = f"form: {FORMS[verb]}"
-    for k, token in enumerate(words):
-        if token.kind == END:
-            if k and k % 2 == 0:
-                raise Breach(token, "syntax", "the line ends after a comma", form)
-        elif k % 2:
-            if token.text != ",":
-                before = words[k - 1]
-                is_digits = before.kind == NUMBER and token.kind == NAME and token.at == before.at + len(before.text)
-                decimal = [f"numbers are written in decimal digits, and `{before.text}{token.text}` is none"] if is_digits else []
-                raise Breach(token, "syntax", f"`{token.text}` where a comma or the end of the line is expected", *decimal, form)
-        elif token.kind == NAME and not numbers:
-            names.append(token)
+    at, form = 0, form_of(verb)
+    while words[at].kind != END:
+        token = words[at]
+        if token.kind == NAME and not numbers:
+            operand, at = operand_at(words, at)
+            operands.append(operand)
         elif token.kind == NUMBER:
             numbers.append(token)
+            at += 1
         else:
             what = "a name after a number" if token.kind == NAME else f"`{token.text}` where a name or a number is expected"
             raise Breach(token, "syntax", what, form)
-    return names, numbers
+        at = after_comma(words, at, form)
+    return operands, numbers
 
 
-def check_shape(verb: str, names: list[Token], numbers: list[Token], end: Token) -> None:
-    """Whether there are as many names and numbers as the form has."""
+def after_comma(words: list[Token], at: int, form: str) -> int:
+    """The place after the comma that stands here, or that of the line's end."""
+    token, before = words[at], words[at - 1]
+    if token.kind == END:
+        return at
+    if token.text != ",":
+        is_digits = before.kind == NUMBER and token.kind == NAME and token.at == before.at + len(before.text)
+        decimal = [f"numbers are written in decimal digits, and `{before.text}{token.text}` is none"] if is_digits else []
+        raise Breach(token, "syntax", f"`{token.text}` where a comma or the end of the line is expected", *decimal, form)
+    if words[at + 1].kind == END:
+        raise Breach(words[at + 1], "syntax", "the line ends after a comma", form)
+    return at + 1
+
+
+def check_shape(verb: str, operands: list[Operand], numbers: list[Token], end: Token) -> None:
+    """Whether there are as many operands and numbers as the form has, and bits only where they may stand."""
     least, most, fewest, greatest = SHAPES[verb]
-    form = f"form: {FORMS[verb]}"
+    form, names = form_of(verb), [one.name for one in operands]
+    if verb in WHOLE and operands and operands[0].ends:
+        raise Breach(operands[0].ends[0], "syntax", f"{verb} takes an object by its name alone, and not bits of it", form)
     if len(names) > most:
         raise Breach(names[most], "syntax", f"one name too many: {verb} takes {most}", form)
     if len(names) < least:
@@ -108,9 +120,8 @@ def check_names(one: Instruction) -> None:
     """Whether the names are short enough, and the operation's name is one."""
     if one.verb == "bbop" and (not one.op or one.op[0].isdigit() or is_long(one.op)):
         raise Breach(one.head, "bad_name", f"bbop_ is followed by the name of an operation, of 1 to {NAME_MAX} bytes")
-    for token in one.names:
-        if is_long(token.text):
-            raise Breach(token, "bad_name", f"a name has at most {NAME_MAX} bytes; this one has {len(token.text)}")
+    for operand in one.operands:
+        operand.check_name()
 
 
 def check_range(token: Token, least: int, most: int, what: str) -> None:
@@ -119,7 +130,9 @@ def check_range(token: Token, least: int, most: int, what: str) -> None:
 
 
 def check_numbers(one: Instruction) -> None:
-    """Whether each number is one that may stand there."""
+    """Whether each number is one that may stand there, those of bits first."""
+    for operand in one.operands:
+        operand.check_bits()
     if one.verb in ("bbop", "bbop_trsp_init"):
         check_range(one.numbers[0], 1, COUNT_MAX, "COUNT, the number of elements,")
         check_range(one.numbers[1], 1, WIDTH_MAX, "N, the width,")
@@ -153,9 +166,9 @@ def instruction_of(line: list[Token]) -> Instruction | None:
     if head.text == "order":
         return order_of(head, words)
     verb = verb_of(head)
-    names, numbers = operands(verb, words)
-    check_shape(verb, names, numbers, line[-1])
-    one = Instruction(verb, head, tuple(names), tuple(numbers))
+    operands, numbers = operands_of(verb, words)
+    check_shape(verb, operands, numbers, line[-1])
+    one = Instruction(verb, head, tuple(operands), tuple(numbers))
     check_names(one)
     check_numbers(one)
     return one

@@ -4,7 +4,7 @@ from __future__ import annotations
 
 import shlex
 
-from ..assembler.listing import head_line
+from ..assembler.reading import head_line
 from ..assembler.one_width import one_width, other_width
 from ..assembler.text_lines import place_of
 from ..files.program import Entry, Program

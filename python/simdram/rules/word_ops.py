@@ -60,7 +60,17 @@ TAKES_GIVES = {name: (one.takes, one.gives) for name, one in WORD_OPS.items()}
 GATES = {"not": 1, "and": 2, "or": 2, "xor": 2, "maj": 3}
 WEIGHTS = {"not": 0, "and": 1, "or": 1, "maj": 1, "xor": 3}
 KIND_OF = {"w": "word", "b": "bit"}
+# of each gate, and of a choice by its first input, its value on patterns, each bit of which is a case of its own
+GATE_VALUES: dict[str, typing.Callable[..., int]] = {
+    "and": operator.and_, "or": operator.or_, "xor": operator.xor, "maj": lambda x, y, z: x & y | z & (x | y),
+    "mux": lambda s, x, y: y ^ s & (x ^ y),
+}
 SAYS = {"w": "a word", "b": "a bit", "x": "a word or a bit"}
+
+
+def gate_value(name: str, given: typing.Sequence[int], ones: int) -> int:
+    """What a gate gives on patterns, of which `ones` has all cases."""
+    return given[0] ^ ones if name == "not" else GATE_VALUES[name](*given)
 
 
 def forms(name: str) -> list[tuple[list[str], list[str]]]:

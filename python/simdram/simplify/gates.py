@@ -8,7 +8,8 @@ from __future__ import annotations
 
 import typing
 
-from .truth_tables import LEAVES, Leaves, full, of_gate, smallest, spread
+from ..rules.word_ops import GATE_VALUES
+from .truth_tables import LEAVES, Leaves, full, smallest, spread
 
 # the kinds of leaves: a source's word, a bit, a state, its last value, and a result of an operation that stays whole
 WORD, BIT, STATE, LAST, WHOLE, CONST = "word", "bit", "state", "last", "whole", "const"
@@ -149,7 +150,7 @@ class Graph:
             number = self._new(Node(kind, args))
             self.support[number] = leaves
             return 2 * number
-        table = of_gate(kind, [self._over(lit, leaves) for lit in args], len(leaves))
+        table = GATE_VALUES[kind](*(self._over(lit, leaves) for lit in args))
         table, leaves = smallest(table, leaves)
         flip = table & 1
         key = leaves, table ^ (full(len(leaves)) if flip else 0)

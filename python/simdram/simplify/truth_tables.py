@@ -26,17 +26,6 @@ def spread(table: int, have: Leaves, want: Leaves) -> int:
     return found
 
 
-def of_gate(kind: str, tables: typing.Sequence[int], count: int) -> int:
-    """The table of a gate, from the tables of its arguments."""
-    a, b = tables[0], tables[1]
-    if kind == "and":
-        return a & b
-    if kind == "xor":
-        return a ^ b
-    c = tables[2]
-    return a & b | c & (a | b) if kind == "maj" else a & b | (full(count) ^ a) & c
-
-
 def without(table: int, count: int, k: int) -> int:
     """A table where leaf k is 0, over the others."""
     return sum((table >> (i >> k << (k + 1) | i & ((1 << k) - 1)) & 1) << i for i in range(1 << (count - 1)))

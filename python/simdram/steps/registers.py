@@ -6,7 +6,7 @@ import typing
 
 from ..assembler.forms import Form
 from ..assembler.loops_and_ways import Code, Jumps, outline
-from ..files.program import ADD, ADDI, BNEZ, INDEXED, MOV, REGISTERS, SETI, SETN, SETT, SUBI, Row
+from ..files.program import ADD, ADDI, BNEZ, INDEXED, MOV, SETI, SETN, SETT, SUBI, Row
 from .board import letter
 from .code_parts import Part
 from .positions import of_rows

@@ -5,6 +5,7 @@ from __future__ import annotations
 from ..files.decode import CELLS
 from ..files.program import BIT, INDEXED, RESULT, SOURCE, WORD, Row
 from ..rules.op_shapes import OpShape, Statement
+from ..rules.word_ops import gate_value
 from .cell_values import ALL, drawn
 
 ZERO_INDEX = 8
@@ -57,16 +58,5 @@ def let_patterns(shape: OpShape, statement: Statement) -> dict[str, int]:
         return found[name] if name in found else drawn(name if kinds.get(name) == "bit" else f"{name}[i]")
 
     for name, expr in statement.lets.items():
-        found[name] = expr.computed(leaf, gate)
+        found[name] = expr.computed(leaf, lambda gate, given: gate_value(gate, given, ALL))
     return {name: pattern for name, pattern in found.items() if pattern not in (0, ALL)}
-
-
-def gate(name: str, given: list[int]) -> int:
-    """What a gate gives."""
-    if name == "not":
-        return given[0] ^ ALL
-    if name == "maj":
-        x, y, z = given
-        return x & y | x & z | y & z
-    x, y = given
-    return {"and": x & y, "or": x | y, "xor": x ^ y}[name]

@@ -1,13 +1,12 @@
 -- The commands of an operation: of each word operation its own, of each block its bodies'.
 use Rattle.std.proofs.Common.{◌≡◌, ℕ, ◌+◌, ◌<◌, ◌≤◌, Bool, true, false, List, [], ◌∷◌, ◌++◌, Option}
 use Rattle.std.proofs.Common.{Some, refl, sym, ap, ◌∙◌}
-use Rattle.std.specs.List.{list_all}
 use Rattle.bit_rows.specs.declared.TheConstants.{WIDTH_MAX}
 use Rattle.op_text.specs.declared.tree.Kind.{Kind}
 use Rattle.op_text.specs.declared.word_ops.WordOp.{WordOp}
 use Rattle.op_text.specs.declared.word_ops.WordOp.TheVariants as op
 use Rattle.op_text.specs.Language.{Statement, Compute, Visit, Operation}
-use Rattle.op_text.specs.Scratch.{names_width, defines}
+use Rattle.op_text.specs.Scratch.{names_width}
 use Rattle.op_text.specs.declared.tree.Param.{Param}
 use Rattle.op_rules.specs.Meets.{Context, next_context, OperationMeets}
 use Rattle.loop_ir.specs.Plain.{Block, StepOf}
@@ -23,7 +22,7 @@ use Rattle.uprog_gen.specs.Costs.{op_aaps, op_aps}
 use Rattle.uprog_gen.specs.Does.{joined}
 use Rattle.uprog_gen.specs.Layout.{IsLayout}
 use Rattle.uprog_gen.specs.Programs.{IsAsWritten, AreWritten}
-use Rattle.uprog_gen.specs.Totals.{is_word, words_total, parts_total}
+use Rattle.uprog_gen.specs.Totals.{parts_total}
 use Rattle.uprog_gen.proofs.Rows.Top.{all_rounds-append}
 use Rattle.uprog_gen.proofs.Naming.Stage.{Stage, next_stage}
 use Rattle.uprog_gen.proofs.Meaning.Meant.{args_same}
@@ -72,33 +71,6 @@ pub record AreExactly (known : List Param) (body : List Statement)
       ≡ parts_total op_aaps turn_aaps known n body ps
   pub aps : (n : ℕ) → 0 < n → n ≤ WIDTH_MAX → rounds_sum turn_aps (all_rounds n (joined ps))
       ≡ parts_total op_aps turn_aps known n body ps
-
--- as many loop programs as statements
-abbrev AsMany : List Statement → List (List (StepOf Block)) → Type 0
-AsMany [] [] = Unit {0}
-AsMany [] (q ∷ ps) = ⊥
-AsMany (s ∷ body) [] = ⊥
-AsMany (s ∷ body) (q ∷ ps) = AsMany body ps
-
-pub as_many : (slots : Slots) (free_bit free_word : ℕ) (body : List Statement)
-    (ps : List (List (StepOf Block))) → AreWritten slots free_bit free_word body ps
-    → AsMany body ps
-as_many slots free_bit free_word [] [] w = tt
-as_many slots free_bit free_word (s ∷ body) (q ∷ ps) w =
-    as_many slots free_bit free_word body ps w.1
-as_many slots free_bit free_word body ps w = w
-
--- without blocks it is the word operations' sum
-pub words_alone : (f : WordOp → ℕ → ℕ) (g : Block → ℕ) (known : List Param) (n : ℕ)
-    (body : List Statement) (ps : List (List (StepOf Block))) → AsMany body ps
-    → list_all is_word body ≡ true
-    → parts_total f g known n body ps ≡ words_total f known n body
-words_alone f g known n [] ps m h = refl
-words_alone f g known n (s ∷ body) [] m h = absurd m
-words_alone f g known n (Visit b ∷ body) (q ∷ ps) m h = absurd (let z : false ≡ true = h in cc)
-words_alone f g known n (Compute target second p args ∷ body) (q ∷ ps) m h =
-    ap (λ x. f p (names_width known n args) + x)
-    (words_alone f g (known ++ defines known (Compute target second p args)) n body ps m h)
 
 module _ (o : Operation) (meets : OperationMeets o) (slots : Slots) (free_bit free_word : ℕ)
     (is : IsLayout o slots free_bit free_word) where

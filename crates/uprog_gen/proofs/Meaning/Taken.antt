@@ -25,7 +25,7 @@ use Rattle.loop_ir.specs.Plain.StepOf.{Along}
 use Rattle.loop_ir.specs.Flows.{FlowOf}
 use Rattle.loop_ir.specs.Flows.FlowOf.{End, Do, Loop}
 use Rattle.loop_ir.specs.Flows.TurnsOf.{Last}
-use Rattle.loop_ir.specs.Costs.{used_subs, turn_aaps, turn_aps}
+use Rattle.loop_ir.specs.Costs.{used_subs}
 use Rattle.loop_ir.specs.Loops.{all_rounds}
 use Rattle.loop_ir.specs.Statements.{Slots}
 use Rattle.loop_front.specs.Front.{in_registers, before, after, each_sub, put_all, counter, starts}
@@ -35,15 +35,14 @@ use Rattle.block_lower.specs.Held.{each_last, held_start, held_body, held_last}
 use Rattle.uprog_gen.specs.Does.{IsCheap, AreCheap}
 use Rattle.uprog_gen.specs.Does.{total as sum_of}
 use Rattle.uprog_gen.specs.Layout.{IsLayout}
-use Rattle.uprog_gen.specs.Programs.{HaveForms, AreWritten}
-use Rattle.uprog_gen.specs.Costs.{op_aaps, op_aps}
-use Rattle.uprog_gen.specs.Totals.{AreExact, IsExactOver}
+use Rattle.uprog_gen.specs.Programs.{HaveForms, AreWritten, IsCompiled}
+use Rattle.uprog_gen.specs.Totals.{IsExactOver}
 use Rattle.uprog_gen.specs.Entries.{IsCodeOf}
-use Rattle.uprog_gen.proofs.Costs.Counted.{one_exactly, all_exactly, as_many, words_alone}
+use Rattle.uprog_gen.proofs.Costs.Counted.{one_exactly, all_exactly}
 use Rattle.uprog_gen.proofs.Costs.Kinds.{all_kinds}
 use Rattle.uprog_gen.proofs.Rows.Top.{both_counts}
 use Rattle.uprog_gen.specs.Graphs.{Graphed, IsGraphOf, AreGraphsOf, op_commands, graphed_ceiling}
-use Rattle.uprog_gen.specs.Graphs.{IsGraphed, AreGraphed, body_graph, later, flow_graph}
+use Rattle.uprog_gen.specs.Graphs.{IsGraphed, AreGraphed, body_graph, graphs_done, later, flow_graph}
 use Rattle.uprog_gen.specs.Graphs.{statement_graph, graphs_in}
 use Rattle.uprog_gen.proofs.Naming.Stage.{Stage, first_stage, next_stage}
 
@@ -102,8 +101,7 @@ started_graph slots down (s ∷ ss) body =
 form_graph : (slots : Slots) (b : Serial) (q : List (StepOf Block)) (f : IsBlockProgram slots b q)
     → flow_graph (front q) ≡ the_graph slots b q f ∷ []
 form_graph slots b q f = elim f.form [
-  | inl e ↦ ap (λ p. flow_graph (front p)) e.1 ∙ started_graph slots b.down b.states f.row
-      ∙ ap (λ (r : Block). body_graph r ∷ []) (sym e.0)
+  | inl e ↦ ap (λ p. flow_graph (front p)) e.1 ∙ started_graph slots b.down b.states f.body
   | inr h ↦ ap (λ p. flow_graph (front p)) h.form ∙ (let at = home slots b.down h.state h.cells in
       let x = each_last (held_start at h.cmds.start) (held_body at f.body h.cmds.each)
       (held_last at f.body h.cmds.last) in
@@ -130,6 +128,18 @@ are_graphs slots (Visit b ∷ body) (q ∷ ps) h =
     subst (λ (gs : List Graphed). AreGraphsOf (Visit b ∷ body) (gs ++ graphs_in body (map front ps)))
     (sym (form_graph slots b q h.0)) (is_graph slots b q h.0, are_graphs slots body ps h.1)
 are_graphs _ _ _ h = absurd h
+
+-- and the ones that are done
+graphs_are : (slots : Slots) (body : List Statement) (ps : List (List (StepOf Block)))
+    (h : HaveForms slots body ps)
+    → graphs_in body (map front ps) ≡ graphs_done slots body ps h
+graphs_are slots [] [] h = refl
+graphs_are slots (Compute target second p args ∷ body) (q ∷ ps) h = graphs_are slots body ps h.1
+graphs_are slots (Visit b ∷ body) (q ∷ ps) h =
+    ap (λ (gs : List Graphed). gs ++ graphs_in body (map front ps)) (form_graph slots b q h.0)
+    ∙ ap (λ (gs : List Graphed). the_graph slots b q h.0 ∷ gs) (graphs_are slots body ps h.1)
+graphs_are slots [] (q ∷ ps) h = absurd h
+graphs_are slots (s ∷ body) [] h = absurd h
 
 -- ceilings of statements that they keep, and the sum of these
 record KeepsGraphs (n : ℕ) (ps : List (List (StepOf Block))) (most : ℕ) : Type 0 where
@@ -179,28 +189,22 @@ module _ (op : Operation) (meets : OperationMeets op) (slots : Slots) (free_bit 
   pub entry_exact : (ps : List (List (StepOf Block)))
       → AreWritten slots free_bit free_word op.body ps → (e : Microprogram)
       → IsCodeOf e.shape ps e.code → IsExactOver e op ps
-  entry_exact ps written e code = record {
-    exact = λ n some small. (let all = all_exactly _ meets _ _ _ is op.body (at_start op)
-        (first_stage op meets) ps written in
-        (code.does n some small).exact
-        ∙ both_counts (all.aaps n some small) (all.aps n some small));
-  }
+  entry_exact ps written e code n some small =
+      let all = all_exactly _ meets _ _ _ is op.body (at_start op) (first_stage op meets) ps written in
+      (code.does n some small).exact ∙ both_counts (all.aaps n some small) (all.aps n some small)
 
-  pub entry_graphed : (ps : List (List (StepOf Block))) → HaveForms slots op.body ps
-      → AreWritten slots free_bit free_word op.body ps → (e : Microprogram)
-      → IsCodeOf e.shape ps e.code → IsGraphed e op (graphs_in op.body (map front ps))
-  entry_graphed ps h written e code = record {
-    graphs = are_graphs slots op.body ps h;
+  -- the entry of which these are the loop programs has the graphs that these do
+  pub entry_graphed : (e : Microprogram) (c : IsCompiled e op)
+      → AreWritten slots free_bit free_word op.body c.statements
+      → HaveForms slots op.body c.statements → IsCodeOf e.shape c.statements e.code
+      → IsGraphed e op (graphs_in op.body (map front c.statements))
+  entry_graphed e c written h code = record {
+    compiled = c;
+    done = graphs_are c.slots op.body c.statements c.forms;
+    graphs = are_graphs slots op.body c.statements h;
     few = λ n some small. (let k = few_rounds n some small op.body (at_start op) (first_stage op meets)
-        ps h written in
+        c.statements h written in
         omega (arith, code.few n some small k.ceilings k.cheap, k.total));
-    exact = record {
-      exact = λ words n some small.
-          (let many = as_many slots free_bit free_word op.body ps written in
-          (entry_exact ps written e code).exact n some small
-          ∙ both_counts (words_alone op_aaps turn_aaps op.params n op.body ps many words)
-          (words_alone op_aps turn_aps op.params n op.body ps many words));
-    };
   }
 
 -- one operation more
@@ -227,10 +231,3 @@ graphed_more items k x old new entry gs hs own lt e f g h i =
     rw (g, f, map-append microprogram_of old (entry ∷ []), map_more operation items k x lt, ← e)
     (graphed-append (map microprogram_of old) (map operation (take k items)) gs
     (microprogram_of entry) (operation x) own h i)
-
--- an entry for each operation, and each exact
-pub graphed_exact : (es : List Microprogram) (ops : List Operation) (gs : List Graphed)
-    → AreGraphed es ops gs → AreExact es ops
-graphed_exact [] [] [] h = tt
-graphed_exact (e ∷ es) (op ∷ ops) gs h = (h.3.exact, graphed_exact es ops h.1 h.4)
-graphed_exact _ _ _ h = absurd h

@@ -1,6 +1,7 @@
 use Rattle.std.proofs.Common.{sym, subst, arith, ◌∙◌, ap}
 use Rattle.std.proofs.lemmas.List.{length-map}
 use Rattle.op_text.specs.Language.{equation}
+use Rattle.mig_rewrite.proofs.Keeping.{keeps-twice}
 use Rattle.loop_ir.specs.Plain.{Block}
 use Rattle.loop_ir.specs.Statements.{slots_of}
 use Rattle.block_lower.specs.Inputs.{AreNumbered, block_from}
@@ -34,26 +35,29 @@ returns-clause-is c = λ s.
     let graph = c.in_ok-least.least.choice.graph in
     let num = subst (λ names. AreNumbered names inputs.numbers) c.in_ok-inputs.ensures.order
     c.in_ok-inputs.ensures.numbered in
-    let made = c.in_ok-least.ensures in
+    let r = c.in_ok-graph.ensures in
+    let m = c.in_ok-least.ensures.stands in
+    let keeps = keeps-twice first.mig c.in_ok-graph.graph.mig graph.mig first.outs.items
+    c.in_ok-graph.graph.outs.items graph.outs.items r.keeps m.keeps in
     subst (IsBlockBody slots (block_from c.args.down s lets assigns)) (sym c.body_at.ensures)
     (record {
       reads = c.in_ok-reads.ensures ∙ ap (places_of slots c.args.down) (c.deref.ensures.value
           ∙ c.in_ok-inputs.ensures.order);
       writes = c.in_ok-writes.ensures;
-      as_many = made.keeps.long ∙ c.in_ok-from_aoi.ensures.long ∙ c.in_ok-gates.ensures.long
+      as_many = keeps.long ∙ c.in_ok-from_aoi.ensures.long ∙ c.in_ok-gates.ensures.long
           ∙ sym (length-map assigns equation);
-      inputs = let m = inputs-most lets assigns c.requires.meets.1 inputs.numbers num
+      inputs = let k = inputs-most lets assigns c.requires.meets.1 inputs.numbers num
           gates.nodes.items c.in_ok-gates.ensures.held first.mig.inputs
-          c.in_ok-from_aoi.ensures.inputs in let e = made.keeps.inputs in omega (arith, m, e);
+          c.in_ok-from_aoi.ensures.inputs in let e = keeps.inputs in omega (arith, k, e);
       values = output-values lets assigns c.requires.meets.1 inputs.numbers num gates.nodes.items
           c.in_ok-gates.ensures.held gates.outs.items first.mig graph.mig first.outs.items
-          graph.outs.items c.in_ok-gates.ensures.value c.in_ok-from_aoi.ensures.value made.keeps
+          graph.outs.items c.in_ok-gates.ensures.value c.in_ok-from_aoi.ensures.value keeps
           c.in_ok-from_aoi.ensures.long c.in_ok-gates.ensures.long;
-      nodes = let a = made.count in let b = c.in_ok-from_aoi.ensures.count in
-          let d = c.in_ok-gates.ensures.gates in omega (arith, a, b, d);
+      nodes = let a = m.count in let b = r.count in let d = c.in_ok-from_aoi.ensures.count in
+          let e = c.in_ok-gates.ensures.gates in omega (arith, a, b, d, e);
       graph = c.inputs.ensures.graph;
-      named = made.named;
-      reduced = made.reduced;
+      named = m.named;
+      reduced = m.reduced;
     })
 
 pub returns-clause-found : goal.returns-clause-found

@@ -1,15 +1,16 @@
-use Rattle.std.proofs.Common.{◌≤◌, length}
-use Rattle.std.specs.Prelude.{IfSome}
-use Rattle.block_lower.specs.Choice.{HasFound, MayStand}
+use Rattle.std.proofs.Common.{◌≡◌, ◌<◌, ◌≤◌, length, take, Some}
+use Rattle.std.specs.Prelude.{IfSome, IfNone, slice_get}
+use Rattle.block_lower.specs.declared.choice.Choice.{Choice}
+use Rattle.block_lower.specs.Choice.{AreNoFewer}
 use Rattle.block_lower.proofs.choice.fewest.Given as goal
 
--- the best so far may stand for the graph, and has no more commands, which were found for it
-abbrev pub invariant-loop-offer : goal.invariant-loop-offer
-invariant-loop-offer l = record {
-  stands : IfSome l.best (λ r. MayStand l.first.graph.mig l.first.graph.outs.items r.graph.mig
-      r.graph.outs.items);
-  found : IfSome l.best (λ r. HasFound l.reads l.writes r.graph.mig r.graph.outs.items
-      r.found.items);
-  fewest : IfSome l.best (λ r. length r.found.items ≤ length l.first.found.items);
+-- no choice before this one takes fewer commands than the best so far, or than the first
+abbrev pub invariant-loop-k : goal.invariant-loop-k
+invariant-loop-k l = record {
   least : l.least ≤ length l.first.found.items;
+  within : IfSome l.best (λ b. b < length l.others);
+  best : IfSome l.best (λ b. (c : Choice) → slice_get l.others b ≡ Some c
+      → length c.found.items ≡ l.least);
+  none : IfNone l.best (l.least ≡ length l.first.found.items);
+  others : AreNoFewer l.least (take l.k l.others);
 }

@@ -1,21 +1,18 @@
-use Rattle.std.proofs.Common.{◌≡◌, ℕ, ◌+◌, ◌-◌, ◌<◌, List, length, refl, sym, ap, ◌∙◌, subst, arith}
-use Rattle.std.proofs.Common.{Ok}
-use Rattle.std.proofs.lemmas.Bool.{false≢true}
+use Rattle.std.proofs.Common.{◌≡◌, [], ◌∷◌, List, true, refl, sym, ap, ◌∙◌, subst, arith}
+use Rattle.dram_model.specs.declared.address.Command.{Command}
+use Rattle.dram_model.specs.Chip.Event.{Row}
+use Rattle.dram_model.specs.Events.{row_events}
+use Rattle.dram_model.specs.Column.{is_legal}
 use Rattle.dram_model.specs.declared.geometry.Geometry.{Geometry}
-use Rattle.dram_model.specs.Chip.{Event}
 use Rattle.dram_model.specs.View.{Did}
-use Rattle.dram_model.proofs.EventLaws.{Did-none, Kept-same, Kept-more}
-use Rattle.uprog_code.specs.declared.TheConstants.{WALK_MAX}
-use Rattle.uprog_code.specs.declared.registers.Turn.TheVariants.{Over}
-use Rattle.uprog_code.specs.Shape.{Shape, shape_of}
-use Rattle.uprog_code.specs.Machine.{Next, act, issue, trace, start, HasEnded, issues_of, onto}
-use Rattle.uprog_code.specs.OneStep.{turn_trace, issues_by}
-use Rattle.uprog_code.specs.Issued.{AreGood}
-use Rattle.uprog_code.proofs.Kept.{turn_good}
-use Rattle.uprog_code.proofs.Steps.{legal_operands, trace_is, no_more, start_registers, goes_on}
-use Rattle.uprog_code.proofs.Steps.{not_last, place_in, some_first}
-use Rattle.uprog_ctl.specs.Events.{issue_events}
-use Rattle.uprog_ctl.proofs.Left.{left, few, step_from, events-same, others-stay}
+use Rattle.dram_model.proofs.EventLaws.{Did-more, Did-none, Kept-same, Kept-more}
+use Rattle.uprog_code.specs.declared.commands.Walk.{Walk}
+use Rattle.uprog_code.specs.Bound.{bound, bound_of}
+use Rattle.uprog_code.specs.Fits.{Fits}
+use Rattle.uprog_code.specs.Commands.{commands_from, StandsIn}
+use Rattle.uprog_code.specs.Machine.{issues_of, trace}
+use Rattle.uprog_code.proofs.Seek.{start_stands, start_commands, not_spent}
+use Rattle.uprog_ctl.proofs.Left.{few, others_stay}
 use Rattle.uprog_ctl.proofs.controller.run.Goals as goal
 
 pub loop-k-init : goal.loop-k-init
@@ -24,128 +21,69 @@ loop-k-init g c =
     let code = g.F.Fetch.code c.args.entry.now in
     let shape = g.F.Fetch.shape c.args.entry.now in
     let b = c.args.binding.now in
-    let whole : issue shape code b.n WALK_MAX 0 start ≡ trace shape code b.n =
-    trace_is shape code b.n in
+    let all : commands_from c.geometry-rows.result.rows shape code b c.start-walk.result
+    ≡ bound first.geometry.rows shape b.n (bound_of b) (issues_of (trace shape code b.n)) =
+    ap (commands_from c.geometry-rows.result.rows shape code b) c.start-walk.ensures
+    ∙ start_commands c.geometry-rows.result.rows shape code b
+    ∙ ap (λ (q : Geometry). bound q.rows shape b.n (bound_of b) (issues_of (trace shape code b.n)))
+    c.geometry-rows.ensures in
     record {
-      place = some_first shape code c.requires.legal;
-      registers = start_registers;
+      stands = subst (StandsIn shape code b.n) (sym c.start-walk.ensures)
+          (start_stands shape code b.n c.requires.legal c.requires.ends);
+      left = omega (arith, ap (λ (w : Walk). w.left) c.start-walk.ensures);
       borrow = refl;
       kept = Kept-same first;
-      ended = subst HasEnded (sym whole) c.requires.ends;
-      rest = λ final h. subst (λ t. Did (issue_events c.args.bank first.geometry.rows shape b
-          (issues_of t)) first final) whole h;
+      rest = λ final h. subst (λ (cs : List Command). Did (row_events c.args.bank cs) first final)
+          all h;
       few = (omega arith, omega arith);
       others = λ other h. refl;
     }
 
-pub step-requires-clause-operands : goal.step-requires-clause-operands
-step-requires-clause-operands g c =
-    let code = g.F.Fetch.code c.args.entry.now in (
-      length code,
-      legal_operands (g.F.Fetch.shape c.args.entry.now) code c.loop-k.pc
-          c.fetch-uop.result c.requires.legal c.fetch-uop.ensures,
-    )
-
-pub returns-then-is_over-clause-did : goal.returns-then-is_over-clause-did
-returns-then-is_over-clause-did g c =
-    let now = g.D.Dram.view c.loop-k.dram in
-    let rows = (g.D.Dram.view c.args.dram.now).geometry.rows in
-    let code = g.F.Fetch.code c.args.entry.now in
-    let shape = g.F.Fetch.shape c.args.entry.now in
-    let b = c.args.binding.now in
-    let next = issue shape code b.n (WALK_MAX - (c.loop-k.k + 1)) in
-    let here = step_from shape (shape_of c.head-head.result) code b.n (WALK_MAX - c.loop-k.k)
-    (WALK_MAX - (c.loop-k.k + 1)) c.loop-k.pc c.loop-k.regs c.step.new.regs c.fetch-uop.result
-    c.step.result c.head-head.ensures.shape (omega arith) c.fetch-uop.ensures
-    c.step.ensures.does in
-    let over = c.in-Ok.is ∙ ap Ok (c.is_over.ensures.0 c.if-is_over.true) in
-    let none = here ∙ ap (λ r. turn_trace r next c.loop-k.pc c.step.new.regs) over in
-    c.loop-k.invariant.rest now (subst (λ t. Did (issue_events c.args.bank rows shape b
-    (issues_of t)) now now) (sym none) (Did-none now))
-
-pub returns-in-Err-clause-did : goal.returns-in-Err-clause-did
-returns-in-Err-clause-did g c =
-    let code = g.F.Fetch.code c.args.entry.now in
-    let shape = g.F.Fetch.shape c.args.entry.now in
-    let b = c.args.binding.now in
-    let next = issue shape code b.n (WALK_MAX - (c.loop-k.k + 1)) in
-    let here = step_from shape (shape_of c.head-head.result) code b.n (WALK_MAX - c.loop-k.k)
-    (WALK_MAX - (c.loop-k.k + 1)) c.loop-k.pc c.loop-k.regs c.step.new.regs c.fetch-uop.result
-    c.step.result c.head-head.ensures.shape (omega arith) c.fetch-uop.ensures
-    c.step.ensures.does in
-    let stuck = here ∙ ap (λ r. turn_trace r next c.loop-k.pc c.step.new.regs) c.in-Err.is in
-    absurd (subst HasEnded stuck c.loop-k.invariant.ended)
-
-pub returns-clause-did : goal.returns-clause-did
-returns-clause-did g c =
-    let code = g.F.Fetch.code c.args.entry.now in
-    let shape = g.F.Fetch.shape c.args.entry.now in
-    let b = c.args.binding.now in
-    let none : WALK_MAX - c.loop-k.k ≡ 0 = omega arith in
-    absurd (subst HasEnded (no_more shape code b.n (WALK_MAX - c.loop-k.k) c.loop-k.pc c.loop-k.regs
-    none) c.loop-k.invariant.ended)
-
-pub do_turn-requires-clause-good : goal.do_turn-requires-clause-good
-do_turn-requires-clause-good g c =
-    let code = g.F.Fetch.code c.args.entry.now in
-    let shape = g.F.Fetch.shape c.args.entry.now in
-    let n = c.args.binding.now.n in
-    let does : (nx : Next) (q : ℕ) → act shape n c.fetch-uop.result nx q c.loop-k.regs
-    ≡ turn_trace c.step.result nx q c.step.new.regs =
-    λ nx q. ap (λ (s : Shape). act s n c.fetch-uop.result nx q c.loop-k.regs)
-    (sym c.head-head.ensures.shape) ∙ c.step.ensures.does nx q in
-    let good = turn_good shape n code c.loop-k.pc c.loop-k.regs c.step.new.regs c.fetch-uop.result
-    c.in-Ok.turn c.step.result c.requires.legal c.fetch-uop.ensures does c.in-Ok.is in
-    subst (λ (s : Shape). AreGood s n (issues_by c.in-Ok.turn)) (sym c.head-head.ensures.shape) good
+pub next_command-requires-clause-fits : goal.next_command-requires-clause-fits
+next_command-requires-clause-fits g c =
+    subst (λ (q : Geometry). Fits q.rows (g.F.Fetch.shape c.args.entry.now) c.args.binding.now.n
+    (bound_of c.args.binding.now)) (sym c.geometry-rows.ensures) c.requires.fits
 
 pub loop-k-preserved : goal.loop-k-preserved
 loop-k-preserved g c =
     let first = g.D.Dram.view c.args.dram.now in
     let now = g.D.Dram.view c.loop-k.dram in
-    let new = g.D.Dram.view c.do_turn.new.dram in
-    let rows = first.geometry.rows in
-    let code = g.F.Fetch.code c.args.entry.now in
-    let shape = g.F.Fetch.shape c.args.entry.now in
-    let b = c.args.binding.now in
-    let next = issue shape code b.n (WALK_MAX - (c.loop-k.k + 1)) in
-    let here = step_from shape (shape_of c.head-head.result) code b.n (WALK_MAX - c.loop-k.k)
-    (WALK_MAX - (c.loop-k.k + 1)) c.loop-k.pc c.loop-k.regs c.step.new.regs c.fetch-uop.result
-    c.step.result c.head-head.ensures.shape (omega arith) c.fetch-uop.ensures
-    c.step.ensures.does in
-    let ne : c.in-Ok.turn ≡ Over → ⊥ = λ e. false≢true (sym c.if-is_over.false
-    ∙ c.is_over.ensures.1 e) in
-    let more = not_last code c.loop-k.pc c.fetch-uop.result c.in-Ok.turn c.step.result
-    c.loop-k.invariant.place c.fetch-uop.ensures c.requires.legal.last c.step.ensures.over
-    c.in-Ok.is ne in
-    let operands = legal_operands shape code c.loop-k.pc c.fetch-uop.result c.requires.legal
-    c.fetch-uop.ensures in
-    let on = here ∙ ap (λ r. turn_trace r next c.loop-k.pc c.step.new.regs) c.in-Ok.is
-    ∙ goes_on c.in-Ok.turn next c.loop-k.pc c.step.new.regs ne
-    ∙ ap (λ q. onto (issues_by c.in-Ok.turn) (next q c.step.new.regs))
-    (sym c.place_after-pc.ensures) in
-    let rest = left c.args.bank rows shape b (issue shape code b.n (WALK_MAX - c.loop-k.k)
-    c.loop-k.pc c.loop-k.regs) (next c.place_after-pc.result c.step.new.regs)
-    (issues_by c.in-Ok.turn) c.loop-k.invariant.ended on in
-    let same = events-same c.args.bank rows now.geometry.rows shape (shape_of c.head-head.result) b
-    (issues_by c.in-Ok.turn) (ap (λ (q : Geometry). q.rows) c.loop-k.invariant.kept.geometry)
-    c.head-head.ensures.shape in
-    let done = c.in_ok-do_turn-in-Ok.ensures in
-    let did : Did (issue_events c.args.bank rows shape b (issues_by c.in-Ok.turn)) now new =
-    subst (λ (es : List Event). Did es now new) same done.did in
-    let risen = few c.args.bank rows shape b c.in-Ok.turn now.counters new.counters did.counters in
+    let new = g.D.Dram.view c.do_command.new.dram in
+    let bank = c.args.bank in
+    let command = c.in-Some.command in
+    let following = commands_from c.geometry-rows.result.rows (g.F.Fetch.shape c.args.entry.now)
+    (g.F.Fetch.code c.args.entry.now) c.args.binding.now c.next_command.new.walk in
+    let found = c.in-Some.ensures in
+    let done = c.in_ok-do_command-in-Some.ensures in
+    let risen = few bank command now new done.did in
     record {
-      place = subst (λ q. q < length code) (sym c.place_after-pc.ensures)
-          (place_in (length code) c.loop-k.pc c.fetch-uop.result c.in-Ok.turn c.step.result more
-          operands c.step.ensures.target c.in-Ok.is);
-      registers = c.step.ensures.registers;
+      stands = found.stands;
+      left = omega (arith, found.fewer);
       borrow = done.borrow ∙ c.loop-k.invariant.borrow;
       kept = Kept-more first now new c.loop-k.invariant.kept done.kept;
-      ended = rest.ended;
-      rest = λ final h. c.loop-k.invariant.rest final (rest.did now new final did h);
+      rest = λ final h. c.loop-k.invariant.rest final
+          (subst (λ (cs : List Command). Did (row_events bank cs) now final) (sym found.first)
+          (Did-more (Row bank command ∷ []) (row_events bank following) now new final done.did h));
       few = (
         omega (arith, risen.0, c.loop-k.invariant.few.0),
         omega (arith, risen.1, c.loop-k.invariant.few.1),
       );
-      others = λ other h. others-stay c.args.bank rows shape b (issues_by c.in-Ok.turn) now new did
-          other h ∙ c.loop-k.invariant.others other h;
+      others = λ other h. others_stay bank command now new done.did other h
+          ∙ c.loop-k.invariant.others other h;
     }
+
+pub do_command-requires-clause-legal : goal.do_command-requires-clause-legal
+do_command-requires-clause-legal g c =
+    subst (λ (q : Geometry). is_legal q.rows c.in-Some.command ≡ true)
+    (c.geometry-rows.ensures ∙ sym c.loop-k.invariant.kept.geometry) c.in-Some.ensures.legal
+
+pub returns-in-None-clause-did : goal.returns-in-None-clause-did
+returns-in-None-clause-did g c =
+    let now = g.D.Dram.view c.loop-k.dram in
+    c.loop-k.invariant.rest now (subst (λ (cs : List Command). Did (row_events c.args.bank cs) now
+    now) (sym c.in-None.ensures) (Did-none now))
+
+pub returns-clause-did : goal.returns-clause-did
+returns-clause-did g c =
+    absurd (not_spent (g.F.Fetch.shape c.args.entry.now) (g.F.Fetch.code c.args.entry.now)
+    c.args.binding.now.n c.loop-k.walk c.loop-k.invariant.stands (omega arith))

@@ -67,6 +67,7 @@ returns-clause-compiled c =
     }
 
 pub returns-clause-graphs : goal.returns-clause-graphs
+unfolding returns-clause-compiled
 returns-clause-graphs c =
     let l = c.in_ok-lowered.lowered in
     let m = l.names in
@@ -81,6 +82,6 @@ returns-clause-graphs c =
       graphs_in op.body (map flow_of l.flows.items),
       c.in_ok-take_graphs.ensures,
       subst (λ fs. IsGraphed (microprogram_of e) op (graphs_in op.body fs)) (sym f.fronts)
-          (entry_graphed op c.requires.meets (slots_of m) m.free_bit m.free_word is f.statements
-          f.forms f.written (microprogram_of e) code),
+          (entry_graphed op c.requires.meets (slots_of m) m.free_bit m.free_word is
+          (microprogram_of e) (returns-clause-compiled c) f.written f.forms code),
     )

@@ -3,8 +3,7 @@ use Rattle.std.proofs.lemmas.Result.{IfOk-weaker}
 use Rattle.op_text.specs.Language.{operation}
 use Rattle.uprog_code.specs.Shape.{microprograms_of}
 use Rattle.uprog_gen.proofs.Meaning.Entries.{compiled_implement, compiled_program}
-use Rattle.uprog_gen.specs.Graphs.{graphed_of}
-use Rattle.uprog_gen.proofs.Meaning.Taken.{graphed_exact}
+use Rattle.uprog_gen.proofs.Costs.Blocks.{compiled_exact}
 use Rattle.uprog_gen.proofs.ops.compile_ops.Goals as goal
 
 pub returns-clause-implements : goal.returns-clause-implements
@@ -19,6 +18,5 @@ returns-clause-program c = IfOk-weaker c.compile_each.result _ _ (λ x h.
 
 pub returns-clause-exact : goal.returns-clause-exact
 returns-clause-exact c = IfOk-weaker c.compile_each.result _ _ (λ x h.
-    graphed_exact (microprograms_of x.program) (map operation c.args.ops.now.ops.items)
-    (map graphed_of x.graphs.items) h)
-    (rw c.deref.ensures.value at c.compile_each.ensures.graphs)
+    compiled_exact (microprograms_of x.program) (map operation c.args.ops.now.ops.items) h)
+    (rw c.deref.ensures.value at c.compile_each.ensures.compiled)
