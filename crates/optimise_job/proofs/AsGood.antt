@@ -8,7 +8,7 @@ use Rattle.uprog_code.specs.Shape.{Microprogram}
 use Rattle.uprog_code.specs.Machine.{trace}
 use Rattle.uprog_code.specs.Count.{walked}
 use Rattle.uprog_code.specs.Texts.{TextOp}
-use Rattle.machine_model.specs.Routines.{text_op_named}
+use Rattle.optimise_job.specs.Outcomes.{op_named}
 use Rattle.width_entry.specs.Lines.{issues}
 use Rattle.width_entry.specs.Widths.{IssuesSame}
 use Rattle.verify_core.specs.Verdicts.{DoesAt}
@@ -32,7 +32,7 @@ stays : (n : ℕ) (ops : List TextOp) (e r : Microprogram) → r ≡ e → IsAsG
 stays n ops e r same = subst (IsAsGood n ops e) (sym same) (itself n ops e)
 
 shorter : (n : ℕ) (ops : List TextOp) (o : TextOp) (e : Microprogram) (line : List Issued)
-    (r : Microprogram) (before after : Counts) → text_op_named ops e.name ≡ Some o
+    (r : Microprogram) (before after : Counts) → op_named ops e.name ≡ Some o
     → IsShorter n o e (issues line) r before after → IsAsGood n ops e r
 shorter n ops o e line r before after named s = record {
   name = s.line.made.name;
@@ -54,7 +54,7 @@ shorter n ops o e line r before after named s = record {
     counted a b f = cc
 
 offer_good : (n : ℕ) (ops : List TextOp) (o : TextOp) (e : Microprogram) (line : List Issued)
-    (r : Microprogram) (x : Outcome) → text_op_named ops e.name ≡ Some o
+    (r : Microprogram) (x : Outcome) → op_named ops e.name ≡ Some o
     → IsOfferOf n o e line r x → IsAsGood n ops e r
 offer_good n ops o e line r outcome.NoOp named is = absurd is
 offer_good n ops o e line r (outcome.Stuck walk) named is = stays n ops e r is.0
@@ -67,7 +67,7 @@ offer_good n ops o e line r (outcome.Taken before after) named is =
     shorter n ops o e line r before after named is
 
 one_good : (n : ℕ) (ops : List TextOp) (op : Option TextOp) (e : Microprogram)
-    (line : List Issued) (r : Microprogram) (x : Outcome) → text_op_named ops e.name ≡ op
+    (line : List Issued) (r : Microprogram) (x : Outcome) → op_named ops e.name ≡ op
     → IsOutcomeOf n op e line r x → IsAsGood n ops e r
 one_good n ops None e line r x named is = stays n ops e r is.0
 one_good n ops (Some o) e line r x named is = offer_good n ops o e line r x named is
@@ -78,7 +78,7 @@ pub all_good : (n : ℕ) (ops : List TextOp) (es : List Microprogram) (lines : L
     → AreAsGood n ops es rs
 all_good n ops [] [] [] [] are = tt
 all_good n ops (e ∷ es) (line ∷ lines) (r ∷ rs) (x ∷ xs) are = (
-  one_good n ops (text_op_named ops e.name) e line r x refl are.0,
+  one_good n ops (op_named ops e.name) e line r x refl are.0,
   all_good n ops es lines rs xs are.1,
 )
 all_good n ops _ _ _ _ are = absurd are

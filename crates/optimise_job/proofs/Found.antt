@@ -13,8 +13,7 @@ use Rattle.uprog_code.specs.Machine.{HasEnded, trace}
 use Rattle.uprog_code.specs.Legal.{IsLegalCode}
 use Rattle.uprog_code.specs.Programs.{IsEntry, IsProgram}
 use Rattle.uprog_code.specs.Texts.{EntryDoes, ImplementsAll, TextOp}
-use Rattle.machine_model.specs.Routines.{entry_named, text_op_named}
-use Rattle.machine_model.proofs.Texts.{Matched, matched}
+use Rattle.optimise_job.specs.Outcomes.{op_named}
 
 find_map : {X Y : Type 0} (f : X → Y) (q : Y → Bool) (xs : List X)
     → find q (map f xs) ≡ option_map f (find (λ x. q (f x)) xs)
@@ -39,15 +38,42 @@ no_place false n e = refl
 past : {X : Type 0} (xs : List X) (n : ℕ) → nat_lt n (length xs) ≡ false → None ≡ slice_get xs n
 past xs n e = sym (slice_get_past xs n (grind arith))
 
--- an entry of a name and its op, or neither
-nothing : (y : Option TextOp) → Matched None y → y ≡ None
-nothing None m = refl
-nothing (Some o) m = elim m [ ]
+-- the entry of a name
+abbrev entry_named : List Microprogram → List ℕ → Option Microprogram
+entry_named es name = find (λ (e : Microprogram). bytes_eq e.name name) es
 
-something : (e : Microprogram) (y : Option TextOp) → Matched (Some e) y
+-- a name is in neither, or in both, at an entry that does the op
+abbrev IsMatch : Option Microprogram → Option TextOp → Type 0
+IsMatch None None = Unit {0}
+IsMatch None (Some o) = ⊥
+IsMatch (Some e) None = ⊥
+IsMatch (Some e) (Some o) = EntryDoes e o
+
+match_first : (b : Bool) (e : Microprogram) (o : TextOp) (x : Option Microprogram)
+    (y : Option TextOp) → EntryDoes e o → IsMatch x y
+    → IsMatch (cond b (Some e) x) (cond b (Some o) y)
+match_first true e o x y d m = d
+match_first false e o x y d m = m
+
+matched : (es : List Microprogram) (ops : List TextOp) (name : List ℕ) → ImplementsAll es ops
+    → IsMatch (entry_named es name) (op_named ops name)
+matched [] [] name i = tt
+matched [] (o ∷ ops) name i = absurd i
+matched (e ∷ es) [] name i = absurd i
+matched (e ∷ es) (o ∷ ops) name i =
+    subst (λ (n : List ℕ). IsMatch (cond (bytes_eq e.name name) (Some e) (entry_named es name))
+    (cond (bytes_eq n name) (Some o) (op_named ops name))) i.0.name
+    (match_first (bytes_eq e.name name) e o (entry_named es name) (op_named ops name) i.0
+    (matched es ops name i.1))
+
+nothing : (y : Option TextOp) → IsMatch None y → y ≡ None
+nothing None m = refl
+nothing (Some o) m = absurd m
+
+something : (e : Microprogram) (y : Option TextOp) → IsMatch (Some e) y
     → (o : TextOp) × (y ≡ Some o) × EntryDoes e o
-something e None m = elim m [ ]
-something e (Some o) (both _ _ d) = (o, refl, d)
+something e None m = absurd m
+something e (Some o) m = (o, refl, m)
 
 module _ (items : List EntryCode) (name : List ℕ) where
   abbrev is_of : EntryCode → Bool
@@ -55,30 +81,30 @@ module _ (items : List EntryCode) (name : List ℕ) where
 
   -- where no entry has the name, no op has it
   pub none_named : (ops : List TextOp) → ImplementsAll (map microprogram_of items) ops
-      → None ≡ position is_of items → text_op_named ops name ≡ None
+      → None ≡ position is_of items → op_named ops name ≡ None
   none_named ops does e =
       let place = position_or_len is_of items in
       let none : entry_named (map microprogram_of items) name ≡ None =
       find_map microprogram_of (λ (m : Microprogram). bytes_eq m.name name) items
       ∙ ap (option_map microprogram_of) (find_at is_of items
       ∙ sym (past items place (no_place (nat_lt place (length items)) place e))) in
-      nothing (text_op_named ops name) (subst (λ x. Matched x (text_op_named ops name)) none
+      nothing (op_named ops name) (subst (λ x. IsMatch x (op_named ops name)) none
       (matched (map microprogram_of items) ops name does))
 
   -- where one has it, it does the op that has it
-  pub op_named : (ops : List TextOp) (k : ℕ) (x : EntryCode)
+  pub op_there_named : (ops : List TextOp) (k : ℕ) (x : EntryCode)
       → ImplementsAll (map microprogram_of items) ops → Some k ≡ position is_of items
       → k < length items → x ≡ slice_index_or items k x
-      → (o : TextOp) × (text_op_named ops name ≡ Some o) × EntryDoes (microprogram_of x) o
-  op_named ops k x does e lt is =
+      → (o : TextOp) × (op_named ops name ≡ Some o) × EntryDoes (microprogram_of x) o
+  op_there_named ops k x does e lt is =
       let place = position_or_len is_of items in
       let at = some_place (nat_lt place (length items)) place k e in
       let there : slice_get items k ≡ Some x = slice_get-get_or items k x lt ∙ ap Some (sym is) in
       let some : entry_named (map microprogram_of items) name ≡ Some (microprogram_of x) =
       find_map microprogram_of (λ (m : Microprogram). bytes_eq m.name name) items
       ∙ ap (option_map microprogram_of) (find_at is_of items ∙ ap (slice_get items) at ∙ there) in
-      something (microprogram_of x) (text_op_named ops name)
-      (subst (λ y. Matched y (text_op_named ops name)) some
+      something (microprogram_of x) (op_named ops name)
+      (subst (λ y. IsMatch y (op_named ops name)) some
       (matched (map microprogram_of items) ops name does))
 
 legal_there : (items : List EntryCode) (k : ℕ) (x : EntryCode)

@@ -15,7 +15,7 @@ use Rattle.uprog_code.specs.Count.{counts_of, issues_aap, issues_ap, walked}
 use Rattle.uprog_code.specs.Implements.{Gives, Implements, Keeps}
 use Rattle.uprog_code.specs.Programs.{IsProgram}
 use Rattle.uprog_code.specs.Texts.{EntryDoes, ImplementsAll, TextOp}
-use Rattle.machine_model.specs.Routines.{text_op_named}
+use Rattle.optimise_job.specs.Outcomes.{op_named}
 use Rattle.verify_core.specs.Verdicts.{DoesAt}
 use Rattle.optimise_job.specs.Promise.{AreAsGood, IsAsGood}
 use Rattle.optimise_job.specs.Outcomes.{commands}
@@ -67,7 +67,7 @@ module _ (n : ℕ) (ops : List TextOp) (some : 0 < n) (narrow : n ≤ WIDTH_MAX)
   module _ (o : TextOp) (name name' : List ℕ) (old new : List Uop)
       (i : Implements o.shape old o.ceiling o.meaning)
       (g : IsAsGood n ops (of name o old) (of name' o new))
-      (named : text_op_named ops name ≡ Some o) where
+      (named : op_named ops name ≡ Some o) where
     at_own : DoesAt n (of name' o new) o
     at_own = g.does o named (record {
       ends = i.ends n some narrow;
@@ -110,7 +110,7 @@ module _ (n : ℕ) (ops : List TextOp) (some : 0 < n) (narrow : n ≤ WIDTH_MAX)
   shaped e s = record { name = e.name; shape = s; code = e.code }
 
   one_does : (e r : Microprogram) (o : TextOp) → EntryDoes e o → IsAsGood n ops e r
-      → text_op_named ops e.name ≡ Some o → EntryDoes r o
+      → op_named ops e.name ≡ Some o → EntryDoes r o
   one_does e r o d g named =
       let both = g.shape ∙ d.shape in
       let g' : IsAsGood n ops (shaped e o.shape) r =

@@ -3,3 +3,4 @@ pub mod Implemented
 pub mod Named
 pub mod Found
 pub mod Pushed
+pub mod Offers

@@ -6,14 +6,14 @@ use Rattle.std.specs.List.{AllByRecursion, AllPairs}
 use Rattle.std.proofs.lemmas.Slice.Eq.{bytes_eq-Decides}
 use Rattle.uprog_code.specs.Shape.{Microprogram}
 use Rattle.uprog_code.specs.Texts.{EntryDoes, ImplementsAll, TextOp}
-use Rattle.machine_model.specs.Routines.{text_op_named}
+use Rattle.optimise_job.specs.Outcomes.{op_named}
 
 -- each entry does the op of its name among all these ops
 abbrev pub AreNamed : List TextOp → List Microprogram → List TextOp → Type 0
 AreNamed all [] [] = Unit {0}
 AreNamed all [] (o ∷ ops) = ⊥
 AreNamed all (e ∷ es) [] = ⊥
-AreNamed all (e ∷ es) (o ∷ ops) = (text_op_named all e.name ≡ Some o) × AreNamed all es ops
+AreNamed all (e ∷ es) (o ∷ ops) = (op_named all e.name ≡ Some o) × AreNamed all es ops
 
 -- the names of the others differ
 others : (e : Microprogram) (es : List Microprogram) → ((j : ℕ) (d : Microprogram) → j < length es
@@ -29,7 +29,7 @@ lifted o all [] [] apart named = tt
 lifted o all [] (p ∷ ops) apart named = absurd named
 lifted o all (e ∷ es) [] apart named = absurd named
 lifted o all (e ∷ es) (p ∷ ops) apart named = (
-  ap (λ b. cond b (Some o) (text_op_named all e.name)) (differ o.name e.name apart.0) ∙ named.0,
+  ap (λ b. cond b (Some o) (op_named all e.name)) (differ o.name e.name apart.0) ∙ named.0,
   lifted o all es ops apart.1 named.1,
 )
   where
@@ -50,7 +50,7 @@ are_named [] [] apart does = tt
 are_named [] (o ∷ ops) apart does = absurd does
 are_named (e ∷ es) [] apart does = absurd does
 are_named (e ∷ es) (o ∷ ops) apart does = (
-  ap (λ b. cond b (Some o) (text_op_named ops e.name))
+  ap (λ b. cond b (Some o) (op_named ops e.name))
       (same_name o.name e.name (sym does.0.name)),
   lifted o ops es ops
       (others (record { name = o.name; shape = e.shape; code = e.code }) es (λ j d lt.

@@ -1,6 +1,6 @@
 -- What becomes of each entry of a program where a straight line is offered for it at one width.
 use Rattle.std.specs.Prelude.{◌≡◌, ◌≢◌, ℕ, ◌+◌, ◌<◌, ◌≤◌, ◌^◌, List, [], ◌∷◌, length, map, Ok}
-use Rattle.std.specs.Prelude.{Err, Option, Some, None}
+use Rattle.std.specs.Prelude.{Err, Option, Some, None, bytes_eq, find}
 use Rattle.std.specs.Prelude.{Vec}
 use Rattle.std.specs.Global.{Global}
 use Rattle.bit_rows.specs.declared.TheConstants.{WIDTH_MAX}
@@ -10,7 +10,6 @@ use Rattle.uprog_code.specs.Shape.{Microprogram}
 use Rattle.uprog_code.specs.Machine.{Ended, HasEnded, Issue, trace}
 use Rattle.uprog_code.specs.Count.{counts_of, walked}
 use Rattle.uprog_code.specs.Texts.{TextOp}
-use Rattle.machine_model.specs.Routines.{text_op_named}
 use Rattle.width_entry.specs.Lines.{first_unnamed, issues, line_room}
 use Rattle.width_entry.specs.Widths.{IsForWidth, IssuesSame, test_steps, trace_less}
 use Rattle.verify_core.specs.declared.verdict.Verdict.{Verdict}
@@ -19,6 +18,10 @@ use Rattle.verify_core.specs.declared.verdict.Verdict.TheVariants.{Unknown}
 use Rattle.verify_core.specs.Verdicts.{DoesAt, IsVerdict}
 use Rattle.optimise_job.specs.declared.offer.Outcome.{Outcome}
 use Rattle.optimise_job.specs.declared.offer.Outcome.TheVariants as outcome
+
+-- the op of a text with this name
+abbrev pub op_named : List TextOp → List ℕ → Option TextOp
+op_named ops name = find (λ o. bytes_eq o.name name) ops
 
 -- how many row commands, AAP and AP together
 abbrev pub commands : Counts → ℕ
@@ -77,7 +80,7 @@ IsOutcomeOf n (Some o) e line r outcome = IsOfferOf n o e line r outcome
 -- the same of an entry and the op of its name among the ops of a text
 abbrev pub IsOutcome : ℕ → List TextOp → Microprogram → List Issued → Microprogram → Outcome
     → Type 0
-IsOutcome n ops e line r outcome = IsOutcomeOf n (text_op_named ops e.name) e line r outcome
+IsOutcome n ops e line r outcome = IsOutcomeOf n (op_named ops e.name) e line r outcome
 
 -- each entry has such an outcome, in order
 abbrev pub AreOutcomes : ℕ → List TextOp → List Microprogram → List (List Issued)

@@ -6,17 +6,16 @@ use Rattle.uprog_code.specs.Shape.{Microprogram}
 use Rattle.uprog_code.specs.Machine.{trace}
 use Rattle.uprog_code.specs.Count.{walked}
 use Rattle.uprog_code.specs.Texts.{TextOp}
-use Rattle.machine_model.specs.Routines.{text_op_named}
 use Rattle.width_entry.specs.Widths.{IssuesSame}
 use Rattle.verify_core.specs.Verdicts.{DoesAt}
-use Rattle.optimise_job.specs.Outcomes.{commands}
+use Rattle.optimise_job.specs.Outcomes.{commands, op_named}
 
 -- r is e at each width but n; at n it does the op of its name if e does, in no more commands
 pub record IsAsGood (n : ℕ) (ops : List TextOp) (e r : Microprogram) : Type 0 where
   pub name : r.name ≡ e.name
   pub shape : r.shape ≡ e.shape
   pub elsewhere : (m : ℕ) → 0 < m → m ≤ WIDTH_MAX → m ≢ n → IssuesSame e r m
-  pub does : (o : TextOp) → text_op_named ops e.name ≡ Some o → DoesAt n e o → DoesAt n r o
+  pub does : (o : TextOp) → op_named ops e.name ≡ Some o → DoesAt n e o → DoesAt n r o
   pub no_more : (before : Counts) → walked (trace e.shape e.code n) ≡ Ok before
       → (after : Counts) × (walked (trace r.shape r.code n) ≡ Ok after)
       × (commands after ≤ commands before)
